@@ -1,0 +1,23 @@
+-- What a boot sector says, as this crate's types.
+use Rattle.std.specs.Prelude.{ℕ, List}
+use Rattle.ntfs_def.specs.Boot.{cluster_size, total_sectors, cluster_count, mft_cluster, mirror_cluster, serial_number}
+use Rattle.ntfs_boot.specs.declared.Geometry.{Geometry}
+use Rattle.ntfs_boot.specs.declared.BootFault.{BootFault}
+use Rattle.ntfs_boot.specs.declared.BootFault.TheVariants.{NotNtfs, SectorSize, ClusterSize, RecordSize, IndexSize, Length, Place}
+
+-- the geometry as the sector's fields give it
+abbrev pub geometry_of : List ℕ → Geometry
+geometry_of boot = record {
+  cluster = cluster_size boot; sectors = total_sectors boot; clusters = cluster_count boot;
+  mft = mft_cluster boot; mirror = mirror_cluster boot; serial = serial_number boot
+}
+
+-- the number of the test that found the fault
+abbrev pub number_of : BootFault → ℕ
+number_of NotNtfs = 1
+number_of SectorSize = 2
+number_of ClusterSize = 3
+number_of RecordSize = 4
+number_of IndexSize = 5
+number_of Length = 6
+number_of Place = 7

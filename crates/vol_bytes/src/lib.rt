@@ -1,0 +1,31 @@
+//! Little-endian numbers in bytes: how every field of an NTFS volume is stored.
+#![tactic(auto)]
+
+ghost use Rattle.std.specs.Prelude.{◌≡◌, ◌+◌, ◌≤◌, length};
+ghost use Rattle.vol_bytes.specs.Field.{u16_at, u32_at, u64_at};
+
+use byteorder::{ByteOrder, LittleEndian};
+
+/// The number in the two bytes at `at`, the lowest first.
+pub fn u16_at(bytes: &[u8], at: usize) -> u16
+    requires { at + 2 ≤ length bytes.now }
+    ensures { result ≡ u16_at bytes.now at }
+{
+    LittleEndian::read_u16(&bytes[at..])
+}
+
+/// The number in the four bytes at `at`, the lowest first.
+pub fn u32_at(bytes: &[u8], at: usize) -> u32
+    requires { at + 4 ≤ length bytes.now }
+    ensures { result ≡ u32_at bytes.now at }
+{
+    LittleEndian::read_u32(&bytes[at..])
+}
+
+/// The number in the eight bytes at `at`, the lowest first.
+pub fn u64_at(bytes: &[u8], at: usize) -> u64
+    requires { at + 8 ≤ length bytes.now }
+    ensures { result ≡ u64_at bytes.now at }
+{
+    LittleEndian::read_u64(&bytes[at..])
+}

@@ -1,0 +1,29 @@
+-- The contents of a disk, and its sectors.
+use Rattle.std.specs.Prelude.{ℕ, ◌+◌, ◌*◌, List, [], ◌∷◌, ◌++◌, take, drop, Option, None, Some, IsTrue, is_some}
+
+-- the bytes of one sector
+abbrev pub sector_of : List ℕ → ℕ → List ℕ
+sector_of all sector = take 512 (drop (512 * sector) all)
+
+-- the contents with one sector replaced
+abbrev pub with_sector : List ℕ → ℕ → List ℕ → List ℕ
+with_sector all sector bytes = take (512 * sector) all ++ bytes ++ drop (512 * sector + 512) all
+
+-- what is told, changed; what is not told stays so
+abbrev pub told : {A B : Type 0} → (A → B) → Option A → Option B
+told f None = None
+told f (Some x) = Some (f x)
+
+abbrev pub IsTold : {A : Type 0} → Option A → Type 0
+IsTold contents = IsTrue (is_some contents)
+
+-- one sector, where the contents are told; empty where they are not, and past their end
+unfoldable pub sector_in : Option (List ℕ) → ℕ → List ℕ
+sector_in None sector = []
+sector_in (Some all) sector = sector_of all sector
+
+-- the list of settled contents with one more, where both are told
+abbrev pub settled_more : Option (List (List ℕ)) → Option (List ℕ) → Option (List (List ℕ))
+settled_more None contents = None
+settled_more (Some past) None = None
+settled_more (Some past) (Some contents) = Some (past ++ contents ∷ [])

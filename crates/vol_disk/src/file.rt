@@ -1,0 +1,111 @@
+//! A disk over a file or a block device.
+ghost use Rattle.std.specs.Prelude.{◌≡◌, ◌^◌, ◌<◌, ◌≤◌, None, OnOk, OnErr};
+ghost use Rattle.vol_disk.specs.Count.{raised};
+
+use crate::counts::Counts;
+use crate::{Disk, Failed, SECTOR};
+use std::fs::File;
+use std::os::unix::fs::FileExt;
+
+/// A file as a disk. It tells no contents: that a file gives what was last written is trusted.
+#[derive(Drop)]
+pub struct FileDisk {
+    file: File,
+    sectors: u64,
+    is_synced: bool,
+    counts: Counts,
+    ghost few: { sectors < 2 ^ 55 },
+}
+
+impl FileDisk {
+    /// The first `sectors` sectors of the file, which is to be open for reading and writing.
+    pub fn new(file: File, sectors: u64) -> FileDisk
+        requires { sectors < 2 ^ 55 }
+        ensures sectors { result.sectors ≡ sectors }
+    {
+        FileDisk {
+            file,
+            sectors,
+            is_synced: true,
+            counts: Counts::default(),
+        }
+    }
+
+    // Synchronises the file where something was written since the last time.
+    fn sync(&mut self) -> Result<(), Failed>
+        ensures sectors { self.new.sectors ≡ self.old.sectors }
+        ensures ok { OnOk result (self.new.counts ≡ self.old.counts) }
+        ensures err { OnErr result (self.new.counts ≡ record self.old.counts { faults = raised self.old.counts.faults }) }
+        ensures rises { self.old.counts.faults ≤ self.new.counts.faults }
+    {
+        if self.is_synced {
+            return Ok(());
+        }
+        match self.file.sync_all() {
+            Ok(()) => {
+                self.is_synced = true;
+                Ok(())
+            }
+            Err(_) => Err(self.counts.fail()),
+        }
+    }
+}
+
+// Where a sector begins in the file.
+fn offset_of(sector: u64) -> u64
+    requires { sector < 2 ^ 55 }
+{
+    sector * SECTOR as u64
+}
+
+impl Disk for FileDisk {
+    ghost now = { λ _. None };
+
+    ghost settled = { λ _. None };
+
+    ghost size = { λ disk. disk.sectors };
+
+    ghost faults = { λ disk. disk.counts.faults };
+
+    ghost written = { λ disk. disk.counts.written };
+
+    ghost fetched = { λ disk. disk.counts.fetched };
+
+    ghost late = { λ disk. disk.counts.late };
+
+    ghost told_length = { λ _. tt };
+
+    ghost size_fits = { λ disk. disk.few };
+
+    fn sectors(&self) -> u64 {
+        self.sectors
+    }
+
+    fn read(&mut self, sector: u64, into: &mut [u8; 512]) -> Result<(), Failed> {
+        self.counts.fetch();
+        match self.file.read_exact_at(into, offset_of(sector)) {
+            Ok(()) => Ok(()),
+            Err(_) => Err(self.counts.fail()),
+        }
+    }
+
+    fn write(&mut self, sector: u64, from: &[u8; 512]) -> Result<(), Failed> {
+        self.counts.begin_write();
+        self.is_synced = false;
+        match self.file.write_all_at(from, offset_of(sector)) {
+            Ok(()) => {
+                self.counts.end_write();
+                Ok(())
+            }
+            Err(_) => Err(self.counts.fail()),
+        }
+    }
+
+    fn barrier(&mut self) -> Result<(), Failed> {
+        self.sync()
+    }
+
+    fn settle(&mut self) -> Result<(), Failed> {
+        self.sync()
+    }
+}
