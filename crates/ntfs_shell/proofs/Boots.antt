@@ -1,0 +1,22 @@
+-- What boot says of the sector that it read.
+use Rattle.std.proofs.Common.{◌≡◌, ℕ, ◌*◌, ◌/◌, List, length, Option, None, Some, ap, subst, ◌∙◌, arith}
+use Rattle.std.specs.Prelude.{IfSome}
+use Rattle.ntfs_def.specs.Boot.{boot_sector, boot_failing}
+use Rattle.ntfs_shell.specs.Boot.{boot_answer, boot_report}
+use Rattle.ntfs_shell.specs.Report.{Report}
+
+-- the sectors of a disk that tells its contents
+sectors_told : (now : Option (List ℕ)) (image : List ℕ) (size : ℕ) → IfSome now (λ all. length all ≡ 512 * size) → now ≡ Some image → size ≡ length image / 512
+sectors_told None image size len e = cc
+sectors_told (Some all) image size len e =
+    let same : all ≡ image = cc in
+    let long : length image ≡ 512 * size = subst (λ (x : List ℕ). length x ≡ 512 * size) same len in
+    omega arith
+
+-- the report, by the sector that was read
+pub boot_report-read : (now : Option (List ℕ)) (image sector : List ℕ) (size : ℕ) (answer : Report) → IfSome now (λ all. length all ≡ 512 * size)
+    → now ≡ Some image → sector ≡ boot_sector image → answer ≡ boot_answer sector (boot_failing sector size) → answer ≡ boot_report image
+boot_report-read now image sector size answer len told read is =
+    is
+    ∙ ap (λ (n : ℕ). boot_answer sector (boot_failing sector n)) (sectors_told now image size len told)
+    ∙ ap (λ (s : List ℕ). boot_answer s (boot_failing s (length image / 512))) read

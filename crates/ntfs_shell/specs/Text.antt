@@ -1,0 +1,30 @@
+-- The printed lines, as bytes.
+use Rattle.std.specs.Prelude.{ℕ, List, ◌++◌, codes, decimal}
+use Rattle.byteorder.specs.Endian.{big_bytes}
+use Rattle.hex.specs.Hex.{encode_lower}
+use Rattle.ntfs_boot.specs.declared.Geometry.{Geometry}
+
+-- a line: a name, a space and a value
+abbrev pub line_of : List ℕ → List ℕ → List ℕ
+line_of name value = name ++ codes " " ++ value ++ codes "\n"
+
+-- a number of 64 bits in sixteen lower-case hexadecimal digits, the highest first
+abbrev pub hexadecimal : ℕ → List ℕ
+hexadecimal number = encode_lower (big_bytes 8 number)
+
+-- the nine lines of a geometry; sectors, file records and index records have the one size that is read here
+unfoldable pub geometry_text : Geometry → List ℕ
+geometry_text geometry =
+     line_of (codes "sector") (decimal 512)
+  ++ line_of (codes "cluster") (decimal geometry.cluster)
+  ++ line_of (codes "sectors") (decimal geometry.sectors)
+  ++ line_of (codes "clusters") (decimal geometry.clusters)
+  ++ line_of (codes "mft") (decimal geometry.mft)
+  ++ line_of (codes "mirror") (decimal geometry.mirror)
+  ++ line_of (codes "record") (decimal 1024)
+  ++ line_of (codes "index") (decimal 4096)
+  ++ line_of (codes "serial") (hexadecimal geometry.serial)
+
+-- the line that refuses a volume, as in `refused S1 6`
+unfoldable pub refusal_text : ℕ → ℕ → List ℕ
+refusal_text clause number = codes "refused S" ++ line_of (decimal clause) (decimal number)

@@ -1,0 +1,20 @@
+-- The words of the command line.
+use Rattle.std.specs.Prelude.{◌≡◌, ◌⊎◌, ℕ, List, [], ◌∷◌, codes}
+
+-- this word alone
+abbrev pub AreWords : List (List ℕ) → List ℕ → Type 0
+AreWords words text = words ≡ text ∷ []
+
+-- the words of the program that are not built yet
+abbrev pub IsUnbuilt : List ℕ → Type 0
+IsUnbuilt word = (word ≡ codes "label") ⊎ (word ≡ codes "check") ⊎ (word ≡ codes "run") ⊎ (word ≡ codes "format") ⊎ (word ≡ codes "make")
+
+-- the first word is not built yet, whatever follows
+abbrev pub AskUnbuilt : List (List ℕ) → Type 0
+AskUnbuilt [] = ⊥
+AskUnbuilt (word ∷ words) = IsUnbuilt word
+
+-- the words ask for nothing that the program knows
+pub record AreUnknown (words : List (List ℕ)) : Type 0 where
+  pub boot : ¬ (AreWords words (codes "boot"))
+  pub unbuilt : ¬ (AskUnbuilt words)

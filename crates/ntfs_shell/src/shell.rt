@@ -1,0 +1,39 @@
+//! All that the program does, over any disk, source and sink.
+ghost use Rattle.std.specs.Prelude.{◌≡◌, ◌≢◌, codes, map, string_bytes};
+ghost use Rattle.ntfs_shell.specs.Words.{AreUnknown, AreWords, AskUnbuilt};
+ghost use Rattle.ntfs_shell.specs.World.{world};
+ghost use Rattle.ntfs_shell.specs.Report.{AnswersReport};
+ghost use Rattle.ntfs_shell.specs.Boot.{boot_report};
+
+use crate::boot::boot;
+use crate::words::{Asked, read_words};
+use std::alloc::Global;
+use vol_disk::{Disk, Sink, Source};
+
+/// Does what the words ask for, and gives the status of the program: 0 done, 2 unknown words, 3 the
+/// volume was refused, 5 the output failed, 6 the disk failed, 9 a word that is not built yet.
+pub fn run_shell<D: Disk, S: Source, K: Sink>(
+    _alloc: Global,
+    words: &[String],
+    disk: &mut D,
+    script: &mut S,
+    out: &mut K,
+) -> u8
+    ensures boot { AreWords (map string_bytes words.now) (codes "boot") → AnswersReport boot_report 1
+        (world D.Disk S.Source K.Sink disk.old script.old out.old) result (world D.Disk S.Source K.Sink disk.new script.new out.new) }
+    ensures boot_serves { AreWords (map string_bytes words.now) (codes "boot") → result ≢ 7 }
+
+    ensures unbuilt { AskUnbuilt (map string_bytes words.now) → result ≡ 9 }
+    ensures unbuilt_untouched { AskUnbuilt (map string_bytes words.now) →
+        world D.Disk S.Source K.Sink disk.new script.new out.new ≡ world D.Disk S.Source K.Sink disk.old script.old out.old }
+
+    ensures unknown { AreUnknown (map string_bytes words.now) → result ≡ 2 }
+    ensures unknown_untouched { AreUnknown (map string_bytes words.now) →
+        world D.Disk S.Source K.Sink disk.new script.new out.new ≡ world D.Disk S.Source K.Sink disk.old script.old out.old }
+{
+    match read_words(words) {
+        Asked::Boot => boot(disk, script, out).status(),
+        Asked::Unbuilt => 9,
+        Asked::Unknown => 2,
+    }
+}
