@@ -5,6 +5,9 @@ ghost use Rattle.std.specs.Prelude.{◌≡◌, ◌^◌, ◌<◌, ◌↔◌, None
 ghost use Rattle.ntfs_def.specs.Boot.{boot_failing, cluster_sectors, has_cluster_size, has_end_mark, has_name, is_ntfs, spelled_size};
 ghost use Rattle.ntfs_boot.specs.Geometry.{geometry_of, number_of};
 
+#[cfg(test)]
+mod tests;
+
 use thiserror::Error;
 use vol_bytes::{u16_at, u64_at};
 

@@ -1,10 +1,16 @@
-//! Little-endian numbers in bytes: how every field of an NTFS volume is stored.
+//! Little-endian numbers in bytes, how every field of an NTFS volume is stored, and the printed form
+//! of names.
 #![tactic(auto)]
 
 ghost use Rattle.std.specs.Prelude.{◌≡◌, ◌+◌, ◌≤◌, length};
 ghost use Rattle.vol_bytes.specs.Field.{u16_at, u32_at, u64_at};
 
+mod small;
+mod text;
+
 use byteorder::{ByteOrder, LittleEndian};
+pub use small::{Name, Octets};
+pub use text::{TextFault, text_of_units};
 
 /// The number in the two bytes at `at`, the lowest first.
 pub fn u16_at(bytes: &[u8], at: usize) -> u16
