@@ -1,7 +1,8 @@
 -- Bare blocks: how what is read, edited and written again is joined by equations.
 use Rattle.std.proofs.Common.{◌≡◌, ℕ, ◌+◌, ◌<◌, ◌≤◌, ◌&&◌, nat_lt, inl, inr, refl, cond, ap, List, length, get_or, sym, ◌∙◌, arith}
-use Rattle.std.proofs.lemmas.Grind.{common_steps, same_number_lists}
+use Rattle.std.proofs.lemmas.Grind.{same_number_lists}
 use Rattle.std.proofs.lemmas.List.FromFn.{length-map-range_with_len, get_or-map-range_with_len}
+use Rattle.std.proofs.lemmas.List.{get_or_past}
 use Rattle.std.proofs.lemmas.Bool.{cases_lt, lt-leb, le-leb, lt-ltb, le-ltb}
 use Rattle.vol_bytes.specs.Field.{SameOutside, u16_at, u32_at, u64_at}
 use Rattle.vol_bytes.proofs.FieldLaws.{u16_at-same, u32_at-same, u64_at-same}
@@ -16,26 +17,27 @@ get_or-bare_of : (block : List ℕ) (k : ℕ) → k < length block → get_or (b
 unfolding bare_of
 get_or-bare_of block k inside = get_or-map-range_with_len (bare_byte block) 0 (length block) k k 0 inside (omega arith)
 
-past_end : (xs : List ℕ) (k : ℕ) → length xs ≤ k → get_or xs k 0 ≡ 0
-past_end xs k past = grind (arith, common_steps)
-
 -- before the array, behind it, and in it
 pub bare_of-before : (block : List ℕ) (k : ℕ) → k < array_place block → get_or (bare_of block) k 0 ≡ get_or block k 0
 bare_of-before block k before = elim (cases_lt k (length block)) [
-  | inl inside ↦ get_or-bare_of block k inside ∙ ap (λ b. cond (b && nat_lt k (array_end block)) 0 (get_or block k 0)) (lt-leb (array_place block) k before)
-  | inr past ↦ past_end (bare_of block) k (omega (arith, length-bare_of block)) ∙ sym (past_end block k past)
+  | inl inside ↦
+      get_or-bare_of block k inside
+      ∙ ap (λ b. cond (b && nat_lt k (array_end block)) 0 (get_or block k 0)) (lt-leb (array_place block) k before)
+  | inr past ↦ get_or_past (bare_of block) k 0 (omega (arith, length-bare_of block)) ∙ sym (get_or_past block k 0 past)
 ]
 
 pub bare_of-behind : (block : List ℕ) (k : ℕ) → array_end block ≤ k → get_or (bare_of block) k 0 ≡ get_or block k 0
 bare_of-behind block k behind = elim (cases_lt k (length block)) [
-  | inl inside ↦ get_or-bare_of block k inside ∙ rw (le-leb (array_place block) k (omega (arith, behind)), le-ltb k (array_end block) behind) refl
-  | inr past ↦ past_end (bare_of block) k (omega (arith, length-bare_of block)) ∙ sym (past_end block k past)
+  | inl inside ↦
+      get_or-bare_of block k inside
+      ∙ rw (le-leb (array_place block) k (omega (arith, behind)), le-ltb k (array_end block) behind) refl
+  | inr past ↦ get_or_past (bare_of block) k 0 (omega (arith, length-bare_of block)) ∙ sym (get_or_past block k 0 past)
 ]
 
 pub bare_of-in : (block : List ℕ) (k : ℕ) → array_place block ≤ k → k < array_end block → get_or (bare_of block) k 0 ≡ 0
 bare_of-in block k from to = elim (cases_lt k (length block)) [
   | inl inside ↦ get_or-bare_of block k inside ∙ rw (le-leb (array_place block) k from, lt-ltb k (array_end block) to) refl
-  | inr past ↦ past_end (bare_of block) k (omega (arith, length-bare_of block))
+  | inr past ↦ get_or_past (bare_of block) k 0 (omega (arith, length-bare_of block))
 ]
 
 -- Two blocks that differ in the array alone are one bare block.

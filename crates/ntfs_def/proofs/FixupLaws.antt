@@ -15,9 +15,11 @@ unfolding opened_of
 get_or-opened_of stored k inside = get_or-map-range_with_len (opened_byte stored) 0 (length stored) k k 0 inside (omega arith)
 
 -- a list with these bytes is the opened block
-pub opened_of-exact : (stored other : List ℕ) → length other ≡ length stored → ((k : ℕ) → k < length stored → get_or other k 0 ≡ opened_byte stored k) → other ≡ opened_of stored
+pub opened_of-exact : (stored other : List ℕ) → length other ≡ length stored
+    → ((k : ℕ) → k < length stored → get_or other k 0 ≡ opened_byte stored k) → other ≡ opened_of stored
 opened_of-exact stored other len each =
-    same_number_lists other (opened_of stored) (len ∙ sym (length-opened_of stored)) (λ k inside. each k (omega (arith, len)) ∙ sym (get_or-opened_of stored k (omega (arith, len))))
+    let opened = λ (k : ℕ) (lt : k < length other). each k (omega (arith, len)) ∙ sym (get_or-opened_of stored k (omega (arith, len))) in
+    same_number_lists other (opened_of stored) (len ∙ sym (length-opened_of stored)) opened
 
 -- before the end of a stride the bytes are those that are stored
 pub opened_of-within : (stored : List ℕ) (k : ℕ) → k < length stored → k % 512 < 510 → get_or (opened_of stored) k 0 ≡ get_or stored k 0
@@ -26,7 +28,8 @@ opened_of-within stored k inside within =
     ∙ ap (λ b. cond b (get_or stored k 0) (get_or stored (pair_place stored (k / 512) + (k % 512 - 510)) 0)) (lt-ltb (k % 512) 510 within)
 
 -- at the end of a stride they come from the array
-pub opened_of-end : (stored : List ℕ) (k : ℕ) → k < length stored → 510 ≤ k % 512 → get_or (opened_of stored) k 0 ≡ get_or stored (pair_place stored (k / 512) + (k % 512 - 510)) 0
+pub opened_of-end : (stored : List ℕ) (k : ℕ) → k < length stored → 510 ≤ k % 512
+    → get_or (opened_of stored) k 0 ≡ get_or stored (pair_place stored (k / 512) + (k % 512 - 510)) 0
 opened_of-end stored k inside past =
     get_or-opened_of stored k inside
     ∙ ap (λ b. cond b (get_or stored k 0) (get_or stored (pair_place stored (k / 512) + (k % 512 - 510)) 0)) (le-ltb (k % 512) 510 past)
@@ -68,7 +71,7 @@ module _ (stored : List ℕ) (array : HasArray stored) where
   -- and the number that it is stored with
   pub sequence_number-opened_of : sequence_number (opened_of stored) ≡ sequence_number stored
   sequence_number-opened_of =
-      let inside : (k : ℕ) → k < 510 → get_or (opened_of stored) k 0 ≡ get_or stored k 0 = λ k lt. opened_of-within stored k (omega (arith, array.some, array.whole)) (omega arith) in
+      let inside = λ (k : ℕ) (lt : k < 510). opened_of-within stored k (omega (arith, array.some, array.whole)) (omega arith) in
       let low = inside (array_place stored) (omega (arith, array.count, array.high)) in
       let high = inside (array_place stored + 1) (omega (arith, array.count, array.high)) in
       let same : u16_at (opened_of stored) (array_place stored) ≡ u16_at stored (array_place stored) = omega (arith, low, high) in

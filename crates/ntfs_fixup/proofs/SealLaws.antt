@@ -1,14 +1,11 @@
 -- A block that was marked with a number is sealed, and opens to what it was.
 use Rattle.std.proofs.Common.{◌≡◌, ℕ, ◌+◌, ◌-◌, ◌/◌, ◌%◌, ◌<◌, ◌≤◌, inl, inr, ap, List, length, get_or, sym, ◌∙◌, arith}
+use Rattle.std.proofs.lemmas.List.{get_or_past}
 use Rattle.std.proofs.lemmas.Bool.{cases_lt, cases_eq}
-use Rattle.std.proofs.lemmas.Grind.{common_steps}
 use Rattle.vol_bytes.specs.Field.{u16_at}
 use Rattle.ntfs_def.specs.Fixup.{HasArray, IsSealed, Seals, array_place, array_end, next_number, opened_of, pair_place, sequence_number, stride_count, stride_end}
 use Rattle.ntfs_def.proofs.FixupLaws.{HasArray-front, array_place-front, length-opened_of, opened_of-within, opened_of-end}
 use Rattle.ntfs_fixup.specs.Marks.{Marks}
-
-past_end : (xs : List ℕ) (k : ℕ) → length xs ≤ k → get_or xs k 0 ≡ 0
-past_end xs k past = grind (arith, common_steps)
 
 module _ (block stored : List ℕ) (number : ℕ) (array : HasArray block) (m : Marks block stored number) where
   front : (k : ℕ) → k < 8 → get_or stored k 0 ≡ get_or block k 0
@@ -44,11 +41,13 @@ module _ (block stored : List ℕ) (number : ℕ) (array : HasArray block) (m : 
       ])
 
   before_back : (k : ℕ) → k < array_place block → get_or (opened_of stored) k 0 ≡ get_or block k 0
-  before_back k lt = opened_of-within stored k (omega (arith, array.some, array.whole, array.high, m.len)) (omega (arith, array.high)) ∙ m.before k lt
+  before_back k lt =
+      opened_of-within stored k (omega (arith, array.some, array.whole, array.high, m.len)) (omega (arith, array.high))
+      ∙ m.before k lt
 
   behind_back : (k : ℕ) → array_end block ≤ k → get_or (opened_of stored) k 0 ≡ get_or block k 0
   behind_back k le = elim (cases_lt k (length block)) [
-    | inr past ↦ past_end (opened_of stored) k (omega (arith, length-opened_of stored, m.len)) ∙ sym (past_end block k past)
+    | inr past ↦ get_or_past (opened_of stored) k 0 (omega (arith, length-opened_of stored, m.len)) ∙ sym (get_or_past block k 0 past)
     | inl lt ↦ elim (cases_lt (k % 512) 510) [
       | inl within ↦ opened_of-within stored k (omega (arith, m.len)) within ∙ m.behind k lt within le
       | inr past ↦ end_back k lt past

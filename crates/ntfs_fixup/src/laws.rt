@@ -10,14 +10,17 @@ ghost use Rattle.ntfs_fixup.specs.declared.FixFault.{FixFault};
 pub fn one_answer()
     ensures opened { (stored a b : List ℕ) → Opens stored a → Opens stored b → a ≡ b }
     ensures fault { (stored : List ℕ) (a b : FixFault) → Refuses stored a → Refuses stored b → a ≡ b }
-    ensures sealed { (block a b : List ℕ) → HasArray block → All (λ byte. byte < 256) a → All (λ byte. byte < 256) b → Seals block a → Seals block b → a ≡ b }
+    ensures sealed { (block a b : List ℕ) → HasArray block → All (λ byte. byte < 256) a → All (λ byte. byte < 256) b
+        → Seals block a → Seals block b → a ≡ b }
     ensures either { (stored : List ℕ) (fault : FixFault) → IsSealed stored → Refuses stored fault → ⊥ }
 {}
 
 /// A sealed block opens, to the same bytes outside the array, and can be sealed again.
 pub fn sealed_opens()
-    ensures opens { (block stored opened : List ℕ) → Seals block stored → Opens stored opened → SameOutside block opened (array_place block) (array_end block) }
-    ensures bare { (block stored opened : List ℕ) → HasArray block → Seals block stored → Opens stored opened → bare_of opened ≡ bare_of block }
+    ensures opens { (block stored opened : List ℕ) → Seals block stored → Opens stored opened
+        → SameOutside block opened (array_place block) (array_end block) }
+    ensures bare { (block stored opened : List ℕ) → HasArray block → Seals block stored → Opens stored opened
+        → bare_of opened ≡ bare_of block }
     ensures array { (stored opened : List ℕ) → Opens stored opened → HasArray opened }
     ensures number { (stored opened : List ℕ) → Opens stored opened → sequence_number opened ≡ sequence_number stored }
 {}
@@ -25,5 +28,6 @@ pub fn sealed_opens()
 /// An edit behind the first eight bytes keeps the array, and is the same edit of the bare block.
 pub fn edited_alike()
     ensures array { (old new : List ℕ) (from to : ℕ) → 8 ≤ from → HasArray old → SameOutside old new from to → HasArray new }
-    ensures bare { (old new : List ℕ) (from to : ℕ) → 8 ≤ from → SameOutside old new from to → SameOutside (bare_of old) (bare_of new) from to }
+    ensures bare { (old new : List ℕ) (from to : ℕ) → 8 ≤ from → SameOutside old new from to
+        → SameOutside (bare_of old) (bare_of new) from to }
 {}

@@ -5,7 +5,8 @@ use borrow.Rule.Slice.PartMut.{put_mid}
 use Rattle.vol_bytes.specs.Field.{SameOutside, u16_at, u32_at, u64_at}
 
 -- the bytes from `at` on are new ones, the others stay
-SameOutside-written : (old front : List ℕ) (at n : ℕ) → at + n ≤ length old → length front ≡ n → SameOutside old (take at old ++ (front ++ drop (at + n) old)) at (at + n)
+SameOutside-written : (old front : List ℕ) (at n : ℕ) → at + n ≤ length old → length front ≡ n
+    → SameOutside old (take at old ++ (front ++ drop (at + n) old)) at (at + n)
 SameOutside-written old front at n fits len =
     let before : length (take at old) ≡ at = simp length-take (omega arith) in
     record {
@@ -19,13 +20,15 @@ SameOutside-written old front at n fits len =
     }
 
 -- what a write through `&mut bytes[at..]` leaves
-put_mid-front : (old front part : List ℕ) (at k n : ℕ) → at + k ≡ length old → part ≡ front ++ drop n (take k (drop at old)) → put_mid at k old part ≡ take at old ++ (front ++ drop (at + n) old)
+put_mid-front : (old front part : List ℕ) (at k n : ℕ) → at + k ≡ length old → part ≡ front ++ drop n (take k (drop at old))
+    → put_mid at k old part ≡ take at old ++ (front ++ drop (at + n) old)
 put_mid-front old front part at k n whole written =
     let t : take k (drop at old) ≡ drop at old = take_all k (drop at old) (simp length-drop (omega arith)) in
     let d : drop k (drop at old) ≡ [] = drop_all k (drop at old) (simp length-drop (omega arith)) in
     rw (written, t, d, drop-drop n at old) (ap (λ x. take at old ++ x) (append-nil _))
 
-pub SameOutside-put_mid : (old front part : List ℕ) (at k n : ℕ) → at + k ≡ length old → n ≤ k → length front ≡ n → part ≡ front ++ drop n (take k (drop at old)) → SameOutside old (put_mid at k old part) at (at + n)
+pub SameOutside-put_mid : (old front part : List ℕ) (at k n : ℕ) → at + k ≡ length old → n ≤ k → length front ≡ n
+    → part ≡ front ++ drop n (take k (drop at old)) → SameOutside old (put_mid at k old part) at (at + n)
 SameOutside-put_mid old front part at k n whole fits len written =
     rw (put_mid-front old front part at k n whole written) (SameOutside-written old front at n (omega arith) len)
 
