@@ -1,6 +1,6 @@
 -- The fields of a layout. Every number on an NTFS volume is little-endian (Carrier, File System
 -- Forensic Analysis, chapter 11; Linux-NTFS documentation, "NTFS concepts").
-use Rattle.std.specs.Prelude.{ℕ, ◌+◌, ◌*◌, ◌^◌, List, slice_index}
+use Rattle.std.specs.Prelude.{◌≡◌, ℕ, ◌+◌, ◌*◌, ◌^◌, ◌<◌, ◌≤◌, List, length, slice_index}
 
 -- the number in the two bytes at `at`, the lowest first
 abbrev pub u16_at : List ℕ → ℕ → ℕ
@@ -11,3 +11,9 @@ u32_at bytes at = u16_at bytes at + 2 ^ 16 * u16_at bytes (at + 2)
 
 abbrev pub u64_at : List ℕ → ℕ → ℕ
 u64_at bytes at = u32_at bytes at + 2 ^ 32 * u32_at bytes (at + 4)
+
+-- the new bytes are as many as the old ones, and differ from them only from `from` up to `to`
+pub record SameOutside (old new : List ℕ) (from to : ℕ) : Type 0 where
+  pub len : length new ≡ length old
+  pub below : (k : ℕ) → k < from → slice_index new k ≡ slice_index old k
+  pub above : (k : ℕ) → to ≤ k → slice_index new k ≡ slice_index old k

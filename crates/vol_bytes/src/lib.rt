@@ -3,7 +3,10 @@
 #![tactic(auto)]
 
 ghost use Rattle.std.specs.Prelude.{◌≡◌, ◌+◌, ◌≤◌, length};
-ghost use Rattle.vol_bytes.specs.Field.{u16_at, u32_at, u64_at};
+ghost use Rattle.vol_bytes.specs.Field.{SameOutside, u16_at, u32_at, u64_at};
+
+#[cfg(test)]
+mod tests;
 
 mod small;
 mod text;
@@ -34,4 +37,31 @@ pub fn u64_at(bytes: &[u8], at: usize) -> u64
     ensures { result ≡ u64_at bytes.now at }
 {
     LittleEndian::read_u64(&bytes[at..])
+}
+
+/// Writes a number into the two bytes at `at`, the lowest first. All other bytes stay.
+pub fn put_u16(bytes: &mut [u8], at: usize, value: u16)
+    requires { at + 2 ≤ length bytes.old }
+    ensures value { u16_at bytes.new at ≡ value }
+    ensures rest { SameOutside bytes.old bytes.new at (at + 2) }
+{
+    LittleEndian::write_u16(&mut bytes[at..], value);
+}
+
+/// Writes a number into the four bytes at `at`, the lowest first. All other bytes stay.
+pub fn put_u32(bytes: &mut [u8], at: usize, value: u32)
+    requires { at + 4 ≤ length bytes.old }
+    ensures value { u32_at bytes.new at ≡ value }
+    ensures rest { SameOutside bytes.old bytes.new at (at + 4) }
+{
+    LittleEndian::write_u32(&mut bytes[at..], value);
+}
+
+/// Writes a number into the eight bytes at `at`, the lowest first. All other bytes stay.
+pub fn put_u64(bytes: &mut [u8], at: usize, value: u64)
+    requires { at + 8 ≤ length bytes.old }
+    ensures value { u64_at bytes.new at ≡ value }
+    ensures rest { SameOutside bytes.old bytes.new at (at + 8) }
+{
+    LittleEndian::write_u64(&mut bytes[at..], value);
 }

@@ -1,0 +1,2 @@
+pub mod FixupLaws
+pub mod BareLaws

@@ -1,0 +1,2 @@
+pub mod FixFault
+pub mod Marks
