@@ -1,2 +1,4 @@
 pub mod First
 pub mod Boot
+pub mod Runs
+pub mod RunsWritten
