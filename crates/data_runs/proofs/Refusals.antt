@@ -1,9 +1,16 @@
--- How a bad run refuses a text.
-use Rattle.std.proofs.Common.{◌≡◌, ℕ, List, Option, Some, None, inl, inr, refl}
+-- How the rest of a text is read, and how a bad run refuses a text.
+use Rattle.std.proofs.Common.{◌≡◌, ℕ, ◌-◌, List, length, take, drop, Option, Some, None, inl, inr, refl}
 use Rattle.std.specs.Option.{option_map}
-use Rattle.ntfs_def.specs.Runs.{RunRule, narrow, whole, nonempty, above_zero, bounded, FirstBadRun}
+use Rattle.std.proofs.lemmas.List.{take_rest}
+use Rattle.ntfs_def.specs.declared.run_text.Run.{Run}
+use Rattle.ntfs_def.specs.Runs.{BeginsWith, RunRule, narrow, whole, nonempty, above_zero, bounded, FirstBadRun}
 use Rattle.data_runs.specs.declared.RunFault.{RunFault}
 use Rattle.data_runs.specs.Refused.{fault_of, Refuses}
+
+-- the code's slice of the rest is the rest
+pub BeginsWith-rest : (text : List ℕ) (at last total : ℕ) (run : Run) → BeginsWith (take (length text - at) (drop at text)) last total run
+    → BeginsWith (drop at text) last total run
+BeginsWith-rest text at last total run first = rw take_rest at first
 
 -- the rule that a fault names
 pub broken_rule : (broken : Option RunRule) (at : ℕ) (fault : RunFault) → option_map (λ rule. fault_of rule at) broken ≡ Some fault

@@ -10,12 +10,14 @@ use Rattle.ntfs_def.proofs.SpotLaws.{spot_of-none, spot_of-first, spot_of-past}
 -- the cluster lies in the run
 pub spot_of-here : (runs : List Run) (at n : ℕ) (d : Run) → at < length runs → n < (get_or runs at d).len
     → spot_of (drop at runs) n ≡ spot_in (Some (option_map (λ place. place + n) (get_or runs at d).lcn))
-spot_of-here runs at n d lt h = ap (λ rest. spot_of rest n) (drop_more runs at d lt) ∙ spot_of-first (get_or runs at d) (drop (at + 1) runs) n h
+spot_of-here runs at n d lt h = ap (λ rest. spot_of rest n) (drop_more runs at d lt)
+    ∙ spot_of-first (get_or runs at d) (drop (at + 1) runs) n h
 
 -- it lies past the run
 pub spot_of-later : (runs : List Run) (at n : ℕ) (d : Run) → at < length runs → (get_or runs at d).len ≤ n
     → spot_of (drop at runs) n ≡ spot_of (drop (at + 1) runs) (n - (get_or runs at d).len)
-spot_of-later runs at n d lt h = ap (λ rest. spot_of rest n) (drop_more runs at d lt) ∙ spot_of-past (get_or runs at d) (drop (at + 1) runs) n h
+spot_of-later runs at n d lt h = ap (λ rest. spot_of rest n) (drop_more runs at d lt)
+    ∙ spot_of-past (get_or runs at d) (drop (at + 1) runs) n h
 
 -- no run is left
 pub spot_of-nowhere : (runs : List Run) (at n : ℕ) → length runs ≤ at → spot_of (drop at runs) n ≡ Outside

@@ -1,2 +1,5 @@
 pub mod RunLaws
 pub mod SpotLaws
+pub mod RunTotality
+pub mod WrittenLaws
+pub mod WrittenOnce

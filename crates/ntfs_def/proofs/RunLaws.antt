@@ -5,7 +5,7 @@ use Rattle.std.proofs.lemmas.List.{drop-drop}
 use Rattle.std.proofs.lemmas.Bool.{leb-true}
 use Rattle.std.proofs.lemmas.Grind.{common_steps}
 use Rattle.ntfs_def.specs.declared.run_text.Run.{Run}
-use Rattle.ntfs_def.specs.Runs.{length_width, offset_width, run_width, run_length, run_place, RunRule, rule_broken, is_bounded, BeginsWith, EndsInReach, IsRunListFrom, place_after, MeansFrom, BreaksAfter}
+use Rattle.ntfs_def.specs.Runs.{length_width, offset_width, run_width, run_length, run_place, RunRule, rule_broken, is_above_zero, is_bounded, BeginsWith, EndsInReach, IsRunListFrom, place_after, MeansFrom, BreaksAfter}
 
 -- what a run that breaks no rule keeps to
 pub record KeepsRules (text : List ℕ) (last total : ℕ) : Type 0 where
@@ -13,6 +13,7 @@ pub record KeepsRules (text : List ℕ) (last total : ℕ) : Type 0 where
   pub offset_narrow : offset_width text ≤ 8
   pub whole : run_width text ≤ length text
   pub nonempty : 0 < run_length text
+  pub above_zero : is_above_zero (run_place text last) ≡ true
   pub in_reach : is_bounded (run_place text last) (run_length text) ≡ true
   pub bounded : total + run_length text ≤ 2 ^ 62
 
@@ -23,8 +24,9 @@ rule_broken-none text last total none = record {
   offset_narrow = grind (arith, common_steps);
   whole = grind (arith, common_steps);
   nonempty = grind (arith, common_steps);
+  above_zero = grind (arith, common_steps);
   in_reach = grind (arith, common_steps);
-  bounded = grind (arith, common_steps)
+  bounded = grind (arith, common_steps);
 }
 
 -- a place is one number
@@ -68,15 +70,20 @@ MeansFrom-IsRunList text last total (run ∷ runs) (first, rest) =
     (some, bounded, in_reach, MeansFrom-IsRunList (drop (run_width text) text) (place_after last run) (total + run.len) runs rest)
 
 pub MeansFrom-next : (text : List ℕ) (at last total : ℕ) (run : Run) (more : List Run) → BeginsWith (drop at text) last total run
-    → MeansFrom (drop (at + run_width (drop at text)) text) (place_after last run) (total + run.len) more → MeansFrom (drop at text) last total (run ∷ more)
+    → MeansFrom (drop (at + run_width (drop at text)) text) (place_after last run) (total + run.len) more
+    → MeansFrom (drop at text) last total (run ∷ more)
 MeansFrom-next text at last total run more first rest = (first, rw (drop-drop (run_width (drop at text)) at text) rest)
 
-pub BreaksAfter-next : (text : List ℕ) (at last total : ℕ) (run : Run) (more : List Run) (rule : RunRule) (place : ℕ) → BeginsWith (drop at text) last total run
-    → BreaksAfter (drop (at + run_width (drop at text)) text) (at + run_width (drop at text)) (place_after last run) (total + run.len) more rule place → BreaksAfter (drop at text) at last total (run ∷ more) rule place
+pub BreaksAfter-next : (text : List ℕ) (at last total : ℕ) (run : Run) (more : List Run) (rule : RunRule) (place : ℕ)
+    → BeginsWith (drop at text) last total run
+    → BreaksAfter (drop (at + run_width (drop at text)) text) (at + run_width (drop at text)) (place_after last run) (total + run.len)
+    more rule place
+    → BreaksAfter (drop at text) at last total (run ∷ more) rule place
 BreaksAfter-next text at last total run more rule place first rest = (first, rw (drop-drop (run_width (drop at text)) at text) rest)
 
 -- a text means at most one list
-pub MeansFrom-exact : (text : List ℕ) (last total : ℕ) (xs ys : List Run) → MeansFrom text last total xs → MeansFrom text last total ys → xs ≡ ys
+pub MeansFrom-exact : (text : List ℕ) (last total : ℕ) (xs ys : List Run) → MeansFrom text last total xs
+    → MeansFrom text last total ys → xs ≡ ys
 MeansFrom-exact text last total [] [] a b = refl
 MeansFrom-exact text last total [] (y ∷ ys) a (first, b) = let on = first.goes_on in absurd (cc)
 MeansFrom-exact text last total (x ∷ xs) [] (first, a) b = let on = first.goes_on in absurd (cc)
@@ -86,13 +93,15 @@ MeansFrom-exact text last total (x ∷ xs) (y ∷ ys) (f, a) (g, b) =
     cc
 
 -- and none where a bad run comes
-pub MeansFrom-BreaksAfter : (text : List ℕ) (at last total : ℕ) (xs ys : List Run) (rule : RunRule) (place : ℕ) → MeansFrom text last total xs → BreaksAfter text at last total ys rule place → ⊥
+pub MeansFrom-BreaksAfter : (text : List ℕ) (at last total : ℕ) (xs ys : List Run) (rule : RunRule) (place : ℕ)
+    → MeansFrom text last total xs → BreaksAfter text at last total ys rule place → ⊥
 MeansFrom-BreaksAfter text at last total [] [] rule place a (on, b, p) = cc
 MeansFrom-BreaksAfter text at last total [] (y ∷ ys) rule place a (first, b) = let on = first.goes_on in cc
 MeansFrom-BreaksAfter text at last total (x ∷ xs) [] rule place (first, a) (on, broken, b) = let good = first.good in cc
 MeansFrom-BreaksAfter text at last total (x ∷ xs) (y ∷ ys) rule place (f, a) (g, b) =
     let same : x ≡ y = BeginsWith-exact text last total x y f g in
-    MeansFrom-BreaksAfter (drop (run_width text) text) (at + run_width text) (place_after last x) (total + x.len) xs ys rule place a (rw (← same) at b)
+    MeansFrom-BreaksAfter (drop (run_width text) text) (at + run_width text) (place_after last x) (total + x.len) xs ys rule place a
+    (rw (← same) at b)
 
 -- nor is another run the first bad one
 pub BreaksAfter-exact : (text : List ℕ) (at last total : ℕ) (xs ys : List Run) (rule other : RunRule) (place there : ℕ)
@@ -102,4 +111,5 @@ BreaksAfter-exact text at last total [] (y ∷ ys) rule other place there (on, e
 BreaksAfter-exact text at last total (x ∷ xs) [] rule other place there (first, a) (on, f, q) = let good = first.good in absurd (cc)
 BreaksAfter-exact text at last total (x ∷ xs) (y ∷ ys) rule other place there (f, a) (g, b) =
     let same : x ≡ y = BeginsWith-exact text last total x y f g in
-    BreaksAfter-exact (drop (run_width text) text) (at + run_width text) (place_after last x) (total + x.len) xs ys rule other place there a (rw (← same) at b)
+    BreaksAfter-exact (drop (run_width text) text) (at + run_width text) (place_after last x)
+    (total + x.len) xs ys rule other place there a (rw (← same) at b)

@@ -22,7 +22,8 @@ length-run_clusters : (run : Run) → length (run_clusters run) ≡ run.len
 length-run_clusters run = length-map-range_with_len (λ k. option_map (λ place. place + k) run.lcn) 0 run.len
 
 -- a cluster of a run
-slice_get-run_clusters : (run : Run) (n : ℕ) → n < run.len → slice_get (run_clusters run) n ≡ Some (option_map (λ place. place + n) run.lcn)
+slice_get-run_clusters : (run : Run) (n : ℕ) → n < run.len
+    → slice_get (run_clusters run) n ≡ Some (option_map (λ place. place + n) run.lcn)
 slice_get-run_clusters run n h =
     let rule : ℕ → Option ℕ = λ k. option_map (λ place. place + k) run.lcn in
     let long : n < length (run_clusters run) = omega (arith, length-run_clusters run) in
@@ -34,7 +35,8 @@ unfolding clusters_of
 spot_of-none n = refl
 
 -- a cluster of the first run lies there
-pub spot_of-first : (run : Run) (runs : List Run) (n : ℕ) → n < run.len → spot_of (run ∷ runs) n ≡ spot_in (Some (option_map (λ place. place + n) run.lcn))
+pub spot_of-first : (run : Run) (runs : List Run) (n : ℕ) → n < run.len
+    → spot_of (run ∷ runs) n ≡ spot_in (Some (option_map (λ place. place + n) run.lcn))
 unfolding clusters_of
 spot_of-first run runs n h =
     let long : n < length (run_clusters run) = omega (arith, length-run_clusters run) in

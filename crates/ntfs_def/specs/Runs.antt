@@ -40,11 +40,11 @@ run_place text last = if offset_width text == 0 then None else Some (pos last +�
 
 -- What a run has to meet, in this order.
 pub data RunRule : Type 0 where
-  narrow : RunRule     -- neither number takes more than eight bytes
-  whole : RunRule      -- all its bytes are there
-  nonempty : RunRule   -- it has a cluster
-  above_zero : RunRule -- it does not begin below cluster 0
-  bounded : RunRule    -- neither its end nor the clusters of all runs up to it pass 2 ^ 62
+  narrow : RunRule  -- neither number takes more than eight bytes
+  whole : RunRule  -- all its bytes are there
+  nonempty : RunRule  -- it has a cluster
+  above_zero : RunRule  -- it does not begin below cluster 0
+  bounded : RunRule  -- neither its end nor the clusters of all runs up to it pass 2 ^ 62
 
 -- a hole lies nowhere
 abbrev pub is_above_zero : Option ℤ → Bool

@@ -5,4 +5,4 @@
 
 mod run_text;
 
-pub use run_text::{Run, Spot, run_text_laws};
+pub use run_text::{Run, Spot, run_text_laws, written_run_laws};
