@@ -5,3 +5,8 @@ use Rattle.std.specs.Prelude.{ℕ, ◌+◌, Bool, List, [], ◌∷◌, Option, S
 abbrev pub first_failing : ℕ → List Bool → Option ℕ
 first_failing n [] = None
 first_failing n (test ∷ tests) = if test then first_failing (n + 1) tests else Some n
+
+-- the rule of the first test that fails
+abbrev pub first_broken : {Rule : Type 0} → List (Bool × Rule) → Option Rule
+first_broken [] = None
+first_broken ((test, rule) ∷ tests) = if test then first_broken tests else Some rule

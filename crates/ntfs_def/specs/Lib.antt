@@ -1,3 +1,5 @@
 pub mod First
 pub mod Boot
 pub mod Fixup
+pub mod Runs
+pub mod RunsWritten

@@ -2,3 +2,7 @@
 //! the published documentation. They stand in `specs/`, a file a layout or clause; crates that read
 //! or write a volume cite them in their contracts.
 #![tactic(auto)]
+
+mod run_text;
+
+pub use run_text::{Run, Spot, run_text_laws, written_run_laws};
