@@ -1,2 +1,5 @@
 pub mod First
 pub mod Boot
+pub mod Record
+pub mod Attribute
+pub mod Shape
