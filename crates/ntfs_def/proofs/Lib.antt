@@ -1,7 +1,9 @@
+pub mod AttributeLaws
 pub mod BareLaws
 pub mod FixupLaws
 pub mod RunLaws
 pub mod RunTotality
+pub mod ShapeLaws
 pub mod SpotLaws
 pub mod WrittenLaws
 pub mod WrittenOnce

@@ -88,9 +88,15 @@ has_places boot = nat_lt (mft_cluster boot) (cluster_count boot) && nat_lt (mirr
 
 -- The boot clause, S1: the least number of a test that fails, `None` where the clause holds.
 abbrev pub boot_failing : List ℕ → ℕ → Option ℕ
-boot_failing boot sectors = first_failing 1 (
-    is_ntfs boot ∷ has_sector_size boot ∷ has_cluster_size boot ∷ has_record_size boot ∷ has_index_size boot
-    ∷ has_length boot sectors ∷ has_places boot ∷ [])
+boot_failing boot sectors = first_failing (
+    (is_ntfs boot, 1)
+    ∷ (has_sector_size boot, 2)
+    ∷ (has_cluster_size boot, 3)
+    ∷ (has_record_size boot, 4)
+    ∷ (has_index_size boot, 5)
+    ∷ (has_length boot sectors, 6)
+    ∷ (has_places boot, 7)
+    ∷ [])
 
 -- The boot sector of a disk's contents. A disk without a sector counts as one whose sector 0 is zero.
 abbrev pub boot_sector : List ℕ → List ℕ

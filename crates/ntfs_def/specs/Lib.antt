@@ -1,5 +1,8 @@
 pub mod First
 pub mod Boot
 pub mod Fixup
+pub mod Record
+pub mod Attribute
+pub mod Shape
 pub mod Runs
 pub mod RunsWritten
