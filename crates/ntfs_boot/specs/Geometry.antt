@@ -1,5 +1,5 @@
 -- What a boot sector says, as this crate's types.
-use Rattle.std.specs.Prelude.{ℕ, List}
+use Rattle.std.specs.Prelude.{◌≡◌, ◌⊎◌, ℕ, ◌*◌, ◌/◌, ◌%◌, ◌^◌, ◌<◌, ◌≤◌, List}
 use Rattle.ntfs_def.specs.Boot.{cluster_size, total_sectors, cluster_count, mft_cluster, mirror_cluster, serial_number}
 use Rattle.ntfs_boot.specs.declared.Geometry.{Geometry}
 use Rattle.ntfs_boot.specs.declared.BootFault.{BootFault}
@@ -11,6 +11,17 @@ geometry_of boot = record {
   cluster = cluster_size boot; sectors = total_sectors boot; clusters = cluster_count boot;
   mft = mft_cluster boot; mirror = mirror_cluster boot; serial = serial_number boot
 }
+
+abbrev pub HasClusterSize : ℕ → Type 0
+HasClusterSize sectors = (sectors ≡ 1) ⊎ (sectors ≡ 2) ⊎ (sectors ≡ 4) ⊎ (sectors ≡ 8)
+
+-- What a geometry that was accepted keeps, on a disk of so many sectors.
+pub record FitsDisk (geometry : Geometry) (sectors : ℕ) : Type 0 where
+  pub cluster : (geometry.cluster % 512 ≡ 0) × HasClusterSize (geometry.cluster / 512)
+  pub few : geometry.clusters ≤ 2 ^ 26
+  pub on_disk : geometry.clusters * geometry.cluster ≤ 512 * sectors
+  pub mft : geometry.mft < geometry.clusters
+  pub mirror : geometry.mirror < geometry.clusters
 
 -- the number of the test that found the fault
 abbrev pub number_of : BootFault → ℕ

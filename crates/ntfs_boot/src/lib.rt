@@ -3,7 +3,7 @@
 
 ghost use Rattle.std.specs.Prelude.{◌≡◌, ◌^◌, ◌<◌, ◌↔◌, None, Some, IsTrue, IfOk, IfErr};
 ghost use Rattle.ntfs_def.specs.Boot.{boot_failing, cluster_sectors, has_cluster_size, has_end_mark, has_name, is_ntfs, spelled_size};
-ghost use Rattle.ntfs_boot.specs.Geometry.{geometry_of, number_of};
+ghost use Rattle.ntfs_boot.specs.Geometry.{FitsDisk, HasClusterSize, geometry_of, number_of};
 
 #[cfg(test)]
 mod tests;
@@ -83,7 +83,8 @@ fn is_ntfs(boot: &[u8; 512]) -> bool
 }
 
 fn has_cluster_size(boot: &[u8; 512]) -> bool
-    ensures { result ≡ has_cluster_size boot.now }
+    ensures test { result ≡ has_cluster_size boot.now }
+    ensures one_of { IsTrue result → HasClusterSize (cluster_sectors boot.now) }
 {
     matches!(boot[0x0D], 1 | 2 | 4 | 8)
 }
@@ -126,6 +127,7 @@ impl Geometry {
     /// The first of the seven tests of the boot clause that fails.
     pub fn read(boot: &[u8; 512], sectors: u64) -> Result<Geometry, BootFault>
         ensures ok { IfOk result (λ geometry. (boot_failing boot.now sectors ≡ None) × (geometry ≡ geometry_of boot.now)) }
+        ensures fits { IfOk result (λ geometry. FitsDisk geometry sectors) }
         ensures err { IfErr result (λ fault. boot_failing boot.now sectors ≡ Some (number_of fault)) }
     {
         if !is_ntfs(boot) {

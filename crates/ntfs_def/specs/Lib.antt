@@ -4,5 +4,8 @@ pub mod Fixup
 pub mod Record
 pub mod Attribute
 pub mod Shape
+pub mod Packed
 pub mod Runs
 pub mod RunsWritten
+pub mod Table
+pub mod Volume

@@ -3,6 +3,8 @@
 //! or write a volume cite them in their contracts.
 #![tactic(auto)]
 
+mod packed;
 mod run_text;
 
+pub use packed::is_packed;
 pub use run_text::{Run, Spot, run_text_laws, written_run_laws};
