@@ -3,3 +3,4 @@ pub mod SpotLaws
 pub mod RunTotality
 pub mod WrittenLaws
 pub mod WrittenOnce
+pub mod WrittenForm
