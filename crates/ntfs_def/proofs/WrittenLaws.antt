@@ -25,7 +25,7 @@ All-bytes_low_first i (suc n) x zero d h = byte_at-small i x
 All-bytes_low_first i (suc n) x (suc k) d h = All-bytes_low_first (suc i) n x k d (omega arith)
 
 -- k bytes spell what they read as
-spells_in : (k u : ℕ) (z : ℤ) → 1 ≤ k → u < 256 ^ k → twos_complement k u ≡ z → Spells (little_bytes k u) z
+pub spells_in : (k u : ℕ) (z : ℤ) → 1 ≤ k → u < 256 ^ k → twos_complement k u ≡ z → Spells (little_bytes k u) z
 spells_in k u z some small is =
     let len : length (little_bytes k u) ≡ k = length-bytes_low_first 0 k u in
     let back : little_number k (little_bytes k u) ≡ u = rw append-nil at (little_number-reads_back k u [] small) in
@@ -188,7 +188,7 @@ first-written last total run len offset rest near some bounded reach spells_len 
     (record { goes_on = reads.goes_on; good = good; len = sym count; place = sym place }, width)
 
 -- the next offset counts from a place in reach again
-place_after-near : (last len : ℕ) (lcn : Option ℕ) → last ≤ 2 ^ 62 → EndsInReach len lcn
+pub place_after-near : (last len : ℕ) (lcn : Option ℕ) → last ≤ 2 ^ 62 → EndsInReach len lcn
     → place_after last (record { len = len; lcn = lcn }) ≤ 2 ^ 62
 place_after-near last len None near reach = near
 place_after-near last len (Some place) near reach = omega arith
