@@ -1,10 +1,12 @@
 -- The shape clause of the volume definition, S3: what a file record must be, so that its attributes can be read.
 -- `block` is the opened record, and `at` the place of an attribute or of the end mark.
 -- The layout is that of the record and of its attributes; sources as there.
-use Rattle.std.specs.Prelude.{◌≡◌, ◌≢◌, ◌⊎◌, ℕ, ◌+◌, ◌%◌, ◌<◌, ◌≤◌, nat_lt, nat_le, ◌==◌, ◌&&◌, ◌||◌, Bool, List, [], ◌∷◌, Option, Some, None, length, if◌then◌else◌}
+use Rattle.std.specs.Prelude.{◌≡◌, ◌≢◌, ◌⊎◌, ℕ, ◌+◌, ◌%◌, ◌<◌, ◌≤◌, nat_lt, nat_le, ◌==◌}
+use Rattle.std.specs.Prelude.{◌&&◌, ◌||◌, Bool, List, [], ◌∷◌, Option, Some, None, length, if◌then◌else◌}
 use Rattle.ntfs_def.specs.First.{failing_place}
 use Rattle.ntfs_def.specs.Record.{array_place, array_count, first_place, used_size, allocated_size}
-use Rattle.ntfs_def.specs.Attribute.{end_kind, attribute_kind, attribute_len, attribute_flags, is_resident, first_vcn, name_units, name_offset, name_end, content_offset, content_end, attribute_place}
+use Rattle.ntfs_def.specs.Attribute.{end_kind, attribute_kind, attribute_len, attribute_flags, is_resident, first_vcn}
+use Rattle.ntfs_def.specs.Attribute.{name_units, name_offset, name_end, content_offset, content_end, attribute_place}
 
 -- The place of the first field of the record's header that is wrong, `None` where all are right.
 -- A block that does not have a record's length is wrong from the first byte on.
@@ -40,8 +42,14 @@ pub record IsAttribute (block : List ℕ) (at : ℕ) : Type 0 where
   pub content_begins : content_offset block at ≤ content_end block at
   pub content_inside : content_end block at ≤ attribute_len block at
   -- what is not empty begins past the header, the name before the content
-  pub name_order : 0 < name_units block at → (header_len block at ≤ name_offset block at) × (name_end block at ≤ content_offset block at)
+  pub name_order :
+      0 < name_units block at
+      → (header_len block at ≤ name_offset block at) × (name_end block at ≤ content_offset block at)
   pub content_order : content_offset block at < content_end block at → header_len block at ≤ content_offset block at
+
+-- At each of the first so many places stands an attribute.
+abbrev pub HasAttributes : List ℕ → ℕ → Type 0
+HasAttributes block count = (i : ℕ) → i < count → IsAttribute block (attribute_place block i)
 
 -- The end mark stands there, below the used size.
 pub record IsEnd (block : List ℕ) (at : ℕ) : Type 0 where
@@ -51,12 +59,12 @@ pub record IsEnd (block : List ℕ) (at : ℕ) : Type 0 where
 -- The record has the shape, with this many attributes and then the end mark.
 pub record HasShape (block : List ℕ) (count : ℕ) : Type 0 where
   pub header : header_failing block ≡ None
-  pub each : (i : ℕ) → i < count → IsAttribute block (attribute_place block i)
+  pub each : HasAttributes block count
   pub last : IsEnd block (attribute_place block count)
 
 -- What stands there, behind attributes that are all right, is neither an attribute nor the end mark.
 pub record IsFirstBad (block : List ℕ) (at : ℕ) : Type 0 where
-  pub before : (i : ℕ) × (at ≡ attribute_place block i) × ((j : ℕ) → j < i → IsAttribute block (attribute_place block j))
+  pub before : (i : ℕ) × (at ≡ attribute_place block i) × HasAttributes block i
   pub attribute : ¬ (IsAttribute block at)
   pub end_mark : ¬ (IsEnd block at)
 
