@@ -4,3 +4,6 @@ pub mod Stream
 pub mod Replay
 pub mod Counting
 pub mod MemDisks
+pub mod Plan
+pub mod Landing
+pub mod FailDisks

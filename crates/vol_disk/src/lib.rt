@@ -11,11 +11,13 @@ ghost use Rattle.vol_disk.specs.Contents.{IsTold, sector_in, told, with_sector, 
 ghost use Rattle.vol_disk.specs.Stream.{Gives, Appended};
 
 mod counts;
+mod fail_disk;
 mod file;
 mod mem_disk;
 mod print;
 mod standard;
 
+pub use fail_disk::{CallKind, Fail, FailDisk};
 pub use file::FileDisk;
 pub use mem_disk::{MemDisk, Write};
 pub use print::write_all;
