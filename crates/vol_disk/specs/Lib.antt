@@ -7,3 +7,5 @@ pub mod MemDisks
 pub mod Plan
 pub mod Landing
 pub mod FailDisks
+pub mod Listing
+pub mod MemStreams

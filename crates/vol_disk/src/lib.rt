@@ -13,13 +13,18 @@ ghost use Rattle.vol_disk.specs.Stream.{Gives, Appended};
 mod counts;
 mod fail_disk;
 mod file;
+mod listed;
 mod mem_disk;
+mod mem_sink;
+mod mem_source;
 mod print;
 mod standard;
 
 pub use fail_disk::{CallKind, Fail, FailDisk};
 pub use file::FileDisk;
 pub use mem_disk::{MemDisk, Write};
+pub use mem_sink::MemSink;
+pub use mem_source::MemSource;
 pub use print::write_all;
 pub use standard::{StdSink, StdSource};
 use std::alloc::AllocError;
