@@ -1,5 +1,6 @@
 -- What a disk in memory shows.
-use Rattle.std.specs.Prelude.{◌≡◌, ℕ, List}
+use Rattle.std.specs.Prelude.{ℕ, ◌-◌, true, List, [], ◌∷◌, ◌++◌, length}
+use Rattle.vol_disk.specs.Counting.{after_write}
 use Rattle.vol_disk.specs.Replay.{replay, contents_at}
 use Rattle.vol_disk.specs.declared.counts.Counts.{Counts}
 use Rattle.vol_disk.specs.declared.mem_disk.MemDisk.{MemDisk}
@@ -25,6 +26,14 @@ shown disk = record {
   counts = disk.counts;
 }
 
+-- one more write
+abbrev pub with_write : Shown → Write → Shown
+with_write disk write = record disk { writes = disk.writes ++ write ∷ []; room = disk.room - 1; counts = after_write true disk.counts }
+
+-- one more settle, behind all writes
+abbrev pub with_settle : Shown → Shown
+with_settle disk = record disk { settles = disk.settles ++ length disk.writes ∷ []; room = disk.room - 1 }
+
 -- the contents that a read gives
 abbrev pub contents_of : MemDisk → List ℕ
 contents_of disk = replay disk.writes.items disk.first.items
@@ -32,9 +41,3 @@ contents_of disk = replay disk.writes.items disk.first.items
 -- the contents at each settle
 abbrev pub settled_of : MemDisk → List (List ℕ)
 settled_of disk = contents_at disk.settles.items disk.writes.items disk.first.items
-
--- all but the writes, the room and the counts is as it was
-pub record OnlyWrites (old new : MemDisk) : Type 0 where
-  pub first : (shown new).first ≡ (shown old).first
-  pub settles : (shown new).settles ≡ (shown old).settles
-  pub sectors : (shown new).sectors ≡ (shown old).sectors

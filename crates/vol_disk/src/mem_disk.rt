@@ -1,5 +1,5 @@
 //! A disk in memory.
-ghost use Rattle.std.specs.Prelude.{◌≡◌, ◌≢◌, ◌↔◌, ◌+◌, ◌-◌, ◌*◌, ◌/◌, ◌%◌, ◌^◌, ◌<◌, ◌≤◌, ℕ, List, [], ◌∷◌, ◌++◌, All, Some, length, take, vec_len, vec_capacity, max, is_ok, IsErr, IsOk, OnOk, OnErr};
+ghost use Rattle.std.specs.Prelude.{◌≡◌, ◌≢◌, ◌↔◌, ◌+◌, ◌-◌, ◌*◌, ◌/◌, ◌%◌, ◌^◌, ◌<◌, ◌≤◌, ℕ, List, [], ◌∷◌, ◌++◌, All, Some, length, take, vec_len, vec_capacity, max, true, false, IsErr, IsOk, OnOk, OnErr};
 ghost use Rattle.vol_disk.specs.Contents.{sector_of, with_sector};
 ghost use Rattle.vol_disk.specs.Count.{raised};
 ghost use Rattle.vol_disk.specs.Replay.{replay, contents_at};
@@ -69,15 +69,12 @@ impl MemDisk {
 
     /// Makes the room at least `n`.
     pub fn reserve(&mut self, n: usize) -> Result<(), RoomNo>
-        ensures room { OnOk result ((shown self.new).room ≡ max ((shown self.old).room) n) }
-        ensures full { OnErr result (((shown self.new).room ≡ (shown self.old).room) × ((shown self.old).room < n)) }
+        ensures ok { OnOk result (shown self.new ≡ record (shown self.old) { room = max (shown self.old).room n }) }
+        ensures full { OnErr result ((shown self.old).room < n) }
+        ensures err { OnErr result (shown self.new ≡ shown self.old) }
 
         ensures now { ⟦<MemDisk as Disk>⟧.now self.new ≡ ⟦<MemDisk as Disk>⟧.now self.old }
         ensures settled { ⟦<MemDisk as Disk>⟧.settled self.new ≡ ⟦<MemDisk as Disk>⟧.settled self.old }
-        ensures size { ⟦<MemDisk as Disk>⟧.size self.new ≡ ⟦<MemDisk as Disk>⟧.size self.old }
-        ensures first { (shown self.new).first ≡ (shown self.old).first }
-        ensures writes { (shown self.new).writes ≡ (shown self.old).writes }
-        ensures counts { (shown self.new).counts ≡ (shown self.old).counts }
     {
         if n <= self.room {
             return Ok(());
@@ -126,7 +123,7 @@ impl MemDisk {
     /// All writes that answered Ok, the first of them first.
     pub fn writes(&self) -> &[Write]
         ensures writes { result.now ≡ (shown self.now).writes }
-        ensures now { ⟦<MemDisk as Disk>⟧.now self.now ≡ Some (replay result.now ((shown self.now).first)) }
+        ensures now { ⟦<MemDisk as Disk>⟧.now self.now ≡ Some (replay result.now (shown self.now).first) }
     {
         &self.writes
     }
@@ -180,8 +177,8 @@ fn put_sector(all: &mut [u8], sector: u64, from: &[u8; 512])
 
 impl Disk for MemDisk {
     ghost use Rattle.vol_disk.specs.Contents.{sector_in};
-    ghost use Rattle.vol_disk.specs.MemDisks.{shown, contents_of, settled_of, OnlyWrites};
-    ghost use Rattle.vol_disk.specs.Counting.{after_write};
+    ghost use Rattle.vol_disk.specs.MemDisks.{shown, contents_of, settled_of, with_write, with_settle};
+    ghost use Rattle.vol_disk.specs.Counting.{after_call, after_read, after_write};
 
     ghost now = { λ disk. Some (replay disk.writes.items disk.first.items) };
 
@@ -207,11 +204,11 @@ impl Disk for MemDisk {
 
     /// Reads one sector, and never fails.
     fn read(&mut self, sector: u64, into: &mut [u8; 512]) -> Result<(), Failed>
-        requires { sector < self.old.sectors }
+        requires { sector < (shown self.old).sectors }
         ensures ok { IsOk result }
         ensures read { into.new ≡ sector_in (Some (contents_of self.old)) sector }
-        ensures shown { shown self.new ≡ record (shown self.old) { counts = record self.old.counts { fetched = raised self.old.counts.fetched } } }
-        ensures fetched { self.old.counts.fetched ≤ self.new.counts.fetched }
+        ensures others { shown self.new ≡ record (shown self.old) { counts = after_read true (shown self.old).counts } }
+        ensures fetched { (shown self.old).counts.fetched ≤ (shown self.new).counts.fetched }
     {
         self.counts.fetch();
         get_sector(self.contents(), sector, into);
@@ -221,14 +218,11 @@ impl Disk for MemDisk {
     /// Writes one sector. It fails exactly where there is no room, and then changes nothing but
     /// the counts.
     fn write(&mut self, sector: u64, from: &[u8; 512]) -> Result<(), Failed>
-        requires { sector < self.old.sectors }
+        requires { sector < (shown self.old).sectors }
         ensures fails { IsErr result ↔ ((shown self.old).room ≡ 0) }
-        ensures writes { OnOk result ((shown self.new).writes ≡ (shown self.old).writes ++ (record { sector = sector; bytes = from.now }) ∷ []) }
-        ensures room { OnOk result ((shown self.new).room + 1 ≡ (shown self.old).room) }
-        ensures others { OnOk result (OnlyWrites self.old self.new) }
-        ensures full { OnErr result (shown self.new ≡ record (shown self.old) { counts = self.new.counts }) }
-        ensures counts { self.new.counts ≡ after_write (is_ok result) self.old.counts }
-        ensures faults { self.old.counts.faults ≤ self.new.counts.faults }
+        ensures ok { OnOk result (shown self.new ≡ with_write (shown self.old) (record { sector = sector; bytes = from.now })) }
+        ensures full { OnErr result (shown self.new ≡ record (shown self.old) { counts = after_write false (shown self.old).counts }) }
+        ensures faults { (shown self.old).counts.faults ≤ (shown self.new).counts.faults }
 
         ensures now { OnOk result (contents_of self.new ≡ with_sector (contents_of self.old) sector from.now) }
         ensures here { OnOk result (sector_in (Some (contents_of self.new)) sector ≡ from.now) }
@@ -256,9 +250,9 @@ impl Disk for MemDisk {
     /// the count of faults.
     fn settle(&mut self) -> Result<(), Failed>
         ensures fails { IsErr result ↔ ((shown self.old).room ≡ 0) }
-        ensures ok { OnOk result (shown self.new ≡ record (shown self.old) { settles = self.old.settles.items ++ length self.old.writes.items ∷ []; room = self.old.room - 1 }) }
-        ensures full { OnErr result (shown self.new ≡ record (shown self.old) { counts = record self.old.counts { faults = raised self.old.counts.faults } }) }
-        ensures faults { self.old.counts.faults ≤ self.new.counts.faults }
+        ensures ok { OnOk result (shown self.new ≡ with_settle (shown self.old)) }
+        ensures full { OnErr result (shown self.new ≡ record (shown self.old) { counts = after_call false (shown self.old).counts }) }
+        ensures faults { (shown self.old).counts.faults ≤ (shown self.new).counts.faults }
         ensures settled { OnOk result (settled_of self.new ≡ settled_of self.old ++ contents_of self.old ∷ []) }
     {
         if self.room == 0 {

@@ -1,4 +1,4 @@
-use Rattle.std.proofs.Common.{rules, ◌≡◌, ◌+◌, ◌*◌, ◌<◌, ◌≤◌, ℕ, List, length, ap, ◌∙◌, sym, arith, vec_len, vec_capacity}
+use Rattle.std.proofs.Common.{◌+◌, ◌*◌, ◌<◌, ◌≤◌, length, ap, ◌∙◌, sym, arith, vec_len}
 use Rattle.std.proofs.lemmas.List.{length_push}
 use Rattle.vol_disk.specs.Contents.{with_sector}
 use Rattle.vol_disk.specs.Replay.{replay, contents_at}
