@@ -52,7 +52,7 @@ inside all bytes n m ne h i k =
     let a : length (sector_of (with_sector all n bytes) m) ≡ 512 = length-sector_of _ m long in
     same_lists _ _ (a ∙ sym (length-sector_of all m i))
     (λ j d l. let l' : j < 512 = omega arith in
-        get_or-sector_of (with_sector all n bytes) m j d l' ∙ get_or-other all bytes n m j d ne l' h k ∙ sym (get_or-sector_of all m j d l'))
+    get_or-sector_of (with_sector all n bytes) m j d l' ∙ get_or-other all bytes n m j d ne l' h k ∙ sym (get_or-sector_of all m j d l'))
 
 past : (all : List ℕ) (m : ℕ) → length all ≤ 512 * m → sector_of all m ≡ []
 past all m h = ap (take 512) (drop_all (512 * m) all h)
@@ -62,9 +62,9 @@ sector_of-other : (all bytes : List ℕ) (count n m : ℕ) → length all ≡ 51
 sector_of-other all bytes count n m e h l ne =
     let len = length-with_sector all bytes n (omega arith) l in
     elim (cases_lt m count) [
-        inl lt ↦ inside all bytes n m ne (omega arith) (omega arith) l
+      | inl lt ↦ inside all bytes n m ne (omega arith) (omega arith) l
       | inr ge ↦ past (with_sector all n bytes) m (omega (arith, len)) ∙ sym (past all m (omega arith))
-      ]
+    ]
 
 -- the same of the sectors of told contents
 pub sector_in-same : (all bytes : List ℕ) (count n : ℕ) → length all ≡ 512 * count → n < count → length bytes ≡ 512 → sector_in (Some (with_sector all n bytes)) n ≡ bytes

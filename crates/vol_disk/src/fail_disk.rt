@@ -122,7 +122,10 @@ impl<D: Disk + Drop> FailDisk<D> {
         ensures calls { self.new ≡ record self.old { calls = counted self.old.calls kind } }
     {
         let number = self.calls.count(kind);
-        self.fails.iter().copied().find(|fail| fail.is_for(kind, number))
+        self.fails
+            .iter()
+            .copied()
+            .find(|fail| fail.is_for(kind, number))
     }
 }
 

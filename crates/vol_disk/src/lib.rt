@@ -19,6 +19,8 @@ mod mem_sink;
 mod mem_source;
 mod print;
 mod standard;
+#[cfg(test)]
+mod tests;
 
 pub use fail_disk::{CallKind, Fail, FailDisk};
 pub use file::FileDisk;

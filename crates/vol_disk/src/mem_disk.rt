@@ -47,6 +47,7 @@ impl MemDisk {
         requires { vec_len first % 512 ≡ 0 }
         ensures now { ⟦<MemDisk as Disk>⟧.now result ≡ Some first.items }
         ensures settled { ⟦<MemDisk as Disk>⟧.settled result ≡ Some [] }
+        ensures size { ⟦<MemDisk as Disk>⟧.size result ≡ vec_len first / 512 }
         ensures first { (shown result).first ≡ first.items }
         ensures writes { (shown result).writes ≡ [] }
         ensures room { (shown result).room ≡ 0 }
@@ -73,6 +74,7 @@ impl MemDisk {
         ensures full { OnErr result ((shown self.old).room < n) }
         ensures err { OnErr result (shown self.new ≡ shown self.old) }
 
+        ensures size { (shown self.new).sectors ≡ (shown self.old).sectors }
         ensures now { ⟦<MemDisk as Disk>⟧.now self.new ≡ ⟦<MemDisk as Disk>⟧.now self.old }
         ensures settled { ⟦<MemDisk as Disk>⟧.settled self.new ≡ ⟦<MemDisk as Disk>⟧.settled self.old }
     {
@@ -142,10 +144,11 @@ impl MemDisk {
         ensures counts { self.new.counts ≡ self.old.counts }
     {
         put_in(&mut self.latest, sector, from);
-        self.writes.push_reserved(Write {
+        let write = Write {
             sector,
             bytes: *from,
-        });
+        };
+        self.writes.push_reserved(write);
         self.room -= 1;
     }
 }
@@ -224,6 +227,7 @@ impl Disk for MemDisk {
         ensures full { OnErr result (shown self.new ≡ record (shown self.old) { counts = after_write false (shown self.old).counts }) }
         ensures faults { (shown self.old).counts.faults ≤ (shown self.new).counts.faults }
 
+        ensures size { (shown self.new).sectors ≡ (shown self.old).sectors }
         ensures now { OnOk result (contents_of self.new ≡ with_sector (contents_of self.old) sector from.now) }
         ensures here { OnOk result (sector_in (Some (contents_of self.new)) sector ≡ from.now) }
         ensures other { (m : ℕ) → m ≢ sector → sector_in (Some (contents_of self.new)) m ≡ sector_in (Some (contents_of self.old)) m }
@@ -253,6 +257,8 @@ impl Disk for MemDisk {
         ensures ok { OnOk result (shown self.new ≡ with_settle (shown self.old)) }
         ensures full { OnErr result (shown self.new ≡ record (shown self.old) { counts = after_call false (shown self.old).counts }) }
         ensures faults { (shown self.old).counts.faults ≤ (shown self.new).counts.faults }
+
+        ensures size { (shown self.new).sectors ≡ (shown self.old).sectors }
         ensures settled { OnOk result (settled_of self.new ≡ settled_of self.old ++ contents_of self.old ∷ []) }
     {
         if self.room == 0 {
