@@ -5,7 +5,6 @@ pub mod Replay
 pub mod Counting
 pub mod MemDisks
 pub mod Plan
-pub mod Landing
 pub mod FailDisks
 pub mod Listing
 pub mod MemStreams

@@ -1,8 +1,7 @@
 //! A disk that fails at the calls that it was told.
 ghost use Rattle.std.specs.Prelude.{◌≡◌, ◌≢◌, ◌⊎◌, ◌<◌, ◌≤◌, ℕ, [], find, is_some, is_ok, IsErr, IsNone, IfSome, OnSome, IfNone, OnOk, OnErr, IsTrue, false, vec_len};
-ghost use Rattle.vol_disk.specs.Contents.{IsTold, sector_in, told, with_sector, settled_more};
+ghost use Rattle.vol_disk.specs.Contents.{IsTold, Writes, sector_in, settled_more};
 ghost use Rattle.vol_disk.specs.Count.{raised, Rose};
-ghost use Rattle.vol_disk.specs.Landing.{Landed};
 
 use crate::counts::Counts;
 use crate::{Disk, Failed};
@@ -100,6 +99,10 @@ impl<D: Disk + Drop> FailDisk<D> {
         ensures inner { inner_of result ≡ inner }
         ensures fails { fails_of result ≡ fails.items }
         ensures calls { (kind : CallKind) → calls_of (made_by result) kind ≡ 0 }
+        ensures faults { ⟦<FailDisk<D> as Disk>⟧.faults result ≡ 0 }
+        ensures written { ⟦<FailDisk<D> as Disk>⟧.written result ≡ 0 }
+        ensures fetched { ⟦<FailDisk<D> as Disk>⟧.fetched result ≡ 0 }
+        ensures late { ⟦<FailDisk<D> as Disk>⟧.late result ≡ 0 }
     {
         FailDisk {
             inner,
@@ -161,11 +164,13 @@ impl<D: Disk + Drop> Disk for FailDisk<D> {
         requires { sector < D.size (inner_of self.old) }
         ensures listed { OnSome (next_fail self.old CallKind.Read) (IsErr result) }
         ensures unasked { OnSome (next_fail self.old CallKind.Read) (inner_of self.new ≡ inner_of self.old) }
-        ensures unlisted { IfNone (next_fail self.old CallKind.Read) (OnErr result (Rose (D.faults (inner_of self.old)) (D.faults (inner_of self.new)))) }
+        ensures unlisted { IfNone (next_fail self.old CallKind.Read)
+            (OnErr result (Rose (D.faults (inner_of self.old)) (D.faults (inner_of self.new)))) }
         ensures passed { OnOk result (D.faults (inner_of self.new) ≡ D.faults (inner_of self.old)) }
         ensures makes { Makes self.old self.new CallKind.Read }
 
-        ensures read { OnOk result (IsTold (D.now (inner_of self.old)) → into.new ≡ sector_in (D.now (inner_of self.old)) sector) }
+        ensures read { OnOk result (IsTold (D.now (inner_of self.old)) →
+            into.new ≡ sector_in (D.now (inner_of self.old)) sector) }
         ensures now { D.now (inner_of self.new) ≡ D.now (inner_of self.old) }
         ensures settled { D.settled (inner_of self.new) ≡ D.settled (inner_of self.old) }
         ensures size { D.size (inner_of self.new) ≡ D.size (inner_of self.old) }
@@ -185,16 +190,24 @@ impl<D: Disk + Drop> Disk for FailDisk<D> {
     fn write(&mut self, sector: u64, from: &[u8; 512]) -> Result<(), Failed>
         requires { sector < D.size (inner_of self.old) }
         ensures listed { OnSome (next_fail self.old CallKind.Write) (IsErr result) }
-        ensures unasked { IfSome (next_fail self.old CallKind.Write) (λ fail. fail.lands ≡ false → inner_of self.new ≡ inner_of self.old) }
-        ensures lands { IfSome (next_fail self.old CallKind.Write) (λ fail. IsTrue fail.lands → Landed (D.faults (inner_of self.old)) (D.faults (inner_of self.new)) (D.now (inner_of self.old)) (D.now (inner_of self.new)) sector from.now) }
-        ensures unlisted { IfNone (next_fail self.old CallKind.Write) (OnErr result (Rose (D.faults (inner_of self.old)) (D.faults (inner_of self.new)))) }
+        ensures unasked { IfSome (next_fail self.old CallKind.Write)
+            (λ fail. fail.lands ≡ false → inner_of self.new ≡ inner_of self.old) }
+        // It is done, unless the disk inside fails too.
+        ensures lands { IfSome (next_fail self.old CallKind.Write)
+            (λ fail. IsTrue fail.lands →
+            (Writes (D.now (inner_of self.old)) (D.now (inner_of self.new)) sector from.now
+            ⊎ Rose (D.faults (inner_of self.old)) (D.faults (inner_of self.new)))) }
+        ensures unlisted { IfNone (next_fail self.old CallKind.Write)
+            (OnErr result (Rose (D.faults (inner_of self.old)) (D.faults (inner_of self.new)))) }
         ensures passed { OnOk result (D.faults (inner_of self.new) ≡ D.faults (inner_of self.old)) }
         ensures makes { Makes self.old self.new CallKind.Write }
 
-        ensures now { OnOk result (D.now (inner_of self.new) ≡ told (λ all. with_sector all sector from.now) (D.now (inner_of self.old))) }
-        ensures either { OnErr result ((D.now (inner_of self.new) ≡ D.now (inner_of self.old)) ⊎ (D.now (inner_of self.new) ≡ told (λ all. with_sector all sector from.now) (D.now (inner_of self.old)))) }
+        ensures now { OnOk result (Writes (D.now (inner_of self.old)) (D.now (inner_of self.new)) sector from.now) }
+        ensures either { OnErr result ((D.now (inner_of self.new) ≡ D.now (inner_of self.old))
+            ⊎ Writes (D.now (inner_of self.old)) (D.now (inner_of self.new)) sector from.now) }
         ensures here { OnOk result (IsTold (D.now (inner_of self.old)) → sector_in (D.now (inner_of self.new)) sector ≡ from.now) }
-        ensures others { (other : ℕ) → other ≢ sector → sector_in (D.now (inner_of self.new)) other ≡ sector_in (D.now (inner_of self.old)) other }
+        ensures others { (other : ℕ) → other ≢ sector →
+            sector_in (D.now (inner_of self.new)) other ≡ sector_in (D.now (inner_of self.old)) other }
         ensures told { is_some (D.now (inner_of self.new)) ≡ is_some (D.now (inner_of self.old)) }
         ensures settled { D.settled (inner_of self.new) ≡ D.settled (inner_of self.old) }
         ensures size { D.size (inner_of self.new) ≡ D.size (inner_of self.old) }
@@ -224,7 +237,8 @@ impl<D: Disk + Drop> Disk for FailDisk<D> {
     fn barrier(&mut self) -> Result<(), Failed>
         ensures listed { OnSome (next_fail self.old CallKind.Barrier) (IsErr result) }
         ensures unasked { OnSome (next_fail self.old CallKind.Barrier) (inner_of self.new ≡ inner_of self.old) }
-        ensures unlisted { IfNone (next_fail self.old CallKind.Barrier) (OnErr result (Rose (D.faults (inner_of self.old)) (D.faults (inner_of self.new)))) }
+        ensures unlisted { IfNone (next_fail self.old CallKind.Barrier)
+            (OnErr result (Rose (D.faults (inner_of self.old)) (D.faults (inner_of self.new)))) }
         ensures passed { OnOk result (D.faults (inner_of self.new) ≡ D.faults (inner_of self.old)) }
         ensures makes { Makes self.old self.new CallKind.Barrier }
 
@@ -245,11 +259,13 @@ impl<D: Disk + Drop> Disk for FailDisk<D> {
     fn settle(&mut self) -> Result<(), Failed>
         ensures listed { OnSome (next_fail self.old CallKind.Settle) (IsErr result) }
         ensures unasked { OnSome (next_fail self.old CallKind.Settle) (inner_of self.new ≡ inner_of self.old) }
-        ensures unlisted { IfNone (next_fail self.old CallKind.Settle) (OnErr result (Rose (D.faults (inner_of self.old)) (D.faults (inner_of self.new)))) }
+        ensures unlisted { IfNone (next_fail self.old CallKind.Settle)
+            (OnErr result (Rose (D.faults (inner_of self.old)) (D.faults (inner_of self.new)))) }
         ensures passed { OnOk result (D.faults (inner_of self.new) ≡ D.faults (inner_of self.old)) }
         ensures makes { Makes self.old self.new CallKind.Settle }
 
-        ensures settled { OnOk result (D.settled (inner_of self.new) ≡ settled_more (D.settled (inner_of self.old)) (D.now (inner_of self.old))) }
+        ensures settled { OnOk result
+            (D.settled (inner_of self.new) ≡ settled_more (D.settled (inner_of self.old)) (D.now (inner_of self.old))) }
         ensures unsettled { OnErr result (D.settled (inner_of self.new) ≡ D.settled (inner_of self.old)) }
         ensures now { D.now (inner_of self.new) ≡ D.now (inner_of self.old) }
         ensures size { D.size (inner_of self.new) ≡ D.size (inner_of self.old) }

@@ -40,7 +40,7 @@ pub struct MemDisk {
 }
 
 impl MemDisk {
-    ghost use Rattle.vol_disk.specs.MemDisks.{shown, contents_of};
+    ghost use Rattle.vol_disk.specs.MemDisks.{shown, contents_of, settled_of};
 
     /// A disk with these contents and without room.
     pub fn new(alloc: Global, first: Vec<u8>) -> MemDisk
@@ -134,9 +134,10 @@ impl MemDisk {
     fn record(&mut self, sector: u64, from: &[u8; 512])
         requires room { 0 < self.old.room }
         requires sector { sector < self.old.sectors }
-        ensures writes { self.new.writes.items ≡ self.old.writes.items ++ (record { sector = sector; bytes = from.now }) ∷ [] }
-        ensures now { replay self.new.writes.items self.new.first.items ≡ with_sector (replay self.old.writes.items self.old.first.items) sector from.now }
-        ensures settled { contents_at self.new.settles.items self.new.writes.items self.new.first.items ≡ contents_at self.old.settles.items self.old.writes.items self.old.first.items }
+        ensures writes { self.new.writes.items ≡
+            self.old.writes.items ++ (record { sector = sector; bytes = from.now }) ∷ [] }
+        ensures now { contents_of self.new ≡ with_sector (contents_of self.old) sector from.now }
+        ensures settled { settled_of self.new ≡ settled_of self.old }
         ensures room { self.new.room + 1 ≡ self.old.room }
         ensures first { self.new.first.items ≡ self.old.first.items }
         ensures settles { self.new.settles.items ≡ self.old.settles.items }
@@ -223,7 +224,8 @@ impl Disk for MemDisk {
     fn write(&mut self, sector: u64, from: &[u8; 512]) -> Result<(), Failed>
         requires { sector < (shown self.old).sectors }
         ensures fails { IsErr result ↔ ((shown self.old).room ≡ 0) }
-        ensures ok { OnOk result (shown self.new ≡ with_write (shown self.old) (record { sector = sector; bytes = from.now })) }
+        ensures ok { OnOk result
+            (shown self.new ≡ with_write (shown self.old) (record { sector = sector; bytes = from.now })) }
         ensures full { OnErr result (shown self.new ≡ record (shown self.old) { counts = after_write false (shown self.old).counts }) }
         ensures faults { (shown self.old).counts.faults ≤ (shown self.new).counts.faults }
 
