@@ -82,14 +82,14 @@ impl Calls {
 ///
 /// Its contents are those of the disk inside, and its counts its own.
 #[derive(Drop)]
-pub struct FailDisk<D: Disk + Drop> {
+pub struct FailDisk<D: Disk> {
     inner: D,
     fails: Vec<Fail>,
     calls: Calls,
     counts: Counts,
 }
 
-impl<D: Disk + Drop> FailDisk<D> {
+impl<D: Disk> FailDisk<D> {
     ghost use Rattle.vol_disk.specs.FailDisks.{inner_of, fails_of, next_fail, made_by, counts_of};
     ghost use Rattle.vol_disk.specs.Plan.{calls_of, counted};
     ghost use Rattle.vol_disk.specs.declared.fail_disk.CallKind.{CallKind};
@@ -132,7 +132,7 @@ impl<D: Disk + Drop> FailDisk<D> {
     }
 }
 
-impl<D: Disk + Drop> Disk for FailDisk<D> {
+impl<D: Disk> Disk for FailDisk<D> {
     ghost use Rattle.vol_disk.specs.Counting.{after_call, after_read, after_write};
     ghost use Rattle.vol_disk.specs.FailDisks.{inner_of, next_fail, counts_of, Makes};
 
