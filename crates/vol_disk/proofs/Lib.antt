@@ -1,1 +1,3 @@
 pub mod StreamLaws
+pub mod SectorLaws
+pub mod ReplayLaws

@@ -1,5 +1,5 @@
 -- The contents of a disk, and its sectors.
-use Rattle.std.specs.Prelude.{ℕ, ◌+◌, ◌*◌, List, [], ◌∷◌, ◌++◌, take, drop, Option, None, Some, IsTrue, is_some}
+use Rattle.std.specs.Prelude.{◌≡◌, ℕ, ◌+◌, ◌*◌, List, [], ◌∷◌, ◌++◌, take, drop, Option, None, Some, IsTrue, is_some}
 
 -- the bytes of one sector
 abbrev pub sector_of : List ℕ → ℕ → List ℕ
@@ -13,6 +13,10 @@ with_sector all sector bytes = take (512 * sector) all ++ bytes ++ drop (512 * s
 abbrev pub told : {A B : Type 0} → (A → B) → Option A → Option B
 told f None = None
 told f (Some x) = Some (f x)
+
+-- the contents with one sector replaced, where they are told
+abbrev pub Writes : Option (List ℕ) → Option (List ℕ) → ℕ → List ℕ → Type 0
+Writes old new sector bytes = new ≡ told (λ all. with_sector all sector bytes) old
 
 abbrev pub IsTold : {A : Type 0} → Option A → Type 0
 IsTold contents = IsTrue (is_some contents)

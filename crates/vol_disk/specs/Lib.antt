@@ -1,3 +1,10 @@
 pub mod Count
 pub mod Contents
 pub mod Stream
+pub mod Replay
+pub mod Counting
+pub mod MemDisks
+pub mod Plan
+pub mod FailDisks
+pub mod Listing
+pub mod MemStreams

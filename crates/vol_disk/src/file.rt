@@ -21,7 +21,13 @@ impl FileDisk {
     /// The first `sectors` sectors of the file, which is to be open for reading and writing.
     pub fn new(file: File, sectors: u64) -> FileDisk
         requires { sectors < 2 ^ 55 }
-        ensures sectors { result.sectors ≡ sectors }
+        ensures size { ⟦<FileDisk as Disk>⟧.size result ≡ sectors }
+        ensures now { ⟦<FileDisk as Disk>⟧.now result ≡ None }
+        ensures settled { ⟦<FileDisk as Disk>⟧.settled result ≡ None }
+        ensures faults { ⟦<FileDisk as Disk>⟧.faults result ≡ 0 }
+        ensures written { ⟦<FileDisk as Disk>⟧.written result ≡ 0 }
+        ensures fetched { ⟦<FileDisk as Disk>⟧.fetched result ≡ 0 }
+        ensures late { ⟦<FileDisk as Disk>⟧.late result ≡ 0 }
     {
         FileDisk {
             file,

@@ -11,13 +11,25 @@ ghost use Rattle.vol_disk.specs.Contents.{IsTold, sector_in, told, with_sector, 
 ghost use Rattle.vol_disk.specs.Stream.{Gives, Appended};
 
 mod counts;
+mod fail_disk;
 mod file;
+mod listed;
+mod mem_disk;
+mod mem_sink;
+mod mem_source;
 mod print;
 mod standard;
+#[cfg(test)]
+mod tests;
 
+pub use fail_disk::{CallKind, Fail, FailDisk};
 pub use file::FileDisk;
+pub use mem_disk::{MemDisk, Write};
+pub use mem_sink::MemSink;
+pub use mem_source::MemSource;
 pub use print::write_all;
 pub use standard::{StdSink, StdSource};
+use std::alloc::AllocError;
 use thiserror::Error;
 
 /// The bytes of a sector.
@@ -27,6 +39,23 @@ pub const SECTOR: usize = 512;
 #[derive(Clone, Copy, Debug, PartialEq, Eq, Error)]
 #[error("the device failed")]
 pub struct Failed;
+
+/// There was no memory for more room; nothing that can be seen changed.
+#[derive(Clone, Copy, Debug, PartialEq, Eq, Error)]
+pub enum RoomNo {
+    #[error("out of memory")]
+    Memory,
+}
+
+impl From<AllocError> for RoomNo {
+    ghost use Rattle.vol_disk.specs.declared.RoomNo.TheVariants.{Memory};
+
+    ghost from_gives = { λ _ error. error ≡ Memory };
+
+    fn from(_: AllocError) -> RoomNo {
+        RoomNo::Memory
+    }
+}
 
 /// A disk of sectors of 512 bytes, whose number never changes.
 ///

@@ -12,8 +12,10 @@ pub struct StdSource<R: Read + Drop> {
 }
 
 impl<R: Read + Drop> StdSource<R> {
+    /// The bytes that the reader gives.
     pub fn new(input: R) -> StdSource<R>
-        ensures faults { result.faults ≡ 0 }
+        ensures left { ⟦<StdSource<R> as Source>⟧.left result ≡ None }
+        ensures faults { ⟦<StdSource<R> as Source>⟧.faults result ≡ 0 }
     {
         StdSource { input, faults: 0 }
     }
@@ -57,8 +59,10 @@ pub struct StdSink<W: Write + Drop> {
 }
 
 impl<W: Write + Drop> StdSink<W> {
+    /// Bytes go to the writer. Where it takes nothing of a piece, the call fails.
     pub fn new(output: W) -> StdSink<W>
-        ensures faults { result.faults ≡ 0 }
+        ensures got { ⟦<StdSink<W> as Sink>⟧.got result ≡ None }
+        ensures faults { ⟦<StdSink<W> as Sink>⟧.faults result ≡ 0 }
     {
         StdSink { output, faults: 0 }
     }

@@ -1,0 +1,22 @@
+-- What the calls of a disk do to its counts.
+use Rattle.std.specs.Prelude.{Bool, true, false, nat_lt, if◌then◌else◌}
+use Rattle.vol_disk.specs.Count.{raised}
+use Rattle.vol_disk.specs.declared.counts.Counts.{Counts}
+
+-- a call that answered Ok, or failed
+abbrev pub after_call : Bool → Counts → Counts
+after_call true counts = counts
+after_call false counts = record counts { faults = raised counts.faults }
+
+-- a read that answered Ok, or failed
+abbrev pub after_read : Bool → Counts → Counts
+after_read ok counts = after_call ok (record counts { fetched = raised counts.fetched })
+
+-- a write that was asked for: it is late where a call had failed before
+abbrev pub asked : Counts → Counts
+asked counts = record counts { late = if nat_lt 0 counts.faults then raised counts.late else counts.late }
+
+-- a write that answered Ok, or failed
+abbrev pub after_write : Bool → Counts → Counts
+after_write true counts = record (asked counts) { written = raised counts.written }
+after_write false counts = record (asked counts) { faults = raised counts.faults }

@@ -1,0 +1,43 @@
+-- What a disk in memory shows.
+use Rattle.std.specs.Prelude.{ℕ, ◌-◌, true, List, [], ◌∷◌, ◌++◌, length}
+use Rattle.vol_disk.specs.Counting.{after_write}
+use Rattle.vol_disk.specs.Replay.{replay, contents_at}
+use Rattle.vol_disk.specs.declared.counts.Counts.{Counts}
+use Rattle.vol_disk.specs.declared.mem_disk.MemDisk.{MemDisk}
+use Rattle.vol_disk.specs.declared.mem_disk.Write.{Write}
+
+-- The first contents, the writes that answered Ok, for each settle that did the number of writes
+-- before it, how many writes and settles there is room for, and the counts.
+pub record Shown : Type 0 where
+  pub first : List ℕ
+  pub writes : List Write
+  pub settles : List ℕ
+  pub room : ℕ
+  pub sectors : ℕ
+  pub counts : Counts
+
+abbrev pub shown : MemDisk → Shown
+shown disk = record {
+  first = disk.first.items;
+  writes = disk.writes.items;
+  settles = disk.settles.items;
+  room = disk.room;
+  sectors = disk.sectors;
+  counts = disk.counts;
+}
+
+-- one more write
+abbrev pub with_write : Shown → Write → Shown
+with_write disk write = record disk { writes = disk.writes ++ write ∷ []; room = disk.room - 1; counts = after_write true disk.counts }
+
+-- one more settle, behind all writes
+abbrev pub with_settle : Shown → Shown
+with_settle disk = record disk { settles = disk.settles ++ length disk.writes ∷ []; room = disk.room - 1 }
+
+-- the contents that a read gives
+abbrev pub contents_of : MemDisk → List ℕ
+contents_of disk = replay disk.writes.items disk.first.items
+
+-- the contents at each settle
+abbrev pub settled_of : MemDisk → List (List ℕ)
+settled_of disk = contents_at disk.settles.items disk.writes.items disk.first.items
