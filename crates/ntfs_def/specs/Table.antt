@@ -23,7 +23,7 @@ abbrev pub two_sectors : (ℕ → List ℕ) → ℕ → List ℕ
 two_sectors disk n = disk n ++ disk (n + 1)
 
 -- where the table lies
-pub record Table : Type 0 where
+pub record Layout : Type 0 where
   pub cluster_sectors : ℕ
   pub runs : List Run
   pub initialized : ℕ
@@ -38,7 +38,7 @@ IsOnVolume clusters run = IsSomeAnd run.lcn (λ lcn. lcn + run.len ≤ clusters)
 
 -- The opened record 0 tells the table so, on a volume of `clusters` clusters of `size` bytes, on which
 -- $MFT begins at the cluster `mft`.
-pub record IsTable (mft size clusters : ℕ) (record_0 : List ℕ) (table : Table) : Type 0 where
+pub record IsTable (mft size clusters : ℕ) (record_0 : List ℕ) (layout : Layout) : Type 0 where
   pub stream : Attribute
   pub extent : Extent
   pub text : List ℕ
@@ -49,38 +49,38 @@ pub record IsTable (mft size clusters : ℕ) (record_0 : List ℕ) (table : Tabl
   pub plain : is_packed stream.kind stream.flags ≡ false
   pub from_start : extent.first ≡ 0
   -- its runs lie on the volume, without a hole, and its first record lies whole where $MFT begins
-  pub means : MeansRuns text table.runs
-  pub on_volume : All (IsOnVolume clusters) table.runs
-  pub begins : (k : ℕ) → k * size < 1024 → spot_of table.runs k ≡ At (mft + k)
+  pub means : MeansRuns text layout.runs
+  pub on_volume : All (IsOnVolume clusters) layout.runs
+  pub begins : (k : ℕ) → k * size < 1024 → spot_of layout.runs k ≡ At (mft + k)
   -- its sizes
-  pub covered : extent.real ≤ sum_by (λ run. run.len) table.runs * size
+  pub covered : extent.real ≤ sum_by (λ run. run.len) layout.runs * size
   pub least : 24 ≤ extent.real / 1024
   pub most : extent.real / 1024 ≤ 2 ^ 22
   pub initialized : extent.initialized ≤ extent.real
-  pub size_shown : table.initialized ≡ extent.initialized
-  pub sectors_shown : 512 * table.cluster_sectors ≡ size
+  pub size_shown : layout.initialized ≡ extent.initialized
+  pub sectors_shown : 512 * layout.cluster_sectors ≡ size
 
 -- where sector k of the table lies on the disk; `None` in a hole, and behind the runs
-abbrev pub place_at : Table → ℕ → Spot → Option ℕ
-place_at table k Outside = None
-place_at table k Hole = None
-place_at table k (At cluster) = Some (cluster * table.cluster_sectors + k % table.cluster_sectors)
+abbrev pub place_at : Layout → ℕ → Spot → Option ℕ
+place_at layout k Outside = None
+place_at layout k Hole = None
+place_at layout k (At cluster) = Some (cluster * layout.cluster_sectors + k % layout.cluster_sectors)
 
-abbrev pub table_place : Table → ℕ → Option ℕ
-table_place table k = place_at table k (spot_of table.runs (k / table.cluster_sectors))
+abbrev pub table_place : Layout → ℕ → Option ℕ
+table_place layout k = place_at layout k (spot_of layout.runs (k / layout.cluster_sectors))
 
 -- bytes from n on read as zero
 abbrev pub cut_off : ℕ → List ℕ → List ℕ
 cut_off n bytes = take n bytes ++ replicate (length bytes - n) 0
 
 -- what a sector shows that begins at byte `from` of the stream and lies at this place
-abbrev pub shown_at : (ℕ → List ℕ) → Table → ℕ → Option ℕ → List ℕ
-shown_at disk table from None = replicate 512 0
-shown_at disk table from (Some place) = cut_off (table.initialized - from) (disk place)
+abbrev pub shown_at : (ℕ → List ℕ) → Layout → ℕ → Option ℕ → List ℕ
+shown_at disk layout from None = replicate 512 0
+shown_at disk layout from (Some place) = cut_off (layout.initialized - from) (disk place)
 
-abbrev pub table_sector : (ℕ → List ℕ) → Table → ℕ → List ℕ
-table_sector disk table k = shown_at disk table (512 * k) (table_place table k)
+abbrev pub table_sector : (ℕ → List ℕ) → Layout → ℕ → List ℕ
+table_sector disk layout k = shown_at disk layout (512 * k) (table_place layout k)
 
 -- block n of the table, as stored
-unfoldable pub block_of : (ℕ → List ℕ) → Table → ℕ → List ℕ
-block_of disk table n = table_sector disk table (2 * n) ++ table_sector disk table (2 * n + 1)
+unfoldable pub block_of : (ℕ → List ℕ) → Layout → ℕ → List ℕ
+block_of disk layout n = table_sector disk layout (2 * n) ++ table_sector disk layout (2 * n + 1)
