@@ -1,7 +1,9 @@
 pub mod Boot
 pub mod Ending
+pub mod Reading
 pub mod Report
 pub mod Shown
+pub mod Tables
 pub mod Text
 pub mod Words
 pub mod World

@@ -3,9 +3,12 @@
 
 mod boot;
 mod ending;
+mod find;
 mod report;
+mod sectors;
 mod shell;
 mod start;
+mod table;
 mod text;
 mod words;
 
