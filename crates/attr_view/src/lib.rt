@@ -11,6 +11,8 @@ mod attribute;
 mod record;
 mod shape;
 
+pub use record::one_answer;
+
 /// Why a block is refused.
 #[derive(Clone, Copy, Debug, PartialEq, Eq, Error)]
 pub enum ViewNo {

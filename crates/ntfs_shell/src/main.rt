@@ -4,12 +4,15 @@
 mod boot;
 mod ending;
 mod find;
+mod label;
 mod report;
 mod sectors;
 mod shell;
 mod start;
+mod stop;
 mod table;
 mod text;
+mod volume;
 mod words;
 
 use std::process::ExitCode;

@@ -3,7 +3,7 @@ ghost use Rattle.std.specs.Prelude.{◌≡◌, ◌≢◌, codes, map, string_byt
 ghost use Rattle.ntfs_shell.specs.Words.{AreUnknown, AreWords, AskUnbuilt};
 ghost use Rattle.ntfs_shell.specs.World.{world};
 ghost use Rattle.ntfs_shell.specs.Report.{AnswersReport};
-ghost use Rattle.ntfs_shell.specs.Boot.{boot_report};
+ghost use Rattle.ntfs_shell.specs.Boot.{BootReports};
 
 use crate::boot::boot;
 use crate::words::{Asked, read_words};
@@ -19,7 +19,7 @@ pub fn run_shell<D: Disk, S: Source, K: Sink>(
     script: &mut S,
     out: &mut K,
 ) -> u8
-    ensures boot { AreWords (map string_bytes words.now) (codes "boot") → AnswersReport boot_report 1
+    ensures boot { AreWords (map string_bytes words.now) (codes "boot") → AnswersReport BootReports 1
         (world D.Disk S.Source K.Sink disk.old script.old out.old) result (world D.Disk S.Source K.Sink disk.new script.new out.new) }
     ensures boot_serves { AreWords (map string_bytes words.now) (codes "boot") → result ≢ 7 }
 
