@@ -1,3 +1,5 @@
 pub mod Boots
 pub mod Reports
 pub mod BootSectors
+pub mod Joined
+pub mod Places
