@@ -1,5 +1,5 @@
 -- An accepted geometry on its disk.
-use Rattle.std.proofs.Common.{◌≡◌, ◌⊎◌, ℕ, ◌+◌, ◌*◌, ◌/◌, ◌%◌, ◌^◌, ◌<◌, ◌≤◌, inl, inr, arith, sym, subst, refl}
+use Rattle.std.proofs.Common.{◌≡◌, ℕ, ◌*◌, ◌/◌, ◌%◌, ◌^◌, ◌<◌, ◌≤◌, inl, inr, arith, sym, subst, refl}
 use Rattle.ntfs_boot.specs.declared.Geometry.{Geometry}
 use Rattle.ntfs_boot.specs.Geometry.{FitsDisk, HasClusterSize}
 

@@ -8,8 +8,12 @@ use Rattle.ntfs_boot.specs.declared.BootFault.TheVariants.{NotNtfs, SectorSize, 
 -- the geometry as the sector's fields give it
 abbrev pub geometry_of : List ℕ → Geometry
 geometry_of boot = record {
-  cluster = cluster_size boot; sectors = total_sectors boot; clusters = cluster_count boot;
-  mft = mft_cluster boot; mirror = mirror_cluster boot; serial = serial_number boot
+  cluster = cluster_size boot;
+  sectors = total_sectors boot;
+  clusters = cluster_count boot;
+  mft = mft_cluster boot;
+  mirror = mirror_cluster boot;
+  serial = serial_number boot;
 }
 
 abbrev pub HasClusterSize : ℕ → Type 0

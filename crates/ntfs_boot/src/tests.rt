@@ -50,7 +50,10 @@ const TOLD_BY_NTFSINFO: Geometry = Geometry {
 
 #[test]
 fn reads_a_foreign_boot_sector(rt: HostRuntime) {
-    assert_eq!(rt; Geometry::read(&MADE_BY_MKNTFS, 65536), Ok(TOLD_BY_NTFSINFO));
+    assert_eq!(rt;
+        Geometry::read(&MADE_BY_MKNTFS, 65536),
+        Ok(TOLD_BY_NTFSINFO)
+    );
 }
 
 #[test]

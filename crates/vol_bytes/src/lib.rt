@@ -5,10 +5,9 @@
 ghost use Rattle.std.specs.Prelude.{◌≡◌, ◌+◌, ◌≤◌, length};
 ghost use Rattle.vol_bytes.specs.Field.{SameOutside, u16_at, u32_at, u64_at};
 
+mod small;
 #[cfg(test)]
 mod tests;
-
-mod small;
 mod text;
 
 use byteorder::{ByteOrder, LittleEndian};

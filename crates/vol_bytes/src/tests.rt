@@ -1,4 +1,7 @@
-use crate::{put_u16, put_u32, put_u64, u16_at, u32_at, u64_at};
+use crate::{
+    Name, Octets, TextFault, put_u16, put_u32, put_u64, text_of_units, u16_at, u32_at, u64_at,
+};
+use std::alloc::AllocError;
 
 #[test]
 fn numbers_are_little_endian(rt: HostRuntime) {
@@ -16,4 +19,33 @@ fn numbers_are_little_endian(rt: HostRuntime) {
     assert_eq!(rt; u16_at(&bytes, 1), 0x0601);
     assert_eq!(rt; u32_at(&bytes, 6), 0x1617_18EE);
     assert_eq!(rt; u64_at(&bytes, 8), 0xEE11_1213_1415_1617);
+}
+
+// The last two rows have surrogates without a partner.
+#[test]
+fn names_are_printed(rt: HostRuntime) -> Result<(), TextFault> {
+    let table: [(&[u16], &str); 7] = [
+        (&[0x44, 0x41, 0x54, 0x41], "DATA"),
+        (&[0x61, 0x20, 0x62], "a%0020b"),
+        (&[0x25, 0x2F, 0x3A, 0x7F], "%0025%002F%003A%007F"),
+        (&[0xE9, 0x20AC], "é€"),
+        (&[0xD83D, 0xDE00], "😀"),
+        (&[0xD83D, 0x61], "%D83Da"),
+        (&[0xDE00, 0xD83D], "%DE00%D83D"),
+    ];
+    for (units, text) in table {
+        let printed = text_of_units(rt.alloc(), units)?;
+        assert_eq!(rt; printed.as_slice(), text.as_bytes(), "{text}");
+    }
+    assert_eq!(rt; text_of_units(rt.alloc(), &[]).err(), Some(TextFault::Bad));
+    Ok(())
+}
+
+#[test]
+fn small_types_lend_their_items(rt: HostRuntime) -> Result<(), AllocError> {
+    let name = Name::from_vec(vec![in rt.alloc(); 0x61, 0x62]?);
+    assert_eq!(rt; name.as_slice(), [0x61, 0x62].as_slice());
+    let octets = Octets::from_vec(vec![in rt.alloc(); 1, 2, 3]?);
+    assert_eq!(rt; octets.as_slice(), [1, 2, 3].as_slice());
+    Ok(())
 }

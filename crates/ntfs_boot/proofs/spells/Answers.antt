@@ -1,4 +1,4 @@
-use Rattle.std.proofs.Common.{ℕ, ◌^◌, ap, sym, ◌∙◌, eq-eqb}
+use Rattle.std.proofs.Common.{◌^◌, ap, sym, ◌∙◌, eq-eqb}
 use Rattle.std.proofs.lemmas.Bool.{eqb-true}
 use Rattle.ntfs_boot.proofs.SizeLaws.{pow_two-exact, spelled_size-high}
 use Rattle.ntfs_boot.proofs.spells.Goals as goal
