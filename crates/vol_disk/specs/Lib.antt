@@ -8,3 +8,5 @@ pub mod Plan
 pub mod FailDisks
 pub mod Listing
 pub mod MemStreams
+pub mod Passing
+pub mod Standards
