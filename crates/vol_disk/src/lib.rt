@@ -107,7 +107,8 @@ pub trait Disk {
     fn write(&mut self, sector: u64, from: &[u8; 512]) -> Result<(), Failed>
         requires { sector < size self.old }
         ensures now { OnOk result (now self.new ≡ told (λ all. with_sector all sector from.now) (now self.old)) }
-        ensures either { OnErr result ((now self.new ≡ now self.old) ⊎ (now self.new ≡ told (λ all. with_sector all sector from.now) (now self.old))) }
+        ensures either { OnErr result (
+            (now self.new ≡ now self.old) ⊎ (now self.new ≡ told (λ all. with_sector all sector from.now) (now self.old))) }
 
         // The same, sector by sector.
         ensures here { OnOk result (IsTold (now self.old) → sector_in (now self.new) sector ≡ from.now) }
