@@ -1,5 +1,6 @@
 pub mod Boots
 pub mod Reports
+pub mod TableLaws
 pub mod BootSectors
 pub mod Joined
 pub mod Places
