@@ -1,3 +1,4 @@
 pub mod Boots
 pub mod Reports
 pub mod BootSectors
+pub mod Sought
