@@ -1,6 +1,7 @@
 pub mod Boots
-pub mod Reports
-pub mod TableLaws
 pub mod BootSectors
 pub mod Joined
 pub mod Places
+pub mod Reports
+pub mod Sought
+pub mod TableLaws

@@ -1,13 +1,25 @@
+use Rattle.std.proofs.Common.{◌≡◌, ℕ, ◌+◌, ◌<◌, List, ap, sym, subst, ◌∙◌, inl, inr, arith}
+use Rattle.ntfs_def.specs.Boot.{cluster_sectors, mft_cluster}
+use Rattle.ntfs_shell.specs.Report.{refuses}
+use Rattle.ntfs_shell.specs.Tables.{LiesOn, layout_of}
+use Rattle.ntfs_shell.proofs.Boots.{length-told}
+use Rattle.ntfs_shell.proofs.TableLaws.{first_record-past, first_sector, lies_on}
 use Rattle.ntfs_shell.proofs.label.report_volume_at.Goals as goal
 
 pub returns-then-sector-sectors-clause-report : goal.returns-then-sector-sectors-clause-report
-returns-then-sector-sectors-clause-report g c = ?
+returns-then-sector-sectors-clause-report g c image boot told is =
+    let size = g.D.Disk.size c.args.disk.now in
+    let len = length-told _ image size (g.met.D.Disk.told_length c.args.disk.now) told in
+    let begins = first_sector c.args.geometry.now boot is in
+    inr ((λ layout clause. first_record-past image boot size len ? clause.readable), ap refuses c.refusal_text.ensures)
 
 pub report_table-requires : goal.report_table-requires
-report_table-requires g c = ?
+report_table-requires g c =
+    let has = rw c.in-Some.is at c.in_ok-table.ensures.some in
+    subst (LiesOn (layout_of c.in-Some.table)) (sym c.in_ok-read_two_sectors.ensures.reads.size) (lies_on c.args.geometry.now _ _ (layout_of c.in-Some.table) c.requires has)
 
 pub returns-in-Some-clause-report : goal.returns-in-Some-clause-report
 returns-in-Some-clause-report g c = ?
 
 pub returns-in-None-clause-report : goal.returns-in-None-clause-report
-returns-in-None-clause-report g c = ?
+returns-in-None-clause-report g c image boot told is = ?
