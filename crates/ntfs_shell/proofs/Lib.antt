@@ -1,3 +1,3 @@
 pub mod Boots
 pub mod Reports
-pub mod Sectors
+pub mod BootSectors
