@@ -6,6 +6,8 @@ mod ending;
 mod report;
 mod shell;
 mod start;
+#[cfg(test)]
+mod tests;
 mod text;
 mod words;
 
