@@ -11,6 +11,8 @@ mod shell;
 mod start;
 mod stop;
 mod table;
+#[cfg(test)]
+mod tests;
 mod text;
 mod volume;
 mod words;
