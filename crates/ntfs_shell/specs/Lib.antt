@@ -3,6 +3,7 @@ pub mod Ending
 pub mod Reading
 pub mod Report
 pub mod Shown
+pub mod TableParts
 pub mod Tables
 pub mod Text
 pub mod Words
