@@ -6,3 +6,5 @@ pub mod Places
 pub mod Reports
 pub mod Sought
 pub mod TableLaws
+pub mod TableParts
+pub mod TableRuns

@@ -5,6 +5,7 @@ pub mod Reading
 pub mod Report
 pub mod Shown
 pub mod Stops
+pub mod TableParts
 pub mod Tables
 pub mod Text
 pub mod Versions
