@@ -72,7 +72,13 @@ IsTable-parts mft size clusters record_0 stream sizes text runs layout read tabl
     λ list s. ArePlaced mft size clusters list × FitTable s (sum_by (λ run. run.len) list * size) in
     let parts : Parts layout.runs (sizes_of table.extent) = (
       record { on_volume = table.on_volume; begins = table.begins },
-      record { from_start = table.from_start; covered = table.covered; least = table.least; most = table.most; initialized = table.initialized },
+      record {
+        from_start = table.from_start;
+        covered = table.covered;
+        least = table.least;
+        most = table.most;
+        initialized = table.initialized;
+      },
     ) in
     let sized : Parts layout.runs sizes = subst (Parts layout.runs) (ap sizes_of extents ∙ sym same) parts in
     subst (λ (list : List Run). Parts list sizes) lists sized
