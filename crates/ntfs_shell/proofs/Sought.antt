@@ -20,38 +20,38 @@ All-broken P xs i x e broken all =
     broken (subst P (get_or_from_slice_get xs i x x e) (all i x (slice_get_within xs i x e)))
 
 -- an element that keeps it
-pub AllWithin-read : {X : Type 0} (P : X → Type 0) (xs : List X) (i : ℕ) (x : X) → slice_get xs i ≡ Some x → P x → AllWithin P xs 0 i → AllWithin P xs 0 (i + 1)
+pub AllWithin-read : {X : Type 0} (P : X → Type 0) (xs : List X) (i : ℕ) (x : X) → slice_get xs i ≡ Some x
+    → P x → AllWithin P xs 0 i → AllWithin P xs 0 (i + 1)
 AllWithin-read P xs i x e kept all = AllWithin-more P xs 0 i all (λ d. subst P (sym (get_or_from_slice_get xs i x d e)) kept)
 
--- the value of the first attribute of two that has one, if the one before passes
-abbrev first_of_two : Bool → Attribute → Option Attribute → Option (List ℕ)
-first_of_two passes attribute rest =
-    option_and_then (λ a. value_of a.body) (cond (passes && is_some (value_of attribute.body)) (Some attribute) rest)
+-- the value of an attribute that was found
+abbrev value_in : Option Attribute → Option (List ℕ)
+value_in found = option_and_then (λ attribute. value_of attribute.body) found
 
-abbrev AsOne : Bool → Attribute → Option Attribute → Option (List ℕ) → Type 0
-AsOne passes attribute rest value = 
-    option_and_then (λ a. value_of a.body) (cond (passes && is_some value) (Some attribute) None) ≡ None
-    → option_and_then (λ a. value_of a.body) (cond (passes && is_some value) (Some attribute) rest) ≡ option_and_then (λ a. value_of a.body) rest
+-- it is that of the first attribute, where that passes a test alone
+same_alone : (passes : Bool) (attribute : Attribute) (rest : Option Attribute) (value : List ℕ)
+    → value_in (cond passes (Some attribute) None) ≡ Some value → value_in (cond passes (Some attribute) rest) ≡ Some value
+same_alone true attribute rest value e = e
+same_alone false attribute rest value e = cc
 
-none_of_two : (passes : Bool) (attribute : Attribute) (rest : Option Attribute) (value : Option (List ℕ)) → value_of attribute.body ≡ value → AsOne passes attribute rest value
-none_of_two false attribute rest value is e = refl
-none_of_two true attribute rest None is e = refl
-none_of_two true attribute rest (Some value) is e = cc
-
-some_of_two : (passes : Bool) (attribute : Attribute) (rest : Option Attribute) (value : List ℕ)
-    → option_and_then (λ a. value_of a.body) (cond passes (Some attribute) None) ≡ Some value
-    → option_and_then (λ a. value_of a.body) (cond passes (Some attribute) rest) ≡ Some value
-some_of_two true attribute rest value e = e
-some_of_two false attribute rest value e = cc
+-- and that of the rest, where the test asks for a value and the first one gives none
+same_rest : (passes : Bool) (attribute : Attribute) (rest : Option Attribute) (given : Option (List ℕ)) → value_of attribute.body ≡ given
+    → value_in (cond (passes && is_some given) (Some attribute) None) ≡ None
+    → value_in (cond (passes && is_some given) (Some attribute) rest) ≡ value_in rest
+same_rest false attribute rest given is e = refl
+same_rest true attribute rest None is e = refl
+same_rest true attribute rest (Some value) is e = cc
 
 -- the first value is that of the first attribute, where it gives one
-pub first_value-here : (kind : ℕ) (attribute : Attribute) (rest : List Attribute) (value : List ℕ) → first_value kind (attribute ∷ []) ≡ Some value → first_value kind (attribute ∷ rest) ≡ Some value
-first_value-here kind attribute rest value e = some_of_two _ attribute _ value e
+pub first_value-here : (kind : ℕ) (attribute : Attribute) (rest : List Attribute) (value : List ℕ)
+    → first_value kind (attribute ∷ []) ≡ Some value → first_value kind (attribute ∷ rest) ≡ Some value
+first_value-here kind attribute rest value e = same_alone _ attribute _ value e
 
 -- and else that of the others
-pub first_value-past : (kind : ℕ) (attribute : Attribute) (rest : List Attribute) → first_value kind (attribute ∷ []) ≡ None → first_value kind (attribute ∷ rest) ≡ first_value kind rest
+pub first_value-past : (kind : ℕ) (attribute : Attribute) (rest : List Attribute)
+    → first_value kind (attribute ∷ []) ≡ None → first_value kind (attribute ∷ rest) ≡ first_value kind rest
 first_value-past kind attribute rest e =
-    none_of_two ((attribute.kind == kind) && (length attribute.name == 0)) attribute _ (value_of attribute.body) refl e
+    same_rest ((attribute.kind == kind) && (length attribute.name == 0)) attribute _ (value_of attribute.body) refl e
 
 -- what a filter leaves of a list from an element on that passes, and from one that does not
 pub filter-passes : {X : Type 0} (test : X → Bool) (xs : List X) (i : ℕ) (x : X) → slice_get xs i ≡ Some x → test x ≡ true

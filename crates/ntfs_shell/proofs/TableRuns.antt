@@ -22,7 +22,8 @@ refused-MeansRuns text (Wide place) runs bad other means =
 refused-MeansRuns text (Negative place) runs bad other means = never_both text runs _ place means bad
 
 -- the clusters of all runs
-pub clusters-IsRunList : (total : ℕ) (runs : List Run) → total ≤ 2 ^ 62 → IsRunListFrom total runs → total + sum_by (λ run. run.len) runs ≤ 2 ^ 62
+pub clusters-IsRunList : (total : ℕ) (runs : List Run) → total ≤ 2 ^ 62 → IsRunListFrom total runs
+    → total + sum_by (λ run. run.len) runs ≤ 2 ^ 62
 clusters-IsRunList total [] most list = omega arith
 clusters-IsRunList total (run ∷ runs) most list =
     omega (arith, sum_by-cons (λ (each : Run). each.len) run runs, clusters-IsRunList (total + run.len) runs list.1 list.3)

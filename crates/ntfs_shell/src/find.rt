@@ -42,7 +42,7 @@ fn is_data_extent(attribute: &AttrView<'_>) -> bool
 fn next_data_extent(view: &RecordView<'_>, from: usize) -> Option<usize>
     ensures some { IfSome result (λ at. (attribute : Attribute) × (slice_get (attributes_of view.now) at ≡ Some attribute)
         × (filter is_data_extent (drop from (attributes_of view.now))
-            ≡ attribute ∷ filter is_data_extent (drop (at + 1) (attributes_of view.now)))) }
+        ≡ attribute ∷ filter is_data_extent (drop (at + 1) (attributes_of view.now)))) }
     ensures short { IfSome result (λ at. at < usize.MAX) }
     ensures none { IfNone result (filter is_data_extent (drop from (attributes_of view.now)) ≡ []) }
 {

@@ -29,7 +29,7 @@ pub struct Table {
     pub initialized: u64,
 }
 
-// The attribute that holds the table.
+// The attribute that holds the table, where the record has one and no other part of it is elsewhere.
 fn table_stream<'r>(view: &RecordView<'r>) -> Option<AttrView<'r>>
     ensures some { IfSome result (λ stream. HoldsTable (record_of view.now) (attribute_of stream)) }
     ensures none { IfNone result ((stream : Attribute) → ¬ (HoldsTable (record_of view.now) stream)) }
@@ -81,7 +81,7 @@ fn lie_on(runs: &[Run], clusters: u64) -> bool
     runs.iter().all(|run| is_on_volume(run, clusters))
 }
 
-// Whether the first 1,024 bytes lie from this cluster on.
+// Whether the first 1,024 bytes lie from this cluster on, in clusters of so many bytes.
 fn begin_at(runs: &RunList, mft: u64, size: u32) -> bool
     requires size { 512 ≤ size }
     requires mft { mft < 2 ^ 26 }
@@ -90,6 +90,7 @@ fn begin_at(runs: &RunList, mft: u64, size: u32) -> bool
     runs.spot(0) == Spot::At(mft) && (size >= 1024 || runs.spot(1) == Spot::At(mft + 1))
 }
 
+// Whether the runs lie on the volume, and the first record where the table begins.
 fn are_placed(runs: &RunList, geometry: &Geometry) -> bool
     requires { FitsDisk geometry.now (2 ^ 55) }
     ensures { IsTrue result ↔ ArePlaced geometry.now.mft geometry.now.cluster geometry.now.clusters runs.now }
@@ -105,6 +106,7 @@ fn clusters_in(runs: &[Run]) -> u64
     runs.iter().map(|run| run.len).sum()
 }
 
+// Whether a table in so many clusters can have these sizes.
 fn fit_table(sizes: &Sizes, clusters: u64, size: u32) -> bool
     ensures { IsTrue result ↔ FitTable sizes.now (clusters * size) }
 {
@@ -115,6 +117,7 @@ fn fit_table(sizes: &Sizes, clusters: u64, size: u32) -> bool
         && sizes.initialized <= sizes.real
 }
 
+// Whether the table can have these sizes and runs.
 fn is_table(geometry: &Geometry, sizes: &Sizes, runs: &RunList) -> bool
     requires { FitsDisk geometry.now (2 ^ 55) }
     ensures { IsTrue result ↔ (ArePlaced geometry.now.mft geometry.now.cluster geometry.now.clusters runs.now
@@ -125,7 +128,11 @@ fn is_table(geometry: &Geometry, sizes: &Sizes, runs: &RunList) -> bool
 
 /// Where the table lies, by the opened record 0, and `None` exactly where the table clause does not
 /// hold of it.
-pub fn read_table(alloc: Global, geometry: &Geometry, view: &RecordView<'_>) -> Result<Option<Table>, AllocError>
+pub fn read_table(
+    alloc: Global,
+    geometry: &Geometry,
+    view: &RecordView<'_>,
+) -> Result<Option<Table>, AllocError>
     requires { FitsDisk geometry.now (2 ^ 55) }
     ensures some { IfOk result (λ found. IfSome found (λ table.
         IsTable geometry.now.mft geometry.now.cluster geometry.now.clusters (record_of view.now) (layout_of table))) }

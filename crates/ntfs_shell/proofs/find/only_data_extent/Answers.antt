@@ -1,9 +1,5 @@
-use Rattle.std.proofs.Common.{◌≡◌, ◌<◌, ◌+◌, List, drop, length, Some, [], ◌∷◌, sym, ap, ◌∙◌}
-use Rattle.std.specs.Prelude.{filter, slice_get, is_some}
 use Rattle.std.proofs.lemmas.Option.{slice_get_within}
-use Rattle.ntfs_def.specs.Attribute.{Attribute}
-use Rattle.ntfs_def.specs.Table.{is_data_extent}
-use Rattle.attr_view.specs.View.{attribute_of, attributes_of}
+use Rattle.attr_view.specs.View.{attributes_of}
 use Rattle.ntfs_shell.proofs.find.only_data_extent.Goals as goal
 
 pub attr-requires : goal.attr-requires
