@@ -60,10 +60,10 @@ pub reports-volume : (now now' : Option (List ℕ)) (result : Result code.Report
     → IfOk result (λ report. (image : List ℕ) → now ≡ Some image → LabelReports image (report_of report))
 reports-volume now now' (Ok report) sector size geometry said same len read fails is =
     λ image told.
-      let boot = boot_sector image in
-      let there = said image boot (same ∙ told) (is ∙ ap geometry_of (read image told)) in
-      subst (λ (o : Option ℕ). MatchOption o (TableReports (sector_in (Some image)) boot (report_of report)) (λ number. report_of report ≡ refuses (refusal_text 1 number)))
-        (sym (failing-read now image sector size None len told (read image told) fails)) there
+    let boot = boot_sector image in
+    let there = said image boot (same ∙ told) (is ∙ ap geometry_of (read image told)) in
+    subst (λ (o : Option ℕ). MatchOption o (TableReports (sector_in (Some image)) boot (report_of report)) (λ number. report_of report ≡ refuses (refusal_text 1 number)))
+    (sym (failing-read now image sector size None len told (read image told) fails)) there
 reports-volume now now' (Err stop) sector size geometry said same len read fails is = tt
 
 -- where it does not, its number is told
@@ -71,4 +71,4 @@ pub reports-refused : (now : Option (List ℕ)) (image sector : List ℕ) (size 
     → sector ≡ boot_sector image → boot_failing sector size ≡ Some number → report ≡ refuses (refusal_text 1 number) → LabelReports image report
 reports-refused now image sector size number report len told read fails is =
     subst (λ (o : Option ℕ). MatchOption o (TableReports (sector_in (Some image)) (boot_sector image) report) (λ n. report ≡ refuses (refusal_text 1 n)))
-      (sym (failing-read now image sector size (Some number) len told read fails)) is
+    (sym (failing-read now image sector size (Some number) len told read fails)) is

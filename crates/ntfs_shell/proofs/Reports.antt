@@ -2,9 +2,8 @@
 use Rattle.std.proofs.Common.{◌≡◌, ◌+◌, ◌≤◌, ℕ, List, Option, Some, refl, inl, inr}
 use Rattle.vol_disk.specs.Stream.{Appended}
 use Rattle.ntfs_shell.specs.declared.ending.Ending.{Ending}
-use Rattle.ntfs_shell.specs.declared.ending.Ending.TheVariants as ending
-use Rattle.ntfs_shell.specs.Report.{Report, says, refuses, text_of, ending_of, PrintsAll, Reported, ReportEnds}
-use Rattle.ntfs_shell.specs.Shown.{IsPrinted, IsCut, Shown}
+use Rattle.ntfs_shell.specs.Report.{Report, says, refuses, text_of, ending_of, Reported, ReportEnds}
+use Rattle.ntfs_shell.specs.Shown.{Shown}
 use Rattle.ntfs_shell.specs.World.{World, OnlyReads, Blames}
 
 -- a report that was printed whole
@@ -24,12 +23,14 @@ pub ends_shown : (Reports : List ℕ → Report → Type 0) (reads : ℕ) (repor
     → ((image : List ℕ) → old.now ≡ Some image → Reports image report)
     → ReportEnds Reports reads given old new
 ends_shown Reports reads report given old new (inl printed) only few quiet is = rw printed.ends (record {
-    causes = blames_none report old new quiet only.source_faults printed.quiet;
-    only_reads = only;
-    fetched = few;
-    reported = λ image told. reported_whole (Reports image) report old.got new.got (is image told) printed.all })
+  causes = blames_none report old new quiet only.source_faults printed.quiet;
+  only_reads = only;
+  fetched = few;
+  reported = λ image told. reported_whole (Reports image) report old.got new.got (is image told) printed.all;
+})
 ends_shown Reports reads report given old new (inr cut) only few quiet is = rw cut.ends (record {
-    causes = (quiet, only.source_faults, cut.rose);
-    only_reads = only;
-    fetched = few;
-    reported = λ image told. (report, is image told, cut.part) })
+  causes = (quiet, only.source_faults, cut.rose);
+  only_reads = only;
+  fetched = few;
+  reported = λ image told. (report, is image told, cut.part);
+})

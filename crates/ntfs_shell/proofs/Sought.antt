@@ -1,12 +1,12 @@
 -- Elements that are sought in a list, from its front on.
-use Rattle.std.proofs.Common.{◌≡◌, ℕ, zero, suc, ◌+◌, Bool, true, false, cond, List, [], ◌∷◌, drop, get_or, Option, Some, None, refl, arith, ap, ◌∙◌, subst, sym}
+use Rattle.std.proofs.Common.{◌≡◌, ℕ, ◌+◌, Bool, true, false, cond, List, [], ◌∷◌, drop, Option, Some, None, refl, ap, ◌∙◌, subst, sym}
 use Rattle.std.specs.Prelude.{◌&&◌, ◌==◌, is_some, slice_get, length, filter, All}
-use Rattle.std.specs.List.{AllWithin, HoldsAt}
+use Rattle.std.specs.List.{AllWithin}
 use Rattle.std.specs.Option.{option_and_then}
 use Rattle.std.proofs.lemmas.Option.{slice_get_within, get_or_from_slice_get}
 use Rattle.std.proofs.lemmas.List.{drop_more}
 use Rattle.std.proofs.lemmas.List.Elements.{AllWithin-more}
-use Rattle.ntfs_def.specs.Attribute.{Attribute, Body, value_of}
+use Rattle.ntfs_def.specs.Attribute.{Attribute, value_of}
 use Rattle.ntfs_def.specs.Volume.{first_value}
 
 -- an element of a list begins what is left of it there

@@ -1,10 +1,10 @@
 -- The table of records on its volume.
-use Rattle.std.proofs.Common.{◌≡◌, ℕ, ◌+◌, ◌*◌, ◌/◌, ◌%◌, ◌<◌, ◌≤◌, List, [], ◌++◌, length, take, drop, Some, sym, ap, subst, ◌∙◌, inl, inr, arith, length-append}
+use Rattle.std.proofs.Common.{◌≡◌, ℕ, ◌+◌, ◌*◌, ◌/◌, ◌<◌, ◌≤◌, List, [], length, take, Some, sym, ap, subst, ◌∙◌, inl, inr, arith, length-append}
 use Rattle.std.proofs.lemmas.List.{length-take, drop_all}
 use Rattle.vol_disk.specs.Contents.{sector_in}
 use Rattle.ntfs_def.specs.Boot.{cluster_sectors, mft_cluster}
 use Rattle.ntfs_def.specs.Fixup.{opened_of}
-use Rattle.ntfs_def.specs.Table.{IsReadable, IsTable, Layout, MeetsTableClause, first_record}
+use Rattle.ntfs_def.specs.Table.{IsReadable, Layout, MeetsTableClause, first_record}
 use Rattle.ntfs_def.proofs.FixupLaws.{length-opened_of}
 use Rattle.ntfs_def.proofs.ShapeLaws.{header_failing-length}
 use Rattle.ntfs_boot.specs.declared.Geometry.{Geometry}

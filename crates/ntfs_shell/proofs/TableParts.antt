@@ -1,11 +1,11 @@
 -- The table clause and its parts, at what the code has read of the record: the stream, its sizes and its run text.
-use Rattle.std.proofs.Common.{◌≡◌, ℕ, ◌*◌, ◌^◌, List, [], ◌∷◌, Option, Some, None, sym, ap, ◌∙◌, subst, refl}
-use Rattle.std.specs.Prelude.{filter, sum_by}
+use Rattle.std.proofs.Common.{◌≡◌, ℕ, ◌*◌, List, Some, sym, ap, ◌∙◌, subst}
+use Rattle.std.specs.Prelude.{sum_by}
 use Rattle.std.specs.Option.{option_map}
 use Rattle.ntfs_def.specs.declared.run_text.Run.{Run}
-use Rattle.ntfs_def.specs.Attribute.{Attribute, Extent, Body, Resident, NonResident, attributes, extent_of, runs_of}
+use Rattle.ntfs_def.specs.Attribute.{Attribute, Extent, Body, Resident, NonResident, extent_of, runs_of}
 use Rattle.ntfs_def.specs.Runs.{MeansRuns}
-use Rattle.ntfs_def.specs.Table.{IsTable, Layout, is_data_extent}
+use Rattle.ntfs_def.specs.Table.{IsTable, Layout}
 use Rattle.ntfs_def.proofs.RunLaws.{MeansFrom-exact}
 use Rattle.attr_view.specs.View.{sizes_of}
 use Rattle.attr_view.specs.declared.Sizes.{Sizes}

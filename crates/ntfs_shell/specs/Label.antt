@@ -34,13 +34,13 @@ volume_report attributes = volume_answer attributes (version_in (first_value 0x7
 abbrev pub RecordReports : List ℕ → Report → Type 0
 RecordReports stored report =
     (IsReadable stored × (report ≡ volume_report (attributes (opened_of stored))))
-  ⊎ ((¬ (IsReadable stored)) × (report ≡ refuses (refusal_text 3 3)))
+    ⊎ ((¬ (IsReadable stored)) × (report ≡ refuses (refusal_text 3 3)))
 
 -- by the sectors of the disk, where the boot clause holds
 abbrev pub TableReports : (ℕ → List ℕ) → List ℕ → Report → Type 0
 TableReports disk boot report =
     ((layout : Layout) × MeetsTableClause disk boot layout × RecordReports (block_of disk layout 3) report)
-  ⊎ (((layout : Layout) → ¬ (MeetsTableClause disk boot layout)) × (report ≡ refuses (refusal_text 2 0)))
+    ⊎ (((layout : Layout) → ¬ (MeetsTableClause disk boot layout)) × (report ≡ refuses (refusal_text 2 0)))
 
 -- by the image
 abbrev pub LabelReports : List ℕ → Report → Type 0

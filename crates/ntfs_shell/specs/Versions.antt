@@ -1,5 +1,4 @@
 -- The version of a volume, as this program keeps it.
-use Rattle.std.specs.Prelude.{ℕ}
 use Rattle.ntfs_def.specs.Volume.{Version}
 use Rattle.ntfs_shell.specs.declared.volume.Version as code
 

@@ -75,7 +75,11 @@ fn report_table<D: Disk>(alloc: Global, disk: &mut D, table: &Table) -> Result<R
 }
 
 // Where the table lies, by record 0 as it is stored, and `None` where the table clause does not hold.
-fn find_table(alloc: Global, geometry: &Geometry, block: &mut [u8; 1024]) -> Result<Option<Table>, AllocError>
+fn find_table(
+    alloc: Global,
+    geometry: &Geometry,
+    block: &mut [u8; 1024],
+) -> Result<Option<Table>, AllocError>
     requires { FitsDisk geometry.now (2 ^ 55) }
     ensures some { IfOk result (λ found. IfSome found (λ table. HasTable geometry.now block.old (layout_of table))) }
     ensures none { IfOk result (λ found. IfNone found ((layout : Layout) → ¬ (HasTable geometry.now block.old layout))) }
@@ -87,7 +91,11 @@ fn find_table(alloc: Global, geometry: &Geometry, block: &mut [u8; 1024]) -> Res
 }
 
 // What the volume of this geometry says.
-fn report_volume_at<D: Disk>(alloc: Global, disk: &mut D, geometry: &Geometry) -> Result<Report, Stop>
+fn report_volume_at<D: Disk>(
+    alloc: Global,
+    disk: &mut D,
+    geometry: &Geometry,
+) -> Result<Report, Stop>
     requires { FitsDisk geometry.now (D.size disk.old) }
     ensures report { IfOk result (λ report. (image boot : List ℕ) → D.now disk.old ≡ Some image → geometry.now ≡ geometry_of boot →
         TableReports (sector_in (Some image)) boot (report_of report)) }
@@ -125,7 +133,12 @@ fn report_label<D: Disk>(alloc: Global, disk: &mut D) -> Result<Report, Stop>
 
 /// Prints the name and the version of the volume, or the first clause that refuses it. It reads the
 /// boot sector and the records 0 and 3.
-pub fn label<D: Disk, S: Source, K: Sink>(alloc: Global, disk: &mut D, script: &S, out: &mut K) -> Ending
+pub fn label<D: Disk, S: Source, K: Sink>(
+    alloc: Global,
+    disk: &mut D,
+    script: &S,
+    out: &mut K,
+) -> Ending
     ensures { ReportEnds LabelReports 5 result
         (world D.Disk S.Source K.Sink disk.old script.now out.old) (world D.Disk S.Source K.Sink disk.new script.now out.new) }
 {

@@ -12,12 +12,12 @@ returns-in-Ok-clause-report g c =
     let here = c.in-Ok.ensures.ok in
     let sectors : g.D.Disk.size c.args.disk.now ≡ c.sectors.result = sym (c.sectors.ensures ∙ read.reads.size) in
     reports-volume _ _ _ c.in_ok-sector.sector _ c.in-Ok.geometry c.report_volume_at.ensures.report read.reads.now (g.met.D.Disk.told_length c.args.disk.now)
-      read.sector (ap (λ n. boot_failing c.in_ok-sector.sector n) sectors ∙ here.0) here.1
+    read.sector (ap (λ n. boot_failing c.in_ok-sector.sector n) sectors ∙ here.0) here.1
 
 pub returns-in-Err-clause-report : goal.returns-in-Err-clause-report
 returns-in-Err-clause-report g c image told =
     let read = c.in_ok-sector.ensures in
     let sectors : g.D.Disk.size c.args.disk.now ≡ c.sectors.result = sym (c.sectors.ensures ∙ read.reads.size) in
     reports-refused _ image c.in_ok-sector.sector _ (number_of c.in-Err.fault) _ (g.met.D.Disk.told_length c.args.disk.now) told (read.sector image told)
-      (ap (λ n. boot_failing c.in_ok-sector.sector n) sectors ∙ c.in-Err.ensures.err)
-      (ap refuses (c.refusal_text.ensures ∙ ap (refusal_text 1) (c.from.ensures ∙ c.number.ensures)))
+    (ap (λ n. boot_failing c.in_ok-sector.sector n) sectors ∙ c.in-Err.ensures.err)
+    (ap refuses (c.refusal_text.ensures ∙ ap (refusal_text 1) (c.from.ensures ∙ c.number.ensures)))

@@ -1,4 +1,4 @@
-use Rattle.std.proofs.Common.{◌≡◌, ℕ, ◌+◌, ◌*◌, ◌/◌, ◌<◌, List, ap, sym, subst, ◌∙◌, inl, inr}
+use Rattle.std.proofs.Common.{◌+◌, ◌*◌, ◌<◌, ap, sym, subst, ◌∙◌, inr}
 use Rattle.ntfs_def.specs.Boot.{cluster_sectors, mft_cluster}
 use Rattle.ntfs_shell.specs.Report.{refuses}
 use Rattle.ntfs_shell.specs.Tables.{LiesOn, layout_of}
@@ -13,7 +13,7 @@ returns-then-sector-sectors-clause-report g c image boot told is =
     let len = length-told _ image size (g.met.D.Disk.told_length c.args.disk.now) told in
     let place = ap (λ n. c.args.geometry.now.mft * n) c.from.ensures ∙ first_sector c.args.geometry.now boot is in
     let past : size < mft_cluster boot * cluster_sectors boot + 2 =
-        subst (λ n. size < n + 2) place (subst (λ n. n < c.args.geometry.now.mft * c.from.result + 2) c.sectors.ensures c.if-sector-sectors.true) in
+    subst (λ n. size < n + 2) place (subst (λ n. n < c.args.geometry.now.mft * c.from.result + 2) c.sectors.ensures c.if-sector-sectors.true) in
     inr ((λ layout clause. first_record-past image boot size len past clause.readable), ap refuses c.refusal_text.ensures)
 
 pub report_table-requires : goal.report_table-requires
@@ -26,8 +26,8 @@ returns-in-Some-clause-report g c =
     let has = rw c.in-Some.is at c.in_ok-table.ensures.some in
     let place = ap (λ n. c.args.geometry.now.mft * n) c.from.ensures in
     reports-table _ _ _ c.args.geometry.now (layout_of c.in-Some.table) c.report_table.ensures.report c.in_ok-read_two_sectors.ensures.reads.now
-      (λ image boot told is. meets_clause _ boot _ c.args.geometry.now _ is
-        (first_record-read _ image _ boot c.args.geometry.now _ told c.in_ok-read_two_sectors.ensures.read place is) has)
+    (λ image boot told is. meets_clause _ boot _ c.args.geometry.now _ is
+    (first_record-read _ image _ boot c.args.geometry.now _ told c.in_ok-read_two_sectors.ensures.read place is) has)
 
 pub returns-in-None-clause-report : goal.returns-in-None-clause-report
 returns-in-None-clause-report g c image boot told is =
