@@ -5,13 +5,15 @@ use Rattle.ntfs_def.specs.Boot.{boot_sector, boot_failing}
 use Rattle.ntfs_shell.specs.Boot.{boot_answer, boot_report}
 use Rattle.ntfs_shell.specs.Report.{Report}
 
--- the sectors of a disk that tells its contents
-sectors_told : (now : Option (List ℕ)) (image : List ℕ) (size : ℕ) → IfSome now (λ all. length all ≡ 512 * size) → now ≡ Some image → size ≡ length image / 512
-sectors_told None image size len e = cc
-sectors_told (Some all) image size len e =
+-- the length and the sectors of a disk that tells its contents
+pub length-told : (now : Option (List ℕ)) (image : List ℕ) (size : ℕ) → IfSome now (λ all. length all ≡ 512 * size) → now ≡ Some image → length image ≡ 512 * size
+length-told None image size len e = cc
+length-told (Some all) image size len e =
     let same : all ≡ image = cc in
-    let long : length image ≡ 512 * size = subst (λ (x : List ℕ). length x ≡ 512 * size) same len in
-    omega arith
+    subst (λ (x : List ℕ). length x ≡ 512 * size) same len
+
+pub sectors_told : (now : Option (List ℕ)) (image : List ℕ) (size : ℕ) → IfSome now (λ all. length all ≡ 512 * size) → now ≡ Some image → size ≡ length image / 512
+sectors_told now image size len e = let long = length-told now image size len e in omega arith
 
 -- the report, by the sector that was read
 pub boot_report-read : (now : Option (List ℕ)) (image sector : List ℕ) (size : ℕ) (answer : Report) → IfSome now (λ all. length all ≡ 512 * size)

@@ -1,3 +1,10 @@
 pub mod Boots
+pub mod BootSectors
+pub mod Joined
+pub mod LabelLaws
+pub mod Places
 pub mod Reports
-pub mod Sectors
+pub mod Sought
+pub mod TableLaws
+pub mod TableParts
+pub mod TableRuns

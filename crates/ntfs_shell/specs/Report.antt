@@ -20,25 +20,30 @@ abbrev pub ending_of : Report → Ending
 ending_of (says text) = ending.Done
 ending_of (refuses text) = ending.Refused
 
--- What the sink got of a report by how the run ended, where the sink tells it: all of its text, a
--- part from the front where the sink failed, and nothing where the disk failed or memory ran out.
-abbrev pub Reported : Report → Ending → Option (List ℕ) → Option (List ℕ) → Type 0
-Reported report ending.Done before after = (ending_of report ≡ ending.Done) × Appended before (text_of report) after
-Reported report ending.Refused before after = (ending_of report ≡ ending.Refused) × Appended before (text_of report) after
-Reported report ending.Sink before after = AppendedPart before (text_of report) after
-Reported report ending.Device before after = after ≡ before
-Reported report ending.Memory before after = after ≡ before
-Reported report ending.Source before after = ⊥
-Reported report ending.TooMuch before after = ⊥
+-- All of the report was printed, and the run ended as it calls for.
+pub record PrintsAll (report : Report) (given : Ending) (before after : Option (List ℕ)) : Type 0 where
+  pub ends : given ≡ ending_of report
+  pub text : Appended before (text_of report) after
 
--- A word that only reads ended so. It asked for at most so many reads. What it prints is a function
--- of the image, where the disk tells it.
-pub record ReportEnds (report : List ℕ → Report) (reads : ℕ) (ending : Ending) (old new : World) : Type 0 where
+-- What the sink got, where it tells it, by how the run ended: all of the text of the image's report, a
+-- part from the front where the sink failed, and nothing where the disk failed or memory ran out.
+abbrev pub Reported : (Report → Type 0) → Ending → Option (List ℕ) → Option (List ℕ) → Type 0
+Reported IsReport ending.Done before after = (report : Report) × IsReport report × PrintsAll report ending.Done before after
+Reported IsReport ending.Refused before after = (report : Report) × IsReport report × PrintsAll report ending.Refused before after
+Reported IsReport ending.Sink before after = (report : Report) × IsReport report × AppendedPart before (text_of report) after
+Reported IsReport ending.Device before after = after ≡ before
+Reported IsReport ending.Memory before after = after ≡ before
+Reported IsReport ending.Source before after = ⊥
+Reported IsReport ending.TooMuch before after = ⊥
+
+-- A word that only reads ended so. It asked for at most so many reads. What it prints is told by the
+-- image alone, where the disk tells its contents.
+pub record ReportEnds (Reports : List ℕ → Report → Type 0) (reads : ℕ) (ending : Ending) (old new : World) : Type 0 where
   pub causes : Blames ending old new
   pub only_reads : OnlyReads old new
   pub fetched : new.fetched ≤ old.fetched + reads
-  pub reported : (image : List ℕ) → old.now ≡ Some image → Reported (report image) ending old.got new.got
+  pub reported : (image : List ℕ) → old.now ≡ Some image → Reported (Reports image) ending old.got new.got
 
 -- the status is that of such an ending
-abbrev pub AnswersReport : (List ℕ → Report) → ℕ → World → ℕ → World → Type 0
-AnswersReport report reads old status new = (ending : Ending) × (status ≡ status_of ending) × ReportEnds report reads ending old new
+abbrev pub AnswersReport : (List ℕ → Report → Type 0) → ℕ → World → ℕ → World → Type 0
+AnswersReport Reports reads old status new = (ending : Ending) × (status ≡ status_of ending) × ReportEnds Reports reads ending old new

@@ -5,11 +5,12 @@ use Rattle.vol_disk.specs.Stream.{Appended, AppendedPart}
 use Rattle.ntfs_shell.specs.declared.ending.Ending.{Ending}
 use Rattle.ntfs_shell.specs.declared.ending.Ending.TheVariants as ending
 use Rattle.ntfs_shell.specs.declared.report.Report as code
-use Rattle.ntfs_shell.specs.declared.report.Report.TheVariants.{Says, Refuses}
+use Rattle.ntfs_shell.specs.declared.report.Report.TheVariants.{Says, SaysMore, Refuses}
 use Rattle.ntfs_shell.specs.Report.{Report, says, refuses, text_of, ending_of}
 
 abbrev pub report_of : code.Report → Report
 report_of (Says text) = says text.items
+report_of (SaysMore text) = says text.items
 report_of (Refuses text) = refuses text.items
 
 -- all of it was printed

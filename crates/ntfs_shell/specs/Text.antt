@@ -15,15 +15,15 @@ hexadecimal number = encode_lower (big_bytes 8 number)
 -- the nine lines of a geometry; sectors, file records and index records have the one size that is read here
 unfoldable pub geometry_text : Geometry → List ℕ
 geometry_text geometry =
-     line_of (codes "sector") (decimal 512)
-  ++ line_of (codes "cluster") (decimal geometry.cluster)
-  ++ line_of (codes "sectors") (decimal geometry.sectors)
-  ++ line_of (codes "clusters") (decimal geometry.clusters)
-  ++ line_of (codes "mft") (decimal geometry.mft)
-  ++ line_of (codes "mirror") (decimal geometry.mirror)
-  ++ line_of (codes "record") (decimal 1024)
-  ++ line_of (codes "index") (decimal 4096)
-  ++ line_of (codes "serial") (hexadecimal geometry.serial)
+    line_of (codes "sector") (decimal 512)
+    ++ line_of (codes "cluster") (decimal geometry.cluster)
+    ++ line_of (codes "sectors") (decimal geometry.sectors)
+    ++ line_of (codes "clusters") (decimal geometry.clusters)
+    ++ line_of (codes "mft") (decimal geometry.mft)
+    ++ line_of (codes "mirror") (decimal geometry.mirror)
+    ++ line_of (codes "record") (decimal 1024)
+    ++ line_of (codes "index") (decimal 4096)
+    ++ line_of (codes "serial") (hexadecimal geometry.serial)
 
 -- the line that refuses a volume, as in `refused S1 6`
 unfoldable pub refusal_text : ℕ → ℕ → List ℕ

@@ -7,7 +7,7 @@ AreWords words text = words ≡ text ∷ []
 
 -- the words of the program that are not built yet
 abbrev pub IsUnbuilt : List ℕ → Type 0
-IsUnbuilt word = (word ≡ codes "label") ⊎ (word ≡ codes "check") ⊎ (word ≡ codes "run") ⊎ (word ≡ codes "format") ⊎ (word ≡ codes "make")
+IsUnbuilt word = (word ≡ codes "check") ⊎ (word ≡ codes "run") ⊎ (word ≡ codes "format") ⊎ (word ≡ codes "make")
 
 -- the first word is not built yet, whatever follows
 abbrev pub AskUnbuilt : List (List ℕ) → Type 0
@@ -17,4 +17,5 @@ AskUnbuilt (word ∷ words) = IsUnbuilt word
 -- the words ask for nothing that the program knows
 pub record AreUnknown (words : List (List ℕ)) : Type 0 where
   pub boot : ¬ (AreWords words (codes "boot"))
+  pub label : ¬ (AreWords words (codes "label"))
   pub unbuilt : ¬ (AskUnbuilt words)

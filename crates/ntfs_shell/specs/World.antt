@@ -23,10 +23,18 @@ pub record World : Type 0 where
 
 abbrev pub world : {D S K : Type 0} → disk.Ghosts D → source.Ghosts S → sink.Ghosts K → D → S → K → World
 world d s k disk source sink = record {
-  now = d.now disk; settled = d.settled disk; size = d.size disk;
-  written = d.written disk; fetched = d.fetched disk; late = d.late disk; disk_faults = d.faults disk;
-  left = s.left source; source_faults = s.faults source;
-  got = k.got sink; sink_faults = k.faults sink }
+  now = d.now disk;
+  settled = d.settled disk;
+  size = d.size disk;
+  written = d.written disk;
+  fetched = d.fetched disk;
+  late = d.late disk;
+  disk_faults = d.faults disk;
+  left = s.left source;
+  source_faults = s.faults source;
+  got = k.got sink;
+  sink_faults = k.faults sink;
+}
 
 -- nothing of the disk and nothing of the source changed, but for what reading counts
 pub record OnlyReads (old new : World) : Type 0 where

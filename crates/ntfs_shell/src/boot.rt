@@ -1,10 +1,11 @@
 //! The word `boot`: the geometry of the volume.
-ghost use Rattle.std.specs.Prelude.{◌≡◌, ◌≢◌, ◌+◌, ◌≤◌, ℕ, List, Some, IfOk, OnOk, OnErr};
+ghost use Rattle.std.specs.Prelude.{◌≡◌, ◌≢◌, ℕ, List, Some, IfOk, OnOk, OnErr};
 ghost use Rattle.vol_disk.specs.Count.{Rose};
 ghost use Rattle.ntfs_def.specs.Boot.{boot_failing, boot_sector};
+ghost use Rattle.ntfs_shell.specs.Reading.{DiskReads};
 ghost use Rattle.ntfs_shell.specs.World.{world};
 ghost use Rattle.ntfs_shell.specs.Report.{ReportEnds};
-ghost use Rattle.ntfs_shell.specs.Boot.{boot_answer, boot_report};
+ghost use Rattle.ntfs_shell.specs.Boot.{BootReports, boot_answer};
 ghost use Rattle.ntfs_shell.specs.Shown.{report_of};
 
 use crate::ending::Ending;
@@ -13,17 +14,11 @@ use crate::text::{geometry_text, refusal_text};
 use ntfs_boot::Geometry;
 use vol_disk::{Disk, Failed, Sink, Source};
 
-// The first sector, which is zero on a disk without one.
-fn read_boot_sector<D: Disk>(disk: &mut D) -> Result<[u8; 512], Failed>
+/// The first sector, which is zero on a disk without one.
+pub fn read_boot_sector<D: Disk>(disk: &mut D) -> Result<[u8; 512], Failed>
     ensures sector { IfOk result (λ sector. (image : List ℕ) → D.now disk.old ≡ Some image → sector ≡ boot_sector image) }
 
-    ensures now { D.now disk.new ≡ D.now disk.old }
-    ensures settled { D.settled disk.new ≡ D.settled disk.old }
-    ensures size { D.size disk.new ≡ D.size disk.old }
-    ensures written { D.written disk.new ≡ D.written disk.old }
-    ensures late { D.late disk.new ≡ D.late disk.old }
-    ensures fetched { D.fetched disk.new ≤ D.fetched disk.old + 1 }
-
+    ensures reads { DiskReads D.Disk disk.old disk.new 1 }
     ensures quiet { OnOk result (D.faults disk.new ≡ D.faults disk.old) }
     ensures cause { OnErr result (Rose (D.faults disk.old) (D.faults disk.new)) }
 {
@@ -48,7 +43,7 @@ fn report_boot(sector: &[u8; 512], sectors: u64) -> Report
 /// sector 0 alone.
 pub fn boot<D: Disk, S: Source, K: Sink>(disk: &mut D, script: &S, out: &mut K) -> Ending
     ensures serves { result ≢ Ending.Memory }
-    ensures ends { ReportEnds boot_report 1 result
+    ensures ends { ReportEnds BootReports 1 result
         (world D.Disk S.Source K.Sink disk.old script.now out.old) (world D.Disk S.Source K.Sink disk.new script.now out.new) }
 {
     match read_boot_sector(disk) {

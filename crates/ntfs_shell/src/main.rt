@@ -3,10 +3,18 @@
 
 mod boot;
 mod ending;
+mod find;
+mod label;
 mod report;
+mod sectors;
 mod shell;
 mod start;
+mod stop;
+mod table;
+#[cfg(test)]
+mod tests;
 mod text;
+mod volume;
 mod words;
 
 use std::process::ExitCode;

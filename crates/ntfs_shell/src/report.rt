@@ -10,6 +10,8 @@ use vol_disk::{Sink, write_all};
 pub enum Report {
     /// The lines of an answer.
     Says(Text),
+    /// The lines of an answer that may be long.
+    SaysMore(Vec<u8>),
     /// The line that refuses the volume.
     Refuses(Text),
 }
@@ -19,8 +21,9 @@ pub fn show<K: Sink>(out: &mut K, report: &Report) -> Ending
     ensures { Shown (report_of report.now) result (K.got out.old) (K.got out.new) (K.faults out.old) (K.faults out.new) }
 {
     let (text, ending) = match report {
-        Report::Says(text) => (text, Ending::Done),
-        Report::Refuses(text) => (text, Ending::Refused),
+        Report::Says(text) => (text.as_slice(), Ending::Done),
+        Report::SaysMore(text) => (text.as_slice(), Ending::Done),
+        Report::Refuses(text) => (text.as_slice(), Ending::Refused),
     };
     match write_all(out, text) {
         Ok(()) => ending,

@@ -3,25 +3,31 @@ ghost use Rattle.std.specs.Prelude.{◌≡◌, ◌≢◌, codes, map, string_byt
 ghost use Rattle.ntfs_shell.specs.Words.{AreUnknown, AreWords, AskUnbuilt};
 ghost use Rattle.ntfs_shell.specs.World.{world};
 ghost use Rattle.ntfs_shell.specs.Report.{AnswersReport};
-ghost use Rattle.ntfs_shell.specs.Boot.{boot_report};
+ghost use Rattle.ntfs_shell.specs.Boot.{BootReports};
+ghost use Rattle.ntfs_shell.specs.Label.{LabelReports};
 
 use crate::boot::boot;
+use crate::label::label;
 use crate::words::{Asked, read_words};
 use std::alloc::Global;
 use vol_disk::{Disk, Sink, Source};
 
 /// Does what the words ask for, and gives the status of the program: 0 done, 2 unknown words, 3 the
-/// volume was refused, 5 the output failed, 6 the disk failed, 9 a word that is not built yet.
+/// volume was refused, 5 the output failed, 6 the disk failed, 7 memory ran out, 9 a word that is not
+/// built yet.
 pub fn run_shell<D: Disk, S: Source, K: Sink>(
-    _alloc: Global,
+    alloc: Global,
     words: &[String],
     disk: &mut D,
     script: &mut S,
     out: &mut K,
 ) -> u8
-    ensures boot { AreWords (map string_bytes words.now) (codes "boot") → AnswersReport boot_report 1
+    ensures boot { AreWords (map string_bytes words.now) (codes "boot") → AnswersReport BootReports 1
         (world D.Disk S.Source K.Sink disk.old script.old out.old) result (world D.Disk S.Source K.Sink disk.new script.new out.new) }
     ensures boot_serves { AreWords (map string_bytes words.now) (codes "boot") → result ≢ 7 }
+
+    ensures label { AreWords (map string_bytes words.now) (codes "label") → AnswersReport LabelReports 5
+        (world D.Disk S.Source K.Sink disk.old script.old out.old) result (world D.Disk S.Source K.Sink disk.new script.new out.new) }
 
     ensures unbuilt { AskUnbuilt (map string_bytes words.now) → result ≡ 9 }
     ensures unbuilt_untouched { AskUnbuilt (map string_bytes words.now) →
@@ -33,6 +39,7 @@ pub fn run_shell<D: Disk, S: Source, K: Sink>(
 {
     match read_words(words) {
         Asked::Boot => boot(disk, script, out).status(),
+        Asked::Label => label(alloc, disk, script, out).status(),
         Asked::Unbuilt => 9,
         Asked::Unknown => 2,
     }

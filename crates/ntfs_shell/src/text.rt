@@ -74,6 +74,10 @@ pub fn refusal_text(clause: u8, number: u64) -> Text
 {
     let mut text = Text::new();
     add(&mut text, b"refused S");
-    add_number(&mut text, itoa::Buffer::new().format(clause).as_bytes(), number);
+    add_number(
+        &mut text,
+        itoa::Buffer::new().format(clause).as_bytes(),
+        number,
+    );
     text
 }

@@ -7,23 +7,26 @@ ghost use Rattle.ntfs_shell.specs.Words.{AreWords, AskUnbuilt, IsUnbuilt};
 pub enum Asked {
     /// The geometry of the volume.
     Boot,
+    /// The name and the version of the volume.
+    Label,
     /// A word of the program that is not built yet.
     Unbuilt,
     /// Nothing that the program knows.
     Unknown,
 }
 
-fn is_boot(word: &str) -> bool
-    ensures { IsTrue result ↔ (word.now ≡ codes "boot") }
+fn is_word(word: &str, text: &str) -> bool
+    ensures { IsTrue result ↔ (word.now ≡ text.now) }
 {
-    word == "boot"
+    word == text
 }
 
-fn ask_boot(words: &[String]) -> bool
-    ensures { IsTrue result ↔ AreWords (map string_bytes words.now) (codes "boot") }
+// Whether this is the only word.
+fn are_words(words: &[String], text: &str) -> bool
+    ensures { IsTrue result ↔ AreWords (map string_bytes words.now) text.now }
 {
     match words {
-        [word] => is_boot(word),
+        [word] => is_word(word, text),
         _ => false,
     }
 }
@@ -31,7 +34,7 @@ fn ask_boot(words: &[String]) -> bool
 fn is_unbuilt(word: &str) -> bool
     ensures { IsTrue result ↔ IsUnbuilt word.now }
 {
-    word == "label" || word == "check" || word == "run" || word == "format" || word == "make"
+    word == "check" || word == "run" || word == "format" || word == "make"
 }
 
 fn ask_unbuilt(words: &[String]) -> bool
@@ -46,10 +49,14 @@ fn ask_unbuilt(words: &[String]) -> bool
 /// What the words ask for.
 pub fn read_words(words: &[String]) -> Asked
     ensures boot { (result ≡ Asked.Boot) ↔ AreWords (map string_bytes words.now) (codes "boot") }
+    ensures label { (result ≡ Asked.Label) ↔ AreWords (map string_bytes words.now) (codes "label") }
     ensures unbuilt { (result ≡ Asked.Unbuilt) ↔ AskUnbuilt (map string_bytes words.now) }
 {
-    if ask_boot(words) {
+    if are_words(words, "boot") {
         return Asked::Boot;
+    }
+    if are_words(words, "label") {
+        return Asked::Label;
     }
     if ask_unbuilt(words) {
         return Asked::Unbuilt;

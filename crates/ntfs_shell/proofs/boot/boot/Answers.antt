@@ -1,16 +1,16 @@
 use Rattle.std.proofs.Common.{◌≡◌, refl, ap, ◌∙◌}
 use Rattle.ntfs_def.specs.Boot.{boot_failing}
-use Rattle.ntfs_shell.specs.Boot.{boot_answer, boot_report}
+use Rattle.ntfs_shell.specs.Boot.{BootReports, boot_answer}
 use Rattle.ntfs_shell.proofs.Boots.{boot_report-read}
 use Rattle.ntfs_shell.proofs.Reports.{ends_shown}
 use Rattle.ntfs_shell.proofs.boot.boot.Goals as goal
 
 pub returns-in-Ok-clause-ends : goal.returns-in-Ok-clause-ends
 returns-in-Ok-clause-ends g c =
-    let read = c.in-Ok.ensures in
+    let read = c.in-Ok.ensures.reads in
     let sectors : c.sectors.result ≡ g.D.Disk.size c.args.disk.now = c.sectors.ensures ∙ read.size in
-    ends_shown boot_report 1 _ _ _ _ c.show.ensures
-      (record { now = read.now; settled = read.settled; size = read.size; written = read.written; late = read.late; left = refl; source_faults = refl })
-      read.fetched read.quiet
-      (λ image told. boot_report-read _ image c.in-Ok.sector _ _ (g.met.D.Disk.told_length c.args.disk.now) told (read.sector image told)
-        (c.report_boot.ensures ∙ ap (λ n. boot_answer c.in-Ok.sector (boot_failing c.in-Ok.sector n)) sectors))
+    ends_shown BootReports 1 _ _ _ _ c.show.ensures
+    (record { now = read.now; settled = read.settled; size = read.size; written = read.written; late = read.late; left = refl; source_faults = refl })
+    read.fetched c.in-Ok.ensures.quiet
+    (λ image told. boot_report-read _ image c.in-Ok.sector _ _ (g.met.D.Disk.told_length c.args.disk.now) told (c.in-Ok.ensures.sector image told)
+    (c.report_boot.ensures ∙ ap (λ n. boot_answer c.in-Ok.sector (boot_failing c.in-Ok.sector n)) sectors))

@@ -1,5 +1,5 @@
 use Rattle.std.proofs.Common.{◌<◌, arith}
-use Rattle.ntfs_shell.proofs.Sectors.{boot_sector-read}
+use Rattle.ntfs_shell.proofs.BootSectors.{boot_sector-read}
 use Rattle.ntfs_shell.proofs.boot.read_boot_sector.Goals as goal
 
 pub returns-in_ok-read-clause-sector : goal.returns-in_ok-read-clause-sector

@@ -1,0 +1,48 @@
+-- What the word label prints of an image: the volume's name and version, or the first clause that refuses it.
+use Rattle.std.specs.Prelude.{◌≡◌, ◌⊎◌, ℕ, ◌/◌, List, [], ◌∷◌, ◌++◌, length, codes, decimal, Option, Some, None, MatchOption}
+use Rattle.vol_bytes.specs.NameText.{name_text}
+use Rattle.vol_disk.specs.Contents.{sector_in}
+use Rattle.ntfs_def.specs.Boot.{boot_sector, boot_failing}
+use Rattle.ntfs_def.specs.Fixup.{opened_of}
+use Rattle.ntfs_def.specs.Attribute.{Attribute, attributes}
+use Rattle.ntfs_def.specs.Table.{IsReadable, Layout, MeetsTableClause, block_of}
+use Rattle.ntfs_def.specs.Volume.{Version, first_value, label_units, version_in}
+use Rattle.ntfs_shell.specs.Report.{Report, says, refuses}
+use Rattle.ntfs_shell.specs.Text.{line_of, refusal_text}
+
+-- the line of the name: `label` alone where the volume has none
+abbrev pub name_line : List ℕ → List ℕ
+name_line [] = codes "label\n"
+name_line (unit ∷ units) = line_of (codes "label") (name_text (unit ∷ units))
+
+-- both numbers, with a point between them
+abbrev pub version_line : Version → List ℕ
+version_line version = line_of (codes "version") (decimal version.major ++ codes "." ++ decimal version.minor)
+
+unfoldable pub label_text : List ℕ → Version → List ℕ
+label_text units version = name_line units ++ version_line version
+
+-- by the attributes of record 3: its $VOLUME_NAME, of type 0x60, and the version in its $VOLUME_INFORMATION, of type 0x70
+abbrev pub volume_answer : List Attribute → Option Version → Report
+volume_answer attributes None = refuses (refusal_text 14 3)
+volume_answer attributes (Some version) = says (label_text (label_units (first_value 0x60 attributes)) version)
+
+abbrev pub volume_report : List Attribute → Report
+volume_report attributes = volume_answer attributes (version_in (first_value 0x70 attributes))
+
+-- by record 3, as it is stored
+abbrev pub RecordReports : List ℕ → Report → Type 0
+RecordReports stored report =
+    (IsReadable stored × (report ≡ volume_report (attributes (opened_of stored))))
+    ⊎ ((¬ (IsReadable stored)) × (report ≡ refuses (refusal_text 3 3)))
+
+-- by the sectors of the disk, where the boot clause holds
+abbrev pub TableReports : (ℕ → List ℕ) → List ℕ → Report → Type 0
+TableReports disk boot report =
+    ((layout : Layout) × MeetsTableClause disk boot layout × RecordReports (block_of disk layout 3) report)
+    ⊎ (((layout : Layout) → ¬ (MeetsTableClause disk boot layout)) × (report ≡ refuses (refusal_text 2 0)))
+
+-- by the image
+abbrev pub LabelReports : List ℕ → Report → Type 0
+LabelReports image report = let boot = boot_sector image in
+    MatchOption (boot_failing boot (length image / 512)) (TableReports (sector_in (Some image)) boot report) (λ number. report ≡ refuses (refusal_text 1 number))

@@ -1,0 +1,31 @@
+//! Why a report could not be made.
+ghost use Rattle.std.specs.Prelude.{◌≡◌};
+ghost use Rattle.ntfs_shell.specs.declared.stop.Stop.TheVariants.{Device, Memory};
+
+use std::alloc::AllocError;
+use vol_disk::Failed;
+
+/// Why a report could not be made.
+#[derive(Clone, Copy, Debug, PartialEq, Eq)]
+pub enum Stop {
+    /// The disk failed.
+    Device,
+    /// Memory ran out.
+    Memory,
+}
+
+impl From<Failed> for Stop {
+    ghost from_gives = { λ _ stop. stop ≡ Device };
+
+    fn from(_failed: Failed) -> Stop {
+        Stop::Device
+    }
+}
+
+impl From<AllocError> for Stop {
+    ghost from_gives = { λ _ stop. stop ≡ Memory };
+
+    fn from(_error: AllocError) -> Stop {
+        Stop::Memory
+    }
+}

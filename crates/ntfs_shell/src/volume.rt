@@ -1,0 +1,103 @@
+//! The name and the version of a volume, in its record 3.
+ghost use Rattle.std.specs.Prelude.{◌≡◌, ◌++◌, ◌<◌, ◌≤◌, ◌*◌, IfOk, OnOk, length, map};
+ghost use Rattle.std.specs.Option.{option_copied, option_map};
+ghost use Rattle.ntfs_def.specs.Volume.{label_units, units_in, version_in};
+ghost use Rattle.attr_view.specs.View.{attributes_of};
+ghost use Rattle.ntfs_shell.specs.Label.{label_text, name_line, version_line, volume_report};
+ghost use Rattle.ntfs_shell.specs.Shown.{report_of};
+ghost use Rattle.ntfs_shell.specs.Versions.{version_of};
+
+use crate::find::first_value;
+use crate::report::Report;
+use crate::text::refusal_text;
+use attr_view::RecordView;
+use std::alloc::{AllocError, Global};
+use vol_bytes::{TextFault, text_of_units, u16_at};
+
+const VOLUME_NAME: u32 = 0x60;
+
+const VOLUME_INFORMATION: u32 = 0x70;
+
+/// The version of NTFS that a volume has.
+#[derive(Clone, Copy, Debug, PartialEq, Eq)]
+pub struct Version {
+    pub major: u8,
+    pub minor: u8,
+}
+
+fn read_version(value: Option<&[u8]>) -> Option<Version>
+    ensures { option_map version_of result ≡ version_in (option_copied value.entry) }
+{
+    let value = value?;
+    if value.len() < 12 {
+        return None;
+    }
+    Some(Version {
+        major: value[0x08],
+        minor: value[0x09],
+    })
+}
+
+// The units in bytes, of which a last odd one is left out.
+#[tactic(auto, unfolding(ntfs_def::specs::Volume::units_in))]
+fn read_units(alloc: Global, bytes: &[u8]) -> Result<Vec<u16>, AllocError>
+    ensures { IfOk result (λ units. units.items ≡ units_in bytes.now) }
+{
+    (0..bytes.len() / 2)
+        .map(|k| u16_at(bytes, 2 * k))
+        .collect(alloc)
+}
+
+fn read_name(alloc: Global, value: Option<&[u8]>) -> Result<Vec<u16>, AllocError>
+    ensures { IfOk result (λ units. units.items ≡ label_units (option_copied value.entry)) }
+{
+    match value {
+        Some(bytes) => read_units(alloc, bytes),
+        None => Ok(Vec::new(alloc)),
+    }
+}
+
+fn add_name(alloc: Global, text: &mut Vec<u8>, units: &[u16]) -> Result<(), AllocError>
+    ensures { OnOk result (text.new.items ≡ text.old.items ++ name_line units.now) }
+{
+    match text_of_units(alloc, units) {
+        Ok(name) => {
+            text.extend_from_slice(b"label ")?;
+            text.extend_from_slice(name.as_slice())?;
+            text.extend_from_slice(b"\n")
+        }
+        Err(TextFault::Bad) => text.extend_from_slice(b"label\n"),
+        Err(TextFault::Memory) => Err(AllocError),
+    }
+}
+
+fn add_version(text: &mut Vec<u8>, version: Version) -> Result<(), AllocError>
+    ensures { OnOk result (text.new.items ≡ text.old.items ++ version_line (version_of version)) }
+{
+    text.extend_from_slice(b"version ")?;
+    text.extend_from_slice(itoa::Buffer::new().format(version.major).as_bytes())?;
+    text.extend_from_slice(b".")?;
+    text.extend_from_slice(itoa::Buffer::new().format(version.minor).as_bytes())?;
+    text.extend_from_slice(b"\n")
+}
+
+#[tactic(auto, unfolding(crate::specs::Label::label_text))]
+fn label_text(alloc: Global, units: &[u16], version: Version) -> Result<Vec<u8>, AllocError>
+    ensures { IfOk result (λ text. text.items ≡ label_text units.now (version_of version)) }
+{
+    let mut text = Vec::new(alloc);
+    add_name(alloc, &mut text, units)?;
+    add_version(&mut text, version)?;
+    Ok(text)
+}
+
+/// What the opened record 3 says of the volume.
+pub fn report_volume(alloc: Global, view: &RecordView<'_>) -> Result<Report, AllocError>
+    ensures { IfOk result (λ report. report_of report ≡ volume_report (attributes_of view.now)) }
+{
+    let Some(version) = read_version(first_value(view, VOLUME_INFORMATION)) else {
+        return Ok(Report::Refuses(refusal_text(14, 3)));
+    };
+    let units = read_name(alloc, first_value(view, VOLUME_NAME))?;
+    Ok(Report::SaysMore(label_text(alloc, &units, version)?))
+}
