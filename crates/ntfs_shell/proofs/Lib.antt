@@ -2,6 +2,7 @@ pub mod Boots
 pub mod BootSectors
 pub mod Joined
 pub mod LabelLaws
+pub mod OneLabel
 pub mod Places
 pub mod Reports
 pub mod Sought

@@ -12,7 +12,7 @@ ghost use Rattle.ntfs_shell.specs.Shown.{report_of};
 ghost use Rattle.ntfs_shell.specs.Stops.{Stops};
 ghost use Rattle.ntfs_shell.specs.Tables.{HasTable, LiesOn, layout_of};
 ghost use Rattle.ntfs_shell.specs.World.{world};
-ghost use Rattle.ntfs_shell.specs.Report.{ReportEnds};
+ghost use Rattle.ntfs_shell.specs.Report.{ReportEnds, Report as Answer};
 
 use crate::boot::read_boot_sector;
 use crate::ending::Ending;
@@ -130,6 +130,11 @@ fn report_label<D: Disk>(alloc: Global, disk: &mut D) -> Result<Report, Stop>
         Err(fault) => Ok(Report::Refuses(refusal_text(1, u64::from(fault.number())))),
     }
 }
+
+/// A law with nothing to run: an image has one answer to the word.
+pub fn one_label()
+    ensures { (image : List ℕ) (a b : Answer) → LabelReports image a → LabelReports image b → a ≡ b }
+{}
 
 /// Prints the name and the version of the volume, or the first clause that refuses it. It reads the
 /// boot sector and the records 0 and 3.

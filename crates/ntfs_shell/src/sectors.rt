@@ -73,6 +73,7 @@ pub fn read_two_sectors<D: Disk>(
 ) -> Result<(), Failed>
     requires { sector + 2 ≤ D.size disk.old }
     ensures read { OnOk result (IsTold (D.now disk.old) → into.new ≡ two_sectors (sector_in (D.now disk.old)) sector) }
+    ensures kept { OnErr result (into.new ≡ into.old) }
 
     ensures reads { DiskReads D.Disk disk.old disk.new 2 }
     ensures quiet { OnOk result (D.faults disk.new ≡ D.faults disk.old) }
@@ -95,7 +96,9 @@ pub fn read_block<D: Disk>(
 ) -> Result<(), Failed>
     requires number { number < 2 ^ 22 }
     requires table { LiesOn (layout_of table.now) (D.size disk.old) }
-    ensures read { OnOk result (IsTold (D.now disk.old) → into.new ≡ block_of (sector_in (D.now disk.old)) (layout_of table.now) number) }
+    ensures read { OnOk result (IsTold (D.now disk.old)
+        → into.new ≡ block_of (sector_in (D.now disk.old)) (layout_of table.now) number) }
+    ensures kept { OnErr result (into.new ≡ into.old) }
 
     ensures reads { DiskReads D.Disk disk.old disk.new 2 }
     ensures quiet { OnOk result (D.faults disk.new ≡ D.faults disk.old) }
