@@ -13,6 +13,7 @@ Reads and edits the NTFS 3.1 volume in the file or block device IMAGE.
 
 Words:
   boot      prints the geometry of the volume
+  label     prints the name and the version of the volume
 
 An answer goes to standard output. The status is 0 where all was done, 2 for
 words that are not known, 3 where the volume is refused, 5 where standard output
