@@ -1,4 +1,4 @@
-//! `ntfs_shell`: reads and edits the image of an NTFS 3.1 volume.
+//! `ntfs_shell`: commands on the image of an NTFS 3.1 volume.
 #![tactic(auto)]
 
 mod boot;

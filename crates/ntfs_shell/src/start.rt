@@ -9,7 +9,7 @@ use vol_disk::{FileDisk, SECTOR, StdSink, StdSource};
 const HELP: &str = "\
 usage: ntfs_shell IMAGE WORDS
 
-Reads and edits the NTFS 3.1 volume in the file or block device IMAGE.
+Reads the NTFS 3.1 volume in the file or block device IMAGE.
 
 Words:
   boot      prints the geometry of the volume
