@@ -169,14 +169,8 @@ fn label_prints_any_name(rt: HostRuntime) -> Result<(), test::Fail> {
 
 #[test]
 fn label_makes_five_reads(rt: HostRuntime) -> Result<(), test::Fail> {
-    for (number, status, text) in [
-        (1, 6, ""),
-        (2, 6, ""),
-        (3, 6, ""),
-        (4, 6, ""),
-        (5, 6, ""),
-        (6, 0, TEXT),
-    ] {
+    for number in 1..=6 {
+        let (status, text) = if number == 6 { (0, TEXT) } else { (6, "") };
         let fail = Fail {
             kind: CallKind::Read,
             number,
