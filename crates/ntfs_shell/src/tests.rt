@@ -1,4 +1,6 @@
 //! Whole runs of the program, over a disk, a script and a sink in memory.
+mod label;
+
 use crate::shell::run_shell;
 use byteorder::{ByteOrder, LittleEndian};
 use std::alloc::{AllocError, Global};
