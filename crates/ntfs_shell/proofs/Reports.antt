@@ -13,8 +13,8 @@ reported_whole IsReport (refuses text) got got' is all = (refuses text, is, reco
 
 -- neither ending of a whole report blames a count
 blames_none : (report : Report) (old new : World) → new.disk_faults ≡ old.disk_faults → new.source_faults ≡ old.source_faults → new.sink_faults ≡ old.sink_faults → Blames (ending_of report) old new
-blames_none (says text) old new disk source sink = (disk, source, sink)
-blames_none (refuses text) old new disk source sink = (disk, source, sink)
+blames_none (says text) old new disk source sink = record { disk = disk; source = source; sink = sink }
+blames_none (refuses text) old new disk source sink = record { disk = disk; source = source; sink = sink }
 
 -- what is shown answers the word, where it is the report of the image
 pub ends_shown : (Reports : List ℕ → Report → Type 0) (reads : ℕ) (report : Report) (given : Ending) (old new : World)

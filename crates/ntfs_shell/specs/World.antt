@@ -46,13 +46,22 @@ pub record OnlyReads (old new : World) : Type 0 where
   pub left : new.left ≡ old.left
   pub source_faults : new.source_faults ≡ old.source_faults
 
+-- no count of faults rose
+pub record NoFaults (old new : World) : Type 0 where
+  pub disk : new.disk_faults ≡ old.disk_faults
+  pub source : new.source_faults ≡ old.source_faults
+  pub sink : new.sink_faults ≡ old.sink_faults
+
 -- The count that rose says how a run ended: the disk's by `Device`, the sink's by `Sink`, the
 -- source's by `Source`, and none by another.
 abbrev pub Blames : Ending → World → World → Type 0
-Blames ending.Done old new = (new.disk_faults ≡ old.disk_faults) × (new.source_faults ≡ old.source_faults) × (new.sink_faults ≡ old.sink_faults)
-Blames ending.Refused old new = (new.disk_faults ≡ old.disk_faults) × (new.source_faults ≡ old.source_faults) × (new.sink_faults ≡ old.sink_faults)
-Blames ending.Source old new = (new.disk_faults ≡ old.disk_faults) × Rose old.source_faults new.source_faults × (new.sink_faults ≡ old.sink_faults)
-Blames ending.Sink old new = (new.disk_faults ≡ old.disk_faults) × (new.source_faults ≡ old.source_faults) × Rose old.sink_faults new.sink_faults
-Blames ending.Device old new = Rose old.disk_faults new.disk_faults × (new.source_faults ≡ old.source_faults) × (new.sink_faults ≡ old.sink_faults)
-Blames ending.Memory old new = (new.disk_faults ≡ old.disk_faults) × (new.source_faults ≡ old.source_faults) × (new.sink_faults ≡ old.sink_faults)
-Blames ending.TooMuch old new = (new.disk_faults ≡ old.disk_faults) × (new.source_faults ≡ old.source_faults) × (new.sink_faults ≡ old.sink_faults)
+Blames ending.Done old new = NoFaults old new
+Blames ending.Refused old new = NoFaults old new
+Blames ending.Source old new =
+    (new.disk_faults ≡ old.disk_faults) × Rose old.source_faults new.source_faults × (new.sink_faults ≡ old.sink_faults)
+Blames ending.Sink old new =
+    (new.disk_faults ≡ old.disk_faults) × (new.source_faults ≡ old.source_faults) × Rose old.sink_faults new.sink_faults
+Blames ending.Device old new =
+    Rose old.disk_faults new.disk_faults × (new.source_faults ≡ old.source_faults) × (new.sink_faults ≡ old.sink_faults)
+Blames ending.Memory old new = NoFaults old new
+Blames ending.TooMuch old new = NoFaults old new

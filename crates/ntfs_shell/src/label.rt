@@ -97,8 +97,8 @@ fn report_volume_at<D: Disk>(
     geometry: &Geometry,
 ) -> Result<Report, Stop>
     requires { FitsDisk geometry.now (D.size disk.old) }
-    ensures report { IfOk result (λ report. (image boot : List ℕ) → D.now disk.old ≡ Some image → geometry.now ≡ geometry_of boot →
-        TableReports (sector_in (Some image)) boot (report_of report)) }
+    ensures report { IfOk result (λ report. (image boot : List ℕ) →
+        D.now disk.old ≡ Some image → geometry.now ≡ geometry_of boot → TableReports (sector_in (Some image)) boot (report_of report)) }
 
     ensures reads { DiskReads D.Disk disk.old disk.new 4 }
     ensures quiet { OnOk result (D.faults disk.new ≡ D.faults disk.old) }
@@ -118,7 +118,8 @@ fn report_volume_at<D: Disk>(
 
 // What the disk says.
 fn report_label<D: Disk>(alloc: Global, disk: &mut D) -> Result<Report, Stop>
-    ensures report { IfOk result (λ report. (image : List ℕ) → D.now disk.old ≡ Some image → LabelReports image (report_of report)) }
+    ensures report { IfOk result (λ report. (image : List ℕ) →
+        D.now disk.old ≡ Some image → LabelReports image (report_of report)) }
 
     ensures reads { DiskReads D.Disk disk.old disk.new 5 }
     ensures quiet { OnOk result (D.faults disk.new ≡ D.faults disk.old) }

@@ -12,6 +12,12 @@ use crate::words::{Asked, read_words};
 use std::alloc::Global;
 use vol_disk::{Disk, Sink, Source};
 
+/// The status where the words are not known.
+pub const UNKNOWN_WORDS: u8 = 2;
+
+/// The status of a word that is not built yet.
+pub const NOT_BUILT: u8 = 9;
+
 /// Does what the words ask for, and gives the status of the program: 0 done, 2 unknown words, 3 the
 /// volume was refused, 5 the output failed, 6 the disk failed, 7 memory ran out, 9 a word that is not
 /// built yet.
@@ -40,7 +46,7 @@ pub fn run_shell<D: Disk, S: Source, K: Sink>(
     match read_words(words) {
         Asked::Boot => boot(disk, script, out).status(),
         Asked::Label => label(alloc, disk, script, out).status(),
-        Asked::Unbuilt => 9,
-        Asked::Unknown => 2,
+        Asked::Unbuilt => NOT_BUILT,
+        Asked::Unknown => UNKNOWN_WORDS,
     }
 }

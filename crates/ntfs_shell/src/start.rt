@@ -1,5 +1,6 @@
 //! The edge of the program: its arguments, the image's file and the standard streams.
-use crate::shell::run_shell;
+use crate::ending::Ending;
+use crate::shell::{UNKNOWN_WORDS, run_shell};
 use std::fs::{File, OpenOptions};
 use std::io::{ErrorKind, Seek, SeekFrom};
 use std::rt::{Env, Files};
@@ -26,14 +27,6 @@ for a word that is not built yet.
 
 const VERSION: &str = "ntfs_shell 0.1.0\n";
 
-const WRONG_WORDS: u8 = 2;
-
-const OUTPUT_FAILED: u8 = 5;
-
-const IMAGE_FAILED: u8 = 6;
-
-const NO_MEMORY: u8 = 7;
-
 // The image as a disk. A block device tells its length like a file, by its end.
 fn open_image<R: Files<File = File>>(rt: &R, image: &str) -> io::Result<FileDisk> {
     let mut file = OpenOptions::new().read(true).write(true).open(rt, image)?;
@@ -43,8 +36,8 @@ fn open_image<R: Files<File = File>>(rt: &R, image: &str) -> io::Result<FileDisk
 
 fn print_text(rt: &impl Print, text: &str) -> u8 {
     match rt.print(text) {
-        Ok(()) => 0,
-        Err(_) => OUTPUT_FAILED,
+        Ok(()) => Ending::Done.status(),
+        Err(_) => Ending::Sink.status(),
     }
 }
 
@@ -61,13 +54,13 @@ where
         Ok(disk) => disk,
         Err(error) => {
             let _ = rt.eprintln(format_args!("ntfs_shell: cannot open {image}: {error}"));
-            return IMAGE_FAILED;
+            return Ending::Device.status();
         }
     };
     let mut script = StdSource::new(rt.reader());
     let mut out = StdSink::new(io::writer(rt));
     let status = run_shell(rt.alloc(), words, &mut disk, &mut script, &mut out);
-    if status == WRONG_WORDS {
+    if status == UNKNOWN_WORDS {
         complain(rt, "unknown words; see ntfs_shell --help");
     }
     status
@@ -87,11 +80,11 @@ where
         Ok(arguments) => arguments,
         Err(error) if error.kind() == ErrorKind::OutOfMemory => {
             complain(rt, "out of memory");
-            return NO_MEMORY;
+            return Ending::Memory.status();
         }
         Err(_) => {
             complain(rt, "an argument is no text");
-            return WRONG_WORDS;
+            return UNKNOWN_WORDS;
         }
     };
     match arguments.as_slice() {
@@ -100,7 +93,7 @@ where
         [_, image, words @ ..] => run_image(rt, image, words),
         _ => {
             complain(rt, "no image; see ntfs_shell --help");
-            WRONG_WORDS
+            UNKNOWN_WORDS
         }
     }
 }
