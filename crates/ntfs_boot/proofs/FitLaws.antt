@@ -11,7 +11,8 @@ by_cluster_size P one two four eight per (inr (inr (inl is))) = subst P (sym is)
 by_cluster_size P one two four eight per (inr (inr (inr is))) = subst P (sym is) eight
 
 -- the clusters lie on the disk, where the sectors of the volume do
-pub clusters_on_disk : (per total sectors : ℕ) → HasClusterSize per → total ≤ sectors → total / per * (512 * per) ≤ 512 * sectors
+pub clusters_on_disk : (per total sectors : ℕ) → HasClusterSize per → total ≤ sectors
+    → total / per * (512 * per) ≤ 512 * sectors
 clusters_on_disk per total sectors size low =
     by_cluster_size (λ n. total / n * (512 * n) ≤ 512 * sectors) (omega arith) (omega arith) (omega arith) (omega arith) per size
 
@@ -19,7 +20,8 @@ clusters_on_disk per total sectors size low =
 pub cluster_whole : (per : ℕ) → HasClusterSize per → ((512 * per) % 512 ≡ 0) × HasClusterSize (512 * per / 512)
 cluster_whole per size = by_cluster_size (λ n. ((512 * n) % 512 ≡ 0) × HasClusterSize (512 * n / 512)) (refl, inl refl) (refl, inr (inl refl)) (refl, inr (inr (inl refl))) (refl, inr (inr (inr refl))) per size
 
-pub fits_disk : (geometry : Geometry) (per sectors : ℕ) → HasClusterSize per → geometry.cluster ≡ 512 * per → geometry.clusters ≡ geometry.sectors / per
+pub fits_disk : (geometry : Geometry) (per sectors : ℕ) → HasClusterSize per → geometry.cluster ≡ 512 * per
+    → geometry.clusters ≡ geometry.sectors / per
     → geometry.sectors ≤ sectors → geometry.clusters ≤ 2 ^ 26 → geometry.mft < geometry.clusters → geometry.mirror < geometry.clusters → FitsDisk geometry sectors
 fits_disk geometry per sectors size cluster clusters low few mft mirror = record {
   cluster = rw cluster (cluster_whole per size);

@@ -15,7 +15,8 @@ AreBytes xs = (k : ℕ) → get_or xs k 0 < 256
 low_byte : (a b : List ℕ) (at : ℕ) → AreBytes a → AreBytes b → u16_at a at ≡ u16_at b at → get_or a at 0 ≡ get_or b at 0
 low_byte a b at bytes_a bytes_b same = omega (arith, bytes_a at, bytes_b at, same)
 
-high_byte : (a b : List ℕ) (at : ℕ) → AreBytes a → AreBytes b → u16_at a at ≡ u16_at b at → get_or a (at + 1) 0 ≡ get_or b (at + 1) 0
+high_byte : (a b : List ℕ) (at : ℕ) → AreBytes a → AreBytes b → u16_at a at ≡ u16_at b at
+    → get_or a (at + 1) 0 ≡ get_or b (at + 1) 0
 high_byte a b at bytes_a bytes_b same = omega (arith, bytes_a at, bytes_b at, same)
 
 two_bytes : (a b : List ℕ) (at k : ℕ) → AreBytes a → AreBytes b → u16_at a at ≡ u16_at b at

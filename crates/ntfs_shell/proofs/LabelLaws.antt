@@ -19,7 +19,8 @@ use Rattle.ntfs_shell.proofs.Boots.{sectors_told}
 use Rattle.ntfs_shell.proofs.TableLaws.{first_sector}
 
 -- no layout by the opened record is none by the stored one
-pub none-stored : {E : Type 0} (found : Result (Option Table) E) (geometry : Geometry) (stored opened : List ℕ) → opened ≡ opened_of stored
+pub none-stored : {E : Type 0} (found : Result (Option Table) E) (geometry : Geometry) (stored opened : List ℕ)
+    → opened ≡ opened_of stored
     → IfOk found (λ table. IfNone table ((layout : Layout) → ¬ (IsTable geometry.mft geometry.cluster geometry.clusters opened layout)))
     → IfOk found (λ table. IfNone table ((layout : Layout) → ¬ (HasTable geometry stored layout)))
 none-stored (Ok None) geometry stored opened is none =
@@ -28,7 +29,8 @@ none-stored (Ok (Some table)) geometry stored opened is none = tt
 none-stored (Err e) geometry stored opened is none = tt
 
 -- the two sectors that were read are record 0 as it is stored
-pub first_record-read : (now : Option (List ℕ)) (image stored boot : List ℕ) (geometry : Geometry) (sector : ℕ) → now ≡ Some image
+pub first_record-read : (now : Option (List ℕ)) (image stored boot : List ℕ) (geometry : Geometry) (sector : ℕ)
+    → now ≡ Some image
     → (IsTold now → stored ≡ two_sectors (sector_in now) sector) → sector ≡ geometry.mft * (geometry.cluster / 512) → geometry ≡ geometry_of boot
     → stored ≡ first_record (sector_in (Some image)) boot
 first_record-read now image stored boot geometry sector told read place is =
@@ -47,7 +49,8 @@ reports-table now now' (Ok report) geometry layout said same meets =
 reports-table now now' (Err stop) geometry layout said same meets = tt
 
 -- the boot clause of the sector that was read is that of the image
-failing-read : (now : Option (List ℕ)) (image sector : List ℕ) (size : ℕ) (failing : Option ℕ) → IfSome now (λ all. length all ≡ 512 * size) → now ≡ Some image
+failing-read : (now : Option (List ℕ)) (image sector : List ℕ) (size : ℕ) (failing : Option ℕ)
+    → IfSome now (λ all. length all ≡ 512 * size) → now ≡ Some image
     → sector ≡ boot_sector image → boot_failing sector size ≡ failing → boot_failing (boot_sector image) (length image / 512) ≡ failing
 failing-read now image sector size failing len told read fails =
     sym (ap (λ (n : ℕ). boot_failing sector n) (sectors_told now image size len told) ∙ ap (λ (s : List ℕ). boot_failing s (length image / 512)) read) ∙ fails
@@ -67,7 +70,8 @@ reports-volume now now' (Ok report) sector size geometry said same len read fail
 reports-volume now now' (Err stop) sector size geometry said same len read fails is = tt
 
 -- where it does not, its number is told
-pub reports-refused : (now : Option (List ℕ)) (image sector : List ℕ) (size number : ℕ) (report : Report) → IfSome now (λ all. length all ≡ 512 * size) → now ≡ Some image
+pub reports-refused : (now : Option (List ℕ)) (image sector : List ℕ) (size number : ℕ) (report : Report)
+    → IfSome now (λ all. length all ≡ 512 * size) → now ≡ Some image
     → sector ≡ boot_sector image → boot_failing sector size ≡ Some number → report ≡ refuses (refusal_text 1 number) → LabelReports image report
 reports-refused now image sector size number report len told read fails is =
     subst (λ (o : Option ℕ). MatchOption o (TableReports (sector_in (Some image)) (boot_sector image) report) (λ n. report ≡ refuses (refusal_text 1 n)))

@@ -12,7 +12,8 @@ use Rattle.ntfs_shell.specs.Label.{LabelReports, RecordReports, TableReports}
 use Rattle.ntfs_shell.specs.Report.{Report, refuses}
 use Rattle.ntfs_shell.specs.Text.{refusal_text}
 
-layout-exact : (one other : Layout) → one.cluster_sectors ≡ other.cluster_sectors → one.runs ≡ other.runs → one.initialized ≡ other.initialized → one ≡ other
+layout-exact : (one other : Layout) → one.cluster_sectors ≡ other.cluster_sectors → one.runs ≡ other.runs
+    → one.initialized ≡ other.initialized → one ≡ other
 layout-exact one other sectors runs initialized =
     let made : ℕ → List Run → ℕ → Layout = λ s r i. record { cluster_sectors = s; runs = r; initialized = i } in
     ap (λ s. made s one.runs one.initialized) sectors
@@ -20,7 +21,8 @@ layout-exact one other sectors runs initialized =
     ∙ ap (λ i. made other.cluster_sectors other.runs i) initialized
 
 -- record 0 tells one layout
-IsTable-exact : (mft size clusters : ℕ) (record_0 : List ℕ) (one other : Layout) → IsTable mft size clusters record_0 one → IsTable mft size clusters record_0 other → one ≡ other
+IsTable-exact : (mft size clusters : ℕ) (record_0 : List ℕ) (one other : Layout)
+    → IsTable mft size clusters record_0 one → IsTable mft size clusters record_0 other → one ≡ other
 IsTable-exact mft size clusters record_0 one other a b =
     let streams : a.stream ≡ b.stream = let mine = a.only in let yours = b.only in cc in
     let bodies : NonResident a.extent a.text ≡ NonResident b.extent b.text = sym a.body ∙ ap (λ (s : Attribute). s.body) streams ∙ b.body in
@@ -38,7 +40,8 @@ one-record stored a b (inl x) (inr y) = absurd (y.0 x.0)
 one-record stored a b (inr x) (inl y) = absurd (x.0 y.0)
 one-record stored a b (inr x) (inr y) = x.1 ∙ sym y.1
 
-one-table : (disk : ℕ → List ℕ) (boot : List ℕ) (a b : Report) → TableReports disk boot a → TableReports disk boot b → a ≡ b
+one-table : (disk : ℕ → List ℕ) (boot : List ℕ) (a b : Report) → TableReports disk boot a
+    → TableReports disk boot b → a ≡ b
 one-table disk boot a b (inl (one, meets, said)) (inl (other, meets', said')) =
     let same : one ≡ other = IsTable-exact _ _ _ _ one other meets.table meets'.table in
     one-record _ a b (subst (λ (l : Layout). RecordReports (block_of disk l 3) a) same said) said'

@@ -7,12 +7,15 @@ use Rattle.ntfs_shell.specs.Shown.{Shown}
 use Rattle.ntfs_shell.specs.World.{World, OnlyReads, Blames}
 
 -- a report that was printed whole
-reported_whole : (IsReport : Report → Type 0) (report : Report) (got got' : Option (List ℕ)) → IsReport report → Appended got (text_of report) got' → Reported IsReport (ending_of report) got got'
+reported_whole : (IsReport : Report → Type 0) (report : Report) (got got' : Option (List ℕ)) → IsReport report
+    → Appended got (text_of report) got' → Reported IsReport (ending_of report) got got'
 reported_whole IsReport (says text) got got' is all = (says text, is, record { ends = refl; text = all })
 reported_whole IsReport (refuses text) got got' is all = (refuses text, is, record { ends = refl; text = all })
 
 -- neither ending of a whole report blames a count
-blames_none : (report : Report) (old new : World) → new.disk_faults ≡ old.disk_faults → new.source_faults ≡ old.source_faults → new.sink_faults ≡ old.sink_faults → Blames (ending_of report) old new
+blames_none : (report : Report) (old new : World) → new.disk_faults ≡ old.disk_faults
+    → new.source_faults ≡ old.source_faults → new.sink_faults ≡ old.sink_faults
+    → Blames (ending_of report) old new
 blames_none (says text) old new disk source sink = record { disk = disk; source = source; sink = sink }
 blames_none (refuses text) old new disk source sink = record { disk = disk; source = source; sink = sink }
 
@@ -26,11 +29,11 @@ ends_shown Reports reads report given old new (inl printed) only few quiet is = 
   causes = blames_none report old new quiet only.source_faults printed.quiet;
   only_reads = only;
   fetched = few;
-  reported = λ image told. reported_whole (Reports image) report old.got new.got (is image told) printed.all;
+  reported = reported_whole (λ r. (image : List ℕ) → old.now ≡ Some image → Reports image r) report old.got new.got is printed.all;
 })
 ends_shown Reports reads report given old new (inr cut) only few quiet is = rw cut.ends (record {
   causes = (quiet, only.source_faults, cut.rose);
   only_reads = only;
   fetched = few;
-  reported = λ image told. (report, is image told, cut.part);
+  reported = (report, is, cut.part);
 })

@@ -10,12 +10,14 @@ use Rattle.ntfs_def.specs.Attribute.{Attribute, value_of}
 use Rattle.ntfs_def.specs.Volume.{first_value}
 
 -- an element of a list begins what is left of it there
-pub drop-slice_get : {X : Type 0} (xs : List X) (i : ℕ) (x : X) → slice_get xs i ≡ Some x → drop i xs ≡ x ∷ drop (i + 1) xs
+pub drop-slice_get : {X : Type 0} (xs : List X) (i : ℕ) (x : X) → slice_get xs i ≡ Some x
+    → drop i xs ≡ x ∷ drop (i + 1) xs
 drop-slice_get xs i x e =
     drop_more xs i x (slice_get_within xs i x e) ∙ ap (λ y. y ∷ drop (i + 1) xs) (get_or_from_slice_get xs i x x e)
 
 -- an element that breaks a rule
-pub All-broken : {X : Type 0} (P : X → Type 0) (xs : List X) (i : ℕ) (x : X) → slice_get xs i ≡ Some x → (P x → ⊥) → All P xs → ⊥
+pub All-broken : {X : Type 0} (P : X → Type 0) (xs : List X) (i : ℕ) (x : X) → slice_get xs i ≡ Some x → (P x → ⊥)
+    → All P xs → ⊥
 All-broken P xs i x e broken all =
     broken (subst P (get_or_from_slice_get xs i x x e) (all i x (slice_get_within xs i x e)))
 
@@ -35,7 +37,8 @@ same_alone true attribute rest value e = e
 same_alone false attribute rest value e = cc
 
 -- and that of the rest, where the test asks for a value and the first one gives none
-same_rest : (passes : Bool) (attribute : Attribute) (rest : Option Attribute) (given : Option (List ℕ)) → value_of attribute.body ≡ given
+same_rest : (passes : Bool) (attribute : Attribute) (rest : Option Attribute) (given : Option (List ℕ))
+    → value_of attribute.body ≡ given
     → value_in (cond (passes && is_some given) (Some attribute) None) ≡ None
     → value_in (cond (passes && is_some given) (Some attribute) rest) ≡ value_in rest
 same_rest false attribute rest given is e = refl
@@ -54,13 +57,15 @@ first_value-past kind attribute rest e =
     same_rest ((attribute.kind == kind) && (length attribute.name == 0)) attribute _ (value_of attribute.body) refl e
 
 -- what a filter leaves of a list from an element on that passes, and from one that does not
-pub filter-passes : {X : Type 0} (test : X → Bool) (xs : List X) (i : ℕ) (x : X) → slice_get xs i ≡ Some x → test x ≡ true
+pub filter-passes : {X : Type 0} (test : X → Bool) (xs : List X) (i : ℕ) (x : X) → slice_get xs i ≡ Some x
+    → test x ≡ true
     → filter test (drop i xs) ≡ x ∷ filter test (drop (i + 1) xs)
 filter-passes test xs i x read e =
     let rest = drop (i + 1) xs in
     ap (filter test) (drop-slice_get xs i x read) ∙ ap (λ b. cond b (x ∷ filter test rest) (filter test rest)) e
 
-pub filter-other : {X : Type 0} (test : X → Bool) (xs : List X) (i : ℕ) (x : X) → slice_get xs i ≡ Some x → test x ≡ false
+pub filter-other : {X : Type 0} (test : X → Bool) (xs : List X) (i : ℕ) (x : X) → slice_get xs i ≡ Some x
+    → test x ≡ false
     → filter test (drop i xs) ≡ filter test (drop (i + 1) xs)
 filter-other test xs i x read e =
     let rest = drop (i + 1) xs in

@@ -9,11 +9,13 @@ use Rattle.data_runs.specs.declared.RunFault.{RunFault}
 use Rattle.data_runs.specs.declared.RunFault.TheVariants.{Memory, Cut, ZeroLength, Wide, Negative}
 use Rattle.data_runs.specs.Refused.{Refuses}
 
-never_both : (text : List ℕ) (runs : List Run) (rule : RunRule) (place : ℕ) → MeansRuns text runs → FirstBadRun text rule place → ⊥
+never_both : (text : List ℕ) (runs : List Run) (rule : RunRule) (place : ℕ) → MeansRuns text runs
+    → FirstBadRun text rule place → ⊥
 never_both text runs rule place means bad = MeansFrom-BreaksAfter text 0 0 0 runs bad.0 rule place means bad.1
 
 -- a text that is refused for what it says means no runs
-pub refused-MeansRuns : (text : List ℕ) (fault : RunFault) (runs : List Run) → Refuses text fault → fault ≢ Memory → MeansRuns text runs → ⊥
+pub refused-MeansRuns : (text : List ℕ) (fault : RunFault) (runs : List Run) → Refuses text fault
+    → fault ≢ Memory → MeansRuns text runs → ⊥
 refused-MeansRuns text Memory runs bad other means = other refl
 refused-MeansRuns text (Cut place) runs bad other means = never_both text runs _ place means bad
 refused-MeansRuns text (ZeroLength place) runs bad other means = never_both text runs _ place means bad

@@ -45,4 +45,6 @@ TableReports disk boot report =
 -- by the image
 abbrev pub LabelReports : List ℕ → Report → Type 0
 LabelReports image report = let boot = boot_sector image in
-    MatchOption (boot_failing boot (length image / 512)) (TableReports (sector_in (Some image)) boot report) (λ number. report ≡ refuses (refusal_text 1 number))
+    MatchOption (boot_failing boot (length image / 512))
+    (TableReports (sector_in (Some image)) boot report)
+    (λ number. report ≡ refuses (refusal_text 1 number))

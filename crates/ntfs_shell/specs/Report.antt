@@ -42,7 +42,7 @@ pub record ReportEnds (Reports : List ℕ → Report → Type 0) (reads : ℕ) (
   pub causes : Blames ending old new
   pub only_reads : OnlyReads old new
   pub fetched : new.fetched ≤ old.fetched + reads
-  pub reported : (image : List ℕ) → old.now ≡ Some image → Reported (Reports image) ending old.got new.got
+  pub reported : Reported (λ report. (image : List ℕ) → old.now ≡ Some image → Reports image report) ending old.got new.got
 
 -- the status is that of such an ending
 abbrev pub AnswersReport : (List ℕ → Report → Type 0) → ℕ → World → ℕ → World → Type 0

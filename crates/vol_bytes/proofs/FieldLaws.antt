@@ -20,7 +20,8 @@ SameOutside-written old front at n fits len =
     }
 
 -- what a write through `&mut bytes[at..]` leaves
-put_mid-front : (old front part : List ℕ) (at k n : ℕ) → at + k ≡ length old → part ≡ front ++ drop n (take k (drop at old))
+put_mid-front : (old front part : List ℕ) (at k n : ℕ) → at + k ≡ length old
+    → part ≡ front ++ drop n (take k (drop at old))
     → put_mid at k old part ≡ take at old ++ (front ++ drop (at + n) old)
 put_mid-front old front part at k n whole written =
     let t : take k (drop at old) ≡ drop at old = take_all k (drop at old) (simp length-drop (omega arith)) in
@@ -33,19 +34,22 @@ SameOutside-put_mid old front part at k n whole fits len written =
     rw (put_mid-front old front part at k n whole written) (SameOutside-written old front at n (omega arith) len)
 
 -- a field reads its own bytes alone
-pub u16_at-same : (a b : List ℕ) (at : ℕ) → ((k : ℕ) → at ≤ k → k < at + 2 → get_or b k 0 ≡ get_or a k 0) → u16_at b at ≡ u16_at a at
+pub u16_at-same : (a b : List ℕ) (at : ℕ) → ((k : ℕ) → at ≤ k → k < at + 2 → get_or b k 0 ≡ get_or a k 0)
+    → u16_at b at ≡ u16_at a at
 u16_at-same a b at same =
     let low = same at (omega arith) (omega arith) in
     let high = same (at + 1) (omega arith) (omega arith) in
     omega arith
 
-pub u32_at-same : (a b : List ℕ) (at : ℕ) → ((k : ℕ) → at ≤ k → k < at + 4 → get_or b k 0 ≡ get_or a k 0) → u32_at b at ≡ u32_at a at
+pub u32_at-same : (a b : List ℕ) (at : ℕ) → ((k : ℕ) → at ≤ k → k < at + 4 → get_or b k 0 ≡ get_or a k 0)
+    → u32_at b at ≡ u32_at a at
 u32_at-same a b at same =
     let low = u16_at-same a b at (λ k from to. same k from (omega arith)) in
     let high = u16_at-same a b (at + 2) (λ k from to. same k (omega arith) (omega arith)) in
     omega arith
 
-pub u64_at-same : (a b : List ℕ) (at : ℕ) → ((k : ℕ) → at ≤ k → k < at + 8 → get_or b k 0 ≡ get_or a k 0) → u64_at b at ≡ u64_at a at
+pub u64_at-same : (a b : List ℕ) (at : ℕ) → ((k : ℕ) → at ≤ k → k < at + 8 → get_or b k 0 ≡ get_or a k 0)
+    → u64_at b at ≡ u64_at a at
 u64_at-same a b at same =
     let low = u32_at-same a b at (λ k from to. same k from (omega arith)) in
     let high = u32_at-same a b (at + 4) (λ k from to. same k (omega arith) (omega arith)) in

@@ -23,10 +23,13 @@ name_text-unit (unit ∷ next ∷ units) some lone =
     let apart = lone (omega arith) in rw apart refl
 
 -- a text with the front of the units behind it
-pub printed-front : (old new front units : List ℕ) (n : ℕ) → new ≡ old ++ front → name_text units ≡ front ++ name_text (drop n units) → new ++ name_text (drop n units) ≡ old ++ name_text units
+pub printed-front : (old new front units : List ℕ) (n : ℕ) → new ≡ old ++ front
+    → name_text units ≡ front ++ name_text (drop n units)
+    → new ++ name_text (drop n units) ≡ old ++ name_text units
 printed-front old new front units n pushed is = rw (pushed, is) (append_assoc old front (name_text (drop n units)))
 
 -- when all units are printed
-pub printed-all : (text units : List ℕ) (at : ℕ) → length units ≤ at → text ++ name_text (drop at units) ≡ name_text units → text ≡ name_text units
+pub printed-all : (text units : List ℕ) (at : ℕ) → length units ≤ at
+    → text ++ name_text (drop at units) ≡ name_text units → text ≡ name_text units
 unfolding name_text
 printed-all text units at done is = sym (append-nil text) ∙ rw (drop_all at units done) at is

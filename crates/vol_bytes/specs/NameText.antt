@@ -5,7 +5,9 @@ use Rattle.std.specs.Char.Utf16.{is_high_surrogate, is_low_surrogate, surrogate_
 -- the units that are not printed as they are: those up to the space, `%`, `/`, `:`, DEL, and
 -- surrogates, where they stand without a partner
 abbrev pub is_escaped : ℕ → Bool
-is_escaped unit = nat_le unit 0x20 || (unit == 0x25) || (unit == 0x2F) || (unit == 0x3A) || (unit == 0x7F) || is_high_surrogate unit || is_low_surrogate unit
+is_escaped unit =
+    nat_le unit 0x20 || (unit == 0x25) || (unit == 0x2F) || (unit == 0x3A) || (unit == 0x7F)
+    || is_high_surrogate unit || is_low_surrogate unit
 
 -- a digit of an escape
 abbrev pub escape_digit : ℕ → ℕ
@@ -13,7 +15,8 @@ escape_digit value = slice_index (codes "0123456789ABCDEF") value
 
 -- `%` and four upper-case hexadecimal digits
 abbrev pub escape_of : ℕ → List ℕ
-escape_of unit = 0x25 ∷ escape_digit (unit / 4096) ∷ escape_digit (unit / 256 % 16) ∷ escape_digit (unit / 16 % 16) ∷ escape_digit (unit % 16) ∷ []
+escape_of unit =
+    0x25 ∷ escape_digit (unit / 4096) ∷ escape_digit (unit / 256 % 16) ∷ escape_digit (unit / 16 % 16) ∷ escape_digit (unit % 16) ∷ []
 
 -- a unit that is not the first of a pair
 abbrev pub printed_unit : ℕ → List ℕ

@@ -4,7 +4,7 @@ ghost use Rattle.std.specs.Prelude.{◌≡◌, List, ℕ};
 use std::marker::Model;
 
 /// The UTF-16 units of a name.
-#[derive(Drop)]
+#[derive(Debug, Drop)]
 pub struct Name {
     units: Vec<u16>,
 }
@@ -32,7 +32,7 @@ impl Name {
 }
 
 /// A sequence of bytes.
-#[derive(Drop)]
+#[derive(Debug, Drop)]
 pub struct Octets {
     bytes: Vec<u8>,
 }
