@@ -98,7 +98,8 @@ fn report_volume_at<D: Disk>(
 ) -> Result<Report, Stop>
     requires { FitsDisk geometry.now (D.size disk.old) }
     ensures report { IfOk result (λ report. (image boot : List ℕ) →
-        D.now disk.old ≡ Some image → geometry.now ≡ geometry_of boot → TableReports (sector_in (Some image)) boot (report_of report)) }
+        D.now disk.old ≡ Some image → geometry.now ≡ geometry_of boot →
+        TableReports (sector_in (Some image)) boot (report_of report)) }
 
     ensures reads { DiskReads D.Disk disk.old disk.new 4 }
     ensures quiet { OnOk result (D.faults disk.new ≡ D.faults disk.old) }

@@ -232,7 +232,8 @@ impl Disk for MemDisk {
         ensures size { (shown self.new).sectors ≡ (shown self.old).sectors }
         ensures now { OnOk result (contents_of self.new ≡ with_sector (contents_of self.old) sector from.now) }
         ensures here { OnOk result (sector_in (Some (contents_of self.new)) sector ≡ from.now) }
-        ensures other { (m : ℕ) → m ≢ sector → sector_in (Some (contents_of self.new)) m ≡ sector_in (Some (contents_of self.old)) m }
+        ensures other { (m : ℕ) → m ≢ sector →
+            sector_in (Some (contents_of self.new)) m ≡ sector_in (Some (contents_of self.old)) m }
         ensures settled { settled_of self.new ≡ settled_of self.old }
     {
         self.counts.begin_write();
