@@ -6,6 +6,7 @@ pub mod Counting
 pub mod MemDisks
 pub mod Plan
 pub mod FailDisks
+pub mod FileDisks
 pub mod Listing
 pub mod MemStreams
 pub mod Passing

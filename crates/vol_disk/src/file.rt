@@ -1,5 +1,5 @@
 //! A disk over a file or a block device.
-ghost use Rattle.std.specs.Prelude.{◌≡◌, ◌^◌, ◌<◌, ◌≤◌, None, OnOk, OnErr};
+ghost use Rattle.std.specs.Prelude.{◌≡◌, ◌^◌, ◌<◌, ◌≤◌, None, OnOk, OnErr, is_ok};
 ghost use Rattle.vol_disk.specs.Count.{raised};
 
 use crate::counts::Counts;
@@ -65,6 +65,9 @@ fn offset_of(sector: u64) -> u64
 }
 
 impl Disk for FileDisk {
+    ghost use Rattle.vol_disk.specs.Counting.{after_call, after_read, after_write};
+    ghost use Rattle.vol_disk.specs.FileDisks.{counts_of, sectors_of};
+
     ghost now = { λ _. None };
 
     ghost settled = { λ _. None };
@@ -87,7 +90,13 @@ impl Disk for FileDisk {
         self.sectors
     }
 
-    fn read(&mut self, sector: u64, into: &mut [u8; 512]) -> Result<(), Failed> {
+    fn read(&mut self, sector: u64, into: &mut [u8; 512]) -> Result<(), Failed>
+        requires { sector < sectors_of self.old }
+        ensures size { sectors_of self.new ≡ sectors_of self.old }
+        ensures counts { counts_of self.new ≡ after_read (is_ok result) (counts_of self.old) }
+        ensures fetched { (counts_of self.old).fetched ≤ (counts_of self.new).fetched }
+        ensures faults { (counts_of self.old).faults ≤ (counts_of self.new).faults }
+    {
         self.counts.fetch();
         match self.file.read_exact_at(into, offset_of(sector)) {
             Ok(()) => Ok(()),
@@ -95,7 +104,12 @@ impl Disk for FileDisk {
         }
     }
 
-    fn write(&mut self, sector: u64, from: &[u8; 512]) -> Result<(), Failed> {
+    fn write(&mut self, sector: u64, from: &[u8; 512]) -> Result<(), Failed>
+        requires { sector < sectors_of self.old }
+        ensures size { sectors_of self.new ≡ sectors_of self.old }
+        ensures counts { counts_of self.new ≡ after_write (is_ok result) (counts_of self.old) }
+        ensures faults { (counts_of self.old).faults ≤ (counts_of self.new).faults }
+    {
         self.counts.begin_write();
         self.is_synced = false;
         match self.file.write_all_at(from, offset_of(sector)) {
@@ -107,11 +121,19 @@ impl Disk for FileDisk {
         }
     }
 
-    fn barrier(&mut self) -> Result<(), Failed> {
+    fn barrier(&mut self) -> Result<(), Failed>
+        ensures size { sectors_of self.new ≡ sectors_of self.old }
+        ensures counts { counts_of self.new ≡ after_call (is_ok result) (counts_of self.old) }
+        ensures faults { (counts_of self.old).faults ≤ (counts_of self.new).faults }
+    {
         self.sync()
     }
 
-    fn settle(&mut self) -> Result<(), Failed> {
+    fn settle(&mut self) -> Result<(), Failed>
+        ensures size { sectors_of self.new ≡ sectors_of self.old }
+        ensures counts { counts_of self.new ≡ after_call (is_ok result) (counts_of self.old) }
+        ensures faults { (counts_of self.old).faults ≤ (counts_of self.new).faults }
+    {
         self.sync()
     }
 }

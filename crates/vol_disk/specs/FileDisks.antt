@@ -1,0 +1,12 @@
+-- What a disk over a file shows.
+use Rattle.std.specs.Prelude.{ℕ}
+use Rattle.vol_disk.specs.declared.counts.Counts.{Counts}
+use Rattle.vol_disk.specs.declared.file.FileDisk.{FileDisk}
+
+-- the number of sectors
+abbrev pub sectors_of : FileDisk → ℕ
+sectors_of disk = disk.sectors
+
+-- the calls that failed, and the others
+abbrev pub counts_of : FileDisk → Counts
+counts_of disk = disk.counts
