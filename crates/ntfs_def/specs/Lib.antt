@@ -7,5 +7,3 @@ pub mod Shape
 pub mod Packed
 pub mod Runs
 pub mod RunsWritten
-pub mod Table
-pub mod Volume

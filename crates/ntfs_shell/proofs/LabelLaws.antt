@@ -4,7 +4,7 @@ use Rattle.std.specs.Prelude.{IfNone, IfOk, IfSome, MatchOption}
 use Rattle.vol_disk.specs.Contents.{IsTold, sector_in}
 use Rattle.ntfs_def.specs.Boot.{boot_failing, boot_sector}
 use Rattle.ntfs_def.specs.Fixup.{opened_of}
-use Rattle.ntfs_def.specs.Table.{IsTable, Layout, MeetsTableClause, block_of, first_record, two_sectors}
+use Rattle.volume_def.specs.Table.{IsTable, Layout, MeetsTableClause, block_of, first_record, two_sectors}
 use Rattle.ntfs_boot.specs.declared.Geometry.{Geometry}
 use Rattle.ntfs_boot.specs.Geometry.{geometry_of}
 use Rattle.ntfs_shell.specs.declared.report.Report as code

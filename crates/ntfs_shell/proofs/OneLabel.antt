@@ -6,7 +6,7 @@ use Rattle.ntfs_def.specs.declared.run_text.Run.{Run}
 use Rattle.ntfs_def.specs.Attribute.{Attribute, NonResident}
 use Rattle.ntfs_def.specs.Boot.{boot_sector}
 use Rattle.ntfs_def.specs.Runs.{MeansRuns}
-use Rattle.ntfs_def.specs.Table.{IsTable, Layout, block_of}
+use Rattle.volume_def.specs.Table.{IsTable, Layout, block_of}
 use Rattle.ntfs_def.proofs.RunLaws.{MeansFrom-exact}
 use Rattle.ntfs_shell.specs.Label.{LabelReports, RecordReports, TableReports}
 use Rattle.ntfs_shell.specs.Report.{Report, refuses}
@@ -24,7 +24,7 @@ layout-exact one other sectors runs initialized =
 IsTable-exact : (mft size clusters : ℕ) (record_0 : List ℕ) (one other : Layout)
     → IsTable mft size clusters record_0 one → IsTable mft size clusters record_0 other → one ≡ other
 IsTable-exact mft size clusters record_0 one other a b =
-    let streams : a.stream ≡ b.stream = let mine = a.only in let yours = b.only in cc in
+    let streams : a.stream ≡ b.stream = let mine = a.holds.only in let yours = b.holds.only in cc in
     let bodies : NonResident a.extent a.text ≡ NonResident b.extent b.text = sym a.body ∙ ap (λ (s : Attribute). s.body) streams ∙ b.body in
     let extents : a.extent ≡ b.extent = cc in
     let texts : a.text ≡ b.text = cc in

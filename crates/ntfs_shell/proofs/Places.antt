@@ -9,7 +9,7 @@ use Rattle.ntfs_def.specs.declared.run_text.Run.{Run}
 use Rattle.ntfs_def.specs.declared.run_text.Spot.{Spot}
 use Rattle.ntfs_def.specs.declared.run_text.Spot.TheVariants.{Outside, Hole, At}
 use Rattle.ntfs_def.specs.Runs.{spot_in, spot_of}
-use Rattle.ntfs_def.specs.Table.{IsOnVolume, Layout, place_at, table_place}
+use Rattle.volume_def.specs.Table.{IsOnVolume, Layout, place_at, table_place}
 use Rattle.ntfs_def.proofs.SpotLaws.{spot_of-none, spot_of-first, spot_of-past}
 use Rattle.ntfs_shell.specs.Tables.{LiesOn}
 

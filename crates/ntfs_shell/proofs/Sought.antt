@@ -7,7 +7,7 @@ use Rattle.std.proofs.lemmas.Option.{slice_get_within, get_or_from_slice_get}
 use Rattle.std.proofs.lemmas.List.{drop_more}
 use Rattle.std.proofs.lemmas.List.Elements.{AllWithin-more}
 use Rattle.ntfs_def.specs.Attribute.{Attribute, value_of}
-use Rattle.ntfs_def.specs.Volume.{first_value}
+use Rattle.volume_def.specs.Volume.{first_value}
 
 -- an element of a list begins what is left of it there
 pub drop-slice_get : {X : Type 0} (xs : List X) (i : ℕ) (x : X) → slice_get xs i ≡ Some x

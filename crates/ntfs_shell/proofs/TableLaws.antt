@@ -4,7 +4,7 @@ use Rattle.std.proofs.lemmas.List.{length-take, drop_all}
 use Rattle.vol_disk.specs.Contents.{sector_in}
 use Rattle.ntfs_def.specs.Boot.{cluster_sectors, mft_cluster}
 use Rattle.ntfs_def.specs.Fixup.{opened_of}
-use Rattle.ntfs_def.specs.Table.{IsReadable, Layout, MeetsTableClause, first_record}
+use Rattle.volume_def.specs.Table.{IsReadable, Layout, MeetsTableClause, first_record}
 use Rattle.ntfs_def.proofs.FixupLaws.{length-opened_of}
 use Rattle.ntfs_def.proofs.ShapeLaws.{header_failing-length}
 use Rattle.ntfs_boot.specs.declared.Geometry.{Geometry}
@@ -50,7 +50,7 @@ lies_on geometry size stored layout fits has =
     let per : geometry.cluster / 512 ≡ layout.cluster_sectors = omega arith in
     let bounds = size_bounds layout.cluster_sectors (subst HasClusterSize per fits.cluster.1) in
     let whole : geometry.clusters * (512 * layout.cluster_sectors) ≤ 512 * size = subst (λ n. geometry.clusters * n ≤ 512 * size) (sym shown) fits.on_disk in
-    record { clusters = geometry.clusters; some = bounds.0; few = bounds.1; on_volume = has.table.on_volume; on_disk = omega (arith, whole) }
+    record { clusters = geometry.clusters; some = bounds.0; few = bounds.1; on_volume = has.table.placed.on_volume; on_disk = omega (arith, whole) }
 
 -- where record 0 begins, by the geometry
 pub first_sector : (geometry : Geometry) (boot : List ℕ) → geometry ≡ geometry_of boot

@@ -5,8 +5,9 @@ use Rattle.vol_disk.specs.Contents.{sector_in}
 use Rattle.ntfs_def.specs.Boot.{boot_sector, boot_failing}
 use Rattle.ntfs_def.specs.Fixup.{opened_of}
 use Rattle.ntfs_def.specs.Attribute.{Attribute, attributes}
-use Rattle.ntfs_def.specs.Table.{IsReadable, Layout, MeetsTableClause, block_of}
-use Rattle.ntfs_def.specs.Volume.{Version, first_value, label_units, version_in}
+use Rattle.volume_def.specs.Table.{IsReadable, Layout, MeetsTableClause, block_of}
+use Rattle.volume_def.specs.declared.Version.{Version}
+use Rattle.volume_def.specs.Volume.{first_value, label_units, version_in}
 use Rattle.ntfs_shell.specs.Report.{Report, says, refuses}
 use Rattle.ntfs_shell.specs.Text.{line_of, refusal_text}
 

@@ -1,13 +1,10 @@
 pub mod Boot
 pub mod Ending
 pub mod Label
-pub mod Reading
 pub mod Report
 pub mod Shown
 pub mod Stops
-pub mod TableParts
 pub mod Tables
 pub mod Text
-pub mod Versions
 pub mod Words
 pub mod World

@@ -1,7 +1,7 @@
 -- Where the table of records lies, as this program keeps it.
 use Rattle.std.specs.Prelude.{ℕ, List, ◌*◌, ◌<◌, ◌≤◌, All}
 use Rattle.ntfs_def.specs.Fixup.{opened_of}
-use Rattle.ntfs_def.specs.Table.{IsOnVolume, IsReadable, IsTable, Layout}
+use Rattle.volume_def.specs.Table.{IsOnVolume, IsReadable, IsTable, Layout}
 use Rattle.ntfs_boot.specs.declared.Geometry.{Geometry}
 use Rattle.ntfs_shell.specs.declared.table.Table.{Table}
 

@@ -11,6 +11,7 @@ use Rattle.ntfs_shell.specs.declared.ending.Ending.TheVariants as ending
 pub record World : Type 0 where
   pub now : Option (List ℕ)
   pub settled : Option (List (List ℕ))
+  pub fenced : Option (List ℕ)
   pub size : ℕ
   pub written : ℕ
   pub fetched : ℕ
@@ -25,6 +26,7 @@ abbrev pub world : {D S K : Type 0} → disk.Ghosts D → source.Ghosts S → si
 world d s k disk source sink = record {
   now = d.now disk;
   settled = d.settled disk;
+  fenced = d.fenced disk;
   size = d.size disk;
   written = d.written disk;
   fetched = d.fetched disk;
@@ -40,6 +42,7 @@ world d s k disk source sink = record {
 pub record OnlyReads (old new : World) : Type 0 where
   pub now : new.now ≡ old.now
   pub settled : new.settled ≡ old.settled
+  pub fenced : new.fenced ≡ old.fenced
   pub size : new.size ≡ old.size
   pub written : new.written ≡ old.written
   pub late : new.late ≡ old.late

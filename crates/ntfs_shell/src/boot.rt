@@ -1,8 +1,8 @@
 //! The word `boot`: the geometry of the volume.
-ghost use Rattle.std.specs.Prelude.{◌≡◌, ◌≢◌, ℕ, List, Some, IfOk, OnOk, OnErr};
+ghost use Rattle.std.specs.Prelude.{MatchResult, ◌≡◌, ◌≢◌, ℕ, List, Some, IfOk, OnOk, OnErr};
 ghost use Rattle.vol_disk.specs.Count.{Rose};
 ghost use Rattle.ntfs_def.specs.Boot.{boot_failing, boot_sector};
-ghost use Rattle.ntfs_shell.specs.Reading.{DiskReads};
+ghost use Rattle.vol_disk.specs.Reading.{DiskReads};
 ghost use Rattle.ntfs_shell.specs.World.{world};
 ghost use Rattle.ntfs_shell.specs.Report.{ReportEnds};
 ghost use Rattle.ntfs_shell.specs.Boot.{BootReports, boot_answer};
@@ -19,8 +19,7 @@ pub fn read_boot_sector<D: Disk>(disk: &mut D) -> Result<[u8; 512], Failed>
     ensures sector { IfOk result (λ sector. (image : List ℕ) → D.now disk.old ≡ Some image → sector ≡ boot_sector image) }
 
     ensures reads { DiskReads D.Disk disk.old disk.new 1 }
-    ensures quiet { OnOk result (D.faults disk.new ≡ D.faults disk.old) }
-    ensures cause { OnErr result (Rose (D.faults disk.old) (D.faults disk.new)) }
+    ensures faults { MatchResult result (λ _. D.faults disk.new ≡ D.faults disk.old) (λ _. Rose (D.faults disk.old) (D.faults disk.new)) }
 {
     let mut sector = [0; 512];
     if disk.sectors() > 0 {

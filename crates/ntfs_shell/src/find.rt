@@ -2,8 +2,8 @@
 ghost use Rattle.std.specs.Prelude.{◌≡◌, ◌≢◌, ◌==◌, ◌+◌, ◌<◌, [], ◌∷◌, All, Some, filter, drop, slice_get, IfNone, IfSome, IsFalse, ◌↔◌};
 ghost use Rattle.std.specs.Option.{option_copied};
 ghost use Rattle.ntfs_def.specs.Attribute.{Attribute};
-ghost use Rattle.ntfs_def.specs.Table.{is_data_extent};
-ghost use Rattle.ntfs_def.specs.Volume.{first_value};
+ghost use Rattle.volume_def.specs.Table.{is_data_extent};
+ghost use Rattle.volume_def.specs.Volume.{first_value};
 ghost use Rattle.attr_view.specs.View.{attribute_of, attributes_of};
 
 use attr_view::{AttrView, RecordView};

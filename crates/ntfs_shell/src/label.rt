@@ -1,13 +1,13 @@
 //! The word `label`: the name and the version of the volume.
-ghost use Rattle.std.specs.Prelude.{◌≡◌, ℕ, List, Some, IfOk, IfErr, IfNone, IfSome, OnOk, length, ◌≤◌, ◌^◌};
+ghost use Rattle.std.specs.Prelude.{MatchResult, ◌≡◌, ℕ, List, Some, IfOk, IfErr, IfNone, IfSome, OnOk, length, ◌≤◌, ◌^◌};
 ghost use Rattle.vol_disk.specs.Contents.{sector_in};
 ghost use Rattle.ntfs_def.specs.Fixup.{opened_of};
 ghost use Rattle.ntfs_def.specs.Record.{is_in_use};
-ghost use Rattle.ntfs_def.specs.Table.{IsReadable, Layout, block_of};
+ghost use Rattle.volume_def.specs.Table.{IsReadable, Layout, block_of};
 ghost use Rattle.ntfs_boot.specs.Geometry.{FitsDisk, geometry_of};
 ghost use Rattle.attr_view.specs.View.{record_of};
 ghost use Rattle.ntfs_shell.specs.Label.{LabelReports, RecordReports, TableReports};
-ghost use Rattle.ntfs_shell.specs.Reading.{DiskReads};
+ghost use Rattle.vol_disk.specs.Reading.{DiskReads};
 ghost use Rattle.ntfs_shell.specs.Shown.{report_of};
 ghost use Rattle.ntfs_shell.specs.Stops.{Stops};
 ghost use Rattle.ntfs_shell.specs.Tables.{HasTable, LiesOn, layout_of};
@@ -66,8 +66,7 @@ fn report_table<D: Disk>(alloc: Global, disk: &mut D, table: &Table) -> Result<R
         RecordReports (block_of (sector_in (Some image)) (layout_of table.now) 3) (report_of report)) }
 
     ensures reads { DiskReads D.Disk disk.old disk.new 2 }
-    ensures quiet { OnOk result (D.faults disk.new ≡ D.faults disk.old) }
-    ensures stops { IfErr result (Stops (D.faults disk.old) (D.faults disk.new)) }
+    ensures faults { MatchResult result (λ _. D.faults disk.new ≡ D.faults disk.old) (Stops (D.faults disk.old) (D.faults disk.new)) }
 {
     let mut block = [0; 1024];
     read_block(disk, table, 3, &mut block)?;
@@ -102,8 +101,7 @@ fn report_volume_at<D: Disk>(
         TableReports (sector_in (Some image)) boot (report_of report)) }
 
     ensures reads { DiskReads D.Disk disk.old disk.new 4 }
-    ensures quiet { OnOk result (D.faults disk.new ≡ D.faults disk.old) }
-    ensures stops { IfErr result (Stops (D.faults disk.old) (D.faults disk.new)) }
+    ensures faults { MatchResult result (λ _. D.faults disk.new ≡ D.faults disk.old) (Stops (D.faults disk.old) (D.faults disk.new)) }
 {
     let sector = geometry.mft * u64::from(geometry.cluster / 512);
     if sector + 2 > disk.sectors() {
@@ -123,8 +121,7 @@ fn report_label<D: Disk>(alloc: Global, disk: &mut D) -> Result<Report, Stop>
         D.now disk.old ≡ Some image → LabelReports image (report_of report)) }
 
     ensures reads { DiskReads D.Disk disk.old disk.new 5 }
-    ensures quiet { OnOk result (D.faults disk.new ≡ D.faults disk.old) }
-    ensures stops { IfErr result (Stops (D.faults disk.old) (D.faults disk.new)) }
+    ensures faults { MatchResult result (λ _. D.faults disk.new ≡ D.faults disk.old) (Stops (D.faults disk.old) (D.faults disk.new)) }
 {
     let sector = read_boot_sector(disk)?;
     match Geometry::read(&sector, disk.sectors()) {

@@ -1,9 +1,9 @@
 //! Reading sectors, and blocks of the table of records.
-ghost use Rattle.std.specs.Prelude.{◌≡◌, ◌+◌, ◌*◌, ◌≤◌, ◌<◌, ◌^◌, ◌++◌, ℕ, Some, OnOk, OnErr};
+ghost use Rattle.std.specs.Prelude.{MatchResult, ◌≡◌, ◌+◌, ◌*◌, ◌≤◌, ◌<◌, ◌^◌, ◌++◌, ℕ, Some, OnOk, OnErr};
 ghost use Rattle.vol_disk.specs.Count.{Rose};
 ghost use Rattle.vol_disk.specs.Contents.{IsTold, sector_in};
-ghost use Rattle.ntfs_def.specs.Table.{block_of, cut_off, table_place, table_sector, two_sectors};
-ghost use Rattle.ntfs_shell.specs.Reading.{DiskReads};
+ghost use Rattle.volume_def.specs.Table.{block_of, cut_off, table_place, table_sector, two_sectors};
+ghost use Rattle.vol_disk.specs.Reading.{DiskReads};
 ghost use Rattle.ntfs_shell.specs.Tables.{LiesOn, layout_of};
 
 use crate::table::Table;
@@ -52,8 +52,7 @@ fn read_table_sector<D: Disk>(
         → into.new ≡ table_sector (sector_in (D.now disk.old)) (layout_of table.now) sector) }
 
     ensures reads { DiskReads D.Disk disk.old disk.new 1 }
-    ensures quiet { OnOk result (D.faults disk.new ≡ D.faults disk.old) }
-    ensures cause { OnErr result (Rose (D.faults disk.old) (D.faults disk.new)) }
+    ensures faults { MatchResult result (λ _. D.faults disk.new ≡ D.faults disk.old) (λ _. Rose (D.faults disk.old) (D.faults disk.new)) }
 {
     match place(table, sector) {
         None => into.fill(0),
@@ -76,8 +75,7 @@ pub fn read_two_sectors<D: Disk>(
     ensures kept { OnErr result (into.new ≡ into.old) }
 
     ensures reads { DiskReads D.Disk disk.old disk.new 2 }
-    ensures quiet { OnOk result (D.faults disk.new ≡ D.faults disk.old) }
-    ensures cause { OnErr result (Rose (D.faults disk.old) (D.faults disk.new)) }
+    ensures faults { MatchResult result (λ _. D.faults disk.new ≡ D.faults disk.old) (λ _. Rose (D.faults disk.old) (D.faults disk.new)) }
 {
     let mut first = [0; 512];
     let mut second = [0; 512];
@@ -101,8 +99,7 @@ pub fn read_block<D: Disk>(
     ensures kept { OnErr result (into.new ≡ into.old) }
 
     ensures reads { DiskReads D.Disk disk.old disk.new 2 }
-    ensures quiet { OnOk result (D.faults disk.new ≡ D.faults disk.old) }
-    ensures cause { OnErr result (Rose (D.faults disk.old) (D.faults disk.new)) }
+    ensures faults { MatchResult result (λ _. D.faults disk.new ≡ D.faults disk.old) (λ _. Rose (D.faults disk.old) (D.faults disk.new)) }
 {
     let mut first = [0; 512];
     let mut second = [0; 512];

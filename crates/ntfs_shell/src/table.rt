@@ -4,11 +4,10 @@ ghost use Rattle.ntfs_def.specs.declared.run_text.Run.{Run};
 ghost use Rattle.ntfs_def.specs.declared.run_text.Spot.TheVariants.{At};
 ghost use Rattle.ntfs_def.specs.Attribute.{Attribute};
 ghost use Rattle.ntfs_def.specs.Runs.{MeansRuns, spot_of};
-ghost use Rattle.ntfs_def.specs.Table.{IsOnVolume, IsTable, Layout};
+ghost use Rattle.volume_def.specs.Table.{ArePlaced, FitTable, HoldsTable, IsOnVolume, IsTable, Layout};
 ghost use Rattle.ntfs_boot.specs.Geometry.{FitsDisk};
 ghost use Rattle.data_runs.specs.declared.RunFault.TheVariants.{Memory};
 ghost use Rattle.attr_view.specs.View.{attribute_of, record_of};
-ghost use Rattle.ntfs_shell.specs.TableParts.{ArePlaced, FitTable, HoldsTable};
 ghost use Rattle.ntfs_shell.specs.Tables.{layout_of};
 
 use crate::find::{has_list, only_data_extent};
@@ -108,7 +107,7 @@ fn clusters_in(runs: &[Run]) -> u64
 
 // Whether a table in so many clusters can have these sizes.
 fn fit_table(sizes: &Sizes, clusters: u64, size: u32) -> bool
-    ensures { IsTrue result ↔ FitTable sizes.now (clusters * size) }
+    ensures { IsTrue result ↔ FitTable sizes.now.first sizes.now.real sizes.now.initialized (clusters * size) }
 {
     sizes.first == 0
         && u128::from(sizes.real) <= u128::from(clusters) * u128::from(size)
@@ -121,7 +120,7 @@ fn fit_table(sizes: &Sizes, clusters: u64, size: u32) -> bool
 fn is_table(geometry: &Geometry, sizes: &Sizes, runs: &RunList) -> bool
     requires { FitsDisk geometry.now (2 ^ 55) }
     ensures { IsTrue result ↔ (ArePlaced geometry.now.mft geometry.now.cluster geometry.now.clusters runs.now
-        × FitTable sizes.now (sum_by (λ run. run.len) runs.now * geometry.now.cluster)) }
+        × FitTable sizes.now.first sizes.now.real sizes.now.initialized (sum_by (λ run. run.len) runs.now * geometry.now.cluster)) }
 {
     are_placed(runs, geometry) && fit_table(sizes, clusters_in(runs.runs()), geometry.cluster)
 }

@@ -1,11 +1,10 @@
 //! The name and the version of a volume, in its record 3.
 ghost use Rattle.std.specs.Prelude.{◌≡◌, ◌++◌, ◌<◌, ◌≤◌, ◌*◌, IfOk, OnOk, length, map};
-ghost use Rattle.std.specs.Option.{option_copied, option_map};
-ghost use Rattle.ntfs_def.specs.Volume.{label_units, units_in, version_in};
+ghost use Rattle.std.specs.Option.{option_copied};
+ghost use Rattle.volume_def.specs.Volume.{label_units, units_in, version_in};
 ghost use Rattle.attr_view.specs.View.{attributes_of};
 ghost use Rattle.ntfs_shell.specs.Label.{label_text, name_line, version_line, volume_report};
 ghost use Rattle.ntfs_shell.specs.Shown.{report_of};
-ghost use Rattle.ntfs_shell.specs.Versions.{version_of};
 
 use crate::find::first_value;
 use crate::report::Report;
@@ -13,20 +12,14 @@ use crate::text::refusal_text;
 use attr_view::RecordView;
 use std::alloc::{AllocError, Global};
 use vol_bytes::{TextFault, text_of_units, u16_at};
+use volume_def::Version;
 
 const VOLUME_NAME: u32 = 0x60;
 
 const VOLUME_INFORMATION: u32 = 0x70;
 
-/// The version of NTFS that a volume has.
-#[derive(Clone, Copy, Debug, PartialEq, Eq)]
-pub struct Version {
-    pub major: u8,
-    pub minor: u8,
-}
-
 fn read_version(value: Option<&[u8]>) -> Option<Version>
-    ensures { option_map version_of result ≡ version_in (option_copied value.entry) }
+    ensures { result ≡ version_in (option_copied value.entry) }
 {
     let value = value?;
     if value.len() < 12 {
@@ -39,7 +32,7 @@ fn read_version(value: Option<&[u8]>) -> Option<Version>
 }
 
 // The units in bytes, of which a last odd one is left out.
-#[tactic(auto, unfolding(ntfs_def::specs::Volume::units_in))]
+#[tactic(auto, unfolding(volume_def::specs::Volume::units_in))]
 fn read_units(alloc: Global, bytes: &[u8]) -> Result<Vec<u16>, AllocError>
     ensures { IfOk result (λ units. units.items ≡ units_in bytes.now) }
 {
@@ -72,7 +65,7 @@ fn add_name(alloc: Global, text: &mut Vec<u8>, units: &[u16]) -> Result<(), Allo
 }
 
 fn add_version(text: &mut Vec<u8>, version: Version) -> Result<(), AllocError>
-    ensures { OnOk result (text.new.items ≡ text.old.items ++ version_line (version_of version)) }
+    ensures { OnOk result (text.new.items ≡ text.old.items ++ version_line version) }
 {
     text.extend_from_slice(b"version ")?;
     text.extend_from_slice(itoa::Buffer::new().format(version.major).as_bytes())?;
@@ -83,7 +76,7 @@ fn add_version(text: &mut Vec<u8>, version: Version) -> Result<(), AllocError>
 
 #[tactic(auto, unfolding(crate::specs::Label::label_text))]
 fn label_text(alloc: Global, units: &[u16], version: Version) -> Result<Vec<u8>, AllocError>
-    ensures { IfOk result (λ text. text.items ≡ label_text units.now (version_of version)) }
+    ensures { IfOk result (λ text. text.items ≡ label_text units.now version) }
 {
     let mut text = Vec::new(alloc);
     add_name(alloc, &mut text, units)?;

@@ -1,5 +1,5 @@
 -- One more write behind the others.
-use Rattle.std.proofs.Common.{◌≡◌, ℕ, ◌≤◌, List, [], ◌∷◌, ◌++◌, length, refl, arith}
+use Rattle.std.proofs.Common.{◌≡◌, ℕ, ◌≤◌, List, [], ◌∷◌, ◌++◌, length, take, ap, refl, arith}
 use Rattle.std.proofs.lemmas.List.{take-append-le}
 use Rattle.std.specs.Prelude.{All}
 use Rattle.std.specs.List.{AllByRecursion}
@@ -18,6 +18,11 @@ pub replay-push : (writes : List Write) (write : Write) (first : List ℕ)
     → replay (writes ++ write ∷ []) first ≡ with_sector (replay writes first) write.sector write.bytes
 replay-push [] write first = refl
 replay-push (w ∷ writes) write first = replay-push writes write (with_sector first w.sector w.bytes)
+
+-- and it changes no contents before it
+pub replay-before : (k : ℕ) (writes : List Write) (write : Write) (first : List ℕ)
+    → k ≤ length writes → replay (take k (writes ++ write ∷ [])) first ≡ replay (take k writes) first
+replay-before k writes write first h = ap (λ writes. replay writes first) (take-append-le k writes (write ∷ []) h)
 
 contents_at-more : (places : List ℕ) (writes : List Write) (write : Write) (first : List ℕ)
     → AllByRecursion (λ k. k ≤ length writes) places

@@ -11,3 +11,4 @@ pub mod Listing
 pub mod MemStreams
 pub mod Passing
 pub mod Standards
+pub mod Reading

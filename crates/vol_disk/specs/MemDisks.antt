@@ -1,5 +1,5 @@
 -- What a disk in memory shows.
-use Rattle.std.specs.Prelude.{ℕ, ◌-◌, true, List, [], ◌∷◌, ◌++◌, length}
+use Rattle.std.specs.Prelude.{ℕ, ◌-◌, true, List, [], ◌∷◌, ◌++◌, length, take}
 use Rattle.vol_disk.specs.Counting.{after_write}
 use Rattle.vol_disk.specs.Replay.{replay, contents_at}
 use Rattle.vol_disk.specs.declared.counts.Counts.{Counts}
@@ -7,11 +7,12 @@ use Rattle.vol_disk.specs.declared.mem_disk.MemDisk.{MemDisk}
 use Rattle.vol_disk.specs.declared.mem_disk.Write.{Write}
 
 -- The first contents, the writes that answered Ok, for each settle that did the number of writes
--- before it, how many writes and settles there is room for, and the counts.
+-- before it, the number of writes before the last barrier, how many writes and settles there is room for, and the counts.
 pub record Shown : Type 0 where
   pub first : List ℕ
   pub writes : List Write
   pub settles : List ℕ
+  pub fence : ℕ
   pub room : ℕ
   pub sectors : ℕ
   pub counts : Counts
@@ -21,6 +22,7 @@ shown disk = record {
   first = disk.first.items;
   writes = disk.writes.items;
   settles = disk.settles.items;
+  fence = disk.fence;
   room = disk.room;
   sectors = disk.sectors;
   counts = disk.counts;
@@ -37,6 +39,14 @@ with_settle disk = record disk { settles = disk.settles ++ length disk.writes �
 -- the contents that a read gives
 abbrev pub contents_of : MemDisk → List ℕ
 contents_of disk = replay disk.writes.items disk.first.items
+
+-- the contents at the last barrier, and at first those that it was made with
+abbrev pub fenced_of : MemDisk → List ℕ
+fenced_of disk = replay (take disk.fence disk.writes.items) disk.first.items
+
+-- one more barrier, behind all writes
+abbrev pub with_barrier : Shown → Shown
+with_barrier disk = record disk { fence = length disk.writes }
 
 -- the contents at each settle
 abbrev pub settled_of : MemDisk → List (List ℕ)

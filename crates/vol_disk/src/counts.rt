@@ -36,6 +36,7 @@ impl Counts {
     pub fn begin_write(&mut self)
         ensures on_time { self.old.faults ≡ 0 → self.new ≡ self.old }
         ensures late { 0 < self.old.faults → self.new ≡ record self.old { late = raised self.old.late } }
+        ensures rises { self.old.late ≤ self.new.late }
     {
         if self.faults > 0 {
             self.late = self.late.saturating_add(1);
@@ -44,7 +45,8 @@ impl Counts {
 
     /// Notes a write that succeeds.
     pub fn end_write(&mut self)
-        ensures { self.new ≡ record self.old { written = raised self.old.written } }
+        ensures written { self.new ≡ record self.old { written = raised self.old.written } }
+        ensures rises { self.old.written ≤ self.new.written }
     {
         self.written = self.written.saturating_add(1);
     }

@@ -140,6 +140,8 @@ impl<D: Disk> Disk for FailDisk<D> {
 
     ghost settled = { λ disk. D.Disk.settled disk.inner };
 
+    ghost fenced = { λ disk. D.Disk.fenced disk.inner };
+
     ghost size = { λ disk. D.Disk.size disk.inner };
 
     ghost faults = { λ disk. disk.counts.faults };
@@ -171,8 +173,10 @@ impl<D: Disk> Disk for FailDisk<D> {
 
         ensures read { OnOk result (IsTold (D.now (inner_of self.old)) →
             into.new ≡ sector_in (D.now (inner_of self.old)) sector) }
+        ensures kept { OnErr result (into.new ≡ into.old) }
         ensures now { D.now (inner_of self.new) ≡ D.now (inner_of self.old) }
         ensures settled { D.settled (inner_of self.new) ≡ D.settled (inner_of self.old) }
+        ensures fenced { D.fenced (inner_of self.new) ≡ D.fenced (inner_of self.old) }
         ensures size { D.size (inner_of self.new) ≡ D.size (inner_of self.old) }
         ensures counts { counts_of self.new ≡ after_read (is_ok result) (counts_of self.old) }
         ensures fetched { (counts_of self.old).fetched ≤ (counts_of self.new).fetched }
@@ -210,8 +214,11 @@ impl<D: Disk> Disk for FailDisk<D> {
             sector_in (D.now (inner_of self.new)) other ≡ sector_in (D.now (inner_of self.old)) other }
         ensures told { is_some (D.now (inner_of self.new)) ≡ is_some (D.now (inner_of self.old)) }
         ensures settled { D.settled (inner_of self.new) ≡ D.settled (inner_of self.old) }
+        ensures fenced { D.fenced (inner_of self.new) ≡ D.fenced (inner_of self.old) }
         ensures size { D.size (inner_of self.new) ≡ D.size (inner_of self.old) }
         ensures counts { counts_of self.new ≡ after_write (is_ok result) (counts_of self.old) }
+        ensures rises { ((counts_of self.old).written ≤ (counts_of self.new).written)
+            × ((counts_of self.old).late ≤ (counts_of self.new).late) }
         ensures faults { (counts_of self.old).faults ≤ (counts_of self.new).faults }
     {
         self.counts.begin_write();
@@ -242,6 +249,8 @@ impl<D: Disk> Disk for FailDisk<D> {
         ensures passed { OnOk result (D.faults (inner_of self.new) ≡ D.faults (inner_of self.old)) }
         ensures makes { Makes self.old self.new CallKind.Barrier }
 
+        ensures fenced { OnOk result (D.fenced (inner_of self.new) ≡ D.now (inner_of self.old)) }
+        ensures unfenced { OnErr result (D.fenced (inner_of self.new) ≡ D.fenced (inner_of self.old)) }
         ensures now { D.now (inner_of self.new) ≡ D.now (inner_of self.old) }
         ensures settled { D.settled (inner_of self.new) ≡ D.settled (inner_of self.old) }
         ensures size { D.size (inner_of self.new) ≡ D.size (inner_of self.old) }
@@ -267,6 +276,7 @@ impl<D: Disk> Disk for FailDisk<D> {
         ensures settled { OnOk result
             (D.settled (inner_of self.new) ≡ settled_more (D.settled (inner_of self.old)) (D.now (inner_of self.old))) }
         ensures unsettled { OnErr result (D.settled (inner_of self.new) ≡ D.settled (inner_of self.old)) }
+        ensures fenced { D.fenced (inner_of self.new) ≡ D.fenced (inner_of self.old) }
         ensures now { D.now (inner_of self.new) ≡ D.now (inner_of self.old) }
         ensures size { D.size (inner_of self.new) ≡ D.size (inner_of self.old) }
         ensures counts { counts_of self.new ≡ after_call (is_ok result) (counts_of self.old) }

@@ -1,5 +1,5 @@
 //! A disk over a file or a block device.
-ghost use Rattle.std.specs.Prelude.{◌≡◌, ◌^◌, ◌<◌, ◌≤◌, None, OnOk, OnErr, is_ok};
+ghost use Rattle.std.specs.Prelude.{◌≡◌, ◌*◌, ◌^◌, ◌<◌, ◌≤◌, None, OnOk, OnErr, is_ok};
 ghost use Rattle.vol_disk.specs.Count.{raised};
 
 use crate::counts::Counts;
@@ -60,6 +60,7 @@ impl FileDisk {
 // Where a sector begins in the file.
 fn offset_of(sector: u64) -> u64
     requires { sector < 2 ^ 55 }
+    ensures { result ≡ 512 * sector }
 {
     sector * SECTOR as u64
 }
@@ -71,6 +72,8 @@ impl Disk for FileDisk {
     ghost now = { λ _. None };
 
     ghost settled = { λ _. None };
+
+    ghost fenced = { λ _. None };
 
     ghost size = { λ disk. disk.sectors };
 
@@ -93,13 +96,18 @@ impl Disk for FileDisk {
     fn read(&mut self, sector: u64, into: &mut [u8; 512]) -> Result<(), Failed>
         requires { sector < sectors_of self.old }
         ensures size { sectors_of self.new ≡ sectors_of self.old }
+        ensures kept { OnErr result (into.new ≡ into.old) }
         ensures counts { counts_of self.new ≡ after_read (is_ok result) (counts_of self.old) }
         ensures fetched { (counts_of self.old).fetched ≤ (counts_of self.new).fetched }
         ensures faults { (counts_of self.old).faults ≤ (counts_of self.new).faults }
     {
         self.counts.fetch();
-        match self.file.read_exact_at(into, offset_of(sector)) {
-            Ok(()) => Ok(()),
+        let mut bytes = [0; SECTOR];
+        match self.file.read_exact_at(&mut bytes, offset_of(sector)) {
+            Ok(()) => {
+                *into = bytes;
+                Ok(())
+            }
             Err(_) => Err(self.counts.fail()),
         }
     }
@@ -108,6 +116,8 @@ impl Disk for FileDisk {
         requires { sector < sectors_of self.old }
         ensures size { sectors_of self.new ≡ sectors_of self.old }
         ensures counts { counts_of self.new ≡ after_write (is_ok result) (counts_of self.old) }
+        ensures rises { ((counts_of self.old).written ≤ (counts_of self.new).written)
+            × ((counts_of self.old).late ≤ (counts_of self.new).late) }
         ensures faults { (counts_of self.old).faults ≤ (counts_of self.new).faults }
     {
         self.counts.begin_write();

@@ -67,6 +67,9 @@ pub trait Disk {
     /// The contents at each settle that answered Ok, the first of them first, where told.
     ghost settled: { Self → Option (List (List ℕ)) };
 
+    /// The contents at the last barrier that answered Ok, where told.
+    ghost fenced: { Self → Option (List ℕ) };
+
     /// The number of sectors.
     ghost size: { Self → ℕ };
 
@@ -91,8 +94,11 @@ pub trait Disk {
         requires { sector < size self.old }
         ensures read { OnOk result (IsTold (now self.old) → into.new ≡ sector_in (now self.old) sector) }
 
+        ensures kept { OnErr result (into.new ≡ into.old) }
+
         ensures now { now self.new ≡ now self.old }
         ensures settled { settled self.new ≡ settled self.old }
+        ensures fenced { fenced self.new ≡ fenced self.old }
         ensures size { size self.new ≡ size self.old }
         ensures written { written self.new ≡ written self.old }
         ensures late { late self.new ≡ late self.old }
@@ -116,7 +122,9 @@ pub trait Disk {
         ensures told { is_some (now self.new) ≡ is_some (now self.old) }
 
         ensures settled { settled self.new ≡ settled self.old }
+        ensures fenced { fenced self.new ≡ fenced self.old }
         ensures size { size self.new ≡ size self.old }
+        ensures rises { (written self.old ≤ written self.new) × (late self.old ≤ late self.new) }
         ensures written { OnOk result (written self.new ≡ raised (written self.old)) }
         ensures unwritten { OnErr result (written self.new ≡ written self.old) }
         ensures fetched { fetched self.new ≡ fetched self.old }
@@ -129,6 +137,9 @@ pub trait Disk {
 
     /// Orders the writes before it before those after it. It changes nothing that can be read.
     fn barrier(&mut self) -> Result<(), Failed>
+        ensures fenced { OnOk result (fenced self.new ≡ now self.old) }
+        ensures unfenced { OnErr result (fenced self.new ≡ fenced self.old) }
+
         ensures now { now self.new ≡ now self.old }
         ensures settled { settled self.new ≡ settled self.old }
         ensures size { size self.new ≡ size self.old }
@@ -146,6 +157,7 @@ pub trait Disk {
         ensures unsettled { OnErr result (settled self.new ≡ settled self.old) }
 
         ensures now { now self.new ≡ now self.old }
+        ensures fenced { fenced self.new ≡ fenced self.old }
         ensures size { size self.new ≡ size self.old }
         ensures written { written self.new ≡ written self.old }
         ensures fetched { fetched self.new ≡ fetched self.old }

@@ -28,6 +28,8 @@ pub struct MemDisk {
     writes: Vec<Write>,
     // For each settle the number of writes before it.
     settles: Vec<usize>,
+    // The number of writes before the last barrier.
+    fence: usize,
     room: usize,
     sectors: u64,
     counts: Counts,
@@ -35,18 +37,20 @@ pub struct MemDisk {
     ghost sized: { length (replay writes.items first.items) ≡ 512 * sectors },
     ghost agrees: { 0 < room + vec_len writes → latest.items ≡ replay writes.items first.items },
     ghost within: { All (λ count. count ≤ length writes.items) settles.items },
+    ghost fence_within: { fence ≤ length writes.items },
     ghost writes_fit: { vec_len writes + room ≤ vec_capacity writes },
     ghost settles_fit: { vec_len settles + room ≤ vec_capacity settles },
 }
 
 impl MemDisk {
-    ghost use Rattle.vol_disk.specs.MemDisks.{shown, contents_of, settled_of};
+    ghost use Rattle.vol_disk.specs.MemDisks.{shown, contents_of, settled_of, fenced_of};
 
     /// A disk with these contents and without room.
     pub fn new(alloc: Global, first: Vec<u8>) -> MemDisk
         requires { vec_len first % 512 ≡ 0 }
         ensures now { ⟦<MemDisk as Disk>⟧.now result ≡ Some first.items }
         ensures settled { ⟦<MemDisk as Disk>⟧.settled result ≡ Some [] }
+        ensures fenced { ⟦<MemDisk as Disk>⟧.fenced result ≡ Some first.items }
         ensures size { ⟦<MemDisk as Disk>⟧.size result ≡ vec_len first / 512 }
         ensures first { (shown result).first ≡ first.items }
         ensures writes { (shown result).writes ≡ [] }
@@ -62,6 +66,7 @@ impl MemDisk {
             latest: Vec::new(alloc),
             writes: Vec::new(alloc),
             settles: Vec::new(alloc),
+            fence: 0,
             room: 0,
             sectors,
             counts: Counts::default(),
@@ -77,6 +82,7 @@ impl MemDisk {
         ensures size { (shown self.new).sectors ≡ (shown self.old).sectors }
         ensures now { ⟦<MemDisk as Disk>⟧.now self.new ≡ ⟦<MemDisk as Disk>⟧.now self.old }
         ensures settled { ⟦<MemDisk as Disk>⟧.settled self.new ≡ ⟦<MemDisk as Disk>⟧.settled self.old }
+        ensures fenced { ⟦<MemDisk as Disk>⟧.fenced self.new ≡ ⟦<MemDisk as Disk>⟧.fenced self.old }
     {
         if n <= self.room {
             return Ok(());
@@ -94,6 +100,7 @@ impl MemDisk {
         ensures first { self.new.first ≡ self.old.first }
         ensures writes { self.new.writes ≡ self.old.writes }
         ensures settles { self.new.settles ≡ self.old.settles }
+        ensures fence { self.new.fence ≡ self.old.fence }
         ensures room { self.new.room ≡ self.old.room }
         ensures sectors { self.new.sectors ≡ self.old.sectors }
         ensures counts { self.new.counts ≡ self.old.counts }
@@ -138,9 +145,11 @@ impl MemDisk {
             self.old.writes.items ++ (record { sector = sector; bytes = from.now }) ∷ [] }
         ensures now { contents_of self.new ≡ with_sector (contents_of self.old) sector from.now }
         ensures settled { settled_of self.new ≡ settled_of self.old }
+        ensures fenced { fenced_of self.new ≡ fenced_of self.old }
         ensures room { self.new.room + 1 ≡ self.old.room }
         ensures first { self.new.first.items ≡ self.old.first.items }
         ensures settles { self.new.settles.items ≡ self.old.settles.items }
+        ensures fence { self.new.fence ≡ self.old.fence }
         ensures sectors { self.new.sectors ≡ self.old.sectors }
         ensures counts { self.new.counts ≡ self.old.counts }
     {
@@ -181,12 +190,14 @@ fn put_sector(all: &mut [u8], sector: u64, from: &[u8; 512])
 
 impl Disk for MemDisk {
     ghost use Rattle.vol_disk.specs.Contents.{sector_in};
-    ghost use Rattle.vol_disk.specs.MemDisks.{shown, contents_of, settled_of, with_write, with_settle};
+    ghost use Rattle.vol_disk.specs.MemDisks.{shown, contents_of, settled_of, fenced_of, with_write, with_barrier, with_settle};
     ghost use Rattle.vol_disk.specs.Counting.{after_call, after_read, after_write};
 
     ghost now = { λ disk. Some (replay disk.writes.items disk.first.items) };
 
     ghost settled = { λ disk. Some (contents_at disk.settles.items disk.writes.items disk.first.items) };
+
+    ghost fenced = { λ disk. Some (replay (take disk.fence disk.writes.items) disk.first.items) };
 
     ghost size = { λ disk. disk.sectors };
 
@@ -235,6 +246,9 @@ impl Disk for MemDisk {
         ensures other { (m : ℕ) → m ≢ sector →
             sector_in (Some (contents_of self.new)) m ≡ sector_in (Some (contents_of self.old)) m }
         ensures settled { settled_of self.new ≡ settled_of self.old }
+        ensures fenced { fenced_of self.new ≡ fenced_of self.old }
+        ensures rises { ((shown self.old).counts.written ≤ (shown self.new).counts.written)
+            × ((shown self.old).counts.late ≤ (shown self.new).counts.late) }
     {
         self.counts.begin_write();
         if self.room == 0 {
@@ -245,11 +259,13 @@ impl Disk for MemDisk {
         Ok(())
     }
 
-    /// Changes nothing, and never fails.
+    /// Notes the contents, and never fails.
     fn barrier(&mut self) -> Result<(), Failed>
         ensures ok { IsOk result }
-        ensures unchanged { shown self.new ≡ shown self.old }
+        ensures noted { shown self.new ≡ with_barrier (shown self.old) }
+        ensures fenced { fenced_of self.new ≡ contents_of self.old }
     {
+        self.fence = self.writes.len();
         Ok(())
     }
 

@@ -10,7 +10,7 @@ returns-in-Ok-clause-ends g c =
     let read = c.in-Ok.ensures.reads in
     let sectors : c.sectors.result ≡ g.D.Disk.size c.args.disk.now = c.sectors.ensures ∙ read.size in
     ends_shown BootReports 1 _ _ _ _ c.show.ensures
-    (record { now = read.now; settled = read.settled; size = read.size; written = read.written; late = read.late; left = refl; source_faults = refl })
-    read.fetched c.in-Ok.ensures.quiet
+    (record { now = read.now; settled = read.settled; fenced = read.fenced; size = read.size; written = read.written; late = read.late; left = refl; source_faults = refl })
+    read.fetched c.in-Ok.ensures.faults
     (λ image told. boot_report-read _ image c.in-Ok.sector _ _ (g.met.D.Disk.told_length c.args.disk.now) told (c.in-Ok.ensures.sector image told)
     (c.report_boot.ensures ∙ ap (λ n. boot_answer c.in-Ok.sector (boot_failing c.in-Ok.sector n)) sectors))

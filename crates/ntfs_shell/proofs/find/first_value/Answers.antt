@@ -1,6 +1,6 @@
 use Rattle.std.proofs.Common.{List, sym, ap, ◌∙◌}
 use Rattle.ntfs_def.specs.Attribute.{Attribute}
-use Rattle.ntfs_def.specs.Volume.{first_value}
+use Rattle.volume_def.specs.Volume.{first_value}
 use Rattle.attr_view.specs.View.{attribute_of, attributes_of}
 use Rattle.ntfs_shell.proofs.Sought.{drop-slice_get, first_value-here, first_value-past}
 use Rattle.ntfs_shell.proofs.find.first_value.Goals as goal

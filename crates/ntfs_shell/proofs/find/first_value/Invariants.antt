@@ -1,5 +1,5 @@
 use Rattle.std.proofs.Common.{◌≡◌, drop}
-use Rattle.ntfs_def.specs.Volume.{first_value}
+use Rattle.volume_def.specs.Volume.{first_value}
 use Rattle.attr_view.specs.View.{attributes_of}
 use Rattle.ntfs_shell.proofs.find.first_value.Given as goal
 

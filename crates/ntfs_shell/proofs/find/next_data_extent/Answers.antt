@@ -1,6 +1,6 @@
 use Rattle.std.proofs.Common.{List, sym, ◌∙◌}
 use Rattle.ntfs_def.specs.Attribute.{Attribute}
-use Rattle.ntfs_def.specs.Table.{is_data_extent}
+use Rattle.volume_def.specs.Table.{is_data_extent}
 use Rattle.attr_view.specs.View.{attribute_of, attributes_of}
 use Rattle.ntfs_shell.proofs.Sought.{filter-passes, filter-other}
 use Rattle.ntfs_shell.proofs.find.next_data_extent.Goals as goal

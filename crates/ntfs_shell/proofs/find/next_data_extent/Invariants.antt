@@ -1,6 +1,6 @@
 use Rattle.std.proofs.Common.{◌≡◌, drop}
 use Rattle.std.specs.Prelude.{filter}
-use Rattle.ntfs_def.specs.Table.{is_data_extent}
+use Rattle.volume_def.specs.Table.{is_data_extent}
 use Rattle.attr_view.specs.View.{attributes_of}
 use Rattle.ntfs_shell.proofs.find.next_data_extent.Given as goal
 

@@ -7,5 +7,5 @@ pub returns-in-Ok : goal.returns-in-Ok
 returns-in-Ok g c =
     let read = c.in-Ok.ensures.reads in
     ends_shown LabelReports 5 _ _ _ _ c.show.ensures
-    (record { now = read.now; settled = read.settled; size = read.size; written = read.written; late = read.late; left = refl; source_faults = refl })
-    read.fetched c.in-Ok.ensures.quiet c.in-Ok.ensures.report
+    (record { now = read.now; settled = read.settled; fenced = read.fenced; size = read.size; written = read.written; late = read.late; left = refl; source_faults = refl })
+    read.fetched c.in-Ok.ensures.faults c.in-Ok.ensures.report

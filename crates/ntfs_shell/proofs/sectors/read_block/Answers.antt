@@ -1,5 +1,5 @@
 use Rattle.std.proofs.Common.{refl}
-use Rattle.ntfs_def.specs.Table.{block_of}
+use Rattle.volume_def.specs.Table.{block_of}
 use Rattle.ntfs_shell.proofs.sectors.read_block.Goals as goal
 
 pub returns-clause-read : goal.returns-clause-read

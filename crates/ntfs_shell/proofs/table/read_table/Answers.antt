@@ -23,5 +23,4 @@ returns-clause-some c =
     let text : List ℕ = c.in-Some-runs.text.now in
     let read : IsRead (record_of c.args.view.now) (attribute_of c.in-Some.stream) sizes text c.in-Some-2.runs =
     record { holds = c.in-Some.ensures.some; sizes_read = c.in-Some-sizes.ensures; text_read = c.in-Some-runs.ensures; means = means } in
-    let (placed, fit) = c.is_table.ensures.0 c.if-not-is_table.false in
-    IsTable-made _ _ _ _ _ _ _ _ read placed fit refl (omega arith)
+    IsTable-made _ _ _ _ _ _ _ _ read (c.is_table.ensures.0 c.if-not-is_table.false) refl (omega arith)

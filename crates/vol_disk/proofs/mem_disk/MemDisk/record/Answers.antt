@@ -1,9 +1,9 @@
-use Rattle.std.proofs.Common.{◌+◌, ◌*◌, ◌<◌, ◌≤◌, length, ap, ◌∙◌, sym, arith, vec_len}
+use Rattle.std.proofs.Common.{◌+◌, ◌*◌, ◌<◌, ◌≤◌, length, take, ap, ◌∙◌, sym, arith, vec_len}
 use Rattle.std.proofs.lemmas.List.{length_push}
 use Rattle.vol_disk.specs.Contents.{with_sector}
 use Rattle.vol_disk.specs.Replay.{replay, contents_at}
 use Rattle.vol_disk.specs.declared.mem_disk.Write.{Write}
-use Rattle.vol_disk.proofs.ReplayLaws.{replay-push, contents_at-push}
+use Rattle.vol_disk.proofs.ReplayLaws.{replay-push, replay-before, contents_at-push}
 use Rattle.vol_disk.proofs.SectorLaws.{length-with_sector}
 use Rattle.vol_disk.proofs.mem_disk.MemDisk.record.Goals as goal
 
@@ -33,6 +33,19 @@ invariant_of-self-clause-within c k d h =
     let disk = c.args.self.now in
     let write : Write = record { sector = c.args.sector; bytes = c.args.from.now } in
     omega (arith, disk.within k d h, ap length c.push_reserved.ensures.items, length_push disk.writes.items write)
+
+pub invariant_of-self-clause-fence_within : goal.invariant_of-self-clause-fence_within
+invariant_of-self-clause-fence_within c =
+    let disk = c.args.self.now in
+    let write : Write = record { sector = c.args.sector; bytes = c.args.from.now } in
+    omega (arith, disk.fence_within, ap length c.push_reserved.ensures.items, length_push disk.writes.items write)
+
+pub returns-clause-fenced : goal.returns-clause-fenced
+returns-clause-fenced c =
+    let disk = c.args.self.now in
+    let write : Write = record { sector = c.args.sector; bytes = c.args.from.now } in
+    ap (λ writes. replay (take disk.fence writes) disk.first.items) c.push_reserved.ensures.items
+    ∙ replay-before disk.fence disk.writes.items write disk.first.items disk.fence_within
 
 pub returns-clause-settled : goal.returns-clause-settled
 returns-clause-settled c =
