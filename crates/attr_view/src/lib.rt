@@ -2,15 +2,19 @@
 #![tactic(auto)]
 
 ghost use Rattle.std.specs.Prelude.{◌≡◌, ◌≤◌, length};
+ghost use Rattle.ntfs_def.specs.Attribute.{attribute_place};
 ghost use Rattle.ntfs_def.specs.Record.{used_size};
 ghost use Rattle.ntfs_def.specs.Shape.{HasShape, IsAttribute};
 
 use thiserror::Error;
 
 mod attribute;
+mod find;
+mod iter;
 mod record;
 mod shape;
 
+pub use ntfs_def::Sizes;
 pub use record::one_answer;
 
 /// Why a block is refused.
@@ -21,21 +25,6 @@ pub enum ViewNo {
     /// attribute or end mark.
     #[error("the record has a wrong shape at byte {at}")]
     Shape { at: usize },
-}
-
-/// The numbers of a non-resident attribute. Lengths are in bytes and count where `first` is 0.
-#[derive(Clone, Copy, Debug, PartialEq, Eq)]
-pub struct Sizes {
-    /// The bytes of the clusters that the stream has.
-    pub allocated: u64,
-    /// The bytes of the stream.
-    pub real: u64,
-    /// The bytes of the stream that were written.
-    pub initialized: u64,
-    /// The number, in the stream, of the first cluster of this extent.
-    pub first: u64,
-    /// The number of the last one.
-    pub last: u64,
 }
 
 /// A file record whose attributes can be read.
@@ -54,6 +43,19 @@ pub struct AttrView<'r> {
     ghost size: { length block.now ≡ 1024 },
     ghost used: { used_size block.now ≤ 1024 },
     ghost shape: { IsAttribute block.now at },
+}
+
+/// The attributes of a record, in order.
+#[derive(Clone, Copy, Debug)]
+pub struct Attributes<'r> {
+    block: &'r [u8],
+    count: usize,
+    // The number of the attribute that comes next, and where it stands.
+    next: usize,
+    at: usize,
+    ghost shape: { HasShape block.now count },
+    ghost within: { next ≤ count },
+    ghost place: { at ≡ attribute_place block.now next },
 }
 
 #[cfg(test)]

@@ -3,7 +3,9 @@ pub mod Boot
 pub mod Fixup
 pub mod Record
 pub mod Attribute
+pub mod Moved
 pub mod Shape
 pub mod Packed
 pub mod Runs
 pub mod RunsWritten
+pub mod Units

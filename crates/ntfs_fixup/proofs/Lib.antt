@@ -1,2 +1,3 @@
 pub mod SealLaws
 pub mod OneSealed
+pub mod PatchLaws

@@ -1,7 +1,7 @@
 // What the definitions of opened and sealed blocks mean together.
-ghost use Rattle.std.specs.Prelude.{◌≡◌, ◌<◌, ◌≤◌, ℕ, All, List};
+ghost use Rattle.std.specs.Prelude.{◌≡◌, ◌⊎◌, ◌+◌, ◌%◌, ◌<◌, ◌≤◌, ℕ, All, List, slice_index};
 ghost use Rattle.vol_bytes.specs.Field.{SameOutside};
-ghost use Rattle.ntfs_def.specs.Fixup.{HasArray, IsSealed, Opens, Seals, array_end, array_place, bare_of, sequence_number};
+ghost use Rattle.ntfs_def.specs.Fixup.{HasArray, IsSealed, Opens, Seals, array_end, array_place, bare_of, opened_of, sequence_number};
 ghost use Rattle.ntfs_fixup.specs.FixFault.{Refuses};
 ghost use Rattle.ntfs_fixup.specs.declared.FixFault.{FixFault};
 
@@ -30,4 +30,17 @@ pub fn edited_alike()
     ensures array { (old new : List ℕ) (from to : ℕ) → 8 ≤ from → HasArray old → SameOutside old new from to → HasArray new }
     ensures bare { (old new : List ℕ) (from to : ℕ) → 8 ≤ from → SameOutside old new from to
         → SameOutside (bare_of old) (bare_of new) from to }
+{}
+
+/// One byte of a stored block that lies outside the array, and at no stride's end, is that byte of the
+/// opened block, and no other depends on it. So a flag is set without sealing the block anew.
+pub fn patched_alike()
+    ensures sealed { (stored new : List ℕ) (k : ℕ) → IsSealed stored → SameOutside stored new k (k + 1) → 8 ≤ k
+        → (k < array_place stored) ⊎ (array_end stored ≤ k) → k % 512 < 510 → IsSealed new }
+    ensures others { (stored new : List ℕ) (k : ℕ) → IsSealed stored → SameOutside stored new k (k + 1) → 8 ≤ k
+        → (k < array_place stored) ⊎ (array_end stored ≤ k) → k % 512 < 510
+        → SameOutside (opened_of stored) (opened_of new) k (k + 1) }
+    ensures byte { (stored new : List ℕ) (k : ℕ) → IsSealed stored → SameOutside stored new k (k + 1) → 8 ≤ k
+        → (k < array_place stored) ⊎ (array_end stored ≤ k) → k % 512 < 510
+        → slice_index (opened_of new) k ≡ slice_index new k }
 {}

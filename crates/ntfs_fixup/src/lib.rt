@@ -11,7 +11,7 @@ mod laws;
 #[cfg(test)]
 mod tests;
 
-pub use laws::{edited_alike, one_answer, sealed_opens};
+pub use laws::{edited_alike, one_answer, patched_alike, sealed_opens};
 use thiserror::Error;
 use vol_bytes::{put_u16, u16_at};
 

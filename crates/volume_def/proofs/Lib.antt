@@ -1,0 +1,3 @@
+pub mod RunPlaces
+pub mod BlockLaws
+pub mod FrameLaws

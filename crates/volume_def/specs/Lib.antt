@@ -1,2 +1,5 @@
 pub mod Table
-pub mod Volume
+pub mod Blocks
+pub mod Owners
+pub mod View
+pub mod VolumeRecord

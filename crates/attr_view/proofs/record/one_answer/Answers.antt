@@ -4,10 +4,10 @@ use Rattle.ntfs_def.proofs.ShapeLaws.{HasShape-exact, FailsAt-exact, HasShape-Fa
 use Rattle.attr_view.specs.declared.ViewNo.{ViewNo}
 use Rattle.attr_view.specs.declared.ViewNo.TheVariants.{Shape}
 use Rattle.ntfs_def.specs.Shape.{HasShape}
-use Rattle.attr_view.specs.View.{IsRefusedBy}
+use Rattle.attr_view.specs.View.{Refuses}
 use Rattle.attr_view.proofs.record.one_answer.Goals as goal
 
-one_refusal : (block : List ℕ) (one other : ViewNo) → IsRefusedBy block one → IsRefusedBy block other → one ≡ other
+one_refusal : (block : List ℕ) (one other : ViewNo) → Refuses block one → Refuses block other → one ≡ other
 one_refusal block (Shape a) (Shape b) fails also = ap (λ at. Shape at) (FailsAt-exact block a b fails also)
 
 pub returns-clause-count : goal.returns-clause-count
@@ -22,7 +22,7 @@ returns-clause-each c = slice_get-attributes
 pub returns-clause-refusal : goal.returns-clause-refusal
 returns-clause-refusal c = one_refusal
 
-refused : (block : List ℕ) (count : ℕ) (refusal : ViewNo) → HasShape block count → IsRefusedBy block refusal → ⊥
+refused : (block : List ℕ) (count : ℕ) (refusal : ViewNo) → HasShape block count → Refuses block refusal → ⊥
 refused block count (Shape at) shape fails = HasShape-FailsAt block count at shape fails
 
 pub returns-clause-either : goal.returns-clause-either

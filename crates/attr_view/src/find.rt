@@ -1,0 +1,31 @@
+//! Values of a record that are sought by their type.
+ghost use Rattle.std.specs.Prelude.{◌≡◌, ◌∷◌, []};
+ghost use Rattle.std.specs.Option.{option_copied};
+ghost use Rattle.ntfs_def.specs.Attribute.{first_value};
+ghost use Rattle.attr_view.specs.View.{attribute_of, attributes_of};
+
+use crate::{AttrView, RecordView};
+
+// The value of an attribute, if it is resident, of this type and without a name.
+fn unnamed_value<'r>(attribute: &AttrView<'r>, kind: u32) -> Option<&'r [u8]>
+    ensures { option_copied result ≡ first_value kind (attribute_of attribute.now ∷ []) }
+{
+    if attribute.kind() == kind && attribute.name().is_empty() {
+        return attribute.value();
+    }
+    None
+}
+
+impl<'r> RecordView<'r> {
+    /// The value of the first resident attribute of a type without a name.
+    pub fn first_value(&self, kind: u32) -> Option<&'r [u8]>
+        ensures { option_copied result ≡ first_value kind (attributes_of self.now) }
+    {
+        for attribute in self.attributes() {
+            if let Some(value) = unnamed_value(&attribute, kind) {
+                return Some(value);
+            }
+        }
+        None
+    }
+}

@@ -1,0 +1,42 @@
+-- Where the table of records lies, as this crate keeps it.
+use Rattle.std.specs.Prelude.{◌≡◌, ℕ, ◌/◌, List}
+use Rattle.ntfs_def.specs.declared.run_text.Run.{Run}
+use Rattle.ntfs_def.specs.Fixup.{opened_of}
+use Rattle.volume_def.specs.Table.{IsReadable, IsTable, Layout}
+use Rattle.ntfs_boot.specs.declared.Geometry.{Geometry}
+use Rattle.mft_table.specs.declared.table.Table.{Table}
+
+-- the layout of these runs on a volume of this geometry
+abbrev pub layout_on : Geometry → List Run → ℕ → ℕ → Layout
+layout_on geometry runs initialized count = record {
+  cluster_sectors = geometry.cluster / 512;
+  clusters = geometry.clusters;
+  mirror = geometry.mirror;
+  runs = runs;
+  initialized = initialized;
+  count = count;
+}
+
+-- the table in the format's terms
+abbrev pub layout_of : Table → Layout
+layout_of table = layout_on table.geometry table.runs table.initialized table.count
+
+-- The layout takes from the geometry what the boot sector tells.
+pub record IsFromGeometry (geometry : Geometry) (layout : Layout) : Type 0 where
+  pub cluster_sectors : layout.cluster_sectors ≡ geometry.cluster / 512
+  pub clusters : layout.clusters ≡ geometry.clusters
+  pub mirror : layout.mirror ≡ geometry.mirror
+
+-- The opened record 0 tells a volume of this geometry that its table lies so.
+pub record TellsLayout (geometry : Geometry) (record_0 : List ℕ) (layout : Layout) : Type 0 where
+  pub volume : IsFromGeometry geometry layout
+  pub table : IsTable geometry.mft record_0 layout
+
+-- The same of record 0 as it is stored.
+pub record HasTable (geometry : Geometry) (stored : List ℕ) (layout : Layout) : Type 0 where
+  pub readable : IsReadable stored
+  pub tells : TellsLayout geometry (opened_of stored) layout
+
+-- the table that was found is one of this volume, and its layout is told so
+abbrev pub IsTableOf : Geometry → (Layout → Type 0) → Table → Type 0
+IsTableOf geometry Tells table = (table.geometry ≡ geometry) × Tells (layout_of table)

@@ -1,0 +1,144 @@
+//! Where the table of records lies, by the table clause of the volume definition.
+ghost use Rattle.std.specs.Prelude.{◌≡◌, ◌<◌, ◌≤◌, ◌+◌, ◌*◌, ◌/◌, ◌^◌, ◌↔◌, ℕ, List, All, IfOk, IfSome, IfNone, IsTrue};
+ghost use Rattle.ntfs_def.specs.declared.run_text.Run.{Run};
+ghost use Rattle.ntfs_def.specs.declared.run_text.Spot.TheVariants.{At};
+ghost use Rattle.ntfs_def.specs.Runs.{MeansRuns, spot_of};
+ghost use Rattle.volume_def.specs.Table.{ArePlaced, FitTable, IsOnVolume, Layout, clusters_in};
+ghost use Rattle.ntfs_boot.specs.Geometry.{FitsDisk};
+ghost use Rattle.data_runs.specs.declared.RunFault.TheVariants.{Memory};
+ghost use Rattle.attr_view.specs.View.{record_of};
+ghost use Rattle.mft_table.specs.Tables.{IsTableOf, TellsLayout};
+
+use crate::find::table_stream;
+use attr_view::{RecordView, Sizes};
+use data_runs::{Run, RunFault, RunList, Spot, decode};
+use ntfs_boot::Geometry;
+use std::alloc::{AllocError, Global};
+
+/// Where the table of records lies, on a volume of this geometry.
+#[derive(Drop)]
+pub struct Table {
+    pub geometry: Geometry,
+    /// The clusters of the table.
+    pub runs: RunList,
+    /// The bytes of the table that were written. Those behind them read as zero.
+    pub initialized: u64,
+    /// The records of the table.
+    pub count: u64,
+}
+
+fn is_memory(fault: RunFault) -> bool
+    ensures { IsTrue result ↔ fault ≡ Memory }
+{
+    matches!(fault, RunFault::Memory)
+}
+
+// The runs that a text means.
+fn read_runs(alloc: Global, text: &[u8]) -> Result<Option<RunList>, AllocError>
+    ensures some { IfOk result (λ found. IfSome found (MeansRuns text.now)) }
+    ensures none { IfOk result (λ found. IfNone found ((runs : List Run) → ¬ (MeansRuns text.now runs))) }
+{
+    match decode(alloc, text) {
+        Ok(runs) => Ok(Some(runs)),
+        Err(fault) if is_memory(fault) => Err(AllocError),
+        Err(_) => Ok(None),
+    }
+}
+
+// Whether a run has a place and lies within so many clusters.
+fn is_on_volume(run: &Run, clusters: u64) -> bool
+    ensures { IsTrue result ↔ IsOnVolume clusters run.now }
+{
+    let Some(lcn) = run.lcn else {
+        return false;
+    };
+    lcn <= clusters && run.len <= clusters - lcn
+}
+
+// Whether each run does.
+fn lie_on(runs: &[Run], clusters: u64) -> bool
+    ensures { IsTrue result ↔ All (IsOnVolume clusters) runs.now }
+{
+    runs.iter().all(|run| is_on_volume(run, clusters))
+}
+
+// Whether the first 1,024 bytes lie from this cluster on, in clusters of so many bytes.
+fn begin_at(runs: &RunList, mft: u64, size: u64) -> bool
+    requires size { 512 ≤ size }
+    requires mft { mft < 2 ^ 26 }
+    ensures { IsTrue result ↔ ((k : ℕ) → k * size < 1024 → spot_of runs.now k ≡ At (mft + k)) }
+{
+    runs.spot(0) == Spot::At(mft) && (size >= 1024 || runs.spot(1) == Spot::At(mft + 1))
+}
+
+// Whether the runs lie on the volume, and the first record where the table begins.
+fn are_placed(runs: &RunList, geometry: &Geometry, size: u64) -> bool
+    requires geometry { FitsDisk geometry.now (2 ^ 55) }
+    requires size { 512 ≤ size }
+    ensures { IsTrue result ↔ ArePlaced geometry.now.mft size geometry.now.clusters runs.now }
+{
+    lie_on(runs.runs(), geometry.clusters) && begin_at(runs, geometry.mft, size)
+}
+
+// The clusters of the runs.
+fn clusters_in(runs: &[Run]) -> u64
+    requires { clusters_in runs.now < 2 ^ 64 }
+    ensures { result ≡ clusters_in runs.now }
+{
+    runs.iter().map(|run| run.len).sum()
+}
+
+// Whether a table in so many clusters can have these sizes.
+fn fit_table(sizes: &Sizes, clusters: u64, size: u64) -> bool
+    ensures { IsTrue result ↔ FitTable sizes.now (clusters * size) }
+{
+    sizes.first == 0
+        && u128::from(sizes.real) <= u128::from(clusters) * u128::from(size)
+        && sizes.real / 1024 >= 24
+        && sizes.real / 1024 <= 1 << 22
+        && sizes.initialized <= sizes.real
+}
+
+// Whether the table can have these sizes and runs.
+fn is_table(geometry: &Geometry, sizes: &Sizes, runs: &RunList, size: u64) -> bool
+    requires geometry { FitsDisk geometry.now (2 ^ 55) }
+    requires size { 512 ≤ size }
+    ensures { IsTrue result ↔ (ArePlaced geometry.now.mft size geometry.now.clusters runs.now
+        × FitTable sizes.now (clusters_in runs.now * size)) }
+{
+    are_placed(runs, geometry, size) && fit_table(sizes, clusters_in(runs.runs()), size)
+}
+
+// Where the table lies, by the opened record 0, and `None` exactly where the table clause does not hold
+// of it.
+pub fn read_table(
+    alloc: Global,
+    geometry: &Geometry,
+    view: &RecordView<'_>,
+) -> Result<Option<Table>, AllocError>
+    requires { FitsDisk geometry.now (2 ^ 55) }
+    ensures some { IfOk result (λ found. IfSome found (IsTableOf geometry.now (TellsLayout geometry.now (record_of view.now)))) }
+    ensures none { IfOk result (λ found. IfNone found ((layout : Layout) → ¬ (TellsLayout geometry.now (record_of view.now) layout))) }
+{
+    let Some(stream) = table_stream(view) else {
+        return Ok(None);
+    };
+    let Some(sizes) = stream.sizes() else {
+        return Ok(None);
+    };
+    let Some(text) = stream.runs() else {
+        return Ok(None);
+    };
+    let Some(runs) = read_runs(alloc, text)? else {
+        return Ok(None);
+    };
+    if !is_table(geometry, &sizes, &runs, u64::from(geometry.cluster)) {
+        return Ok(None);
+    }
+    Ok(Some(Table {
+        geometry: *geometry,
+        runs,
+        initialized: sizes.initialized,
+        count: sizes.real / 1024,
+    }))
+}

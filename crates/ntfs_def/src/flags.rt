@@ -1,0 +1,23 @@
+//! What flags say: of an attribute, and of a record.
+ghost use Rattle.std.specs.Prelude.{◌≡◌, ◌≤◌, length};
+ghost use Rattle.ntfs_def.specs.Packed.{is_packed};
+ghost use Rattle.ntfs_def.specs.Record.{is_in_use};
+
+use crate::kinds::INDEX_ROOT;
+use vol_bytes::u16_at;
+
+/// Whether an attribute of this type with these flags is compressed or encrypted.
+pub fn is_packed(kind: u32, flags: u16) -> bool
+    ensures { result ≡ is_packed kind flags }
+{
+    kind != INDEX_ROOT && (flags % 256 != 0 || flags / 0x4000 % 2 == 1)
+}
+
+/// Whether a block of the table, stored or opened, is a record that is in use: it begins with the
+/// mark of a record and says so in its flags.
+pub fn is_in_use(block: &[u8]) -> bool
+    requires { 24 ≤ length block.now }
+    ensures { result ≡ is_in_use block.now }
+{
+    block.starts_with(b"FILE") && u16_at(block, 0x16) % 2 == 1
+}

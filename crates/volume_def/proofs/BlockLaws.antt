@@ -1,0 +1,120 @@
+-- Where the sectors of the table lie, and what disks that agree on some sectors have in common.
+use Rattle.std.proofs.Common.{◌≡◌, ℕ, zero, suc, ◌+◌, ◌-◌, ◌*◌, ◌/◌, ◌%◌, ◌<◌, ◌≤◌, List, [], ◌∷◌, ◌++◌, length, take, Option, Some, None, refl, sym, ap, ◌∙◌, arith, append-nil}
+use Rattle.std.specs.List.{range_with_len, flat_map}
+use Rattle.std.proofs.lemmas.Nat.{div-mul-add, mod-mul-add, mod_below, div-add-mod'}
+use Rattle.std.proofs.lemmas.List.{take_all}
+use Rattle.ntfs_def.specs.declared.run_text.Spot.{Spot}
+use Rattle.ntfs_def.specs.declared.run_text.Spot.TheVariants.{Outside, Hole, At}
+use Rattle.ntfs_def.specs.Runs.{spot_of}
+use Rattle.volume_def.specs.Blocks.{block_of, cluster_of, copy_of, cut_off, mirror_sector, place_at, shown_at, table_place, table_sector}
+use Rattle.volume_def.specs.Owners.{AreApart, times_in}
+use Rattle.volume_def.specs.Table.{Layout}
+use Rattle.volume_def.proofs.RunPlaces.{spot_of-once, times_in-spot_of}
+
+-- Places.
+
+-- a place tells its cluster, and the sector in it
+placed : (layout : Layout) (k place : ℕ) (spot : Spot) → 0 < layout.cluster_sectors → place_at layout k spot ≡ Some place
+    → spot ≡ At (place / layout.cluster_sectors)
+placed layout k place Outside some e = cc
+placed layout k place Hole some e = cc
+placed layout k place (At cluster) some e =
+    let at : cluster * layout.cluster_sectors + k % layout.cluster_sectors ≡ place = cc in
+    let d = div-mul-add cluster layout.cluster_sectors (k % layout.cluster_sectors) (mod_below k layout.cluster_sectors some) in
+    ap At (sym d ∙ ap (λ q. q / layout.cluster_sectors) at)
+
+placed-rest : (layout : Layout) (k place : ℕ) (spot : Spot) → 0 < layout.cluster_sectors → place_at layout k spot ≡ Some place
+    → place % layout.cluster_sectors ≡ k % layout.cluster_sectors
+placed-rest layout k place Outside some e = cc
+placed-rest layout k place Hole some e = cc
+placed-rest layout k place (At cluster) some e =
+    let at : cluster * layout.cluster_sectors + k % layout.cluster_sectors ≡ place = cc in
+    let d = mod-mul-add cluster layout.cluster_sectors (k % layout.cluster_sectors) (mod_below k layout.cluster_sectors some) in
+    sym (ap (λ q. q % layout.cluster_sectors) at) ∙ d
+
+-- the cluster of a sector of the table is one of the table's
+pub table_place-times : (layout : Layout) (k place : ℕ) → 0 < layout.cluster_sectors → table_place layout k ≡ Some place
+    → 1 ≤ times_in layout.runs (place / layout.cluster_sectors)
+table_place-times layout k place some e =
+    let n = k / layout.cluster_sectors in
+    times_in-spot_of layout.runs n _ (placed layout k place (spot_of layout.runs n) some e)
+
+-- two sectors of the table lie at two places
+pub table_place-once : (layout : Layout) (a b place : ℕ) → 0 < layout.cluster_sectors → AreApart layout.runs
+    → table_place layout a ≡ Some place → table_place layout b ≡ Some place → a ≡ b
+table_place-once layout a b place some apart e f =
+    let per = layout.cluster_sectors in
+    let spot_a = placed layout a place (spot_of layout.runs (a / per)) some e in
+    let spot_b = placed layout b place (spot_of layout.runs (b / per)) some f in
+    let c : a / per ≡ b / per = spot_of-once layout.runs (a / per) (b / per) (place / per) apart spot_a spot_b in
+    let x : place % per ≡ a % per = placed-rest layout a place (spot_of layout.runs (a / per)) some e in
+    let y : place % per ≡ b % per = placed-rest layout b place (spot_of layout.runs (b / per)) some f in
+    sym (div-add-mod' a per) ∙ (ap (λ q. q * per + a % per) c ∙ ap (λ r. b / per * per + r) (sym x ∙ y)) ∙ div-add-mod' b per
+
+-- Frames.
+
+shown-same : (old new : ℕ → List ℕ) (layout : Layout) (k : ℕ) (found : Option ℕ)
+    → ((place : ℕ) → found ≡ Some place → new place ≡ old place) → shown_at new layout k found ≡ shown_at old layout k found
+shown-same old new layout k None same = refl
+shown-same old new layout k (Some place) same = ap (cut_off (layout.initialized - 512 * k)) (same place refl)
+
+-- disks that agree on the sectors of a block have the same block
+pub block_of-same : (old new : ℕ → List ℕ) (layout : Layout) (n : ℕ)
+    → ((k place : ℕ) → k / 2 ≡ n → table_place layout k ≡ Some place → new place ≡ old place) → block_of new layout n ≡ block_of old layout n
+unfolding block_of
+block_of-same old new layout n same =
+    let a : table_sector new layout (2 * n) ≡ table_sector old layout (2 * n) =
+    shown-same old new layout (2 * n) (table_place layout (2 * n)) (λ p e. same (2 * n) p (omega arith) e) in
+    let b : table_sector new layout (2 * n + 1) ≡ table_sector old layout (2 * n + 1) =
+    shown-same old new layout (2 * n + 1) (table_place layout (2 * n + 1)) (λ p e. same (2 * n + 1) p (omega arith) e) in
+    ap (λ x. x ++ table_sector new layout (2 * n + 1)) a ∙ ap (λ x. table_sector old layout (2 * n) ++ x) b
+
+pub copy_of-same : (old new : ℕ → List ℕ) (layout : Layout) (n : ℕ)
+    → ((k : ℕ) → k / 2 ≡ n → new (mirror_sector layout + k) ≡ old (mirror_sector layout + k)) → copy_of new layout n ≡ copy_of old layout n
+unfolding copy_of
+copy_of-same old new layout n same =
+    let at = mirror_sector layout in
+    let a : new (at + 2 * n) ≡ old (at + 2 * n) = same (2 * n) (omega arith) in
+    let e : at + 2 * n + 1 ≡ at + (2 * n + 1) = omega arith in
+    let b : new (at + 2 * n + 1) ≡ old (at + 2 * n + 1) = rw e (same (2 * n + 1) (omega arith)) in
+    ap (λ x. x ++ new (at + 2 * n + 1)) a ∙ ap (λ x. old (at + 2 * n) ++ x) b
+
+pieces-same : (f g : ℕ → List ℕ) (a n : ℕ) → ((i : ℕ) → a ≤ i → i < a + n → g i ≡ f i)
+    → flat_map g (range_with_len a n) ≡ flat_map f (range_with_len a n)
+pieces-same f g a zero same = refl
+pieces-same f g a (suc n) same =
+    ap (λ x. x ++ flat_map g (range_with_len (a + 1) n)) (same a (omega arith) (omega arith))
+    ∙ ap (λ x. f a ++ x) (pieces-same f g (a + 1) n (λ i l u. same i (omega arith) (omega arith)))
+
+pub cluster_of-same : (old new : ℕ → List ℕ) (layout : Layout) (c : ℕ)
+    → ((place : ℕ) → place / layout.cluster_sectors ≡ c → new place ≡ old place) → cluster_of new layout c ≡ cluster_of old layout c
+unfolding cluster_of
+cluster_of-same old new layout c same =
+    let per = layout.cluster_sectors in
+    pieces-same (λ i. old (c * per + i)) (λ i. new (c * per + i)) 0 per (λ i l u. same (c * per + i) (div-mul-add c per i (omega arith)))
+
+-- One block written.
+
+-- a whole sector that is initialized is shown as it is
+cut_off-whole : (n : ℕ) (bytes : List ℕ) → length bytes ≤ n → cut_off n bytes ≡ bytes
+cut_off-whole n bytes fits =
+    let t : take n bytes ≡ bytes = take_all n bytes fits in
+    let z : length bytes - n ≡ 0 = omega arith in
+    rw (t, z) (append-nil bytes)
+
+shown-some : (disk : ℕ → List ℕ) (layout : Layout) (k place : ℕ) (found : Option ℕ) → found ≡ Some place
+    → length (disk place) ≤ 512 → 512 * k + 512 ≤ layout.initialized → shown_at disk layout k found ≡ disk place
+shown-some disk layout k place None e short written = cc
+shown-some disk layout k place (Some other) e short written =
+    let s : other ≡ place = cc in
+    rw s (cut_off-whole (layout.initialized - 512 * k) (disk place) (omega arith))
+
+-- a block that lies whole in what was written
+pub block_of-whole : (disk : ℕ → List ℕ) (layout : Layout) (n low high : ℕ)
+    → table_place layout (2 * n) ≡ Some low → table_place layout (2 * n + 1) ≡ Some high → 1024 * n + 1024 ≤ layout.initialized
+    → length (disk low) ≤ 512 → length (disk high) ≤ 512 → block_of disk layout n ≡ disk low ++ disk high
+unfolding block_of
+block_of-whole disk layout n low high e f written k l =
+    let a : table_sector disk layout (2 * n) ≡ disk low = shown-some disk layout (2 * n) low (table_place layout (2 * n)) e k (omega arith) in
+    let b : table_sector disk layout (2 * n + 1) ≡ disk high = shown-some disk layout (2 * n + 1) high (table_place layout (2 * n + 1)) f l (omega arith) in
+    ap (λ x. x ++ table_sector disk layout (2 * n + 1)) a ∙ ap (λ x. disk low ++ x) b
