@@ -1,5 +1,5 @@
 -- What a disk over a file shows.
-use Rattle.std.specs.Prelude.{ℕ}
+use Rattle.std.specs.Prelude.{ℕ, Bool}
 use Rattle.vol_disk.specs.declared.counts.Counts.{Counts}
 use Rattle.vol_disk.specs.declared.file.FileDisk.{FileDisk}
 
@@ -10,3 +10,7 @@ sectors_of disk = disk.sectors
 -- the calls that failed, and the others
 abbrev pub counts_of : FileDisk → Counts
 counts_of disk = disk.counts
+
+-- nothing was written since the file was last synchronised
+abbrev pub is_synced_of : FileDisk → Bool
+is_synced_of disk = disk.is_synced

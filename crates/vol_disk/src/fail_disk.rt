@@ -1,7 +1,7 @@
 //! A disk that fails at the calls that it was told.
-ghost use Rattle.std.specs.Prelude.{◌≡◌, ◌≢◌, ◌⊎◌, ◌<◌, ◌≤◌, ℕ, [], find, is_some, is_ok, IsErr, IsNone, IfSome, OnSome, IfNone, OnOk, OnErr, IsTrue, false, vec_len};
+ghost use Rattle.std.specs.Prelude.{◌≡◌, ◌≢◌, ◌⊎◌, ◌+◌, ◌<◌, ◌≤◌, ℕ, [], find, is_some, is_ok, IsErr, IsNone, IfSome, OnSome, IfNone, OnOk, OnErr, IsTrue, false, vec_len};
 ghost use Rattle.vol_disk.specs.Contents.{IsTold, Writes, sector_in, settled_more};
-ghost use Rattle.vol_disk.specs.Count.{raised, Rose};
+ghost use Rattle.vol_disk.specs.Count.{raised, Rose, CountsFault};
 
 use crate::counts::Counts;
 use crate::{Disk, Failed};
@@ -119,6 +119,13 @@ impl<D: Disk> FailDisk<D> {
         &self.inner
     }
 
+    /// Hands the disk inside back.
+    pub fn into_inner(self) -> D
+        ensures { result ≡ inner_of self }
+    {
+        self.inner
+    }
+
     // Counts a call of this kind, and gives the entry that lets it fail.
     fn next(&mut self, kind: CallKind) -> Option<Fail>
         ensures planned { result ≡ next_fail self.old kind }
@@ -135,6 +142,7 @@ impl<D: Disk> FailDisk<D> {
 impl<D: Disk> Disk for FailDisk<D> {
     ghost use Rattle.vol_disk.specs.Counting.{after_call, after_read, after_write};
     ghost use Rattle.vol_disk.specs.FailDisks.{inner_of, next_fail, counts_of, Makes};
+    ghost use Rattle.vol_disk.specs.Reading.{DiskReads};
 
     ghost now = { λ disk. D.Disk.now disk.inner };
 
@@ -167,17 +175,13 @@ impl<D: Disk> Disk for FailDisk<D> {
         ensures listed { OnSome (next_fail self.old CallKind.Read) (IsErr result) }
         ensures unasked { OnSome (next_fail self.old CallKind.Read) (inner_of self.new ≡ inner_of self.old) }
         ensures unlisted { IfNone (next_fail self.old CallKind.Read)
-            (OnErr result (Rose (D.faults (inner_of self.old)) (D.faults (inner_of self.new)))) }
-        ensures passed { OnOk result (D.faults (inner_of self.new) ≡ D.faults (inner_of self.old)) }
+            (CountsFault result (D.faults (inner_of self.old)) (D.faults (inner_of self.new))) }
         ensures makes { Makes self.old self.new CallKind.Read }
 
         ensures read { OnOk result (IsTold (D.now (inner_of self.old)) →
             into.new ≡ sector_in (D.now (inner_of self.old)) sector) }
         ensures kept { OnErr result (into.new ≡ into.old) }
-        ensures now { D.now (inner_of self.new) ≡ D.now (inner_of self.old) }
-        ensures settled { D.settled (inner_of self.new) ≡ D.settled (inner_of self.old) }
-        ensures fenced { D.fenced (inner_of self.new) ≡ D.fenced (inner_of self.old) }
-        ensures size { D.size (inner_of self.new) ≡ D.size (inner_of self.old) }
+        ensures reads { DiskReads D.Disk (inner_of self.old) (inner_of self.new) 1 }
         ensures counts { counts_of self.new ≡ after_read (is_ok result) (counts_of self.old) }
         ensures fetched { (counts_of self.old).fetched ≤ (counts_of self.new).fetched }
         ensures faults { (counts_of self.old).faults ≤ (counts_of self.new).faults }
@@ -202,8 +206,7 @@ impl<D: Disk> Disk for FailDisk<D> {
             (Writes (D.now (inner_of self.old)) (D.now (inner_of self.new)) sector from.now
             ⊎ Rose (D.faults (inner_of self.old)) (D.faults (inner_of self.new)))) }
         ensures unlisted { IfNone (next_fail self.old CallKind.Write)
-            (OnErr result (Rose (D.faults (inner_of self.old)) (D.faults (inner_of self.new)))) }
-        ensures passed { OnOk result (D.faults (inner_of self.new) ≡ D.faults (inner_of self.old)) }
+            (CountsFault result (D.faults (inner_of self.old)) (D.faults (inner_of self.new))) }
         ensures makes { Makes self.old self.new CallKind.Write }
 
         ensures now { OnOk result (Writes (D.now (inner_of self.old)) (D.now (inner_of self.new)) sector from.now) }
@@ -216,6 +219,9 @@ impl<D: Disk> Disk for FailDisk<D> {
         ensures settled { D.settled (inner_of self.new) ≡ D.settled (inner_of self.old) }
         ensures fenced { D.fenced (inner_of self.new) ≡ D.fenced (inner_of self.old) }
         ensures size { D.size (inner_of self.new) ≡ D.size (inner_of self.old) }
+        ensures written { OnOk result (D.written (inner_of self.new) ≡ raised (D.written (inner_of self.old))) }
+        ensures once { D.written (inner_of self.new) ≤ D.written (inner_of self.old) + 1 }
+        ensures fetched { D.fetched (inner_of self.new) ≡ D.fetched (inner_of self.old) }
         ensures counts { counts_of self.new ≡ after_write (is_ok result) (counts_of self.old) }
         ensures rises { ((counts_of self.old).written ≤ (counts_of self.new).written)
             × ((counts_of self.old).late ≤ (counts_of self.new).late) }
@@ -245,8 +251,7 @@ impl<D: Disk> Disk for FailDisk<D> {
         ensures listed { OnSome (next_fail self.old CallKind.Barrier) (IsErr result) }
         ensures unasked { OnSome (next_fail self.old CallKind.Barrier) (inner_of self.new ≡ inner_of self.old) }
         ensures unlisted { IfNone (next_fail self.old CallKind.Barrier)
-            (OnErr result (Rose (D.faults (inner_of self.old)) (D.faults (inner_of self.new)))) }
-        ensures passed { OnOk result (D.faults (inner_of self.new) ≡ D.faults (inner_of self.old)) }
+            (CountsFault result (D.faults (inner_of self.old)) (D.faults (inner_of self.new))) }
         ensures makes { Makes self.old self.new CallKind.Barrier }
 
         ensures fenced { OnOk result (D.fenced (inner_of self.new) ≡ D.now (inner_of self.old)) }
@@ -254,6 +259,8 @@ impl<D: Disk> Disk for FailDisk<D> {
         ensures now { D.now (inner_of self.new) ≡ D.now (inner_of self.old) }
         ensures settled { D.settled (inner_of self.new) ≡ D.settled (inner_of self.old) }
         ensures size { D.size (inner_of self.new) ≡ D.size (inner_of self.old) }
+        ensures written { D.written (inner_of self.new) ≡ D.written (inner_of self.old) }
+        ensures fetched { D.fetched (inner_of self.new) ≡ D.fetched (inner_of self.old) }
         ensures counts { counts_of self.new ≡ after_call (is_ok result) (counts_of self.old) }
         ensures faults { (counts_of self.old).faults ≤ (counts_of self.new).faults }
     {
@@ -269,8 +276,7 @@ impl<D: Disk> Disk for FailDisk<D> {
         ensures listed { OnSome (next_fail self.old CallKind.Settle) (IsErr result) }
         ensures unasked { OnSome (next_fail self.old CallKind.Settle) (inner_of self.new ≡ inner_of self.old) }
         ensures unlisted { IfNone (next_fail self.old CallKind.Settle)
-            (OnErr result (Rose (D.faults (inner_of self.old)) (D.faults (inner_of self.new)))) }
-        ensures passed { OnOk result (D.faults (inner_of self.new) ≡ D.faults (inner_of self.old)) }
+            (CountsFault result (D.faults (inner_of self.old)) (D.faults (inner_of self.new))) }
         ensures makes { Makes self.old self.new CallKind.Settle }
 
         ensures settled { OnOk result
@@ -279,6 +285,8 @@ impl<D: Disk> Disk for FailDisk<D> {
         ensures fenced { D.fenced (inner_of self.new) ≡ D.fenced (inner_of self.old) }
         ensures now { D.now (inner_of self.new) ≡ D.now (inner_of self.old) }
         ensures size { D.size (inner_of self.new) ≡ D.size (inner_of self.old) }
+        ensures written { D.written (inner_of self.new) ≡ D.written (inner_of self.old) }
+        ensures fetched { D.fetched (inner_of self.new) ≡ D.fetched (inner_of self.old) }
         ensures counts { counts_of self.new ≡ after_call (is_ok result) (counts_of self.old) }
         ensures faults { (counts_of self.old).faults ≤ (counts_of self.new).faults }
     {

@@ -1,6 +1,6 @@
 //! A disk over a file or a block device.
-ghost use Rattle.std.specs.Prelude.{◌≡◌, ◌*◌, ◌^◌, ◌<◌, ◌≤◌, None, OnOk, OnErr, is_ok};
-ghost use Rattle.vol_disk.specs.Count.{raised};
+ghost use Rattle.std.specs.Prelude.{◌≡◌, ◌*◌, ◌^◌, ◌<◌, ◌≤◌, None, OnOk, OnErr, IsOk, IsTrue, IsFalse, is_ok};
+ghost use Rattle.vol_disk.specs.Counting.{after_call};
 
 use crate::counts::Counts;
 use crate::{Disk, Failed, SECTOR};
@@ -12,12 +12,15 @@ use std::os::unix::fs::FileExt;
 pub struct FileDisk {
     file: File,
     sectors: u64,
+    // Nothing was written since the last synchronisation.
     is_synced: bool,
     counts: Counts,
     ghost few: { sectors < 2 ^ 55 },
 }
 
 impl FileDisk {
+    ghost use Rattle.vol_disk.specs.FileDisks.{is_synced_of};
+
     /// The first `sectors` sectors of the file, which is to be open for reading and writing.
     pub fn new(file: File, sectors: u64) -> FileDisk
         requires { sectors < 2 ^ 55 }
@@ -28,6 +31,7 @@ impl FileDisk {
         ensures written { ⟦<FileDisk as Disk>⟧.written result ≡ 0 }
         ensures fetched { ⟦<FileDisk as Disk>⟧.fetched result ≡ 0 }
         ensures late { ⟦<FileDisk as Disk>⟧.late result ≡ 0 }
+        ensures synced { IsTrue (is_synced_of result) }
     {
         FileDisk {
             file,
@@ -39,10 +43,12 @@ impl FileDisk {
 
     // Synchronises the file where something was written since the last time.
     fn sync(&mut self) -> Result<(), Failed>
+        ensures synced { OnOk result (IsTrue self.new.is_synced) }
+        ensures unsynced { OnErr result (self.new.is_synced ≡ self.old.is_synced) }
+        ensures idle { IsTrue self.old.is_synced → IsOk result }
         ensures sectors { self.new.sectors ≡ self.old.sectors }
-        ensures ok { OnOk result (self.new.counts ≡ self.old.counts) }
-        ensures err { OnErr result (self.new.counts ≡ record self.old.counts { faults = raised self.old.counts.faults }) }
-        ensures rises { self.old.counts.faults ≤ self.new.counts.faults }
+        ensures counts { self.new.counts ≡ after_call (is_ok result) self.old.counts }
+        ensures faults { self.old.counts.faults ≤ self.new.counts.faults }
     {
         if self.is_synced {
             return Ok(());
@@ -66,8 +72,8 @@ fn offset_of(sector: u64) -> u64
 }
 
 impl Disk for FileDisk {
-    ghost use Rattle.vol_disk.specs.Counting.{after_call, after_read, after_write};
-    ghost use Rattle.vol_disk.specs.FileDisks.{counts_of, sectors_of};
+    ghost use Rattle.vol_disk.specs.Counting.{after_read, after_write};
+    ghost use Rattle.vol_disk.specs.FileDisks.{counts_of, is_synced_of, sectors_of};
 
     ghost now = { λ _. None };
 
@@ -97,6 +103,7 @@ impl Disk for FileDisk {
         requires { sector < sectors_of self.old }
         ensures size { sectors_of self.new ≡ sectors_of self.old }
         ensures kept { OnErr result (into.new ≡ into.old) }
+        ensures synced { is_synced_of self.new ≡ is_synced_of self.old }
         ensures counts { counts_of self.new ≡ after_read (is_ok result) (counts_of self.old) }
         ensures fetched { (counts_of self.old).fetched ≤ (counts_of self.new).fetched }
         ensures faults { (counts_of self.old).faults ≤ (counts_of self.new).faults }
@@ -115,6 +122,7 @@ impl Disk for FileDisk {
     fn write(&mut self, sector: u64, from: &[u8; 512]) -> Result<(), Failed>
         requires { sector < sectors_of self.old }
         ensures size { sectors_of self.new ≡ sectors_of self.old }
+        ensures unsynced { IsFalse (is_synced_of self.new) }
         ensures counts { counts_of self.new ≡ after_write (is_ok result) (counts_of self.old) }
         ensures rises { ((counts_of self.old).written ≤ (counts_of self.new).written)
             × ((counts_of self.old).late ≤ (counts_of self.new).late) }
@@ -131,7 +139,11 @@ impl Disk for FileDisk {
         }
     }
 
+    /// Synchronises the file, unless nothing was written since that was last done.
     fn barrier(&mut self) -> Result<(), Failed>
+        ensures synced { OnOk result (IsTrue (is_synced_of self.new)) }
+        ensures unsynced { OnErr result (is_synced_of self.new ≡ is_synced_of self.old) }
+        ensures idle { IsTrue (is_synced_of self.old) → IsOk result }
         ensures size { sectors_of self.new ≡ sectors_of self.old }
         ensures counts { counts_of self.new ≡ after_call (is_ok result) (counts_of self.old) }
         ensures faults { (counts_of self.old).faults ≤ (counts_of self.new).faults }
@@ -139,7 +151,11 @@ impl Disk for FileDisk {
         self.sync()
     }
 
+    /// The same as a barrier.
     fn settle(&mut self) -> Result<(), Failed>
+        ensures synced { OnOk result (IsTrue (is_synced_of self.new)) }
+        ensures unsynced { OnErr result (is_synced_of self.new ≡ is_synced_of self.old) }
+        ensures idle { IsTrue (is_synced_of self.old) → IsOk result }
         ensures size { sectors_of self.new ≡ sectors_of self.old }
         ensures counts { counts_of self.new ≡ after_call (is_ok result) (counts_of self.old) }
         ensures faults { (counts_of self.old).faults ≤ (counts_of self.new).faults }

@@ -6,7 +6,7 @@
 #![tactic(auto)]
 
 ghost use Rattle.std.specs.Prelude.{◌≡◌, ◌≢◌, ◌⊎◌, ◌+◌, ◌*◌, ◌^◌, ◌<◌, ◌≤◌, ℕ, [], List, length, take, Option, IfSome, IfOk, OnOk, OnErr, is_some};
-ghost use Rattle.vol_disk.specs.Count.{raised, Rose};
+ghost use Rattle.vol_disk.specs.Count.{raised, CountsFault};
 ghost use Rattle.vol_disk.specs.Contents.{IsTold, sector_in, told, with_sector, settled_more};
 ghost use Rattle.vol_disk.specs.Stream.{Gives, Appended};
 
@@ -105,9 +105,7 @@ pub trait Disk {
         ensures fetched { fetched self.old ≤ fetched self.new }
         ensures fetched_once { fetched self.new ≤ fetched self.old + 1 }
 
-        ensures faults { faults self.old ≤ faults self.new }
-        ensures quiet { OnOk result (faults self.new ≡ faults self.old) }
-        ensures cause { OnErr result (Rose (faults self.old) (faults self.new)) };
+        ensures faults { CountsFault result (faults self.old) (faults self.new) };
 
     /// Writes one sector. Where it fails, that sector is old or new, and every other is as it was.
     fn write(&mut self, sector: u64, from: &[u8; 512]) -> Result<(), Failed>
@@ -131,9 +129,7 @@ pub trait Disk {
         ensures on_time { faults self.old ≡ 0 → late self.new ≡ late self.old }
         ensures late { 0 < faults self.old → late self.new ≡ raised (late self.old) }
 
-        ensures faults { faults self.old ≤ faults self.new }
-        ensures quiet { OnOk result (faults self.new ≡ faults self.old) }
-        ensures cause { OnErr result (Rose (faults self.old) (faults self.new)) };
+        ensures faults { CountsFault result (faults self.old) (faults self.new) };
 
     /// Orders the writes before it before those after it. It changes nothing that can be read.
     fn barrier(&mut self) -> Result<(), Failed>
@@ -147,9 +143,7 @@ pub trait Disk {
         ensures fetched { fetched self.new ≡ fetched self.old }
         ensures late { late self.new ≡ late self.old }
 
-        ensures faults { faults self.old ≤ faults self.new }
-        ensures quiet { OnOk result (faults self.new ≡ faults self.old) }
-        ensures cause { OnErr result (Rose (faults self.old) (faults self.new)) };
+        ensures faults { CountsFault result (faults self.old) (faults self.new) };
 
     /// Makes what was written stay. Where it fails, the contents are as they were.
     fn settle(&mut self) -> Result<(), Failed>
@@ -163,9 +157,7 @@ pub trait Disk {
         ensures fetched { fetched self.new ≡ fetched self.old }
         ensures late { late self.new ≡ late self.old }
 
-        ensures faults { faults self.old ≤ faults self.new }
-        ensures quiet { OnOk result (faults self.new ≡ faults self.old) }
-        ensures cause { OnErr result (Rose (faults self.old) (faults self.new)) };
+        ensures faults { CountsFault result (faults self.old) (faults self.new) };
 
     /// The contents are as long as the sectors.
     ghost told_length: { (disk : Self) → IfSome (now disk) (λ all. length all ≡ 512 * size disk) };
@@ -191,9 +183,7 @@ pub trait Source {
         ensures kept { OnErr result (left self.new ≡ left self.old) }
         ensures told { is_some (left self.new) ≡ is_some (left self.old) }
 
-        ensures faults { faults self.old ≤ faults self.new }
-        ensures quiet { OnOk result (faults self.new ≡ faults self.old) }
-        ensures cause { OnErr result (Rose (faults self.old) (faults self.new)) };
+        ensures faults { CountsFault result (faults self.old) (faults self.new) };
 }
 
 /// A sink for bytes, such as standard output.
@@ -212,7 +202,5 @@ pub trait Sink {
         ensures got { IfOk result (λ n. Appended (got self.old) (take n from.now) (got self.new)) }
         ensures kept { OnErr result (got self.new ≡ got self.old) }
 
-        ensures faults { faults self.old ≤ faults self.new }
-        ensures quiet { OnOk result (faults self.new ≡ faults self.old) }
-        ensures cause { OnErr result (Rose (faults self.old) (faults self.new)) };
+        ensures faults { CountsFault result (faults self.old) (faults self.new) };
 }

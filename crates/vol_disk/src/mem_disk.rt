@@ -137,6 +137,15 @@ impl MemDisk {
         &self.writes
     }
 
+    /// For each settle that answered Ok the number of writes before it, the first settle first.
+    pub fn settles(&self) -> &[usize]
+        ensures settles { result.now ≡ (shown self.now).settles }
+        ensures settled { ⟦<MemDisk as Disk>⟧.settled self.now ≡
+            Some (contents_at result.now (shown self.now).writes (shown self.now).first) }
+    {
+        &self.settles
+    }
+
     // Does a write, and notes it.
     fn record(&mut self, sector: u64, from: &[u8; 512])
         requires room { 0 < self.old.room }

@@ -1,6 +1,6 @@
 //! Whole texts into a sink.
 ghost use Rattle.std.specs.Prelude.{◌≡◌, ◌≤◌, OnOk, OnErr};
-ghost use Rattle.vol_disk.specs.Count.{Rose};
+ghost use Rattle.vol_disk.specs.Count.{CountsFault};
 ghost use Rattle.vol_disk.specs.Stream.{Appended, AppendedPart};
 
 use crate::{Failed, Sink};
@@ -10,10 +10,7 @@ use crate::{Failed, Sink};
 pub fn write_all<K: Sink>(out: &mut K, text: &[u8]) -> Result<(), Failed>
     ensures got { OnOk result (Appended (K.got out.old) text.now (K.got out.new)) }
     ensures part { OnErr result (AppendedPart (K.got out.old) text.now (K.got out.new)) }
-
-    ensures faults { K.faults out.old ≤ K.faults out.new }
-    ensures quiet { OnOk result (K.faults out.new ≡ K.faults out.old) }
-    ensures cause { OnErr result (Rose (K.faults out.old) (K.faults out.new)) }
+    ensures faults { CountsFault result (K.faults out.old) (K.faults out.new) }
 {
     let mut done = 0;
     while done < text.len() {

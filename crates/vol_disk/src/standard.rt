@@ -1,7 +1,7 @@
 //! A source and a sink over readers and writers, such as standard input and output.
-ghost use Rattle.std.specs.Prelude.{◌≡◌, ◌<◌, ◌≤◌, length, take, None, IfSome, IfNone, IfOk, OnOk, OnErr};
+ghost use Rattle.std.specs.Prelude.{◌≡◌, ◌<◌, ◌≤◌, length, take, None, IfSome, IfNone, IfOk, OnErr, is_ok};
 ghost use Rattle.std.specs.Io.KnownBytes.{Keeps, Appends};
-ghost use Rattle.vol_disk.specs.Count.{raised};
+ghost use Rattle.vol_disk.specs.Count.{faults_after};
 ghost use Rattle.vol_disk.specs.Passing.{Reads};
 
 use crate::{Failed, Sink, Source};
@@ -57,9 +57,8 @@ impl<R: Read + Drop> Source for StdSource<R> {
             (λ n. Reads (R.remaining (reader_of self.old)) (R.remaining (reader_of self.new)) n into.new) }
         ensures kept { OnErr result (Keeps (R.remaining (reader_of self.old)) (R.remaining (reader_of self.new))) }
 
-        ensures faults { source_faults self.old ≤ source_faults self.new }
-        ensures quiet { OnOk result (source_faults self.new ≡ source_faults self.old) }
-        ensures cause { OnErr result (source_faults self.new ≡ raised (source_faults self.old)) }
+        ensures faults { source_faults self.new ≡ faults_after (is_ok result) (source_faults self.old) }
+        ensures rises { source_faults self.old ≤ source_faults self.new }
     {
         match read_some(&mut self.input, into) {
             Some(n) => Ok(n),
@@ -125,9 +124,8 @@ impl<W: Write + Drop> Sink for StdSink<W> {
             (λ n. Appends (W.contents (writer_of self.old)) (W.contents (writer_of self.new)) (take n from.now)) }
         ensures kept { OnErr result (Keeps (W.contents (writer_of self.old)) (W.contents (writer_of self.new))) }
 
-        ensures faults { sink_faults self.old ≤ sink_faults self.new }
-        ensures quiet { OnOk result (sink_faults self.new ≡ sink_faults self.old) }
-        ensures cause { OnErr result (sink_faults self.new ≡ raised (sink_faults self.old)) }
+        ensures faults { sink_faults self.new ≡ faults_after (is_ok result) (sink_faults self.old) }
+        ensures rises { sink_faults self.old ≤ sink_faults self.new }
     {
         match write_some(&mut self.output, from) {
             Some(n) => Ok(n),

@@ -5,8 +5,9 @@ use crate::{
     StdSink, StdSource, Write, write_all,
 };
 use std::alloc::{AllocError, Global};
+use std::env;
 use std::fs::{self, OpenOptions};
-use std::{env, io};
+use std::io::{self, ErrorKind};
 
 const ZERO: [u8; 512] = [0; 512];
 
@@ -16,34 +17,31 @@ const TWO: [u8; 512] = [2; 512];
 
 #[test]
 fn a_disk_in_memory_keeps_its_writes(rt: HostRuntime) -> Result<(), AllocError> {
-    let mut disk = MemDisk::new(rt.alloc(), vec![in rt.alloc(); 0; 1024]?);
-    assert_eq!(rt; disk.reserve(3), Ok(()));
-    assert_eq!(rt; disk.sectors(), 2);
+    let mut disk = MemDisk::new(rt.alloc(), vec![in rt.alloc(); 0; 10_240_000]?);
+    assert_eq!(rt; disk.reserve(20_000), Ok(()));
+    assert_eq!(rt; disk.sectors(), 20_000);
     assert_eq!(rt; disk.write(1, &ONE), Ok(()));
     assert_eq!(rt; disk.settle(), Ok(()));
-    assert_eq!(rt; disk.write(0, &TWO), Ok(()));
+    assert_eq!(rt; disk.write(19_999, &TWO), Ok(()));
     assert_eq!(rt; disk.barrier(), Ok(()));
-
-    // The room is used up.
-    assert_eq!(rt; disk.write(0, &ONE), Err(Failed));
-    assert_eq!(rt; disk.settle(), Err(Failed));
 
     let mut into = ZERO;
     assert_eq!(rt; disk.read(1, &mut into), Ok(()));
     assert!(rt; into == ONE);
-    assert!(rt; disk.contents().starts_with(&TWO));
-    assert!(rt; disk.contents().ends_with(&ONE));
-    assert!(rt; disk.first() == [0; 1024].as_slice());
+    assert!(rt; disk.contents().starts_with(&ZERO));
+    assert!(rt; disk.contents().ends_with(&TWO));
+    assert!(rt; disk.first().ends_with(&ZERO));
     let second = Write {
-        sector: 0,
+        sector: 19_999,
         bytes: TWO,
     };
     assert_eq!(rt; disk.writes().len(), 2);
     assert!(rt; disk.writes()[1] == second);
+    assert!(rt; disk.settles() == [1].as_slice());
     Ok(())
 }
 
-// Writes a sector twice through the bound.
+// Writes sector 0 twice through the bound.
 fn write_twice<D: Disk>(
     disk: &mut D,
     first: &[u8; 512],
@@ -57,7 +55,7 @@ fn write_twice<D: Disk>(
 
 #[test]
 fn a_listed_write_fails_and_may_land(rt: HostRuntime) -> Result<(), AllocError> {
-    for (lands, wanted) in [(true, 2), (false, 1)] {
+    for (lands, wanted) in [(true, &TWO), (false, &ONE)] {
         let fail = Fail {
             kind: CallKind::Write,
             number: 2,
@@ -67,22 +65,60 @@ fn a_listed_write_fails_and_may_land(rt: HostRuntime) -> Result<(), AllocError> 
         assert_eq!(rt; inner.reserve(9), Ok(()));
         let mut disk = FailDisk::new(inner, vec![in rt.alloc(); fail]?);
         let answers = write_twice(&mut disk, &ONE, &TWO);
-        assert_eq!(rt; answers[0], Ok(()));
-        assert_eq!(rt; answers[1], Err(Failed));
-        assert_eq!(rt;
-            disk.inner().contents().first().copied(),
-            Some(wanted),
+        assert!(rt; answers == [Ok(()), Err(Failed)]);
+        assert!(rt;
+            disk.inner().contents() == wanted.as_slice(),
             "lands: {lands}"
         );
 
         // Only that call.
-        assert_eq!(rt; disk.barrier(), Ok(()));
         assert_eq!(rt; disk.settle(), Ok(()));
-        assert_eq!(rt; disk.write(0, &ONE), Ok(()));
-        let mut into = ZERO;
-        assert_eq!(rt; disk.read(0, &mut into), Ok(()));
-        assert!(rt; into == ONE);
+        assert_eq!(rt; disk.write(0, &ZERO), Ok(()));
         assert_eq!(rt; disk.sectors(), 1);
+        let inner = disk.into_inner();
+        assert!(rt; inner.contents() == ZERO.as_slice());
+        assert!(rt; inner.settles().len() == 1);
+    }
+    Ok(())
+}
+
+// One call of this kind.
+fn call<D: Disk>(disk: &mut D, kind: CallKind) -> Result<(), Failed>
+    requires { 0 < D.size disk.old }
+    ensures { D.size disk.new ≡ D.size disk.old }
+{
+    match kind {
+        CallKind::Read => {
+            let mut into = ZERO;
+            disk.read(0, &mut into)
+        }
+        CallKind::Write => disk.write(0, &ONE),
+        CallKind::Barrier => disk.barrier(),
+        CallKind::Settle => disk.settle(),
+    }
+}
+
+// The disk inside fails at its second call, so it shows how often it is asked.
+#[test]
+fn each_call_asks_the_disk_inside_once(rt: HostRuntime) -> Result<(), AllocError> {
+    for kind in [
+        CallKind::Read,
+        CallKind::Write,
+        CallKind::Barrier,
+        CallKind::Settle,
+    ] {
+        let second = Fail {
+            kind,
+            number: 2,
+            lands: false,
+        };
+        let mut inner = MemDisk::new(rt.alloc(), vec![in rt.alloc(); 0; 512]?);
+        assert_eq!(rt; inner.reserve(9), Ok(()));
+        let inside = FailDisk::new(inner, vec![in rt.alloc(); second]?);
+        let mut disk = FailDisk::new(inside, Vec::new(rt.alloc()));
+        assert_eq!(rt; call(&mut disk, kind), Ok(()), "{kind:?}");
+        assert_eq!(rt; call(&mut disk, kind), Err(Failed), "{kind:?}");
+        assert_eq!(rt; call(&mut disk, kind), Ok(()), "{kind:?}");
     }
     Ok(())
 }
@@ -111,15 +147,64 @@ fn sources_give_their_bytes(rt: HostRuntime) -> Result<(), AllocError> {
 #[test]
 fn sinks_take_bytes(rt: HostRuntime) -> Result<(), AllocError> {
     let mut sink = MemSink::new(rt.alloc(), vec![in rt.alloc(); 2]?);
-    assert_eq!(rt; sink.reserve(5), Ok(()));
+    assert_eq!(rt; sink.reserve(5_000_000), Ok(()));
     assert_eq!(rt; sink.write(b"abc"), Ok(3));
     assert_eq!(rt; sink.write(b"def"), Err(Failed));
-    assert_eq!(rt; write_all(&mut sink, b"def"), Err(Failed));
-    assert!(rt; sink.bytes() == b"abcde".as_slice());
+    assert_eq!(rt; write_all(&mut sink, b"def"), Ok(()));
+    assert!(rt; sink.bytes() == b"abcdef".as_slice());
 
     let mut sink = StdSink::new(Vec::new(rt.alloc()));
     assert_eq!(rt; write_all(&mut sink, b"abc"), Ok(()));
     Ok(())
+}
+
+// A stream whose first call fails with an error of this kind. Later ones take or give one byte.
+#[derive(Drop)]
+struct Flaky {
+    first: Option<ErrorKind>,
+}
+
+impl io::Read for Flaky {
+    fn read(&mut self, into: &mut [u8]) -> io::Result<usize> {
+        if let Some(kind) = self.first.take() {
+            return Err(io::Error::from(kind));
+        }
+        match into.first_mut() {
+            Some(byte) => {
+                *byte = 7;
+                Ok(1)
+            }
+            None => Ok(0),
+        }
+    }
+}
+
+impl io::Write for Flaky {
+    fn write(&mut self, from: &[u8]) -> io::Result<usize> {
+        if let Some(kind) = self.first.take() {
+            return Err(io::Error::from(kind));
+        }
+        Ok(from.len().min(1))
+    }
+
+    fn flush(&mut self) -> io::Result<()> {
+        Ok(())
+    }
+}
+
+#[test]
+fn an_interrupted_call_is_asked_for_again(rt: HostRuntime) {
+    for (first, wanted) in [
+        (ErrorKind::Interrupted, Ok(1)),
+        (ErrorKind::BrokenPipe, Err(Failed)),
+        (ErrorKind::WouldBlock, Err(Failed)),
+    ] {
+        let mut into = [0; 4];
+        let mut source = StdSource::new(Flaky { first: Some(first) });
+        assert!(rt; source.read(&mut into) == wanted);
+        let mut sink = StdSink::new(Flaky { first: Some(first) });
+        assert!(rt; sink.write(b"abc") == wanted);
+    }
 }
 
 // A writer that takes nothing.
@@ -150,17 +235,32 @@ fn a_file_is_a_disk(rt: HostRuntime) -> io::Result<()> {
         .read(true)
         .write(true)
         .open(&rt, path.as_path())?;
-    let mut disk = FileDisk::new(file, 2);
+    let mut disk = FileDisk::new(file, 3);
     let mut into = ZERO;
-    assert_eq!(rt; disk.sectors(), 2);
+    assert_eq!(rt; disk.sectors(), 3);
     assert_eq!(rt; disk.write(1, &ONE), Ok(()));
     assert_eq!(rt; disk.barrier(), Ok(()));
     assert_eq!(rt; disk.settle(), Ok(()));
     assert_eq!(rt; disk.read(1, &mut into), Ok(()));
     assert!(rt; into == ONE);
 
+    // The file ends before the third sector.
+    assert_eq!(rt; disk.read(2, &mut into), Err(Failed));
+
     let bytes = fs::read(&rt, path.as_path())?;
     assert!(rt; bytes.starts_with(&ZERO));
     assert!(rt; bytes.ends_with(&ONE));
     fs::remove_file(&rt, path.as_path())
+}
+
+// The null device takes each write and cannot be synchronised.
+#[test]
+fn a_disk_that_cannot_be_synchronised_fails(rt: HostRuntime) -> io::Result<()> {
+    let file = OpenOptions::new().write(true).open(&rt, "/dev/null")?;
+    let mut disk = FileDisk::new(file, 1);
+    assert_eq!(rt; disk.barrier(), Ok(()));
+    assert_eq!(rt; disk.write(0, &ONE), Ok(()));
+    assert_eq!(rt; disk.barrier(), Err(Failed));
+    assert_eq!(rt; disk.settle(), Err(Failed));
+    Ok(())
 }

@@ -8,5 +8,5 @@ loop-done-preserved g c =
     record {
       within = omega (arith, c.in_ok-done.ensures.within, here, c.loop-done.invariant.within);
       got = Appended-more _ _ _ c.args.text.now c.loop-done.done c.in_ok-done.field-0 c.loop-done.invariant.got c.in_ok-done.ensures.got;
-      quiet = c.in_ok-done.ensures.quiet ∙ c.loop-done.invariant.quiet;
+      quiet = c.in_ok-done.ensures.faults ∙ c.loop-done.invariant.quiet;
     }
