@@ -1,1 +1,4 @@
 pub mod Tables
+pub mod StageCauses
+pub mod TableNos
+pub mod Blocks

@@ -1,6 +1,15 @@
 //! The table of records of a volume: where it lies, and its records by number.
 #![tactic(auto)]
 
+mod blocks;
+mod error;
 mod find;
+mod open;
 mod table;
+mod volume;
+
+pub use blocks::{BlockReader, read_two_sectors};
+pub use error::TableNo;
+pub use open::open_record;
 pub use table::Table;
+pub use volume::{find_table, read_boot_sector};

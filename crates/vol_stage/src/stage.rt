@@ -1,5 +1,5 @@
 //! The stage: a disk, and the sectors that are to be written to it.
-ghost use Rattle.std.specs.Prelude.{◌≡◌, ◌^◌, ◌<◌, [], false, Contains, IfErr, IsOk, OnOk, OnErr};
+ghost use Rattle.std.specs.Prelude.{◌≡◌, ◌*◌, ◌^◌, ◌<◌, [], false, Contains, IfErr, IfSome, IsOk, OnOk, OnErr, length};
 ghost use Rattle.vol_disk.specs.Contents.{IsTold, sector_in};
 ghost use Rattle.vol_disk.specs.Count.{CountsFault};
 ghost use Rattle.vol_stage.specs.Puts.{AreRising, AreWhole, AreWithin};
@@ -63,6 +63,7 @@ impl<D: Disk> Stage<'_, D> {
     pub fn sectors(&self) -> u64
         ensures size { result ≡ D.size (disk_of D.Disk self.now) }
         ensures few { result < 2 ^ 55 }
+        ensures length { IfSome (image D.Disk self.now) (λ all. length all ≡ 512 * result) }
     {
         self.disk.sectors()
     }

@@ -1,0 +1,17 @@
+-- No layout by the opened record 0 is none by the stored one.
+use Rattle.std.proofs.Common.{◌≡◌, ℕ, List, Option, None, Some, Result, Ok, Err, sym, subst}
+use Rattle.std.specs.Prelude.{IfNone, IfOk}
+use Rattle.ntfs_def.specs.Fixup.{opened_of}
+use Rattle.ntfs_boot.specs.declared.Geometry.{Geometry}
+use Rattle.volume_def.specs.Table.{Layout}
+use Rattle.mft_table.specs.declared.table.Table.{Table}
+use Rattle.mft_table.specs.Tables.{HasTable, TellsLayout}
+
+pub none-stored : {E : Type 0} (found : Result (Option Table) E) (geometry : Geometry) (stored opened : List ℕ)
+    → opened ≡ opened_of stored
+    → IfOk found (λ table. IfNone table ((layout : Layout) → ¬ (TellsLayout geometry opened layout)))
+    → IfOk found (λ table. IfNone table ((layout : Layout) → ¬ (HasTable geometry stored layout)))
+none-stored (Ok None) geometry stored opened is none =
+    λ layout has. none layout (subst (λ (r : List ℕ). TellsLayout geometry r layout) (sym is) has.tells)
+none-stored (Ok (Some table)) geometry stored opened is none = tt
+none-stored (Err e) geometry stored opened is none = tt

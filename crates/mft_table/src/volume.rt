@@ -1,0 +1,99 @@
+//! The table of a volume, found from its boot sector on.
+ghost use Rattle.std.specs.Prelude.{◌≡◌, ◌*◌, ◌/◌, ◌^◌, ℕ, List, Some, IfErr, IfNone, IfOk, IfSome, MatchResult};
+ghost use Rattle.vol_disk.specs.Contents.{IsTold, sector_in};
+ghost use Rattle.vol_disk.specs.Count.{CountsFault};
+ghost use Rattle.ntfs_def.specs.Boot.{boot_sector};
+ghost use Rattle.ntfs_boot.specs.Geometry.{FitsDisk, geometry_of};
+ghost use Rattle.volume_def.specs.Table.{Layout, LiesOn, MeetsTableClause};
+ghost use Rattle.vol_stage.specs.Staged.{StageReads, disk_of, image};
+ghost use Rattle.mft_table.specs.TableNos.{Counts, HasTableOf, Refuses, RefusesAt};
+ghost use Rattle.mft_table.specs.Tables.{HasTable, IsTableOf, layout_of};
+
+use crate::blocks::read_two_sectors;
+use crate::open::open_record;
+use crate::table::{Table, read_table};
+use crate::TableNo;
+use ntfs_boot::Geometry;
+use std::alloc::{AllocError, Global};
+use vol_disk::Disk;
+use vol_stage::{Stage, StageNo};
+
+/// The first sector, which is zero on a disk without one.
+pub fn read_boot_sector<D: Disk>(stage: &mut Stage<'_, D>) -> Result<[u8; 512], StageNo>
+    ensures sector { IfOk result (λ sector. (all : List ℕ) → image D.Disk stage.old ≡ Some all → sector ≡ boot_sector all) }
+    ensures reads { StageReads D.Disk stage.old stage.new 1 }
+    ensures faults { CountsFault result (D.faults (disk_of D.Disk stage.old)) (D.faults (disk_of D.Disk stage.new)) }
+    ensures device { IfErr result (λ error. error ≡ StageNo.Device) }
+{
+    let mut sector = [0; 512];
+    if stage.sectors() > 0 {
+        stage.read(0, &mut sector)?;
+    }
+    Ok(sector)
+}
+
+// Where the table lies, by record 0 as it is stored, and `None` where the table clause does not hold.
+fn table_in(
+    alloc: Global,
+    geometry: &Geometry,
+    block: &mut [u8; 1024],
+) -> Result<Option<Table>, AllocError>
+    requires { FitsDisk geometry.now (2 ^ 55) }
+    ensures some { IfOk result (λ found. IfSome found (IsTableOf geometry.now (HasTable geometry.now block.old))) }
+    ensures none { IfOk result (λ found. IfNone found ((layout : Layout) → ¬ (HasTable geometry.now block.old layout))) }
+{
+    match open_record(block) {
+        Some(view) => read_table(alloc, geometry, &view),
+        None => Ok(None),
+    }
+}
+
+// Where the table of a volume of this geometry lies.
+fn find_at<D: Disk>(
+    alloc: Global,
+    stage: &mut Stage<'_, D>,
+    geometry: &Geometry,
+) -> Result<Table, TableNo>
+    requires { FitsDisk geometry.now (D.size (disk_of D.Disk stage.old)) }
+    ensures geometry { IfOk result (λ table. table.geometry ≡ geometry.now) }
+    ensures ok { IfOk result (λ table. (all boot : List ℕ) → image D.Disk stage.old ≡ Some all → geometry.now ≡ geometry_of boot
+        → MeetsTableClause (sector_in (Some all)) boot (layout_of table)) }
+    ensures lies { IfOk result (λ table. LiesOn (D.size (disk_of D.Disk stage.old)) (layout_of table)) }
+    ensures err { IfErr result (λ no. (all boot : List ℕ) → image D.Disk stage.old ≡ Some all → geometry.now ≡ geometry_of boot
+        → RefusesAt (sector_in (Some all)) boot no) }
+    ensures reads { StageReads D.Disk stage.old stage.new 2 }
+    ensures faults { MatchResult result (λ _. D.faults (disk_of D.Disk stage.new) ≡ D.faults (disk_of D.Disk stage.old))
+        (Counts (D.faults (disk_of D.Disk stage.old)) (D.faults (disk_of D.Disk stage.new))) }
+{
+    let sector = geometry.mft * u64::from(geometry.cluster / 512);
+    if sector + 2 > stage.sectors() {
+        return Err(TableNo::Table);
+    }
+    let mut block = [0; 1024];
+    read_two_sectors(stage, sector, &mut block)?;
+    match table_in(alloc, geometry, &mut block)? {
+        Some(table) => Ok(table),
+        None => Err(TableNo::Table),
+    }
+}
+
+/// Finds the table of records of a volume, from its boot sector and record 0 alone.
+///
+/// # Errors
+///
+/// `Boot` where the boot clause of the volume definition fails, with the first test that does; `Table`
+/// where the boot clause holds and the table clause fails; `Device` where the disk failed.
+pub fn find_table<D: Disk>(alloc: Global, stage: &mut Stage<'_, D>) -> Result<Table, TableNo>
+    ensures ok { IfOk result (λ table. (all : List ℕ) → image D.Disk stage.old ≡ Some all → HasTableOf all table) }
+    ensures lies { IfOk result (λ table. LiesOn (D.size (disk_of D.Disk stage.old)) (layout_of table)) }
+    ensures err { IfErr result (λ no. (all : List ℕ) → image D.Disk stage.old ≡ Some all → Refuses all no) }
+    ensures reads { StageReads D.Disk stage.old stage.new 3 }
+    ensures faults { MatchResult result (λ _. D.faults (disk_of D.Disk stage.new) ≡ D.faults (disk_of D.Disk stage.old))
+        (Counts (D.faults (disk_of D.Disk stage.old)) (D.faults (disk_of D.Disk stage.new))) }
+{
+    let boot = read_boot_sector(stage)?;
+    match Geometry::read(&boot, stage.sectors()) {
+        Ok(geometry) => find_at(alloc, stage, &geometry),
+        Err(fault) => Err(TableNo::Boot(fault)),
+    }
+}
