@@ -36,10 +36,6 @@ pub fn show<K: Sink>(out: &mut K, answer: &Answer) -> Ending
     match answer {
         Answer::Short(text) => print(out, text.as_slice(), Ending::Done),
         Answer::Long(text) => print(out, text.as_slice(), Ending::Done),
-        Answer::Refused(refusal) => print(
-            out,
-            refusal_text(*refusal).as_slice(),
-            Ending::Refused,
-        ),
+        Answer::Refused(refusal) => print(out, refusal_text(*refusal).as_slice(), Ending::Refused),
     }
 }

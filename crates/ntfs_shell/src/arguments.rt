@@ -1,10 +1,9 @@
 //! The arguments of the program.
 ghost use Rattle.std.specs.Prelude.{◌≡◌, ◌<◌, ◌≤◌, ◌↔◌, Some, IsSome, IfSome, drop, length, map, slice_get, string_bytes};
 
-use std::env;
 use std::env::FillError;
-use std::io;
 use std::rt::Env;
+use std::{env, io};
 
 /// What the program is to work on.
 #[derive(Clone, Copy)]

@@ -10,8 +10,8 @@ ghost use Rattle.ntfs_shell.specs.Refusals.{boot_refusal};
 ghost use Rattle.ntfs_shell.specs.Boot.{BootReports, sector_report};
 ghost use Rattle.ntfs_shell.specs.Shown.{report_of};
 
-use crate::ending::Ending;
 use crate::answer::{Answer, show};
+use crate::ending::Ending;
 use crate::refusal::Refusal;
 use crate::text::geometry_text;
 use ntfs_boot::{BootFault, Geometry};

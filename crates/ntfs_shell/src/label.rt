@@ -14,9 +14,9 @@ ghost use Rattle.ntfs_shell.specs.Tables.{HasTable, LiesOn, layout_of};
 ghost use Rattle.ntfs_shell.specs.World.{world};
 ghost use Rattle.ntfs_shell.specs.Report.{Report, ReportEnds};
 
+use crate::answer::{Answer, show};
 use crate::boot::{boot_refusal, read_boot_sector};
 use crate::ending::Ending;
-use crate::answer::{Answer, show};
 use crate::refusal::{NO_TABLE, NO_VOLUME_RECORD};
 use crate::sectors::{read_block, read_two_sectors};
 use crate::stop::Stop;

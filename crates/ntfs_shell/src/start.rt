@@ -13,16 +13,19 @@ use std::io::ErrorKind;
 use std::rt::{Env, Files};
 use vol_disk::{Disk, StdSink, StdSource};
 
-fn print_text(rt: &impl Print, text: &str) -> u8 {
-    match rt.print(text) {
-        Ok(()) => DONE,
-        Err(_) => SINK_FAILED,
-    }
-}
-
 // Says in one line why nothing was done, or what failed. Where that fails too, the status alone tells it.
 fn complain(rt: &impl Eprint, reason: &str) {
     let _ = rt.eprintln(format_args!("ntfs_shell: {reason}"));
+}
+
+fn print_text(rt: &(impl Print + Eprint), text: &str) -> u8 {
+    match rt.print(text) {
+        Ok(()) => DONE,
+        Err(_) => {
+            complain(rt, "standard output failed");
+            SINK_FAILED
+        }
+    }
 }
 
 // Says what a person can do about a status, by what was printed.
@@ -72,13 +75,7 @@ where
     };
     let mut script = StdSource::new(rt.reader());
     let mut out = FrontSink::new(StdSink::new(io::writer(rt)));
-    let status = run_shell(
-        rt.alloc(),
-        request.words,
-        &mut disk,
-        &mut script,
-        &mut out,
-    );
+    let status = run_shell(rt.alloc(), request.words, &mut disk, &mut script, &mut out);
     explain(rt, status, out.front(), disk.sectors());
     status
 }

@@ -1,6 +1,7 @@
 //! Whole runs of the program, over a disk, a script and a sink in memory.
 ghost use Rattle.std.specs.Prelude.{◌≡◌, ◌%◌, vec_len};
 
+mod edge;
 mod label;
 
 use crate::front::FrontSink;
@@ -140,7 +141,11 @@ fn a_failing_sink_got_the_calls_before(rt: HostRuntime) -> Result<(), test::Fail
         let mut out = Pieces { whole };
         let got = run(rt.alloc(), "boot", &mut disk, &mut out)?;
         assert_eq!(rt; got, status, "room {room}, failing at {fails}");
-        assert_eq!(rt; out.whole.bytes().len(), length, "room {room}, failing at {fails}");
+        assert_eq!(rt;
+            out.whole.bytes().len(),
+            length,
+            "room {room}, failing at {fails}"
+        );
         assert!(rt;
             GEOMETRY.as_bytes().starts_with(out.whole.bytes()),
             "room {room}, failing at {fails}"
@@ -175,7 +180,7 @@ fn other_words_print_nothing(rt: HostRuntime) -> Result<(), test::Fail> {
 #[test]
 fn a_sink_remembers_how_its_text_began(rt: HostRuntime) -> Result<(), test::Fail> {
     for (room, status, front) in [
-        (AMPLE, 0, "sector 512\ncluster 4096\nsectors 16384\nc"),
+        (AMPLE, 0, "sector 512\ncluster 4096\nsectors 16384\ncl"),
         (17, 5, "sector 512\ncluste"),
     ] {
         let mut disk = disk_of(rt.alloc(), 16_384, &boot_sector(0x44, 0xF4))?;

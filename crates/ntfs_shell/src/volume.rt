@@ -6,8 +6,8 @@ ghost use Rattle.attr_view.specs.View.{attributes_of};
 ghost use Rattle.ntfs_shell.specs.Label.{label_text, name_line, version_line, volume_report};
 ghost use Rattle.ntfs_shell.specs.Shown.{report_of};
 
-use crate::find::first_value;
 use crate::answer::Answer;
+use crate::find::first_value;
 use crate::refusal::NO_VERSION;
 use attr_view::RecordView;
 use std::alloc::{AllocError, Global};
