@@ -2,7 +2,7 @@
 use Rattle.std.proofs.Common.{◌≡◌, ℕ, ◌*◌, ◌/◌, List, length, Option, None, Some, ap, subst, ◌∙◌, arith}
 use Rattle.std.specs.Prelude.{IfSome}
 use Rattle.ntfs_def.specs.Boot.{boot_sector, boot_failing}
-use Rattle.ntfs_shell.specs.Boot.{boot_answer, boot_report}
+use Rattle.ntfs_shell.specs.Boot.{sector_report, boot_report}
 use Rattle.ntfs_shell.specs.Report.{Report}
 
 -- the length and the sectors of a disk that tells its contents
@@ -20,8 +20,8 @@ sectors_told now image size len e = let long = length-told now image size len e 
 -- the report, by the sector that was read
 pub boot_report-read : (now : Option (List ℕ)) (image sector : List ℕ) (size : ℕ) (answer : Report)
     → IfSome now (λ all. length all ≡ 512 * size)
-    → now ≡ Some image → sector ≡ boot_sector image → answer ≡ boot_answer sector (boot_failing sector size) → answer ≡ boot_report image
+    → now ≡ Some image → sector ≡ boot_sector image → answer ≡ sector_report sector (boot_failing sector size) → answer ≡ boot_report image
 boot_report-read now image sector size answer len told read is =
     is
-    ∙ ap (λ (n : ℕ). boot_answer sector (boot_failing sector n)) (sectors_told now image size len told)
-    ∙ ap (λ (s : List ℕ). boot_answer s (boot_failing s (length image / 512))) read
+    ∙ ap (λ (n : ℕ). sector_report sector (boot_failing sector n)) (sectors_told now image size len told)
+    ∙ ap (λ (s : List ℕ). sector_report s (boot_failing s (length image / 512))) read

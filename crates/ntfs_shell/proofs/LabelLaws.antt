@@ -7,14 +7,14 @@ use Rattle.ntfs_def.specs.Fixup.{opened_of}
 use Rattle.volume_def.specs.Table.{IsTable, Layout, MeetsTableClause, block_of, first_record, two_sectors}
 use Rattle.ntfs_boot.specs.declared.Geometry.{Geometry}
 use Rattle.ntfs_boot.specs.Geometry.{geometry_of}
-use Rattle.ntfs_shell.specs.declared.report.Report as code
+use Rattle.ntfs_shell.specs.declared.answer.Answer.{Answer}
 use Rattle.ntfs_shell.specs.declared.stop.Stop.{Stop}
 use Rattle.ntfs_shell.specs.declared.table.Table.{Table}
 use Rattle.ntfs_shell.specs.Label.{LabelReports, RecordReports, TableReports}
+use Rattle.ntfs_shell.specs.Refusals.{boot_refusal}
 use Rattle.ntfs_shell.specs.Report.{Report, refuses}
 use Rattle.ntfs_shell.specs.Shown.{report_of}
 use Rattle.ntfs_shell.specs.Tables.{HasTable}
-use Rattle.ntfs_shell.specs.Text.{refusal_text}
 use Rattle.ntfs_shell.proofs.Boots.{sectors_told}
 use Rattle.ntfs_shell.proofs.TableLaws.{first_sector}
 
@@ -39,7 +39,7 @@ first_record-read now image stored boot geometry sector told read place is =
     ∙ ap (λ (n : ℕ). two_sectors (sector_in (Some image)) n) (place ∙ first_sector geometry boot is)
 
 -- record 3 of a table that meets the clause says it
-pub reports-table : (now now' : Option (List ℕ)) (result : Result code.Report Stop) (geometry : Geometry) (layout : Layout)
+pub reports-table : (now now' : Option (List ℕ)) (result : Result Answer Stop) (geometry : Geometry) (layout : Layout)
     → IfOk result (λ report. (image : List ℕ) → now' ≡ Some image → RecordReports (block_of (sector_in (Some image)) layout 3) (report_of report))
     → now' ≡ now
     → ((image boot : List ℕ) → now ≡ Some image → geometry ≡ geometry_of boot → MeetsTableClause (sector_in (Some image)) boot layout)
@@ -56,7 +56,7 @@ failing-read now image sector size failing len told read fails =
     sym (ap (λ (n : ℕ). boot_failing sector n) (sectors_told now image size len told) ∙ ap (λ (s : List ℕ). boot_failing s (length image / 512)) read) ∙ fails
 
 -- where the boot clause holds, the volume says it
-pub reports-volume : (now now' : Option (List ℕ)) (result : Result code.Report Stop) (sector : List ℕ) (size : ℕ) (geometry : Geometry)
+pub reports-volume : (now now' : Option (List ℕ)) (result : Result Answer Stop) (sector : List ℕ) (size : ℕ) (geometry : Geometry)
     → IfOk result (λ report. (image boot : List ℕ) → now' ≡ Some image → geometry ≡ geometry_of boot → TableReports (sector_in (Some image)) boot (report_of report))
     → now' ≡ now → IfSome now (λ all. length all ≡ 512 * size) → ((image : List ℕ) → now ≡ Some image → sector ≡ boot_sector image)
     → boot_failing sector size ≡ None → geometry ≡ geometry_of sector
@@ -65,14 +65,14 @@ reports-volume now now' (Ok report) sector size geometry said same len read fail
     λ image told.
     let boot = boot_sector image in
     let there = said image boot (same ∙ told) (is ∙ ap geometry_of (read image told)) in
-    subst (λ (o : Option ℕ). MatchOption o (TableReports (sector_in (Some image)) boot (report_of report)) (λ number. report_of report ≡ refuses (refusal_text 1 number)))
+    subst (λ (o : Option ℕ). MatchOption o (TableReports (sector_in (Some image)) boot (report_of report)) (λ number. report_of report ≡ refuses (boot_refusal number)))
     (sym (failing-read now image sector size None len told (read image told) fails)) there
 reports-volume now now' (Err stop) sector size geometry said same len read fails is = tt
 
 -- where it does not, its number is told
 pub reports-refused : (now : Option (List ℕ)) (image sector : List ℕ) (size number : ℕ) (report : Report)
     → IfSome now (λ all. length all ≡ 512 * size) → now ≡ Some image
-    → sector ≡ boot_sector image → boot_failing sector size ≡ Some number → report ≡ refuses (refusal_text 1 number) → LabelReports image report
+    → sector ≡ boot_sector image → boot_failing sector size ≡ Some number → report ≡ refuses (boot_refusal number) → LabelReports image report
 reports-refused now image sector size number report len told read fails is =
-    subst (λ (o : Option ℕ). MatchOption o (TableReports (sector_in (Some image)) (boot_sector image) report) (λ n. report ≡ refuses (refusal_text 1 n)))
+    subst (λ (o : Option ℕ). MatchOption o (TableReports (sector_in (Some image)) (boot_sector image) report) (λ n. report ≡ refuses (boot_refusal n)))
     (sym (failing-read now image sector size (Some number) len told read fails)) is

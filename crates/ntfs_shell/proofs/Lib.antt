@@ -1,5 +1,6 @@
 pub mod Boots
 pub mod BootSectors
+pub mod FrontLaws
 pub mod Joined
 pub mod LabelLaws
 pub mod OneLabel

@@ -9,8 +9,8 @@ use Rattle.ntfs_def.specs.Runs.{MeansRuns}
 use Rattle.volume_def.specs.Table.{IsTable, Layout, block_of}
 use Rattle.ntfs_def.proofs.RunLaws.{MeansFrom-exact}
 use Rattle.ntfs_shell.specs.Label.{LabelReports, RecordReports, TableReports}
+use Rattle.ntfs_shell.specs.Refusals.{boot_refusal}
 use Rattle.ntfs_shell.specs.Report.{Report, refuses}
-use Rattle.ntfs_shell.specs.Text.{refusal_text}
 
 layout-exact : (one other : Layout) → one.cluster_sectors ≡ other.cluster_sectors → one.runs ≡ other.runs
     → one.initialized ≡ other.initialized → one ≡ other
@@ -50,7 +50,7 @@ one-table disk boot a b (inr x) (inl (other, meets, said)) = absurd (x.0 other m
 one-table disk boot a b (inr x) (inr y) = x.1 ∙ sym y.1
 
 one-answer : (failing : Option ℕ) (P : Report → Type 0) → ((a b : Report) → P a → P b → a ≡ b) → (a b : Report)
-    → MatchOption failing (P a) (λ number. a ≡ refuses (refusal_text 1 number)) → MatchOption failing (P b) (λ number. b ≡ refuses (refusal_text 1 number)) → a ≡ b
+    → MatchOption failing (P a) (λ number. a ≡ refuses (boot_refusal number)) → MatchOption failing (P b) (λ number. b ≡ refuses (boot_refusal number)) → a ≡ b
 one-answer None P one a b x y = one a b x y
 one-answer (Some number) P one a b x y = x ∙ sym y
 

@@ -1,39 +1,37 @@
 -- A word that only reads, answered by the report that it shows.
-use Rattle.std.proofs.Common.{◌≡◌, ◌+◌, ◌≤◌, ℕ, List, Option, Some, refl, inl, inr}
-use Rattle.vol_disk.specs.Stream.{Appended}
+use Rattle.std.proofs.Common.{◌≡◌, ℕ, List, Option, Some, refl, inl, inr}
 use Rattle.ntfs_shell.specs.declared.ending.Ending.{Ending}
+use Rattle.vol_disk.specs.Stream.{Appended}
 use Rattle.ntfs_shell.specs.Report.{Report, says, refuses, text_of, ending_of, Reported, ReportEnds}
 use Rattle.ntfs_shell.specs.Shown.{Shown}
 use Rattle.ntfs_shell.specs.World.{World, OnlyReads, Blames}
 
 -- a report that was printed whole
-reported_whole : (IsReport : Report → Type 0) (report : Report) (got got' : Option (List ℕ)) → IsReport report
-    → Appended got (text_of report) got' → Reported IsReport (ending_of report) got got'
-reported_whole IsReport (says text) got got' is all = (says text, is, record { ends = refl; text = all })
-reported_whole IsReport (refuses text) got got' is all = (refuses text, is, record { ends = refl; text = all })
+reported_whole : (IsReport : Report → Type 0) (report : Report) (old new : World) → IsReport report
+    → Appended old.got (text_of report) new.got → Reported IsReport (ending_of report) old new
+reported_whole IsReport (says text) old new is all = (says text, is, record { ends = refl; text = all })
+reported_whole IsReport (refuses refusal) old new is all = (refuses refusal, is, record { ends = refl; text = all })
 
 -- neither ending of a whole report blames a count
 blames_none : (report : Report) (old new : World) → new.disk_faults ≡ old.disk_faults
     → new.source_faults ≡ old.source_faults → new.sink_faults ≡ old.sink_faults
     → Blames (ending_of report) old new
 blames_none (says text) old new disk source sink = record { disk = disk; source = source; sink = sink }
-blames_none (refuses text) old new disk source sink = record { disk = disk; source = source; sink = sink }
+blames_none (refuses refusal) old new disk source sink = record { disk = disk; source = source; sink = sink }
 
 -- what is shown answers the word, where it is the report of the image
-pub ends_shown : (Reports : List ℕ → Report → Type 0) (reads : ℕ) (report : Report) (given : Ending) (old new : World)
-    → Shown report given old.got new.got old.sink_faults new.sink_faults
-    → OnlyReads old new → new.fetched ≤ old.fetched + reads → new.disk_faults ≡ old.disk_faults
+pub ends_shown : (Reports : List ℕ → Report → Type 0) (report : Report) (given : Ending) (old new : World)
+    → Shown (text_of report) (ending_of report) given old.got new.got old.sink_faults new.sink_faults
+    → OnlyReads old new → new.disk_faults ≡ old.disk_faults
     → ((image : List ℕ) → old.now ≡ Some image → Reports image report)
-    → ReportEnds Reports reads given old new
-ends_shown Reports reads report given old new (inl printed) only few quiet is = rw printed.ends (record {
+    → ReportEnds Reports given old new
+ends_shown Reports report given old new (inl printed) only quiet is = rw printed.ends (record {
   causes = blames_none report old new quiet only.source_faults printed.quiet;
   only_reads = only;
-  fetched = few;
-  reported = reported_whole (λ r. (image : List ℕ) → old.now ≡ Some image → Reports image r) report old.got new.got is printed.all;
+  reported = reported_whole (λ r. (image : List ℕ) → old.now ≡ Some image → Reports image r) report old new is printed.all;
 })
-ends_shown Reports reads report given old new (inr cut) only few quiet is = rw cut.ends (record {
+ends_shown Reports report given old new (inr cut) only quiet is = rw cut.ends (record {
   causes = (quiet, only.source_faults, cut.rose);
   only_reads = only;
-  fetched = few;
   reported = (report, is, cut.part);
 })

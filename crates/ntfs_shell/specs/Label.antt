@@ -8,8 +8,9 @@ use Rattle.ntfs_def.specs.Attribute.{Attribute, attributes}
 use Rattle.volume_def.specs.Table.{IsReadable, Layout, MeetsTableClause, block_of}
 use Rattle.volume_def.specs.declared.Version.{Version}
 use Rattle.volume_def.specs.Volume.{first_value, label_units, version_in}
+use Rattle.ntfs_shell.specs.Refusals.{boot_refusal, no_table, no_version, no_volume_record}
 use Rattle.ntfs_shell.specs.Report.{Report, says, refuses}
-use Rattle.ntfs_shell.specs.Text.{line_of, refusal_text}
+use Rattle.ntfs_shell.specs.Text.{line_of}
 
 -- the line of the name: `label` alone where the volume has none
 abbrev pub name_line : List ℕ → List ℕ
@@ -24,28 +25,28 @@ unfoldable pub label_text : List ℕ → Version → List ℕ
 label_text units version = name_line units ++ version_line version
 
 -- by the attributes of record 3: its $VOLUME_NAME, of type 0x60, and the version in its $VOLUME_INFORMATION, of type 0x70
-abbrev pub volume_answer : List Attribute → Option Version → Report
-volume_answer attributes None = refuses (refusal_text 14 3)
-volume_answer attributes (Some version) = says (label_text (label_units (first_value 0x60 attributes)) version)
+abbrev pub name_report : List Attribute → Option Version → Report
+name_report attributes None = refuses no_version
+name_report attributes (Some version) = says (label_text (label_units (first_value 0x60 attributes)) version)
 
 abbrev pub volume_report : List Attribute → Report
-volume_report attributes = volume_answer attributes (version_in (first_value 0x70 attributes))
+volume_report attributes = name_report attributes (version_in (first_value 0x70 attributes))
 
 -- by record 3, as it is stored
 abbrev pub RecordReports : List ℕ → Report → Type 0
 RecordReports stored report =
     (IsReadable stored × (report ≡ volume_report (attributes (opened_of stored))))
-    ⊎ ((¬ (IsReadable stored)) × (report ≡ refuses (refusal_text 3 3)))
+    ⊎ ((¬ (IsReadable stored)) × (report ≡ refuses no_volume_record))
 
 -- by the sectors of the disk, where the boot clause holds
 abbrev pub TableReports : (ℕ → List ℕ) → List ℕ → Report → Type 0
 TableReports disk boot report =
     ((layout : Layout) × MeetsTableClause disk boot layout × RecordReports (block_of disk layout 3) report)
-    ⊎ (((layout : Layout) → ¬ (MeetsTableClause disk boot layout)) × (report ≡ refuses (refusal_text 2 0)))
+    ⊎ (((layout : Layout) → ¬ (MeetsTableClause disk boot layout)) × (report ≡ refuses no_table))
 
 -- by the image
 abbrev pub LabelReports : List ℕ → Report → Type 0
 LabelReports image report = let boot = boot_sector image in
     MatchOption (boot_failing boot (length image / 512))
     (TableReports (sector_in (Some image)) boot report)
-    (λ number. report ≡ refuses (refusal_text 1 number))
+    (λ number. report ≡ refuses (boot_refusal number))

@@ -1,6 +1,8 @@
 pub mod Boot
 pub mod Ending
+pub mod Fronts
 pub mod Label
+pub mod Refusals
 pub mod Report
 pub mod Shown
 pub mod Stops

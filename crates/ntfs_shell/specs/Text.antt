@@ -3,6 +3,7 @@ use Rattle.std.specs.Prelude.{ℕ, List, ◌++◌, codes, decimal}
 use Rattle.byteorder.specs.Endian.{big_bytes}
 use Rattle.hex.specs.Hex.{encode_lower}
 use Rattle.ntfs_boot.specs.declared.Geometry.{Geometry}
+use Rattle.ntfs_shell.specs.declared.refusal.Refusal.{Refusal}
 
 -- a line: a name, a space and a value
 abbrev pub line_of : List ℕ → List ℕ → List ℕ
@@ -26,5 +27,5 @@ geometry_text geometry =
     ++ line_of (codes "serial") (hexadecimal geometry.serial)
 
 -- the line that refuses a volume, as in `refused S1 6`
-unfoldable pub refusal_text : ℕ → ℕ → List ℕ
-refusal_text clause number = codes "refused S" ++ line_of (decimal clause) (decimal number)
+unfoldable pub refusal_text : Refusal → List ℕ
+refusal_text refusal = codes "refused S" ++ line_of (decimal refusal.clause) (decimal refusal.number)

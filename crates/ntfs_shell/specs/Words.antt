@@ -5,6 +5,10 @@ use Rattle.std.specs.Prelude.{◌≡◌, ◌⊎◌, ℕ, List, [], ◌∷◌, co
 abbrev pub AreWords : List (List ℕ) → List ℕ → Type 0
 AreWords words text = words ≡ text ∷ []
 
+-- the words ask for no more than to read the volume
+abbrev pub AskToRead : List (List ℕ) → Type 0
+AskToRead words = AreWords words (codes "boot") ⊎ AreWords words (codes "label")
+
 -- the words of the program that are not built yet
 abbrev pub IsUnbuilt : List ℕ → Type 0
 IsUnbuilt word = (word ≡ codes "check") ⊎ (word ≡ codes "run") ⊎ (word ≡ codes "format") ⊎ (word ≡ codes "make")
@@ -14,8 +18,6 @@ abbrev pub AskUnbuilt : List (List ℕ) → Type 0
 AskUnbuilt [] = ⊥
 AskUnbuilt (word ∷ words) = IsUnbuilt word
 
--- the words ask for nothing that the program knows
-pub record AreUnknown (words : List (List ℕ)) : Type 0 where
-  pub boot : ¬ (AreWords words (codes "boot"))
-  pub label : ¬ (AreWords words (codes "label"))
-  pub unbuilt : ¬ (AskUnbuilt words)
+-- the words ask for something that the program knows
+abbrev pub AreKnown : List (List ℕ) → Type 0
+AreKnown words = AskToRead words ⊎ AskUnbuilt words

@@ -1,5 +1,5 @@
 -- What is known of the outside: what it tells, and its counts.
-use Rattle.std.specs.Prelude.{◌≡◌, ℕ, List, Option}
+use Rattle.std.specs.Prelude.{◌≡◌, ◌⊎◌, ℕ, List, Option}
 use Rattle.vol_disk.specs.declared.Disk as disk
 use Rattle.vol_disk.specs.declared.Source as source
 use Rattle.vol_disk.specs.declared.Sink as sink
@@ -12,7 +12,7 @@ pub record World : Type 0 where
   pub now : Option (List ℕ)
   pub settled : Option (List (List ℕ))
   pub fenced : Option (List ℕ)
-  pub size : ℕ
+  pub sectors : ℕ
   pub written : ℕ
   pub fetched : ℕ
   pub late : ℕ
@@ -27,7 +27,7 @@ world d s k disk source sink = record {
   now = d.now disk;
   settled = d.settled disk;
   fenced = d.fenced disk;
-  size = d.size disk;
+  sectors = d.size disk;
   written = d.written disk;
   fetched = d.fetched disk;
   late = d.late disk;
@@ -43,7 +43,7 @@ pub record OnlyReads (old new : World) : Type 0 where
   pub now : new.now ≡ old.now
   pub settled : new.settled ≡ old.settled
   pub fenced : new.fenced ≡ old.fenced
-  pub size : new.size ≡ old.size
+  pub sectors : new.sectors ≡ old.sectors
   pub written : new.written ≡ old.written
   pub late : new.late ≡ old.late
   pub left : new.left ≡ old.left
@@ -56,7 +56,8 @@ pub record NoFaults (old new : World) : Type 0 where
   pub sink : new.sink_faults ≡ old.sink_faults
 
 -- The count that rose says how a run ended: the disk's by `Device`, the sink's by `Sink`, the
--- source's by `Source`, and none by another.
+-- source's by `Source`, and none by another. Where the disk fails while the volume is closed, the
+-- source or the sink may have failed before, but not both.
 abbrev pub Blames : Ending → World → World → Type 0
 Blames ending.Done old new = NoFaults old new
 Blames ending.Refused old new = NoFaults old new
@@ -65,6 +66,6 @@ Blames ending.Source old new =
 Blames ending.Sink old new =
     (new.disk_faults ≡ old.disk_faults) × (new.source_faults ≡ old.source_faults) × Rose old.sink_faults new.sink_faults
 Blames ending.Device old new =
-    Rose old.disk_faults new.disk_faults × (new.source_faults ≡ old.source_faults) × (new.sink_faults ≡ old.sink_faults)
+    Rose old.disk_faults new.disk_faults × ((new.source_faults ≡ old.source_faults) ⊎ (new.sink_faults ≡ old.sink_faults))
 Blames ending.Memory old new = NoFaults old new
 Blames ending.TooMuch old new = NoFaults old new

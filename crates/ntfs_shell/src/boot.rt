@@ -1,17 +1,20 @@
 //! The word `boot`: the geometry of the volume.
-ghost use Rattle.std.specs.Prelude.{MatchResult, ◌≡◌, ◌≢◌, ℕ, List, Some, IfOk, OnOk, OnErr};
+ghost use Rattle.std.specs.Prelude.{MatchResult, ◌≡◌, ◌≢◌, ◌+◌, ◌≤◌, ℕ, List, Some, IfOk, OnOk, OnErr};
 ghost use Rattle.vol_disk.specs.Count.{Rose};
 ghost use Rattle.ntfs_def.specs.Boot.{boot_failing, boot_sector};
 ghost use Rattle.vol_disk.specs.Reading.{DiskReads};
 ghost use Rattle.ntfs_shell.specs.World.{world};
 ghost use Rattle.ntfs_shell.specs.Report.{ReportEnds};
-ghost use Rattle.ntfs_shell.specs.Boot.{BootReports, boot_answer};
+ghost use Rattle.ntfs_boot.specs.Geometry.{number_of};
+ghost use Rattle.ntfs_shell.specs.Refusals.{boot_refusal};
+ghost use Rattle.ntfs_shell.specs.Boot.{BootReports, sector_report};
 ghost use Rattle.ntfs_shell.specs.Shown.{report_of};
 
+use crate::answer::{Answer, show};
 use crate::ending::Ending;
-use crate::report::{Report, show};
-use crate::text::{geometry_text, refusal_text};
-use ntfs_boot::Geometry;
+use crate::refusal::Refusal;
+use crate::text::geometry_text;
+use ntfs_boot::{BootFault, Geometry};
 use vol_disk::{Disk, Failed, Sink, Source};
 
 /// The first sector, which is zero on a disk without one.
@@ -28,13 +31,23 @@ pub fn read_boot_sector<D: Disk>(disk: &mut D) -> Result<[u8; 512], Failed>
     Ok(sector)
 }
 
+/// A boot sector is refused by the least number that fails.
+pub fn boot_refusal(fault: BootFault) -> Refusal
+    ensures { result ≡ boot_refusal (number_of fault) }
+{
+    Refusal {
+        clause: 1,
+        number: u64::from(fault.number()),
+    }
+}
+
 // What a boot sector on a disk of so many sectors says: its geometry, or why it is none.
-fn report_boot(sector: &[u8; 512], sectors: u64) -> Report
-    ensures { report_of result ≡ boot_answer sector.now (boot_failing sector.now sectors) }
+fn report_boot(sector: &[u8; 512], sectors: u64) -> Answer
+    ensures { report_of result ≡ sector_report sector.now (boot_failing sector.now sectors) }
 {
     match Geometry::read(sector, sectors) {
-        Ok(geometry) => Report::Says(geometry_text(&geometry)),
-        Err(fault) => Report::Refuses(refusal_text(1, u64::from(fault.number()))),
+        Ok(geometry) => Answer::Short(geometry_text(&geometry)),
+        Err(fault) => Answer::Refused(boot_refusal(fault)),
     }
 }
 
@@ -42,7 +55,8 @@ fn report_boot(sector: &[u8; 512], sectors: u64) -> Report
 /// sector 0 alone.
 pub fn boot<D: Disk, S: Source, K: Sink>(disk: &mut D, script: &S, out: &mut K) -> Ending
     ensures serves { result ≢ Ending.Memory }
-    ensures ends { ReportEnds BootReports 1 result
+    ensures reads { D.fetched disk.new ≤ D.fetched disk.old + 1 }
+    ensures ends { ReportEnds BootReports result
         (world D.Disk S.Source K.Sink disk.old script.now out.old) (world D.Disk S.Source K.Sink disk.new script.now out.new) }
 {
     match read_boot_sector(disk) {

@@ -1,6 +1,33 @@
 //! How a run ends, and the status of the program.
-ghost use Rattle.std.specs.Prelude.{◌≡◌};
+ghost use Rattle.std.specs.Prelude.{◌≡◌, ◌≢◌};
 ghost use Rattle.ntfs_shell.specs.Ending.{status_of};
+
+/// All was done and printed.
+pub const DONE: u8 = 0;
+
+/// The words are not known.
+pub const UNKNOWN_WORDS: u8 = 2;
+
+/// The volume was refused.
+pub const REFUSED: u8 = 3;
+
+/// The script failed to come.
+pub const SOURCE_FAILED: u8 = 4;
+
+/// The output failed to go.
+pub const SINK_FAILED: u8 = 5;
+
+/// The disk failed.
+pub const DEVICE_FAILED: u8 = 6;
+
+/// Memory ran out.
+pub const OUT_OF_MEMORY: u8 = 7;
+
+/// The script was too long.
+pub const TOO_MUCH: u8 = 8;
+
+/// A word that is not built yet.
+pub const NOT_BUILT: u8 = 9;
 
 /// How a run of one of the program's words ends.
 #[derive(Clone, Copy, Debug, PartialEq, Eq)]
@@ -24,16 +51,17 @@ pub enum Ending {
 impl Ending {
     /// The status that the program ends with.
     pub fn status(self) -> u8
-        ensures { result ≡ status_of self }
+        ensures status { result ≡ status_of self }
+        ensures known { result ≢ UNKNOWN_WORDS }
     {
         match self {
-            Ending::Done => 0,
-            Ending::Refused => 3,
-            Ending::Source => 4,
-            Ending::Sink => 5,
-            Ending::Device => 6,
-            Ending::Memory => 7,
-            Ending::TooMuch => 8,
+            Ending::Done => DONE,
+            Ending::Refused => REFUSED,
+            Ending::Source => SOURCE_FAILED,
+            Ending::Sink => SINK_FAILED,
+            Ending::Device => DEVICE_FAILED,
+            Ending::Memory => OUT_OF_MEMORY,
+            Ending::TooMuch => TOO_MUCH,
         }
     }
 }

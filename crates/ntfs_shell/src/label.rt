@@ -1,5 +1,5 @@
 //! The word `label`: the name and the version of the volume.
-ghost use Rattle.std.specs.Prelude.{MatchResult, ◌≡◌, ℕ, List, Some, IfOk, IfErr, IfNone, IfSome, OnOk, length, ◌≤◌, ◌^◌};
+ghost use Rattle.std.specs.Prelude.{MatchResult, ◌≡◌, ℕ, List, Some, IfOk, IfErr, IfNone, IfSome, OnOk, length, ◌+◌, ◌≤◌, ◌^◌};
 ghost use Rattle.vol_disk.specs.Contents.{sector_in};
 ghost use Rattle.ntfs_def.specs.Fixup.{opened_of};
 ghost use Rattle.ntfs_def.specs.Record.{is_in_use};
@@ -12,15 +12,15 @@ ghost use Rattle.ntfs_shell.specs.Shown.{report_of};
 ghost use Rattle.ntfs_shell.specs.Stops.{Stops};
 ghost use Rattle.ntfs_shell.specs.Tables.{HasTable, LiesOn, layout_of};
 ghost use Rattle.ntfs_shell.specs.World.{world};
-ghost use Rattle.ntfs_shell.specs.Report.{ReportEnds, Report as Answer};
+ghost use Rattle.ntfs_shell.specs.Report.{Report, ReportEnds};
 
-use crate::boot::read_boot_sector;
+use crate::answer::{Answer, show};
+use crate::boot::{boot_refusal, read_boot_sector};
 use crate::ending::Ending;
-use crate::report::{Report, show};
+use crate::refusal::{NO_TABLE, NO_VOLUME_RECORD};
 use crate::sectors::{read_block, read_two_sectors};
 use crate::stop::Stop;
 use crate::table::{Table, read_table};
-use crate::text::refusal_text;
 use crate::volume::report_volume;
 use attr_view::RecordView;
 use ntfs_boot::Geometry;
@@ -50,20 +50,20 @@ fn open_record(block: &mut [u8; 1024]) -> Option<RecordView<'_>>
 }
 
 // What record 3 says of the volume, as it is stored.
-fn report_record(alloc: Global, block: &mut [u8; 1024]) -> Result<Report, AllocError>
-    ensures { IfOk result (λ report. RecordReports block.old (report_of report)) }
+fn report_record(alloc: Global, block: &mut [u8; 1024]) -> Result<Answer, AllocError>
+    ensures { IfOk result (λ answer. RecordReports block.old (report_of answer)) }
 {
     match open_record(block) {
         Some(view) => report_volume(alloc, &view),
-        None => Ok(Report::Refuses(refusal_text(3, 3))),
+        None => Ok(Answer::Refused(NO_VOLUME_RECORD)),
     }
 }
 
 // What record 3 of the table says.
-fn report_table<D: Disk>(alloc: Global, disk: &mut D, table: &Table) -> Result<Report, Stop>
+fn report_table<D: Disk>(alloc: Global, disk: &mut D, table: &Table) -> Result<Answer, Stop>
     requires { LiesOn (layout_of table.now) (D.size disk.old) }
-    ensures report { IfOk result (λ report. (image : List ℕ) → D.now disk.old ≡ Some image →
-        RecordReports (block_of (sector_in (Some image)) (layout_of table.now) 3) (report_of report)) }
+    ensures report { IfOk result (λ answer. (image : List ℕ) → D.now disk.old ≡ Some image →
+        RecordReports (block_of (sector_in (Some image)) (layout_of table.now) 3) (report_of answer)) }
 
     ensures reads { DiskReads D.Disk disk.old disk.new 2 }
     ensures faults { MatchResult result (λ _. D.faults disk.new ≡ D.faults disk.old) (Stops (D.faults disk.old) (D.faults disk.new)) }
@@ -94,31 +94,31 @@ fn report_volume_at<D: Disk>(
     alloc: Global,
     disk: &mut D,
     geometry: &Geometry,
-) -> Result<Report, Stop>
+) -> Result<Answer, Stop>
     requires { FitsDisk geometry.now (D.size disk.old) }
-    ensures report { IfOk result (λ report. (image boot : List ℕ) →
+    ensures report { IfOk result (λ answer. (image boot : List ℕ) →
         D.now disk.old ≡ Some image → geometry.now ≡ geometry_of boot →
-        TableReports (sector_in (Some image)) boot (report_of report)) }
+        TableReports (sector_in (Some image)) boot (report_of answer)) }
 
     ensures reads { DiskReads D.Disk disk.old disk.new 4 }
     ensures faults { MatchResult result (λ _. D.faults disk.new ≡ D.faults disk.old) (Stops (D.faults disk.old) (D.faults disk.new)) }
 {
     let sector = geometry.mft * u64::from(geometry.cluster / 512);
     if sector + 2 > disk.sectors() {
-        return Ok(Report::Refuses(refusal_text(2, 0)));
+        return Ok(Answer::Refused(NO_TABLE));
     }
     let mut block = [0; 1024];
     read_two_sectors(disk, sector, &mut block)?;
     match find_table(alloc, geometry, &mut block)? {
         Some(table) => report_table(alloc, disk, &table),
-        None => Ok(Report::Refuses(refusal_text(2, 0))),
+        None => Ok(Answer::Refused(NO_TABLE)),
     }
 }
 
 // What the disk says.
-fn report_label<D: Disk>(alloc: Global, disk: &mut D) -> Result<Report, Stop>
-    ensures report { IfOk result (λ report. (image : List ℕ) →
-        D.now disk.old ≡ Some image → LabelReports image (report_of report)) }
+fn report_label<D: Disk>(alloc: Global, disk: &mut D) -> Result<Answer, Stop>
+    ensures report { IfOk result (λ answer. (image : List ℕ) →
+        D.now disk.old ≡ Some image → LabelReports image (report_of answer)) }
 
     ensures reads { DiskReads D.Disk disk.old disk.new 5 }
     ensures faults { MatchResult result (λ _. D.faults disk.new ≡ D.faults disk.old) (Stops (D.faults disk.old) (D.faults disk.new)) }
@@ -126,13 +126,13 @@ fn report_label<D: Disk>(alloc: Global, disk: &mut D) -> Result<Report, Stop>
     let sector = read_boot_sector(disk)?;
     match Geometry::read(&sector, disk.sectors()) {
         Ok(geometry) => report_volume_at(alloc, disk, &geometry),
-        Err(fault) => Ok(Report::Refuses(refusal_text(1, u64::from(fault.number())))),
+        Err(fault) => Ok(Answer::Refused(boot_refusal(fault))),
     }
 }
 
 /// A law with nothing to run: an image has one answer to the word.
 pub fn one_label()
-    ensures { (image : List ℕ) (a b : Answer) → LabelReports image a → LabelReports image b → a ≡ b }
+    ensures { (image : List ℕ) (a b : Report) → LabelReports image a → LabelReports image b → a ≡ b }
 {}
 
 /// Prints the name and the version of the volume, or the first clause that refuses it. It reads the
@@ -143,11 +143,12 @@ pub fn label<D: Disk, S: Source, K: Sink>(
     script: &S,
     out: &mut K,
 ) -> Ending
-    ensures { ReportEnds LabelReports 5 result
+    ensures reads { D.fetched disk.new ≤ D.fetched disk.old + 5 }
+    ensures ends { ReportEnds LabelReports result
         (world D.Disk S.Source K.Sink disk.old script.now out.old) (world D.Disk S.Source K.Sink disk.new script.now out.new) }
 {
     match report_label(alloc, disk) {
-        Ok(report) => show(out, &report),
+        Ok(answer) => show(out, &answer),
         Err(Stop::Device) => Ending::Device,
         Err(Stop::Memory) => Ending::Memory,
     }

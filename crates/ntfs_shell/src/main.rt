@@ -1,11 +1,17 @@
 //! `ntfs_shell`: commands on the image of an NTFS 3.1 volume.
 #![tactic(auto)]
 
+mod answer;
+mod arguments;
 mod boot;
 mod ending;
+mod explain;
 mod find;
+mod front;
+mod help;
+mod image;
 mod label;
-mod report;
+mod refusal;
 mod sectors;
 mod shell;
 mod start;

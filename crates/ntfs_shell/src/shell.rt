@@ -1,22 +1,17 @@
 //! All that the program does, over any disk, source and sink.
-ghost use Rattle.std.specs.Prelude.{◌≡◌, ◌≢◌, codes, map, string_bytes};
-ghost use Rattle.ntfs_shell.specs.Words.{AreUnknown, AreWords, AskUnbuilt};
+ghost use Rattle.std.specs.Prelude.{◌≡◌, ◌≢◌, ◌+◌, ◌≤◌, ◌↔◌, codes, map, string_bytes};
+ghost use Rattle.ntfs_shell.specs.Words.{AreKnown, AreWords, AskUnbuilt};
 ghost use Rattle.ntfs_shell.specs.World.{world};
 ghost use Rattle.ntfs_shell.specs.Report.{AnswersReport};
 ghost use Rattle.ntfs_shell.specs.Boot.{BootReports};
 ghost use Rattle.ntfs_shell.specs.Label.{LabelReports};
 
 use crate::boot::boot;
+use crate::ending::{NOT_BUILT, UNKNOWN_WORDS};
 use crate::label::label;
 use crate::words::{Asked, read_words};
 use std::alloc::Global;
 use vol_disk::{Disk, Sink, Source};
-
-/// The status where the words are not known.
-pub const UNKNOWN_WORDS: u8 = 2;
-
-/// The status of a word that is not built yet.
-pub const NOT_BUILT: u8 = 9;
 
 /// Does what the words ask for, and gives the status of the program: 0 done, 2 unknown words, 3 the
 /// volume was refused, 5 the output failed, 6 the disk failed, 7 memory ran out, 9 a word that is not
@@ -28,19 +23,21 @@ pub fn run_shell<D: Disk, S: Source, K: Sink>(
     script: &mut S,
     out: &mut K,
 ) -> u8
-    ensures boot { AreWords (map string_bytes words.now) (codes "boot") → AnswersReport BootReports 1
+    ensures boot { AreWords (map string_bytes words.now) (codes "boot") → AnswersReport BootReports
         (world D.Disk S.Source K.Sink disk.old script.old out.old) result (world D.Disk S.Source K.Sink disk.new script.new out.new) }
+    ensures boot_reads { AreWords (map string_bytes words.now) (codes "boot") → D.fetched disk.new ≤ D.fetched disk.old + 1 }
     ensures boot_serves { AreWords (map string_bytes words.now) (codes "boot") → result ≢ 7 }
 
-    ensures label { AreWords (map string_bytes words.now) (codes "label") → AnswersReport LabelReports 5
+    ensures label { AreWords (map string_bytes words.now) (codes "label") → AnswersReport LabelReports
         (world D.Disk S.Source K.Sink disk.old script.old out.old) result (world D.Disk S.Source K.Sink disk.new script.new out.new) }
+    ensures label_reads { AreWords (map string_bytes words.now) (codes "label") → D.fetched disk.new ≤ D.fetched disk.old + 5 }
 
     ensures unbuilt { AskUnbuilt (map string_bytes words.now) → result ≡ 9 }
     ensures unbuilt_untouched { AskUnbuilt (map string_bytes words.now) →
         world D.Disk S.Source K.Sink disk.new script.new out.new ≡ world D.Disk S.Source K.Sink disk.old script.old out.old }
 
-    ensures unknown { AreUnknown (map string_bytes words.now) → result ≡ 2 }
-    ensures unknown_untouched { AreUnknown (map string_bytes words.now) →
+    ensures unknown { (result ≡ 2) ↔ ¬ (AreKnown (map string_bytes words.now)) }
+    ensures unknown_untouched { ¬ (AreKnown (map string_bytes words.now)) →
         world D.Disk S.Source K.Sink disk.new script.new out.new ≡ world D.Disk S.Source K.Sink disk.old script.old out.old }
 {
     match read_words(words) {

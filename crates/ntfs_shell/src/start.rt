@@ -1,74 +1,101 @@
 //! The edge of the program: its arguments, the image's file and the standard streams.
-use crate::ending::Ending;
-use crate::shell::{UNKNOWN_WORDS, run_shell};
-use std::fs::{File, OpenOptions};
-use std::io::{ErrorKind, Seek, SeekFrom};
+use crate::arguments::{Request, odd_argument, read_arguments, request_of};
+use crate::ending::{DEVICE_FAILED, DONE, OUT_OF_MEMORY, REFUSED, SINK_FAILED, UNKNOWN_WORDS};
+use crate::explain::{first_line, sentence_on, sentence_on_refusal};
+use crate::front::FrontSink;
+use crate::help::{HELP, VERSION};
+use crate::image::{hold_streams, open_image};
+use crate::shell::run_shell;
+use crate::words::access_of;
+use std::fs::File;
+use std::io;
+use std::io::ErrorKind;
 use std::rt::{Env, Files};
-use std::{env, io};
-use vol_disk::{FileDisk, SECTOR, StdSink, StdSource};
+use vol_disk::{Disk, StdSink, StdSource};
 
-const HELP: &str = "\
-usage: ntfs_shell IMAGE WORDS
-
-Reads the NTFS 3.1 volume in the file or block device IMAGE.
-
-Words:
-  boot      prints the geometry of the volume
-  label     prints the name and the version of the volume
-
-An answer goes to standard output. The status is 0 where all was done, 2 for
-words that are not known, 3 where the volume is refused, 5 where standard output
-failed, 6 where IMAGE cannot be opened or failed, 7 where memory ran out, and 9
-for a word that is not built yet.
-
-  ntfs_shell --help       prints this text
-  ntfs_shell --version    prints the version
-";
-
-const VERSION: &str = "ntfs_shell 0.1.0\n";
-
-// The image as a disk. A block device tells its length like a file, by its end.
-fn open_image<R: Files<File = File>>(rt: &R, image: &str) -> io::Result<FileDisk> {
-    let mut file = OpenOptions::new().read(true).write(true).open(rt, image)?;
-    let length = file.seek(SeekFrom::End(0))?;
-    Ok(FileDisk::new(file, length / SECTOR as u64))
-}
-
-fn print_text(rt: &impl Print, text: &str) -> u8 {
-    match rt.print(text) {
-        Ok(()) => Ending::Done.status(),
-        Err(_) => Ending::Sink.status(),
-    }
-}
-
-// Says why nothing was done, in one line. Where that fails too, the status alone tells it.
+// Says in one line why nothing was done, or what failed. Where that fails too, the status alone tells it.
 fn complain(rt: &impl Eprint, reason: &str) {
     let _ = rt.eprintln(format_args!("ntfs_shell: {reason}"));
 }
 
-fn run_image<R>(rt: &R, image: &str, words: &[String]) -> u8
+fn print_text(rt: &(impl Print + Eprint), text: &str) -> u8 {
+    match rt.print(text) {
+        Ok(()) => DONE,
+        Err(_) => {
+            complain(rt, "standard output failed");
+            SINK_FAILED
+        }
+    }
+}
+
+// Says what a person can do about a status, by what was printed.
+fn explain(rt: &impl Eprint, status: u8, printed: &[u8], sectors: u64) {
+    if status == REFUSED {
+        let line = first_line(printed);
+        let sentence = sentence_on_refusal(line, sectors);
+        let _ = rt.eprintln(format_args!("ntfs_shell: {line}: {sentence}"));
+    }
+    if let Some(sentence) = sentence_on(status) {
+        complain(rt, sentence);
+    }
+}
+
+// Says which argument is not UTF-8.
+fn complain_of_argument<R: Env + Eprint>(rt: &R) {
+    let mut bytes = [0; 4096];
+    match odd_argument(rt, &mut bytes) {
+        Some((number, len)) => {
+            let argument = bytes[..len].escape_ascii();
+            let _ = rt.eprintln(format_args!(
+                "ntfs_shell: argument {number} is not UTF-8: \"{argument}\""
+            ));
+        }
+        None => complain(rt, "an argument is not UTF-8"),
+    }
+}
+
+fn run_request<R>(rt: &R, request: &Request<'_>) -> u8
 where
     R: Files<File = File> + AllocGlobal + Input + Print + Eprint,
 {
-    let mut disk = match open_image(rt, image) {
-        Ok(disk) => disk,
+    let image = request.image;
+    let _held = match hold_streams(rt) {
+        Ok(held) => held,
         Err(error) => {
-            let _ = rt.eprintln(format_args!("ntfs_shell: cannot open {image}: {error}"));
-            return Ending::Device.status();
+            let _ = rt.eprintln(format_args!("ntfs_shell: cannot open /dev/null: {error}"));
+            return DEVICE_FAILED;
+        }
+    };
+    let mut disk = match open_image(rt, image, access_of(request.words)) {
+        Ok(disk) => disk,
+        Err(fault) => {
+            let _ = rt.eprintln(format_args!("ntfs_shell: IMAGE {image:?} {fault}"));
+            return DEVICE_FAILED;
         }
     };
     let mut script = StdSource::new(rt.reader());
-    let mut out = StdSink::new(io::writer(rt));
-    let status = run_shell(rt.alloc(), words, &mut disk, &mut script, &mut out);
-    if status == UNKNOWN_WORDS {
-        complain(rt, "unknown words; see ntfs_shell --help");
-    }
+    let mut out = FrontSink::new(StdSink::new(io::writer(rt)));
+    let status = run_shell(rt.alloc(), request.words, &mut disk, &mut script, &mut out);
+    explain(rt, status, out.front(), disk.sectors());
     status
 }
 
-fn read_arguments<R: Env + AllocGlobal>(rt: &R) -> io::Result<Vec<String>> {
-    let arguments = env::args(rt)?;
-    Ok(arguments.collect(rt.alloc())?)
+fn start_with<R>(rt: &R, arguments: &[String]) -> u8
+where
+    R: Files<File = File> + AllocGlobal + Input + Print + Eprint,
+{
+    match arguments {
+        [_, word] if word.as_str() == "--help" => return print_text(rt, HELP),
+        [_, word] if word.as_str() == "--version" => return print_text(rt, VERSION),
+        _ => {}
+    }
+    match request_of(arguments) {
+        Some(request) => run_request(rt, &request),
+        None => {
+            complain(rt, "IMAGE and a word are wanted; see ntfs_shell --help");
+            UNKNOWN_WORDS
+        }
+    }
 }
 
 /// Does what the program's arguments ask for, and gives its status.
@@ -76,23 +103,14 @@ pub fn start<R>(rt: &R) -> u8
 where
     R: Env + Files<File = File> + AllocGlobal + Input + Print + Eprint,
 {
-    let arguments = match read_arguments(rt) {
-        Ok(arguments) => arguments,
+    match read_arguments(rt) {
+        Ok(arguments) => start_with(rt, &arguments),
         Err(error) if error.kind() == ErrorKind::OutOfMemory => {
-            complain(rt, "out of memory");
-            return Ending::Memory.status();
+            complain(rt, "out of memory; nothing was done");
+            OUT_OF_MEMORY
         }
         Err(_) => {
-            complain(rt, "an argument is no text");
-            return UNKNOWN_WORDS;
-        }
-    };
-    match arguments.as_slice() {
-        [_, word] if word.as_str() == "--help" => print_text(rt, HELP),
-        [_, word] if word.as_str() == "--version" => print_text(rt, VERSION),
-        [_, image, words @ ..] => run_image(rt, image, words),
-        _ => {
-            complain(rt, "no image; see ntfs_shell --help");
+            complain_of_argument(rt);
             UNKNOWN_WORDS
         }
     }

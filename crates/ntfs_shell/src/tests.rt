@@ -1,11 +1,15 @@
 //! Whole runs of the program, over a disk, a script and a sink in memory.
+ghost use Rattle.std.specs.Prelude.{◌≡◌, ◌%◌, vec_len};
+
+mod edge;
 mod label;
 
+use crate::front::FrontSink;
 use crate::shell::run_shell;
 use byteorder::{ByteOrder, LittleEndian};
 use std::alloc::{AllocError, Global};
 use std::test;
-use vol_disk::{CallKind, Disk, Fail, FailDisk, Failed, MemDisk, MemSink, MemSource, Sink};
+use vol_disk::{Disk, Failed, MemDisk, MemSink, MemSource, Sink};
 
 const GEOMETRY: &str = "\
 sector 512
@@ -20,7 +24,7 @@ serial 0000000000000001
 ";
 
 // More than any text here is long.
-const AMPLE: usize = 1024;
+const AMPLE: usize = 2048;
 
 // Sector 0 of a volume of 2,048 clusters of 4,096 bytes, with one byte of it changed.
 fn boot_sector(at: usize, byte: u8) -> [u8; 512] {
@@ -42,22 +46,20 @@ fn boot_sector(at: usize, byte: u8) -> [u8; 512] {
     sector
 }
 
-// A disk of so many sectors, zero behind this first one.
-fn disk_of(alloc: Global, sectors: u16, first: &[u8; 512]) -> Result<MemDisk, AllocError> {
-    let mut image = first.to_vec(alloc)?;
-    image.resize(usize::from(sectors) * 512, 0)?;
-    Ok(MemDisk::new(alloc, image))
+// A disk with these contents, and room for some writes.
+fn disk_with(alloc: Global, contents: Vec<u8>) -> Result<MemDisk, test::Fail>
+    requires { vec_len contents % 512 ≡ 0 }
+{
+    let mut disk = MemDisk::new(alloc, contents);
+    disk.reserve(8)?;
+    Ok(disk)
 }
 
-// The volume, on a disk whose read of this number fails; 0 is none.
-fn failing_volume(alloc: Global, number: u64) -> Result<FailDisk<MemDisk>, AllocError> {
-    let fail = Fail {
-        kind: CallKind::Read,
-        number,
-        lands: false,
-    };
-    let inner = disk_of(alloc, 16_384, &boot_sector(0x44, 0xF4))?;
-    Ok(FailDisk::new(inner, vec![in alloc; fail]?))
+// A disk of so many sectors, zero behind this first one.
+fn disk_of(alloc: Global, sectors: u16, first: &[u8; 512]) -> Result<MemDisk, test::Fail> {
+    let mut image = first.to_vec(alloc)?;
+    image.resize(usize::from(sectors) * 512, 0)?;
+    disk_with(alloc, image)
 }
 
 // A sink with this room, whose call of this number fails; 0 is none.
@@ -124,87 +126,68 @@ fn boot_prints_the_geometry_or_the_clause(rt: HostRuntime) -> Result<(), test::F
 }
 
 #[test]
-fn a_failing_disk_ends_the_run(rt: HostRuntime) -> Result<(), test::Fail> {
-    for fails in [0, 1] {
-        let mut disk = failing_volume(rt.alloc(), 1)?;
-        let mut out = sink_of(rt.alloc(), AMPLE, fails)?;
-        let got = run(rt.alloc(), "boot", &mut disk, &mut out)?;
-        assert_eq!(rt; got, 6, "sink failing at {fails}");
-        assert!(rt; out.bytes().is_empty(), "sink failing at {fails}");
-        assert!(rt; disk.inner().writes().is_empty(), "sink failing at {fails}");
-
-        // The next call of the sink is its first.
-        assert_eq!(rt; out.write(b"x").is_err(), fails == 1);
-    }
-    Ok(())
-}
-
-#[test]
 fn a_failing_sink_got_the_calls_before(rt: HostRuntime) -> Result<(), test::Fail> {
-    for (fails, status, length) in [
-        (1, 5, 0),
-        (2, 5, 25),
-        (3, 5, 50),
-        (4, 5, 75),
-        (5, 5, 100),
-        (6, 0, 115),
-    ] {
-        let mut disk = failing_volume(rt.alloc(), 0)?;
-        let whole = sink_of(rt.alloc(), AMPLE, fails)?;
-        let mut out = Pieces { whole };
-        let got = run(rt.alloc(), "boot", &mut disk, &mut out)?;
-        assert_eq!(rt; got, status, "failing at {fails}");
-        assert_eq!(rt; out.whole.bytes().len(), length, "failing at {fails}");
-        assert!(rt;
-            GEOMETRY.as_bytes().starts_with(out.whole.bytes()),
-            "failing at {fails}"
-        );
-        assert!(rt; disk.inner().writes().is_empty(), "failing at {fails}");
-    }
-    Ok(())
-}
-
-#[test]
-fn a_full_sink_got_its_room(rt: HostRuntime) -> Result<(), test::Fail> {
     for (room, fails, status, length) in [
         (AMPLE, 1, 5, 0),
-        (0, 0, 5, 0),
+        (AMPLE, 2, 5, 25),
+        (AMPLE, 5, 5, 100),
+        (AMPLE, 6, 0, 115),
         (17, 0, 5, 17),
         (114, 0, 5, 114),
         (115, 0, 0, 115),
     ] {
-        let mut disk = failing_volume(rt.alloc(), 0)?;
-        let mut out = sink_of(rt.alloc(), room, fails)?;
+        let mut disk = disk_of(rt.alloc(), 16_384, &boot_sector(0x44, 0xF4))?;
+        let whole = sink_of(rt.alloc(), room, fails)?;
+        let mut out = Pieces { whole };
         let got = run(rt.alloc(), "boot", &mut disk, &mut out)?;
-        assert_eq!(rt; got, status, "room {room}");
-        assert_eq!(rt; out.bytes().len(), length, "room {room}");
-        assert!(rt; GEOMETRY.as_bytes().starts_with(out.bytes()), "room {room}");
-        assert!(rt; disk.inner().writes().is_empty(), "room {room}");
+        assert_eq!(rt; got, status, "room {room}, failing at {fails}");
+        assert_eq!(rt;
+            out.whole.bytes().len(),
+            length,
+            "room {room}, failing at {fails}"
+        );
+        assert!(rt;
+            GEOMETRY.as_bytes().starts_with(out.whole.bytes()),
+            "room {room}, failing at {fails}"
+        );
+        assert!(rt; disk.writes().is_empty(), "room {room}, failing at {fails}");
     }
     Ok(())
 }
 
 #[test]
-fn other_words_touch_nothing(rt: HostRuntime) -> Result<(), test::Fail> {
+fn other_words_print_nothing(rt: HostRuntime) -> Result<(), test::Fail> {
     for (words, status) in [
         ("", 2),
         ("boot x", 2),
+        ("bo", 2),
         ("run x", 9),
         ("make", 9),
         ("check", 9),
         ("format 1", 9),
     ] {
-        let mut disk = failing_volume(rt.alloc(), 1)?;
-        let mut out = sink_of(rt.alloc(), AMPLE, 1)?;
+        let mut disk = disk_of(rt.alloc(), 16, &boot_sector(0x44, 0xF4))?;
+        let mut out = sink_of(rt.alloc(), AMPLE, 0)?;
         let got = run(rt.alloc(), words, &mut disk, &mut out)?;
         assert_eq!(rt; got, status, "words: {words}");
         assert!(rt; out.bytes().is_empty(), "words: {words}");
-        assert!(rt; disk.inner().writes().is_empty(), "words: {words}");
+        assert!(rt; disk.writes().is_empty(), "words: {words}");
+    }
+    Ok(())
+}
 
-        // The next calls of the disk and of the sink are their first.
-        assert!(rt; disk.sectors() > 0);
-        assert_eq!(rt; disk.read(0, &mut [0; 512]), Err(Failed), "words: {words}");
-        assert_eq!(rt; out.write(b"x"), Err(Failed), "words: {words}");
+// The front is kept over calls, and no more than there is room for.
+#[test]
+fn a_sink_remembers_how_its_text_began(rt: HostRuntime) -> Result<(), test::Fail> {
+    for (room, status, front) in [
+        (AMPLE, 0, "sector 512\ncluster 4096\nsectors 16384\ncl"),
+        (17, 5, "sector 512\ncluste"),
+    ] {
+        let mut disk = disk_of(rt.alloc(), 16_384, &boot_sector(0x44, 0xF4))?;
+        let whole = sink_of(rt.alloc(), room, 0)?;
+        let mut out = FrontSink::new(Pieces { whole });
+        assert_eq!(rt; run(rt.alloc(), "boot", &mut disk, &mut out)?, status);
+        assert!(rt; out.front() == front.as_bytes(), "room {room}");
     }
     Ok(())
 }

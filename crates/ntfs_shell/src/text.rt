@@ -3,6 +3,7 @@ ghost use Rattle.std.specs.Prelude.{◌≡◌, ◌+◌, ◌^◌, ◌<◌, ◌≤
 ghost use Rattle.arrayvec.specs.ArrayVec.{array_vec_len};
 ghost use Rattle.ntfs_shell.specs.Text.{geometry_text, hexadecimal, line_of, refusal_text};
 
+use crate::refusal::Refusal;
 use arrayvec::ArrayVec;
 use byteorder::{BigEndian, ByteOrder};
 use ntfs_boot::Geometry;
@@ -66,18 +67,17 @@ pub fn geometry_text(geometry: &Geometry) -> Text
     text
 }
 
-/// The line that refuses a volume: the first clause of the volume definition that fails, and its
-/// number.
+/// The line that refuses a volume, as in `refused S1 6`.
 #[tactic(auto, unfolding(crate::specs::Text::refusal_text))]
-pub fn refusal_text(clause: u8, number: u64) -> Text
-    ensures { result.items ≡ refusal_text clause number }
+pub fn refusal_text(refusal: Refusal) -> Text
+    ensures { result.items ≡ refusal_text refusal }
 {
     let mut text = Text::new();
     add(&mut text, b"refused S");
     add_number(
         &mut text,
-        itoa::Buffer::new().format(clause).as_bytes(),
-        number,
+        itoa::Buffer::new().format(refusal.clause).as_bytes(),
+        refusal.number,
     );
     text
 }

@@ -6,9 +6,9 @@ ghost use Rattle.attr_view.specs.View.{attributes_of};
 ghost use Rattle.ntfs_shell.specs.Label.{label_text, name_line, version_line, volume_report};
 ghost use Rattle.ntfs_shell.specs.Shown.{report_of};
 
+use crate::answer::Answer;
 use crate::find::first_value;
-use crate::report::Report;
-use crate::text::refusal_text;
+use crate::refusal::NO_VERSION;
 use attr_view::RecordView;
 use std::alloc::{AllocError, Global};
 use vol_bytes::{TextFault, text_of_units, u16_at};
@@ -85,12 +85,12 @@ fn label_text(alloc: Global, units: &[u16], version: Version) -> Result<Vec<u8>,
 }
 
 /// What the opened record 3 says of the volume.
-pub fn report_volume(alloc: Global, view: &RecordView<'_>) -> Result<Report, AllocError>
-    ensures { IfOk result (λ report. report_of report ≡ volume_report (attributes_of view.now)) }
+pub fn report_volume(alloc: Global, view: &RecordView<'_>) -> Result<Answer, AllocError>
+    ensures { IfOk result (λ answer. report_of answer ≡ volume_report (attributes_of view.now)) }
 {
     let Some(version) = read_version(first_value(view, VOLUME_INFORMATION)) else {
-        return Ok(Report::Refuses(refusal_text(14, 3)));
+        return Ok(Answer::Refused(NO_VERSION));
     };
     let units = read_name(alloc, first_value(view, VOLUME_NAME))?;
-    Ok(Report::SaysMore(label_text(alloc, &units, version)?))
+    Ok(Answer::Long(label_text(alloc, &units, version)?))
 }

@@ -1,6 +1,8 @@
 //! The words of the command line.
 ghost use Rattle.std.specs.Prelude.{◌≡◌, ◌↔◌, IsTrue, codes, map, string_bytes};
-ghost use Rattle.ntfs_shell.specs.Words.{AreWords, AskUnbuilt, IsUnbuilt};
+ghost use Rattle.ntfs_shell.specs.Words.{AreKnown, AreWords, AskToRead, AskUnbuilt, IsUnbuilt};
+
+use crate::image::Access;
 
 /// What the words ask for.
 #[derive(Clone, Copy, Debug, PartialEq, Eq)]
@@ -46,11 +48,22 @@ fn ask_unbuilt(words: &[String]) -> bool
     }
 }
 
+/// What the words ask of the image.
+pub fn access_of(words: &[String]) -> Access
+    ensures { (result ≡ Access.Reads) ↔ AskToRead (map string_bytes words.now) }
+{
+    match read_words(words) {
+        Asked::Boot | Asked::Label => Access::Reads,
+        Asked::Unbuilt | Asked::Unknown => Access::Writes,
+    }
+}
+
 /// What the words ask for.
 pub fn read_words(words: &[String]) -> Asked
     ensures boot { (result ≡ Asked.Boot) ↔ AreWords (map string_bytes words.now) (codes "boot") }
     ensures label { (result ≡ Asked.Label) ↔ AreWords (map string_bytes words.now) (codes "label") }
     ensures unbuilt { (result ≡ Asked.Unbuilt) ↔ AskUnbuilt (map string_bytes words.now) }
+    ensures unknown { (result ≡ Asked.Unknown) ↔ ¬ (AreKnown (map string_bytes words.now)) }
 {
     if are_words(words, "boot") {
         return Asked::Boot;

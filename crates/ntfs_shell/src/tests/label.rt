@@ -1,8 +1,8 @@
 //! The word `label`, on a volume of which record 0 and record 3 stand as a format lays them out.
-use super::{AMPLE, boot_sector, run, sink_of};
+use super::{AMPLE, boot_sector, disk_with, run, sink_of};
 use std::alloc::{AllocError, Global};
 use std::test;
-use vol_bytes::put_u64;
+use vol_bytes::{put_u16, put_u32, put_u64, u16_at};
 use vol_disk::{CallKind, Fail, FailDisk, MemDisk};
 
 const NAME: u8 = 0x60;
@@ -14,9 +14,6 @@ const RECORDS: [usize; 2] = [8192, 8192 + 3072];
 
 // A byte of the boot sector that is zero as it is.
 const ZERO: usize = 0x54;
-
-// Where an attribute would begin, the mark that there are no more.
-const END: [u8; 40] = [0xFF; 40];
 
 const TEXT: &str = "label DATA\nversion 3.1\n";
 
@@ -39,36 +36,40 @@ fn information(len: usize) -> [u8; 40] {
     resident(INFORMATION, 3, &value[..len.min(12)])
 }
 
-// The stream of the table, 16 clusters from cluster 2 on, and the end mark.
-fn table_stream() -> [u8; 120] {
-    let mut attributes = [0xFF; 120];
-    attributes[..72].fill(0);
-    attributes[0x00] = 0x80;
-    attributes[0x04] = 72;
-    attributes[0x08] = 1;
-    attributes[0x0A] = 0x40;
-    attributes[0x18] = 15;
-    attributes[0x20] = 0x40;
-    put_u64(&mut attributes, 0x28, 65_536);
-    put_u64(&mut attributes, 0x30, 65_536);
-    put_u64(&mut attributes, 0x38, 65_536);
-    attributes[0x40..0x44].copy_from_slice(b"\x11\x10\x02\0");
-    attributes
+// A name of 255 units: fifty-one times `a`, a space, a pair of surrogates and a slash.
+fn long_name(alloc: Global) -> Result<Vec<u8>, AllocError> {
+    let mut attribute = [0; 24].to_vec(alloc)?;
+    put_u32(&mut attribute, 0x00, u32::from(NAME));
+    put_u32(&mut attribute, 0x04, 536);
+    put_u16(&mut attribute, 0x0E, 1);
+    put_u32(&mut attribute, 0x10, 510);
+    put_u16(&mut attribute, 0x14, 24);
+    for _ in 0..51 {
+        attribute.extend_from_slice(b"a\0 \0\x3D\xD8\x00\xDE/\0")?;
+    }
+    attribute.extend_from_slice(b"\0\0")?;
+    Ok(attribute)
 }
 
-// One attribute behind the other.
-fn joined(attributes: &[[u8; 40]; 3]) -> [u8; 120] {
-    let mut bytes = [0; 120];
-    let (first, rest) = bytes.split_at_mut(40);
-    let (second, third) = rest.split_at_mut(40);
-    first.copy_from_slice(&attributes[0]);
-    second.copy_from_slice(&attributes[1]);
-    third.copy_from_slice(&attributes[2]);
-    bytes
+// The stream of the table, 16 clusters from cluster 2 on.
+fn table_stream() -> [u8; 72] {
+    let mut attribute = [0; 72];
+    attribute[0x00] = 0x80;
+    attribute[0x04] = 72;
+    attribute[0x08] = 1;
+    attribute[0x0A] = 0x40;
+    attribute[0x18] = 15;
+    attribute[0x20] = 0x40;
+    put_u64(&mut attribute, 0x28, 65_536);
+    put_u64(&mut attribute, 0x30, 65_536);
+    put_u64(&mut attribute, 0x38, 65_536);
+    attribute[0x40..0x44].copy_from_slice(b"\x11\x10\x02\0");
+    attribute
 }
 
 // A record of these attributes as it is stored, with update sequence number 1.
-fn stored(attributes: &[u8; 120]) -> [u8; 1024] {
+fn stored(attributes: &[u8]) -> [u8; 1024] {
+    let len = attributes.len().min(0x3C0);
     let mut block = [0; 1024];
     block[..4].copy_from_slice(b"FILE");
     block[0x04] = 0x30;
@@ -77,58 +78,58 @@ fn stored(attributes: &[u8; 120]) -> [u8; 1024] {
     block[0x12] = 1;
     block[0x14] = 0x38;
     block[0x16] = 1;
-    block[0x18] = 0xB8;
+    put_u32(&mut block, 0x18, 0x40 + len as u32);
     block[0x1D] = 4;
     block[0x28] = 4;
-    block[0x38..0xB0].copy_from_slice(attributes);
-    block[0xB0..0xB4].fill(0xFF);
+    block[0x38..0x38 + len].copy_from_slice(&attributes[..len]);
+    block[0x38 + len..0x3C + len].fill(0xFF);
     block[0x30] = 1;
-    block[0x1FE] = 1;
-    block[0x3FE] = 1;
+    for (place, end) in [(0x32, 0x1FE), (0x34, 0x3FE)] {
+        let last = u16_at(&block, end);
+        put_u16(&mut block, place, last);
+        put_u16(&mut block, end, 1);
+    }
     block
 }
 
 // The volume whose record 3 has these attributes, with the byte at one place zero.
-fn volume(alloc: Global, attributes: &[[u8; 40]; 3], zeroed: usize) -> Result<MemDisk, AllocError> {
+fn volume(alloc: Global, attributes: &[u8], zeroed: usize) -> Result<MemDisk, test::Fail> {
     let mut image = boot_sector(0x44, 0xF4).to_vec(alloc)?;
     image.resize(RECORDS[0], 0)?;
     image.extend_from_slice(&stored(&table_stream()))?;
     image.resize(RECORDS[1], 0)?;
-    image.extend_from_slice(&stored(&joined(attributes)))?;
+    image.extend_from_slice(&stored(attributes))?;
     image.resize(16_384 * 512, 0)?;
     if let Some(byte) = image.get_mut(zeroed) {
         *byte = 0;
     }
-    Ok(MemDisk::new(alloc, image))
+    disk_with(alloc, image)
 }
 
 // The volume with this name.
-fn named(alloc: Global, name: &[u8]) -> Result<MemDisk, AllocError> {
-    volume(
-        alloc,
-        &[resident(NAME, 1, name), information(12), END],
-        ZERO,
-    )
+fn named(alloc: Global, name: &[u8]) -> Result<MemDisk, test::Fail> {
+    let attributes = [resident(NAME, 1, name), information(12)].concat(alloc)?;
+    volume(alloc, &attributes, ZERO)
 }
 
 #[test]
 fn label_prints_or_refuses(rt: HostRuntime) -> Result<(), test::Fail> {
     let name = resident(NAME, 1, b"D\0A\0T\0A\0");
     let other = resident(NAME, 2, b"O\0T\0H\0E\0R\0");
-    let empty = resident(NAME, 1, b"");
     let version = information(12);
-    for (zeroed, attributes, status, text) in [
-        (ZERO, [name, version, END], 0, TEXT),
-        (RECORDS[0], [name, version, END], 3, "refused S2 0\n"),
-        (RECORDS[1], [name, version, END], 3, "refused S3 3\n"),
-        (ZERO, [name, END, END], 3, "refused S14 3\n"),
-        (ZERO, [name, information(11), END], 3, "refused S14 3\n"),
-        (0x1FE, [name, version, END], 3, "refused S1 1\n"),
-        (ZERO, [empty, version, END], 0, "label\nversion 3.1\n"),
-        (ZERO, [version, END, END], 0, "label\nversion 3.1\n"),
-        (ZERO, [name, other, version], 0, TEXT),
-    ] {
-        let mut disk = volume(rt.alloc(), &attributes, zeroed)?;
+    let cut = information(11);
+    let rows: [(usize, &[[u8; 40]], u8, &str); 8] = [
+        (ZERO, &[name, version], 0, TEXT),
+        (RECORDS[0], &[name, version], 3, "refused S2 0\n"),
+        (RECORDS[1], &[name, version], 3, "refused S3 3\n"),
+        (ZERO, &[name], 3, "refused S14 3\n"),
+        (ZERO, &[name, cut], 3, "refused S14 3\n"),
+        (0x1FE, &[name, version], 3, "refused S1 1\n"),
+        (ZERO, &[version], 0, "label\nversion 3.1\n"),
+        (ZERO, &[name, other, version], 0, TEXT),
+    ];
+    for (zeroed, attributes, status, text) in rows {
+        let mut disk = volume(rt.alloc(), &attributes.concat(rt.alloc())?, zeroed)?;
         let mut out = sink_of(rt.alloc(), AMPLE, 0)?;
         let got = run(rt.alloc(), "label", &mut disk, &mut out)?;
         assert_eq!(rt; got, status, "{zeroed} zeroed, for {text}");
@@ -144,8 +145,9 @@ fn label_prints_or_refuses(rt: HostRuntime) -> Result<(), test::Fail> {
 // The last row has half a unit too many.
 #[test]
 fn label_prints_any_name(rt: HostRuntime) -> Result<(), test::Fail> {
-    let table: [(&[u8], &str); 7] = [
+    let table: [(&[u8], &str); 8] = [
         (b"D\0A\0T\0A\0", TEXT),
+        (b"", "label\nversion 3.1\n"),
         (b"a\0 \0b\0", "label a%0020b\nversion 3.1\n"),
         (
             b"%\0/\0:\0\x7F\0",
@@ -168,6 +170,24 @@ fn label_prints_any_name(rt: HostRuntime) -> Result<(), test::Fail> {
 }
 
 #[test]
+fn label_prints_a_long_name(rt: HostRuntime) -> Result<(), test::Fail> {
+    let mut attributes = long_name(rt.alloc())?;
+    attributes.extend_from_slice(&information(12))?;
+    let mut text = String::new(rt.alloc());
+    text.push_str("label ")?;
+    for _ in 0..51 {
+        text.push_str("a%0020😀%002F")?;
+    }
+    text.push_str("\nversion 3.1\n")?;
+    let mut disk = volume(rt.alloc(), &attributes, ZERO)?;
+    let mut out = sink_of(rt.alloc(), AMPLE, 0)?;
+    assert_eq!(rt; run(rt.alloc(), "label", &mut disk, &mut out)?, 0);
+    assert!(rt; out.bytes() == text.as_bytes());
+    assert!(rt; disk.writes().is_empty());
+    Ok(())
+}
+
+#[test]
 fn label_makes_five_reads(rt: HostRuntime) -> Result<(), test::Fail> {
     for number in 1..=6 {
         let (status, text) = if number == 6 { (0, TEXT) } else { (6, "") };
@@ -184,15 +204,5 @@ fn label_makes_five_reads(rt: HostRuntime) -> Result<(), test::Fail> {
         assert!(rt; out.bytes() == text.as_bytes(), "read {number}");
         assert!(rt; disk.inner().writes().is_empty(), "read {number}");
     }
-    Ok(())
-}
-
-#[test]
-fn label_fills_a_small_sink(rt: HostRuntime) -> Result<(), test::Fail> {
-    let mut disk = named(rt.alloc(), b"D\0A\0T\0A\0")?;
-    let mut out = sink_of(rt.alloc(), 17, 0)?;
-    assert_eq!(rt; run(rt.alloc(), "label", &mut disk, &mut out)?, 5);
-    assert!(rt; out.bytes() == b"label DATA\nversio".as_slice());
-    assert!(rt; disk.writes().is_empty());
     Ok(())
 }

@@ -3,9 +3,9 @@ use Rattle.ntfs_shell.specs.Label.{LabelReports}
 use Rattle.ntfs_shell.proofs.Reports.{ends_shown}
 use Rattle.ntfs_shell.proofs.label.label.Goals as goal
 
-pub returns-in-Ok : goal.returns-in-Ok
-returns-in-Ok g c =
+pub returns-in-Ok-clause-ends : goal.returns-in-Ok-clause-ends
+returns-in-Ok-clause-ends g c =
     let read = c.in-Ok.ensures.reads in
-    ends_shown LabelReports 5 _ _ _ _ c.show.ensures
-    (record { now = read.now; settled = read.settled; fenced = read.fenced; size = read.size; written = read.written; late = read.late; left = refl; source_faults = refl })
-    read.fetched c.in-Ok.ensures.faults c.in-Ok.ensures.report
+    ends_shown LabelReports _ _ _ _ c.show.ensures
+    (record { now = read.now; settled = read.settled; fenced = read.fenced; sectors = read.size; written = read.written; late = read.late; left = refl; source_faults = refl })
+    c.in-Ok.ensures.faults c.in-Ok.ensures.report

@@ -2,7 +2,6 @@ use Rattle.std.proofs.Common.{◌≡◌, ap, sym, ◌∙◌}
 use Rattle.ntfs_def.specs.Boot.{boot_failing}
 use Rattle.ntfs_boot.specs.Geometry.{number_of}
 use Rattle.ntfs_shell.specs.Report.{refuses}
-use Rattle.ntfs_shell.specs.Text.{refusal_text}
 use Rattle.ntfs_shell.proofs.LabelLaws.{reports-refused, reports-volume}
 use Rattle.ntfs_shell.proofs.label.report_label.Goals as goal
 
@@ -20,4 +19,4 @@ returns-in-Err-clause-report g c image told =
     let sectors : g.D.Disk.size c.args.disk.now ≡ c.sectors.result = sym (c.sectors.ensures ∙ read.reads.size) in
     reports-refused _ image c.in_ok-sector.sector _ (number_of c.in-Err.fault) _ (g.met.D.Disk.told_length c.args.disk.now) told (read.sector image told)
     (ap (λ n. boot_failing c.in_ok-sector.sector n) sectors ∙ c.in-Err.ensures.err)
-    (ap refuses (c.refusal_text.ensures ∙ ap (refusal_text 1) (c.from.ensures ∙ c.number.ensures)))
+    (ap refuses c.boot_refusal.ensures)

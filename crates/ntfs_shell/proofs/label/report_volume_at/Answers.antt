@@ -1,6 +1,5 @@
-use Rattle.std.proofs.Common.{◌+◌, ◌*◌, ◌<◌, ap, sym, subst, ◌∙◌, inr}
+use Rattle.std.proofs.Common.{◌+◌, ◌*◌, ◌<◌, refl, ap, sym, subst, ◌∙◌, inr}
 use Rattle.ntfs_def.specs.Boot.{cluster_sectors, mft_cluster}
-use Rattle.ntfs_shell.specs.Report.{refuses}
 use Rattle.ntfs_shell.specs.Tables.{LiesOn, layout_of}
 use Rattle.ntfs_shell.proofs.Boots.{length-told}
 use Rattle.ntfs_shell.proofs.LabelLaws.{first_record-read, reports-table}
@@ -14,7 +13,7 @@ returns-then-sector-sectors-clause-report g c image boot told is =
     let place = ap (λ n. c.args.geometry.now.mft * n) c.from.ensures ∙ first_sector c.args.geometry.now boot is in
     let past : size < mft_cluster boot * cluster_sectors boot + 2 =
     subst (λ n. size < n + 2) place (subst (λ n. n < c.args.geometry.now.mft * c.from.result + 2) c.sectors.ensures c.if-sector-sectors.true) in
-    inr ((λ layout clause. first_record-past image boot size len past clause.readable), ap refuses c.refusal_text.ensures)
+    inr ((λ layout clause. first_record-past image boot size len past clause.readable), refl)
 
 pub report_table-requires : goal.report_table-requires
 report_table-requires g c =
@@ -34,4 +33,4 @@ returns-in-None-clause-report g c image boot told is =
     let none = rw c.in-None.is at c.in_ok-table.ensures.none in
     let place = ap (λ n. c.args.geometry.now.mft * n) c.from.ensures in
     let read = first_record-read _ image _ boot c.args.geometry.now _ told c.in_ok-read_two_sectors.ensures.read place is in
-    inr ((λ layout clause. none layout (has_table _ boot _ c.args.geometry.now layout is read clause)), ap refuses c.refusal_text-in-None.ensures)
+    inr ((λ layout clause. none layout (has_table _ boot _ c.args.geometry.now layout is read clause)), refl)

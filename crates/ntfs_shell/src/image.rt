@@ -1,0 +1,103 @@
+//! The image as a disk, and the standard streams beside it.
+ghost use Rattle.std.specs.Prelude.{◌≡◌, ◌/◌, ◌^◌, ◌<◌};
+
+use std::fs::{File, OpenOptions};
+use std::io::{ErrorKind, Seek, SeekFrom};
+use std::os::unix::fs::FileTypeExt;
+use std::rt::Files;
+use std::{fs, io};
+use thiserror::Error;
+use vol_disk::{FileDisk, SECTOR};
+
+/// What the words ask of the image.
+#[derive(Clone, Copy, Debug, PartialEq, Eq)]
+pub enum Access {
+    /// Nothing but to be read.
+    Reads,
+    /// To be read and written.
+    Writes,
+}
+
+/// Why there is no disk over the image.
+#[derive(Debug, Drop, Error)]
+pub enum ImageFault {
+    #[error("cannot be opened, even for reading alone: {0}")]
+    Unreadable(io::Error),
+    #[error("cannot be opened for reading and writing: {0}")]
+    Unwritable(io::Error),
+    #[error("does not tell its length: {0}; a file or a block device is wanted, and no pipe")]
+    Endless(io::Error),
+}
+
+/// Takes the descriptors of standard streams that were closed, so that the image gets none of them. As
+/// long as the files live, a read of such a stream is at its end, and a write fails.
+///
+/// # Errors
+///
+/// That of opening `/dev/null`.
+pub fn hold_streams<R: Files<File = File>>(rt: &R) -> io::Result<[File; 3]> {
+    Ok([
+        File::open(rt, "/dev/null")?,
+        File::open(rt, "/dev/null")?,
+        File::open(rt, "/dev/null")?,
+    ])
+}
+
+// Whether opening failed because the file may not be written.
+fn is_write_refused(kind: ErrorKind) -> bool {
+    matches!(
+        kind,
+        ErrorKind::PermissionDenied | ErrorKind::ReadOnlyFilesystem
+    )
+}
+
+// Whether the path leads to a file or a block device. Opening a pipe for reading waits for its writer.
+fn has_end<R: Files>(rt: &R, image: &str) -> bool {
+    match fs::metadata(rt, image) {
+        Ok(metadata) => metadata.is_file() || metadata.file_type().is_block_device(),
+        Err(_) => false,
+    }
+}
+
+// Opens the image for reading and writing, and for reading alone where no more is asked and only
+// writing is refused.
+fn open_file<R: Files<File = File>>(
+    rt: &R,
+    image: &str,
+    access: Access,
+) -> Result<File, ImageFault> {
+    match OpenOptions::new().read(true).write(true).open(rt, image) {
+        Ok(file) => Ok(file),
+        Err(error) if access == Access::Writes || !is_write_refused(error.kind()) => {
+            Err(ImageFault::Unwritable(error))
+        }
+        Err(error) if !has_end(rt, image) => Err(ImageFault::Unwritable(error)),
+        Err(_) => File::open(rt, image).map_err(ImageFault::Unreadable),
+    }
+}
+
+// The whole sectors in so many bytes.
+fn sectors_in(length: u64) -> u64
+    ensures sectors { result ≡ length / 512 }
+    ensures fits { result < 2 ^ 55 }
+{
+    length / SECTOR as u64
+}
+
+/// The image as a disk of its whole sectors. A block device tells its length like a file, by its end.
+///
+/// # Errors
+///
+/// `Unwritable` and `Unreadable` where the image cannot be opened as `access` asks, and `Endless` where
+/// its length cannot be told.
+pub fn open_image<R: Files<File = File>>(
+    rt: &R,
+    image: &str,
+    access: Access,
+) -> Result<FileDisk, ImageFault> {
+    let mut file = open_file(rt, image, access)?;
+    match file.seek(SeekFrom::End(0)) {
+        Ok(length) => Ok(FileDisk::new(file, sectors_in(length))),
+        Err(error) => Err(ImageFault::Endless(error)),
+    }
+}
