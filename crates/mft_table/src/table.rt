@@ -9,6 +9,7 @@ ghost use Rattle.data_runs.specs.declared.RunFault.TheVariants.{Memory};
 ghost use Rattle.attr_view.specs.View.{record_of};
 ghost use Rattle.mft_table.specs.Tables.{IsTableOf, TellsLayout};
 
+use crate::BlockReader;
 use crate::find::table_stream;
 use attr_view::{RecordView, Sizes};
 use data_runs::{Run, RunFault, RunList, Spot, decode};
@@ -25,6 +26,23 @@ pub struct Table {
     pub initialized: u64,
     /// The records of the table.
     pub count: u64,
+}
+
+impl Table {
+    ghost use Rattle.mft_table.specs.Blocks.{read_layout};
+    ghost use Rattle.mft_table.specs.Tables.{layout_of};
+
+    /// Lends a reader of its blocks.
+    pub fn blocks(&self) -> BlockReader<'_>
+        ensures { read_layout result ≡ layout_of self.now }
+    {
+        BlockReader {
+            geometry: &self.geometry,
+            runs: &self.runs,
+            initialized: self.initialized,
+            count: self.count,
+        }
+    }
 }
 
 fn is_memory(fault: RunFault) -> bool

@@ -1,5 +1,5 @@
 //! The table of a volume, found from its boot sector on.
-ghost use Rattle.std.specs.Prelude.{◌≡◌, ◌*◌, ◌/◌, ◌^◌, ℕ, List, Some, IfErr, IfNone, IfOk, IfSome, MatchResult};
+ghost use Rattle.std.specs.Prelude.{◌≡◌, ◌*◌, ◌/◌, ◌^◌, ◌≤◌, ℕ, List, Some, IfErr, IfNone, IfOk, IfSome, MatchResult};
 ghost use Rattle.vol_disk.specs.Contents.{IsTold, sector_in};
 ghost use Rattle.vol_disk.specs.Count.{CountsFault};
 ghost use Rattle.ntfs_def.specs.Boot.{boot_sector};
@@ -59,6 +59,7 @@ fn find_at<D: Disk>(
     ensures ok { IfOk result (λ table. (all boot : List ℕ) → image D.Disk stage.old ≡ Some all → geometry.now ≡ geometry_of boot
         → MeetsTableClause (sector_in (Some all)) boot (layout_of table)) }
     ensures lies { IfOk result (λ table. LiesOn (D.size (disk_of D.Disk stage.old)) (layout_of table)) }
+    ensures records { IfOk result (λ table. 24 ≤ table.count) }
     ensures err { IfErr result (λ no. (all boot : List ℕ) → image D.Disk stage.old ≡ Some all → geometry.now ≡ geometry_of boot
         → RefusesAt (sector_in (Some all)) boot no) }
     ensures reads { StageReads D.Disk stage.old stage.new 2 }
@@ -86,6 +87,7 @@ fn find_at<D: Disk>(
 pub fn find_table<D: Disk>(alloc: Global, stage: &mut Stage<'_, D>) -> Result<Table, TableNo>
     ensures ok { IfOk result (λ table. (all : List ℕ) → image D.Disk stage.old ≡ Some all → HasTableOf all table) }
     ensures lies { IfOk result (λ table. LiesOn (D.size (disk_of D.Disk stage.old)) (layout_of table)) }
+    ensures records { IfOk result (λ table. 24 ≤ table.count) }
     ensures err { IfErr result (λ no. (all : List ℕ) → image D.Disk stage.old ≡ Some all → Refuses all no) }
     ensures reads { StageReads D.Disk stage.old stage.new 3 }
     ensures faults { MatchResult result (λ _. D.faults (disk_of D.Disk stage.new) ≡ D.faults (disk_of D.Disk stage.old))

@@ -1,12 +1,5 @@
 pub mod Boots
-pub mod BootSectors
 pub mod FrontLaws
-pub mod Joined
 pub mod LabelLaws
 pub mod OneLabel
-pub mod Places
 pub mod Reports
-pub mod Sought
-pub mod TableLaws
-pub mod TableParts
-pub mod TableRuns

@@ -4,10 +4,12 @@ use Rattle.vol_bytes.specs.NameText.{name_text}
 use Rattle.vol_disk.specs.Contents.{sector_in}
 use Rattle.ntfs_def.specs.Boot.{boot_sector, boot_failing}
 use Rattle.ntfs_def.specs.Fixup.{opened_of}
-use Rattle.ntfs_def.specs.Attribute.{Attribute, attributes}
-use Rattle.volume_def.specs.Table.{IsReadable, Layout, MeetsTableClause, block_of}
-use Rattle.volume_def.specs.declared.Version.{Version}
-use Rattle.volume_def.specs.Volume.{first_value, label_units, version_in}
+use Rattle.ntfs_def.specs.declared.kinds.TheConstants.{VOLUME_INFORMATION, VOLUME_NAME}
+use Rattle.ntfs_def.specs.Attribute.{Attribute, attributes, first_value}
+use Rattle.volume_def.specs.declared.version.Version.{Version}
+use Rattle.volume_def.specs.Blocks.{block_of}
+use Rattle.volume_def.specs.Table.{IsReadable, Layout, MeetsTableClause}
+use Rattle.volume_def.specs.VolumeRecord.{label_units, version_in}
 use Rattle.ntfs_shell.specs.Refusals.{boot_refusal, no_table, no_version, no_volume_record}
 use Rattle.ntfs_shell.specs.Report.{Report, says, refuses}
 use Rattle.ntfs_shell.specs.Text.{line_of}
@@ -24,13 +26,13 @@ version_line version = line_of (codes "version") (decimal version.major ++ codes
 unfoldable pub label_text : List ℕ → Version → List ℕ
 label_text units version = name_line units ++ version_line version
 
--- by the attributes of record 3: its $VOLUME_NAME, of type 0x60, and the version in its $VOLUME_INFORMATION, of type 0x70
+-- by the attributes of record 3: its $VOLUME_NAME, and the version in its $VOLUME_INFORMATION
 abbrev pub name_report : List Attribute → Option Version → Report
 name_report attributes None = refuses no_version
-name_report attributes (Some version) = says (label_text (label_units (first_value 0x60 attributes)) version)
+name_report attributes (Some version) = says (label_text (label_units (first_value VOLUME_NAME attributes)) version)
 
 abbrev pub volume_report : List Attribute → Report
-volume_report attributes = name_report attributes (version_in (first_value 0x70 attributes))
+volume_report attributes = name_report attributes (version_in (first_value VOLUME_INFORMATION attributes))
 
 -- by record 3, as it is stored
 abbrev pub RecordReports : List ℕ → Report → Type 0

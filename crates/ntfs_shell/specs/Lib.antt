@@ -6,7 +6,7 @@ pub mod Refusals
 pub mod Report
 pub mod Shown
 pub mod Stops
-pub mod Tables
 pub mod Text
+pub mod VolumeRecords
 pub mod Words
 pub mod World

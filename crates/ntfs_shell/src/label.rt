@@ -1,52 +1,44 @@
 //! The word `label`: the name and the version of the volume.
-ghost use Rattle.std.specs.Prelude.{MatchResult, ◌≡◌, ℕ, List, Some, IfOk, IfErr, IfNone, IfSome, OnOk, length, ◌+◌, ◌≤◌, ◌^◌};
-ghost use Rattle.vol_disk.specs.Contents.{sector_in};
-ghost use Rattle.ntfs_def.specs.Fixup.{opened_of};
-ghost use Rattle.ntfs_def.specs.Record.{is_in_use};
-ghost use Rattle.volume_def.specs.Table.{IsReadable, Layout, block_of};
-ghost use Rattle.ntfs_boot.specs.Geometry.{FitsDisk, geometry_of};
-ghost use Rattle.attr_view.specs.View.{record_of};
-ghost use Rattle.ntfs_shell.specs.Label.{LabelReports, RecordReports, TableReports};
+ghost use Rattle.std.specs.Prelude.{◌≡◌, ℕ, List, Some, IfErr, IfOk, MatchResult, OnOk, ◌+◌, ◌≤◌};
 ghost use Rattle.vol_disk.specs.Reading.{DiskReads};
+ghost use Rattle.vol_stage.specs.Staged.{StageReads, disk_of, image};
+ghost use Rattle.mft_table.specs.TableNos.{Counts, Refuses};
+ghost use Rattle.ntfs_shell.specs.Label.{LabelReports, RecordReports};
 ghost use Rattle.ntfs_shell.specs.Shown.{report_of};
 ghost use Rattle.ntfs_shell.specs.Stops.{Stops};
-ghost use Rattle.ntfs_shell.specs.Tables.{HasTable, LiesOn, layout_of};
+ghost use Rattle.ntfs_shell.specs.VolumeRecords.{HasVolumeRecord, RefusesWith};
 ghost use Rattle.ntfs_shell.specs.World.{world};
 ghost use Rattle.ntfs_shell.specs.Report.{Report, ReportEnds};
 
 use crate::answer::{Answer, show};
-use crate::boot::{boot_refusal, read_boot_sector};
+use crate::boot::boot_refusal;
 use crate::ending::Ending;
 use crate::refusal::{NO_TABLE, NO_VOLUME_RECORD};
-use crate::sectors::{read_block, read_two_sectors};
 use crate::stop::Stop;
-use crate::table::{Table, read_table};
 use crate::volume::report_volume;
-use attr_view::RecordView;
-use ntfs_boot::Geometry;
-use ntfs_fixup::unseal;
+use mft_table::{TableNo, find_table, open_record};
 use std::alloc::{AllocError, Global};
-use vol_bytes::u16_at;
 use vol_disk::{Disk, Sink, Source};
+use vol_stage::Stage;
 
-// Whether a stored block begins as a record that is in use.
-fn is_in_use(block: &[u8]) -> bool
-    requires { 24 ≤ length block.now }
-    ensures { result ≡ is_in_use block.now }
-{
-    block.starts_with(b"FILE") && u16_at(block, 0x16) % 2 == 1
-}
+/// The number of the record that tells of the volume.
+const VOLUME_RECORD: u64 = 3;
 
-// Opens a stored block in place, where it is a record that can be read.
-fn open_record(block: &mut [u8; 1024]) -> Option<RecordView<'_>>
-    ensures some { IfSome result (λ view. IsReadable block.old × (record_of view ≡ opened_of block.old)) }
-    ensures none { IfNone result (¬ (IsReadable block.old)) }
+// Record 3 of the table, as it is stored.
+fn read_volume_record<D: Disk>(
+    alloc: Global,
+    stage: &mut Stage<'_, D>,
+    into: &mut [u8; 1024],
+) -> Result<(), TableNo>
+    ensures ok { OnOk result ((all : List ℕ) → image D.Disk stage.old ≡ Some all → HasVolumeRecord all into.new) }
+    ensures err { IfErr result (λ no. (all : List ℕ) → image D.Disk stage.old ≡ Some all → Refuses all no) }
+    ensures reads { StageReads D.Disk stage.old stage.new 5 }
+    ensures faults { MatchResult result (λ _. D.faults (disk_of D.Disk stage.new) ≡ D.faults (disk_of D.Disk stage.old))
+        (Counts (D.faults (disk_of D.Disk stage.old)) (D.faults (disk_of D.Disk stage.new))) }
 {
-    if !is_in_use(block) {
-        return None;
-    }
-    unseal(block).ok()?;
-    RecordView::new(block).ok()
+    let table = find_table(alloc, stage)?;
+    table.blocks().read_block(stage, VOLUME_RECORD, into)?;
+    Ok(())
 }
 
 // What record 3 says of the volume, as it is stored.
@@ -59,80 +51,47 @@ fn report_record(alloc: Global, block: &mut [u8; 1024]) -> Result<Answer, AllocE
     }
 }
 
-// What record 3 of the table says.
-fn report_table<D: Disk>(alloc: Global, disk: &mut D, table: &Table) -> Result<Answer, Stop>
-    requires { LiesOn (layout_of table.now) (D.size disk.old) }
-    ensures report { IfOk result (λ answer. (image : List ℕ) → D.now disk.old ≡ Some image →
-        RecordReports (block_of (sector_in (Some image)) (layout_of table.now) 3) (report_of answer)) }
-
-    ensures reads { DiskReads D.Disk disk.old disk.new 2 }
-    ensures faults { MatchResult result (λ _. D.faults disk.new ≡ D.faults disk.old) (Stops (D.faults disk.old) (D.faults disk.new)) }
+// What is said where there is no record 3.
+fn report_no_table(no: TableNo) -> Result<Answer, Stop>
+    ensures { RefusesWith no result }
 {
-    let mut block = [0; 1024];
-    read_block(disk, table, 3, &mut block)?;
-    Ok(report_record(alloc, &mut block)?)
-}
-
-// Where the table lies, by record 0 as it is stored, and `None` where the table clause does not hold.
-fn find_table(
-    alloc: Global,
-    geometry: &Geometry,
-    block: &mut [u8; 1024],
-) -> Result<Option<Table>, AllocError>
-    requires { FitsDisk geometry.now (2 ^ 55) }
-    ensures some { IfOk result (λ found. IfSome found (λ table. HasTable geometry.now block.old (layout_of table))) }
-    ensures none { IfOk result (λ found. IfNone found ((layout : Layout) → ¬ (HasTable geometry.now block.old layout))) }
-{
-    match open_record(block) {
-        Some(view) => read_table(alloc, geometry, &view),
-        None => Ok(None),
+    match no {
+        TableNo::Boot(fault) => Ok(Answer::Refused(boot_refusal(fault))),
+        TableNo::Table => Ok(Answer::Refused(NO_TABLE)),
+        TableNo::Device => Err(Stop::Device),
+        TableNo::Memory => Err(Stop::Memory),
     }
 }
 
-// What the volume of this geometry says.
-fn report_volume_at<D: Disk>(
-    alloc: Global,
-    disk: &mut D,
-    geometry: &Geometry,
-) -> Result<Answer, Stop>
-    requires { FitsDisk geometry.now (D.size disk.old) }
-    ensures report { IfOk result (λ answer. (image boot : List ℕ) →
-        D.now disk.old ≡ Some image → geometry.now ≡ geometry_of boot →
-        TableReports (sector_in (Some image)) boot (report_of answer)) }
-
-    ensures reads { DiskReads D.Disk disk.old disk.new 4 }
-    ensures faults { MatchResult result (λ _. D.faults disk.new ≡ D.faults disk.old) (Stops (D.faults disk.old) (D.faults disk.new)) }
+// What the image says.
+fn report_image<D: Disk>(alloc: Global, stage: &mut Stage<'_, D>) -> Result<Answer, Stop>
+    ensures report { IfOk result (λ answer. (all : List ℕ) → image D.Disk stage.old ≡ Some all → LabelReports all (report_of answer)) }
+    ensures reads { StageReads D.Disk stage.old stage.new 5 }
+    ensures faults { MatchResult result (λ _. D.faults (disk_of D.Disk stage.new) ≡ D.faults (disk_of D.Disk stage.old))
+        (Stops (D.faults (disk_of D.Disk stage.old)) (D.faults (disk_of D.Disk stage.new))) }
 {
-    let sector = geometry.mft * u64::from(geometry.cluster / 512);
-    if sector + 2 > disk.sectors() {
-        return Ok(Answer::Refused(NO_TABLE));
-    }
     let mut block = [0; 1024];
-    read_two_sectors(disk, sector, &mut block)?;
-    match find_table(alloc, geometry, &mut block)? {
-        Some(table) => report_table(alloc, disk, &table),
-        None => Ok(Answer::Refused(NO_TABLE)),
+    match read_volume_record(alloc, stage, &mut block) {
+        Ok(()) => Ok(report_record(alloc, &mut block)?),
+        Err(no) => report_no_table(no),
     }
 }
 
 // What the disk says.
 fn report_label<D: Disk>(alloc: Global, disk: &mut D) -> Result<Answer, Stop>
-    ensures report { IfOk result (λ answer. (image : List ℕ) →
-        D.now disk.old ≡ Some image → LabelReports image (report_of answer)) }
-
+    ensures report { IfOk result (λ answer. (all : List ℕ) → D.now disk.old ≡ Some all → LabelReports all (report_of answer)) }
     ensures reads { DiskReads D.Disk disk.old disk.new 5 }
     ensures faults { MatchResult result (λ _. D.faults disk.new ≡ D.faults disk.old) (Stops (D.faults disk.old) (D.faults disk.new)) }
 {
-    let sector = read_boot_sector(disk)?;
-    match Geometry::read(&sector, disk.sectors()) {
-        Ok(geometry) => report_volume_at(alloc, disk, &geometry),
-        Err(fault) => Ok(Answer::Refused(boot_refusal(fault))),
-    }
+    let mut stage = Stage::over(alloc, disk);
+    let answer = report_image(alloc, &mut stage);
+    let _ = stage.finish();
+    answer
 }
 
 /// A law with nothing to run: an image has one answer to the word.
 pub fn one_label()
-    ensures { (image : List ℕ) (a b : Report) → LabelReports image a → LabelReports image b → a ≡ b }
+    ensures { (all : List ℕ) (a b : Report) → LabelReports all a → LabelReports all b → a ≡ b }
 {}
 
 /// Prints the name and the version of the volume, or the first clause that refuses it. It reads the

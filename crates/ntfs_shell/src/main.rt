@@ -6,17 +6,14 @@ mod arguments;
 mod boot;
 mod ending;
 mod explain;
-mod find;
 mod front;
 mod help;
 mod image;
 mod label;
 mod refusal;
-mod sectors;
 mod shell;
 mod start;
 mod stop;
-mod table;
 #[cfg(test)]
 mod tests;
 mod text;

@@ -41,7 +41,7 @@ pub fn run_shell<D: Disk, S: Source, K: Sink>(
         world D.Disk S.Source K.Sink disk.new script.new out.new ≡ world D.Disk S.Source K.Sink disk.old script.old out.old }
 {
     match read_words(words) {
-        Asked::Boot => boot(disk, script, out).status(),
+        Asked::Boot => boot(alloc, disk, script, out).status(),
         Asked::Label => label(alloc, disk, script, out).status(),
         Asked::Unbuilt => NOT_BUILT,
         Asked::Unknown => UNKNOWN_WORDS,

@@ -1,9 +1,8 @@
 //! Why a report could not be made.
 ghost use Rattle.std.specs.Prelude.{◌≡◌};
-ghost use Rattle.ntfs_shell.specs.declared.stop.Stop.TheVariants.{Device, Memory};
+ghost use Rattle.ntfs_shell.specs.declared.stop.Stop.TheVariants.{Memory};
 
 use std::alloc::AllocError;
-use vol_disk::Failed;
 
 /// Why a report could not be made.
 #[derive(Clone, Copy, Debug, PartialEq, Eq)]
@@ -12,14 +11,6 @@ pub enum Stop {
     Device,
     /// Memory ran out.
     Memory,
-}
-
-impl From<Failed> for Stop {
-    ghost from_gives = { λ _ stop. stop ≡ Device };
-
-    fn from(_failed: Failed) -> Stop {
-        Stop::Device
-    }
 }
 
 impl From<AllocError> for Stop {

@@ -1,22 +1,19 @@
 //! The name and the version of a volume, in its record 3.
 ghost use Rattle.std.specs.Prelude.{◌≡◌, ◌++◌, ◌<◌, ◌≤◌, ◌*◌, IfOk, OnOk, length, map};
 ghost use Rattle.std.specs.Option.{option_copied};
-ghost use Rattle.volume_def.specs.Volume.{label_units, units_in, version_in};
+ghost use Rattle.ntfs_def.specs.Units.{units_in};
+ghost use Rattle.volume_def.specs.VolumeRecord.{label_units, version_in};
 ghost use Rattle.attr_view.specs.View.{attributes_of};
 ghost use Rattle.ntfs_shell.specs.Label.{label_text, name_line, version_line, volume_report};
 ghost use Rattle.ntfs_shell.specs.Shown.{report_of};
 
 use crate::answer::Answer;
-use crate::find::first_value;
 use crate::refusal::NO_VERSION;
 use attr_view::RecordView;
+use ntfs_def::kinds::{VOLUME_INFORMATION, VOLUME_NAME};
 use std::alloc::{AllocError, Global};
 use vol_bytes::{TextFault, text_of_units, u16_at};
 use volume_def::Version;
-
-const VOLUME_NAME: u32 = 0x60;
-
-const VOLUME_INFORMATION: u32 = 0x70;
 
 fn read_version(value: Option<&[u8]>) -> Option<Version>
     ensures { result ≡ version_in (option_copied value.entry) }
@@ -32,7 +29,7 @@ fn read_version(value: Option<&[u8]>) -> Option<Version>
 }
 
 // The units in bytes, of which a last odd one is left out.
-#[tactic(auto, unfolding(volume_def::specs::Volume::units_in))]
+#[tactic(auto, unfolding(ntfs_def::specs::Units::units_in))]
 fn read_units(alloc: Global, bytes: &[u8]) -> Result<Vec<u16>, AllocError>
     ensures { IfOk result (λ units. units.items ≡ units_in bytes.now) }
 {
@@ -88,9 +85,9 @@ fn label_text(alloc: Global, units: &[u16], version: Version) -> Result<Vec<u8>,
 pub fn report_volume(alloc: Global, view: &RecordView<'_>) -> Result<Answer, AllocError>
     ensures { IfOk result (λ answer. report_of answer ≡ volume_report (attributes_of view.now)) }
 {
-    let Some(version) = read_version(first_value(view, VOLUME_INFORMATION)) else {
+    let Some(version) = read_version(view.first_value(VOLUME_INFORMATION)) else {
         return Ok(Answer::Refused(NO_VERSION));
     };
-    let units = read_name(alloc, first_value(view, VOLUME_NAME))?;
+    let units = read_name(alloc, view.first_value(VOLUME_NAME))?;
     Ok(Answer::Long(label_text(alloc, &units, version)?))
 }

@@ -1,3 +1,4 @@
 pub mod RunPlaces
 pub mod BlockLaws
 pub mod FrameLaws
+pub mod OneTable

@@ -2,7 +2,7 @@
 ghost use Rattle.std.specs.Prelude.{◌≡◌, ◌+◌, ◌*◌, ◌<◌, ◌≤◌, ℕ, Bool, IsTrue, List, Some, length};
 ghost use Rattle.volume_def.specs.Blocks.{mirror_sector, table_place};
 ghost use Rattle.volume_def.specs.Owners.{IsOutside, IsPlaced};
-ghost use Rattle.volume_def.specs.Table.{Layout};
+ghost use Rattle.volume_def.specs.Table.{Layout, MeetsTableClause};
 ghost use Rattle.volume_def.specs.View.{ReplacesBlock, ReplacesPiece, WritesOne, WritesTwo, view_of};
 
 /// Where no cluster is owned twice, a write of the two sectors of a block changes that block and no
@@ -23,4 +23,10 @@ pub fn frame_laws()
         → IsOutside layout c → j < layout.cluster_sectors → WritesOne told old new (c * layout.cluster_sectors + j) bytes
         → (IsTrue told → (i : ℕ) → i < layout.cluster_sectors → length (old (c * layout.cluster_sectors + i)) ≡ 512)
         → length bytes ≡ 512 → ReplacesPiece (view_of told old layout) (view_of told new layout) c j bytes }
+{}
+
+/// The sectors of a volume with this boot sector tell one table.
+pub fn one_table()
+    ensures { (disk : ℕ → List ℕ) (boot : List ℕ) (one other : Layout) → MeetsTableClause disk boot one → MeetsTableClause disk boot other
+        → one ≡ other }
 {}

@@ -5,5 +5,5 @@
 mod laws;
 mod version;
 
-pub use laws::frame_laws;
+pub use laws::{frame_laws, one_table};
 pub use version::Version;

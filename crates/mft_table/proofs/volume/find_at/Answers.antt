@@ -1,4 +1,4 @@
-use Rattle.std.proofs.Common.{◌≡◌, ◌+◌, ◌*◌, ◌<◌, ap, sym, subst, ◌∙◌}
+use Rattle.std.proofs.Common.{◌≡◌, ◌+◌, ◌*◌, ◌<◌, ap, subst, arith, ◌∙◌}
 use Rattle.ntfs_def.specs.Boot.{cluster_sectors, mft_cluster}
 use Rattle.mft_table.specs.Tables.{layout_of}
 use Rattle.mft_table.proofs.BootSectors.{length-told}
@@ -31,3 +31,8 @@ returns-in-None-clause-err g c image boot told is layout clause =
     let place = ap (λ n. c.args.geometry.now.mft * n) c.from.ensures in
     let read = first_record-read _ image _ boot c.args.geometry.now _ told c.in_ok-read_two_sectors.ensures.read place is in
     none layout (has_table _ boot _ c.args.geometry.now layout is read clause)
+
+pub returns-in-Some-clause-records : goal.returns-in-Some-clause-records
+returns-in-Some-clause-records g c =
+    let (geometry, has) = rw c.in-Some.is at c.in_ok-table.ensures.some in
+    omega (arith, has.tells.table.count, has.tells.table.fits.least)
