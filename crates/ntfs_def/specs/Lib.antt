@@ -6,4 +6,3 @@ pub mod Attribute
 pub mod Shape
 pub mod Packed
 pub mod Runs
-pub mod RunsWritten
