@@ -1,5 +1,5 @@
 -- The runs of a text as a function are those that it means.
-use Rattle.std.proofs.Common.{◌≡◌, ◌⊎◌, inl, inr, ℕ, zero, suc, ◌+◌, ◌<◌, ℤ, pos, negsuc, true, false, cond, List, [], ◌∷◌, length, drop, Option, Some, None, refl, sym, ap, ◌∙◌, arith, length-drop}
+use Rattle.std.proofs.Common.{◌≡◌, inl, inr, ℕ, zero, suc, ◌+◌, ◌<◌, ℤ, pos, negsuc, true, false, cond, List, [], ◌∷◌, length, drop, Option, Some, None, refl, sym, ap, ◌∙◌, arith, length-drop}
 use Rattle.std.specs.Int.{int_gap}
 use Rattle.std.specs.Option.{option_map, is_none}
 use Rattle.ntfs_def.specs.declared.run_text.Run.{Run}
@@ -27,11 +27,13 @@ BeginsWith-first_run text last total on good = record {
 
 -- what stands behind the first run
 rest_of : ℕ → List ℕ → ℕ → ℕ → Option (List Run)
-rest_of most text last total = runs_from most (drop (run_width text) text) (place_after last (first_run text last)) (total + run_length text)
+rest_of most text last total = runs_from most (drop (run_width text) text) (place_after last (first_run text last))
+    (total + run_length text)
 
 -- one step of the function
 runs_from-step : (most : ℕ) (text : List ℕ) (last total : ℕ) → runs_from (suc most) text last total
-    ≡ cond (is_ended text) (Some []) (cond (is_none (rule_broken text last total)) (option_map (λ runs. first_run text last ∷ runs) (rest_of most text last total)) None)
+    ≡ cond (is_ended text) (Some []) (cond (is_none (rule_broken text last total))
+        (option_map (λ runs. first_run text last ∷ runs) (rest_of most text last total)) None)
 unfolding runs_from rest_of
 runs_from-step most text last total = refl
 
@@ -67,7 +69,7 @@ runs_from-means (suc most) text last total [] h ended = runs_from-ended most tex
 runs_from-means (suc most) text last total (run ∷ runs) h (first, rest) =
     runs_from-next most text last total run first
     ∙ ap (option_map (λ rs. run ∷ rs)) (runs_from-means most (drop (run_width text) text) (place_after last run) (total + run.len) runs
-      (shorter text last total most run first h) rest)
+    (shorter text last total most run first h) rest)
 
 runs_from-breaks : (most : ℕ) (text : List ℕ) (at last total : ℕ) (runs : List Run) (rule : RunRule) (place : ℕ) → length text < most
     → BreaksAfter text at last total runs rule place → runs_from most text last total ≡ None
@@ -76,7 +78,7 @@ runs_from-breaks (suc most) text at last total [] rule place h (on, bad, here) =
 runs_from-breaks (suc most) text at last total (run ∷ runs) rule place h (first, rest) =
     runs_from-next most text last total run first
     ∙ ap (option_map (λ rs. run ∷ rs)) (runs_from-breaks most (drop (run_width text) text) (at + run_width text) (place_after last run)
-      (total + run.len) runs rule place (shorter text last total most run first h) rest)
+    (total + run.len) runs rule place (shorter text last total most run first h) rest)
 
 -- a text that means runs
 pub runs_in-means : (text : List ℕ) (runs : List Run) → MeansRuns text runs → runs_in text ≡ Some runs

@@ -6,3 +6,4 @@ pub mod Attribute
 pub mod Shape
 pub mod Packed
 pub mod Runs
+pub mod Bits
