@@ -7,5 +7,5 @@ pub mod Moved
 pub mod Shape
 pub mod Packed
 pub mod Runs
-pub mod RunsWritten
 pub mod Units
+pub mod Bits

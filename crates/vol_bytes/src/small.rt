@@ -29,6 +29,13 @@ impl Name {
     {
         self.units.as_slice()
     }
+
+    /// Its units in the vector that holds them. It takes no memory.
+    pub fn into_vec(self) -> Vec<u16>
+        ensures { result.items ≡ self }
+    {
+        self.units
+    }
 }
 
 /// A sequence of bytes.
@@ -56,5 +63,12 @@ impl Octets {
         ensures { result.now ≡ self.now }
     {
         self.bytes.as_slice()
+    }
+
+    /// Its bytes in the vector that holds them. It takes no memory.
+    pub fn into_vec(self) -> Vec<u8>
+        ensures { result.items ≡ self }
+    {
+        self.bytes
     }
 }

@@ -2,6 +2,7 @@ use crate::{
     Name, Octets, TextFault, put_u16, put_u32, put_u64, text_of_units, u16_at, u32_at, u64_at,
 };
 use std::alloc::AllocError;
+use std::test::Fail;
 
 #[test]
 fn numbers_are_little_endian(rt: HostRuntime) {
@@ -41,11 +42,30 @@ fn names_are_printed(rt: HostRuntime) -> Result<(), TextFault> {
     Ok(())
 }
 
+// 255 units: a letter, a pair and a space over and again, and three letters more.
 #[test]
-fn small_types_lend_their_items(rt: HostRuntime) -> Result<(), AllocError> {
+fn long_names_are_printed(rt: HostRuntime) -> Result<(), Fail> {
+    let mut units = Vec::new(rt.alloc());
+    let mut text = Vec::new(rt.alloc());
+    for _ in 0..63 {
+        units.extend_from_slice(&[0x61, 0xD83D, 0xDE00, 0x20])?;
+        text.extend_from_slice("a😀%0020".as_bytes())?;
+    }
+    units.extend_from_slice(&[0x62, 0x63, 0x64])?;
+    text.extend_from_slice(b"bcd")?;
+    let printed = text_of_units(rt.alloc(), &units)?;
+    assert_eq!(rt; units.len(), 255);
+    assert_eq!(rt; printed.as_slice(), text.as_slice());
+    Ok(())
+}
+
+#[test]
+fn small_types_lend_their_items_and_give_them_back(rt: HostRuntime) -> Result<(), AllocError> {
     let name = Name::from_vec(vec![in rt.alloc(); 0x61, 0x62]?);
     assert_eq!(rt; name.as_slice(), [0x61, 0x62].as_slice());
+    assert_eq!(rt; name.into_vec().as_slice(), [0x61, 0x62].as_slice());
     let octets = Octets::from_vec(vec![in rt.alloc(); 1, 2, 3]?);
     assert_eq!(rt; octets.as_slice(), [1, 2, 3].as_slice());
+    assert_eq!(rt; octets.into_vec().as_slice(), [1, 2, 3].as_slice());
     Ok(())
 }

@@ -1,0 +1,14 @@
+-- Bitmaps: which clusters of a volume, or which records of its table, are taken.
+-- Layout: Linux-NTFS documentation, files "$Bitmap" and "$MFT" (its $BITMAP); Carrier, File System
+-- Forensic Analysis, chapter 13, the $Bitmap file. One bit each, the lowest bit of a byte first.
+use Rattle.std.specs.Prelude.{ℕ, ◌/◌, ◌%◌, ◌==◌, Bool, List, map, slice_index}
+use Rattle.std.specs.List.{range_with_len}
+use Rattle.std.specs.Int.{bit_at}
+
+-- bit `at` of bytes
+abbrev pub bit_in : List ℕ → ℕ → ℕ
+bit_in bytes at = bit_at (slice_index bytes (at / 8)) (at % 8)
+
+-- the first `count` bits of bytes: true where the bit is set
+unfoldable pub flags_in : List ℕ → ℕ → List Bool
+flags_in bytes count = map (λ at. bit_in bytes at == 1) (range_with_len 0 count)
