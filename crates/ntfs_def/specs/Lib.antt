@@ -7,3 +7,8 @@ pub mod Shape
 pub mod Packed
 pub mod Runs
 pub mod RunsWritten
+pub mod Node
+pub mod FileName
+pub mod KeyOrder
+pub mod Told
+pub mod IndexTree
