@@ -176,6 +176,9 @@ numbers_equal (x ∷ xs) (y ∷ ys) e =
     let tail = numbers_equal xs ys both.1 in
     cc
 
+pub numbers_tied : (xs ys : List ℕ) → xs ≡ ys → by_numbers xs ys ≡ Equal
+numbers_tied xs ys e = ap (λ zs. by_numbers zs ys) e ∙ tied_itself nat_list_cmp_total ys
+
 pub name_equal : (fold : ℕ → ℕ) (a b : List ℕ) → name_order fold a b ≡ Equal → key_units a ≡ key_units b
 unfolding name_order
 name_equal fold a b e = numbers_equal (key_units a) (key_units b) (then_both (by_numbers (map fold (key_units a)) (map fold (key_units b))) (by_numbers (key_units a) (key_units b)) e).1

@@ -4,7 +4,7 @@
 -- File System Forensic Analysis, chapter 13. All numbers are little-endian.
 use Rattle.std.specs.Prelude.{◌≡◌, ℕ, zero, suc, ◌+◌, ◌-◌, ◌*◌, ◌/◌, ◌%◌, ◌<◌, ◌≤◌, ◌==◌, nat_le, ◌&&◌, ◌||◌, Bool, true, false, IsTrue}
 use Rattle.std.specs.Prelude.{List, [], ◌∷◌, codes, nat_eq, length, slice_index, slice_range, Option, Some, None, if◌then◌else◌}
-use Rattle.std.specs.List.{list_all, range_with_len, starts_with}
+use Rattle.std.specs.List.{starts_with}
 use Rattle.std.specs.Option.{option_and_then}
 use Rattle.vol_bytes.specs.Field.{u16_at, u32_at, u64_at}
 use Rattle.ntfs_def.specs.First.{first_failing}
@@ -205,13 +205,18 @@ abbrev pub entries_from : List ℕ → Bool → ℕ → ℕ → List Entry
 entries_from node children at zero = []
 entries_from node children at (suc n) = entry_at node children at ∷ entries_from node children (at + entry_len node at) n
 
+-- No entry from a place on is longer than `most` bytes: so many, and the last one.
+abbrev pub are_short_from : List ℕ → ℕ → ℕ → ℕ → Bool
+are_short_from node most at zero = nat_le (entry_len node at) most
+are_short_from node most at (suc n) = nat_le (entry_len node at) most && are_short_from node most (at + entry_len node at) n
+
 -- No entry is longer than 632 bytes, apart from a child's number, and the last one neither (this project's choice).
 -- `count` is the number of the others.
-abbrev pub is_short_at : List ℕ → ℕ → Bool
-is_short_at node i = nat_le (entry_len node (entry_place node (first_entry node) i)) (632 + child_len (has_children node))
+abbrev pub most_len : Bool → ℕ
+most_len children = 632 + child_len children
 
 unfoldable pub are_short : List ℕ → ℕ → Bool
-are_short node count = list_all (is_short_at node) (range_with_len 0 (count + 1))
+are_short node count = are_short_from node (most_len (has_children node)) (first_entry node) count
 
 -- the node that the bytes say, where its entries are short: what an index of a volume may hold
 abbrev pub short_node : NodeForm → List ℕ → Option Node
