@@ -9,3 +9,8 @@ pub mod Packed
 pub mod Runs
 pub mod Units
 pub mod Bits
+pub mod Node
+pub mod FileName
+pub mod KeyOrder
+pub mod Told
+pub mod IndexTree

@@ -1,0 +1,94 @@
+//! The orders of the keys of view indexes: numbers of four bytes.
+ghost use Rattle.std.specs.Prelude.{◌≡◌};
+ghost use Rattle.ntfs_def.specs.KeyOrder.{by_numbers, hash_order, id_order, is_hash_key, is_id_key, is_word_key, word_order, word_parts};
+
+use crate::Collation;
+use std::cmp::Ordering;
+use vol_bytes::u32_at;
+
+/// The order of ids of four bytes.
+#[derive(Clone, Copy, Debug)]
+pub struct IdOrder;
+
+/// The order of a hash and then an id, of four bytes each.
+#[derive(Clone, Copy, Debug)]
+pub struct HashOrder;
+
+/// The order of words of four bytes.
+#[derive(Clone, Copy, Debug)]
+pub struct WordsOrder;
+
+fn compare_words(a: &[u8], b: &[u8]) -> Ordering
+    ensures { result ≡ by_numbers (word_parts a.now) (word_parts b.now) }
+{
+    let count = a.len() / 4;
+    let other = b.len() / 4;
+    for k in 0..count.min(other) {
+        let x = u32_at(a, 4 * k);
+        let y = u32_at(b, 4 * k);
+        if x != y {
+            return x.cmp(&y);
+        }
+    }
+    count.cmp(&other)
+}
+
+#[tactic(auto, unfolding(ntfs_def::specs::KeyOrder::id_order))]
+impl Collation for IdOrder {
+    ghost use Rattle.ntfs_def.proofs.KeyOrderLaws.{id_total};
+
+    ghost order = { λ it. id_order };
+
+    ghost valid = { λ it. is_id_key };
+
+    fn compare(&self, a: &[u8], b: &[u8]) -> Ordering {
+        u32_at(a, 0).cmp(&u32_at(b, 0))
+    }
+
+    fn is_valid(&self, key: &[u8]) -> bool {
+        key.len() == 4
+    }
+
+    ghost is_order = { λ it. id_total };
+}
+
+#[tactic(auto, unfolding(ntfs_def::specs::KeyOrder::hash_order))]
+impl Collation for HashOrder {
+    ghost use Rattle.ntfs_def.proofs.KeyOrderLaws.{hash_total};
+
+    ghost order = { λ it. hash_order };
+
+    ghost valid = { λ it. is_hash_key };
+
+    fn compare(&self, a: &[u8], b: &[u8]) -> Ordering {
+        match u32_at(a, 0).cmp(&u32_at(b, 0)) {
+            Ordering::Equal => u32_at(a, 4).cmp(&u32_at(b, 4)),
+            other => other,
+        }
+    }
+
+    fn is_valid(&self, key: &[u8]) -> bool {
+        key.len() == 8
+    }
+
+    ghost is_order = { λ it. hash_total };
+}
+
+#[tactic(auto, unfolding(ntfs_def::specs::KeyOrder::word_order))]
+impl Collation for WordsOrder {
+    ghost use Rattle.ntfs_def.proofs.KeyOrderLaws.{word_total};
+
+    ghost order = { λ it. word_order };
+
+    ghost valid = { λ it. is_word_key };
+
+    fn compare(&self, a: &[u8], b: &[u8]) -> Ordering {
+        compare_words(a, b)
+    }
+
+    fn is_valid(&self, key: &[u8]) -> bool {
+        key.len() % 4 == 0
+    }
+
+    ghost is_order = { λ it. word_total };
+}

@@ -1,0 +1,30 @@
+use Rattle.std.proofs.Common.{slice_range, ◌+◌, ◌≡◌, ◌<◌, ◌≤◌, ℕ, arith, ap, sym, ◌∙◌, subst}
+use Rattle.ntfs_def.specs.Node.{IsOwnEntry, Entry, entry_at, entry_len, item_at, item_in}
+use Rattle.ntfs_def.proofs.NodeLaws.{length-entries_from, get_or-entries_from, item_in-own, entry-own}
+use Rattle.index_node.specs.View.{node_of_view, place_of}
+use Rattle.index_node.proofs.NodeView.entry.Goals as goal
+
+pub place-at-requires : goal.place-at-requires
+unfolding node_of_view
+place-at-requires c =
+    let view = c.args.self.now in
+    let all = length-entries_from view.node.now view.children view.first view.count in
+    omega (arith, c.requires)
+
+pub returns-clause-item : goal.returns-clause-item
+unfolding node_of_view
+returns-clause-item c = λ d.
+    let view = c.args.self.now in
+    let place = c.place-at.ensures.place in
+    let all = length-entries_from view.node.now view.children view.first view.count in
+    let within : c.args.i < view.count = omega (arith, c.requires) in
+    ap (λ n. item_in (slice_range view.node.now c.place-at.result (c.place-at.result + n))) c.u16_at.ensures
+    ∙ item_in-own view.node.now view.children view.end c.place-at.result c.place-at.ensures.whole
+    ∙ ap (λ at. item_at view.node.now view.children at) place
+    ∙ sym (ap (λ (e : Entry). e.item) (get_or-entries_from view.node.now view.children view.first view.count c.args.i d within))
+
+pub returns-clause-own : goal.returns-clause-own
+returns-clause-own c =
+    let view = c.args.self.now in
+    subst (λ n. IsOwnEntry (slice_range view.node.now c.place-at.result (c.place-at.result + n))) (sym c.u16_at.ensures)
+      (entry-own view.node.now view.children view.end c.place-at.result c.place-at.ensures.whole c.place-at.ensures.inside)

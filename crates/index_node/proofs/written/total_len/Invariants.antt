@@ -1,0 +1,6 @@
+use Rattle.std.proofs.Common.{◌≡◌, take}
+use Rattle.index_node.specs.LayOut.{total_len}
+use Rattle.index_node.proofs.written.total_len.Given as goal
+
+abbrev pub invariant-loop-entry : goal.invariant-loop-entry
+invariant-loop-entry l = l.total ≡ total_len (take l.entry-index l.entries)

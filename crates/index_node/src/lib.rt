@@ -1,0 +1,52 @@
+//! Views of the nodes of an index, and the records that the nodes are read from.
+//!
+//! A node is the value of an `$INDEX_ROOT`, or an opened index record of 4,096 bytes. A view lends its bytes and copies
+//! none.
+#![tactic(auto)]
+
+ghost use Rattle.std.specs.Prelude.{◌≡◌, ◌≤◌, ◌<◌, ◌^◌, IsTrue, length};
+ghost use Rattle.ntfs_def.specs.Node.{AreEntries, entry_place, first_entry, has_children, is_last_entry};
+
+mod blocks;
+
+mod shape;
+#[cfg(test)]
+mod tests;
+mod view;
+mod written;
+
+pub use blocks::{BlockNo, Blocks};
+
+pub use ntfs_def::NodeForm;
+use thiserror::Error;
+pub use written::lay_out;
+
+/// Why bytes are no node, or hold no more.
+#[derive(Clone, Copy, Debug, PartialEq, Eq, Error)]
+pub enum NodeNo {
+    /// The bytes are no node: `at` is the place of the first field of the header that is wrong, or else of the
+    /// first entry.
+    #[error("the node has a wrong shape at byte {at}")]
+    Shape { at: usize },
+    /// The entries take `need` bytes, and the node has room for `free`.
+    #[error("the node has room for {free} bytes of {need}")]
+    Full { need: usize, free: usize },
+}
+
+/// A node of an index.
+#[derive(Clone, Copy, Debug)]
+pub struct NodeView<'r> {
+    node: &'r [u8],
+    form: NodeForm,
+    children: bool,
+    first: usize,
+    end: usize,
+    count: usize,
+    ghost begins: { first ≡ first_entry node.now },
+    ghost flag: { children ≡ has_children node.now },
+    ghost inside: { end ≤ length node.now },
+    ghost short: { end < 2 ^ 33 },
+    ghost small: { first < 2 ^ 33 },
+    ghost each: { AreEntries form node.now children end first count },
+    ghost last: { IsTrue (is_last_entry node.now children end (entry_place node.now first count)) },
+}

@@ -1,0 +1,181 @@
+//! The tests of a node's shape: its header and its entries.
+ghost use Rattle.std.specs.Prelude.{◌≡◌, ◌<◌, ◌≤◌, ◌+◌, ◌^◌, IfOk, IfErr, IsTrue, None, length};
+ghost use Rattle.ntfs_def.specs.Node.{AreEntries, entry_place, scan_from, scan_node, child_len, entries_end, first_entry, first_offset, has_children, holds_data, is_entry, is_last_entry, is_whole, node_header, node_header_failing, room_end};
+ghost use Rattle.index_node.specs.View.{Refuses};
+
+use crate::NodeNo;
+use ntfs_def::NodeForm;
+use vol_bytes::{u16_at, u32_at};
+
+/// The bytes of an index record.
+pub const RECORD: usize = 4096;
+
+/// Where the index header stands.
+#[tactic(auto, unfolding(ntfs_def::specs::Node::node_header))]
+pub fn node_header(node: &[u8]) -> usize
+    ensures place { result ≡ node_header node.now }
+    ensures low { 16 ≤ result }
+    ensures high { result ≤ 24 }
+{
+    if node.len() == RECORD { 0x18 } else { 0x10 }
+}
+
+/// The place of the first wrong field of the header.
+pub fn header_failing(node: &[u8]) -> Option<usize>
+    ensures { result ≡ node_header_failing node.now }
+{
+    let header = node_header(node);
+    if header + 16 > node.len() {
+        return Some(0x00);
+    }
+    let first = u32_at(node, header) as usize;
+    if node.len() == RECORD {
+        if !node.starts_with(b"INDX") {
+            return Some(0x00);
+        }
+        let array = u16_at(node, 0x04) as usize;
+        let array_end = array + 2 * u16_at(node, 0x06) as usize;
+        if array < 0x28 || array_end > header + first {
+            return Some(0x04);
+        }
+    }
+    if first < 16 {
+        return Some(header);
+    }
+    let end = u32_at(node, header + 0x04);
+    let room = u32_at(node, header + 0x08);
+    if end > room {
+        return Some(header + 0x04);
+    }
+    if header + room as usize > node.len() {
+        return Some(header + 0x08);
+    }
+    None
+}
+
+/// Where the first entry stands.
+pub fn first_entry(node: &[u8]) -> usize
+    requires { node_header_failing node.now ≡ None }
+    ensures place { result ≡ first_entry node.now }
+    ensures small { result < 2 ^ 33 }
+{
+    let header = node_header(node);
+    header + u32_at(node, header) as usize
+}
+
+/// Where the entries end.
+pub fn entries_end(node: &[u8]) -> usize
+    requires { node_header_failing node.now ≡ None }
+    ensures place { result ≡ entries_end node.now }
+    ensures inside { result ≤ length node.now }
+    ensures short { result < 2 ^ 33 }
+{
+    let header = node_header(node);
+    header + u32_at(node, header + 0x04) as usize
+}
+
+/// Where the room for entries ends.
+pub fn room_end(node: &[u8]) -> usize
+    requires { node_header_failing node.now ≡ None }
+    ensures place { result ≡ room_end node.now }
+    ensures inside { result ≤ length node.now }
+{
+    let header = node_header(node);
+    header + u32_at(node, header + 0x08) as usize
+}
+
+/// Whether the entries lead to children.
+pub fn has_children(node: &[u8]) -> bool
+    requires { node_header_failing node.now ≡ None }
+    ensures { result ≡ has_children node.now }
+{
+    node[node_header(node) + 0x0C] % 2 == 1
+}
+
+/// How many entries with a key stand from a place on, before the last one.
+pub fn count_of(form: NodeForm, node: &[u8], children: bool, end: usize, first: usize) -> Result<usize, NodeNo>
+    requires inside { end ≤ length node.now }
+    requires some { 0 < length node.now }
+    requires short { end < 2 ^ 33 }
+    requires small { first < 2 ^ 33 }
+    requires header { scan_node form node.now ≡ scan_from form node.now children end (length node.now) first }
+    ensures each { IfOk result (AreEntries form node.now children end first) }
+    ensures last { IfOk result (λ n. IsTrue (is_last_entry node.now children end (entry_place node.now first n))) }
+    ensures few { IfOk result (λ n. n < length node.now) }
+    ensures err { IfErr result (Refuses form node.now) }
+{
+    let mut at = first;
+    let mut count = 0;
+    'entries: loop {
+        if is_last_entry(node, children, end, at) {
+            return Ok(count);
+        }
+        if !is_entry(form, node, children, end, at) {
+            return Err(NodeNo::Shape { at });
+        }
+        at += u16_at(node, at + 0x08) as usize;
+        count += 1;
+    }
+}
+
+/// The bytes of a child's number in an entry.
+pub fn child_len(children: bool) -> usize
+    ensures { result ≡ child_len children }
+{
+    if children { 8 } else { 0 }
+}
+
+// Whether an entry stands there whole, the last one or another.
+fn is_whole(node: &[u8], children: bool, end: usize, at: usize) -> bool
+    requires inside { end ≤ length node.now }
+    requires small { at < 2 ^ 33 }
+    ensures { result ≡ is_whole node.now children end at }
+{
+    if at + 16 > end {
+        return false;
+    }
+    let len = u16_at(node, at + 0x08) as usize;
+    let key = u16_at(node, at + 0x0A) as usize;
+    let flags = u16_at(node, at + 0x0C);
+    let child = if children { 1 } else { 0 };
+    len % 8 == 0 && 16 + key + child_len(children) <= len && at + len <= end && flags % 2 == child
+}
+
+// Whether the data of an entry lies behind the key and before the child's number.
+fn holds_data(form: NodeForm, node: &[u8], children: bool, at: usize) -> bool
+    requires { at + 16 ≤ length node.now }
+    ensures { result ≡ holds_data form node.now children at }
+{
+    match form {
+        NodeForm::Names => true,
+        NodeForm::View => {
+            let from = u16_at(node, at) as usize;
+            let data = u16_at(node, at + 0x02) as usize;
+            let len = u16_at(node, at + 0x08) as usize;
+            let key = u16_at(node, at + 0x0A) as usize;
+            data == 0 || 16 + key <= from && from + data + child_len(children) <= len
+        }
+    }
+}
+
+/// Whether an entry with a key stands there.
+#[tactic(auto, unfolding(ntfs_def::specs::Node::is_entry))]
+pub fn is_entry(form: NodeForm, node: &[u8], children: bool, end: usize, at: usize) -> bool
+    requires inside { end ≤ length node.now }
+    requires small { at < 2 ^ 33 }
+    ensures { result ≡ is_entry form node.now children end at }
+{
+    is_whole(node, children, end, at)
+        && u16_at(node, at + 0x0C) / 2 % 2 == 0
+        && holds_data(form, node, children, at)
+}
+
+/// Whether the last entry stands there.
+#[tactic(auto, unfolding(ntfs_def::specs::Node::is_last_entry))]
+pub fn is_last_entry(node: &[u8], children: bool, end: usize, at: usize) -> bool
+    requires inside { end ≤ length node.now }
+    requires small { at < 2 ^ 33 }
+    ensures { result ≡ is_last_entry node.now children end at }
+{
+    is_whole(node, children, end, at) && u16_at(node, at + 0x0C) / 2 % 2 == 1 && u16_at(node, at + 0x0A) == 0
+}

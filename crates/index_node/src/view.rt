@@ -1,0 +1,115 @@
+//! The view: how many entries the node has, and each of them.
+ghost use Rattle.std.specs.Prelude.{◌≡◌, ◌<◌, ◌≤◌, ◌^◌, IfOk, IfErr, length, slice_index_or};
+ghost use Rattle.ntfs_def.specs.Node.{IsOwnEntry, IsWholeEntry, Entry, Whole, are_short, child_from, item_in, scan_node};
+ghost use Rattle.index_node.specs.View.{Refuses, bytes_of, form_of, place_of, node_of_view};
+
+use crate::shape::{child_len, count_of, entries_end, first_entry, has_children, header_failing};
+use crate::{NodeNo, NodeView};
+use ntfs_def::NodeForm;
+use vol_bytes::{u16_at, u64_at};
+
+/// The bytes of the longest entry, apart from a child's number.
+const MOST: usize = 632;
+
+impl<'r> NodeView<'r> {
+    /// A view of the value of an `$INDEX_ROOT`, or of an opened index record of 4,096 bytes.
+    ///
+    /// # Errors
+    ///
+    /// `Shape` exactly where the bytes have not the shape of a node, with the first place where they fail.
+    pub fn new(node: &'r [u8], form: NodeForm) -> Result<NodeView<'r>, NodeNo>
+        ensures ok { IfOk result (λ view. scan_node form node.now ≡ Whole (node_of_view view)) }
+        ensures form { IfOk result (λ view. form_of view ≡ form) }
+        ensures bytes { IfOk result (λ view. bytes_of view ≡ node.now) }
+        ensures err { IfErr result (Refuses form node.now) }
+    {
+        if let Some(at) = header_failing(node) {
+            return Err(NodeNo::Shape { at });
+        }
+        let first = first_entry(node);
+        let end = entries_end(node);
+        let children = has_children(node);
+        let count = count_of(form, node, children, end, first)?;
+        Ok(NodeView { node, form, children, first, end, count })
+    }
+}
+
+impl<'r> NodeView<'r> {
+    // Where an entry stands.
+    fn place(&self, i: usize) -> usize
+        requires { i ≤ self.now.count }
+        ensures place { result ≡ place_of self.now i }
+        ensures whole { IsWholeEntry self.now.node.now self.now.children self.now.end result }
+        ensures inside { self.now.end ≤ length self.now.node.now }
+        ensures short { self.now.end < 2 ^ 33 }
+    {
+        let mut at = self.first;
+        for k in 0..i {
+            at += u16_at(self.node, at + 0x08) as usize;
+        }
+        at
+    }
+
+    /// What its entries are.
+    pub fn form(&self) -> NodeForm
+        ensures { result ≡ form_of self.now }
+    {
+        self.form
+    }
+
+    /// How many entries have a key.
+    #[tactic(auto, unfolding(crate::specs::View::node_of_view))]
+    pub fn entries(&self) -> usize
+        ensures { result ≡ length (node_of_view self.now).entries }
+    {
+        self.count
+    }
+
+    /// Whether no entry, the last one neither, is longer than 632 bytes, apart from a child's number. An index of a
+    /// volume has no longer ones.
+    pub fn is_short(&self) -> bool
+        ensures { result ≡ are_short (bytes_of self.now) (length (node_of_view self.now).entries) }
+    {
+        let most = MOST + child_len(self.children);
+        let mut at = self.first;
+        for k in 0..self.count {
+            let len = u16_at(self.node, at + 0x08) as usize;
+            if len > most {
+                return false;
+            }
+            at += len;
+        }
+        u16_at(self.node, at + 0x08) as usize <= most
+    }
+
+    /// The bytes of an entry, with its child's number.
+    pub fn entry(&self, i: usize) -> &'r [u8]
+        requires { i < length (node_of_view self.now).entries }
+        ensures item { (d : Entry) → item_in result.now ≡ (slice_index_or (node_of_view self.now).entries i d).item }
+        ensures own { IsOwnEntry result.now }
+    {
+        let at = self.place(i);
+        &self.node[at..at + u16_at(self.node, at + 0x08) as usize]
+    }
+
+    /// The key of an entry.
+    pub fn key(&self, i: usize) -> &'r [u8]
+        requires { i < length (node_of_view self.now).entries }
+        ensures { (d : Entry) → result.now ≡ (slice_index_or (node_of_view self.now).entries i d).item.key }
+    {
+        let at = self.place(i);
+        &self.node[at + 16..at + 16 + u16_at(self.node, at + 0x0A) as usize]
+    }
+
+    /// The child that place i leads to; the last place has no key.
+    pub fn child(&self, i: usize) -> Option<u64>
+        requires { i ≤ length (node_of_view self.now).entries }
+        ensures { result ≡ child_from (node_of_view self.now).entries (node_of_view self.now).last i }
+    {
+        if !self.children {
+            return None;
+        }
+        let at = self.place(i);
+        Some(u64_at(self.node, at + u16_at(self.node, at + 0x08) as usize - 8))
+    }
+}

@@ -1,0 +1,97 @@
+//! The table: how it is made, and how units and names are compared by it.
+ghost use Rattle.std.specs.Prelude.{◌≡◌, ◌↔◌, ℕ, List, IfOk, IfErr, IsTrue, length, map};
+ghost use Rattle.ntfs_def.specs.KeyOrder.{by_numbers, compare_units, fold_of, table_len};
+ghost use Rattle.upcase.specs.Case.{Refuses};
+
+use crate::UpCaseNo;
+use std::alloc::Global;
+use std::cmp::Ordering;
+use std::marker::Model;
+use std::rc::Rc;
+use vol_bytes::u16_at;
+
+/// The bytes of a table.
+const LENGTH: usize = 131_072;
+
+/// A table of case.
+#[derive(Debug, Drop)]
+pub struct UpCase {
+    bytes: Rc<Vec<u8>>,
+}
+
+impl Model for UpCase {
+    ghost Value = { List ℕ };
+
+    ghost view = { λ table. table.bytes.value.items };
+
+    ghost invariant = { λ table. length table.bytes.value.items ≡ table_len };
+}
+
+impl UpCase {
+    /// The table of these bytes, as in the unnamed `$DATA` of `$UpCase`.
+    ///
+    /// # Errors
+    ///
+    /// `Length` exactly where there are not 131,072 bytes.
+    pub fn load(alloc: Global, bytes: &[u8]) -> Result<UpCase, UpCaseNo>
+        ensures ok { IfOk result (λ table. table ≡ bytes.now) }
+        ensures length { IfOk result (λ table. length bytes.now ≡ table_len) }
+        ensures err { IfErr result (Refuses bytes.now) }
+    {
+        if bytes.len() != LENGTH {
+            return Err(UpCaseNo::Length);
+        }
+        let bytes = Vec::from_slice(alloc, bytes)?;
+        Ok(UpCase {
+            bytes: Rc::new(alloc, bytes)?,
+        })
+    }
+
+    /// The same table again; both share its bytes.
+    pub fn share(&self) -> Result<UpCase, UpCaseNo>
+        ensures { IfOk result (λ table. table ≡ self.now) }
+    {
+        Ok(UpCase {
+            bytes: self.bytes.clone()?,
+        })
+    }
+
+    /// What a unit is compared as.
+    pub fn fold(&self, unit: u16) -> u16
+        ensures { result ≡ fold_of self.now unit }
+    {
+        u16_at(&self.bytes, 2 * unit as usize)
+    }
+
+    // Names by their folded units, a proper prefix first.
+    fn compare_folded(&self, a: &[u16], b: &[u16]) -> Ordering
+        ensures { result ≡ by_numbers (map (fold_of self.now) a.now) (map (fold_of self.now) b.now) }
+    {
+        for k in 0..a.len().min(b.len()) {
+            let x = self.fold(a[k]);
+            let y = self.fold(b[k]);
+            if x != y {
+                return x.cmp(&y);
+            }
+        }
+        a.len().cmp(&b.len())
+    }
+
+    /// Whether two names have the same folded units.
+    pub fn same(&self, a: &[u16], b: &[u16]) -> bool
+        ensures { IsTrue result ↔ (map (fold_of self.now) a.now ≡ map (fold_of self.now) b.now) }
+    {
+        matches!(self.compare_folded(a, b), Ordering::Equal)
+    }
+
+    /// The order of names: by their folded units, and equal ones by their plain units. Of two names of which one
+    /// begins with the other the shorter comes first.
+    pub fn compare(&self, a: &[u16], b: &[u16]) -> Ordering
+        ensures { result ≡ compare_units (fold_of self.now) a.now b.now }
+    {
+        match self.compare_folded(a, b) {
+            Ordering::Equal => a.cmp(b),
+            other => other,
+        }
+    }
+}
