@@ -1,12 +1,11 @@
 -- What the calls of a disk do to its counts.
 use Rattle.std.specs.Prelude.{Bool, true, false, nat_lt, if◌then◌else◌}
-use Rattle.vol_disk.specs.Count.{raised}
+use Rattle.vol_disk.specs.Count.{raised, faults_after}
 use Rattle.vol_disk.specs.declared.counts.Counts.{Counts}
 
 -- a call that answered Ok, or failed
 abbrev pub after_call : Bool → Counts → Counts
-after_call true counts = counts
-after_call false counts = record counts { faults = raised counts.faults }
+after_call ok counts = record counts { faults = faults_after ok counts.faults }
 
 -- a read that answered Ok, or failed
 abbrev pub after_read : Bool → Counts → Counts
@@ -19,4 +18,4 @@ asked counts = record counts { late = if nat_lt 0 counts.faults then raised coun
 -- a write that answered Ok, or failed
 abbrev pub after_write : Bool → Counts → Counts
 after_write true counts = record (asked counts) { written = raised counts.written }
-after_write false counts = record (asked counts) { faults = raised counts.faults }
+after_write false counts = after_call false (asked counts)

@@ -11,67 +11,79 @@ pub is_some-image_of : (now : Option (List ℕ)) (puts : List Put) → is_some (
 is_some-image_of None puts = refl
 is_some-image_of (Some all) puts = refl
 
-length-applied : (puts : List Put) (all : List ℕ) (size : ℕ) → AreWithin size puts → AreWhole puts
-    → length all ≡ 512 * size → length (applied puts all) ≡ 512 * size
-length-applied [] all size within whole e = e
-length-applied (put ∷ puts) all size within whole e =
-    let here : put.sector < size = within 0 put (omega arith) in
-    let long : length put.bytes ≡ 512 = whole 0 put (omega arith) in
-    length-applied puts (with_sector all put.sector put.bytes) size (λ i d l. within (suc i) d (omega arith)) (λ i d l. whole (suc i) d (omega arith))
-    (length-with_sector all put.bytes put.sector (omega arith) long ∙ e)
+-- the puts are of sectors of the contents, and have their bytes
+record Fits (all : List ℕ) (puts : List Put) (size : ℕ) : Type 0 where
+  within : AreWithin size puts
+  whole : AreWhole puts
+  sized : length all ≡ 512 * size
 
-pub length-image_of : (now : Option (List ℕ)) (puts : List Put) (size : ℕ) → AreWithin size puts → AreWhole puts
-    → IfSome now (λ all. length all ≡ 512 * size) → IfSome (image_of now puts) (λ all. length all ≡ 512 * size)
-length-image_of None puts size within whole e = tt
-length-image_of (Some all) puts size within whole e = length-applied puts all size within whole e
+-- the first put, and those behind it
+module _ (put : Put) (puts : List Put) (all : List ℕ) (size : ℕ) (fits : Fits all (put ∷ puts) size) where
+  first-within : put.sector < size
+  first-within = fits.within 0 put (omega arith)
+
+  first-whole : length put.bytes ≡ 512
+  first-whole = fits.whole 0 put (omega arith)
+
+  Fits-behind : Fits (with_sector all put.sector put.bytes) puts size
+  Fits-behind = record {
+    within = λ i d l. fits.within (suc i) d (omega arith);
+    whole = λ i d l. fits.whole (suc i) d (omega arith);
+    sized = length-with_sector all put.bytes put.sector (omega (arith, first-within, fits.sized)) first-whole ∙ fits.sized;
+  }
+
+length-applied : (puts : List Put) (all : List ℕ) (size : ℕ) → Fits all puts size → length (applied puts all) ≡ 512 * size
+length-applied [] all size fits = fits.sized
+length-applied (put ∷ puts) all size fits =
+    length-applied puts (with_sector all put.sector put.bytes) size (Fits-behind put puts all size fits)
 
 -- a sector that no put is of
-applied-plain : (puts : List Put) (all : List ℕ) (size sector : ℕ) → AreWithin size puts → AreWhole puts
-    → length all ≡ 512 * size → (Contains (places_of puts) sector → ⊥)
+applied-plain : (puts : List Put) (all : List ℕ) (size sector : ℕ) → Fits all puts size → (Contains (places_of puts) sector → ⊥)
     → sector_in (Some (applied puts all)) sector ≡ sector_in (Some all) sector
 unfolding places_of
-applied-plain [] all size sector within whole e not = refl
-applied-plain (put ∷ puts) all size sector within whole e not =
-    let here : put.sector < size = within 0 put (omega arith) in
-    let long : length put.bytes ≡ 512 = whole 0 put (omega arith) in
-    applied-plain puts (with_sector all put.sector put.bytes) size sector (λ i d l. within (suc i) d (omega arith)) (λ i d l. whole (suc i) d (omega arith))
-    (length-with_sector all put.bytes put.sector (omega arith) long ∙ e) (λ found. let inside = found.1 in not (suc found.0, omega arith, found.2))
-    ∙ sector_in-other all put.bytes size put.sector sector e here long (λ same. not (0, omega arith, sym same))
+applied-plain [] all size sector fits not = refl
+applied-plain (put ∷ puts) all size sector fits not =
+    applied-plain puts (with_sector all put.sector put.bytes) size sector (Fits-behind put puts all size fits)
+    (λ found. let inside = found.1 in not (suc found.0, omega arith, found.2))
+    ∙ sector_in-other all put.bytes size put.sector sector fits.sized (first-within put puts all size fits) (first-whole put puts all size fits)
+    (λ same. not (0, omega arith, sym same))
 
-pub image_of-plain : (now : Option (List ℕ)) (puts : List Put) (size sector : ℕ) → AreWithin size puts → AreWhole puts
-    → IfSome now (λ all. length all ≡ 512 * size) → (Contains (places_of puts) sector → ⊥)
-    → sector_in (image_of now puts) sector ≡ sector_in now sector
-image_of-plain None puts size sector within whole e not = refl
-image_of-plain (Some all) puts size sector within whole e not = applied-plain puts all size sector within whole e not
+-- no put behind the first is of its sector
+not-behind : (put : Put) (puts : List Put) → AreRising (put ∷ puts) → Contains (places_of puts) put.sector → ⊥
+not-behind put puts rising found =
+    let inside : found.0 < length puts = let below = found.1 in omega (arith, below, length-places_of puts) in
+    let rises = rising 0 (suc found.0) put (omega arith) (omega arith) in
+    let same = found.2 in
+    omega (arith, rises, places_of-at puts found.0 put.sector put inside, same)
 
 -- a sector that a put is of
-applied-put : (puts : List Put) (all : List ℕ) (size k : ℕ) (put : Put) → AreWithin size puts → AreWhole puts → AreRising puts
-    → length all ≡ 512 * size → k < length puts → slice_index_or puts k put ≡ put
-    → sector_in (Some (applied puts all)) put.sector ≡ put.bytes
-applied-put [] all size k put within whole rising e below is = absurd (omega arith)
-applied-put (first ∷ puts) all size zero put within whole rising e below is =
-    let here : first.sector < size = within 0 first (omega arith) in
-    let long : length first.bytes ≡ 512 = whole 0 first (omega arith) in
-    let once : Contains (places_of puts) first.sector → ⊥ = λ found.
-    let inside : found.0 < length puts = let l = found.1 in omega (arith, l, length-places_of puts) in
-    let rises = rising 0 (suc found.0) first (omega arith) (omega arith) in
-    let at = places_of-at puts found.0 first.sector first inside in
-    let same = found.2 in
-    omega (arith, rises, at, same) in
+applied-put : (puts : List Put) (all : List ℕ) (size k : ℕ) (put : Put) → Fits all puts size → AreRising puts
+    → k < length puts → slice_index_or puts k put ≡ put → sector_in (Some (applied puts all)) put.sector ≡ put.bytes
+applied-put [] all size k put fits rising below is = absurd (omega arith)
+applied-put (first ∷ puts) all size zero put fits rising below is =
     subst (λ (q : Put). sector_in (Some (applied (first ∷ puts) all)) q.sector ≡ q.bytes) is
-    (applied-plain puts (with_sector all first.sector first.bytes) size first.sector (λ i d l. within (suc i) d (omega arith)) (λ i d l. whole (suc i) d (omega arith))
-    (length-with_sector all first.bytes first.sector (omega arith) long ∙ e) once
-    ∙ sector_in-same all first.bytes size first.sector e here long)
-applied-put (first ∷ puts) all size (suc k) put within whole rising e below is =
-    let here : first.sector < size = within 0 first (omega arith) in
-    let long : length first.bytes ≡ 512 = whole 0 first (omega arith) in
-    applied-put puts (with_sector all first.sector first.bytes) size k put (λ i d l. within (suc i) d (omega arith)) (λ i d l. whole (suc i) d (omega arith))
-    (λ i j d a b. rising (suc i) (suc j) d (omega arith) (omega arith))
-    (length-with_sector all first.bytes first.sector (omega arith) long ∙ e) (omega arith) is
+    (applied-plain puts (with_sector all first.sector first.bytes) size first.sector (Fits-behind first puts all size fits)
+    (not-behind first puts rising)
+    ∙ sector_in-same all first.bytes size first.sector fits.sized (first-within first puts all size fits) (first-whole first puts all size fits))
+applied-put (first ∷ puts) all size (suc k) put fits rising below is =
+    applied-put puts (with_sector all first.sector first.bytes) size k put (Fits-behind first puts all size fits)
+    (λ i j d a b. rising (suc i) (suc j) d (omega arith) (omega arith)) (omega arith) is
 
-pub image_of-put : (now : Option (List ℕ)) (puts : List Put) (size : ℕ) (put : Put) → AreWithin size puts → AreWhole puts → AreRising puts
-    → IfSome now (λ all. length all ≡ 512 * size) → Contains puts put → IsTold (image_of now puts)
-    → put.bytes ≡ sector_in (image_of now puts) put.sector
-image_of-put None puts size put within whole rising e found told = cc
-image_of-put (Some all) puts size put within whole rising e found told =
-    sym (applied-put puts all size found.0 put within whole rising e found.1 found.2)
+-- the same, where the contents may not be told
+module _ (puts : List Put) (size : ℕ) (within : AreWithin size puts) (whole : AreWhole puts) where
+  pub length-image_of : (now : Option (List ℕ)) → IfSome now (λ all. length all ≡ 512 * size)
+      → IfSome (image_of now puts) (λ all. length all ≡ 512 * size)
+  length-image_of None sized = tt
+  length-image_of (Some all) sized = length-applied puts all size (record { within = within; whole = whole; sized = sized })
+
+  pub image_of-plain : (now : Option (List ℕ)) (sector : ℕ) → IfSome now (λ all. length all ≡ 512 * size)
+      → (Contains (places_of puts) sector → ⊥) → sector_in (image_of now puts) sector ≡ sector_in now sector
+  image_of-plain None sector sized not = refl
+  image_of-plain (Some all) sector sized not =
+      applied-plain puts all size sector (record { within = within; whole = whole; sized = sized }) not
+
+  pub image_of-put : (now : Option (List ℕ)) (put : Put) → AreRising puts → IfSome now (λ all. length all ≡ 512 * size)
+      → Contains puts put → IsTold (image_of now puts) → put.bytes ≡ sector_in (image_of now puts) put.sector
+  image_of-put None put rising sized found told = cc
+  image_of-put (Some all) put rising sized found told =
+      sym (applied-put puts all size found.0 put (record { within = within; whole = whole; sized = sized }) rising found.1 found.2)

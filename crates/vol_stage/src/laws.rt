@@ -17,7 +17,7 @@ pub fn image_laws<D: Disk>(_stage: &Stage<'_, D>)
 {}
 
 /// Reads in a row add up.
-pub fn reads_twice<D: Disk>(_stage: &Stage<'_, D>)
+pub fn reads_twice<D: Disk>()
     ensures { (a b c : Stage D D.Disk) (first then : ℕ) → StageReads D.Disk a b first → StageReads D.Disk b c then
         → StageReads D.Disk a c (first + then) }
 {}

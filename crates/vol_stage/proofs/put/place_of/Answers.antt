@@ -6,6 +6,10 @@ use Rattle.vol_stage.proofs.put.place_of.Goals as goal
 
 pub returns : goal.returns
 returns c =
-    let point = IsPartitionPoint-from_clause (λ put. nat_lt put.sector c.args.sector) _ _ c.partition_point.ensures.partitioned
-    (IsPartitionedBy-ltb (λ put. put.sector) _ c.args.sector (IsNonDecreasingBy-rising _ c.requires)) (λ a r q k. search rules) in
-    (λ k d from to. let test = point.0 k d from to in grind (arith, nat_tests, test), λ k d from to. let test = point.1 k d from to in grind (arith, nat_tests, test))
+    let parted = IsPartitionedBy-ltb (λ put. put.sector) c.args.puts.now c.args.sector (IsNonDecreasingBy-rising c.args.puts.now c.requires) in
+    let point =
+    IsPartitionPoint-from_clause (λ put. nat_lt put.sector c.args.sector) _ _ c.partition_point.ensures.partitioned parted
+    (λ a r q k. search rules) in (
+      λ k d from to. let test = point.0 k d from to in grind (arith, nat_tests, test),
+      λ k d from to. let test = point.1 k d from to in grind (arith, nat_tests, test),
+    )

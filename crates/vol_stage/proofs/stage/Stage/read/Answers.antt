@@ -6,15 +6,16 @@ use Rattle.vol_stage.proofs.stage.Stage.read.Goals as goal
 pub returns-in-Some-clause-read : goal.returns-in-Some-clause-read
 returns-in-Some-clause-read g c told =
     let old = c.args.self.now in
-    let disk = g.D.Disk in
     let found = rw c.deref.ensures.value at c.in-Some.ensures.found in
-    image_of-put (disk.now old.disk.now) old.puts.items (disk.size old.disk.now) _ old.within old.whole old.rising (g.met.D.Disk.told_length old.disk.now) found told
+    image_of-put old.puts.items (g.D.Disk.size old.disk.now) old.within old.whole (g.D.Disk.now old.disk.now) _ old.rising
+    (g.met.D.Disk.told_length old.disk.now) found told
 
 pub returns-clause-read : goal.returns-clause-read
 returns-clause-read g c told =
     let old = c.args.self.now in
-    let disk = g.D.Disk in
+    let now = g.D.Disk.now old.disk.now in
     let not = rw c.deref.ensures.value at c.in_default.ensures.none in
-    let below : IsTold (disk.now old.disk.now) = sym (is_some-image_of (disk.now old.disk.now) old.puts.items) ∙ told in
+    let below : IsTold now = sym (is_some-image_of now old.puts.items) ∙ told in
     c.in_ok-read.ensures.read below
-    ∙ sym (image_of-plain (disk.now old.disk.now) old.puts.items (disk.size old.disk.now) c.args.sector old.within old.whole (g.met.D.Disk.told_length old.disk.now) not)
+    ∙ sym (image_of-plain old.puts.items (g.D.Disk.size old.disk.now) old.within old.whole now c.args.sector
+    (g.met.D.Disk.told_length old.disk.now) not)
