@@ -1,5 +1,5 @@
 -- A word that only reads, answered by the report that it shows.
-use Rattle.std.proofs.Common.{◌≡◌, ℕ, List, Option, Some, refl, inl, inr}
+use Rattle.std.proofs.Common.{◌≡◌, ℕ, List, Some, refl, inl, inr}
 use Rattle.ntfs_shell.specs.declared.ending.Ending.{Ending}
 use Rattle.vol_disk.specs.Stream.{Appended}
 use Rattle.ntfs_shell.specs.Report.{Report, says, refuses, text_of, ending_of, Reported, ReportEnds}

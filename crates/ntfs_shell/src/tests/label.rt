@@ -69,7 +69,9 @@ fn table_stream() -> [u8; 72] {
 
 // A record of these attributes as it is stored, with update sequence number 1.
 fn stored(attributes: &[u8]) -> [u8; 1024] {
-    let len = attributes.len().min(0x3C0);
+    let len = attributes.len().min(960);
+    let mut area = [0xFF; 968];
+    area[..len].copy_from_slice(&attributes[..len]);
     let mut block = [0; 1024];
     block[..4].copy_from_slice(b"FILE");
     block[0x04] = 0x30;
@@ -81,8 +83,7 @@ fn stored(attributes: &[u8]) -> [u8; 1024] {
     put_u32(&mut block, 0x18, 0x40 + len as u32);
     block[0x1D] = 4;
     block[0x28] = 4;
-    block[0x38..0x38 + len].copy_from_slice(&attributes[..len]);
-    block[0x38 + len..0x3C + len].fill(0xFF);
+    block[0x38..].copy_from_slice(&area);
     block[0x30] = 1;
     for (place, end) in [(0x32, 0x1FE), (0x34, 0x3FE)] {
         let last = u16_at(&block, end);
