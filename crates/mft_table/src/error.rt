@@ -1,6 +1,7 @@
 //! Why the table is not found, and why a record of it is not read.
 ghost use Rattle.std.specs.Prelude.{◌≡◌};
 ghost use Rattle.mft_table.specs.declared.error.TableNo.TheVariants as table;
+ghost use Rattle.mft_table.specs.MftNos.{mft_no};
 ghost use Rattle.mft_table.specs.StageCauses.{table_no};
 
 use ntfs_boot::BootFault;
@@ -41,5 +42,36 @@ impl From<AllocError> for TableNo {
 
     fn from(_error: AllocError) -> TableNo {
         TableNo::Memory
+    }
+}
+
+/// Why a call on the table of records fails.
+#[derive(Clone, Copy, Debug, PartialEq, Eq, Error)]
+pub enum MftNo {
+    /// The disk failed; its count of faults rose.
+    #[error("the device failed")]
+    Device,
+    /// The stored block does not open: it was not written as a whole.
+    #[error("record {number} was not written as a whole")]
+    Torn { number: u64 },
+    /// There are too few free clusters.
+    #[error("no room on the volume")]
+    NoRoom,
+    /// The table holds no more records, or record 0 no more of its runs.
+    #[error("the table of records is full")]
+    MftFull,
+    /// There was no memory.
+    #[error("out of memory")]
+    Memory,
+}
+
+impl From<StageNo> for MftNo {
+    ghost from_gives = { λ stage error. error ≡ mft_no stage };
+
+    fn from(error: StageNo) -> MftNo {
+        match error {
+            StageNo::Device => MftNo::Device,
+            StageNo::Memory => MftNo::Memory,
+        }
     }
 }

@@ -4,12 +4,16 @@
 mod blocks;
 mod error;
 mod find;
+mod mft;
+mod mounted;
 mod open;
 mod table;
 mod volume;
 
 pub use blocks::{BlockReader, read_two_sectors};
-pub use error::TableNo;
+pub use error::{MftNo, TableNo};
+pub use mft::Mft;
+pub use mounted::Mounted;
 pub use open::open_record;
 pub use table::Table;
 pub use volume::{find_table, read_boot_sector};

@@ -1,0 +1,29 @@
+-- What the table of records in use shows, and what its calls keep.
+use Rattle.std.specs.Prelude.{◌≡◌, ℕ, is_some}
+use Rattle.vol_disk.specs.Contents.{sector_in}
+use Rattle.vol_disk.specs.declared.Disk.{Ghosts}
+use Rattle.vol_stage.specs.declared.stage.Stage.{Stage}
+use Rattle.vol_stage.specs.Staged.{StageReads, disk_of, image}
+use Rattle.volume_def.specs.View.{View, view_of}
+use Rattle.mft_table.specs.declared.mft.Mft.{Mft}
+use Rattle.mft_table.specs.declared.mounted.Mounted.{Mounted}
+use Rattle.mft_table.specs.Mounted.{mounted_layout}
+
+abbrev pub stage_of : {D : Type 0} (g : Ghosts D) → Mft D g → Stage D g
+stage_of g mft = mft.stage
+
+abbrev pub mounted_of : {D : Type 0} (g : Ghosts D) → Mft D g → Mounted
+mounted_of g mft = mft.mounted
+
+-- the disk's count of faults
+abbrev pub faults_of : {D : Type 0} (g : Ghosts D) → Mft D g → ℕ
+faults_of g mft = g.faults (disk_of g (stage_of g mft))
+
+-- the image as it is read, by blocks and clusters
+abbrev pub view : {D : Type 0} (g : Ghosts D) → Mft D g → View
+view g mft = view_of (is_some (image g (stage_of g mft))) (sector_in (image g (stage_of g mft))) (mounted_layout (mounted_of g mft))
+
+-- What a call keeps that asks for so many reads at most, and for nothing else.
+pub record MftReads {D : Type 0} (g : Ghosts D) (old new : Mft D g) (reads : ℕ) : Type 0 where
+  pub stage : StageReads g (stage_of g old) (stage_of g new) reads
+  pub mounted : mounted_of g new ≡ mounted_of g old
