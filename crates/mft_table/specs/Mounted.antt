@@ -1,7 +1,7 @@
 -- What the tables of a mounted volume tell of it.
-use Rattle.std.specs.Prelude.{◌≡◌, ℕ, ◌/◌, ◌%◌, length}
+use Rattle.std.specs.Prelude.{◌≡◌, ℕ, ◌/◌, ◌%◌, IsTrue, length}
+use Rattle.ntfs_def.specs.Boot.{is_cluster_size}
 use Rattle.volume_def.specs.Table.{Layout, LiesOn}
-use Rattle.ntfs_boot.specs.Geometry.{HasClusterSize}
 use Rattle.mft_table.specs.declared.mounted.Mounted.{Mounted}
 use Rattle.mft_table.specs.Tables.{layout_on}
 
@@ -10,7 +10,8 @@ abbrev pub mounted_layout : Mounted → Layout
 mounted_layout mounted = layout_on mounted.geometry mounted.table mounted.initialized (length mounted.records)
 
 -- What holds on a disk of so many sectors, whatever it tells.
-pub record StandsOn (sectors : ℕ) (mounted : Mounted) : Type 0 where
-  pub cluster : (mounted.geometry.cluster % 512 ≡ 0) × HasClusterSize (mounted.geometry.cluster / 512)
+pub record StandsOn (count : ℕ) (mounted : Mounted) : Type 0 where
+  pub sectors : mounted.geometry.cluster % 512 ≡ 0
+  pub size : IsTrue (is_cluster_size (mounted.geometry.cluster / 512))
   pub clusters : length mounted.clusters ≡ mounted.geometry.clusters
-  pub table : LiesOn sectors (mounted_layout mounted)
+  pub table : LiesOn count (mounted_layout mounted)

@@ -1,4 +1,5 @@
 //! The table of records in use: a stage, and what is kept of the volume.
+ghost use Rattle.std.proofs.Props.{props};
 ghost use Rattle.std.specs.Prelude.{◌≡◌, ◌<◌, Contains, IfErr, IsOk, IsTrue, MatchResult, OnErr, OnOk, length};
 ghost use Rattle.vol_disk.specs.Contents.{IsTold, sector_in};
 ghost use Rattle.vol_disk.specs.Count.{CountsFault};
@@ -18,7 +19,7 @@ use vol_stage::Stage;
 pub struct Mft<'d, D: Disk> {
     stage: Stage<'d, D>,
     mounted: Mounted,
-    ghost stands: { StandsOn (D.size (disk_of D.Disk stage)) mounted },
+    ghost stands: { StandsOn (D.size (disk_of D.Disk stage)) mounted } by { Prim.hlevel props },
 }
 
 impl<'d, D: Disk> Mft<'d, D> {
