@@ -58,7 +58,7 @@ clear-more words place word e h =
     let small : 18446744073709551615 - word < 2 ^ 64 = omega arith in
     let n : 64 * (place + 1) ≡ 64 * place + 64 = omega arith in
     ap (clear_below words) n ∙ word-clear words place (18446744073709551615 - word) 64
-        (λ i l. bit_at_not w64 word i h l ∙ ap (λ x. 1 - bit_at x i) e) (omega arith)
+    (λ i l. bit_at_not w64 word i h l ∙ ap (λ x. 1 - bit_at x i) e) (omega arith)
     ∙ ap (λ x. clear_below words (64 * place) + x) (sym (ones-word (18446744073709551615 - word) small))
 
 -- the bits behind the count are set
@@ -91,4 +91,4 @@ unfolding flags_of
 count-flags words count pad =
     let e : 64 * length words ≡ count + (64 * length words - count) = omega (arith, pad.enough) in
     ap (clear_below words) e ∙ clear-padded words count (64 * length words - count) pad (omega (arith, pad.enough))
-        ∙ sym (flags-clear words count)
+    ∙ sym (flags-clear words count)

@@ -13,7 +13,7 @@ map-range-same : {X : Type 0} (f g : ℕ → X) (from n : ℕ) → ((k : ℕ) �
 map-range-same f g from zero h = refl
 map-range-same f g from (suc n) h =
     rw (h from (omega arith) (omega arith)) (ap (λ rest. g from ∷ rest)
-        (map-range-same f g (from + 1) n (λ k low high. h k (omega arith) (omega arith))))
+    (map-range-same f g (from + 1) n (λ k low high. h k (omega arith) (omega arith))))
 
 pub length-flags_of : (words : List ℕ) (count : ℕ) → length (flags_of words count) ≡ count
 unfolding flags_of

@@ -32,7 +32,7 @@ bit_of-push_new words word i k e h = bit_of-place (words ++ word ∷ []) (length
 -- the word that holds the place `count`, with its bits from there on set
 pub bit_of-padded : (words : List ℕ) (count at : ℕ) → 64 * length words < count + 64 → count ≤ at → at < 64 * length words
     → bit_of (slice_set words (count / 64) (bit_or (slice_index words (count / 64))
-        (18446744073709551615 * 2 ^ (count % 64) % 18446744073709551616))) at ≡ 1
+    (18446744073709551615 * 2 ^ (count % 64) % 18446744073709551616))) at ≡ 1
 bit_of-padded words count at few from h =
     let place : at / 64 ≡ count / 64 = omega arith in
     let word : ℕ = bit_or (slice_index words (count / 64)) (18446744073709551615 * 2 ^ (count % 64) % 18446744073709551616) in
@@ -41,7 +41,7 @@ bit_of-padded words count at few from h =
 
 pub bit_of-kept : (words : List ℕ) (count at : ℕ) → count ≤ 64 * length words → at < count
     → bit_of (slice_set words (count / 64) (bit_or (slice_index words (count / 64))
-        (18446744073709551615 * 2 ^ (count % 64) % 18446744073709551616))) at ≡ bit_of words at
+    (18446744073709551615 * 2 ^ (count % 64) % 18446744073709551616))) at ≡ bit_of words at
 bit_of-kept words count at enough h =
     let word : ℕ = bit_or (slice_index words (count / 64)) (18446744073709551615 * 2 ^ (count % 64) % 18446744073709551616) in
     elim (cases_eq (at / 64) (count / 64)) [

@@ -29,17 +29,17 @@ bit_at-little at (suc n) xs i bytes h =
     elim (cases_lt i 8) as (λ _. bit_at (little_from at (suc n) xs) i ≡ bit_at (slice_index xs (at + i / 8)) (i % 8)) [
       | inl l ↦
           let e : slice_index xs at + 256 * little_from (suc at) n xs
-              ≡ little_from (suc at) n xs * 2 ^ 8 + slice_index xs at = omega arith in
+          ≡ little_from (suc at) n xs * 2 ^ 8 + slice_index xs at = omega arith in
           let p : at + i / 8 ≡ at = omega arith in
           let q : i % 8 ≡ i = omega arith in
           rw (p, q) (ap (λ x. bit_at x i) e ∙ bit_at_cat_low (little_from (suc at) n xs) 8 (slice_index xs at) i l)
       | inr g ↦
           let e : slice_index xs at + 256 * little_from (suc at) n xs
-              ≡ little_from (suc at) n xs * 2 ^ 8 + slice_index xs at = omega arith in
+          ≡ little_from (suc at) n xs * 2 ^ 8 + slice_index xs at = omega arith in
           let p : at + i / 8 ≡ suc at + (i - 8) / 8 = omega arith in
           let q : i % 8 ≡ (i - 8) % 8 = omega arith in
           rw (p, q) (ap (λ x. bit_at x i) e ∙ bit_at_cat_high (little_from (suc at) n xs) 8 (slice_index xs at) i (bytes at) g
-              ∙ bit_at-little (suc at) n xs (i - 8) bytes (omega arith))
+          ∙ bit_at-little (suc at) n xs (i - 8) bytes (omega arith))
     ]
 
 -- the bits of the bytes at a place

@@ -23,7 +23,7 @@ pub room-next : (runs : List Run) (index last total : ℕ) (old out : List ℕ) 
 room-next runs index last total old out at d lt near room (some, bounded, reach, list) begun text is =
     let run = get_or runs index d in
     let (rest, are) = written_form (place_after last run) (total + run.len) (drop (index + 1) runs)
-        (place_after-near last run.len run.lcn near reach) list in
+    (place_after-near last run.len run.lcn near reach) list in
     let all = begun.written (text ++ rest) (rw (drop_more runs index d lt) (text, rest, is, are, refl)) in
     let front : length (take at out) ≡ at = length-take-le at out begun.within in
     omega (arith, room (take at out ++ (text ++ rest)) all, length-append (take at out) (text ++ rest), length-append text rest, begun.len)
@@ -41,7 +41,7 @@ IsBegun-next runs index last old out new at end d lt begun same puts =
     let written : take end new ≡ take at out ++ text = ap (take end) split ∙ take_at (take at out ++ text) (drop end out) end both in
     let behind : drop end new ≡ drop end out = ap (drop end) split ∙ drop_at (take at out ++ text) (drop end out) end both in
     let later : drop end out ≡ drop end old = rw puts.ends (sym (drop-drop (length text) at out)
-        ∙ ap (drop (length text)) begun.kept ∙ drop-drop (length text) at old) in
+    ∙ ap (drop (length text)) begun.kept ∙ drop-drop (length text) at old) in
     record {
       within = omega (arith, ap length split, length-append (take at out ++ text) (drop end out), length-drop end out);
       len = same ∙ begun.len;

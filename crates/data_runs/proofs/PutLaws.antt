@@ -17,7 +17,7 @@ pub Puts-part : (Is : List ℕ → Type 0) (old part text : List ℕ) (at len : 
 Puts-part Is old part text at len fits long is written =
     let whole : len ≡ at + len - at = omega arith in
     let none : drop len (take (at + len - at) (drop at old)) ≡ [] = drop_all len (take (at + len - at) (drop at old))
-        (simp (length-take, length-drop) (omega arith)) in
+    (simp (length-take, length-drop) (omega arith)) in
     let same : part ≡ text = written ∙ ap (λ rest. text ++ rest) none ∙ append-nil text in
     record {
       text = text;
@@ -60,7 +60,7 @@ Puts-head old mid text rest at head within is =
 -- the parts of a run, and the byte before them that counts theirs
 pub Puts-run : (last : ℕ) (run : Run) (old lens both : List ℕ) (at middle end head : ℕ) → at < length old
     → (first : Puts (λ text. SpellsShortest text (pos run.len)) old lens (at + 1) middle)
-        → (then : Puts (IsOffsetText last run.lcn) lens both middle end)
+    → (then : Puts (IsOffsetText last run.lcn) lens both middle end)
     → head ≡ middle - at - 1 + 16 * (end - middle)
     → Puts (IsRunText last run) old (set both at head) at end
 Puts-run last run old lens both at middle end head within first then counts =
@@ -79,7 +79,7 @@ Puts-run last run old lens both at middle end head within first then counts =
       ends = omega (arith, length-append first.text then.text);
       bytes = Puts-head old both (first.text ++ then.text) (drop end old) at head within
           (Puts-then (λ text. SpellsShortest text (pos run.len)) (IsOffsetText last run.lcn) old lens both (at + 1) middle end
-              (omega arith) first then);
+          (omega arith) first then);
     }
 
 -- there is room for a length that is followed by a place ..

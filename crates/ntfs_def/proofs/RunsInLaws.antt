@@ -33,7 +33,7 @@ rest_of most text last total = runs_from most (drop (run_width text) text) (plac
 -- one step of the function
 runs_from-step : (most : ℕ) (text : List ℕ) (last total : ℕ) → runs_from (suc most) text last total
     ≡ cond (is_ended text) (Some []) (cond (is_none (rule_broken text last total))
-        (option_map (λ runs. first_run text last ∷ runs) (rest_of most text last total)) None)
+    (option_map (λ runs. first_run text last ∷ runs) (rest_of most text last total)) None)
 unfolding runs_from rest_of
 runs_from-step most text last total = refl
 

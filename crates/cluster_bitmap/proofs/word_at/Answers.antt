@@ -8,4 +8,4 @@ pub returns : goal.returns
 returns c = λ i h within.
     let e = rw take_rest at c.read_uint.ensures in
     ap (λ x. bit_at x i) e ∙ word-bits c.args.bytes.now c.args.at _ i (λ k. omega (arith, c.type_inv.bytes k))
-        (omega (arith, length-drop {A = ℕ}))
+    (omega (arith, length-drop {A = ℕ}))

@@ -8,4 +8,4 @@ pub returns : goal.returns
 returns c =
     let words = c.self.inside.words.items in
     c.clear_bits.ensures ∙ ap (λ w. clear_below w (64 * length w)) c.deref.ensures.value
-        ∙ count-flags words c.self.inside.count c.self.invariant ∙ ap (count_by not) c.self.view_is
+    ∙ count-flags words c.self.inside.count c.self.invariant ∙ ap (count_by not) c.self.view_is

@@ -7,4 +7,4 @@ pub returns : goal.returns
 returns c =
     let new = with_items_is c.in_ok-words.words c.pad.new.words (omega (arith, c.pad.ensures.len, c.deref_mut.ensures.len)) in
     rw new (flags-read c.in_ok-words.words.items c.pad.new.words c.args.bytes.now c.args.count c.in_ok-words.ensures.bits
-        (rw c.deref_mut.ensures.value at c.pad.ensures.kept))
+    (rw c.deref_mut.ensures.value at c.pad.ensures.kept))

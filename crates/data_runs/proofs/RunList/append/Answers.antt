@@ -8,4 +8,4 @@ invariant_of-self-2 c =
     let same = ap total_clusters c.self.view_is in
     let fits : 0 + (total_clusters c.self.inside.runs.items + c.args.run.len) ≤ 2 ^ 62 = omega (arith, c.requires.total, same) in
     rw c.in_ok-push.ensures.ok
-        (IsRunListFrom-push 0 c.self.inside.runs.items c.args.run c.self.invariant c.requires.some c.requires.reach fits)
+    (IsRunListFrom-push 0 c.self.inside.runs.items c.args.run c.self.invariant c.requires.some c.requires.reach fits)

@@ -12,7 +12,7 @@ put_run-at-requires-clause-room c =
     let (total, list) = c.loop-run.invariant.list in
     rw c.runs-run-items.ensures.runs (room-next c.args.self.now c.loop-run.run-index c.loop-run.last total c.args.out.now _ _ d lt
     c.loop-run.invariant.near c.requires
-        (IsRunListFrom-later total c.args.self.now c.loop-run.run-index d lt list) c.loop-run.invariant.begun)
+    (IsRunListFrom-later total c.args.self.now c.loop-run.run-index d lt list) c.loop-run.invariant.begun)
 
 pub loop-run-preserved : goal.loop-run-preserved
 loop-run-preserved c =

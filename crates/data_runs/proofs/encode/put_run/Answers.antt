@@ -20,7 +20,7 @@ pub put_offset-end-requires-clause-room : goal.put_offset-end-requires-clause-ro
 put_offset-end-requires-clause-room c =
     let is : cast_signed w64 c.args.run.now.len ≡ pos c.args.run.now.len = omega (arith, ints, c.requires.len) in
     rw c.put_number-middle.auto.out (room-offset c.args.last c.args.run.now c.args.out.now _ c.args.at _ c.requires.room
-        (rw is at c.put_number-middle.ensures))
+    (rw is at c.put_number-middle.ensures))
 
 pub overflow_mul-out : goal.overflow_mul-out
 overflow_mul-out c =
@@ -49,4 +49,4 @@ returns c =
     let (text, one) = run_text c.args.last c.args.run.now c.requires.last c.requires.len c.requires.reach in
     let within : c.args.at < length c.args.out.now = omega (arith, c.requires.room text one, ap length one.all) in
     Puts-run c.args.last c.args.run.now c.args.out.now _ _ c.args.at _ _ _ within
-        (rw is at c.put_number-middle.ensures) c.put_offset-end.ensures refl
+    (rw is at c.put_number-middle.ensures) c.put_offset-end.ensures refl
