@@ -61,6 +61,17 @@ TellsLayout-made geometry sectors record_0 stream sizes text runs fits read told
       };
     }
 
+-- the runs of a layout are those that the text means
+pub TellsLayout-means : (geometry : Geometry) (record_0 : List ℕ) (stream : Attribute) (text : List ℕ) (layout : Layout)
+    → HoldsTable record_0 stream → Some text ≡ runs_of stream.body → TellsLayout geometry record_0 layout → MeansRuns text layout.runs
+TellsLayout-means geometry record_0 stream text layout holds read tells =
+    let table = tells.table in
+    let other : table.stream ≡ stream = let mine = table.holds.only in let yours = holds.only in cc in
+    let texts : Some text ≡ Some table.text =
+    read ∙ sym (ap (λ (a : Attribute). runs_of a.body) other) ∙ ap runs_of table.body in
+    let same : table.text ≡ text = cc in
+    subst (λ (t : List ℕ). MeansRuns t layout.runs) same table.means
+
 -- no layout meets it with other runs or sizes
 pub TellsLayout-parts : (geometry : Geometry) (sectors : ℕ) (record_0 : List ℕ) (stream : Attribute) (sizes : Sizes) (text : List ℕ) (runs : List Run)
     (layout : Layout) → FitsDisk geometry sectors → IsRead record_0 stream sizes text runs → TellsLayout geometry record_0 layout
@@ -72,8 +83,7 @@ TellsLayout-parts geometry sectors record_0 stream sizes text runs layout fits r
     let bodies : NonResident table.extent table.text ≡ NonResident extent text =
     sym table.body ∙ ap (λ (a : Attribute). a.body) other ∙ body in
     let extents : table.extent ≡ extent = cc in
-    let texts : table.text ≡ text = cc in
-    let means : MeansRuns text layout.runs = subst (λ (t : List ℕ). MeansRuns t layout.runs) texts table.means in
+    let means : MeansRuns text layout.runs = TellsLayout-means geometry record_0 stream text layout read.holds read.text_read tells in
     let lists : layout.runs ≡ runs = MeansFrom-exact text 0 0 layout.runs runs means read.means in
     let size : cluster_bytes layout ≡ geometry.cluster =
     ap (λ (n : ℕ). 512 * n) tells.volume.cluster_sectors ∙ size-whole geometry sectors fits in

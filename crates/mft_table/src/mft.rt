@@ -29,7 +29,7 @@ impl<'d, D: Disk> Mft<'d, D> {
     pub fn resume(stage: Stage<'d, D>, mounted: Mounted) -> Mft<'d, D>
         requires { StandsOn (D.size (disk_of D.Disk stage)) mounted }
         ensures stage { stage_of D.Disk result ≡ stage.entry }
-        ensures mounted { mounted_of D.Disk result ≡ mounted.entry }
+        ensures mounted { mounted_of D.Disk result ≡ mounted }
     {
         Mft { stage, mounted }
     }

@@ -2,17 +2,16 @@
 ghost use Rattle.std.specs.Prelude.{◌≡◌, ◌<◌, ◌≤◌, ◌+◌, ◌*◌, ◌/◌, ◌^◌, ◌↔◌, ℕ, List, All, IfOk, IfSome, IfNone, IsTrue};
 ghost use Rattle.ntfs_def.specs.declared.run_text.Run.{Run};
 ghost use Rattle.ntfs_def.specs.declared.run_text.Spot.TheVariants.{At};
-ghost use Rattle.ntfs_def.specs.Runs.{MeansRuns, spot_of};
+ghost use Rattle.ntfs_def.specs.Runs.{spot_of};
 ghost use Rattle.volume_def.specs.Table.{ArePlaced, FitTable, IsOnVolume, Layout, clusters_in};
 ghost use Rattle.ntfs_boot.specs.Geometry.{FitsDisk};
-ghost use Rattle.data_runs.specs.declared.RunFault.TheVariants.{Memory};
 ghost use Rattle.attr_view.specs.View.{record_of};
 ghost use Rattle.mft_table.specs.Tables.{IsTableOf, TellsLayout};
 
 use crate::BlockReader;
 use crate::find::table_stream;
 use attr_view::{RecordView, Sizes};
-use data_runs::{Run, RunFault, RunList, Spot, decode};
+use data_runs::{Run, RunList, Spot, read_runs};
 use ntfs_boot::Geometry;
 use std::alloc::{AllocError, Global};
 
@@ -42,24 +41,6 @@ impl Table {
             initialized: self.initialized,
             count: self.count,
         }
-    }
-}
-
-fn is_memory(fault: RunFault) -> bool
-    ensures { IsTrue result ↔ fault ≡ Memory }
-{
-    matches!(fault, RunFault::Memory)
-}
-
-// The runs that a text means.
-fn read_runs(alloc: Global, text: &[u8]) -> Result<Option<RunList>, AllocError>
-    ensures some { IfOk result (λ found. IfSome found (MeansRuns text.now)) }
-    ensures none { IfOk result (λ found. IfNone found ((runs : List Run) → ¬ (MeansRuns text.now runs))) }
-{
-    match decode(alloc, text) {
-        Ok(runs) => Ok(Some(runs)),
-        Err(fault) if is_memory(fault) => Err(AllocError),
-        Err(_) => Ok(None),
     }
 }
 

@@ -1,13 +1,25 @@
-use Rattle.std.proofs.Common.{ℕ, List, refl, sym, subst}
+use Rattle.std.proofs.Common.{ℕ, List, refl, sym, subst, ◌∙◌}
 use Rattle.ntfs_def.specs.declared.sizes.Sizes.{Sizes}
 use Rattle.ntfs_def.specs.Runs.{MeansRuns}
+use Rattle.ntfs_def.proofs.RunsInLaws.{means-runs_in, runs_in-means}
 use Rattle.attr_view.specs.View.{attribute_of, record_of}
-use Rattle.mft_table.proofs.TableParts.{Fits, IsRead, TellsLayout-made, TellsLayout-parts}
+use Rattle.mft_table.proofs.TableParts.{Fits, IsRead, TellsLayout-made, TellsLayout-means, TellsLayout-parts}
 use Rattle.mft_table.proofs.table.read_table.Goals as goal
+
+pub returns-in_default-2-clause-none : goal.returns-in_default-2-clause-none
+returns-in_default-2-clause-none c layout tells =
+    let text : List ℕ = c.in-Some-runs.text.now in
+    let means : MeansRuns text layout.runs =
+    TellsLayout-means c.args.geometry.now _ _ text layout c.in-Some.ensures.some c.in-Some-runs.ensures tells in
+    let some = runs_in-means text layout.runs means in
+    let same = c.in_ok-runs.ensures in
+    let none = c.in_default-2.is in
+    cc
 
 pub returns-then-not-is_table-clause-none : goal.returns-then-not-is_table-clause-none
 returns-then-not-is_table-clause-none c layout tells =
-    let means : MeansRuns c.in-Some-runs.text.now c.in-Some-2.runs = rw c.in-Some-2.is at c.in_ok-runs.ensures.some in
+    let means : MeansRuns c.in-Some-runs.text.now c.in-Some-2.runs =
+    means-runs_in c.in-Some-runs.text.now c.in-Some-2.runs (sym c.in_ok-runs.ensures ∙ c.in-Some-2.is) in
     let sizes : Sizes = c.in-Some-sizes.sizes in
     let text : List ℕ = c.in-Some-runs.text.now in
     let read : IsRead (record_of c.args.view.now) (attribute_of c.in-Some.stream) sizes text c.in-Some-2.runs =
@@ -21,7 +33,8 @@ returns-then-not-is_table-clause-none c layout tells =
 
 pub returns-clause-some : goal.returns-clause-some
 returns-clause-some c =
-    let means : MeansRuns c.in-Some-runs.text.now c.in-Some-2.runs = rw c.in-Some-2.is at c.in_ok-runs.ensures.some in
+    let means : MeansRuns c.in-Some-runs.text.now c.in-Some-2.runs =
+    means-runs_in c.in-Some-runs.text.now c.in-Some-2.runs (sym c.in_ok-runs.ensures ∙ c.in-Some-2.is) in
     let sizes : Sizes = c.in-Some-sizes.sizes in
     let text : List ℕ = c.in-Some-runs.text.now in
     let read : IsRead (record_of c.args.view.now) (attribute_of c.in-Some.stream) sizes text c.in-Some-2.runs =
