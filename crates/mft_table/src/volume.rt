@@ -86,6 +86,7 @@ fn find_at<D: Disk>(
 /// where the boot clause holds and the table clause fails; `Device` where the disk failed.
 pub fn find_table<D: Disk>(alloc: Global, stage: &mut Stage<'_, D>) -> Result<Table, TableNo>
     ensures ok { IfOk result (λ table. (all : List ℕ) → image D.Disk stage.old ≡ Some all → HasTableOf all table) }
+    ensures fits { IfOk result (λ table. FitsDisk table.geometry (D.size (disk_of D.Disk stage.old))) }
     ensures lies { IfOk result (λ table. LiesOn (D.size (disk_of D.Disk stage.old)) (layout_of table)) }
     ensures records { IfOk result (λ table. 24 ≤ table.count) }
     ensures err { IfErr result (λ no. (all : List ℕ) → image D.Disk stage.old ≡ Some all → Refuses all no) }
