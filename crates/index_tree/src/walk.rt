@@ -1,5 +1,5 @@
 //! All entries of an index are walked in order.
-ghost use Rattle.std.specs.Prelude.{◌≡◌, ◌≤◌, ◌++◌, ◌∷◌, [], ℕ, IfOk, IfErr, OnOk};
+ghost use Rattle.std.specs.Prelude.{◌≡◌, ◌≤◌, ◌++◌, ◌∷◌, [], IfOk, IfErr, OnOk};
 ghost use Rattle.ntfs_def.specs.IndexTree.{Each};
 ghost use Rattle.ntfs_def.specs.Node.{IsOwnEntry, node_in};
 ghost use Rattle.ntfs_def.specs.Told.{WhereTold};
@@ -17,7 +17,7 @@ use vol_bytes::Octets;
 // Puts the bytes of an entry behind the others.
 fn keep(alloc: Global, entry: &[u8], out: &mut Vec<Octets>) -> Result<(), IndexNo>
     ensures kept { OnOk result (out.new.items ≡ out.old.items ++ entry.now ∷ []) }
-    ensures cause { (before after : ℕ) → IfErr result (ReadRefuses before after) }
+    ensures memory { IfErr result (λ no. no ≡ IndexNo.Memory) }
 {
     let bytes = Vec::from_slice(alloc, entry)?;
     out.push(Octets::from_vec(bytes))?;
