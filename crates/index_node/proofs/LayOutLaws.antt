@@ -26,19 +26,19 @@ range_same old new a b len same =
     let p = length-drop a new in
     let q = length-drop a old in
     same_number_lists (slice_range new a b) (slice_range old a b) (omega (arith, m, n, p, q))
-      (λ k lt.
-        get_or-take (b - a) (drop a new) k 0 (omega (arith, m, lt)) ∙ get_or-drop a new k 0
-        ∙ same (a + k) (omega arith) (omega (arith, m, lt))
-        ∙ sym (get_or-take (b - a) (drop a old) k 0 (omega (arith, m, lt)) ∙ get_or-drop a old k 0))
+    (λ k lt.
+    get_or-take (b - a) (drop a new) k 0 (omega (arith, m, lt)) ∙ get_or-drop a new k 0
+    ∙ same (a + k) (omega arith) (omega (arith, m, lt))
+    ∙ sym (get_or-take (b - a) (drop a old) k 0 (omega (arith, m, lt)) ∙ get_or-drop a old k 0))
 
 pub Holds-same : (old new : List ℕ) (at : ℕ) (pieces : List (List ℕ)) → length new ≡ length old
     → ((k : ℕ) → at ≤ k → k < at + total_len pieces → get_or new k 0 ≡ get_or old k 0) → Holds old at pieces → Holds new at pieces
 Holds-same old new at [] len same holds = tt
 Holds-same old new at (piece ∷ pieces) len same holds =
-  let sum : total_len (piece ∷ pieces) ≡ length piece + total_len pieces = sum_by-cons length piece pieces in (
-  range_same old new at (at + length piece) len (λ k from to. same k from (omega arith)) ∙ holds.0,
-  Holds-same old new (at + length piece) pieces len (λ k from to. same k (omega arith) (omega arith)) holds.1,
-)
+    let sum : total_len (piece ∷ pieces) ≡ length piece + total_len pieces = sum_by-cons length piece pieces in (
+      range_same old new at (at + length piece) len (λ k from to. same k from (omega arith)) ∙ holds.0,
+      Holds-same old new (at + length piece) pieces len (λ k from to. same k (omega arith) (omega arith)) holds.1,
+    )
 
 pub Holds-more : (node : List ℕ) (at place : ℕ) (pieces : List (List ℕ)) (piece : List ℕ) → place ≡ at + total_len pieces → Holds node at pieces → Holds node place (piece ∷ [])
     → Holds node at (pieces ++ piece ∷ [])
@@ -80,11 +80,11 @@ module _ (node entry : List ℕ) (at : ℕ) (is : slice_range node (at) (at + le
       let size = len_same (omega arith) in
       let key = key_same (omega arith) in
       all_five
-        (le-leb (at + 16) end (omega arith))
-        (ap (λ n. n % 8 == 0) size ∙ multiple)
-        (le-leb (16 + key_len node at + child_len children) (entry_len node at) (omega arith))
-        (le-leb (at + entry_len node at) end (omega arith))
-        (ap (λ n. n % 2 == (if children then 1 else 0)) (flags_same (omega arith)) ∙ flag)
+      (le-leb (at + 16) end (omega arith))
+      (ap (λ n. n % 8 == 0) size ∙ multiple)
+      (le-leb (16 + key_len node at + child_len children) (entry_len node at) (omega arith))
+      (le-leb (at + entry_len node at) end (omega arith))
+      (ap (λ n. n % 2 == (if children then 1 else 0)) (flags_same (omega arith)) ∙ flag)
     where
       all_five : {a b c d e : Bool} → a ≡ true → b ≡ true → c ≡ true → d ≡ true → e ≡ true → (a && b && c && d && e) ≡ true
       all_five h i j k l = rw (h, i, j, k, l)
@@ -92,7 +92,6 @@ module _ (node entry : List ℕ) (at : ℕ) (is : slice_range node (at) (at + le
   data_moved : (form : NodeForm) (children : Bool) → 16 ≤ length entry → holds_data form entry children 0 ≡ true → holds_data form node children at ≡ true
   data_moved Names children h holds = refl
   data_moved View children h holds = rw (data_len_same h, data_offset_same h, key_same h, len_same h) holds
-
 
   entry_moved : (form : NodeForm) (children : Bool) (end : ℕ) → IsTrue (is_one_entry form children entry) → at + length entry ≤ end → is_entry form node children end at ≡ true
   unfolding is_entry
@@ -103,9 +102,9 @@ module _ (node entry : List ℕ) (at : ℕ) (is : slice_range node (at) (at + le
       let len : entry_len entry 0 ≡ length entry = search rules in
       let long : 16 ≤ length entry = sixteen (length entry) (search rules) in
       three
-        (whole_moved children end whole len inside)
-        (ap (λ n. n / 2 % 2 == 0) (flags_same long) ∙ more)
-        (data_moved form children long apart)
+      (whole_moved children end whole len inside)
+      (ap (λ n. n / 2 % 2 == 0) (flags_same long) ∙ more)
+      (data_moved form children long apart)
     where
       three : {a b c : Bool} → a ≡ true → b ≡ true → c ≡ true → (a && b && c) ≡ true
       three h i j = rw (h, i, j)
@@ -119,9 +118,9 @@ module _ (node entry : List ℕ) (at : ℕ) (is : slice_range node (at) (at + le
       let len : entry_len entry 0 ≡ length entry = search rules in
       let long : 16 ≤ length entry = sixteen (length entry) (search rules) in
       three
-        (whole_moved children end whole len inside)
-        (ap (λ n. n / 2 % 2 == 1) (flags_same long) ∙ last)
-        (ap (λ n. n == 0) (key_same long) ∙ none)
+      (whole_moved children end whole len inside)
+      (ap (λ n. n / 2 % 2 == 1) (flags_same long) ∙ last)
+      (ap (λ n. n == 0) (key_same long) ∙ none)
     where
       three : {a b c : Bool} → a ≡ true → b ≡ true → c ≡ true → (a && b && c) ≡ true
       three h i j = rw (h, i, j)
@@ -208,7 +207,7 @@ scan_listed form node children end entry (next ∷ entries) (suc most) at few ea
     ∙ ap (λ n. before (entry_at node children at) (scan_from form node children end most (at + n))) (len_same node entry at holds.0 long ∙ facts.0)
     ∙ ap (before (entry_at node children at)) (scan_listed form node children end next entries most (at + length entry) (omega arith) each.1 holds.1 (omega arith))
     ∙ ap (λ e. Whole (with_entry e (node_from children next entries)))
-      (entry_eq (item_moved node entry at holds.0 children end long (entry_whole form node children end at is) facts.0) (child_moved node entry at holds.0 children facts.1 facts.0))
+    (entry_eq (item_moved node entry at holds.0 children end long (entry_whole form node children end at is) facts.0) (child_moved node entry at holds.0 children facts.1 facts.0))
 
 -- The header of a node that is laid out.
 pub node_header-same : (old new : List ℕ) → length new ≡ length old → node_header new ≡ node_header old
@@ -265,10 +264,10 @@ six_facts p1 p2 p3 p4 p5 p6 b1 b2 b3 b4 b5 b6 h =
 right_of : (node : List ℕ) → node_header_failing node ≡ None → IsRight node
 right_of node h =
     let facts = six_facts 0x00 0x00 0x04 (node_header node) (node_header node + 0x04) (node_header node + 0x08)
-          (nat_le (node_header node + 16) (length node))
-          (if is_index_record node then starts_with nat_eq node (codes "INDX") else true)
-          (if is_index_record node then has_array node (first_entry node) else true)
-          (nat_le 16 (first_offset node)) (nat_le (entries_end node) (room_end node)) (nat_le (room_end node) (length node)) h in
+    (nat_le (node_header node + 16) (length node))
+    (if is_index_record node then starts_with nat_eq node (codes "INDX") else true)
+    (if is_index_record node then has_array node (first_entry node) else true)
+    (nat_le 16 (first_offset node)) (nat_le (entries_end node) (room_end node)) (nat_le (room_end node) (length node)) h in
     record { long = facts.0; mark = facts.1; array = facts.2; offset = facts.3; used = facts.4; inside = facts.5 }
 
 -- `mid` has a new header, and `new` has new entries behind it.
@@ -355,12 +354,12 @@ module _ (old mid new : List ℕ) (children : Bool) (end first : ℕ) (sets : Se
       let l = len in
       let o = offset in
       six_right 0x00 0x00 0x04 (node_header new) (node_header new + 0x04) (node_header new + 0x08)
-        (le-leb (node_header new + 16) (length new) (omega arith))
-        (mark_same ∙ is_right.mark)
-        (array_same ∙ is_right.array)
-        (le-leb 16 (first_offset new) (omega arith))
-        (le-leb (entries_end new) (room_end new) (omega arith))
-        (le-leb (room_end new) (length new) (omega arith))
+      (le-leb (node_header new + 16) (length new) (omega arith))
+      (mark_same ∙ is_right.mark)
+      (array_same ∙ is_right.array)
+      (le-leb 16 (first_offset new) (omega arith))
+      (le-leb (entries_end new) (room_end new) (omega arith))
+      (le-leb (room_end new) (length new) (omega arith))
 
   pub laid_keeps : KeepsHeader old new
   laid_keeps =
@@ -388,4 +387,4 @@ module _ (old mid new : List ℕ) (children : Bool) (end first : ℕ) (sets : Se
       let few = few_entries form children entry entries are in
       let l = len in
       ap whole_of (scan_node-is form new children end first (Whole (node_from children entry entries)) laid_right (sym laid_children) (sym laid_end) (at ∙ sym first_same)
-        (scan_listed form new children end entry entries (length new) first (omega arith) are holds (omega arith)))
+      (scan_listed form new children end entry entries (length new) first (omega arith) are holds (omega arith)))

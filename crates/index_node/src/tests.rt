@@ -3,6 +3,7 @@
 
 use super::*;
 use std::test::Fail;
+use vol_bytes::Octets;
 
 // The value of the `$INDEX_ROOT` of the root directory.
 const ROOT: [u8; 56] = [
@@ -13,7 +14,7 @@ const ROOT: [u8; 56] = [
 ];
 
 // The one index record of the root directory; all bytes behind these are zero.
-const RECORD: [u8; 1256] = [
+const RECORD: [u8; 1264] = [
     0x49, 0x4E, 0x44, 0x58, 0x28, 0x00, 0x09, 0x00, 0x00, 0x00, 0x00, 0x00, 0x00, 0x00, 0x00, 0x00,
     0x00, 0x00, 0x00, 0x00, 0x00, 0x00, 0x00, 0x00, 0x28, 0x00, 0x00, 0x00, 0xD0, 0x04, 0x00, 0x00,
     0xE8, 0x0F, 0x00, 0x00, 0x00, 0x00, 0x00, 0x00, 0x03, 0x00, 0xDD, 0x01, 0x00, 0x00, 0x00, 0x00,
@@ -97,7 +98,7 @@ const RECORD: [u8; 1256] = [
 
 fn record() -> [u8; 4096] {
     let mut node = [0; 4096];
-    node[..1256].copy_from_slice(&RECORD);
+    node[..1264].copy_from_slice(&RECORD);
     node
 }
 
@@ -132,6 +133,23 @@ fn root_of_a_directory(rt: HostRuntime) -> Result<(), Fail> {
     Ok(())
 }
 
+// The root again, from its entry and a header with room for it.
+#[test]
+fn root_laid_out(rt: HostRuntime) -> Result<(), Fail> {
+    let mut node = [
+        0x30, 0, 0, 0, 1, 0, 0, 0, 0, 0x10, 0, 0, 1, 0, 0, 0, // the fields of an `$INDEX_ROOT`
+        0x10, 0, 0, 0, 0x10, 0, 0, 0, 0x28, 0, 0, 0, 0, 0, 0, 0, // the index header
+        0, 0, 0, 0, 0, 0, 0, 0, 0, 0, 0, 0, 0, 0, 0, 0, 0, 0, 0, 0, 0, 0, 0, 0,
+    ];
+    let entry = [
+        0, 0, 0, 0, 0, 0, 0, 0, 0x18, 0, 0, 0, 3, 0, 0, 0, 0, 0, 0, 0, 0, 0, 0, 0,
+    ];
+    let entries = [Octets::from_vec(Vec::from_slice(rt.alloc(), &entry)?)];
+    lay_out(&mut node, NodeForm::Names, true, &entries)?;
+    assert_eq!(rt; node.as_slice(), ROOT.as_slice());
+    Ok(())
+}
+
 // Each row sets one byte, and says where the shape fails then.
 #[test]
 fn failing_places(rt: HostRuntime) {
@@ -149,7 +167,9 @@ fn failing_places(rt: HostRuntime) {
     ];
     for (place, byte, at) in rows {
         let mut node = record();
-        node[place] = byte;
+        if let Some(cell) = node.get_mut(place) {
+            *cell = byte;
+        }
         let fault = NodeView::new(&node, NodeForm::Names).err();
         assert_eq!(rt; fault, Some(NodeNo::Shape { at }), "byte {place}");
     }

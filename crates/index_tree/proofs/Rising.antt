@@ -143,27 +143,27 @@ module _ (side : List ℕ → Ordering) (valid : List ℕ → Bool) (nodes : Nod
   pub first_there : (entry : List ℕ) → IsFirstFound side (items_of depth at_place) (Some entry) → IsFirstFound side (spread_items depth s) (Some entry)
   first_there entry h =
       first_after side front (items_of depth at_place ++ behind) (spread_items depth s) (item_in entry) none_front (items_split (items_of depth) s.branches s.last i)
-        (first_before side (items_of depth at_place) behind (items_of depth at_place ++ behind) (item_in entry) refl h)
+      (first_before side (items_of depth at_place) behind (items_of depth at_place ++ behind) (item_in entry) refl h)
 
   -- with none below, the entry at the place is, where it is equal
   pub first_here : hit ≡ true → NoneEqual side (items_of depth at_place) → (x : Item) → ((d : Entry) → x ≡ (get_or n.entries i d).item) → IsFirst side (spread_items depth s) x
   first_here e none x is =
       first_after side front (items_of depth at_place ++ behind) (spread_items depth s) x none_front (items_split (items_of depth) s.branches s.last i)
-        (first_after side (items_of depth at_place) behind (items_of depth at_place ++ behind) x none refl
-          (behind_first side (child_of depth) (items_of depth) s.branches s.last i x
-            (subst (λ h. StartsAt side (drop i (node_of depth s).entries) h) e here_place.there)
-            (subst (λ m. (d : Entry) → x ≡ (get_or m.entries i d).item) (sym index.holds.node) is)))
+      (first_after side (items_of depth at_place) behind (items_of depth at_place ++ behind) x none refl
+      (behind_first side (child_of depth) (items_of depth) s.branches s.last i x
+      (subst (λ h. StartsAt side (drop i (node_of depth s).entries) h) e here_place.there)
+      (subst (λ m. (d : Entry) → x ≡ (get_or m.entries i d).item) (sym index.holds.node) is)))
 
   -- and else there is none
   pub first_none : hit ≡ false → NoneEqual side (items_of depth at_place) → NoneEqual side (spread_items depth s)
   first_none e none =
       let P : Item → Type 0 = λ (y : Item). side y.key ≡ Equal → ⊥ in
       subst (Each P) (sym (items_split (items_of depth) s.branches s.last i))
-        (Each-++ P front (items_of depth at_place ++ behind) none_front
-          (Each-++ P (items_of depth at_place) behind none
-            (Each-map (High side) P (λ y high. greater_not high) behind
-              (behind_high side (child_of depth) (items_of depth) s.branches s.last i index.rises
-                (subst (λ h. StartsAt side (drop i (node_of depth s).entries) h) e here_place.there)))))
+      (Each-++ P front (items_of depth at_place ++ behind) none_front
+      (Each-++ P (items_of depth at_place) behind none
+      (Each-map (High side) P (λ y high. greater_not high) behind
+      (behind_high side (child_of depth) (items_of depth) s.branches s.last i index.rises
+      (subst (λ h. StartsAt side (drop i (node_of depth s).entries) h) e here_place.there)))))
 
   -- the tree at the place rises
   pub rising_below : IsRising side valid nodes depth at_place (child_from n.entries n.last i)
@@ -193,7 +193,7 @@ pub rising_keys : (side : List ℕ → Ordering) (valid : List ℕ → Bool) (no
     → Each (λ (e : Entry). IsTrue (valid e.item.key)) n.entries
 rising_keys side valid nodes depth s n index =
     subst (λ (m : Node). Each (λ (e : Entry). IsTrue (valid e.item.key)) m.entries) index.holds.node
-      (Each-branches (λ (x : Item). IsTrue (valid x.key)) (items_of depth) (child_of depth) s.branches s.last index.keys)
+    (Each-branches (λ (x : Item). IsTrue (valid x.key)) (items_of depth) (child_of depth) s.branches s.last index.keys)
 
 module _ (side : List ℕ → Ordering) (valid : List ℕ → Bool) (nodes : Nodes) where
   pub first_nothing : FindsBelow side valid nodes None None
@@ -243,7 +243,7 @@ module _ (side : List ℕ → Ordering) (valid : List ℕ → Bool) (nodes : Nod
       firsts below h found picks (suc depth) t rising =
           let index = rising_of depth t rising in
           first_of side valid nodes depth t.spread node index i hit place below
-            (h depth (below_at t.spread.branches t.spread.last i) (rising_below side valid nodes depth t.spread node index i hit place)) found picks
+          (h depth (below_at t.spread.branches t.spread.last i) (rising_below side valid nodes depth t.spread node index i hit place)) found picks
 
       pub first_reads : (most before mid after : ℕ) → mid ≤ before + most → CostsBelow most side valid nodes (child_from node.entries node.last i) mid after
           → CostsBelow most side valid nodes (Some vcn) before after
@@ -281,7 +281,7 @@ module _ (side : List ℕ → Ordering) (valid : List ℕ → Bool) (nodes : Nod
       root_firsts below h found picks n r depth s index =
           let all = index_at depth s n r index in
           first_of side valid nodes depth s node all i hit place below
-            (h depth (below_at s.branches s.last i) (rising_below side valid nodes depth s node all i hit place)) found picks
+          (h depth (below_at s.branches s.last i) (rising_below side valid nodes depth s node all i hit place)) found picks
 
       pub root_reads : (most before after : ℕ) → CostsBelow most side valid nodes (child_from node.entries node.last i) before after → Costs most side valid nodes root before after
       root_reads most before after below n r depth s index =

@@ -37,7 +37,7 @@ module _ {T : Type 0} (child : T → Option ℕ) (items : T → List Item) where
   before_more (b ∷ bs) last (suc i) x h is =
       ap (λ ys. items b.below ++ b.item ∷ ys) (before_more bs last i x (omega arith) is)
       ∙ sym (ap (λ ys. ys ++ x ∷ []) (append_assoc (items b.below) (b.item ∷ before_items items bs i) (items (below_at bs last i)))
-        ∙ append_assoc (items b.below) (b.item ∷ (before_items items bs i ++ items (below_at bs last i))) (x ∷ []))
+      ∙ append_assoc (items b.below) (b.item ∷ (before_items items bs i ++ items (below_at bs last i))) (x ∷ []))
 
   before_all : (bs : List (Branch T)) (last : T) (i : ℕ) → i ≡ length bs → before_items items bs i ++ items (below_at bs last i) ≡ branch_items items bs last
   before_all [] last i e = refl
@@ -102,7 +102,7 @@ costs_more most nodes node i within before mid after so_far below depth s holds 
     let b = below depth (below_at s.branches s.last i) (held_below nodes node depth s holds i) in
     let m = times_more (record_count depth) s.branches s.last i (omega arith) in
     let e : before_times (record_count depth) s.branches (i + 1) ≡ before_times (record_count depth) s.branches i + record_count depth (below_at s.branches s.last i) =
-        ap (before_times (record_count depth) s.branches) (add-one i) ∙ m in
+    ap (before_times (record_count depth) s.branches) (add-one i) ∙ m in
     added most _ _ _ before mid after e a b
   where
     added : (most x y z before mid after : ℕ) → z ≡ x + y → mid ≤ before + most * x → after ≤ mid + most * y → after ≤ before + most * z

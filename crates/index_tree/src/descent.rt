@@ -84,7 +84,13 @@ impl<C: Collation> Index<C> {
     /// # Errors
     ///
     /// `Device` only where the disk failed. Never `NoRoom`.
-    pub fn find<B: Blocks>(&self, alloc: Global, blocks: &mut B, root: &[u8], key: &[u8]) -> Result<Option<Octets>, IndexNo>
+    pub fn find<B: Blocks>(
+        &self,
+        alloc: Global,
+        blocks: &mut B,
+        root: &[u8],
+        key: &[u8],
+    ) -> Result<Option<Octets>, IndexNo>
         requires index { WhereTold (B.records blocks.old) (λ r. HasRisingIndex (λ x. C.order (order_of self.now) x key.now)
             (C.valid (order_of self.now)) (nodes_of (form_of self.now) r) (node_in (form_of self.now) root.now)) }
         requires key { IsTrue (C.valid (order_of self.now) key.now) }
@@ -113,7 +119,15 @@ impl<C: Collation> Index<C> {
         let Some((i, hit)) = seek_in(&node, &self.order, key) else {
             return Ok(None);
         };
-        let below = first_below(alloc, blocks, &self.order, self.form, node.child(i), key, LEVELS)?;
+        let below = first_below(
+            alloc,
+            blocks,
+            &self.order,
+            self.form,
+            node.child(i),
+            key,
+            LEVELS,
+        )?;
         or_entry(alloc, &self.order, below, &node, i, hit)
     }
 }

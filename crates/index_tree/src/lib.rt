@@ -5,17 +5,13 @@ ghost use Rattle.std.specs.Prelude.{◌≡◌};
 
 mod descent;
 mod laws;
-
-
 mod seek;
 #[cfg(test)]
 mod tests;
 mod walk;
 
-
 use index_node::{BlockNo, NodeForm};
 pub use laws::{one_walk, ordered_walks};
-
 use std::alloc::{AllocError, AllocFailed};
 use thiserror::Error;
 

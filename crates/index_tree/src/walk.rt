@@ -100,7 +100,14 @@ fn walk_node<B: Blocks>(
         walk_tree(alloc, blocks, node.form(), node.child(i), level, out)?;
         keep(alloc, node.entry(i), out)?;
     }
-    walk_tree(alloc, blocks, node.form(), node.child(node.entries()), level, out)
+    walk_tree(
+        alloc,
+        blocks,
+        node.form(),
+        node.child(node.entries()),
+        level,
+        out,
+    )
 }
 
 impl<C> Index<C> {
@@ -111,7 +118,12 @@ impl<C> Index<C> {
     /// # Errors
     ///
     /// `Device` only where the disk failed. Never `NoRoom`.
-    pub fn walk<B: Blocks>(&self, alloc: Global, blocks: &mut B, root: &[u8]) -> Result<Vec<Octets>, IndexNo>
+    pub fn walk<B: Blocks>(
+        &self,
+        alloc: Global,
+        blocks: &mut B,
+        root: &[u8],
+    ) -> Result<Vec<Octets>, IndexNo>
         requires index { WhereTold (B.records blocks.old) (λ r. HasWalk (nodes_of (form_of self.now) r) (node_in (form_of self.now) root.now)) }
         ensures walked { IfOk result (λ entries. WhereTold (B.records blocks.old) (λ r.
             IsWalk (nodes_of (form_of self.now) r) (node_in (form_of self.now) root.now) entries.items)) }

@@ -15,9 +15,9 @@ returns-then-x-y c =
     let h : c.loop-k.k < length xs = omega (arith, m, c.loop-k-test.true, c.min-k-end.ensures) in
     let i : c.loop-k.k < length ys = omega (arith, n, c.loop-k-test.true, c.min-k-end.ensures) in
     c.cmp.ensures ∙ step_differ xs ys c.loop-k.k c.u16_at-x.result c.u16_at-y.result c.loop-k.invariant h i
-      (get_or-key_units a c.loop-k.k (omega (arith, c.loop-k-test.true, c.min-k-end.ensures)) ∙ sym c.u16_at-x.ensures)
-      (get_or-key_units b c.loop-k.k (omega (arith, c.loop-k-test.true, c.min-k-end.ensures)) ∙ sym c.u16_at-y.ensures)
-      c.if-x-y.true
+    (get_or-key_units a c.loop-k.k (omega (arith, c.loop-k-test.true, c.min-k-end.ensures)) ∙ sym c.u16_at-x.ensures)
+    (get_or-key_units b c.loop-k.k (omega (arith, c.loop-k-test.true, c.min-k-end.ensures)) ∙ sym c.u16_at-y.ensures)
+    c.if-x-y.true
 
 pub loop-k-preserved : goal.loop-k-preserved
 loop-k-preserved c =
@@ -30,9 +30,9 @@ loop-k-preserved c =
     let h : c.loop-k.k < length xs = omega (arith, m, c.loop-k-test.true, c.min-k-end.ensures) in
     let i : c.loop-k.k < length ys = omega (arith, n, c.loop-k-test.true, c.min-k-end.ensures) in
     step_same xs ys c.loop-k.k c.u16_at-x.result c.u16_at-y.result c.loop-k.invariant h i
-      (get_or-key_units a c.loop-k.k (omega (arith, c.loop-k-test.true, c.min-k-end.ensures)) ∙ sym c.u16_at-x.ensures)
-      (get_or-key_units b c.loop-k.k (omega (arith, c.loop-k-test.true, c.min-k-end.ensures)) ∙ sym c.u16_at-y.ensures)
-      c.if-x-y.false
+    (get_or-key_units a c.loop-k.k (omega (arith, c.loop-k-test.true, c.min-k-end.ensures)) ∙ sym c.u16_at-x.ensures)
+    (get_or-key_units b c.loop-k.k (omega (arith, c.loop-k-test.true, c.min-k-end.ensures)) ∙ sym c.u16_at-y.ensures)
+    c.if-x-y.false
 
 pub returns : goal.returns
 returns c =
@@ -43,6 +43,6 @@ returns c =
     let m = length-key_units a in
     let n = length-key_units b in
     c.cmp-2.ensures ∙ step_end xs ys c.loop-k.k _ _ c.loop-k.invariant m n
-      (omega (arith, c.loop-k-test.false, c.loop-k.auto.k-end, c.min-k-end.ensures))
-      (omega (arith, c.loop-k-test.false, c.loop-k.auto.k-end, c.min-k-end.ensures))
-      (λ p q. absurd (omega (arith, p, q, c.loop-k-test.false, c.loop-k.auto.k-end, c.min-k-end.ensures)))
+    (omega (arith, c.loop-k-test.false, c.loop-k.auto.k-end, c.min-k-end.ensures))
+    (omega (arith, c.loop-k-test.false, c.loop-k.auto.k-end, c.min-k-end.ensures))
+    (λ p q. absurd (omega (arith, p, q, c.loop-k-test.false, c.loop-k.auto.k-end, c.min-k-end.ensures)))

@@ -27,4 +27,4 @@ pub returns-clause-own : goal.returns-clause-own
 returns-clause-own c =
     let view = c.args.self.now in
     subst (λ n. IsOwnEntry (slice_range view.node.now c.place-at.result (c.place-at.result + n))) (sym c.u16_at.ensures)
-      (entry-own view.node.now view.children view.end c.place-at.result c.place-at.ensures.whole c.place-at.ensures.inside)
+    (entry-own view.node.now view.children view.end c.place-at.result c.place-at.ensures.whole c.place-at.ensures.inside)

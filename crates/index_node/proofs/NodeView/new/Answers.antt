@@ -23,5 +23,5 @@ unfolding node_of_view
 returns-clause-ok c =
     let right = sym c.header_failing.ensures ∙ c.in_default.is in
     scan_node-is c.args.form c.args.node.now c.has_children-children.result c.entries_end-end.result c.first_entry-first.result _ right c.has_children-children.ensures c.entries_end-end.ensures.place c.first_entry-first.ensures.place
-      (scan-whole c.args.form c.args.node.now c.has_children-children.result c.entries_end-end.result c.in_ok-count.count (length c.args.node.now) c.first_entry-first.result
-        c.in_ok-count.ensures.few c.in_ok-count.ensures.each c.in_ok-count.ensures.last)
+    (scan-whole c.args.form c.args.node.now c.has_children-children.result c.entries_end-end.result c.in_ok-count.count (length c.args.node.now) c.first_entry-first.result
+    c.in_ok-count.ensures.few c.in_ok-count.ensures.each c.in_ok-count.ensures.last)

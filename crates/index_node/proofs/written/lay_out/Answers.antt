@@ -22,7 +22,7 @@ put_header-requires-clause-end c = fits c.first_entry-first.result c.total_len-n
 pub put_entries-requires : goal.put_entries-requires
 put_entries-requires c =
     let room = fits c.first_entry-first.result c.total_len-need.result c.room_end.result c.saturating_sub-free.result _
-          c.if-need-free.false c.saturating_sub-free.ensures c.room_end.ensures.place (some_bytes c.args.form c.args.children c.args.entries.now c.requires.entries c.total_len-need.ensures) in
+    c.if-need-free.false c.saturating_sub-free.ensures c.room_end.ensures.place (some_bytes c.args.form c.args.children c.args.entries.now c.requires.entries c.total_len-need.ensures) in
     omega (arith, room, c.total_len-need.ensures, c.room_end.ensures.inside, c.room_end.ensures.place, c.put_header.ensures.len)
 
 pub returns-clause-ok : goal.returns-clause-ok
@@ -34,9 +34,9 @@ returns-clause-ok c =
     let end = first + c.total_len-need.result in
     let rest : SameOutside mid new first end = subst (λ n. SameOutside mid new first (first + n)) (sym c.total_len-need.ensures) c.put_entries.ensures.rest in
     laid_node old mid new c.args.children end first c.put_header.ensures c.first_entry-first.ensures.place rest c.requires.header (begins first c.total_len-need.result)
-      (fits first c.total_len-need.result c.room_end.result c.saturating_sub-free.result _
-        c.if-need-free.false c.saturating_sub-free.ensures c.room_end.ensures.place (some_bytes c.args.form c.args.children c.args.entries.now c.requires.entries c.total_len-need.ensures))
-      c.args.form c.args.entries.now c.requires.entries c.put_entries.ensures.holds (ap (λ n. first + n) c.total_len-need.ensures)
+    (fits first c.total_len-need.result c.room_end.result c.saturating_sub-free.result _
+    c.if-need-free.false c.saturating_sub-free.ensures c.room_end.ensures.place (some_bytes c.args.form c.args.children c.args.entries.now c.requires.entries c.total_len-need.ensures))
+    c.args.form c.args.entries.now c.requires.entries c.put_entries.ensures.holds (ap (λ n. first + n) c.total_len-need.ensures)
 
 pub returns-clause-end : goal.returns-clause-end
 returns-clause-end c =
@@ -47,8 +47,8 @@ returns-clause-end c =
     let end = first + c.total_len-need.result in
     let rest : SameOutside mid new first end = subst (λ n. SameOutside mid new first (first + n)) (sym c.total_len-need.ensures) c.put_entries.ensures.rest in
     laid_end old mid new c.args.children end first c.put_header.ensures c.first_entry-first.ensures.place rest c.requires.header (begins first c.total_len-need.result)
-      (fits first c.total_len-need.result c.room_end.result c.saturating_sub-free.result _
-        c.if-need-free.false c.saturating_sub-free.ensures c.room_end.ensures.place (some_bytes c.args.form c.args.children c.args.entries.now c.requires.entries c.total_len-need.ensures))
+    (fits first c.total_len-need.result c.room_end.result c.saturating_sub-free.result _
+    c.if-need-free.false c.saturating_sub-free.ensures c.room_end.ensures.place (some_bytes c.args.form c.args.children c.args.entries.now c.requires.entries c.total_len-need.ensures))
     ∙ omega (arith, c.total_len-need.ensures, c.first_entry-first.ensures.place)
 
 pub returns-clause-header : goal.returns-clause-header
@@ -60,5 +60,5 @@ returns-clause-header c =
     let end = first + c.total_len-need.result in
     let rest : SameOutside mid new first end = subst (λ n. SameOutside mid new first (first + n)) (sym c.total_len-need.ensures) c.put_entries.ensures.rest in
     laid_keeps old mid new c.args.children end first c.put_header.ensures c.first_entry-first.ensures.place rest c.requires.header (begins first c.total_len-need.result)
-      (fits first c.total_len-need.result c.room_end.result c.saturating_sub-free.result _
-        c.if-need-free.false c.saturating_sub-free.ensures c.room_end.ensures.place (some_bytes c.args.form c.args.children c.args.entries.now c.requires.entries c.total_len-need.ensures))
+    (fits first c.total_len-need.result c.room_end.result c.saturating_sub-free.result _
+    c.if-need-free.false c.saturating_sub-free.ensures c.room_end.ensures.place (some_bytes c.args.form c.args.children c.args.entries.now c.requires.entries c.total_len-need.ensures))

@@ -22,13 +22,13 @@ loop-entry-preserved c =
     let len = ap length c.as_slice.ensures in
     let len_again = ap length c.as_slice-in-loop-entry.ensures in
     let all_more : take (i + 1) all ≡ take i all ++ entry ∷ [] =
-        ap (λ n. take n all) (add-one i) ∙ take-suc all i entry within ∙ ap (λ x. take i all ++ (x ∷ [])) is in
+    ap (λ n. take n all) (add-one i) ∙ take-suc all i entry within ∙ ap (λ x. take i all ++ (x ∷ [])) is in
     record {
       at = omega (arith, more, size, len_again, c.loop-entry.invariant.at);
       holds = subst (Holds new c.args.first) (sym all_more)
           (Holds-more new c.args.first c.loop-entry.at (take i all) entry c.loop-entry.invariant.at
-            (Holds-same old new c.args.first (take i all) rest.len (λ k from to. rest.below k (omega (arith, to, c.loop-entry.invariant.at))) c.loop-entry.invariant.holds)
-            written);
+          (Holds-same old new c.args.first (take i all) rest.len (λ k from to. rest.below k (omega (arith, to, c.loop-entry.invariant.at))) c.loop-entry.invariant.holds)
+          written);
       rest = record {
         len = rest.len ∙ before.len;
         below = λ k lt. rest.below k (omega (arith, lt, c.loop-entry.invariant.at)) ∙ before.below k lt;

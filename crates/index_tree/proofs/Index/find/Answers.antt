@@ -27,7 +27,7 @@ first_below-requires-clause-tree g c r e =
     let n : Node = node_of_view c.in-Ok.node in
     let is = ap whole_of c.in-Ok.ensures.ok in
     subst (λ x. HasRising side valid nodes x 15) (sym c.child.ensures)
-      (root_has side valid nodes root n is c.in-Some.i c.in-Some.hit c.in-Some.ensures.place (c.requires.index r e))
+    (root_has side valid nodes root n is c.in-Some.i c.in-Some.hit c.in-Some.ensures.place (c.requires.index r e))
 
 pub or_entry-requires-clause-inside : goal.or_entry-requires-clause-inside
 or_entry-requires-clause-inside g c =
@@ -44,7 +44,7 @@ returns-in_err-below-clause-fetched g c r e =
     let n : Node = node_of_view c.in-Ok.node in
     let is = ap whole_of c.in-Ok.ensures.ok in
     root_reads side valid nodes root n is c.in-Some.i c.in-Some.hit c.in-Some.ensures.place 8 _ _
-      (subst (λ b. CostsBelow 8 side valid nodes b (g.B.Blocks.fetched c.args.blocks.now) (g.B.Blocks.fetched c.first_below.new.blocks)) c.child.ensures (c.first_below.ensures.fetched r e))
+    (subst (λ b. CostsBelow 8 side valid nodes b (g.B.Blocks.fetched c.args.blocks.now) (g.B.Blocks.fetched c.first_below.new.blocks)) c.child.ensures (c.first_below.ensures.fetched r e))
 
 pub returns-clause-fetched : goal.returns-clause-fetched
 returns-clause-fetched g c r e =
@@ -55,21 +55,21 @@ returns-clause-fetched g c r e =
     let n : Node = node_of_view c.in-Ok.node in
     let is = ap whole_of c.in-Ok.ensures.ok in
     root_reads side valid nodes root n is c.in-Some.i c.in-Some.hit c.in-Some.ensures.place 8 _ _
-      (subst (λ b. CostsBelow 8 side valid nodes b (g.B.Blocks.fetched c.args.blocks.now) (g.B.Blocks.fetched c.first_below.new.blocks)) c.child.ensures (c.first_below.ensures.fetched r e))
+    (subst (λ b. CostsBelow 8 side valid nodes b (g.B.Blocks.fetched c.args.blocks.now) (g.B.Blocks.fetched c.first_below.new.blocks)) c.child.ensures (c.first_below.ensures.fetched r e))
 
 pub returns-clause-found : goal.returns-clause-found
 returns-clause-found g c =
     IfOk-map c.or_entry.result
-      (λ found picks r e.
-        let side : List ℕ → Ordering = λ x. g.C.Collation.order c.args.self.now.order x c.args.key.now in
-        let valid = g.C.Collation.valid c.args.self.now.order in
-        let nodes = nodes_of c.args.self.now.form r in
-        let root = node_in c.args.self.now.form c.args.root.now in
-        let n : Node = node_of_view c.in-Ok.node in
-        let is = ap whole_of c.in-Ok.ensures.ok in
-        root_firsts side valid nodes root n is c.in-Some.i c.in-Some.hit c.in-Some.ensures.place
-          c.in_ok-below.below (subst (λ b. FindsBelow side valid nodes b c.in_ok-below.below) c.child.ensures (c.in_ok-below.ensures.found r e)) found picks)
-      c.or_entry.ensures.picks
+    (λ found picks r e.
+    let side : List ℕ → Ordering = λ x. g.C.Collation.order c.args.self.now.order x c.args.key.now in
+    let valid = g.C.Collation.valid c.args.self.now.order in
+    let nodes = nodes_of c.args.self.now.form r in
+    let root = node_in c.args.self.now.form c.args.root.now in
+    let n : Node = node_of_view c.in-Ok.node in
+    let is = ap whole_of c.in-Ok.ensures.ok in
+    root_firsts side valid nodes root n is c.in-Some.i c.in-Some.hit c.in-Some.ensures.place
+    c.in_ok-below.below (subst (λ b. FindsBelow side valid nodes b c.in_ok-below.below) c.child.ensures (c.in_ok-below.ensures.found r e)) found picks)
+    c.or_entry.ensures.picks
 
 pub returns-in_err-below-clause-reads : goal.returns-in_err-below-clause-reads
 returns-in_err-below-clause-reads g c r e =
@@ -80,8 +80,7 @@ returns-in_err-below-clause-reads g c r e =
     let n : Node = node_of_view c.in-Ok.node in
     let is = ap whole_of c.in-Ok.ensures.ok in
     root_reads side valid nodes root n is c.in-Some.i c.in-Some.hit c.in-Some.ensures.place 1 _ _
-      (subst (λ b. CostsBelow 1 side valid nodes b (g.B.Blocks.reads c.args.blocks.now) (g.B.Blocks.reads c.first_below.new.blocks)) c.child.ensures (c.first_below.ensures.reads r e))
-
+    (subst (λ b. CostsBelow 1 side valid nodes b (g.B.Blocks.reads c.args.blocks.now) (g.B.Blocks.reads c.first_below.new.blocks)) c.child.ensures (c.first_below.ensures.reads r e))
 
 pub returns-clause-reads : goal.returns-clause-reads
 returns-clause-reads g c r e =
@@ -92,7 +91,7 @@ returns-clause-reads g c r e =
     let n : Node = node_of_view c.in-Ok.node in
     let is = ap whole_of c.in-Ok.ensures.ok in
     root_reads side valid nodes root n is c.in-Some.i c.in-Some.hit c.in-Some.ensures.place 1 _ _
-      (subst (λ b. CostsBelow 1 side valid nodes b (g.B.Blocks.reads c.args.blocks.now) (g.B.Blocks.reads c.first_below.new.blocks)) c.child.ensures (c.first_below.ensures.reads r e))
+    (subst (λ b. CostsBelow 1 side valid nodes b (g.B.Blocks.reads c.args.blocks.now) (g.B.Blocks.reads c.first_below.new.blocks)) c.child.ensures (c.first_below.ensures.reads r e))
 
 pub returns-clause-cause : goal.returns-clause-cause
 returns-clause-cause g c = c.or_entry.ensures.cause _ _

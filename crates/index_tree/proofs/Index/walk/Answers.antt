@@ -21,5 +21,5 @@ returns-clause-walked g c r e =
     let n : Node = node_of_view c.in-Ok.node in
     let entries = c.walk_node.new.out.items in
     root_walk (nodes_of form r) (node_in form c.args.root.now) n (ap whole_of c.in-Ok.ensures.ok) entries
-      (subst (λ first. WalksNode (nodes_of form r) n first entries) c.new-out.ensures.items
-        (subst (λ k. WalksNode (nodes_of k r) n c.new-out.result.items entries) c.in-Ok.ensures.form (c.in_ok-walk_node.ensures.walked r e)))
+    (subst (λ first. WalksNode (nodes_of form r) n first entries) c.new-out.ensures.items
+    (subst (λ k. WalksNode (nodes_of k r) n c.new-out.result.items entries) c.in-Ok.ensures.form (c.in_ok-walk_node.ensures.walked r e)))

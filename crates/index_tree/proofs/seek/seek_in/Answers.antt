@@ -39,8 +39,8 @@ returns-then-not-is_valid-clause-place g c each =
     let xs = (node_of_view c.args.node.now).entries in
     let h : c.loop-i.i < length xs = omega (arith, c.loop-i-test.true, c.entries-i-end.ensures) in
     let is : IsTrue (g.C.Collation.valid c.args.order.now c.key-entry.result.now) =
-        subst (λ k. IsTrue (g.C.Collation.valid c.args.order.now k)) (sym (c.key-entry.ensures bare))
-          (each_at (λ (e : Entry). IsTrue (g.C.Collation.valid c.args.order.now e.item.key)) xs c.loop-i.i bare h each) in
+    subst (λ k. IsTrue (g.C.Collation.valid c.args.order.now k)) (sym (c.key-entry.ensures bare))
+    (each_at (λ (e : Entry). IsTrue (g.C.Collation.valid c.args.order.now e.item.key)) xs c.loop-i.i bare h each) in
     let e = c.is_valid.ensures in
     let n = c.if-not-is_valid.true in
     grind (arith, common_steps)
@@ -73,7 +73,7 @@ loop-i-preserved g c =
     let h : c.loop-i.i < length xs = omega (arith, c.loop-i-test.true, c.entries-i-end.ensures) in
     let side : List ℕ → Ordering = λ x. g.C.Collation.order c.args.order.now x c.args.key.now in
     each_take (λ (e : Entry). side e.item.key ≡ Less) xs c.loop-i.i bare h c.loop-i.invariant
-      (ap side (sym (c.key-entry.ensures bare)) ∙ sym c.compare.ensures ∙ c.in-Less.is)
+    (ap side (sym (c.key-entry.ensures bare)) ∙ sym c.compare.ensures ∙ c.in-Less.is)
 
 pub returns-in-Equal-clause-key : goal.returns-in-Equal-clause-key
 returns-in-Equal-clause-key g c hit d =
