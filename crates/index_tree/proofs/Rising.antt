@@ -8,7 +8,7 @@ use Rattle.index_node.specs.declared.NodeNo.TheVariants.{Shape, Full}
 use Rattle.index_node.specs.View.{Refuses}
 use Rattle.ntfs_def.specs.Node.{Item, Entry, Node, Whole, scan_node, child_from, item_in, node_in, whole_of}
 use Rattle.ntfs_def.specs.declared.index.NodeForm.{NodeForm}
-use Rattle.ntfs_def.specs.IndexTree.{Nodes, Branch, Spread, Tree, Each, branch_items, items_of, times_in, child_of, node_of, IsStored, IsHeld, spread_items, spread_times}
+use Rattle.ntfs_def.specs.IndexTree.{Nodes, Branch, Spread, Tree, Each, branch_items, items_of, times_in, child_of, node_of, IsStored, spread_items}
 use Rattle.index_tree.specs.Search.{nodes_of, IsPlace, StartsAt, IsBefore, Rises, IsRising, HasRising, IsRisingIndex, HasRisingIndex, NoneEqual, IsFirst, IsFirstFound, FindsBelow, CostsBelow, Finds, Costs, Picks}
 use Rattle.ntfs_def.proofs.IndexTreeLaws.{some_same, none_other, below_at, before_items, behind_items, items_split, times_split, EachBelow-at, Each-branches, child_below, branch_entry, Each-++, Each-left, Each-right, Each-mid, Each-map}
 use Rattle.std.specs.Option.{option_and_then}
@@ -27,10 +27,12 @@ some_record form records vcn h = go (records vcn) refl
     go None e = absurd (is_none (nodes_of form records vcn) (ap (option_and_then (node_in form)) e) h)
     go (Some bytes) e = subst IsSome (sym e) refl
 
-pub read_node : (form : NodeForm) (records : ℕ → Option (List ℕ)) (vcn : ℕ) (bytes : List ℕ) (node : Node) → records vcn ≡ Some bytes → scan_node form bytes ≡ Whole node → nodes_of form records vcn ≡ Some node
+pub read_node : (form : NodeForm) (records : ℕ → Option (List ℕ)) (vcn : ℕ) (bytes : List ℕ) (node : Node) → records vcn ≡ Some bytes
+    → scan_node form bytes ≡ Whole node → nodes_of form records vcn ≡ Some node
 read_node form records vcn bytes node e h = ap (option_and_then (node_in form)) e ∙ ap whole_of h
 
-pub not_refused : (form : NodeForm) (records : ℕ → Option (List ℕ)) (vcn : ℕ) (bytes : List ℕ) → records vcn ≡ Some bytes → (no : NodeNo) → Refuses form bytes no → IsSome (nodes_of form records vcn) → ⊥
+pub not_refused : (form : NodeForm) (records : ℕ → Option (List ℕ)) (vcn : ℕ) (bytes : List ℕ) → records vcn ≡ Some bytes
+    → (no : NodeNo) → Refuses form bytes no → IsSome (nodes_of form records vcn) → ⊥
 not_refused form records vcn bytes e (Shape at) h some =
     let f : nodes_of form records vcn ≡ None = ap (option_and_then (node_in form)) e ∙ ap whole_of h in
     is_none (nodes_of form records vcn) f some
@@ -95,15 +97,24 @@ module _ (side : List ℕ → Ordering) where
 
   -- where the entry at a place is equal, it stands behind the tree there
   behind_first : {T : Type 0} (child : T → Option ℕ) (items : T → List Item) (bs : List (Branch T)) (last : T) (i : ℕ) (x : Item)
-      → StartsAt side (drop i (map (branch_entry child) bs)) true → ((d : Entry) → x ≡ (get_or (map (branch_entry child) bs) i d).item) → IsFirst side (behind_items items bs last i) x
+      → StartsAt side (drop i (map (branch_entry child) bs)) true → ((d : Entry) → x ≡ (get_or (map (branch_entry child) bs) i d).item)
+      → IsFirst side (behind_items items bs last i) x
   behind_first child items [] last zero x h is = let e : true ≡ false = h in cc
   behind_first child items [] last (suc i) x h is = let e : true ≡ false = h in cc
   behind_first child items (b ∷ bs) last zero x h is =
       let e : x ≡ b.item = is (record { item = x; child = None }) in
-      record { front = []; back = branch_items items bs last; whole = ap (λ y. y ∷ branch_items items bs last) (sym e); equal = ap (λ (y : Item). side y.key) e ∙ h; first = tt }
+      record {
+        front = [];
+        back = branch_items items bs last;
+        whole = ap (λ y. y ∷ branch_items items bs last) (sym e);
+        equal = ap (λ
+            (y : Item). side y.key) e ∙ h;
+        first = tt;
+      }
   behind_first child items (b ∷ bs) last (suc i) x h is = behind_first child items bs last i x h is
 
-  first_after : (front items all : List Item) (x : Item) → NoneEqual side front → all ≡ front ++ items → IsFirst side items x → IsFirst side all x
+  first_after : (front items all : List Item) (x : Item) → NoneEqual side front → all ≡ front ++ items → IsFirst side items x
+      → IsFirst side all x
   first_after front items all x none e h = record {
     front = front ++ h.front;
     back = h.back;
@@ -121,7 +132,8 @@ module _ (side : List ℕ → Ordering) where
     first = h.first;
   }
 
-module _ (side : List ℕ → Ordering) (valid : List ℕ → Bool) (nodes : Nodes) (depth : ℕ) (s : Spread (Tree depth)) (n : Node) (index : IsRisingIndex side valid nodes depth s n)
+module _ (side : List ℕ → Ordering) (valid : List ℕ
+    → Bool) (nodes : Nodes) (depth : ℕ) (s : Spread (Tree depth)) (n : Node) (index : IsRisingIndex side valid nodes depth s n)
     (i : ℕ) (hit : Bool) (place : IsPlace side n.entries i hit) where
   here_place : IsPlace side (node_of depth s).entries i hit
   here_place = subst (λ m. IsPlace side m.entries i hit) (sym index.holds.node) place
@@ -140,15 +152,19 @@ module _ (side : List ℕ → Ordering) (valid : List ℕ → Bool) (nodes : Nod
       (before_low side (child_of depth) (items_of depth) s.branches s.last i index.rises here_place.before)
 
   -- the first below the place is the first of all
-  pub first_there : (entry : List ℕ) → IsFirstFound side (items_of depth at_place) (Some entry) → IsFirstFound side (spread_items depth s) (Some entry)
+  pub first_there : (entry : List ℕ) → IsFirstFound side (items_of depth at_place) (Some entry)
+      → IsFirstFound side (spread_items depth s) (Some entry)
   first_there entry h =
-      first_after side front (items_of depth at_place ++ behind) (spread_items depth s) (item_in entry) none_front (items_split (items_of depth) s.branches s.last i)
+      first_after side front (items_of depth at_place ++ behind) (spread_items depth s) (item_in entry) none_front (items_split
+      (items_of depth) s.branches s.last i)
       (first_before side (items_of depth at_place) behind (items_of depth at_place ++ behind) (item_in entry) refl h)
 
   -- with none below, the entry at the place is, where it is equal
-  pub first_here : hit ≡ true → NoneEqual side (items_of depth at_place) → (x : Item) → ((d : Entry) → x ≡ (get_or n.entries i d).item) → IsFirst side (spread_items depth s) x
+  pub first_here : hit ≡ true → NoneEqual side (items_of depth at_place) → (x : Item) → ((d : Entry) → x ≡ (get_or n.entries i d).item)
+      → IsFirst side (spread_items depth s) x
   first_here e none x is =
-      first_after side front (items_of depth at_place ++ behind) (spread_items depth s) x none_front (items_split (items_of depth) s.branches s.last i)
+      first_after side front (items_of depth at_place ++ behind) (spread_items depth s) x none_front (items_split
+      (items_of depth) s.branches s.last i)
       (first_after side (items_of depth at_place) behind (items_of depth at_place ++ behind) x none refl
       (behind_first side (child_of depth) (items_of depth) s.branches s.last i x
       (subst (λ h. StartsAt side (drop i (node_of depth s).entries) h) e here_place.there)
@@ -175,12 +191,15 @@ module _ (side : List ℕ → Ordering) (valid : List ℕ → Bool) (nodes : Nod
           stored = EachBelow-at (IsStored nodes depth) s.branches s.last i index.holds.stored;
           once = λ p. let a = index.holds.once p in let b = times_split (times_in p depth) s.branches s.last i in omega arith;
         };
-        keys = Each-left P (items_of depth at_place) behind (Each-right P front (items_of depth at_place ++ behind) (subst (Each P) (items_split (items_of depth) s.branches s.last i) index.keys));
-        rises = Rises-left side (items_of depth at_place) behind (Rises-right side front (items_of depth at_place ++ behind) (subst (Rises side) (items_split (items_of depth) s.branches s.last i) index.rises));
+        keys = Each-left P (items_of depth at_place) behind (Each-right P front (items_of depth at_place ++ behind) (subst (Each P)
+            (items_split (items_of depth) s.branches s.last i) index.keys));
+        rises = Rises-left side (items_of depth at_place) behind (Rises-right side front (items_of depth at_place ++ behind) (subst
+            (Rises side) (items_split (items_of depth) s.branches s.last i) index.rises));
       }
 
   -- what the descent answers, by what it found below
-  pub first_of : (below : Option (List ℕ)) → IsFirstFound side (items_of depth at_place) below → (found : Option (List ℕ)) → Picks below hit n.entries i found → IsFirstFound side (spread_items depth s) found
+  pub first_of : (below : Option (List ℕ)) → IsFirstFound side (items_of depth at_place) below → (found : Option (List ℕ))
+      → Picks below hit n.entries i found → IsFirstFound side (spread_items depth s) found
   first_of (Some entry) h found picks = subst (IsFirstFound side (spread_items depth s)) (sym picks) (first_there entry h)
   first_of None h found picks = go hit refl found picks
     where
@@ -189,7 +208,8 @@ module _ (side : List ℕ → Ordering) (valid : List ℕ → Bool) (nodes : Nod
       go true e None p = absurd p
       go false e o p = subst (IsFirstFound side (spread_items depth s)) (sym p) (first_none e h)
 
-pub rising_keys : (side : List ℕ → Ordering) (valid : List ℕ → Bool) (nodes : Nodes) (depth : ℕ) (s : Spread (Tree depth)) (n : Node) → IsRisingIndex side valid nodes depth s n
+pub rising_keys : (side : List ℕ → Ordering) (valid : List ℕ → Bool) (nodes : Nodes) (depth : ℕ) (s : Spread (Tree depth)) (n : Node)
+    → IsRisingIndex side valid nodes depth s n
     → Each (λ (e : Entry). IsTrue (valid e.item.key)) n.entries
 rising_keys side valid nodes depth s n index =
     subst (λ (m : Node). Each (λ (e : Entry). IsTrue (valid e.item.key)) m.entries) index.holds.node
@@ -218,7 +238,8 @@ module _ (side : List ℕ → Ordering) (valid : List ℕ → Bool) (nodes : Nod
   rising_level_not vcn level h e = let l = rising_level vcn level h in omega arith
 
   module _ (vcn : ℕ) (node : Node) (read : nodes vcn ≡ Some node) where
-    rising_of : (depth : ℕ) (t : Tree (suc depth)) → IsRising side valid nodes (suc depth) t (Some vcn) → IsRisingIndex side valid nodes depth t.spread node
+    rising_of : (depth : ℕ) (t : Tree (suc depth)) → IsRising side valid nodes (suc depth) t (Some vcn)
+        → IsRisingIndex side valid nodes depth t.spread node
     rising_of depth t rising = record {
       holds = record {
         node = some_same (sym rising.held.stored.0 ∙ ap nodes (some_same rising.held.at) ∙ read);
@@ -229,32 +250,40 @@ module _ (side : List ℕ → Ordering) (valid : List ℕ → Bool) (nodes : Nod
       rises = rising.rises;
     }
 
-    pub keys_there : (level : ℕ) → HasRising side valid nodes (Some vcn) level → Each (λ (e : Entry). IsTrue (valid e.item.key)) node.entries
+    pub keys_there : (level : ℕ) → HasRising side valid nodes (Some vcn) level
+        → Each (λ (e : Entry). IsTrue (valid e.item.key)) node.entries
     keys_there level h = go h.depth h.tree h.rising
       where
-        go : (depth : ℕ) (t : Tree depth) → IsRising side valid nodes depth t (Some vcn) → Each (λ (e : Entry). IsTrue (valid e.item.key)) node.entries
+        go : (depth : ℕ) (t : Tree depth) → IsRising side valid nodes depth t (Some vcn)
+            → Each (λ (e : Entry). IsTrue (valid e.item.key)) node.entries
         go zero t rising = absurd (none_other rising.held.at)
         go (suc depth) t rising = rising_keys side valid nodes depth t.spread node (rising_of depth t rising)
 
     module _ (i : ℕ) (hit : Bool) (place : IsPlace side node.entries i hit) where
-      pub firsts : (below : Option (List ℕ)) → FindsBelow side valid nodes (child_from node.entries node.last i) below → (found : Option (List ℕ)) → Picks below hit node.entries i found
+      pub firsts : (below : Option (List ℕ)) → FindsBelow side valid nodes (child_from node.entries node.last i) below
+          → (found : Option (List ℕ)) → Picks below hit node.entries i found
           → FindsBelow side valid nodes (Some vcn) found
       firsts below h found picks zero t rising = absurd (none_other rising.held.at)
       firsts below h found picks (suc depth) t rising =
           let index = rising_of depth t rising in
           first_of side valid nodes depth t.spread node index i hit place below
-          (h depth (below_at t.spread.branches t.spread.last i) (rising_below side valid nodes depth t.spread node index i hit place)) found picks
+          (h depth (below_at t.spread.branches t.spread.last i)
+          (rising_below side valid nodes depth t.spread node index i hit place)) found picks
 
-      pub first_reads : (most before mid after : ℕ) → mid ≤ before + most → CostsBelow most side valid nodes (child_from node.entries node.last i) mid after
+      pub first_reads : (most before mid after : ℕ) → mid ≤ before + most
+          → CostsBelow most side valid nodes (child_from node.entries node.last i) mid after
           → CostsBelow most side valid nodes (Some vcn) before after
       first_reads most before mid after e below zero t rising = absurd (none_other rising.held.at)
       first_reads most before mid after e below (suc depth) t rising =
-          let a : after ≤ mid + most * depth = below depth (below_at t.spread.branches t.spread.last i) (rising_below side valid nodes depth t.spread node (rising_of depth t rising) i hit place) in omega arith
+          let a : after ≤ mid + most * depth = below depth (below_at t.spread.branches t.spread.last i)
+          (rising_below side valid nodes depth t.spread node (rising_of depth t rising) i hit place) in omega arith
 
-      pub has_rising : (level : ℕ) → HasRising side valid nodes (Some vcn) level → HasRising side valid nodes (child_from node.entries node.last i) (level - 1)
+      pub has_rising : (level : ℕ) → HasRising side valid nodes (Some vcn) level
+          → HasRising side valid nodes (child_from node.entries node.last i) (level - 1)
       has_rising level h = go h.depth h.small h.tree h.rising
         where
-          go : (depth : ℕ) → depth ≤ level → (t : Tree depth) → IsRising side valid nodes depth t (Some vcn) → HasRising side valid nodes (child_from node.entries node.last i) (level - 1)
+          go : (depth : ℕ) → depth ≤ level → (t : Tree depth) → IsRising side valid nodes depth t (Some vcn)
+              → HasRising side valid nodes (child_from node.entries node.last i) (level - 1)
           go zero small t rising = absurd (none_other rising.held.at)
           go (suc depth) small t rising = record {
             depth = depth;
@@ -269,21 +298,24 @@ module _ (side : List ℕ → Ordering) (valid : List ℕ → Bool) (nodes : Nod
 
   -- The same from a root.
   module _ (root : Option Node) (node : Node) (is : root ≡ Some node) where
-    index_at : (depth : ℕ) (s : Spread (Tree depth)) (n : Node) → root ≡ Some n → IsRisingIndex side valid nodes depth s n → IsRisingIndex side valid nodes depth s node
+    index_at : (depth : ℕ) (s : Spread (Tree depth)) (n : Node) → root ≡ Some n → IsRisingIndex side valid nodes depth s n
+        → IsRisingIndex side valid nodes depth s node
     index_at depth s n e index = subst (IsRisingIndex side valid nodes depth s) (some_same (sym e ∙ is)) index
 
     pub root_keys : HasRisingIndex side valid nodes root → Each (λ (e : Entry). IsTrue (valid e.item.key)) node.entries
     root_keys h = rising_keys side valid nodes h.depth h.s node (index_at h.depth h.s h.node h.is h.index)
 
     module _ (i : ℕ) (hit : Bool) (place : IsPlace side node.entries i hit) where
-      pub root_firsts : (below : Option (List ℕ)) → FindsBelow side valid nodes (child_from node.entries node.last i) below → (found : Option (List ℕ)) → Picks below hit node.entries i found
+      pub root_firsts : (below : Option (List ℕ)) → FindsBelow side valid nodes (child_from node.entries node.last i) below
+          → (found : Option (List ℕ)) → Picks below hit node.entries i found
           → Finds side valid nodes root found
       root_firsts below h found picks n r depth s index =
           let all = index_at depth s n r index in
           first_of side valid nodes depth s node all i hit place below
           (h depth (below_at s.branches s.last i) (rising_below side valid nodes depth s node all i hit place)) found picks
 
-      pub root_reads : (most before after : ℕ) → CostsBelow most side valid nodes (child_from node.entries node.last i) before after → Costs most side valid nodes root before after
+      pub root_reads : (most before after : ℕ) → CostsBelow most side valid nodes (child_from node.entries node.last i) before after
+          → Costs most side valid nodes root before after
       root_reads most before after below n r depth s index =
           below depth (below_at s.branches s.last i) (rising_below side valid nodes depth s node (index_at depth s n r index) i hit place)
 
@@ -295,12 +327,14 @@ module _ (side : List ℕ → Ordering) (valid : List ℕ → Bool) (nodes : Nod
         rising = rising_below side valid nodes h.depth h.s node (index_at h.depth h.s h.node h.is h.index) i hit place;
       }
 
-  pub root_bad : (form : NodeForm) (root : List ℕ) → HasRisingIndex side valid nodes (node_in form root) → (no : NodeNo) → Refuses form root no → ⊥
+  pub root_bad : (form : NodeForm) (root : List ℕ) → HasRisingIndex side valid nodes (node_in form root) → (no : NodeNo)
+      → Refuses form root no → ⊥
   root_bad form root h (Shape at) bad = none_other (sym (ap whole_of bad) ∙ h.is)
   root_bad form root h (Full need free) bad = absurd bad
 
 -- a hit is at an entry
-pub hit_inside : (side : List ℕ → Ordering) (entries : List Entry) (i : ℕ) (hit : Bool) → IsPlace side entries i hit → hit ≡ true → i < length entries
+pub hit_inside : (side : List ℕ → Ordering) (entries : List Entry) (i : ℕ) (hit : Bool) → IsPlace side entries i hit → hit ≡ true
+    → i < length entries
 hit_inside side entries i hit place e = go entries i (subst (λ h. StartsAt side (drop i entries) h) e place.there)
   where
     go : (xs : List Entry) (i : ℕ) → StartsAt side (drop i xs) true → i < length xs

@@ -5,7 +5,7 @@ use Rattle.std.specs.declared.cmp.Ordering.TheVariants.{Less, Equal, Greater}
 use Rattle.std.specs.Ordering.{ordering_reverse}
 use Rattle.std.specs.Cmp.{IsTotalOrder}
 use Rattle.ntfs_def.specs.Node.{Item}
-use Rattle.ntfs_def.specs.IndexTree.{Each, Ascends}
+use Rattle.ntfs_def.specs.IndexTree.{Ascends}
 use Rattle.index_tree.specs.Search.{IsBefore, Rises}
 use Rattle.ntfs_def.proofs.IndexTreeLaws.{Each-map}
 
@@ -27,10 +27,12 @@ module _ (order : List ℕ → List ℕ → Ordering) (laws : IsTotalOrder order
       }
       go Greater e = absurd (ne e)
 
-  pub rises_of : (fine : List ℕ → List ℕ → Ordering) → ((x y : List ℕ) → fine x y ≡ Less → order x y ≢ Greater) → (key : List ℕ) (xs : List Item) → Ascends fine xs → Rises (λ x. order x key) xs
+  pub rises_of : (fine : List ℕ → List ℕ → Ordering) → ((x y : List ℕ) → fine x y ≡ Less → order x y ≢ Greater)
+      → (key : List ℕ) (xs : List Item) → Ascends fine xs → Rises (λ x. order x key) xs
   rises_of fine agree key [] h = tt
   rises_of fine agree key (x ∷ xs) h = (
-    Each-map (λ (y : Item). fine x.key y.key ≡ Less) (λ (y : Item). IsBefore (order x.key key) (order y.key key)) (λ y e. before_of x.key y.key key (agree x.key y.key e)) xs h.0,
+    Each-map (λ (y : Item). fine x.key y.key ≡ Less) (λ (y : Item). IsBefore (order x.key key) (order y.key key))
+        (λ y e. before_of x.key y.key key (agree x.key y.key e)) xs h.0,
     rises_of fine agree key xs h.1,
   )
 

@@ -25,13 +25,15 @@ Rises side [] = Unit {0}
 Rises side (x ∷ xs) = Each (λ (y : Item). IsBefore (side x.key) (side y.key)) xs × Rises side xs
 
 -- A tree under `child` with valid keys, in this order.
-pub record IsRising (side : List ℕ → Ordering) (valid : List ℕ → Bool) (nodes : Nodes) (depth : ℕ) (tree : Tree depth) (child : Option ℕ) : Type 0 where
+pub record IsRising (side : List ℕ → Ordering) (valid : List ℕ
+    → Bool) (nodes : Nodes) (depth : ℕ) (tree : Tree depth) (child : Option ℕ) : Type 0 where
   pub held : IsHeld nodes depth tree child
   pub keys : Each (λ (x : Item). IsTrue (valid x.key)) (items_of depth tree)
   pub rises : Rises side (items_of depth tree)
 
 -- the same of what stands under a root that says this node
-pub record IsRisingIndex (side : List ℕ → Ordering) (valid : List ℕ → Bool) (nodes : Nodes) (depth : ℕ) (s : Spread (Tree depth)) (root : Node) : Type 0 where
+pub record IsRisingIndex (side : List ℕ → Ordering) (valid : List ℕ
+    → Bool) (nodes : Nodes) (depth : ℕ) (s : Spread (Tree depth)) (root : Node) : Type 0 where
   pub holds : HoldsIndex nodes root depth s
   pub keys : Each (λ (x : Item). IsTrue (valid x.key)) (spread_items depth s)
   pub rises : Rises side (spread_items depth s)

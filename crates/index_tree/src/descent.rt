@@ -99,9 +99,11 @@ impl<C: Collation> Index<C> {
         ensures keyed { IfOk result (λ found. IfSome found (IsKeyed (C.valid (order_of self.now)))) }
 
         ensures reads { WhereTold (B.records blocks.old) (λ r. Costs 1 (λ x. C.order (order_of self.now) x key.now)
-            (C.valid (order_of self.now)) (nodes_of (form_of self.now) r) (node_in (form_of self.now) root.now) (B.reads blocks.old) (B.reads blocks.new)) }
+            (C.valid (order_of self.now)) (nodes_of (form_of self.now) r) (node_in (form_of self.now) root.now)
+            (B.reads blocks.old) (B.reads blocks.new)) }
         ensures fetched { WhereTold (B.records blocks.old) (λ r. Costs 8 (λ x. C.order (order_of self.now) x key.now)
-            (C.valid (order_of self.now)) (nodes_of (form_of self.now) r) (node_in (form_of self.now) root.now) (B.fetched blocks.old) (B.fetched blocks.new)) }
+            (C.valid (order_of self.now)) (nodes_of (form_of self.now) r) (node_in (form_of self.now) root.now)
+            (B.fetched blocks.old) (B.fetched blocks.new)) }
 
         ensures records { B.records blocks.new ≡ B.records blocks.old }
         ensures volume { B.volume blocks.new ≡ B.volume blocks.old }

@@ -9,12 +9,16 @@ ghost use Rattle.index_tree.specs.Search.{Rises};
 
 /// An index has one walk and one depth, whatever trees its records hold.
 pub fn one_walk()
-    ensures items { (nodes : Nodes) (root : Node) (items others : List Item) → Walks nodes root items → Walks nodes root others → items ≡ others }
-    ensures depth { (nodes : Nodes) (root : Node) (d e : ℕ) (s : Spread (Tree d)) (t : Spread (Tree e)) → HoldsIndex nodes root d s → HoldsIndex nodes root e t → d ≡ e }
+    ensures items { (nodes : Nodes) (root : Node) (items others : List Item)
+        → Walks nodes root items → Walks nodes root others → items ≡ others }
+    ensures depth { (nodes : Nodes) (root : Node) (d e : ℕ) (s : Spread (Tree d)) (t : Spread (Tree e))
+        → HoldsIndex nodes root d s → HoldsIndex nodes root e t → d ≡ e }
 {}
 
 /// Keys that ascend are in order as a search needs them. Names that ascend are so for their folded units too.
 pub fn ordered_walks()
-    ensures ascending { (order : List ℕ → List ℕ → Ordering) → IsTotalOrder order → (key : List ℕ) (items : List Item) → Ascends order items → Rises (λ x. order x key) items }
-    ensures folded { (fold : ℕ → ℕ) (key : List ℕ) (items : List Item) → Ascends (name_order fold) items → Rises (λ x. fold_order fold x key) items }
+    ensures ascending { (order : List ℕ → List ℕ → Ordering) → IsTotalOrder order
+        → (key : List ℕ) (items : List Item) → Ascends order items → Rises (λ x. order x key) items }
+    ensures folded { (fold : ℕ → ℕ) (key : List ℕ) (items : List Item)
+        → Ascends (name_order fold) items → Rises (λ x. fold_order fold x key) items }
 {}

@@ -35,7 +35,8 @@ fn walk_tree<B: Blocks>(
     out: &mut Vec<Octets>,
 ) -> Result<(), IndexNo>
     requires tree { WhereTold (B.records blocks.old) (λ r. HasTree (nodes_of form r) child level) }
-    ensures walked { OnOk result (WhereTold (B.records blocks.old) (λ r. WalksTree (nodes_of form r) child out.old.items out.new.items)) }
+    ensures walked { OnOk result (WhereTold (B.records blocks.old) (λ r.
+        WalksTree (nodes_of form r) child out.old.items out.new.items)) }
     ensures own { OnOk result (Each IsOwnEntry out.old.items → Each IsOwnEntry out.new.items) }
 
     ensures reads { OnOk result (WhereTold (B.records blocks.old) (λ r.
@@ -76,7 +77,8 @@ fn walk_node<B: Blocks>(
     level: usize,
     out: &mut Vec<Octets>,
 ) -> Result<(), IndexNo>
-    requires spread { WhereTold (B.records blocks.old) (λ r. HasSpread (nodes_of (form_of_view node.now) r) (node_of_view node.now) level) }
+    requires spread { WhereTold (B.records blocks.old) (λ r.
+        HasSpread (nodes_of (form_of_view node.now) r) (node_of_view node.now) level) }
     ensures walked { OnOk result (WhereTold (B.records blocks.old) (λ r.
         WalksNode (nodes_of (form_of_view node.now) r) (node_of_view node.now) out.old.items out.new.items)) }
     ensures own { OnOk result (Each IsOwnEntry out.old.items → Each IsOwnEntry out.new.items) }
@@ -124,7 +126,8 @@ impl<C> Index<C> {
         blocks: &mut B,
         root: &[u8],
     ) -> Result<Vec<Octets>, IndexNo>
-        requires index { WhereTold (B.records blocks.old) (λ r. HasWalk (nodes_of (form_of self.now) r) (node_in (form_of self.now) root.now)) }
+        requires index { WhereTold (B.records blocks.old) (λ r.
+            HasWalk (nodes_of (form_of self.now) r) (node_in (form_of self.now) root.now)) }
         ensures walked { IfOk result (λ entries. WhereTold (B.records blocks.old) (λ r.
             IsWalk (nodes_of (form_of self.now) r) (node_in (form_of self.now) root.now) entries.items)) }
         ensures own { IfOk result (λ entries. Each IsOwnEntry entries.items) }

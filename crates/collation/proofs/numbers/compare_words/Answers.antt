@@ -1,7 +1,6 @@
-use Rattle.std.proofs.Common.{◌≡◌, ℕ, ◌<◌, ◌≤◌, ◌+◌, List, length, map, get_or, ap, sym, ◌∙◌, subst, arith}
-use Rattle.ntfs_def.specs.FileName.{key_units}
-use Rattle.ntfs_def.specs.KeyOrder.{by_numbers, fold_of, word_parts}
-use Rattle.ntfs_def.proofs.KeyOrderLaws.{step_differ, step_same, step_end, length-key_units, get_or-key_units, length-folded, get_or-folded, length-word_parts, get_or-word_parts}
+use Rattle.std.proofs.Common.{◌<◌, length, sym, ◌∙◌, arith}
+use Rattle.ntfs_def.specs.KeyOrder.{word_parts}
+use Rattle.ntfs_def.proofs.KeyOrderLaws.{step_differ, step_same, step_end, length-word_parts, get_or-word_parts}
 use Rattle.collation.proofs.numbers.compare_words.Goals as goal
 
 pub returns-then-x-y : goal.returns-then-x-y

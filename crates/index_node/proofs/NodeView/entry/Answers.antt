@@ -1,7 +1,7 @@
-use Rattle.std.proofs.Common.{slice_range, ◌+◌, ◌≡◌, ◌<◌, ◌≤◌, ℕ, arith, ap, sym, ◌∙◌, subst}
-use Rattle.ntfs_def.specs.Node.{IsOwnEntry, Entry, entry_at, entry_len, item_at, item_in}
+use Rattle.std.proofs.Common.{slice_range, ◌+◌, ◌<◌, arith, ap, sym, ◌∙◌, subst}
+use Rattle.ntfs_def.specs.Node.{IsOwnEntry, Entry, item_at, item_in}
 use Rattle.ntfs_def.proofs.NodeLaws.{length-entries_from, get_or-entries_from, item_in-own, entry-own}
-use Rattle.index_node.specs.View.{node_of_view, place_of}
+use Rattle.index_node.specs.View.{node_of_view}
 use Rattle.index_node.proofs.NodeView.entry.Goals as goal
 
 pub place-at-requires : goal.place-at-requires

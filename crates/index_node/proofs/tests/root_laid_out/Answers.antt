@@ -1,4 +1,4 @@
-use Rattle.std.proofs.Common.{◌≡◌, List, ℕ, true, refl, sym, ◌∙◌, subst}
+use Rattle.std.proofs.Common.{List, ℕ, true, refl, sym, ◌∙◌, subst}
 use Rattle.std.specs.Prelude.{IsTrue}
 use Rattle.ntfs_def.specs.Node.{is_last_entry, node_header}
 use Rattle.index_node.specs.LayOut.{is_one_last}

@@ -1,11 +1,11 @@
-use Rattle.std.proofs.Common.{◌≡◌, ℕ, ◌≤◌, ◌+◌, Option, Some, None, Bool, List, ap, sym, ◌∙◌, subst, arith}
+use Rattle.std.proofs.Common.{ℕ, List, ap, sym, subst}
 use Rattle.std.specs.declared.cmp.Ordering.{Ordering}
-use Rattle.ntfs_def.specs.Node.{Entry, Node, child_from, item_in, node_in, whole_of}
+use Rattle.ntfs_def.specs.Node.{Node, node_in, whole_of}
 use Rattle.index_node.specs.View.{node_of_view}
 use Rattle.index_tree.specs.Search.{nodes_of}
 use Rattle.index_tree.specs.Search.{CostsBelow, FindsBelow, HasRising}
 use Rattle.index_tree.proofs.Rising.{IfOk-map}
-use Rattle.index_tree.proofs.Rising.{root_keys, root_firsts, root_reads, root_has, root_bad, hit_inside}
+use Rattle.index_tree.proofs.Rising.{root_keys, root_firsts, root_reads, root_has, hit_inside}
 use Rattle.index_tree.proofs.Index.find.Goals as goal
 
 pub returns-in_default-seek_in-clause-found : goal.returns-in_default-seek_in-clause-found
@@ -44,7 +44,8 @@ returns-in_err-below-clause-fetched g c r e =
     let n : Node = node_of_view c.in-Ok.node in
     let is = ap whole_of c.in-Ok.ensures.ok in
     root_reads side valid nodes root n is c.in-Some.i c.in-Some.hit c.in-Some.ensures.place 8 _ _
-    (subst (λ b. CostsBelow 8 side valid nodes b (g.B.Blocks.fetched c.args.blocks.now) (g.B.Blocks.fetched c.first_below.new.blocks)) c.child.ensures (c.first_below.ensures.fetched r e))
+    (subst (λ b. CostsBelow 8 side valid nodes b (g.B.Blocks.fetched c.args.blocks.now)
+    (g.B.Blocks.fetched c.first_below.new.blocks)) c.child.ensures (c.first_below.ensures.fetched r e))
 
 pub returns-clause-fetched : goal.returns-clause-fetched
 returns-clause-fetched g c r e =
@@ -55,7 +56,8 @@ returns-clause-fetched g c r e =
     let n : Node = node_of_view c.in-Ok.node in
     let is = ap whole_of c.in-Ok.ensures.ok in
     root_reads side valid nodes root n is c.in-Some.i c.in-Some.hit c.in-Some.ensures.place 8 _ _
-    (subst (λ b. CostsBelow 8 side valid nodes b (g.B.Blocks.fetched c.args.blocks.now) (g.B.Blocks.fetched c.first_below.new.blocks)) c.child.ensures (c.first_below.ensures.fetched r e))
+    (subst (λ b. CostsBelow 8 side valid nodes b (g.B.Blocks.fetched c.args.blocks.now)
+    (g.B.Blocks.fetched c.first_below.new.blocks)) c.child.ensures (c.first_below.ensures.fetched r e))
 
 pub returns-clause-found : goal.returns-clause-found
 returns-clause-found g c =
@@ -68,7 +70,8 @@ returns-clause-found g c =
     let n : Node = node_of_view c.in-Ok.node in
     let is = ap whole_of c.in-Ok.ensures.ok in
     root_firsts side valid nodes root n is c.in-Some.i c.in-Some.hit c.in-Some.ensures.place
-    c.in_ok-below.below (subst (λ b. FindsBelow side valid nodes b c.in_ok-below.below) c.child.ensures (c.in_ok-below.ensures.found r e)) found picks)
+    c.in_ok-below.below (subst (λ b. FindsBelow side valid nodes b c.in_ok-below.below) c.child.ensures
+    (c.in_ok-below.ensures.found r e)) found picks)
     c.or_entry.ensures.picks
 
 pub returns-in_err-below-clause-reads : goal.returns-in_err-below-clause-reads
@@ -80,7 +83,8 @@ returns-in_err-below-clause-reads g c r e =
     let n : Node = node_of_view c.in-Ok.node in
     let is = ap whole_of c.in-Ok.ensures.ok in
     root_reads side valid nodes root n is c.in-Some.i c.in-Some.hit c.in-Some.ensures.place 1 _ _
-    (subst (λ b. CostsBelow 1 side valid nodes b (g.B.Blocks.reads c.args.blocks.now) (g.B.Blocks.reads c.first_below.new.blocks)) c.child.ensures (c.first_below.ensures.reads r e))
+    (subst (λ b. CostsBelow 1 side valid nodes b (g.B.Blocks.reads c.args.blocks.now)
+    (g.B.Blocks.reads c.first_below.new.blocks)) c.child.ensures (c.first_below.ensures.reads r e))
 
 pub returns-clause-reads : goal.returns-clause-reads
 returns-clause-reads g c r e =
@@ -91,7 +95,8 @@ returns-clause-reads g c r e =
     let n : Node = node_of_view c.in-Ok.node in
     let is = ap whole_of c.in-Ok.ensures.ok in
     root_reads side valid nodes root n is c.in-Some.i c.in-Some.hit c.in-Some.ensures.place 1 _ _
-    (subst (λ b. CostsBelow 1 side valid nodes b (g.B.Blocks.reads c.args.blocks.now) (g.B.Blocks.reads c.first_below.new.blocks)) c.child.ensures (c.first_below.ensures.reads r e))
+    (subst (λ b. CostsBelow 1 side valid nodes b (g.B.Blocks.reads c.args.blocks.now)
+    (g.B.Blocks.reads c.first_below.new.blocks)) c.child.ensures (c.first_below.ensures.reads r e))
 
 pub returns-clause-cause : goal.returns-clause-cause
 returns-clause-cause g c = c.or_entry.ensures.cause _ _

@@ -1,4 +1,4 @@
-use Rattle.std.proofs.Common.{◌≡◌, ◌∙◌, [], List, ℕ, ap, sym, subst}
+use Rattle.std.proofs.Common.{ap, sym, subst}
 use Rattle.ntfs_def.specs.Node.{Node, node_in, whole_of}
 use Rattle.index_node.specs.View.{node_of_view}
 use Rattle.index_tree.specs.Search.{nodes_of}

@@ -1,4 +1,3 @@
-use Rattle.std.proofs.Common.{ℕ, List}
 use Rattle.ntfs_def.specs.KeyOrder.{fold_order, name_order}
 use Rattle.ntfs_def.proofs.KeyOrderLaws.{fold_total, name_fold}
 use Rattle.index_tree.proofs.RisingOrders.{less_not_greater, rises_of}

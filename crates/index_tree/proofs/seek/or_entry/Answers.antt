@@ -1,7 +1,6 @@
-use Rattle.std.proofs.Common.{◌≡◌, ℕ, Bool, true, List, [], None, ap, sym, ◌∙◌, subst}
+use Rattle.std.proofs.Common.{[], None, ap, sym, ◌∙◌, subst}
 use Rattle.std.specs.Prelude.{IsTrue}
 use Rattle.ntfs_def.specs.Node.{Item, Entry, IsOwnEntry, item_in}
-use Rattle.index_tree.specs.Search.{IsKeyed}
 use Rattle.index_tree.proofs.seek.or_entry.Goals as goal
 
 bare : Entry
@@ -12,5 +11,6 @@ returns-in_ok-copy-in-None-clause-keyed g c =
     let valid = g.C.Collation.valid c.args._order.now in
     record {
       own = subst IsOwnEntry (sym c.in_ok-copy-in-None.ensures) c.entry.ensures.own;
-      key = subst (λ (x : Item). IsTrue (valid x.key)) (sym (ap item_in c.in_ok-copy-in-None.ensures ∙ c.entry.ensures.item bare)) (c.requires.key c.if-hit.true bare);
+      key = subst (λ (x : Item). IsTrue (valid x.key)) (sym (ap item_in c.in_ok-copy-in-None.ensures
+          ∙ c.entry.ensures.item bare)) (c.requires.key c.if-hit.true bare);
     }

@@ -1,11 +1,11 @@
-use Rattle.std.proofs.Common.{◌≡◌, ℕ, zero, suc, ◌+◌, ◌<◌, ◌≤◌, List, [], ◌∷◌, None, Bool, true, false, length, take, drop, get_or, ap, sym, ◌∙◌, subst, refl, arith}
+use Rattle.std.proofs.Common.{◌≡◌, ℕ, zero, suc, ◌+◌, ◌<◌, List, [], ◌∷◌, None, true, false, length, take, drop, get_or, ap, sym, ◌∙◌, subst, arith}
 use Rattle.std.specs.Prelude.{IsTrue}
 use Rattle.std.specs.declared.cmp.Ordering.{Ordering}
 use Rattle.std.specs.declared.cmp.Ordering.TheVariants.{Less, Equal, Greater}
-use Rattle.ntfs_def.specs.Node.{Item, Entry}
+use Rattle.ntfs_def.specs.Node.{Entry}
 use Rattle.ntfs_def.specs.IndexTree.{Each}
 use Rattle.index_node.specs.View.{node_of_view}
-use Rattle.index_tree.specs.Search.{IsPlace, StartsAt}
+use Rattle.index_tree.specs.Search.{StartsAt}
 use Rattle.std.proofs.lemmas.Grind.{common_steps}
 use Rattle.index_tree.proofs.seek.seek_in.Goals as goal
 
@@ -17,7 +17,8 @@ each_at P [] i d h k = absurd (omega arith)
 each_at P (x ∷ xs) zero d h k = k.0
 each_at P (x ∷ xs) (suc i) d h k = each_at P xs i d (omega arith) k.1
 
-each_take : (P : Entry → Type 0) (xs : List Entry) (i : ℕ) (d : Entry) → i < length xs → Each P (take i xs) → P (get_or xs i d) → Each P (take (i + 1) xs)
+each_take : (P : Entry → Type 0) (xs : List Entry) (i : ℕ) (d : Entry) → i < length xs → Each P (take i xs) → P (get_or xs i d)
+    → Each P (take (i + 1) xs)
 each_take P [] i d h k p = absurd (omega arith)
 each_take P (x ∷ xs) zero d h k p = (p, none xs)
   where
@@ -29,7 +30,8 @@ each_take P (x ∷ xs) (suc i) d h k p =
     subst (λ n. Each P (take n (x ∷ xs))) e (k.0, each_take P xs i d (omega arith) k.1 p)
 
 starts : (side : List ℕ → Ordering) (xs : List Entry) (i : ℕ) (d : Entry) → i < length xs
-    → (side (get_or xs i d).item.key ≡ Equal → StartsAt side (drop i xs) true) × (side (get_or xs i d).item.key ≡ Greater → StartsAt side (drop i xs) false)
+    → (side (get_or xs i d).item.key ≡ Equal → StartsAt side (drop i xs) true) × (side (get_or xs i d).item.key ≡ Greater
+    → StartsAt side (drop i xs) false)
 starts side [] i d h = absurd (omega arith)
 starts side (x ∷ xs) zero d h = ((λ e. e), (λ e. e))
 starts side (x ∷ xs) (suc i) d h = starts side xs i d (omega arith)
