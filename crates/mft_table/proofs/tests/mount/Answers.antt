@@ -10,7 +10,7 @@ returns-clause-stands g c =
     let found = c.in_ok-table.ensures in
     let size = found.reads.goes_on.size in
     rw size (record {
-      sectors = found.fits.cluster.0;
+      whole = found.fits.cluster.0;
       size = found.fits.cluster.1;
       clusters = c.in_ok-load.ensures.count;
       table =
