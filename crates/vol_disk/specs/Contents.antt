@@ -10,13 +10,13 @@ abbrev pub with_sector : List ℕ → ℕ → List ℕ → List ℕ
 with_sector all sector bytes = take (512 * sector) all ++ bytes ++ drop (512 * sector + 512) all
 
 -- what is told, changed; what is not told stays so
-abbrev pub told : {A B : Type 0} → (A → B) → Option A → Option B
-told f None = None
-told f (Some x) = Some (f x)
+abbrev pub map_told : {A B : Type 0} → (A → B) → Option A → Option B
+map_told f None = None
+map_told f (Some x) = Some (f x)
 
 -- the contents with one sector replaced, where they are told
 abbrev pub Writes : Option (List ℕ) → Option (List ℕ) → ℕ → List ℕ → Type 0
-Writes old new sector bytes = new ≡ told (λ all. with_sector all sector bytes) old
+Writes old new sector bytes = new ≡ map_told (λ all. with_sector all sector bytes) old
 
 abbrev pub IsTold : {A : Type 0} → Option A → Type 0
 IsTold contents = IsTrue (is_some contents)

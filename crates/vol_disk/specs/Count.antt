@@ -2,12 +2,12 @@
 use Rattle.std.specs.Prelude.{◌≡◌, ℕ, ◌+◌, ◌-◌, ◌^◌, ◌≤◌, min, Bool, true, false, Result, MatchResult}
 
 -- a count, one higher
-abbrev pub raised : ℕ → ℕ
-raised count = min (count + 1) (2 ^ 64 - 1)
+abbrev pub next_count : ℕ → ℕ
+next_count count = min (count + 1) (2 ^ 64 - 1)
 
 -- The count went up. One that stood at its last value counts as having done so.
 abbrev pub Rose : ℕ → ℕ → Type 0
-Rose before after = raised before ≤ after
+Rose before after = next_count before ≤ after
 
 -- What a call did to a count of faults, by its answer: an Ok left it as it was, and a failure raised it.
 abbrev pub CountsFault : {T E : Type 0} → Result T E → ℕ → ℕ → Type 0
@@ -16,4 +16,4 @@ CountsFault result before after = MatchResult result (λ _. after ≡ before) (�
 -- the count of faults after a call that answered Ok, or failed, where each failure is one more
 abbrev pub faults_after : Bool → ℕ → ℕ
 faults_after true count = count
-faults_after false count = raised count
+faults_after false count = next_count count

@@ -1,7 +1,7 @@
 -- What a disk that fails as it was told shows.
 use Rattle.std.specs.Prelude.{◌≡◌, List, Option}
-use Rattle.vol_disk.specs.Count.{raised}
-use Rattle.vol_disk.specs.Plan.{planned, calls_of, counted}
+use Rattle.vol_disk.specs.Count.{next_count}
+use Rattle.vol_disk.specs.Plan.{fail_for, calls_of, calls_with}
 use Rattle.vol_disk.specs.declared.counts.Counts.{Counts}
 use Rattle.vol_disk.specs.declared.fail_disk.CallKind.{CallKind}
 use Rattle.vol_disk.specs.declared.fail_disk.Calls.{Calls}
@@ -26,9 +26,9 @@ counts_of disk = disk.counts
 
 -- the entry that lets the next call of a kind fail, if there is one
 abbrev pub next_fail : {D : Type 0} → FailDisk D → CallKind → Option Fail
-next_fail disk kind = planned disk.fails.items kind (raised (calls_of disk.calls kind))
+next_fail disk kind = fail_for disk.fails.items kind (next_count (calls_of disk.calls kind))
 
 -- one call of this kind was made
 pub record Makes {D : Type 0} (old new : FailDisk D) (kind : CallKind) : Type 0 where
   pub fails : fails_of new ≡ fails_of old
-  pub calls : made_by new ≡ counted (made_by old) kind
+  pub calls : made_by new ≡ calls_with (made_by old) kind

@@ -17,8 +17,8 @@ pub record Shown : Type 0 where
   pub sectors : ℕ
   pub counts : Counts
 
-abbrev pub shown : MemDisk → Shown
-shown disk = record {
+abbrev pub parts_of : MemDisk → Shown
+parts_of disk = record {
   first = disk.first.items;
   writes = disk.writes.items;
   settles = disk.settles.items;

@@ -1,6 +1,6 @@
 -- Which calls are to fail.
 use Rattle.std.specs.Prelude.{ℕ, Bool, true, false, ◌==◌, ◌&&◌, List, Option, find}
-use Rattle.vol_disk.specs.Count.{raised}
+use Rattle.vol_disk.specs.Count.{next_count}
 use Rattle.vol_disk.specs.declared.fail_disk.CallKind.{CallKind}
 use Rattle.vol_disk.specs.declared.fail_disk.CallKind.TheVariants.{Read, Write, Barrier, Settle}
 use Rattle.vol_disk.specs.declared.fail_disk.Calls.{Calls}
@@ -21,12 +21,12 @@ calls_of calls Barrier = calls.barriers
 calls_of calls Settle = calls.settles
 
 -- one more call of a kind
-abbrev pub counted : Calls → CallKind → Calls
-counted calls Read = record calls { reads = raised calls.reads }
-counted calls Write = record calls { writes = raised calls.writes }
-counted calls Barrier = record calls { barriers = raised calls.barriers }
-counted calls Settle = record calls { settles = raised calls.settles }
+abbrev pub calls_with : Calls → CallKind → Calls
+calls_with calls Read = record calls { reads = next_count calls.reads }
+calls_with calls Write = record calls { writes = next_count calls.writes }
+calls_with calls Barrier = record calls { barriers = next_count calls.barriers }
+calls_with calls Settle = record calls { settles = next_count calls.settles }
 
 -- the first entry for the call of this kind and number, if there is one
-abbrev pub planned : List Fail → CallKind → ℕ → Option Fail
-planned fails kind number = find (λ fail. is_same fail.kind kind && fail.number == number) fails
+abbrev pub fail_for : List Fail → CallKind → ℕ → Option Fail
+fail_for fails kind number = find (λ fail. is_same fail.kind kind && fail.number == number) fails

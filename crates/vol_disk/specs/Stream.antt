@@ -1,6 +1,6 @@
 -- What a source gives and what a sink takes.
 use Rattle.std.specs.Prelude.{◌≡◌, ◌≤◌, ℕ, List, ◌++◌, take, drop, length, Option, Some}
-use Rattle.vol_disk.specs.Contents.{told}
+use Rattle.vol_disk.specs.Contents.{map_told}
 
 -- the first n of all bytes that were left stand at the front of the buffer, and the rest is left
 pub record Gives (n : ℕ) (all buffer : List ℕ) (left : Option (List ℕ)) : Type 0 where
@@ -10,7 +10,7 @@ pub record Gives (n : ℕ) (all buffer : List ℕ) (left : Option (List ℕ)) : 
 
 -- the text came behind what was there, where that is told
 abbrev pub Appended : Option (List ℕ) → List ℕ → Option (List ℕ) → Type 0
-Appended before text after = after ≡ told (λ all. all ++ text) before
+Appended before text after = after ≡ map_told (λ all. all ++ text) before
 
 -- the same of some part of the text from its front
 abbrev pub AppendedPart : Option (List ℕ) → List ℕ → Option (List ℕ) → Type 0

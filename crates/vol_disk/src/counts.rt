@@ -13,11 +13,11 @@ pub struct Counts {
 }
 
 impl Counts {
-    ghost use Rattle.vol_disk.specs.Count.{raised};
+    ghost use Rattle.vol_disk.specs.Count.{next_count};
 
     /// Notes that a call fails, and gives what it answers.
     pub fn fail(&mut self) -> Failed
-        ensures faults { self.new ≡ record self.old { faults = raised self.old.faults } }
+        ensures faults { self.new ≡ record self.old { faults = next_count self.old.faults } }
         ensures rises { self.old.faults ≤ self.new.faults }
     {
         self.faults = self.faults.saturating_add(1);
@@ -26,7 +26,7 @@ impl Counts {
 
     /// Notes a read that is asked for.
     pub fn fetch(&mut self)
-        ensures fetched { self.new ≡ record self.old { fetched = raised self.old.fetched } }
+        ensures fetched { self.new ≡ record self.old { fetched = next_count self.old.fetched } }
         ensures rises { self.old.fetched ≤ self.new.fetched }
     {
         self.fetched = self.fetched.saturating_add(1);
@@ -35,7 +35,7 @@ impl Counts {
     /// Notes a write that is asked for.
     pub fn begin_write(&mut self)
         ensures on_time { self.old.faults ≡ 0 → self.new ≡ self.old }
-        ensures late { 0 < self.old.faults → self.new ≡ record self.old { late = raised self.old.late } }
+        ensures late { 0 < self.old.faults → self.new ≡ record self.old { late = next_count self.old.late } }
         ensures rises { self.old.late ≤ self.new.late }
     {
         if self.faults > 0 {
@@ -45,7 +45,7 @@ impl Counts {
 
     /// Notes a write that succeeds.
     pub fn end_write(&mut self)
-        ensures written { self.new ≡ record self.old { written = raised self.old.written } }
+        ensures written { self.new ≡ record self.old { written = next_count self.old.written } }
         ensures rises { self.old.written ≤ self.new.written }
     {
         self.written = self.written.saturating_add(1);

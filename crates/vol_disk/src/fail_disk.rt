@@ -1,7 +1,7 @@
 //! A disk that fails at the calls that it was told.
 ghost use Rattle.std.specs.Prelude.{◌≡◌, ◌≢◌, ◌⊎◌, ◌+◌, ◌<◌, ◌≤◌, ℕ, [], find, is_some, is_ok, IsErr, IsNone, IfSome, OnSome, IfNone, OnOk, OnErr, IsTrue, false, vec_len};
 ghost use Rattle.vol_disk.specs.Contents.{IsTold, Writes, sector_in, settled_more};
-ghost use Rattle.vol_disk.specs.Count.{raised, Rose, CountsFault};
+ghost use Rattle.vol_disk.specs.Count.{next_count, Rose, CountsFault};
 
 use crate::counts::Counts;
 use crate::{Disk, Failed};
@@ -46,12 +46,12 @@ pub struct Calls {
 }
 
 impl Calls {
-    ghost use Rattle.vol_disk.specs.Plan.{calls_of, counted};
+    ghost use Rattle.vol_disk.specs.Plan.{calls_of, calls_with};
 
     // Counts a call of this kind, and gives its number.
     fn count(&mut self, kind: CallKind) -> u64
-        ensures count { self.new ≡ counted self.old kind }
-        ensures number { result ≡ raised (calls_of self.old kind) }
+        ensures count { self.new ≡ calls_with self.old kind }
+        ensures number { result ≡ next_count (calls_of self.old kind) }
     {
         let number = self.made(kind).saturating_add(1);
         match kind {
@@ -91,7 +91,7 @@ pub struct FailDisk<D: Disk> {
 
 impl<D: Disk> FailDisk<D> {
     ghost use Rattle.vol_disk.specs.FailDisks.{inner_of, fails_of, next_fail, made_by, counts_of};
-    ghost use Rattle.vol_disk.specs.Plan.{calls_of, counted};
+    ghost use Rattle.vol_disk.specs.Plan.{calls_of, calls_with};
     ghost use Rattle.vol_disk.specs.declared.fail_disk.CallKind.{CallKind};
 
     /// A disk over `inner`; `fails` lists the calls that fail.
@@ -129,7 +129,7 @@ impl<D: Disk> FailDisk<D> {
     // Counts a call of this kind, and gives the entry that lets it fail.
     fn next(&mut self, kind: CallKind) -> Option<Fail>
         ensures planned { result ≡ next_fail self.old kind }
-        ensures calls { self.new ≡ record self.old { calls = counted self.old.calls kind } }
+        ensures calls { self.new ≡ record self.old { calls = calls_with self.old.calls kind } }
     {
         let number = self.calls.count(kind);
         self.fails
@@ -219,7 +219,7 @@ impl<D: Disk> Disk for FailDisk<D> {
         ensures settled { D.settled (inner_of self.new) ≡ D.settled (inner_of self.old) }
         ensures fenced { D.fenced (inner_of self.new) ≡ D.fenced (inner_of self.old) }
         ensures size { D.size (inner_of self.new) ≡ D.size (inner_of self.old) }
-        ensures written { OnOk result (D.written (inner_of self.new) ≡ raised (D.written (inner_of self.old))) }
+        ensures written { OnOk result (D.written (inner_of self.new) ≡ next_count (D.written (inner_of self.old))) }
         ensures once { D.written (inner_of self.new) ≤ D.written (inner_of self.old) + 1 }
         ensures late_once { D.late (inner_of self.new) ≤ D.late (inner_of self.old) + 1 }
         ensures on_time { D.faults (inner_of self.old) ≡ 0 → D.late (inner_of self.new) ≡ D.late (inner_of self.old) }

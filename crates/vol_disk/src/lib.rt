@@ -6,8 +6,8 @@
 #![tactic(auto)]
 
 ghost use Rattle.std.specs.Prelude.{◌≡◌, ◌≢◌, ◌⊎◌, ◌+◌, ◌*◌, ◌^◌, ◌<◌, ◌≤◌, ℕ, [], List, length, take, Option, IfSome, IfOk, OnOk, OnErr, is_some};
-ghost use Rattle.vol_disk.specs.Count.{raised, CountsFault};
-ghost use Rattle.vol_disk.specs.Contents.{IsTold, sector_in, told, with_sector, settled_more};
+ghost use Rattle.vol_disk.specs.Count.{next_count, CountsFault};
+ghost use Rattle.vol_disk.specs.Contents.{IsTold, sector_in, map_told, with_sector, settled_more};
 ghost use Rattle.vol_disk.specs.Stream.{Gives, Appended};
 
 mod counts;
@@ -110,9 +110,9 @@ pub trait Disk {
     /// Writes one sector. Where it fails, that sector is old or new, and every other is as it was.
     fn write(&mut self, sector: u64, from: &[u8; 512]) -> Result<(), Failed>
         requires { sector < size self.old }
-        ensures now { OnOk result (now self.new ≡ told (λ all. with_sector all sector from.now) (now self.old)) }
+        ensures now { OnOk result (now self.new ≡ map_told (λ all. with_sector all sector from.now) (now self.old)) }
         ensures either { OnErr result (
-            (now self.new ≡ now self.old) ⊎ (now self.new ≡ told (λ all. with_sector all sector from.now) (now self.old))) }
+            (now self.new ≡ now self.old) ⊎ (now self.new ≡ map_told (λ all. with_sector all sector from.now) (now self.old))) }
 
         // The same, sector by sector.
         ensures here { OnOk result (IsTold (now self.old) → sector_in (now self.new) sector ≡ from.now) }
@@ -123,11 +123,11 @@ pub trait Disk {
         ensures fenced { fenced self.new ≡ fenced self.old }
         ensures size { size self.new ≡ size self.old }
         ensures rises { (written self.old ≤ written self.new) × (late self.old ≤ late self.new) }
-        ensures written { OnOk result (written self.new ≡ raised (written self.old)) }
+        ensures written { OnOk result (written self.new ≡ next_count (written self.old)) }
         ensures unwritten { OnErr result (written self.new ≡ written self.old) }
         ensures fetched { fetched self.new ≡ fetched self.old }
         ensures on_time { faults self.old ≡ 0 → late self.new ≡ late self.old }
-        ensures late { 0 < faults self.old → late self.new ≡ raised (late self.old) }
+        ensures late { 0 < faults self.old → late self.new ≡ next_count (late self.old) }
 
         ensures faults { CountsFault result (faults self.old) (faults self.new) };
 

@@ -1,6 +1,6 @@
 //! A sink for bytes in memory.
 ghost use Rattle.std.specs.Prelude.{◌≡◌, ◌↔◌, ◌⊎◌, ◌+◌, ◌-◌, ◌<◌, ◌≤◌, [], ◌++◌, Some, length, take, min, max, vec_len, vec_capacity, is_ok, IsErr, IfOk, OnOk, OnErr};
-ghost use Rattle.vol_disk.specs.Listing.{IsListed, called};
+ghost use Rattle.vol_disk.specs.Listing.{IsListed, listed_after};
 
 use crate::listed::Listed;
 use crate::{Failed, RoomNo, Sink};
@@ -86,7 +86,7 @@ impl Sink for MemSink {
         ensures room { IfOk result (λ n. room_of self.new + n ≡ room_of self.old) }
         ensures kept { OnErr result (bytes_of self.new ≡ bytes_of self.old) }
         ensures room_kept { OnErr result (room_of self.new ≡ room_of self.old) }
-        ensures calls { sink_calls self.new ≡ called (is_ok result) (sink_calls self.old) }
+        ensures calls { sink_calls self.new ≡ listed_after (is_ok result) (sink_calls self.old) }
         ensures faults { (sink_calls self.old).faults ≤ (sink_calls self.new).faults }
     {
         if self.listed.is_next() || self.room == 0 {

@@ -1,6 +1,6 @@
 //! A source of bytes in memory.
 ghost use Rattle.std.specs.Prelude.{◌≡◌, ◌↔◌, ◌<◌, ◌≤◌, [], ◌++◌, Some, length, take, drop, min, vec_len, is_ok, IsErr, IfOk, OnErr};
-ghost use Rattle.vol_disk.specs.Listing.{IsListed, called};
+ghost use Rattle.vol_disk.specs.Listing.{IsListed, listed_after};
 
 use crate::listed::Listed;
 use crate::{Failed, Source};
@@ -62,7 +62,7 @@ impl Source for MemSource {
         ensures rest { IfOk result (λ n. left_of self.new ≡ drop n (left_of self.old)) }
         ensures kept { OnErr result (left_of self.new ≡ left_of self.old) }
         ensures untouched { OnErr result (into.new ≡ into.old) }
-        ensures calls { source_calls self.new ≡ called (is_ok result) (source_calls self.old) }
+        ensures calls { source_calls self.new ≡ listed_after (is_ok result) (source_calls self.old) }
         ensures faults { (source_calls self.old).faults ≤ (source_calls self.new).faults }
 
         // The same, as each source gives its bytes.

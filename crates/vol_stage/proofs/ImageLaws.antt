@@ -4,7 +4,7 @@ use Rattle.std.specs.Prelude.{Contains, IfSome, is_some, slice_index_or}
 use Rattle.vol_disk.specs.Contents.{IsTold, with_sector, sector_in}
 use Rattle.vol_disk.proofs.SectorLaws.{length-with_sector, sector_in-same, sector_in-other}
 use Rattle.vol_stage.specs.declared.put.Put.{Put}
-use Rattle.vol_stage.specs.Puts.{AreRising, AreWhole, AreWithin, applied, image_of, places_of}
+use Rattle.vol_stage.specs.Puts.{AreRising, AreWhole, AreWithin, contents_with, image_of, places_of}
 use Rattle.vol_stage.proofs.PutLaws.{length-places_of, places_of-at}
 
 pub is_some-image_of : (now : Option (List ℕ)) (puts : List Put) → is_some (image_of now puts) ≡ is_some now
@@ -32,18 +32,18 @@ module _ (put : Put) (puts : List Put) (all : List ℕ) (size : ℕ) (fits : Fit
     sized = length-with_sector all put.bytes put.sector (omega (arith, first-within, fits.sized)) first-whole ∙ fits.sized;
   }
 
-length-applied : (puts : List Put) (all : List ℕ) (size : ℕ) → Fits all puts size → length (applied puts all) ≡ 512 * size
-length-applied [] all size fits = fits.sized
-length-applied (put ∷ puts) all size fits =
-    length-applied puts (with_sector all put.sector put.bytes) size (Fits-behind put puts all size fits)
+length-contents_with : (puts : List Put) (all : List ℕ) (size : ℕ) → Fits all puts size → length (contents_with puts all) ≡ 512 * size
+length-contents_with [] all size fits = fits.sized
+length-contents_with (put ∷ puts) all size fits =
+    length-contents_with puts (with_sector all put.sector put.bytes) size (Fits-behind put puts all size fits)
 
 -- a sector that no put is of
-applied-plain : (puts : List Put) (all : List ℕ) (size sector : ℕ) → Fits all puts size → (Contains (places_of puts) sector → ⊥)
-    → sector_in (Some (applied puts all)) sector ≡ sector_in (Some all) sector
+contents_with-plain : (puts : List Put) (all : List ℕ) (size sector : ℕ) → Fits all puts size → (Contains (places_of puts) sector → ⊥)
+    → sector_in (Some (contents_with puts all)) sector ≡ sector_in (Some all) sector
 unfolding places_of
-applied-plain [] all size sector fits not = refl
-applied-plain (put ∷ puts) all size sector fits not =
-    applied-plain puts (with_sector all put.sector put.bytes) size sector (Fits-behind put puts all size fits)
+contents_with-plain [] all size sector fits not = refl
+contents_with-plain (put ∷ puts) all size sector fits not =
+    contents_with-plain puts (with_sector all put.sector put.bytes) size sector (Fits-behind put puts all size fits)
     (λ found. let inside = found.1 in not (suc found.0, omega arith, found.2))
     ∙ sector_in-other all put.bytes size put.sector sector fits.sized (first-within put puts all size fits) (first-whole put puts all size fits)
     (λ same. not (0, omega arith, sym same))
@@ -57,16 +57,16 @@ not-behind put puts rising found =
     omega (arith, rises, places_of-at puts found.0 put.sector put inside, same)
 
 -- a sector that a put is of
-applied-put : (puts : List Put) (all : List ℕ) (size k : ℕ) (put : Put) → Fits all puts size → AreRising puts
-    → k < length puts → slice_index_or puts k put ≡ put → sector_in (Some (applied puts all)) put.sector ≡ put.bytes
-applied-put [] all size k put fits rising below is = absurd (omega arith)
-applied-put (first ∷ puts) all size zero put fits rising below is =
-    subst (λ (q : Put). sector_in (Some (applied (first ∷ puts) all)) q.sector ≡ q.bytes) is
-    (applied-plain puts (with_sector all first.sector first.bytes) size first.sector (Fits-behind first puts all size fits)
+contents_with-put : (puts : List Put) (all : List ℕ) (size k : ℕ) (put : Put) → Fits all puts size → AreRising puts
+    → k < length puts → slice_index_or puts k put ≡ put → sector_in (Some (contents_with puts all)) put.sector ≡ put.bytes
+contents_with-put [] all size k put fits rising below is = absurd (omega arith)
+contents_with-put (first ∷ puts) all size zero put fits rising below is =
+    subst (λ (q : Put). sector_in (Some (contents_with (first ∷ puts) all)) q.sector ≡ q.bytes) is
+    (contents_with-plain puts (with_sector all first.sector first.bytes) size first.sector (Fits-behind first puts all size fits)
     (not-behind first puts rising)
     ∙ sector_in-same all first.bytes size first.sector fits.sized (first-within first puts all size fits) (first-whole first puts all size fits))
-applied-put (first ∷ puts) all size (suc k) put fits rising below is =
-    applied-put puts (with_sector all first.sector first.bytes) size k put (Fits-behind first puts all size fits)
+contents_with-put (first ∷ puts) all size (suc k) put fits rising below is =
+    contents_with-put puts (with_sector all first.sector first.bytes) size k put (Fits-behind first puts all size fits)
     (λ i j d a b. rising (suc i) (suc j) d (omega arith) (omega arith)) (omega arith) is
 
 -- the same, where the contents may not be told
@@ -74,16 +74,16 @@ module _ (puts : List Put) (size : ℕ) (within : AreWithin size puts) (whole : 
   pub length-image_of : (now : Option (List ℕ)) → IfSome now (λ all. length all ≡ 512 * size)
       → IfSome (image_of now puts) (λ all. length all ≡ 512 * size)
   length-image_of None sized = tt
-  length-image_of (Some all) sized = length-applied puts all size (record { within = within; whole = whole; sized = sized })
+  length-image_of (Some all) sized = length-contents_with puts all size (record { within = within; whole = whole; sized = sized })
 
   pub image_of-plain : (now : Option (List ℕ)) (sector : ℕ) → IfSome now (λ all. length all ≡ 512 * size)
       → (Contains (places_of puts) sector → ⊥) → sector_in (image_of now puts) sector ≡ sector_in now sector
   image_of-plain None sector sized not = refl
   image_of-plain (Some all) sector sized not =
-      applied-plain puts all size sector (record { within = within; whole = whole; sized = sized }) not
+      contents_with-plain puts all size sector (record { within = within; whole = whole; sized = sized }) not
 
   pub image_of-put : (now : Option (List ℕ)) (put : Put) → AreRising puts → IfSome now (λ all. length all ≡ 512 * size)
       → Contains puts put → IsTold (image_of now puts) → put.bytes ≡ sector_in (image_of now puts) put.sector
   image_of-put None put rising sized found told = cc
   image_of-put (Some all) put rising sized found told =
-      sym (applied-put puts all size found.0 put (record { within = within; whole = whole; sized = sized }) rising found.1 found.2)
+      sym (contents_with-put puts all size found.0 put (record { within = within; whole = whole; sized = sized }) rising found.1 found.2)

@@ -1,7 +1,7 @@
 -- Staged sectors, and contents with them.
 use Rattle.std.specs.Prelude.{◌≡◌, ◌<◌, ℕ, List, [], ◌∷◌, length, map, Option, All}
 use Rattle.std.specs.List.{AllPairs}
-use Rattle.vol_disk.specs.Contents.{told, with_sector}
+use Rattle.vol_disk.specs.Contents.{map_told, with_sector}
 use Rattle.vol_stage.specs.declared.put.Put.{Put}
 
 -- each put is of a sector of the disk
@@ -21,10 +21,10 @@ unfoldable pub places_of : List Put → List ℕ
 places_of puts = map (λ put. put.sector) puts
 
 -- the contents with the puts
-abbrev pub applied : List Put → List ℕ → List ℕ
-applied [] all = all
-applied (put ∷ puts) all = applied puts (with_sector all put.sector put.bytes)
+abbrev pub contents_with : List Put → List ℕ → List ℕ
+contents_with [] all = all
+contents_with (put ∷ puts) all = contents_with puts (with_sector all put.sector put.bytes)
 
 -- the same, where the contents are told
 abbrev pub image_of : Option (List ℕ) → List Put → Option (List ℕ)
-image_of now puts = told (applied puts) now
+image_of now puts = map_told (contents_with puts) now
