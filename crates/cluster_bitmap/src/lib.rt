@@ -54,7 +54,8 @@ impl Bits {
     /// The first `count` bits of a stored bitmap. A count above 2^62 finds no memory.
     pub fn load(alloc: Global, bytes: &[u8], count: u64) -> Result<Bits, BitsNo>
         requires { count ≤ 8 * length bytes.now }
-        ensures { IfOk result (λ bits. bits ≡ flags_in bytes.now count) }
+        ensures flags { IfOk result (λ bits. bits ≡ flags_in bytes.now count) }
+        ensures count { IfOk result (λ bits. length bits ≡ count) }
     {
         if count > MOST {
             return Err(BitsNo::Memory);

@@ -27,7 +27,7 @@ fn table(alloc: Global) -> Result<UpCase, Fail> {
 // The value of a `$FILE_NAME` with these units.
 fn key(alloc: Global, units: &[u16]) -> Result<Vec<u8>, Fail> {
     let mut bytes = vec![in alloc; 0u8; 0x40]?;
-    bytes.push(units.len() as u8)?;
+    bytes.push(u8::try_from(units.len()).unwrap_or(0))?;
     bytes.push(3)?;
     for unit in units {
         for byte in unit.to_le_bytes() {
@@ -47,7 +47,9 @@ fn answer<C: Collation>(order: &C, a: &[u8], b: &[u8]) -> Option<Ordering> {
 
 #[test]
 fn names(rt: HostRuntime) -> Result<(), Fail> {
-    let order = FileNameOrder { upcase: table(rt.alloc())? };
+    let order = FileNameOrder {
+        upcase: table(rt.alloc())?,
+    };
     let folded = FoldedOrder { names: &order };
     let rows: [(&[u16], &[u16], Ordering, Ordering); 6] = [
         (&[0x61], &[0x42], Ordering::Less, Ordering::Less), // a, B
@@ -55,7 +57,12 @@ fn names(rt: HostRuntime) -> Result<(), Fail> {
         (&[0x42], &[0x5F], Ordering::Less, Ordering::Less), // B, _
         (&[0x5F], &[0xC9], Ordering::Less, Ordering::Less), // _, É
         (&[0xC9], &[0xE9], Ordering::Less, Ordering::Equal), // É, é
-        (&[0x6E, 0x61], &[0x6E, 0x61, 0x32], Ordering::Less, Ordering::Less), // na, na2
+        (
+            &[0x6E, 0x61],
+            &[0x6E, 0x61, 0x32],
+            Ordering::Less,
+            Ordering::Less,
+        ), // na, na2
     ];
     for (a, b, exact, by_fold) in rows {
         let a = key(rt.alloc(), a)?;
@@ -73,14 +80,23 @@ fn names(rt: HostRuntime) -> Result<(), Fail> {
 #[test]
 fn numbers(rt: HostRuntime) {
     // the number 0x101 stands behind 2, though its first byte is lower
-    assert_eq!(rt; answer(&IdOrder, &[2, 0, 0, 0], &[1, 1, 0, 0]), Some(Ordering::Less));
+    assert_eq!(rt;
+        answer(&IdOrder, &[2, 0, 0, 0], &[1, 1, 0, 0]),
+        Some(Ordering::Less)
+    );
     assert_eq!(rt; answer(&IdOrder, &[2, 0, 0, 0], &[2, 0, 0]), None);
     let a = [5, 0, 0, 0, 9, 0, 0, 0];
     let b = [5, 0, 0, 0, 0, 1, 0, 0];
     assert_eq!(rt; answer(&HashOrder, &a, &b), Some(Ordering::Less));
-    assert_eq!(rt; answer(&HashOrder, &a, &[4, 0, 0, 0, 0, 0, 0, 0]), Some(Ordering::Greater));
+    assert_eq!(rt;
+        answer(&HashOrder, &a, &[4, 0, 0, 0, 0, 0, 0, 0]),
+        Some(Ordering::Greater)
+    );
     assert_eq!(rt; answer(&WordsOrder, &a, &b), Some(Ordering::Less));
     assert_eq!(rt; answer(&WordsOrder, &a, &a[..4]), Some(Ordering::Greater));
-    assert_eq!(rt; answer(&WordsOrder, &[0, 0, 0, 1], &[255, 255, 255, 0]), Some(Ordering::Greater));
+    assert_eq!(rt;
+        answer(&WordsOrder, &[0, 0, 0, 1], &[255, 255, 255, 0]),
+        Some(Ordering::Greater)
+    );
     assert_eq!(rt; answer(&WordsOrder, &[0, 0, 0, 1], &[255, 255, 0]), None);
 }

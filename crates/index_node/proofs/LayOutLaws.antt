@@ -1,6 +1,6 @@
 -- What is laid out is read again: bytes that hold pieces, and the node that entries say.
-use Rattle.std.proofs.Common.{◌≡◌, ℕ, zero, suc, ◌+◌, ◌-◌, ◌*◌, ◌/◌, ◌%◌, ◌^◌, ◌<◌, ◌≤◌, ◌==◌, List, [], ◌∷◌, ◌++◌, Option, Some, None, Bool, true, false, length, take, drop, get_or, slice_range, slice_index, refl, sym, ap, subst, ◌∙◌, arith, rules, length-drop, length-take, add-one}
-use Rattle.std.specs.Prelude.{IsTrue, codes, nat_eq, nat_le, ◌&&◌, if◌then◌else◌, sum_by}
+use Rattle.std.proofs.Common.{◌≡◌, ℕ, zero, suc, ◌+◌, ◌-◌, ◌*◌, ◌/◌, ◌%◌, ◌<◌, ◌≤◌, ◌==◌, List, [], ◌∷◌, ◌++◌, Option, Some, None, Bool, true, false, length, take, drop, get_or, slice_range, slice_index, refl, sym, ap, subst, ◌∙◌, arith, rules, length-drop, length-take}
+use Rattle.std.specs.Prelude.{IsTrue, codes, nat_eq, nat_le, ◌&&◌, if◌then◌else◌}
 use Rattle.std.specs.List.{starts_with}
 use Rattle.std.specs.Cmp.Lexicographic.{pointwise}
 use Rattle.std.proofs.lemmas.List.{get_or-take, get_or-drop}
@@ -11,11 +11,11 @@ use Rattle.vol_bytes.specs.Field.{SameOutside, u16_at, u32_at, u64_at}
 use Rattle.vol_bytes.proofs.FieldLaws.{u16_at-same, u32_at-same}
 use Rattle.ntfs_def.specs.First.{first_failing}
 use Rattle.ntfs_def.specs.Fixup.{array_place, array_end}
-use Rattle.ntfs_def.specs.Node.{Item, Entry, Node, Whole, IsWholeEntry, child_at, child_len, data_len, data_offset, entries_end, entry_at, entry_flags, entry_len, first_entry, first_offset, has_child, has_children, holds_data, is_entry, is_index_record, is_last_entry, is_whole, item_at, item_in, key_len, node_header, node_header_failing, node_in, room_end, scan_from, scan_node, whole_of, before}
+use Rattle.ntfs_def.specs.Node.{Item, Entry, Node, Whole, IsWholeEntry, child_at, child_len, data_len, data_offset, entries_end, entry_at, entry_flags, entry_len, first_entry, first_offset, has_children, holds_data, is_entry, is_index_record, is_last_entry, is_whole, item_at, item_in, key_len, node_header, node_header_failing, node_in, room_end, scan_from, whole_of, before}
 use Rattle.ntfs_def.specs.declared.index.NodeForm.{NodeForm}
 use Rattle.ntfs_def.specs.declared.index.NodeForm.TheVariants.{Names, View}
-use Rattle.ntfs_def.proofs.NodeLaws.{u16_within, u64_within, item_in-own, entry_whole, last_whole, flag_is, scan_at_entry, scan_at_last, scan_node-is, child_at-some, child_at-none}
-use Rattle.index_node.specs.LayOut.{AreEntries, AreEntriesFrom, Holds, KeepsHeader, SetsHeader, is_one_entry, is_one_last, node_from, node_listed, room_len, total_len, with_entry}
+use Rattle.ntfs_def.proofs.NodeLaws.{u16_within, u64_within, item_in-own, entry_whole, flag_is, scan_at_entry, scan_at_last, scan_node-is, child_at-some, child_at-none}
+use Rattle.index_node.specs.LayOut.{AreEntries, AreEntriesFrom, Holds, KeepsHeader, SetsHeader, is_one_entry, is_one_last, node_from, node_listed, total_len, with_entry}
 
 -- Bytes that are the same.
 pub range_same : (old new : List ℕ) (a b : ℕ) → length new ≡ length old → ((k : ℕ) → a ≤ k → k < b → get_or new k 0 ≡ get_or old k 0)
@@ -26,21 +26,22 @@ range_same old new a b len same =
     let p = length-drop a new in
     let q = length-drop a old in
     same_number_lists (slice_range new a b) (slice_range old a b) (omega (arith, m, n, p, q))
-      (λ k lt.
-        get_or-take (b - a) (drop a new) k 0 (omega (arith, m, lt)) ∙ get_or-drop a new k 0
-        ∙ same (a + k) (omega arith) (omega (arith, m, lt))
-        ∙ sym (get_or-take (b - a) (drop a old) k 0 (omega (arith, m, lt)) ∙ get_or-drop a old k 0))
+    (λ k lt.
+    get_or-take (b - a) (drop a new) k 0 (omega (arith, m, lt)) ∙ get_or-drop a new k 0
+    ∙ same (a + k) (omega arith) (omega (arith, m, lt))
+    ∙ sym (get_or-take (b - a) (drop a old) k 0 (omega (arith, m, lt)) ∙ get_or-drop a old k 0))
 
 pub Holds-same : (old new : List ℕ) (at : ℕ) (pieces : List (List ℕ)) → length new ≡ length old
     → ((k : ℕ) → at ≤ k → k < at + total_len pieces → get_or new k 0 ≡ get_or old k 0) → Holds old at pieces → Holds new at pieces
 Holds-same old new at [] len same holds = tt
 Holds-same old new at (piece ∷ pieces) len same holds =
-  let sum : total_len (piece ∷ pieces) ≡ length piece + total_len pieces = sum_by-cons length piece pieces in (
-  range_same old new at (at + length piece) len (λ k from to. same k from (omega arith)) ∙ holds.0,
-  Holds-same old new (at + length piece) pieces len (λ k from to. same k (omega arith) (omega arith)) holds.1,
-)
+    let sum : total_len (piece ∷ pieces) ≡ length piece + total_len pieces = sum_by-cons length piece pieces in (
+      range_same old new at (at + length piece) len (λ k from to. same k from (omega arith)) ∙ holds.0,
+      Holds-same old new (at + length piece) pieces len (λ k from to. same k (omega arith) (omega arith)) holds.1,
+    )
 
-pub Holds-more : (node : List ℕ) (at place : ℕ) (pieces : List (List ℕ)) (piece : List ℕ) → place ≡ at + total_len pieces → Holds node at pieces → Holds node place (piece ∷ [])
+pub Holds-more : (node : List ℕ) (at place : ℕ) (pieces : List (List ℕ)) (piece : List ℕ) → place ≡ at + total_len pieces
+    → Holds node at pieces → Holds node place (piece ∷ [])
     → Holds node at (pieces ++ piece ∷ [])
 Holds-more node at place [] piece is holds more = subst (λ p. Holds node p (piece ∷ [])) (omega arith) more
 Holds-more node at place (first ∷ pieces) piece is holds more =
@@ -70,7 +71,8 @@ module _ (node entry : List ℕ) (at : ℕ) (is : slice_range node (at) (at + le
   data_offset_same : 16 ≤ length entry → data_offset node at ≡ data_offset entry 0
   data_offset_same h = ap (u16_at node) (omega arith) ∙ field 0 (omega arith)
 
-  whole_moved : (children : Bool) (end : ℕ) → is_whole entry children (length entry) 0 ≡ true → entry_len entry 0 ≡ length entry → at + length entry ≤ end
+  whole_moved : (children : Bool) (end : ℕ) → is_whole entry children (length entry) 0 ≡ true → entry_len entry 0 ≡ length entry
+      → at + length entry ≤ end
       → is_whole node children end at ≡ true
   whole_moved children end h len inside =
       let long : 0 + 16 ≤ length entry = search rules in
@@ -80,21 +82,22 @@ module _ (node entry : List ℕ) (at : ℕ) (is : slice_range node (at) (at + le
       let size = len_same (omega arith) in
       let key = key_same (omega arith) in
       all_five
-        (le-leb (at + 16) end (omega arith))
-        (ap (λ n. n % 8 == 0) size ∙ multiple)
-        (le-leb (16 + key_len node at + child_len children) (entry_len node at) (omega arith))
-        (le-leb (at + entry_len node at) end (omega arith))
-        (ap (λ n. n % 2 == (if children then 1 else 0)) (flags_same (omega arith)) ∙ flag)
+      (le-leb (at + 16) end (omega arith))
+      (ap (λ n. n % 8 == 0) size ∙ multiple)
+      (le-leb (16 + key_len node at + child_len children) (entry_len node at) (omega arith))
+      (le-leb (at + entry_len node at) end (omega arith))
+      (ap (λ n. n % 2 == (if children then 1 else 0)) (flags_same (omega arith)) ∙ flag)
     where
       all_five : {a b c d e : Bool} → a ≡ true → b ≡ true → c ≡ true → d ≡ true → e ≡ true → (a && b && c && d && e) ≡ true
       all_five h i j k l = rw (h, i, j, k, l)
 
-  data_moved : (form : NodeForm) (children : Bool) → 16 ≤ length entry → holds_data form entry children 0 ≡ true → holds_data form node children at ≡ true
+  data_moved : (form : NodeForm) (children : Bool) → 16 ≤ length entry → holds_data form entry children 0 ≡ true
+      → holds_data form node children at ≡ true
   data_moved Names children h holds = refl
   data_moved View children h holds = rw (data_len_same h, data_offset_same h, key_same h, len_same h) holds
 
-
-  entry_moved : (form : NodeForm) (children : Bool) (end : ℕ) → IsTrue (is_one_entry form children entry) → at + length entry ≤ end → is_entry form node children end at ≡ true
+  entry_moved : (form : NodeForm) (children : Bool) (end : ℕ) → IsTrue (is_one_entry form children entry) → at + length entry ≤ end
+      → is_entry form node children end at ≡ true
   unfolding is_entry
   entry_moved form children end h inside =
       let whole : is_whole entry children (length entry) 0 ≡ true = search rules in
@@ -103,14 +106,15 @@ module _ (node entry : List ℕ) (at : ℕ) (is : slice_range node (at) (at + le
       let len : entry_len entry 0 ≡ length entry = search rules in
       let long : 16 ≤ length entry = sixteen (length entry) (search rules) in
       three
-        (whole_moved children end whole len inside)
-        (ap (λ n. n / 2 % 2 == 0) (flags_same long) ∙ more)
-        (data_moved form children long apart)
+      (whole_moved children end whole len inside)
+      (ap (λ n. n / 2 % 2 == 0) (flags_same long) ∙ more)
+      (data_moved form children long apart)
     where
       three : {a b c : Bool} → a ≡ true → b ≡ true → c ≡ true → (a && b && c) ≡ true
       three h i j = rw (h, i, j)
 
-  last_moved : (children : Bool) (end : ℕ) → IsTrue (is_one_last children entry) → at + length entry ≤ end → is_last_entry node children end at ≡ true
+  last_moved : (children : Bool) (end : ℕ) → IsTrue (is_one_last children entry) → at + length entry ≤ end
+      → is_last_entry node children end at ≡ true
   unfolding is_last_entry
   last_moved children end h inside =
       let whole : is_whole entry children (length entry) 0 ≡ true = search rules in
@@ -119,14 +123,15 @@ module _ (node entry : List ℕ) (at : ℕ) (is : slice_range node (at) (at + le
       let len : entry_len entry 0 ≡ length entry = search rules in
       let long : 16 ≤ length entry = sixteen (length entry) (search rules) in
       three
-        (whole_moved children end whole len inside)
-        (ap (λ n. n / 2 % 2 == 1) (flags_same long) ∙ last)
-        (ap (λ n. n == 0) (key_same long) ∙ none)
+      (whole_moved children end whole len inside)
+      (ap (λ n. n / 2 % 2 == 1) (flags_same long) ∙ last)
+      (ap (λ n. n == 0) (key_same long) ∙ none)
     where
       three : {a b c : Bool} → a ≡ true → b ≡ true → c ≡ true → (a && b && c) ≡ true
       three h i j = rw (h, i, j)
 
-  child_moved : (children : Bool) → 16 + child_len children ≤ length entry → entry_len entry 0 ≡ length entry → child_at node children at ≡ child_at entry children 0
+  child_moved : (children : Bool) → 16 + child_len children ≤ length entry → entry_len entry 0 ≡ length entry
+      → child_at node children at ≡ child_at entry children 0
   child_moved false h len = child_at-none node false at refl ∙ sym (child_at-none entry false 0 refl)
   child_moved true h len =
       let size = len_same (omega arith) in
@@ -139,7 +144,8 @@ module _ (node entry : List ℕ) (at : ℕ) (is : slice_range node (at) (at + le
       ∙ ap (λ n. Some (u64_at entry (0 + n - 8))) (sym len)
       ∙ sym (child_at-some entry true 0 refl)
 
-  item_moved : (children : Bool) (end : ℕ) → 16 ≤ length entry → IsWholeEntry node children end at → entry_len entry 0 ≡ length entry → item_at node children at ≡ item_at entry children 0
+  item_moved : (children : Bool) (end : ℕ) → 16 ≤ length entry → IsWholeEntry node children end at → entry_len entry 0 ≡ length entry
+      → item_at node children at ≡ item_at entry children 0
   item_moved children end long w len =
       sym (item_in-own node children end at w)
       ∙ ap (λ n. item_in (slice_range node at (at + n))) (len_same long ∙ len)
@@ -147,7 +153,8 @@ module _ (node entry : List ℕ) (at : ℕ) (is : slice_range node (at) (at + le
       ∙ ap (λ b. item_at entry b 0) (flag_is children (entry_flags entry 0 % 2) (ap (λ n. n % 2) (sym (flags_same long)) ∙ w.flag))
 
 -- what the tests of one entry give
-entry_facts : (form : NodeForm) (children : Bool) (entry : List ℕ) → IsTrue (is_one_entry form children entry) → (entry_len entry 0 ≡ length entry) × (16 + child_len children ≤ length entry)
+entry_facts : (form : NodeForm) (children : Bool) (entry : List ℕ) → IsTrue (is_one_entry form children entry)
+    → (entry_len entry 0 ≡ length entry) × (16 + child_len children ≤ length entry)
 unfolding is_entry
 entry_facts form children entry h =
     let len : entry_len entry 0 ≡ length entry = search rules in
@@ -157,7 +164,8 @@ entry_facts form children entry h =
     short_of : (k c n m : ℕ) → 16 + k + c ≤ n → n ≡ m → 16 + c ≤ m
     short_of k c n m h e = omega arith
 
-last_facts : (children : Bool) (entry : List ℕ) → IsTrue (is_one_last children entry) → (entry_len entry 0 ≡ length entry) × (16 + child_len children ≤ length entry)
+last_facts : (children : Bool) (entry : List ℕ) → IsTrue (is_one_last children entry)
+    → (entry_len entry 0 ≡ length entry) × (16 + child_len children ≤ length entry)
 unfolding is_last_entry
 last_facts children entry h =
     let len : entry_len entry 0 ≡ length entry = search rules in
@@ -170,14 +178,16 @@ last_facts children entry h =
 sixteen_of : (c n : ℕ) → 16 + c ≤ n → 16 ≤ n
 sixteen_of c n h = omega arith
 
-entry_eq : {i j : Item} {c d : Option ℕ} → i ≡ j → c ≡ d → (let e : Entry = record { item = i; child = c } in e) ≡ record { item = j; child = d }
+entry_eq : {i j : Item} {c d : Option ℕ} → i ≡ j → c ≡ d
+    → (let e : Entry = record { item = i; child = c } in e) ≡ record { item = j; child = d }
 entry_eq e f = cc
 
 node_eq : {c d : Option ℕ} → c ≡ d → (let n : Node = record { entries = []; last = c } in n) ≡ record { entries = []; last = d }
 node_eq e = cc
 
 -- entries have bytes
-pub few_entries : (form : NodeForm) (children : Bool) (entry : List ℕ) (entries : List (List ℕ)) → AreEntriesFrom form children entry entries → length entries < total_len (entry ∷ entries)
+pub few_entries : (form : NodeForm) (children : Bool) (entry : List ℕ) (entries : List (List ℕ))
+    → AreEntriesFrom form children entry entries → length entries < total_len (entry ∷ entries)
 few_entries form children entry [] h =
     let sum = sum_by-cons length entry [] in
     let long = sixteen_of (child_len children) (length entry) (last_facts children entry h).1 in
@@ -189,7 +199,8 @@ few_entries form children entry (next ∷ entries) h =
     omega arith
 
 -- The entries are read again, one behind the other.
-pub scan_listed : (form : NodeForm) (node : List ℕ) (children : Bool) (end : ℕ) (entry : List ℕ) (entries : List (List ℕ)) (most at : ℕ) → length entries < most
+pub scan_listed : (form : NodeForm) (node : List ℕ) (children : Bool) (end : ℕ) (entry : List ℕ) (entries : List (List ℕ))
+    (most at : ℕ) → length entries < most
     → AreEntriesFrom form children entry entries → Holds node at (entry ∷ entries) → at + total_len (entry ∷ entries) ≤ end
     → scan_from form node children end most at ≡ Whole (node_from children entry entries)
 scan_listed form node children end entry entries zero at few each holds inside = absurd (omega arith)
@@ -205,10 +216,13 @@ scan_listed form node children end entry (next ∷ entries) (suc most) at few ea
     let sum = sum_by-cons length entry (next ∷ entries) in
     let is = entry_moved node entry at holds.0 form children end each.0 (omega arith) in
     scan_at_entry form node children end most at is
-    ∙ ap (λ n. before (entry_at node children at) (scan_from form node children end most (at + n))) (len_same node entry at holds.0 long ∙ facts.0)
-    ∙ ap (before (entry_at node children at)) (scan_listed form node children end next entries most (at + length entry) (omega arith) each.1 holds.1 (omega arith))
+    ∙ ap (λ n. before (entry_at node children at) (scan_from form node children end most (at + n)))
+    (len_same node entry at holds.0 long ∙ facts.0)
+    ∙ ap (before (entry_at node children at)) (scan_listed form node children end next entries most (at + length entry)
+    (omega arith) each.1 holds.1 (omega arith))
     ∙ ap (λ e. Whole (with_entry e (node_from children next entries)))
-      (entry_eq (item_moved node entry at holds.0 children end long (entry_whole form node children end at is) facts.0) (child_moved node entry at holds.0 children facts.1 facts.0))
+    (entry_eq (item_moved node entry at holds.0 children end long (entry_whole form node children end at is) facts.0)
+    (child_moved node entry at holds.0 children facts.1 facts.0))
 
 -- The header of a node that is laid out.
 pub node_header-same : (old new : List ℕ) → length new ≡ length old → node_header new ≡ node_header old
@@ -238,7 +252,8 @@ header_low node = go (is_index_record node)
 abbrev has_array : List ℕ → ℕ → Bool
 has_array node first = nat_le 0x28 (array_place node) && nat_le (array_end node) first
 
-head_right : (b : Bool) (p : ℕ) (tests : List (Bool × ℕ)) → first_failing ((b, p) ∷ tests) ≡ None → (b ≡ true) × (first_failing tests ≡ None)
+head_right : (b : Bool) (p : ℕ) (tests : List (Bool × ℕ)) → first_failing ((b, p) ∷ tests) ≡ None
+    → (b ≡ true) × (first_failing tests ≡ None)
 head_right true p tests h = (refl, h)
 head_right false p tests h = let f : Some p ≡ None = h in absurd (cc)
 
@@ -251,7 +266,8 @@ record IsRight (node : List ℕ) : Type 0 where
   used : nat_le (entries_end node) (room_end node) ≡ true
   inside : nat_le (room_end node) (length node) ≡ true
 
-six_facts : (p1 p2 p3 p4 p5 p6 : ℕ) (b1 b2 b3 b4 b5 b6 : Bool) → first_failing ((b1, p1) ∷ (b2, p2) ∷ (b3, p3) ∷ (b4, p4) ∷ (b5, p5) ∷ (b6, p6) ∷ []) ≡ None
+six_facts : (p1 p2 p3 p4 p5 p6 : ℕ) (b1 b2 b3 b4 b5 b6 : Bool)
+    → first_failing ((b1, p1) ∷ (b2, p2) ∷ (b3, p3) ∷ (b4, p4) ∷ (b5, p5) ∷ (b6, p6) ∷ []) ≡ None
     → (b1 ≡ true) × (b2 ≡ true) × (b3 ≡ true) × (b4 ≡ true) × (b5 ≡ true) × (b6 ≡ true)
 six_facts p1 p2 p3 p4 p5 p6 b1 b2 b3 b4 b5 b6 h =
     let a = head_right b1 p1 ((b2, p2) ∷ (b3, p3) ∷ (b4, p4) ∷ (b5, p5) ∷ (b6, p6) ∷ []) h in
@@ -265,14 +281,15 @@ six_facts p1 p2 p3 p4 p5 p6 b1 b2 b3 b4 b5 b6 h =
 right_of : (node : List ℕ) → node_header_failing node ≡ None → IsRight node
 right_of node h =
     let facts = six_facts 0x00 0x00 0x04 (node_header node) (node_header node + 0x04) (node_header node + 0x08)
-          (nat_le (node_header node + 16) (length node))
-          (if is_index_record node then starts_with nat_eq node (codes "INDX") else true)
-          (if is_index_record node then has_array node (first_entry node) else true)
-          (nat_le 16 (first_offset node)) (nat_le (entries_end node) (room_end node)) (nat_le (room_end node) (length node)) h in
+    (nat_le (node_header node + 16) (length node))
+    (if is_index_record node then starts_with nat_eq node (codes "INDX") else true)
+    (if is_index_record node then has_array node (first_entry node) else true)
+    (nat_le 16 (first_offset node)) (nat_le (entries_end node) (room_end node)) (nat_le (room_end node) (length node)) h in
     record { long = facts.0; mark = facts.1; array = facts.2; offset = facts.3; used = facts.4; inside = facts.5 }
 
 -- `mid` has a new header, and `new` has new entries behind it.
-module _ (old mid new : List ℕ) (children : Bool) (end first : ℕ) (sets : SetsHeader old mid children end) (at : first ≡ first_entry old) (rest : SameOutside mid new first end)
+module _ (old mid new : List ℕ) (children : Bool) (end first : ℕ) (sets : SetsHeader old mid children end) (at : first
+    ≡ first_entry old) (rest : SameOutside mid new first end)
     (right : node_header_failing old ≡ None) (order : first ≤ end) (room : end ≤ room_end old) where
   len : length new ≡ length old
   len = rest.len ∙ sets.len
@@ -327,14 +344,16 @@ module _ (old mid new : List ℕ) (children : Bool) (end first : ℕ) (sets : Se
       go true n = let e : (n * 2 + 1) % 2 ≡ 1 = omega arith in ap (λ m. m == 1) e
       go false n = let e : (n * 2 + 0) % 2 ≡ 0 = omega arith in ap (λ m. m == 1) e
 
-  mark_same : (if is_index_record new then starts_with nat_eq new (codes "INDX") else true) ≡ (if is_index_record old then starts_with nat_eq old (codes "INDX") else true)
+  mark_same : (if is_index_record new then starts_with nat_eq new (codes "INDX") else true)
+      ≡ (if is_index_record old then starts_with nat_eq old (codes "INDX") else true)
   mark_same =
       let low = header_low old in
       let four : take 4 new ≡ take 4 old = range_same old new 0 4 len (λ k from to. before_same k (omega arith)) in
       ap (λ n. if n == 4096 then starts_with nat_eq new (codes "INDX") else true) len
       ∙ ap (λ xs. if is_index_record old then pointwise nat_eq (codes "INDX") xs else true) four
 
-  array_same : (if is_index_record new then has_array new (first_entry new) else true) ≡ (if is_index_record old then has_array old (first_entry old) else true)
+  array_same : (if is_index_record new then has_array new (first_entry new) else true)
+      ≡ (if is_index_record old then has_array old (first_entry old) else true)
   array_same =
       let low = header_low old in
       let place : array_place new ≡ array_place old = u16_at-same old new 0x04 (λ k from to. before_same k (omega arith)) in
@@ -342,7 +361,8 @@ module _ (old mid new : List ℕ) (children : Bool) (end first : ℕ) (sets : Se
       ap (λ n. if n == 4096 then has_array new (first_entry new) else true) len
       ∙ ap (λ f. if is_index_record old then has_array new f else true) first_same
       ∙ ap (λ p. if is_index_record old then nat_le 0x28 p && nat_le (p + 2 * u16_at new 0x06) (first_entry old) else true) place
-      ∙ ap (λ c. if is_index_record old then nat_le 0x28 (array_place old) && nat_le (array_place old + 2 * c) (first_entry old) else true) count
+      ∙ ap (λ c. if is_index_record old then nat_le 0x28 (array_place old) && nat_le (array_place old + 2 * c)
+      (first_entry old) else true) count
 
   pub laid_right : node_header_failing new ≡ None
   laid_right =
@@ -355,12 +375,12 @@ module _ (old mid new : List ℕ) (children : Bool) (end first : ℕ) (sets : Se
       let l = len in
       let o = offset in
       six_right 0x00 0x00 0x04 (node_header new) (node_header new + 0x04) (node_header new + 0x08)
-        (le-leb (node_header new + 16) (length new) (omega arith))
-        (mark_same ∙ is_right.mark)
-        (array_same ∙ is_right.array)
-        (le-leb 16 (first_offset new) (omega arith))
-        (le-leb (entries_end new) (room_end new) (omega arith))
-        (le-leb (room_end new) (length new) (omega arith))
+      (le-leb (node_header new + 16) (length new) (omega arith))
+      (mark_same ∙ is_right.mark)
+      (array_same ∙ is_right.array)
+      (le-leb 16 (first_offset new) (omega arith))
+      (le-leb (entries_end new) (room_end new) (omega arith))
+      (le-leb (room_end new) (length new) (omega arith))
 
   pub laid_keeps : KeepsHeader old new
   laid_keeps =
@@ -379,7 +399,8 @@ module _ (old mid new : List ℕ) (children : Bool) (end first : ℕ) (sets : Se
       half n true = omega arith
       half n false = omega arith
 
-  pub laid_node : (form : NodeForm) (entries : List (List ℕ)) → AreEntries form children entries → Holds new first entries → end ≡ first + total_len entries
+  pub laid_node : (form : NodeForm) (entries : List (List ℕ)) → AreEntries form children entries → Holds new first entries
+      → end ≡ first + total_len entries
       → node_in form new ≡ Some (node_listed children entries)
   laid_node form [] are holds all = absurd are
   laid_node form (entry ∷ entries) are holds all =
@@ -387,5 +408,6 @@ module _ (old mid new : List ℕ) (children : Bool) (end first : ℕ) (sets : Se
       let within = inside in
       let few = few_entries form children entry entries are in
       let l = len in
-      ap whole_of (scan_node-is form new children end first (Whole (node_from children entry entries)) laid_right (sym laid_children) (sym laid_end) (at ∙ sym first_same)
-        (scan_listed form new children end entry entries (length new) first (omega arith) are holds (omega arith)))
+      ap whole_of (scan_node-is form new children end first (Whole (node_from children entry entries)) laid_right (sym laid_children)
+      (sym laid_end) (at ∙ sym first_same)
+      (scan_listed form new children end entry entries (length new) first (omega arith) are holds (omega arith)))

@@ -8,7 +8,6 @@ ghost use Rattle.std.specs.Prelude.{◌≡◌, ◌≤◌, ◌<◌, ◌^◌, IsTr
 ghost use Rattle.ntfs_def.specs.Node.{AreEntries, entry_place, first_entry, has_children, is_last_entry};
 
 mod blocks;
-
 mod shape;
 #[cfg(test)]
 mod tests;
@@ -16,7 +15,6 @@ mod view;
 mod written;
 
 pub use blocks::{BlockNo, Blocks};
-
 pub use ntfs_def::NodeForm;
 use thiserror::Error;
 pub use written::lay_out;

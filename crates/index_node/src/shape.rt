@@ -93,7 +93,13 @@ pub fn has_children(node: &[u8]) -> bool
 }
 
 /// How many entries with a key stand from a place on, before the last one.
-pub fn count_of(form: NodeForm, node: &[u8], children: bool, end: usize, first: usize) -> Result<usize, NodeNo>
+pub fn count_of(
+    form: NodeForm,
+    node: &[u8],
+    children: bool,
+    end: usize,
+    first: usize,
+) -> Result<usize, NodeNo>
     requires inside { end ≤ length node.now }
     requires some { 0 < length node.now }
     requires short { end < 2 ^ 33 }
@@ -177,5 +183,7 @@ pub fn is_last_entry(node: &[u8], children: bool, end: usize, at: usize) -> bool
     requires small { at < 2 ^ 33 }
     ensures { result ≡ is_last_entry node.now children end at }
 {
-    is_whole(node, children, end, at) && u16_at(node, at + 0x0C) / 2 % 2 == 1 && u16_at(node, at + 0x0A) == 0
+    is_whole(node, children, end, at)
+        && u16_at(node, at + 0x0C) / 2 % 2 == 1
+        && u16_at(node, at + 0x0A) == 0
 }

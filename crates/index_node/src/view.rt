@@ -30,7 +30,14 @@ impl<'r> NodeView<'r> {
         let end = entries_end(node);
         let children = has_children(node);
         let count = count_of(form, node, children, end, first)?;
-        Ok(NodeView { node, form, children, first, end, count })
+        Ok(NodeView {
+            node,
+            form,
+            children,
+            first,
+            end,
+            count,
+        })
     }
 }
 

@@ -62,7 +62,12 @@ fn put_entries(node: &mut [u8], first: usize, entries: &[Octets])
 /// # Errors
 ///
 /// `Full` exactly where the entries take more bytes than the node has room for. The node is then as before.
-pub fn lay_out(node: &mut [u8], form: NodeForm, children: bool, entries: &[Octets]) -> Result<(), NodeNo>
+pub fn lay_out(
+    node: &mut [u8],
+    form: NodeForm,
+    children: bool,
+    entries: &[Octets],
+) -> Result<(), NodeNo>
     requires header { node_header_failing node.old ≡ None }
     requires entries { AreEntries form children entries.now }
     requires short { total_len entries.now < 2 ^ 64 }

@@ -1,13 +1,16 @@
 -- The table of records on its volume.
 use Rattle.std.proofs.Common.{◌≡◌, ℕ, ◌+◌, ◌*◌, ◌/◌, ◌<◌, ◌≤◌, List, [], length, take, Option, Some, refl, sym, ap, subst, ◌∙◌, inl, inr, arith, length-append}
+use Rattle.std.specs.Prelude.{IsTrue}
+use Rattle.std.proofs.lemmas.Bool.Decides.{nat_tests}
 use Rattle.std.proofs.lemmas.List.{length-take, drop_all}
 use Rattle.vol_disk.specs.Contents.{IsTold, sector_in}
-use Rattle.ntfs_def.specs.Boot.{cluster_sectors, mft_cluster}
+use Rattle.ntfs_def.specs.Boot.{cluster_sectors, is_cluster_size, mft_cluster}
 use Rattle.ntfs_def.specs.Fixup.{opened_of}
 use Rattle.ntfs_def.proofs.FixupLaws.{length-opened_of}
 use Rattle.ntfs_def.proofs.ShapeLaws.{header_failing-length}
+
 use Rattle.ntfs_boot.specs.declared.Geometry.{Geometry}
-use Rattle.ntfs_boot.specs.Geometry.{FitsDisk, HasClusterSize, geometry_of}
+use Rattle.ntfs_boot.specs.Geometry.{FitsDisk, geometry_of}
 use Rattle.volume_def.specs.Table.{IsFromBoot, IsReadable, Layout, LiesOn, MeetsTableClause, cluster_bytes, first_record, two_sectors}
 use Rattle.mft_table.specs.Tables.{HasTable, IsFromGeometry, TellsLayout}
 
@@ -36,17 +39,14 @@ first_record-past image boot size len past readable =
     let sum = length-append (sector_in (Some image) n) (sector_in (Some image) (n + 1)) in
     omega (arith, whole, sum, ap length empty, length-sector_in image n)
 
-size_bounds : (per : ℕ) → HasClusterSize per → (0 < per) × (per ≤ 8)
-size_bounds per (inl is) = (omega arith, omega arith)
-size_bounds per (inr (inl is)) = (omega arith, omega arith)
-size_bounds per (inr (inr (inl is))) = (omega arith, omega arith)
-size_bounds per (inr (inr (inr is))) = (omega arith, omega arith)
+size_bounds : (per : ℕ) → IsTrue (is_cluster_size per) → (0 < per) × (per ≤ 8)
+size_bounds per is = (grind (arith, nat_tests), grind (arith, nat_tests))
 
 -- a volume on a disk has its table there
 pub lies_on : (geometry : Geometry) (size : ℕ) (record_0 : List ℕ) (layout : Layout) → FitsDisk geometry size
     → TellsLayout geometry record_0 layout → LiesOn size layout
 lies_on geometry size record_0 layout fits tells =
-    let bounds = size_bounds layout.cluster_sectors (subst HasClusterSize (sym tells.volume.cluster_sectors) fits.cluster.1) in
+    let bounds = size_bounds layout.cluster_sectors (subst (λ n. IsTrue (is_cluster_size n)) (sym tells.volume.cluster_sectors) fits.cluster.1) in
     let per : geometry.cluster ≡ 512 * layout.cluster_sectors = omega (arith, tells.volume.cluster_sectors, fits.cluster.0) in
     let a : geometry.clusters * (512 * layout.cluster_sectors) ≤ 512 * size = subst (λ n. geometry.clusters * n ≤ 512 * size) per fits.on_disk in
     let b : layout.clusters * (512 * layout.cluster_sectors) ≤ 512 * size =

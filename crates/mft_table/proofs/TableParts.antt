@@ -4,11 +4,11 @@ use Rattle.std.specs.Option.{option_map}
 use Rattle.ntfs_def.specs.declared.run_text.Run.{Run}
 use Rattle.ntfs_def.specs.declared.sizes.Sizes.{Sizes}
 use Rattle.ntfs_def.specs.Attribute.{Attribute, Extent, Body, Resident, NonResident, extent_of, runs_of}
-use Rattle.ntfs_def.specs.Runs.{MeansRuns}
+use Rattle.ntfs_def.specs.Runs.{MeansRuns, total_clusters}
 use Rattle.ntfs_def.proofs.RunLaws.{MeansFrom-exact}
 use Rattle.ntfs_boot.specs.declared.Geometry.{Geometry}
 use Rattle.ntfs_boot.specs.Geometry.{FitsDisk}
-use Rattle.volume_def.specs.Table.{ArePlaced, FitTable, HoldsTable, IsTable, Layout, cluster_bytes, clusters_in}
+use Rattle.volume_def.specs.Table.{ArePlaced, FitTable, HoldsTable, IsTable, Layout, cluster_bytes}
 use Rattle.mft_table.specs.Tables.{IsFromGeometry, TellsLayout, layout_on}
 
 -- what the code has read: the attribute that holds the table, its sizes, and the runs that its text means
@@ -27,7 +27,7 @@ body-read (NonResident extent all) sizes text s t = (extent, cc, cc)
 
 -- the sizes and the runs of a table
 abbrev pub Fits : ℕ → ℕ → ℕ → List Run → Sizes → Type 0
-Fits mft size clusters runs sizes = ArePlaced mft size clusters runs × FitTable sizes (clusters_in runs * size)
+Fits mft size clusters runs sizes = ArePlaced mft size clusters runs × FitTable sizes (total_clusters runs * size)
 
 -- the bytes of a cluster are whole sectors
 size-whole : (geometry : Geometry) (sectors : ℕ) → FitsDisk geometry sectors → 512 * (geometry.cluster / 512) ≡ geometry.cluster
@@ -42,9 +42,9 @@ TellsLayout-made geometry sectors record_0 stream sizes text runs fits read told
     let whole = size-whole geometry sectors fits in
     let placed : ArePlaced geometry.mft (512 * (geometry.cluster / 512)) geometry.clusters runs =
     subst (λ (size : ℕ). ArePlaced geometry.mft size geometry.clusters runs) (sym whole) told.0 in
-    let sized : FitTable extent.sizes (clusters_in runs * (512 * (geometry.cluster / 512))) =
-    subst (λ (s : Sizes). FitTable s (clusters_in runs * (512 * (geometry.cluster / 512)))) same
-    (subst (λ (size : ℕ). FitTable sizes (clusters_in runs * size)) (sym whole) told.1) in
+    let sized : FitTable extent.sizes (total_clusters runs * (512 * (geometry.cluster / 512))) =
+    subst (λ (s : Sizes). FitTable s (total_clusters runs * (512 * (geometry.cluster / 512)))) same
+    (subst (λ (size : ℕ). FitTable sizes (total_clusters runs * size)) (sym whole) told.1) in
     record {
       volume = record { cluster_sectors = refl; clusters = refl; mirror = refl };
       table = record {

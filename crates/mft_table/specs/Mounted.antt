@@ -10,8 +10,8 @@ abbrev pub mounted_layout : Mounted → Layout
 mounted_layout mounted = layout_on mounted.geometry mounted.table mounted.initialized (length mounted.records)
 
 -- What holds on a disk of so many sectors, whatever it tells.
-pub record StandsOn (count : ℕ) (mounted : Mounted) : Type 0 where
-  pub sectors : mounted.geometry.cluster % 512 ≡ 0
+pub record StandsOn (sectors : ℕ) (mounted : Mounted) : Type 0 where
+  pub whole : mounted.geometry.cluster % 512 ≡ 0
   pub size : IsTrue (is_cluster_size (mounted.geometry.cluster / 512))
   pub clusters : length mounted.clusters ≡ mounted.geometry.clusters
-  pub table : LiesOn count (mounted_layout mounted)
+  pub table : LiesOn sectors (mounted_layout mounted)

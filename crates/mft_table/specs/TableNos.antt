@@ -33,6 +33,6 @@ Refuses image no.Device = Unit {0}
 Refuses image no.Memory = Unit {0}
 
 -- what the disk's count of faults did
-abbrev pub Counts : ℕ → ℕ → TableNo → Type 0
-Counts before after no.Device = (before ≤ after) × Rose before after
-Counts before after _ = after ≡ before
+abbrev pub CountsNo : ℕ → ℕ → TableNo → Type 0
+CountsNo before after no.Device = (before ≤ after) × Rose before after
+CountsNo before after _ = after ≡ before

@@ -1,8 +1,7 @@
 //! Why the table is not found, and why a record of it is not read.
 ghost use Rattle.std.specs.Prelude.{◌≡◌};
 ghost use Rattle.mft_table.specs.declared.error.TableNo.TheVariants as table;
-ghost use Rattle.mft_table.specs.MftNos.{mft_no};
-ghost use Rattle.mft_table.specs.StageCauses.{table_no};
+ghost use Rattle.mft_table.specs.StageCauses.{mft_no, table_no};
 
 use ntfs_boot::BootFault;
 use std::alloc::AllocError;
@@ -51,8 +50,8 @@ pub enum MftNo {
     /// The disk failed; its count of faults rose.
     #[error("the device failed")]
     Device,
-    /// The stored block does not open: it was not written as a whole.
-    #[error("record {number} was not written as a whole")]
+    /// The stored block does not open: its update sequence array is wrong, or a stride does not end with the number.
+    #[error("record {number} does not open")]
     Torn { number: u64 },
     /// There are too few free clusters.
     #[error("no room on the volume")]

@@ -8,6 +8,8 @@ mod mft;
 mod mounted;
 mod open;
 mod table;
+#[cfg(test)]
+mod tests;
 mod volume;
 
 pub use blocks::{BlockReader, read_two_sectors};

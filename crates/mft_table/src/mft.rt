@@ -5,7 +5,7 @@ ghost use Rattle.vol_disk.specs.Contents.{IsTold, sector_in};
 ghost use Rattle.vol_disk.specs.Count.{CountsFault};
 ghost use Rattle.ntfs_def.specs.Fixup.{HasArray, IsSealed, bare_of, opened_of};
 ghost use Rattle.vol_stage.specs.Staged.{disk_of, image, places};
-ghost use Rattle.mft_table.specs.MftNos.{RefusesRead};
+ghost use Rattle.mft_table.specs.MftNos.{CountsNo, RefusesRead};
 ghost use Rattle.mft_table.specs.Mounted.{StandsOn};
 
 use crate::{MftNo, Mounted};
@@ -45,7 +45,7 @@ impl<'d, D: Disk> Mft<'d, D> {
 }
 
 impl<D: Disk> Mft<'_, D> {
-    ghost use Rattle.mft_table.specs.Mft.{MftReads, mounted_of, stage_of, view};
+    ghost use Rattle.mft_table.specs.Mft.{MftReads, faults_of, mounted_of, stage_of, view};
 
     /// Lends the tables.
     pub fn mounted(&self) -> &Mounted
@@ -64,8 +64,9 @@ impl<D: Disk> Mft<'_, D> {
         ensures read { OnOk result (IsTrue (view D.Disk self.old).told → into.new ≡ opened_of ((view D.Disk self.old).block number)) }
         ensures opens { OnOk result (IsTrue (view D.Disk self.old).told → IsSealed ((view D.Disk self.old).block number)) }
         ensures array { OnOk result (HasArray into.new) }
-        ensures refused { MatchResult result (λ _. D.faults (disk_of D.Disk (stage_of D.Disk self.new)) ≡ D.faults (disk_of D.Disk (stage_of D.Disk self.old)))
-            (RefusesRead (view D.Disk self.old) number (D.faults (disk_of D.Disk (stage_of D.Disk self.old))) (D.faults (disk_of D.Disk (stage_of D.Disk self.new)))) }
+        ensures err { IfErr result (RefusesRead (view D.Disk self.old) number) }
+        ensures faults { MatchResult result (λ _. faults_of D.Disk self.new ≡ faults_of D.Disk self.old)
+            (CountsNo (faults_of D.Disk self.old) (faults_of D.Disk self.new)) }
         ensures kept { OnErr result (into.new ≡ into.old) }
         ensures reads { MftReads D.Disk self.old self.new 2 }
     {
@@ -86,11 +87,12 @@ impl<D: Disk> Mft<'_, D> {
     /// `Device` where the disk failed; `into` is as before.
     pub fn read_sector(&mut self, sector: u64, into: &mut [u8; 512]) -> Result<(), MftNo>
         requires { sector < D.size (disk_of D.Disk (stage_of D.Disk self.old)) }
-        ensures read { OnOk result (IsTold (image D.Disk (stage_of D.Disk self.old)) → into.new ≡ sector_in (image D.Disk (stage_of D.Disk self.old)) sector) }
+        ensures read { OnOk result (IsTold (image D.Disk (stage_of D.Disk self.old))
+            → into.new ≡ sector_in (image D.Disk (stage_of D.Disk self.old)) sector) }
         ensures kept { OnErr result (into.new ≡ into.old) }
         ensures staged { Contains (places D.Disk (stage_of D.Disk self.old)) sector
             → IsOk result × (disk_of D.Disk (stage_of D.Disk self.new) ≡ disk_of D.Disk (stage_of D.Disk self.old)) }
-        ensures faults { CountsFault result (D.faults (disk_of D.Disk (stage_of D.Disk self.old))) (D.faults (disk_of D.Disk (stage_of D.Disk self.new))) }
+        ensures faults { CountsFault result (faults_of D.Disk self.old) (faults_of D.Disk self.new) }
         ensures device { IfErr result (λ no. no ≡ MftNo.Device) }
         ensures reads { MftReads D.Disk self.old self.new 1 }
     {

@@ -2,8 +2,8 @@
 ghost use Rattle.std.specs.Prelude.{◌≡◌, ◌<◌, ◌≤◌, ◌+◌, ◌*◌, ◌/◌, ◌^◌, ◌↔◌, ℕ, List, All, IfOk, IfSome, IfNone, IsTrue};
 ghost use Rattle.ntfs_def.specs.declared.run_text.Run.{Run};
 ghost use Rattle.ntfs_def.specs.declared.run_text.Spot.TheVariants.{At};
-ghost use Rattle.ntfs_def.specs.Runs.{spot_of};
-ghost use Rattle.volume_def.specs.Table.{ArePlaced, FitTable, IsOnVolume, Layout, clusters_in};
+ghost use Rattle.ntfs_def.specs.Runs.{spot_of, total_clusters};
+ghost use Rattle.volume_def.specs.Table.{ArePlaced, FitTable, IsOnVolume, Layout};
 ghost use Rattle.ntfs_boot.specs.Geometry.{FitsDisk};
 ghost use Rattle.attr_view.specs.View.{record_of};
 ghost use Rattle.mft_table.specs.Tables.{IsTableOf, TellsLayout};
@@ -80,9 +80,9 @@ fn are_placed(runs: &RunList, geometry: &Geometry, size: u64) -> bool
 }
 
 // The clusters of the runs.
-fn clusters_in(runs: &[Run]) -> u64
-    requires { clusters_in runs.now < 2 ^ 64 }
-    ensures { result ≡ clusters_in runs.now }
+fn total_clusters(runs: &[Run]) -> u64
+    requires { total_clusters runs.now < 2 ^ 64 }
+    ensures { result ≡ total_clusters runs.now }
 {
     runs.iter().map(|run| run.len).sum()
 }
@@ -103,9 +103,9 @@ fn is_table(geometry: &Geometry, sizes: &Sizes, runs: &RunList, size: u64) -> bo
     requires geometry { FitsDisk geometry.now (2 ^ 55) }
     requires size { 512 ≤ size }
     ensures { IsTrue result ↔ (ArePlaced geometry.now.mft size geometry.now.clusters runs.now
-        × FitTable sizes.now (clusters_in runs.now * size)) }
+        × FitTable sizes.now (total_clusters runs.now * size)) }
 {
-    are_placed(runs, geometry, size) && fit_table(sizes, clusters_in(runs.runs()), size)
+    are_placed(runs, geometry, size) && fit_table(sizes, total_clusters(runs.runs()), size)
 }
 
 // Where the table lies, by the opened record 0, and `None` exactly where the table clause does not hold

@@ -6,7 +6,7 @@ ghost use Rattle.ntfs_def.specs.Boot.{boot_sector};
 ghost use Rattle.ntfs_boot.specs.Geometry.{FitsDisk, geometry_of};
 ghost use Rattle.volume_def.specs.Table.{Layout, LiesOn, MeetsTableClause};
 ghost use Rattle.vol_stage.specs.Staged.{StageReads, disk_of, image};
-ghost use Rattle.mft_table.specs.TableNos.{Counts, HasTableOf, Refuses, RefusesAt};
+ghost use Rattle.mft_table.specs.TableNos.{CountsNo, HasTableOf, Refuses, RefusesAt};
 ghost use Rattle.mft_table.specs.Tables.{HasTable, IsTableOf, layout_of};
 
 use crate::blocks::read_two_sectors;
@@ -64,7 +64,7 @@ fn find_at<D: Disk>(
         → RefusesAt (sector_in (Some all)) boot no) }
     ensures reads { StageReads D.Disk stage.old stage.new 2 }
     ensures faults { MatchResult result (λ _. D.faults (disk_of D.Disk stage.new) ≡ D.faults (disk_of D.Disk stage.old))
-        (Counts (D.faults (disk_of D.Disk stage.old)) (D.faults (disk_of D.Disk stage.new))) }
+        (CountsNo (D.faults (disk_of D.Disk stage.old)) (D.faults (disk_of D.Disk stage.new))) }
 {
     let sector = geometry.mft * u64::from(geometry.cluster / 512);
     if sector + 2 > stage.sectors() {
@@ -86,12 +86,13 @@ fn find_at<D: Disk>(
 /// where the boot clause holds and the table clause fails; `Device` where the disk failed.
 pub fn find_table<D: Disk>(alloc: Global, stage: &mut Stage<'_, D>) -> Result<Table, TableNo>
     ensures ok { IfOk result (λ table. (all : List ℕ) → image D.Disk stage.old ≡ Some all → HasTableOf all table) }
+    ensures fits { IfOk result (λ table. FitsDisk table.geometry (D.size (disk_of D.Disk stage.old))) }
     ensures lies { IfOk result (λ table. LiesOn (D.size (disk_of D.Disk stage.old)) (layout_of table)) }
     ensures records { IfOk result (λ table. 24 ≤ table.count) }
     ensures err { IfErr result (λ no. (all : List ℕ) → image D.Disk stage.old ≡ Some all → Refuses all no) }
     ensures reads { StageReads D.Disk stage.old stage.new 3 }
     ensures faults { MatchResult result (λ _. D.faults (disk_of D.Disk stage.new) ≡ D.faults (disk_of D.Disk stage.old))
-        (Counts (D.faults (disk_of D.Disk stage.old)) (D.faults (disk_of D.Disk stage.new))) }
+        (CountsNo (D.faults (disk_of D.Disk stage.old)) (D.faults (disk_of D.Disk stage.new))) }
 {
     let boot = read_boot_sector(stage)?;
     match Geometry::read(&boot, stage.sectors()) {

@@ -1,7 +1,7 @@
 -- Laws of index trees: a node of a tree by one of its places, and that an index has one walk.
-use Rattle.std.proofs.Common.{◌≡◌, ℕ, zero, suc, ◌+◌, ◌<◌, ◌≤◌, List, [], ◌∷◌, ◌++◌, Option, Some, None, length, map, get_or, refl, sym, ap, ◌∙◌, arith, append_assoc, append-nil}
+use Rattle.std.proofs.Common.{◌≡◌, ℕ, zero, suc, ◌+◌, ◌<◌, List, [], ◌∷◌, ◌++◌, Option, Some, None, length, map, get_or, refl, sym, ap, ◌∙◌, arith, append_assoc, append-nil}
 use Rattle.ntfs_def.specs.Node.{Item, Entry, Node, child_from}
-use Rattle.ntfs_def.specs.IndexTree.{Nodes, Branch, Spread, Tree, Each, EachBelow, branch_items, branch_times, child_of, entry_of, node_of, items_of, IsStored, AreStored, HoldsIndex, Walks, spread_items}
+use Rattle.ntfs_def.specs.IndexTree.{Nodes, Branch, Spread, Tree, Each, EachBelow, branch_items, branch_times, child_of, entry_of, node_of, items_of, IsStored, HoldsIndex, Walks, spread_items}
 
 pub some_same : {X : Type 0} {a b : X} → Some a ≡ Some b → a ≡ b
 some_same e = cc
@@ -77,7 +77,8 @@ module _ {T : Type 0} where
   EachBelow-at P (b ∷ bs) last (suc i) h = EachBelow-at P bs last i h.1
 
   -- what holds of each item of the walk holds of each item of the node
-  pub Each-branches : (P : Item → Type 0) (items : T → List Item) (child : T → Option ℕ) (bs : List (Branch T)) (last : T) → Each P (branch_items items bs last)
+  pub Each-branches : (P : Item → Type 0) (items : T → List Item) (child : T → Option ℕ) (bs : List (Branch T)) (last : T)
+      → Each P (branch_items items bs last)
       → Each (λ (e : Entry). P e.item) (map (λ (b : Branch T). let e : Entry = record { item = b.item; child = child b.below } in e) bs)
   Each-branches P items child [] last h = tt
   Each-branches P items child (b ∷ bs) last h =
@@ -106,49 +107,58 @@ cons_none e = cc
 joined : {a b c d : List Item} {x y : Item} → a ≡ b → x ≡ y → c ≡ d → a ++ x ∷ c ≡ b ++ y ∷ d
 joined e f g = cc
 
-branches_same : (nodes : Nodes) (d d' : ℕ) (step : (t : Tree d) (t' : Tree d') → child_of d t ≡ child_of d' t' → IsStored nodes d t → IsStored nodes d' t' → items_of d t ≡ items_of d' t')
-    (bs : List (Branch (Tree d))) (last : Tree d) (bs' : List (Branch (Tree d'))) (last' : Tree d') → map (entry_of d) bs ≡ map (entry_of d') bs' → child_of d last ≡ child_of d' last'
-    → EachBelow (IsStored nodes d) bs last → EachBelow (IsStored nodes d') bs' last' → branch_items (items_of d) bs last ≡ branch_items (items_of d') bs' last'
+branches_same : (nodes : Nodes) (d d' : ℕ) (step : (t : Tree d) (t' : Tree d') → child_of d t ≡ child_of d' t' → IsStored nodes d t
+    → IsStored nodes d' t' → items_of d t ≡ items_of d' t')
+    (bs : List (Branch (Tree d))) (last : Tree d) (bs' : List (Branch (Tree d'))) (last' : Tree d')
+        → map (entry_of d) bs ≡ map (entry_of d') bs' → child_of d last ≡ child_of d' last'
+    → EachBelow (IsStored nodes d) bs last → EachBelow (IsStored nodes d') bs' last'
+        → branch_items (items_of d) bs last ≡ branch_items (items_of d') bs' last'
 branches_same nodes d d' step [] last [] last' e f h k = step last last' f h k
 branches_same nodes d d' step [] last (b' ∷ bs') last' e f h k = absurd (cons_none (sym e))
 branches_same nodes d d' step (b ∷ bs) last [] last' e f h k = absurd (cons_none e)
 branches_same nodes d d' step (b ∷ bs) last (b' ∷ bs') last' e f h k =
     joined (step b.below b'.below (ap (λ (x : Entry). x.child) (head_same e)) h.0 k.0) (ap (λ (x : Entry). x.item) (head_same e))
-      (branches_same nodes d d' step bs last bs' last' (tail_same e) f h.1 k.1)
+    (branches_same nodes d d' step bs last bs' last' (tail_same e) f h.1 k.1)
 
-pub one_tree_walk : (nodes : Nodes) (d d' : ℕ) (t : Tree d) (t' : Tree d') → child_of d t ≡ child_of d' t' → IsStored nodes d t → IsStored nodes d' t' → items_of d t ≡ items_of d' t'
+pub one_tree_walk : (nodes : Nodes) (d d' : ℕ) (t : Tree d) (t' : Tree d') → child_of d t ≡ child_of d' t' → IsStored nodes d t
+    → IsStored nodes d' t' → items_of d t ≡ items_of d' t'
 one_tree_walk nodes zero zero t t' e h k = refl
 one_tree_walk nodes zero (suc d') t t' e h k = absurd (none_other e)
 one_tree_walk nodes (suc d) zero t t' e h k = absurd (none_other (sym e))
 one_tree_walk nodes (suc d) (suc d') t t' e h k =
     let n : node_of d t.spread ≡ node_of d' t'.spread = some_same (sym h.0 ∙ ap nodes (some_same e) ∙ k.0) in
     branches_same nodes d d' (one_tree_walk nodes d d') t.spread.branches t.spread.last t'.spread.branches t'.spread.last
-      (ap (λ (m : Node). m.entries) n) (ap (λ (m : Node). m.last) n) h.1 k.1
+    (ap (λ (m : Node). m.entries) n) (ap (λ (m : Node). m.last) n) h.1 k.1
 
-last_below : (nodes : Nodes) (d : ℕ) (bs : List (Branch (Tree d))) (last : Tree d) → EachBelow (IsStored nodes d) bs last → IsStored nodes d last
+last_below : (nodes : Nodes) (d : ℕ) (bs : List (Branch (Tree d))) (last : Tree d) → EachBelow (IsStored nodes d) bs last
+    → IsStored nodes d last
 last_below nodes d [] last h = h
 last_below nodes d (b ∷ bs) last h = last_below nodes d bs last h.1
 
-pub one_tree_depth : (nodes : Nodes) (d d' : ℕ) (t : Tree d) (t' : Tree d') → child_of d t ≡ child_of d' t' → IsStored nodes d t → IsStored nodes d' t' → d ≡ d'
+pub one_tree_depth : (nodes : Nodes) (d d' : ℕ) (t : Tree d) (t' : Tree d') → child_of d t ≡ child_of d' t' → IsStored nodes d t
+    → IsStored nodes d' t' → d ≡ d'
 one_tree_depth nodes zero zero t t' e h k = refl
 one_tree_depth nodes zero (suc d') t t' e h k = absurd (none_other e)
 one_tree_depth nodes (suc d) zero t t' e h k = absurd (none_other (sym e))
 one_tree_depth nodes (suc d) (suc d') t t' e h k =
     let n : node_of d t.spread ≡ node_of d' t'.spread = some_same (sym h.0 ∙ ap nodes (some_same e) ∙ k.0) in
     ap (λ k. suc k) (one_tree_depth nodes d d' t.spread.last t'.spread.last (ap (λ (m : Node). m.last) n)
-      (last_below nodes d t.spread.branches t.spread.last h.1) (last_below nodes d' t'.spread.branches t'.spread.last k.1))
+    (last_below nodes d t.spread.branches t.spread.last h.1) (last_below nodes d' t'.spread.branches t'.spread.last k.1))
 
 -- The same under a root.
-pub one_walk : (nodes : Nodes) (root : Node) (d d' : ℕ) (s : Spread (Tree d)) (s' : Spread (Tree d')) → HoldsIndex nodes root d s → HoldsIndex nodes root d' s' → spread_items d s ≡ spread_items d' s'
+pub one_walk : (nodes : Nodes) (root : Node) (d d' : ℕ) (s : Spread (Tree d)) (s' : Spread (Tree d')) → HoldsIndex nodes root d s
+    → HoldsIndex nodes root d' s' → spread_items d s ≡ spread_items d' s'
 one_walk nodes root d d' s s' h k =
     let n : node_of d s ≡ node_of d' s' = h.node ∙ sym k.node in
     branches_same nodes d d' (one_tree_walk nodes d d') s.branches s.last s'.branches s'.last
-      (ap (λ (m : Node). m.entries) n) (ap (λ (m : Node). m.last) n) h.stored k.stored
+    (ap (λ (m : Node). m.entries) n) (ap (λ (m : Node). m.last) n) h.stored k.stored
 
-pub one_depth : (nodes : Nodes) (root : Node) (d d' : ℕ) (s : Spread (Tree d)) (s' : Spread (Tree d')) → HoldsIndex nodes root d s → HoldsIndex nodes root d' s' → d ≡ d'
+pub one_depth : (nodes : Nodes) (root : Node) (d d' : ℕ) (s : Spread (Tree d)) (s' : Spread (Tree d')) → HoldsIndex nodes root d s
+    → HoldsIndex nodes root d' s' → d ≡ d'
 one_depth nodes root d d' s s' h k =
     let n : node_of d s ≡ node_of d' s' = h.node ∙ sym k.node in
-    one_tree_depth nodes d d' s.last s'.last (ap (λ (m : Node). m.last) n) (last_below nodes d s.branches s.last h.stored) (last_below nodes d' s'.branches s'.last k.stored)
+    one_tree_depth nodes d d' s.last s'.last (ap (λ (m : Node). m.last) n) (last_below nodes d s.branches s.last h.stored)
+        (last_below nodes d' s'.branches s'.last k.stored)
 
 pub one_list : (nodes : Nodes) (root : Node) (items items' : List Item) → Walks nodes root items → Walks nodes root items' → items ≡ items'
 one_list nodes root items items' h k = h.is ∙ one_walk nodes root h.depth k.depth h.s k.s h.holds k.holds ∙ sym k.is

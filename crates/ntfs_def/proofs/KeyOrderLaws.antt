@@ -1,10 +1,10 @@
 -- Each order of keys is a total order, on all bytes.
-use Rattle.std.proofs.Common.{◌≡◌, ◌≢◌, ℕ, zero, suc, ◌+◌, ◌<◌, ◌≤◌, List, [], ◌∷◌, length, map, drop, get_or, refl, sym, ap, ◌∙◌, arith, Ordering, add-one}
+use Rattle.std.proofs.Common.{◌≡◌, ◌≢◌, ℕ, zero, suc, ◌+◌, ◌<◌, ◌≤◌, List, [], ◌∷◌, length, map, drop, get_or, refl, sym, ap, ◌∙◌, arith, Ordering}
 use Rattle.std.specs.declared.cmp.Ordering.TheVariants.{Less, Equal, Greater}
 use Rattle.std.specs.Ordering.{nat_cmp, ordering_then}
 use Rattle.std.specs.Cmp.{IsTotalOrder}
 use Rattle.std.proofs.lemmas.Cmp.{on_total, then_total, nat_list_cmp_total, nat_cmp_total, tied_itself, ranked, by_ranked}
-use Rattle.std.proofs.Common.{◌*◌, ◌/◌, ◌⊎◌, inl, inr}
+use Rattle.std.proofs.Common.{◌*◌, ◌/◌, inl, inr}
 use Rattle.std.proofs.lemmas.Bool.{cases_order}
 use Rattle.std.proofs.lemmas.List.FromFn.{get_or-map-range_with_len, length-map-range_with_len}
 use Rattle.vol_bytes.specs.Field.{u16_at, u32_at}
@@ -52,6 +52,7 @@ equal_numbers x y e = by_ranked (x < y) (x ≡ y) (y < x) (nat_cmp x y) (ranked 
   where
     less_equal : Less ≡ Equal → ⊥
     less_equal g = cc
+
     greater_equal : Greater ≡ Equal → ⊥
     greater_equal g = cc
 
@@ -95,7 +96,8 @@ pub numbers_end : (xs ys : List ℕ) (k : ℕ) → k ≤ length xs → k ≤ len
 numbers_end xs ys k h i e = elim (cases_order (length xs) (length ys)) [
   | inl same ↦
       let a : length xs ≤ k = le_by_no (length xs) (length ys) k i same e in
-      ap (λ zs. by_numbers zs (drop k ys)) (drop_all xs k a) ∙ ap (by_numbers []) (drop_all ys k (omega arith)) ∙ nat_equal (length xs) (length ys) same
+      ap (λ zs. by_numbers zs (drop k ys)) (drop_all xs k a) ∙ ap (by_numbers []) (drop_all ys k (omega arith))
+          ∙ nat_equal (length xs) (length ys) same
   | inr w ↦ elim w [
     | inl lt ↦
         let a : length xs ≤ k = le_by_no_less (length xs) (length ys) k lt e in
@@ -107,11 +109,16 @@ numbers_end xs ys k h i e = elim (cases_order (length xs) (length ys)) [
 ]
   where
     le_by_no : (m n k : ℕ) → k ≤ n → m ≡ n → (k < m → k < n → ⊥) → m ≤ k
-    le_by_no m n k i same e = elim (cases_order m k) [ inl f ↦ omega arith | inr w ↦ elim w [ inl lt ↦ omega arith | inr gt ↦ absurd (e gt (omega arith)) ] ]
+    le_by_no m n k i same e = elim (cases_order m k) [ inl f ↦ omega arith | inr w ↦ elim w [ inl lt ↦ omega arith | inr gt ↦ absurd
+        (e gt (omega arith)) ] ]
+
     le_by_no_less : (m n k : ℕ) → m < n → (k < m → k < n → ⊥) → m ≤ k
-    le_by_no_less m n k lt e = elim (cases_order m k) [ inl f ↦ omega arith | inr w ↦ elim w [ inl h ↦ omega arith | inr gt ↦ absurd (e gt (omega arith)) ] ]
+    le_by_no_less m n k lt e = elim (cases_order m k) [ inl f ↦ omega arith | inr w ↦ elim w [ inl h ↦ omega arith | inr gt ↦ absurd
+        (e gt (omega arith)) ] ]
+
     le_by_no_more : (m n k : ℕ) → n < m → (k < m → k < n → ⊥) → n ≤ k
-    le_by_no_more m n k gt e = elim (cases_order n k) [ inl f ↦ omega arith | inr w ↦ elim w [ inl h ↦ omega arith | inr lt ↦ absurd (e (omega arith) lt) ] ]
+    le_by_no_more m n k gt e = elim (cases_order n k) [ inl f ↦ omega arith | inr w ↦ elim w [ inl h ↦ omega arith | inr lt ↦ absurd (e
+        (omega arith) lt) ] ]
 
 -- the parts of a key, by their places
 pub length-key_units : (key : List ℕ) → length (key_units key) ≡ unit_count key
@@ -181,7 +188,8 @@ numbers_tied xs ys e = ap (λ zs. by_numbers zs ys) e ∙ tied_itself nat_list_c
 
 pub name_equal : (fold : ℕ → ℕ) (a b : List ℕ) → name_order fold a b ≡ Equal → key_units a ≡ key_units b
 unfolding name_order
-name_equal fold a b e = numbers_equal (key_units a) (key_units b) (then_both (by_numbers (map fold (key_units a)) (map fold (key_units b))) (by_numbers (key_units a) (key_units b)) e).1
+name_equal fold a b e = numbers_equal (key_units a) (key_units b) (then_both (by_numbers (map fold (key_units a)) (map fold
+    (key_units b))) (by_numbers (key_units a) (key_units b)) e).1
 
 pub name_same : (fold : ℕ → ℕ) (a b : List ℕ) → key_units a ≡ key_units b → name_order fold a b ≡ Equal
 unfolding name_order

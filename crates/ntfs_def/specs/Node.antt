@@ -2,7 +2,7 @@
 -- of an entry in it.
 -- Layout: Linux-NTFS documentation, "Index Header", "Index Entry", attribute $INDEX_ROOT, concept "B*Trees"; Carrier,
 -- File System Forensic Analysis, chapter 13. All numbers are little-endian.
-use Rattle.std.specs.Prelude.{◌≡◌, ℕ, zero, suc, ◌+◌, ◌-◌, ◌*◌, ◌/◌, ◌%◌, ◌<◌, ◌≤◌, ◌==◌, nat_le, ◌&&◌, ◌||◌, Bool, true, false, IsTrue}
+use Rattle.std.specs.Prelude.{◌≡◌, ℕ, zero, suc, ◌+◌, ◌-◌, ◌/◌, ◌%◌, ◌<◌, ◌≤◌, ◌==◌, nat_le, ◌&&◌, ◌||◌, Bool, true, IsTrue}
 use Rattle.std.specs.Prelude.{List, [], ◌∷◌, codes, nat_eq, length, slice_index, slice_range, Option, Some, None, if◌then◌else◌}
 use Rattle.std.specs.List.{starts_with}
 use Rattle.std.specs.Option.{option_and_then}
@@ -171,7 +171,7 @@ scan_from form node children end zero at = BadAt at
 scan_from form node children end (suc most) at =
     if is_last_entry node children end at then Whole (record { entries = []; last = child_at node children at })
     else if is_entry form node children end at then
-        before (entry_at node children at) (scan_from form node children end most (at + entry_len node at))
+    before (entry_at node children at) (scan_from form node children end most (at + entry_len node at))
     else BadAt at
 
 abbrev pub scan_behind : NodeForm → List ℕ → Option ℕ → Scan

@@ -2,7 +2,7 @@
 ghost use Rattle.std.specs.Prelude.{◌≡◌, ℕ, List, Some, IfErr, IfOk, MatchResult, OnOk, ◌+◌, ◌≤◌};
 ghost use Rattle.vol_disk.specs.Reading.{DiskReads};
 ghost use Rattle.vol_stage.specs.Staged.{StageReads, disk_of, image};
-ghost use Rattle.mft_table.specs.TableNos.{Counts, Refuses};
+ghost use Rattle.mft_table.specs.TableNos.{CountsNo, Refuses};
 ghost use Rattle.ntfs_shell.specs.Label.{LabelReports, RecordReports};
 ghost use Rattle.ntfs_shell.specs.Shown.{report_of};
 ghost use Rattle.ntfs_shell.specs.Stops.{Stops};
@@ -34,7 +34,7 @@ fn read_volume_record<D: Disk>(
     ensures err { IfErr result (λ no. (all : List ℕ) → image D.Disk stage.old ≡ Some all → Refuses all no) }
     ensures reads { StageReads D.Disk stage.old stage.new 5 }
     ensures faults { MatchResult result (λ _. D.faults (disk_of D.Disk stage.new) ≡ D.faults (disk_of D.Disk stage.old))
-        (Counts (D.faults (disk_of D.Disk stage.old)) (D.faults (disk_of D.Disk stage.new))) }
+        (CountsNo (D.faults (disk_of D.Disk stage.old)) (D.faults (disk_of D.Disk stage.new))) }
 {
     let table = find_table(alloc, stage)?;
     table.blocks().read_block(stage, VOLUME_RECORD, into)?;

@@ -69,7 +69,11 @@ fn lengths(rt: HostRuntime) -> Result<(), Fail> {
         (131_073, Some(UpCaseNo::Length)),
     ] {
         let bytes = vec![in rt.alloc(); 0u8; length]?;
-        assert_eq!(rt; UpCase::load(rt.alloc(), &bytes).err(), refusal, "at {length}");
+        assert_eq!(rt;
+            UpCase::load(rt.alloc(), &bytes).err(),
+            refusal,
+            "at {length}"
+        );
     }
     let text = format!(in rt.alloc(); "{}", UpCaseNo::Length)?;
     assert_eq!(rt; text.as_str(), "the table of case has a wrong length");

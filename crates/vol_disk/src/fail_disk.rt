@@ -221,6 +221,8 @@ impl<D: Disk> Disk for FailDisk<D> {
         ensures size { D.size (inner_of self.new) ≡ D.size (inner_of self.old) }
         ensures written { OnOk result (D.written (inner_of self.new) ≡ raised (D.written (inner_of self.old))) }
         ensures once { D.written (inner_of self.new) ≤ D.written (inner_of self.old) + 1 }
+        ensures late_once { D.late (inner_of self.new) ≤ D.late (inner_of self.old) + 1 }
+        ensures on_time { D.faults (inner_of self.old) ≡ 0 → D.late (inner_of self.new) ≡ D.late (inner_of self.old) }
         ensures fetched { D.fetched (inner_of self.new) ≡ D.fetched (inner_of self.old) }
         ensures counts { counts_of self.new ≡ after_write (is_ok result) (counts_of self.old) }
         ensures rises { ((counts_of self.old).written ≤ (counts_of self.new).written)

@@ -175,7 +175,7 @@ pub trait Source {
     ghost faults: { Self → ℕ };
 
     /// Takes bytes to the front of `into`, and tells how many. 0 is the end of the input, unless
-    /// `into` is empty. A failure takes nothing.
+    /// `into` is empty. A failure takes nothing; what then stands in `into` is not told.
     fn read(&mut self, into: &mut [u8]) -> Result<usize, Failed>
         ensures within { IfOk result (λ n. n ≤ length into.old) }
         ensures gives { IfOk result (λ n. IfSome (left self.old) (λ all. Gives n all into.new (left self.new))) }

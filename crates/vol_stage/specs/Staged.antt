@@ -48,7 +48,7 @@ pub record OnlyReads {D : Type 0} (g : Ghosts D) (old new : Stage D g) : Type 0 
   pub late : g.late (disk_of g new) ≡ g.late (disk_of g old)
   pub image : image g new ≡ image g old
   pub places : places g new ≡ places g old
-  pub spare : spare g old ≤ spare g new
+  pub spare : spare g new ≡ spare g old
   pub broken : is_broken g new ≡ is_broken g old
 
 -- What a call keeps that asks for so many reads at most, and for nothing else.

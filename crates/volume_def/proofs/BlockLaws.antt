@@ -1,14 +1,20 @@
 -- Where the sectors of the table lie, and what disks that agree on some sectors have in common.
-use Rattle.std.proofs.Common.{◌≡◌, ℕ, zero, suc, ◌+◌, ◌-◌, ◌*◌, ◌/◌, ◌%◌, ◌<◌, ◌≤◌, List, [], ◌∷◌, ◌++◌, length, take, Option, Some, None, refl, sym, ap, ◌∙◌, arith, append-nil}
+use Rattle.std.proofs.Common.{◌≡◌, ℕ, zero, suc, ◌+◌, ◌-◌, ◌*◌, ◌/◌, ◌%◌, ◌<◌, ◌≤◌, List, [], ◌∷◌, ◌++◌, length, take, Option, Some, None, inl, inr, refl, sym, ap, ◌∙◌, arith, append-nil}
+use Rattle.std.specs.Prelude.{All, IsSomeAnd}
+use Rattle.std.specs.Option.{option_map}
 use Rattle.std.specs.List.{range_with_len, flat_map}
-use Rattle.std.proofs.lemmas.Nat.{div-mul-add, mod-mul-add, mod_below, div-add-mod'}
+use Rattle.std.proofs.lemmas.Bool.{cases_lt}
+use Rattle.std.proofs.lemmas.List.Elements.{All-head, All-tail}
+use Rattle.std.proofs.lemmas.Nat.{mul-add-lt, div-mul-add, mod-mul-add, mod_below, div-add-mod'}
 use Rattle.std.proofs.lemmas.List.{take_all}
 use Rattle.ntfs_def.specs.declared.run_text.Spot.{Spot}
 use Rattle.ntfs_def.specs.declared.run_text.Spot.TheVariants.{Outside, Hole, At}
-use Rattle.ntfs_def.specs.Runs.{spot_of}
+use Rattle.ntfs_def.specs.declared.run_text.Run.{Run}
+use Rattle.ntfs_def.specs.Runs.{spot_in, spot_of}
+use Rattle.ntfs_def.proofs.SpotLaws.{spot_of-none, spot_of-first, spot_of-past}
 use Rattle.volume_def.specs.Blocks.{block_of, cluster_of, copy_of, cut_off, mirror_sector, place_at, shown_at, table_place, table_sector}
 use Rattle.volume_def.specs.Owners.{AreApart, times_in}
-use Rattle.volume_def.specs.Table.{Layout}
+use Rattle.volume_def.specs.Table.{IsOnVolume, Layout}
 use Rattle.volume_def.proofs.RunPlaces.{spot_of-once, times_in-spot_of}
 
 -- Places.
@@ -50,6 +56,48 @@ table_place-once layout a b place some apart e f =
     let x : place % per ≡ a % per = placed-rest layout a place (spot_of layout.runs (a / per)) some e in
     let y : place % per ≡ b % per = placed-rest layout b place (spot_of layout.runs (b / per)) some f in
     sym (div-add-mod' a per) ∙ (ap (λ q. q * per + a % per) c ∙ ap (λ r. b / per * per + r) (sym x ∙ y)) ∙ div-add-mod' b per
+
+-- Places on the volume.
+
+in_run-below : (clusters len n cluster : ℕ) (lcn : Option ℕ) → IsSomeAnd lcn (λ place. place + len ≤ clusters) → n < len
+    → spot_in (Some (option_map (λ place. place + n) lcn)) ≡ At cluster → cluster < clusters
+in_run-below clusters len n cluster None on lt at = cc
+in_run-below clusters len n cluster (Some place) on lt at = let same : place + n ≡ cluster = cc in omega arith
+
+-- a cluster of runs that lie on the volume lies there
+spot_of-below : (clusters n cluster : ℕ) (runs : List Run) → All (IsOnVolume clusters) runs
+    → spot_of runs n ≡ At cluster → cluster < clusters
+spot_of-below clusters n cluster [] on at = let outside = spot_of-none n in cc
+spot_of-below clusters n cluster (run ∷ runs) on at = elim (cases_lt n run.len) [
+  | inl lt ↦
+      in_run-below clusters run.len n cluster run.lcn (All-head (IsOnVolume clusters) run runs on) lt (sym (spot_of-first run runs n lt) ∙ at)
+  | inr past ↦
+      let more = All-tail (IsOnVolume clusters) run runs on in
+      spot_of-below clusters (n - run.len) cluster runs more (sym (spot_of-past run runs n past) ∙ at)
+]
+
+place_at-below : (layout : Layout) (sector place : ℕ) (spot : Spot) → 0 < layout.cluster_sectors
+    → ((cluster : ℕ) → spot ≡ At cluster → cluster < layout.clusters)
+    → place_at layout sector spot ≡ Some place → place < layout.clusters * layout.cluster_sectors
+place_at-below layout sector place Outside some below at = cc
+place_at-below layout sector place Hole some below at = cc
+place_at-below layout sector place (At cluster) some below at =
+    let is : cluster * layout.cluster_sectors + sector % layout.cluster_sectors ≡ place = cc in
+    let lt = below cluster refl in
+    omega (arith, mul-add-lt cluster layout.cluster_sectors (sector % layout.cluster_sectors) layout.clusters lt (omega arith))
+
+-- a sector of the table lies in a cluster of the volume
+pub table_place-below : (layout : Layout) (sector place : ℕ) → 0 < layout.cluster_sectors
+    → All (IsOnVolume layout.clusters) layout.runs → table_place layout sector ≡ Some place
+    → place < layout.clusters * layout.cluster_sectors
+table_place-below layout sector place some on at =
+    let n = sector / layout.cluster_sectors in
+    place_at-below layout sector place (spot_of layout.runs n) some (λ cluster. spot_of-below layout.clusters n cluster layout.runs on) at
+
+-- a sector whose cluster is one of the volume's lies below its end
+pub sector-below : (per clusters place : ℕ) → 0 < per → place / per < clusters → place < clusters * per
+sector-below per clusters place some lt =
+    omega (arith, mul-add-lt (place / per) per (place % per) clusters lt (mod_below place per some), div-add-mod' place per)
 
 -- Frames.
 

@@ -3,14 +3,14 @@ use Rattle.std.proofs.Common.{◌≡◌, ◌≢◌, ℕ, zero, suc, ◌+◌, ◌
 use Rattle.std.specs.Prelude.{IsTrue}
 use Rattle.std.specs.List.{range_with_len, flat_map}
 use Rattle.std.proofs.lemmas.Bool.{cases_lt}
-use Rattle.std.proofs.lemmas.Nat.{div-mul-add}
+use Rattle.std.proofs.lemmas.Nat.{div-mul-add, mul-add-lt}
 use Rattle.std.proofs.lemmas.List.{drop-drop, drop_at, length-take, take_at}
 use Rattle.std.proofs.Math.ListN.{take-append-drop}
 use Rattle.volume_def.specs.Blocks.{block_of, cluster_of, copy_of, mirror_sector, table_place}
 use Rattle.volume_def.specs.Owners.{IsOutside, IsPlaced, times_in}
 use Rattle.volume_def.specs.Table.{Layout}
 use Rattle.volume_def.specs.View.{ReplacesBlock, ReplacesPiece, View, WritesOne, WritesTwo, piece_of, view_of}
-use Rattle.volume_def.proofs.BlockLaws.{block_of-same, block_of-whole, cluster_of-same, copy_of-same, table_place-once, table_place-times}
+use Rattle.volume_def.proofs.BlockLaws.{block_of-same, block_of-whole, cluster_of-same, copy_of-same, sector-below, table_place-below, table_place-once, table_place-times}
 
 -- the two sectors of block n of the table were written
 module _ (told : Bool) (old new : ℕ → List ℕ) (layout : Layout) (n low high : ℕ) (stored : List ℕ) (is : IsPlaced layout)
@@ -52,6 +52,11 @@ module _ (told : Bool) (old new : ℕ → List ℕ) (layout : Layout) (n low hig
         let y : 1 ≤ times_in layout.runs c = rw q at x in
         let z = out.table in absurd (omega arith)))
 
+  pub rest-written : (k : ℕ) → new (layout.clusters * layout.cluster_sectors + k) ≡ old (layout.clusters * layout.cluster_sectors + k)
+  rest-written k = w.others (layout.clusters * layout.cluster_sectors + k)
+      (λ s. let below = table_place-below layout (2 * n) low is.some is.on_volume e in absurd (omega arith))
+      (λ s. let below = table_place-below layout (2 * n + 1) high is.some is.on_volume f in absurd (omega arith))
+
   -- one that has no copy
   pub ReplacesBlock-plain : 4 ≤ n → 1024 * n + 1024 ≤ layout.initialized → length stored ≡ 1024
       → ReplacesBlock (view_of told old layout) (view_of told new layout) n stored
@@ -63,6 +68,7 @@ module _ (told : Bool) (old new : ℕ → List ℕ) (layout : Layout) (n low hig
     copy = λ tells few. absurd (omega arith);
     copies = λ m few other. copies-written m few;
     clusters = clusters-written;
+    rest = rest-written;
   }
 
 -- the two sectors of copy n were written
@@ -100,6 +106,15 @@ module _ (told : Bool) (old new : ℕ → List ℕ) (layout : Layout) (n : ℕ) 
       (λ (s : place ≡ mirror_sector layout + 2 * n + 1).
         out.mirror (2 * n + 1) (omega arith) (ap (λ q. q / layout.cluster_sectors) (sym behind ∙ sym s) ∙ in_c)))
 
+  pub rest-copied : (k : ℕ) → new (layout.clusters * layout.cluster_sectors + k) ≡ old (layout.clusters * layout.cluster_sectors + k)
+  rest-copied k =
+      let per = layout.cluster_sectors in
+      let below : (sector : ℕ) → sector < 8 → mirror_sector layout + sector < layout.clusters * per =
+      λ sector few. sector-below per layout.clusters (mirror_sector layout + sector) is.some (is.mirror_on_volume sector few) in
+      w.others (layout.clusters * per + k)
+      (λ s. let first = below (2 * n) (omega arith) in absurd (omega arith))
+      (λ s. let second = below (2 * n + 1) (omega arith) in absurd (omega arith))
+
 -- a block, and then its copy
 pub ReplacesBlock-mirrored : (told : Bool) (old mid new : ℕ → List ℕ) (layout : Layout) (n low high : ℕ) (stored : List ℕ) → IsPlaced layout
     → table_place layout (2 * n) ≡ Some low → table_place layout (2 * n + 1) ≡ Some high → WritesTwo told old mid low high stored
@@ -114,6 +129,7 @@ ReplacesBlock-mirrored told old mid new layout n low high stored is e f w few v 
   copy = λ tells near. copy-copied told mid new layout n stored is few v tells;
   copies = λ m near other. copies-copied told mid new layout n stored is few v m other ∙ copies-written told old mid layout n low high stored is e f w m near;
   clusters = λ c out. clusters-copied told mid new layout n stored is few v c out ∙ clusters-written told old mid layout n low high stored is e f w c out;
+  rest = λ k. rest-copied told mid new layout n stored is few v k ∙ rest-written told old mid layout n low high stored is e f w k;
 }
 
 -- Sectors of a cluster.
@@ -154,7 +170,7 @@ piece_of-cluster disk layout c j long lt =
 
 -- one sector of a cluster was written
 module _ (told : Bool) (old new : ℕ → List ℕ) (layout : Layout) (c j : ℕ) (bytes : List ℕ) (is : IsPlaced layout) (out : IsOutside layout c)
-  (lt : j < layout.cluster_sectors) (w : WritesOne told old new (c * layout.cluster_sectors + j) bytes) where
+  (on : c < layout.clusters) (lt : j < layout.cluster_sectors) (w : WritesOne told old new (c * layout.cluster_sectors + j) bytes) where
   of_c : (c * layout.cluster_sectors + j) / layout.cluster_sectors ≡ c
   of_c = div-mul-add c layout.cluster_sectors j lt
 
@@ -189,4 +205,6 @@ module _ (told : Bool) (old new : ℕ → List ℕ) (layout : Layout) (c j : ℕ
         blocks = blocks-filled;
         copies = λ m few. copy_of-same old new layout m (λ k half.
             w.others (mirror_sector layout + k) (λ s. out.mirror k (omega arith) (ap (λ q. q / per) s ∙ of_c)));
+        rest = λ k. w.others (layout.clusters * per + k)
+            (λ s. let below = mul-add-lt c per j layout.clusters on lt in absurd (omega arith));
       }

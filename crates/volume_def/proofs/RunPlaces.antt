@@ -7,14 +7,14 @@ use Rattle.ntfs_def.specs.declared.run_text.Run.{Run}
 use Rattle.ntfs_def.specs.declared.run_text.Spot.TheVariants.{At}
 use Rattle.ntfs_def.specs.Runs.{spot_in, spot_of}
 use Rattle.ntfs_def.proofs.SpotLaws.{spot_of-first, spot_of-none, spot_of-past}
-use Rattle.volume_def.specs.Owners.{AreApart, covers, is_from, times_in}
+use Rattle.volume_def.specs.Owners.{AreApart, covers, is_in_run, times_in}
 
 times_in-cons : (run : Run) (runs : List Run) (c : ℕ) → times_in (run ∷ runs) c ≡ cond (covers c run) 1 0 + times_in runs c
 times_in-cons run runs c = sum_by-cons (λ r. cond (covers c r) 1 0) run runs
 
 -- the run that holds a cluster of the stream covers it
 in_run : (len : ℕ) (lcn : Option ℕ) (vcn c : ℕ) → vcn < len → spot_in (Some (option_map (λ l. l + vcn) lcn)) ≡ At c
-    → is_from lcn len c ≡ true
+    → is_in_run lcn len c ≡ true
 in_run len None vcn c h e = cc
 in_run len (Some l) vcn c h e =
     let at : l + vcn ≡ c = cc in

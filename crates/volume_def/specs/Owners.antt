@@ -1,16 +1,16 @@
 -- How often runs cover a cluster, and what lies apart on a volume where no cluster is owned twice.
-use Rattle.std.specs.Prelude.{◌≡◌, ◌≢◌, ℕ, ◌+◌, ◌/◌, ◌<◌, ◌≤◌, ◌&&◌, nat_le, nat_lt, Bool, false, List, Option, Some, None, count_by}
+use Rattle.std.specs.Prelude.{◌≡◌, ◌≢◌, ℕ, ◌+◌, ◌/◌, ◌<◌, ◌≤◌, ◌&&◌, nat_le, nat_lt, Bool, false, List, All, Option, Some, None, count_by}
 use Rattle.ntfs_def.specs.declared.run_text.Run.{Run}
 use Rattle.volume_def.specs.Blocks.{mirror_sector}
-use Rattle.volume_def.specs.Table.{Layout}
+use Rattle.volume_def.specs.Table.{IsOnVolume, Layout}
 
 -- whether a run of so many clusters from there on has the cluster; a hole has none
-abbrev pub is_from : Option ℕ → ℕ → ℕ → Bool
-is_from None len cluster = false
-is_from (Some lcn) len cluster = nat_le lcn cluster && nat_lt cluster (lcn + len)
+abbrev pub is_in_run : Option ℕ → ℕ → ℕ → Bool
+is_in_run None len cluster = false
+is_in_run (Some lcn) len cluster = nat_le lcn cluster && nat_lt cluster (lcn + len)
 
 abbrev pub covers : ℕ → Run → Bool
-covers cluster run = is_from run.lcn run.len cluster
+covers cluster run = is_in_run run.lcn run.len cluster
 
 -- how often the runs cover a cluster
 abbrev pub times_in : List Run → ℕ → ℕ
@@ -24,9 +24,12 @@ AreApart runs = (cluster : ℕ) → times_in runs cluster ≤ 1
 abbrev pub mirror_at : Layout → ℕ → ℕ
 mirror_at layout sector = (mirror_sector layout + sector) / layout.cluster_sectors
 
--- No cluster of the table is another of it, or one of the mirror.
+-- The clusters of the table and of its mirror lie on the volume, and none of the table is another of it, or one of the
+-- mirror.
 pub record IsPlaced (layout : Layout) : Type 0 where
   pub some : 0 < layout.cluster_sectors
+  pub on_volume : All (IsOnVolume layout.clusters) layout.runs
+  pub mirror_on_volume : (sector : ℕ) → sector < 8 → mirror_at layout sector < layout.clusters
   pub apart : AreApart layout.runs
   pub mirror : (sector : ℕ) → sector < 8 → times_in layout.runs (mirror_at layout sector) ≡ 0
 

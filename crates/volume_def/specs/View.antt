@@ -1,5 +1,5 @@
--- What a volume's image is to all that stands above the table: its blocks, their copies, and its clusters, each as a
--- function of its number. No crate above speaks of sectors.
+-- What a volume's image is to all that stands above the table: its blocks, their copies, its clusters, and the sectors
+-- that belong to no cluster, each as a function of its number. No crate above speaks of sectors otherwise.
 use Rattle.std.specs.Prelude.{◌≡◌, ◌≢◌, ℕ, ◌+◌, ◌*◌, ◌<◌, List, length, take, drop, slice_range, Bool, IsTrue}
 use Rattle.volume_def.specs.Blocks.{block_of, cluster_of, copy_of}
 use Rattle.volume_def.specs.Owners.{IsOutside}
@@ -12,6 +12,8 @@ pub record View : Type 0 where
   pub block : ℕ → List ℕ
   pub copy : ℕ → List ℕ
   pub cluster : ℕ → List ℕ
+  -- the sectors behind the last cluster, which belong to none
+  pub rest : ℕ → List ℕ
 
 -- the view of a disk, with this layout of the table
 abbrev pub view_of : Bool → (ℕ → List ℕ) → Layout → View
@@ -21,6 +23,7 @@ view_of told disk layout = record {
   block = block_of disk layout;
   copy = copy_of disk layout;
   cluster = cluster_of disk layout;
+  rest = λ k. disk (layout.clusters * layout.cluster_sectors + k);
 }
 
 -- Of the disk these two sectors were written, with the halves of a block, and no other.
@@ -34,7 +37,8 @@ pub record WritesOne (told : Bool) (old new : ℕ → List ℕ) (at : ℕ) (byte
   pub here : IsTrue told → new at ≡ bytes
   pub others : (sector : ℕ) → sector ≢ at → new sector ≡ old sector
 
--- Block n was replaced, with its copy where it has one; other blocks and copies, and all clusters outside, stay.
+-- Block n was replaced, with its copy where it has one; other blocks and copies, all clusters outside, and the sectors
+-- that belong to no cluster stay.
 pub record ReplacesBlock (old new : View) (n : ℕ) (stored : List ℕ) : Type 0 where
   pub told : new.told ≡ old.told
   pub layout : new.layout ≡ old.layout
@@ -43,12 +47,14 @@ pub record ReplacesBlock (old new : View) (n : ℕ) (stored : List ℕ) : Type 0
   pub copy : IsTrue old.told → n < 4 → new.copy n ≡ stored
   pub copies : (m : ℕ) → m < 4 → m ≢ n → new.copy m ≡ old.copy m
   pub clusters : (c : ℕ) → IsOutside old.layout c → new.cluster c ≡ old.cluster c
+  pub rest : (k : ℕ) → new.rest k ≡ old.rest k
 
 -- the bytes of one sector of a cluster
 abbrev pub piece_of : List ℕ → ℕ → List ℕ
 piece_of bytes piece = slice_range bytes (512 * piece) (512 * piece + 512)
 
--- One sector of cluster c was replaced; its other sectors, other clusters, all blocks and copies stay.
+-- One sector of cluster c was replaced; its other sectors, other clusters, all blocks and copies, and the sectors that
+-- belong to no cluster stay.
 pub record ReplacesPiece (old new : View) (c piece : ℕ) (bytes : List ℕ) : Type 0 where
   pub told : new.told ≡ old.told
   pub layout : new.layout ≡ old.layout
@@ -58,3 +64,4 @@ pub record ReplacesPiece (old new : View) (c piece : ℕ) (bytes : List ℕ) : T
   pub clusters : (d : ℕ) → d ≢ c → new.cluster d ≡ old.cluster d
   pub blocks : (n : ℕ) → new.block n ≡ old.block n
   pub copies : (m : ℕ) → m < 4 → new.copy m ≡ old.copy m
+  pub rest : (k : ℕ) → new.rest k ≡ old.rest k

@@ -5,10 +5,10 @@ ghost use Rattle.volume_def.specs.Owners.{IsOutside, IsPlaced};
 ghost use Rattle.volume_def.specs.Table.{Layout, MeetsTableClause};
 ghost use Rattle.volume_def.specs.View.{ReplacesBlock, ReplacesPiece, WritesOne, WritesTwo, view_of};
 
-/// Where no cluster is owned twice, a write of the two sectors of a block changes that block and no
-/// other, no copy and no cluster outside the table; with a write of its copy behind it, the copy too; and
-/// a write of a sector of a cluster outside the table and its mirror changes that sector of that cluster
-/// alone.
+/// Where no cluster of the table is another of it or one of the mirror, a write of the two sectors of a block changes
+/// that block and no other, no copy and no cluster outside the table; with a write of its copy behind it, the copy too;
+/// and a write of a sector of a cluster outside the table and its mirror changes that sector of that cluster alone.
+/// None of them changes a sector that belongs to no cluster.
 pub fn frame_laws()
     ensures block { (told : Bool) (old new : ℕ → List ℕ) (layout : Layout) (n low high : ℕ) (stored : List ℕ) → IsPlaced layout
         → table_place layout (2 * n) ≡ Some low → table_place layout (2 * n + 1) ≡ Some high → WritesTwo told old new low high stored
@@ -20,7 +20,7 @@ pub fn frame_laws()
         → 1024 * n + 1024 ≤ layout.initialized → length stored ≡ 1024
         → ReplacesBlock (view_of told old layout) (view_of told new layout) n stored }
     ensures piece { (told : Bool) (old new : ℕ → List ℕ) (layout : Layout) (c j : ℕ) (bytes : List ℕ) → IsPlaced layout
-        → IsOutside layout c → j < layout.cluster_sectors → WritesOne told old new (c * layout.cluster_sectors + j) bytes
+        → IsOutside layout c → c < layout.clusters → j < layout.cluster_sectors → WritesOne told old new (c * layout.cluster_sectors + j) bytes
         → (IsTrue told → (i : ℕ) → i < layout.cluster_sectors → length (old (c * layout.cluster_sectors + i)) ≡ 512)
         → length bytes ≡ 512 → ReplacesPiece (view_of told old layout) (view_of told new layout) c j bytes }
 {}

@@ -1,7 +1,6 @@
-use Rattle.std.proofs.Common.{◌≡◌, ℕ, ◌<◌, ◌≤◌, ◌+◌, List, length, map, get_or, ap, sym, ◌∙◌, subst, arith}
-use Rattle.ntfs_def.specs.FileName.{key_units}
-use Rattle.ntfs_def.specs.KeyOrder.{by_numbers, fold_of, word_parts}
-use Rattle.ntfs_def.proofs.KeyOrderLaws.{step_differ, step_same, step_end, length-key_units, get_or-key_units, length-folded, get_or-folded, length-word_parts, get_or-word_parts}
+use Rattle.std.proofs.Common.{◌<◌, length, sym, ◌∙◌, arith}
+use Rattle.ntfs_def.specs.KeyOrder.{word_parts}
+use Rattle.ntfs_def.proofs.KeyOrderLaws.{step_differ, step_same, step_end, length-word_parts, get_or-word_parts}
 use Rattle.collation.proofs.numbers.compare_words.Goals as goal
 
 pub returns-then-x-y : goal.returns-then-x-y
@@ -15,9 +14,9 @@ returns-then-x-y c =
     let h : c.loop-k.k < length xs = omega (arith, m, c.loop-k-test.true, c.min-k-end.ensures) in
     let i : c.loop-k.k < length ys = omega (arith, n, c.loop-k-test.true, c.min-k-end.ensures) in
     c.cmp.ensures ∙ step_differ xs ys c.loop-k.k c.u32_at-x.result c.u32_at-y.result c.loop-k.invariant h i
-      (get_or-word_parts a c.loop-k.k (omega (arith, c.loop-k-test.true, c.min-k-end.ensures)) ∙ sym c.u32_at-x.ensures)
-      (get_or-word_parts b c.loop-k.k (omega (arith, c.loop-k-test.true, c.min-k-end.ensures)) ∙ sym c.u32_at-y.ensures)
-      c.if-x-y.true
+    (get_or-word_parts a c.loop-k.k (omega (arith, c.loop-k-test.true, c.min-k-end.ensures)) ∙ sym c.u32_at-x.ensures)
+    (get_or-word_parts b c.loop-k.k (omega (arith, c.loop-k-test.true, c.min-k-end.ensures)) ∙ sym c.u32_at-y.ensures)
+    c.if-x-y.true
 
 pub loop-k-preserved : goal.loop-k-preserved
 loop-k-preserved c =
@@ -30,9 +29,9 @@ loop-k-preserved c =
     let h : c.loop-k.k < length xs = omega (arith, m, c.loop-k-test.true, c.min-k-end.ensures) in
     let i : c.loop-k.k < length ys = omega (arith, n, c.loop-k-test.true, c.min-k-end.ensures) in
     step_same xs ys c.loop-k.k c.u32_at-x.result c.u32_at-y.result c.loop-k.invariant h i
-      (get_or-word_parts a c.loop-k.k (omega (arith, c.loop-k-test.true, c.min-k-end.ensures)) ∙ sym c.u32_at-x.ensures)
-      (get_or-word_parts b c.loop-k.k (omega (arith, c.loop-k-test.true, c.min-k-end.ensures)) ∙ sym c.u32_at-y.ensures)
-      c.if-x-y.false
+    (get_or-word_parts a c.loop-k.k (omega (arith, c.loop-k-test.true, c.min-k-end.ensures)) ∙ sym c.u32_at-x.ensures)
+    (get_or-word_parts b c.loop-k.k (omega (arith, c.loop-k-test.true, c.min-k-end.ensures)) ∙ sym c.u32_at-y.ensures)
+    c.if-x-y.false
 
 pub returns : goal.returns
 returns c =
@@ -43,6 +42,6 @@ returns c =
     let m = length-word_parts a in
     let n = length-word_parts b in
     c.cmp-2.ensures ∙ step_end xs ys c.loop-k.k _ _ c.loop-k.invariant m n
-      (omega (arith, c.loop-k-test.false, c.loop-k.auto.k-end, c.min-k-end.ensures))
-      (omega (arith, c.loop-k-test.false, c.loop-k.auto.k-end, c.min-k-end.ensures))
-      (λ p q. absurd (omega (arith, p, q, c.loop-k-test.false, c.loop-k.auto.k-end, c.min-k-end.ensures)))
+    (omega (arith, c.loop-k-test.false, c.loop-k.auto.k-end, c.min-k-end.ensures))
+    (omega (arith, c.loop-k-test.false, c.loop-k.auto.k-end, c.min-k-end.ensures))
+    (λ p q. absurd (omega (arith, p, q, c.loop-k-test.false, c.loop-k.auto.k-end, c.min-k-end.ensures)))

@@ -1,4 +1,4 @@
-use Rattle.std.proofs.Common.{◌≡◌, ◌<◌, ◌≤◌, ℕ, ◌+◌, ◌-◌, Some, arith, ap, sym, ◌∙◌, subst}
+use Rattle.std.proofs.Common.{◌≤◌, ◌+◌, ◌-◌, Some, arith, ap, sym, ◌∙◌}
 use Rattle.vol_bytes.specs.Field.{u64_at}
 use Rattle.ntfs_def.specs.Node.{child_at}
 use Rattle.ntfs_def.proofs.NodeLaws.{length-entries_from, child_from-entries_from, child_at-some, child_at-none}

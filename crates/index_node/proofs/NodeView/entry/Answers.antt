@@ -1,7 +1,7 @@
-use Rattle.std.proofs.Common.{slice_range, ◌+◌, ◌≡◌, ◌<◌, ◌≤◌, ℕ, arith, ap, sym, ◌∙◌, subst}
-use Rattle.ntfs_def.specs.Node.{IsOwnEntry, Entry, entry_at, entry_len, item_at, item_in}
+use Rattle.std.proofs.Common.{slice_range, ◌+◌, ◌<◌, arith, ap, sym, ◌∙◌, subst}
+use Rattle.ntfs_def.specs.Node.{IsOwnEntry, Entry, item_at, item_in}
 use Rattle.ntfs_def.proofs.NodeLaws.{length-entries_from, get_or-entries_from, item_in-own, entry-own}
-use Rattle.index_node.specs.View.{node_of_view, place_of}
+use Rattle.index_node.specs.View.{node_of_view}
 use Rattle.index_node.proofs.NodeView.entry.Goals as goal
 
 pub place-at-requires : goal.place-at-requires
@@ -27,4 +27,4 @@ pub returns-clause-own : goal.returns-clause-own
 returns-clause-own c =
     let view = c.args.self.now in
     subst (λ n. IsOwnEntry (slice_range view.node.now c.place-at.result (c.place-at.result + n))) (sym c.u16_at.ensures)
-      (entry-own view.node.now view.children view.end c.place-at.result c.place-at.ensures.whole c.place-at.ensures.inside)
+    (entry-own view.node.now view.children view.end c.place-at.result c.place-at.ensures.whole c.place-at.ensures.inside)

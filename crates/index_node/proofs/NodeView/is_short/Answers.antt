@@ -1,8 +1,8 @@
-use Rattle.std.proofs.Common.{◌≡◌, ◌≤◌, ◌<◌, ◌+◌, ◌-◌, ℕ, suc, length, arith, add-one, ap, sym, ◌∙◌}
+use Rattle.std.proofs.Common.{◌≡◌, ◌≤◌, ◌<◌, ◌+◌, ◌-◌, suc, arith, add-one, ap, sym, ◌∙◌}
 use Rattle.std.specs.Prelude.{nat_le}
 use Rattle.ntfs_def.specs.Node.{are_short_from, child_len, entry_len}
 use Rattle.ntfs_def.proofs.NodeLaws.{are_short-is, entry_place-next, length-entries_from, place_whole, short_next, short_stop}
-use Rattle.index_node.specs.View.{node_of_view, place_of}
+use Rattle.index_node.specs.View.{node_of_view}
 use Rattle.index_node.proofs.NodeView.is_short.Goals as goal
 
 pub overflow_add-at : goal.overflow_add-at
@@ -28,7 +28,7 @@ returns-then-len-most c =
     sym (short_stop node most c.loop-k.at (view.count - c.loop-k.k) long)
     ∙ c.loop-k.invariant.short
     ∙ are_short-is node _ view.count most view.first (sym (length-entries_from node view.children view.first view.count))
-      (ap (λ n. 632 + n) (c.child_len-most.ensures ∙ ap child_len view.flag)) view.begins
+    (ap (λ n. 632 + n) (c.child_len-most.ensures ∙ ap child_len view.flag)) view.begins
 
 pub loop-k-preserved : goal.loop-k-preserved
 loop-k-preserved c =
@@ -42,10 +42,10 @@ loop-k-preserved c =
     record {
       place = rw add-one (omega (arith, c.loop-k.invariant.place, len, c.u16_at-len.ensures, next));
       short =
-        ap (λ n. are_short_from node most (c.loop-k.at + n) (view.count - (c.loop-k.k + 1))) c.u16_at-len.ensures
-        ∙ sym (short_next node most c.loop-k.at (view.count - (c.loop-k.k + 1)) short)
-        ∙ ap (are_short_from node most c.loop-k.at) (sym left)
-        ∙ c.loop-k.invariant.short;
+          ap (λ n. are_short_from node most (c.loop-k.at + n) (view.count - (c.loop-k.k + 1))) c.u16_at-len.ensures
+          ∙ sym (short_next node most c.loop-k.at (view.count - (c.loop-k.k + 1)) short)
+          ∙ ap (are_short_from node most c.loop-k.at) (sym left)
+          ∙ c.loop-k.invariant.short;
     }
 
 pub overflow_add-at-2 : goal.overflow_add-at-2
@@ -72,4 +72,4 @@ returns c =
     ∙ ap (are_short_from node most c.loop-k.at) (sym done)
     ∙ c.loop-k.invariant.short
     ∙ are_short-is node _ view.count most view.first (sym (length-entries_from node view.children view.first view.count))
-      (ap (λ n. 632 + n) (c.child_len-most.ensures ∙ ap child_len view.flag)) view.begins
+    (ap (λ n. 632 + n) (c.child_len-most.ensures ∙ ap child_len view.flag)) view.begins

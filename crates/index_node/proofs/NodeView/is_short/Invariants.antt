@@ -1,4 +1,4 @@
-use Rattle.std.proofs.Common.{◌≡◌, ◌+◌, ◌-◌}
+use Rattle.std.proofs.Common.{◌≡◌, ◌-◌}
 use Rattle.ntfs_def.specs.Node.{are_short_from}
 use Rattle.index_node.specs.View.{place_of}
 use Rattle.index_node.proofs.NodeView.is_short.Given as goal

@@ -1,7 +1,7 @@
-use Rattle.std.proofs.Common.{slice_range, ◌+◌, ◌≡◌, ◌<◌, ◌≤◌, ℕ, arith, ap, sym, ◌∙◌, subst}
-use Rattle.ntfs_def.specs.Node.{Entry, entry_at, entry_len, item_at, item_in}
+use Rattle.std.proofs.Common.{slice_range, ◌+◌, ◌<◌, arith, ap, sym, ◌∙◌}
+use Rattle.ntfs_def.specs.Node.{Entry, item_at}
 use Rattle.ntfs_def.proofs.NodeLaws.{length-entries_from, get_or-entries_from, item_key}
-use Rattle.index_node.specs.View.{node_of_view, place_of}
+use Rattle.index_node.specs.View.{node_of_view}
 use Rattle.index_node.proofs.NodeView.key.Goals as goal
 
 pub place-at-requires : goal.place-at-requires

@@ -1,4 +1,4 @@
-use Rattle.std.proofs.Common.{◌≡◌, ◌+◌, ◌-◌, ◌<◌, ◌≤◌, ℕ, Bool, List, [], ◌∷◌, length, ap, sym, subst, ◌∙◌, arith, rules}
+use Rattle.std.proofs.Common.{◌≡◌, ◌+◌, ◌-◌, ◌<◌, ◌≤◌, ℕ, Bool, List, [], ◌∷◌, ap, sym, subst, ◌∙◌, arith}
 use Rattle.vol_bytes.specs.Field.{SameOutside}
 use Rattle.ntfs_def.specs.declared.index.NodeForm.{NodeForm}
 use Rattle.index_node.specs.LayOut.{AreEntries, total_len}
@@ -11,18 +11,21 @@ begins first need = omega arith
 fits : (first need end free room : ℕ) → need ≤ free → free ≡ end - first → end ≡ room → 0 < need → first + need ≤ room
 fits first need end free room h e f some = omega arith
 
-some_bytes : (form : NodeForm) (children : Bool) (entries : List (List ℕ)) → AreEntries form children entries → {need : ℕ} → need ≡ total_len entries → 0 < need
+some_bytes : (form : NodeForm) (children : Bool) (entries : List (List ℕ)) → AreEntries form children entries → {need : ℕ}
+    → need ≡ total_len entries → 0 < need
 some_bytes form children [] are e = absurd are
 some_bytes form children (entry ∷ entries) are e = let few = few_entries form children entry entries are in omega arith
 
 pub put_header-requires-clause-end : goal.put_header-requires-clause-end
 put_header-requires-clause-end c = fits c.first_entry-first.result c.total_len-need.result c.room_end.result c.saturating_sub-free.result _
-    c.if-need-free.false c.saturating_sub-free.ensures c.room_end.ensures.place (some_bytes c.args.form c.args.children c.args.entries.now c.requires.entries c.total_len-need.ensures)
+    c.if-need-free.false c.saturating_sub-free.ensures c.room_end.ensures.place
+    (some_bytes c.args.form c.args.children c.args.entries.now c.requires.entries c.total_len-need.ensures)
 
 pub put_entries-requires : goal.put_entries-requires
 put_entries-requires c =
     let room = fits c.first_entry-first.result c.total_len-need.result c.room_end.result c.saturating_sub-free.result _
-          c.if-need-free.false c.saturating_sub-free.ensures c.room_end.ensures.place (some_bytes c.args.form c.args.children c.args.entries.now c.requires.entries c.total_len-need.ensures) in
+    c.if-need-free.false c.saturating_sub-free.ensures c.room_end.ensures.place
+    (some_bytes c.args.form c.args.children c.args.entries.now c.requires.entries c.total_len-need.ensures) in
     omega (arith, room, c.total_len-need.ensures, c.room_end.ensures.inside, c.room_end.ensures.place, c.put_header.ensures.len)
 
 pub returns-clause-ok : goal.returns-clause-ok
@@ -32,11 +35,14 @@ returns-clause-ok c =
     let new = c.put_entries.new.node in
     let first = c.first_entry-first.result in
     let end = first + c.total_len-need.result in
-    let rest : SameOutside mid new first end = subst (λ n. SameOutside mid new first (first + n)) (sym c.total_len-need.ensures) c.put_entries.ensures.rest in
-    laid_node old mid new c.args.children end first c.put_header.ensures c.first_entry-first.ensures.place rest c.requires.header (begins first c.total_len-need.result)
-      (fits first c.total_len-need.result c.room_end.result c.saturating_sub-free.result _
-        c.if-need-free.false c.saturating_sub-free.ensures c.room_end.ensures.place (some_bytes c.args.form c.args.children c.args.entries.now c.requires.entries c.total_len-need.ensures))
-      c.args.form c.args.entries.now c.requires.entries c.put_entries.ensures.holds (ap (λ n. first + n) c.total_len-need.ensures)
+    let rest : SameOutside mid new first end = subst (λ n. SameOutside mid new first (first + n))
+    (sym c.total_len-need.ensures) c.put_entries.ensures.rest in
+    laid_node old mid new c.args.children end first c.put_header.ensures c.first_entry-first.ensures.place rest c.requires.header
+    (begins first c.total_len-need.result)
+    (fits first c.total_len-need.result c.room_end.result c.saturating_sub-free.result _
+    c.if-need-free.false c.saturating_sub-free.ensures c.room_end.ensures.place
+    (some_bytes c.args.form c.args.children c.args.entries.now c.requires.entries c.total_len-need.ensures))
+    c.args.form c.args.entries.now c.requires.entries c.put_entries.ensures.holds (ap (λ n. first + n) c.total_len-need.ensures)
 
 pub returns-clause-end : goal.returns-clause-end
 returns-clause-end c =
@@ -45,10 +51,13 @@ returns-clause-end c =
     let new = c.put_entries.new.node in
     let first = c.first_entry-first.result in
     let end = first + c.total_len-need.result in
-    let rest : SameOutside mid new first end = subst (λ n. SameOutside mid new first (first + n)) (sym c.total_len-need.ensures) c.put_entries.ensures.rest in
-    laid_end old mid new c.args.children end first c.put_header.ensures c.first_entry-first.ensures.place rest c.requires.header (begins first c.total_len-need.result)
-      (fits first c.total_len-need.result c.room_end.result c.saturating_sub-free.result _
-        c.if-need-free.false c.saturating_sub-free.ensures c.room_end.ensures.place (some_bytes c.args.form c.args.children c.args.entries.now c.requires.entries c.total_len-need.ensures))
+    let rest : SameOutside mid new first end = subst (λ n. SameOutside mid new first (first + n))
+    (sym c.total_len-need.ensures) c.put_entries.ensures.rest in
+    laid_end old mid new c.args.children end first c.put_header.ensures c.first_entry-first.ensures.place rest c.requires.header
+    (begins first c.total_len-need.result)
+    (fits first c.total_len-need.result c.room_end.result c.saturating_sub-free.result _
+    c.if-need-free.false c.saturating_sub-free.ensures c.room_end.ensures.place
+    (some_bytes c.args.form c.args.children c.args.entries.now c.requires.entries c.total_len-need.ensures))
     ∙ omega (arith, c.total_len-need.ensures, c.first_entry-first.ensures.place)
 
 pub returns-clause-header : goal.returns-clause-header
@@ -58,7 +67,10 @@ returns-clause-header c =
     let new = c.put_entries.new.node in
     let first = c.first_entry-first.result in
     let end = first + c.total_len-need.result in
-    let rest : SameOutside mid new first end = subst (λ n. SameOutside mid new first (first + n)) (sym c.total_len-need.ensures) c.put_entries.ensures.rest in
-    laid_keeps old mid new c.args.children end first c.put_header.ensures c.first_entry-first.ensures.place rest c.requires.header (begins first c.total_len-need.result)
-      (fits first c.total_len-need.result c.room_end.result c.saturating_sub-free.result _
-        c.if-need-free.false c.saturating_sub-free.ensures c.room_end.ensures.place (some_bytes c.args.form c.args.children c.args.entries.now c.requires.entries c.total_len-need.ensures))
+    let rest : SameOutside mid new first end = subst (λ n. SameOutside mid new first (first + n))
+    (sym c.total_len-need.ensures) c.put_entries.ensures.rest in
+    laid_keeps old mid new c.args.children end first c.put_header.ensures c.first_entry-first.ensures.place rest c.requires.header
+    (begins first c.total_len-need.result)
+    (fits first c.total_len-need.result c.room_end.result c.saturating_sub-free.result _
+    c.if-need-free.false c.saturating_sub-free.ensures c.room_end.ensures.place
+    (some_bytes c.args.form c.args.children c.args.entries.now c.requires.entries c.total_len-need.ensures))

@@ -11,4 +11,5 @@ returns-in-Equal c =
 pub returns-in_default : goal.returns-in_default
 returns-in_default c =
     let fold = fold_of c.args.self.now in
-    (λ t. let not : false ≡ true = t in absurd (cc), λ e. absurd (c.in_default.not-Equal (c.compare_folded.ensures ∙ numbers_tied (map fold c.args.a.now) (map fold c.args.b.now) e)))
+    (λ t. let not : false ≡ true = t in absurd (cc), λ e. absurd (c.in_default.not-Equal (c.compare_folded.ensures
+        ∙ numbers_tied (map fold c.args.a.now) (map fold c.args.b.now) e)))

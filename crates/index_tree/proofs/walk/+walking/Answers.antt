@@ -1,0 +1,230 @@
+use Rattle.std.proofs.Common.{◌≡◌, ◌-◌, ◌<◌, ◌∷◌, [], length, refl, ap, sym, ◌∙◌, subst, arith}
+use Rattle.ntfs_def.specs.Node.{IsOwnEntry, Node, child_from}
+use Rattle.ntfs_def.specs.IndexTree.{Each}
+use Rattle.ntfs_def.proofs.IndexTreeLaws.{Each-++}
+use Rattle.index_node.specs.View.{form_of, node_of_view}
+use Rattle.index_tree.specs.Search.{nodes_of}
+use Rattle.index_tree.specs.Walk.{CostsNode, CostsTree, HasSpread, HasTree, WalksNode, WalksTree}
+use Rattle.index_tree.proofs.Rising.{not_refused, read_node, some_record}
+use Rattle.index_tree.proofs.WalkLaws.{OnOk-map, costs_all, costs_more, costs_start, costs_tree, front_all, front_more, front_start, has_spread, tree_below, tree_level, tree_node, walks_tree}
+use Rattle.index_tree.proofs.walk.+walking.Goals as goal
+
+pub walk_node-loop-i-init : goal.walk_node-loop-i-init
+walk_node-loop-i-init g t c =
+    let node = c.args.node.now in
+    let n : Node = node_of_view node in
+    record {
+      walked = λ r e. front_start (nodes_of (form_of node) r) n c.args.out.now.items;
+      own = λ h. h;
+      reads = λ r e. costs_start 1 (nodes_of (form_of node) r) n (g.B.Blocks.reads c.args.blocks.now);
+      fetched = λ r e. costs_start 8 (nodes_of (form_of node) r) n (g.B.Blocks.fetched c.args.blocks.now);
+      records = refl;
+      volume = refl;
+      file = refl;
+      only_reads = g.met.B.Blocks.only_reads_itself c.args.blocks.now;
+      taken = refl;
+      full = refl;
+      faults = omega arith;
+    }
+
+pub walk_node-walk_tree-requires : goal.walk_node-walk_tree-requires
+walk_node-walk_tree-requires g t c κs within =
+    let node = c.args.node.now in
+    let n : Node = node_of_view node in
+    let d = c.decreases in (
+      omega arith,
+      (
+        within,
+        λ r e.
+            subst (λ k. HasTree (nodes_of k r) c.child.result c.args.level) (sym c.form.ensures)
+            (subst (λ x. HasTree (nodes_of (form_of node) r) x c.args.level) (sym c.child.ensures)
+            (tree_below (nodes_of (form_of node) r) n c.args.level c.loop-i.i (c.requires.spread r (sym c.loop-i.invariant.records ∙ e)))),
+      ),
+    )
+
+pub walk_node-walk_tree-requires-2 : goal.walk_node-walk_tree-requires-2
+walk_node-walk_tree-requires-2 g t c κs within =
+    let node = c.args.node.now in
+    let n : Node = node_of_view node in
+    let d = c.decreases in (
+      omega arith,
+      (
+        within,
+        λ r e.
+            subst (λ k. HasTree (nodes_of k r) c.child-2.result c.args.level) (sym c.form-2.ensures)
+            (subst (λ x. HasTree (nodes_of (form_of node) r) x c.args.level) (sym c.child-2.ensures)
+            (tree_below (nodes_of (form_of node) r) n c.args.level c.entries.result (c.requires.spread r
+            (sym c.loop-i.invariant.records ∙ e)))),
+      ),
+    )
+
+pub walk_node-loop-i-preserved : goal.walk_node-loop-i-preserved
+walk_node-loop-i-preserved g t c =
+    let node = c.args.node.now in
+    let n : Node = node_of_view node in
+    let i = c.loop-i.i in
+    let so_far = c.loop-i.invariant in
+    let below = c.in_ok-walk_tree.ensures in
+    let within : i < length n.entries = omega (arith, c.loop-i-test.true, c.entries-i-end.ensures) in
+    record {
+      walked = λ r e.
+          front_more (nodes_of (form_of node) r) n i within c.args.out.now.items c.loop-i.out.items c.walk_tree.new.out.items
+          c.keep.new.out.items c.entry.result.now (so_far.walked r e)
+          (subst (λ x. WalksTree (nodes_of (form_of node) r) x c.loop-i.out.items c.walk_tree.new.out.items) c.child.ensures
+          (subst (λ k. WalksTree (nodes_of k r) c.child.result c.loop-i.out.items c.walk_tree.new.out.items) c.form.ensures
+          (below.walked r (so_far.records ∙ e))))
+          c.in_ok-keep.ensures.kept c.entry.ensures.item;
+      own = λ h. subst (Each IsOwnEntry) (sym c.in_ok-keep.ensures.kept)
+          (Each-++ IsOwnEntry c.walk_tree.new.out.items (c.entry.result.now ∷ []) (below.own (so_far.own h)) (c.entry.ensures.own, tt));
+      reads = λ r e.
+          costs_more 1 (nodes_of (form_of node) r) n i within (g.B.Blocks.reads c.args.blocks.now) (g.B.Blocks.reads c.loop-i.blocks)
+          (g.B.Blocks.reads c.walk_tree.new.blocks) (so_far.reads r e)
+          (subst (λ x. CostsTree 1 (nodes_of (form_of node) r) x (g.B.Blocks.reads c.loop-i.blocks)
+          (g.B.Blocks.reads c.walk_tree.new.blocks)) c.child.ensures
+          (subst (λ k. CostsTree 1 (nodes_of k r) c.child.result (g.B.Blocks.reads c.loop-i.blocks)
+          (g.B.Blocks.reads c.walk_tree.new.blocks)) c.form.ensures (below.reads r (so_far.records ∙ e))));
+      fetched = λ r e.
+          costs_more 8 (nodes_of (form_of node) r) n i within (g.B.Blocks.fetched c.args.blocks.now)
+          (g.B.Blocks.fetched c.loop-i.blocks) (g.B.Blocks.fetched c.walk_tree.new.blocks) (so_far.fetched r e)
+          (subst (λ x. CostsTree 8 (nodes_of (form_of node) r) x (g.B.Blocks.fetched c.loop-i.blocks)
+          (g.B.Blocks.fetched c.walk_tree.new.blocks)) c.child.ensures
+          (subst (λ k. CostsTree 8 (nodes_of k r) c.child.result (g.B.Blocks.fetched c.loop-i.blocks)
+          (g.B.Blocks.fetched c.walk_tree.new.blocks)) c.form.ensures (below.fetched r (so_far.records ∙ e))));
+      records = c.walk_tree.ensures.records ∙ so_far.records;
+      volume = c.walk_tree.ensures.volume ∙ so_far.volume;
+      file = c.walk_tree.ensures.file ∙ so_far.file;
+      only_reads = g.met.B.Blocks.only_reads_on c.args.blocks.now c.loop-i.blocks c.walk_tree.new.blocks so_far.only_reads
+          c.walk_tree.ensures.only_reads;
+      taken = c.walk_tree.ensures.taken ∙ so_far.taken;
+      full = c.walk_tree.ensures.full ∙ so_far.full;
+      faults = omega (arith, so_far.faults, c.walk_tree.ensures.faults);
+    }
+
+pub walk_node-returns-clause-walked : goal.walk_node-returns-clause-walked
+walk_node-returns-clause-walked g t c =
+    let node = c.args.node.now in
+    let n : Node = node_of_view node in
+    let all : c.entries.result ≡ c.loop-i.i = omega
+    (arith, c.loop-i-test.false, c.entries.ensures, c.entries-i-end.ensures, c.loop-i.auto.i-end) in
+    let end : c.loop-i.i ≡ length n.entries = omega (arith, all, c.entries.ensures) in
+    let child : c.child-2.result ≡ child_from n.entries n.last c.loop-i.i = c.child-2.ensures ∙ ap (child_from n.entries n.last) all in
+    OnOk-map c.walk_tree-2.result
+    (λ w r e. front_all (nodes_of (form_of node) r) n c.loop-i.i end c.args.out.now.items c.loop-i.out.items c.walk_tree-2.new.out.items
+    (c.loop-i.invariant.walked r e)
+    (subst (λ x. WalksTree (nodes_of (form_of node) r) x c.loop-i.out.items c.walk_tree-2.new.out.items) child
+    (subst (λ k. WalksTree (nodes_of k r) c.child-2.result c.loop-i.out.items c.walk_tree-2.new.out.items) c.form-2.ensures (w r
+    (c.loop-i.invariant.records ∙ e)))))
+    c.walk_tree-2.ensures.walked
+
+pub walk_node-returns-clause-own : goal.walk_node-returns-clause-own
+walk_node-returns-clause-own g t c = OnOk-map c.walk_tree-2.result (λ own h. own (c.loop-i.invariant.own h)) c.walk_tree-2.ensures.own
+
+pub walk_node-returns-clause-reads : goal.walk_node-returns-clause-reads
+walk_node-returns-clause-reads g t c =
+    let node = c.args.node.now in
+    let n : Node = node_of_view node in
+    let all : c.entries.result ≡ c.loop-i.i = omega
+    (arith, c.loop-i-test.false, c.entries.ensures, c.entries-i-end.ensures, c.loop-i.auto.i-end) in
+    let end : c.loop-i.i ≡ length n.entries = omega (arith, all, c.entries.ensures) in
+    let child : c.child-2.result ≡ child_from n.entries n.last c.loop-i.i = c.child-2.ensures ∙ ap (child_from n.entries n.last) all in
+    OnOk-map c.walk_tree-2.result
+    (λ w r e. costs_all 1 (nodes_of (form_of node) r) n c.loop-i.i end (g.B.Blocks.reads c.args.blocks.now)
+    (g.B.Blocks.reads c.loop-i.blocks) (g.B.Blocks.reads c.walk_tree-2.new.blocks) (c.loop-i.invariant.reads r e)
+    (subst (λ x. CostsTree 1 (nodes_of (form_of node) r) x (g.B.Blocks.reads c.loop-i.blocks)
+    (g.B.Blocks.reads c.walk_tree-2.new.blocks)) child
+    (subst (λ k. CostsTree 1 (nodes_of k r) c.child-2.result (g.B.Blocks.reads c.loop-i.blocks)
+    (g.B.Blocks.reads c.walk_tree-2.new.blocks)) c.form-2.ensures (w r (c.loop-i.invariant.records ∙ e)))))
+    c.walk_tree-2.ensures.reads
+
+pub walk_node-returns-clause-fetched : goal.walk_node-returns-clause-fetched
+walk_node-returns-clause-fetched g t c =
+    let node = c.args.node.now in
+    let n : Node = node_of_view node in
+    let all : c.entries.result ≡ c.loop-i.i = omega
+    (arith, c.loop-i-test.false, c.entries.ensures, c.entries-i-end.ensures, c.loop-i.auto.i-end) in
+    let end : c.loop-i.i ≡ length n.entries = omega (arith, all, c.entries.ensures) in
+    let child : c.child-2.result ≡ child_from n.entries n.last c.loop-i.i = c.child-2.ensures ∙ ap (child_from n.entries n.last) all in
+    OnOk-map c.walk_tree-2.result
+    (λ w r e. costs_all 8 (nodes_of (form_of node) r) n c.loop-i.i end (g.B.Blocks.fetched c.args.blocks.now)
+    (g.B.Blocks.fetched c.loop-i.blocks) (g.B.Blocks.fetched c.walk_tree-2.new.blocks) (c.loop-i.invariant.fetched r e)
+    (subst (λ x. CostsTree 8 (nodes_of (form_of node) r) x (g.B.Blocks.fetched c.loop-i.blocks)
+    (g.B.Blocks.fetched c.walk_tree-2.new.blocks)) child
+    (subst (λ k. CostsTree 8 (nodes_of k r) c.child-2.result (g.B.Blocks.fetched c.loop-i.blocks)
+    (g.B.Blocks.fetched c.walk_tree-2.new.blocks)) c.form-2.ensures (w r (c.loop-i.invariant.records ∙ e)))))
+    c.walk_tree-2.ensures.fetched
+
+pub walk_tree-returns-then-level-eq0-clause-walked : goal.walk_tree-returns-then-level-eq0-clause-walked
+walk_tree-returns-then-level-eq0-clause-walked g t c r e =
+    let has = subst (λ x. HasTree (nodes_of c.args.form r) x c.args.level) c.in-Some.is (c.requires.tree r e) in
+    let l = tree_level (nodes_of c.args.form r) c.in-Some.vcn c.args.level has in
+    let f = c.if-level-eq0.true in
+    absurd (omega arith)
+
+pub walk_tree-read-requires : goal.walk_tree-read-requires
+walk_tree-read-requires g t c r e =
+    let has = subst (λ x. HasTree (nodes_of c.args.form r) x c.args.level) c.in-Some.is (c.requires.tree r e) in
+    some_record c.args.form r c.in-Some.vcn (tree_node (nodes_of c.args.form r) c.in-Some.vcn c.args.level has)
+
+pub walk_tree-returns-in_default-new-clause-walked : goal.walk_tree-returns-in_default-new-clause-walked
+walk_tree-returns-in_default-new-clause-walked g t c r e =
+    let has = subst (λ x. HasTree (nodes_of c.args.form r) x c.args.level) c.in-Some.is (c.requires.tree r e) in
+    absurd (not_refused c.args.form r c.in-Some.vcn c.read.new.into
+    (c.in_ok-read.ensures.read r e) c.in_default-new.field-0 c.in_default-new.ensures.err
+    (tree_node (nodes_of c.args.form r) c.in-Some.vcn c.args.level has))
+
+pub walk_tree-walk_node-requires : goal.walk_tree-walk_node-requires
+walk_tree-walk_node-requires g t c κs within =
+    let n : Node = node_of_view c.in-Ok.node in
+    let f = c.if-level-eq0.false in
+    let d = c.decreases in (
+      omega arith,
+      (
+        within,
+        λ r e'.
+            let e = sym c.read.ensures.records ∙ e' in
+            let has = subst (λ x. HasTree (nodes_of c.args.form r) x c.args.level) c.in-Some.is (c.requires.tree r e) in
+            let read = read_node c.args.form r c.in-Some.vcn c.read.new.into n (c.in_ok-read.ensures.read r e) c.in-Ok.ensures.ok in
+            subst (λ k. HasSpread (nodes_of k r) n (c.args.level - 1)) (sym c.in-Ok.ensures.form)
+            (has_spread (nodes_of c.args.form r) c.in-Some.vcn n read c.args.level has),
+      ),
+    )
+
+pub walk_tree-returns-clause-walked : goal.walk_tree-returns-clause-walked
+walk_tree-returns-clause-walked g t c =
+    let n : Node = node_of_view c.in-Ok.node in
+    OnOk-map c.walk_node.result
+    (λ w r e.
+    let read = read_node c.args.form r c.in-Some.vcn c.read.new.into n (c.in_ok-read.ensures.read r e) c.in-Ok.ensures.ok in
+    subst (λ x. WalksTree (nodes_of c.args.form r) x c.args.out.now.items c.walk_node.new.out.items) (sym c.in-Some.is)
+    (walks_tree (nodes_of c.args.form r) c.in-Some.vcn n read c.args.out.now.items c.walk_node.new.out.items
+    (subst (λ k. WalksNode (nodes_of k r) n c.args.out.now.items c.walk_node.new.out.items) c.in-Ok.ensures.form (w r
+    (c.read.ensures.records ∙ e)))))
+    c.walk_node.ensures.walked
+
+pub walk_tree-returns-clause-reads : goal.walk_tree-returns-clause-reads
+walk_tree-returns-clause-reads g t c =
+    let n : Node = node_of_view c.in-Ok.node in
+    OnOk-map c.walk_node.result
+    (λ w r e.
+    let read = read_node c.args.form r c.in-Some.vcn c.read.new.into n (c.in_ok-read.ensures.read r e) c.in-Ok.ensures.ok in
+    subst (λ x. CostsTree 1 (nodes_of c.args.form r) x (g.B.Blocks.reads c.args.blocks.now) (g.B.Blocks.reads c.walk_node.new.blocks))
+    (sym c.in-Some.is)
+    (costs_tree (nodes_of c.args.form r) c.in-Some.vcn n read 1 (g.B.Blocks.reads c.args.blocks.now) (g.B.Blocks.reads c.read.new.self)
+    (g.B.Blocks.reads c.walk_node.new.blocks) c.read.ensures.reads
+    (subst (λ k. CostsNode 1 (nodes_of k r) n (g.B.Blocks.reads c.read.new.self)
+    (g.B.Blocks.reads c.walk_node.new.blocks)) c.in-Ok.ensures.form (w r (c.read.ensures.records ∙ e)))))
+    c.walk_node.ensures.reads
+
+pub walk_tree-returns-clause-fetched : goal.walk_tree-returns-clause-fetched
+walk_tree-returns-clause-fetched g t c =
+    let n : Node = node_of_view c.in-Ok.node in
+    OnOk-map c.walk_node.result
+    (λ w r e.
+    let read = read_node c.args.form r c.in-Some.vcn c.read.new.into n (c.in_ok-read.ensures.read r e) c.in-Ok.ensures.ok in
+    subst (λ x. CostsTree 8 (nodes_of c.args.form r) x (g.B.Blocks.fetched c.args.blocks.now)
+    (g.B.Blocks.fetched c.walk_node.new.blocks)) (sym c.in-Some.is)
+    (costs_tree (nodes_of c.args.form r) c.in-Some.vcn n read 8 (g.B.Blocks.fetched c.args.blocks.now)
+    (g.B.Blocks.fetched c.read.new.self) (g.B.Blocks.fetched c.walk_node.new.blocks) c.read.ensures.fetched
+    (subst (λ k. CostsNode 8 (nodes_of k r) n (g.B.Blocks.fetched c.read.new.self)
+    (g.B.Blocks.fetched c.walk_node.new.blocks)) c.in-Ok.ensures.form (w r (c.read.ensures.records ∙ e)))))
+    c.walk_node.ensures.fetched

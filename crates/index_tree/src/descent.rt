@@ -1,0 +1,135 @@
+//! A key is found: one node a level is read, from the root down.
+ghost use Rattle.std.specs.Prelude.{◌≡◌, ◌≤◌, IsTrue, IfOk, IfErr, IfSome};
+ghost use Rattle.ntfs_def.specs.Node.{node_in};
+ghost use Rattle.ntfs_def.specs.Told.{WhereTold};
+ghost use Rattle.index_tree.specs.Index.{ReadRefuses, form_of, limit_of, order_of};
+ghost use Rattle.index_tree.specs.Search.{Costs, CostsBelow, Finds, FindsBelow, HasRising, HasRisingIndex, IsKeyed, nodes_of};
+
+use crate::seek::{or_entry, seek_in};
+use crate::{Index, IndexNo};
+use collation::Collation;
+use index_node::{Blocks, NodeForm, NodeView};
+use std::alloc::Global;
+use vol_bytes::Octets;
+
+/// The most nodes below the root on a way to a leaf.
+pub const LEVELS: usize = 15;
+
+// The first entry with an equal key in the tree under `child`, which has at most `level` levels.
+fn first_below<B: Blocks, C: Collation>(
+    alloc: Global,
+    blocks: &mut B,
+    order: &C,
+    form: NodeForm,
+    child: Option<u64>,
+    key: &[u8],
+    level: usize,
+) -> Result<Option<Octets>, IndexNo>
+    requires tree { WhereTold (B.records blocks.old) (λ r.
+        HasRising (λ x. C.order order.now x key.now) (C.valid order.now) (nodes_of form r) child level) }
+    requires key { IsTrue (C.valid order.now key.now) }
+    ensures found { IfOk result (λ found. WhereTold (B.records blocks.old) (λ r.
+        FindsBelow (λ x. C.order order.now x key.now) (C.valid order.now) (nodes_of form r) child found)) }
+    ensures keyed { IfOk result (λ found. IfSome found (IsKeyed (C.valid order.now))) }
+
+    ensures reads { WhereTold (B.records blocks.old) (λ r. CostsBelow 1 (λ x. C.order order.now x key.now) (C.valid order.now)
+        (nodes_of form r) child (B.reads blocks.old) (B.reads blocks.new)) }
+    ensures fetched { WhereTold (B.records blocks.old) (λ r. CostsBelow 8 (λ x. C.order order.now x key.now) (C.valid order.now)
+        (nodes_of form r) child (B.fetched blocks.old) (B.fetched blocks.new)) }
+
+    ensures records { B.records blocks.new ≡ B.records blocks.old }
+    ensures volume { B.volume blocks.new ≡ B.volume blocks.old }
+    ensures file { B.file blocks.new ≡ B.file blocks.old }
+    ensures only_reads { B.only_reads blocks.old blocks.new }
+    ensures taken { B.taken blocks.new ≡ B.taken blocks.old }
+    ensures full { B.full blocks.new ≡ B.full blocks.old }
+
+    ensures faults { B.faults blocks.old ≤ B.faults blocks.new }
+    ensures cause { IfErr result (ReadRefuses (B.faults blocks.old) (B.faults blocks.new)) }
+{
+    let Some(vcn) = child else {
+        return Ok(None);
+    };
+    if level == 0 {
+        return Ok(None);
+    }
+    let mut block = [0; 4096];
+    blocks.read(vcn, &mut block)?;
+    let Ok(node) = NodeView::new(&block, form) else {
+        return Ok(None);
+    };
+    let Some((i, hit)) = seek_in(&node, order, key) else {
+        return Ok(None);
+    };
+    let below = first_below(alloc, blocks, order, form, node.child(i), key, level - 1)?;
+    or_entry(alloc, order, below, &node, i, hit)
+}
+
+impl<C: Collation> Index<C> {
+    /// An index with keys in this order.
+    pub fn new(order: C, form: NodeForm, limit: usize) -> Index<C>
+        ensures order { order_of result ≡ order }
+        ensures form { form_of result ≡ form }
+        ensures limit { limit_of result ≡ limit }
+    {
+        Index { order, form, limit }
+    }
+
+    /// The entry with this key, in the index under a root: the value of its `$INDEX_ROOT`. Of several entries whose keys
+    /// compare as equal to it, it is the first. `None` exactly where no entry has such a key.
+    ///
+    /// One record a level is read at most. Where the contents are not told, the entry that is given still is one entry
+    /// with a valid key.
+    ///
+    /// # Errors
+    ///
+    /// `Device` only where the disk failed. Never `NoRoom`.
+    pub fn find<B: Blocks>(
+        &self,
+        alloc: Global,
+        blocks: &mut B,
+        root: &[u8],
+        key: &[u8],
+    ) -> Result<Option<Octets>, IndexNo>
+        requires index { WhereTold (B.records blocks.old) (λ r. HasRisingIndex (λ x. C.order (order_of self.now) x key.now)
+            (C.valid (order_of self.now)) (nodes_of (form_of self.now) r) (node_in (form_of self.now) root.now)) }
+        requires key { IsTrue (C.valid (order_of self.now) key.now) }
+        ensures found { IfOk result (λ found. WhereTold (B.records blocks.old) (λ r. Finds (λ x. C.order (order_of self.now) x key.now)
+            (C.valid (order_of self.now)) (nodes_of (form_of self.now) r) (node_in (form_of self.now) root.now) found)) }
+        ensures keyed { IfOk result (λ found. IfSome found (IsKeyed (C.valid (order_of self.now)))) }
+
+        ensures reads { WhereTold (B.records blocks.old) (λ r. Costs 1 (λ x. C.order (order_of self.now) x key.now)
+            (C.valid (order_of self.now)) (nodes_of (form_of self.now) r) (node_in (form_of self.now) root.now)
+            (B.reads blocks.old) (B.reads blocks.new)) }
+        ensures fetched { WhereTold (B.records blocks.old) (λ r. Costs 8 (λ x. C.order (order_of self.now) x key.now)
+            (C.valid (order_of self.now)) (nodes_of (form_of self.now) r) (node_in (form_of self.now) root.now)
+            (B.fetched blocks.old) (B.fetched blocks.new)) }
+
+        ensures records { B.records blocks.new ≡ B.records blocks.old }
+        ensures volume { B.volume blocks.new ≡ B.volume blocks.old }
+        ensures file { B.file blocks.new ≡ B.file blocks.old }
+        ensures only_reads { B.only_reads blocks.old blocks.new }
+        ensures taken { B.taken blocks.new ≡ B.taken blocks.old }
+        ensures full { B.full blocks.new ≡ B.full blocks.old }
+
+        ensures faults { B.faults blocks.old ≤ B.faults blocks.new }
+        ensures cause { IfErr result (ReadRefuses (B.faults blocks.old) (B.faults blocks.new)) }
+    {
+        let Ok(node) = NodeView::new(root, self.form) else {
+            return Ok(None);
+        };
+        let Some((i, hit)) = seek_in(&node, &self.order, key) else {
+            return Ok(None);
+        };
+        let below = first_below(
+            alloc,
+            blocks,
+            &self.order,
+            self.form,
+            node.child(i),
+            key,
+            LEVELS,
+        )?;
+        or_entry(alloc, &self.order, below, &node, i, hit)
+    }
+}
