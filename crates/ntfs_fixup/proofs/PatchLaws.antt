@@ -8,7 +8,7 @@ use Rattle.ntfs_def.specs.Fixup.{HasArray, IsSealed, array_count, array_end, arr
 use Rattle.ntfs_def.proofs.FixupLaws.{HasArray-front, array_count-front, array_place-front, length-opened_of, opened_of-end, opened_of-within}
 
 module _ (stored new : List ℕ) (k : ℕ) (sealed : IsSealed stored) (same : SameOutside stored new k (k + 1)) (low : 8 ≤ k)
-  (outside : (k < array_place stored) ⊎ (array_end stored ≤ k)) (within : k % 512 < 510) where
+    (outside : (k < array_place stored) ⊎ (array_end stored ≤ k)) (within : k % 512 < 510) where
   array : HasArray stored
   array = sealed.array
 

@@ -1,4 +1,5 @@
 use crate::{FixFault, seal, unseal};
+use std::test::Fail;
 use vol_bytes::{put_u16, u16_at};
 
 // The file record of a file that holds sixty times the text "0123456789", as ntfscp of ntfs-3g stored
@@ -99,4 +100,16 @@ fn names_the_fault(rt: HostRuntime) {
     }
     assert_eq!(rt; unseal(&mut []), Err(FixFault::Array));
     assert_eq!(rt; unseal(&mut [0; 100]), Err(FixFault::Array));
+}
+
+#[test]
+fn fault_texts(rt: HostRuntime) -> Result<(), Fail> {
+    let array = format!(in rt.alloc(); "{}", FixFault::Array)?;
+    assert_eq!(rt;
+        array.as_str(),
+        "no update sequence array of the block's size"
+    );
+    let torn = format!(in rt.alloc(); "{}", FixFault::Torn { stride: 7 })?;
+    assert_eq!(rt; torn.as_str(), "stride 7 was not written with its block");
+    Ok(())
 }
