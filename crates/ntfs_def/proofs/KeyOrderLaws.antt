@@ -1,7 +1,7 @@
 -- Each order of keys is a total order, on all bytes.
-use Rattle.std.proofs.Common.{◌≡◌, ◌≢◌, ℕ, zero, suc, ◌+◌, ◌<◌, ◌≤◌, List, [], ◌∷◌, length, map, drop, get_or, refl, sym, ap, ◌∙◌, arith, Ordering}
+use Rattle.std.proofs.Common.{◌≡◌, ◌≢◌, ◌↔◌, ℕ, zero, suc, ◌+◌, ◌<◌, ◌≤◌, List, [], ◌∷◌, length, map, drop, get_or, refl, sym, ap, ◌∙◌, arith, Ordering, IsTrue, true, false}
 use Rattle.std.specs.declared.cmp.Ordering.TheVariants.{Less, Equal, Greater}
-use Rattle.std.specs.Ordering.{nat_cmp, ordering_then}
+use Rattle.std.specs.Ordering.{nat_cmp, ordering_then, is_eq}
 use Rattle.std.specs.Cmp.{IsTotalOrder}
 use Rattle.std.proofs.lemmas.Cmp.{on_total, then_total, nat_list_cmp_total, nat_cmp_total, tied_itself, ranked, by_ranked}
 use Rattle.std.proofs.Common.{◌*◌, ◌/◌, inl, inr}
@@ -219,3 +219,33 @@ fold_equal fold a b e = numbers_equal (map fold (key_units a)) (map fold (key_un
 pub fold_same : (fold : ℕ → ℕ) (a b : List ℕ) → map fold (key_units a) ≡ map fold (key_units b) → fold_order fold a b ≡ Equal
 unfolding fold_order
 fold_same fold a b e = ap (λ us. by_numbers us (map fold (key_units b))) e ∙ tied_itself nat_list_cmp_total (map fold (key_units b))
+
+-- Keys compare as equal exactly where the numbers that are compared are equal.
+numbers_ties : (xs ys : List ℕ) → (by_numbers xs ys ≡ Equal) ↔ (xs ≡ ys)
+numbers_ties xs ys = (numbers_equal xs ys, numbers_tied xs ys)
+
+pub numbers_is_eq : (xs ys : List ℕ) → IsTrue (is_eq (by_numbers xs ys)) ↔ (xs ≡ ys)
+numbers_is_eq xs ys = (λ t. numbers_equal xs ys (equal_of (by_numbers xs ys) t), λ e. ap is_eq (numbers_tied xs ys e))
+  where
+    equal_of : (o : Ordering) → IsTrue (is_eq o) → o ≡ Equal
+    equal_of Less t = let f : false ≡ true = t in absurd (cc)
+    equal_of Equal t = refl
+    equal_of Greater t = let f : false ≡ true = t in absurd (cc)
+
+pub name_ties : (fold : ℕ → ℕ) (a b : List ℕ) → (name_order fold a b ≡ Equal) ↔ (key_units a ≡ key_units b)
+name_ties fold a b = (name_equal fold a b, name_same fold a b)
+
+pub fold_ties : (fold : ℕ → ℕ) (a b : List ℕ) → (fold_order fold a b ≡ Equal) ↔ (map fold (key_units a) ≡ map fold (key_units b))
+fold_ties fold a b = (fold_equal fold a b, fold_same fold a b)
+
+pub id_ties : (a b : List ℕ) → (id_order a b ≡ Equal) ↔ (id_parts a ≡ id_parts b)
+unfolding id_order
+id_ties a b = numbers_ties (id_parts a) (id_parts b)
+
+pub hash_ties : (a b : List ℕ) → (hash_order a b ≡ Equal) ↔ (hash_parts a ≡ hash_parts b)
+unfolding hash_order
+hash_ties a b = numbers_ties (hash_parts a) (hash_parts b)
+
+pub word_ties : (a b : List ℕ) → (word_order a b ≡ Equal) ↔ (word_parts a ≡ word_parts b)
+unfolding word_order
+word_ties a b = numbers_ties (word_parts a) (word_parts b)
