@@ -50,7 +50,9 @@ fn compare_folded(upcase: &UpCase, a: &[u8], b: &[u8]) -> Ordering
 {
     let units = (0..a[UNIT_COUNT]).map(|place| unit_at(a, place));
     let others = (0..b[UNIT_COUNT]).map(|place| unit_at(b, place));
-    units.map(|unit| upcase.fold(unit)).cmp(others.map(|unit| upcase.fold(unit)))
+    units
+        .map(|unit| upcase.fold(unit))
+        .cmp(others.map(|unit| upcase.fold(unit)))
 }
 
 fn compare_plain(a: &[u8], b: &[u8]) -> Ordering

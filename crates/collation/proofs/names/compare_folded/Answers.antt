@@ -16,13 +16,13 @@ returns c =
     let fold = fold_of c.args.upcase.now in
     cmp_from_yields_List (λ x y. y ≡ x) _ nat_cmp _ c.cmp.ensures.ran
     (YieldsList-from_map _ fold (YieldsList-at c.map.ensures.source
-        (YieldsList-from_map _ (λ place. u16_at a (0x42 + 2 * place))
-            (YieldsList-from_range 0 (unit_count a) (unit_count a) c.map-units.ensures.source (omega arith))
-            c.map-units.ensures.closure (λ x r q k. search (rules, tests))))
-        c.map.ensures.closure (λ x r q k. search (rules, tests)))
+    (YieldsList-from_map _ (λ place. u16_at a (0x42 + 2 * place))
+    (YieldsList-from_range 0 (unit_count a) (unit_count a) c.map-units.ensures.source (omega arith))
+    c.map-units.ensures.closure (λ x r q k. search (rules, tests))))
+    c.map.ensures.closure (λ x r q k. search (rules, tests)))
     (λ it e. YieldsList-at e (YieldsList-from_map _ fold (YieldsList-at c.map-2.ensures.source
-        (YieldsList-from_map _ (λ place. u16_at b (0x42 + 2 * place))
-            (YieldsList-from_range 0 (unit_count b) (unit_count b) c.map-others.ensures.source (omega arith))
-            c.map-others.ensures.closure (λ x r q k. search (rules, tests))))
-        c.map-2.ensures.closure (λ x r q k. search (rules, tests))))
+    (YieldsList-from_map _ (λ place. u16_at b (0x42 + 2 * place))
+    (YieldsList-from_range 0 (unit_count b) (unit_count b) c.map-others.ensures.source (omega arith))
+    c.map-others.ensures.closure (λ x r q k. search (rules, tests))))
+    c.map-2.ensures.closure (λ x r q k. search (rules, tests))))
     (λ x y. refl)
