@@ -1,8 +1,9 @@
 //! The orders of the keys of indexes. Keys are compared where they lie, and none is copied.
 #![tactic(auto)]
 
-ghost use Rattle.std.specs.Prelude.{◌≡◌, ℕ, List, Bool, IsTrue};
+ghost use Rattle.std.specs.Prelude.{◌≡◌, ◌↔◌, ℕ, List, Bool, IsTrue};
 ghost use Rattle.std.specs.declared.cmp.Ordering.{Ordering};
+ghost use Rattle.std.specs.declared.cmp.Ordering.TheVariants.{Equal};
 ghost use Rattle.std.specs.Cmp.{IsTotalOrder};
 
 mod names;
@@ -19,6 +20,9 @@ pub trait Collation {
     /// The order, on all bytes.
     ghost order: { Self → List ℕ → List ℕ → Ordering };
 
+    /// The numbers of a key that are compared.
+    ghost parts: { Self → List ℕ → List ℕ };
+
     /// Which bytes are keys.
     ghost valid: { Self → List ℕ → Bool };
 
@@ -33,4 +37,6 @@ pub trait Collation {
         ensures { result ≡ valid self.now key.now };
 
     ghost is_order: { (it : Self) → IsTotalOrder (order it) };
+
+    ghost ties: { (it : Self) (a b : List ℕ) → (order it a b ≡ Equal) ↔ (parts it a ≡ parts it b) };
 }

@@ -1,6 +1,7 @@
 //! The orders of names.
-ghost use Rattle.std.specs.Prelude.{◌≡◌, IsTrue, map};
-ghost use Rattle.ntfs_def.specs.FileName.{is_name_key, key_units};
+ghost use Rattle.std.specs.Prelude.{◌≡◌, ◌<◌, ◌+◌, ◌*◌, IsTrue, map};
+ghost use Rattle.vol_bytes.specs.Field.{u16_at};
+ghost use Rattle.ntfs_def.specs.FileName.{is_name_key, key_units, unit_count};
 ghost use Rattle.ntfs_def.specs.KeyOrder.{by_numbers, fold_of, fold_order, name_order};
 
 use crate::Collation;
@@ -33,21 +34,25 @@ fn is_name_key(key: &[u8]) -> bool
     key.len() >= UNITS && key[UNIT_COUNT] >= 1 && UNITS + 2 * key[UNIT_COUNT] as usize <= key.len()
 }
 
+// A unit of a key, by its place in the name.
+fn unit_at(key: &[u8], place: u8) -> u16
+    requires key { IsTrue (is_name_key key.now) }
+    requires inside { place < unit_count key.now }
+    ensures { result ≡ u16_at key.now (0x42 + 2 * place) }
+{
+    u16_at(key, UNITS + 2 * place as usize)
+}
+
 fn compare_folded(upcase: &UpCase, a: &[u8], b: &[u8]) -> Ordering
     requires left { IsTrue (is_name_key a.now) }
     requires right { IsTrue (is_name_key b.now) }
     ensures { result ≡ by_numbers (map (fold_of upcase.now) (key_units a.now)) (map (fold_of upcase.now) (key_units b.now)) }
 {
-    let count = a[UNIT_COUNT] as usize;
-    let other = b[UNIT_COUNT] as usize;
-    for k in 0..count.min(other) {
-        let x = upcase.fold(u16_at(a, UNITS + 2 * k));
-        let y = upcase.fold(u16_at(b, UNITS + 2 * k));
-        if x != y {
-            return x.cmp(&y);
-        }
-    }
-    count.cmp(&other)
+    let units = (0..a[UNIT_COUNT]).map(|place| unit_at(a, place));
+    let others = (0..b[UNIT_COUNT]).map(|place| unit_at(b, place));
+    units
+        .map(|unit| upcase.fold(unit))
+        .cmp(others.map(|unit| upcase.fold(unit)))
 }
 
 fn compare_plain(a: &[u8], b: &[u8]) -> Ordering
@@ -55,31 +60,23 @@ fn compare_plain(a: &[u8], b: &[u8]) -> Ordering
     requires right { IsTrue (is_name_key b.now) }
     ensures { result ≡ by_numbers (key_units a.now) (key_units b.now) }
 {
-    let count = a[UNIT_COUNT] as usize;
-    let other = b[UNIT_COUNT] as usize;
-    for k in 0..count.min(other) {
-        let x = u16_at(a, UNITS + 2 * k);
-        let y = u16_at(b, UNITS + 2 * k);
-        if x != y {
-            return x.cmp(&y);
-        }
-    }
-    count.cmp(&other)
+    let units = (0..a[UNIT_COUNT]).map(|place| unit_at(a, place));
+    let others = (0..b[UNIT_COUNT]).map(|place| unit_at(b, place));
+    units.cmp(others)
 }
 
 #[tactic(auto, unfolding(ntfs_def::specs::KeyOrder::name_order))]
 impl Collation for FileNameOrder {
-    ghost use Rattle.ntfs_def.proofs.KeyOrderLaws.{name_total};
+    ghost use Rattle.ntfs_def.proofs.KeyOrderLaws.{name_ties, name_total};
 
     ghost order = { λ it. name_order (fold_of it.upcase) };
+
+    ghost parts = { λ it. key_units };
 
     ghost valid = { λ it. is_name_key };
 
     fn compare(&self, a: &[u8], b: &[u8]) -> Ordering {
-        match compare_folded(&self.upcase, a, b) {
-            Ordering::Equal => compare_plain(a, b),
-            other => other,
-        }
+        compare_folded(&self.upcase, a, b).then_with(|| compare_plain(a, b))
     }
 
     fn is_valid(&self, key: &[u8]) -> bool {
@@ -87,13 +84,17 @@ impl Collation for FileNameOrder {
     }
 
     ghost is_order = { λ it. name_total (fold_of it.upcase) };
+
+    ghost ties = { λ it. name_ties (fold_of it.upcase) };
 }
 
 #[tactic(auto, unfolding(ntfs_def::specs::KeyOrder::fold_order))]
 impl<'u> Collation for FoldedOrder<'u> {
-    ghost use Rattle.ntfs_def.proofs.KeyOrderLaws.{fold_total};
+    ghost use Rattle.ntfs_def.proofs.KeyOrderLaws.{fold_ties, fold_total};
 
     ghost order = { λ it. fold_order (fold_of it.names.now.upcase) };
+
+    ghost parts = { λ it key. map (fold_of it.names.now.upcase) (key_units key) };
 
     ghost valid = { λ it. is_name_key };
 
@@ -106,4 +107,6 @@ impl<'u> Collation for FoldedOrder<'u> {
     }
 
     ghost is_order = { λ it. fold_total (fold_of it.names.now.upcase) };
+
+    ghost ties = { λ it. fold_ties (fold_of it.names.now.upcase) };
 }

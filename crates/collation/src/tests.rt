@@ -89,7 +89,7 @@ fn numbers(rt: HostRuntime) {
     let b = [5, 0, 0, 0, 0, 1, 0, 0];
     assert_eq!(rt; answer(&HashOrder, &a, &b), Some(Ordering::Less));
     assert_eq!(rt;
-        answer(&HashOrder, &a, &[4, 0, 0, 0, 0, 0, 0, 0]),
+        answer(&HashOrder, &a, &[4, 0, 0, 0, 0, 2, 0, 0]),
         Some(Ordering::Greater)
     );
     assert_eq!(rt; answer(&WordsOrder, &a, &b), Some(Ordering::Less));

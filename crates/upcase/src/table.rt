@@ -32,7 +32,7 @@ impl UpCase {
     ///
     /// # Errors
     ///
-    /// `Length` exactly where there are not 131,072 bytes.
+    /// `Length` exactly where there are not 131,072 bytes, and `Memory`.
     pub fn load(alloc: Global, bytes: &[u8]) -> Result<UpCase, UpCaseNo>
         ensures ok { IfOk result (λ table. table ≡ bytes.now) }
         ensures length { IfOk result (λ table. length bytes.now ≡ table_len) }
@@ -48,8 +48,13 @@ impl UpCase {
     }
 
     /// The same table again; both share its bytes.
+    ///
+    /// # Errors
+    ///
+    /// `Memory` alone.
     pub fn share(&self) -> Result<UpCase, UpCaseNo>
-        ensures { IfOk result (λ table. table ≡ self.now) }
+        ensures ok { IfOk result (λ table. table ≡ self.now) }
+        ensures err { IfErr result (λ no. no ≡ UpCaseNo.Memory) }
     {
         Ok(UpCase {
             bytes: self.bytes.clone()?,
@@ -67,21 +72,15 @@ impl UpCase {
     fn compare_folded(&self, a: &[u16], b: &[u16]) -> Ordering
         ensures { result ≡ by_numbers (map (fold_of self.now) a.now) (map (fold_of self.now) b.now) }
     {
-        for k in 0..a.len().min(b.len()) {
-            let x = self.fold(a[k]);
-            let y = self.fold(b[k]);
-            if x != y {
-                return x.cmp(&y);
-            }
-        }
-        a.len().cmp(&b.len())
+        let folded = a.iter().map(|&unit| self.fold(unit));
+        folded.cmp(b.iter().map(|&unit| self.fold(unit)))
     }
 
     /// Whether two names have the same folded units.
     pub fn same(&self, a: &[u16], b: &[u16]) -> bool
         ensures { IsTrue result ↔ (map (fold_of self.now) a.now ≡ map (fold_of self.now) b.now) }
     {
-        matches!(self.compare_folded(a, b), Ordering::Equal)
+        self.compare_folded(a, b).is_eq()
     }
 
     /// The order of names: by their folded units, and equal ones by their plain units. Of two names of which one
@@ -89,9 +88,6 @@ impl UpCase {
     pub fn compare(&self, a: &[u16], b: &[u16]) -> Ordering
         ensures { result ≡ compare_units (fold_of self.now) a.now b.now }
     {
-        match self.compare_folded(a, b) {
-            Ordering::Equal => a.cmp(b),
-            other => other,
-        }
+        self.compare_folded(a, b).then_with(|| a.cmp(b))
     }
 }

@@ -1,47 +1,22 @@
-use Rattle.std.proofs.Common.{◌<◌, length, sym, ◌∙◌, arith}
-use Rattle.ntfs_def.specs.FileName.{key_units}
-use Rattle.ntfs_def.proofs.KeyOrderLaws.{step_differ, step_same, step_end, length-key_units, get_or-key_units}
+use Rattle.std.proofs.Common.{rules, tests, ◌≡◌, ◌+◌, ◌*◌, refl, arith}
+use Rattle.std.specs.Ordering.{nat_cmp}
+use Rattle.std.proofs.lemmas.Iterator.{YieldsList-from_map, YieldsList-from_range}
+use Rattle.std.proofs.lemmas.Iterator.Consumers.{YieldsList-at}
+use Rattle.std.proofs.lemmas.Iterator.Search.{cmp_from_yields_List}
+use Rattle.vol_bytes.specs.Field.{u16_at}
+use Rattle.ntfs_def.specs.FileName.{key_units, unit_count}
 use Rattle.collation.proofs.names.compare_plain.Goals as goal
 
-pub returns-then-x-y : goal.returns-then-x-y
-returns-then-x-y c =
-    let a = c.args.a.now in
-    let b = c.args.b.now in
-    let xs = key_units a in
-    let ys = key_units b in
-    let m = length-key_units a in
-    let n = length-key_units b in
-    let h : c.loop-k.k < length xs = omega (arith, m, c.loop-k-test.true, c.min-k-end.ensures) in
-    let i : c.loop-k.k < length ys = omega (arith, n, c.loop-k-test.true, c.min-k-end.ensures) in
-    c.cmp.ensures ∙ step_differ xs ys c.loop-k.k c.u16_at-x.result c.u16_at-y.result c.loop-k.invariant h i
-    (get_or-key_units a c.loop-k.k (omega (arith, c.loop-k-test.true, c.min-k-end.ensures)) ∙ sym c.u16_at-x.ensures)
-    (get_or-key_units b c.loop-k.k (omega (arith, c.loop-k-test.true, c.min-k-end.ensures)) ∙ sym c.u16_at-y.ensures)
-    c.if-x-y.true
-
-pub loop-k-preserved : goal.loop-k-preserved
-loop-k-preserved c =
-    let a = c.args.a.now in
-    let b = c.args.b.now in
-    let xs = key_units a in
-    let ys = key_units b in
-    let m = length-key_units a in
-    let n = length-key_units b in
-    let h : c.loop-k.k < length xs = omega (arith, m, c.loop-k-test.true, c.min-k-end.ensures) in
-    let i : c.loop-k.k < length ys = omega (arith, n, c.loop-k-test.true, c.min-k-end.ensures) in
-    step_same xs ys c.loop-k.k c.u16_at-x.result c.u16_at-y.result c.loop-k.invariant h i
-    (get_or-key_units a c.loop-k.k (omega (arith, c.loop-k-test.true, c.min-k-end.ensures)) ∙ sym c.u16_at-x.ensures)
-    (get_or-key_units b c.loop-k.k (omega (arith, c.loop-k-test.true, c.min-k-end.ensures)) ∙ sym c.u16_at-y.ensures)
-    c.if-x-y.false
-
 pub returns : goal.returns
+unfolding key_units
 returns c =
     let a = c.args.a.now in
     let b = c.args.b.now in
-    let xs = key_units a in
-    let ys = key_units b in
-    let m = length-key_units a in
-    let n = length-key_units b in
-    c.cmp-2.ensures ∙ step_end xs ys c.loop-k.k _ _ c.loop-k.invariant m n
-    (omega (arith, c.loop-k-test.false, c.loop-k.auto.k-end, c.min-k-end.ensures))
-    (omega (arith, c.loop-k-test.false, c.loop-k.auto.k-end, c.min-k-end.ensures))
-    (λ p q. absurd (omega (arith, p, q, c.loop-k-test.false, c.loop-k.auto.k-end, c.min-k-end.ensures)))
+    cmp_from_yields_List (λ x y. y ≡ x) _ nat_cmp _ c.cmp.ensures.ran
+    (YieldsList-from_map _ (λ place. u16_at a (0x42 + 2 * place))
+    (YieldsList-from_range 0 (unit_count a) (unit_count a) c.map-units.ensures.source (omega arith))
+    c.map-units.ensures.closure (λ x r q k. search (rules, tests)))
+    (λ it e. YieldsList-at e (YieldsList-from_map _ (λ place. u16_at b (0x42 + 2 * place))
+    (YieldsList-from_range 0 (unit_count b) (unit_count b) c.map-others.ensures.source (omega arith))
+    c.map-others.ensures.closure (λ x r q k. search (rules, tests))))
+    (λ x y. refl)

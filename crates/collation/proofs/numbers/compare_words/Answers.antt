@@ -1,47 +1,20 @@
-use Rattle.std.proofs.Common.{◌<◌, length, sym, ◌∙◌, arith}
-use Rattle.ntfs_def.specs.KeyOrder.{word_parts}
-use Rattle.ntfs_def.proofs.KeyOrderLaws.{step_differ, step_same, step_end, length-word_parts, get_or-word_parts}
+use Rattle.std.proofs.Common.{rules, tests, ◌≡◌, ◌*◌, ◌/◌, length, refl, arith}
+use Rattle.std.specs.Ordering.{nat_cmp}
+use Rattle.std.proofs.lemmas.Iterator.{YieldsList-from_map, YieldsList-from_range}
+use Rattle.std.proofs.lemmas.Iterator.Consumers.{YieldsList-at}
+use Rattle.std.proofs.lemmas.Iterator.Search.{cmp_from_yields_List}
+use Rattle.vol_bytes.specs.Field.{u32_at}
 use Rattle.collation.proofs.numbers.compare_words.Goals as goal
-
-pub returns-then-x-y : goal.returns-then-x-y
-returns-then-x-y c =
-    let a = c.args.a.now in
-    let b = c.args.b.now in
-    let xs = word_parts a in
-    let ys = word_parts b in
-    let m = length-word_parts a in
-    let n = length-word_parts b in
-    let h : c.loop-k.k < length xs = omega (arith, m, c.loop-k-test.true, c.min-k-end.ensures) in
-    let i : c.loop-k.k < length ys = omega (arith, n, c.loop-k-test.true, c.min-k-end.ensures) in
-    c.cmp.ensures ∙ step_differ xs ys c.loop-k.k c.u32_at-x.result c.u32_at-y.result c.loop-k.invariant h i
-    (get_or-word_parts a c.loop-k.k (omega (arith, c.loop-k-test.true, c.min-k-end.ensures)) ∙ sym c.u32_at-x.ensures)
-    (get_or-word_parts b c.loop-k.k (omega (arith, c.loop-k-test.true, c.min-k-end.ensures)) ∙ sym c.u32_at-y.ensures)
-    c.if-x-y.true
-
-pub loop-k-preserved : goal.loop-k-preserved
-loop-k-preserved c =
-    let a = c.args.a.now in
-    let b = c.args.b.now in
-    let xs = word_parts a in
-    let ys = word_parts b in
-    let m = length-word_parts a in
-    let n = length-word_parts b in
-    let h : c.loop-k.k < length xs = omega (arith, m, c.loop-k-test.true, c.min-k-end.ensures) in
-    let i : c.loop-k.k < length ys = omega (arith, n, c.loop-k-test.true, c.min-k-end.ensures) in
-    step_same xs ys c.loop-k.k c.u32_at-x.result c.u32_at-y.result c.loop-k.invariant h i
-    (get_or-word_parts a c.loop-k.k (omega (arith, c.loop-k-test.true, c.min-k-end.ensures)) ∙ sym c.u32_at-x.ensures)
-    (get_or-word_parts b c.loop-k.k (omega (arith, c.loop-k-test.true, c.min-k-end.ensures)) ∙ sym c.u32_at-y.ensures)
-    c.if-x-y.false
 
 pub returns : goal.returns
 returns c =
     let a = c.args.a.now in
     let b = c.args.b.now in
-    let xs = word_parts a in
-    let ys = word_parts b in
-    let m = length-word_parts a in
-    let n = length-word_parts b in
-    c.cmp-2.ensures ∙ step_end xs ys c.loop-k.k _ _ c.loop-k.invariant m n
-    (omega (arith, c.loop-k-test.false, c.loop-k.auto.k-end, c.min-k-end.ensures))
-    (omega (arith, c.loop-k-test.false, c.loop-k.auto.k-end, c.min-k-end.ensures))
-    (λ p q. absurd (omega (arith, p, q, c.loop-k-test.false, c.loop-k.auto.k-end, c.min-k-end.ensures)))
+    cmp_from_yields_List (λ x y. y ≡ x) _ nat_cmp _ c.cmp.ensures.ran
+    (YieldsList-from_map _ (λ k. u32_at a (4 * k))
+    (YieldsList-from_range 0 (length a / 4) (length a / 4) c.map-words.ensures.source (omega arith))
+    c.map-words.ensures.closure (λ x r q k. search (rules, tests)))
+    (λ it e. YieldsList-at e (YieldsList-from_map _ (λ k. u32_at b (4 * k))
+    (YieldsList-from_range 0 (length b / 4) (length b / 4) c.map-others.ensures.source (omega arith))
+    c.map-others.ensures.closure (λ x r q k. search (rules, tests))))
+    (λ x y. refl)
