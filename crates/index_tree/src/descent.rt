@@ -1,8 +1,8 @@
 //! A key is found: one node a level is read, from the root down.
-ghost use Rattle.std.specs.Prelude.{◌≡◌, ◌≤◌, IsTrue, IfOk, IfErr, IfSome};
+ghost use Rattle.std.specs.Prelude.{◌≡◌, IsTrue, IfOk, IfSome, MatchResult};
 ghost use Rattle.ntfs_def.specs.Node.{node_in};
 ghost use Rattle.ntfs_def.specs.Told.{WhereTold};
-ghost use Rattle.index_tree.specs.Index.{ReadRefuses, form_of, limit_of, order_of};
+ghost use Rattle.index_tree.specs.Index.{Refuses, form_of, limit_of, order_of};
 ghost use Rattle.index_tree.specs.Search.{Costs, CostsBelow, Finds, FindsBelow, HasRising, HasRisingIndex, IsKeyed, nodes_of};
 
 use crate::seek::{or_entry, seek_in};
@@ -44,8 +44,8 @@ fn first_below<B: Blocks, C: Collation>(
     ensures taken { B.taken blocks.new ≡ B.taken blocks.old }
     ensures full { B.full blocks.new ≡ B.full blocks.old }
 
-    ensures faults { B.faults blocks.old ≤ B.faults blocks.new }
-    ensures cause { IfErr result (ReadRefuses (B.faults blocks.old) (B.faults blocks.new)) }
+    ensures faults { MatchResult result (λ _. B.faults blocks.new ≡ B.faults blocks.old)
+        (Refuses (B.faults blocks.old) (B.faults blocks.new)) }
 {
     let Some(vcn) = child else {
         return Ok(None);
@@ -112,8 +112,8 @@ impl<C: Collation> Index<C> {
         ensures taken { B.taken blocks.new ≡ B.taken blocks.old }
         ensures full { B.full blocks.new ≡ B.full blocks.old }
 
-        ensures faults { B.faults blocks.old ≤ B.faults blocks.new }
-        ensures cause { IfErr result (ReadRefuses (B.faults blocks.old) (B.faults blocks.new)) }
+        ensures faults { MatchResult result (λ _. B.faults blocks.new ≡ B.faults blocks.old)
+            (Refuses (B.faults blocks.old) (B.faults blocks.new)) }
     {
         let Ok(node) = NodeView::new(root, self.form) else {
             return Ok(None);

@@ -1,10 +1,10 @@
 //! All entries of an index are walked in order.
-ghost use Rattle.std.specs.Prelude.{◌≡◌, ◌≤◌, ◌++◌, ◌∷◌, [], IfOk, IfErr, OnOk};
+ghost use Rattle.std.specs.Prelude.{◌≡◌, ◌++◌, ◌∷◌, [], IfOk, IfErr, MatchResult, OnOk};
 ghost use Rattle.ntfs_def.specs.IndexTree.{Each};
 ghost use Rattle.ntfs_def.specs.Node.{IsOwnEntry, node_in};
 ghost use Rattle.ntfs_def.specs.Told.{WhereTold};
 ghost use Rattle.index_node.specs.View.{form_of as form_of_view, node_of_view};
-ghost use Rattle.index_tree.specs.Index.{ReadRefuses, form_of};
+ghost use Rattle.index_tree.specs.Index.{Refuses, form_of};
 ghost use Rattle.index_tree.specs.Search.{nodes_of};
 ghost use Rattle.index_tree.specs.Walk.{CostsNode, CostsTree, CostsWalk, HasSpread, HasTree, HasWalk, IsWalk, WalksNode, WalksTree};
 
@@ -51,8 +51,8 @@ fn walk_tree<B: Blocks>(
     ensures taken { B.taken blocks.new ≡ B.taken blocks.old }
     ensures full { B.full blocks.new ≡ B.full blocks.old }
 
-    ensures faults { B.faults blocks.old ≤ B.faults blocks.new }
-    ensures cause { IfErr result (ReadRefuses (B.faults blocks.old) (B.faults blocks.new)) }
+    ensures faults { MatchResult result (λ _. B.faults blocks.new ≡ B.faults blocks.old)
+        (Refuses (B.faults blocks.old) (B.faults blocks.new)) }
 {
     let Some(vcn) = child else {
         return Ok(());
@@ -95,8 +95,8 @@ fn walk_node<B: Blocks>(
     ensures taken { B.taken blocks.new ≡ B.taken blocks.old }
     ensures full { B.full blocks.new ≡ B.full blocks.old }
 
-    ensures faults { B.faults blocks.old ≤ B.faults blocks.new }
-    ensures cause { IfErr result (ReadRefuses (B.faults blocks.old) (B.faults blocks.new)) }
+    ensures faults { MatchResult result (λ _. B.faults blocks.new ≡ B.faults blocks.old)
+        (Refuses (B.faults blocks.old) (B.faults blocks.new)) }
 {
     for i in 0..node.entries() {
         walk_tree(alloc, blocks, node.form(), node.child(i), level, out)?;
@@ -145,8 +145,8 @@ impl<C> Index<C> {
         ensures taken { B.taken blocks.new ≡ B.taken blocks.old }
         ensures full { B.full blocks.new ≡ B.full blocks.old }
 
-        ensures faults { B.faults blocks.old ≤ B.faults blocks.new }
-        ensures cause { IfErr result (ReadRefuses (B.faults blocks.old) (B.faults blocks.new)) }
+        ensures faults { MatchResult result (λ _. B.faults blocks.new ≡ B.faults blocks.old)
+            (Refuses (B.faults blocks.old) (B.faults blocks.new)) }
     {
         let mut out = Vec::new(alloc);
         let Ok(node) = NodeView::new(root, self.form) else {

@@ -5,7 +5,7 @@ use Rattle.ntfs_def.proofs.IndexTreeLaws.{Each-++}
 use Rattle.index_node.specs.View.{form_of, node_of_view}
 use Rattle.index_tree.specs.Search.{nodes_of}
 use Rattle.index_tree.specs.Walk.{CostsNode, CostsTree, HasSpread, HasTree, WalksNode, WalksTree}
-use Rattle.index_tree.proofs.Rising.{not_refused, read_node, some_record}
+use Rattle.index_tree.proofs.Rising.{not_refused, one_more, read_node, some_record}
 use Rattle.index_tree.proofs.WalkLaws.{OnOk-map, costs_all, costs_more, costs_start, costs_tree, front_all, front_more, front_start, has_spread, tree_below, tree_level, tree_node, walks_tree}
 use Rattle.index_tree.proofs.walk.+walking.Goals as goal
 
@@ -24,7 +24,7 @@ walk_node-loop-i-init g t c =
       only_reads = g.met.B.Blocks.only_reads_itself c.args.blocks.now;
       taken = refl;
       full = refl;
-      faults = omega arith;
+      faults = refl;
     }
 
 pub walk_node-walk_tree-requires : goal.walk_node-walk_tree-requires
@@ -97,7 +97,7 @@ walk_node-loop-i-preserved g t c =
           c.walk_tree.ensures.only_reads;
       taken = c.walk_tree.ensures.taken ∙ so_far.taken;
       full = c.walk_tree.ensures.full ∙ so_far.full;
-      faults = omega (arith, so_far.faults, c.walk_tree.ensures.faults);
+      faults = below.faults ∙ so_far.faults;
     }
 
 pub walk_node-returns-clause-walked : goal.walk_node-returns-clause-walked
@@ -210,7 +210,7 @@ walk_tree-returns-clause-reads g t c =
     subst (λ x. CostsTree 1 (nodes_of c.args.form r) x (g.B.Blocks.reads c.args.blocks.now) (g.B.Blocks.reads c.walk_node.new.blocks))
     (sym c.in-Some.is)
     (costs_tree (nodes_of c.args.form r) c.in-Some.vcn n read 1 (g.B.Blocks.reads c.args.blocks.now) (g.B.Blocks.reads c.read.new.self)
-    (g.B.Blocks.reads c.walk_node.new.blocks) c.read.ensures.reads
+    (g.B.Blocks.reads c.walk_node.new.blocks) (one_more _ _ c.read.ensures.reads)
     (subst (λ k. CostsNode 1 (nodes_of k r) n (g.B.Blocks.reads c.read.new.self)
     (g.B.Blocks.reads c.walk_node.new.blocks)) c.in-Ok.ensures.form (w r (c.read.ensures.records ∙ e)))))
     c.walk_node.ensures.reads

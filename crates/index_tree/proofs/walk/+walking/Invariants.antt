@@ -1,4 +1,4 @@
-use Rattle.std.proofs.Common.{◌≡◌, ◌≤◌, ◌+◌, ◌*◌}
+use Rattle.std.proofs.Common.{◌≡◌, ◌+◌, ◌*◌}
 use Rattle.ntfs_def.specs.IndexTree.{Each}
 use Rattle.ntfs_def.specs.Node.{IsOwnEntry}
 use Rattle.ntfs_def.specs.Told.{WhereTold}
@@ -28,5 +28,5 @@ invariant-walk_node-loop-i g l = record {
   only_reads : g.B.Blocks.only_reads l.fn.blocks l.blocks;
   taken : g.B.Blocks.taken l.blocks ≡ g.B.Blocks.taken l.fn.blocks;
   full : g.B.Blocks.full l.blocks ≡ g.B.Blocks.full l.fn.blocks;
-  faults : g.B.Blocks.faults l.fn.blocks ≤ g.B.Blocks.faults l.blocks;
+  faults : g.B.Blocks.faults l.blocks ≡ g.B.Blocks.faults l.fn.blocks;
 }
