@@ -30,7 +30,7 @@ fn first_below<B: Blocks, C: Collation>(
     requires key { IsTrue (C.valid order.now key.now) }
     ensures found { IfOk result (λ found. WhereTold (B.records blocks.old) (λ r.
         FindsBelow (λ x. C.order order.now x key.now) (C.valid order.now) (nodes_of form r) child found)) }
-    ensures keyed { IfOk result (λ found. IfSome found (IsKeyed (C.valid order.now))) }
+    ensures keyed { IfOk result (λ found. IfSome found (IsKeyed form (C.valid order.now))) }
 
     ensures reads { WhereTold (B.records blocks.old) (λ r. CostsBelow 1 (λ x. C.order order.now x key.now) (C.valid order.now)
         (nodes_of form r) child (B.reads blocks.old) (B.reads blocks.new)) }
@@ -96,7 +96,7 @@ impl<C: Collation> Index<C> {
         requires key { IsTrue (C.valid (order_of self.now) key.now) }
         ensures found { IfOk result (λ found. WhereTold (B.records blocks.old) (λ r. Finds (λ x. C.order (order_of self.now) x key.now)
             (C.valid (order_of self.now)) (nodes_of (form_of self.now) r) (node_in (form_of self.now) root.now) found)) }
-        ensures keyed { IfOk result (λ found. IfSome found (IsKeyed (C.valid (order_of self.now)))) }
+        ensures keyed { IfOk result (λ found. IfSome found (IsKeyed (form_of self.now) (C.valid (order_of self.now)))) }
 
         ensures reads { WhereTold (B.records blocks.old) (λ r. Costs 1 (λ x. C.order (order_of self.now) x key.now)
             (C.valid (order_of self.now)) (nodes_of (form_of self.now) r) (node_in (form_of self.now) root.now)
