@@ -1,21 +1,36 @@
 -- What is laid out is read again: bytes that hold pieces, and the node that entries say.
-use Rattle.std.proofs.Common.{◌≡◌, ℕ, zero, suc, ◌+◌, ◌-◌, ◌*◌, ◌/◌, ◌%◌, ◌<◌, ◌≤◌, ◌==◌, List, [], ◌∷◌, ◌++◌, Option, Some, None, Bool, true, false, length, take, drop, get_or, slice_range, slice_index, refl, sym, ap, subst, ◌∙◌, arith, rules, length-drop, length-take}
+use Rattle.std.proofs.Math.Nat.{min-eq_left, min-eq_right}
+use Rattle.std.proofs.Common.{◌^◌, min, inl, inr, ◌≡◌, ℕ, zero, suc, ◌+◌, ◌-◌, ◌*◌, ◌/◌, ◌%◌, ◌<◌, ◌≤◌, ◌==◌, List, [], ◌∷◌, ◌++◌, Option, Some, None, Bool, true, false, length, take, drop, get_or, slice_range, slice_index, refl, sym, ap, subst, ◌∙◌, arith, rules, length-drop, length-take}
 use Rattle.std.specs.Prelude.{IsTrue, codes, nat_eq, nat_le, ◌&&◌, if◌then◌else◌}
 use Rattle.std.specs.List.{starts_with}
 use Rattle.std.specs.Cmp.Lexicographic.{pointwise}
 use Rattle.std.proofs.lemmas.List.{get_or-take, get_or-drop}
 use Rattle.std.proofs.lemmas.Grind.{same_number_lists}
-use Rattle.std.proofs.lemmas.Bool.{le-leb, leb-true}
+use Rattle.std.proofs.lemmas.Bool.{cases_order, le-leb, leb-true}
 use Rattle.std.proofs.lemmas.List.Sums.{sum_by-cons}
 use Rattle.vol_bytes.specs.Field.{SameOutside, u16_at, u32_at, u64_at}
 use Rattle.vol_bytes.proofs.FieldLaws.{u16_at-same, u32_at-same}
 use Rattle.ntfs_def.specs.First.{first_failing}
 use Rattle.ntfs_def.specs.Fixup.{array_place, array_end}
-use Rattle.ntfs_def.specs.Node.{Item, Entry, Node, Whole, IsWholeEntry, child_at, child_len, data_len, data_offset, entries_end, entry_at, entry_flags, entry_len, first_entry, first_offset, has_children, holds_data, is_entry, is_index_record, is_last_entry, is_whole, item_at, item_in, key_len, node_header, node_header_failing, node_in, room_end, scan_from, whole_of, before}
+use Rattle.ntfs_def.specs.Node.{Item, Entry, Node, Whole, IsWholeEntry, child_at, child_len, data_len, data_offset, entries_end, entry_at, entry_flags, entry_len, first_entry, first_offset, has_children, holds_data, is_entry, is_index_record, is_last_entry, is_whole, item_at, item_in, key_len, node_header, node_header_failing, node_in, room_end, scan_from, whole_of, entry_and, is_one_entry, is_one_last}
 use Rattle.ntfs_def.specs.declared.index.NodeForm.{NodeForm}
 use Rattle.ntfs_def.specs.declared.index.NodeForm.TheVariants.{Names, View}
 use Rattle.ntfs_def.proofs.NodeLaws.{u16_within, u64_within, item_in-own, entry_whole, flag_is, scan_at_entry, scan_at_last, scan_node-is, child_at-some, child_at-none}
-use Rattle.index_node.specs.LayOut.{AreEntries, AreEntriesFrom, Holds, KeepsHeader, SetsHeader, is_one_entry, is_one_last, node_from, node_listed, total_len, with_entry}
+use Rattle.index_node.specs.LayOut.{AreEntries, AreEntriesFrom, Holds, KeepsHeader, SetsHeader, node_from, node_listed, total_len, with_entry}
+
+-- The bytes that entries take, where they fit.
+pub need_is : (total need free room first : ℕ) → need ≡ min total (2 ^ 64 - 1) → need ≤ free → free ≡ room - first → room < 2 ^ 33
+    → need ≡ total
+need_is total need free room first e h f short = elim (cases_order total (2 ^ 64 - 1)) [
+  | inl is ↦ go (omega (arith, is))
+  | inr w ↦ elim w [
+    | inl lt ↦ go (omega arith)
+    | inr gt ↦ let m = min-eq_right {n = 2 ^ 64 - 1} {m = total} (omega arith) in absurd (omega (arith, e, m))
+  ]
+]
+  where
+    go : total ≤ 2 ^ 64 - 1 → need ≡ total
+    go le = let m = min-eq_left le in omega (arith, e, m)
 
 -- Bytes that are the same.
 pub range_same : (old new : List ℕ) (a b : ℕ) → length new ≡ length old → ((k : ℕ) → a ≤ k → k < b → get_or new k 0 ≡ get_or old k 0)
@@ -216,9 +231,9 @@ scan_listed form node children end entry (next ∷ entries) (suc most) at few ea
     let sum = sum_by-cons length entry (next ∷ entries) in
     let is = entry_moved node entry at holds.0 form children end each.0 (omega arith) in
     scan_at_entry form node children end most at is
-    ∙ ap (λ n. before (entry_at node children at) (scan_from form node children end most (at + n)))
+    ∙ ap (λ n. entry_and (entry_at node children at) (scan_from form node children end most (at + n)))
     (len_same node entry at holds.0 long ∙ facts.0)
-    ∙ ap (before (entry_at node children at)) (scan_listed form node children end next entries most (at + length entry)
+    ∙ ap (entry_and (entry_at node children at)) (scan_listed form node children end next entries most (at + length entry)
     (omega arith) each.1 holds.1 (omega arith))
     ∙ ap (λ e. Whole (with_entry e (node_from children next entries)))
     (entry_eq (item_moved node entry at holds.0 children end long (entry_whole form node children end at is) facts.0)

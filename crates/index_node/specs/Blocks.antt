@@ -1,11 +1,12 @@
 -- What the calls of an index's records answer.
-use Rattle.std.specs.Prelude.{ℕ}
+use Rattle.std.specs.Prelude.{◌≡◌, ℕ, ◌≤◌}
 use Rattle.vol_disk.specs.Count.{Rose}
 use Rattle.index_node.specs.declared.blocks.BlockNo.{BlockNo}
 use Rattle.index_node.specs.declared.blocks.BlockNo.TheVariants.{Device, NoRoom, Memory}
 
--- A read fails only where the disk did.
+-- Why a call that only reads fails, and what that did to the count of the disk's faults: the disk failed, and the count
+-- rose, or there was no memory, and it stayed.
 abbrev pub ReadRefuses : ℕ → ℕ → BlockNo → Type 0
-ReadRefuses before after Device = Rose before after
+ReadRefuses before after Device = (before ≤ after) × Rose before after
 ReadRefuses before after NoRoom = ⊥
-ReadRefuses before after Memory = Unit {0}
+ReadRefuses before after Memory = after ≡ before

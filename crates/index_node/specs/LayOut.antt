@@ -1,17 +1,10 @@
 -- A node that is laid out from the bytes of its entries.
-use Rattle.std.specs.Prelude.{◌≡◌, ℕ, ◌+◌, ◌-◌, ◌*◌, ◌/◌, ◌<◌, ◌≤◌, ◌==◌, ◌&&◌, if◌then◌else◌, Bool, List, [], ◌∷◌, length, sum_by, slice_index, slice_range, None, IsTrue}
+use Rattle.std.specs.Prelude.{◌≡◌, ℕ, ◌+◌, ◌-◌, ◌*◌, ◌/◌, ◌^◌, ◌<◌, ◌≤◌, min, if◌then◌else◌, Bool, List, [], ◌∷◌, length, sum_by, slice_index, slice_range, None, IsTrue}
 use Rattle.vol_bytes.specs.Field.{u32_at}
-use Rattle.ntfs_def.specs.Node.{Node, Entry, entries_end, entry_at, child_at, entry_len, first_entry, is_entry, is_last_entry, node_header, room_end}
+use Rattle.ntfs_def.specs.Node.{Node, Entry, entries_end, entry_at, child_at, first_entry, is_one_entry, is_one_last, node_header, room_end}
 use Rattle.ntfs_def.specs.declared.index.NodeForm.{NodeForm}
 use Rattle.index_node.specs.declared.NodeNo.{NodeNo}
 use Rattle.index_node.specs.declared.NodeNo.TheVariants.{Shape, Full}
-
--- the bytes are one entry with a key, or the last entry, and nothing else
-abbrev pub is_one_entry : NodeForm → Bool → List ℕ → Bool
-is_one_entry form children entry = is_entry form entry children (length entry) 0 && (entry_len entry 0 == length entry)
-
-abbrev pub is_one_last : Bool → List ℕ → Bool
-is_one_last children entry = is_last_entry entry children (length entry) 0 && (entry_len entry 0 == length entry)
 
 -- They are the entries of a node in order, the last entry last. `AreEntriesFrom` speaks of the first of them and the others.
 abbrev pub AreEntriesFrom : NodeForm → Bool → List ℕ → List (List ℕ) → Type 0
@@ -64,7 +57,7 @@ pub record KeepsHeader (old new : List ℕ) : Type 0 where
   pub between : (k : ℕ) → node_header old + 0x0D ≤ k → k < first_entry old → slice_index new k ≡ slice_index old k
   pub behind : (k : ℕ) → entries_end new ≤ k → slice_index new k ≡ slice_index old k
 
--- the entries do not fit
+-- The entries do not fit. A machine's number tells their length, or stands at its last value.
 abbrev pub LacksRoom : List ℕ → List (List ℕ) → NodeNo → Type 0
 LacksRoom node entries (Shape at) = ⊥
-LacksRoom node entries (Full need free) = (need ≡ total_len entries) × (free ≡ room_len node) × (free < need)
+LacksRoom node entries (Full need free) = (need ≡ min (total_len entries) (2 ^ 64 - 1)) × (free ≡ room_len node) × (free < need)

@@ -10,8 +10,8 @@ use Rattle.index_node.specs.declared.NodeNo.TheVariants.{Shape, Full}
 abbrev pub bytes_of : NodeView → List ℕ
 bytes_of view = view.node.now
 
-abbrev pub form_of : NodeView → NodeForm
-form_of view = view.form
+abbrev pub form_of_view : NodeView → NodeForm
+form_of_view view = view.form
 
 -- where entry i stands
 abbrev pub place_of : NodeView → ℕ → ℕ

@@ -1,7 +1,8 @@
 //! The records of an index, as its tree reads them.
-ghost use Rattle.std.specs.Prelude.{◌≡◌, ℕ, ◌+◌, ◌≤◌, Option, List, Some, IsSome, IfErr, OnOk};
+ghost use Rattle.std.specs.Prelude.{◌≡◌, ℕ, ◌+◌, ◌≤◌, Option, List, Some, IsSome, MatchResult, OnErr, OnOk};
 ghost use Rattle.std.specs.Option.{option_map};
 ghost use Rattle.ntfs_def.specs.Told.{WhereTold};
+ghost use Rattle.vol_disk.specs.Count.{raised};
 ghost use Rattle.index_node.specs.Blocks.{ReadRefuses};
 
 use thiserror::Error;
@@ -59,21 +60,27 @@ pub trait Blocks {
     ghost full: { Self → ℕ };
 
     /// Reads a record, opened. No record changes.
+    ///
+    /// # Errors
+    ///
+    /// `Device` where the disk failed, and `Memory` where it did not. Never `NoRoom`. `into` is then as before.
     fn read(&mut self, vcn: u64, into: &mut [u8; 4096]) -> Result<(), BlockNo>
         requires { WhereTold (records self.old) (λ record_at. IsSome (record_at vcn)) }
         ensures read { OnOk result (WhereTold (records self.old) (λ record_at. record_at vcn ≡ Some into.new)) }
+        ensures kept { OnErr result (into.new ≡ into.old) }
 
         ensures records { records self.new ≡ records self.old }
         ensures volume { volume self.new ≡ volume self.old }
         ensures file { file self.new ≡ file self.old }
         ensures only_reads { only_reads self.old self.new }
-        ensures reads { reads self.new ≤ reads self.old + 1 }
+        ensures reads { reads self.new ≡ raised (reads self.old) }
         ensures fetched { fetched self.new ≤ fetched self.old + 8 }
+        ensures rising { fetched self.old ≤ fetched self.new }
         ensures taken { taken self.new ≡ taken self.old }
         ensures full { full self.new ≡ full self.old }
 
-        ensures faults { faults self.old ≤ faults self.new }
-        ensures cause { IfErr result (ReadRefuses (faults self.old) (faults self.new)) };
+        ensures faults { MatchResult result (λ _. faults self.new ≡ faults self.old)
+            (ReadRefuses (faults self.old) (faults self.new)) };
 
     ghost are: { (it : Self) → records it ≡ option_map (λ volume. record_in volume (file it)) (volume it) };
 

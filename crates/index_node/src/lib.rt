@@ -5,7 +5,7 @@
 #![tactic(auto)]
 
 ghost use Rattle.std.specs.Prelude.{◌≡◌, ◌≤◌, ◌<◌, ◌^◌, IsTrue, length};
-ghost use Rattle.ntfs_def.specs.Node.{AreEntries, entry_place, first_entry, has_children, is_last_entry};
+ghost use Rattle.ntfs_def.specs.Node.{HasEntries, entry_place, first_entry, has_children, is_last_entry};
 
 mod blocks;
 mod shape;
@@ -45,6 +45,6 @@ pub struct NodeView<'r> {
     ghost inside: { end ≤ length node.now },
     ghost short: { end < 2 ^ 33 },
     ghost small: { first < 2 ^ 33 },
-    ghost each: { AreEntries form node.now children end first count },
+    ghost each: { HasEntries form node.now children end first count },
     ghost last: { IsTrue (is_last_entry node.now children end (entry_place node.now first count)) },
 }

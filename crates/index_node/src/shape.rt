@@ -1,6 +1,6 @@
 //! The tests of a node's shape: its header and its entries.
 ghost use Rattle.std.specs.Prelude.{◌≡◌, ◌<◌, ◌≤◌, ◌+◌, ◌^◌, IfOk, IfErr, IsTrue, None, length};
-ghost use Rattle.ntfs_def.specs.Node.{AreEntries, entry_place, scan_from, scan_node, child_len, entries_end, first_entry, first_offset, has_children, holds_data, is_entry, is_last_entry, is_whole, node_header, node_header_failing, room_end};
+ghost use Rattle.ntfs_def.specs.Node.{HasEntries, entry_place, scan_from, scan_node, child_len, entries_end, first_entry, first_offset, has_children, holds_data, is_entry, is_last_entry, is_whole, node_header, node_header_failing, room_end};
 ghost use Rattle.index_node.specs.View.{Refuses};
 
 use crate::NodeNo;
@@ -79,6 +79,7 @@ pub fn room_end(node: &[u8]) -> usize
     requires { node_header_failing node.now ≡ None }
     ensures place { result ≡ room_end node.now }
     ensures inside { result ≤ length node.now }
+    ensures short { result < 2 ^ 33 }
 {
     let header = node_header(node);
     header + u32_at(node, header + 0x08) as usize
@@ -105,7 +106,7 @@ pub fn count_of(
     requires short { end < 2 ^ 33 }
     requires small { first < 2 ^ 33 }
     requires header { scan_node form node.now ≡ scan_from form node.now children end (length node.now) first }
-    ensures each { IfOk result (AreEntries form node.now children end first) }
+    ensures each { IfOk result (HasEntries form node.now children end first) }
     ensures last { IfOk result (λ n. IsTrue (is_last_entry node.now children end (entry_place node.now first n))) }
     ensures few { IfOk result (λ n. n < length node.now) }
     ensures err { IfErr result (Refuses form node.now) }

@@ -1,7 +1,7 @@
 //! The view: how many entries the node has, and each of them.
-ghost use Rattle.std.specs.Prelude.{◌≡◌, ◌<◌, ◌≤◌, ◌^◌, IfOk, IfErr, length, slice_index_or};
-ghost use Rattle.ntfs_def.specs.Node.{IsOwnEntry, IsWholeEntry, Entry, Whole, are_short, child_from, item_in, scan_node};
-ghost use Rattle.index_node.specs.View.{Refuses, bytes_of, form_of, place_of, node_of_view};
+ghost use Rattle.std.specs.Prelude.{◌≡◌, ◌<◌, ◌≤◌, ◌^◌, IfOk, IfErr, IsTrue, length, slice_index_or};
+ghost use Rattle.ntfs_def.specs.Node.{IsWholeEntry, Entry, Whole, are_short, child_from, has_children, is_one_entry, item_in, scan_node};
+ghost use Rattle.index_node.specs.View.{Refuses, bytes_of, form_of_view, place_of, node_of_view};
 
 use crate::shape::{child_len, count_of, entries_end, first_entry, has_children, header_failing};
 use crate::{NodeNo, NodeView};
@@ -19,7 +19,7 @@ impl<'r> NodeView<'r> {
     /// `Shape` exactly where the bytes have not the shape of a node, with the first place where they fail.
     pub fn new(node: &'r [u8], form: NodeForm) -> Result<NodeView<'r>, NodeNo>
         ensures ok { IfOk result (λ view. scan_node form node.now ≡ Whole (node_of_view view)) }
-        ensures form { IfOk result (λ view. form_of view ≡ form) }
+        ensures form { IfOk result (λ view. form_of_view view ≡ form) }
         ensures bytes { IfOk result (λ view. bytes_of view ≡ node.now) }
         ensures err { IfErr result (Refuses form node.now) }
     {
@@ -59,7 +59,7 @@ impl<'r> NodeView<'r> {
 
     /// What its entries are.
     pub fn form(&self) -> NodeForm
-        ensures { result ≡ form_of self.now }
+        ensures { result ≡ form_of_view self.now }
     {
         self.form
     }
@@ -93,7 +93,7 @@ impl<'r> NodeView<'r> {
     pub fn entry(&self, i: usize) -> &'r [u8]
         requires { i < length (node_of_view self.now).entries }
         ensures item { (d : Entry) → item_in result.now ≡ (slice_index_or (node_of_view self.now).entries i d).item }
-        ensures own { IsOwnEntry result.now }
+        ensures own { IsTrue (is_one_entry (form_of_view self.now) (has_children (bytes_of self.now)) result.now) }
     {
         let at = self.place(i);
         &self.node[at..at + u16_at(self.node, at + 0x08) as usize]

@@ -1,5 +1,5 @@
 //! A node is laid out from the bytes of its entries.
-ghost use Rattle.std.specs.Prelude.{◌≡◌, ◌↔◌, ◌+◌, ◌<◌, ◌≤◌, ◌^◌, ◌∷◌, [], IfErr, IsOk, OnErr, OnOk, Some, None, length};
+ghost use Rattle.std.specs.Prelude.{◌≡◌, ◌↔◌, ◌+◌, ◌-◌, ◌≤◌, ◌^◌, min, ◌∷◌, [], IfErr, IsOk, OnErr, OnOk, Some, None, length};
 ghost use Rattle.vol_bytes.specs.Field.{SameOutside};
 ghost use Rattle.ntfs_def.specs.Node.{entries_end, first_entry, node_header, node_header_failing, node_in, room_end};
 ghost use Rattle.index_node.specs.LayOut.{AreEntries, Holds, KeepsHeader, LacksRoom, SetsHeader, node_listed, room_len, total_len};
@@ -9,14 +9,13 @@ use crate::shape::{first_entry, node_header, room_end};
 use ntfs_def::NodeForm;
 use vol_bytes::{Octets, put_u32};
 
-// The bytes that entries take.
+// The bytes that entries take; the last value of a machine's number where they are more.
 fn total_len(entries: &[Octets]) -> usize
-    requires { total_len entries.now < 2 ^ 64 }
-    ensures { result ≡ total_len entries.now }
+    ensures { result ≡ min (total_len entries.now) (2 ^ 64 - 1) }
 {
-    let mut total = 0;
+    let mut total = 0usize;
     for entry in entries {
-        total += entry.as_slice().len();
+        total = total.saturating_add(entry.as_slice().len());
     }
     total
 }
@@ -70,8 +69,8 @@ pub fn lay_out(
 ) -> Result<(), NodeNo>
     requires header { node_header_failing node.old ≡ None }
     requires entries { AreEntries form children entries.now }
-    requires short { total_len entries.now < 2 ^ 64 }
     ensures ok { OnOk result (node_in form node.new ≡ Some (node_listed children entries.now)) }
+    ensures bytes { OnOk result (Holds node.new (first_entry node.old) entries.now) }
     ensures end { OnOk result (entries_end node.new ≡ first_entry node.old + total_len entries.now) }
     ensures header { OnOk result (KeepsHeader node.old node.new) }
 

@@ -13,7 +13,9 @@ use Rattle.index_tree.specs.Search.{nodes_of, IsPlace, StartsAt, IsBefore, Rises
 use Rattle.ntfs_def.proofs.IndexTreeLaws.{some_same, none_other, below_at, before_items, behind_items, items_split, times_split, EachBelow-at, Each-branches, child_below, branch_entry, Each-++, Each-left, Each-right, Each-mid, Each-map}
 use Rattle.std.specs.Option.{option_and_then}
 use Rattle.std.proofs.Common.{Result, Ok, Err}
-use Rattle.std.specs.Prelude.{IfOk}
+use Rattle.std.specs.Prelude.{IfOk, ◌^◌, min}
+use Rattle.std.proofs.Math.Nat.{min-le_left}
+use Rattle.vol_disk.specs.Count.{raised}
 
 -- The nodes that records say.
 is_none : {X : Type 0} (o : Option X) → o ≡ None → IsSome o → ⊥
@@ -37,6 +39,10 @@ not_refused form records vcn bytes e (Shape at) h some =
     let f : nodes_of form records vcn ≡ None = ap (option_and_then (node_in form)) e ∙ ap whole_of h in
     is_none (nodes_of form records vcn) f some
 not_refused form records vcn bytes e (Full need free) h some = absurd h
+
+-- a count that was raised is at most one higher
+pub one_more : (before after : ℕ) → after ≡ raised before → after ≤ before + 1
+one_more before after e = let m = min-le_left (before + 1) (2 ^ 64 - 1) in omega (arith, e, m)
 
 pub IfOk-map : {T E : Type 0} {P Q : T → Type 0} (r : Result T E) → ((x : T) → P x → Q x) → IfOk r P → IfOk r Q
 IfOk-map (Ok x) f h = f x h

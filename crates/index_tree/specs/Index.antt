@@ -1,7 +1,7 @@
 -- What an index shows, and what its calls answer.
 use Rattle.std.specs.Prelude.{ℕ}
-use Rattle.vol_disk.specs.Count.{Rose}
 use Rattle.ntfs_def.specs.declared.index.NodeForm.{NodeForm}
+use Rattle.index_node.specs.Blocks.{ReadRefuses}
 use Rattle.index_node.specs.declared.blocks.BlockNo.{BlockNo}
 use Rattle.index_node.specs.declared.blocks.BlockNo.TheVariants.{Device as BlockDevice, NoRoom as BlockNoRoom, Memory as BlockMemory}
 use Rattle.index_tree.specs.declared.Index.{Index}
@@ -24,8 +24,12 @@ index_no_of BlockDevice = Device
 index_no_of BlockNoRoom = NoRoom
 index_no_of BlockMemory = Memory
 
--- A call that only reads fails only where the disk did.
-abbrev pub ReadRefuses : ℕ → ℕ → IndexNo → Type 0
-ReadRefuses before after Device = Rose before after
-ReadRefuses before after NoRoom = ⊥
-ReadRefuses before after Memory = Unit {0}
+-- the failure of the records that an answer tells
+abbrev pub block_no_of : IndexNo → BlockNo
+block_no_of Device = BlockDevice
+block_no_of NoRoom = BlockNoRoom
+block_no_of Memory = BlockMemory
+
+-- why a call that only reads fails: as a read of a record does
+abbrev pub Refuses : ℕ → ℕ → IndexNo → Type 0
+Refuses before after answer = ReadRefuses before after (block_no_of answer)

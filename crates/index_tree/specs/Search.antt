@@ -73,8 +73,8 @@ IsFirstFound side items None = NoneEqual side items
 IsFirstFound side items (Some entry) = IsFirst side items (item_in entry)
 
 -- the bytes are one entry, and its key is valid
-pub record IsKeyed (valid : List ℕ → Bool) (entry : List ℕ) : Type 0 where
-  pub own : IsOwnEntry entry
+pub record IsKeyed (form : NodeForm) (valid : List ℕ → Bool) (entry : List ℕ) : Type 0 where
+  pub own : IsOwnEntry form entry
   pub key : IsTrue (valid (item_in entry).key)
 
 -- among the items of whatever tree is held under `child`

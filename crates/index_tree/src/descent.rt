@@ -1,8 +1,8 @@
 //! A key is found: one node a level is read, from the root down.
-ghost use Rattle.std.specs.Prelude.{◌≡◌, ◌≤◌, IsTrue, IfOk, IfErr, IfSome};
+ghost use Rattle.std.specs.Prelude.{◌≡◌, IsTrue, IfOk, IfSome, MatchResult};
 ghost use Rattle.ntfs_def.specs.Node.{node_in};
 ghost use Rattle.ntfs_def.specs.Told.{WhereTold};
-ghost use Rattle.index_tree.specs.Index.{ReadRefuses, form_of, limit_of, order_of};
+ghost use Rattle.index_tree.specs.Index.{Refuses, form_of, limit_of, order_of};
 ghost use Rattle.index_tree.specs.Search.{Costs, CostsBelow, Finds, FindsBelow, HasRising, HasRisingIndex, IsKeyed, nodes_of};
 
 use crate::seek::{or_entry, seek_in};
@@ -30,7 +30,7 @@ fn first_below<B: Blocks, C: Collation>(
     requires key { IsTrue (C.valid order.now key.now) }
     ensures found { IfOk result (λ found. WhereTold (B.records blocks.old) (λ r.
         FindsBelow (λ x. C.order order.now x key.now) (C.valid order.now) (nodes_of form r) child found)) }
-    ensures keyed { IfOk result (λ found. IfSome found (IsKeyed (C.valid order.now))) }
+    ensures keyed { IfOk result (λ found. IfSome found (IsKeyed form (C.valid order.now))) }
 
     ensures reads { WhereTold (B.records blocks.old) (λ r. CostsBelow 1 (λ x. C.order order.now x key.now) (C.valid order.now)
         (nodes_of form r) child (B.reads blocks.old) (B.reads blocks.new)) }
@@ -44,8 +44,8 @@ fn first_below<B: Blocks, C: Collation>(
     ensures taken { B.taken blocks.new ≡ B.taken blocks.old }
     ensures full { B.full blocks.new ≡ B.full blocks.old }
 
-    ensures faults { B.faults blocks.old ≤ B.faults blocks.new }
-    ensures cause { IfErr result (ReadRefuses (B.faults blocks.old) (B.faults blocks.new)) }
+    ensures faults { MatchResult result (λ _. B.faults blocks.new ≡ B.faults blocks.old)
+        (Refuses (B.faults blocks.old) (B.faults blocks.new)) }
 {
     let Some(vcn) = child else {
         return Ok(None);
@@ -96,7 +96,7 @@ impl<C: Collation> Index<C> {
         requires key { IsTrue (C.valid (order_of self.now) key.now) }
         ensures found { IfOk result (λ found. WhereTold (B.records blocks.old) (λ r. Finds (λ x. C.order (order_of self.now) x key.now)
             (C.valid (order_of self.now)) (nodes_of (form_of self.now) r) (node_in (form_of self.now) root.now) found)) }
-        ensures keyed { IfOk result (λ found. IfSome found (IsKeyed (C.valid (order_of self.now)))) }
+        ensures keyed { IfOk result (λ found. IfSome found (IsKeyed (form_of self.now) (C.valid (order_of self.now)))) }
 
         ensures reads { WhereTold (B.records blocks.old) (λ r. Costs 1 (λ x. C.order (order_of self.now) x key.now)
             (C.valid (order_of self.now)) (nodes_of (form_of self.now) r) (node_in (form_of self.now) root.now)
@@ -112,8 +112,8 @@ impl<C: Collation> Index<C> {
         ensures taken { B.taken blocks.new ≡ B.taken blocks.old }
         ensures full { B.full blocks.new ≡ B.full blocks.old }
 
-        ensures faults { B.faults blocks.old ≤ B.faults blocks.new }
-        ensures cause { IfErr result (ReadRefuses (B.faults blocks.old) (B.faults blocks.new)) }
+        ensures faults { MatchResult result (λ _. B.faults blocks.new ≡ B.faults blocks.old)
+            (Refuses (B.faults blocks.old) (B.faults blocks.new)) }
     {
         let Ok(node) = NodeView::new(root, self.form) else {
             return Ok(None);

@@ -1,7 +1,6 @@
 //! A key is sought in a node.
-ghost use Rattle.std.specs.Prelude.{◌≡◌, ◌<◌, ℕ, IsTrue, length, IfErr, IfOk, IfSome, true};
-ghost use Rattle.index_node.specs.View.{node_of_view};
-ghost use Rattle.index_tree.specs.Index.{ReadRefuses};
+ghost use Rattle.std.specs.Prelude.{◌≡◌, ◌<◌, IsTrue, length, IfErr, IfOk, IfSome, true};
+ghost use Rattle.index_node.specs.View.{form_of_view, node_of_view};
 ghost use Rattle.index_tree.specs.Search.{HitsKey, IsKeyed, Picks, Seeks};
 
 use crate::IndexNo;
@@ -49,10 +48,10 @@ pub fn or_entry<C: Collation>(
 ) -> Result<Option<Octets>, IndexNo>
     requires inside { hit ≡ true → i < length (node_of_view node.now).entries }
     requires key { HitsKey (C.valid _order.now) (node_of_view node.now).entries i hit }
-    requires below { IfSome below (IsKeyed (C.valid _order.now)) }
+    requires below { IfSome below (IsKeyed (form_of_view node.now) (C.valid _order.now)) }
     ensures picks { IfOk result (Picks below hit (node_of_view node.now).entries i) }
-    ensures keyed { IfOk result (λ found. IfSome found (IsKeyed (C.valid _order.now))) }
-    ensures cause { (before after : ℕ) → IfErr result (ReadRefuses before after) }
+    ensures keyed { IfOk result (λ found. IfSome found (IsKeyed (form_of_view node.now) (C.valid _order.now))) }
+    ensures memory { IfErr result (λ no. no ≡ IndexNo.Memory) }
 {
     match below {
         Some(entry) => Ok(Some(entry)),

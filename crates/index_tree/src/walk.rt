@@ -1,10 +1,10 @@
 //! All entries of an index are walked in order.
-ghost use Rattle.std.specs.Prelude.{◌≡◌, ◌≤◌, ◌++◌, ◌∷◌, [], IfOk, IfErr, OnOk};
+ghost use Rattle.std.specs.Prelude.{◌≡◌, ◌++◌, ◌∷◌, [], IfOk, IfErr, MatchResult, OnOk};
 ghost use Rattle.ntfs_def.specs.IndexTree.{Each};
 ghost use Rattle.ntfs_def.specs.Node.{IsOwnEntry, node_in};
 ghost use Rattle.ntfs_def.specs.Told.{WhereTold};
-ghost use Rattle.index_node.specs.View.{form_of as form_of_view, node_of_view};
-ghost use Rattle.index_tree.specs.Index.{ReadRefuses, form_of};
+ghost use Rattle.index_node.specs.View.{form_of_view, node_of_view};
+ghost use Rattle.index_tree.specs.Index.{Refuses, form_of};
 ghost use Rattle.index_tree.specs.Search.{nodes_of};
 ghost use Rattle.index_tree.specs.Walk.{CostsNode, CostsTree, CostsWalk, HasSpread, HasTree, HasWalk, IsWalk, WalksNode, WalksTree};
 
@@ -37,7 +37,7 @@ fn walk_tree<B: Blocks>(
     requires tree { WhereTold (B.records blocks.old) (λ r. HasTree (nodes_of form r) child level) }
     ensures walked { OnOk result (WhereTold (B.records blocks.old) (λ r.
         WalksTree (nodes_of form r) child out.old.items out.new.items)) }
-    ensures own { OnOk result (Each IsOwnEntry out.old.items → Each IsOwnEntry out.new.items) }
+    ensures own { OnOk result (Each (IsOwnEntry form) out.old.items → Each (IsOwnEntry form) out.new.items) }
 
     ensures reads { OnOk result (WhereTold (B.records blocks.old) (λ r.
         CostsTree 1 (nodes_of form r) child (B.reads blocks.old) (B.reads blocks.new))) }
@@ -51,8 +51,8 @@ fn walk_tree<B: Blocks>(
     ensures taken { B.taken blocks.new ≡ B.taken blocks.old }
     ensures full { B.full blocks.new ≡ B.full blocks.old }
 
-    ensures faults { B.faults blocks.old ≤ B.faults blocks.new }
-    ensures cause { IfErr result (ReadRefuses (B.faults blocks.old) (B.faults blocks.new)) }
+    ensures faults { MatchResult result (λ _. B.faults blocks.new ≡ B.faults blocks.old)
+        (Refuses (B.faults blocks.old) (B.faults blocks.new)) }
 {
     let Some(vcn) = child else {
         return Ok(());
@@ -81,7 +81,7 @@ fn walk_node<B: Blocks>(
         HasSpread (nodes_of (form_of_view node.now) r) (node_of_view node.now) level) }
     ensures walked { OnOk result (WhereTold (B.records blocks.old) (λ r.
         WalksNode (nodes_of (form_of_view node.now) r) (node_of_view node.now) out.old.items out.new.items)) }
-    ensures own { OnOk result (Each IsOwnEntry out.old.items → Each IsOwnEntry out.new.items) }
+    ensures own { OnOk result (Each (IsOwnEntry (form_of_view node.now)) out.old.items → Each (IsOwnEntry (form_of_view node.now)) out.new.items) }
 
     ensures reads { OnOk result (WhereTold (B.records blocks.old) (λ r.
         CostsNode 1 (nodes_of (form_of_view node.now) r) (node_of_view node.now) (B.reads blocks.old) (B.reads blocks.new))) }
@@ -95,8 +95,8 @@ fn walk_node<B: Blocks>(
     ensures taken { B.taken blocks.new ≡ B.taken blocks.old }
     ensures full { B.full blocks.new ≡ B.full blocks.old }
 
-    ensures faults { B.faults blocks.old ≤ B.faults blocks.new }
-    ensures cause { IfErr result (ReadRefuses (B.faults blocks.old) (B.faults blocks.new)) }
+    ensures faults { MatchResult result (λ _. B.faults blocks.new ≡ B.faults blocks.old)
+        (Refuses (B.faults blocks.old) (B.faults blocks.new)) }
 {
     for i in 0..node.entries() {
         walk_tree(alloc, blocks, node.form(), node.child(i), level, out)?;
@@ -130,7 +130,7 @@ impl<C> Index<C> {
             HasWalk (nodes_of (form_of self.now) r) (node_in (form_of self.now) root.now)) }
         ensures walked { IfOk result (λ entries. WhereTold (B.records blocks.old) (λ r.
             IsWalk (nodes_of (form_of self.now) r) (node_in (form_of self.now) root.now) entries.items)) }
-        ensures own { IfOk result (λ entries. Each IsOwnEntry entries.items) }
+        ensures own { IfOk result (λ entries. Each (IsOwnEntry (form_of self.now)) entries.items) }
 
         ensures reads { IfOk result (λ _. WhereTold (B.records blocks.old) (λ r.
             CostsWalk 1 (nodes_of (form_of self.now) r) (node_in (form_of self.now) root.now) (B.reads blocks.old) (B.reads blocks.new))) }
@@ -145,8 +145,8 @@ impl<C> Index<C> {
         ensures taken { B.taken blocks.new ≡ B.taken blocks.old }
         ensures full { B.full blocks.new ≡ B.full blocks.old }
 
-        ensures faults { B.faults blocks.old ≤ B.faults blocks.new }
-        ensures cause { IfErr result (ReadRefuses (B.faults blocks.old) (B.faults blocks.new)) }
+        ensures faults { MatchResult result (λ _. B.faults blocks.new ≡ B.faults blocks.old)
+            (Refuses (B.faults blocks.old) (B.faults blocks.new)) }
     {
         let mut out = Vec::new(alloc);
         let Ok(node) = NodeView::new(root, self.form) else {

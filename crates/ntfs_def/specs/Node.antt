@@ -96,6 +96,7 @@ is_whole node children end at =
 -- the same as facts, for readers
 pub record IsWholeEntry (node : List ℕ) (children : Bool) (end at : ℕ) : Type 0 where
   pub header : at + 16 ≤ end
+  pub multiple : entry_len node at % 8 ≡ 0
   pub holds : 16 + key_len node at + child_len children ≤ entry_len node at
   pub inside : at + entry_len node at ≤ end
   pub flag : entry_flags node at % 2 ≡ (if children then 1 else 0)
@@ -161,9 +162,9 @@ pub data Scan : Type 0 where
   Whole : Node → Scan
   BadAt : ℕ → Scan
 
-abbrev pub before : Entry → Scan → Scan
-before entry (Whole node) = Whole (record { entries = entry ∷ node.entries; last = node.last })
-before entry (BadAt place) = BadAt place
+abbrev pub entry_and : Entry → Scan → Scan
+entry_and entry (Whole node) = Whole (record { entries = entry ∷ node.entries; last = node.last })
+entry_and entry (BadAt place) = BadAt place
 
 -- From a place on, at most so many entries: the last one ends the node, and behind another one it goes on.
 abbrev pub scan_from : NodeForm → List ℕ → Bool → ℕ → ℕ → ℕ → Scan
@@ -171,7 +172,7 @@ scan_from form node children end zero at = BadAt at
 scan_from form node children end (suc most) at =
     if is_last_entry node children end at then Whole (record { entries = []; last = child_at node children at })
     else if is_entry form node children end at then
-    before (entry_at node children at) (scan_from form node children end most (at + entry_len node at))
+    entry_and (entry_at node children at) (scan_from form node children end most (at + entry_len node at))
     else BadAt at
 
 abbrev pub scan_behind : NodeForm → List ℕ → Option ℕ → Scan
@@ -197,8 +198,8 @@ entry_place node at zero = at
 entry_place node at (suc i) = entry_place node (at + entry_len node at) i
 
 -- At each of the first so many places, from this one on, stands an entry with a key.
-abbrev pub AreEntries : NodeForm → List ℕ → Bool → ℕ → ℕ → ℕ → Type 0
-AreEntries form node children end at n = (i : ℕ) → i < n → IsTrue (is_entry form node children end (entry_place node at i))
+abbrev pub HasEntries : NodeForm → List ℕ → Bool → ℕ → ℕ → ℕ → Type 0
+HasEntries form node children end at n = (i : ℕ) → i < n → IsTrue (is_entry form node children end (entry_place node at i))
 
 -- so many entries from a place on
 abbrev pub entries_from : List ℕ → Bool → ℕ → ℕ → List Entry
@@ -232,7 +233,13 @@ has_child entry at = entry_flags entry at % 2 == 1
 abbrev pub item_in : List ℕ → Item
 item_in entry = item_at entry (has_child entry 0) 0
 
--- the bytes are one entry and nothing else
-pub record IsOwnEntry (entry : List ℕ) : Type 0 where
-  pub whole : IsWholeEntry entry (has_child entry 0) (length entry) 0
-  pub len : entry_len entry 0 ≡ length entry
+-- The bytes are one entry with a key, or the last entry, and nothing else.
+abbrev pub is_one_entry : NodeForm → Bool → List ℕ → Bool
+is_one_entry form children entry = is_entry form entry children (length entry) 0 && (entry_len entry 0 == length entry)
+
+abbrev pub is_one_last : Bool → List ℕ → Bool
+is_one_last children entry = is_last_entry entry children (length entry) 0 && (entry_len entry 0 == length entry)
+
+-- the bytes are one entry with a key, which says itself whether it has a child
+abbrev pub IsOwnEntry : NodeForm → List ℕ → Type 0
+IsOwnEntry form entry = IsTrue (is_one_entry form (has_child entry 0) entry)

@@ -1,5 +1,6 @@
-use Rattle.std.proofs.Common.{slice_range, ◌+◌, ◌<◌, arith, ap, sym, ◌∙◌, subst}
-use Rattle.ntfs_def.specs.Node.{IsOwnEntry, Entry, item_at, item_in}
+use Rattle.std.specs.Prelude.{IsTrue}
+use Rattle.std.proofs.Common.{◌≡◌, true, slice_range, ◌+◌, ◌<◌, arith, ap, sym, ◌∙◌, subst}
+use Rattle.ntfs_def.specs.Node.{Entry, is_entry, is_one_entry, item_at, item_in}
 use Rattle.ntfs_def.proofs.NodeLaws.{length-entries_from, get_or-entries_from, item_in-own, entry-own}
 use Rattle.index_node.specs.View.{node_of_view}
 use Rattle.index_node.proofs.NodeView.entry.Goals as goal
@@ -24,7 +25,14 @@ returns-clause-item c = λ d.
     ∙ sym (ap (λ (e : Entry). e.item) (get_or-entries_from view.node.now view.children view.first view.count c.args.i d within))
 
 pub returns-clause-own : goal.returns-clause-own
+unfolding node_of_view
 returns-clause-own c =
     let view = c.args.self.now in
-    subst (λ n. IsOwnEntry (slice_range view.node.now c.place-at.result (c.place-at.result + n))) (sym c.u16_at.ensures)
-    (entry-own view.node.now view.children view.end c.place-at.result c.place-at.ensures.whole c.place-at.ensures.inside)
+    let node = view.node.now in
+    let at = c.place-at.result in
+    let all = length-entries_from node view.children view.first view.count in
+    let is : is_entry view.form node view.children view.end at ≡ true =
+    ap (is_entry view.form node view.children view.end) c.place-at.ensures.place ∙ view.each c.args.i (omega (arith, all, c.requires)) in
+    subst (λ b. IsTrue (is_one_entry view.form b (slice_range node at (at + c.u16_at.result)))) view.flag
+    (subst (λ n. IsTrue (is_one_entry view.form view.children (slice_range node at (at + n)))) (sym c.u16_at.ensures)
+    (entry-own view.form node view.children view.end at is c.place-at.ensures.inside))

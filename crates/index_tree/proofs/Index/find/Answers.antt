@@ -97,6 +97,3 @@ returns-clause-reads g c r e =
     root_reads side valid nodes root n is c.in-Some.i c.in-Some.hit c.in-Some.ensures.place 1 _ _
     (subst (λ b. CostsBelow 1 side valid nodes b (g.B.Blocks.reads c.args.blocks.now)
     (g.B.Blocks.reads c.first_below.new.blocks)) c.child.ensures (c.first_below.ensures.reads r e))
-
-pub returns-clause-cause : goal.returns-clause-cause
-returns-clause-cause g c = c.or_entry.ensures.cause _ _

@@ -5,7 +5,7 @@ use Rattle.index_node.specs.View.{node_of_view}
 use Rattle.index_tree.specs.Search.{nodes_of}
 use Rattle.index_tree.specs.Search.{CostsBelow, FindsBelow, HasRising}
 use Rattle.index_tree.proofs.Rising.{IfOk-map, some_record, read_node, not_refused}
-use Rattle.index_tree.proofs.Rising.{rising_node, rising_level, keys_there, firsts, first_reads, has_rising, hit_inside}
+use Rattle.index_tree.proofs.Rising.{one_more, rising_node, rising_level, keys_there, firsts, first_reads, has_rising, hit_inside}
 use Rattle.index_tree.proofs.descent.+first_below.Goals as goal
 
 pub read-requires : goal.read-requires
@@ -137,7 +137,7 @@ returns-in_err-below-clause-reads g t c r e =
     subst (λ x. CostsBelow 1 side valid nodes x (g.B.Blocks.reads c.args.blocks.now) (g.B.Blocks.reads c.first_below.new.blocks))
     (sym c.in-Some.is)
     (first_reads side valid nodes c.in-Some.vcn n read c.in-Some-seek_in.i c.in-Some-seek_in.hit c.in-Some-seek_in.ensures.place 1
-    (g.B.Blocks.reads c.args.blocks.now) (g.B.Blocks.reads c.read.new.self) (g.B.Blocks.reads c.first_below.new.blocks) c.read.ensures.reads
+    (g.B.Blocks.reads c.args.blocks.now) (g.B.Blocks.reads c.read.new.self) (g.B.Blocks.reads c.first_below.new.blocks) (one_more _ _ c.read.ensures.reads)
     (subst (λ b. CostsBelow 1 side valid nodes b (g.B.Blocks.reads c.read.new.self)
     (g.B.Blocks.reads c.first_below.new.blocks)) c.child.ensures
     (c.first_below.ensures.reads r (c.read.ensures.records ∙ e))))
@@ -152,10 +152,7 @@ returns-clause-reads g t c r e =
     subst (λ x. CostsBelow 1 side valid nodes x (g.B.Blocks.reads c.args.blocks.now) (g.B.Blocks.reads c.first_below.new.blocks))
     (sym c.in-Some.is)
     (first_reads side valid nodes c.in-Some.vcn n read c.in-Some-seek_in.i c.in-Some-seek_in.hit c.in-Some-seek_in.ensures.place 1
-    (g.B.Blocks.reads c.args.blocks.now) (g.B.Blocks.reads c.read.new.self) (g.B.Blocks.reads c.first_below.new.blocks) c.read.ensures.reads
+    (g.B.Blocks.reads c.args.blocks.now) (g.B.Blocks.reads c.read.new.self) (g.B.Blocks.reads c.first_below.new.blocks) (one_more _ _ c.read.ensures.reads)
     (subst (λ b. CostsBelow 1 side valid nodes b (g.B.Blocks.reads c.read.new.self)
     (g.B.Blocks.reads c.first_below.new.blocks)) c.child.ensures
     (c.first_below.ensures.reads r (c.read.ensures.records ∙ e))))
-
-pub returns-clause-cause : goal.returns-clause-cause
-returns-clause-cause g t c = c.or_entry.ensures.cause _ _

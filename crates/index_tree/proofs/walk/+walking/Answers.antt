@@ -2,10 +2,11 @@ use Rattle.std.proofs.Common.{◌≡◌, ◌-◌, ◌<◌, ◌∷◌, [], length
 use Rattle.ntfs_def.specs.Node.{IsOwnEntry, Node, child_from}
 use Rattle.ntfs_def.specs.IndexTree.{Each}
 use Rattle.ntfs_def.proofs.IndexTreeLaws.{Each-++}
-use Rattle.index_node.specs.View.{form_of, node_of_view}
+use Rattle.ntfs_def.proofs.NodeLaws.{one_own}
+use Rattle.index_node.specs.View.{form_of_view, node_of_view}
 use Rattle.index_tree.specs.Search.{nodes_of}
 use Rattle.index_tree.specs.Walk.{CostsNode, CostsTree, HasSpread, HasTree, WalksNode, WalksTree}
-use Rattle.index_tree.proofs.Rising.{not_refused, read_node, some_record}
+use Rattle.index_tree.proofs.Rising.{not_refused, one_more, read_node, some_record}
 use Rattle.index_tree.proofs.WalkLaws.{OnOk-map, costs_all, costs_more, costs_start, costs_tree, front_all, front_more, front_start, has_spread, tree_below, tree_level, tree_node, walks_tree}
 use Rattle.index_tree.proofs.walk.+walking.Goals as goal
 
@@ -14,17 +15,17 @@ walk_node-loop-i-init g t c =
     let node = c.args.node.now in
     let n : Node = node_of_view node in
     record {
-      walked = λ r e. front_start (nodes_of (form_of node) r) n c.args.out.now.items;
+      walked = λ r e. front_start (nodes_of (form_of_view node) r) n c.args.out.now.items;
       own = λ h. h;
-      reads = λ r e. costs_start 1 (nodes_of (form_of node) r) n (g.B.Blocks.reads c.args.blocks.now);
-      fetched = λ r e. costs_start 8 (nodes_of (form_of node) r) n (g.B.Blocks.fetched c.args.blocks.now);
+      reads = λ r e. costs_start 1 (nodes_of (form_of_view node) r) n (g.B.Blocks.reads c.args.blocks.now);
+      fetched = λ r e. costs_start 8 (nodes_of (form_of_view node) r) n (g.B.Blocks.fetched c.args.blocks.now);
       records = refl;
       volume = refl;
       file = refl;
       only_reads = g.met.B.Blocks.only_reads_itself c.args.blocks.now;
       taken = refl;
       full = refl;
-      faults = omega arith;
+      faults = refl;
     }
 
 pub walk_node-walk_tree-requires : goal.walk_node-walk_tree-requires
@@ -37,8 +38,8 @@ walk_node-walk_tree-requires g t c κs within =
         within,
         λ r e.
             subst (λ k. HasTree (nodes_of k r) c.child.result c.args.level) (sym c.form.ensures)
-            (subst (λ x. HasTree (nodes_of (form_of node) r) x c.args.level) (sym c.child.ensures)
-            (tree_below (nodes_of (form_of node) r) n c.args.level c.loop-i.i (c.requires.spread r (sym c.loop-i.invariant.records ∙ e)))),
+            (subst (λ x. HasTree (nodes_of (form_of_view node) r) x c.args.level) (sym c.child.ensures)
+            (tree_below (nodes_of (form_of_view node) r) n c.args.level c.loop-i.i (c.requires.spread r (sym c.loop-i.invariant.records ∙ e)))),
       ),
     )
 
@@ -52,8 +53,8 @@ walk_node-walk_tree-requires-2 g t c κs within =
         within,
         λ r e.
             subst (λ k. HasTree (nodes_of k r) c.child-2.result c.args.level) (sym c.form-2.ensures)
-            (subst (λ x. HasTree (nodes_of (form_of node) r) x c.args.level) (sym c.child-2.ensures)
-            (tree_below (nodes_of (form_of node) r) n c.args.level c.entries.result (c.requires.spread r
+            (subst (λ x. HasTree (nodes_of (form_of_view node) r) x c.args.level) (sym c.child-2.ensures)
+            (tree_below (nodes_of (form_of_view node) r) n c.args.level c.entries.result (c.requires.spread r
             (sym c.loop-i.invariant.records ∙ e)))),
       ),
     )
@@ -68,25 +69,28 @@ walk_node-loop-i-preserved g t c =
     let within : i < length n.entries = omega (arith, c.loop-i-test.true, c.entries-i-end.ensures) in
     record {
       walked = λ r e.
-          front_more (nodes_of (form_of node) r) n i within c.args.out.now.items c.loop-i.out.items c.walk_tree.new.out.items
+          front_more (nodes_of (form_of_view node) r) n i within c.args.out.now.items c.loop-i.out.items c.walk_tree.new.out.items
           c.keep.new.out.items c.entry.result.now (so_far.walked r e)
-          (subst (λ x. WalksTree (nodes_of (form_of node) r) x c.loop-i.out.items c.walk_tree.new.out.items) c.child.ensures
+          (subst (λ x. WalksTree (nodes_of (form_of_view node) r) x c.loop-i.out.items c.walk_tree.new.out.items) c.child.ensures
           (subst (λ k. WalksTree (nodes_of k r) c.child.result c.loop-i.out.items c.walk_tree.new.out.items) c.form.ensures
           (below.walked r (so_far.records ∙ e))))
           c.in_ok-keep.ensures.kept c.entry.ensures.item;
-      own = λ h. subst (Each IsOwnEntry) (sym c.in_ok-keep.ensures.kept)
-          (Each-++ IsOwnEntry c.walk_tree.new.out.items (c.entry.result.now ∷ []) (below.own (so_far.own h)) (c.entry.ensures.own, tt));
+      own = λ h. subst (Each (IsOwnEntry (form_of_view node))) (sym c.in_ok-keep.ensures.kept)
+          (Each-++ (IsOwnEntry (form_of_view node)) c.walk_tree.new.out.items (c.entry.result.now ∷ [])
+          (subst (λ k. Each (IsOwnEntry k) c.loop-i.out.items → Each (IsOwnEntry k) c.walk_tree.new.out.items) c.form.ensures
+          below.own (so_far.own h))
+          (one_own (form_of_view node) _ c.entry.result.now c.entry.ensures.own, tt));
       reads = λ r e.
-          costs_more 1 (nodes_of (form_of node) r) n i within (g.B.Blocks.reads c.args.blocks.now) (g.B.Blocks.reads c.loop-i.blocks)
+          costs_more 1 (nodes_of (form_of_view node) r) n i within (g.B.Blocks.reads c.args.blocks.now) (g.B.Blocks.reads c.loop-i.blocks)
           (g.B.Blocks.reads c.walk_tree.new.blocks) (so_far.reads r e)
-          (subst (λ x. CostsTree 1 (nodes_of (form_of node) r) x (g.B.Blocks.reads c.loop-i.blocks)
+          (subst (λ x. CostsTree 1 (nodes_of (form_of_view node) r) x (g.B.Blocks.reads c.loop-i.blocks)
           (g.B.Blocks.reads c.walk_tree.new.blocks)) c.child.ensures
           (subst (λ k. CostsTree 1 (nodes_of k r) c.child.result (g.B.Blocks.reads c.loop-i.blocks)
           (g.B.Blocks.reads c.walk_tree.new.blocks)) c.form.ensures (below.reads r (so_far.records ∙ e))));
       fetched = λ r e.
-          costs_more 8 (nodes_of (form_of node) r) n i within (g.B.Blocks.fetched c.args.blocks.now)
+          costs_more 8 (nodes_of (form_of_view node) r) n i within (g.B.Blocks.fetched c.args.blocks.now)
           (g.B.Blocks.fetched c.loop-i.blocks) (g.B.Blocks.fetched c.walk_tree.new.blocks) (so_far.fetched r e)
-          (subst (λ x. CostsTree 8 (nodes_of (form_of node) r) x (g.B.Blocks.fetched c.loop-i.blocks)
+          (subst (λ x. CostsTree 8 (nodes_of (form_of_view node) r) x (g.B.Blocks.fetched c.loop-i.blocks)
           (g.B.Blocks.fetched c.walk_tree.new.blocks)) c.child.ensures
           (subst (λ k. CostsTree 8 (nodes_of k r) c.child.result (g.B.Blocks.fetched c.loop-i.blocks)
           (g.B.Blocks.fetched c.walk_tree.new.blocks)) c.form.ensures (below.fetched r (so_far.records ∙ e))));
@@ -97,7 +101,7 @@ walk_node-loop-i-preserved g t c =
           c.walk_tree.ensures.only_reads;
       taken = c.walk_tree.ensures.taken ∙ so_far.taken;
       full = c.walk_tree.ensures.full ∙ so_far.full;
-      faults = omega (arith, so_far.faults, c.walk_tree.ensures.faults);
+      faults = below.faults ∙ so_far.faults;
     }
 
 pub walk_node-returns-clause-walked : goal.walk_node-returns-clause-walked
@@ -109,15 +113,20 @@ walk_node-returns-clause-walked g t c =
     let end : c.loop-i.i ≡ length n.entries = omega (arith, all, c.entries.ensures) in
     let child : c.child-2.result ≡ child_from n.entries n.last c.loop-i.i = c.child-2.ensures ∙ ap (child_from n.entries n.last) all in
     OnOk-map c.walk_tree-2.result
-    (λ w r e. front_all (nodes_of (form_of node) r) n c.loop-i.i end c.args.out.now.items c.loop-i.out.items c.walk_tree-2.new.out.items
+    (λ w r e. front_all (nodes_of (form_of_view node) r) n c.loop-i.i end c.args.out.now.items c.loop-i.out.items c.walk_tree-2.new.out.items
     (c.loop-i.invariant.walked r e)
-    (subst (λ x. WalksTree (nodes_of (form_of node) r) x c.loop-i.out.items c.walk_tree-2.new.out.items) child
+    (subst (λ x. WalksTree (nodes_of (form_of_view node) r) x c.loop-i.out.items c.walk_tree-2.new.out.items) child
     (subst (λ k. WalksTree (nodes_of k r) c.child-2.result c.loop-i.out.items c.walk_tree-2.new.out.items) c.form-2.ensures (w r
     (c.loop-i.invariant.records ∙ e)))))
     c.walk_tree-2.ensures.walked
 
 pub walk_node-returns-clause-own : goal.walk_node-returns-clause-own
-walk_node-returns-clause-own g t c = OnOk-map c.walk_tree-2.result (λ own h. own (c.loop-i.invariant.own h)) c.walk_tree-2.ensures.own
+walk_node-returns-clause-own g t c =
+    let node = c.args.node.now in
+    OnOk-map c.walk_tree-2.result
+    (λ own h. subst (λ k. Each (IsOwnEntry k) c.loop-i.out.items → Each (IsOwnEntry k) c.walk_tree-2.new.out.items) c.form-2.ensures own
+    (c.loop-i.invariant.own h))
+    c.walk_tree-2.ensures.own
 
 pub walk_node-returns-clause-reads : goal.walk_node-returns-clause-reads
 walk_node-returns-clause-reads g t c =
@@ -128,9 +137,9 @@ walk_node-returns-clause-reads g t c =
     let end : c.loop-i.i ≡ length n.entries = omega (arith, all, c.entries.ensures) in
     let child : c.child-2.result ≡ child_from n.entries n.last c.loop-i.i = c.child-2.ensures ∙ ap (child_from n.entries n.last) all in
     OnOk-map c.walk_tree-2.result
-    (λ w r e. costs_all 1 (nodes_of (form_of node) r) n c.loop-i.i end (g.B.Blocks.reads c.args.blocks.now)
+    (λ w r e. costs_all 1 (nodes_of (form_of_view node) r) n c.loop-i.i end (g.B.Blocks.reads c.args.blocks.now)
     (g.B.Blocks.reads c.loop-i.blocks) (g.B.Blocks.reads c.walk_tree-2.new.blocks) (c.loop-i.invariant.reads r e)
-    (subst (λ x. CostsTree 1 (nodes_of (form_of node) r) x (g.B.Blocks.reads c.loop-i.blocks)
+    (subst (λ x. CostsTree 1 (nodes_of (form_of_view node) r) x (g.B.Blocks.reads c.loop-i.blocks)
     (g.B.Blocks.reads c.walk_tree-2.new.blocks)) child
     (subst (λ k. CostsTree 1 (nodes_of k r) c.child-2.result (g.B.Blocks.reads c.loop-i.blocks)
     (g.B.Blocks.reads c.walk_tree-2.new.blocks)) c.form-2.ensures (w r (c.loop-i.invariant.records ∙ e)))))
@@ -145,9 +154,9 @@ walk_node-returns-clause-fetched g t c =
     let end : c.loop-i.i ≡ length n.entries = omega (arith, all, c.entries.ensures) in
     let child : c.child-2.result ≡ child_from n.entries n.last c.loop-i.i = c.child-2.ensures ∙ ap (child_from n.entries n.last) all in
     OnOk-map c.walk_tree-2.result
-    (λ w r e. costs_all 8 (nodes_of (form_of node) r) n c.loop-i.i end (g.B.Blocks.fetched c.args.blocks.now)
+    (λ w r e. costs_all 8 (nodes_of (form_of_view node) r) n c.loop-i.i end (g.B.Blocks.fetched c.args.blocks.now)
     (g.B.Blocks.fetched c.loop-i.blocks) (g.B.Blocks.fetched c.walk_tree-2.new.blocks) (c.loop-i.invariant.fetched r e)
-    (subst (λ x. CostsTree 8 (nodes_of (form_of node) r) x (g.B.Blocks.fetched c.loop-i.blocks)
+    (subst (λ x. CostsTree 8 (nodes_of (form_of_view node) r) x (g.B.Blocks.fetched c.loop-i.blocks)
     (g.B.Blocks.fetched c.walk_tree-2.new.blocks)) child
     (subst (λ k. CostsTree 8 (nodes_of k r) c.child-2.result (g.B.Blocks.fetched c.loop-i.blocks)
     (g.B.Blocks.fetched c.walk_tree-2.new.blocks)) c.form-2.ensures (w r (c.loop-i.invariant.records ∙ e)))))
@@ -210,7 +219,7 @@ walk_tree-returns-clause-reads g t c =
     subst (λ x. CostsTree 1 (nodes_of c.args.form r) x (g.B.Blocks.reads c.args.blocks.now) (g.B.Blocks.reads c.walk_node.new.blocks))
     (sym c.in-Some.is)
     (costs_tree (nodes_of c.args.form r) c.in-Some.vcn n read 1 (g.B.Blocks.reads c.args.blocks.now) (g.B.Blocks.reads c.read.new.self)
-    (g.B.Blocks.reads c.walk_node.new.blocks) c.read.ensures.reads
+    (g.B.Blocks.reads c.walk_node.new.blocks) (one_more _ _ c.read.ensures.reads)
     (subst (λ k. CostsNode 1 (nodes_of k r) n (g.B.Blocks.reads c.read.new.self)
     (g.B.Blocks.reads c.walk_node.new.blocks)) c.in-Ok.ensures.form (w r (c.read.ensures.records ∙ e)))))
     c.walk_node.ensures.reads

@@ -1,8 +1,8 @@
-use Rattle.std.proofs.Common.{◌≡◌, ◌≤◌, ◌+◌, ◌*◌}
+use Rattle.std.proofs.Common.{◌≡◌, ◌+◌, ◌*◌}
 use Rattle.ntfs_def.specs.IndexTree.{Each}
 use Rattle.ntfs_def.specs.Node.{IsOwnEntry}
 use Rattle.ntfs_def.specs.Told.{WhereTold}
-use Rattle.index_node.specs.View.{form_of, node_of_view}
+use Rattle.index_node.specs.View.{form_of_view, node_of_view}
 use Rattle.index_tree.specs.Search.{nodes_of}
 use Rattle.index_tree.proofs.WalkLaws.{CostsFront, WalksFront}
 use Rattle.index_tree.proofs.walk.+walking.Given as goal
@@ -15,12 +15,12 @@ decreases-walk_node g l = 2 * l.level + 1
 
 abbrev pub invariant-walk_node-loop-i : goal.invariant-walk_node-loop-i
 invariant-walk_node-loop-i g l = record {
-  walked : WhereTold (g.B.Blocks.records l.fn.blocks) (λ r. WalksFront (nodes_of (form_of l.node) r)
+  walked : WhereTold (g.B.Blocks.records l.fn.blocks) (λ r. WalksFront (nodes_of (form_of_view l.node) r)
       (node_of_view l.node) l.i l.fn.out.items l.out.items);
-  own : Each IsOwnEntry l.fn.out.items → Each IsOwnEntry l.out.items;
-  reads : WhereTold (g.B.Blocks.records l.fn.blocks) (λ r. CostsFront 1 (nodes_of (form_of l.node) r) (node_of_view l.node) l.i
+  own : Each (IsOwnEntry (form_of_view l.node)) l.fn.out.items → Each (IsOwnEntry (form_of_view l.node)) l.out.items;
+  reads : WhereTold (g.B.Blocks.records l.fn.blocks) (λ r. CostsFront 1 (nodes_of (form_of_view l.node) r) (node_of_view l.node) l.i
       (g.B.Blocks.reads l.fn.blocks) (g.B.Blocks.reads l.blocks));
-  fetched : WhereTold (g.B.Blocks.records l.fn.blocks) (λ r. CostsFront 8 (nodes_of (form_of l.node) r) (node_of_view l.node) l.i
+  fetched : WhereTold (g.B.Blocks.records l.fn.blocks) (λ r. CostsFront 8 (nodes_of (form_of_view l.node) r) (node_of_view l.node) l.i
       (g.B.Blocks.fetched l.fn.blocks) (g.B.Blocks.fetched l.blocks));
   records : g.B.Blocks.records l.blocks ≡ g.B.Blocks.records l.fn.blocks;
   volume : g.B.Blocks.volume l.blocks ≡ g.B.Blocks.volume l.fn.blocks;
@@ -28,5 +28,5 @@ invariant-walk_node-loop-i g l = record {
   only_reads : g.B.Blocks.only_reads l.fn.blocks l.blocks;
   taken : g.B.Blocks.taken l.blocks ≡ g.B.Blocks.taken l.fn.blocks;
   full : g.B.Blocks.full l.blocks ≡ g.B.Blocks.full l.fn.blocks;
-  faults : g.B.Blocks.faults l.fn.blocks ≤ g.B.Blocks.faults l.blocks;
+  faults : g.B.Blocks.faults l.blocks ≡ g.B.Blocks.faults l.fn.blocks;
 }
