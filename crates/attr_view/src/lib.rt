@@ -11,11 +11,12 @@ use thiserror::Error;
 mod attribute;
 mod find;
 mod iter;
+mod laws;
 mod record;
 mod shape;
 
+pub use laws::one_answer;
 pub use ntfs_def::Sizes;
-pub use record::one_answer;
 
 /// Why a block is refused.
 #[derive(Clone, Copy, Debug, PartialEq, Eq, Error)]

@@ -74,8 +74,10 @@ numbers_is_eq xs ys = (λ t. numbers_equal xs ys (equal_of (by_numbers xs ys) t)
 
 pub name_ties : (fold : ℕ → ℕ) (a b : List ℕ) → (name_order fold a b ≡ Equal) ↔ (key_units a ≡ key_units b)
 unfolding name_order
-name_ties fold a b = (λ e. numbers_equal (key_units a) (key_units b) (then_both (folded (key_units a) (key_units b)) _ e).1,
-    λ e. ap (λ us. compare_units fold us (key_units b)) e ∙ tied_itself (then_total folded_total nat_list_cmp_total) (key_units b))
+name_ties fold a b = (
+  λ e. numbers_equal (key_units a) (key_units b) (then_both (folded (key_units a) (key_units b)) _ e).1,
+  λ e. ap (λ us. compare_units fold us (key_units b)) e ∙ tied_itself (then_total folded_total nat_list_cmp_total) (key_units b),
+)
   where
     folded : List ℕ → List ℕ → Ordering
     folded = on (map fold) by_numbers

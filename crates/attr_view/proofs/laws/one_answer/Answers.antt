@@ -5,7 +5,7 @@ use Rattle.attr_view.specs.declared.ViewNo.{ViewNo}
 use Rattle.attr_view.specs.declared.ViewNo.TheVariants.{Shape}
 use Rattle.ntfs_def.specs.Shape.{HasShape}
 use Rattle.attr_view.specs.View.{Refuses}
-use Rattle.attr_view.proofs.record.one_answer.Goals as goal
+use Rattle.attr_view.proofs.laws.one_answer.Goals as goal
 
 one_refusal : (block : List ℕ) (one other : ViewNo) → Refuses block one → Refuses block other → one ≡ other
 one_refusal block (Shape a) (Shape b) fails also = ap (λ at. Shape at) (FailsAt-exact block a b fails also)
