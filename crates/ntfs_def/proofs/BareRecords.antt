@@ -1,7 +1,7 @@
 -- The bare block of a record says what the record says.
-use Rattle.std.proofs.Common.{◌≡◌, ℕ, ◌+◌, ◌*◌, List, None, subst, arith, rules}
+use Rattle.std.proofs.Common.{◌≡◌, ℕ, List, None, arith, rules}
 use Rattle.vol_bytes.specs.Field.{SameOutside}
-use Rattle.ntfs_def.specs.Fixup.{array_count, array_end, array_place, bare_of}
+use Rattle.ntfs_def.specs.Fixup.{array_count, array_place, bare_of}
 use Rattle.ntfs_def.specs.Shape.{HasShape, header_failing}
 use Rattle.ntfs_def.proofs.BareLaws.{bare_of-before, bare_of-behind, length-bare_of}
 

@@ -97,7 +97,7 @@ numbers_end xs ys k h i e = elim (cases_order (length xs) (length ys)) [
   | inl same ↦
       let a : length xs ≤ k = le_by_no (length xs) (length ys) k i same e in
       ap (λ zs. by_numbers zs (drop k ys)) (drop_all xs k a) ∙ ap (by_numbers []) (drop_all ys k (omega arith))
-          ∙ nat_equal (length xs) (length ys) same
+      ∙ nat_equal (length xs) (length ys) same
   | inr w ↦ elim w [
     | inl lt ↦
         let a : length xs ≤ k = le_by_no_less (length xs) (length ys) k lt e in
@@ -109,16 +109,34 @@ numbers_end xs ys k h i e = elim (cases_order (length xs) (length ys)) [
 ]
   where
     le_by_no : (m n k : ℕ) → k ≤ n → m ≡ n → (k < m → k < n → ⊥) → m ≤ k
-    le_by_no m n k i same e = elim (cases_order m k) [ inl f ↦ omega arith | inr w ↦ elim w [ inl lt ↦ omega arith | inr gt ↦ absurd
-        (e gt (omega arith)) ] ]
+    le_by_no m n k i same e = elim (cases_order m k) [
+      | inl f ↦ omega arith
+      | inr w ↦ elim w [
+        | inl lt ↦ omega arith
+        | inr gt ↦ absurd
+            (e gt (omega arith))
+      ]
+    ]
 
     le_by_no_less : (m n k : ℕ) → m < n → (k < m → k < n → ⊥) → m ≤ k
-    le_by_no_less m n k lt e = elim (cases_order m k) [ inl f ↦ omega arith | inr w ↦ elim w [ inl h ↦ omega arith | inr gt ↦ absurd
-        (e gt (omega arith)) ] ]
+    le_by_no_less m n k lt e = elim (cases_order m k) [
+      | inl f ↦ omega arith
+      | inr w ↦ elim w [
+        | inl h ↦ omega arith
+        | inr gt ↦ absurd
+            (e gt (omega arith))
+      ]
+    ]
 
     le_by_no_more : (m n k : ℕ) → n < m → (k < m → k < n → ⊥) → n ≤ k
-    le_by_no_more m n k gt e = elim (cases_order n k) [ inl f ↦ omega arith | inr w ↦ elim w [ inl h ↦ omega arith | inr lt ↦ absurd (e
-        (omega arith) lt) ] ]
+    le_by_no_more m n k gt e = elim (cases_order n k) [
+      | inl f ↦ omega arith
+      | inr w ↦ elim w [
+        | inl h ↦ omega arith
+        | inr lt ↦ absurd (e
+            (omega arith) lt)
+      ]
+    ]
 
 -- the parts of a key, by their places
 pub length-key_units : (key : List ℕ) → length (key_units key) ≡ unit_count key

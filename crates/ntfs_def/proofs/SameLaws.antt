@@ -1,20 +1,19 @@
 -- A record whose update sequence array alone differs says the same.
-use Rattle.std.proofs.Common.{◌≡◌, ℕ, zero, suc, ◌+◌, ◌-◌, ◌<◌, ◌≤◌, ◌==◌, ◌&&◌, ◌%◌, Bool, true, false, List, [], ◌∷◌, Option, Some, None, length, get_or, inl, inr, ap, subst, sym, refl, ◌∙◌, arith, rules}
-use Rattle.std.specs.Prelude.{slice_get, nat_le, codes, nat_eq}
+use Rattle.std.proofs.Common.{◌≡◌, ℕ, zero, suc, ◌+◌, ◌<◌, ◌≤◌, ◌==◌, ◌&&◌, ◌%◌, List, [], ◌∷◌, Option, None, length, get_or, ap, subst, sym, refl, ◌∙◌, arith}
+use Rattle.std.specs.Prelude.{codes, nat_eq}
 use Rattle.std.specs.List.{starts_with}
 use Rattle.std.proofs.lemmas.List.{same_lists}
 use Rattle.std.proofs.lemmas.Option.{get_or_from_slice_get}
-use Rattle.vol_bytes.specs.Field.{SameOutside, u16_at, u32_at, u64_at}
+use Rattle.vol_bytes.specs.Field.{SameOutside, u16_at}
 use Rattle.vol_bytes.proofs.FieldLaws.{u16_at-same, u32_at-same, u64_at-same}
-use Rattle.ntfs_def.specs.Fixup.{array_place, array_count}
-use Rattle.ntfs_def.specs.Record.{Header, Reference, allocated_size, base_in, first_place, header_of, is_in_use, record_flags, used_size}
-use Rattle.ntfs_def.specs.Attribute.{Attribute, attribute_at, attribute_kind, attribute_len, attribute_place, attributes}
+use Rattle.ntfs_def.specs.Record.{Header, Reference, base_in, header_of, is_in_use, record_flags, used_size}
+use Rattle.ntfs_def.specs.Attribute.{attribute_at, attribute_len, attribute_place, attributes}
 use Rattle.ntfs_def.specs.Moved.{Moved}
-use Rattle.ntfs_def.specs.Shape.{HasAttributes, HasShape, IsAttribute, IsEnd, IsWhole, header_failing}
+use Rattle.ntfs_def.specs.Shape.{HasAttributes, HasShape, IsAttribute, IsEnd, header_failing}
 use Rattle.ntfs_def.proofs.ShapeLaws.{header_failing-length, header_failing-used}
 use Rattle.ntfs_def.proofs.AttributeLaws.{length-attributes, slice_get-attributes}
 use Rattle.ntfs_def.proofs.MovedLaws.{IsWhole-moved, attribute_at-moved, attribute_len-moved}
-use Rattle.ntfs_def.proofs.PlaceLaws.{attribute_place-bounded, place-order}
+use Rattle.ntfs_def.proofs.PlaceLaws.{attribute_place-bounded}
 
 -- a list begins as another does whose first bytes it has
 starts-same : (p a b : List ℕ) → length p ≤ length a → length p ≤ length b → ((k : ℕ) → k < length p → get_or b k 0 ≡ get_or a k 0)
@@ -83,8 +82,14 @@ module _ (a b : List ℕ) (count : ℕ) (shape : HasShape a count) (same : SameO
       subst (IsEnd b) (sym (place-same count (omega arith))) (record { mark = kind ∙ shape.last.mark; below_used = omega (arith, shape.last.below_used, used-same) })
 
   header : header_failing b ≡ None
-  header = rw (same.len, u16_at-same a b 0x04 (λ k f t. same.below k (omega arith)), u16_at-same a b 0x06 (λ k f t. same.below k (omega arith)),
-      u16_at-same a b 0x14 (λ k f t. same.below k (omega arith)), used-same, u32_at-same a b 0x1C (λ k f t. same.below k (omega arith))) shape.header
+  header = rw (
+    same.len,
+    u16_at-same a b 0x04 (λ k f t. same.below k (omega arith)),
+    u16_at-same a b 0x06 (λ k f t. same.below k (omega arith)),
+    u16_at-same a b 0x14 (λ k f t. same.below k (omega arith)),
+    used-same,
+    u32_at-same a b 0x1C (λ k f t. same.below k (omega arith)),
+  ) shape.header
 
   pub HasShape-same : HasShape b count
   HasShape-same = record { header = header; each = each; last = last }
@@ -94,11 +99,11 @@ module _ (a b : List ℕ) (count : ℕ) (shape : HasShape a count) (same : SameO
       let la = length-attributes a count shape in
       let lb = length-attributes b count HasShape-same in
       same_lists _ _ (lb ∙ sym la) (λ j d lt.
-          let in_a : j < count = omega (arith, lb) in
-          get_or_from_slice_get (attributes b) j _ d (slice_get-attributes b count j HasShape-same in_a)
-          ∙ ap (attribute_at b) (place-same j (omega arith))
-          ∙ attribute_at-moved a b _ _ ((shape.each j in_a).whole) (moved j in_a)
-          ∙ sym (get_or_from_slice_get (attributes a) j _ d (slice_get-attributes a count j shape in_a)))
+      let in_a : j < count = omega (arith, lb) in
+      get_or_from_slice_get (attributes b) j _ d (slice_get-attributes b count j HasShape-same in_a)
+      ∙ ap (attribute_at b) (place-same j (omega arith))
+      ∙ attribute_at-moved a b _ _ ((shape.each j in_a).whole) (moved j in_a)
+      ∙ sym (get_or_from_slice_get (attributes a) j _ d (slice_get-attributes a count j shape in_a)))
 
   short : (at : ℕ) → at + 2 ≤ 0x30 → u16_at b at ≡ u16_at a at
   short at low = u16_at-same a b at (λ k f t. same.below k (omega arith))

@@ -1,5 +1,5 @@
 -- What a write of a block, of its copy, or of a sector of a cluster changes of a volume, and what it leaves.
-use Rattle.std.proofs.Common.{◌≡◌, ◌≢◌, ℕ, zero, suc, ◌+◌, ◌-◌, ◌*◌, ◌/◌, ◌<◌, ◌≤◌, Bool, List, [], ◌∷◌, ◌++◌, length, take, drop, Some, inl, inr, refl, sym, ap, ◌∙◌, arith, length-drop}
+use Rattle.std.proofs.Common.{◌≡◌, ◌≢◌, ℕ, zero, suc, ◌+◌, ◌-◌, ◌*◌, ◌/◌, ◌<◌, ◌≤◌, Bool, List, ◌++◌, length, take, drop, Some, inl, inr, refl, sym, ap, ◌∙◌, arith, length-drop}
 use Rattle.std.specs.Prelude.{IsTrue}
 use Rattle.std.specs.List.{range_with_len, flat_map}
 use Rattle.std.proofs.lemmas.Bool.{cases_lt}
@@ -9,12 +9,12 @@ use Rattle.std.proofs.Math.ListN.{take-append-drop}
 use Rattle.volume_def.specs.Blocks.{block_of, cluster_of, copy_of, mirror_sector, table_place}
 use Rattle.volume_def.specs.Owners.{IsOutside, IsPlaced, times_in}
 use Rattle.volume_def.specs.Table.{Layout}
-use Rattle.volume_def.specs.View.{ReplacesBlock, ReplacesPiece, View, WritesOne, WritesTwo, piece_of, view_of}
+use Rattle.volume_def.specs.View.{ReplacesBlock, ReplacesPiece, WritesOne, WritesTwo, piece_of, view_of}
 use Rattle.volume_def.proofs.BlockLaws.{block_of-same, block_of-whole, cluster_of-same, copy_of-same, sector-below, table_place-below, table_place-once, table_place-times}
 
 -- the two sectors of block n of the table were written
 module _ (told : Bool) (old new : ℕ → List ℕ) (layout : Layout) (n low high : ℕ) (stored : List ℕ) (is : IsPlaced layout)
-  (e : table_place layout (2 * n) ≡ Some low) (f : table_place layout (2 * n + 1) ≡ Some high) (w : WritesTwo told old new low high stored) where
+    (e : table_place layout (2 * n) ≡ Some low) (f : table_place layout (2 * n + 1) ≡ Some high) (w : WritesTwo told old new low high stored) where
   pub block-written : 1024 * n + 1024 ≤ layout.initialized → length stored ≡ 1024 → IsTrue told → block_of new layout n ≡ stored
   block-written written len tells =
       let a : new low ≡ take 512 stored = w.low tells in
@@ -31,26 +31,26 @@ module _ (told : Bool) (old new : ℕ → List ℕ) (layout : Layout) (n low hig
   pub copies-written : (m : ℕ) → m < 4 → copy_of new layout m ≡ copy_of old layout m
   copies-written m few = copy_of-same old new layout m (λ k half. w.others (mirror_sector layout + k)
       (λ (s : mirror_sector layout + k ≡ low).
-        let c = table_place-times layout (2 * n) low is.some e in
-        let z : times_in layout.runs (low / layout.cluster_sectors) ≡ 0 = rw s at (is.mirror k (omega arith)) in
-        absurd (omega arith))
+      let c = table_place-times layout (2 * n) low is.some e in
+      let z : times_in layout.runs (low / layout.cluster_sectors) ≡ 0 = rw s at (is.mirror k (omega arith)) in
+      absurd (omega arith))
       (λ (s : mirror_sector layout + k ≡ high).
-        let c = table_place-times layout (2 * n + 1) high is.some f in
-        let z : times_in layout.runs (high / layout.cluster_sectors) ≡ 0 = rw s at (is.mirror k (omega arith)) in
-        absurd (omega arith)))
+      let c = table_place-times layout (2 * n + 1) high is.some f in
+      let z : times_in layout.runs (high / layout.cluster_sectors) ≡ 0 = rw s at (is.mirror k (omega arith)) in
+      absurd (omega arith)))
 
   pub clusters-written : (c : ℕ) → IsOutside layout c → cluster_of new layout c ≡ cluster_of old layout c
   clusters-written c out = cluster_of-same old new layout c (λ place in_c. w.others place
       (λ (s : place ≡ low).
-        let x = table_place-times layout (2 * n) low is.some e in
-        let q : low / layout.cluster_sectors ≡ c = ap (λ q. q / layout.cluster_sectors) (sym s) ∙ in_c in
-        let y : 1 ≤ times_in layout.runs c = rw q at x in
-        let z = out.table in absurd (omega arith))
+      let x = table_place-times layout (2 * n) low is.some e in
+      let q : low / layout.cluster_sectors ≡ c = ap (λ q. q / layout.cluster_sectors) (sym s) ∙ in_c in
+      let y : 1 ≤ times_in layout.runs c = rw q at x in
+      let z = out.table in absurd (omega arith))
       (λ (s : place ≡ high).
-        let x = table_place-times layout (2 * n + 1) high is.some f in
-        let q : high / layout.cluster_sectors ≡ c = ap (λ q. q / layout.cluster_sectors) (sym s) ∙ in_c in
-        let y : 1 ≤ times_in layout.runs c = rw q at x in
-        let z = out.table in absurd (omega arith)))
+      let x = table_place-times layout (2 * n + 1) high is.some f in
+      let q : high / layout.cluster_sectors ≡ c = ap (λ q. q / layout.cluster_sectors) (sym s) ∙ in_c in
+      let y : 1 ≤ times_in layout.runs c = rw q at x in
+      let z = out.table in absurd (omega arith)))
 
   pub rest-written : (k : ℕ) → new (layout.clusters * layout.cluster_sectors + k) ≡ old (layout.clusters * layout.cluster_sectors + k)
   rest-written k = w.others (layout.clusters * layout.cluster_sectors + k)
@@ -73,7 +73,7 @@ module _ (told : Bool) (old new : ℕ → List ℕ) (layout : Layout) (n low hig
 
 -- the two sectors of copy n were written
 module _ (told : Bool) (old new : ℕ → List ℕ) (layout : Layout) (n : ℕ) (stored : List ℕ) (is : IsPlaced layout) (few : n < 4)
-  (w : WritesTwo told old new (mirror_sector layout + 2 * n) (mirror_sector layout + 2 * n + 1) stored) where
+    (w : WritesTwo told old new (mirror_sector layout + 2 * n) (mirror_sector layout + 2 * n + 1) stored) where
   behind : mirror_sector layout + 2 * n + 1 ≡ mirror_sector layout + (2 * n + 1)
   behind = omega arith
 
@@ -83,13 +83,13 @@ module _ (told : Bool) (old new : ℕ → List ℕ) (layout : Layout) (n : ℕ) 
   pub blocks-copied : (m : ℕ) → block_of new layout m ≡ block_of old layout m
   blocks-copied m = block_of-same old new layout m (λ k place half at. w.others place
       (λ (s : place ≡ mirror_sector layout + 2 * n).
-        let x = table_place-times layout k place is.some at in
-        let y : 1 ≤ times_in layout.runs ((mirror_sector layout + 2 * n) / layout.cluster_sectors) = rw s at x in
-        let z = is.mirror (2 * n) (omega arith) in absurd (omega arith))
+      let x = table_place-times layout k place is.some at in
+      let y : 1 ≤ times_in layout.runs ((mirror_sector layout + 2 * n) / layout.cluster_sectors) = rw s at x in
+      let z = is.mirror (2 * n) (omega arith) in absurd (omega arith))
       (λ (s : place ≡ mirror_sector layout + 2 * n + 1).
-        let x = table_place-times layout k place is.some at in
-        let y : 1 ≤ times_in layout.runs ((mirror_sector layout + 2 * n + 1) / layout.cluster_sectors) = rw s at x in
-        let z = zero_high in absurd (omega arith)))
+      let x = table_place-times layout k place is.some at in
+      let y : 1 ≤ times_in layout.runs ((mirror_sector layout + 2 * n + 1) / layout.cluster_sectors) = rw s at x in
+      let z = zero_high in absurd (omega arith)))
 
   pub copy-copied : IsTrue told → copy_of new layout n ≡ stored
   unfolding copy_of
@@ -102,9 +102,9 @@ module _ (told : Bool) (old new : ℕ → List ℕ) (layout : Layout) (n : ℕ) 
   pub clusters-copied : (c : ℕ) → IsOutside layout c → cluster_of new layout c ≡ cluster_of old layout c
   clusters-copied c out = cluster_of-same old new layout c (λ place in_c. w.others place
       (λ (s : place ≡ mirror_sector layout + 2 * n).
-        out.mirror (2 * n) (omega arith) (ap (λ q. q / layout.cluster_sectors) (sym s) ∙ in_c))
+      out.mirror (2 * n) (omega arith) (ap (λ q. q / layout.cluster_sectors) (sym s) ∙ in_c))
       (λ (s : place ≡ mirror_sector layout + 2 * n + 1).
-        out.mirror (2 * n + 1) (omega arith) (ap (λ q. q / layout.cluster_sectors) (sym behind ∙ sym s) ∙ in_c)))
+      out.mirror (2 * n + 1) (omega arith) (ap (λ q. q / layout.cluster_sectors) (sym behind ∙ sym s) ∙ in_c)))
 
   pub rest-copied : (k : ℕ) → new (layout.clusters * layout.cluster_sectors + k) ≡ old (layout.clusters * layout.cluster_sectors + k)
   rest-copied k =
@@ -170,7 +170,7 @@ piece_of-cluster disk layout c j long lt =
 
 -- one sector of a cluster was written
 module _ (told : Bool) (old new : ℕ → List ℕ) (layout : Layout) (c j : ℕ) (bytes : List ℕ) (is : IsPlaced layout) (out : IsOutside layout c)
-  (on : c < layout.clusters) (lt : j < layout.cluster_sectors) (w : WritesOne told old new (c * layout.cluster_sectors + j) bytes) where
+    (on : c < layout.clusters) (lt : j < layout.cluster_sectors) (w : WritesOne told old new (c * layout.cluster_sectors + j) bytes) where
   of_c : (c * layout.cluster_sectors + j) / layout.cluster_sectors ≡ c
   of_c = div-mul-add c layout.cluster_sectors j lt
 

@@ -4,7 +4,7 @@ use Rattle.ntfs_def.specs.declared.run_text.Run.{Run}
 use Rattle.ntfs_def.specs.Attribute.{Attribute, Extent, NonResident}
 use Rattle.ntfs_def.specs.Runs.{MeansRuns}
 use Rattle.ntfs_def.proofs.RunLaws.{MeansFrom-exact}
-use Rattle.volume_def.specs.Table.{IsTable, Layout, MeetsTableClause}
+use Rattle.volume_def.specs.Table.{Layout, MeetsTableClause}
 
 layouts_same : (one other : Layout) → one.cluster_sectors ≡ other.cluster_sectors → one.clusters ≡ other.clusters
     → one.mirror ≡ other.mirror → one.runs ≡ other.runs → one.initialized ≡ other.initialized → one.count ≡ other.count → one ≡ other
