@@ -113,8 +113,7 @@ numbers_end xs ys k h i e = elim (cases_order (length xs) (length ys)) [
       | inl f ↦ omega arith
       | inr w ↦ elim w [
         | inl lt ↦ omega arith
-        | inr gt ↦ absurd
-            (e gt (omega arith))
+        | inr gt ↦ absurd (e gt (omega arith))
       ]
     ]
 
@@ -123,8 +122,7 @@ numbers_end xs ys k h i e = elim (cases_order (length xs) (length ys)) [
       | inl f ↦ omega arith
       | inr w ↦ elim w [
         | inl h ↦ omega arith
-        | inr gt ↦ absurd
-            (e gt (omega arith))
+        | inr gt ↦ absurd (e gt (omega arith))
       ]
     ]
 
@@ -133,8 +131,7 @@ numbers_end xs ys k h i e = elim (cases_order (length xs) (length ys)) [
       | inl f ↦ omega arith
       | inr w ↦ elim w [
         | inl h ↦ omega arith
-        | inr lt ↦ absurd (e
-            (omega arith) lt)
+        | inr lt ↦ absurd (e (omega arith) lt)
       ]
     ]
 

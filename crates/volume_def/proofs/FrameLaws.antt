@@ -14,7 +14,8 @@ use Rattle.volume_def.proofs.BlockLaws.{block_of-same, block_of-whole, cluster_o
 
 -- the two sectors of block n of the table were written
 module _ (told : Bool) (old new : ℕ → List ℕ) (layout : Layout) (n low high : ℕ) (stored : List ℕ) (is : IsPlaced layout)
-    (e : table_place layout (2 * n) ≡ Some low) (f : table_place layout (2 * n + 1) ≡ Some high) (w : WritesTwo told old new low high stored) where
+    (e : table_place layout (2 * n) ≡ Some low) (f : table_place layout (2 * n + 1) ≡ Some high)
+    (w : WritesTwo told old new low high stored) where
   pub block-written : 1024 * n + 1024 ≤ layout.initialized → length stored ≡ 1024 → IsTrue told → block_of new layout n ≡ stored
   block-written written len tells =
       let a : new low ≡ take 512 stored = w.low tells in
@@ -25,8 +26,12 @@ module _ (told : Bool) (old new : ℕ → List ℕ) (layout : Layout) (n low hig
 
   pub blocks-written : (m : ℕ) → m ≢ n → block_of new layout m ≡ block_of old layout m
   blocks-written m other = block_of-same old new layout m (λ k place half at. w.others place
-      (λ (s : place ≡ low). let c : k ≡ 2 * n = table_place-once layout k (2 * n) place is.some is.apart at (e ∙ ap Some (sym s)) in other (omega arith))
-      (λ (s : place ≡ high). let c : k ≡ 2 * n + 1 = table_place-once layout k (2 * n + 1) place is.some is.apart at (f ∙ ap Some (sym s)) in other (omega arith)))
+      (λ (s : place ≡ low).
+      let c : k ≡ 2 * n = table_place-once layout k (2 * n) place is.some is.apart at (e ∙ ap Some (sym s)) in
+      other (omega arith))
+      (λ (s : place ≡ high).
+      let c : k ≡ 2 * n + 1 = table_place-once layout k (2 * n + 1) place is.some is.apart at (f ∙ ap Some (sym s)) in
+      other (omega arith)))
 
   pub copies-written : (m : ℕ) → m < 4 → copy_of new layout m ≡ copy_of old layout m
   copies-written m few = copy_of-same old new layout m (λ k half. w.others (mirror_sector layout + k)
@@ -124,11 +129,15 @@ pub ReplacesBlock-mirrored : (told : Bool) (old mid new : ℕ → List ℕ) (lay
 ReplacesBlock-mirrored told old mid new layout n low high stored is e f w few v written len = record {
   told = refl;
   layout = refl;
-  block = λ tells. blocks-copied told mid new layout n stored is few v n ∙ block-written told old mid layout n low high stored is e f w written len tells;
-  blocks = λ m other. blocks-copied told mid new layout n stored is few v m ∙ blocks-written told old mid layout n low high stored is e f w m other;
+  block = λ tells. blocks-copied told mid new layout n stored is few v n
+      ∙ block-written told old mid layout n low high stored is e f w written len tells;
+  blocks = λ m other. blocks-copied told mid new layout n stored is few v m
+      ∙ blocks-written told old mid layout n low high stored is e f w m other;
   copy = λ tells near. copy-copied told mid new layout n stored is few v tells;
-  copies = λ m near other. copies-copied told mid new layout n stored is few v m other ∙ copies-written told old mid layout n low high stored is e f w m near;
-  clusters = λ c out. clusters-copied told mid new layout n stored is few v c out ∙ clusters-written told old mid layout n low high stored is e f w c out;
+  copies = λ m near other. copies-copied told mid new layout n stored is few v m other
+      ∙ copies-written told old mid layout n low high stored is e f w m near;
+  clusters = λ c out. clusters-copied told mid new layout n stored is few v c out
+      ∙ clusters-written told old mid layout n low high stored is e f w c out;
   rest = λ k. rest-copied told mid new layout n stored is few v k ∙ rest-written told old mid layout n low high stored is e f w k;
 }
 
