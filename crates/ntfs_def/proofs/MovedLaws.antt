@@ -9,25 +9,29 @@ use Rattle.ntfs_def.specs.declared.sizes.Sizes.{Sizes}
 use Rattle.ntfs_def.specs.Moved.{Moved}
 use Rattle.ntfs_def.specs.Shape.{IsWhole}
 
-u16_at-moved : (a b : List ℕ) (from to len i j : ℕ) → Moved a b from to len → from ≤ i → i + 2 ≤ from + len → j + from ≡ i + to → u16_at b j ≡ u16_at a i
+u16_at-moved : (a b : List ℕ) (from to len i j : ℕ) → Moved a b from to len → from ≤ i → i + 2 ≤ from + len → j + from ≡ i + to
+    → u16_at b j ≡ u16_at a i
 u16_at-moved a b from to len i j m low high e =
     let x = m.same i j low (omega arith) e in
     let y = m.same (i + 1) (j + 1) (omega arith) (omega arith) (omega arith) in
     omega arith
 
-u32_at-moved : (a b : List ℕ) (from to len i j : ℕ) → Moved a b from to len → from ≤ i → i + 4 ≤ from + len → j + from ≡ i + to → u32_at b j ≡ u32_at a i
+u32_at-moved : (a b : List ℕ) (from to len i j : ℕ) → Moved a b from to len → from ≤ i → i + 4 ≤ from + len → j + from ≡ i + to
+    → u32_at b j ≡ u32_at a i
 u32_at-moved a b from to len i j m low high e =
     let x = u16_at-moved a b from to len i j m low (omega arith) e in
     let y = u16_at-moved a b from to len (i + 2) (j + 2) m (omega arith) (omega arith) (omega arith) in
     omega arith
 
-u64_at-moved : (a b : List ℕ) (from to len i j : ℕ) → Moved a b from to len → from ≤ i → i + 8 ≤ from + len → j + from ≡ i + to → u64_at b j ≡ u64_at a i
+u64_at-moved : (a b : List ℕ) (from to len i j : ℕ) → Moved a b from to len → from ≤ i → i + 8 ≤ from + len → j + from ≡ i + to
+    → u64_at b j ≡ u64_at a i
 u64_at-moved a b from to len i j m low high e =
     let x = u32_at-moved a b from to len i j m low (omega arith) e in
     let y = u32_at-moved a b from to len (i + 4) (j + 4) m (omega arith) (omega arith) (omega arith) in
     omega arith
 
-slice_range-moved : (a b : List ℕ) (from to len i j n : ℕ) → Moved a b from to len → from ≤ i → i + n ≤ from + len → j + from ≡ i + to → slice_range b j (j + n) ≡ slice_range a i (i + n)
+slice_range-moved : (a b : List ℕ) (from to len i j n : ℕ) → Moved a b from to len → from ≤ i → i + n ≤ from + len → j + from ≡ i + to
+    → slice_range b j (j + n) ≡ slice_range a i (i + n)
 slice_range-moved a b from to len i j n m low high e =
     same_number_lists _ _ (omega (arith, long_b, long_a)) (λ k lt. byte k (omega (arith, long_b)))
   where
@@ -49,14 +53,19 @@ range-moved a b from to len i e j f n m low high is ends ends' =
     rw (ends, ends') (slice_range-moved a b from to len i j n m low high is)
 
 -- an attribute from its parts
-pub attributes_same : (a b : Attribute) → b.bytes ≡ a.bytes → b.kind ≡ a.kind → b.name ≡ a.name → b.id ≡ a.id → b.flags ≡ a.flags → b.body ≡ a.body → b ≡ a
+abbrev attribute_from : List ℕ → ℕ → List ℕ → ℕ → ℕ → Body → Attribute
+attribute_from bytes kind name id flags body =
+    record { bytes = bytes; kind = kind; name = name; id = id; flags = flags; body = body }
+
+pub attributes_same : (a b : Attribute) → b.bytes ≡ a.bytes → b.kind ≡ a.kind → b.name ≡ a.name → b.id ≡ a.id
+    → b.flags ≡ a.flags → b.body ≡ a.body → b ≡ a
 attributes_same a b bytes kind name id flags body =
-    ap (λ (x : List ℕ). let r : Attribute = record { bytes = x; kind = b.kind; name = b.name; id = b.id; flags = b.flags; body = b.body } in r) bytes
-    ∙ ap (λ (k : ℕ). let r : Attribute = record { bytes = a.bytes; kind = k; name = b.name; id = b.id; flags = b.flags; body = b.body } in r) kind
-    ∙ ap (λ (n : List ℕ). let r : Attribute = record { bytes = a.bytes; kind = a.kind; name = n; id = b.id; flags = b.flags; body = b.body } in r) name
-    ∙ ap (λ (i : ℕ). let r : Attribute = record { bytes = a.bytes; kind = a.kind; name = a.name; id = i; flags = b.flags; body = b.body } in r) id
-    ∙ ap (λ (f : ℕ). let r : Attribute = record { bytes = a.bytes; kind = a.kind; name = a.name; id = a.id; flags = f; body = b.body } in r) flags
-    ∙ ap (λ (x : Body). let r : Attribute = record { bytes = a.bytes; kind = a.kind; name = a.name; id = a.id; flags = a.flags; body = x } in r) body
+    ap (λ (x : List ℕ). attribute_from x b.kind b.name b.id b.flags b.body) bytes
+    ∙ ap (λ (k : ℕ). attribute_from a.bytes k b.name b.id b.flags b.body) kind
+    ∙ ap (λ (n : List ℕ). attribute_from a.bytes a.kind n b.id b.flags b.body) name
+    ∙ ap (λ (i : ℕ). attribute_from a.bytes a.kind a.name i b.flags b.body) id
+    ∙ ap (λ (f : ℕ). attribute_from a.bytes a.kind a.name a.id f b.body) flags
+    ∙ ap (λ (x : Body). attribute_from a.bytes a.kind a.name a.id a.flags x) body
 
 header_24 : (r s : Bool) → 24 ≤ cond r 24 (cond s 72 64)
 header_24 true s = omega arith
@@ -74,10 +83,14 @@ header_by block at r = cond r 24 (cond ((first_vcn block at == 0) && is_compress
 
 module _ (a b : List ℕ) (from to : ℕ) (w : IsWhole a from) (m : Moved a b from to (attribute_len a from)) where
   long : 24 ≤ attribute_len a from
-  long = let h = header_24 (is_resident a from) ((first_vcn a from == 0) && is_compressed_or_sparse (attribute_flags a from)) in omega (arith, w.has_header)
+  long =
+      let h = header_24 (is_resident a from) ((first_vcn a from == 0) && is_compressed_or_sparse (attribute_flags a from)) in
+      omega (arith, w.has_header)
 
   longer : is_resident a from ≡ false → 64 ≤ attribute_len a from
-  longer e = let h = header_64 (is_resident a from) ((first_vcn a from == 0) && is_compressed_or_sparse (attribute_flags a from)) e in omega (arith, w.has_header)
+  longer e =
+      let h = header_64 (is_resident a from) ((first_vcn a from == 0) && is_compressed_or_sparse (attribute_flags a from)) e in
+      omega (arith, w.has_header)
 
   byte : (k : ℕ) → k < 24 → get_or b (to + k) 0 ≡ get_or a (from + k) 0
   byte k lt = m.same (from + k) (to + k) (omega arith) (omega (arith, long)) (omega arith)
@@ -107,7 +120,8 @@ module _ (a b : List ℕ) (from to : ℕ) (w : IsWhole a from) (m : Moved a b fr
   offset-moved = short 0x0A (omega arith)
 
   name-moved : name_bytes b to ≡ name_bytes a from
-  name-moved = range-moved a b from to _ (from + name_offset a from) (from + name_end a from) (to + name_offset b to) (to + name_end b to) (2 * name_units a from) m
+  name-moved = range-moved a b from to _ (from + name_offset a from) (from + name_end a from) (to + name_offset b to)
+      (to + name_end b to) (2 * name_units a from) m
       (omega arith) (omega (arith, w.name_inside)) (omega (arith, offset-moved)) (omega arith) (omega (arith, offset-moved, units-moved))
 
   vcn-moved : is_resident a from ≡ false → first_vcn b to ≡ first_vcn a from
@@ -116,7 +130,8 @@ module _ (a b : List ℕ) (from to : ℕ) (w : IsWhole a from) (m : Moved a b fr
   offset-content : content_offset b to ≡ content_offset a from
   offset-content = elim (cases_Bool (is_resident a from)) [
     | inl t ↦ rw (resident-moved, t) (short 0x14 (omega arith))
-    | inr f ↦ rw (resident-moved, f) (u16_at-moved a b from to _ (from + 0x20) (to + 0x20) m (omega arith) (omega (arith, longer f)) (omega arith))
+    | inr f ↦ rw (resident-moved, f)
+        (u16_at-moved a b from to _ (from + 0x20) (to + 0x20) m (omega arith) (omega (arith, longer f)) (omega arith))
   ]
 
   end-content : content_end b to ≡ content_end a from
@@ -129,14 +144,22 @@ module _ (a b : List ℕ) (from to : ℕ) (w : IsWhole a from) (m : Moved a b fr
   ]
 
   content-moved : content_bytes b to ≡ content_bytes a from
-  content-moved = range-moved a b from to _ (from + content_offset a from) (from + content_end a from) (to + content_offset b to) (to + content_end b to) (content_end a from - content_offset a from) m
-      (omega arith) (omega (arith, w.content_inside, w.content_begins)) (omega (arith, offset-content)) (omega (arith, w.content_begins)) (omega (arith, offset-content, end-content, w.content_begins))
+  content-moved = range-moved a b from to _ (from + content_offset a from) (from + content_end a from)
+      (to + content_offset b to) (to + content_end b to) (content_end a from - content_offset a from) m
+      (omega arith) (omega (arith, w.content_inside, w.content_begins)) (omega (arith, offset-content))
+      (omega (arith, w.content_begins)) (omega (arith, offset-content, end-content, w.content_begins))
 
   flags-moved : attribute_flags b to ≡ attribute_flags a from
   flags-moved = short 0x0C (omega arith)
 
   sizes-moved : is_resident a from ≡ false → sizes_at b to ≡ sizes_at a from
-  sizes-moved e = rw (wide e 0x28 (omega arith), wide e 0x30 (omega arith), wide e 0x38 (omega arith), wide e 0x10 (omega arith), wide e 0x18 (omega arith)) refl
+  sizes-moved e = rw (
+    wide e 0x28 (omega arith),
+    wide e 0x30 (omega arith),
+    wide e 0x38 (omega arith),
+    wide e 0x10 (omega arith),
+    wide e 0x18 (omega arith),
+  ) refl
 
   has_compressed-moved : is_resident a from ≡ false → has_compressed_len b to ≡ has_compressed_len a from
   has_compressed-moved e =
@@ -178,7 +201,8 @@ module _ (a b : List ℕ) (from to : ℕ) (w : IsWhole a from) (m : Moved a b fr
   ]
 
   bytes-moved : part_of b to 0 (attribute_len b to) ≡ part_of a from 0 (attribute_len a from)
-  bytes-moved = range-moved a b from to _ (from + 0) (from + attribute_len a from) (to + 0) (to + attribute_len b to) (attribute_len a from) m
+  bytes-moved = range-moved a b from to _ (from + 0) (from + attribute_len a from) (to + 0) (to + attribute_len b to)
+      (attribute_len a from) m
       (omega arith) (omega arith) (omega arith) (omega arith) (omega (arith, attribute_len-moved))
 
   pub attribute_at-moved : attribute_at b to ≡ attribute_at a from
@@ -206,5 +230,7 @@ module _ (a b : List ℕ) (from to : ℕ) (w : IsWhole a from) (m : Moved a b fr
     content_inside = omega (arith, end-content, attribute_len-moved, w.content_inside);
     name_order = λ some. let o = w.name_order (omega (arith, units-moved, some)) in
         (omega (arith, header_len-moved, offset-moved, o.0), omega (arith, offset-moved, units-moved, offset-content, o.1));
-    content_order = λ lt. let o = w.content_order (omega (arith, offset-content, end-content, lt)) in omega (arith, header_len-moved, offset-content, o);
+    content_order = λ lt.
+        let o = w.content_order (omega (arith, offset-content, end-content, lt)) in
+        omega (arith, header_len-moved, offset-content, o);
   }

@@ -29,15 +29,19 @@ starts-same (c ∷ p) (x ∷ a) (y ∷ b) la lb same =
     ∙ ap (λ t. nat_eq c x && t) (starts-same p a b (omega arith) (omega arith) (λ k lt. same (suc k) (omega arith)))
 
 -- a header from its parts
+abbrev header_from : ℕ → ℕ → ℕ → Option Reference → ℕ → ℕ → Header
+header_from sequence links flags base next number =
+    record { sequence = sequence; links = links; flags = flags; base = base; next_id = next; number = number }
+
 headers_same : (a b : Header) → b.sequence ≡ a.sequence → b.links ≡ a.links → b.flags ≡ a.flags → b.base ≡ a.base
     → b.next_id ≡ a.next_id → b.number ≡ a.number → b ≡ a
 headers_same a b sequence links flags base next number =
-    ap (λ (k : ℕ). let r : Header = record { sequence = k; links = b.links; flags = b.flags; base = b.base; next_id = b.next_id; number = b.number } in r) sequence
-    ∙ ap (λ (k : ℕ). let r : Header = record { sequence = a.sequence; links = k; flags = b.flags; base = b.base; next_id = b.next_id; number = b.number } in r) links
-    ∙ ap (λ (k : ℕ). let r : Header = record { sequence = a.sequence; links = a.links; flags = k; base = b.base; next_id = b.next_id; number = b.number } in r) flags
-    ∙ ap (λ (k : Option Reference). let r : Header = record { sequence = a.sequence; links = a.links; flags = a.flags; base = k; next_id = b.next_id; number = b.number } in r) base
-    ∙ ap (λ (k : ℕ). let r : Header = record { sequence = a.sequence; links = a.links; flags = a.flags; base = a.base; next_id = k; number = b.number } in r) next
-    ∙ ap (λ (k : ℕ). let r : Header = record { sequence = a.sequence; links = a.links; flags = a.flags; base = a.base; next_id = a.next_id; number = k } in r) number
+    ap (λ (k : ℕ). header_from k b.links b.flags b.base b.next_id b.number) sequence
+    ∙ ap (λ (k : ℕ). header_from a.sequence k b.flags b.base b.next_id b.number) links
+    ∙ ap (λ (k : ℕ). header_from a.sequence a.links k b.base b.next_id b.number) flags
+    ∙ ap (λ (k : Option Reference). header_from a.sequence a.links a.flags k b.next_id b.number) base
+    ∙ ap (λ (k : ℕ). header_from a.sequence a.links a.flags a.base k b.number) next
+    ∙ ap (λ (k : ℕ). header_from a.sequence a.links a.flags a.base a.next_id k) number
 
 module _ (a b : List ℕ) (count : ℕ) (shape : HasShape a count) (same : SameOutside a b 0x30 0x36) where
   all : length a ≡ 1024
@@ -79,7 +83,8 @@ module _ (a b : List ℕ) (count : ℕ) (shape : HasShape a count) (same : SameO
   last =
       let low = (attribute_place-bounded a count count shape (omega arith)).low in
       let kind = u32_at-same a b (attribute_place a count) (λ k from to. same.above k (omega arith)) in
-      subst (IsEnd b) (sym (place-same count (omega arith))) (record { mark = kind ∙ shape.last.mark; below_used = omega (arith, shape.last.below_used, used-same) })
+      subst (IsEnd b) (sym (place-same count (omega arith)))
+      (record { mark = kind ∙ shape.last.mark; below_used = omega (arith, shape.last.below_used, used-same) })
 
   header : header_failing b ≡ None
   header = rw (
@@ -116,5 +121,6 @@ module _ (a b : List ℕ) (count : ℕ) (shape : HasShape a count) (same : SameO
 
   pub is_in_use-same : is_in_use b ≡ is_in_use a
   is_in_use-same =
-      ap (λ t. t && (record_flags b % 2 == 1)) (starts-same (codes "FILE") a b (omega (arith, all)) (omega (arith, same.len, all)) (λ k lt. same.below k (omega arith)))
+      ap (λ t. t && (record_flags b % 2 == 1))
+      (starts-same (codes "FILE") a b (omega (arith, all)) (omega (arith, same.len, all)) (λ k lt. same.below k (omega arith)))
       ∙ ap (λ f. starts_with nat_eq a (codes "FILE") && (f % 2 == 1)) (u16_at-same a b 0x16 (λ k f t. same.below k (omega arith)))

@@ -1,11 +1,11 @@
 -- A byte of a stored block that lies outside the array, and at no stride's end, is that byte of the opened one.
-use Rattle.std.proofs.Common.{◌≡◌, ◌≢◌, ◌⊎◌, ℕ, ◌+◌, ◌-◌, ◌*◌, ◌/◌, ◌%◌, ◌<◌, ◌≤◌, inl, inr, List, length, get_or, ap, sym, ◌∙◌, arith}
+use Rattle.std.proofs.Common.{◌≡◌, ◌≢◌, ◌⊎◌, ℕ, ◌+◌, ◌-◌, ◌/◌, ◌%◌, ◌<◌, ◌≤◌, inl, inr, List, length, get_or, ap, sym, ◌∙◌, arith}
 use Rattle.std.proofs.lemmas.List.{get_or_past}
 use Rattle.std.proofs.lemmas.Bool.{cases_lt}
 use Rattle.vol_bytes.specs.Field.{SameOutside, u16_at}
 use Rattle.vol_bytes.proofs.FieldLaws.{u16_at-same}
-use Rattle.ntfs_def.specs.Fixup.{HasArray, IsSealed, array_count, array_end, array_place, opened_of, pair_place, sequence_number, stride_count, stride_end}
-use Rattle.ntfs_def.proofs.FixupLaws.{HasArray-front, array_count-front, array_place-front, length-opened_of, opened_of-end, opened_of-within}
+use Rattle.ntfs_def.specs.Fixup.{HasArray, IsSealed, array_end, array_place, opened_of, pair_place, sequence_number, stride_count, stride_end}
+use Rattle.ntfs_def.proofs.FixupLaws.{HasArray-front, array_place-front, length-opened_of, opened_of-end, opened_of-within}
 
 module _ (stored new : List ℕ) (k : ℕ) (sealed : IsSealed stored) (same : SameOutside stored new k (k + 1)) (low : 8 ≤ k)
     (outside : (k < array_place stored) ⊎ (array_end stored ≤ k)) (within : k % 512 < 510) where

@@ -70,7 +70,8 @@ spot_of-below : (clusters n cluster : ℕ) (runs : List Run) → All (IsOnVolume
 spot_of-below clusters n cluster [] on at = let outside = spot_of-none n in cc
 spot_of-below clusters n cluster (run ∷ runs) on at = elim (cases_lt n run.len) [
   | inl lt ↦
-      in_run-below clusters run.len n cluster run.lcn (All-head (IsOnVolume clusters) run runs on) lt (sym (spot_of-first run runs n lt) ∙ at)
+      in_run-below clusters run.len n cluster run.lcn (All-head (IsOnVolume clusters) run runs on) lt
+      (sym (spot_of-first run runs n lt) ∙ at)
   | inr past ↦
       let more = All-tail (IsOnVolume clusters) run runs on in
       spot_of-below clusters (n - run.len) cluster runs more (sym (spot_of-past run runs n past) ∙ at)
@@ -108,7 +109,8 @@ shown-same old new layout k (Some place) same = ap (cut_off (layout.initialized 
 
 -- disks that agree on the sectors of a block have the same block
 pub block_of-same : (old new : ℕ → List ℕ) (layout : Layout) (n : ℕ)
-    → ((k place : ℕ) → k / 2 ≡ n → table_place layout k ≡ Some place → new place ≡ old place) → block_of new layout n ≡ block_of old layout n
+    → ((k place : ℕ) → k / 2 ≡ n → table_place layout k ≡ Some place → new place ≡ old place)
+    → block_of new layout n ≡ block_of old layout n
 unfolding block_of
 block_of-same old new layout n same =
     let a : table_sector new layout (2 * n) ≡ table_sector old layout (2 * n) =
@@ -163,6 +165,8 @@ pub block_of-whole : (disk : ℕ → List ℕ) (layout : Layout) (n low high : �
     → length (disk low) ≤ 512 → length (disk high) ≤ 512 → block_of disk layout n ≡ disk low ++ disk high
 unfolding block_of
 block_of-whole disk layout n low high e f written k l =
-    let a : table_sector disk layout (2 * n) ≡ disk low = shown-some disk layout (2 * n) low (table_place layout (2 * n)) e k (omega arith) in
-    let b : table_sector disk layout (2 * n + 1) ≡ disk high = shown-some disk layout (2 * n + 1) high (table_place layout (2 * n + 1)) f l (omega arith) in
+    let a : table_sector disk layout (2 * n) ≡ disk low =
+    shown-some disk layout (2 * n) low (table_place layout (2 * n)) e k (omega arith) in
+    let b : table_sector disk layout (2 * n + 1) ≡ disk high =
+    shown-some disk layout (2 * n + 1) high (table_place layout (2 * n + 1)) f l (omega arith) in
     ap (λ x. x ++ table_sector disk layout (2 * n + 1)) a ∙ ap (λ x. disk low ++ x) b

@@ -20,7 +20,8 @@ pub fn frame_laws()
         → 1024 * n + 1024 ≤ layout.initialized → length stored ≡ 1024
         → ReplacesBlock (view_of told old layout) (view_of told new layout) n stored }
     ensures piece { (told : Bool) (old new : ℕ → List ℕ) (layout : Layout) (c j : ℕ) (bytes : List ℕ) → IsPlaced layout
-        → IsOutside layout c → c < layout.clusters → j < layout.cluster_sectors → WritesOne told old new (c * layout.cluster_sectors + j) bytes
+        → IsOutside layout c → c < layout.clusters → j < layout.cluster_sectors
+        → WritesOne told old new (c * layout.cluster_sectors + j) bytes
         → (IsTrue told → (i : ℕ) → i < layout.cluster_sectors → length (old (c * layout.cluster_sectors + i)) ≡ 512)
         → length bytes ≡ 512 → ReplacesPiece (view_of told old layout) (view_of told new layout) c j bytes }
 {}
