@@ -172,7 +172,10 @@ fn is_whole(node: &[u8], children: bool, end: usize, at: usize) -> bool
     let key = key_len(node, at) as usize;
     let flags = entry_flags(node, at);
     let child = if children { 1 } else { 0 };
-    len % 8 == 0 && ENTRY_HEADER + key + child_len(children) <= len && at + len <= end && flags % 2 == child
+    len % 8 == 0
+        && ENTRY_HEADER + key + child_len(children) <= len
+        && at + len <= end
+        && flags % 2 == child
 }
 
 // Whether the data of an entry lies behind the key and before the child's number.

@@ -3,7 +3,10 @@ ghost use Rattle.std.specs.Prelude.{◌≡◌, ◌<◌, ◌≤◌, ◌^◌, IfOk
 ghost use Rattle.ntfs_def.specs.Node.{IsWholeEntry, Entry, Whole, are_short, child_from, has_children, is_one_entry, item_in, scan_node};
 ghost use Rattle.index_node.specs.View.{Refuses, bytes_of, form_of_view, place_of, node_of_view};
 
-use crate::shape::{ENTRY_HEADER, child_len, count_of, entries_end, entry_len, first_entry, has_children, header_failing, key_len};
+use crate::shape::{
+    ENTRY_HEADER, child_len, count_of, entries_end, entry_len, first_entry, has_children,
+    header_failing, key_len,
+};
 use crate::{NodeNo, NodeView};
 use ntfs_def::NodeForm;
 use vol_bytes::u64_at;

@@ -110,9 +110,9 @@ joined e f g = cc
 branches_same : (nodes : Nodes) (d d' : ℕ) (step : (t : Tree d) (t' : Tree d') → child_of d t ≡ child_of d' t' → IsStored nodes d t
     → IsStored nodes d' t' → items_of d t ≡ items_of d' t')
     (bs : List (Branch (Tree d))) (last : Tree d) (bs' : List (Branch (Tree d'))) (last' : Tree d')
-        → map (entry_of d) bs ≡ map (entry_of d') bs' → child_of d last ≡ child_of d' last'
+    → map (entry_of d) bs ≡ map (entry_of d') bs' → child_of d last ≡ child_of d' last'
     → EachBelow (IsStored nodes d) bs last → EachBelow (IsStored nodes d') bs' last'
-        → branch_items (items_of d) bs last ≡ branch_items (items_of d') bs' last'
+    → branch_items (items_of d) bs last ≡ branch_items (items_of d') bs' last'
 branches_same nodes d d' step [] last [] last' e f h k = step last last' f h k
 branches_same nodes d d' step [] last (b' ∷ bs') last' e f h k = absurd (cons_none (sym e))
 branches_same nodes d d' step (b ∷ bs) last [] last' e f h k = absurd (cons_none e)
@@ -158,7 +158,7 @@ pub one_depth : (nodes : Nodes) (root : Node) (d d' : ℕ) (s : Spread (Tree d))
 one_depth nodes root d d' s s' h k =
     let n : node_of d s ≡ node_of d' s' = h.node ∙ sym k.node in
     one_tree_depth nodes d d' s.last s'.last (ap (λ (m : Node). m.last) n) (last_below nodes d s.branches s.last h.stored)
-        (last_below nodes d' s'.branches s'.last k.stored)
+    (last_below nodes d' s'.branches s'.last k.stored)
 
 pub one_list : (nodes : Nodes) (root : Node) (items items' : List Item) → Walks nodes root items → Walks nodes root items' → items ≡ items'
 one_list nodes root items items' h k = h.is ∙ one_walk nodes root h.depth k.depth h.s k.s h.holds k.holds ∙ sym k.is
