@@ -1,6 +1,6 @@
 //! The tests of a node's shape: its header and its entries.
 ghost use Rattle.std.specs.Prelude.{◌≡◌, ◌<◌, ◌≤◌, ◌+◌, ◌^◌, IfOk, IfErr, IsTrue, None, length};
-ghost use Rattle.ntfs_def.specs.Node.{HasEntries, entry_place, scan_from, scan_node, child_len, entries_end, first_entry, first_offset, has_children, holds_data, is_entry, is_last_entry, is_whole, node_header, node_header_failing, room_end};
+ghost use Rattle.ntfs_def.specs.Node.{HasEntries, entry_place, scan_from, scan_node, child_len, entries_end, entry_flags, entry_len, key_len, first_entry, first_offset, has_children, holds_data, is_entry, is_last_entry, is_whole, node_header, node_header_failing, room_end};
 ghost use Rattle.index_node.specs.View.{Refuses};
 
 use crate::NodeNo;
@@ -9,6 +9,9 @@ use vol_bytes::{u16_at, u32_at};
 
 /// The bytes of an index record.
 pub const RECORD: usize = 4096;
+
+/// The bytes of an entry before its key.
+pub const ENTRY_HEADER: usize = 16;
 
 /// Where the index header stands.
 #[tactic(auto, unfolding(ntfs_def::specs::Node::node_header))]
@@ -93,6 +96,30 @@ pub fn has_children(node: &[u8]) -> bool
     node[node_header(node) + 0x0C] % 2 == 1
 }
 
+/// The bytes of an entry.
+pub fn entry_len(node: &[u8], at: usize) -> u16
+    requires { at + 16 ≤ length node.now }
+    ensures { result ≡ entry_len node.now at }
+{
+    u16_at(node, at + 0x08)
+}
+
+/// The bytes of an entry's key.
+pub fn key_len(node: &[u8], at: usize) -> u16
+    requires { at + 16 ≤ length node.now }
+    ensures { result ≡ key_len node.now at }
+{
+    u16_at(node, at + 0x0A)
+}
+
+// The flags of an entry: 1 it leads to a child, 2 it is the last one.
+fn entry_flags(node: &[u8], at: usize) -> u16
+    requires { at + 16 ≤ length node.now }
+    ensures { result ≡ entry_flags node.now at }
+{
+    u16_at(node, at + 0x0C)
+}
+
 /// How many entries with a key stand from a place on, before the last one.
 pub fn count_of(
     form: NodeForm,
@@ -120,7 +147,7 @@ pub fn count_of(
         if !is_entry(form, node, children, end, at) {
             return Err(NodeNo::Shape { at });
         }
-        at += u16_at(node, at + 0x08) as usize;
+        at += entry_len(node, at) as usize;
         count += 1;
     }
 }
@@ -138,14 +165,17 @@ fn is_whole(node: &[u8], children: bool, end: usize, at: usize) -> bool
     requires small { at < 2 ^ 33 }
     ensures { result ≡ is_whole node.now children end at }
 {
-    if at + 16 > end {
+    if at + ENTRY_HEADER > end {
         return false;
     }
-    let len = u16_at(node, at + 0x08) as usize;
-    let key = u16_at(node, at + 0x0A) as usize;
-    let flags = u16_at(node, at + 0x0C);
+    let len = entry_len(node, at) as usize;
+    let key = key_len(node, at) as usize;
+    let flags = entry_flags(node, at);
     let child = if children { 1 } else { 0 };
-    len % 8 == 0 && 16 + key + child_len(children) <= len && at + len <= end && flags % 2 == child
+    len % 8 == 0
+        && ENTRY_HEADER + key + child_len(children) <= len
+        && at + len <= end
+        && flags % 2 == child
 }
 
 // Whether the data of an entry lies behind the key and before the child's number.
@@ -158,9 +188,9 @@ fn holds_data(form: NodeForm, node: &[u8], children: bool, at: usize) -> bool
         NodeForm::View => {
             let from = u16_at(node, at) as usize;
             let data = u16_at(node, at + 0x02) as usize;
-            let len = u16_at(node, at + 0x08) as usize;
-            let key = u16_at(node, at + 0x0A) as usize;
-            data == 0 || 16 + key <= from && from + data + child_len(children) <= len
+            let len = entry_len(node, at) as usize;
+            let key = key_len(node, at) as usize;
+            data == 0 || ENTRY_HEADER + key <= from && from + data + child_len(children) <= len
         }
     }
 }
@@ -173,7 +203,7 @@ pub fn is_entry(form: NodeForm, node: &[u8], children: bool, end: usize, at: usi
     ensures { result ≡ is_entry form node.now children end at }
 {
     is_whole(node, children, end, at)
-        && u16_at(node, at + 0x0C) / 2 % 2 == 0
+        && entry_flags(node, at) / 2 % 2 == 0
         && holds_data(form, node, children, at)
 }
 
@@ -185,6 +215,6 @@ pub fn is_last_entry(node: &[u8], children: bool, end: usize, at: usize) -> bool
     ensures { result ≡ is_last_entry node.now children end at }
 {
     is_whole(node, children, end, at)
-        && u16_at(node, at + 0x0C) / 2 % 2 == 1
-        && u16_at(node, at + 0x0A) == 0
+        && entry_flags(node, at) / 2 % 2 == 1
+        && key_len(node, at) == 0
 }

@@ -3,10 +3,13 @@ ghost use Rattle.std.specs.Prelude.{◌≡◌, ◌<◌, ◌≤◌, ◌^◌, IfOk
 ghost use Rattle.ntfs_def.specs.Node.{IsWholeEntry, Entry, Whole, are_short, child_from, has_children, is_one_entry, item_in, scan_node};
 ghost use Rattle.index_node.specs.View.{Refuses, bytes_of, form_of_view, place_of, node_of_view};
 
-use crate::shape::{child_len, count_of, entries_end, first_entry, has_children, header_failing};
+use crate::shape::{
+    ENTRY_HEADER, child_len, count_of, entries_end, entry_len, first_entry, has_children,
+    header_failing, key_len,
+};
 use crate::{NodeNo, NodeView};
 use ntfs_def::NodeForm;
-use vol_bytes::{u16_at, u64_at};
+use vol_bytes::u64_at;
 
 /// The bytes of the longest entry, apart from a child's number.
 const MOST: usize = 632;
@@ -52,7 +55,7 @@ impl<'r> NodeView<'r> {
     {
         let mut at = self.first;
         for k in 0..i {
-            at += u16_at(self.node, at + 0x08) as usize;
+            at += entry_len(self.node, at) as usize;
         }
         at
     }
@@ -80,13 +83,13 @@ impl<'r> NodeView<'r> {
         let most = MOST + child_len(self.children);
         let mut at = self.first;
         for k in 0..self.count {
-            let len = u16_at(self.node, at + 0x08) as usize;
+            let len = entry_len(self.node, at) as usize;
             if len > most {
                 return false;
             }
             at += len;
         }
-        u16_at(self.node, at + 0x08) as usize <= most
+        entry_len(self.node, at) as usize <= most
     }
 
     /// The bytes of an entry, with its child's number.
@@ -96,7 +99,7 @@ impl<'r> NodeView<'r> {
         ensures own { IsTrue (is_one_entry (form_of_view self.now) (has_children (bytes_of self.now)) result.now) }
     {
         let at = self.place(i);
-        &self.node[at..at + u16_at(self.node, at + 0x08) as usize]
+        &self.node[at..at + entry_len(self.node, at) as usize]
     }
 
     /// The key of an entry.
@@ -105,7 +108,7 @@ impl<'r> NodeView<'r> {
         ensures { (d : Entry) → result.now ≡ (slice_index_or (node_of_view self.now).entries i d).item.key }
     {
         let at = self.place(i);
-        &self.node[at + 16..at + 16 + u16_at(self.node, at + 0x0A) as usize]
+        &self.node[at + ENTRY_HEADER..at + ENTRY_HEADER + key_len(self.node, at) as usize]
     }
 
     /// The child that place i leads to; the last place has no key.
@@ -117,6 +120,6 @@ impl<'r> NodeView<'r> {
             return None;
         }
         let at = self.place(i);
-        Some(u64_at(self.node, at + u16_at(self.node, at + 0x08) as usize - 8))
+        Some(u64_at(self.node, at + entry_len(self.node, at) as usize - 8))
     }
 }

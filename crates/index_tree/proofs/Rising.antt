@@ -18,7 +18,7 @@ use Rattle.std.proofs.Math.Nat.{min-le_left}
 use Rattle.vol_disk.specs.Count.{raised}
 
 -- The nodes that records say.
-is_none : {X : Type 0} (o : Option X) → o ≡ None → IsSome o → ⊥
+pub is_none : {X : Type 0} (o : Option X) → o ≡ None → IsSome o → ⊥
 is_none None e h = let f : false ≡ true = h in cc
 is_none (Some x) e h = cc
 

@@ -159,6 +159,54 @@ impl<'b> Blocks for Listed<'b> {
     ghost only_reads_on = { λ a b c h k. tt };
 }
 
+// Records by their numbers, which tell their contents.
+#[derive(Drop)]
+struct Stored<'b> {
+    blocks: &'b [[u8; 4096]],
+    reads: u64,
+}
+
+impl<'b> Blocks for Stored<'b> {
+    ghost use Rattle.std.specs.Prelude.{◌*◌, List, Some, refl, ℕ};
+    ghost use Rattle.std.specs.List.{slice_get};
+
+    ghost records = { λ it. Some (slice_get it.blocks.now) };
+
+    ghost Volume = { List (List ℕ) };
+
+    ghost volume = { λ it. Some it.blocks.now };
+
+    ghost file = { λ it. 0 };
+
+    ghost record_in = { λ volume file vcn. slice_get volume vcn };
+
+    ghost only_reads = { λ old new. Unit {0} };
+
+    ghost reads = { λ it. it.reads };
+
+    ghost fetched = { λ it. 8 * it.reads };
+
+    ghost taken = { λ it. 0 };
+
+    ghost faults = { λ it. 0 };
+
+    ghost full = { λ it. 0 };
+
+    fn read(&mut self, vcn: u64, into: &mut [u8; 4096]) -> Result<(), BlockNo> {
+        self.reads = self.reads.saturating_add(1);
+        if let Some(block) = self.blocks.get(vcn as usize) {
+            *into = *block;
+        }
+        Ok(())
+    }
+
+    ghost are = { λ it. refl };
+
+    ghost only_reads_itself = { λ it. tt };
+
+    ghost only_reads_on = { λ a b c h k. tt };
+}
+
 fn over<'b>(blocks: &'b [[u8; 4096]], fails_at: u64) -> Listed<'b> {
     Listed {
         blocks,
@@ -388,6 +436,29 @@ fn ids_of_three_levels(rt: HostRuntime) -> Result<(), Fail> {
         found(alloc, &index, &mut listed, &root, &[5, 0, 0, 0]),
         Err(IndexNo::Device)
     );
+    Ok(())
+}
+
+// What is told of records is what a read gives, and an index under a root alone has a walk.
+#[test]
+fn contents_told(rt: HostRuntime) -> Result<(), Fail> {
+    let blocks = [directory()];
+    let mut stored = Stored {
+        blocks: &blocks,
+        reads: 0,
+    };
+    let mut block = [0; 4096];
+    stored.read(0, &mut block)?;
+    assert_eq!(rt; block.as_slice(), blocks[0].as_slice());
+
+    let root = [
+        0, 0, 0, 0, 0x12, 0, 0, 0, 0, 0x10, 0, 0, 1, 0, 0, 0, // the fields of an `$INDEX_ROOT`
+        0x10, 0, 0, 0, 0x20, 0, 0, 0, 0x20, 0, 0, 0, 0, 0, 0, 0, // the index header
+        0, 0, 0, 0, 0, 0, 0, 0, 0x10, 0, 0, 0, 2, 0, 0, 0, // the last entry
+    ];
+    let index = Index::new(IdOrder, NodeForm::View, 0);
+    assert_eq!(rt; index.walk(rt.alloc(), &mut stored, &root)?.len(), 0);
+    assert_eq!(rt; stored.reads, 1);
     Ok(())
 }
 

@@ -136,7 +136,7 @@ impl<C> Index<C> {
             CostsWalk 1 (nodes_of (form_of self.now) r) (node_in (form_of self.now) root.now) (B.reads blocks.old) (B.reads blocks.new))) }
         ensures fetched { IfOk result (λ _. WhereTold (B.records blocks.old) (λ r.
             CostsWalk 8 (nodes_of (form_of self.now) r) (node_in (form_of self.now) root.now)
-                (B.fetched blocks.old) (B.fetched blocks.new))) }
+            (B.fetched blocks.old) (B.fetched blocks.new))) }
 
         ensures records { B.records blocks.new ≡ B.records blocks.old }
         ensures volume { B.volume blocks.new ≡ B.volume blocks.old }

@@ -20,7 +20,7 @@ returns c =
     let within : c.args.i ≤ view.count = omega (arith, c.requires) in
     let place = c.place-at.ensures.place in
     ap (λ n. Some n) c.u64_at.ensures
-    ∙ ap (λ n. Some (u64_at view.node.now (c.place-at.result + n - 8))) c.u16_at.ensures
+    ∙ ap (λ n. Some (u64_at view.node.now (c.place-at.result + n - 8))) c.entry_len.ensures
     ∙ sym (child_at-some view.node.now view.children c.place-at.result c.if-not-self.false)
     ∙ ap (child_at view.node.now view.children) place
     ∙ sym (child_from-entries_from view.node.now view.children view.first view.count c.args.i within)

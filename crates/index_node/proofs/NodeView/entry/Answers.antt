@@ -19,7 +19,7 @@ returns-clause-item c = λ d.
     let place = c.place-at.ensures.place in
     let all = length-entries_from view.node.now view.children view.first view.count in
     let within : c.args.i < view.count = omega (arith, c.requires) in
-    ap (λ n. item_in (slice_range view.node.now c.place-at.result (c.place-at.result + n))) c.u16_at.ensures
+    ap (λ n. item_in (slice_range view.node.now c.place-at.result (c.place-at.result + n))) c.entry_len.ensures
     ∙ item_in-own view.node.now view.children view.end c.place-at.result c.place-at.ensures.whole
     ∙ ap (λ at. item_at view.node.now view.children at) place
     ∙ sym (ap (λ (e : Entry). e.item) (get_or-entries_from view.node.now view.children view.first view.count c.args.i d within))
@@ -33,6 +33,6 @@ returns-clause-own c =
     let all = length-entries_from node view.children view.first view.count in
     let is : is_entry view.form node view.children view.end at ≡ true =
     ap (is_entry view.form node view.children view.end) c.place-at.ensures.place ∙ view.each c.args.i (omega (arith, all, c.requires)) in
-    subst (λ b. IsTrue (is_one_entry view.form b (slice_range node at (at + c.u16_at.result)))) view.flag
-    (subst (λ n. IsTrue (is_one_entry view.form view.children (slice_range node at (at + n)))) (sym c.u16_at.ensures)
+    subst (λ b. IsTrue (is_one_entry view.form b (slice_range node at (at + c.entry_len.result)))) view.flag
+    (subst (λ n. IsTrue (is_one_entry view.form view.children (slice_range node at (at + n)))) (sym c.entry_len.ensures)
     (entry-own view.form node view.children view.end at is c.place-at.ensures.inside))

@@ -11,8 +11,8 @@ overflow_add-at c =
     let w = place_whole view.form view.node.now view.children view.end view.first view.count view.each view.last c.loop-k.k (omega arith) in
     omega (arith, w.header, view.short, c.loop-k.invariant.place)
 
-pub u16_at-len-requires : goal.u16_at-len-requires
-u16_at-len-requires c =
+pub entry_len-len-requires : goal.entry_len-len-requires
+entry_len-len-requires c =
     let view = c.args.self.now in
     let w = place_whole view.form view.node.now view.children view.end view.first view.count view.each view.last c.loop-k.k (omega arith) in
     let i = view.inside in
@@ -24,7 +24,7 @@ returns-then-len-most c =
     let view = c.args.self.now in
     let node = view.node.now in
     let most = 632 + c.child_len-most.result in
-    let long : most < entry_len node c.loop-k.at = omega (arith, c.u16_at-len.ensures, c.if-len-most.true) in
+    let long : most < entry_len node c.loop-k.at = omega (arith, c.entry_len-len.ensures, c.if-len-most.true) in
     sym (short_stop node most c.loop-k.at (view.count - c.loop-k.k) long)
     ∙ c.loop-k.invariant.short
     ∙ are_short-is node _ view.count most view.first (sym (length-entries_from node view.children view.first view.count))
@@ -37,25 +37,19 @@ loop-k-preserved c =
     let most = 632 + c.child_len-most.result in
     let len = ap (entry_len node) c.loop-k.invariant.place in
     let next = entry_place-next node view.first c.loop-k.k in
-    let short : entry_len node c.loop-k.at ≤ most = omega (arith, c.u16_at-len.ensures, c.if-len-most.false) in
+    let short : entry_len node c.loop-k.at ≤ most = omega (arith, c.entry_len-len.ensures, c.if-len-most.false) in
     let left : view.count - c.loop-k.k ≡ suc (view.count - (c.loop-k.k + 1)) = omega arith in
     record {
-      place = rw add-one (omega (arith, c.loop-k.invariant.place, len, c.u16_at-len.ensures, next));
+      place = rw add-one (omega (arith, c.loop-k.invariant.place, len, c.entry_len-len.ensures, next));
       short =
-          ap (λ n. are_short_from node most (c.loop-k.at + n) (view.count - (c.loop-k.k + 1))) c.u16_at-len.ensures
+          ap (λ n. are_short_from node most (c.loop-k.at + n) (view.count - (c.loop-k.k + 1))) c.entry_len-len.ensures
           ∙ sym (short_next node most c.loop-k.at (view.count - (c.loop-k.k + 1)) short)
           ∙ ap (are_short_from node most c.loop-k.at) (sym left)
           ∙ c.loop-k.invariant.short;
     }
 
-pub overflow_add-at-2 : goal.overflow_add-at-2
-overflow_add-at-2 c =
-    let view = c.args.self.now in
-    let w = place_whole view.form view.node.now view.children view.end view.first view.count view.each view.last c.loop-k.k (omega arith) in
-    omega (arith, w.header, view.short, c.loop-k.invariant.place)
-
-pub u16_at-requires : goal.u16_at-requires
-u16_at-requires c =
+pub entry_len-requires : goal.entry_len-requires
+entry_len-requires c =
     let view = c.args.self.now in
     let w = place_whole view.form view.node.now view.children view.end view.first view.count view.each view.last c.loop-k.k (omega arith) in
     let i = view.inside in
@@ -68,7 +62,7 @@ returns c =
     let node = view.node.now in
     let most = 632 + c.child_len-most.result in
     let done : view.count - c.loop-k.k ≡ 0 = omega arith in
-    ap (λ n. nat_le n most) c.u16_at.ensures
+    ap (λ n. nat_le n most) c.entry_len.ensures
     ∙ ap (are_short_from node most c.loop-k.at) (sym done)
     ∙ c.loop-k.invariant.short
     ∙ are_short-is node _ view.count most view.first (sym (length-entries_from node view.children view.first view.count))

@@ -18,7 +18,7 @@ returns c = λ d.
     let place = c.place-at.ensures.place in
     let all = length-entries_from view.node.now view.children view.first view.count in
     let within : c.args.i < view.count = omega (arith, c.requires) in
-    let len = c.u16_at.ensures in
+    let len = c.key_len.ensures in
     ap (λ n. slice_range view.node.now (c.place-at.result + 16) (c.place-at.result + 16 + n)) len
     ∙ sym (item_key view.node.now view.children c.place-at.result)
     ∙ ap (λ at. (item_at view.node.now view.children at).key) place
