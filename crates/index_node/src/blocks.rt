@@ -2,7 +2,7 @@
 ghost use Rattle.std.specs.Prelude.{◌≡◌, ℕ, ◌+◌, ◌≤◌, Option, List, Some, IsSome, MatchResult, OnErr, OnOk};
 ghost use Rattle.std.specs.Option.{option_map};
 ghost use Rattle.ntfs_def.specs.Told.{WhereTold};
-ghost use Rattle.vol_disk.specs.Count.{raised};
+ghost use Rattle.vol_disk.specs.Count.{next_count};
 ghost use Rattle.index_node.specs.Blocks.{ReadRefuses};
 
 use thiserror::Error;
@@ -73,7 +73,7 @@ pub trait Blocks {
         ensures volume { volume self.new ≡ volume self.old }
         ensures file { file self.new ≡ file self.old }
         ensures only_reads { only_reads self.old self.new }
-        ensures reads { reads self.new ≡ raised (reads self.old) }
+        ensures reads { reads self.new ≡ next_count (reads self.old) }
         ensures fetched { fetched self.new ≤ fetched self.old + 8 }
         ensures rising { fetched self.old ≤ fetched self.new }
         ensures taken { taken self.new ≡ taken self.old }

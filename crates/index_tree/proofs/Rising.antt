@@ -15,7 +15,7 @@ use Rattle.std.specs.Option.{option_and_then}
 use Rattle.std.proofs.Common.{Result, Ok, Err}
 use Rattle.std.specs.Prelude.{IfOk, ◌^◌, min}
 use Rattle.std.proofs.Math.Nat.{min-le_left}
-use Rattle.vol_disk.specs.Count.{raised}
+use Rattle.vol_disk.specs.Count.{next_count}
 
 -- The nodes that records say.
 pub is_none : {X : Type 0} (o : Option X) → o ≡ None → IsSome o → ⊥
@@ -41,7 +41,7 @@ not_refused form records vcn bytes e (Shape at) h some =
 not_refused form records vcn bytes e (Full need free) h some = absurd h
 
 -- a count that was raised is at most one higher
-pub one_more : (before after : ℕ) → after ≡ raised before → after ≤ before + 1
+pub one_more : (before after : ℕ) → after ≡ next_count before → after ≤ before + 1
 one_more before after e = let m = min-le_left (before + 1) (2 ^ 64 - 1) in omega (arith, e, m)
 
 pub IfOk-map : {T E : Type 0} {P Q : T → Type 0} (r : Result T E) → ((x : T) → P x → Q x) → IfOk r P → IfOk r Q
