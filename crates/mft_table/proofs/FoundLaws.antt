@@ -1,5 +1,5 @@
 -- What was found from a boot sector that was read, is found in the image.
-use Rattle.std.proofs.Common.{◌≡◌, ℕ, ◌*◌, ◌/◌, List, length, Option, None, Some, Result, Ok, Err, sym, ap, subst, ◌∙◌}
+use Rattle.std.proofs.Common.{◌≡◌, ℕ, ◌*◌, ◌/◌, List, length, Option, None, Some, Result, Ok, Err, sym, ap, ◌∙◌}
 use Rattle.std.specs.Prelude.{IfErr, IfOk, IfSome}
 use Rattle.vol_disk.specs.Contents.{sector_in}
 use Rattle.ntfs_def.specs.Boot.{boot_failing, boot_sector}
@@ -22,8 +22,8 @@ failing-read now image sector size failing len told read fails =
 
 -- where the boot clause holds, what was found by its geometry
 module _ (now now' : Option (List ℕ)) (sector : List ℕ) (size : ℕ) (geometry : Geometry) (same : now' ≡ now)
-  (len : IfSome now' (λ all. length all ≡ 512 * size)) (read : (image : List ℕ) → now ≡ Some image → sector ≡ boot_sector image)
-  (holds : boot_failing sector size ≡ None) (is : geometry ≡ geometry_of sector) where
+    (len : IfSome now' (λ all. length all ≡ 512 * size)) (read : (image : List ℕ) → now ≡ Some image → sector ≡ boot_sector image)
+    (holds : boot_failing sector size ≡ None) (is : geometry ≡ geometry_of sector) where
   boot_holds : (image : List ℕ) → now ≡ Some image → boot_failing (boot_sector image) (length image / 512) ≡ None
   boot_holds image told = failing-read now' image sector size None len (same ∙ told) (read image told) holds
 
@@ -32,7 +32,7 @@ module _ (now now' : Option (List ℕ)) (sector : List ℕ) (size : ℕ) (geomet
 
   pub found-ok : (result : Result Table TableNo) → IfOk result (λ table. table.geometry ≡ geometry)
       → IfOk result (λ table. (image boot : List ℕ) → now' ≡ Some image → geometry ≡ geometry_of boot
-        → MeetsTableClause (sector_in (Some image)) boot (layout_of table))
+      → MeetsTableClause (sector_in (Some image)) boot (layout_of table))
       → IfOk result (λ table. (image : List ℕ) → now ≡ Some image → HasTableOf image table)
   found-ok (Ok table) of_it meets = λ image told. record {
     boot = boot_holds image told;
@@ -50,7 +50,7 @@ module _ (now now' : Option (List ℕ)) (sector : List ℕ) (size : ℕ) (geomet
 
   pub found-err : (result : Result Table TableNo)
       → IfErr result (λ error. (image boot : List ℕ) → now' ≡ Some image → geometry ≡ geometry_of boot
-        → RefusesAt (sector_in (Some image)) boot error)
+      → RefusesAt (sector_in (Some image)) boot error)
       → IfErr result (λ error. (image : List ℕ) → now ≡ Some image → Refuses image error)
   found-err (Ok table) at = tt
   found-err (Err error) at = λ image told.

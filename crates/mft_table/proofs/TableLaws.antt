@@ -1,5 +1,5 @@
 -- The table of records on its volume.
-use Rattle.std.proofs.Common.{◌≡◌, ℕ, ◌+◌, ◌*◌, ◌/◌, ◌<◌, ◌≤◌, List, [], length, take, Option, Some, refl, sym, ap, subst, ◌∙◌, inl, inr, arith, length-append}
+use Rattle.std.proofs.Common.{◌≡◌, ℕ, ◌+◌, ◌*◌, ◌/◌, ◌<◌, ◌≤◌, List, [], length, take, Option, Some, refl, sym, ap, subst, ◌∙◌, arith, length-append}
 use Rattle.std.specs.Prelude.{IsTrue}
 use Rattle.std.proofs.lemmas.Bool.Decides.{nat_tests}
 use Rattle.std.proofs.lemmas.List.{length-take, drop_all}
@@ -8,10 +8,9 @@ use Rattle.ntfs_def.specs.Boot.{cluster_sectors, is_cluster_size, mft_cluster}
 use Rattle.ntfs_def.specs.Fixup.{opened_of}
 use Rattle.ntfs_def.proofs.FixupLaws.{length-opened_of}
 use Rattle.ntfs_def.proofs.ShapeLaws.{header_failing-length}
-
 use Rattle.ntfs_boot.specs.declared.Geometry.{Geometry}
 use Rattle.ntfs_boot.specs.Geometry.{FitsDisk, geometry_of}
-use Rattle.volume_def.specs.Table.{IsFromBoot, IsReadable, Layout, LiesOn, MeetsTableClause, cluster_bytes, first_record, two_sectors}
+use Rattle.volume_def.specs.Table.{IsFromBoot, IsReadable, Layout, LiesOn, MeetsTableClause, first_record, two_sectors}
 use Rattle.mft_table.specs.Tables.{HasTable, IsFromGeometry, TellsLayout}
 
 -- A record that can be read has 1,024 bytes.

@@ -1,5 +1,5 @@
 -- The table clause and its parts, at what the code has read of the record: the stream, its sizes and its run text.
-use Rattle.std.proofs.Common.{◌≡◌, ◌<◌, ◌≤◌, ℕ, ◌*◌, ◌/◌, List, Some, refl, sym, ap, ◌∙◌, subst, arith}
+use Rattle.std.proofs.Common.{◌≡◌, ℕ, ◌*◌, ◌/◌, List, Some, refl, sym, ap, ◌∙◌, subst, arith}
 use Rattle.std.specs.Option.{option_map}
 use Rattle.ntfs_def.specs.declared.run_text.Run.{Run}
 use Rattle.ntfs_def.specs.declared.sizes.Sizes.{Sizes}
@@ -8,8 +8,8 @@ use Rattle.ntfs_def.specs.Runs.{MeansRuns, total_clusters}
 use Rattle.ntfs_def.proofs.RunLaws.{MeansFrom-exact}
 use Rattle.ntfs_boot.specs.declared.Geometry.{Geometry}
 use Rattle.ntfs_boot.specs.Geometry.{FitsDisk}
-use Rattle.volume_def.specs.Table.{ArePlaced, FitTable, HoldsTable, IsTable, Layout, cluster_bytes}
-use Rattle.mft_table.specs.Tables.{IsFromGeometry, TellsLayout, layout_on}
+use Rattle.volume_def.specs.Table.{ArePlaced, FitTable, HoldsTable, Layout, cluster_bytes}
+use Rattle.mft_table.specs.Tables.{TellsLayout, layout_on}
 
 -- what the code has read: the attribute that holds the table, its sizes, and the runs that its text means
 pub record IsRead (record_0 : List ℕ) (stream : Attribute) (sizes : Sizes) (text : List ℕ) (runs : List Run) : Type 0 where

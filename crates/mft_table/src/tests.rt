@@ -248,7 +248,10 @@ fn reads_records(rt: HostRuntime) -> Result<(), test::Fail> {
         (3, 3, 1, 472, 6, 6),
         (11, 11, 3, 640, 3, 3),
     ] {
-        assert_eq!(rt; read(rt.alloc(), &mut disk, number, &mut block)?, Some(Ok(())));
+        assert_eq!(rt;
+            read(rt.alloc(), &mut disk, number, &mut block)?,
+            Some(Ok(()))
+        );
         assert_eq!(rt; u16_at(&block, 0x10), sequence, "{number}");
         assert_eq!(rt; u16_at(&block, 0x16), flags, "{number}");
         assert_eq!(rt; u32_at(&block, 0x18), used, "{number}");
@@ -256,7 +259,10 @@ fn reads_records(rt: HostRuntime) -> Result<(), test::Fail> {
         assert_eq!(rt; RecordView::new(&block)?.count(), count, "{number}");
         assert_eq!(rt; (block[510], block[1022]), (0, 0), "{number}");
     }
-    assert_eq!(rt; read(rt.alloc(), &mut disk, 1, &mut block)?, Some(Err(MftNo::Torn { number: 1 })));
+    assert_eq!(rt;
+        read(rt.alloc(), &mut disk, 1, &mut block)?,
+        Some(Err(MftNo::Torn { number: 1 }))
+    );
     assert_eq!(rt; read(rt.alloc(), &mut disk, 27, &mut block)?, None);
     Ok(())
 }
@@ -272,7 +278,11 @@ fn a_disk_that_fails_keeps_the_block(rt: HostRuntime) -> Result<(), test::Fail> 
         let inner = MemDisk::new(rt.alloc(), volume(rt.alloc())?);
         let mut disk = FailDisk::new(inner, vec![in rt.alloc(); fail]?);
         let mut block = [1; 1024];
-        assert_eq!(rt; read(rt.alloc(), &mut disk, 3, &mut block)?, Some(Err(MftNo::Device)), "{number}");
+        assert_eq!(rt;
+            read(rt.alloc(), &mut disk, 3, &mut block)?,
+            Some(Err(MftNo::Device)),
+            "{number}"
+        );
         assert!(rt; block == [1; 1024], "{number}");
     }
     Ok(())

@@ -9,10 +9,10 @@ ghost use Rattle.vol_stage.specs.Staged.{StageReads, disk_of, image};
 ghost use Rattle.mft_table.specs.TableNos.{CountsNo, HasTableOf, Refuses, RefusesAt};
 ghost use Rattle.mft_table.specs.Tables.{HasTable, IsTableOf, layout_of};
 
+use crate::TableNo;
 use crate::blocks::read_two_sectors;
 use crate::open::open_record;
 use crate::table::{Table, read_table};
-use crate::TableNo;
 use ntfs_boot::Geometry;
 use std::alloc::{AllocError, Global};
 use vol_disk::Disk;

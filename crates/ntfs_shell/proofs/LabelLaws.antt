@@ -22,7 +22,7 @@ by_clause : (image : List ℕ) (report : Report) (failing : Option ℕ)
     → LabelReports image report
 by_clause image report failing is said =
     subst (λ (o : Option ℕ). MatchOption o (TableReports (sector_in (Some image)) (boot_sector image) report)
-      (λ number. report ≡ refuses (boot_refusal number))) (sym is) said
+    (λ number. report ≡ refuses (boot_refusal number))) (sym is) said
 
 -- what record 3 says is what the image says
 pub reports-record : (image stored : List ℕ) (report : Report) → HasVolumeRecord image stored → RecordReports stored report

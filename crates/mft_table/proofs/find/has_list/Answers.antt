@@ -3,7 +3,6 @@ use Rattle.std.specs.Prelude.{All}
 use Rattle.std.proofs.lemmas.List.Elements.{All-cons, All-head, All-tail}
 use Rattle.ntfs_def.specs.declared.kinds.TheConstants.{ATTRIBUTE_LIST}
 use Rattle.ntfs_def.specs.Attribute.{Attribute}
-use Rattle.attr_view.specs.Left.{attributes_left}
 use Rattle.attr_view.specs.View.{attribute_of}
 use Rattle.mft_table.proofs.find.has_list.Goals as goal
 

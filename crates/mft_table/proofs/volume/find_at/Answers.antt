@@ -1,4 +1,4 @@
-use Rattle.std.proofs.Common.{◌≡◌, ◌+◌, ◌*◌, ◌<◌, ap, subst, arith, ◌∙◌}
+use Rattle.std.proofs.Common.{◌+◌, ◌*◌, ◌<◌, ap, subst, arith, ◌∙◌}
 use Rattle.ntfs_def.specs.Boot.{cluster_sectors, mft_cluster}
 use Rattle.mft_table.specs.Tables.{layout_of}
 use Rattle.mft_table.proofs.BootSectors.{length-told}
