@@ -13,7 +13,7 @@ use Rattle.index_tree.specs.Search.{nodes_of, IsPlace, StartsAt, IsBefore, Rises
 use Rattle.ntfs_def.proofs.IndexTreeLaws.{some_same, none_other, below_at, before_items, behind_items, items_split, times_split, EachBelow-at, Each-branches, child_below, branch_entry, Each-++, Each-left, Each-right, Each-mid, Each-map}
 use Rattle.std.specs.Option.{option_and_then}
 use Rattle.std.proofs.Common.{Result, Ok, Err}
-use Rattle.std.specs.Prelude.{IfOk, ◌^◌, min}
+use Rattle.std.specs.Prelude.{IfOk, ◌^◌}
 use Rattle.std.proofs.Math.Nat.{min-le_left}
 use Rattle.vol_disk.specs.Count.{next_count}
 

@@ -83,7 +83,7 @@ impl<C: Collation> Index<C> {
     ///
     /// # Errors
     ///
-    /// `Device` only where the disk failed. Never `NoRoom`.
+    /// `Device` only where the disk failed, and `Memory` only where it did not. Never `NoRoom`.
     pub fn find<B: Blocks>(
         &self,
         alloc: Global,

@@ -113,13 +113,14 @@ fn walk_node<B: Blocks>(
 }
 
 impl<C> Index<C> {
-    /// All entries of the index under a root, the value of its `$INDEX_ROOT`, in order. Each record is read once.
+    /// All entries of the index under a root, the value of its `$INDEX_ROOT`, in order. No more records are read than the
+    /// index has below its root.
     ///
     /// Where the contents are not told, each of the entries that are given still is one entry.
     ///
     /// # Errors
     ///
-    /// `Device` only where the disk failed. Never `NoRoom`.
+    /// `Device` only where the disk failed, and `Memory` only where it did not. Never `NoRoom`.
     pub fn walk<B: Blocks>(
         &self,
         alloc: Global,
