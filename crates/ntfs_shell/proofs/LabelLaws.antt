@@ -1,9 +1,8 @@
 -- What label says, from the record that it read.
-use Rattle.std.proofs.Common.{◌≡◌, ℕ, ◌/◌, List, length, Option, None, Some, Result, Ok, Err, refl, sym, ap, subst, ◌∙◌, inl, inr}
+use Rattle.std.proofs.Common.{◌≡◌, ℕ, ◌/◌, List, length, Option, None, Some, Result, refl, sym, subst, inl, inr}
 use Rattle.std.specs.Prelude.{IfOk, MatchOption}
 use Rattle.vol_disk.specs.Contents.{sector_in}
 use Rattle.ntfs_def.specs.Boot.{boot_failing, boot_sector}
-use Rattle.volume_def.specs.Blocks.{block_of}
 use Rattle.mft_table.specs.declared.error.TableNo.{TableNo}
 use Rattle.mft_table.specs.declared.error.TableNo.TheVariants as no
 use Rattle.mft_table.specs.TableNos.{Refuses}
