@@ -81,7 +81,8 @@ fn walk_node<B: Blocks>(
         HasSpread (nodes_of (form_of_view node.now) r) (node_of_view node.now) level) }
     ensures walked { OnOk result (WhereTold (B.records blocks.old) (λ r.
         WalksNode (nodes_of (form_of_view node.now) r) (node_of_view node.now) out.old.items out.new.items)) }
-    ensures own { OnOk result (Each (IsOwnEntry (form_of_view node.now)) out.old.items → Each (IsOwnEntry (form_of_view node.now)) out.new.items) }
+    ensures own { OnOk result (Each (IsOwnEntry (form_of_view node.now)) out.old.items
+        → Each (IsOwnEntry (form_of_view node.now)) out.new.items) }
 
     ensures reads { OnOk result (WhereTold (B.records blocks.old) (λ r.
         CostsNode 1 (nodes_of (form_of_view node.now) r) (node_of_view node.now) (B.reads blocks.old) (B.reads blocks.new))) }

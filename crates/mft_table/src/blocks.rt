@@ -8,7 +8,7 @@ ghost use Rattle.vol_stage.specs.Staged.{StageReads, disk_of, image};
 
 use data_runs::{RunList, Spot};
 use ntfs_boot::Geometry;
-use vol_disk::Disk;
+use vol_disk::{Disk, SECTOR};
 use vol_stage::{Stage, StageNo};
 
 /// Reads blocks of a table as they are stored, in use or not. It is lent by what keeps the table.
@@ -24,8 +24,8 @@ pub struct BlockReader<'t> {
 fn join(first: &[u8; 512], second: &[u8; 512], into: &mut [u8; 1024])
     ensures { into.new ≡ first.now ++ second.now }
 {
-    into[..512].copy_from_slice(first);
-    into[512..].copy_from_slice(second);
+    into[..SECTOR].copy_from_slice(first);
+    into[SECTOR..].copy_from_slice(second);
 }
 
 // Makes the bytes from the n-th on zero.

@@ -15,6 +15,14 @@ use data_runs::{Run, RunList, Spot, read_runs};
 use ntfs_boot::Geometry;
 use std::alloc::{AllocError, Global};
 
+/// The bytes of a record.
+const RECORD: u64 = 1024;
+
+/// The fewest records that a table may have, and the most.
+const LEAST_RECORDS: u64 = 24;
+
+const MOST_RECORDS: u64 = 1 << 22;
+
 /// Where the table of records lies, on a volume of this geometry.
 #[derive(Drop)]
 pub struct Table {
@@ -67,7 +75,7 @@ fn begin_at(runs: &RunList, mft: u64, size: u64) -> bool
     requires mft { mft < 2 ^ 26 }
     ensures { IsTrue result ↔ ((k : ℕ) → k * size < 1024 → spot_of runs.now k ≡ At (mft + k)) }
 {
-    runs.spot(0) == Spot::At(mft) && (size >= 1024 || runs.spot(1) == Spot::At(mft + 1))
+    runs.spot(0) == Spot::At(mft) && (size >= RECORD || runs.spot(1) == Spot::At(mft + 1))
 }
 
 // Whether the runs lie on the volume, and the first record where the table begins.
@@ -93,8 +101,8 @@ fn fit_table(sizes: &Sizes, clusters: u64, size: u64) -> bool
 {
     sizes.first == 0
         && u128::from(sizes.real) <= u128::from(clusters) * u128::from(size)
-        && sizes.real / 1024 >= 24
-        && sizes.real / 1024 <= 1 << 22
+        && sizes.real / RECORD >= LEAST_RECORDS
+        && sizes.real / RECORD <= MOST_RECORDS
         && sizes.initialized <= sizes.real
 }
 
@@ -138,6 +146,6 @@ pub fn read_table(
         geometry: *geometry,
         runs,
         initialized: sizes.initialized,
-        count: sizes.real / 1024,
+        count: sizes.real / RECORD,
     }))
 }

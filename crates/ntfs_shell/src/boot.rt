@@ -43,7 +43,8 @@ fn report_sector(sector: &[u8; 512], sectors: u64) -> Answer
 
 // What the image says.
 fn report_image<D: Disk>(stage: &mut Stage<'_, D>) -> Result<Answer, StageNo>
-    ensures report { IfOk result (λ answer. (all : List ℕ) → image D.Disk stage.old ≡ Some all → BootReports all (report_of answer)) }
+    ensures report { IfOk result (λ answer. (all : List ℕ) → image D.Disk stage.old ≡ Some all
+        → BootReports all (report_of answer)) }
     ensures reads { StageReads D.Disk stage.old stage.new 1 }
     ensures faults { CountsFault result (D.faults (disk_of D.Disk stage.old)) (D.faults (disk_of D.Disk stage.new)) }
 {

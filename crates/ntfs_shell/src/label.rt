@@ -65,7 +65,8 @@ fn report_no_table(no: TableNo) -> Result<Answer, Stop>
 
 // What the image says.
 fn report_image<D: Disk>(alloc: Global, stage: &mut Stage<'_, D>) -> Result<Answer, Stop>
-    ensures report { IfOk result (λ answer. (all : List ℕ) → image D.Disk stage.old ≡ Some all → LabelReports all (report_of answer)) }
+    ensures report { IfOk result (λ answer. (all : List ℕ) → image D.Disk stage.old ≡ Some all
+        → LabelReports all (report_of answer)) }
     ensures reads { StageReads D.Disk stage.old stage.new 5 }
     ensures faults { MatchResult result (λ _. D.faults (disk_of D.Disk stage.new) ≡ D.faults (disk_of D.Disk stage.old))
         (Stops (D.faults (disk_of D.Disk stage.old)) (D.faults (disk_of D.Disk stage.new))) }
