@@ -3,6 +3,7 @@ pub mod Boot
 pub mod Fixup
 pub mod Record
 pub mod Attribute
+pub mod AttributeList
 pub mod Moved
 pub mod Shape
 pub mod Packed
@@ -12,5 +13,4 @@ pub mod Bits
 pub mod Node
 pub mod FileName
 pub mod KeyOrder
-pub mod Told
 pub mod IndexTree

@@ -3,3 +3,12 @@ pub mod Blocks
 pub mod Owners
 pub mod View
 pub mod VolumeRecord
+pub mod SameItems
+pub mod Replaces
+pub mod Files
+pub mod Streams
+pub mod AttributesClause
+pub mod ListsClause
+pub mod ExtentsClause
+pub mod Readable
+pub mod Edits

@@ -1,0 +1,18 @@
+-- A volume whose files can be read: the clauses S3 to S6 hold of its records. S1 and S2 are what makes it a view.
+use Rattle.std.specs.Prelude.{ℕ, IsSomeAnd, IsTrue}
+use Rattle.volume_def.specs.AttributesClause.{MeetsAttributes, MeetsShape}
+use Rattle.volume_def.specs.ExtentsClause.{MeetsExtents}
+use Rattle.volume_def.specs.Files.{is_base, record_at, records_of}
+use Rattle.volume_def.specs.ListsClause.{MeetsLists}
+use Rattle.volume_def.specs.Table.{cluster_bytes}
+use Rattle.volume_def.specs.View.{VolumeView}
+
+pub record IsReadableVolume (view : VolumeView) : Type 0 where
+  pub shape : (n : ℕ) → MeetsShape view n
+  pub attributes : (n : ℕ) → MeetsAttributes (records_of view) n
+  pub lists : (n : ℕ) → MeetsLists view n
+  pub extents : (n : ℕ) → MeetsExtents (records_of view) (cluster_bytes view.layout) n
+
+-- Record f is in use, and a base record: there is a file of this number.
+abbrev pub IsFile : VolumeView → ℕ → Type 0
+IsFile view f = IsSomeAnd (record_at view f) (λ r. IsTrue (is_base r))
