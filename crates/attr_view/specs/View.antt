@@ -16,15 +16,15 @@ abbrev pub attributes_of : RecordView → List Attribute
 attributes_of view = attributes (record_of view)
 
 -- the bytes of the record that an attribute stands in, and its place in them
-abbrev pub block_of : AttrView → List ℕ
-block_of view = view.block.now
+abbrev pub bytes_around : AttrView → List ℕ
+bytes_around view = view.block.now
 
 abbrev pub place_of : AttrView → ℕ
 place_of view = view.at
 
 -- the attribute that a view shows
 abbrev pub attribute_of : AttrView → Attribute
-attribute_of view = attribute_at (block_of view) (place_of view)
+attribute_of view = attribute_at (bytes_around view) (place_of view)
 
 -- the block is refused so
 abbrev pub Refuses : List ℕ → ViewNo → Type 0

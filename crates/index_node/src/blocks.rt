@@ -1,7 +1,7 @@
 //! The records of an index, as its tree reads them.
 ghost use Rattle.std.specs.Prelude.{◌≡◌, ℕ, ◌+◌, ◌≤◌, Option, List, Some, IsSome, MatchResult, OnErr, OnOk};
 ghost use Rattle.std.specs.Option.{option_map};
-ghost use Rattle.ntfs_def.specs.Told.{WhereTold};
+ghost use Rattle.vol_disk.specs.Contents.{WhereTold};
 ghost use Rattle.vol_disk.specs.Count.{next_count};
 ghost use Rattle.index_node.specs.Blocks.{ReadRefuses};
 

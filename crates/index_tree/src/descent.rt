@@ -1,7 +1,7 @@
 //! A key is found: one node a level is read, from the root down.
 ghost use Rattle.std.specs.Prelude.{◌≡◌, IsTrue, IfOk, IfSome, MatchResult};
 ghost use Rattle.ntfs_def.specs.Node.{node_in};
-ghost use Rattle.ntfs_def.specs.Told.{WhereTold};
+ghost use Rattle.vol_disk.specs.Contents.{WhereTold};
 ghost use Rattle.index_tree.specs.Index.{Refuses, form_of, limit_of, order_of};
 ghost use Rattle.index_tree.specs.Search.{Costs, CostsBelow, Finds, FindsBelow, HasRising, HasRisingIndex, IsKeyed, nodes_of};
 

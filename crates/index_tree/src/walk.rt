@@ -2,7 +2,7 @@
 ghost use Rattle.std.specs.Prelude.{◌≡◌, ◌++◌, ◌∷◌, [], IfOk, IfErr, MatchResult, OnOk};
 ghost use Rattle.ntfs_def.specs.IndexTree.{Each};
 ghost use Rattle.ntfs_def.specs.Node.{IsOwnEntry, node_in};
-ghost use Rattle.ntfs_def.specs.Told.{WhereTold};
+ghost use Rattle.vol_disk.specs.Contents.{WhereTold};
 ghost use Rattle.index_node.specs.View.{form_of_view, node_of_view};
 ghost use Rattle.index_tree.specs.Index.{Refuses, form_of};
 ghost use Rattle.index_tree.specs.Search.{nodes_of};

@@ -11,7 +11,7 @@ use Rattle.ntfs_def.proofs.ShapeLaws.{header_failing-length}
 use Rattle.ntfs_boot.specs.declared.Geometry.{Geometry}
 use Rattle.ntfs_boot.specs.Geometry.{FitsDisk, geometry_of}
 use Rattle.volume_def.specs.Table.{IsFromBoot, IsReadable, Layout, LiesOn, MeetsTableClause, first_record, two_sectors}
-use Rattle.mft_table.specs.Tables.{HasTable, IsFromGeometry, TellsLayout}
+use Rattle.mft_table.specs.Tables.{BlockTells, IsFromGeometry, RecordTells}
 
 -- A record that can be read has 1,024 bytes.
 length-readable : (stored : List ℕ) → IsReadable stored → length stored ≡ 1024
@@ -43,7 +43,7 @@ size_bounds per is = (grind (arith, nat_tests), grind (arith, nat_tests))
 
 -- a volume on a disk has its table there
 pub lies_on : (geometry : Geometry) (size : ℕ) (record_0 : List ℕ) (layout : Layout) → FitsDisk geometry size
-    → TellsLayout geometry record_0 layout → LiesOn size layout
+    → RecordTells geometry record_0 layout → LiesOn size layout
 lies_on geometry size record_0 layout fits tells =
     let bounds = size_bounds layout.cluster_sectors (subst (λ n. IsTrue (is_cluster_size n)) (sym tells.volume.cluster_sectors) fits.cluster.1) in
     let per : geometry.cluster ≡ 512 * layout.cluster_sectors = omega (arith, tells.volume.cluster_sectors, fits.cluster.0) in
@@ -90,22 +90,22 @@ from_geometry boot layout from = record {
 
 -- what the geometry of the boot sector says of record 0 is the table clause
 pub meets_clause : (disk : ℕ → List ℕ) (boot stored : List ℕ) (geometry : Geometry) (layout : Layout)
-    → geometry ≡ geometry_of boot → stored ≡ first_record disk boot → HasTable geometry stored layout
+    → geometry ≡ geometry_of boot → stored ≡ first_record disk boot → BlockTells geometry stored layout
     → MeetsTableClause disk boot layout
 meets_clause disk boot stored geometry layout is read has =
-    let there : HasTable (geometry_of boot) stored layout = subst (λ (g : Geometry). HasTable g stored layout) is has in
-    let here : HasTable (geometry_of boot) (first_record disk boot) layout =
-    subst (λ (s : List ℕ). HasTable (geometry_of boot) s layout) read there in
+    let there : BlockTells (geometry_of boot) stored layout = subst (λ (g : Geometry). BlockTells g stored layout) is has in
+    let here : BlockTells (geometry_of boot) (first_record disk boot) layout =
+    subst (λ (s : List ℕ). BlockTells (geometry_of boot) s layout) read there in
     record { volume = from_boot boot layout here.tells.volume; readable = here.readable; table = here.tells.table }
 
 pub has_table : (disk : ℕ → List ℕ) (boot stored : List ℕ) (geometry : Geometry) (layout : Layout)
     → geometry ≡ geometry_of boot → stored ≡ first_record disk boot → MeetsTableClause disk boot layout
-    → HasTable geometry stored layout
+    → BlockTells geometry stored layout
 has_table disk boot stored geometry layout is read clause =
-    let here : HasTable (geometry_of boot) (first_record disk boot) layout = record {
+    let here : BlockTells (geometry_of boot) (first_record disk boot) layout = record {
       readable = clause.readable;
       tells = record { volume = from_geometry boot layout clause.volume; table = clause.table };
     } in
-    let there : HasTable (geometry_of boot) stored layout =
-    subst (λ (s : List ℕ). HasTable (geometry_of boot) s layout) (sym read) here in
-    subst (λ (g : Geometry). HasTable g stored layout) (sym is) there
+    let there : BlockTells (geometry_of boot) stored layout =
+    subst (λ (s : List ℕ). BlockTells (geometry_of boot) s layout) (sym read) here in
+    subst (λ (g : Geometry). BlockTells g stored layout) (sym is) there

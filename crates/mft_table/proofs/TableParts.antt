@@ -8,12 +8,12 @@ use Rattle.ntfs_def.specs.Runs.{MeansRuns, total_clusters}
 use Rattle.ntfs_def.proofs.RunLaws.{MeansFrom-exact}
 use Rattle.ntfs_boot.specs.declared.Geometry.{Geometry}
 use Rattle.ntfs_boot.specs.Geometry.{FitsDisk}
-use Rattle.volume_def.specs.Table.{ArePlaced, FitTable, HoldsTable, Layout, cluster_bytes}
-use Rattle.mft_table.specs.Tables.{TellsLayout, layout_on}
+use Rattle.volume_def.specs.Table.{ArePlaced, FitTable, IsTableStream, Layout, cluster_bytes}
+use Rattle.mft_table.specs.Tables.{RecordTells, layout_on}
 
 -- what the code has read: the attribute that holds the table, its sizes, and the runs that its text means
 pub record IsRead (record_0 : List ℕ) (stream : Attribute) (sizes : Sizes) (text : List ℕ) (runs : List Run) : Type 0 where
-  pub holds : HoldsTable record_0 stream
+  pub holds : IsTableStream record_0 stream
   pub sizes_read : Some sizes ≡ option_map (λ extent. extent.sizes) (extent_of stream.body)
   pub text_read : Some text ≡ runs_of stream.body
   pub means : MeansRuns text runs
@@ -34,10 +34,10 @@ size-whole : (geometry : Geometry) (sectors : ℕ) → FitsDisk geometry sectors
 size-whole geometry sectors fits = omega (arith, fits.cluster.0)
 
 -- the clause from what was read
-pub TellsLayout-made : (geometry : Geometry) (sectors : ℕ) (record_0 : List ℕ) (stream : Attribute) (sizes : Sizes) (text : List ℕ) (runs : List Run)
+pub RecordTells-made : (geometry : Geometry) (sectors : ℕ) (record_0 : List ℕ) (stream : Attribute) (sizes : Sizes) (text : List ℕ) (runs : List Run)
     → FitsDisk geometry sectors → IsRead record_0 stream sizes text runs → Fits geometry.mft geometry.cluster geometry.clusters runs sizes
-    → TellsLayout geometry record_0 (layout_on geometry runs sizes.initialized (sizes.real / 1024))
-TellsLayout-made geometry sectors record_0 stream sizes text runs fits read told =
+    → RecordTells geometry record_0 (layout_on geometry runs sizes.initialized (sizes.real / 1024))
+RecordTells-made geometry sectors record_0 stream sizes text runs fits read told =
     let (extent, body, same) = body-read stream.body sizes text read.sizes_read read.text_read in
     let whole = size-whole geometry sectors fits in
     let placed : ArePlaced geometry.mft (512 * (geometry.cluster / 512)) geometry.clusters runs =
@@ -62,9 +62,9 @@ TellsLayout-made geometry sectors record_0 stream sizes text runs fits read told
     }
 
 -- the runs of a layout are those that the text means
-pub TellsLayout-means : (geometry : Geometry) (record_0 : List ℕ) (stream : Attribute) (text : List ℕ) (layout : Layout)
-    → HoldsTable record_0 stream → Some text ≡ runs_of stream.body → TellsLayout geometry record_0 layout → MeansRuns text layout.runs
-TellsLayout-means geometry record_0 stream text layout holds read tells =
+pub RecordTells-means : (geometry : Geometry) (record_0 : List ℕ) (stream : Attribute) (text : List ℕ) (layout : Layout)
+    → IsTableStream record_0 stream → Some text ≡ runs_of stream.body → RecordTells geometry record_0 layout → MeansRuns text layout.runs
+RecordTells-means geometry record_0 stream text layout holds read tells =
     let table = tells.table in
     let other : table.stream ≡ stream = let mine = table.holds.only in let yours = holds.only in cc in
     let texts : Some text ≡ Some table.text =
@@ -73,17 +73,17 @@ TellsLayout-means geometry record_0 stream text layout holds read tells =
     subst (λ (t : List ℕ). MeansRuns t layout.runs) same table.means
 
 -- no layout meets it with other runs or sizes
-pub TellsLayout-parts : (geometry : Geometry) (sectors : ℕ) (record_0 : List ℕ) (stream : Attribute) (sizes : Sizes) (text : List ℕ) (runs : List Run)
-    (layout : Layout) → FitsDisk geometry sectors → IsRead record_0 stream sizes text runs → TellsLayout geometry record_0 layout
+pub RecordTells-parts : (geometry : Geometry) (sectors : ℕ) (record_0 : List ℕ) (stream : Attribute) (sizes : Sizes) (text : List ℕ) (runs : List Run)
+    (layout : Layout) → FitsDisk geometry sectors → IsRead record_0 stream sizes text runs → RecordTells geometry record_0 layout
     → Fits geometry.mft geometry.cluster geometry.clusters runs sizes
-TellsLayout-parts geometry sectors record_0 stream sizes text runs layout fits read tells =
+RecordTells-parts geometry sectors record_0 stream sizes text runs layout fits read tells =
     let table = tells.table in
     let (extent, body, same) = body-read stream.body sizes text read.sizes_read read.text_read in
     let other : table.stream ≡ stream = let mine = table.holds.only in let yours = read.holds.only in cc in
     let bodies : NonResident table.extent table.text ≡ NonResident extent text =
     sym table.body ∙ ap (λ (a : Attribute). a.body) other ∙ body in
     let extents : table.extent ≡ extent = cc in
-    let means : MeansRuns text layout.runs = TellsLayout-means geometry record_0 stream text layout read.holds read.text_read tells in
+    let means : MeansRuns text layout.runs = RecordTells-means geometry record_0 stream text layout read.holds read.text_read tells in
     let lists : layout.runs ≡ runs = MeansFrom-exact text 0 0 layout.runs runs means read.means in
     let size : cluster_bytes layout ≡ geometry.cluster =
     ap (λ (n : ℕ). 512 * n) tells.volume.cluster_sectors ∙ size-whole geometry sectors fits in

@@ -4,7 +4,7 @@ use Rattle.vol_disk.specs.Contents.{sector_in}
 use Rattle.vol_disk.specs.declared.Disk.{Ghosts}
 use Rattle.vol_stage.specs.declared.stage.Stage.{Stage}
 use Rattle.vol_stage.specs.Staged.{StageReads, disk_of, image}
-use Rattle.volume_def.specs.View.{View, view_of}
+use Rattle.volume_def.specs.View.{VolumeView, view_of}
 use Rattle.mft_table.specs.declared.mft.Mft.{Mft}
 use Rattle.mft_table.specs.declared.mounted.Mounted.{Mounted}
 use Rattle.mft_table.specs.Mounted.{mounted_layout}
@@ -20,7 +20,7 @@ abbrev pub faults_of : {D : Type 0} (g : Ghosts D) → Mft D g → ℕ
 faults_of g mft = g.faults (disk_of g (stage_of g mft))
 
 -- the image as it is read, by blocks and clusters
-abbrev pub view : {D : Type 0} (g : Ghosts D) → Mft D g → View
+abbrev pub view : {D : Type 0} (g : Ghosts D) → Mft D g → VolumeView
 view g mft = view_of (is_some (image g (stage_of g mft))) (sector_in (image g (stage_of g mft))) (mounted_layout (mounted_of g mft))
 
 -- What a call keeps that asks for so many reads at most, and for nothing else.

@@ -2,12 +2,12 @@
 use Rattle.std.specs.Prelude.{◌≡◌, ◌≤◌, ℕ, IsTrue}
 use Rattle.vol_disk.specs.Count.{Rose}
 use Rattle.ntfs_def.specs.Fixup.{IsSealed}
-use Rattle.volume_def.specs.View.{View}
+use Rattle.volume_def.specs.View.{VolumeView}
 use Rattle.mft_table.specs.declared.error.MftNo.{MftNo}
 use Rattle.mft_table.specs.declared.error.MftNo.TheVariants as no
 
 -- Record n of this volume is not read: it is `Torn` where it does not open. Reading takes no memory and no room.
-abbrev pub RefusesRead : View → ℕ → MftNo → Type 0
+abbrev pub RefusesRead : VolumeView → ℕ → MftNo → Type 0
 RefusesRead view n no.Device = Unit {0}
 RefusesRead view n (no.Torn number) = (number ≡ n) × (IsTrue view.told → ¬ (IsSealed (view.block n)))
 RefusesRead view n no.NoRoom = ⊥

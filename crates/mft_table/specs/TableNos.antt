@@ -11,7 +11,7 @@ use Rattle.mft_table.specs.declared.table.Table.{Table}
 use Rattle.mft_table.specs.Tables.{layout_of}
 
 -- The image has this table: the boot clause and the table clause hold, and tell it.
-pub record HasTableOf (image : List ℕ) (table : Table) : Type 0 where
+pub record IsFoundIn (image : List ℕ) (table : Table) : Type 0 where
   pub boot : boot_failing (boot_sector image) (length image / 512) ≡ None
   pub geometry : table.geometry ≡ geometry_of (boot_sector image)
   pub clause : MeetsTableClause (sector_in (Some image)) (boot_sector image) (layout_of table)

@@ -2,7 +2,7 @@
 use Rattle.std.specs.Prelude.{◌≡◌, ℕ, ◌/◌, List}
 use Rattle.ntfs_def.specs.declared.run_text.Run.{Run}
 use Rattle.ntfs_def.specs.Fixup.{opened_of}
-use Rattle.volume_def.specs.Table.{IsReadable, IsTable, Layout}
+use Rattle.volume_def.specs.Table.{IsReadable, TellsTable, Layout}
 use Rattle.ntfs_boot.specs.declared.Geometry.{Geometry}
 use Rattle.mft_table.specs.declared.table.Table.{Table}
 
@@ -28,15 +28,15 @@ pub record IsFromGeometry (geometry : Geometry) (layout : Layout) : Type 0 where
   pub mirror : layout.mirror ≡ geometry.mirror
 
 -- The opened record 0 tells a volume of this geometry that its table lies so.
-pub record TellsLayout (geometry : Geometry) (record_0 : List ℕ) (layout : Layout) : Type 0 where
+pub record RecordTells (geometry : Geometry) (record_0 : List ℕ) (layout : Layout) : Type 0 where
   pub volume : IsFromGeometry geometry layout
-  pub table : IsTable geometry.mft record_0 layout
+  pub table : TellsTable geometry.mft record_0 layout
 
 -- The same of record 0 as it is stored.
-pub record HasTable (geometry : Geometry) (stored : List ℕ) (layout : Layout) : Type 0 where
+pub record BlockTells (geometry : Geometry) (stored : List ℕ) (layout : Layout) : Type 0 where
   pub readable : IsReadable stored
-  pub tells : TellsLayout geometry (opened_of stored) layout
+  pub tells : RecordTells geometry (opened_of stored) layout
 
 -- the table that was found is one of this volume, and its layout is told so
-abbrev pub IsTableOf : Geometry → (Layout → Type 0) → Table → Type 0
-IsTableOf geometry Tells table = (table.geometry ≡ geometry) × Tells (layout_of table)
+abbrev pub IsFoundBy : Geometry → (Layout → Type 0) → Table → Type 0
+IsFoundBy geometry Tells table = (table.geometry ≡ geometry) × Tells (layout_of table)

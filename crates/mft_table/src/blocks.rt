@@ -32,7 +32,7 @@ fn join(first: &[u8; 512], second: &[u8; 512], into: &mut [u8; 1024])
 fn cut(bytes: &mut [u8; 512], n: u64)
     ensures { bytes.new ≡ cut_off n bytes.old }
 {
-    if n < 512 {
+    if n < SECTOR as u64 {
         bytes[n as usize..].fill(0);
     }
 }
@@ -68,7 +68,7 @@ impl BlockReader<'_> {
     fn cluster_sectors(&self) -> u64
         ensures { result ≡ (read_layout self.now).cluster_sectors }
     {
-        u64::from(self.geometry.cluster / 512)
+        u64::from(self.geometry.cluster) / SECTOR as u64
     }
 
     // The sector of the disk at which a sector of the table lies.
@@ -103,7 +103,8 @@ impl BlockReader<'_> {
             None => into.fill(0),
             Some(place) => {
                 stage.read(place, into)?;
-                cut(into, self.initialized.saturating_sub(512 * sector));
+                let written = self.initialized.saturating_sub(SECTOR as u64 * sector);
+                cut(into, written);
             }
         }
         Ok(())

@@ -6,17 +6,15 @@ ghost use Rattle.ntfs_def.specs.Runs.{spot_of, total_clusters};
 ghost use Rattle.volume_def.specs.Table.{ArePlaced, FitTable, IsOnVolume, Layout};
 ghost use Rattle.ntfs_boot.specs.Geometry.{FitsDisk};
 ghost use Rattle.attr_view.specs.View.{record_of};
-ghost use Rattle.mft_table.specs.Tables.{IsTableOf, TellsLayout};
+ghost use Rattle.mft_table.specs.Tables.{IsFoundBy, RecordTells};
 
 use crate::BlockReader;
 use crate::find::table_stream;
 use attr_view::{RecordView, Sizes};
 use data_runs::{Run, RunList, Spot, read_runs};
 use ntfs_boot::Geometry;
+use ntfs_def::lengths::RECORD;
 use std::alloc::{AllocError, Global};
-
-/// The bytes of a record.
-const RECORD: u64 = 1024;
 
 /// The fewest records that a table may have, and the most.
 const LEAST_RECORDS: u64 = 24;
@@ -75,7 +73,7 @@ fn begin_at(runs: &RunList, mft: u64, size: u64) -> bool
     requires mft { mft < 2 ^ 26 }
     ensures { IsTrue result ↔ ((k : ℕ) → k * size < 1024 → spot_of runs.now k ≡ At (mft + k)) }
 {
-    runs.spot(0) == Spot::At(mft) && (size >= RECORD || runs.spot(1) == Spot::At(mft + 1))
+    runs.spot(0) == Spot::At(mft) && (size >= RECORD as u64 || runs.spot(1) == Spot::At(mft + 1))
 }
 
 // Whether the runs lie on the volume, and the first record where the table begins.
@@ -101,8 +99,8 @@ fn fit_table(sizes: &Sizes, clusters: u64, size: u64) -> bool
 {
     sizes.first == 0
         && u128::from(sizes.real) <= u128::from(clusters) * u128::from(size)
-        && sizes.real / RECORD >= LEAST_RECORDS
-        && sizes.real / RECORD <= MOST_RECORDS
+        && sizes.real / RECORD as u64 >= LEAST_RECORDS
+        && sizes.real / RECORD as u64 <= MOST_RECORDS
         && sizes.initialized <= sizes.real
 }
 
@@ -124,8 +122,8 @@ pub fn read_table(
     view: &RecordView<'_>,
 ) -> Result<Option<Table>, AllocError>
     requires { FitsDisk geometry.now (2 ^ 55) }
-    ensures some { IfOk result (λ found. IfSome found (IsTableOf geometry.now (TellsLayout geometry.now (record_of view.now)))) }
-    ensures none { IfOk result (λ found. IfNone found ((layout : Layout) → ¬ (TellsLayout geometry.now (record_of view.now) layout))) }
+    ensures some { IfOk result (λ found. IfSome found (IsFoundBy geometry.now (RecordTells geometry.now (record_of view.now)))) }
+    ensures none { IfOk result (λ found. IfNone found ((layout : Layout) → ¬ (RecordTells geometry.now (record_of view.now) layout))) }
 {
     let Some(stream) = table_stream(view) else {
         return Ok(None);
@@ -146,6 +144,6 @@ pub fn read_table(
         geometry: *geometry,
         runs,
         initialized: sizes.initialized,
-        count: sizes.real / RECORD,
+        count: sizes.real / RECORD as u64,
     }))
 }

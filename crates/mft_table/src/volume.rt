@@ -1,13 +1,13 @@
 //! The table of a volume, found from its boot sector on.
-ghost use Rattle.std.specs.Prelude.{◌≡◌, ◌*◌, ◌/◌, ◌^◌, ◌≤◌, ℕ, List, Some, IfErr, IfNone, IfOk, IfSome, MatchResult};
-ghost use Rattle.vol_disk.specs.Contents.{IsTold, sector_in};
+ghost use Rattle.std.specs.Prelude.{◌≡◌, ◌*◌, ◌/◌, ◌^◌, ◌≤◌, ℕ, List, IfErr, IfNone, IfOk, IfSome, MatchResult};
+ghost use Rattle.vol_disk.specs.Contents.{WhereTold, sector_in};
 ghost use Rattle.vol_disk.specs.Count.{CountsFault};
 ghost use Rattle.ntfs_def.specs.Boot.{boot_sector};
 ghost use Rattle.ntfs_boot.specs.Geometry.{FitsDisk, geometry_of};
 ghost use Rattle.volume_def.specs.Table.{Layout, LiesOn, MeetsTableClause};
 ghost use Rattle.vol_stage.specs.Staged.{StageReads, disk_of, image};
-ghost use Rattle.mft_table.specs.TableNos.{CountsNo, HasTableOf, Refuses, RefusesAt};
-ghost use Rattle.mft_table.specs.Tables.{HasTable, IsTableOf, layout_of};
+ghost use Rattle.mft_table.specs.TableNos.{CountsNo, IsFoundIn, Refuses, RefusesAt};
+ghost use Rattle.mft_table.specs.Tables.{BlockTells, IsFoundBy, layout_of};
 
 use crate::TableNo;
 use crate::blocks::read_two_sectors;
@@ -20,7 +20,7 @@ use vol_stage::{Stage, StageNo};
 
 /// The first sector, which is zero on a disk without one.
 pub fn read_boot_sector<D: Disk>(stage: &mut Stage<'_, D>) -> Result<[u8; 512], StageNo>
-    ensures sector { IfOk result (λ sector. (all : List ℕ) → image D.Disk stage.old ≡ Some all → sector ≡ boot_sector all) }
+    ensures sector { IfOk result (λ sector. WhereTold (image D.Disk stage.old) (λ all. sector ≡ boot_sector all)) }
     ensures reads { StageReads D.Disk stage.old stage.new 1 }
     ensures faults { CountsFault result (D.faults (disk_of D.Disk stage.old)) (D.faults (disk_of D.Disk stage.new)) }
     ensures device { IfErr result (λ error. error ≡ StageNo.Device) }
@@ -39,8 +39,8 @@ fn table_in(
     block: &mut [u8; 1024],
 ) -> Result<Option<Table>, AllocError>
     requires { FitsDisk geometry.now (2 ^ 55) }
-    ensures some { IfOk result (λ found. IfSome found (IsTableOf geometry.now (HasTable geometry.now block.old))) }
-    ensures none { IfOk result (λ found. IfNone found ((layout : Layout) → ¬ (HasTable geometry.now block.old layout))) }
+    ensures some { IfOk result (λ found. IfSome found (IsFoundBy geometry.now (BlockTells geometry.now block.old))) }
+    ensures none { IfOk result (λ found. IfNone found ((layout : Layout) → ¬ (BlockTells geometry.now block.old layout))) }
 {
     match open_record(block) {
         Some(view) => read_table(alloc, geometry, &view),
@@ -56,12 +56,12 @@ fn find_at<D: Disk>(
 ) -> Result<Table, TableNo>
     requires { FitsDisk geometry.now (D.size (disk_of D.Disk stage.old)) }
     ensures geometry { IfOk result (λ table. table.geometry ≡ geometry.now) }
-    ensures ok { IfOk result (λ table. (all boot : List ℕ) → image D.Disk stage.old ≡ Some all → geometry.now ≡ geometry_of boot
-        → MeetsTableClause (sector_in (Some all)) boot (layout_of table)) }
+    ensures ok { IfOk result (λ table. WhereTold (image D.Disk stage.old) (λ all. (boot : List ℕ) → geometry.now ≡ geometry_of boot
+        → MeetsTableClause (sector_in (Some all)) boot (layout_of table))) }
     ensures lies { IfOk result (λ table. LiesOn (D.size (disk_of D.Disk stage.old)) (layout_of table)) }
     ensures records { IfOk result (λ table. 24 ≤ table.count) }
-    ensures err { IfErr result (λ no. (all boot : List ℕ) → image D.Disk stage.old ≡ Some all → geometry.now ≡ geometry_of boot
-        → RefusesAt (sector_in (Some all)) boot no) }
+    ensures err { IfErr result (λ no. WhereTold (image D.Disk stage.old) (λ all. (boot : List ℕ) → geometry.now ≡ geometry_of boot
+        → RefusesAt (sector_in (Some all)) boot no)) }
     ensures reads { StageReads D.Disk stage.old stage.new 2 }
     ensures faults { MatchResult result (λ _. D.faults (disk_of D.Disk stage.new) ≡ D.faults (disk_of D.Disk stage.old))
         (CountsNo (D.faults (disk_of D.Disk stage.old)) (D.faults (disk_of D.Disk stage.new))) }
@@ -85,11 +85,11 @@ fn find_at<D: Disk>(
 /// `Boot` where the boot clause of the volume definition fails, with the first test that does; `Table`
 /// where the boot clause holds and the table clause fails; `Device` where the disk failed.
 pub fn find_table<D: Disk>(alloc: Global, stage: &mut Stage<'_, D>) -> Result<Table, TableNo>
-    ensures ok { IfOk result (λ table. (all : List ℕ) → image D.Disk stage.old ≡ Some all → HasTableOf all table) }
+    ensures ok { IfOk result (λ table. WhereTold (image D.Disk stage.old) (λ all. IsFoundIn all table)) }
     ensures fits { IfOk result (λ table. FitsDisk table.geometry (D.size (disk_of D.Disk stage.old))) }
     ensures lies { IfOk result (λ table. LiesOn (D.size (disk_of D.Disk stage.old)) (layout_of table)) }
     ensures records { IfOk result (λ table. 24 ≤ table.count) }
-    ensures err { IfErr result (λ no. (all : List ℕ) → image D.Disk stage.old ≡ Some all → Refuses all no) }
+    ensures err { IfErr result (λ no. WhereTold (image D.Disk stage.old) (λ all. Refuses all no)) }
     ensures reads { StageReads D.Disk stage.old stage.new 3 }
     ensures faults { MatchResult result (λ _. D.faults (disk_of D.Disk stage.new) ≡ D.faults (disk_of D.Disk stage.old))
         (CountsNo (D.faults (disk_of D.Disk stage.old)) (D.faults (disk_of D.Disk stage.new))) }

@@ -8,6 +8,7 @@ ghost use Rattle.ntfs_boot.specs.Geometry.{FitsDisk, HasClusterSize, geometry_of
 #[cfg(test)]
 mod tests;
 
+use ntfs_def::lengths::SECTOR;
 use thiserror::Error;
 use vol_bytes::{u16_at, u64_at};
 
@@ -111,7 +112,7 @@ impl Geometry {
         let cluster_sectors = boot[0x0D];
         let sectors = u64_at(boot, 0x28);
         Geometry {
-            cluster: 512 * cluster_sectors as u32,
+            cluster: SECTOR as u32 * cluster_sectors as u32,
             sectors,
             clusters: sectors / cluster_sectors as u64,
             mft: u64_at(boot, 0x30),
@@ -133,7 +134,7 @@ impl Geometry {
         if !is_ntfs(boot) {
             return Err(BootFault::NotNtfs);
         }
-        if u16_at(boot, 0x0B) != 512 {
+        if u16_at(boot, 0x0B) as usize != SECTOR {
             return Err(BootFault::SectorSize);
         }
         if !has_cluster_size(boot) {

@@ -4,7 +4,7 @@ use Rattle.std.proofs.lemmas.Grind.{same_number_lists}
 use Rattle.std.proofs.lemmas.Bool.{cases_Bool}
 use Rattle.std.specs.Prelude.{slice_range}
 use Rattle.vol_bytes.specs.Field.{u16_at, u32_at, u64_at}
-use Rattle.ntfs_def.specs.Attribute.{Attribute, Body, Extent, Resident, NonResident, attribute_at, attribute_kind, attribute_len, attribute_flags, body_at, compressed_len, extent_at, sizes_at, is_resident, is_compressed_or_sparse, name_bytes, name_offset, name_units, name_end, content_bytes, content_offset, content_end, header_len, first_vcn, has_compressed_len, part_of}
+use Rattle.ntfs_def.specs.Attribute.{Attribute, Body, Extent, Resident, NonResident, attribute_at, attribute_kind, attribute_len, attribute_flags, body_at, compressed_len, extent_at, sizes_at, is_resident, is_compressed_or_sparse, name_bytes, name_offset, name_units, name_end, content_bytes, content_offset, content_end, header_len, first_vcn, has_compressed_len, bytes_between}
 use Rattle.ntfs_def.specs.declared.sizes.Sizes.{Sizes}
 use Rattle.ntfs_def.specs.Moved.{Moved}
 use Rattle.ntfs_def.specs.Shape.{IsWhole}
@@ -200,7 +200,7 @@ module _ (a b : List ℕ) (from to : ℕ) (w : IsWhole a from) (m : Moved a b fr
         ∙ sym (ap (λ r. cond r (Resident (content_bytes a from)) (NonResident (extent_at a from) (content_bytes a from))) f)
   ]
 
-  bytes-moved : part_of b to 0 (attribute_len b to) ≡ part_of a from 0 (attribute_len a from)
+  bytes-moved : bytes_between b to 0 (attribute_len b to) ≡ bytes_between a from 0 (attribute_len a from)
   bytes-moved = range-moved a b from to _ (from + 0) (from + attribute_len a from) (to + 0) (to + attribute_len b to)
       (attribute_len a from) m
       (omega arith) (omega arith) (omega arith) (omega arith) (omega (arith, attribute_len-moved))

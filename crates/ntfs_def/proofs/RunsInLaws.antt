@@ -3,7 +3,7 @@ use Rattle.std.proofs.Common.{◌≡◌, inl, inr, ℕ, zero, suc, ◌+◌, ◌<
 use Rattle.std.specs.Int.{int_gap}
 use Rattle.std.specs.Option.{option_map, is_none}
 use Rattle.ntfs_def.specs.declared.run_text.Run.{Run}
-use Rattle.ntfs_def.specs.Runs.{is_ended, run_width, run_length, run_place, RunRule, rule_broken, is_above_zero, BeginsWith, place_after, MeansFrom, MeansRuns, BreaksAfter, FirstBadRun, first_run, runs_from, runs_in}
+use Rattle.ntfs_def.specs.Runs.{is_ended, run_width, run_length, run_place, RunRule, rule_broken, is_not_below_zero, BeginsWith, place_after, MeansFrom, MeansRuns, BreaksAfter, FirstBadRun, first_run, runs_from, runs_in}
 use Rattle.ntfs_def.proofs.RunLaws.{rule_broken-none, BeginsWith-exact}
 use Rattle.ntfs_def.proofs.RunTotality.{means_or_breaks}
 
@@ -11,7 +11,7 @@ gap_back : (n : ℕ) → int_gap (pos 0) (pos n) ≡ n
 gap_back n = grind (arith)
 
 -- a place that is not below 0 is a number
-place_back : (place : Option ℤ) → is_above_zero place ≡ true → option_map pos (option_map (int_gap (pos 0)) place) ≡ place
+place_back : (place : Option ℤ) → is_not_below_zero place ≡ true → option_map pos (option_map (int_gap (pos 0)) place) ≡ place
 place_back None h = refl
 place_back (Some (pos n)) h = ap (λ k. Some (pos k)) (gap_back n)
 place_back (Some (negsuc n)) h = absurd (cc)
@@ -22,7 +22,7 @@ BeginsWith-first_run text last total on good = record {
   goes_on = on;
   good = good;
   len = refl;
-  place = place_back (run_place text last) (rule_broken-none text last total good).above_zero;
+  place = place_back (run_place text last) (rule_broken-none text last total good).not_below_zero;
 }
 
 -- what stands behind the first run

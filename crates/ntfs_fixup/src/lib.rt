@@ -19,7 +19,7 @@ use vol_bytes::{put_u16, u16_at};
 const STRIDE: usize = 512;
 
 /// The place of the last two bytes of a stride in it.
-const END: usize = 510;
+const STRIDE_END: usize = 510;
 
 /// Why a block does not open.
 #[derive(Clone, Copy, Debug, PartialEq, Eq, Error)]
@@ -41,7 +41,7 @@ fn has_array(block: &[u8]) -> bool
     }
     let place = u16_at(block, 0x04) as usize;
     let count = u16_at(block, 0x06) as usize;
-    count == block.len() / STRIDE + 1 && place >= 8 && place + 2 * count <= END
+    count == block.len() / STRIDE + 1 && place >= 8 && place + 2 * count <= STRIDE_END
 }
 
 fn first_torn(block: &[u8]) -> Option<usize>
@@ -51,7 +51,7 @@ fn first_torn(block: &[u8]) -> Option<usize>
     let place = u16_at(block, 0x04) as usize;
     let number = u16_at(block, place);
     for stride in 0..block.len() / STRIDE {
-        if u16_at(block, STRIDE * stride + END) != number {
+        if u16_at(block, STRIDE * stride + STRIDE_END) != number {
             return Some(stride);
         }
     }
@@ -67,8 +67,8 @@ fn restore(block: &mut [u8])
     let strides = block.len() / STRIDE;
     for stride in 0..strides {
         let pair = place + 2 * (stride + 1);
-        block[STRIDE * stride + END] = block[pair];
-        block[STRIDE * stride + END + 1] = block[pair + 1];
+        block[STRIDE * stride + STRIDE_END] = block[pair];
+        block[STRIDE * stride + STRIDE_END + 1] = block[pair + 1];
     }
 }
 
@@ -111,9 +111,9 @@ fn mark(block: &mut [u8], place: usize, number: u16)
     let strides = block.len() / STRIDE;
     for stride in 0..strides {
         let pair = place + 2 * (stride + 1);
-        block[pair] = block[STRIDE * stride + END];
-        block[pair + 1] = block[STRIDE * stride + END + 1];
-        put_u16(block, STRIDE * stride + END, number);
+        block[pair] = block[STRIDE * stride + STRIDE_END];
+        block[pair + 1] = block[STRIDE * stride + STRIDE_END + 1];
+        put_u16(block, STRIDE * stride + STRIDE_END, number);
     }
 }
 

@@ -1,5 +1,6 @@
 -- How a word that only reads is answered: by lines, or by the line that refuses the volume.
 use Rattle.std.specs.Prelude.{◌≡◌, ℕ, List, Option, Some}
+use Rattle.vol_disk.specs.Contents.{WhereTold}
 use Rattle.vol_disk.specs.Stream.{Appended, AppendedPart}
 use Rattle.ntfs_shell.specs.declared.ending.Ending.{Ending}
 use Rattle.ntfs_shell.specs.declared.ending.Ending.TheVariants as ending
@@ -49,7 +50,7 @@ Reported IsReport ending.TooMuch old new = ⊥
 pub record ReportEnds (Reports : List ℕ → Report → Type 0) (ending : Ending) (old new : World) : Type 0 where
   pub causes : Blames ending old new
   pub only_reads : OnlyReads old new
-  pub reported : Reported (λ report. (image : List ℕ) → old.now ≡ Some image → Reports image report) ending old new
+  pub reported : Reported (λ report. WhereTold old.now (λ image. Reports image report)) ending old new
 
 -- the status is that of such an ending
 abbrev pub AnswersReport : (List ℕ → Report → Type 0) → World → ℕ → World → Type 0

@@ -1,5 +1,6 @@
 //! The word `boot`: the geometry of the volume.
 ghost use Rattle.std.specs.Prelude.{◌≡◌, ◌≢◌, ◌+◌, ◌≤◌, ℕ, List, Some, IfOk};
+ghost use Rattle.vol_disk.specs.Contents.{WhereTold};
 ghost use Rattle.vol_disk.specs.Count.{CountsFault};
 ghost use Rattle.vol_disk.specs.Reading.{DiskReads};
 ghost use Rattle.ntfs_def.specs.Boot.{boot_failing};
@@ -43,8 +44,7 @@ fn report_sector(sector: &[u8; 512], sectors: u64) -> Answer
 
 // What the image says.
 fn report_image<D: Disk>(stage: &mut Stage<'_, D>) -> Result<Answer, StageNo>
-    ensures report { IfOk result (λ answer. (all : List ℕ) → image D.Disk stage.old ≡ Some all
-        → BootReports all (report_of answer)) }
+    ensures report { IfOk result (λ answer. WhereTold (image D.Disk stage.old) (λ all. BootReports all (report_of answer))) }
     ensures reads { StageReads D.Disk stage.old stage.new 1 }
     ensures faults { CountsFault result (D.faults (disk_of D.Disk stage.old)) (D.faults (disk_of D.Disk stage.new)) }
 {
@@ -54,7 +54,7 @@ fn report_image<D: Disk>(stage: &mut Stage<'_, D>) -> Result<Answer, StageNo>
 
 // What the disk says.
 fn report_boot<D: Disk>(alloc: Global, disk: &mut D) -> Result<Answer, StageNo>
-    ensures report { IfOk result (λ answer. (all : List ℕ) → D.now disk.old ≡ Some all → BootReports all (report_of answer)) }
+    ensures report { IfOk result (λ answer. WhereTold (D.now disk.old) (λ all. BootReports all (report_of answer))) }
     ensures reads { DiskReads D.Disk disk.old disk.new 1 }
     ensures faults { CountsFault result (D.faults disk.old) (D.faults disk.new) }
 {

@@ -1,5 +1,6 @@
 //! The word `label`: the name and the version of the volume.
 ghost use Rattle.std.specs.Prelude.{◌≡◌, ℕ, List, Some, IfErr, IfOk, MatchResult, OnOk, ◌+◌, ◌≤◌};
+ghost use Rattle.vol_disk.specs.Contents.{WhereTold};
 ghost use Rattle.vol_disk.specs.Reading.{DiskReads};
 ghost use Rattle.vol_stage.specs.Staged.{StageReads, disk_of, image};
 ghost use Rattle.mft_table.specs.TableNos.{CountsNo, Refuses};
@@ -30,8 +31,8 @@ fn read_volume_record<D: Disk>(
     stage: &mut Stage<'_, D>,
     into: &mut [u8; 1024],
 ) -> Result<(), TableNo>
-    ensures ok { OnOk result ((all : List ℕ) → image D.Disk stage.old ≡ Some all → HasVolumeRecord all into.new) }
-    ensures err { IfErr result (λ no. (all : List ℕ) → image D.Disk stage.old ≡ Some all → Refuses all no) }
+    ensures ok { OnOk result (WhereTold (image D.Disk stage.old) (λ all. HasVolumeRecord all into.new)) }
+    ensures err { IfErr result (λ no. WhereTold (image D.Disk stage.old) (λ all. Refuses all no)) }
     ensures reads { StageReads D.Disk stage.old stage.new 5 }
     ensures faults { MatchResult result (λ _. D.faults (disk_of D.Disk stage.new) ≡ D.faults (disk_of D.Disk stage.old))
         (CountsNo (D.faults (disk_of D.Disk stage.old)) (D.faults (disk_of D.Disk stage.new))) }
@@ -65,8 +66,7 @@ fn report_no_table(no: TableNo) -> Result<Answer, Stop>
 
 // What the image says.
 fn report_image<D: Disk>(alloc: Global, stage: &mut Stage<'_, D>) -> Result<Answer, Stop>
-    ensures report { IfOk result (λ answer. (all : List ℕ) → image D.Disk stage.old ≡ Some all
-        → LabelReports all (report_of answer)) }
+    ensures report { IfOk result (λ answer. WhereTold (image D.Disk stage.old) (λ all. LabelReports all (report_of answer))) }
     ensures reads { StageReads D.Disk stage.old stage.new 5 }
     ensures faults { MatchResult result (λ _. D.faults (disk_of D.Disk stage.new) ≡ D.faults (disk_of D.Disk stage.old))
         (Stops (D.faults (disk_of D.Disk stage.old)) (D.faults (disk_of D.Disk stage.new))) }
@@ -80,7 +80,7 @@ fn report_image<D: Disk>(alloc: Global, stage: &mut Stage<'_, D>) -> Result<Answ
 
 // What the disk says.
 fn report_label<D: Disk>(alloc: Global, disk: &mut D) -> Result<Answer, Stop>
-    ensures report { IfOk result (λ answer. (all : List ℕ) → D.now disk.old ≡ Some all → LabelReports all (report_of answer)) }
+    ensures report { IfOk result (λ answer. WhereTold (D.now disk.old) (λ all. LabelReports all (report_of answer))) }
     ensures reads { DiskReads D.Disk disk.old disk.new 5 }
     ensures faults { MatchResult result (λ _. D.faults disk.new ≡ D.faults disk.old) (Stops (D.faults disk.old) (D.faults disk.new)) }
 {

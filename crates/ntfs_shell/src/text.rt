@@ -7,6 +7,7 @@ use crate::refusal::Refusal;
 use arrayvec::ArrayVec;
 use byteorder::{BigEndian, ByteOrder};
 use ntfs_boot::Geometry;
+use ntfs_def::lengths::{RECORD, SECTOR};
 
 /// The lines of one answer.
 pub type Text = ArrayVec<u8, 256>;
@@ -55,13 +56,13 @@ pub fn geometry_text(geometry: &Geometry) -> Text
     ensures { result.items ≡ geometry_text geometry.now }
 {
     let mut text = Text::new();
-    add_number(&mut text, b"sector", 512);
+    add_number(&mut text, b"sector", SECTOR as u64);
     add_number(&mut text, b"cluster", u64::from(geometry.cluster));
     add_number(&mut text, b"sectors", geometry.sectors);
     add_number(&mut text, b"clusters", geometry.clusters);
     add_number(&mut text, b"mft", geometry.mft);
     add_number(&mut text, b"mirror", geometry.mirror);
-    add_number(&mut text, b"record", 1024);
+    add_number(&mut text, b"record", RECORD as u64);
     add_number(&mut text, b"index", 4096);
     add_line(&mut text, b"serial", &hexadecimal(geometry.serial));
     text

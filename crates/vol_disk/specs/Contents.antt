@@ -18,8 +18,13 @@ map_told f (Some x) = Some (f x)
 abbrev pub Writes : Option (List ℕ) → Option (List ℕ) → ℕ → List ℕ → Type 0
 Writes old new sector bytes = new ≡ map_told (λ all. with_sector all sector bytes) old
 
+-- The contents are told. It is the premise of what is claimed of single sectors ..
 abbrev pub IsTold : {A : Type 0} → Option A → Type 0
 IsTold contents = IsTrue (is_some contents)
+
+-- .. and this is what is claimed of the contents as a whole, where they are told.
+abbrev pub WhereTold : {A : Type 0} → Option A → (A → Type 0) → Type 0
+WhereTold {A = A} told P = (contents : A) → told ≡ Some contents → P contents
 
 -- one sector, where the contents are told; empty where they are not, and past their end
 unfoldable pub sector_in : Option (List ℕ) → ℕ → List ℕ

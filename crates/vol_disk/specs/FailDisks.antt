@@ -21,8 +21,8 @@ abbrev pub made_by : {D : Type 0} → FailDisk D → Calls
 made_by disk = disk.calls
 
 -- the calls that failed, and the others
-abbrev pub counts_of : {D : Type 0} → FailDisk D → Counts
-counts_of disk = disk.counts
+abbrev pub outer_counts : {D : Type 0} → FailDisk D → Counts
+outer_counts disk = disk.counts
 
 -- the entry that lets the next call of a kind fail, if there is one
 abbrev pub next_fail : {D : Type 0} → FailDisk D → CallKind → Option Fail

@@ -8,8 +8,8 @@ abbrev pub sectors_of : FileDisk → ℕ
 sectors_of disk = disk.sectors
 
 -- the calls that failed, and the others
-abbrev pub counts_of : FileDisk → Counts
-counts_of disk = disk.counts
+abbrev pub file_counts : FileDisk → Counts
+file_counts disk = disk.counts
 
 -- nothing was written since the file was last synchronised
 abbrev pub is_synced_of : FileDisk → Bool

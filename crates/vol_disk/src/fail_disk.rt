@@ -90,7 +90,7 @@ pub struct FailDisk<D: Disk> {
 }
 
 impl<D: Disk> FailDisk<D> {
-    ghost use Rattle.vol_disk.specs.FailDisks.{inner_of, fails_of, next_fail, made_by, counts_of};
+    ghost use Rattle.vol_disk.specs.FailDisks.{inner_of, fails_of, next_fail, made_by, outer_counts};
     ghost use Rattle.vol_disk.specs.Plan.{calls_of, calls_with};
     ghost use Rattle.vol_disk.specs.declared.fail_disk.CallKind.{CallKind};
 
@@ -141,7 +141,7 @@ impl<D: Disk> FailDisk<D> {
 
 impl<D: Disk> Disk for FailDisk<D> {
     ghost use Rattle.vol_disk.specs.Counting.{after_call, after_read, after_write};
-    ghost use Rattle.vol_disk.specs.FailDisks.{inner_of, next_fail, counts_of, Makes};
+    ghost use Rattle.vol_disk.specs.FailDisks.{inner_of, next_fail, outer_counts, Makes};
     ghost use Rattle.vol_disk.specs.Reading.{DiskReads};
 
     ghost now = { λ disk. D.Disk.now disk.inner };
@@ -182,9 +182,9 @@ impl<D: Disk> Disk for FailDisk<D> {
             into.new ≡ sector_in (D.now (inner_of self.old)) sector) }
         ensures kept { OnErr result (into.new ≡ into.old) }
         ensures reads { DiskReads D.Disk (inner_of self.old) (inner_of self.new) 1 }
-        ensures counts { counts_of self.new ≡ after_read (is_ok result) (counts_of self.old) }
-        ensures fetched { (counts_of self.old).fetched ≤ (counts_of self.new).fetched }
-        ensures faults { (counts_of self.old).faults ≤ (counts_of self.new).faults }
+        ensures counts { outer_counts self.new ≡ after_read (is_ok result) (outer_counts self.old) }
+        ensures fetched { (outer_counts self.old).fetched ≤ (outer_counts self.new).fetched }
+        ensures faults { (outer_counts self.old).faults ≤ (outer_counts self.new).faults }
     {
         self.counts.fetch();
         if self.next(CallKind::Read).is_some() || self.inner.read(sector, into).is_err() {
@@ -224,10 +224,10 @@ impl<D: Disk> Disk for FailDisk<D> {
         ensures late_once { D.late (inner_of self.new) ≤ D.late (inner_of self.old) + 1 }
         ensures on_time { D.faults (inner_of self.old) ≡ 0 → D.late (inner_of self.new) ≡ D.late (inner_of self.old) }
         ensures fetched { D.fetched (inner_of self.new) ≡ D.fetched (inner_of self.old) }
-        ensures counts { counts_of self.new ≡ after_write (is_ok result) (counts_of self.old) }
-        ensures rises { ((counts_of self.old).written ≤ (counts_of self.new).written)
-            × ((counts_of self.old).late ≤ (counts_of self.new).late) }
-        ensures faults { (counts_of self.old).faults ≤ (counts_of self.new).faults }
+        ensures counts { outer_counts self.new ≡ after_write (is_ok result) (outer_counts self.old) }
+        ensures rises { ((outer_counts self.old).written ≤ (outer_counts self.new).written)
+            × ((outer_counts self.old).late ≤ (outer_counts self.new).late) }
+        ensures faults { (outer_counts self.old).faults ≤ (outer_counts self.new).faults }
     {
         self.counts.begin_write();
         match self.next(CallKind::Write) {
@@ -263,8 +263,8 @@ impl<D: Disk> Disk for FailDisk<D> {
         ensures size { D.size (inner_of self.new) ≡ D.size (inner_of self.old) }
         ensures written { D.written (inner_of self.new) ≡ D.written (inner_of self.old) }
         ensures fetched { D.fetched (inner_of self.new) ≡ D.fetched (inner_of self.old) }
-        ensures counts { counts_of self.new ≡ after_call (is_ok result) (counts_of self.old) }
-        ensures faults { (counts_of self.old).faults ≤ (counts_of self.new).faults }
+        ensures counts { outer_counts self.new ≡ after_call (is_ok result) (outer_counts self.old) }
+        ensures faults { (outer_counts self.old).faults ≤ (outer_counts self.new).faults }
     {
         if self.next(CallKind::Barrier).is_some() || self.inner.barrier().is_err() {
             return Err(self.counts.fail());
@@ -289,8 +289,8 @@ impl<D: Disk> Disk for FailDisk<D> {
         ensures size { D.size (inner_of self.new) ≡ D.size (inner_of self.old) }
         ensures written { D.written (inner_of self.new) ≡ D.written (inner_of self.old) }
         ensures fetched { D.fetched (inner_of self.new) ≡ D.fetched (inner_of self.old) }
-        ensures counts { counts_of self.new ≡ after_call (is_ok result) (counts_of self.old) }
-        ensures faults { (counts_of self.old).faults ≤ (counts_of self.new).faults }
+        ensures counts { outer_counts self.new ≡ after_call (is_ok result) (outer_counts self.old) }
+        ensures faults { (outer_counts self.old).faults ≤ (outer_counts self.new).faults }
     {
         if self.next(CallKind::Settle).is_some() || self.inner.settle().is_err() {
             return Err(self.counts.fail());

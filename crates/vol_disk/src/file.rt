@@ -73,7 +73,7 @@ fn offset_of(sector: u64) -> u64
 
 impl Disk for FileDisk {
     ghost use Rattle.vol_disk.specs.Counting.{after_read, after_write};
-    ghost use Rattle.vol_disk.specs.FileDisks.{counts_of, is_synced_of, sectors_of};
+    ghost use Rattle.vol_disk.specs.FileDisks.{file_counts, is_synced_of, sectors_of};
 
     ghost now = { λ _. None };
 
@@ -104,9 +104,9 @@ impl Disk for FileDisk {
         ensures size { sectors_of self.new ≡ sectors_of self.old }
         ensures kept { OnErr result (into.new ≡ into.old) }
         ensures synced { is_synced_of self.new ≡ is_synced_of self.old }
-        ensures counts { counts_of self.new ≡ after_read (is_ok result) (counts_of self.old) }
-        ensures fetched { (counts_of self.old).fetched ≤ (counts_of self.new).fetched }
-        ensures faults { (counts_of self.old).faults ≤ (counts_of self.new).faults }
+        ensures counts { file_counts self.new ≡ after_read (is_ok result) (file_counts self.old) }
+        ensures fetched { (file_counts self.old).fetched ≤ (file_counts self.new).fetched }
+        ensures faults { (file_counts self.old).faults ≤ (file_counts self.new).faults }
     {
         self.counts.fetch();
         let mut bytes = [0; SECTOR];
@@ -123,10 +123,10 @@ impl Disk for FileDisk {
         requires { sector < sectors_of self.old }
         ensures size { sectors_of self.new ≡ sectors_of self.old }
         ensures unsynced { IsFalse (is_synced_of self.new) }
-        ensures counts { counts_of self.new ≡ after_write (is_ok result) (counts_of self.old) }
-        ensures rises { ((counts_of self.old).written ≤ (counts_of self.new).written)
-            × ((counts_of self.old).late ≤ (counts_of self.new).late) }
-        ensures faults { (counts_of self.old).faults ≤ (counts_of self.new).faults }
+        ensures counts { file_counts self.new ≡ after_write (is_ok result) (file_counts self.old) }
+        ensures rises { ((file_counts self.old).written ≤ (file_counts self.new).written)
+            × ((file_counts self.old).late ≤ (file_counts self.new).late) }
+        ensures faults { (file_counts self.old).faults ≤ (file_counts self.new).faults }
     {
         self.counts.begin_write();
         self.is_synced = false;
@@ -145,8 +145,8 @@ impl Disk for FileDisk {
         ensures unsynced { OnErr result (is_synced_of self.new ≡ is_synced_of self.old) }
         ensures idle { IsTrue (is_synced_of self.old) → IsOk result }
         ensures size { sectors_of self.new ≡ sectors_of self.old }
-        ensures counts { counts_of self.new ≡ after_call (is_ok result) (counts_of self.old) }
-        ensures faults { (counts_of self.old).faults ≤ (counts_of self.new).faults }
+        ensures counts { file_counts self.new ≡ after_call (is_ok result) (file_counts self.old) }
+        ensures faults { (file_counts self.old).faults ≤ (file_counts self.new).faults }
     {
         self.sync()
     }
@@ -157,8 +157,8 @@ impl Disk for FileDisk {
         ensures unsynced { OnErr result (is_synced_of self.new ≡ is_synced_of self.old) }
         ensures idle { IsTrue (is_synced_of self.old) → IsOk result }
         ensures size { sectors_of self.new ≡ sectors_of self.old }
-        ensures counts { counts_of self.new ≡ after_call (is_ok result) (counts_of self.old) }
-        ensures faults { (counts_of self.old).faults ≤ (counts_of self.new).faults }
+        ensures counts { file_counts self.new ≡ after_call (is_ok result) (file_counts self.old) }
+        ensures faults { (file_counts self.old).faults ≤ (file_counts self.new).faults }
     {
         self.sync()
     }

@@ -246,7 +246,8 @@ impl Disk for MemDisk {
         ensures fails { IsErr result ↔ ((parts_of self.old).room ≡ 0) }
         ensures ok { OnOk result
             (parts_of self.new ≡ with_write (parts_of self.old) (record { sector = sector; bytes = from.now })) }
-        ensures full { OnErr result (parts_of self.new ≡ record (parts_of self.old) { counts = after_write false (parts_of self.old).counts }) }
+        ensures full { OnErr result
+            (parts_of self.new ≡ record (parts_of self.old) { counts = after_write false (parts_of self.old).counts }) }
         ensures faults { (parts_of self.old).counts.faults ≤ (parts_of self.new).counts.faults }
 
         ensures size { (parts_of self.new).sectors ≡ (parts_of self.old).sectors }
@@ -283,7 +284,8 @@ impl Disk for MemDisk {
     fn settle(&mut self) -> Result<(), Failed>
         ensures fails { IsErr result ↔ ((parts_of self.old).room ≡ 0) }
         ensures ok { OnOk result (parts_of self.new ≡ with_settle (parts_of self.old)) }
-        ensures full { OnErr result (parts_of self.new ≡ record (parts_of self.old) { counts = after_call false (parts_of self.old).counts }) }
+        ensures full { OnErr result
+            (parts_of self.new ≡ record (parts_of self.old) { counts = after_call false (parts_of self.old).counts }) }
         ensures faults { (parts_of self.old).counts.faults ≤ (parts_of self.new).counts.faults }
 
         ensures size { (parts_of self.new).sectors ≡ (parts_of self.old).sectors }

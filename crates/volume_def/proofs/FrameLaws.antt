@@ -7,7 +7,7 @@ use Rattle.std.proofs.lemmas.Nat.{div-mul-add, mul-add-lt}
 use Rattle.std.proofs.lemmas.List.{drop-drop, drop_at, length-take, take_at}
 use Rattle.std.proofs.Math.ListN.{take-append-drop}
 use Rattle.volume_def.specs.Blocks.{block_of, cluster_of, copy_of, mirror_sector, table_place}
-use Rattle.volume_def.specs.Owners.{IsOutside, IsPlaced, times_in}
+use Rattle.volume_def.specs.Owners.{IsOutsideTable, IsPlaced, times_in}
 use Rattle.volume_def.specs.Table.{Layout}
 use Rattle.volume_def.specs.View.{ReplacesBlock, ReplacesPiece, WritesOne, WritesTwo, piece_of, view_of}
 use Rattle.volume_def.proofs.BlockLaws.{block_of-same, block_of-whole, cluster_of-same, copy_of-same, sector-below, table_place-below, table_place-once, table_place-times}
@@ -39,7 +39,7 @@ module _ (told : Bool) (old new : ℕ → List ℕ) (layout : Layout) (n low hig
       let z : times_in layout.runs (high / layout.cluster_sectors) ≡ 0 = rw s at (is.mirror k (omega arith)) in
       absurd (omega arith)))
 
-  pub clusters-written : (c : ℕ) → IsOutside layout c → cluster_of new layout c ≡ cluster_of old layout c
+  pub clusters-written : (c : ℕ) → IsOutsideTable layout c → cluster_of new layout c ≡ cluster_of old layout c
   clusters-written c out = cluster_of-same old new layout c (λ place in_c. w.others place
       (λ (s : place ≡ low).
       let x = table_place-times layout (2 * n) low is.some e in
@@ -99,7 +99,7 @@ module _ (told : Bool) (old new : ℕ → List ℕ) (layout : Layout) (n : ℕ) 
   copies-copied m other =
       copy_of-same old new layout m (λ k half. w.others (mirror_sector layout + k) (λ s. other (omega arith)) (λ s. other (omega arith)))
 
-  pub clusters-copied : (c : ℕ) → IsOutside layout c → cluster_of new layout c ≡ cluster_of old layout c
+  pub clusters-copied : (c : ℕ) → IsOutsideTable layout c → cluster_of new layout c ≡ cluster_of old layout c
   clusters-copied c out = cluster_of-same old new layout c (λ place in_c. w.others place
       (λ (s : place ≡ mirror_sector layout + 2 * n).
       out.mirror (2 * n) (omega arith) (ap (λ q. q / layout.cluster_sectors) (sym s) ∙ in_c))
@@ -169,7 +169,7 @@ piece_of-cluster disk layout c j long lt =
     ∙ ap (λ i. disk (c * per + i)) z
 
 -- one sector of a cluster was written
-module _ (told : Bool) (old new : ℕ → List ℕ) (layout : Layout) (c j : ℕ) (bytes : List ℕ) (is : IsPlaced layout) (out : IsOutside layout c)
+module _ (told : Bool) (old new : ℕ → List ℕ) (layout : Layout) (c j : ℕ) (bytes : List ℕ) (is : IsPlaced layout) (out : IsOutsideTable layout c)
     (on : c < layout.clusters) (lt : j < layout.cluster_sectors) (w : WritesOne told old new (c * layout.cluster_sectors + j) bytes) where
   of_c : (c * layout.cluster_sectors + j) / layout.cluster_sectors ≡ c
   of_c = div-mul-add c layout.cluster_sectors j lt

@@ -34,6 +34,6 @@ pub record IsPlaced (layout : Layout) : Type 0 where
   pub mirror : (sector : ℕ) → sector < 8 → times_in layout.runs (mirror_at layout sector) ≡ 0
 
 -- The cluster lies neither in the table nor in its mirror.
-pub record IsOutside (layout : Layout) (cluster : ℕ) : Type 0 where
+pub record IsOutsideTable (layout : Layout) (cluster : ℕ) : Type 0 where
   pub table : times_in layout.runs cluster ≡ 0
   pub mirror : (sector : ℕ) → sector < 8 → mirror_at layout sector ≢ cluster

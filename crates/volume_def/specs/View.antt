@@ -2,10 +2,10 @@
 -- that belong to no cluster, each as a function of its number. No crate above speaks of sectors otherwise.
 use Rattle.std.specs.Prelude.{◌≡◌, ◌≢◌, ℕ, ◌+◌, ◌*◌, ◌<◌, List, take, drop, slice_range, Bool, IsTrue}
 use Rattle.volume_def.specs.Blocks.{block_of, cluster_of, copy_of}
-use Rattle.volume_def.specs.Owners.{IsOutside}
+use Rattle.volume_def.specs.Owners.{IsOutsideTable}
 use Rattle.volume_def.specs.Table.{Layout}
 
-pub record View : Type 0 where
+pub record VolumeView : Type 0 where
   -- whether the contents are told; where they are not, nothing below says anything
   pub told : Bool
   pub layout : Layout
@@ -16,7 +16,7 @@ pub record View : Type 0 where
   pub rest : ℕ → List ℕ
 
 -- the view of a disk, with this layout of the table
-abbrev pub view_of : Bool → (ℕ → List ℕ) → Layout → View
+abbrev pub view_of : Bool → (ℕ → List ℕ) → Layout → VolumeView
 view_of told disk layout = record {
   told = told;
   layout = layout;
@@ -39,14 +39,14 @@ pub record WritesOne (told : Bool) (old new : ℕ → List ℕ) (at : ℕ) (byte
 
 -- Block n was replaced, with its copy where it has one; other blocks and copies, all clusters outside, and the sectors
 -- that belong to no cluster stay.
-pub record ReplacesBlock (old new : View) (n : ℕ) (stored : List ℕ) : Type 0 where
+pub record ReplacesBlock (old new : VolumeView) (n : ℕ) (stored : List ℕ) : Type 0 where
   pub told : new.told ≡ old.told
   pub layout : new.layout ≡ old.layout
   pub block : IsTrue old.told → new.block n ≡ stored
   pub blocks : (m : ℕ) → m ≢ n → new.block m ≡ old.block m
   pub copy : IsTrue old.told → n < 4 → new.copy n ≡ stored
   pub copies : (m : ℕ) → m < 4 → m ≢ n → new.copy m ≡ old.copy m
-  pub clusters : (c : ℕ) → IsOutside old.layout c → new.cluster c ≡ old.cluster c
+  pub clusters : (c : ℕ) → IsOutsideTable old.layout c → new.cluster c ≡ old.cluster c
   pub rest : (k : ℕ) → new.rest k ≡ old.rest k
 
 -- the bytes of one sector of a cluster
@@ -55,7 +55,7 @@ piece_of bytes piece = slice_range bytes (512 * piece) (512 * piece + 512)
 
 -- One sector of cluster c was replaced; its other sectors, other clusters, all blocks and copies, and the sectors that
 -- belong to no cluster stay.
-pub record ReplacesPiece (old new : View) (c piece : ℕ) (bytes : List ℕ) : Type 0 where
+pub record ReplacesPiece (old new : VolumeView) (c piece : ℕ) (bytes : List ℕ) : Type 0 where
   pub told : new.told ≡ old.told
   pub layout : new.layout ≡ old.layout
   pub here : IsTrue old.told → piece_of (new.cluster c) piece ≡ bytes

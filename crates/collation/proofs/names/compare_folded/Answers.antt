@@ -4,12 +4,13 @@ use Rattle.std.proofs.lemmas.Iterator.{YieldsList-from_map, YieldsList-from_rang
 use Rattle.std.proofs.lemmas.Iterator.Consumers.{YieldsList-at}
 use Rattle.std.proofs.lemmas.Iterator.Search.{cmp_from_yields_List}
 use Rattle.vol_bytes.specs.Field.{u16_at}
-use Rattle.ntfs_def.specs.FileName.{key_units, unit_count}
+use Rattle.ntfs_def.specs.FileName.{unit_count}
+use Rattle.ntfs_def.specs.Units.{units_at}
 use Rattle.ntfs_def.specs.KeyOrder.{fold_of}
 use Rattle.collation.proofs.names.compare_folded.Goals as goal
 
 pub returns : goal.returns
-unfolding key_units
+unfolding units_at
 returns c =
     let a = c.args.a.now in
     let b = c.args.b.now in

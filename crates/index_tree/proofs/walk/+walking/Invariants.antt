@@ -1,7 +1,7 @@
 use Rattle.std.proofs.Common.{◌≡◌, ◌+◌, ◌*◌}
 use Rattle.ntfs_def.specs.IndexTree.{Each}
 use Rattle.ntfs_def.specs.Node.{IsOwnEntry}
-use Rattle.ntfs_def.specs.Told.{WhereTold}
+use Rattle.vol_disk.specs.Contents.{WhereTold}
 use Rattle.index_node.specs.View.{form_of_view, node_of_view}
 use Rattle.index_tree.specs.Search.{nodes_of}
 use Rattle.index_tree.proofs.WalkLaws.{CostsFront, WalksFront}

@@ -6,7 +6,7 @@ use Rattle.mft_table.proofs.TableLaws.{first_record-past, first_record-read, fir
 use Rattle.mft_table.proofs.volume.find_at.Goals as goal
 
 pub returns-then-sector-sectors-clause-err : goal.returns-then-sector-sectors-clause-err
-returns-then-sector-sectors-clause-err g c image boot told is layout clause =
+returns-then-sector-sectors-clause-err g c image told boot is layout clause =
     let size = c.sectors.result in
     let len = length-told _ image size c.sectors.ensures.length told in
     let place = ap (λ n. c.args.geometry.now.mft * n) c.from.ensures ∙ first_sector c.args.geometry.now boot is in
@@ -14,7 +14,7 @@ returns-then-sector-sectors-clause-err g c image boot told is layout clause =
     first_record-past image boot size len past clause.readable
 
 pub returns-in-Some-clause-ok : goal.returns-in-Some-clause-ok
-returns-in-Some-clause-ok g c image boot told is =
+returns-in-Some-clause-ok g c image told boot is =
     let (geometry, has) = rw c.in-Some.is at c.in_ok-table.ensures.some in
     let place = ap (λ n. c.args.geometry.now.mft * n) c.from.ensures in
     let read = first_record-read _ image _ boot c.args.geometry.now _ told c.in_ok-read_two_sectors.ensures.read place is in
@@ -26,7 +26,7 @@ returns-in-Some-clause-lies g c =
     lies_on c.args.geometry.now _ _ (layout_of c.in-Some.table) c.requires has.tells
 
 pub returns-in-None-clause-err : goal.returns-in-None-clause-err
-returns-in-None-clause-err g c image boot told is layout clause =
+returns-in-None-clause-err g c image told boot is layout clause =
     let none = rw c.in-None.is at c.in_ok-table.ensures.none in
     let place = ap (λ n. c.args.geometry.now.mft * n) c.from.ensures in
     let read = first_record-read _ image _ boot c.args.geometry.now _ told c.in_ok-read_two_sectors.ensures.read place is in
