@@ -13,6 +13,10 @@ pub record IsReadableVolume (view : VolumeView) : Type 0 where
   pub lists : (n : ℕ) → MeetsLists view n
   pub extents : (n : ℕ) → MeetsExtents (records_of view) (cluster_bytes view.layout) n
 
+-- what is claimed of a volume whose files can be read, where its contents are told
+abbrev pub WhereReadable : VolumeView → Type 0 → Type 0
+WhereReadable view P = IsTrue view.told → IsReadableVolume view → P
+
 -- Record f is in use, and a base record: there is a file of this number.
 abbrev pub IsFile : VolumeView → ℕ → Type 0
 IsFile view f = IsSomeAnd (record_at view f) (λ r. IsTrue (is_base r))

@@ -1,11 +1,11 @@
 -- Streams: what an attribute holds, over all its parts and byte by byte.
 -- Layout: Linux-NTFS documentation, "Attribute Headers"; Carrier, File System Forensic Analysis, chapter 11.
-use Rattle.std.specs.Prelude.{ℕ, ◌+◌, ◌-◌, ◌/◌, ◌%◌, ◌==◌, ◌&&◌, nat_lt, nat_le, Bool, List, [], find, map, slice_index, Option, Some, None, if◌then◌else◌}
+use Rattle.std.specs.Prelude.{ℕ, ◌+◌, ◌-◌, ◌/◌, ◌%◌, ◌==◌, ◌&&◌, nat_lt, nat_le, Bool, List, [], find, map, slice_index, Option, Some, None, if◌then◌else◌, unwrap_or}
 use Rattle.std.specs.List.{range_with_len}
 use Rattle.ntfs_def.specs.declared.run_text.Spot.{Spot}
 use Rattle.ntfs_def.specs.declared.run_text.Spot.TheVariants.{Outside, Hole, At}
 use Rattle.ntfs_def.specs.Runs.{spot_of}
-use Rattle.volume_def.specs.Files.{Clusters, Content, Part, Value, covered, placed_runs}
+use Rattle.volume_def.specs.Files.{Clusters, Content, Part, Value, covered, parts_like, placed_runs, value_in}
 use Rattle.volume_def.specs.Table.{cluster_bytes}
 use Rattle.volume_def.specs.View.{VolumeView}
 
@@ -68,3 +68,7 @@ value_of_parts cluster size extents = value_over cluster size extents (find is_f
 -- the value of an attribute of a volume, by its parts
 abbrev pub value_on : VolumeView → List Part → List ℕ
 value_on view extents = value_of_parts view.cluster (cluster_bytes view.layout) extents
+
+-- the value of the attribute that this part is of, among all parts of its file; a part with a value is all of it
+abbrev pub attribute_value : VolumeView → List Part → Part → List ℕ
+attribute_value view all part = unwrap_or (value_in part.content) (value_on view (parts_like part all))
