@@ -29,7 +29,6 @@ fn read_version(value: Option<&[u8]>) -> Option<Version>
 }
 
 // The units in bytes, of which a last odd one is left out.
-#[tactic(auto, unfolding(ntfs_def::specs::Units::units_in))]
 fn read_units(alloc: Global, bytes: &[u8]) -> Result<Vec<u16>, AllocError>
     ensures { IfOk result (λ units. units.items ≡ units_in bytes.now) }
 {
