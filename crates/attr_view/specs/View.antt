@@ -8,12 +8,12 @@ use Rattle.attr_view.specs.declared.ViewNo.{ViewNo}
 use Rattle.attr_view.specs.declared.ViewNo.TheVariants.{Shape}
 
 -- the bytes of the record
-abbrev pub record_of : RecordView → List ℕ
-record_of view = view.block.now
+abbrev pub viewed_block : RecordView → List ℕ
+viewed_block view = view.block.now
 
 -- the attributes of the record, in order
 abbrev pub attributes_of : RecordView → List Attribute
-attributes_of view = attributes (record_of view)
+attributes_of view = attributes (viewed_block view)
 
 -- the bytes of the record that an attribute stands in, and its place in them
 abbrev pub bytes_around : AttrView → List ℕ

@@ -3,7 +3,7 @@ use Rattle.std.proofs.Common.{◌≡◌, ℕ, ◌+◌, ◌^◌, ◌<◌, ◌≤�
 use Rattle.std.proofs.lemmas.List.{drop-drop, drop_at, drop_all, drop_more, drop-set-lt, length-take-le, take-append-drop, take_at, take_more_set}
 use Rattle.ntfs_def.specs.declared.run_text.Run.{Run}
 use Rattle.ntfs_def.specs.Runs.{IsRunList, IsRunListFrom, MeansRuns, place_after}
-use Rattle.data_runs.specs.Written.{IsRunText, IsWritten, IsWrittenFrom, Puts}
+use Rattle.data_runs.specs.Written.{IsRunText, IsWritten, IsWrittenFrom, PutsText}
 use Rattle.data_runs.proofs.WrittenForm.{written_form}
 use Rattle.data_runs.proofs.WrittenLaws.{MeansFrom-written, place_after-near}
 
@@ -31,7 +31,7 @@ room-next runs index last total old out at d lt near room (some, bounded, reach,
 -- it is written
 pub IsBegun-next : (runs : List Run) (index last : ℕ) (old out new : List ℕ) (at end : ℕ) (d : Run) → index < length runs
     → IsBegun runs index last old out at → length new ≡ length out
-    → Puts (IsRunText last (get_or runs index d)) out new at end
+    → PutsText (IsRunText last (get_or runs index d)) out new at end
     → IsBegun runs (index + 1) (place_after last (get_or runs index d)) old new end
 IsBegun-next runs index last old out new at end d lt begun same puts =
     let text = puts.text in
@@ -61,7 +61,7 @@ room-end runs index last old out at past room begun =
 
 -- .. and ends the text of all
 pub Puts-end : (runs : List Run) (index last : ℕ) (old out : List ℕ) (at : ℕ) → length runs ≤ index → at < length out
-    → IsBegun runs index last old out at → Puts (IsWritten runs) old (set out at 0) 0 (at + 1)
+    → IsBegun runs index last old out at → PutsText (IsWritten runs) old (set out at 0) 0 (at + 1)
 Puts-end runs index last old out at past within begun =
     let front : length (take at out) ≡ at = length-take-le at out begun.within in
     let later : drop (at + 1) out ≡ drop (at + 1) old = sym (drop-drop 1 at out) ∙ ap (drop 1) begun.kept ∙ drop-drop 1 at old in
@@ -76,6 +76,6 @@ Puts-end runs index last old out at past within begun =
     }
 
 -- it is read again
-pub MeansRuns-put : (runs : List Run) (old new : List ℕ) (end : ℕ) → IsRunList runs → Puts (IsWritten runs) old new 0 end
+pub MeansRuns-put : (runs : List Run) (old new : List ℕ) (end : ℕ) → IsRunList runs → PutsText (IsWritten runs) old new 0 end
     → MeansRuns new runs
 MeansRuns-put runs old new end list puts = rw puts.bytes (MeansFrom-written 0 0 runs puts.text (drop end old) (omega arith) list puts.is)

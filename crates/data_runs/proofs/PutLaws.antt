@@ -7,13 +7,13 @@ use Rattle.std.proofs.Math.Seq.{paste}
 use borrow.Rule.Slice.PartMut.{put_mid}
 use Rattle.ntfs_def.specs.declared.run_text.Run.{Run}
 use Rattle.ntfs_def.specs.Runs.{EndsInReach}
-use Rattle.data_runs.specs.Written.{IsOffsetText, IsRunText, Puts, SpellsShortest}
+use Rattle.data_runs.specs.Written.{IsOffsetText, IsRunText, PutsText, SpellsShortest}
 use Rattle.data_runs.proofs.WrittenLaws.{short_up, offset_short}
 use Rattle.data_runs.proofs.WrittenForm.{offset_text}
 
 -- what a write through `&mut out[at..at + len]` leaves
 pub Puts-part : (Is : List ℕ → Type 0) (old part text : List ℕ) (at len : ℕ) → at + len ≤ length old → length text ≡ len → Is text
-    → part ≡ text ++ drop len (take (at + len - at) (drop at old)) → Puts Is old (put_mid at (at + len - at) old part) at (at + len)
+    → part ≡ text ++ drop len (take (at + len - at) (drop at old)) → PutsText Is old (put_mid at (at + len - at) old part) at (at + len)
 Puts-part Is old part text at len fits long is written =
     let whole : len ≡ at + len - at = omega arith in
     let none : drop len (take (at + len - at) (drop at old)) ≡ [] = drop_all len (take (at + len - at) (drop at old))
@@ -26,14 +26,14 @@ Puts-part Is old part text at len fits long is written =
       bytes = put_mid-paste at (at + len - at) old part text len same whole (sym long) ∙ paste_all old at text len (sym long);
     }
 
-Puts-paste : (Is : List ℕ → Type 0) (old new : List ℕ) (at end : ℕ) → (puts : Puts Is old new at end)
+Puts-paste : (Is : List ℕ → Type 0) (old new : List ℕ) (at end : ℕ) → (puts : PutsText Is old new at end)
     → new ≡ paste old at puts.text (length puts.text)
 Puts-paste Is old new at end puts =
     puts.bytes ∙ ap (λ n. take at old ++ (puts.text ++ drop n old)) puts.ends ∙ sym (paste_all old at puts.text (length puts.text) refl)
 
 -- one text behind another
 pub Puts-then : (A B : List ℕ → Type 0) (old mid new : List ℕ) (at middle end : ℕ) → at ≤ length old
-    → (first : Puts A old mid at middle) → (then : Puts B mid new middle end)
+    → (first : PutsText A old mid at middle) → (then : PutsText B mid new middle end)
     → new ≡ take at old ++ ((first.text ++ then.text) ++ drop end old)
 Puts-then A B old mid new at middle end within first then =
     let a : ℕ = length first.text in
@@ -59,10 +59,10 @@ Puts-head old mid text rest at head within is =
 
 -- the parts of a run, and the byte before them that counts theirs
 pub Puts-run : (last : ℕ) (run : Run) (old lens both : List ℕ) (at middle end head : ℕ) → at < length old
-    → (first : Puts (λ text. SpellsShortest text (pos run.len)) old lens (at + 1) middle)
-    → (then : Puts (IsOffsetText last run.lcn) lens both middle end)
+    → (first : PutsText (λ text. SpellsShortest text (pos run.len)) old lens (at + 1) middle)
+    → (then : PutsText (IsOffsetText last run.lcn) lens both middle end)
     → head ≡ middle - at - 1 + 16 * (end - middle)
-    → Puts (IsRunText last run) old (set both at head) at end
+    → PutsText (IsRunText last run) old (set both at head) at end
 Puts-run last run old lens both at middle end head within first then counts =
     let ends = first.ends in
     let stops = then.ends in
@@ -95,7 +95,7 @@ room-len last run at all near reach room len spells =
 -- .. and for the place behind it
 pub room-offset : (last : ℕ) (run : Run) (old new : List ℕ) (at middle : ℕ)
     → ((text : List ℕ) → IsRunText last run text → at + length text ≤ length old)
-    → Puts (λ text. SpellsShortest text (pos run.len)) old new (at + 1) middle
+    → PutsText (λ text. SpellsShortest text (pos run.len)) old new (at + 1) middle
     → (offset : List ℕ) → IsOffsetText last run.lcn offset → middle + length offset ≤ length old
 room-offset last run old new at middle room first offset is =
     let text : List ℕ = (length first.text + 16 * length offset) ∷ (first.text ++ offset) in
@@ -106,7 +106,7 @@ room-offset last run old new at middle room first offset is =
 -- neither part takes more than eight bytes
 pub parts-narrow : (last : ℕ) (run : Run) (old lens both : List ℕ) (at middle end : ℕ) → last ≤ 2 ^ 62 → run.len ≤ 2 ^ 62
     → EndsInReach run.len run.lcn
-    → Puts (λ text. SpellsShortest text (pos run.len)) old lens (at + 1) middle → Puts (IsOffsetText last run.lcn) lens both middle end
+    → PutsText (λ text. SpellsShortest text (pos run.len)) old lens (at + 1) middle → PutsText (IsOffsetText last run.lcn) lens both middle end
     → (middle - at - 1 ≤ 8) × (end - middle ≤ 8)
 parts-narrow last run old lens both at middle end near small reach first then =
     let narrow = short_up run.len first.text (omega arith) first.is in

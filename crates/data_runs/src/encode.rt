@@ -3,7 +3,7 @@ ghost use Rattle.std.specs.Prelude.{◌≡◌, ℕ, ◌+◌, ◌^◌, ◌<◌, �
 ghost use Rattle.std.specs.Int.{w64};
 ghost use Rattle.byteorder.specs.Endian.{little_bytes, low_bytes};
 ghost use Rattle.ntfs_def.specs.Runs.{EndsInReach};
-ghost use Rattle.data_runs.specs.Written.{IsFewest, IsOffsetText, IsRunText, Puts, SpellsShortest};
+ghost use Rattle.data_runs.specs.Written.{IsFewest, IsOffsetText, IsRunText, PutsText, SpellsShortest};
 
 use byteorder::{ByteOrder, LittleEndian};
 use ntfs_def::Run;
@@ -31,7 +31,7 @@ fn number_len(number: i64) -> usize
 // Writes a signed number at a place, and tells the place behind it.
 fn put_number(out: &mut [u8], at: usize, number: i64) -> usize
     requires { (text : List ℕ) → SpellsShortest text number → at + length text ≤ length out.old }
-    ensures { Puts (λ text. SpellsShortest text number) out.old out.new at result }
+    ensures { PutsText (λ text. SpellsShortest text number) out.old out.new at result }
 {
     let len = number_len(number);
     LittleEndian::write_int(&mut out[at..at + len], number, len);
@@ -65,7 +65,7 @@ fn put_offset(out: &mut [u8], at: usize, last: u64, len: u64, lcn: Option<u64>) 
     requires last { last ≤ 2 ^ 62 }
     requires reach { EndsInReach len lcn }
     requires room { (text : List ℕ) → IsOffsetText last lcn text → at + length text ≤ length out.old }
-    ensures { Puts (IsOffsetText last lcn) out.old out.new at result }
+    ensures { PutsText (IsOffsetText last lcn) out.old out.new at result }
 {
     match lcn {
         None => at,
@@ -90,7 +90,7 @@ pub fn put_run(out: &mut [u8], at: usize, last: u64, run: &Run) -> usize
     requires len { run.now.len ≤ 2 ^ 62 }
     requires reach { EndsInReach run.now.len run.now.lcn }
     requires room { (text : List ℕ) → IsRunText last run.now text → at + length text ≤ length out.old }
-    ensures { Puts (IsRunText last run.now) out.old out.new at result }
+    ensures { PutsText (IsRunText last run.now) out.old out.new at result }
 {
     let middle = put_number(out, at + 1, run.len as i64);
     let end = put_offset(out, middle, last, run.len, run.lcn);

@@ -39,7 +39,7 @@ pub trait Blocks {
     ghost file: { Self → ℕ };
 
     /// The opened record at each number, in the index of this file of a volume.
-    ghost record_in: { Volume → ℕ → ℕ → Option (List ℕ) };
+    ghost index_record_in: { Volume → ℕ → ℕ → Option (List ℕ) };
 
     /// What stays the same, from one state to another, where nothing but reads stands between them.
     ghost only_reads: { Self → Self → Type 0 };
@@ -82,7 +82,7 @@ pub trait Blocks {
         ensures faults { MatchResult result (λ _. faults self.new ≡ faults self.old)
             (ReadRefuses (faults self.old) (faults self.new)) };
 
-    ghost are: { (it : Self) → records it ≡ option_map (λ volume. record_in volume (file it)) (volume it) };
+    ghost are: { (it : Self) → records it ≡ option_map (λ volume. index_record_in volume (file it)) (volume it) };
 
     ghost only_reads_itself: { (it : Self) → only_reads it it };
 

@@ -152,7 +152,7 @@ impl<'b> Blocks for Listed<'b> {
 
     ghost file = { λ it. 0 };
 
-    ghost record_in = { λ volume file vcn. None };
+    ghost index_record_in = { λ volume file vcn. None };
 
     ghost only_reads = { λ old new. Unit {0} };
 
@@ -205,7 +205,7 @@ impl<'b> Blocks for Stored<'b> {
 
     ghost file = { λ it. 0 };
 
-    ghost record_in = { λ volume file vcn. slice_get volume vcn };
+    ghost index_record_in = { λ volume file vcn. slice_get volume vcn };
 
     ghost only_reads = { λ old new. Unit {0} };
 

@@ -5,12 +5,12 @@ use Rattle.vol_disk.specs.Contents.{WhereTold, sector_in}
 use Rattle.ntfs_def.specs.Boot.{boot_failing, boot_sector}
 use Rattle.ntfs_boot.specs.declared.Geometry.{Geometry}
 use Rattle.ntfs_boot.specs.Geometry.{geometry_of}
-use Rattle.volume_def.specs.Table.{MeetsTableClause}
+use Rattle.volume_def.specs.Table.{MeetsTable}
 use Rattle.mft_table.specs.declared.error.TableNo.{TableNo}
 use Rattle.mft_table.specs.declared.error.TableNo.TheVariants as no
 use Rattle.mft_table.specs.declared.table.Table.{Table}
 use Rattle.mft_table.specs.TableNos.{IsFoundIn, Refuses, RefusesAt}
-use Rattle.mft_table.specs.Tables.{layout_of}
+use Rattle.mft_table.specs.Tables.{table_layout}
 use Rattle.mft_table.proofs.BootSectors.{sectors_told}
 
 -- the boot clause of the sector that was read is that of the image
@@ -32,7 +32,7 @@ module _ (now now' : Option (List ℕ)) (sector : List ℕ) (size : ℕ) (geomet
 
   pub found-ok : (result : Result Table TableNo) → IfOk result (λ table. table.geometry ≡ geometry)
       → IfOk result (λ table. WhereTold now' (λ image. (boot : List ℕ) → geometry ≡ geometry_of boot
-      → MeetsTableClause (sector_in (Some image)) boot (layout_of table)))
+      → MeetsTable (sector_in (Some image)) boot (table_layout table)))
       → IfOk result (λ table. WhereTold now (λ image. IsFoundIn image table))
   found-ok (Ok table) of_it meets = λ image told. record {
     boot = boot_holds image told;

@@ -4,22 +4,22 @@ use Rattle.vol_disk.specs.Contents.{sector_in}
 use Rattle.vol_disk.specs.Count.{Rose}
 use Rattle.ntfs_def.specs.Boot.{boot_failing, boot_sector}
 use Rattle.ntfs_boot.specs.Geometry.{geometry_of, number_of}
-use Rattle.volume_def.specs.Table.{Layout, MeetsTableClause}
+use Rattle.volume_def.specs.Table.{TableLayout, MeetsTable}
 use Rattle.mft_table.specs.declared.error.TableNo.{TableNo}
 use Rattle.mft_table.specs.declared.error.TableNo.TheVariants as no
 use Rattle.mft_table.specs.declared.table.Table.{Table}
-use Rattle.mft_table.specs.Tables.{layout_of}
+use Rattle.mft_table.specs.Tables.{table_layout}
 
 -- The image has this table: the boot clause and the table clause hold, and tell it.
 pub record IsFoundIn (image : List ℕ) (table : Table) : Type 0 where
   pub boot : boot_failing (boot_sector image) (length image / 512) ≡ None
   pub geometry : table.geometry ≡ geometry_of (boot_sector image)
-  pub clause : MeetsTableClause (sector_in (Some image)) (boot_sector image) (layout_of table)
+  pub clause : MeetsTable (sector_in (Some image)) (boot_sector image) (table_layout table)
 
 -- The sectors of a volume with this boot sector tell no table, by the table clause alone.
 abbrev pub RefusesAt : (ℕ → List ℕ) → List ℕ → TableNo → Type 0
 RefusesAt disk boot (no.Boot fault) = ⊥
-RefusesAt disk boot no.Table = (layout : Layout) → ¬ (MeetsTableClause disk boot layout)
+RefusesAt disk boot no.Table = (layout : TableLayout) → ¬ (MeetsTable disk boot layout)
 RefusesAt disk boot no.Device = Unit {0}
 RefusesAt disk boot no.Memory = Unit {0}
 
@@ -28,7 +28,7 @@ abbrev pub Refuses : List ℕ → TableNo → Type 0
 Refuses image (no.Boot fault) = boot_failing (boot_sector image) (length image / 512) ≡ Some (number_of fault)
 Refuses image no.Table =
     (boot_failing (boot_sector image) (length image / 512) ≡ None)
-    × ((layout : Layout) → ¬ (MeetsTableClause (sector_in (Some image)) (boot_sector image) layout))
+    × ((layout : TableLayout) → ¬ (MeetsTable (sector_in (Some image)) (boot_sector image) layout))
 Refuses image no.Device = Unit {0}
 Refuses image no.Memory = Unit {0}
 

@@ -2,12 +2,12 @@
 use Rattle.std.specs.Prelude.{◌≡◌, ℕ, ◌/◌, List}
 use Rattle.ntfs_def.specs.declared.run_text.Run.{Run}
 use Rattle.ntfs_def.specs.Fixup.{opened_of}
-use Rattle.volume_def.specs.Table.{IsReadable, TellsTable, Layout}
+use Rattle.volume_def.specs.Table.{IsRecord, TellsTable, TableLayout}
 use Rattle.ntfs_boot.specs.declared.Geometry.{Geometry}
 use Rattle.mft_table.specs.declared.table.Table.{Table}
 
 -- the layout of these runs on a volume of this geometry
-abbrev pub layout_on : Geometry → List Run → ℕ → ℕ → Layout
+abbrev pub layout_on : Geometry → List Run → ℕ → ℕ → TableLayout
 layout_on geometry runs initialized count = record {
   cluster_sectors = geometry.cluster / 512;
   clusters = geometry.clusters;
@@ -18,25 +18,25 @@ layout_on geometry runs initialized count = record {
 }
 
 -- the table in the format's terms
-abbrev pub layout_of : Table → Layout
-layout_of table = layout_on table.geometry table.runs table.initialized table.count
+abbrev pub table_layout : Table → TableLayout
+table_layout table = layout_on table.geometry table.runs table.initialized table.count
 
 -- The layout takes from the geometry what the boot sector tells.
-pub record IsFromGeometry (geometry : Geometry) (layout : Layout) : Type 0 where
+pub record IsFromGeometry (geometry : Geometry) (layout : TableLayout) : Type 0 where
   pub cluster_sectors : layout.cluster_sectors ≡ geometry.cluster / 512
   pub clusters : layout.clusters ≡ geometry.clusters
   pub mirror : layout.mirror ≡ geometry.mirror
 
 -- The opened record 0 tells a volume of this geometry that its table lies so.
-pub record RecordTells (geometry : Geometry) (record_0 : List ℕ) (layout : Layout) : Type 0 where
+pub record RecordTells (geometry : Geometry) (record_0 : List ℕ) (layout : TableLayout) : Type 0 where
   pub volume : IsFromGeometry geometry layout
   pub table : TellsTable geometry.mft record_0 layout
 
 -- The same of record 0 as it is stored.
-pub record BlockTells (geometry : Geometry) (stored : List ℕ) (layout : Layout) : Type 0 where
-  pub readable : IsReadable stored
+pub record BlockTells (geometry : Geometry) (stored : List ℕ) (layout : TableLayout) : Type 0 where
+  pub readable : IsRecord stored
   pub tells : RecordTells geometry (opened_of stored) layout
 
 -- the table that was found is one of this volume, and its layout is told so
-abbrev pub IsFoundBy : Geometry → (Layout → Type 0) → Table → Type 0
-IsFoundBy geometry Tells table = (table.geometry ≡ geometry) × Tells (layout_of table)
+abbrev pub IsFoundBy : Geometry → (TableLayout → Type 0) → Table → Type 0
+IsFoundBy geometry Tells table = (table.geometry ≡ geometry) × Tells (table_layout table)

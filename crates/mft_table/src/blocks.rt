@@ -63,19 +63,19 @@ pub fn read_two_sectors<D: Disk>(
 }
 
 impl BlockReader<'_> {
-    ghost use Rattle.mft_table.specs.Blocks.{read_layout};
+    ghost use Rattle.mft_table.specs.Blocks.{reader_layout};
 
     fn cluster_sectors(&self) -> u64
-        ensures { result ≡ (read_layout self.now).cluster_sectors }
+        ensures { result ≡ (reader_layout self.now).cluster_sectors }
     {
         u64::from(self.geometry.cluster) / SECTOR as u64
     }
 
     // The sector of the disk at which a sector of the table lies.
     fn place(&self, sector: u64) -> Option<u64>
-        requires some { 0 < (read_layout self.now).cluster_sectors }
-        requires fits { (place : ℕ) → table_place (read_layout self.now) sector ≡ Some place → place < 2 ^ 64 }
-        ensures { result ≡ table_place (read_layout self.now) sector }
+        requires some { 0 < (reader_layout self.now).cluster_sectors }
+        requires fits { (place : ℕ) → table_place (reader_layout self.now) sector ≡ Some place → place < 2 ^ 64 }
+        ensures { result ≡ table_place (reader_layout self.now) sector }
     {
         let per = self.cluster_sectors();
         match self.runs.spot(sector / per) {
@@ -92,9 +92,9 @@ impl BlockReader<'_> {
         into: &mut [u8; 512],
     ) -> Result<(), StageNo>
         requires sector { sector < 2 ^ 23 }
-        requires table { LiesOn (D.size (disk_of D.Disk stage.old)) (read_layout self.now) }
+        requires table { LiesOn (D.size (disk_of D.Disk stage.old)) (reader_layout self.now) }
         ensures read { OnOk result (IsTold (image D.Disk stage.old)
-            → into.new ≡ table_sector (sector_in (image D.Disk stage.old)) (read_layout self.now) sector) }
+            → into.new ≡ table_sector (sector_in (image D.Disk stage.old)) (reader_layout self.now) sector) }
         ensures reads { StageReads D.Disk stage.old stage.new 1 }
         ensures faults { CountsFault result (D.faults (disk_of D.Disk stage.old)) (D.faults (disk_of D.Disk stage.new)) }
         ensures device { IfErr result (λ error. error ≡ StageNo.Device) }
@@ -121,10 +121,10 @@ impl BlockReader<'_> {
         number: u64,
         into: &mut [u8; 1024],
     ) -> Result<(), StageNo>
-        requires number { number < (read_layout self.now).count }
-        requires table { LiesOn (D.size (disk_of D.Disk stage.old)) (read_layout self.now) }
+        requires number { number < (reader_layout self.now).count }
+        requires table { LiesOn (D.size (disk_of D.Disk stage.old)) (reader_layout self.now) }
         ensures read { OnOk result (IsTold (image D.Disk stage.old)
-            → into.new ≡ block_of (sector_in (image D.Disk stage.old)) (read_layout self.now) number) }
+            → into.new ≡ block_of (sector_in (image D.Disk stage.old)) (reader_layout self.now) number) }
         ensures kept { OnErr result (into.new ≡ into.old) }
         ensures reads { StageReads D.Disk stage.old stage.new 2 }
         ensures faults { CountsFault result (D.faults (disk_of D.Disk stage.old)) (D.faults (disk_of D.Disk stage.new)) }

@@ -3,8 +3,8 @@ ghost use Rattle.std.specs.Prelude.{◌≡◌, ◌≢◌, ◌↔◌, ◌∷◌, 
 ghost use Rattle.ntfs_def.specs.declared.kinds.TheConstants.{ATTRIBUTE_LIST};
 ghost use Rattle.ntfs_def.specs.Attribute.{Attribute};
 ghost use Rattle.attr_view.specs.Left.{attributes_left};
-ghost use Rattle.attr_view.specs.View.{attribute_of, attributes_of, record_of};
-ghost use Rattle.volume_def.specs.Table.{IsTableStream, is_data_extent};
+ghost use Rattle.attr_view.specs.View.{attribute_of, attributes_of, viewed_block};
+ghost use Rattle.volume_def.specs.Table.{IsTableData, is_data_extent};
 
 use attr_view::{AttrView, Attributes, RecordView};
 use ntfs_def::is_packed;
@@ -58,8 +58,8 @@ fn has_list(view: &RecordView<'_>) -> bool
 
 /// The attribute that holds the table, where record 0 has one and no other part of it is elsewhere.
 pub fn table_stream<'r>(view: &RecordView<'r>) -> Option<AttrView<'r>>
-    ensures some { IfSome result (λ stream. IsTableStream (record_of view.now) (attribute_of stream)) }
-    ensures none { IfNone result ((stream : Attribute) → ¬ (IsTableStream (record_of view.now) stream)) }
+    ensures some { IfSome result (λ stream. IsTableData (viewed_block view.now) (attribute_of stream)) }
+    ensures none { IfNone result ((stream : Attribute) → ¬ (IsTableData (viewed_block view.now) stream)) }
 {
     if has_list(view) {
         return None;

@@ -24,12 +24,12 @@ pub struct Mounted {
 }
 
 impl Mounted {
-    ghost use Rattle.mft_table.specs.Blocks.{read_layout};
+    ghost use Rattle.mft_table.specs.Blocks.{reader_layout};
     ghost use Rattle.mft_table.specs.Mounted.{mounted_layout};
 
     /// Lends a reader of the table's blocks.
     pub fn blocks(&self) -> BlockReader<'_>
-        ensures { read_layout result ≡ mounted_layout self.now }
+        ensures { reader_layout result ≡ mounted_layout self.now }
     {
         BlockReader {
             geometry: &self.geometry,

@@ -3,9 +3,9 @@ ghost use Rattle.std.specs.Prelude.{◌≡◌, ◌<◌, ◌≤◌, ◌+◌, ◌*
 ghost use Rattle.ntfs_def.specs.declared.run_text.Run.{Run};
 ghost use Rattle.ntfs_def.specs.declared.run_text.Spot.TheVariants.{At};
 ghost use Rattle.ntfs_def.specs.Runs.{spot_of, total_clusters};
-ghost use Rattle.volume_def.specs.Table.{ArePlaced, FitTable, IsOnVolume, Layout};
+ghost use Rattle.volume_def.specs.Table.{LieFromMft, FitTable, IsOnVolume, TableLayout};
 ghost use Rattle.ntfs_boot.specs.Geometry.{FitsDisk};
-ghost use Rattle.attr_view.specs.View.{record_of};
+ghost use Rattle.attr_view.specs.View.{viewed_block};
 ghost use Rattle.mft_table.specs.Tables.{IsFoundBy, RecordTells};
 
 use crate::BlockReader;
@@ -34,12 +34,12 @@ pub struct Table {
 }
 
 impl Table {
-    ghost use Rattle.mft_table.specs.Blocks.{read_layout};
-    ghost use Rattle.mft_table.specs.Tables.{layout_of};
+    ghost use Rattle.mft_table.specs.Blocks.{reader_layout};
+    ghost use Rattle.mft_table.specs.Tables.{table_layout};
 
     /// Lends a reader of its blocks.
     pub fn blocks(&self) -> BlockReader<'_>
-        ensures { read_layout result ≡ layout_of self.now }
+        ensures { reader_layout result ≡ table_layout self.now }
     {
         BlockReader {
             geometry: &self.geometry,
@@ -80,7 +80,7 @@ fn begin_at(runs: &RunList, mft: u64, size: u64) -> bool
 fn are_placed(runs: &RunList, geometry: &Geometry, size: u64) -> bool
     requires geometry { FitsDisk geometry.now (2 ^ 55) }
     requires size { 512 ≤ size }
-    ensures { IsTrue result ↔ ArePlaced geometry.now.mft size geometry.now.clusters runs.now }
+    ensures { IsTrue result ↔ LieFromMft geometry.now.mft size geometry.now.clusters runs.now }
 {
     lie_on(runs.runs(), geometry.clusters) && begin_at(runs, geometry.mft, size)
 }
@@ -108,7 +108,7 @@ fn fit_table(sizes: &Sizes, clusters: u64, size: u64) -> bool
 fn is_table(geometry: &Geometry, sizes: &Sizes, runs: &RunList, size: u64) -> bool
     requires geometry { FitsDisk geometry.now (2 ^ 55) }
     requires size { 512 ≤ size }
-    ensures { IsTrue result ↔ (ArePlaced geometry.now.mft size geometry.now.clusters runs.now
+    ensures { IsTrue result ↔ (LieFromMft geometry.now.mft size geometry.now.clusters runs.now
         × FitTable sizes.now (total_clusters runs.now * size)) }
 {
     are_placed(runs, geometry, size) && fit_table(sizes, total_clusters(runs.runs()), size)
@@ -122,8 +122,8 @@ pub fn read_table(
     view: &RecordView<'_>,
 ) -> Result<Option<Table>, AllocError>
     requires { FitsDisk geometry.now (2 ^ 55) }
-    ensures some { IfOk result (λ found. IfSome found (IsFoundBy geometry.now (RecordTells geometry.now (record_of view.now)))) }
-    ensures none { IfOk result (λ found. IfNone found ((layout : Layout) → ¬ (RecordTells geometry.now (record_of view.now) layout))) }
+    ensures some { IfOk result (λ found. IfSome found (IsFoundBy geometry.now (RecordTells geometry.now (viewed_block view.now)))) }
+    ensures none { IfOk result (λ found. IfNone found ((layout : TableLayout) → ¬ (RecordTells geometry.now (viewed_block view.now) layout))) }
 {
     let Some(stream) = table_stream(view) else {
         return Ok(None);

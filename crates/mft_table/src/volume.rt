@@ -4,10 +4,10 @@ ghost use Rattle.vol_disk.specs.Contents.{WhereTold, sector_in};
 ghost use Rattle.vol_disk.specs.Count.{CountsFault};
 ghost use Rattle.ntfs_def.specs.Boot.{boot_sector};
 ghost use Rattle.ntfs_boot.specs.Geometry.{FitsDisk, geometry_of};
-ghost use Rattle.volume_def.specs.Table.{Layout, LiesOn, MeetsTableClause};
+ghost use Rattle.volume_def.specs.Table.{TableLayout, LiesOn, MeetsTable};
 ghost use Rattle.vol_stage.specs.Staged.{StageReads, disk_of, image};
 ghost use Rattle.mft_table.specs.TableNos.{CountsNo, IsFoundIn, Refuses, RefusesAt};
-ghost use Rattle.mft_table.specs.Tables.{BlockTells, IsFoundBy, layout_of};
+ghost use Rattle.mft_table.specs.Tables.{BlockTells, IsFoundBy, table_layout};
 
 use crate::TableNo;
 use crate::blocks::read_two_sectors;
@@ -40,7 +40,7 @@ fn table_in(
 ) -> Result<Option<Table>, AllocError>
     requires { FitsDisk geometry.now (2 ^ 55) }
     ensures some { IfOk result (λ found. IfSome found (IsFoundBy geometry.now (BlockTells geometry.now block.old))) }
-    ensures none { IfOk result (λ found. IfNone found ((layout : Layout) → ¬ (BlockTells geometry.now block.old layout))) }
+    ensures none { IfOk result (λ found. IfNone found ((layout : TableLayout) → ¬ (BlockTells geometry.now block.old layout))) }
 {
     match open_record(block) {
         Some(view) => read_table(alloc, geometry, &view),
@@ -57,8 +57,8 @@ fn find_at<D: Disk>(
     requires { FitsDisk geometry.now (D.size (disk_of D.Disk stage.old)) }
     ensures geometry { IfOk result (λ table. table.geometry ≡ geometry.now) }
     ensures ok { IfOk result (λ table. WhereTold (image D.Disk stage.old) (λ all. (boot : List ℕ) → geometry.now ≡ geometry_of boot
-        → MeetsTableClause (sector_in (Some all)) boot (layout_of table))) }
-    ensures lies { IfOk result (λ table. LiesOn (D.size (disk_of D.Disk stage.old)) (layout_of table)) }
+        → MeetsTable (sector_in (Some all)) boot (table_layout table))) }
+    ensures lies { IfOk result (λ table. LiesOn (D.size (disk_of D.Disk stage.old)) (table_layout table)) }
     ensures records { IfOk result (λ table. 24 ≤ table.count) }
     ensures err { IfErr result (λ no. WhereTold (image D.Disk stage.old) (λ all. (boot : List ℕ) → geometry.now ≡ geometry_of boot
         → RefusesAt (sector_in (Some all)) boot no)) }
@@ -87,7 +87,7 @@ fn find_at<D: Disk>(
 pub fn find_table<D: Disk>(alloc: Global, stage: &mut Stage<'_, D>) -> Result<Table, TableNo>
     ensures ok { IfOk result (λ table. WhereTold (image D.Disk stage.old) (λ all. IsFoundIn all table)) }
     ensures fits { IfOk result (λ table. FitsDisk table.geometry (D.size (disk_of D.Disk stage.old))) }
-    ensures lies { IfOk result (λ table. LiesOn (D.size (disk_of D.Disk stage.old)) (layout_of table)) }
+    ensures lies { IfOk result (λ table. LiesOn (D.size (disk_of D.Disk stage.old)) (table_layout table)) }
     ensures records { IfOk result (λ table. 24 ≤ table.count) }
     ensures err { IfErr result (λ no. WhereTold (image D.Disk stage.old) (λ all. Refuses all no)) }
     ensures reads { StageReads D.Disk stage.old stage.new 3 }

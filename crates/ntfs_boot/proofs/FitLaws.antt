@@ -1,7 +1,7 @@
 -- An accepted geometry on its disk.
 use Rattle.std.proofs.Common.{◌≡◌, ℕ, ◌*◌, ◌/◌, ◌%◌, ◌^◌, ◌<◌, ◌≤◌, inl, inr, arith, sym, subst, refl}
 use Rattle.std.specs.Prelude.{IsTrue}
-use Rattle.ntfs_def.specs.Boot.{is_cluster_size}
+use Rattle.ntfs_def.specs.Boot.{is_cluster_sectors}
 use Rattle.ntfs_boot.specs.declared.Geometry.{Geometry}
 use Rattle.ntfs_boot.specs.Geometry.{FitsDisk, HasClusterSize}
 
@@ -19,9 +19,9 @@ clusters_on_disk per total sectors size low =
     by_cluster_size (λ n. total / n * (512 * n) ≤ 512 * sectors) (omega arith) (omega arith) (omega arith) (omega arith) per size
 
 -- a cluster has whole sectors
-pub cluster_whole : (per : ℕ) → HasClusterSize per → ((512 * per) % 512 ≡ 0) × IsTrue (is_cluster_size (512 * per / 512))
+pub cluster_whole : (per : ℕ) → HasClusterSize per → ((512 * per) % 512 ≡ 0) × IsTrue (is_cluster_sectors (512 * per / 512))
 cluster_whole per size =
-    by_cluster_size (λ n. ((512 * n) % 512 ≡ 0) × IsTrue (is_cluster_size (512 * n / 512))) (refl, refl) (refl, refl) (refl, refl) (refl, refl) per size
+    by_cluster_size (λ n. ((512 * n) % 512 ≡ 0) × IsTrue (is_cluster_sectors (512 * n / 512))) (refl, refl) (refl, refl) (refl, refl) (refl, refl) per size
 
 pub fits_disk : (geometry : Geometry) (per sectors : ℕ) → HasClusterSize per → geometry.cluster ≡ 512 * per
     → geometry.clusters ≡ geometry.sectors / per

@@ -2,7 +2,7 @@
 #![tactic(auto)]
 
 ghost use Rattle.std.specs.Prelude.{◌≡◌, ◌^◌, ◌<◌, ◌↔◌, None, Some, IsTrue, IfOk, IfErr};
-ghost use Rattle.ntfs_def.specs.Boot.{boot_failing, cluster_sectors, has_cluster_size, has_end_mark, has_name, is_ntfs, spelled_size};
+ghost use Rattle.ntfs_def.specs.Boot.{boot_failing, cluster_sectors, has_cluster_sectors, has_end_mark, has_name, is_ntfs, spelled_size};
 ghost use Rattle.ntfs_boot.specs.Geometry.{FitsDisk, HasClusterSize, geometry_of, number_of};
 
 #[cfg(test)]
@@ -83,8 +83,8 @@ fn is_ntfs(boot: &[u8; 512]) -> bool
     has_name(boot) && has_end_mark(boot)
 }
 
-fn has_cluster_size(boot: &[u8; 512]) -> bool
-    ensures test { result ≡ has_cluster_size boot.now }
+fn has_cluster_sectors(boot: &[u8; 512]) -> bool
+    ensures test { result ≡ has_cluster_sectors boot.now }
     ensures one_of { IsTrue result → HasClusterSize (cluster_sectors boot.now) }
 {
     matches!(boot[0x0D], 1 | 2 | 4 | 8)
@@ -137,7 +137,7 @@ impl Geometry {
         if u16_at(boot, 0x0B) as usize != SECTOR {
             return Err(BootFault::SectorSize);
         }
-        if !has_cluster_size(boot) {
+        if !has_cluster_sectors(boot) {
             return Err(BootFault::ClusterSize);
         }
         let geometry = Geometry::of(boot);

@@ -4,7 +4,7 @@ use Rattle.std.proofs.lemmas.Grind.{same_number_lists}
 use Rattle.std.proofs.lemmas.Bool.{cases_Bool}
 use Rattle.std.specs.Prelude.{slice_range}
 use Rattle.vol_bytes.specs.Field.{u16_at, u32_at, u64_at}
-use Rattle.ntfs_def.specs.Attribute.{Attribute, Body, Extent, Resident, NonResident, attribute_at, attribute_kind, attribute_len, attribute_flags, body_at, compressed_len, extent_at, sizes_at, is_resident, is_compressed_or_sparse, name_bytes, name_offset, name_units, name_end, content_bytes, content_offset, content_end, header_len, first_vcn, has_compressed_len, bytes_between}
+use Rattle.ntfs_def.specs.Attribute.{Attribute, Body, ExtentHeader, Resident, NonResident, attribute_at, attribute_kind, attribute_len, attribute_flags, body_at, compressed_len, extent_at, sizes_at, is_resident, is_compressed_or_sparse, name_bytes, name_offset, name_units, name_end, content_bytes, content_offset, content_end, header_len, first_vcn, has_compressed_len, bytes_between}
 use Rattle.ntfs_def.specs.declared.sizes.Sizes.{Sizes}
 use Rattle.ntfs_def.specs.Moved.{Moved}
 use Rattle.ntfs_def.specs.Shape.{IsWhole}
@@ -184,8 +184,8 @@ module _ (a b : List ℕ) (from to : ℕ) (w : IsWhole a from) (m : Moved a b fr
 
   extent-moved : is_resident a from ≡ false → extent_at b to ≡ extent_at a from
   extent-moved e =
-      ap (λ (x : Sizes). let r : Extent = record { sizes = x; compressed = compressed_len b to } in r) (sizes-moved e)
-      ∙ ap (λ (x : Option ℕ). let r : Extent = record { sizes = sizes_at a from; compressed = x } in r) (compressed-moved e)
+      ap (λ (x : Sizes). let r : ExtentHeader = record { sizes = x; compressed = compressed_len b to } in r) (sizes-moved e)
+      ∙ ap (λ (x : Option ℕ). let r : ExtentHeader = record { sizes = sizes_at a from; compressed = x } in r) (compressed-moved e)
 
   body-moved : body_at b to ≡ body_at a from
   body-moved = elim (cases_Bool (is_resident a from)) [

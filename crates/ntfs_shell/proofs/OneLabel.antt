@@ -4,7 +4,7 @@ use Rattle.std.specs.Prelude.{MatchOption}
 use Rattle.vol_disk.specs.Contents.{sector_in}
 use Rattle.ntfs_def.specs.Boot.{boot_sector}
 use Rattle.volume_def.specs.Blocks.{block_of}
-use Rattle.volume_def.specs.Table.{Layout}
+use Rattle.volume_def.specs.Table.{TableLayout}
 use Rattle.volume_def.proofs.OneTable.{layout-exact}
 use Rattle.ntfs_shell.specs.Label.{LabelReports, RecordReports, TableReports}
 use Rattle.ntfs_shell.specs.Refusals.{boot_refusal}
@@ -20,7 +20,7 @@ one-table : (disk : ℕ → List ℕ) (boot : List ℕ) (a b : Report) → Table
     → TableReports disk boot b → a ≡ b
 one-table disk boot a b (inl (one, meets, said)) (inl (other, meets', said')) =
     let same : one ≡ other = layout-exact disk boot one other meets meets' in
-    one-record _ a b (subst (λ (l : Layout). RecordReports (block_of disk l 3) a) same said) said'
+    one-record _ a b (subst (λ (l : TableLayout). RecordReports (block_of disk l 3) a) same said) said'
 one-table disk boot a b (inl (one, meets, said)) (inr y) = absurd (y.0 one meets)
 one-table disk boot a b (inr x) (inl (other, meets, said)) = absurd (x.0 other meets)
 one-table disk boot a b (inr x) (inr y) = x.1 ∙ sym y.1

@@ -8,7 +8,7 @@ use Rattle.ntfs_def.specs.declared.kinds.TheConstants.{VOLUME_INFORMATION, VOLUM
 use Rattle.ntfs_def.specs.Attribute.{Attribute, attributes, first_value}
 use Rattle.volume_def.specs.declared.version.Version.{Version}
 use Rattle.volume_def.specs.Blocks.{block_of}
-use Rattle.volume_def.specs.Table.{IsReadable, Layout, MeetsTableClause}
+use Rattle.volume_def.specs.Table.{IsRecord, TableLayout, MeetsTable}
 use Rattle.volume_def.specs.VolumeRecord.{label_units, version_in}
 use Rattle.ntfs_shell.specs.Refusals.{boot_refusal, no_table, no_version, no_volume_record}
 use Rattle.ntfs_shell.specs.Report.{Report, says, refuses}
@@ -37,14 +37,14 @@ volume_report attributes = name_report attributes (version_in (first_value VOLUM
 -- by record 3, as it is stored
 abbrev pub RecordReports : List ℕ → Report → Type 0
 RecordReports stored report =
-    (IsReadable stored × (report ≡ volume_report (attributes (opened_of stored))))
-    ⊎ ((¬ (IsReadable stored)) × (report ≡ refuses no_volume_record))
+    (IsRecord stored × (report ≡ volume_report (attributes (opened_of stored))))
+    ⊎ ((¬ (IsRecord stored)) × (report ≡ refuses no_volume_record))
 
 -- by the sectors of the disk, where the boot clause holds
 abbrev pub TableReports : (ℕ → List ℕ) → List ℕ → Report → Type 0
 TableReports disk boot report =
-    ((layout : Layout) × MeetsTableClause disk boot layout × RecordReports (block_of disk layout 3) report)
-    ⊎ (((layout : Layout) → ¬ (MeetsTableClause disk boot layout)) × (report ≡ refuses no_table))
+    ((layout : TableLayout) × MeetsTable disk boot layout × RecordReports (block_of disk layout 3) report)
+    ⊎ (((layout : TableLayout) → ¬ (MeetsTable disk boot layout)) × (report ≡ refuses no_table))
 
 -- by the image
 abbrev pub LabelReports : List ℕ → Report → Type 0

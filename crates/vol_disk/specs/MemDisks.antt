@@ -8,7 +8,7 @@ use Rattle.vol_disk.specs.declared.mem_disk.Write.{Write}
 
 -- The first contents, the writes that answered Ok, for each settle that did the number of writes
 -- before it, the number of writes before the last barrier, how many writes and settles there is room for, and the counts.
-pub record Shown : Type 0 where
+pub record MemState : Type 0 where
   pub first : List ℕ
   pub writes : List Write
   pub settles : List ℕ
@@ -17,7 +17,7 @@ pub record Shown : Type 0 where
   pub sectors : ℕ
   pub counts : Counts
 
-abbrev pub parts_of : MemDisk → Shown
+abbrev pub parts_of : MemDisk → MemState
 parts_of disk = record {
   first = disk.first.items;
   writes = disk.writes.items;
@@ -29,11 +29,11 @@ parts_of disk = record {
 }
 
 -- one more write
-abbrev pub with_write : Shown → Write → Shown
+abbrev pub with_write : MemState → Write → MemState
 with_write disk write = record disk { writes = disk.writes ++ write ∷ []; room = disk.room - 1; counts = after_write true disk.counts }
 
 -- one more settle, behind all writes
-abbrev pub with_settle : Shown → Shown
+abbrev pub with_settle : MemState → MemState
 with_settle disk = record disk { settles = disk.settles ++ length disk.writes ∷ []; room = disk.room - 1 }
 
 -- the contents that a read gives
@@ -45,7 +45,7 @@ abbrev pub fenced_of : MemDisk → List ℕ
 fenced_of disk = replay (take disk.fence disk.writes.items) disk.first.items
 
 -- one more barrier, behind all writes
-abbrev pub with_barrier : Shown → Shown
+abbrev pub with_barrier : MemState → MemState
 with_barrier disk = record disk { fence = length disk.writes }
 
 -- the contents at each settle

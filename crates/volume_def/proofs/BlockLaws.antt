@@ -13,14 +13,14 @@ use Rattle.ntfs_def.specs.declared.run_text.Run.{Run}
 use Rattle.ntfs_def.specs.Runs.{spot_in, spot_of}
 use Rattle.ntfs_def.proofs.SpotLaws.{spot_of-none, spot_of-first, spot_of-past}
 use Rattle.volume_def.specs.Blocks.{block_of, cluster_of, copy_of, cut_off, mirror_sector, place_at, shown_at, table_place, table_sector}
-use Rattle.volume_def.specs.Owners.{AreApart, times_in}
-use Rattle.volume_def.specs.Table.{IsOnVolume, Layout}
+use Rattle.volume_def.specs.Coverage.{AreApart, times_covered}
+use Rattle.volume_def.specs.Table.{IsOnVolume, TableLayout}
 use Rattle.volume_def.proofs.RunPlaces.{spot_of-once, times_in-spot_of}
 
 -- Places.
 
 -- a place tells its cluster, and the sector in it
-placed : (layout : Layout) (k place : ℕ) (spot : Spot) → 0 < layout.cluster_sectors → place_at layout k spot ≡ Some place
+placed : (layout : TableLayout) (k place : ℕ) (spot : Spot) → 0 < layout.cluster_sectors → place_at layout k spot ≡ Some place
     → spot ≡ At (place / layout.cluster_sectors)
 placed layout k place Outside some e = cc
 placed layout k place Hole some e = cc
@@ -29,7 +29,7 @@ placed layout k place (At cluster) some e =
     let d = div-mul-add cluster layout.cluster_sectors (k % layout.cluster_sectors) (mod_below k layout.cluster_sectors some) in
     ap At (sym d ∙ ap (λ q. q / layout.cluster_sectors) at)
 
-placed-rest : (layout : Layout) (k place : ℕ) (spot : Spot) → 0 < layout.cluster_sectors → place_at layout k spot ≡ Some place
+placed-rest : (layout : TableLayout) (k place : ℕ) (spot : Spot) → 0 < layout.cluster_sectors → place_at layout k spot ≡ Some place
     → place % layout.cluster_sectors ≡ k % layout.cluster_sectors
 placed-rest layout k place Outside some e = cc
 placed-rest layout k place Hole some e = cc
@@ -39,14 +39,14 @@ placed-rest layout k place (At cluster) some e =
     sym (ap (λ q. q % layout.cluster_sectors) at) ∙ d
 
 -- the cluster of a sector of the table is one of the table's
-pub table_place-times : (layout : Layout) (k place : ℕ) → 0 < layout.cluster_sectors → table_place layout k ≡ Some place
-    → 1 ≤ times_in layout.runs (place / layout.cluster_sectors)
+pub table_place-times : (layout : TableLayout) (k place : ℕ) → 0 < layout.cluster_sectors → table_place layout k ≡ Some place
+    → 1 ≤ times_covered layout.runs (place / layout.cluster_sectors)
 table_place-times layout k place some e =
     let n = k / layout.cluster_sectors in
     times_in-spot_of layout.runs n _ (placed layout k place (spot_of layout.runs n) some e)
 
 -- two sectors of the table lie at two places
-pub table_place-once : (layout : Layout) (a b place : ℕ) → 0 < layout.cluster_sectors → AreApart layout.runs
+pub table_place-once : (layout : TableLayout) (a b place : ℕ) → 0 < layout.cluster_sectors → AreApart layout.runs
     → table_place layout a ≡ Some place → table_place layout b ≡ Some place → a ≡ b
 table_place-once layout a b place some apart e f =
     let per = layout.cluster_sectors in
@@ -77,7 +77,7 @@ spot_of-below clusters n cluster (run ∷ runs) on at = elim (cases_lt n run.len
       spot_of-below clusters (n - run.len) cluster runs more (sym (spot_of-past run runs n past) ∙ at)
 ]
 
-place_at-below : (layout : Layout) (sector place : ℕ) (spot : Spot) → 0 < layout.cluster_sectors
+place_at-below : (layout : TableLayout) (sector place : ℕ) (spot : Spot) → 0 < layout.cluster_sectors
     → ((cluster : ℕ) → spot ≡ At cluster → cluster < layout.clusters)
     → place_at layout sector spot ≡ Some place → place < layout.clusters * layout.cluster_sectors
 place_at-below layout sector place Outside some below at = cc
@@ -88,7 +88,7 @@ place_at-below layout sector place (At cluster) some below at =
     omega (arith, mul-add-lt cluster layout.cluster_sectors (sector % layout.cluster_sectors) layout.clusters lt (omega arith))
 
 -- a sector of the table lies in a cluster of the volume
-pub table_place-below : (layout : Layout) (sector place : ℕ) → 0 < layout.cluster_sectors
+pub table_place-below : (layout : TableLayout) (sector place : ℕ) → 0 < layout.cluster_sectors
     → All (IsOnVolume layout.clusters) layout.runs → table_place layout sector ≡ Some place
     → place < layout.clusters * layout.cluster_sectors
 table_place-below layout sector place some on at =
@@ -102,13 +102,13 @@ sector-below per clusters place some lt =
 
 -- Frames.
 
-shown-same : (old new : ℕ → List ℕ) (layout : Layout) (k : ℕ) (found : Option ℕ)
+shown-same : (old new : ℕ → List ℕ) (layout : TableLayout) (k : ℕ) (found : Option ℕ)
     → ((place : ℕ) → found ≡ Some place → new place ≡ old place) → shown_at new layout k found ≡ shown_at old layout k found
 shown-same old new layout k None same = refl
 shown-same old new layout k (Some place) same = ap (cut_off (layout.initialized - 512 * k)) (same place refl)
 
 -- disks that agree on the sectors of a block have the same block
-pub block_of-same : (old new : ℕ → List ℕ) (layout : Layout) (n : ℕ)
+pub block_of-same : (old new : ℕ → List ℕ) (layout : TableLayout) (n : ℕ)
     → ((k place : ℕ) → k / 2 ≡ n → table_place layout k ≡ Some place → new place ≡ old place)
     → block_of new layout n ≡ block_of old layout n
 unfolding block_of
@@ -119,7 +119,7 @@ block_of-same old new layout n same =
     shown-same old new layout (2 * n + 1) (table_place layout (2 * n + 1)) (λ p e. same (2 * n + 1) p (omega arith) e) in
     ap (λ x. x ++ table_sector new layout (2 * n + 1)) a ∙ ap (λ x. table_sector old layout (2 * n) ++ x) b
 
-pub copy_of-same : (old new : ℕ → List ℕ) (layout : Layout) (n : ℕ)
+pub copy_of-same : (old new : ℕ → List ℕ) (layout : TableLayout) (n : ℕ)
     → ((k : ℕ) → k / 2 ≡ n → new (mirror_sector layout + k) ≡ old (mirror_sector layout + k)) → copy_of new layout n ≡ copy_of old layout n
 unfolding copy_of
 copy_of-same old new layout n same =
@@ -136,7 +136,7 @@ pieces-same f g a (suc n) same =
     ap (λ x. x ++ flat_map g (range_with_len (a + 1) n)) (same a (omega arith) (omega arith))
     ∙ ap (λ x. f a ++ x) (pieces-same f g (a + 1) n (λ i l u. same i (omega arith) (omega arith)))
 
-pub cluster_of-same : (old new : ℕ → List ℕ) (layout : Layout) (c : ℕ)
+pub cluster_of-same : (old new : ℕ → List ℕ) (layout : TableLayout) (c : ℕ)
     → ((place : ℕ) → place / layout.cluster_sectors ≡ c → new place ≡ old place) → cluster_of new layout c ≡ cluster_of old layout c
 unfolding cluster_of
 cluster_of-same old new layout c same =
@@ -152,7 +152,7 @@ cut_off-whole n bytes fits =
     let z : length bytes - n ≡ 0 = omega arith in
     rw (t, z) (append-nil bytes)
 
-shown-some : (disk : ℕ → List ℕ) (layout : Layout) (k place : ℕ) (found : Option ℕ) → found ≡ Some place
+shown-some : (disk : ℕ → List ℕ) (layout : TableLayout) (k place : ℕ) (found : Option ℕ) → found ≡ Some place
     → length (disk place) ≤ 512 → 512 * k + 512 ≤ layout.initialized → shown_at disk layout k found ≡ disk place
 shown-some disk layout k place None e short written = cc
 shown-some disk layout k place (Some other) e short written =
@@ -160,7 +160,7 @@ shown-some disk layout k place (Some other) e short written =
     rw s (cut_off-whole (layout.initialized - 512 * k) (disk place) (omega arith))
 
 -- a block that lies whole in what was written
-pub block_of-whole : (disk : ℕ → List ℕ) (layout : Layout) (n low high : ℕ)
+pub block_of-whole : (disk : ℕ → List ℕ) (layout : TableLayout) (n low high : ℕ)
     → table_place layout (2 * n) ≡ Some low → table_place layout (2 * n + 1) ≡ Some high → 1024 * n + 1024 ≤ layout.initialized
     → length (disk low) ≤ 512 → length (disk high) ≤ 512 → block_of disk layout n ≡ disk low ++ disk high
 unfolding block_of

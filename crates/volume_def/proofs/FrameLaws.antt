@@ -7,13 +7,13 @@ use Rattle.std.proofs.lemmas.Nat.{div-mul-add, mul-add-lt}
 use Rattle.std.proofs.lemmas.List.{drop-drop, drop_at, length-take, take_at}
 use Rattle.std.proofs.Math.ListN.{take-append-drop}
 use Rattle.volume_def.specs.Blocks.{block_of, cluster_of, copy_of, mirror_sector, table_place}
-use Rattle.volume_def.specs.Owners.{IsOutsideTable, IsPlaced, times_in}
-use Rattle.volume_def.specs.Table.{Layout}
+use Rattle.volume_def.specs.Coverage.{IsOutsideTable, IsApart, times_covered}
+use Rattle.volume_def.specs.Table.{TableLayout}
 use Rattle.volume_def.specs.View.{ReplacesBlock, ReplacesPiece, WritesOne, WritesTwo, piece_of, view_of}
 use Rattle.volume_def.proofs.BlockLaws.{block_of-same, block_of-whole, cluster_of-same, copy_of-same, sector-below, table_place-below, table_place-once, table_place-times}
 
 -- the two sectors of block n of the table were written
-module _ (told : Bool) (old new : ℕ → List ℕ) (layout : Layout) (n low high : ℕ) (stored : List ℕ) (is : IsPlaced layout)
+module _ (told : Bool) (old new : ℕ → List ℕ) (layout : TableLayout) (n low high : ℕ) (stored : List ℕ) (is : IsApart layout)
     (e : table_place layout (2 * n) ≡ Some low) (f : table_place layout (2 * n + 1) ≡ Some high) (w : WritesTwo told old new low high stored) where
   pub block-written : 1024 * n + 1024 ≤ layout.initialized → length stored ≡ 1024 → IsTrue told → block_of new layout n ≡ stored
   block-written written len tells =
@@ -32,11 +32,11 @@ module _ (told : Bool) (old new : ℕ → List ℕ) (layout : Layout) (n low hig
   copies-written m few = copy_of-same old new layout m (λ k half. w.others (mirror_sector layout + k)
       (λ (s : mirror_sector layout + k ≡ low).
       let c = table_place-times layout (2 * n) low is.some e in
-      let z : times_in layout.runs (low / layout.cluster_sectors) ≡ 0 = rw s at (is.mirror k (omega arith)) in
+      let z : times_covered layout.runs (low / layout.cluster_sectors) ≡ 0 = rw s at (is.mirror k (omega arith)) in
       absurd (omega arith))
       (λ (s : mirror_sector layout + k ≡ high).
       let c = table_place-times layout (2 * n + 1) high is.some f in
-      let z : times_in layout.runs (high / layout.cluster_sectors) ≡ 0 = rw s at (is.mirror k (omega arith)) in
+      let z : times_covered layout.runs (high / layout.cluster_sectors) ≡ 0 = rw s at (is.mirror k (omega arith)) in
       absurd (omega arith)))
 
   pub clusters-written : (c : ℕ) → IsOutsideTable layout c → cluster_of new layout c ≡ cluster_of old layout c
@@ -44,12 +44,12 @@ module _ (told : Bool) (old new : ℕ → List ℕ) (layout : Layout) (n low hig
       (λ (s : place ≡ low).
       let x = table_place-times layout (2 * n) low is.some e in
       let q : low / layout.cluster_sectors ≡ c = ap (λ q. q / layout.cluster_sectors) (sym s) ∙ in_c in
-      let y : 1 ≤ times_in layout.runs c = rw q at x in
+      let y : 1 ≤ times_covered layout.runs c = rw q at x in
       let z = out.table in absurd (omega arith))
       (λ (s : place ≡ high).
       let x = table_place-times layout (2 * n + 1) high is.some f in
       let q : high / layout.cluster_sectors ≡ c = ap (λ q. q / layout.cluster_sectors) (sym s) ∙ in_c in
-      let y : 1 ≤ times_in layout.runs c = rw q at x in
+      let y : 1 ≤ times_covered layout.runs c = rw q at x in
       let z = out.table in absurd (omega arith)))
 
   pub rest-written : (k : ℕ) → new (layout.clusters * layout.cluster_sectors + k) ≡ old (layout.clusters * layout.cluster_sectors + k)
@@ -72,23 +72,23 @@ module _ (told : Bool) (old new : ℕ → List ℕ) (layout : Layout) (n low hig
   }
 
 -- the two sectors of copy n were written
-module _ (told : Bool) (old new : ℕ → List ℕ) (layout : Layout) (n : ℕ) (stored : List ℕ) (is : IsPlaced layout) (few : n < 4)
+module _ (told : Bool) (old new : ℕ → List ℕ) (layout : TableLayout) (n : ℕ) (stored : List ℕ) (is : IsApart layout) (few : n < 4)
     (w : WritesTwo told old new (mirror_sector layout + 2 * n) (mirror_sector layout + 2 * n + 1) stored) where
   behind : mirror_sector layout + 2 * n + 1 ≡ mirror_sector layout + (2 * n + 1)
   behind = omega arith
 
-  zero_high : times_in layout.runs ((mirror_sector layout + 2 * n + 1) / layout.cluster_sectors) ≡ 0
+  zero_high : times_covered layout.runs ((mirror_sector layout + 2 * n + 1) / layout.cluster_sectors) ≡ 0
   zero_high = rw behind (is.mirror (2 * n + 1) (omega arith))
 
   pub blocks-copied : (m : ℕ) → block_of new layout m ≡ block_of old layout m
   blocks-copied m = block_of-same old new layout m (λ k place half at. w.others place
       (λ (s : place ≡ mirror_sector layout + 2 * n).
       let x = table_place-times layout k place is.some at in
-      let y : 1 ≤ times_in layout.runs ((mirror_sector layout + 2 * n) / layout.cluster_sectors) = rw s at x in
+      let y : 1 ≤ times_covered layout.runs ((mirror_sector layout + 2 * n) / layout.cluster_sectors) = rw s at x in
       let z = is.mirror (2 * n) (omega arith) in absurd (omega arith))
       (λ (s : place ≡ mirror_sector layout + 2 * n + 1).
       let x = table_place-times layout k place is.some at in
-      let y : 1 ≤ times_in layout.runs ((mirror_sector layout + 2 * n + 1) / layout.cluster_sectors) = rw s at x in
+      let y : 1 ≤ times_covered layout.runs ((mirror_sector layout + 2 * n + 1) / layout.cluster_sectors) = rw s at x in
       let z = zero_high in absurd (omega arith)))
 
   pub copy-copied : IsTrue told → copy_of new layout n ≡ stored
@@ -116,7 +116,7 @@ module _ (told : Bool) (old new : ℕ → List ℕ) (layout : Layout) (n : ℕ) 
       (λ s. let second = below (2 * n + 1) (omega arith) in absurd (omega arith))
 
 -- a block, and then its copy
-pub ReplacesBlock-mirrored : (told : Bool) (old mid new : ℕ → List ℕ) (layout : Layout) (n low high : ℕ) (stored : List ℕ) → IsPlaced layout
+pub ReplacesBlock-mirrored : (told : Bool) (old mid new : ℕ → List ℕ) (layout : TableLayout) (n low high : ℕ) (stored : List ℕ) → IsApart layout
     → table_place layout (2 * n) ≡ Some low → table_place layout (2 * n + 1) ≡ Some high → WritesTwo told old mid low high stored
     → n < 4 → WritesTwo told mid new (mirror_sector layout + 2 * n) (mirror_sector layout + 2 * n + 1) stored
     → 1024 * n + 1024 ≤ layout.initialized → length stored ≡ 1024
@@ -156,7 +156,7 @@ piece_of-pieces f a (suc n) (suc j) long lt =
     ∙ ap f s
 
 -- a piece of a cluster is the sector there
-pub piece_of-cluster : (disk : ℕ → List ℕ) (layout : Layout) (c j : ℕ)
+pub piece_of-cluster : (disk : ℕ → List ℕ) (layout : TableLayout) (c j : ℕ)
     → ((i : ℕ) → i < layout.cluster_sectors → length (disk (c * layout.cluster_sectors + i)) ≡ 512) → j < layout.cluster_sectors
     → piece_of (cluster_of disk layout c) j ≡ disk (c * layout.cluster_sectors + j)
 unfolding cluster_of
@@ -169,7 +169,7 @@ piece_of-cluster disk layout c j long lt =
     ∙ ap (λ i. disk (c * per + i)) z
 
 -- one sector of a cluster was written
-module _ (told : Bool) (old new : ℕ → List ℕ) (layout : Layout) (c j : ℕ) (bytes : List ℕ) (is : IsPlaced layout) (out : IsOutsideTable layout c)
+module _ (told : Bool) (old new : ℕ → List ℕ) (layout : TableLayout) (c j : ℕ) (bytes : List ℕ) (is : IsApart layout) (out : IsOutsideTable layout c)
     (on : c < layout.clusters) (lt : j < layout.cluster_sectors) (w : WritesOne told old new (c * layout.cluster_sectors + j) bytes) where
   of_c : (c * layout.cluster_sectors + j) / layout.cluster_sectors ≡ c
   of_c = div-mul-add c layout.cluster_sectors j lt
@@ -178,7 +178,7 @@ module _ (told : Bool) (old new : ℕ → List ℕ) (layout : Layout) (c j : ℕ
   blocks-filled n = block_of-same old new layout n (λ k place half at. w.others place (λ (s : place ≡ c * layout.cluster_sectors + j).
       let x = table_place-times layout k place is.some at in
       let q : place / layout.cluster_sectors ≡ c = ap (λ q. q / layout.cluster_sectors) s ∙ of_c in
-      let y : 1 ≤ times_in layout.runs c = rw q at x in
+      let y : 1 ≤ times_covered layout.runs c = rw q at x in
       let z = out.table in absurd (omega arith)))
 
   pub ReplacesPiece-written : (IsTrue told → (i : ℕ) → i < layout.cluster_sectors → length (old (c * layout.cluster_sectors + i)) ≡ 512)

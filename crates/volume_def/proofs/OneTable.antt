@@ -1,15 +1,15 @@
 -- A volume has one table.
 use Rattle.std.proofs.Common.{◌≡◌, ◌/◌, ℕ, List, sym, ap, subst, ◌∙◌}
 use Rattle.ntfs_def.specs.declared.run_text.Run.{Run}
-use Rattle.ntfs_def.specs.Attribute.{Attribute, Extent, NonResident}
+use Rattle.ntfs_def.specs.Attribute.{Attribute, ExtentHeader, NonResident}
 use Rattle.ntfs_def.specs.Runs.{MeansRuns}
 use Rattle.ntfs_def.proofs.RunLaws.{MeansFrom-exact}
-use Rattle.volume_def.specs.Table.{Layout, MeetsTableClause}
+use Rattle.volume_def.specs.Table.{TableLayout, MeetsTable}
 
-layouts_same : (one other : Layout) → one.cluster_sectors ≡ other.cluster_sectors → one.clusters ≡ other.clusters
+layouts_same : (one other : TableLayout) → one.cluster_sectors ≡ other.cluster_sectors → one.clusters ≡ other.clusters
     → one.mirror ≡ other.mirror → one.runs ≡ other.runs → one.initialized ≡ other.initialized → one.count ≡ other.count → one ≡ other
 layouts_same one other sectors clusters mirror runs initialized count =
-    let made : ℕ → ℕ → ℕ → List Run → ℕ → ℕ → Layout =
+    let made : ℕ → ℕ → ℕ → List Run → ℕ → ℕ → TableLayout =
     λ s c m r i n. record { cluster_sectors = s; clusters = c; mirror = m; runs = r; initialized = i; count = n } in
     ap (λ s. made s one.clusters one.mirror one.runs one.initialized one.count) sectors
     ∙ ap (λ c. made other.cluster_sectors c one.mirror one.runs one.initialized one.count) clusters
@@ -18,8 +18,8 @@ layouts_same one other sectors clusters mirror runs initialized count =
     ∙ ap (λ i. made other.cluster_sectors other.clusters other.mirror other.runs i one.count) initialized
     ∙ ap (λ n. made other.cluster_sectors other.clusters other.mirror other.runs other.initialized n) count
 
-pub layout-exact : (disk : ℕ → List ℕ) (boot : List ℕ) (one other : Layout)
-    → MeetsTableClause disk boot one → MeetsTableClause disk boot other → one ≡ other
+pub layout-exact : (disk : ℕ → List ℕ) (boot : List ℕ) (one other : TableLayout)
+    → MeetsTable disk boot one → MeetsTable disk boot other → one ≡ other
 layout-exact disk boot one other x y =
     let a = x.table in
     let b = y.table in
@@ -34,5 +34,5 @@ layout-exact disk boot one other x y =
     (x.volume.clusters ∙ sym y.volume.clusters)
     (x.volume.mirror ∙ sym y.volume.mirror)
     (MeansFrom-exact b.text 0 0 one.runs other.runs means b.means)
-    (a.initialized ∙ ap (λ (e : Extent). e.sizes.initialized) extents ∙ sym b.initialized)
-    (a.count ∙ ap (λ (e : Extent). e.sizes.real / 1024) extents ∙ sym b.count)
+    (a.initialized ∙ ap (λ (e : ExtentHeader). e.sizes.initialized) extents ∙ sym b.initialized)
+    (a.count ∙ ap (λ (e : ExtentHeader). e.sizes.real / 1024) extents ∙ sym b.count)

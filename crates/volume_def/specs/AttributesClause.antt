@@ -4,7 +4,7 @@ use Rattle.std.specs.Prelude.{◌≡◌, ◌⊎◌, ℕ, ◌<◌, ◌≤◌, ◌
 use Rattle.ntfs_def.specs.declared.kinds.TheConstants.{FILE_NAME, INDEX_ROOT, STANDARD_INFORMATION, VOLUME_INFORMATION}
 use Rattle.ntfs_def.specs.FileName.{is_name_key}
 use Rattle.ntfs_def.specs.Record.{is_in_use}
-use Rattle.volume_def.specs.Files.{Part, Record, Records, is_base, value_in}
+use Rattle.volume_def.specs.Files.{Part, Record, Records, is_base, content_value}
 use Rattle.volume_def.specs.Table.{IsWellFormed}
 use Rattle.volume_def.specs.View.{VolumeView}
 
@@ -13,9 +13,9 @@ abbrev pub MeetsShape : VolumeView → ℕ → Type 0
 MeetsShape view n = n < view.layout.count → IsTrue (is_in_use (view.block n)) → IsWellFormed (view.block n)
 
 -- types never descend
-abbrev pub RisesFrom : ℕ → List Part → Type 0
-RisesFrom least [] = Unit {0}
-RisesFrom least (part ∷ parts) = (least ≤ part.kind) × RisesFrom part.kind parts
+abbrev pub AscendsFrom : ℕ → List Part → Type 0
+AscendsFrom least [] = Unit {0}
+AscendsFrom least (part ∷ parts) = (least ≤ part.kind) × AscendsFrom part.kind parts
 
 abbrev pub times_id : ℕ → List Part → ℕ
 times_id id parts = count_by (λ part. part.id == id) parts
@@ -25,7 +25,7 @@ is_standard part = part.kind == STANDARD_INFORMATION
 
 -- $STANDARD_INFORMATION has no name, and a value of 48 or 72 bytes
 abbrev pub IsStandard : Part → Type 0
-IsStandard part = (part.name ≡ []) × IsSomeAnd (value_in part.content) (λ value. (length value ≡ 48) ⊎ (length value ≡ 72))
+IsStandard part = (part.name ≡ []) × IsSomeAnd (content_value part.content) (λ value. (length value ≡ 48) ⊎ (length value ≡ 72))
 
 -- the types that are resident always
 abbrev pub is_kept_resident : ℕ → Bool
@@ -33,13 +33,13 @@ is_kept_resident kind = (kind == FILE_NAME) || (kind == INDEX_ROOT) || (kind == 
 
 -- what is asked of each attribute
 pub record IsRightPart (part : Part) : Type 0 where
-  pub resident : IsTrue (is_kept_resident part.kind) → IsSome (value_in part.content)
-  pub name : part.kind ≡ FILE_NAME → IsSomeAnd (value_in part.content) (λ value. IsTrue (is_name_key value))
+  pub resident : IsTrue (is_kept_resident part.kind) → IsSome (content_value part.content)
+  pub name : part.kind ≡ FILE_NAME → IsSomeAnd (content_value part.content) (λ value. IsTrue (is_name_key value))
 
 pub record IsRightRecord (n : ℕ) (r : Record) : Type 0 where
   -- the records of the system's files are base records
   pub system : n < 12 → IsTrue (is_base r)
-  pub rising : RisesFrom 0 r.parts
+  pub rising : AscendsFrom 0 r.parts
   pub ids : (id : ℕ) → times_id id r.parts ≤ 1
   pub one_standard : IsTrue (is_base r) → count_by is_standard r.parts ≡ 1
   pub standard : IsTrue (is_base r) → All (λ part. part.kind ≡ STANDARD_INFORMATION → IsStandard part) r.parts

@@ -10,7 +10,7 @@ pub record ChangesAt (old new : Records) (n : ℕ) : Type 0 where
   pub others : (m : ℕ) → m ≢ n → new.record_at m ≡ old.record_at m
 
 -- The header stays, but for the id that the next attribute gets.
-pub record KeepsHeader (was now : Header) : Type 0 where
+pub record KeepsRecordHeader (was now : Header) : Type 0 where
   pub sequence : now.sequence ≡ was.sequence
   pub links : now.links ≡ was.links
   pub flags : now.flags ≡ was.flags
@@ -25,7 +25,7 @@ pub record EditsAt (old new : Records) (n : ℕ) (was now : List Part) : Type 0 
   pub now_record : Record
   pub was_at : old.record_at n ≡ Some was_record
   pub now_at : new.record_at n ≡ Some now_record
-  pub header : KeepsHeader was_record.header now_record.header
+  pub header : KeepsRecordHeader was_record.header now_record.header
   pub edit : Replaces was_record.parts now_record.parts was now
 
 -- what a part says, wherever it stands and under whichever id
@@ -39,7 +39,7 @@ abbrev pub said_by : Part → Said
 said_by part = record { kind = part.kind; name = part.name; flags = part.flags; content = part.content }
 
 -- A part goes from one record of a file to another, where it may have another id.
-pub record Moves (old new : Records) (from to : ℕ) (was now : Part) : Type 0 where
+pub record MovesPart (old new : Records) (from to : ℕ) (was now : Part) : Type 0 where
   pub between : Records
   pub leaves : EditsAt old between from (was ∷ []) []
   pub comes : EditsAt between new to [] (now ∷ [])

@@ -4,35 +4,35 @@ use Rattle.std.specs.Prelude.{◌≡◌, ◌≢◌, ◌⊎◌, ℕ, ◌+◌, ◌
 use Rattle.ntfs_def.specs.declared.kinds.TheConstants.{DATA, FILE_NAME}
 use Rattle.ntfs_def.specs.declared.sizes.Sizes.{Sizes}
 use Rattle.ntfs_def.specs.Packed.{is_packed}
-use Rattle.volume_def.specs.Files.{Part, Records, covered, extent_in, is_base, is_of, parts, parts_like, run_list_in, value_in}
+use Rattle.volume_def.specs.Files.{Part, Records, part_clusters, content_extent, is_base, is_of, parts, parts_like, content_runs, content_value}
 use Rattle.volume_def.specs.SameItems.{SameItems}
 
 -- the number of the last of n clusters; 2^64 - 1 where there is none
 abbrev pub last_vcn_of : ℕ → ℕ
 last_vcn_of n = if n == 0 then 2 ^ 64 - 1 else n - 1
 
--- An extent that begins with this cluster of its stream. Its text is a run list, and its numbers tell what it covers.
+-- An extent that begins with this cluster of its stream. Its text is a run list, and its numbers tell what it has_cluster.
 pub record BeginsAt (vcn : ℕ) (part : Part) : Type 0 where
-  pub runs : IsSome (run_list_in part.content)
-  pub first : IsSomeAnd (extent_in part.content) (λ extent. extent.sizes.first ≡ vcn)
-  pub last : IsSomeAnd (extent_in part.content) (λ extent. extent.sizes.last ≡ last_vcn_of (vcn + covered part))
+  pub runs : IsSome (content_runs part.content)
+  pub first : IsSomeAnd (content_extent part.content) (λ extent. extent.sizes.first ≡ vcn)
+  pub last : IsSomeAnd (content_extent part.content) (λ extent. extent.sizes.last ≡ last_vcn_of (vcn + part_clusters part))
 
 -- Extents that follow one another.
 abbrev pub FollowFrom : ℕ → List Part → Type 0
 FollowFrom vcn [] = Unit {0}
-FollowFrom vcn (part ∷ parts) = BeginsAt vcn part × FollowFrom (vcn + covered part) parts
+FollowFrom vcn (part ∷ parts) = BeginsAt vcn part × FollowFrom (vcn + part_clusters part) parts
 
 -- One value, or extents from cluster 0 on.
-abbrev pub AreWholeStream : List Part → Type 0
-AreWholeStream (part ∷ []) = IsSome (value_in part.content) ⊎ BeginsAt 0 part
-AreWholeStream parts = FollowFrom 0 parts
+abbrev pub AreWhole : List Part → Type 0
+AreWhole (part ∷ []) = IsSome (content_value part.content) ⊎ BeginsAt 0 part
+AreWhole parts = FollowFrom 0 parts
 
 -- the clusters that a stream has
 abbrev pub all_covered : List Part → ℕ
-all_covered parts = sum_by covered parts
+all_covered parts = sum_by part_clusters parts
 
--- The sizes that the first extent tells of a stream which covers so many bytes.
-pub record FitStream (bytes flags : ℕ) (sizes : Sizes) : Type 0 where
+-- The sizes that the first extent tells of a stream which has_cluster so many bytes.
+pub record FitExtents (bytes flags : ℕ) (sizes : Sizes) : Type 0 where
   pub initialized : sizes.initialized ≤ sizes.real
   pub real : sizes.real ≤ bytes
   pub allocated : IsTrue (not (nat_le 0x8000 flags)) → sizes.allocated ≡ bytes
@@ -51,15 +51,15 @@ has_sizes f part = not (is_packed part.kind part.flags || is_bad_stream f part)
 
 -- The parts are one attribute, in clusters of `size` bytes: in some order they follow one another, and where they are several
 -- each has a cluster. The first of that order tells the sizes.
-pub record AreStream (size f : ℕ) (extents : List Part) : Type 0 where
+pub record AreAttribute (size f : ℕ) (extents : List Part) : Type 0 where
   pub ordered : List Part
   pub order : SameItems extents ordered
-  pub whole : AreWholeStream ordered
-  pub several : 1 < length ordered → All (λ part. 1 ≤ covered part) ordered
-  pub sizes : All (λ part. IsTrue (has_sizes f part) → IfSome (extent_in part.content) (λ extent.
-      extent.sizes.first ≡ 0 → FitStream (all_covered ordered * size) part.flags extent.sizes)) ordered
+  pub whole : AreWhole ordered
+  pub several : 1 < length ordered → All (λ part. 1 ≤ part_clusters part) ordered
+  pub sizes : All (λ part. IsTrue (has_sizes f part) → IfSome (content_extent part.content) (λ extent.
+      extent.sizes.first ≡ 0 → FitExtents (all_covered ordered * size) part.flags extent.sizes)) ordered
 
 -- The clause on extents: for each type and name of a file, $FILE_NAME aside.
 abbrev pub MeetsExtents : Records → ℕ → ℕ → Type 0
 MeetsExtents records size f = IfSome (records.record_at f) (λ r. IsTrue (is_base r)
-    → All (λ part. part.kind ≢ FILE_NAME → AreStream size f (parts_like part (parts records f))) (parts records f))
+    → All (λ part. part.kind ≢ FILE_NAME → AreAttribute size f (parts_like part (parts records f))) (parts records f))

@@ -5,7 +5,7 @@ use Rattle.std.specs.Prelude.{ℕ, ◌==◌, ◌&&◌, nat_lt, Bool, List, [], m
 use Rattle.std.specs.List.{flat_map, range_with_len}
 use Rattle.std.specs.Str.{bytes_eq}
 use Rattle.ntfs_def.specs.declared.run_text.Run.{Run}
-use Rattle.ntfs_def.specs.Attribute.{Attribute, Body, Extent, NonResident, Resident, attributes}
+use Rattle.ntfs_def.specs.Attribute.{Attribute, Body, ExtentHeader, NonResident, Resident, attributes}
 use Rattle.ntfs_def.specs.Fixup.{opened_of}
 use Rattle.ntfs_def.specs.Record.{Header, header_of, is_in_use}
 use Rattle.ntfs_def.specs.Runs.{runs_in, total_clusters}
@@ -15,7 +15,7 @@ use Rattle.volume_def.specs.View.{VolumeView}
 -- text is no run list.
 pub data Content : Type 0 where
   Value : List ℕ → Content
-  Clusters : Extent → Option (List Run) → Content
+  Clusters : ExtentHeader → Option (List Run) → Content
 
 -- A part of a file: an attribute, as far as it means something, and the record that holds it. The name is in bytes.
 pub record Part : Type 0 where
@@ -59,10 +59,10 @@ pub record Records : Type 0 where
   pub record_at : ℕ → Option Record
 
 abbrev pub record_at : VolumeView → ℕ → Option Record
-record_at view n = if nat_lt n view.layout.count then record_in n (view.block n) else None
+record_on view n = if nat_lt n view.layout.count then record_in n (view.block n) else None
 
 abbrev pub records_of : VolumeView → Records
-records_of view = record { count = view.layout.count; record_at = record_at view }
+records_of view = record { count = view.layout.count; record_at = record_on view }
 
 -- a base record names no other as its base
 abbrev pub is_base : Record → Bool
@@ -89,24 +89,24 @@ abbrev pub parts_like : Part → List Part → List Part
 parts_like part all = filter (is_of part.kind part.name) all
 
 -- the value that a part holds
-abbrev pub value_in : Content → Option (List ℕ)
-value_in (Value value) = Some value
-value_in (Clusters extent runs) = None
+abbrev pub content_value : Content → Option (List ℕ)
+content_value (Value value) = Some value
+content_value (Clusters extent runs) = None
 
 -- the numbers of its extent
-abbrev pub extent_in : Content → Option Extent
-extent_in (Value value) = None
-extent_in (Clusters extent runs) = Some extent
+abbrev pub content_extent : Content → Option ExtentHeader
+content_extent (Value value) = None
+content_extent (Clusters extent runs) = Some extent
 
 -- the runs of its extent, `None` where its text is no run list
-abbrev pub run_list_in : Content → Option (List Run)
-run_list_in (Value value) = None
-run_list_in (Clusters extent runs) = runs
+abbrev pub content_runs : Content → Option (List Run)
+content_runs (Value value) = None
+content_runs (Clusters extent runs) = runs
 
 -- its runs: none where it is a value, and where its text is no run list
-abbrev pub placed_runs : Part → List Run
-placed_runs part = unwrap_or (run_list_in part.content) []
+abbrev pub part_runs : Part → List Run
+part_runs part = unwrap_or (content_runs part.content) []
 
--- the clusters of the stream that it covers
+-- the clusters of the stream that it has_cluster
 abbrev pub covered : Part → ℕ
-covered part = total_clusters (placed_runs part)
+part_clusters part = total_clusters (part_runs part)

@@ -1,12 +1,12 @@
 pub mod Table
 pub mod Blocks
-pub mod Owners
+pub mod Coverage
 pub mod View
 pub mod VolumeRecord
 pub mod SameItems
 pub mod Replaces
 pub mod Files
-pub mod Streams
+pub mod Values
 pub mod AttributesClause
 pub mod ListsClause
 pub mod ExtentsClause

@@ -2,12 +2,12 @@
 -- Layout: Linux-NTFS documentation, attribute $ATTRIBUTE_LIST; Carrier, File System Forensic Analysis, chapter 13.
 use Rattle.std.specs.Prelude.{◌≡◌, ℕ, ◌*◌, ◌≤◌, ◌==◌, not, Bool, false, List, [], ◌∷◌, map, filter, length, All, count_by, Option, Some, None, IfSome, IsSome, IsTrue}
 use Rattle.ntfs_def.specs.declared.kinds.TheConstants.{ATTRIBUTE_LIST}
-use Rattle.ntfs_def.specs.Attribute.{Extent}
+use Rattle.ntfs_def.specs.Attribute.{ExtentHeader}
 use Rattle.ntfs_def.specs.AttributeList.{HasListShape, ListEntry, list_entries}
 use Rattle.ntfs_def.specs.Packed.{is_packed}
-use Rattle.volume_def.specs.Files.{Part, Record, covered, extent_in, file_of, is_base, parts, placed_runs, record_at, records_of, run_list_in}
+use Rattle.volume_def.specs.Files.{Part, Record, part_clusters, content_extent, file_of, is_base, parts, part_runs, record_on, records_of, content_runs}
 use Rattle.volume_def.specs.SameItems.{SameItems}
-use Rattle.volume_def.specs.Streams.{first_vcn_of, value_on}
+use Rattle.volume_def.specs.Values.{first_vcn_of, value_on}
 use Rattle.volume_def.specs.Table.{IsOnVolume, cluster_bytes}
 use Rattle.volume_def.specs.View.{VolumeView}
 
@@ -23,21 +23,21 @@ sequence_in None = 0
 sequence_in (Some r) = r.header.sequence
 
 -- what names a part in the list of its file; its holder is named by its whole reference
-abbrev pub entry_of : VolumeView → Part → ListEntry
-entry_of view part = record {
+abbrev pub listed_as : VolumeView → Part → ListEntry
+listed_as view part = record {
   kind = part.kind;
   name = part.name;
   first = first_vcn_of part.content;
-  holder = record { number = part.holder; sequence = sequence_in (record_at view part.holder) };
+  holder = record { number = part.holder; sequence = sequence_in (record_on view part.holder) };
   id = part.id;
 }
 
 -- A list in clusters has one extent, which lies whole on the volume.
-pub record IsPlacedList (view : VolumeView) (part : Part) (extent : Extent) : Type 0 where
+pub record LiesOnVolume (view : VolumeView) (part : Part) (extent : ExtentHeader) : Type 0 where
   pub from_start : extent.sizes.first ≡ 0
-  pub text : IsSome (run_list_in part.content)
-  pub on_volume : All (IsOnVolume view.layout.clusters) (placed_runs part)
-  pub covered : extent.sizes.real ≤ covered part * cluster_bytes view.layout
+  pub text : IsSome (content_runs part.content)
+  pub on_volume : All (IsOnVolume view.layout.clusters) (part_runs part)
+  pub covered : extent.sizes.real ≤ part_clusters part * cluster_bytes view.layout
 
 -- the value of a list
 abbrev pub list_value : VolumeView → Part → List ℕ
@@ -48,14 +48,14 @@ list_value view part = value_on view (part ∷ [])
 pub record IsRightList (view : VolumeView) (f : ℕ) (all : List Part) (part : Part) : Type 0 where
   pub home : part.holder ≡ f
   pub plain : is_packed part.kind part.flags ≡ false
-  pub placed : IfSome (extent_in part.content) (IsPlacedList view part)
+  pub placed : IfSome (content_extent part.content) (LiesOnVolume view part)
   pub short : length (list_value view part) ≤ 262144
   pub shape : HasListShape (list_value view part) (length (list_entries (list_value view part)))
-  pub each_once : SameItems (map (entry_of view) (listed_parts all)) (list_entries (list_value view part))
+  pub each_once : SameItems (map (listed_as view) (listed_parts all)) (list_entries (list_value view part))
 
 -- No record but f itself belongs to file f.
 abbrev pub IsAlone : VolumeView → ℕ → Type 0
-IsAlone view f = (n : ℕ) → IfSome (record_at view n) (λ r. file_of n r ≡ f → n ≡ f)
+IsAlone view f = (n : ℕ) → IfSome (record_on view n) (λ r. file_of n r ≡ f → n ≡ f)
 
 pub record HasRightList (view : VolumeView) (f : ℕ) (all : List Part) : Type 0 where
   pub few : count_by is_list all ≤ 1
@@ -64,4 +64,4 @@ pub record HasRightList (view : VolumeView) (f : ℕ) (all : List Part) : Type 0
 
 -- The clause on lists.
 abbrev pub MeetsLists : VolumeView → ℕ → Type 0
-MeetsLists view f = IfSome (record_at view f) (λ r. IsTrue (is_base r) → HasRightList view f (parts (records_of view) f))
+MeetsLists view f = IfSome (record_on view f) (λ r. IsTrue (is_base r) → HasRightList view f (parts (records_of view) f))

@@ -2,7 +2,7 @@
 use Rattle.std.specs.Prelude.{ℕ, IsSomeAnd, IsTrue}
 use Rattle.volume_def.specs.AttributesClause.{MeetsAttributes, MeetsShape}
 use Rattle.volume_def.specs.ExtentsClause.{MeetsExtents}
-use Rattle.volume_def.specs.Files.{is_base, record_at, records_of}
+use Rattle.volume_def.specs.Files.{is_base, record_on, records_of}
 use Rattle.volume_def.specs.ListsClause.{MeetsLists}
 use Rattle.volume_def.specs.Table.{cluster_bytes}
 use Rattle.volume_def.specs.View.{VolumeView}
@@ -19,4 +19,4 @@ WhereReadable view P = IsTrue view.told → IsReadableVolume view → P
 
 -- Record f is in use, and a base record: there is a file of this number.
 abbrev pub IsFile : VolumeView → ℕ → Type 0
-IsFile view f = IsSomeAnd (record_at view f) (λ r. IsTrue (is_base r))
+IsFile view f = IsSomeAnd (record_on view f) (λ r. IsTrue (is_base r))

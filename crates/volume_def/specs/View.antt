@@ -2,13 +2,13 @@
 -- that belong to no cluster, each as a function of its number. No crate above speaks of sectors otherwise.
 use Rattle.std.specs.Prelude.{◌≡◌, ◌≢◌, ℕ, ◌+◌, ◌*◌, ◌<◌, List, take, drop, slice_range, Bool, IsTrue}
 use Rattle.volume_def.specs.Blocks.{block_of, cluster_of, copy_of}
-use Rattle.volume_def.specs.Owners.{IsOutsideTable}
-use Rattle.volume_def.specs.Table.{Layout}
+use Rattle.volume_def.specs.Coverage.{IsOutsideTable}
+use Rattle.volume_def.specs.Table.{TableLayout}
 
 pub record VolumeView : Type 0 where
   -- whether the contents are told; where they are not, nothing below says anything
   pub told : Bool
-  pub layout : Layout
+  pub layout : TableLayout
   pub block : ℕ → List ℕ
   pub copy : ℕ → List ℕ
   pub cluster : ℕ → List ℕ
@@ -16,7 +16,7 @@ pub record VolumeView : Type 0 where
   pub rest : ℕ → List ℕ
 
 -- the view of a disk, with this layout of the table
-abbrev pub view_of : Bool → (ℕ → List ℕ) → Layout → VolumeView
+abbrev pub view_of : Bool → (ℕ → List ℕ) → TableLayout → VolumeView
 view_of told disk layout = record {
   told = told;
   layout = layout;

@@ -1,8 +1,8 @@
 //! Laws with nothing to run: what a write of some sectors changes of a volume, and what it leaves.
 ghost use Rattle.std.specs.Prelude.{◌≡◌, ◌+◌, ◌*◌, ◌<◌, ◌≤◌, ℕ, Bool, IsTrue, List, Some, length};
 ghost use Rattle.volume_def.specs.Blocks.{mirror_sector, table_place};
-ghost use Rattle.volume_def.specs.Owners.{IsOutsideTable, IsPlaced};
-ghost use Rattle.volume_def.specs.Table.{Layout, MeetsTableClause};
+ghost use Rattle.volume_def.specs.Coverage.{IsOutsideTable, IsApart};
+ghost use Rattle.volume_def.specs.Table.{TableLayout, MeetsTable};
 ghost use Rattle.volume_def.specs.View.{ReplacesBlock, ReplacesPiece, WritesOne, WritesTwo, view_of};
 
 /// Where no cluster of the table is another of it or one of the mirror, a write of the two sectors of a block changes
@@ -10,19 +10,19 @@ ghost use Rattle.volume_def.specs.View.{ReplacesBlock, ReplacesPiece, WritesOne,
 /// and a write of a sector of a cluster outside the table and its mirror changes that sector of that cluster alone.
 /// None of them changes a sector that belongs to no cluster.
 pub fn frame_laws()
-    ensures block { (told : Bool) (old new : ℕ → List ℕ) (layout : Layout) (n low high : ℕ) (stored : List ℕ) → IsPlaced layout
+    ensures block { (told : Bool) (old new : ℕ → List ℕ) (layout : TableLayout) (n low high : ℕ) (stored : List ℕ) → IsApart layout
         → table_place layout (2 * n) ≡ Some low → table_place layout (2 * n + 1) ≡ Some high
         → WritesTwo told old new low high stored
         → 4 ≤ n → 1024 * n + 1024 ≤ layout.initialized → length stored ≡ 1024
         → ReplacesBlock (view_of told old layout) (view_of told new layout) n stored }
-    ensures mirrored { (told : Bool) (old mid new : ℕ → List ℕ) (layout : Layout) (n low high : ℕ) (stored : List ℕ)
-        → IsPlaced layout
+    ensures mirrored { (told : Bool) (old mid new : ℕ → List ℕ) (layout : TableLayout) (n low high : ℕ) (stored : List ℕ)
+        → IsApart layout
         → table_place layout (2 * n) ≡ Some low → table_place layout (2 * n + 1) ≡ Some high
         → WritesTwo told old mid low high stored
         → n < 4 → WritesTwo told mid new (mirror_sector layout + 2 * n) (mirror_sector layout + 2 * n + 1) stored
         → 1024 * n + 1024 ≤ layout.initialized → length stored ≡ 1024
         → ReplacesBlock (view_of told old layout) (view_of told new layout) n stored }
-    ensures piece { (told : Bool) (old new : ℕ → List ℕ) (layout : Layout) (c j : ℕ) (bytes : List ℕ) → IsPlaced layout
+    ensures piece { (told : Bool) (old new : ℕ → List ℕ) (layout : TableLayout) (c j : ℕ) (bytes : List ℕ) → IsApart layout
         → IsOutsideTable layout c → c < layout.clusters → j < layout.cluster_sectors
         → WritesOne told old new (c * layout.cluster_sectors + j) bytes
         → (IsTrue told → (i : ℕ) → i < layout.cluster_sectors → length (old (c * layout.cluster_sectors + i)) ≡ 512)
@@ -31,6 +31,6 @@ pub fn frame_laws()
 
 /// The sectors of a volume with this boot sector tell one table.
 pub fn one_table()
-    ensures { (disk : ℕ → List ℕ) (boot : List ℕ) (one other : Layout)
-        → MeetsTableClause disk boot one → MeetsTableClause disk boot other → one ≡ other }
+    ensures { (disk : ℕ → List ℕ) (boot : List ℕ) (one other : TableLayout)
+        → MeetsTable disk boot one → MeetsTable disk boot other → one ≡ other }
 {}

@@ -1,6 +1,6 @@
 use Rattle.std.proofs.Common.{◌+◌, ◌*◌, ◌<◌, ap, subst, arith, ◌∙◌}
 use Rattle.ntfs_def.specs.Boot.{cluster_sectors, mft_cluster}
-use Rattle.mft_table.specs.Tables.{layout_of}
+use Rattle.mft_table.specs.Tables.{table_layout}
 use Rattle.mft_table.proofs.BootSectors.{length-told}
 use Rattle.mft_table.proofs.TableLaws.{first_record-past, first_record-read, first_sector, has_table, lies_on, meets_clause}
 use Rattle.mft_table.proofs.volume.find_at.Goals as goal
@@ -18,12 +18,12 @@ returns-in-Some-clause-ok g c image told boot is =
     let (geometry, has) = rw c.in-Some.is at c.in_ok-table.ensures.some in
     let place = ap (λ n. c.args.geometry.now.mft * n) c.from.ensures in
     let read = first_record-read _ image _ boot c.args.geometry.now _ told c.in_ok-read_two_sectors.ensures.read place is in
-    meets_clause _ boot _ c.args.geometry.now (layout_of c.in-Some.table) is read has
+    meets_clause _ boot _ c.args.geometry.now (table_layout c.in-Some.table) is read has
 
 pub returns-in-Some-clause-lies : goal.returns-in-Some-clause-lies
 returns-in-Some-clause-lies g c =
     let (geometry, has) = rw c.in-Some.is at c.in_ok-table.ensures.some in
-    lies_on c.args.geometry.now _ _ (layout_of c.in-Some.table) c.requires has.tells
+    lies_on c.args.geometry.now _ _ (table_layout c.in-Some.table) c.requires has.tells
 
 pub returns-in-None-clause-err : goal.returns-in-None-clause-err
 returns-in-None-clause-err g c image told boot is layout clause =

@@ -1,10 +1,10 @@
 use Rattle.std.proofs.Common.{◌≡◌, ℕ, List, Option, Some, refl, sym, ap, subst, ◌∙◌}
 use Rattle.vol_disk.specs.Contents.{IsTold, sector_in}
 use Rattle.volume_def.specs.Blocks.{block_of}
-use Rattle.volume_def.specs.Table.{Layout}
+use Rattle.volume_def.specs.Table.{TableLayout}
 use Rattle.vol_stage.specs.Staged.{image}
-use Rattle.mft_table.specs.Blocks.{read_layout}
-use Rattle.mft_table.specs.Tables.{layout_of}
+use Rattle.mft_table.specs.Blocks.{reader_layout}
+use Rattle.mft_table.specs.Tables.{table_layout}
 use Rattle.ntfs_shell.proofs.label.read_volume_record.Goals as goal
 
 pub returns-clause-ok : goal.returns-clause-ok
@@ -14,10 +14,10 @@ returns-clause-ok g c all told =
     let tells : IsTold (image g.D.Disk c.find_table.new.stage) = subst (λ (o : Option (List ℕ)). IsTold o) (sym same) refl in
     record {
       boot = found.boot;
-      layout = layout_of c.in_ok-table.table;
+      layout = table_layout c.in_ok-table.table;
       clause = found.clause;
       block =
           c.in_ok-read_block.ensures.read tells
-          ∙ ap (λ (o : Option (List ℕ)). block_of (sector_in o) (read_layout c.blocks-2.result) 3) same
-          ∙ ap (λ (l : Layout). block_of (sector_in (Some all)) l 3) c.blocks-2.ensures;
+          ∙ ap (λ (o : Option (List ℕ)). block_of (sector_in o) (reader_layout c.blocks-2.result) 3) same
+          ∙ ap (λ (l : TableLayout). block_of (sector_in (Some all)) l 3) c.blocks-2.ensures;
     }

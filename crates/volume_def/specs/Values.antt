@@ -5,7 +5,7 @@ use Rattle.std.specs.List.{range_with_len}
 use Rattle.ntfs_def.specs.declared.run_text.Spot.{Spot}
 use Rattle.ntfs_def.specs.declared.run_text.Spot.TheVariants.{Outside, Hole, At}
 use Rattle.ntfs_def.specs.Runs.{spot_of}
-use Rattle.volume_def.specs.Files.{Clusters, Content, Part, Value, covered, parts_like, placed_runs, value_in}
+use Rattle.volume_def.specs.Files.{Clusters, Content, Part, Value, part_clusters, parts_like, part_runs, content_value}
 use Rattle.volume_def.specs.Table.{cluster_bytes}
 use Rattle.volume_def.specs.View.{VolumeView}
 
@@ -16,11 +16,11 @@ first_vcn_of (Clusters extent runs) = extent.sizes.first
 
 -- whether the part holds this cluster of the stream
 abbrev pub holds_vcn : ℕ → Part → Bool
-holds_vcn vcn part = nat_le (first_vcn_of part.content) vcn && nat_lt vcn (first_vcn_of part.content + covered part)
+holds_vcn vcn part = nat_le (first_vcn_of part.content) vcn && nat_lt vcn (first_vcn_of part.content + part_clusters part)
 
 abbrev pub spot_by : Option Part → ℕ → Spot
 spot_by None vcn = Outside
-spot_by (Some part) vcn = spot_of (placed_runs part) (vcn - first_vcn_of part.content)
+spot_by (Some part) vcn = spot_of (part_runs part) (vcn - first_vcn_of part.content)
 
 -- where a cluster of the stream lies, in whichever order its extents stand
 abbrev pub spot_at : List Part → ℕ → Spot
@@ -71,4 +71,4 @@ value_on view extents = value_of_parts view.cluster (cluster_bytes view.layout) 
 
 -- the value of the attribute that this part is of, among all parts of its file; a part with a value is all of it
 abbrev pub attribute_value : VolumeView → List Part → Part → List ℕ
-attribute_value view all part = unwrap_or (value_in part.content) (value_on view (parts_like part all))
+attribute_value view all part = unwrap_or (content_value part.content) (value_on view (parts_like part all))
