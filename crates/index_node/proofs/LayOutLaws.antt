@@ -15,7 +15,7 @@ use Rattle.ntfs_def.specs.Fixup.{array_place, array_end}
 use Rattle.ntfs_def.specs.Node.{Item, Entry, Node, Whole, IsWholeEntry, child_at, child_len, data_len, data_offset, entries_end, entry_at, entry_flags, entry_len, first_entry, first_offset, has_children, holds_data, is_entry, is_index_record, is_last_entry, is_whole, item_at, item_in, key_len, node_header, node_header_failing, node_in, room_end, scan_from, whole_of, entry_and, is_one_entry, is_one_last}
 use Rattle.ntfs_def.specs.declared.index.NodeForm.{NodeForm}
 use Rattle.ntfs_def.specs.declared.index.NodeForm.TheVariants.{Names, View}
-use Rattle.ntfs_def.proofs.NodeLaws.{u16_within, u64_within, item_in-own, entry_whole, flag_is, scan_at_entry, scan_at_last, scan_node-is, child_at-some, child_at-none}
+use Rattle.index_node.proofs.NodeLaws.{u16_within, u64_within, item_in-own, entry_whole, flag_is, scan_at_entry, scan_at_last, scan_node-is, child_at-some, child_at-none}
 use Rattle.index_node.specs.LayOut.{AreEntries, AreEntriesFrom, Holds, KeepsHeader, SetsHeader, node_from, node_listed, total_len, with_entry}
 
 -- The bytes that entries take, where they fit.

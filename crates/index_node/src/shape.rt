@@ -5,10 +5,8 @@ ghost use Rattle.index_node.specs.View.{Refuses};
 
 use crate::NodeNo;
 use ntfs_def::NodeForm;
+use ntfs_def::lengths::INDEX_RECORD;
 use vol_bytes::{u16_at, u32_at};
-
-/// The bytes of an index record.
-pub const RECORD: usize = 4096;
 
 /// The bytes of an entry before its key.
 pub const ENTRY_HEADER: usize = 16;
@@ -20,7 +18,7 @@ pub fn node_header(node: &[u8]) -> usize
     ensures low { 16 ≤ result }
     ensures high { result ≤ 24 }
 {
-    if node.len() == RECORD { 0x18 } else { 0x10 }
+    if node.len() == INDEX_RECORD { 0x18 } else { 0x10 }
 }
 
 /// The place of the first wrong field of the header.
@@ -32,7 +30,7 @@ pub fn header_failing(node: &[u8]) -> Option<usize>
         return Some(0x00);
     }
     let first = u32_at(node, header) as usize;
-    if node.len() == RECORD {
+    if node.len() == INDEX_RECORD {
         if !node.starts_with(b"INDX") {
             return Some(0x00);
         }

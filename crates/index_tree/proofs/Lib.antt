@@ -1,3 +1,4 @@
+mod IndexTreeLaws
 pub mod Rising
 pub mod RisingOrders
 pub mod WalkLaws

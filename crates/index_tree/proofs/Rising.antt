@@ -10,7 +10,7 @@ use Rattle.ntfs_def.specs.Node.{Item, Entry, Node, Whole, scan_node, child_from,
 use Rattle.ntfs_def.specs.declared.index.NodeForm.{NodeForm}
 use Rattle.ntfs_def.specs.IndexTree.{Nodes, Branch, Spread, Tree, Each, branch_items, items_of, times_in, child_of, node_of, IsStored, spread_items}
 use Rattle.index_tree.specs.Search.{nodes_of, IsPlace, StartsAt, IsBefore, Rises, IsRising, HasRising, IsRisingIndex, HasRisingIndex, NoneEqual, IsFirst, IsFirstFound, FindsBelow, CostsBelow, Finds, Costs, Picks}
-use Rattle.ntfs_def.proofs.IndexTreeLaws.{some_same, none_other, below_at, before_items, behind_items, items_split, times_split, EachBelow-at, Each-branches, child_below, branch_entry, Each-++, Each-left, Each-right, Each-mid, Each-map}
+use Rattle.index_tree.proofs.IndexTreeLaws.{some_same, none_other, below_at, before_items, behind_items, items_split, times_split, EachBelow-at, Each-branches, child_below, branch_entry, Each-++, Each-left, Each-right, Each-mid, Each-map}
 use Rattle.std.specs.Option.{option_and_then}
 use Rattle.std.proofs.Common.{Result, Ok, Err}
 use Rattle.std.specs.Prelude.{IfOk, ◌^◌}

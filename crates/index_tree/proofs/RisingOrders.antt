@@ -7,7 +7,7 @@ use Rattle.std.specs.Cmp.{IsTotalOrder}
 use Rattle.ntfs_def.specs.Node.{Item}
 use Rattle.ntfs_def.specs.IndexTree.{Ascends}
 use Rattle.index_tree.specs.Search.{IsBefore, Rises}
-use Rattle.ntfs_def.proofs.IndexTreeLaws.{Each-map}
+use Rattle.index_tree.proofs.IndexTreeLaws.{Each-map}
 
 module _ (order : List ℕ → List ℕ → Ordering) (laws : IsTotalOrder order) where
   pub before_of : (x y key : List ℕ) → order x y ≢ Greater → IsBefore (order x key) (order y key)

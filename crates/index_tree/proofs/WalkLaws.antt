@@ -3,7 +3,7 @@ use Rattle.std.proofs.Common.{◌≡◌, ℕ, zero, suc, ◌+◌, ◌-◌, ◌*�
 use Rattle.std.proofs.lemmas.List.{length-map, map-append}
 use Rattle.ntfs_def.specs.Node.{Item, Entry, Node, child_from, item_in}
 use Rattle.ntfs_def.specs.IndexTree.{Nodes, Branch, Spread, Tree, branch_items, branch_times, child_of, entry_of, items_of, times_in, IsHeld, IsStored, HoldsIndex}
-use Rattle.ntfs_def.proofs.IndexTreeLaws.{some_same, none_other, before_items, below_at, branch_entry, child_below, times_split, EachBelow-at}
+use Rattle.index_tree.proofs.IndexTreeLaws.{some_same, none_other, before_items, below_at, branch_entry, child_below, times_split, EachBelow-at}
 use Rattle.index_tree.specs.Walk.{CostsNode, CostsTree, CostsWalk, HasSpread, HasTree, HasWalk, IsWalk, WalksNode, WalksTree, items_in, record_count}
 
 pub OnOk-map : {T E P Q : Type 0} (r : Result T E) → (P → Q) → OnOk r P → OnOk r Q

@@ -8,7 +8,8 @@ ghost use Rattle.index_tree.specs.Search.{Costs, CostsBelow, Finds, FindsBelow, 
 use crate::seek::{or_entry, seek_in};
 use crate::{Index, IndexNo};
 use collation::Collation;
-use index_node::{Blocks, NodeForm, NodeView};
+use index_node::{Blocks, NodeView};
+use ntfs_def::NodeForm;
 use std::alloc::Global;
 use vol_bytes::Octets;
 

@@ -10,7 +10,8 @@ mod seek;
 mod tests;
 mod walk;
 
-use index_node::{BlockNo, NodeForm};
+use index_node::BlockNo;
+use ntfs_def::NodeForm;
 pub use laws::{one_walk, ordered_walks};
 use std::alloc::{AllocError, AllocFailed};
 use thiserror::Error;

@@ -10,7 +10,8 @@ ghost use Rattle.index_tree.specs.Walk.{CostsNode, CostsTree, CostsWalk, HasSpre
 
 use crate::descent::LEVELS;
 use crate::{Index, IndexNo};
-use index_node::{Blocks, NodeForm, NodeView};
+use index_node::{Blocks, NodeView};
+use ntfs_def::NodeForm;
 use std::alloc::Global;
 use vol_bytes::Octets;
 

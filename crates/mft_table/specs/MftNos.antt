@@ -16,5 +16,5 @@ RefusesRead view n no.Memory = ⊥
 
 -- what the disk's count of faults did
 abbrev pub CountsNo : ℕ → ℕ → MftNo → Type 0
-CountsNo before after no.Device = (before ≤ after) × Rose before after
+CountsNo before after no.Device = Rose before after
 CountsNo before after _ = after ≡ before

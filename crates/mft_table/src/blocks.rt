@@ -6,8 +6,9 @@ ghost use Rattle.volume_def.specs.Blocks.{block_of, cut_off, table_place, table_
 ghost use Rattle.volume_def.specs.Table.{LiesOn, two_sectors};
 ghost use Rattle.vol_stage.specs.Staged.{StageReads, disk_of, image};
 
-use data_runs::{RunList, Spot};
+use data_runs::RunList;
 use ntfs_boot::Geometry;
+use ntfs_def::Spot;
 use vol_disk::{Disk, SECTOR};
 use vol_stage::{Stage, StageNo};
 

@@ -3,11 +3,11 @@
 
 mod blocks;
 mod error;
-mod find;
 mod mft;
 mod mounted;
 mod open;
 mod table;
+mod table_data;
 #[cfg(test)]
 mod tests;
 mod volume;

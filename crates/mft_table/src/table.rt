@@ -9,11 +9,12 @@ ghost use Rattle.attr_view.specs.View.{viewed_block};
 ghost use Rattle.mft_table.specs.Tables.{IsFoundBy, RecordTells};
 
 use crate::BlockReader;
-use crate::find::table_stream;
-use attr_view::{RecordView, Sizes};
-use data_runs::{Run, RunList, Spot, read_runs};
+use crate::table_data::table_stream;
+use attr_view::RecordView;
+use data_runs::{RunList, read_runs};
 use ntfs_boot::Geometry;
 use ntfs_def::lengths::RECORD;
+use ntfs_def::{Run, Sizes, Spot};
 use std::alloc::{AllocError, Global};
 
 /// The fewest records that a table may have, and the most.

@@ -86,6 +86,6 @@ list_entries_from zero value at = []
 list_entries_from (suc most) value at =
     if nat_le (length value) at then [] else list_entry_at value at ∷ list_entries_from most value (at + listed_len value at)
 
--- The entries of a list, in order. An entry has 26 bytes at least, so a list has fewer than its bytes.
+-- The entries of a list, in order. An entry has 26 bytes at least, so a list has no more of them than bytes.
 unfoldable pub list_entries : List ℕ → List ListEntry
 list_entries value = list_entries_from (length value) value 0

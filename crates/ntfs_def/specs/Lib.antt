@@ -2,11 +2,11 @@ pub mod First
 pub mod Boot
 pub mod Fixup
 pub mod Record
+pub mod Flags
 pub mod Attribute
 pub mod AttributeList
 pub mod Moved
 pub mod Shape
-pub mod Packed
 pub mod Runs
 pub mod Units
 pub mod Bits

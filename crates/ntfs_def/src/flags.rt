@@ -1,13 +1,13 @@
 //! What flags say: of an attribute, and of a record.
 ghost use Rattle.std.specs.Prelude.{◌≡◌, ◌≤◌, length};
-ghost use Rattle.ntfs_def.specs.Packed.{is_packed};
+ghost use Rattle.ntfs_def.specs.Flags.{is_packed};
 ghost use Rattle.ntfs_def.specs.Record.{is_in_use};
 
 use crate::kinds::INDEX_ROOT;
 use vol_bytes::u16_at;
 
 /// The flag of an encrypted attribute.
-const ENCRYPTED: u16 = 0x4000;
+pub const ENCRYPTED: u16 = 0x4000;
 
 /// The flag of a sparse attribute.
 pub const SPARSE: u16 = 0x8000;

@@ -8,3 +8,6 @@ pub const SECTOR: usize = 512;
 
 /// A file record.
 pub const RECORD: usize = 1024;
+
+/// An index record.
+pub const INDEX_RECORD: usize = 4096;

@@ -1,4 +1,4 @@
-// What the definitions of opened and sealed blocks mean together.
+//! What the definitions of opened and sealed blocks mean together.
 ghost use Rattle.std.specs.Prelude.{◌≡◌, ◌⊎◌, ◌+◌, ◌%◌, ◌<◌, ◌≤◌, ℕ, All, List, slice_index};
 ghost use Rattle.vol_bytes.specs.Field.{SameOutside};
 ghost use Rattle.ntfs_def.specs.Fixup.{HasArray, IsSealed, Opens, Seals, array_end, array_place, bare_of, opened_of, sequence_number};

@@ -1,6 +1,6 @@
 -- What the word boot prints of an image.
-use Rattle.std.specs.Prelude.{◌≡◌, ℕ, ◌/◌, List, length, Option, Some, None}
-use Rattle.ntfs_def.specs.Boot.{boot_sector, boot_failing}
+use Rattle.std.specs.Prelude.{◌≡◌, ℕ, List, Option, Some, None}
+use Rattle.ntfs_def.specs.Boot.{boot_sector, image_boot_failing}
 use Rattle.ntfs_boot.specs.Geometry.{geometry_of}
 use Rattle.ntfs_shell.specs.Refusals.{boot_refusal}
 use Rattle.ntfs_shell.specs.Report.{Report, says, refuses}
@@ -12,7 +12,7 @@ sector_report boot None = says (geometry_text (geometry_of boot))
 sector_report boot (Some number) = refuses (boot_refusal number)
 
 abbrev pub boot_report : List ℕ → Report
-boot_report image = sector_report (boot_sector image) (boot_failing (boot_sector image) (length image / 512))
+boot_report image = sector_report (boot_sector image) (image_boot_failing image)
 
 abbrev pub BootReports : List ℕ → Report → Type 0
 BootReports image report = report ≡ boot_report image

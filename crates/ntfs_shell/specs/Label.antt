@@ -1,14 +1,15 @@
 -- What the word label prints of an image: the volume's name and version, or the first clause that refuses it.
-use Rattle.std.specs.Prelude.{◌≡◌, ◌⊎◌, ℕ, ◌/◌, List, [], ◌∷◌, ◌++◌, length, codes, decimal, Option, Some, None, MatchOption}
+use Rattle.std.specs.Prelude.{◌≡◌, ◌⊎◌, ℕ, List, [], ◌∷◌, ◌++◌, codes, decimal, Option, Some, None, MatchOption}
 use Rattle.vol_bytes.specs.NameText.{name_text}
 use Rattle.vol_disk.specs.Contents.{sector_in}
-use Rattle.ntfs_def.specs.Boot.{boot_sector, boot_failing}
+use Rattle.ntfs_def.specs.Boot.{boot_sector, image_boot_failing}
 use Rattle.ntfs_def.specs.Fixup.{opened_of}
+use Rattle.ntfs_def.specs.declared.records.TheConstants.{VOLUME}
 use Rattle.ntfs_def.specs.declared.kinds.TheConstants.{VOLUME_INFORMATION, VOLUME_NAME}
 use Rattle.ntfs_def.specs.Attribute.{Attribute, attributes, first_value}
 use Rattle.volume_def.specs.declared.version.Version.{Version}
 use Rattle.volume_def.specs.Blocks.{block_of}
-use Rattle.volume_def.specs.Table.{IsRecord, TableLayout, MeetsTable}
+use Rattle.volume_def.specs.Table.{HasNoTable, IsRecord, MeetsTable, TableLayout}
 use Rattle.volume_def.specs.VolumeRecord.{label_units, version_in}
 use Rattle.ntfs_shell.specs.Refusals.{boot_refusal, no_table, no_version, no_volume_record}
 use Rattle.ntfs_shell.specs.Report.{Report, says, refuses}
@@ -43,12 +44,11 @@ RecordReports stored report =
 -- by the sectors of the disk, where the boot clause holds
 abbrev pub TableReports : (ℕ → List ℕ) → List ℕ → Report → Type 0
 TableReports disk boot report =
-    ((layout : TableLayout) × MeetsTable disk boot layout × RecordReports (block_of disk layout 3) report)
-    ⊎ (((layout : TableLayout) → ¬ (MeetsTable disk boot layout)) × (report ≡ refuses no_table))
+    ((layout : TableLayout) × MeetsTable disk boot layout × RecordReports (block_of disk layout VOLUME) report)
+    ⊎ (HasNoTable disk boot × (report ≡ refuses no_table))
 
 -- by the image
 abbrev pub LabelReports : List ℕ → Report → Type 0
-LabelReports image report = let boot = boot_sector image in
-    MatchOption (boot_failing boot (length image / 512))
-    (TableReports (sector_in (Some image)) boot report)
+LabelReports image report = MatchOption (image_boot_failing image)
+    (TableReports (sector_in (Some image)) (boot_sector image) report)
     (λ number. report ≡ refuses (boot_refusal number))

@@ -14,16 +14,14 @@ ghost use Rattle.ntfs_shell.specs.Report.{Report, ReportEnds};
 use crate::answer::{Answer, show};
 use crate::boot::boot_refusal;
 use crate::ending::Ending;
-use crate::refusal::{NO_TABLE, NO_VOLUME_RECORD};
+use crate::refusal::{NO_TABLE, NO_VOLUME};
 use crate::stop::Stop;
 use crate::volume::report_volume;
 use mft_table::{TableNo, find_table, open_record};
+use ntfs_def::records::VOLUME;
 use std::alloc::{AllocError, Global};
 use vol_disk::{Disk, Sink, Source};
 use vol_stage::Stage;
-
-/// The number of the record that tells of the volume.
-const VOLUME_RECORD: u64 = 3;
 
 // Record 3 of the table, as it is stored.
 fn read_volume_record<D: Disk>(
@@ -38,7 +36,7 @@ fn read_volume_record<D: Disk>(
         (CountsNo (D.faults (disk_of D.Disk stage.old)) (D.faults (disk_of D.Disk stage.new))) }
 {
     let table = find_table(alloc, stage)?;
-    table.blocks().read_block(stage, VOLUME_RECORD, into)?;
+    table.blocks().read_block(stage, VOLUME, into)?;
     Ok(())
 }
 
@@ -48,7 +46,7 @@ fn report_record(alloc: Global, block: &mut [u8; 1024]) -> Result<Answer, AllocE
 {
     match open_record(block) {
         Some(view) => report_volume(alloc, &view),
-        None => Ok(Answer::Refused(NO_VOLUME_RECORD)),
+        None => Ok(Answer::Refused(NO_VOLUME)),
     }
 }
 
@@ -89,11 +87,6 @@ fn report_label<D: Disk>(alloc: Global, disk: &mut D) -> Result<Answer, Stop>
     let _ = stage.finish();
     answer
 }
-
-/// A law with nothing to run: an image has one answer to the word.
-pub fn one_label()
-    ensures { (all : List ℕ) (a b : Report) → LabelReports all a → LabelReports all b → a ≡ b }
-{}
 
 /// Prints the name and the version of the volume, or the first clause that refuses it. It reads the
 /// boot sector and the records 0 and 3.

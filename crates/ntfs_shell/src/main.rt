@@ -10,6 +10,7 @@ mod front;
 mod help;
 mod image;
 mod label;
+mod laws;
 mod refusal;
 mod shell;
 mod start;

@@ -7,7 +7,7 @@ use crate::refusal::Refusal;
 use arrayvec::ArrayVec;
 use byteorder::{BigEndian, ByteOrder};
 use ntfs_boot::Geometry;
-use ntfs_def::lengths::{RECORD, SECTOR};
+use ntfs_def::lengths::{INDEX_RECORD, RECORD, SECTOR};
 
 /// The lines of one answer.
 pub type Text = ArrayVec<u8, 256>;
@@ -63,7 +63,7 @@ pub fn geometry_text(geometry: &Geometry) -> Text
     add_number(&mut text, b"mft", geometry.mft);
     add_number(&mut text, b"mirror", geometry.mirror);
     add_number(&mut text, b"record", RECORD as u64);
-    add_number(&mut text, b"index", 4096);
+    add_number(&mut text, b"index", INDEX_RECORD as u64);
     add_line(&mut text, b"serial", &hexadecimal(geometry.serial));
     text
 }

@@ -1,16 +1,10 @@
--- The clauses on single records: their shape, S3, and their attributes, S4, each by the number of a record.
+-- The clause on the attributes of a record, S4, by the number of a record.
 -- Layout: Linux-NTFS documentation, "Attributes"; Carrier, File System Forensic Analysis, chapters 11 and 13.
 use Rattle.std.specs.Prelude.{◌≡◌, ◌⊎◌, ℕ, ◌<◌, ◌≤◌, ◌==◌, ◌||◌, Bool, List, [], ◌∷◌, length, All, count_by, IfSome, IsSome, IsSomeAnd, IsTrue}
 use Rattle.ntfs_def.specs.declared.kinds.TheConstants.{FILE_NAME, INDEX_ROOT, STANDARD_INFORMATION, VOLUME_INFORMATION}
+use Rattle.ntfs_def.specs.declared.records.TheConstants.{SYSTEM_END}
 use Rattle.ntfs_def.specs.FileName.{is_name_key}
-use Rattle.ntfs_def.specs.Record.{is_in_use}
 use Rattle.volume_def.specs.Files.{Part, Record, Records, is_base, content_value}
-use Rattle.volume_def.specs.Table.{IsWellFormed}
-use Rattle.volume_def.specs.View.{VolumeView}
-
--- The shape clause: a block in use opens, and has the shape of a record.
-abbrev pub MeetsShape : VolumeView → ℕ → Type 0
-MeetsShape view n = n < view.layout.count → IsTrue (is_in_use (view.block n)) → IsWellFormed (view.block n)
 
 -- types never descend
 abbrev pub AscendsFrom : ℕ → List Part → Type 0
@@ -38,7 +32,7 @@ pub record IsRightPart (part : Part) : Type 0 where
 
 pub record IsRightRecord (n : ℕ) (r : Record) : Type 0 where
   -- the records of the system's files are base records
-  pub system : n < 12 → IsTrue (is_base r)
+  pub system : n < SYSTEM_END → IsTrue (is_base r)
   pub rising : AscendsFrom 0 r.parts
   pub ids : (id : ℕ) → times_id id r.parts ≤ 1
   pub one_standard : IsTrue (is_base r) → count_by is_standard r.parts ≡ 1

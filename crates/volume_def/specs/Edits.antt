@@ -40,6 +40,7 @@ said_by part = record { kind = part.kind; name = part.name; flags = part.flags; 
 
 -- A part goes from one record of a file to another, where it may have another id.
 pub record MovesPart (old new : Records) (from to : ℕ) (was now : Part) : Type 0 where
+  pub apart : from ≢ to
   pub between : Records
   pub leaves : EditsAt old between from (was ∷ []) []
   pub comes : EditsAt between new to [] (now ∷ [])

@@ -1,9 +1,10 @@
 -- The clause on extents, S6, by the number of a base record.
 -- Layout: Linux-NTFS documentation, "Attribute Headers"; Carrier, File System Forensic Analysis, chapters 11 and 13.
-use Rattle.std.specs.Prelude.{◌≡◌, ◌≢◌, ◌⊎◌, ℕ, ◌+◌, ◌-◌, ◌*◌, ◌^◌, ◌<◌, ◌≤◌, ◌==◌, ◌&&◌, ◌||◌, not, nat_le, Bool, List, [], ◌∷◌, codes, flat_map, length, sum_by, All, IfSome, IsSome, IsSomeAnd, IsTrue, if◌then◌else◌}
+use Rattle.std.specs.Prelude.{◌≡◌, ◌≢◌, ◌⊎◌, ℕ, ◌+◌, ◌-◌, ◌*◌, ◌^◌, ◌<◌, ◌≤◌, ◌==◌, ◌&&◌, ◌||◌, not, Bool, List, [], ◌∷◌, codes, flat_map, length, sum_by, All, IfSome, IsSome, IsSomeAnd, IsTrue, if◌then◌else◌}
 use Rattle.ntfs_def.specs.declared.kinds.TheConstants.{DATA, FILE_NAME}
+use Rattle.ntfs_def.specs.declared.records.TheConstants.{BAD_CLUSTERS}
 use Rattle.ntfs_def.specs.declared.sizes.Sizes.{Sizes}
-use Rattle.ntfs_def.specs.Packed.{is_packed}
+use Rattle.ntfs_def.specs.Flags.{is_packed, is_sparse}
 use Rattle.volume_def.specs.Files.{Part, Records, part_clusters, content_extent, is_base, is_of, parts, parts_like, content_runs, content_value}
 use Rattle.volume_def.specs.SameItems.{SameItems}
 
@@ -35,7 +36,7 @@ all_covered parts = sum_by part_clusters parts
 pub record FitExtents (bytes flags : ℕ) (sizes : Sizes) : Type 0 where
   pub initialized : sizes.initialized ≤ sizes.real
   pub real : sizes.real ≤ bytes
-  pub allocated : IsTrue (not (nat_le 0x8000 flags)) → sizes.allocated ≡ bytes
+  pub allocated : IsTrue (not (is_sparse flags)) → sizes.allocated ≡ bytes
 
 -- the name of the stream of bad clusters, in bytes
 abbrev pub bad_name : List ℕ
@@ -43,7 +44,7 @@ bad_name = flat_map (λ unit. unit ∷ 0 ∷ []) (codes "$Bad")
 
 -- the stream of bad clusters: $Bad of record 8
 abbrev pub is_bad_stream : ℕ → Part → Bool
-is_bad_stream f part = (f == 8) && is_of DATA bad_name part
+is_bad_stream f part = (f == BAD_CLUSTERS) && is_of DATA bad_name part
 
 -- the sizes of a packed stream, and of the bad clusters, are not judged
 abbrev pub has_sizes : ℕ → Part → Bool

@@ -58,7 +58,7 @@ pub record Records : Type 0 where
   pub count : ℕ
   pub record_at : ℕ → Option Record
 
-abbrev pub record_at : VolumeView → ℕ → Option Record
+abbrev pub record_on : VolumeView → ℕ → Option Record
 record_on view n = if nat_lt n view.layout.count then record_in n (view.block n) else None
 
 abbrev pub records_of : VolumeView → Records
@@ -108,5 +108,5 @@ abbrev pub part_runs : Part → List Run
 part_runs part = unwrap_or (content_runs part.content) []
 
 -- the clusters of the stream that it has_cluster
-abbrev pub covered : Part → ℕ
+abbrev pub part_clusters : Part → ℕ
 part_clusters part = total_clusters (part_runs part)

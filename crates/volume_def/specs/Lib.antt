@@ -7,6 +7,7 @@ pub mod SameItems
 pub mod Replaces
 pub mod Files
 pub mod Values
+pub mod ShapeClause
 pub mod AttributesClause
 pub mod ListsClause
 pub mod ExtentsClause

@@ -4,7 +4,7 @@ use Rattle.std.specs.Prelude.{◌≡◌, ℕ, ◌*◌, ◌≤◌, ◌==◌, not,
 use Rattle.ntfs_def.specs.declared.kinds.TheConstants.{ATTRIBUTE_LIST}
 use Rattle.ntfs_def.specs.Attribute.{ExtentHeader}
 use Rattle.ntfs_def.specs.AttributeList.{HasListShape, ListEntry, list_entries}
-use Rattle.ntfs_def.specs.Packed.{is_packed}
+use Rattle.ntfs_def.specs.Flags.{is_packed}
 use Rattle.volume_def.specs.Files.{Part, Record, part_clusters, content_extent, file_of, is_base, parts, part_runs, record_on, records_of, content_runs}
 use Rattle.volume_def.specs.SameItems.{SameItems}
 use Rattle.volume_def.specs.Values.{first_vcn_of, value_on}

@@ -1,9 +1,11 @@
--- A volume whose files can be read: the clauses S3 to S6 hold of its records. S1 and S2 are what makes it a view.
+-- A volume whose files can be read: the clauses S3 to S6 hold of its records. That its table lies where the view says is
+-- the claim of S1 and S2, which stand before the view.
 use Rattle.std.specs.Prelude.{ℕ, IsSomeAnd, IsTrue}
-use Rattle.volume_def.specs.AttributesClause.{MeetsAttributes, MeetsShape}
+use Rattle.volume_def.specs.AttributesClause.{MeetsAttributes}
 use Rattle.volume_def.specs.ExtentsClause.{MeetsExtents}
 use Rattle.volume_def.specs.Files.{is_base, record_on, records_of}
 use Rattle.volume_def.specs.ListsClause.{MeetsLists}
+use Rattle.volume_def.specs.ShapeClause.{MeetsShape}
 use Rattle.volume_def.specs.Table.{cluster_bytes}
 use Rattle.volume_def.specs.View.{VolumeView}
 

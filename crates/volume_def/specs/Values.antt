@@ -61,7 +61,8 @@ abbrev pub value_over : (ℕ → List ℕ) → ℕ → List Part → Option Part
 value_over cluster size extents None = []
 value_over cluster size extents (Some part) = value_by cluster size extents part.content
 
--- The value of an attribute that has these parts.
+-- The value of an attribute that has these parts. Of a packed one this is what lies in its clusters, which is not its
+-- content; no clause asks for it.
 unfoldable pub value_of_parts : (ℕ → List ℕ) → ℕ → List Part → List ℕ
 value_of_parts cluster size extents = value_over cluster size extents (find is_first extents)
 

@@ -1,5 +1,5 @@
 -- What a volume's image is to all that stands above the table: its blocks, their copies, its clusters, and the sectors
--- that belong to no cluster, each as a function of its number. No crate above speaks of sectors otherwise.
+-- that belong to no cluster, each as a function of its number.
 use Rattle.std.specs.Prelude.{◌≡◌, ◌≢◌, ℕ, ◌+◌, ◌*◌, ◌<◌, List, take, drop, slice_range, Bool, IsTrue}
 use Rattle.volume_def.specs.Blocks.{block_of, cluster_of, copy_of}
 use Rattle.volume_def.specs.Coverage.{IsOutsideTable}

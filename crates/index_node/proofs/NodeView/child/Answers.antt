@@ -1,7 +1,7 @@
 use Rattle.std.proofs.Common.{◌≤◌, ◌+◌, ◌-◌, Some, arith, ap, sym, ◌∙◌}
 use Rattle.vol_bytes.specs.Field.{u64_at}
 use Rattle.ntfs_def.specs.Node.{child_at}
-use Rattle.ntfs_def.proofs.NodeLaws.{length-entries_from, child_from-entries_from, child_at-some, child_at-none}
+use Rattle.index_node.proofs.NodeLaws.{length-entries_from, child_from-entries_from, child_at-some, child_at-none}
 use Rattle.index_node.specs.View.{node_of_view, place_of}
 use Rattle.index_node.proofs.NodeView.child.Goals as goal
 

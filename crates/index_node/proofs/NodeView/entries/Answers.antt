@@ -1,5 +1,5 @@
 use Rattle.std.proofs.Common.{sym}
-use Rattle.ntfs_def.proofs.NodeLaws.{length-entries_from}
+use Rattle.index_node.proofs.NodeLaws.{length-entries_from}
 use Rattle.index_node.specs.View.{node_of_view}
 use Rattle.index_node.proofs.NodeView.entries.Goals as goal
 

@@ -1,7 +1,7 @@
 use Rattle.std.specs.Prelude.{IsTrue}
 use Rattle.std.proofs.Common.{◌≡◌, true, slice_range, ◌+◌, ◌<◌, arith, ap, sym, ◌∙◌, subst}
 use Rattle.ntfs_def.specs.Node.{Entry, is_entry, is_one_entry, item_at, item_in}
-use Rattle.ntfs_def.proofs.NodeLaws.{length-entries_from, get_or-entries_from, item_in-own, entry-own}
+use Rattle.index_node.proofs.NodeLaws.{length-entries_from, get_or-entries_from, item_in-own, entry-own}
 use Rattle.index_node.specs.View.{node_of_view}
 use Rattle.index_node.proofs.NodeView.entry.Goals as goal
 

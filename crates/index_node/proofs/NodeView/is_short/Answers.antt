@@ -1,7 +1,7 @@
 use Rattle.std.proofs.Common.{◌≡◌, ◌≤◌, ◌<◌, ◌+◌, ◌-◌, suc, arith, add-one, ap, sym, ◌∙◌}
 use Rattle.std.specs.Prelude.{nat_le}
 use Rattle.ntfs_def.specs.Node.{are_short_from, child_len, entry_len}
-use Rattle.ntfs_def.proofs.NodeLaws.{are_short-is, entry_place-next, length-entries_from, place_whole, short_next, short_stop}
+use Rattle.index_node.proofs.NodeLaws.{are_short-is, entry_place-next, length-entries_from, place_whole, short_next, short_stop}
 use Rattle.index_node.specs.View.{node_of_view}
 use Rattle.index_node.proofs.NodeView.is_short.Goals as goal
 

@@ -1,6 +1,6 @@
 use Rattle.std.proofs.Common.{slice_range, ◌+◌, ◌<◌, arith, ap, sym, ◌∙◌}
 use Rattle.ntfs_def.specs.Node.{Entry, item_at}
-use Rattle.ntfs_def.proofs.NodeLaws.{length-entries_from, get_or-entries_from, item_key}
+use Rattle.index_node.proofs.NodeLaws.{length-entries_from, get_or-entries_from, item_key}
 use Rattle.index_node.specs.View.{node_of_view}
 use Rattle.index_node.proofs.NodeView.key.Goals as goal
 

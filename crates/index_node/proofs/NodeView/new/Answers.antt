@@ -1,5 +1,5 @@
 use Rattle.std.proofs.Common.{sym, ◌∙◌, refl, arith, length}
-use Rattle.ntfs_def.proofs.NodeLaws.{scan_node-wrong, scan_node-is, scan-whole, header_short}
+use Rattle.index_node.proofs.NodeLaws.{scan_node-wrong, scan_node-is, scan-whole, header_short}
 use Rattle.index_node.specs.View.{node_of_view}
 use Rattle.index_node.proofs.NodeView.new.Goals as goal
 

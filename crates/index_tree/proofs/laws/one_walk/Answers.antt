@@ -1,4 +1,4 @@
-use Rattle.ntfs_def.proofs.IndexTreeLaws.{one_depth, one_list}
+use Rattle.index_tree.proofs.IndexTreeLaws.{one_depth, one_list}
 use Rattle.index_tree.proofs.laws.one_walk.Goals as goal
 
 pub returns : goal.returns

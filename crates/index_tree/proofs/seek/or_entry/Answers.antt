@@ -1,7 +1,7 @@
 use Rattle.std.proofs.Common.{[], None, ap, sym, ◌∙◌, subst}
 use Rattle.std.specs.Prelude.{IsTrue}
 use Rattle.ntfs_def.specs.Node.{Item, Entry, IsOwnEntry, item_in}
-use Rattle.ntfs_def.proofs.NodeLaws.{one_own}
+use Rattle.index_node.proofs.NodeLaws.{one_own}
 use Rattle.index_node.specs.View.{form_of_view}
 use Rattle.index_tree.proofs.seek.or_entry.Goals as goal
 

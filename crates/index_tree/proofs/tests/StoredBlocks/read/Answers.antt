@@ -2,7 +2,7 @@ use Rattle.std.proofs.Common.{◌≡◌, ◌≤◌, None, length, ap, sym, ◌�
 use Rattle.std.proofs.lemmas.Bool.{ltb-false}
 use Rattle.std.proofs.lemmas.Option.{slice_get_past}
 use Rattle.std.specs.List.{slice_get}
-use Rattle.ntfs_def.proofs.IndexTreeLaws.{some_same}
+use Rattle.index_tree.proofs.IndexTreeLaws.{some_same}
 use Rattle.index_tree.proofs.Rising.{is_none}
 use Rattle.index_tree.proofs.tests.StoredBlocks.read.Goals as goal
 

@@ -1,0 +1,9 @@
+//! Laws with nothing to run.
+ghost use Rattle.std.specs.Prelude.{◌≡◌, ℕ, List};
+ghost use Rattle.ntfs_shell.specs.Label.{LabelReports};
+ghost use Rattle.ntfs_shell.specs.Report.{Report};
+
+/// An image has one answer to the word `label`.
+pub fn one_label()
+    ensures { (all : List ℕ) (a b : Report) → LabelReports all a → LabelReports all b → a ≡ b }
+{}
