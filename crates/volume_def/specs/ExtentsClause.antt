@@ -1,9 +1,10 @@
 -- The clause on extents, S6, by the number of a base record.
 -- Layout: Linux-NTFS documentation, "Attribute Headers"; Carrier, File System Forensic Analysis, chapters 11 and 13.
-use Rattle.std.specs.Prelude.{◌≡◌, ◌≢◌, ◌⊎◌, ℕ, ◌+◌, ◌-◌, ◌*◌, ◌^◌, ◌<◌, ◌≤◌, ◌==◌, ◌&&◌, ◌||◌, not, Bool, List, [], ◌∷◌, codes, flat_map, length, sum_by, All, IfSome, IsSome, IsSomeAnd, IsTrue, if◌then◌else◌}
+use Rattle.std.specs.Prelude.{◌≡◌, ◌≢◌, ◌⊎◌, ℕ, ◌+◌, ◌-◌, ◌*◌, ◌^◌, ◌<◌, ◌≤◌, ◌==◌, ◌&&◌, ◌||◌, not, Bool, List, [], ◌∷◌, codes, length, sum_by, All, IfSome, IsSome, IsSomeAnd, IsTrue, if◌then◌else◌}
 use Rattle.ntfs_def.specs.declared.kinds.TheConstants.{DATA, FILE_NAME}
 use Rattle.ntfs_def.specs.declared.records.TheConstants.{BAD_CLUSTERS}
 use Rattle.ntfs_def.specs.declared.sizes.Sizes.{Sizes}
+use Rattle.ntfs_def.specs.Units.{wide}
 use Rattle.ntfs_def.specs.Flags.{is_packed, is_sparse}
 use Rattle.volume_def.specs.Files.{Part, Records, part_clusters, content_extent, is_base, is_of, parts, parts_like, content_runs, content_value}
 use Rattle.volume_def.specs.SameItems.{SameItems}
@@ -40,7 +41,7 @@ pub record FitExtents (bytes flags : ℕ) (sizes : Sizes) : Type 0 where
 
 -- the name of the stream of bad clusters, in bytes
 abbrev pub bad_name : List ℕ
-bad_name = flat_map (λ unit. unit ∷ 0 ∷ []) (codes "$Bad")
+bad_name = wide (codes "$Bad")
 
 -- the stream of bad clusters: $Bad of record 8
 abbrev pub is_bad_stream : ℕ → Part → Bool

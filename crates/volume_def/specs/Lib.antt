@@ -13,3 +13,13 @@ pub mod ListsClause
 pub mod ExtentsClause
 pub mod Readable
 pub mod Edits
+pub mod FileNames
+pub mod OwnersClause
+pub mod BitmapClauses
+pub mod ReferencesClause
+pub mod LinksClause
+pub mod CaseClause
+pub mod VersionClause
+pub mod LimitsClause
+pub mod IndexesClause
+pub mod Sound
