@@ -14,7 +14,7 @@ ghost use Rattle.ntfs_shell.specs.Report.{Report, ReportEnds};
 use crate::answer::{Answer, show};
 use crate::boot::boot_refusal;
 use crate::ending::Ending;
-use crate::refusal::{NO_TABLE, NO_VOLUME};
+use crate::refusal::{NO_TABLE, NO_VOLUME_RECORD};
 use crate::stop::Stop;
 use crate::volume::report_volume;
 use mft_table::{TableNo, find_table, open_record};
@@ -46,7 +46,7 @@ fn report_record(alloc: Global, block: &mut [u8; 1024]) -> Result<Answer, AllocE
 {
     match open_record(block) {
         Some(view) => report_volume(alloc, &view),
-        None => Ok(Answer::Refused(NO_VOLUME)),
+        None => Ok(Answer::Refused(NO_VOLUME_RECORD)),
     }
 }
 
