@@ -1,6 +1,7 @@
-//! Flags of volumes that `mkntfs` of ntfs-3g made, and of the documentation.
+//! Flags of volumes that `mkntfs` of ntfs-3g made, and of the documentation; units.
 
-use crate::{is_in_use, is_packed};
+use crate::{is_in_use, is_packed, read_units};
+use std::alloc::AllocError;
 
 // The first 24 bytes of records 3 ($Volume), 5 (the root) and 16 of a volume of 8 MiB that `mkntfs -F -s 512 -c 4096`
 // made; `ntfscat` tells that of their bits in the bitmap of $MFT those of 3 and 5 are set. The last row is the first
@@ -42,4 +43,19 @@ fn packed_attributes(rt: HostRuntime) {
     ] {
         assert_eq!(rt; is_packed(kind, flags), packed, "flags {flags} of {kind}");
     }
+}
+
+// A name of a directory's index, with an odd byte behind it, and a long row of units: the lower byte stands first.
+#[test]
+fn units_are_read(rt: HostRuntime) -> Result<(), AllocError> {
+    let units = read_units(rt.alloc(), b"$\0I\x003\x000\0\xFF")?;
+    assert_eq!(rt; units.as_slice(), [0x24, 0x49, 0x33, 0x30]);
+    let mut bytes = [1; 4096];
+    bytes[4095] = 0x80;
+    let units = read_units(rt.alloc(), &bytes)?;
+    assert_eq!(rt;
+        (units.len(), units[2046], units[2047]),
+        (2048, 0x0101, 0x8001)
+    );
+    Ok(())
 }

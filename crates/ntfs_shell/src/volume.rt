@@ -1,7 +1,6 @@
 //! The name and the version of a volume, in its record 3.
-ghost use Rattle.std.specs.Prelude.{◌≡◌, ◌++◌, ◌<◌, ◌≤◌, ◌*◌, IfOk, OnOk, length, map};
+ghost use Rattle.std.specs.Prelude.{◌≡◌, ◌++◌, IfOk, OnOk};
 ghost use Rattle.std.specs.Option.{option_copied};
-ghost use Rattle.ntfs_def.specs.Units.{units_in};
 ghost use Rattle.volume_def.specs.VolumeRecord.{label_units, version_in};
 ghost use Rattle.attr_view.specs.View.{attributes_of};
 ghost use Rattle.ntfs_shell.specs.Label.{label_text, name_line, version_line, volume_report};
@@ -11,8 +10,9 @@ use crate::answer::Answer;
 use crate::refusal::NO_VERSION;
 use attr_view::RecordView;
 use ntfs_def::kinds::{VOLUME_INFORMATION, VOLUME_NAME};
+use ntfs_def::read_units;
 use std::alloc::{AllocError, Global};
-use vol_bytes::{TextFault, text_of_units, u16_at};
+use vol_bytes::{TextFault, text_of_units};
 use volume_def::Version;
 
 fn read_version(value: Option<&[u8]>) -> Option<Version>
@@ -26,15 +26,6 @@ fn read_version(value: Option<&[u8]>) -> Option<Version>
         major: value[0x08],
         minor: value[0x09],
     })
-}
-
-// The units in bytes, of which a last odd one is left out.
-fn read_units(alloc: Global, bytes: &[u8]) -> Result<Vec<u16>, AllocError>
-    ensures { IfOk result (λ units. units.items ≡ units_in bytes.now) }
-{
-    (0..bytes.len() / 2)
-        .map(|k| u16_at(bytes, 2 * k))
-        .collect(alloc)
 }
 
 fn read_name(alloc: Global, value: Option<&[u8]>) -> Result<Vec<u16>, AllocError>

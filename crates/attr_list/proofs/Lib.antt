@@ -1,0 +1,2 @@
+mod ListEntryLaws
+pub mod LeftLaws

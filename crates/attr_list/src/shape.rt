@@ -1,0 +1,42 @@
+//! The tests of the layout of a list.
+
+ghost use Rattle.std.specs.Prelude.{◌≤◌, ◌↔◌, IsTrue, IfOk, IfErr, length};
+ghost use Rattle.ntfs_def.specs.AttributeList.{HasListShape, IsListEntry};
+ghost use Rattle.attr_list.specs.View.{Refuses};
+
+use crate::ListNo;
+use vol_bytes::u16_at;
+
+// The bytes of an entry before its name.
+const HEADER: usize = 0x1A;
+
+fn is_entry(bytes: &[u8], at: usize) -> bool
+    requires { at ≤ length bytes.now }
+    ensures { IsTrue result ↔ IsListEntry bytes.now at }
+{
+    let room = bytes.len() - at;
+    if room < HEADER {
+        return false;
+    }
+    let len = u16_at(bytes, at + 0x04) as usize;
+    let units = bytes[at + 0x06] as usize;
+    let name = bytes[at + 0x07] as usize;
+    name == HEADER && HEADER + 2 * units <= len && len <= room
+}
+
+// How many entries the list has.
+pub fn count_of(bytes: &[u8]) -> Result<usize, ListNo>
+    ensures ok { IfOk result (HasListShape bytes.now) }
+    ensures err { IfErr result (Refuses bytes.now) }
+{
+    let mut at = 0;
+    let mut count = 0;
+    while at != bytes.len() {
+        if !is_entry(bytes, at) {
+            return Err(ListNo::Shape { at });
+        }
+        at += u16_at(bytes, at + 0x04) as usize;
+        count += 1;
+    }
+    Ok(count)
+}
