@@ -49,7 +49,7 @@ fn packed_attributes(rt: HostRuntime) {
 #[test]
 fn units_are_read(rt: HostRuntime) -> Result<(), AllocError> {
     let units = read_units(rt.alloc(), b"$\0I\x003\x000\0\xFF")?;
-    assert_eq!(rt; units.as_slice(), [0x24, 0x49, 0x33, 0x30]);
+    assert_eq!(rt; units.as_slice(), [0x24, 0x49, 0x33, 0x30].as_slice());
     let mut bytes = [1; 4096];
     bytes[4095] = 0x80;
     let units = read_units(rt.alloc(), &bytes)?;
