@@ -23,3 +23,7 @@ pub mod VersionClause
 pub mod LimitsClause
 pub mod IndexesClause
 pub mod Sound
+pub mod Members
+pub mod Spans
+pub mod StreamSize
+pub mod KeptList
