@@ -5,9 +5,9 @@ use Rattle.std.specs.List.{Contains, count_by}
 use Rattle.ntfs_def.specs.declared.kinds.TheConstants.{ATTRIBUTE_LIST}
 use Rattle.ntfs_def.specs.AttributeList.{ListEntry}
 use Rattle.volume_def.specs.Edits.{EditsAt, MovesPart, Said}
-use Rattle.volume_def.specs.Members.{FreesEmpty, NameHolders, TakesEmpty, entries_in, entry_in}
+use Rattle.volume_def.specs.Members.{FreesEmpty, NameHolders, TakesEmpty}
 use Rattle.volume_def.specs.Files.{Part, Record, Records, file_of, parts}
-use Rattle.volume_def.specs.ListsClause.{is_list, listed_parts, sequence_in}
+use Rattle.volume_def.specs.ListsClause.{entries_in, entry_in, is_list, listed_parts, sequence_in}
 use Rattle.volume_def.specs.Replaces.{Replaces}
 use Rattle.volume_def.specs.SameItems.{SameItems}
 use Rattle.volume_def.specs.Values.{first_vcn_of}

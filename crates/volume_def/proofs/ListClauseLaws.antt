@@ -5,10 +5,9 @@ use Rattle.std.proofs.lemmas.List.Elements.{All-contains, All-weaker}
 use Rattle.ntfs_def.specs.declared.kinds.TheConstants.{ATTRIBUTE_LIST}
 use Rattle.ntfs_def.specs.AttributeList.{ListEntry, list_entries}
 use Rattle.volume_def.specs.Edits.{EditsAt, MovesPart, Said}
-use Rattle.volume_def.specs.Members.{entries_in, entry_in}
 use Rattle.volume_def.specs.Files.{Part, Records, file_of, parts, records_of}
 use Rattle.volume_def.specs.KeptList.{HasList, StoresList}
-use Rattle.volume_def.specs.ListsClause.{HasRightList, IsRightList, is_list, list_value}
+use Rattle.volume_def.specs.ListsClause.{HasRightList, IsRightList, entries_in, entry_in, is_list, list_value}
 use Rattle.volume_def.specs.Replaces.{Replaces}
 use Rattle.volume_def.specs.SameItems.{SameItems}
 use Rattle.volume_def.specs.View.{VolumeView}

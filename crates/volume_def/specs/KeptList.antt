@@ -3,9 +3,8 @@ use Rattle.std.specs.Prelude.{◌≡◌, ℕ, ◌≤◌, false, List, [], ◌∷
 use Rattle.ntfs_def.specs.declared.run_text.Spot.TheVariants.{At}
 use Rattle.ntfs_def.specs.AttributeList.{HasListShape, ListEntry, list_entries}
 use Rattle.ntfs_def.specs.Flags.{is_packed}
-use Rattle.volume_def.specs.Members.{entries_in}
 use Rattle.volume_def.specs.Files.{Part, Records, content_extent, parts}
-use Rattle.volume_def.specs.ListsClause.{LiesOnVolume, is_list, list_value}
+use Rattle.volume_def.specs.ListsClause.{LiesOnVolume, entries_in, is_list, list_value}
 use Rattle.volume_def.specs.SameItems.{SameItems}
 use Rattle.volume_def.specs.Values.{spot_at}
 use Rattle.volume_def.specs.View.{VolumeView}

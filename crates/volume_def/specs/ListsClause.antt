@@ -5,7 +5,7 @@ use Rattle.ntfs_def.specs.declared.kinds.TheConstants.{ATTRIBUTE_LIST}
 use Rattle.ntfs_def.specs.Attribute.{ExtentHeader}
 use Rattle.ntfs_def.specs.AttributeList.{HasListShape, ListEntry, list_entries}
 use Rattle.ntfs_def.specs.Flags.{is_packed}
-use Rattle.volume_def.specs.Files.{Part, Record, part_clusters, content_extent, file_of, is_base, parts, part_runs, record_on, records_of, content_runs}
+use Rattle.volume_def.specs.Files.{Part, Record, Records, content_extent, content_runs, file_of, is_base, part_clusters, part_runs, parts, record_on, records_of}
 use Rattle.volume_def.specs.SameItems.{SameItems}
 use Rattle.volume_def.specs.Values.{first_vcn_of, value_on}
 use Rattle.volume_def.specs.Table.{IsOnVolume, cluster_bytes}
@@ -23,14 +23,18 @@ sequence_in None = 0
 sequence_in (Some r) = r.header.sequence
 
 -- what names a part in the list of its file; its holder is named by its whole reference
-abbrev pub listed_as : VolumeView → Part → ListEntry
-listed_as view part = record {
+abbrev pub entry_in : Records → Part → ListEntry
+entry_in records part = record {
   kind = part.kind;
   name = part.name;
   first = first_vcn_of part.content;
-  holder = record { number = part.holder; sequence = sequence_in (record_on view part.holder) };
+  holder = record { number = part.holder; sequence = sequence_in (records.record_at part.holder) };
   id = part.id;
 }
+
+-- the entries that a list of these parts has
+abbrev pub entries_in : Records → List Part → List ListEntry
+entries_in records all = map (entry_in records) (listed_parts all)
 
 -- A list in clusters has one extent, which lies whole on the volume.
 pub record LiesOnVolume (view : VolumeView) (part : Part) (extent : ExtentHeader) : Type 0 where
@@ -51,7 +55,7 @@ pub record IsRightList (view : VolumeView) (f : ℕ) (all : List Part) (part : P
   pub placed : IfSome (content_extent part.content) (LiesOnVolume view part)
   pub short : length (list_value view part) ≤ 262144
   pub shape : HasListShape (list_value view part) (length (list_entries (list_value view part)))
-  pub each_once : SameItems (map (listed_as view) (listed_parts all)) (list_entries (list_value view part))
+  pub each_once : SameItems (entries_in (records_of view) all) (list_entries (list_value view part))
 
 -- No record but f itself belongs to file f.
 abbrev pub IsAlone : VolumeView → ℕ → Type 0

@@ -1,10 +1,7 @@
--- Which parts a file has, record by record, and how its list names them: the words of the laws on edits.
-use Rattle.std.specs.Prelude.{◌≡◌, ◌<◌, ℕ, List, [], map, All, Contains, Some, None}
-use Rattle.ntfs_def.specs.AttributeList.{ListEntry}
+-- Which parts a file has, record by record: the words of the laws on edits.
+use Rattle.std.specs.Prelude.{◌≡◌, ◌<◌, ℕ, List, [], All, Contains, Some, None}
 use Rattle.volume_def.specs.Edits.{ChangesAt}
 use Rattle.volume_def.specs.Files.{Part, Record, Records, file_of}
-use Rattle.volume_def.specs.ListsClause.{listed_parts, sequence_in}
-use Rattle.volume_def.specs.Values.{first_vcn_of}
 
 -- Record n is in use, belongs to file f, and has this part.
 pub record HoldsPart (records : Records) (f n : ℕ) (part : Part) : Type 0 where
@@ -39,17 +36,3 @@ pub record FreesEmpty (old new : Records) (n : ℕ) : Type 0 where
   pub was_at : old.record_at n ≡ Some was_record
   pub empty : was_record.parts ≡ []
   pub now_at : new.record_at n ≡ None
-
--- what names a part in the list of its file, by the records
-abbrev pub entry_in : Records → Part → ListEntry
-entry_in records part = record {
-  kind = part.kind;
-  name = part.name;
-  first = first_vcn_of part.content;
-  holder = record { number = part.holder; sequence = sequence_in (records.record_at part.holder) };
-  id = part.id;
-}
-
--- the entries that a list of these parts has
-abbrev pub entries_in : Records → List Part → List ListEntry
-entries_in records all = map (entry_in records) (listed_parts all)
