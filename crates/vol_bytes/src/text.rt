@@ -8,11 +8,11 @@ use crate::small::Octets;
 use std::alloc::{AllocError, Global};
 use thiserror::Error;
 
-/// Why there is no text of units.
+/// Why there is no text of units, or no units of a text.
 #[derive(Clone, Copy, Debug, PartialEq, Eq, Error)]
 pub enum TextFault {
-    /// There are no units.
-    #[error("an empty name has no text")]
+    /// There are no units, or the text is no name text.
+    #[error("no name")]
     Bad,
     /// Memory ran out.
     #[error("out of memory")]
