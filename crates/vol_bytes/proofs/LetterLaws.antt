@@ -1,12 +1,12 @@
 -- Letters of name texts: which one stands in front of a text, and the texts and units that letters spell.
-use Rattle.std.proofs.Common.{◌≡◌, ◌≢◌, not, ℕ, suc, zero, ◌+◌, ◌-◌, ◌*◌, ◌/◌, ◌%◌, ◌<◌, ◌≤◌, true, false, List, [], ◌∷◌, ◌++◌, length, drop, get_or, refl, sym, ap, cond, nat_lt, Bool, ◌∙◌, arith, length-append}
-use Rattle.std.specs.Prelude.{All, flat_map, encode_utf8, slice_index, codes, if◌then◌else◌}
-use Rattle.std.specs.Char.{IsScalar, len_utf8}
+use Rattle.std.proofs.Common.{◌≡◌, ◌≢◌, not, ℕ, suc, zero, ◌-◌, ◌/◌, ◌%◌, ◌<◌, true, false, List, [], ◌∷◌, ◌++◌, length, drop, get_or, refl, sym, ap, cond, nat_lt, Bool, ◌∙◌, arith, append-nil, length-append}
+use Rattle.std.specs.Prelude.{All, flat_map, encode_utf8, slice_index, if◌then◌else◌}
+use Rattle.std.specs.Char.{IsScalar}
 use Rattle.std.specs.Char.Escape.{encode_utf16}
-use Rattle.std.specs.Char.Utf16.{is_high_surrogate, is_low_surrogate, surrogate_pair_char}
+use Rattle.std.specs.Char.Utf16.{surrogate_pair_char}
 use Rattle.std.proofs.lemmas.Bool.Decides.{nat_tests}
 use Rattle.std.specs.Str.{IsUtf8}
-use Rattle.std.proofs.lemmas.Str.{char_from_byte, encode_same, encode_ascii, len_utf8_bounds, length-encode, IsUtf8-append, IsUtf8-encode, IsUtf8-nil, IsUtf8-from_ascii}
+use Rattle.std.proofs.lemmas.Str.{encode_same, encode_ascii, len_utf8_bounds, length-encode, IsUtf8-append, IsUtf8-encode, IsUtf8-nil, IsUtf8-from_ascii}
 use Rattle.std.proofs.lemmas.List.Elements.{All-nil, All-cons, All-head, All-tail}
 use Rattle.vol_bytes.specs.NameText.{are_pair, name_text, printed_unit, escape_digit, escape_of, is_escaped, IsLetter, IsNameText, IsSpelled, letter_text, letter_units}
 use Rattle.vol_bytes.specs.declared.letter.Letter.{Letter}
@@ -242,3 +242,36 @@ unit-front false unit rest more is small spelled =
 pair-plain : (high low : ℕ) → are_pair high low ≡ true
     → IsLetter (Plain (surrogate_pair_char high low)) × (encode_utf16 (surrogate_pair_char high low) ≡ high ∷ low ∷ [])
 pair-plain high low pair = grind (arith, nat_tests)
+
+pair-front : (high low : ℕ) (rest more : List ℕ) → are_pair high low ≡ true → IsSpelled rest more
+    → IsSpelled (encode_utf8 (surrogate_pair_char high low) ++ rest) (high ∷ low ∷ more)
+pair-front high low rest more pair spelled =
+    let plain = pair-plain high low pair in
+    IsSpelled-front (Plain (surrogate_pair_char high low)) _ rest _ more plain.0 refl (ap (λ x. x ++ more) (sym plain.1)) spelled
+
+-- A printed name is a name text, and stands for the name.
+either : (pair : Bool) (high low : ℕ) (rest : List ℕ) → are_pair high low ≡ pair → high < 0x10000
+    → IsSpelled (name_text rest) rest → IsSpelled (name_text (low ∷ rest)) (low ∷ rest)
+    → IsSpelled (if pair then encode_utf8 (surrogate_pair_char high low) ++ name_text rest else printed_unit high ++ name_text (low ∷ rest))
+    (high ∷ low ∷ rest)
+either true high low rest pair small two one = pair-front high low _ rest pair two
+either false high low rest pair small two one = unit-front (is_escaped high) high _ (low ∷ rest) refl small one
+
+pub IsSpelled-name_text : (units : List ℕ) → All (λ unit. unit < 0x10000) units → IsSpelled (name_text units) units
+unfolding name_text
+IsSpelled-name_text [] small = IsSpelled-none
+IsSpelled-name_text (unit ∷ []) small =
+    rw (sym (append-nil (printed_unit unit))) (unit-front (is_escaped unit) unit [] [] refl (All-head (λ u. u < 0x10000) unit [] small) IsSpelled-none)
+IsSpelled-name_text (unit ∷ next ∷ units) small =
+    let rest = All-tail (λ u. u < 0x10000) unit (next ∷ units) small in
+    either (are_pair unit next) unit next units refl (All-head (λ u. u < 0x10000) unit (next ∷ units) small)
+    (IsSpelled-name_text units (All-tail (λ u. u < 0x10000) next units rest)) (IsSpelled-name_text (next ∷ units) rest)
+
+pub printed_back : (units : List ℕ) → All (λ unit. unit < 0x10000) units → 0 < length units → IsNameText (name_text units) units
+printed_back units small some = record { spelled = IsSpelled-name_text units small; some = some }
+
+pub one_print : (units other : List ℕ) → All (λ unit. unit < 0x10000) units → All (λ unit. unit < 0x10000) other
+    → name_text units ≡ name_text other → units ≡ other
+one_print units other small little same =
+    let a = IsSpelled-name_text units small in
+    one (name_text units) units other a.letters a.each a.written a.meant (rw same (IsSpelled-name_text other little))

@@ -60,7 +60,11 @@ fn next_letter(chars: &mut Chars<'_>) -> Option<Letter>
     if char == '%' {
         return Some(Letter::Escaped(next_unit(chars)?));
     }
-    if is_plain(char) { Some(Letter::Plain(char)) } else { None }
+    if is_plain(char) {
+        Some(Letter::Plain(char))
+    } else {
+        None
+    }
 }
 
 fn push_letter(units: &mut Vec<u16>, letter: Letter) -> Result<(), AllocError>

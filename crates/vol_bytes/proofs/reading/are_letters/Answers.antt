@@ -1,4 +1,4 @@
-use Rattle.std.proofs.Common.{◌≡◌, ◌<◌, ◌++◌, [], length, refl, sym, ap, ◌∙◌, arith, length-append, rules}
+use Rattle.std.proofs.Common.{◌≡◌, ◌<◌, ◌++◌, [], length, refl, ap, arith, length-append}
 use Rattle.std.proofs.lemmas.Bool.Decides.{nat_tests}
 use Rattle.std.specs.Str.Iter.{chars_rest}
 use Rattle.vol_bytes.specs.NameText.{letter_text, letter_units}

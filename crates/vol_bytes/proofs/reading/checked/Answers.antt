@@ -1,6 +1,5 @@
-use Rattle.std.proofs.Common.{◌≡◌, ◌<◌, length, sym, ap, ◌∙◌, arith}
+use Rattle.std.proofs.Common.{◌<◌, length, arith}
 use Rattle.std.proofs.lemmas.Bool.Decides.{nat_tests}
-use Rattle.vol_bytes.specs.NameText.{IsSpelled}
 use Rattle.vol_bytes.proofs.LetterLaws.{IsNameText-bytes, IsNameText-some, IsSpelled-utf8}
 use Rattle.vol_bytes.proofs.reading.checked.Goals as goal
 

@@ -1,5 +1,4 @@
-use Rattle.std.proofs.Common.{refl, sym, ◌∙◌}
-use Rattle.std.specs.Str.Iter.{chars_rest}
+use Rattle.std.proofs.Common.{sym, ◌∙◌}
 use Rattle.vol_bytes.specs.NameText.{escape_digit}
 use Rattle.vol_bytes.proofs.LetterLaws.{IsDigit-escape_digit, char-front}
 use Rattle.vol_bytes.proofs.reading.next_digit.Goals as goal

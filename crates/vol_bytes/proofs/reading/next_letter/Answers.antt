@@ -1,6 +1,4 @@
-use Rattle.std.proofs.Common.{◌≡◌, ◌++◌, ◌∷◌, false, length, drop, get_or, refl, sym, ap, ◌∙◌, arith}
-use Rattle.vol_bytes.specs.NameText.{escape_of}
-use Rattle.vol_bytes.specs.declared.letter.Letter.TheVariants.{Escaped, Plain}
+use Rattle.std.proofs.Common.{length, refl, sym, ap, ◌∙◌, arith}
 use Rattle.vol_bytes.proofs.LetterLaws.{letter-some, after_percent, no_letter}
 use Rattle.vol_bytes.proofs.reading.next_letter.Goals as goal
 

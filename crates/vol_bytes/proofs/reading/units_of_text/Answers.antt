@@ -1,4 +1,4 @@
-use Rattle.std.proofs.Common.{◌≡◌, ◌<◌, ◌++◌, [], length, refl, sym, ap, ◌∙◌, arith, append-nil, append_assoc, length-append}
+use Rattle.std.proofs.Common.{◌++◌, [], length, refl, ap, arith, append-nil, append_assoc, length-append}
 use Rattle.std.specs.Str.Iter.{chars_rest}
 use Rattle.vol_bytes.specs.NameText.{letter_text, letter_units}
 use Rattle.vol_bytes.proofs.LetterLaws.{IsNameText-bytes, IsNameText-some, IsSpelled-behind, IsSpelled-ended, IsSpelled-front, letter-bytes}
