@@ -5,12 +5,18 @@
 ghost use Rattle.std.specs.Prelude.{◌≡◌, ◌+◌, ◌≤◌, length};
 ghost use Rattle.vol_bytes.specs.Field.{SameOutside, u16_at, u32_at, u64_at};
 
+mod laws;
+mod letter;
+mod reading;
 mod small;
 #[cfg(test)]
 mod tests;
 mod text;
 
 use byteorder::{ByteOrder, LittleEndian};
+pub use laws::name_text_laws;
+pub use letter::Letter;
+pub use reading::units_of_text;
 pub use small::{Name, Octets};
 pub use text::{TextFault, text_of_units};
 

@@ -1,5 +1,6 @@
 use crate::{
     Name, Octets, TextFault, put_u16, put_u32, put_u64, text_of_units, u16_at, u32_at, u64_at,
+    units_of_text,
 };
 use std::alloc::AllocError;
 use std::test::Fail;
@@ -24,7 +25,7 @@ fn numbers_are_little_endian(rt: HostRuntime) {
 
 // The last two rows have surrogates without a partner.
 #[test]
-fn names_are_printed(rt: HostRuntime) -> Result<(), TextFault> {
+fn names_are_printed_and_read(rt: HostRuntime) -> Result<(), TextFault> {
     let table: [(&[u16], &str); 7] = [
         (&[0x44, 0x41, 0x54, 0x41], "DATA"),
         (&[0x61, 0x20, 0x62], "a%0020b"),
@@ -37,14 +38,54 @@ fn names_are_printed(rt: HostRuntime) -> Result<(), TextFault> {
     for (units, text) in table {
         let printed = text_of_units(rt.alloc(), units)?;
         assert_eq!(rt; printed.as_slice(), text.as_bytes(), "{text}");
+        let name = units_of_text(rt.alloc(), text.as_bytes())?;
+        assert_eq!(rt; name.as_slice(), units, "{text}");
     }
     assert_eq!(rt; text_of_units(rt.alloc(), &[]).err(), Some(TextFault::Bad));
     Ok(())
 }
 
+// Units that are escaped where they need not be: a letter, the two of a pair, and a unit of four digits.
+#[test]
+fn any_unit_may_be_escaped(rt: HostRuntime) -> Result<(), TextFault> {
+    let name = units_of_text(rt.alloc(), "%0041%D83D%DE00%ABEF😀".as_bytes())?;
+    assert_eq!(rt;
+        name.as_slice(),
+        [0x41, 0xD83D, 0xDE00, 0xABEF, 0xD83D, 0xDE00].as_slice()
+    );
+    Ok(())
+}
+
+// Two lower-case digits, a sign, too few digits, characters that may not stand plain, and bytes that are
+// not UTF-8: a byte alone, a slash in two bytes, and a surrogate.
+#[test]
+fn other_texts_are_bad(rt: HostRuntime) {
+    let table: [&[u8]; 15] = [
+        b"",
+        b"a%00e9",
+        b"%00Ef",
+        b"%+0E9",
+        b"%",
+        b"a%00E",
+        b"%00\xC3\xA9",
+        b"a b",
+        b"a\0",
+        b"a/b",
+        b"a:b",
+        b"a\x7F",
+        b"a\xE9",
+        b"\xC0\xAF",
+        b"\xED\xA0\xBD",
+    ];
+    for text in table {
+        let fault = units_of_text(rt.alloc(), text).err();
+        assert_eq!(rt; fault, Some(TextFault::Bad), "{text:?}");
+    }
+}
+
 // 255 units: a letter, a pair and a space over and again, and three letters more.
 #[test]
-fn long_names_are_printed(rt: HostRuntime) -> Result<(), Fail> {
+fn long_names_are_printed_and_read(rt: HostRuntime) -> Result<(), Fail> {
     let mut units = Vec::new(rt.alloc());
     let mut text = Vec::new(rt.alloc());
     for _ in 0..63 {
@@ -56,6 +97,8 @@ fn long_names_are_printed(rt: HostRuntime) -> Result<(), Fail> {
     let printed = text_of_units(rt.alloc(), &units)?;
     assert_eq!(rt; units.len(), 255);
     assert_eq!(rt; printed.as_slice(), text.as_slice());
+    let name = units_of_text(rt.alloc(), &text)?;
+    assert_eq!(rt; name.as_slice(), units.as_slice());
     Ok(())
 }
 

@@ -1,18 +1,18 @@
 //! The printed form of names.
 ghost use Rattle.std.specs.Prelude.{◌≡◌, ◌+◌, ◌*◌, ◌<◌, ◌≤◌, ◌↔◌, ◌++◌, [], drop, length, slice_index, encode_utf8, true, IsErrOf, IfOk, OnOk};
 ghost use Rattle.std.specs.Char.Utf16.{is_high_surrogate, is_low_surrogate, surrogate_pair_char};
-ghost use Rattle.vol_bytes.specs.NameText.{are_pair, escape_digit, escape_of, is_escaped, name_text, printed_unit};
+ghost use Rattle.vol_bytes.specs.NameText.{are_pair, escape_digit, escape_of, is_escaped, IsNameText, name_text, printed_unit};
 ghost use Rattle.vol_bytes.specs.declared.text.TextFault.TheVariants.{Memory};
 
 use crate::small::Octets;
 use std::alloc::{AllocError, Global};
 use thiserror::Error;
 
-/// Why there is no text of units.
+/// Why there is no text of units, or no units of a text.
 #[derive(Clone, Copy, Debug, PartialEq, Eq, Error)]
 pub enum TextFault {
-    /// There are no units.
-    #[error("an empty name has no text")]
+    /// There are no units, or the text is no name text.
+    #[error("no name")]
     Bad,
     /// Memory ran out.
     #[error("out of memory")]
@@ -115,6 +115,7 @@ fn push_first(text: &mut Vec<u8>, units: &[u16]) -> Result<usize, AllocError>
 /// `Bad` exactly where there are no units, and `Memory`.
 pub fn text_of_units(alloc: Global, units: &[u16]) -> Result<Octets, TextFault>
     ensures text { IfOk result (λ text. text ≡ name_text units.now) }
+    ensures name { IfOk result (λ text. IsNameText text units.now) }
     ensures some { IfOk result (λ text. 0 < length units.now) }
     ensures bad { IsErrOf result TextFault.Bad ↔ (units.now ≡ []) }
 {
