@@ -1,5 +1,5 @@
 -- Flags and the bits that they are kept in.
-use Rattle.std.proofs.Common.{◌≡◌, ℕ, zero, suc, bit_and, nat_eq, ◌^◌, ◌+◌, ◌-◌, take, get_or, inl, inr, Bool, true, length-append, length-take, length-drop, get_or-drop, get_or-take, ◌/◌, ◌%◌, ◌<◌, ◌≤◌, ◌==◌, false, List, ◌∷◌, length, map, Some, refl, sym, ap, ◌∙◌, arith}
+use Rattle.std.proofs.Common.{drop, take, ◌++◌, ◌≡◌, ℕ, zero, suc, bit_and, nat_eq, ◌^◌, ◌+◌, ◌-◌, take, get_or, inl, inr, Bool, true, length-append, length-take, length-drop, get_or-drop, get_or-take, ◌/◌, ◌%◌, ◌<◌, ◌≤◌, ◌==◌, false, List, ◌∷◌, length, map, Some, refl, sym, ap, ◌∙◌, arith}
 use Rattle.std.specs.Prelude.{slice_get, slice_index, replicate}
 use Rattle.std.proofs.lemmas.Bool.{cases_lt}
 use Rattle.std.proofs.lemmas.List.{get_or_append_left, get_or-append_right, get_or-replicate, length-replicate, same_lists}
@@ -51,27 +51,32 @@ get_or-flags_of : (words : List ℕ) (count k : ℕ) (d : Bool) → k < count �
 unfolding flags_of
 get_or-flags_of words count k d h = get_or-map-range_with_len (λ k. bit_of words k == 1) 0 count k k d h (omega arith)
 
-length-with_taken : (flags : List Bool) (at len : ℕ) → at + len ≤ length flags → length (with_taken flags at len) ≡ length flags
-length-with_taken flags at len h = simp (length-append, length-take, length-replicate, length-drop) (omega arith)
+-- flags with those of a range put to a value
+abbrev pub with_all : Bool → List Bool → ℕ → ℕ → List Bool
+with_all value flags at len = take at flags ++ (replicate len value ++ drop (at + len) flags)
 
-taken-below : (flags : List Bool) (at len k : ℕ) (d : Bool) → at + len ≤ length flags → k < at
-    → get_or (with_taken flags at len) k d ≡ get_or flags k d
-taken-below flags at len k d h lt = get_or_append_left (take at flags) _ d k (simp length-take (omega arith)) ∙ get_or-take at flags k d lt
+pub length-with_all : (value : Bool) (flags : List Bool) (at len : ℕ) → at + len ≤ length flags
+    → length (with_all value flags at len) ≡ length flags
+length-with_all value flags at len h = simp (length-append, length-take, length-replicate, length-drop) (omega arith)
 
-taken-inside : (flags : List Bool) (at len k : ℕ) (d : Bool) → at + len ≤ length flags → at ≤ k → k < at + len
-    → get_or (with_taken flags at len) k d ≡ true
-taken-inside flags at len k d h from to =
+pub item-below : (value : Bool) (flags : List Bool) (at len k : ℕ) (d : Bool) → at + len ≤ length flags → k < at
+    → get_or (with_all value flags at len) k d ≡ get_or flags k d
+item-below value flags at len k d h lt = get_or_append_left (take at flags) _ d k (simp length-take (omega arith)) ∙ get_or-take at flags k d lt
+
+pub item-inside : (value : Bool) (flags : List Bool) (at len k : ℕ) (d : Bool) → at + len ≤ length flags → at ≤ k → k < at + len
+    → get_or (with_all value flags at len) k d ≡ value
+item-inside value flags at len k d h from to =
     let front : length (take at flags) ≡ at = simp length-take (omega arith) in
     get_or-append_right (take at flags) _ at k d front from
-    ∙ get_or_append_left (replicate len true) _ d (k - at) (simp length-replicate (omega arith))
-    ∙ get_or-replicate len (k - at) true d (omega arith)
+    ∙ get_or_append_left (replicate len value) _ d (k - at) (simp length-replicate (omega arith))
+    ∙ get_or-replicate len (k - at) value d (omega arith)
 
-taken-above : (flags : List Bool) (at len k : ℕ) (d : Bool) → at + len ≤ length flags → at + len ≤ k
-    → get_or (with_taken flags at len) k d ≡ get_or flags k d
-taken-above flags at len k d h from =
+pub item-above : (value : Bool) (flags : List Bool) (at len k : ℕ) (d : Bool) → at + len ≤ length flags → at + len ≤ k
+    → get_or (with_all value flags at len) k d ≡ get_or flags k d
+item-above value flags at len k d h from =
     let front : length (take at flags) ≡ at = simp length-take (omega arith) in
     get_or-append_right (take at flags) _ at k d front (omega arith)
-    ∙ get_or-append_right (replicate len true) _ len (k - at) d (length-replicate len true) (omega arith)
+    ∙ get_or-append_right (replicate len value) _ len (k - at) d (length-replicate len value) (omega arith)
     ∙ get_or-drop (at + len) flags (k - at - len) d
     ∙ ap (λ i. get_or flags i d) (omega arith)
 
@@ -88,12 +93,12 @@ flags-taken old new count at len within inside below above =
     let fits : at + len ≤ length (flags_of old count) = omega (arith, old_len) in
     let same : (k : ℕ) (d : Bool) → k < count → get_or (flags_of new count) k d ≡ get_or (with_taken (flags_of old count) at len) k d =
     λ k d h. get_or-flags_of new count k d h ∙ elim (cases_lt k at) as (λ _. (bit_of new k == 1) ≡ get_or (with_taken (flags_of old count) at len) k d) [
-      | inl l ↦ ap (λ x. x == 1) (below k l) ∙ sym (get_or-flags_of old count k d h) ∙ sym (taken-below (flags_of old count) at len k d fits l)
+      | inl l ↦ ap (λ x. x == 1) (below k l) ∙ sym (get_or-flags_of old count k d h) ∙ sym (item-below true (flags_of old count) at len k d fits l)
       | inr g ↦ elim (cases_lt k (at + len)) as (λ _. (bit_of new k == 1) ≡ get_or (with_taken (flags_of old count) at len) k d) [
-        | inl l ↦ ap (λ x. x == 1) (inside k g l) ∙ sym (taken-inside (flags_of old count) at len k d fits g l)
+        | inl l ↦ ap (λ x. x == 1) (inside k g l) ∙ sym (item-inside true (flags_of old count) at len k d fits g l)
         | inr past ↦ ap (λ x. x == 1) (above k past) ∙ sym (get_or-flags_of old count k d h)
-            ∙ sym (taken-above (flags_of old count) at len k d fits past)
+            ∙ sym (item-above true (flags_of old count) at len k d fits past)
       ]
     ] in
-    same_lists (flags_of new count) _ (new_len ∙ sym old_len ∙ sym (length-with_taken (flags_of old count) at len fits))
+    same_lists (flags_of new count) _ (new_len ∙ sym old_len ∙ sym (length-with_all true (flags_of old count) at len fits))
     (λ k d h. same k d (omega (arith, new_len)))

@@ -7,10 +7,12 @@ ghost use Rattle.ntfs_def.specs.Bits.{bit_in, flags_in};
 ghost use Rattle.cluster_bitmap.specs.Flags.{IsFree, with_taken};
 ghost use Rattle.cluster_bitmap.specs.Words.{bit_of, clear_below};
 
+mod laws;
 #[cfg(test)]
 mod tests;
 
 use byteorder::{ByteOrder, LittleEndian};
+pub use laws::taken_range_laws;
 use std::alloc::{AllocError, Global};
 use std::marker::Model;
 use thiserror::Error;
