@@ -1,9 +1,9 @@
 -- Bits of one word.
-use Rattle.std.proofs.Common.{◌≡◌, ℕ, zero, suc, ◌+◌, ◌-◌, ◌*◌, ◌/◌, ◌%◌, ◌^◌, ◌<◌, ◌≤◌, inl, inr, List, drop, ap, ◌∙◌, arith, bit_or}
+use Rattle.std.proofs.Common.{◌≡◌, ℕ, zero, suc, ◌+◌, ◌-◌, ◌*◌, ◌/◌, ◌%◌, ◌^◌, ◌<◌, ◌≤◌, inl, inr, List, drop, refl, ap, ◌∙◌, arith, bit_and, bit_or}
 use Rattle.std.specs.Prelude.{slice_index}
 use Rattle.std.specs.Int.{bit_at}
 use Rattle.std.proofs.lemmas.Bool.{cases_lt}
-use Rattle.std.proofs.lemmas.Nat.Bits.{bit_at_or, bit_at-lt, ones_shl, bit_at_mask_inside, bit_at_mask_below, bit_at_cat_low, bit_at_cat_high}
+use Rattle.std.proofs.lemmas.Nat.Bits.{bit_at_or, bit_at-lt, ones_shl, bit_at_mask_inside, bit_at_mask_below, bit_at_and, bit_at_ones, bit_at_ones_above, ones_shr, bit_at_cat_low, bit_at_cat_high}
 use Rattle.std.proofs.lemmas.List.{get_or-drop}
 use Rattle.byteorder.specs.Endian.{little_from}
 use Rattle.ntfs_def.specs.Bits.{bit_in}
@@ -20,6 +20,43 @@ pub bit_at-kept : (word low i : ℕ) → low < 64 → i < low
 bit_at-kept word low i within h =
     let mask : 18446744073709551615 * 2 ^ low % 18446744073709551616 ≡ 2 ^ 64 - 2 ^ low = ones_shl 64 low (omega arith) in
     rw mask (omega (arith, bit_at_or word (2 ^ 64 - 2 ^ low) i, bit_at_mask_below low 64 i h))
+
+-- the bits of a word from `low` up to `high`
+abbrev between : ℕ → ℕ → ℕ
+between low high = bit_and (18446744073709551615 * 2 ^ low % 18446744073709551616) (18446744073709551615 / 2 ^ (64 - high))
+
+between-is : (low high : ℕ) → low < high → high ≤ 64 → between low high ≡ bit_and (2 ^ 64 - 2 ^ low) (2 ^ high - 1)
+between-is low high order word =
+    let up : 18446744073709551615 * 2 ^ low % 18446744073709551616 ≡ 2 ^ 64 - 2 ^ low = ones_shl 64 low (omega arith) in
+    let down : 18446744073709551615 / 2 ^ (64 - high) ≡ 2 ^ (64 - (64 - high)) - 1 = ones_shr 64 (64 - high) (omega arith) in
+    let top : 64 - (64 - high) ≡ high = omega arith in
+    rw (up, down, top) refl
+
+pub mask-inside : (low high i : ℕ) → low < high → high ≤ 64 → low ≤ i → i < high
+    → bit_at (bit_and (18446744073709551615 * 2 ^ low % 18446744073709551616) (18446744073709551615 / 2 ^ (64 - high))) i ≡ 1
+mask-inside low high i order word from to =
+    rw (between-is low high order word) (omega (
+      arith,
+      bit_at_and (2 ^ 64 - 2 ^ low) (2 ^ high - 1) i,
+      bit_at_mask_inside low 64 i from (omega arith),
+      bit_at_ones high i to,
+    ))
+
+pub mask-below : (low high i : ℕ) → low < high → high ≤ 64 → i < low
+    → bit_at (bit_and (18446744073709551615 * 2 ^ low % 18446744073709551616) (18446744073709551615 / 2 ^ (64 - high))) i ≡ 0
+mask-below low high i order word h =
+    rw (between-is low high order word) (omega (arith, bit_at_and (2 ^ 64 - 2 ^ low) (2 ^ high - 1) i, bit_at_mask_below low 64 i h))
+
+pub mask-above : (low high i : ℕ) → low < high → high ≤ 64 → high ≤ i
+    → bit_at (bit_and (18446744073709551615 * 2 ^ low % 18446744073709551616) (18446744073709551615 / 2 ^ (64 - high))) i ≡ 0
+mask-above low high i order word h =
+    rw (between-is low high order word) (omega (arith, bit_at_and (2 ^ 64 - 2 ^ low) (2 ^ high - 1) i, bit_at_ones_above high i h))
+
+pub set-inside : (word mask i : ℕ) → bit_at mask i ≡ 1 → bit_at (bit_or word mask) i ≡ 1
+set-inside word mask i set = omega (arith, bit_at_or word mask i, bit_at-lt word i, set)
+
+pub set-outside : (word mask i : ℕ) → bit_at mask i ≡ 0 → bit_at (bit_or word mask) i ≡ bit_at word i
+set-outside word mask i clear = omega (arith, bit_at_or word mask i, clear)
 
 -- bits of a number that bytes spell
 pub bit_at-little : (at n : ℕ) (xs : List ℕ) (i : ℕ) → ((k : ℕ) → slice_index xs k < 256) → i < 8 * n

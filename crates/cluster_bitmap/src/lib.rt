@@ -4,12 +4,15 @@
 ghost use Rattle.std.specs.Prelude.{◌≡◌, ℕ, ◌+◌, ◌-◌, ◌*◌, ◌^◌, ◌<◌, ◌≤◌, not, count_by, length, slice_get, Some, IfOk};
 ghost use Rattle.std.specs.Int.{bit_at};
 ghost use Rattle.ntfs_def.specs.Bits.{bit_in, flags_in};
+ghost use Rattle.cluster_bitmap.specs.Flags.{IsFree, with_taken};
 ghost use Rattle.cluster_bitmap.specs.Words.{bit_of, clear_below};
 
+mod laws;
 #[cfg(test)]
 mod tests;
 
 use byteorder::{ByteOrder, LittleEndian};
+pub use laws::taken_range_laws;
 use std::alloc::{AllocError, Global};
 use std::marker::Model;
 use thiserror::Error;
@@ -41,6 +44,7 @@ pub struct Bits {
 
 impl Model for Bits {
     ghost use Rattle.std.specs.Prelude.{Bool, List};
+    ghost use Rattle.cluster_bitmap.specs.Flags.{IsFree, with_taken};
     ghost use Rattle.cluster_bitmap.specs.Words.{flags_of, IsPadded};
 
     ghost Value = { List Bool };
@@ -86,6 +90,17 @@ impl Bits {
     {
         self.words[(at / 64) as usize] >> (at % 64) & 1 == 1
     }
+
+    /// Takes the flags of a range, which are free. All others stay.
+    pub fn take(&mut self, at: u64, len: u64)
+        requires { IsFree self.old at len }
+        ensures flags { self.new ≡ with_taken self.old at len }
+        ensures count { length self.new ≡ length self.old }
+    {
+        if len > 0 {
+            set_range(&mut self.words, at, len);
+        }
+    }
 }
 
 // The eight bytes at a place as a number, the lowest first. Those behind the end are zeros.
@@ -123,6 +138,48 @@ fn pad(words: &mut [u64], count: u64)
     let within = count % 64;
     if within != 0 {
         words[(count / 64) as usize] |= u64::MAX << within;
+    }
+}
+
+// The bits from `low` up to `high` of a word, set.
+fn mask(low: u64, high: u64) -> u64
+    requires order { low < high }
+    requires word { high ≤ 64 }
+    ensures inside { (i : ℕ) → low ≤ i → i < high → bit_at result i ≡ 1 }
+    ensures below { (i : ℕ) → i < low → bit_at result i ≡ 0 }
+    ensures above { (i : ℕ) → high ≤ i → bit_at result i ≡ 0 }
+{
+    (u64::MAX << low) & (u64::MAX >> (64 - high))
+}
+
+// A word with its bits from `low` up to `high` set.
+fn set_within(word: u64, low: u64, high: u64) -> u64
+    requires order { low < high }
+    requires word { high ≤ 64 }
+    ensures inside { (i : ℕ) → low ≤ i → i < high → bit_at result i ≡ 1 }
+    ensures below { (i : ℕ) → i < low → bit_at result i ≡ bit_at word i }
+    ensures above { (i : ℕ) → high ≤ i → bit_at result i ≡ bit_at word i }
+{
+    word | mask(low, high)
+}
+
+// Sets the bits of a range, a word at a time.
+fn set_range(words: &mut [u64], at: u64, len: u64)
+    requires end { at + len ≤ 64 * length words.old }
+    requires small { length words.old ≤ 2 ^ 57 }
+    ensures len { length words.new ≡ length words.old }
+    ensures inside { (k : ℕ) → at ≤ k → k < at + len → bit_of words.new k ≡ 1 }
+    ensures below { (k : ℕ) → k < at → bit_of words.new k ≡ bit_of words.old k }
+    ensures above { (k : ℕ) → at + len ≤ k → bit_of words.new k ≡ bit_of words.old k }
+{
+    let end = at + len;
+    let mut place = at;
+    'words: while place < end {
+        let low = place % 64;
+        let high = (low + (end - place)).min(64);
+        let word = (place / 64) as usize;
+        words[word] = set_within(words[word], low, high);
+        place += high - low;
     }
 }
 

@@ -1,5 +1,4 @@
-//! Little-endian numbers in bytes, how every field of an NTFS volume is stored, and the printed form
-//! of names.
+//! Little-endian numbers in bytes, how every field of an NTFS volume is stored, and names as texts.
 #![tactic(auto)]
 
 ghost use Rattle.std.specs.Prelude.{◌≡◌, ◌+◌, ◌≤◌, length};
@@ -15,7 +14,6 @@ mod text;
 
 use byteorder::{ByteOrder, LittleEndian};
 pub use laws::name_text_laws;
-pub use letter::Letter;
 pub use reading::units_of_text;
 pub use small::{Name, Octets};
 pub use text::{TextFault, text_of_units};

@@ -25,7 +25,8 @@ fn digit(char: char) -> Option<u16>
 // The next character, which is a digit of an escape.
 fn next_digit(chars: &mut Chars<'_>) -> Option<u16>
     ensures some { IfSome result (λ value. (value < 16) × (chars_rest chars.old ≡ escape_digit value ∷ chars_rest chars.new)) }
-    ensures none { result ≡ None → (value : ℕ) (rest : List ℕ) → value < 16 → chars_rest chars.old ≡ escape_digit value ∷ rest → ⊥ }
+    ensures none { result ≡ None → (value : ℕ) (rest : List ℕ) → value < 16
+        → chars_rest chars.old ≡ escape_digit value ∷ rest → ⊥ }
 {
     digit(chars.next()?)
 }
