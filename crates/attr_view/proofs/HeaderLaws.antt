@@ -41,7 +41,7 @@ module _ (old new : List ℕ) (count : ℕ) (fields : RecordHeader) (shape : Has
   HasShape-set : HasShape new (length (attributes new))
   HasShape-set =
       let s = HasShape-spliced old new count 0 0 0 count 0 0 shape (omega arith) (omega arith) refl
-          (omega (arith, header_failing-used old shape.header)) spliced in
+      (omega (arith, header_failing-used old shape.header)) spliced in
       subst (HasShape new) (sym (length-attributes new _ s)) s
 
   in_use : is_in_use new ≡ (starts_with nat_eq old (codes "FILE") && (fields.flags % 2 == 1))

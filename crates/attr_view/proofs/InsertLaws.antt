@@ -60,7 +60,7 @@ module _ (old new attr : List ℕ) (count i : ℕ) (shape : HasShape old count) 
   attributes-inserted =
       attributes-spliced old new count i 0 1 (count - i) 0 (length attr) shape (omega arith) none put (omega arith) spliced
       ∙ ap (λ (a : Attribute). take i (attributes old) ++ (a ∷ [] ++ drop (i + 0) (attributes old)))
-          (attribute_at-moved attr new 0 _ one.whole moved)
+      (attribute_at-moved attr new 0 _ one.whole moved)
       ∙ ap (λ k. take i (attributes old) ++ attribute_at attr 0 ∷ drop k (attributes old)) here
 
   HasShape-inserted : HasShape new (length (attributes new))

@@ -29,8 +29,8 @@ pub enum ViewNo {
     /// attribute or end mark.
     #[error("the record has a wrong shape at byte {at}")]
     Shape { at: usize },
-    /// The edit needs more bytes than the record has left.
-    #[error("the record has {free} bytes left of {need}")]
+    /// The edit takes `need` bytes more, and the record has room for `free`.
+    #[error("the record has room for {free} bytes of {need}")]
     Full { need: usize, free: usize },
 }
 

@@ -25,23 +25,12 @@ pub struct RecordHeader {
     pub base: u64,
 }
 
-/// A file record whose attributes can be read and edited. All its bytes stay in the block that was lent.
-///
-/// It has no `Drop`: `finish` gives the block back.
-#[derive(Debug)]
+/// A file record whose attributes can be read and edited. All its bytes stay in the block that was lent, which has every
+/// edit once this is let go.
+#[derive(Debug, Drop)]
 pub struct RecordMut<'r> {
     block: &'r mut [u8; 1024],
     ghost shape: { HasShape block.now (length (attributes block.now)) },
-}
-
-// Tests the shape.
-fn test_shape(block: &[u8; 1024]) -> Result<(), ViewNo>
-    ensures shape { OnOk result (HasShape block.now (length (attributes block.now))) }
-    ensures err { IfErr result (Refuses block.now) }
-{
-    let view = RecordView::new(block)?;
-    let _ = view;
-    Ok(())
 }
 
 // Puts an attribute into a record before attribute i, or behind all.
@@ -86,17 +75,8 @@ impl<'r> RecordMut<'r> {
         ensures shape { IfOk result (λ edited. HasShape block.old (length (attributes block.old))) }
         ensures err { IfErr result (Refuses block.old) }
     {
-        test_shape(block)?;
+        RecordView::new(block)?;
         Ok(RecordMut { block })
-    }
-
-    /// Gives the block back.
-    pub fn finish(self) -> &'r mut [u8; 1024]
-        ensures same_reference { result.ghost_name ≡ reference_of self.entry }
-        ensures block { result.now ≡ edited_block self.entry }
-    {
-        let RecordMut { block } = self;
-        block
     }
 
     /// A view of the record as it is now.
