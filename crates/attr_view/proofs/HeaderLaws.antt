@@ -1,5 +1,5 @@
 -- A record whose header was set: its attributes stay, since no byte from the first of them on changed.
-use Rattle.std.proofs.Common.{◌≡◌, ℕ, ◌+◌, ◌-◌, ◌&&◌, ◌%◌, ◌==◌, List, length, take, drop, get_or, ap, subst, sym, refl, ◌∙◌, arith}
+use Rattle.std.proofs.Common.{◌≡◌, ℕ, ◌&&◌, ◌%◌, ◌==◌, List, length, get_or, ap, subst, sym, ◌∙◌, arith}
 use Rattle.std.specs.Prelude.{codes, nat_eq}
 use Rattle.std.specs.List.{starts_with}
 use Rattle.vol_bytes.proofs.FieldLaws.{u16_at-same, u32_at-same}
@@ -10,8 +10,8 @@ use Rattle.ntfs_def.specs.Splice.{IsSpliced}
 use Rattle.ntfs_def.proofs.AttributeLaws.{length-attributes}
 use Rattle.ntfs_def.proofs.PlaceLaws.{attribute_place-bounded}
 use Rattle.ntfs_def.proofs.SameLaws.{headers_same, starts-same}
-use Rattle.ntfs_def.proofs.ShapeLaws.{header_failing-length, header_failing-used}
-use Rattle.ntfs_def.proofs.SpliceLaws.{HasShape-spliced, attributes-spliced}
+use Rattle.ntfs_def.proofs.ShapeLaws.{header_failing-length}
+use Rattle.ntfs_def.proofs.SpliceLaws.{HasShape-unmoved, attributes-unmoved}
 use Rattle.attr_view.specs.Edit.{PutsFields, SetsHeader}
 use Rattle.attr_view.specs.declared.record_mut.RecordHeader.{RecordHeader}
 
@@ -33,15 +33,9 @@ module _ (old new : List ℕ) (count : ℕ) (fields : RecordHeader) (shape : Has
         behind = λ k j from to e. let is : j ≡ k = omega arith in ap (λ (q : ℕ). get_or new q 0) is ∙ x.rest k (omega (arith, low));
       }
 
-  attributes-set : attributes new ≡ attributes old
-  attributes-set =
-      attributes-spliced old new count 0 0 0 count 0 0 shape (omega arith) (omega arith) refl
-      (omega (arith, header_failing-used old shape.header)) spliced
-
   HasShape-set : HasShape new (length (attributes new))
   HasShape-set =
-      let s = HasShape-spliced old new count 0 0 0 count 0 0 shape (omega arith) (omega arith) refl
-      (omega (arith, header_failing-used old shape.header)) spliced in
+      let s = HasShape-unmoved old new count shape spliced in
       subst (HasShape new) (sym (length-attributes new _ s)) s
 
   in_use : is_in_use new ≡ (starts_with nat_eq old (codes "FILE") && (fields.flags % 2 == 1))
@@ -59,5 +53,5 @@ module _ (old new : List ℕ) (count : ℕ) (fields : RecordHeader) (shape : Has
         (u16_at-same old new 0x28 (λ k from to. x.rest k from))
         (u32_at-same old new 0x2C (λ k from to. x.rest k (omega arith)));
     in_use = in_use;
-    attributes = attributes-set;
+    attributes = attributes-unmoved old new count shape spliced;
   }

@@ -1,5 +1,5 @@
 -- An attribute that is put into a record is a splice: no byte goes, and the bytes of the attribute come.
-use Rattle.std.proofs.Common.{◌≡◌, ℕ, suc, ◌+◌, ◌-◌, ◌≤◌, ◌&&◌, ◌%◌, ◌==◌, List, [], ◌∷◌, ◌++◌, length, take, drop, ap, subst, sym, refl, ◌∙◌}
+use Rattle.std.proofs.Common.{◌≡◌, ℕ, ◌+◌, ◌-◌, ◌≤◌, ◌&&◌, ◌%◌, ◌==◌, List, [], ◌∷◌, ◌++◌, length, take, drop, ap, subst, sym, refl, ◌∙◌}
 use Rattle.std.proofs.Common.{arith}
 use Rattle.std.specs.Prelude.{codes, nat_eq}
 use Rattle.std.specs.List.{insert, starts_with}
@@ -13,7 +13,7 @@ use Rattle.ntfs_def.proofs.AttributeLaws.{length-attributes}
 use Rattle.ntfs_def.proofs.MovedLaws.{IsWhole-moved, attribute_at-moved, attribute_len-moved}
 use Rattle.ntfs_def.proofs.PlaceLaws.{attribute_place-bounded}
 use Rattle.ntfs_def.proofs.SameLaws.{headers_same, starts-same}
-use Rattle.ntfs_def.proofs.ShapeLaws.{header_failing-length, IsWhole-long}
+use Rattle.ntfs_def.proofs.ShapeLaws.{header_failing-length}
 use Rattle.ntfs_def.proofs.SpliceLaws.{HasShape-spliced, attributes-spliced}
 use Rattle.attr_view.specs.Edit.{Inserts, IsInsertedAt}
 

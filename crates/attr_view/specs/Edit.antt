@@ -1,8 +1,7 @@
 -- What an edit of a record makes of its bytes.
 use Rattle.std.specs.Prelude.{◌≡◌, ℕ, ◌+◌, ◌%◌, ◌<◌, ◌≤◌, ◌==◌, ◌&&◌, List, codes, length, min, nat_eq, slice_index, if◌then◌else◌}
-use Rattle.std.specs.Borrow.{GName}
 use Rattle.std.specs.List.{insert, starts_with}
-use Rattle.ntfs_def.specs.Attribute.{Attribute, attribute_at, attribute_id, attribute_place, attributes}
+use Rattle.ntfs_def.specs.Attribute.{attribute_at, attribute_id, attribute_place, attributes}
 use Rattle.ntfs_def.specs.Record.{Header, base_in, base_reference, header_of, is_in_use, link_count, next_attribute_id, record_flags}
 use Rattle.ntfs_def.specs.Record.{sequence_of, used_size}
 use Rattle.ntfs_def.specs.Shape.{HasShape}

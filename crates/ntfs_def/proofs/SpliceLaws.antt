@@ -1,18 +1,15 @@
 -- A record of which a part gave way to another has the shape, and the attributes before, the given one and those behind.
-use Rattle.std.proofs.Common.{◌≡◌, ℕ, zero, suc, ◌+◌, ◌-◌, ◌<◌, ◌≤◌, Bool, true, false, List, [], ◌∷◌, ◌++◌, Option, None}
+use Rattle.std.proofs.Common.{◌≡◌, ℕ, zero, suc, ◌+◌, ◌-◌, ◌<◌, ◌≤◌, List, [], ◌∷◌, ◌++◌, None}
 use Rattle.std.proofs.Common.{length, take, drop, get_or, inl, inr, ap, subst, sym, refl, ◌∙◌, arith, length-append, length-drop}
 use Rattle.std.specs.Prelude.{nat_le}
 use Rattle.std.proofs.lemmas.List.{same_lists, length-take-le, get_or_append_left, get_or-append_right, get_or-take, get_or-drop}
 use Rattle.std.proofs.lemmas.Option.{get_or_from_slice_get}
 use Rattle.std.proofs.lemmas.Bool.{cases_lt, le-leb}
-use Rattle.vol_bytes.proofs.FieldLaws.{u32_at-same}
-use Rattle.ntfs_def.specs.First.{first_failing}
-use Rattle.ntfs_def.specs.Record.{first_place, used_size}
-use Rattle.ntfs_def.specs.Attribute.{Attribute, attribute_at, attribute_kind, attribute_len, attribute_place, attributes}
+use Rattle.ntfs_def.specs.Record.{used_size}
+use Rattle.ntfs_def.specs.Attribute.{Attribute, attribute_at, attribute_len, attribute_place, attributes}
 use Rattle.ntfs_def.specs.Moved.{Moved}
-use Rattle.ntfs_def.specs.Shape.{HasAttributes, HasShape, IsAttribute, IsEnd, IsWhole, header_failing}
+use Rattle.ntfs_def.specs.Shape.{HasAttributes, HasShape, IsAttribute, IsEnd, header_failing}
 use Rattle.ntfs_def.specs.Splice.{IsGiven, IsSpliced, given}
-use Rattle.ntfs_def.specs.declared.kinds.TheConstants.{END}
 use Rattle.ntfs_def.proofs.ShapeLaws.{header_failing-length, header_failing-used}
 use Rattle.ntfs_def.proofs.AttributeLaws.{length-attributes, slice_get-attributes}
 use Rattle.ntfs_def.proofs.PlaceLaws.{attribute_place-bounded, place-order}
@@ -82,7 +79,7 @@ module _ (old new : List ℕ) (count i a b rest was now : ℕ) (shape : HasShape
       let none : more ≡ 0 = one.0 in
       let is : suc more + i ≡ suc i = omega arith in
       let step : attribute_place new (suc i) ≡ attribute_place old i + now =
-          ap (λ p. p + attribute_len new p) (place-before i (omega arith)) ∙ ap (λ m. attribute_place old i + m) one.2 in
+      ap (λ p. p + attribute_len new p) (place-before i (omega arith)) ∙ ap (λ m. attribute_place old i + m) one.2 in
       omega (arith, ap (attribute_place new) is, step, taken)
 
   place-behind : (m : ℕ) → m ≤ rest → attribute_place new (m + (b + i)) + was ≡ attribute_place old (m + (i + a)) + now
@@ -163,7 +160,7 @@ module _ (old new : List ℕ) (count i a b rest was now : ℕ) (shape : HasShape
   header : header_failing new ≡ None
   header =
       let room : nat_le (used_size new) 1024 ≡ nat_le (used_size old) 1024 =
-          le-leb (used_size new) 1024 (omega (arith, x.used, fits)) ∙ sym (le-leb (used_size old) 1024 used) in
+      le-leb (used_size new) 1024 (omega (arith, x.used, fits)) ∙ sym (le-leb (used_size old) 1024 used) in
       rw (x.len, x.array, x.numbers, x.first, room, x.allocated) shape.header
 
   pub HasShape-spliced : HasShape new (rest + (b + i))
@@ -241,7 +238,7 @@ module _ (old new : List ℕ) (count i a b rest was now : ℕ) (shape : HasShape
   element-back n d lt =
       let is : i + a + n ≡ n + (i + a) = omega arith in
       let moved = Moved-behind (n + (i + a)) (attribute_place new (n + (b + i))) (omega arith) (omega arith)
-          (place-behind n (omega arith)) in
+      (place-behind n (omega arith)) in
       attribute_at-moved old new _ _ ((shape.each (n + (i + a)) (omega arith)).whole) moved
       ∙ sym (get_or-drop (i + a) (attributes old) n d ∙ ap (λ q. get_or (attributes old) q d) is ∙ at-old (n + (i + a)) d (omega arith))
 
@@ -267,10 +264,29 @@ module _ (old new : List ℕ) (count i a b rest was now : ℕ) (shape : HasShape
   length-parts : length (front ++ (middle ++ back)) ≡ rest + (b + i)
   unfolding back
   length-parts = omega (
-    arith, length-append front (middle ++ back), length-append middle back, length-drop (i + a) (attributes old),
-    length-front, length-middle, length-old)
+    arith,
+    length-append front (middle ++ back),
+    length-append middle back,
+    length-drop (i + a) (attributes old),
+    length-front,
+    length-middle,
+    length-old,
+  )
 
   pub attributes-spliced :
       attributes new ≡ take i (attributes old) ++ (given new (attribute_place old i) b ++ drop (i + a) (attributes old))
   unfolding front middle back
   attributes-spliced = same_lists _ _ (length-new ∙ sym length-parts) (λ j d lt. element j d (omega (arith, length-new)))
+
+-- where no byte went and none came, the attributes stay
+module _ (old new : List ℕ) (count : ℕ) (shape : HasShape old count) (x : IsSpliced old new (attribute_place old 0) 0 0) where
+  fits : used_size old + 0 ≤ 1024 + 0
+  fits = omega (arith, header_failing-used old shape.header)
+
+  pub HasShape-unmoved : HasShape new count
+  HasShape-unmoved =
+      let all : count + 0 ≡ count = omega arith in
+      subst (HasShape new) all (HasShape-spliced old new count 0 0 0 count 0 0 shape all (omega arith) refl fits x)
+
+  pub attributes-unmoved : attributes new ≡ attributes old
+  attributes-unmoved = attributes-spliced old new count 0 0 0 count 0 0 shape (omega arith) (omega arith) refl fits x
