@@ -1,8 +1,8 @@
 -- An attribute that is put into a record is a splice: no byte goes, and the bytes of the attribute come.
-use Rattle.std.proofs.Common.{◌≡◌, ℕ, ◌+◌, ◌-◌, ◌≤◌, ◌&&◌, ◌%◌, ◌==◌, List, [], ◌∷◌, ◌++◌, length, take, drop, ap, subst, sym, refl, ◌∙◌}
-use Rattle.std.proofs.Common.{arith}
+use Rattle.std.proofs.Common.{◌≡◌, ℕ, ◌+◌, ◌-◌, ◌≤◌, ◌&&◌, ◌%◌, ◌==◌, List, [], ◌∷◌, ◌++◌, length, take, drop, ap, subst, sym, refl, ◌∙◌, arith}
 use Rattle.std.specs.Prelude.{codes, nat_eq}
 use Rattle.std.specs.List.{insert, starts_with}
+use Rattle.std.proofs.lemmas.List.Edits.{length-insert}
 use Rattle.vol_bytes.proofs.FieldLaws.{u16_at-same, u32_at-same, u64_at-same}
 use Rattle.ntfs_def.specs.Record.{base_in, header_of, is_in_use, record_flags, used_size}
 use Rattle.ntfs_def.specs.Attribute.{Attribute, attribute_at, attribute_len, attribute_place, attributes}
@@ -68,6 +68,10 @@ module _ (old new attr : List ℕ) (count i : ℕ) (shape : HasShape old count) 
       let s = HasShape-spliced old new count i 0 1 (count - i) 0 (length attr) shape (omega arith) none put (omega arith) spliced in
       subst (HasShape new) (sym (length-attributes new _ s)) s
 
+  one_more : length (attributes new) ≡ length (attributes old) + 1
+  one_more = ap length attributes-inserted
+      ∙ length-insert (attributes old) i (attribute_at attr 0) (omega (arith, length-attributes old count shape))
+
   in_use : is_in_use new ≡ is_in_use old
   in_use =
       ap (λ t. t && (record_flags new % 2 == 1))
@@ -80,6 +84,7 @@ module _ (old new attr : List ℕ) (count i : ℕ) (shape : HasShape old count) 
   Inserts-inserted = record {
     bytes = x;
     shape = HasShape-inserted;
+    one_more = one_more;
     header = headers_same _ _
         (u16_at-same old new 0x10 (λ k from to. x.front k (omega arith)))
         (u16_at-same old new 0x12 (λ k from to. x.front k (omega arith)))

@@ -34,6 +34,7 @@ with_next_id header next = record header { next_id = next }
 pub record Inserts (old new attr : List ℕ) (i : ℕ) : Type 0 where
   pub bytes : IsInsertedAt old new attr (attribute_place old i)
   pub shape : HasShape new (length (attributes new))
+  pub one_more : length (attributes new) ≡ length (attributes old) + 1
   pub header : header_of new ≡ with_next_id (header_of old) (next_id_after (next_attribute_id old) (attribute_id attr 0))
   pub in_use : is_in_use new ≡ is_in_use old
   pub attributes : attributes new ≡ insert (attributes old) i (attribute_at attr 0)

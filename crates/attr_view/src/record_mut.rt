@@ -7,7 +7,7 @@ ghost use Rattle.attr_view.specs.Edit.{Inserts, LacksRoom, SetsHeader};
 ghost use Rattle.attr_view.specs.View.{Refuses, viewed_block};
 
 use crate::edit::{insert_bytes, put_header};
-use crate::shape::{count_of, place_in};
+use crate::shape::place_in;
 use crate::{RecordView, ViewNo};
 use ntfs_def::lengths::RECORD;
 use vol_bytes::u32_at;
