@@ -1,2 +1,2 @@
-mod ListEntryLaws
+pub mod ListEntryLaws
 pub mod LeftLaws

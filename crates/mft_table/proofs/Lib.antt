@@ -6,3 +6,6 @@ pub mod BootSectors
 pub mod NoTable
 pub mod TableLaws
 pub mod FoundLaws
+pub mod StreamBytes
+pub mod StreamRuns
+pub mod StreamReads

@@ -6,6 +6,7 @@ mod error;
 mod mft;
 mod mounted;
 mod open;
+mod stream;
 mod table;
 mod table_data;
 #[cfg(test)]

@@ -1,16 +1,17 @@
 //! The table of records in use: a stage, and what is kept of the volume.
 ghost use Rattle.std.proofs.Props.{props};
-ghost use Rattle.std.specs.Prelude.{◌≡◌, ◌<◌, Contains, IfErr, IsOk, IsTrue, MatchResult, OnErr, OnOk, length};
+ghost use Rattle.std.specs.Prelude.{◌≡◌, ◌<◌, Contains, IfErr, IsOk, IsTrue, MatchResult, OnErr, OnOk, length, ◌*◌, ◌^◌, ◌≤◌, IfSome};
 ghost use Rattle.vol_disk.specs.Contents.{IsTold, sector_in};
 ghost use Rattle.vol_disk.specs.Count.{CountsFault};
 ghost use Rattle.ntfs_def.specs.Fixup.{HasArray, IsSealed, bare_of, opened_of};
+ghost use Rattle.volume_def.specs.Table.{cluster_bytes};
 ghost use Rattle.vol_stage.specs.Staged.{disk_of, image, places};
 ghost use Rattle.mft_table.specs.MftNos.{CountsNo, RefusesRead};
 ghost use Rattle.mft_table.specs.Mounted.{StandsOn};
 
 use crate::{MftNo, Mounted};
 use ntfs_fixup::unseal;
-use vol_disk::Disk;
+use vol_disk::{Disk, SECTOR};
 use vol_stage::Stage;
 
 /// The table of records of a volume in use.
@@ -52,6 +53,31 @@ impl<D: Disk> Mft<'_, D> {
         ensures { result.now ≡ mounted_of D.Disk self.now }
     {
         &self.mounted
+    }
+
+    /// The number of sectors of the disk.
+    pub fn sectors(&self) -> u64
+        ensures size { result ≡ D.size (disk_of D.Disk (stage_of D.Disk self.now)) }
+        ensures few { result < 2 ^ 55 }
+        ensures length { IfSome (image D.Disk (stage_of D.Disk self.now)) (λ all. length all ≡ 512 * result) }
+    {
+        self.stage.sectors()
+    }
+
+    /// The sectors of a cluster.
+    pub fn cluster_sectors(&self) -> u64
+        ensures sectors { result ≡ (view D.Disk self.now).layout.cluster_sectors }
+        ensures some { 0 < result }
+        ensures few { result ≤ 8 }
+    {
+        u64::from(self.mounted.geometry.cluster) / SECTOR as u64
+    }
+
+    /// The bytes of a cluster.
+    pub fn cluster_bytes(&self) -> u64
+        ensures { result ≡ cluster_bytes (view D.Disk self.now).layout }
+    {
+        u64::from(self.mounted.geometry.cluster)
     }
 
     /// Reads record `number` of the table, in use or not, and opens it.

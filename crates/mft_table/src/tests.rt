@@ -5,6 +5,8 @@ ghost use Rattle.std.specs.Prelude.{◌≡◌, ◌<◌, ◌^◌, IfOk, length};
 ghost use Rattle.vol_stage.specs.Staged.{disk_of};
 ghost use Rattle.mft_table.specs.Mounted.{StandsOn};
 
+mod streams;
+
 use crate::{Mft, MftNo, Mounted, TableNo, find_table};
 use attr_view::RecordView;
 use cluster_bitmap::Bits;

@@ -25,6 +25,13 @@ starts-same (c ∷ p) (x ∷ a) (y ∷ b) la lb same =
     ap (λ z. nat_eq c z && starts_with nat_eq b p) (same 0 (omega arith))
     ∙ ap (λ t. nat_eq c x && t) (starts-same p a b (omega arith) (omega arith) (λ k lt. same (suc k) (omega arith)))
 
+-- whether a block is in use, its first 24 bytes say
+pub is_in_use-front : (a b : List ℕ) → 24 ≤ length a → 24 ≤ length b → ((k : ℕ) → k < 24 → get_or b k 0 ≡ get_or a k 0)
+    → is_in_use b ≡ is_in_use a
+is_in_use-front a b la lb same =
+    ap (λ t. t && (record_flags b % 2 == 1)) (starts-same (codes "FILE") a b (omega arith) (omega arith) (λ k lt. same k (omega arith)))
+    ∙ ap (λ f. starts_with nat_eq a (codes "FILE") && (f % 2 == 1)) (u16_at-same a b 0x16 (λ k f t. same k (omega arith)))
+
 -- a header from its parts
 abbrev header_from : ℕ → ℕ → ℕ → Option Reference → ℕ → ℕ → Header
 header_from sequence links flags base next number =
@@ -76,7 +83,4 @@ module _ (a b : List ℕ) (count : ℕ) (shape : HasShape a count) (same : SameO
       (short 0x28 (omega arith)) (u32_at-same a b 0x2C (λ k f t. same.below k (omega arith)))
 
   pub is_in_use-same : is_in_use b ≡ is_in_use a
-  is_in_use-same =
-      ap (λ t. t && (record_flags b % 2 == 1))
-      (starts-same (codes "FILE") a b (omega (arith, all)) (omega (arith, same.len, all)) (λ k lt. same.below k (omega arith)))
-      ∙ ap (λ f. starts_with nat_eq a (codes "FILE") && (f % 2 == 1)) (u16_at-same a b 0x16 (λ k f t. same.below k (omega arith)))
+  is_in_use-same = is_in_use-front a b (omega (arith, all)) (omega (arith, same.len, all)) (λ k lt. same.below k (omega arith))

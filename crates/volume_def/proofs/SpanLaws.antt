@@ -53,7 +53,7 @@ begun-among from (next ∷ parts) part (begins, rest) c = elim (Contains-cases n
 ]
 
 -- the header of a part that has_cluster a cluster tells what it holds
-whole-spans : (parts : List Part) (part : Part) (vcn : ℕ) → AreWhole parts → Contains parts part → 1 ≤ part_clusters part
+pub whole-spans : (parts : List Part) (part : Part) (vcn : ℕ) → AreWhole parts → Contains parts part → 1 ≤ part_clusters part
     → spans_vcn vcn part ≡ holds_vcn vcn part
 whole-spans [] part vcn w c some = absurd (Contains-nil part c)
 whole-spans (only ∷ []) part vcn (inl value) c some =

@@ -1,0 +1,100 @@
+-- An attribute that is found among those of a file, and the part that it is.
+use Rattle.std.proofs.Common.{cond, leb, subst, ◌≡◌, ◌≤◌, ℕ, ◌&&◌, Bool, true, false, List, [], ◌∷◌, ◌++◌, Option, Some, None, inl, inr, refl, sym, ap, ◌∙◌}
+use Rattle.std.specs.Prelude.{find, filter, map, flat_map}
+use Rattle.std.proofs.lemmas.Bool.{leb-true}
+use Rattle.ntfs_def.specs.Attribute.{Attribute, Body, ExtentHeader, NonResident, Resident, attributes}
+use Rattle.volume_def.specs.Files.{Part, content_of, content_extent, is_of, part_of, parts_like}
+use Rattle.volume_def.specs.Spans.{is_within, spans_vcn}
+use Rattle.volume_def.proofs.FindLaws.{find-found}
+use Rattle.file_record.specs.declared.parts.FileParts.{FileParts}
+use Rattle.file_record.specs.declared.held.Held.{Held}
+use Rattle.file_record.specs.Held.{attributes_held, attributes_in, held_of, parts_held, parts_of}
+use Rattle.attr_store.specs.Sought.{parts_held_like, spans_like}
+
+-- The part is the attribute, as some record holds it; or neither is there.
+abbrev pub IsFoundAs : Option Attribute → Option Part → Type 0
+IsFoundAs None None = Unit {0}
+IsFoundAs None (Some part) = ⊥
+IsFoundAs (Some attribute) None = ⊥
+IsFoundAs (Some attribute) (Some part) = (n : ℕ) × (part ≡ part_of n attribute)
+
+found-step : (b c : Bool) (a : Attribute) (part : Part) (x : Option Attribute) (y : Option Part) → b ≡ c → IsFoundAs (Some a) (Some part)
+    → IsFoundAs x y → IsFoundAs (cond c (Some a) x) (cond b (Some part) y)
+found-step true true a part x y same here rest = here
+found-step true false a part x y same here rest = cc
+found-step false true a part x y same here rest = cc
+found-step false false a part x y same here rest = rest
+
+-- in one record, and then in others
+found-in : (p : Part → Bool) (q : Attribute → Bool) (n : ℕ) (each : (a : Attribute) → p (part_of n a) ≡ q a)
+    → (here : List Attribute) (more : List Attribute) (behind : List Part) → IsFoundAs (find q more) (find p behind)
+    → IsFoundAs (find q (here ++ more)) (find p (map (part_of n) here ++ behind))
+found-in p q n each [] more behind rest = rest
+found-in p q n each (a ∷ here) more behind rest =
+    found-step (p (part_of n a)) (q a) a (part_of n a) _ _ (each a) (n, refl) (found-in p q n each here more behind rest)
+
+-- The same attribute is found among the attributes as among the parts.
+pub found-held : (p : Part → Bool) (q : Attribute → Bool) (each : (n : ℕ) (a : Attribute) → p (part_of n a) ≡ q a)
+    → (held : List Held) → IsFoundAs (find q (flat_map attributes_in held)) (find p (flat_map parts_of held))
+found-held p q each [] = tt
+found-held p q each (one ∷ held) =
+    found-in p q one.number (each one.number) (attributes one.block) (flat_map attributes_in held) (flat_map parts_of held)
+    (found-held p q each held)
+
+filter-step : {X : Type 0} (p : X → Bool) (b : Bool) (x : X) (xs : List X)
+    → find p (cond b (x ∷ xs) xs) ≡ cond (b && p x) (Some x) (find p xs)
+filter-step p true x xs = refl
+filter-step p false x xs = refl
+
+-- a search among those that pass
+pub find-filter : {X : Type 0} (r p : X → Bool) (xs : List X) → find p (filter r xs) ≡ find (λ x. r x && p x) xs
+find-filter r p [] = refl
+find-filter r p (x ∷ xs) = filter-step p (r x) x (filter r xs) ∙ ap (cond (r x && p x) (Some x)) (find-filter r p xs)
+
+found-none : (x : Option Attribute) (y : Option Part) → IsFoundAs x y → x ≡ None → y ≡ None
+found-none None None same is = refl
+found-none None (Some part) same is = absurd same
+found-none (Some a) y same is = cc
+
+found-some : (x : Option Attribute) (y : Option Part) (a : Attribute) → IsFoundAs x y → x ≡ Some a → (n : ℕ) × (y ≡ Some (part_of n a))
+found-some None y a same is = cc
+found-some (Some b) None a same is = absurd same
+found-some (Some b) (Some part) a (n, same) is = let e : b ≡ a = cc in (n, ap Some (same ∙ ap (part_of n) e))
+
+-- What is found among the attributes is found among the parts of the type and name.
+
+among-held : (file : FileParts) (wanted : Attribute) (vcn : ℕ)
+    → IsFoundAs (find (spans_like wanted vcn) (attributes_held file)) (find (spans_vcn vcn) (parts_held_like file wanted))
+among-held file wanted vcn =
+    subst (IsFoundAs (find (spans_like wanted vcn) (attributes_held file)))
+    (sym (find-filter (is_of wanted.kind wanted.name) (spans_vcn vcn) (parts_held file)))
+    (found-held (λ part. is_of wanted.kind wanted.name part && spans_vcn vcn part) (spans_like wanted vcn) (λ n a. refl) (held_of file))
+
+pub held-none : (file : FileParts) (wanted : Attribute) (vcn : ℕ) → find (spans_like wanted vcn) (attributes_held file) ≡ None
+    → find (spans_vcn vcn) (parts_held_like file wanted) ≡ None
+held-none file wanted vcn is = found-none _ _ (among-held file wanted vcn) is
+
+pub held-some : (file : FileParts) (wanted a : Attribute) (vcn : ℕ) → find (spans_like wanted vcn) (attributes_held file) ≡ Some a
+    → (n : ℕ) × (find (spans_vcn vcn) (parts_held_like file wanted) ≡ Some (part_of n a))
+held-some file wanted a vcn is = found-some _ _ a (among-held file wanted vcn) is
+
+-- What its header tells.
+
+both-true : (b c : Bool) → (b && c) ≡ true → (b ≡ true) × (c ≡ true)
+both-true true true is = (refl, refl)
+both-true true false is = cc
+both-true false c is = cc
+
+-- a body whose header spans a cluster is an extent
+pub body-spans : (body : Body) (vcn : ℕ) → is_within vcn (content_extent (content_of body)) ≡ true
+    → (extent : ExtentHeader) × (text : List ℕ) × (body ≡ NonResident extent text) × (extent.sizes.first ≤ vcn) × (vcn ≤ extent.sizes.last)
+body-spans (Resident value) vcn is = cc
+body-spans (NonResident extent text) vcn is =
+    let both = both-true (leb extent.sizes.first vcn) (leb vcn extent.sizes.last) is in
+    (extent, text, refl, leb-true extent.sizes.first vcn both.0, leb-true vcn extent.sizes.last both.1)
+
+pub held-spans : (file : FileParts) (wanted a : Attribute) (vcn : ℕ) → find (spans_like wanted vcn) (attributes_held file) ≡ Some a
+    → is_within vcn (content_extent (content_of a.body)) ≡ true
+held-spans file wanted a vcn is =
+    (both-true (is_of wanted.kind wanted.name (part_of 0 a)) (spans_vcn vcn (part_of 0 a))
+    (find-found (spans_like wanted vcn) (attributes_held file) a is).1).1

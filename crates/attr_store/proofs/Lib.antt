@@ -1,0 +1,6 @@
+pub mod Cases
+pub mod Filled
+pub mod FewerReads
+pub mod Found
+pub mod Spanned
+pub mod Values

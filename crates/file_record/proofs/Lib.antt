@@ -1,0 +1,11 @@
+pub mod HeldLaws
+pub mod RecordLaws
+pub mod NamedLaws
+pub mod ListValues
+pub mod ListParts
+pub mod ListedLaws
+pub mod RiseLaws
+pub mod CoverLaws
+pub mod NumbersLaws
+pub mod HoldLaws
+pub mod ReadLaws

@@ -1,0 +1,6 @@
+pub mod Held
+pub mod Left
+pub mod Records
+pub mod Numbers
+pub mod Holds
+pub mod FileNos

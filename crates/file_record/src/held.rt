@@ -1,0 +1,37 @@
+//! A record of a file, as it is held.
+ghost use Rattle.std.specs.Prelude.{◌≡◌};
+ghost use Rattle.ntfs_def.specs.Shape.{HasShape};
+ghost use Rattle.attr_view.specs.View.{record_of};
+
+use attr_view::RecordView;
+
+/// An opened record that holds parts of a file.
+#[derive(Drop)]
+pub struct Held {
+    pub(crate) number: u64,
+    pub(crate) block: [u8; 1024],
+    // its attributes
+    pub(crate) count: usize,
+    ghost shape: { HasShape block count },
+}
+
+impl Held {
+    // The record, which is not looked at again.
+    pub(crate) fn view(&self) -> RecordView<'_>
+        ensures { record_of result ≡ self.now.block }
+    {
+        RecordView::again(&self.block, self.count)
+    }
+
+    // The same record once more.
+    pub(crate) fn again(&self) -> Held
+        ensures number { result.number ≡ self.now.number }
+        ensures block { result.block ≡ self.now.block }
+    {
+        Held {
+            number: self.number,
+            block: self.block,
+            count: self.count,
+        }
+    }
+}

@@ -1,0 +1,18 @@
+//! The parts of a file: the records that hold them, read by following the file's attribute list.
+#![tactic(auto)]
+
+mod error;
+mod held;
+mod iter;
+mod list;
+mod load;
+mod numbers;
+mod parts;
+mod record;
+#[cfg(test)]
+mod tests;
+
+pub use error::FileNo;
+pub use held::Held;
+pub use iter::FileAttributes;
+pub use parts::FileParts;

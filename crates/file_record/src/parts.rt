@@ -1,0 +1,57 @@
+//! The parts of a file: how many, and each of them.
+ghost use Rattle.std.specs.Prelude.{◌≤◌, vec_len};
+
+use crate::Held;
+use attr_view::AttrView;
+
+/// The parts of a file: the records that hold them, by rising number.
+#[derive(Drop)]
+pub struct FileParts {
+    pub(crate) number: u64,
+    pub(crate) held: Vec<Held>,
+    // a list names no more records, and the base record holds the list
+    ghost few: { vec_len held ≤ 10083 },
+}
+
+impl FileParts {
+    ghost use Rattle.std.specs.Prelude.{◌≡◌, ◌<◌, IsSomeAnd, Some, length, slice_get};
+    ghost use Rattle.attr_view.specs.View.{attribute_of};
+    ghost use Rattle.volume_def.specs.Files.{part_of};
+    ghost use Rattle.file_record.specs.Held.{attributes_held, file_number, parts_held};
+
+    /// The number of the file: that of its base record.
+    pub fn number(&self) -> u64
+        ensures { result ≡ file_number self.now }
+    {
+        self.number
+    }
+
+    /// How many parts are held.
+    pub fn count(&self) -> usize
+        ensures { result ≡ length (parts_held self.now) }
+    {
+        let mut count = 0;
+        for held in &self.held {
+            count += held.count;
+        }
+        count
+    }
+
+    /// A part, by record and place.
+    pub fn attr(&self, i: usize) -> AttrView<'_>
+        requires { i < length (parts_held self.now) }
+        ensures attribute { slice_get (attributes_held self.now) i ≡ Some (attribute_of result) }
+        ensures part { IsSomeAnd (slice_get (parts_held self.now) i) (λ part. part ≡ part_of part.holder (attribute_of result)) }
+    {
+        let mut left = i;
+        let mut record = 0;
+        'records: loop {
+            let held = &self.held[record];
+            if left < held.count {
+                return held.view().attr(left);
+            }
+            left -= held.count;
+            record += 1;
+        }
+    }
+}
