@@ -40,48 +40,63 @@ fn loads_the_largest_volume(rt: HostRuntime) -> Result<(), Fail> {
     Ok(())
 }
 
-// A range within a word, one over two borders of words, a whole word, one bit, and none, of bits 0 to 255
-// that are free but for the last.
+// Takes a range where it lies below the count and all its flags are free.
+fn take_free(bits: &mut Bits, at: u64, len: u64) -> bool {
+    let count = bits.count();
+    if at > count || len > count - at {
+        return false;
+    }
+    'flags: for k in at..at + len {
+        if bits.is_set(k) {
+            return false;
+        }
+    }
+    bits.take(at, len);
+    true
+}
+
+// A range within a word, one over two borders of words, all of a word but its last bit, one bit, and none.
 #[test]
 fn ranges_are_taken(rt: HostRuntime) -> Result<(), Fail> {
     let mut bytes = [0; 32];
     bytes[31] = 0x80;
     let mut bits = Bits::load(rt.alloc(), &bytes, 256)?;
     for (at, len) in [(3, 4), (60, 80), (192, 63), (59, 1), (100, 0)] {
-        bits.take(at, len);
+        assert!(rt; take_free(&mut bits, at, len), "{at}");
     }
     assert_eq!(rt; bits.count_free(), 255 - 148);
-    for (at, set) in [
-        (2, false),
-        (3, true),
-        (6, true),
-        (7, false),
-        (58, false),
-        (59, true),
-        (63, true),
-        (64, true),
-        (127, true),
-        (139, true),
-        (140, false),
-        (191, false),
-        (192, true),
-        (254, true),
+    for (at, len, taken) in [
+        (2, 1, 0),
+        (3, 4, 4),
+        (7, 1, 0),
+        (58, 1, 0),
+        (59, 81, 81),
+        (140, 1, 0),
+        (191, 1, 0),
+        (192, 64, 64),
     ] {
-        assert_eq!(rt; bits.is_set(at), set, "{at}");
+        assert_eq!(rt; count_taken(&bits, at, len), taken, "{at}");
     }
     Ok(())
 }
 
-// All clusters of the largest volume but the first and the last, and then these.
+// How many flags of a range are taken.
+fn count_taken(bits: &Bits, at: u64, len: u64) -> u64 {
+    let mut taken = 0_u64;
+    for k in at..at.saturating_add(len).min(bits.count()) {
+        if bits.is_set(k) {
+            taken = taken.saturating_add(1);
+        }
+    }
+    taken
+}
+
 #[test]
-fn takes_the_largest_volume(rt: HostRuntime) -> Result<(), Fail> {
+fn takes_ranges_of_the_largest_volume(rt: HostRuntime) -> Result<(), Fail> {
     let bytes = vec![in rt.alloc(); 0; 1 << 23]?;
     let mut bits = Bits::load(rt.alloc(), &bytes, 1 << 26)?;
-    bits.take(1, (1 << 26) - 2);
-    assert_eq!(rt; bits.count_free(), 2);
-    assert!(rt; !bits.is_set(0) && bits.is_set(1) && bits.is_set((1 << 26) - 2));
-    bits.take(0, 1);
-    bits.take((1 << 26) - 1, 1);
-    assert_eq!(rt; bits.count_free(), 0);
+    assert!(rt; take_free(&mut bits, (1 << 26) - 100_001, 100_000));
+    assert_eq!(rt; bits.count_free(), (1 << 26) - 100_000);
+    assert_eq!(rt; count_taken(&bits, (1 << 26) - 100_002, 100_002), 100_000);
     Ok(())
 }
