@@ -1,10 +1,12 @@
 -- What is laid out is read again: bytes that hold pieces, and the node that entries say.
 use Rattle.std.proofs.Math.Nat.{min-eq_left, min-eq_right}
 use Rattle.std.proofs.Common.{◌^◌, min, inl, inr, ◌≡◌, ℕ, zero, suc, ◌+◌, ◌-◌, ◌*◌, ◌/◌, ◌%◌, ◌<◌, ◌≤◌, ◌==◌, List, [], ◌∷◌, ◌++◌, Option, Some, None, Bool, true, false, length, take, drop, get_or, slice_range, slice_index, refl, sym, ap, subst, ◌∙◌, arith, rules, length-drop, length-take}
-use Rattle.std.specs.Prelude.{IsTrue, codes, nat_eq, nat_le, ◌&&◌, if◌then◌else◌}
+use Rattle.std.specs.Prelude.{All, IsTrue, ◌↔◌, codes, nat_eq, nat_le, ◌&&◌, if◌then◌else◌}
 use Rattle.std.specs.List.{starts_with}
 use Rattle.std.specs.Cmp.Lexicographic.{pointwise}
 use Rattle.std.proofs.lemmas.List.{get_or-take, get_or-drop}
+use Rattle.std.proofs.lemmas.List.Elements.{All-nil, All-cons, All-head, All-tail}
+use Rattle.std.specs.Option.{option_and_then}
 use Rattle.std.proofs.lemmas.Grind.{same_number_lists}
 use Rattle.std.proofs.lemmas.Bool.{cases_order, le-leb, leb-true}
 use Rattle.std.proofs.lemmas.List.Sums.{sum_by-cons}
@@ -12,11 +14,11 @@ use Rattle.vol_bytes.specs.Field.{SameOutside, u16_at, u32_at, u64_at}
 use Rattle.vol_bytes.proofs.FieldLaws.{u16_at-same, u32_at-same}
 use Rattle.ntfs_def.specs.First.{first_failing}
 use Rattle.ntfs_def.specs.Fixup.{array_place, array_end}
-use Rattle.ntfs_def.specs.Node.{Item, Entry, Node, Whole, IsWholeEntry, child_at, child_len, data_len, data_offset, entries_end, entry_at, entry_flags, entry_len, first_entry, first_offset, has_children, holds_data, is_entry, is_index_record, is_last_entry, is_whole, item_at, item_in, key_len, node_header, node_header_failing, node_in, room_end, scan_from, whole_of, entry_and, is_one_entry, is_one_last}
+use Rattle.ntfs_def.specs.Node.{Item, Entry, Node, Whole, IsWholeEntry, are_short, are_short_from, child_at, child_len, data_len, data_offset, entries_end, entry_at, entry_flags, entry_len, first_entry, first_offset, has_children, holds_data, is_entry, is_index_record, is_last_entry, is_whole, item_at, item_in, key_len, most_len, node_header, node_header_failing, node_in, room_end, scan_from, short_node, whole_of, entry_and, is_one_entry, is_one_last}
 use Rattle.ntfs_def.specs.declared.index.NodeForm.{NodeForm}
 use Rattle.ntfs_def.specs.declared.index.NodeForm.TheVariants.{Names, View}
-use Rattle.index_node.proofs.NodeLaws.{u16_within, u64_within, item_in-own, entry_whole, flag_is, scan_at_entry, scan_at_last, scan_node-is, child_at-some, child_at-none}
-use Rattle.index_node.specs.LayOut.{AreEntries, AreEntriesFrom, Holds, KeepsHeader, SetsHeader, node_from, node_listed, total_len, with_entry}
+use Rattle.index_node.proofs.NodeLaws.{are_short-is, short_next, u16_within, u64_within, item_in-own, entry_whole, flag_is, scan_at_entry, scan_at_last, scan_node-is, child_at-some, child_at-none}
+use Rattle.index_node.specs.LayOut.{AreEntries, AreEntriesFrom, AreShort, Holds, KeepsHeader, SetsHeader, node_from, node_listed, total_len, with_entry}
 
 -- The bytes that entries take, where they fit.
 pub need_is : (total need free room first : ℕ) → need ≡ min total (2 ^ 64 - 1) → need ≤ free → free ≡ room - first → room < 2 ^ 33
@@ -193,11 +195,11 @@ last_facts children entry h =
 sixteen_of : (c n : ℕ) → 16 + c ≤ n → 16 ≤ n
 sixteen_of c n h = omega arith
 
-entry_eq : {i j : Item} {c d : Option ℕ} → i ≡ j → c ≡ d
+pub entry_eq : {i j : Item} {c d : Option ℕ} → i ≡ j → c ≡ d
     → (let e : Entry = record { item = i; child = c } in e) ≡ record { item = j; child = d }
 entry_eq e f = cc
 
-node_eq : {c d : Option ℕ} → c ≡ d → (let n : Node = record { entries = []; last = c } in n) ≡ record { entries = []; last = d }
+pub node_eq : {c d : Option ℕ} → c ≡ d → (let n : Node = record { entries = []; last = c } in n) ≡ record { entries = []; last = d }
 node_eq e = cc
 
 -- entries have bytes
@@ -239,6 +241,51 @@ scan_listed form node children end entry (next ∷ entries) (suc most) at few ea
     (entry_eq (item_moved node entry at holds.0 children end long (entry_whole form node children end at is) facts.0)
     (child_moved node entry at holds.0 children facts.1 facts.0))
 
+and_parts : (a b : Bool) → (a && b) ≡ true → (a ≡ true) × (b ≡ true)
+and_parts a b h = search rules
+
+-- The entries of the node are short exactly where the pieces are.
+short_listed : (form : NodeForm) (node : List ℕ) (children : Bool) (most at : ℕ) (entry : List ℕ) (entries : List (List ℕ))
+    → AreEntriesFrom form children entry entries → Holds node at (entry ∷ entries)
+    → All (λ piece. length piece ≤ most) (entry ∷ entries)
+    → are_short_from node most at (length (node_from children entry entries).entries) ≡ true
+short_listed form node children most at entry [] each holds short =
+    let facts = last_facts children entry each in
+    let long = sixteen_of (child_len children) (length entry) facts.1 in
+    let len = len_same node entry at holds.0 long in
+    let le = All-head (λ piece. length piece ≤ most) entry [] short in
+    le-leb (entry_len node at) most (omega (arith, facts.0))
+short_listed form node children most at entry (next ∷ entries) each holds short =
+    let facts = entry_facts form children entry each.0 in
+    let long = sixteen_of (child_len children) (length entry) facts.1 in
+    let len = len_same node entry at holds.0 long ∙ facts.0 in
+    let le = All-head (λ piece. length piece ≤ most) entry (next ∷ entries) short in
+    short_next node most at (length (node_from children next entries).entries) (omega arith)
+    ∙ ap (λ n. are_short_from node most (at + n) (length (node_from children next entries).entries)) len
+    ∙ short_listed form node children most (at + length entry) next entries each.1 holds.1
+    (All-tail (λ piece. length piece ≤ most) entry (next ∷ entries) short)
+
+listed_short : (form : NodeForm) (node : List ℕ) (children : Bool) (most at : ℕ) (entry : List ℕ) (entries : List (List ℕ))
+    → AreEntriesFrom form children entry entries → Holds node at (entry ∷ entries)
+    → are_short_from node most at (length (node_from children entry entries).entries) ≡ true
+    → All (λ piece. length piece ≤ most) (entry ∷ entries)
+listed_short form node children most at entry [] each holds short =
+    let facts = last_facts children entry each in
+    let long = sixteen_of (child_len children) (length entry) facts.1 in
+    let len = len_same node entry at holds.0 long in
+    let le = leb-true (entry_len node at) most short in
+    All-cons (λ piece. length piece ≤ most) entry [] (omega (arith, facts.0)) (All-nil (λ piece. length piece ≤ most))
+listed_short form node children most at entry (next ∷ entries) each holds short =
+    let facts = entry_facts form children entry each.0 in
+    let long = sixteen_of (child_len children) (length entry) facts.1 in
+    let len = len_same node entry at holds.0 long ∙ facts.0 in
+    let rest = length (node_from children next entries).entries in
+    let parts = and_parts (nat_le (entry_len node at) most) (are_short_from node most (at + entry_len node at) rest) short in
+    let le = leb-true (entry_len node at) most parts.0 in
+    All-cons (λ piece. length piece ≤ most) entry (next ∷ entries) (omega arith)
+    (listed_short form node children most (at + length entry) next entries each.1 holds.1
+    (ap (λ n. are_short_from node most (at + n) rest) (sym len) ∙ parts.1))
+
 -- The header of a node that is laid out.
 pub node_header-same : (old new : List ℕ) → length new ≡ length old → node_header new ≡ node_header old
 unfolding node_header
@@ -264,7 +311,7 @@ header_low node = go (is_index_record node)
     go true = omega arith
     go false = omega arith
 
-abbrev has_array : List ℕ → ℕ → Bool
+abbrev pub has_array : List ℕ → ℕ → Bool
 has_array node first = nat_le 0x28 (array_place node) && nat_le (array_end node) first
 
 head_right : (b : Bool) (p : ℕ) (tests : List (Bool × ℕ)) → first_failing ((b, p) ∷ tests) ≡ None
@@ -301,6 +348,12 @@ right_of node h =
     (if is_index_record node then has_array node (first_entry node) else true)
     (nat_le 16 (first_offset node)) (nat_le (entries_end node) (room_end node)) (nat_le (room_end node) (length node)) h in
     record { long = facts.0; mark = facts.1; array = facts.2; offset = facts.3; used = facts.4; inside = facts.5 }
+
+-- the array of an index record ends before the first entry
+pub right_array : (node : List ℕ) → node_header_failing node ≡ None → length node ≡ 4096
+    → has_array node (first_entry node) ≡ true
+right_array node right len =
+    true_if (is_index_record node) (has_array node (first_entry node)) (right_of node right).array (ap (λ n. n == 4096) len)
 
 -- `mid` has a new header, and `new` has new entries behind it.
 module _ (old mid new : List ℕ) (children : Bool) (end first : ℕ) (sets : SetsHeader old mid children end) (at : first
@@ -426,3 +479,27 @@ module _ (old mid new : List ℕ) (children : Bool) (end first : ℕ) (sets : Se
       ap whole_of (scan_node-is form new children end first (Whole (node_from children entry entries)) laid_right (sym laid_children)
       (sym laid_end) (at ∙ sym first_same)
       (scan_listed form new children end entry entries (length new) first (omega arith) are holds (omega arith)))
+
+  laid_are_short : (entry : List ℕ) (entries : List (List ℕ))
+      → are_short new (length (node_from children entry entries).entries)
+      ≡ are_short_from new (most_len children) first (length (node_from children entry entries).entries)
+  laid_are_short entry entries =
+      sym (are_short-is new _ _ (most_len children) first refl (ap most_len (sym laid_children)) (at ∙ sym first_same))
+
+  pub laid_short : (form : NodeForm) (entries : List (List ℕ)) → AreEntries form children entries → Holds new first entries
+      → node_in form new ≡ Some (node_listed children entries)
+      → (short_node form new ≡ Some (node_listed children entries)) ↔ AreShort children entries
+  laid_short form [] are holds is = absurd are
+  laid_short form (entry ∷ entries) are holds is =
+      let n = length (node_from children entry entries).entries in
+      let e : short_node form new ≡ (if are_short new n then Some (node_from children entry entries) else None) =
+      ap (option_and_then (λ (said : Node). if are_short new (length said.entries) then Some said else None)) is in (
+        λ s. listed_short form new children (most_len children) first entry entries are holds
+            (sym (laid_are_short entry entries) ∙ if_some (are_short new n) (node_from children entry entries) (sym e ∙ s)),
+        λ s. e ∙ ap (λ b. if b then Some (node_from children entry entries) else None)
+            (laid_are_short entry entries ∙ short_listed form new children (most_len children) first entry entries are holds s),
+      )
+    where
+      if_some : (b : Bool) (said : Node) → (if b then Some said else None) ≡ Some said → b ≡ true
+      if_some true said h = refl
+      if_some false said h = let f : None ≡ Some said = h in absurd (cc)

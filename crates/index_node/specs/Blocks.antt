@@ -1,5 +1,5 @@
 -- What the calls of an index's records answer.
-use Rattle.std.specs.Prelude.{◌≡◌, ℕ, ◌≤◌}
+use Rattle.std.specs.Prelude.{◌≡◌, ℕ}
 use Rattle.vol_disk.specs.Count.{Rose}
 use Rattle.index_node.specs.declared.blocks.BlockNo.{BlockNo}
 use Rattle.index_node.specs.declared.blocks.BlockNo.TheVariants.{Device, NoRoom, Memory}

@@ -1,7 +1,7 @@
 -- A node that is laid out from the bytes of its entries.
-use Rattle.std.specs.Prelude.{◌≡◌, ℕ, ◌+◌, ◌-◌, ◌*◌, ◌/◌, ◌^◌, ◌<◌, ◌≤◌, min, if◌then◌else◌, Bool, List, [], ◌∷◌, length, sum_by, slice_index, slice_range, None, IsTrue}
+use Rattle.std.specs.Prelude.{◌≡◌, ℕ, ◌+◌, ◌-◌, ◌*◌, ◌/◌, ◌^◌, ◌<◌, ◌≤◌, min, if◌then◌else◌, Bool, List, [], ◌∷◌, All, length, sum_by, slice_index, slice_range, None, IsTrue}
 use Rattle.vol_bytes.specs.Field.{u32_at}
-use Rattle.ntfs_def.specs.Node.{Node, Entry, entries_end, entry_at, child_at, first_entry, is_one_entry, is_one_last, node_header, room_end}
+use Rattle.ntfs_def.specs.Node.{Node, Entry, entries_end, entry_at, child_at, first_entry, is_one_entry, is_one_last, most_len, node_header, room_end}
 use Rattle.ntfs_def.specs.declared.index.NodeForm.{NodeForm}
 use Rattle.index_node.specs.declared.NodeNo.{NodeNo}
 use Rattle.index_node.specs.declared.NodeNo.TheVariants.{Shape, Full}
@@ -26,6 +26,10 @@ node_from children entry (next ∷ entries) = with_entry (entry_at entry childre
 abbrev pub node_listed : Bool → List (List ℕ) → Node
 node_listed children [] = record { entries = []; last = None }
 node_listed children (entry ∷ entries) = node_from children entry entries
+
+-- None of them, the last one neither, is longer than an entry in an index of a volume may be.
+abbrev pub AreShort : Bool → List (List ℕ) → Type 0
+AreShort children entries = All (λ entry. length entry ≤ most_len children) entries
 
 -- the bytes that they take, and those that there are for them
 abbrev pub total_len : List (List ℕ) → ℕ

@@ -1,3 +1,4 @@
 pub mod View
 pub mod Blocks
 pub mod LayOut
+pub mod Sealed

@@ -8,6 +8,7 @@ ghost use Rattle.std.specs.Prelude.{◌≡◌, ◌≤◌, ◌<◌, ◌^◌, IsTr
 ghost use Rattle.ntfs_def.specs.Node.{HasEntries, entry_place, first_entry, has_children, is_last_entry};
 
 mod blocks;
+mod laws;
 mod shape;
 #[cfg(test)]
 mod tests;
@@ -15,6 +16,7 @@ mod view;
 mod written;
 
 pub use blocks::{BlockNo, Blocks};
+pub use laws::sealed_nodes;
 pub use ntfs_def::NodeForm;
 use thiserror::Error;
 pub use written::lay_out;

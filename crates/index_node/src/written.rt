@@ -1,8 +1,8 @@
 //! A node is laid out from the bytes of its entries.
 ghost use Rattle.std.specs.Prelude.{◌≡◌, ◌↔◌, ◌+◌, ◌-◌, ◌≤◌, ◌^◌, min, ◌∷◌, [], IfErr, IsOk, OnErr, OnOk, Some, None, length};
 ghost use Rattle.vol_bytes.specs.Field.{SameOutside};
-ghost use Rattle.ntfs_def.specs.Node.{entries_end, first_entry, node_header, node_header_failing, node_in, room_end};
-ghost use Rattle.index_node.specs.LayOut.{AreEntries, Holds, KeepsHeader, LacksRoom, SetsHeader, node_listed, room_len, total_len};
+ghost use Rattle.ntfs_def.specs.Node.{entries_end, first_entry, node_header, node_header_failing, node_in, room_end, short_node};
+ghost use Rattle.index_node.specs.LayOut.{AreEntries, AreShort, Holds, KeepsHeader, LacksRoom, SetsHeader, node_listed, room_len, total_len};
 
 use crate::NodeNo;
 use crate::shape::{first_entry, node_header, room_end};
@@ -70,6 +70,8 @@ pub fn lay_out(
     requires header { node_header_failing node.old ≡ None }
     requires entries { AreEntries form children entries.now }
     ensures ok { OnOk result (node_in form node.new ≡ Some (node_listed children entries.now)) }
+    ensures short { OnOk result
+        ((short_node form node.new ≡ Some (node_listed children entries.now)) ↔ AreShort children entries.now) }
     ensures bytes { OnOk result (Holds node.new (first_entry node.old) entries.now) }
     ensures end { OnOk result (entries_end node.new ≡ first_entry node.old + total_len entries.now) }
     ensures header { OnOk result (KeepsHeader node.old node.new) }
