@@ -23,7 +23,7 @@ use Rattle.volume_def.proofs.FindLaws.{find-found}
 use Rattle.volume_def.proofs.MemberLaws.{Contains-nil, Contains-only}
 use Rattle.volume_def.proofs.SpanLaws.{several-cover, spot-spans, whole-spans}
 use Rattle.mft_table.proofs.StreamBytes.{bytes-same, bytes-zero}
-use Rattle.mft_table.specs.Values.{IsSeam}
+use Rattle.mft_table.specs.Streams.{IsSeam}
 use Rattle.attr_store.specs.Sought.{spot_in_text}
 
 -- the byte that lies `first` clusters further on in the stream

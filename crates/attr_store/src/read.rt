@@ -9,7 +9,7 @@ ghost use Rattle.volume_def.specs.StreamSize.{IsFirstExtent};
 ghost use Rattle.volume_def.specs.Values.{attribute_value, pieces_touched, spot_at, stored_bytes, value_of_parts};
 ghost use Rattle.volume_def.specs.Table.{cluster_bytes};
 ghost use Rattle.mft_table.specs.Mft.{MftReads, faults_of, view};
-ghost use Rattle.mft_table.specs.Values.{IsSeam};
+ghost use Rattle.mft_table.specs.Streams.{IsSeam};
 ghost use Rattle.file_record.specs.FileNos.{CountsNo, IsReadNo};
 ghost use Rattle.file_record.specs.Held.{AreParts, file_number, parts_held};
 ghost use Rattle.attr_store.specs.Sought.{parts_held_like, spot_in_text};

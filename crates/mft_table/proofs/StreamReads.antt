@@ -8,7 +8,7 @@ use Rattle.vol_stage.specs.Staged.{GoesOn, OnlyReads, StageReads}
 use Rattle.volume_def.specs.Values.{pieces_touched}
 use Rattle.mft_table.specs.declared.mft.Mft.{Mft}
 use Rattle.mft_table.specs.Mft.{MftReads, stage_of}
-use Rattle.mft_table.specs.Values.{IsSeam}
+use Rattle.mft_table.specs.Streams.{IsSeam}
 
 GoesOn-then : {D : Type 0} (g : Ghosts D) (a b c : Stage D g) → GoesOn g a b → OnlyReads g a b → GoesOn g b c → OnlyReads g b c → GoesOn g a c
 GoesOn-then g a b c first one second two = record {

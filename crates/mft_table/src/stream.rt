@@ -6,7 +6,7 @@ ghost use Rattle.ntfs_def.specs.Runs.{spot_of};
 ghost use Rattle.vol_stage.specs.Staged.{image};
 ghost use Rattle.volume_def.specs.Values.{pieces_touched, stored_bytes};
 ghost use Rattle.volume_def.specs.Table.{cluster_bytes};
-ghost use Rattle.mft_table.specs.Values.{IsSeam, image_bytes, spot_on};
+ghost use Rattle.mft_table.specs.Streams.{IsSeam, image_bytes, spot_on};
 
 use crate::{Mft, MftNo};
 use data_runs::RunList;

@@ -4,7 +4,7 @@ use Rattle.ntfs_def.specs.Runs.{spot_of}
 use Rattle.volume_def.specs.Values.{pieces_touched, stored_bytes}
 use Rattle.volume_def.specs.Table.{cluster_bytes}
 use Rattle.mft_table.specs.Mft.{MftReads, faults_of, view}
-use Rattle.mft_table.specs.Values.{IsSeam}
+use Rattle.mft_table.specs.Streams.{IsSeam}
 use Rattle.mft_table.proofs.mft.Mft.read_clusters.Given as goal
 
 -- what was read stands in front, and each piece of it was asked for once

@@ -6,7 +6,7 @@ use Rattle.data_runs.proofs.LeftLaws.{run_left-some}
 use Rattle.volume_def.specs.Values.{stored_bytes}
 use Rattle.volume_def.specs.Table.{cluster_bytes}
 use Rattle.mft_table.specs.Mft.{view}
-use Rattle.mft_table.specs.Values.{spot_on}
+use Rattle.mft_table.specs.Streams.{spot_on}
 use Rattle.mft_table.proofs.StreamBytes.{stored_bytes-whole}
 use Rattle.mft_table.proofs.StreamRuns.{stored_bytes-run, zeros-behind}
 use Rattle.mft_table.proofs.mft.Mft.read_from.Goals as goal

@@ -3,7 +3,7 @@ use Rattle.vol_disk.specs.Contents.{IsTold, sector_in}
 use Rattle.vol_stage.specs.Staged.{image}
 use Rattle.volume_def.specs.Values.{pieces_touched}
 use Rattle.mft_table.specs.Mft.{MftReads, faults_of, stage_of}
-use Rattle.mft_table.specs.Values.{IsSeam, image_bytes}
+use Rattle.mft_table.specs.Streams.{IsSeam, image_bytes}
 use Rattle.mft_table.proofs.mft.Mft.read_image.Given as goal
 
 -- what was read stands in front, and each piece of it was asked for once
