@@ -13,7 +13,7 @@ use Rattle.ntfs_def.specs.Fixup.{opened_of}
 use Rattle.ntfs_def.specs.Record.{Reference}
 use Rattle.volume_def.specs.Members.{IsPart}
 use Rattle.volume_def.specs.Files.{Part, Record, file_of, part_of, parts, record_on, record_of, records_of}
-use Rattle.volume_def.specs.ListsClause.{HasRightList, IsRightList, listed_as, is_list, list_value, listed_parts}
+use Rattle.volume_def.specs.ListsClause.{HasRightList, IsRightList, entry_in, is_list, list_value, listed_parts}
 use Rattle.volume_def.specs.Readable.{IsFile, IsReadableVolume}
 use Rattle.volume_def.specs.View.{VolumeView}
 use Rattle.volume_def.proofs.FindLaws.{count-none, count-some, find-fails, find-found, find-one}
@@ -111,9 +111,9 @@ module _ (view : VolumeView) (f : ℕ) (readable : IsReadableVolume view) (file 
     -- each entry names a record of the file
     entry-own : (entry : ListEntry) → Contains (list_entries (list_value view (part_of f list))) entry → IsRecordOf view f entry.holder.number
     entry-own entry c =
-        let s = SameItems-passing (λ (e : ListEntry). e.holder.number == entry.holder.number) _ (map (listed_as view) (listed_parts (parts (records_of view) f))) entry
-            (SameItems-sym _ _ list-right.each_once) c (eq-eqb _ _ refl) in
-        let w = Contains-from_map (listed_as view) (listed_parts (parts (records_of view) f)) s.0 s.1 in
+        let s = SameItems-passing (λ (e : ListEntry). e.holder.number == entry.holder.number) _ (map (entry_in (records_of view)) (listed_parts (parts (records_of view) f))) entry
+        (SameItems-sym _ _ list-right.each_once) c (eq-eqb _ _ refl) in
+        let w = Contains-from_map (entry_in (records_of view)) (listed_parts (parts (records_of view) f)) s.0 s.1 in
         let part = Contains-from_filter (λ (p : Part). not (is_list p)) (parts (records_of view) f) w.0 w.1 in
         subst (IsRecordOf view f) (ap (λ (e : ListEntry). e.holder.number) w.2 ∙ eqb-true _ _ s.2) (holder-own w.0 part.0)
 
@@ -127,17 +127,17 @@ module _ (view : VolumeView) (f : ℕ) (readable : IsReadableVolume view) (file 
     part-named : (part : Part) → Contains (parts (records_of view) f) part → is_list part ≡ false
         → Contains (named_in (list_value view (part_of f list))) part.holder
     part-named part c other =
-        let s = SameItems-passing (λ (e : ListEntry). e.holder.number == part.holder) (map (listed_as view) (listed_parts (parts (records_of view) f))) _ (listed_as view part)
-            list-right.each_once
-            (Contains-map (listed_as view) _ part (Contains-filter (λ (p : Part). not (is_list p)) (parts (records_of view) f) part c (ap not other)))
-            (eq-eqb _ _ refl) in
+        let s = SameItems-passing (λ (e : ListEntry). e.holder.number == part.holder) (map (entry_in (records_of view)) (listed_parts (parts (records_of view) f))) _ (entry_in (records_of view) part)
+        list-right.each_once
+        (Contains-map (entry_in (records_of view)) _ part (Contains-filter (λ (p : Part). not (is_list p)) (parts (records_of view) f) part c (ap not other)))
+        (eq-eqb _ _ refl) in
         subst (Contains (named_in (list_value view (part_of f list)))) (eqb-true _ _ s.2)
         (Contains-map (λ (r : Reference). r.number) _ s.0.holder (Contains-map (λ (entry : ListEntry). entry.holder) _ s.0 s.1))
 
     pub Covers-listed : (numbers : List ℕ) → AddsListed view list (f ∷ []) numbers → Covers view f numbers
     Covers-listed numbers adds =
         let same : numbers ≡ (f ∷ []) ++ named_in (list_value view (part_of f list)) =
-            adds.added ∙ ap (λ xs. (f ∷ []) ++ xs) (adds.all told f list-readable) in
+        adds.added ∙ ap (λ xs. (f ∷ []) ++ xs) (adds.all told f list-readable) in
         let front : Contains numbers f = subst (λ xs. Contains xs f) (sym same) (Contains-head f _) in
         record {
           base = front;

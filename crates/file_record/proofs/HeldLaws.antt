@@ -62,7 +62,7 @@ part-at held k left i e a inside place read =
     let one = get_or held k e in
     ap (slice_get (flat_map parts_of held)) (place ∙ ap (λ n. n + left) (sym (length-parts (take k held))))
     ∙ piece-at parts_of held k left e (part_of one.number a) inside
-      (slice_get-map (part_of one.number) (attributes one.block) left ∙ ap (option_map (part_of one.number)) read)
+    (slice_get-map (part_of one.number) (attributes one.block) left ∙ ap (option_map (part_of one.number)) read)
 
 -- a place among the attributes lies in one of the records
 pub record-inside : (held : List Held) (k left i : ℕ) → i < length (flat_map attributes_in held)

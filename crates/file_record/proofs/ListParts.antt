@@ -67,8 +67,8 @@ module _ (part : Part) (extent : ExtentHeader) (runs : List Run) (e : part.conte
       ap (value_over view.cluster size (part ∷ [])) (find-yes is_first part (eq-eqb _ _ from_first))
       ∙ ap (value_by view.cluster size (part ∷ [])) e
       ∙ map_agree (value_byte view.cluster size (spot_of runs) extent.sizes.initialized)
-        (value_byte view.cluster size (spot_at (part ∷ [])) extent.sizes.initialized) (range_with_len 0 extent.sizes.real)
-        (λ i c. ap (λ s. cond (ltb i extent.sizes.initialized) (byte_there view.cluster s (i % size)) 0) (spot_at-one (i / size)))
+      (value_byte view.cluster size (spot_at (part ∷ [])) extent.sizes.initialized) (range_with_len 0 extent.sizes.real)
+      (λ i c. ap (λ s. cond (ltb i extent.sizes.initialized) (byte_there view.cluster s (i % size)) 0) (spot_at-one (i / size)))
 
   pub length-list_value : (view : VolumeView) → length (list_value view part) ≡ extent.sizes.real
   length-list_value view =

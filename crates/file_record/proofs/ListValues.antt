@@ -14,13 +14,13 @@ pub value-filled : (cluster : ℕ → List ℕ) (size : ℕ) (spot : ℕ → Spo
 unfolding stored_bytes
 value-filled cluster size spot initialized written n into old whole least zeros read =
     let front : into ≡ map (value_byte cluster size spot initialized) (range_with_len 0 written) =
-        read ∙ ap (λ k. map (stored_byte cluster size spot) (range_with_len 0 k)) whole
-        ∙ bytes-same (stored_byte cluster size spot) (value_byte cluster size spot initialized) 0 0 written
-          (λ j lt. sym (ap (λ b. cond b (stored_byte cluster size spot (0 + j)) 0) (lt-ltb (0 + j) initialized (omega arith)))) in
+    read ∙ ap (λ k. map (stored_byte cluster size spot) (range_with_len 0 k)) whole
+    ∙ bytes-same (stored_byte cluster size spot) (value_byte cluster size spot initialized) 0 0 written
+    (λ j lt. sym (ap (λ b. cond b (stored_byte cluster size spot (0 + j)) 0) (lt-ltb (0 + j) initialized (omega arith)))) in
     let behind : drop written old ≡ map (value_byte cluster size spot initialized) (range_with_len written (length old - written)) =
-        ap (drop written) zeros ∙ drop-replicate written (length old) 0
-        ∙ bytes-zero (value_byte cluster size spot initialized) written (length old - written)
-          (λ j lt. ap (λ b. cond b (stored_byte cluster size spot (written + j)) 0) (le-ltb (written + j) initialized (omega arith))) in
+    ap (drop written) zeros ∙ drop-replicate written (length old) 0
+    ∙ bytes-zero (value_byte cluster size spot initialized) written (length old - written)
+    (λ j lt. ap (λ b. cond b (stored_byte cluster size spot (written + j)) 0) (le-ltb (written + j) initialized (omega arith))) in
     let all : written + (length old - written) ≡ length old = omega arith in
     ap (λ xs. xs ++ drop written old) front
     ∙ ap (λ xs. map (value_byte cluster size spot initialized) (range_with_len 0 written) ++ xs) behind

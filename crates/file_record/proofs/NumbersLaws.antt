@@ -30,14 +30,14 @@ pub AreNumbers-sorted : (view : VolumeView) (f : ℕ) (some numbers : List ℕ) 
 AreNumbers-sorted view f some numbers has_cluster up keeps none =
     let own : (n : ℕ) → Contains numbers n → IsRecordOf view f n = λ n c. has_cluster.own n (none n c) in
     let rising : RiseFrom 0 view.layout.count numbers =
-        RiseFrom-of 0 view.layout.count numbers (λ h. omega arith) up (λ n c. IsRecordOf-inside view f n (own n c)) in
+    RiseFrom-of 0 view.layout.count numbers (λ h. omega arith) up (λ n c. IsRecordOf-inside view f n (own n c)) in
     record {
       rising = rising;
       own = own;
       holders = λ part c. keeps part.holder (has_cluster.holders part c);
       few =
           let least = RiseFrom-count (λ n. belongs f n (record_on view n)) 0 view.layout.count view.layout.count numbers (omega arith) rising
-              (λ n c. belongs-own view f n (own n c)) in
+          (λ n c. belongs-own view f n (own n c)) in
           let others = count-others numbers f (keeps f has_cluster.base) in
           omega arith;
     }

@@ -27,7 +27,7 @@ reads-more numbers base k inside =
     let more = ap (count_by (λ n. not (n == base))) (take_more numbers k 0 inside) ∙ count-append (λ n. not (n == base)) (take k numbers) (n ∷ []) in
     let one = count-cons (λ n. not (n == base)) n [] in
     elim (n == base) as (λ b. count_by (λ n. not (n == base)) (n ∷ []) ≡ cond (not b) 1 0 + 0
-      → 2 * count_by (λ n. not (n == base)) (take k numbers) + cond b 0 2 ≤ 2 * count_by (λ n. not (n == base)) (take (k + 1) numbers)) [
+    → 2 * count_by (λ n. not (n == base)) (take k numbers) + cond b 0 2 ≤ 2 * count_by (λ n. not (n == base)) (take (k + 1) numbers)) [
       | true ↦ λ one. omega arith
       | false ↦ λ one. omega arith
     ] one

@@ -21,7 +21,7 @@ RiseFrom-of from end (n ∷ numbers) low up inside = (
   low (omega arith),
   inside n (0, omega arith, refl),
   RiseFrom-of (n + 1) end numbers (λ h. let u = up 0 (omega arith) in omega arith) (λ k h. next_rises n numbers k (up (suc k) (omega arith)))
-  (λ m c. inside m (Contains-later n numbers m c)),
+      (λ m c. inside m (Contains-later n numbers m c)),
 )
 
 RiseFrom-low : (from end : ℕ) (numbers : List ℕ) (n : ℕ) → RiseFrom from end numbers → Contains numbers n → from ≤ n
@@ -42,7 +42,7 @@ flat_map-rising g from (suc n) end [] is rising none =
 flat_map-rising g from (suc n) end (m ∷ numbers) is (a, b, rising) none = elim (cases_eq from m) [
   | inl e ↦
       let rest = flat_map-rising g (from + 1) n end numbers (omega arith) (subst (λ y. RiseFrom (y + 1) end numbers) (sym e) rising)
-          (λ y c d other. none y (omega arith) d (λ there. elim (Contains-cases m numbers y there) [ inl same ↦ omega arith | inr later ↦ other later ])) in
+      (λ y c d other. none y (omega arith) d (λ there. elim (Contains-cases m numbers y there) [ inl same ↦ omega arith | inr later ↦ other later ])) in
       cc
   | inr ne ↦
       let rest = flat_map-rising g (from + 1) n end (m ∷ numbers) (omega arith) (omega arith, b, rising) (λ y c d other. none y (omega arith) d other) in
@@ -62,7 +62,7 @@ RiseFrom-count p from (suc n) end [] is rising each = omega arith
 RiseFrom-count p from (suc n) end (m ∷ numbers) is (a, b, rising) each = elim (cases_eq from m) [
   | inl e ↦
       let rest = RiseFrom-count p (from + 1) n end numbers (omega arith) (subst (λ y. RiseFrom (y + 1) end numbers) (sym e) rising)
-          (λ y c. each y (Contains-later m numbers y c)) in
+      (λ y c. each y (Contains-later m numbers y c)) in
       let c = count-yes p from (range_with_len (from + 1) n) (ap p e ∙ each m (0, omega arith, refl)) in omega arith
   | inr ne ↦
       let rest = RiseFrom-count p (from + 1) n end (m ∷ numbers) (omega arith) (omega arith, b, rising) each in
@@ -78,5 +78,5 @@ count-others (m ∷ numbers) n c = elim (Contains-cases m numbers n c) [
       let t = count_by-le-length (λ y. not (y == n)) numbers in omega arith
   | inr later ↦ let rest = count-others numbers n later in let s = count-cons (λ y. not (y == n)) m numbers in
       elim (not (m == n)) as (λ b. count_by (λ y. not (y == n)) (m ∷ numbers) ≡ cond b 1 0 + count_by (λ y. not (y == n)) numbers
-        → count_by (λ y. not (y == n)) (m ∷ numbers) + 1 ≤ length (m ∷ numbers)) [ true ↦ λ s. omega arith | false ↦ λ s. omega arith ] s
+      → count_by (λ y. not (y == n)) (m ∷ numbers) + 1 ≤ length (m ∷ numbers)) [ true ↦ λ s. omega arith | false ↦ λ s. omega arith ] s
 ]

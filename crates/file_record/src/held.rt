@@ -1,7 +1,7 @@
 //! A record of a file, as it is held.
 ghost use Rattle.std.specs.Prelude.{◌≡◌};
 ghost use Rattle.ntfs_def.specs.Shape.{HasShape};
-ghost use Rattle.attr_view.specs.View.{record_of};
+ghost use Rattle.attr_view.specs.View.{viewed_block};
 
 use attr_view::RecordView;
 
@@ -18,7 +18,7 @@ pub struct Held {
 impl Held {
     // The record, which is not looked at again.
     pub(crate) fn view(&self) -> RecordView<'_>
-        ensures { record_of result ≡ self.now.block }
+        ensures { viewed_block result ≡ self.now.block }
     {
         RecordView::again(&self.block, self.count)
     }

@@ -73,11 +73,7 @@ fn hold_all<D: Disk>(
 }
 
 // The records of a file, by its base record.
-fn load_from<D: Disk>(
-    alloc: Global,
-    mft: &mut Mft<'_, D>,
-    base: &Held,
-) -> Result<FileParts, FileNo>
+fn load_from<D: Disk>(alloc: Global, mft: &mut Mft<'_, D>, base: &Held) -> Result<FileParts, FileNo>
     requires { IsTrue (view D.Disk mft.old).told → IsHeldBase (view D.Disk mft.old) base.now }
     ensures number { IfOk result (λ file. file_number file ≡ base.now.number) }
     ensures rising { IfOk result (λ file. AreRising (held_of file)) }
@@ -137,11 +133,15 @@ impl FileParts {
     {
         let mut block = [0; 1024];
         match read_record_of(mft, number, number, &mut block)? {
-            Some(count) => load_from(alloc, mft, &Held {
-                number,
-                block,
-                count,
-            }),
+            Some(count) => load_from(
+                alloc,
+                mft,
+                &Held {
+                    number,
+                    block,
+                    count,
+                },
+            ),
             None => Ok(FileParts {
                 number,
                 held: Vec::new(alloc),

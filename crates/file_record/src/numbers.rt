@@ -4,7 +4,7 @@ ghost use Rattle.std.specs.List.Sorted.{IsStrictlyIncreasing};
 ghost use Rattle.ntfs_def.specs.Fixup.{opened_of};
 ghost use Rattle.volume_def.specs.Readable.{IsFile, WhereReadable};
 ghost use Rattle.volume_def.specs.Files.{part_of};
-ghost use Rattle.attr_view.specs.View.{attribute_of, record_of};
+ghost use Rattle.attr_view.specs.View.{attribute_of, viewed_block};
 ghost use Rattle.mft_table.specs.Mft.{MftReads, faults_of, view};
 ghost use Rattle.file_record.specs.FileNos.{CountsNo, IsReadNo};
 ghost use Rattle.file_record.specs.Numbers.{AddsListed, AreNumbers, IsReadableList};
@@ -40,7 +40,8 @@ fn add_listed<D: Disk>(
     ensures faults { MatchResult result (λ _. faults_of D.Disk mft.new ≡ faults_of D.Disk mft.old)
         (CountsNo (faults_of D.Disk mft.old) (faults_of D.Disk mft.new)) }
     ensures reads { MftReads D.Disk mft.old mft.new 512 }
-    ensures fetched { IsTrue (view D.Disk mft.old).told → (n : ℕ) → IsReadableList (view D.Disk mft.old) (part_of n (attribute_of list.now))
+    ensures fetched { IsTrue (view D.Disk mft.old).told → (n : ℕ)
+        → IsReadableList (view D.Disk mft.old) (part_of n (attribute_of list.now))
         → MftReads D.Disk mft.old mft.new (list_reads (view D.Disk mft.old) (part_of n (attribute_of list.now))) }
 {
     if let Some(value) = list.value() {
@@ -62,7 +63,7 @@ pub fn numbers_of<D: Disk>(
     base: &RecordView<'_>,
 ) -> Result<Vec<u64>, FileNo>
     requires { IsTrue (view D.Disk mft.old).told → IsRecordOf (view D.Disk mft.old) number number
-        × (record_of base.now ≡ opened_of ((view D.Disk mft.old).block number)) }
+        × (viewed_block base.now ≡ opened_of ((view D.Disk mft.old).block number)) }
     ensures rising { IfOk result (λ numbers. IsStrictlyIncreasing numbers.items) }
     ensures few { IfOk result (λ numbers. length numbers.items ≤ 10083) }
     ensures base { IfOk result (λ numbers. Contains numbers.items number) }

@@ -59,7 +59,8 @@ pub fn read_record_of<D: Disk>(
     requires { n < length (mounted_of D.Disk mft.old).records }
     ensures own { IfOk result (λ found. IsTrue (view D.Disk mft.old).told → IfSome found (λ _.
         IsRecordOf (view D.Disk mft.old) number n × (into.new ≡ opened_of ((view D.Disk mft.old).block n)))) }
-    ensures other { IfOk result (λ found. IsTrue (view D.Disk mft.old).told → IfNone found (¬ (IsRecordOf (view D.Disk mft.old) number n))) }
+    ensures other { IfOk result (λ found. IsTrue (view D.Disk mft.old).told
+        → IfNone found (¬ (IsRecordOf (view D.Disk mft.old) number n))) }
     ensures shape { IfOk result (λ found. IfSome found (HasShape into.new)) }
     ensures err { IfErr result IsReadNo }
     ensures faults { MatchResult result (λ _. faults_of D.Disk mft.new ≡ faults_of D.Disk mft.old)

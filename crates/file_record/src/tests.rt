@@ -190,7 +190,10 @@ fn told(alloc: Global, file: &FileParts) -> Result<Vec<(u32, u16)>, test::Fail> 
     Ok(told)
 }
 
-fn parts_of(alloc: Global, image: Vec<u8>, number: u64) -> Result<Vec<(u32, u16)>, test::Fail> {
+// The types and ids of the parts of a file of an image.
+fn parts_of(alloc: Global, image: Vec<u8>, number: u64) -> Result<Vec<(u32, u16)>, test::Fail>
+    requires { length image.items ≡ 2097152 }
+{
     let mut disk = MemDisk::new(alloc, image);
     let file = load(alloc, &mut disk, number)??;
     told(alloc, &file)
@@ -201,7 +204,10 @@ fn one_record(rt: HostRuntime) -> Result<(), test::Fail> {
     let mut disk = MemDisk::new(rt.alloc(), volume(rt.alloc())?);
     let file = load(rt.alloc(), &mut disk, 0)??;
     assert_eq!(rt; file.number(), 0);
-    assert_eq!(rt; told(rt.alloc(), &file)?.as_slice(), [(0x10, 0), (0x80, 1)].as_slice());
+    assert_eq!(rt;
+        told(rt.alloc(), &file)?.as_slice(),
+        [(0x10, 0), (0x80, 1)].as_slice()
+    );
     Ok(())
 }
 
@@ -323,7 +329,8 @@ fn fails_at_each(
     reads: u64,
     count: usize,
 ) -> Result<(), test::Fail>
-    requires { reads < 2 ^ 20 }
+    requires image { length image.items ≡ 2097152 }
+    requires reads { reads < 2 ^ 20 }
 {
     for read in 4..5 + reads {
         let fail = Fail {

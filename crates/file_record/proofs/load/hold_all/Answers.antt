@@ -26,8 +26,8 @@ loop-n-preserved g c =
     let up = AllPairs-from_increasing numbers c.requires.rising in
     let same = view-kept g.D.Disk c.args.mft.now c.loop-n.mft _ c.loop-n.invariant.reads in
     let next : HoldsNext (view g.D.Disk c.args.mft.now) base (get_or numbers k 0) c.loop-n.held.items c.hold_next.new.held.items =
-        subst (λ (volume : VolumeView). HoldsNext volume base (get_or numbers k 0) c.loop-n.held.items c.hold_next.new.held.items) same
-        c.in_ok-hold_next.ensures.holds in
+    subst (λ (volume : VolumeView). HoldsNext volume base (get_or numbers k 0) c.loop-n.held.items c.hold_next.new.held.items) same
+    c.in_ok-hold_next.ensures.holds in
     let volume = view g.D.Disk c.args.mft.now in
     record {
       reads = MftReads-then g.D.Disk c.args.mft.now c.loop-n.mft c.hold_next.new.mft _ _ _ c.loop-n.invariant.reads c.hold_next.ensures.reads

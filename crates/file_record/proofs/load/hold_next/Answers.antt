@@ -13,19 +13,19 @@ returns-then-n-base-clause-holds g c =
     let volume = view g.D.Disk c.args.mft.now in
     let base = c.args.base.now in
     let same : base.number ≡ c.args.n = sym c.if-n-base.true in
-    holds-found volume base.number c.args.n _ _ c.again.result c.in_ok-push.ensures.items (c.again.ensures.number ∙ same)
+    holds-found (view g.D.Disk c.args.mft.now) base.number c.args.n c.args.held.now.items c.push.new.self.items c.again.result c.in_ok-push.ensures.items (c.again.ensures.number ∙ same)
     (λ told.
-        let held = c.requires told in
-        (subst (IsRecordOf volume base.number) same held.own, c.again.ensures.block ∙ held.block ∙ ap (λ n. opened_of (volume.block n)) same))
+    let held = c.requires told in
+    (subst (IsRecordOf volume base.number) same held.own, c.again.ensures.block ∙ held.block ∙ ap (λ n. opened_of (volume.block n)) same))
 
 pub returns-then-n-count-clause-holds : goal.returns-then-n-count-clause-holds
 returns-then-n-count-clause-holds g c =
     let volume = view g.D.Disk c.args.mft.now in
     holds-none volume c.args.base.now.number c.args.n _
     (λ told own.
-        let inside = IsRecordOf-inside volume c.args.base.now.number c.args.n own in
-        let count = ap (λ (m : Mounted). length m.records) c.mounted.ensures in
-        absurd (omega (arith, inside, count, c.count.ensures, c.if-n-count.true)))
+    let inside = IsRecordOf-inside volume c.args.base.now.number c.args.n own in
+    let count = ap (λ (m : Mounted). length m.records) c.mounted.ensures in
+    absurd (omega (arith, inside, count, c.count.ensures, c.if-n-count.true)))
 
 pub returns-in_ok-push-2-clause-holds : goal.returns-in_ok-push-2-clause-holds
 returns-in_ok-push-2-clause-holds g c =
@@ -33,8 +33,8 @@ returns-in_ok-push-2-clause-holds g c =
     let number = c.args.base.now.number in
     holds-found volume number c.args.n _ _ _ c.in_ok-push-2.ensures.items refl
     (λ told.
-        subst (λ o. IfSome o (λ _. IsRecordOf volume number c.args.n × (c.read_record_of.new.into ≡ opened_of (volume.block c.args.n))))
-        c.in-Some.is (c.in_ok-count.ensures.own told))
+    subst (λ o. IfSome o (λ _. IsRecordOf volume number c.args.n × (c.read_record_of.new.into ≡ opened_of (volume.block c.args.n))))
+    c.in-Some.is (c.in_ok-count.ensures.own told))
 
 pub returns-in_default-clause-holds : goal.returns-in_default-clause-holds
 returns-in_default-clause-holds g c =

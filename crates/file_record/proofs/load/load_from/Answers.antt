@@ -38,7 +38,7 @@ returns-in_err-hold_all-clause-fetched g c told readable file =
     let volume = view g.D.Disk c.args.mft.now in
     let number = c.args.base.now.number in
     let are : AreNumbers volume number c.deref.result.now =
-        subst (AreNumbers volume number) (sym c.deref.ensures.value) (c.in_ok-numbers.ensures.numbers told readable file) in
+    subst (AreNumbers volume number) (sym c.deref.ensures.value) (c.in_ok-numbers.ensures.numbers told readable file) in
     MftReads-then g.D.Disk c.args.mft.now c.numbers_of.new.mft c.hold_all.new.mft (reads_for_list volume number)
     (2 * count_by (λ n. not (n == number)) c.deref.result.now) (file_reads volume number - 2)
     (c.numbers_of.ensures.fetched told readable file) c.hold_all.ensures.reads (omega (arith, are.few))
@@ -47,16 +47,16 @@ pub returns-clause-held : goal.returns-clause-held
 returns-clause-held g c told =
     let same = view-kept g.D.Disk c.args.mft.now c.numbers_of.new.mft _ c.numbers_of.ensures.reads in
     let held : HoldsAll (view g.D.Disk c.args.mft.now) c.args.base.now.number c.deref.result.now c.hold_all.new.held.items =
-        subst (λ (volume : VolumeView). IsTrue volume.told → HoldsAll volume c.args.base.now.number c.deref.result.now c.hold_all.new.held.items) same
-        c.in_ok-hold_all.ensures.held told in
+    subst (λ (volume : VolumeView). IsTrue volume.told → HoldsAll volume c.args.base.now.number c.deref.result.now c.hold_all.new.held.items) same
+    c.in_ok-hold_all.ensures.held told in
     held.current
 
 pub returns-clause-own : goal.returns-clause-own
 returns-clause-own g c told =
     let same = view-kept g.D.Disk c.args.mft.now c.numbers_of.new.mft _ c.numbers_of.ensures.reads in
     let held : HoldsAll (view g.D.Disk c.args.mft.now) c.args.base.now.number c.deref.result.now c.hold_all.new.held.items =
-        subst (λ (volume : VolumeView). IsTrue volume.told → HoldsAll volume c.args.base.now.number c.deref.result.now c.hold_all.new.held.items) same
-        c.in_ok-hold_all.ensures.held told in
+    subst (λ (volume : VolumeView). IsTrue volume.told → HoldsAll volume c.args.base.now.number c.deref.result.now c.hold_all.new.held.items) same
+    c.in_ok-hold_all.ensures.held told in
     held.own
 
 pub returns-clause-parts : goal.returns-clause-parts
@@ -65,10 +65,10 @@ returns-clause-parts g c told readable file =
     let number = c.args.base.now.number in
     let same = view-kept g.D.Disk c.args.mft.now c.numbers_of.new.mft _ c.numbers_of.ensures.reads in
     let held : HoldsAll volume number c.deref.result.now c.hold_all.new.held.items =
-        subst (λ (volume : VolumeView). IsTrue volume.told → HoldsAll volume number c.deref.result.now c.hold_all.new.held.items) same
-        c.in_ok-hold_all.ensures.held told in
+    subst (λ (volume : VolumeView). IsTrue volume.told → HoldsAll volume number c.deref.result.now c.hold_all.new.held.items) same
+    c.in_ok-hold_all.ensures.held told in
     let are : AreNumbers volume number c.deref.result.now =
-        subst (AreNumbers volume number) (sym c.deref.ensures.value) (c.in_ok-numbers.ensures.numbers told readable file) in
+    subst (AreNumbers volume number) (sym c.deref.ensures.value) (c.in_ok-numbers.ensures.numbers told readable file) in
     record { current = held.current; parts = held.all are.own ∙ AreNumbers-parts volume number c.deref.result.now are }
 
 pub returns-clause-reads : goal.returns-clause-reads
@@ -81,7 +81,7 @@ returns-clause-fetched g c told readable file =
     let volume = view g.D.Disk c.args.mft.now in
     let number = c.args.base.now.number in
     let are : AreNumbers volume number c.deref.result.now =
-        subst (AreNumbers volume number) (sym c.deref.ensures.value) (c.in_ok-numbers.ensures.numbers told readable file) in
+    subst (AreNumbers volume number) (sym c.deref.ensures.value) (c.in_ok-numbers.ensures.numbers told readable file) in
     MftReads-then g.D.Disk c.args.mft.now c.numbers_of.new.mft c.hold_all.new.mft (reads_for_list volume number)
     (2 * count_by (λ n. not (n == number)) c.deref.result.now) (file_reads volume number - 2)
     (c.numbers_of.ensures.fetched told readable file) c.hold_all.ensures.reads (omega (arith, are.few))

@@ -1,7 +1,7 @@
 use Rattle.std.proofs.Common.{ℕ, Vec, Global, ◌≡◌, ◌<◌, ◌≤◌, ◌++◌, ◌∷◌, [], List, Option, Some, None, sym, ap, subst, ◌∙◌, arith, refl}
 use Rattle.std.specs.List.{Contains}
 use Rattle.std.proofs.lemmas.List.Elements.{Contains-append_left}
-use Rattle.attr_view.specs.View.{attribute_of, record_of}
+use Rattle.attr_view.specs.View.{attribute_of, viewed_block}
 use Rattle.mft_table.specs.Mft.{MftReads, view}
 use Rattle.mft_table.proofs.StreamReads.{MftReads-none, MftReads-then}
 use Rattle.volume_def.proofs.MemberLaws.{Contains-head}
@@ -19,15 +19,15 @@ returns-in_err-add_listed-clause-fetched g c told readable file =
     let base = c.requires told in
     let found = sym c.in-Some.ensures in
     subst (MftReads g.D.Disk c.args.mft.now c.add_listed.new.mft)
-    (sym (reads-listed volume c.args.number readable file base.0 (record_of c.args.base.now) base.1 told list found))
+    (sym (reads-listed volume c.args.number readable file base.0 (viewed_block c.args.base.now) base.1 told list found))
     (c.add_listed.ensures.fetched told c.args.number
-      (list-readable volume c.args.number readable file base.0 (record_of c.args.base.now) base.1 told list found))
+    (list-readable volume c.args.number readable file base.0 (viewed_block c.args.base.now) base.1 told list found))
 
 pub returns-clause-base : goal.returns-clause-base
 returns-clause-base g c =
     let number = c.args.number in
     let first : c.push.new.self.items ≡ number ∷ [] =
-        c.in_ok-push.ensures.items ∙ ap (λ xs. xs ++ (number ∷ [])) c.new-numbers.ensures.items in
+    c.in_ok-push.ensures.items ∙ ap (λ xs. xs ++ (number ∷ [])) c.new-numbers.ensures.items in
     let front : Contains c.push.new.self.items number = subst (λ xs. Contains xs number) (sym first) (Contains-head number []) in
     c.sort_once.ensures.keeps number (elim c.match-list_of.branch [
       | in-Some+in_ok-add_listed w ↦
@@ -40,15 +40,15 @@ pub returns-clause-numbers : goal.returns-clause-numbers
 returns-clause-numbers g c told readable file =
     let volume = view g.D.Disk c.args.mft.now in
     let number = c.args.number in
-    let block = record_of c.args.base.now in
+    let block = viewed_block c.args.base.now in
     let base = c.requires told in
     let first : c.push.new.self.items ≡ number ∷ [] =
-        c.in_ok-push.ensures.items ∙ ap (λ xs. xs ++ (number ∷ [])) c.new-numbers.ensures.items in
+    c.in_ok-push.ensures.items ∙ ap (λ xs. xs ++ (number ∷ [])) c.new-numbers.ensures.items in
     let has_cluster : Covers volume number c.match-list_of.numbers.items = elim c.match-list_of.branch [
       | in-Some+in_ok-add_listed w ↦
           subst (λ (v : Vec ℕ Global). Covers volume number v.items) (sym w.numbers-is)
           (Covers-listed volume number readable file base.0 block base.1 told (attribute_of w.in-Some.list) (sym w.in-Some.ensures) _
-            (subst (λ xs. AddsListed volume (attribute_of w.in-Some.list) xs w.add_listed.new.numbers.items) first w.in_ok-add_listed.ensures.added))
+          (subst (λ xs. AddsListed volume (attribute_of w.in-Some.list) xs w.add_listed.new.numbers.items) first w.in_ok-add_listed.ensures.added))
       | in_default w ↦
           subst (Covers volume number) (sym (ap (λ (v : Vec ℕ Global). v.items) w.numbers-is ∙ first))
           (Covers-alone volume number readable file base.0 block base.1 (sym w.in_default.ensures))
@@ -59,7 +59,7 @@ pub returns-clause-fetched : goal.returns-clause-fetched
 returns-clause-fetched g c told readable file =
     let volume = view g.D.Disk c.args.mft.now in
     let number = c.args.number in
-    let block = record_of c.args.base.now in
+    let block = viewed_block c.args.base.now in
     let base = c.requires told in
     elim c.match-list_of.branch [
       | in-Some+in_ok-add_listed w ↦
@@ -67,7 +67,7 @@ returns-clause-fetched g c told readable file =
           let found = sym w.in-Some.ensures in
           subst (λ mft. MftReads g.D.Disk c.args.mft.now mft (reads_for_list volume number)) (sym w.mft-is)
           (subst (MftReads g.D.Disk c.args.mft.now w.add_listed.new.mft) (sym (reads-listed volume number readable file base.0 block base.1 told list found))
-            (w.add_listed.ensures.fetched told number (list-readable volume number readable file base.0 block base.1 told list found)))
+          (w.add_listed.ensures.fetched told number (list-readable volume number readable file base.0 block base.1 told list found)))
       | in_default w ↦
           let none = MftReads-none g.D.Disk c.args.mft.now in
           subst (λ mft. MftReads g.D.Disk c.args.mft.now mft (reads_for_list volume number)) (sym w.mft-is)

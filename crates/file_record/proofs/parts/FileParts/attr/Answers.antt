@@ -36,8 +36,8 @@ returns-then-left-held-clause-part c =
     let held = c.args.self.now.held.items in
     let one = c.index-held.result.now in
     let read = part-at held c.records.record c.records.left c.args.i one (attribute_of c.attr.result)
-        (inside held c.records.record c.records.left c.args.i c.requires c.records.invariant) c.records.invariant
-        (ap (λ block. slice_get (attributes block) c.records.left) (sym (c.view.ensures ∙ ap (λ (h : Held). h.block) c.index-held.ensures)) ∙ c.attr.ensures.attribute) in
+    (inside held c.records.record c.records.left c.args.i c.requires c.records.invariant) c.records.invariant
+    (ap (λ block. slice_get (attributes block) c.records.left) (sym (c.view.ensures ∙ ap (λ (h : Held). h.block) c.index-held.ensures)) ∙ c.attr.ensures.attribute) in
     rw read refl
 
 pub overflow_add-record : goal.overflow_add-record

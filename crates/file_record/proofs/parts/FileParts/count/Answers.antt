@@ -24,5 +24,5 @@ pub returns : goal.returns
 returns c =
     c.loop-held.invariant.total
     ∙ ap (λ xs. length (flat_map attributes_in xs))
-      (take_all c.loop-held.held-index c.deref-held-items.result.now c.loop-held-test.false ∙ c.deref-held-items.ensures.value)
+    (take_all c.loop-held.held-index c.deref-held-items.result.now c.loop-held-test.false ∙ c.deref-held-items.ensures.value)
     ∙ sym (length-parts c.args.self.now.held.items)

@@ -30,7 +30,7 @@ returns-in-Some-clause-held g c =
 pub returns-in-Some-clause-own : goal.returns-in-Some-clause-own
 returns-in-Some-clause-own g c =
     subst (λ (volume : VolumeView). IfOk c.load_from.result (λ file.
-      IsTrue volume.told → All (λ one. IsRecordOf volume c.args.number one.number) (held_of file)))
+    IsTrue volume.told → All (λ one. IsRecordOf volume c.args.number one.number) (held_of file)))
     (view-kept g.D.Disk c.args.mft.now c.read_record_of.new.mft _ c.read_record_of.ensures.reads) c.load_from.ensures.own
 
 pub returns-in-Some-clause-parts : goal.returns-in-Some-clause-parts
@@ -42,8 +42,8 @@ pub returns-in-Some-clause-fetched : goal.returns-in-Some-clause-fetched
 returns-in-Some-clause-fetched g c told readable file =
     let volume = view g.D.Disk c.args.mft.now in
     let rest : MftReads g.D.Disk c.read_record_of.new.mft c.load_from.new.mft (file_reads volume c.args.number - 2) =
-        subst (λ (v : VolumeView). WhereReadable v (IsFile v c.args.number → MftReads g.D.Disk c.read_record_of.new.mft c.load_from.new.mft (file_reads v c.args.number - 2)))
-        (view-kept g.D.Disk c.args.mft.now c.read_record_of.new.mft _ c.read_record_of.ensures.reads) c.load_from.ensures.fetched told readable file in
+    subst (λ (v : VolumeView). WhereReadable v (IsFile v c.args.number → MftReads g.D.Disk c.read_record_of.new.mft c.load_from.new.mft (file_reads v c.args.number - 2)))
+    (view-kept g.D.Disk c.args.mft.now c.read_record_of.new.mft _ c.read_record_of.ensures.reads) c.load_from.ensures.fetched told readable file in
     MftReads-then g.D.Disk c.args.mft.now c.read_record_of.new.mft c.load_from.new.mft 2 _ _ c.read_record_of.ensures.reads rest
     (omega (arith, least volume c.args.number readable file))
 
@@ -51,7 +51,7 @@ pub returns-in-None-clause-parts : goal.returns-in-None-clause-parts
 returns-in-None-clause-parts g c told readable file =
     let volume = view g.D.Disk c.args.mft.now in
     absurd (subst (λ o. IfNone o (¬ (IsRecordOf volume c.args.number c.args.number))) c.in-None.is (c.in_ok-count.ensures.other told)
-      (IsRecordOf-file volume c.args.number readable file))
+    (IsRecordOf-file volume c.args.number readable file))
 
 pub returns-in-None-clause-fetched : goal.returns-in-None-clause-fetched
 returns-in-None-clause-fetched g c told readable file =
