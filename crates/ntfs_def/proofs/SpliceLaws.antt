@@ -15,7 +15,7 @@ use Rattle.ntfs_def.proofs.AttributeLaws.{length-attributes, slice_get-attribute
 use Rattle.ntfs_def.proofs.PlaceLaws.{attribute_place-bounded, place-order}
 use Rattle.ntfs_def.proofs.MovedLaws.{IsWhole-moved, attribute_at-moved, attribute_len-moved, u32_at-moved}
 
--- Before the place i attributes stand, then a others that go, and then the rest. b are given, none or one, and either may be 0.
+-- i attributes stand before the place, then a that go, and then the rest. b are given, none or one. Any of them may be 0.
 module _ (old new : List ℕ) (count i a b rest was now : ℕ) (shape : HasShape old count) (split : rest + (i + a) ≡ count)
     (taken : attribute_place old (i + a) ≡ attribute_place old i + was) (put : IsGiven new (attribute_place old i) b now)
     (fits : used_size old + now ≤ 1024 + was) (x : IsSpliced old new (attribute_place old i) was now) where
