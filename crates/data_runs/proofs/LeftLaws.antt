@@ -1,13 +1,13 @@
 -- What is left of a run, and where the clusters from there on lie.
 use Rattle.std.proofs.Common.{◌≡◌, ℕ, ◌+◌, ◌-◌, ◌<◌, ◌≤◌, List, [], ◌∷◌, inl, inr, Option, Some, None, length, drop, get_or, refl, sym, ap, ◌∙◌, arith}
-use Rattle.std.specs.Prelude.{◌↔◌, nat_lt, if◌then◌else◌}
+use Rattle.std.specs.Prelude.{nat_lt}
 use Rattle.std.specs.Option.{option_map}
 use Rattle.std.proofs.lemmas.Bool.{cases_lt, cond-true, cond-false, le-ltb, lt-ltb}
 use Rattle.std.proofs.lemmas.List.{drop_all, drop_more}
 use Rattle.std.proofs.lemmas.List.Sums.{sum_by-cons}
 use Rattle.ntfs_def.specs.declared.run_text.Run.{Run}
 use Rattle.ntfs_def.specs.declared.run_text.Spot.TheVariants.{Outside}
-use Rattle.ntfs_def.specs.Runs.{EndsInReach, spot_in, spot_of, total_clusters}
+use Rattle.ntfs_def.specs.Runs.{spot_in, spot_of, total_clusters}
 use Rattle.ntfs_def.proofs.SpotLaws.{spot_of-none, spot_of-first, spot_of-past}
 use Rattle.data_runs.specs.Left.{run_left, without_first}
 

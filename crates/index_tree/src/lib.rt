@@ -11,8 +11,8 @@ mod tests;
 mod walk;
 
 use index_node::BlockNo;
-use ntfs_def::NodeForm;
 pub use laws::{one_walk, ordered_walks};
+use ntfs_def::NodeForm;
 use std::alloc::{AllocError, AllocFailed};
 use thiserror::Error;
 

@@ -1,4 +1,4 @@
--- Two clusters of a stream lie at two places, where no cluster is part_clusters twice.
+-- Two clusters of a stream lie at two places, where no cluster is covered twice.
 use Rattle.std.proofs.Common.{◌≡◌, ℕ, ◌+◌, ◌-◌, ◌<◌, ◌≤◌, true, cond, List, [], ◌∷◌, Option, Some, None, inl, inr, refl, sym, ◌∙◌, arith}
 use Rattle.std.specs.Option.{option_map}
 use Rattle.std.proofs.lemmas.Bool.{cases_lt, le-leb, lt-ltb}
@@ -12,7 +12,7 @@ use Rattle.volume_def.specs.Coverage.{AreApart, has_cluster, is_in_run, times_co
 times_in-cons : (run : Run) (runs : List Run) (c : ℕ) → times_covered (run ∷ runs) c ≡ cond (has_cluster c run) 1 0 + times_covered runs c
 times_in-cons run runs c = sum_by-cons (λ r. cond (has_cluster c r) 1 0) run runs
 
--- the run that holds a cluster of the stream has_cluster it
+-- the run that holds a cluster of the stream covers it
 in_run : (len : ℕ) (lcn : Option ℕ) (vcn c : ℕ) → vcn < len → spot_in (Some (option_map (λ l. l + vcn) lcn)) ≡ At c
     → is_in_run lcn len c ≡ true
 in_run len None vcn c h e = cc
@@ -20,7 +20,7 @@ in_run len (Some l) vcn c h e =
     let at : l + vcn ≡ c = cc in
     rw (le-leb l c (omega arith), lt-ltb c (l + len) (omega arith)) refl
 
--- a cluster of a stream is part_clusters
+-- a cluster of a stream is covered
 pub times_in-spot_of : (runs : List Run) (vcn c : ℕ) → spot_of runs vcn ≡ At c → 1 ≤ times_covered runs c
 times_in-spot_of [] vcn c e = let none = spot_of-none vcn in cc
 times_in-spot_of (run ∷ runs) vcn c e = elim (cases_lt vcn run.len) [
@@ -40,7 +40,7 @@ same_place (Some l) a b c e f = let x : l + a ≡ c = cc in let y : l + b ≡ c 
 rest_apart : (run : Run) (runs : List Run) → AreApart (run ∷ runs) → AreApart runs
 rest_apart run runs apart c = let e = times_in-cons run runs c in let h = apart c in omega arith
 
--- a cluster in the first run and in the others is part_clusters twice
+-- a cluster in the first run and in the others is covered twice
 not_both : (run : Run) (runs : List Run) (a b c : ℕ) → AreApart (run ∷ runs) → a < run.len → run.len ≤ b
     → spot_of (run ∷ runs) a ≡ At c → spot_of (run ∷ runs) b ≡ At c → a ≡ b
 not_both run runs a b c apart lt ge e f =

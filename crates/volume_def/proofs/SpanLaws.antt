@@ -26,7 +26,7 @@ last-leb vcn n some =
       | inr ge ↦ lt-leb vcn (n - 1) (omega arith) ∙ sym (le-ltb vcn n ge)
     ]
 
--- of an extent that has_cluster n clusters
+-- of an extent that covers n clusters
 content-spans : (vcn first n : ℕ) (content : Content) → IsSomeAnd (content_extent content) (λ extent. extent.sizes.first ≡ first)
     → IsSomeAnd (content_extent content) (λ extent. extent.sizes.last ≡ last_vcn_of (first + n)) → 1 ≤ n
     → is_within vcn (content_extent content) ≡ (leb (first_vcn_of content) vcn && ltb vcn (first_vcn_of content + n))
@@ -39,7 +39,7 @@ content-spans vcn first n (Clusters extent runs) begins ends some =
 begun-spans : (vcn first : ℕ) (part : Part) → BeginsAt first part → 1 ≤ part_clusters part → spans_vcn vcn part ≡ holds_vcn vcn part
 begun-spans vcn first part b some = content-spans vcn first (part_clusters part) part.content b.first b.last some
 
--- a value has_cluster no cluster
+-- a value covers no cluster
 value-covers : (content : Content) → IsSome (content_value content) → total_clusters (unwrap_or (content_runs content) []) ≡ 0
 value-covers (Value value) h = refl
 value-covers (Clusters extent runs) h = cc
@@ -52,7 +52,7 @@ begun-among from (next ∷ parts) part (begins, rest) c = elim (Contains-cases n
   | inr later ↦ begun-among (from + part_clusters next) parts part rest later
 ]
 
--- the header of a part that has_cluster a cluster tells what it holds
+-- the header of a part that covers a cluster tells what it holds
 pub whole-spans : (parts : List Part) (part : Part) (vcn : ℕ) → AreWhole parts → Contains parts part → 1 ≤ part_clusters part
     → spans_vcn vcn part ≡ holds_vcn vcn part
 whole-spans [] part vcn w c some = absurd (Contains-nil part c)
@@ -66,7 +66,7 @@ whole-spans (first ∷ next ∷ parts) part vcn follow c some =
     let begun = begun-among 0 (first ∷ next ∷ parts) part follow c in
     begun-spans vcn begun.0 part begun.1 some
 
--- Where each extent has_cluster a cluster, the search by the headers finds the extent that holds the cluster.
+-- Where each extent covers a cluster, the search by the headers finds the extent that holds the cluster.
 pub find-spans : (size f : ℕ) (extents : List Part) (vcn : ℕ) → AreAttribute size f extents → All (λ part. 1 ≤ part_clusters part) extents
     → find (spans_vcn vcn) extents ≡ find (holds_vcn vcn) extents
 find-spans size f extents vcn s all =
@@ -82,7 +82,7 @@ several-cover size f extents s several =
     SameItems-All part_code (λ (p : Part). 1 ≤ part_clusters p) s.ordered extents (SameItems-sym extents s.ordered s.order)
     (s.several (omega arith))
 
--- each has_cluster a cluster, or there is one that has_cluster none
+-- each covers a cluster, or there is one that covers none
 cases_covered : (parts : List Part) → (1 < length parts → All (λ part. 1 ≤ part_clusters part) parts)
     → All (λ part. 1 ≤ part_clusters part) parts ⊎ ((part : Part) × (parts ≡ part ∷ []) × (part_clusters part ≡ 0))
 cases_covered [] several = inl (All-nil (λ (p : Part). 1 ≤ part_clusters p))

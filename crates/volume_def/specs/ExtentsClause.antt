@@ -13,7 +13,7 @@ use Rattle.volume_def.specs.SameItems.{SameItems}
 abbrev pub last_vcn_of : ℕ → ℕ
 last_vcn_of n = if n == 0 then 2 ^ 64 - 1 else n - 1
 
--- An extent that begins with this cluster of its stream. Its text is a run list, and its numbers tell what it has_cluster.
+-- An extent that begins with this cluster of its stream. Its text is a run list, and its numbers tell what it covers.
 pub record BeginsAt (vcn : ℕ) (part : Part) : Type 0 where
   pub runs : IsSome (content_runs part.content)
   pub first : IsSomeAnd (content_extent part.content) (λ extent. extent.sizes.first ≡ vcn)
@@ -33,7 +33,7 @@ AreWhole parts = FollowFrom 0 parts
 abbrev pub all_covered : List Part → ℕ
 all_covered parts = sum_by part_clusters parts
 
--- The sizes that the first extent tells of a stream which has_cluster so many bytes.
+-- The sizes that the first extent tells of a stream which covers so many bytes.
 pub record FitExtents (bytes flags : ℕ) (sizes : Sizes) : Type 0 where
   pub initialized : sizes.initialized ≤ sizes.real
   pub real : sizes.real ≤ bytes

@@ -107,6 +107,6 @@ content_runs (Clusters extent runs) = runs
 abbrev pub part_runs : Part → List Run
 part_runs part = unwrap_or (content_runs part.content) []
 
--- the clusters of the stream that it has_cluster
+-- the clusters of the stream that it covers
 abbrev pub part_clusters : Part → ℕ
 part_clusters part = total_clusters (part_runs part)

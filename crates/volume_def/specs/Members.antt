@@ -1,5 +1,5 @@
 -- Which parts a file has, record by record: the words of the laws on edits.
-use Rattle.std.specs.Prelude.{◌≡◌, ◌<◌, ℕ, List, [], All, Contains, Some, None}
+use Rattle.std.specs.Prelude.{◌≡◌, ◌<◌, ℕ, [], All, Contains, Some, None}
 use Rattle.volume_def.specs.Edits.{ChangesAt}
 use Rattle.volume_def.specs.Files.{Part, Record, Records, file_of}
 
