@@ -2,7 +2,7 @@
 //! clusters 4 to 11, of eight sectors each. The stream of record 24 has 300 clusters: its first extent has four, of
 //! which the last two are a hole, and is written up to byte 6,000; the second, in record 25, the others, from cluster 40 on.
 //! Record 26 has the same second extent, and is written whole.
-ghost use Rattle.std.specs.Prelude.{◌≡◌, IfOk, length};
+ghost use Rattle.std.specs.Prelude.{◌≡◌, ◌<◌, IfOk, length};
 ghost use Rattle.mft_table.specs.Mounted.{StandsOn};
 
 use crate::read_value;
@@ -14,7 +14,6 @@ use ntfs_boot::Geometry;
 use std::alloc::{AllocError, Global};
 use std::test;
 use upcase::UpCase;
-use vol_bytes::{put_u16, put_u32, put_u64};
 use vol_disk::{CallKind, Disk, Fail, FailDisk, MemDisk};
 use vol_stage::Stage;
 
@@ -24,117 +23,135 @@ const CLUSTER: u64 = 4096;
 
 const REAL: u64 = 300 * CLUSTER - 100;
 
-// An extent of `$DATA`, of 80 bytes, with this run text.
-fn put_extent(block: &mut [u8], at: usize, first: u64, last: u64, written: u64, text: &[u8]) {
-    put_u32(block, at, 0x80);
-    put_u32(block, at + 4, 80);
-    block[at + 8] = 1;
-    put_u16(block, at + 0x0A, 0x40);
-    put_u64(block, at + 0x10, first);
-    put_u64(block, at + 0x18, last);
-    put_u16(block, at + 0x20, 0x40);
-    put_u64(block, at + 0x28, 300 * CLUSTER);
-    put_u64(block, at + 0x30, REAL);
-    put_u64(block, at + 0x38, written);
-    for k in 0..text.len() {
-        block[at + 0x40 + k] = text[k];
+// Puts bytes at a place.
+fn put(image: &mut [u8], at: usize, bytes: &[u8])
+    ensures { length image.new ≡ length image.old }
+{
+    if let Some(slot) = image.get_mut(at..) {
+        let len = bytes.len().min(slot.len());
+        slot[..len].copy_from_slice(&bytes[..len]);
     }
 }
 
-// A value, of 24 bytes and those of its header.
-fn put_value(block: &mut [u8], at: usize, kind: u32, len: u32) {
-    put_u32(block, at, kind);
-    put_u32(block, at + 4, 24 + len.next_multiple_of(8));
-    put_u16(block, at + 0x0A, 24);
-    put_u32(block, at + 0x10, len);
-    put_u16(block, at + 0x14, 24);
+// An extent of `$DATA` with this run text.
+fn extent(first: u64, last: u64, written: u64, text: &[u8]) -> [u8; 80] {
+    let mut bytes = [0; 80];
+    put(&mut bytes, 0x00, &[0x80, 0, 0, 0, 80]);
+    put(&mut bytes, 0x08, &[1, 0, 0x40]);
+    put(&mut bytes, 0x10, &first.to_le_bytes());
+    put(&mut bytes, 0x18, &last.to_le_bytes());
+    put(&mut bytes, 0x20, &[0x40]);
+    put(&mut bytes, 0x28, &(300 * CLUSTER).to_le_bytes());
+    put(&mut bytes, 0x30, &REAL.to_le_bytes());
+    put(&mut bytes, 0x38, &written.to_le_bytes());
+    put(&mut bytes, 0x40, text);
+    bytes
+}
+
+// A resident attribute without a name, of 48 bytes, whose value has 24: 100, 101 and so on.
+fn value() -> [u8; 48] {
+    let mut bytes = [0; 48];
+    put(&mut bytes, 0x00, &[0, 1, 0, 0, 48]);
+    put(&mut bytes, 0x0A, &[24]);
+    put(&mut bytes, 0x10, &[24, 0, 0, 0, 24]);
+    for (k, byte) in bytes[24..].iter_mut().enumerate() {
+        *byte = 100 + k as u8 % 24;
+    }
+    bytes
+}
+
+// An entry of a list, for an extent of `$DATA` in a record.
+fn entry(first: u64, holder: u64) -> [u8; 32] {
+    let mut bytes = [0; 32];
+    put(&mut bytes, 0x00, &[0x80, 0, 0, 0, 32, 0, 0, 0x1A]);
+    put(&mut bytes, 0x08, &first.to_le_bytes());
+    put(&mut bytes, 0x10, &holder.to_le_bytes());
+    bytes
 }
 
 // The list of a file whose stream has its extents in these two records.
-fn put_list(block: &mut [u8], at: usize, first: u64, second: u64) {
-    put_value(block, at, 0x20, 64);
-    for k in 0..2 {
-        let entry = at + 24 + 32 * k;
-        put_u32(block, entry, 0x80);
-        put_u16(block, entry + 4, 32);
-        block[entry + 7] = 0x1A;
-        put_u64(block, entry + 8, if k == 0 { 0 } else { 4 });
-        put_u64(
-            block,
-            entry + 0x10,
-            if k == 0 { first } else { second } + (1 << 48),
-        );
-    }
+fn list(first: u64, second: u64) -> [u8; 88] {
+    let mut bytes = [0; 88];
+    put(&mut bytes, 0x00, &[0x20, 0, 0, 0, 88]);
+    put(&mut bytes, 0x0A, &[24]);
+    put(&mut bytes, 0x10, &[64, 0, 0, 0, 24]);
+    put(&mut bytes, 24, &entry(0, first));
+    put(&mut bytes, 56, &entry(4, second));
+    bytes
 }
 
-// The header of a record, and its end mark; sealed with number 1.
-fn put_record(image: &mut [u8], number: usize, base: u64, end: usize) {
-    let at = 16_384 + 1024 * number;
-    let block = &mut image[at..at + 1024];
-    for (k, byte) in b"FILE".iter().enumerate() {
-        block[k] = *byte;
+// Lays a record in use with these attributes, sealed under number 1.
+fn lay(image: &mut [u8], number: usize, base: u64, attributes: &[u8])
+    requires { number < 64 }
+    ensures { length image.new ≡ length image.old }
+{
+    let len = attributes.len().min(400);
+    let mut block = [0; 1024];
+    put(&mut block, 0x00, b"FILE");
+    put(&mut block, 0x04, &[0x30, 0, 3, 0]);
+    put(&mut block, 0x10, &[1]);
+    put(&mut block, 0x14, &[0x38, 0, 1]);
+    put(&mut block, 0x18, &(len as u32 + 64).to_le_bytes());
+    put(&mut block, 0x1C, &[0, 4]);
+    put(&mut block, 0x20, &base.to_le_bytes());
+    put(&mut block, 0x2C, &[number as u8]);
+    put(&mut block, 0x30, &[1]);
+    put(&mut block, 0x38, &attributes[..len]);
+    put(&mut block, 0x38 + len, &[0xFF; 4]);
+    put(&mut block, 510, &[1]);
+    put(&mut block, 1022, &[1]);
+    put(image, 16_384 + 1024 * number, &block);
+}
+
+// A file of two records, whose stream is written up to a byte.
+fn lay_file(image: &mut [u8], number: usize, written: u64)
+    requires { number < 63 }
+    ensures { length image.new ≡ length image.old }
+{
+    let reference = number as u64 + (1 << 48);
+    let mut base = [0; 216];
+    put(&mut base, 0, &list(reference, reference + 1));
+    put(
+        &mut base,
+        88,
+        &extent(0, 3, written, b"\x11\x02\x14\x01\x02\x00"),
+    );
+    put(&mut base, 168, &value());
+    lay(image, number, 0, &base);
+    let second = extent(4, 299, 0, b"\x12\x28\x01\x28\x00");
+    lay(image, number + 1, reference, &second);
+}
+
+// Marks each byte outside the table by its place.
+fn mark(image: &mut [u8])
+    ensures { length image.new ≡ length image.old }
+{
+    for (place, byte) in image.iter_mut().enumerate() {
+        if !(16_384..49_152).contains(&place) {
+            *byte = (1 + place % 251) as u8;
+        }
     }
-    put_u16(block, 4, 0x30);
-    put_u16(block, 6, 3);
-    put_u16(block, 0x10, 1);
-    put_u16(block, 0x14, 0x38);
-    put_u16(block, 0x16, 1);
-    put_u32(block, 0x18, end as u32 + 8);
-    put_u32(block, 0x1C, 1024);
-    put_u64(block, 0x20, base);
-    put_u32(block, 0x2C, number as u32);
-    put_u32(block, end, 0xFFFF_FFFF);
-    put_u16(block, 0x30, 1);
-    put_u16(block, 510, 1);
-    put_u16(block, 1022, 1);
 }
 
 fn image(alloc: Global) -> Result<Vec<u8>, AllocError>
     ensures { IfOk result (λ image. length image.items ≡ 1228800) }
 {
     let mut image = vec![in alloc; 0; 512 * SECTORS]?;
-    for place in 0..image.len() {
-        if !(16_384..49_152).contains(&place) {
-            image[place] = (1 + place % 251) as u8;
-        }
-    }
-    for (number, written) in [(24, 6000), (26, REAL)] {
-        let at = 16_384 + 1024 * number;
-        put_list(&mut image, at + 0x38, number as u64, number as u64 + 1);
-        put_extent(
-            &mut image,
-            at + 0x90,
-            0,
-            3,
-            written,
-            b"\x11\x02\x14\x01\x02\x00",
-        );
-        put_value(&mut image, at + 0xE0, 0x100, 24);
-        for k in 0..24 {
-            image[at + 0xF8 + k] = 100 + k as u8;
-        }
-        put_record(&mut image, number, 0, 0x110);
-        put_extent(
-            &mut image,
-            at + 1024 + 0x38,
-            4,
-            299,
-            0,
-            b"\x12\x28\x01\x28\x00",
-        );
-        put_record(&mut image, number + 1, number as u64 + (1 << 48), 0x88);
-    }
+    mark(&mut image);
+    lay_file(&mut image, 24, 6000);
+    lay_file(&mut image, 26, REAL);
     Ok(image)
 }
 
 // Byte i of the stream that is written up to a byte.
 fn expected(i: u64, written: u64) -> u8 {
-    let lcn = match i / CLUSTER {
-        0 | 1 => 20 + i / CLUSTER,
+    let vcn = i / CLUSTER;
+    let lcn = match vcn {
+        0 | 1 => vcn.saturating_add(20),
         2 | 3 => return 0,
-        vcn => 40 + vcn - 4,
+        _ => vcn.saturating_add(36),
     };
-    let place = lcn * CLUSTER + i % CLUSTER;
+    let place = lcn.saturating_mul(CLUSTER).saturating_add(i % CLUSTER);
     if i < written && place < 512 * SECTORS as u64 {
         return (1 + place % 251) as u8;
     }
@@ -166,7 +183,26 @@ fn mounted(alloc: Global) -> Result<Mounted, test::Fail>
     })
 }
 
-// Reads part `i` of a file from byte `at` on; a part that the file has not is no success.
+// Reads part `i` of a file from byte `at` on; a file or a part that is not there is no success.
+fn read_part<D: Disk>(
+    alloc: Global,
+    mft: &mut Mft<'_, D>,
+    number: u64,
+    i: usize,
+    at: u64,
+    into: &mut [u8],
+) -> Result<(), FileNo> {
+    if number >= mft.mounted().records.count() {
+        return Err(FileNo::NoRoom);
+    }
+    let file = FileParts::load(alloc, mft, number)?;
+    if i >= file.count() {
+        return Err(FileNo::NoRoom);
+    }
+    read_value(alloc, mft, &file, i, at, into)
+}
+
+// The same, on a volume that is mounted and let go again.
 fn read<D: Disk>(
     alloc: Global,
     disk: &mut D,
@@ -182,11 +218,7 @@ fn read<D: Disk>(
         return Ok(Err(FileNo::NoRoom));
     }
     let mut mft = Mft::resume(stage, mounted);
-    let done = match FileParts::load(alloc, &mut mft, number) {
-        Ok(file) if i < file.count() => read_value(alloc, &mut mft, &file, i, at, into),
-        Ok(_) => Err(FileNo::NoRoom),
-        Err(no) => Err(no),
-    };
+    let done = read_part(alloc, &mut mft, number, i, at, into);
     let (stage, _) = mft.into_parts();
     let _ = stage.finish();
     Ok(done)
