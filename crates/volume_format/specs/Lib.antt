@@ -1,0 +1,5 @@
+pub mod Plan
+pub mod Items
+pub mod RootIndex
+pub mod Planned
+pub mod Options
