@@ -1,0 +1,4 @@
+pub mod Listed
+pub mod PartsOf
+pub mod Bases
+pub mod Records
