@@ -3,4 +3,7 @@ pub mod PartsOf
 pub mod Bases
 pub mod Records
 pub mod Attributes
+pub mod Needed
 pub mod Extents
+pub mod Owners
+pub mod Values
