@@ -7,3 +7,6 @@ pub mod Needed
 pub mod Extents
 pub mod Owners
 pub mod Values
+pub mod Contents
+pub mod ClusterBits
+pub mod RecordBits
