@@ -10,3 +10,6 @@ pub mod Values
 pub mod Contents
 pub mod ClusterBits
 pub mod RecordBits
+pub mod Names
+pub mod References
+pub mod Links
