@@ -13,3 +13,8 @@ pub mod RecordBits
 pub mod Names
 pub mod References
 pub mod Links
+pub mod Shape
+pub mod CaseTable
+pub mod MirrorPlace
+pub mod Lists
+pub mod Limits
