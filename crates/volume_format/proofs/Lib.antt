@@ -18,3 +18,5 @@ pub mod CaseTable
 pub mod MirrorPlace
 pub mod Lists
 pub mod Limits
+pub mod Fits
+pub mod VolumeRecord
