@@ -20,3 +20,5 @@ pub mod Lists
 pub mod Limits
 pub mod Fits
 pub mod VolumeRecord
+pub mod AttributeParts
+pub mod Version
