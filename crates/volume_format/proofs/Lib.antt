@@ -22,3 +22,4 @@ pub mod Fits
 pub mod VolumeRecord
 pub mod AttributeParts
 pub mod Version
+pub mod NewVolumes

@@ -4,3 +4,4 @@ pub mod RootIndex
 pub mod FitsPlan
 pub mod Planned
 pub mod Options
+pub mod NewVolume
