@@ -23,3 +23,4 @@ pub mod VolumeRecord
 pub mod AttributeParts
 pub mod Version
 pub mod NewVolumes
+pub mod Images

@@ -3,4 +3,4 @@
 
 mod laws;
 
-pub use laws::{content_laws, plan_laws, planned_laws};
+pub use laws::{content_laws, item_laws, plan_laws, planned_laws};
