@@ -1,5 +1,5 @@
 -- The clause on the cluster bitmap holds of a new volume: the bits of its items are set.
-use Rattle.std.proofs.Common.{◌≡◌, ℕ, zero, suc, ◌+◌, ◌*◌, ◌-◌, ◌/◌, ◌%◌, ◌^◌, min, ◌<◌, ◌≤◌, List, [], ◌∷◌, get_or, Some, inl, inr, refl, sym, ap, ◌∙◌, arith}
+use Rattle.std.proofs.Common.{◌≡◌, ℕ, ◌*◌, ◌-◌, ◌/◌, ◌%◌, min, ◌<◌, ◌≤◌, List, [], ◌∷◌, Some, inl, inr, refl, ap, ◌∙◌, arith}
 use Rattle.std.specs.Prelude.{All, IsSome, ◌↔◌}
 use Rattle.std.specs.Int.{bit_at}
 use Rattle.std.proofs.lemmas.Bool.{cases_lt}
@@ -51,11 +51,13 @@ module _ (p : Plan) (view : VolumeView) (is : IsPlanned p view) (some : 0 < p.si
       → (bit_in (value_on view (cluster_bits view)) n ≡ 1) ↔ (1 ≤ times_owned (records_of view) n)
   bits-owned n inside = elim (cases_lt n (items_end p)) [
     | inl lt ↦ (
-        (λ set. omega (arith, owned n, times_owned-below p n lt)),
-        (λ yes. bit-value n within ∙ ones-below (items_end p) n lt))
+      (λ set. omega (arith, owned n, times_owned-below p n lt)),
+      (λ yes. bit-value n within ∙ ones-below (items_end p) n lt),
+    )
     | inr ge ↦ (
-        (λ set. absurd (omega (arith, set, bit-value n within, ones-behind (items_end p) n ge))),
-        (λ yes. absurd (omega (arith, yes, owned n, times_owned-behind p n ge))))
+      (λ set. absurd (omega (arith, set, bit-value n within, ones-behind (items_end p) n ge))),
+      (λ yes. absurd (omega (arith, yes, owned n, times_owned-behind p n ge))),
+    )
   ]
     where
       within : n < p.clusters

@@ -1,7 +1,5 @@
 -- The items of a new volume fit on it, whatever the options.
-use Rattle.std.proofs.Common.{◌≡◌, ◌⊎◌, ℕ, ◌+◌, ◌*◌, ◌/◌, ◌-◌, ◌<◌, ◌≤◌, List, [], ◌∷◌, length, inl, inr, refl, subst, sym, ap, ◌∙◌, arith, length-append}
-use Rattle.std.specs.List.{flat_map}
-use Rattle.std.proofs.lemmas.List.Concat.{flat_map-cons}
+use Rattle.std.proofs.Common.{◌≡◌, ℕ, ◌+◌, ◌*◌, ◌/◌, ◌-◌, ◌<◌, ◌≤◌, List, [], ◌∷◌, length, inl, inr, refl, subst, sym, ap, ◌∙◌, arith}
 use Rattle.volume_format.specs.FitsPlan.{FitsPlan, IsClusterSize}
 use Rattle.volume_format.specs.Options.{AreInRange, Options, clusters_in, plan_of, stored_units}
 use Rattle.volume_format.specs.Plan.{Plan, items_end}

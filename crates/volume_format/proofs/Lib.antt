@@ -1,4 +1,5 @@
 pub mod Listed
+pub mod EachRecord
 pub mod PartsOf
 pub mod Bases
 pub mod Records
