@@ -1,5 +1,5 @@
 -- What holds of each record of a new volume, by its number.
-use Rattle.std.proofs.Common.{◌≡◌, ℕ, ◌+◌, List, [], ◌∷◌, drop, Option, Some, arith}
+use Rattle.std.proofs.Common.{◌≡◌, ℕ, [], ◌∷◌, drop, Some, arith}
 use Rattle.std.specs.Prelude.{IfSome}
 use Rattle.volume_def.specs.Files.{Record}
 use Rattle.volume_format.specs.Plan.{Plan, listed, planned, record_0, record_1, record_10, record_11, record_2, record_24, record_25, record_3, record_4, record_5, record_6, record_7, record_8, record_9}

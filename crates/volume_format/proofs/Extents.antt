@@ -19,10 +19,12 @@ use Rattle.volume_format.proofs.PartsOf.{parts_or_none}
 -- what is asked of the sizes that a part tells, of a stream that has so many clusters
 abbrev SizesIf : ℕ → ℕ → ℕ → Part → Type 0
 SizesIf size f clusters a =
-    IsTrue (has_sizes f a) → IfSome (content_extent a.content) (λ extent. extent.sizes.first ≡ 0 → FitExtents (clusters * size) a.flags extent.sizes)
+    IsTrue (has_sizes f a)
+    → IfSome (content_extent a.content) (λ extent. extent.sizes.first ≡ 0 → FitExtents (clusters * size) a.flags extent.sizes)
 
 -- one value
-attribute-value : (size f n kind : ℕ) (name : List ℕ) (id : ℕ) (value : List ℕ) → AreAttribute size f (part n kind name id (Value value) ∷ [])
+attribute-value : (size f n kind : ℕ) (name : List ℕ) (id : ℕ) (value : List ℕ)
+    → AreAttribute size f (part n kind name id (Value value) ∷ [])
 attribute-value size f n kind name id value =
     let a = part n kind name id (Value value) in
     record {
@@ -74,9 +76,10 @@ module _ (p : Plan) (some : 0 < p.size) where
       → AreAttributes f (standard_part f ∷ name_part f parent directory letters ∷ rest)
   of_file f parent directory letters rest one later =
       let all : List Part = standard_part f ∷ name_part f parent directory letters ∷ rest in
-      All-from_recursion (IfNoName f all) all
-      ((λ ne. subst (λ others. AreAttribute p.size f (standard_part f ∷ others)) (sym one) (value f f STANDARD_INFORMATION [] 0 _)),
-      ((λ ne. absurd (ne refl)), later))
+      All-from_recursion (IfNoName f all) all (
+        (λ ne. subst (λ others. AreAttribute p.size f (standard_part f ∷ others)) (sym one) (value f f STANDARD_INFORMATION [] 0 _)),
+        ((λ ne. absurd (ne refl)), later),
+      )
 
   -- the parts behind the standard information and the name
   abbrev behind_name : Option Record → List Part

@@ -45,7 +45,8 @@ module _ (disk : ℕ → List ℕ) (layout : TableLayout) (at count len : ℕ) (
   long : (q s : ℕ) → q * per + s < count → length (disk ((at + q) * per + s)) ≡ 512
   long q s inside = ap length (sector q s inside) ∙ length-map-range_with_len rule (512 * (q * per + s)) 512
 
-  byte_at : (q x : ℕ) → x < 512 * per → 512 * (q * per) + x < len → get_or (cluster_of disk layout (at + q)) x 0 ≡ rule (512 * (q * per) + x)
+  byte_at : (q x : ℕ) → x < 512 * per → 512 * (q * per) + x < len
+      → get_or (cluster_of disk layout (at + q)) x 0 ≡ rule (512 * (q * per) + x)
   unfolding cluster_of
   byte_at q x within inside =
       get_or-pieces (λ s. disk ((at + q) * per + s)) 0 per x (λ s low high. long q s (omega arith)) within

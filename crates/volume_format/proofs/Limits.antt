@@ -1,12 +1,12 @@
 -- The clause on limits holds of a new volume.
-use Rattle.std.proofs.Common.{◌≡◌, ℕ, ◌^◌, ◌≤◌, Option, Some, None, refl, sym, subst, arith}
-use Rattle.std.specs.Prelude.{All, IfSome, IsTrue}
+use Rattle.std.proofs.Common.{ℕ, ◌^◌, ◌≤◌, sym, subst, arith}
+use Rattle.std.specs.Prelude.{All, IsTrue}
 use Rattle.std.specs.List.{AllByRecursion}
 use Rattle.std.proofs.lemmas.Bool.{false≢true}
 use Rattle.std.proofs.lemmas.List.Elements.{All-from_recursion}
 use Rattle.volume_def.specs.Files.{Record, is_base, parts}
 use Rattle.volume_def.specs.LimitsClause.{IsInLimits, MeetsLimits}
-use Rattle.volume_format.specs.Plan.{Plan, bad_part, bits_len, listed, planned, planned_records, record_0, record_1, record_10, record_11, record_2, record_24, record_25, record_3, record_4, record_5, record_6, record_7, record_8, record_9}
+use Rattle.volume_format.specs.Plan.{Plan, bad_part, bits_len, listed, planned, planned_records}
 use Rattle.volume_format.proofs.Bases.{parts-listed}
 use Rattle.volume_format.proofs.EachRecord.{EachRecord, at-listed}
 use Rattle.volume_format.proofs.Listed.{IfSome-from}
@@ -44,5 +44,5 @@ module _ (p : Plan) (few : p.clusters ≤ 2 ^ 26) where
   pub MeetsLimits-planned : (f : ℕ) → MeetsLimits (planned_records p) f
   MeetsLimits-planned f = IfSome-from (listed (planned p) f) (λ r. IsTrue (is_base r) → All (IsInLimits f) (parts (planned_records p) f))
       (λ r is base.
-          subst (All (IsInLimits f)) (sym (parts-listed p f r is))
-          (All-from_recursion (IsInLimits f) r.parts (at-listed AreInLimits p limits f r is)))
+      subst (All (IsInLimits f)) (sym (parts-listed p f r is))
+      (All-from_recursion (IsInLimits f) r.parts (at-listed AreInLimits p limits f r is)))

@@ -27,7 +27,8 @@ not_asked : (view : VolumeView) (f : ℕ) (all some : List Part) → count_by is
     → AllByRecursion (λ part. IsTrue (is_list part) → IsRightList view f all part) some
 not_asked view f all [] none = tt
 not_asked view f all (a ∷ rest) none =
-    let sum : count_by is_list (a ∷ rest) ≡ one_if (is_list a) + count_by is_list rest = sum_by-cons (λ (q : Part). cond (is_list q) 1 0) a rest in
+    let sum : count_by is_list (a ∷ rest) ≡ one_if (is_list a) + count_by is_list rest =
+    sum_by-cons (λ (q : Part). cond (is_list q) 1 0) a rest in
     ((λ t. absurd (omega (arith, none, sum, ap (λ b. one_if b) t))), not_asked view f all rest (omega (arith, none, sum)))
 
 module _ (p : Plan) (view : VolumeView) (is : IsPlanned p view) where
@@ -72,4 +73,4 @@ module _ (p : Plan) (view : VolumeView) (is : IsPlanned p view) where
   MeetsLists-planned f = rw (record_on-planned p view is f)
       (IfSome-from (listed (planned p) f) (λ r. IsTrue (is_base r) → HasRightList view f (parts (records_of view) f))
       (λ r e base.
-          subst (HasRightList view f) (sym (parts-view f r e)) (HasRightList-planned f r (at-listed HasNoList p no-lists f r e))))
+      subst (HasRightList view f) (sym (parts-view f r e)) (HasRightList-planned f r (at-listed HasNoList p no-lists f r e))))

@@ -1,6 +1,6 @@
 -- The names of a new volume: each file has one, in the root or in $Extend.
 use Rattle.std.proofs.Common.{◌≡◌, ◌⊎◌, ℕ, false, List, [], ◌∷◌, Some, None, inl, inr, refl, sym, ap, ◌∙◌}
-use Rattle.std.specs.Prelude.{IfSome, IsTrue, codes}
+use Rattle.std.specs.Prelude.{IsTrue, codes}
 use Rattle.std.proofs.lemmas.Bool.{false≢true}
 use Rattle.ntfs_def.specs.declared.records.TheConstants.{EXTEND, ROOT}
 use Rattle.ntfs_def.specs.FileName.{name_in}
@@ -8,7 +8,7 @@ use Rattle.ntfs_def.specs.Record.{Reference}
 use Rattle.volume_def.specs.FileNames.{names_among, names_of}
 use Rattle.volume_def.specs.Files.{Record}
 use Rattle.volume_def.specs.ReferencesClause.{is_directory}
-use Rattle.volume_format.specs.Plan.{Plan, listed, name_value, planned, planned_records, record_0, record_1, record_10, record_11, record_2, record_24, record_25, record_3, record_4, record_5, record_6, record_7, record_8, record_9}
+use Rattle.volume_format.specs.Plan.{Plan, listed, name_value, planned, planned_records}
 use Rattle.volume_format.proofs.Bases.{parts-listed}
 use Rattle.volume_format.proofs.EachRecord.{EachRecord}
 

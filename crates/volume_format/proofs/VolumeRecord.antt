@@ -66,5 +66,5 @@ module _ (p : Plan) (view : VolumeView) (is : IsPlanned p view) where
 
   pub IsClean-planned : IsClean view
   IsClean-planned =
-      rw (first_value-parts VOLUME VOLUME_INFORMATION (attributes (opened_of (view.block VOLUME))) ∙ ap (value_in VOLUME_INFORMATION) parts-volume)
-      refl
+      let parts = first_value-parts VOLUME VOLUME_INFORMATION (attributes (opened_of (view.block VOLUME))) in
+      rw (parts ∙ ap (value_in VOLUME_INFORMATION) parts-volume) refl

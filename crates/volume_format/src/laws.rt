@@ -1,16 +1,14 @@
 //! Laws with nothing to run: a view of a volume that is that of a new one meets the clauses of the volume definition.
-ghost use Rattle.std.specs.Prelude.{◌≡◌, ◌<◌, ◌≤◌, ◌^◌, ◌*◌, ℕ, List, map};
-ghost use Rattle.std.specs.List.{range_with_len};
+ghost use Rattle.std.specs.Prelude.{◌≡◌, ◌<◌, ◌≤◌, ◌^◌, ◌*◌, ℕ, List};
 ghost use Rattle.volume_def.specs.Blocks.{cluster_of};
 ghost use Rattle.volume_def.specs.BitmapClauses.{cluster_bits, record_bits};
 ghost use Rattle.volume_def.specs.CaseClause.{case_parts, volume_fold};
 ghost use Rattle.volume_def.specs.Sound.{Attributes, CaseTable, ClusterBits, Extents, Limits, Links, Lists, Mirror, MirrorPlace, Owners, RecordBits, References, Shape, Version};
 ghost use Rattle.volume_def.specs.Table.{TableLayout, cluster_bytes};
-ghost use Rattle.volume_def.specs.Values.{value_on};
 ghost use Rattle.volume_def.specs.VersionClause.{IsClean};
 ghost use Rattle.volume_format.specs.FitsPlan.{FitsPlan, IsClusterSize};
 ghost use Rattle.volume_format.specs.Items.{HoldsItem, StandsAt, case_byte, case_of, log_byte, ones_byte, record_bits_byte, security_byte};
-ghost use Rattle.volume_format.specs.NewVolume.{HoldsOfNew, OfNewVolumes, OwnsItems, log_parts, security_parts};
+ghost use Rattle.volume_format.specs.NewVolume.{HoldsBytes, HoldsOfNew, OfNewVolumes, OwnsItems, log_parts, security_parts};
 ghost use Rattle.volume_format.specs.Options.{AreInRange, Options, clusters_in, plan_of};
 ghost use Rattle.volume_format.specs.Plan.{Plan, bits_len, case_len, items_end, log_len, security_len, table_bits_len};
 
@@ -44,11 +42,11 @@ pub fn plan_laws()
 /// its security descriptors are the bytes that the plan says, and units are compared as it says.
 pub fn content_laws()
     ensures owned { OfNewVolumes OwnsItems }
-    ensures cluster_bits { OfNewVolumes (λ p view. value_on view (cluster_bits view) ≡ map (ones_byte (items_end p)) (range_with_len 0 (bits_len p))) }
-    ensures record_bits { OfNewVolumes (λ p view. value_on view (record_bits view) ≡ map record_bits_byte (range_with_len 0 table_bits_len)) }
-    ensures case_table { OfNewVolumes (λ p view. value_on view (case_parts view) ≡ map case_byte (range_with_len 0 case_len)) }
-    ensures log { OfNewVolumes (λ p view. value_on view (log_parts view) ≡ map log_byte (range_with_len 0 log_len)) }
-    ensures security { OfNewVolumes (λ p view. value_on view (security_parts view) ≡ map security_byte (range_with_len 0 security_len)) }
+    ensures cluster_bits { OfNewVolumes (λ p view. HoldsBytes view (cluster_bits view) (bits_len p) (ones_byte (items_end p))) }
+    ensures record_bits { OfNewVolumes (λ p view. HoldsBytes view (record_bits view) table_bits_len record_bits_byte) }
+    ensures case_table { OfNewVolumes (λ p view. HoldsBytes view (case_parts view) case_len case_byte) }
+    ensures log { OfNewVolumes (λ p view. HoldsBytes view (log_parts view) log_len log_byte) }
+    ensures security { OfNewVolumes (λ p view. HoldsBytes view (security_parts view) security_len security_byte) }
     ensures fold { OfNewVolumes (λ p view. (unit : ℕ) → unit < 2 ^ 16 → volume_fold view unit ≡ case_of unit) }
 {}
 
