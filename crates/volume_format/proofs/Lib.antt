@@ -1,0 +1,3 @@
+mod IndexItems
+mod IndexNodes
+mod IndexOrder
