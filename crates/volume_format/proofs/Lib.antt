@@ -1,3 +1,4 @@
 mod IndexItems
 mod IndexNodes
 mod IndexOrder
+mod CaseFold
