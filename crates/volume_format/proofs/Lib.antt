@@ -7,3 +7,4 @@ mod IndexNodes
 mod IndexOrder
 mod CaseFold
 mod RootRecord
+mod IndexLinks
