@@ -8,3 +8,4 @@ mod IndexOrder
 mod CaseFold
 mod RootRecord
 mod IndexLinks
+mod IndexTrees
