@@ -2,6 +2,8 @@ pub mod Listed
 pub mod PartsOf
 pub mod Bases
 pub mod Records
+pub mod Attributes
+pub mod Extents
 mod IndexItems
 mod IndexNodes
 mod IndexOrder
@@ -9,3 +11,4 @@ mod CaseFold
 mod RootRecord
 mod IndexLinks
 mod IndexTrees
+mod ViewIndexes
