@@ -24,11 +24,11 @@ leaf-stored : (nodes : Nodes) (items : List Item) → AreStored nodes 0 (leaf_sp
 leaf-stored nodes [] = tt
 leaf-stored nodes (item ∷ items) = (tt, leaf-stored nodes items)
 
-leaf-times : (place : ℕ) (items : List Item) → spread_times place 0 (leaf_spread items) ≡ 0
+pub leaf-times : (place : ℕ) (items : List Item) → spread_times place 0 (leaf_spread items) ≡ 0
 leaf-times place [] = refl
 leaf-times place (item ∷ items) = let e = leaf-times place items in omega arith
 
-leaf-walk : (items : List Item) → items ≡ spread_items 0 (leaf_spread items)
+pub leaf-walk : (items : List Item) → items ≡ spread_items 0 (leaf_spread items)
 leaf-walk [] = refl
 leaf-walk (item ∷ items) = ap (λ rest. item ∷ rest) (leaf-walk items)
 
@@ -73,7 +73,7 @@ pub root-walk : root_items ≡ spread_items 1 root_spread
 root-walk = refl
 
 -- An index whose only part is the value of its root, which is a node without children.
-pub HasIndex-leaf : (form : NodeForm) (rule : KeyRule) (view : VolumeView) (index : IndexParts) (value : List ℕ) (items : List Item)
+unfoldable pub HasIndex-leaf : (form : NodeForm) (rule : KeyRule) (view : VolumeView) (index : IndexParts) (value : List ℕ) (items : List Item)
     → map (λ part. content_value part.content) index.root ≡ Some value ∷ [] → index.records ≡ [] → index.bits ≡ []
     → u32_at value 0x04 ≡ rule.collation → u32_at value 0x08 ≡ INDEX_RECORD → short_node form value ≡ Some (leaf items)
     → All (λ item. IsTrue (rule.valid item.key)) items → Ascends rule.order items → HasIndex form rule view index items

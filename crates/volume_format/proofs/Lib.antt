@@ -4,6 +4,9 @@ pub mod Bases
 pub mod Records
 pub mod Attributes
 pub mod Extents
+pub mod Needed
+pub mod Values
+pub mod Contents
 mod IndexItems
 mod IndexNodes
 mod IndexOrder
@@ -12,3 +15,4 @@ mod RootRecord
 mod IndexLinks
 mod IndexTrees
 mod ViewIndexes
+mod Directories
