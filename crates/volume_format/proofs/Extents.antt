@@ -10,6 +10,7 @@ use Rattle.ntfs_def.specs.Attribute.{ExtentHeader}
 use Rattle.volume_def.specs.ExtentsClause.{AreAttribute, FitExtents, MeetsExtents, all_covered, has_sizes, last_vcn_of}
 use Rattle.volume_def.specs.Files.{Clusters, Content, Part, Record, Records, Value, content_extent, is_base, parts, parts_like}
 use Rattle.volume_format.specs.Plan.{Plan, bad_part, extent_for, listed, name_part, needed, part, planned, planned_records, record_0, record_1, record_10, record_11, record_2, record_24, record_25, record_3, record_4, record_5, record_6, record_7, record_8, record_9, standard_part, stream_part}
+use Rattle.volume_format.proofs.Needed.{needed-covers}
 use Rattle.volume_format.proofs.Listed.{EachFrom, EachFrom-listed}
 use Rattle.volume_format.proofs.Bases.{parts-listed}
 use Rattle.volume_format.proofs.PartsOf.{parts_or_none}
@@ -43,21 +44,13 @@ attribute-run size f a extent run is first last sizes = record {
       (subst (λ k. SizesIf size f k a) (rw is (omega arith)) sizes, tt);
 }
 
--- the clusters for so many bytes hold them
-pub needed-covers : (p : Plan) (bytes : ℕ) → 0 < p.size → bytes ≤ needed p bytes * p.size
-needed-covers p bytes some =
-    let x : ℕ = bytes + (p.size - 1) in
-    let rest : x % p.size < p.size = omega arith in
-    let sum : p.size * (x / p.size) + x % p.size ≡ x = omega arith in
-    omega arith
-
 module _ (p : Plan) (some : 0 < p.size) where
   -- a stream of the plan
   attribute-stream : (f n kind : ℕ) (name : List ℕ) (id at bytes : ℕ) → AreAttribute p.size f (stream_part p n kind name id at bytes ∷ [])
   attribute-stream f n kind name id at bytes =
       attribute-run p.size f (stream_part p n kind name id at bytes) (extent_for p bytes) (record { len = needed p bytes; lcn = Some at })
       refl refl refl
-      (λ t e. record { initialized = omega arith; real = needed-covers p bytes some; allocated = λ u. refl })
+      (λ t e. record { initialized = omega arith; real = needed-covers p some bytes; allocated = λ u. refl })
 
   -- the sizes of $Bad are not judged
   attribute-bad : AreAttribute p.size 8 (bad_part p ∷ [])

@@ -3,10 +3,13 @@ pub mod PartsOf
 pub mod Bases
 pub mod Records
 pub mod Attributes
-pub mod Extents
 pub mod Needed
+pub mod Extents
+pub mod Owners
 pub mod Values
 pub mod Contents
+pub mod ClusterBits
+pub mod RecordBits
 mod IndexItems
 mod IndexNodes
 mod IndexOrder
@@ -16,3 +19,4 @@ mod IndexLinks
 mod IndexTrees
 mod ViewIndexes
 mod Directories
+mod IndexesClause
