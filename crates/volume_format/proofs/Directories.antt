@@ -1,6 +1,6 @@
 -- The directories of a new volume: the root, whose names stand in one index record, and $Extend, whose names stand in its root.
-use Rattle.std.proofs.Common.{◌≡◌, ℕ, ◌+◌, ◌*◌, ◌<◌, ◌≤◌, List, [], ◌∷◌, filter, inl, inr, map, Some, refl, sym, ap, subst, ◌∙◌, arith}
-use Rattle.std.specs.Prelude.{All, IsTrue, false, replicate, slice_index}
+use Rattle.std.proofs.Common.{◌≡◌, ℕ, ◌+◌, ◌*◌, ◌<◌, [], ◌∷◌, filter, inl, inr, map, Some, refl, sym, ap, subst, ◌∙◌, arith}
+use Rattle.std.specs.Prelude.{IsTrue, replicate, slice_index}
 use Rattle.std.specs.List.{range_with_len}
 use Rattle.std.proofs.Math.Nat.{mul-le-mul_left}
 use Rattle.std.proofs.lemmas.Bool.{cases_lt}
@@ -15,8 +15,8 @@ use Rattle.ntfs_def.specs.Fixup.{opened_of}
 use Rattle.ntfs_def.specs.Node.{Item, short_node}
 use Rattle.volume_def.specs.CaseClause.{case_parts, volume_fold}
 use Rattle.volume_def.specs.FileNames.{is_in_directory, links}
-use Rattle.volume_def.specs.Files.{Part, Value, content_value}
-use Rattle.volume_def.specs.IndexesClause.{HasIndex, IndexParts, IsDirectoryIndex, IsRecordAt, index_nodes, index_parts, name_rule, stored_record}
+use Rattle.volume_def.specs.Files.{Value, content_value}
+use Rattle.volume_def.specs.IndexesClause.{HasIndex, IndexParts, IsDirectoryIndex, IsRecordAt, index_nodes, index_parts, name_rule}
 use Rattle.volume_def.specs.SameItems.{SameItems}
 use Rattle.volume_def.specs.Table.{cluster_bytes}
 use Rattle.volume_def.specs.Values.{spot_at, value_of_parts, value_on}

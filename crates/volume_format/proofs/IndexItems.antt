@@ -1,7 +1,7 @@
 -- The items of a new volume's indexes, and the trees that hold them.
-use Rattle.std.specs.Prelude.{ℕ, List, [], ◌∷◌, ◌++◌, codes, map, length, Option, None, Some}
+use Rattle.std.specs.Prelude.{ℕ, List, [], ◌∷◌, ◌++◌, codes, map, length, None, Some}
 use Rattle.ntfs_def.specs.Node.{Entry, Item, Node}
-use Rattle.ntfs_def.specs.IndexTree.{Branch, Spread, Tree, Vertex}
+use Rattle.ntfs_def.specs.IndexTree.{Branch, Spread, Tree}
 use Rattle.volume_format.specs.Plan.{descriptor_hash, descriptor_header, descriptor_id, fill_to_8, name_value, reference_bytes}
 
 -- a directory's entry of a name

@@ -1,5 +1,5 @@
 -- What the root nodes of a new volume's indexes say, byte for byte.
-use Rattle.std.proofs.Common.{◌≡◌, ℕ, List, [], ◌∷◌, ◌++◌, Some, refl}
+use Rattle.std.proofs.Common.{◌≡◌, [], ◌++◌, Some, refl}
 use Rattle.std.specs.Prelude.{false}
 use Rattle.ntfs_def.specs.declared.index.NodeForm.TheVariants.{Names, View}
 use Rattle.ntfs_def.specs.Node.{are_short, child_at, is_entry, is_last_entry, item_at, node_header, scan_node, short_node}

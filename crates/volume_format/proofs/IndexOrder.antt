@@ -1,10 +1,9 @@
 -- The names in a new volume's directories ascend, by each folding that agrees with the table of case on ASCII.
-use Rattle.std.proofs.Common.{◌≡◌, ℕ, ◌<◌, Bool, true, List, [], ◌∷◌, map, inl, inr, refl, ap, ◌∙◌}
+use Rattle.std.proofs.Common.{◌≡◌, ℕ, ◌<◌, true, List, [], ◌∷◌, map, inl, inr, refl, ap, ◌∙◌}
 use Rattle.std.specs.Prelude.{nat_lt}
 use Rattle.std.specs.List.{AllByRecursion, list_all}
 use Rattle.std.specs.Ordering.{then_cmp}
 use Rattle.std.proofs.lemmas.Bool.{cases_Bool, false≢true, ltb-true}
-use Rattle.std.specs.declared.cmp.Ordering.{Ordering}
 use Rattle.std.specs.declared.cmp.Ordering.TheVariants.{Less}
 use Rattle.ntfs_def.specs.FileName.{key_units}
 use Rattle.ntfs_def.specs.IndexTree.{Ascends, Each}

@@ -1,15 +1,14 @@
 -- A root node without children holds its items, and a root node above one record those of the record.
-use Rattle.std.proofs.Common.{◌≡◌, ℕ, zero, suc, ◌+◌, ◌<◌, ◌≤◌, ◌==◌, Bool, true, false, cond, List, [], ◌∷◌, ◌++◌, map, Option, Some, None, inl, inr, refl, sym, ap, subst, ◌∙◌, arith}
+use Rattle.std.proofs.Common.{◌≡◌, ℕ, ◌+◌, ◌≤◌, ◌==◌, Bool, true, false, cond, List, [], ◌∷◌, map, Some, None, inl, inr, refl, sym, ap, ◌∙◌, arith}
 use Rattle.std.specs.Prelude.{All, IsTrue}
-use Rattle.std.proofs.lemmas.Bool.{cases_eq}
-use Rattle.std.proofs.lemmas.Bool.Decides.{nat_tests}
+use Rattle.std.proofs.lemmas.Bool.{cases_eq, ne_eqb}
 use Rattle.vol_bytes.specs.Field.{u32_at}
 use Rattle.ntfs_def.specs.declared.index.NodeForm.{NodeForm}
 use Rattle.ntfs_def.specs.declared.lengths.TheConstants.{INDEX_RECORD}
-use Rattle.ntfs_def.specs.IndexTree.{AreStored, Ascends, HoldsIndex, IsStored, EachBelow, Nodes, branch_items, branch_times, entry_of, items_of, node_of, one_if, spread_items, spread_times, times_in}
+use Rattle.ntfs_def.specs.IndexTree.{AreStored, Ascends, HoldsIndex, Nodes, entry_of, node_of, one_if, spread_items, spread_times}
 use Rattle.ntfs_def.specs.Node.{Entry, Item, Node, short_node}
-use Rattle.volume_def.specs.Files.{Part, content_value}
-use Rattle.volume_def.specs.IndexesClause.{HasIndex, IndexParts, IsRecordAt, KeyRule, index_nodes}
+use Rattle.volume_def.specs.Files.{content_value}
+use Rattle.volume_def.specs.IndexesClause.{HasIndex, IndexParts, KeyRule, index_nodes}
 use Rattle.volume_def.specs.View.{VolumeView}
 use Rattle.volume_format.proofs.IndexItems.{above, leaf, leaf_branch, leaf_entry, leaf_spread, root_items, root_spread}
 
@@ -61,9 +60,7 @@ root-holds nodes is = record {
 pub root-only : (place : ℕ) → 1 ≤ spread_times place 1 root_spread → place ≡ 0
 root-only place some = elim (cases_eq place 0) [
   | inl e ↦ e
-  | inr ne ↦
-      let t : (place == 0) ≡ false = grind (arith, nat_tests) in
-      absurd (omega (arith, some, root-times place, leaf-times place root_items, ap (λ b. if_so b) t))
+  | inr ne ↦ absurd (omega (arith, some, root-times place, leaf-times place root_items, ap (λ b. if_so b) (ne_eqb place 0 ne)))
 ]
   where
     if_so : Bool → ℕ

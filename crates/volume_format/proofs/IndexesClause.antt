@@ -1,27 +1,23 @@
 -- The clause on indexes holds of a new volume.
-use Rattle.std.proofs.Common.{◌≡◌, ◌≢◌, ℕ, ◌+◌, ◌<◌, ◌≤◌, ◌==◌, Bool, true, false, cond, List, [], ◌∷◌, Option, Some, None, inl, inr, refl, sym, ap, subst, ◌∙◌, arith}
+use Rattle.std.proofs.Common.{◌≡◌, ℕ, ◌<◌, ◌≤◌, ◌==◌, Bool, cond, List, Option, Some, None, inl, inr, refl, sym, ap, subst, ◌∙◌, arith}
 use Rattle.std.specs.Prelude.{◌||◌, IfSome, IsTrue, codes, count_by}
-use Rattle.std.proofs.lemmas.Bool.{cases_eq, cases_lt, false≢true}
-use Rattle.std.proofs.lemmas.Bool.Decides.{nat_tests}
-use Rattle.ntfs_def.specs.declared.records.TheConstants.{EXTEND, FIRST_ORDINARY, ROOT, SECURE}
-use Rattle.ntfs_def.specs.FileName.{FileName, name_in}
+use Rattle.std.proofs.lemmas.Bool.{cases_eq, false≢true, ne_eqb}
+use Rattle.ntfs_def.specs.declared.records.TheConstants.{EXTEND, ROOT}
+use Rattle.ntfs_def.specs.FileName.{name_in}
 use Rattle.ntfs_def.specs.Units.{units_at}
-use Rattle.volume_def.specs.FileNames.{names_among, names_of}
-use Rattle.volume_def.specs.Files.{Record, is_base, record_on, records_of}
+use Rattle.volume_def.specs.FileNames.{names_among}
+use Rattle.volume_def.specs.Files.{Record, is_base}
 use Rattle.volume_def.specs.IndexesClause.{IsDirectoryIndex, MeetsIndexes, MeetsViewIndex, StandsInExtend, hash_rule, id_rule, is_in_extend, word_rule}
 use Rattle.volume_def.specs.ReferencesClause.{is_directory}
 use Rattle.volume_def.specs.View.{VolumeView}
-use Rattle.volume_format.specs.Plan.{Plan, listed, planned, planned_records, record_count}
+use Rattle.volume_format.specs.Plan.{Plan, listed, planned}
 use Rattle.volume_format.specs.Planned.{IsPlanned}
 use Rattle.volume_format.proofs.Directories.{IsDirectoryIndex-extend, IsDirectoryIndex-root}
 use Rattle.volume_format.proofs.IndexLinks.{names-shown}
-use Rattle.volume_format.proofs.Listed.{EachFrom, EachFrom-listed, listed-past}
+use Rattle.volume_format.proofs.Listed.{EachFrom, EachFrom-listed}
 use Rattle.volume_format.proofs.PartsOf.{parts_or_none}
-use Rattle.volume_format.proofs.Records.{record_on-planned, records_of-planned}
+use Rattle.volume_format.proofs.Records.{record_on-planned}
 use Rattle.volume_format.proofs.ViewIndexes.{object_ids, reparse_points, security_hashes, security_ids}
-
-unlike : (n m : ℕ) → n ≢ m → (n == m) ≡ false
-unlike n m ne = grind (arith, nat_tests)
 
 -- the root and $Extend are the directories
 abbrev IsNamedDirectory : ℕ → Record → Type 0
@@ -53,7 +49,7 @@ only-by : (units : List ℕ) (at f : ℕ) (o : Option Record) → IfSome o (IsOn
 only-by units at f None only named = absurd (omega (arith, named))
 only-by units at f (Some r) only named = elim (cases_eq f at) [
   | inl e ↦ e
-  | inr ne ↦ absurd (omega (arith, named, only, ap (λ b. if_so b) (unlike f at ne)))
+  | inr ne ↦ absurd (omega (arith, named, only, ap (λ b. if_so b) (ne_eqb f at ne)))
 ]
   where
     if_so : Bool → ℕ
@@ -73,7 +69,7 @@ module _ (p : Plan) (view : VolumeView) (is : IsPlanned p view) where
     | inr no_root ↦ elim (cases_eq f EXTEND) [
       | inl extend ↦ subst (IsDirectoryIndex view) (sym extend) (IsDirectoryIndex-extend p view is some)
       | inr no_extend ↦
-          absurd (false≢true (sym (named ∙ ap (λ root. root || (f == EXTEND)) (unlike f ROOT no_root) ∙ unlike f EXTEND no_extend) ∙ directory))
+          absurd (false≢true (sym (named ∙ ap (λ root. root || (f == EXTEND)) (ne_eqb f ROOT no_root) ∙ ne_eqb f EXTEND no_extend) ∙ directory))
     ]
   ]
 
@@ -81,10 +77,10 @@ module _ (p : Plan) (view : VolumeView) (is : IsPlanned p view) where
   MeetsIndexes-planned some f = record {
     directory = rw (record_on-planned p view is f)
         (directory-by some f (listed (planned p) f) (EachFrom-listed IsNamedDirectory 0 (planned p) (directories p) f f (omega arith)));
-    security_ids = λ e. subst (λ n. MeetsViewIndex view n (codes "$SII") id_rule) (sym e) (λ there. security_ids p view is);
-    security_hashes = λ e. subst (λ n. MeetsViewIndex view n (codes "$SDH") hash_rule) (sym e) (λ there. security_hashes p view is);
+    security_ids = λ e. subst (λ n. MeetsViewIndex view n (codes "$SII") id_rule) (sym e) (λ there. record { items = _; has = security_ids p view is });
+    security_hashes = λ e. subst (λ n. MeetsViewIndex view n (codes "$SDH") hash_rule) (sym e) (λ there. record { items = _; has = security_hashes p view is });
     reparse_points = λ stands. subst (λ n. MeetsViewIndex view n (codes "$R") word_rule)
-        (sym (only-planned (codes "$Reparse") 25 (only-reparse_points p) f stands)) (λ there. reparse_points p view is);
+        (sym (only-planned (codes "$Reparse") 25 (only-reparse_points p) f stands)) (λ there. record { items = _; has = reparse_points p view is });
     object_ids = λ stands. subst (λ n. MeetsViewIndex view n (codes "$O") word_rule)
-        (sym (only-planned (codes "$ObjId") 24 (only-object_ids p) f stands)) (λ there. object_ids p view is);
+        (sym (only-planned (codes "$ObjId") 24 (only-object_ids p) f stands)) (λ there. record { items = _; has = object_ids p view is });
   }

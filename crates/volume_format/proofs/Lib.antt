@@ -10,6 +10,9 @@ pub mod Values
 pub mod Contents
 pub mod ClusterBits
 pub mod RecordBits
+pub mod Names
+pub mod References
+pub mod Links
 mod IndexItems
 mod IndexNodes
 mod IndexOrder
