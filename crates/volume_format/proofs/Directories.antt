@@ -26,7 +26,8 @@ use Rattle.volume_format.specs.Plan.{Plan, extend_entries, index_name, last_abov
 use Rattle.volume_format.specs.Planned.{IsPlanned}
 use Rattle.volume_format.proofs.CaseFold.{fold-case}
 use Rattle.volume_format.proofs.Contents.{case_parts-value, value_on-stream}
-use Rattle.volume_format.proofs.IndexItems.{above, extend_items, leaf, root_items, root_spread}
+use Rattle.volume_format.specs.SystemItems.{extend_items, root_items}
+use Rattle.volume_format.proofs.Leaves.{above, leaf, root_spread}
 use Rattle.volume_format.proofs.IndexLinks.{extend-names, root-names}
 use Rattle.volume_format.proofs.IndexNodes.{extend-says, root-record, root-says}
 use Rattle.volume_format.proofs.IndexOrder.{AgreeOnAscii, extend-by, root-by}

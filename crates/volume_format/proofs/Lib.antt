@@ -13,7 +13,7 @@ pub mod RecordBits
 pub mod Names
 pub mod References
 pub mod Links
-mod IndexItems
+mod Leaves
 mod IndexNodes
 mod IndexOrder
 mod CaseFold

@@ -1,5 +1,6 @@
 //! New volumes.
 #![tactic(auto)]
 
-/// Stands here until there is more.
-pub fn nothing() {}
+mod index_laws;
+
+pub use index_laws::planned_indexes;
