@@ -4,7 +4,6 @@ use Rattle.std.specs.Prelude.{IsTrue, replicate, slice_index}
 use Rattle.std.specs.List.{range_with_len}
 use Rattle.std.proofs.Math.Nat.{mul-le-mul_left}
 use Rattle.std.proofs.lemmas.Bool.{cases_lt}
-use Rattle.std.proofs.lemmas.List.Elements.{All-from_recursion}
 use Rattle.ntfs_def.specs.declared.index.NodeForm.TheVariants.{Names}
 use Rattle.ntfs_def.specs.declared.kinds.TheConstants.{BITMAP, INDEX_ALLOCATION, INDEX_ROOT}
 use Rattle.ntfs_def.specs.declared.records.TheConstants.{EXTEND, ROOT}
@@ -35,6 +34,7 @@ use Rattle.volume_format.proofs.IndexTrees.{HasIndex-leaf, root-holds, root-only
 use Rattle.volume_format.proofs.Needed.{needed-covers}
 use Rattle.volume_format.proofs.Records.{parts_at-planned, records_of-planned}
 use Rattle.volume_format.proofs.RootRecord.{IsRecordAt-root, stored-is}
+use Rattle.volume_format.proofs.Tested.{All-tested}
 use Rattle.volume_format.proofs.Values.{spot-stream}
 
 module _ (p : Plan) (view : VolumeView) (is : IsPlanned p view) (some : 0 < p.size) where
@@ -51,7 +51,7 @@ module _ (p : Plan) (view : VolumeView) (is : IsPlanned p view) (some : 0 < p.si
         index = HasIndex-leaf Names (name_rule view) view (index_parts view EXTEND index_name) (root_value p 0x30 1 0 extend_entries) extend_items
             (ap (map (λ part. content_value part.content)) (has INDEX_ROOT)) (has INDEX_ALLOCATION) (has BITMAP)
             refl refl (extend-says p)
-            (All-from_recursion (λ (item : Item). IsTrue (is_name_key item.key)) extend_items (refl, (refl, tt)))
+            (All-tested (λ (item : Item). is_name_key item.key) extend_items refl)
             (extend-by (volume_fold view) fold-planned);
         kind = refl;
         names = subst (λ records. SameItems (map link_of extend_items) (filter (is_in_directory EXTEND) (links records)))
@@ -121,8 +121,7 @@ module _ (p : Plan) (view : VolumeView) (is : IsPlanned p view) (some : 0 < p.si
     each = λ vcn times. subst (IsRecordAt view root) (sym (root-only vcn times))
         (IsRecordAt-root view root is.root.stored is.root.is root-value (node_at p) root-placed root-bit);
     walk = root-walk;
-    keys = All-from_recursion (λ (item : Item). IsTrue (is_name_key item.key)) root_items
-        (refl, (refl, (refl, (refl, (refl, (refl, (refl, (refl, (refl, (refl, (refl, (refl, tt))))))))))));
+    keys = All-tested (λ (item : Item). is_name_key item.key) root_items refl;
     ascending = root-by (volume_fold view) fold-planned;
   }
 

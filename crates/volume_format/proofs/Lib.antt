@@ -13,6 +13,7 @@ pub mod RecordBits
 pub mod Names
 pub mod References
 pub mod Links
+mod Tested
 mod Leaves
 mod IndexNodes
 mod IndexOrder

@@ -21,7 +21,7 @@ bytes-by-place : (bytes : List ℕ) → map (slice_index bytes) (range_with_len 
 bytes-by-place bytes =
     same_number_lists _ _ (length-map-range_with_len (slice_index bytes) 0 (length bytes))
     (λ i lt. get_or-map-range_with_len (slice_index bytes) 0 (length bytes) i i 0
-        (omega (arith, lt, length-map-range_with_len (slice_index bytes) 0 (length bytes))) (omega arith))
+    (omega (arith, lt, length-map-range_with_len (slice_index bytes) 0 (length bytes))) (omega arith))
 
 at-not-hole : (c : ℕ) → At c ≢ Hole
 at-not-hole c e = cc

@@ -1,8 +1,7 @@
 -- The view indexes of a new volume: of security descriptors by their ids and hashes, of object ids and of reparse points.
-use Rattle.std.proofs.Common.{◌≡◌, ℕ, ◌<◌, List, [], ◌∷◌, ◌++◌, filter, map, refl, ap, ◌∙◌, arith, Some}
+use Rattle.std.proofs.Common.{◌≡◌, ℕ, ◌<◌, List, [], ◌∷◌, ◌++◌, filter, map, refl, ap, ◌∙◌, arith, Some, true}
 use Rattle.std.specs.Prelude.{IsTrue, codes}
-use Rattle.std.specs.List.{AllByRecursion}
-use Rattle.std.proofs.lemmas.List.Elements.{All-from_recursion}
+use Rattle.std.specs.List.{list_all}
 use Rattle.vol_bytes.specs.Field.{u32_at}
 use Rattle.ntfs_def.specs.declared.index.NodeForm.TheVariants.{View}
 use Rattle.ntfs_def.specs.declared.kinds.TheConstants.{BITMAP, INDEX_ALLOCATION, INDEX_ROOT}
@@ -22,6 +21,7 @@ use Rattle.volume_format.proofs.IndexNodes.{hashes-say, ids-say, words-say}
 use Rattle.volume_format.proofs.IndexTrees.{HasIndex-leaf}
 use Rattle.volume_format.proofs.PartsOf.{parts_or_none}
 use Rattle.volume_format.proofs.Records.{parts_at-planned}
+use Rattle.volume_format.proofs.Tested.{All-tested}
 
 module _ (p : Plan) (view : VolumeView) (is : IsPlanned p view) where
   -- A view index of a file, whose only part is a root without children.
@@ -30,28 +30,28 @@ module _ (p : Plan) (view : VolumeView) (is : IsPlanned p view) where
       → filter (is_of INDEX_ALLOCATION name) (parts_or_none (listed (planned p) f)) ≡ []
       → filter (is_of BITMAP name) (parts_or_none (listed (planned p) f)) ≡ []
       → u32_at value 0x04 ≡ rule.collation → u32_at value 0x08 ≡ INDEX_RECORD → short_node View value ≡ Some (leaf items)
-      → AllByRecursion (λ item. IsTrue (rule.valid item.key)) items → Ascends rule.order items
+      → list_all (λ item. rule.valid item.key) items ≡ true → Ascends rule.order items
       → HasIndex View rule view (index_parts view f name) items
   leaf-index rule f name value items inside root records bits collation size says keys ascending =
       let has = λ (kind : ℕ). parts_at-planned p view is f kind name inside in
       HasIndex-leaf View rule view (index_parts view f name) value items
       (ap (map (λ part. content_value part.content)) (has INDEX_ROOT) ∙ root) (has INDEX_ALLOCATION ∙ records) (has BITMAP ∙ bits)
-      collation size says (All-from_recursion (λ (item : Item). IsTrue (rule.valid item.key)) items keys) ascending
+      collation size says (All-tested (λ (item : Item). rule.valid item.key) items keys) ascending
 
   pub security_ids : HasIndex View id_rule view (index_parts view SECURE (wide (codes "$SII"))) id_items
   security_ids = leaf-index id_rule SECURE (wide (codes "$SII"))
       (root_value p 0 0x10 0 (view_entry descriptor_id descriptor_header ++ last_entry)) id_items
-      (omega arith) refl refl refl refl refl (ids-say p) (refl, tt) (tt, tt)
+      (omega arith) refl refl refl refl refl (ids-say p) refl (tt, tt)
 
   pub security_hashes : HasIndex View hash_rule view (index_parts view SECURE (wide (codes "$SDH"))) hash_items
   security_hashes = leaf-index hash_rule SECURE (wide (codes "$SDH"))
       (root_value p 0 0x12 0 (view_entry (descriptor_hash ++ descriptor_id) descriptor_header ++ last_entry)) hash_items
-      (omega arith) refl refl refl refl refl (hashes-say p) (refl, tt) (tt, tt)
+      (omega arith) refl refl refl refl refl (hashes-say p) refl (tt, tt)
 
   pub object_ids : HasIndex View word_rule view (index_parts view 24 (wide (codes "$O"))) []
   object_ids = leaf-index word_rule 24 (wide (codes "$O")) (root_value p 0 0x13 0 last_entry) []
-      (omega arith) refl refl refl refl refl (words-say p) tt tt
+      (omega arith) refl refl refl refl refl (words-say p) refl tt
 
   pub reparse_points : HasIndex View word_rule view (index_parts view 25 (wide (codes "$R"))) []
   reparse_points = leaf-index word_rule 25 (wide (codes "$R")) (root_value p 0 0x13 0 last_entry) []
-      (omega arith) refl refl refl refl refl (words-say p) tt tt
+      (omega arith) refl refl refl refl refl (words-say p) refl tt
