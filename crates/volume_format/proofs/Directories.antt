@@ -23,8 +23,8 @@ use Rattle.volume_def.specs.View.{VolumeView}
 use Rattle.volume_format.specs.Items.{case_of}
 use Rattle.volume_format.specs.Plan.{Plan, extend_entries, index_name, last_above, needed, node_at, node_len, part, root_value, stream_part}
 use Rattle.volume_format.specs.Planned.{IsPlanned}
-use Rattle.volume_format.proofs.CaseFold.{fold-case}
-use Rattle.volume_format.proofs.Contents.{case_parts-value, value_on-stream}
+use Rattle.volume_format.proofs.CaseTable.{volume_fold-planned}
+use Rattle.volume_format.proofs.Contents.{value_on-stream}
 use Rattle.volume_format.specs.SystemItems.{extend_items, root_items}
 use Rattle.volume_format.proofs.Leaves.{above, leaf, root_spread}
 use Rattle.volume_format.proofs.IndexLinks.{extend-names, root-names}
@@ -40,7 +40,7 @@ use Rattle.volume_format.proofs.Values.{spot-stream}
 module _ (p : Plan) (view : VolumeView) (is : IsPlanned p view) (some : 0 < p.size) where
   -- the volume's own table of case
   fold-planned : AgreeOnAscii (volume_fold view) case_of
-  fold-planned unit small = fold-case (value_on view (case_parts view)) (case_parts-value p view is some) unit (omega arith)
+  fold-planned unit small = volume_fold-planned p view is some unit (omega arith)
 
   pub IsDirectoryIndex-extend : IsDirectoryIndex view EXTEND
   unfolding HasIndex-leaf

@@ -13,11 +13,20 @@ pub mod RecordBits
 pub mod Names
 pub mod References
 pub mod Links
+pub mod Shape
+pub mod CaseTable
+pub mod MirrorPlace
+pub mod Lists
+pub mod Limits
+pub mod Fits
+pub mod VolumeRecord
+pub mod AttributeParts
+pub mod Version
+pub mod NewVolumes
 mod Tested
 mod Leaves
 mod IndexNodes
 mod IndexOrder
-mod CaseFold
 mod RootRecord
 mod IndexLinks
 mod IndexTrees

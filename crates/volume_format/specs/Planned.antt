@@ -1,6 +1,8 @@
 -- A view of a volume is that of a new one.
-use Rattle.std.specs.Prelude.{◌≡◌, ℕ, ◌<◌, List, length, slice_index, Some, IsTrue, false, [], ◌∷◌}
+use Rattle.std.specs.Prelude.{◌≡◌, ℕ, ◌%◌, ◌<◌, false, List, [], ◌∷◌, length, slice_index, All, Some, IsTrue}
 use Rattle.ntfs_def.specs.declared.index.NodeForm.TheVariants.{Names}
+use Rattle.ntfs_def.specs.declared.records.TheConstants.{VOLUME}
+use Rattle.ntfs_def.specs.Attribute.{Attribute, attributes, value_offset}
 use Rattle.ntfs_def.specs.Fixup.{IsSealed, opened_of}
 use Rattle.ntfs_def.specs.Node.{own_vcn, short_node}
 use Rattle.ntfs_def.specs.Record.{is_in_use}
@@ -25,6 +27,10 @@ pub record HoldsRootRecord (cluster : ℕ → List ℕ) (size at : ℕ) : Type 0
   pub is : IsRootRecord stored
   pub held : HoldsItem cluster size at node_len (slice_index stored)
 
+-- The values of these attributes begin at multiples of 8, counted from where each attribute begins.
+abbrev pub AreAligned : List Attribute → Type 0
+AreAligned all = All (λ attribute. value_offset attribute.bytes 0 % 8 ≡ 0) all
+
 pub record IsPlanned (p : Plan) (view : VolumeView) : Type 0 where
   pub size : cluster_bytes view.layout ≡ p.size
   pub clusters : view.layout.clusters ≡ p.clusters
@@ -33,6 +39,8 @@ pub record IsPlanned (p : Plan) (view : VolumeView) : Type 0 where
   pub count : view.layout.count ≡ record_count
   pub records : (n : ℕ) → n < record_count → record_in n (view.block n) ≡ listed (planned p) n
   pub well_formed : (n : ℕ) → n < record_count → IsTrue (is_in_use (view.block n)) → IsWellFormed (view.block n)
+  -- so that the dirty flag lies in one sector: it is written without the rest of its record
+  pub aligned : AreAligned (attributes (opened_of (view.block VOLUME)))
   pub copies : (n : ℕ) → n < 4 → view.copy n ≡ view.block n
   pub bits : HoldsItem view.cluster p.size (bits_at p) (bits_len p) (ones_byte (items_end p))
   pub table_bits : HoldsItem view.cluster p.size (table_bits_at p) table_bits_len record_bits_byte
