@@ -1,6 +1,6 @@
 -- The directories of a new volume: the root, whose names stand in one index record, and $Extend, whose names stand in its root.
 use Rattle.std.proofs.Common.{◌≡◌, ℕ, ◌+◌, ◌*◌, ◌<◌, [], ◌∷◌, filter, inl, inr, map, Some, refl, sym, ap, subst, ◌∙◌, arith}
-use Rattle.std.specs.Prelude.{IsTrue, replicate, slice_index}
+use Rattle.std.specs.Prelude.{replicate, slice_index}
 use Rattle.std.specs.List.{range_with_len}
 use Rattle.std.proofs.Math.Nat.{mul-le-mul_left}
 use Rattle.std.proofs.lemmas.Bool.{cases_lt}
@@ -12,7 +12,7 @@ use Rattle.ntfs_def.specs.Bits.{bit_in}
 use Rattle.ntfs_def.specs.FileName.{is_name_key, link_of}
 use Rattle.ntfs_def.specs.Fixup.{opened_of}
 use Rattle.ntfs_def.specs.Node.{Item, short_node}
-use Rattle.volume_def.specs.CaseClause.{case_parts, volume_fold}
+use Rattle.volume_def.specs.CaseClause.{volume_fold}
 use Rattle.volume_def.specs.FileNames.{is_in_directory, links}
 use Rattle.volume_def.specs.Files.{Value, content_value}
 use Rattle.volume_def.specs.IndexesClause.{HasIndex, IndexParts, IsDirectoryIndex, IsRecordAt, index_nodes, index_parts, name_rule}

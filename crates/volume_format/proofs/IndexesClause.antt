@@ -1,5 +1,5 @@
 -- The clause on indexes holds of a new volume.
-use Rattle.std.proofs.Common.{◌≡◌, ◌≢◌, true, ℕ, ◌<◌, ◌≤◌, ◌==◌, Bool, cond, List, Option, Some, None, inl, inr, refl, sym, ap, subst, ◌∙◌, arith}
+use Rattle.std.proofs.Common.{◌≡◌, ◌≢◌, true, ℕ, ◌<◌, ◌≤◌, ◌==◌, Bool, List, Option, Some, None, inl, inr, refl, sym, ap, subst, ◌∙◌, arith}
 use Rattle.std.specs.Prelude.{◌||◌, not, IfSome, IsTrue, codes, count_by}
 use Rattle.std.proofs.lemmas.Bool.{cases_eq, eqb-true, false≢true, ne_eqb}
 use Rattle.ntfs_def.specs.declared.records.TheConstants.{EXTEND, ROOT}

@@ -1,5 +1,5 @@
 -- Nodes of a new volume's indexes, and the trees below their roots.
-use Rattle.std.specs.Prelude.{List, [], ◌∷◌, map, Some, None}
+use Rattle.std.specs.Prelude.{List, [], map, Some, None}
 use Rattle.ntfs_def.specs.Node.{Entry, Item, Node}
 use Rattle.ntfs_def.specs.IndexTree.{Branch, Spread, Tree}
 use Rattle.volume_format.specs.SystemItems.{root_items}

@@ -1,6 +1,6 @@
 -- The view indexes of a new volume: of security descriptors by their ids and hashes, of object ids and of reparse points.
 use Rattle.std.proofs.Common.{◌≡◌, ℕ, ◌<◌, List, [], ◌∷◌, ◌++◌, filter, map, refl, ap, ◌∙◌, arith, Some, true}
-use Rattle.std.specs.Prelude.{IsTrue, codes}
+use Rattle.std.specs.Prelude.{codes}
 use Rattle.std.specs.List.{list_all}
 use Rattle.vol_bytes.specs.Field.{u32_at}
 use Rattle.ntfs_def.specs.declared.index.NodeForm.TheVariants.{View}
