@@ -48,7 +48,8 @@ module _ (p : Plan) (view : VolumeView) (is : IsPlanned p view) (some : 0 < p.si
       let has = λ (kind : ℕ). parts_at-planned p view is EXTEND kind index_name (omega arith) in
       record {
         items = extend_items;
-        index = HasIndex-leaf Names (name_rule view) view (index_parts view EXTEND index_name) (root_value p 0x30 1 0 extend_entries) extend_items
+        index = HasIndex-leaf Names (name_rule view) view (index_parts view EXTEND index_name)
+            (root_value p 0x30 1 0 extend_entries) extend_items
             (ap (map (λ part. content_value part.content)) (has INDEX_ROOT)) (has INDEX_ALLOCATION) (has BITMAP)
             refl refl (extend-says p)
             (All-tested (λ (item : Item). is_name_key item.key) extend_items refl)

@@ -28,7 +28,8 @@ unfolding scan_node node_header is_entry is_last_entry item_at child_at are_shor
 ids-say p = refl
 
 pub hashes-say : (p : Plan)
-    → short_node View (root_value p 0 0x12 0 (view_entry (descriptor_hash ++ descriptor_id) descriptor_header ++ last_entry)) ≡ Some (leaf hash_items)
+    → short_node View (root_value p 0 0x12 0 (view_entry (descriptor_hash ++ descriptor_id) descriptor_header ++ last_entry))
+    ≡ Some (leaf hash_items)
 unfolding scan_node node_header is_entry is_last_entry item_at child_at are_short
 hashes-say p = refl
 

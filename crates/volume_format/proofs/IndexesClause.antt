@@ -29,7 +29,10 @@ directories p = EachFrom-tested is_named 0 (planned p) refl
 
 no-other : (n : ℕ) (b : Bool) → n ≢ ROOT → n ≢ EXTEND → ((n == ROOT) || (n == EXTEND) || not b) ≡ true → not b ≡ true
 no-other n b no_root no_extend test =
-    sym (ap (λ root. root || (n == EXTEND) || not b) (ne_eqb n ROOT no_root) ∙ ap (λ extend. extend || not b) (ne_eqb n EXTEND no_extend)) ∙ test
+    sym (
+    ap (λ root. root || (n == EXTEND) || not b) (ne_eqb n ROOT no_root)
+    ∙ ap (λ extend. extend || not b) (ne_eqb n EXTEND no_extend))
+    ∙ test
 
 -- no record but `at` has a name in $Extend of these units
 abbrev is_only_at : List ℕ → ℕ → ℕ → Record → Bool
@@ -60,7 +63,8 @@ only-by units at f (Some r) only named = none-other f at (count_by (is_in_extend
 module _ (p : Plan) (view : VolumeView) (is : IsPlanned p view) where
   only-planned : (units : List ℕ) (at : ℕ) → OnlyAt p units at → (f : ℕ) → StandsInExtend view f units → f ≡ at
   only-planned units at each f stands =
-      only-by units at f (listed (planned p) f) (EachFrom-listed (λ n r. IsTrue (is_only_at units at n r)) 0 (planned p) each f f (omega arith))
+      only-by units at f (listed (planned p) f)
+      (EachFrom-listed (λ n r. IsTrue (is_only_at units at n r)) 0 (planned p) each f f (omega arith))
       (subst (λ names. 1 ≤ count_by (is_in_extend units) names) (names-shown p view is f) stands.named)
 
   directory-by : (some : 0 < p.size) (f : ℕ) (o : Option Record) → IfSome o (λ r. IsTrue (is_named f r))
@@ -76,12 +80,16 @@ module _ (p : Plan) (view : VolumeView) (is : IsPlanned p view) where
 
   pub MeetsIndexes-planned : 0 < p.size → (f : ℕ) → MeetsIndexes view f
   MeetsIndexes-planned some f = record {
-    directory = rw (record_on-planned p view is f)
-        (directory-by some f (listed (planned p) f) (EachFrom-listed (λ n r. IsTrue (is_named n r)) 0 (planned p) (directories p) f f (omega arith)));
-    security_ids = λ e. subst (λ n. MeetsViewIndex view n (codes "$SII") id_rule) (sym e) (λ there. record { items = _; has = security_ids p view is });
-    security_hashes = λ e. subst (λ n. MeetsViewIndex view n (codes "$SDH") hash_rule) (sym e) (λ there. record { items = _; has = security_hashes p view is });
+    directory = rw (record_on-planned p view is f) (directory-by some f (listed (planned p) f)
+        (EachFrom-listed (λ n r. IsTrue (is_named n r)) 0 (planned p) (directories p) f f (omega arith)));
+    security_ids = λ e. subst (λ n. MeetsViewIndex view n (codes "$SII") id_rule) (sym e)
+        (λ there. record { items = _; has = security_ids p view is });
+    security_hashes = λ e. subst (λ n. MeetsViewIndex view n (codes "$SDH") hash_rule) (sym e)
+        (λ there. record { items = _; has = security_hashes p view is });
     reparse_points = λ stands. subst (λ n. MeetsViewIndex view n (codes "$R") word_rule)
-        (sym (only-planned (codes "$Reparse") 25 (only-reparse_points p) f stands)) (λ there. record { items = _; has = reparse_points p view is });
+        (sym (only-planned (codes "$Reparse") 25 (only-reparse_points p) f stands))
+        (λ there. record { items = _; has = reparse_points p view is });
     object_ids = λ stands. subst (λ n. MeetsViewIndex view n (codes "$O") word_rule)
-        (sym (only-planned (codes "$ObjId") 24 (only-object_ids p) f stands)) (λ there. record { items = _; has = object_ids p view is });
+        (sym (only-planned (codes "$ObjId") 24 (only-object_ids p) f stands))
+        (λ there. record { items = _; has = object_ids p view is });
   }

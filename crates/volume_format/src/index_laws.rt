@@ -14,9 +14,13 @@ ghost use Rattle.volume_format.specs.SystemItems.{hash_items, id_items};
 pub fn planned_indexes()
     ensures root { OfNewVolumes (λ p view. IsDirectoryIndex view ROOT) }
     ensures extend { OfNewVolumes (λ p view. IsDirectoryIndex view EXTEND) }
-    ensures security_ids { OfNewVolumes (λ p view. HasIndex View id_rule view (index_parts view SECURE (wide (codes "$SII"))) id_items) }
-    ensures security_hashes { OfNewVolumes (λ p view. HasIndex View hash_rule view (index_parts view SECURE (wide (codes "$SDH"))) hash_items) }
-    ensures object_ids { OfNewVolumes (λ p view. HasIndex View word_rule view (index_parts view 24 (wide (codes "$O"))) []) }
-    ensures reparse_points { OfNewVolumes (λ p view. HasIndex View word_rule view (index_parts view 25 (wide (codes "$R"))) []) }
+    ensures security_ids { OfNewVolumes (λ p view.
+        HasIndex View id_rule view (index_parts view SECURE (wide (codes "$SII"))) id_items) }
+    ensures security_hashes { OfNewVolumes (λ p view.
+        HasIndex View hash_rule view (index_parts view SECURE (wide (codes "$SDH"))) hash_items) }
+    ensures object_ids { OfNewVolumes (λ p view.
+        HasIndex View word_rule view (index_parts view 24 (wide (codes "$O"))) []) }
+    ensures reparse_points { OfNewVolumes (λ p view.
+        HasIndex View word_rule view (index_parts view 25 (wide (codes "$R"))) []) }
     ensures all { HoldsOfNew Indexes }
 {}
