@@ -37,7 +37,7 @@ module _ (p : Plan) (view : VolumeView) (is : IsPlanned p view) where
 
   module _ (some : 0 < p.size) where
     -- the value of a stream of the plan, where its clusters hold this item
-    value_on-stream : (all : List Part) (n kind : ℕ) (name : List ℕ) (id at bytes : ℕ) (rule : ℕ → ℕ)
+    pub value_on-stream : (all : List Part) (n kind : ℕ) (name : List ℕ) (id at bytes : ℕ) (rule : ℕ → ℕ)
         → all ≡ stream_part p n kind name id at bytes ∷ [] → HoldsItem view.cluster p.size at bytes rule
         → value_on view all ≡ map rule (range_with_len 0 bytes)
     value_on-stream all n kind name id at bytes rule one holds =

@@ -25,3 +25,13 @@ pub mod AttributeParts
 pub mod Version
 pub mod NewVolumes
 pub mod Images
+mod Tested
+mod Leaves
+mod IndexNodes
+mod IndexOrder
+mod RootRecord
+mod IndexLinks
+mod IndexTrees
+mod ViewIndexes
+mod Directories
+mod IndexesClause

@@ -65,3 +65,10 @@ parts-base records base f inside =
     flat_map-one (λ n. parts_in (records.record_at n) n f) 0 records.count f (omega arith) (omega arith)
     (λ m ne. parts_in-other m f (records.record_at m) (base m) ne)
     ∙ parts_in-own f (records.record_at f) (base f)
+
+-- and past the last record there is no file
+pub parts-past : (records : Records) → AllBase records → (f : ℕ) → records.count ≤ f → parts records f ≡ []
+unfolding parts
+parts-past records base f past =
+    flat_map-none (λ n. parts_in (records.record_at n) n f) 0 records.count
+    (λ m low high. parts_in-other m f (records.record_at m) (base m) (λ e. absurd (omega (arith, e, high, past))))

@@ -1,6 +1,5 @@
 -- A view of a volume is that of a new one.
-use Rattle.std.specs.Prelude.{◌≡◌, ℕ, ◌%◌, ◌<◌, false, List, [], ◌∷◌, take, All, Some, IsTrue}
-use Rattle.std.specs.List.{flat_map, range_with_len}
+use Rattle.std.specs.Prelude.{◌≡◌, ℕ, ◌%◌, ◌<◌, false, List, [], ◌∷◌, length, slice_index, All, Some, IsTrue}
 use Rattle.ntfs_def.specs.declared.index.NodeForm.TheVariants.{Names}
 use Rattle.ntfs_def.specs.declared.records.TheConstants.{VOLUME}
 use Rattle.ntfs_def.specs.Attribute.{Attribute, attributes, value_offset}
@@ -15,15 +14,18 @@ use Rattle.volume_format.specs.Items.{HoldsItem, case_byte, log_byte, ones_byte,
 use Rattle.volume_format.specs.Plan.{Plan, bits_at, bits_len, case_at, case_len, items_end, listed, log_at, log_len, mirror_at, needed, node_at, node_len, planned, record_count, security_at, security_len, table_at, table_bits_at, table_bits_len, table_len}
 use Rattle.volume_format.specs.RootIndex.{root_entries}
 
--- the bytes of the clusters from `at` on
-abbrev pub clusters_from : (ℕ → List ℕ) → ℕ → ℕ → List ℕ
-clusters_from cluster at count = flat_map cluster (range_with_len at count)
-
 -- The index record of the root, as stored.
 pub record IsRootRecord (stored : List ℕ) : Type 0 where
+  pub len : length stored ≡ node_len
   pub sealed : IsSealed stored
   pub own : own_vcn (opened_of stored) ≡ 0
   pub says : short_node Names (opened_of stored) ≡ Some (node_listed false root_entries)
+
+-- The clusters from `at` on, of `size` bytes each, hold it.
+pub record HoldsRootRecord (cluster : ℕ → List ℕ) (size at : ℕ) : Type 0 where
+  pub stored : List ℕ
+  pub is : IsRootRecord stored
+  pub held : HoldsItem cluster size at node_len (slice_index stored)
 
 -- The values of these attributes begin at multiples of 8, counted from where each attribute begins.
 abbrev pub AreAligned : List Attribute → Type 0
@@ -45,4 +47,4 @@ pub record IsPlanned (p : Plan) (view : VolumeView) : Type 0 where
   pub table_bits : HoldsItem view.cluster p.size (table_bits_at p) table_bits_len record_bits_byte
   pub table_of_case : HoldsItem view.cluster p.size (case_at p) case_len case_byte
   pub security : HoldsItem view.cluster p.size (security_at p) security_len security_byte
-  pub root : IsRootRecord (take node_len (clusters_from view.cluster (node_at p) (needed p node_len)))
+  pub root : HoldsRootRecord view.cluster p.size (node_at p)
