@@ -35,3 +35,4 @@ mod IndexTrees
 mod ViewIndexes
 mod Directories
 mod IndexesClause
+mod Soundness

@@ -3,7 +3,7 @@ ghost use Rattle.std.specs.Prelude.{◌≡◌, ◌<◌, ◌≤◌, ◌^◌, ◌*
 ghost use Rattle.volume_def.specs.Blocks.{cluster_of};
 ghost use Rattle.volume_def.specs.BitmapClauses.{cluster_bits, record_bits};
 ghost use Rattle.volume_def.specs.CaseClause.{case_parts, volume_fold};
-ghost use Rattle.volume_def.specs.Sound.{Attributes, CaseTable, ClusterBits, Extents, Limits, Links, Lists, Mirror, MirrorPlace, Owners, RecordBits, References, Shape, Version};
+ghost use Rattle.volume_def.specs.Sound.{Attributes, CaseTable, ClusterBits, Extents, IsSound, Limits, Links, Lists, Mirror, MirrorPlace, Owners, RecordBits, References, Shape, Version};
 ghost use Rattle.volume_def.specs.Table.{TableLayout, cluster_bytes};
 ghost use Rattle.volume_def.specs.VersionClause.{IsClean};
 ghost use Rattle.volume_format.specs.FitsPlan.{FitsPlan, IsClusterSize};
@@ -12,7 +12,7 @@ ghost use Rattle.volume_format.specs.NewVolume.{HoldsBytes, HoldsOfNew, OfNewVol
 ghost use Rattle.volume_format.specs.Options.{AreInRange, Options, clusters_in, plan_of};
 ghost use Rattle.volume_format.specs.Plan.{Plan, bits_len, case_len, items_end, log_len, security_len, table_bits_len};
 
-/// A new volume meets each clause, that on indexes aside, and is clean.
+/// A new volume meets each clause (that on indexes: `planned_indexes`), so it is sound; and it is clean.
 pub fn planned_laws()
     ensures shape { HoldsOfNew Shape }
     ensures attributes { HoldsOfNew Attributes }
@@ -28,6 +28,7 @@ pub fn planned_laws()
     ensures mirror_place { HoldsOfNew MirrorPlace }
     ensures mirror { HoldsOfNew Mirror }
     ensures limits { HoldsOfNew Limits }
+    ensures sound { OfNewVolumes (λ p view. IsSound view) }
     ensures clean { OfNewVolumes (λ p view. IsClean view) }
 {}
 
