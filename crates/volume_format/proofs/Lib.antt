@@ -25,6 +25,7 @@ pub mod AttributeParts
 pub mod Version
 pub mod NewVolumes
 pub mod Images
+pub mod ItemSectors
 mod Tested
 mod Leaves
 mod IndexNodes

@@ -1,8 +1,16 @@
 //! New volumes.
 #![tactic(auto)]
 
+ghost use Rattle.std.specs.Prelude.{◌≡◌};
+
 mod index_laws;
+mod item;
 mod laws;
+mod options;
+mod places;
 
 pub use index_laws::planned_indexes;
+pub use item::Item;
 pub use laws::{content_laws, item_laws, plan_laws, planned_laws};
+pub use options::FormatOptions;
+pub use places::{Places, places_of};
