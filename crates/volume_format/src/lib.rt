@@ -8,9 +8,10 @@ mod item;
 mod laws;
 mod options;
 mod places;
+mod rules;
 
 pub use index_laws::planned_indexes;
 pub use item::Item;
 pub use laws::{content_laws, item_laws, plan_laws, planned_laws};
 pub use options::FormatOptions;
-pub use places::{Places, places_of};
+pub use places::Places;
