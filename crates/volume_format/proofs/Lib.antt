@@ -26,7 +26,8 @@ pub mod Version
 pub mod NewVolumes
 pub mod Images
 pub mod ItemSectors
-pub mod PlaceLaws
+pub mod WholeClusters
+pub mod BootLaws
 mod Tested
 mod Leaves
 mod IndexNodes

@@ -1,7 +1,8 @@
 //! Items of a new volume: rows of bytes by a rule, written one behind the other in whole clusters.
-ghost use Rattle.std.specs.Prelude.{◌≡◌, ◌⊎◌, ◌+◌, ◌*◌, ◌<◌, ◌≤◌, ◌^◌, ℕ, IfOk, OnOk};
+ghost use Rattle.std.specs.Prelude.{◌≡◌, ◌⊎◌, ◌+◌, ◌*◌, ◌/◌, ◌<◌, ◌≤◌, ◌^◌, ℕ, IfOk, OnOk};
 ghost use Rattle.vol_disk.specs.Contents.{IsTold, sector_in};
 ghost use Rattle.vol_disk.specs.Count.{CountsFault};
+ghost use Rattle.volume_format.specs.FitsPlan.{IsClusterSize};
 ghost use Rattle.volume_format.specs.Items.{item_sector};
 ghost use Rattle.volume_format.specs.Plan.{needed};
 ghost use Rattle.volume_format.specs.Written.{SameOutsideClusters, Stands, WritesOn, sector_at, sectors_per};
@@ -66,6 +67,7 @@ fn sectors_per(places: &Places) -> u64
     ensures some { 0 < result }
     ensures few { result ≤ 8 }
     ensures whole { 512 * result ≡ places.now.size }
+    ensures one { IsClusterSize places.now.size }
 {
     places.size() / 512
 }
@@ -79,7 +81,7 @@ pub fn write_item<D: Disk, I: Item>(
     item: &I,
 ) -> Result<u64, Failed>
     requires fits { sector_at places.now (at + needed places.now len) ≤ D.size disk.old }
-    requires within { 512 * (needed places.now len * sectors_per places.now) ≤ I.limit item.now }
+    requires within { (len + 4095) / 4096 * 4096 ≤ I.limit item.now }
     requires few { len ≤ 2 ^ 24 }
     ensures next { IfOk result (λ next. next ≡ at + needed places.now len) }
     ensures stands { OnOk result (IsTold (D.now disk.old) → Stands (sector_in (D.now disk.new)) places.now at len (I.rule item.now)) }

@@ -3,15 +3,14 @@
 
 ghost use Rattle.std.specs.Prelude.{◌≡◌};
 
+mod boot;
 mod index_laws;
 mod item;
 mod laws;
 mod options;
-mod places;
 mod rules;
 
 pub use index_laws::planned_indexes;
 pub use item::Item;
 pub use laws::{content_laws, item_laws, plan_laws, planned_laws};
 pub use options::FormatOptions;
-pub use places::Places;
