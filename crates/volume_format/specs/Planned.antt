@@ -1,11 +1,12 @@
 -- A view of a volume is that of a new one.
-use Rattle.std.specs.Prelude.{◌≡◌, ℕ, ◌<◌, List, Some, IsTrue, [], ◌∷◌}
+use Rattle.std.specs.Prelude.{◌≡◌, ℕ, ◌%◌, ◌<◌, false, List, [], ◌∷◌, take, All, Some, IsTrue}
+use Rattle.std.specs.List.{flat_map, range_with_len}
 use Rattle.ntfs_def.specs.declared.index.NodeForm.TheVariants.{Names}
+use Rattle.ntfs_def.specs.declared.records.TheConstants.{VOLUME}
+use Rattle.ntfs_def.specs.Attribute.{Attribute, attributes, value_offset}
 use Rattle.ntfs_def.specs.Fixup.{IsSealed, opened_of}
 use Rattle.ntfs_def.specs.Node.{own_vcn, short_node}
 use Rattle.ntfs_def.specs.Record.{is_in_use}
-use Rattle.std.specs.List.{flat_map, range_with_len}
-use Rattle.std.specs.Prelude.{◌+◌, ◌/◌, take}
 use Rattle.index_node.specs.LayOut.{node_listed}
 use Rattle.volume_def.specs.Files.{record_in}
 use Rattle.volume_def.specs.Table.{IsWellFormed, cluster_bytes}
@@ -13,7 +14,6 @@ use Rattle.volume_def.specs.View.{VolumeView}
 use Rattle.volume_format.specs.Items.{HoldsItem, case_byte, ones_byte, record_bits_byte}
 use Rattle.volume_format.specs.Plan.{Plan, bits_at, bits_len, case_at, case_len, items_end, listed, mirror_at, needed, node_at, node_len, planned, record_count, table_at, table_bits_at, table_bits_len, table_len}
 use Rattle.volume_format.specs.RootIndex.{root_entries}
-use Rattle.std.specs.Prelude.{false}
 
 -- the bytes of the clusters from `at` on
 abbrev pub clusters_from : (ℕ → List ℕ) → ℕ → ℕ → List ℕ
@@ -25,6 +25,10 @@ pub record IsRootRecord (stored : List ℕ) : Type 0 where
   pub own : own_vcn (opened_of stored) ≡ 0
   pub says : short_node Names (opened_of stored) ≡ Some (node_listed false root_entries)
 
+-- The values of these attributes begin at multiples of 8, counted from where each attribute begins.
+abbrev pub AreAligned : List Attribute → Type 0
+AreAligned all = All (λ attribute. value_offset attribute.bytes 0 % 8 ≡ 0) all
+
 pub record IsPlanned (p : Plan) (view : VolumeView) : Type 0 where
   pub size : cluster_bytes view.layout ≡ p.size
   pub clusters : view.layout.clusters ≡ p.clusters
@@ -33,6 +37,8 @@ pub record IsPlanned (p : Plan) (view : VolumeView) : Type 0 where
   pub count : view.layout.count ≡ record_count
   pub records : (n : ℕ) → n < record_count → record_in n (view.block n) ≡ listed (planned p) n
   pub well_formed : (n : ℕ) → n < record_count → IsTrue (is_in_use (view.block n)) → IsWellFormed (view.block n)
+  -- so that the dirty flag lies in one sector: it is written without the rest of its record
+  pub aligned : AreAligned (attributes (opened_of (view.block VOLUME)))
   pub copies : (n : ℕ) → n < 4 → view.copy n ≡ view.block n
   pub bits : HoldsItem view.cluster p.size (bits_at p) (bits_len p) (ones_byte (items_end p))
   pub table_bits : HoldsItem view.cluster p.size (table_bits_at p) table_bits_len record_bits_byte

@@ -1,5 +1,6 @@
 //! New volumes.
 #![tactic(auto)]
 
-/// Stands here until there is more.
-pub fn nothing() {}
+mod laws;
+
+pub use laws::{content_laws, plan_laws, planned_laws};
