@@ -23,3 +23,5 @@ pub mod VolumeRecord
 pub mod AttributeParts
 pub mod Version
 pub mod NewVolumes
+pub mod ResidentLaws
+pub mod ExtentLaws
