@@ -1,7 +1,8 @@
 -- The bytes of a non-resident attribute are the part that they were made of.
 use Rattle.std.proofs.Common.{◌≡◌, ◌≢◌, ℕ, ◌+◌, ◌*◌, ◌-◌, ◌/◌, ◌%◌, ◌^◌, ◌<◌, ◌≤◌, ◌==◌, ◌&&◌, Bool, true, false, cond, List, [], ◌∷◌, ◌++◌, Option, Some, None, take, drop, length, get_or, refl, sym, ap, subst, ◌∙◌, arith, length-append, append_assoc}
 use Rattle.std.specs.Prelude.{All, pos, replicate, slice_range}
-use Rattle.std.proofs.lemmas.List.{append-nil, take_at, drop_at, drop-drop, length-replicate}
+use Rattle.std.proofs.Math.Seq.{take-append-add}
+use Rattle.std.proofs.lemmas.List.{append-nil, take_at, take-replicate, drop_at, drop-drop, drop-replicate, length-replicate}
 use Rattle.ntfs_def.specs.declared.kinds.TheConstants.{END}
 use Rattle.ntfs_def.specs.declared.run_text.Run.{Run}
 use Rattle.ntfs_def.specs.declared.sizes.Sizes.{Sizes}
@@ -9,19 +10,30 @@ use Rattle.ntfs_def.specs.Attribute.{Attribute, ExtentHeader, attribute_at, attr
 use Rattle.ntfs_def.specs.Runs.{EndsInReach, IsRunList, MeansRuns, runs_in}
 use Rattle.ntfs_def.specs.Shape.{IsOneAttribute}
 use Rattle.ntfs_def.proofs.RunsInLaws.{runs_in-means}
-use Rattle.data_runs.specs.Written.{IsOffsetText, IsRunText, IsWritten, SpellsShortest}
+use Rattle.data_runs.specs.Written.{IsOffsetText, IsRunText, IsWritten, PutsText, SpellsShortest}
 use Rattle.data_runs.proofs.WrittenLaws.{MeansFrom-written, offset_short, short_up}
 use Rattle.volume_def.specs.Files.{Clusters, Content, Part, part_of}
 use Rattle.volume_format.specs.Plan.{part, up_to_8}
-use Rattle.volume_format.specs.AttributeBytes.{IsExtent, IsPart, IsRunTextOf, extent_bytes, extent_header, one_run, padded, runs_at}
+use Rattle.volume_format.specs.AttributeBytes.{FitSizes, IsExtent, IsPart, IsRunTextOf, extent_bytes, extent_header, one_run, padded, runs_at}
 use Rattle.volume_format.proofs.ResidentLaws.{length-padded, parts_same}
 
 no_and : (b : Bool) → (b && false) ≡ false
 no_and true = refl
 no_and false = refl
 
+sizes_from : ℕ → ℕ → ℕ → ℕ → ℕ → Sizes
+sizes_from allocated real initialized first last =
+    record { allocated = allocated; real = real; initialized = initialized; first = first; last = last }
+
+from_same : (a r i f l a2 r2 i2 f2 l2 : ℕ) → a ≡ a2 → r ≡ r2 → i ≡ i2 → f ≡ f2 → l ≡ l2
+    → sizes_from a r i f l ≡ sizes_from a2 r2 i2 f2 l2
+unfolding sizes_from
+from_same a r i f l a2 r2 i2 f2 l2 e1 e2 e3 e4 e5 = cc
+
 sizes_same : (a b : Sizes) → b.allocated ≡ a.allocated → b.real ≡ a.real → b.initialized ≡ a.initialized → b.first ≡ a.first → b.last ≡ a.last → b ≡ a
-sizes_same a b allocated real initialized first last = cc
+unfolding sizes_from
+sizes_same a b allocated real initialized first last =
+    from_same b.allocated b.real b.initialized b.first b.last a.allocated a.real a.initialized a.first a.last allocated real initialized first last
 
 clusters_same : (a b : Sizes) (x : Option ℕ) (r s : Option (List Run)) → a ≡ b → x ≡ None → r ≡ s
     → Clusters (record { sizes = a; compressed = x }) r ≡ Clusters (record { sizes = b; compressed = None }) s
@@ -114,3 +126,63 @@ module _ (kind : ℕ) (name : List ℕ) (id : ℕ) (sizes : Sizes) (runs : List 
     };
     len = len-text ∙ sym length-text;
   }
+
+-- What the bytes are.
+pub record IsStream (bytes : List ℕ) (kind : ℕ) (name : List ℕ) (id : ℕ) (sizes : Sizes) (run : Run) (runs : List ℕ) : Type 0 where
+  pub len : length bytes ≡ runs_at name + length runs
+  pub is : IsExtent bytes kind name id sizes run
+  pub one : IsOneAttribute bytes
+  pub part : IsPart bytes kind name id (one_run sizes run)
+
+-- a run's text has eighteen bytes at most
+written-short : (run : Run) (text : List ℕ) → run.len ≤ 2 ^ 62 → EndsInReach run.len run.lcn → IsWritten (run ∷ []) text → length text ≤ 18
+written-short run text few reach (first, rest, is, ends, all) =
+    let len = short_up run.len is.len (omega arith) is.spells_len in
+    let way = offset_short 0 run.len run.lcn is.offset (omega arith) reach is.spells_offset in
+    let a : length first ≡ 1 + (length is.len + length is.offset) = ap length is.all ∙ simp length-append (omega arith) in
+    let b : length text ≡ length first + 1 = ap length all ∙ length-append first rest ∙ ap (λ k. length first + k) (ap length ends) in
+    omega arith
+
+pub run_text-short : (run : Run) (runs : List Run) → run.len ≤ 2 ^ 62 → EndsInReach run.len run.lcn → runs ≡ run ∷ []
+    → (text : List ℕ) → IsWritten runs text → length text ≤ 18
+run_text-short run runs few reach one text is = written-short run text few reach (subst (λ all. IsWritten all text) one is)
+
+-- it means the run
+pub run_text-means : (run : Run) (text : List ℕ) → 0 < run.len → run.len ≤ 2 ^ 62 → EndsInReach run.len run.lcn
+    → IsRunTextOf run text
+    → runs_in text ≡ Some (run ∷ [])
+run_text-means run text some few reach is =
+    runs_in-means text (run ∷ []) (subst (λ t. MeansRuns t (run ∷ [])) (sym is.filled)
+    (MeansFrom-written 0 0 (run ∷ []) is.written _ (omega arith) (some, omega arith, reach, tt) is.is))
+
+pub IsStream-bytes : (kind : ℕ) (name : List ℕ) (id : ℕ) (sizes : Sizes) (run : Run) (runs bytes : List ℕ) → kind < 2 ^ 32 → id < 2 ^ 16
+    → FitSizes sizes → length name ≤ 510 → length name % 2 ≡ 0 → length runs ≤ 24 → length runs % 8 ≡ 0 → kind ≢ END
+    → 0 < run.len → run.len ≤ 2 ^ 62 → EndsInReach run.len run.lcn
+    → IsRunTextOf run runs → bytes ≡ extent_bytes kind name id sizes runs
+    → IsStream bytes kind name id sizes run runs
+unfolding extent_bytes
+IsStream-bytes kind name id sizes run runs bytes small_kind small_id fit short even few multiple other some bounded reach text e = record {
+  len = ap length e ∙ length-text kind name id sizes runs small_kind small_id fit.allocated fit.real fit.initialized fit.first fit.last short even few multiple;
+  is = record { text = runs; is = text; all = e };
+  one = subst IsOneAttribute (sym e) (one-text kind name id sizes runs small_kind small_id fit.allocated fit.real fit.initialized fit.first fit.last short even few multiple other);
+  part = subst (λ b. IsPart b kind name id (one_run sizes run)) (sym e)
+      (part-text kind name id sizes runs small_kind small_id fit.allocated fit.real fit.initialized fit.first fit.last short even few multiple run (run_text-means run runs some bounded reach text));
+}
+
+-- what the text of a run is, from what was written
+pub IsRunTextOf-put : (run : Run) (runs : List Run) (out text : List ℕ) (len : ℕ) → runs ≡ run ∷ []
+    → PutsText (IsWritten runs) (replicate 24 0) out 0 len → len ≤ 24 → text ≡ take (up_to_8 len) out
+    → IsRunTextOf run text
+IsRunTextOf-put run runs out text len one puts few e = record {
+  written = puts.text;
+  is = subst (λ all. IsWritten all puts.text) one puts.is;
+  filled =
+      let n : len ≡ length puts.text = omega (arith, puts.ends) in
+      let zeros : drop len (replicate 24 0) ≡ replicate (24 - len) 0 = drop-replicate len 24 0 in
+      let cut : up_to_8 len ≡ length puts.text + (up_to_8 len - len) = omega (arith, n) in
+      e ∙ ap (take (up_to_8 len)) (puts.bytes ∙ ap (λ z. puts.text ++ z) zeros)
+      ∙ ap (λ k. take k (puts.text ++ replicate (24 - len) 0)) cut
+      ∙ take-append-add puts.text (replicate (24 - len) 0) (up_to_8 len - len)
+      ∙ ap (λ z. puts.text ++ z) (take-replicate (up_to_8 len - len) (24 - len) 0 (omega arith))
+      ∙ ap (λ k. puts.text ++ replicate (up_to_8 k - k) 0) n;
+}

@@ -1,6 +1,6 @@
 -- An attribute as bytes, as a new volume has it: its name behind the header, and its value or its run text at the next multiple
 -- of 8. Layout: as in `Attribute` of ntfs_def; the places are this project's choice.
-use Rattle.std.specs.Prelude.{◌≡◌, ℕ, ◌+◌, ◌*◌, ◌/◌, ◌==◌, List, [], ◌∷◌, ◌++◌, length, Some, None, if◌then◌else◌}
+use Rattle.std.specs.Prelude.{◌≡◌, ℕ, ◌+◌, ◌*◌, ◌/◌, ◌^◌, ◌<◌, ◌==◌, List, [], ◌∷◌, ◌++◌, length, Some, None, if◌then◌else◌}
 use Rattle.byteorder.specs.Endian.{little_bytes}
 use Rattle.data_runs.specs.Written.{IsWritten}
 use Rattle.ntfs_def.specs.declared.kinds.TheConstants.{FILE_NAME}
@@ -53,6 +53,14 @@ extent_header kind name id sizes text_len =
 
 unfoldable pub extent_bytes : ℕ → List ℕ → ℕ → Sizes → List ℕ → List ℕ
 extent_bytes kind name id sizes text = extent_header kind name id sizes (length text) ++ (padded name ++ text)
+
+-- The numbers fit in their fields.
+pub record FitSizes (sizes : Sizes) : Type 0 where
+  pub allocated : sizes.allocated < 2 ^ 64
+  pub real : sizes.real < 2 ^ 64
+  pub initialized : sizes.initialized < 2 ^ 64
+  pub first : sizes.first < 2 ^ 64
+  pub last : sizes.last < 2 ^ 64
 
 -- The text is the written form of one run, filled up to a multiple of 8.
 pub record IsRunTextOf (run : Run) (text : List ℕ) : Type 0 where

@@ -7,7 +7,7 @@ ghost use Rattle.ntfs_def.specs.Shape.{IsOneAttribute};
 ghost use Rattle.ntfs_def.specs.Runs.{EndsInReach};
 ghost use Rattle.ntfs_def.specs.Units.{wide};
 ghost use Rattle.volume_def.specs.Files.{Value};
-ghost use Rattle.volume_format.specs.AttributeBytes.{IsExtent, IsPart, IsRunTextOf, extent_header, indexed_byte, one_run, padded, resident_bytes, resident_len, runs_at};
+ghost use Rattle.volume_format.specs.AttributeBytes.{FitSizes, IsExtent, IsPart, IsRunTextOf, extent_header, indexed_byte, one_run, padded, resident_bytes, resident_len, runs_at};
 ghost use Rattle.volume_format.specs.Plan.{up_to_8};
 
 use data_runs::RunList;
@@ -28,7 +28,8 @@ pub fn push_u32(text: &mut Vec<u8>, value: u32) -> Result<(), AllocError>
 }
 
 fn push_u64(text: &mut Vec<u8>, value: u64) -> Result<(), AllocError>
-    ensures { OnOk result (text.new.items ≡ text.old.items ++ little_bytes 8 value) }
+    ensures bytes { OnOk result (text.new.items ≡ text.old.items ++ little_bytes 8 value) }
+    ensures fits { value < 2 ^ 64 }
 {
     text.extend_from_slice(&value.to_le_bytes())
 }
@@ -99,6 +100,20 @@ pub fn resident(
     Ok(text)
 }
 
+// The list of one run.
+fn one_run_list(alloc: Global, run: Run) -> Result<RunList, AllocError>
+    requires some { 0 < run.len }
+    requires few { run.len ≤ 2 ^ 62 }
+    requires reach { EndsInReach run.len run.lcn }
+    ensures { IfOk result (λ list. list ≡ run ∷ []) }
+{
+    let mut list = RunList::new(alloc);
+    match list.append(run) {
+        Ok(()) => Ok(list),
+        Err(_) => Err(AllocError),
+    }
+}
+
 // A run as text, filled up to a multiple of 8 bytes.
 fn run_text(alloc: Global, run: Run) -> Result<Vec<u8>, AllocError>
     requires some { 0 < run.len }
@@ -108,10 +123,7 @@ fn run_text(alloc: Global, run: Run) -> Result<Vec<u8>, AllocError>
     ensures multiple { IfOk result (λ text. length text.items % 8 ≡ 0) }
     ensures short { IfOk result (λ text. length text.items ≤ 24) }
 {
-    let mut list = RunList::new(alloc);
-    if list.append(run).is_err() {
-        return Err(AllocError);
-    }
+    let list = one_run_list(alloc, run)?;
     let mut bytes = [0; 24];
     let len = list.encode_into(&mut bytes);
     let mut text = Vec::new(alloc);
@@ -130,7 +142,8 @@ fn push_extent_header(
 ) -> Result<(), AllocError>
     requires name { length name.now ≤ 510 }
     requires text { text_len ≤ 24 }
-    ensures { OnOk result (text.new.items ≡ text.old.items ++ extent_header kind name.now id sizes text_len) }
+    ensures bytes { OnOk result (text.new.items ≡ text.old.items ++ extent_header kind name.now id sizes text_len) }
+    ensures fits { OnOk result (FitSizes sizes) }
 {
     let place = 64 + up_to_8(name.len());
     push_u32(text, kind)?;
@@ -143,7 +156,8 @@ fn push_extent_header(
     text.extend_from_slice(&[0, 0, 0, 0, 0, 0])?;
     push_u64(text, sizes.allocated)?;
     push_u64(text, sizes.real)?;
-    push_u64(text, sizes.initialized)
+    push_u64(text, sizes.initialized)?;
+    Ok(())
 }
 
 /// The bytes of a non-resident attribute with a name in bytes, whose stream lies in one run.
