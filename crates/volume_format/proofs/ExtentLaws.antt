@@ -6,7 +6,7 @@ use Rattle.std.proofs.lemmas.List.{append-nil, take_at, take-replicate, drop_at,
 use Rattle.ntfs_def.specs.declared.kinds.TheConstants.{END}
 use Rattle.ntfs_def.specs.declared.run_text.Run.{Run}
 use Rattle.ntfs_def.specs.declared.sizes.Sizes.{Sizes}
-use Rattle.ntfs_def.specs.Attribute.{Attribute, ExtentHeader, attribute_at, attribute_kind, attribute_len, attribute_id, compressed_len, content_bytes, extent_at, first_vcn, last_vcn, allocated_len, real_len, initialized_len, has_compressed_len, header_len, name_bytes, runs_offset, sizes_at}
+use Rattle.ntfs_def.specs.Attribute.{Attribute, ExtentHeader, attribute_at, attribute_kind, attribute_len, attribute_id, compressed_len, content_bytes, extent_at, first_vcn, last_vcn, allocated_len, real_len, initialized_len, has_compressed_len, header_len, name_bytes, runs_offset, sizes_at, value_offset}
 use Rattle.ntfs_def.specs.Runs.{EndsInReach, IsRunList, MeansRuns, runs_in}
 use Rattle.ntfs_def.specs.Shape.{IsOneAttribute}
 use Rattle.ntfs_def.proofs.RunsInLaws.{runs_in-means}
@@ -85,6 +85,10 @@ module _ (kind : ℕ) (name : List ℕ) (id : ℕ) (sizes : Sizes) (runs : List 
   header-text : header_len text 0 ≡ 64
   header-text = rw no_compressed-text refl
 
+  -- no cluster number stands where a resident attribute tells its value
+  aligned-text : sizes.first ≡ 0 → value_offset text 0 % 8 ≡ 0
+  aligned-text e = omega (arith, e)
+
   name-text : name_bytes text 0 ≡ name
   name-text =
       ap (take (0 + (64 + 2 * (length name / 2)) - 64)) (append_assoc name (replicate (up_to_8 (length name) - length name) 0) runs)
@@ -133,6 +137,7 @@ pub record IsStream (bytes : List ℕ) (kind : ℕ) (name : List ℕ) (id : ℕ)
   pub is : IsExtent bytes kind name id sizes run
   pub one : IsOneAttribute bytes
   pub part : IsPart bytes kind name id (one_run sizes run)
+  pub aligned : sizes.first ≡ 0 → value_offset bytes 0 % 8 ≡ 0
 
 -- a run's text has eighteen bytes at most
 written-short : (run : Run) (text : List ℕ) → run.len ≤ 2 ^ 62 → EndsInReach run.len run.lcn → IsWritten (run ∷ []) text → length text ≤ 18
@@ -167,6 +172,8 @@ IsStream-bytes kind name id sizes run runs bytes small_kind small_id fit short e
   one = subst IsOneAttribute (sym e) (one-text kind name id sizes runs small_kind small_id fit.allocated fit.real fit.initialized fit.first fit.last short even few multiple other);
   part = subst (λ b. IsPart b kind name id (one_run sizes run)) (sym e)
       (part-text kind name id sizes runs small_kind small_id fit.allocated fit.real fit.initialized fit.first fit.last short even few multiple run (run_text-means run runs some bounded reach text));
+  aligned = subst (λ b. sizes.first ≡ 0 → value_offset b 0 % 8 ≡ 0) (sym e)
+      (aligned-text kind name id sizes runs small_kind small_id fit.allocated fit.real fit.initialized fit.first fit.last short even few multiple);
 }
 
 -- what the text of a run is, from what was written

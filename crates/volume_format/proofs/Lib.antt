@@ -25,3 +25,4 @@ pub mod Version
 pub mod NewVolumes
 pub mod ResidentLaws
 pub mod ExtentLaws
+pub mod NewRecordLaws

@@ -6,3 +6,4 @@ pub mod FitsPlan
 pub mod Planned
 pub mod Options
 pub mod NewVolume
+pub mod NewRecord

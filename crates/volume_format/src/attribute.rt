@@ -179,6 +179,7 @@ pub fn non_resident(
     ensures one { IfOk result (λ bytes. IsOneAttribute bytes.items) }
     ensures part { IfOk result (λ bytes. IsPart bytes.items kind name.now id (one_run sizes run)) }
     ensures len { IfOk result (λ bytes. length bytes.items ≤ runs_at name.now + 24) }
+    ensures aligned { IfOk result (λ bytes. sizes.first ≡ 0 → value_offset bytes.items 0 % 8 ≡ 0) }
 {
     let runs = run_text(alloc, run)?;
     let mut text = Vec::new(alloc);
