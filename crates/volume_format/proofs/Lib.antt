@@ -26,3 +26,4 @@ pub mod NewVolumes
 pub mod ResidentLaws
 pub mod ExtentLaws
 pub mod NewRecordLaws
+pub mod PlaceLaws

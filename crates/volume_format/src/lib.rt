@@ -4,5 +4,8 @@
 mod attribute;
 mod laws;
 mod new_record;
+mod places;
+mod value_bytes;
 
+pub use places::Places;
 pub use laws::{content_laws, plan_laws, planned_laws};
