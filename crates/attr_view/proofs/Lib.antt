@@ -1,1 +1,3 @@
 pub mod LeftLaws
+pub mod InsertLaws
+pub mod HeaderLaws

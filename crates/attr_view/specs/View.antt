@@ -5,7 +5,7 @@ use Rattle.ntfs_def.specs.Shape.{FailsAt}
 use Rattle.attr_view.specs.declared.AttrView.{AttrView}
 use Rattle.attr_view.specs.declared.RecordView.{RecordView}
 use Rattle.attr_view.specs.declared.ViewNo.{ViewNo}
-use Rattle.attr_view.specs.declared.ViewNo.TheVariants.{Shape}
+use Rattle.attr_view.specs.declared.ViewNo.TheVariants.{Full, Shape}
 
 -- the bytes of the record
 abbrev pub viewed_block : RecordView → List ℕ
@@ -29,3 +29,4 @@ attribute_of view = attribute_at (bytes_around view) (place_of view)
 -- the block is refused so
 abbrev pub Refuses : List ℕ → ViewNo → Type 0
 Refuses block (Shape at) = FailsAt block at
+Refuses block (Full need free) = ⊥

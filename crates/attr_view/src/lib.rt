@@ -9,16 +9,19 @@ ghost use Rattle.ntfs_def.specs.Shape.{HasShape, IsAttribute};
 use thiserror::Error;
 
 mod attribute;
+mod edit;
 mod find;
 mod iter;
 mod laws;
 mod record;
+mod record_mut;
 mod shape;
 
 pub use laws::one_answer;
 pub use ntfs_def::Sizes;
+pub use record_mut::{RecordHeader, RecordMut};
 
-/// Why a block is refused.
+/// Why a block is refused, or an edit of it.
 #[derive(Clone, Copy, Debug, PartialEq, Eq, Error)]
 pub enum ViewNo {
     /// The block is no record whose attributes can be read: `at` is the place in it of the first field
@@ -26,6 +29,9 @@ pub enum ViewNo {
     /// attribute or end mark.
     #[error("the record has a wrong shape at byte {at}")]
     Shape { at: usize },
+    /// The edit needs more bytes than the record has left.
+    #[error("the record has {free} bytes left of {need}")]
+    Full { need: usize, free: usize },
 }
 
 /// A file record whose attributes can be read.

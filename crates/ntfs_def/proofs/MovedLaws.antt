@@ -16,7 +16,7 @@ u16_at-moved a b from to len i j m low high e =
     let y = m.same (i + 1) (j + 1) (omega arith) (omega arith) (omega arith) in
     omega arith
 
-u32_at-moved : (a b : List ℕ) (from to len i j : ℕ) → Moved a b from to len → from ≤ i → i + 4 ≤ from + len → j + from ≡ i + to
+pub u32_at-moved : (a b : List ℕ) (from to len i j : ℕ) → Moved a b from to len → from ≤ i → i + 4 ≤ from + len → j + from ≡ i + to
     → u32_at b j ≡ u32_at a i
 u32_at-moved a b from to len i j m low high e =
     let x = u16_at-moved a b from to len i j m low (omega arith) e in

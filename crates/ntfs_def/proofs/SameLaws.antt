@@ -16,7 +16,7 @@ use Rattle.ntfs_def.proofs.MovedLaws.{IsWhole-moved, attribute_at-moved, attribu
 use Rattle.ntfs_def.proofs.PlaceLaws.{attribute_place-bounded}
 
 -- a list begins as another does whose first bytes it has
-starts-same : (p a b : List ℕ) → length p ≤ length a → length p ≤ length b → ((k : ℕ) → k < length p → get_or b k 0 ≡ get_or a k 0)
+pub starts-same : (p a b : List ℕ) → length p ≤ length a → length p ≤ length b → ((k : ℕ) → k < length p → get_or b k 0 ≡ get_or a k 0)
     → starts_with nat_eq b p ≡ starts_with nat_eq a p
 starts-same [] [] [] la lb same = refl
 starts-same [] [] (y ∷ b) la lb same = refl
@@ -33,7 +33,7 @@ abbrev header_from : ℕ → ℕ → ℕ → Option Reference → ℕ → ℕ �
 header_from sequence links flags base next number =
     record { sequence = sequence; links = links; flags = flags; base = base; next_id = next; number = number }
 
-headers_same : (a b : Header) → b.sequence ≡ a.sequence → b.links ≡ a.links → b.flags ≡ a.flags → b.base ≡ a.base
+pub headers_same : (a b : Header) → b.sequence ≡ a.sequence → b.links ≡ a.links → b.flags ≡ a.flags → b.base ≡ a.base
     → b.next_id ≡ a.next_id → b.number ≡ a.number → b ≡ a
 headers_same a b sequence links flags base next number =
     ap (λ (k : ℕ). header_from k b.links b.flags b.base b.next_id b.number) sequence

@@ -7,6 +7,7 @@ pub mod Attribute
 pub mod AttributeList
 pub mod Moved
 pub mod Shape
+pub mod Splice
 pub mod Runs
 pub mod Units
 pub mod Bits

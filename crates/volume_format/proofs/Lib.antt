@@ -39,3 +39,7 @@ mod ViewIndexes
 mod Directories
 mod IndexesClause
 mod Soundness
+pub mod ResidentLaws
+pub mod ExtentLaws
+pub mod NewRecordLaws
+pub mod PlaceLaws

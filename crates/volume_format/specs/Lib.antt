@@ -1,6 +1,7 @@
 pub mod Plan
 pub mod Items
 pub mod RootIndex
+pub mod AttributeBytes
 pub mod FitsPlan
 pub mod SystemItems
 pub mod Planned
@@ -8,3 +9,4 @@ pub mod Options
 pub mod NewVolume
 pub mod Written
 pub mod NewBoot
+pub mod NewRecord

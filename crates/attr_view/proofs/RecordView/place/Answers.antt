@@ -1,11 +1,14 @@
-use Rattle.std.proofs.Common.{◌≡◌, suc, ◌+◌, ap, ◌∙◌, arith}
-use Rattle.ntfs_def.specs.Attribute.{attribute_len, attribute_place}
+use Rattle.std.proofs.Common.{subst, sym, arith}
+use Rattle.ntfs_def.specs.Shape.{HasShape}
+use Rattle.ntfs_def.proofs.AttributeLaws.{length-attributes}
 use Rattle.attr_view.proofs.RecordView.place.Goals as goal
 
-pub loop-k-preserved : goal.loop-k-preserved
-loop-k-preserved c =
-    let block = c.args.self.now.block.now in
-    let next : suc c.loop-k.k ≡ c.loop-k.k + 1 = omega arith in
-    ap (λ n. c.loop-k.at + n) c.u32_at.ensures
-    ∙ ap (λ p. p + attribute_len block p) c.loop-k.invariant
-    ∙ ap (attribute_place block) next
+pub place_in-requires-clause-shape : goal.place_in-requires-clause-shape
+place_in-requires-clause-shape c =
+    let view = c.args.self.now in
+    subst (HasShape view.block.now) (sym (length-attributes view.block.now view.count view.shape)) view.shape
+
+pub place_in-requires-clause-within : goal.place_in-requires-clause-within
+place_in-requires-clause-within c =
+    let view = c.args.self.now in
+    omega (arith, c.requires, length-attributes view.block.now view.count view.shape)

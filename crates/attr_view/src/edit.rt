@@ -1,0 +1,68 @@
+//! The bytes of a record that an edit moves and writes.
+ghost use Rattle.std.specs.Prelude.{◌≡◌, ◌<◌, ◌≤◌, ◌+◌, ℕ, length, slice_index};
+ghost use Rattle.vol_bytes.specs.Field.{SameOutside};
+ghost use Rattle.ntfs_def.specs.Record.{used_size};
+ghost use Rattle.attr_view.specs.Edit.{IsInsertedAt, PutsFields, next_id_after};
+
+use crate::RecordHeader;
+use vol_bytes::{put_u16, put_u32, put_u64, u16_at, u32_at};
+
+// Moves the bytes from `at` up to `used` on by `by`.
+fn make_room(block: &mut [u8], at: usize, used: usize, by: usize)
+    requires order { at ≤ used }
+    requires fits { used + by ≤ length block.old }
+    ensures len { length block.new ≡ length block.old }
+    ensures before { (k : ℕ) → k < at → slice_index block.new k ≡ slice_index block.old k }
+    ensures moved { (i j : ℕ) → at ≤ i → i < used → j ≡ i + by → slice_index block.new j ≡ slice_index block.old i }
+    ensures behind { (k : ℕ) → used + by ≤ k → slice_index block.new k ≡ slice_index block.old k }
+{
+    block.copy_within(at..used, at + by);
+}
+
+// Puts the bytes there.
+fn put_bytes(block: &mut [u8], at: usize, bytes: &[u8])
+    requires { at + length bytes.now ≤ length block.old }
+    ensures here { (k j : ℕ) → k < length bytes.now → j ≡ at + k → slice_index block.new j ≡ slice_index bytes.now k }
+    ensures rest { SameOutside block.old block.new at (at + length bytes.now) }
+{
+    block[at..at + bytes.len()].copy_from_slice(bytes);
+}
+
+// The next attribute id, behind an attribute with this one.
+fn next_id_after(next: u16, id: u16) -> u16
+    ensures { result ≡ next_id_after next id }
+{
+    if id == next {
+        next.saturating_add(1)
+    } else {
+        next
+    }
+}
+
+// Puts an attribute at `at`, and moves what stands from there on behind it.
+pub fn insert_bytes(block: &mut [u8], at: usize, bytes: &[u8])
+    requires all { length block.old ≡ 1024 }
+    requires low { 0x38 ≤ at }
+    requires order { at ≤ used_size block.old }
+    requires header { 24 ≤ length bytes.now }
+    requires fits { used_size block.old + length bytes.now ≤ 1024 }
+    ensures { IsInsertedAt block.old block.new bytes.now at }
+{
+    let used = u32_at(block, 0x18) as usize;
+    let next = next_id_after(u16_at(block, 0x28), u16_at(bytes, 0x0E));
+    make_room(block, at, used, bytes.len());
+    put_bytes(block, at, bytes);
+    put_u32(block, 0x18, (used + bytes.len()) as u32);
+    put_u16(block, 0x28, next);
+}
+
+// Puts the fields of the header that an owner chooses.
+pub fn put_header(block: &mut [u8], header: RecordHeader)
+    requires { length block.old ≡ 1024 }
+    ensures { PutsFields block.old block.new header }
+{
+    put_u16(block, 0x10, header.sequence);
+    put_u16(block, 0x12, header.links);
+    put_u16(block, 0x16, header.flags);
+    put_u64(block, 0x20, header.base);
+}

@@ -1,0 +1,137 @@
+//! A record that is edited in its block.
+ghost use Rattle.std.specs.Prelude.{◌≡◌, ◌≤◌, ◌+◌, ◌↔◌, IfErr, IfOk, IsOk, OnErr, OnOk, length};
+ghost use Rattle.ntfs_def.specs.Attribute.{attributes};
+ghost use Rattle.ntfs_def.specs.Record.{used_size};
+ghost use Rattle.ntfs_def.specs.Shape.{HasShape, IsOneAttribute};
+ghost use Rattle.attr_view.specs.Edit.{Inserts, LacksRoom, SetsHeader};
+ghost use Rattle.attr_view.specs.View.{Refuses, viewed_block};
+
+use crate::edit::{insert_bytes, put_header};
+use crate::shape::{count_of, place_in};
+use crate::{RecordView, ViewNo};
+use ntfs_def::lengths::RECORD;
+use vol_bytes::u32_at;
+
+/// The fields of a record's header that an owner chooses.
+#[derive(Clone, Copy, Debug, PartialEq, Eq)]
+pub struct RecordHeader {
+    /// How often the record was used anew.
+    pub sequence: u16,
+    /// The names of the file.
+    pub links: u16,
+    /// 1 in use, 2 directory.
+    pub flags: u16,
+    /// The reference of the base record, 0 in a base record.
+    pub base: u64,
+}
+
+/// A file record whose attributes can be read and edited. All its bytes stay in the block that was lent.
+///
+/// It has no `Drop`: `finish` gives the block back.
+#[derive(Debug)]
+pub struct RecordMut<'r> {
+    block: &'r mut [u8; 1024],
+    ghost shape: { HasShape block.now (length (attributes block.now)) },
+}
+
+// Tests the shape.
+fn test_shape(block: &[u8; 1024]) -> Result<(), ViewNo>
+    ensures shape { OnOk result (HasShape block.now (length (attributes block.now))) }
+    ensures err { IfErr result (Refuses block.now) }
+{
+    let view = RecordView::new(block)?;
+    let _ = view;
+    Ok(())
+}
+
+// Puts an attribute into a record before attribute i, or behind all.
+fn insert_in(block: &mut [u8; 1024], i: usize, attr: &[u8]) -> Result<(), ViewNo>
+    requires shape { HasShape block.old (length (attributes block.old)) }
+    requires place { i ≤ length (attributes block.old) }
+    requires one { IsOneAttribute attr.now }
+    ensures ok { OnOk result (Inserts block.old block.new attr.now i) }
+    ensures fits { IsOk result ↔ (used_size block.old + length attr.now ≤ 1024) }
+    ensures err { IfErr result (LacksRoom block.old (length attr.now)) }
+    ensures kept { OnErr result (block.new ≡ block.old) }
+{
+    let need = attr.len();
+    let free = RECORD - u32_at(block, 0x18) as usize;
+    if need > free {
+        return Err(ViewNo::Full { need, free });
+    }
+    let at = place_in(block, i);
+    insert_bytes(block, at, attr);
+    Ok(())
+}
+
+// Sets fields of a record's header.
+fn set_header_in(block: &mut [u8; 1024], header: RecordHeader)
+    requires { HasShape block.old (length (attributes block.old)) }
+    ensures { SetsHeader block.old block.new header }
+{
+    put_header(block, header);
+}
+
+impl<'r> RecordMut<'r> {
+    ghost use Rattle.attr_view.specs.Edited.{edited_block, reference_of};
+
+    /// An opened record that can be edited.
+    ///
+    /// # Errors
+    ///
+    /// `Shape` exactly where the shape clause of the volume definition fails, with the first place where it does.
+    pub fn new(block: &'r mut [u8; 1024]) -> Result<RecordMut<'r>, ViewNo>
+        ensures same_reference { IfOk result (λ edited. reference_of edited ≡ block.entry.ghost_name) }
+        ensures ok { IfOk result (λ edited. edited_block edited ≡ block.old) }
+        ensures shape { IfOk result (λ edited. HasShape block.old (length (attributes block.old))) }
+        ensures err { IfErr result (Refuses block.old) }
+    {
+        test_shape(block)?;
+        Ok(RecordMut { block })
+    }
+
+    /// Gives the block back.
+    pub fn finish(self) -> &'r mut [u8; 1024]
+        ensures same_reference { result.ghost_name ≡ reference_of self.entry }
+        ensures block { result.now ≡ edited_block self.entry }
+    {
+        let RecordMut { block } = self;
+        block
+    }
+
+    /// A view of the record as it is now.
+    pub fn view(&self) -> RecordView<'_>
+        ensures { viewed_block result ≡ edited_block self.now }
+    {
+        match RecordView::new(self.block) {
+            Ok(view) => view,
+            Err(_) => unreachable!(),
+        }
+    }
+
+    /// Puts an attribute before attribute `i`, or behind all, and tells so in the used size and in the next
+    /// attribute id: this one rises by one where the attribute has that very id. All other attributes stay.
+    ///
+    /// # Errors
+    ///
+    /// `Full` exactly where the record has no room for the attribute. It is then as before.
+    pub fn insert(&mut self, i: usize, attr: &[u8]) -> Result<(), ViewNo>
+        requires place { i ≤ length (attributes (edited_block self.old)) }
+        requires one { IsOneAttribute attr.now }
+        ensures same_reference { reference_of self.new ≡ reference_of self.old }
+        ensures ok { OnOk result (Inserts (edited_block self.old) (edited_block self.new) attr.now i) }
+        ensures fits { IsOk result ↔ (used_size (edited_block self.old) + length attr.now ≤ 1024) }
+        ensures err { IfErr result (LacksRoom (edited_block self.old) (length attr.now)) }
+        ensures kept { OnErr result (edited_block self.new ≡ edited_block self.old) }
+    {
+        insert_in(self.block, i, attr)
+    }
+
+    /// Sets these fields of the record's header. All other bytes stay.
+    pub fn set_header(&mut self, header: RecordHeader)
+        ensures same_reference { reference_of self.new ≡ reference_of self.old }
+        ensures set { SetsHeader (edited_block self.old) (edited_block self.new) header }
+    {
+        set_header_in(self.block, header);
+    }
+}
