@@ -26,6 +26,7 @@ pub mod Version
 pub mod NewVolumes
 pub mod Images
 pub mod ItemSectors
+pub mod Kept
 pub mod WholeClusters
 pub mod BootLaws
 mod Tested

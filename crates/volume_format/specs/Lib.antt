@@ -10,3 +10,5 @@ pub mod NewVolume
 pub mod Written
 pub mod NewBoot
 pub mod NewRecord
+pub mod Made
+pub mod Formatted

@@ -13,6 +13,7 @@ mod options;
 mod places;
 mod rules;
 mod value_bytes;
+mod write;
 
 pub use index_laws::planned_indexes;
 pub use item::Item;

@@ -16,6 +16,7 @@ fn byte_at(bytes: &[u8], at: u64) -> u8
 }
 
 /// Bytes that stand in memory, and zeros behind them.
+#[derive(Clone, Copy)]
 pub struct Bytes<'a> {
     pub bytes: &'a [u8],
 }
@@ -33,6 +34,7 @@ impl Item for Bytes<'_> {
 }
 
 /// A bitmap of which so many bits are set, from its first on.
+#[derive(Clone, Copy)]
 pub struct Ones {
     pub count: u64,
 }
@@ -51,6 +53,7 @@ impl Item for Ones {
 }
 
 /// A log in which nothing stands.
+#[derive(Clone, Copy)]
 pub struct EmptyLog;
 
 impl Item for EmptyLog {
@@ -79,6 +82,7 @@ fn case_of(unit: u16) -> u16
 }
 
 /// The table of case.
+#[derive(Clone, Copy)]
 pub struct CaseTable;
 
 impl Item for CaseTable {
@@ -103,6 +107,7 @@ impl Item for CaseTable {
 const RECORD_BITS: [u8; 8] = [0xFF, 0x0F, 0, 0x03, 0, 0, 0, 0];
 
 /// The bitmap of the records of a new volume.
+#[derive(Clone, Copy)]
 pub struct RecordBits;
 
 impl Item for RecordBits {
@@ -131,6 +136,7 @@ const SECURITY_ENTRY: [u8; 40] = [
 const SECURITY_BLOCK: u64 = 262144;
 
 /// The security descriptors, and their copy.
+#[derive(Clone, Copy)]
 pub struct Security;
 
 impl Item for Security {

@@ -5,6 +5,5 @@ use Rattle.volume_format.proofs.item.write_item.Goals as goal
 pub write_sectors-requires-clause-within : goal.write_sectors-requires-clause-within
 write_sectors-requires-clause-within g c =
     let per = c.sectors_per-per.ensures in
-    let clusters = c.needed-clusters.ensures in
     let most = rounded-most c.args.places.now.size c.args.len per.one in
-    omega (arith, most, c.requires.within, clusters.needed, per.per)
+    rw (c.needed-clusters.ensures.needed, per.per) (omega (arith, most, c.requires.within))
