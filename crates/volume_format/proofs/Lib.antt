@@ -27,6 +27,7 @@ pub mod NewVolumes
 pub mod Images
 pub mod ItemSectors
 pub mod Kept
+pub mod KeptItems
 pub mod WholeClusters
 pub mod BootLaws
 mod Tested
