@@ -5,6 +5,7 @@ mod attribute;
 mod laws;
 mod new_record;
 mod places;
+mod record_blocks;
 mod value_bytes;
 
 pub use places::Places;

@@ -1,0 +1,5 @@
+use Rattle.std.proofs.Common.{◌≡◌, ap, sym, subst, ◌∙◌}
+use Rattle.volume_format.proofs.record_blocks.fill_extend.Goals as goal
+
+pub returns : goal.returns
+returns c = ?
