@@ -176,6 +176,12 @@ pub AddsPart-value : (old new : List ℕ) (kind : ℕ) (name v w : List ℕ) →
     → AddsPart old new kind name (Value w)
 AddsPart-value old new kind name v w e adds = subst (λ x. AddsPart old new kind name (Value x)) e adds
 
+-- .. and the place of a stream
+pub AddsPart-at : (old new : List ℕ) (kind : ℕ) (name : List ℕ) (p : Plan) (from to bytes : ℕ) → from ≡ to
+    → AddsPart old new kind name (stream_content p from bytes)
+    → AddsPart old new kind name (stream_content p to bytes)
+AddsPart-at old new kind name p from to bytes e adds = subst (λ at. AddsPart old new kind name (stream_content p at bytes)) e adds
+
 -- the content of a stream, as the plan says it
 last_vcn-some : (n : ℕ) → 0 < n → n - 1 ≡ last_vcn_of n
 last_vcn-some n some = let t : (n == 0) ≡ false = grind (arith, nat_tests) in rw t refl

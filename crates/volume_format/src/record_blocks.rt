@@ -245,9 +245,10 @@ fn add_bad(alloc: Global, places: &Places, block: &mut [u8; 1024]) -> Result<(),
     ensures { OnOk result (AddsPart block.old block.new DATA bad_name (bad_part places.now).content) }
 {
     let len = places.clusters();
+    let all = places.all();
     let sizes = Sizes {
-        allocated: places.all(),
-        real: places.all(),
+        allocated: all,
+        real: all,
         initialized: 0,
         first: 0,
         last: len - 1,
