@@ -27,3 +27,4 @@ pub mod ResidentLaws
 pub mod ExtentLaws
 pub mod NewRecordLaws
 pub mod PlaceLaws
+pub mod StoredLaws

@@ -8,6 +8,7 @@ use Rattle.std.proofs.lemmas.List.Edits.{insert_end}
 use Rattle.std.proofs.lemmas.List.Elements.{All-append}
 use Rattle.vol_bytes.proofs.FieldLaws.{u16_at-same}
 use Rattle.attr_view.specs.Edit.{Inserts, next_id_after, with_next_id}
+use Rattle.ntfs_def.specs.declared.kinds.TheConstants.{DATA}
 use Rattle.ntfs_def.specs.First.{first_failing}
 use Rattle.ntfs_def.specs.Attribute.{Attribute, attribute_at, attribute_id, attributes, value_offset}
 use Rattle.ntfs_def.specs.Fixup.{array_place, sequence_number}
@@ -21,7 +22,7 @@ use Rattle.ntfs_def.proofs.SameLaws.{headers_same}
 use Rattle.ntfs_def.proofs.ShapeLaws.{HasShape-few, header_failing-length}
 use Rattle.volume_def.specs.Files.{Content, Part, Record, Value, part_of, record_of}
 use Rattle.volume_def.specs.ExtentsClause.{last_vcn_of}
-use Rattle.volume_format.specs.Plan.{Plan, bad_part, needed, part}
+use Rattle.volume_format.specs.Plan.{Plan, bad_part, file, needed, part, stream_part}
 use Rattle.volume_format.specs.Planned.{AreAligned}
 use Rattle.volume_format.specs.AttributeBytes.{IsPart, one_run}
 use Rattle.volume_format.specs.NewRecord.{AddsPart, IsNewRecord, blank_block, blank_header, blank_record, stream_content, with_part}
@@ -203,3 +204,14 @@ pub content-bad : (p : Plan) (all len : ℕ) → all ≡ p.clusters * p.size →
 content-bad p all len e f some =
     ap (λ k. one_run (record { allocated = all; real = k; initialized = 0; first = 0; last = len - 1 }) (record { len = len; lcn = None })) e
     ∙ content-same _ _ _ _ (p.clusters * p.size) 0 _ _ None e (last_vcn-some len some ∙ ap last_vcn_of f) f
+
+-- a record of a file with one stream, whose place and bytes are told otherwise
+abbrev one_stream : ℕ → List ℕ → Plan → ℕ → ℕ → Option Record
+one_stream n letters p at bytes = file n n 1 5 0 letters (stream_part p n DATA [] 2 at bytes ∷ [])
+
+pub IsNewRecord-stream : (n : ℕ) (letters : List ℕ) (p : Plan) (at place bytes len : ℕ) (block : List ℕ) → at ≡ place → bytes ≡ len
+    → IsNewRecord n (file n n 1 5 0 letters (stream_part p n DATA [] 2 at bytes ∷ [])) block
+    → IsNewRecord n (file n n 1 5 0 letters (stream_part p n DATA [] 2 place len ∷ [])) block
+IsNewRecord-stream n letters p at place bytes len block e f is =
+    subst (λ k. IsNewRecord n (one_stream n letters p place k) block) f
+    (subst (λ k. IsNewRecord n (one_stream n letters p k bytes) block) e is)

@@ -7,3 +7,4 @@ pub mod Planned
 pub mod Options
 pub mod NewVolume
 pub mod NewRecord
+pub mod StoredRecord

@@ -6,7 +6,9 @@ mod laws;
 mod new_record;
 mod places;
 mod record_blocks;
+mod stored;
 mod value_bytes;
 
+pub use stored::fill_stored;
 pub use places::Places;
 pub use laws::{content_laws, plan_laws, planned_laws};

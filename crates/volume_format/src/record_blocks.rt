@@ -1,5 +1,5 @@
 //! The records of a new volume, each in its opened block.
-ghost use Rattle.std.specs.Prelude.{◌≡◌, ◌≤◌, ◌<◌, ◌+◌, ◌^◌, ◌%◌, [], ◌∷◌, OnOk, length};
+ghost use Rattle.std.specs.Prelude.{◌≡◌, ◌≤◌, ◌<◌, ◌+◌, ◌^◌, ◌%◌, [], ◌∷◌, IsTrue, OnOk, length};
 ghost use Rattle.ntfs_def.specs.declared.kinds.TheConstants.{DATA, END, INDEX_ROOT};
 ghost use Rattle.ntfs_def.specs.Attribute.{attributes};
 ghost use Rattle.ntfs_def.specs.Record.{used_size};
@@ -9,11 +9,11 @@ ghost use Rattle.volume_def.specs.ExtentsClause.{bad_name};
 ghost use Rattle.volume_def.specs.Files.{Value};
 ghost use Rattle.volume_format.specs.AttributeBytes.{runs_at};
 ghost use Rattle.volume_format.specs.NewRecord.{AddsPart, IsNewRecord, stream_content};
-ghost use Rattle.volume_format.specs.Plan.{bad_part, file, last_entry, part, record_0, record_3, record_4, record_5, record_8, record_9, record_11, root_value, stream_part, up_to_8};
+ghost use Rattle.volume_format.specs.Plan.{bad_part, file, is_planned, last_entry, listed, part, planned, record_0, record_1, record_2, record_3, record_4, record_5, record_6, record_7, record_8, record_9, record_10, record_11, root_value, stream_part, up_to_8};
 
 use crate::Places;
 use crate::new_record::{add_stream, add_value, blank};
-use crate::places::{NODE_LEN, SECURITY_LEN, TABLE_BITS_LEN, TABLE_LEN};
+use crate::places::{BOOT_LEN, CASE_LEN, LOG_LEN, MIRROR_LEN, NODE_LEN, SECURITY_LEN, TABLE_BITS_LEN, TABLE_LEN};
 use crate::value_bytes::{DESCRIPTOR_HEADER, LAST_ABOVE, LAST_ENTRY, extend_entries, key_entries, name_value, root_value, standard_value};
 use ntfs_def::kinds::{
     BITMAP, DATA, FILE_NAME, INDEX_ALLOCATION, INDEX_ROOT, STANDARD_INFORMATION, VOLUME_INFORMATION, VOLUME_NAME,
@@ -340,4 +340,85 @@ fn fill_index(
     begin(alloc, block, start, letters)?;
     add_root(alloc, places, block, index, root, &LAST_ENTRY)?;
     Ok(())
+}
+
+// Record 1, $MFTMirr.
+fn fill_mirror(alloc: Global, places: &Places, block: &mut [u8; 1024]) -> Result<(), AllocError>
+    ensures { OnOk result (IsNewRecord 1 (record_1 places.now) block.new) }
+{
+    let at = places.mirror_at();
+    fill_stream(alloc, places, block, 1, b"$MFTMirr", at, MIRROR_LEN)?;
+    Ok(())
+}
+
+// Record 2, $LogFile.
+fn fill_log(alloc: Global, places: &Places, block: &mut [u8; 1024]) -> Result<(), AllocError>
+    ensures { OnOk result (IsNewRecord 2 (record_2 places.now) block.new) }
+{
+    let at = places.log_at();
+    fill_stream(alloc, places, block, 2, b"$LogFile", at, LOG_LEN)?;
+    Ok(())
+}
+
+// Record 6, $Bitmap.
+fn fill_bits(alloc: Global, places: &Places, block: &mut [u8; 1024]) -> Result<(), AllocError>
+    ensures { OnOk result (IsNewRecord 6 (record_6 places.now) block.new) }
+{
+    let at = places.bits_at();
+    let bytes = places.bits_len();
+    fill_stream(alloc, places, block, 6, b"$Bitmap", at, bytes)?;
+    Ok(())
+}
+
+// Record 7, $Boot.
+fn fill_boot(alloc: Global, places: &Places, block: &mut [u8; 1024]) -> Result<(), AllocError>
+    ensures { OnOk result (IsNewRecord 7 (record_7 places.now) block.new) }
+{
+    fill_stream(alloc, places, block, 7, b"$Boot", 0, BOOT_LEN)?;
+    Ok(())
+}
+
+// Record 10, $UpCase.
+fn fill_case(alloc: Global, places: &Places, block: &mut [u8; 1024]) -> Result<(), AllocError>
+    ensures { OnOk result (IsNewRecord 10 (record_10 places.now) block.new) }
+{
+    let at = places.case_at();
+    fill_stream(alloc, places, block, 10, b"$UpCase", at, CASE_LEN)?;
+    Ok(())
+}
+
+/// Whether a new volume has a record of this number.
+pub fn is_planned(n: usize) -> bool
+    ensures { result ≡ is_planned n }
+{
+    n < 12 || n == 24 || n == 25
+}
+
+/// The opened block of a record of a new volume. It was never stored.
+pub fn fill_record(
+    alloc: Global,
+    places: &Places,
+    n: usize,
+    block: &mut [u8; 1024],
+) -> Result<(), AllocError>
+    requires { IsTrue (is_planned n) }
+    ensures { OnOk result (IsNewRecord n (listed (planned places.now) n) block.new) }
+{
+    match n {
+        0 => fill_table(alloc, places, block),
+        1 => fill_mirror(alloc, places, block),
+        2 => fill_log(alloc, places, block),
+        3 => fill_volume(alloc, places, block),
+        4 => fill_kinds(alloc, places, block),
+        5 => fill_root(alloc, places, block),
+        6 => fill_bits(alloc, places, block),
+        7 => fill_boot(alloc, places, block),
+        8 => fill_bad(alloc, places, block),
+        9 => fill_security(alloc, places, block),
+        10 => fill_case(alloc, places, block),
+        11 => fill_extend(alloc, places, block),
+        24 => fill_index(alloc, places, block, 24, b"$ObjId", b"$O"),
+        25 => fill_index(alloc, places, block, 25, b"$Reparse", b"$R"),
+        _ => unreachable!(),
+    }
 }
