@@ -28,3 +28,4 @@ pub mod ExtentLaws
 pub mod NewRecordLaws
 pub mod PlaceLaws
 pub mod StoredLaws
+pub mod NodeBlockLaws

@@ -8,3 +8,4 @@ pub mod Options
 pub mod NewVolume
 pub mod NewRecord
 pub mod StoredRecord
+pub mod NodeBlock

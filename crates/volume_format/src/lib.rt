@@ -6,9 +6,11 @@ mod laws;
 mod new_record;
 mod places;
 mod record_blocks;
+mod root;
 mod stored;
 mod value_bytes;
 
+pub use root::fill_root_node;
 pub use stored::fill_stored;
 pub use places::Places;
 pub use laws::{content_laws, plan_laws, planned_laws};

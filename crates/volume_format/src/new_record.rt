@@ -18,7 +18,7 @@ use std::alloc::{AllocError, Global};
 use vol_bytes::u16_at;
 
 // Puts the header of a record over its first bytes.
-fn put_front(block: &mut [u8], header: &[u8; 64])
+pub fn put_front(block: &mut [u8], header: &[u8; 64])
     requires { 64 ≤ length block.old }
     ensures { block.new ≡ header.now ++ drop 64 block.old }
 {
