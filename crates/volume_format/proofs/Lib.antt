@@ -45,3 +45,5 @@ pub mod ResidentLaws
 pub mod ExtentLaws
 pub mod NewRecordLaws
 pub mod PlaceLaws
+pub mod StoredLaws
+pub mod NodeBlockLaws

@@ -8,10 +8,11 @@ use Rattle.std.proofs.lemmas.List.Edits.{insert_end}
 use Rattle.std.proofs.lemmas.List.Elements.{All-append}
 use Rattle.vol_bytes.proofs.FieldLaws.{u16_at-same}
 use Rattle.attr_view.specs.Edit.{Inserts, next_id_after, with_next_id}
+use Rattle.ntfs_def.specs.declared.kinds.TheConstants.{DATA}
 use Rattle.ntfs_def.specs.First.{first_failing}
 use Rattle.ntfs_def.specs.Attribute.{Attribute, attribute_at, attribute_id, attributes, value_offset}
 use Rattle.ntfs_def.specs.Fixup.{array_place, sequence_number}
-use Rattle.ntfs_def.specs.Record.{Header, header_of, is_in_use, next_attribute_id}
+use Rattle.ntfs_def.specs.Record.{Header, header_of, is_in_use, next_attribute_id, used_size}
 use Rattle.ntfs_def.specs.Shape.{HasShape, IsOneAttribute, header_failing}
 use Rattle.ntfs_def.specs.Units.{wide}
 use Rattle.vol_bytes.specs.Field.{u16_at}
@@ -19,11 +20,12 @@ use Rattle.ntfs_def.proofs.AttributeLaws.{length-attributes}
 use Rattle.ntfs_def.proofs.PlaceLaws.{attribute_place-bounded}
 use Rattle.ntfs_def.proofs.SameLaws.{headers_same}
 use Rattle.ntfs_def.proofs.ShapeLaws.{HasShape-few, header_failing-length}
-use Rattle.volume_def.specs.Files.{Content, Part, Record, part_of, record_of}
-use Rattle.volume_format.specs.Plan.{file, part}
+use Rattle.volume_def.specs.Files.{Content, Part, Record, Value, part_of, record_of}
+use Rattle.volume_def.specs.ExtentsClause.{last_vcn_of}
+use Rattle.volume_format.specs.Plan.{Plan, bad_part, file, needed, part, stream_part}
 use Rattle.volume_format.specs.Planned.{AreAligned}
-use Rattle.volume_format.specs.AttributeBytes.{IsPart}
-use Rattle.volume_format.specs.NewRecord.{AddsPart, IsNewRecord, blank_block, blank_header, with_part}
+use Rattle.volume_format.specs.AttributeBytes.{IsPart, one_run}
+use Rattle.volume_format.specs.NewRecord.{AddsPart, IsNewRecord, blank_block, blank_header, blank_record, stream_content, with_part}
 
 pub length-wide : (letters : List ℕ) → length (wide letters) ≡ 2 * length letters
 length-wide [] = refl
@@ -138,6 +140,9 @@ module _ (number sequence flags z : ℕ) (small_number : number < 256) (small : 
     parts = [];
   }
 
+  used-blank : used_size blank ≡ 0x40
+  used-blank = omega arith
+
   means-blank : Some (record_of number blank) ≡ Some made
   unfolding header_of
   means-blank =
@@ -155,15 +160,58 @@ module _ (number sequence flags z : ℕ) (small_number : number < 256) (small : 
     aligned = rw list-blank (λ k d lt. absurd (omega arith));
   }
 
--- .. of a new volume, before its first attribute
-abbrev pub blank_record : ℕ → ℕ → ℕ → Record
-blank_record number sequence flags = record {
-  header = record { sequence = sequence; links = 1; flags = flags; base = None; next_id = 0; number = number };
-  parts = [];
-}
-
 pub IsNewRecord-blank : (number sequence flags : ℕ) → number < 256 → sequence < 256 → flags < 256 → flags % 2 ≡ 1
     → IsNewRecord number (Some (blank_record number sequence flags)) (blank_block number sequence flags)
 unfolding blank_block
 IsNewRecord-blank number sequence flags small_number small small_flags odd =
     new-blank number sequence flags 960 small_number small small_flags odd refl
+
+pub used_size-blank : (number sequence flags : ℕ) → number < 256 → sequence < 256 → flags < 256 → flags % 2 ≡ 1
+    → used_size (blank_block number sequence flags) ≡ 0x40
+unfolding blank_block
+used_size-blank number sequence flags small_number small small_flags odd =
+    used-blank number sequence flags 960 small_number small small_flags odd refl
+
+-- a part's value, told otherwise
+pub AddsPart-value : (old new : List ℕ) (kind : ℕ) (name v w : List ℕ) → v ≡ w → AddsPart old new kind name (Value v)
+    → AddsPart old new kind name (Value w)
+AddsPart-value old new kind name v w e adds = subst (λ x. AddsPart old new kind name (Value x)) e adds
+
+-- .. and the place of a stream
+pub AddsPart-at : (old new : List ℕ) (kind : ℕ) (name : List ℕ) (p : Plan) (from to bytes : ℕ) → from ≡ to
+    → AddsPart old new kind name (stream_content p from bytes)
+    → AddsPart old new kind name (stream_content p to bytes)
+AddsPart-at old new kind name p from to bytes e adds = subst (λ at. AddsPart old new kind name (stream_content p at bytes)) e adds
+
+-- the content of a stream, as the plan says it
+last_vcn-some : (n : ℕ) → 0 < n → n - 1 ≡ last_vcn_of n
+last_vcn-some n some = let t : (n == 0) ≡ false = grind (arith, nat_tests) in rw t refl
+
+content-same : (a b l m real initialized : ℕ) (n k : ℕ) (lcn : Option ℕ) → a ≡ b → l ≡ m → n ≡ k
+    → one_run (record { allocated = a; real = real; initialized = initialized; first = 0; last = l }) (record { len = n; lcn = lcn })
+    ≡ one_run (record { allocated = b; real = real; initialized = initialized; first = 0; last = m }) (record { len = k; lcn = lcn })
+content-same a b l m real initialized n k lcn e f g = cc
+
+pub content-item : (p : Plan) (at bytes allocated len : ℕ) → allocated ≡ needed p bytes * p.size → len ≡ needed p bytes → 0 < len
+    → one_run (record { allocated = allocated; real = bytes; initialized = bytes; first = 0; last = len - 1 }) (record { len = len; lcn = Some at })
+    ≡ stream_content p at bytes
+content-item p at bytes allocated len e f some =
+    content-same _ _ _ _ bytes bytes _ _ (Some at) e (last_vcn-some len some ∙ ap last_vcn_of f) f
+
+pub content-bad : (p : Plan) (all len : ℕ) → all ≡ p.clusters * p.size → len ≡ p.clusters → 0 < len
+    → one_run (record { allocated = all; real = all; initialized = 0; first = 0; last = len - 1 }) (record { len = len; lcn = None })
+    ≡ (bad_part p).content
+content-bad p all len e f some =
+    ap (λ k. one_run (record { allocated = all; real = k; initialized = 0; first = 0; last = len - 1 }) (record { len = len; lcn = None })) e
+    ∙ content-same _ _ _ _ (p.clusters * p.size) 0 _ _ None e (last_vcn-some len some ∙ ap last_vcn_of f) f
+
+-- a record of a file with one stream, whose place and bytes are told otherwise
+abbrev one_stream : ℕ → List ℕ → Plan → ℕ → ℕ → Option Record
+one_stream n letters p at bytes = file n n 1 5 0 letters (stream_part p n DATA [] 2 at bytes ∷ [])
+
+pub IsNewRecord-stream : (n : ℕ) (letters : List ℕ) (p : Plan) (at place bytes len : ℕ) (block : List ℕ) → at ≡ place → bytes ≡ len
+    → IsNewRecord n (file n n 1 5 0 letters (stream_part p n DATA [] 2 at bytes ∷ [])) block
+    → IsNewRecord n (file n n 1 5 0 letters (stream_part p n DATA [] 2 place len ∷ [])) block
+IsNewRecord-stream n letters p at place bytes len block e f is =
+    subst (λ k. IsNewRecord n (one_stream n letters p place k) block) f
+    (subst (λ k. IsNewRecord n (one_stream n letters p k bytes) block) e is)

@@ -1,5 +1,5 @@
 -- The clusters that bytes need are few.
-use Rattle.std.proofs.Common.{◌≡◌, ℕ, ◌+◌, ◌-◌, ◌*◌, ◌/◌, ◌<◌, ◌≤◌, inl, inr, arith}
+use Rattle.std.proofs.Common.{◌≡◌, ℕ, ◌+◌, ◌-◌, ◌*◌, ◌/◌, ◌^◌, ◌<◌, ◌≤◌, inl, inr, arith}
 use Rattle.volume_format.specs.FitsPlan.{IsClusterSize}
 use Rattle.volume_format.specs.Plan.{Plan, needed}
 
@@ -27,3 +27,12 @@ IsClusterSize-most size (inl e) = omega arith
 IsClusterSize-most size (inr (inl e)) = omega arith
 IsClusterSize-most size (inr (inr (inl e))) = omega arith
 IsClusterSize-most size (inr (inr (inr e))) = omega arith
+
+-- so many clusters of some size have few bytes
+pub times-few : (count size : ℕ) → IsClusterSize size → count ≤ 2 ^ 26 → count * size < 2 ^ 40
+times-few count size (inl e) few = rw e (omega arith)
+times-few count size (inr (inl e)) few = rw e (omega arith)
+times-few count size (inr (inr (inl e))) few = rw e (omega arith)
+times-few count size (inr (inr (inr e))) few = rw e (omega arith)
+
+pub ruleset clusters_laws = (times-few)

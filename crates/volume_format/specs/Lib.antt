@@ -12,3 +12,5 @@ pub mod NewBoot
 pub mod NewRecord
 pub mod Made
 pub mod Formatted
+pub mod StoredRecord
+pub mod NodeBlock

@@ -1,13 +1,13 @@
 -- The opened block of a record that is made for a new volume.
 -- Layout: as in `Record` of ntfs_def.
-use Rattle.std.specs.Prelude.{◌≡◌, ℕ, ◌+◌, true, List, [], ◌∷◌, ◌++◌, codes, length, replicate, Option, Some, option_map}
+use Rattle.std.specs.Prelude.{◌≡◌, ℕ, ◌+◌, true, List, [], ◌∷◌, ◌++◌, codes, length, replicate, Option, Some, None, option_map}
 use Rattle.attr_view.specs.Edit.{with_next_id}
 use Rattle.ntfs_def.specs.Attribute.{attributes}
 use Rattle.ntfs_def.specs.Fixup.{sequence_number}
 use Rattle.ntfs_def.specs.Record.{is_in_use, next_attribute_id}
 use Rattle.ntfs_def.specs.Shape.{HasShape}
-use Rattle.volume_def.specs.Files.{Content, Record, record_of}
-use Rattle.volume_format.specs.Plan.{part}
+use Rattle.volume_def.specs.Files.{Clusters, Content, Record, record_of}
+use Rattle.volume_format.specs.Plan.{Plan, extent_for, needed, part}
 use Rattle.volume_format.specs.Planned.{AreAligned}
 
 -- a record without attributes: its header, and the end mark at 0x38
@@ -20,6 +20,13 @@ blank_header number sequence flags =
 
 unfoldable pub blank_block : ℕ → ℕ → ℕ → List ℕ
 blank_block number sequence flags = blank_header number sequence flags ++ replicate 960 0
+
+-- .. and what it means
+abbrev pub blank_record : ℕ → ℕ → ℕ → Record
+blank_record number sequence flags = record {
+  header = record { sequence = sequence; links = 1; flags = flags; base = None; next_id = 0; number = number };
+  parts = [];
+}
 
 -- The block is record n, in use, as it is planned. It was never stored: its update sequence number is 0.
 pub record IsNewRecord (n : ℕ) (planned : Option Record) (block : List ℕ) : Type 0 where
@@ -43,3 +50,7 @@ abbrev pub AddsPart : List ℕ → List ℕ → ℕ → List ℕ → Content →
 AddsPart old new kind name content =
     (n : ℕ) (planned : Option Record) → IsNewRecord n planned old
     → IsNewRecord n (option_map (with_part n kind name content) planned) new
+
+-- a stream of so many bytes in one run from a cluster on
+abbrev pub stream_content : Plan → ℕ → ℕ → Content
+stream_content p at bytes = Clusters (extent_for p bytes) (Some (record { len = needed p bytes; lcn = Some at } ∷ []))

@@ -1,7 +1,7 @@
 -- What a new volume is: where its items lie, and what its records say.
 -- Layout: the system's files as in the Linux-NTFS documentation, "System Files", and in Carrier, File System Forensic
 -- Analysis, chapters 11 and 12; their places on the volume and the values are this project's choice.
-use Rattle.std.specs.Prelude.{ℕ, ◌+◌, ◌-◌, ◌*◌, ◌/◌, List, [], ◌∷◌, ◌++◌, codes, length, replicate, slice_get, Option, Some, None, option_and_then}
+use Rattle.std.specs.Prelude.{ℕ, ◌+◌, ◌-◌, ◌*◌, ◌/◌, ◌==◌, ◌||◌, nat_lt, Bool, List, [], ◌∷◌, ◌++◌, codes, length, replicate, slice_get, Option, Some, None, option_and_then}
 use Rattle.ntfs_def.specs.declared.kinds.TheConstants.{BITMAP, DATA, FILE_NAME, INDEX_ALLOCATION, INDEX_ROOT, STANDARD_INFORMATION, VOLUME_INFORMATION, VOLUME_NAME}
 use Rattle.ntfs_def.specs.Attribute.{ExtentHeader}
 use Rattle.ntfs_def.specs.Units.{wide}
@@ -267,6 +267,10 @@ planned p =
 -- record n of a list: `None` where the list has none, and where it has no record
 abbrev pub listed : List (Option Record) → ℕ → Option Record
 listed records n = option_and_then (λ r. r) (slice_get records n)
+
+-- the numbers of its records
+abbrev pub is_planned : ℕ → Bool
+is_planned n = nat_lt n 12 || (n == 24) || (n == 25)
 
 -- the records of the table of a new volume
 abbrev pub record_count : ℕ

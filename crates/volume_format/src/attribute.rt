@@ -8,7 +8,7 @@ ghost use Rattle.ntfs_def.specs.Runs.{EndsInReach};
 ghost use Rattle.ntfs_def.specs.Units.{wide};
 ghost use Rattle.volume_def.specs.Files.{Value};
 ghost use Rattle.volume_format.specs.AttributeBytes.{FitSizes, IsExtent, IsPart, IsRunTextOf, extent_header, indexed_byte, one_run, padded, resident_bytes, resident_len, runs_at};
-ghost use Rattle.volume_format.specs.Plan.{up_to_8};
+ghost use Rattle.volume_format.specs.Plan.{fill_to_8, up_to_8};
 
 use data_runs::RunList;
 use ntfs_def::kinds::FILE_NAME;
@@ -41,14 +41,22 @@ pub fn up_to_8(n: usize) -> usize
     (n + 7) / 8 * 8
 }
 
+// The zeros that fill so many bytes up to a multiple of 8.
+pub fn push_fill(text: &mut Vec<u8>, len: usize) -> Result<(), AllocError>
+    requires { len < 2 ^ 32 }
+    ensures { OnOk result (text.new.items ≡ text.old.items ++ fill_to_8 len) }
+{
+    let zeros = [0; 8];
+    text.extend_from_slice(&zeros[..up_to_8(len) - len])
+}
+
 // The bytes, and zeros up to the next multiple of 8.
 pub fn push_padded(text: &mut Vec<u8>, bytes: &[u8]) -> Result<(), AllocError>
     requires { length bytes.now < 2 ^ 32 }
     ensures { OnOk result (text.new.items ≡ text.old.items ++ padded bytes.now) }
 {
     text.extend_from_slice(bytes)?;
-    let zeros = [0; 8];
-    text.extend_from_slice(&zeros[..up_to_8(bytes.len()) - bytes.len()])
+    push_fill(text, bytes.len())
 }
 
 // Each letter as a unit of two bytes.

@@ -1,5 +1,5 @@
 //! A record that is made, attribute by attribute.
-ghost use Rattle.std.specs.Prelude.{◌≡◌, ◌≢◌, ◌≤◌, ◌<◌, ◌+◌, ◌*◌, ◌^◌, ◌++◌, drop, IfOk, OnErr, OnOk, length};
+ghost use Rattle.std.specs.Prelude.{◌≡◌, ◌≢◌, ◌≤◌, ◌<◌, ◌+◌, ◌*◌, ◌^◌, ◌%◌, ◌++◌, Some, drop, IfOk, OnErr, OnOk, length};
 ghost use Rattle.attr_view.specs.Edit.{Inserts};
 ghost use Rattle.ntfs_def.specs.declared.kinds.TheConstants.{END};
 ghost use Rattle.ntfs_def.specs.Attribute.{attributes};
@@ -9,7 +9,7 @@ ghost use Rattle.ntfs_def.specs.Shape.{HasShape, IsOneAttribute};
 ghost use Rattle.ntfs_def.specs.Units.{wide};
 ghost use Rattle.volume_def.specs.Files.{Value};
 ghost use Rattle.volume_format.specs.AttributeBytes.{one_run, resident_len, runs_at};
-ghost use Rattle.volume_format.specs.NewRecord.{AddsPart, blank_block};
+ghost use Rattle.volume_format.specs.NewRecord.{AddsPart, IsNewRecord, blank_block, blank_record};
 
 use crate::attribute::{non_resident, push_wide, resident};
 use attr_view::RecordMut;
@@ -18,7 +18,7 @@ use std::alloc::{AllocError, Global};
 use vol_bytes::u16_at;
 
 // Puts the header of a record over its first bytes.
-fn put_front(block: &mut [u8], header: &[u8; 64])
+pub fn put_front(block: &mut [u8], header: &[u8; 64])
     requires { 64 ≤ length block.old }
     ensures { block.new ≡ header.now ++ drop 64 block.old }
 {
@@ -27,7 +27,10 @@ fn put_front(block: &mut [u8], header: &[u8; 64])
 
 // A record without attributes.
 pub fn blank(block: &mut [u8; 1024], number: u8, sequence: u8, flags: u8)
-    ensures { block.new ≡ blank_block number sequence flags }
+    requires odd { flags % 2 ≡ 1 }
+    ensures bytes { block.new ≡ blank_block number sequence flags }
+    ensures new { IsNewRecord number (Some (blank_record number sequence flags)) block.new }
+    ensures used { used_size block.new ≡ 0x40 }
 {
     let header = [
         0x46, 0x49, 0x4C, 0x45, 0x30, 0, 3, 0, 0, 0, 0, 0, 0, 0, 0, 0, sequence, 0, 1, 0, 0x38, 0,

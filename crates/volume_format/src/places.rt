@@ -117,6 +117,23 @@ impl Places {
         (bytes + (self.size() - 1)) / self.size()
     }
 
+    /// The bytes of the clusters that so many bytes need.
+    #[tactic(auto, using(crate::proofs::PlaceLaws::clusters_laws))]
+    pub fn allocated(&self, bytes: u64) -> u64
+        requires { bytes ≤ 2 ^ 32 }
+        ensures { result ≡ needed self.now bytes * self.now.size }
+    {
+        self.needed(bytes) * self.size()
+    }
+
+    /// The bytes of all clusters.
+    #[tactic(auto, using(crate::proofs::PlaceLaws::clusters_laws))]
+    pub fn all(&self) -> u64
+        ensures { result ≡ self.now.clusters * self.now.size }
+    {
+        self.clusters() * self.size()
+    }
+
     /// The bytes of the bitmap of clusters.
     pub fn bits_len(&self) -> u64
         ensures len { result ≡ bits_len self.now }

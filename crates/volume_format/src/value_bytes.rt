@@ -1,9 +1,9 @@
 //! The values of a new volume's attributes, and the entries of its indexes.
 ghost use Rattle.std.specs.Prelude.{◌≡◌, ◌≤◌, ◌<◌, ◌+◌, ◌*◌, ◌^◌, ◌++◌, IfOk, OnOk, length};
-ghost use Rattle.volume_format.specs.Plan.{descriptor_header, last_above, last_entry, name_entry, name_value, reference_bytes, root_value, standard_value, up_to_8, view_entry};
+ghost use Rattle.volume_format.specs.Plan.{descriptor_header, extend_entries, last_entry, name_entry, name_value, reference_bytes, root_value, standard_value, up_to_8, view_entry};
 
 use crate::Places;
-use crate::attribute::{push_padded, push_wide, up_to_8};
+use crate::attribute::{push_fill, push_padded, push_wide, up_to_8};
 use std::alloc::{AllocError, Global};
 
 /// The last entry of a node without children.
@@ -30,6 +30,7 @@ pub fn standard_value() -> [u8; 72]
 }
 
 /// `$FILE_NAME`: a name in the directory `parent`.
+#[tactic(auto, using(crate::proofs::NewRecordLaws::wide_laws))]
 pub fn name_value(
     alloc: Global,
     parent: u8,
@@ -101,11 +102,36 @@ pub fn push_view_entry(
 {
     let both = key.len() + content.len();
     let len = (16 + up_to_8(both)) as u8;
-    let zeros = [0; 8];
     entries.extend_from_slice(&[(16 + key.len()) as u8, 0, content.len() as u8, 0, 0, 0, 0, 0])?;
     entries.extend_from_slice(&[len, 0, key.len() as u8, 0, 0, 0, 0, 0])?;
     entries.extend_from_slice(key)?;
     entries.extend_from_slice(content)?;
-    entries.extend_from_slice(&zeros[..up_to_8(both) - both])?;
+    push_fill(entries, both)?;
     Ok(())
+}
+
+/// The entries of a view index with one key, that of the only security descriptor.
+pub fn key_entries(alloc: Global, key: &[u8]) -> Result<Vec<u8>, AllocError>
+    requires { length key.now ≤ 8 }
+    ensures entries { IfOk result (λ entries. entries.items ≡ view_entry key.now descriptor_header ++ last_entry) }
+    ensures len { IfOk result (λ entries. length entries.items ≤ 64) }
+{
+    let mut entries = Vec::new(alloc);
+    push_view_entry(&mut entries, key, &DESCRIPTOR_HEADER)?;
+    entries.extend_from_slice(&LAST_ENTRY)?;
+    Ok(entries)
+}
+
+/// The entries of `$Extend`.
+pub fn extend_entries(alloc: Global) -> Result<Vec<u8>, AllocError>
+    ensures entries { IfOk result (λ entries. entries.items ≡ extend_entries) }
+    ensures len { IfOk result (λ entries. length entries.items ≤ 224) }
+{
+    let mut entries = Vec::new(alloc);
+    let object_ids = name_value(alloc, 11, 0, b"$ObjId")?;
+    push_name_entry(&mut entries, 24, 1, &object_ids)?;
+    let reparse = name_value(alloc, 11, 0, b"$Reparse")?;
+    push_name_entry(&mut entries, 25, 1, &reparse)?;
+    entries.extend_from_slice(&LAST_ENTRY)?;
+    Ok(entries)
 }

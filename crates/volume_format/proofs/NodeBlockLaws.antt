@@ -1,0 +1,135 @@
+-- The index record of a new volume's root.
+use Rattle.std.proofs.Common.{◌≡◌, ℕ, zero, suc, ◌+◌, ◌*◌, ◌-◌, ◌/◌, ◌%◌, ◌<◌, ◌≤◌, ◌==◌, ◌&&◌, Bool, true, false, cond, List, [], ◌∷◌, ◌++◌, length, Option, Some, None, get_or, refl, sym, ap, subst, ◌∙◌, arith, rules, length-append}
+use Rattle.std.specs.Prelude.{IsTrue, codes, nat_eq, nat_le, option_and_then, replicate, slice_index, slice_range, if◌then◌else◌}
+use Rattle.std.specs.List.{starts_with, list_all}
+use Rattle.std.proofs.lemmas.Bool.{cases_Bool, false≢true, le-leb}
+use Rattle.std.proofs.lemmas.Bool.Decides.{nat_tests}
+use Rattle.std.proofs.lemmas.List.{length-replicate}
+use Rattle.vol_bytes.specs.Field.{SameOutside, u16_at, u32_at}
+use Rattle.vol_bytes.proofs.FieldLaws.{u16_at-same, u32_at-same, u64_at-same}
+use Rattle.ntfs_def.specs.declared.index.NodeForm.TheVariants.{Names}
+use Rattle.ntfs_def.specs.First.{first_failing}
+use Rattle.ntfs_def.specs.Fixup.{HasArray, IsSealed, Seals, array_count, array_end, array_place, opened_of}
+use Rattle.ntfs_def.specs.Node.{Entry, Node, Whole, are_short, are_short_from, entries_end, entry_len, first_entry, first_offset, has_children, is_entry, is_last_entry, most_len, node_header, node_header_failing, node_in, own_vcn, room_end, scan_from, scan_node, short_node, whole_of}
+use Rattle.ntfs_def.proofs.SameLaws.{starts-same}
+use Rattle.index_node.specs.LayOut.{AreEntries, Holds, KeepsHeader, node_listed, room_len, total_len}
+use Rattle.index_node.proofs.LayOutLaws.{Holds-same, scan_listed}
+use Rattle.index_node.proofs.NodeLaws.{are_short-is, scan_node-is, u16_within}
+use Rattle.volume_format.specs.NodeBlock.{IsNodeBlock, blank_node, blank_node_header}
+use Rattle.volume_format.specs.Planned.{IsRootRecord}
+use Rattle.volume_format.specs.RootIndex.{root_entries}
+
+-- the bytes in use
+abbrev root_used : ℕ
+root_used = 0x28 + total_len root_entries
+
+pub AreEntries-root : AreEntries Names false root_entries
+unfolding is_entry is_last_entry
+AreEntries-root = (refl, (refl, (refl, (refl, (refl, (refl, (refl, (refl, (refl, (refl, (refl, (refl, refl))))))))))))
+
+node_header-is : (node : List ℕ) → length node ≡ 4096 → node_header node ≡ 0x18
+unfolding node_header
+node_header-is node long = ap (λ n. if n == 4096 then 0x18 else 0x10) long
+
+-- A block with such a header is a node, whatever stands in it.
+module _ (used : ℕ) (node : List ℕ) (low : 0x28 ≤ used) (high : used ≤ 0xFE8) (is : IsNodeBlock used node) where
+  header : node_header node ≡ 0x18
+  header = node_header-is node is.long
+
+  pub first-is : first_entry node ≡ 0x40
+  first-is = ap (λ h. h + u32_at node h) header ∙ ap (λ o. 0x18 + o) is.first
+
+  pub end-is : entries_end node ≡ 0x18 + used
+  end-is = ap (λ h. h + u32_at node (h + 0x04)) header ∙ ap (λ o. 0x18 + o) is.used
+
+  room-is : room_end node ≡ 0x1000
+  room-is = ap (λ h. h + u32_at node (h + 0x08)) header ∙ ap (λ o. 0x18 + o) is.room
+
+  offset-is : first_offset node ≡ 0x28
+  offset-is = ap (u32_at node) header ∙ is.first
+
+  six_right : {p1 p2 p3 p4 p5 p6 : ℕ} {b1 b2 b3 b4 b5 b6 : Bool} → b1 ≡ true → b2 ≡ true → b3 ≡ true → b4 ≡ true → b5 ≡ true → b6 ≡ true
+      → first_failing ((b1, p1) ∷ (b2, p2) ∷ (b3, p3) ∷ (b4, p4) ∷ (b5, p5) ∷ (b6, p6) ∷ []) ≡ None
+  six_right h1 h2 h3 h4 h5 h6 = rw (h1, h2, h3, h4, h5, h6)
+
+  array-right : (nat_le 0x28 (array_place node) && nat_le (array_end node) (first_entry node)) ≡ true
+  array-right =
+      rw (le-leb 0x28 (array_place node) (omega (arith, is.place)))
+      (le-leb (array_end node) (first_entry node) (omega (arith, is.place, is.count, first-is)))
+
+  pub header-right : node_header_failing node ≡ None
+  header-right =
+      six_right
+      (le-leb (node_header node + 16) (length node) (omega (arith, header, is.long)))
+      (ap (λ n. if n == 4096 then starts_with nat_eq node (codes "INDX") else true) is.long ∙ is.mark)
+      (ap (λ n. if n == 4096 then nat_le 0x28 (array_place node) && nat_le (array_end node) (first_entry node) else true) is.long ∙ array-right)
+      (le-leb 16 (first_offset node) (omega (arith, offset-is)))
+      (le-leb (entries_end node) (room_end node) (omega (arith, end-is, room-is)))
+      (le-leb (room_end node) (length node) (omega (arith, room-is, is.long)))
+
+  pub HasArray-node : HasArray node
+  HasArray-node = record {
+    some = omega (arith, is.long);
+    whole = omega (arith, is.long);
+    count = omega (arith, is.long, is.count);
+    low = omega (arith, is.place);
+    high = omega (arith, is.place, is.count);
+  }
+
+-- no entry of the root is long
+abbrev is_short : List ℕ → Bool
+is_short entry = (entry_len entry 0 == length entry) && (nat_le 16 (length entry) && nat_le (length entry) 632)
+
+all-short : list_all is_short root_entries ≡ true
+all-short = refl
+
+record ShortEntry (entry : List ℕ) : Type 0 where
+  len : entry_len entry 0 ≡ length entry
+  least : 16 ≤ length entry
+  most : length entry ≤ 632
+
+short_facts : (entry : List ℕ) → is_short entry ≡ true → ShortEntry entry
+short_facts entry t = record { len = search rules; least = search rules; most = search rules }
+
+short_head : (entry : List ℕ) (entries : List (List ℕ)) → list_all is_short (entry ∷ entries) ≡ true → is_short entry ≡ true
+short_head entry entries t = elim (cases_Bool (is_short entry)) [
+  | inl h ↦ h
+  | inr e ↦ absurd (false≢true (rw e at t))
+]
+
+short_tail : (entry : List ℕ) (entries : List (List ℕ)) → list_all is_short (entry ∷ entries) ≡ true → list_all is_short entries ≡ true
+short_tail entry entries t = rw (short_head entry entries t) at t
+
+len-held : (node entry : List ℕ) (at : ℕ) (rest : List (List ℕ)) → Holds node at (entry ∷ rest) → ShortEntry entry → entry_len node at ≡ length entry
+len-held node entry at rest holds short =
+    sym (u16_within node at (length entry) 8 (omega (arith, short.least))) ∙ ap (λ xs. u16_at xs 8) holds.0 ∙ short.len
+
+short-held : (node entry : List ℕ) (entries : List (List ℕ)) (at : ℕ) → list_all is_short (entry ∷ entries) ≡ true
+    → Holds node at (entry ∷ entries)
+    → are_short_from node 632 at (length entries) ≡ true
+short-held node entry [] at t holds =
+    let short = short_facts entry (short_head entry [] t) in
+    le-leb (entry_len node at) 632 (omega (arith, len-held node entry at [] holds short, short.most))
+short-held node entry (next ∷ entries) at t holds =
+    let short = short_facts entry (short_head entry (next ∷ entries) t) in
+    let len = len-held node entry at (next ∷ entries) holds short in
+    rw (le-leb (entry_len node at) 632 (omega (arith, len, short.most)))
+    (ap (λ k. are_short_from node 632 (at + k) (length entries)) len
+    ∙ short-held node next entries (at + length entry) (short_tail entry (next ∷ entries) t) holds.1)
+
+-- Such a block with the entries of the root says them.
+module _ (node : List ℕ) (is : IsNodeBlock root_used node) (leaf : has_children node ≡ false) (holds : Holds node 0x40 root_entries) where
+  node_in-root : node_in Names node ≡ Some (node_listed false root_entries)
+  node_in-root =
+      ap whole_of (scan_node-is Names node false (0x18 + root_used) 0x40 (Whole (node_listed false root_entries))
+      (header-right root_used node (omega arith) (omega arith) is) (sym leaf)
+      (sym (end-is root_used node (omega arith) (omega arith) is)) (sym (first-is root_used node (omega arith) (omega arith) is))
+      ?)
+
+  short-root : are_short node 12 ≡ true
+  short-root = ?
+
+  pub says-root : short_node Names node ≡ Some (node_listed false root_entries)
+  says-root =
+      ap (option_and_then (λ (said : Node). if are_short node (length said.entries) then Some said else None)) node_in-root
+      ∙ ap (λ b. cond b (Some (node_listed false root_entries)) None) short-root
