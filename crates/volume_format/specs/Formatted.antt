@@ -3,24 +3,14 @@ use Rattle.std.specs.Prelude.{◌≡◌, ℕ, List, Some}
 use Rattle.ntfs_def.specs.Boot.{boot_sector}
 use Rattle.vol_disk.specs.Contents.{sector_in}
 use Rattle.volume_def.specs.Sound.{IsAccepted, told_view}
-use Rattle.vol_disk.specs.Count.{Rose}
-use Rattle.volume_format.specs.declared.format.FormatNo.{FormatNo}
-use Rattle.volume_format.specs.declared.format.FormatNo.TheVariants.{Device, Memory, Options}
 use Rattle.volume_format.specs.NewBoot.{HasGeometry}
-use Rattle.volume_format.specs.Options.{plan_of}
-use Rattle.volume_format.specs.Options as options
+use Rattle.volume_format.specs.Options.{Options, plan_of}
 use Rattle.volume_format.specs.Planned.{IsPlanned}
 
 -- The contents of a disk of so many sectors are a new volume with these options: the volume definition accepts them, they are
 -- what the plan says, so that the records, the label and the owners are those of the plan, and the geometry and the serial
 -- number are those of the options.
-pub record IsNewVolume (o : options.Options) (sectors : ℕ) (all : List ℕ) : Type 0 where
+pub record IsNewVolume (o : Options) (sectors : ℕ) (all : List ℕ) : Type 0 where
   pub accepted : IsAccepted (sector_in (Some all)) (boot_sector all) sectors
   pub planned : IsPlanned (plan_of o) (told_view (sector_in (Some all)) accepted.layout)
   pub geometry : HasGeometry o (boot_sector all)
-
--- what a refusal tells of the count of faults: only the disk raises it
-abbrev pub CountsNo : ℕ → ℕ → FormatNo → Type 0
-CountsNo before after Options = after ≡ before
-CountsNo before after Device = Rose before after
-CountsNo before after Memory = after ≡ before

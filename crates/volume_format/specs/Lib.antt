@@ -14,3 +14,4 @@ pub mod Made
 pub mod Formatted
 pub mod StoredRecord
 pub mod NodeBlock
+pub mod FormatNos

@@ -5,12 +5,13 @@ ghost use Rattle.std.specs.Prelude.{◌≡◌};
 
 mod attribute;
 mod boot;
-mod format;
+mod error;
 mod index_laws;
 mod item;
 mod laws;
 mod made;
 mod new_record;
+mod new_volume;
 mod options;
 mod places;
 mod record_blocks;
@@ -20,8 +21,9 @@ mod stored;
 mod value_bytes;
 mod write;
 
-pub use format::{FormatNo, format};
+pub use error::FormatNo;
 pub use index_laws::planned_indexes;
 pub use laws::{content_laws, item_laws, plan_laws, planned_laws};
+pub use new_volume::format;
 pub use options::FormatOptions;
 pub use places::Places;

@@ -2,51 +2,17 @@
 ghost use Rattle.std.specs.Prelude.{◌≡◌, ◌⊎◌, ◌↔◌, ◌≤◌, ℕ, Err, IfErr, IfOk, MatchResult, OnOk, is_some};
 ghost use Rattle.vol_disk.specs.Contents.{IsTold, WhereTold, sector_in, settled_more};
 ghost use Rattle.vol_disk.specs.Count.{CountsFault};
-ghost use Rattle.volume_format.specs.Formatted.{CountsNo, IsNewVolume};
+ghost use Rattle.volume_format.specs.Formatted.{IsNewVolume};
+ghost use Rattle.volume_format.specs.FormatNos.{CountsNo};
 ghost use Rattle.volume_format.specs.Options.{AreInRange, clusters_in, plan_of};
 ghost use Rattle.volume_format.specs.Plan.{items_end};
 ghost use Rattle.volume_format.specs.Written.{ItemsStand, sector_at};
 
-use crate::FormatOptions;
+use crate::{FormatNo, FormatOptions};
 use crate::made::{Made, make};
 use crate::write::write_items;
-use std::alloc::{AllocError, Global};
-use thiserror::Error;
+use std::alloc::Global;
 use vol_disk::{Disk, Failed};
-
-/// Why no volume was made.
-#[derive(Clone, Copy, Debug, PartialEq, Eq, Error)]
-pub enum FormatNo {
-    /// An option is out of its range.
-    #[error("an option is out of its range")]
-    Options,
-    /// The disk failed.
-    #[error("the disk failed")]
-    Device,
-    /// There is no memory.
-    #[error("out of memory")]
-    Memory,
-}
-
-impl From<AllocError> for FormatNo {
-    ghost use Rattle.volume_format.specs.declared.format.FormatNo.TheVariants.{Memory};
-
-    ghost from_gives = { λ _ error. error ≡ Memory };
-
-    fn from(_: AllocError) -> FormatNo {
-        FormatNo::Memory
-    }
-}
-
-impl From<Failed> for FormatNo {
-    ghost use Rattle.volume_format.specs.declared.format.FormatNo.TheVariants.{Device};
-
-    ghost from_gives = { λ _ error. error ≡ Device };
-
-    fn from(_: Failed) -> FormatNo {
-        FormatNo::Device
-    }
-}
 
 // Writes what was made, and settles it.
 fn put<D: Disk>(disk: &mut D, made: &Made) -> Result<(), Failed>
