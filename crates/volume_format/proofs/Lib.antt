@@ -27,6 +27,9 @@ pub mod NewVolumes
 pub mod Images
 pub mod ItemSectors
 pub mod Kept
+pub mod NewBlocks
+pub mod TableTold
+pub mod NewImages
 pub mod KeptItems
 pub mod WholeClusters
 pub mod BootLaws
