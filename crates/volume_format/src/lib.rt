@@ -14,3 +14,6 @@ pub use root::fill_root_node;
 pub use stored::fill_stored;
 pub use places::Places;
 pub use laws::{content_laws, plan_laws, planned_laws};
+
+#[cfg(test)]
+mod tests;
