@@ -24,5 +24,5 @@ pub record IsNodeBlock (used : ℕ) (node : List ℕ) : Type 0 where
   pub count : array_count node ≡ 9
   pub own : own_vcn node ≡ 0
   pub first : u32_at node 0x18 ≡ 0x28
-  pub used : u32_at node 0x1C ≡ used
+  pub ends : u32_at node 0x1C ≡ used
   pub room : u32_at node 0x20 ≡ 0xFE8

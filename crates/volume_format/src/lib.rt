@@ -18,6 +18,8 @@ mod record_blocks;
 mod root;
 mod rules;
 mod stored;
+#[cfg(test)]
+mod tests;
 mod value_bytes;
 mod write;
 
