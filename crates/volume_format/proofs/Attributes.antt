@@ -86,17 +86,19 @@ module _ (n parent directory : ℕ) (letters : List ℕ) where
     ids = λ id. rw parts (
         times_id-once 0 id (standard_part n ∷ name_part n parent directory letters ∷ rest) (refl, (refl, later.ids)));
     one_standard = λ b. rw parts (omega (
-        arith,
-        sum_by-cons (λ (q : Part). cond (is_standard q) 1 0) (standard_part n) (name_part n parent directory letters ∷ rest),
-        sum_by-cons (λ (q : Part). cond (is_standard q) 1 0) (name_part n parent directory letters) rest,
-        no-standard rest later.each));
+      arith,
+      sum_by-cons (λ (q : Part). cond (is_standard q) 1 0) (standard_part n) (name_part n parent directory letters ∷ rest),
+      sum_by-cons (λ (q : Part). cond (is_standard q) 1 0) (name_part n parent directory letters) rest,
+      no-standard rest later.each,
+    ));
     standard = λ b. rw parts (
         All-from_recursion IfStandard (standard_part n ∷ name_part n parent directory letters ∷ rest)
         ((λ e. (refl, inr refl)), ((λ e. absurd (omega (arith, e))), later-standard rest later.each)));
     each = rw parts (
         All-from_recursion IsRightPart (standard_part n ∷ name_part n parent directory letters ∷ rest) (
-            record { resident = λ t. refl; name = λ e. absurd (omega (arith, e)) },
-            (record { resident = λ t. refl; name = λ e. name }, later-right rest later.each)));
+          record { resident = λ t. refl; name = λ e. absurd (omega (arith, e)) },
+          (record { resident = λ t. refl; name = λ e. name }, later-right rest later.each),
+        ));
   }
 
 later-value : (n kind : ℕ) (name : List ℕ) (id : ℕ) (value : List ℕ) → FILE_NAME < kind → IsLater (part n kind name id (Value value))
@@ -125,7 +127,6 @@ three-later a b c order more id_a id_b id_c later_a later_b later_c = record {
 }
 
 module _ (p : Plan) where
-
   right_0 : IfSome (record_0 p) (IsRightRecord 0)
   right_0 = IsRightRecord-file 0 5 0 (codes "$MFT") _ _ refl refl refl (two-later _ _ (omega arith) refl refl
       (later-extent 0 DATA [] 2 _ (omega arith) refl) (later-extent 0 BITMAP [] 3 _ (omega arith) refl))
@@ -180,9 +181,43 @@ module _ (p : Plan) where
       (one-later _ refl (later-value 25 INDEX_ROOT _ 2 _ (omega arith)))
 
   rights : EachFrom IsRightRecord 0 (planned p)
-  rights =
-      (right_0, (right_1, (right_2, (right_3, (right_4, (right_5, (right_6, (right_7, (right_8, (right_9, (right_10, (right_11,
-      (tt, (tt, (tt, (tt, (tt, (tt, (tt, (tt, (tt, (tt, (tt, (tt, (right_24, (right_25, tt))))))))))))))))))))))))))
+  rights = (
+    right_0,
+    (
+      right_1,
+      (
+        right_2,
+        (
+          right_3,
+          (
+            right_4,
+            (
+              right_5,
+              (
+                right_6,
+                (
+                  right_7,
+                  (
+                    right_8,
+                    (
+                      right_9,
+                      (
+                        right_10,
+                        (
+                          right_11,
+                          (tt, (tt, (tt, (tt, (tt, (tt, (tt, (tt, (tt, (tt, (tt, (tt, (right_24, (right_25, tt)))))))))))))),
+                        ),
+                      ),
+                    ),
+                  ),
+                ),
+              ),
+            ),
+          ),
+        ),
+      ),
+    ),
+  )
 
   pub MeetsAttributes-planned : (n : ℕ) → MeetsAttributes (planned_records p) n
   MeetsAttributes-planned n = EachFrom-listed IsRightRecord 0 (planned p) rights n n (omega arith)

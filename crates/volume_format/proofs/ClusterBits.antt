@@ -51,11 +51,13 @@ module _ (p : Plan) (view : VolumeView) (is : IsPlanned p view) (some : 0 < p.si
       → (bit_in (value_on view (cluster_bits view)) n ≡ 1) ↔ (1 ≤ times_owned (records_of view) n)
   bits-owned n inside = elim (cases_lt n (items_end p)) [
     | inl lt ↦ (
-        (λ set. omega (arith, owned n, times_owned-below p n lt)),
-        (λ yes. bit-value n within ∙ ones-below (items_end p) n lt))
+      (λ set. omega (arith, owned n, times_owned-below p n lt)),
+      (λ yes. bit-value n within ∙ ones-below (items_end p) n lt),
+    )
     | inr ge ↦ (
-        (λ set. absurd (omega (arith, set, bit-value n within, ones-behind (items_end p) n ge))),
-        (λ yes. absurd (omega (arith, yes, owned n, times_owned-behind p n ge))))
+      (λ set. absurd (omega (arith, set, bit-value n within, ones-behind (items_end p) n ge))),
+      (λ yes. absurd (omega (arith, yes, owned n, times_owned-behind p n ge))),
+    )
   ]
     where
       within : n < p.clusters

@@ -77,66 +77,208 @@ module _ (p : Plan) (some : 0 < p.size) where
   standard f n = value f n STANDARD_INFORMATION [] 0 _
 
   streams_0 : IfSome (record_0 p) (Streams 0)
-  streams_0 = from_each 0 (parts_or_none (record_0 p)) ((λ ne. standard 0 0), ((λ ne. absurd (ne refl)), (
-      (λ ne. attribute-stream 0 0 DATA [] 2 _ _), ((λ ne. attribute-stream 0 0 BITMAP [] 3 _ _), tt))))
+  streams_0 = from_each 0 (parts_or_none (record_0 p)) (
+    (λ ne. standard 0 0),
+    (
+      (λ ne. absurd (ne refl)),
+      (
+        (λ ne. attribute-stream 0 0 DATA [] 2 _ _),
+        ((λ ne. attribute-stream 0 0 BITMAP [] 3 _ _), tt),
+      ),
+    ),
+  )
 
   streams_1 : IfSome (record_1 p) (Streams 1)
-  streams_1 = from_each 1 (parts_or_none (record_1 p)) ((λ ne. standard 1 1), ((λ ne. absurd (ne refl)), (
-      (λ ne. attribute-stream 1 1 DATA [] 2 _ _), tt)))
+  streams_1 = from_each 1 (parts_or_none (record_1 p)) (
+    (λ ne. standard 1 1),
+    (
+      (λ ne. absurd (ne refl)),
+      (
+        (λ ne. attribute-stream 1 1 DATA [] 2 _ _),
+        tt,
+      ),
+    ),
+  )
 
   streams_2 : IfSome (record_2 p) (Streams 2)
-  streams_2 = from_each 2 (parts_or_none (record_2 p)) ((λ ne. standard 2 2), ((λ ne. absurd (ne refl)), (
-      (λ ne. attribute-stream 2 2 DATA [] 2 _ _), tt)))
+  streams_2 = from_each 2 (parts_or_none (record_2 p)) (
+    (λ ne. standard 2 2),
+    (
+      (λ ne. absurd (ne refl)),
+      (
+        (λ ne. attribute-stream 2 2 DATA [] 2 _ _),
+        tt,
+      ),
+    ),
+  )
 
   streams_3 : IfSome (record_3 p) (Streams 3)
-  streams_3 = from_each 3 (parts_or_none (record_3 p)) ((λ ne. standard 3 3), ((λ ne. absurd (ne refl)), (
-      (λ ne. value 3 3 VOLUME_NAME [] 2 _), ((λ ne. value 3 3 VOLUME_INFORMATION [] 3 _), tt))))
+  streams_3 = from_each 3 (parts_or_none (record_3 p)) (
+    (λ ne. standard 3 3),
+    (
+      (λ ne. absurd (ne refl)),
+      (
+        (λ ne. value 3 3 VOLUME_NAME [] 2 _),
+        ((λ ne. value 3 3 VOLUME_INFORMATION [] 3 _), tt),
+      ),
+    ),
+  )
 
   streams_4 : IfSome (record_4 p) (Streams 4)
-  streams_4 = from_each 4 (parts_or_none (record_4 p)) ((λ ne. standard 4 4), ((λ ne. absurd (ne refl)), (
-      (λ ne. value 4 4 DATA [] 2 _), tt)))
+  streams_4 = from_each 4 (parts_or_none (record_4 p)) (
+    (λ ne. standard 4 4),
+    (
+      (λ ne. absurd (ne refl)),
+      (
+        (λ ne. value 4 4 DATA [] 2 _),
+        tt,
+      ),
+    ),
+  )
 
   streams_5 : IfSome (record_5 p) (Streams 5)
-  streams_5 = from_each 5 (parts_or_none (record_5 p)) ((λ ne. standard 5 5), ((λ ne. absurd (ne refl)), (
-      (λ ne. value 5 5 INDEX_ROOT _ 2 _),
-      ((λ ne. attribute-stream 5 5 INDEX_ALLOCATION _ 3 _ _), ((λ ne. value 5 5 BITMAP _ 4 _), tt)))))
+  streams_5 = from_each 5 (parts_or_none (record_5 p)) (
+    (λ ne. standard 5 5),
+    (
+      (λ ne. absurd (ne refl)),
+      (
+        (λ ne. value 5 5 INDEX_ROOT _ 2 _),
+        ((λ ne. attribute-stream 5 5 INDEX_ALLOCATION _ 3 _ _), ((λ ne. value 5 5 BITMAP _ 4 _), tt)),
+      ),
+    ),
+  )
 
   streams_6 : IfSome (record_6 p) (Streams 6)
-  streams_6 = from_each 6 (parts_or_none (record_6 p)) ((λ ne. standard 6 6), ((λ ne. absurd (ne refl)), (
-      (λ ne. attribute-stream 6 6 DATA [] 2 _ _), tt)))
+  streams_6 = from_each 6 (parts_or_none (record_6 p)) (
+    (λ ne. standard 6 6),
+    (
+      (λ ne. absurd (ne refl)),
+      (
+        (λ ne. attribute-stream 6 6 DATA [] 2 _ _),
+        tt,
+      ),
+    ),
+  )
 
   streams_7 : IfSome (record_7 p) (Streams 7)
-  streams_7 = from_each 7 (parts_or_none (record_7 p)) ((λ ne. standard 7 7), ((λ ne. absurd (ne refl)), (
-      (λ ne. attribute-stream 7 7 DATA [] 2 _ _), tt)))
+  streams_7 = from_each 7 (parts_or_none (record_7 p)) (
+    (λ ne. standard 7 7),
+    (
+      (λ ne. absurd (ne refl)),
+      (
+        (λ ne. attribute-stream 7 7 DATA [] 2 _ _),
+        tt,
+      ),
+    ),
+  )
 
   streams_8 : IfSome (record_8 p) (Streams 8)
-  streams_8 = from_each 8 (parts_or_none (record_8 p)) ((λ ne. standard 8 8), ((λ ne. absurd (ne refl)), (
-      (λ ne. value 8 8 DATA [] 2 _), ((λ ne. attribute-bad), tt))))
+  streams_8 = from_each 8 (parts_or_none (record_8 p)) (
+    (λ ne. standard 8 8),
+    (
+      (λ ne. absurd (ne refl)),
+      (
+        (λ ne. value 8 8 DATA [] 2 _),
+        ((λ ne. attribute-bad), tt),
+      ),
+    ),
+  )
 
   streams_9 : IfSome (record_9 p) (Streams 9)
-  streams_9 = from_each 9 (parts_or_none (record_9 p)) ((λ ne. standard 9 9), ((λ ne. absurd (ne refl)), (
-      (λ ne. attribute-stream 9 9 DATA _ 2 _ _), ((λ ne. value 9 9 INDEX_ROOT _ 3 _), ((λ ne. value 9 9 INDEX_ROOT _ 4 _), tt)))))
+  streams_9 = from_each 9 (parts_or_none (record_9 p)) (
+    (λ ne. standard 9 9),
+    (
+      (λ ne. absurd (ne refl)),
+      (
+        (λ ne. attribute-stream 9 9 DATA _ 2 _ _),
+        ((λ ne. value 9 9 INDEX_ROOT _ 3 _), ((λ ne. value 9 9 INDEX_ROOT _ 4 _), tt)),
+      ),
+    ),
+  )
 
   streams_10 : IfSome (record_10 p) (Streams 10)
-  streams_10 = from_each 10 (parts_or_none (record_10 p)) ((λ ne. standard 10 10), ((λ ne. absurd (ne refl)), (
-      (λ ne. attribute-stream 10 10 DATA [] 2 _ _), tt)))
+  streams_10 = from_each 10 (parts_or_none (record_10 p)) (
+    (λ ne. standard 10 10),
+    (
+      (λ ne. absurd (ne refl)),
+      (
+        (λ ne. attribute-stream 10 10 DATA [] 2 _ _),
+        tt,
+      ),
+    ),
+  )
 
   streams_11 : IfSome (record_11 p) (Streams 11)
-  streams_11 = from_each 11 (parts_or_none (record_11 p)) ((λ ne. standard 11 11), ((λ ne. absurd (ne refl)), (
-      (λ ne. value 11 11 INDEX_ROOT _ 2 _), tt)))
+  streams_11 = from_each 11 (parts_or_none (record_11 p)) (
+    (λ ne. standard 11 11),
+    (
+      (λ ne. absurd (ne refl)),
+      (
+        (λ ne. value 11 11 INDEX_ROOT _ 2 _),
+        tt,
+      ),
+    ),
+  )
 
   streams_24 : IfSome (record_24 p) (Streams 24)
-  streams_24 = from_each 24 (parts_or_none (record_24 p)) ((λ ne. standard 24 24), ((λ ne. absurd (ne refl)), (
-      (λ ne. value 24 24 INDEX_ROOT _ 2 _), tt)))
+  streams_24 = from_each 24 (parts_or_none (record_24 p)) (
+    (λ ne. standard 24 24),
+    (
+      (λ ne. absurd (ne refl)),
+      (
+        (λ ne. value 24 24 INDEX_ROOT _ 2 _),
+        tt,
+      ),
+    ),
+  )
 
   streams_25 : IfSome (record_25 p) (Streams 25)
-  streams_25 = from_each 25 (parts_or_none (record_25 p)) ((λ ne. standard 25 25), ((λ ne. absurd (ne refl)), (
-      (λ ne. value 25 25 INDEX_ROOT _ 2 _), tt)))
+  streams_25 = from_each 25 (parts_or_none (record_25 p)) (
+    (λ ne. standard 25 25),
+    (
+      (λ ne. absurd (ne refl)),
+      (
+        (λ ne. value 25 25 INDEX_ROOT _ 2 _),
+        tt,
+      ),
+    ),
+  )
 
   all-streams : EachFrom Streams 0 (planned p)
-  all-streams =
-      (streams_0, (streams_1, (streams_2, (streams_3, (streams_4, (streams_5, (streams_6, (streams_7, (streams_8, (streams_9, (streams_10,
-      (streams_11, (tt, (tt, (tt, (tt, (tt, (tt, (tt, (tt, (tt, (tt, (tt, (tt, (streams_24, (streams_25, tt))))))))))))))))))))))))))
+  all-streams = (
+    streams_0,
+    (
+      streams_1,
+      (
+        streams_2,
+        (
+          streams_3,
+          (
+            streams_4,
+            (
+              streams_5,
+              (
+                streams_6,
+                (
+                  streams_7,
+                  (
+                    streams_8,
+                    (
+                      streams_9,
+                      (
+                        streams_10,
+                        (streams_11, (tt, (tt, (tt, (tt, (tt, (tt, (tt, (tt, (tt, (tt, (tt, (tt, (streams_24, (streams_25, tt))))))))))))))),
+                      ),
+                    ),
+                  ),
+                ),
+              ),
+            ),
+          ),
+        ),
+      ),
+    ),
+  )
 
   by_record : (f : ℕ) (o : Option Record) → listed (planned p) f ≡ o → IfSome o (Streams f)
       → IfSome o (λ r. IsTrue (is_base r) → AreAttributes f (parts (planned_records p) f))

@@ -65,9 +65,43 @@ module _ (p : Plan) (few : p.clusters ≤ 2 ^ 26) where
   limits_25 = ((λ k o. tt), ((λ k o. tt), ((λ k o. tt), tt)))
 
   limits : EachFrom AreInLimits 0 (planned p)
-  limits =
-      (limits_0, (limits_1, (limits_2, (limits_3, (limits_4, (limits_5, (limits_6, (limits_7, (limits_8, (limits_9, (limits_10, (limits_11,
-      (tt, (tt, (tt, (tt, (tt, (tt, (tt, (tt, (tt, (tt, (tt, (tt, (limits_24, (limits_25, tt))))))))))))))))))))))))))
+  limits = (
+    limits_0,
+    (
+      limits_1,
+      (
+        limits_2,
+        (
+          limits_3,
+          (
+            limits_4,
+            (
+              limits_5,
+              (
+                limits_6,
+                (
+                  limits_7,
+                  (
+                    limits_8,
+                    (
+                      limits_9,
+                      (
+                        limits_10,
+                        (
+                          limits_11,
+                          (tt, (tt, (tt, (tt, (tt, (tt, (tt, (tt, (tt, (tt, (tt, (tt, (limits_24, (limits_25, tt)))))))))))))),
+                        ),
+                      ),
+                    ),
+                  ),
+                ),
+              ),
+            ),
+          ),
+        ),
+      ),
+    ),
+  )
 
   by_record : (f : ℕ) (o : Option Record) → listed (planned p) f ≡ o → IfSome o (AreInLimits f)
       → IfSome o (λ r. IsTrue (is_base r) → All (IsInLimits f) (parts (planned_records p) f))

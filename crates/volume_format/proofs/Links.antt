@@ -35,8 +35,8 @@ module _ (p : Plan) where
       linked f r (name_in (name_value name.parent name.directory name.letters)) (names_of-planned p f r e ∙ name.one)
       (namespace-planned name.parent name.directory name.letters) name.links
       (λ t.
-          ap (λ parent. (name_in (name_value parent name.directory name.letters)).parent.number) (name.up t)
-          ∙ ap (λ (r : Reference). r.number) (parent-root name.directory name.letters))
+      ap (λ parent. (name_in (name_value parent name.directory name.letters)).parent.number) (name.up t)
+      ∙ ap (λ (r : Reference). r.number) (parent-root name.directory name.letters))
 
   by_record : (f : ℕ) (o : Option Record) → listed (planned p) f ≡ o → IfSome o (HasOneName f)
       → IfSome o (λ r. IsTrue (is_base r) → HasRightLinks (planned_records p) f r)

@@ -20,7 +20,12 @@ module _ (p : Plan) (view : VolumeView) (is : IsPlanned p view) (some : 0 < p.si
   few k lt = elim (cases_lt k (needed p mirror_len)) [
     | inl below ↦ below
     | inr ge ↦ absurd (omega (
-        arith, needed-covers p some mirror_len, lt, mul-le-mul_left p.size ge, ap (λ size. k * size) is.size))
+      arith,
+      needed-covers p some mirror_len,
+      lt,
+      mul-le-mul_left p.size ge,
+      ap (λ size. k * size) is.size,
+    ))
   ]
 
   IsMirror-planned : IsMirror view (stream_part p MFT_MIRROR DATA [] 2 (mirror_at p) mirror_len ∷ [])

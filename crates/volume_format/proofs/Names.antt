@@ -93,9 +93,43 @@ module _ (p : Plan) where
   name_25 = in-extend 25 (codes "$Reparse") _ refl refl refl refl
 
   pub names-planned : EachFrom HasOneName 0 (planned p)
-  names-planned =
-      (name_0, (name_1, (name_2, (name_3, (name_4, (name_5, (name_6, (name_7, (name_8, (name_9, (name_10, (name_11,
-      (tt, (tt, (tt, (tt, (tt, (tt, (tt, (tt, (tt, (tt, (tt, (tt, (name_24, (name_25, tt))))))))))))))))))))))))))
+  names-planned = (
+    name_0,
+    (
+      name_1,
+      (
+        name_2,
+        (
+          name_3,
+          (
+            name_4,
+            (
+              name_5,
+              (
+                name_6,
+                (
+                  name_7,
+                  (
+                    name_8,
+                    (
+                      name_9,
+                      (
+                        name_10,
+                        (
+                          name_11,
+                          (tt, (tt, (tt, (tt, (tt, (tt, (tt, (tt, (tt, (tt, (tt, (tt, (name_24, (name_25, tt)))))))))))))),
+                        ),
+                      ),
+                    ),
+                  ),
+                ),
+              ),
+            ),
+          ),
+        ),
+      ),
+    ),
+  )
 
   -- the names of a file are those of its record
   pub names_of-planned : (f : ℕ) (r : Record) → listed (planned p) f ≡ Some r → names_of (planned_records p) f ≡ names_among r.parts

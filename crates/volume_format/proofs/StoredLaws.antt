@@ -67,7 +67,7 @@ module _ (n : ℕ) (planned : Option Record) (built stored : List ℕ) (is : IsN
       let front = λ (k : ℕ) (lt : k < 4). opened_of-within stored k (omega (arith, l)) (omega arith) in
       let flags = u16_at-same stored (opened_of stored) 0x16 (λ k from to. opened_of-within stored k (omega (arith, l)) (omega arith)) in
       sym (ap (λ t. t && (record_flags (opened_of stored) % 2 == 1)) (starts-same (codes "FILE") stored (opened_of stored) (omega (arith, l)) (omega (arith, l, length-opened_of stored)) front)
-          ∙ ap (λ f. starts_with nat_eq stored (codes "FILE") && (f % 2 == 1)) flags)
+      ∙ ap (λ f. starts_with nat_eq stored (codes "FILE") && (f % 2 == 1)) flags)
       ∙ is_in_use-same built (opened_of stored) _ is.shape same ∙ is.in_use
 
   list : attributes (opened_of stored) ≡ attributes built

@@ -46,7 +46,7 @@ module _ (p : Plan) (some : 0 < p.size) (n kind : ℕ) (name : List ℕ) (id at 
     value-stream =
         same_number_lists _ _ (length-map-range_with_len byte_of 0 bytes ∙ sym (length-map-range_with_len rule 0 bytes))
         (λ i lt.
-            let inside : i < bytes = omega (arith, length-map-range_with_len byte_of 0 bytes) in
-            get_or-map-range_with_len byte_of 0 bytes i i 0 inside (omega arith)
-            ∙ byte-stream i inside
-            ∙ sym (get_or-map-range_with_len rule 0 bytes i i 0 inside (omega arith)))
+        let inside : i < bytes = omega (arith, length-map-range_with_len byte_of 0 bytes) in
+        get_or-map-range_with_len byte_of 0 bytes i i 0 inside (omega arith)
+        ∙ byte-stream i inside
+        ∙ sym (get_or-map-range_with_len rule 0 bytes i i 0 inside (omega arith)))

@@ -42,14 +42,8 @@ pub fn plan_laws()
 /// bytes that the plan says, and units are compared as it says.
 pub fn content_laws()
     ensures owned { OfNewVolumes OwnsItems }
-    ensures cluster_bits {
-        OfNewVolumes (λ p view. value_on view (cluster_bits view) ≡ map (ones_byte (items_end p)) (range_with_len 0 (bits_len p)))
-    }
-    ensures record_bits {
-        OfNewVolumes (λ p view. value_on view (record_bits view) ≡ map record_bits_byte (range_with_len 0 table_bits_len))
-    }
-    ensures case_table {
-        OfNewVolumes (λ p view. value_on view (case_parts view) ≡ map case_byte (range_with_len 0 case_len))
-    }
+    ensures cluster_bits { OfNewVolumes (λ p view. value_on view (cluster_bits view) ≡ map (ones_byte (items_end p)) (range_with_len 0 (bits_len p))) }
+    ensures record_bits { OfNewVolumes (λ p view. value_on view (record_bits view) ≡ map record_bits_byte (range_with_len 0 table_bits_len)) }
+    ensures case_table { OfNewVolumes (λ p view. value_on view (case_parts view) ≡ map case_byte (range_with_len 0 case_len)) }
     ensures fold { OfNewVolumes (λ p view. (unit : ℕ) → unit < 2 ^ 16 → volume_fold view unit ≡ case_of unit) }
 {}

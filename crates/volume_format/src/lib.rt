@@ -10,10 +10,10 @@ mod root;
 mod stored;
 mod value_bytes;
 
+pub use laws::{content_laws, plan_laws, planned_laws};
+pub use places::Places;
 pub use root::fill_root_node;
 pub use stored::fill_stored;
-pub use places::Places;
-pub use laws::{content_laws, plan_laws, planned_laws};
 
 #[cfg(test)]
 mod tests;

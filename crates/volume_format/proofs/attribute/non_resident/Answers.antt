@@ -20,6 +20,6 @@ returns c =
     ∙ ap (λ n. extent_header c.args.kind c.args.name.now c.args.id c.args.sizes n) count))
     ∙ append_assoc header (padded c.args.name.now) runs in
     let is = IsStream-bytes c.args.kind c.args.name.now c.args.id c.args.sizes c.args.run runs _ c.ranges.kind.fits c.ranges.id.fits
-        c.in_ok-push_extent_header.ensures.fits c.requires.name c.requires.even c.in_ok-runs.ensures.short c.in_ok-runs.ensures.multiple
-        c.requires.kind c.requires.some c.requires.few c.requires.reach c.in_ok-runs.ensures.text bytes in
+    c.in_ok-push_extent_header.ensures.fits c.requires.name c.requires.even c.in_ok-runs.ensures.short c.in_ok-runs.ensures.multiple
+    c.requires.kind c.requires.some c.requires.few c.requires.reach c.in_ok-runs.ensures.text bytes in
     record { bytes = is.is; one = is.one; part = is.part; len = omega (arith, is.len, c.in_ok-runs.ensures.short); aligned = is.aligned }

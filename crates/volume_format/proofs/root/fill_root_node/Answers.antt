@@ -36,6 +36,6 @@ returns c =
     let blank = IsNodeBlock-blank _ c.blank_node.ensures in
     let first = first-is 0x28 c.blank_node.new.block (omega arith) (omega arith) blank in
     let laid = IsNodeBlock-laid c.blank_node.new.block c.lay_out.new.node (total_len root_entries) blank c.in-Ok.ensures.header
-        (c.in-Ok.ensures.end ∙ ap (λ es. first_entry c.blank_node.new.block + total_len es) entries) in
+    (c.in-Ok.ensures.end ∙ ap (λ es. first_entry c.blank_node.new.block + total_len es) entries) in
     IsRootRecord-sealed c.lay_out.new.node c.seal.new.block laid c.seal.ensures.seals c.in-Ok.ensures.flag
     (subst (λ es. Holds c.lay_out.new.node 0x40 es) entries (subst (λ at. Holds c.lay_out.new.node at c.deref.result.now) first c.in-Ok.ensures.bytes))
