@@ -1,19 +1,18 @@
 -- A record that was made and sealed is stored, and zeros are no record.
-use Rattle.std.proofs.Common.{◌≡◌, ℕ, zero, suc, ◌+◌, ◌*◌, ◌-◌, ◌/◌, ◌%◌, ◌<◌, ◌≤◌, ◌==◌, ◌&&◌, ◌||◌, Bool, true, false, cond, List, [], ◌∷◌, map, length, Option, Some, None, inl, inr, refl, sym, ap, subst, ◌∙◌, arith, rules}
-use Rattle.std.specs.Prelude.{IsTrue, codes, nat_eq, nat_lt, is_none, replicate}
+use Rattle.std.proofs.Common.{◌≡◌, ℕ, zero, suc, ◌+◌, ◌%◌, ◌<◌, ◌≤◌, ◌==◌, ◌&&◌, ◌||◌, Bool, true, false, cond, List, ◌∷◌, map, length, Option, Some, None, inl, inr, refl, sym, ap, subst, ◌∙◌, arith, rules}
+use Rattle.std.specs.Prelude.{codes, nat_eq, nat_lt, is_none, replicate}
 use Rattle.std.specs.List.{starts_with, range_with_len, list_all}
 use Rattle.std.proofs.lemmas.Bool.{cases_Bool, cases_lt, cases_eq, false≢true}
-use Rattle.vol_bytes.specs.Field.{SameOutside, u16_at}
+use Rattle.vol_bytes.specs.Field.{SameOutside}
 use Rattle.vol_bytes.proofs.FieldLaws.{u16_at-same}
 use Rattle.ntfs_def.specs.Attribute.{Attribute, attributes}
-use Rattle.ntfs_def.specs.Fixup.{HasArray, Seals, array_count, array_place, opened_of, sequence_number}
+use Rattle.ntfs_def.specs.Fixup.{HasArray, Seals, array_count, array_place, opened_of}
 use Rattle.ntfs_def.specs.Record.{Header, header_of, is_in_use, record_flags}
 use Rattle.ntfs_def.specs.Shape.{HasShape, header_failing}
 use Rattle.ntfs_def.proofs.FixupLaws.{length-opened_of, opened_of-within}
 use Rattle.ntfs_def.proofs.SameLaws.{HasShape-same, attributes-same, header_of-same, is_in_use-same, starts-same}
 use Rattle.ntfs_def.proofs.ShapeLaws.{header_failing-length}
-use Rattle.volume_def.specs.Files.{Part, Record, part_of, record_in, record_of}
-use Rattle.volume_def.specs.Table.{IsWellFormed}
+use Rattle.volume_def.specs.Files.{Record, part_of, record_in, record_of}
 use Rattle.volume_format.specs.NewRecord.{IsNewRecord}
 use Rattle.volume_format.specs.Plan.{Plan, is_planned, listed, planned}
 use Rattle.volume_format.specs.Planned.{AreAligned}

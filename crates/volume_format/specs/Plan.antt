@@ -3,10 +3,7 @@
 -- Analysis, chapters 11 and 12; their places on the volume and the values are this project's choice.
 use Rattle.std.specs.Prelude.{ℕ, ◌+◌, ◌-◌, ◌*◌, ◌/◌, ◌==◌, ◌||◌, nat_lt, Bool, List, [], ◌∷◌, ◌++◌, codes, length, replicate, slice_get, Option, Some, None, option_and_then}
 use Rattle.ntfs_def.specs.declared.kinds.TheConstants.{BITMAP, DATA, FILE_NAME, INDEX_ALLOCATION, INDEX_ROOT, STANDARD_INFORMATION, VOLUME_INFORMATION, VOLUME_NAME}
-use Rattle.ntfs_def.specs.declared.run_text.Run.{Run}
-use Rattle.ntfs_def.specs.declared.sizes.Sizes.{Sizes}
 use Rattle.ntfs_def.specs.Attribute.{ExtentHeader}
-use Rattle.ntfs_def.specs.Record.{Header}
 use Rattle.ntfs_def.specs.Units.{wide}
 use Rattle.volume_def.specs.ExtentsClause.{bad_name, last_vcn_of}
 use Rattle.volume_def.specs.Files.{Clusters, Content, Part, Record, Records, Value}

@@ -1,5 +1,5 @@
 //! The records of a new volume, each in its opened block.
-ghost use Rattle.std.specs.Prelude.{◌≡◌, ◌≤◌, ◌<◌, ◌+◌, ◌^◌, ◌%◌, [], ◌∷◌, IsTrue, OnOk, length};
+ghost use Rattle.std.specs.Prelude.{◌≡◌, ◌≤◌, ◌<◌, ◌+◌, ◌^◌, ◌%◌, [], ◌∷◌, IsTrue, OnOk, codes, length};
 ghost use Rattle.ntfs_def.specs.declared.kinds.TheConstants.{DATA, END, INDEX_ROOT};
 ghost use Rattle.ntfs_def.specs.Attribute.{attributes};
 ghost use Rattle.ntfs_def.specs.Record.{used_size};
@@ -9,7 +9,7 @@ ghost use Rattle.volume_def.specs.ExtentsClause.{bad_name};
 ghost use Rattle.volume_def.specs.Files.{Value};
 ghost use Rattle.volume_format.specs.AttributeBytes.{runs_at};
 ghost use Rattle.volume_format.specs.NewRecord.{AddsPart, IsNewRecord, stream_content};
-ghost use Rattle.volume_format.specs.Plan.{bad_part, file, is_planned, last_entry, listed, part, planned, record_0, record_1, record_2, record_3, record_4, record_5, record_6, record_7, record_8, record_9, record_10, record_11, root_value, stream_part, up_to_8};
+ghost use Rattle.volume_format.specs.Plan.{bad_part, file, is_planned, last_entry, listed, part, planned, record_0, record_1, record_2, record_3, record_5, record_6, record_7, record_8, record_9, record_10, record_11, root_value, stream_part, up_to_8};
 
 use crate::Places;
 use crate::new_record::{add_stream, add_value, blank};
@@ -234,10 +234,9 @@ fn fill_volume(alloc: Global, places: &Places, block: &mut [u8; 1024]) -> Result
 }
 
 // Record 4, $AttrDef.
-fn fill_kinds(alloc: Global, places: &Places, block: &mut [u8; 1024]) -> Result<(), AllocError>
-    ensures { OnOk result (IsNewRecord 4 (record_4 places.now) block.new) }
+fn fill_kinds(alloc: Global, block: &mut [u8; 1024]) -> Result<(), AllocError>
+    ensures { OnOk result (IsNewRecord 4 (file 4 4 1 5 0 (codes "$AttrDef") (part 4 DATA [] 2 (Value []) ∷ [])) block.new) }
 {
-    let _ = places;
     begin_file(alloc, block, 4, b"$AttrDef")?;
     add_value(alloc, block, DATA, b"", b"")?;
     Ok(())
@@ -435,7 +434,7 @@ pub fn fill_record(
         1 => fill_mirror(alloc, places, block),
         2 => fill_log(alloc, places, block),
         3 => fill_volume(alloc, places, block),
-        4 => fill_kinds(alloc, places, block),
+        4 => fill_kinds(alloc, block),
         5 => fill_root(alloc, places, block),
         6 => fill_bits(alloc, places, block),
         7 => fill_boot(alloc, places, block),

@@ -1,6 +1,6 @@
-use Rattle.std.proofs.Common.{refl, sym, ap, ◌∙◌, ◌++◌, List, ℕ, [], length, ◌≡◌, arith, append_assoc}
+use Rattle.std.proofs.Common.{ap, ◌∙◌, ◌++◌, List, ℕ, length, ◌≡◌, arith, append_assoc}
 use Rattle.volume_format.specs.AttributeBytes.{extent_bytes, extent_header, padded}
-use Rattle.volume_format.proofs.ExtentLaws.{IsStream, IsStream-bytes}
+use Rattle.volume_format.proofs.ExtentLaws.{IsStream-bytes}
 use Rattle.volume_format.proofs.attribute.non_resident.Goals as goal
 
 abbrev after : List ℕ → List ℕ → List ℕ

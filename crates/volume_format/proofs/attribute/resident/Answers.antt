@@ -1,8 +1,7 @@
-use Rattle.std.proofs.Common.{ap, sym, refl, ◌∙◌, ◌++◌, List, ℕ, length, ◌≡◌, ◌∷◌, [], ◌/◌, ◌+◌, ◌*◌, arith}
+use Rattle.std.proofs.Common.{ap, ◌∙◌, ◌++◌, List, ℕ, length, ◌≡◌, ◌∷◌, [], ◌/◌, ◌+◌, arith}
 use Rattle.byteorder.specs.Endian.{little_bytes}
-use Rattle.volume_format.specs.AttributeBytes.{indexed_byte, padded, resident_bytes, resident_len, value_at}
-use Rattle.volume_format.specs.Plan.{up_to_8}
-use Rattle.volume_format.proofs.ResidentLaws.{IsResident, IsResident-bytes}
+use Rattle.volume_format.specs.AttributeBytes.{padded, resident_bytes, resident_len, value_at}
+use Rattle.volume_format.proofs.ResidentLaws.{IsResident-bytes}
 use Rattle.volume_format.proofs.attribute.resident.Goals as goal
 
 abbrev after : List ℕ → List ℕ → List ℕ

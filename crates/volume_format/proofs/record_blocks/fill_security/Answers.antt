@@ -1,4 +1,4 @@
-use Rattle.std.proofs.Common.{◌≡◌, ap, sym, subst, ◌∙◌, arith}
+use Rattle.std.proofs.Common.{ap, ◌∙◌}
 use Rattle.volume_format.proofs.NewRecordLaws.{AddsPart-at, AddsPart-value}
 use Rattle.volume_format.specs.Plan.{root_value}
 use Rattle.volume_format.proofs.record_blocks.fill_security.Goals as goal
