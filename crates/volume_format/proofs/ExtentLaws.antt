@@ -1,19 +1,19 @@
 -- The bytes of a non-resident attribute are the part that they were made of.
-use Rattle.std.proofs.Common.{◌≡◌, ◌≢◌, ℕ, ◌+◌, ◌*◌, ◌-◌, ◌/◌, ◌%◌, ◌^◌, ◌<◌, ◌≤◌, ◌==◌, ◌&&◌, Bool, true, false, cond, List, [], ◌∷◌, ◌++◌, Option, Some, None, take, drop, length, get_or, refl, sym, ap, subst, ◌∙◌, arith, length-append, append_assoc}
-use Rattle.std.specs.Prelude.{All, pos, replicate, slice_range}
+use Rattle.std.proofs.Common.{◌≡◌, ◌≢◌, ℕ, ◌+◌, ◌*◌, ◌-◌, ◌/◌, ◌%◌, ◌^◌, ◌<◌, ◌≤◌, ◌&&◌, Bool, true, false, List, [], ◌∷◌, ◌++◌, Option, Some, None, take, drop, length, refl, sym, ap, subst, ◌∙◌, arith, length-append, append_assoc}
+use Rattle.std.specs.Prelude.{replicate, slice_range}
 use Rattle.std.proofs.Math.Seq.{take-append-add}
 use Rattle.std.proofs.lemmas.List.{append-nil, take_at, take-replicate, drop_at, drop-drop, drop-replicate, length-replicate}
 use Rattle.ntfs_def.specs.declared.kinds.TheConstants.{END}
 use Rattle.ntfs_def.specs.declared.run_text.Run.{Run}
 use Rattle.ntfs_def.specs.declared.sizes.Sizes.{Sizes}
-use Rattle.ntfs_def.specs.Attribute.{Attribute, ExtentHeader, attribute_at, attribute_kind, attribute_len, attribute_id, compressed_len, content_bytes, extent_at, first_vcn, last_vcn, allocated_len, real_len, initialized_len, has_compressed_len, header_len, name_bytes, runs_offset, sizes_at, value_offset}
-use Rattle.ntfs_def.specs.Runs.{EndsInReach, IsRunList, MeansRuns, runs_in}
+use Rattle.ntfs_def.specs.Attribute.{attribute_at, attribute_kind, attribute_len, attribute_id, compressed_len, content_bytes, first_vcn, last_vcn, allocated_len, real_len, initialized_len, has_compressed_len, header_len, name_bytes, runs_offset, sizes_at, value_offset}
+use Rattle.ntfs_def.specs.Runs.{EndsInReach, MeansRuns, runs_in}
 use Rattle.ntfs_def.specs.Shape.{IsOneAttribute}
 use Rattle.ntfs_def.proofs.RunsInLaws.{runs_in-means}
-use Rattle.data_runs.specs.Written.{IsOffsetText, IsRunText, IsWritten, PutsText, SpellsShortest}
+use Rattle.data_runs.specs.Written.{IsWritten, PutsText}
 use Rattle.data_runs.proofs.WrittenLaws.{MeansFrom-written, offset_short, short_up}
-use Rattle.volume_def.specs.Files.{Clusters, Content, Part, part_of}
-use Rattle.volume_format.specs.Plan.{part, up_to_8}
+use Rattle.volume_def.specs.Files.{Clusters}
+use Rattle.volume_format.specs.Plan.{up_to_8}
 use Rattle.volume_format.specs.AttributeBytes.{FitSizes, IsExtent, IsPart, IsRunTextOf, extent_bytes, extent_header, one_run, padded, runs_at}
 use Rattle.volume_format.proofs.ResidentLaws.{length-padded, parts_same}
 

@@ -29,6 +29,7 @@ pub mod ItemSectors
 pub mod Kept
 pub mod NewBlocks
 pub mod TableTold
+pub mod OnDisk
 pub mod TableBlocks
 pub mod NewImages
 pub mod KeptItems

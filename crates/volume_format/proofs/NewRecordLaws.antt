@@ -1,7 +1,6 @@
 -- A record that is made, attribute by attribute.
-use Rattle.std.proofs.Common.{◌≡◌, ℕ, zero, suc, ◌+◌, ◌*◌, ◌-◌, ◌/◌, ◌%◌, ◌^◌, ◌<◌, ◌≤◌, ◌==◌, ◌&&◌, Bool, true, false, List, [], ◌∷◌, ◌++◌, take, map, length, Option, Some, None, refl, sym, ap, subst, ◌∙◌, arith, rules, length-append}
-use Rattle.std.specs.Prelude.{All, min, option_map, replicate}
-use Rattle.std.specs.List.{flat_map, insert}
+use Rattle.std.proofs.Common.{◌≡◌, ℕ, zero, suc, ◌+◌, ◌*◌, ◌-◌, ◌%◌, ◌^◌, ◌<◌, ◌==◌, true, false, List, [], ◌∷◌, ◌++◌, map, length, Option, Some, None, refl, sym, ap, subst, ◌∙◌, arith, rules, length-append}
+use Rattle.std.specs.Prelude.{All, option_map, replicate}
 use Rattle.std.proofs.lemmas.Bool.Decides.{nat_tests}
 use Rattle.std.proofs.lemmas.List.{length-replicate, map-append, take_all}
 use Rattle.std.proofs.lemmas.List.Edits.{insert_end}
@@ -12,7 +11,7 @@ use Rattle.ntfs_def.specs.declared.kinds.TheConstants.{DATA}
 use Rattle.ntfs_def.specs.First.{first_failing}
 use Rattle.ntfs_def.specs.Attribute.{Attribute, attribute_at, attribute_id, attributes, value_offset}
 use Rattle.ntfs_def.specs.Fixup.{array_place, sequence_number}
-use Rattle.ntfs_def.specs.Record.{Header, header_of, is_in_use, next_attribute_id, used_size}
+use Rattle.ntfs_def.specs.Record.{Header, header_of, next_attribute_id, used_size}
 use Rattle.ntfs_def.specs.Shape.{HasShape, IsOneAttribute, header_failing}
 use Rattle.ntfs_def.specs.Units.{wide}
 use Rattle.vol_bytes.specs.Field.{u16_at}

@@ -1,16 +1,15 @@
 -- The index record of a new volume's root.
-use Rattle.std.proofs.Common.{◌≡◌, ℕ, zero, suc, ◌+◌, ◌*◌, ◌-◌, ◌/◌, ◌%◌, ◌<◌, ◌≤◌, ◌==◌, ◌&&◌, Bool, true, false, cond, List, [], ◌∷◌, ◌++◌, length, Option, Some, None, inl, inr, get_or, refl, sym, ap, subst, ◌∙◌, arith, rules, length-append}
-use Rattle.std.specs.Prelude.{IsTrue, codes, nat_eq, nat_le, option_and_then, replicate, slice_index, slice_range, if◌then◌else◌}
+use Rattle.std.proofs.Common.{◌≡◌, ℕ, ◌+◌, ◌%◌, ◌<◌, ◌≤◌, ◌==◌, ◌&&◌, Bool, true, false, cond, List, [], ◌∷◌, ◌++◌, length, Some, None, inl, inr, get_or, refl, sym, ap, subst, ◌∙◌, arith, rules}
+use Rattle.std.specs.Prelude.{codes, nat_eq, nat_le, option_and_then, replicate, slice_index, if◌then◌else◌}
 use Rattle.std.specs.List.{starts_with, list_all}
 use Rattle.std.proofs.lemmas.Bool.{cases_Bool, false≢true, le-leb}
-use Rattle.std.proofs.lemmas.Bool.Decides.{nat_tests}
 use Rattle.std.proofs.lemmas.List.{length-replicate}
-use Rattle.vol_bytes.specs.Field.{SameOutside, u16_at, u32_at}
+use Rattle.vol_bytes.specs.Field.{u16_at, u32_at}
 use Rattle.vol_bytes.proofs.FieldLaws.{u16_at-same, u32_at-same, u64_at-same}
 use Rattle.ntfs_def.specs.declared.index.NodeForm.TheVariants.{Names}
 use Rattle.ntfs_def.specs.First.{first_failing}
-use Rattle.ntfs_def.specs.Fixup.{HasArray, IsSealed, Seals, array_count, array_end, array_place, opened_of}
-use Rattle.ntfs_def.specs.Node.{Entry, Node, Whole, are_short, are_short_from, entries_end, entry_len, first_entry, first_offset, has_children, is_entry, is_last_entry, most_len, node_header, node_header_failing, node_in, own_vcn, room_end, scan_from, scan_node, short_node, whole_of}
+use Rattle.ntfs_def.specs.Fixup.{HasArray, Seals, array_end, array_place, next_number, opened_of, sequence_number}
+use Rattle.ntfs_def.specs.Node.{Node, Whole, are_short, are_short_from, entries_end, entry_len, first_entry, first_offset, has_children, is_entry, is_last_entry, most_len, node_header, node_header_failing, node_in, room_end, scan_from, short_node, whole_of}
 use Rattle.ntfs_def.proofs.SameLaws.{starts-same}
 use Rattle.index_node.specs.LayOut.{AreEntries, Holds, KeepsHeader, node_listed, room_len, total_len}
 use Rattle.index_node.proofs.LayOutLaws.{Holds-same, scan_listed}
@@ -173,6 +172,26 @@ module _ (z : ℕ) (is : z ≡ 4032) where
 pub IsNodeBlock-blank : (block : List ℕ) → block ≡ blank_node → IsNodeBlock 0x28 block
 unfolding blank_node
 IsNodeBlock-blank block e = subst (IsNodeBlock 0x28) (sym e) (blank-is 4032 refl)
+
+number-blank : (z : ℕ) → sequence_number (blank_node_header ++ replicate z 0) ≡ 0
+number-blank z = refl
+
+sequence_number-blank : (block : List ℕ) → block ≡ blank_node → sequence_number block ≡ 0
+unfolding blank_node
+sequence_number-blank block e = ap sequence_number e ∙ number-blank 4032
+
+-- the number with which the block is sealed, which was never stored
+pub sequence_number-laid : (old new stored : List ℕ) → old ≡ blank_node → KeepsHeader old new → Seals new stored
+    → sequence_number stored ≡ 1
+sequence_number-laid old new stored e keeps seals =
+    let is = IsNodeBlock-blank old e in
+    let header = node_header-is old is.long in
+    let first = first-is 0x28 old (omega arith) (omega arith) is in
+    let place : array_place new ≡ array_place old = u16_at-same old new 0x04 (λ k from to. keeps.before k (omega (arith, header))) in
+    let same : sequence_number new ≡ sequence_number old =
+    ap (u16_at new) place
+    ∙ u16_at-same old new (array_place old) (λ k from to. keeps.between k (omega (arith, header, is.place)) (omega (arith, first, is.place))) in
+    seals.number ∙ ap next_number (same ∙ sequence_number-blank old e)
 
 -- a block in which entries were laid out
 pub IsNodeBlock-laid : (old new : List ℕ) (total : ℕ) → IsNodeBlock 0x28 old → KeepsHeader old new

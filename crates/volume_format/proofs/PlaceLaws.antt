@@ -1,7 +1,6 @@
 -- The clusters that bytes need are few.
-use Rattle.std.proofs.Common.{◌≡◌, ℕ, ◌+◌, ◌-◌, ◌*◌, ◌/◌, ◌^◌, ◌<◌, ◌≤◌, inl, inr, arith}
+use Rattle.std.proofs.Common.{ℕ, ◌+◌, ◌-◌, ◌*◌, ◌/◌, ◌^◌, ◌<◌, ◌≤◌, inl, inr, arith}
 use Rattle.volume_format.specs.FitsPlan.{IsClusterSize}
-use Rattle.volume_format.specs.Plan.{Plan, needed}
 
 -- in clusters of some size
 pub quotient-few : (size bytes : ℕ) → IsClusterSize size → (bytes + (size - 1)) / size ≤ bytes / 512 + 1

@@ -1,12 +1,12 @@
 -- The bytes of a resident attribute are the part that they were made of.
-use Rattle.std.proofs.Common.{◌≡◌, ◌≢◌, ℕ, ◌+◌, ◌*◌, ◌-◌, ◌/◌, ◌%◌, ◌^◌, ◌<◌, ◌≤◌, ◌==◌, Bool, true, false, cond, List, [], ◌∷◌, ◌++◌, take, drop, length, get_or, refl, sym, ap, subst, ◌∙◌, arith, length-append, append_assoc}
+use Rattle.std.proofs.Common.{◌≡◌, ◌≢◌, ℕ, ◌+◌, ◌*◌, ◌-◌, ◌/◌, ◌%◌, ◌^◌, ◌<◌, ◌≤◌, List, ◌++◌, take, drop, length, refl, sym, ap, subst, ◌∙◌, arith, length-append, append_assoc}
 use Rattle.std.specs.Prelude.{replicate, slice_range}
 use Rattle.std.proofs.lemmas.List.{take_at, drop_at, drop-drop, length-replicate}
 use Rattle.ntfs_def.specs.declared.kinds.TheConstants.{END}
-use Rattle.ntfs_def.specs.Attribute.{Attribute, Resident, attribute_at, attribute_kind, attribute_len, attribute_id, value_len, value_offset, name_bytes, content_bytes}
+use Rattle.ntfs_def.specs.Attribute.{attribute_at, attribute_kind, attribute_len, attribute_id, value_len, value_offset, name_bytes, content_bytes}
 use Rattle.ntfs_def.specs.Shape.{IsOneAttribute}
-use Rattle.volume_def.specs.Files.{Content, Part, Value, part_of}
-use Rattle.volume_format.specs.Plan.{part, up_to_8}
+use Rattle.volume_def.specs.Files.{Content, Part, Value}
+use Rattle.volume_format.specs.Plan.{up_to_8}
 use Rattle.volume_format.specs.AttributeBytes.{IsPart, indexed_byte, padded, resident_bytes, resident_header, resident_len, value_at}
 
 pub length-padded : (bytes : List ℕ) → length (padded bytes) ≡ up_to_8 (length bytes)

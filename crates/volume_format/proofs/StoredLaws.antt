@@ -1,19 +1,18 @@
 -- A record that was made and sealed is stored, and zeros are no record.
-use Rattle.std.proofs.Common.{◌≡◌, ℕ, zero, suc, ◌+◌, ◌*◌, ◌-◌, ◌/◌, ◌%◌, ◌<◌, ◌≤◌, ◌==◌, ◌&&◌, ◌||◌, Bool, true, false, cond, List, [], ◌∷◌, map, length, Option, Some, None, inl, inr, refl, sym, ap, subst, ◌∙◌, arith, rules}
-use Rattle.std.specs.Prelude.{IsTrue, codes, nat_eq, nat_lt, is_none, replicate}
+use Rattle.std.proofs.Common.{◌≡◌, ℕ, zero, suc, ◌+◌, ◌%◌, ◌<◌, ◌≤◌, ◌==◌, ◌&&◌, ◌||◌, Bool, true, false, cond, List, ◌∷◌, map, length, Option, Some, None, inl, inr, refl, sym, ap, subst, ◌∙◌, arith, rules}
+use Rattle.std.specs.Prelude.{codes, nat_eq, nat_lt, is_none, replicate}
 use Rattle.std.specs.List.{starts_with, range_with_len, list_all}
 use Rattle.std.proofs.lemmas.Bool.{cases_Bool, cases_lt, cases_eq, false≢true}
-use Rattle.vol_bytes.specs.Field.{SameOutside, u16_at}
+use Rattle.vol_bytes.specs.Field.{SameOutside}
 use Rattle.vol_bytes.proofs.FieldLaws.{u16_at-same}
 use Rattle.ntfs_def.specs.Attribute.{Attribute, attributes}
-use Rattle.ntfs_def.specs.Fixup.{HasArray, Seals, array_count, array_place, opened_of, sequence_number}
+use Rattle.ntfs_def.specs.Fixup.{HasArray, Seals, array_count, array_place, opened_of}
 use Rattle.ntfs_def.specs.Record.{Header, header_of, is_in_use, record_flags}
 use Rattle.ntfs_def.specs.Shape.{HasShape, header_failing}
 use Rattle.ntfs_def.proofs.FixupLaws.{length-opened_of, opened_of-within}
 use Rattle.ntfs_def.proofs.SameLaws.{HasShape-same, attributes-same, header_of-same, is_in_use-same, starts-same}
 use Rattle.ntfs_def.proofs.ShapeLaws.{header_failing-length}
-use Rattle.volume_def.specs.Files.{Part, Record, part_of, record_in, record_of}
-use Rattle.volume_def.specs.Table.{IsWellFormed}
+use Rattle.volume_def.specs.Files.{Record, part_of, record_in, record_of}
 use Rattle.volume_format.specs.NewRecord.{IsNewRecord}
 use Rattle.volume_format.specs.Plan.{Plan, is_planned, listed, planned}
 use Rattle.volume_format.specs.Planned.{AreAligned}
@@ -67,7 +66,7 @@ module _ (n : ℕ) (planned : Option Record) (built stored : List ℕ) (is : IsN
       let front = λ (k : ℕ) (lt : k < 4). opened_of-within stored k (omega (arith, l)) (omega arith) in
       let flags = u16_at-same stored (opened_of stored) 0x16 (λ k from to. opened_of-within stored k (omega (arith, l)) (omega arith)) in
       sym (ap (λ t. t && (record_flags (opened_of stored) % 2 == 1)) (starts-same (codes "FILE") stored (opened_of stored) (omega (arith, l)) (omega (arith, l, length-opened_of stored)) front)
-          ∙ ap (λ f. starts_with nat_eq stored (codes "FILE") && (f % 2 == 1)) flags)
+      ∙ ap (λ f. starts_with nat_eq stored (codes "FILE") && (f % 2 == 1)) flags)
       ∙ is_in_use-same built (opened_of stored) _ is.shape same ∙ is.in_use
 
   list : attributes (opened_of stored) ≡ attributes built

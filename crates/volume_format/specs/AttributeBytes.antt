@@ -1,6 +1,6 @@
 -- An attribute as bytes, as a new volume has it: its name behind the header, and its value or its run text at the next multiple
 -- of 8. Layout: as in `Attribute` of ntfs_def; the places are this project's choice.
-use Rattle.std.specs.Prelude.{◌≡◌, ℕ, ◌+◌, ◌*◌, ◌/◌, ◌^◌, ◌<◌, ◌==◌, List, [], ◌∷◌, ◌++◌, length, Some, None, if◌then◌else◌}
+use Rattle.std.specs.Prelude.{◌≡◌, ℕ, ◌+◌, ◌/◌, ◌^◌, ◌<◌, ◌==◌, List, [], ◌∷◌, ◌++◌, length, Some, None, if◌then◌else◌}
 use Rattle.byteorder.specs.Endian.{little_bytes}
 use Rattle.data_runs.specs.Written.{IsWritten}
 use Rattle.ntfs_def.specs.declared.kinds.TheConstants.{FILE_NAME}

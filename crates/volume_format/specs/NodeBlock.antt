@@ -1,6 +1,6 @@
 -- The block of an index record without entries: its header, and room for entries from 0x40 on.
 -- Layout: as in `Node` of ntfs_def.
-use Rattle.std.specs.Prelude.{◌≡◌, ℕ, true, List, [], ◌∷◌, ◌++◌, codes, length, nat_eq, replicate, slice_index}
+use Rattle.std.specs.Prelude.{◌≡◌, ℕ, true, List, [], ◌∷◌, ◌++◌, codes, length, nat_eq, replicate}
 use Rattle.std.specs.List.{starts_with}
 use Rattle.vol_bytes.specs.Field.{u32_at}
 use Rattle.ntfs_def.specs.Fixup.{array_count, array_place}

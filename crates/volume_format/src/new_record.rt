@@ -34,8 +34,8 @@ pub fn blank(block: &mut [u8; 1024], number: u8, sequence: u8, flags: u8)
 {
     let header = [
         0x46, 0x49, 0x4C, 0x45, 0x30, 0, 3, 0, 0, 0, 0, 0, 0, 0, 0, 0, sequence, 0, 1, 0, 0x38, 0,
-        flags, 0, 0x40, 0, 0, 0, 0, 4, 0, 0, 0, 0, 0, 0, 0, 0, 0, 0, 0, 0, 0, 0, number, 0, 0, 0, 0,
-        0, 0, 0, 0, 0, 0, 0, 0xFF, 0xFF, 0xFF, 0xFF, 0, 0, 0, 0,
+        flags, 0, 0x40, 0, 0, 0, 0, 4, 0, 0, 0, 0, 0, 0, 0, 0, 0, 0, 0, 0, 0, 0, number, 0, 0, 0,
+        0, 0, 0, 0, 0, 0, 0, 0, 0xFF, 0xFF, 0xFF, 0xFF, 0, 0, 0, 0,
     ];
     *block = [0; 1024];
     put_front(block, &header);

@@ -64,12 +64,7 @@ fn stored_units(alloc: Global, label: &[u16]) -> Result<Vec<u8>, AllocError>
 
 impl Places {
     /// The plan for clusters of `size` bytes, of which the volume has so many.
-    pub fn new(
-        alloc: Global,
-        size: u64,
-        clusters: u64,
-        label: &Name,
-    ) -> Result<Places, AllocError>
+    pub fn new(alloc: Global, size: u64, clusters: u64, label: &Name) -> Result<Places, AllocError>
         requires { FitsPlan (record { size = size; clusters = clusters; label = stored_units label.now }) }
         ensures { IfOk result (λ places. places ≡ record { size = size; clusters = clusters; label = stored_units label.now }) }
     {

@@ -1,5 +1,5 @@
 //! The records of a new volume, each in its opened block.
-ghost use Rattle.std.specs.Prelude.{◌≡◌, ◌≤◌, ◌<◌, ◌+◌, ◌^◌, ◌%◌, [], ◌∷◌, IsTrue, OnOk, length};
+ghost use Rattle.std.specs.Prelude.{◌≡◌, ◌≤◌, ◌<◌, ◌+◌, ◌^◌, ◌%◌, [], ◌∷◌, IsTrue, OnOk, codes, length};
 ghost use Rattle.ntfs_def.specs.declared.kinds.TheConstants.{DATA, END, INDEX_ROOT};
 ghost use Rattle.ntfs_def.specs.Attribute.{attributes};
 ghost use Rattle.ntfs_def.specs.Record.{used_size};
@@ -9,14 +9,20 @@ ghost use Rattle.volume_def.specs.ExtentsClause.{bad_name};
 ghost use Rattle.volume_def.specs.Files.{Value};
 ghost use Rattle.volume_format.specs.AttributeBytes.{runs_at};
 ghost use Rattle.volume_format.specs.NewRecord.{AddsPart, IsNewRecord, stream_content};
-ghost use Rattle.volume_format.specs.Plan.{bad_part, file, is_planned, last_entry, listed, part, planned, record_0, record_1, record_2, record_3, record_4, record_5, record_6, record_7, record_8, record_9, record_10, record_11, root_value, stream_part, up_to_8};
+ghost use Rattle.volume_format.specs.Plan.{bad_part, file, is_planned, last_entry, listed, part, planned, record_0, record_1, record_2, record_3, record_5, record_6, record_7, record_8, record_9, record_10, record_11, root_value, stream_part, up_to_8};
 
 use crate::Places;
 use crate::new_record::{add_stream, add_value, blank};
-use crate::places::{BOOT_LEN, CASE_LEN, LOG_LEN, MIRROR_LEN, NODE_LEN, SECURITY_LEN, TABLE_BITS_LEN, TABLE_LEN};
-use crate::value_bytes::{DESCRIPTOR_HEADER, LAST_ABOVE, LAST_ENTRY, extend_entries, key_entries, name_value, root_value, standard_value};
+use crate::places::{
+    BOOT_LEN, CASE_LEN, LOG_LEN, MIRROR_LEN, NODE_LEN, SECURITY_LEN, TABLE_BITS_LEN, TABLE_LEN,
+};
+use crate::value_bytes::{
+    DESCRIPTOR_HEADER, LAST_ABOVE, LAST_ENTRY, extend_entries, key_entries, name_value, root_value,
+    standard_value,
+};
 use ntfs_def::kinds::{
-    BITMAP, DATA, FILE_NAME, INDEX_ALLOCATION, INDEX_ROOT, STANDARD_INFORMATION, VOLUME_INFORMATION, VOLUME_NAME,
+    BITMAP, DATA, FILE_NAME, INDEX_ALLOCATION, INDEX_ROOT, STANDARD_INFORMATION,
+    VOLUME_INFORMATION, VOLUME_NAME,
 };
 use ntfs_def::{Run, Sizes};
 use std::alloc::{AllocError, Global};
@@ -43,7 +49,8 @@ fn begin(
 ) -> Result<(), AllocError>
     requires odd { start.flags % 2 ≡ 1 }
     requires letters { length letters.now ≤ 10 }
-    ensures new { OnOk result (IsNewRecord start.number (file start.number start.sequence start.flags start.parent start.directory letters.now []) block.new) }
+    ensures new { OnOk result (IsNewRecord start.number
+        (file start.number start.sequence start.flags start.parent start.directory letters.now []) block.new) }
     ensures used { OnOk result (used_size block.new ≤ 272) }
 {
     blank(block, start.number, start.sequence, start.flags);
@@ -113,7 +120,14 @@ fn add_root(
     ensures adds { OnOk result (AddsPart block.old block.new INDEX_ROOT (wide letters.now)
         (Value (root_value places.now root.kind root.collation root.children entries.now))) }
 {
-    let value = root_value(alloc, places, root.kind, root.collation, root.children, entries)?;
+    let value = root_value(
+        alloc,
+        places,
+        root.kind,
+        root.collation,
+        root.children,
+        entries,
+    )?;
     add_value(alloc, block, INDEX_ROOT, letters, &value)?;
     Ok(())
 }
@@ -194,7 +208,15 @@ fn fill_table(alloc: Global, places: &Places, block: &mut [u8; 1024]) -> Result<
         directory: 0,
     };
     begin(alloc, block, start, b"$MFT")?;
-    add_item(alloc, places, block, DATA, b"", places.table_at(), TABLE_LEN)?;
+    add_item(
+        alloc,
+        places,
+        block,
+        DATA,
+        b"",
+        places.table_at(),
+        TABLE_LEN,
+    )?;
     let bits_at = places.table_bits_at();
     add_item(alloc, places, block, BITMAP, b"", bits_at, TABLE_BITS_LEN)?;
     Ok(())
@@ -212,10 +234,9 @@ fn fill_volume(alloc: Global, places: &Places, block: &mut [u8; 1024]) -> Result
 }
 
 // Record 4, $AttrDef.
-fn fill_kinds(alloc: Global, places: &Places, block: &mut [u8; 1024]) -> Result<(), AllocError>
-    ensures { OnOk result (IsNewRecord 4 (record_4 places.now) block.new) }
+fn fill_kinds(alloc: Global, block: &mut [u8; 1024]) -> Result<(), AllocError>
+    ensures { OnOk result (IsNewRecord 4 (file 4 4 1 5 0 (codes "$AttrDef") (part 4 DATA [] 2 (Value []) ∷ [])) block.new) }
 {
-    let _ = places;
     begin_file(alloc, block, 4, b"$AttrDef")?;
     add_value(alloc, block, DATA, b"", b"")?;
     Ok(())
@@ -233,7 +254,15 @@ fn fill_root(alloc: Global, places: &Places, block: &mut [u8; 1024]) -> Result<(
     begin_directory(alloc, block, 5, b".")?;
     add_root(alloc, places, block, b"$I30", root, &LAST_ABOVE)?;
     let at = places.node_at();
-    add_item(alloc, places, block, INDEX_ALLOCATION, b"$I30", at, NODE_LEN)?;
+    add_item(
+        alloc,
+        places,
+        block,
+        INDEX_ALLOCATION,
+        b"$I30",
+        at,
+        NODE_LEN,
+    )?;
     add_value(alloc, block, BITMAP, b"$I30", &[1, 0, 0, 0, 0, 0, 0, 0])?;
     Ok(())
 }
@@ -269,11 +298,7 @@ fn fill_bad(alloc: Global, places: &Places, block: &mut [u8; 1024]) -> Result<()
 }
 
 // Record 9, $Secure.
-fn fill_security(
-    alloc: Global,
-    places: &Places,
-    block: &mut [u8; 1024],
-) -> Result<(), AllocError>
+fn fill_security(alloc: Global, places: &Places, block: &mut [u8; 1024]) -> Result<(), AllocError>
     ensures { OnOk result (IsNewRecord 9 (record_9 places.now) block.new) }
 {
     let by_hash = Root {
@@ -409,7 +434,7 @@ pub fn fill_record(
         1 => fill_mirror(alloc, places, block),
         2 => fill_log(alloc, places, block),
         3 => fill_volume(alloc, places, block),
-        4 => fill_kinds(alloc, places, block),
+        4 => fill_kinds(alloc, block),
         5 => fill_root(alloc, places, block),
         6 => fill_bits(alloc, places, block),
         7 => fill_boot(alloc, places, block),

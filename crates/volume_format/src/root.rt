@@ -1,5 +1,6 @@
 //! The index record of the root directory.
 ghost use Rattle.std.specs.Prelude.{◌≡◌, ◌≤◌, ◌++◌, ◌∷◌, [], IfOk, OnOk, length};
+ghost use Rattle.ntfs_def.specs.Fixup.{sequence_number};
 ghost use Rattle.volume_format.specs.NodeBlock.{blank_node};
 ghost use Rattle.volume_format.specs.Plan.{last_entry};
 ghost use Rattle.volume_format.specs.Planned.{IsRootRecord};
@@ -17,9 +18,9 @@ fn blank_node(block: &mut [u8; 4096])
     ensures { block.new ≡ blank_node }
 {
     let header = [
-        0x49, 0x4E, 0x44, 0x58, 0x28, 0, 9, 0, 0, 0, 0, 0, 0, 0, 0, 0, 0, 0, 0, 0, 0, 0, 0, 0, 0x28,
-        0, 0, 0, 0x28, 0, 0, 0, 0xE8, 0x0F, 0, 0, 0, 0, 0, 0, 0, 0, 0, 0, 0, 0, 0, 0, 0, 0, 0, 0, 0,
-        0, 0, 0, 0, 0, 0, 0, 0, 0, 0, 0,
+        0x49, 0x4E, 0x44, 0x58, 0x28, 0, 9, 0, 0, 0, 0, 0, 0, 0, 0, 0, 0, 0, 0, 0, 0, 0, 0, 0,
+        0x28, 0, 0, 0, 0x28, 0, 0, 0, 0xE8, 0x0F, 0, 0, 0, 0, 0, 0, 0, 0, 0, 0, 0, 0, 0, 0, 0, 0,
+        0, 0, 0, 0, 0, 0, 0, 0, 0, 0, 0, 0, 0, 0,
     ];
     *block = [0; 4096];
     put_front(block, &header);
@@ -77,7 +78,8 @@ fn root_entries(alloc: Global) -> Result<Vec<Octets>, AllocError>
 
 /// The index record of the root, as stored.
 pub fn fill_root_node(alloc: Global, block: &mut [u8; 4096]) -> Result<(), AllocError>
-    ensures { OnOk result (IsRootRecord block.new) }
+    ensures root { OnOk result (IsRootRecord block.new) }
+    ensures number { OnOk result (sequence_number block.new ≡ 1) }
 {
     blank_node(block);
     let entries = root_entries(alloc)?;

@@ -220,7 +220,7 @@ fn index_record_of_the_root(rt: HostRuntime) -> Result<(), AllocError> {
         (0x420, 3),
         (0x480, 5),
     ] {
-        assert_eq!(rt; u32_at(&block, at), number, "entry at {at}");
+        assert_eq!(rt; block.get(at).copied(), Some(number), "entry at {at}");
     }
     assert_eq!(rt; u32_at(&block, 0), 0x5844_4E49);
     assert_eq!(rt; u32_at(&block, 0x1C), 0x28 + 1192);

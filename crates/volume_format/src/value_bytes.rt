@@ -91,18 +91,24 @@ pub fn push_name_entry(
 }
 
 /// An entry of a view index.
-pub fn push_view_entry(
-    entries: &mut Vec<u8>,
-    key: &[u8],
-    content: &[u8],
-) -> Result<(), AllocError>
+pub fn push_view_entry(entries: &mut Vec<u8>, key: &[u8], content: &[u8]) -> Result<(), AllocError>
     requires { length key.now + length content.now ≤ 232 }
     ensures entry { OnOk result (entries.new.items ≡ entries.old.items ++ view_entry key.now content.now) }
-    ensures len { OnOk result (length entries.new.items ≡ length entries.old.items + (16 + up_to_8 (length key.now + length content.now))) }
+    ensures len { OnOk result (length entries.new.items
+        ≡ length entries.old.items + (16 + up_to_8 (length key.now + length content.now))) }
 {
     let both = key.len() + content.len();
     let len = (16 + up_to_8(both)) as u8;
-    entries.extend_from_slice(&[(16 + key.len()) as u8, 0, content.len() as u8, 0, 0, 0, 0, 0])?;
+    entries.extend_from_slice(&[
+        (16 + key.len()) as u8,
+        0,
+        content.len() as u8,
+        0,
+        0,
+        0,
+        0,
+        0,
+    ])?;
     entries.extend_from_slice(&[len, 0, key.len() as u8, 0, 0, 0, 0, 0])?;
     entries.extend_from_slice(key)?;
     entries.extend_from_slice(content)?;

@@ -1,6 +1,6 @@
-use Rattle.std.proofs.Common.{refl, sym, ap, ◌∙◌, ◌++◌, List, ℕ, [], length, ◌≡◌, arith, append_assoc}
+use Rattle.std.proofs.Common.{ap, ◌∙◌, ◌++◌, List, ℕ, length, ◌≡◌, arith, append_assoc}
 use Rattle.volume_format.specs.AttributeBytes.{extent_bytes, extent_header, padded}
-use Rattle.volume_format.proofs.ExtentLaws.{IsStream, IsStream-bytes}
+use Rattle.volume_format.proofs.ExtentLaws.{IsStream-bytes}
 use Rattle.volume_format.proofs.attribute.non_resident.Goals as goal
 
 abbrev after : List ℕ → List ℕ → List ℕ
@@ -20,6 +20,6 @@ returns c =
     ∙ ap (λ n. extent_header c.args.kind c.args.name.now c.args.id c.args.sizes n) count))
     ∙ append_assoc header (padded c.args.name.now) runs in
     let is = IsStream-bytes c.args.kind c.args.name.now c.args.id c.args.sizes c.args.run runs _ c.ranges.kind.fits c.ranges.id.fits
-        c.in_ok-push_extent_header.ensures.fits c.requires.name c.requires.even c.in_ok-runs.ensures.short c.in_ok-runs.ensures.multiple
-        c.requires.kind c.requires.some c.requires.few c.requires.reach c.in_ok-runs.ensures.text bytes in
+    c.in_ok-push_extent_header.ensures.fits c.requires.name c.requires.even c.in_ok-runs.ensures.short c.in_ok-runs.ensures.multiple
+    c.requires.kind c.requires.some c.requires.few c.requires.reach c.in_ok-runs.ensures.text bytes in
     record { bytes = is.is; one = is.one; part = is.part; len = omega (arith, is.len, c.in_ok-runs.ensures.short); aligned = is.aligned }

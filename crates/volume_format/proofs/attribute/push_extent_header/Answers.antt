@@ -1,4 +1,4 @@
-use Rattle.std.proofs.Common.{ap, sym, refl, ◌∙◌, ◌++◌, List, ℕ, length, ◌≡◌, ◌∷◌, [], ◌/◌, ◌+◌, ◌*◌, arith, append_assoc}
+use Rattle.std.proofs.Common.{ap, ◌∙◌, ◌++◌, List, ℕ, length, ◌≡◌, ◌∷◌, [], ◌/◌, ◌+◌, append_assoc}
 use Rattle.byteorder.specs.Endian.{little_bytes}
 use Rattle.ntfs_def.specs.declared.sizes.Sizes.{Sizes}
 use Rattle.volume_format.specs.AttributeBytes.{extent_header, runs_at}

@@ -1,4 +1,4 @@
-use Rattle.std.proofs.Common.{◌≡◌, ◌++◌, take, refl, arith, ◌≤◌, ◌∙◌, ap, length}
+use Rattle.std.proofs.Common.{◌≡◌, ◌++◌, take, arith, ◌≤◌, ◌∙◌, ap, length}
 use Rattle.std.proofs.lemmas.List.{length-take-le}
 use Rattle.volume_format.specs.Plan.{up_to_8}
 use Rattle.volume_format.proofs.ExtentLaws.{IsRunTextOf-put, run_text-short}

@@ -1,8 +1,7 @@
-use Rattle.std.proofs.Common.{◌≡◌, ◌%◌, ap, sym, subst, ◌∙◌, arith}
-use Rattle.ntfs_def.specs.Attribute.{attribute_at, value_offset}
+use Rattle.std.proofs.Common.{◌≡◌, ◌%◌, sym, subst, ◌∙◌}
+use Rattle.ntfs_def.specs.Attribute.{value_offset}
 use Rattle.ntfs_def.specs.Shape.{IsOneAttribute}
 use Rattle.ntfs_def.specs.Units.{wide}
-use Rattle.volume_def.specs.Files.{Value}
 use Rattle.volume_format.specs.AttributeBytes.{IsPart, one_run}
 use Rattle.volume_format.proofs.NewRecordLaws.{AddsPart-inserted}
 use Rattle.volume_format.proofs.new_record.add_stream.Goals as goal

@@ -1,4 +1,4 @@
-use Rattle.std.proofs.Common.{◌≡◌, Some, ap, refl, sym, subst, ◌∙◌}
+use Rattle.std.proofs.Common.{Some, ap, sym, subst, ◌∙◌}
 use Rattle.ntfs_def.specs.Record.{used_size}
 use Rattle.volume_format.specs.NewRecord.{IsNewRecord, blank_block, blank_record}
 use Rattle.volume_format.proofs.NewRecordLaws.{IsNewRecord-blank, used_size-blank}

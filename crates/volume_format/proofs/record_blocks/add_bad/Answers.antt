@@ -1,4 +1,4 @@
-use Rattle.std.proofs.Common.{◌≡◌, ap, sym, subst, ◌∙◌, arith}
+use Rattle.std.proofs.Common.{subst}
 use Rattle.volume_format.proofs.NewRecordLaws.{content-bad}
 use Rattle.ntfs_def.specs.declared.kinds.TheConstants.{DATA}
 use Rattle.volume_def.specs.ExtentsClause.{bad_name}

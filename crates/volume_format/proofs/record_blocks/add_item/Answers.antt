@@ -1,4 +1,4 @@
-use Rattle.std.proofs.Common.{◌≡◌, ap, sym, subst, ◌∙◌}
+use Rattle.std.proofs.Common.{subst}
 use Rattle.volume_format.proofs.NewRecordLaws.{content-item}
 use Rattle.ntfs_def.specs.Units.{wide}
 use Rattle.volume_format.specs.NewRecord.{AddsPart}

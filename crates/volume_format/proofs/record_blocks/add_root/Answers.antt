@@ -1,4 +1,4 @@
-use Rattle.std.proofs.Common.{◌≡◌, ap, sym, subst, ◌∙◌, arith}
+use Rattle.std.proofs.Common.{ap, ◌∙◌, arith}
 use Rattle.std.proofs.Common.{length}
 use Rattle.volume_format.proofs.NewRecordLaws.{AddsPart-value, length-wide}
 use Rattle.volume_format.proofs.record_blocks.add_root.Goals as goal

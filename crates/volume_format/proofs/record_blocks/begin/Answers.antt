@@ -1,4 +1,4 @@
-use Rattle.std.proofs.Common.{◌≡◌, ap, sym, subst, ◌∙◌}
+use Rattle.std.proofs.Common.{◌∙◌}
 use Rattle.volume_format.proofs.NewRecordLaws.{AddsPart-value}
 use Rattle.volume_format.proofs.record_blocks.begin.Goals as goal
 

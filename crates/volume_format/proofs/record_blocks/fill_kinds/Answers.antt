@@ -1,4 +1,3 @@
-use Rattle.std.proofs.Common.{◌≡◌, ap, sym, subst, ◌∙◌}
 use Rattle.volume_format.proofs.record_blocks.fill_kinds.Goals as goal
 
 pub returns : goal.returns

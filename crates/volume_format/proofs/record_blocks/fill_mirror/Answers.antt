@@ -1,4 +1,4 @@
-use Rattle.std.proofs.Common.{◌≡◌, refl, ap, sym, subst, ◌∙◌, arith}
+use Rattle.std.proofs.Common.{refl}
 use Rattle.volume_format.proofs.NewRecordLaws.{IsNewRecord-stream}
 use Rattle.std.specs.Prelude.{codes}
 use Rattle.volume_format.proofs.record_blocks.fill_mirror.Goals as goal

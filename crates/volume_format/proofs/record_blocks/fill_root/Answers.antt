@@ -1,4 +1,3 @@
-use Rattle.std.proofs.Common.{◌≡◌, ap, sym, subst, ◌∙◌, arith}
 use Rattle.volume_format.proofs.NewRecordLaws.{AddsPart-at}
 use Rattle.volume_format.proofs.record_blocks.fill_root.Goals as goal
 

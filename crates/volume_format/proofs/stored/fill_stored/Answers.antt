@@ -1,6 +1,5 @@
-use Rattle.std.proofs.Common.{◌≡◌, false, ap, sym, subst, ◌∙◌, refl, rules}
+use Rattle.std.proofs.Common.{◌≡◌, false, sym, ◌∙◌, rules}
 use Rattle.volume_format.specs.Plan.{listed, planned}
-use Rattle.volume_format.specs.StoredRecord.{IsStoredRecord}
 use Rattle.volume_format.proofs.StoredLaws.{HasArray-shape, IsStoredRecord-sealed, IsStoredRecord-zeros, listed-free}
 use Rattle.volume_format.proofs.stored.fill_stored.Goals as goal
 

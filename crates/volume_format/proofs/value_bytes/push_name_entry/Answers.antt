@@ -1,6 +1,5 @@
-use Rattle.std.proofs.Common.{◌≡◌, ℕ, ◌+◌, List, [], ◌∷◌, ◌++◌, length, ap, ◌∙◌, append_assoc}
+use Rattle.std.proofs.Common.{ℕ, ◌+◌, List, [], ◌∷◌, ◌++◌, length, ap, ◌∙◌, append_assoc}
 use Rattle.volume_format.specs.AttributeBytes.{padded}
-use Rattle.volume_format.specs.Plan.{name_entry, reference_bytes}
 use Rattle.volume_format.proofs.value_bytes.push_name_entry.Goals as goal
 
 abbrev after : List ℕ → List ℕ → List ℕ

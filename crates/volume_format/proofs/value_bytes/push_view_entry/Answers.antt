@@ -1,5 +1,5 @@
-use Rattle.std.proofs.Common.{◌≡◌, ℕ, ◌+◌, List, [], ◌∷◌, ◌++◌, length, ap, ◌∙◌, append_assoc}
-use Rattle.volume_format.specs.Plan.{fill_to_8, view_entry}
+use Rattle.std.proofs.Common.{ℕ, ◌+◌, List, [], ◌∷◌, ◌++◌, length, ap, ◌∙◌, append_assoc}
+use Rattle.volume_format.specs.Plan.{fill_to_8}
 use Rattle.volume_format.proofs.value_bytes.push_view_entry.Goals as goal
 
 abbrev after : List ℕ → List ℕ → List ℕ
