@@ -16,6 +16,7 @@ use Rattle.index_node.proofs.LayOutLaws.{Holds-same, scan_listed}
 use Rattle.index_node.proofs.NodeLaws.{are_short-is, scan_node-is, u16_within}
 use Rattle.volume_format.specs.NodeBlock.{IsNodeBlock, blank_node, blank_node_header}
 use Rattle.volume_format.specs.Planned.{IsRootRecord}
+use Rattle.ntfs_def.proofs.FixupLaws.{length-opened_of}
 use Rattle.volume_format.specs.RootIndex.{root_entries}
 
 -- the bytes in use
@@ -249,6 +250,7 @@ module _ (built stored : List ℕ) (is : IsNodeBlock root_used built) (seals : S
 
   pub IsRootRecord-sealed : has_children built ≡ false → Holds built 0x40 root_entries → IsRootRecord stored
   IsRootRecord-sealed leaf holds = record {
+    len = sym (length-opened_of stored) ∙ long-opened;
     sealed = seals.sealed;
     own = opened-is.own;
     says = says-root (opened_of stored) opened-is (leaf-opened leaf) (holds-opened holds);

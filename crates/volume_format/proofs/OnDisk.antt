@@ -17,4 +17,11 @@ items_end-on_disk disk o range =
 
 -- options in range on a disk are in range on their own sectors
 pub AreInRange-own : (disk : ℕ) (o : Options) → AreInRange disk o → AreInRange o.sectors o
-AreInRange-own disk o range = record range { most = omega arith }
+AreInRange-own disk o range = record {
+  least = range.least;
+  most = omega arith;
+  cluster = range.cluster;
+  few = range.few;
+  named = range.named;
+  short = range.short;
+}

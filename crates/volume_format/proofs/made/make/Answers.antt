@@ -8,5 +8,5 @@ returns-clause-made c = record {
   geometry = c.new_boot_sector-boot.ensures.geometry;
   clause = c.new_boot_sector-boot.ensures.clause;
   is_table = subst (λ p. IsTable p c.in_ok-table.table.items) c.in_ok-places.ensures c.in_ok-table.ensures;
-  is_root = c.in_ok-fill_root_node.ensures;
+  is_root = c.in_ok-fill_root_node.ensures.root;
 }
