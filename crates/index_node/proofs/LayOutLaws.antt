@@ -403,7 +403,7 @@ module _ (old mid new : List ℕ) (children : Bool) (end first : ℕ) (sets : Se
   laid_flag : slice_index new (node_header old + 0x0C) ≡ slice_index old (node_header old + 0x0C) / 2 * 2 + (if children then 1 else 0)
   laid_flag = let b = begins in rest.below (node_header old + 0x0C) (omega arith) ∙ sets.flags
 
-  laid_children : has_children new ≡ children
+  pub laid_children : has_children new ≡ children
   laid_children =
       ap (λ h. slice_index new (h + 0x0C) % 2 == 1) header_same ∙ ap (λ n. n % 2 == 1) laid_flag
       ∙ go children (slice_index old (node_header old + 0x0C) / 2)

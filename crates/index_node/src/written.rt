@@ -1,7 +1,7 @@
 //! A node is laid out from the bytes of its entries.
 ghost use Rattle.std.specs.Prelude.{◌≡◌, ◌↔◌, ◌+◌, ◌-◌, ◌≤◌, ◌^◌, min, ◌∷◌, [], IfErr, IsOk, OnErr, OnOk, Some, None, length};
 ghost use Rattle.vol_bytes.specs.Field.{SameOutside};
-ghost use Rattle.ntfs_def.specs.Node.{entries_end, first_entry, node_header, node_header_failing, node_in, room_end, short_node};
+ghost use Rattle.ntfs_def.specs.Node.{entries_end, first_entry, has_children, node_header, node_header_failing, node_in, room_end, short_node};
 ghost use Rattle.index_node.specs.LayOut.{AreEntries, AreShort, Holds, KeepsHeader, LacksRoom, SetsHeader, node_listed, room_len, total_len};
 
 use crate::NodeNo;
@@ -75,6 +75,7 @@ pub fn lay_out(
     ensures bytes { OnOk result (Holds node.new (first_entry node.old) entries.now) }
     ensures end { OnOk result (entries_end node.new ≡ first_entry node.old + total_len entries.now) }
     ensures header { OnOk result (KeepsHeader node.old node.new) }
+    ensures flag { OnOk result (has_children node.new ≡ children) }
 
     ensures fits { IsOk result ↔ (total_len entries.now ≤ room_len node.old) }
     ensures err { IfErr result (LacksRoom node.old entries.now) }

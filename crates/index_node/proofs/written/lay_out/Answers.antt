@@ -2,7 +2,7 @@ use Rattle.std.proofs.Common.{◌≡◌, ◌+◌, ◌-◌, ◌<◌, ◌≤◌, �
 use Rattle.vol_bytes.specs.Field.{SameOutside}
 use Rattle.ntfs_def.specs.declared.index.NodeForm.{NodeForm}
 use Rattle.index_node.specs.LayOut.{AreEntries, Holds, total_len}
-use Rattle.index_node.proofs.LayOutLaws.{few_entries, need_is, laid_end, laid_keeps, laid_node, laid_short}
+use Rattle.index_node.proofs.LayOutLaws.{few_entries, need_is, laid_children, laid_end, laid_keeps, laid_node, laid_short}
 use Rattle.index_node.proofs.written.lay_out.Goals as goal
 
 begins : (first need : ℕ) → first ≤ first + need
@@ -105,6 +105,23 @@ returns-clause-header c =
     let rest : SameOutside mid new first end = subst (λ n. SameOutside mid new first (first + n))
     (sym is) c.put_entries.ensures.rest in
     laid_keeps old mid new c.args.children end first c.put_header.ensures c.first_entry-first.ensures.place rest c.requires.header
+    (begins first c.total_len-need.result)
+    (fits first c.total_len-need.result c.room_end.result c.saturating_sub-free.result _
+    c.if-need-free.false c.saturating_sub-free.ensures c.room_end.ensures.place
+    (some_bytes c.args.form c.args.children c.args.entries.now c.requires.entries is))
+
+pub returns-clause-flag : goal.returns-clause-flag
+returns-clause-flag c =
+    let is = need_is (total_len c.args.entries.now) c.total_len-need.result c.saturating_sub-free.result c.room_end.result
+    c.first_entry-first.result c.total_len-need.ensures c.if-need-free.false c.saturating_sub-free.ensures c.room_end.ensures.short in
+    let old = c.args.node.now in
+    let mid = c.put_header.new.node in
+    let new = c.put_entries.new.node in
+    let first = c.first_entry-first.result in
+    let end = first + c.total_len-need.result in
+    let rest : SameOutside mid new first end = subst (λ n. SameOutside mid new first (first + n))
+    (sym is) c.put_entries.ensures.rest in
+    laid_children old mid new c.args.children end first c.put_header.ensures c.first_entry-first.ensures.place rest c.requires.header
     (begins first c.total_len-need.result)
     (fits first c.total_len-need.result c.room_end.result c.saturating_sub-free.result _
     c.if-need-free.false c.saturating_sub-free.ensures c.room_end.ensures.place

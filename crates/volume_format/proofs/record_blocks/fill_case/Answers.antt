@@ -1,0 +1,7 @@
+use Rattle.std.proofs.Common.{refl}
+use Rattle.volume_format.proofs.NewRecordLaws.{IsNewRecord-stream}
+use Rattle.std.specs.Prelude.{codes}
+use Rattle.volume_format.proofs.record_blocks.fill_case.Goals as goal
+
+pub returns : goal.returns
+returns c = IsNewRecord-stream 10 (codes "$UpCase") c.args.places.now _ _ _ _ _ c.case_at-at.ensures.at refl c.in_ok-fill_stream.ensures

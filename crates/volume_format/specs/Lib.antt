@@ -1,0 +1,17 @@
+pub mod Plan
+pub mod Items
+pub mod RootIndex
+pub mod AttributeBytes
+pub mod FitsPlan
+pub mod SystemItems
+pub mod Planned
+pub mod Options
+pub mod NewVolume
+pub mod Written
+pub mod NewBoot
+pub mod NewRecord
+pub mod Made
+pub mod Formatted
+pub mod StoredRecord
+pub mod NodeBlock
+pub mod FormatNos
