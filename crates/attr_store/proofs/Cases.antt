@@ -1,5 +1,5 @@
 -- Results, by their cases.
-use Rattle.std.proofs.Common.{◌≡◌, ℕ, ◌≤◌, Ok, Err, sym, subst}
+use Rattle.std.proofs.Common.{◌≡◌, Ok, Err, sym, subst}
 use Rattle.std.specs.Prelude.{Result, IfOk, MatchResult}
 
 -- two facts of a value give a third

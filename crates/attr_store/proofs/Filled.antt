@@ -1,5 +1,5 @@
 -- A buffer whose front was read, and the rest filled with zeros.
-use Rattle.std.proofs.Common.{◌≡◌, ℕ, ◌-◌, ◌≤◌, List, ◌++◌, length, take, drop, replicate, ap, ◌∙◌, arith, append-nil, length-append, length-drop}
+use Rattle.std.proofs.Common.{◌≡◌, ℕ, ◌-◌, ◌≤◌, List, ◌++◌, length, drop, replicate, ap, ◌∙◌, arith, append-nil, length-append, length-drop}
 use Rattle.std.proofs.lemmas.List.{drop_all, drop_at, take_all, take_at}
 use borrow.Rule.Slice.PartMut.{mid_of, put_mid}
 

@@ -1,9 +1,9 @@
 -- An attribute that is found among those of a file, and the part that it is.
-use Rattle.std.proofs.Common.{cond, leb, subst, ◌≡◌, ◌≤◌, ℕ, ◌&&◌, Bool, true, false, List, [], ◌∷◌, ◌++◌, Option, Some, None, inl, inr, refl, sym, ap, ◌∙◌}
+use Rattle.std.proofs.Common.{cond, leb, subst, ◌≡◌, ◌≤◌, ℕ, ◌&&◌, Bool, true, false, List, [], ◌∷◌, ◌++◌, Option, Some, None, refl, sym, ap, ◌∙◌}
 use Rattle.std.specs.Prelude.{find, filter, map, flat_map}
 use Rattle.std.proofs.lemmas.Bool.{leb-true}
 use Rattle.ntfs_def.specs.Attribute.{Attribute, Body, ExtentHeader, NonResident, Resident, attributes}
-use Rattle.volume_def.specs.Files.{Part, content_of, content_extent, is_of, part_of, parts_like}
+use Rattle.volume_def.specs.Files.{Part, content_of, content_extent, is_of, part_of}
 use Rattle.volume_def.specs.Spans.{is_within, spans_vcn}
 use Rattle.volume_def.proofs.FindLaws.{find-found}
 use Rattle.file_record.specs.declared.parts.FileParts.{FileParts}

@@ -1,6 +1,6 @@
 -- The value of an attribute that lies in clusters, on a volume whose files can be read.
-use Rattle.std.proofs.Common.{◌≡◌, ◌≢◌, ◌⊎◌, ℕ, ◌+◌, ◌≤◌, ◌&&◌, true, List, [], ◌∷◌, length, Option, Some, None, inl, inr, refl, sym, ap, subst, ◌∙◌}
-use Rattle.std.specs.Prelude.{unwrap_or, IfSome, IsSome, IsSomeAnd, IsTrue, slice_get, slice_range}
+use Rattle.std.proofs.Common.{◌≡◌, ◌≢◌, ℕ, ◌+◌, ◌≤◌, ◌&&◌, true, List, [], ◌∷◌, length, Option, Some, None, inl, inr, refl, sym, ap, subst, ◌∙◌}
+use Rattle.std.specs.Prelude.{unwrap_or, IfSome, IsSome, IsSomeAnd, slice_get, slice_range}
 use Rattle.std.specs.List.{Contains}
 use Rattle.std.specs.Str.{bytes_eq}
 use Rattle.std.proofs.lemmas.Option.{get_or_from_slice_get, slice_get_within}
@@ -10,7 +10,7 @@ use Rattle.ntfs_def.specs.declared.kinds.TheConstants.{FILE_NAME}
 use Rattle.ntfs_def.specs.Attribute.{Attribute, Body, ExtentHeader, NonResident, Resident, value_of}
 use Rattle.volume_def.specs.AttributesClause.{is_kept_resident}
 use Rattle.volume_def.specs.ExtentsClause.{AreAttribute, AreWhole, BeginsAt}
-use Rattle.volume_def.specs.Files.{Clusters, Content, Part, Value, content_of, content_extent, is_of, part_of, parts, parts_like, records_of, content_value}
+use Rattle.volume_def.specs.Files.{Part, content_of, content_extent, is_of, part_of, parts, parts_like, records_of, content_value}
 use Rattle.volume_def.specs.Readable.{IsFile, IsReadableVolume}
 use Rattle.volume_def.specs.StreamSize.{IsFirstExtent}
 use Rattle.volume_def.specs.Values.{attribute_value, value_of_parts, value_on}

@@ -1,7 +1,6 @@
 -- Attributes of a file that are sought, and what is read of them.
-use Rattle.std.specs.Prelude.{◌≡◌, ℕ, ◌-◌, ◌&&◌, Bool, List, [], unwrap_or}
+use Rattle.std.specs.Prelude.{ℕ, ◌-◌, ◌&&◌, Bool, List, [], unwrap_or}
 use Rattle.ntfs_def.specs.declared.run_text.Spot.{Spot}
-use Rattle.ntfs_def.specs.declared.sizes.Sizes.{Sizes}
 use Rattle.ntfs_def.specs.Attribute.{Attribute}
 use Rattle.ntfs_def.specs.Runs.{runs_in, spot_of}
 use Rattle.volume_def.specs.Files.{Part, is_of, part_of, parts_like}

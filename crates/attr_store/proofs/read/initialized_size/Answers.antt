@@ -1,9 +1,8 @@
-use Rattle.std.proofs.Common.{leb, ◌&&◌, ◌≡◌, ◌≤◌, true, None, sym, ap, ◌∙◌, arith}
+use Rattle.std.proofs.Common.{leb, ◌&&◌, ◌≡◌, true, sym, ap, ◌∙◌, arith}
 use Rattle.std.proofs.lemmas.Bool.{le-leb}
-use Rattle.ntfs_def.specs.Attribute.{ExtentHeader}
 use Rattle.ntfs_def.specs.declared.sizes.Sizes.{Sizes}
 use Rattle.attr_view.specs.View.{attribute_of}
-use Rattle.volume_def.specs.Files.{Part, content_of, content_extent, part_of}
+use Rattle.volume_def.specs.Files.{content_of, content_extent, part_of}
 use Rattle.volume_def.specs.Spans.{is_within, spans_vcn}
 use Rattle.volume_def.proofs.FindLaws.{count-some, find-fails, find-found}
 use Rattle.attr_store.specs.Sought.{parts_held_like}

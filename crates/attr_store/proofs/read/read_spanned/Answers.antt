@@ -1,4 +1,4 @@
-use Rattle.std.proofs.Common.{◌≡◌, ◌<◌, ◌≤◌, ◌+◌, ◌-◌, ◌*◌, ◌/◌, ◌++◌, drop, length, replicate, sym, ap, refl, ◌∙◌, arith}
+use Rattle.std.proofs.Common.{◌≤◌, ◌/◌, ◌++◌, drop, sym, ap, ◌∙◌, arith}
 use Rattle.std.proofs.lemmas.List.{length-take-le}
 use Rattle.mft_table.specs.Mft.{view}
 use Rattle.attr_store.proofs.FewerReads.{MftReads-less}
