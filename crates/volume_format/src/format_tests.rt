@@ -56,7 +56,13 @@ fn boot_sectors_tell_the_volume(rt: HostRuntime) -> Result<(), AllocError> {
         assert!(rt; has_at(all, 0x28, &4096u64.to_le_bytes()));
         assert!(rt; has_at(all, 0x30, &mft.to_le_bytes()));
         assert!(rt; has_at(all, 0x38, &mirror.to_le_bytes()));
-        assert!(rt; has_at(all, 0x40, b"\xF6\x00\x00\x00\xF4\x00\x00\x00\xEF\xCD\xAB\x89\x67\x45\x23\x01\x00"));
+        assert!(rt;
+            has_at(
+                all,
+                0x40,
+                b"\xF6\x00\x00\x00\xF4\x00\x00\x00\xEF\xCD\xAB\x89\x67\x45\x23\x01\x00"
+            )
+        );
         assert!(rt; has_at(all, 0x1FE, b"\x55\xAA\x00"));
         assert_eq!(rt; disk.settles().len(), 1);
     }
@@ -77,7 +83,13 @@ fn items_stand_where_the_table_of_items_says(rt: HostRuntime) -> Result<(), Allo
         assert!(rt; has_at(all, 8192 + 24 * 1024, b"FILE"));
         assert!(rt; has_at(all, 8192 + 26 * 1024, &[0; 1024]));
         // The label in record 3.
-        assert!(rt; has_at(all, 8192 + 3 * 1024 + 0x118, &0x0041_0041_0041_0041u64.to_le_bytes()));
+        assert!(rt;
+            has_at(
+                all,
+                8192 + 3 * 1024 + 0x118,
+                &0x0041_0041_0041_0041u64.to_le_bytes()
+            )
+        );
         // The bitmap of records, the log, the table of case, the security descriptor, and the root's index record.
         assert!(rt; has_at(all, 73_728, b"\xFF\x0F\x00\x03\x00\x00\x00\x00\x00"));
         assert!(rt; has_at(all, 77_824 + size, b"\xFF\xFF\xFF\xFF"));
@@ -123,7 +135,11 @@ fn options_have_ranges(rt: HostRuntime) -> Result<(), AllocError> {
         ((1 << 29) + 1, 4096, 1, false),
     ] {
         let options = options(rt.alloc(), sectors, cluster, units)?;
-        assert_eq!(rt; options.is_in_range(1 << 29), wanted, "{sectors} {cluster} {units}");
+        assert_eq!(rt;
+            options.is_in_range(1 << 29),
+            wanted,
+            "{sectors} {cluster} {units}"
+        );
     }
     Ok(())
 }
@@ -132,7 +148,10 @@ fn options_have_ranges(rt: HostRuntime) -> Result<(), AllocError> {
 fn options_out_of_range_write_nothing(rt: HostRuntime) -> Result<(), AllocError> {
     let mut disk = disk(&rt)?;
     let options = options(rt.alloc(), 4097, 512, 1)?;
-    assert_eq!(rt; format(rt.alloc(), &mut disk, &options), Err(FormatNo::Options));
+    assert_eq!(rt;
+        format(rt.alloc(), &mut disk, &options),
+        Err(FormatNo::Options)
+    );
     assert!(rt; disk.writes().is_empty());
     assert!(rt; disk.settles().is_empty());
     Ok(())
@@ -165,7 +184,10 @@ fn a_failing_settle_is_the_devices(rt: HostRuntime) -> Result<(), AllocError> {
     };
     let mut disk = FailDisk::new(disk(&rt)?, vec![in rt.alloc(); fail]?);
     let options = options(rt.alloc(), 4096, 512, 1)?;
-    assert_eq!(rt; format(rt.alloc(), &mut disk, &options), Err(FormatNo::Device));
+    assert_eq!(rt;
+        format(rt.alloc(), &mut disk, &options),
+        Err(FormatNo::Device)
+    );
     assert_eq!(rt; disk.inner().writes().len(), 1059);
     Ok(())
 }
