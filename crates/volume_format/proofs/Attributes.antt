@@ -1,6 +1,6 @@
 -- The clause on attributes holds of a new volume.
-use Rattle.std.proofs.Common.{◌≡◌, ◌≢◌, ℕ, zero, suc, ◌+◌, ◌*◌, ◌<◌, ◌≤◌, ◌==◌, eqb, Bool, true, false, cond, List, [], ◌∷◌, Option, Some, None, inl, inr, length, refl, sym, ap, subst, ◌∙◌, arith}
-use Rattle.std.specs.Prelude.{All, codes, IfSome, IsTrue, IsSome, is_none}
+use Rattle.std.proofs.Common.{◌≡◌, ℕ, suc, ◌+◌, ◌<◌, ◌≤◌, ◌==◌, Bool, true, false, cond, List, [], ◌∷◌, None, inl, inr, refl, sym, ap, ◌∙◌, arith}
+use Rattle.std.specs.Prelude.{codes, IsTrue, IsSome, is_none}
 use Rattle.std.specs.List.{AllByRecursion, count_by}
 use Rattle.std.proofs.lemmas.List.Sums.{sum_by-cons}
 use Rattle.std.proofs.lemmas.List.Elements.{All-from_recursion}
@@ -10,8 +10,8 @@ use Rattle.ntfs_def.specs.declared.kinds.TheConstants.{BITMAP, DATA, FILE_NAME, 
 use Rattle.ntfs_def.specs.FileName.{is_name_key}
 use Rattle.volume_def.specs.AttributesClause.{AscendsFrom, IsRightPart, IsRightRecord, IsStandard, MeetsAttributes, is_kept_resident, is_standard, times_id}
 use Rattle.volume_def.specs.Files.{Content, Part, Record, Value, content_value}
-use Rattle.volume_format.specs.Plan.{Plan, name_part, name_value, part, planned, planned_records, record_0, record_1, record_10, record_11, record_2, record_24, record_25, record_3, record_4, record_5, record_6, record_7, record_8, record_9, standard_part}
-use Rattle.volume_format.proofs.Listed.{EachFrom, EachFrom-listed}
+use Rattle.volume_format.specs.Plan.{Plan, name_part, name_value, part, planned_records, standard_part}
+use Rattle.volume_format.proofs.EachRecord.{each-listed}
 
 -- ids count up
 abbrev IdsFrom : ℕ → List Part → Type 0
@@ -126,98 +126,42 @@ three-later a b c order more id_a id_b id_c later_a later_b later_c = record {
   each = (later_a, (later_b, (later_c, tt)));
 }
 
-module _ (p : Plan) where
-  right_0 : IfSome (record_0 p) (IsRightRecord 0)
-  right_0 = IsRightRecord-file 0 5 0 (codes "$MFT") _ _ refl refl refl (two-later _ _ (omega arith) refl refl
-      (later-extent 0 DATA [] 2 _ (omega arith) refl) (later-extent 0 BITMAP [] 3 _ (omega arith) refl))
-
-  right_1 : IfSome (record_1 p) (IsRightRecord 1)
-  right_1 = IsRightRecord-file 1 5 0 (codes "$MFTMirr") _ _ refl refl refl
-      (one-later _ refl (later-extent 1 DATA [] 2 _ (omega arith) refl))
-
-  right_2 : IfSome (record_2 p) (IsRightRecord 2)
-  right_2 = IsRightRecord-file 2 5 0 (codes "$LogFile") _ _ refl refl refl
-      (one-later _ refl (later-extent 2 DATA [] 2 _ (omega arith) refl))
-
-  right_3 : IfSome (record_3 p) (IsRightRecord 3)
-  right_3 = IsRightRecord-file 3 5 0 (codes "$Volume") _ _ refl refl refl (two-later _ _ (omega arith) refl refl
-      (later-value 3 VOLUME_NAME [] 2 _ (omega arith)) (later-value 3 VOLUME_INFORMATION [] 3 _ (omega arith)))
-
-  right_4 : IfSome (record_4 p) (IsRightRecord 4)
-  right_4 = IsRightRecord-file 4 5 0 (codes "$AttrDef") _ _ refl refl refl (one-later _ refl (later-value 4 DATA [] 2 _ (omega arith)))
-
-  right_5 : IfSome (record_5 p) (IsRightRecord 5)
-  right_5 = IsRightRecord-file 5 5 0x10 (codes ".") _ _ refl refl refl (three-later _ _ _ (omega arith) (omega arith) refl refl refl
-      (later-value 5 INDEX_ROOT _ 2 _ (omega arith)) (later-extent 5 INDEX_ALLOCATION _ 3 _ (omega arith) refl) (later-value 5 BITMAP _ 4 _ (omega arith)))
-
-  right_6 : IfSome (record_6 p) (IsRightRecord 6)
-  right_6 = IsRightRecord-file 6 5 0 (codes "$Bitmap") _ _ refl refl refl (one-later _ refl (later-extent 6 DATA [] 2 _ (omega arith) refl))
-
-  right_7 : IfSome (record_7 p) (IsRightRecord 7)
-  right_7 = IsRightRecord-file 7 5 0 (codes "$Boot") _ _ refl refl refl (one-later _ refl (later-extent 7 DATA [] 2 _ (omega arith) refl))
-
-  right_8 : IfSome (record_8 p) (IsRightRecord 8)
-  right_8 = IsRightRecord-file 8 5 0 (codes "$BadClus") _ _ refl refl refl (two-later _ _ (omega arith) refl refl
-      (later-value 8 DATA [] 2 _ (omega arith)) (later-extent 8 DATA _ 3 _ (omega arith) refl))
-
-  right_9 : IfSome (record_9 p) (IsRightRecord 9)
-  right_9 = IsRightRecord-file 9 5 0 (codes "$Secure") _ _ refl refl refl (three-later _ _ _ (omega arith) (omega arith) refl refl refl
-      (later-extent 9 DATA _ 2 _ (omega arith) refl) (later-value 9 INDEX_ROOT _ 3 _ (omega arith)) (later-value 9 INDEX_ROOT _ 4 _ (omega arith)))
-
-  right_10 : IfSome (record_10 p) (IsRightRecord 10)
-  right_10 = IsRightRecord-file 10 5 0 (codes "$UpCase") _ _ refl refl refl
-      (one-later _ refl (later-extent 10 DATA [] 2 _ (omega arith) refl))
-
-  right_11 : IfSome (record_11 p) (IsRightRecord 11)
-  right_11 = IsRightRecord-file 11 5 0x10 (codes "$Extend") _ _ refl refl refl
-      (one-later _ refl (later-value 11 INDEX_ROOT _ 2 _ (omega arith)))
-
-  right_24 : IfSome (record_24 p) (IsRightRecord 24)
-  right_24 = IsRightRecord-file 24 11 0 (codes "$ObjId") _ _ refl refl refl
-      (one-later _ refl (later-value 24 INDEX_ROOT _ 2 _ (omega arith)))
-
-  right_25 : IfSome (record_25 p) (IsRightRecord 25)
-  right_25 = IsRightRecord-file 25 11 0 (codes "$Reparse") _ _ refl refl refl
-      (one-later _ refl (later-value 25 INDEX_ROOT _ 2 _ (omega arith)))
-
-  rights : EachFrom IsRightRecord 0 (planned p)
-  rights = (
-    right_0,
-    (
-      right_1,
-      (
-        right_2,
-        (
-          right_3,
-          (
-            right_4,
-            (
-              right_5,
-              (
-                right_6,
-                (
-                  right_7,
-                  (
-                    right_8,
-                    (
-                      right_9,
-                      (
-                        right_10,
-                        (
-                          right_11,
-                          (tt, (tt, (tt, (tt, (tt, (tt, (tt, (tt, (tt, (tt, (tt, (tt, (right_24, (right_25, tt)))))))))))))),
-                        ),
-                      ),
-                    ),
-                  ),
-                ),
-              ),
-            ),
-          ),
-        ),
-      ),
-    ),
-  )
-
-  pub MeetsAttributes-planned : (n : ℕ) → MeetsAttributes (planned_records p) n
-  MeetsAttributes-planned n = EachFrom-listed IsRightRecord 0 (planned p) rights n n (omega arith)
+pub MeetsAttributes-planned : (p : Plan) (n : ℕ) → MeetsAttributes (planned_records p) n
+MeetsAttributes-planned p = each-listed IsRightRecord p (record {
+  n0 = IsRightRecord-file 0 5 0 (codes "$MFT") _ _ refl refl refl
+      (two-later _ _ (omega arith) refl refl
+      (later-extent 0 DATA [] 2 _ (omega arith) refl) (later-extent 0 BITMAP [] 3 _ (omega arith) refl));
+  n1 = IsRightRecord-file 1 5 0 (codes "$MFTMirr") _ _ refl refl refl
+      (one-later _ refl (later-extent 1 DATA [] 2 _ (omega arith) refl));
+  n2 = IsRightRecord-file 2 5 0 (codes "$LogFile") _ _ refl refl refl
+      (one-later _ refl (later-extent 2 DATA [] 2 _ (omega arith) refl));
+  n3 = IsRightRecord-file 3 5 0 (codes "$Volume") _ _ refl refl refl
+      (two-later _ _ (omega arith) refl refl
+      (later-value 3 VOLUME_NAME [] 2 _ (omega arith)) (later-value 3 VOLUME_INFORMATION [] 3 _ (omega arith)));
+  n4 = IsRightRecord-file 4 5 0 (codes "$AttrDef") _ _ refl refl refl
+      (one-later _ refl (later-value 4 DATA [] 2 _ (omega arith)));
+  n5 = IsRightRecord-file 5 5 0x10 (codes ".") _ _ refl refl refl
+      (three-later _ _ _ (omega arith) (omega arith) refl refl refl
+      (later-value 5 INDEX_ROOT _ 2 _ (omega arith))
+      (later-extent 5 INDEX_ALLOCATION _ 3 _ (omega arith) refl)
+      (later-value 5 BITMAP _ 4 _ (omega arith)));
+  n6 = IsRightRecord-file 6 5 0 (codes "$Bitmap") _ _ refl refl refl
+      (one-later _ refl (later-extent 6 DATA [] 2 _ (omega arith) refl));
+  n7 = IsRightRecord-file 7 5 0 (codes "$Boot") _ _ refl refl refl
+      (one-later _ refl (later-extent 7 DATA [] 2 _ (omega arith) refl));
+  n8 = IsRightRecord-file 8 5 0 (codes "$BadClus") _ _ refl refl refl
+      (two-later _ _ (omega arith) refl refl (later-value 8 DATA [] 2 _ (omega arith)) (later-extent 8 DATA _ 3 _ (omega arith) refl));
+  n9 = IsRightRecord-file 9 5 0 (codes "$Secure") _ _ refl refl refl
+      (three-later _ _ _ (omega arith) (omega arith) refl refl refl
+      (later-extent 9 DATA _ 2 _ (omega arith) refl)
+      (later-value 9 INDEX_ROOT _ 3 _ (omega arith))
+      (later-value 9 INDEX_ROOT _ 4 _ (omega arith)));
+  n10 = IsRightRecord-file 10 5 0 (codes "$UpCase") _ _ refl refl refl
+      (one-later _ refl (later-extent 10 DATA [] 2 _ (omega arith) refl));
+  n11 = IsRightRecord-file 11 5 0x10 (codes "$Extend") _ _ refl refl refl
+      (one-later _ refl (later-value 11 INDEX_ROOT _ 2 _ (omega arith)));
+  n24 = IsRightRecord-file 24 11 0 (codes "$ObjId") _ _ refl refl refl
+      (one-later _ refl (later-value 24 INDEX_ROOT _ 2 _ (omega arith)));
+  n25 = IsRightRecord-file 25 11 0 (codes "$Reparse") _ _ refl refl refl
+      (one-later _ refl (later-value 25 INDEX_ROOT _ 2 _ (omega arith)));
+})

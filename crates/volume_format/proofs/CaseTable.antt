@@ -45,4 +45,5 @@ module _ (p : Plan) (view : VolumeView) (is : IsPlanned p view) (some : 0 < p.si
   -- what a unit is compared as
   pub volume_fold-planned : (unit : ℕ) → unit < 2 ^ 16 → volume_fold view unit ≡ case_of unit
   volume_fold-planned unit lt =
-      joined (case_of unit) _ _ (byte-case (2 * unit) (omega arith) ∙ byte-low unit) (byte-case (2 * unit + 1) (omega arith) ∙ byte-high unit)
+      joined (case_of unit) _ _ (byte-case (2 * unit) (omega arith) ∙ byte-low unit)
+      (byte-case (2 * unit + 1) (omega arith) ∙ byte-high unit)

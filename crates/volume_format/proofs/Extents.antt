@@ -1,6 +1,6 @@
 -- The clause on extents holds of a new volume.
-use Rattle.std.proofs.Common.{◌≡◌, ◌≢◌, ℕ, zero, suc, ◌+◌, ◌*◌, ◌-◌, ◌/◌, ◌%◌, ◌<◌, ◌≤◌, ◌==◌, Bool, true, false, List, [], ◌∷◌, Option, Some, None, inl, inr, refl, sym, ap, subst, ◌∙◌, arith}
-use Rattle.std.specs.Prelude.{All, IfSome, IsTrue, codes}
+use Rattle.std.proofs.Common.{◌≡◌, ◌≢◌, ℕ, ◌*◌, ◌<◌, List, [], ◌∷◌, drop, Option, Some, None, inl, inr, refl, sym, ap, subst, ◌∙◌, arith}
+use Rattle.std.specs.Prelude.{All, IfSome, IsTrue, codes, filter}
 use Rattle.std.specs.List.{AllByRecursion}
 use Rattle.std.proofs.lemmas.List.Elements.{All-from_recursion}
 use Rattle.std.proofs.lemmas.Bool.{false≢true}
@@ -8,20 +8,23 @@ use Rattle.ntfs_def.specs.declared.kinds.TheConstants.{BITMAP, DATA, FILE_NAME, 
 use Rattle.ntfs_def.specs.declared.run_text.Run.{Run}
 use Rattle.ntfs_def.specs.Attribute.{ExtentHeader}
 use Rattle.volume_def.specs.ExtentsClause.{AreAttribute, FitExtents, MeetsExtents, all_covered, has_sizes, last_vcn_of}
-use Rattle.volume_def.specs.Files.{Clusters, Content, Part, Record, Records, Value, content_extent, is_base, parts, parts_like}
+use Rattle.volume_def.specs.Files.{Clusters, Part, Record, Value, content_extent, is_base, is_of, parts, parts_like}
 use Rattle.volume_format.specs.Plan.{Plan, bad_part, extent_for, listed, name_part, needed, part, planned, planned_records, record_0, record_1, record_10, record_11, record_2, record_24, record_25, record_3, record_4, record_5, record_6, record_7, record_8, record_9, standard_part, stream_part}
 use Rattle.volume_format.proofs.Needed.{needed-covers}
-use Rattle.volume_format.proofs.Listed.{EachFrom, EachFrom-listed}
+use Rattle.volume_format.proofs.EachRecord.{EachRecord, at-listed}
+use Rattle.volume_format.proofs.Listed.{IfSome-from}
 use Rattle.volume_format.proofs.Bases.{parts-listed}
 use Rattle.volume_format.proofs.PartsOf.{parts_or_none}
 
 -- what is asked of the sizes that a part tells, of a stream that has so many clusters
 abbrev SizesIf : ℕ → ℕ → ℕ → Part → Type 0
 SizesIf size f clusters a =
-    IsTrue (has_sizes f a) → IfSome (content_extent a.content) (λ extent. extent.sizes.first ≡ 0 → FitExtents (clusters * size) a.flags extent.sizes)
+    IsTrue (has_sizes f a)
+    → IfSome (content_extent a.content) (λ extent. extent.sizes.first ≡ 0 → FitExtents (clusters * size) a.flags extent.sizes)
 
 -- one value
-attribute-value : (size f n kind : ℕ) (name : List ℕ) (id : ℕ) (value : List ℕ) → AreAttribute size f (part n kind name id (Value value) ∷ [])
+attribute-value : (size f n kind : ℕ) (name : List ℕ) (id : ℕ) (value : List ℕ)
+    → AreAttribute size f (part n kind name id (Value value) ∷ [])
 attribute-value size f n kind name id value =
     let a = part n kind name id (Value value) in
     record {
@@ -64,227 +67,49 @@ module _ (p : Plan) (some : 0 < p.size) where
   abbrev AreAttributes : ℕ → List Part → Type 0
   AreAttributes f all = All (IfNoName f all) all
 
-  from_each : (f : ℕ) (all : List Part) → AllByRecursion (IfNoName f all) all → AreAttributes f all
-  from_each f all each = All-from_recursion (IfNoName f all) all each
+  value : (f n kind : ℕ) (name : List ℕ) (id : ℕ) (bytes : List ℕ) → AreAttribute p.size f (part n kind name id (Value bytes) ∷ [])
+  value = attribute-value p.size
+
+  -- a file that has no other standard information, by what is asked of its later parts
+  of_file : (f parent directory : ℕ) (letters : List ℕ) (rest : List Part) → filter (is_of STANDARD_INFORMATION []) rest ≡ []
+      → AllByRecursion (IfNoName f (standard_part f ∷ name_part f parent directory letters ∷ rest)) rest
+      → AreAttributes f (standard_part f ∷ name_part f parent directory letters ∷ rest)
+  of_file f parent directory letters rest one later =
+      let all : List Part = standard_part f ∷ name_part f parent directory letters ∷ rest in
+      All-from_recursion (IfNoName f all) all (
+        (λ ne. subst (λ others. AreAttribute p.size f (standard_part f ∷ others)) (sym one) (value f f STANDARD_INFORMATION [] 0 _)),
+        ((λ ne. absurd (ne refl)), later),
+      )
+
+  -- the parts behind the standard information and the name
+  abbrev behind_name : Option Record → List Part
+  behind_name there = drop 2 (parts_or_none there)
 
   abbrev Streams : ℕ → Record → Type 0
   Streams f r = AreAttributes f r.parts
 
-  value : (f n kind : ℕ) (name : List ℕ) (id : ℕ) (bytes : List ℕ) → AreAttribute p.size f (part n kind name id (Value bytes) ∷ [])
-  value = attribute-value p.size
-
-  standard : (f n : ℕ) → AreAttribute p.size f (standard_part n ∷ [])
-  standard f n = value f n STANDARD_INFORMATION [] 0 _
-
-  streams_0 : IfSome (record_0 p) (Streams 0)
-  streams_0 = from_each 0 (parts_or_none (record_0 p)) (
-    (λ ne. standard 0 0),
-    (
-      (λ ne. absurd (ne refl)),
-      (
-        (λ ne. attribute-stream 0 0 DATA [] 2 _ _),
-        ((λ ne. attribute-stream 0 0 BITMAP [] 3 _ _), tt),
-      ),
-    ),
-  )
-
-  streams_1 : IfSome (record_1 p) (Streams 1)
-  streams_1 = from_each 1 (parts_or_none (record_1 p)) (
-    (λ ne. standard 1 1),
-    (
-      (λ ne. absurd (ne refl)),
-      (
-        (λ ne. attribute-stream 1 1 DATA [] 2 _ _),
-        tt,
-      ),
-    ),
-  )
-
-  streams_2 : IfSome (record_2 p) (Streams 2)
-  streams_2 = from_each 2 (parts_or_none (record_2 p)) (
-    (λ ne. standard 2 2),
-    (
-      (λ ne. absurd (ne refl)),
-      (
-        (λ ne. attribute-stream 2 2 DATA [] 2 _ _),
-        tt,
-      ),
-    ),
-  )
-
-  streams_3 : IfSome (record_3 p) (Streams 3)
-  streams_3 = from_each 3 (parts_or_none (record_3 p)) (
-    (λ ne. standard 3 3),
-    (
-      (λ ne. absurd (ne refl)),
-      (
-        (λ ne. value 3 3 VOLUME_NAME [] 2 _),
-        ((λ ne. value 3 3 VOLUME_INFORMATION [] 3 _), tt),
-      ),
-    ),
-  )
-
-  streams_4 : IfSome (record_4 p) (Streams 4)
-  streams_4 = from_each 4 (parts_or_none (record_4 p)) (
-    (λ ne. standard 4 4),
-    (
-      (λ ne. absurd (ne refl)),
-      (
-        (λ ne. value 4 4 DATA [] 2 _),
-        tt,
-      ),
-    ),
-  )
-
-  streams_5 : IfSome (record_5 p) (Streams 5)
-  streams_5 = from_each 5 (parts_or_none (record_5 p)) (
-    (λ ne. standard 5 5),
-    (
-      (λ ne. absurd (ne refl)),
-      (
-        (λ ne. value 5 5 INDEX_ROOT _ 2 _),
-        ((λ ne. attribute-stream 5 5 INDEX_ALLOCATION _ 3 _ _), ((λ ne. value 5 5 BITMAP _ 4 _), tt)),
-      ),
-    ),
-  )
-
-  streams_6 : IfSome (record_6 p) (Streams 6)
-  streams_6 = from_each 6 (parts_or_none (record_6 p)) (
-    (λ ne. standard 6 6),
-    (
-      (λ ne. absurd (ne refl)),
-      (
-        (λ ne. attribute-stream 6 6 DATA [] 2 _ _),
-        tt,
-      ),
-    ),
-  )
-
-  streams_7 : IfSome (record_7 p) (Streams 7)
-  streams_7 = from_each 7 (parts_or_none (record_7 p)) (
-    (λ ne. standard 7 7),
-    (
-      (λ ne. absurd (ne refl)),
-      (
-        (λ ne. attribute-stream 7 7 DATA [] 2 _ _),
-        tt,
-      ),
-    ),
-  )
-
-  streams_8 : IfSome (record_8 p) (Streams 8)
-  streams_8 = from_each 8 (parts_or_none (record_8 p)) (
-    (λ ne. standard 8 8),
-    (
-      (λ ne. absurd (ne refl)),
-      (
-        (λ ne. value 8 8 DATA [] 2 _),
-        ((λ ne. attribute-bad), tt),
-      ),
-    ),
-  )
-
-  streams_9 : IfSome (record_9 p) (Streams 9)
-  streams_9 = from_each 9 (parts_or_none (record_9 p)) (
-    (λ ne. standard 9 9),
-    (
-      (λ ne. absurd (ne refl)),
-      (
-        (λ ne. attribute-stream 9 9 DATA _ 2 _ _),
-        ((λ ne. value 9 9 INDEX_ROOT _ 3 _), ((λ ne. value 9 9 INDEX_ROOT _ 4 _), tt)),
-      ),
-    ),
-  )
-
-  streams_10 : IfSome (record_10 p) (Streams 10)
-  streams_10 = from_each 10 (parts_or_none (record_10 p)) (
-    (λ ne. standard 10 10),
-    (
-      (λ ne. absurd (ne refl)),
-      (
-        (λ ne. attribute-stream 10 10 DATA [] 2 _ _),
-        tt,
-      ),
-    ),
-  )
-
-  streams_11 : IfSome (record_11 p) (Streams 11)
-  streams_11 = from_each 11 (parts_or_none (record_11 p)) (
-    (λ ne. standard 11 11),
-    (
-      (λ ne. absurd (ne refl)),
-      (
-        (λ ne. value 11 11 INDEX_ROOT _ 2 _),
-        tt,
-      ),
-    ),
-  )
-
-  streams_24 : IfSome (record_24 p) (Streams 24)
-  streams_24 = from_each 24 (parts_or_none (record_24 p)) (
-    (λ ne. standard 24 24),
-    (
-      (λ ne. absurd (ne refl)),
-      (
-        (λ ne. value 24 24 INDEX_ROOT _ 2 _),
-        tt,
-      ),
-    ),
-  )
-
-  streams_25 : IfSome (record_25 p) (Streams 25)
-  streams_25 = from_each 25 (parts_or_none (record_25 p)) (
-    (λ ne. standard 25 25),
-    (
-      (λ ne. absurd (ne refl)),
-      (
-        (λ ne. value 25 25 INDEX_ROOT _ 2 _),
-        tt,
-      ),
-    ),
-  )
-
-  all-streams : EachFrom Streams 0 (planned p)
-  all-streams = (
-    streams_0,
-    (
-      streams_1,
-      (
-        streams_2,
-        (
-          streams_3,
-          (
-            streams_4,
-            (
-              streams_5,
-              (
-                streams_6,
-                (
-                  streams_7,
-                  (
-                    streams_8,
-                    (
-                      streams_9,
-                      (
-                        streams_10,
-                        (streams_11, (tt, (tt, (tt, (tt, (tt, (tt, (tt, (tt, (tt, (tt, (tt, (tt, (streams_24, (streams_25, tt))))))))))))))),
-                      ),
-                    ),
-                  ),
-                ),
-              ),
-            ),
-          ),
-        ),
-      ),
-    ),
-  )
-
-  by_record : (f : ℕ) (o : Option Record) → listed (planned p) f ≡ o → IfSome o (Streams f)
-      → IfSome o (λ r. IsTrue (is_base r) → AreAttributes f (parts (planned_records p) f))
-  by_record f None e streams = tt
-  by_record f (Some r) e streams = λ base. subst (AreAttributes f) (sym (parts-listed p f r e)) streams
+  streams : EachRecord Streams p
+  streams = record {
+    n0 = of_file 0 5 0 (codes "$MFT") (behind_name (record_0 p)) refl
+        ((λ ne. attribute-stream 0 0 DATA [] 2 _ _), ((λ ne. attribute-stream 0 0 BITMAP [] 3 _ _), tt));
+    n1 = of_file 1 5 0 (codes "$MFTMirr") (behind_name (record_1 p)) refl ((λ ne. attribute-stream 1 1 DATA [] 2 _ _), tt);
+    n2 = of_file 2 5 0 (codes "$LogFile") (behind_name (record_2 p)) refl ((λ ne. attribute-stream 2 2 DATA [] 2 _ _), tt);
+    n3 = of_file 3 5 0 (codes "$Volume") (behind_name (record_3 p)) refl
+        ((λ ne. value 3 3 VOLUME_NAME [] 2 _), ((λ ne. value 3 3 VOLUME_INFORMATION [] 3 _), tt));
+    n4 = of_file 4 5 0 (codes "$AttrDef") (behind_name (record_4 p)) refl ((λ ne. value 4 4 DATA [] 2 _), tt);
+    n5 = of_file 5 5 0x10 (codes ".") (behind_name (record_5 p)) refl
+        ((λ ne. value 5 5 INDEX_ROOT _ 2 _), ((λ ne. attribute-stream 5 5 INDEX_ALLOCATION _ 3 _ _), ((λ ne. value 5 5 BITMAP _ 4 _), tt)));
+    n6 = of_file 6 5 0 (codes "$Bitmap") (behind_name (record_6 p)) refl ((λ ne. attribute-stream 6 6 DATA [] 2 _ _), tt);
+    n7 = of_file 7 5 0 (codes "$Boot") (behind_name (record_7 p)) refl ((λ ne. attribute-stream 7 7 DATA [] 2 _ _), tt);
+    n8 = of_file 8 5 0 (codes "$BadClus") (behind_name (record_8 p)) refl ((λ ne. value 8 8 DATA [] 2 _), ((λ ne. attribute-bad), tt));
+    n9 = of_file 9 5 0 (codes "$Secure") (behind_name (record_9 p)) refl
+        ((λ ne. attribute-stream 9 9 DATA _ 2 _ _), ((λ ne. value 9 9 INDEX_ROOT _ 3 _), ((λ ne. value 9 9 INDEX_ROOT _ 4 _), tt)));
+    n10 = of_file 10 5 0 (codes "$UpCase") (behind_name (record_10 p)) refl ((λ ne. attribute-stream 10 10 DATA [] 2 _ _), tt);
+    n11 = of_file 11 5 0x10 (codes "$Extend") (behind_name (record_11 p)) refl ((λ ne. value 11 11 INDEX_ROOT _ 2 _), tt);
+    n24 = of_file 24 11 0 (codes "$ObjId") (behind_name (record_24 p)) refl ((λ ne. value 24 24 INDEX_ROOT _ 2 _), tt);
+    n25 = of_file 25 11 0 (codes "$Reparse") (behind_name (record_25 p)) refl ((λ ne. value 25 25 INDEX_ROOT _ 2 _), tt);
+  }
 
   pub MeetsExtents-planned : (f : ℕ) → MeetsExtents (planned_records p) p.size f
-  MeetsExtents-planned f =
-      by_record f (listed (planned p) f) refl (EachFrom-listed Streams 0 (planned p) all-streams f f (omega arith))
+  MeetsExtents-planned f = IfSome-from (listed (planned p) f) (λ r. IsTrue (is_base r) → AreAttributes f (parts (planned_records p) f))
+      (λ r is base. subst (AreAttributes f) (sym (parts-listed p f r is)) (at-listed Streams p streams f r is))

@@ -1,7 +1,5 @@
 -- The items of a new volume fit on it, whatever the options.
-use Rattle.std.proofs.Common.{◌≡◌, ◌⊎◌, ℕ, ◌+◌, ◌*◌, ◌/◌, ◌-◌, ◌<◌, ◌≤◌, List, [], ◌∷◌, length, inl, inr, refl, subst, sym, ap, ◌∙◌, arith, length-append}
-use Rattle.std.specs.List.{flat_map}
-use Rattle.std.proofs.lemmas.List.Concat.{flat_map-cons}
+use Rattle.std.proofs.Common.{◌≡◌, ℕ, ◌+◌, ◌*◌, ◌/◌, ◌-◌, ◌<◌, ◌≤◌, List, [], ◌∷◌, length, inl, inr, refl, subst, sym, ap, ◌∙◌, arith}
 use Rattle.volume_format.specs.FitsPlan.{FitsPlan, IsClusterSize}
 use Rattle.volume_format.specs.Options.{AreInRange, Options, clusters_in, plan_of, stored_units}
 use Rattle.volume_format.specs.Plan.{Plan, items_end}
@@ -34,7 +32,8 @@ end-4096 : (clusters : ℕ) → 256 ≤ clusters → end_at 4096 clusters ≤ cl
 end-4096 clusters many = omega arith
 
 -- the items in clusters of one of the sizes, where all the disk's clusters are the volume's
-fit-at : (size sectors clusters : ℕ) → 2048 ≤ sectors → IsClusterSize size → clusters ≡ clusters_in sectors size → end_at size clusters ≤ clusters
+fit-at : (size sectors clusters : ℕ) → 2048 ≤ sectors → IsClusterSize size → clusters ≡ clusters_in sectors size
+    → end_at size clusters ≤ clusters
 fit-at size sectors clusters many (inl e) is =
     let c : clusters ≡ sectors = is ∙ ap (clusters_in sectors) e ∙ omega arith in
     subst (λ s. end_at s clusters ≤ clusters) (sym e) (end-512 clusters (omega arith))

@@ -1,4 +1,5 @@
 pub mod Listed
+pub mod EachRecord
 pub mod PartsOf
 pub mod Bases
 pub mod Records
@@ -29,3 +30,15 @@ pub mod NewRecordLaws
 pub mod PlaceLaws
 pub mod StoredLaws
 pub mod NodeBlockLaws
+pub mod Images
+mod Tested
+mod Leaves
+mod IndexNodes
+mod IndexOrder
+mod RootRecord
+mod IndexLinks
+mod IndexTrees
+mod ViewIndexes
+mod Directories
+mod IndexesClause
+mod Soundness

@@ -1,6 +1,6 @@
 -- The clause on links holds of a new volume.
-use Rattle.std.proofs.Common.{◌≡◌, ◌≢◌, ℕ, ◌≤◌, Bool, true, false, List, [], ◌∷◌, length, Option, Some, None, inl, refl, ap, sym, subst, ◌∙◌, arith}
-use Rattle.std.specs.Prelude.{All, IfSome, IsTrue}
+use Rattle.std.proofs.Common.{◌≡◌, ℕ, [], ◌∷◌, length, Some, refl, ap, sym, ◌∙◌, arith}
+use Rattle.std.specs.Prelude.{IsTrue}
 use Rattle.std.proofs.lemmas.List.Elements.{All-from_recursion}
 use Rattle.std.proofs.lemmas.Bool.{false≢true}
 use Rattle.ntfs_def.specs.declared.records.TheConstants.{ROOT}
@@ -8,10 +8,11 @@ use Rattle.ntfs_def.specs.FileName.{FileName, name_in}
 use Rattle.ntfs_def.specs.Record.{Reference}
 use Rattle.volume_def.specs.FileNames.{is_dos, names_of}
 use Rattle.volume_def.specs.Files.{Record, is_base}
-use Rattle.volume_def.specs.LinksClause.{HasRightLinks, IsPairedAmong, MeetsLinks, ReachesRoot}
+use Rattle.volume_def.specs.LinksClause.{HasRightLinks, IsPairedAmong, MeetsLinks}
 use Rattle.volume_def.specs.ReferencesClause.{is_directory}
 use Rattle.volume_format.specs.Plan.{Plan, listed, name_value, planned, planned_records}
-use Rattle.volume_format.proofs.Listed.{EachFrom-listed}
+use Rattle.volume_format.proofs.EachRecord.{at-listed}
+use Rattle.volume_format.proofs.Listed.{IfSome-from}
 use Rattle.volume_format.proofs.Names.{HasOneName, names-planned, names_of-planned, namespace-planned, parent-root}
 
 module _ (p : Plan) where
@@ -38,13 +39,9 @@ module _ (p : Plan) where
       ap (λ parent. (name_in (name_value parent name.directory name.letters)).parent.number) (name.up t)
       ∙ ap (λ (r : Reference). r.number) (parent-root name.directory name.letters))
 
-  by_record : (f : ℕ) (o : Option Record) → listed (planned p) f ≡ o → IfSome o (HasOneName f)
-      → IfSome o (λ r. IsTrue (is_base r) → HasRightLinks (planned_records p) f r)
-  by_record f None e name = tt
-  by_record f (Some r) e name = λ base. links-one f r e name
-
   pub MeetsLinks-planned : (f : ℕ) → MeetsLinks (planned_records p) f
   MeetsLinks-planned f = record {
-    links = by_record f (listed (planned p) f) refl (EachFrom-listed HasOneName 0 (planned p) (names-planned p) f f (omega arith));
+    links = IfSome-from (listed (planned p) f) (λ r. IsTrue (is_base r) → HasRightLinks (planned_records p) f r)
+        (λ r is base. links-one f r is (at-listed HasOneName p (names-planned p) f r is));
     root = λ e. (refl, refl);
   }

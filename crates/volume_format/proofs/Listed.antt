@@ -16,6 +16,11 @@ EachFrom-listed P k [] each n m e = tt
 EachFrom-listed P k (r ∷ rs) each zero m e = subst (λ j. IfSome r (P j)) (omega arith) each.0
 EachFrom-listed P k (r ∷ rs) each (suc n) m e = EachFrom-listed P (suc k) rs each.1 n m (omega arith)
 
+-- what is claimed of a record that may be there
+pub IfSome-from : (o : Option Record) (Q : Record → Type 0) → ((r : Record) → o ≡ Some r → Q r) → IfSome o Q
+IfSome-from None Q each = tt
+IfSome-from (Some r) Q each = each r refl
+
 pub listed-inside : (records : List (Option Record)) (n : ℕ) (r : Record) → listed records n ≡ Some r → n < length records
 listed-inside [] n r e = absurd (none-some r e)
 listed-inside (o ∷ os) zero r e = omega arith

@@ -1,17 +1,17 @@
 -- The clause on attribute lists holds of a new volume: it has none, and no extension record.
-use Rattle.std.proofs.Common.{◌≡◌, ℕ, ◌+◌, ◌<◌, ◌≤◌, Bool, true, false, cond, List, [], ◌∷◌, Option, Some, None, inl, inr, refl, sym, ap, subst, ◌∙◌, arith}
-use Rattle.std.specs.Prelude.{All, IfSome, IsTrue}
+use Rattle.std.proofs.Common.{◌≡◌, ℕ, ◌+◌, Bool, cond, List, [], ◌∷◌, Option, Some, None, refl, sym, ap, subst, ◌∙◌, arith}
+use Rattle.std.specs.Prelude.{IfSome, IsTrue}
 use Rattle.std.specs.List.{AllByRecursion, count_by}
 use Rattle.std.proofs.lemmas.List.Elements.{All-from_recursion}
 use Rattle.std.proofs.lemmas.List.Sums.{sum_by-cons}
-use Rattle.std.proofs.lemmas.Bool.{cases_Bool, false≢true}
 use Rattle.volume_def.specs.Files.{Part, Record, file_of, is_base, parts, record_on, records_of}
 use Rattle.volume_def.specs.ListsClause.{HasRightList, IsAlone, IsRightList, MeetsLists, is_list}
 use Rattle.volume_def.specs.View.{VolumeView}
 use Rattle.volume_format.specs.Plan.{Plan, listed, planned}
 use Rattle.volume_format.specs.Planned.{IsPlanned}
 use Rattle.volume_format.proofs.Bases.{AllBase-planned, parts-listed}
-use Rattle.volume_format.proofs.Listed.{EachFrom, EachFrom-listed}
+use Rattle.volume_format.proofs.EachRecord.{EachRecord, at-listed}
+use Rattle.volume_format.proofs.Listed.{IfSome-from}
 use Rattle.volume_format.proofs.PartsOf.{file_of-base}
 use Rattle.volume_format.proofs.Records.{record_on-planned, records_of-planned}
 
@@ -27,7 +27,8 @@ not_asked : (view : VolumeView) (f : ℕ) (all some : List Part) → count_by is
     → AllByRecursion (λ part. IsTrue (is_list part) → IsRightList view f all part) some
 not_asked view f all [] none = tt
 not_asked view f all (a ∷ rest) none =
-    let sum : count_by is_list (a ∷ rest) ≡ one_if (is_list a) + count_by is_list rest = sum_by-cons (λ (q : Part). cond (is_list q) 1 0) a rest in
+    let sum : count_by is_list (a ∷ rest) ≡ one_if (is_list a) + count_by is_list rest =
+    sum_by-cons (λ (q : Part). cond (is_list q) 1 0) a rest in
     ((λ t. absurd (omega (arith, none, sum, ap (λ b. one_if b) t))), not_asked view f all rest (omega (arith, none, sum)))
 
 module _ (p : Plan) (view : VolumeView) (is : IsPlanned p view) where
@@ -47,52 +48,29 @@ module _ (p : Plan) (view : VolumeView) (is : IsPlanned p view) where
     alone = λ zero_lists. alone f;
   }
 
-  by_record : (f : ℕ) (o : Option Record) → listed (planned p) f ≡ o → IfSome o (HasNoList f)
-      → IfSome o (λ r. IsTrue (is_base r) → HasRightList view f (parts (records_of view) f))
-  by_record f None e none = tt
-  by_record f (Some r) e none = λ base.
-      subst (HasRightList view f) (sym (ap (λ records. parts records f) (records_of-planned p view is) ∙ parts-listed p f r e))
-      (HasRightList-planned f r none)
+  no-lists : EachRecord HasNoList p
+  no-lists = record {
+    n0 = refl;
+    n1 = refl;
+    n2 = refl;
+    n3 = refl;
+    n4 = refl;
+    n5 = refl;
+    n6 = refl;
+    n7 = refl;
+    n8 = refl;
+    n9 = refl;
+    n10 = refl;
+    n11 = refl;
+    n24 = refl;
+    n25 = refl;
+  }
 
-  no-lists : EachFrom HasNoList 0 (planned p)
-  no-lists = (
-    refl,
-    (
-      refl,
-      (
-        refl,
-        (
-          refl,
-          (
-            refl,
-            (
-              refl,
-              (
-                refl,
-                (
-                  refl,
-                  (
-                    refl,
-                    (
-                      refl,
-                      (
-                        refl,
-                        (
-                          refl,
-                          (tt, (tt, (tt, (tt, (tt, (tt, (tt, (tt, (tt, (tt, (tt, (tt, (refl, (refl, tt)))))))))))))),
-                        ),
-                      ),
-                    ),
-                  ),
-                ),
-              ),
-            ),
-          ),
-        ),
-      ),
-    ),
-  )
+  parts-view : (f : ℕ) (r : Record) → listed (planned p) f ≡ Some r → parts (records_of view) f ≡ r.parts
+  parts-view f r e = ap (λ records. parts records f) (records_of-planned p view is) ∙ parts-listed p f r e
 
   pub MeetsLists-planned : (f : ℕ) → MeetsLists view f
   MeetsLists-planned f = rw (record_on-planned p view is f)
-      (by_record f (listed (planned p) f) refl (EachFrom-listed HasNoList 0 (planned p) no-lists f f (omega arith)))
+      (IfSome-from (listed (planned p) f) (λ r. IsTrue (is_base r) → HasRightList view f (parts (records_of view) f))
+      (λ r e base.
+      subst (HasRightList view f) (sym (parts-view f r e)) (HasRightList-planned f r (at-listed HasNoList p no-lists f r e))))

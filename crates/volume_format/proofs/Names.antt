@@ -1,6 +1,6 @@
 -- The names of a new volume: each file has one, in the root or in $Extend.
-use Rattle.std.proofs.Common.{◌≡◌, ◌≢◌, ◌⊎◌, ℕ, ◌+◌, ◌<◌, ◌≤◌, false, List, [], ◌∷◌, Option, Some, None, inl, inr, refl, sym, ap, ◌∙◌, arith}
-use Rattle.std.specs.Prelude.{IfSome, IsTrue, codes}
+use Rattle.std.proofs.Common.{◌≡◌, ◌⊎◌, ℕ, false, List, [], ◌∷◌, Some, None, inl, inr, refl, sym, ap, ◌∙◌}
+use Rattle.std.specs.Prelude.{IsTrue, codes}
 use Rattle.std.proofs.lemmas.Bool.{false≢true}
 use Rattle.ntfs_def.specs.declared.records.TheConstants.{EXTEND, ROOT}
 use Rattle.ntfs_def.specs.FileName.{name_in}
@@ -8,9 +8,9 @@ use Rattle.ntfs_def.specs.Record.{Reference}
 use Rattle.volume_def.specs.FileNames.{names_among, names_of}
 use Rattle.volume_def.specs.Files.{Record}
 use Rattle.volume_def.specs.ReferencesClause.{is_directory}
-use Rattle.volume_format.specs.Plan.{Plan, listed, name_value, planned, planned_records, record_0, record_1, record_10, record_11, record_2, record_24, record_25, record_3, record_4, record_5, record_6, record_7, record_8, record_9}
+use Rattle.volume_format.specs.Plan.{Plan, listed, name_value, planned, planned_records}
 use Rattle.volume_format.proofs.Bases.{parts-listed}
-use Rattle.volume_format.proofs.Listed.{EachFrom}
+use Rattle.volume_format.proofs.EachRecord.{EachRecord}
 
 -- Record f is a base record with one name. It stands in the root, or in $Extend where it is no directory.
 pub record HasOneName (f : ℕ) (r : Record) : Type 0 where
@@ -50,86 +50,23 @@ in-extend f letters r base links one plain = record {
 }
 
 module _ (p : Plan) where
-  name_0 : IfSome (record_0 p) (HasOneName 0)
-  name_0 = in-root 0 0 (codes "$MFT") _ refl refl refl
-
-  name_1 : IfSome (record_1 p) (HasOneName 1)
-  name_1 = in-root 1 0 (codes "$MFTMirr") _ refl refl refl
-
-  name_2 : IfSome (record_2 p) (HasOneName 2)
-  name_2 = in-root 2 0 (codes "$LogFile") _ refl refl refl
-
-  name_3 : IfSome (record_3 p) (HasOneName 3)
-  name_3 = in-root 3 0 (codes "$Volume") _ refl refl refl
-
-  name_4 : IfSome (record_4 p) (HasOneName 4)
-  name_4 = in-root 4 0 (codes "$AttrDef") _ refl refl refl
-
-  name_5 : IfSome (record_5 p) (HasOneName 5)
-  name_5 = in-root 5 0x10 (codes ".") _ refl refl refl
-
-  name_6 : IfSome (record_6 p) (HasOneName 6)
-  name_6 = in-root 6 0 (codes "$Bitmap") _ refl refl refl
-
-  name_7 : IfSome (record_7 p) (HasOneName 7)
-  name_7 = in-root 7 0 (codes "$Boot") _ refl refl refl
-
-  name_8 : IfSome (record_8 p) (HasOneName 8)
-  name_8 = in-root 8 0 (codes "$BadClus") _ refl refl refl
-
-  name_9 : IfSome (record_9 p) (HasOneName 9)
-  name_9 = in-root 9 0 (codes "$Secure") _ refl refl refl
-
-  name_10 : IfSome (record_10 p) (HasOneName 10)
-  name_10 = in-root 10 0 (codes "$UpCase") _ refl refl refl
-
-  name_11 : IfSome (record_11 p) (HasOneName 11)
-  name_11 = in-root 11 0x10 (codes "$Extend") _ refl refl refl
-
-  name_24 : IfSome (record_24 p) (HasOneName 24)
-  name_24 = in-extend 24 (codes "$ObjId") _ refl refl refl refl
-
-  name_25 : IfSome (record_25 p) (HasOneName 25)
-  name_25 = in-extend 25 (codes "$Reparse") _ refl refl refl refl
-
-  pub names-planned : EachFrom HasOneName 0 (planned p)
-  names-planned = (
-    name_0,
-    (
-      name_1,
-      (
-        name_2,
-        (
-          name_3,
-          (
-            name_4,
-            (
-              name_5,
-              (
-                name_6,
-                (
-                  name_7,
-                  (
-                    name_8,
-                    (
-                      name_9,
-                      (
-                        name_10,
-                        (
-                          name_11,
-                          (tt, (tt, (tt, (tt, (tt, (tt, (tt, (tt, (tt, (tt, (tt, (tt, (name_24, (name_25, tt)))))))))))))),
-                        ),
-                      ),
-                    ),
-                  ),
-                ),
-              ),
-            ),
-          ),
-        ),
-      ),
-    ),
-  )
+  pub names-planned : EachRecord HasOneName p
+  names-planned = record {
+    n0 = in-root 0 0 (codes "$MFT") _ refl refl refl;
+    n1 = in-root 1 0 (codes "$MFTMirr") _ refl refl refl;
+    n2 = in-root 2 0 (codes "$LogFile") _ refl refl refl;
+    n3 = in-root 3 0 (codes "$Volume") _ refl refl refl;
+    n4 = in-root 4 0 (codes "$AttrDef") _ refl refl refl;
+    n5 = in-root 5 0x10 (codes ".") _ refl refl refl;
+    n6 = in-root 6 0 (codes "$Bitmap") _ refl refl refl;
+    n7 = in-root 7 0 (codes "$Boot") _ refl refl refl;
+    n8 = in-root 8 0 (codes "$BadClus") _ refl refl refl;
+    n9 = in-root 9 0 (codes "$Secure") _ refl refl refl;
+    n10 = in-root 10 0 (codes "$UpCase") _ refl refl refl;
+    n11 = in-root 11 0x10 (codes "$Extend") _ refl refl refl;
+    n24 = in-extend 24 (codes "$ObjId") _ refl refl refl refl;
+    n25 = in-extend 25 (codes "$Reparse") _ refl refl refl refl;
+  }
 
   -- the names of a file are those of its record
   pub names_of-planned : (f : ℕ) (r : Record) → listed (planned p) f ≡ Some r → names_of (planned_records p) f ≡ names_among r.parts

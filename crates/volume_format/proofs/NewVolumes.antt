@@ -1,5 +1,5 @@
 -- Each clause, as it is asked of a view.
-use Rattle.std.proofs.Common.{◌≡◌, ℕ, sym, subst, ap, ◌∙◌}
+use Rattle.std.proofs.Common.{◌≡◌, sym, subst}
 use Rattle.volume_def.specs.AttributesClause.{MeetsAttributes}
 use Rattle.volume_def.specs.ExtentsClause.{MeetsExtents}
 use Rattle.volume_def.specs.Files.{Records, records_of}

@@ -1,9 +1,9 @@
 -- Among base records each file has the parts of its own record.
-use Rattle.std.proofs.Common.{◌≡◌, ◌≢◌, ℕ, zero, suc, ◌+◌, ◌<◌, ◌≤◌, ◌==◌, eqb, Bool, true, false, cond, List, [], ◌∷◌, ◌++◌, Option, Some, None, inl, inr, refl, sym, ap, subst, ◌∙◌, arith, append-nil}
+use Rattle.std.proofs.Common.{◌≡◌, ◌≢◌, ℕ, zero, suc, ◌+◌, ◌<◌, ◌≤◌, ◌==◌, true, false, cond, List, [], ◌++◌, Option, Some, None, inl, inr, refl, sym, ap, ◌∙◌, arith, append-nil}
 use Rattle.std.specs.Prelude.{IfSome, option_map, unwrap_or}
 use Rattle.std.specs.List.{flat_map, range_with_len}
 use Rattle.std.proofs.lemmas.List.Concat.{flat_map-cons}
-use Rattle.std.proofs.lemmas.Bool.{cases_eq, cases_Bool}
+use Rattle.std.proofs.lemmas.Bool.{cases_eq}
 use Rattle.std.proofs.lemmas.Bool.Decides.{nat_tests}
 use Rattle.ntfs_def.specs.Record.{Reference}
 use Rattle.volume_def.specs.Files.{Part, Record, Records, file_of, parts, parts_in}
@@ -65,3 +65,10 @@ parts-base records base f inside =
     flat_map-one (λ n. parts_in (records.record_at n) n f) 0 records.count f (omega arith) (omega arith)
     (λ m ne. parts_in-other m f (records.record_at m) (base m) ne)
     ∙ parts_in-own f (records.record_at f) (base f)
+
+-- and past the last record there is no file
+pub parts-past : (records : Records) → AllBase records → (f : ℕ) → records.count ≤ f → parts records f ≡ []
+unfolding parts
+parts-past records base f past =
+    flat_map-none (λ n. parts_in (records.record_at n) n f) 0 records.count
+    (λ m low high. parts_in-other m f (records.record_at m) (base m) (λ e. absurd (omega (arith, e, high, past))))

@@ -1,16 +1,15 @@
 -- The clause on the record bitmap holds of a new volume: the bits of its records are set.
-use Rattle.std.proofs.Common.{◌≡◌, ℕ, zero, suc, ◌+◌, ◌*◌, ◌-◌, ◌/◌, ◌%◌, ◌<◌, ◌≤◌, ◌==◌, Bool, true, false, cond, List, [], ◌∷◌, get_or, Option, Some, None, inl, inr, refl, sym, ap, ◌∙◌, arith}
-use Rattle.std.specs.Prelude.{All, IsSome, is_some, ◌↔◌}
+use Rattle.std.proofs.Common.{◌≡◌, ℕ, zero, suc, ◌+◌, ◌/◌, ◌%◌, ◌<◌, ◌≤◌, ◌==◌, Bool, true, false, cond, [], ◌∷◌, inl, inr, refl, ap, ◌∙◌, arith}
+use Rattle.std.specs.Prelude.{IsSome, is_some, ◌↔◌}
 use Rattle.std.specs.Int.{bit_at}
 use Rattle.std.specs.List.{range_with_len, list_all}
 use Rattle.std.proofs.lemmas.Bool.{cases_Bool, cases_eq, false≢true}
 use Rattle.std.proofs.lemmas.Bool.Decides.{nat_tests}
 use Rattle.std.proofs.lemmas.List.Elements.{All-from_recursion}
 use Rattle.std.proofs.lemmas.List.FromFn.{get_or-map-range_with_len}
-use Rattle.ntfs_def.specs.declared.records.TheConstants.{FIRST_ORDINARY}
 use Rattle.ntfs_def.specs.Bits.{bit_in}
 use Rattle.volume_def.specs.BitmapClauses.{HasRecordBits, MeetsRecordBits, record_bits}
-use Rattle.volume_def.specs.Files.{Part, content_extent, record_on}
+use Rattle.volume_def.specs.Files.{Part, content_extent}
 use Rattle.volume_def.specs.Values.{value_on}
 use Rattle.volume_def.specs.View.{VolumeView}
 use Rattle.volume_format.specs.Items.{record_bits_byte}

@@ -1,5 +1,5 @@
 -- The clause on references holds of a new volume.
-use Rattle.std.proofs.Common.{◌≡◌, ℕ, List, [], ◌∷◌, Option, Some, None, inl, inr, refl, sym, ap, subst, ◌∙◌, arith}
+use Rattle.std.proofs.Common.{ℕ, List, [], ◌∷◌, inl, inr, refl, sym, subst}
 use Rattle.std.specs.Prelude.{All, IfSome}
 use Rattle.std.proofs.lemmas.List.Elements.{All-from_recursion}
 use Rattle.ntfs_def.specs.declared.records.TheConstants.{EXTEND, ROOT}
@@ -8,7 +8,8 @@ use Rattle.ntfs_def.specs.Record.{Reference}
 use Rattle.volume_def.specs.Files.{Record}
 use Rattle.volume_def.specs.ReferencesClause.{HasRightReferences, MeetsReferences, NamesBase, NamesDirectory}
 use Rattle.volume_format.specs.Plan.{Plan, listed, name_value, planned, planned_records}
-use Rattle.volume_format.proofs.Listed.{EachFrom-listed}
+use Rattle.volume_format.proofs.EachRecord.{at-listed}
+use Rattle.volume_format.proofs.Listed.{IfSome-from}
 use Rattle.volume_format.proofs.Names.{HasOneName, names-planned, parent-extend, parent-root}
 
 module _ (p : Plan) where
@@ -41,9 +42,6 @@ module _ (p : Plan) where
         (parent-names f r name, tt));
   }
 
-  by_record : (f : ℕ) (o : Option Record) → IfSome o (HasOneName f) → IfSome o (HasRightReferences (planned_records p))
-  by_record f None name = tt
-  by_record f (Some r) name = refers f r name
-
   pub MeetsReferences-planned : (n : ℕ) → MeetsReferences (planned_records p) n
-  MeetsReferences-planned n = by_record n (listed (planned p) n) (EachFrom-listed HasOneName 0 (planned p) (names-planned p) n n (omega arith))
+  MeetsReferences-planned n = IfSome-from (listed (planned p) n) (HasRightReferences (planned_records p))
+      (λ r is. refers n r (at-listed HasOneName p (names-planned p) n r is))

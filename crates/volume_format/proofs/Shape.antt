@@ -1,7 +1,7 @@
 -- The clauses on shape and on the mirror's copies hold of a new volume.
-use Rattle.std.proofs.Common.{◌≡◌, ℕ, ◌<◌, refl, arith}
+use Rattle.std.proofs.Common.{ℕ, refl, arith}
 use Rattle.volume_def.specs.ShapeClause.{MeetsShape}
-use Rattle.volume_def.specs.VersionClause.{HasCopy, MeetsMirror, Mirrors}
+use Rattle.volume_def.specs.VersionClause.{MeetsMirror}
 use Rattle.volume_def.specs.View.{VolumeView}
 use Rattle.volume_format.specs.Plan.{Plan}
 use Rattle.volume_format.specs.Planned.{IsPlanned}

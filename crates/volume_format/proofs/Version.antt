@@ -1,5 +1,5 @@
 -- The clause on the version holds of a new volume.
-use Rattle.std.proofs.Common.{◌≡◌, ℕ, ◌+◌, ◌%◌, ◌<◌, ◌≤◌, List, [], ◌∷◌, map, length, slice_get, Option, Some, refl, sym, ap, subst, ◌∙◌, arith}
+use Rattle.std.proofs.Common.{◌≡◌, ℕ, ◌+◌, ◌%◌, ◌≤◌, List, [], ◌∷◌, map, length, slice_get, Some, sym, ap, subst, ◌∙◌, arith}
 use Rattle.std.specs.Prelude.{option_map, replicate, ◌++◌}
 use Rattle.std.proofs.lemmas.List.{length-map}
 use Rattle.std.proofs.lemmas.List.Elements.{All-get_or}
@@ -11,8 +11,8 @@ use Rattle.ntfs_def.specs.Fixup.{opened_of}
 use Rattle.ntfs_def.specs.Shape.{HasShape, IsAttribute}
 use Rattle.ntfs_def.proofs.AttributeLaws.{slice_get-attributes}
 use Rattle.ntfs_def.proofs.ShapeLaws.{IsAttribute-long, header_failing-length, header_failing-used}
-use Rattle.volume_def.specs.Files.{Part, Value, part_of}
-use Rattle.volume_def.specs.VersionClause.{HasVersion, IsVersionAt, MeetsVersion}
+use Rattle.volume_def.specs.Files.{Value, part_of}
+use Rattle.volume_def.specs.VersionClause.{IsVersionAt, MeetsVersion}
 use Rattle.volume_def.specs.VolumeRecord.{version_in}
 use Rattle.volume_def.specs.View.{VolumeView}
 use Rattle.volume_format.specs.Plan.{Plan, part}

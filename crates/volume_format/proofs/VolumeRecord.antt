@@ -1,5 +1,5 @@
 -- The record of a new volume that tells its name and version, and whether it was closed.
-use Rattle.std.proofs.Common.{◌≡◌, ℕ, ◌+◌, ◌/◌, ◌%◌, ◌<◌, ◌==◌, ◌&&◌, Bool, true, false, cond, List, [], ◌∷◌, map, length, Option, Some, None, inl, inr, refl, sym, ap, ◌∙◌, arith}
+use Rattle.std.proofs.Common.{◌≡◌, ℕ, ◌==◌, ◌&&◌, Bool, true, cond, List, [], ◌∷◌, map, length, Option, Some, None, inl, inr, refl, sym, ap, ◌∙◌, arith}
 use Rattle.std.specs.Prelude.{find, is_some, option_and_then}
 use Rattle.std.proofs.lemmas.Bool.{cases_Bool}
 use Rattle.std.proofs.lemmas.Option.{none-some}
@@ -66,5 +66,5 @@ module _ (p : Plan) (view : VolumeView) (is : IsPlanned p view) where
 
   pub IsClean-planned : IsClean view
   IsClean-planned =
-      rw (first_value-parts VOLUME VOLUME_INFORMATION (attributes (opened_of (view.block VOLUME))) ∙ ap (value_in VOLUME_INFORMATION) parts-volume)
-      refl
+      let parts = first_value-parts VOLUME VOLUME_INFORMATION (attributes (opened_of (view.block VOLUME))) in
+      rw (parts ∙ ap (value_in VOLUME_INFORMATION) parts-volume) refl

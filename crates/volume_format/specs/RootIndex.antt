@@ -1,7 +1,7 @@
 -- The index of the root directory: an empty root node above one index record, which has the twelve names of the system's
 -- files.
-use Rattle.std.specs.Prelude.{ℕ, List, [], ◌∷◌, ◌++◌, codes, length}
-use Rattle.volume_format.specs.Plan.{fill_to_8, last_entry, name_entry, name_value, reference_bytes}
+use Rattle.std.specs.Prelude.{ℕ, List, [], ◌∷◌, codes}
+use Rattle.volume_format.specs.Plan.{last_entry, name_entry, name_value, reference_bytes}
 
 -- the entry of record n in the root
 abbrev pub root_entry : ℕ → ℕ → ℕ → List ℕ → List ℕ
