@@ -18,7 +18,11 @@ pub fn node_header(node: &[u8]) -> usize
     ensures low { 16 ≤ result }
     ensures high { result ≤ 24 }
 {
-    if node.len() == INDEX_RECORD { 0x18 } else { 0x10 }
+    if node.len() == INDEX_RECORD {
+        0x18
+    } else {
+        0x10
+    }
 }
 
 /// The place of the first wrong field of the header.
