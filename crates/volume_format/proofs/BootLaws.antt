@@ -68,7 +68,7 @@ module _ (o : Options) (boot : List ℕ) (disk : ℕ) (geometry : HasGeometry o 
   named : has_name boot ≡ true
   named =
       let e : slice_range boot 0x03 0x0B ≡ slice_range BARE 0x03 0x0B =
-          range_same BARE boot 0x03 0x0B same.len (λ k from to. same.byte k (inl (omega arith))) in
+      range_same BARE boot 0x03 0x0B same.len (λ k from to. same.byte k (inl (omega arith))) in
       ap (λ name. starts_with nat_eq name (codes "NTFS    ")) e
 
   ends : has_end_mark boot ≡ true
@@ -110,8 +110,8 @@ module _ (o : Options) (boot : List ℕ) (disk : ℕ) (geometry : HasGeometry o 
       let total = geometry.sectors_told in
       and_from _ _
       (and_from _ _
-        (and_from _ _ (lt-ltb 0 (total_sectors boot) (omega (arith, range.least))) (le-leb (total_sectors boot) disk (omega arith)))
-        (le-leb 1 (cluster_count boot) (omega (arith, count, table_below))))
+      (and_from _ _ (lt-ltb 0 (total_sectors boot) (omega (arith, range.least))) (le-leb (total_sectors boot) disk (omega arith)))
+      (le-leb 1 (cluster_count boot) (omega (arith, count, table_below))))
       (le-leb (cluster_count boot) _ (omega (arith, count, range.few)))
 
   placed : has_places boot ≡ true

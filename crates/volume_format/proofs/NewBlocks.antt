@@ -54,7 +54,6 @@ module _ (disk : ℕ → List ℕ) (per at count : ℕ) (bytes : List ℕ) (stan
       ∙ ap (λ (xs : List ℕ). item_sector (slice_index bytes) (2 * n) ++ xs) (ap disk place ∙ high)
       ∙ two-block bytes n inside
 
-
 -- where the table of a new volume lies
 abbrev pub new_layout : Plan → TableLayout
 new_layout p = record {

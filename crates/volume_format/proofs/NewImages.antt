@@ -98,7 +98,6 @@ module _ (p : Plan) (disk : ℕ → List ℕ) (boot table root : List ℕ) (fits
       ap (two_sectors disk) place
       ∙ two_sectors-block disk (sectors_per p) (table_at p) _ table stand.first.records 0 (omega arith) (omega (arith, is_table.len))
 
-
   -- the layout is what a boot sector with the plan's numbers and record 0 tell
   pub MeetsTable-stand : cluster_sectors boot ≡ sectors_per p → cluster_count boot ≡ p.clusters → mft_cluster boot ≡ table_at p
       → mirror_cluster boot ≡ mirror_at p → MeetsTable disk boot (new_layout p)
@@ -108,7 +107,7 @@ module _ (p : Plan) (disk : ℕ → List ℕ) (boot table root : List ℕ) (fits
     table =
         subst (λ at. TellsTable at (opened_of (first_record disk boot)) (new_layout p)) (sym mft)
         (subst (λ bytes. TellsTable (table_at p) (opened_of bytes) (new_layout p)) (sym record_0)
-          (TellsTable-planned p fits whole some (block_in table 0) zero.means));
+        (TellsTable-planned p fits whole some (block_in table 0) zero.means));
   }
     where
       zero : IsStoredRecord 0 (listed (planned p) 0) (block_in table 0)
@@ -163,7 +162,7 @@ module _ (o : Options) (sectors : ℕ) (all boot table root : List ℕ) (range :
   told =
       subst (λ bytes. MeetsTable disk bytes (new_layout plan)) (sym begin)
       (MeetsTable-stand plan disk boot table root chosen made.is_table made.is_root stand made.geometry.cluster count
-        made.geometry.mft_at made.geometry.mirror_at)
+      made.geometry.mft_at made.geometry.mirror_at)
 
   accepted : IsAccepted disk (boot_sector all) sectors
   accepted = record {

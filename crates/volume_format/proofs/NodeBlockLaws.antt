@@ -10,6 +10,7 @@ use Rattle.ntfs_def.specs.declared.index.NodeForm.TheVariants.{Names}
 use Rattle.ntfs_def.specs.First.{first_failing}
 use Rattle.ntfs_def.specs.Fixup.{HasArray, Seals, array_end, array_place, next_number, opened_of, sequence_number}
 use Rattle.ntfs_def.specs.Node.{Node, Whole, are_short, are_short_from, entries_end, entry_len, first_entry, first_offset, has_children, is_entry, is_last_entry, most_len, node_header, node_header_failing, node_in, room_end, scan_from, short_node, whole_of}
+use Rattle.ntfs_def.proofs.FixupLaws.{length-opened_of}
 use Rattle.ntfs_def.proofs.SameLaws.{starts-same}
 use Rattle.index_node.specs.LayOut.{AreEntries, Holds, KeepsHeader, node_listed, room_len, total_len}
 use Rattle.index_node.proofs.LayOutLaws.{Holds-same, scan_listed}

@@ -77,7 +77,7 @@ extent_of (NonResident other text) extent runs e =
 
 module _ (p : Plan) (fits : FitsPlan p) (whole : 512 * sectors_per p ≡ p.size) (some : 0 < p.size) (opened : List ℕ)
     (four : FourOf (attributes opened) (standard_part 0) (name_part 0 5 0 (codes "$MFT"))
-      (stream_part p 0 DATA [] 2 (table_at p) table_len) (stream_part p 0 BITMAP [] 3 (table_bits_at p) table_bits_len)) where
+    (stream_part p 0 DATA [] 2 (table_at p) table_len) (stream_part p 0 BITMAP [] 3 (table_bits_at p) table_bits_len)) where
   abbrev run : Run
   run = record { len = needed p table_len; lcn = Some (table_at p) }
 
@@ -106,7 +106,7 @@ module _ (p : Plan) (fits : FitsPlan p) (whole : 512 * sectors_per p ≡ p.size)
   no_list =
       subst (λ all. All (λ (attribute : Attribute). attribute.kind ≢ ATTRIBUTE_LIST) all) (sym four.are)
       (All-from_recursion (λ (attribute : Attribute). attribute.kind ≢ ATTRIBUTE_LIST) (four.w ∷ four.x ∷ four.y ∷ four.z ∷ [])
-        (omega (arith, kind_w), (omega (arith, kind_x), (omega (arith, kind_y), (omega (arith, kind_z), tt)))))
+      (omega (arith, kind_w), (omega (arith, kind_x), (omega (arith, kind_y), (omega (arith, kind_z), tt)))))
 
   not_data : (attribute : Attribute) → (attribute.kind == DATA) ≡ false → is_data_extent attribute ≡ false
   not_data attribute e =

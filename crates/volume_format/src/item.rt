@@ -60,7 +60,6 @@ fn write_sectors<D: Disk, I: Item>(
     Ok(())
 }
 
-
 // The sectors of a cluster.
 fn sectors_per(places: &Places) -> u64
     ensures per { result ≡ sectors_per places.now }

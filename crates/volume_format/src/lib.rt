@@ -6,6 +6,8 @@ ghost use Rattle.std.specs.Prelude.{◌≡◌};
 mod attribute;
 mod boot;
 mod error;
+#[cfg(test)]
+mod format_tests;
 mod index_laws;
 mod item;
 mod laws;

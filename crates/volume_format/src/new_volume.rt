@@ -8,9 +8,9 @@ ghost use Rattle.volume_format.specs.Options.{AreInRange, clusters_in, plan_of};
 ghost use Rattle.volume_format.specs.Plan.{items_end};
 ghost use Rattle.volume_format.specs.Written.{ItemsStand, sector_at};
 
-use crate::{FormatNo, FormatOptions};
 use crate::made::{Made, make};
 use crate::write::write_items;
+use crate::{FormatNo, FormatOptions};
 use std::alloc::Global;
 use vol_disk::{Disk, Failed};
 

@@ -24,10 +24,10 @@ impl Model for FormatOptions {
     ghost Value = { Options };
 
     ghost view = { λ options. record {
-        sectors = options.sectors;
-        cluster = options.cluster;
-        serial = options.serial;
-        label = options.label;
+      sectors = options.sectors;
+      cluster = options.cluster;
+      serial = options.serial;
+      label = options.label;
     } };
 }
 

@@ -3,7 +3,9 @@
 
 ghost use Rattle.std.specs.Prelude.{◌≤◌, length};
 
-use super::*;
+use crate::Places;
+use crate::root::fill_root_node;
+use crate::stored::fill_stored;
 use std::alloc::{AllocError, Global};
 use vol_bytes::{Name, u32_at};
 

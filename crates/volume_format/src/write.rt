@@ -34,12 +34,7 @@ fn write_first<D: Disk>(
 }
 
 // Writes the mirror of the table, the log and the bitmap of clusters behind them.
-fn write_next<D: Disk>(
-    disk: &mut D,
-    places: &Places,
-    at: u64,
-    table: &[u8],
-) -> Result<u64, Failed>
+fn write_next<D: Disk>(disk: &mut D, places: &Places, at: u64, table: &[u8]) -> Result<u64, Failed>
     requires place { at ≡ mirror_at places.now }
     requires room { sector_at places.now (items_end places.now) ≤ D.size disk.old }
     ensures next { IfOk result (λ next. next ≡ case_at places.now) }
@@ -59,12 +54,7 @@ fn write_next<D: Disk>(
 }
 
 // Writes the table of case, the security descriptors and the root's index record behind them.
-fn write_last<D: Disk>(
-    disk: &mut D,
-    places: &Places,
-    at: u64,
-    root: &[u8],
-) -> Result<(), Failed>
+fn write_last<D: Disk>(disk: &mut D, places: &Places, at: u64, root: &[u8]) -> Result<(), Failed>
     requires place { at ≡ case_at places.now }
     requires room { sector_at places.now (items_end places.now) ≤ D.size disk.old }
     ensures stand { OnOk result (IsTold (D.now disk.old) → LastStand (sector_in (D.now disk.new)) places.now root.now) }

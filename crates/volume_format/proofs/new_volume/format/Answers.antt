@@ -26,8 +26,7 @@ put-requires g c =
 pub returns-in_err-put-clause-options : goal.returns-in_err-put-clause-options
 returns-in_err-put-clause-options g c =
     let own = c.is_in_range.ensures.0 c.if-not-is_in_range.false in
-    let range = subst (λ (n : ℕ). AreInRange n c.args.options.now) c.sectors.ensures own in
-    (
+    let range = subst (λ (n : ℕ). AreInRange n c.args.options.now) c.sectors.ensures own in (
       (λ e _. not-options _ c.from_residual-in_err-put.ensures.1 e),
       (λ none. absurd (none range)),
     )
@@ -45,7 +44,7 @@ returns-clause-volume g c contents is =
     let made = c.in_ok-made.made in
     let told : IsTold (g.D.Disk.now c.put.new.disk) = ap is_some is in
     let stand = subst (λ (p : Plan). ItemsStand (sector_in (g.D.Disk.now c.put.new.disk)) p made.boot made.table.items made.root)
-        c.in_ok-made.ensures.places (c.in_ok-put.ensures.stand told) in
+    c.in_ok-made.ensures.places (c.in_ok-put.ensures.stand told) in
     let here = subst (λ now. ItemsStand (sector_in now) (plan_of c.args.options.now) made.boot made.table.items made.root) is stand in
     IsNewVolume-stand c.args.options.now (g.D.Disk.size c.args.disk.now) contents made.boot made.table.items made.root range
     c.in_ok-made.ensures.made here

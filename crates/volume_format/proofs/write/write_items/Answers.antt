@@ -14,7 +14,7 @@ returns-clause-stand g c told =
     let told_one : IsTold (g.D.Disk.now c.write_first.new.disk) = one.keeps.told ∙ told in
     let told_two : IsTold (g.D.Disk.now c.write_next.new.disk) = two.keeps.told ∙ told_one in
     let first : FirstStand (sector_in (g.D.Disk.now c.write_next.new.disk)) p c.args.boot.now c.args.table.now =
-        FirstStand-kept _ _ p _ _ two.others _ _ (omega arith) (one.stand told) in
+    FirstStand-kept _ _ p _ _ two.others _ _ (omega arith) (one.stand told) in
     record {
       first = FirstStand-kept _ _ p _ _ three.others _ _ (omega arith) first;
       next = NextStand-kept _ _ p _ _ three.others _ (omega arith) (two.stand told_one);

@@ -16,7 +16,7 @@ returns-clause-stand g c told =
     let told_one : IsTold (g.D.Disk.now c.write_item.new.disk) = one.keeps.told ∙ told in
     let told_two : IsTold (g.D.Disk.now c.write_item-2.new.disk) = two.keeps.told ∙ told_one in
     let written : ThreeWritten p (disk c.write_item.new.disk) (disk c.write_item-2.new.disk) (disk c.write_item-3.new.disk) c.args.at c.in_ok-next.next c.in_ok-next-2.next case_len security_len node_len
-        case_byte security_byte (slice_index c.args.root.now) = record {
+    case_byte security_byte (slice_index c.args.root.now) = record {
       first = one.stands told;
       second = two.stands told_one;
       third = three.stands told_two;
@@ -43,6 +43,6 @@ returns-in_err-next-2-clause-others g c =
     let next = c.in_ok-next.ensures.next in
     SameOutsideClusters-twice _ _ _ p (case_at p) (items_end p)
     (SameOutsideClusters-wider _ _ p _ _ c.in_ok-next.ensures.others (case_at p) (items_end p) (omega (arith, c.requires.place))
-      (omega (arith, c.requires.place)))
+    (omega (arith, c.requires.place)))
     (SameOutsideClusters-wider _ _ p _ _ c.in_err-next-2.ensures.others (case_at p) (items_end p) (omega (arith, c.requires.place, next))
-      (omega (arith, c.requires.place, next)))
+    (omega (arith, c.requires.place, next)))

@@ -17,7 +17,7 @@ returns-clause-stand g c told =
     let told_one : IsTold (g.D.Disk.now c.write_item.new.disk) = one.keeps.told ∙ told in
     let told_two : IsTold (g.D.Disk.now c.write_item-2.new.disk) = two.keeps.told ∙ told_one in
     let written : ThreeWritten p (disk c.write_item.new.disk) (disk c.write_item-2.new.disk) (disk c.write_item-3.new.disk) c.args.at c.in_ok-next.next c.in_ok-next-2.next mirror_len log_len c.bits_len.result
-        (slice_index c.args.table.now) log_byte (ones_byte c.items_end.result) = record {
+    (slice_index c.args.table.now) log_byte (ones_byte c.items_end.result) = record {
       first = one.stands told;
       second = two.stands told_one;
       third = three.stands told_two;
@@ -47,6 +47,6 @@ returns-in_err-next-2-clause-others g c =
     let next = c.in_ok-next.ensures.next in
     SameOutsideClusters-twice _ _ _ p (mirror_at p) (case_at p)
     (SameOutsideClusters-wider _ _ p _ _ c.in_ok-next.ensures.others (mirror_at p) (case_at p) (omega (arith, c.requires.place))
-      (omega (arith, c.requires.place)))
+    (omega (arith, c.requires.place)))
     (SameOutsideClusters-wider _ _ p _ _ c.in_err-next-2.ensures.others (mirror_at p) (case_at p) (omega (arith, c.requires.place, next))
-      (omega (arith, c.requires.place, next)))
+    (omega (arith, c.requires.place, next)))
