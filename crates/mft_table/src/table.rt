@@ -124,7 +124,8 @@ pub fn read_table(
 ) -> Result<Option<Table>, AllocError>
     requires { FitsDisk geometry.now (2 ^ 55) }
     ensures some { IfOk result (λ found. IfSome found (IsFoundBy geometry.now (RecordTells geometry.now (viewed_block view.now)))) }
-    ensures none { IfOk result (λ found. IfNone found ((layout : TableLayout) → ¬ (RecordTells geometry.now (viewed_block view.now) layout))) }
+    ensures none { IfOk result (λ found. IfNone found
+        ((layout : TableLayout) → ¬ (RecordTells geometry.now (viewed_block view.now) layout))) }
 {
     let Some(stream) = table_stream(view) else {
         return Ok(None);

@@ -10,7 +10,8 @@ ghost use Rattle.volume_def.specs.View.{ReplacesBlock, ReplacesPiece, WritesOne,
 /// and a write of a sector of a cluster outside the table and its mirror changes that sector of that cluster alone.
 /// None of them changes a sector that belongs to no cluster.
 pub fn frame_laws()
-    ensures block { (told : Bool) (old new : ℕ → List ℕ) (layout : TableLayout) (n low high : ℕ) (stored : List ℕ) → IsApart layout
+    ensures block { (told : Bool) (old new : ℕ → List ℕ) (layout : TableLayout) (n low high : ℕ) (stored : List ℕ)
+        → IsApart layout
         → table_place layout (2 * n) ≡ Some low → table_place layout (2 * n + 1) ≡ Some high
         → WritesTwo told old new low high stored
         → 4 ≤ n → 1024 * n + 1024 ≤ layout.initialized → length stored ≡ 1024
