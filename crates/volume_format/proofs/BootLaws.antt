@@ -1,6 +1,6 @@
 -- The boot sector of a new volume meets the boot clause.
-use Rattle.std.proofs.Common.{◌≡◌, ◌≢◌, ℕ, ◌+◌, ◌*◌, ◌/◌, ◌<◌, ◌≤◌, Bool, true, List, [], ◌∷◌, length, get_or, None, inl, inr, refl, sym, ap, ◌∙◌, arith}
-use Rattle.std.specs.Prelude.{nat_lt, nat_le, nat_eq, ◌==◌, ◌&&◌, codes, slice_index, slice_range}
+use Rattle.std.proofs.Common.{◌≡◌, ◌≢◌, ℕ, ◌/◌, ◌<◌, ◌≤◌, Bool, true, List, [], ◌∷◌, length, None, inl, inr, refl, ap, ◌∙◌, arith}
+use Rattle.std.specs.Prelude.{nat_eq, ◌==◌, codes, slice_index, slice_range}
 use Rattle.std.specs.List.{starts_with}
 use Rattle.std.proofs.lemmas.Bool.{and_from, le-leb, lt-ltb}
 use Rattle.vol_bytes.specs.Field.{SameOutside, u16_at, u64_at}
@@ -12,7 +12,7 @@ use Rattle.volume_format.specs.declared.boot.TheConstants.{BARE}
 use Rattle.volume_format.specs.FitsPlan.{FitsPlan, IsClusterSize}
 use Rattle.volume_format.specs.NewBoot.{HasGeometry, HasNumbers, IsElsewhere, IsSameElsewhere}
 use Rattle.volume_format.specs.Options.{AreInRange, Options, clusters_in, plan_of}
-use Rattle.volume_format.specs.Plan.{Plan, items_end, mirror_at, needed, table_at, table_len, mirror_len}
+use Rattle.volume_format.specs.Plan.{mirror_at, table_at, table_len, mirror_len}
 use Rattle.volume_format.proofs.Fits.{FitsPlan-chosen, size-some}
 use Rattle.volume_format.proofs.Needed.{needed-some}
 

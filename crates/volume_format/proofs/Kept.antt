@@ -1,7 +1,6 @@
 -- Items that stand stay where sectors behind them are written.
-use Rattle.std.proofs.Common.{◌≡◌, ◌⊎◌, ℕ, ◌+◌, ◌*◌, ◌<◌, ◌≤◌, List, inl, inr, subst, ◌∙◌, arith}
+use Rattle.std.proofs.Common.{◌≡◌, ℕ, ◌+◌, ◌<◌, ◌≤◌, List, inl, inr, subst, ◌∙◌, arith}
 use Rattle.std.proofs.Math.Nat.{mul-le-mul_left}
-use Rattle.volume_format.specs.Items.{StandsAt}
 use Rattle.volume_format.specs.Plan.{Plan, needed}
 use Rattle.volume_format.specs.Written.{SameOutsideClusters, Stands, sector_at, sectors_per}
 

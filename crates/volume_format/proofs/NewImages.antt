@@ -1,23 +1,22 @@
 -- A disk on which the items of a new volume stand is a new volume.
-use Rattle.std.proofs.Common.{◌≡◌, ℕ, ◌+◌, ◌*◌, ◌/◌, ◌<◌, ◌≤◌, true, List, [], ◌∷◌, length, take, drop, None, Some, inl, inr, refl, sym, ap, subst, ◌∙◌, arith}
+use Rattle.std.proofs.Common.{◌≡◌, ℕ, ◌+◌, ◌*◌, ◌/◌, ◌<◌, ◌≤◌, List, [], ◌∷◌, length, None, Some, inl, inr, refl, sym, ap, subst, ◌∙◌, arith}
 use Rattle.std.specs.Prelude.{slice_index, IsTrue}
 use Rattle.std.proofs.lemmas.List.{take_all}
-use Rattle.vol_disk.specs.Contents.{sector_in, sector_of}
+use Rattle.vol_disk.specs.Contents.{sector_in}
 use Rattle.ntfs_def.specs.Boot.{boot_failing, boot_sector, cluster_count, cluster_sectors, mft_cluster, mirror_cluster}
 use Rattle.ntfs_def.specs.Fixup.{opened_of}
 use Rattle.ntfs_def.specs.Record.{is_in_use}
 use Rattle.volume_def.specs.Blocks.{block_of, cluster_of, copy_of}
-use Rattle.volume_def.specs.Sound.{HasLayout, IsAccepted, told_view}
-use Rattle.volume_def.specs.Table.{IsFromBoot, IsRecord, MeetsTable, TableLayout, TellsTable, cluster_bytes, first_record, two_sectors}
-use Rattle.volume_def.specs.View.{VolumeView}
+use Rattle.volume_def.specs.Sound.{IsAccepted, told_view}
+use Rattle.volume_def.specs.Table.{IsRecord, MeetsTable, TellsTable, first_record, two_sectors}
 use Rattle.volume_format.specs.FitsPlan.{FitsPlan, IsClusterSize}
 use Rattle.volume_format.specs.Formatted.{IsNewVolume}
 use Rattle.volume_format.specs.Items.{HoldsItem}
 use Rattle.volume_format.specs.Made.{AreMade, IsTable, block_in}
 use Rattle.volume_format.specs.NewBoot.{HasGeometry}
-use Rattle.volume_format.specs.Options.{AreInRange, Options, clusters_in, plan_of}
-use Rattle.volume_format.specs.Plan.{Plan, boot_len, listed, mirror_at, mirror_len, needed, node_at, node_len, planned, record_count, table_at, table_len}
-use Rattle.volume_format.specs.Planned.{HoldsRootRecord, IsPlanned, IsRootRecord}
+use Rattle.volume_format.specs.Options.{AreInRange, Options, plan_of}
+use Rattle.volume_format.specs.Plan.{Plan, boot_len, listed, mirror_at, mirror_len, needed, planned, record_count, table_at, table_len}
+use Rattle.volume_format.specs.Planned.{IsPlanned, IsRootRecord}
 use Rattle.volume_format.specs.StoredRecord.{IsStoredRecord}
 use Rattle.volume_format.specs.Written.{ItemsStand, Stands, sectors_per}
 use Rattle.volume_format.proofs.Fits.{FitsPlan-chosen, size-some}

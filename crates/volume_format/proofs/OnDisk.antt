@@ -1,10 +1,9 @@
 -- The items of a new volume lie on the disk.
-use Rattle.std.proofs.Common.{◌≡◌, ℕ, ◌+◌, ◌*◌, ◌/◌, ◌%◌, ◌≤◌, inl, inr, arith}
+use Rattle.std.proofs.Common.{ℕ, ◌/◌, ◌≤◌, arith}
 use Rattle.std.proofs.Math.Nat.{div-add-mod}
-use Rattle.volume_format.specs.FitsPlan.{IsClusterSize}
-use Rattle.volume_format.specs.Options.{AreInRange, Options, clusters_in, plan_of}
+use Rattle.volume_format.specs.Options.{AreInRange, Options, plan_of}
 use Rattle.volume_format.specs.Plan.{items_end}
-use Rattle.volume_format.specs.Written.{sector_at, sectors_per}
+use Rattle.volume_format.specs.Written.{sector_at}
 use Rattle.volume_format.proofs.Fits.{FitsPlan-chosen}
 use Rattle.volume_format.proofs.Kept.{sector_at-rises}
 

@@ -1,6 +1,6 @@
 -- The first record of a new volume tells where the table lies.
-use Rattle.std.proofs.Common.{◌≡◌, ◌≢◌, ℕ, ◌+◌, ◌*◌, ◌-◌, ◌/◌, ◌<◌, ◌≤◌, Bool, true, false, cond, List, [], ◌∷◌, map, length, filter, Option, Some, None, inl, inr, refl, sym, ap, subst, ◌∙◌, arith}
-use Rattle.std.specs.Prelude.{All, IsTrue, IsSomeAnd, codes, ◌==◌, ◌&&◌, is_some}
+use Rattle.std.proofs.Common.{◌≡◌, ◌≢◌, ℕ, ◌+◌, ◌*◌, ◌<◌, ◌≤◌, Bool, true, false, cond, List, [], ◌∷◌, map, length, filter, Some, None, inl, inr, refl, sym, ap, subst, ◌∙◌, arith}
+use Rattle.std.specs.Prelude.{All, codes, ◌==◌, ◌&&◌, is_some}
 use Rattle.std.proofs.lemmas.Bool.{cases_lt}
 use Rattle.std.proofs.lemmas.List.Elements.{All-from_recursion}
 use Rattle.std.proofs.Math.Nat.{mul-le-mul_left}
@@ -14,10 +14,10 @@ use Rattle.ntfs_def.specs.Record.{is_in_use}
 use Rattle.ntfs_def.specs.Runs.{MeansRuns, runs_in, spot_of, total_clusters}
 use Rattle.ntfs_def.proofs.RunsInLaws.{means-runs_in}
 use Rattle.ntfs_def.proofs.SpotLaws.{spot_of-first}
-use Rattle.volume_def.specs.Files.{Clusters, Content, Part, Record, Value, content_of, part_of, record_in, record_of}
-use Rattle.volume_def.specs.Table.{FitTable, IsOnVolume, IsTableData, LieFromMft, TableLayout, TellsTable, cluster_bytes, is_data_extent}
+use Rattle.volume_def.specs.Files.{Clusters, Part, Record, content_of, part_of, record_in, record_of}
+use Rattle.volume_def.specs.Table.{FitTable, IsOnVolume, IsTableData, LieFromMft, TellsTable, cluster_bytes, is_data_extent}
 use Rattle.volume_format.specs.FitsPlan.{FitsPlan}
-use Rattle.volume_format.specs.Plan.{Plan, extent_for, items_end, name_part, needed, record_0, standard_part, stream_part, table_at, table_bits_at, table_bits_len, table_len}
+use Rattle.volume_format.specs.Plan.{Plan, extent_for, name_part, needed, record_0, standard_part, stream_part, table_at, table_bits_at, table_bits_len, table_len}
 use Rattle.volume_format.specs.Written.{sectors_per}
 use Rattle.volume_format.proofs.Needed.{needed-covers}
 use Rattle.volume_format.proofs.NewBlocks.{new_layout}

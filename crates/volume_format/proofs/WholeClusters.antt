@@ -1,5 +1,5 @@
 -- The bytes of an item's clusters.
-use Rattle.std.proofs.Common.{◌≡◌, ℕ, ◌+◌, ◌*◌, ◌-◌, ◌/◌, ◌≤◌, inl, inr, arith}
+use Rattle.std.proofs.Common.{ℕ, ◌+◌, ◌*◌, ◌-◌, ◌/◌, ◌≤◌, inl, inr, arith}
 use Rattle.volume_format.specs.FitsPlan.{IsClusterSize}
 
 -- they are at most what rounding up to 4096 gives, and whole sectors

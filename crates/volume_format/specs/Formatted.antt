@@ -1,5 +1,5 @@
 -- What a disk holds on which a new volume was made.
-use Rattle.std.specs.Prelude.{◌≡◌, ℕ, List, Some}
+use Rattle.std.specs.Prelude.{ℕ, List, Some}
 use Rattle.ntfs_def.specs.Boot.{boot_sector}
 use Rattle.vol_disk.specs.Contents.{sector_in}
 use Rattle.volume_def.specs.Sound.{IsAccepted, told_view}

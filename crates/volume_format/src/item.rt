@@ -51,6 +51,7 @@ fn write_sectors<D: Disk, I: Item>(
         → sector_in (D.now disk.new) sector ≡ sector_in (D.now disk.old) sector }
     ensures keeps { WritesOn D.Disk disk.old disk.new }
     ensures faults { CountsFault result (D.faults disk.old) (D.faults disk.new) }
+    ensures on_time { D.faults disk.old ≡ 0 → D.late disk.new ≡ D.late disk.old }
 {
     let mut sector = [0; 512];
     for k in 0..count {
@@ -88,6 +89,7 @@ pub fn write_item<D: Disk, I: Item>(
         at (at + needed places.now len) }
     ensures keeps { WritesOn D.Disk disk.old disk.new }
     ensures faults { CountsFault result (D.faults disk.old) (D.faults disk.new) }
+    ensures on_time { D.faults disk.old ≡ 0 → D.late disk.new ≡ D.late disk.old }
 {
     let per = sectors_per(places);
     let clusters = places.needed(len);

@@ -27,6 +27,7 @@ fn put<D: Disk>(disk: &mut D, made: &Made) -> Result<(), Failed>
     ensures fetched { D.fetched disk.new ≡ D.fetched disk.old }
     ensures size { D.size disk.new ≡ D.size disk.old }
     ensures faults { CountsFault result (D.faults disk.old) (D.faults disk.new) }
+    ensures on_time { D.faults disk.old ≡ 0 → D.late disk.new ≡ D.late disk.old }
 {
     write_items(disk, &made.places, &made.boot, &made.table, &made.root)?;
     disk.settle()
@@ -56,6 +57,7 @@ pub fn format<D: Disk>(
     ensures size { D.size disk.new ≡ D.size disk.old }
     ensures faults { MatchResult result (λ _. D.faults disk.new ≡ D.faults disk.old)
         (CountsNo (D.faults disk.old) (D.faults disk.new)) }
+    ensures on_time { D.faults disk.old ≡ 0 → D.late disk.new ≡ D.late disk.old }
 {
     if !options.is_in_range(disk.sectors()) {
         return Err(FormatNo::Options);

@@ -26,6 +26,7 @@ fn write_first<D: Disk>(
     ensures others { SameOutsideClusters (sector_in (D.now disk.old)) (sector_in (D.now disk.new)) places.now 0 (mirror_at places.now) }
     ensures keeps { WritesOn D.Disk disk.old disk.new }
     ensures faults { CountsFault result (D.faults disk.old) (D.faults disk.new) }
+    ensures on_time { D.faults disk.old ≡ 0 → D.late disk.new ≡ D.late disk.old }
 {
     let next = write_item(disk, places, 0, BOOT_LEN, &Bytes { bytes: boot })?;
     let next = write_item(disk, places, next, TABLE_LEN, &Bytes { bytes: table })?;
@@ -43,6 +44,7 @@ fn write_next<D: Disk>(disk: &mut D, places: &Places, at: u64, table: &[u8]) -> 
         (mirror_at places.now) (case_at places.now) }
     ensures keeps { WritesOn D.Disk disk.old disk.new }
     ensures faults { CountsFault result (D.faults disk.old) (D.faults disk.new) }
+    ensures on_time { D.faults disk.old ≡ 0 → D.late disk.new ≡ D.late disk.old }
 {
     let taken = Ones {
         count: places.items_end(),
@@ -62,6 +64,7 @@ fn write_last<D: Disk>(disk: &mut D, places: &Places, at: u64, root: &[u8]) -> R
         (case_at places.now) (items_end places.now) }
     ensures keeps { WritesOn D.Disk disk.old disk.new }
     ensures faults { CountsFault result (D.faults disk.old) (D.faults disk.new) }
+    ensures on_time { D.faults disk.old ≡ 0 → D.late disk.new ≡ D.late disk.old }
 {
     let next = write_item(disk, places, at, CASE_LEN, &CaseTable)?;
     let next = write_item(disk, places, next, SECURITY_LEN, &Security)?;
@@ -84,6 +87,7 @@ pub fn write_items<D: Disk>(
         → sector_in (D.now disk.new) sector ≡ sector_in (D.now disk.old) sector }
     ensures keeps { WritesOn D.Disk disk.old disk.new }
     ensures faults { CountsFault result (D.faults disk.old) (D.faults disk.new) }
+    ensures on_time { D.faults disk.old ≡ 0 → D.late disk.new ≡ D.late disk.old }
 {
     let next = write_first(disk, places, boot, table)?;
     let next = write_next(disk, places, next, table)?;

@@ -1,4 +1,4 @@
-use Rattle.std.proofs.Common.{◌≡◌, ◌≢◌, ◌<◌, ℕ, List, length, get_or, set, get_or-set_same, get_or-set_other, length-set, arith}
+use Rattle.std.proofs.Common.{◌≡◌, ◌≢◌, ◌<◌, ℕ, List, length, set, get_or-set_same, get_or-set_other, length-set, arith}
 use Rattle.volume_format.proofs.BootLaws.{HasNumbers-written, IsSameElsewhere-written}
 use Rattle.volume_format.proofs.boot.put_numbers.Goals as goal
 

@@ -1,5 +1,4 @@
-use Rattle.std.proofs.Common.{◌≡◌, ◌≢◌, ℕ, ◌+◌, ◌<◌, inl, inr, below_more, ◌∙◌, arith}
-use Rattle.vol_disk.specs.Contents.{IsTold}
+use Rattle.std.proofs.Common.{◌≢◌, ◌+◌, inl, inr, below_more, ◌∙◌, arith}
 use Rattle.volume_format.proofs.item.write_sectors.Goals as goal
 
 pub loop-k-preserved : goal.loop-k-preserved
@@ -21,4 +20,5 @@ loop-k-preserved g c =
         fetched = write.fetched ∙ before.keeps.fetched;
       };
       faults = write.faults ∙ before.faults;
+      on_time = λ none. write.on_time (before.faults ∙ none) ∙ before.on_time none;
     }

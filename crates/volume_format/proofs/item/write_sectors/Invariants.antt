@@ -12,4 +12,5 @@ invariant-loop-k g l = record {
       → sector_in (g.D.Disk.now l.disk) sector ≡ sector_in (g.D.Disk.now l.fn.disk) sector;
   keeps : WritesOn g.D.Disk l.fn.disk l.disk;
   faults : g.D.Disk.faults l.disk ≡ g.D.Disk.faults l.fn.disk;
+  on_time : g.D.Disk.faults l.fn.disk ≡ 0 → g.D.Disk.late l.disk ≡ g.D.Disk.late l.fn.disk;
 }

@@ -1,4 +1,4 @@
-use Rattle.std.proofs.Common.{◌≡◌, ℕ, ◌+◌, ◌*◌, ◌<◌, List, ◌++◌, length, arith, ap, ◌∙◌, subst, sym, length-append}
+use Rattle.std.proofs.Common.{◌≡◌, ℕ, List, length, arith, ap, ◌∙◌, subst, sym, length-append}
 use Rattle.volume_format.specs.Made.{block_in}
 use Rattle.volume_format.specs.Plan.{listed, planned}
 use Rattle.volume_format.specs.StoredRecord.{IsStoredRecord}

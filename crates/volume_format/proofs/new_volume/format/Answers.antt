@@ -1,5 +1,5 @@
-use Rattle.std.proofs.Common.{◌≡◌, ℕ, ◌≤◌, List, Some, Ok, Err, ◌∙◌, sym, ap, subst, refl, arith}
-use Rattle.std.specs.Prelude.{IsTrue, Result, is_some}
+use Rattle.std.proofs.Common.{◌≡◌, ℕ, ◌≤◌, Ok, Err, sym, ap, subst}
+use Rattle.std.specs.Prelude.{Result, is_some}
 use Rattle.std.specs.Result.{IsErrAnd}
 use Rattle.vol_disk.specs.Contents.{IsTold, sector_in}
 use Rattle.volume_format.specs.declared.error.FormatNo.{FormatNo}

@@ -1,4 +1,4 @@
-use Rattle.std.proofs.Common.{◌≡◌, ℕ, List, ◌∙◌, arith}
+use Rattle.std.proofs.Common.{◌∙◌, arith}
 use Rattle.vol_disk.specs.Contents.{IsTold, sector_in}
 use Rattle.volume_format.specs.Plan.{Plan}
 use Rattle.volume_format.specs.Written.{FirstStand}

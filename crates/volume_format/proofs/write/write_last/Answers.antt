@@ -1,8 +1,8 @@
-use Rattle.std.proofs.Common.{◌≡◌, ℕ, List, refl, ap, ◌+◌, ◌∙◌, arith}
+use Rattle.std.proofs.Common.{◌∙◌, arith}
 use Rattle.std.specs.Prelude.{slice_index}
 use Rattle.vol_disk.specs.Contents.{IsTold, sector_in}
-use Rattle.volume_format.specs.Items.{case_byte, log_byte, ones_byte, record_bits_byte, security_byte}
-use Rattle.volume_format.specs.Plan.{Plan, bits_at, bits_len, boot_len, case_at, case_len, items_end, log_at, log_len, mirror_at, mirror_len, needed, node_at, node_len, security_at, security_len, table_at, table_bits_at, table_bits_len, table_len}
+use Rattle.volume_format.specs.Items.{case_byte, security_byte}
+use Rattle.volume_format.specs.Plan.{Plan, case_at, case_len, items_end, node_at, node_len, security_at, security_len}
 use Rattle.volume_format.proofs.Kept.{SameOutsideClusters-twice, SameOutsideClusters-wider, ThreeWritten, first-stands, second-stands, third-stands}
 use Rattle.volume_format.proofs.write.write_last.Goals as goal
 
