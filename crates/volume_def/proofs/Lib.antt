@@ -25,3 +25,4 @@ pub mod ListClauseLaws
 pub mod OtherListLaws
 pub mod ViewLaws
 pub mod AttributeValues
+pub mod SoundLaws

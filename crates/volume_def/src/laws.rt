@@ -2,6 +2,7 @@
 ghost use Rattle.std.specs.Prelude.{◌≡◌, ◌+◌, ◌*◌, ◌<◌, ◌≤◌, ℕ, Bool, IsTrue, List, Some, length};
 ghost use Rattle.volume_def.specs.Blocks.{mirror_sector, table_place};
 ghost use Rattle.volume_def.specs.Coverage.{IsOutsideTable, IsApart};
+ghost use Rattle.volume_def.specs.Sound.{IsAccepted, IsRefused};
 ghost use Rattle.volume_def.specs.Table.{TableLayout, MeetsTable};
 ghost use Rattle.volume_def.specs.View.{ReplacesBlock, ReplacesPiece, WritesOne, WritesTwo, view_of};
 
@@ -34,4 +35,12 @@ pub fn frame_laws()
 pub fn one_table()
     ensures { (disk : ℕ → List ℕ) (boot : List ℕ) (one other : TableLayout)
         → MeetsTable disk boot one → MeetsTable disk boot other → one ≡ other }
+{}
+
+/// An image has one answer: it is refused by one clause and one number, and one that is accepted is not refused.
+pub fn one_answer()
+    ensures refused { (disk : ℕ → List ℕ) (boot : List ℕ) (sectors k m l n : ℕ)
+        → IsRefused disk boot sectors k m → IsRefused disk boot sectors l n → (k ≡ l) × (m ≡ n) }
+    ensures accepted { (disk : ℕ → List ℕ) (boot : List ℕ) (sectors k n : ℕ)
+        → IsAccepted disk boot sectors → ¬ (IsRefused disk boot sectors k n) }
 {}
