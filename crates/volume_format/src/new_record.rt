@@ -57,7 +57,6 @@ fn add(block: &mut [u8; 1024], attr: &[u8])
         Ok(()) => {}
         Err(_) => unreachable!(),
     }
-    let _ = record.finish();
 }
 
 // The units of a name in bytes.
