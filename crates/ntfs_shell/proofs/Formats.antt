@@ -81,3 +81,7 @@ ends-made o given text old new makes is (inr cut) quiet others told fenced secto
   left = left;
   source_faults = source;
 })
+
+-- the options may be told by another value that is the same
+pub ends-same : (o p : Options) (given : Ending) (old new : World) → o ≡ p → FormatEnds o given old new → FormatEnds p given old new
+ends-same o p given old new same ends = subst (λ (q : Options). FormatEnds q given old new) same ends

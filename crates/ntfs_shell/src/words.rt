@@ -74,6 +74,7 @@ pub fn access_of(words: &[String]) -> Access
 // The number that a word writes in decimal, without a sign or a leading zero.
 fn read_number(word: &str) -> Option<u64>
     ensures written { IfSome result (λ number. word.now ≡ decimal number) }
+    ensures fits { IfSome result (λ number. number < 2 ^ 64) }
     ensures exact { (number : ℕ) → number < 2 ^ 64 → word.now ≡ decimal number → result ≡ Some number }
 {
     let Ok(number) = word.parse::<u64>() else {
@@ -89,6 +90,7 @@ fn read_number(word: &str) -> Option<u64>
 // The same of a number of 32 bits.
 fn read_size(word: &str) -> Option<u32>
     ensures written { IfSome result (λ number. word.now ≡ decimal number) }
+    ensures fits { IfSome result (λ number. number < 2 ^ 32) }
     ensures exact { (number : ℕ) → number < 2 ^ 32 → word.now ≡ decimal number → result ≡ Some number }
 {
     u32::try_from(read_number(word)?).ok()
