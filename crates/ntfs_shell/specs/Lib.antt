@@ -1,5 +1,6 @@
 pub mod Boot
 pub mod Ending
+pub mod Format
 pub mod Fronts
 pub mod Label
 pub mod Refusals

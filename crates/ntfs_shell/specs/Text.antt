@@ -29,3 +29,11 @@ geometry_text geometry =
 -- the line that refuses a volume, as in `refused S1 6`
 unfoldable pub refusal_text : Refusal → List ℕ
 refusal_text refusal = codes "refused S" ++ line_of (decimal refusal.clause) (decimal refusal.number)
+
+-- the line that tells how many clusters a new volume has
+unfoldable pub formatted_text : ℕ → List ℕ
+formatted_text clusters = line_of (codes "formatted") (decimal clusters)
+
+-- the line that refuses the options of a new volume
+abbrev pub options_text : List ℕ
+options_text = codes "refused options\n"

@@ -1,5 +1,7 @@
 -- The words of the command line.
-use Rattle.std.specs.Prelude.{◌≡◌, ◌⊎◌, ℕ, List, [], ◌∷◌, codes}
+use Rattle.std.specs.Prelude.{◌≡◌, ◌⊎◌, ◌<◌, ◌≤◌, ◌^◌, ℕ, List, [], ◌∷◌, codes, decimal, length}
+use Rattle.vol_bytes.specs.NameText.{IsNameText}
+use Rattle.volume_format.specs.Options.{Options}
 
 -- this word alone
 abbrev pub AreWords : List (List ℕ) → List ℕ → Type 0
@@ -9,9 +11,28 @@ AreWords words text = words ≡ text ∷ []
 abbrev pub AskToRead : List (List ℕ) → Type 0
 AskToRead words = AreWords words (codes "boot") ⊎ AreWords words (codes "label")
 
+-- The text is a name text of these units, of which there are 32 at most.
+pub record IsLabelText (text units : List ℕ) : Type 0 where
+  pub name : IsNameText text units
+  pub short : length units ≤ 32
+
+-- These words ask for a new volume with these options: `format`, three decimal numbers without a sign or a leading zero, each
+-- in the range of its type, and the label.
+pub record AreFormatWords (words : List (List ℕ)) (o : Options) : Type 0 where
+  pub label : List ℕ
+  pub form : words ≡ codes "format" ∷ decimal o.sectors ∷ decimal o.cluster ∷ decimal o.serial ∷ label ∷ []
+  pub sectors : o.sectors < 2 ^ 64
+  pub cluster : o.cluster < 2 ^ 32
+  pub serial : o.serial < 2 ^ 64
+  pub name : IsLabelText label o.label
+
+-- the words ask for a new volume
+abbrev pub AskToFormat : List (List ℕ) → Type 0
+AskToFormat words = (o : Options) × AreFormatWords words o
+
 -- the words of the program that are not built yet
 abbrev pub IsUnbuilt : List ℕ → Type 0
-IsUnbuilt word = (word ≡ codes "check") ⊎ (word ≡ codes "run") ⊎ (word ≡ codes "format") ⊎ (word ≡ codes "make")
+IsUnbuilt word = (word ≡ codes "check") ⊎ (word ≡ codes "run") ⊎ (word ≡ codes "make")
 
 -- the first word is not built yet, whatever follows
 abbrev pub AskUnbuilt : List (List ℕ) → Type 0
@@ -20,4 +41,4 @@ AskUnbuilt (word ∷ words) = IsUnbuilt word
 
 -- the words ask for something that the program knows
 abbrev pub AreKnown : List (List ℕ) → Type 0
-AreKnown words = AskToRead words ⊎ AskUnbuilt words
+AreKnown words = AskToRead words ⊎ AskToFormat words ⊎ AskUnbuilt words

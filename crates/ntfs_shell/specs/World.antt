@@ -49,6 +49,17 @@ pub record OnlyReads (old new : World) : Type 0 where
   pub left : new.left ≡ old.left
   pub source_faults : new.source_faults ≡ old.source_faults
 
+-- the disk is as it was, and so are its counts
+pub record KeepsDisk (old new : World) : Type 0 where
+  pub now : new.now ≡ old.now
+  pub settled : new.settled ≡ old.settled
+  pub fenced : new.fenced ≡ old.fenced
+  pub sectors : new.sectors ≡ old.sectors
+  pub written : new.written ≡ old.written
+  pub fetched : new.fetched ≡ old.fetched
+  pub late : new.late ≡ old.late
+  pub faults : new.disk_faults ≡ old.disk_faults
+
 -- no count of faults rose
 pub record NoFaults (old new : World) : Type 0 where
   pub disk : new.disk_faults ≡ old.disk_faults

@@ -1,4 +1,4 @@
-//! The answer of a word that only reads, and its printing.
+//! What a word has to say, and its printing.
 ghost use Rattle.ntfs_shell.specs.Report.{ending_of, text_of};
 ghost use Rattle.ntfs_shell.specs.Shown.{Shown, report_of};
 
@@ -18,8 +18,8 @@ pub enum Answer {
     Refused(Refusal),
 }
 
-// Prints a text, and ends the run so where all of it was printed.
-fn print<K: Sink>(out: &mut K, text: &[u8], whole: Ending) -> Ending
+/// Prints a text, and ends the run so where all of it was printed.
+pub fn print<K: Sink>(out: &mut K, text: &[u8], whole: Ending) -> Ending
     ensures { Shown text.now whole result (K.got out.old) (K.got out.new) (K.faults out.old) (K.faults out.new) }
 {
     match write_all(out, text) {

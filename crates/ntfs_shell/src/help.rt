@@ -11,16 +11,21 @@ read, it is opened for reading alone.
 Words:
   boot                                 prints the geometry of the volume
   label                                prints the volume's name and version
+  format SECTORS CLUSTER SERIAL LABEL  makes a new volume; what IMAGE held is lost
 
 Words that are not built yet:
   check                                prints whether the volume is sound
   run                                  runs the script on standard input
-  format SECTORS CLUSTER SERIAL LABEL  makes a new volume
   make N SEED                          runs N commands made from SEED
+
+Numbers are decimal. format takes 2048 sectors or more, as many as IMAGE has at
+most, clusters of 512, 1024, 2048 or 4096 bytes, and a label of 1 to 32 units.
+Other drivers mount such a volume. Its $AttrDef is empty, so a driver that needs
+it creates nothing in it, and nothing is claimed of Windows.
 
 An answer goes to standard output, and a line on what went wrong to standard
 error. The status is 0 where all was done, 2 where the words are not known, 3
-where the volume is refused, 5 where standard output failed, 6 where IMAGE
+where the volume or an option is refused, 5 where standard output failed, 6 where IMAGE
 cannot be opened or failed, 7 where memory ran out, and 9 for a word that is
 not built yet.
 

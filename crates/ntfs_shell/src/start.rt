@@ -4,7 +4,7 @@ use crate::ending::{DEVICE_FAILED, DONE, OUT_OF_MEMORY, REFUSED, SINK_FAILED, UN
 use crate::explain::{first_line, sentence_on, sentence_on_refusal};
 use crate::front::FrontSink;
 use crate::help::{HELP, VERSION};
-use crate::image::{hold_streams, open_image};
+use crate::image::{Access, hold_streams, open_image};
 use crate::shell::run_shell;
 use crate::words::access_of;
 use std::fs::File;
@@ -28,14 +28,14 @@ fn print_text(rt: &(impl Print + Eprint), text: &str) -> u8 {
     }
 }
 
-// Says what a person can do about a status, by what was printed.
-fn explain(rt: &impl Eprint, status: u8, printed: &[u8], sectors: u64) {
+// Says what a person can do about a status, by what the words ask of the image and what was printed.
+fn explain(rt: &impl Eprint, status: u8, access: Access, printed: &[u8], sectors: u64) {
     if status == REFUSED {
         let line = first_line(printed);
         let sentence = sentence_on_refusal(line, sectors);
         let _ = rt.eprintln(format_args!("ntfs_shell: {line}: {sentence}"));
     }
-    if let Some(sentence) = sentence_on(status) {
+    if let Some(sentence) = sentence_on(status, access) {
         complain(rt, sentence);
     }
 }
@@ -66,7 +66,8 @@ where
             return DEVICE_FAILED;
         }
     };
-    let mut disk = match open_image(rt, image, access_of(request.words)) {
+    let access = access_of(request.words);
+    let mut disk = match open_image(rt, image, access) {
         Ok(disk) => disk,
         Err(fault) => {
             let _ = rt.eprintln(format_args!("ntfs_shell: IMAGE {image:?} {fault}"));
@@ -76,7 +77,7 @@ where
     let mut script = StdSource::new(rt.reader());
     let mut out = FrontSink::new(StdSink::new(io::writer(rt)));
     let status = run_shell(rt.alloc(), request.words, &mut disk, &mut script, &mut out);
-    explain(rt, status, out.front(), disk.sectors());
+    explain(rt, status, access, out.front(), disk.sectors());
     status
 }
 

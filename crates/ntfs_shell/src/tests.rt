@@ -2,6 +2,7 @@
 ghost use Rattle.std.specs.Prelude.{◌≡◌, ◌%◌, vec_len};
 
 mod edge;
+mod format;
 mod label;
 
 use crate::front::FrontSink;
@@ -164,7 +165,6 @@ fn other_words_print_nothing(rt: HostRuntime) -> Result<(), test::Fail> {
         ("run x", 9),
         ("make", 9),
         ("check", 9),
-        ("format 1", 9),
     ] {
         let mut disk = disk_of(rt.alloc(), 16, &boot_sector(0x44, 0xF4))?;
         let mut out = sink_of(rt.alloc(), AMPLE, 0)?;

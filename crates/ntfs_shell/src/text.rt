@@ -1,7 +1,7 @@
 //! The lines that are printed, laid out without memory.
 ghost use Rattle.std.specs.Prelude.{◌≡◌, ◌+◌, ◌^◌, ◌<◌, ◌≤◌, ◌++◌, length, decimal};
 ghost use Rattle.arrayvec.specs.ArrayVec.{array_vec_len};
-ghost use Rattle.ntfs_shell.specs.Text.{geometry_text, hexadecimal, line_of, refusal_text};
+ghost use Rattle.ntfs_shell.specs.Text.{formatted_text, geometry_text, hexadecimal, line_of, refusal_text};
 
 use crate::refusal::Refusal;
 use arrayvec::ArrayVec;
@@ -80,5 +80,15 @@ pub fn refusal_text(refusal: Refusal) -> Text
         itoa::Buffer::new().format(refusal.clause).as_bytes(),
         refusal.number,
     );
+    text
+}
+
+/// The line that tells how many clusters a new volume has.
+#[tactic(auto, unfolding(crate::specs::Text::formatted_text))]
+pub fn formatted_text(clusters: u64) -> Text
+    ensures { result.items ≡ formatted_text clusters }
+{
+    let mut text = Text::new();
+    add_number(&mut text, b"formatted", clusters);
     text
 }

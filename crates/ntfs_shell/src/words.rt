@@ -1,16 +1,22 @@
 //! The words of the command line.
-ghost use Rattle.std.specs.Prelude.{◌≡◌, ◌↔◌, IsTrue, codes, map, string_bytes};
-ghost use Rattle.ntfs_shell.specs.Words.{AreKnown, AreWords, AskToRead, AskUnbuilt, IsUnbuilt};
+ghost use Rattle.std.specs.Prelude.{◌≡◌, ◌<◌, ◌^◌, ◌↔◌, ℕ, ◌∷◌, [], Ok, Some, IfOk, IfSome, IsErr, IsTrue, codes, decimal, map, string_bytes};
+ghost use Rattle.volume_format.specs.Options.{Options};
+ghost use Rattle.ntfs_shell.specs.Words.{AreFormatWords, AreKnown, AreWords, AskToFormat, AskToRead, AskUnbuilt, IsUnbuilt};
 
 use crate::image::Access;
+use crate::label_text::read_label;
+use std::alloc::{AllocError, Global};
+use volume_format::FormatOptions;
 
 /// What the words ask for.
-#[derive(Clone, Copy, Debug, PartialEq, Eq)]
+#[derive(Debug, Drop)]
 pub enum Asked {
     /// The geometry of the volume.
     Boot,
     /// The name and the version of the volume.
     Label,
+    /// A new volume.
+    Format(FormatOptions),
     /// A word of the program that is not built yet.
     Unbuilt,
     /// Nothing that the program knows.
@@ -36,7 +42,7 @@ fn are_words(words: &[String], text: &str) -> bool
 fn is_unbuilt(word: &str) -> bool
     ensures { IsTrue result ↔ IsUnbuilt word.now }
 {
-    word == "check" || word == "run" || word == "format" || word == "make"
+    word == "check" || word == "run" || word == "make"
 }
 
 fn ask_unbuilt(words: &[String]) -> bool
@@ -48,31 +54,122 @@ fn ask_unbuilt(words: &[String]) -> bool
     }
 }
 
+fn ask_to_read(words: &[String]) -> bool
+    ensures { IsTrue result ↔ AskToRead (map string_bytes words.now) }
+{
+    are_words(words, "boot") || are_words(words, "label")
+}
+
 /// What the words ask of the image.
 pub fn access_of(words: &[String]) -> Access
     ensures { (result ≡ Access.Reads) ↔ AskToRead (map string_bytes words.now) }
 {
-    match read_words(words) {
-        Asked::Boot | Asked::Label => Access::Reads,
-        Asked::Unbuilt | Asked::Unknown => Access::Writes,
+    if ask_to_read(words) {
+        Access::Reads
+    } else {
+        Access::Writes
+    }
+}
+
+// The number that a word writes in decimal, without a sign or a leading zero.
+fn read_number(word: &str) -> Option<u64>
+    ensures written { IfSome result (λ number. word.now ≡ decimal number) }
+    ensures fits { IfSome result (λ number. number < 2 ^ 64) }
+    ensures exact { (number : ℕ) → number < 2 ^ 64 → word.now ≡ decimal number → result ≡ Some number }
+{
+    let Ok(number) = word.parse::<u64>() else {
+        return None;
+    };
+    if is_word(word, itoa::Buffer::new().format(number)) {
+        Some(number)
+    } else {
+        None
+    }
+}
+
+// The same of a number of 32 bits.
+fn read_size(word: &str) -> Option<u32>
+    ensures written { IfSome result (λ number. word.now ≡ decimal number) }
+    ensures fits { IfSome result (λ number. number < 2 ^ 32) }
+    ensures exact { (number : ℕ) → number < 2 ^ 32 → word.now ≡ decimal number → result ≡ Some number }
+{
+    u32::try_from(read_number(word)?).ok()
+}
+
+// The options in the words behind `format`, where they have the form.
+fn read_options(
+    alloc: Global,
+    sectors: &str,
+    cluster: &str,
+    serial: &str,
+    label: &str,
+) -> Result<Option<FormatOptions>, AllocError>
+    ensures some { let words = codes "format" ∷ sectors.now ∷ cluster.now ∷ serial.now ∷ label.now ∷ [] in
+        IfOk result (λ found. IfSome found (AreFormatWords words)) }
+    ensures exact { let words = codes "format" ∷ sectors.now ∷ cluster.now ∷ serial.now ∷ label.now ∷ [] in
+        (options : Options) → AreFormatWords words options → IfOk result (λ found. found ≡ Some options) }
+    ensures memory { let words = codes "format" ∷ sectors.now ∷ cluster.now ∷ serial.now ∷ label.now ∷ [] in
+        IsErr result → ¬ (¬ (AskToFormat words)) }
+{
+    let Some(sectors) = read_number(sectors) else {
+        return Ok(None);
+    };
+    let Some(cluster) = read_size(cluster) else {
+        return Ok(None);
+    };
+    let Some(serial) = read_number(serial) else {
+        return Ok(None);
+    };
+    match read_label(alloc, label)? {
+        Some(label) => Ok(Some(FormatOptions {
+            sectors,
+            cluster,
+            serial,
+            label,
+        })),
+        None => Ok(None),
+    }
+}
+
+// The options of a new volume, where the words ask for one.
+fn format_options(alloc: Global, words: &[String]) -> Result<Option<FormatOptions>, AllocError>
+    ensures some { IfOk result (λ found. IfSome found (AreFormatWords (map string_bytes words.now))) }
+    ensures exact { (options : Options) → AreFormatWords (map string_bytes words.now) options
+        → IfOk result (λ found. found ≡ Some options) }
+    ensures memory { IsErr result → ¬ (¬ (AskToFormat (map string_bytes words.now))) }
+{
+    match words {
+        [word, sectors, cluster, serial, label] if is_word(word, "format") => {
+            read_options(alloc, sectors, cluster, serial, label)
+        }
+        _ => Ok(None),
     }
 }
 
 /// What the words ask for.
-pub fn read_words(words: &[String]) -> Asked
-    ensures boot { (result ≡ Asked.Boot) ↔ AreWords (map string_bytes words.now) (codes "boot") }
-    ensures label { (result ≡ Asked.Label) ↔ AreWords (map string_bytes words.now) (codes "label") }
-    ensures unbuilt { (result ≡ Asked.Unbuilt) ↔ AskUnbuilt (map string_bytes words.now) }
-    ensures unknown { (result ≡ Asked.Unknown) ↔ ¬ (AreKnown (map string_bytes words.now)) }
+///
+/// # Errors
+///
+/// Where there is no memory for the label of a new volume.
+pub fn read_words(alloc: Global, words: &[String]) -> Result<Asked, AllocError>
+    ensures boot { (result ≡ Ok Asked.Boot) ↔ AreWords (map string_bytes words.now) (codes "boot") }
+    ensures label { (result ≡ Ok Asked.Label) ↔ AreWords (map string_bytes words.now) (codes "label") }
+    ensures format { (options : Options) → AreFormatWords (map string_bytes words.now) options
+        → IfOk result (λ asked. asked ≡ Asked.Format options) }
+    ensures unbuilt { (result ≡ Ok Asked.Unbuilt) ↔ AskUnbuilt (map string_bytes words.now) }
+    ensures unknown { (result ≡ Ok Asked.Unknown) ↔ ¬ (AreKnown (map string_bytes words.now)) }
 {
     if are_words(words, "boot") {
-        return Asked::Boot;
+        return Ok(Asked::Boot);
     }
     if are_words(words, "label") {
-        return Asked::Label;
+        return Ok(Asked::Label);
     }
     if ask_unbuilt(words) {
-        return Asked::Unbuilt;
+        return Ok(Asked::Unbuilt);
     }
-    Asked::Unknown
+    match format_options(alloc, words)? {
+        Some(options) => Ok(Asked::Format(options)),
+        None => Ok(Asked::Unknown),
+    }
 }

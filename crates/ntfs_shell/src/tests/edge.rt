@@ -232,10 +232,11 @@ fn ends(rt: HostRuntime, line: &[u8], status: u8, printed: &str, said: &str) -> 
 #[test]
 fn each_end_says_what_can_be_done(rt: HostRuntime) -> io::Result<()> {
     lay(&rt, "ntfs_shell_whole", &boot_sector(0x44, 0xF4), 8_388_608)?;
+    lay(&rt, "ntfs_shell_blank", &[0; 512], 8_388_608)?;
     lay(&rt, "ntfs_shell_cut", &boot_sector(0x44, 0xF4), 4096)?;
     lay(&rt, "ntfs_shell_bare", &[0; 512], 4096)?;
     lay(&rt, "ntfs_shell_empty", &[0; 512], 511)?;
-    let rows: [(&[u8], u8, &str, &str); 13] = [
+    let rows: [(&[u8], u8, &str, &str); 16] = [
         (b"ntfs_shell", 2, "", "--help"),
         (b"ntfs_shell boot", 2, "", "--help"),
         (
@@ -246,6 +247,19 @@ fn each_end_says_what_can_be_done(rt: HostRuntime) -> io::Result<()> {
         ),
         (b"ntfs_shell --version", 0, "ntfs_shell 0.1.0\n", ""),
         (b"ntfs_shell ntfs_shell_whole boot", 0, GEOMETRY, ""),
+        (
+            b"ntfs_shell ntfs_shell_whole format 2047 4096 1 X",
+            3,
+            "refused options\n",
+            "options: SECTORS is from 2048",
+        ),
+        (
+            b"ntfs_shell ntfs_shell_blank format 16384 4096 1 DATA",
+            0,
+            "formatted 2048\n",
+            "",
+        ),
+        (b"ntfs_shell ntfs_shell_blank boot", 0, GEOMETRY, ""),
         (b"ntfs_shell ntfs_shell_whole bot", 2, "", "--help"),
         (b"ntfs_shell ntfs_shell_whole check", 9, "", "not built"),
         (
@@ -290,6 +304,7 @@ fn each_end_says_what_can_be_done(rt: HostRuntime) -> io::Result<()> {
     }
     for name in [
         "ntfs_shell_whole",
+        "ntfs_shell_blank",
         "ntfs_shell_cut",
         "ntfs_shell_bare",
         "ntfs_shell_empty",

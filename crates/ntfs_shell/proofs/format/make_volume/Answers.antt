@@ -1,0 +1,16 @@
+use Rattle.std.proofs.Common.{refl, ap, ◌∙◌}
+use Rattle.ntfs_shell.specs.Text.{formatted_text}
+use Rattle.ntfs_shell.proofs.Formats.{AreInRange-stable, ends-made}
+use Rattle.ntfs_shell.proofs.format.make_volume.Goals as goal
+
+pub returns-in-Ok : goal.returns-in-Ok
+returns-in-Ok g c =
+    let made = c.in-Ok.ensures in
+    ends-made _ _ _ _ _
+    (record {
+      in_range = AreInRange-stable _ _ (λ no. let out = c.format.ensures.options.1 no in let is = c.in-Ok.is in absurd (cc));
+      volume = made.volume;
+      settled = made.settled;
+    })
+    (c.as_slice.ensures.value ∙ c.formatted_text.ensures ∙ ap formatted_text made.clusters)
+    c.print.ensures made.faults made.others made.told made.fenced made.size made.fetched refl refl
