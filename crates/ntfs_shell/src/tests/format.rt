@@ -59,7 +59,11 @@ fn a_label_may_be_long(rt: HostRuntime) -> Result<(), test::Fail> {
         assert_eq!(rt; run(rt.alloc(), &words, &mut disk, &mut out)?, 0, "{label}");
         assert!(rt; out.bytes() == b"formatted 2048\n".as_slice(), "{label}");
         let mut out = sink_of(rt.alloc(), AMPLE, 0)?;
-        assert_eq!(rt; run(rt.alloc(), "label", &mut disk, &mut out)?, 0, "{label}");
+        assert_eq!(rt;
+            run(rt.alloc(), "label", &mut disk, &mut out)?,
+            0,
+            "{label}"
+        );
         assert!(rt; out.bytes() == text.as_bytes(), "{label}");
     }
     Ok(())
@@ -85,11 +89,7 @@ fn what_is_not_taken_writes_nothing(rt: HostRuntime) -> Result<(), test::Fail> {
             2,
             "",
         ),
-        (
-            "format 2048 4096 1 AAAAAAAAAAAAAAAAAAAAAAAAAAAAAAA😀",
-            2,
-            "",
-        ),
+        ("format 2048 4096 1 AAAAAAAAAAAAAAAAAAAAAAAAAAAAAAA😀", 2, ""),
     ] {
         let mut disk = blank(rt.alloc(), 2048)?;
         let mut out = sink_of(rt.alloc(), AMPLE, 0)?;
@@ -132,7 +132,11 @@ fn a_failing_sink_is_told(rt: HostRuntime) -> Result<(), test::Fail> {
     let mut disk = blank(rt.alloc(), 2048)?;
     for (words, fails, status) in [(OUT_OF_RANGE, 1, 5), (SMALL, 1, 5), ("label", 0, 0)] {
         let mut out = sink_of(rt.alloc(), AMPLE, fails)?;
-        assert_eq!(rt; run(rt.alloc(), words, &mut disk, &mut out)?, status, "{words}");
+        assert_eq!(rt;
+            run(rt.alloc(), words, &mut disk, &mut out)?,
+            status,
+            "{words}"
+        );
         let text = if fails == 0 { LABEL } else { "" };
         assert!(rt; out.bytes() == text.as_bytes(), "{words}");
     }

@@ -12,15 +12,21 @@ returns-in-Ok-Format-clause-format g c options are =
     (c.make_volume.result, c.status-in-Ok-Format.ensures.status, ends-same _ _ _ _ _ same c.make_volume.ensures)
 
 pub returns-in-Err-clause-format : goal.returns-in-Err-clause-format
-returns-in-Err-clause-format g c options are = (ending.Memory, refl, record {
-  causes = record { disk = refl; source = refl; sink = refl };
-  answered = (record { now = refl; settled = refl; fenced = refl; sectors = refl; written = refl; fetched = refl; late = refl; faults = refl },
-      record { got = refl; sink_faults = refl });
-  others = λ sector behind. refl;
-  told = refl;
-  fenced = refl;
-  sectors = refl;
-  fetched = refl;
-  left = refl;
-  source_faults = refl;
-})
+returns-in-Err-clause-format g c options are = (
+  ending.Memory,
+  refl,
+  record {
+    causes = record { disk = refl; source = refl; sink = refl };
+    answered = (
+      record { now = refl; settled = refl; fenced = refl; sectors = refl; written = refl; fetched = refl; late = refl; faults = refl },
+      record { got = refl; sink_faults = refl },
+    );
+    others = λ sector behind. refl;
+    told = refl;
+    fenced = refl;
+    sectors = refl;
+    fetched = refl;
+    left = refl;
+    source_faults = refl;
+  },
+)

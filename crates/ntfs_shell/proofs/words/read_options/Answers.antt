@@ -16,4 +16,5 @@ returns-in_err-label-clause-memory c err never =
         cluster = c.in-Some-read_size.ensures.fits;
         serial = c.in-Some-read_number.ensures.fits;
         name = is;
-      }))
+      },
+    ))

@@ -20,8 +20,11 @@ returns-in-None-clause-format c options are =
     absurd (cc)
 
 pub returns-in-None-clause-unknown : goal.returns-in-None-clause-unknown
-returns-in-None-clause-unknown c = (λ _. none-of
-    (λ boot. let yes = c.are_words.ensures.1 boot in let no = c.if-are_words.false in absurd (cc))
-    (λ label. let yes = c.are_words-2.ensures.1 label in let no = c.if-are_words-2.false in absurd (cc))
-    (λ ask. let found = c.in_ok-options.ensures.exact ask.0 ask.1 in let is = c.in-None.is in absurd (cc))
-    (λ unbuilt. let yes = c.ask_unbuilt.ensures.1 unbuilt in let no = c.if-ask_unbuilt.false in absurd (cc)), λ _. refl)
+returns-in-None-clause-unknown c = (
+  λ _. none-of
+      (λ boot. let yes = c.are_words.ensures.1 boot in let no = c.if-are_words.false in absurd (cc))
+      (λ label. let yes = c.are_words-2.ensures.1 label in let no = c.if-are_words-2.false in absurd (cc))
+      (λ ask. let found = c.in_ok-options.ensures.exact ask.0 ask.1 in let is = c.in-None.is in absurd (cc))
+      (λ unbuilt. let yes = c.ask_unbuilt.ensures.1 unbuilt in let no = c.if-ask_unbuilt.false in absurd (cc)),
+  λ _. refl,
+)
