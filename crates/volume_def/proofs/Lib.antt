@@ -26,3 +26,4 @@ pub mod OtherListLaws
 pub mod ViewLaws
 pub mod AttributeValues
 pub mod SoundLaws
+pub mod LookedLaws

@@ -27,3 +27,4 @@ pub mod Members
 pub mod Spans
 pub mod StreamSize
 pub mod KeptList
+pub mod Looked

@@ -2,6 +2,7 @@
 ghost use Rattle.std.specs.Prelude.{◌≡◌, ◌+◌, ◌*◌, ◌<◌, ◌≤◌, ℕ, Bool, IsTrue, List, Some, length};
 ghost use Rattle.volume_def.specs.Blocks.{mirror_sector, table_place};
 ghost use Rattle.volume_def.specs.Coverage.{IsOutsideTable, IsApart};
+ghost use Rattle.volume_def.specs.Looked.{AgreeWhereLooked};
 ghost use Rattle.volume_def.specs.Sound.{IsAccepted, IsRefused};
 ghost use Rattle.volume_def.specs.Table.{TableLayout, MeetsTable};
 ghost use Rattle.volume_def.specs.View.{ReplacesBlock, ReplacesPiece, WritesOne, WritesTwo, view_of};
@@ -43,4 +44,13 @@ pub fn one_answer()
         → IsRefused disk boot sectors k m → IsRefused disk boot sectors l n → (k ≡ l) × (m ≡ n) }
     ensures accepted { (disk : ℕ → List ℕ) (boot : List ℕ) (sectors k n : ℕ)
         → IsAccepted disk boot sectors → ¬ (IsRefused disk boot sectors k n) }
+{}
+
+/// A change of sectors that no clause looks at changes no answer: of two disks with one boot sector, which agree where a
+/// clause looks, both are accepted, or both are refused by the same clause and number.
+pub fn same_answer()
+    ensures accepted { (old new : ℕ → List ℕ) (boot : List ℕ) (sectors : ℕ) → AgreeWhereLooked old new boot
+        → IsAccepted old boot sectors → IsAccepted new boot sectors }
+    ensures refused { (old new : ℕ → List ℕ) (boot : List ℕ) (sectors k n : ℕ) → AgreeWhereLooked old new boot
+        → IsRefused old boot sectors k n → IsRefused new boot sectors k n }
 {}

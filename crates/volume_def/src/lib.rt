@@ -11,5 +11,5 @@ pub use clause_laws::{extents_clause_laws, list_clause_laws, other_list_laws, re
 pub use file_laws::{
     attribute_laws, extent_laws, list_laws, parts_laws, stored_laws, value_laws, view_laws,
 };
-pub use laws::{frame_laws, one_answer, one_table};
+pub use laws::{frame_laws, one_answer, one_table, same_answer};
 pub use version::Version;
