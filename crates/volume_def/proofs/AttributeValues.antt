@@ -4,9 +4,8 @@ use Rattle.std.specs.Prelude.{filter}
 use Rattle.volume_def.specs.Edits.{Said, said_by}
 use Rattle.volume_def.specs.ExtentsClause.{AreAttribute}
 use Rattle.volume_def.specs.Files.{Part, is_of, parts_like, content_value}
-use Rattle.volume_def.specs.KeptList.{KeepsClusters}
 use Rattle.volume_def.specs.SameItems.{SameItems}
-use Rattle.volume_def.specs.Values.{attribute_value, value_of_parts, value_on}
+use Rattle.volume_def.specs.Values.{KeepsClusters, attribute_value, value_of_parts, value_on}
 use Rattle.volume_def.specs.Table.{TableLayout, cluster_bytes}
 use Rattle.volume_def.specs.View.{VolumeView}
 use Rattle.volume_def.proofs.ExtentsClauseLaws.{parts_of-said}

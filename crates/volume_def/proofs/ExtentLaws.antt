@@ -6,9 +6,8 @@ use Rattle.std.proofs.lemmas.List.Elements.{All-head}
 use Rattle.std.specs.List.{Contains, count_by, find}
 use Rattle.ntfs_def.specs.Runs.{spot_of}
 use Rattle.volume_def.specs.ExtentsClause.{AreAttribute, AreWhole, FollowFrom}
-use Rattle.volume_def.specs.Files.{Clusters, Content, Part, Value, part_clusters, content_extent, part_runs, content_value}
+use Rattle.volume_def.specs.Files.{Clusters, Content, Part, Value, part_clusters, content_extent, part_runs, content_value, joined_runs}
 use Rattle.volume_def.specs.SameItems.{SameItems}
-use Rattle.volume_def.specs.Spans.{joined_runs}
 use Rattle.volume_def.specs.Values.{first_vcn_of, holds_vcn, is_first, spot_at, spot_by}
 use Rattle.volume_def.proofs.Codes.{part_code}
 use Rattle.volume_def.proofs.CodedLaws.{find-SameItems}

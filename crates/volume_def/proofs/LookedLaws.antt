@@ -17,10 +17,10 @@ use Rattle.ntfs_def.specs.KeyOrder.{fold_of, name_order, table_len}
 use Rattle.ntfs_def.specs.Node.{Item, own_vcn, short_node}
 use Rattle.ntfs_def.specs.Runs.{total_clusters}
 use Rattle.ntfs_def.specs.Units.{wide}
-use Rattle.volume_def.specs.BitmapClauses.{MeetsClusterBits, MeetsRecordBits, cluster_bits, parts_at, record_bits}
+use Rattle.volume_def.specs.BitmapClauses.{MeetsClusterBits, MeetsRecordBits, cluster_bits, record_bits}
 use Rattle.volume_def.specs.Blocks.{block_of, cluster_of, copy_of}
 use Rattle.volume_def.specs.CaseClause.{MeetsCaseTable, case_parts}
-use Rattle.volume_def.specs.Files.{Part, parts, record_on, records_of}
+use Rattle.volume_def.specs.Files.{Part, parts, parts_at, record_on, records_of}
 use Rattle.volume_def.specs.IndexesClause.{HasIndex, IndexParts, IsDirectoryIndex, IsRecordAt, IsViewIndex, KeyRule, MeetsIndexes, MeetsViewIndex, hash_rule, id_rule, index_nodes, index_parts, name_rule, word_rule}
 use Rattle.volume_def.specs.ListsClause.{MeetsLists}
 use Rattle.volume_def.specs.Looked.{AgreeWhereLooked, IsLookedAt, IsLookedAtSector, IsLookedInto}

@@ -8,10 +8,10 @@ use Rattle.ntfs_def.specs.AttributeList.{HasListShape, list_entries}
 use Rattle.volume_def.specs.Edits.{EditsAt, MovesPart}
 use Rattle.volume_def.specs.Members.{FreesEmpty, TakesEmpty}
 use Rattle.volume_def.specs.Files.{Part, Record, Records, part_clusters, content_extent, file_of, parts, part_runs, records_of}
-use Rattle.volume_def.specs.KeptList.{KeepsClusters, KeepsList}
+use Rattle.volume_def.specs.KeptList.{KeepsList}
 use Rattle.volume_def.specs.ListsClause.{HasRightList, IsAlone, IsRightList, LiesOnVolume, entries_in, is_list, list_value}
 use Rattle.volume_def.specs.SameItems.{SameItems}
-use Rattle.volume_def.specs.Values.{value_of_parts}
+use Rattle.volume_def.specs.Values.{KeepsClusters, value_of_parts}
 use Rattle.volume_def.specs.Table.{IsOnVolume, TableLayout, cluster_bytes}
 use Rattle.volume_def.specs.View.{VolumeView}
 use Rattle.volume_def.proofs.EntryLaws.{entries-freed, entries-taken, entries_in-kept}

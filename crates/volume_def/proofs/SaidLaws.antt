@@ -9,8 +9,8 @@ use Rattle.std.proofs.lemmas.List.Sums.{sum_by-cons}
 use Rattle.std.specs.List.{count_by, find}
 use Rattle.ntfs_def.specs.Runs.{total_clusters}
 use Rattle.volume_def.specs.Edits.{Said, said_by}
-use Rattle.volume_def.specs.ExtentsClause.{AreAttribute, AreWhole, BeginsAt, FitExtents, FollowFrom, all_covered, has_sizes, last_vcn_of}
-use Rattle.volume_def.specs.Files.{Content, Part, part_clusters, content_extent, content_runs, content_value}
+use Rattle.volume_def.specs.ExtentsClause.{AreAttribute, AreWhole, BeginsAt, FitExtents, FollowFrom, has_sizes, last_vcn_of}
+use Rattle.volume_def.specs.Files.{Content, Part, part_clusters, content_extent, content_runs, content_value, all_covered}
 use Rattle.volume_def.specs.SameItems.{SameItems}
 use Rattle.volume_def.specs.Values.{holds_vcn, is_first, spot_at, spot_by, value_of_parts, value_over}
 use Rattle.volume_def.proofs.Codes.{said_code}

@@ -1,28 +1,14 @@
 -- The clauses on the bitmaps of clusters, S8, by the number of a cluster, and of records, S9, by the number of a record.
 -- Layout: Linux-NTFS documentation, files $Bitmap and $MFT; Carrier, File System Forensic Analysis, chapter 11.
-use Rattle.std.specs.Prelude.{◌≡◌, ℕ, ◌*◌, ◌<◌, ◌≤◌, ◌↔◌, List, [], filter, find, length, All, IsSome, IsSomeAnd, Option, Some, None, false}
+use Rattle.std.specs.Prelude.{◌≡◌, ℕ, ◌*◌, ◌<◌, ◌≤◌, ◌↔◌, List, [], length, All, IsSome, Option, Some, None}
 use Rattle.ntfs_def.specs.declared.kinds.TheConstants.{BITMAP, DATA}
 use Rattle.ntfs_def.specs.declared.records.TheConstants.{CLUSTER_BITMAP, FIRST_ORDINARY, MFT}
 use Rattle.ntfs_def.specs.Bits.{bit_in}
-use Rattle.ntfs_def.specs.Flags.{is_packed}
-use Rattle.volume_def.specs.ExtentsClause.{all_covered}
-use Rattle.volume_def.specs.Files.{Content, Clusters, Part, Value, content_extent, is_of, parts, part_runs, record_on, records_of}
+use Rattle.volume_def.specs.Files.{Content, Clusters, Part, Value, content_extent, part_runs, record_on, records_of, parts_at, all_covered}
 use Rattle.volume_def.specs.OwnersClause.{times_owned}
-use Rattle.volume_def.specs.Values.{is_first, value_on}
+use Rattle.volume_def.specs.Values.{IsPlain, first_part, value_on}
 use Rattle.volume_def.specs.Table.{cluster_bytes}
 use Rattle.volume_def.specs.View.{VolumeView}
-
--- the parts of this type and name of file f, in order
-abbrev pub parts_at : VolumeView → ℕ → ℕ → List ℕ → List Part
-parts_at view f kind name = filter (is_of kind name) (parts (records_of view) f)
-
--- the part that tells an attribute's sizes and flags
-abbrev pub first_part : List Part → Option Part
-first_part extents = find is_first extents
-
--- There is such an attribute, and it is not packed.
-abbrev pub IsPlain : List Part → Type 0
-IsPlain extents = IsSomeAnd (first_part extents) (λ part. is_packed part.kind part.flags ≡ false)
 
 -- Its clusters all have a place.
 abbrev pub HasNoHole : List Part → Type 0

@@ -4,9 +4,8 @@ use Rattle.std.specs.Prelude.{◌≡◌, ℕ, List, [], length}
 use Rattle.ntfs_def.specs.declared.kinds.TheConstants.{DATA}
 use Rattle.ntfs_def.specs.declared.records.TheConstants.{UPCASE}
 use Rattle.ntfs_def.specs.KeyOrder.{fold_of, table_len}
-use Rattle.volume_def.specs.BitmapClauses.{IsPlain, parts_at}
-use Rattle.volume_def.specs.Files.{Part}
-use Rattle.volume_def.specs.Values.{value_on}
+use Rattle.volume_def.specs.Files.{Part, parts_at}
+use Rattle.volume_def.specs.Values.{IsPlain, value_on}
 use Rattle.volume_def.specs.View.{VolumeView}
 
 -- the unnamed $DATA of $UpCase

@@ -1,12 +1,12 @@
 -- The clause on extents, S6, by the number of a base record.
 -- Layout: Linux-NTFS documentation, "Attribute Headers"; Carrier, File System Forensic Analysis, chapters 11 and 13.
-use Rattle.std.specs.Prelude.{◌≡◌, ◌≢◌, ◌⊎◌, ℕ, ◌+◌, ◌-◌, ◌*◌, ◌^◌, ◌<◌, ◌≤◌, ◌==◌, ◌&&◌, ◌||◌, not, Bool, List, [], ◌∷◌, codes, length, sum_by, All, IfSome, IsSome, IsSomeAnd, IsTrue, if◌then◌else◌}
+use Rattle.std.specs.Prelude.{◌≡◌, ◌≢◌, ◌⊎◌, ℕ, ◌+◌, ◌-◌, ◌*◌, ◌^◌, ◌<◌, ◌≤◌, ◌==◌, ◌&&◌, ◌||◌, not, Bool, List, [], ◌∷◌, codes, length, All, IfSome, IsSome, IsSomeAnd, IsTrue, if◌then◌else◌}
 use Rattle.ntfs_def.specs.declared.kinds.TheConstants.{DATA, FILE_NAME}
 use Rattle.ntfs_def.specs.declared.records.TheConstants.{BAD_CLUSTERS}
 use Rattle.ntfs_def.specs.declared.sizes.Sizes.{Sizes}
 use Rattle.ntfs_def.specs.Units.{wide}
 use Rattle.ntfs_def.specs.Flags.{is_packed, is_sparse}
-use Rattle.volume_def.specs.Files.{Part, Records, part_clusters, content_extent, is_base, is_of, parts, parts_like, content_runs, content_value}
+use Rattle.volume_def.specs.Files.{Part, Records, part_clusters, content_extent, is_base, is_of, parts, parts_like, content_runs, content_value, all_covered}
 use Rattle.volume_def.specs.SameItems.{SameItems}
 
 -- the number of the last of n clusters; 2^64 - 1 where there is none
@@ -28,10 +28,6 @@ FollowFrom vcn (part ∷ parts) = BeginsAt vcn part × FollowFrom (vcn + part_cl
 abbrev pub AreWhole : List Part → Type 0
 AreWhole (part ∷ []) = IsSome (content_value part.content) ⊎ BeginsAt 0 part
 AreWhole parts = FollowFrom 0 parts
-
--- the clusters that a stream has
-abbrev pub all_covered : List Part → ℕ
-all_covered parts = sum_by part_clusters parts
 
 -- The sizes that the first extent tells of a stream which covers so many bytes.
 pub record FitExtents (bytes flags : ℕ) (sizes : Sizes) : Type 0 where

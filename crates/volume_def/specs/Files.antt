@@ -1,7 +1,7 @@
 -- Files: what the records of the table mean, and the parts of a file, which may stand in several of them.
 -- Layout: Linux-NTFS documentation, "File Record" and "File Reference"; Carrier, File System Forensic Analysis,
 -- chapters 11 and 13.
-use Rattle.std.specs.Prelude.{ℕ, ◌==◌, ◌&&◌, nat_lt, Bool, List, [], map, filter, Option, Some, None, is_none, option_map, unwrap_or, if◌then◌else◌}
+use Rattle.std.specs.Prelude.{◌%◌, ◌/◌, ℕ, ◌==◌, ◌&&◌, nat_lt, Bool, List, [], map, filter, Option, Some, None, is_none, option_map, unwrap_or, if◌then◌else◌, sum_by}
 use Rattle.std.specs.List.{flat_map, range_with_len}
 use Rattle.std.specs.Str.{bytes_eq}
 use Rattle.ntfs_def.specs.declared.run_text.Run.{Run}
@@ -68,6 +68,10 @@ records_of view = record { count = view.layout.count; record_at = record_on view
 abbrev pub is_base : Record → Bool
 is_base r = is_none r.header.base
 
+-- 2 of a record's flags: it is a directory
+abbrev pub is_directory : Record → Bool
+is_directory r = r.header.flags / 2 % 2 == 1
+
 -- the file to which record n belongs: an extension record belongs to the one that its base reference names
 abbrev pub file_of : ℕ → Record → ℕ
 file_of n r = unwrap_or (option_map (λ base. base.number) r.header.base) n
@@ -88,6 +92,10 @@ is_of kind name part = (part.kind == kind) && bytes_eq part.name name
 abbrev pub parts_like : Part → List Part → List Part
 parts_like part all = filter (is_of part.kind part.name) all
 
+-- the parts of this type and name of file f, in order
+abbrev pub parts_at : VolumeView → ℕ → ℕ → List ℕ → List Part
+parts_at view f kind name = filter (is_of kind name) (parts (records_of view) f)
+
 -- the value that a part holds
 abbrev pub content_value : Content → Option (List ℕ)
 content_value (Value value) = Some value
@@ -107,6 +115,14 @@ content_runs (Clusters extent runs) = runs
 abbrev pub part_runs : Part → List Run
 part_runs part = unwrap_or (content_runs part.content) []
 
+-- the runs of these extents, as one list
+abbrev pub joined_runs : List Part → List Run
+joined_runs extents = flat_map part_runs extents
+
 -- the clusters of the stream that it covers
 abbrev pub part_clusters : Part → ℕ
 part_clusters part = total_clusters (part_runs part)
+
+-- the clusters that a stream has
+abbrev pub all_covered : List Part → ℕ
+all_covered parts = sum_by part_clusters parts

@@ -1,7 +1,7 @@
 -- The clause on indexes, S12, by the number of the record that holds the index.
 -- Layout: Linux-NTFS documentation, attributes $INDEX_ROOT, $INDEX_ALLOCATION and $BITMAP, files $Secure, $ObjId and $Reparse;
 -- Carrier, File System Forensic Analysis, chapters 11 to 13.
-use Rattle.std.specs.Prelude.{◌≡◌, ◌≢◌, ℕ, ◌+◌, ◌*◌, ◌/◌, ◌%◌, ◌<◌, ◌≤◌, ◌==◌, ◌&&◌, Bool, false, List, [], ◌∷◌, codes, map, filter, length, slice_range, All, count_by, Some, IfSome, IsTrue}
+use Rattle.std.specs.Prelude.{◌≡◌, ◌≢◌, ℕ, ◌+◌, ◌*◌, ◌/◌, ◌%◌, ◌<◌, ◌≤◌, ◌==◌, ◌&&◌, Bool, List, [], ◌∷◌, codes, map, filter, length, slice_range, All, count_by, Some, IfSome, IsTrue}
 use Rattle.std.specs.Str.{bytes_eq}
 use Rattle.std.specs.declared.cmp.Ordering.{Ordering}
 use Rattle.vol_bytes.specs.Field.{u32_at}
@@ -18,16 +18,13 @@ use Rattle.ntfs_def.specs.IndexTree.{Ascends, HoldsIndex, Nodes, Spread, Tree, s
 use Rattle.ntfs_def.specs.KeyOrder.{hash_order, id_order, is_hash_key, is_id_key, is_word_key, name_order, word_order}
 use Rattle.ntfs_def.specs.Units.{wide}
 use Rattle.ntfs_def.specs.Node.{Item, Node, own_vcn, short_node}
-use Rattle.volume_def.specs.BitmapClauses.{first_part, parts_at}
 use Rattle.volume_def.specs.CaseClause.{volume_fold}
 use Rattle.volume_def.specs.FileNames.{is_in_directory, links, names_of}
-use Rattle.volume_def.specs.Files.{Part, content_extent, is_base, record_on, records_of, content_value}
-use Rattle.volume_def.specs.ReferencesClause.{is_directory}
+use Rattle.volume_def.specs.Files.{Part, content_extent, is_base, record_on, records_of, content_value, is_directory, parts_at}
 use Rattle.volume_def.specs.SameItems.{SameItems}
-use Rattle.volume_def.specs.Values.{spot_at, value_on}
+use Rattle.volume_def.specs.Values.{IsPlainIfThere, first_part, spot_at, value_on}
 use Rattle.volume_def.specs.Table.{cluster_bytes}
 use Rattle.volume_def.specs.View.{VolumeView}
-use Rattle.ntfs_def.specs.Flags.{is_packed}
 
 -- An index of file f: the parts of its name.
 pub record IndexParts : Type 0 where
@@ -65,10 +62,6 @@ pub record KeyRule : Type 0 where
   pub collation : ℕ
   pub order : List ℕ → List ℕ → Ordering
   pub valid : List ℕ → Bool
-
--- a part that is there is not packed
-abbrev pub IsPlainIfThere : List Part → Type 0
-IsPlainIfThere extents = IfSome (first_part extents) (λ part. is_packed part.kind part.flags ≡ false)
 
 -- The index holds a tree, whose items in order are these; each way has sixteen nodes at most, the root too.
 pub record HasIndex (form : NodeForm) (rule : KeyRule) (view : VolumeView) (index : IndexParts) (items : List Item) : Type 0 where

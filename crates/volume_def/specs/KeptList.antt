@@ -1,12 +1,11 @@
 -- The list of a file while an edit is under way: the entries that it has to have, whatever its stored value says so far.
 use Rattle.std.specs.Prelude.{◌≡◌, ℕ, ◌≤◌, false, List, [], ◌∷◌, length, All, count_by, IfSome, IsTrue}
-use Rattle.ntfs_def.specs.declared.run_text.Spot.TheVariants.{At}
 use Rattle.ntfs_def.specs.AttributeList.{HasListShape, ListEntry, list_entries}
 use Rattle.ntfs_def.specs.Flags.{is_packed}
 use Rattle.volume_def.specs.Files.{Part, Records, content_extent, parts}
 use Rattle.volume_def.specs.ListsClause.{LiesOnVolume, entries_in, is_list, list_value}
 use Rattle.volume_def.specs.SameItems.{SameItems}
-use Rattle.volume_def.specs.Values.{spot_at}
+use Rattle.volume_def.specs.Values.{KeepsClusters}
 use Rattle.volume_def.specs.View.{VolumeView}
 
 -- File f has one list, which stands in its base record and has to have these entries.
@@ -23,10 +22,6 @@ pub record StoresList (view : VolumeView) (part : Part) (entries : List ListEntr
   pub shape : HasListShape (list_value view part) (length (list_entries (list_value view part)))
   pub named : list_entries (list_value view part) ≡ entries
 
--- The clusters of these extents hold what they held.
-abbrev pub KeepsClusters : VolumeView → VolumeView → List Part → Type 0
-KeepsClusters old new extents = (vcn c : ℕ) → spot_at extents vcn ≡ At c → new.cluster c ≡ old.cluster c
-
--- So do those of the list of file f.
+-- The clusters of the list of file f hold what they held.
 abbrev pub KeepsList : VolumeView → VolumeView → List Part → Type 0
 KeepsList old new all = All (λ part. IsTrue (is_list part) → KeepsClusters old new (part ∷ [])) all

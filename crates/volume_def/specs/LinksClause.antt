@@ -4,8 +4,7 @@ use Rattle.std.specs.Prelude.{◌≡◌, ◌≢◌, ℕ, zero, suc, ◌≤◌, �
 use Rattle.ntfs_def.specs.declared.records.TheConstants.{FIRST_ORDINARY, ROOT}
 use Rattle.ntfs_def.specs.FileName.{FileName}
 use Rattle.volume_def.specs.FileNames.{is_dos, is_not_dos, names_of}
-use Rattle.volume_def.specs.Files.{Record, Records, is_base}
-use Rattle.volume_def.specs.ReferencesClause.{is_directory}
+use Rattle.volume_def.specs.Files.{Record, Records, is_base, is_directory}
 
 -- a name of namespace 1, Win32, in this directory
 abbrev pub is_long_in : ℕ → FileName → Bool

@@ -5,13 +5,13 @@ use Rattle.std.specs.List.{flat_map, range_with_len}
 use Rattle.ntfs_def.specs.declared.kinds.TheConstants.{DATA}
 use Rattle.ntfs_def.specs.declared.records.TheConstants.{BOOT}
 use Rattle.ntfs_def.specs.declared.run_text.Run.{Run}
-use Rattle.volume_def.specs.Files.{Record, Records, is_of, parts, part_runs}
+use Rattle.volume_def.specs.Files.{Record, Records, is_of, joined_runs, parts}
 use Rattle.volume_def.specs.Coverage.{times_covered}
 
 -- the runs of all attributes of a record, packed ones too
 abbrev pub record_runs : Option Record → List Run
 record_runs None = []
-record_runs (Some r) = flat_map part_runs r.parts
+record_runs (Some r) = joined_runs r.parts
 
 -- the runs of all records in use
 unfoldable pub all_runs : Records → List Run
@@ -23,7 +23,7 @@ times_owned records cluster = times_covered (all_runs records) cluster
 
 -- the runs of the unnamed $DATA of $Boot
 abbrev pub boot_runs : Records → List Run
-boot_runs records = flat_map part_runs (filter (is_of DATA []) (parts records BOOT))
+boot_runs records = joined_runs (filter (is_of DATA []) (parts records BOOT))
 
 -- The clause, on a volume of so many clusters: no cluster behind the last one is owned and none twice, and the boot file has
 -- cluster 0.

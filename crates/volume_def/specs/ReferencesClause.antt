@@ -1,13 +1,9 @@
 -- The clause on references, S10, by the number of the record that holds the reference.
 -- Layout: Linux-NTFS documentation, "File Reference"; Carrier, File System Forensic Analysis, chapter 11.
-use Rattle.std.specs.Prelude.{◌≡◌, ℕ, ◌/◌, ◌%◌, ◌==◌, Bool, All, IfSome, IsSomeAnd, IsTrue}
+use Rattle.std.specs.Prelude.{◌≡◌, ℕ, All, IfSome, IsSomeAnd, IsTrue}
 use Rattle.ntfs_def.specs.Record.{Reference}
 use Rattle.volume_def.specs.FileNames.{names_among}
-use Rattle.volume_def.specs.Files.{Record, Records, is_base}
-
--- 2 of a record's flags: it is a directory
-abbrev pub is_directory : Record → Bool
-is_directory r = r.header.flags / 2 % 2 == 1
+use Rattle.volume_def.specs.Files.{Record, Records, is_base, is_directory}
 
 -- The reference names a base record in use, by its number and its sequence number.
 abbrev pub NamesBase : Records → Reference → Type 0

@@ -1,7 +1,8 @@
 -- Streams: what an attribute holds, over all its parts and byte by byte.
 -- Layout: Linux-NTFS documentation, "Attribute Headers"; Carrier, File System Forensic Analysis, chapter 11.
-use Rattle.std.specs.Prelude.{ℕ, ◌+◌, ◌-◌, ◌/◌, ◌%◌, ◌==◌, ◌&&◌, nat_lt, nat_le, Bool, List, [], find, map, slice_index, Option, Some, None, if◌then◌else◌, unwrap_or}
+use Rattle.std.specs.Prelude.{◌≡◌, ℕ, ◌+◌, ◌-◌, ◌/◌, ◌%◌, ◌==◌, ◌&&◌, nat_lt, nat_le, Bool, List, [], find, map, slice_index, Option, Some, None, if◌then◌else◌, unwrap_or, IsSomeAnd, false, IfSome}
 use Rattle.std.specs.List.{range_with_len}
+use Rattle.ntfs_def.specs.Flags.{is_packed}
 use Rattle.ntfs_def.specs.declared.run_text.Spot.{Spot}
 use Rattle.ntfs_def.specs.declared.run_text.Spot.TheVariants.{Outside, Hole, At}
 use Rattle.ntfs_def.specs.Runs.{spot_of}
@@ -25,6 +26,10 @@ spot_by (Some part) vcn = spot_of (part_runs part) (vcn - first_vcn_of part.cont
 -- where a cluster of the stream lies, in whichever order its extents stand
 abbrev pub spot_at : List Part → ℕ → Spot
 spot_at extents vcn = spot_by (find (holds_vcn vcn) extents) vcn
+
+-- The clusters of these extents hold what they held.
+abbrev pub KeepsClusters : VolumeView → VolumeView → List Part → Type 0
+KeepsClusters old new extents = (vcn c : ℕ) → spot_at extents vcn ≡ At c → new.cluster c ≡ old.cluster c
 
 -- byte k of the cluster that lies there, where `cluster` gives the bytes of each; zero in a hole, and outside
 abbrev pub byte_there : (ℕ → List ℕ) → Spot → ℕ → ℕ
@@ -52,6 +57,18 @@ value_byte cluster size spot initialized i = if nat_lt i initialized then stored
 abbrev pub is_first : Part → Bool
 is_first part = first_vcn_of part.content == 0
 
+-- the part that tells an attribute's sizes and flags
+abbrev pub first_part : List Part → Option Part
+first_part extents = find is_first extents
+
+-- There is such an attribute, and it is not packed.
+abbrev pub IsPlain : List Part → Type 0
+IsPlain extents = IsSomeAnd (first_part extents) (λ part. is_packed part.kind part.flags ≡ false)
+
+-- a part that is there is not packed
+abbrev pub IsPlainIfThere : List Part → Type 0
+IsPlainIfThere extents = IfSome (first_part extents) (λ part. is_packed part.kind part.flags ≡ false)
+
 abbrev pub value_by : (ℕ → List ℕ) → ℕ → List Part → Content → List ℕ
 value_by cluster size extents (Value value) = value
 value_by cluster size extents (Clusters extent runs) =
@@ -64,7 +81,7 @@ value_over cluster size extents (Some part) = value_by cluster size extents part
 -- The value of an attribute that has these parts. Of a packed one this is what lies in its clusters, which is not its
 -- content; no clause asks for it.
 unfoldable pub value_of_parts : (ℕ → List ℕ) → ℕ → List Part → List ℕ
-value_of_parts cluster size extents = value_over cluster size extents (find is_first extents)
+value_of_parts cluster size extents = value_over cluster size extents (first_part extents)
 
 -- the value of an attribute of a volume, by its parts
 abbrev pub value_on : VolumeView → List Part → List ℕ

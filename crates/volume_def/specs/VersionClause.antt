@@ -10,9 +10,8 @@ use Rattle.ntfs_def.specs.declared.records.TheConstants.{MFT_MIRROR, VOLUME}
 use Rattle.ntfs_def.specs.Attribute.{attribute_kind, attribute_place, attributes, content_bytes, first_value, is_resident, name_units, value_len, value_offset}
 use Rattle.ntfs_def.specs.Fixup.{IsSealed, array_end, array_place, opened_of}
 use Rattle.ntfs_def.specs.Record.{is_in_use, used_size}
-use Rattle.volume_def.specs.BitmapClauses.{IsPlain, first_part, parts_at}
-use Rattle.volume_def.specs.Files.{Part, content_extent}
-use Rattle.volume_def.specs.Values.{spot_at}
+use Rattle.volume_def.specs.Files.{Part, content_extent, parts_at}
+use Rattle.volume_def.specs.Values.{IsPlain, first_part, spot_at}
 use Rattle.volume_def.specs.Table.{cluster_bytes}
 use Rattle.volume_def.specs.View.{VolumeView}
 use Rattle.volume_def.specs.VolumeRecord.{version_in}

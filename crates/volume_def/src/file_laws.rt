@@ -8,15 +8,14 @@ ghost use Rattle.ntfs_def.specs.declared.run_text.Spot.TheVariants.{At};
 ghost use Rattle.volume_def.specs.Edits.{ChangesAt, EditsAt, MovesPart, said_by};
 ghost use Rattle.volume_def.specs.ExtentsClause.{AreAttribute};
 ghost use Rattle.volume_def.specs.Members.{FreesEmpty, HoldsPart, IsPart, TakesEmpty};
-ghost use Rattle.volume_def.specs.Files.{Part, Records, part_clusters, file_of, parts, parts_like, part_runs, record_on, record_in, records_of};
-ghost use Rattle.volume_def.specs.KeptList.{KeepsClusters};
+ghost use Rattle.volume_def.specs.Files.{Part, Records, part_clusters, file_of, parts, parts_like, part_runs, record_on, record_in, records_of, joined_runs};
 ghost use Rattle.volume_def.specs.ListsClause.{entries_in, entry_in, is_list};
 ghost use Rattle.volume_def.specs.Coverage.{times_covered};
 ghost use Rattle.volume_def.specs.Replaces.{Replaces};
 ghost use Rattle.volume_def.specs.SameItems.{SameItems};
-ghost use Rattle.volume_def.specs.Spans.{joined_runs, spans_vcn};
+ghost use Rattle.volume_def.specs.Spans.{spans_vcn};
 ghost use Rattle.volume_def.specs.StreamSize.{IsFirstExtent, told_size};
-ghost use Rattle.volume_def.specs.Values.{attribute_value, first_vcn_of, holds_vcn, is_first, spot_at, spot_by, stored_bytes, value_of_parts};
+ghost use Rattle.volume_def.specs.Values.{KeepsClusters, attribute_value, first_vcn_of, holds_vcn, is_first, spot_at, spot_by, stored_bytes, value_of_parts};
 ghost use Rattle.volume_def.specs.Table.{cluster_bytes};
 ghost use Rattle.volume_def.specs.View.{ReplacesBlock, ReplacesPiece, VolumeView};
 

@@ -3,9 +3,9 @@ use Rattle.std.proofs.Common.{◌≡◌, ℕ, ◌<◌, List, [], ◌∷◌, map,
 use Rattle.std.specs.List.{range_with_len}
 use Rattle.ntfs_def.specs.declared.kinds.TheConstants.{BITMAP, DATA}
 use Rattle.ntfs_def.specs.declared.records.TheConstants.{CLUSTER_BITMAP, MFT, MFT_MIRROR, SECURE, UPCASE}
-use Rattle.volume_def.specs.BitmapClauses.{cluster_bits, parts_at, record_bits}
+use Rattle.volume_def.specs.BitmapClauses.{cluster_bits, record_bits}
 use Rattle.volume_def.specs.CaseClause.{case_parts}
-use Rattle.volume_def.specs.Files.{Part}
+use Rattle.volume_def.specs.Files.{Part, parts_at}
 use Rattle.volume_def.specs.Values.{value_of_parts, value_on}
 use Rattle.volume_def.specs.View.{VolumeView}
 use Rattle.volume_format.specs.NewVolume.{log_file, log_parts, security_name, security_parts}

@@ -7,8 +7,8 @@ use Rattle.std.proofs.lemmas.Bool.{false≢true}
 use Rattle.ntfs_def.specs.declared.kinds.TheConstants.{BITMAP, DATA, FILE_NAME, INDEX_ALLOCATION, INDEX_ROOT, STANDARD_INFORMATION, VOLUME_INFORMATION, VOLUME_NAME}
 use Rattle.ntfs_def.specs.declared.run_text.Run.{Run}
 use Rattle.ntfs_def.specs.Attribute.{ExtentHeader}
-use Rattle.volume_def.specs.ExtentsClause.{AreAttribute, FitExtents, MeetsExtents, all_covered, has_sizes, last_vcn_of}
-use Rattle.volume_def.specs.Files.{Clusters, Part, Record, Value, content_extent, is_base, is_of, parts, parts_like}
+use Rattle.volume_def.specs.ExtentsClause.{AreAttribute, FitExtents, MeetsExtents, has_sizes, last_vcn_of}
+use Rattle.volume_def.specs.Files.{Clusters, Part, Record, Value, all_covered, content_extent, is_base, is_of, parts, parts_like}
 use Rattle.volume_format.specs.Plan.{Plan, bad_part, extent_for, listed, name_part, needed, part, planned, planned_records, record_0, record_1, record_10, record_11, record_2, record_24, record_25, record_3, record_4, record_5, record_6, record_7, record_8, record_9, standard_part, stream_part}
 use Rattle.volume_format.proofs.Needed.{needed-covers}
 use Rattle.volume_format.proofs.EachRecord.{EachRecord, at-listed}

@@ -6,9 +6,8 @@ use Rattle.ntfs_def.specs.declared.records.TheConstants.{EXTEND, ROOT}
 use Rattle.ntfs_def.specs.FileName.{name_in}
 use Rattle.ntfs_def.specs.Units.{units_at}
 use Rattle.volume_def.specs.FileNames.{names_among}
-use Rattle.volume_def.specs.Files.{Record, is_base}
+use Rattle.volume_def.specs.Files.{Record, is_base, is_directory}
 use Rattle.volume_def.specs.IndexesClause.{IsDirectoryIndex, MeetsIndexes, MeetsViewIndex, StandsInExtend, hash_rule, id_rule, is_in_extend, word_rule}
-use Rattle.volume_def.specs.ReferencesClause.{is_directory}
 use Rattle.volume_def.specs.View.{VolumeView}
 use Rattle.volume_format.specs.Plan.{Plan, listed, planned}
 use Rattle.volume_format.specs.Planned.{IsPlanned}

@@ -7,9 +7,8 @@ use Rattle.ntfs_def.specs.declared.records.TheConstants.{ROOT}
 use Rattle.ntfs_def.specs.FileName.{FileName, name_in}
 use Rattle.ntfs_def.specs.Record.{Reference}
 use Rattle.volume_def.specs.FileNames.{is_dos, names_of}
-use Rattle.volume_def.specs.Files.{Record, is_base}
+use Rattle.volume_def.specs.Files.{Record, is_base, is_directory}
 use Rattle.volume_def.specs.LinksClause.{HasRightLinks, IsPairedAmong, MeetsLinks}
-use Rattle.volume_def.specs.ReferencesClause.{is_directory}
 use Rattle.volume_format.specs.Plan.{Plan, listed, name_value, planned, planned_records}
 use Rattle.volume_format.proofs.EachRecord.{at-listed}
 use Rattle.volume_format.proofs.Listed.{IfSome-from}

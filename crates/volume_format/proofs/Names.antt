@@ -6,8 +6,7 @@ use Rattle.ntfs_def.specs.declared.records.TheConstants.{EXTEND, ROOT}
 use Rattle.ntfs_def.specs.FileName.{name_in}
 use Rattle.ntfs_def.specs.Record.{Reference}
 use Rattle.volume_def.specs.FileNames.{names_among, names_of}
-use Rattle.volume_def.specs.Files.{Record}
-use Rattle.volume_def.specs.ReferencesClause.{is_directory}
+use Rattle.volume_def.specs.Files.{Record, is_directory}
 use Rattle.volume_format.specs.Plan.{Plan, listed, name_value, planned, planned_records}
 use Rattle.volume_format.proofs.Bases.{parts-listed}
 use Rattle.volume_format.proofs.EachRecord.{EachRecord}

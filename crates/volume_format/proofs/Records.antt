@@ -2,8 +2,7 @@
 use Rattle.std.proofs.Common.{◌≡◌, ℕ, ◌<◌, cond, List, filter, Option, None, inl, inr, sym, ap, ◌∙◌, arith}
 use Rattle.std.proofs.lemmas.Bool.{cases_lt, lt-ltb, le-ltb}
 use Rattle.std.proofs.Math.Path.{fun_ext}
-use Rattle.volume_def.specs.BitmapClauses.{parts_at}
-use Rattle.volume_def.specs.Files.{Record, Records, is_of, parts, record_in, record_on, records_of}
+use Rattle.volume_def.specs.Files.{Record, Records, is_of, parts, parts_at, record_in, record_on, records_of}
 use Rattle.volume_def.specs.View.{VolumeView}
 use Rattle.volume_format.specs.Plan.{Plan, listed, planned, planned_records, record_count}
 use Rattle.volume_format.specs.Planned.{IsPlanned}

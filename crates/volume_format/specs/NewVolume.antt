@@ -4,8 +4,7 @@ use Rattle.std.specs.List.{range_with_len}
 use Rattle.ntfs_def.specs.declared.kinds.TheConstants.{DATA}
 use Rattle.ntfs_def.specs.declared.records.TheConstants.{SECURE}
 use Rattle.ntfs_def.specs.Units.{wide}
-use Rattle.volume_def.specs.BitmapClauses.{parts_at}
-use Rattle.volume_def.specs.Files.{Part, records_of}
+use Rattle.volume_def.specs.Files.{Part, parts_at, records_of}
 use Rattle.volume_def.specs.OwnersClause.{times_owned}
 use Rattle.volume_def.specs.Sound.{Clause, Holds}
 use Rattle.volume_def.specs.Values.{value_on}
