@@ -13,7 +13,7 @@ use Rattle.ntfs_def.specs.Fixup.{opened_of}
 use Rattle.ntfs_def.specs.Record.{Reference}
 use Rattle.volume_def.specs.Members.{IsPart}
 use Rattle.volume_def.specs.Files.{Part, Record, file_of, part_of, parts, record_on, record_of, records_of}
-use Rattle.volume_def.specs.ListsClause.{HasRightList, IsRightList, entry_in, is_list, list_value, listed_parts}
+use Rattle.volume_def.specs.ListsClause.{HasRightList, IsReadableList, IsRightList, entry_in, is_list, list_value, listed_parts}
 use Rattle.volume_def.specs.Readable.{IsFile, IsReadableVolume}
 use Rattle.volume_def.specs.View.{VolumeView}
 use Rattle.volume_def.proofs.FindLaws.{count-none, count-some, find-fails, find-found, find-one}
@@ -21,7 +21,7 @@ use Rattle.volume_def.proofs.MemberLaws.{Contains-cases, Contains-filter, Contai
 use Rattle.volume_def.proofs.PartLaws.{Contains-HoldsPart, IsPart-Contains, NameHolders-view, record_at-inside}
 use Rattle.volume_def.proofs.ReadableLaws.{readable-list}
 use Rattle.volume_def.proofs.SameItemsLaws.{SameItems-passing, SameItems-sym}
-use Rattle.file_record.specs.Numbers.{AddsListed, IsReadableList, named_in}
+use Rattle.file_record.specs.Numbers.{AddsListed, named_in}
 use Rattle.file_record.specs.Records.{IsRecordOf, list_reads, reads_for_list}
 use Rattle.file_record.proofs.RecordLaws.{IsBlockOf-record, IsRecordOf-at, IsRecordOf-inside, record_at-in_use}
 
@@ -100,7 +100,7 @@ module _ (view : VolumeView) (f : ℕ) (readable : IsReadableVolume view) (file 
     list-right = All-contains (λ p. IsTrue (is_list p) → IsRightList view f (parts (records_of view) f) p) _ (part_of f list) right.each (to-base list its-place.0) its-place.1
 
     pub list-readable : IsReadableList view (part_of f list)
-    list-readable = record { placed = list-right.placed; short = list-right.short; shape = list-right.shape }
+    list-readable = list-right.readable
 
     -- it is the list of the file
     pub reads-listed : reads_for_list view f ≡ list_reads view (part_of f list)

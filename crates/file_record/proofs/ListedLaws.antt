@@ -12,11 +12,11 @@ use Rattle.ntfs_def.specs.Attribute.{Attribute, Body, ExtentHeader, NonResident,
 use Rattle.ntfs_def.specs.AttributeList.{HasListShape, list_entries}
 use Rattle.ntfs_def.specs.Runs.{runs_in, spot_of}
 use Rattle.volume_def.specs.Files.{Clusters, Content, Part, Value, content_of, content_extent, part_of, content_runs, content_value}
-use Rattle.volume_def.specs.ListsClause.{LiesOnVolume, list_value}
+use Rattle.volume_def.specs.ListsClause.{IsReadableList, LiesOnVolume, list_value, most_list_len}
 use Rattle.volume_def.specs.Values.{pieces_touched, value_byte}
 use Rattle.volume_def.specs.Table.{cluster_bytes}
 use Rattle.volume_def.specs.View.{VolumeView}
-use Rattle.file_record.specs.Numbers.{AddsListed, AddsNamed, IsReadableList, named_in}
+use Rattle.file_record.specs.Numbers.{AddsListed, AddsNamed, named_in}
 use Rattle.file_record.specs.Records.{list_reads}
 use Rattle.file_record.proofs.ListParts.{length-list_value, list_value-clusters, list_value-resident}
 
@@ -46,7 +46,7 @@ clusters-content (NonResident extent content) sizes text e f =
     (extent, ap (λ t. Clusters extent (runs_in t)) (same_Some content text f), same_Some extent.sizes sizes e)
 
 -- The numbers that a value names, where it is that of the list.
-pub added-by : (view : VolumeView) (list : Attribute) (value old new : List ℕ) → length value ≤ 262144
+pub added-by : (view : VolumeView) (list : Attribute) (value old new : List ℕ) → length value ≤ most_list_len
     → (IsTrue view.told → (n : ℕ) → IsReadableList view (part_of n list) → list_value view (part_of n list) ≡ value)
     → AddsNamed value old new → AddsListed view list old new
 added-by view list value old new short same adds = record {
@@ -70,10 +70,10 @@ pub record IsListOf (view : VolumeView) (part : Part) (sizes : Sizes) (text : Li
   pub runs : List Run
   pub text_is : runs_in text ≡ Some runs
   pub first : sizes.first ≡ 0
-  pub short : sizes.real ≤ 262144
+  pub short : sizes.real ≤ most_list_len
   pub value : list_value view part
       ≡ map (value_byte view.cluster (cluster_bytes view.layout) (spot_of runs) sizes.initialized) (range_with_len 0 sizes.real)
-  pub reads : list_reads view part ≡ pieces_touched 0 (min sizes.real 262144)
+  pub reads : list_reads view part ≡ pieces_touched 0 (min sizes.real most_list_len)
 
 some-is : {X : Type 0} (o : Option X) → IsSome o → (x : X) × (o ≡ Some x)
 some-is None h = cc

@@ -1,10 +1,10 @@
 -- The numbers of the records that are read for a file.
-use Rattle.std.specs.Prelude.{◌≡◌, ℕ, ◌+◌, ◌*◌, ◌<◌, ◌≤◌, ◌==◌, not, List, [], ◌∷◌, ◌++◌, map, length, Contains, IfSome, IsTrue, count_by}
+use Rattle.std.specs.Prelude.{◌≡◌, ℕ, ◌+◌, ◌*◌, ◌<◌, ◌≤◌, ◌==◌, not, List, [], ◌∷◌, ◌++◌, map, length, Contains, IsTrue, count_by}
 use Rattle.ntfs_def.specs.Attribute.{Attribute}
 use Rattle.ntfs_def.specs.AttributeList.{HasListShape, list_entries}
 use Rattle.attr_list.specs.View.{holders_in}
-use Rattle.volume_def.specs.Files.{Part, content_extent, part_of, parts, records_of}
-use Rattle.volume_def.specs.ListsClause.{LiesOnVolume, list_value}
+use Rattle.volume_def.specs.Files.{Part, part_of, parts, records_of}
+use Rattle.volume_def.specs.ListsClause.{IsReadableList, list_value}
 use Rattle.volume_def.specs.View.{VolumeView}
 use Rattle.file_record.specs.Records.{IsRecordOf, records_of_file}
 
@@ -31,13 +31,9 @@ pub record AreNumbers (view : VolumeView) (f : ℕ) (numbers : List ℕ) : Type 
   pub holders : (part : Part) → Contains (parts (records_of view) f) part → Contains numbers part.holder
   pub few : count_by (λ n. not (n == f)) numbers + 1 ≤ records_of_file view f
 
--- A list whose value can be read: where it lies in clusters, it lies whole on the volume.
-pub record IsReadableList (view : VolumeView) (part : Part) : Type 0 where
-  pub placed : IfSome (content_extent part.content) (LiesOnVolume view part)
-  pub short : length (list_value view part) ≤ 262144
-  pub shape : HasListShape (list_value view part) (length (list_entries (list_value view part)))
-
--- The numbers that a list names come behind the old ones, wherever the list stands.
+-- The numbers that a list names come behind the old ones, wherever the list stands. They are 10,082 at most, since an entry
+-- has 26 of 262,144 bytes. So a file is read in 10,083 records at most, its base record too, and by 20,678 reads: two for each
+-- of these, 20,676 without the base record, and 512 for the list.
 pub record AddsListed (view : VolumeView) (list : Attribute) (old new : List ℕ) : Type 0 where
   pub named : List ℕ
   pub added : new ≡ old ++ named

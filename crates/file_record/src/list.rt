@@ -5,6 +5,7 @@ ghost use Rattle.std.specs.Option.{option_map};
 ghost use Rattle.ntfs_def.specs.declared.kinds.TheConstants.{ATTRIBUTE_LIST};
 ghost use Rattle.ntfs_def.specs.declared.run_text.Run.{Run};
 ghost use Rattle.ntfs_def.specs.Runs.{runs_in, spot_of};
+ghost use Rattle.volume_def.specs.ListsClause.{most_list_len};
 ghost use Rattle.volume_def.specs.Values.{pieces_touched, value_byte};
 ghost use Rattle.volume_def.specs.Table.{cluster_bytes};
 ghost use Rattle.attr_view.specs.View.{attribute_of, attributes_of};
@@ -44,7 +45,7 @@ fn read_value<D: Disk>(
     into: &mut [u8],
 ) -> Result<(), FileNo>
     requires zeros { into.old ≡ replicate (length into.old) 0 }
-    requires short { length into.old ≤ 262144 }
+    requires short { length into.old ≤ most_list_len }
     ensures value { OnOk result (IsTrue (view D.Disk mft.old).told → into.new ≡ map (value_byte (view D.Disk mft.old).cluster
         (cluster_bytes (view D.Disk mft.old).layout) (spot_of runs.now) initialized) (range_with_len 0 (length into.old))) }
     ensures err { IfErr result IsReadNo }
@@ -68,14 +69,14 @@ pub fn read_list<D: Disk>(
     text: &[u8],
 ) -> Result<Vec<u8>, FileNo>
     ensures value { IfOk result (λ value. IsTrue (view D.Disk mft.old).told → (runs : List Run) → runs_in text.now ≡ Some runs
-        → sizes.now.first ≡ 0 → sizes.now.real ≤ 262144
+        → sizes.now.first ≡ 0 → sizes.now.real ≤ most_list_len
         → value.items ≡ map (value_byte (view D.Disk mft.old).cluster (cluster_bytes (view D.Disk mft.old).layout) (spot_of runs)
         sizes.now.initialized) (range_with_len 0 sizes.now.real)) }
-    ensures short { IfOk result (λ value. length value.items ≤ 262144) }
+    ensures short { IfOk result (λ value. length value.items ≤ most_list_len) }
     ensures err { IfErr result IsReadNo }
     ensures faults { MatchResult result (λ _. faults_of D.Disk mft.new ≡ faults_of D.Disk mft.old)
         (CountsNo (faults_of D.Disk mft.old) (faults_of D.Disk mft.new)) }
-    ensures reads { MftReads D.Disk mft.old mft.new (pieces_touched 0 (min sizes.now.real 262144)) }
+    ensures reads { MftReads D.Disk mft.old mft.new (pieces_touched 0 (min sizes.now.real most_list_len)) }
 {
     if sizes.real > MOST_BYTES || sizes.first != 0 {
         return Ok(Vec::new(alloc));

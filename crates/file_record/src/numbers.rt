@@ -4,10 +4,11 @@ ghost use Rattle.std.specs.List.Sorted.{IsStrictlyIncreasing};
 ghost use Rattle.ntfs_def.specs.Fixup.{opened_of};
 ghost use Rattle.volume_def.specs.Readable.{IsFile, WhereReadable};
 ghost use Rattle.volume_def.specs.Files.{part_of};
+ghost use Rattle.volume_def.specs.ListsClause.{IsReadableList};
 ghost use Rattle.attr_view.specs.View.{attribute_of, viewed_block};
 ghost use Rattle.mft_table.specs.Mft.{MftReads, faults_of, view};
 ghost use Rattle.file_record.specs.FileNos.{CountsNo, IsReadNo};
-ghost use Rattle.file_record.specs.Numbers.{AddsListed, AreNumbers, IsReadableList};
+ghost use Rattle.file_record.specs.Numbers.{AddsListed, AreNumbers};
 ghost use Rattle.file_record.specs.Records.{IsRecordOf, list_reads, reads_for_list};
 
 use crate::FileNo;

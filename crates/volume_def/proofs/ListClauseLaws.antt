@@ -111,9 +111,7 @@ HasList-write view f entries h stores =
           record {
             home = All-contains (λ part. IsTrue (is_list part) → part.holder ≡ f) all part h.home c t;
             plain = stored.plain;
-            placed = stored.placed;
-            short = stored.short;
-            shape = stored.shape;
+            readable = stored.readable;
             each_once = subst (SameItems (entries_in (records_of view) all)) (sym stored.named) h.names;
           });
       alone = λ none. absurd (let one = h.one in omega arith);

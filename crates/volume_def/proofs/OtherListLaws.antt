@@ -9,7 +9,7 @@ use Rattle.volume_def.specs.Edits.{EditsAt, MovesPart}
 use Rattle.volume_def.specs.Members.{FreesEmpty, TakesEmpty}
 use Rattle.volume_def.specs.Files.{Part, Record, Records, part_clusters, content_extent, file_of, parts, part_runs, records_of}
 use Rattle.volume_def.specs.KeptList.{KeepsList}
-use Rattle.volume_def.specs.ListsClause.{HasRightList, IsAlone, IsRightList, LiesOnVolume, entries_in, is_list, list_value}
+use Rattle.volume_def.specs.ListsClause.{HasRightList, IsAlone, IsRightList, LiesOnVolume, entries_in, is_list, list_value, most_list_len}
 use Rattle.volume_def.specs.SameItems.{SameItems}
 use Rattle.volume_def.specs.Values.{KeepsClusters, value_of_parts}
 use Rattle.volume_def.specs.Table.{IsOnVolume, TableLayout, cluster_bytes}
@@ -47,9 +47,11 @@ list-kept old new f all part layout kept entries r =
     record {
       home = r.home;
       plain = r.plain;
-      placed = if_placed old new part (content_extent part.content) layout r.placed;
-      short = subst (λ bytes. length bytes ≤ 262144) value r.short;
-      shape = subst (λ bytes. HasListShape bytes (length (list_entries bytes))) value r.shape;
+      readable = record {
+        placed = if_placed old new part (content_extent part.content) layout r.readable.placed;
+        short = subst (λ bytes. length bytes ≤ most_list_len) value r.readable.short;
+        shape = subst (λ bytes. HasListShape bytes (length (list_entries bytes))) value r.readable.shape;
+      };
       each_once = subst (λ xs. SameItems xs (list_entries (list_value new part))) (sym entries)
           (subst (λ bytes. SameItems (entries_in (records_of old) all) (list_entries bytes)) value r.each_once);
     }

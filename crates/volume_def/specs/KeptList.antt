@@ -1,9 +1,9 @@
 -- The list of a file while an edit is under way: the entries that it has to have, whatever its stored value says so far.
-use Rattle.std.specs.Prelude.{◌≡◌, ℕ, ◌≤◌, false, List, [], ◌∷◌, length, All, count_by, IfSome, IsTrue}
-use Rattle.ntfs_def.specs.AttributeList.{HasListShape, ListEntry, list_entries}
+use Rattle.std.specs.Prelude.{◌≡◌, ℕ, false, List, [], ◌∷◌, All, count_by, IsTrue}
+use Rattle.ntfs_def.specs.AttributeList.{ListEntry, list_entries}
 use Rattle.ntfs_def.specs.Flags.{is_packed}
-use Rattle.volume_def.specs.Files.{Part, Records, content_extent, parts}
-use Rattle.volume_def.specs.ListsClause.{LiesOnVolume, entries_in, is_list, list_value}
+use Rattle.volume_def.specs.Files.{Part, Records, parts}
+use Rattle.volume_def.specs.ListsClause.{IsReadableList, entries_in, is_list, list_value}
 use Rattle.volume_def.specs.SameItems.{SameItems}
 use Rattle.volume_def.specs.Values.{KeepsClusters}
 use Rattle.volume_def.specs.View.{VolumeView}
@@ -17,9 +17,7 @@ pub record HasList (records : Records) (f : ℕ) (entries : List ListEntry) : Ty
 -- The part is a list whose value has these entries, in the form that the clause on lists asks for.
 pub record StoresList (view : VolumeView) (part : Part) (entries : List ListEntry) : Type 0 where
   pub plain : is_packed part.kind part.flags ≡ false
-  pub placed : IfSome (content_extent part.content) (LiesOnVolume view part)
-  pub short : length (list_value view part) ≤ 262144
-  pub shape : HasListShape (list_value view part) (length (list_entries (list_value view part)))
+  pub readable : IsReadableList view part
   pub named : list_entries (list_value view part) ≡ entries
 
 -- The clusters of the list of file f hold what they held.

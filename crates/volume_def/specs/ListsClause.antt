@@ -47,14 +47,22 @@ pub record LiesOnVolume (view : VolumeView) (part : Part) (extent : ExtentHeader
 abbrev pub list_value : VolumeView → Part → List ℕ
 list_value view part = value_on view (part ∷ [])
 
+-- the most bytes that a list may have
+abbrev pub most_list_len : ℕ
+most_list_len = 262144
+
+-- A list whose value can be read: where it lies in clusters, it lies whole on the volume.
+pub record IsReadableList (view : VolumeView) (part : Part) : Type 0 where
+  pub placed : IfSome (content_extent part.content) (LiesOnVolume view part)
+  pub short : length (list_value view part) ≤ most_list_len
+  pub shape : HasListShape (list_value view part) (length (list_entries (list_value view part)))
+
 -- What is asked of the list of file f, which has the parts `all`: it stands in the base record, and names each other part
 -- once, and nothing else.
 pub record IsRightList (view : VolumeView) (f : ℕ) (all : List Part) (part : Part) : Type 0 where
   pub home : part.holder ≡ f
   pub plain : is_packed part.kind part.flags ≡ false
-  pub placed : IfSome (content_extent part.content) (LiesOnVolume view part)
-  pub short : length (list_value view part) ≤ 262144
-  pub shape : HasListShape (list_value view part) (length (list_entries (list_value view part)))
+  pub readable : IsReadableList view part
   pub each_once : SameItems (entries_in (records_of view) all) (list_entries (list_value view part))
 
 -- No record but f itself belongs to file f.
