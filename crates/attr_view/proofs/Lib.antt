@@ -1,3 +1,4 @@
+pub mod OneShape
 pub mod LeftLaws
 pub mod InsertLaws
 pub mod HeaderLaws

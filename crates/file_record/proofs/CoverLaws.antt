@@ -18,12 +18,12 @@ use Rattle.volume_def.specs.Readable.{IsFile, IsReadableVolume}
 use Rattle.volume_def.specs.View.{VolumeView}
 use Rattle.volume_def.proofs.FindLaws.{count-none, count-some, find-fails, find-found, find-one}
 use Rattle.volume_def.proofs.MemberLaws.{Contains-cases, Contains-filter, Contains-from_filter, Contains-from_map, Contains-head, Contains-later, Contains-map, Contains-only}
-use Rattle.volume_def.proofs.PartLaws.{Contains-HoldsPart, IsPart-Contains, NameHolders-view, record_at-inside}
+use Rattle.volume_def.proofs.PartLaws.{Contains-HoldsPart, IsPart-Contains, NameHolders-view}
 use Rattle.volume_def.proofs.ReadableLaws.{readable-list}
 use Rattle.volume_def.proofs.SameItemsLaws.{SameItems-passing, SameItems-sym}
 use Rattle.file_record.specs.Numbers.{AddsListed, named_in}
 use Rattle.file_record.specs.Records.{IsRecordOf, list_reads, reads_for_list}
-use Rattle.file_record.proofs.RecordLaws.{IsBlockOf-record, IsRecordOf-at, IsRecordOf-inside, record_at-in_use}
+use Rattle.file_record.proofs.RecordLaws.{IsBlockOf-record, IsRecordOf-at, IsRecordOf-inside, record_at-in_use, record_at-inside}
 
 -- These records are of the file, and have all of its parts.
 pub record Covers (view : VolumeView) (f : ℕ) (numbers : List ℕ) : Type 0 where

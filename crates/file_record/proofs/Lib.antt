@@ -1,4 +1,5 @@
 pub mod HeldLaws
+pub mod OpenedRecords
 pub mod RecordLaws
 pub mod NamedLaws
 pub mod ListValues

@@ -8,18 +8,25 @@ use Rattle.ntfs_def.specs.Fixup.{IsSealed, opened_of}
 use Rattle.ntfs_def.specs.Record.{Reference, is_in_use}
 use Rattle.ntfs_def.specs.Shape.{HasShape}
 use Rattle.ntfs_def.proofs.FixupLaws.{length-opened_of}
-use Rattle.ntfs_def.proofs.OpenedRecords.{is_in_use-opened_of}
 use Rattle.ntfs_def.proofs.ShapeLaws.{header_failing-length}
 use Rattle.volume_def.specs.Files.{Record, file_of, is_base, record_on, record_in, record_of}
-use Rattle.volume_def.proofs.PartLaws.{record_at-block, record_at-inside}
+use Rattle.volume_def.proofs.PartLaws.{record_at-block}
 use Rattle.volume_def.specs.Readable.{IsFile, IsReadableVolume}
 use Rattle.volume_def.specs.View.{VolumeView}
+use Rattle.file_record.proofs.OpenedRecords.{is_in_use-opened_of}
 use Rattle.file_record.specs.Records.{IsBlockOf, IsRecordOf}
 
 -- a block of a record's shape is in use where the opened one is
 in_use-opened : (stored : List ℕ) (count : ℕ) → HasShape (opened_of stored) count → is_in_use (opened_of stored) ≡ is_in_use stored
 in_use-opened stored count shape =
     is_in_use-opened_of stored (omega (arith, header_failing-length (opened_of stored) shape.header, length-opened_of stored))
+
+-- a record that is in use lies in the table
+pub record_at-inside : (view : VolumeView) (n : ℕ) (r : Record) → record_on view n ≡ Some r → n < view.layout.count
+record_at-inside view n r e = elim (cases_Bool (ltb n view.layout.count)) [
+  | inl t ↦ ltb-true _ _ t
+  | inr f ↦ let s : None ≡ Some r = sym (ap (λ b. cond b (record_in n (view.block n)) None) f) ∙ e in cc
+]
 
 record_in-used : (n : ℕ) (stored : List ℕ) → IsTrue (is_in_use stored) → record_in n stored ≡ Some (record_of n (opened_of stored))
 unfolding record_in

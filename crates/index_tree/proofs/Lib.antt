@@ -1,3 +1,4 @@
+pub mod OwnEntries
 mod IndexTreeLaws
 pub mod Rising
 pub mod RisingOrders

@@ -6,6 +6,7 @@ pub mod BootSectors
 pub mod NoTable
 pub mod TableLaws
 pub mod FoundLaws
+pub mod ClusterBytes
 pub mod StreamBytes
 pub mod StreamRuns
 pub mod StreamReads

@@ -9,7 +9,7 @@ use borrow.Rule.Slice.PartMut.{mid_of, put_mid}
 use Rattle.vol_disk.specs.Contents.{IsTold, sector_in}
 use Rattle.ntfs_def.specs.declared.run_text.Spot.{Spot}
 use Rattle.volume_def.specs.Values.{stored_byte, stored_bytes}
-use Rattle.volume_def.proofs.ClusterBytes.{AreSectors}
+use Rattle.mft_table.proofs.ClusterBytes.{AreSectors}
 use Rattle.mft_table.specs.Streams.{image_byte, image_bytes}
 
 -- Lists of bytes by a rule.

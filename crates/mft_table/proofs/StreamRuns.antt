@@ -12,8 +12,8 @@ use Rattle.data_runs.proofs.LeftLaws.{spot_of-behind, spot_of-left}
 use Rattle.volume_def.specs.Blocks.{cluster_of}
 use Rattle.volume_def.specs.Values.{byte_there, stored_byte, stored_bytes}
 use Rattle.volume_def.specs.Table.{TableLayout, cluster_bytes}
-use Rattle.volume_def.proofs.ClusterBytes.{AreSectors, cluster_byte}
 use Rattle.mft_table.specs.Streams.{image_byte, image_bytes, spot_on}
+use Rattle.mft_table.proofs.ClusterBytes.{AreSectors, cluster_byte}
 use Rattle.mft_table.proofs.StreamBytes.{bytes-same, bytes-zero}
 
 -- a byte of a run that is placed, by the sector that has it

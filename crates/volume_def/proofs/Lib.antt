@@ -11,7 +11,6 @@ pub mod Codes
 pub mod RecordLaws
 pub mod PartLaws
 pub mod EntryLaws
-pub mod ClusterBytes
 pub mod RunPieces
 pub mod ExtentLaws
 pub mod SpanLaws

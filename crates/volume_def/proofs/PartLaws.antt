@@ -1,6 +1,6 @@
 -- The parts of a file are what the records of the file hold.
 use Rattle.std.proofs.Common.{◌≡◌, ◌<◌, ℕ, cond, List, Option, Some, None, ltb, refl, sym, ap, subst, inl, inr, ◌∙◌, arith}
-use Rattle.std.proofs.lemmas.Bool.{cases_Bool, cases_eq, ltb-true}
+use Rattle.std.proofs.lemmas.Bool.{cases_Bool, cases_eq}
 use Rattle.std.proofs.lemmas.List.Elements.{All-contains, All-map}
 use Rattle.std.specs.List.{All, Contains, range_with_len}
 use Rattle.ntfs_def.specs.Attribute.{attributes}
@@ -56,13 +56,7 @@ made_of n stored r e = elim (cases_Bool (is_in_use stored)) [
   | inr f ↦ let s : None ≡ Some r = sym (ap (λ b. cond b (Some (record_of n (opened_of stored))) None) f) ∙ e in cc
 ]
 
--- a record that is in use lies in the table, and is what its block means
-pub record_at-inside : (view : VolumeView) (n : ℕ) (r : Record) → record_on view n ≡ Some r → n < view.layout.count
-record_at-inside view n r e = elim (cases_Bool (ltb n view.layout.count)) [
-  | inl t ↦ ltb-true _ _ t
-  | inr f ↦ let s : None ≡ Some r = sym (ap (λ b. cond b (record_in n (view.block n)) None) f) ∙ e in cc
-]
-
+-- a record that is in use is what its block means
 pub record_at-block : (view : VolumeView) (n : ℕ) (r : Record) → record_on view n ≡ Some r → record_of n (opened_of (view.block n)) ≡ r
 record_at-block view n r e = elim (cases_Bool (ltb n view.layout.count)) [
   | inl t ↦ made_of n (view.block n) r (sym (ap (λ b. cond b (record_in n (view.block n)) None) t) ∙ e)

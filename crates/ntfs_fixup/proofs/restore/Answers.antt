@@ -1,5 +1,5 @@
 use Rattle.std.proofs.Common.{ℕ, ◌<◌, length, arith}
-use Rattle.ntfs_def.proofs.FixupLaws.{opened_of-exact}
+use Rattle.ntfs_fixup.proofs.OpenedLaws.{opened_of-exact}
 use Rattle.ntfs_fixup.proofs.restore.Goals as goal
 
 pub returns : goal.returns

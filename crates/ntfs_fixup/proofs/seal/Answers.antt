@@ -1,7 +1,7 @@
 use Rattle.std.proofs.Common.{ap, ◌∙◌}
 use Rattle.vol_bytes.specs.Field.{u16_at}
 use Rattle.ntfs_def.specs.Fixup.{next_number}
-use Rattle.ntfs_def.proofs.BareLaws.{bare_of-sealed}
+use Rattle.ntfs_fixup.proofs.BareEdits.{bare_of-sealed}
 use Rattle.ntfs_fixup.proofs.SealLaws.{Seals-marked}
 use Rattle.ntfs_fixup.proofs.seal.Goals as goal
 

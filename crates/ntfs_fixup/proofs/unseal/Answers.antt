@@ -1,4 +1,4 @@
-use Rattle.ntfs_def.proofs.FixupLaws.{HasArray-opens}
+use Rattle.ntfs_fixup.proofs.OpenedLaws.{HasArray-opens}
 use Rattle.ntfs_fixup.proofs.unseal.Goals as goal
 
 pub returns-clause-array : goal.returns-clause-array

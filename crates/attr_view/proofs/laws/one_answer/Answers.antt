@@ -1,6 +1,7 @@
 use Rattle.std.proofs.Common.{◌≡◌, ℕ, List, ap}
 use Rattle.ntfs_def.proofs.AttributeLaws.{length-attributes, slice_get-attributes}
-use Rattle.ntfs_def.proofs.ShapeLaws.{HasShape-exact, FailsAt-exact, HasShape-FailsAt}
+use Rattle.ntfs_def.proofs.ShapeLaws.{HasShape-FailsAt}
+use Rattle.attr_view.proofs.OneShape.{FailsAt-exact, HasShape-exact}
 use Rattle.attr_view.specs.declared.ViewNo.{ViewNo}
 use Rattle.attr_view.specs.declared.ViewNo.TheVariants.{Full, Shape}
 use Rattle.ntfs_def.specs.Shape.{HasShape}

@@ -1,8 +1,8 @@
 use Rattle.std.proofs.Common.{[], None, ap, sym, ◌∙◌, subst}
 use Rattle.std.specs.Prelude.{IsTrue}
 use Rattle.ntfs_def.specs.Node.{Item, Entry, IsOwnEntry, item_in}
-use Rattle.index_node.proofs.NodeLaws.{one_own}
 use Rattle.index_node.specs.View.{form_of_view}
+use Rattle.index_tree.proofs.OwnEntries.{one_own}
 use Rattle.index_tree.proofs.seek.or_entry.Goals as goal
 
 bare : Entry

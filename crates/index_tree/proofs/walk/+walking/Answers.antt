@@ -2,7 +2,7 @@ use Rattle.std.proofs.Common.{◌≡◌, ◌-◌, ◌<◌, ◌∷◌, [], length
 use Rattle.ntfs_def.specs.Node.{IsOwnEntry, Node, child_from}
 use Rattle.ntfs_def.specs.IndexTree.{Each}
 use Rattle.index_tree.proofs.IndexTreeLaws.{Each-++}
-use Rattle.index_node.proofs.NodeLaws.{one_own}
+use Rattle.index_tree.proofs.OwnEntries.{one_own}
 use Rattle.index_node.specs.View.{form_of_view, node_of_view}
 use Rattle.index_tree.specs.Search.{nodes_of}
 use Rattle.index_tree.specs.Walk.{CostsNode, CostsTree, HasSpread, HasTree, WalksNode, WalksTree}

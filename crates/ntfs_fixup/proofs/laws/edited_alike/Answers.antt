@@ -1,4 +1,4 @@
-use Rattle.ntfs_def.proofs.BareLaws.{HasArray-edit, bare_of-edit}
+use Rattle.ntfs_fixup.proofs.BareEdits.{HasArray-edit, bare_of-edit}
 use Rattle.ntfs_fixup.proofs.laws.edited_alike.Goals as goal
 
 pub returns-clause-array : goal.returns-clause-array

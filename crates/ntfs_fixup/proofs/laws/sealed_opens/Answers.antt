@@ -1,7 +1,7 @@
 use Rattle.std.proofs.Common.{ap, ◌∙◌}
 use Rattle.ntfs_def.specs.Fixup.{bare_of, sequence_number}
-use Rattle.ntfs_def.proofs.BareLaws.{bare_of-sealed}
 use Rattle.ntfs_def.proofs.FixupLaws.{HasArray-opened_of, sequence_number-opened_of}
+use Rattle.ntfs_fixup.proofs.BareEdits.{bare_of-sealed}
 use Rattle.ntfs_fixup.proofs.laws.sealed_opens.Goals as goal
 
 pub returns-clause-bare : goal.returns-clause-bare
