@@ -8,9 +8,9 @@ ghost use Rattle.ntfs_boot.specs.Geometry.{FitsDisk, HasClusterSize, geometry_of
 #[cfg(test)]
 mod tests;
 
-use ntfs_def::lengths::SECTOR;
 use thiserror::Error;
 use vol_bytes::{u16_at, u64_at};
+use vol_disk::SECTOR;
 
 /// What a boot sector says of its volume.
 #[derive(Clone, Copy, Debug, PartialEq, Eq)]

@@ -3,9 +3,6 @@
 //! Source: Linux-NTFS documentation, file $Boot; Carrier, File System Forensic Analysis, chapter 13, the
 //! data structure of the boot sector, which spells them.
 
-/// A sector of the volume.
-pub const SECTOR: usize = 512;
-
 /// A file record.
 pub const RECORD: usize = 1024;
 

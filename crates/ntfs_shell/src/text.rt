@@ -7,7 +7,8 @@ use crate::refusal::Refusal;
 use arrayvec::ArrayVec;
 use byteorder::{BigEndian, ByteOrder};
 use ntfs_boot::Geometry;
-use ntfs_def::lengths::{INDEX_RECORD, RECORD, SECTOR};
+use ntfs_def::lengths::{INDEX_RECORD, RECORD};
+use vol_disk::SECTOR;
 
 /// The lines of one answer.
 pub type Text = ArrayVec<u8, 256>;
