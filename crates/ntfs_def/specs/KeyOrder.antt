@@ -16,8 +16,8 @@ abbrev pub fold_of : List ℕ → ℕ → ℕ
 fold_of table unit = u16_at table (2 * unit)
 
 -- the bytes of a table of case
-abbrev pub table_len : ℕ
-table_len = 131072
+abbrev pub case_table_len : ℕ
+case_table_len = 131072
 
 -- lists of numbers by their first difference, a proper prefix first
 abbrev pub by_numbers : List ℕ → List ℕ → Ordering

@@ -1,6 +1,6 @@
 //! The table: how it is made, and how units and names are compared by it.
 ghost use Rattle.std.specs.Prelude.{◌≡◌, ◌↔◌, ℕ, List, IfOk, IfErr, IsTrue, length, map};
-ghost use Rattle.ntfs_def.specs.KeyOrder.{by_numbers, compare_units, fold_of, table_len};
+ghost use Rattle.ntfs_def.specs.KeyOrder.{by_numbers, case_table_len, compare_units, fold_of};
 ghost use Rattle.upcase.specs.Case.{Refuses};
 
 use crate::UpCaseNo;
@@ -24,7 +24,7 @@ impl Model for UpCase {
 
     ghost view = { λ table. table.bytes.value.items };
 
-    ghost invariant = { λ table. length table.bytes.value.items ≡ table_len };
+    ghost invariant = { λ table. length table.bytes.value.items ≡ case_table_len };
 }
 
 impl UpCase {
@@ -35,7 +35,7 @@ impl UpCase {
     /// `Length` exactly where there are not 131,072 bytes, and `Memory`.
     pub fn load(alloc: Global, bytes: &[u8]) -> Result<UpCase, UpCaseNo>
         ensures ok { IfOk result (λ table. table ≡ bytes.now) }
-        ensures length { IfOk result (λ table. length bytes.now ≡ table_len) }
+        ensures length { IfOk result (λ table. length bytes.now ≡ case_table_len) }
         ensures err { IfErr result (Refuses bytes.now) }
     {
         if bytes.len() != LENGTH {

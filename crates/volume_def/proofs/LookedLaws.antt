@@ -13,7 +13,7 @@ use Rattle.ntfs_def.specs.Boot.{mft_cluster}
 use Rattle.ntfs_def.specs.FileName.{is_name_key}
 use Rattle.ntfs_def.specs.Fixup.{IsSealed, opened_of}
 use Rattle.ntfs_def.specs.IndexTree.{HoldsIndex}
-use Rattle.ntfs_def.specs.KeyOrder.{fold_of, name_order, table_len}
+use Rattle.ntfs_def.specs.KeyOrder.{case_table_len, fold_of, name_order}
 use Rattle.ntfs_def.specs.Node.{Item, own_vcn, short_node}
 use Rattle.ntfs_def.specs.Runs.{total_clusters}
 use Rattle.ntfs_def.specs.Units.{wide}
@@ -109,7 +109,7 @@ module _ (view : VolumeView) (copy cluster rest : ℕ → List ℕ)
   case_table-kept : (n : ℕ) → MeetsCaseTable view n → MeetsCaseTable other n
   case_table-kept n meets is =
       let h = meets is in
-      record { plain = h.plain; whole = subst (λ value. length value ≡ table_len) case_value h.whole }
+      record { plain = h.plain; whole = subst (λ value. length value ≡ case_table_len) case_value h.whole }
 
   mirror_place-kept : (n : ℕ) → MeetsMirrorPlace view n → MeetsMirrorPlace other n
   mirror_place-kept n meets is = let h = meets is in record { plain = h.plain; extent = h.extent; placed = h.placed }

@@ -3,7 +3,7 @@
 use Rattle.std.specs.Prelude.{◌≡◌, ℕ, List, [], length}
 use Rattle.ntfs_def.specs.declared.kinds.TheConstants.{DATA}
 use Rattle.ntfs_def.specs.declared.records.TheConstants.{UPCASE}
-use Rattle.ntfs_def.specs.KeyOrder.{fold_of, table_len}
+use Rattle.ntfs_def.specs.KeyOrder.{case_table_len, fold_of}
 use Rattle.volume_def.specs.Files.{Part, parts_at}
 use Rattle.volume_def.specs.Values.{IsPlain, value_on}
 use Rattle.volume_def.specs.View.{VolumeView}
@@ -18,7 +18,7 @@ volume_fold view = fold_of (value_on view (case_parts view))
 
 pub record HasCaseTable (view : VolumeView) : Type 0 where
   pub plain : IsPlain (case_parts view)
-  pub whole : length (value_on view (case_parts view)) ≡ table_len
+  pub whole : length (value_on view (case_parts view)) ≡ case_table_len
 
 abbrev pub MeetsCaseTable : VolumeView → ℕ → Type 0
 MeetsCaseTable view n = n ≡ UPCASE → HasCaseTable view

@@ -4,6 +4,7 @@
 use Rattle.std.specs.Prelude.{ℕ, ◌+◌, ◌-◌, ◌*◌, ◌/◌, ◌==◌, ◌||◌, nat_lt, Bool, List, [], ◌∷◌, ◌++◌, codes, length, replicate, slice_get, Option, Some, None, option_and_then}
 use Rattle.ntfs_def.specs.declared.kinds.TheConstants.{BITMAP, DATA, FILE_NAME, INDEX_ALLOCATION, INDEX_ROOT, STANDARD_INFORMATION, VOLUME_INFORMATION, VOLUME_NAME}
 use Rattle.ntfs_def.specs.Attribute.{ExtentHeader}
+use Rattle.ntfs_def.specs.KeyOrder.{case_table_len}
 use Rattle.ntfs_def.specs.Units.{wide}
 use Rattle.volume_def.specs.ExtentsClause.{bad_name, last_vcn_of}
 use Rattle.volume_def.specs.Files.{Clusters, Content, Part, Record, Records, Value}
@@ -42,7 +43,7 @@ abbrev pub bits_len : Plan → ℕ
 bits_len p = (p.clusters + 63) / 64 * 8
 
 abbrev pub case_len : ℕ
-case_len = 131072
+case_len = case_table_len
 
 -- a block of 262,144 bytes, and behind it the copy of its only entry
 abbrev pub security_len : ℕ
