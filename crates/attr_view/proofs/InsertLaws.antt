@@ -6,7 +6,7 @@ use Rattle.std.proofs.lemmas.List.Edits.{length-insert}
 use Rattle.vol_bytes.proofs.FieldLaws.{u16_at-same, u32_at-same, u64_at-same}
 use Rattle.ntfs_def.specs.Record.{base_in, header_of, is_in_use, record_flags, used_size}
 use Rattle.ntfs_def.specs.Attribute.{Attribute, attribute_at, attribute_len, attribute_place, attributes}
-use Rattle.ntfs_def.specs.Moved.{Moved}
+use Rattle.ntfs_def.specs.Moved.{IsMoved}
 use Rattle.ntfs_def.specs.Shape.{HasShape, IsOneAttribute}
 use Rattle.ntfs_def.specs.Splice.{IsGiven, IsSpliced}
 use Rattle.ntfs_def.proofs.AttributeLaws.{length-attributes}
@@ -26,7 +26,7 @@ module _ (old new attr : List ℕ) (count i : ℕ) (shape : HasShape old count) 
   low = (attribute_place-bounded old count i shape within).low
 
   -- the bytes of the attribute stand in the record
-  moved : Moved attr new 0 (attribute_place old i) (attribute_len attr 0)
+  moved : IsMoved attr new 0 (attribute_place old i) (attribute_len attr 0)
   moved =
       let end = (attribute_place-bounded old count i shape within).high in
       record {

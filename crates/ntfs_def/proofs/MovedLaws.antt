@@ -6,31 +6,31 @@ use Rattle.std.specs.Prelude.{slice_range}
 use Rattle.vol_bytes.specs.Field.{u16_at, u32_at, u64_at}
 use Rattle.ntfs_def.specs.Attribute.{Attribute, Body, ExtentHeader, Resident, NonResident, attribute_at, attribute_kind, attribute_len, attribute_flags, body_at, compressed_len, extent_at, sizes_at, is_resident, is_compressed_or_sparse, name_bytes, name_offset, name_units, name_end, content_bytes, content_offset, content_end, header_len, first_vcn, has_compressed_len, bytes_between}
 use Rattle.ntfs_def.specs.declared.sizes.Sizes.{Sizes}
-use Rattle.ntfs_def.specs.Moved.{Moved}
+use Rattle.ntfs_def.specs.Moved.{IsMoved}
 use Rattle.ntfs_def.specs.Shape.{IsWhole}
 
-u16_at-moved : (a b : List ℕ) (from to len i j : ℕ) → Moved a b from to len → from ≤ i → i + 2 ≤ from + len → j + from ≡ i + to
+u16_at-moved : (a b : List ℕ) (from to len i j : ℕ) → IsMoved a b from to len → from ≤ i → i + 2 ≤ from + len → j + from ≡ i + to
     → u16_at b j ≡ u16_at a i
 u16_at-moved a b from to len i j m low high e =
     let x = m.same i j low (omega arith) e in
     let y = m.same (i + 1) (j + 1) (omega arith) (omega arith) (omega arith) in
     omega arith
 
-pub u32_at-moved : (a b : List ℕ) (from to len i j : ℕ) → Moved a b from to len → from ≤ i → i + 4 ≤ from + len → j + from ≡ i + to
+pub u32_at-moved : (a b : List ℕ) (from to len i j : ℕ) → IsMoved a b from to len → from ≤ i → i + 4 ≤ from + len → j + from ≡ i + to
     → u32_at b j ≡ u32_at a i
 u32_at-moved a b from to len i j m low high e =
     let x = u16_at-moved a b from to len i j m low (omega arith) e in
     let y = u16_at-moved a b from to len (i + 2) (j + 2) m (omega arith) (omega arith) (omega arith) in
     omega arith
 
-u64_at-moved : (a b : List ℕ) (from to len i j : ℕ) → Moved a b from to len → from ≤ i → i + 8 ≤ from + len → j + from ≡ i + to
+u64_at-moved : (a b : List ℕ) (from to len i j : ℕ) → IsMoved a b from to len → from ≤ i → i + 8 ≤ from + len → j + from ≡ i + to
     → u64_at b j ≡ u64_at a i
 u64_at-moved a b from to len i j m low high e =
     let x = u32_at-moved a b from to len i j m low (omega arith) e in
     let y = u32_at-moved a b from to len (i + 4) (j + 4) m (omega arith) (omega arith) (omega arith) in
     omega arith
 
-slice_range-moved : (a b : List ℕ) (from to len i j n : ℕ) → Moved a b from to len → from ≤ i → i + n ≤ from + len → j + from ≡ i + to
+slice_range-moved : (a b : List ℕ) (from to len i j n : ℕ) → IsMoved a b from to len → from ≤ i → i + n ≤ from + len → j + from ≡ i + to
     → slice_range b j (j + n) ≡ slice_range a i (i + n)
 slice_range-moved a b from to len i j n m low high e =
     same_number_lists _ _ (omega (arith, long_b, long_a)) (λ k lt. byte k (omega (arith, long_b)))
@@ -47,7 +47,7 @@ slice_range-moved a b from to len i j n m low high e =
         ∙ m.same (i + k) (j + k) (omega arith) (omega arith) (omega arith)
         ∙ sym (get_or-take (i + n - i) (drop i a) k 0 (omega arith) ∙ get_or-drop i a k 0)
 
-range-moved : (a b : List ℕ) (from to len i e j f n : ℕ) → Moved a b from to len → from ≤ i → i + n ≤ from + len → j + from ≡ i + to
+range-moved : (a b : List ℕ) (from to len i e j f n : ℕ) → IsMoved a b from to len → from ≤ i → i + n ≤ from + len → j + from ≡ i + to
     → e ≡ i + n → f ≡ j + n → slice_range b j f ≡ slice_range a i e
 range-moved a b from to len i e j f n m low high is ends ends' =
     rw (ends, ends') (slice_range-moved a b from to len i j n m low high is)
@@ -81,7 +81,7 @@ header_64 false false e = omega arith
 abbrev header_by : List ℕ → ℕ → Bool → ℕ
 header_by block at r = cond r 24 (cond ((first_vcn block at == 0) && is_compressed_or_sparse (attribute_flags block at)) 72 64)
 
-module _ (a b : List ℕ) (from to : ℕ) (w : IsWhole a from) (m : Moved a b from to (attribute_len a from)) where
+module _ (a b : List ℕ) (from to : ℕ) (w : IsWhole a from) (m : IsMoved a b from to (attribute_len a from)) where
   long : 24 ≤ attribute_len a from
   long =
       let h = header_24 (is_resident a from) ((first_vcn a from == 0) && is_compressed_or_sparse (attribute_flags a from)) in

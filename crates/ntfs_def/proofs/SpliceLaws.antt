@@ -7,9 +7,9 @@ use Rattle.std.proofs.lemmas.Option.{get_or_from_slice_get}
 use Rattle.std.proofs.lemmas.Bool.{cases_lt, le-leb}
 use Rattle.ntfs_def.specs.Record.{used_size}
 use Rattle.ntfs_def.specs.Attribute.{Attribute, attribute_at, attribute_len, attribute_place, attributes}
-use Rattle.ntfs_def.specs.Moved.{Moved}
+use Rattle.ntfs_def.specs.Moved.{IsMoved}
 use Rattle.ntfs_def.specs.Shape.{HasAttributes, HasShape, IsAttribute, IsEnd, header_failing}
-use Rattle.ntfs_def.specs.Splice.{IsGiven, IsSpliced, given}
+use Rattle.ntfs_def.specs.Splice.{IsGiven, IsSpliced, given_attributes}
 use Rattle.ntfs_def.proofs.ShapeLaws.{header_failing-length, header_failing-used}
 use Rattle.ntfs_def.proofs.AttributeLaws.{length-attributes, slice_get-attributes}
 use Rattle.ntfs_def.proofs.PlaceLaws.{attribute_place-bounded, place-order}
@@ -29,9 +29,9 @@ module _ (old new : List ℕ) (count i a b rest was now : ℕ) (shape : HasShape
   place-high j le = (attribute_place-bounded old count j shape le).high
 
   -- an attribute before stays
-  Moved-before : (j : ℕ) → j < i
-      → Moved old new (attribute_place old j) (attribute_place old j) (attribute_len old (attribute_place old j))
-  Moved-before j lt =
+  IsMoved-before : (j : ℕ) → j < i
+      → IsMoved old new (attribute_place old j) (attribute_place old j) (attribute_len old (attribute_place old j))
+  IsMoved-before j lt =
       let first = place-order old 0 j (omega arith) in
       let next = place-order old (suc j) i (omega arith) in
       let end = place-high i (omega arith) in
@@ -43,9 +43,9 @@ module _ (old new : List ℕ) (count i a b rest was now : ℕ) (shape : HasShape
       }
 
   -- one behind moves
-  Moved-behind : (j to : ℕ) → i + a ≤ j → j < count → to + was ≡ attribute_place old j + now
-      → Moved old new (attribute_place old j) to (attribute_len old (attribute_place old j))
-  Moved-behind j to le lt e =
+  IsMoved-behind : (j to : ℕ) → i + a ≤ j → j < count → to + was ≡ attribute_place old j + now
+      → IsMoved old new (attribute_place old j) to (attribute_len old (attribute_place old j))
+  IsMoved-behind j to le lt e =
       let low = place-order old (i + a) j le in
       let here = (shape.each j lt).below_used in
       record {
@@ -58,7 +58,7 @@ module _ (old new : List ℕ) (count i a b rest was now : ℕ) (shape : HasShape
   place-before zero le = x.first
   place-before (suc j) le =
       let h = place-before j (omega arith) in
-      let m = attribute_len-moved old new _ _ ((shape.each j (omega arith)).whole) (Moved-before j (omega arith)) in
+      let m = attribute_len-moved old new _ _ ((shape.each j (omega arith)).whole) (IsMoved-before j (omega arith)) in
       ap (λ p. p + attribute_len new p) h ∙ ap (λ q. attribute_place old j + q) m
 
   -- what is given, where it is one
@@ -90,7 +90,7 @@ module _ (old new : List ℕ) (count i a b rest was now : ℕ) (shape : HasShape
   place-behind (suc m) le =
       let h = place-behind m (omega arith) in
       let w = (shape.each (m + (i + a)) (omega arith)).whole in
-      let moved = Moved-behind (m + (i + a)) (attribute_place new (m + (b + i))) (omega arith) (omega arith) h in
+      let moved = IsMoved-behind (m + (i + a)) (attribute_place new (m + (b + i))) (omega arith) (omega arith) h in
       let p = ap (attribute_place new) (let e : suc m + (b + i) ≡ suc (m + (b + i)) = omega arith in e) in
       let q = ap (attribute_place old) (let e : suc m + (i + a) ≡ suc (m + (i + a)) = omega arith in e) in
       omega (arith, p, q, h, attribute_len-moved old new _ _ w moved)
@@ -98,7 +98,7 @@ module _ (old new : List ℕ) (count i a b rest was now : ℕ) (shape : HasShape
   IsAttribute-before : (j : ℕ) → j < i → IsAttribute new (attribute_place new j)
   IsAttribute-before j lt =
       let w = (shape.each j (omega arith)).whole in
-      let m = Moved-before j lt in
+      let m = IsMoved-before j lt in
       let next = place-order old (suc j) i (omega arith) in
       let order = place-order old i (i + a) (omega arith) in
       let end = place-high (i + a) (omega arith) in
@@ -111,7 +111,7 @@ module _ (old new : List ℕ) (count i a b rest was now : ℕ) (shape : HasShape
   IsAttribute-behind m lt =
       let h = place-behind m (omega arith) in
       let e = shape.each (m + (i + a)) (omega arith) in
-      let moved = Moved-behind (m + (i + a)) (attribute_place new (m + (b + i))) (omega arith) (omega arith) h in
+      let moved = IsMoved-behind (m + (i + a)) (attribute_place new (m + (b + i))) (omega arith) (omega arith) h in
       record {
         whole = IsWhole-moved old new _ _ e.whole moved;
         below_used = omega (arith, attribute_len-moved old new _ _ e.whole moved, e.below_used, x.used, h);
@@ -147,7 +147,7 @@ module _ (old new : List ℕ) (count i a b rest was now : ℕ) (shape : HasShape
       let end = attribute_place old count in
       let low = place-order old (i + a) count (omega arith) in
       let place = last-place in
-      let moved : Moved old new end (attribute_place new (rest + (b + i))) 4 = record {
+      let moved : IsMoved old new end (attribute_place new (rest + (b + i))) 4 = record {
         same = λ k m from to e. x.behind k m (omega (arith, taken)) (omega (arith, shape.last.below_used)) (omega arith);
         inside = omega (arith, shape.last.below_used, all, used);
         there = omega (arith, shape.last.below_used, x.len, all, used, fits);
@@ -183,7 +183,7 @@ module _ (old new : List ℕ) (count i a b rest was now : ℕ) (shape : HasShape
   front = take i (attributes old)
 
   middle : List Attribute
-  middle = given new (attribute_place old i) b
+  middle = given_attributes new (attribute_place old i) b
 
   back : List Attribute
   back = drop (i + a) (attributes old)
@@ -192,7 +192,7 @@ module _ (old new : List ℕ) (count i a b rest was now : ℕ) (shape : HasShape
   unfolding front
   length-front = length-take-le i (attributes old) (omega (arith, length-old))
 
-  length-given : (n : ℕ) → n ≡ b → length (given new (attribute_place old i) n) ≡ n
+  length-given : (n : ℕ) → n ≡ b → length (given_attributes new (attribute_place old i) n) ≡ n
   length-given zero e = refl
   length-given (suc more) e = let none : more ≡ 0 = (given-kind more e).0 in omega arith
 
@@ -202,7 +202,7 @@ module _ (old new : List ℕ) (count i a b rest was now : ℕ) (shape : HasShape
 
   -- the given one stands in its place
   at-given : (n : ℕ) → n ≡ b → (j : ℕ) (d : Attribute) → i ≤ j → j < n + i
-      → get_or (given new (attribute_place old i) n) (j - i) d ≡ attribute_at new (attribute_place new j)
+      → get_or (given_attributes new (attribute_place old i) n) (j - i) d ≡ attribute_at new (attribute_place new j)
   at-given zero e j d low high = absurd (omega arith)
   at-given (suc more) e j d low high =
       let none : more ≡ 0 = (given-kind more e).0 in
@@ -215,7 +215,7 @@ module _ (old new : List ℕ) (count i a b rest was now : ℕ) (shape : HasShape
   unfolding front
   element-before j d low =
       at-new j d (omega arith) ∙ ap (attribute_at new) (place-before j (omega arith))
-      ∙ attribute_at-moved old new _ _ ((shape.each j (omega arith)).whole) (Moved-before j low)
+      ∙ attribute_at-moved old new _ _ ((shape.each j (omega arith)).whole) (IsMoved-before j low)
       ∙ sym (get_or_append_left front (middle ++ back) d j (omega (arith, length-front))
       ∙ get_or-take i (attributes old) j d low ∙ at-old j d (omega arith))
 
@@ -237,7 +237,7 @@ module _ (old new : List ℕ) (count i a b rest was now : ℕ) (shape : HasShape
   unfolding back
   element-back n d lt =
       let is : i + a + n ≡ n + (i + a) = omega arith in
-      let moved = Moved-behind (n + (i + a)) (attribute_place new (n + (b + i))) (omega arith) (omega arith)
+      let moved = IsMoved-behind (n + (i + a)) (attribute_place new (n + (b + i))) (omega arith) (omega arith)
       (place-behind n (omega arith)) in
       attribute_at-moved old new _ _ ((shape.each (n + (i + a)) (omega arith)).whole) moved
       ∙ sym (get_or-drop (i + a) (attributes old) n d ∙ ap (λ q. get_or (attributes old) q d) is ∙ at-old (n + (i + a)) d (omega arith))
@@ -274,7 +274,7 @@ module _ (old new : List ℕ) (count i a b rest was now : ℕ) (shape : HasShape
   )
 
   pub attributes-spliced :
-      attributes new ≡ take i (attributes old) ++ (given new (attribute_place old i) b ++ drop (i + a) (attributes old))
+      attributes new ≡ take i (attributes old) ++ (given_attributes new (attribute_place old i) b ++ drop (i + a) (attributes old))
   unfolding front middle back
   attributes-spliced = same_lists _ _ (length-new ∙ sym length-parts) (λ j d lt. element j d (omega (arith, length-new)))
 

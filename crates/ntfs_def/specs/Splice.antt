@@ -23,6 +23,6 @@ IsGiven new at zero now = now ≡ 0
 IsGiven new at (suc more) now = (more ≡ 0) × IsWhole new at × (attribute_len new at ≡ now)
 
 -- .. as a list
-abbrev pub given : List ℕ → ℕ → ℕ → List Attribute
-given new at zero = []
-given new at (suc more) = attribute_at new at ∷ []
+abbrev pub given_attributes : List ℕ → ℕ → ℕ → List Attribute
+given_attributes new at zero = []
+given_attributes new at (suc more) = attribute_at new at ∷ []

@@ -3,7 +3,7 @@
 ghost use Rattle.std.specs.Prelude.{◌≡◌, ◌⊎◌, ◌↔◌, ℕ, List, Some, None};
 ghost use Rattle.ntfs_def.specs.Attribute.{attribute_at, attribute_len, attributes};
 ghost use Rattle.ntfs_def.specs.Fixup.{bare_of};
-ghost use Rattle.ntfs_def.specs.Moved.{Moved};
+ghost use Rattle.ntfs_def.specs.Moved.{IsMoved};
 ghost use Rattle.ntfs_def.specs.Record.{header_of, is_in_use};
 ghost use Rattle.ntfs_def.specs.declared.run_text.Run.{Run};
 ghost use Rattle.ntfs_def.specs.Runs.{FirstBadRun, IsRunList, MeansRuns, RunRule, runs_in};
@@ -13,9 +13,9 @@ ghost use Rattle.vol_bytes.specs.Field.{SameOutside};
 /// An attribute whose bytes stand at another place, or in another block, is the same attribute. A
 /// record that differs in its update sequence array alone, such as its bare block, says the same.
 pub fn record_laws()
-    ensures moved { (old new : List ℕ) (from to : ℕ) → IsWhole old from → Moved old new from to (attribute_len old from)
+    ensures moved { (old new : List ℕ) (from to : ℕ) → IsWhole old from → IsMoved old new from to (attribute_len old from)
         → attribute_at new to ≡ attribute_at old from }
-    ensures whole { (old new : List ℕ) (from to : ℕ) → IsWhole old from → Moved old new from to (attribute_len old from)
+    ensures whole { (old new : List ℕ) (from to : ℕ) → IsWhole old from → IsMoved old new from to (attribute_len old from)
         → IsWhole new to }
 
     ensures shape { (old new : List ℕ) (count : ℕ) → HasShape old count → SameOutside old new 0x30 0x36 → HasShape new count }

@@ -3,7 +3,7 @@ use Rattle.std.proofs.Common.{◌≡◌, ◌≢◌, ◌⊎◌, ℕ, ◌≤◌, B
 use Rattle.std.specs.Prelude.{◌==◌, nat_le, is_some}
 use Rattle.std.proofs.lemmas.Bool.Decides.{nat_tests}
 use Rattle.vol_disk.specs.Contents.{sector_in}
-use Rattle.vol_disk.specs.Stream.{Appended, AppendedPart}
+use Rattle.vol_disk.specs.Stream.{IsAppended, IsAppendedPart}
 use Rattle.volume_format.specs.FitsPlan.{IsClusterSize}
 use Rattle.volume_format.specs.Options.{AreInRange, Options, plan_of}
 use Rattle.volume_format.specs.Plan.{items_end}
@@ -61,7 +61,7 @@ pub ends-made : (o : Options) (given : Ending) (text : List ℕ) (old new : Worl
     → new.left ≡ old.left → new.source_faults ≡ old.source_faults → FormatEnds o given old new
 ends-made o given text old new makes is (inl printed) quiet others told fenced sectors fetched left source = rw printed.ends (record {
   causes = record { disk = quiet; source = source; sink = printed.quiet };
-  answered = (makes, subst (λ (t : List ℕ). Appended old.got t new.got) is printed.all);
+  answered = (makes, subst (λ (t : List ℕ). IsAppended old.got t new.got) is printed.all);
   others = others;
   told = told;
   fenced = fenced;
@@ -72,7 +72,7 @@ ends-made o given text old new makes is (inl printed) quiet others told fenced s
 })
 ends-made o given text old new makes is (inr cut) quiet others told fenced sectors fetched left source = rw cut.ends (record {
   causes = (quiet, source, cut.rose);
-  answered = inl (makes, subst (λ (t : List ℕ). AppendedPart old.got t new.got) is cut.part);
+  answered = inl (makes, subst (λ (t : List ℕ). IsAppendedPart old.got t new.got) is cut.part);
   others = others;
   told = told;
   fenced = fenced;

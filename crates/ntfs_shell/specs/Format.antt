@@ -1,7 +1,7 @@
 -- How a run ends that was asked for a new volume.
 use Rattle.std.specs.Prelude.{◌≡◌, ◌⊎◌, ◌≤◌, ℕ, List, codes, decimal, is_some}
 use Rattle.vol_disk.specs.Contents.{WhereTold, sector_in, settled_more}
-use Rattle.vol_disk.specs.Stream.{Appended, AppendedPart}
+use Rattle.vol_disk.specs.Stream.{IsAppended, IsAppendedPart}
 use Rattle.volume_format.specs.Formatted.{IsNewVolume}
 use Rattle.volume_format.specs.Options.{AreInRange, Options, clusters_in, plan_of}
 use Rattle.volume_format.specs.Plan.{items_end}
@@ -32,11 +32,11 @@ made_text o = formatted_text (clusters_in o.sectors o.cluster)
 -- What was done and what the sink got, by how the run ended: all of a line, a part of it from the front where the sink failed,
 -- and nothing where the disk failed or memory ran out.
 abbrev pub Answered : Options → Ending → World → World → Type 0
-Answered o ending.Done old new = Makes o old new × Appended old.got (made_text o) new.got
-Answered o ending.Refused old new = Declines o old new × Appended old.got options_text new.got
+Answered o ending.Done old new = Makes o old new × IsAppended old.got (made_text o) new.got
+Answered o ending.Refused old new = Declines o old new × IsAppended old.got options_text new.got
 Answered o ending.Sink old new =
-    (Makes o old new × AppendedPart old.got (made_text o) new.got)
-    ⊎ (Declines o old new × AppendedPart old.got options_text new.got)
+    (Makes o old new × IsAppendedPart old.got (made_text o) new.got)
+    ⊎ (Declines o old new × IsAppendedPart old.got options_text new.got)
 Answered o ending.Device old new = AreInRange old.sectors o × LeavesSink old new
 Answered o ending.Memory old new = KeepsDisk old new × LeavesSink old new
 Answered o ending.Source old new = ⊥

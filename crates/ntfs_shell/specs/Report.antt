@@ -1,7 +1,7 @@
 -- How a word that only reads is answered: by lines, or by the line that refuses the volume.
 use Rattle.std.specs.Prelude.{◌≡◌, ℕ, List, Option, Some}
 use Rattle.vol_disk.specs.Contents.{WhereTold}
-use Rattle.vol_disk.specs.Stream.{Appended, AppendedPart}
+use Rattle.vol_disk.specs.Stream.{IsAppended, IsAppendedPart}
 use Rattle.ntfs_shell.specs.declared.ending.Ending.{Ending}
 use Rattle.ntfs_shell.specs.declared.ending.Ending.TheVariants as ending
 use Rattle.ntfs_shell.specs.declared.refusal.Refusal.{Refusal}
@@ -27,7 +27,7 @@ ending_of (refuses refusal) = ending.Refused
 -- All of the report was printed, and the run ended as it calls for.
 pub record PrintsAll (report : Report) (given : Ending) (before after : Option (List ℕ)) : Type 0 where
   pub ends : given ≡ ending_of report
-  pub text : Appended before (text_of report) after
+  pub text : IsAppended before (text_of report) after
 
 -- The sink was left alone.
 pub record LeavesSink (old new : World) : Type 0 where
@@ -39,7 +39,7 @@ pub record LeavesSink (old new : World) : Type 0 where
 abbrev pub Reported : (Report → Type 0) → Ending → World → World → Type 0
 Reported IsReport ending.Done old new = (report : Report) × IsReport report × PrintsAll report ending.Done old.got new.got
 Reported IsReport ending.Refused old new = (report : Report) × IsReport report × PrintsAll report ending.Refused old.got new.got
-Reported IsReport ending.Sink old new = (report : Report) × IsReport report × AppendedPart old.got (text_of report) new.got
+Reported IsReport ending.Sink old new = (report : Report) × IsReport report × IsAppendedPart old.got (text_of report) new.got
 Reported IsReport ending.Device old new = LeavesSink old new
 Reported IsReport ending.Memory old new = LeavesSink old new
 Reported IsReport ending.Source old new = ⊥

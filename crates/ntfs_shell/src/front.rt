@@ -1,7 +1,7 @@
 //! A sink that remembers how its text began.
 ghost use Rattle.std.specs.Prelude.{◌≡◌, ◌+◌, ◌<◌, ◌≤◌, [], ◌++◌, length, take, IfOk, OnOk, OnErr};
 ghost use Rattle.vol_disk.specs.Count.{Rose};
-ghost use Rattle.vol_disk.specs.Stream.{Appended};
+ghost use Rattle.vol_disk.specs.Stream.{IsAppended};
 
 use arrayvec::ArrayVec;
 use vol_disk::{Failed, Sink};
@@ -60,7 +60,7 @@ impl<K: Sink + Drop> Sink for FrontSink<K> {
         requires { 0 < length from.now }
         ensures some { IfOk result (λ n. 0 < n) }
         ensures within { IfOk result (λ n. n ≤ length from.now) }
-        ensures got { IfOk result (λ n. Appended (K.Sink.got (inner_of self.old)) (take n from.now) (K.Sink.got (inner_of self.new))) }
+        ensures got { IfOk result (λ n. IsAppended (K.Sink.got (inner_of self.old)) (take n from.now) (K.Sink.got (inner_of self.new))) }
         ensures kept { OnErr result (K.Sink.got (inner_of self.new) ≡ K.Sink.got (inner_of self.old)) }
 
         ensures faults { K.Sink.faults (inner_of self.old) ≤ K.Sink.faults (inner_of self.new) }

@@ -9,9 +9,9 @@ pub record Gives (n : ℕ) (all buffer : List ℕ) (left : Option (List ℕ)) : 
   pub rest : left ≡ Some (drop n all)
 
 -- the text came behind what was there, where that is told
-abbrev pub Appended : Option (List ℕ) → List ℕ → Option (List ℕ) → Type 0
-Appended before text after = after ≡ map_told (λ all. all ++ text) before
+abbrev pub IsAppended : Option (List ℕ) → List ℕ → Option (List ℕ) → Type 0
+IsAppended before text after = after ≡ map_told (λ all. all ++ text) before
 
 -- the same of some part of the text from its front
-abbrev pub AppendedPart : Option (List ℕ) → List ℕ → Option (List ℕ) → Type 0
-AppendedPart before text after = (n : ℕ) × Appended before (take n text) after
+abbrev pub IsAppendedPart : Option (List ℕ) → List ℕ → Option (List ℕ) → Type 0
+IsAppendedPart before text after = (n : ℕ) × IsAppended before (take n text) after

@@ -8,7 +8,7 @@
 ghost use Rattle.std.specs.Prelude.{◌≡◌, ◌≢◌, ◌⊎◌, ◌+◌, ◌*◌, ◌^◌, ◌<◌, ◌≤◌, ℕ, [], List, length, take, Option, IfSome, IfOk, OnOk, OnErr, is_some};
 ghost use Rattle.vol_disk.specs.Count.{next_count, CountsFault};
 ghost use Rattle.vol_disk.specs.Contents.{IsTold, sector_in, map_told, with_sector, settled_more};
-ghost use Rattle.vol_disk.specs.Stream.{Gives, Appended};
+ghost use Rattle.vol_disk.specs.Stream.{Gives, IsAppended};
 
 mod counts;
 mod fail_disk;
@@ -199,7 +199,7 @@ pub trait Sink {
         requires { 0 < length from.now }
         ensures some { IfOk result (λ n. 0 < n) }
         ensures within { IfOk result (λ n. n ≤ length from.now) }
-        ensures got { IfOk result (λ n. Appended (got self.old) (take n from.now) (got self.new)) }
+        ensures got { IfOk result (λ n. IsAppended (got self.old) (take n from.now) (got self.new)) }
         ensures kept { OnErr result (got self.new ≡ got self.old) }
 
         ensures faults { CountsFault result (faults self.old) (faults self.new) };

@@ -1,5 +1,5 @@
 use Rattle.std.proofs.Common.{◌≡◌, ◌≤◌, ◌-◌, length, take}
-use Rattle.vol_disk.specs.Stream.{Appended}
+use Rattle.vol_disk.specs.Stream.{IsAppended}
 use Rattle.vol_disk.proofs.print.write_all.Given as goal
 
 abbrev pub invariant-loop-done : goal.invariant-loop-done
@@ -7,7 +7,7 @@ invariant-loop-done g l =
     let sink = g.K.Sink in
     record {
       within : l.done ≤ length l.text;
-      got : Appended (sink.got l.fn.out) (take l.done l.text) (sink.got l.out);
+      got : IsAppended (sink.got l.fn.out) (take l.done l.text) (sink.got l.out);
       quiet : sink.faults l.out ≡ sink.faults l.fn.out;
     }
 
