@@ -17,8 +17,8 @@ pub record MemState : Type 0 where
   pub sectors : ℕ
   pub counts : Counts
 
-abbrev pub parts_of : MemDisk → MemState
-parts_of disk = record {
+abbrev pub state_of : MemDisk → MemState
+state_of disk = record {
   first = disk.first.items;
   writes = disk.writes.items;
   settles = disk.settles.items;

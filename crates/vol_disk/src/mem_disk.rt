@@ -43,7 +43,7 @@ pub struct MemDisk {
 }
 
 impl MemDisk {
-    ghost use Rattle.vol_disk.specs.MemDisks.{parts_of, contents_of, settled_of, fenced_of};
+    ghost use Rattle.vol_disk.specs.MemDisks.{state_of, contents_of, settled_of, fenced_of};
 
     /// A disk with these contents and without room.
     pub fn new(alloc: Global, first: Vec<u8>) -> MemDisk
@@ -52,9 +52,9 @@ impl MemDisk {
         ensures settled { ⟦<MemDisk as Disk>⟧.settled result ≡ Some [] }
         ensures fenced { ⟦<MemDisk as Disk>⟧.fenced result ≡ Some first.items }
         ensures size { ⟦<MemDisk as Disk>⟧.size result ≡ vec_len first / 512 }
-        ensures first { (parts_of result).first ≡ first.items }
-        ensures writes { (parts_of result).writes ≡ [] }
-        ensures room { (parts_of result).room ≡ 0 }
+        ensures first { (state_of result).first ≡ first.items }
+        ensures writes { (state_of result).writes ≡ [] }
+        ensures room { (state_of result).room ≡ 0 }
         ensures faults { ⟦<MemDisk as Disk>⟧.faults result ≡ 0 }
         ensures written { ⟦<MemDisk as Disk>⟧.written result ≡ 0 }
         ensures fetched { ⟦<MemDisk as Disk>⟧.fetched result ≡ 0 }
@@ -75,11 +75,11 @@ impl MemDisk {
 
     /// Makes the room at least `n`.
     pub fn reserve(&mut self, n: usize) -> Result<(), RoomNo>
-        ensures ok { OnOk result (parts_of self.new ≡ record (parts_of self.old) { room = max (parts_of self.old).room n }) }
-        ensures full { OnErr result ((parts_of self.old).room < n) }
-        ensures err { OnErr result (parts_of self.new ≡ parts_of self.old) }
+        ensures ok { OnOk result (state_of self.new ≡ record (state_of self.old) { room = max (state_of self.old).room n }) }
+        ensures full { OnErr result ((state_of self.old).room < n) }
+        ensures err { OnErr result (state_of self.new ≡ state_of self.old) }
 
-        ensures size { (parts_of self.new).sectors ≡ (parts_of self.old).sectors }
+        ensures size { (state_of self.new).sectors ≡ (state_of self.old).sectors }
         ensures now { ⟦<MemDisk as Disk>⟧.now self.new ≡ ⟦<MemDisk as Disk>⟧.now self.old }
         ensures settled { ⟦<MemDisk as Disk>⟧.settled self.new ≡ ⟦<MemDisk as Disk>⟧.settled self.old }
         ensures fenced { ⟦<MemDisk as Disk>⟧.fenced self.new ≡ ⟦<MemDisk as Disk>⟧.fenced self.old }
@@ -124,24 +124,24 @@ impl MemDisk {
 
     /// The contents that it was made with.
     pub fn first(&self) -> &[u8]
-        ensures { result.now ≡ (parts_of self.now).first }
+        ensures { result.now ≡ (state_of self.now).first }
     {
         &self.first
     }
 
     /// All writes that answered Ok, the first of them first.
     pub fn writes(&self) -> &[Write]
-        ensures writes { result.now ≡ (parts_of self.now).writes }
-        ensures now { ⟦<MemDisk as Disk>⟧.now self.now ≡ Some (replay result.now (parts_of self.now).first) }
+        ensures writes { result.now ≡ (state_of self.now).writes }
+        ensures now { ⟦<MemDisk as Disk>⟧.now self.now ≡ Some (replay result.now (state_of self.now).first) }
     {
         &self.writes
     }
 
     /// For each settle that answered Ok the number of writes before it, the first settle first.
     pub fn settles(&self) -> &[usize]
-        ensures settles { result.now ≡ (parts_of self.now).settles }
+        ensures settles { result.now ≡ (state_of self.now).settles }
         ensures settled { ⟦<MemDisk as Disk>⟧.settled self.now ≡
-            Some (contents_at result.now (parts_of self.now).writes (parts_of self.now).first) }
+            Some (contents_at result.now (state_of self.now).writes (state_of self.now).first) }
     {
         &self.settles
     }
@@ -199,7 +199,7 @@ fn put_sector(all: &mut [u8], sector: u64, from: &[u8; 512])
 
 impl Disk for MemDisk {
     ghost use Rattle.vol_disk.specs.Contents.{sector_in};
-    ghost use Rattle.vol_disk.specs.MemDisks.{parts_of, contents_of, settled_of, fenced_of, with_write, with_barrier, with_settle};
+    ghost use Rattle.vol_disk.specs.MemDisks.{state_of, contents_of, settled_of, fenced_of, with_write, with_barrier, with_settle};
     ghost use Rattle.vol_disk.specs.Counting.{after_call, after_read, after_write};
 
     ghost now = { λ disk. Some (replay disk.writes.items disk.first.items) };
@@ -228,11 +228,11 @@ impl Disk for MemDisk {
 
     /// Reads one sector, and never fails.
     fn read(&mut self, sector: u64, into: &mut [u8; 512]) -> Result<(), Failed>
-        requires { sector < (parts_of self.old).sectors }
+        requires { sector < (state_of self.old).sectors }
         ensures ok { IsOk result }
         ensures read { into.new ≡ sector_in (Some (contents_of self.old)) sector }
-        ensures others { parts_of self.new ≡ record (parts_of self.old) { counts = after_read true (parts_of self.old).counts } }
-        ensures fetched { (parts_of self.old).counts.fetched ≤ (parts_of self.new).counts.fetched }
+        ensures others { state_of self.new ≡ record (state_of self.old) { counts = after_read true (state_of self.old).counts } }
+        ensures fetched { (state_of self.old).counts.fetched ≤ (state_of self.new).counts.fetched }
     {
         self.counts.fetch();
         get_sector(self.contents(), sector, into);
@@ -242,23 +242,23 @@ impl Disk for MemDisk {
     /// Writes one sector. It fails exactly where there is no room, and then changes nothing but
     /// the counts.
     fn write(&mut self, sector: u64, from: &[u8; 512]) -> Result<(), Failed>
-        requires { sector < (parts_of self.old).sectors }
-        ensures fails { IsErr result ↔ ((parts_of self.old).room ≡ 0) }
+        requires { sector < (state_of self.old).sectors }
+        ensures fails { IsErr result ↔ ((state_of self.old).room ≡ 0) }
         ensures ok { OnOk result
-            (parts_of self.new ≡ with_write (parts_of self.old) (record { sector = sector; bytes = from.now })) }
+            (state_of self.new ≡ with_write (state_of self.old) (record { sector = sector; bytes = from.now })) }
         ensures full { OnErr result
-            (parts_of self.new ≡ record (parts_of self.old) { counts = after_write false (parts_of self.old).counts }) }
-        ensures faults { (parts_of self.old).counts.faults ≤ (parts_of self.new).counts.faults }
+            (state_of self.new ≡ record (state_of self.old) { counts = after_write false (state_of self.old).counts }) }
+        ensures faults { (state_of self.old).counts.faults ≤ (state_of self.new).counts.faults }
 
-        ensures size { (parts_of self.new).sectors ≡ (parts_of self.old).sectors }
+        ensures size { (state_of self.new).sectors ≡ (state_of self.old).sectors }
         ensures now { OnOk result (contents_of self.new ≡ with_sector (contents_of self.old) sector from.now) }
         ensures here { OnOk result (sector_in (Some (contents_of self.new)) sector ≡ from.now) }
         ensures other { (m : ℕ) → m ≢ sector →
             sector_in (Some (contents_of self.new)) m ≡ sector_in (Some (contents_of self.old)) m }
         ensures settled { settled_of self.new ≡ settled_of self.old }
         ensures fenced { fenced_of self.new ≡ fenced_of self.old }
-        ensures rises { ((parts_of self.old).counts.written ≤ (parts_of self.new).counts.written)
-            × ((parts_of self.old).counts.late ≤ (parts_of self.new).counts.late) }
+        ensures rises { ((state_of self.old).counts.written ≤ (state_of self.new).counts.written)
+            × ((state_of self.old).counts.late ≤ (state_of self.new).counts.late) }
     {
         self.counts.begin_write();
         if self.room == 0 {
@@ -272,7 +272,7 @@ impl Disk for MemDisk {
     /// Notes the contents, and never fails.
     fn barrier(&mut self) -> Result<(), Failed>
         ensures ok { IsOk result }
-        ensures noted { parts_of self.new ≡ with_barrier (parts_of self.old) }
+        ensures noted { state_of self.new ≡ with_barrier (state_of self.old) }
         ensures fenced { fenced_of self.new ≡ contents_of self.old }
     {
         self.fence = self.writes.len();
@@ -282,13 +282,13 @@ impl Disk for MemDisk {
     /// Notes the contents. It fails exactly where there is no room, and then changes nothing but
     /// the count of faults.
     fn settle(&mut self) -> Result<(), Failed>
-        ensures fails { IsErr result ↔ ((parts_of self.old).room ≡ 0) }
-        ensures ok { OnOk result (parts_of self.new ≡ with_settle (parts_of self.old)) }
+        ensures fails { IsErr result ↔ ((state_of self.old).room ≡ 0) }
+        ensures ok { OnOk result (state_of self.new ≡ with_settle (state_of self.old)) }
         ensures full { OnErr result
-            (parts_of self.new ≡ record (parts_of self.old) { counts = after_call false (parts_of self.old).counts }) }
-        ensures faults { (parts_of self.old).counts.faults ≤ (parts_of self.new).counts.faults }
+            (state_of self.new ≡ record (state_of self.old) { counts = after_call false (state_of self.old).counts }) }
+        ensures faults { (state_of self.old).counts.faults ≤ (state_of self.new).counts.faults }
 
-        ensures size { (parts_of self.new).sectors ≡ (parts_of self.old).sectors }
+        ensures size { (state_of self.new).sectors ≡ (state_of self.old).sectors }
         ensures settled { OnOk result (settled_of self.new ≡ settled_of self.old ++ contents_of self.old ∷ []) }
     {
         if self.room == 0 {

@@ -21,7 +21,7 @@ use Rattle.volume_def.specs.BitmapClauses.{MeetsClusterBits, MeetsRecordBits, cl
 use Rattle.volume_def.specs.Blocks.{block_of, cluster_of, copy_of}
 use Rattle.volume_def.specs.CaseClause.{MeetsCaseTable, case_parts}
 use Rattle.volume_def.specs.Files.{Part, parts, parts_at, record_on, records_of}
-use Rattle.volume_def.specs.IndexesClause.{HasIndex, IndexParts, IsDirectoryIndex, IsRecordAt, IsViewIndex, KeyRule, MeetsIndexes, MeetsViewIndex, hash_rule, id_rule, index_nodes, index_parts, name_rule, word_rule}
+use Rattle.volume_def.specs.IndexesClause.{HasIndex, IndexParts, IsDirectoryIndex, IsIndexRecordAt, IsViewIndex, KeyRule, MeetsIndexes, MeetsViewIndex, hash_rule, id_rule, index_nodes, index_parts, name_rule, word_rule}
 use Rattle.volume_def.specs.ListsClause.{MeetsLists}
 use Rattle.volume_def.specs.Looked.{AgreeWhereLooked, IsLookedAt, IsLookedAtSector, IsLookedInto}
 use Rattle.volume_def.specs.Sound.{Attributes, CaseTable, Clause, ClusterBits, Extents, Indexes, Limits, Links, Lists, Mirror, MirrorPlace, Owners, RecordBits, References, Shape, Version}
@@ -134,7 +134,7 @@ module _ (view : VolumeView) (copy cluster rest : ℕ → List ℕ)
     bits-same : value_of_parts view.cluster (cluster_bytes view.layout) index.bits ≡ value_of_parts cluster (cluster_bytes view.layout) index.bits
     bits-same = value-kind f BITMAP name (λ part e. inr (inr (inl e)))
 
-    record-kept : (vcn : ℕ) → IsRecordAt view index vcn → IsRecordAt other index vcn
+    record-kept : (vcn : ℕ) → IsIndexRecordAt view index vcn → IsIndexRecordAt other index vcn
     record-kept vcn r =
         let at = vcn * cluster_bytes view.layout in
         record {

@@ -40,22 +40,22 @@ index_parts view f name = record {
 }
 
 -- the index record at a number, as stored; numbers count clusters
-abbrev pub stored_record : VolumeView → IndexParts → ℕ → List ℕ
-stored_record view index vcn =
+abbrev pub stored_index_record : VolumeView → IndexParts → ℕ → List ℕ
+stored_index_record view index vcn =
     slice_range (value_on view index.records) (vcn * cluster_bytes view.layout) (vcn * cluster_bytes view.layout + 4096)
 
 -- An index record is there: whole, no part of it in a hole, sealed, with its own number, and its bit.
-pub record IsRecordAt (view : VolumeView) (index : IndexParts) (vcn : ℕ) : Type 0 where
+pub record IsIndexRecordAt (view : VolumeView) (index : IndexParts) (vcn : ℕ) : Type 0 where
   pub aligned : vcn * cluster_bytes view.layout % 4096 ≡ 0
   pub whole : vcn * cluster_bytes view.layout + 4096 ≤ length (value_on view index.records)
   pub placed : (k : ℕ) → k * cluster_bytes view.layout < 4096 → spot_at index.records (vcn + k) ≢ Hole
-  pub sealed : IsSealed (stored_record view index vcn)
-  pub own : own_vcn (opened_of (stored_record view index vcn)) ≡ vcn
+  pub sealed : IsSealed (stored_index_record view index vcn)
+  pub own : own_vcn (opened_of (stored_index_record view index vcn)) ≡ vcn
   pub bit : bit_in (value_on view index.bits) (vcn * cluster_bytes view.layout / 4096) ≡ 1
 
 -- what the index record at a number says, where it has the shape of a node whose entries are short
 unfoldable pub index_nodes : NodeForm → VolumeView → IndexParts → Nodes
-index_nodes form view index vcn = short_node form (opened_of (stored_record view index vcn))
+index_nodes form view index vcn = short_node form (opened_of (stored_index_record view index vcn))
 
 -- how keys are compared, and which bytes are keys
 pub record KeyRule : Type 0 where
@@ -79,7 +79,7 @@ pub record HasIndex (form : NodeForm) (rule : KeyRule) (view : VolumeView) (inde
   pub small : depth ≤ 15
   pub tree : Spread (Tree depth)
   pub holds : HoldsIndex (index_nodes form view index) root_node depth tree
-  pub each : (vcn : ℕ) → 1 ≤ spread_times vcn depth tree → IsRecordAt view index vcn
+  pub each : (vcn : ℕ) → 1 ≤ spread_times vcn depth tree → IsIndexRecordAt view index vcn
   pub walk : items ≡ spread_items depth tree
   pub keys : All (λ item. IsTrue (rule.valid item.key)) items
   pub ascending : Ascends rule.order items

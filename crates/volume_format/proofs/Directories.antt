@@ -15,7 +15,7 @@ use Rattle.ntfs_def.specs.Node.{Item, short_node}
 use Rattle.volume_def.specs.CaseClause.{volume_fold}
 use Rattle.volume_def.specs.FileNames.{is_in_directory, links}
 use Rattle.volume_def.specs.Files.{Value, content_value}
-use Rattle.volume_def.specs.IndexesClause.{HasIndex, IndexParts, IsDirectoryIndex, IsRecordAt, index_nodes, index_parts, name_rule}
+use Rattle.volume_def.specs.IndexesClause.{HasIndex, IndexParts, IsDirectoryIndex, IsIndexRecordAt, index_nodes, index_parts, name_rule}
 use Rattle.volume_def.specs.SameItems.{SameItems}
 use Rattle.volume_def.specs.Table.{cluster_bytes}
 use Rattle.volume_def.specs.Values.{spot_at, value_of_parts, value_on}
@@ -33,7 +33,7 @@ use Rattle.volume_format.proofs.IndexOrder.{AgreeOnAscii, extend-by, root-by}
 use Rattle.volume_format.proofs.IndexTrees.{HasIndex-leaf, root-holds, root-only, root-walk}
 use Rattle.volume_format.proofs.Needed.{needed-covers}
 use Rattle.volume_format.proofs.Records.{parts_at-planned, records_of-planned}
-use Rattle.volume_format.proofs.RootRecord.{IsRecordAt-root, stored-is}
+use Rattle.volume_format.proofs.RootRecord.{IsIndexRecordAt-root, stored-is}
 use Rattle.volume_format.proofs.Tested.{All-tested}
 use Rattle.volume_format.proofs.Values.{spot-stream}
 
@@ -119,8 +119,8 @@ module _ (p : Plan) (view : VolumeView) (is : IsPlanned p view) (some : 0 < p.si
     small = omega arith;
     tree = root_spread;
     holds = root-holds (index_nodes Names view root) root-nodes;
-    each = λ vcn times. subst (IsRecordAt view root) (sym (root-only vcn times))
-        (IsRecordAt-root view root is.root.stored is.root.is root-value (node_at p) root-placed root-bit);
+    each = λ vcn times. subst (IsIndexRecordAt view root) (sym (root-only vcn times))
+        (IsIndexRecordAt-root view root is.root.stored is.root.is root-value (node_at p) root-placed root-bit);
     walk = root-walk;
     keys = All-tested (λ (item : Item). is_name_key item.key) root_items refl;
     ascending = root-by (volume_fold view) fold-planned;

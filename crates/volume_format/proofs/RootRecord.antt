@@ -9,7 +9,7 @@ use Rattle.ntfs_def.specs.declared.run_text.Spot.TheVariants.{At, Hole}
 use Rattle.ntfs_def.specs.Bits.{bit_in}
 use Rattle.ntfs_def.specs.Fixup.{IsSealed, opened_of}
 use Rattle.ntfs_def.specs.Node.{own_vcn}
-use Rattle.volume_def.specs.IndexesClause.{IndexParts, IsRecordAt, stored_record}
+use Rattle.volume_def.specs.IndexesClause.{IndexParts, IsIndexRecordAt, stored_index_record}
 use Rattle.volume_def.specs.Table.{cluster_bytes}
 use Rattle.volume_def.specs.Values.{spot_at, value_on}
 use Rattle.volume_def.specs.View.{VolumeView}
@@ -37,14 +37,14 @@ module _ (view : VolumeView) (index : IndexParts) (stored : List ℕ) (root : Is
   from-0 : 0 * cluster_bytes view.layout ≡ 0
   from-0 = omega arith
 
-  pub stored-is : stored_record view index 0 ≡ stored
+  pub stored-is : stored_index_record view index 0 ≡ stored
   stored-is =
       ap (λ n. slice_range (value_on view index.records) n (n + 4096)) from-0
       ∙ ap (λ bytes. slice_range bytes 0 4096) is-value
       ∙ take_all 4096 stored (omega (arith, root.len))
 
-  pub IsRecordAt-root : IsRecordAt view index 0
-  IsRecordAt-root = record {
+  pub IsIndexRecordAt-root : IsIndexRecordAt view index 0
+  IsIndexRecordAt-root = record {
     aligned = ap (λ n. n % 4096) from-0;
     whole = omega (arith, from-0, ap length is-value, root.len);
     placed = λ k lt e. at-not-hole (at + k) (sym (placed k lt) ∙ ap (spot_at index.records) (omega arith) ∙ e);
