@@ -27,8 +27,7 @@ lies = record {
 
 pub returns : goal.returns
 returns c = record {
-  whole = refl;
-  size = refl;
+  cluster = (refl, refl);
   clusters = c.in_ok-load.ensures.count;
   table =
       let runs : c.append.new.self ≡ run ∷ [] = c.in_ok-append.ensures.ok ∙ ap (λ (rs : List Run). rs ++ (run ∷ [])) c.new-table.ensures in

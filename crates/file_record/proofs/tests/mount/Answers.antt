@@ -10,8 +10,7 @@ returns-clause-stands g c =
     let found = c.in_ok-table.ensures in
     let size = found.reads.goes_on.size in
     rw size (record {
-      whole = found.fits.cluster.0;
-      size = found.fits.cluster.1;
+      cluster = found.fits.cluster;
       clusters = c.in_ok-load.ensures.count;
       table =
           subst (λ (n : ℕ). LiesOn (g.D.Disk.size (disk_of g.D.Disk c.args.stage.now)) (layout_on table.geometry table.runs table.initialized n)) (sym c.in_ok-load-2.ensures.count) found.lies;

@@ -5,8 +5,7 @@ pub returns : goal.returns
 returns c =
     let none = c.in_ok-load-2.ensures.count in
     record {
-      whole = refl;
-      size = refl;
+      cluster = (refl, refl);
       clusters = c.in_ok-load.ensures.count;
       table = record {
         some = omega arith;
