@@ -5,7 +5,7 @@ use Rattle.std.specs.Option.{option_and_then}
 use Rattle.std.specs.declared.cmp.Ordering.{Ordering}
 use Rattle.std.specs.declared.cmp.Ordering.TheVariants.{Less, Equal, Greater}
 use Rattle.ntfs_def.specs.Node.{Item, Entry, Node, IsOwnEntry, item_in, node_in}
-use Rattle.ntfs_def.specs.IndexTree.{Nodes, Each, Spread, Tree, items_of, IsHeld, HoldsIndex, spread_items}
+use Rattle.ntfs_def.specs.IndexTree.{Nodes, Each, Spread, Tree, items_of, IsHeld, HoldsIndex, spread_items, most_depth}
 use Rattle.ntfs_def.specs.declared.index.NodeForm.{NodeForm}
 
 -- the nodes that opened records say
@@ -50,7 +50,7 @@ pub record HasRisingIndex (side : List ℕ → Ordering) (valid : List ℕ → B
   pub node : Node
   pub is : root ≡ Some node
   pub depth : ℕ
-  pub small : depth ≤ 15
+  pub small : depth ≤ most_depth
   pub s : Spread (Tree depth)
   pub index : IsRisingIndex side valid nodes depth s node
 

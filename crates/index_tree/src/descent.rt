@@ -14,7 +14,7 @@ use std::alloc::Global;
 use vol_bytes::Octets;
 
 /// The most nodes below the root on a way to a leaf.
-pub const LEVELS: usize = 15;
+pub const MOST_DEPTH: usize = 15;
 
 // The first entry with an equal key in the tree under `child`, which has at most `level` levels.
 fn first_below<B: Blocks, C: Collation>(
@@ -129,7 +129,7 @@ impl<C: Collation> Index<C> {
             self.form,
             node.child(i),
             key,
-            LEVELS,
+            MOST_DEPTH,
         )?;
         or_entry(alloc, &self.order, below, &node, i, hit)
     }

@@ -8,7 +8,7 @@ ghost use Rattle.index_tree.specs.Index.{Refuses, form_of};
 ghost use Rattle.index_tree.specs.Search.{nodes_of};
 ghost use Rattle.index_tree.specs.Walk.{CostsNode, CostsTree, CostsWalk, HasSpread, HasTree, HasWalk, IsWalk, WalksNode, WalksTree};
 
-use crate::descent::LEVELS;
+use crate::descent::MOST_DEPTH;
 use crate::{Index, IndexNo};
 use index_node::{Blocks, NodeView};
 use ntfs_def::NodeForm;
@@ -155,7 +155,7 @@ impl<C> Index<C> {
         let Ok(node) = NodeView::new(root, self.form) else {
             return Ok(out);
         };
-        walk_node(alloc, blocks, &node, LEVELS, &mut out)?;
+        walk_node(alloc, blocks, &node, MOST_DEPTH, &mut out)?;
         Ok(out)
     }
 }

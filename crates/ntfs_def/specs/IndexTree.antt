@@ -99,10 +99,14 @@ pub record HoldsIndex (nodes : Nodes) (root : Node) (depth : ℕ) (s : Spread (T
   pub stored : AreStored nodes depth s
   pub once : (place : ℕ) → spread_times place depth s ≤ 1
 
+-- the most nodes below the root on a way to a leaf
+abbrev pub most_depth : ℕ
+most_depth = 15
+
 -- THE WALK as a relation: some tree of at most sixteen nodes on a way is held, and its items are these.
 pub record Walks (nodes : Nodes) (root : Node) (items : List Item) : Type 0 where
   pub depth : ℕ
-  pub small : depth ≤ 15
+  pub small : depth ≤ most_depth
   pub s : Spread (Tree depth)
   pub holds : HoldsIndex nodes root depth s
   pub is : items ≡ spread_items depth s

@@ -163,12 +163,14 @@ module _ (view : VolumeView) (copy cluster rest : ℕ → List ℕ)
       written = h.written;
       root_node = h.root_node;
       says = h.says;
-      depth = h.depth;
-      small = h.small;
-      tree = h.tree;
-      holds = subst (λ nodes. HoldsIndex nodes h.root_node h.depth h.tree) (nodes-same form) h.holds;
+      walks = record {
+        depth = h.walks.depth;
+        small = h.walks.small;
+        s = h.walks.s;
+        holds = subst (λ nodes. HoldsIndex nodes h.root_node h.walks.depth h.walks.s) (nodes-same form) h.walks.holds;
+        is = h.walks.is;
+      };
       each = λ vcn there. record-kept vcn (h.each vcn there);
-      walk = h.walk;
       keys = h.keys;
       ascending = h.ascending;
     }

@@ -14,7 +14,7 @@ use Rattle.ntfs_def.specs.declared.lengths.TheConstants.{INDEX_RECORD}
 use Rattle.ntfs_def.specs.Bits.{bit_in}
 use Rattle.ntfs_def.specs.FileName.{FileName, is_name_key, link_of}
 use Rattle.ntfs_def.specs.Fixup.{IsSealed, opened_of}
-use Rattle.ntfs_def.specs.IndexTree.{Ascends, HoldsIndex, Nodes, Spread, Tree, spread_items, spread_times}
+use Rattle.ntfs_def.specs.IndexTree.{Ascends, Nodes, Walks, spread_times}
 use Rattle.ntfs_def.specs.KeyOrder.{hash_order, id_order, is_hash_key, is_id_key, is_word_key, name_order, word_order}
 use Rattle.ntfs_def.specs.Units.{wide}
 use Rattle.ntfs_def.specs.Node.{Item, Node, own_vcn, short_node}
@@ -75,12 +75,8 @@ pub record HasIndex (form : NodeForm) (rule : KeyRule) (view : VolumeView) (inde
       extent.sizes.initialized ≡ extent.sizes.real))
   pub root_node : Node
   pub says : short_node form root ≡ Some root_node
-  pub depth : ℕ
-  pub small : depth ≤ 15
-  pub tree : Spread (Tree depth)
-  pub holds : HoldsIndex (index_nodes form view index) root_node depth tree
-  pub each : (vcn : ℕ) → 1 ≤ spread_times vcn depth tree → IsIndexRecordAt view index vcn
-  pub walk : items ≡ spread_items depth tree
+  pub walks : Walks (index_nodes form view index) root_node items
+  pub each : (vcn : ℕ) → 1 ≤ spread_times vcn walks.depth walks.s → IsIndexRecordAt view index vcn
   pub keys : All (λ item. IsTrue (rule.valid item.key)) items
   pub ascending : Ascends rule.order items
 

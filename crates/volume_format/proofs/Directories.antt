@@ -115,13 +115,15 @@ module _ (p : Plan) (view : VolumeView) (is : IsPlanned p view) (some : 0 < p.si
     written = rw records-of refl;
     root_node = above;
     says = root-says p;
-    depth = 1;
-    small = omega arith;
-    tree = root_spread;
-    holds = root-holds (index_nodes Names view root) root-nodes;
+    walks = record {
+      depth = 1;
+      small = omega arith;
+      s = root_spread;
+      holds = root-holds (index_nodes Names view root) root-nodes;
+      is = root-walk;
+    };
     each = λ vcn times. subst (IsIndexRecordAt view root) (sym (root-only vcn times))
         (IsIndexRecordAt-root view root is.root.stored is.root.is root-value (node_at p) root-placed root-bit);
-    walk = root-walk;
     keys = All-tested (λ (item : Item). is_name_key item.key) root_items refl;
     ascending = root-by (volume_fold view) fold-planned;
   }

@@ -85,12 +85,14 @@ HasIndex-leaf form rule view index value items root records bits collation size 
   written = rw records tt;
   root_node = leaf items;
   says = says;
-  depth = 0;
-  small = omega arith;
-  tree = leaf_spread items;
-  holds = leaf-holds (index_nodes form view index) items;
+  walks = record {
+    depth = 0;
+    small = omega arith;
+    s = leaf_spread items;
+    holds = leaf-holds (index_nodes form view index) items;
+    is = leaf-walk items;
+  };
   each = λ vcn some. absurd (omega (arith, some, leaf-times vcn items));
-  walk = leaf-walk items;
   keys = keys;
   ascending = ascending;
 }
