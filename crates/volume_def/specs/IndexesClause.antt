@@ -42,16 +42,16 @@ index_parts view f name = record {
 -- the index record at a number, as stored; numbers count clusters
 abbrev pub stored_index_record : VolumeView → IndexParts → ℕ → List ℕ
 stored_index_record view index vcn =
-    slice_range (value_on view index.records) (vcn * cluster_bytes view.layout) (vcn * cluster_bytes view.layout + 4096)
+    slice_range (value_on view index.records) (vcn * cluster_bytes view.layout) (vcn * cluster_bytes view.layout + INDEX_RECORD)
 
 -- An index record is there: whole, no part of it in a hole, sealed, with its own number, and its bit.
 pub record IsIndexRecordAt (view : VolumeView) (index : IndexParts) (vcn : ℕ) : Type 0 where
-  pub aligned : vcn * cluster_bytes view.layout % 4096 ≡ 0
-  pub whole : vcn * cluster_bytes view.layout + 4096 ≤ length (value_on view index.records)
-  pub placed : (k : ℕ) → k * cluster_bytes view.layout < 4096 → spot_at index.records (vcn + k) ≢ Hole
+  pub aligned : vcn * cluster_bytes view.layout % INDEX_RECORD ≡ 0
+  pub whole : vcn * cluster_bytes view.layout + INDEX_RECORD ≤ length (value_on view index.records)
+  pub placed : (k : ℕ) → k * cluster_bytes view.layout < INDEX_RECORD → spot_at index.records (vcn + k) ≢ Hole
   pub sealed : IsSealed (stored_index_record view index vcn)
   pub own : own_vcn (opened_of (stored_index_record view index vcn)) ≡ vcn
-  pub bit : bit_in (value_on view index.bits) (vcn * cluster_bytes view.layout / 4096) ≡ 1
+  pub bit : bit_in (value_on view index.bits) (vcn * cluster_bytes view.layout / INDEX_RECORD) ≡ 1
 
 -- what the index record at a number says, where it has the shape of a node whose entries are short
 unfoldable pub index_nodes : NodeForm → VolumeView → IndexParts → Nodes
