@@ -1,6 +1,6 @@
 -- A change of sectors that no clause looks at changes no answer.
-use Rattle.std.proofs.Common.{◌≡◌, ◌<◌, ◌≤◌, ◌+◌, ◌*◌, ◌/◌, ℕ, zero, suc, true, All, List, [], ◌∷◌, length, Option, Some, None, refl, sym, ap, subst, inl, inr, ◌∙◌, arith}
-use Rattle.std.specs.Prelude.{◌↔◌, IfSome, IsSome, codes, slice_range}
+use Rattle.std.proofs.Common.{◌≡◌, ◌<◌, ◌≤◌, ◌+◌, ◌*◌, ◌/◌, ℕ, zero, suc, true, All, List, [], ◌∷◌, length, Option, Some, None, refl, sym, ap, subst, inl, inr, ◌∙◌, mul-zero, arith}
+use Rattle.std.specs.Prelude.{◌↔◌, IfSome, IsSome, IsTrue, codes, slice_range}
 use Rattle.std.proofs.Math.Path.{fun_ext}
 use Rattle.std.proofs.lemmas.Bool.{and_parts, eqb-true}
 use Rattle.std.specs.List.{Contains}
@@ -12,7 +12,7 @@ use Rattle.ntfs_def.specs.Bits.{bit_in}
 use Rattle.ntfs_def.specs.Boot.{mft_cluster}
 use Rattle.ntfs_def.specs.FileName.{is_name_key}
 use Rattle.ntfs_def.specs.Fixup.{IsSealed, opened_of}
-use Rattle.ntfs_def.specs.IndexTree.{HoldsIndex}
+use Rattle.ntfs_def.specs.IndexTree.{Ascends, HoldsIndex}
 use Rattle.ntfs_def.specs.KeyOrder.{fold_of, name_order, table_len}
 use Rattle.ntfs_def.specs.Node.{Item, own_vcn, short_node}
 use Rattle.ntfs_def.specs.Runs.{total_clusters}
@@ -20,9 +20,10 @@ use Rattle.ntfs_def.specs.Units.{wide}
 use Rattle.volume_def.specs.BitmapClauses.{MeetsClusterBits, MeetsRecordBits, cluster_bits, parts_at, record_bits}
 use Rattle.volume_def.specs.Blocks.{block_of, cluster_of, copy_of}
 use Rattle.volume_def.specs.CaseClause.{MeetsCaseTable, case_parts}
-use Rattle.volume_def.specs.Files.{Part, parts, record_on, records_of}
+use Rattle.volume_def.specs.Files.{Part, is_base, parts, record_on, records_of}
 use Rattle.volume_def.specs.IndexesClause.{HasIndex, IndexParts, IsDirectoryIndex, IsRecordAt, IsViewIndex, KeyRule, MeetsIndexes, MeetsViewIndex, hash_rule, id_rule, index_nodes, index_parts, name_rule, word_rule}
-use Rattle.volume_def.specs.ListsClause.{MeetsLists}
+use Rattle.volume_def.specs.KeptList.{KeepsClusters, KeepsList}
+use Rattle.volume_def.specs.ListsClause.{HasRightList, MeetsLists, is_list}
 use Rattle.volume_def.specs.Looked.{AgreeWhereLooked, IsLookedAt, IsLookedAtSector, IsLookedInto}
 use Rattle.volume_def.specs.Sound.{Attributes, CaseTable, Clause, ClusterBits, Extents, Indexes, Limits, Links, Lists, Mirror, MirrorPlace, Owners, RecordBits, References, Shape, Version}
 use Rattle.volume_def.specs.Sound.{FailsLater, FailsTable, FirstBroken, HasLayout, HoldBelow, IsAccepted, IsRefused, IsSound, Meets, told_view}
@@ -74,15 +75,28 @@ module _ (view : VolumeView) (copy cluster rest : ℕ → List ℕ)
       let w = Contains-from_filter _ (parts (records_of view) f) part c in
       (w.0, looked part (eqb-true part.kind kind (and_parts _ _ w.1).0)))
 
-  lists-kept : (f : ℕ) → MeetsLists view f → MeetsLists other f
-  lists-kept f meets = if_some _ _ (record_on view f) (λ r h base.
-      HasRightList-kept view other f (parts (records_of view) f) refl
-      (All-from_Contains _ (parts (records_of view) f) (λ part c list vcn at_c at.
-      let owned = spot_at-owned (part ∷ []) vcn at_c at in
+  -- so is what a list of the file holds
+  list-looked : (f : ℕ) (part : Part) → Contains (parts (records_of view) f) part → IsTrue (is_list part)
+      → KeepsClusters view other (part ∷ [])
+  list-looked f part c list vcn cluster_at at =
+      let owned = spot_at-owned (part ∷ []) vcn cluster_at at in
       let same = Contains-only part owned.0 owned.1 in
-      clusters at_c (record { file = f; part = owned.0; among = subst (Contains (parts (records_of view) f)) same c;
-        looked = inl (ap (λ (p : Part). p.kind) (sym same) ∙ eqb-true part.kind ATTRIBUTE_LIST list); covered = owned.2 })))
-      refl (λ alone. alone) (h base)) meets
+      let kind : part.kind ≡ ATTRIBUTE_LIST = eqb-true part.kind ATTRIBUTE_LIST list in
+      clusters cluster_at (record {
+        file = f;
+        part = owned.0;
+        among = subst (Contains (parts (records_of view) f)) same c;
+        looked = inl (ap (λ (p : Part). p.kind) (sym same) ∙ kind);
+        covered = owned.2;
+      })
+
+  lists-kept : (f : ℕ) → MeetsLists view f → MeetsLists other f
+  lists-kept f meets =
+      let all = parts (records_of view) f in
+      let kept : KeepsList view other all =
+      All-from_Contains (λ part. IsTrue (is_list part) → KeepsClusters view other (part ∷ [])) all (list-looked f) in
+      if_some (λ r. IsTrue (is_base r) → HasRightList view f all) (λ r. IsTrue (is_base r) → HasRightList other f all) (record_on view f)
+      (λ r h base. HasRightList-kept view other f all refl kept refl (λ alone. alone) (h base)) meets
 
   cluster_bits-kept : (n : ℕ) → MeetsClusterBits view n → MeetsClusterBits other n
   cluster_bits-kept n meets =
@@ -173,16 +187,31 @@ module _ (view : VolumeView) (copy cluster rest : ℕ → List ℕ)
       ascending = h.ascending;
     }
 
-  rules-same : name_rule view ≡ name_rule other
-  rules-same = ap (λ value. record { collation = 1; order = name_order (fold_of value); valid = is_name_key }) case_value
-
   directory-kept : (f : ℕ) → IsDirectoryIndex view f → IsDirectoryIndex other f
   directory-kept f d =
       let name = wide (codes "$I30") in
+      let h = d.index in
       record {
         items = d.items;
-        index = subst (λ rule. HasIndex Names rule other (index_parts view f name) d.items) rules-same
-            (index-kept f name Names (name_rule view) d.items d.index);
+        index = record {
+          root = h.root;
+          is_root = h.is_root;
+          collation = h.collation;
+          record_size = h.record_size;
+          plain = h.plain;
+          plain_bits = h.plain_bits;
+          written = h.written;
+          root_node = h.root_node;
+          says = h.says;
+          depth = h.depth;
+          small = h.small;
+          tree = h.tree;
+          holds = subst (λ nodes. HoldsIndex nodes h.root_node h.depth h.tree) (nodes-same f name Names) h.holds;
+          each = λ vcn there. record-kept f name vcn (h.each vcn there);
+          walk = h.walk;
+          keys = h.keys;
+          ascending = subst (λ value. Ascends (name_order (fold_of value)) d.items) case_value h.ascending;
+        };
         kind = d.kind;
         names = d.names;
       }
@@ -241,13 +270,13 @@ module _ (old new : ℕ → List ℕ) (layout : TableLayout) (some : 0 < layout.
 
   view-same : between ≡ told_view new layout
   view-same = ap (λ block. record {
-      told = true;
-      layout = layout;
-      block = block;
-      copy = copy_of new layout;
-      cluster = cluster_of new layout;
-      rest = λ k. new (layout.clusters * layout.cluster_sectors + k);
-    }) (sym blocks-same)
+    told = true;
+    layout = layout;
+    block = block;
+    copy = copy_of new layout;
+    cluster = cluster_of new layout;
+    rest = λ k. new (layout.clusters * layout.cluster_sectors + k);
+  }) (sym blocks-same)
 
   meets-kept : (clause : Clause) (n : ℕ) → Meets clause (told_view old layout) n → Meets clause (told_view new layout) n
   meets-kept clause n meets = subst (λ (view : VolumeView). Meets clause view n) view-same
@@ -280,7 +309,7 @@ table-kept old new boot layout record_0 t = record {
 -- a volume with a table has clusters of some sectors
 some_sectors : (size total real : ℕ) → real ≤ total * (512 * size) → 24 ≤ real / 1024 → 0 < size
 some_sectors zero total real covered least =
-    let none : total * (512 * 0) ≡ 0 = mul-zero_right total in
+    let none : total * (512 * 0) ≡ 0 = mul-zero total in
     absurd (omega arith)
 some_sectors (suc size) total real covered least = omega arith
 
