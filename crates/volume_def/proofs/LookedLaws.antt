@@ -1,5 +1,5 @@
 -- A change of sectors that no clause looks at changes no answer.
-use Rattle.std.proofs.Common.{◌≡◌, ◌<◌, ◌≤◌, ◌+◌, ◌*◌, ◌/◌, ℕ, zero, suc, true, All, List, [], ◌∷◌, length, Option, Some, None, refl, sym, ap, subst, inl, inr, ◌∙◌, mul-zero, arith}
+use Rattle.std.proofs.Common.{◌≡◌, ◌<◌, ◌≤◌, ◌+◌, ◌*◌, ◌/◌, ℕ, zero, suc, true, List, [], ◌∷◌, length, Option, Some, None, refl, sym, ap, subst, inl, inr, ◌∙◌, mul-zero, arith}
 use Rattle.std.specs.Prelude.{◌↔◌, IfSome, IsSome, IsTrue, codes, slice_range}
 use Rattle.std.proofs.Math.Path.{fun_ext}
 use Rattle.std.proofs.lemmas.Bool.{and_parts, eqb-true}
@@ -10,27 +10,26 @@ use Rattle.ntfs_def.specs.declared.kinds.TheConstants.{ATTRIBUTE_LIST, BITMAP, D
 use Rattle.ntfs_def.specs.declared.records.TheConstants.{CLUSTER_BITMAP, MFT, UPCASE}
 use Rattle.ntfs_def.specs.Bits.{bit_in}
 use Rattle.ntfs_def.specs.Boot.{mft_cluster}
-use Rattle.ntfs_def.specs.FileName.{is_name_key}
 use Rattle.ntfs_def.specs.Fixup.{IsSealed, opened_of}
 use Rattle.ntfs_def.specs.IndexTree.{Ascends, HoldsIndex}
 use Rattle.ntfs_def.specs.KeyOrder.{fold_of, name_order, table_len}
 use Rattle.ntfs_def.specs.Node.{Item, own_vcn, short_node}
 use Rattle.ntfs_def.specs.Runs.{total_clusters}
 use Rattle.ntfs_def.specs.Units.{wide}
-use Rattle.volume_def.specs.BitmapClauses.{MeetsClusterBits, MeetsRecordBits, cluster_bits, parts_at, record_bits}
+use Rattle.volume_def.specs.BitmapClauses.{MeetsClusterBits, MeetsRecordBits, parts_at}
 use Rattle.volume_def.specs.Blocks.{block_of, cluster_of, copy_of}
 use Rattle.volume_def.specs.CaseClause.{MeetsCaseTable, case_parts}
 use Rattle.volume_def.specs.Files.{Part, is_base, parts, record_on, records_of}
-use Rattle.volume_def.specs.IndexesClause.{HasIndex, IndexParts, IsDirectoryIndex, IsRecordAt, IsViewIndex, KeyRule, MeetsIndexes, MeetsViewIndex, hash_rule, id_rule, index_nodes, index_parts, name_rule, word_rule}
+use Rattle.volume_def.specs.IndexesClause.{HasIndex, IndexParts, IsDirectoryIndex, IsRecordAt, KeyRule, MeetsIndexes, MeetsViewIndex, hash_rule, id_rule, index_nodes, index_parts, word_rule}
 use Rattle.volume_def.specs.KeptList.{KeepsClusters, KeepsList}
 use Rattle.volume_def.specs.ListsClause.{HasRightList, MeetsLists, is_list}
 use Rattle.volume_def.specs.Looked.{AgreeWhereLooked, IsLookedAt, IsLookedAtSector, IsLookedInto}
 use Rattle.volume_def.specs.Sound.{Attributes, CaseTable, Clause, ClusterBits, Extents, Indexes, Limits, Links, Lists, Mirror, MirrorPlace, Owners, RecordBits, References, Shape, Version}
-use Rattle.volume_def.specs.Sound.{FailsLater, FailsTable, FirstBroken, HasLayout, HoldBelow, IsAccepted, IsRefused, IsSound, Meets, told_view}
+use Rattle.volume_def.specs.Sound.{FirstBroken, HasLayout, IsAccepted, IsRefused, Meets, told_view}
 use Rattle.volume_def.specs.OwnersClause.{times_owned}
 use Rattle.volume_def.specs.Table.{IsRecord, MeetsTable, TableLayout, TellsTable, cluster_bytes, first_record}
 use Rattle.volume_def.specs.Values.{value_of_parts}
-use Rattle.volume_def.specs.VersionClause.{HasCopy, IsClean, IsMirror, MeetsMirror, MeetsMirrorPlace, Mirrors}
+use Rattle.volume_def.specs.VersionClause.{IsClean, MeetsMirror, MeetsMirrorPlace, Mirrors}
 use Rattle.volume_def.specs.View.{VolumeView}
 use Rattle.volume_def.proofs.BlockLaws.{block_of-same, cluster_of-same, copy_of-same, table_place-times}
 use Rattle.volume_def.proofs.MemberLaws.{All-from_Contains, Contains-from_filter, Contains-only}
@@ -117,7 +116,8 @@ module _ (view : VolumeView) (copy cluster rest : ℕ → List ℕ)
         bit = λ from below. subst (λ value. (bit_in value n ≡ 1) ↔ IsSome (record_on view n)) same (meets.bit from below);
       }
 
-  case_value : value_of_parts view.cluster (cluster_bytes view.layout) (case_parts view) ≡ value_of_parts cluster (cluster_bytes view.layout) (case_parts view)
+  case_value : value_of_parts view.cluster (cluster_bytes view.layout) (case_parts view)
+      ≡ value_of_parts cluster (cluster_bytes view.layout) (case_parts view)
   case_value = value-kind UPCASE DATA [] (λ part e. inr (inr (inr (e, inr refl))))
 
   case_table-kept : (n : ℕ) → MeetsCaseTable view n → MeetsCaseTable other n
@@ -145,7 +145,8 @@ module _ (view : VolumeView) (copy cluster rest : ℕ → List ℕ)
         ≡ value_of_parts cluster (cluster_bytes view.layout) index.records
     records-same = value-kind f INDEX_ALLOCATION name (λ part e. inr (inl e))
 
-    bits-same : value_of_parts view.cluster (cluster_bytes view.layout) index.bits ≡ value_of_parts cluster (cluster_bytes view.layout) index.bits
+    bits-same : value_of_parts view.cluster (cluster_bytes view.layout) index.bits
+        ≡ value_of_parts cluster (cluster_bytes view.layout) index.bits
     bits-same = value-kind f BITMAP name (λ part e. inr (inr (inl e)))
 
     record-kept : (vcn : ℕ) → IsRecordAt view index vcn → IsRecordAt other index vcn
@@ -355,7 +356,8 @@ first-agreed : (old new : ℕ → List ℕ) (boot : List ℕ) (sectors : ℕ) �
     → FirstBroken (told_view new layout) clause n
 first-agreed old new boot sectors agree layout has clause n first =
     let forth = meets-agreed old new boot sectors agree layout has in
-    let back = meets-agreed new old boot sectors (agree-back old new boot agree) layout (layout-kept old new boot sectors agree layout has) in
+    let kept = layout-kept old new boot sectors agree layout has in
+    let back = meets-agreed new old boot sectors (agree-back old new boot agree) layout kept in
     record {
       before = λ earlier lower m. forth earlier m (first.before earlier lower m);
       below = λ m lower. forth clause m (first.below m lower);
