@@ -1,6 +1,6 @@
 -- A change of sectors that no clause looks at changes no answer.
-use Rattle.std.proofs.Common.{◌≡◌, ◌<◌, ◌≤◌, ◌+◌, ◌*◌, ◌/◌, ℕ, zero, suc, true, All, List, [], ◌∷◌, length, Option, Some, None, refl, sym, ap, subst, inl, inr, ◌∙◌, arith}
-use Rattle.std.specs.Prelude.{◌↔◌, IfSome, IsSome, codes, slice_range}
+use Rattle.std.proofs.Common.{◌≡◌, ◌<◌, ◌≤◌, ◌+◌, ◌*◌, ◌/◌, ℕ, zero, suc, true, List, [], ◌∷◌, length, Option, Some, None, refl, sym, ap, subst, inl, inr, ◌∙◌, mul-zero, arith}
+use Rattle.std.specs.Prelude.{◌↔◌, IfSome, IsSome, IsTrue, codes, slice_range}
 use Rattle.std.proofs.Math.Path.{fun_ext}
 use Rattle.std.proofs.lemmas.Bool.{and_parts, eqb-true}
 use Rattle.std.specs.List.{Contains}
@@ -10,26 +10,26 @@ use Rattle.ntfs_def.specs.declared.kinds.TheConstants.{ATTRIBUTE_LIST, BITMAP, D
 use Rattle.ntfs_def.specs.declared.records.TheConstants.{CLUSTER_BITMAP, MFT, UPCASE}
 use Rattle.ntfs_def.specs.Bits.{bit_in}
 use Rattle.ntfs_def.specs.Boot.{mft_cluster}
-use Rattle.ntfs_def.specs.FileName.{is_name_key}
 use Rattle.ntfs_def.specs.Fixup.{IsSealed, opened_of}
-use Rattle.ntfs_def.specs.IndexTree.{HoldsIndex}
+use Rattle.ntfs_def.specs.IndexTree.{Ascends, HoldsIndex, Walks}
 use Rattle.ntfs_def.specs.KeyOrder.{case_table_len, fold_of, name_order}
-use Rattle.ntfs_def.specs.Node.{Item, own_vcn, short_node}
+use Rattle.ntfs_def.specs.Node.{Item, Node, own_vcn, short_node}
 use Rattle.ntfs_def.specs.Runs.{total_clusters}
 use Rattle.ntfs_def.specs.Units.{wide}
-use Rattle.volume_def.specs.BitmapClauses.{MeetsClusterBits, MeetsRecordBits, cluster_bits, record_bits}
+use Rattle.volume_def.specs.BitmapClauses.{MeetsClusterBits, MeetsRecordBits}
 use Rattle.volume_def.specs.Blocks.{block_of, cluster_of, copy_of}
 use Rattle.volume_def.specs.CaseClause.{MeetsCaseTable, case_parts}
-use Rattle.volume_def.specs.Files.{Part, parts, parts_at, record_on, records_of}
-use Rattle.volume_def.specs.IndexesClause.{HasIndex, IndexParts, IsDirectoryIndex, IsIndexRecordAt, IsViewIndex, KeyRule, MeetsIndexes, MeetsViewIndex, hash_rule, id_rule, index_nodes, index_parts, name_rule, word_rule}
-use Rattle.volume_def.specs.ListsClause.{MeetsLists}
+use Rattle.volume_def.specs.Files.{Part, is_base, parts, parts_at, record_on, records_of}
+use Rattle.volume_def.specs.IndexesClause.{HasIndex, IndexParts, IsDirectoryIndex, IsIndexRecordAt, KeyRule, MeetsIndexes, MeetsViewIndex, hash_rule, id_rule, index_nodes, index_parts, word_rule}
+use Rattle.volume_def.specs.KeptList.{KeepsList}
+use Rattle.volume_def.specs.ListsClause.{HasRightList, MeetsLists, is_list}
 use Rattle.volume_def.specs.Looked.{AgreeWhereLooked, IsLookedAt, IsLookedAtSector, IsLookedInto}
 use Rattle.volume_def.specs.Sound.{Attributes, CaseTable, Clause, ClusterBits, Extents, Indexes, Limits, Links, Lists, Mirror, MirrorPlace, Owners, RecordBits, References, Shape, Version}
-use Rattle.volume_def.specs.Sound.{FailsLater, FailsTable, FirstBroken, HasLayout, HoldBelow, IsAccepted, IsRefused, IsSound, Meets, told_view}
+use Rattle.volume_def.specs.Sound.{FirstBroken, HasLayout, IsAccepted, IsRefused, Meets, told_view}
 use Rattle.volume_def.specs.OwnersClause.{times_owned}
 use Rattle.volume_def.specs.Table.{IsRecord, MeetsTable, TableLayout, TellsTable, cluster_bytes, first_record}
-use Rattle.volume_def.specs.Values.{value_of_parts}
-use Rattle.volume_def.specs.VersionClause.{HasCopy, IsClean, IsMirror, MeetsMirror, MeetsMirrorPlace, Mirrors}
+use Rattle.volume_def.specs.Values.{KeepsClusters, value_of_parts}
+use Rattle.volume_def.specs.VersionClause.{IsClean, MeetsMirror, MeetsMirrorPlace, Mirrors}
 use Rattle.volume_def.specs.View.{VolumeView}
 use Rattle.volume_def.proofs.BlockLaws.{block_of-same, cluster_of-same, copy_of-same, table_place-times}
 use Rattle.volume_def.proofs.MemberLaws.{All-from_Contains, Contains-from_filter, Contains-only}
@@ -74,15 +74,28 @@ module _ (view : VolumeView) (copy cluster rest : ℕ → List ℕ)
       let w = Contains-from_filter _ (parts (records_of view) f) part c in
       (w.0, looked part (eqb-true part.kind kind (and_parts _ _ w.1).0)))
 
-  lists-kept : (f : ℕ) → MeetsLists view f → MeetsLists other f
-  lists-kept f meets = if_some _ _ (record_on view f) (λ r h base.
-      HasRightList-kept view other f (parts (records_of view) f) refl
-      (All-from_Contains _ (parts (records_of view) f) (λ part c list vcn at_c at.
-      let owned = spot_at-owned (part ∷ []) vcn at_c at in
+  -- so is what a list of the file holds
+  list-looked : (f : ℕ) (part : Part) → Contains (parts (records_of view) f) part → IsTrue (is_list part)
+      → KeepsClusters view other (part ∷ [])
+  list-looked f part c list vcn cluster_at at =
+      let owned = spot_at-owned (part ∷ []) vcn cluster_at at in
       let same = Contains-only part owned.0 owned.1 in
-      clusters at_c (record { file = f; part = owned.0; among = subst (Contains (parts (records_of view) f)) same c;
-        looked = inl (ap (λ (p : Part). p.kind) (sym same) ∙ eqb-true part.kind ATTRIBUTE_LIST list); covered = owned.2 })))
-      refl (λ alone. alone) (h base)) meets
+      let kind : part.kind ≡ ATTRIBUTE_LIST = eqb-true part.kind ATTRIBUTE_LIST list in
+      clusters cluster_at (record {
+        file = f;
+        part = owned.0;
+        among = subst (Contains (parts (records_of view) f)) same c;
+        looked = inl (ap (λ (p : Part). p.kind) (sym same) ∙ kind);
+        covered = owned.2;
+      })
+
+  lists-kept : (f : ℕ) → MeetsLists view f → MeetsLists other f
+  lists-kept f meets =
+      let all = parts (records_of view) f in
+      let kept : KeepsList view other all =
+      All-from_Contains (λ part. IsTrue (is_list part) → KeepsClusters view other (part ∷ [])) all (list-looked f) in
+      if_some (λ r. IsTrue (is_base r) → HasRightList view f all) (λ r. IsTrue (is_base r) → HasRightList other f all) (record_on view f)
+      (λ r h base. HasRightList-kept view other f all refl kept refl (λ alone. alone) (h base)) meets
 
   cluster_bits-kept : (n : ℕ) → MeetsClusterBits view n → MeetsClusterBits other n
   cluster_bits-kept n meets =
@@ -103,7 +116,8 @@ module _ (view : VolumeView) (copy cluster rest : ℕ → List ℕ)
         bit = λ from below. subst (λ value. (bit_in value n ≡ 1) ↔ IsSome (record_on view n)) same (meets.bit from below);
       }
 
-  case_value : value_of_parts view.cluster (cluster_bytes view.layout) (case_parts view) ≡ value_of_parts cluster (cluster_bytes view.layout) (case_parts view)
+  case_value : value_of_parts view.cluster (cluster_bytes view.layout) (case_parts view)
+      ≡ value_of_parts cluster (cluster_bytes view.layout) (case_parts view)
   case_value = value-kind UPCASE DATA [] (λ part e. inr (inr (inr (e, inr refl))))
 
   case_table-kept : (n : ℕ) → MeetsCaseTable view n → MeetsCaseTable other n
@@ -131,7 +145,8 @@ module _ (view : VolumeView) (copy cluster rest : ℕ → List ℕ)
         ≡ value_of_parts cluster (cluster_bytes view.layout) index.records
     records-same = value-kind f INDEX_ALLOCATION name (λ part e. inr (inl e))
 
-    bits-same : value_of_parts view.cluster (cluster_bytes view.layout) index.bits ≡ value_of_parts cluster (cluster_bytes view.layout) index.bits
+    bits-same : value_of_parts view.cluster (cluster_bytes view.layout) index.bits
+        ≡ value_of_parts cluster (cluster_bytes view.layout) index.bits
     bits-same = value-kind f BITMAP name (λ part e. inr (inr (inl e)))
 
     record-kept : (vcn : ℕ) → IsIndexRecordAt view index vcn → IsIndexRecordAt other index vcn
@@ -151,6 +166,16 @@ module _ (view : VolumeView) (copy cluster rest : ℕ → List ℕ)
     nodes-same form = ap (λ value vcn. short_node form
         (opened_of (slice_range value (vcn * cluster_bytes view.layout) (vcn * cluster_bytes view.layout + 4096)))) records-same
 
+    abbrev walks-kept : (form : NodeForm) (node : Node) (items : List Item) → Walks (index_nodes form view index) node items
+        → Walks (index_nodes form other index) node items
+    walks-kept form node items w = record {
+      depth = w.depth;
+      small = w.small;
+      s = w.s;
+      holds = subst (λ nodes. HoldsIndex nodes node w.depth w.s) (nodes-same form) w.holds;
+      is = w.is;
+    }
+
     index-kept : (form : NodeForm) (rule : KeyRule) (items : List Item) → HasIndex form rule view index items
         → HasIndex form rule other index items
     index-kept form rule items h = record {
@@ -163,28 +188,33 @@ module _ (view : VolumeView) (copy cluster rest : ℕ → List ℕ)
       written = h.written;
       root_node = h.root_node;
       says = h.says;
-      walks = record {
-        depth = h.walks.depth;
-        small = h.walks.small;
-        s = h.walks.s;
-        holds = subst (λ nodes. HoldsIndex nodes h.root_node h.walks.depth h.walks.s) (nodes-same form) h.walks.holds;
-        is = h.walks.is;
-      };
+      walks = walks-kept form h.root_node items h.walks;
       each = λ vcn there. record-kept vcn (h.each vcn there);
       keys = h.keys;
       ascending = h.ascending;
     }
 
-  rules-same : name_rule view ≡ name_rule other
-  rules-same = ap (λ value. record { collation = 1; order = name_order (fold_of value); valid = is_name_key }) case_value
-
   directory-kept : (f : ℕ) → IsDirectoryIndex view f → IsDirectoryIndex other f
   directory-kept f d =
       let name = wide (codes "$I30") in
+      let h = d.index in
       record {
         items = d.items;
-        index = subst (λ rule. HasIndex Names rule other (index_parts view f name) d.items) rules-same
-            (index-kept f name Names (name_rule view) d.items d.index);
+        index = record {
+          root = h.root;
+          is_root = h.is_root;
+          collation = h.collation;
+          record_size = h.record_size;
+          plain = h.plain;
+          plain_bits = h.plain_bits;
+          written = h.written;
+          root_node = h.root_node;
+          says = h.says;
+          walks = walks-kept f name Names h.root_node d.items h.walks;
+          each = λ vcn there. record-kept f name vcn (h.each vcn there);
+          keys = h.keys;
+          ascending = subst (λ value. Ascends (name_order (fold_of value)) d.items) case_value h.ascending;
+        };
         kind = d.kind;
         names = d.names;
       }
@@ -243,13 +273,13 @@ module _ (old new : ℕ → List ℕ) (layout : TableLayout) (some : 0 < layout.
 
   view-same : between ≡ told_view new layout
   view-same = ap (λ block. record {
-      told = true;
-      layout = layout;
-      block = block;
-      copy = copy_of new layout;
-      cluster = cluster_of new layout;
-      rest = λ k. new (layout.clusters * layout.cluster_sectors + k);
-    }) (sym blocks-same)
+    told = true;
+    layout = layout;
+    block = block;
+    copy = copy_of new layout;
+    cluster = cluster_of new layout;
+    rest = λ k. new (layout.clusters * layout.cluster_sectors + k);
+  }) (sym blocks-same)
 
   meets-kept : (clause : Clause) (n : ℕ) → Meets clause (told_view old layout) n → Meets clause (told_view new layout) n
   meets-kept clause n meets = subst (λ (view : VolumeView). Meets clause view n) view-same
@@ -282,7 +312,7 @@ table-kept old new boot layout record_0 t = record {
 -- a volume with a table has clusters of some sectors
 some_sectors : (size total real : ℕ) → real ≤ total * (512 * size) → 24 ≤ real / 1024 → 0 < size
 some_sectors zero total real covered least =
-    let none : total * (512 * 0) ≡ 0 = mul-zero_right total in
+    let none : total * (512 * 0) ≡ 0 = mul-zero total in
     absurd (omega arith)
 some_sectors (suc size) total real covered least = omega arith
 
@@ -328,7 +358,8 @@ first-agreed : (old new : ℕ → List ℕ) (boot : List ℕ) (sectors : ℕ) �
     → FirstBroken (told_view new layout) clause n
 first-agreed old new boot sectors agree layout has clause n first =
     let forth = meets-agreed old new boot sectors agree layout has in
-    let back = meets-agreed new old boot sectors (agree-back old new boot agree) layout (layout-kept old new boot sectors agree layout has) in
+    let kept = layout-kept old new boot sectors agree layout has in
+    let back = meets-agreed new old boot sectors (agree-back old new boot agree) layout kept in
     record {
       before = λ earlier lower m. forth earlier m (first.before earlier lower m);
       below = λ m lower. forth clause m (first.below m lower);
