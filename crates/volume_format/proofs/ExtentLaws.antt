@@ -14,8 +14,8 @@ use Rattle.data_runs.specs.Written.{IsWritten, PutsText}
 use Rattle.data_runs.proofs.WrittenLaws.{MeansFrom-written, offset_short, short_up}
 use Rattle.volume_def.specs.Files.{Clusters}
 use Rattle.volume_format.specs.Plan.{up_to_8}
-use Rattle.volume_format.specs.AttributeBytes.{FitSizes, IsExtent, IsPart, IsRunTextOf, extent_bytes, extent_header, one_run, padded, runs_at}
-use Rattle.volume_format.proofs.ResidentLaws.{length-padded, parts_same}
+use Rattle.volume_format.specs.AttributeBytes.{FitSizes, IsExtent, IsPart, IsRunTextOf, extent_bytes, extent_header, one_run, padded_bytes, runs_at}
+use Rattle.volume_format.proofs.ResidentLaws.{length-padded_bytes, parts_same}
 
 no_and : (b : Bool) → (b && false) ≡ false
 no_and true = refl
@@ -44,7 +44,7 @@ module _ (kind : ℕ) (name : List ℕ) (id : ℕ) (sizes : Sizes) (runs : List 
     (first : sizes.first < 2 ^ 64) (last : sizes.last < 2 ^ 64)
     (short_name : length name ≤ 510) (even : length name % 2 ≡ 0) (short_runs : length runs ≤ 24) (multiple : length runs % 8 ≡ 0) where
   abbrev text : List ℕ
-  text = extent_header kind name id sizes (length runs) ++ (padded name ++ runs)
+  text = extent_header kind name id sizes (length runs) ++ (padded_bytes name ++ runs)
 
   kind-text : attribute_kind text 0 ≡ kind
   kind-text = omega arith
@@ -97,7 +97,7 @@ module _ (kind : ℕ) (name : List ℕ) (id : ℕ) (sizes : Sizes) (runs : List 
   at-runs : drop (runs_at name) text ≡ runs
   at-runs =
       sym (drop-drop (up_to_8 (length name)) 64 text)
-      ∙ drop_at (padded name) runs (up_to_8 (length name)) (length-padded name)
+      ∙ drop_at (padded_bytes name) runs (up_to_8 (length name)) (length-padded_bytes name)
 
   content-text : content_bytes text 0 ≡ runs
   content-text =

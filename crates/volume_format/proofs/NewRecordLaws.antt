@@ -21,7 +21,7 @@ use Rattle.ntfs_def.proofs.SameLaws.{headers_same}
 use Rattle.ntfs_def.proofs.ShapeLaws.{HasShape-few, header_failing-length}
 use Rattle.volume_def.specs.Files.{Content, Part, Record, Value, part_of, record_of}
 use Rattle.volume_def.specs.ExtentsClause.{last_vcn_of}
-use Rattle.volume_format.specs.Plan.{Plan, bad_part, file, needed, part, stream_part}
+use Rattle.volume_format.specs.Plan.{Plan, bad_part, file, clusters_needed, part, stream_part}
 use Rattle.volume_format.specs.Planned.{AreAligned}
 use Rattle.volume_format.specs.AttributeBytes.{IsPart, one_run}
 use Rattle.volume_format.specs.NewRecord.{AddsPart, IsNewRecord, blank_block, blank_header, blank_record, stream_content, with_part}
@@ -191,7 +191,7 @@ content-same : (a b l m real initialized : ℕ) (n k : ℕ) (lcn : Option ℕ) �
     ≡ one_run (record { allocated = b; real = real; initialized = initialized; first = 0; last = m }) (record { len = k; lcn = lcn })
 content-same a b l m real initialized n k lcn e f g = cc
 
-pub content-item : (p : Plan) (at bytes allocated len : ℕ) → allocated ≡ needed p bytes * p.size → len ≡ needed p bytes → 0 < len
+pub content-item : (p : Plan) (at bytes allocated len : ℕ) → allocated ≡ clusters_needed p bytes * p.size → len ≡ clusters_needed p bytes → 0 < len
     → one_run (record { allocated = allocated; real = bytes; initialized = bytes; first = 0; last = len - 1 }) (record { len = len; lcn = Some at })
     ≡ stream_content p at bytes
 content-item p at bytes allocated len e f some =

@@ -7,7 +7,7 @@ ghost use Rattle.ntfs_def.specs.Shape.{IsOneAttribute};
 ghost use Rattle.ntfs_def.specs.Runs.{EndsInReach};
 ghost use Rattle.ntfs_def.specs.Units.{wide};
 ghost use Rattle.volume_def.specs.Files.{Value};
-ghost use Rattle.volume_format.specs.AttributeBytes.{FitSizes, IsExtent, IsPart, IsRunTextOf, extent_header, indexed_byte, one_run, padded, resident_bytes, resident_len, runs_at};
+ghost use Rattle.volume_format.specs.AttributeBytes.{FitSizes, IsExtent, IsPart, IsRunTextOf, extent_header, indexed_byte, one_run, padded_bytes, resident_bytes, resident_len, runs_at};
 ghost use Rattle.volume_format.specs.Plan.{fill_to_8, up_to_8};
 
 use data_runs::RunList;
@@ -53,7 +53,7 @@ pub fn push_fill(text: &mut Vec<u8>, len: usize) -> Result<(), AllocError>
 // The bytes, and zeros up to the next multiple of 8.
 pub fn push_padded(text: &mut Vec<u8>, bytes: &[u8]) -> Result<(), AllocError>
     requires { length bytes.now < 2 ^ 32 }
-    ensures { OnOk result (text.new.items ≡ text.old.items ++ padded bytes.now) }
+    ensures { OnOk result (text.new.items ≡ text.old.items ++ padded_bytes bytes.now) }
 {
     text.extend_from_slice(bytes)?;
     push_fill(text, bytes.len())
