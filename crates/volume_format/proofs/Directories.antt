@@ -25,7 +25,7 @@ use Rattle.volume_format.specs.Plan.{Plan, extend_entries, index_name, last_abov
 use Rattle.volume_format.specs.Planned.{IsPlanned}
 use Rattle.volume_format.proofs.CaseTable.{volume_fold-planned}
 use Rattle.volume_format.proofs.Contents.{value_on-stream}
-use Rattle.volume_format.specs.SystemItems.{extend_items, root_items}
+use Rattle.volume_format.specs.IndexItems.{extend_items, root_items}
 use Rattle.volume_format.proofs.Leaves.{above, leaf, root_spread}
 use Rattle.volume_format.proofs.IndexLinks.{extend-names, root-names}
 use Rattle.volume_format.proofs.IndexNodes.{extend-says, root-record, root-says}

@@ -12,7 +12,7 @@ use Rattle.volume_def.specs.SameItems.{SameItems}
 use Rattle.volume_format.specs.Planned.{IsPlanned}
 use Rattle.volume_format.specs.Plan.{Plan, record_in_list, record_list, planned_records, record_count}
 use Rattle.volume_format.proofs.Bases.{AllBase-planned, parts-planned}
-use Rattle.volume_format.specs.SystemItems.{extend_items, root_items}
+use Rattle.volume_format.specs.IndexItems.{extend_items, root_items}
 use Rattle.volume_format.proofs.PartsOf.{parts-past, parts_or_none}
 use Rattle.volume_format.proofs.Listed.{record_in_list-past}
 use Rattle.volume_format.proofs.Records.{records_of-planned}

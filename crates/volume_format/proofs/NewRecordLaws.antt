@@ -23,7 +23,7 @@ use Rattle.volume_def.specs.Files.{Content, Part, Record, Value, part_of, record
 use Rattle.volume_def.specs.ExtentsClause.{last_vcn_of}
 use Rattle.volume_format.specs.Plan.{Plan, bad_part, file, clusters_needed, part, stream_part}
 use Rattle.volume_format.specs.Planned.{AreAligned}
-use Rattle.volume_format.specs.AttributeBytes.{IsPart, one_run}
+use Rattle.volume_format.specs.AttributeBytes.{IsPartBytes, one_run}
 use Rattle.volume_format.specs.NewRecord.{AddsPart, IsNewRecord, blank_block, blank_header, blank_record, stream_content, with_part}
 
 pub length-wide : (letters : List ℕ) → length (wide letters) ≡ 2 * length letters
@@ -48,7 +48,7 @@ is_aligned attribute = value_offset attribute.bytes 0 % 8 ≡ 0
 -- One attribute more.
 module _ (old new attr : List ℕ) (one : IsOneAttribute attr) (puts : Inserts old new attr (length (attributes old)))
     (shape : HasShape old (length (attributes old))) (kind : ℕ) (name : List ℕ) (id : ℕ) (content : Content)
-    (is : IsPart attr kind name id content) (aligned : value_offset attr 0 % 8 ≡ 0) (own : id ≡ next_attribute_id old) where
+    (is : IsPartBytes attr kind name id content) (aligned : value_offset attr 0 % 8 ≡ 0) (own : id ≡ next_attribute_id old) where
   list : attributes new ≡ attributes old ++ attribute_at attr 0 ∷ []
   list = puts.attributes ∙ insert_end (attributes old) (attribute_at attr 0)
 

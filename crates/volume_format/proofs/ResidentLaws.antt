@@ -7,7 +7,7 @@ use Rattle.ntfs_def.specs.Attribute.{attribute_at, attribute_kind, attribute_len
 use Rattle.ntfs_def.specs.Shape.{IsOneAttribute}
 use Rattle.volume_def.specs.Files.{Content, Part, Value}
 use Rattle.volume_format.specs.Plan.{up_to_8}
-use Rattle.volume_format.specs.AttributeBytes.{IsPart, indexed_byte, padded_bytes, resident_bytes, resident_header, resident_len, value_at}
+use Rattle.volume_format.specs.AttributeBytes.{IsPartBytes, indexed_byte, padded_bytes, resident_bytes, resident_header, resident_len, value_at}
 
 pub length-padded_bytes : (bytes : List ℕ) → length (padded_bytes bytes) ≡ up_to_8 (length bytes)
 length-padded_bytes bytes = simp (length-append, length-replicate) (omega arith)
@@ -63,7 +63,7 @@ module _ (kind : ℕ) (name : List ℕ) (id indexed : ℕ) (value : List ℕ) (s
   length-text : length text ≡ resident_len name value
   length-text = simp (length-append, length-replicate) (omega arith)
 
-  part-text : IsPart text kind name id (Value value)
+  part-text : IsPartBytes text kind name id (Value value)
   unfolding attribute_at
   part-text n = parts_same n _ kind _ id _ 0 _ name _ (Value value) kind-text name-text id-text refl (ap Value content-text)
 
@@ -85,7 +85,7 @@ module _ (kind : ℕ) (name : List ℕ) (id indexed : ℕ) (value : List ℕ) (s
 -- What the bytes are.
 pub record IsResident (bytes : List ℕ) (kind : ℕ) (name : List ℕ) (id : ℕ) (value : List ℕ) : Type 0 where
   pub one : IsOneAttribute bytes
-  pub part : IsPart bytes kind name id (Value value)
+  pub part : IsPartBytes bytes kind name id (Value value)
   pub len : length bytes ≡ resident_len name value
   pub aligned : value_offset bytes 0 % 8 ≡ 0
 

@@ -15,7 +15,7 @@ use Rattle.volume_def.specs.IndexesClause.{HasIndex, KeyRule, hash_rule, id_rule
 use Rattle.volume_def.specs.View.{VolumeView}
 use Rattle.volume_format.specs.Plan.{Plan, descriptor_hash, descriptor_header, descriptor_id, last_entry, record_in_list, record_list, record_count, root_value, view_entry}
 use Rattle.volume_format.specs.Planned.{IsPlanned}
-use Rattle.volume_format.specs.SystemItems.{hash_items, id_items}
+use Rattle.volume_format.specs.IndexItems.{hash_items, id_items}
 use Rattle.volume_format.proofs.Leaves.{leaf}
 use Rattle.volume_format.proofs.IndexNodes.{hashes-say, ids-say, words-say}
 use Rattle.volume_format.proofs.IndexTrees.{HasIndex-leaf}

@@ -55,7 +55,7 @@ unfoldable pub extent_bytes : ℕ → List ℕ → ℕ → Sizes → List ℕ �
 extent_bytes kind name id sizes text = extent_header kind name id sizes (length text) ++ (padded_bytes name ++ text)
 
 -- The numbers fit in their fields.
-pub record FitSizes (sizes : Sizes) : Type 0 where
+pub record FitFields (sizes : Sizes) : Type 0 where
   pub allocated : sizes.allocated < 2 ^ 64
   pub real : sizes.real < 2 ^ 64
   pub initialized : sizes.initialized < 2 ^ 64
@@ -79,5 +79,5 @@ abbrev pub one_run : Sizes → Run → Content
 one_run sizes run = Clusters (record { sizes = sizes; compressed = None }) (Some (run ∷ []))
 
 -- The bytes are this part of a file, whatever record holds it.
-abbrev pub IsPart : List ℕ → ℕ → List ℕ → ℕ → Content → Type 0
-IsPart bytes kind name id content = (n : ℕ) → part_of n (attribute_at bytes 0) ≡ part n kind name id content
+abbrev pub IsPartBytes : List ℕ → ℕ → List ℕ → ℕ → Content → Type 0
+IsPartBytes bytes kind name id content = (n : ℕ) → part_of n (attribute_at bytes 0) ≡ part n kind name id content
