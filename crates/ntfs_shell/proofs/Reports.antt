@@ -2,13 +2,13 @@
 use Rattle.std.proofs.Common.{◌≡◌, ℕ, List, Some, refl, inl, inr}
 use Rattle.ntfs_shell.specs.declared.ending.Ending.{Ending}
 use Rattle.vol_disk.specs.Stream.{Appended}
-use Rattle.ntfs_shell.specs.Report.{Report, says, refuses, text_of, ending_of, Reported, ReportEnds}
+use Rattle.ntfs_shell.specs.Report.{Report, says, refuses, text_of, ending_of, IsReported, ReportEnds}
 use Rattle.ntfs_shell.specs.Shown.{Shown}
 use Rattle.ntfs_shell.specs.World.{World, OnlyReads, Blames}
 
 -- a report that was printed whole
 reported_whole : (IsReport : Report → Type 0) (report : Report) (old new : World) → IsReport report
-    → Appended old.got (text_of report) new.got → Reported IsReport (ending_of report) old new
+    → Appended old.got (text_of report) new.got → IsReported IsReport (ending_of report) old new
 reported_whole IsReport (says text) old new is all = (says text, is, record { ends = refl; text = all })
 reported_whole IsReport (refuses refusal) old new is all = (refuses refusal, is, record { ends = refl; text = all })
 
