@@ -11,7 +11,7 @@ use Rattle.volume_format.specs.Written.{sector_at}
 use Rattle.ntfs_shell.specs.declared.ending.Ending.{Ending}
 use Rattle.ntfs_shell.specs.declared.ending.Ending.TheVariants as ending
 use Rattle.ntfs_shell.specs.Format.{FormatEnds, Makes, made_text}
-use Rattle.ntfs_shell.specs.Shown.{Shown}
+use Rattle.ntfs_shell.specs.Printing.{EndsPrinting}
 use Rattle.ntfs_shell.specs.World.{World}
 
 -- what is not denied of numbers holds
@@ -54,7 +54,7 @@ AreInRange-stable disk o nn = record {
 
 -- what is shown of a volume that was made
 pub ends-made : (o : Options) (given : Ending) (text : List ℕ) (old new : World) → Makes o old new → text ≡ made_text o
-    → Shown text ending.Done given old.got new.got old.sink_faults new.sink_faults
+    → EndsPrinting text ending.Done given old.got new.got old.sink_faults new.sink_faults
     → new.disk_faults ≡ old.disk_faults
     → ((sector : ℕ) → sector_at (plan_of o) (items_end (plan_of o)) ≤ sector → sector_in new.now sector ≡ sector_in old.now sector)
     → is_some new.now ≡ is_some old.now → new.fenced ≡ old.fenced → new.sectors ≡ old.sectors → new.fetched ≡ old.fetched

@@ -11,7 +11,7 @@ use Rattle.ntfs_shell.specs.declared.stop.Stop.{Stop}
 use Rattle.ntfs_shell.specs.Label.{LabelReports, RecordReports, TableReports}
 use Rattle.ntfs_shell.specs.Refusals.{boot_refusal}
 use Rattle.ntfs_shell.specs.Report.{Report, refuses}
-use Rattle.ntfs_shell.specs.Shown.{report_of}
+use Rattle.ntfs_shell.specs.Answers.{report_of}
 use Rattle.ntfs_shell.specs.VolumeRecords.{HasVolumeRecord, RefusesWith}
 
 -- by whether the boot clause holds

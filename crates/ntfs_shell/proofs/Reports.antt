@@ -3,7 +3,7 @@ use Rattle.std.proofs.Common.{◌≡◌, ℕ, List, Some, refl, inl, inr}
 use Rattle.ntfs_shell.specs.declared.ending.Ending.{Ending}
 use Rattle.vol_disk.specs.Stream.{Appended}
 use Rattle.ntfs_shell.specs.Report.{Report, says, refuses, text_of, ending_of, IsReported, ReportEnds}
-use Rattle.ntfs_shell.specs.Shown.{Shown}
+use Rattle.ntfs_shell.specs.Printing.{EndsPrinting}
 use Rattle.ntfs_shell.specs.World.{World, OnlyReads, Blames}
 
 -- a report that was printed whole
@@ -21,7 +21,7 @@ blames_none (refuses refusal) old new disk source sink = record { disk = disk; s
 
 -- what is shown answers the word, where it is the report of the image
 pub ends_shown : (Reports : List ℕ → Report → Type 0) (report : Report) (given : Ending) (old new : World)
-    → Shown (text_of report) (ending_of report) given old.got new.got old.sink_faults new.sink_faults
+    → EndsPrinting (text_of report) (ending_of report) given old.got new.got old.sink_faults new.sink_faults
     → OnlyReads old new → new.disk_faults ≡ old.disk_faults
     → ((image : List ℕ) → old.now ≡ Some image → Reports image report)
     → ReportEnds Reports given old new

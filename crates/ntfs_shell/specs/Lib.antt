@@ -1,3 +1,4 @@
+pub mod Answers
 pub mod Boot
 pub mod Ending
 pub mod Format
@@ -5,7 +6,7 @@ pub mod Fronts
 pub mod Label
 pub mod Refusals
 pub mod Report
-pub mod Shown
+pub mod Printing
 pub mod Stops
 pub mod Text
 pub mod VolumeRecords

@@ -5,16 +5,15 @@ ghost use Rattle.vol_disk.specs.Reading.{DiskReads};
 ghost use Rattle.vol_stage.specs.Staged.{StageReads, disk_of, image};
 ghost use Rattle.mft_table.specs.TableNos.{CountsNo as CountsTableNo, Refuses};
 ghost use Rattle.ntfs_shell.specs.Label.{LabelReports, RecordReports};
-ghost use Rattle.ntfs_shell.specs.Shown.{report_of};
+ghost use Rattle.ntfs_shell.specs.Answers.{report_of};
 ghost use Rattle.ntfs_shell.specs.Stops.{CountsNo};
 ghost use Rattle.ntfs_shell.specs.VolumeRecords.{HasVolumeRecord, RefusesWith};
 ghost use Rattle.ntfs_shell.specs.World.{world};
 ghost use Rattle.ntfs_shell.specs.Report.{Report, ReportEnds};
 
 use crate::answer::{Answer, show};
-use crate::boot::boot_refusal;
 use crate::ending::Ending;
-use crate::refusal::{NO_TABLE, NO_VOLUME_RECORD};
+use crate::refusal::{NO_TABLE, NO_VOLUME_RECORD, boot_refusal};
 use crate::stop::Stop;
 use crate::volume::report_volume;
 use mft_table::{TableNo, find_table, open_record};

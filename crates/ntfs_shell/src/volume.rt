@@ -4,7 +4,7 @@ ghost use Rattle.std.specs.Option.{option_copied};
 ghost use Rattle.volume_def.specs.VolumeRecord.{label_units, version_in};
 ghost use Rattle.attr_view.specs.View.{attributes_of};
 ghost use Rattle.ntfs_shell.specs.Label.{label_text, name_line, version_line, volume_report};
-ghost use Rattle.ntfs_shell.specs.Shown.{report_of};
+ghost use Rattle.ntfs_shell.specs.Answers.{report_of};
 
 use crate::answer::Answer;
 use crate::refusal::NO_VERSION;
