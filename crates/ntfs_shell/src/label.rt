@@ -7,7 +7,7 @@ ghost use Rattle.mft_table.specs.TableNos.{CountsNo as CountsTableNo, Refuses};
 ghost use Rattle.ntfs_shell.specs.Label.{LabelReports, RecordReports};
 ghost use Rattle.ntfs_shell.specs.Answers.{report_of};
 ghost use Rattle.ntfs_shell.specs.Stops.{CountsNo};
-ghost use Rattle.ntfs_shell.specs.VolumeRecords.{HasVolumeRecord, RefusesWith};
+ghost use Rattle.ntfs_shell.specs.LabelSteps.{HasVolumeRecord, RefusesWith};
 ghost use Rattle.ntfs_shell.specs.World.{world};
 ghost use Rattle.ntfs_shell.specs.Report.{Report, ReportEnds};
 
