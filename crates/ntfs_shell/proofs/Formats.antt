@@ -1,11 +1,9 @@
 -- A run that made a new volume.
-use Rattle.std.proofs.Common.{◌≡◌, ◌≢◌, ◌⊎◌, ℕ, ◌≤◌, Bool, true, false, List, refl, inl, inr, subst, arith}
-use Rattle.std.specs.Prelude.{◌==◌, nat_le, is_some}
-use Rattle.std.proofs.lemmas.Bool.Decides.{nat_tests}
+use Rattle.std.proofs.Common.{◌≡◌, ℕ, ◌≤◌, List, inl, inr, subst}
+use Rattle.std.specs.Prelude.{is_some}
 use Rattle.vol_disk.specs.Contents.{sector_in}
 use Rattle.vol_disk.specs.Stream.{Appended, AppendedPart}
-use Rattle.volume_format.specs.FitsPlan.{IsClusterSize}
-use Rattle.volume_format.specs.Options.{AreInRange, Options, plan_of}
+use Rattle.volume_format.specs.Options.{Options, plan_of}
 use Rattle.volume_format.specs.Plan.{items_end}
 use Rattle.volume_format.specs.Written.{sector_at}
 use Rattle.ntfs_shell.specs.declared.ending.Ending.{Ending}

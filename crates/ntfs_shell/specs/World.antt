@@ -38,7 +38,7 @@ world d s k disk source sink = record {
   sink_faults = k.faults sink;
 }
 
--- the contents of the disk are as they were, and nothing was asked to be written or settled
+-- the contents of the disk are as they were, and so is what it counts of writes
 pub record KeepsContents (old new : World) : Type 0 where
   pub now : new.now ≡ old.now
   pub settled : new.settled ≡ old.settled

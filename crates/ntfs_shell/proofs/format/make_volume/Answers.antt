@@ -1,4 +1,4 @@
-use Rattle.std.proofs.Common.{refl, ap, ◌∙◌}
+use Rattle.std.proofs.Common.{refl, ap, inl, inr, ◌∙◌}
 use Rattle.ntfs_shell.specs.Text.{formatted_text}
 use Rattle.ntfs_shell.proofs.Formats.{ends-made}
 use Rattle.ntfs_shell.proofs.format.make_volume.Goals as goal
