@@ -1,4 +1,5 @@
--- What the word label prints of an image: the volume's name and version, or the first clause that refuses it.
+-- What the word label prints of an image: the volume's name and version, or a clause that
+-- refuses it: S1, S2, or of S3 and S14 what record 3 alone tells.
 use Rattle.std.specs.Prelude.{◌≡◌, ◌⊎◌, ℕ, List, Option, Some, None, MatchOption}
 use Rattle.vol_disk.specs.Contents.{sector_in}
 use Rattle.ntfs_def.specs.Boot.{boot_sector, image_boot_failing}

@@ -87,8 +87,8 @@ fn report_label<D: Disk>(alloc: Global, disk: &mut D) -> Result<Answer, Stop>
     answer
 }
 
-/// Prints the name and the version of the volume, or the first clause that refuses it. It reads the
-/// boot sector and the records 0 and 3.
+/// Prints the name and the version of the volume, or a clause that refuses it: S1, S2, or of S3 and S14
+/// what record 3 tells. It reads the boot sector and the records 0 and 3.
 pub fn label<D: Disk, S: Source, K: Sink>(
     alloc: Global,
     disk: &mut D,
