@@ -1,11 +1,11 @@
 -- An attribute that is found among those of a file, and the part that it is.
 use Rattle.std.proofs.Common.{cond, leb, subst, ◌≡◌, ◌≤◌, ℕ, ◌&&◌, Bool, true, false, List, [], ◌∷◌, ◌++◌, Option, Some, None, refl, sym, ap, ◌∙◌}
-use Rattle.std.specs.Prelude.{find, filter, map, flat_map}
+use Rattle.std.specs.Prelude.{find, map, flat_map}
 use Rattle.std.proofs.lemmas.Bool.{leb-true}
 use Rattle.ntfs_def.specs.Attribute.{Attribute, Body, ExtentHeader, NonResident, Resident, attributes}
 use Rattle.volume_def.specs.Files.{Part, content_of, content_extent, is_of, part_of}
 use Rattle.volume_def.specs.Spans.{is_within, spans_vcn}
-use Rattle.volume_def.proofs.FindLaws.{find-found}
+use Rattle.volume_def.proofs.FindLaws.{find-filter, find-found}
 use Rattle.file_record.specs.declared.parts.FileParts.{FileParts}
 use Rattle.file_record.specs.declared.held.Held.{Held}
 use Rattle.file_record.specs.Held.{attributes_held, attributes_in, held_of, parts_held, parts_of}
@@ -41,16 +41,6 @@ found-held p q each (one ∷ held) =
     found-in p q one.number (each one.number) (attributes one.block) (flat_map attributes_in held) (flat_map parts_of held)
     (found-held p q each held)
 
-filter-step : {X : Type 0} (p : X → Bool) (b : Bool) (x : X) (xs : List X)
-    → find p (cond b (x ∷ xs) xs) ≡ cond (b && p x) (Some x) (find p xs)
-filter-step p true x xs = refl
-filter-step p false x xs = refl
-
--- a search among those that pass
-pub find-filter : {X : Type 0} (r p : X → Bool) (xs : List X) → find p (filter r xs) ≡ find (λ x. r x && p x) xs
-find-filter r p [] = refl
-find-filter r p (x ∷ xs) = filter-step p (r x) x (filter r xs) ∙ ap (cond (r x && p x) (Some x)) (find-filter r p xs)
-
 found-none : (x : Option Attribute) (y : Option Part) → IsFoundAs x y → x ≡ None → y ≡ None
 found-none None None same is = refl
 found-none None (Some part) same is = absurd same
@@ -67,7 +57,7 @@ among-held : (file : FileParts) (wanted : Attribute) (vcn : ℕ)
     → IsFoundAs (find (spans_like wanted vcn) (attributes_held file)) (find (spans_vcn vcn) (parts_held_like file wanted))
 among-held file wanted vcn =
     subst (IsFoundAs (find (spans_like wanted vcn) (attributes_held file)))
-    (sym (find-filter (is_of wanted.kind wanted.name) (spans_vcn vcn) (parts_held file)))
+    (sym (find-filter (spans_vcn vcn) (is_of wanted.kind wanted.name) (parts_held file)))
     (found-held (λ part. is_of wanted.kind wanted.name part && spans_vcn vcn part) (spans_like wanted vcn) (λ n a. refl) (held_of file))
 
 pub held-none : (file : FileParts) (wanted : Attribute) (vcn : ℕ) → find (spans_like wanted vcn) (attributes_held file) ≡ None

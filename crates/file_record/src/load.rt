@@ -127,7 +127,7 @@ impl FileParts {
         ensures err { IfErr result IsReadNo }
         ensures faults { MatchResult result (λ _. faults_of D.Disk mft.new ≡ faults_of D.Disk mft.old)
             (CountsNo (faults_of D.Disk mft.old) (faults_of D.Disk mft.new)) }
-        ensures only_reads { MftReads D.Disk mft.old mft.new 20678 }
+        ensures reads { MftReads D.Disk mft.old mft.new 20678 }
         ensures fetched { WhereReadable (view D.Disk mft.old) (IsFile (view D.Disk mft.old) number
             → MftReads D.Disk mft.old mft.new (file_reads (view D.Disk mft.old) number)) }
     {

@@ -18,7 +18,7 @@ use Rattle.ntfs_def.specs.Node.{Item, Entry, Node, Whole, IsWholeEntry, are_shor
 use Rattle.ntfs_def.specs.declared.index.NodeForm.{NodeForm}
 use Rattle.ntfs_def.specs.declared.index.NodeForm.TheVariants.{Names, View}
 use Rattle.index_node.proofs.NodeLaws.{are_short-is, short_next, u16_within, u64_within, item_in-own, entry_whole, flag_is, scan_at_entry, scan_at_last, scan_node-is, child_at-some, child_at-none}
-use Rattle.index_node.specs.LayOut.{AreEntries, AreEntriesFrom, AreShort, Holds, KeepsHeader, SetsHeader, node_from, node_listed, total_len, with_entry}
+use Rattle.index_node.specs.LayOut.{AreEntries, AreEntriesFrom, AreShort, HoldsPieces, KeepsHeader, SetsHeader, node_from, node_listed, total_len, with_entry}
 
 -- The bytes that entries take, where they fit.
 pub need_is : (total need free room first : ℕ) → need ≡ min total (2 ^ 64 - 1) → need ≤ free → free ≡ room - first → room < 2 ^ 33
@@ -48,22 +48,22 @@ range_same old new a b len same =
     ∙ same (a + k) (omega arith) (omega (arith, m, lt))
     ∙ sym (get_or-take (b - a) (drop a old) k 0 (omega (arith, m, lt)) ∙ get_or-drop a old k 0))
 
-pub Holds-same : (old new : List ℕ) (at : ℕ) (pieces : List (List ℕ)) → length new ≡ length old
-    → ((k : ℕ) → at ≤ k → k < at + total_len pieces → get_or new k 0 ≡ get_or old k 0) → Holds old at pieces → Holds new at pieces
-Holds-same old new at [] len same holds = tt
-Holds-same old new at (piece ∷ pieces) len same holds =
+pub HoldsPieces-same : (old new : List ℕ) (at : ℕ) (pieces : List (List ℕ)) → length new ≡ length old
+    → ((k : ℕ) → at ≤ k → k < at + total_len pieces → get_or new k 0 ≡ get_or old k 0) → HoldsPieces old at pieces → HoldsPieces new at pieces
+HoldsPieces-same old new at [] len same holds = tt
+HoldsPieces-same old new at (piece ∷ pieces) len same holds =
     let sum : total_len (piece ∷ pieces) ≡ length piece + total_len pieces = sum_by-cons length piece pieces in (
       range_same old new at (at + length piece) len (λ k from to. same k from (omega arith)) ∙ holds.0,
-      Holds-same old new (at + length piece) pieces len (λ k from to. same k (omega arith) (omega arith)) holds.1,
+      HoldsPieces-same old new (at + length piece) pieces len (λ k from to. same k (omega arith) (omega arith)) holds.1,
     )
 
-pub Holds-more : (node : List ℕ) (at place : ℕ) (pieces : List (List ℕ)) (piece : List ℕ) → place ≡ at + total_len pieces
-    → Holds node at pieces → Holds node place (piece ∷ [])
-    → Holds node at (pieces ++ piece ∷ [])
-Holds-more node at place [] piece is holds more = subst (λ p. Holds node p (piece ∷ [])) (omega arith) more
-Holds-more node at place (first ∷ pieces) piece is holds more =
+pub HoldsPieces-more : (node : List ℕ) (at place : ℕ) (pieces : List (List ℕ)) (piece : List ℕ) → place ≡ at + total_len pieces
+    → HoldsPieces node at pieces → HoldsPieces node place (piece ∷ [])
+    → HoldsPieces node at (pieces ++ piece ∷ [])
+HoldsPieces-more node at place [] piece is holds more = subst (λ p. HoldsPieces node p (piece ∷ [])) (omega arith) more
+HoldsPieces-more node at place (first ∷ pieces) piece is holds more =
     let sum : total_len (first ∷ pieces) ≡ length first + total_len pieces = sum_by-cons length first pieces in
-    (holds.0, Holds-more node (at + length first) place pieces piece (omega arith) holds.1 more)
+    (holds.0, HoldsPieces-more node (at + length first) place pieces piece (omega arith) holds.1 more)
 
 sixteen : (n : ℕ) → 0 + 16 ≤ n → 16 ≤ n
 sixteen n h = omega arith
@@ -218,7 +218,7 @@ few_entries form children entry (next ∷ entries) h =
 -- The entries are read again, one behind the other.
 pub scan_listed : (form : NodeForm) (node : List ℕ) (children : Bool) (end : ℕ) (entry : List ℕ) (entries : List (List ℕ))
     (most at : ℕ) → length entries < most
-    → AreEntriesFrom form children entry entries → Holds node at (entry ∷ entries) → at + total_len (entry ∷ entries) ≤ end
+    → AreEntriesFrom form children entry entries → HoldsPieces node at (entry ∷ entries) → at + total_len (entry ∷ entries) ≤ end
     → scan_from form node children end most at ≡ Whole (node_from children entry entries)
 scan_listed form node children end entry entries zero at few each holds inside = absurd (omega arith)
 scan_listed form node children end entry [] (suc most) at few each holds inside =
@@ -246,7 +246,7 @@ and_parts a b h = search rules
 
 -- The entries of the node are short exactly where the pieces are.
 short_listed : (form : NodeForm) (node : List ℕ) (children : Bool) (most at : ℕ) (entry : List ℕ) (entries : List (List ℕ))
-    → AreEntriesFrom form children entry entries → Holds node at (entry ∷ entries)
+    → AreEntriesFrom form children entry entries → HoldsPieces node at (entry ∷ entries)
     → All (λ piece. length piece ≤ most) (entry ∷ entries)
     → are_short_from node most at (length (node_from children entry entries).entries) ≡ true
 short_listed form node children most at entry [] each holds short =
@@ -266,7 +266,7 @@ short_listed form node children most at entry (next ∷ entries) each holds shor
     (All-tail (λ piece. length piece ≤ most) entry (next ∷ entries) short)
 
 listed_short : (form : NodeForm) (node : List ℕ) (children : Bool) (most at : ℕ) (entry : List ℕ) (entries : List (List ℕ))
-    → AreEntriesFrom form children entry entries → Holds node at (entry ∷ entries)
+    → AreEntriesFrom form children entry entries → HoldsPieces node at (entry ∷ entries)
     → are_short_from node most at (length (node_from children entry entries).entries) ≡ true
     → All (λ piece. length piece ≤ most) (entry ∷ entries)
 listed_short form node children most at entry [] each holds short =
@@ -467,7 +467,7 @@ module _ (old mid new : List ℕ) (children : Bool) (end first : ℕ) (sets : Se
       half n true = omega arith
       half n false = omega arith
 
-  pub laid_node : (form : NodeForm) (entries : List (List ℕ)) → AreEntries form children entries → Holds new first entries
+  pub laid_node : (form : NodeForm) (entries : List (List ℕ)) → AreEntries form children entries → HoldsPieces new first entries
       → end ≡ first + total_len entries
       → node_in form new ≡ Some (node_listed children entries)
   laid_node form [] are holds all = absurd are
@@ -486,7 +486,7 @@ module _ (old mid new : List ℕ) (children : Bool) (end first : ℕ) (sets : Se
   laid_are_short entry entries =
       sym (are_short-is new _ _ (most_len children) first refl (ap most_len (sym laid_children)) (at ∙ sym first_same))
 
-  pub laid_short : (form : NodeForm) (entries : List (List ℕ)) → AreEntries form children entries → Holds new first entries
+  pub laid_short : (form : NodeForm) (entries : List (List ℕ)) → AreEntries form children entries → HoldsPieces new first entries
       → node_in form new ≡ Some (node_listed children entries)
       → (short_node form new ≡ Some (node_listed children entries)) ↔ AreShort children entries
   laid_short form [] are holds is = absurd are

@@ -6,7 +6,7 @@ use Rattle.index_node.specs.declared.blocks.BlockNo.TheVariants.{Device, NoRoom,
 
 -- Why a call that only reads fails, and what that did to the count of the disk's faults: the disk failed, and the count
 -- rose, or there was no memory, and it stayed.
-abbrev pub ReadRefuses : ℕ → ℕ → BlockNo → Type 0
-ReadRefuses before after Device = Rose before after
-ReadRefuses before after NoRoom = ⊥
-ReadRefuses before after Memory = after ≡ before
+abbrev pub CountsNo : ℕ → ℕ → BlockNo → Type 0
+CountsNo before after Device = Rose before after
+CountsNo before after NoRoom = ⊥
+CountsNo before after Memory = after ≡ before

@@ -39,9 +39,9 @@ abbrev pub room_len : List ℕ → ℕ
 room_len node = room_end node - first_entry node
 
 -- Bytes hold these pieces one behind the other, from a place on.
-abbrev pub Holds : List ℕ → ℕ → List (List ℕ) → Type 0
-Holds node at [] = Unit {0}
-Holds node at (piece ∷ pieces) = (slice_range node at (at + length piece) ≡ piece) × Holds node (at + length piece) pieces
+abbrev pub HoldsPieces : List ℕ → ℕ → List (List ℕ) → Type 0
+HoldsPieces node at [] = Unit {0}
+HoldsPieces node at (piece ∷ pieces) = (slice_range node at (at + length piece) ≡ piece) × HoldsPieces node (at + length piece) pieces
 
 -- The header says that the entries end there, and whether they lead to children; all other bytes stay.
 pub record SetsHeader (old new : List ℕ) (children : Bool) (end : ℕ) : Type 0 where

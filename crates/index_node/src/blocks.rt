@@ -3,7 +3,7 @@ ghost use Rattle.std.specs.Prelude.{◌≡◌, ℕ, ◌+◌, ◌≤◌, Option, 
 ghost use Rattle.std.specs.Option.{option_map};
 ghost use Rattle.vol_disk.specs.Contents.{WhereTold};
 ghost use Rattle.vol_disk.specs.Count.{next_count};
-ghost use Rattle.index_node.specs.Blocks.{ReadRefuses};
+ghost use Rattle.index_node.specs.Blocks.{CountsNo};
 
 use thiserror::Error;
 
@@ -80,7 +80,7 @@ pub trait Blocks {
         ensures full { full self.new ≡ full self.old }
 
         ensures faults { MatchResult result (λ _. faults self.new ≡ faults self.old)
-            (ReadRefuses (faults self.old) (faults self.new)) };
+            (CountsNo (faults self.old) (faults self.new)) };
 
     ghost are: { (it : Self) → records it ≡ option_map (λ volume. index_record_in volume (file it)) (volume it) };
 

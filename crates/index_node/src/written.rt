@@ -2,7 +2,7 @@
 ghost use Rattle.std.specs.Prelude.{◌≡◌, ◌↔◌, ◌+◌, ◌-◌, ◌≤◌, ◌^◌, min, ◌∷◌, [], IfErr, IsOk, OnErr, OnOk, Some, None, length};
 ghost use Rattle.vol_bytes.specs.Field.{SameOutside};
 ghost use Rattle.ntfs_def.specs.Node.{entries_end, first_entry, has_children, node_header, node_header_failing, node_in, room_end, short_node};
-ghost use Rattle.index_node.specs.LayOut.{AreEntries, AreShort, Holds, KeepsHeader, LacksRoom, SetsHeader, node_listed, room_len, total_len};
+ghost use Rattle.index_node.specs.LayOut.{AreEntries, AreShort, HoldsPieces, KeepsHeader, LacksRoom, SetsHeader, node_listed, room_len, total_len};
 
 use crate::NodeNo;
 use crate::shape::{first_entry, node_header, room_end};
@@ -36,7 +36,7 @@ fn put_header(node: &mut [u8], children: bool, end: usize)
 // Writes the bytes of an entry.
 fn put_entry(node: &mut [u8], at: usize, entry: &[u8])
     requires { at + length entry.now ≤ length node.old }
-    ensures holds { Holds node.new at (entry.now ∷ []) }
+    ensures holds { HoldsPieces node.new at (entry.now ∷ []) }
     ensures rest { SameOutside node.old node.new at (at + length entry.now) }
 {
     node[at..at + entry.len()].copy_from_slice(entry);
@@ -45,7 +45,7 @@ fn put_entry(node: &mut [u8], at: usize, entry: &[u8])
 // Writes entries, one behind the other.
 fn put_entries(node: &mut [u8], first: usize, entries: &[Octets])
     requires { first + total_len entries.now ≤ length node.old }
-    ensures holds { Holds node.new first entries.now }
+    ensures holds { HoldsPieces node.new first entries.now }
     ensures rest { SameOutside node.old node.new first (first + total_len entries.now) }
 {
     let mut at = first;
@@ -72,7 +72,7 @@ pub fn lay_out(
     ensures ok { OnOk result (node_in form node.new ≡ Some (node_listed children entries.now)) }
     ensures short { OnOk result
         ((short_node form node.new ≡ Some (node_listed children entries.now)) ↔ AreShort children entries.now) }
-    ensures bytes { OnOk result (Holds node.new (first_entry node.old) entries.now) }
+    ensures bytes { OnOk result (HoldsPieces node.new (first_entry node.old) entries.now) }
     ensures end { OnOk result (entries_end node.new ≡ first_entry node.old + total_len entries.now) }
     ensures header { OnOk result (KeepsHeader node.old node.new) }
     ensures flag { OnOk result (has_children node.new ≡ children) }

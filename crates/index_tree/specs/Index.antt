@@ -1,7 +1,7 @@
 -- What an index shows, and what its calls answer.
 use Rattle.std.specs.Prelude.{ℕ}
 use Rattle.ntfs_def.specs.declared.index.NodeForm.{NodeForm}
-use Rattle.index_node.specs.Blocks.{ReadRefuses}
+use Rattle.index_node.specs.Blocks.{CountsNo as CountsBlockNo}
 use Rattle.index_node.specs.declared.blocks.BlockNo.{BlockNo}
 use Rattle.index_node.specs.declared.blocks.BlockNo.TheVariants.{Device as BlockDevice, NoRoom as BlockNoRoom, Memory as BlockMemory}
 use Rattle.index_tree.specs.declared.Index.{Index}
@@ -31,5 +31,5 @@ block_no_of NoRoom = BlockNoRoom
 block_no_of Memory = BlockMemory
 
 -- why a call that only reads fails: as a read of a record does
-abbrev pub Refuses : ℕ → ℕ → IndexNo → Type 0
-Refuses before after answer = ReadRefuses before after (block_no_of answer)
+abbrev pub CountsNo : ℕ → ℕ → IndexNo → Type 0
+CountsNo before after answer = CountsBlockNo before after (block_no_of answer)

@@ -2,7 +2,7 @@
 ghost use Rattle.std.specs.Prelude.{◌≡◌, IsTrue, IfOk, IfSome, MatchResult};
 ghost use Rattle.ntfs_def.specs.Node.{node_in};
 ghost use Rattle.vol_disk.specs.Contents.{WhereTold};
-ghost use Rattle.index_tree.specs.Index.{Refuses, form_of, limit_of, order_of};
+ghost use Rattle.index_tree.specs.Index.{CountsNo, form_of, limit_of, order_of};
 ghost use Rattle.index_tree.specs.Search.{Costs, CostsBelow, Finds, FindsBelow, HasRising, HasRisingIndex, IsKeyed, nodes_of};
 
 use crate::seek::{or_entry, seek_in};
@@ -46,7 +46,7 @@ fn first_below<B: Blocks, C: Collation>(
     ensures full { B.full blocks.new ≡ B.full blocks.old }
 
     ensures faults { MatchResult result (λ _. B.faults blocks.new ≡ B.faults blocks.old)
-        (Refuses (B.faults blocks.old) (B.faults blocks.new)) }
+        (CountsNo (B.faults blocks.old) (B.faults blocks.new)) }
 {
     let Some(vcn) = child else {
         return Ok(None);
@@ -114,7 +114,7 @@ impl<C: Collation> Index<C> {
         ensures full { B.full blocks.new ≡ B.full blocks.old }
 
         ensures faults { MatchResult result (λ _. B.faults blocks.new ≡ B.faults blocks.old)
-            (Refuses (B.faults blocks.old) (B.faults blocks.new)) }
+            (CountsNo (B.faults blocks.old) (B.faults blocks.new)) }
     {
         let Ok(node) = NodeView::new(root, self.form) else {
             return Ok(None);

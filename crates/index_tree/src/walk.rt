@@ -4,7 +4,7 @@ ghost use Rattle.ntfs_def.specs.IndexTree.{Each};
 ghost use Rattle.ntfs_def.specs.Node.{IsOwnEntry, node_in};
 ghost use Rattle.vol_disk.specs.Contents.{WhereTold};
 ghost use Rattle.index_node.specs.View.{form_of_view, node_of_view};
-ghost use Rattle.index_tree.specs.Index.{Refuses, form_of};
+ghost use Rattle.index_tree.specs.Index.{CountsNo, form_of};
 ghost use Rattle.index_tree.specs.Search.{nodes_of};
 ghost use Rattle.index_tree.specs.Walk.{CostsNode, CostsTree, CostsWalk, HasSpread, HasTree, HasWalk, IsWalk, WalksNode, WalksTree};
 
@@ -53,7 +53,7 @@ fn walk_tree<B: Blocks>(
     ensures full { B.full blocks.new ≡ B.full blocks.old }
 
     ensures faults { MatchResult result (λ _. B.faults blocks.new ≡ B.faults blocks.old)
-        (Refuses (B.faults blocks.old) (B.faults blocks.new)) }
+        (CountsNo (B.faults blocks.old) (B.faults blocks.new)) }
 {
     let Some(vcn) = child else {
         return Ok(());
@@ -98,7 +98,7 @@ fn walk_node<B: Blocks>(
     ensures full { B.full blocks.new ≡ B.full blocks.old }
 
     ensures faults { MatchResult result (λ _. B.faults blocks.new ≡ B.faults blocks.old)
-        (Refuses (B.faults blocks.old) (B.faults blocks.new)) }
+        (CountsNo (B.faults blocks.old) (B.faults blocks.new)) }
 {
     for i in 0..node.entries() {
         walk_tree(alloc, blocks, node.form(), node.child(i), level, out)?;
@@ -149,7 +149,7 @@ impl<C> Index<C> {
         ensures full { B.full blocks.new ≡ B.full blocks.old }
 
         ensures faults { MatchResult result (λ _. B.faults blocks.new ≡ B.faults blocks.old)
-            (Refuses (B.faults blocks.old) (B.faults blocks.new)) }
+            (CountsNo (B.faults blocks.old) (B.faults blocks.new)) }
     {
         let mut out = Vec::new(alloc);
         let Ok(node) = NodeView::new(root, self.form) else {

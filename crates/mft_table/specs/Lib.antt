@@ -1,7 +1,6 @@
 pub mod Tables
 pub mod StageCauses
 pub mod TableNos
-pub mod Blocks
 pub mod Mounted
 pub mod Mft
 pub mod MftNos

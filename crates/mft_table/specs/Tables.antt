@@ -4,6 +4,7 @@ use Rattle.ntfs_def.specs.declared.run_text.Run.{Run}
 use Rattle.ntfs_def.specs.Fixup.{opened_of}
 use Rattle.volume_def.specs.Table.{IsRecord, TellsTable, TableLayout}
 use Rattle.ntfs_boot.specs.declared.Geometry.{Geometry}
+use Rattle.mft_table.specs.declared.blocks.BlockReader.{BlockReader}
 use Rattle.mft_table.specs.declared.table.Table.{Table}
 
 -- the layout of these runs on a volume of this geometry
@@ -20,6 +21,10 @@ layout_on geometry runs initialized count = record {
 -- the table in the format's terms
 abbrev pub table_layout : Table → TableLayout
 table_layout table = layout_on table.geometry table.runs table.initialized table.count
+
+-- .. of the table from which a reader of blocks reads
+abbrev pub reader_layout : BlockReader → TableLayout
+reader_layout reader = layout_on reader.geometry.now reader.runs.now reader.initialized reader.count
 
 -- The layout takes from the geometry what the boot sector tells.
 pub record IsFromGeometry (geometry : Geometry) (layout : TableLayout) : Type 0 where

@@ -64,7 +64,7 @@ pub fn read_two_sectors<D: Disk>(
 }
 
 impl BlockReader<'_> {
-    ghost use Rattle.mft_table.specs.Blocks.{reader_layout};
+    ghost use Rattle.mft_table.specs.Tables.{reader_layout};
 
     fn cluster_sectors(&self) -> u64
         ensures { result ≡ (reader_layout self.now).cluster_sectors }

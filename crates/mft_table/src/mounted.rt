@@ -24,7 +24,7 @@ pub struct Mounted {
 }
 
 impl Mounted {
-    ghost use Rattle.mft_table.specs.Blocks.{reader_layout};
+    ghost use Rattle.mft_table.specs.Tables.{reader_layout};
     ghost use Rattle.mft_table.specs.Mounted.{mounted_layout};
 
     /// Lends a reader of the table's blocks.

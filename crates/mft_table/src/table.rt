@@ -35,8 +35,7 @@ pub struct Table {
 }
 
 impl Table {
-    ghost use Rattle.mft_table.specs.Blocks.{reader_layout};
-    ghost use Rattle.mft_table.specs.Tables.{table_layout};
+    ghost use Rattle.mft_table.specs.Tables.{reader_layout, table_layout};
 
     /// Lends a reader of its blocks.
     pub fn blocks(&self) -> BlockReader<'_>

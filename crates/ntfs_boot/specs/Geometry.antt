@@ -1,5 +1,5 @@
 -- What a boot sector says, as this crate's types.
-use Rattle.std.specs.Prelude.{◌≡◌, ◌⊎◌, ℕ, ◌*◌, ◌/◌, ◌%◌, ◌^◌, ◌<◌, ◌≤◌, IsTrue, List}
+use Rattle.std.specs.Prelude.{◌≡◌, ℕ, ◌*◌, ◌/◌, ◌%◌, ◌^◌, ◌<◌, ◌≤◌, IsTrue, List}
 use Rattle.ntfs_def.specs.Boot.{IsClusterSize, boot_cluster_bytes, total_sectors, cluster_count, mft_cluster, mirror_cluster, serial_number}
 use Rattle.ntfs_boot.specs.declared.Geometry.{Geometry}
 use Rattle.ntfs_boot.specs.declared.BootFault.{BootFault}
@@ -15,9 +15,6 @@ geometry_of boot = record {
   mirror = mirror_cluster boot;
   serial = serial_number boot;
 }
-
-abbrev pub HasClusterSize : ℕ → Type 0
-HasClusterSize sectors = (sectors ≡ 1) ⊎ (sectors ≡ 2) ⊎ (sectors ≡ 4) ⊎ (sectors ≡ 8)
 
 -- What a geometry that was accepted keeps, on a disk of so many sectors.
 pub record FitsDisk (geometry : Geometry) (sectors : ℕ) : Type 0 where

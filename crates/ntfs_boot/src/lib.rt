@@ -3,7 +3,7 @@
 
 ghost use Rattle.std.specs.Prelude.{◌≡◌, ◌^◌, ◌<◌, ◌↔◌, None, Some, IsTrue, IfOk, IfErr};
 ghost use Rattle.ntfs_def.specs.Boot.{boot_failing, cluster_sectors, has_cluster_sectors, has_end_mark, has_name, is_ntfs, spelled_size};
-ghost use Rattle.ntfs_boot.specs.Geometry.{FitsDisk, HasClusterSize, geometry_of, number_of};
+ghost use Rattle.ntfs_boot.specs.Geometry.{FitsDisk, geometry_of, number_of};
 
 #[cfg(test)]
 mod tests;
@@ -84,8 +84,7 @@ fn is_ntfs(boot: &[u8; 512]) -> bool
 }
 
 fn has_cluster_sectors(boot: &[u8; 512]) -> bool
-    ensures test { result ≡ has_cluster_sectors boot.now }
-    ensures one_of { IsTrue result → HasClusterSize (cluster_sectors boot.now) }
+    ensures { result ≡ has_cluster_sectors boot.now }
 {
     matches!(boot[0x0D], 1 | 2 | 4 | 8)
 }

@@ -82,7 +82,7 @@ pub fn unseal(block: &mut [u8]) -> Result<(), FixFault>
     ensures sealed { IsOk result ↔ IsSealed block.old }
     ensures opened { OnOk result (block.new ≡ opened_of block.old) }
     ensures array { OnOk result (HasArray block.new) }
-    ensures refused { IfErr result (Refuses block.old) }
+    ensures err { IfErr result (Refuses block.old) }
     ensures kept { OnErr result (block.new ≡ block.old) }
 {
     if !has_array(block) {

@@ -1,21 +1,10 @@
 -- What boot says of the sector that it read.
-use Rattle.std.proofs.Common.{◌≡◌, ℕ, ◌*◌, ◌/◌, List, length, Option, None, Some, ap, subst, ◌∙◌, arith}
+use Rattle.std.proofs.Common.{◌≡◌, ℕ, ◌*◌, ◌/◌, List, length, Option, Some, ap, ◌∙◌}
 use Rattle.std.specs.Prelude.{IfSome}
 use Rattle.ntfs_def.specs.Boot.{boot_sector, boot_failing}
+use Rattle.mft_table.proofs.BootSectors.{sectors_told}
 use Rattle.ntfs_shell.specs.Boot.{sector_report, boot_report}
 use Rattle.ntfs_shell.specs.Report.{Report}
-
--- the length and the sectors of a disk that tells its contents
-pub length-told : (now : Option (List ℕ)) (image : List ℕ) (size : ℕ)
-    → IfSome now (λ all. length all ≡ 512 * size) → now ≡ Some image → length image ≡ 512 * size
-length-told None image size len e = cc
-length-told (Some all) image size len e =
-    let same : all ≡ image = cc in
-    subst (λ (x : List ℕ). length x ≡ 512 * size) same len
-
-pub sectors_told : (now : Option (List ℕ)) (image : List ℕ) (size : ℕ)
-    → IfSome now (λ all. length all ≡ 512 * size) → now ≡ Some image → size ≡ length image / 512
-sectors_told now image size len e = let long = length-told now image size len e in omega arith
 
 -- the report, by the sector that was read
 pub boot_report-read : (now : Option (List ℕ)) (image sector : List ℕ) (size : ℕ) (answer : Report)

@@ -11,8 +11,8 @@ use Rattle.ntfs_shell.specs.declared.stop.Stop.{Stop}
 use Rattle.ntfs_shell.specs.Label.{LabelReports, RecordReports, TableReports}
 use Rattle.ntfs_shell.specs.Refusals.{boot_refusal}
 use Rattle.ntfs_shell.specs.Report.{Report, refuses}
-use Rattle.ntfs_shell.specs.Shown.{report_of}
-use Rattle.ntfs_shell.specs.VolumeRecords.{HasVolumeRecord, RefusesWith}
+use Rattle.ntfs_shell.specs.Answers.{report_of}
+use Rattle.ntfs_shell.specs.LabelSteps.{HasVolumeRecord, RefusesWith}
 
 -- by whether the boot clause holds
 by_clause : (image : List ℕ) (report : Report) (failing : Option ℕ)

@@ -2,13 +2,13 @@
 use Rattle.std.proofs.Common.{◌≡◌, ℕ, List, Some, refl, inl, inr}
 use Rattle.ntfs_shell.specs.declared.ending.Ending.{Ending}
 use Rattle.vol_disk.specs.Stream.{IsAppended}
-use Rattle.ntfs_shell.specs.Report.{Report, says, refuses, text_of, ending_of, Reported, ReportEnds}
-use Rattle.ntfs_shell.specs.Shown.{Shown}
+use Rattle.ntfs_shell.specs.Report.{Report, says, refuses, text_of, ending_of, IsReported, ReportEnds}
+use Rattle.ntfs_shell.specs.Printing.{EndsPrinting}
 use Rattle.ntfs_shell.specs.World.{World, OnlyReads, Blames}
 
 -- a report that was printed whole
 reported_whole : (IsReport : Report → Type 0) (report : Report) (old new : World) → IsReport report
-    → IsAppended old.got (text_of report) new.got → Reported IsReport (ending_of report) old new
+    → IsAppended old.got (text_of report) new.got → IsReported IsReport (ending_of report) old new
 reported_whole IsReport (says text) old new is all = (says text, is, record { ends = refl; text = all })
 reported_whole IsReport (refuses refusal) old new is all = (refuses refusal, is, record { ends = refl; text = all })
 
@@ -21,7 +21,7 @@ blames_none (refuses refusal) old new disk source sink = record { disk = disk; s
 
 -- what is shown answers the word, where it is the report of the image
 pub ends_shown : (Reports : List ℕ → Report → Type 0) (report : Report) (given : Ending) (old new : World)
-    → Shown (text_of report) (ending_of report) given old.got new.got old.sink_faults new.sink_faults
+    → EndsPrinting (text_of report) (ending_of report) given old.got new.got old.sink_faults new.sink_faults
     → OnlyReads old new → new.disk_faults ≡ old.disk_faults
     → ((image : List ℕ) → old.now ≡ Some image → Reports image report)
     → ReportEnds Reports given old new

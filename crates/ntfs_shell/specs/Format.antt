@@ -31,22 +31,22 @@ made_text o = formatted_text (clusters_in o.sectors o.cluster)
 
 -- What was done and what the sink got, by how the run ended: all of a line, a part of it from the front where the sink failed,
 -- and nothing where the disk failed or memory ran out.
-abbrev pub Answered : Options → Ending → World → World → Type 0
-Answered o ending.Done old new = Makes o old new × IsAppended old.got (made_text o) new.got
-Answered o ending.Refused old new = Declines o old new × IsAppended old.got options_text new.got
-Answered o ending.Sink old new =
+abbrev pub IsAnswered : Options → Ending → World → World → Type 0
+IsAnswered o ending.Done old new = Makes o old new × IsAppended old.got (made_text o) new.got
+IsAnswered o ending.Refused old new = Declines o old new × IsAppended old.got options_text new.got
+IsAnswered o ending.Sink old new =
     (Makes o old new × IsAppendedPart old.got (made_text o) new.got)
     ⊎ (Declines o old new × IsAppendedPart old.got options_text new.got)
-Answered o ending.Device old new = AreInRange old.sectors o × LeavesSink old new
-Answered o ending.Memory old new = KeepsDisk old new × LeavesSink old new
-Answered o ending.Source old new = ⊥
-Answered o ending.TooMuch old new = ⊥
+IsAnswered o ending.Device old new = AreInRange old.sectors o × LeavesSink old new
+IsAnswered o ending.Memory old new = KeepsDisk old new × LeavesSink old new
+IsAnswered o ending.Source old new = ⊥
+IsAnswered o ending.TooMuch old new = ⊥
 
 -- The word ended so. Whatever the ending, it takes nothing from the source, reads nothing from the disk, and leaves the
 -- sectors behind the volume's items.
 pub record FormatEnds (o : Options) (ending : Ending) (old new : World) : Type 0 where
   pub causes : Blames ending old new
-  pub answered : Answered o ending old new
+  pub answered : IsAnswered o ending old new
   pub others : (sector : ℕ) → sector_at (plan_of o) (items_end (plan_of o)) ≤ sector
       → sector_in new.now sector ≡ sector_in old.now sector
   pub told : is_some new.now ≡ is_some old.now

@@ -1,6 +1,6 @@
--- What the word label prints of an image: the volume's name and version, or the first clause that refuses it.
-use Rattle.std.specs.Prelude.{◌≡◌, ◌⊎◌, ℕ, List, [], ◌∷◌, ◌++◌, codes, decimal, Option, Some, None, MatchOption}
-use Rattle.vol_bytes.specs.NameText.{name_text}
+-- What the word label prints of an image: the volume's name and version, or a clause that
+-- refuses it: S1, S2, or of S3 and S14 what record 3 alone tells.
+use Rattle.std.specs.Prelude.{◌≡◌, ◌⊎◌, ℕ, List, Option, Some, None, MatchOption}
 use Rattle.vol_disk.specs.Contents.{sector_in}
 use Rattle.ntfs_def.specs.Boot.{boot_sector, image_boot_failing}
 use Rattle.ntfs_def.specs.Fixup.{opened_of}
@@ -13,19 +13,7 @@ use Rattle.volume_def.specs.Table.{HasNoTable, IsRecord, MeetsTable, TableLayout
 use Rattle.volume_def.specs.VolumeRecord.{label_units, version_in}
 use Rattle.ntfs_shell.specs.Refusals.{boot_refusal, no_table, no_version, no_volume_record}
 use Rattle.ntfs_shell.specs.Report.{Report, says, refuses}
-use Rattle.ntfs_shell.specs.Text.{line_of}
-
--- the line of the name: `label` alone where the volume has none
-abbrev pub name_line : List ℕ → List ℕ
-name_line [] = codes "label\n"
-name_line (unit ∷ units) = line_of (codes "label") (name_text (unit ∷ units))
-
--- both numbers, with a point between them
-abbrev pub version_line : Version → List ℕ
-version_line version = line_of (codes "version") (decimal version.major ++ codes "." ++ decimal version.minor)
-
-unfoldable pub label_text : List ℕ → Version → List ℕ
-label_text units version = name_line units ++ version_line version
+use Rattle.ntfs_shell.specs.Text.{label_text}
 
 -- by the attributes of record 3: its $VOLUME_NAME, and the version in its $VOLUME_INFORMATION
 abbrev pub name_report : List Attribute → Option Version → Report

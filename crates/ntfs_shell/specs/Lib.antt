@@ -1,13 +1,14 @@
+pub mod Answers
 pub mod Boot
 pub mod Ending
 pub mod Format
 pub mod Fronts
 pub mod Label
+pub mod LabelSteps
 pub mod Refusals
 pub mod Report
-pub mod Shown
+pub mod Printing
 pub mod Stops
 pub mod Text
-pub mod VolumeRecords
 pub mod Words
 pub mod World

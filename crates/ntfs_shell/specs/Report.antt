@@ -36,21 +36,21 @@ pub record LeavesSink (old new : World) : Type 0 where
 
 -- What the sink got, where it tells it, by how the run ended: all of the text of the image's report, a
 -- part from the front where the sink failed, and nothing where the disk failed or memory ran out.
-abbrev pub Reported : (Report → Type 0) → Ending → World → World → Type 0
-Reported IsReport ending.Done old new = (report : Report) × IsReport report × PrintsAll report ending.Done old.got new.got
-Reported IsReport ending.Refused old new = (report : Report) × IsReport report × PrintsAll report ending.Refused old.got new.got
-Reported IsReport ending.Sink old new = (report : Report) × IsReport report × IsAppendedPart old.got (text_of report) new.got
-Reported IsReport ending.Device old new = LeavesSink old new
-Reported IsReport ending.Memory old new = LeavesSink old new
-Reported IsReport ending.Source old new = ⊥
-Reported IsReport ending.TooMuch old new = ⊥
+abbrev pub IsReported : (Report → Type 0) → Ending → World → World → Type 0
+IsReported IsReport ending.Done old new = (report : Report) × IsReport report × PrintsAll report ending.Done old.got new.got
+IsReported IsReport ending.Refused old new = (report : Report) × IsReport report × PrintsAll report ending.Refused old.got new.got
+IsReported IsReport ending.Sink old new = (report : Report) × IsReport report × IsAppendedPart old.got (text_of report) new.got
+IsReported IsReport ending.Device old new = LeavesSink old new
+IsReported IsReport ending.Memory old new = LeavesSink old new
+IsReported IsReport ending.Source old new = ⊥
+IsReported IsReport ending.TooMuch old new = ⊥
 
 -- A word that only reads ended so. What it prints is told by the image alone, where the disk tells its
 -- contents.
 pub record ReportEnds (Reports : List ℕ → Report → Type 0) (ending : Ending) (old new : World) : Type 0 where
   pub causes : Blames ending old new
   pub only_reads : OnlyReads old new
-  pub reported : Reported (λ report. WhereTold old.now (λ image. Reports image report)) ending old new
+  pub reported : IsReported (λ report. WhereTold old.now (λ image. Reports image report)) ending old new
 
 -- the status is that of such an ending
 abbrev pub AnswersReport : (List ℕ → Report → Type 0) → World → ℕ → World → Type 0

@@ -4,6 +4,6 @@ use Rattle.vol_disk.specs.Count.{Rose}
 use Rattle.ntfs_shell.specs.declared.stop.Stop.{Stop}
 use Rattle.ntfs_shell.specs.declared.stop.Stop.TheVariants.{Device, Memory}
 
-abbrev pub Stops : ℕ → ℕ → Stop → Type 0
-Stops before after Device = Rose before after
-Stops before after Memory = after ≡ before
+abbrev pub CountsNo : ℕ → ℕ → Stop → Type 0
+CountsNo before after Device = Rose before after
+CountsNo before after Memory = after ≡ before

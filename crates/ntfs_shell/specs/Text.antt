@@ -1,8 +1,10 @@
 -- The printed lines, as bytes.
-use Rattle.std.specs.Prelude.{ℕ, List, ◌++◌, codes, decimal}
+use Rattle.std.specs.Prelude.{ℕ, List, [], ◌∷◌, ◌++◌, codes, decimal}
 use Rattle.byteorder.specs.Endian.{big_bytes}
 use Rattle.hex.specs.Hex.{encode_lower}
+use Rattle.vol_bytes.specs.NameText.{name_text}
 use Rattle.ntfs_boot.specs.declared.Geometry.{Geometry}
+use Rattle.volume_def.specs.declared.version.Version.{Version}
 use Rattle.ntfs_shell.specs.declared.refusal.Refusal.{Refusal}
 
 -- a line: a name, a space and a value
@@ -25,6 +27,19 @@ geometry_text geometry =
     ++ line_of (codes "record") (decimal 1024)
     ++ line_of (codes "index") (decimal 4096)
     ++ line_of (codes "serial") (hexadecimal geometry.serial)
+
+-- the line of the name: `label` alone where the volume has none
+abbrev pub name_line : List ℕ → List ℕ
+name_line [] = codes "label\n"
+name_line (unit ∷ units) = line_of (codes "label") (name_text (unit ∷ units))
+
+-- both numbers, with a point between them
+abbrev pub version_line : Version → List ℕ
+version_line version = line_of (codes "version") (decimal version.major ++ codes "." ++ decimal version.minor)
+
+-- both lines that label prints
+unfoldable pub label_text : List ℕ → Version → List ℕ
+label_text units version = name_line units ++ version_line version
 
 -- the line that refuses a volume, as in `refused S1 6`
 unfoldable pub refusal_text : Refusal → List ℕ

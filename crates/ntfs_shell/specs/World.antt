@@ -38,26 +38,25 @@ world d s k disk source sink = record {
   sink_faults = k.faults sink;
 }
 
--- nothing of the disk and nothing of the source changed, but for what reading counts
-pub record OnlyReads (old new : World) : Type 0 where
+-- the contents of the disk are as they were, and so is what it counts of writes
+pub record KeepsContents (old new : World) : Type 0 where
   pub now : new.now ≡ old.now
   pub settled : new.settled ≡ old.settled
   pub fenced : new.fenced ≡ old.fenced
   pub sectors : new.sectors ≡ old.sectors
   pub written : new.written ≡ old.written
   pub late : new.late ≡ old.late
+
+-- nothing of the disk and nothing of the source changed, but for what reading counts
+pub record OnlyReads (old new : World) : Type 0 where
+  pub contents : KeepsContents old new
   pub left : new.left ≡ old.left
   pub source_faults : new.source_faults ≡ old.source_faults
 
 -- the disk is as it was, and so are its counts
 pub record KeepsDisk (old new : World) : Type 0 where
-  pub now : new.now ≡ old.now
-  pub settled : new.settled ≡ old.settled
-  pub fenced : new.fenced ≡ old.fenced
-  pub sectors : new.sectors ≡ old.sectors
-  pub written : new.written ≡ old.written
+  pub contents : KeepsContents old new
   pub fetched : new.fetched ≡ old.fetched
-  pub late : new.late ≡ old.late
   pub faults : new.disk_faults ≡ old.disk_faults
 
 -- no count of faults rose

@@ -1,6 +1,7 @@
 //! What a word has to say, and its printing.
 ghost use Rattle.ntfs_shell.specs.Report.{ending_of, text_of};
-ghost use Rattle.ntfs_shell.specs.Shown.{Shown, report_of};
+ghost use Rattle.ntfs_shell.specs.Answers.{report_of};
+ghost use Rattle.ntfs_shell.specs.Printing.{EndsPrinting};
 
 use crate::ending::Ending;
 use crate::refusal::Refusal;
@@ -20,7 +21,7 @@ pub enum Answer {
 
 /// Prints a text, and ends the run so where all of it was printed.
 pub fn print<K: Sink>(out: &mut K, text: &[u8], whole: Ending) -> Ending
-    ensures { Shown text.now whole result (K.got out.old) (K.got out.new) (K.faults out.old) (K.faults out.new) }
+    ensures { EndsPrinting text.now whole result (K.got out.old) (K.got out.new) (K.faults out.old) (K.faults out.new) }
 {
     match write_all(out, text) {
         Ok(()) => whole,
@@ -31,7 +32,7 @@ pub fn print<K: Sink>(out: &mut K, text: &[u8], whole: Ending) -> Ending
 /// Prints an answer, and ends the run.
 pub fn show<K: Sink>(out: &mut K, answer: &Answer) -> Ending
     ensures { let report = report_of answer.now in
-        Shown (text_of report) (ending_of report) result (K.got out.old) (K.got out.new) (K.faults out.old) (K.faults out.new) }
+        EndsPrinting (text_of report) (ending_of report) result (K.got out.old) (K.got out.new) (K.faults out.old) (K.faults out.new) }
 {
     match answer {
         Answer::Short(text) => print(out, text.as_slice(), Ending::Done),

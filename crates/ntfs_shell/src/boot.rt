@@ -4,33 +4,21 @@ ghost use Rattle.vol_disk.specs.Contents.{WhereTold};
 ghost use Rattle.vol_disk.specs.Count.{CountsFault};
 ghost use Rattle.vol_disk.specs.Reading.{DiskReads};
 ghost use Rattle.ntfs_def.specs.Boot.{boot_failing};
-ghost use Rattle.ntfs_boot.specs.Geometry.{number_of};
 ghost use Rattle.vol_stage.specs.Staged.{StageReads, disk_of, image};
 ghost use Rattle.ntfs_shell.specs.Boot.{BootReports, sector_report};
-ghost use Rattle.ntfs_shell.specs.Refusals.{boot_refusal};
 ghost use Rattle.ntfs_shell.specs.Report.{ReportEnds};
-ghost use Rattle.ntfs_shell.specs.Shown.{report_of};
+ghost use Rattle.ntfs_shell.specs.Answers.{report_of};
 ghost use Rattle.ntfs_shell.specs.World.{world};
 
 use crate::answer::{Answer, show};
 use crate::ending::Ending;
-use crate::refusal::Refusal;
+use crate::refusal::boot_refusal;
 use crate::text::geometry_text;
 use mft_table::read_boot_sector;
-use ntfs_boot::{BootFault, Geometry};
+use ntfs_boot::Geometry;
 use std::alloc::Global;
 use vol_disk::{Disk, Sink, Source};
 use vol_stage::{Stage, StageNo};
-
-/// A boot sector is refused by the least number that fails.
-pub fn boot_refusal(fault: BootFault) -> Refusal
-    ensures { result ≡ boot_refusal (number_of fault) }
-{
-    Refusal {
-        clause: 1,
-        number: u64::from(fault.number()),
-    }
-}
 
 // What a boot sector on a disk of so many sectors says: its geometry, or why it is none.
 fn report_sector(sector: &[u8; 512], sectors: u64) -> Answer

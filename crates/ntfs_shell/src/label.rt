@@ -3,18 +3,17 @@ ghost use Rattle.std.specs.Prelude.{◌≡◌, ℕ, List, Some, IfErr, IfOk, Mat
 ghost use Rattle.vol_disk.specs.Contents.{WhereTold};
 ghost use Rattle.vol_disk.specs.Reading.{DiskReads};
 ghost use Rattle.vol_stage.specs.Staged.{StageReads, disk_of, image};
-ghost use Rattle.mft_table.specs.TableNos.{CountsNo, Refuses};
+ghost use Rattle.mft_table.specs.TableNos.{CountsNo as CountsTableNo, Refuses};
 ghost use Rattle.ntfs_shell.specs.Label.{LabelReports, RecordReports};
-ghost use Rattle.ntfs_shell.specs.Shown.{report_of};
-ghost use Rattle.ntfs_shell.specs.Stops.{Stops};
-ghost use Rattle.ntfs_shell.specs.VolumeRecords.{HasVolumeRecord, RefusesWith};
+ghost use Rattle.ntfs_shell.specs.Answers.{report_of};
+ghost use Rattle.ntfs_shell.specs.Stops.{CountsNo};
+ghost use Rattle.ntfs_shell.specs.LabelSteps.{HasVolumeRecord, RefusesWith};
 ghost use Rattle.ntfs_shell.specs.World.{world};
 ghost use Rattle.ntfs_shell.specs.Report.{Report, ReportEnds};
 
 use crate::answer::{Answer, show};
-use crate::boot::boot_refusal;
 use crate::ending::Ending;
-use crate::refusal::{NO_TABLE, NO_VOLUME_RECORD};
+use crate::refusal::{NO_TABLE, NO_VOLUME_RECORD, boot_refusal};
 use crate::stop::Stop;
 use crate::volume::report_volume;
 use mft_table::{TableNo, find_table, open_record};
@@ -33,7 +32,7 @@ fn read_volume_record<D: Disk>(
     ensures err { IfErr result (λ no. WhereTold (image D.Disk stage.old) (λ all. Refuses all no)) }
     ensures reads { StageReads D.Disk stage.old stage.new 5 }
     ensures faults { MatchResult result (λ _. D.faults (disk_of D.Disk stage.new) ≡ D.faults (disk_of D.Disk stage.old))
-        (CountsNo (D.faults (disk_of D.Disk stage.old)) (D.faults (disk_of D.Disk stage.new))) }
+        (CountsTableNo (D.faults (disk_of D.Disk stage.old)) (D.faults (disk_of D.Disk stage.new))) }
 {
     let table = find_table(alloc, stage)?;
     table.blocks().read_block(stage, VOLUME, into)?;
@@ -67,7 +66,7 @@ fn report_image<D: Disk>(alloc: Global, stage: &mut Stage<'_, D>) -> Result<Answ
     ensures report { IfOk result (λ answer. WhereTold (image D.Disk stage.old) (λ all. LabelReports all (report_of answer))) }
     ensures reads { StageReads D.Disk stage.old stage.new 5 }
     ensures faults { MatchResult result (λ _. D.faults (disk_of D.Disk stage.new) ≡ D.faults (disk_of D.Disk stage.old))
-        (Stops (D.faults (disk_of D.Disk stage.old)) (D.faults (disk_of D.Disk stage.new))) }
+        (CountsNo (D.faults (disk_of D.Disk stage.old)) (D.faults (disk_of D.Disk stage.new))) }
 {
     let mut block = [0; 1024];
     match read_volume_record(alloc, stage, &mut block) {
@@ -80,7 +79,7 @@ fn report_image<D: Disk>(alloc: Global, stage: &mut Stage<'_, D>) -> Result<Answ
 fn report_label<D: Disk>(alloc: Global, disk: &mut D) -> Result<Answer, Stop>
     ensures report { IfOk result (λ answer. WhereTold (D.now disk.old) (λ all. LabelReports all (report_of answer))) }
     ensures reads { DiskReads D.Disk disk.old disk.new 5 }
-    ensures faults { MatchResult result (λ _. D.faults disk.new ≡ D.faults disk.old) (Stops (D.faults disk.old) (D.faults disk.new)) }
+    ensures faults { MatchResult result (λ _. D.faults disk.new ≡ D.faults disk.old) (CountsNo (D.faults disk.old) (D.faults disk.new)) }
 {
     let mut stage = Stage::over(alloc, disk);
     let answer = report_image(alloc, &mut stage);
@@ -88,8 +87,8 @@ fn report_label<D: Disk>(alloc: Global, disk: &mut D) -> Result<Answer, Stop>
     answer
 }
 
-/// Prints the name and the version of the volume, or the first clause that refuses it. It reads the
-/// boot sector and the records 0 and 3.
+/// Prints the name and the version of the volume, or a clause that refuses it: S1, S2, or of S3 and S14
+/// what record 3 tells. It reads the boot sector and the records 0 and 3.
 pub fn label<D: Disk, S: Source, K: Sink>(
     alloc: Global,
     disk: &mut D,

@@ -11,7 +11,7 @@ mod front;
 mod help;
 mod image;
 mod label;
-mod label_text;
+mod label_option;
 mod laws;
 mod refusal;
 mod shell;

@@ -1,6 +1,11 @@
 //! Why a volume is refused.
+ghost use Rattle.std.specs.Prelude.{◌≡◌};
+ghost use Rattle.ntfs_boot.specs.Geometry.{number_of};
+ghost use Rattle.ntfs_shell.specs.Refusals.{boot_refusal};
 
-/// The first clause of the volume definition that fails, and the number that it tells.
+use ntfs_boot::BootFault;
+
+/// A clause of the volume definition, and the number that it tells.
 #[derive(Clone, Copy, Debug, PartialEq, Eq)]
 pub struct Refusal {
     /// The clause, from 1.
@@ -26,3 +31,13 @@ pub const NO_VERSION: Refusal = Refusal {
     clause: 14,
     number: 3,
 };
+
+/// A boot sector is refused by the least number that fails.
+pub fn boot_refusal(fault: BootFault) -> Refusal
+    ensures { result ≡ boot_refusal (number_of fault) }
+{
+    Refusal {
+        clause: 1,
+        number: u64::from(fault.number()),
+    }
+}

@@ -3,8 +3,9 @@ ghost use Rattle.std.specs.Prelude.{◌≡◌, ◌++◌, IfOk, OnOk};
 ghost use Rattle.std.specs.Option.{option_copied};
 ghost use Rattle.volume_def.specs.VolumeRecord.{label_units, version_in};
 ghost use Rattle.attr_view.specs.View.{attributes_of};
-ghost use Rattle.ntfs_shell.specs.Label.{label_text, name_line, version_line, volume_report};
-ghost use Rattle.ntfs_shell.specs.Shown.{report_of};
+ghost use Rattle.ntfs_shell.specs.Label.{volume_report};
+ghost use Rattle.ntfs_shell.specs.Answers.{report_of};
+ghost use Rattle.ntfs_shell.specs.Text.{label_text, name_line, version_line};
 
 use crate::answer::Answer;
 use crate::refusal::NO_VERSION;
@@ -61,7 +62,7 @@ fn add_version(text: &mut Vec<u8>, version: Version) -> Result<(), AllocError>
     text.extend_from_slice(b"\n")
 }
 
-#[tactic(auto, unfolding(crate::specs::Label::label_text))]
+#[tactic(auto, unfolding(crate::specs::Text::label_text))]
 fn label_text(alloc: Global, units: &[u16], version: Version) -> Result<Vec<u8>, AllocError>
     ensures { IfOk result (λ text. text.items ≡ label_text units.now version) }
 {

@@ -4,7 +4,7 @@ ghost use Rattle.volume_format.specs.Options.{Options};
 ghost use Rattle.ntfs_shell.specs.Words.{AreFormatWords, AreKnown, AreWords, AskToFormat, AskToRead, AskUnbuilt, IsUnbuilt};
 
 use crate::image::Access;
-use crate::label_text::read_label;
+use crate::label_option::read_label;
 use std::alloc::{AllocError, Global};
 use volume_format::FormatOptions;
 

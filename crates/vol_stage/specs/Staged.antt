@@ -3,7 +3,7 @@ use Rattle.std.specs.Prelude.{◌≡◌, ◌+◌, ◌-◌, ◌≤◌, ℕ, Bool,
 use Rattle.std.specs.Borrow.{GName}
 use Rattle.vol_disk.specs.declared.Disk.{Ghosts}
 use Rattle.vol_stage.specs.declared.stage.Stage.{Stage}
-use Rattle.vol_stage.specs.Puts.{image_of, places_of}
+use Rattle.vol_stage.specs.StagedWrites.{image_of, places_of}
 
 -- the disk below
 abbrev pub disk_of : {D : Type 0} (g : Ghosts D) → Stage D g → D
@@ -15,15 +15,15 @@ reference_of g stage = stage.disk.ghost_name
 
 -- what a read of the stage gives, where the disk tells it
 abbrev pub image : {D : Type 0} (g : Ghosts D) → Stage D g → Option (List ℕ)
-image g stage = image_of (g.now (disk_of g stage)) stage.puts.items
+image g stage = image_of (g.now (disk_of g stage)) stage.writes.items
 
 -- the staged sectors, each once, by rising number
 abbrev pub places : {D : Type 0} (g : Ghosts D) → Stage D g → List ℕ
-places g stage = places_of stage.puts.items
+places g stage = places_of stage.writes.items
 
 -- for how many more there is room
 abbrev pub spare : {D : Type 0} (g : Ghosts D) → Stage D g → ℕ
-spare g stage = vec_capacity stage.puts - vec_len stage.puts
+spare g stage = vec_capacity stage.writes - vec_len stage.writes
 
 -- a call failed that no write may come behind
 abbrev pub is_broken : {D : Type 0} (g : Ghosts D) → Stage D g → Bool

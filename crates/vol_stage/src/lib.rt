@@ -6,7 +6,7 @@
 
 mod error;
 mod laws;
-mod put;
+mod search;
 mod stage;
 #[cfg(test)]
 mod tests;

@@ -2,12 +2,12 @@
 ghost use Rattle.std.specs.Prelude.{◌≡◌, ◌*◌, ◌^◌, ◌<◌, [], false, Contains, IfErr, IfSome, IsOk, OnOk, OnErr, length};
 ghost use Rattle.vol_disk.specs.Contents.{IsTold, sector_in};
 ghost use Rattle.vol_disk.specs.Count.{CountsFault};
-ghost use Rattle.vol_stage.specs.Puts.{AreRising, AreWhole, AreWithin};
+ghost use Rattle.vol_stage.specs.StagedWrites.{AreRising, AreWithin, HaveSectorLength};
 
 use crate::StageNo;
-use crate::put::{Put, find};
+use crate::search::find;
 use std::alloc::Global;
-use vol_disk::Disk;
+use vol_disk::{Disk, Write};
 
 /// A disk, and sectors that are staged for it. A read gives the staged bytes of a sector that is
 /// staged, and those on the disk of any other.
@@ -16,12 +16,12 @@ use vol_disk::Disk;
 pub struct Stage<'d, D: Disk> {
     disk: &'d mut D,
     // By rising sector, each once.
-    puts: Vec<Put>,
+    writes: Vec<Write>,
     // A call failed that no write may come behind.
     broken: bool,
-    ghost within: { AreWithin (D.size disk.now) puts.items },
-    ghost whole: { AreWhole puts.items },
-    ghost rising: { AreRising puts.items },
+    ghost within: { AreWithin (D.size disk.now) writes.items },
+    ghost whole: { HaveSectorLength writes.items },
+    ghost rising: { AreRising writes.items },
 }
 
 impl<'d, D: Disk> Stage<'d, D> {
@@ -37,7 +37,7 @@ impl<'d, D: Disk> Stage<'d, D> {
     {
         Stage {
             disk,
-            puts: Vec::new(alloc),
+            writes: Vec::new(alloc),
             broken: false,
         }
     }
@@ -49,7 +49,7 @@ impl<'d, D: Disk> Stage<'d, D> {
     {
         let Stage {
             disk,
-            puts: _,
+            writes: _,
             broken: _,
         } = self;
         disk
@@ -89,7 +89,7 @@ impl<D: Disk> Stage<'_, D> {
         ensures faults { CountsFault result (D.faults (disk_of D.Disk self.old)) (D.faults (disk_of D.Disk self.new)) }
         ensures device { IfErr result (λ error. error ≡ StageNo.Device) }
     {
-        if let Some(bytes) = find(&self.puts, sector) {
+        if let Some(bytes) = find(&self.writes, sector) {
             *into = *bytes;
             return Ok(());
         }

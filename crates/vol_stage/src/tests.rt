@@ -3,10 +3,10 @@ ghost use Rattle.vol_disk.specs.Contents.{IsTold, sector_in};
 ghost use Rattle.vol_disk.specs.Count.{CountsFault};
 ghost use Rattle.vol_stage.specs.Staged.{disk_of, image, StageReads};
 
-use crate::put::{Put, find};
+use crate::search::find;
 use crate::{Stage, StageNo};
 use std::alloc::{AllocError, Global};
-use vol_disk::{CallKind, Disk, Fail, FailDisk, MemDisk};
+use vol_disk::{CallKind, Disk, Fail, FailDisk, MemDisk, Write};
 
 const ZERO: [u8; 512] = [0; 512];
 
@@ -91,16 +91,16 @@ fn a_read_that_fails_is_the_devices(rt: HostRuntime) -> Result<(), AllocError> {
 
 #[test]
 fn staged_bytes_are_found(rt: HostRuntime) {
-    let puts = [
-        Put {
+    let writes = [
+        Write {
             sector: 2,
             bytes: ONE,
         },
-        Put {
+        Write {
             sector: 5,
             bytes: ZERO,
         },
-        Put {
+        Write {
             sector: 9,
             bytes: ONE,
         },
@@ -113,6 +113,6 @@ fn staged_bytes_are_found(rt: HostRuntime) {
         (9, Some(&ONE)),
         (10, None),
     ] {
-        assert!(rt; find(&puts, sector) == wanted, "sector {sector}");
+        assert!(rt; find(&writes, sector) == wanted, "sector {sector}");
     }
 }

@@ -1,9 +1,9 @@
 -- All records of a new volume are base records, so each file has the parts of its own record.
 use Rattle.std.proofs.Common.{◌≡◌, ℕ, ◌<◌, Some, None, refl, ap, ◌∙◌, arith}
 use Rattle.volume_def.specs.Files.{Record, parts}
-use Rattle.volume_format.specs.Plan.{Plan, listed, planned, planned_records, record_count}
+use Rattle.volume_format.specs.Plan.{Plan, record_in_list, record_list, planned_records, record_count}
 use Rattle.volume_format.proofs.EachRecord.{EachRecord, each-listed}
-use Rattle.volume_format.proofs.Listed.{listed-inside}
+use Rattle.volume_format.proofs.Listed.{record_in_list-inside}
 use Rattle.volume_format.proofs.PartsOf.{AllBase, parts-base, parts_or_none}
 
 abbrev Base : ℕ → Record → Type 0
@@ -30,10 +30,10 @@ bases p = record {
 pub AllBase-planned : (p : Plan) → AllBase (planned_records p)
 AllBase-planned p = each-listed Base p (bases p)
 
-pub parts-planned : (p : Plan) (f : ℕ) → f < record_count → parts (planned_records p) f ≡ parts_or_none (listed (planned p) f)
+pub parts-planned : (p : Plan) (f : ℕ) → f < record_count → parts (planned_records p) f ≡ parts_or_none (record_in_list (record_list p) f)
 parts-planned p f inside = parts-base (planned_records p) (AllBase-planned p) f inside
 
-pub parts-listed : (p : Plan) (f : ℕ) (r : Record) → listed (planned p) f ≡ Some r → parts (planned_records p) f ≡ r.parts
+pub parts-listed : (p : Plan) (f : ℕ) (r : Record) → record_in_list (record_list p) f ≡ Some r → parts (planned_records p) f ≡ r.parts
 parts-listed p f r e =
-    let inside = listed-inside (planned p) f r e in
+    let inside = record_in_list-inside (record_list p) f r e in
     parts-planned p f (omega (arith, inside)) ∙ ap parts_or_none e

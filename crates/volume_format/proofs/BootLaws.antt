@@ -14,7 +14,7 @@ use Rattle.volume_format.specs.NewBoot.{HasGeometry, HasNumbers, IsElsewhere, Is
 use Rattle.volume_format.specs.Options.{AreInRange, Options, clusters_in, plan_of}
 use Rattle.volume_format.specs.Plan.{mirror_at, table_at, table_len, mirror_len}
 use Rattle.volume_format.proofs.Fits.{FitsPlan-chosen, size-some}
-use Rattle.volume_format.proofs.Needed.{needed-some}
+use Rattle.volume_format.proofs.Needed.{clusters_needed-some}
 
 -- what four writes behind one another leave
 module _ (old start one two three four : List ℕ) (len : length start ≡ length old)
@@ -99,11 +99,11 @@ module _ (o : Options) (boot : List ℕ) (disk : ℕ) (geometry : HasGeometry o 
   count = ap (λ (n : ℕ). n / cluster_sectors boot) geometry.sectors_told ∙ ap (λ (n : ℕ). o.sectors / n) geometry.cluster
 
   table_below : table_at (plan_of o) < clusters_in o.sectors o.cluster
-  table_below = let some = needed-some (plan_of o) (size-some o.cluster range.cluster) table_len (omega arith) in omega (arith, fits.items)
+  table_below = let some = clusters_needed-some (plan_of o) (size-some o.cluster range.cluster) table_len (omega arith) in omega (arith, fits.items)
 
   mirror_below : mirror_at (plan_of o) < clusters_in o.sectors o.cluster
   mirror_below =
-      let some = needed-some (plan_of o) (size-some o.cluster range.cluster) mirror_len (omega arith) in omega (arith, fits.items)
+      let some = clusters_needed-some (plan_of o) (size-some o.cluster range.cluster) mirror_len (omega arith) in omega (arith, fits.items)
 
   long : has_length boot disk ≡ true
   long =

@@ -14,7 +14,7 @@ use Rattle.volume_def.specs.OwnersClause.{times_owned}
 use Rattle.volume_def.specs.Values.{value_on}
 use Rattle.volume_def.specs.View.{VolumeView}
 use Rattle.volume_format.specs.Items.{ones_byte}
-use Rattle.volume_format.specs.Plan.{Plan, bits_len, items_end, needed, planned_records, stream_part}
+use Rattle.volume_format.specs.Plan.{Plan, bits_len, items_end, clusters_needed, planned_records, stream_part}
 use Rattle.volume_format.specs.Planned.{IsPlanned}
 use Rattle.volume_format.proofs.Contents.{cluster_bits-planned, cluster_bits-value}
 use Rattle.volume_format.proofs.Owners.{times_owned-behind, times_owned-below}
@@ -31,7 +31,7 @@ ones-behind n k le = bit_at_ones_above (min 8 (n - 8 * (k / 8))) (k % 8) (omega 
 pub HasNoHole-stream : (p : Plan) (n kind : ℕ) (name : List ℕ) (id at bytes : ℕ) → HasNoHole (stream_part p n kind name id at bytes ∷ [])
 HasNoHole-stream p n kind name id at bytes =
     All-from_recursion (λ (a : Part). All (λ (run : Run). IsSome run.lcn) (part_runs a)) (stream_part p n kind name id at bytes ∷ [])
-    (All-from_recursion (λ (run : Run). IsSome run.lcn) (record { len = needed p bytes; lcn = Some at } ∷ []) (refl, tt), tt)
+    (All-from_recursion (λ (run : Run). IsSome run.lcn) (record { len = clusters_needed p bytes; lcn = Some at } ∷ []) (refl, tt), tt)
 
 module _ (p : Plan) (view : VolumeView) (is : IsPlanned p view) (some : 0 < p.size) where
   -- the bitmap has a bit for each cluster

@@ -21,17 +21,17 @@ use Rattle.volume_def.specs.Table.{cluster_bytes}
 use Rattle.volume_def.specs.Values.{spot_at, value_of_parts, value_on}
 use Rattle.volume_def.specs.View.{VolumeView}
 use Rattle.volume_format.specs.Items.{case_of}
-use Rattle.volume_format.specs.Plan.{Plan, extend_entries, index_name, last_above, needed, node_at, node_len, part, root_value, stream_part}
+use Rattle.volume_format.specs.Plan.{Plan, extend_entries, index_name, last_above, clusters_needed, node_at, node_len, part, root_value, stream_part}
 use Rattle.volume_format.specs.Planned.{IsPlanned}
 use Rattle.volume_format.proofs.CaseTable.{volume_fold-planned}
 use Rattle.volume_format.proofs.Contents.{value_on-stream}
-use Rattle.volume_format.specs.SystemItems.{extend_items, root_items}
+use Rattle.volume_format.specs.IndexItems.{extend_items, root_items}
 use Rattle.volume_format.proofs.Leaves.{above, leaf, root_spread}
 use Rattle.volume_format.proofs.IndexLinks.{extend-names, root-names}
 use Rattle.volume_format.proofs.IndexNodes.{extend-says, root-record, root-says}
 use Rattle.volume_format.proofs.IndexOrder.{AgreeOnAscii, extend-by, root-by}
 use Rattle.volume_format.proofs.IndexTrees.{HasIndex-leaf, root-holds, root-only, root-walk}
-use Rattle.volume_format.proofs.Needed.{needed-covers}
+use Rattle.volume_format.proofs.Needed.{clusters_needed-covers}
 use Rattle.volume_format.proofs.Records.{parts_at-planned, records_of-planned}
 use Rattle.volume_format.proofs.RootRecord.{IsIndexRecordAt-root, stored-is}
 use Rattle.volume_format.proofs.Tested.{All-tested}
@@ -79,12 +79,12 @@ module _ (p : Plan) (view : VolumeView) (is : IsPlanned p view) (some : 0 < p.si
   root-value = value_on-stream p view is some root.records ROOT INDEX_ALLOCATION index_name 3 (node_at p) node_len
       (slice_index is.root.stored) records-of is.root.held
 
-  few : (k : ℕ) → k * cluster_bytes view.layout < node_len → k < needed p node_len
-  few k inside = elim (cases_lt k (needed p node_len)) [
+  few : (k : ℕ) → k * cluster_bytes view.layout < node_len → k < clusters_needed p node_len
+  few k inside = elim (cases_lt k (clusters_needed p node_len)) [
     | inl lt ↦ lt
     | inr ge ↦
         let size : k * cluster_bytes view.layout ≡ k * p.size = ap (λ n. k * n) is.size in
-        let covers = needed-covers p some node_len in
+        let covers = clusters_needed-covers p some node_len in
         absurd (omega (arith, size, covers, inside, mul-le-mul_left p.size ge))
   ]
 

@@ -14,8 +14,8 @@ use Rattle.data_runs.specs.Written.{IsWritten, PutsText}
 use Rattle.data_runs.proofs.WrittenLaws.{MeansFrom-written, offset_short, short_up}
 use Rattle.volume_def.specs.Files.{Clusters}
 use Rattle.volume_format.specs.Plan.{up_to_8}
-use Rattle.volume_format.specs.AttributeBytes.{FitSizes, IsExtent, IsPart, IsRunTextOf, extent_bytes, extent_header, one_run, padded, runs_at}
-use Rattle.volume_format.proofs.ResidentLaws.{length-padded, parts_same}
+use Rattle.volume_format.specs.AttributeBytes.{FitFields, IsExtent, IsPartBytes, IsRunTextOf, extent_bytes, extent_header, one_run, padded_bytes, runs_at}
+use Rattle.volume_format.proofs.ResidentLaws.{length-padded_bytes, parts_same}
 
 no_and : (b : Bool) → (b && false) ≡ false
 no_and true = refl
@@ -44,7 +44,7 @@ module _ (kind : ℕ) (name : List ℕ) (id : ℕ) (sizes : Sizes) (runs : List 
     (first : sizes.first < 2 ^ 64) (last : sizes.last < 2 ^ 64)
     (short_name : length name ≤ 510) (even : length name % 2 ≡ 0) (short_runs : length runs ≤ 24) (multiple : length runs % 8 ≡ 0) where
   abbrev text : List ℕ
-  text = extent_header kind name id sizes (length runs) ++ (padded name ++ runs)
+  text = extent_header kind name id sizes (length runs) ++ (padded_bytes name ++ runs)
 
   kind-text : attribute_kind text 0 ≡ kind
   kind-text = omega arith
@@ -97,7 +97,7 @@ module _ (kind : ℕ) (name : List ℕ) (id : ℕ) (sizes : Sizes) (runs : List 
   at-runs : drop (runs_at name) text ≡ runs
   at-runs =
       sym (drop-drop (up_to_8 (length name)) 64 text)
-      ∙ drop_at (padded name) runs (up_to_8 (length name)) (length-padded name)
+      ∙ drop_at (padded_bytes name) runs (up_to_8 (length name)) (length-padded_bytes name)
 
   content-text : content_bytes text 0 ≡ runs
   content-text =
@@ -110,7 +110,7 @@ module _ (kind : ℕ) (name : List ℕ) (id : ℕ) (sizes : Sizes) (runs : List 
   length-text : length text ≡ runs_at name + length runs
   length-text = simp (length-append, length-replicate) (omega arith)
 
-  part-text : (run : Run) → runs_in runs ≡ Some (run ∷ []) → IsPart text kind name id (one_run sizes run)
+  part-text : (run : Run) → runs_in runs ≡ Some (run ∷ []) → IsPartBytes text kind name id (one_run sizes run)
   unfolding attribute_at
   part-text run means n =
       parts_same n _ kind _ id _ 0 _ name _ (one_run sizes run) kind-text name-text id-text refl
@@ -136,7 +136,7 @@ pub record IsStream (bytes : List ℕ) (kind : ℕ) (name : List ℕ) (id : ℕ)
   pub len : length bytes ≡ runs_at name + length runs
   pub is : IsExtent bytes kind name id sizes run
   pub one : IsOneAttribute bytes
-  pub part : IsPart bytes kind name id (one_run sizes run)
+  pub part : IsPartBytes bytes kind name id (one_run sizes run)
   pub aligned : sizes.first ≡ 0 → value_offset bytes 0 % 8 ≡ 0
 
 -- a run's text has eighteen bytes at most
@@ -161,7 +161,7 @@ run_text-means run text some few reach is =
     (MeansFrom-written 0 0 (run ∷ []) is.written _ (omega arith) (some, omega arith, reach, tt) is.is))
 
 pub IsStream-bytes : (kind : ℕ) (name : List ℕ) (id : ℕ) (sizes : Sizes) (run : Run) (runs bytes : List ℕ) → kind < 2 ^ 32 → id < 2 ^ 16
-    → FitSizes sizes → length name ≤ 510 → length name % 2 ≡ 0 → length runs ≤ 24 → length runs % 8 ≡ 0 → kind ≢ END
+    → FitFields sizes → length name ≤ 510 → length name % 2 ≡ 0 → length runs ≤ 24 → length runs % 8 ≡ 0 → kind ≢ END
     → 0 < run.len → run.len ≤ 2 ^ 62 → EndsInReach run.len run.lcn
     → IsRunTextOf run runs → bytes ≡ extent_bytes kind name id sizes runs
     → IsStream bytes kind name id sizes run runs
@@ -170,7 +170,7 @@ IsStream-bytes kind name id sizes run runs bytes small_kind small_id fit short e
   len = ap length e ∙ length-text kind name id sizes runs small_kind small_id fit.allocated fit.real fit.initialized fit.first fit.last short even few multiple;
   is = record { text = runs; is = text; all = e };
   one = subst IsOneAttribute (sym e) (one-text kind name id sizes runs small_kind small_id fit.allocated fit.real fit.initialized fit.first fit.last short even few multiple other);
-  part = subst (λ b. IsPart b kind name id (one_run sizes run)) (sym e)
+  part = subst (λ b. IsPartBytes b kind name id (one_run sizes run)) (sym e)
       (part-text kind name id sizes runs small_kind small_id fit.allocated fit.real fit.initialized fit.first fit.last short even few multiple run (run_text-means run runs some bounded reach text));
   aligned = subst (λ b. sizes.first ≡ 0 → value_offset b 0 % 8 ≡ 0) (sym e)
       (aligned-text kind name id sizes runs small_kind small_id fit.allocated fit.real fit.initialized fit.first fit.last short even few multiple);

@@ -10,11 +10,11 @@ use Rattle.volume_def.specs.Files.{Record, is_base, records_of}
 use Rattle.volume_def.specs.View.{VolumeView}
 use Rattle.volume_def.specs.SameItems.{SameItems}
 use Rattle.volume_format.specs.Planned.{IsPlanned}
-use Rattle.volume_format.specs.Plan.{Plan, listed, planned, planned_records, record_count}
+use Rattle.volume_format.specs.Plan.{Plan, record_in_list, record_list, planned_records, record_count}
 use Rattle.volume_format.proofs.Bases.{AllBase-planned, parts-planned}
-use Rattle.volume_format.specs.SystemItems.{extend_items, root_items}
+use Rattle.volume_format.specs.IndexItems.{extend_items, root_items}
 use Rattle.volume_format.proofs.PartsOf.{parts-past, parts_or_none}
-use Rattle.volume_format.proofs.Listed.{listed-past}
+use Rattle.volume_format.proofs.Listed.{record_in_list-past}
 use Rattle.volume_format.proofs.Records.{records_of-planned}
 
 flat_map-agree : {A : Type 0} (g h : ℕ → List A) (from n : ℕ) → ((m : ℕ) → from ≤ m → m < from + n → g m ≡ h m)
@@ -37,7 +37,7 @@ own_links f (Some r) = cond (is_base r) (map (link_by f r.header.sequence) (name
 
 module _ (p : Plan) where
   -- the names of a file are those of its record
-  pub names-planned : (f : ℕ) → f < record_count → names_of (planned_records p) f ≡ names_among (parts_or_none (listed (planned p) f))
+  pub names-planned : (f : ℕ) → f < record_count → names_of (planned_records p) f ≡ names_among (parts_or_none (record_in_list (record_list p) f))
   unfolding names_of
   names-planned f lt = ap names_among (parts-planned p f lt)
 
@@ -51,11 +51,11 @@ module _ (p : Plan) where
   links-by f (Some r) e = ap (λ (names : List FileName). cond (is_base r) (map (link_by f r.header.sequence) names) []) e
 
   all_links : List Link
-  all_links = flat_map (λ f. own_links f (listed (planned p) f)) (range_with_len 0 record_count)
+  all_links = flat_map (λ f. own_links f (record_in_list (record_list p) f)) (range_with_len 0 record_count)
 
   links-planned : links (planned_records p) ≡ all_links
   unfolding links all_links
-  links-planned = flat_map-agree _ _ 0 record_count (λ m low high. links-by m (listed (planned p) m) (names-planned m (omega arith)))
+  links-planned = flat_map-agree _ _ 0 record_count (λ m low high. links-by m (record_in_list (record_list p) m) (names-planned m (omega arith)))
 
   root-counts : (q : Link → Bool) → count_by q (filter (is_in_directory 5) all_links) ≡ count_by q (map link_of root_items)
   unfolding all_links name_in units_at
@@ -73,10 +73,10 @@ module _ (p : Plan) where
 
 -- the names of a file of a view of a new volume, whether there is such a record or not
 pub names-shown : (p : Plan) (view : VolumeView) → IsPlanned p view → (f : ℕ)
-    → names_of (records_of view) f ≡ names_among (parts_or_none (listed (planned p) f))
+    → names_of (records_of view) f ≡ names_among (parts_or_none (record_in_list (record_list p) f))
 names-shown p view is f =
     ap (λ records. names_of records f) (records_of-planned p view is)
     ∙ elim (cases_lt f record_count) [
       | inl inside ↦ names-planned p f inside
-      | inr past ↦ names-past p f past ∙ ap (λ o. names_among (parts_or_none o)) (sym (listed-past (planned p) f (omega (arith, past))))
+      | inr past ↦ names-past p f past ∙ ap (λ o. names_among (parts_or_none o)) (sym (record_in_list-past (record_list p) f (omega (arith, past))))
     ]

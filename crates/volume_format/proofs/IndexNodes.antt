@@ -6,7 +6,7 @@ use Rattle.ntfs_def.specs.Node.{are_short, child_at, is_entry, is_last_entry, it
 use Rattle.index_node.specs.LayOut.{node_listed}
 use Rattle.volume_format.specs.Plan.{Plan, descriptor_hash, descriptor_header, descriptor_id, extend_entries, last_above, last_entry, root_value, view_entry}
 use Rattle.volume_format.specs.RootIndex.{root_entries}
-use Rattle.volume_format.specs.SystemItems.{extend_items, hash_items, id_items, root_items}
+use Rattle.volume_format.specs.IndexItems.{extend_items, hash_items, id_items, root_items}
 use Rattle.volume_format.proofs.Leaves.{above, leaf}
 
 -- the root: its $INDEX_ROOT, and what its index record is laid out from

@@ -11,7 +11,7 @@ use Rattle.ntfs_def.specs.KeyOrder.{by_numbers, compare_units, name_order}
 use Rattle.ntfs_def.specs.Node.{Item}
 use Rattle.ntfs_def.specs.Units.{units_at}
 use Rattle.volume_format.specs.Items.{case_of}
-use Rattle.volume_format.specs.SystemItems.{extend_items, root_items}
+use Rattle.volume_format.specs.IndexItems.{extend_items, root_items}
 use Rattle.volume_format.proofs.Tested.{Ascends-tested, both, is_ascending}
 
 -- two foldings that agree on ASCII

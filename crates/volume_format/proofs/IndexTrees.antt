@@ -10,7 +10,7 @@ use Rattle.ntfs_def.specs.Node.{Entry, Item, Node, short_node}
 use Rattle.volume_def.specs.Files.{content_value}
 use Rattle.volume_def.specs.IndexesClause.{HasIndex, IndexParts, KeyRule, index_nodes}
 use Rattle.volume_def.specs.View.{VolumeView}
-use Rattle.volume_format.specs.SystemItems.{root_items}
+use Rattle.volume_format.specs.IndexItems.{root_items}
 use Rattle.volume_format.proofs.Leaves.{above, leaf, leaf_branch, leaf_entry, leaf_spread, root_spread}
 
 leaf-entries : (items : List Item) → map (entry_of 0) (map leaf_branch items) ≡ map leaf_entry items

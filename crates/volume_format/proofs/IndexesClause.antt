@@ -9,11 +9,11 @@ use Rattle.volume_def.specs.FileNames.{names_among}
 use Rattle.volume_def.specs.Files.{Record, is_base, is_directory}
 use Rattle.volume_def.specs.IndexesClause.{IsDirectoryIndex, MeetsIndexes, MeetsViewIndex, StandsInExtend, hash_rule, id_rule, is_in_extend, word_rule}
 use Rattle.volume_def.specs.View.{VolumeView}
-use Rattle.volume_format.specs.Plan.{Plan, listed, planned}
+use Rattle.volume_format.specs.Plan.{Plan, record_in_list, record_list}
 use Rattle.volume_format.specs.Planned.{IsPlanned}
 use Rattle.volume_format.proofs.Directories.{IsDirectoryIndex-extend, IsDirectoryIndex-root}
 use Rattle.volume_format.proofs.IndexLinks.{names-shown}
-use Rattle.volume_format.proofs.Listed.{EachFrom, EachFrom-listed}
+use Rattle.volume_format.proofs.Listed.{EachFrom, EachFrom-record_in_list}
 use Rattle.volume_format.proofs.PartsOf.{parts_or_none}
 use Rattle.volume_format.proofs.Records.{record_on-planned}
 use Rattle.volume_format.proofs.Tested.{EachFrom-tested}
@@ -23,8 +23,8 @@ use Rattle.volume_format.proofs.ViewIndexes.{object_ids, reparse_points, securit
 abbrev is_named : ℕ → Record → Bool
 is_named n r = (n == ROOT) || (n == EXTEND) || not (is_directory r)
 
-directories : (p : Plan) → EachFrom (λ n r. IsTrue (is_named n r)) 0 (planned p)
-directories p = EachFrom-tested is_named 0 (planned p) refl
+directories : (p : Plan) → EachFrom (λ n r. IsTrue (is_named n r)) 0 (record_list p)
+directories p = EachFrom-tested is_named 0 (record_list p) refl
 
 no-other : (n : ℕ) (b : Bool) → n ≢ ROOT → n ≢ EXTEND → ((n == ROOT) || (n == EXTEND) || not b) ≡ true → not b ≡ true
 no-other n b no_root no_extend test =
@@ -38,15 +38,15 @@ abbrev is_only_at : List ℕ → ℕ → ℕ → Record → Bool
 is_only_at units at n r = (n == at) || (count_by (is_in_extend units) (names_among r.parts) == 0)
 
 abbrev OnlyAt : Plan → List ℕ → ℕ → Type 0
-OnlyAt p units at = EachFrom (λ n r. IsTrue (is_only_at units at n r)) 0 (planned p)
+OnlyAt p units at = EachFrom (λ n r. IsTrue (is_only_at units at n r)) 0 (record_list p)
 
 only-object_ids : (p : Plan) → OnlyAt p (codes "$ObjId") 24
 unfolding name_in units_at
-only-object_ids p = EachFrom-tested (is_only_at (codes "$ObjId") 24) 0 (planned p) refl
+only-object_ids p = EachFrom-tested (is_only_at (codes "$ObjId") 24) 0 (record_list p) refl
 
 only-reparse_points : (p : Plan) → OnlyAt p (codes "$Reparse") 25
 unfolding name_in units_at
-only-reparse_points p = EachFrom-tested (is_only_at (codes "$Reparse") 25) 0 (planned p) refl
+only-reparse_points p = EachFrom-tested (is_only_at (codes "$Reparse") 25) 0 (record_list p) refl
 
 none-other : (n at count : ℕ) → ((n == at) || (count == 0)) ≡ true → 1 ≤ count → n ≡ at
 none-other n at count test some = elim (cases_eq n at) [
@@ -62,8 +62,8 @@ only-by units at f (Some r) only named = none-other f at (count_by (is_in_extend
 module _ (p : Plan) (view : VolumeView) (is : IsPlanned p view) where
   only-planned : (units : List ℕ) (at : ℕ) → OnlyAt p units at → (f : ℕ) → StandsInExtend view f units → f ≡ at
   only-planned units at each f stands =
-      only-by units at f (listed (planned p) f)
-      (EachFrom-listed (λ n r. IsTrue (is_only_at units at n r)) 0 (planned p) each f f (omega arith))
+      only-by units at f (record_in_list (record_list p) f)
+      (EachFrom-record_in_list (λ n r. IsTrue (is_only_at units at n r)) 0 (record_list p) each f f (omega arith))
       (subst (λ names. 1 ≤ count_by (is_in_extend units) names) (names-shown p view is f) stands.named)
 
   directory-by : (some : 0 < p.size) (f : ℕ) (o : Option Record) → IfSome o (λ r. IsTrue (is_named f r))
@@ -79,8 +79,8 @@ module _ (p : Plan) (view : VolumeView) (is : IsPlanned p view) where
 
   pub MeetsIndexes-planned : 0 < p.size → (f : ℕ) → MeetsIndexes view f
   MeetsIndexes-planned some f = record {
-    directory = rw (record_on-planned p view is f) (directory-by some f (listed (planned p) f)
-        (EachFrom-listed (λ n r. IsTrue (is_named n r)) 0 (planned p) (directories p) f f (omega arith)));
+    directory = rw (record_on-planned p view is f) (directory-by some f (record_in_list (record_list p) f)
+        (EachFrom-record_in_list (λ n r. IsTrue (is_named n r)) 0 (record_list p) (directories p) f f (omega arith)));
     security_ids = λ e. subst (λ n. MeetsViewIndex view n (codes "$SII") id_rule) (sym e)
         (λ there. record { items = _; has = security_ids p view is });
     security_hashes = λ e. subst (λ n. MeetsViewIndex view n (codes "$SDH") hash_rule) (sym e)

@@ -1,7 +1,7 @@
 -- Items that stand stay where sectors behind them are written.
 use Rattle.std.proofs.Common.{◌≡◌, ℕ, ◌+◌, ◌<◌, ◌≤◌, List, inl, inr, subst, ◌∙◌, arith}
 use Rattle.std.proofs.Math.Nat.{mul-le-mul_left}
-use Rattle.volume_format.specs.Plan.{Plan, needed}
+use Rattle.volume_format.specs.Plan.{Plan, clusters_needed}
 use Rattle.volume_format.specs.Written.{SameOutsideClusters, Stands, sector_at, sectors_per}
 
 pub sector_at-rises : (p : Plan) (a b : ℕ) → a ≤ b → sector_at p a ≤ sector_at p b
@@ -9,9 +9,9 @@ sector_at-rises p a b le = omega (arith, mul-le-mul_left (sectors_per p) le)
 
 module _ (old new : ℕ → List ℕ) (p : Plan) (from to : ℕ) (same : SameOutsideClusters old new p from to) where
   -- an item in front of them
-  pub Stands-kept : (at len : ℕ) (rule : ℕ → ℕ) → at + needed p len ≤ from → Stands old p at len rule → Stands new p at len rule
+  pub Stands-kept : (at len : ℕ) (rule : ℕ → ℕ) → at + clusters_needed p len ≤ from → Stands old p at len rule → Stands new p at len rule
   Stands-kept at len rule before stands =
-      let rises : sector_at p (at + needed p len) ≤ sector_at p from = sector_at-rises p _ _ before in
+      let rises : sector_at p (at + clusters_needed p len) ≤ sector_at p from = sector_at-rises p _ _ before in
       record {
         sector = λ k lt.
             let low : sector_at p at + k < sector_at p from = omega arith in
@@ -35,10 +35,10 @@ pub record ThreeWritten (p : Plan) (one two three : ℕ → List ℕ) (at then l
   pub first : Stands one p at a f
   pub second : Stands two p then b g
   pub third : Stands three p last c h
-  pub behind : SameOutsideClusters one two p then (then + needed p b)
-  pub last_behind : SameOutsideClusters two three p last (last + needed p c)
-  pub then_is : then ≡ at + needed p a
-  pub last_is : last ≡ then + needed p b
+  pub behind : SameOutsideClusters one two p then (then + clusters_needed p b)
+  pub last_behind : SameOutsideClusters two three p last (last + clusters_needed p c)
+  pub then_is : then ≡ at + clusters_needed p a
+  pub last_is : last ≡ then + clusters_needed p b
 
 module _ (p : Plan) (one two three : ℕ → List ℕ) (at then last : ℕ) (a b c : ℕ) (f g h : ℕ → ℕ)
     (written : ThreeWritten p one two three at then last a b c f g h) where
@@ -52,10 +52,10 @@ module _ (p : Plan) (one two three : ℕ → List ℕ) (at then last : ℕ) (a b
       (Stands-kept two three p last _ written.last_behind at a f (omega (arith, written.then_is, written.last_is))
       (Stands-kept one two p then _ written.behind at a f (omega (arith, written.then_is)) written.first))
 
-  pub second-stands : (place : ℕ) → at + needed p a ≡ place → Stands three p place b g
+  pub second-stands : (place : ℕ) → at + clusters_needed p a ≡ place → Stands three p place b g
   second-stands place e =
       moved then place b g (written.then_is ∙ e)
       (Stands-kept two three p last _ written.last_behind then b g (omega (arith, written.last_is)) written.second)
 
-  pub third-stands : (place : ℕ) → at + needed p a + needed p b ≡ place → Stands three p place c h
+  pub third-stands : (place : ℕ) → at + clusters_needed p a + clusters_needed p b ≡ place → Stands three p place c h
   third-stands place e = moved last place c h (omega (arith, written.then_is, written.last_is, e)) written.third

@@ -2,7 +2,7 @@
 use Rattle.std.specs.Prelude.{List, [], map, Some, None}
 use Rattle.ntfs_def.specs.Node.{Entry, Item, Node}
 use Rattle.ntfs_def.specs.IndexTree.{Branch, Spread, Tree}
-use Rattle.volume_format.specs.SystemItems.{root_items}
+use Rattle.volume_format.specs.IndexItems.{root_items}
 
 -- a node without children, and a node without names above the index record 0
 abbrev pub leaf_entry : Item → Entry

@@ -6,7 +6,7 @@ use Rattle.std.proofs.lemmas.Bool.{false≢true}
 use Rattle.std.proofs.lemmas.List.Elements.{All-from_recursion}
 use Rattle.volume_def.specs.Files.{Record, is_base, parts}
 use Rattle.volume_def.specs.LimitsClause.{IsInLimits, MeetsLimits}
-use Rattle.volume_format.specs.Plan.{Plan, bad_part, bits_len, listed, planned, planned_records}
+use Rattle.volume_format.specs.Plan.{Plan, bad_part, bits_len, record_in_list, record_list, planned_records}
 use Rattle.volume_format.proofs.Bases.{parts-listed}
 use Rattle.volume_format.proofs.EachRecord.{EachRecord, at-listed}
 use Rattle.volume_format.proofs.Listed.{IfSome-from}
@@ -42,7 +42,7 @@ module _ (p : Plan) (few : p.clusters ≤ 2 ^ 26) where
   }
 
   pub MeetsLimits-planned : (f : ℕ) → MeetsLimits (planned_records p) f
-  MeetsLimits-planned f = IfSome-from (listed (planned p) f) (λ r. IsTrue (is_base r) → All (IsInLimits f) (parts (planned_records p) f))
+  MeetsLimits-planned f = IfSome-from (record_in_list (record_list p) f) (λ r. IsTrue (is_base r) → All (IsInLimits f) (parts (planned_records p) f))
       (λ r is base.
       subst (All (IsInLimits f)) (sym (parts-listed p f r is))
       (All-from_recursion (IsInLimits f) r.parts (at-listed AreInLimits p limits f r is)))

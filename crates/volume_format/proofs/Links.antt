@@ -9,7 +9,7 @@ use Rattle.ntfs_def.specs.Record.{Reference}
 use Rattle.volume_def.specs.FileNames.{is_dos, names_of}
 use Rattle.volume_def.specs.Files.{Record, is_base, is_directory}
 use Rattle.volume_def.specs.LinksClause.{HasRightLinks, IsPairedAmong, MeetsLinks}
-use Rattle.volume_format.specs.Plan.{Plan, listed, name_value, planned, planned_records}
+use Rattle.volume_format.specs.Plan.{Plan, record_in_list, name_value, record_list, planned_records}
 use Rattle.volume_format.proofs.EachRecord.{at-listed}
 use Rattle.volume_format.proofs.Listed.{IfSome-from}
 use Rattle.volume_format.proofs.Names.{HasOneName, names-planned, names_of-planned, namespace-planned, parent-root}
@@ -30,7 +30,7 @@ module _ (p : Plan) where
       dos : IsTrue (is_dos name) → ⊥
       dos t = false≢true (rw space at t)
 
-  links-one : (f : ℕ) (r : Record) → listed (planned p) f ≡ Some r → HasOneName f r → HasRightLinks (planned_records p) f r
+  links-one : (f : ℕ) (r : Record) → record_in_list (record_list p) f ≡ Some r → HasOneName f r → HasRightLinks (planned_records p) f r
   links-one f r e name =
       linked f r (name_in (name_value name.parent name.directory name.letters)) (names_of-planned p f r e ∙ name.one)
       (namespace-planned name.parent name.directory name.letters) name.links
@@ -40,7 +40,7 @@ module _ (p : Plan) where
 
   pub MeetsLinks-planned : (f : ℕ) → MeetsLinks (planned_records p) f
   MeetsLinks-planned f = record {
-    links = IfSome-from (listed (planned p) f) (λ r. IsTrue (is_base r) → HasRightLinks (planned_records p) f r)
+    links = IfSome-from (record_in_list (record_list p) f) (λ r. IsTrue (is_base r) → HasRightLinks (planned_records p) f r)
         (λ r is base. links-one f r is (at-listed HasOneName p (names-planned p) f r is));
     root = λ e. (refl, refl);
   }

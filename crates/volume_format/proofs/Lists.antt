@@ -7,7 +7,7 @@ use Rattle.std.proofs.lemmas.List.Sums.{sum_by-cons}
 use Rattle.volume_def.specs.Files.{Part, Record, file_of, is_base, parts, record_on, records_of}
 use Rattle.volume_def.specs.ListsClause.{HasRightList, IsAlone, IsRightList, MeetsLists, is_list}
 use Rattle.volume_def.specs.View.{VolumeView}
-use Rattle.volume_format.specs.Plan.{Plan, listed, planned}
+use Rattle.volume_format.specs.Plan.{Plan, record_in_list, record_list}
 use Rattle.volume_format.specs.Planned.{IsPlanned}
 use Rattle.volume_format.proofs.Bases.{AllBase-planned, parts-listed}
 use Rattle.volume_format.proofs.EachRecord.{EachRecord, at-listed}
@@ -38,7 +38,7 @@ module _ (p : Plan) (view : VolumeView) (is : IsPlanned p view) where
   alone_in f m (Some r) is_some base = rw is_some (λ same. sym (file_of-base m r base) ∙ same)
 
   alone : (f : ℕ) → IsAlone view f
-  alone f m = alone_in f m (listed (planned p) m) (record_on-planned p view is m) (AllBase-planned p m)
+  alone f m = alone_in f m (record_in_list (record_list p) m) (record_on-planned p view is m) (AllBase-planned p m)
 
   HasRightList-planned : (f : ℕ) (r : Record) → count_by is_list r.parts ≡ 0 → HasRightList view f r.parts
   HasRightList-planned f r none = record {
@@ -66,11 +66,11 @@ module _ (p : Plan) (view : VolumeView) (is : IsPlanned p view) where
     n25 = refl;
   }
 
-  parts-view : (f : ℕ) (r : Record) → listed (planned p) f ≡ Some r → parts (records_of view) f ≡ r.parts
+  parts-view : (f : ℕ) (r : Record) → record_in_list (record_list p) f ≡ Some r → parts (records_of view) f ≡ r.parts
   parts-view f r e = ap (λ records. parts records f) (records_of-planned p view is) ∙ parts-listed p f r e
 
   pub MeetsLists-planned : (f : ℕ) → MeetsLists view f
   MeetsLists-planned f = rw (record_on-planned p view is f)
-      (IfSome-from (listed (planned p) f) (λ r. IsTrue (is_base r) → HasRightList view f (parts (records_of view) f))
+      (IfSome-from (record_in_list (record_list p) f) (λ r. IsTrue (is_base r) → HasRightList view f (parts (records_of view) f))
       (λ r e base.
       subst (HasRightList view f) (sym (parts-view f r e)) (HasRightList-planned f r (at-listed HasNoList p no-lists f r e))))

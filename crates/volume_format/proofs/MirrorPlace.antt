@@ -8,20 +8,20 @@ use Rattle.ntfs_def.specs.declared.run_text.Spot.TheVariants.{At}
 use Rattle.volume_def.specs.Table.{cluster_bytes}
 use Rattle.volume_def.specs.VersionClause.{IsMirror, MeetsMirrorPlace}
 use Rattle.volume_def.specs.View.{VolumeView}
-use Rattle.volume_format.specs.Plan.{Plan, mirror_at, mirror_len, needed, stream_part}
+use Rattle.volume_format.specs.Plan.{Plan, mirror_at, mirror_len, clusters_needed, stream_part}
 use Rattle.volume_format.specs.Planned.{IsPlanned}
 use Rattle.volume_format.proofs.Contents.{mirror_parts-planned}
-use Rattle.volume_format.proofs.Needed.{needed-covers}
+use Rattle.volume_format.proofs.Needed.{clusters_needed-covers}
 use Rattle.volume_format.proofs.Values.{spot-stream}
 
 module _ (p : Plan) (view : VolumeView) (is : IsPlanned p view) (some : 0 < p.size) where
   -- a cluster that begins in the mirror is one of it
-  few : (k : ℕ) → k * cluster_bytes view.layout < mirror_len → k < needed p mirror_len
-  few k lt = elim (cases_lt k (needed p mirror_len)) [
+  few : (k : ℕ) → k * cluster_bytes view.layout < mirror_len → k < clusters_needed p mirror_len
+  few k lt = elim (cases_lt k (clusters_needed p mirror_len)) [
     | inl below ↦ below
     | inr ge ↦ absurd (omega (
       arith,
-      needed-covers p some mirror_len,
+      clusters_needed-covers p some mirror_len,
       lt,
       mul-le-mul_left p.size ge,
       ap (λ size. k * size) is.size,

@@ -7,7 +7,7 @@ use Rattle.ntfs_def.specs.FileName.{name_in}
 use Rattle.ntfs_def.specs.Record.{Reference}
 use Rattle.volume_def.specs.FileNames.{names_among, names_of}
 use Rattle.volume_def.specs.Files.{Record, is_directory}
-use Rattle.volume_format.specs.Plan.{Plan, listed, name_value, planned, planned_records}
+use Rattle.volume_format.specs.Plan.{Plan, record_in_list, name_value, record_list, planned_records}
 use Rattle.volume_format.proofs.Bases.{parts-listed}
 use Rattle.volume_format.proofs.EachRecord.{EachRecord}
 
@@ -68,7 +68,7 @@ module _ (p : Plan) where
   }
 
   -- the names of a file are those of its record
-  pub names_of-planned : (f : ℕ) (r : Record) → listed (planned p) f ≡ Some r → names_of (planned_records p) f ≡ names_among r.parts
+  pub names_of-planned : (f : ℕ) (r : Record) → record_in_list (record_list p) f ≡ Some r → names_of (planned_records p) f ≡ names_among r.parts
   unfolding names_of
   names_of-planned f r e = ap names_among (parts-listed p f r e)
 

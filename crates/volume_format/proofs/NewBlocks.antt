@@ -12,7 +12,7 @@ use Rattle.volume_def.specs.Blocks.{block_of, copy_of, cut_off, place_at, shown_
 use Rattle.volume_def.specs.Table.{TableLayout, two_sectors}
 use Rattle.volume_format.specs.Items.{StandsAt, item_sector}
 use Rattle.volume_format.specs.Made.{block_in}
-use Rattle.volume_format.specs.Plan.{Plan, mirror_at, mirror_len, needed, record_count, table_at, table_len}
+use Rattle.volume_format.specs.Plan.{Plan, mirror_at, mirror_len, clusters_needed, record_count, table_at, table_len}
 use Rattle.volume_format.specs.Written.{Stands, sectors_per}
 
 -- a sector of an item whose bytes stand in memory
@@ -59,24 +59,24 @@ new_layout p = record {
   cluster_sectors = sectors_per p;
   clusters = p.clusters;
   mirror = mirror_at p;
-  runs = record { len = needed p table_len; lcn = Some (table_at p) } ∷ [];
+  runs = record { len = clusters_needed p table_len; lcn = Some (table_at p) } ∷ [];
   initialized = table_len;
   count = record_count;
 }
 
 module _ (disk : ℕ → List ℕ) (p : Plan) (some : 0 < sectors_per p) (bytes : List ℕ) (long : length bytes ≡ table_len) where
   abbrev run : Run
-  run = record { len = needed p table_len; lcn = Some (table_at p) }
+  run = record { len = clusters_needed p table_len; lcn = Some (table_at p) }
 
   abbrev per : ℕ
   per = sectors_per p
 
   module _ (stands : Stands disk p (table_at p) table_len (slice_index bytes)) where
     -- a sector of the table
-    sector-written : (k : ℕ) → k < needed p table_len * per → 512 * k + 512 ≤ table_len
+    sector-written : (k : ℕ) → k < clusters_needed p table_len * per → 512 * k + 512 ≤ table_len
         → table_sector disk (new_layout p) k ≡ item_sector (slice_index bytes) k
     sector-written k within inside =
-        let lt : k / per < needed p table_len = (div-lt_iff_lt-mul some).1 within in
+        let lt : k / per < clusters_needed p table_len = (div-lt_iff_lt-mul some).1 within in
         let sum = div-add-mod k per in
         let place : (table_at p + k / per) * per + k % per ≡ table_at p * per + k = omega (arith, sum) in
         let len = length-map-range_with_len (slice_index bytes) (512 * k) 512 in
@@ -87,7 +87,7 @@ module _ (disk : ℕ → List ℕ) (p : Plan) (some : 0 < sectors_per p) (bytes 
         ∙ ap (λ (n : ℕ). take (table_len - 512 * k) (item_sector (slice_index bytes) k) ++ replicate n 0) none
         ∙ append-nil _ ∙ take_all _ (item_sector (slice_index bytes) k) (omega (arith, len))
 
-    pub block_of-written : (n : ℕ) → n < record_count → 2 * n + 1 < needed p table_len * per
+    pub block_of-written : (n : ℕ) → n < record_count → 2 * n + 1 < clusters_needed p table_len * per
         → block_of disk (new_layout p) n ≡ block_in bytes n
     unfolding block_of
     block_of-written n few within =
@@ -98,7 +98,7 @@ module _ (disk : ℕ → List ℕ) (p : Plan) (some : 0 < sectors_per p) (bytes 
         ∙ two-block bytes n (omega arith)
 
   pub copy_of-written : Stands disk p (mirror_at p) mirror_len (slice_index bytes) → (n : ℕ) → n < 4
-      → 2 * n + 1 < needed p mirror_len * per → copy_of disk (new_layout p) n ≡ block_in bytes n
+      → 2 * n + 1 < clusters_needed p mirror_len * per → copy_of disk (new_layout p) n ≡ block_in bytes n
   unfolding copy_of
   copy_of-written stands n few within =
-      two_sectors-block disk per (mirror_at p) (needed p mirror_len * per) bytes stands n within (omega arith)
+      two_sectors-block disk per (mirror_at p) (clusters_needed p mirror_len * per) bytes stands n within (omega arith)

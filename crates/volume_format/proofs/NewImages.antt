@@ -15,13 +15,13 @@ use Rattle.volume_format.specs.Items.{HoldsItem}
 use Rattle.volume_format.specs.Made.{AreMade, IsTable, block_in}
 use Rattle.volume_format.specs.NewBoot.{HasGeometry}
 use Rattle.volume_format.specs.Options.{AreInRange, Options, plan_of}
-use Rattle.volume_format.specs.Plan.{Plan, boot_len, listed, mirror_at, mirror_len, needed, planned, record_count, table_at, table_len}
+use Rattle.volume_format.specs.Plan.{Plan, boot_len, record_in_list, mirror_at, mirror_len, clusters_needed, record_list, record_count, table_at, table_len}
 use Rattle.volume_format.specs.Planned.{IsPlanned, IsRootRecord}
 use Rattle.volume_format.specs.StoredRecord.{IsStoredRecord}
 use Rattle.volume_format.specs.Written.{ItemsStand, Stands, sectors_per}
 use Rattle.volume_format.proofs.Fits.{FitsPlan-chosen, size-some}
 use Rattle.volume_format.proofs.Images.{HoldsItem-stands}
-use Rattle.volume_format.proofs.Needed.{needed-covers}
+use Rattle.volume_format.proofs.Needed.{clusters_needed-covers}
 use Rattle.volume_format.proofs.NewBlocks.{block_of-written, copy_of-written, item_sector-bytes, new_layout, two_sectors-block}
 use Rattle.volume_format.proofs.NewVolumes.{clean}
 use Rattle.volume_format.proofs.Soundness.{sound}
@@ -46,16 +46,16 @@ module _ (p : Plan) (disk : ℕ → List ℕ) (boot table root : List ℕ) (fits
   some_sectors = omega (arith, whole, some)
 
   -- the sectors of an item hold its bytes
-  enough : (len : ℕ) → len ≤ 512 * (needed p len * sectors_per p)
+  enough : (len : ℕ) → len ≤ 512 * (clusters_needed p len * sectors_per p)
   enough len =
-      let covers = needed-covers p some len in
-      let same : needed p len * (512 * sectors_per p) ≡ needed p len * p.size = ap (λ (n : ℕ). needed p len * n) whole in
+      let covers = clusters_needed-covers p some len in
+      let same : clusters_needed p len * (512 * sectors_per p) ≡ clusters_needed p len * p.size = ap (λ (n : ℕ). clusters_needed p len * n) whole in
       omega arith
 
   holds : (at len : ℕ) (rule : ℕ → ℕ) → Stands disk p at len rule → HoldsItem (cluster_of disk (new_layout p)) p.size at len rule
   holds at len rule stands =
       subst (λ size. HoldsItem (cluster_of disk (new_layout p)) size at len rule) whole
-      (HoldsItem-stands disk (new_layout p) at (needed p len * sectors_per p) len rule some_sectors stands (enough len))
+      (HoldsItem-stands disk (new_layout p) at (clusters_needed p len * sectors_per p) len rule some_sectors stands (enough len))
 
   block : (n : ℕ) → n < record_count → block_of disk (new_layout p) n ≡ block_in table n
   block n lt =
@@ -67,8 +67,8 @@ module _ (p : Plan) (disk : ℕ → List ℕ) (boot table root : List ℕ) (fits
       let room = enough mirror_len in
       copy_of-written disk p some_sectors table is_table.len stand.next.mirror n lt (omega arith)
 
-  stored : (n : ℕ) → n < record_count → IsStoredRecord n (listed (planned p) n) (block_of disk (new_layout p) n)
-  stored n lt = subst (λ bytes. IsStoredRecord n (listed (planned p) n) bytes) (sym (block n lt)) (is_table.blocks n lt)
+  stored : (n : ℕ) → n < record_count → IsStoredRecord n (record_in_list (record_list p) n) (block_of disk (new_layout p) n)
+  stored n lt = subst (λ bytes. IsStoredRecord n (record_in_list (record_list p) n) bytes) (sym (block n lt)) (is_table.blocks n lt)
 
   pub IsPlanned-stand : IsPlanned p (told_view disk (new_layout p))
   IsPlanned-stand = record {
@@ -109,7 +109,7 @@ module _ (p : Plan) (disk : ℕ → List ℕ) (boot table root : List ℕ) (fits
         (TellsTable-planned p fits whole some (block_in table 0) zero.means));
   }
     where
-      zero : IsStoredRecord 0 (listed (planned p) 0) (block_in table 0)
+      zero : IsStoredRecord 0 (record_in_list (record_list p) 0) (block_in table 0)
       zero = is_table.blocks 0 (omega arith)
 
       record_0 : first_record disk boot ≡ block_in table 0
@@ -127,7 +127,7 @@ unfolding sector_in
 first-sector [] boot len e = absurd (omega (arith, ap length e, len))
 first-sector (byte ∷ all) boot len e = e
 
-boot-stands : (disk : ℕ → List ℕ) (p : Plan) (boot : List ℕ) → length boot ≡ 512 → 0 < needed p boot_len * sectors_per p
+boot-stands : (disk : ℕ → List ℕ) (p : Plan) (boot : List ℕ) → length boot ≡ 512 → 0 < clusters_needed p boot_len * sectors_per p
     → Stands disk p 0 boot_len (slice_index boot) → disk 0 ≡ boot
 boot-stands disk p boot len room stands =
     let at : 0 * sectors_per p + 0 ≡ 0 = omega arith in

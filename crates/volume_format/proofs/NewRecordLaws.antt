@@ -21,9 +21,9 @@ use Rattle.ntfs_def.proofs.SameLaws.{headers_same}
 use Rattle.ntfs_def.proofs.ShapeLaws.{HasShape-few, header_failing-length}
 use Rattle.volume_def.specs.Files.{Content, Part, Record, Value, part_of, record_of}
 use Rattle.volume_def.specs.ExtentsClause.{last_vcn_of}
-use Rattle.volume_format.specs.Plan.{Plan, bad_part, file, needed, part, stream_part}
+use Rattle.volume_format.specs.Plan.{Plan, bad_part, file, clusters_needed, part, stream_part}
 use Rattle.volume_format.specs.Planned.{AreAligned}
-use Rattle.volume_format.specs.AttributeBytes.{IsPart, one_run}
+use Rattle.volume_format.specs.AttributeBytes.{IsPartBytes, one_run}
 use Rattle.volume_format.specs.NewRecord.{AddsPart, IsNewRecord, blank_block, blank_header, blank_record, stream_content, with_part}
 
 pub length-wide : (letters : List ℕ) → length (wide letters) ≡ 2 * length letters
@@ -48,7 +48,7 @@ is_aligned attribute = value_offset attribute.bytes 0 % 8 ≡ 0
 -- One attribute more.
 module _ (old new attr : List ℕ) (one : IsOneAttribute attr) (puts : Inserts old new attr (length (attributes old)))
     (shape : HasShape old (length (attributes old))) (kind : ℕ) (name : List ℕ) (id : ℕ) (content : Content)
-    (is : IsPart attr kind name id content) (aligned : value_offset attr 0 % 8 ≡ 0) (own : id ≡ next_attribute_id old) where
+    (is : IsPartBytes attr kind name id content) (aligned : value_offset attr 0 % 8 ≡ 0) (own : id ≡ next_attribute_id old) where
   list : attributes new ≡ attributes old ++ attribute_at attr 0 ∷ []
   list = puts.attributes ∙ insert_end (attributes old) (attribute_at attr 0)
 
@@ -191,7 +191,7 @@ content-same : (a b l m real initialized : ℕ) (n k : ℕ) (lcn : Option ℕ) �
     ≡ one_run (record { allocated = b; real = real; initialized = initialized; first = 0; last = m }) (record { len = k; lcn = lcn })
 content-same a b l m real initialized n k lcn e f g = cc
 
-pub content-item : (p : Plan) (at bytes allocated len : ℕ) → allocated ≡ needed p bytes * p.size → len ≡ needed p bytes → 0 < len
+pub content-item : (p : Plan) (at bytes allocated len : ℕ) → allocated ≡ clusters_needed p bytes * p.size → len ≡ clusters_needed p bytes → 0 < len
     → one_run (record { allocated = allocated; real = bytes; initialized = bytes; first = 0; last = len - 1 }) (record { len = len; lcn = Some at })
     ≡ stream_content p at bytes
 content-item p at bytes allocated len e f some =

@@ -12,8 +12,8 @@ use Rattle.ntfs_def.specs.Fixup.{HasArray, Seals, array_end, array_place, next_n
 use Rattle.ntfs_def.specs.Node.{Node, Whole, are_short, are_short_from, entries_end, entry_len, first_entry, first_offset, has_children, is_entry, is_last_entry, most_len, node_header, node_header_failing, node_in, room_end, scan_from, short_node, whole_of}
 use Rattle.ntfs_def.proofs.FixupLaws.{length-opened_of}
 use Rattle.ntfs_def.proofs.SameLaws.{starts-same}
-use Rattle.index_node.specs.LayOut.{AreEntries, Holds, KeepsHeader, node_listed, room_len, total_len}
-use Rattle.index_node.proofs.LayOutLaws.{Holds-same, scan_listed}
+use Rattle.index_node.specs.LayOut.{AreEntries, HoldsPieces, KeepsHeader, node_listed, room_len, total_len}
+use Rattle.index_node.proofs.LayOutLaws.{HoldsPieces-same, scan_listed}
 use Rattle.index_node.proofs.NodeLaws.{are_short-is, scan_node-is, u16_within}
 use Rattle.volume_format.specs.NodeBlock.{IsNodeBlock, blank_node, blank_node_header}
 use Rattle.volume_format.specs.Planned.{IsRootRecord}
@@ -104,12 +104,12 @@ short_head entry entries t = elim (cases_Bool (is_short entry)) [
 short_tail : (entry : List ℕ) (entries : List (List ℕ)) → list_all is_short (entry ∷ entries) ≡ true → list_all is_short entries ≡ true
 short_tail entry entries t = rw (short_head entry entries t) at t
 
-len-held : (node entry : List ℕ) (at : ℕ) (rest : List (List ℕ)) → Holds node at (entry ∷ rest) → ShortEntry entry → entry_len node at ≡ length entry
+len-held : (node entry : List ℕ) (at : ℕ) (rest : List (List ℕ)) → HoldsPieces node at (entry ∷ rest) → ShortEntry entry → entry_len node at ≡ length entry
 len-held node entry at rest holds short =
     sym (u16_within node at (length entry) 8 (omega (arith, short.least))) ∙ ap (λ xs. u16_at xs 8) holds.0 ∙ short.len
 
 short-held : (node entry : List ℕ) (entries : List (List ℕ)) (at : ℕ) → list_all is_short (entry ∷ entries) ≡ true
-    → Holds node at (entry ∷ entries)
+    → HoldsPieces node at (entry ∷ entries)
     → are_short_from node 632 at (length entries) ≡ true
 short-held node entry [] at t holds =
     let short = short_facts entry (short_head entry [] t) in
@@ -122,21 +122,21 @@ short-held node entry (next ∷ entries) at t holds =
     ∙ short-held node next entries (at + length entry) (short_tail entry (next ∷ entries) t) holds.1)
 
 short_all : (node : List ℕ) (at n : ℕ) (entries : List (List ℕ)) → length entries ≡ n + 1 → list_all is_short entries ≡ true
-    → Holds node at entries → are_short_from node 632 at n ≡ true
+    → HoldsPieces node at entries → are_short_from node 632 at n ≡ true
 short_all node at n [] e t holds = absurd (omega arith)
 short_all node at n (entry ∷ entries) e t holds =
     let same : length entries ≡ n = omega arith in
     ap (are_short_from node 632 at) (sym same) ∙ short-held node entry entries at t holds
 
 scan_all : (node : List ℕ) (end most at : ℕ) (entries : List (List ℕ)) → AreEntries Names false entries → length entries ≤ most
-    → Holds node at entries → at + total_len entries ≤ end
+    → HoldsPieces node at entries → at + total_len entries ≤ end
     → scan_from Names node false end most at ≡ Whole (node_listed false entries)
 scan_all node end most at [] are few holds inside = absurd are
 scan_all node end most at (entry ∷ entries) are few holds inside =
     scan_listed Names node false end entry entries most at (omega arith) are holds inside
 
 -- Such a block with the entries of the root says them.
-module _ (node : List ℕ) (is : IsNodeBlock root_used node) (leaf : has_children node ≡ false) (holds : Holds node 0x40 root_entries) where
+module _ (node : List ℕ) (is : IsNodeBlock root_used node) (leaf : has_children node ≡ false) (holds : HoldsPieces node 0x40 root_entries) where
   node_in-root : node_in Names node ≡ Some (node_listed false root_entries)
   node_in-root =
       ap whole_of (scan_node-is Names node false (0x18 + root_used) 0x40 (Whole (node_listed false root_entries))
@@ -244,12 +244,12 @@ module _ (built stored : List ℕ) (is : IsNodeBlock root_used built) (seals : S
   leaf-opened leaf =
       flag_at (opened_of stored) long-opened ∙ ap (λ n. n % 2 == 1) (below 0x24 (omega arith)) ∙ sym (flag_at built is.long) ∙ leaf
 
-  holds-opened : Holds built 0x40 root_entries → Holds (opened_of stored) 0x40 root_entries
+  holds-opened : HoldsPieces built 0x40 root_entries → HoldsPieces (opened_of stored) 0x40 root_entries
   holds-opened holds =
-      Holds-same built (opened_of stored) 0x40 root_entries seals.same.len
+      HoldsPieces-same built (opened_of stored) 0x40 root_entries seals.same.len
       (λ k from to. seals.same.above k (omega (arith, is.place, is.count))) holds
 
-  pub IsRootRecord-sealed : has_children built ≡ false → Holds built 0x40 root_entries → IsRootRecord stored
+  pub IsRootRecord-sealed : has_children built ≡ false → HoldsPieces built 0x40 root_entries → IsRootRecord stored
   IsRootRecord-sealed leaf holds = record {
     len = sym (length-opened_of stored) ∙ long-opened;
     sealed = seals.sealed;

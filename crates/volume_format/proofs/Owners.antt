@@ -8,8 +8,8 @@ use Rattle.ntfs_def.specs.declared.run_text.Run.{Run}
 use Rattle.volume_def.specs.Coverage.{has_cluster}
 use Rattle.volume_def.specs.Files.{is_of, part_runs}
 use Rattle.volume_def.specs.OwnersClause.{MeetsOwners, all_runs, boot_runs, times_owned}
-use Rattle.volume_format.specs.Plan.{Plan, bits_at, bits_len, boot_len, case_at, case_len, items_end, log_at, log_len, mirror_at, mirror_len, needed, node_at, node_len, planned_records, security_at, security_len, table_at, table_bits_at, table_bits_len, table_len}
-use Rattle.volume_format.proofs.Needed.{needed-some}
+use Rattle.volume_format.specs.Plan.{Plan, bits_at, bits_len, boot_len, case_at, case_len, items_end, log_at, log_len, mirror_at, mirror_len, clusters_needed, node_at, node_len, planned_records, security_at, security_len, table_at, table_bits_at, table_bits_len, table_len}
+use Rattle.volume_format.proofs.Needed.{clusters_needed-some}
 use Rattle.volume_format.proofs.Bases.{parts-planned}
 
 abbrev run : ℕ → ℕ → Run
@@ -53,10 +53,10 @@ hits-next c m n = subst (λ k. hits c 0 m + hits c k n ≡ hits c 0 (m + n)) (om
 -- all runs, in the order of the records
 abbrev item_runs : Plan → List Run
 item_runs p =
-    run (table_at p) (needed p table_len) ∷ run (table_bits_at p) (needed p table_bits_len) ∷ run (mirror_at p) (needed p mirror_len)
-    ∷ run (log_at p) (needed p log_len) ∷ run (node_at p) (needed p node_len) ∷ run (bits_at p) (needed p (bits_len p))
-    ∷ run 0 (needed p boot_len) ∷ record { len = p.clusters; lcn = None } ∷ run (security_at p) (needed p security_len)
-    ∷ run (case_at p) (needed p case_len) ∷ []
+    run (table_at p) (clusters_needed p table_len) ∷ run (table_bits_at p) (clusters_needed p table_bits_len) ∷ run (mirror_at p) (clusters_needed p mirror_len)
+    ∷ run (log_at p) (clusters_needed p log_len) ∷ run (node_at p) (clusters_needed p node_len) ∷ run (bits_at p) (clusters_needed p (bits_len p))
+    ∷ run 0 (clusters_needed p boot_len) ∷ record { len = p.clusters; lcn = None } ∷ run (security_at p) (clusters_needed p security_len)
+    ∷ run (case_at p) (clusters_needed p case_len) ∷ []
 
 all_runs-planned : (p : Plan) → all_runs (planned_records p) ≡ item_runs p
 unfolding all_runs
@@ -66,14 +66,14 @@ all_runs-planned p = refl
 times_owned-hits : (p : Plan) (c : ℕ) → times_owned (planned_records p) c ≡ hits c 0 (items_end p)
 unfolding times_owned
 times_owned-hits p c = ap (count_by (has_cluster c)) (all_runs-planned p) ∙ (
-    let a = hits-next c (needed p boot_len) (needed p table_len) in
-    let b = hits-next c (table_bits_at p) (needed p table_bits_len) in
-    let d = hits-next c (mirror_at p) (needed p mirror_len) in
-    let e = hits-next c (log_at p) (needed p log_len) in
-    let f = hits-next c (bits_at p) (needed p (bits_len p)) in
-    let g = hits-next c (case_at p) (needed p case_len) in
-    let h = hits-next c (security_at p) (needed p security_len) in
-    let i = hits-next c (node_at p) (needed p node_len) in
+    let a = hits-next c (clusters_needed p boot_len) (clusters_needed p table_len) in
+    let b = hits-next c (table_bits_at p) (clusters_needed p table_bits_len) in
+    let d = hits-next c (mirror_at p) (clusters_needed p mirror_len) in
+    let e = hits-next c (log_at p) (clusters_needed p log_len) in
+    let f = hits-next c (bits_at p) (clusters_needed p (bits_len p)) in
+    let g = hits-next c (case_at p) (clusters_needed p case_len) in
+    let h = hits-next c (security_at p) (clusters_needed p security_len) in
+    let i = hits-next c (node_at p) (clusters_needed p node_len) in
     omega arith)
 
 module _ (p : Plan) (c : ℕ) where
@@ -83,7 +83,7 @@ module _ (p : Plan) (c : ℕ) where
   pub times_owned-behind : items_end p ≤ c → times_owned (planned_records p) c ≡ 0
   times_owned-behind le = times_owned-hits p c ∙ hits-behind c 0 (items_end p) (omega (arith, le))
 
-boot_runs-planned : (p : Plan) → boot_runs (planned_records p) ≡ run 0 (needed p boot_len) ∷ []
+boot_runs-planned : (p : Plan) → boot_runs (planned_records p) ≡ run 0 (clusters_needed p boot_len) ∷ []
 boot_runs-planned p = ap (λ all. flat_map part_runs (filter (is_of DATA []) all)) (parts-planned p BOOT (omega arith))
 
 -- Where the items fit on the volume.
@@ -91,8 +91,8 @@ pub MeetsOwners-planned : (p : Plan) → 0 < p.size → items_end p ≤ p.cluste
     → (n : ℕ) → MeetsOwners (planned_records p) p.clusters n
 MeetsOwners-planned p some fit n = record {
   boot = λ e.
-      let long = needed-some p some boot_len (omega arith) in
-      omega (arith, ap (count_by (has_cluster 0)) (boot_runs-planned p), hits-in 0 0 (needed p boot_len) (omega arith) (omega arith));
+      let long = clusters_needed-some p some boot_len (omega arith) in
+      omega (arith, ap (count_by (has_cluster 0)) (boot_runs-planned p), hits-in 0 0 (clusters_needed p boot_len) (omega arith) (omega arith));
   inside = λ le. times_owned-behind p n (omega (arith, fit, le));
   once = elim (cases_lt n (items_end p)) [
     | inl lt ↦ omega (arith, times_owned-below p n lt)

@@ -13,11 +13,11 @@ use Rattle.volume_def.specs.Files.{Part, content_extent}
 use Rattle.volume_def.specs.Values.{value_on}
 use Rattle.volume_def.specs.View.{VolumeView}
 use Rattle.volume_format.specs.Items.{record_bits_byte}
-use Rattle.volume_format.specs.Plan.{Plan, listed, planned, record_count, stream_part, table_bits_len}
+use Rattle.volume_format.specs.Plan.{Plan, record_in_list, record_list, record_count, stream_part, table_bits_len}
 use Rattle.volume_format.specs.Planned.{IsPlanned}
 use Rattle.volume_format.proofs.ClusterBits.{HasNoHole-stream}
 use Rattle.volume_format.proofs.Contents.{record_bits-planned, record_bits-value}
-use Rattle.volume_format.proofs.Needed.{needed-covers}
+use Rattle.volume_format.proofs.Needed.{clusters_needed-covers}
 use Rattle.volume_format.proofs.Records.{record_on-planned}
 
 -- the bit of record n, as it stands in the bitmap
@@ -25,7 +25,7 @@ abbrev bit_of : ℕ → ℕ
 bit_of n = bit_at (record_bits_byte (n / 8)) (n % 8)
 
 abbrev agrees : Plan → ℕ → Bool
-agrees p n = cond (is_some (listed (planned p) n)) (bit_of n == 1) (bit_of n == 0)
+agrees p n = cond (is_some (record_in_list (record_list p) n)) (bit_of n == 1) (bit_of n == 0)
 
 -- each of the 64 bits says whether the record is in use
 bits-agree : (p : Plan) → list_all (agrees p) (range_with_len 0 record_count) ≡ true
@@ -58,7 +58,7 @@ module _ (p : Plan) (view : VolumeView) (is : IsPlanned p view) (some : 0 < p.si
     placed = rw (record_bits-planned p view is) (HasNoHole-stream p _ _ _ _ _ _);
     extents = rw (record_bits-planned p view is)
         (All-from_recursion (λ (a : Part). IsSome (content_extent a.content)) (stream_part p _ _ _ _ _ _ ∷ []) (refl, tt));
-    room = rw (record_bits-planned p view is, is.size) (omega (arith, is.count, needed-covers p some table_bits_len));
+    room = rw (record_bits-planned p view is, is.size) (omega (arith, is.count, clusters_needed-covers p some table_bits_len));
   }
 
   pub MeetsRecordBits-planned : (n : ℕ) → MeetsRecordBits view n
@@ -67,5 +67,5 @@ module _ (p : Plan) (view : VolumeView) (is : IsPlanned p view) (some : 0 < p.si
     bit = λ low high.
         let inside : n < record_count = omega (arith, is.count, high) in
         rw (bit-value n inside, record_on-planned p view is n)
-        (by_use (is_some (listed (planned p) n)) _ (agree-from (agrees p) 0 record_count n (bits-agree p) (omega arith) (omega arith)));
+        (by_use (is_some (record_in_list (record_list p) n)) _ (agree-from (agrees p) 0 record_count n (bits-agree p) (omega arith) (omega arith)));
   }

@@ -4,9 +4,9 @@ use Rattle.std.proofs.lemmas.Bool.{cases_lt, lt-ltb, le-ltb}
 use Rattle.std.proofs.Math.Path.{fun_ext}
 use Rattle.volume_def.specs.Files.{Record, Records, is_of, parts, parts_at, record_in, record_on, records_of}
 use Rattle.volume_def.specs.View.{VolumeView}
-use Rattle.volume_format.specs.Plan.{Plan, listed, planned, planned_records, record_count}
+use Rattle.volume_format.specs.Plan.{Plan, record_in_list, record_list, planned_records, record_count}
 use Rattle.volume_format.specs.Planned.{IsPlanned}
-use Rattle.volume_format.proofs.Listed.{listed-past}
+use Rattle.volume_format.proofs.Listed.{record_in_list-past}
 use Rattle.volume_format.proofs.Bases.{parts-planned}
 use Rattle.volume_format.proofs.PartsOf.{parts_or_none}
 
@@ -16,12 +16,12 @@ records_same a b count each =
     ∙ ap (λ (f : ℕ → Option Record). let t : Records = record { count = b.count; record_at = f } in t) (fun_ext each)
 
 module _ (p : Plan) (view : VolumeView) (is : IsPlanned p view) where
-  pub record_on-planned : (n : ℕ) → record_on view n ≡ listed (planned p) n
+  pub record_on-planned : (n : ℕ) → record_on view n ≡ record_in_list (record_list p) n
   record_on-planned n = elim (cases_lt n record_count) [
     | inl lt ↦ ap (λ b. cond b (record_in n (view.block n)) None) (lt-ltb n view.layout.count (omega (arith, is.count))) ∙ is.records n lt
     | inr ge ↦
         ap (λ b. cond b (record_in n (view.block n)) None) (le-ltb n view.layout.count (omega (arith, is.count)))
-        ∙ sym (listed-past (planned p) n (omega arith))
+        ∙ sym (record_in_list-past (record_list p) n (omega arith))
   ]
 
   pub records_of-planned : records_of view ≡ planned_records p
@@ -29,7 +29,7 @@ module _ (p : Plan) (view : VolumeView) (is : IsPlanned p view) where
 
   -- the parts of a type and name of a file
   pub parts_at-planned : (f kind : ℕ) (name : List ℕ) → f < record_count
-      → parts_at view f kind name ≡ filter (is_of kind name) (parts_or_none (listed (planned p) f))
+      → parts_at view f kind name ≡ filter (is_of kind name) (parts_or_none (record_in_list (record_list p) f))
   parts_at-planned f kind name inside =
       ap (λ records. filter (is_of kind name) (parts records f)) records_of-planned
       ∙ ap (filter (is_of kind name)) (parts-planned p f inside)

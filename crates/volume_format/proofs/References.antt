@@ -7,7 +7,7 @@ use Rattle.ntfs_def.specs.FileName.{FileName, name_in}
 use Rattle.ntfs_def.specs.Record.{Reference}
 use Rattle.volume_def.specs.Files.{Record}
 use Rattle.volume_def.specs.ReferencesClause.{HasRightReferences, MeetsReferences, NamesBase, NamesDirectory}
-use Rattle.volume_format.specs.Plan.{Plan, listed, name_value, planned, planned_records}
+use Rattle.volume_format.specs.Plan.{Plan, record_in_list, name_value, record_list, planned_records}
 use Rattle.volume_format.proofs.EachRecord.{at-listed}
 use Rattle.volume_format.proofs.Listed.{IfSome-from}
 use Rattle.volume_format.proofs.Names.{HasOneName, names-planned, parent-extend, parent-root}
@@ -43,5 +43,5 @@ module _ (p : Plan) where
   }
 
   pub MeetsReferences-planned : (n : ℕ) → MeetsReferences (planned_records p) n
-  MeetsReferences-planned n = IfSome-from (listed (planned p) n) (HasRightReferences (planned_records p))
+  MeetsReferences-planned n = IfSome-from (record_in_list (record_list p) n) (HasRightReferences (planned_records p))
       (λ r is. refers n r (at-listed HasOneName p (names-planned p) n r is))

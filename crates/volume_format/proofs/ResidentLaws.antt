@@ -7,10 +7,10 @@ use Rattle.ntfs_def.specs.Attribute.{attribute_at, attribute_kind, attribute_len
 use Rattle.ntfs_def.specs.Shape.{IsOneAttribute}
 use Rattle.volume_def.specs.Files.{Content, Part, Value}
 use Rattle.volume_format.specs.Plan.{up_to_8}
-use Rattle.volume_format.specs.AttributeBytes.{IsPart, indexed_byte, padded, resident_bytes, resident_header, resident_len, value_at}
+use Rattle.volume_format.specs.AttributeBytes.{IsPartBytes, indexed_byte, padded_bytes, resident_bytes, resident_header, resident_len, value_at}
 
-pub length-padded : (bytes : List ℕ) → length (padded bytes) ≡ up_to_8 (length bytes)
-length-padded bytes = simp (length-append, length-replicate) (omega arith)
+pub length-padded_bytes : (bytes : List ℕ) → length (padded_bytes bytes) ≡ up_to_8 (length bytes)
+length-padded_bytes bytes = simp (length-append, length-replicate) (omega arith)
 
 -- parts with the same fields are the same
 pub parts_same : (holder kind kind2 id id2 flags flags2 : ℕ) (name name2 : List ℕ) (content content2 : Content)
@@ -22,7 +22,7 @@ parts_same holder kind kind2 id id2 flags flags2 name name2 content content2 k n
 module _ (kind : ℕ) (name : List ℕ) (id indexed : ℕ) (value : List ℕ) (small_kind : kind < 2 ^ 32) (small_id : id < 2 ^ 16)
     (short_name : length name ≤ 510) (even : length name % 2 ≡ 0) (short_value : length value ≤ 900) where
   abbrev text : List ℕ
-  text = resident_header kind name id indexed value ++ (padded name ++ padded value)
+  text = resident_header kind name id indexed value ++ (padded_bytes name ++ padded_bytes value)
 
   kind-text : attribute_kind text 0 ≡ kind
   kind-text = omega arith
@@ -44,13 +44,13 @@ module _ (kind : ℕ) (name : List ℕ) (id indexed : ℕ) (value : List ℕ) (s
 
   name-text : name_bytes text 0 ≡ name
   name-text =
-      ap (take (0 + (24 + 2 * (length name / 2)) - 24)) (append_assoc name (replicate (up_to_8 (length name) - length name) 0) (padded value))
-      ∙ take_at name (replicate (up_to_8 (length name) - length name) 0 ++ padded value) (0 + (24 + 2 * (length name / 2)) - 24) (omega arith)
+      ap (take (0 + (24 + 2 * (length name / 2)) - 24)) (append_assoc name (replicate (up_to_8 (length name) - length name) 0) (padded_bytes value))
+      ∙ take_at name (replicate (up_to_8 (length name) - length name) 0 ++ padded_bytes value) (0 + (24 + 2 * (length name / 2)) - 24) (omega arith)
 
-  at-value : drop (value_at name) text ≡ padded value
+  at-value : drop (value_at name) text ≡ padded_bytes value
   at-value =
       sym (drop-drop (up_to_8 (length name)) 24 text)
-      ∙ drop_at (padded name) (padded value) (up_to_8 (length name)) (length-padded name)
+      ∙ drop_at (padded_bytes name) (padded_bytes value) (up_to_8 (length name)) (length-padded_bytes name)
 
   content-text : content_bytes text 0 ≡ value
   content-text =
@@ -63,7 +63,7 @@ module _ (kind : ℕ) (name : List ℕ) (id indexed : ℕ) (value : List ℕ) (s
   length-text : length text ≡ resident_len name value
   length-text = simp (length-append, length-replicate) (omega arith)
 
-  part-text : IsPart text kind name id (Value value)
+  part-text : IsPartBytes text kind name id (Value value)
   unfolding attribute_at
   part-text n = parts_same n _ kind _ id _ 0 _ name _ (Value value) kind-text name-text id-text refl (ap Value content-text)
 
@@ -85,7 +85,7 @@ module _ (kind : ℕ) (name : List ℕ) (id indexed : ℕ) (value : List ℕ) (s
 -- What the bytes are.
 pub record IsResident (bytes : List ℕ) (kind : ℕ) (name : List ℕ) (id : ℕ) (value : List ℕ) : Type 0 where
   pub one : IsOneAttribute bytes
-  pub part : IsPart bytes kind name id (Value value)
+  pub part : IsPartBytes bytes kind name id (Value value)
   pub len : length bytes ≡ resident_len name value
   pub aligned : value_offset bytes 0 % 8 ≡ 0
 

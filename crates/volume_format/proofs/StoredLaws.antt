@@ -14,10 +14,10 @@ use Rattle.ntfs_def.proofs.SameLaws.{HasShape-same, attributes-same, header_of-s
 use Rattle.ntfs_def.proofs.ShapeLaws.{header_failing-length}
 use Rattle.volume_def.specs.Files.{Record, part_of, record_in, record_of}
 use Rattle.volume_format.specs.NewRecord.{IsNewRecord}
-use Rattle.volume_format.specs.Plan.{Plan, is_planned, listed, planned}
+use Rattle.volume_format.specs.Plan.{Plan, is_planned, record_in_list, record_list}
 use Rattle.volume_format.specs.Planned.{AreAligned}
 use Rattle.volume_format.specs.StoredRecord.{IsStoredRecord}
-use Rattle.volume_format.proofs.Listed.{listed-past}
+use Rattle.volume_format.proofs.Listed.{record_in_list-past}
 
 array_place-shape : (block : List ℕ) → header_failing block ≡ None → array_place block ≡ 0x30
 array_place-shape block right = search rules
@@ -117,7 +117,7 @@ IsStoredRecord-zeros n planned none =
 
 -- a number that is not planned has no record
 abbrev agrees : Plan → ℕ → Bool
-agrees p n = is_planned n || is_none (listed (planned p) n)
+agrees p n = is_planned n || is_none (record_in_list (record_list p) n)
 
 all-agree : (p : Plan) → list_all (agrees p) (range_with_len 0 26) ≡ true
 all-agree p = refl
@@ -136,8 +136,8 @@ none-of : (o : Option Record) (b : Bool) → b ≡ false → (b || is_none o) �
 none-of None b e h = refl
 none-of (Some r) b e h = absurd (false≢true (rw e at h))
 
-pub listed-free : (p : Plan) (n : ℕ) → is_planned n ≡ false → listed (planned p) n ≡ None
-listed-free p n free = elim (cases_lt n 26) [
-  | inl lt ↦ none-of (listed (planned p) n) (is_planned n) free (agree-from (agrees p) 0 26 n (all-agree p) (omega arith) (omega arith))
-  | inr past ↦ listed-past (planned p) n past
+pub record_in_list-free : (p : Plan) (n : ℕ) → is_planned n ≡ false → record_in_list (record_list p) n ≡ None
+record_in_list-free p n free = elim (cases_lt n 26) [
+  | inl lt ↦ none-of (record_in_list (record_list p) n) (is_planned n) free (agree-from (agrees p) 0 26 n (all-agree p) (omega arith) (omega arith))
+  | inr past ↦ record_in_list-past (record_list p) n past
 ]

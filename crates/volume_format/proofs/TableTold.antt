@@ -17,9 +17,9 @@ use Rattle.ntfs_def.proofs.SpotLaws.{spot_of-first}
 use Rattle.volume_def.specs.Files.{Clusters, Part, Record, content_of, part_of, record_in, record_of}
 use Rattle.volume_def.specs.Table.{FitTable, IsOnVolume, IsTableData, LieFromMft, TellsTable, cluster_bytes, is_data_extent}
 use Rattle.volume_format.specs.FitsPlan.{FitsPlan}
-use Rattle.volume_format.specs.Plan.{Plan, extent_for, name_part, needed, record_0, standard_part, stream_part, table_at, table_bits_at, table_bits_len, table_len}
+use Rattle.volume_format.specs.Plan.{Plan, extent_for, name_part, clusters_needed, record_0, standard_part, stream_part, table_at, table_bits_at, table_bits_len, table_len}
 use Rattle.volume_format.specs.Written.{sectors_per}
-use Rattle.volume_format.proofs.Needed.{needed-covers}
+use Rattle.volume_format.proofs.Needed.{clusters_needed-covers}
 use Rattle.volume_format.proofs.NewBlocks.{new_layout}
 
 -- a record of which something is planned is in use, and means it
@@ -79,7 +79,7 @@ module _ (p : Plan) (fits : FitsPlan p) (whole : 512 * sectors_per p ≡ p.size)
     (four : FourOf (attributes opened) (standard_part 0) (name_part 0 5 0 (codes "$MFT"))
     (stream_part p 0 DATA [] 2 (table_at p) table_len) (stream_part p 0 BITMAP [] 3 (table_bits_at p) table_bits_len)) where
   abbrev run : Run
-  run = record { len = needed p table_len; lcn = Some (table_at p) }
+  run = record { len = clusters_needed p table_len; lcn = Some (table_at p) }
 
   kind_w : four.w.kind ≡ STANDARD_INFORMATION
   kind_w = ap (λ (part : Part). part.kind) four.means_a
@@ -132,11 +132,11 @@ module _ (p : Plan) (fits : FitsPlan p) (whole : 512 * sectors_per p ≡ p.size)
     plain = ap (λ (k : ℕ). is_packed k four.y.flags) kind_y ∙ ap (is_packed DATA) flags_y;
   }
 
-  covers : table_len ≤ needed p table_len * p.size
-  covers = needed-covers p some table_len
+  covers : table_len ≤ clusters_needed p table_len * p.size
+  covers = clusters_needed-covers p some table_len
 
   begins : (k : ℕ) → k * cluster_bytes (new_layout p) < 1024 → spot_of (run ∷ []) k ≡ At (table_at p + k)
-  begins k small = elim (cases_lt k (needed p table_len)) [
+  begins k small = elim (cases_lt k (clusters_needed p table_len)) [
     | inl lt ↦ spot_of-first run [] k lt
     | inr ge ↦
         let more = mul-le-mul_left p.size ge in
@@ -152,7 +152,7 @@ module _ (p : Plan) (fits : FitsPlan p) (whole : 512 * sectors_per p ≡ p.size)
 
   fit : FitTable (extent_for p table_len).sizes (total_clusters (run ∷ []) * cluster_bytes (new_layout p))
   fit =
-      let same : needed p table_len * cluster_bytes (new_layout p) ≡ needed p table_len * p.size = ap (λ (n : ℕ). needed p table_len * n) whole in
+      let same : clusters_needed p table_len * cluster_bytes (new_layout p) ≡ clusters_needed p table_len * p.size = ap (λ (n : ℕ). clusters_needed p table_len * n) whole in
       record {
         from_start = refl;
         covered = omega (arith, covers, same);

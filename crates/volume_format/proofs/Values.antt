@@ -11,8 +11,8 @@ use Rattle.ntfs_def.proofs.SpotLaws.{spot_of-first}
 use Rattle.volume_def.specs.Files.{Part}
 use Rattle.volume_def.specs.Values.{byte_there, holds_vcn, spot_at, spot_by, stored_byte, value_byte, value_of_parts}
 use Rattle.volume_format.specs.Items.{HoldsItem}
-use Rattle.volume_format.specs.Plan.{Plan, needed, stream_part}
-use Rattle.volume_format.proofs.Needed.{below-needed}
+use Rattle.volume_format.specs.Plan.{Plan, clusters_needed, stream_part}
+use Rattle.volume_format.proofs.Needed.{below-clusters_needed}
 
 module _ (p : Plan) (some : 0 < p.size) (n kind : ℕ) (name : List ℕ) (id at bytes : ℕ) where
   abbrev stream : Part
@@ -22,11 +22,11 @@ module _ (p : Plan) (some : 0 < p.size) (n kind : ℕ) (name : List ℕ) (id at 
   extents = stream ∷ []
 
   -- cluster `vcn` of the stream
-  pub spot-stream : (vcn : ℕ) → vcn < needed p bytes → spot_at extents vcn ≡ At (at + vcn)
+  pub spot-stream : (vcn : ℕ) → vcn < clusters_needed p bytes → spot_at extents vcn ≡ At (at + vcn)
   spot-stream vcn lt =
       let held : holds_vcn vcn stream ≡ true =
-      rw (le-leb 0 vcn (omega arith), lt-ltb vcn (0 + (0 + needed p bytes)) (omega arith)) refl in
-      let run : Run = record { len = needed p bytes; lcn = Some at } in
+      rw (le-leb 0 vcn (omega arith), lt-ltb vcn (0 + (0 + clusters_needed p bytes)) (omega arith)) refl in
+      let run : Run = record { len = clusters_needed p bytes; lcn = Some at } in
       ap (λ b. spot_by (cond b (Some stream) None) vcn) held
       ∙ ap (spot_of (run ∷ [])) (omega arith)
       ∙ spot_of-first run [] vcn lt
@@ -38,7 +38,7 @@ module _ (p : Plan) (some : 0 < p.size) (n kind : ℕ) (name : List ℕ) (id at 
     byte-stream : (i : ℕ) → i < bytes → byte_of i ≡ rule i
     byte-stream i inside =
         ap (λ b. cond b (stored_byte cluster p.size (spot_at extents) i) 0) (lt-ltb i bytes inside)
-        ∙ ap (λ s. byte_there cluster s (i % p.size)) (spot-stream (i / p.size) (below-needed p some bytes i inside))
+        ∙ ap (λ s. byte_there cluster s (i % p.size)) (spot-stream (i / p.size) (below-clusters_needed p some bytes i inside))
         ∙ holds.byte i inside
 
     pub value-stream : value_of_parts cluster p.size extents ≡ map rule (range_with_len 0 bytes)

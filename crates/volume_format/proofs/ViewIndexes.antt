@@ -13,9 +13,9 @@ use Rattle.ntfs_def.specs.Units.{wide}
 use Rattle.volume_def.specs.Files.{content_value, is_of}
 use Rattle.volume_def.specs.IndexesClause.{HasIndex, KeyRule, hash_rule, id_rule, index_parts, word_rule}
 use Rattle.volume_def.specs.View.{VolumeView}
-use Rattle.volume_format.specs.Plan.{Plan, descriptor_hash, descriptor_header, descriptor_id, last_entry, listed, planned, record_count, root_value, view_entry}
+use Rattle.volume_format.specs.Plan.{Plan, descriptor_hash, descriptor_header, descriptor_id, last_entry, record_in_list, record_list, record_count, root_value, view_entry}
 use Rattle.volume_format.specs.Planned.{IsPlanned}
-use Rattle.volume_format.specs.SystemItems.{hash_items, id_items}
+use Rattle.volume_format.specs.IndexItems.{hash_items, id_items}
 use Rattle.volume_format.proofs.Leaves.{leaf}
 use Rattle.volume_format.proofs.IndexNodes.{hashes-say, ids-say, words-say}
 use Rattle.volume_format.proofs.IndexTrees.{HasIndex-leaf}
@@ -26,9 +26,9 @@ use Rattle.volume_format.proofs.Tested.{All-tested}
 module _ (p : Plan) (view : VolumeView) (is : IsPlanned p view) where
   -- A view index of a file, whose only part is a root without children.
   leaf-index : (rule : KeyRule) (f : ℕ) (name value : List ℕ) (items : List Item) → f < record_count
-      → map (λ part. content_value part.content) (filter (is_of INDEX_ROOT name) (parts_or_none (listed (planned p) f))) ≡ Some value ∷ []
-      → filter (is_of INDEX_ALLOCATION name) (parts_or_none (listed (planned p) f)) ≡ []
-      → filter (is_of BITMAP name) (parts_or_none (listed (planned p) f)) ≡ []
+      → map (λ part. content_value part.content) (filter (is_of INDEX_ROOT name) (parts_or_none (record_in_list (record_list p) f))) ≡ Some value ∷ []
+      → filter (is_of INDEX_ALLOCATION name) (parts_or_none (record_in_list (record_list p) f)) ≡ []
+      → filter (is_of BITMAP name) (parts_or_none (record_in_list (record_list p) f)) ≡ []
       → u32_at value 0x04 ≡ rule.collation → u32_at value 0x08 ≡ INDEX_RECORD → short_node View value ≡ Some (leaf items)
       → list_all (λ item. rule.valid item.key) items ≡ true → Ascends rule.order items
       → HasIndex View rule view (index_parts view f name) items

@@ -11,8 +11,8 @@ use Rattle.volume_def.specs.Files.{Clusters, Content, part_of}
 use Rattle.volume_format.specs.Plan.{fill_to_8, part, up_to_8}
 
 -- bytes, and zeros up to the next multiple of 8
-abbrev pub padded : List ℕ → List ℕ
-padded bytes = bytes ++ fill_to_8 (length bytes)
+abbrev pub padded_bytes : List ℕ → List ℕ
+padded_bytes bytes = bytes ++ fill_to_8 (length bytes)
 
 -- A resident attribute.
 
@@ -34,7 +34,7 @@ resident_header kind name id indexed value =
     ++ little_bytes 4 (length value) ++ little_bytes 2 (value_at name) ++ (indexed ∷ 0 ∷ [])
 
 unfoldable pub resident_bytes : ℕ → List ℕ → ℕ → List ℕ → List ℕ
-resident_bytes kind name id value = resident_header kind name id (indexed_byte kind) value ++ (padded name ++ padded value)
+resident_bytes kind name id value = resident_header kind name id (indexed_byte kind) value ++ (padded_bytes name ++ padded_bytes value)
 
 -- A non-resident attribute.
 
@@ -52,10 +52,10 @@ extent_header kind name id sizes text_len =
     ++ little_bytes 8 sizes.allocated ++ little_bytes 8 sizes.real ++ little_bytes 8 sizes.initialized
 
 unfoldable pub extent_bytes : ℕ → List ℕ → ℕ → Sizes → List ℕ → List ℕ
-extent_bytes kind name id sizes text = extent_header kind name id sizes (length text) ++ (padded name ++ text)
+extent_bytes kind name id sizes text = extent_header kind name id sizes (length text) ++ (padded_bytes name ++ text)
 
 -- The numbers fit in their fields.
-pub record FitSizes (sizes : Sizes) : Type 0 where
+pub record FitFields (sizes : Sizes) : Type 0 where
   pub allocated : sizes.allocated < 2 ^ 64
   pub real : sizes.real < 2 ^ 64
   pub initialized : sizes.initialized < 2 ^ 64
@@ -66,7 +66,7 @@ pub record FitSizes (sizes : Sizes) : Type 0 where
 pub record IsRunTextOf (run : Run) (text : List ℕ) : Type 0 where
   pub written : List ℕ
   pub is : IsWritten (run ∷ []) written
-  pub filled : text ≡ padded written
+  pub filled : text ≡ padded_bytes written
 
 -- The bytes are those of an extent in this run.
 pub record IsExtent (bytes : List ℕ) (kind : ℕ) (name : List ℕ) (id : ℕ) (sizes : Sizes) (run : Run) : Type 0 where
@@ -79,5 +79,5 @@ abbrev pub one_run : Sizes → Run → Content
 one_run sizes run = Clusters (record { sizes = sizes; compressed = None }) (Some (run ∷ []))
 
 -- The bytes are this part of a file, whatever record holds it.
-abbrev pub IsPart : List ℕ → ℕ → List ℕ → ℕ → Content → Type 0
-IsPart bytes kind name id content = (n : ℕ) → part_of n (attribute_at bytes 0) ≡ part n kind name id content
+abbrev pub IsPartBytes : List ℕ → ℕ → List ℕ → ℕ → Content → Type 0
+IsPartBytes bytes kind name id content = (n : ℕ) → part_of n (attribute_at bytes 0) ≡ part n kind name id content

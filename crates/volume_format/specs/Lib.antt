@@ -3,7 +3,7 @@ pub mod Items
 pub mod RootIndex
 pub mod AttributeBytes
 pub mod FitsPlan
-pub mod SystemItems
+pub mod IndexItems
 pub mod Planned
 pub mod Options
 pub mod NewVolume

@@ -3,7 +3,7 @@ use Rattle.std.specs.Prelude.{◌≡◌, ℕ, ◌+◌, ◌*◌, ◌<◌, ◌≤�
 use Rattle.ntfs_def.specs.Boot.{boot_failing}
 use Rattle.volume_format.specs.NewBoot.{HasGeometry}
 use Rattle.volume_format.specs.Options.{Options, plan_of}
-use Rattle.volume_format.specs.Plan.{Plan, listed, planned, record_count, table_len}
+use Rattle.volume_format.specs.Plan.{Plan, record_in_list, record_list, record_count, table_len}
 use Rattle.volume_format.specs.Planned.{IsRootRecord}
 use Rattle.volume_format.specs.StoredRecord.{IsStoredRecord}
 
@@ -14,7 +14,7 @@ block_in table n = slice_range table (1024 * n) (1024 * n + 1024)
 -- These are the bytes of the table: the blocks of its records, one behind the other.
 pub record IsTable (p : Plan) (table : List ℕ) : Type 0 where
   pub len : length table ≡ table_len
-  pub blocks : (n : ℕ) → n < record_count → IsStoredRecord n (listed (planned p) n) (block_in table n)
+  pub blocks : (n : ℕ) → n < record_count → IsStoredRecord n (record_in_list (record_list p) n) (block_in table n)
 
 -- The boot sector, the table and the index record of the root are those of the volume that the options choose.
 pub record AreMade (o : Options) (boot table root : List ℕ) : Type 0 where

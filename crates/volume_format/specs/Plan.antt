@@ -18,8 +18,8 @@ pub record Plan : Type 0 where
   pub label : List ℕ
 
 -- the clusters that so many bytes need
-abbrev pub needed : Plan → ℕ → ℕ
-needed p bytes = (bytes + (p.size - 1)) / p.size
+abbrev pub clusters_needed : Plan → ℕ → ℕ
+clusters_needed p bytes = (bytes + (p.size - 1)) / p.size
 
 -- The items in bytes, and where each begins: one behind the other, in whole clusters.
 
@@ -53,32 +53,32 @@ abbrev pub node_len : ℕ
 node_len = 4096
 
 abbrev pub table_at : Plan → ℕ
-table_at p = needed p boot_len
+table_at p = clusters_needed p boot_len
 
 abbrev pub table_bits_at : Plan → ℕ
-table_bits_at p = table_at p + needed p table_len
+table_bits_at p = table_at p + clusters_needed p table_len
 
 abbrev pub mirror_at : Plan → ℕ
-mirror_at p = table_bits_at p + needed p table_bits_len
+mirror_at p = table_bits_at p + clusters_needed p table_bits_len
 
 abbrev pub log_at : Plan → ℕ
-log_at p = mirror_at p + needed p mirror_len
+log_at p = mirror_at p + clusters_needed p mirror_len
 
 abbrev pub bits_at : Plan → ℕ
-bits_at p = log_at p + needed p log_len
+bits_at p = log_at p + clusters_needed p log_len
 
 abbrev pub case_at : Plan → ℕ
-case_at p = bits_at p + needed p (bits_len p)
+case_at p = bits_at p + clusters_needed p (bits_len p)
 
 abbrev pub security_at : Plan → ℕ
-security_at p = case_at p + needed p case_len
+security_at p = case_at p + clusters_needed p case_len
 
 abbrev pub node_at : Plan → ℕ
-node_at p = security_at p + needed p security_len
+node_at p = security_at p + clusters_needed p security_len
 
 -- the first cluster that no item has
 abbrev pub items_end : Plan → ℕ
-items_end p = node_at p + needed p node_len
+items_end p = node_at p + clusters_needed p node_len
 
 -- Values.
 
@@ -170,14 +170,14 @@ name_part n parent directory letters = part n FILE_NAME [] 1 (Value (name_value 
 -- the numbers of a stream of so many bytes, all of them written
 abbrev pub extent_for : Plan → ℕ → ExtentHeader
 extent_for p bytes = record {
-  sizes = record { allocated = needed p bytes * p.size; real = bytes; initialized = bytes; first = 0; last = last_vcn_of (needed p bytes) };
+  sizes = record { allocated = clusters_needed p bytes * p.size; real = bytes; initialized = bytes; first = 0; last = last_vcn_of (clusters_needed p bytes) };
   compressed = None;
 }
 
 -- a stream in one run from a cluster on
 abbrev pub stream_part : Plan → ℕ → ℕ → List ℕ → ℕ → ℕ → ℕ → Part
 stream_part p n kind name id at bytes =
-    part n kind name id (Clusters (extent_for p bytes) (Some (record { len = needed p bytes; lcn = Some at } ∷ [])))
+    part n kind name id (Clusters (extent_for p bytes) (Some (record { len = clusters_needed p bytes; lcn = Some at } ∷ [])))
 
 -- $Bad: one hole over all clusters, of which nothing is written
 abbrev pub bad_part : Plan → Part
@@ -258,16 +258,16 @@ record_24 p = file 24 1 1 11 0 (codes "$ObjId") (part 24 INDEX_ROOT (wide (codes
 abbrev pub record_25 : Plan → Option Record
 record_25 p = file 25 1 1 11 0 (codes "$Reparse") (part 25 INDEX_ROOT (wide (codes "$R")) 2 (Value (root_value p 0 0x13 0 last_entry)) ∷ [])
 
-abbrev pub planned : Plan → List (Option Record)
-planned p =
+abbrev pub record_list : Plan → List (Option Record)
+record_list p =
     record_0 p ∷ record_1 p ∷ record_2 p ∷ record_3 p ∷ record_4 p ∷ record_5 p ∷ record_6 p ∷ record_7 p
     ∷ record_8 p ∷ record_9 p ∷ record_10 p ∷ record_11 p
     ∷ None ∷ None ∷ None ∷ None ∷ None ∷ None ∷ None ∷ None ∷ None ∷ None ∷ None ∷ None
     ∷ record_24 p ∷ record_25 p ∷ []
 
 -- record n of a list: `None` where the list has none, and where it has no record
-abbrev pub listed : List (Option Record) → ℕ → Option Record
-listed records n = option_and_then (λ r. r) (slice_get records n)
+abbrev pub record_in_list : List (Option Record) → ℕ → Option Record
+record_in_list records n = option_and_then (λ r. r) (slice_get records n)
 
 -- the numbers of its records
 abbrev pub is_planned : ℕ → Bool
@@ -278,4 +278,4 @@ abbrev pub record_count : ℕ
 record_count = 64
 
 abbrev pub planned_records : Plan → Records
-planned_records p = record { count = record_count; record_at = listed (planned p) }
+planned_records p = record { count = record_count; record_at = record_in_list (record_list p) }

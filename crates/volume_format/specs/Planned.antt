@@ -11,7 +11,7 @@ use Rattle.volume_def.specs.Files.{record_in}
 use Rattle.volume_def.specs.Table.{IsWellFormed, cluster_bytes}
 use Rattle.volume_def.specs.View.{VolumeView}
 use Rattle.volume_format.specs.Items.{HoldsItem, case_byte, log_byte, ones_byte, record_bits_byte, security_byte}
-use Rattle.volume_format.specs.Plan.{Plan, bits_at, bits_len, case_at, case_len, items_end, listed, log_at, log_len, mirror_at, needed, node_at, node_len, planned, record_count, security_at, security_len, table_at, table_bits_at, table_bits_len, table_len}
+use Rattle.volume_format.specs.Plan.{Plan, bits_at, bits_len, case_at, case_len, items_end, record_in_list, log_at, log_len, mirror_at, clusters_needed, node_at, node_len, record_list, record_count, security_at, security_len, table_at, table_bits_at, table_bits_len, table_len}
 use Rattle.volume_format.specs.RootIndex.{root_entries}
 
 -- The index record of the root, as stored.
@@ -35,9 +35,9 @@ pub record IsPlanned (p : Plan) (view : VolumeView) : Type 0 where
   pub size : cluster_bytes view.layout ≡ p.size
   pub clusters : view.layout.clusters ≡ p.clusters
   pub mirror : view.layout.mirror ≡ mirror_at p
-  pub runs : view.layout.runs ≡ record { len = needed p table_len; lcn = Some (table_at p) } ∷ []
+  pub runs : view.layout.runs ≡ record { len = clusters_needed p table_len; lcn = Some (table_at p) } ∷ []
   pub count : view.layout.count ≡ record_count
-  pub records : (n : ℕ) → n < record_count → record_in n (view.block n) ≡ listed (planned p) n
+  pub records : (n : ℕ) → n < record_count → record_in n (view.block n) ≡ record_in_list (record_list p) n
   pub well_formed : (n : ℕ) → n < record_count → IsTrue (is_in_use (view.block n)) → IsWellFormed (view.block n)
   -- the values of the record that tells the version and the dirty flag
   pub aligned : AreAligned (attributes (opened_of (view.block VOLUME)))

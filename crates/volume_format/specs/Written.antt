@@ -2,7 +2,7 @@
 use Rattle.std.specs.Prelude.{◌≡◌, ◌⊎◌, ℕ, ◌*◌, ◌/◌, ◌<◌, ◌≤◌, List, is_some, slice_index}
 use Rattle.vol_disk.specs.declared.Disk as disk
 use Rattle.volume_format.specs.Items.{StandsAt, case_byte, log_byte, ones_byte, record_bits_byte, security_byte}
-use Rattle.volume_format.specs.Plan.{Plan, bits_at, bits_len, boot_len, case_at, case_len, items_end, log_at, log_len, mirror_at, mirror_len, needed, node_at, node_len, security_at, security_len, table_at, table_bits_at, table_bits_len, table_len}
+use Rattle.volume_format.specs.Plan.{Plan, bits_at, bits_len, boot_len, case_at, case_len, items_end, log_at, log_len, mirror_at, mirror_len, clusters_needed, node_at, node_len, security_at, security_len, table_at, table_bits_at, table_bits_len, table_len}
 
 -- Sectors were written, and nothing was settled.
 pub record WritesOn {D : Type 0} (g : disk.Ghosts D) (old new : D) : Type 0 where
@@ -22,7 +22,7 @@ sector_at p at = at * sectors_per p
 
 -- An item stands in whole clusters from cluster `at` on; behind its last byte stands what fills them up.
 abbrev pub Stands : (ℕ → List ℕ) → Plan → ℕ → ℕ → (ℕ → ℕ) → Type 0
-Stands disk p at len rule = StandsAt disk (sectors_per p) at (needed p len * sectors_per p) rule
+Stands disk p at len rule = StandsAt disk (sectors_per p) at (clusters_needed p len * sectors_per p) rule
 
 -- sectors outside of the clusters from `from` up to `to` are as before
 abbrev pub SameOutsideClusters : (ℕ → List ℕ) → (ℕ → List ℕ) → Plan → ℕ → ℕ → Type 0

@@ -7,7 +7,7 @@ ghost use Rattle.ntfs_def.specs.Shape.{IsOneAttribute};
 ghost use Rattle.ntfs_def.specs.Runs.{EndsInReach};
 ghost use Rattle.ntfs_def.specs.Units.{wide};
 ghost use Rattle.volume_def.specs.Files.{Value};
-ghost use Rattle.volume_format.specs.AttributeBytes.{FitSizes, IsExtent, IsPart, IsRunTextOf, extent_header, indexed_byte, one_run, padded, resident_bytes, resident_len, runs_at};
+ghost use Rattle.volume_format.specs.AttributeBytes.{FitFields, IsExtent, IsPartBytes, IsRunTextOf, extent_header, indexed_byte, one_run, padded_bytes, resident_bytes, resident_len, runs_at};
 ghost use Rattle.volume_format.specs.Plan.{fill_to_8, up_to_8};
 
 use data_runs::RunList;
@@ -53,7 +53,7 @@ pub fn push_fill(text: &mut Vec<u8>, len: usize) -> Result<(), AllocError>
 // The bytes, and zeros up to the next multiple of 8.
 pub fn push_padded(text: &mut Vec<u8>, bytes: &[u8]) -> Result<(), AllocError>
     requires { length bytes.now < 2 ^ 32 }
-    ensures { OnOk result (text.new.items ≡ text.old.items ++ padded bytes.now) }
+    ensures { OnOk result (text.new.items ≡ text.old.items ++ padded_bytes bytes.now) }
 {
     text.extend_from_slice(bytes)?;
     push_fill(text, bytes.len())
@@ -89,7 +89,7 @@ pub fn resident(
     requires value { length value.now ≤ 900 }
     ensures bytes { IfOk result (λ bytes. bytes.items ≡ resident_bytes kind name.now id value.now) }
     ensures one { IfOk result (λ bytes. IsOneAttribute bytes.items) }
-    ensures part { IfOk result (λ bytes. IsPart bytes.items kind name.now id (Value value.now)) }
+    ensures part { IfOk result (λ bytes. IsPartBytes bytes.items kind name.now id (Value value.now)) }
     ensures len { IfOk result (λ bytes. length bytes.items ≡ resident_len name.now value.now) }
     ensures aligned { IfOk result (λ bytes. value_offset bytes.items 0 % 8 ≡ 0) }
 {
@@ -151,7 +151,7 @@ fn push_extent_header(
     requires name { length name.now ≤ 510 }
     requires text { text_len ≤ 24 }
     ensures bytes { OnOk result (text.new.items ≡ text.old.items ++ extent_header kind name.now id sizes text_len) }
-    ensures fits { OnOk result (FitSizes sizes) }
+    ensures fits { OnOk result (FitFields sizes) }
 {
     let place = 64 + up_to_8(name.len());
     push_u32(text, kind)?;
@@ -185,7 +185,7 @@ pub fn non_resident(
     requires reach { EndsInReach run.len run.lcn }
     ensures bytes { IfOk result (λ bytes. IsExtent bytes.items kind name.now id sizes run) }
     ensures one { IfOk result (λ bytes. IsOneAttribute bytes.items) }
-    ensures part { IfOk result (λ bytes. IsPart bytes.items kind name.now id (one_run sizes run)) }
+    ensures part { IfOk result (λ bytes. IsPartBytes bytes.items kind name.now id (one_run sizes run)) }
     ensures len { IfOk result (λ bytes. length bytes.items ≤ runs_at name.now + 24) }
     ensures aligned { IfOk result (λ bytes. sizes.first ≡ 0 → value_offset bytes.items 0 % 8 ≡ 0) }
 {

@@ -6,7 +6,7 @@ ghost use Rattle.ntfs_def.specs.Units.{wide};
 ghost use Rattle.volume_def.specs.IndexesClause.{HasIndex, IsDirectoryIndex, hash_rule, id_rule, index_parts, word_rule};
 ghost use Rattle.volume_def.specs.Sound.{Indexes};
 ghost use Rattle.volume_format.specs.NewVolume.{HoldsOfNew, OfNewVolumes};
-ghost use Rattle.volume_format.specs.SystemItems.{hash_items, id_items};
+ghost use Rattle.volume_format.specs.IndexItems.{hash_items, id_items};
 
 /// The indexes of a new volume. The root and `$Extend` have the names of the files that stand in them. Both indexes of
 /// `$Secure` have the only security descriptor; those of object ids and of reparse points are empty. So the clause on

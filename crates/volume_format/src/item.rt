@@ -4,7 +4,7 @@ ghost use Rattle.vol_disk.specs.Contents.{IsTold, sector_in};
 ghost use Rattle.vol_disk.specs.Count.{CountsFault};
 ghost use Rattle.volume_format.specs.FitsPlan.{IsClusterSize};
 ghost use Rattle.volume_format.specs.Items.{item_sector};
-ghost use Rattle.volume_format.specs.Plan.{needed};
+ghost use Rattle.volume_format.specs.Plan.{clusters_needed};
 ghost use Rattle.volume_format.specs.Written.{SameOutsideClusters, Stands, WritesOn, sector_at, sectors_per};
 
 use crate::Places;
@@ -80,19 +80,19 @@ pub fn write_item<D: Disk, I: Item>(
     len: u64,
     item: &I,
 ) -> Result<u64, Failed>
-    requires fits { sector_at places.now (at + needed places.now len) ≤ D.size disk.old }
+    requires fits { sector_at places.now (at + clusters_needed places.now len) ≤ D.size disk.old }
     requires within { (len + 4095) / 4096 * 4096 ≤ I.limit item.now }
     requires few { len ≤ 2 ^ 24 }
-    ensures next { IfOk result (λ next. next ≡ at + needed places.now len) }
+    ensures next { IfOk result (λ next. next ≡ at + clusters_needed places.now len) }
     ensures stands { OnOk result (IsTold (D.now disk.old) → Stands (sector_in (D.now disk.new)) places.now at len (I.rule item.now)) }
     ensures others { SameOutsideClusters (sector_in (D.now disk.old)) (sector_in (D.now disk.new)) places.now
-        at (at + needed places.now len) }
+        at (at + clusters_needed places.now len) }
     ensures keeps { WritesOn D.Disk disk.old disk.new }
     ensures faults { CountsFault result (D.faults disk.old) (D.faults disk.new) }
     ensures on_time { D.faults disk.old ≡ 0 → D.late disk.new ≡ D.late disk.old }
 {
     let per = sectors_per(places);
-    let clusters = places.needed(len);
+    let clusters = places.clusters_needed(len);
     write_sectors(disk, item, at * per, clusters * per)?;
     Ok(at + clusters)
 }

@@ -45,6 +45,7 @@ pub fn format<D: Disk>(
     options: &FormatOptions,
 ) -> Result<u64, FormatNo>
     ensures options { (result ≡ Err FormatNo.Options) ↔ ¬ (AreInRange (D.size disk.old) options.now) }
+    ensures in_range { (result ≡ Err FormatNo.Options) ⊎ AreInRange (D.size disk.old) options.now }
     ensures untouched { IfErr result (λ no. (no ≡ FormatNo.Device) ⊎ (disk.new ≡ disk.old)) }
     ensures clusters { IfOk result (λ clusters. clusters ≡ clusters_in options.now.sectors options.now.cluster) }
     ensures volume { OnOk result (WhereTold (D.now disk.new) (IsNewVolume options.now (D.size disk.old))) }

@@ -2,7 +2,7 @@
 ghost use Rattle.std.specs.Prelude.{◌≡◌, ◌≤◌, ◌<◌, ◌+◌, ◌*◌, ◌/◌, ◌^◌, ◌++◌, IfOk, length};
 ghost use Rattle.volume_format.specs.FitsPlan.{FitsPlan, IsClusterSize};
 ghost use Rattle.volume_format.specs.Options.{stored_units};
-ghost use Rattle.volume_format.specs.Plan.{bits_at, bits_len, boot_len, case_at, case_len, items_end, log_at, log_len, mirror_at, mirror_len, needed, node_at, node_len, security_at, security_len, table_at, table_bits_at, table_bits_len, table_len};
+ghost use Rattle.volume_format.specs.Plan.{bits_at, bits_len, boot_len, case_at, case_len, items_end, log_at, log_len, mirror_at, mirror_len, clusters_needed, node_at, node_len, security_at, security_len, table_at, table_bits_at, table_bits_len, table_len};
 
 use std::alloc::{AllocError, Global};
 use std::marker::Model;
@@ -103,9 +103,9 @@ impl Places {
     }
 
     /// The clusters that so many bytes need.
-    pub fn needed(&self, bytes: u64) -> u64
+    pub fn clusters_needed(&self, bytes: u64) -> u64
         requires { bytes ≤ 2 ^ 32 }
-        ensures needed { result ≡ needed self.now bytes }
+        ensures clusters_needed { result ≡ clusters_needed self.now bytes }
         ensures some { 0 < bytes → 0 < result }
         ensures few { result ≤ bytes / 512 + 1 }
     {
@@ -116,9 +116,9 @@ impl Places {
     #[tactic(auto, using(crate::proofs::PlaceLaws::clusters_laws))]
     pub fn allocated(&self, bytes: u64) -> u64
         requires { bytes ≤ 2 ^ 32 }
-        ensures { result ≡ needed self.now bytes * self.now.size }
+        ensures { result ≡ clusters_needed self.now bytes * self.now.size }
     {
-        self.needed(bytes) * self.size()
+        self.clusters_needed(bytes) * self.size()
     }
 
     /// The bytes of all clusters.
@@ -143,7 +143,7 @@ impl Places {
         ensures at { result ≡ table_at self.now }
         ensures few { result ≤ 2 ^ 16 }
     {
-        self.needed(BOOT_LEN)
+        self.clusters_needed(BOOT_LEN)
     }
 
     /// Where its bitmap begins.
@@ -151,7 +151,7 @@ impl Places {
         ensures at { result ≡ table_bits_at self.now }
         ensures few { result ≤ 2 * 2 ^ 16 }
     {
-        self.table_at() + self.needed(TABLE_LEN)
+        self.table_at() + self.clusters_needed(TABLE_LEN)
     }
 
     /// Where the mirror begins.
@@ -159,7 +159,7 @@ impl Places {
         ensures at { result ≡ mirror_at self.now }
         ensures few { result ≤ 3 * 2 ^ 16 }
     {
-        self.table_bits_at() + self.needed(TABLE_BITS_LEN)
+        self.table_bits_at() + self.clusters_needed(TABLE_BITS_LEN)
     }
 
     /// Where the log begins.
@@ -167,7 +167,7 @@ impl Places {
         ensures at { result ≡ log_at self.now }
         ensures few { result ≤ 4 * 2 ^ 16 }
     {
-        self.mirror_at() + self.needed(MIRROR_LEN)
+        self.mirror_at() + self.clusters_needed(MIRROR_LEN)
     }
 
     /// Where the bitmap of clusters begins.
@@ -175,7 +175,7 @@ impl Places {
         ensures at { result ≡ bits_at self.now }
         ensures few { result ≤ 5 * 2 ^ 16 }
     {
-        self.log_at() + self.needed(LOG_LEN)
+        self.log_at() + self.clusters_needed(LOG_LEN)
     }
 
     /// Where the table of case begins.
@@ -183,7 +183,7 @@ impl Places {
         ensures at { result ≡ case_at self.now }
         ensures few { result ≤ 6 * 2 ^ 16 }
     {
-        self.bits_at() + self.needed(self.bits_len())
+        self.bits_at() + self.clusters_needed(self.bits_len())
     }
 
     /// Where `$SDS` begins.
@@ -191,7 +191,7 @@ impl Places {
         ensures at { result ≡ security_at self.now }
         ensures few { result ≤ 7 * 2 ^ 16 }
     {
-        self.case_at() + self.needed(CASE_LEN)
+        self.case_at() + self.clusters_needed(CASE_LEN)
     }
 
     /// Where the root's index record begins.
@@ -199,7 +199,7 @@ impl Places {
         ensures at { result ≡ node_at self.now }
         ensures few { result ≤ 8 * 2 ^ 16 }
     {
-        self.security_at() + self.needed(SECURITY_LEN)
+        self.security_at() + self.clusters_needed(SECURITY_LEN)
     }
 
     /// The first cluster that no item has.
@@ -207,6 +207,6 @@ impl Places {
         ensures at { result ≡ items_end self.now }
         ensures few { result ≤ 9 * 2 ^ 16 }
     {
-        self.node_at() + self.needed(NODE_LEN)
+        self.node_at() + self.clusters_needed(NODE_LEN)
     }
 }

@@ -9,7 +9,7 @@ ghost use Rattle.volume_def.specs.ExtentsClause.{bad_name};
 ghost use Rattle.volume_def.specs.Files.{Value};
 ghost use Rattle.volume_format.specs.AttributeBytes.{runs_at};
 ghost use Rattle.volume_format.specs.NewRecord.{AddsPart, IsNewRecord, stream_content};
-ghost use Rattle.volume_format.specs.Plan.{bad_part, file, is_planned, last_entry, listed, part, planned, record_0, record_1, record_2, record_3, record_5, record_6, record_7, record_8, record_9, record_10, record_11, root_value, stream_part, up_to_8};
+ghost use Rattle.volume_format.specs.Plan.{bad_part, file, is_planned, last_entry, record_in_list, part, record_list, record_0, record_1, record_2, record_3, record_5, record_6, record_7, record_8, record_9, record_10, record_11, root_value, stream_part, up_to_8};
 
 use crate::Places;
 use crate::new_record::{add_stream, add_value, blank};
@@ -81,7 +81,7 @@ fn add_item(
     ensures used { OnOk result (used_size block.new ≤ used_size block.old + (runs_at (wide letters.now) + 24)) }
     ensures adds { OnOk result (AddsPart block.old block.new kind (wide letters.now) (stream_content places.now at bytes)) }
 {
-    let len = places.needed(bytes);
+    let len = places.clusters_needed(bytes);
     let sizes = Sizes {
         allocated: places.allocated(bytes),
         real: bytes,
@@ -427,7 +427,7 @@ pub fn fill_record(
     block: &mut [u8; 1024],
 ) -> Result<(), AllocError>
     requires { IsTrue (is_planned n) }
-    ensures { OnOk result (IsNewRecord n (listed (planned places.now) n) block.new) }
+    ensures { OnOk result (IsNewRecord n (record_in_list (record_list places.now) n) block.new) }
 {
     match n {
         0 => fill_table(alloc, places, block),

@@ -1,7 +1,7 @@
 //! The blocks of the table of a new volume, as stored.
 ghost use Rattle.std.specs.Prelude.{◌≡◌, IsTrue, OnOk};
 ghost use Rattle.volume_format.specs.NewRecord.{IsNewRecord};
-ghost use Rattle.volume_format.specs.Plan.{listed, planned};
+ghost use Rattle.volume_format.specs.Plan.{record_in_list, record_list};
 ghost use Rattle.volume_format.specs.StoredRecord.{IsStoredRecord};
 
 use crate::Places;
@@ -16,7 +16,7 @@ pub fn fill_stored(
     n: usize,
     block: &mut [u8; 1024],
 ) -> Result<(), AllocError>
-    ensures { OnOk result (IsStoredRecord n (listed (planned places.now) n) block.new) }
+    ensures { OnOk result (IsStoredRecord n (record_in_list (record_list places.now) n) block.new) }
 {
     if !is_planned(n) {
         *block = [0; 1024];

@@ -1,7 +1,7 @@
 use Rattle.std.proofs.Common.{◌≡◌, ◌+◌, ◌-◌, ◌<◌, ◌≤◌, ℕ, Bool, List, [], ◌∷◌, ap, sym, subst, ◌∙◌, arith}
 use Rattle.vol_bytes.specs.Field.{SameOutside}
 use Rattle.ntfs_def.specs.declared.index.NodeForm.{NodeForm}
-use Rattle.index_node.specs.LayOut.{AreEntries, Holds, total_len}
+use Rattle.index_node.specs.LayOut.{AreEntries, HoldsPieces, total_len}
 use Rattle.index_node.proofs.LayOutLaws.{few_entries, need_is, laid_children, laid_end, laid_keeps, laid_node, laid_short}
 use Rattle.index_node.proofs.written.lay_out.Goals as goal
 
@@ -129,4 +129,4 @@ returns-clause-flag c =
 
 pub returns-clause-bytes : goal.returns-clause-bytes
 returns-clause-bytes c =
-    subst (λ at. Holds c.put_entries.new.node at c.args.entries.now) c.first_entry-first.ensures.place c.put_entries.ensures.holds
+    subst (λ at. HoldsPieces c.put_entries.new.node at c.args.entries.now) c.first_entry-first.ensures.place c.put_entries.ensures.holds

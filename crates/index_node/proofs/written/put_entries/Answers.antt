@@ -1,8 +1,8 @@
 use Rattle.std.proofs.Common.{◌≡◌, ◌+◌, ◌<◌, [], ◌∷◌, ◌++◌, length, take, get_or, ap, sym, subst, ◌∙◌, add-one, arith}
 use Rattle.std.proofs.Math.Seq.{take-suc}
 use Rattle.std.proofs.lemmas.List.Sums.{sum_by_more}
-use Rattle.index_node.specs.LayOut.{Holds}
-use Rattle.index_node.proofs.LayOutLaws.{Holds-more, Holds-same}
+use Rattle.index_node.specs.LayOut.{HoldsPieces}
+use Rattle.index_node.proofs.LayOutLaws.{HoldsPieces-more, HoldsPieces-same}
 use Rattle.index_node.proofs.written.put_entries.Goals as goal
 
 pub loop-entry-preserved : goal.loop-entry-preserved
@@ -16,7 +16,7 @@ loop-entry-preserved c =
     let more = sum_by_more length all i entry within in
     let is : get_or all i entry ≡ entry = sym c.entry-item.is in
     let size = ap length is in
-    let written : Holds new c.loop-entry.at (entry ∷ []) = subst (λ bytes. Holds new c.loop-entry.at
+    let written : HoldsPieces new c.loop-entry.at (entry ∷ []) = subst (λ bytes. HoldsPieces new c.loop-entry.at
     (bytes ∷ [])) c.as_slice.ensures c.put_entry.ensures.holds in
     let rest = c.put_entry.ensures.rest in
     let before = c.loop-entry.invariant.rest in
@@ -26,9 +26,9 @@ loop-entry-preserved c =
     ap (λ n. take n all) (add-one i) ∙ take-suc all i entry within ∙ ap (λ x. take i all ++ (x ∷ [])) is in
     record {
       at = omega (arith, more, size, len_again, c.loop-entry.invariant.at);
-      holds = subst (Holds new c.args.first) (sym all_more)
-          (Holds-more new c.args.first c.loop-entry.at (take i all) entry c.loop-entry.invariant.at
-          (Holds-same old new c.args.first (take i all) rest.len (λ k from to. rest.below k (omega
+      holds = subst (HoldsPieces new c.args.first) (sym all_more)
+          (HoldsPieces-more new c.args.first c.loop-entry.at (take i all) entry c.loop-entry.invariant.at
+          (HoldsPieces-same old new c.args.first (take i all) rest.len (λ k from to. rest.below k (omega
           (arith, to, c.loop-entry.invariant.at))) c.loop-entry.invariant.holds)
           written);
       rest = record {

@@ -1,6 +1,6 @@
-use Rattle.std.proofs.Common.{refl, ap, ◌∙◌}
+use Rattle.std.proofs.Common.{refl, ap, inl, inr, ◌∙◌}
 use Rattle.ntfs_shell.specs.Text.{formatted_text}
-use Rattle.ntfs_shell.proofs.Formats.{AreInRange-stable, ends-made}
+use Rattle.ntfs_shell.proofs.Formats.{ends-made}
 use Rattle.ntfs_shell.proofs.format.make_volume.Goals as goal
 
 pub returns-in-Ok : goal.returns-in-Ok
@@ -8,7 +8,7 @@ returns-in-Ok g c =
     let made = c.in-Ok.ensures in
     ends-made _ _ _ _ _
     (record {
-      in_range = AreInRange-stable _ _ (λ no. let out = c.format.ensures.options.1 no in let is = c.in-Ok.is in absurd (cc));
+      in_range = elim made.in_range [ | inl out ↦ absurd (cc) | inr range ↦ range ];
       volume = made.volume;
       settled = made.settled;
     })

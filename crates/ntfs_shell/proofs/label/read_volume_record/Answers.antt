@@ -3,8 +3,7 @@ use Rattle.vol_disk.specs.Contents.{IsTold, sector_in}
 use Rattle.volume_def.specs.Blocks.{block_of}
 use Rattle.volume_def.specs.Table.{TableLayout}
 use Rattle.vol_stage.specs.Staged.{image}
-use Rattle.mft_table.specs.Blocks.{reader_layout}
-use Rattle.mft_table.specs.Tables.{table_layout}
+use Rattle.mft_table.specs.Tables.{reader_layout, table_layout}
 use Rattle.ntfs_shell.proofs.label.read_volume_record.Goals as goal
 
 pub returns-clause-ok : goal.returns-clause-ok

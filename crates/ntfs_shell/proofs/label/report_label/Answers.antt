@@ -1,7 +1,7 @@
 use Rattle.std.proofs.Common.{◌≡◌, ℕ, List, Option, Some, subst}
 use Rattle.std.specs.Prelude.{IfOk}
 use Rattle.ntfs_shell.specs.Label.{LabelReports}
-use Rattle.ntfs_shell.specs.Shown.{report_of}
+use Rattle.ntfs_shell.specs.Answers.{report_of}
 use Rattle.ntfs_shell.proofs.label.report_label.Goals as goal
 
 pub returns-clause-report : goal.returns-clause-report

@@ -18,7 +18,11 @@ returns-in-Err-clause-format g c options are = (
   record {
     causes = record { disk = refl; source = refl; sink = refl };
     answered = (
-      record { now = refl; settled = refl; fenced = refl; sectors = refl; written = refl; fetched = refl; late = refl; faults = refl },
+      record {
+        contents = record { now = refl; settled = refl; fenced = refl; sectors = refl; written = refl; late = refl };
+        fetched = refl;
+        faults = refl;
+      },
       record { got = refl; sink_faults = refl },
     );
     others = λ sector behind. refl;

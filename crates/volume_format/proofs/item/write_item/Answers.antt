@@ -6,4 +6,4 @@ pub write_sectors-requires-clause-within : goal.write_sectors-requires-clause-wi
 write_sectors-requires-clause-within g c =
     let per = c.sectors_per-per.ensures in
     let most = rounded-most c.args.places.now.size c.args.len per.one in
-    rw (c.needed-clusters.ensures.needed, per.per) (omega (arith, most, c.requires.within))
+    rw (c.clusters_needed-clusters.ensures.clusters_needed, per.per) (omega (arith, most, c.requires.within))

@@ -3,7 +3,7 @@ use Rattle.ntfs_def.specs.Attribute.{value_offset}
 use Rattle.ntfs_def.specs.Shape.{IsOneAttribute}
 use Rattle.ntfs_def.specs.Units.{wide}
 use Rattle.volume_def.specs.Files.{Value}
-use Rattle.volume_format.specs.AttributeBytes.{IsPart}
+use Rattle.volume_format.specs.AttributeBytes.{IsPartBytes}
 use Rattle.volume_format.proofs.NewRecordLaws.{AddsPart-inserted}
 use Rattle.volume_format.proofs.new_record.add_value.Goals as goal
 
@@ -14,7 +14,7 @@ returns-clause-adds c =
     let name : c.deref.result.now ≡ wide c.args.letters.now = c.deref.ensures.value ∙ c.in_ok-name.ensures.bytes in
     AddsPart-inserted c.args.block.now c.add.new.block c.deref-2.result.now (subst IsOneAttribute same p.one) c.add.ensures
     c.requires.shape c.args.kind (wide c.args.letters.now) c.u16_at-id.result (Value c.args.value.now)
-    (subst (λ n. IsPart c.deref-2.result.now c.args.kind n c.u16_at-id.result (Value c.args.value.now)) name
-    (subst (λ b. IsPart b c.args.kind c.deref.result.now c.u16_at-id.result (Value c.args.value.now)) same p.part))
+    (subst (λ n. IsPartBytes c.deref-2.result.now c.args.kind n c.u16_at-id.result (Value c.args.value.now)) name
+    (subst (λ b. IsPartBytes b c.args.kind c.deref.result.now c.u16_at-id.result (Value c.args.value.now)) same p.part))
     (subst (λ b. value_offset b 0 % 8 ≡ 0) same p.aligned)
     c.u16_at-id.ensures

@@ -1,4 +1,4 @@
-use Rattle.std.proofs.Common.{◌≡◌, ℕ, ◌≤◌, Ok, Err, sym, ap, subst}
+use Rattle.std.proofs.Common.{◌≡◌, ℕ, ◌≤◌, Ok, Err, inr, sym, ap, subst}
 use Rattle.std.specs.Prelude.{Result, is_some}
 use Rattle.std.specs.Result.{IsErrAnd}
 use Rattle.vol_disk.specs.Contents.{IsTold, sector_in}
@@ -36,6 +36,21 @@ returns-clause-options g c =
     let own = c.is_in_range.ensures.0 c.if-not-is_in_range.false in
     let range = subst (λ (n : ℕ). AreInRange n c.args.options.now) c.sectors.ensures own in
     ((λ e _. absurd (cc)), (λ none. absurd (none range)))
+
+pub returns-in_err-made-clause-in_range : goal.returns-in_err-made-clause-in_range
+returns-in_err-made-clause-in_range g c =
+    let own = c.is_in_range.ensures.0 c.if-not-is_in_range.false in
+    inr (subst (λ (n : ℕ). AreInRange n c.args.options.now) c.sectors.ensures own)
+
+pub returns-in_err-put-clause-in_range : goal.returns-in_err-put-clause-in_range
+returns-in_err-put-clause-in_range g c =
+    let own = c.is_in_range.ensures.0 c.if-not-is_in_range.false in
+    inr (subst (λ (n : ℕ). AreInRange n c.args.options.now) c.sectors.ensures own)
+
+pub returns-clause-in_range : goal.returns-clause-in_range
+returns-clause-in_range g c =
+    let own = c.is_in_range.ensures.0 c.if-not-is_in_range.false in
+    inr (subst (λ (n : ℕ). AreInRange n c.args.options.now) c.sectors.ensures own)
 
 pub returns-clause-volume : goal.returns-clause-volume
 returns-clause-volume g c contents is =

@@ -2,7 +2,7 @@ use Rattle.std.proofs.Common.{◌≡◌, ◌+◌, ◌≤◌, false, ap, sym, sub
 use Rattle.std.proofs.lemmas.Bool.{false≢true}
 use Rattle.ntfs_def.specs.declared.index.NodeForm.TheVariants.{Names}
 use Rattle.ntfs_def.specs.Node.{first_entry}
-use Rattle.index_node.specs.LayOut.{AreEntries, Holds, room_len, total_len}
+use Rattle.index_node.specs.LayOut.{AreEntries, HoldsPieces, room_len, total_len}
 use Rattle.volume_format.specs.RootIndex.{root_entries}
 use Rattle.volume_format.proofs.NodeBlockLaws.{AreEntries-root, HasArray-node, IsNodeBlock-blank, IsNodeBlock-laid, IsRootRecord-sealed, first-is, header-right, room_len-is, sequence_number-laid}
 use Rattle.volume_format.proofs.root.fill_root_node.Goals as goal
@@ -41,4 +41,4 @@ returns-clause-root c =
     let laid = IsNodeBlock-laid c.blank_node.new.block c.lay_out.new.node (total_len root_entries) blank c.in-Ok.ensures.header
     (c.in-Ok.ensures.end ∙ ap (λ es. first_entry c.blank_node.new.block + total_len es) entries) in
     IsRootRecord-sealed c.lay_out.new.node c.seal.new.block laid c.seal.ensures.seals c.in-Ok.ensures.flag
-    (subst (λ es. Holds c.lay_out.new.node 0x40 es) entries (subst (λ at. Holds c.lay_out.new.node at c.deref.result.now) first c.in-Ok.ensures.bytes))
+    (subst (λ es. HoldsPieces c.lay_out.new.node 0x40 es) entries (subst (λ at. HoldsPieces c.lay_out.new.node at c.deref.result.now) first c.in-Ok.ensures.bytes))

@@ -1,6 +1,6 @@
 use Rattle.std.proofs.Common.{sym, arith}
 use Rattle.vol_stage.specs.Staged.{disk_of}
-use Rattle.mft_table.specs.Blocks.{reader_layout}
+use Rattle.mft_table.specs.Tables.{reader_layout}
 use Rattle.mft_table.proofs.Places.{table_place-on_disk}
 use Rattle.mft_table.proofs.blocks.BlockReader.read_sector.Goals as goal
 

@@ -1,5 +1,5 @@
 use Rattle.std.proofs.Common.{ap, length}
-use Rattle.vol_stage.proofs.PutLaws.{places_of-none}
+use Rattle.vol_stage.proofs.WriteLaws.{places_of-none}
 use Rattle.vol_stage.proofs.stage.Stage.over.Goals as goal
 
 pub returns-clause-places : goal.returns-clause-places

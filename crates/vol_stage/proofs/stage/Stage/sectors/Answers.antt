@@ -9,5 +9,5 @@ returns-clause-length g c =
     let stage = c.args.self.now in
     let now : Option (List ℕ) = image g.D.Disk stage in
     subst (λ (n : ℕ). IfSome now (λ all. length all ≡ 512 * n)) (sym c.sectors.ensures)
-    (length-image_of stage.puts.items (g.D.Disk.size stage.disk.now) stage.within stage.whole (g.D.Disk.now stage.disk.now)
+    (length-image_of stage.writes.items (g.D.Disk.size stage.disk.now) stage.within stage.whole (g.D.Disk.now stage.disk.now)
     (g.met.D.Disk.told_length stage.disk.now))

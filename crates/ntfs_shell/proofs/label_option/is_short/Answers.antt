@@ -3,7 +3,7 @@ use Rattle.std.specs.Str.Iter.{chars_rest}
 use Rattle.std.specs.Char.Escape.{encode_utf16}
 use Rattle.vol_bytes.specs.NameText.{IsSpelled}
 use Rattle.ntfs_shell.proofs.LabelTexts.{IsPassed-first, length-none, length-utf16}
-use Rattle.ntfs_shell.proofs.label_text.is_short.Goals as goal
+use Rattle.ntfs_shell.proofs.label_option.is_short.Goals as goal
 
 pub letters-init : goal.letters-init
 letters-init c = record { back = λ all spelled. (all, subst (λ (t : List ℕ). IsSpelled t all) (sym c.chars-chars.ensures.rest) spelled, omega arith) }

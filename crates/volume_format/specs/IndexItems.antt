@@ -1,22 +1,19 @@
 -- The items of a new volume's indexes.
-use Rattle.std.specs.Prelude.{ℕ, List, [], ◌∷◌, ◌++◌, codes, length}
+use Rattle.std.specs.Prelude.{ℕ, List, [], ◌∷◌, ◌++◌, codes, length, map}
 use Rattle.ntfs_def.specs.Node.{Item}
 use Rattle.volume_format.specs.Plan.{descriptor_hash, descriptor_header, descriptor_id, fill_to_8, name_value, reference_bytes, two_bytes, four_bytes}
+use Rattle.volume_format.specs.RootIndex.{RootName, root_names}
 
 -- a directory's entry of a name
 abbrev pub name_item : ℕ → ℕ → List ℕ → Item
 name_item number sequence name = record { head = reference_bytes number sequence; key = name; rest = fill_to_8 (length name) }
 
--- the name of record n in the root
-abbrev pub root_item : ℕ → ℕ → ℕ → List ℕ → Item
-root_item n sequence directory letters = name_item n sequence (name_value 5 directory letters)
+-- the item of a name in the root
+abbrev pub root_item : RootName → Item
+root_item name = name_item name.number name.sequence (name_value 5 name.directory name.letters)
 
 abbrev pub root_items : List Item
-root_items =
-    root_item 4 4 0 (codes "$AttrDef") ∷ root_item 8 8 0 (codes "$BadClus") ∷ root_item 6 6 0 (codes "$Bitmap")
-    ∷ root_item 7 7 0 (codes "$Boot") ∷ root_item 11 11 0x10 (codes "$Extend") ∷ root_item 2 2 0 (codes "$LogFile")
-    ∷ root_item 0 1 0 (codes "$MFT") ∷ root_item 1 1 0 (codes "$MFTMirr") ∷ root_item 9 9 0 (codes "$Secure")
-    ∷ root_item 10 10 0 (codes "$UpCase") ∷ root_item 3 3 0 (codes "$Volume") ∷ root_item 5 5 0x10 (codes ".") ∷ []
+root_items = map root_item root_names
 
 abbrev pub extend_items : List Item
 extend_items =

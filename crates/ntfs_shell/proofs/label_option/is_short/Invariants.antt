@@ -1,7 +1,7 @@
 use Rattle.std.proofs.Common.{◌≡◌, ◌+◌, ℕ, List, length}
 use Rattle.std.specs.Str.Iter.{chars_rest}
 use Rattle.vol_bytes.specs.NameText.{IsSpelled}
-use Rattle.ntfs_shell.proofs.label_text.is_short.Given as goal
+use Rattle.ntfs_shell.proofs.label_option.is_short.Given as goal
 
 abbrev pub invariant-letters : goal.invariant-letters
 invariant-letters l = record {

@@ -1,5 +1,5 @@
 use Rattle.std.proofs.Common.{◌/◌, ◌%◌, drop, ap, arith}
-use Rattle.ntfs_shell.proofs.label_text.skip_digits.Goals as goal
+use Rattle.ntfs_shell.proofs.label_option.skip_digits.Goals as goal
 
 pub returns-clause-digits : goal.returns-clause-digits
 returns-clause-digits c unit rest h e =

@@ -1,7 +1,7 @@
 use Rattle.std.proofs.Common.{ℕ, List, Some, ap, subst}
 use Rattle.vol_bytes.specs.NameText.{IsNameText}
 use Rattle.vol_bytes.proofs.LetterLaws.{one_name}
-use Rattle.ntfs_shell.proofs.label_text.read_label.Goals as goal
+use Rattle.ntfs_shell.proofs.label_option.read_label.Goals as goal
 
 pub returns-in-Ok-clause-exact : goal.returns-in-Ok-clause-exact
 returns-in-Ok-clause-exact c units label =

@@ -1,0 +1,9 @@
+-- What an answer of the code says.
+use Rattle.ntfs_shell.specs.declared.answer.Answer.{Answer}
+use Rattle.ntfs_shell.specs.declared.answer.Answer.TheVariants.{Short, Long, Refused}
+use Rattle.ntfs_shell.specs.Report.{Report, says, refuses}
+
+abbrev pub report_of : Answer → Report
+report_of (Short text) = says text.items
+report_of (Long text) = says text.items
+report_of (Refused refusal) = refuses refusal
