@@ -2,7 +2,7 @@
 use Rattle.std.proofs.Common.{◌≡◌, ℕ, List, Some, refl, inl, inr}
 use Rattle.ntfs_shell.specs.declared.ending.Ending.{Ending}
 use Rattle.vol_disk.specs.Stream.{IsAppended}
-use Rattle.ntfs_shell.specs.Report.{Report, says, refuses, text_of, ending_of, IsReported, ReportEnds}
+use Rattle.ntfs_shell.specs.Report.{IsReported, Report, ReportEnds, ending_of, refuses, says, text_of}
 use Rattle.ntfs_shell.specs.Printing.{EndsPrinting}
 use Rattle.ntfs_shell.specs.World.{World, OnlyReads, Blames}
 

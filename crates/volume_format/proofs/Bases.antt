@@ -1,7 +1,7 @@
 -- All records of a new volume are base records, so each file has the parts of its own record.
 use Rattle.std.proofs.Common.{◌≡◌, ℕ, ◌<◌, Some, None, refl, ap, ◌∙◌, arith}
 use Rattle.volume_def.specs.Files.{Record, parts}
-use Rattle.volume_format.specs.Plan.{Plan, record_in_list, record_list, planned_records, record_count}
+use Rattle.volume_format.specs.Plan.{Plan, planned_records, record_count, record_in_list, record_list}
 use Rattle.volume_format.proofs.EachRecord.{EachRecord, each-listed}
 use Rattle.volume_format.proofs.Listed.{record_in_list-inside}
 use Rattle.volume_format.proofs.PartsOf.{AllBase, parts-base, parts_or_none}

@@ -14,7 +14,7 @@ use Rattle.volume_def.specs.OwnersClause.{times_owned}
 use Rattle.volume_def.specs.Values.{value_on}
 use Rattle.volume_def.specs.View.{VolumeView}
 use Rattle.volume_format.specs.Items.{ones_byte}
-use Rattle.volume_format.specs.Plan.{Plan, bits_len, items_end, clusters_needed, planned_records, stream_part}
+use Rattle.volume_format.specs.Plan.{Plan, bits_len, clusters_needed, items_end, planned_records, stream_part}
 use Rattle.volume_format.specs.Planned.{IsPlanned}
 use Rattle.volume_format.proofs.Contents.{cluster_bits-planned, cluster_bits-value}
 use Rattle.volume_format.proofs.Owners.{times_owned-behind, times_owned-below}

@@ -10,7 +10,7 @@ use Rattle.volume_def.specs.Files.{Record, is_base, records_of}
 use Rattle.volume_def.specs.View.{VolumeView}
 use Rattle.volume_def.specs.SameItems.{SameItems}
 use Rattle.volume_format.specs.Planned.{IsPlanned}
-use Rattle.volume_format.specs.Plan.{Plan, record_in_list, record_list, planned_records, record_count}
+use Rattle.volume_format.specs.Plan.{Plan, planned_records, record_count, record_in_list, record_list}
 use Rattle.volume_format.proofs.Bases.{AllBase-planned, parts-planned}
 use Rattle.volume_format.specs.IndexItems.{extend_items, root_items}
 use Rattle.volume_format.proofs.PartsOf.{parts-past, parts_or_none}

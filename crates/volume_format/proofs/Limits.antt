@@ -6,7 +6,7 @@ use Rattle.std.proofs.lemmas.Bool.{false≢true}
 use Rattle.std.proofs.lemmas.List.Elements.{All-from_recursion}
 use Rattle.volume_def.specs.Files.{Record, is_base, parts}
 use Rattle.volume_def.specs.LimitsClause.{IsInLimits, MeetsLimits}
-use Rattle.volume_format.specs.Plan.{Plan, bad_part, bits_len, record_in_list, record_list, planned_records}
+use Rattle.volume_format.specs.Plan.{Plan, bad_part, bits_len, planned_records, record_in_list, record_list}
 use Rattle.volume_format.proofs.Bases.{parts-listed}
 use Rattle.volume_format.proofs.EachRecord.{EachRecord, at-listed}
 use Rattle.volume_format.proofs.Listed.{IfSome-from}

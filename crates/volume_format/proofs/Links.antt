@@ -9,7 +9,7 @@ use Rattle.ntfs_def.specs.Record.{Reference}
 use Rattle.volume_def.specs.FileNames.{is_dos, names_of}
 use Rattle.volume_def.specs.Files.{Record, is_base, is_directory}
 use Rattle.volume_def.specs.LinksClause.{HasRightLinks, IsPairedAmong, MeetsLinks}
-use Rattle.volume_format.specs.Plan.{Plan, record_in_list, name_value, record_list, planned_records}
+use Rattle.volume_format.specs.Plan.{Plan, name_value, planned_records, record_in_list, record_list}
 use Rattle.volume_format.proofs.EachRecord.{at-listed}
 use Rattle.volume_format.proofs.Listed.{IfSome-from}
 use Rattle.volume_format.proofs.Names.{HasOneName, names-planned, names_of-planned, namespace-planned, parent-root}

@@ -8,7 +8,7 @@ use Rattle.ntfs_def.specs.declared.run_text.Spot.TheVariants.{At}
 use Rattle.volume_def.specs.Table.{cluster_bytes}
 use Rattle.volume_def.specs.VersionClause.{IsMirror, MeetsMirrorPlace}
 use Rattle.volume_def.specs.View.{VolumeView}
-use Rattle.volume_format.specs.Plan.{Plan, mirror_at, mirror_len, clusters_needed, stream_part}
+use Rattle.volume_format.specs.Plan.{Plan, clusters_needed, mirror_at, mirror_len, stream_part}
 use Rattle.volume_format.specs.Planned.{IsPlanned}
 use Rattle.volume_format.proofs.Contents.{mirror_parts-planned}
 use Rattle.volume_format.proofs.Needed.{clusters_needed-covers}

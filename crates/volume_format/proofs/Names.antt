@@ -7,7 +7,7 @@ use Rattle.ntfs_def.specs.FileName.{name_in}
 use Rattle.ntfs_def.specs.Record.{Reference}
 use Rattle.volume_def.specs.FileNames.{names_among, names_of}
 use Rattle.volume_def.specs.Files.{Record, is_directory}
-use Rattle.volume_format.specs.Plan.{Plan, record_in_list, name_value, record_list, planned_records}
+use Rattle.volume_format.specs.Plan.{Plan, name_value, planned_records, record_in_list, record_list}
 use Rattle.volume_format.proofs.Bases.{parts-listed}
 use Rattle.volume_format.proofs.EachRecord.{EachRecord}
 

@@ -12,7 +12,7 @@ use Rattle.volume_def.specs.Blocks.{block_of, copy_of, cut_off, place_at, shown_
 use Rattle.volume_def.specs.Table.{TableLayout, two_sectors}
 use Rattle.volume_format.specs.Items.{StandsAt, item_sector}
 use Rattle.volume_format.specs.Made.{block_in}
-use Rattle.volume_format.specs.Plan.{Plan, mirror_at, mirror_len, clusters_needed, record_count, table_at, table_len}
+use Rattle.volume_format.specs.Plan.{Plan, clusters_needed, mirror_at, mirror_len, record_count, table_at, table_len}
 use Rattle.volume_format.specs.Written.{Stands, sectors_per}
 
 -- a sector of an item whose bytes stand in memory

@@ -15,7 +15,7 @@ use Rattle.volume_format.specs.Items.{HoldsItem}
 use Rattle.volume_format.specs.Made.{AreMade, IsTable, block_in}
 use Rattle.volume_format.specs.NewBoot.{HasGeometry}
 use Rattle.volume_format.specs.Options.{AreInRange, Options, plan_of}
-use Rattle.volume_format.specs.Plan.{Plan, boot_len, record_in_list, mirror_at, mirror_len, clusters_needed, record_list, record_count, table_at, table_len}
+use Rattle.volume_format.specs.Plan.{Plan, boot_len, clusters_needed, mirror_at, mirror_len, record_count, record_in_list, record_list, table_at, table_len}
 use Rattle.volume_format.specs.Planned.{IsPlanned, IsRootRecord}
 use Rattle.volume_format.specs.StoredRecord.{IsStoredRecord}
 use Rattle.volume_format.specs.Written.{ItemsStand, Stands, sectors_per}

@@ -21,7 +21,7 @@ use Rattle.ntfs_def.proofs.SameLaws.{headers_same}
 use Rattle.ntfs_def.proofs.ShapeLaws.{HasShape-few, header_failing-length}
 use Rattle.volume_def.specs.Files.{Content, Part, Record, Value, part_of, record_of}
 use Rattle.volume_def.specs.ExtentsClause.{last_vcn_of}
-use Rattle.volume_format.specs.Plan.{Plan, bad_part, file, clusters_needed, part, stream_part}
+use Rattle.volume_format.specs.Plan.{Plan, bad_part, clusters_needed, file, part, stream_part}
 use Rattle.volume_format.specs.Planned.{AreAligned}
 use Rattle.volume_format.specs.AttributeBytes.{IsPartBytes, one_run}
 use Rattle.volume_format.specs.NewRecord.{AddsPart, IsNewRecord, blank_block, blank_header, blank_record, stream_content, with_part}

@@ -8,7 +8,7 @@ use Rattle.ntfs_def.specs.declared.run_text.Run.{Run}
 use Rattle.volume_def.specs.Coverage.{has_cluster}
 use Rattle.volume_def.specs.Files.{is_of, part_runs}
 use Rattle.volume_def.specs.OwnersClause.{MeetsOwners, all_runs, boot_runs, times_owned}
-use Rattle.volume_format.specs.Plan.{Plan, bits_at, bits_len, boot_len, case_at, case_len, items_end, log_at, log_len, mirror_at, mirror_len, clusters_needed, node_at, node_len, planned_records, security_at, security_len, table_at, table_bits_at, table_bits_len, table_len}
+use Rattle.volume_format.specs.Plan.{Plan, bits_at, bits_len, boot_len, case_at, case_len, clusters_needed, items_end, log_at, log_len, mirror_at, mirror_len, node_at, node_len, planned_records, security_at, security_len, table_at, table_bits_at, table_bits_len, table_len}
 use Rattle.volume_format.proofs.Needed.{clusters_needed-some}
 use Rattle.volume_format.proofs.Bases.{parts-planned}
 

@@ -13,7 +13,7 @@ use Rattle.volume_def.specs.Files.{Part, content_extent}
 use Rattle.volume_def.specs.Values.{value_on}
 use Rattle.volume_def.specs.View.{VolumeView}
 use Rattle.volume_format.specs.Items.{record_bits_byte}
-use Rattle.volume_format.specs.Plan.{Plan, record_in_list, record_list, record_count, stream_part, table_bits_len}
+use Rattle.volume_format.specs.Plan.{Plan, record_count, record_in_list, record_list, stream_part, table_bits_len}
 use Rattle.volume_format.specs.Planned.{IsPlanned}
 use Rattle.volume_format.proofs.ClusterBits.{HasNoHole-stream}
 use Rattle.volume_format.proofs.Contents.{record_bits-planned, record_bits-value}

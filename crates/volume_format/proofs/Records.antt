@@ -4,7 +4,7 @@ use Rattle.std.proofs.lemmas.Bool.{cases_lt, lt-ltb, le-ltb}
 use Rattle.std.proofs.Math.Path.{fun_ext}
 use Rattle.volume_def.specs.Files.{Record, Records, is_of, parts, parts_at, record_in, record_on, records_of}
 use Rattle.volume_def.specs.View.{VolumeView}
-use Rattle.volume_format.specs.Plan.{Plan, record_in_list, record_list, planned_records, record_count}
+use Rattle.volume_format.specs.Plan.{Plan, planned_records, record_count, record_in_list, record_list}
 use Rattle.volume_format.specs.Planned.{IsPlanned}
 use Rattle.volume_format.proofs.Listed.{record_in_list-past}
 use Rattle.volume_format.proofs.Bases.{parts-planned}

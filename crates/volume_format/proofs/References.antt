@@ -7,7 +7,7 @@ use Rattle.ntfs_def.specs.FileName.{FileName, name_in}
 use Rattle.ntfs_def.specs.Record.{Reference}
 use Rattle.volume_def.specs.Files.{Record}
 use Rattle.volume_def.specs.ReferencesClause.{HasRightReferences, MeetsReferences, NamesBase, NamesDirectory}
-use Rattle.volume_format.specs.Plan.{Plan, record_in_list, name_value, record_list, planned_records}
+use Rattle.volume_format.specs.Plan.{Plan, name_value, planned_records, record_in_list, record_list}
 use Rattle.volume_format.proofs.EachRecord.{at-listed}
 use Rattle.volume_format.proofs.Listed.{IfSome-from}
 use Rattle.volume_format.proofs.Names.{HasOneName, names-planned, parent-extend, parent-root}

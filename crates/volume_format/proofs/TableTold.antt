@@ -17,7 +17,7 @@ use Rattle.ntfs_def.proofs.SpotLaws.{spot_of-first}
 use Rattle.volume_def.specs.Files.{Clusters, Part, Record, content_of, part_of, record_in, record_of}
 use Rattle.volume_def.specs.Table.{FitTable, IsOnVolume, IsTableData, LieFromMft, TellsTable, cluster_bytes, is_data_extent}
 use Rattle.volume_format.specs.FitsPlan.{FitsPlan}
-use Rattle.volume_format.specs.Plan.{Plan, extent_for, name_part, clusters_needed, record_0, standard_part, stream_part, table_at, table_bits_at, table_bits_len, table_len}
+use Rattle.volume_format.specs.Plan.{Plan, clusters_needed, extent_for, name_part, record_0, standard_part, stream_part, table_at, table_bits_at, table_bits_len, table_len}
 use Rattle.volume_format.specs.Written.{sectors_per}
 use Rattle.volume_format.proofs.Needed.{clusters_needed-covers}
 use Rattle.volume_format.proofs.NewBlocks.{new_layout}

@@ -3,7 +3,7 @@ use Rattle.std.specs.Prelude.{◌≡◌, ℕ, ◌+◌, ◌*◌, ◌<◌, ◌≤�
 use Rattle.ntfs_def.specs.Boot.{boot_failing}
 use Rattle.volume_format.specs.NewBoot.{HasGeometry}
 use Rattle.volume_format.specs.Options.{Options, plan_of}
-use Rattle.volume_format.specs.Plan.{Plan, record_in_list, record_list, record_count, table_len}
+use Rattle.volume_format.specs.Plan.{Plan, record_count, record_in_list, record_list, table_len}
 use Rattle.volume_format.specs.Planned.{IsRootRecord}
 use Rattle.volume_format.specs.StoredRecord.{IsStoredRecord}
 

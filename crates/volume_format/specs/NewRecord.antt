@@ -7,7 +7,7 @@ use Rattle.ntfs_def.specs.Fixup.{sequence_number}
 use Rattle.ntfs_def.specs.Record.{is_in_use, next_attribute_id}
 use Rattle.ntfs_def.specs.Shape.{HasShape}
 use Rattle.volume_def.specs.Files.{Clusters, Content, Record, record_of}
-use Rattle.volume_format.specs.Plan.{Plan, extent_for, clusters_needed, part}
+use Rattle.volume_format.specs.Plan.{Plan, clusters_needed, extent_for, part}
 use Rattle.volume_format.specs.Planned.{AreAligned}
 
 -- a record without attributes: its header, and the end mark at 0x38

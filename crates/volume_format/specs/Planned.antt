@@ -11,7 +11,7 @@ use Rattle.volume_def.specs.Files.{record_in}
 use Rattle.volume_def.specs.Table.{IsWellFormed, cluster_bytes}
 use Rattle.volume_def.specs.View.{VolumeView}
 use Rattle.volume_format.specs.Items.{HoldsItem, case_byte, log_byte, ones_byte, record_bits_byte, security_byte}
-use Rattle.volume_format.specs.Plan.{Plan, bits_at, bits_len, case_at, case_len, items_end, record_in_list, log_at, log_len, mirror_at, clusters_needed, node_at, node_len, record_list, record_count, security_at, security_len, table_at, table_bits_at, table_bits_len, table_len}
+use Rattle.volume_format.specs.Plan.{Plan, bits_at, bits_len, case_at, case_len, clusters_needed, items_end, log_at, log_len, mirror_at, node_at, node_len, record_count, record_in_list, record_list, security_at, security_len, table_at, table_bits_at, table_bits_len, table_len}
 use Rattle.volume_format.specs.RootIndex.{root_entries}
 
 -- The index record of the root, as stored.

@@ -9,7 +9,7 @@ ghost use Rattle.volume_def.specs.ExtentsClause.{bad_name};
 ghost use Rattle.volume_def.specs.Files.{Value};
 ghost use Rattle.volume_format.specs.AttributeBytes.{runs_at};
 ghost use Rattle.volume_format.specs.NewRecord.{AddsPart, IsNewRecord, stream_content};
-ghost use Rattle.volume_format.specs.Plan.{bad_part, file, is_planned, last_entry, record_in_list, part, record_list, record_0, record_1, record_2, record_3, record_5, record_6, record_7, record_8, record_9, record_10, record_11, root_value, stream_part, up_to_8};
+ghost use Rattle.volume_format.specs.Plan.{bad_part, file, is_planned, last_entry, part, record_0, record_1, record_10, record_11, record_2, record_3, record_5, record_6, record_7, record_8, record_9, record_in_list, record_list, root_value, stream_part, up_to_8};
 
 use crate::Places;
 use crate::new_record::{add_stream, add_value, blank};

@@ -102,27 +102,39 @@ fn what_is_not_taken_writes_nothing(rt: HostRuntime) -> Result<(), test::Fail> {
     Ok(())
 }
 
+// Whether a run in which this call of the disk fails ends so, with this text.
+fn ends_so(
+    alloc: Global,
+    kind: CallKind,
+    number: u64,
+    status: u8,
+    text: &str,
+) -> Result<bool, test::Fail> {
+    let fail = Fail {
+        kind,
+        number,
+        lands: false,
+    };
+    let mut disk = FailDisk::new(blank(alloc, 2048)?, vec![in alloc; fail]?);
+    let mut out = sink_of(alloc, AMPLE, 0)?;
+    let got = run(alloc, SMALL, &mut disk, &mut out)?;
+    Ok(got == status && out.bytes() == text.as_bytes())
+}
+
 #[test]
-fn a_failing_write_is_told(rt: HostRuntime) -> Result<(), test::Fail> {
-    for (kind, number, status, text) in [
-        (CallKind::Write, 1, 6, ""),
-        (CallKind::Write, 2, 6, ""),
-        (CallKind::Write, 540, 6, ""),
-        (CallKind::Write, 1080, 6, ""),
-        (CallKind::Write, 1081, 0, "formatted 256\n"),
-        (CallKind::Settle, 1, 6, ""),
-    ] {
-        let fail = Fail {
-            kind,
-            number,
-            lands: false,
-        };
-        let mut disk = FailDisk::new(blank(rt.alloc(), 2048)?, vec![in rt.alloc(); fail]?);
-        let mut out = sink_of(rt.alloc(), AMPLE, 0)?;
-        let got = run(rt.alloc(), SMALL, &mut disk, &mut out)?;
-        assert_eq!(rt; got, status, "{kind:?} {number}");
-        assert!(rt; out.bytes() == text.as_bytes(), "{kind:?} {number}");
+fn each_failing_write_is_told(rt: HostRuntime) -> Result<(), test::Fail> {
+    for number in 1..=1080_u64 {
+        assert!(rt; ends_so(rt.alloc(), CallKind::Write, number, 6, "")?, "{number}");
     }
+    Ok(())
+}
+
+// There is no write behind the last one, and one settle.
+#[test]
+fn a_failing_settle_is_told(rt: HostRuntime) -> Result<(), test::Fail> {
+    assert!(rt; ends_so(rt.alloc(), CallKind::Settle, 1, 6, "")?);
+    assert!(rt; ends_so(rt.alloc(), CallKind::Settle, 2, 0, "formatted 256\n")?);
+    assert!(rt; ends_so(rt.alloc(), CallKind::Write, 1081, 0, "formatted 256\n")?);
     Ok(())
 }
 

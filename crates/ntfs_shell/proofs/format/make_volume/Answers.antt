@@ -8,7 +8,7 @@ returns-in-Ok g c =
     let made = c.in-Ok.ensures in
     ends-made _ _ _ _ _
     (record {
-      in_range = elim made.in_range [ | inl out ↦ absurd (cc) | inr range ↦ range ];
+      in_range = elim made.in_range [ inl out ↦ absurd (cc) | inr range ↦ range ];
       volume = made.volume;
       settled = made.settled;
     })
