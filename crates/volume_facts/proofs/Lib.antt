@@ -1,1 +1,4 @@
+pub mod HeadLaws
 pub mod LeastLaws
+pub mod NameLaws
+pub mod ReferenceLaws

@@ -1,1 +1,4 @@
+pub mod Heads
 pub mod Least
+pub mod Names
+pub mod References
