@@ -1,4 +1,5 @@
 pub mod Heads
 pub mod Least
+pub mod Marks
 pub mod Names
 pub mod References

@@ -2,7 +2,9 @@
 //! from these notes. Nothing here reads a disk.
 #![tactic(auto)]
 
+mod climb;
 mod heads;
+mod marks;
 mod names;
 mod references;
 
