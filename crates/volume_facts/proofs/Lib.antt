@@ -1,7 +1,9 @@
 pub mod HeadLaws
+pub mod KeyLaws
 pub mod LeastLaws
 pub mod MarkLaws
 pub mod NameLaws
+pub mod PairLaws
 pub mod ReachLaws
 pub mod ReferenceLaws
 pub mod WalkLaws

@@ -2,4 +2,5 @@ pub mod Heads
 pub mod Least
 pub mod Marks
 pub mod Names
+pub mod Pairs
 pub mod References

@@ -6,6 +6,7 @@ mod climb;
 mod heads;
 mod marks;
 mod names;
+mod pairs;
 mod references;
 
 pub use heads::{Head, Heads};
