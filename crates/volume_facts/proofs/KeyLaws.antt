@@ -1,11 +1,11 @@
 -- The keys of names, by their places in the order.
-use Rattle.std.proofs.Common.{◌≡◌, ◌≢◌, ◌⊎◌, ◌↔◌, ◌<◌, ◌≤◌, ◌+◌, ◌-◌, ◌*◌, ◌%◌, ◌^◌, ◌==◌, ℕ, suc, Bool, true, false, cond, List, [], ◌∷◌, Some, length, map, get_or, inl, inr, refl, sym, ap, subst, ◌∙◌, arith, eq-eqb}
-use Rattle.std.specs.List.{All, Contains, count_by}
+use Rattle.std.proofs.Common.{◌≡◌, ◌↔◌, ◌<◌, ◌≤◌, ◌+◌, ◌-◌, ◌^◌, ◌==◌, ℕ, suc, true, false, List, [], ◌∷◌, Some, length, map, get_or, inl, inr, refl, sym, ap, subst, ◌∙◌, arith, eq-eqb}
+use Rattle.std.specs.List.{All}
 use Rattle.std.specs.List.Sorted.{IsNonDecreasing, IsNonDecreasingBy}
 use Rattle.std.specs.Ordering.{is_lt, nat_cmp, ordering_then}
-use Rattle.std.proofs.lemmas.Bool.{cases_Bool, cases_eq, cases_lt, ne_eqb, cond-false, cond-true}
+use Rattle.std.proofs.lemmas.Bool.{cases_Bool, cases_lt, ne_eqb}
 use Rattle.std.proofs.lemmas.Bool.Decides.{nat_tests}
-use Rattle.std.proofs.lemmas.List.{get_or-map, get_or_default, length-map}
+use Rattle.std.proofs.lemmas.List.{get_or-map, length-map}
 use Rattle.std.proofs.lemmas.List.Elements.{All-contains, Contains-get_or}
 use Rattle.std.proofs.lemmas.List.Sorted.{IsNonDecreasingBy-from_all_adjacent}
 use Rattle.volume_def.proofs.FindLaws.{count-agree, count-no, count-some}
@@ -13,7 +13,7 @@ use Rattle.volume_def.proofs.SameItemsLaws.{count-map}
 use Rattle.volume_facts.specs.declared.pairs.NameKey.{NameKey}
 use Rattle.volume_facts.specs.Least.{IsLeastFailing}
 use Rattle.volume_facts.specs.Pairs.{ArePaired, IsBeside, IsInRange, IsPaired, IsPairedName, is_key, order_in, order_of, times_named}
-use Rattle.volume_facts.proofs.PairLaws.{IsPartnered, IsPartnered-beside, beside-IsPartnered, times}
+use Rattle.volume_facts.proofs.PairLaws.{IsPartnered-beside, beside-IsPartnered, times}
 
 -- the order of keys is that of their places
 pub order-le : (x y : NameKey) → IsInRange x → IsInRange y
@@ -26,13 +26,13 @@ order-le x y rx ry h =
 -- a sort by keys sorts their places
 pub orders-rise : (keys : List NameKey) → All IsInRange keys
     → ((k : ℕ) (d : NameKey) → 0 ≤ k → k + 1 < length keys
-      → is_lt (ordering_then (nat_cmp (get_or keys (k + 1) d).file (get_or keys k d).file)
-        (ordering_then (nat_cmp (get_or keys (k + 1) d).directory (get_or keys k d).directory)
-        (nat_cmp (get_or keys (k + 1) d).namespace (get_or keys k d).namespace))) ≡ false)
+    → is_lt (ordering_then (nat_cmp (get_or keys (k + 1) d).file (get_or keys k d).file)
+    (ordering_then (nat_cmp (get_or keys (k + 1) d).directory (get_or keys k d).directory)
+    (nat_cmp (get_or keys (k + 1) d).namespace (get_or keys k d).namespace))) ≡ false)
     → IsNonDecreasing (map order_of keys)
 orders-rise keys range sorted i j d le lt =
     let by : IsNonDecreasingBy order_of keys = IsNonDecreasingBy-from_all_adjacent order_of keys (λ k e h.
-      order-le (get_or keys k e) (get_or keys (k + 1) e) (range k e (omega arith)) (range (k + 1) e h) (sorted k e (omega arith) h)) in
+    order-le (get_or keys k e) (get_or keys (k + 1) e) (range k e (omega arith)) (range (k + 1) e h) (sorted k e (omega arith) h)) in
     let len = length-map keys order_of in
     let none : NameKey = record { file = 0; directory = 0; namespace = 0 } in
     rw (get_or-map order_of keys i none d (omega arith), get_or-map order_of keys j none d (omega arith)) (by i j none le (omega arith))
@@ -76,12 +76,11 @@ paired-beside keys i x range up inside here dos =
     let alone = times-orders keys x.file x.directory 2 range r.directory (omega arith) in
     let key = order_in x.file x.directory 2 in
     let before : key - 1 ≡ order_in x.file x.directory 1 = omega arith in
-    let partner : times (key - 1) orders ≡ times_named keys x.file x.directory 1 = ap (λ k. times k orders) before ∙ long in
-    (
+    let partner : times (key - 1) orders ≡ times_named keys x.file x.directory 1 = ap (λ k. times k orders) before ∙ long in (
       λ beside. let p = IsPartnered-beside orders i key up (omega arith) at (omega arith) beside in
-        record { long = subst (λ k. 1 ≤ k) partner p.long; alone = subst (λ k. k ≤ 1) alone p.alone },
+          record { long = subst (λ k. 1 ≤ k) partner p.long; alone = subst (λ k. k ≤ 1) alone p.alone },
       λ p. beside-IsPartnered orders i key up (omega arith) at (omega arith)
-        (record { long = subst (λ k. 1 ≤ k) (sym partner) p.long; alone = subst (λ k. k ≤ 1) (sym alone) p.alone }),
+          (record { long = subst (λ k. 1 ≤ k) (sym partner) p.long; alone = subst (λ k. k ≤ 1) (sym alone) p.alone }),
     )
 
 -- where a key of this kind stands
@@ -116,10 +115,9 @@ pub least-unpaired : (keys : List NameKey) (i : ℕ) (d : NameKey) → All IsInR
     → ((j : ℕ) (d : NameKey) → j < i → IsPairedName keys (get_or keys j d)) → ¬ (IsPairedName keys (get_or keys i d))
     → IsLeastFailing (ArePaired keys) (Some (get_or keys i d).file)
 least-unpaired keys i d range up inside all bad =
-    let x = get_or keys i d in
-    (
+    let x = get_or keys i d in (
       λ paired. bad (λ dos. paired x.directory
-        (count-some (is_key x.file x.directory 2) keys x (Contains-get_or keys i d inside) (fields-is_key x.file x.directory 2 x refl refl dos))),
+          (count-some (is_key x.file x.directory 2) keys x (Contains-get_or keys i d inside) (fields-is_key x.file x.directory 2 x refl refl dos))),
       λ f less. paired-before keys i f all (λ j e l is. elim (cases_lt j i) [
         | inl lt ↦ lt
         | inr ge ↦

@@ -1,5 +1,5 @@
 -- How many records are unknown.
-use Rattle.std.proofs.Common.{◌≡◌, ℕ, ◌<◌, ◌+◌, Bool, true, false, cond, List, length, set, get_or, count_by, refl, ap, arith}
+use Rattle.std.proofs.Common.{◌≡◌, ℕ, ◌<◌, Bool, true, false, cond, List, length, set, count_by, ap, arith}
 use Rattle.std.proofs.lemmas.List.Sums.{sum_by-set}
 use Rattle.volume_facts.specs.declared.marks.Mark.{Mark}
 use Rattle.volume_facts.specs.declared.marks.Mark.TheVariants.{Unknown, Walking, Found, Lost}

@@ -59,7 +59,8 @@ IsPartnered-beside keys i key up h e some beside =
         | inl lt ↦ let u = up j (i - 1) 0 (omega arith) (omega arith) in absurd (omega arith)
         | inr ge ↦ let more : i < j = elim (cases_lt i j) [ inl m ↦ m | inr o ↦ absurd (ne (omega arith)) ] in
             let u = up (i + 1) j 0 (omega arith) l in let v = up i (i + 1) 0 (omega arith) (omega arith) in
-            let w = beside.behind (omega arith) in absurd (w (omega arith)) ]);
+            let w = beside.behind (omega arith) in absurd (w (omega arith))
+      ]);
     }
 
 pub beside-IsPartnered : (keys : List ℕ) (i key : ℕ) → IsNonDecreasing keys → i < length keys → get_or keys i 0 ≡ key → 0 < key → IsPartnered keys key → IsBeside keys i
@@ -72,7 +73,7 @@ beside-IsPartnered keys i key up h e some paired =
       before = let u = up long.0 (i - 1) 0 (omega arith) (omega arith) in let v = up (i - 1) i 0 (omega arith) h in let f = long.2 in
           elim (cases_eq (get_or keys (i - 1) 0) key) [
             | inl twice ↦ let c = count_two key keys (i - 1) i (omega arith) h twice e in absurd (omega arith)
-            | inr ne ↦ elim (cases_lt (get_or keys (i - 1) 0) key) [ inl lt ↦ omega arith | inr ge ↦ absurd (ne (omega arith)) ] ];
+            | inr ne ↦ elim (cases_lt (get_or keys (i - 1) 0) key) [ inl lt ↦ omega arith | inr ge ↦ absurd (ne (omega arith)) ]
+          ];
       behind = λ l twice. let c = count_two key keys i (i + 1) (omega arith) l e (twice ∙ e) in omega arith;
     }
-

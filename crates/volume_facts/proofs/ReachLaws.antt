@@ -1,5 +1,5 @@
 -- The way of parents, step by step.
-use Rattle.std.proofs.Common.{◌≡◌, ◌≢◌, ◌↔◌, ℕ, zero, suc, List, slice_index, refl, sym, subst}
+use Rattle.std.proofs.Common.{◌≡◌, ◌≢◌, ◌↔◌, ℕ, zero, suc, List, slice_index, refl, subst}
 use Rattle.volume_facts.specs.Marks.{climbed, Reaches}
 
 -- the root reaches itself

@@ -1,5 +1,5 @@
 -- A way that is walked, step by step, and what its end says of all of it.
-use Rattle.std.proofs.Common.{◌≡◌, ◌≢◌, ◌↔◌, ◌⊎◌, inl, inr, ℕ, ◌+◌, ◌<◌, ◌≤◌, List, [], ◌∷◌, ◌++◌, length, set, get_or, slice_index, refl, sym, subst, ap, ◌∙◌, arith}
+use Rattle.std.proofs.Common.{◌≡◌, ◌≢◌, ◌↔◌, ◌⊎◌, inl, inr, ℕ, ◌<◌, List, [], ◌∷◌, ◌++◌, length, set, slice_index, refl, sym, subst, ap, ◌∙◌, arith}
 use Rattle.std.specs.List.{Contains}
 use Rattle.std.proofs.lemmas.Bool.{cases_eq, cases_lt}
 use Rattle.std.proofs.lemmas.List.{length-set, get_or-set_same, get_or-set_other, get_or_past}
@@ -11,6 +11,7 @@ use Rattle.volume_facts.proofs.ReachLaws.{Reaches-step, Reaches-root, Reaches-ne
 
 pub set_here : (marks : List Mark) (at : ℕ) (m : Mark) → at < length marks → mark_at (set marks at m) at ≡ m
 set_here marks at m h = get_or-set_same marks at m Unknown h
+
 pub set_there : (marks : List Mark) (at k : ℕ) (m : Mark) → k ≢ at → mark_at (set marks at m) k ≡ mark_at marks k
 set_there marks at k m ne = get_or-set_other marks at k m Unknown ne
 
@@ -58,27 +59,35 @@ Walks-more parents root old new path f at inside unknown walks =
       has_root = λ h. set_there new at root Walking (λ e. apart (sym e)) ∙ walks.has_root (omega (arith, h, length-set new at Walking));
       others = λ k h. elim (marked new at k inside) [
         | inl w ↦ absurd (h w.1)
-        | inr w ↦ w.1 ∙ walks.others k (λ e. h (w.1 ∙ e)) ];
+        | inr w ↦ w.1 ∙ walks.others k (λ e. h (w.1 ∙ e))
+      ];
       on_path = λ k e. elim (marked new at k inside) [
         | inl w ↦ subst (Contains (path ++ at ∷ [])) (sym w.0) (Contains-push path at)
-        | inr w ↦ Contains-append_left path (at ∷ []) k (walks.on_path k (sym w.1 ∙ e)) ];
+        | inr w ↦ Contains-append_left path (at ∷ []) k (walks.on_path k (sym w.1 ∙ e))
+      ];
       path_on = λ k c. elim (marked new at k inside) [
         | inl w ↦ w.1
-        | inr w ↦ elim (Contains-push_cases path at k c) [ inl early ↦ w.1 ∙ walks.path_on k early | inr e ↦ absurd (w.0 (sym e)) ] ];
+        | inr w ↦ elim (Contains-push_cases path at k c) [ inl early ↦ w.1 ∙ walks.path_on k early | inr e ↦ absurd (w.0 (sym e)) ]
+      ];
       was = λ k e. elim (marked new at k inside) [
         | inl w ↦ subst (λ j. mark_at old j ≡ Unknown) (sym w.0) (sym (walks.others at (λ e. absurd (cc))) ∙ unknown)
-        | inr w ↦ walks.was k (sym w.1 ∙ e) ];
+        | inr w ↦ walks.was k (sym w.1 ∙ e)
+      ];
       goes_on = λ k e. elim (marked new at k inside) [
         | inl w ↦ inr (ap (slice_index parents) w.0)
         | inr w ↦ elim (walks.goes_on k (sym w.1 ∙ e)) [
           | inl on ↦ elim (marked new at (slice_index parents k) inside) [ inl v ↦ inl v.1 | inr v ↦ inl (v.1 ∙ on) ]
-          | inr end ↦ inl (ap (mark_at now) end ∙ here) ] ];
+          | inr end ↦ inl (ap (mark_at now) end ∙ here)
+        ]
+      ];
       leads = λ k e. elim (marked new at k inside) [
         | inl w ↦ subst (λ j. Reaches parents root j ↔ Reaches parents root (slice_index parents at)) (sym w.0) step
-        | inr w ↦ let l = walks.leads k (sym w.1 ∙ e) in (λ r. step.0 (l.0 r), λ r. l.1 (step.1 r)) ];
+        | inr w ↦ let l = walks.leads k (sym w.1 ∙ e) in (λ r. step.0 (l.0 r), λ r. l.1 (step.1 r))
+      ];
       start = elim walks.start [
         | inl on ↦ elim (marked new at f inside) [ inl v ↦ inl v.1 | inr v ↦ inl (v.1 ∙ on) ]
-        | inr e ↦ inl (ap (mark_at now) e ∙ here) ];
+        | inr e ↦ inl (ap (mark_at now) e ∙ here)
+      ];
     }
 
 -- the verdict is known, and no walk
@@ -101,8 +110,8 @@ verdict-says : (parents : List ℕ) (root : ℕ) (old mid : List Mark) (path : L
 verdict-says parents root old mid path f at Unknown is right walked k e = absurd (walked.done is)
 verdict-says parents root old mid path f at Walking is right walked k e =
     Reaches-never parents root (λ j. mark_at mid j ≡ Walking)
-      (λ j w. elim (walked.walks.goes_on j w) [ inl on ↦ on | inr end ↦ ap (mark_at mid) end ∙ is ])
-      (λ w. not_walking mid root walked.walks.has_root w) k e
+    (λ j w. elim (walked.walks.goes_on j w) [ inl on ↦ on | inr end ↦ ap (mark_at mid) end ∙ is ])
+    (λ w. not_walking mid root walked.walks.has_root w) k e
 verdict-says parents root old mid path f at Found is right walked k e =
     let same = walked.walks.others at (λ w. absurd (cc)) in
     (walked.walks.leads k e).1 (subst (λ m. Says parents root m at) (sym same ∙ is) (right at))
@@ -124,24 +133,30 @@ KeepsKnown-of parents root old mid new path f at right walked settled =
     let known = verdict-known (mark_at mid at) in
     let walks = walked.walks in
     let new_at : (k : ℕ) → ((mark_at mid k ≡ Walking) × (mark_at new k ≡ v)) ⊎ ((mark_at mid k ≢ Walking) × (mark_at new k ≡ mark_at old k)) =
-        λ k. elim (is_walking (mark_at mid k)) [
-          | inl w ↦ inl (w, settled.path_has k (walks.on_path k w))
-          | inr ne ↦ elim (settled.others k) [
-            | inl same ↦ inr (ne, same ∙ walks.others k ne)
-            | inr both ↦ absurd (ne (walks.path_on k both.1)) ] ] in
+    λ k. elim (is_walking (mark_at mid k)) [
+      | inl w ↦ inl (w, settled.path_has k (walks.on_path k w))
+      | inr ne ↦ elim (settled.others k) [
+        | inl same ↦ inr (ne, same ∙ walks.others k ne)
+        | inr both ↦ absurd (ne (walks.path_on k both.1))
+      ]
+    ] in
     record {
       all = settled.all ∙ walks.all;
       right = λ k. elim (new_at k) [
         | inl w ↦ subst (λ m. Says parents root m k) (sym w.1) (verdict-says parents root old mid path f at (mark_at mid at) refl right walked k w.0)
-        | inr w ↦ subst (λ m. Says parents root m k) (sym w.1) (right k) ];
+        | inr w ↦ subst (λ m. Says parents root m k) (sym w.1) (right k)
+      ];
       here = elim walks.start [
         | inl on ↦ λ e. known.0 (sym (settled.path_has f (walks.on_path f on)) ∙ e)
         | inr e ↦ elim (new_at f) [
           | inl w ↦ λ u. known.0 (sym w.1 ∙ u)
-          | inr w ↦ λ u. walked.done (ap (mark_at mid) (sym e) ∙ walks.others f w.0 ∙ sym w.1 ∙ u) ] ];
+          | inr w ↦ λ u. walked.done (ap (mark_at mid) (sym e) ∙ walks.others f w.0 ∙ sym w.1 ∙ u)
+        ]
+      ];
       keeps = λ k was. elim (new_at k) [
         | inl w ↦ absurd (was (walks.was k w.0))
-        | inr w ↦ w.1 ];
+        | inr w ↦ w.1
+      ];
     }
 
 -- a known mark that says what is so

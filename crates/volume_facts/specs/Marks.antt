@@ -1,5 +1,5 @@
 -- The way of parents from a record up, and what is known of it.
-use Rattle.std.specs.Prelude.{◌≡◌, ◌≢◌, ◌↔◌, ◌⊎◌, ◌<◌, ℕ, zero, suc, List, Contains, length, slice_index, slice_index_or}
+use Rattle.std.specs.Prelude.{Bool, true, false, ◌≡◌, ◌≢◌, ◌↔◌, ◌⊎◌, ◌<◌, ℕ, zero, suc, List, Contains, length, slice_index, slice_index_or}
 use Rattle.volume_facts.specs.declared.marks.Mark.{Mark}
 use Rattle.volume_facts.specs.declared.marks.Mark.TheVariants.{Unknown, Walking, Found, Lost}
 
@@ -69,3 +69,9 @@ verdict_of Found = Found
 verdict_of Unknown = Lost
 verdict_of Walking = Lost
 verdict_of Lost = Lost
+
+abbrev pub is_found : Mark → Bool
+is_found Unknown = false
+is_found Walking = false
+is_found Found = true
+is_found Lost = false

@@ -4,11 +4,14 @@
 
 mod climb;
 mod heads;
+mod links;
 mod marks;
 mod names;
 mod pairs;
 mod references;
+mod tallies;
 
 pub use heads::{Head, Heads};
+pub use links::first_wrong_link;
 pub use names::{NameFact, Names};
 pub use references::first_wrong_reference;

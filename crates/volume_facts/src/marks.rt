@@ -1,7 +1,7 @@
 //! What is known of a record's way to the root.
 ghost use Rattle.std.specs.Prelude.{◌≡◌, ◌↔◌, IsTrue};
-ghost use Rattle.volume_facts.specs.declared.marks.Mark.TheVariants.{Found, Unknown};
-ghost use Rattle.volume_facts.specs.Marks.{verdict_of};
+ghost use Rattle.volume_facts.specs.declared.marks.Mark.TheVariants.{Unknown};
+ghost use Rattle.volume_facts.specs.Marks.{is_found, verdict_of};
 
 /// What is known of a record's way to the root.
 #[derive(Clone, Copy, Debug)]
@@ -24,7 +24,7 @@ impl Mark {
     }
 
     pub fn is_found(self) -> bool
-        ensures { IsTrue result ↔ self ≡ Found }
+        ensures { result ≡ is_found self }
     {
         matches!(self, Mark::Found)
     }

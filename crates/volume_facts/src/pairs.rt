@@ -9,6 +9,7 @@ use crate::{NameFact, Names};
 use std::alloc::{AllocError, Global};
 
 const WIN32: u8 = 1;
+
 const DOS: u8 = 2;
 
 /// What a name is paired by, in the order of sorting.

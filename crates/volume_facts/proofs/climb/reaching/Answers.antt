@@ -1,10 +1,10 @@
-use Rattle.std.proofs.Common.{ℕ, ◌≡◌, ◌<◌, ◌+◌, inl, inr, ap, sym, subst, ◌∙◌, arith, length, replicate}
+use Rattle.std.proofs.Common.{◌≡◌, ◌<◌, inl, inr, ap, sym, subst, ◌∙◌, arith, length}
 use Rattle.std.specs.Vec.{with_items}
 use Rattle.std.proofs.lemmas.Bool.{cases_lt}
-use Rattle.std.proofs.lemmas.List.{with_items_is, length-set, get_or-replicate, length-replicate, get_or_past}
-use Rattle.volume_facts.specs.declared.marks.Mark.TheVariants.{Unknown, Found}
+use Rattle.std.proofs.lemmas.List.{with_items_is}
+use Rattle.volume_facts.specs.declared.marks.Mark.TheVariants.{Unknown}
 use Rattle.volume_facts.specs.Marks.{AreRight, HasRoot, KeepsKnown, mark_at}
-use Rattle.volume_facts.proofs.WalkLaws.{AreRight-root, set_here}
+use Rattle.volume_facts.proofs.WalkLaws.{AreRight-root}
 use Rattle.volume_facts.proofs.climb.reaching.Goals as goal
 
 pub loop-f-init : goal.loop-f-init
@@ -32,5 +32,6 @@ loop-f-preserved c =
       right = subst (AreRight parents root) (sym items) k.right;
       known = λ j h e. let e2 : mark_at new j ≡ Unknown = sym (ap (λ xs. mark_at xs j) items) ∙ e in elim (cases_lt j c.loop-f.f) [
         | inl lt ↦ inv.known j lt (sym (k.keeps j (inv.known j lt)) ∙ e2)
-        | inr ge ↦ let here : j ≡ c.loop-f.f = omega arith in k.here (ap (mark_at new) (sym here) ∙ e2) ];
+        | inr ge ↦ let here : j ≡ c.loop-f.f = omega arith in k.here (ap (mark_at new) (sym here) ∙ e2)
+      ];
     }

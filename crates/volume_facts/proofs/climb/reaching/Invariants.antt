@@ -1,5 +1,5 @@
 use Rattle.std.proofs.Common.{◌≡◌, ◌≢◌, ◌<◌, ℕ, length}
-use Rattle.volume_facts.specs.declared.marks.Mark.TheVariants.{Found, Unknown}
+use Rattle.volume_facts.specs.declared.marks.Mark.TheVariants.{Unknown}
 use Rattle.volume_facts.specs.Marks.{mark_at, AreRight, HasRoot}
 use Rattle.volume_facts.proofs.climb.reaching.Given as goal
 

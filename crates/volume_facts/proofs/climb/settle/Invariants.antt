@@ -1,4 +1,4 @@
-use Rattle.std.proofs.Common.{◌≡◌, ◌⊎◌, ◌<◌, ℕ, length, get_or, slice_index}
+use Rattle.std.proofs.Common.{◌≡◌, ◌⊎◌, ◌<◌, ℕ, length, slice_index}
 use Rattle.std.specs.List.{Contains}
 use Rattle.volume_facts.specs.Marks.{mark_at}
 use Rattle.volume_facts.proofs.climb.settle.Given as goal

@@ -4,8 +4,7 @@ use Rattle.std.proofs.lemmas.List.{length-set, get_or_default}
 use Rattle.std.proofs.lemmas.List.Elements.{All-push}
 use Rattle.volume_facts.specs.declared.marks.Mark.TheVariants.{Unknown, Walking}
 use Rattle.volume_facts.specs.Marks.{Walks, mark_at}
-use Rattle.volume_facts.proofs.MarkLaws.{unknown-fewer}
-use Rattle.volume_facts.proofs.WalkLaws.{Walks-more, Walks-none}
+use Rattle.volume_facts.proofs.WalkLaws.{Walks-more}
 use Rattle.volume_facts.proofs.climb.walk_up.Goals as goal
 
 pub loop-marks-preserved : goal.loop-marks-preserved
@@ -33,7 +32,7 @@ returns-clause-walked c root has right =
     record {
       walks = inv.walks root has right;
       done = λ e.
-        let yes : c.is_unknown.result ≡ true = c.is_unknown.ensures.1 (get_or_default new at _ Unknown (omega (arith, inv.all, inv.at)) ∙ e) in
-        let none : c.is_unknown.result ≡ false = c.loop-marks-test.false in
-        absurd (cc);
+          let yes : c.is_unknown.result ≡ true = c.is_unknown.ensures.1 (get_or_default new at _ Unknown (omega (arith, inv.all, inv.at)) ∙ e) in
+          let none : c.is_unknown.result ≡ false = c.loop-marks-test.false in
+          absurd (cc);
     }

@@ -1,8 +1,6 @@
 use Rattle.std.proofs.Common.{◌≡◌, ◌<◌, ℕ, count_by, length}
 use Rattle.std.specs.List.{All}
-use Rattle.volume_facts.specs.declared.marks.Mark.{Mark}
-use Rattle.volume_facts.specs.declared.marks.Mark.TheVariants.{Found}
-use Rattle.volume_facts.specs.Marks.{AreRight, HasRoot, Walks, mark_at}
+use Rattle.volume_facts.specs.Marks.{AreRight, HasRoot, Walks}
 use Rattle.volume_facts.proofs.MarkLaws.{unknown}
 use Rattle.volume_facts.proofs.climb.walk_up.Given as goal
 

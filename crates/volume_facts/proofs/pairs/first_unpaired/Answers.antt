@@ -1,4 +1,4 @@
-use Rattle.std.proofs.Common.{◌≡◌, ◌<◌, ℕ, arith, true, false, length, get_or, subst, inl, inr}
+use Rattle.std.proofs.Common.{◌≡◌, arith, true, false}
 use Rattle.volume_facts.proofs.KeyLaws.{all-paired, least-unpaired}
 use Rattle.volume_facts.proofs.pairs.first_unpaired.Goals as goal
 
