@@ -19,7 +19,7 @@ use Rattle.volume_def.proofs.SameItemsLaws.{count-filter, count-map}
 use Rattle.volume_facts.specs.declared.names.NameFact.{NameFact}
 use Rattle.volume_facts.specs.declared.pairs.NameKey.{NameKey}
 use Rattle.volume_facts.specs.Least.{IsLeastFailing}
-use Rattle.volume_facts.specs.Links.{HasRightFiling, MeetsFiling}
+use Rattle.volume_facts.specs.Links.{HasPairs, HasRightFiling, MeetsFiling}
 use Rattle.volume_facts.specs.Names.{HeldName, PlacedName, is_of_file, names_held_below, placed, told_name}
 use Rattle.volume_facts.specs.Pairs.{ArePaired, is_key, key_of, times_named}
 use Rattle.volume_facts.specs.References.{lesser}
@@ -52,8 +52,8 @@ times-names records facts keys f directory namespace tell same =
     ∙ count-map placed test (names_of records f)
 
 -- keys are paired where the names of the file are
-pub paired-names : (records : Records) (facts : List NameFact) (keys : List NameKey) (f : ℕ) → TellNames records facts
-    → IsPermutation (map key_of facts) keys → ArePaired keys f → All (IsPairedAmong (names_of records f)) (names_of records f)
+paired-names : (records : Records) (facts : List NameFact) (keys : List NameKey) (f : ℕ) → TellNames records facts
+    → IsPermutation (map key_of facts) keys → ArePaired keys f → HasPairs records f
 paired-names records facts keys f tell same paired =
     let names = names_of records f in
     All-from_Contains (IsPairedAmong names) names (λ name among.
@@ -75,9 +75,9 @@ split true true h = (refl, refl)
 split true false h = absurd (cc)
 split false b h = absurd (cc)
 
-pub names-paired : (records : Records) (facts : List NameFact) (keys : List NameKey) (f : ℕ) → TellNames records facts
+names-paired : (records : Records) (facts : List NameFact) (keys : List NameKey) (f : ℕ) → TellNames records facts
     → IsPermutation (map key_of facts) keys
-    → ((name : FileName) → Contains (names_of records f) name → All (IsPairedAmong (names_of records f)) (names_of records f)) → ArePaired keys f
+    → HasPairs records f → ArePaired keys f
 names-paired records facts keys f tell same all directory some =
     let names = names_of records f in
     let dos = times-names records facts keys f directory 2 tell same in
@@ -86,7 +86,7 @@ names-paired records facts keys f tell same all directory some =
     let name = w.0 in
     let is = split (is_dos name) (name.parent.number == directory) w.2 in
     let here : name.parent.number ≡ directory = eqb-true name.parent.number directory is.1 in
-    let p = All-contains (IsPairedAmong names) names name (all name w.1) w.1 in
+    let p = All-contains (IsPairedAmong names) names name all w.1 in
     record {
       long = subst (λ n. 1 ≤ n) (sym long) (subst (λ d. 1 ≤ count_by (is_long_in d) names) here (p.long is.0));
       alone = subst (λ n. n ≤ 1) (sym dos) (subst (λ d. count_by (is_dos_in d) names ≤ 1) here (p.alone is.0));
@@ -105,7 +105,7 @@ based records k f r (Some base) is at file right =
     let w = used-from (records.record_at base.number) _ named in
     (w.0, ap records.record_at (sym e) ∙ w.1, w.2.0)
 
-pub named-base : (records : Records) (f : ℕ) (name : FileName) → ((n : ℕ) → MeetsReferences records n) → Contains (names_of records f) name
+named-base : (records : Records) (f : ℕ) (name : FileName) → ((n : ℕ) → MeetsReferences records n) → Contains (names_of records f) name
     → (x : Record) × (records.record_at f ≡ Some x) × IsTrue (is_base x)
 named-base records f name right among =
     let all = names_held_below records records.count in
@@ -122,34 +122,38 @@ named-base records f name right among =
 
 -- The clause.
 
-meets-of : (records : Records) (f : ℕ) → All (IsPairedAmong (names_of records f)) (names_of records f) → MeetsFiling records f → MeetsLinks records f
+meets-of : (records : Records) (f : ℕ) → HasPairs records f → MeetsFiling records f → MeetsLinks records f
 meets-of records f paired filing = record {
   links = if_some (records.record_at f) (λ r. IsTrue (is_base r) → HasRightLinks records f r) (λ r at base.
-      let right : HasRightFiling records f r = subst (λ o. IfSome o (λ x. IsTrue (is_base x) → HasRightFiling records f x)) at filing.links base in
-      record { named = right.named; count = right.count; paired = paired; once = right.once; rooted = right.rooted });
+    let right : HasRightFiling records f r = subst (λ o. IfSome o (λ x. IsTrue (is_base x) → HasRightFiling records f x)) at filing.links base in
+    record { named = right.named; count = right.count; paired = paired; once = right.once; rooted = right.rooted });
   root = filing.root;
 }
 
 filing-of : (records : Records) (f : ℕ) → MeetsLinks records f → MeetsFiling records f
 filing-of records f meets = record {
   links = if_some (records.record_at f) (λ r. IsTrue (is_base r) → HasRightFiling records f r) (λ r at base.
-      let right : HasRightLinks records f r = subst (λ o. IfSome o (λ x. IsTrue (is_base x) → HasRightLinks records f x)) at meets.links base in
-      record { named = right.named; count = right.count; once = right.once; rooted = right.rooted });
+    let right : HasRightLinks records f r = subst (λ o. IfSome o (λ x. IsTrue (is_base x) → HasRightLinks records f x)) at meets.links base in
+    record { named = right.named; count = right.count; once = right.once; rooted = right.rooted });
   root = meets.root;
 }
 
-paired-of : (records : Records) (f : ℕ) → ((n : ℕ) → MeetsReferences records n) → MeetsLinks records f → (name : FileName)
-    → Contains (names_of records f) name → All (IsPairedAmong (names_of records f)) (names_of records f)
-paired-of records f references meets name among =
-    let w = named-base records f name references among in
-    let right : HasRightLinks records f w.0 = subst (λ o. IfSome o (λ x. IsTrue (is_base x) → HasRightLinks records f x)) w.1 meets.links w.2 in
-    right.paired
+pairs-of : (records : Records) (f : ℕ) → ((n : ℕ) → MeetsReferences records n) → MeetsLinks records f → HasPairs records f
+pairs-of records f references meets =
+    All-from_Contains (IsPairedAmong (names_of records f)) (names_of records f) (λ name among.
+      let w = named-base records f name references among in
+      let right : HasRightLinks records f w.0 = subst (λ o. IfSome o (λ x. IsTrue (is_base x) → HasRightLinks records f x)) w.1 meets.links w.2 in
+      All-contains (IsPairedAmong (names_of records f)) (names_of records f) name right.paired among)
 
-pub least-link : (records : Records) (facts : List NameFact) (keys : List NameKey) (a b : Option ℕ) → TellNames records facts
-    → IsPermutation (map key_of facts) keys → ((n : ℕ) → MeetsReferences records n)
-    → IsLeastFailing (ArePaired keys) a → IsLeastFailing (MeetsFiling records) b → IsLeastFailing (MeetsLinks records) (lesser a b)
-least-link records facts keys a b tell same references pairs filing =
-    least-same (λ n. ArePaired keys n × MeetsFiling records n) (MeetsLinks records) (lesser a b)
-    (λ n p. meets-of records n (paired-names records facts keys n tell same p.0) p.1)
-    (λ n m. (names-paired records facts keys n tell same (paired-of records n references m), filing-of records n m))
-    (least-lesser (ArePaired keys) (MeetsFiling records) a b pairs filing)
+pub least-pair : (records : Records) (facts : List NameFact) (keys : List NameKey) (o : Option ℕ) → TellNames records facts
+    → IsPermutation (map key_of facts) keys → IsLeastFailing (ArePaired keys) o → IsLeastFailing (HasPairs records) o
+least-pair records facts keys o tell same =
+    least-same (ArePaired keys) (HasPairs records) o
+    (λ n p. paired-names records facts keys n tell same p) (λ n m. names-paired records facts keys n tell same m)
+
+pub least-link : (records : Records) (a b : Option ℕ) → ((n : ℕ) → MeetsReferences records n) → IsLeastFailing (HasPairs records) a
+    → IsLeastFailing (MeetsFiling records) b → IsLeastFailing (MeetsLinks records) (lesser a b)
+least-link records a b references pairs filing =
+    least-same (λ n. HasPairs records n × MeetsFiling records n) (MeetsLinks records) (lesser a b)
+    (λ n p. meets-of records n p.0 p.1) (λ n m. (pairs-of records n references m, filing-of records n m))
+    (least-lesser (HasPairs records) (MeetsFiling records) a b pairs filing)

@@ -8,10 +8,9 @@ use Rattle.volume_def.specs.ReferencesClause.{is_directory}
 use Rattle.volume_facts.specs.declared.heads.Head.{Head}
 use Rattle.volume_facts.specs.declared.tallies.Tally.{Tally}
 
--- each DOS name of file f has its partner
-abbrev pub MeetsPairs : Records → ℕ → Type 0
-MeetsPairs records f =
-    IfSome (records.record_at f) (λ r. IsTrue (is_base r) → All (IsPairedAmong (names_of records f)) (names_of records f))
+-- Each DOS name of file f has its partner, and is the only one in its directory.
+abbrev pub HasPairs : Records → ℕ → Type 0
+HasPairs records f = All (IsPairedAmong (names_of records f)) (names_of records f)
 
 -- The names of a base record are as many as it says, and a directory has one and leads to the root by it.
 pub record HasRightFiling (records : Records) (f : ℕ) (r : Record) : Type 0 where

@@ -13,5 +13,5 @@ mod tallies;
 
 pub use heads::{Head, Heads};
 pub use links::first_wrong_link;
-pub use names::{NameFact, Names};
+pub use names::{NameFact, Names, note_laws};
 pub use references::first_wrong_reference;

@@ -5,7 +5,7 @@ ghost use Rattle.volume_def.specs.LinksClause.{MeetsLinks};
 ghost use Rattle.volume_def.specs.ReferencesClause.{MeetsReferences};
 ghost use Rattle.volume_facts.specs.Heads.{EndsAtCount, HeadsNote, head_at};
 ghost use Rattle.volume_facts.specs.Least.{IsLeastFailing};
-ghost use Rattle.volume_facts.specs.Links.{IsFiled, IsLinked, MeetsFiling};
+ghost use Rattle.volume_facts.specs.Links.{HasPairs, IsFiled, IsLinked, MeetsFiling};
 ghost use Rattle.volume_facts.specs.Marks.{is_found, mark_at};
 ghost use Rattle.volume_facts.specs.Names.{NamesNote};
 ghost use Rattle.volume_facts.specs.Tallies.{tally_at};
@@ -75,6 +75,15 @@ fn first_wrong_filing(
     Ok(first_misfiled(heads, &tallies, &marks))
 }
 
+// The least file that has a DOS name without its partner, or two DOS names in one directory.
+fn first_wrong_pair(alloc: Global, names: &Names) -> Result<Option<u64>, AllocError>
+    ensures { IfOk result (λ first. (records : Records) → NamesNote records records.count names.now
+        → IsLeastFailing (HasPairs records) first) }
+{
+    let keys = sorted_keys(alloc, names)?;
+    Ok(first_unpaired(&keys))
+}
+
 /// The least file that breaks the clause on links, S11.
 ///
 /// # Errors
@@ -89,8 +98,7 @@ pub fn first_wrong_link(
         → NamesNote records records.count names.now → ((n : ℕ) → MeetsReferences records n)
         → IsLeastFailing (MeetsLinks records) first) }
 {
-    let keys = sorted_keys(alloc, names)?;
-    let unpaired = first_unpaired(&keys);
+    let unpaired = first_wrong_pair(alloc, names)?;
     let misfiled = first_wrong_filing(alloc, heads, names)?;
     Ok(lesser(unpaired, misfiled))
 }

@@ -3,8 +3,11 @@ ghost use Rattle.std.specs.Prelude.{◌≡◌, ◌+◌, ◌∷◌, [], ℕ, Some
 ghost use Rattle.std.specs.Option.{option_map, option_to_list};
 ghost use Rattle.volume_def.specs.AttributesClause.{IsRightPart, MeetsAttributes};
 ghost use Rattle.volume_def.specs.FileNames.{names_among};
-ghost use Rattle.volume_def.specs.Files.{Records, file_of, part_of, record_of};
+ghost use Rattle.volume_def.specs.Files.{Records, file_of, part_of, record_of, records_of};
+ghost use Rattle.volume_def.specs.View.{VolumeView};
 ghost use Rattle.attr_view.specs.View.{attribute_of, viewed_block};
+ghost use Rattle.volume_facts.specs.declared.names.Names.{Names};
+ghost use Rattle.volume_facts.specs.Heads.{EndsAtCount};
 ghost use Rattle.volume_facts.specs.Names.{NamesNote, held_name, told_name};
 
 use attr_view::{AttrView, RecordView};
@@ -94,3 +97,11 @@ impl Names {
         Ok(())
     }
 }
+
+/// Laws with nothing to run. A record that is not in use holds no name, so that it needs no note (`unused`). In a volume no
+/// record past the last one is in use (`ends`).
+pub fn note_laws()
+    ensures unused { (records : Records) (n : ℕ) (names : Names) → records.record_at n ≡ None → NamesNote records n names
+        → NamesNote records (n + 1) names }
+    ensures ends { (view : VolumeView) → EndsAtCount (records_of view) }
+{}
