@@ -1,0 +1,52 @@
+-- The least failing number, as a pass finds it.
+use Rattle.std.proofs.Common.{◌≡◌, ℕ, ◌+◌, ◌<◌, ◌≤◌, min, Option, Some, None, inl, inr, subst, arith}
+use Rattle.std.proofs.lemmas.Bool.{cases_lt}
+use Rattle.volume_facts.specs.Least.{IsLeastFailing, IsLeastBelow}
+
+abbrev pub lower_of : Option ℕ → ℕ → ℕ
+lower_of None c = c
+lower_of (Some l) c = min l c
+
+-- two facts that say the same fail first at one number
+pub least-same : (P Q : ℕ → Type 0) (o : Option ℕ) → ((n : ℕ) → P n → Q n) → ((n : ℕ) → Q n → P n) → IsLeastFailing P o → IsLeastFailing Q o
+least-same P Q None to from all = λ n. to n (all n)
+least-same P Q (Some l) to from (bad, below) = (λ q. bad (from l q), λ m h. to m (below m h))
+
+-- one number more fails
+pub least-lower : (P Q : ℕ → Type 0) (o : Option ℕ) (c : ℕ) → ((n : ℕ) → Q n → P n) → ((n : ℕ) → n < c → P n → Q n) → ¬ (Q c) → IsLeastFailing P o → IsLeastFailing Q (Some (lower_of o c))
+least-lower P Q None c from keep bad all = (bad, λ m h. keep m h (all m))
+least-lower P Q (Some l) c from keep bad (worse, below) = elim (cases_lt l c) [
+  | inl lt ↦ let e : l ≡ min l c = omega arith in
+      subst (λ n. ¬ (Q n) × ((m : ℕ) → m < n → Q m)) e (λ q. worse (from l q), λ m h. keep m (omega arith) (below m h))
+  | inr ge ↦ let e : c ≡ min l c = omega arith in
+      subst (λ n. ¬ (Q n) × ((m : ℕ) → m < n → Q m)) e (bad, λ m h. keep m h (below m (omega arith)))
+]
+
+-- a pass that has come to the end has found the answer, where nothing fails from there on
+pub least-whole : (P : ℕ → Type 0) (end : ℕ) (o : Option ℕ) → ((n : ℕ) → end ≤ n → P n) → IsLeastBelow P end o → IsLeastFailing P o
+least-whole P end None past below = λ n. elim (cases_lt n end) [ inl lt ↦ below n lt | inr ge ↦ past n ge ]
+least-whole P end (Some l) past (h, bad, below) = (bad, below)
+
+-- one number more holds
+pub below-next : (P : ℕ → Type 0) (end : ℕ) (o : Option ℕ) → P end → IsLeastBelow P end o → IsLeastBelow P (end + 1) o
+below-next P end None here below = λ n h. elim (cases_lt n end) [ inl lt ↦ below n lt | inr ge ↦ let e : end ≡ n = omega arith in subst P e here ]
+below-next P end (Some l) here (h, bad, below) = (omega arith, bad, below)
+
+-- one number more fails: the first stays the first
+abbrev pub first_of : Option ℕ → ℕ → ℕ
+first_of None n = n
+first_of (Some l) n = l
+
+pub below-fails : (P : ℕ → Type 0) (end : ℕ) (o : Option ℕ) → ¬ (P end) → IsLeastBelow P end o → IsLeastBelow P (end + 1) (Some (first_of o end))
+below-fails P end None bad below = (omega arith, bad, below)
+below-fails P end (Some l) bad (h, worse, below) = (omega arith, worse, below)
+
+-- two least numbers of two facts give that of both
+pub least-both : (P Q : ℕ → Type 0) (c : ℕ) (o : Option ℕ) → ¬ (P c) → ((n : ℕ) → n < c → P n) → IsLeastFailing Q o → IsLeastFailing (λ n. P n × Q n) (Some (lower_of o c))
+least-both P Q c None bad before all = (λ p. bad p.0, λ m h. (before m h, all m))
+least-both P Q c (Some l) bad before (worse, below) = elim (cases_lt l c) [
+  | inl lt ↦ let e : l ≡ min l c = omega arith in
+      subst (λ n. ¬ (P n × Q n) × ((m : ℕ) → m < n → P m × Q m)) e (λ p. worse p.1, λ m h. (before m (omega arith), below m h))
+  | inr ge ↦ let e : c ≡ min l c = omega arith in
+      subst (λ n. ¬ (P n × Q n) × ((m : ℕ) → m < n → P m × Q m)) e (λ p. bad p.0, λ m h. (before m h, below m (omega arith)))
+]

@@ -1,0 +1,14 @@
+pub mod FilingLaws
+pub mod HeadLaws
+pub mod KeyLaws
+pub mod LeastFiling
+pub mod LeastLaws
+pub mod LinkLaws
+pub mod MarkLaws
+pub mod NameLaws
+pub mod PairLaws
+pub mod ReachLaws
+pub mod ReferenceLaws
+pub mod TallyLaws
+pub mod WalkLaws
+pub mod WayLaws
