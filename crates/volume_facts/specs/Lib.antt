@@ -1,1 +1,5 @@
 pub mod Least
+pub mod BitRanges
+pub mod Owners
+pub mod Bitmaps
+pub mod Used
