@@ -16,10 +16,10 @@ use Rattle.volume_def.specs.View.{VolumeView}
 use Rattle.volume_facts.specs.declared.owners.Owners.{Owners}
 use Rattle.volume_facts.specs.declared.used.Used.{Used}
 use Rattle.volume_facts.specs.BitRanges.{IsLeastWithin, IsPieceOf}
-use Rattle.volume_facts.specs.Bitmaps.{HasClusterBytes, NotesAllOwners}
+use Rattle.volume_facts.specs.Bitmaps.{HasClusterBytes, AllOwnersNote}
 use Rattle.volume_facts.specs.Least.{IsLeastFailing}
 use Rattle.volume_facts.specs.Owners.{clusters_noted, noted_end, owners_allowed, runs_below}
-use Rattle.volume_facts.specs.Used.{NotesAllUsed, records_noted}
+use Rattle.volume_facts.specs.Used.{AllUsedNote, records_noted}
 use Rattle.volume_facts.proofs.OwnersLaws.{meets-allowed}
 use Rattle.volume_facts.proofs.RecordsLaws.{runs_below-all}
 
@@ -46,7 +46,7 @@ same-bits a i b j left right =
     ]
 
 -- where the clause on owners holds, no cluster is bad, and a bit tells of each
-none-bad : (view : VolumeView) (owners : Owners) (least : Option ℕ) → owners.owned.least ≡ least → NotesAllOwners view owners
+none-bad : (view : VolumeView) (owners : Owners) (least : Option ℕ) → owners.owned.least ≡ least → AllOwnersNote view owners
     → noted_end (clusters_noted owners) owners.owned.least ≡ clusters_noted owners
 none-bad view owners None e notes = ap (noted_end (clusters_noted owners)) e
 none-bad view owners (Some l) e notes =
@@ -56,7 +56,7 @@ none-bad view owners (Some l) e notes =
     let same = ap (λ n. owners_allowed n l) notes.clusters in
     absurd (bad.0 (omega arith))
 
-pub own-bit : (view : VolumeView) (owners : Owners) (c : ℕ) → NotesAllOwners view owners → c < clusters_noted owners
+pub own-bit : (view : VolumeView) (owners : Owners) (c : ℕ) → AllOwnersNote view owners → c < clusters_noted owners
     → (bit_in owners.owned.bits.items c ≡ 1) ↔ (1 ≤ times_owned (records_of view) c)
 own-bit view owners c notes h =
     let end = none-bad view owners owners.owned.least refl notes in
@@ -65,7 +65,7 @@ own-bit view owners c notes h =
     (λ one. omega arith, λ some. omega arith)
 
 -- the clause at a cluster whose bit is the noted one, and at one whose bit differs
-pub bits-meet : (view : VolumeView) (owners : Owners) (written : ℕ) (piece : List ℕ) (from c : ℕ) → NotesAllOwners view owners
+pub bits-meet : (view : VolumeView) (owners : Owners) (written : ℕ) (piece : List ℕ) (from c : ℕ) → AllOwnersNote view owners
     → HasClusterBytes view written → from + length piece ≤ written → IsPieceOf (value_on view (cluster_bits view)) from piece
     → 8 * from ≤ c → c < 8 * (from + length piece)
     → (c < clusters_noted owners → bit_in piece (c - 8 * from) ≡ bit_in owners.owned.bits.items c) → MeetsClusterBits view c
@@ -81,7 +81,7 @@ bits-meet view owners written piece from c notes has fits is low high same = rec
       (λ one. own.0 (sym stored ∙ one), λ some. stored ∙ own.1 some);
 }
 
-pub bits-differ : (view : VolumeView) (owners : Owners) (piece : List ℕ) (from c : ℕ) → NotesAllOwners view owners
+pub bits-differ : (view : VolumeView) (owners : Owners) (piece : List ℕ) (from c : ℕ) → AllOwnersNote view owners
     → IsPieceOf (value_on view (cluster_bits view)) from piece → 8 * from ≤ c → c < 8 * (from + length piece) → c < clusters_noted owners
     → MeetsClusterBits view c → bit_in piece (c - 8 * from) ≡ bit_in owners.owned.bits.items c
 bits-differ view owners piece from c notes is low high inside meets =
@@ -90,12 +90,12 @@ bits-differ view owners piece from c notes is low high inside meets =
 
 -- The same of the records: from the first ordinary one on.
 
-pub use-bit : (view : VolumeView) (used : Used) (n : ℕ) → NotesAllUsed view used → n < records_noted used
+pub use-bit : (view : VolumeView) (used : Used) (n : ℕ) → AllUsedNote view used → n < records_noted used
     → (bit_in used.bits.items n ≡ 1) ↔ IsSome (record_on view n)
 use-bit view used n notes h = notes.noted.bit n (omega (arith, notes.count))
 
 -- the clause at a record whose bit is the noted one, or that is the system's own
-pub records-meet : (view : VolumeView) (used : Used) (piece : List ℕ) (from n : ℕ) → NotesAllUsed view used → HasRecordBits view
+pub records-meet : (view : VolumeView) (used : Used) (piece : List ℕ) (from n : ℕ) → AllUsedNote view used → HasRecordBits view
     → IsPieceOf (value_on view (record_bits view)) from piece → 8 * from ≤ n → n < 8 * (from + length piece)
     → (FIRST_ORDINARY ≤ n → n < records_noted used → bit_in piece (n - 8 * from) ≡ bit_in used.bits.items n) → MeetsRecordBits view n
 records-meet view used piece from n notes has is low high same = record {
@@ -107,7 +107,7 @@ records-meet view used piece from n notes has is low high same = record {
       (λ one. own.0 (sym stored ∙ one), λ some. stored ∙ own.1 some);
 }
 
-pub records-differ : (view : VolumeView) (used : Used) (piece : List ℕ) (from n : ℕ) → NotesAllUsed view used
+pub records-differ : (view : VolumeView) (used : Used) (piece : List ℕ) (from n : ℕ) → AllUsedNote view used
     → IsPieceOf (value_on view (record_bits view)) from piece → 8 * from ≤ n → n < 8 * (from + length piece) → FIRST_ORDINARY ≤ n
     → n < records_noted used → MeetsRecordBits view n → bit_in piece (n - 8 * from) ≡ bit_in used.bits.items n
 records-differ view used piece from n notes is low high ordinary inside meets =

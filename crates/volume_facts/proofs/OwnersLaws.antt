@@ -9,7 +9,7 @@ use Rattle.volume_def.specs.Coverage.{times_covered}
 use Rattle.volume_def.specs.Files.{Records}
 use Rattle.volume_def.specs.OwnersClause.{MeetsOwners, boot_runs, times_owned}
 use Rattle.volume_facts.specs.declared.owners.Owners.{Owners}
-use Rattle.volume_facts.specs.Owners.{CountsOwners, NotesOwners, clusters_noted, inside, noted_end, owners_allowed, runs_below}
+use Rattle.volume_facts.specs.Owners.{CountsOwners, OwnersNote, clusters_noted, inside, noted_end, owners_allowed, runs_below}
 use Rattle.volume_facts.proofs.LeastLaws.{least-lower, least-same, lower_of}
 use Rattle.volume_facts.proofs.RecordsLaws.{boot_runs_below-all, runs_below-all}
 
@@ -225,7 +225,7 @@ allowed-meets records clusters n boot allowed = record {
   once = let o = at_most_one clusters n in omega arith;
 }
 
-pub owners-met : (records : Records) (owners : Owners) → IsTrue owners.boot → NotesOwners records records.count owners
+pub owners-met : (records : Records) (owners : Owners) → IsTrue owners.boot → OwnersNote records records.count owners
     → IsLeastFailing (MeetsOwners records (clusters_noted owners)) owners.owned.least
 owners-met records owners owns notes =
     let clusters = clusters_noted owners in

@@ -6,13 +6,13 @@ use Rattle.volume_def.specs.Files.{Records, records_of}
 use Rattle.volume_def.specs.OwnersClause.{MeetsOwners}
 use Rattle.volume_def.specs.Values.{value_on}
 use Rattle.volume_def.specs.View.{VolumeView}
-use Rattle.volume_facts.specs.Owners.{NotesOwners, clusters_noted}
+use Rattle.volume_facts.specs.Owners.{OwnersNote, clusters_noted}
 use Rattle.volume_facts.specs.declared.owners.Owners.{Owners}
 
 -- The owners of all records of a volume are noted, and it meets the clause on them.
-pub record NotesAllOwners (view : VolumeView) (owners : Owners) : Type 0 where
+pub record AllOwnersNote (view : VolumeView) (owners : Owners) : Type 0 where
   pub clusters : clusters_noted owners ≡ view.layout.clusters
-  pub noted : NotesOwners (records_of view) view.layout.count owners
+  pub noted : OwnersNote (records_of view) view.layout.count owners
   pub meets : (n : ℕ) → MeetsOwners (records_of view) view.layout.clusters n
 
 -- What a caller finds before it compares: the bitmap of clusters is not packed and has no hole (otherwise cluster 0 breaks

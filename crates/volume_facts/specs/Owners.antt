@@ -33,12 +33,12 @@ pub record CountsOwners (times : ℕ → ℕ) (clusters : ℕ) (bits : List ℕ)
   pub bit : (c : ℕ) → c < noted_end clusters least → bit_in bits c ≡ min 1 (times c)
   pub bad : IsLeastFailing (λ c. times c ≤ owners_allowed clusters c) least
 
-abbrev pub NotesCounts : (ℕ → ℕ) → OwnedClusters → Type 0
-NotesCounts times owned = CountsOwners times owned.clusters owned.bits.items owned.least
+abbrev pub CountsNote : (ℕ → ℕ) → OwnedClusters → Type 0
+CountsNote times owned = CountsOwners times owned.clusters owned.bits.items owned.least
 
 -- the clusters of these runs are owned
-abbrev pub NotesRuns : List Run → OwnedClusters → Type 0
-NotesRuns runs owned = NotesCounts (times_covered runs) owned
+abbrev pub RunsNote : List Run → OwnedClusters → Type 0
+RunsNote runs owned = CountsNote (times_covered runs) owned
 
 -- the runs that a text means, none where it is no run list
 abbrev pub runs_of_text : List ℕ → List Run
@@ -64,8 +64,8 @@ abbrev pub clusters_noted : Owners → ℕ
 clusters_noted owners = owners.owned.clusters
 
 -- The owners that the records below n give are noted.
-pub record NotesOwners (records : Records) (n : ℕ) (owners : Owners) : Type 0 where
-  pub owned : NotesRuns (runs_below records n) owners.owned
+pub record OwnersNote (records : Records) (n : ℕ) (owners : Owners) : Type 0 where
+  pub owned : RunsNote (runs_below records n) owners.owned
   pub boot : IsTrue owners.boot ↔ (1 ≤ times_covered (boot_runs_below records n) 0)
 
 -- the runs of an attribute that is the unnamed $DATA of its file, and none of another

@@ -10,11 +10,11 @@ abbrev pub records_noted : Used → ℕ
 records_noted used = used.count
 
 -- It is noted which of the records below n are in use.
-pub record NotesUsed (records : Records) (n : ℕ) (used : Used) : Type 0 where
+pub record UsedNote (records : Records) (n : ℕ) (used : Used) : Type 0 where
   pub bit : (k : ℕ) → k < n → (bit_in used.bits.items k ≡ 1) ↔ IsSome (records.record_at k)
   pub clear : (k : ℕ) → n ≤ k → bit_in used.bits.items k ≡ 0
 
 -- .. and of all records of a volume
-pub record NotesAllUsed (view : VolumeView) (used : Used) : Type 0 where
+pub record AllUsedNote (view : VolumeView) (used : Used) : Type 0 where
   pub count : records_noted used ≡ view.layout.count
-  pub noted : NotesUsed (records_of view) view.layout.count used
+  pub noted : UsedNote (records_of view) view.layout.count used

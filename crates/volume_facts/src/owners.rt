@@ -4,6 +4,8 @@ ghost use Rattle.std.specs.Prelude.{◌≤◌, ◌*◌, ◌^◌, length};
 mod bitmap;
 mod clusters;
 mod note;
+#[cfg(test)]
+mod tests;
 
 pub use note::owners_laws;
 

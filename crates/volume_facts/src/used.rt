@@ -2,6 +2,8 @@
 ghost use Rattle.std.specs.Prelude.{◌≤◌, ◌*◌, ◌^◌, length};
 
 mod bitmap;
+#[cfg(test)]
+mod tests;
 
 pub use bitmap::used_laws;
 

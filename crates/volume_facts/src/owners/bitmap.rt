@@ -4,7 +4,7 @@ ghost use Rattle.volume_def.specs.BitmapClauses.{MeetsClusterBits, cluster_bits}
 ghost use Rattle.volume_def.specs.Values.{value_on};
 ghost use Rattle.volume_def.specs.View.{VolumeView};
 ghost use Rattle.volume_facts.specs.BitRanges.{IsPieceOf};
-ghost use Rattle.volume_facts.specs.Bitmaps.{HasClusterBytes, NotesAllOwners, cluster_bytes_needed};
+ghost use Rattle.volume_facts.specs.Bitmaps.{HasClusterBytes, AllOwnersNote, cluster_bytes_needed};
 ghost use Rattle.volume_facts.specs.Least.{IsLeastBelow, IsLeastFailing};
 ghost use Rattle.volume_facts.specs.Owners.{clusters_noted};
 
@@ -22,7 +22,7 @@ impl Owners {
     /// The first cluster whose bit differs from whether it is owned, in a piece of the stored bitmap that begins with byte
     /// `from`, where the bits of those before it are right. The volume meets the clause on owners.
     pub fn first_wrong_bit(&self, piece: &[u8], from: usize) -> Option<u64>
-        ensures { (view : VolumeView) (written : ℕ) → NotesAllOwners view self.now → HasClusterBytes view written
+        ensures { (view : VolumeView) (written : ℕ) → AllOwnersNote view self.now → HasClusterBytes view written
             → from + length piece.now ≤ written → IsPieceOf (value_on view (cluster_bits view)) from piece.now
             → IsLeastBelow (MeetsClusterBits view) (8 * from) None
             → IsLeastBelow (MeetsClusterBits view) (8 * (from + length piece.now)) result }

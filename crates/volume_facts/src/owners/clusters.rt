@@ -4,7 +4,7 @@ ghost use Rattle.ntfs_def.specs.Runs.{EndsInReach, IsRunList};
 ghost use Rattle.attr_view.specs.Left.{attributes_left};
 ghost use Rattle.attr_view.specs.View.{attribute_of, attributes_of};
 ghost use Rattle.ntfs_def.specs.declared.run_text.Run.{Run};
-ghost use Rattle.volume_facts.specs.Owners.{NotesCounts, NotesRuns, attribute_runs, inside, noted_end, runs_of_text};
+ghost use Rattle.volume_facts.specs.Owners.{CountsNote, RunsNote, attribute_runs, inside, noted_end, runs_of_text};
 
 use crate::bits::fill;
 use crate::owners::OwnedClusters;
@@ -16,7 +16,7 @@ impl OwnedClusters {
     /// No cluster of so many is owned.
     pub fn new(alloc: Global, clusters: u64) -> Result<OwnedClusters, AllocError>
         requires { clusters ≤ 2 ^ 26 }
-        ensures none { IfOk result (λ owned. NotesRuns [] owned) }
+        ensures none { IfOk result (λ owned. RunsNote [] owned) }
         ensures clusters { IfOk result (λ owned. owned.clusters ≡ clusters) }
     {
         let bits = vec![in alloc; 0u8; (clusters / 8 + 1) as usize]?;
@@ -42,7 +42,7 @@ impl OwnedClusters {
     fn note_inside(&mut self, from: u64, end: u64)
         requires end { end ≤ self.old.clusters }
         ensures clusters { self.new.clusters ≡ self.old.clusters }
-        ensures noted { (times : ℕ → ℕ) → NotesCounts times self.old → NotesCounts (λ k. times k + inside from end k) self.new }
+        ensures noted { (times : ℕ → ℕ) → CountsNote times self.old → CountsNote (λ k. times k + inside from end k) self.new }
     {
         let end = end.min(self.noted_end());
         let found = fill(&mut self.bits, from, end);
@@ -52,8 +52,8 @@ impl OwnedClusters {
     // And of those that it does not have.
     fn note_past(&mut self, from: u64, end: u64)
         ensures clusters { self.new.clusters ≡ self.old.clusters }
-        ensures noted { (times : ℕ → ℕ) → NotesCounts (λ k. times k + inside from (min end self.old.clusters) k) self.old
-            → NotesCounts (λ k. times k + inside from end k) self.new }
+        ensures noted { (times : ℕ → ℕ) → CountsNote (λ k. times k + inside from (min end self.old.clusters) k) self.old
+            → CountsNote (λ k. times k + inside from end k) self.new }
     {
         if from < end && end > self.clusters {
             let first = from.max(self.clusters);
@@ -65,7 +65,7 @@ impl OwnedClusters {
     fn note_run(&mut self, run: &Run)
         requires { EndsInReach run.now.len run.now.lcn }
         ensures clusters { self.new.clusters ≡ self.old.clusters }
-        ensures noted { (runs : List Run) → NotesRuns runs self.old → NotesRuns (runs ++ run.now ∷ []) self.new }
+        ensures noted { (runs : List Run) → RunsNote runs self.old → RunsNote (runs ++ run.now ∷ []) self.new }
     {
         let Some(lcn) = run.lcn else {
             return;
@@ -79,7 +79,7 @@ impl OwnedClusters {
     fn note_runs(&mut self, list: &[Run])
         requires { IsRunList list.now }
         ensures clusters { self.new.clusters ≡ self.old.clusters }
-        ensures noted { (runs : List Run) → NotesRuns runs self.old → NotesRuns (runs ++ list.now) self.new }
+        ensures noted { (runs : List Run) → RunsNote runs self.old → RunsNote (runs ++ list.now) self.new }
     {
         for run in list {
             self.note_run(run);
@@ -89,7 +89,7 @@ impl OwnedClusters {
     // One more owner of the clusters that a run text means.
     fn note_text(&mut self, alloc: Global, text: &[u8]) -> Result<(), AllocError>
         ensures clusters { self.new.clusters ≡ self.old.clusters }
-        ensures noted { OnOk result ((runs : List Run) → NotesRuns runs self.old → NotesRuns (runs ++ runs_of_text text.now) self.new) }
+        ensures noted { OnOk result ((runs : List Run) → RunsNote runs self.old → RunsNote (runs ++ runs_of_text text.now) self.new) }
     {
         let Some(list) = read_runs(alloc, text)? else {
             return Ok(());
@@ -101,8 +101,8 @@ impl OwnedClusters {
     // One more owner of the clusters of an attribute.
     fn note_attribute(&mut self, alloc: Global, attribute: &AttrView<'_>) -> Result<(), AllocError>
         ensures clusters { self.new.clusters ≡ self.old.clusters }
-        ensures noted { OnOk result ((runs : List Run) → NotesRuns runs self.old
-            → NotesRuns (runs ++ attribute_runs (attribute_of attribute.now)) self.new) }
+        ensures noted { OnOk result ((runs : List Run) → RunsNote runs self.old
+            → RunsNote (runs ++ attribute_runs (attribute_of attribute.now)) self.new) }
     {
         let Some(text) = attribute.runs() else {
             return Ok(());
@@ -114,8 +114,8 @@ impl OwnedClusters {
     /// One more owner of the clusters of all attributes of a record.
     pub fn note_record(&mut self, alloc: Global, view: &RecordView<'_>) -> Result<(), AllocError>
         ensures clusters { self.new.clusters ≡ self.old.clusters }
-        ensures noted { OnOk result ((runs : List Run) → NotesRuns runs self.old
-            → NotesRuns (runs ++ flat_map attribute_runs (attributes_of view.now)) self.new) }
+        ensures noted { OnOk result ((runs : List Run) → RunsNote runs self.old
+            → RunsNote (runs ++ flat_map attribute_runs (attributes_of view.now)) self.new) }
     {
         for attribute in view.attributes() {
             self.note_attribute(alloc, &attribute)?;

@@ -8,7 +8,7 @@ ghost use Rattle.volume_def.specs.Files.{Records, file_of, record_of};
 ghost use Rattle.volume_def.specs.OwnersClause.{MeetsOwners};
 ghost use Rattle.volume_facts.specs.Least.{IsLeastFailing};
 ghost use Rattle.volume_facts.specs.declared.owners.Owners.{Owners as NotedOwners};
-ghost use Rattle.volume_facts.specs.Owners.{NotesOwners, attribute_runs, clusters_noted, unnamed_data_runs};
+ghost use Rattle.volume_facts.specs.Owners.{OwnersNote, attribute_runs, clusters_noted, unnamed_data_runs};
 
 use crate::owners::{OwnedClusters, Owners};
 use attr_view::{AttrView, RecordView};
@@ -80,7 +80,7 @@ impl Owners {
     /// There was no memory for a bit for each cluster.
     pub fn new(alloc: Global, clusters: u64) -> Result<Owners, AllocError>
         requires { clusters ≤ 2 ^ 26 }
-        ensures none { IfOk result (λ owners. (records : Records) → NotesOwners records 0 owners) }
+        ensures none { IfOk result (λ owners. (records : Records) → OwnersNote records 0 owners) }
         ensures clusters { IfOk result (λ owners. clusters_noted owners ≡ clusters) }
     {
         let owned = OwnedClusters::new(alloc, clusters)?;
@@ -100,7 +100,7 @@ impl Owners {
     ) -> Result<(), AllocError>
         ensures clusters { clusters_noted self.new ≡ clusters_noted self.old }
         ensures noted { OnOk result ((records : Records) (n : ℕ) → records.record_at n ≡ Some (record_of n (viewed_block view.now))
-            → file_of n (record_of n (viewed_block view.now)) ≡ file → NotesOwners records n self.old → NotesOwners records (n + 1) self.new) }
+            → file_of n (record_of n (viewed_block view.now)) ≡ file → OwnersNote records n self.old → OwnersNote records (n + 1) self.new) }
     {
         self.owned.note_record(alloc, view)?;
         if file != BOOT {
@@ -113,7 +113,7 @@ impl Owners {
 
     /// The least cluster that breaks the clause on owners, S7.
     pub fn first_badly_owned(&self) -> Option<u64>
-        ensures { (records : Records) → NotesOwners records records.count self.now
+        ensures { (records : Records) → OwnersNote records records.count self.now
             → IsLeastFailing (MeetsOwners records (clusters_noted self.now)) result }
     {
         if !self.boot {
@@ -126,5 +126,5 @@ impl Owners {
 /// What is noted stays so where the next record is not in use.
 pub fn owners_laws()
     ensures unused { (records : Records) (n : ℕ) (owners : NotedOwners) → records.record_at n ≡ None
-        → NotesOwners records n owners → NotesOwners records (n + 1) owners }
+        → OwnersNote records n owners → OwnersNote records (n + 1) owners }
 {}

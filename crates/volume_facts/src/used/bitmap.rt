@@ -8,7 +8,7 @@ ghost use Rattle.volume_def.specs.Values.{value_on};
 ghost use Rattle.volume_def.specs.View.{VolumeView};
 ghost use Rattle.volume_facts.specs.BitRanges.{IsLeastWithin, IsPieceOf};
 ghost use Rattle.volume_facts.specs.Least.{IsLeastBelow, IsLeastFailing};
-ghost use Rattle.volume_facts.specs.Used.{NotesAllUsed, NotesUsed, records_noted};
+ghost use Rattle.volume_facts.specs.Used.{AllUsedNote, UsedNote, records_noted};
 ghost use Rattle.volume_facts.specs.declared.used.Used.{Used as NotedUse};
 
 use crate::bits::{first_difference, set_bit};
@@ -36,7 +36,7 @@ impl Used {
     /// There was no memory for a bit for each record.
     pub fn new(alloc: Global, count: u64) -> Result<Used, AllocError>
         requires { count ≤ 2 ^ 22 }
-        ensures none { IfOk result (λ used. (records : Records) → NotesUsed records 0 used) }
+        ensures none { IfOk result (λ used. (records : Records) → UsedNote records 0 used) }
         ensures count { IfOk result (λ used. records_noted used ≡ count) }
     {
         let bits = vec![in alloc; 0u8; (count / 8 + 1) as usize]?;
@@ -48,16 +48,24 @@ impl Used {
         requires { n < records_noted self.old }
         ensures count { records_noted self.new ≡ records_noted self.old }
         ensures noted { (records : Records) (here : Record) → records.record_at n ≡ Some here
-            → NotesUsed records n self.old → NotesUsed records (n + 1) self.new }
+            → UsedNote records n self.old → UsedNote records (n + 1) self.new }
     {
         set_bit(&mut self.bits, n);
+    }
+
+    /// The bytes of a bitmap with a bit for each record: those to be compared.
+    pub fn bitmap_len(&self) -> u64
+        ensures whole { records_noted self.now ≤ 8 * result }
+        ensures few { 8 * result < records_noted self.now + 8 }
+    {
+        self.count.div_ceil(8)
     }
 
     /// The first record whose bit differs from whether it is in use, in a piece of the stored bitmap that begins with byte
     /// `from`, where the bits of those before it are right. Where the bitmap ends the piece goes on with zeros. The bits of the
     /// first 24 records, which are the system's own, are not looked at.
     pub fn first_wrong_bit(&self, piece: &[u8], from: usize) -> Option<u64>
-        ensures { (view : VolumeView) → NotesAllUsed view self.now → HasRecordBits view
+        ensures { (view : VolumeView) → AllUsedNote view self.now → HasRecordBits view
             → IsPieceOf (value_on view (record_bits view)) from piece.now
             → IsLeastBelow (MeetsRecordBits view) (8 * from) None
             → IsLeastBelow (MeetsRecordBits view) (8 * (from + length piece.now)) result }
@@ -76,7 +84,7 @@ impl Used {
 /// bits of all records.
 pub fn used_laws()
     ensures unused { (records : Records) (n : ℕ) (used : NotedUse) → records.record_at n ≡ None
-        → NotesUsed records n used → NotesUsed records (n + 1) used }
+        → UsedNote records n used → UsedNote records (n + 1) used }
     ensures end { (view : VolumeView) (end : ℕ) → HasRecordBits view → view.layout.count ≤ end
         → IsLeastBelow (MeetsRecordBits view) end None → IsLeastFailing (MeetsRecordBits view) None }
 {}

@@ -2,7 +2,7 @@ use Rattle.std.proofs.Common.{◌++◌, ◌∙◌, ap, sym, subst, append_assoc}
 use Rattle.std.specs.Prelude.{flat_map}
 use Rattle.std.proofs.lemmas.List.{append-nil}
 use Rattle.attr_view.specs.View.{attribute_of}
-use Rattle.volume_facts.specs.Owners.{NotesRuns, attribute_runs}
+use Rattle.volume_facts.specs.Owners.{RunsNote, attribute_runs}
 use Rattle.volume_facts.proofs.owners.OwnedClusters.note_record.Goals as goal
 
 pub loop-attribute-preserved : goal.loop-attribute-preserved
@@ -20,5 +20,5 @@ loop-attribute-preserved c = record {
 pub returns-clause-noted : goal.returns-clause-noted
 returns-clause-noted c = λ runs notes.
     let before = c.loop-attribute.invariant.noted runs notes in
-    subst (λ xs. NotesRuns xs c.loop-attribute.self)
+    subst (λ xs. RunsNote xs c.loop-attribute.self)
     (sym (append-nil before.0) ∙ ap (λ xs. before.0 ++ flat_map attribute_runs xs) (sym c.in-None.ensures.steps.0) ∙ before.2) before.1
