@@ -3,12 +3,17 @@ pub mod HeadLaws
 pub mod KeyLaws
 pub mod LeastFiling
 pub mod LeastLaws
+pub mod BitLaws
+pub mod BitmapLaws
 pub mod LinkLaws
 pub mod MarkLaws
 pub mod NameLaws
+pub mod OwnersLaws
 pub mod PairLaws
 pub mod ReachLaws
+pub mod RecordsLaws
 pub mod ReferenceLaws
+pub mod RunsLaws
 pub mod TallyLaws
 pub mod WalkLaws
 pub mod WayLaws

@@ -1,8 +1,12 @@
 pub mod Heads
 pub mod Least
+pub mod BitRanges
+pub mod Bitmaps
 pub mod Links
 pub mod Marks
 pub mod Names
+pub mod Owners
 pub mod Pairs
 pub mod References
 pub mod Tallies
+pub mod Used

@@ -2,16 +2,21 @@
 //! from these notes. Nothing here reads a disk.
 #![tactic(auto)]
 
+mod bits;
 mod climb;
 mod heads;
 mod links;
 mod marks;
 mod names;
+mod owners;
 mod pairs;
 mod references;
 mod tallies;
+mod used;
 
 pub use heads::{Head, Heads};
 pub use links::first_wrong_link;
 pub use names::{NameFact, Names, note_laws};
 pub use references::first_wrong_reference;
+pub use owners::{Owners, owners_laws};
+pub use used::{Used, used_laws};
