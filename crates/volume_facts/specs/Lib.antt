@@ -1,2 +1,4 @@
 pub mod Least
 pub mod Attributes
+pub mod Extents
+pub mod Groups

@@ -3,5 +3,9 @@
 #![tactic(auto)]
 
 mod attributes;
+mod extents;
+mod whole;
 
 pub use attributes::is_right_record;
+pub use extents::{Extent, Held, extents_of};
+pub use whole::{are_whole, has_whole_extents};
