@@ -1,7 +1,10 @@
 pub mod Heads
 pub mod Least
+pub mod Attributes
 pub mod BitRanges
 pub mod Bitmaps
+pub mod Extents
+pub mod Groups
 pub mod Links
 pub mod Marks
 pub mod Names

@@ -2,8 +2,10 @@
 //! from these notes. Nothing here reads a disk.
 #![tactic(auto)]
 
+mod attributes;
 mod bits;
 mod climb;
+mod extents;
 mod heads;
 mod links;
 mod marks;
@@ -13,6 +15,7 @@ mod pairs;
 mod references;
 mod tallies;
 mod used;
+mod whole;
 
 pub use heads::{Head, Heads};
 pub use links::first_wrong_link;
@@ -20,3 +23,6 @@ pub use names::{NameFact, Names, note_laws};
 pub use references::first_wrong_reference;
 pub use owners::{Owners, owners_laws};
 pub use used::{Used, used_laws};
+pub use attributes::is_right_record;
+pub use extents::{Extent, Held, extents_of};
+pub use whole::{are_whole, has_whole_extents};
