@@ -11,6 +11,7 @@ use thiserror::Error;
 mod attribute;
 mod edit;
 mod find;
+mod header;
 mod iter;
 mod laws;
 mod record;

@@ -6,3 +6,4 @@ pub mod Mounted
 pub mod Mft
 pub mod MftNos
 pub mod Streams
+pub mod MountNos
