@@ -1,1 +1,4 @@
 pub mod LeastLaws
+pub mod SpreadLaws
+pub mod SortedLaws
+pub mod EntryLaws

@@ -1,1 +1,4 @@
 pub mod Least
+pub mod Spread
+pub mod Lists
+pub mod Facts

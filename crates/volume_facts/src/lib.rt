@@ -1,3 +1,11 @@
 //! What one pass over the table of records notes of a volume, and the clauses of the volume definition that are decided
 //! from these notes. Nothing here reads a disk.
 #![tactic(auto)]
+
+mod facts;
+mod lists;
+mod spread;
+
+pub use facts::Facts;
+pub use lists::names_each;
+pub use spread::{Extension, SpreadFiles};
