@@ -1,4 +1,5 @@
 pub mod LeastLaws
+pub mod AttributesLaws
 pub mod SpreadLaws
 pub mod SortedLaws
 pub mod EntryLaws

@@ -2,10 +2,12 @@
 //! from these notes. Nothing here reads a disk.
 #![tactic(auto)]
 
+mod attributes;
 mod facts;
 mod lists;
 mod spread;
 
+pub use attributes::is_right_record;
 pub use facts::Facts;
 pub use lists::names_each;
 pub use spread::{Extension, SpreadFiles};
