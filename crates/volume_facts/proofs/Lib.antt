@@ -3,3 +3,4 @@ pub mod AttributesLaws
 pub mod SpreadLaws
 pub mod SortedLaws
 pub mod EntryLaws
+pub mod FactsLaws
