@@ -13,6 +13,12 @@ use Rattle.volume_def.specs.View.{VolumeView}
 use Rattle.mft_table.specs.declared.mounted.Mounted.{Mounted}
 use Rattle.mft_table.specs.Mounted.{mounted_layout}
 
+-- A disk of these contents meets S1 and S2, and these are the geometry and the table of records.
+pub record HasTable (image : List ℕ) (mounted : Mounted) : Type 0 where
+  pub boot : image_boot_failing image ≡ None
+  pub geometry : mounted.geometry ≡ geometry_of (boot_sector image)
+  pub clause : MeetsTable (sector_in (Some image)) (boot_sector image) (mounted_layout mounted)
+
 -- The bits and the table of case are those that the volume stores. A bit past the end of its bitmap is clear.
 pub record HoldsValues (view : VolumeView) (mounted : Mounted) : Type 0 where
   pub clusters : mounted.clusters ≡ flags_in (value_on view (cluster_bits view)) view.layout.clusters
@@ -25,8 +31,6 @@ volume_in image mounted = told_view (sector_in (Some image)) (mounted_layout mou
 
 -- A disk of these contents meets S1 to S11 and S13, and these are its tables.
 pub record HoldsTables (image : List ℕ) (mounted : Mounted) : Type 0 where
-  pub boot : image_boot_failing image ≡ None
-  pub geometry : mounted.geometry ≡ geometry_of (boot_sector image)
-  pub table : MeetsTable (sector_in (Some image)) (boot_sector image) (mounted_layout mounted)
+  pub table : HasTable image mounted
   pub clauses : HoldBelow (volume_in image mounted) 10
   pub values : HoldsValues (volume_in image mounted) mounted

@@ -5,3 +5,4 @@
 mod clause;
 mod order;
 mod scan;
+mod start;

@@ -4,3 +4,4 @@ pub mod SpreadLaws
 pub mod SortedLaws
 pub mod EntryLaws
 pub mod FactsLaws
+pub mod WantedLaws

@@ -9,5 +9,5 @@ mod spread;
 
 pub use attributes::is_right_record;
 pub use facts::Facts;
-pub use lists::names_each;
+pub use lists::{add_wanted, names_each};
 pub use spread::{Extension, SpreadFiles};

@@ -2,12 +2,12 @@
 //! that the parts call for are sorted by the attribute that they name, and compared.
 ghost use Rattle.std.specs.Prelude.{◌≡◌, ◌↔◌, ◌++◌, ◌<◌, ◌^◌, Some, IfOk, OnOk, IsTrue, map};
 ghost use Rattle.ntfs_def.specs.AttributeList.{list_entries};
-ghost use Rattle.volume_def.specs.Files.{Record, Records, part_of, record_of};
-ghost use Rattle.volume_def.specs.ListsClause.{entries_in, entry_in};
+ghost use Rattle.volume_def.specs.Files.{Records, part_of, record_of};
+ghost use Rattle.volume_def.specs.ListsClause.{entries_in};
 ghost use Rattle.volume_def.specs.SameItems.{SameItems};
 ghost use Rattle.attr_list.specs.View.{entries_of, entry_shown};
 ghost use Rattle.attr_view.specs.View.{attribute_of, viewed_block};
-ghost use Rattle.volume_facts.specs.Lists.{AreApart, NamesEach, entry_place};
+ghost use Rattle.volume_facts.specs.Lists.{AreApart, NamesEach, entry_place, wanted_of};
 
 use attr_list::{EntryView, ListView};
 use attr_view::{AttrView, RecordView};
@@ -83,4 +83,41 @@ pub fn names_each(
     let mut entries = entries_of(alloc, &list)?;
     let same = same_entries(&mut entries, wanted);
     Ok(same)
+}
+
+// What a list has to say of an attribute that record `n` holds.
+fn wanted_entry<'b>(n: u64, sequence: u16, attribute: &AttrView<'b>) -> EntryView<'b>
+    requires { n < 2 ^ 48 }
+    ensures { entry_shown result ≡ wanted_of n sequence (part_of n (attribute_of attribute.now)) }
+{
+    let first = match attribute.sizes() {
+        Some(sizes) => sizes.first,
+        None => 0,
+    };
+    EntryView {
+        kind: attribute.kind(),
+        name: attribute.name(),
+        first,
+        holder: u64::from(sequence) * (1 << 48) + n,
+        id: attribute.id(),
+    }
+}
+
+/// Adds what the list of its file has to say of each attribute of record `n` that is no list.
+pub fn add_wanted<'b>(
+    n: u64,
+    view: &RecordView<'b>,
+    wanted: &mut Vec<EntryView<'b>>,
+) -> Result<(), AllocError>
+    requires { n < 2 ^ 48 }
+    ensures { OnOk result ((records : Records) → records.record_at n ≡ Some (record_of n (viewed_block view.now))
+        → map entry_shown wanted.new.items ≡ map entry_shown wanted.old.items ++ entries_in records (record_of n (viewed_block view.now)).parts) }
+{
+    let sequence = view.header().sequence;
+    for attribute in view.attributes() {
+        if attribute.kind() != ATTRIBUTE_LIST {
+            wanted.push(wanted_entry(n, sequence, &attribute))?;
+        }
+    }
+    Ok(())
 }
