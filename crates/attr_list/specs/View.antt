@@ -4,6 +4,7 @@ use Rattle.ntfs_def.specs.AttributeList.{IsFirstBadEntry, ListEntry, list_entrie
 use Rattle.ntfs_def.specs.Record.{Reference, reference_in}
 use Rattle.ntfs_def.specs.Units.{units_in}
 use Rattle.attr_list.specs.declared.Entry.{Entry}
+use Rattle.attr_list.specs.declared.EntryView.{EntryView}
 use Rattle.attr_list.specs.declared.ListNo.{ListNo}
 use Rattle.attr_list.specs.declared.ListNo.TheVariants.{Memory, Shape}
 use Rattle.attr_list.specs.declared.ListView.{ListView}
@@ -15,6 +16,16 @@ value_of view = view.bytes.now
 -- the entries of the list, in order
 abbrev pub entries_of : ListView → List ListEntry
 entries_of view = list_entries (value_of view)
+
+-- the entry that is lent
+abbrev pub entry_shown : EntryView → ListEntry
+entry_shown entry = record {
+  kind = entry.kind;
+  name = entry.name.now;
+  first = entry.first;
+  holder = reference_in entry.holder;
+  id = entry.id;
+}
 
 -- the records that a list says hold its attributes, in order
 abbrev pub holders_in : List ℕ → List Reference

@@ -9,6 +9,7 @@ ghost use Rattle.attr_list.specs.declared.ListNo.TheVariants.{Memory};
 mod iter;
 mod laws;
 mod list;
+mod listed;
 mod shape;
 
 pub use laws::one_answer;
@@ -49,6 +50,21 @@ pub struct Entry {
     pub id: u16,
 }
 
+/// An entry of a list, or what a list would say of an attribute. It lends the name.
+#[derive(Clone, Copy, Debug)]
+pub struct EntryView<'r> {
+    /// The type, as `0x80` for `$DATA`.
+    pub kind: u32,
+    /// The bytes of the name, two for each unit, the lower first.
+    pub name: &'r [u8],
+    /// The number, in the stream, of the extent's first cluster; 0 of a resident attribute.
+    pub first: u64,
+    /// The whole reference of the record, as it is stored.
+    pub holder: u64,
+    /// The id of the attribute in that record.
+    pub id: u16,
+}
+
 /// The value of an `$ATTRIBUTE_LIST` whose entries can be read.
 #[derive(Clone, Copy, Debug)]
 pub struct ListView<'r> {
@@ -60,6 +76,19 @@ pub struct ListView<'r> {
 /// The references of the records that hold the attributes of a list, in its order.
 #[derive(Clone, Copy, Debug)]
 pub struct Holders<'r> {
+    bytes: &'r [u8],
+    count: usize,
+    // The number of the entry that comes next, and where it stands.
+    next: usize,
+    at: usize,
+    ghost shape: { HasListShape bytes.now count },
+    ghost within: { next ≤ count },
+    ghost place: { at ≡ list_entry_place bytes.now next },
+}
+
+/// The entries of a list, in order.
+#[derive(Clone, Copy, Debug)]
+pub struct Entries<'r> {
     bytes: &'r [u8],
     count: usize,
     // The number of the entry that comes next, and where it stands.

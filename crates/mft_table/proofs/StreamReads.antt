@@ -34,7 +34,7 @@ OnlyReads-then g a b c first second = record {
   broken = second.broken ∙ first.broken;
 }
 
-StageReads-then : {D : Type 0} (g : Ghosts D) (a b c : Stage D g) (m n k : ℕ) → StageReads g a b m → StageReads g b c n → m + n ≤ k
+pub StageReads-then : {D : Type 0} (g : Ghosts D) (a b c : Stage D g) (m n k : ℕ) → StageReads g a b m → StageReads g b c n → m + n ≤ k
     → StageReads g a c k
 StageReads-then g a b c m n k first second fits = record {
   goes_on = GoesOn-then g a b c first.goes_on first.only_reads second.goes_on second.only_reads;

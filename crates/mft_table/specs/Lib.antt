@@ -5,3 +5,4 @@ pub mod Mounted
 pub mod Mft
 pub mod MftNos
 pub mod Streams
+pub mod MountNos

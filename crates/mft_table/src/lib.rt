@@ -4,6 +4,7 @@
 mod blocks;
 mod error;
 mod mft;
+mod mount;
 mod mounted;
 mod open;
 mod stream;
@@ -16,6 +17,7 @@ mod volume;
 pub use blocks::{BlockReader, read_two_sectors};
 pub use error::{MftNo, TableNo};
 pub use mft::Mft;
+pub use mount::MountNo;
 pub use mounted::Mounted;
 pub use open::open_record;
 pub use table::Table;

@@ -6,6 +6,8 @@ pub mod LeastLaws
 pub mod AttributesLaws
 pub mod BitLaws
 pub mod BitmapLaws
+pub mod EntryLaws
+pub mod FactsLaws
 pub mod FollowLaws
 pub mod GroupLaws
 pub mod InOrderLaws
@@ -21,6 +23,9 @@ pub mod RecordsLaws
 pub mod ReferenceLaws
 pub mod RunLaws
 pub mod RunsLaws
+pub mod SortedLaws
+pub mod SpreadLaws
 pub mod TallyLaws
 pub mod WalkLaws
+pub mod WantedLaws
 pub mod WayLaws

@@ -4,12 +4,15 @@ pub mod Attributes
 pub mod BitRanges
 pub mod Bitmaps
 pub mod Extents
+pub mod Facts
 pub mod Groups
 pub mod Links
+pub mod Lists
 pub mod Marks
 pub mod Names
 pub mod Owners
 pub mod Pairs
 pub mod References
+pub mod Spread
 pub mod Tallies
 pub mod Used

@@ -1,0 +1,48 @@
+use Rattle.std.proofs.Common.{rules, ◌≡◌, ◌<◌, ◌+◌, ◌*◌, ℕ, true, false, IsTrue, refl, sym, subst, ◌∙◌, ap, arith}
+use Rattle.ntfs_def.specs.Record.{is_in_use}
+use Rattle.volume_def.specs.Files.{record_in, records_of}
+use Rattle.volume_def.specs.Table.{IsWellFormed}
+use Rattle.mft_table.specs.Blocks.{reader_layout}
+use Rattle.mft_table.proofs.StreamReads.{StageReads-then}
+use Rattle.check_records.specs.Refusals.{IsFirstBroken}
+use Rattle.check_records.specs.Views.{stage_view}
+use Rattle.check_records.proofs.ScanLaws.{record_on-inside, shape-broken, shape-more}
+use Rattle.check_records.proofs.scan.scan_records.Goals as goal
+
+pub loop-n-init : goal.loop-n-init
+loop-n-init g c = record {
+  shape = λ told k h. absurd (omega arith);
+  facts = λ told. c.new-facts.ensures (records_of (stage_view g.D.Disk c.args.stage.now (reader_layout c.args.blocks.now)));
+  reads = search rules;
+  faults = refl;
+}
+
+pub loop-n-preserved : goal.loop-n-preserved
+loop-n-preserved g c =
+    let view = stage_view g.D.Disk c.args.stage.now (reader_layout c.args.blocks.now) in
+    let before = c.loop-n.invariant in
+    let n = c.loop-n.n in
+    let inside : n < view.layout.count = omega arith in
+    let yes : c.in_ok-right.right ≡ true = c.if-not-right.false in
+    let stored : IsTrue view.told → c.read_block.new.into ≡ view.block n = rw before.reads.only_reads.image at c.in_ok-read_block.ensures.read in
+    record {
+      shape = λ told. shape-more view n (before.shape told)
+          (subst (λ b. IsTrue (is_in_use b) → IsWellFormed b) (stored told) (c.in_ok-right.ensures.shape.0 yes));
+      facts = λ told. c.in_ok-right.ensures.noted yes (records_of view)
+          (record_on-inside view n inside ∙ ap (record_in n) (sym (stored told))) (before.facts told);
+      reads = StageReads-then g.D.Disk c.args.stage.now c.loop-n.stage c.read_block.new.stage _ 2 _ before.reads c.in_ok-read_block.ensures.reads (omega arith);
+      faults = c.in_ok-read_block.ensures.faults ∙ before.faults;
+    }
+
+pub returns-then-not-right-clause-err : goal.returns-then-not-right-clause-err
+returns-then-not-right-clause-err g c = λ told.
+    let view = stage_view g.D.Disk c.args.stage.now (reader_layout c.args.blocks.now) in
+    let before = c.loop-n.invariant in
+    let n = c.loop-n.n in
+    let inside : n < view.layout.count = omega arith in
+    let no : c.in_ok-right.right ≡ false = c.if-not-right.true in
+    let stored : c.read_block.new.into ≡ view.block n = rw before.reads.only_reads.image at c.in_ok-read_block.ensures.read told in
+    let bad : ¬ (IsTrue (is_in_use (view.block n)) → IsWellFormed (view.block n)) =
+    λ good. let yes : c.in_ok-right.right ≡ true =
+    c.in_ok-right.ensures.shape.1 (subst (λ b. IsTrue (is_in_use b) → IsWellFormed b) (sym stored) good) in absurd (cc) in
+    subst (λ k. IsFirstBroken view k n) (sym c.number.ensures) (shape-broken view n inside (before.shape told) bad)

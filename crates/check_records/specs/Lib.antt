@@ -1,0 +1,4 @@
+pub mod Clauses
+pub mod Refusals
+pub mod Views
+pub mod Tables

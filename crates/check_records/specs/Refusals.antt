@@ -1,0 +1,45 @@
+-- What is decided of a view of a volume, and of the contents of a disk, and how they are refused.
+use Rattle.std.specs.Prelude.{◌≡◌, ◌⊎◌, ◌/◌, ◌<◌, ◌≤◌, ℕ, List, Option, Some, IsTrue, length}
+use Rattle.vol_disk.specs.Contents.{sector_in}
+use Rattle.ntfs_def.specs.Boot.{boot_sector}
+use Rattle.volume_def.specs.Sound.{Clause, FirstBroken, HoldBelow, IsRefused, Meets, clause_number, rank_of}
+use Rattle.volume_def.specs.View.{VolumeView}
+use Rattle.volume_facts.specs.Least.{IsLeastFailing}
+use Rattle.mft_table.specs.declared.mount.MountNo.{MountNo}
+use Rattle.mft_table.specs.declared.mount.MountNo.TheVariants as no
+
+-- the least number that breaks the clause, or none; of a clause before which others fail nothing is said
+abbrev pub DecidesFirst : Clause → VolumeView → Option ℕ → Type 0
+DecidesFirst clause view first = HoldBelow view (rank_of clause) → IsLeastFailing (Meets clause view) first
+
+-- The first clause that fails is one of those that are decided here: its number is k, and n the least that breaks it.
+pub record IsFirstBroken (view : VolumeView) (k n : ℕ) : Type 0 where
+  pub clause : Clause
+  pub decided : rank_of clause < 10
+  pub number : clause_number clause ≡ k
+  pub first : FirstBroken view clause n
+
+-- what is said of a volume whose table was found
+abbrev pub IsFirstRefusal : VolumeView → MountNo → Type 0
+IsFirstRefusal view (no.Refused k n) = IsFirstBroken view k n
+IsFirstRefusal view no.Dirty = ⊥
+IsFirstRefusal view no.Device = Unit {0}
+IsFirstRefusal view no.Memory = Unit {0}
+
+-- the same, where the contents of the disk are told
+abbrev pub IsRefusalOf : VolumeView → MountNo → Type 0
+IsRefusalOf view (no.Refused k n) = IsTrue view.told → IsFirstBroken view k n
+IsRefusalOf view no.Dirty = ⊥
+IsRefusalOf view no.Device = Unit {0}
+IsRefusalOf view no.Memory = Unit {0}
+
+-- the clauses that are decided here: S1 to S11 and S13
+abbrev pub IsDecided : ℕ → Type 0
+IsDecided k = (k ≤ 11) ⊎ (k ≡ 13)
+
+-- a disk of these contents is refused so
+abbrev pub IsRefusal : List ℕ → MountNo → Type 0
+IsRefusal image (no.Refused k n) = IsDecided k × IsRefused (sector_in (Some image)) (boot_sector image) (length image / 512) k n
+IsRefusal image no.Dirty = ⊥
+IsRefusal image no.Device = Unit {0}
+IsRefusal image no.Memory = Unit {0}

@@ -1,0 +1,12 @@
+-- The image below a stage, as a volume.
+use Rattle.std.specs.Prelude.{is_some}
+use Rattle.vol_disk.specs.Contents.{sector_in}
+use Rattle.vol_disk.specs.declared.Disk.{Ghosts}
+use Rattle.vol_stage.specs.declared.stage.Stage.{Stage}
+use Rattle.vol_stage.specs.Staged.{image}
+use Rattle.volume_def.specs.Table.{TableLayout}
+use Rattle.volume_def.specs.View.{VolumeView, view_of}
+
+-- with its table where the layout says
+abbrev pub stage_view : {D : Type 0} (g : Ghosts D) → Stage D g → TableLayout → VolumeView
+stage_view g stage layout = view_of (is_some (image g stage)) (sector_in (image g stage)) layout

@@ -1,0 +1,8 @@
+//! The clauses of the volume definition on records, clusters and the table of case, decided on a disk: the first that
+//! fails, with the least number that breaks it, or the tables of the volume.
+#![tactic(auto)]
+
+mod clause;
+mod order;
+mod scan;
+mod start;
