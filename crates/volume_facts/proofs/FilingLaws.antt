@@ -12,7 +12,8 @@ use Rattle.ntfs_def.specs.Record.{Reference, base_in, reference_in}
 use Rattle.volume_def.specs.FileNames.{is_not_dos, names_among, names_of}
 use Rattle.volume_def.specs.Files.{Record, Records, is_base}
 use Rattle.volume_def.specs.LinksClause.{ReachesRoot, parent_of}
-use Rattle.volume_def.specs.ReferencesClause.{HasRightReferences, MeetsReferences, NamesDirectory, is_directory}
+use Rattle.volume_def.specs.ReferencesClause.{HasRightReferences, MeetsReferences, NamesDirectory}
+use Rattle.volume_def.specs.Files.{is_directory}
 use Rattle.volume_def.proofs.FindLaws.{find-found, find-map}
 use Rattle.volume_def.proofs.MemberLaws.{All-from_Contains}
 use Rattle.volume_def.proofs.SameItemsLaws.{count-map}

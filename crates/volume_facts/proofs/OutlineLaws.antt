@@ -8,7 +8,8 @@ use Rattle.std.proofs.lemmas.List.Elements.{All-contains, All-map}
 use Rattle.std.proofs.lemmas.List.Sums.{sum_by-cons}
 use Rattle.ntfs_def.specs.declared.kinds.TheConstants.{FILE_NAME}
 use Rattle.ntfs_def.specs.Runs.{total_clusters}
-use Rattle.volume_def.specs.ExtentsClause.{AreAttribute, AreWhole, BeginsAt, FitExtents, FollowFrom, all_covered, last_vcn_of}
+use Rattle.volume_def.specs.ExtentsClause.{AreAttribute, AreWhole, BeginsAt, FitExtents, FollowFrom, last_vcn_of}
+use Rattle.volume_def.specs.Files.{all_covered}
 use Rattle.volume_def.specs.Files.{Clusters, Content, Part, Value, content_extent, content_runs, content_value, is_of, part_clusters, parts_like}
 use Rattle.volume_def.specs.SameItems.{SameItems}
 use Rattle.volume_def.proofs.CodedLaws.{SameItems-All, SameItems-lifted}

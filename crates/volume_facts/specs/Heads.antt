@@ -2,7 +2,7 @@
 use Rattle.std.specs.Prelude.{◌≡◌, ℕ, ◌<◌, ◌≤◌, Option, Some, None, length, slice_index_or}
 use Rattle.ntfs_def.specs.Record.{base_in}
 use Rattle.volume_def.specs.Files.{Record, Records}
-use Rattle.volume_def.specs.ReferencesClause.{is_directory}
+use Rattle.volume_def.specs.Files.{is_directory}
 use Rattle.volume_facts.specs.declared.heads.Head.{Head}
 use Rattle.volume_facts.specs.declared.heads.Heads.{Heads}
 

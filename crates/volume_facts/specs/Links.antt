@@ -4,7 +4,7 @@ use Rattle.ntfs_def.specs.declared.records.TheConstants.{FIRST_ORDINARY, ROOT}
 use Rattle.volume_def.specs.FileNames.{is_not_dos, names_of}
 use Rattle.volume_def.specs.Files.{Record, Records, is_base}
 use Rattle.volume_def.specs.LinksClause.{IsPairedAmong, ReachesRoot}
-use Rattle.volume_def.specs.ReferencesClause.{is_directory}
+use Rattle.volume_def.specs.Files.{is_directory}
 use Rattle.volume_facts.specs.declared.heads.Head.{Head}
 use Rattle.volume_facts.specs.declared.tallies.Tally.{Tally}
 
