@@ -10,7 +10,7 @@ mod tests;
 pub use note::owners_laws;
 
 /// The clusters that the runs noted so far own.
-#[derive(Drop)]
+#[derive(Debug, Drop)]
 struct OwnedClusters {
     // A bit for each cluster, the lowest of a byte first. It means nothing from the least bad cluster on.
     bits: Vec<u8>,
@@ -22,7 +22,7 @@ struct OwnedClusters {
 }
 
 /// What is noted of the owners of clusters.
-#[derive(Drop)]
+#[derive(Debug, Drop)]
 pub struct Owners {
     owned: OwnedClusters,
     // Whether the boot file has cluster 0.
