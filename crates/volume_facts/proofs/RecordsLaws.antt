@@ -1,5 +1,5 @@
 -- What one record more adds to the runs of the records below it, and what the runs of all records are.
-use Rattle.std.proofs.Common.{◌≡◌, ◌≢◌, ℕ, ◌+◌, ◌<◌, ◌≤◌, ◌&&◌, ◌==◌, Bool, true, false, cond, List, [], ◌∷◌, ◌++◌, map, filter, Option, Some, None, inl, inr, refl, sym, ap, ◌∙◌, arith, append_assoc}
+use Rattle.std.proofs.Common.{◌≡◌, ◌≢◌, ℕ, ◌+◌, ◌&&◌, ◌==◌, Bool, cond, List, [], ◌∷◌, ◌++◌, map, filter, Some, None, inl, inr, refl, sym, ap, ◌∙◌, arith}
 use Rattle.std.specs.Prelude.{flat_map}
 use Rattle.std.specs.List.{range_with_len}
 use Rattle.std.specs.Str.{bytes_eq}
@@ -12,7 +12,7 @@ use Rattle.ntfs_def.specs.declared.records.TheConstants.{BOOT}
 use Rattle.ntfs_def.specs.declared.run_text.Run.{Run}
 use Rattle.ntfs_def.specs.Attribute.{Attribute, attributes}
 use Rattle.volume_def.specs.Coverage.{times_covered}
-use Rattle.volume_def.specs.Files.{Part, Record, Records, file_of, is_of, part_of, part_runs, parts, parts_in, record_of}
+use Rattle.volume_def.specs.Files.{Part, Records, file_of, is_of, part_of, part_runs, parts, parts_in, record_of}
 use Rattle.volume_def.specs.OwnersClause.{all_runs, boot_runs, record_runs, times_owned}
 use Rattle.volume_def.proofs.RangeLaws.{range-append}
 use Rattle.volume_def.proofs.RecordLaws.{parts_in-other, parts_in-own, parts_in-unused}

@@ -1,10 +1,8 @@
-use Rattle.std.proofs.Common.{◌≡◌, ◌≢◌, ℕ, ◌+◌, ◌-◌, ◌*◌, ◌/◌, ◌%◌, ◌^◌, ◌<◌, ◌≤◌, bit_and, get_or, length, length-set, inl, inr, sym, subst, ap, ◌∙◌, arith, w8}
+use Rattle.std.proofs.Common.{◌≡◌, ℕ, ◌+◌, ◌-◌, ◌*◌, ◌/◌, ◌%◌, ◌^◌, ◌<◌, ◌≤◌, bit_and, get_or, length, length-set, inl, inr, sym, subst, ◌∙◌, arith, w8}
 use Rattle.std.specs.Int.{trailing_zeros}
 use Rattle.std.proofs.lemmas.Bool.{cases_lt}
 use Rattle.std.proofs.lemmas.Nat.{widths}
-use Rattle.ntfs_def.specs.Bits.{bit_in}
-use Rattle.volume_facts.specs.BitRanges.{Fills}
-use Rattle.volume_facts.proofs.BitLaws.{IsFirstUnder, IsMask, first_under, masked, masked-above, masked-below, masked-inside, unmasked-clear}
+use Rattle.volume_facts.proofs.BitLaws.{IsFirstUnder, IsMask, first_under, masked-above, masked-below, masked-inside, unmasked-clear}
 use Rattle.volume_facts.proofs.bits.fill.Goals as goal
 
 pub bytes-preserved : goal.bytes-preserved

@@ -1,4 +1,4 @@
-use Rattle.std.proofs.Common.{◌≡◌, ◌≤◌, ap, arith, false, sym, subst, refl, ◌∙◌}
+use Rattle.std.proofs.Common.{◌≤◌, arith, sym, subst, refl}
 use Rattle.std.proofs.lemmas.Bool.{both_ways}
 use Rattle.volume_def.specs.Coverage.{times_covered}
 use Rattle.volume_facts.proofs.OwnersLaws.{owners-met}

@@ -1,4 +1,4 @@
-use Rattle.std.proofs.Common.{◌≤◌, ap, arith, subst, sym}
+use Rattle.std.proofs.Common.{ap, arith, subst, sym}
 use Rattle.volume_def.specs.Coverage.{times_covered}
 use Rattle.volume_facts.specs.Owners.{RunsNote}
 use Rattle.volume_facts.proofs.RecordsLaws.{boot_runs_below-none, runs_below-none}
