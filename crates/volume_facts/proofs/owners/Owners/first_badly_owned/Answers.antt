@@ -7,7 +7,8 @@ use Rattle.volume_facts.proofs.owners.Owners.first_badly_owned.Goals as goal
 
 pub returns-then-not-self : goal.returns-then-not-self
 returns-then-not-self c = λ records notes. (
-  λ meets. both_ways _ c.if-not-self.true (notes.boot.1 (subst (λ runs. 1 ≤ times_covered runs 0) (sym (boot_runs_below-all records)) (meets.boot refl))),
+  λ meets. both_ways _ c.if-not-self.true (notes.boot.1
+      (subst (λ runs. 1 ≤ times_covered runs 0) (sym (boot_runs_below-all records)) (meets.boot refl))),
   λ m h. absurd (omega arith),
 )
 
