@@ -6,5 +6,5 @@ mod bits;
 mod owners;
 mod used;
 
-pub use owners::{Owners, owners_laws};
+pub use owners::{Owners, cluster_bits_laws, owners_laws};
 pub use used::{Used, used_laws};

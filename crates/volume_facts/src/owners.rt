@@ -7,6 +7,7 @@ mod note;
 #[cfg(test)]
 mod tests;
 
+pub use bitmap::cluster_bits_laws;
 pub use note::owners_laws;
 
 /// The clusters that the runs noted so far own.
