@@ -1,5 +1,5 @@
 -- Bits of bytes.
-use Rattle.std.proofs.Common.{◌≡◌, ◌≢◌, ℕ, ◌+◌, ◌-◌, ◌*◌, ◌/◌, ◌%◌, ◌^◌, ◌<◌, ◌≤◌, min, List, length, get_or, set, bit_and, bit_or, bit_xor, inl, inr, refl, sym, ap, ◌∙◌, arith, w8}
+use Rattle.std.proofs.Common.{◌≡◌, ◌≢◌, ℕ, ◌+◌, ◌-◌, ◌*◌, ◌/◌, ◌%◌, ◌^◌, ◌<◌, ◌≤◌, List, length, get_or, set, bit_and, bit_or, bit_xor, inl, inr, refl, sym, ap, ◌∙◌, arith, w8}
 use Rattle.std.specs.Int.{bit_at, trailing_zeros}
 use Rattle.std.proofs.lemmas.Bool.{cases_eq, cases_lt}
 use Rattle.std.proofs.lemmas.List.{length-set, get_or-set_same, get_or-set_other}
@@ -18,9 +18,15 @@ between-is low high order byte =
     let top : 8 - (8 - high) ≡ high = omega arith in
     rw (up, down, top) refl
 
-pub mask-inside : (low high i : ℕ) → low < high → high ≤ 8 → low ≤ i → i < high → bit_at (bit_and (255 * 2 ^ low % 256) (255 / 2 ^ (8 - high))) i ≡ 1
+pub mask-inside : (low high i : ℕ) → low < high → high ≤ 8 → low ≤ i → i < high
+    → bit_at (bit_and (255 * 2 ^ low % 256) (255 / 2 ^ (8 - high))) i ≡ 1
 mask-inside low high i order byte from to =
-    rw (between-is low high order byte) (omega (arith, bit_at_and (2 ^ 8 - 2 ^ low) (2 ^ high - 1) i, bit_at_mask_inside low 8 i from (omega arith), bit_at_ones high i to))
+    rw (between-is low high order byte) (omega (
+      arith,
+      bit_at_and (2 ^ 8 - 2 ^ low) (2 ^ high - 1) i,
+      bit_at_mask_inside low 8 i from (omega arith),
+      bit_at_ones high i to,
+    ))
 
 pub mask-below : (low high i : ℕ) → low < high → high ≤ 8 → i < low → bit_at (bit_and (255 * 2 ^ low % 256) (255 / 2 ^ (8 - high))) i ≡ 0
 mask-below low high i order byte h =
@@ -85,11 +91,13 @@ masked-above bytes byte mask low high k l m h = elim (cases_eq (k / 8) byte) [
 ]
 
 -- where no bit under the mask is set
-pub unmasked-clear : (bytes : List ℕ) (byte mask low high k : ℕ) → IsMask mask low high → high ≤ 8 → bit_and (get_or bytes byte 0) mask ≡ 0
+pub unmasked-clear : (bytes : List ℕ) (byte mask low high k : ℕ) → IsMask mask low high → high ≤ 8
+    → bit_and (get_or bytes byte 0) mask ≡ 0
     → 8 * byte + low ≤ k → k < 8 * byte + high → bit_in bytes k ≡ 0
 unmasked-clear bytes byte mask low high k m h none from to =
     let one = m.inside (k - 8 * byte) (omega arith) (omega arith) in
-    let zero : bit_at (bit_and (get_or bytes byte 0) mask) (k - 8 * byte) ≡ 0 = ap (λ b. bit_at b (k - 8 * byte)) none ∙ bit_at-zero (k - 8 * byte) in
+    let zero : bit_at (bit_and (get_or bytes byte 0) mask) (k - 8 * byte) ≡ 0 = ap (λ b. bit_at b (k - 8 * byte)) none
+    ∙ bit_at-zero (k - 8 * byte) in
     bit_in-place bytes byte (k - 8 * byte) k (omega arith) (omega arith)
     ∙ omega (arith, bit_at_and (get_or bytes byte 0) mask (k - 8 * byte), bit_at-lt (get_or bytes byte 0) (k - 8 * byte), one, zero)
 
@@ -151,12 +159,15 @@ SetsBit-set bytes k h =
     let v : ℕ = bit_or (get_or bytes (k / 8) 0) (1 * 2 ^ (k % 8) % 256) in
     record {
       len = length-set bytes (k / 8) v;
-      here = ap (λ n. bit_at n (k % 8)) (get_or-set_same bytes (k / 8) v 0 h) ∙ bit_at_set_same w8 (get_or bytes (k / 8) 0) (k % 8) within;
+      here = ap (λ n. bit_at n (k % 8)) (get_or-set_same bytes (k / 8) v 0 h)
+          ∙ bit_at_set_same w8 (get_or bytes (k / 8) 0) (k % 8) within;
       others = λ j ne. elim (cases_eq (j / 8) (k / 8)) [
         | inl e ↦
             let other : j % 8 ≢ k % 8 = λ m. ne (omega arith) in
-            ap (λ i. bit_at (get_or (set bytes (k / 8) v) i 0) (j % 8)) e ∙ ap (λ n. bit_at n (j % 8)) (get_or-set_same bytes (k / 8) v 0 h)
-            ∙ bit_at_set_other w8 (get_or bytes (k / 8) 0) (k % 8) within (j % 8) other ∙ ap (λ i. bit_at (get_or bytes i 0) (j % 8)) (sym e)
+            ap (λ i. bit_at (get_or (set bytes (k / 8) v) i 0) (j % 8)) e
+            ∙ ap (λ n. bit_at n (j % 8)) (get_or-set_same bytes (k / 8) v 0 h)
+            ∙ bit_at_set_other w8 (get_or bytes (k / 8) 0) (k % 8) within (j % 8) other
+            ∙ ap (λ i. bit_at (get_or bytes i 0) (j % 8)) (sym e)
         | inr other ↦ ap (λ n. bit_at n (j % 8)) (get_or-set_other bytes (k / 8) (j / 8) v 0 other)
       ];
     }

@@ -1,5 +1,5 @@
 -- Bits of a stored bitmap beside those that are noted.
-use Rattle.std.proofs.Common.{◌≡◌, ◌≢◌, ℕ, ◌+◌, ◌-◌, ◌*◌, ◌/◌, ◌%◌, ◌<◌, ◌≤◌, min, List, length, length-drop, drop, Option, Some, None, IsTrue, inl, inr, refl, sym, ap, subst, ◌∙◌, arith}
+use Rattle.std.proofs.Common.{◌≡◌, ℕ, ◌+◌, ◌-◌, ◌*◌, ◌/◌, ◌%◌, ◌<◌, ◌≤◌, min, List, length, length-drop, drop, Option, Some, None, inl, inr, refl, sym, ap, subst, ◌∙◌, arith}
 use Rattle.std.specs.Prelude.{◌↔◌, IsSome, slice_index}
 use Rattle.std.specs.Int.{bit_at}
 use Rattle.std.proofs.lemmas.Bool.{cases_eq, cases_lt}
@@ -50,7 +50,8 @@ none-bad : (view : VolumeView) (owners : Owners) (least : Option ℕ) → owners
     → noted_end (clusters_noted owners) owners.owned.least ≡ clusters_noted owners
 none-bad view owners None e notes = ap (noted_end (clusters_noted owners)) e
 none-bad view owners (Some l) e notes =
-    let bad = subst (λ o. IsLeastFailing (λ c. times_covered (runs_below (records_of view) view.layout.count) c ≤ owners_allowed (clusters_noted owners) c) o) e notes.noted.owned.bad in
+    let runs = runs_below (records_of view) view.layout.count in
+    let bad = subst (IsLeastFailing (λ c. times_covered runs c ≤ owners_allowed (clusters_noted owners) c)) e notes.noted.owned.bad in
     let met = meets-allowed (records_of view) view.layout.clusters l (notes.meets l) in
     let all = runs_below-all (records_of view) l in
     let same = ap (λ n. owners_allowed n l) notes.clusters in
@@ -121,7 +122,8 @@ rest-bit piece skipped from k low =
     let at : (k - 8 * (from + skipped)) / 8 ≡ k / 8 - (from + skipped) = omega arith in
     let same : (k - 8 * (from + skipped)) % 8 ≡ (k - 8 * from) % 8 = omega arith in
     let there : skipped + (k / 8 - (from + skipped)) ≡ (k - 8 * from) / 8 = omega arith in
-    rw (at, same) (ap (λ b. bit_at b ((k - 8 * from) % 8)) (get_or-drop skipped piece (k / 8 - (from + skipped)) 0 ∙ ap (slice_index piece) there))
+    rw (at, same) (ap (λ b. bit_at b ((k - 8 * from) % 8))
+    (get_or-drop skipped piece (k / 8 - (from + skipped)) 0 ∙ ap (slice_index piece) there))
 
 -- the first difference, where the first bytes of a piece are passed over
 pub within-skipped : (bits piece : List ℕ) (from skipped : ℕ) (first : Option ℕ) → skipped ≡ min (3 - from) (length piece)

@@ -151,7 +151,8 @@ lower-is : (least : Option ℕ) (m : ℕ) → lower_of least m ≡ min (unwrap_o
 lower-is None m = omega arith
 lower-is (Some l) m = omega arith
 
-past-end : (clusters : ℕ) (least : Option ℕ) (m : ℕ) → clusters ≤ m → noted_end clusters (Some (min (unwrap_or least m) m)) ≡ noted_end clusters least
+past-end : (clusters : ℕ) (least : Option ℕ) (m : ℕ) → clusters ≤ m
+    → noted_end clusters (Some (min (unwrap_or least m) m)) ≡ noted_end clusters least
 past-end clusters None m h = omega arith
 past-end clusters (Some l) m h = omega arith
 
@@ -167,7 +168,8 @@ Counts-past times clusters bits least from end some past counts =
       | inl lt ↦ inside-before from (min end clusters) k lt ∙ sym (inside-before from end k lt)
       | inr ge ↦ inside-in from (min end clusters) k ge (omega arith) ∙ sym (inside-in from end k ge (omega arith))
     ] in
-    let none : (k : ℕ) → clusters ≤ k → inside from (min end clusters) k ≡ 0 = λ k h. inside-behind from (min end clusters) k (omega arith) in
+    let none : (k : ℕ) → clusters ≤ k
+    → inside from (min end clusters) k ≡ 0 = λ k h. inside-behind from (min end clusters) k (omega arith) in
     record {
       bit = λ c h.
           let e = past-end clusters least (max from clusters) (omega arith) in
@@ -211,13 +213,15 @@ at_most_one clusters c = elim (cases_lt c clusters) [
   | inr ge ↦ let o = allowed-past clusters c ge in omega arith
 ]
 
-pub meets-allowed : (records : Records) (clusters n : ℕ) → MeetsOwners records clusters n → times_owned records n ≤ owners_allowed clusters n
+pub meets-allowed : (records : Records) (clusters n : ℕ) → MeetsOwners records clusters n
+    → times_owned records n ≤ owners_allowed clusters n
 meets-allowed records clusters n meets = elim (cases_lt n clusters) [
   | inl lt ↦ let o = allowed-below clusters n lt in omega (arith, meets.once)
   | inr ge ↦ let o = allowed-past clusters n ge in omega (arith, meets.inside ge)
 ]
 
-allowed-meets : (records : Records) (clusters n : ℕ) → 1 ≤ times_covered (boot_runs records) 0 → times_owned records n ≤ owners_allowed clusters n
+allowed-meets : (records : Records) (clusters n : ℕ) → 1 ≤ times_covered (boot_runs records) 0
+    → times_owned records n ≤ owners_allowed clusters n
     → MeetsOwners records clusters n
 allowed-meets records clusters n boot allowed = record {
   boot = λ _. boot;
@@ -231,7 +235,8 @@ owners-met records owners owns notes =
     let clusters = clusters_noted owners in
     let boot : 1 ≤ times_covered (boot_runs records) 0 =
     subst (λ runs. 1 ≤ times_covered runs 0) (boot_runs_below-all records) (notes.boot.0 owns) in
-    least-same (λ n. times_covered (runs_below records records.count) n ≤ owners_allowed clusters n) (MeetsOwners records clusters) owners.owned.least
+    least-same (λ n. times_covered (runs_below records records.count) n ≤ owners_allowed clusters n) (MeetsOwners records clusters)
+    owners.owned.least
     (λ n h. let e = runs_below-all records n in allowed-meets records clusters n boot (omega arith))
     (λ n meets. let e = runs_below-all records n in let a = meets-allowed records clusters n meets in omega arith)
     notes.owned.bad

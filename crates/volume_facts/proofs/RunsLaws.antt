@@ -1,5 +1,5 @@
 -- Runs: how often they cover a cluster, and those of an attribute.
-use Rattle.std.proofs.Common.{◌≡◌, ℕ, zero, suc, ◌+◌, ◌<◌, ◌≤◌, List, [], ◌∷◌, ◌++◌, length, get_or, Option, Some, None, cond, unwrap_or, Bool, IsTrue, ◌||◌, inl, inr, refl, ap, sym, ◌∙◌, arith}
+use Rattle.std.proofs.Common.{◌≡◌, ℕ, zero, suc, ◌+◌, ◌<◌, ◌≤◌, List, [], ◌∷◌, ◌++◌, length, get_or, Some, None, cond, unwrap_or, Bool, IsTrue, ◌||◌, inl, inr, refl, ap, arith}
 use Rattle.std.specs.Prelude.{◌↔◌}
 use Rattle.std.proofs.lemmas.Bool.{cases_lt, or_cases, or_left, or_right}
 use Rattle.std.proofs.lemmas.List.Sums.{sum_by_push, sum_by-append}
@@ -9,7 +9,8 @@ use Rattle.ntfs_def.specs.Runs.{EndsInReach, IsRunListFrom, runs_in}
 use Rattle.volume_def.specs.Coverage.{has_cluster, times_covered}
 use Rattle.volume_def.specs.Files.{content_of, content_runs}
 
-pub covered-push : (runs : List Run) (run : Run) (k : ℕ) → times_covered (runs ++ run ∷ []) k ≡ times_covered runs k + cond (has_cluster k run) 1 0
+pub covered-push : (runs : List Run) (run : Run) (k : ℕ)
+    → times_covered (runs ++ run ∷ []) k ≡ times_covered runs k + cond (has_cluster k run) 1 0
 covered-push runs run k = sum_by_push (λ r. cond (has_cluster k r) 1 0) runs run
 
 pub covered-append : (xs ys : List Run) (k : ℕ) → times_covered (xs ++ ys) k ≡ times_covered xs k + times_covered ys k
@@ -38,7 +39,8 @@ IsRunListFrom-at total (run ∷ runs) zero d list h = list.2
 IsRunListFrom-at total (run ∷ runs) (suc k) d list h = IsRunListFrom-at (total + run.len) runs k d list.3 (omega arith)
 
 -- the runs of an attribute are those that its text means
-pub runs-some : (body : Body) (text : List ℕ) → run_text_of body ≡ Some text → unwrap_or (content_runs (content_of body)) [] ≡ unwrap_or (runs_in text) []
+pub runs-some : (body : Body) (text : List ℕ) → run_text_of body ≡ Some text
+    → unwrap_or (content_runs (content_of body)) [] ≡ unwrap_or (runs_in text) []
 runs-some (Resident value) text h = absurd (cc)
 runs-some (NonResident extent other) text h = let e : other ≡ text = cc in ap (λ t. unwrap_or (runs_in t) []) e
 

@@ -1,10 +1,9 @@
 -- The stored bitmaps, of clusters (S8) and of records (S9), as they are compared a piece at a time with what is noted.
-use Rattle.std.specs.Prelude.{◌≡◌, ◌↔◌, ℕ, ◌+◌, ◌*◌, ◌/◌, ◌<◌, ◌≤◌, min, length, IsSome}
-use Rattle.ntfs_def.specs.Bits.{bit_in}
-use Rattle.volume_def.specs.BitmapClauses.{HasNoHole, HasRecordBits, cluster_bits, written_by}
+use Rattle.std.specs.Prelude.{◌≡◌, ℕ, ◌+◌, ◌/◌, min, length}
+use Rattle.volume_def.specs.BitmapClauses.{HasNoHole, cluster_bits, written_by}
 use Rattle.volume_def.specs.Values.{IsPlain}
 use Rattle.volume_def.specs.Values.{first_part}
-use Rattle.volume_def.specs.Files.{Records, records_of}
+use Rattle.volume_def.specs.Files.{records_of}
 use Rattle.volume_def.specs.OwnersClause.{MeetsOwners}
 use Rattle.volume_def.specs.Values.{value_on}
 use Rattle.volume_def.specs.View.{VolumeView}

@@ -25,6 +25,7 @@ pub use links::first_wrong_link;
 pub use names::{NameFact, Names, note_laws};
 pub use references::first_wrong_reference;
 pub use owners::{Owners, owners_laws};
+pub use owners::{Owners, cluster_bits_laws, owners_laws};
 pub use used::{Used, used_laws};
 pub use attributes::is_right_record;
 pub use extents::{Extent, Held, extents_of};

@@ -7,10 +7,11 @@ mod note;
 #[cfg(test)]
 mod tests;
 
+pub use bitmap::cluster_bits_laws;
 pub use note::owners_laws;
 
 /// The clusters that the runs noted so far own.
-#[derive(Drop)]
+#[derive(Debug, Drop)]
 struct OwnedClusters {
     // A bit for each cluster, the lowest of a byte first. It means nothing from the least bad cluster on.
     bits: Vec<u8>,
@@ -22,7 +23,7 @@ struct OwnedClusters {
 }
 
 /// What is noted of the owners of clusters.
-#[derive(Drop)]
+#[derive(Debug, Drop)]
 pub struct Owners {
     owned: OwnedClusters,
     // Whether the boot file has cluster 0.

@@ -8,7 +8,7 @@ mod tests;
 pub use bitmap::used_laws;
 
 /// Which records of the table are in use, as far as they are noted.
-#[derive(Drop)]
+#[derive(Debug, Drop)]
 pub struct Used {
     // A bit for each record, the lowest of a byte first.
     bits: Vec<u8>,

@@ -1,6 +1,6 @@
 //! The clause on the bitmap of clusters, S8, decided a piece of the stored bitmap at a time.
-ghost use Rattle.std.specs.Prelude.{◌≡◌, ◌+◌, ◌*◌, ◌≤◌, ◌<◌, ℕ, None, length};
-ghost use Rattle.volume_def.specs.BitmapClauses.{MeetsClusterBits, cluster_bits};
+ghost use Rattle.std.specs.Prelude.{◌≡◌, ◌+◌, ◌*◌, ◌≤◌, ◌<◌, ℕ, None, Some, length};
+ghost use Rattle.volume_def.specs.BitmapClauses.{HasNoHole, IsPlain, MeetsClusterBits, cluster_bits};
 ghost use Rattle.volume_def.specs.Values.{value_on};
 ghost use Rattle.volume_def.specs.View.{VolumeView};
 ghost use Rattle.volume_facts.specs.BitRanges.{IsPieceOf};
@@ -48,3 +48,9 @@ impl Owners {
         None
     }
 }
+
+/// Where the bitmap of clusters is packed, or is not there, or has a hole, cluster 0 breaks the clause.
+pub fn cluster_bits_laws()
+    ensures packed { (view : VolumeView) → ¬ (IsPlain (cluster_bits view)) → IsLeastFailing (MeetsClusterBits view) (Some 0) }
+    ensures unplaced { (view : VolumeView) → ¬ (HasNoHole (cluster_bits view)) → IsLeastFailing (MeetsClusterBits view) (Some 0) }
+{}

@@ -100,7 +100,8 @@ impl Owners {
     ) -> Result<(), AllocError>
         ensures clusters { clusters_noted self.new ≡ clusters_noted self.old }
         ensures noted { OnOk result ((records : Records) (n : ℕ) → records.record_at n ≡ Some (record_of n (viewed_block view.now))
-            → file_of n (record_of n (viewed_block view.now)) ≡ file → OwnersNote records n self.old → OwnersNote records (n + 1) self.new) }
+            → file_of n (record_of n (viewed_block view.now)) ≡ file
+            → OwnersNote records n self.old → OwnersNote records (n + 1) self.new) }
     {
         self.owned.note_record(alloc, view)?;
         if file != BOOT {

@@ -81,10 +81,11 @@ impl Used {
 }
 
 /// What is noted stays so where the next record is not in use. The clause on the bitmap of records holds where it holds of the
-/// bits of all records.
+/// bits of all records, and record 24 breaks it where there is no such bitmap.
 pub fn used_laws()
     ensures unused { (records : Records) (n : ℕ) (used : NotedUse) → records.record_at n ≡ None
         → UsedNote records n used → UsedNote records (n + 1) used }
     ensures end { (view : VolumeView) (end : ℕ) → HasRecordBits view → view.layout.count ≤ end
         → IsLeastBelow (MeetsRecordBits view) end None → IsLeastFailing (MeetsRecordBits view) None }
+    ensures without { (view : VolumeView) → ¬ (HasRecordBits view) → IsLeastFailing (MeetsRecordBits view) (Some FIRST_ORDINARY) }
 {}

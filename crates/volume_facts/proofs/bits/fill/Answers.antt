@@ -1,10 +1,8 @@
-use Rattle.std.proofs.Common.{◌≡◌, ◌≢◌, ℕ, ◌+◌, ◌-◌, ◌*◌, ◌/◌, ◌%◌, ◌^◌, ◌<◌, ◌≤◌, bit_and, get_or, length, length-set, inl, inr, sym, subst, ap, ◌∙◌, arith, w8}
+use Rattle.std.proofs.Common.{◌≡◌, ℕ, ◌+◌, ◌-◌, ◌*◌, ◌/◌, ◌%◌, ◌^◌, ◌<◌, ◌≤◌, bit_and, get_or, length, length-set, inl, inr, sym, subst, ◌∙◌, arith, w8}
 use Rattle.std.specs.Int.{trailing_zeros}
 use Rattle.std.proofs.lemmas.Bool.{cases_lt}
 use Rattle.std.proofs.lemmas.Nat.{widths}
-use Rattle.ntfs_def.specs.Bits.{bit_in}
-use Rattle.volume_facts.specs.BitRanges.{Fills}
-use Rattle.volume_facts.proofs.BitLaws.{IsFirstUnder, IsMask, first_under, masked, masked-above, masked-below, masked-inside, unmasked-clear}
+use Rattle.volume_facts.proofs.BitLaws.{IsFirstUnder, IsMask, first_under, masked-above, masked-below, masked-inside, unmasked-clear}
 use Rattle.volume_facts.proofs.bits.fill.Goals as goal
 
 pub bytes-preserved : goal.bytes-preserved
@@ -29,7 +27,8 @@ bytes-preserved c =
       high = omega (arith, c.min-high.ensures, c.bytes-test.true, inv.low);
       clear = λ k from to. elim (cases_lt k at) [
         | inl lt ↦ inv.clear k from lt
-        | inr ge ↦ sym (inv.above k ge) ∙ unmasked-clear bits byte c.mask-mask.result low high k m few c.if-taken-ne0.false (omega arith) (omega arith)
+        | inr ge ↦ sym (inv.above k ge)
+            ∙ unmasked-clear bits byte c.mask-mask.result low high k m few c.if-taken-ne0.false (omega arith) (omega arith)
       ];
       set = λ k from to. elim (cases_lt k at) [
         | inl lt ↦ masked-below bits byte c.mask-mask.result low high k within m (omega arith) ∙ inv.set k from lt
@@ -61,7 +60,8 @@ returns-then-taken-ne0 c =
     let first = first_under bits byte c.mask-mask.result low high m few small c.if-taken-ne0.true in
     let k = at - low + c.from.result in
     let is : 8 * byte + trailing_zeros w8 x ≡ at - low + c.from.result = omega arith in
-    let found : IsFirstUnder bits (8 * byte + low) (8 * byte + high) k = subst (λ n. IsFirstUnder bits (8 * byte + low) (8 * byte + high) n) is first in
+    let found : IsFirstUnder bits (8 * byte + low) (8 * byte + high) k =
+    subst (λ n. IsFirstUnder bits (8 * byte + low) (8 * byte + high) n) is first in
     record {
       len = length-set bits byte _ ∙ inv.len;
       was_set = (omega (arith, found.from, inv.low), omega (arith, found.to), sym (inv.above k (omega (arith, found.from))) ∙ found.here);
@@ -74,5 +74,6 @@ returns-then-taken-ne0 c =
         | inr ge ↦ masked-inside bits byte c.mask-mask.result low high j within m few (omega arith) (omega (arith, found.to))
       ];
       below = λ j h. masked-below bits byte c.mask-mask.result low high j within m (omega (arith, inv.low)) ∙ inv.below j h;
-      above = λ j h. masked-above bits byte c.mask-mask.result low high j within m (omega arith) ∙ inv.above j (omega (arith, c.bytes-test.true));
+      above = λ j h. masked-above bits byte c.mask-mask.result low high j within m (omega arith)
+          ∙ inv.above j (omega (arith, c.bytes-test.true));
     }

@@ -17,7 +17,8 @@ returns-clause-noted c = λ times counts.
     let value : c.deref_mut.result.now ≡ old.bits.items = c.deref_mut.ensures.value in
     let upto : c.min-end.result ≡ min end (noted_end old.clusters old.least) = c.min-end.ensures ∙ ap (min end) c.noted_end.ensures in
     let fills : Fills old.bits.items new from (min end (noted_end old.clusters old.least)) found =
-    subst (λ n. Fills old.bits.items new from n found) upto (subst (λ xs. Fills xs new from c.min-end.result found) value c.fill-found.ensures) in
+    subst (λ n. Fills old.bits.items new from n found) upto
+    (subst (λ xs. Fills xs new from c.min-end.result found) value c.fill-found.ensures) in
     let items : (with_items old.bits new).items ≡ new = with_items_is old.bits new (fills.len ∙ sym old.bits.ok.0) in
     subst (λ l. CountsOwners (λ k. times k + inside from end k) old.clusters (with_items old.bits new).items l) (sym c.or-self.ensures)
     (subst (λ xs. CountsOwners (λ k. times k + inside from end k) old.clusters xs (option_or found old.least)) (sym items)

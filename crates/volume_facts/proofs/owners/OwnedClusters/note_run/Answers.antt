@@ -1,5 +1,5 @@
 use Rattle.std.proofs.Common.{◌≡◌, ◌+◌, ◌∷◌, ◌++◌, [], cond, min, ap, sym, subst, ◌∙◌}
-use Rattle.volume_def.specs.Coverage.{has_cluster, is_in_run, times_covered}
+use Rattle.volume_def.specs.Coverage.{is_in_run, times_covered}
 use Rattle.volume_facts.specs.Owners.{CountsNote, inside}
 use Rattle.volume_facts.proofs.OwnersLaws.{Counts-same}
 use Rattle.volume_facts.proofs.RunsLaws.{covered-push}

@@ -1,6 +1,5 @@
-use Rattle.std.proofs.Common.{◌<◌, ◌≤◌, ◌*◌, length, arith, ap, inl, inr, sym, ◌∙◌}
+use Rattle.std.proofs.Common.{◌<◌, ◌*◌, length, arith, ap, inl, inr, sym, ◌∙◌}
 use Rattle.std.proofs.lemmas.Bool.{cases_lt}
-use Rattle.ntfs_def.specs.declared.records.TheConstants.{FIRST_ORDINARY}
 use Rattle.ntfs_def.specs.Bits.{bit_in}
 use Rattle.volume_facts.specs.Used.{records_noted}
 use Rattle.volume_facts.proofs.BitmapLaws.{records-differ, records-meet}
