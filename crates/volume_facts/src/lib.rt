@@ -15,3 +15,6 @@ pub use heads::{Head, Heads};
 pub use links::first_wrong_link;
 pub use names::{NameFact, Names, note_laws};
 pub use references::first_wrong_reference;
+
+#[cfg(test)]
+mod link_tests;
