@@ -63,7 +63,8 @@ IsTallyOf-noted records facts f tally tell is =
 
 -- Where the clause on references holds, each name stands in a directory, and its file is a base record.
 
-parents-right : (records : Records) (o : Option Record) (r : Record) → o ≡ Some r → IfSome o (HasRightReferences records) → HasRightReferences records r
+parents-right : (records : Records) (o : Option Record) (r : Record) → o ≡ Some r → IfSome o (HasRightReferences records)
+    → HasRightReferences records r
 parents-right records o r e right = subst (λ q. IfSome q (HasRightReferences records)) e right
 
 pub held-directory : (records : Records) (held : HeldName) → ((n : ℕ) → MeetsReferences records n)
@@ -82,7 +83,8 @@ names-directories records f right =
     subst (All (λ (p : PlacedName). NamesDirectory records p.parent)) (held-file records f)
     (All-map (λ (p : PlacedName). NamesDirectory records p.parent) (λ (h : HeldName). h.place) (filter (is_of_file f) all)
     (All-filter (is_of_file f) (λ (h : HeldName). NamesDirectory records h.place.parent) all
-    (All-from_Contains (λ (h : HeldName). NamesDirectory records h.place.parent) all (λ held among. held-directory records held right among))))
+    (All-from_Contains (λ (h : HeldName). NamesDirectory records h.place.parent) all
+    (λ held among. held-directory records held right among))))
 
 pub used-from : {A : Type 0} (o : Option A) (P : A → Type 0) → IsSomeAnd o P → (x : A) × (o ≡ Some x) × P x
 used-from None P h = absurd h
@@ -100,7 +102,8 @@ parent-inside records f p ends right e =
     let places = map placed (names_of records f) in
     let w = found-number records (find is_placed_not_dos places) p (first-parent records f ∙ e) in
     let found = find-found is_placed_not_dos places w.0 w.1 in
-    let directory = All-contains (λ (x : PlacedName). NamesDirectory records x.parent) places w.0 (names-directories records f right) found.0 in
+    let directory = All-contains (λ (x : PlacedName). NamesDirectory records x.parent) places w.0
+    (names-directories records f right) found.0 in
     let used = used-from (records.record_at w.0.parent.number) _ directory.0 in
     subst (λ k. k < records.count) w.2 (inside-used records w.0.parent.number used.0 ends used.1)
 
@@ -124,7 +127,8 @@ is_base-head r head is h = none-base head.base (subst (λ (o : Option Reference)
 pub head-is_base : (r : Record) (head : Head) → IsHead r head → head.base ≡ 0 → IsTrue (is_base r)
 head-is_base r head is e = subst (λ (o : Option Reference). IsTrue (is_none o)) is.base (base-none head.base e)
 
-linked-filing : (records : Records) (f : ℕ) (r : Record) (head : Head) (tally : Tally) (reaches : Bool) → IsHead r head → IsTallyOf records f tally
+linked-filing : (records : Records) (f : ℕ) (r : Record) (head : Head) (tally : Tally) (reaches : Bool) → IsHead r head
+    → IsTallyOf records f tally
     → IsTrue reaches ↔ ReachesRoot records f → IsLinked f head tally reaches ↔ HasRightFiling records f r
 linked-filing records f r head tally reaches is of way = (
   λ linked. record {

@@ -13,7 +13,8 @@ pub HeadsNote-more : (records : Records) (n : ℕ) (old new : Heads) (o : Option
 HeadsNote-more records n old new o items here note = record {
   count = ap length items ∙ length_push old.heads.items o ∙ ap (λ k. k + 1) note.count;
   each = below_more (λ k. IsHeadIn (records.record_at k) (head_at new k)) n
-      (λ k h. let e : head_at new k ≡ head_at old k = ap (λ xs. get_or xs k None) items ∙ get_or_append_left old.heads.items (o ∷ []) None k (omega (arith, note.count)) in
+      (λ k h. let e : head_at new k ≡ head_at old k = ap (λ xs. get_or xs k None) items
+      ∙ get_or_append_left old.heads.items (o ∷ []) None k (omega (arith, note.count)) in
       subst (IsHeadIn (records.record_at k)) (sym e) (note.each k h))
       (let e : head_at new n ≡ o = ap (λ xs. get_or xs n None) items ∙ get_or_push old.heads.items o None n note.count in
       subst (IsHeadIn (records.record_at n)) (sym e) here);

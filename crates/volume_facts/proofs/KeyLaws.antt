@@ -17,7 +17,8 @@ use Rattle.volume_facts.proofs.PairLaws.{IsPartnered-beside, beside-IsPartnered,
 
 -- the order of keys is that of their places
 pub order-le : (x y : NameKey) → IsInRange x → IsInRange y
-    → is_lt (ordering_then (nat_cmp y.file x.file) (ordering_then (nat_cmp y.directory x.directory) (nat_cmp y.namespace x.namespace))) ≡ false
+    → is_lt (ordering_then (nat_cmp y.file x.file)
+    (ordering_then (nat_cmp y.directory x.directory) (nat_cmp y.namespace x.namespace))) ≡ false
     → order_of x ≤ order_of y
 order-le x y rx ry h =
     let a = rx.directory in let b = rx.namespace in let c = ry.directory in let d = ry.namespace in
@@ -38,7 +39,8 @@ orders-rise keys range sorted i j d le lt =
     rw (get_or-map order_of keys i none d (omega arith), get_or-map order_of keys j none d (omega arith)) (by i j none le (omega arith))
 
 -- two keys with one place are the same
-same_order : (f d n g e m : ℕ) → d < 2 ^ 48 → n < 2 ^ 8 → e < 2 ^ 48 → m < 2 ^ 8 → order_in f d n ≡ order_in g e m → (f ≡ g) × (d ≡ e) × (n ≡ m)
+same_order : (f d n g e m : ℕ) → d < 2 ^ 48 → n < 2 ^ 8 → e < 2 ^ 48 → m < 2 ^ 8 → order_in f d n ≡ order_in g e m
+    → (f ≡ g) × (d ≡ e) × (n ≡ m)
 same_order f d n g e m a b c h same = (omega arith, omega arith, omega arith)
 
 is_key-fields : (f d n : ℕ) (x : NameKey) → is_key f d n x ≡ true → (x.file ≡ f) × (x.directory ≡ d) × (x.namespace ≡ n)
@@ -111,13 +113,15 @@ pub all-paired : (keys : List NameKey) (i : ℕ) → length keys ≤ i → ((j :
 all-paired keys i end all f = paired-before keys i f all (λ j d l e. omega arith)
 
 -- the first that is not paired names the least file
-pub least-unpaired : (keys : List NameKey) (i : ℕ) (d : NameKey) → All IsInRange keys → IsNonDecreasing (map order_of keys) → i < length keys
+pub least-unpaired : (keys : List NameKey) (i : ℕ) (d : NameKey) → All IsInRange keys → IsNonDecreasing (map order_of keys)
+    → i < length keys
     → ((j : ℕ) (d : NameKey) → j < i → IsPairedName keys (get_or keys j d)) → ¬ (IsPairedName keys (get_or keys i d))
     → IsLeastFailing (ArePaired keys) (Some (get_or keys i d).file)
 least-unpaired keys i d range up inside all bad =
     let x = get_or keys i d in (
       λ paired. bad (λ dos. paired x.directory
-          (count-some (is_key x.file x.directory 2) keys x (Contains-get_or keys i d inside) (fields-is_key x.file x.directory 2 x refl refl dos))),
+          (count-some (is_key x.file x.directory 2) keys x (Contains-get_or keys i d inside)
+          (fields-is_key x.file x.directory 2 x refl refl dos))),
       λ f less. paired-before keys i f all (λ j e l is. elim (cases_lt j i) [
         | inl lt ↦ lt
         | inr ge ↦

@@ -35,7 +35,8 @@ pub record AreFoundOut (facts : List NameFact) (count : ℕ) (tallies : List Tal
   pub parent : (f : ℕ) → f < count → slice_index parents f ≡ parent_within count f (tally_at tallies f).parent
   pub known : (f : ℕ) → f < count → IsKnown parents ROOT (mark_at marks f) f
 
-pub least-filing : (records : Records) (heads : Heads) (facts : List NameFact) (tallies : List Tally) (parents : List ℕ) (marks : List Mark) (o : Option ℕ)
+pub least-filing : (records : Records) (heads : Heads) (facts : List NameFact) (tallies : List Tally) (parents : List ℕ)
+    (marks : List Mark) (o : Option ℕ)
     → EndsAtCount records → HeadsNote records records.count heads → TellNames records facts → ((n : ℕ) → MeetsReferences records n)
     → AreFoundOut facts records.count tallies parents marks
     → IsLeastFailing (λ f. IsFiled f (head_at heads f) (tally_at tallies f) (is_found (mark_at marks f))) o
@@ -57,7 +58,8 @@ least-filing records heads facts tallies parents marks o ends note tell referenc
           let leads = Reaches-Leads records count parents ROOT f are l in
           let way : IsTrue (is_found mark) ↔ ReachesRoot records f =
           (λ h. leads.0 (known.found.0 (found.0 h)), λ r. found.1 (known.found.1 (leads.1 r))) in
-          filed-meets records f (head_at heads f) (tally_at tallies f) (is_found mark) (HeadsNote-all records heads ends note f) (tally f l) way
+          filed-meets records f (head_at heads f) (tally_at tallies f) (is_found mark) (HeadsNote-all records heads ends note f)
+          (tally f l) way
       | inr ge ↦
           let none : head_at heads f ≡ None = get_or_past heads.heads.items f None (omega (arith, note.count)) in
           subst (λ h. IsFiled f h (tally_at tallies f) (is_found (mark_at marks f)) ↔ MeetsFiling records f) (sym none)

@@ -1,6 +1,6 @@
 -- The clause on links is that of pairs and that of filing.
 use Rattle.std.proofs.Common.{◌≡◌, ◌≤◌, ◌==◌, ◌&&◌, ℕ, Bool, true, false, cond, List, Option, Some, None, map, unwrap_or, refl, sym, ap, subst, ◌∙◌, eq-eqb}
-use Rattle.std.specs.List.{All, Contains, count_by, filter}
+use Rattle.std.specs.List.{Contains, count_by, filter}
 use Rattle.std.specs.List.Sorted.{IsPermutation}
 use Rattle.std.specs.Option.{option_map}
 use Rattle.std.specs.Prelude.{IfSome, IsTrue, is_none}
@@ -61,7 +61,8 @@ paired-names records facts keys f tell same paired =
     let dos = times-names records facts keys f d 2 tell same in
     let long = times-names records facts keys f d 1 tell same in
     let some : IsTrue (is_dos name) → 1 ≤ times_named keys f d 2 = λ h.
-    subst (λ n. 1 ≤ n) (sym dos) (count-some (is_dos_in d) names name among (both (is_dos name) (name.parent.number == d) h (eq-eqb d d refl))) in
+    subst (λ n. 1 ≤ n) (sym dos)
+    (count-some (is_dos_in d) names name among (both (is_dos name) (name.parent.number == d) h (eq-eqb d d refl))) in
     record {
       long = λ h. subst (λ n. 1 ≤ n) long (paired d (some h)).long;
       alone = λ h. subst (λ n. n ≤ 1) dos (paired d (some h)).alone;
@@ -94,7 +95,8 @@ names-paired records facts keys f tell same all directory some =
 
 -- Where the clause on references holds, a file that has a name is a base record.
 
-based : (records : Records) (k f : ℕ) (r : Record) (o : Option Reference) → r.header.base ≡ o → records.record_at k ≡ Some r → file_of k r ≡ f
+based : (records : Records) (k f : ℕ) (r : Record) (o : Option Reference) → r.header.base ≡ o → records.record_at k ≡ Some r
+    → file_of k r ≡ f
     → HasRightReferences records r → (x : Record) × (records.record_at f ≡ Some x) × IsTrue (is_base x)
 based records k f r None none at file right =
     let e : k ≡ f = sym (ap (λ (b : Option Reference). unwrap_or (option_map (λ (x : Reference). x.number) b) k) none) ∙ file in
@@ -118,32 +120,36 @@ named-base records f name right among =
     let r = h.0 in
     let by = h.1 in
     let file : file_of held.holder r ≡ f = ap (λ (x : HeldName). x.file) by.is ∙ eqb-true held.file f in_file.1 in
-    based records held.holder f r r.header.base refl by.at file (subst (λ o. IfSome o (HasRightReferences records)) by.at (right held.holder))
+    based records held.holder f r r.header.base refl by.at file
+    (subst (λ o. IfSome o (HasRightReferences records)) by.at (right held.holder))
 
 -- The clause.
 
 meets-of : (records : Records) (f : ℕ) → HasPairs records f → MeetsFiling records f → MeetsLinks records f
 meets-of records f paired filing = record {
   links = if_some (records.record_at f) (λ r. IsTrue (is_base r) → HasRightLinks records f r) (λ r at base.
-    let right : HasRightFiling records f r = subst (λ o. IfSome o (λ x. IsTrue (is_base x) → HasRightFiling records f x)) at filing.links base in
-    record { named = right.named; count = right.count; paired = paired; once = right.once; rooted = right.rooted });
+      let right : HasRightFiling records f r =
+      subst (λ o. IfSome o (λ x. IsTrue (is_base x) → HasRightFiling records f x)) at filing.links base in
+      record { named = right.named; count = right.count; paired = paired; once = right.once; rooted = right.rooted });
   root = filing.root;
 }
 
 filing-of : (records : Records) (f : ℕ) → MeetsLinks records f → MeetsFiling records f
 filing-of records f meets = record {
   links = if_some (records.record_at f) (λ r. IsTrue (is_base r) → HasRightFiling records f r) (λ r at base.
-    let right : HasRightLinks records f r = subst (λ o. IfSome o (λ x. IsTrue (is_base x) → HasRightLinks records f x)) at meets.links base in
-    record { named = right.named; count = right.count; once = right.once; rooted = right.rooted });
+      let right : HasRightLinks records f r =
+      subst (λ o. IfSome o (λ x. IsTrue (is_base x) → HasRightLinks records f x)) at meets.links base in
+      record { named = right.named; count = right.count; once = right.once; rooted = right.rooted });
   root = meets.root;
 }
 
 pairs-of : (records : Records) (f : ℕ) → ((n : ℕ) → MeetsReferences records n) → MeetsLinks records f → HasPairs records f
 pairs-of records f references meets =
     All-from_Contains (IsPairedAmong (names_of records f)) (names_of records f) (λ name among.
-      let w = named-base records f name references among in
-      let right : HasRightLinks records f w.0 = subst (λ o. IfSome o (λ x. IsTrue (is_base x) → HasRightLinks records f x)) w.1 meets.links w.2 in
-      All-contains (IsPairedAmong (names_of records f)) (names_of records f) name right.paired among)
+    let w = named-base records f name references among in
+    let right : HasRightLinks records f w.0 =
+    subst (λ o. IfSome o (λ x. IsTrue (is_base x) → HasRightLinks records f x)) w.1 meets.links w.2 in
+    All-contains (IsPairedAmong (names_of records f)) (names_of records f) name right.paired among)
 
 pub least-pair : (records : Records) (facts : List NameFact) (keys : List NameKey) (o : Option ℕ) → TellNames records facts
     → IsPermutation (map key_of facts) keys → IsLeastFailing (ArePaired keys) o → IsLeastFailing (HasPairs records) o

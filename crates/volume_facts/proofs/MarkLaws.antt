@@ -14,7 +14,8 @@ unknown Lost = false
 abbrev pub weight : Mark → ℕ
 weight m = cond (unknown m) 1 0
 
-pub unknown-fewer : (marks : List Mark) (at : ℕ) → at < length marks → mark_at marks at ≡ Unknown → count_by unknown (set marks at Walking) < count_by unknown marks
+pub unknown-fewer : (marks : List Mark) (at : ℕ) → at < length marks → mark_at marks at ≡ Unknown
+    → count_by unknown (set marks at Walking) < count_by unknown marks
 unknown-fewer marks at h is =
     let s = sum_by-set weight marks at Walking Unknown h in
     let o : weight (mark_at marks at) ≡ weight Unknown = ap weight is in

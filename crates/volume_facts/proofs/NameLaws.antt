@@ -23,7 +23,8 @@ unfolding names_held_below
 held-none records = refl
 
 -- one record more
-pub held-more : (records : Records) (n : ℕ) → names_held_below records (n + 1) ≡ names_held_below records n ++ names_held n (records.record_at n)
+pub held-more : (records : Records) (n : ℕ)
+    → names_held_below records (n + 1) ≡ names_held_below records n ++ names_held n (records.record_at n)
 unfolding names_held_below
 held-more records n =
     let h : ℕ → List HeldName = λ k. names_held k (records.record_at k) in
@@ -31,7 +32,8 @@ held-more records n =
     ap (flat_map h) (range-append 0 n 1) ∙ flat_map-append h (range_with_len 0 n) (range_with_len (0 + n) 1)
     ∙ ap (λ zs. flat_map h (range_with_len 0 n) ++ zs) (append-nil (h (0 + n)) ∙ ap h z)
 
-pub held-some : (n : ℕ) (o : Option Record) (r : Record) → o ≡ Some r → names_held n o ≡ map (held_name n (file_of n r)) (names_among r.parts)
+pub held-some : (n : ℕ) (o : Option Record) (r : Record) → o ≡ Some r
+    → names_held n o ≡ map (held_name n (file_of n r)) (names_among r.parts)
 unfolding names_held
 held-some n o r e = ap (names_held n) e
 
@@ -63,7 +65,8 @@ names_told-append n file xs ys =
     ∙ map-append (held_name n file) (names_among (map (part_of n) xs)) (names_among (map (part_of n) ys))
 
 -- an attribute that is a name
-pub names_told-one : (n file : ℕ) (attribute : Attribute) (value : List ℕ) → attribute.kind ≡ FILE_NAME → value_of attribute.body ≡ Some value
+pub names_told-one : (n file : ℕ) (attribute : Attribute) (value : List ℕ) → attribute.kind ≡ FILE_NAME
+    → value_of attribute.body ≡ Some value
     → names_told n file (attribute ∷ []) ≡ held_name n file (name_in value) ∷ []
 names_told-one n file attribute value kind is =
     let part = part_of n attribute in
@@ -196,7 +199,8 @@ unfolding names_held_below
 held-among records n r name l e c =
     Contains-flat_map (λ k. names_held k (records.record_at k)) (range_with_len 0 records.count) n _
     (Contains-range 0 records.count n (omega arith) (omega arith))
-    (subst (λ xs. Contains xs (held_name n (file_of n r) name)) (sym (held-some n _ r e)) (Contains-map (held_name n (file_of n r)) (names_among r.parts) name c))
+    (subst (λ xs. Contains xs (held_name n (file_of n r) name)) (sym (held-some n _ r e))
+    (Contains-map (held_name n (file_of n r)) (names_among r.parts) name c))
 
 -- Their holders rise.
 
@@ -213,7 +217,8 @@ held-before : (records : Records) (n : ℕ) → All (λ held. holder_of held < n
 held-before records zero = rw (held-none records) (All-nil (λ held. holder_of held < 0))
 held-before records (suc n) =
     let e : suc n ≡ n + 1 = omega arith in
-    rw (e, held-more records n) (All-append (λ held. holder_of held < n + 1) (names_held_below records n) (names_held n (records.record_at n))
+    rw (e, held-more records n)
+    (All-append (λ held. holder_of held < n + 1) (names_held_below records n) (names_held n (records.record_at n))
     (All-weaker (λ held. holder_of held < n) (λ held. holder_of held < n + 1) (λ held h. omega arith) _ (held-before records n))
     (All-weaker (λ held. holder_of held ≡ n) (λ held. holder_of held < n + 1) (λ held h. omega arith) _ (held-at n (records.record_at n))))
 

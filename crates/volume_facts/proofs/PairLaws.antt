@@ -31,13 +31,21 @@ count_two k (x ∷ xs) zero (suc j) lt h e f =
     let c = count-yes (λ y. y == k) x xs (eq-eqb x k e) in let r = count_at k xs j (omega arith) f in omega arith
 count_two k (x ∷ xs) (suc i) (suc j) lt h e f =
     let r = count_two k xs i j (omega arith) (omega arith) e f in
-    elim (cases_eq x k) [ inl s ↦ let c = count-yes (λ y. y == k) x xs (eq-eqb x k s) in omega arith | inr s ↦ let c = count-no (λ y. y == k) x xs (ne_eqb x k s) in omega arith ]
+    elim (cases_eq x k) [
+      | inl s ↦ let c = count-yes (λ y. y == k) x xs (eq-eqb x k s) in omega arith
+      | inr s ↦ let c =
+          count-no (λ y. y == k) x xs (ne_eqb x k s) in omega arith
+    ]
 
 count_one : (k : ℕ) (xs : List ℕ) (i : ℕ) → ((j : ℕ) → j < length xs → j ≢ i → get_or xs j 0 ≢ k) → times k xs ≤ 1
 count_one k [] i h = omega arith
 count_one k (x ∷ xs) zero h =
     let r = count_none k xs (λ j l. h (suc j) (omega arith) (λ e. absurd (omega arith))) in
-    elim (cases_eq x k) [ inl s ↦ let c = count-yes (λ y. y == k) x xs (eq-eqb x k s) in omega arith | inr s ↦ let c = count-no (λ y. y == k) x xs (ne_eqb x k s) in omega arith ]
+    elim (cases_eq x k) [
+      | inl s ↦ let c = count-yes (λ y. y == k) x xs (eq-eqb x k s) in omega arith
+      | inr s ↦ let c =
+          count-no (λ y. y == k) x xs (ne_eqb x k s) in omega arith
+    ]
 count_one k (x ∷ xs) (suc i) h =
     let r = count_one k xs i (λ j l ne. h (suc j) (omega arith) (λ e. ne (omega arith))) in
     let c = count-no (λ y. y == k) x xs (ne_eqb x k (h 0 (omega arith) (λ e. absurd (omega arith)))) in omega arith
@@ -47,10 +55,12 @@ pub found_at : (k : ℕ) (xs : List ℕ) → 1 ≤ times k xs → (i : ℕ) × (
 found_at k [] h = absurd (omega arith)
 found_at k (x ∷ xs) h = elim (cases_eq x k) [
   | inl e ↦ (0, omega arith, e)
-  | inr ne ↦ let c = count-no (λ y. y == k) x xs (ne_eqb x k ne) in let r = found_at k xs (omega arith) in (suc r.0, omega (arith, r.1), r.2)
+  | inr ne ↦ let c = count-no (λ y. y == k) x xs (ne_eqb x k ne) in let r = found_at k xs (omega arith) in
+      (suc r.0, omega (arith, r.1), r.2)
 ]
 
-pub IsPartnered-beside : (keys : List ℕ) (i key : ℕ) → IsNonDecreasing keys → i < length keys → get_or keys i 0 ≡ key → 0 < key → IsBeside keys i → IsPartnered keys key
+pub IsPartnered-beside : (keys : List ℕ) (i key : ℕ) → IsNonDecreasing keys → i < length keys → get_or keys i 0 ≡ key → 0 < key
+    → IsBeside keys i → IsPartnered keys key
 IsPartnered-beside keys i key up h e some beside =
     let s = beside.some in let b : get_or keys (i - 1) 0 ≡ key - 1 = beside.before ∙ ap (λ k. k - 1) e in
     record {
@@ -63,11 +73,13 @@ IsPartnered-beside keys i key up h e some beside =
       ]);
     }
 
-pub beside-IsPartnered : (keys : List ℕ) (i key : ℕ) → IsNonDecreasing keys → i < length keys → get_or keys i 0 ≡ key → 0 < key → IsPartnered keys key → IsBeside keys i
+pub beside-IsPartnered : (keys : List ℕ) (i key : ℕ) → IsNonDecreasing keys → i < length keys → get_or keys i 0 ≡ key → 0 < key
+    → IsPartnered keys key → IsBeside keys i
 beside-IsPartnered keys i key up h e some paired =
     let long = found_at (key - 1) keys paired.long in
     let alone = paired.alone in
-    let before : long.0 < i = elim (cases_lt long.0 i) [ inl lt ↦ lt | inr ge ↦ let u = up i long.0 0 ge long.1 in let f = long.2 in absurd (omega arith) ] in
+    let before : long.0 < i =
+    elim (cases_lt long.0 i) [ inl lt ↦ lt | inr ge ↦ let u = up i long.0 0 ge long.1 in let f = long.2 in absurd (omega arith) ] in
     record {
       some = omega arith;
       before = let u = up long.0 (i - 1) 0 (omega arith) (omega arith) in let v = up (i - 1) i 0 (omega arith) h in let f = long.2 in

@@ -19,10 +19,12 @@ Reaches-step parents root f other = (
   step (suc k) e = (k, e)
 
 -- a set of records that each way stays in, and that the root is not in
-stays : (parents : List ℕ) (root : ℕ) (S : ℕ → Type 0) → ((k : ℕ) → S k → S (slice_index parents k)) → (S root → ⊥) → (k f : ℕ) → S f → climbed parents k f ≡ root → ⊥
+stays : (parents : List ℕ) (root : ℕ) (S : ℕ → Type 0) → ((k : ℕ) → S k → S (slice_index parents k)) → (S root → ⊥) → (k f : ℕ) → S f
+    → climbed parents k f ≡ root → ⊥
 stays parents root S closed out zero f s e = out (subst S e s)
 stays parents root S closed out (suc k) f s e = stays parents root S closed out k (slice_index parents f) (closed f s) e
 
-pub Reaches-never : (parents : List ℕ) (root : ℕ) (S : ℕ → Type 0) → ((k : ℕ) → S k → S (slice_index parents k)) → (S root → ⊥) → (f : ℕ) → S f → ¬ (Reaches parents root f)
+pub Reaches-never : (parents : List ℕ) (root : ℕ) (S : ℕ → Type 0) → ((k : ℕ) → S k → S (slice_index parents k)) → (S root → ⊥)
+    → (f : ℕ) → S f → ¬ (Reaches parents root f)
 unfolding Reaches
 Reaches-never parents root S closed out f s (k, e) = stays parents root S closed out k f s e

@@ -85,15 +85,18 @@ least-parent records facts i d ends tell inside all bad =
             let up = subst (λ xs. IsNonDecreasingBy holder_of xs) (sym tell) (held-rising records records.count) in
             let len : length (map told_name facts) ≡ length facts = length-map facts told_name in
             let rise = up i k (told_name d) ge (omega arith) in
-            let a : holder_of (get_or (map told_name facts) i (told_name d)) ≡ fact.holder = ap holder_of (get_or-map told_name facts i d (told_name d) inside) in
+            let a : holder_of (get_or (map told_name facts) i (told_name d)) ≡ fact.holder =
+            ap holder_of (get_or-map told_name facts i d (told_name d) inside) in
             let b : holder_of (get_or (map told_name facts) k (told_name d)) ≡ (get_or facts k e).holder =
-            ap holder_of (get_or-map told_name facts k d (told_name d) l) ∙ ap (λ (f : NameFact). f.holder) (get_or_default facts k d e l) in
+            ap holder_of (get_or-map told_name facts k d (told_name d) l)
+            ∙ ap (λ (f : NameFact). f.holder) (get_or_default facts k d e l) in
             absurd (omega arith)
       ]),
     )
 
 -- the least of two
-pub least-lesser : (P Q : ℕ → Type 0) (a b : Option ℕ) → IsLeastFailing P a → IsLeastFailing Q b → IsLeastFailing (λ n. P n × Q n) (lesser a b)
+pub least-lesser : (P Q : ℕ → Type 0) (a b : Option ℕ) → IsLeastFailing P a → IsLeastFailing Q b
+    → IsLeastFailing (λ n. P n × Q n) (lesser a b)
 least-lesser P Q None None all every = λ n. (all n, every n)
 least-lesser P Q None (Some b) all (bad, below) = (λ p. bad p.1, λ m h. (all m, below m h))
 least-lesser P Q (Some a) None (bad, below) every = (λ p. bad p.0, λ m h. (below m h, every m))
@@ -111,7 +114,8 @@ whole records None base parents = tt
 whole records (Some r) base parents = record { base = base; parents = parents }
 
 parts : (records : Records) (o : Option Record) → IfSome o (HasRightReferences records)
-    → IfSome o (λ r. IfSome r.header.base (NamesBase records)) × IfSome o (λ r. All (λ name. NamesDirectory records name.parent) (names_among r.parts))
+    → IfSome o (λ r. IfSome r.header.base (NamesBase records)) × IfSome o
+    (λ r. All (λ name. NamesDirectory records name.parent) (names_among r.parts))
 parts records None right = (tt, tt)
 parts records (Some r) right = (right.base, right.parents)
 

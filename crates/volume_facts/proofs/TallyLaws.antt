@@ -19,7 +19,11 @@ find-push-yes : {X : Type 0} (p : X → Bool) (xs : List X) (y : X) → p y ≡ 
 find-push-yes p [] y e = ap (λ b. cond b (Some y) None) e
 find-push-yes {X} p (x ∷ xs) y e =
     let rest = find-push-yes p xs y e in
-    elim (p x) as (λ b. cond b (Some x) (find p (xs ++ y ∷ [])) ≡ option_or (cond b (Some x) (find p xs)) (Some y)) [ true ↦ refl | false ↦ rest ]
+    elim (p x) as (λ b. cond b (Some x) (find p (xs ++ y ∷ [])) ≡ option_or (cond b (Some x) (find p xs)) (Some y)) [
+      | true ↦
+          refl
+      | false ↦ rest
+    ]
 
 map-or : {X Y : Type 0} (f : X → Y) (o : Option X) (x : X) → option_map f (option_or o (Some x)) ≡ option_or (option_map f o) (Some (f x))
 map-or f None x = refl
@@ -69,7 +73,12 @@ places-push f facts x =
     ∙ ap (map (λ (h : HeldName). h.place)) (filter-append (is_of_file f) told (told_name x ∷ []))
     ∙ map-append (λ (h : HeldName). h.place) (filter (is_of_file f) told) (filter (is_of_file f) (told_name x ∷ []))
     ∙ ap (λ zs. places_in_file f facts ++ zs)
-    (elim (x.file == f) as (λ b. map (λ (h : HeldName). h.place) (cond b (told_name x ∷ []) []) ≡ cond b ((told_name x).place ∷ []) []) [ true ↦ refl | false ↦ refl ])
+    (elim (x.file == f) as
+    (λ b. map (λ (h : HeldName). h.place) (cond b (told_name x ∷ []) []) ≡ cond b ((told_name x).place ∷ []) []) [
+      | true ↦
+          refl
+      | false ↦ refl
+    ])
 
 pub places-own : (f : ℕ) (facts : List NameFact) (i : ℕ) (d : NameFact) → i < length facts → (get_or facts i d).file ≡ f
     → places_in_file f (take (i + 1) facts) ≡ places_in_file f (take i facts) ++ (told_name (get_or facts i d)).place ∷ []
@@ -100,7 +109,8 @@ places-few f facts i t h is =
     (omega (arith, a, b, c, e, g, n), omega (arith, a, b, c, e, g, m, l))
 
 -- the tallies with one fact more
-pub tallies-more : (facts : List NameFact) (i count : ℕ) (d : NameFact) (old : List Tally) (new : Tally) → i < length facts → length old ≡ count
+pub tallies-more : (facts : List NameFact) (i count : ℕ) (d : NameFact) (old : List Tally) (new : Tally) → i < length facts
+    → length old ≡ count
     → ((f : ℕ) → f < count → IsTally (places_in_file f (take i facts)) (tally_at old f))
     → (get_or facts i d).file < count
     → IsTally (places_in_file (get_or facts i d).file (take i facts) ++ (told_name (get_or facts i d)).place ∷ []) new
@@ -110,7 +120,8 @@ tallies-more facts i count d old new h len each inside is f l =
     let file = (get_or facts i d).file in
     elim (cases_eq file f) [
       | inl e ↦
-          let at : tally_at (set old file new) f ≡ new = ap (tally_at (set old file new)) (sym e) ∙ get_or-set_same old file new none (omega arith) in
+          let at : tally_at (set old file new) f ≡ new = ap (tally_at (set old file new)) (sym e)
+          ∙ get_or-set_same old file new none (omega arith) in
           subst (IsTally (places_in_file f (take (i + 1) facts))) (sym at)
           (subst (λ ps. IsTally ps new) (sym (places-own f facts i d h e))
           (subst (λ g. IsTally (places_in_file g (take i facts) ++ (told_name (get_or facts i d)).place ∷ []) new) e is))

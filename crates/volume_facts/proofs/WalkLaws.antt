@@ -19,7 +19,8 @@ set_there marks at k m ne = get_or-set_other marks at k m Unknown ne
 pub none_walking : (parents : List ℕ) (root : ℕ) (marks : List Mark) (k : ℕ) → AreRight parents root marks → mark_at marks k ≡ Walking → ⊥
 none_walking parents root marks k right e = subst (λ m. Says parents root m k) e (right k)
 
-pub Walks-none : (parents : List ℕ) (root : ℕ) (marks : List Mark) (f : ℕ) (path : List ℕ) → path ≡ [] → HasRoot root marks → AreRight parents root marks
+pub Walks-none : (parents : List ℕ) (root : ℕ) (marks : List Mark) (f : ℕ) (path : List ℕ) → path ≡ [] → HasRoot root marks
+    → AreRight parents root marks
     → Walks parents root marks marks path f f
 Walks-none parents root marks f path empty found right =
     let never : (k : ℕ) → mark_at marks k ≡ Walking → ⊥ = λ k e. none_walking parents root marks k right e in
@@ -51,7 +52,8 @@ pub Walks-more : (parents : List ℕ) (root : ℕ) (old new : List Mark) (path :
 unfolding Marked
 Walks-more parents root old new path f at inside unknown walks =
     let now : List Mark = set new at Walking in
-    let apart : at ≢ root = λ e. let r : mark_at new at ≡ Found = ap (mark_at new) e ∙ walks.has_root (subst (λ k. k < length new) e inside) in absurd (cc) in
+    let apart : at ≢ root = λ e. let r : mark_at new at ≡ Found = ap (mark_at new) e
+    ∙ walks.has_root (subst (λ k. k < length new) e inside) in absurd (cc) in
     let step = Reaches-step parents root at apart in
     let here : mark_at now at ≡ Walking = set_here new at Walking inside in
     record {
@@ -105,7 +107,8 @@ not_walking marks root has w = elim (cases_lt root (length marks)) [
 ]
 
 -- what the end says of each record on the way
-verdict-says : (parents : List ℕ) (root : ℕ) (old mid : List Mark) (path : List ℕ) (f at : ℕ) (m : Mark) → mark_at mid at ≡ m → AreRight parents root old
+verdict-says : (parents : List ℕ) (root : ℕ) (old mid : List Mark) (path : List ℕ) (f at : ℕ) (m : Mark) → mark_at mid at ≡ m
+    → AreRight parents root old
     → Walked parents root old mid path f at → (k : ℕ) → mark_at mid k ≡ Walking → Says parents root (verdict_of m) k
 verdict-says parents root old mid path f at Unknown is right walked k e = absurd (walked.done is)
 verdict-says parents root old mid path f at Walking is right walked k e =
@@ -132,7 +135,8 @@ KeepsKnown-of parents root old mid new path f at right walked settled =
     let v : Mark = verdict_of (mark_at mid at) in
     let known = verdict-known (mark_at mid at) in
     let walks = walked.walks in
-    let new_at : (k : ℕ) → ((mark_at mid k ≡ Walking) × (mark_at new k ≡ v)) ⊎ ((mark_at mid k ≢ Walking) × (mark_at new k ≡ mark_at old k)) =
+    let new_at : (k : ℕ) → ((mark_at mid k ≡ Walking) × (mark_at new k ≡ v)) ⊎
+    ((mark_at mid k ≢ Walking) × (mark_at new k ≡ mark_at old k)) =
     λ k. elim (is_walking (mark_at mid k)) [
       | inl w ↦ inl (w, settled.path_has k (walks.on_path k w))
       | inr ne ↦ elim (settled.others k) [
@@ -143,7 +147,8 @@ KeepsKnown-of parents root old mid new path f at right walked settled =
     record {
       all = settled.all ∙ walks.all;
       right = λ k. elim (new_at k) [
-        | inl w ↦ subst (λ m. Says parents root m k) (sym w.1) (verdict-says parents root old mid path f at (mark_at mid at) refl right walked k w.0)
+        | inl w ↦ subst (λ m. Says parents root m k) (sym w.1)
+            (verdict-says parents root old mid path f at (mark_at mid at) refl right walked k w.0)
         | inr w ↦ subst (λ m. Says parents root m k) (sym w.1) (right k)
       ];
       here = elim walks.start [
@@ -171,8 +176,10 @@ pub AreRight-root : (parents : List ℕ) (root : ℕ) (marks : List Mark) → Ha
     → ((k : ℕ) → k ≢ root → mark_at marks k ≡ Unknown) → AreRight parents root marks
 AreRight-root parents root marks has others k = elim (cases_eq k root) [
   | inl e ↦ elim (cases_lt root (length marks)) [
-    | inl lt ↦ subst (λ j. Says parents root (mark_at marks j) j) (sym e) (subst (λ m. Says parents root m root) (sym (has lt)) (Reaches-root parents root))
-    | inr ge ↦ subst (λ j. Says parents root (mark_at marks j) j) (sym e) (subst (λ m. Says parents root m root) (sym (get_or_past marks root Unknown ge)) tt)
+    | inl lt ↦ subst (λ j. Says parents root (mark_at marks j) j) (sym e)
+        (subst (λ m. Says parents root m root) (sym (has lt)) (Reaches-root parents root))
+    | inr ge ↦ subst (λ j. Says parents root (mark_at marks j) j) (sym e)
+        (subst (λ m. Says parents root m root) (sym (get_or_past marks root Unknown ge)) tt)
   ]
   | inr ne ↦ subst (λ m. Says parents root m k) (sym (others k ne)) tt
 ]

@@ -32,7 +32,8 @@ climbed-leads : (records : Records) (count : ℕ) (parents : List ℕ) (root k f
 climbed-leads records count parents root zero f are l e = (0, ap Some e)
 climbed-leads records count parents root (suc k) f are l e =
     go (parent_of records f) refl (λ g h. climbed-leads records count parents root k g are h) where
-      go : (o : Option ℕ) → parent_of records f ≡ o → ((g : ℕ) → g < count → climbed parents k g ≡ root → Leads records root g) → Leads records root f
+      go : (o : Option ℕ) → parent_of records f ≡ o → ((g : ℕ) → g < count → climbed parents k g ≡ root → Leads records root g)
+          → Leads records root f
       go None is rest = rest f l (sym (ap (climbed parents k) (next-none records count parents f are l is)) ∙ e)
       go (Some p) is rest =
           let w = rest p (are.inside f p is) (sym (ap (climbed parents k) (next-some records count parents f p are l is)) ∙ e) in
@@ -44,7 +45,8 @@ leads-climbed records count parents root zero f are l e = (0, cc)
 leads-climbed records count parents root (suc n) f are l e =
     go (parent_of records f) refl (λ g h. leads-climbed records count parents root n g are h) where
       go : (o : Option ℕ) → parent_of records f ≡ o
-          → ((g : ℕ) → g < count → steps_up n records (Some g) ≡ Some root → (k : ℕ) × (climbed parents k g ≡ root)) → (k : ℕ) × (climbed parents k f ≡ root)
+          → ((g : ℕ) → g < count → steps_up n records (Some g) ≡ Some root → (k : ℕ) × (climbed parents k g ≡ root))
+          → (k : ℕ) × (climbed parents k f ≡ root)
       go None is rest = let none : None ≡ Some root = sym (ap (steps_up n records) is ∙ steps-none n records) ∙ e in absurd (cc)
       go (Some p) is rest =
           let w = rest p (are.inside f p is) (sym (ap (steps_up n records) is) ∙ e) in

@@ -19,17 +19,18 @@ mod spread;
 mod tallies;
 mod used;
 mod whole;
+#[cfg(test)]
+mod link_tests;
 
-pub use heads::{Head, Heads};
-pub use links::first_wrong_link;
-pub use names::{NameFact, Names, note_laws};
-pub use references::first_wrong_reference;
-pub use owners::{Owners, owners_laws};
-pub use owners::{Owners, cluster_bits_laws, owners_laws};
-pub use used::{Used, used_laws};
 pub use attributes::is_right_record;
 pub use extents::{Extent, Held, extents_of};
-pub use whole::{are_whole, has_whole_extents};
 pub use facts::Facts;
+pub use heads::{Head, Heads};
+pub use links::first_wrong_link;
 pub use lists::{add_wanted, names_each};
+pub use names::{NameFact, Names, note_laws};
+pub use owners::{Owners, cluster_bits_laws, owners_laws};
+pub use references::first_wrong_reference;
 pub use spread::{Extension, SpreadFiles};
+pub use used::{Used, used_laws};
+pub use whole::{are_whole, has_whole_extents};

@@ -15,6 +15,11 @@ use ntfs_def::kinds::FILE_NAME;
 use std::alloc::{AllocError, Global};
 use vol_bytes::u64_at;
 
+/// The namespaces of a long name and of its short partner.
+pub(crate) const WIN32: u8 = 1;
+
+pub(crate) const DOS: u8 = 2;
+
 /// What is noted of a name of a file.
 #[derive(Clone, Copy, Debug)]
 pub struct NameFact {

@@ -5,12 +5,9 @@ ghost use Rattle.volume_facts.specs.Least.{IsLeastFailing};
 ghost use Rattle.volume_facts.specs.declared.pairs.NameKey.{NameKey};
 ghost use Rattle.volume_facts.specs.Pairs.{ArePaired, IsBeside, IsInRange, IsPairedName, key_of, order_of};
 
+use crate::names::{DOS, WIN32};
 use crate::{NameFact, Names};
 use std::alloc::{AllocError, Global};
-
-const WIN32: u8 = 1;
-
-const DOS: u8 = 2;
 
 /// What a name is paired by, in the order of sorting.
 #[derive(Clone, Copy, Debug, PartialEq, Eq, PartialOrd, Ord)]

@@ -3,6 +3,7 @@ ghost use Rattle.std.specs.Prelude.{◌≡◌, ◌<◌, ◌+◌, ◌^◌, ◌∷
 ghost use Rattle.volume_facts.specs.Names.{PlacedName, told_name};
 ghost use Rattle.volume_facts.specs.Tallies.{IsTally, parent_within, places_in_file, tally_at};
 
+use crate::names::DOS;
 use crate::{NameFact, Names};
 use std::alloc::{AllocError, Global};
 
@@ -22,8 +23,6 @@ const NONE: Tally = Tally {
     not_dos: 0,
     parent: None,
 };
-
-const DOS: u8 = 2;
 
 // A tally with one name more.
 fn with_name(tally: Tally, name: &NameFact) -> Tally

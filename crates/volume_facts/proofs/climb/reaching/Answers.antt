@@ -22,7 +22,8 @@ loop-f-preserved c =
     let v = c.loop-f.marks in
     let new = c.climb.new.marks in
     let inv = c.loop-f.invariant in
-    let given = subst (λ xs. HasRoot root xs → AreRight parents root xs → KeepsKnown parents root xs new c.loop-f.f) c.deref_mut.ensures.value (c.in_ok-climb.ensures.known root) in
+    let given = subst (λ xs. HasRoot root xs → AreRight parents root xs
+    → KeepsKnown parents root xs new c.loop-f.f) c.deref_mut.ensures.value (c.in_ok-climb.ensures.known root) in
     let k : KeepsKnown parents root v.items new c.loop-f.f = given inv.root inv.right in
     let items : (with_items v new).items ≡ new = with_items_is v new (k.all ∙ sym v.ok.0) in
     record {

@@ -19,8 +19,10 @@ loop-marks-preserved c =
     record {
       all = length-set new at Walking ∙ inv.all;
       at = c.requires.parents at 0 inv.at;
-      path = subst (λ xs. All (λ x. x < length parents) xs) (sym pushed) (All-push (λ x. x < length parents) c.loop-marks.path.items at inv.path inv.at);
-      walks = λ root found right. subst (λ xs. Walks parents root c.args.marks.now (set new at Walking) xs c.args.f (slice_index parents at)) (sym pushed)
+      path = subst (λ xs. All (λ x. x < length parents) xs) (sym pushed)
+          (All-push (λ x. x < length parents) c.loop-marks.path.items at inv.path inv.at);
+      walks = λ root found right. subst
+          (λ xs. Walks parents root c.args.marks.now (set new at Walking) xs c.args.f (slice_index parents at)) (sym pushed)
           (Walks-more parents root c.args.marks.now new c.loop-marks.path.items c.args.f at inside unknown (inv.walks root found right));
     }
 
@@ -32,7 +34,8 @@ returns-clause-walked c root has right =
     record {
       walks = inv.walks root has right;
       done = λ e.
-          let yes : c.is_unknown.result ≡ true = c.is_unknown.ensures.1 (get_or_default new at _ Unknown (omega (arith, inv.all, inv.at)) ∙ e) in
+          let yes : c.is_unknown.result ≡ true =
+          c.is_unknown.ensures.1 (get_or_default new at _ Unknown (omega (arith, inv.all, inv.at)) ∙ e) in
           let none : c.is_unknown.result ≡ false = c.loop-marks-test.false in
           absurd (cc);
     }

@@ -9,7 +9,8 @@ invariant-loop-marks l = record {
   all : length l.marks ≡ length l.parents;
   at : l.at < length l.parents;
   path : All (λ x. x < length l.parents) l.path.items;
-  walks : (root : ℕ) → HasRoot root l.fn.marks → AreRight l.parents root l.fn.marks → Walks l.parents root l.fn.marks l.marks l.path.items l.f l.at;
+  walks : (root : ℕ) → HasRoot root l.fn.marks → AreRight l.parents root l.fn.marks
+      → Walks l.parents root l.fn.marks l.marks l.path.items l.f l.at;
 }
 
 abbrev pub decreases-loop-marks : goal.decreases-loop-marks

@@ -1,4 +1,4 @@
-use Rattle.std.proofs.Common.{◌≤◌, None, cond, ap, sym, ◌++◌, ◌∙◌}
+use Rattle.std.proofs.Common.{None, cond, ap, sym, ◌++◌, ◌∙◌}
 use Rattle.std.proofs.lemmas.Bool.{le-ltb}
 use Rattle.std.proofs.lemmas.List.{append-nil}
 use Rattle.volume_def.specs.Files.{record_in}

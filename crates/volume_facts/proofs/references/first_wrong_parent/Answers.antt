@@ -8,7 +8,8 @@ pub returns-then-not-names_directory : goal.returns-then-not-names_directory
 returns-then-not-names_directory c records ends heads names =
     let facts = c.facts-name-items.result.now in
     let tell : TellNames records facts = ap (map told_name) c.facts-name-items.ensures ∙ names in
-    least-parent records facts c.loop-name.name-index _ ends tell (omega (arith, c.loop-name-test.true)) (c.loop-name.invariant records ends heads)
+    least-parent records facts c.loop-name.name-index _ ends tell (omega (arith, c.loop-name-test.true))
+    (c.loop-name.invariant records ends heads)
     (λ has. let yes : c.names_directory.result ≡ true = (c.names_directory.ensures records ends heads).1 has in
     let none : c.names_directory.result ≡ false = c.if-not-names_directory.true in absurd (cc))
 
@@ -21,4 +22,5 @@ pub returns : goal.returns
 returns c records ends heads names =
     let facts = c.facts-name-items.result.now in
     let tell : TellNames records facts = ap (map told_name) c.facts-name-items.ensures ∙ names in
-    all-parents records facts c.loop-name.name-index ends tell (omega (arith, c.loop-name-test.false)) (c.loop-name.invariant records ends heads)
+    all-parents records facts c.loop-name.name-index ends tell (omega (arith, c.loop-name-test.false))
+    (c.loop-name.invariant records ends heads)

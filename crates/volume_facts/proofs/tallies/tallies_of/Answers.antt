@@ -18,7 +18,8 @@ with_name-requires-clause-names c =
     let file = (get_or facts i none).file in
     let inside : file < length old = omega (arith, c.if-file-len.true, c.len.ensures, c.loop-name.tallies.ok.0) in
     let same : c.index.result.now ≡ tally_at old file = c.index.ensures ∙ get_or_default old file _ _ inside in
-    let few = places-few file facts i (tally_at old file) (omega arith) (c.loop-name.invariant.each file (omega (arith, c.loop-name.invariant.all))) in
+    let few = places-few file facts i (tally_at old file) (omega arith)
+    (c.loop-name.invariant.each file (omega (arith, c.loop-name.invariant.all))) in
     let n : c.index.result.now.names ≤ i = subst (λ (t : Tally). t.names ≤ i) (sym same) few.0 in
     omega arith
 
@@ -30,7 +31,8 @@ with_name-requires-clause-not_dos c =
     let file = (get_or facts i none).file in
     let inside : file < length old = omega (arith, c.if-file-len.true, c.len.ensures, c.loop-name.tallies.ok.0) in
     let same : c.index.result.now ≡ tally_at old file = c.index.ensures ∙ get_or_default old file _ _ inside in
-    let few = places-few file facts i (tally_at old file) (omega arith) (c.loop-name.invariant.each file (omega (arith, c.loop-name.invariant.all))) in
+    let few = places-few file facts i (tally_at old file) (omega arith)
+    (c.loop-name.invariant.each file (omega (arith, c.loop-name.invariant.all))) in
     let n : c.index.result.now.not_dos ≤ i = subst (λ (t : Tally). t.not_dos ≤ i) (sym same) few.1 in
     omega arith
 
@@ -51,7 +53,8 @@ loop-name-preserved c =
             all = ap length items ∙ length-set old file w.with_name.result ∙ inv.all;
             each = λ f l. subst (λ xs. IsTally (places_in_file f (take (i + 1) facts)) (tally_at xs f)) (sym items)
                 (tallies-more facts i c.args.count none old w.with_name.result here inv.all inv.each (omega (arith, inv.all))
-                (w.with_name.ensures _ (subst (IsTally (places_in_file file (take i facts))) (sym same) (inv.each file (omega (arith, inv.all))))) f l);
+                (w.with_name.ensures _
+                (subst (IsTally (places_in_file file (take i facts))) (sym same) (inv.each file (omega (arith, inv.all))))) f l);
           }
       | else-file-len w ↦
           let items = ap (λ (v : Vec Tally Global). v.items) w.tallies-is in

@@ -8,7 +8,8 @@ use Rattle.volume_facts.proofs.names.Names.note.Goals as goal
 
 pub loop-attribute-preserved-in-Continue-1 : goal.loop-attribute-preserved-in-Continue-1
 loop-attribute-preserved-in-Continue-1 c =
-    Noting-more c.args.n c.file_of-file.result (told_names c.args.self.now) (told_names c.loop-attribute.self) _ (attributes_of c.args.view.now)
+    Noting-more c.args.n c.file_of-file.result (told_names c.args.self.now) (told_names c.loop-attribute.self) _
+    (attributes_of c.args.view.now)
     (attributes_left c.loop-attribute.attribute-iterator) (attributes_left c.next.new.self) (attribute_of c.in-Some.attribute)
     (told_name c.in-Some-fact_in.name ∷ []) c.in-Some.ensures.steps c.in-Some-fact_in.ensures
     (ap (map told_name) c.in_ok-push.ensures.items ∙ map_push told_name c.loop-attribute.self.names.items c.in-Some-fact_in.name)
@@ -16,7 +17,8 @@ loop-attribute-preserved-in-Continue-1 c =
 
 pub loop-attribute-preserved : goal.loop-attribute-preserved
 loop-attribute-preserved c =
-    Noting-more c.args.n c.file_of-file.result (told_names c.args.self.now) (told_names c.loop-attribute.self) _ (attributes_of c.args.view.now)
+    Noting-more c.args.n c.file_of-file.result (told_names c.args.self.now) (told_names c.loop-attribute.self) _
+    (attributes_of c.args.view.now)
     (attributes_left c.loop-attribute.attribute-iterator) (attributes_left c.next.new.self) (attribute_of c.in-Some.attribute)
     [] c.in-Some.ensures.steps c.in_default.ensures
     (sym (append-nil (told_names c.loop-attribute.self)))
