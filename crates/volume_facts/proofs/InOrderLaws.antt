@@ -190,16 +190,16 @@ based-here : (n : ℕ) (base : Option Reference) → IsTrue (is_none base) → u
 based-here n None none = refl
 based-here n (Some base) none = absurd (cc)
 
-parts-nowhere : (n m : ℕ) (o : Option Record) → ((r : Record) → o ≡ Some r → file_of m r ≢ n) → parts_in o m n ≡ []
-parts-nowhere n m None other = parts_in-unused m n
-parts-nowhere n m (Some r) other = parts_in-other m n r (other r refl)
+parts-nowhere : (n m : ℕ) (o : Option Record) → m ≢ n → IfSome o (λ r. file_of m r ≡ n → m ≡ n) → parts_in o m n ≡ []
+parts-nowhere n m None ne alone = parts_in-unused m n
+parts-nowhere n m (Some r) ne alone = parts_in-other m n r (λ e. ne (alone e))
 
 pub alone-parts : (records : Records) (n : ℕ) (r : Record) → records.record_at n ≡ Some r → n < records.count → IsTrue (is_base r)
     → IsAlone records n → parts records n ≡ r.parts
 unfolding parts
 alone-parts records n r here inside base alone =
     flat_map-one (λ m. parts_in (records.record_at m) m n) 0 records.count n (omega arith) (omega arith)
-    (λ m ne. parts-nowhere n m (records.record_at m) (λ other there. alone m other ne there))
+    (λ m ne. parts-nowhere n m (records.record_at m) ne (alone m))
     ∙ ap (λ o. parts_in o n n) here ∙ parts_in-own n n r (based-here n r.header.base base)
 
 pub alone-meets : (records : Records) (size n : ℕ) (r : Record) (whole : Bool) → records.record_at n ≡ Some r → n < records.count → IsTrue (is_base r)

@@ -6,3 +6,4 @@ pub mod OrderLaws
 pub mod GroupLaws
 pub mod FollowLaws
 pub mod InOrderLaws
+pub mod UnlistedLaws

@@ -2,3 +2,4 @@ pub mod Least
 pub mod Attributes
 pub mod Extents
 pub mod Groups
+pub mod Unlisted

@@ -4,8 +4,10 @@
 
 mod attributes;
 mod extents;
+mod unlisted;
 mod whole;
 
 pub use attributes::is_right_record;
 pub use extents::{Extent, Held, extents_of};
+pub use unlisted::UnlistedFiles;
 pub use whole::{are_whole, has_whole_extents};
