@@ -2,13 +2,13 @@
 use Rattle.std.proofs.Common.{◌≡◌, ◌≢◌, ◌↔◌, ◌<◌, ◌≤◌, ◌+◌, ◌==◌, ◌&&◌, ◌||◌, ℕ, zero, suc, min, Bool, true, false, cond, List, [], ◌∷◌, map, Option, Some, None, IfSome, IsTrue, IsFalse, refl, sym, ap, subst, inl, inr, ◌∙◌, arith}
 use Rattle.std.specs.Prelude.{All, not, unwrap_or}
 use Rattle.std.specs.List.{Contains, count_by, list_any}
-use Rattle.std.proofs.lemmas.Bool.{and_from, and_parts, cases_Bool, cases_lt, not-true}
+use Rattle.std.proofs.lemmas.Bool.{and_from, and_parts, cases_Bool, cases_lt, le-ltb, not-true}
 use Rattle.std.proofs.lemmas.List.Elements.{All-contains}
 use Rattle.ntfs_def.specs.declared.kinds.TheConstants.{ATTRIBUTE_LIST}
 use Rattle.ntfs_def.specs.Attribute.{Attribute, attributes}
 use Rattle.ntfs_def.specs.Record.{base_in, header_of}
 use Rattle.volume_def.specs.ExtentsClause.{MeetsExtents}
-use Rattle.volume_def.specs.Files.{Part, Record, Records, is_base, part_of, parts, record_of, records_of}
+use Rattle.volume_def.specs.Files.{Part, Record, Records, is_base, part_of, parts, record_in, record_of, records_of}
 use Rattle.volume_def.specs.ListsClause.{HasRightList, IsRightList, MeetsLists, is_list}
 use Rattle.volume_def.specs.View.{VolumeView}
 use Rattle.volume_def.proofs.FindLaws.{passing}
@@ -155,3 +155,13 @@ alone-in view n (Some r) here meets = λ only.
 
 pub lists-alone : (view : VolumeView) → ((n : ℕ) → MeetsLists view n) → AreUnlistedAlone (records_of view)
 lists-alone view meets n = alone-in view n ((records_of view).record_at n) refl (meets n)
+
+-- there is no record past the end of the table
+past-end : (view : VolumeView) (n : ℕ) → view.layout.count ≤ n → (records_of view).record_at n ≡ None
+past-end view n past = ap (λ b. cond b (record_in n (view.block n)) None) (le-ltb n view.layout.count past)
+
+pub first-of-volume : (view : VolumeView) (size : ℕ) (first listed : Option ℕ) → ((n : ℕ) → MeetsLists view n)
+    → IsLeastBelow (MeetsUnlisted (records_of view) size) view.layout.count first → IsLeastFailing (MeetsListed (records_of view) size) listed
+    → IsLeastFailing (MeetsExtents (records_of view) size) (least_of first listed)
+first-of-volume view size first listed meets note least =
+    first-of-all (records_of view) size first listed (past-end view) note (lists-alone view meets) least

@@ -3,7 +3,9 @@ ghost use Rattle.std.specs.Prelude.{◌≡◌, ◌==◌, ◌↔◌, ℕ, ◌+◌
 ghost use Rattle.std.specs.List.{list_any};
 ghost use Rattle.ntfs_def.specs.declared.kinds.TheConstants.{ATTRIBUTE_LIST};
 ghost use Rattle.volume_def.specs.ExtentsClause.{MeetsExtents};
-ghost use Rattle.volume_def.specs.Files.{Records, record_of};
+ghost use Rattle.volume_def.specs.Files.{Records, record_of, records_of};
+ghost use Rattle.volume_def.specs.ListsClause.{MeetsLists};
+ghost use Rattle.volume_def.specs.View.{VolumeView};
 ghost use Rattle.attr_view.specs.View.{attributes_of, viewed_block};
 ghost use Rattle.volume_facts.specs.Least.{IsLeastFailing};
 ghost use Rattle.volume_facts.specs.Unlisted.{AreUnlistedAlone, IsUnlistedWhole, MeetsListed, UnlistedNote, is_unlisted, least_of};
@@ -109,9 +111,13 @@ impl UnlistedFiles {
     }
 
     /// The least file that breaks the clause on extents, once all records are noted: `listed` is the least of those with an
-    /// attribute list.
+    /// attribute list. A file without one has one record, as the clause on lists asks.
     pub fn first_broken(&self, listed: Option<u64>) -> Option<u64>
-        ensures { (records : Records) → ((n : ℕ) → records.count ≤ n → records.record_at n ≡ None)
+        ensures volume { (view : VolumeView) → ((n : ℕ) → MeetsLists view n)
+            → UnlistedNote (records_of view) view.layout.count self.now
+            → IsLeastFailing (MeetsListed (records_of view) self.now.cluster_bytes) listed
+            → IsLeastFailing (MeetsExtents (records_of view) self.now.cluster_bytes) result }
+        ensures records { (records : Records) → ((n : ℕ) → records.count ≤ n → records.record_at n ≡ None)
             → UnlistedNote records records.count self.now → AreUnlistedAlone records
             → IsLeastFailing (MeetsListed records self.now.cluster_bytes) listed
             → IsLeastFailing (MeetsExtents records self.now.cluster_bytes) result }
