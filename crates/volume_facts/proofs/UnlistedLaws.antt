@@ -50,7 +50,7 @@ note-more records size n r old new whole here decided same first note = elim (ca
   | inr f ↦
       subst (IsLeastBelow (MeetsUnlisted records size) (n + 1)) (sym (first f ∙ ap (λ k. Some k) (unwrap-first old n)))
       (below-fails (MeetsUnlisted records size) n old
-        (λ meets. let t : whole ≡ true = decided.1 (subst (λ o. IfSome o (IsUnlistedWhole size n)) here meets) in absurd (cc)) note)
+      (λ meets. let t : whole ≡ true = decided.1 (subst (λ o. IfSome o (IsUnlistedWhole size n)) here meets) in absurd (cc)) note)
 ]
 
 -- a record that is not in use
@@ -99,8 +99,8 @@ meets-both : (records : Records) (size n : ℕ) (o : Option Record) → records.
 meets-both records size n None here inside alone meets = (tt, tt)
 meets-both records size n (Some r) here inside alone meets = (
   λ only.
-    let base : is_base r ≡ true = (and_parts (is_base r) (not (list_any is_list r.parts)) only).0 in
-    subst (AreWholeParts size n) (alone-parts records n r here (inside (λ e. absurd (cc))) base (alone only)) (meets base),
+      let base : is_base r ≡ true = (and_parts (is_base r) (not (list_any is_list r.parts)) only).0 in
+      subst (AreWholeParts size n) (alone-parts records n r here (inside (λ e. absurd (cc))) base (alone only)) (meets base),
   λ base t. meets base,
 )
 
@@ -112,7 +112,7 @@ first-of-all records size first listed past note alone least =
     (λ n. both-meet records size n (records.record_at n) refl (within n) (alone n))
     (λ n. meets-both records size n (records.record_at n) refl (within n) (alone n))
     (least-two (MeetsUnlisted records size) (MeetsListed records size) first listed
-      (least-whole (MeetsUnlisted records size) records.count first (λ n h. subst (UnlistedIn size n) (sym (past n h)) tt) note) least)
+    (least-whole (MeetsUnlisted records size) records.count first (λ n h. subst (UnlistedIn size n) (sym (past n h)) tt) note) least)
   where
     within : (n : ℕ) → records.record_at n ≢ None → n < records.count
     within n some = elim (cases_lt n records.count) [ inl lt ↦ lt | inr ge ↦ absurd (some (past n ge)) ]

@@ -3,6 +3,8 @@
 #![tactic(auto)]
 
 mod attributes;
+#[cfg(test)]
+mod extent_tests;
 mod extents;
 mod unlisted;
 mod whole;

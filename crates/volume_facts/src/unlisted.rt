@@ -63,7 +63,11 @@ fn first_with(first: Option<u64>, n: u64, holds: bool) -> Option<u64>
     ensures holds { IsTrue holds → result ≡ first }
     ensures breaks { IsFalse holds → result ≡ Some (unwrap_or first n) }
 {
-    if holds { first } else { Some(first.unwrap_or(n)) }
+    if holds {
+        first
+    } else {
+        Some(first.unwrap_or(n))
+    }
 }
 
 // The lesser of two numbers.
@@ -94,12 +98,7 @@ impl UnlistedFiles {
     /// # Errors
     ///
     /// Want of memory alone. Then nothing was noted.
-    pub fn note(
-        &mut self,
-        alloc: Global,
-        n: u64,
-        view: &RecordView<'_>,
-    ) -> Result<(), AllocError>
+    pub fn note(&mut self, alloc: Global, n: u64, view: &RecordView<'_>) -> Result<(), AllocError>
         ensures noted { OnOk result ((records : Records) → records.record_at n ≡ Some (record_of n (viewed_block view.now))
             → UnlistedNote records n self.old → UnlistedNote records (n + 1) self.new) }
         ensures bytes { self.new.cluster_bytes ≡ self.old.cluster_bytes }
