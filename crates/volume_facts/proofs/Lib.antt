@@ -26,6 +26,7 @@ pub mod RunsLaws
 pub mod SortedLaws
 pub mod SpreadLaws
 pub mod TallyLaws
+pub mod UnlistedLaws
 pub mod WalkLaws
 pub mod WantedLaws
 pub mod WayLaws

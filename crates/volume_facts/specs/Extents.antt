@@ -1,5 +1,5 @@
 -- What the clause on extents looks at in a part of a file: its outline. The clause in outlines.
-use Rattle.std.specs.Prelude.{◌≡◌, ◌≢◌, ◌⊎◌, ℕ, ◌+◌, ◌*◌, ◌<◌, ◌≤◌, ◌==◌, ◌&&◌, ◌||◌, not, Bool, List, [], ◌∷◌, length, map, filter, sum_by, Option, Some, All, IsSome, IsTrue, unwrap_or, option_map}
+use Rattle.std.specs.Prelude.{◌≡◌, ◌≢◌, ◌⊎◌, ℕ, ◌+◌, ◌*◌, ◌<◌, ◌≤◌, ◌==◌, ◌&&◌, ◌||◌, not, Bool, List, [], ◌∷◌, length, map, filter, sum_by, Option, All, IfSome, IsSome, IsTrue, unwrap_or, option_map}
 use Rattle.std.specs.Str.{bytes_eq}
 use Rattle.std.specs.Ordering.{nat_cmp, on, then_cmp}
 use Rattle.std.specs.declared.cmp.Ordering.{Ordering}
@@ -122,6 +122,6 @@ group_order = then_cmp (on (λ outline. outline.kind) nat_cmp) (on (λ outline. 
 abbrev pub outline_order : Outline → Outline → Ordering
 outline_order = then_cmp group_order (on first_vcn nat_cmp)
 
--- no other record belongs to file n than record n
+-- no record but n itself belongs to file n
 abbrev pub IsAlone : Records → ℕ → Type 0
-IsAlone records n = (m : ℕ) (r : Record) → m ≢ n → records.record_at m ≡ Some r → file_of m r ≢ n
+IsAlone records n = (m : ℕ) → IfSome (records.record_at m) (λ r. file_of m r ≡ n → m ≡ n)

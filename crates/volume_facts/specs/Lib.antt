@@ -15,4 +15,5 @@ pub mod Pairs
 pub mod References
 pub mod Spread
 pub mod Tallies
+pub mod Unlisted
 pub mod Used

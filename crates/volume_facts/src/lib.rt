@@ -17,8 +17,11 @@ mod pairs;
 mod references;
 mod spread;
 mod tallies;
+mod unlisted;
 mod used;
 mod whole;
+#[cfg(test)]
+mod extent_tests;
 #[cfg(test)]
 mod link_tests;
 
@@ -32,5 +35,6 @@ pub use names::{NameFact, Names, note_laws};
 pub use owners::{Owners, cluster_bits_laws, owners_laws};
 pub use references::first_wrong_reference;
 pub use spread::{Extension, SpreadFiles};
+pub use unlisted::UnlistedFiles;
 pub use used::{Used, used_laws};
 pub use whole::{are_whole, has_whole_extents};
