@@ -1,6 +1,7 @@
 //! The clause on the bitmap of clusters, S8, decided a piece of the stored bitmap at a time.
 ghost use Rattle.std.specs.Prelude.{◌≡◌, ◌+◌, ◌*◌, ◌≤◌, ◌<◌, ℕ, None, Some, length};
-ghost use Rattle.volume_def.specs.BitmapClauses.{HasNoHole, IsPlain, MeetsClusterBits, cluster_bits};
+ghost use Rattle.volume_def.specs.BitmapClauses.{HasNoHole, MeetsClusterBits, cluster_bits};
+ghost use Rattle.volume_def.specs.Values.{IsPlain};
 ghost use Rattle.volume_def.specs.Values.{value_on};
 ghost use Rattle.volume_def.specs.View.{VolumeView};
 ghost use Rattle.volume_facts.specs.BitRanges.{IsPieceOf};
