@@ -1,6 +1,6 @@
 -- What a boot sector says, as this crate's types.
 use Rattle.std.specs.Prelude.{◌≡◌, ℕ, ◌*◌, ◌/◌, ◌%◌, ◌^◌, ◌<◌, ◌≤◌, IsTrue, List}
-use Rattle.ntfs_def.specs.Boot.{IsClusterSize, boot_cluster_bytes, total_sectors, cluster_count, mft_cluster, mirror_cluster, serial_number}
+use Rattle.ntfs_def.specs.Boot.{is_cluster_sectors, boot_cluster_bytes, total_sectors, cluster_count, mft_cluster, mirror_cluster, serial_number}
 use Rattle.ntfs_boot.specs.declared.Geometry.{Geometry}
 use Rattle.ntfs_boot.specs.declared.BootFault.{BootFault}
 use Rattle.ntfs_boot.specs.declared.BootFault.TheVariants.{NotNtfs, SectorSize, ClusterSize, RecordSize, IndexSize, Length, Place}
@@ -18,7 +18,7 @@ geometry_of boot = record {
 
 -- What a geometry that was accepted keeps, on a disk of so many sectors.
 pub record FitsDisk (geometry : Geometry) (sectors : ℕ) : Type 0 where
-  pub cluster : IsClusterSize geometry.cluster
+  pub cluster : (geometry.cluster % 512 ≡ 0) × IsTrue (is_cluster_sectors (geometry.cluster / 512))
   pub few : geometry.clusters ≤ 2 ^ 26
   pub on_disk : geometry.clusters * geometry.cluster ≤ 512 * sectors
   pub mft : geometry.mft < geometry.clusters

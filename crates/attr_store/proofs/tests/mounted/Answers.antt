@@ -27,7 +27,8 @@ lies = record {
 
 pub returns : goal.returns
 returns c = record {
-  cluster = (refl, refl);
+  whole = refl;
+  size = refl;
   clusters = c.in_ok-load.ensures.count;
   table =
       let runs : c.append.new.self ≡ run ∷ [] = c.in_ok-append.ensures.ok ∙ ap (λ (rs : List Run). rs ++ (run ∷ [])) c.new-table.ensures in

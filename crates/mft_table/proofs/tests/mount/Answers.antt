@@ -10,7 +10,8 @@ returns-clause-stands g c =
     let found = c.in_ok-table.ensures in
     let size = found.reads.goes_on.size in
     rw size (record {
-      cluster = found.fits.cluster;
+      whole = found.fits.cluster.0;
+      size = found.fits.cluster.1;
       clusters = c.in_ok-load.ensures.count;
       table =
           subst (λ (n : ℕ). LiesOn (g.D.Disk.size (disk_of g.D.Disk c.args.stage.now)) (layout_on table.geometry table.runs table.initialized n)) (sym c.in_ok-load-2.ensures.count) found.lies;

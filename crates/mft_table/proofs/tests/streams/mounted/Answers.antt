@@ -5,7 +5,8 @@ pub returns : goal.returns
 returns c =
     let none = c.in_ok-load-2.ensures.count in
     record {
-      cluster = (refl, refl);
+      whole = refl;
+      size = refl;
       clusters = c.in_ok-load.ensures.count;
       table = record {
         some = omega arith;
