@@ -124,7 +124,10 @@ fn ends_so(
 #[test]
 fn each_failing_write_is_told(rt: HostRuntime) -> Result<(), test::Fail> {
     for number in 1..=1080_u64 {
-        assert!(rt; ends_so(rt.alloc(), CallKind::Write, number, 6, "")?, "{number}");
+        assert!(rt;
+            ends_so(rt.alloc(), CallKind::Write, number, 6, "")?,
+            "{number}"
+        );
     }
     Ok(())
 }
