@@ -14,9 +14,11 @@ use std::alloc::{AllocError, Global};
 pub struct Head {
     /// The reference of the base record, 0 in a base record.
     pub base: u64,
+    /// How often the record was used anew, which a reference to it repeats.
     pub sequence: u16,
     /// The names that the file has, as the header says.
     pub links: u16,
+    /// Whether it is a directory.
     pub directory: bool,
 }
 

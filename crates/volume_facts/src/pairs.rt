@@ -12,9 +12,11 @@ use std::alloc::{AllocError, Global};
 /// What a name is paired by, in the order of sorting.
 #[derive(Clone, Copy, Debug, PartialEq, Eq, PartialOrd, Ord)]
 pub struct NameKey {
+    /// The file that has the name.
     pub file: u64,
     /// The number of the directory that has the name.
     pub directory: u64,
+    /// As the name has it.
     pub namespace: u8,
 }
 
