@@ -1,3 +1,7 @@
+pub mod FilingLaws
+pub mod HeadLaws
+pub mod KeyLaws
+pub mod LeastFiling
 pub mod LeastLaws
 pub mod AttributesLaws
 pub mod SpreadLaws
@@ -5,3 +9,12 @@ pub mod SortedLaws
 pub mod EntryLaws
 pub mod FactsLaws
 pub mod WantedLaws
+pub mod LinkLaws
+pub mod MarkLaws
+pub mod NameLaws
+pub mod PairLaws
+pub mod ReachLaws
+pub mod ReferenceLaws
+pub mod TallyLaws
+pub mod WalkLaws
+pub mod WayLaws

@@ -1,5 +1,12 @@
+pub mod Heads
 pub mod Least
 pub mod Attributes
 pub mod Spread
 pub mod Lists
 pub mod Facts
+pub mod Links
+pub mod Marks
+pub mod Names
+pub mod Pairs
+pub mod References
+pub mod Tallies

@@ -11,3 +11,16 @@ pub use attributes::is_right_record;
 pub use facts::Facts;
 pub use lists::{add_wanted, names_each};
 pub use spread::{Extension, SpreadFiles};
+mod climb;
+mod heads;
+mod links;
+mod marks;
+mod names;
+mod pairs;
+mod references;
+mod tallies;
+
+pub use heads::{Head, Heads};
+pub use links::first_wrong_link;
+pub use names::{NameFact, Names, note_laws};
+pub use references::first_wrong_reference;

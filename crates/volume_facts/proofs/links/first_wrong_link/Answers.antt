@@ -1,0 +1,10 @@
+use Rattle.std.proofs.Common.{sym, subst}
+use Rattle.volume_def.specs.LinksClause.{MeetsLinks}
+use Rattle.volume_facts.specs.Least.{IsLeastFailing}
+use Rattle.volume_facts.proofs.LinkLaws.{least-link}
+use Rattle.volume_facts.proofs.links.first_wrong_link.Goals as goal
+
+pub returns : goal.returns
+returns c records ends heads names references =
+    subst (IsLeastFailing (MeetsLinks records)) (sym c.lesser.ensures)
+    (least-link records _ _ references (c.in_ok-unpaired.ensures records names) (c.in_ok-misfiled.ensures records ends heads names references))
