@@ -18,3 +18,8 @@ pub mod ReferenceLaws
 pub mod TallyLaws
 pub mod WalkLaws
 pub mod WayLaws
+pub mod BitLaws
+pub mod OwnersLaws
+pub mod RunsLaws
+pub mod RecordsLaws
+pub mod BitmapLaws

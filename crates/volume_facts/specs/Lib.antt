@@ -10,3 +10,7 @@ pub mod Names
 pub mod Pairs
 pub mod References
 pub mod Tallies
+pub mod BitRanges
+pub mod Owners
+pub mod Bitmaps
+pub mod Used

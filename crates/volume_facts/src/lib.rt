@@ -24,3 +24,9 @@ pub use heads::{Head, Heads};
 pub use links::first_wrong_link;
 pub use names::{NameFact, Names, note_laws};
 pub use references::first_wrong_reference;
+mod bits;
+mod owners;
+mod used;
+
+pub use owners::{Owners, owners_laws};
+pub use used::{Used, used_laws};
