@@ -23,3 +23,9 @@ pub mod OwnersLaws
 pub mod RunsLaws
 pub mod RecordsLaws
 pub mod BitmapLaws
+pub mod RunLaws
+pub mod OutlineLaws
+pub mod OrderLaws
+pub mod GroupLaws
+pub mod FollowLaws
+pub mod InOrderLaws

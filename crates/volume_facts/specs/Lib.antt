@@ -14,3 +14,5 @@ pub mod BitRanges
 pub mod Owners
 pub mod Bitmaps
 pub mod Used
+pub mod Extents
+pub mod Groups

@@ -3,30 +3,32 @@
 #![tactic(auto)]
 
 mod attributes;
-mod facts;
-mod lists;
-mod spread;
-
-pub use attributes::is_right_record;
-pub use facts::Facts;
-pub use lists::{add_wanted, names_each};
-pub use spread::{Extension, SpreadFiles};
+mod bits;
 mod climb;
+mod extents;
+mod facts;
 mod heads;
 mod links;
+mod lists;
 mod marks;
 mod names;
+mod owners;
 mod pairs;
 mod references;
+mod spread;
 mod tallies;
+mod used;
+mod whole;
 
+pub use attributes::is_right_record;
+pub use extents::{Extent, Held, extents_of};
+pub use facts::Facts;
 pub use heads::{Head, Heads};
 pub use links::first_wrong_link;
+pub use lists::{add_wanted, names_each};
 pub use names::{NameFact, Names, note_laws};
-pub use references::first_wrong_reference;
-mod bits;
-mod owners;
-mod used;
-
 pub use owners::{Owners, owners_laws};
+pub use references::first_wrong_reference;
+pub use spread::{Extension, SpreadFiles};
 pub use used::{Used, used_laws};
+pub use whole::{are_whole, has_whole_extents};
