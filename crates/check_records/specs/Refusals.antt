@@ -1,6 +1,6 @@
 -- What is decided of a view of a volume, and of the contents of a disk, and how they are refused.
 use Rattle.std.specs.Prelude.{◌≡◌, ◌⊎◌, ◌/◌, ◌<◌, ◌≤◌, ℕ, List, Option, Some, IsTrue, length}
-use Rattle.vol_disk.specs.Contents.{sector_in}
+use Rattle.vol_disk.specs.Contents.{WhereTold, sector_in}
 use Rattle.ntfs_def.specs.Boot.{boot_sector}
 use Rattle.volume_def.specs.Sound.{Clause, FirstBroken, HoldBelow, IsRefused, Meets, clause_number, rank_of}
 use Rattle.volume_def.specs.View.{VolumeView}
@@ -37,9 +37,10 @@ IsRefusalOf view no.Memory = Unit {0}
 abbrev pub IsDecided : ℕ → Type 0
 IsDecided k = (k ≤ 11) ⊎ (k ≡ 13)
 
--- a disk of these contents is refused so
-abbrev pub IsRefusal : List ℕ → MountNo → Type 0
-IsRefusal image (no.Refused k n) = IsDecided k × IsRefused (sector_in (Some image)) (boot_sector image) (length image / 512) k n
-IsRefusal image no.Dirty = ⊥
-IsRefusal image no.Device = Unit {0}
-IsRefusal image no.Memory = Unit {0}
+-- What is said of a disk, where its contents are told: it is refused by a clause that is decided here.
+abbrev pub IsRefusal : Option (List ℕ) → MountNo → Type 0
+IsRefusal told (no.Refused k n) = WhereTold told (λ image.
+    IsDecided k × IsRefused (sector_in (Some image)) (boot_sector image) (length image / 512) k n)
+IsRefusal told no.Dirty = ⊥
+IsRefusal told no.Device = Unit {0}
+IsRefusal told no.Memory = Unit {0}

@@ -87,7 +87,7 @@ pub fn scan_volume<D: Disk>(alloc: Global, stage: &mut Stage<'_, D>) -> Result<S
     ensures facts { IfOk result (λ scanned. IsTrue (stage_view D.Disk stage.old (mounted_layout scanned.mounted)).told
         → FactsNote (records_of (stage_view D.Disk stage.old (mounted_layout scanned.mounted))) (mounted_layout scanned.mounted).count
         scanned.facts) }
-    ensures err { IfErr result (λ no. WhereTold (image D.Disk stage.old) (λ all. IsRefusal all no)) }
+    ensures err { IfErr result (IsRefusal (image D.Disk stage.old)) }
     ensures reads { StageReads D.Disk stage.old stage.new (3 + 2 * 2 ^ 22) }
     ensures fetched { IfOk result (λ scanned. StageReads D.Disk stage.old stage.new (3 + 2 * length scanned.mounted.records)) }
     ensures faults { MatchResult result (λ _. D.faults (disk_of D.Disk stage.new) ≡ D.faults (disk_of D.Disk stage.old))
