@@ -66,16 +66,16 @@ pub AreRight-more : (base : Bool) (n least standards kind count : ℕ) (xs ys : 
 AreRight-more base n least standards kind count xs ys x is same more next right =
     subst (λ zs. AreRight base least standards (map (part_of n) zs)) (sym is)
     (AreRight-cons base least standards (part_of n x) (map (part_of n) ys) next
-      (subst (λ k. AreRight base k (one_more standards (part_of n x)) (map (part_of n) ys)) same
-        (subst (λ k. AreRight base kind k (map (part_of n) ys)) more right)))
+    (subst (λ k. AreRight base k (one_more standards (part_of n x)) (map (part_of n) ys)) same
+    (subst (λ k. AreRight base kind k (map (part_of n) ys)) more right)))
 
 pub AreRight-less : (base : Bool) (n least standards kind count : ℕ) (xs ys : List Attribute) (x : Attribute) → xs ≡ x ∷ ys → kind ≡ x.kind
     → count ≡ one_more standards (part_of n x) → AreRight base least standards (map (part_of n) xs) → AreRight base kind count (map (part_of n) ys)
 AreRight-less base n least standards kind count xs ys x is same more right =
     subst (λ k. AreRight base kind k (map (part_of n) ys)) (sym more)
     (subst (λ k. AreRight base k (one_more standards (part_of n x)) (map (part_of n) ys)) (sym same)
-      (AreRight-tail base least standards (part_of n x) (map (part_of n) ys)
-        (subst (λ zs. AreRight base least standards (map (part_of n) zs)) is right)))
+    (AreRight-tail base least standards (part_of n x) (map (part_of n) ys)
+    (subst (λ zs. AreRight base least standards (map (part_of n) zs)) is right)))
 
 -- the end
 pub AreRight-nil : (base : Bool) (least standards : ℕ) → (IsTrue base → standards ≡ 1) → AreRight base least standards []

@@ -54,7 +54,7 @@ same-sorted (x ∷ xs) (y ∷ ys) a b apart h =
           absurd (omega arith)
     ] in
     let rest = same-sorted xs ys (rises-tail x xs a) (rises-tail y ys b) (apart-tail y ys apart)
-        (SameItems-cancel (x ∷ []) xs ys (subst (λ z. SameItems (x ∷ xs) (z ∷ ys)) same h)) in
+    (SameItems-cancel (x ∷ []) xs ys (subst (λ z. SameItems (x ∷ xs) (z ∷ ys)) same h)) in
     ap (λ z. z ∷ xs) (sym same) ∙ ap (λ zs. y ∷ zs) rest
 
 -- Those that follow one another rise.
@@ -143,7 +143,7 @@ whole-apart (x ∷ y ∷ rest) whole full k = follow-apart 0 (x ∷ y ∷ rest) 
 pub AreOne-sorted : (size f : ℕ) (xs : List Outline) → Rises xs → AreOne size f xs → AreInOrder size f xs
 AreOne-sorted size f xs up one =
     subst (AreInOrder size f) (sym (same-sorted xs one.ordered up (whole-rises one.ordered one.right.whole)
-      (whole-apart one.ordered one.right.whole (clusters-full one.ordered one.right.several)) one.order)) one.right
+    (whole-apart one.ordered one.right.whole (clusters-full one.ordered one.right.several)) one.order)) one.right
 
 pub sorted-AreOne : (size f : ℕ) (xs : List Outline) → AreInOrder size f xs → AreOne size f xs
 sorted-AreOne size f xs right = record { ordered = xs; order = SameItems-same xs xs refl; right = right }
@@ -195,7 +195,7 @@ pub whole-group : (size f : ℕ) (first : Outline) (group others : List Outline)
 whole-group size f first group others alike apart one rest =
     All-append (Judged size f (group ++ others)) group others
     (λ k d l other. subst (AreOne size f) (sym (filter-group first (get_or group k d) group others (alike k d l) alike apart))
-      (one (λ e. other ((like-told first (get_or group k d) (alike k d l)).kind ∙ e))))
+    (one (λ e. other ((like-told first (get_or group k d) (alike k d l)).kind ∙ e))))
     (λ k d l other. subst (AreOne size f) (sym (filter-others first (get_or others k d) group others (apart k d l) alike)) (rest k d l other))
 
 pub group-whole : (size f : ℕ) (first : Outline) (group others : List Outline) → Contains group first → All (λ y. is_like first y ≡ true) group
@@ -206,5 +206,5 @@ group-whole size f first group others here alike apart all = (
       (All-contains (Judged size f (group ++ others)) (group ++ others) first all (Contains-append_left group others first here) other),
   λ k d l other. subst (AreOne size f) (filter-others first (get_or others k d) group others (apart k d l) alike)
       (All-contains (Judged size f (group ++ others)) (group ++ others) (get_or others k d) all
-        (Contains-append_right group others (get_or others k d) (Contains-get_or others k d l)) other),
+      (Contains-append_right group others (get_or others k d) (Contains-get_or others k d l)) other),
 )

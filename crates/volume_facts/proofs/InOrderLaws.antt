@@ -113,8 +113,8 @@ pub judge-to : (size f : ℕ) (outlines : List Outline) (start end : ℕ) (d : O
 judge-to size f outlines start end d sorted group right rest =
     subst (AreAllWhole size f) (group-split outlines start end group.some)
     (whole-group size f (get_or outlines start d) (take (end - start) (drop start outlines)) (drop end outlines)
-      (group-alike outlines start end d group) (group-apart outlines start end d sorted group)
-      (λ other. sorted-AreOne size f (take (end - start) (drop start outlines)) (right other)) rest)
+    (group-alike outlines start end d group) (group-apart outlines start end d sorted group)
+    (λ other. sorted-AreOne size f (take (end - start) (drop start outlines)) (right other)) rest)
 
 first-here : (outlines : List Outline) (start end : ℕ) (d : Outline) → IsGroup outlines start end
     → Contains (take (end - start) (drop start outlines)) (get_or outlines start d)
@@ -132,9 +132,8 @@ pub judge-from : (size f : ℕ) (outlines : List Outline) (start end : ℕ) (d :
     → ((get_or outlines start d).kind ≢ FILE_NAME → AreInOrder size f (take (end - start) (drop start outlines))) × AreAllWhole size f (drop end outlines)
 judge-from size f outlines start end d sorted group all =
     let w = group-whole size f (get_or outlines start d) (take (end - start) (drop start outlines)) (drop end outlines) (first-here outlines start end d group)
-        (group-alike outlines start end d group) (group-apart outlines start end d sorted group)
-        (subst (AreAllWhole size f) (sym (group-split outlines start end group.some)) all) in
-    (
+    (group-alike outlines start end d group) (group-apart outlines start end d sorted group)
+    (subst (AreAllWhole size f) (sym (group-split outlines start end group.some)) all) in (
       λ other. AreOne-sorted size f (take (end - start) (drop start outlines)) (group-rises outlines start end sorted group) (w.0 other),
       w.1,
     )
@@ -165,7 +164,7 @@ pub moved-outlines : (extents sorted : List Extent) (outlines : List Outline) �
 moved-outlines extents sorted outlines moved same =
     SameItems-trans (map outlined sorted) (map outlined extents) outlines
     (SameItems-sym (map outlined extents) (map outlined sorted)
-      (SameItems-permutation (map outlined extents) (map outlined sorted) (IsPermutation-map outlined extents sorted moved))) same
+    (SameItems-permutation (map outlined extents) (map outlined sorted) (IsPermutation-map outlined extents sorted moved))) same
 
 -- A file in one record.
 
@@ -205,8 +204,7 @@ alone-parts records n r here inside base alone =
 pub alone-meets : (records : Records) (size n : ℕ) (r : Record) (whole : Bool) → records.record_at n ≡ Some r → n < records.count → IsTrue (is_base r)
     → IsAlone records n → IsTrue whole ↔ AreWholeParts size n r.parts → IsTrue whole ↔ MeetsExtents records size n
 alone-meets records size n r whole here inside base alone decided =
-    let same = alone-parts records n r here inside base alone in
-    (
+    let same = alone-parts records n r here inside base alone in (
       λ t. subst (λ o. IfSome o (λ r. IsTrue (is_base r) → AreWholeParts size n (parts records n))) (sym here)
           (λ _. subst (AreWholeParts size n) (sym same) (decided.0 t)),
       λ meets. decided.1 (subst (AreWholeParts size n) same (subst (λ o. IfSome o (λ r. IsTrue (is_base r) → AreWholeParts size n (parts records n))) here meets base)),
@@ -229,7 +227,7 @@ extents-to size f [] start end lt sorted group right rest = absurd (omega arith)
 extents-to size f (x ∷ xs) start end lt sorted group right rest =
     judge-to size f (map outlined (x ∷ xs)) start end (outlined x) sorted group
     (λ other. subst (AreInOrder size f) (outlines-between (x ∷ xs) start end)
-      (right x (λ e. other (ap (λ (o : Outline). o.kind) (get_or-map outlined (x ∷ xs) start x (outlined x) lt) ∙ e)))) rest
+    (right x (λ e. other (ap (λ (o : Outline). o.kind) (get_or-map outlined (x ∷ xs) start x (outlined x) lt) ∙ e)))) rest
 
 pub extents-from : (size f : ℕ) (extents : List Extent) (start end : ℕ) → start < length extents → AreSorted (map outlined extents)
     → IsGroup (map outlined extents) start end → AreAllWhole size f (drop start (map outlined extents))
@@ -237,10 +235,9 @@ pub extents-from : (size f : ℕ) (extents : List Extent) (start end : ℕ) → 
     × AreAllWhole size f (drop end (map outlined extents))
 extents-from size f [] start end lt sorted group all = absurd (omega arith)
 extents-from size f (x ∷ xs) start end lt sorted group all =
-    let w = judge-from size f (map outlined (x ∷ xs)) start end (outlined x) sorted group all in
-    (
+    let w = judge-from size f (map outlined (x ∷ xs)) start end (outlined x) sorted group all in (
       λ d other. subst (AreInOrder size f) (sym (outlines-between (x ∷ xs) start end))
           (w.0 (λ e. other (at-same (λ (y : Extent). y.kind ≡ FILE_NAME) (x ∷ xs) start start x d lt refl
-            (sym (ap (λ (o : Outline). o.kind) (get_or-map outlined (x ∷ xs) start x (outlined x) lt)) ∙ e)))),
+          (sym (ap (λ (o : Outline). o.kind) (get_or-map outlined (x ∷ xs) start x (outlined x) lt)) ∙ e)))),
       w.1,
     )

@@ -125,25 +125,25 @@ named-base records f name right among =
 meets-of : (records : Records) (f : ℕ) → HasPairs records f → MeetsFiling records f → MeetsLinks records f
 meets-of records f paired filing = record {
   links = if_some (records.record_at f) (λ r. IsTrue (is_base r) → HasRightLinks records f r) (λ r at base.
-    let right : HasRightFiling records f r = subst (λ o. IfSome o (λ x. IsTrue (is_base x) → HasRightFiling records f x)) at filing.links base in
-    record { named = right.named; count = right.count; paired = paired; once = right.once; rooted = right.rooted });
+      let right : HasRightFiling records f r = subst (λ o. IfSome o (λ x. IsTrue (is_base x) → HasRightFiling records f x)) at filing.links base in
+      record { named = right.named; count = right.count; paired = paired; once = right.once; rooted = right.rooted });
   root = filing.root;
 }
 
 filing-of : (records : Records) (f : ℕ) → MeetsLinks records f → MeetsFiling records f
 filing-of records f meets = record {
   links = if_some (records.record_at f) (λ r. IsTrue (is_base r) → HasRightFiling records f r) (λ r at base.
-    let right : HasRightLinks records f r = subst (λ o. IfSome o (λ x. IsTrue (is_base x) → HasRightLinks records f x)) at meets.links base in
-    record { named = right.named; count = right.count; once = right.once; rooted = right.rooted });
+      let right : HasRightLinks records f r = subst (λ o. IfSome o (λ x. IsTrue (is_base x) → HasRightLinks records f x)) at meets.links base in
+      record { named = right.named; count = right.count; once = right.once; rooted = right.rooted });
   root = meets.root;
 }
 
 pairs-of : (records : Records) (f : ℕ) → ((n : ℕ) → MeetsReferences records n) → MeetsLinks records f → HasPairs records f
 pairs-of records f references meets =
     All-from_Contains (IsPairedAmong (names_of records f)) (names_of records f) (λ name among.
-      let w = named-base records f name references among in
-      let right : HasRightLinks records f w.0 = subst (λ o. IfSome o (λ x. IsTrue (is_base x) → HasRightLinks records f x)) w.1 meets.links w.2 in
-      All-contains (IsPairedAmong (names_of records f)) (names_of records f) name right.paired among)
+    let w = named-base records f name references among in
+    let right : HasRightLinks records f w.0 = subst (λ o. IfSome o (λ x. IsTrue (is_base x) → HasRightLinks records f x)) w.1 meets.links w.2 in
+    All-contains (IsPairedAmong (names_of records f)) (names_of records f) name right.paired among)
 
 pub least-pair : (records : Records) (facts : List NameFact) (keys : List NameKey) (o : Option ℕ) → TellNames records facts
     → IsPermutation (map key_of facts) keys → IsLeastFailing (ArePaired keys) o → IsLeastFailing (HasPairs records) o

@@ -125,7 +125,7 @@ group-rises outlines start end sorted group i j d le lt =
     let inside = group.inside in
     let low : j < end - start = omega (arith, length-take-le (end - start) (drop start outlines) (omega (arith, length-drop start outlines))) in
     let at : (k : ℕ) → k < end - start → get_or (take (end - start) (drop start outlines)) k d ≡ get_or outlines (start + k) d = λ k h.
-        get_or-take (end - start) (drop start outlines) k d h ∙ get_or-drop start outlines k d in
+    get_or-take (end - start) (drop start outlines) k d h ∙ get_or-drop start outlines k d in
     let x = get_or outlines (start + i) d in
     let y = get_or outlines (start + j) d in
     let a = like-told (get_or outlines start d) x (group.alike (start + i) d (omega arith) (omega arith)) in
@@ -141,26 +141,26 @@ pub group-alike : (outlines : List Outline) (start end : ℕ) (d : Outline) → 
     → All (λ other. is_like (get_or outlines start d) other ≡ true) (take (end - start) (drop start outlines))
 group-alike outlines start end d group = All-from_get_or (λ other. is_like (get_or outlines start d) other ≡ true) (take (end - start) (drop start outlines)) d
     (λ k lt.
-      let some = group.some in
-      let inside = group.inside in
-      let low : k < end - start = omega (arith, length-take-le (end - start) (drop start outlines) (omega (arith, length-drop start outlines))) in
-      ap (is_like (get_or outlines start d)) (get_or-take (end - start) (drop start outlines) k d low ∙ get_or-drop start outlines k d)
-      ∙ group.alike (start + k) d (omega arith) (omega arith))
+    let some = group.some in
+    let inside = group.inside in
+    let low : k < end - start = omega (arith, length-take-le (end - start) (drop start outlines) (omega (arith, length-drop start outlines))) in
+    ap (is_like (get_or outlines start d)) (get_or-take (end - start) (drop start outlines) k d low ∙ get_or-drop start outlines k d)
+    ∙ group.alike (start + k) d (omega arith) (omega arith))
 
 -- none behind it is
 pub group-apart : (outlines : List Outline) (start end : ℕ) (d : Outline) → AreSorted outlines → IsGroup outlines start end
     → All (λ other. is_like (get_or outlines start d) other ≡ false) (drop end outlines)
 group-apart outlines start end d sorted group = All-from_get_or (λ other. is_like (get_or outlines start d) other ≡ false) (drop end outlines) d
     (λ k lt.
-      let some = group.some in
-      let behind : end + k < length outlines = omega (arith, length-drop end outlines) in
-      ap (is_like (get_or outlines start d)) (get_or-drop end outlines k d)
-      ∙ elim (cases_Bool (is_like (get_or outlines start d) (get_or outlines (end + k) d))) [
-        | inl t ↦
-            let like = between-like (get_or outlines start d) (get_or outlines end d) (get_or outlines (end + k) d)
-                (sorted start end d (omega arith) (omega arith)) (sorted end (end + k) d (omega arith) behind) (like-told _ _ t) in
-            let yes = told-like _ _ like in
-            let no = group.last d (omega arith) in
-            absurd (cc)
-        | inr f ↦ f
-      ])
+    let some = group.some in
+    let behind : end + k < length outlines = omega (arith, length-drop end outlines) in
+    ap (is_like (get_or outlines start d)) (get_or-drop end outlines k d)
+    ∙ elim (cases_Bool (is_like (get_or outlines start d) (get_or outlines (end + k) d))) [
+      | inl t ↦
+          let like = between-like (get_or outlines start d) (get_or outlines end d) (get_or outlines (end + k) d)
+          (sorted start end d (omega arith) (omega arith)) (sorted end (end + k) d (omega arith) behind) (like-told _ _ t) in
+          let yes = told-like _ _ like in
+          let no = group.last d (omega arith) in
+          absurd (cc)
+      | inr f ↦ f
+    ])

@@ -155,8 +155,8 @@ attribute-outline size f extents is = record {
     several = several-outline is.ordered is.several;
     sizes = All-map (HasFitSizes (sum_by clusters_covered (map outline_of is.ordered) * size) f) outline_of is.ordered
         (λ k d lt judged. sizes-held _ _ _
-          (subst (λ n. TellsSizes (n * size) (get_or is.ordered k d).flags (get_or is.ordered k d).content) (sym (outline-covered is.ordered))
-            (is.sizes k d lt judged)));
+        (subst (λ n. TellsSizes (n * size) (get_or is.ordered k d).flags (get_or is.ordered k d).content) (sym (outline-covered is.ordered))
+        (is.sizes k d lt judged)));
   };
 }
 
@@ -168,7 +168,7 @@ ordered-attribute size f extents ordered same right = record {
   several = outline-several ordered right.several;
   sizes = λ k d lt judged. subst (λ n. TellsSizes (n * size) (get_or ordered k d).flags (get_or ordered k d).content) (outline-covered ordered)
       (held-sizes _ _ (get_or ordered k d).content
-        (All-unmap outline_of (HasFitSizes (sum_by clusters_covered (map outline_of ordered) * size) f) ordered right.sizes k d lt judged));
+      (All-unmap outline_of (HasFitSizes (sum_by clusters_covered (map outline_of ordered) * size) f) ordered right.sizes k d lt judged));
 }
 
 outline-attribute : (size f : ℕ) (extents : List Part) → AreOne size f (map outline_of extents) → AreAttribute size f extents
@@ -199,7 +199,7 @@ outline-parts : (size f : ℕ) (parts : List Part) → AreAllWhole size f (map o
 outline-parts size f parts all = λ k d lt other.
     outline-attribute size f (parts_like (get_or parts k d) parts)
     (subst (AreOne size f) (sym (filter-outline (get_or parts k d) parts))
-      (All-unmap outline_of (λ outline. outline.kind ≢ FILE_NAME → AreOne size f (filter (is_like outline) (map outline_of parts))) parts all k d lt other))
+    (All-unmap outline_of (λ outline. outline.kind ≢ FILE_NAME → AreOne size f (filter (is_like outline) (map outline_of parts))) parts all k d lt other))
 
 -- In any order.
 

@@ -57,9 +57,7 @@ fn is_right_next(base: bool, least: u32, attribute: &AttrView<'_>, left: &Attrib
     ensures { (n : ℕ) → IsTrue result ↔ IsRightNext base least (part_of n (attribute_of attribute.now))
         (map (part_of n) (attributes_left left.now)) }
 {
-    least <= attribute.kind()
-        && !has_id(left, attribute.id())
-        && is_right_alone(base, attribute)
+    least <= attribute.kind() && !has_id(left, attribute.id()) && is_right_alone(base, attribute)
 }
 
 // Whether the attributes of a record are right. A record has some 40 at most, so their ids are compared one by one.

@@ -10,13 +10,13 @@ use Rattle.volume_facts.proofs.attributes.has_id.Goals as goal
 pub returns-then-id : goal.returns-then-id
 returns-then-id c =
     let one = count-yes (λ (a : Attribute). a.id == c.args.id) (attribute_of c.in-Some.attribute) (attributes_left c.next.new.self)
-        (eq-eqb _ _ (sym c.id.ensures ∙ c.if-id.true)) in
+    (eq-eqb _ _ (sym c.id.ensures ∙ c.if-id.true)) in
     let here = c.loop-attribute.invariant ∙ ap (times_id_among c.args.id) c.in-Some.ensures.steps in
     (λ _. omega arith, λ _. refl)
 
 pub loop-attribute-preserved : goal.loop-attribute-preserved
 loop-attribute-preserved c =
     let none = count-no (λ (a : Attribute). a.id == c.args.id) (attribute_of c.in-Some.attribute) (attributes_left c.next.new.self)
-        (ne_eqb _ _ (λ e. c.if-id.false (c.id.ensures ∙ e))) in
+    (ne_eqb _ _ (λ e. c.if-id.false (c.id.ensures ∙ e))) in
     let here = c.loop-attribute.invariant ∙ ap (times_id_among c.args.id) c.in-Some.ensures.steps in
     omega arith

@@ -11,11 +11,11 @@ pub returns-then-not-is_attribute : goal.returns-then-not-is_attribute
 returns-then-not-is_attribute c = (
   λ f. absurd (cc),
   λ all.
-    let w = extents-from c.args.cluster_bytes c.args.f c.args.extents.now c.loop-start.start c.group_end-end.result c.loop-start-test.true c.requires
-        c.group_end-end.ensures (c.loop-start.invariant.from all) in
-    let t : c.is_attribute.result ≡ true = c.is_attribute.ensures.1 (w.0 _ c.if-not-is_name.true) in
-    let f = c.if-not-is_attribute.true in
-    absurd (cc),
+      let w = extents-from c.args.cluster_bytes c.args.f c.args.extents.now c.loop-start.start c.group_end-end.result c.loop-start-test.true c.requires
+      c.group_end-end.ensures (c.loop-start.invariant.from all) in
+      let t : c.is_attribute.result ≡ true = c.is_attribute.ensures.1 (w.0 _ c.if-not-is_name.true) in
+      let f = c.if-not-is_attribute.true in
+      absurd (cc),
 )
 
 pub loop-start-preserved : goal.loop-start-preserved

@@ -12,12 +12,12 @@ pub returns-in_err-covered-clause-none : goal.returns-in_err-covered-clause-none
 returns-in_err-covered-clause-none c =
     subst (λ o. IfNone o (¬ (Follow 0 (map outlined c.args.extents.now) × HaveClusters (map outlined c.args.extents.now)))) (sym c.from_residual.ensures)
     (λ (follow, several). c.in_err-covered.ensures.none
-      (follow-begins c.args.extents.now c.loop-extent.extent-index c.loop-extent.end _ c.loop-extent-test.true (c.loop-extent.invariant.from follow)))
+    (follow-begins c.args.extents.now c.loop-extent.extent-index c.loop-extent.end _ c.loop-extent-test.true (c.loop-extent.invariant.from follow)))
 
 pub returns-then-covered-eq0-clause-none : goal.returns-then-covered-eq0-clause-none
 returns-then-covered-eq0-clause-none c (follow, several) =
     let one = several-one c.args.extents.now c.loop-extent.extent-index c.in_ok-covered.covered _ c.loop-extent-test.true
-        c.in_ok-covered.ensures.some.1 c.if-several.true several in
+    c.in_ok-covered.ensures.some.1 c.if-several.true several in
     let none = c.if-covered-eq0.true in
     absurd (omega (arith, one, none))
 
@@ -46,11 +46,10 @@ loop-extent-preserved c =
 pub returns-clause-some : goal.returns-clause-some
 returns-clause-some c =
     let inv = c.loop-extent.invariant in
-    let all = c.loop-extent-test.false in
-    (
+    let all = c.loop-extent-test.false in (
       inv.to (follow-end c.args.extents.now c.loop-extent.extent-index c.loop-extent.end all),
       λ long. All-map (λ outline. 1 ≤ clusters_covered outline) outlined c.args.extents.now
-        (λ k d lt. inv.each (omega (arith, length-map c.args.extents.now outlined)) k d (omega arith)),
+          (λ k d lt. inv.each (omega (arith, length-map c.args.extents.now outlined)) k d (omega arith)),
       (let none = sum-end c.args.extents.now c.loop-extent.extent-index all in let sum = inv.sum in omega (arith, none, sum)),
       inv.bound,
     )

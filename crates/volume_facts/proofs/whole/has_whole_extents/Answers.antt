@@ -11,4 +11,4 @@ returns-clause-meets c = λ records here inside base alone.
     let r = record_of c.args.n (viewed_block c.args.view.now) in
     alone-meets records c.args.cluster_bytes c.args.n r c.are_whole.result here inside base alone
     (c.are_whole.ensures r.parts (SameItems-same (map outlined c.deref_mut.result.now) (map outline_of r.parts)
-        (ap (map outlined) c.deref_mut.ensures.value ∙ c.in_ok-extents.ensures c.args.n)))
+    (ap (map outlined) c.deref_mut.ensures.value ∙ c.in_ok-extents.ensures c.args.n)))

@@ -9,9 +9,9 @@ pub returns-then-not-has_fit_sizes : goal.returns-then-not-has_fit_sizes
 returns-then-not-has_fit_sizes c = (
   λ f. absurd (cc),
   λ all.
-    let t : c.has_fit_sizes.result ≡ true = c.has_fit_sizes.ensures.1 (all c.loop-extent.extent-index _ c.loop-extent-test.true) in
-    let f = c.if-not-has_fit_sizes.true in
-    absurd (cc),
+      let t : c.has_fit_sizes.result ≡ true = c.has_fit_sizes.ensures.1 (all c.loop-extent.extent-index _ c.loop-extent-test.true) in
+      let f = c.if-not-has_fit_sizes.true in
+      absurd (cc),
 )
 
 pub loop-extent-preserved : goal.loop-extent-preserved
