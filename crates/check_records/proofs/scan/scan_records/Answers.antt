@@ -4,6 +4,7 @@ use Rattle.volume_def.specs.Files.{record_in, records_of}
 use Rattle.volume_def.specs.Table.{IsWellFormed}
 use Rattle.mft_table.specs.Blocks.{reader_layout}
 use Rattle.mft_table.proofs.StreamReads.{StageReads-then}
+use Rattle.volume_facts.specs.Facts.{FactsNote}
 use Rattle.check_records.specs.Refusals.{IsFirstBroken}
 use Rattle.check_records.specs.Views.{stage_view}
 use Rattle.check_records.proofs.ScanLaws.{record_on-inside, shape-broken, shape-more}
@@ -54,3 +55,9 @@ returns-then-not-right-clause-err g c = λ told.
     λ good. let yes : c.in_ok-right.right ≡ true =
     c.in_ok-right.ensures.shape.1 (subst (λ b. IsTrue (is_in_use b) → IsWellFormed b) (sym stored) good) in absurd (cc) in
     subst (λ k. IsFirstBroken view k n) (sym c.number.ensures) (shape-broken view n inside (before.shape told) bad)
+
+pub returns-clause-facts : goal.returns-clause-facts
+returns-clause-facts g c = λ told.
+    let view = stage_view g.D.Disk c.args.stage.now (reader_layout c.args.blocks.now) in
+    let end : c.loop-n.n ≡ view.layout.count = omega arith in
+    subst (λ k. FactsNote (records_of view) k c.loop-n.facts) end (c.loop-n.invariant.facts told)
