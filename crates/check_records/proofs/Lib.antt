@@ -1,3 +1,4 @@
 pub mod OrderLaws
 pub mod ScanLaws
 pub mod RefusalLaws
+pub mod FactsGiven

@@ -1,12 +1,21 @@
 -- The image below a stage, as a volume.
-use Rattle.std.specs.Prelude.{is_some}
+use Rattle.std.specs.Prelude.{◌≡◌, is_some}
 use Rattle.vol_disk.specs.Contents.{sector_in}
 use Rattle.vol_disk.specs.declared.Disk.{Ghosts}
 use Rattle.vol_stage.specs.declared.stage.Stage.{Stage}
 use Rattle.vol_stage.specs.Staged.{image}
-use Rattle.volume_def.specs.Table.{TableLayout}
+use Rattle.volume_def.specs.Table.{TableLayout, cluster_bytes}
 use Rattle.volume_def.specs.View.{VolumeView, view_of}
+use Rattle.volume_facts.specs.declared.facts.Facts.{Facts}
+use Rattle.volume_facts.specs.Facts.{records_known}
+use Rattle.volume_facts.specs.Owners.{clusters_noted}
 
 -- with its table where the layout says
 abbrev pub stage_view : {D : Type 0} (g : Ghosts D) → Stage D g → TableLayout → VolumeView
 stage_view g stage layout = view_of (is_some (image g stage)) (sector_in (image g stage)) layout
+
+-- The facts are noted for a volume with this layout.
+pub record IsOfVolume (layout : TableLayout) (facts : Facts) : Type 0 where
+  pub records : records_known facts ≡ layout.count
+  pub clusters : clusters_noted facts.owners ≡ layout.clusters
+  pub cluster_bytes : facts.cluster_bytes ≡ cluster_bytes layout

@@ -2,6 +2,7 @@
 //! fails, with the least number that breaks it, or the tables of the volume.
 #![tactic(auto)]
 
+mod by_facts;
 mod clause;
 mod order;
 mod scan;

@@ -12,7 +12,7 @@ ghost use Rattle.mft_table.specs.Tables.{table_layout};
 ghost use Rattle.volume_facts.specs.Facts.{FactsNote};
 ghost use Rattle.check_records.specs.Refusals.{IsRefusal};
 ghost use Rattle.check_records.specs.Tables.{HasTable};
-ghost use Rattle.check_records.specs.Views.{stage_view};
+ghost use Rattle.check_records.specs.Views.{IsOfVolume, stage_view};
 
 use crate::scan::scan_records;
 use cluster_bitmap::Bits;
@@ -87,6 +87,7 @@ pub fn scan_volume<D: Disk>(alloc: Global, stage: &mut Stage<'_, D>) -> Result<S
     ensures facts { IfOk result (λ scanned. IsTrue (stage_view D.Disk stage.old (mounted_layout scanned.mounted)).told
         → FactsNote (records_of (stage_view D.Disk stage.old (mounted_layout scanned.mounted))) (mounted_layout scanned.mounted).count
         scanned.facts) }
+    ensures volume { IfOk result (λ scanned. IsOfVolume (mounted_layout scanned.mounted) scanned.facts) }
     ensures err { IfErr result (IsRefusal (image D.Disk stage.old)) }
     ensures reads { StageReads D.Disk stage.old stage.new (3 + 2 * 2 ^ 22) }
     ensures fetched { IfOk result (λ scanned. StageReads D.Disk stage.old stage.new (3 + 2 * length scanned.mounted.records)) }

@@ -11,6 +11,9 @@ pub mod FactsLaws
 pub mod FollowLaws
 pub mod GroupLaws
 pub mod InOrderLaws
+pub mod SortedLaws
+pub mod SpreadLaws
+pub mod WantedLaws
 pub mod LinkLaws
 pub mod MarkLaws
 pub mod NameLaws
@@ -23,10 +26,7 @@ pub mod RecordsLaws
 pub mod ReferenceLaws
 pub mod RunLaws
 pub mod RunsLaws
-pub mod SortedLaws
-pub mod SpreadLaws
 pub mod TallyLaws
 pub mod UnlistedLaws
 pub mod WalkLaws
-pub mod WantedLaws
 pub mod WayLaws

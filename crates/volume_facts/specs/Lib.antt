@@ -6,14 +6,14 @@ pub mod Bitmaps
 pub mod Extents
 pub mod Facts
 pub mod Groups
-pub mod Links
 pub mod Lists
+pub mod Spread
+pub mod Links
 pub mod Marks
 pub mod Names
 pub mod Owners
 pub mod Pairs
 pub mod References
-pub mod Spread
 pub mod Tallies
 pub mod Unlisted
 pub mod Used

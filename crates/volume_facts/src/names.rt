@@ -39,8 +39,8 @@ pub struct Names {
     names: Vec<NameFact>,
 }
 
-// The file to which record n belongs.
-fn file_of(n: u64, view: &RecordView<'_>) -> u64
+/// The file to which record n belongs.
+pub fn file_of(n: u64, view: &RecordView<'_>) -> u64
     ensures { result ≡ file_of n (record_of n (viewed_block view.now)) }
 {
     let base = view.header().base;

@@ -28,8 +28,8 @@ pub struct SpreadFiles {
     pub listed: Vec<u64>,
 }
 
-// Whether a record has an attribute list.
-fn has_list(view: &RecordView<'_>) -> bool
+/// Whether a record has an attribute list.
+pub fn has_list(view: &RecordView<'_>) -> bool
     ensures { result ≡ list_any (λ attribute. attribute.kind == ATTRIBUTE_LIST) (attributes_of view.now) }
 {
     for attribute in view.attributes() {

@@ -4,6 +4,7 @@ use Rattle.volume_def.specs.Files.{record_in, records_of}
 use Rattle.volume_def.specs.Table.{IsWellFormed}
 use Rattle.mft_table.specs.Blocks.{reader_layout}
 use Rattle.mft_table.proofs.StreamReads.{StageReads-then}
+use Rattle.volume_facts.specs.Facts.{FactsNote}
 use Rattle.check_records.specs.Refusals.{IsFirstBroken}
 use Rattle.check_records.specs.Views.{stage_view}
 use Rattle.check_records.proofs.ScanLaws.{record_on-inside, shape-broken, shape-more}
@@ -12,7 +13,8 @@ use Rattle.check_records.proofs.scan.scan_records.Goals as goal
 pub loop-n-init : goal.loop-n-init
 loop-n-init g c = record {
   shape = λ told k h. absurd (omega arith);
-  facts = λ told. c.new-facts.ensures (records_of (stage_view g.D.Disk c.args.stage.now (reader_layout c.args.blocks.now)));
+  facts = λ told. c.in_ok-facts.ensures.none (records_of (stage_view g.D.Disk c.args.stage.now (reader_layout c.args.blocks.now)));
+  volume = record { records = c.in_ok-facts.ensures.records; clusters = c.in_ok-facts.ensures.clusters; cluster_bytes = omega (arith, c.in_ok-facts.ensures.cluster_bytes) };
   reads = search rules;
   faults = refl;
 }
@@ -30,6 +32,13 @@ loop-n-preserved g c =
           (subst (λ b. IsTrue (is_in_use b) → IsWellFormed b) (stored told) (c.in_ok-right.ensures.shape.0 yes));
       facts = λ told. c.in_ok-right.ensures.noted yes (records_of view)
           (record_on-inside view n inside ∙ ap (record_in n) (sym (stored told))) (before.facts told);
+      volume =
+          let same = c.note_block.ensures.same in
+          record {
+            records = same.records ∙ before.volume.records;
+            clusters = same.clusters ∙ before.volume.clusters;
+            cluster_bytes = same.cluster_bytes ∙ before.volume.cluster_bytes;
+          };
       reads = StageReads-then g.D.Disk c.args.stage.now c.loop-n.stage c.read_block.new.stage _ 2 _ before.reads c.in_ok-read_block.ensures.reads (omega arith);
       faults = c.in_ok-read_block.ensures.faults ∙ before.faults;
     }
@@ -46,3 +55,9 @@ returns-then-not-right-clause-err g c = λ told.
     λ good. let yes : c.in_ok-right.right ≡ true =
     c.in_ok-right.ensures.shape.1 (subst (λ b. IsTrue (is_in_use b) → IsWellFormed b) (sym stored) good) in absurd (cc) in
     subst (λ k. IsFirstBroken view k n) (sym c.number.ensures) (shape-broken view n inside (before.shape told) bad)
+
+pub returns-clause-facts : goal.returns-clause-facts
+returns-clause-facts g c = λ told.
+    let view = stage_view g.D.Disk c.args.stage.now (reader_layout c.args.blocks.now) in
+    let end : c.loop-n.n ≡ view.layout.count = omega arith in
+    subst (λ k. FactsNote (records_of view) k c.loop-n.facts) end (c.loop-n.invariant.facts told)

@@ -1,8 +1,15 @@
 use Rattle.std.proofs.Common.{arith}
 use Rattle.volume_facts.proofs.facts.Facts.new.Goals as goal
 
-pub returns : goal.returns
-returns c = λ records. record {
+pub returns-clause-none : goal.returns-clause-none
+returns-clause-none c = λ records. record {
   attributes = λ k h. absurd (omega arith);
-  right = λ all. record { spread = c.new.ensures records };
+  right = λ all. record {
+    extents = λ k h. absurd (omega arith);
+    owners = c.in_ok-owners.ensures.none records;
+    used = c.in_ok-used.ensures.none records;
+    heads = c.new-3.ensures records;
+    names = c.new-4.ensures records;
+    spread = c.new-5.ensures records;
+  };
 }

@@ -1,0 +1,42 @@
+//! The clauses that are decided by the facts of the pass alone.
+ghost use Rattle.std.specs.Prelude.{IfOk};
+ghost use Rattle.volume_def.specs.Files.{records_of};
+ghost use Rattle.volume_def.specs.Sound.Clause.{Attributes, Links, Owners, References};
+ghost use Rattle.volume_def.specs.View.{VolumeView};
+ghost use Rattle.volume_facts.specs.Facts.{FactsNote};
+ghost use Rattle.check_records.specs.Refusals.{DecidesFirst};
+ghost use Rattle.check_records.specs.Views.{IsOfVolume};
+
+use std::alloc::{AllocError, Global};
+use volume_facts::{Facts, first_wrong_link, first_wrong_reference};
+
+/// The least record that breaks the clause on attributes.
+pub fn first_wrong_attributes(facts: &Facts) -> Option<u64>
+    ensures { (view : VolumeView) → FactsNote (records_of view) view.layout.count facts.now → DecidesFirst Attributes view result }
+{
+    facts.first_wrong_record()
+}
+
+/// The least cluster that breaks the clause on owners.
+pub fn first_wrong_owner(facts: &Facts) -> Option<u64>
+    ensures { (view : VolumeView) → IsOfVolume view.layout facts.now → FactsNote (records_of view) view.layout.count facts.now
+        → DecidesFirst Owners view result }
+{
+    facts.owners.first_badly_owned()
+}
+
+/// The least record that breaks the clause on references.
+pub fn first_wrong_holder(facts: &Facts) -> Option<u64>
+    ensures { (view : VolumeView) → FactsNote (records_of view) view.layout.count facts.now → DecidesFirst References view result }
+{
+    first_wrong_reference(&facts.heads, &facts.names)
+}
+
+/// The least base record that breaks the clause on links.
+pub fn first_wrong_name(alloc: Global, facts: &Facts) -> Result<Option<u64>, AllocError>
+    ensures { IfOk result (λ first. (view : VolumeView) → FactsNote (records_of view) view.layout.count facts.now
+        → DecidesFirst Links view first) }
+{
+    let first = first_wrong_link(alloc, &facts.heads, &facts.names)?;
+    Ok(first)
+}
