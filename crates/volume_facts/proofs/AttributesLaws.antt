@@ -70,7 +70,8 @@ AreRight-more base n least standards kind count xs ys x is same more next right 
     (subst (λ k. AreRight base kind k (map (part_of n) ys)) more right)))
 
 pub AreRight-less : (base : Bool) (n least standards kind count : ℕ) (xs ys : List Attribute) (x : Attribute) → xs ≡ x ∷ ys → kind ≡ x.kind
-    → count ≡ one_more standards (part_of n x) → AreRight base least standards (map (part_of n) xs) → AreRight base kind count (map (part_of n) ys)
+    → count ≡ one_more standards (part_of n x) → AreRight base least standards (map (part_of n) xs)
+        → AreRight base kind count (map (part_of n) ys)
 AreRight-less base n least standards kind count xs ys x is same more right =
     subst (λ k. AreRight base kind k (map (part_of n) ys)) (sym more)
     (subst (λ k. AreRight base k (one_more standards (part_of n x)) (map (part_of n) ys)) (sym same)
@@ -115,7 +116,8 @@ next-repeated base n least attribute left id same some next =
 
 -- A record.
 
-pub RightRecord-from : (n : ℕ) (r : Record) (base : Bool) → is_base r ≡ base → (n < 12 → IsTrue base) → AreRight base 0 0 r.parts → IsRightRecord n r
+pub RightRecord-from : (n : ℕ) (r : Record) (base : Bool) → is_base r ≡ base → (n < 12 → IsTrue base) → AreRight base 0 0 r.parts
+    → IsRightRecord n r
 RightRecord-from n r base is system right = record {
   system = λ low. is ∙ system low;
   rising = right.rising;

@@ -29,7 +29,8 @@ pub follow-more : (extents : List Extent) (i vcn covered : ℕ) (d : Extent) →
     → covered ≡ covered_by (get_or extents i d).held → Follow (vcn + covered) (drop (i + 1) (map outlined extents))
     → Follow vcn (drop i (map outlined extents))
 follow-more extents i vcn covered d lt begins is rest =
-    subst (Follow vcn) (sym (outlines-from extents i d lt)) (begins, subst (λ n. Follow (vcn + n) (drop (i + 1) (map outlined extents))) is rest)
+    subst (Follow vcn) (sym (outlines-from extents i d lt)) (begins, subst (λ n. Follow (vcn + n) (drop (i + 1)
+        (map outlined extents))) is rest)
 
 pub follow-less : (extents : List Extent) (i vcn covered : ℕ) (d : Extent) → i < length extents
     → covered ≡ covered_by (get_or extents i d).held → Follow vcn (drop i (map outlined extents))
@@ -43,9 +44,11 @@ pub follow-begins : (extents : List Extent) (i vcn : ℕ) (d : Extent) → i < l
 follow-begins extents i vcn d lt follow = (subst (Follow vcn) (outlines-from extents i d lt) follow).0
 
 pub covered-more : (extents : List Extent) (i : ℕ) (d : Extent) → i < length extents
-    → sum_by clusters_covered (drop i (map outlined extents)) ≡ covered_by (get_or extents i d).held + sum_by clusters_covered (drop (i + 1) (map outlined extents))
+    → sum_by clusters_covered (drop i (map outlined extents)) ≡ covered_by (get_or extents i d).held + sum_by clusters_covered (drop
+        (i + 1) (map outlined extents))
 covered-more extents i d lt =
-    ap (sum_by clusters_covered) (outlines-from extents i d lt) ∙ sum_by-cons clusters_covered (outlined (get_or extents i d)) (drop (i + 1) (map outlined extents))
+    ap (sum_by clusters_covered) (outlines-from extents i d lt)
+        ∙ sum_by-cons clusters_covered (outlined (get_or extents i d)) (drop (i + 1) (map outlined extents))
 
 pub covered-sum : (extents : List Extent) (i covered : ℕ) (d : Extent) → i < length extents → covered ≡ covered_by (get_or extents i d).held
     → sum_by clusters_covered (drop i (map outlined extents)) ≡ covered + sum_by clusters_covered (drop (i + 1) (map outlined extents))
@@ -56,7 +59,8 @@ covered-sum extents i covered d lt is =
 pub several-one : (extents : List Extent) (i covered : ℕ) (d : Extent) → i < length extents → covered ≡ covered_by (get_or extents i d).held
     → 1 < length extents → HaveClusters (map outlined extents) → 1 ≤ covered
 several-one extents i covered d lt is long several =
-    let one = All-unmap outlined (λ outline. 1 ≤ clusters_covered outline) extents (several (omega (arith, length-map extents outlined))) i d lt in
+    let one = All-unmap outlined (λ outline. 1 ≤ clusters_covered outline) extents (several (omega
+        (arith, length-map extents outlined))) i d lt in
     omega arith
 
 pub one-at : (extents : List Extent) (i k covered : ℕ) (d e : Extent) → i < length extents → covered ≡ covered_by (get_or extents i d).held

@@ -75,7 +75,8 @@ follow-rises vcn (x ∷ xs) (begins, rest) zero j d le h =
     let l = low vcn (x ∷ xs) (begins, rest) j d h in
     omega arith
 follow-rises vcn (x ∷ xs) (begins, rest) (suc i) zero d le h = absurd (omega arith)
-follow-rises vcn (x ∷ xs) (begins, rest) (suc i) (suc j) d le h = follow-rises (vcn + clusters_covered x) xs rest i j d (omega arith) (omega arith)
+follow-rises vcn (x ∷ xs) (begins, rest) (suc i) (suc j) d le h = follow-rises (vcn + clusters_covered x) xs rest i j d (omega arith)
+    (omega arith)
 
 -- each has a cluster but the last
 abbrev Full : List Outline → Type 0
@@ -86,14 +87,16 @@ Full (x ∷ y ∷ rest) = (1 ≤ clusters_covered x) × Full (y ∷ rest)
 all-full : (xs : List Outline) → All (λ x. 1 ≤ clusters_covered x) xs → Full xs
 all-full [] all = tt
 all-full (x ∷ []) all = tt
-all-full (x ∷ y ∷ rest) all = (All-head (λ (x : Outline). 1 ≤ clusters_covered x) x (y ∷ rest) all, all-full (y ∷ rest) (All-tail (λ (x : Outline). 1 ≤ clusters_covered x) x (y ∷ rest) all))
+all-full (x ∷ y ∷ rest) all = (All-head (λ (x : Outline). 1 ≤ clusters_covered x) x (y ∷ rest) all, all-full (y ∷ rest) (All-tail (λ
+    (x : Outline). 1 ≤ clusters_covered x) x (y ∷ rest) all))
 
 clusters-full : (xs : List Outline) → HaveClusters xs → Full xs
 clusters-full [] h = tt
 clusters-full (x ∷ []) h = tt
 clusters-full (x ∷ y ∷ rest) h = all-full (x ∷ y ∷ rest) (h (omega arith))
 
-none-at : (k : ℕ) (xs : List Outline) → ((i : ℕ) (d : Outline) → i < length xs → k < first_vcn (get_or xs i d)) → count_by (λ x. first_vcn x == k) xs ≡ 0
+none-at : (k : ℕ) (xs : List Outline) → ((i : ℕ) (d : Outline) → i < length xs → k < first_vcn (get_or xs i d))
+    → count_by (λ x. first_vcn x == k) xs ≡ 0
 none-at k [] h = refl
 none-at k (x ∷ xs) h =
     let first = h 0 x (omega arith) in
@@ -167,7 +170,8 @@ filter-group : (first x : Outline) (group others : List Outline) → is_like fir
     → All (λ y. is_like first y ≡ false) others → filter (is_like x) (group ++ others) ≡ group
 filter-group first x group others like alike apart =
     filter-append (is_like x) group others
-    ∙ ap (λ ys. ys ++ filter (is_like x) others) (filter-all (is_like x) group (λ k d l. like-same first x (get_or group k d) like ∙ alike k d l))
+    ∙ ap (λ ys. ys ++ filter (is_like x) others) (filter-all (is_like x) group (λ k d l. like-same first x (get_or group k d) like
+        ∙ alike k d l))
     ∙ ap (λ ys. group ++ ys) (filter-none (is_like x) others (λ k d l. like-same first x (get_or others k d) like ∙ apart k d l))
     ∙ append-nil group
 
@@ -196,13 +200,16 @@ whole-group size f first group others alike apart one rest =
     All-append (Judged size f (group ++ others)) group others
     (λ k d l other. subst (AreOne size f) (sym (filter-group first (get_or group k d) group others (alike k d l) alike apart))
     (one (λ e. other ((like-told first (get_or group k d) (alike k d l)).kind ∙ e))))
-    (λ k d l other. subst (AreOne size f) (sym (filter-others first (get_or others k d) group others (apart k d l) alike)) (rest k d l other))
+    (λ k d l other. subst (AreOne size f) (sym (filter-others first (get_or others k d) group others (apart k d l) alike))
+        (rest k d l other))
 
-pub group-whole : (size f : ℕ) (first : Outline) (group others : List Outline) → Contains group first → All (λ y. is_like first y ≡ true) group
+pub group-whole : (size f : ℕ) (first : Outline) (group others : List Outline) → Contains group first
+    → All (λ y. is_like first y ≡ true) group
     → All (λ y. is_like first y ≡ false) others → AreAllWhole size f (group ++ others)
     → (first.kind ≢ FILE_NAME → AreOne size f group) × AreAllWhole size f others
 group-whole size f first group others here alike apart all = (
-  λ other. subst (AreOne size f) (filter-group first first group others (All-contains (λ y. is_like first y ≡ true) group first alike here) alike apart)
+  λ other. subst (AreOne size f) (filter-group first first group others (All-contains
+      (λ y. is_like first y ≡ true) group first alike here) alike apart)
       (All-contains (Judged size f (group ++ others)) (group ++ others) first all (Contains-append_left group others first here) other),
   λ k d l other. subst (AreOne size f) (filter-others first (get_or others k d) group others (apart k d l) alike)
       (All-contains (Judged size f (group ++ others)) (group ++ others) (get_or others k d) all

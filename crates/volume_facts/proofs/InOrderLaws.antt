@@ -27,7 +27,8 @@ use Rattle.volume_facts.proofs.OrderLaws.{group-alike, group-apart, group-rises,
 use Rattle.volume_facts.proofs.OutlineLaws.{All-unmap}
 
 -- a fact at a place, whatever is read past the end
-pub at-same : (P : Extent → Type 0) (extents : List Extent) (i k : ℕ) (d e : Extent) → i < length extents → i ≡ k → P (get_or extents i d) → P (get_or extents k e)
+pub at-same : (P : Extent → Type 0) (extents : List Extent) (i k : ℕ) (d e : Extent) → i < length extents → i ≡ k
+    → P (get_or extents i d) → P (get_or extents k e)
 at-same P extents i k d e lt same p =
     subst (λ j. P (get_or extents j e)) same (subst P (get_or_default extents i d e lt) p)
 
@@ -45,7 +46,8 @@ value-order size f (outline ∷ []) one = record {
   sizes = λ k d lt judged. fits-at k d lt;
 }
   where
-    fits-at : (k : ℕ) (d : Outline) → k < 1 → FitsFirst (sum_by clusters_covered (outline ∷ []) * size) (get_or (outline ∷ []) k d).flags (get_or (outline ∷ []) k d).held
+    fits-at : (k : ℕ) (d : Outline) → k < 1 → FitsFirst (sum_by clusters_covered (outline ∷ []) * size) (get_or
+        (outline ∷ []) k d).flags (get_or (outline ∷ []) k d).held
     fits-at zero d lt = fits-here _ _ outline.held one
     fits-at (suc k) d lt = absurd (omega arith)
 value-order size f (outline ∷ next ∷ outlines) one = absurd one
@@ -61,7 +63,8 @@ follow-whole [] follow = tt
 follow-whole (outline ∷ []) (begins, rest) = inr begins
 follow-whole (outline ∷ next ∷ outlines) follow = follow
 
-pub order-follow : (size f : ℕ) (outlines : List Outline) → AreInOrder size f outlines → (IsOneValue outlines → ⊥) → Follow 0 outlines × HaveClusters outlines
+pub order-follow : (size f : ℕ) (outlines : List Outline) → AreInOrder size f outlines → (IsOneValue outlines → ⊥)
+    → Follow 0 outlines × HaveClusters outlines
 order-follow size f outlines right none = (whole-follow outlines right.whole none, right.several)
 
 pub follow-order : (size f covered : ℕ) (extents : List Extent) → Follow 0 (map outlined extents) → HaveClusters (map outlined extents)
@@ -70,7 +73,8 @@ pub follow-order : (size f covered : ℕ) (extents : List Extent) → Follow 0 (
 follow-order size f covered extents follow several sum fit = record {
   whole = follow-whole (map outlined extents) follow;
   several = several;
-  sizes = subst (λ n. All (HasFitSizes (n * size) f) (map outlined extents)) sum (All-map (HasFitSizes (covered * size) f) outlined extents fit);
+  sizes = subst (λ n. All (HasFitSizes (n * size) f) (map outlined extents)) sum (All-map (HasFitSizes
+      (covered * size) f) outlined extents fit);
 }
 
 pub order-fit : (size f covered : ℕ) (extents : List Extent) → covered ≡ sum_by clusters_covered (map outlined extents)
@@ -100,7 +104,8 @@ group-from (x ∷ xs) start end some inside alike last = record {
       ∙ last x lt;
 }
 
-group-split : (outlines : List Outline) (start end : ℕ) → start < end → take (end - start) (drop start outlines) ++ drop end outlines ≡ drop start outlines
+group-split : (outlines : List Outline) (start end : ℕ) → start < end
+    → take (end - start) (drop start outlines) ++ drop end outlines ≡ drop start outlines
 group-split outlines start end some =
     let e : start + (end - start) ≡ end = omega arith in
     ap (λ ys. take (end - start) (drop start outlines) ++ ys) (sym (drop-drop (end - start) start outlines ∙ ap (λ k. drop k outlines) e))
@@ -125,13 +130,16 @@ first-here outlines start end d group =
     let e : start + 0 ≡ start = omega arith in
     subst (Contains (take (end - start) (drop start outlines)))
     (get_or-take (end - start) (drop start outlines) 0 d (omega arith) ∙ get_or-drop start outlines 0 d ∙ ap (λ k. get_or outlines k d) e)
-    (Contains-get_or (take (end - start) (drop start outlines)) 0 d (omega (arith, length-take-le (end - start) (drop start outlines) long)))
+    (Contains-get_or (take (end - start) (drop start outlines)) 0 d (omega (arith, length-take-le (end - start)
+        (drop start outlines) long)))
 
 pub judge-from : (size f : ℕ) (outlines : List Outline) (start end : ℕ) (d : Outline) → AreSorted outlines → IsGroup outlines start end
     → AreAllWhole size f (drop start outlines)
-    → ((get_or outlines start d).kind ≢ FILE_NAME → AreInOrder size f (take (end - start) (drop start outlines))) × AreAllWhole size f (drop end outlines)
+    → ((get_or outlines start d).kind ≢ FILE_NAME → AreInOrder size f (take (end - start) (drop start outlines))) × AreAllWhole size f
+        (drop end outlines)
 judge-from size f outlines start end d sorted group all =
-    let w = group-whole size f (get_or outlines start d) (take (end - start) (drop start outlines)) (drop end outlines) (first-here outlines start end d group)
+    let w = group-whole size f (get_or outlines start d) (take (end - start) (drop start outlines)) (drop end outlines)
+        (first-here outlines start end d group)
     (group-alike outlines start end d group) (group-apart outlines start end d sorted group)
     (subst (AreAllWhole size f) (sym (group-split outlines start end group.some)) all) in (
       λ other. AreOne-sorted size f (take (end - start) (drop start outlines)) (group-rises outlines start end sorted group) (w.0 other),
@@ -139,7 +147,8 @@ judge-from size f outlines start end d sorted group all =
     )
 
 -- the outlines of a part of a slice
-pub outlines-between : (extents : List Extent) (start end : ℕ) → map outlined (take (end - start) (drop start extents)) ≡ take (end - start) (drop start (map outlined extents))
+pub outlines-between : (extents : List Extent) (start end : ℕ)
+    → map outlined (take (end - start) (drop start extents)) ≡ take (end - start) (drop start (map outlined extents))
 outlines-between extents start end =
     sym (take-map outlined (end - start) (drop start extents)) ∙ ap (take (end - start)) (sym (drop-map outlined start extents))
 
@@ -159,7 +168,8 @@ sorted-from (x ∷ xs) sorted i j d le lt =
     ∙ ap (λ o. is_lt (outline_order (outlined (get_or (x ∷ xs) j x)) o)) (get_or-map outlined (x ∷ xs) i x d (omega arith))
     ∙ sorted_far extent_lt extent_ranks (x ∷ xs) sorted i j x le long
 
-pub moved-outlines : (extents sorted : List Extent) (outlines : List Outline) → IsPermutation extents sorted → SameItems (map outlined extents) outlines
+pub moved-outlines : (extents sorted : List Extent) (outlines : List Outline) → IsPermutation extents sorted
+    → SameItems (map outlined extents) outlines
     → SameItems (map outlined sorted) outlines
 moved-outlines extents sorted outlines moved same =
     SameItems-trans (map outlined sorted) (map outlined extents) outlines
@@ -171,7 +181,8 @@ moved-outlines extents sorted outlines moved same =
 flat_map-nil : {A : Type 0} (g : ℕ → List A) (from n : ℕ) → ((m : ℕ) → from ≤ m → g m ≡ []) → flat_map g (range_with_len from n) ≡ []
 flat_map-nil g from zero none = refl
 flat_map-nil g from (suc n) none =
-    ap (λ ys. ys ++ flat_map g (range_with_len (from + 1) n)) (none from (omega arith)) ∙ flat_map-nil g (from + 1) n (λ m low. none m (omega arith))
+    ap (λ ys. ys ++ flat_map g (range_with_len (from + 1) n)) (none from (omega arith))
+        ∙ flat_map-nil g (from + 1) n (λ m low. none m (omega arith))
 
 flat_map-one : {A : Type 0} (g : ℕ → List A) (from n k : ℕ) → from ≤ k → k < from + n → ((m : ℕ) → m ≢ k → g m ≡ [])
     → flat_map g (range_with_len from n) ≡ g k
@@ -201,13 +212,15 @@ alone-parts records n r here inside base alone =
     (λ m ne. parts-nowhere n m (records.record_at m) ne (alone m))
     ∙ ap (λ o. parts_in o n n) here ∙ parts_in-own n n r (based-here n r.header.base base)
 
-pub alone-meets : (records : Records) (size n : ℕ) (r : Record) (whole : Bool) → records.record_at n ≡ Some r → n < records.count → IsTrue (is_base r)
+pub alone-meets : (records : Records) (size n : ℕ) (r : Record) (whole : Bool) → records.record_at n ≡ Some r → n < records.count
+    → IsTrue (is_base r)
     → IsAlone records n → IsTrue whole ↔ AreWholeParts size n r.parts → IsTrue whole ↔ MeetsExtents records size n
 alone-meets records size n r whole here inside base alone decided =
     let same = alone-parts records n r here inside base alone in (
       λ t. subst (λ o. IfSome o (λ r. IsTrue (is_base r) → AreWholeParts size n (parts records n))) (sym here)
           (λ _. subst (AreWholeParts size n) (sym same) (decided.0 t)),
-      λ meets. decided.1 (subst (AreWholeParts size n) same (subst (λ o. IfSome o (λ r. IsTrue (is_base r) → AreWholeParts size n (parts records n))) here meets base)),
+      λ meets. decided.1 (subst (AreWholeParts size n) same (subst (λ o. IfSome o (λ r. IsTrue (is_base r)
+          → AreWholeParts size n (parts records n))) here meets base)),
     )
 
 -- Facts of extents at their places, whatever is read past the end.
@@ -221,7 +234,8 @@ like-any extents i j b d e low high is o =
 
 pub extents-to : (size f : ℕ) (extents : List Extent) (start end : ℕ) → start < length extents → AreSorted (map outlined extents)
     → IsGroup (map outlined extents) start end
-    → ((d : Extent) → (get_or extents start d).kind ≢ FILE_NAME → AreInOrder size f (map outlined (take (end - start) (drop start extents))))
+    → ((d : Extent) → (get_or extents start d).kind ≢ FILE_NAME
+        → AreInOrder size f (map outlined (take (end - start) (drop start extents))))
     → AreAllWhole size f (drop end (map outlined extents)) → AreAllWhole size f (drop start (map outlined extents))
 extents-to size f [] start end lt sorted group right rest = absurd (omega arith)
 extents-to size f (x ∷ xs) start end lt sorted group right rest =
@@ -231,7 +245,8 @@ extents-to size f (x ∷ xs) start end lt sorted group right rest =
 
 pub extents-from : (size f : ℕ) (extents : List Extent) (start end : ℕ) → start < length extents → AreSorted (map outlined extents)
     → IsGroup (map outlined extents) start end → AreAllWhole size f (drop start (map outlined extents))
-    → ((d : Extent) → (get_or extents start d).kind ≢ FILE_NAME → AreInOrder size f (map outlined (take (end - start) (drop start extents))))
+    → ((d : Extent) → (get_or extents start d).kind ≢ FILE_NAME
+        → AreInOrder size f (map outlined (take (end - start) (drop start extents))))
     × AreAllWhole size f (drop end (map outlined extents))
 extents-from size f [] start end lt sorted group all = absurd (omega arith)
 extents-from size f (x ∷ xs) start end lt sorted group all =

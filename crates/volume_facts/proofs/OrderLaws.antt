@@ -73,7 +73,8 @@ numbers_equal x y e = by_ranked (x < y) (x ≡ y) (y < x) (nat_cmp x y) (ranked 
 tied-like : (outline other : Outline) → group_order other outline ≡ Equal → AreLike outline other
 tied-like outline other e = record {
   kind = numbers_equal other.kind outline.kind (then_first _ _ e);
-  name = (numbers_is_eq other.name outline.name).0 (ap is_eq (then_second (nat_cmp other.kind outline.kind) (by_numbers other.name outline.name) e));
+  name = (numbers_is_eq other.name outline.name).0 (ap is_eq (then_second (nat_cmp other.kind outline.kind)
+      (by_numbers other.name outline.name) e));
 }
 
 then_lt : (a b : Ordering) → is_lt (ordering_then a b) ≡ false → is_lt a ≡ false
@@ -123,7 +124,8 @@ pub group-rises : (outlines : List Outline) (start end : ℕ) → AreSorted outl
 group-rises outlines start end sorted group i j d le lt =
     let some = group.some in
     let inside = group.inside in
-    let low : j < end - start = omega (arith, length-take-le (end - start) (drop start outlines) (omega (arith, length-drop start outlines))) in
+    let low : j < end - start = omega (arith, length-take-le (end - start) (drop start outlines) (omega
+        (arith, length-drop start outlines))) in
     let at : (k : ℕ) → k < end - start → get_or (take (end - start) (drop start outlines)) k d ≡ get_or outlines (start + k) d = λ k h.
     get_or-take (end - start) (drop start outlines) k d h ∙ get_or-drop start outlines k d in
     let x = get_or outlines (start + i) d in
@@ -139,18 +141,21 @@ group-rises outlines start end sorted group i j d le lt =
 -- those of the group are like its first
 pub group-alike : (outlines : List Outline) (start end : ℕ) (d : Outline) → IsGroup outlines start end
     → All (λ other. is_like (get_or outlines start d) other ≡ true) (take (end - start) (drop start outlines))
-group-alike outlines start end d group = All-from_get_or (λ other. is_like (get_or outlines start d) other ≡ true) (take (end - start) (drop start outlines)) d
+group-alike outlines start end d group = All-from_get_or (λ other. is_like (get_or outlines start d) other ≡ true) (take (end - start)
+    (drop start outlines)) d
     (λ k lt.
     let some = group.some in
     let inside = group.inside in
-    let low : k < end - start = omega (arith, length-take-le (end - start) (drop start outlines) (omega (arith, length-drop start outlines))) in
+    let low : k < end - start = omega (arith, length-take-le (end - start) (drop start outlines) (omega
+        (arith, length-drop start outlines))) in
     ap (is_like (get_or outlines start d)) (get_or-take (end - start) (drop start outlines) k d low ∙ get_or-drop start outlines k d)
     ∙ group.alike (start + k) d (omega arith) (omega arith))
 
 -- none behind it is
 pub group-apart : (outlines : List Outline) (start end : ℕ) (d : Outline) → AreSorted outlines → IsGroup outlines start end
     → All (λ other. is_like (get_or outlines start d) other ≡ false) (drop end outlines)
-group-apart outlines start end d sorted group = All-from_get_or (λ other. is_like (get_or outlines start d) other ≡ false) (drop end outlines) d
+group-apart outlines start end d sorted group = All-from_get_or (λ other. is_like (get_or outlines start d) other ≡ false)
+    (drop end outlines) d
     (λ k lt.
     let some = group.some in
     let behind : end + k < length outlines = omega (arith, length-drop end outlines) in

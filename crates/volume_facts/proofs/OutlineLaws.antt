@@ -35,7 +35,8 @@ held_by-cases (InClusters sizes covered) = refl
 
 held_code : Coded Held
 held_code = code_by (Option ((ℕ × (ℕ × (ℕ × (ℕ × ℕ)))) × Option ℕ))
-    (coded_option (coded× (coded× coded_ℕ (coded× coded_ℕ (coded× coded_ℕ (coded× coded_ℕ coded_ℕ)))) (coded_option coded_ℕ))) cases_of held_by held_by-cases
+    (coded_option (coded× (coded× coded_ℕ (coded× coded_ℕ (coded× coded_ℕ (coded× coded_ℕ coded_ℕ))))
+        (coded_option coded_ℕ))) cases_of held_by held_by-cases
 
 pub outline_code : Coded Outline
 outline_code = code_by (ℕ × (List ℕ × (ℕ × Held))) (coded× coded_ℕ (coded× (coded_list coded_ℕ) (coded× coded_ℕ held_code)))
@@ -136,14 +137,17 @@ All-unmap g P xs all = All-from_Contains (λ x. P (g x)) xs (λ x c. All-contain
 
 -- An attribute, in parts and in outlines.
 
-pub several-outline : (parts : List Part) → (1 < length parts → All (λ part. 1 ≤ part_clusters part) parts) → HaveClusters (map outline_of parts)
+pub several-outline : (parts : List Part) → (1 < length parts → All (λ part. 1 ≤ part_clusters part) parts)
+    → HaveClusters (map outline_of parts)
 several-outline parts several = λ long.
     All-map (λ outline. 1 ≤ clusters_covered outline) outline_of parts
-    (λ k d lt. let one = several (omega (arith, length-map parts outline_of)) k d lt in let e = outline-clusters (get_or parts k d) in omega arith)
+    (λ k d lt. let one = several (omega (arith, length-map parts outline_of)) k d lt in let e = outline-clusters
+        (get_or parts k d) in omega arith)
 
 outline-several : (parts : List Part) → HaveClusters (map outline_of parts) → 1 < length parts → All (λ part. 1 ≤ part_clusters part) parts
 outline-several parts several long = λ k d lt.
-    let one = All-unmap outline_of (λ outline. 1 ≤ clusters_covered outline) parts (several (omega (arith, length-map parts outline_of))) k d lt in
+    let one = All-unmap outline_of (λ outline. 1 ≤ clusters_covered outline) parts (several (omega
+        (arith, length-map parts outline_of))) k d lt in
     let e = outline-clusters (get_or parts k d) in
     omega arith
 
@@ -161,13 +165,15 @@ attribute-outline size f extents is = record {
   };
 }
 
-ordered-attribute : (size f : ℕ) (extents ordered : List Part) → SameItems extents ordered → AreInOrder size f (map outline_of ordered) → AreAttribute size f extents
+ordered-attribute : (size f : ℕ) (extents ordered : List Part) → SameItems extents ordered → AreInOrder size f (map outline_of ordered)
+    → AreAttribute size f extents
 ordered-attribute size f extents ordered same right = record {
   ordered = ordered;
   order = same;
   whole = outline-whole ordered right.whole;
   several = outline-several ordered right.several;
-  sizes = λ k d lt judged. subst (λ n. TellsSizes (n * size) (get_or ordered k d).flags (get_or ordered k d).content) (outline-covered ordered)
+  sizes = λ k d lt judged. subst (λ n. TellsSizes (n * size) (get_or ordered k d).flags (get_or ordered k d).content)
+      (outline-covered ordered)
       (held-sizes _ _ (get_or ordered k d).content
       (All-unmap outline_of (HasFitSizes (sum_by clusters_covered (map outline_of ordered) * size) f) ordered right.sizes k d lt judged));
 }
@@ -179,28 +185,34 @@ outline-attribute size f extents one =
 
 -- All parts of a file.
 
-filter-outline : (part : Part) (parts : List Part) → map outline_of (parts_like part parts) ≡ filter (is_like (outline_of part)) (map outline_of parts)
+filter-outline : (part : Part) (parts : List Part) → map outline_of (parts_like part parts) ≡ filter (is_like (outline_of part))
+    (map outline_of parts)
 filter-outline part [] = refl
 filter-outline part (next ∷ parts) = elim (cases_Bool (is_of part.kind part.name next)) [
   | inl t ↦
       ap (λ b. map outline_of (cond b (next ∷ parts_like part parts) (parts_like part parts))) t
       ∙ ap (λ xs. outline_of next ∷ xs) (filter-outline part parts)
-      ∙ sym (ap (λ b. cond b (outline_of next ∷ filter (is_like (outline_of part)) (map outline_of parts)) (filter (is_like (outline_of part)) (map outline_of parts))) t)
+      ∙ sym (ap (λ b. cond b (outline_of next ∷ filter (is_like (outline_of part)) (map outline_of parts)) (filter (is_like
+          (outline_of part)) (map outline_of parts))) t)
   | inr f ↦
       ap (λ b. map outline_of (cond b (next ∷ parts_like part parts) (parts_like part parts))) f
       ∙ filter-outline part parts
-      ∙ sym (ap (λ b. cond b (outline_of next ∷ filter (is_like (outline_of part)) (map outline_of parts)) (filter (is_like (outline_of part)) (map outline_of parts))) f)
+      ∙ sym (ap (λ b. cond b (outline_of next ∷ filter (is_like (outline_of part)) (map outline_of parts)) (filter (is_like
+          (outline_of part)) (map outline_of parts))) f)
 ]
 
 parts-outline : (size f : ℕ) (parts : List Part) → AreWholeParts size f parts → AreAllWhole size f (map outline_of parts)
-parts-outline size f parts all = All-map (λ outline. outline.kind ≢ FILE_NAME → AreOne size f (filter (is_like outline) (map outline_of parts))) outline_of parts
-    (λ k d lt other. subst (AreOne size f) (filter-outline (get_or parts k d) parts) (attribute-outline size f (parts_like (get_or parts k d) parts) (all k d lt other)))
+parts-outline size f parts all = All-map (λ outline. outline.kind ≢ FILE_NAME
+    → AreOne size f (filter (is_like outline) (map outline_of parts))) outline_of parts
+    (λ k d lt other. subst (AreOne size f) (filter-outline (get_or parts k d) parts) (attribute-outline size f (parts_like
+        (get_or parts k d) parts) (all k d lt other)))
 
 outline-parts : (size f : ℕ) (parts : List Part) → AreAllWhole size f (map outline_of parts) → AreWholeParts size f parts
 outline-parts size f parts all = λ k d lt other.
     outline-attribute size f (parts_like (get_or parts k d) parts)
     (subst (AreOne size f) (sym (filter-outline (get_or parts k d) parts))
-    (All-unmap outline_of (λ outline. outline.kind ≢ FILE_NAME → AreOne size f (filter (is_like outline) (map outline_of parts))) parts all k d lt other))
+    (All-unmap outline_of (λ outline. outline.kind ≢ FILE_NAME
+        → AreOne size f (filter (is_like outline) (map outline_of parts))) parts all k d lt other))
 
 -- In any order.
 
@@ -221,5 +233,6 @@ pub whole-parts : (size f : ℕ) (outlines : List Outline) (parts : List Part) (
     → IsTrue result ↔ AreAllWhole size f outlines → IsTrue result ↔ AreWholeParts size f parts
 whole-parts size f outlines parts result same decided = (
   λ t. outline-parts size f parts (AreAllWhole-same size f outlines (map outline_of parts) same (decided.0 t)),
-  λ all. decided.1 (AreAllWhole-same size f (map outline_of parts) outlines (SameItems-sym outlines (map outline_of parts) same) (parts-outline size f parts all)),
+  λ all. decided.1 (AreAllWhole-same size f (map outline_of parts) outlines (SameItems-sym outlines (map outline_of parts) same)
+      (parts-outline size f parts all)),
 )

@@ -85,7 +85,8 @@ abbrev ListedIn : Records → ℕ → ℕ → Option Record → Type 0
 ListedIn records size n o = IfSome o (λ r. IsTrue (is_base r) → IsTrue (list_any is_list r.parts) → AreWholeParts size n (parts records n))
 
 both-meet : (records : Records) (size n : ℕ) (o : Option Record) → records.record_at n ≡ o → (o ≢ None → n < records.count)
-    → IfSome o (λ r. IsTrue (is_unlisted r) → IsAlone records n) → UnlistedIn size n o × ListedIn records size n o → MeetsIn records size n o
+    → IfSome o (λ r. IsTrue (is_unlisted r) → IsAlone records n) → UnlistedIn size n o × ListedIn records size n o
+        → MeetsIn records size n o
 both-meet records size n None here inside alone meets = tt
 both-meet records size n (Some r) here inside alone (unlisted, listed) = λ base. elim (cases_Bool (list_any is_list r.parts)) [
   | inl t ↦ listed base t
@@ -95,7 +96,8 @@ both-meet records size n (Some r) here inside alone (unlisted, listed) = λ base
 ]
 
 meets-both : (records : Records) (size n : ℕ) (o : Option Record) → records.record_at n ≡ o → (o ≢ None → n < records.count)
-    → IfSome o (λ r. IsTrue (is_unlisted r) → IsAlone records n) → MeetsIn records size n o → UnlistedIn size n o × ListedIn records size n o
+    → IfSome o (λ r. IsTrue (is_unlisted r) → IsAlone records n) → MeetsIn records size n o
+        → UnlistedIn size n o × ListedIn records size n o
 meets-both records size n None here inside alone meets = (tt, tt)
 meets-both records size n (Some r) here inside alone meets = (
   λ only.
@@ -105,7 +107,8 @@ meets-both records size n (Some r) here inside alone meets = (
 )
 
 pub first-of-all : (records : Records) (size : ℕ) (first listed : Option ℕ) → ((n : ℕ) → records.count ≤ n → records.record_at n ≡ None)
-    → IsLeastBelow (MeetsUnlisted records size) records.count first → AreUnlistedAlone records → IsLeastFailing (MeetsListed records size) listed
+    → IsLeastBelow (MeetsUnlisted records size) records.count first → AreUnlistedAlone records
+        → IsLeastFailing (MeetsListed records size) listed
     → IsLeastFailing (MeetsExtents records size) (least_of first listed)
 first-of-all records size first listed past note alone least =
     least-same (λ n. MeetsUnlisted records size n × MeetsListed records size n) (MeetsExtents records size) (least_of first listed)
@@ -134,7 +137,8 @@ no-list : (view : VolumeView) (n : ℕ) (r : Record) → (records_of view).recor
 no-list view n r here none each = elim (cases_lt 0 (count_by is_list (parts (records_of view) n))) [
   | inl some ↦
       let w = passing is_list (parts (records_of view) n) (omega arith) in
-      let right = All-contains (λ part. IsTrue (is_list part) → IsRightList view n (parts (records_of view) n) part) (parts (records_of view) n) w.0 each w.1 w.2 in
+      let right = All-contains (λ part. IsTrue (is_list part)
+          → IsRightList view n (parts (records_of view) n) part) (parts (records_of view) n) w.0 each w.1 w.2 in
       let held = IsPart-Contains (records_of view) n w.0 (NameHolders-view view) w.1 in
       let there : Some held.record_there ≡ Some r = sym held.held ∙ ap (λ m. (records_of view).record_at m) right.home ∙ here in
       let same : held.record_there ≡ r = cc in
@@ -161,7 +165,8 @@ past-end : (view : VolumeView) (n : ℕ) → view.layout.count ≤ n → (record
 past-end view n past = ap (λ b. cond b (record_in n (view.block n)) None) (le-ltb n view.layout.count past)
 
 pub first-of-volume : (view : VolumeView) (size : ℕ) (first listed : Option ℕ) → ((n : ℕ) → MeetsLists view n)
-    → IsLeastBelow (MeetsUnlisted (records_of view) size) view.layout.count first → IsLeastFailing (MeetsListed (records_of view) size) listed
+    → IsLeastBelow (MeetsUnlisted (records_of view) size) view.layout.count first
+        → IsLeastFailing (MeetsListed (records_of view) size) listed
     → IsLeastFailing (MeetsExtents (records_of view) size) (least_of first listed)
 first-of-volume view size first listed meets note least =
     first-of-all (records_of view) size first listed (past-end view) note (lists-alone view meets) least

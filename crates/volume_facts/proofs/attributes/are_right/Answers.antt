@@ -29,7 +29,8 @@ returns-then-not-is_right_next c = λ n.
     let inv = c.loop-attribute.invariant in (
       λ f. absurd (cc),
       λ right.
-          let all = subst (λ xs. AreRight c.args.base c.loop-attribute.least c.loop-attribute.standards (map (part_of n) xs)) c.in-Some.ensures.steps (inv.from n right) in
+          let all = subst (λ xs. AreRight c.args.base c.loop-attribute.least c.loop-attribute.standards (map
+              (part_of n) xs)) c.in-Some.ensures.steps (inv.from n right) in
           let t = (c.is_right_next.ensures n).1 (AreRight-next c.args.base c.loop-attribute.least c.loop-attribute.standards _ _ all) in
           let f = c.if-not-is_right_next.true in
           absurd (cc),
@@ -67,8 +68,10 @@ loop-attribute-preserved c =
 pub returns-then-not-base : goal.returns-then-not-base
 returns-then-not-base c = λ n.
     let plain : c.args.base ≡ false = search rules in (
-      λ _. c.loop-attribute.invariant.to n (subst (λ xs. AreRight c.args.base c.loop-attribute.least c.loop-attribute.standards (map (part_of n) xs))
-          (sym c.in_default.ensures.steps.0) (AreRight-nil c.args.base c.loop-attribute.least c.loop-attribute.standards (λ is. absurd (cc)))),
+      λ _. c.loop-attribute.invariant.to n (subst (λ xs. AreRight c.args.base c.loop-attribute.least c.loop-attribute.standards (map
+          (part_of n) xs))
+          (sym c.in_default.ensures.steps.0) (AreRight-nil c.args.base c.loop-attribute.least c.loop-attribute.standards (λ is. absurd
+              (cc)))),
       λ _. search rules,
     )
 
@@ -77,9 +80,11 @@ returns-else-not-base c = λ n.
     let is : c.args.base ≡ true = search rules in
     let inv = c.loop-attribute.invariant in (
       λ t. inv.to n (subst (λ xs. AreRight c.args.base c.loop-attribute.least c.loop-attribute.standards (map (part_of n) xs))
-          (sym c.in_default.ensures.steps.0) (AreRight-nil c.args.base c.loop-attribute.least c.loop-attribute.standards (λ _. eqb-true _ _ t))),
+          (sym c.in_default.ensures.steps.0) (AreRight-nil c.args.base c.loop-attribute.least c.loop-attribute.standards
+              (λ _. eqb-true _ _ t))),
       λ right.
-          let end = subst (λ xs. AreRight c.args.base c.loop-attribute.least c.loop-attribute.standards (map (part_of n) xs)) c.in_default.ensures.steps.0 (inv.from n right) in
+          let end = subst (λ xs. AreRight c.args.base c.loop-attribute.least c.loop-attribute.standards (map
+              (part_of n) xs)) c.in_default.ensures.steps.0 (inv.from n right) in
           let one = end.one_standard is in
           eq-eqb _ _ (omega arith),
     )

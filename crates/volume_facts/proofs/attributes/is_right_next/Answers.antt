@@ -11,7 +11,8 @@ returns-then-not-has_id c = λ n. elim c.if-least-kind.branch [
   | then-least-kind w ↦
       let free : w.has_id.result ≡ false = search rules in
       next-alone c.args.base n c.args.least (attribute_of c.args.attribute.now) (attributes_left c.args.left.now) w.has_id.result
-      c.is_right_alone.result (omega (arith, w.if-least-kind.true, c.kind.ensures)) w.id.result w.id.ensures w.has_id.ensures free (c.is_right_alone.ensures n)
+      c.is_right_alone.result (omega (arith, w.if-least-kind.true, c.kind.ensures)) w.id.result w.id.ensures w.has_id.ensures free
+          (c.is_right_alone.ensures n)
   | else-least-kind w ↦ absurd (search rules)
 ]
 

@@ -13,7 +13,8 @@ returns-then-n-ge-SYSTEM_END-clause-right c =
     let base = reference == 0 in
     let is : is_base r ≡ base = is_base-zero r reference c.header-base.ensures.base in (
       λ t. RightRecord-from c.args.n r base is
-          (λ low. elim c.if-n-ge-SYSTEM_END.either [ inl zero ↦ eq-eqb reference 0 zero | inr late ↦ let high = late.1 in absurd (omega arith) ])
+          (λ low. elim c.if-n-ge-SYSTEM_END.either [ inl zero ↦ eq-eqb reference 0 zero | inr late ↦ let high = late.1 in absurd
+              (omega arith) ])
           ((c.are_right.ensures c.args.n).0 t),
       λ right. (c.are_right.ensures c.args.n).1 (RightRecord-parts c.args.n r base is right),
     )

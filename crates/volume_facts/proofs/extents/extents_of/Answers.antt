@@ -30,7 +30,8 @@ one_more n items pushed extent left rest all attribute more step same before =
 
 pub loop-attribute-preserved : goal.loop-attribute-preserved
 loop-attribute-preserved c = λ n.
-    one_more n c.loop-attribute.extents.items c.push.new.self.items c.in_ok-new.field-0 _ (attributes_left c.next.new.self) _ (attribute_of c.in-Some.attribute)
+    one_more n c.loop-attribute.extents.items c.push.new.self.items c.in_ok-new.field-0 _ (attributes_left c.next.new.self) _
+        (attribute_of c.in-Some.attribute)
     c.in_ok-push.ensures.items c.in-Some.ensures.steps (c.in_ok-new.ensures n) (c.loop-attribute.invariant n)
 
 pub returns : goal.returns

@@ -7,5 +7,6 @@ use Rattle.volume_facts.proofs.extents.extents_of.Given as goal
 
 -- what was taken, and what is to come, is all
 abbrev pub invariant-loop-attribute : goal.invariant-loop-attribute
-invariant-loop-attribute l = (n : ℕ) → map outlined l.extents.items ++ map outline_of (map (part_of n) (attributes_left l.attribute-iterator))
+invariant-loop-attribute l = (n : ℕ) → map outlined l.extents.items ++ map outline_of (map (part_of n)
+    (attributes_left l.attribute-iterator))
     ≡ map outline_of (map (part_of n) (attributes_of l.view))

@@ -11,6 +11,7 @@ are_whole_in_order-requires c = sorted-from c.sort_unstable_by.new.self
     (c.sort_unstable_by.ensures.sorted extent_lt extent_ranks (answers_always _ _ _ (λ f a r g h. search rules)))
 
 pub returns : goal.returns
-returns c = λ parts same. whole-parts c.args.cluster_bytes c.args.f (map outlined c.sort_unstable_by.new.self) parts c.are_whole_in_order.result
+returns c = λ parts same. whole-parts c.args.cluster_bytes c.args.f
+    (map outlined c.sort_unstable_by.new.self) parts c.are_whole_in_order.result
     (moved-outlines c.args.extents.now c.sort_unstable_by.new.self (map outline_of parts) c.sort_unstable_by.ensures.permutation same)
     c.are_whole_in_order.ensures

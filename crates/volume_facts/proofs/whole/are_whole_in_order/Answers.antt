@@ -33,5 +33,6 @@ loop-start-preserved c =
             | else-not-is_name-via-else-not-is_name w ↦
                 absurd (other (at-same (λ (x : Extent). x.kind ≡ FILE_NAME) extents start start _ d c.loop-start-test.true refl w.if-not-is_name.false))
           ]) rest);
-      from = λ all. (extents-from size c.args.f extents start end c.loop-start-test.true c.requires group (c.loop-start.invariant.from all)).1;
+      from = λ all. (extents-from size c.args.f extents start end c.loop-start-test.true c.requires group
+          (c.loop-start.invariant.from all)).1;
     }

@@ -10,9 +10,11 @@ use Rattle.volume_facts.proofs.whole.covered_in_order.Goals as goal
 
 pub returns-in_err-covered-clause-none : goal.returns-in_err-covered-clause-none
 returns-in_err-covered-clause-none c =
-    subst (λ o. IfNone o (¬ (Follow 0 (map outlined c.args.extents.now) × HaveClusters (map outlined c.args.extents.now)))) (sym c.from_residual.ensures)
+    subst (λ o. IfNone o (¬ (Follow 0 (map outlined c.args.extents.now) × HaveClusters (map outlined c.args.extents.now))))
+        (sym c.from_residual.ensures)
     (λ (follow, several). c.in_err-covered.ensures.none
-    (follow-begins c.args.extents.now c.loop-extent.extent-index c.loop-extent.end _ c.loop-extent-test.true (c.loop-extent.invariant.from follow)))
+    (follow-begins c.args.extents.now c.loop-extent.extent-index c.loop-extent.end _ c.loop-extent-test.true
+        (c.loop-extent.invariant.from follow)))
 
 pub returns-then-covered-eq0-clause-none : goal.returns-then-covered-eq0-clause-none
 returns-then-covered-eq0-clause-none c (follow, several) =

@@ -7,7 +7,8 @@ returns-then-not-is_like c =
     let low = c.loop-end.auto.end in
     let lt = c.loop-end-test.true in
     group-from c.args.extents.now c.args.start c.loop-end.end (omega arith) (omega arith) c.loop-end.invariant
-    (λ d _. like-any c.args.extents.now c.args.start c.loop-end.end false _ _ c.requires (omega arith) (sym c.is_like.ensures ∙ c.if-not-is_like.true) d)
+    (λ d _. like-any c.args.extents.now c.args.start c.loop-end.end false _ _ c.requires (omega arith) (sym c.is_like.ensures
+        ∙ c.if-not-is_like.true) d)
 
 pub returns : goal.returns
 returns c =

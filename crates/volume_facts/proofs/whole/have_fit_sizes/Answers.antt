@@ -17,7 +17,8 @@ returns-then-not-has_fit_sizes c = (
 pub loop-extent-preserved : goal.loop-extent-preserved
 loop-extent-preserved c = λ k d low. elim (cases_lt k c.loop-extent.extent-index) [
   | inl before ↦ c.loop-extent.invariant k d before
-  | inr here ↦ at-same (λ (extent : Extent). HasFitSizes c.args.bytes c.args.f (outlined extent)) c.args.extents.now c.loop-extent.extent-index k _ d
+  | inr here ↦ at-same (λ (extent : Extent). HasFitSizes c.args.bytes c.args.f
+      (outlined extent)) c.args.extents.now c.loop-extent.extent-index k _ d
       c.loop-extent-test.true (omega arith) (c.has_fit_sizes.ensures.0 c.if-not-has_fit_sizes.false)
 ]
 
