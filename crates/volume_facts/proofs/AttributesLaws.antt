@@ -1,9 +1,8 @@
 -- The attributes of a record, one after the other.
-use Rattle.std.proofs.Common.{◌≡◌, ◌↔◌, ◌<◌, ◌≤◌, ◌+◌, ◌==◌, ℕ, Bool, true, false, cond, List, [], ◌∷◌, map, Some, None, All, IsTrue, refl, sym, ap, subst, inl, inr, ◌∙◌, arith}
+use Rattle.std.proofs.Common.{◌≡◌, ◌↔◌, ◌<◌, ◌≤◌, ◌+◌, ◌==◌, ℕ, Bool, true, false, cond, List, [], ◌∷◌, map, Some, None, IsTrue, refl, sym, ap, subst, inl, inr, ◌∙◌, arith}
 use Rattle.std.specs.Prelude.{is_none}
 use Rattle.std.proofs.lemmas.Bool.{cases_Bool, cases_lt, eqb-true, eq-eqb}
 use Rattle.std.proofs.lemmas.List.Elements.{All-cons, All-head, All-tail}
-use Rattle.std.specs.List.{count_by}
 use Rattle.ntfs_def.specs.Attribute.{Attribute}
 use Rattle.ntfs_def.specs.Record.{base_in, reference_in}
 use Rattle.volume_def.specs.AttributesClause.{IsRightRecord, is_standard, times_id}
@@ -71,7 +70,7 @@ AreRight-more base n least standards kind count xs ys x is same more next right 
 
 pub AreRight-less : (base : Bool) (n least standards kind count : ℕ) (xs ys : List Attribute) (x : Attribute) → xs ≡ x ∷ ys → kind ≡ x.kind
     → count ≡ one_more standards (part_of n x) → AreRight base least standards (map (part_of n) xs)
-        → AreRight base kind count (map (part_of n) ys)
+    → AreRight base kind count (map (part_of n) ys)
 AreRight-less base n least standards kind count xs ys x is same more right =
     subst (λ k. AreRight base kind k (map (part_of n) ys)) (sym more)
     (subst (λ k. AreRight base k (one_more standards (part_of n x)) (map (part_of n) ys)) (sym same)

@@ -1,6 +1,6 @@
 -- Extents in memory, one after the other.
-use Rattle.std.proofs.Common.{◌≡◌, ◌<◌, ◌≤◌, ◌+◌, ◌-◌, ◌^◌, ◌==◌, ℕ, cond, List, [], ◌∷◌, length, map, drop, get_or, All, Some, refl, sym, ap, subst, inl, inr, ◌∙◌, arith}
-use Rattle.std.specs.Prelude.{IsSome, sum_by}
+use Rattle.std.proofs.Common.{◌≡◌, ◌<◌, ◌≤◌, ◌+◌, ◌^◌, ℕ, List, [], ◌∷◌, length, map, drop, get_or, Some, refl, sym, ap, subst, ◌∙◌, arith}
+use Rattle.std.specs.Prelude.{sum_by}
 use Rattle.std.proofs.lemmas.List.{drop-map, drop_all, drop_more, get_or_default, length-map}
 use Rattle.std.proofs.lemmas.List.Sums.{sum_by-cons}
 use Rattle.ntfs_def.specs.declared.sizes.Sizes.{Sizes}
@@ -8,7 +8,7 @@ use Rattle.volume_def.specs.ExtentsClause.{last_vcn_of}
 use Rattle.volume_facts.specs.declared.extents.Extent.{Extent}
 use Rattle.volume_facts.specs.declared.extents.Held.{Held}
 use Rattle.volume_facts.specs.declared.extents.Held.TheVariants.{InClusters}
-use Rattle.volume_facts.specs.Extents.{Begins, Follow, HaveClusters, Outline, clusters_covered, covered_by, outlined}
+use Rattle.volume_facts.specs.Extents.{Begins, Follow, HaveClusters, clusters_covered, covered_by, outlined}
 use Rattle.volume_facts.proofs.OutlineLaws.{All-unmap}
 
 -- an extent that begins there and tells what it covers
@@ -29,8 +29,11 @@ pub follow-more : (extents : List Extent) (i vcn covered : ℕ) (d : Extent) →
     → covered ≡ covered_by (get_or extents i d).held → Follow (vcn + covered) (drop (i + 1) (map outlined extents))
     → Follow vcn (drop i (map outlined extents))
 follow-more extents i vcn covered d lt begins is rest =
-    subst (Follow vcn) (sym (outlines-from extents i d lt)) (begins, subst (λ n. Follow (vcn + n) (drop (i + 1)
-        (map outlined extents))) is rest)
+    subst (Follow vcn) (sym (outlines-from extents i d lt)) (
+      begins,
+      subst (λ n. Follow (vcn + n) (drop (i + 1)
+          (map outlined extents))) is rest,
+    )
 
 pub follow-less : (extents : List Extent) (i vcn covered : ℕ) (d : Extent) → i < length extents
     → covered ≡ covered_by (get_or extents i d).held → Follow vcn (drop i (map outlined extents))
@@ -45,10 +48,10 @@ follow-begins extents i vcn d lt follow = (subst (Follow vcn) (outlines-from ext
 
 pub covered-more : (extents : List Extent) (i : ℕ) (d : Extent) → i < length extents
     → sum_by clusters_covered (drop i (map outlined extents)) ≡ covered_by (get_or extents i d).held + sum_by clusters_covered (drop
-        (i + 1) (map outlined extents))
+    (i + 1) (map outlined extents))
 covered-more extents i d lt =
     ap (sum_by clusters_covered) (outlines-from extents i d lt)
-        ∙ sum_by-cons clusters_covered (outlined (get_or extents i d)) (drop (i + 1) (map outlined extents))
+    ∙ sum_by-cons clusters_covered (outlined (get_or extents i d)) (drop (i + 1) (map outlined extents))
 
 pub covered-sum : (extents : List Extent) (i covered : ℕ) (d : Extent) → i < length extents → covered ≡ covered_by (get_or extents i d).held
     → sum_by clusters_covered (drop i (map outlined extents)) ≡ covered + sum_by clusters_covered (drop (i + 1) (map outlined extents))
@@ -60,7 +63,7 @@ pub several-one : (extents : List Extent) (i covered : ℕ) (d : Extent) → i <
     → 1 < length extents → HaveClusters (map outlined extents) → 1 ≤ covered
 several-one extents i covered d lt is long several =
     let one = All-unmap outlined (λ outline. 1 ≤ clusters_covered outline) extents (several (omega
-        (arith, length-map extents outlined))) i d lt in
+    (arith, length-map extents outlined))) i d lt in
     omega arith
 
 pub one-at : (extents : List Extent) (i k covered : ℕ) (d e : Extent) → i < length extents → covered ≡ covered_by (get_or extents i d).held

@@ -1,12 +1,10 @@
 -- Outlines of one type and name that rise are one attribute exactly in the order that they have, and so a list in its order is
 -- judged group by group.
-use Rattle.std.proofs.Common.{◌≡◌, ◌≢◌, ◌↔◌, ◌⊎◌, ◌<◌, ◌≤◌, ◌+◌, ◌-◌, ◌*◌, ◌==◌, ℕ, zero, suc, Bool, true, false, cond, List, [], ◌∷◌, ◌++◌, length, take, drop, get_or, All, IsTrue, refl, sym, ap, subst, inl, inr, ◌∙◌, arith, append-nil}
-use Rattle.std.specs.Prelude.{filter, sum_by}
-use Rattle.std.specs.Coded.{Coded}
+use Rattle.std.proofs.Common.{◌≡◌, ◌≢◌, ◌<◌, ◌≤◌, ◌+◌, ◌==◌, ℕ, zero, suc, Bool, true, false, cond, List, [], ◌∷◌, ◌++◌, length, get_or, All, refl, sym, ap, subst, inl, inr, ◌∙◌, arith, append-nil}
+use Rattle.std.specs.Prelude.{filter}
 use Rattle.std.specs.List.{Contains, count_by}
 use Rattle.std.proofs.lemmas.Bool.{cases_Bool, cases_lt, eq-eqb, ne_eqb}
-use Rattle.std.proofs.lemmas.List.{drop-drop, take-append-drop}
-use Rattle.std.proofs.lemmas.List.Elements.{All-append, All-contains, All-cons, All-drop, All-head, All-tail, All-take, Contains-append_left, Contains-append_right, Contains-get_or, filter-append}
+use Rattle.std.proofs.lemmas.List.Elements.{All-append, All-contains, All-head, All-tail, Contains-append_left, Contains-append_right, Contains-get_or, filter-append}
 use Rattle.ntfs_def.specs.declared.kinds.TheConstants.{FILE_NAME}
 use Rattle.volume_def.specs.SameItems.{SameItems}
 use Rattle.volume_def.proofs.CodedLaws.{SameItems-Contains}
@@ -16,8 +14,7 @@ use Rattle.volume_def.proofs.SameItemsLaws.{SameItems-cancel, SameItems-same, Sa
 use Rattle.volume_facts.specs.declared.extents.Held.{Held}
 use Rattle.volume_facts.specs.declared.extents.Held.TheVariants.{InClusters, InRecord}
 use Rattle.volume_facts.specs.Extents.{AreAllWhole, AreInOrder, AreOne, Begins, Follow, HaveClusters, IsWholeInOrder, Outline, clusters_covered, first_of, first_vcn, is_like}
-use Rattle.volume_facts.specs.Groups.{AreSorted, IsGroup}
-use Rattle.volume_facts.proofs.OrderLaws.{Rises, group-alike, group-apart, group-rises, like-itself, like-same, like-told}
+use Rattle.volume_facts.proofs.OrderLaws.{Rises, like-itself, like-same, like-told}
 use Rattle.volume_facts.proofs.OutlineLaws.{outline_code}
 
 -- No two begin with one cluster.
@@ -87,8 +84,11 @@ Full (x ∷ y ∷ rest) = (1 ≤ clusters_covered x) × Full (y ∷ rest)
 all-full : (xs : List Outline) → All (λ x. 1 ≤ clusters_covered x) xs → Full xs
 all-full [] all = tt
 all-full (x ∷ []) all = tt
-all-full (x ∷ y ∷ rest) all = (All-head (λ (x : Outline). 1 ≤ clusters_covered x) x (y ∷ rest) all, all-full (y ∷ rest) (All-tail (λ
-    (x : Outline). 1 ≤ clusters_covered x) x (y ∷ rest) all))
+all-full (x ∷ y ∷ rest) all = (
+  All-head (λ (x : Outline). 1 ≤ clusters_covered x) x (y ∷ rest) all,
+  all-full (y ∷ rest) (All-tail (λ
+      (x : Outline). 1 ≤ clusters_covered x) x (y ∷ rest) all),
+)
 
 clusters-full : (xs : List Outline) → HaveClusters xs → Full xs
 clusters-full [] h = tt
@@ -171,7 +171,7 @@ filter-group : (first x : Outline) (group others : List Outline) → is_like fir
 filter-group first x group others like alike apart =
     filter-append (is_like x) group others
     ∙ ap (λ ys. ys ++ filter (is_like x) others) (filter-all (is_like x) group (λ k d l. like-same first x (get_or group k d) like
-        ∙ alike k d l))
+    ∙ alike k d l))
     ∙ ap (λ ys. group ++ ys) (filter-none (is_like x) others (λ k d l. like-same first x (get_or others k d) like ∙ apart k d l))
     ∙ append-nil group
 
@@ -201,7 +201,7 @@ whole-group size f first group others alike apart one rest =
     (λ k d l other. subst (AreOne size f) (sym (filter-group first (get_or group k d) group others (alike k d l) alike apart))
     (one (λ e. other ((like-told first (get_or group k d) (alike k d l)).kind ∙ e))))
     (λ k d l other. subst (AreOne size f) (sym (filter-others first (get_or others k d) group others (apart k d l) alike))
-        (rest k d l other))
+    (rest k d l other))
 
 pub group-whole : (size f : ℕ) (first : Outline) (group others : List Outline) → Contains group first
     → All (λ y. is_like first y ≡ true) group

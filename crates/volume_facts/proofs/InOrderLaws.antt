@@ -1,5 +1,5 @@
 -- What the tests on extents of one type and name tell, and on a file whose parts stand in one record.
-use Rattle.std.proofs.Common.{◌≡◌, ◌≢◌, ◌↔◌, ◌<◌, ◌≤◌, ◌+◌, ◌-◌, ◌*◌, ◌==◌, ℕ, zero, suc, Bool, true, false, List, [], ◌∷◌, ◌++◌, length, map, take, drop, get_or, All, IsTrue, IfSome, Option, Some, None, unwrap_or, refl, sym, ap, subst, inl, inr, ◌∙◌, arith, append-nil}
+use Rattle.std.proofs.Common.{◌≡◌, ◌≢◌, ◌↔◌, ◌<◌, ◌≤◌, ◌+◌, ◌-◌, ◌*◌, ℕ, zero, suc, Bool, true, false, List, [], ◌∷◌, ◌++◌, length, map, take, drop, get_or, All, IsTrue, IfSome, Option, Some, None, unwrap_or, refl, sym, ap, subst, inl, inr, ◌∙◌, arith, append-nil}
 use Rattle.std.specs.Prelude.{is_none, option_map, sum_by}
 use Rattle.std.specs.Cmp.{IsStrictWeakOrder}
 use Rattle.std.specs.List.{flat_map, range_with_len}
@@ -13,17 +13,17 @@ use Rattle.std.specs.List.{Contains}
 use Rattle.ntfs_def.specs.declared.kinds.TheConstants.{FILE_NAME}
 use Rattle.ntfs_def.specs.Record.{Reference}
 use Rattle.volume_def.specs.ExtentsClause.{MeetsExtents}
-use Rattle.volume_def.specs.Files.{Part, Record, Records, file_of, is_base, parts, parts_in}
+use Rattle.volume_def.specs.Files.{Record, Records, file_of, is_base, parts, parts_in}
 use Rattle.volume_def.specs.SameItems.{SameItems}
 use Rattle.volume_def.proofs.RecordLaws.{parts_in-other, parts_in-own, parts_in-unused}
 use Rattle.volume_def.proofs.SameItemsLaws.{SameItems-permutation, SameItems-sym, SameItems-trans}
 use Rattle.volume_facts.specs.declared.extents.Extent.{Extent}
 use Rattle.volume_facts.specs.declared.extents.Held.{Held}
 use Rattle.volume_facts.specs.declared.extents.Held.TheVariants.{InClusters, InRecord}
-use Rattle.volume_facts.specs.Extents.{AreAllWhole, AreInOrder, AreOne, AreWholeParts, FitsFirst, Follow, HasFitSizes, HaveClusters, IsAlone, IsInRecord, IsOneValue, IsWholeInOrder, Outline, clusters_covered, is_like, outline_order, outlined}
+use Rattle.volume_facts.specs.Extents.{AreAllWhole, AreInOrder, AreWholeParts, FitsFirst, Follow, HasFitSizes, HaveClusters, IsAlone, IsInRecord, IsOneValue, IsWholeInOrder, Outline, clusters_covered, is_like, outline_order, outlined}
 use Rattle.volume_facts.specs.Groups.{AreSorted, IsGroup}
 use Rattle.volume_facts.proofs.GroupLaws.{AreOne-sorted, group-whole, sorted-AreOne, whole-group}
-use Rattle.volume_facts.proofs.OrderLaws.{group-alike, group-apart, group-rises, like-itself, outline_total}
+use Rattle.volume_facts.proofs.OrderLaws.{group-alike, group-apart, group-rises, outline_total}
 use Rattle.volume_facts.proofs.OutlineLaws.{All-unmap}
 
 -- a fact at a place, whatever is read past the end
@@ -130,16 +130,19 @@ first-here outlines start end d group =
     let e : start + 0 ≡ start = omega arith in
     subst (Contains (take (end - start) (drop start outlines)))
     (get_or-take (end - start) (drop start outlines) 0 d (omega arith) ∙ get_or-drop start outlines 0 d ∙ ap (λ k. get_or outlines k d) e)
-    (Contains-get_or (take (end - start) (drop start outlines)) 0 d (omega (arith, length-take-le (end - start)
-        (drop start outlines) long)))
+    (Contains-get_or (take (end - start) (drop start outlines)) 0 d (omega (
+      arith,
+      length-take-le (end - start)
+          (drop start outlines) long,
+    )))
 
 pub judge-from : (size f : ℕ) (outlines : List Outline) (start end : ℕ) (d : Outline) → AreSorted outlines → IsGroup outlines start end
     → AreAllWhole size f (drop start outlines)
     → ((get_or outlines start d).kind ≢ FILE_NAME → AreInOrder size f (take (end - start) (drop start outlines))) × AreAllWhole size f
-        (drop end outlines)
+    (drop end outlines)
 judge-from size f outlines start end d sorted group all =
     let w = group-whole size f (get_or outlines start d) (take (end - start) (drop start outlines)) (drop end outlines)
-        (first-here outlines start end d group)
+    (first-here outlines start end d group)
     (group-alike outlines start end d group) (group-apart outlines start end d sorted group)
     (subst (AreAllWhole size f) (sym (group-split outlines start end group.some)) all) in (
       λ other. AreOne-sorted size f (take (end - start) (drop start outlines)) (group-rises outlines start end sorted group) (w.0 other),
@@ -182,7 +185,7 @@ flat_map-nil : {A : Type 0} (g : ℕ → List A) (from n : ℕ) → ((m : ℕ) �
 flat_map-nil g from zero none = refl
 flat_map-nil g from (suc n) none =
     ap (λ ys. ys ++ flat_map g (range_with_len (from + 1) n)) (none from (omega arith))
-        ∙ flat_map-nil g (from + 1) n (λ m low. none m (omega arith))
+    ∙ flat_map-nil g (from + 1) n (λ m low. none m (omega arith))
 
 flat_map-one : {A : Type 0} (g : ℕ → List A) (from n k : ℕ) → from ≤ k → k < from + n → ((m : ℕ) → m ≢ k → g m ≡ [])
     → flat_map g (range_with_len from n) ≡ g k
@@ -235,7 +238,7 @@ like-any extents i j b d e low high is o =
 pub extents-to : (size f : ℕ) (extents : List Extent) (start end : ℕ) → start < length extents → AreSorted (map outlined extents)
     → IsGroup (map outlined extents) start end
     → ((d : Extent) → (get_or extents start d).kind ≢ FILE_NAME
-        → AreInOrder size f (map outlined (take (end - start) (drop start extents))))
+    → AreInOrder size f (map outlined (take (end - start) (drop start extents))))
     → AreAllWhole size f (drop end (map outlined extents)) → AreAllWhole size f (drop start (map outlined extents))
 extents-to size f [] start end lt sorted group right rest = absurd (omega arith)
 extents-to size f (x ∷ xs) start end lt sorted group right rest =
@@ -246,7 +249,7 @@ extents-to size f (x ∷ xs) start end lt sorted group right rest =
 pub extents-from : (size f : ℕ) (extents : List Extent) (start end : ℕ) → start < length extents → AreSorted (map outlined extents)
     → IsGroup (map outlined extents) start end → AreAllWhole size f (drop start (map outlined extents))
     → ((d : Extent) → (get_or extents start d).kind ≢ FILE_NAME
-        → AreInOrder size f (map outlined (take (end - start) (drop start extents))))
+    → AreInOrder size f (map outlined (take (end - start) (drop start extents))))
     × AreAllWhole size f (drop end (map outlined extents))
 extents-from size f [] start end lt sorted group all = absurd (omega arith)
 extents-from size f (x ∷ xs) start end lt sorted group all =

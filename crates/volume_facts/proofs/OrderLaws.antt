@@ -1,15 +1,13 @@
 -- The order of outlines: those of one type and name stand together, and rise.
-use Rattle.std.proofs.Common.{◌≡◌, ◌≢◌, ◌↔◌, ◌<◌, ◌≤◌, ◌+◌, ◌-◌, ◌==◌, ◌&&◌, ℕ, zero, suc, Bool, true, false, cond, List, [], ◌∷◌, ◌++◌, length, take, drop, get_or, All, IsTrue, Ordering, refl, sym, ap, subst, inl, inr, ◌∙◌, arith, eq-eqb}
-use Rattle.std.specs.Prelude.{filter}
+use Rattle.std.proofs.Common.{◌≡◌, ◌<◌, ◌≤◌, ◌+◌, ◌-◌, ◌==◌, ◌&&◌, ℕ, true, false, List, length, take, drop, get_or, All, Ordering, refl, sym, ap, inl, inr, ◌∙◌, arith, eq-eqb}
 use Rattle.std.specs.declared.cmp.Ordering.TheVariants.{Less, Equal, Greater}
 use Rattle.std.specs.Cmp.{IsTotalOrder}
-use Rattle.std.specs.List.{Contains, count_by}
-use Rattle.std.specs.Ordering.{MatchOrdering, ordering_reverse, is_eq, is_gt, is_lt, nat_cmp, on, ordering_then, then_cmp}
+use Rattle.std.specs.Ordering.{ordering_reverse, is_eq, is_gt, is_lt, nat_cmp, ordering_then}
 use Rattle.std.specs.Str.{bytes_eq}
-use Rattle.std.proofs.lemmas.Bool.{and_from, and_parts, cases_Bool, cases_eq, cases_lt, eqb-true, ne_eqb}
-use Rattle.std.proofs.lemmas.Cmp.{by_ranked, nat_cmp_total, nat_list_cmp_total, on_total, ranked, then_total, tied_back, tied_itself, upto}
-use Rattle.std.proofs.lemmas.List.{get_or-drop, get_or-take, length-drop, length-take-le, take-append-drop}
-use Rattle.std.proofs.lemmas.List.Elements.{All-append, All-contains, All-cons, All-drop, All-from_get_or, All-head, All-tail, All-take, filter-append}
+use Rattle.std.proofs.lemmas.Bool.{and_from, and_parts, cases_Bool, eqb-true}
+use Rattle.std.proofs.lemmas.Cmp.{by_ranked, nat_cmp_total, nat_list_cmp_total, on_total, ranked, then_total, tied_itself, upto}
+use Rattle.std.proofs.lemmas.List.{get_or-drop, get_or-take, length-drop, length-take-le}
+use Rattle.std.proofs.lemmas.List.Elements.{All-from_get_or}
 use Rattle.std.proofs.lemmas.Slice.Eq.{bytes_eq-Decides}
 use Rattle.ntfs_def.specs.KeyOrder.{by_numbers}
 use Rattle.ntfs_def.proofs.KeyOrderLaws.{numbers_is_eq}
@@ -124,8 +122,11 @@ pub group-rises : (outlines : List Outline) (start end : ℕ) → AreSorted outl
 group-rises outlines start end sorted group i j d le lt =
     let some = group.some in
     let inside = group.inside in
-    let low : j < end - start = omega (arith, length-take-le (end - start) (drop start outlines) (omega
-        (arith, length-drop start outlines))) in
+    let low : j < end - start = omega (
+      arith,
+      length-take-le (end - start) (drop start outlines) (omega
+          (arith, length-drop start outlines)),
+    ) in
     let at : (k : ℕ) → k < end - start → get_or (take (end - start) (drop start outlines)) k d ≡ get_or outlines (start + k) d = λ k h.
     get_or-take (end - start) (drop start outlines) k d h ∙ get_or-drop start outlines k d in
     let x = get_or outlines (start + i) d in
@@ -146,8 +147,11 @@ group-alike outlines start end d group = All-from_get_or (λ other. is_like (get
     (λ k lt.
     let some = group.some in
     let inside = group.inside in
-    let low : k < end - start = omega (arith, length-take-le (end - start) (drop start outlines) (omega
-        (arith, length-drop start outlines))) in
+    let low : k < end - start = omega (
+      arith,
+      length-take-le (end - start) (drop start outlines) (omega
+          (arith, length-drop start outlines)),
+    ) in
     ap (is_like (get_or outlines start d)) (get_or-take (end - start) (drop start outlines) k d low ∙ get_or-drop start outlines k d)
     ∙ group.alike (start + k) d (omega arith) (omega arith))
 

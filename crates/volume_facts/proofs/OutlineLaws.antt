@@ -1,5 +1,5 @@
 -- What the clause on extents asks of parts, it asks of their outlines.
-use Rattle.std.proofs.Common.{◌≡◌, ◌≢◌, ◌↔◌, ◌⊎◌, ◌<◌, ◌≤◌, ◌+◌, ◌*◌, ◌==◌, ◌&&◌, ℕ, Bool, true, false, List, [], ◌∷◌, map, length, All, IsTrue, Option, Some, None, cond, get_or, unwrap_or, refl, sym, ap, subst, inl, inr, ◌∙◌, arith}
+use Rattle.std.proofs.Common.{◌≡◌, ◌≢◌, ◌↔◌, ◌<◌, ◌≤◌, ◌+◌, ◌*◌, ℕ, Bool, List, [], ◌∷◌, map, length, All, IsTrue, Option, Some, None, cond, get_or, unwrap_or, refl, sym, ap, subst, inl, inr, ◌∙◌, arith}
 use Rattle.std.specs.Prelude.{IfSome, IsSome, IsSomeAnd, filter, sum_by}
 use Rattle.std.specs.Coded.{Coded, code_by, coded×, coded_ℕ, coded_list, coded_option}
 use Rattle.std.proofs.lemmas.Bool.{cases_Bool}
@@ -17,7 +17,7 @@ use Rattle.volume_def.proofs.MemberLaws.{All-from_Contains, Contains-map}
 use Rattle.volume_def.proofs.SameItemsLaws.{SameItems-filter, SameItems-map, SameItems-sym, SameItems-trans}
 use Rattle.volume_facts.specs.declared.extents.Held.{Held}
 use Rattle.volume_facts.specs.declared.extents.Held.TheVariants.{InClusters, InRecord}
-use Rattle.volume_facts.specs.Extents.{AreAllWhole, AreInOrder, AreOne, AreWholeParts, Begins, FitsFirst, Follow, HasFitSizes, HaveClusters, IsInRecord, IsWholeInOrder, Outline, clusters_covered, covered_by, held_of, is_judged, is_like, outline_of}
+use Rattle.volume_facts.specs.Extents.{AreAllWhole, AreInOrder, AreOne, AreWholeParts, Begins, FitsFirst, Follow, HasFitSizes, HaveClusters, IsInRecord, IsWholeInOrder, Outline, clusters_covered, covered_by, held_of, is_like, outline_of}
 
 -- Outlines are told apart.
 
@@ -36,7 +36,7 @@ held_by-cases (InClusters sizes covered) = refl
 held_code : Coded Held
 held_code = code_by (Option ((ℕ × (ℕ × (ℕ × (ℕ × ℕ)))) × Option ℕ))
     (coded_option (coded× (coded× coded_ℕ (coded× coded_ℕ (coded× coded_ℕ (coded× coded_ℕ coded_ℕ))))
-        (coded_option coded_ℕ))) cases_of held_by held_by-cases
+    (coded_option coded_ℕ))) cases_of held_by held_by-cases
 
 pub outline_code : Coded Outline
 outline_code = code_by (ℕ × (List ℕ × (ℕ × Held))) (coded× coded_ℕ (coded× (coded_list coded_ℕ) (coded× coded_ℕ held_code)))
@@ -142,12 +142,12 @@ pub several-outline : (parts : List Part) → (1 < length parts → All (λ part
 several-outline parts several = λ long.
     All-map (λ outline. 1 ≤ clusters_covered outline) outline_of parts
     (λ k d lt. let one = several (omega (arith, length-map parts outline_of)) k d lt in let e = outline-clusters
-        (get_or parts k d) in omega arith)
+    (get_or parts k d) in omega arith)
 
 outline-several : (parts : List Part) → HaveClusters (map outline_of parts) → 1 < length parts → All (λ part. 1 ≤ part_clusters part) parts
 outline-several parts several long = λ k d lt.
     let one = All-unmap outline_of (λ outline. 1 ≤ clusters_covered outline) parts (several (omega
-        (arith, length-map parts outline_of))) k d lt in
+    (arith, length-map parts outline_of))) k d lt in
     let e = outline-clusters (get_or parts k d) in
     omega arith
 
@@ -193,26 +193,26 @@ filter-outline part (next ∷ parts) = elim (cases_Bool (is_of part.kind part.na
       ap (λ b. map outline_of (cond b (next ∷ parts_like part parts) (parts_like part parts))) t
       ∙ ap (λ xs. outline_of next ∷ xs) (filter-outline part parts)
       ∙ sym (ap (λ b. cond b (outline_of next ∷ filter (is_like (outline_of part)) (map outline_of parts)) (filter (is_like
-          (outline_of part)) (map outline_of parts))) t)
+      (outline_of part)) (map outline_of parts))) t)
   | inr f ↦
       ap (λ b. map outline_of (cond b (next ∷ parts_like part parts) (parts_like part parts))) f
       ∙ filter-outline part parts
       ∙ sym (ap (λ b. cond b (outline_of next ∷ filter (is_like (outline_of part)) (map outline_of parts)) (filter (is_like
-          (outline_of part)) (map outline_of parts))) f)
+      (outline_of part)) (map outline_of parts))) f)
 ]
 
 parts-outline : (size f : ℕ) (parts : List Part) → AreWholeParts size f parts → AreAllWhole size f (map outline_of parts)
 parts-outline size f parts all = All-map (λ outline. outline.kind ≢ FILE_NAME
     → AreOne size f (filter (is_like outline) (map outline_of parts))) outline_of parts
     (λ k d lt other. subst (AreOne size f) (filter-outline (get_or parts k d) parts) (attribute-outline size f (parts_like
-        (get_or parts k d) parts) (all k d lt other)))
+    (get_or parts k d) parts) (all k d lt other)))
 
 outline-parts : (size f : ℕ) (parts : List Part) → AreAllWhole size f (map outline_of parts) → AreWholeParts size f parts
 outline-parts size f parts all = λ k d lt other.
     outline-attribute size f (parts_like (get_or parts k d) parts)
     (subst (AreOne size f) (sym (filter-outline (get_or parts k d) parts))
     (All-unmap outline_of (λ outline. outline.kind ≢ FILE_NAME
-        → AreOne size f (filter (is_like outline) (map outline_of parts))) parts all k d lt other))
+    → AreOne size f (filter (is_like outline) (map outline_of parts))) parts all k d lt other))
 
 -- In any order.
 

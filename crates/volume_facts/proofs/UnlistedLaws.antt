@@ -1,5 +1,5 @@
 -- Files that stand in one record, and the others: what is found of both is found of all.
-use Rattle.std.proofs.Common.{◌≡◌, ◌≢◌, ◌↔◌, ◌<◌, ◌≤◌, ◌+◌, ◌==◌, ◌&&◌, ◌||◌, ℕ, zero, suc, min, Bool, true, false, cond, List, [], ◌∷◌, map, Option, Some, None, IfSome, IsTrue, IsFalse, refl, sym, ap, subst, inl, inr, ◌∙◌, arith}
+use Rattle.std.proofs.Common.{◌≡◌, ◌≢◌, ◌↔◌, ◌<◌, ◌≤◌, ◌+◌, ◌==◌, ◌&&◌, ◌||◌, ℕ, min, Bool, true, false, cond, List, [], ◌∷◌, map, Option, Some, None, IfSome, IsTrue, IsFalse, refl, sym, ap, subst, inl, inr, ◌∙◌, arith}
 use Rattle.std.specs.Prelude.{All, not, unwrap_or}
 use Rattle.std.specs.List.{Contains, count_by, list_any}
 use Rattle.std.proofs.lemmas.Bool.{and_from, and_parts, cases_Bool, cases_lt, le-ltb, not-true}
@@ -8,7 +8,7 @@ use Rattle.ntfs_def.specs.declared.kinds.TheConstants.{ATTRIBUTE_LIST}
 use Rattle.ntfs_def.specs.Attribute.{Attribute, attributes}
 use Rattle.ntfs_def.specs.Record.{base_in, header_of}
 use Rattle.volume_def.specs.ExtentsClause.{MeetsExtents}
-use Rattle.volume_def.specs.Files.{Part, Record, Records, is_base, part_of, parts, record_in, record_of, records_of}
+use Rattle.volume_def.specs.Files.{Record, Records, is_base, part_of, parts, record_in, record_of, records_of}
 use Rattle.volume_def.specs.ListsClause.{HasRightList, IsRightList, MeetsLists, is_list}
 use Rattle.volume_def.specs.View.{VolumeView}
 use Rattle.volume_def.proofs.FindLaws.{passing}
@@ -86,7 +86,7 @@ ListedIn records size n o = IfSome o (λ r. IsTrue (is_base r) → IsTrue (list_
 
 both-meet : (records : Records) (size n : ℕ) (o : Option Record) → records.record_at n ≡ o → (o ≢ None → n < records.count)
     → IfSome o (λ r. IsTrue (is_unlisted r) → IsAlone records n) → UnlistedIn size n o × ListedIn records size n o
-        → MeetsIn records size n o
+    → MeetsIn records size n o
 both-meet records size n None here inside alone meets = tt
 both-meet records size n (Some r) here inside alone (unlisted, listed) = λ base. elim (cases_Bool (list_any is_list r.parts)) [
   | inl t ↦ listed base t
@@ -97,7 +97,7 @@ both-meet records size n (Some r) here inside alone (unlisted, listed) = λ base
 
 meets-both : (records : Records) (size n : ℕ) (o : Option Record) → records.record_at n ≡ o → (o ≢ None → n < records.count)
     → IfSome o (λ r. IsTrue (is_unlisted r) → IsAlone records n) → MeetsIn records size n o
-        → UnlistedIn size n o × ListedIn records size n o
+    → UnlistedIn size n o × ListedIn records size n o
 meets-both records size n None here inside alone meets = (tt, tt)
 meets-both records size n (Some r) here inside alone meets = (
   λ only.
@@ -108,7 +108,7 @@ meets-both records size n (Some r) here inside alone meets = (
 
 pub first-of-all : (records : Records) (size : ℕ) (first listed : Option ℕ) → ((n : ℕ) → records.count ≤ n → records.record_at n ≡ None)
     → IsLeastBelow (MeetsUnlisted records size) records.count first → AreUnlistedAlone records
-        → IsLeastFailing (MeetsListed records size) listed
+    → IsLeastFailing (MeetsListed records size) listed
     → IsLeastFailing (MeetsExtents records size) (least_of first listed)
 first-of-all records size first listed past note alone least =
     least-same (λ n. MeetsUnlisted records size n × MeetsListed records size n) (MeetsExtents records size) (least_of first listed)
@@ -138,7 +138,7 @@ no-list view n r here none each = elim (cases_lt 0 (count_by is_list (parts (rec
   | inl some ↦
       let w = passing is_list (parts (records_of view) n) (omega arith) in
       let right = All-contains (λ part. IsTrue (is_list part)
-          → IsRightList view n (parts (records_of view) n) part) (parts (records_of view) n) w.0 each w.1 w.2 in
+      → IsRightList view n (parts (records_of view) n) part) (parts (records_of view) n) w.0 each w.1 w.2 in
       let held = IsPart-Contains (records_of view) n w.0 (NameHolders-view view) w.1 in
       let there : Some held.record_there ≡ Some r = sym held.held ∙ ap (λ m. (records_of view).record_at m) right.home ∙ here in
       let same : held.record_there ≡ r = cc in
@@ -166,7 +166,7 @@ past-end view n past = ap (λ b. cond b (record_in n (view.block n)) None) (le-l
 
 pub first-of-volume : (view : VolumeView) (size : ℕ) (first listed : Option ℕ) → ((n : ℕ) → MeetsLists view n)
     → IsLeastBelow (MeetsUnlisted (records_of view) size) view.layout.count first
-        → IsLeastFailing (MeetsListed (records_of view) size) listed
+    → IsLeastFailing (MeetsListed (records_of view) size) listed
     → IsLeastFailing (MeetsExtents (records_of view) size) (least_of first listed)
 first-of-volume view size first listed meets note least =
     first-of-all (records_of view) size first listed (past-end view) note (lists-alone view meets) least

@@ -1,5 +1,5 @@
 -- What the clause on extents looks at in a part of a file: its outline. The clause in outlines.
-use Rattle.std.specs.Prelude.{◌≡◌, ◌≢◌, ◌⊎◌, ℕ, ◌+◌, ◌*◌, ◌<◌, ◌≤◌, ◌==◌, ◌&&◌, ◌||◌, not, Bool, List, [], ◌∷◌, length, map, filter, sum_by, Option, All, IfSome, IsSome, IsTrue, unwrap_or, option_map}
+use Rattle.std.specs.Prelude.{◌≡◌, ◌≢◌, ◌⊎◌, ℕ, ◌+◌, ◌*◌, ◌<◌, ◌≤◌, ◌==◌, ◌&&◌, ◌||◌, not, Bool, List, [], ◌∷◌, length, filter, sum_by, All, IfSome, IsSome, IsTrue, unwrap_or, option_map}
 use Rattle.std.specs.Str.{bytes_eq}
 use Rattle.std.specs.Ordering.{nat_cmp, on, then_cmp}
 use Rattle.std.specs.declared.cmp.Ordering.{Ordering}
@@ -9,7 +9,7 @@ use Rattle.ntfs_def.specs.Flags.{is_packed}
 use Rattle.ntfs_def.specs.KeyOrder.{by_numbers}
 use Rattle.ntfs_def.specs.Runs.{total_clusters}
 use Rattle.volume_def.specs.ExtentsClause.{AreAttribute, FitExtents, bad_name, last_vcn_of}
-use Rattle.volume_def.specs.Files.{Clusters, Content, Part, Record, Records, Value, file_of, parts_like}
+use Rattle.volume_def.specs.Files.{Clusters, Content, Part, Records, Value, file_of, parts_like}
 use Rattle.volume_def.specs.SameItems.{SameItems}
 use Rattle.volume_facts.specs.declared.extents.Extent.{Extent}
 use Rattle.volume_facts.specs.declared.extents.Held.{Held}

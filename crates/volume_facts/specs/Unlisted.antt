@@ -1,5 +1,5 @@
 -- The clause on extents over files that stand in one record, as a pass over the table notes them, and over the others.
-use Rattle.std.specs.Prelude.{◌≡◌, ℕ, ◌&&◌, not, Bool, min, Option, Some, None, IfSome, IsTrue}
+use Rattle.std.specs.Prelude.{ℕ, ◌&&◌, not, Bool, min, Option, Some, None, IfSome, IsTrue}
 use Rattle.std.specs.List.{list_any}
 use Rattle.volume_def.specs.Files.{Record, Records, is_base, parts}
 use Rattle.volume_def.specs.ListsClause.{is_list}

@@ -1,10 +1,10 @@
-use Rattle.std.proofs.Common.{◌≡◌, ◌≤◌, ◌<◌, ◌+◌, ◌==◌, ℕ, Bool, true, false, cond, List, [], map, length, refl, sym, ap, subst, ◌∙◌, arith, rules}
+use Rattle.std.proofs.Common.{◌≡◌, ◌≤◌, ◌+◌, ◌==◌, ℕ, Bool, true, false, cond, map, length, refl, sym, ap, subst, ◌∙◌, arith, rules}
 use Rattle.std.proofs.lemmas.Bool.{eqb-true, eq-eqb}
 use Rattle.ntfs_def.proofs.AttributeLaws.{length-attributes}
 use Rattle.ntfs_def.proofs.ShapeLaws.{HasShape-few, header_failing-length}
 use Rattle.ntfs_def.specs.Attribute.{Attribute}
 use Rattle.attr_view.specs.Left.{attributes_left}
-use Rattle.attr_view.specs.View.{attribute_of, attributes_of}
+use Rattle.attr_view.specs.View.{attribute_of}
 use Rattle.volume_def.specs.Files.{part_of}
 use Rattle.volume_facts.specs.Attributes.{AreRight}
 use Rattle.volume_facts.proofs.AttributesLaws.{AreRight-less, AreRight-more, AreRight-next, AreRight-nil, one_more}
@@ -30,7 +30,7 @@ returns-then-not-is_right_next c = λ n.
       λ f. absurd (cc),
       λ right.
           let all = subst (λ xs. AreRight c.args.base c.loop-attribute.least c.loop-attribute.standards (map
-              (part_of n) xs)) c.in-Some.ensures.steps (inv.from n right) in
+          (part_of n) xs)) c.in-Some.ensures.steps (inv.from n right) in
           let t = (c.is_right_next.ensures n).1 (AreRight-next c.args.base c.loop-attribute.least c.loop-attribute.standards _ _ all) in
           let f = c.if-not-is_right_next.true in
           absurd (cc),
@@ -71,7 +71,7 @@ returns-then-not-base c = λ n.
       λ _. c.loop-attribute.invariant.to n (subst (λ xs. AreRight c.args.base c.loop-attribute.least c.loop-attribute.standards (map
           (part_of n) xs))
           (sym c.in_default.ensures.steps.0) (AreRight-nil c.args.base c.loop-attribute.least c.loop-attribute.standards (λ is. absurd
-              (cc)))),
+          (cc)))),
       λ _. search rules,
     )
 
@@ -81,10 +81,10 @@ returns-else-not-base c = λ n.
     let inv = c.loop-attribute.invariant in (
       λ t. inv.to n (subst (λ xs. AreRight c.args.base c.loop-attribute.least c.loop-attribute.standards (map (part_of n) xs))
           (sym c.in_default.ensures.steps.0) (AreRight-nil c.args.base c.loop-attribute.least c.loop-attribute.standards
-              (λ _. eqb-true _ _ t))),
+          (λ _. eqb-true _ _ t))),
       λ right.
           let end = subst (λ xs. AreRight c.args.base c.loop-attribute.least c.loop-attribute.standards (map
-              (part_of n) xs)) c.in_default.ensures.steps.0 (inv.from n right) in
+          (part_of n) xs)) c.in_default.ensures.steps.0 (inv.from n right) in
           let one = end.one_standard is in
           eq-eqb _ _ (omega arith),
     )

@@ -1,4 +1,4 @@
-use Rattle.std.proofs.Common.{◌≡◌, ◌==◌, ap, refl, sym, ◌∙◌, arith}
+use Rattle.std.proofs.Common.{◌==◌, ap, refl, sym, ◌∙◌, arith}
 use Rattle.std.proofs.lemmas.Bool.{eq-eqb, ne_eqb}
 use Rattle.attr_view.specs.Left.{attributes_left}
 use Rattle.attr_view.specs.View.{attribute_of}

@@ -1,5 +1,4 @@
-use Rattle.std.proofs.Common.{◌≡◌, ℕ, arith, rules}
-use Rattle.attr_view.specs.View.{attribute_of}
+use Rattle.std.proofs.Common.{rules}
 use Rattle.volume_facts.proofs.attributes.is_right_alone.Goals as goal
 
 pub returns-else-not-base : goal.returns-else-not-base

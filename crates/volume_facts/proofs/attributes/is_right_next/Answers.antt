@@ -1,7 +1,6 @@
-use Rattle.std.proofs.Common.{◌≡◌, ◌≤◌, true, false, sym, subst, ◌∙◌, arith, rules}
+use Rattle.std.proofs.Common.{◌≡◌, true, false, arith, rules}
 use Rattle.attr_view.specs.Left.{attributes_left}
 use Rattle.attr_view.specs.View.{attribute_of}
-use Rattle.volume_facts.specs.Attributes.{times_id_among}
 use Rattle.volume_facts.proofs.AttributesLaws.{next-alone, next-repeated}
 use Rattle.volume_facts.proofs.attributes.is_right_next.Goals as goal
 use Rattle.volume_facts.proofs.attributes.is_right_next.Goals.{then-least-kind, else-least-kind}
@@ -12,7 +11,7 @@ returns-then-not-has_id c = λ n. elim c.if-least-kind.branch [
       let free : w.has_id.result ≡ false = search rules in
       next-alone c.args.base n c.args.least (attribute_of c.args.attribute.now) (attributes_left c.args.left.now) w.has_id.result
       c.is_right_alone.result (omega (arith, w.if-least-kind.true, c.kind.ensures)) w.id.result w.id.ensures w.has_id.ensures free
-          (c.is_right_alone.ensures n)
+      (c.is_right_alone.ensures n)
   | else-least-kind w ↦ absurd (search rules)
 ]
 

@@ -1,7 +1,5 @@
-use Rattle.std.proofs.Common.{◌≡◌, ◌<◌, ◌==◌, Bool, IsTrue, IfSome, true, false, refl, sym, subst, inl, inr, ◌∙◌, arith, eq-eqb}
-use Rattle.ntfs_def.specs.Record.{base_in, base_reference}
+use Rattle.std.proofs.Common.{◌≡◌, ◌==◌, inl, inr, arith, eq-eqb}
 use Rattle.attr_view.specs.View.{viewed_block}
-use Rattle.volume_def.specs.AttributesClause.{IsRightRecord}
 use Rattle.volume_def.specs.Files.{is_base, record_of}
 use Rattle.volume_facts.proofs.AttributesLaws.{RightRecord-from, RightRecord-parts, is_base-zero}
 use Rattle.volume_facts.proofs.attributes.is_right_record.Goals as goal
@@ -13,8 +11,11 @@ returns-then-n-ge-SYSTEM_END-clause-right c =
     let base = reference == 0 in
     let is : is_base r ≡ base = is_base-zero r reference c.header-base.ensures.base in (
       λ t. RightRecord-from c.args.n r base is
-          (λ low. elim c.if-n-ge-SYSTEM_END.either [ inl zero ↦ eq-eqb reference 0 zero | inr late ↦ let high = late.1 in absurd
-              (omega arith) ])
+          (λ low. elim c.if-n-ge-SYSTEM_END.either [
+            | inl zero ↦ eq-eqb reference 0 zero
+            | inr late ↦ let high = late.1 in absurd
+                (omega arith)
+          ])
           ((c.are_right.ensures c.args.n).0 t),
       λ right. (c.are_right.ensures c.args.n).1 (RightRecord-parts c.args.n r base is right),
     )

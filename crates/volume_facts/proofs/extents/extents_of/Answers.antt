@@ -1,8 +1,8 @@
-use Rattle.std.proofs.Common.{◌≡◌, ℕ, ◌∷◌, ◌++◌, List, [], map, sym, ap, ◌∙◌, append-nil, append_assoc, refl}
+use Rattle.std.proofs.Common.{◌≡◌, ℕ, ◌∷◌, ◌++◌, List, [], map, sym, ap, ◌∙◌, append-nil, append_assoc}
 use Rattle.std.proofs.lemmas.List.{map-append}
 use Rattle.ntfs_def.specs.Attribute.{Attribute}
 use Rattle.attr_view.specs.Left.{attributes_left}
-use Rattle.attr_view.specs.View.{attribute_of, attributes_of}
+use Rattle.attr_view.specs.View.{attribute_of}
 use Rattle.volume_def.specs.Files.{part_of}
 use Rattle.volume_facts.specs.declared.extents.Extent.{Extent}
 use Rattle.volume_facts.specs.Extents.{Outline, outline_of, outlined}
@@ -31,7 +31,7 @@ one_more n items pushed extent left rest all attribute more step same before =
 pub loop-attribute-preserved : goal.loop-attribute-preserved
 loop-attribute-preserved c = λ n.
     one_more n c.loop-attribute.extents.items c.push.new.self.items c.in_ok-new.field-0 _ (attributes_left c.next.new.self) _
-        (attribute_of c.in-Some.attribute)
+    (attribute_of c.in-Some.attribute)
     c.in_ok-push.ensures.items c.in-Some.ensures.steps (c.in_ok-new.ensures n) (c.loop-attribute.invariant n)
 
 pub returns : goal.returns

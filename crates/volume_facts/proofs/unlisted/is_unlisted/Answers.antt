@@ -1,4 +1,4 @@
-use Rattle.std.proofs.Common.{◌&&◌, refl, sym, ap, ◌∙◌, eq-eqb}
+use Rattle.std.proofs.Common.{◌&&◌, sym, ap, ◌∙◌, eq-eqb}
 use Rattle.std.specs.Prelude.{not}
 use Rattle.attr_view.specs.View.{viewed_block}
 use Rattle.volume_facts.proofs.UnlistedLaws.{unlisted-told}

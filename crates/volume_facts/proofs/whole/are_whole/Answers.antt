@@ -1,5 +1,4 @@
-use Rattle.std.proofs.Common.{ap, map, rules}
-use Rattle.std.specs.Ordering.{is_lt}
+use Rattle.std.proofs.Common.{map, rules}
 use Rattle.std.proofs.lemmas.List.Sorted.{answers_always}
 use Rattle.volume_facts.specs.Extents.{outline_of, outlined}
 use Rattle.volume_facts.proofs.InOrderLaws.{extent_lt, extent_ranks, moved-outlines, sorted-from}

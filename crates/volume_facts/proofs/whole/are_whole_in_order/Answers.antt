@@ -1,4 +1,4 @@
-use Rattle.std.proofs.Common.{◌≡◌, true, length, map, refl, sym, ◌∙◌, arith}
+use Rattle.std.proofs.Common.{◌≡◌, true, refl, arith}
 use Rattle.std.proofs.lemmas.List.{length-map}
 use Rattle.ntfs_def.specs.declared.kinds.TheConstants.{FILE_NAME}
 use Rattle.volume_facts.specs.declared.extents.Extent.{Extent}

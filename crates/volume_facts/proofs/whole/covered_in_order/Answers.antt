@@ -1,20 +1,19 @@
-use Rattle.std.proofs.Common.{◌≡◌, ◌≢◌, ℕ, ◌+◌, ◌<◌, ◌≤◌, length, map, get_or, refl, sym, ap, subst, inl, inr, ◌∙◌, arith, rules}
+use Rattle.std.proofs.Common.{◌<◌, ◌≤◌, length, map, sym, subst, inl, inr, ◌∙◌, arith}
 use Rattle.std.specs.Prelude.{IfNone}
 use Rattle.std.proofs.lemmas.Bool.{cases_lt}
 use Rattle.std.proofs.lemmas.List.{length-map}
 use Rattle.std.proofs.lemmas.List.Elements.{All-map}
-use Rattle.volume_facts.specs.declared.extents.Extent.{Extent}
-use Rattle.volume_facts.specs.Extents.{Begins, Follow, HaveClusters, Outline, clusters_covered, covered_by, outlined}
+use Rattle.volume_facts.specs.Extents.{Follow, HaveClusters, clusters_covered, outlined}
 use Rattle.volume_facts.proofs.FollowLaws.{covered-sum, follow-begins, follow-end, follow-less, follow-more, one-at, several-one, sum-end}
 use Rattle.volume_facts.proofs.whole.covered_in_order.Goals as goal
 
 pub returns-in_err-covered-clause-none : goal.returns-in_err-covered-clause-none
 returns-in_err-covered-clause-none c =
     subst (λ o. IfNone o (¬ (Follow 0 (map outlined c.args.extents.now) × HaveClusters (map outlined c.args.extents.now))))
-        (sym c.from_residual.ensures)
+    (sym c.from_residual.ensures)
     (λ (follow, several). c.in_err-covered.ensures.none
     (follow-begins c.args.extents.now c.loop-extent.extent-index c.loop-extent.end _ c.loop-extent-test.true
-        (c.loop-extent.invariant.from follow)))
+    (c.loop-extent.invariant.from follow)))
 
 pub returns-then-covered-eq0-clause-none : goal.returns-then-covered-eq0-clause-none
 returns-then-covered-eq0-clause-none c (follow, several) =

@@ -1,4 +1,4 @@
-use Rattle.std.proofs.Common.{◌≡◌, ◌<◌, length, false, sym, ◌∙◌, arith}
+use Rattle.std.proofs.Common.{length, false, sym, ◌∙◌, arith}
 use Rattle.volume_facts.proofs.InOrderLaws.{group-from, like-any}
 use Rattle.volume_facts.proofs.whole.group_end.Goals as goal
 
@@ -8,7 +8,7 @@ returns-then-not-is_like c =
     let lt = c.loop-end-test.true in
     group-from c.args.extents.now c.args.start c.loop-end.end (omega arith) (omega arith) c.loop-end.invariant
     (λ d _. like-any c.args.extents.now c.args.start c.loop-end.end false _ _ c.requires (omega arith) (sym c.is_like.ensures
-        ∙ c.if-not-is_like.true) d)
+    ∙ c.if-not-is_like.true) d)
 
 pub returns : goal.returns
 returns c =

@@ -1,4 +1,3 @@
-use Rattle.std.proofs.Common.{◌≡◌}
 use Rattle.volume_facts.proofs.extents.Extent.new.Goals as goal
 
 pub returns : goal.returns
