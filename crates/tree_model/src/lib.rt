@@ -1,0 +1,14 @@
+//! The tree that a volume reads as, the commands of a script, and what comes of them.
+#![tactic(auto)]
+
+mod command;
+mod lists;
+mod opens;
+mod reply;
+mod tree;
+
+pub use command::Command;
+pub use lists::{Listing, Path, RawAttrs, ShownLinks, ShownStreams, Streams};
+pub use opens::{Access, OpenEntry};
+pub use reply::{Answer, Listed, No, Reply, ShownLink, ShownStream};
+pub use tree::{Content, Found, Link, Node, Point, RawAttr, Stream};
