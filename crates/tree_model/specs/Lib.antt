@@ -1,0 +1,17 @@
+pub mod Ordered
+pub mod Tree
+pub mod Paths
+pub mod Subjects
+pub mod Drops
+pub mod Cases
+pub mod Opens
+pub mod Staging
+pub mod Refusals
+pub mod Answers
+pub mod Streams
+pub mod Effects
+pub mod Step
+pub mod Hidden
+pub mod Reading
+pub mod Facts
+pub mod Session

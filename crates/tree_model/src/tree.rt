@@ -65,5 +65,5 @@ pub enum Found {
     /// The root, which no link leads to.
     Root,
     /// What this link names.
-    Linked(Link),
+    Link(Link),
 }
