@@ -1,0 +1,4 @@
+pub mod OrderedLaws
+pub mod LinkOrder
+pub mod ReadingLaws
+pub mod StepLaws

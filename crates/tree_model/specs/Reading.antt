@@ -26,7 +26,7 @@ use Rattle.volume_def.specs.View.{VolumeView}
 use Rattle.tree_model.specs.Hidden.{is_hidden}
 use Rattle.tree_model.specs.Ordered.{in_order}
 use Rattle.tree_model.specs.Streams.{stream_above}
-use Rattle.tree_model.specs.Tree.{Tree, link_above}
+use Rattle.tree_model.specs.Tree.{Tree, is_in, link_above}
 use Rattle.tree_model.specs.declared.tree.Content.{Content}
 use Rattle.tree_model.specs.declared.tree.Content.TheVariants.{Packed, Plain}
 use Rattle.tree_model.specs.declared.tree.Link.{Link}
@@ -156,6 +156,10 @@ is_hidden_link view link = (link.child == ROOT) || is_hidden (records_of view) l
 
 unfoldable pub all_links : VolumeView → List Link
 all_links view = map link_by (links (records_of view))
+
+-- the links of one directory, in order, hidden ones too
+unfoldable pub directory_links : VolumeView → ℕ → List Link
+directory_links view dir = in_order (link_above (volume_fold view)) (filter (is_in dir) (all_links view))
 
 -- such links of a volume, in order
 abbrev pub links_that : VolumeView → (Link → Bool) → List Link

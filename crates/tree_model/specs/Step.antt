@@ -62,3 +62,9 @@ pub record Step (facts : Facts) (m : Machine) (session : ℕ) (command : Command
   pub replied : (given ≡ reply_of (due facts m session command)) ⊎ (given ≡ reply.No no.Memory)
     ⊎ Overflows facts m session command given
   pub moved : Leads facts m session command given next
+
+-- the replies that may stand in place of the one that is due
+abbrev pub IsFree : Reply → Type 0
+IsFree (reply.No no.Memory) = Unit {0}
+IsFree (reply.No (no.Overflow need free)) = Unit {0}
+IsFree other = ⊥
