@@ -2,3 +2,5 @@ pub mod OrderedLaws
 pub mod LinkOrder
 pub mod ReadingLaws
 pub mod StepLaws
+pub mod LeastLaws
+pub mod PlainLaws

@@ -34,11 +34,11 @@ pub record ReadsAs (image : List ℕ) (tree : Tree) : Type 0 where
   pub reading : tree ≡ read view
 
 -- df: clusters without an owner, and records from 24 on that are not in use.
-unfoldable pub free_clusters : VolumeView → ℕ
-free_clusters view = count_by (λ cluster. times_owned (records_of view) cluster == 0) (range_with_len 0 view.layout.clusters)
+unfoldable pub unowned_clusters : VolumeView → ℕ
+unowned_clusters view = count_by (λ cluster. times_owned (records_of view) cluster == 0) (range_with_len 0 view.layout.clusters)
 
-unfoldable pub free_records : VolumeView → ℕ
-free_records view =
+unfoldable pub unused_records : VolumeView → ℕ
+unused_records view =
     count_by (λ n. is_none (record_on view n)) (range_with_len FIRST_ORDINARY (view.layout.count - FIRST_ORDINARY))
 
 -- Security descriptors: $Secure has them in its stream $SDS, each behind a header of 20 bytes, and tells of them by id in its
@@ -75,8 +75,8 @@ TellsDescriptor view id (Some bytes) = HasDescriptor view id bytes
 -- What a volume tells beside its tree. Of room nothing is said yet: it is asked of edits alone, and no edit is built.
 pub record TellsFacts (view : VolumeView) (facts : Facts) : Type 0 where
   pub clusters : facts.clusters ≡ view.layout.clusters
-  pub free : facts.free ≡ free_clusters view
+  pub free : facts.free ≡ unowned_clusters view
   pub records : facts.records ≡ view.layout.count
-  pub unused : facts.free_records ≡ free_records view
+  pub free_records : facts.free_records ≡ unused_records view
   pub in_use : (n : ℕ) → facts.in_use n ≡ is_some (record_on view n)
   pub descriptors : (id : ℕ) → TellsDescriptor view id (facts.descriptor id)

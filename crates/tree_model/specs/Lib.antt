@@ -15,3 +15,4 @@ pub mod Hidden
 pub mod Reading
 pub mod Facts
 pub mod Session
+pub mod Plain

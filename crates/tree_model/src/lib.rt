@@ -5,12 +5,14 @@ mod command;
 mod laws;
 mod lists;
 mod opens;
+mod plain;
 mod reply;
 mod tree;
 
 pub use command::Command;
 pub use laws::{edited_reading_laws, one_reading, one_reply, reading_laws};
 pub use lists::{Listing, Path, RawAttrs, ShownLinks, ShownStreams, Streams};
+pub use plain::PlainTree;
 pub use opens::{Access, OpenEntry};
 pub use reply::{Answer, Listed, No, Reply, ShownLink, ShownStream};
 pub use tree::{Content, Found, Link, Node, Point, RawAttr, Stream};

@@ -1,0 +1,54 @@
+-- A tree kept in plain lists, and what its calls lend of it.
+use Rattle.std.specs.Prelude.{ℕ, ◌&&◌, Bool, true, false, List, [], ◌∷◌, Option, Some, None, Result, Ok, Err, option_map, if◌then◌else◌}
+use Rattle.std.specs.FinMap as finmap
+use Rattle.std.specs.Str.{bytes_eq}
+use denote.Ref.{Bor}
+use Rattle.ntfs_def.specs.KeyOrder.{fold_of}
+use Rattle.tree_model.specs.Paths.{Place}
+use Rattle.tree_model.specs.Tree.{Tree, are_same, is_in}
+use Rattle.tree_model.specs.declared.plain.PlainTree.{PlainTree}
+use Rattle.tree_model.specs.declared.reply.No.{No}
+use Rattle.tree_model.specs.declared.tree.Found.{Found}
+use Rattle.tree_model.specs.declared.tree.Found.TheVariants as found
+use Rattle.tree_model.specs.declared.tree.Link.{Link}
+
+-- the tree that the lists are
+unfoldable pub tree_of : PlainTree → Tree
+tree_of plain = record {
+  fold = fold_of plain.case;
+  nodes = finmap.from_entries plain.nodes.items;
+  links = plain.links.items;
+  hidden = plain.hidden.items;
+}
+
+-- what is lent, as a value
+abbrev pub lent : {A : Type 0} → Option (Bor A) → Option A
+lent item = option_map (λ one. one.now) item
+
+-- The least of a list and of one before it. `above x y` says that x stands behind y.
+abbrev pub least : {A : Type 0} → (A → A → Bool) → Option A → List A → Option A
+least above best [] = best
+least above None (x ∷ xs) = least above (Some x) xs
+least above (Some y) (x ∷ xs) = least above (Some (if above y x then x else y)) xs
+
+-- a link of the directory by exactly this name, or by one of the same
+abbrev pub has_name : (ℕ → ℕ) → Bool → List ℕ → List ℕ → Bool
+has_name fold true a b = bytes_eq a b
+has_name fold false a b = are_same fold a b
+
+abbrev pub is_named : (ℕ → ℕ) → ℕ → List ℕ → Bool → Link → Bool
+is_named fold dir name exact link = is_in dir link && has_name fold exact link.name name
+
+-- a place that is lent in parts
+abbrev pub lent_place : Result (ℕ × Bor (List ℕ)) No → Result Place No
+lent_place (Ok place) = Ok (record { directory = place.0; name = place.1.now })
+lent_place (Err refused) = Err refused
+
+-- what is found, by the link that leads to it; the root has none
+abbrev pub found_by : Option (Bor Link) → Found
+found_by None = found.Root
+found_by (Some link) = found.Link link.now
+
+abbrev pub lent_found : Result (Option (Bor Link)) No → Result Found No
+lent_found (Ok link) = Ok (found_by link)
+lent_found (Err refused) = Err refused
