@@ -79,7 +79,7 @@ module _ {A : Type 0} {above : A → A → Bool} (o : IsOrder above) where
   find-put p x (y ∷ ys) a = by (find-put p x ys a.1) (above x y) (p x) (p y) refl refl refl
     where
       by : find p (put_in_order above x ys) ≡ found_with (p x) x (find p ys) → (s t u : Bool) → above x y ≡ s → p x ≡ t → p y ≡ u
-        → find p (put_in_order above x (y ∷ ys)) ≡ found_with (p x) x (find p (y ∷ ys))
+          → find p (put_in_order above x (y ∷ ys)) ≡ found_with (p x) x (find p (y ∷ ys))
       by ih true true true s t u = rw (s, u, t) (rw s refl)
       by ih true false true s t u = rw (s, u, t) refl
       by ih true t' false s t u = rw (s, u) ih
@@ -122,7 +122,7 @@ module _ {A : Type 0} {above : A → A → Bool} (o : IsOrder above) where
   twice a p (x ∷ xs) = by (twice a p xs) (a x) refl
     where
       by : filter (λ y. a y && p y) xs ≡ filter p (filter a xs) → (s : Bool) → a x ≡ s
-        → filter (λ y. a y && p y) (x ∷ xs) ≡ filter p (filter a (x ∷ xs))
+          → filter (λ y. a y && p y) (x ∷ xs) ≡ filter p (filter a (x ∷ xs))
       by ih true s = rw (s, ih) refl
       by ih false s = rw (s, ih) refl
 
@@ -131,7 +131,7 @@ module _ {A : Type 0} {above : A → A → Bool} (o : IsOrder above) where
   both a p (x ∷ xs) ys = by (both a p xs ys) (a x) (p x) refl refl
     where
       by : filter (λ y. a y && p y) xs ++ filter (λ y. a y && p y) ys ≡ filter p (filter a (xs ++ ys)) → (s t : Bool) → a x ≡ s → p x ≡ t
-        → filter (λ y. a y && p y) (x ∷ xs) ++ filter (λ y. a y && p y) ys ≡ filter p (filter a (x ∷ xs ++ ys))
+          → filter (λ y. a y && p y) (x ∷ xs) ++ filter (λ y. a y && p y) ys ≡ filter p (filter a (x ∷ xs ++ ys))
       by ih true true s t = rw (s, t) (ap (λ l. x ∷ l) ih)
       by ih true false s t = rw (s, t) ih
       by ih false t s e = rw s ih

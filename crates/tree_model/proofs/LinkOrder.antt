@@ -23,10 +23,12 @@ order {A = A} cmp o same = record {
     one_way Less s e h = cc
     one_way Equal s e h = cc
     one_way Greater s e h = ap is_gt e
+
     tie : (r s : Ordering) → s ≡ ordering_reverse r → is_gt r ≡ false → is_gt s ≡ false → r ≡ Equal
     tie Less s e h k = let g = ap is_gt e in cc
     tie Equal s e h k = refl
     tie Greater s e h k = cc
+
     between : (x y z : A) (r s t : Ordering) → cmp x z ≡ r → cmp y z ≡ s → cmp x y ≡ t → is_gt r ≡ true → is_gt s ≡ false → is_gt (cmp x y) ≡ true
     between x y z r s Greater xz yz xy h k = ap is_gt xy
     between x y z r s Equal xz yz xy h k = let e = o.congr x y z xy in let f = ap is_gt (sym xz ∙ e ∙ yz) in cc

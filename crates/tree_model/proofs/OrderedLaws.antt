@@ -9,14 +9,14 @@ module _ {A : Type 0} {above : A → A → Bool} (o : IsOrder above) where
   put-put x y [] = by (above x y) (above y x) refl refl
     where
       by : (s t : Bool) → above x y ≡ s → above y x ≡ t
-        → put_in_order above x (put_in_order above y []) ≡ put_in_order above y (put_in_order above x [])
+          → put_in_order above x (put_in_order above y []) ≡ put_in_order above y (put_in_order above x [])
       by true s xy yx = let n = o.one_way x y xy in rw (xy, n) refl
       by false true xy yx = rw (xy, yx) refl
       by false false xy yx = let e = o.same x y xy yx in rw e refl
   put-put x y (z ∷ zs) = by (put-put x y zs) (above x z) (above y z) (above x y) (above y x) refl refl refl refl
     where
       by : put_in_order above x (put_in_order above y zs) ≡ put_in_order above y (put_in_order above x zs) → (s t u v : Bool) → above x z ≡ s → above y z ≡ t → above x y ≡ u → above y x ≡ v
-        → put_in_order above x (put_in_order above y (z ∷ zs)) ≡ put_in_order above y (put_in_order above x (z ∷ zs))
+          → put_in_order above x (put_in_order above y (z ∷ zs)) ≡ put_in_order above y (put_in_order above x (z ∷ zs))
       by ih true true u v xz yz xy yx = rw (xz, yz, xz) (ap (λ l. z ∷ l) ih)
       by ih true false u v xz yz xy yx =
           let g = o.between x y z xz yz in rw (xz, yz, g, xz) refl
@@ -56,7 +56,7 @@ module _ {A : Type 0} {above : A → A → Bool} (o : IsOrder above) where
   put p x (y ∷ ys) zs = by (put p x ys zs) (above x y) refl
     where
       by : kept p (put_in_order above x ys ++ zs) ≡ kept p (x ∷ (ys ++ zs)) → (s : Bool) → above x y ≡ s
-        → kept p (put_in_order above x (y ∷ ys) ++ zs) ≡ kept p (x ∷ (y ∷ ys ++ zs))
+          → kept p (put_in_order above x (y ∷ ys) ++ zs) ≡ kept p (x ∷ (y ∷ ys ++ zs))
       by ih true s = rw s (front p y (put_in_order above x ys ++ zs) (x ∷ (ys ++ zs)) ih ∙ swap p y x (ys ++ zs))
       by ih false s = rw s refl
 
@@ -76,12 +76,12 @@ module _ {A : Type 0} {above : A → A → Bool} (o : IsOrder above) where
   both_parts p q (x ∷ xs) = by (both_parts p q xs) (q x) refl
     where
       by : kept p (filter (λ x. not (q x)) xs ++ filter q xs) ≡ kept p xs → (s : Bool) → q x ≡ s
-        → kept p (filter (λ x. not (q x)) (x ∷ xs) ++ filter q (x ∷ xs)) ≡ kept p (x ∷ xs)
+          → kept p (filter (λ x. not (q x)) (x ∷ xs) ++ filter q (x ∷ xs)) ≡ kept p (x ∷ xs)
       by ih true s = rw s (moved p (filter (λ x. not (q x)) xs) x (filter q xs) ∙ front p x (filter (λ x. not (q x)) xs ++ filter q xs) xs ih)
       by ih false s = rw s (front p x (filter (λ x. not (q x)) xs ++ filter q xs) xs ih)
 
   pub both_ordered : (p q : A → Bool) (xs : List A)
-    → kept p (in_order above (filter (λ x. not (q x)) xs) ++ in_order above (filter q xs)) ≡ kept p xs
+      → kept p (in_order above (filter (λ x. not (q x)) xs) ++ in_order above (filter q xs)) ≡ kept p xs
   both_ordered p q xs =
       ordered-front p (filter (λ x. not (q x)) xs) (in_order above (filter q xs))
       ∙ ordered-back p (filter (λ x. not (q x)) xs) (filter q xs)

@@ -22,7 +22,7 @@ pub one_volume : (image : List ℕ) (one other : VolumeView) → IsVolumeOf imag
 one_volume image one other x y =
     x.is
     ∙ ap (told_view (sector_in (Some image)))
-      (layout-exact (sector_in (Some image)) (boot_sector image) x.layout y.layout x.has.table_clause y.has.table_clause)
+    (layout-exact (sector_in (Some image)) (boot_sector image) x.layout y.layout x.has.table_clause y.has.table_clause)
     ∙ sym y.is
 
 pub one_reading : (image : List ℕ) (one other : Tree) → ReadsAs image one → ReadsAs image other → one ≡ other
@@ -36,8 +36,10 @@ one_reply facts m session command given other next last x y = both x.replied y.r
   where
     free_memory : (r : Reply) → r ≡ reply.No no.Memory → IsFree r
     free_memory r e = subst IsFree (sym e) tt
+
     Replied : Reply → Type 0
     Replied r = (r ≡ reply_of (due facts m session command)) ⊎ (r ≡ reply.No no.Memory) ⊎ Overflows facts m session command r
+
     both : Replied given → Replied other → IsFree given ⊎ IsFree other ⊎ (given ≡ other)
     both (inl a) (inl b) = inr (inr (a ∙ sym b))
     both (inr (inl a)) (b) = inl (free_memory given a)

@@ -47,7 +47,7 @@ link_count tree file = count_by (λ link. leads_to file link && not (is_dos link
 abbrev pub stat_of : Tree → ℕ → Node → Answer
 stat_of tree file node =
     a.Stat node.dir (link_count tree file) (option_map_or size_of (content_named tree [] (Some node)) 0) node.flags node.security
-      (slice_index node.times 0) (slice_index node.times 1) (slice_index node.times 2) (slice_index node.times 3)
+    (slice_index node.times 0) (slice_index node.times 1) (slice_index node.times 2) (slice_index node.times 3)
 
 -- links: each link that is not hidden, by the path that leads to it. A directory on the way goes by its name that is no DOS
 -- name.

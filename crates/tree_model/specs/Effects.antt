@@ -96,7 +96,7 @@ make dir now file NoName tree = tree
 make dir now file RootPath tree = tree
 make dir now file (NameIn parent name) tree =
     touch now parent (add_link (link_to file parent name)
-      (record tree { nodes = finmap.insert tree.nodes file (new_node dir now (security_of tree parent)) }))
+    (record tree { nodes = finmap.insert tree.nodes file (new_node dir now (security_of tree parent)) }))
 
 -- a stream of the file has these bytes
 abbrev pub put_stream : ℕ → Located → List ℕ → Tree → Tree

@@ -83,5 +83,5 @@ unless (Some refused) at = Err refused
 unfoldable pub outcome : Facts → Machine → ℕ → Command → Result Located No
 outcome facts m session command =
     if is_built command then
-      and_then (locate m session (subject_of command)) (λ at. unless (refusal facts m session command (subject_of command) at) at)
+    and_then (locate m session (subject_of command)) (λ at. unless (refusal facts m session command (subject_of command) at) at)
     else Err no.Unbuilt

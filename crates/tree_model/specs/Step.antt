@@ -60,7 +60,7 @@ pub record Overflows (facts : Facts) (m : Machine) (session : ℕ) (command : Co
 -- A STEP. Want of memory may stand in place of any reply.
 pub record Step (facts : Facts) (m : Machine) (session : ℕ) (command : Command) (given : Reply) (next : Machine) : Type 0 where
   pub replied : (given ≡ reply_of (due facts m session command)) ⊎ (given ≡ reply.No no.Memory)
-    ⊎ Overflows facts m session command given
+      ⊎ Overflows facts m session command given
   pub moved : Leads facts m session command given next
 
 -- the replies that may stand in place of the one that is due

@@ -29,7 +29,7 @@ are_same fold a b = bytes_eq (map fold a) (map fold b)
 abbrev pub compare_links : (ℕ → ℕ) → Link → Link → Ordering
 compare_links fold a b =
     ordering_then (nat_cmp a.parent b.parent)
-      (ordering_then (compare_units fold a.name b.name) (ordering_then (nat_cmp a.space b.space) (nat_cmp a.child b.child)))
+    (ordering_then (compare_units fold a.name b.name) (ordering_then (nat_cmp a.space b.space) (nat_cmp a.child b.child)))
 
 abbrev pub link_above : (ℕ → ℕ) → Link → Link → Bool
 link_above fold a b = is_gt (compare_links fold a b)

@@ -48,5 +48,5 @@ pub fn edited_reading_laws()
         → nodes_of new ≡ finmap.insert (nodes_of old) file node }
     ensures link { (fold : ℕ → ℕ) (test : Link → Bool) (before after : List Link) (link : Link) → test link ≡ true
         → in_order (link_above fold) (filter test (before ++ link ∷ after))
-          ≡ put_in_order (link_above fold) link (in_order (link_above fold) (filter test (before ++ after))) }
+        ≡ put_in_order (link_above fold) link (in_order (link_above fold) (filter test (before ++ after))) }
 {}

@@ -7,12 +7,14 @@ mod lists;
 mod opens;
 mod plain;
 mod reply;
+#[cfg(test)]
+mod tests;
 mod tree;
 
 pub use command::Command;
 pub use laws::{edited_reading_laws, one_reading, one_reply, reading_laws};
 pub use lists::{Listing, Path, RawAttrs, ShownLinks, ShownStreams, Streams};
-pub use plain::PlainTree;
 pub use opens::{Access, OpenEntry};
+pub use plain::PlainTree;
 pub use reply::{Answer, Listed, No, Reply, ShownLink, ShownStream};
 pub use tree::{Content, Found, Link, Node, Point, RawAttr, Stream};

@@ -9,7 +9,6 @@ ghost use Rattle.tree_model.specs.Tree.{compare_links, link_above, node_of, show
 use crate::lists::Path;
 use crate::reply::No;
 use crate::tree::{Link, Node};
-
 use ntfs_def::records::ROOT;
 use std::cmp::Ordering;
 use upcase::UpCase;

@@ -17,5 +17,5 @@ returns c =
     let values = c.deref.ensures.value in
     let values_2 = c.deref-2.ensures.value in
     rw (all, shown, values, values_2)
-      (least-both (link_order fold) (is_in c.args.dir) (λ link. has_name fold c.args.exact link.name c.args.name.now)
-        c.args.self.now.links.items c.args.self.now.hidden.items)
+    (least-both (link_order fold) (is_in c.args.dir) (λ link. has_name fold c.args.exact link.name c.args.name.now)
+    c.args.self.now.links.items c.args.self.now.hidden.items)

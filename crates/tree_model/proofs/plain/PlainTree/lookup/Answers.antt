@@ -11,6 +11,6 @@ unfolding tree_of
 returns-in-None c =
     c.first_named-in-None.ensures
     ∙ ap
-      (λ found. option_or found
-        (find (λ link. are_same (fold_of c.args.self.now.case) link.name c.args.name.now) (children (tree_of c.args.self.now) c.args.dir)))
-      (sym (ap lent c.in-None.is) ∙ c.first_named.ensures)
+    (λ found. option_or found
+    (find (λ link. are_same (fold_of c.args.self.now.case) link.name c.args.name.now) (children (tree_of c.args.self.now) c.args.dir)))
+    (sym (ap lent c.in-None.is) ∙ c.first_named.ensures)
