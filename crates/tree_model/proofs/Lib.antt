@@ -4,3 +4,4 @@ pub mod ReadingLaws
 pub mod StepLaws
 pub mod LeastLaws
 pub mod PlainLaws
+pub mod LookLaws

@@ -1,16 +1,22 @@
 -- A tree kept in plain lists, and what its calls lend of it.
-use Rattle.std.specs.Prelude.{ℕ, ◌&&◌, Bool, true, false, List, [], ◌∷◌, Option, Some, None, Result, Ok, Err, option_map, if◌then◌else◌}
+use Rattle.std.specs.Prelude.{◌≡◌, ◌⊎◌, ℕ, ◌&&◌, Bool, true, false, List, [], ◌∷◌, Option, Some, None, Result, Ok, Err, option_map, if◌then◌else◌}
 use Rattle.std.specs.FinMap as finmap
 use Rattle.std.specs.Str.{bytes_eq}
 use denote.Ref.{Bor}
 use Rattle.ntfs_def.specs.KeyOrder.{fold_of}
-use Rattle.tree_model.specs.Paths.{Place}
-use Rattle.tree_model.specs.Tree.{Tree, are_same, is_in}
+use Rattle.tree_model.specs.Paths.{Place, and_then, found_file, resolve}
+use Rattle.tree_model.specs.Subjects.{Machine}
+use Rattle.tree_model.specs.Tree.{Tree, are_same, is_in, node_of}
+use Rattle.tree_model.specs.declared.command.Command.{Command}
+use Rattle.tree_model.specs.declared.command.Command.TheVariants as c
 use Rattle.tree_model.specs.declared.plain.PlainTree.{PlainTree}
+use Rattle.tree_model.specs.declared.reply.Listed.{Listed}
 use Rattle.tree_model.specs.declared.reply.No.{No}
+use Rattle.tree_model.specs.declared.reply.No.TheVariants as no
 use Rattle.tree_model.specs.declared.tree.Found.{Found}
 use Rattle.tree_model.specs.declared.tree.Found.TheVariants as found
 use Rattle.tree_model.specs.declared.tree.Link.{Link}
+use Rattle.tree_model.specs.declared.tree.Node.{Node}
 
 -- the tree that the lists are
 unfoldable pub tree_of : PlainTree → Tree
@@ -52,3 +58,37 @@ found_by (Some link) = found.Link link.now
 abbrev pub lent_found : Result (Option (Bor Link)) No → Result Found No
 lent_found (Ok link) = Ok (found_by link)
 lent_found (Err refused) = Err refused
+
+-- a file that is lent, by its number
+abbrev pub lent_file : Result (ℕ × Option (Bor Node)) No → Result (ℕ × Option Node) No
+lent_file (Ok file) = Ok (file.0, lent file.1)
+lent_file (Err refused) = Err refused
+
+-- the file that a path leads to, and its node
+abbrev pub file_at : Tree → List (List ℕ) → Result (ℕ × Option Node) No
+file_at tree path = and_then (resolve tree path) (λ at. Ok (found_file at, node_of tree (found_file at)))
+
+-- a machine without opens
+abbrev pub plain_machine : PlainTree → Machine
+plain_machine plain = record { tree = tree_of plain; opens = []; now = 0 }
+
+-- What is wanted is told, unless memory runs out.
+abbrev pub Tells : {A : Type 0} → Result A No → Result A No → Type 0
+Tells want (Ok x) = want ≡ Ok x
+Tells want (Err refused) = (want ≡ Err refused) ⊎ (refused ≡ no.Memory)
+
+-- the commands that look at what a path leads to, and are refused by the walk alone
+abbrev pub looks : Command → Option (List (List ℕ))
+looks (c.Stat path) = Some path
+looks (c.Streams path) = Some path
+looks (c.Attr path) = Some path
+looks (c.Sec path) = Some path
+looks (c.Objid path) = Some path
+looks other = None
+
+-- a line of `ls` that is lent
+abbrev pub listed_as : Bool × Bor Link → Listed
+listed_as line = record { dir = line.0; name = line.1.now.name }
+
+abbrev pub lent_listed : Option (Bool × Bor Link) → Option Listed
+lent_listed line = option_map listed_as line

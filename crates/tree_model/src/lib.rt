@@ -6,6 +6,7 @@ mod laws;
 mod lists;
 mod opens;
 mod plain;
+mod plain_answers;
 mod reply;
 #[cfg(test)]
 mod tests;

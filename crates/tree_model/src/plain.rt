@@ -26,7 +26,7 @@ pub struct PlainTree {
 
 impl PlainTree {
     // The file of this number.
-    fn node(&self, file: u64) -> Option<&Node>
+    pub(crate) fn node(&self, file: u64) -> Option<&Node>
         ensures { lent result ≡ node_of (tree_of self.now) file }
     {
         'nodes: for (number, node) in &self.nodes {
@@ -47,7 +47,7 @@ impl PlainTree {
     }
 
     // Whether a name is exactly this one, or the same.
-    fn has_name(&self, link: &Link, name: &[u16], exact: bool) -> bool
+    pub(crate) fn has_name(&self, link: &Link, name: &[u16], exact: bool) -> bool
         ensures { result ≡ has_name (fold_of self.now.case) exact link.now.name name.now }
     {
         if exact {
@@ -106,7 +106,7 @@ impl PlainTree {
     }
 
     // The file that a link leads to, where the link is not hidden.
-    fn shown_node(&self, link: &Link) -> Option<&Node>
+    pub(crate) fn shown_node(&self, link: &Link) -> Option<&Node>
         ensures { lent result ≡ shown_node (tree_of self.now) link.now }
     {
         if link.child == ROOT {
