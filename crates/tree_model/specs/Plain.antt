@@ -1,22 +1,31 @@
 -- A tree kept in plain lists, and what its calls lend of it.
-use Rattle.std.specs.Prelude.{◌≡◌, ◌⊎◌, ℕ, ◌&&◌, Bool, true, false, List, [], ◌∷◌, Option, Some, None, Result, Ok, Err, option_map, if◌then◌else◌}
+use Rattle.std.specs.Prelude.{◌≡◌, ◌⊎◌, ℕ, ◌&&◌, Bool, true, false, List, [], ◌∷◌, Option, Some, None, Result, Ok, Err, option_and_then, option_map, if◌then◌else◌}
+use Rattle.std.specs.Prelude.{◌==◌, length, nat_lt}
 use Rattle.std.specs.FinMap as finmap
+use Rattle.std.specs.Option.{option_map_or}
 use Rattle.std.specs.Str.{bytes_eq}
 use denote.Ref.{Bor}
 use Rattle.ntfs_def.specs.KeyOrder.{fold_of}
 use Rattle.tree_model.specs.Paths.{Place, and_then, found_file, resolve}
-use Rattle.tree_model.specs.Subjects.{Machine}
+use Rattle.tree_model.specs.Answers.{listing, node_answer, point_answer, range_of}
+use Rattle.tree_model.specs.Cases.{is_wide}
+use Rattle.tree_model.specs.Subjects.{Machine, content_named, is_directory}
 use Rattle.tree_model.specs.Tree.{Tree, are_same, is_in, node_of}
 use Rattle.tree_model.specs.declared.command.Command.{Command}
 use Rattle.tree_model.specs.declared.command.Command.TheVariants as c
 use Rattle.tree_model.specs.declared.plain.PlainTree.{PlainTree}
+use Rattle.tree_model.specs.declared.reply.Answer.{Answer}
+use Rattle.tree_model.specs.declared.reply.Answer.TheVariants as a
 use Rattle.tree_model.specs.declared.reply.Listed.{Listed}
 use Rattle.tree_model.specs.declared.reply.No.{No}
 use Rattle.tree_model.specs.declared.reply.No.TheVariants as no
+use Rattle.tree_model.specs.declared.tree.Content.{Content}
+use Rattle.tree_model.specs.declared.tree.Content.TheVariants.{Packed, Plain}
 use Rattle.tree_model.specs.declared.tree.Found.{Found}
 use Rattle.tree_model.specs.declared.tree.Found.TheVariants as found
 use Rattle.tree_model.specs.declared.tree.Link.{Link}
 use Rattle.tree_model.specs.declared.tree.Node.{Node}
+use Rattle.tree_model.specs.declared.tree.Point.{Point}
 
 -- the tree that the lists are
 unfoldable pub tree_of : PlainTree → Tree
@@ -77,18 +86,48 @@ abbrev pub Tells : {A : Type 0} → Result A No → Result A No → Type 0
 Tells want (Ok x) = want ≡ Ok x
 Tells want (Err refused) = (want ≡ Err refused) ⊎ (refused ≡ no.Memory)
 
--- the commands that look at what a path leads to, and are refused by the walk alone
-abbrev pub looks : Command → Option (List (List ℕ))
-looks (c.Stat path) = Some path
-looks (c.Streams path) = Some path
-looks (c.Attr path) = Some path
-looks (c.Sec path) = Some path
-looks (c.Objid path) = Some path
-looks other = None
-
 -- a line of `ls` that is lent
 abbrev pub listed_as : Bool × Bor Link → Listed
 listed_as line = record { dir = line.0; name = line.1.now.name }
 
 abbrev pub lent_listed : Option (Bool × Bor Link) → Option Listed
 lent_listed line = option_map listed_as line
+
+-- What is shown of a file that a path leads to: what its node tells ..
+abbrev pub looked : Tree → Command → (ℕ × Option Node) → Result Answer No
+looked tree command file = Ok (option_map_or (node_answer tree command file.0) file.1 a.Done)
+
+-- .. its reparse point ..
+abbrev pub point_shown : Option Point → Result Answer No
+point_shown None = Err no.NoReparse
+point_shown (Some point) = Ok (point_answer point)
+
+abbrev pub reparse_of : (ℕ × Option Node) → Result Answer No
+reparse_of file = point_shown (option_and_then (λ node. node.point) file.1)
+
+-- .. what stands in it ..
+abbrev pub listing_of : Tree → (ℕ × Option Node) → Result Answer No
+listing_of tree file = if is_directory file.1 then Ok (a.List (listing tree file.0)) else Err no.NotDir
+
+-- .. and a stream of it that is not packed, whole or in part.
+abbrev pub plain_bytes : Option Content → Result (List ℕ) No
+plain_bytes None = Err no.NoStream
+plain_bytes (Some (Packed size)) = Err no.Packed
+plain_bytes (Some (Plain bytes)) = Ok bytes
+
+abbrev pub stream_of : Tree → List ℕ → Option Node → Result (List ℕ) No
+stream_of tree name node =
+    if (length name == 0) && is_directory node then Err no.IsDir else plain_bytes (content_named tree name node)
+
+abbrev pub cat_of : Tree → List ℕ → (ℕ × Option Node) → Result Answer No
+cat_of tree name file =
+    and_then (stream_of tree name file.1) (λ bytes. if nat_lt 65536 (length bytes) then Err no.TooBig else Ok (a.Data bytes))
+
+abbrev pub read_of : Tree → List ℕ → ℕ → ℕ → (ℕ × Option Node) → Result Answer No
+read_of tree name from len file =
+    and_then (stream_of tree name file.1) (λ bytes. if is_wide from len then Err no.TooBig else Ok (a.Data (range_of from len bytes)))
+
+-- bytes that are lent
+abbrev pub lent_bytes : Result (Bor (List ℕ)) No → Result (List ℕ) No
+lent_bytes (Ok bytes) = Ok bytes.now
+lent_bytes (Err refused) = Err refused

@@ -47,14 +47,10 @@ impl PlainTree {
     }
 
     // Whether a name is exactly this one, or the same.
-    pub(crate) fn has_name(&self, link: &Link, name: &[u16], exact: bool) -> bool
-        ensures { result ≡ has_name (fold_of self.now.case) exact link.now.name name.now }
+    pub(crate) fn has_name(&self, name: &[u16], wanted: &[u16], exact: bool) -> bool
+        ensures { result ≡ has_name (fold_of self.now.case) exact name.now wanted.now }
     {
-        if exact {
-            link.name.as_slice() == name
-        } else {
-            self.case.same(link.name.as_slice(), name)
-        }
+        if exact { name == wanted } else { self.case.same(name, wanted) }
     }
 
     // The first in order of `best` and of those links that have this name in the directory.
@@ -71,7 +67,7 @@ impl PlainTree {
     {
         let mut best = best;
         'links: for link in links {
-            if link.parent == dir && self.has_name(link, name, exact) {
+            if link.parent == dir && self.has_name(link.name.as_slice(), name, exact) {
                 best = self.first_of(best, link);
             }
         }

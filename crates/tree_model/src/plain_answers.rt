@@ -1,13 +1,22 @@
 //! What commands that read are answered over a tree in plain lists, where no session has an open.
-ghost use Rattle.std.specs.Prelude.{◌≡◌};
-ghost use Rattle.tree_model.specs.Answers.{listed};
-ghost use Rattle.tree_model.specs.Plain.{file_at, lent, lent_file, lent_listed, tree_of};
+ghost use Rattle.std.specs.Prelude.{◌≡◌, find, map, option_map};
+ghost use Rattle.ntfs_def.specs.KeyOrder.{fold_of};
+ghost use Rattle.tree_model.specs.Answers.{is_object_id, link_count, listed, object_id, range_of, shown_stream};
+ghost use Rattle.tree_model.specs.Cases.{size_of};
+ghost use Rattle.tree_model.specs.Plain.{Tells, file_at, has_name, lent, lent_bytes, lent_file, lent_listed, looked, stream_of, tree_of};
+ghost use Rattle.tree_model.specs.Subjects.{content_named, is_directory};
+ghost use Rattle.tree_model.specs.Tree.{sought_stream};
+ghost use Rattle.tree_model.specs.declared.reply.No.TheVariants as no;
+ghost use Rattle.std.specs.Prelude.{IfOk, IfErr, Ok};
 
-use crate::lists::Path;
+use crate::lists::{Path, ShownStreams};
 use crate::plain::PlainTree;
-use crate::reply::No;
-use crate::tree::{Link, Node};
+use crate::reply::{No, ShownStream};
+use crate::tree::{Content, Link, Node, RawAttr, Stream};
+use ntfs_def::kinds::OBJECT_ID;
 use ntfs_def::records::ROOT;
+use std::alloc::Global;
+use vol_bytes::{Name, Octets};
 
 impl PlainTree {
     // The file that a path leads to, by its number, and its node.
@@ -32,4 +41,152 @@ impl PlainTree {
         let node = self.shown_node(link)?;
         Some((node.dir, link))
     }
+
+    // The first of some streams that has this name.
+    fn first_stream<'t>(&self, streams: &'t [Stream], name: &[u16], exact: bool) -> Option<&'t Stream>
+        ensures { lent result ≡ find (λ stream. has_name (fold_of self.now.case) exact stream.name name.now) streams.now }
+    {
+        'streams: for stream in streams {
+            if self.has_name(stream.name.as_slice(), name, exact) {
+                return Some(stream);
+            }
+        }
+        None
+    }
+
+    // The stream that is sought by a name: the exact one, else the first of the same name.
+    fn stream<'t>(&self, streams: &'t [Stream], name: &[u16]) -> Option<&'t Stream>
+        ensures { lent result ≡ sought_stream (fold_of self.now.case) streams.now name.now }
+    {
+        match self.first_stream(streams, name, true) {
+            Some(stream) => Some(stream),
+            None => self.first_stream(streams, name, false),
+        }
+    }
+
+    // What a stream of a file holds.
+    fn content<'t>(&self, node: Option<&'t Node>, name: &[u16]) -> Option<&'t Content>
+        ensures { lent result ≡ content_named (tree_of self.now) name.now (lent node.entry) }
+    {
+        match node {
+            None => None,
+            Some(node) => held(self.stream(node.streams.as_slice(), name)),
+        }
+    }
+
+    // The bytes of a stream that is not packed.
+    fn stream_bytes<'t>(&self, node: Option<&'t Node>, name: &[u16]) -> Result<&'t [u8], No>
+        ensures { lent_bytes result ≡ stream_of (tree_of self.now) name.now (lent node.entry) }
+    {
+        if name.is_empty() && is_directory(node) {
+            return Err(No::IsDir);
+        }
+        match self.content(node, name) {
+            None => Err(No::NoStream),
+            Some(Content::Packed(_)) => Err(No::Packed),
+            Some(Content::Plain(bytes)) => Ok(bytes.as_slice()),
+        }
+    }
+
+    // The names of a file that are no DOS names.
+    fn link_count(&self, file: u64) -> u64
+        ensures { result ≡ link_count (tree_of self.now) file }
+    {
+        let mut count = 0;
+        'links: for link in &self.links {
+            if link.child == file && link.space != 2 {
+                count += 1;
+            }
+        }
+        count
+    }
+}
+
+// A node's streams, as `streams` shows them.
+fn shown_streams(alloc: Global, streams: &[Stream]) -> Result<ShownStreams, No>
+    ensures ok { IfOk result (λ shown. shown ≡ map shown_stream streams.now) }
+    ensures err { IfErr result (λ refused. refused ≡ no.Memory) }
+{
+    let mut shown = Vec::new(alloc);
+    'streams: for stream in streams {
+        shown.push(ShownStream {
+            packed: matches!(stream.content, Content::Packed(_)),
+            size: size_of(&stream.content),
+            name: copied_name(alloc, &stream.name)?,
+        })?;
+    }
+    Ok(ShownStreams::from_vec(shown))
+}
+
+// This name again.
+fn copied_name(alloc: Global, name: &Name) -> Result<Name, No>
+    ensures ok { IfOk result (λ copy. copy ≡ name.now) }
+    ensures err { IfErr result (λ refused. refused ≡ no.Memory) }
+{
+    Ok(Name::from_vec(Vec::from_slice(alloc, name.as_slice())?))
+}
+
+// The first 16 bytes of the unnamed object id; none without one, and where it is packed.
+fn object_id(node: &Node) -> &[u8]
+    ensures { result.now ≡ object_id node.now }
+{
+    let Some(attribute) = first_object_id(node.others.as_slice()) else {
+        return &[];
+    };
+    match &attribute.value {
+        Content::Packed(_) => &[],
+        Content::Plain(bytes) => {
+            let bytes = bytes.as_slice();
+            &bytes[..bytes.len().min(16)]
+        }
+    }
+}
+
+// The first unnamed object id among attributes.
+fn first_object_id(attributes: &[RawAttr]) -> Option<&RawAttr>
+    ensures { lent result ≡ find is_object_id attributes.now }
+{
+    'attributes: for attribute in attributes {
+        if attribute.kind == OBJECT_ID && attribute.name.as_slice().is_empty() {
+            return Some(attribute);
+        }
+    }
+    None
+}
+
+fn is_directory(node: Option<&Node>) -> bool
+    ensures { result ≡ is_directory (lent node.entry) }
+{
+    match node {
+        None => false,
+        Some(node) => node.dir,
+    }
+}
+
+// What a stream holds.
+fn held(stream: Option<&Stream>) -> Option<&Content>
+    ensures { lent result ≡ option_map (λ stream. stream.content) (lent stream.entry) }
+{
+    match stream {
+        None => None,
+        Some(stream) => Some(&stream.content),
+    }
+}
+
+// The bytes of a stream, or its real size where it is packed.
+fn size_of(content: &Content) -> u64
+    ensures { result ≡ size_of content.now }
+{
+    match content {
+        Content::Plain(bytes) => bytes.as_slice().len() as u64,
+        Content::Packed(size) => *size,
+    }
+}
+
+// These bytes again.
+fn copied(alloc: Global, bytes: &[u8]) -> Result<Octets, No>
+    ensures ok { IfOk result (λ octets. octets ≡ bytes.now) }
+    ensures err { IfErr result (λ refused. refused ≡ no.Memory) }
+{
+    Ok(Octets::from_vec(Vec::from_slice(alloc, bytes)?))
 }

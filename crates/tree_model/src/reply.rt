@@ -1,5 +1,8 @@
 //! What comes of a command.
+ghost use Rattle.std.specs.Prelude.{◌≡◌};
+
 use crate::lists::{Listing, Path, ShownLinks, ShownStreams};
+use std::alloc::{AllocError, AllocFailed};
 use thiserror::Error;
 use vol_bytes::{Name, Octets};
 
@@ -159,6 +162,26 @@ pub enum No {
     /// The node to be removed has keys in a view index, and those may not be dropped yet.
     #[error("keys in a view index")]
     Linked,
+}
+
+impl From<AllocError> for No {
+    ghost use Rattle.tree_model.specs.declared.reply.No.TheVariants.{Memory};
+
+    ghost from_gives = { λ _ e. e ≡ Memory };
+
+    fn from(_: AllocError) -> No {
+        No::Memory
+    }
+}
+
+impl<T: Drop> From<AllocFailed<T>> for No {
+    ghost use Rattle.tree_model.specs.declared.reply.No.TheVariants.{Memory};
+
+    ghost from_gives = { λ _ e. e ≡ Memory };
+
+    fn from(_: AllocFailed<T>) -> No {
+        No::Memory
+    }
 }
 
 /// What comes of a command.
