@@ -9,7 +9,9 @@ use Rattle.ntfs_def.specs.KeyOrder.{fold_of}
 use Rattle.tree_model.specs.Paths.{Place, and_then, found_file, resolve}
 use Rattle.tree_model.specs.Answers.{listing, node_answer, point_answer, range_of}
 use Rattle.tree_model.specs.Cases.{is_wide}
-use Rattle.tree_model.specs.Subjects.{Machine, content_named, is_directory}
+use Rattle.tree_model.specs.Refusals.{Facts}
+use Rattle.tree_model.specs.Step.{due}
+use Rattle.tree_model.specs.Subjects.{content_named, is_directory}
 use Rattle.tree_model.specs.Tree.{Tree, are_same, is_in, node_of}
 use Rattle.tree_model.specs.declared.command.Command.{Command}
 use Rattle.tree_model.specs.declared.command.Command.TheVariants as c
@@ -77,10 +79,6 @@ lent_file (Err refused) = Err refused
 abbrev pub file_at : Tree → List (List ℕ) → Result (ℕ × Option Node) No
 file_at tree path = and_then (resolve tree path) (λ at. Ok (found_file at, node_of tree (found_file at)))
 
--- a machine without opens
-abbrev pub plain_machine : PlainTree → Machine
-plain_machine plain = record { tree = tree_of plain; opens = []; now = 0 }
-
 -- What is wanted is told, unless memory runs out.
 abbrev pub Tells : {A : Type 0} → Result A No → Result A No → Type 0
 Tells want (Ok x) = want ≡ Ok x
@@ -131,3 +129,21 @@ read_of tree name from len file =
 abbrev pub lent_bytes : Result (Bor (List ℕ)) No → Result (List ℕ) No
 lent_bytes (Ok bytes) = Ok bytes.now
 lent_bytes (Err refused) = Err refused
+
+-- what is due where no session has an open
+abbrev pub Answers : PlainTree → Command → Result Answer No → Type 0
+Answers plain command result =
+    (facts : Facts) (now session : ℕ)
+    → Tells (due facts (record { tree = tree_of plain; opens = []; now = now }) session command) result
+
+-- the commands that `PlainTree::answer` answers
+abbrev pub is_answered : Command → Bool
+is_answered (c.Stat path) = true
+is_answered (c.Streams path) = true
+is_answered (c.Attr path) = true
+is_answered (c.Sec path) = true
+is_answered (c.Objid path) = true
+is_answered (c.Reparse path) = true
+is_answered (c.Cat path stream) = true
+is_answered (c.Read path stream from len) = true
+is_answered other = false

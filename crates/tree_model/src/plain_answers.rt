@@ -1,9 +1,12 @@
 //! What commands that read are answered over a tree in plain lists, where no session has an open.
-ghost use Rattle.std.specs.Prelude.{◌≡◌, find, map, option_map};
+ghost use Rattle.std.specs.Prelude.{◌≡◌, [], Some, find, map, option_map};
 ghost use Rattle.ntfs_def.specs.KeyOrder.{fold_of};
 ghost use Rattle.tree_model.specs.Answers.{is_object_id, link_count, listed, object_id, range_of, shown_stream};
 ghost use Rattle.tree_model.specs.Cases.{size_of};
-ghost use Rattle.tree_model.specs.Plain.{Tells, file_at, has_name, lent, lent_bytes, lent_file, lent_listed, looked, stream_of, tree_of};
+ghost use Rattle.tree_model.specs.Plain.{Tells, cat_of, file_at, has_name, lent, lent_bytes, lent_file, lent_listed, looked, stream_of, tree_of};
+ghost use Rattle.std.specs.Option.{option_map_or};
+ghost use Rattle.tree_model.specs.Paths.{and_then};
+ghost use Rattle.tree_model.specs.declared.command.Command.TheVariants as c;
 ghost use Rattle.tree_model.specs.Subjects.{content_named, is_directory};
 ghost use Rattle.tree_model.specs.Tree.{sought_stream};
 ghost use Rattle.tree_model.specs.declared.reply.No.TheVariants as no;
@@ -11,7 +14,7 @@ ghost use Rattle.std.specs.Prelude.{IfOk, IfErr, Ok};
 
 use crate::lists::{Path, ShownStreams};
 use crate::plain::PlainTree;
-use crate::reply::{No, ShownStream};
+use crate::reply::{Answer, No, ShownStream};
 use crate::tree::{Content, Link, Node, RawAttr, Stream};
 use ntfs_def::kinds::OBJECT_ID;
 use ntfs_def::records::ROOT;
@@ -99,6 +102,79 @@ impl PlainTree {
             }
         }
         count
+    }
+}
+
+impl PlainTree {
+    fn stat(&self, path: &Path) -> Result<Answer, No>
+        ensures { result ≡ and_then (file_at (tree_of self.now) path.now) (looked (tree_of self.now) (c.Stat path.now)) }
+    {
+        let (file, node) = match self.file_at(path) {
+            Ok((file, Some(node))) => (file, node),
+            Ok((_, None)) => return Ok(Answer::Done),
+            Err(refused) => return Err(refused),
+        };
+        Ok(Answer::Stat {
+            dir: node.dir,
+            links: self.link_count(file),
+            size: self.size(node),
+            flags: node.flags,
+            security: node.security,
+            created: node.times[0],
+            modified: node.times[1],
+            changed: node.times[2],
+            accessed: node.times[3],
+        })
+    }
+
+    // The size of the unnamed stream, 0 without one.
+    fn size(&self, node: &Node) -> u64
+        ensures { result ≡ option_map_or size_of (content_named (tree_of self.now) [] (Some node.now)) 0 }
+    {
+        match self.content(Some(node), &[]) {
+            None => 0,
+            Some(content) => size_of(content),
+        }
+    }
+
+    fn attr(&self, path: &Path) -> Result<Answer, No>
+        ensures { result ≡ and_then (file_at (tree_of self.now) path.now) (looked (tree_of self.now) (c.Attr path.now)) }
+    {
+        match self.file_at(path) {
+            Ok((_, Some(node))) => Ok(Answer::Attr(node.flags)),
+            Ok((_, None)) => Ok(Answer::Done),
+            Err(refused) => Err(refused),
+        }
+    }
+
+    fn sec(&self, path: &Path) -> Result<Answer, No>
+        ensures { result ≡ and_then (file_at (tree_of self.now) path.now) (looked (tree_of self.now) (c.Sec path.now)) }
+    {
+        match self.file_at(path) {
+            Ok((_, Some(node))) => Ok(Answer::Sec(node.security)),
+            Ok((_, None)) => Ok(Answer::Done),
+            Err(refused) => Err(refused),
+        }
+    }
+
+    fn cat(&self, alloc: Global, path: &Path, stream: &[u16]) -> Result<Answer, No>
+        ensures { Tells (and_then (file_at (tree_of self.now) path.now) (cat_of (tree_of self.now) stream.now)) result }
+    {
+        let node = match self.file_at(path) {
+            Ok((_, node)) => node,
+            Err(refused) => return Err(refused),
+        };
+        let bytes = match self.stream_bytes(node, stream) {
+            Ok(bytes) => bytes,
+            Err(refused) => return Err(refused),
+        };
+        if bytes.len() > 65_536 {
+            return Err(No::TooBig);
+        }
+        match copied(alloc, bytes) {
+            Ok(bytes) => Ok(Answer::Data(bytes)),
+            Err(refused) => Err(refused),
+        }
     }
 }
 
