@@ -1,10 +1,10 @@
 -- What is due for commands that read, where no session has an open: it follows what their path leads to.
-use Rattle.std.proofs.Common.{◌≡◌, ◌==◌, ◌&&◌, ℕ, Bool, true, false, List, [], length, nat_lt, Option, Some, None, Result, Ok, Err, option_map, is_some, refl, sym, ap, ◌∙◌, if◌then◌else◌}
+use Rattle.std.proofs.Common.{◌≡◌, ◌⊎◌, ◌==◌, ◌&&◌, inl, inr, ℕ, Bool, true, false, List, [], length, nat_lt, Option, Some, None, Result, Ok, Err, option_map, is_some, refl, sym, ap, ◌∙◌, if◌then◌else◌}
 use Rattle.std.specs.Option.{option_map_or}
 use Rattle.tree_model.specs.Answers.{answer_of, listing, node_answer, point_answer, range_of}
 use Rattle.tree_model.specs.Cases.{is_wide}
 use Rattle.tree_model.specs.Paths.{and_then, found_file, resolve}
-use Rattle.tree_model.specs.Plain.{cat_of, file_at, listing_of, looked, read_of, reparse_of}
+use Rattle.tree_model.specs.Plain.{Tells, cat_of, file_at, listing_of, looked, read_of, reparse_of}
 use Rattle.tree_model.specs.Refusals.{Facts, outcome}
 use Rattle.tree_model.specs.Step.{due}
 use Rattle.tree_model.specs.Subjects.{Machine, content_named, is_directory, locate, stream_name}
@@ -134,3 +134,13 @@ module _ (facts : Facts) (tree : Tree) (now session : ℕ) (path : List (List �
       by : (r : Result Found No) → resolve tree path ≡ r → Follows (c.Read path stream from len) (read_of tree (stream_name stream) from len)
       by (Err refused) e = rw e refl
       by (Ok found) e = by_content found e _ refl _ refl _ refl
+
+-- what is wanted is told, and so is what equals it
+pub told : {A : Type 0} (want other : Result A No) (result : Result A No) → want ≡ other → Tells other result → Tells want result
+told want other (Ok x) same tells = same ∙ tells
+told want other (Err refused) same (inl tells) = inl (same ∙ tells)
+told want other (Err refused) same (inr memory) = inr memory
+
+pub told-same : {A : Type 0} (want result : Result A No) → result ≡ want → Tells want result
+told-same want (Ok x) same = sym same
+told-same want (Err refused) same = inl (sym same)

@@ -2,16 +2,17 @@
 ghost use Rattle.std.specs.Prelude.{◌≡◌, [], Some, find, map, option_map};
 ghost use Rattle.ntfs_def.specs.KeyOrder.{fold_of};
 ghost use Rattle.tree_model.specs.Answers.{is_object_id, link_count, listed, object_id, range_of, shown_stream};
-ghost use Rattle.tree_model.specs.Cases.{size_of};
-ghost use Rattle.tree_model.specs.Plain.{Tells, cat_of, file_at, has_name, lent, lent_bytes, lent_file, lent_listed, looked, stream_of, tree_of};
+ghost use Rattle.tree_model.specs.Cases.{is_wide, size_of};
+ghost use Rattle.tree_model.specs.Plain.{Answers, Tells, cat_of, file_at, is_answered, read_of, reparse_of, has_name, lent, lent_bytes, lent_file, lent_listed, looked, stream_of, tree_of};
 ghost use Rattle.std.specs.Option.{option_map_or};
 ghost use Rattle.tree_model.specs.Paths.{and_then};
 ghost use Rattle.tree_model.specs.declared.command.Command.TheVariants as c;
-ghost use Rattle.tree_model.specs.Subjects.{content_named, is_directory};
+ghost use Rattle.tree_model.specs.Subjects.{content_named, is_directory, stream_name};
 ghost use Rattle.tree_model.specs.Tree.{sought_stream};
 ghost use Rattle.tree_model.specs.declared.reply.No.TheVariants as no;
-ghost use Rattle.std.specs.Prelude.{IfOk, IfErr, Ok};
+ghost use Rattle.std.specs.Prelude.{IfOk, IfErr, IsTrue};
 
+use crate::command::Command;
 use crate::lists::{Path, ShownStreams};
 use crate::plain::PlainTree;
 use crate::reply::{Answer, No, ShownStream};
@@ -176,6 +177,124 @@ impl PlainTree {
             Err(refused) => Err(refused),
         }
     }
+}
+
+impl PlainTree {
+    fn read(&self, alloc: Global, path: &Path, stream: &[u16], at: u64, len: u64) -> Result<Answer, No>
+        ensures { Tells (and_then (file_at (tree_of self.now) path.now) (read_of (tree_of self.now) stream.now at len)) result }
+    {
+        let node = match self.file_at(path) {
+            Ok((_, node)) => node,
+            Err(refused) => return Err(refused),
+        };
+        let bytes = match self.stream_bytes(node, stream) {
+            Ok(bytes) => bytes,
+            Err(refused) => return Err(refused),
+        };
+        if is_wide(at, len) {
+            return Err(No::TooBig);
+        }
+        match copied(alloc, range(bytes, at, len)) {
+            Ok(bytes) => Ok(Answer::Data(bytes)),
+            Err(refused) => Err(refused),
+        }
+    }
+
+    fn streams(&self, alloc: Global, path: &Path) -> Result<Answer, No>
+        ensures { Tells (and_then (file_at (tree_of self.now) path.now) (looked (tree_of self.now) (c.Streams path.now))) result }
+    {
+        let node = match self.file_at(path) {
+            Ok((_, Some(node))) => node,
+            Ok((_, None)) => return Ok(Answer::Done),
+            Err(refused) => return Err(refused),
+        };
+        match shown_streams(alloc, node.streams.as_slice()) {
+            Ok(shown) => Ok(Answer::Streams(shown)),
+            Err(refused) => Err(refused),
+        }
+    }
+
+    fn objid(&self, alloc: Global, path: &Path) -> Result<Answer, No>
+        ensures { Tells (and_then (file_at (tree_of self.now) path.now) (looked (tree_of self.now) (c.Objid path.now))) result }
+    {
+        let node = match self.file_at(path) {
+            Ok((_, Some(node))) => node,
+            Ok((_, None)) => return Ok(Answer::Done),
+            Err(refused) => return Err(refused),
+        };
+        match copied(alloc, object_id(node)) {
+            Ok(bytes) => Ok(Answer::ObjectId(bytes)),
+            Err(refused) => Err(refused),
+        }
+    }
+
+    fn reparse(&self, alloc: Global, path: &Path) -> Result<Answer, No>
+        ensures { Tells (and_then (file_at (tree_of self.now) path.now) reparse_of) result }
+    {
+        let node = match self.file_at(path) {
+            Ok((_, Some(node))) => node,
+            Ok((_, None)) => return Err(No::NoReparse),
+            Err(refused) => return Err(refused),
+        };
+        let Some(point) = &node.point else {
+            return Err(No::NoReparse);
+        };
+        match copied(alloc, point.bytes.as_slice()) {
+            Ok(bytes) => Ok(Answer::Reparse { tag: point.tag, bytes }),
+            Err(refused) => Err(refused),
+        }
+    }
+
+    /// What a command that looks at one file is answered, or why it is refused, where no session has an open.
+    /// Condition: it is `stat`, `streams`, `attr`, `sec`, `objid`, `reparse`, `cat` or `read`.
+    ///
+    /// # Errors
+    ///
+    /// Those of walking the path, then `IsDir`, `NoStream`, `NoReparse`, `Packed` and `TooBig`, in this order; and
+    /// `Memory`.
+    pub fn answer(&self, alloc: Global, command: &Command) -> Result<Answer, No>
+        requires { IsTrue (is_answered command.now) }
+        ensures { Answers self.now command.now result }
+    {
+        match command {
+            Command::Stat { path } => self.stat(path),
+            Command::Streams { path } => self.streams(alloc, path),
+            Command::Attr { path } => self.attr(path),
+            Command::Sec { path } => self.sec(path),
+            Command::Objid { path } => self.objid(alloc, path),
+            Command::Reparse { path } => self.reparse(alloc, path),
+            Command::Cat { path, stream } => self.cat(alloc, path, stream_name(stream)),
+            Command::Read { path, stream, at, len } => self.read(alloc, path, stream_name(stream), *at, *len),
+            _ => unreachable!(),
+        }
+    }
+}
+
+// The unnamed stream has the empty name.
+fn stream_name(stream: &Option<Name>) -> &[u16]
+    ensures { result.now ≡ stream_name stream.now }
+{
+    match stream {
+        None => &[],
+        Some(name) => name.as_slice(),
+    }
+}
+
+// An end behind 2^40, or more than 32,768 bytes.
+fn is_wide(at: u64, len: u64) -> bool
+    ensures { result ≡ is_wide at len }
+{
+    len > 32_768 || at > (1 << 40) - len
+}
+
+// The bytes of the range that lie below the size.
+fn range(bytes: &[u8], at: u64, len: u64) -> &[u8]
+    ensures { result.now ≡ range_of at len bytes.now }
+{
+    let size = bytes.len() as u64;
+    let start = at.min(size);
+    let end = start + len.min(size - start);
+    &bytes[start as usize..end as usize]
 }
 
 // A node's streams, as `streams` shows them.

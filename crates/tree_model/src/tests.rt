@@ -145,3 +145,54 @@ fn a_large_directory(rt: HostRuntime) -> Result<(), Fail> {
     }
     Ok(())
 }
+
+// Bytes by the unnamed stream, a stream `s`, and a packed one, of a file `/a`; `/d` is a directory.
+fn streamed(alloc: Global) -> Result<PlainTree, Fail> {
+    let mut streams = Vec::new(alloc);
+    for (text, content) in [
+        ("", Content::Plain(Octets::from_vec(Vec::from_slice(alloc, b"hello")?))),
+        ("p", Content::Packed(70_000)),
+        ("s", Content::Plain(Octets::from_vec(Vec::new(alloc)))),
+    ] {
+        let name = if text.is_empty() { Name::from_vec(Vec::new(alloc)) } else { name(alloc, text)? };
+        streams.push(Stream { name, content })?;
+    }
+    let mut tree = tree(alloc)?;
+    let mut file = node(alloc, false, None);
+    file.flags = 0x20;
+    file.streams = Streams::from_vec(streams);
+    tree.nodes.push((40, file))?;
+    tree.links.push(link(alloc, 5, "a", 0, 40)?)?;
+    Ok(tree)
+}
+
+#[test]
+fn streams_are_shown(rt: HostRuntime) -> Result<(), Fail> {
+    let alloc = rt.alloc();
+    let tree = streamed(alloc)?;
+    let rows: [(&str, Option<&str>, Result<&[u8], No>); 8] = [
+        ("a", None, Ok(b"hello")),
+        ("A", Some("S"), Ok(b"")),
+        ("a", Some("p"), Err(No::Packed)),
+        ("a", Some("x"), Err(No::NoStream)),
+        ("d", None, Err(No::IsDir)),
+        ("d", Some("s"), Err(No::NoStream)),
+        ("x", None, Err(No::NotFound)),
+        ("$MFT", None, Err(No::Hidden)),
+    ];
+    for (text, stream, want) in rows {
+        let stream = match stream {
+            Some(text) => Some(name(alloc, text)?),
+            None => None,
+        };
+        let path = path(alloc, &[text])?;
+        let answer = tree.answer(alloc, &Command::Cat { path, stream });
+        let given = match &answer {
+            Ok(Answer::Data(bytes)) => Ok(bytes.as_slice()),
+            Ok(_) => Ok(b"another answer".as_slice()),
+            Err(refused) => Err(*refused),
+        };
+        assert_eq!(rt; given, want, "{text}");
+    }
+    Ok(())
+}
