@@ -72,12 +72,14 @@ module _ (facts : Facts) (tree : Tree) (now session : ℕ) (path : List (List �
   reparse-due = by (resolve tree path) refl
     where
       by_point : (found : Found) → resolve tree path ≡ Ok found → (node : Node) → node_of tree (found_file found) ≡ Some node
-        → (p : Option Point) → node.point ≡ p → Follows (c.Reparse path) reparse_of
+          → (p : Option Point) → node.point ≡ p → Follows (c.Reparse path) reparse_of
       by_point found e node n None p = rw (e, n, p) refl
       by_point found e node n (Some point) p = rw (e, n, p) refl
+
       by_node : (found : Found) → resolve tree path ≡ Ok found → (n : Option Node) → node_of tree (found_file found) ≡ n → Follows (c.Reparse path) reparse_of
       by_node found e None n = rw (e, n) refl
       by_node found e (Some node) n = by_point found e node n node.point refl
+
       by : (r : Result Found No) → resolve tree path ≡ r → Follows (c.Reparse path) reparse_of
       by (Err refused) e = rw e refl
       by (Ok found) e = by_node found e (node_of tree (found_file found)) refl
@@ -87,9 +89,10 @@ module _ (facts : Facts) (tree : Tree) (now session : ℕ) (path : List (List �
   ls-due = by (resolve tree path) refl
     where
       by_node : (found : Found) → resolve tree path ≡ Ok found → (b : Bool) → is_directory (node_of tree (found_file found)) ≡ b
-        → Follows (c.Ls path) (listing_of tree)
+          → Follows (c.Ls path) (listing_of tree)
       by_node found e true b = rw (e, b) refl
       by_node found e false b = rw (e, b) refl
+
       by : (r : Result Found No) → resolve tree path ≡ r → Follows (c.Ls path) (listing_of tree)
       by (Err refused) e = rw e refl
       by (Ok found) e = by_node found e (is_directory (node_of tree (found_file found))) refl
@@ -99,20 +102,22 @@ module _ (facts : Facts) (tree : Tree) (now session : ℕ) (path : List (List �
   cat-due stream = by (resolve tree path) refl
     where
       by_size : (found : Found) → resolve tree path ≡ Ok found
-        → ((length (stream_name stream) == 0) && is_directory (node_of tree (found_file found))) ≡ false
-        → (bytes : List ℕ) → content_named tree (stream_name stream) (node_of tree (found_file found)) ≡ Some (Plain bytes)
-        → (t : Bool) → nat_lt 65536 (length bytes) ≡ t
-        → Follows (c.Cat path stream) (cat_of tree (stream_name stream))
+          → ((length (stream_name stream) == 0) && is_directory (node_of tree (found_file found))) ≡ false
+          → (bytes : List ℕ) → content_named tree (stream_name stream) (node_of tree (found_file found)) ≡ Some (Plain bytes)
+          → (t : Bool) → nat_lt 65536 (length bytes) ≡ t
+          → Follows (c.Cat path stream) (cat_of tree (stream_name stream))
       by_size found e b bytes o true t = rw (e, b, o, t) refl
       by_size found e b bytes o false t = rw (e, b, o, t) refl
+
       by_content : (found : Found) → resolve tree path ≡ Ok found
-        → (b : Bool) → ((length (stream_name stream) == 0) && is_directory (node_of tree (found_file found))) ≡ b
-        → (o : Option Content) → content_named tree (stream_name stream) (node_of tree (found_file found)) ≡ o
-        → Follows (c.Cat path stream) (cat_of tree (stream_name stream))
+          → (b : Bool) → ((length (stream_name stream) == 0) && is_directory (node_of tree (found_file found))) ≡ b
+          → (o : Option Content) → content_named tree (stream_name stream) (node_of tree (found_file found)) ≡ o
+          → Follows (c.Cat path stream) (cat_of tree (stream_name stream))
       by_content found e true b o p = rw (e, b) refl
       by_content found e false b None o = rw (e, b, o) refl
       by_content found e false b (Some (Packed size)) o = rw (e, b, o) refl
       by_content found e false b (Some (Plain bytes)) o = by_size found e b bytes o (nat_lt 65536 (length bytes)) refl
+
       by : (r : Result Found No) → resolve tree path ≡ r → Follows (c.Cat path stream) (cat_of tree (stream_name stream))
       by (Err refused) e = rw e refl
       by (Ok found) e = by_content found e _ refl _ refl
@@ -122,15 +127,16 @@ module _ (facts : Facts) (tree : Tree) (now session : ℕ) (path : List (List �
   read-due stream from len = by (resolve tree path) refl
     where
       by_content : (found : Found) → resolve tree path ≡ Ok found
-        → (b : Bool) → ((length (stream_name stream) == 0) && is_directory (node_of tree (found_file found))) ≡ b
-        → (o : Option Content) → content_named tree (stream_name stream) (node_of tree (found_file found)) ≡ o
-        → (t : Bool) → is_wide from len ≡ t
-        → Follows (c.Read path stream from len) (read_of tree (stream_name stream) from len)
+          → (b : Bool) → ((length (stream_name stream) == 0) && is_directory (node_of tree (found_file found))) ≡ b
+          → (o : Option Content) → content_named tree (stream_name stream) (node_of tree (found_file found)) ≡ o
+          → (t : Bool) → is_wide from len ≡ t
+          → Follows (c.Read path stream from len) (read_of tree (stream_name stream) from len)
       by_content found e true b o p t w = rw (e, b) refl
       by_content found e false b None o t w = rw (e, b, o) refl
       by_content found e false b (Some (Packed size)) o t w = rw (e, b, o) refl
       by_content found e false b (Some (Plain bytes)) o true w = rw (e, b, o, w) refl
       by_content found e false b (Some (Plain bytes)) o false w = rw (e, b, o, w) refl
+
       by : (r : Result Found No) → resolve tree path ≡ r → Follows (c.Read path stream from len) (read_of tree (stream_name stream) from len)
       by (Err refused) e = rw e refl
       by (Ok found) e = by_content found e _ refl _ refl _ refl

@@ -50,7 +50,11 @@ impl PlainTree {
     pub(crate) fn has_name(&self, name: &[u16], wanted: &[u16], exact: bool) -> bool
         ensures { result ≡ has_name (fold_of self.now.case) exact name.now wanted.now }
     {
-        if exact { name == wanted } else { self.case.same(name, wanted) }
+        if exact {
+            name == wanted
+        } else {
+            self.case.same(name, wanted)
+        }
     }
 
     // The first in order of `best` and of those links that have this name in the directory.

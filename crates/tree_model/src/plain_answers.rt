@@ -35,8 +35,9 @@ impl PlainTree {
         Ok((file, self.node(file)))
     }
 
-    // What `ls` lists of a link: whether it is a directory, by its name. DOS names and hidden links are not listed.
-    fn listed<'t>(&self, link: &'t Link) -> Option<(bool, &'t Link)>
+    /// What `ls` lists of a link: whether it leads to a directory, and the link, whose name is shown. DOS names and hidden
+    /// links are not listed.
+    pub fn listed<'t>(&self, link: &'t Link) -> Option<(bool, &'t Link)>
         ensures { lent_listed result ≡ listed (tree_of self.now) link.now }
     {
         if link.space == 2 {
@@ -47,7 +48,12 @@ impl PlainTree {
     }
 
     // The first of some streams that has this name.
-    fn first_stream<'t>(&self, streams: &'t [Stream], name: &[u16], exact: bool) -> Option<&'t Stream>
+    fn first_stream<'t>(
+        &self,
+        streams: &'t [Stream],
+        name: &[u16],
+        exact: bool,
+    ) -> Option<&'t Stream>
         ensures { lent result ≡ find (λ stream. has_name (fold_of self.now.case) exact stream.name name.now) streams.now }
     {
         'streams: for stream in streams {
@@ -180,7 +186,14 @@ impl PlainTree {
 }
 
 impl PlainTree {
-    fn read(&self, alloc: Global, path: &Path, stream: &[u16], at: u64, len: u64) -> Result<Answer, No>
+    fn read(
+        &self,
+        alloc: Global,
+        path: &Path,
+        stream: &[u16],
+        at: u64,
+        len: u64,
+    ) -> Result<Answer, No>
         ensures { Tells (and_then (file_at (tree_of self.now) path.now) (read_of (tree_of self.now) stream.now at len)) result }
     {
         let node = match self.file_at(path) {
@@ -240,7 +253,10 @@ impl PlainTree {
             return Err(No::NoReparse);
         };
         match copied(alloc, point.bytes.as_slice()) {
-            Ok(bytes) => Ok(Answer::Reparse { tag: point.tag, bytes }),
+            Ok(bytes) => Ok(Answer::Reparse {
+                tag: point.tag,
+                bytes,
+            }),
             Err(refused) => Err(refused),
         }
     }
@@ -264,7 +280,12 @@ impl PlainTree {
             Command::Objid { path } => self.objid(alloc, path),
             Command::Reparse { path } => self.reparse(alloc, path),
             Command::Cat { path, stream } => self.cat(alloc, path, stream_name(stream)),
-            Command::Read { path, stream, at, len } => self.read(alloc, path, stream_name(stream), *at, *len),
+            Command::Read {
+                path,
+                stream,
+                at,
+                len,
+            } => self.read(alloc, path, stream_name(stream), *at, *len),
             _ => unreachable!(),
         }
     }

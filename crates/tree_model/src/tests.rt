@@ -150,11 +150,18 @@ fn a_large_directory(rt: HostRuntime) -> Result<(), Fail> {
 fn streamed(alloc: Global) -> Result<PlainTree, Fail> {
     let mut streams = Vec::new(alloc);
     for (text, content) in [
-        ("", Content::Plain(Octets::from_vec(Vec::from_slice(alloc, b"hello")?))),
+        (
+            "",
+            Content::Plain(Octets::from_vec(Vec::from_slice(alloc, b"hello")?)),
+        ),
         ("p", Content::Packed(70_000)),
         ("s", Content::Plain(Octets::from_vec(Vec::new(alloc)))),
     ] {
-        let name = if text.is_empty() { Name::from_vec(Vec::new(alloc)) } else { name(alloc, text)? };
+        let name = if text.is_empty() {
+            Name::from_vec(Vec::new(alloc))
+        } else {
+            name(alloc, text)?
+        };
         streams.push(Stream { name, content })?;
     }
     let mut tree = tree(alloc)?;

@@ -11,5 +11,5 @@ unfolding tree_of
 returns-in-Some c =
     c.held.ensures
     ∙ ap (option_map (λ (stream : Stream). stream.content))
-      (c.stream.ensures ∙ ap (λ streams. sought_stream (fold_of c.args.self.now.case) streams c.args.name.now) c.as_slice.ensures)
+    (c.stream.ensures ∙ ap (λ streams. sought_stream (fold_of c.args.self.now.case) streams c.args.name.now) c.as_slice.ensures)
     ∙ ap (λ node. content_named (tree_of c.args.self.now) c.args.name.now (lent node)) (sym c.in-Some.is)

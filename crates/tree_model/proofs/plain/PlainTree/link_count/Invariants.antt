@@ -7,5 +7,5 @@ use Rattle.tree_model.proofs.plain.PlainTree.link_count.Given as goal
 abbrev pub invariant-links : goal.invariant-links
 invariant-links l =
     (l.count + count_by (λ link. leads_to l.file link && not (is_dos link)) (drop l.link-index l.self.links.items)
-      ≡ link_count (tree_of l.self) l.file)
+    ≡ link_count (tree_of l.self) l.file)
     × (l.count ≤ l.link-index)
