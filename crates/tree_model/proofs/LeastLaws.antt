@@ -1,5 +1,5 @@
 -- The least item of a list is what stands first when the list is in order.
-use Rattle.std.proofs.Common.{◌≡◌, ℕ, List, [], ◌∷◌, ◌++◌, ◌&&◌, Bool, true, false, Option, Some, None, filter, find, refl, sym, ap, subst, ◌∙◌, if◌then◌else◌}
+use Rattle.std.proofs.Common.{◌≡◌, List, [], ◌∷◌, ◌++◌, ◌&&◌, Bool, true, false, Option, Some, None, filter, find, refl, sym, ap, ◌∙◌, if◌then◌else◌}
 use Rattle.tree_model.specs.Ordered.{IsOrder, in_order, put_in_order}
 use Rattle.tree_model.specs.Plain.{least}
 

@@ -1,18 +1,16 @@
 -- What is due for commands that read, where no session has an open: it follows what their path leads to.
-use Rattle.std.proofs.Common.{◌≡◌, ◌⊎◌, ◌==◌, ◌&&◌, inl, inr, ℕ, Bool, true, false, List, [], length, nat_lt, Option, Some, None, Result, Ok, Err, option_map, is_some, refl, sym, ap, ◌∙◌, if◌then◌else◌}
-use Rattle.std.specs.Option.{option_map_or}
-use Rattle.tree_model.specs.Answers.{answer_of, listing, node_answer, point_answer, range_of}
+use Rattle.std.proofs.Common.{◌≡◌, ◌==◌, ◌&&◌, inl, inr, ℕ, Bool, true, false, List, [], length, nat_lt, Option, Some, None, Result, Ok, Err, refl, sym, ◌∙◌}
+use Rattle.tree_model.specs.Answers.{answer_of}
 use Rattle.tree_model.specs.Cases.{is_wide}
 use Rattle.tree_model.specs.Paths.{and_then, found_file, resolve}
 use Rattle.tree_model.specs.Plain.{Tells, cat_of, file_at, listing_of, looked, read_of, reparse_of}
 use Rattle.tree_model.specs.Refusals.{Facts, outcome}
 use Rattle.tree_model.specs.Step.{due}
-use Rattle.tree_model.specs.Subjects.{Machine, content_named, is_directory, locate, stream_name}
+use Rattle.tree_model.specs.Subjects.{content_named, is_directory, locate, stream_name}
 use Rattle.tree_model.specs.Tree.{Tree, node_of}
 use Rattle.tree_model.specs.declared.command.Command.{Command}
 use Rattle.tree_model.specs.declared.command.Command.TheVariants as c
 use Rattle.tree_model.specs.declared.reply.Answer.{Answer}
-use Rattle.tree_model.specs.declared.reply.Answer.TheVariants as a
 use Rattle.tree_model.specs.declared.reply.No.{No}
 use Rattle.tree_model.specs.declared.tree.Content.{Content}
 use Rattle.tree_model.specs.declared.tree.Content.TheVariants.{Packed, Plain}

@@ -1,6 +1,5 @@
 -- Lists in order: what a list in order is does not depend on the order in which its items came.
-use Rattle.std.proofs.Common.{◌≡◌, ℕ, List, [], ◌∷◌, ◌++◌, filter, not, Bool, true, false, refl, sym, ap, subst, ◌∙◌, append-nil, arith, if◌then◌else◌}
-use Rattle.std.proofs.lemmas.Grind.{common_steps}
+use Rattle.std.proofs.Common.{◌≡◌, List, [], ◌∷◌, ◌++◌, filter, not, Bool, true, false, refl, sym, ap, subst, ◌∙◌, append-nil}
 use Rattle.tree_model.specs.Ordered.{put_in_order, in_order, IsOrder}
 
 module _ {A : Type 0} {above : A → A → Bool} (o : IsOrder above) where

@@ -7,7 +7,6 @@ use Rattle.tree_model.specs.Plain.{lent_found}
 use Rattle.tree_model.specs.Tree.{Tree}
 use Rattle.tree_model.specs.declared.tree.Link.{Link}
 use Rattle.tree_model.specs.declared.reply.No.{No}
-use Rattle.tree_model.specs.declared.tree.Found.{Found}
 use Rattle.tree_model.specs.declared.tree.Found.TheVariants as found
 
 pub resolve-root : (tree : Tree) (path : List (List ℕ)) → length path ≡ 0 → resolve tree path ≡ Ok found.Root

@@ -1,22 +1,21 @@
 -- What the tree of a volume has at each number, and in each directory.
-use Rattle.std.proofs.Common.{◌≡◌, ◌⊎◌, ◌≢◌, ◌<◌, ◌≤◌, ◌+◌, ◌==◌, ◌++◌, eqb, ltb, nat_lt, not, Bool, ℕ, zero, suc, true, false, cond, List, [], ◌∷◌, map, filter, Option, Some, None, refl, sym, ap, subst, inl, inr, ◌∙◌, arith, if◌then◌else◌}
+use Rattle.std.proofs.Common.{◌≡◌, ◌⊎◌, ◌≢◌, ◌<◌, ◌≤◌, ◌+◌, ◌++◌, eqb, Bool, ℕ, zero, suc, true, false, cond, List, ◌∷◌, filter, Option, Some, None, refl, sym, ap, subst, inl, inr, ◌∙◌, arith}
 use Rattle.std.proofs.lemmas.Bool.{cases_eq, cases_lt, eq-eqb, ne_eqb, lt-ltb, le-ltb}
 use Rattle.std.specs.List.{filter_map, range_with_len, cons_option}
-use Rattle.std.specs.Prelude.{option_map, option_and_then}
+use Rattle.std.specs.Prelude.{option_map}
 use Rattle.std.specs.FinMap as finmap
 use Rattle.std.specs.FinMap.Entries.{find}
 use Rattle.std.specs.Cmp.{nat_cmp_total}
 use Rattle.std.specs.Ordering.{nat_cmp, eq_by_cmp}
 use Rattle.volume_def.specs.CaseClause.{volume_fold}
-use Rattle.volume_def.specs.Files.{record_on}
 use Rattle.volume_def.specs.View.{VolumeView}
 use Rattle.tree_model.specs.Ordered.{in_order, put_in_order}
 use Rattle.tree_model.proofs.OrderedLaws.{both_ordered, moved}
 use Rattle.tree_model.specs.declared.tree.Node.{Node}
 use Rattle.tree_model.specs.declared.tree.Link.{Link}
-use Rattle.tree_model.specs.Tree.{Tree, is_in, link_above, node_of, sought_link}
+use Rattle.tree_model.specs.Tree.{is_in, link_above, node_of, sought_link}
 use Rattle.tree_model.specs.Paths.{children, lookup}
-use Rattle.tree_model.specs.Reading.{all_links, directory_links, is_hidden_link, links_that, node_at, node_on, nodes_of, read}
+use Rattle.tree_model.specs.Reading.{all_links, directory_links, is_hidden_link, node_at, nodes_of, read}
 use Rattle.tree_model.proofs.LinkOrder.{link_order}
 
 -- numbers as keys

@@ -1,9 +1,8 @@
 -- A step has one reply, want of memory and Overflow aside; and an image has one reading.
-use Rattle.std.proofs.Common.{◌≡◌, ◌⊎◌, ℕ, List, ◌/◌, length, sym, ap, subst, refl, inl, inr, ◌∙◌, Some}
+use Rattle.std.proofs.Common.{◌≡◌, ◌⊎◌, ℕ, List, sym, ap, subst, inl, inr, ◌∙◌, Some}
 use Rattle.vol_disk.specs.Contents.{sector_in}
 use Rattle.ntfs_def.specs.Boot.{boot_sector}
 use Rattle.volume_def.specs.Sound.{told_view}
-use Rattle.volume_def.specs.Table.{TableLayout}
 use Rattle.volume_def.specs.View.{VolumeView}
 use Rattle.volume_def.proofs.OneTable.{layout-exact}
 use Rattle.tree_model.specs.Facts.{IsVolumeOf, ReadsAs}

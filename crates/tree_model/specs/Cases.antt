@@ -1,11 +1,11 @@
 -- When each refusal's case holds, but for those that come of finding what the words lead to. A definition a refusal.
 use Rattle.std.specs.Prelude.{ℕ, zero, suc, ◌+◌, ◌^◌, ◌/◌, ◌%◌, ◌==◌, ◌&&◌, ◌||◌, not, nat_lt, nat_le, Bool, true, false}
-use Rattle.std.specs.Prelude.{if◌then◌else◌, List, [], ◌∷◌, codes, count_by, find, length, Option, Some, None, is_some, option_map}
+use Rattle.std.specs.Prelude.{if◌then◌else◌, List, [], ◌∷◌, codes, count_by, find, length, Option, Some, is_some, option_map}
 use Rattle.std.specs.List.{list_any}
 use Rattle.std.specs.Option.{option_map_or}
 use Rattle.tree_model.specs.Drops.{goes_with, is_last_link}
 use Rattle.tree_model.specs.Opens.{all_access, are_compatible, to_delete, to_read, to_write}
-use Rattle.tree_model.specs.Subjects.{DirectoryLinkAt, LinkAt, LinkAtAndNew, Located, Machine, NameIn, NewAt, NewName, NoName, RootPath}
+use Rattle.tree_model.specs.Subjects.{DirectoryLinkAt, LinkAt, LinkAtAndNew, Located, Machine, NameIn, NewName, NoName, RootPath}
 use Rattle.tree_model.specs.Subjects.{StreamAt, Subject, Through, WhatIsAtAndNew, is_directory}
 use Rattle.tree_model.specs.Tree.{Tree, are_same, is_dos, leads_to, links_in}
 use Rattle.tree_model.specs.declared.command.Command.{Command}

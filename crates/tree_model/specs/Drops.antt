@@ -1,6 +1,6 @@
 -- Which links go when one is dropped, and when the file goes with them.
 -- Source: Linux-NTFS documentation, attribute $FILE_NAME: a long name (namespace 1) has a DOS name (2) beside it.
-use Rattle.std.specs.Prelude.{ℕ, ◌==◌, ◌&&◌, ◌||◌, not, Bool, false, Option}
+use Rattle.std.specs.Prelude.{◌==◌, ◌&&◌, ◌||◌, not, Bool, false, Option}
 use Rattle.std.specs.List.{list_any}
 use Rattle.std.specs.Option.{option_map_or}
 use Rattle.std.specs.Str.{bytes_eq}

@@ -2,7 +2,7 @@
 -- Layout: Linux-NTFS documentation, attributes $STANDARD_INFORMATION, $FILE_NAME, $DATA, $REPARSE_POINT and $OBJECT_ID; Carrier,
 -- File System Forensic Analysis, chapters 11 to 13.
 use Rattle.std.specs.Prelude.{ℕ, ◌-◌, ◌/◌, ◌%◌, ◌^◌, ◌==◌, ◌&&◌, ◌||◌, not, nat_lt, Bool, List, [], ◌∷◌, ◌++◌, bit_and, codes, drop, filter, find}
-use Rattle.std.specs.Prelude.{false, length, map, replicate, take, Option, Some, None, is_some, option_and_then, option_map, unwrap_or, if◌then◌else◌}
+use Rattle.std.specs.Prelude.{false, length, map, replicate, take, Option, Some, None, option_and_then, option_map, unwrap_or, if◌then◌else◌}
 use Rattle.std.specs.FinMap as finmap
 use Rattle.std.specs.List.{filter_map, range_with_len}
 use Rattle.std.specs.Option.{option_map_or}

@@ -1,5 +1,5 @@
 -- What is not built yet. This file, and the places in `Refusals` and `Step` that name it, go out once all is built.
-use Rattle.std.specs.Prelude.{ℕ, ◌==◌, ◌&&◌, ◌||◌, Bool, true, false, Option}
+use Rattle.std.specs.Prelude.{◌==◌, ◌&&◌, ◌||◌, Bool, true, false}
 use Rattle.std.specs.List.{list_any}
 use Rattle.std.specs.Option.{option_map_or}
 use Rattle.ntfs_def.specs.declared.kinds.TheConstants.{OBJECT_ID}

@@ -1,11 +1,10 @@
 -- What commands make of the bytes of a stream, and of the streams of a file.
-use Rattle.std.specs.Prelude.{ℕ, ◌+◌, ◌-◌, Bool, List, ◌∷◌, [], ◌++◌, drop, filter, length, map, not, replicate, take, Option, Some, None, if◌then◌else◌}
+use Rattle.std.specs.Prelude.{ℕ, ◌+◌, ◌-◌, Bool, List, ◌++◌, drop, filter, length, map, not, replicate, take, Option, Some, None, if◌then◌else◌}
 use Rattle.std.specs.Ordering.{is_gt}
 use Rattle.std.specs.Str.{bytes_eq}
 use Rattle.ntfs_def.specs.KeyOrder.{compare_units}
 use Rattle.tree_model.specs.Ordered.{put_in_order}
 use Rattle.tree_model.specs.Tree.{sought_stream}
-use Rattle.tree_model.specs.declared.tree.Content.{Content}
 use Rattle.tree_model.specs.declared.tree.Content.TheVariants.{Plain}
 use Rattle.tree_model.specs.declared.tree.Node.{Node}
 use Rattle.tree_model.specs.declared.tree.Stream.{Stream}

@@ -1,8 +1,7 @@
-use Rattle.std.proofs.Common.{ap, filter, ◌∙◌}
 use Rattle.ntfs_def.specs.KeyOrder.{fold_of}
 use Rattle.tree_model.specs.Paths.{children}
-use Rattle.tree_model.specs.Plain.{has_name, is_named, least, tree_of}
-use Rattle.tree_model.specs.Tree.{is_in, link_above}
+use Rattle.tree_model.specs.Plain.{has_name, is_named, tree_of}
+use Rattle.tree_model.specs.Tree.{is_in}
 use Rattle.tree_model.proofs.LeastLaws.{least-both}
 use Rattle.tree_model.proofs.LinkOrder.{link_order}
 use Rattle.tree_model.proofs.plain.PlainTree.first_named.Goals as goal
