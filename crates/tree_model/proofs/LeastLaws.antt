@@ -1,5 +1,6 @@
 -- The least item of a list is what stands first when the list is in order.
-use Rattle.std.proofs.Common.{◌≡◌, List, [], ◌∷◌, ◌++◌, ◌&&◌, Bool, true, false, Option, Some, None, filter, find, refl, sym, ap, ◌∙◌, if◌then◌else◌}
+use Rattle.std.proofs.Common.{◌≡◌, List, [], ◌∷◌, ◌++◌, ◌&&◌, Bool, true, false, Option, Some, None, filter, find, refl, sym, ap, ◌∙◌}
+use Rattle.std.proofs.Common.{if◌then◌else◌}
 use Rattle.tree_model.specs.Ordered.{IsOrder, in_order, put_in_order}
 use Rattle.tree_model.specs.Plain.{least}
 
@@ -101,7 +102,8 @@ module _ {A : Type 0} {above : A → A → Bool} (o : IsOrder above) where
           by false true s t = rw (s, t, s) refl
           by false false s t = let xz = chain x y z t s in rw (s, t, xz) refl
 
-  least-kept : (p : A → Bool) (x : A) (xs : List A) → found_with (p x) x (least above None (filter p xs)) ≡ least above None (filter p (x ∷ xs))
+  least-kept : (p : A → Bool) (x : A) (xs : List A)
+      → found_with (p x) x (least above None (filter p xs)) ≡ least above None (filter p (x ∷ xs))
   least-kept p x xs = by (p x) refl
     where
       by : (s : Bool) → p x ≡ s → found_with (p x) x (least above None (filter p xs)) ≡ least above None (filter p (x ∷ xs))
@@ -137,7 +139,8 @@ module _ {A : Type 0} {above : A → A → Bool} (o : IsOrder above) where
       by ih false t s e = rw s ih
 
   pub least-both : (a p : A → Bool) (xs ys : List A)
-      → least above (least above None (filter (λ x. a x && p x) xs)) (filter (λ x. a x && p x) ys) ≡ find p (in_order above (filter a (xs ++ ys)))
+      → least above (least above None (filter (λ x. a x && p x) xs)) (filter (λ x. a x && p x) ys)
+          ≡ find p (in_order above (filter a (xs ++ ys)))
   least-both a p xs ys =
       least-append above None (filter (λ x. a x && p x) xs) (filter (λ x. a x && p x) ys)
       ∙ ap (least above None) (both a p xs ys)

@@ -28,7 +28,8 @@ order {A = A} cmp o same = record {
     tie Equal s e h k = refl
     tie Greater s e h k = cc
 
-    between : (x y z : A) (r s t : Ordering) → cmp x z ≡ r → cmp y z ≡ s → cmp x y ≡ t → is_gt r ≡ true → is_gt s ≡ false → is_gt (cmp x y) ≡ true
+    between : (x y z : A) (r s t : Ordering) → cmp x z ≡ r → cmp y z ≡ s → cmp x y ≡ t → is_gt r ≡ true → is_gt s ≡ false
+        → is_gt (cmp x y) ≡ true
     between x y z r s Greater xz yz xy h k = ap is_gt xy
     between x y z r s Equal xz yz xy h k = let e = o.congr x y z xy in let f = ap is_gt (sym xz ∙ e ∙ yz) in cc
     between x y z r Less Less xz yz xy h k = let e = o.trans x y z xy yz in let f = ap is_gt (sym xz ∙ e) in cc

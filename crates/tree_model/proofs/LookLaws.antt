@@ -1,5 +1,6 @@
 -- What is due for commands that read, where no session has an open: it follows what their path leads to.
-use Rattle.std.proofs.Common.{◌≡◌, ◌==◌, ◌&&◌, inl, inr, ℕ, Bool, true, false, List, [], length, nat_lt, Option, Some, None, Result, Ok, Err, refl, sym, ◌∙◌}
+use Rattle.std.proofs.Common.{◌≡◌, ◌==◌, ◌&&◌, inl, inr, ℕ, Bool, true, false, List, [], length, nat_lt, Option, Some, None, Result, Ok}
+use Rattle.std.proofs.Common.{Err, refl, sym, ◌∙◌}
 use Rattle.tree_model.specs.Answers.{answer_of}
 use Rattle.tree_model.specs.Cases.{is_wide}
 use Rattle.tree_model.specs.Paths.{and_then, found_file, resolve}
@@ -74,7 +75,8 @@ module _ (facts : Facts) (tree : Tree) (now session : ℕ) (path : List (List �
       by_point found e node n None p = rw (e, n, p) refl
       by_point found e node n (Some point) p = rw (e, n, p) refl
 
-      by_node : (found : Found) → resolve tree path ≡ Ok found → (n : Option Node) → node_of tree (found_file found) ≡ n → Follows (c.Reparse path) reparse_of
+      by_node : (found : Found) → resolve tree path ≡ Ok found → (n : Option Node) → node_of tree (found_file found) ≡ n
+          → Follows (c.Reparse path) reparse_of
       by_node found e None n = rw (e, n) refl
       by_node found e (Some node) n = by_point found e node n node.point refl
 
@@ -120,7 +122,8 @@ module _ (facts : Facts) (tree : Tree) (now session : ℕ) (path : List (List �
       by (Err refused) e = rw e refl
       by (Ok found) e = by_content found e _ refl _ refl
 
-  pub read-due : (stream : Option (List ℕ)) (from len : ℕ) → Follows (c.Read path stream from len) (read_of tree (stream_name stream) from len)
+  pub read-due : (stream : Option (List ℕ)) (from len : ℕ)
+      → Follows (c.Read path stream from len) (read_of tree (stream_name stream) from len)
   unfolding due outcome locate answer_of
   read-due stream from len = by (resolve tree path) refl
     where
@@ -135,7 +138,8 @@ module _ (facts : Facts) (tree : Tree) (now session : ℕ) (path : List (List �
       by_content found e false b (Some (Plain bytes)) o true w = rw (e, b, o, w) refl
       by_content found e false b (Some (Plain bytes)) o false w = rw (e, b, o, w) refl
 
-      by : (r : Result Found No) → resolve tree path ≡ r → Follows (c.Read path stream from len) (read_of tree (stream_name stream) from len)
+      by : (r : Result Found No) → resolve tree path ≡ r
+          → Follows (c.Read path stream from len) (read_of tree (stream_name stream) from len)
       by (Err refused) e = rw e refl
       by (Ok found) e = by_content found e _ refl _ refl _ refl
 

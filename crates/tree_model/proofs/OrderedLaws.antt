@@ -14,7 +14,8 @@ module _ {A : Type 0} {above : A → A → Bool} (o : IsOrder above) where
       by false false xy yx = let e = o.same x y xy yx in rw e refl
   put-put x y (z ∷ zs) = by (put-put x y zs) (above x z) (above y z) (above x y) (above y x) refl refl refl refl
     where
-      by : put_in_order above x (put_in_order above y zs) ≡ put_in_order above y (put_in_order above x zs) → (s t u v : Bool) → above x z ≡ s → above y z ≡ t → above x y ≡ u → above y x ≡ v
+      by : put_in_order above x (put_in_order above y zs) ≡ put_in_order above y (put_in_order above x zs) → (s t u v : Bool)
+          → above x z ≡ s → above y z ≡ t → above x y ≡ u → above y x ≡ v
           → put_in_order above x (put_in_order above y (z ∷ zs)) ≡ put_in_order above y (put_in_order above x (z ∷ zs))
       by ih true true u v xz yz xy yx = rw (xz, yz, xz) (ap (λ l. z ∷ l) ih)
       by ih true false u v xz yz xy yx =
@@ -23,7 +24,8 @@ module _ {A : Type 0} {above : A → A → Bool} (o : IsOrder above) where
           let g = o.between y x z yz xz in rw (xz, yz, g, xz) refl
       by ih false false true v xz yz xy yx = let n = o.one_way x y xy in rw (xz, yz, xy, n, xz) refl
       by ih false false false true xz yz xy yx = rw (xz, yz, xy, yx) refl
-      by ih false false false false xz yz xy yx = subst (λ w. put_in_order above x (put_in_order above w (z ∷ zs)) ≡ put_in_order above w (put_in_order above x (z ∷ zs))) (o.same x y xy yx) refl
+      by ih false false false false xz yz xy yx = subst (λ w. put_in_order above x (put_in_order above w (z ∷ zs))
+          ≡ put_in_order above w (put_in_order above x (z ∷ zs))) (o.same x y xy yx) refl
 
   -- Of the items that pass a test, in order.
   abbrev kept : (A → Bool) → List A → List A
@@ -76,7 +78,8 @@ module _ {A : Type 0} {above : A → A → Bool} (o : IsOrder above) where
     where
       by : kept p (filter (λ x. not (q x)) xs ++ filter q xs) ≡ kept p xs → (s : Bool) → q x ≡ s
           → kept p (filter (λ x. not (q x)) (x ∷ xs) ++ filter q (x ∷ xs)) ≡ kept p (x ∷ xs)
-      by ih true s = rw s (moved p (filter (λ x. not (q x)) xs) x (filter q xs) ∙ front p x (filter (λ x. not (q x)) xs ++ filter q xs) xs ih)
+      by ih true s = rw s (moved p (filter (λ x. not (q x)) xs) x (filter q xs)
+          ∙ front p x (filter (λ x. not (q x)) xs ++ filter q xs) xs ih)
       by ih false s = rw s (front p x (filter (λ x. not (q x)) xs ++ filter q xs) xs ih)
 
   pub both_ordered : (p q : A → Bool) (xs : List A)

@@ -26,6 +26,7 @@ unfolding resolve
 resolve-goes tree path name names place is goes =
     ap (resolve tree) is ∙ ap (λ at. and_then at (λ place. reached tree (lookup tree place.directory place.name))) goes
 
-pub lent-error : (result : Result (Option (Bor Link)) No) (refused : No) → IsErrAnd result (λ e. e ≡ refused) → lent_found result ≡ Err refused
+pub lent-error : (result : Result (Option (Bor Link)) No) (refused : No) → IsErrAnd result (λ e. e ≡ refused)
+    → lent_found result ≡ Err refused
 lent-error (Ok link) refused h = absurd h
 lent-error (Err other) refused h = ap Err h

@@ -1,5 +1,6 @@
 -- What the tree of a volume has at each number, and in each directory.
-use Rattle.std.proofs.Common.{◌≡◌, ◌⊎◌, ◌≢◌, ◌<◌, ◌≤◌, ◌+◌, ◌++◌, eqb, Bool, ℕ, zero, suc, true, false, cond, List, ◌∷◌, filter, Option, Some, None, refl, sym, ap, subst, inl, inr, ◌∙◌, arith}
+use Rattle.std.proofs.Common.{◌≡◌, ◌⊎◌, ◌≢◌, ◌<◌, ◌≤◌, ◌+◌, ◌++◌, eqb, Bool, ℕ, zero, suc, true, false, cond, List, ◌∷◌, filter, Option}
+use Rattle.std.proofs.Common.{Some, None, refl, sym, ap, subst, inl, inr, ◌∙◌, arith}
 use Rattle.std.proofs.lemmas.Bool.{cases_eq, cases_lt, eq-eqb, ne_eqb, lt-ltb, le-ltb}
 use Rattle.std.specs.List.{filter_map, range_with_len, cons_option}
 use Rattle.std.specs.Prelude.{option_map}
@@ -29,7 +30,8 @@ key_other q f ne = elim (cases_lt q f) [
 ]
 
 key_is : (q f : ℕ) → eq_by_cmp nat_cmp q f ≡ eqb q f
-key_is q f = elim (cases_eq q f) [ inl e ↦ subst (λ x. eq_by_cmp nat_cmp q x ≡ eqb q x) e (key_same q ∙ sym (eq-eqb q q refl)) | inr ne ↦ key_other q f ne ∙ sym (ne_eqb q f ne) ]
+key_is q f = elim (cases_eq q f) [ inl e ↦ subst (λ x. eq_by_cmp nat_cmp q x ≡ eqb q x) e (key_same q
+    ∙ sym (eq-eqb q q refl)) | inr ne ↦ key_other q f ne ∙ sym (ne_eqb q f ne) ]
 
 -- the first of the entries
 abbrev entry_of : ℕ → Option Node → Option (ℕ × Node)
@@ -44,16 +46,19 @@ find_here q None es e = e
 find_here q (Some node) es e = ap (λ b. cond b (Some node) (find nat_cmp q es)) (key_same q)
 
 -- what is found among the entries of a range
-find_out : (g : ℕ → Option Node) (from n q : ℕ) → (q < from) ⊎ (from + n ≤ q) → find nat_cmp q (filter_map (λ f. entry_of f (g f)) (range_with_len from n)) ≡ None
+find_out : (g : ℕ → Option Node) (from n q : ℕ) → (q < from) ⊎ (from + n ≤ q)
+    → find nat_cmp q (filter_map (λ f. entry_of f (g f)) (range_with_len from n)) ≡ None
 find_out g from zero q h = refl
 find_out g from (suc n) q h =
     find_other q from (g from) _ (λ e. elim h [ inl lt ↦ absurd (omega arith) | inr ge ↦ absurd (omega arith) ])
     ∙ find_out g (from + 1) n q (elim h [ inl lt ↦ inl (omega arith) | inr ge ↦ inr (omega arith) ])
 
-find_in : (g : ℕ → Option Node) (from n q : ℕ) → from ≤ q → q < from + n → find nat_cmp q (filter_map (λ f. entry_of f (g f)) (range_with_len from n)) ≡ g q
+find_in : (g : ℕ → Option Node) (from n q : ℕ) → from ≤ q → q < from + n
+    → find nat_cmp q (filter_map (λ f. entry_of f (g f)) (range_with_len from n)) ≡ g q
 find_in g from zero q a b = absurd (omega arith)
 find_in g from (suc n) q a b = elim (cases_eq q from) [
-  | inl e ↦ subst (λ x. find nat_cmp x (cons_option (entry_of from (g from)) (filter_map (λ f. entry_of f (g f)) (range_with_len (from + 1) n))) ≡ g x) (sym e) (find_here from (g from) _ (find_out g (from + 1) n from (inl (omega arith))))
+  | inl e ↦ subst (λ x. find nat_cmp x (cons_option (entry_of from (g from)) (filter_map (λ f. entry_of f (g f)) (range_with_len
+      (from + 1) n))) ≡ g x) (sym e) (find_here from (g from) _ (find_out g (from + 1) n from (inl (omega arith))))
   | inr ne ↦ find_other q from (g from) _ ne ∙ find_in g (from + 1) n q (omega arith) (omega arith)
 ]
 
@@ -78,24 +83,29 @@ pub children-read : (v : VolumeView) (dir : ℕ) → children (read v) dir ≡ d
 unfolding read children directory_links
 children-read v dir = both_ordered (link_order (volume_fold v)) (is_in dir) (is_hidden_link v) (all_links v)
 
-pub lookup-read : (v : VolumeView) (dir : ℕ) (name : List ℕ) → lookup (read v) dir name ≡ sought_link (volume_fold v) (directory_links v dir) name
+pub lookup-read : (v : VolumeView) (dir : ℕ) (name : List ℕ)
+    → lookup (read v) dir name ≡ sought_link (volume_fold v) (directory_links v dir) name
 unfolding read
 lookup-read v dir name = ap (λ links. sought_link (volume_fold v) links name) (children-read v dir)
 
 -- one node differs
-pub nodes-insert : (old new : VolumeView) (f : ℕ) (node : Node) → node_at new f ≡ Some node → ((q : ℕ) → q ≢ f → node_at new q ≡ node_at old q)
+pub nodes-insert : (old new : VolumeView) (f : ℕ) (node : Node) → node_at new f ≡ Some node → ((q : ℕ) → q ≢ f
+    → node_at new q ≡ node_at old q)
     → nodes_of new ≡ finmap.insert (nodes_of old) f node
 nodes-insert old new f node here same =
-    finmap.same_map nat_cmp_total finmap.nat_cmp-IsAntisymmetric _ _ (λ q. one q ∙ sym (finmap.get-insert nat_cmp_total (nodes_of old) f node q))
+    finmap.same_map nat_cmp_total finmap.nat_cmp-IsAntisymmetric _ _ (λ q. one q
+        ∙ sym (finmap.get-insert nat_cmp_total (nodes_of old) f node q))
   where
     one : (q : ℕ) → finmap.get (nodes_of new) q ≡ cond (eq_by_cmp nat_cmp q f) (Some node) (finmap.get (nodes_of old) q)
     one q = elim (cases_eq q f) [
       | inl e ↦ subst (λ x. finmap.get (nodes_of new) x ≡ cond (eq_by_cmp nat_cmp x f) (Some node) (finmap.get (nodes_of old) x)) (sym e)
           (get-nodes new f ∙ here ∙ sym (ap (λ b. cond b (Some node) (finmap.get (nodes_of old) f)) (key_same f)))
-      | inr ne ↦ get-nodes new q ∙ same q ne ∙ sym (get-nodes old q) ∙ sym (ap (λ b. cond b (Some node) (finmap.get (nodes_of old) q)) (key_other q f ne))
+      | inr ne ↦ get-nodes new q ∙ same q ne ∙ sym (get-nodes old q)
+          ∙ sym (ap (λ b. cond b (Some node) (finmap.get (nodes_of old) q)) (key_other q f ne))
     ]
 
 -- one link more, wherever its name stands among the parts
 pub links-more : (fold : ℕ → ℕ) (test : Link → Bool) (before after : List Link) (link : Link) → test link ≡ true
-    → in_order (link_above fold) (filter test (before ++ link ∷ after)) ≡ put_in_order (link_above fold) link (in_order (link_above fold) (filter test (before ++ after)))
+    → in_order (link_above fold) (filter test (before ++ link ∷ after))
+        ≡ put_in_order (link_above fold) link (in_order (link_above fold) (filter test (before ++ after)))
 links-more fold test before after link passes = moved (link_order fold) test before link after ∙ rw passes refl

@@ -1,6 +1,7 @@
 -- What an image says: its volume, its reading, and what it tells beside the tree.
 -- Layout: Linux-NTFS documentation, file $Secure; Carrier, File System Forensic Analysis, chapters 11 to 13.
-use Rattle.std.specs.Prelude.{◌≡◌, ℕ, ◌+◌, ◌-◌, ◌/◌, ◌≤◌, ◌==◌, List, Contains, codes, count_by, drop, is_none, is_some, length, slice_range, take, Option, Some, None}
+use Rattle.std.specs.Prelude.{◌≡◌, ℕ, ◌+◌, ◌-◌, ◌/◌, ◌≤◌, ◌==◌, List, Contains, codes, count_by, drop, is_none, is_some, length}
+use Rattle.std.specs.Prelude.{slice_range, take, Option, Some, None}
 use Rattle.std.specs.List.{range_with_len}
 use Rattle.vol_bytes.specs.Field.{u16_at, u32_at, u64_at}
 use Rattle.vol_disk.specs.Contents.{sector_in}

@@ -1,8 +1,10 @@
 -- The tree that a volume reads as: by a scan of its records and the clusters of their values alone; no index is looked at.
 -- Layout: Linux-NTFS documentation, attributes $STANDARD_INFORMATION, $FILE_NAME, $DATA, $REPARSE_POINT and $OBJECT_ID; Carrier,
 -- File System Forensic Analysis, chapters 11 to 13.
-use Rattle.std.specs.Prelude.{ℕ, ◌-◌, ◌/◌, ◌%◌, ◌^◌, ◌==◌, ◌&&◌, ◌||◌, not, nat_lt, Bool, List, [], ◌∷◌, ◌++◌, bit_and, codes, drop, filter, find}
-use Rattle.std.specs.Prelude.{false, length, map, replicate, take, Option, Some, None, option_and_then, option_map, unwrap_or, if◌then◌else◌}
+use Rattle.std.specs.Prelude.{ℕ, ◌-◌, ◌/◌, ◌%◌, ◌^◌, ◌==◌, ◌&&◌, ◌||◌, not, nat_lt, Bool, List, [], ◌∷◌, ◌++◌, bit_and, codes, drop}
+use Rattle.std.specs.Prelude.{filter, find}
+use Rattle.std.specs.Prelude.{false, length, map, replicate, take, Option, Some, None, option_and_then, option_map, unwrap_or}
+use Rattle.std.specs.Prelude.{if◌then◌else◌}
 use Rattle.std.specs.FinMap as finmap
 use Rattle.std.specs.List.{filter_map, range_with_len}
 use Rattle.std.specs.Option.{option_map_or}

@@ -1,5 +1,6 @@
 -- What commands make of the bytes of a stream, and of the streams of a file.
-use Rattle.std.specs.Prelude.{ℕ, ◌+◌, ◌-◌, Bool, List, ◌++◌, drop, filter, length, map, not, replicate, take, Option, Some, None, if◌then◌else◌}
+use Rattle.std.specs.Prelude.{ℕ, ◌+◌, ◌-◌, Bool, List, ◌++◌, drop, filter, length, map, not, replicate, take, Option, Some, None}
+use Rattle.std.specs.Prelude.{if◌then◌else◌}
 use Rattle.std.specs.Ordering.{is_gt}
 use Rattle.std.specs.Str.{bytes_eq}
 use Rattle.ntfs_def.specs.KeyOrder.{compare_units}
