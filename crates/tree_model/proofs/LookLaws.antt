@@ -1,0 +1,154 @@
+-- What is due for commands that read, where no session has an open: it follows what their path leads to.
+use Rattle.std.proofs.Common.{◌≡◌, ◌==◌, ◌&&◌, inl, inr, ℕ, Bool, true, false, List, [], length, nat_lt, Option, Some, None, Result, Ok}
+use Rattle.std.proofs.Common.{Err, refl, sym, ◌∙◌}
+use Rattle.tree_model.specs.Answers.{answer_of}
+use Rattle.tree_model.specs.Cases.{is_wide}
+use Rattle.tree_model.specs.Paths.{and_then, found_file, resolve}
+use Rattle.tree_model.specs.Plain.{Tells, cat_of, file_at, listing_of, looked, read_of, reparse_of}
+use Rattle.tree_model.specs.Refusals.{Facts, outcome}
+use Rattle.tree_model.specs.Step.{due}
+use Rattle.tree_model.specs.Subjects.{content_named, is_directory, locate, stream_name}
+use Rattle.tree_model.specs.Tree.{Tree, node_of}
+use Rattle.tree_model.specs.declared.command.Command.{Command}
+use Rattle.tree_model.specs.declared.command.Command.TheVariants as c
+use Rattle.tree_model.specs.declared.reply.Answer.{Answer}
+use Rattle.tree_model.specs.declared.reply.No.{No}
+use Rattle.tree_model.specs.declared.tree.Content.{Content}
+use Rattle.tree_model.specs.declared.tree.Content.TheVariants.{Packed, Plain}
+use Rattle.tree_model.specs.declared.tree.Found.{Found}
+use Rattle.tree_model.specs.declared.tree.Node.{Node}
+use Rattle.tree_model.specs.declared.tree.Point.{Point}
+
+module _ (facts : Facts) (tree : Tree) (now session : ℕ) (path : List (List ℕ)) where
+  abbrev due_here : Command → Result Answer No
+  due_here command = due facts (record { tree = tree; opens = []; now = now }) session command
+
+  abbrev Follows : Command → ((ℕ × Option Node) → Result Answer No) → Type 0
+  Follows command of_file = due_here command ≡ and_then (file_at tree path) of_file
+
+  pub stat-due : Follows (c.Stat path) (looked tree (c.Stat path))
+  unfolding due outcome locate answer_of
+  stat-due = by (resolve tree path) refl
+    where
+      by : (r : Result Found No) → resolve tree path ≡ r → Follows (c.Stat path) (looked tree (c.Stat path))
+      by (Err refused) e = rw e refl
+      by (Ok found) e = rw e refl
+
+  pub streams-due : Follows (c.Streams path) (looked tree (c.Streams path))
+  unfolding due outcome locate answer_of
+  streams-due = by (resolve tree path) refl
+    where
+      by : (r : Result Found No) → resolve tree path ≡ r → Follows (c.Streams path) (looked tree (c.Streams path))
+      by (Err refused) e = rw e refl
+      by (Ok found) e = rw e refl
+
+  pub attr-due : Follows (c.Attr path) (looked tree (c.Attr path))
+  unfolding due outcome locate answer_of
+  attr-due = by (resolve tree path) refl
+    where
+      by : (r : Result Found No) → resolve tree path ≡ r → Follows (c.Attr path) (looked tree (c.Attr path))
+      by (Err refused) e = rw e refl
+      by (Ok found) e = rw e refl
+
+  pub sec-due : Follows (c.Sec path) (looked tree (c.Sec path))
+  unfolding due outcome locate answer_of
+  sec-due = by (resolve tree path) refl
+    where
+      by : (r : Result Found No) → resolve tree path ≡ r → Follows (c.Sec path) (looked tree (c.Sec path))
+      by (Err refused) e = rw e refl
+      by (Ok found) e = rw e refl
+
+  pub objid-due : Follows (c.Objid path) (looked tree (c.Objid path))
+  unfolding due outcome locate answer_of
+  objid-due = by (resolve tree path) refl
+    where
+      by : (r : Result Found No) → resolve tree path ≡ r → Follows (c.Objid path) (looked tree (c.Objid path))
+      by (Err refused) e = rw e refl
+      by (Ok found) e = rw e refl
+
+  pub reparse-due : Follows (c.Reparse path) reparse_of
+  unfolding due outcome locate answer_of
+  reparse-due = by (resolve tree path) refl
+    where
+      by_point : (found : Found) → resolve tree path ≡ Ok found → (node : Node) → node_of tree (found_file found) ≡ Some node
+          → (p : Option Point) → node.point ≡ p → Follows (c.Reparse path) reparse_of
+      by_point found e node n None p = rw (e, n, p) refl
+      by_point found e node n (Some point) p = rw (e, n, p) refl
+
+      by_node : (found : Found) → resolve tree path ≡ Ok found → (n : Option Node) → node_of tree (found_file found) ≡ n
+          → Follows (c.Reparse path) reparse_of
+      by_node found e None n = rw (e, n) refl
+      by_node found e (Some node) n = by_point found e node n node.point refl
+
+      by : (r : Result Found No) → resolve tree path ≡ r → Follows (c.Reparse path) reparse_of
+      by (Err refused) e = rw e refl
+      by (Ok found) e = by_node found e (node_of tree (found_file found)) refl
+
+  pub ls-due : Follows (c.Ls path) (listing_of tree)
+  unfolding due outcome locate answer_of
+  ls-due = by (resolve tree path) refl
+    where
+      by_node : (found : Found) → resolve tree path ≡ Ok found → (b : Bool) → is_directory (node_of tree (found_file found)) ≡ b
+          → Follows (c.Ls path) (listing_of tree)
+      by_node found e true b = rw (e, b) refl
+      by_node found e false b = rw (e, b) refl
+
+      by : (r : Result Found No) → resolve tree path ≡ r → Follows (c.Ls path) (listing_of tree)
+      by (Err refused) e = rw e refl
+      by (Ok found) e = by_node found e (is_directory (node_of tree (found_file found))) refl
+
+  pub cat-due : (stream : Option (List ℕ)) → Follows (c.Cat path stream) (cat_of tree (stream_name stream))
+  unfolding due outcome locate answer_of
+  cat-due stream = by (resolve tree path) refl
+    where
+      by_size : (found : Found) → resolve tree path ≡ Ok found
+          → ((length (stream_name stream) == 0) && is_directory (node_of tree (found_file found))) ≡ false
+          → (bytes : List ℕ) → content_named tree (stream_name stream) (node_of tree (found_file found)) ≡ Some (Plain bytes)
+          → (t : Bool) → nat_lt 65536 (length bytes) ≡ t
+          → Follows (c.Cat path stream) (cat_of tree (stream_name stream))
+      by_size found e b bytes o true t = rw (e, b, o, t) refl
+      by_size found e b bytes o false t = rw (e, b, o, t) refl
+
+      by_content : (found : Found) → resolve tree path ≡ Ok found
+          → (b : Bool) → ((length (stream_name stream) == 0) && is_directory (node_of tree (found_file found))) ≡ b
+          → (o : Option Content) → content_named tree (stream_name stream) (node_of tree (found_file found)) ≡ o
+          → Follows (c.Cat path stream) (cat_of tree (stream_name stream))
+      by_content found e true b o p = rw (e, b) refl
+      by_content found e false b None o = rw (e, b, o) refl
+      by_content found e false b (Some (Packed size)) o = rw (e, b, o) refl
+      by_content found e false b (Some (Plain bytes)) o = by_size found e b bytes o (nat_lt 65536 (length bytes)) refl
+
+      by : (r : Result Found No) → resolve tree path ≡ r → Follows (c.Cat path stream) (cat_of tree (stream_name stream))
+      by (Err refused) e = rw e refl
+      by (Ok found) e = by_content found e _ refl _ refl
+
+  pub read-due : (stream : Option (List ℕ)) (from len : ℕ)
+      → Follows (c.Read path stream from len) (read_of tree (stream_name stream) from len)
+  unfolding due outcome locate answer_of
+  read-due stream from len = by (resolve tree path) refl
+    where
+      by_content : (found : Found) → resolve tree path ≡ Ok found
+          → (b : Bool) → ((length (stream_name stream) == 0) && is_directory (node_of tree (found_file found))) ≡ b
+          → (o : Option Content) → content_named tree (stream_name stream) (node_of tree (found_file found)) ≡ o
+          → (t : Bool) → is_wide from len ≡ t
+          → Follows (c.Read path stream from len) (read_of tree (stream_name stream) from len)
+      by_content found e true b o p t w = rw (e, b) refl
+      by_content found e false b None o t w = rw (e, b, o) refl
+      by_content found e false b (Some (Packed size)) o t w = rw (e, b, o) refl
+      by_content found e false b (Some (Plain bytes)) o true w = rw (e, b, o, w) refl
+      by_content found e false b (Some (Plain bytes)) o false w = rw (e, b, o, w) refl
+
+      by : (r : Result Found No) → resolve tree path ≡ r
+          → Follows (c.Read path stream from len) (read_of tree (stream_name stream) from len)
+      by (Err refused) e = rw e refl
+      by (Ok found) e = by_content found e _ refl _ refl _ refl
+
+-- what is wanted is told, and so is what equals it
+pub told : {A : Type 0} (want other : Result A No) (result : Result A No) → want ≡ other → Tells other result → Tells want result
+told want other (Ok x) same tells = same ∙ tells
+told want other (Err refused) same (inl tells) = inl (same ∙ tells)
+told want other (Err refused) same (inr memory) = inr memory
+
+pub told-same : {A : Type 0} (want result : Result A No) → result ≡ want → Tells want result
+told-same want (Ok x) same = sym same
+told-same want (Err refused) same = inl (sym same)

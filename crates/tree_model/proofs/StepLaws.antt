@@ -1,0 +1,47 @@
+-- A step has one reply, want of memory and Overflow aside; and an image has one reading.
+use Rattle.std.proofs.Common.{◌≡◌, ◌⊎◌, ℕ, List, sym, ap, subst, inl, inr, ◌∙◌, Some}
+use Rattle.vol_disk.specs.Contents.{sector_in}
+use Rattle.ntfs_def.specs.Boot.{boot_sector}
+use Rattle.volume_def.specs.Sound.{told_view}
+use Rattle.volume_def.specs.View.{VolumeView}
+use Rattle.volume_def.proofs.OneTable.{layout-exact}
+use Rattle.tree_model.specs.Facts.{IsVolumeOf, ReadsAs}
+use Rattle.tree_model.specs.Reading.{read}
+use Rattle.tree_model.specs.Refusals.{Facts}
+use Rattle.tree_model.specs.Step.{IsFree, Overflows, Step, due, reply_of}
+use Rattle.tree_model.specs.Subjects.{Machine}
+use Rattle.tree_model.specs.Tree.{Tree}
+use Rattle.tree_model.specs.declared.command.Command.{Command}
+use Rattle.tree_model.specs.declared.reply.No.TheVariants as no
+use Rattle.tree_model.specs.declared.reply.Reply.{Reply}
+use Rattle.tree_model.specs.declared.reply.Reply.TheVariants as reply
+
+-- an image is one volume
+pub one_volume : (image : List ℕ) (one other : VolumeView) → IsVolumeOf image one → IsVolumeOf image other → one ≡ other
+one_volume image one other x y =
+    x.is
+    ∙ ap (told_view (sector_in (Some image)))
+    (layout-exact (sector_in (Some image)) (boot_sector image) x.layout y.layout x.has.table_clause y.has.table_clause)
+    ∙ sym y.is
+
+pub one_reading : (image : List ℕ) (one other : Tree) → ReadsAs image one → ReadsAs image other → one ≡ other
+one_reading image one other x y = x.reading ∙ ap read (one_volume image x.view y.view x.volume y.volume) ∙ sym y.reading
+
+-- a step's reply is the one that is due, unless it is one of those that may stand in its place
+pub one_reply : (facts : Facts) (m : Machine) (session : ℕ) (command : Command) (given other : Reply) (next last : Machine)
+    → Step facts m session command given next → Step facts m session command other last
+    → IsFree given ⊎ IsFree other ⊎ (given ≡ other)
+one_reply facts m session command given other next last x y = both x.replied y.replied
+  where
+    free_memory : (r : Reply) → r ≡ reply.No no.Memory → IsFree r
+    free_memory r e = subst IsFree (sym e) tt
+
+    Replied : Reply → Type 0
+    Replied r = (r ≡ reply_of (due facts m session command)) ⊎ (r ≡ reply.No no.Memory) ⊎ Overflows facts m session command r
+
+    both : Replied given → Replied other → IsFree given ⊎ IsFree other ⊎ (given ≡ other)
+    both (inl a) (inl b) = inr (inr (a ∙ sym b))
+    both (inr (inl a)) (b) = inl (free_memory given a)
+    both (inr (inr a)) (b) = inl (subst IsFree (sym a.told) tt)
+    both (inl a) (inr (inl b)) = inr (inl (free_memory other b))
+    both (inl a) (inr (inr b)) = inr (inl (subst IsFree (sym b.told) tt))

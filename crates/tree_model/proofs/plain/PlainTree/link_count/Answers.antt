@@ -1,0 +1,7 @@
+use Rattle.std.proofs.Common.{arith, zero-add}
+use Rattle.tree_model.specs.Plain.{tree_of}
+use Rattle.tree_model.proofs.plain.PlainTree.link_count.Goals as goal
+
+pub links-init : goal.links-init
+unfolding tree_of
+links-init c = (zero-add _, omega arith)

@@ -1,0 +1,150 @@
+-- A tree kept in plain lists, and what its calls lend of it.
+use Rattle.std.specs.Prelude.{◌≡◌, ◌⊎◌, ℕ, ◌&&◌, Bool, true, false, List, [], ◌∷◌, Option, Some, None, Result, Ok, Err, option_and_then}
+use Rattle.std.specs.Prelude.{option_map, if◌then◌else◌}
+use Rattle.std.specs.Prelude.{◌==◌, length, nat_lt}
+use Rattle.std.specs.FinMap as finmap
+use Rattle.std.specs.Option.{option_map_or}
+use Rattle.std.specs.Str.{bytes_eq}
+use denote.Ref.{Bor}
+use Rattle.ntfs_def.specs.KeyOrder.{fold_of}
+use Rattle.tree_model.specs.Paths.{Place, and_then, found_file, resolve}
+use Rattle.tree_model.specs.Answers.{listing, node_answer, point_answer, range_of}
+use Rattle.tree_model.specs.Cases.{is_wide}
+use Rattle.tree_model.specs.Refusals.{Facts}
+use Rattle.tree_model.specs.Step.{due}
+use Rattle.tree_model.specs.Subjects.{content_named, is_directory}
+use Rattle.tree_model.specs.Tree.{Tree, are_same, is_in, node_of}
+use Rattle.tree_model.specs.declared.command.Command.{Command}
+use Rattle.tree_model.specs.declared.command.Command.TheVariants as c
+use Rattle.tree_model.specs.declared.plain.PlainTree.{PlainTree}
+use Rattle.tree_model.specs.declared.reply.Answer.{Answer}
+use Rattle.tree_model.specs.declared.reply.Answer.TheVariants as a
+use Rattle.tree_model.specs.declared.reply.Listed.{Listed}
+use Rattle.tree_model.specs.declared.reply.No.{No}
+use Rattle.tree_model.specs.declared.reply.No.TheVariants as no
+use Rattle.tree_model.specs.declared.tree.Content.{Content}
+use Rattle.tree_model.specs.declared.tree.Content.TheVariants.{Packed, Plain}
+use Rattle.tree_model.specs.declared.tree.Found.{Found}
+use Rattle.tree_model.specs.declared.tree.Found.TheVariants as found
+use Rattle.tree_model.specs.declared.tree.Link.{Link}
+use Rattle.tree_model.specs.declared.tree.Node.{Node}
+use Rattle.tree_model.specs.declared.tree.Point.{Point}
+
+-- the tree that the lists are
+unfoldable pub tree_of : PlainTree → Tree
+tree_of plain = record {
+  fold = fold_of plain.case;
+  nodes = finmap.from_entries plain.nodes.items;
+  links = plain.links.items;
+  hidden = plain.hidden.items;
+}
+
+-- what is lent, as a value
+abbrev pub lent : {A : Type 0} → Option (Bor A) → Option A
+lent item = option_map (λ one. one.now) item
+
+-- The least of a list and of one before it. `above x y` says that x stands behind y.
+abbrev pub least : {A : Type 0} → (A → A → Bool) → Option A → List A → Option A
+least above best [] = best
+least above None (x ∷ xs) = least above (Some x) xs
+least above (Some y) (x ∷ xs) = least above (Some (if above y x then x else y)) xs
+
+-- a link of the directory by exactly this name, or by one of the same
+abbrev pub has_name : (ℕ → ℕ) → Bool → List ℕ → List ℕ → Bool
+has_name fold true a b = bytes_eq a b
+has_name fold false a b = are_same fold a b
+
+abbrev pub is_named : (ℕ → ℕ) → ℕ → List ℕ → Bool → Link → Bool
+is_named fold dir name exact link = is_in dir link && has_name fold exact link.name name
+
+-- a place that is lent in parts
+abbrev pub lent_place : Result (ℕ × Bor (List ℕ)) No → Result Place No
+lent_place (Ok place) = Ok (record { directory = place.0; name = place.1.now })
+lent_place (Err refused) = Err refused
+
+-- what is found, by the link that leads to it; the root has none
+abbrev pub found_by : Option (Bor Link) → Found
+found_by None = found.Root
+found_by (Some link) = found.Link link.now
+
+abbrev pub lent_found : Result (Option (Bor Link)) No → Result Found No
+lent_found (Ok link) = Ok (found_by link)
+lent_found (Err refused) = Err refused
+
+-- a file that is lent, by its number
+abbrev pub lent_file : Result (ℕ × Option (Bor Node)) No → Result (ℕ × Option Node) No
+lent_file (Ok file) = Ok (file.0, lent file.1)
+lent_file (Err refused) = Err refused
+
+-- the file that a path leads to, and its node
+abbrev pub file_at : Tree → List (List ℕ) → Result (ℕ × Option Node) No
+file_at tree path = and_then (resolve tree path) (λ at. Ok (found_file at, node_of tree (found_file at)))
+
+-- What is wanted is told, unless memory runs out.
+abbrev pub Tells : {A : Type 0} → Result A No → Result A No → Type 0
+Tells want (Ok x) = want ≡ Ok x
+Tells want (Err refused) = (want ≡ Err refused) ⊎ (refused ≡ no.Memory)
+
+-- a line of `ls` that is lent
+abbrev pub listed_as : Bool × Bor Link → Listed
+listed_as line = record { dir = line.0; name = line.1.now.name }
+
+abbrev pub lent_listed : Option (Bool × Bor Link) → Option Listed
+lent_listed line = option_map listed_as line
+
+-- What is shown of a file that a path leads to: what its node tells ..
+abbrev pub looked : Tree → Command → (ℕ × Option Node) → Result Answer No
+looked tree command file = Ok (option_map_or (node_answer tree command file.0) file.1 a.Done)
+
+-- .. its reparse point ..
+abbrev pub point_shown : Option Point → Result Answer No
+point_shown None = Err no.NoReparse
+point_shown (Some point) = Ok (point_answer point)
+
+abbrev pub reparse_of : (ℕ × Option Node) → Result Answer No
+reparse_of file = point_shown (option_and_then (λ node. node.point) file.1)
+
+-- .. what stands in it ..
+abbrev pub listing_of : Tree → (ℕ × Option Node) → Result Answer No
+listing_of tree file = if is_directory file.1 then Ok (a.List (listing tree file.0)) else Err no.NotDir
+
+-- .. and a stream of it that is not packed, whole or in part.
+abbrev pub plain_bytes : Option Content → Result (List ℕ) No
+plain_bytes None = Err no.NoStream
+plain_bytes (Some (Packed size)) = Err no.Packed
+plain_bytes (Some (Plain bytes)) = Ok bytes
+
+abbrev pub stream_of : Tree → List ℕ → Option Node → Result (List ℕ) No
+stream_of tree name node =
+    if (length name == 0) && is_directory node then Err no.IsDir else plain_bytes (content_named tree name node)
+
+abbrev pub cat_of : Tree → List ℕ → (ℕ × Option Node) → Result Answer No
+cat_of tree name file =
+    and_then (stream_of tree name file.1) (λ bytes. if nat_lt 65536 (length bytes) then Err no.TooBig else Ok (a.Data bytes))
+
+abbrev pub read_of : Tree → List ℕ → ℕ → ℕ → (ℕ × Option Node) → Result Answer No
+read_of tree name from len file =
+    and_then (stream_of tree name file.1) (λ bytes. if is_wide from len then Err no.TooBig else Ok (a.Data (range_of from len bytes)))
+
+-- bytes that are lent
+abbrev pub lent_bytes : Result (Bor (List ℕ)) No → Result (List ℕ) No
+lent_bytes (Ok bytes) = Ok bytes.now
+lent_bytes (Err refused) = Err refused
+
+-- what is due where no session has an open
+abbrev pub Answers : PlainTree → Command → Result Answer No → Type 0
+Answers plain command result =
+    (facts : Facts) (now session : ℕ)
+    → Tells (due facts (record { tree = tree_of plain; opens = []; now = now }) session command) result
+
+-- the commands that `PlainTree::answer` answers
+abbrev pub is_answered : Command → Bool
+is_answered (c.Stat path) = true
+is_answered (c.Streams path) = true
+is_answered (c.Attr path) = true
+is_answered (c.Sec path) = true
+is_answered (c.Objid path) = true
+is_answered (c.Reparse path) = true
+is_answered (c.Cat path stream) = true
+is_answered (c.Read path stream from len) = true
+is_answered other = false

@@ -1,0 +1,35 @@
+-- What is not built yet. This file, and the places in `Refusals` and `Step` that name it, go out once all is built.
+use Rattle.std.specs.Prelude.{◌==◌, ◌&&◌, ◌||◌, Bool, true, false}
+use Rattle.std.specs.List.{list_any}
+use Rattle.std.specs.Option.{option_map_or}
+use Rattle.ntfs_def.specs.declared.kinds.TheConstants.{OBJECT_ID}
+use Rattle.tree_model.specs.Cases.{has_point}
+use Rattle.tree_model.specs.Drops.{is_last_link}
+use Rattle.tree_model.specs.Subjects.{Located}
+use Rattle.tree_model.specs.Tree.{Tree}
+use Rattle.tree_model.specs.declared.command.Command.{Command}
+use Rattle.tree_model.specs.declared.command.Command.TheVariants as c
+
+-- Unbuilt: all commands but these.
+abbrev pub is_built : Command → Bool
+is_built (c.Ls path) = true
+is_built (c.Stat path) = true
+is_built (c.Links path) = true
+is_built (c.Cat path stream) = true
+is_built (c.Read path stream at len) = true
+is_built (c.Streams path) = true
+is_built (c.Attr path) = true
+is_built (c.Sec path) = true
+is_built (c.Reparse path) = true
+is_built (c.Objid path) = true
+is_built c.Df = true
+is_built other = false
+
+-- Linked: a file would go that has a reparse point or an object id, for which view indexes have keys.
+abbrev pub has_object_id : Located → Bool
+has_object_id at = option_map_or (λ node. list_any (λ attribute. attribute.kind == OBJECT_ID) node.others) at.node false
+
+abbrev pub linked : Tree → Command → Located → Bool
+linked tree (c.Rm path) at = is_last_link tree at.link && (has_point at || has_object_id at)
+linked tree (c.Rmdir path) at = has_point at || has_object_id at
+linked tree other at = false

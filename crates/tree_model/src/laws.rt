@@ -1,0 +1,52 @@
+//! Laws of the definitions, with nothing to run.
+ghost use Rattle.std.specs.Prelude.{◌≡◌, ◌≢◌, ◌⊎◌, ◌++◌, ◌∷◌, ℕ, Bool, true, List, Option, Some, filter};
+ghost use Rattle.std.specs.FinMap as finmap;
+ghost use Rattle.volume_def.specs.CaseClause.{volume_fold};
+ghost use Rattle.volume_def.specs.View.{VolumeView};
+ghost use Rattle.tree_model.specs.Facts.{IsVolumeOf, ReadsAs};
+ghost use Rattle.tree_model.specs.Ordered.{in_order, put_in_order};
+ghost use Rattle.tree_model.specs.Paths.{children, lookup};
+ghost use Rattle.tree_model.specs.Reading.{directory_links, node_at, nodes_of, read};
+ghost use Rattle.tree_model.specs.Refusals.{Facts};
+ghost use Rattle.tree_model.specs.Step.{IsFree, Step};
+ghost use Rattle.tree_model.specs.Subjects.{Machine};
+ghost use Rattle.tree_model.specs.Tree.{Tree, link_above, node_of, sought_link};
+ghost use Rattle.tree_model.specs.declared.command.Command.{Command};
+ghost use Rattle.tree_model.specs.declared.reply.Reply.{Reply};
+ghost use Rattle.tree_model.specs.declared.tree.Link.{Link};
+ghost use Rattle.tree_model.specs.declared.tree.Node.{Node};
+
+/// An image is one volume, and reads as one tree.
+pub fn one_reading()
+    ensures volume { (image : List ℕ) (one other : VolumeView) → IsVolumeOf image one → IsVolumeOf image other → one ≡ other }
+    ensures tree { (image : List ℕ) (one other : Tree) → ReadsAs image one → ReadsAs image other → one ≡ other }
+{}
+
+/// A step has one reply: one refusal, or one answer. Want of memory may stand in its place, and until files get
+/// further records so may Overflow.
+pub fn one_reply()
+    ensures { (facts : Facts) (m : Machine) (session : ℕ) (command : Command) (given other : Reply) (next last : Machine)
+        → Step facts m session command given next → Step facts m session command other last
+        → IsFree given ⊎ IsFree other ⊎ (given ≡ other) }
+{}
+
+/// What the tree of a volume has at each number, and in each directory: what the record of that number tells
+/// (`node`), and the names that stand there in name order, hidden ones too (`children`), among which a name is
+/// sought (`lookup`).
+pub fn reading_laws()
+    ensures node { (view : VolumeView) (file : ℕ) → node_of (read view) file ≡ node_at view file }
+    ensures children { (view : VolumeView) (dir : ℕ) → children (read view) dir ≡ directory_links view dir }
+    ensures lookup { (view : VolumeView) (dir : ℕ) (name : List ℕ)
+        → lookup (read view) dir name ≡ sought_link (volume_fold view) (directory_links view dir) name }
+{}
+
+/// How an edit changes a tree. Where one file differs (`node`) it is put into the map; a link that stands anywhere among
+/// the names of a volume is put in order (`link`).
+pub fn edited_reading_laws()
+    ensures node { (old new : VolumeView) (file : ℕ) (node : Node) → node_at new file ≡ Some node
+        → ((other : ℕ) → other ≢ file → node_at new other ≡ node_at old other)
+        → nodes_of new ≡ finmap.insert (nodes_of old) file node }
+    ensures link { (fold : ℕ → ℕ) (test : Link → Bool) (before after : List Link) (link : Link) → test link ≡ true
+        → in_order (link_above fold) (filter test (before ++ link ∷ after))
+        ≡ put_in_order (link_above fold) link (in_order (link_above fold) (filter test (before ++ after))) }
+{}

@@ -1,0 +1,21 @@
+//! The tree that a volume reads as, the commands of a script, and what comes of them.
+#![tactic(auto)]
+
+mod command;
+mod laws;
+mod lists;
+mod opens;
+mod plain;
+mod plain_answers;
+mod reply;
+#[cfg(test)]
+mod tests;
+mod tree;
+
+pub use command::Command;
+pub use laws::{edited_reading_laws, one_reading, one_reply, reading_laws};
+pub use lists::{Listing, Path, RawAttrs, ShownLinks, ShownStreams, Streams};
+pub use opens::{Access, OpenEntry};
+pub use plain::PlainTree;
+pub use reply::{Answer, Listed, No, Reply, ShownLink, ShownStream};
+pub use tree::{Content, Found, Link, Node, Point, RawAttr, Stream};
