@@ -20,8 +20,7 @@ use Rattle.ntfs_def.specs.declared.records.TheConstants.{ROOT}
 use Rattle.volume_def.specs.Values.{first_part}
 use Rattle.volume_def.specs.CaseClause.{volume_fold}
 use Rattle.volume_def.specs.FileNames.{links}
-use Rattle.volume_def.specs.Files.{Part, Record, content_value, is_base, is_of, parts, parts_like, record_on, records_of}
-use Rattle.volume_def.specs.ReferencesClause as references
+use Rattle.volume_def.specs.Files.{Part, Record, content_value, is_base, is_directory, is_of, parts, parts_like, record_on, records_of}
 use Rattle.volume_def.specs.StreamSize.{told_size}
 use Rattle.volume_def.specs.Values.{is_first, value_on}
 use Rattle.volume_def.specs.View.{VolumeView}
@@ -123,7 +122,7 @@ others_of view all = in_order (other_above (volume_fold view)) (map (other_at vi
 -- A file, by its base record and all its parts.
 unfoldable pub node_by : VolumeView → Record → List Part → Node
 node_by view base all = record {
-  dir = references.is_directory base;
+  dir = is_directory base;
   times = times_in (standard_of all);
   flags = flags_in (standard_of all);
   security = security_in (standard_of all);
