@@ -7,8 +7,9 @@ use Rattle.volume_def.specs.View.{VolumeView}
 use Rattle.volume_def.proofs.OneTable.{layout-exact}
 use Rattle.tree_model.specs.Facts.{IsVolumeOf, ReadsAs}
 use Rattle.tree_model.specs.Reading.{read}
-use Rattle.tree_model.specs.Refusals.{Facts}
-use Rattle.tree_model.specs.Step.{IsFree, Overflows, Step, due, reply_of}
+use Rattle.tree_model.specs.Refusals.{Facts, outcome}
+use Rattle.tree_model.specs.Staging.{Overflows}
+use Rattle.tree_model.specs.Step.{IsFree, Step, due, reply_of}
 use Rattle.tree_model.specs.Subjects.{Machine}
 use Rattle.tree_model.specs.Tree.{Tree}
 use Rattle.tree_model.specs.declared.command.Command.{Command}
@@ -37,7 +38,8 @@ one_reply facts m session command given other next last x y = both x.replied y.r
     free_memory r e = subst IsFree (sym e) tt
 
     Replied : Reply → Type 0
-    Replied r = (r ≡ reply_of (due facts m session command)) ⊎ (r ≡ reply.No no.Memory) ⊎ Overflows facts m session command r
+    Replied r = (r ≡ reply_of (due facts m session command)) ⊎ (r ≡ reply.No no.Memory) 
+        ⊎ Overflows (outcome facts m session command) (facts.spills m command) r
 
     both : Replied given → Replied other → IsFree given ⊎ IsFree other ⊎ (given ≡ other)
     both (inl a) (inl b) = inr (inr (a ∙ sym b))

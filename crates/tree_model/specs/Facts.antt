@@ -19,9 +19,15 @@ use Rattle.volume_def.specs.Sound.{HasLayout, told_view}
 use Rattle.volume_def.specs.Table.{TableLayout}
 use Rattle.volume_def.specs.Values.{value_on}
 use Rattle.volume_def.specs.View.{VolumeView}
+use Rattle.tree_model.specs.Bill.{bill_of}
+use Rattle.tree_model.specs.NoRoom.{no_room_for}
 use Rattle.tree_model.specs.Reading.{read}
 use Rattle.tree_model.specs.Refusals.{Facts}
+use Rattle.tree_model.specs.Room.{unowned_clusters, unused_records}
+use Rattle.tree_model.specs.Staging.{spills_for}
+use Rattle.tree_model.specs.Subjects.{Located, Machine}
 use Rattle.tree_model.specs.Tree.{Tree}
+use Rattle.tree_model.specs.declared.command.Command.{Command}
 
 -- The volume of an image: its boot sector and its table tell where all else lies.
 pub record IsVolumeOf (image : List ℕ) (view : VolumeView) : Type 0 where
@@ -34,14 +40,6 @@ pub record ReadsAs (image : List ℕ) (tree : Tree) : Type 0 where
   pub view : VolumeView
   pub volume : IsVolumeOf image view
   pub reading : tree ≡ read view
-
--- df: clusters without an owner, and records from 24 on that are not in use.
-unfoldable pub unowned_clusters : VolumeView → ℕ
-unowned_clusters view = count_by (λ cluster. times_owned (records_of view) cluster == 0) (range_with_len 0 view.layout.clusters)
-
-unfoldable pub unused_records : VolumeView → ℕ
-unused_records view =
-    count_by (λ n. is_none (record_on view n)) (range_with_len FIRST_ORDINARY (view.layout.count - FIRST_ORDINARY))
 
 -- Security descriptors: $Secure has them in its stream $SDS, each behind a header of 20 bytes, and tells of them by id in its
 -- index $SII. The data of an entry, and such a header, are u32 hash, u32 id, u64 offset of the header, u32 size with the header.
@@ -74,7 +72,7 @@ abbrev pub TellsDescriptor : VolumeView → ℕ → Option (List ℕ) → Type 0
 TellsDescriptor view id None = (bytes : List ℕ) → ¬ (HasDescriptor view id bytes)
 TellsDescriptor view id (Some bytes) = HasDescriptor view id bytes
 
--- What a volume tells beside its tree. Of room nothing is said yet: it is asked of edits alone, and no edit is built.
+-- What a volume tells beside its tree. The refusal for room, and that of a record that is full, come of the bill of the command.
 pub record TellsFacts (view : VolumeView) (facts : Facts) : Type 0 where
   pub clusters : facts.clusters ≡ view.layout.clusters
   pub free : facts.free ≡ unowned_clusters view
@@ -82,3 +80,7 @@ pub record TellsFacts (view : VolumeView) (facts : Facts) : Type 0 where
   pub free_records : facts.free_records ≡ unused_records view
   pub in_use : (n : ℕ) → facts.in_use n ≡ is_some (record_on view n)
   pub descriptors : (id : ℕ) → TellsDescriptor view id (facts.descriptor id)
+  pub no_room : (m : Machine) (command : Command) (at : Located)
+      → facts.no_room m command at ≡ no_room_for view (bill_of view m.tree command at)
+  pub spills : (m : Machine) (command : Command) (at : Located)
+      → facts.spills m command at ≡ spills_for view (bill_of view m.tree command at) command at

@@ -5,6 +5,12 @@ pub mod Subjects
 pub mod Drops
 pub mod Cases
 pub mod Opens
+pub mod Need
+pub mod Room
+pub mod IndexRoom
+pub mod StreamRoom
+pub mod Bill
+pub mod NoRoom
 pub mod Staging
 pub mod Refusals
 pub mod Answers

@@ -4,6 +4,7 @@ use Rattle.ntfs_def.specs.declared.records.TheConstants.{FIRST_ORDINARY}
 use Rattle.tree_model.specs.Answers.{answer_of}
 use Rattle.tree_model.specs.Effects.{after, makes_file}
 use Rattle.tree_model.specs.Refusals.{Facts, outcome}
+use Rattle.tree_model.specs.Staging.{IsOverflow, Overflows}
 use Rattle.tree_model.specs.Subjects.{Located, Machine}
 use Rattle.tree_model.specs.Tree.{Tree, leads_to, node_of}
 use Rattle.tree_model.specs.declared.command.Command.{Command}
@@ -46,24 +47,13 @@ Leads facts m session command (reply.Ok answer) next = Moves facts m session com
 Leads facts m session command (reply.No refused) next = next ≡ m
 Leads facts m session command reply.Device next = ⊥
 
--- Overflow, until files get further records: it may stand in place of what is due where the command would be done, and a file
--- that it changes may lack room in its base record.
-pub record Overflows (facts : Facts) (m : Machine) (session : ℕ) (command : Command) (given : Reply) : Type 0 where
-  pub at : Located
-  pub found : outcome facts m session command ≡ Ok at
-  pub need : ℕ
-  pub free : ℕ
-  pub lacks : facts.spills m command at ≡ Some (need, free)
-  pub told : given ≡ reply.No (no.Overflow need free)
-
--- A STEP. Want of memory may stand in place of any reply.
+-- A STEP. Want of memory may stand in place of any reply, and Overflow, where it may come, of what is due.
 pub record Step (facts : Facts) (m : Machine) (session : ℕ) (command : Command) (given : Reply) (next : Machine) : Type 0 where
   pub replied : (given ≡ reply_of (due facts m session command)) ⊎ (given ≡ reply.No no.Memory)
-      ⊎ Overflows facts m session command given
+      ⊎ Overflows (outcome facts m session command) (facts.spills m command) given
   pub moved : Leads facts m session command given next
 
 -- the replies that may stand in place of the one that is due
 abbrev pub IsFree : Reply → Type 0
 IsFree (reply.No no.Memory) = Unit {0}
-IsFree (reply.No (no.Overflow need free)) = Unit {0}
-IsFree other = ⊥
+IsFree other = IsOverflow other
