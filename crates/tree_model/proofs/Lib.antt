@@ -5,3 +5,4 @@ pub mod StepLaws
 pub mod LeastLaws
 pub mod PlainLaws
 pub mod LookLaws
+pub mod IndexRoomLaws

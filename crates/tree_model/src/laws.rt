@@ -1,9 +1,12 @@
 //! Laws of the definitions, with nothing to run.
-ghost use Rattle.std.specs.Prelude.{◌≡◌, ◌≢◌, ◌⊎◌, ◌++◌, ◌∷◌, ℕ, Bool, true, List, Option, Some, filter};
+ghost use Rattle.std.specs.Prelude.{◌≡◌, ◌≢◌, ◌⊎◌, ◌++◌, ◌∷◌, ℕ, suc, Bool, true, List, Option, Some, filter};
 ghost use Rattle.std.specs.FinMap as finmap;
+ghost use Rattle.ntfs_def.specs.Node.{Item};
 ghost use Rattle.volume_def.specs.CaseClause.{volume_fold};
+ghost use Rattle.volume_def.specs.IndexesClause.{HasIndex, KeyRule, index_parts};
 ghost use Rattle.volume_def.specs.View.{VolumeView};
 ghost use Rattle.tree_model.specs.Facts.{IsVolumeOf, ReadsAs};
+ghost use Rattle.tree_model.specs.IndexRoom.{Index, index_depth};
 ghost use Rattle.tree_model.specs.Ordered.{in_order, put_in_order};
 ghost use Rattle.tree_model.specs.Paths.{children, lookup};
 ghost use Rattle.tree_model.specs.Reading.{directory_links, node_at, nodes_of, read};
@@ -49,4 +52,11 @@ pub fn edited_reading_laws()
     ensures link { (fold : ℕ → ℕ) (test : Link → Bool) (before after : List Link) (link : Link) → test link ≡ true
         → in_order (link_above fold) (filter test (before ++ link ∷ after))
         ≡ put_in_order (link_above fold) link (in_order (link_above fold) (filter test (before ++ after))) }
+{}
+
+/// The depth of an index, which goes by the last child of each node, is that of the tree which its walk goes through.
+pub fn index_depth_law()
+    ensures { (view : VolumeView) (index : Index) (rule : KeyRule) (items : List Item)
+        → (has : HasIndex index.form rule view (index_parts view index.file index.name) items)
+        → index_depth view index ≡ suc has.walks.depth }
 {}
