@@ -1,15 +1,18 @@
--- The depth of an index is that of the tree which its walk goes through; and a command with an empty bill is not refused for room.
-use Rattle.std.proofs.Common.{◌≡◌, ◌≤◌, cond, eqb, ℕ, zero, suc, map, List, [], ◌∷◌, Option, Some, None, refl, sym, ap, ◌∙◌, arith}
-use Rattle.std.specs.List.{find}
-use Rattle.std.specs.Option.{option_and_then, option_map_or}
-use Rattle.ntfs_def.specs.IndexTree.{Branch, EachBelow, IsStored, Nodes, Spread, Tree, child_of, most_depth, node_of}
-use Rattle.ntfs_def.specs.Node.{Item, Node, short_node}
+-- The depth of an index is that of the tree which its walk goes through, and its nodes have the entries of the walk.
+use Rattle.std.proofs.Common.{◌≡◌, ◌≤◌, ◌++◌, ◌||◌, Bool, true, false, append-nil, cond, eqb, ℕ, zero, suc, map, List, [], ◌∷◌, Option, Some, None, refl, sym, ap, ◌∙◌, arith}
+use Rattle.std.proofs.lemmas.List.Folds.{list_any-append}
+use Rattle.std.specs.List.{filter_map, find, flat_map, list_any}
+use Rattle.std.specs.Option.{option_and_then, option_map_or, option_to_list}
+use Rattle.ntfs_def.specs.IndexTree.{AreStored, Branch, EachBelow, IsStored, Nodes, Spread, Tree, branch_items, child_of, entry_of}
+use Rattle.ntfs_def.specs.IndexTree.{items_of, most_depth, node_of, spread_items}
+use Rattle.ntfs_def.specs.Node.{Entry, Item, Node, short_node}
 use Rattle.ntfs_def.specs.declared.index.NodeForm.{NodeForm}
 use Rattle.volume_def.specs.Files.{Clusters, Content, Part, Value, content_value}
 use Rattle.volume_def.specs.IndexesClause.{HasIndex, KeyRule, index_parts}
 use Rattle.volume_def.specs.Values.{first_part, first_vcn_of, is_first}
 use Rattle.volume_def.specs.View.{VolumeView}
-use Rattle.tree_model.specs.IndexRoom.{Index, index_depth, levels_below, other_nodes, root_of}
+use Rattle.tree_model.specs.IndexRoom.{Index, all_nodes, has_entry, holds_entry, index_depth, levels_below, nodes_under, other_nodes}
+use Rattle.tree_model.specs.IndexRoom.{root_of}
 
 some_same : {X : Type 0} {a b : X} → Some a ≡ Some b → a ≡ b
 some_same e = cc
@@ -60,3 +63,79 @@ depth-walk view index rule items has =
     ap (λ node. option_map_or (λ (n : Node). suc (levels_below most_depth (other_nodes view index) n.last)) node 0) root
     ∙ ap (λ (n : Node). suc (levels_below most_depth (other_nodes view index) n.last)) (sym walk.holds.node)
     ∙ ap (λ k. suc k) (levels-stored (other_nodes view index) most_depth walk.depth walk.s.last walk.small below)
+
+-- ENTRIES.
+
+-- the children of a node, by the branches of the tree
+children : (d : ℕ) → List (Branch (Tree d)) → Tree d → List ℕ
+children d bs last = filter_map (λ (entry : Entry). entry.child) (map (entry_of d) bs) ++ option_to_list (child_of d last)
+
+children-leaf : (bs : List (Branch (Tree 0))) (last : Tree 0) → children 0 bs last ≡ []
+unfolding children
+children-leaf [] last = refl
+children-leaf (b ∷ bs) last = children-leaf bs last
+
+-- the entries of a node itself
+own : (Item → Bool) → (d : ℕ) → List (Branch (Tree d)) → Bool
+own test d bs = list_any (λ (entry : Entry). test entry.item) (map (entry_of d) bs)
+
+own-leaf : (test : Item → Bool) (bs : List (Branch (Tree 0))) (last : Tree 0)
+    → own test 0 bs ≡ list_any test (branch_items (items_of 0) bs last)
+unfolding own
+own-leaf test [] last = refl
+own-leaf test (b ∷ bs) last = ap (λ found. test b.item || found) (own-leaf test bs last)
+
+apart : (t a x b : Bool) → ((t || a) || (x || b)) ≡ (x || (t || (a || b)))
+apart true a true b = refl
+apart true a false b = refl
+apart false true true b = refl
+apart false false true b = refl
+apart false a false b = refl
+
+or-false : (b : Bool) → (b || false) ≡ b
+or-false true = refl
+or-false false = refl
+
+-- a node with children, where below each child the nodes found have the items of its walk
+inner : (test : Item → Bool) (nodes : Nodes) (found : ℕ → List Node) (d : ℕ) (bs : List (Branch (Tree (suc d)))) (last : Tree (suc d))
+    → ((t : Tree (suc d)) → IsStored nodes (suc d) t → list_any (holds_entry test) (found t.vcn) ≡ list_any test (items_of (suc d) t))
+    → EachBelow (IsStored nodes (suc d)) bs last
+    → (own test (suc d) bs || list_any (holds_entry test) (flat_map found (children (suc d) bs last)))
+    ≡ list_any test (branch_items (items_of (suc d)) bs last)
+unfolding own children
+inner test nodes found d [] last below h = ap (list_any (holds_entry test)) (append-nil (found last.vcn)) ∙ below last h
+inner test nodes found d (b ∷ bs) last below h =
+    let rest = children (suc d) bs last in
+    ap (λ any. (test b.item || own test (suc d) bs) || any)
+    (list_any-append (holds_entry test) (found b.below.vcn) (flat_map found rest)
+    ∙ ap (λ any. any || list_any (holds_entry test) (flat_map found rest)) (below b.below h.0))
+    ∙ apart (test b.item) (own test (suc d) bs) (list_any test (items_of (suc d) b.below)) (list_any (holds_entry test) (flat_map found rest))
+    ∙ ap (λ any. list_any test (items_of (suc d) b.below) || (test b.item || any)) (inner test nodes found d bs last below h.1)
+    ∙ sym (list_any-append test (items_of (suc d) b.below) (b.item ∷ branch_items (items_of (suc d)) bs last))
+
+under-items : (test : Item → Bool) (nodes : Nodes) (levels d : ℕ) (s : Spread (Tree d)) → d ≤ levels → AreStored nodes d s
+    → list_any (holds_entry test) (nodes_under levels nodes (node_of d s)) ≡ list_any test (spread_items d s)
+unfolding own children
+under-items test nodes zero zero s few h = or-false (own test 0 s.branches) ∙ own-leaf test s.branches s.last
+under-items test nodes zero (suc d) s few h = absurd (omega (arith, few))
+under-items test nodes (suc levels) zero s few h =
+    ap (λ below. own test 0 s.branches || list_any (holds_entry test) (flat_map (λ vcn. option_map_or (nodes_under levels nodes) (nodes vcn) []) below))
+    (children-leaf s.branches s.last)
+    ∙ or-false (own test 0 s.branches) ∙ own-leaf test s.branches s.last
+under-items test nodes (suc levels) (suc d) s few h =
+    inner test nodes (λ vcn. option_map_or (nodes_under levels nodes) (nodes vcn) []) d s.branches s.last
+    (λ t stored. ap (λ node. list_any (holds_entry test) (option_map_or (nodes_under levels nodes) node [])) stored.0
+      ∙ under-items test nodes levels d t.spread (omega (arith, few)) stored.1)
+    h
+
+pub entry-walk : (view : VolumeView) (index : Index) (rule : KeyRule) (items : List Item) (test : Item → Bool)
+    → HasIndex index.form rule view (index_parts view index.file index.name) items
+    → has_entry view index test ≡ list_any test items
+unfolding all_nodes
+entry-walk view index rule items test has =
+    let root = root-value (short_node index.form) (index_parts view index.file index.name).root has.root has.is_root ∙ has.says in
+    let walk = has.walks in
+    ap (λ node. list_any (holds_entry test) (option_map_or (nodes_under most_depth (other_nodes view index)) node [])) root
+    ∙ ap (λ node. list_any (holds_entry test) (nodes_under most_depth (other_nodes view index) node)) (sym walk.holds.node)
+    ∙ under-items test (other_nodes view index) most_depth walk.depth walk.s walk.small walk.holds.stored
+    ∙ ap (list_any test) (sym walk.is)

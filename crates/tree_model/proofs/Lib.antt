@@ -6,3 +6,4 @@ pub mod LeastLaws
 pub mod PlainLaws
 pub mod LookLaws
 pub mod IndexRoomLaws
+pub mod BillLaws

@@ -111,13 +111,10 @@ changes_of view tree command at =
     ++ map (point_change view tree command at) (option_to_list (point_index view))
     ++ map (object_id_change tree command at) (option_to_list (object_id_index view))
 
-abbrev pub is_change : Change → Bool
-is_change change = nat_lt 0 (change.added + length change.dropped)
-
 -- THE COUNTED ENTRIES, an index each.
 unfoldable pub counted_of : VolumeView → Tree → Command → Located → List Counted
 counted_of view tree command at =
-    filter (λ counted. nat_lt 0 counted.entries) (map (counted_in view) (filter is_change (changes_of view tree command at)))
+    filter (λ counted. nat_lt 0 counted.entries) (map (counted_in view) (changes_of view tree command at))
 
 -- THE CLUSTERS that a stream, or a reparse point, may come to own.
 

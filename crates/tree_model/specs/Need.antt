@@ -1,6 +1,6 @@
 -- THE NEED of a command: the clusters and records that have to be free before it is tried, by its bill. `size` is the bytes of a
 -- cluster, `free` the records that are free. That room is asked for beforehand, and how much, is this project's choice.
-use Rattle.std.specs.Prelude.{ℕ, ◌+◌, ◌-◌, ◌*◌, ◌/◌, nat_le, List, length, sum_by, Option, if◌then◌else◌}
+use Rattle.std.specs.Prelude.{ℕ, ◌+◌, ◌-◌, ◌*◌, ◌/◌, nat_le, List, [], length, sum_by, Option, if◌then◌else◌}
 use Rattle.std.specs.List.{range_with_len}
 use Rattle.ntfs_def.specs.declared.lengths.TheConstants.{INDEX_RECORD, RECORD}
 
@@ -29,6 +29,9 @@ pub record Bill : Type 0 where
   pub clusters : ℕ
   pub touched : List Touched
   pub counted : List Counted
+
+abbrev pub empty_bill : Bill
+empty_bill = record { new_files = 0; clusters = 0; touched = []; counted = [] }
 
 -- An entry may split each node on its way, and deepen the index. The next one of the same index finds it one deeper.
 abbrev pub entry_levels : Counted → ℕ

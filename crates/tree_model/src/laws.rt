@@ -1,20 +1,25 @@
 //! Laws of the definitions, with nothing to run.
-ghost use Rattle.std.specs.Prelude.{◌≡◌, ◌≢◌, ◌⊎◌, ◌++◌, ◌∷◌, ℕ, suc, Bool, true, List, Option, Some, filter};
+ghost use Rattle.std.specs.Prelude.{◌≡◌, ◌≢◌, ◌⊎◌, ◌++◌, ◌∷◌, ℕ, suc, Bool, true, List, Option, Some, None, filter};
+ghost use Rattle.std.specs.List.{list_any};
 ghost use Rattle.std.specs.FinMap as finmap;
 ghost use Rattle.ntfs_def.specs.Node.{Item};
 ghost use Rattle.volume_def.specs.CaseClause.{volume_fold};
 ghost use Rattle.volume_def.specs.IndexesClause.{HasIndex, KeyRule, index_parts};
 ghost use Rattle.volume_def.specs.View.{VolumeView};
+ghost use Rattle.tree_model.specs.Bill.{bill_of};
 ghost use Rattle.tree_model.specs.Facts.{IsVolumeOf, ReadsAs};
-ghost use Rattle.tree_model.specs.IndexRoom.{Index, index_depth};
+ghost use Rattle.tree_model.specs.IndexRoom.{Index, has_entry, index_depth};
+ghost use Rattle.tree_model.specs.Need.{empty_bill};
+ghost use Rattle.tree_model.specs.NoRoom.{no_room_for};
 ghost use Rattle.tree_model.specs.Ordered.{in_order, put_in_order};
 ghost use Rattle.tree_model.specs.Paths.{children, lookup};
 ghost use Rattle.tree_model.specs.Reading.{directory_links, node_at, nodes_of, read};
 ghost use Rattle.tree_model.specs.Refusals.{Facts};
 ghost use Rattle.tree_model.specs.Step.{IsFree, Step};
-ghost use Rattle.tree_model.specs.Subjects.{Machine};
+ghost use Rattle.tree_model.specs.Subjects.{Located, Machine, NoName};
 ghost use Rattle.tree_model.specs.Tree.{Tree, link_above, node_of, sought_link};
 ghost use Rattle.tree_model.specs.declared.command.Command.{Command};
+ghost use Rattle.tree_model.specs.declared.command.Command.TheVariants as c;
 ghost use Rattle.tree_model.specs.declared.reply.Reply.{Reply};
 ghost use Rattle.tree_model.specs.declared.tree.Link.{Link};
 ghost use Rattle.tree_model.specs.declared.tree.Node.{Node};
@@ -54,9 +59,23 @@ pub fn edited_reading_laws()
         ≡ put_in_order (link_above fold) link (in_order (link_above fold) (filter test (before ++ after))) }
 {}
 
-/// The depth of an index, which goes by the last child of each node, is that of the tree which its walk goes through.
-pub fn index_depth_law()
-    ensures { (view : VolumeView) (index : Index) (rule : KeyRule) (items : List Item)
+/// What room asks of an index is what its walk has: its depth, which goes by the last child of each node, is that of the
+/// tree, the root counted (`depth`), and the entries of its nodes are those of the walk (`entries`).
+pub fn index_room_laws()
+    ensures depth { (view : VolumeView) (index : Index) (rule : KeyRule) (items : List Item)
         → (has : HasIndex index.form rule view (index_parts view index.file index.name) items)
         → index_depth view index ≡ suc has.walks.depth }
+    ensures entries { (view : VolumeView) (index : Index) (rule : KeyRule) (items : List Item) (test : Item → Bool)
+        → HasIndex index.form rule view (index_parts view index.file index.name) items
+        → has_entry view index test ≡ list_any test items }
+{}
+
+/// A command that asks for no room is not refused for it (`free`); `setattr` and `rmstream` never ask, whatever they name
+/// (they name nothing new).
+pub fn empty_bill_laws()
+    ensures free { (view : VolumeView) → no_room_for view empty_bill ≡ None }
+    ensures setattr { (view : VolumeView) (tree : Tree) (path : List (List ℕ)) (flags : ℕ) (at : Located) → at.new ≡ NoName
+        → bill_of view tree (c.Setattr path flags) at ≡ empty_bill }
+    ensures rmstream { (view : VolumeView) (tree : Tree) (path : List (List ℕ)) (name : List ℕ) (at : Located) → at.new ≡ NoName
+        → bill_of view tree (c.Rmstream path name) at ≡ empty_bill }
 {}
