@@ -1,5 +1,5 @@
 -- Commands that ask for no room.
-use Rattle.std.proofs.Common.{◌≡◌, ◌≤◌, ◌+◌, ◌*◌, ◌++◌, ◌&&◌, ◌==◌, ℕ, Bool, not, length, true, false, cond, filter, map, nat_lt, List, [], ◌∷◌, Option, Some, None}
+use Rattle.std.proofs.Common.{◌≡◌, ◌+◌, ◌*◌, ◌++◌, ◌&&◌, ◌==◌, ℕ, not, length, false, cond, filter, map, nat_lt, List, [], ◌∷◌, None}
 use Rattle.std.proofs.Common.{append-nil, append_assoc, refl, sym, ap, ◌∙◌, arith}
 use Rattle.std.proofs.lemmas.Bool.{le-leb, le-ltb}
 use Rattle.std.specs.List.{range_with_len}
@@ -11,7 +11,7 @@ use Rattle.tree_model.specs.Bill.{Change, bill_of, bill_with, changes_of, cluste
 use Rattle.tree_model.specs.Bill.{directory_change, dropped_links, is_entry_of, is_touched, new_names_in, object_id_change, point_change}
 use Rattle.tree_model.specs.Bill.{removes_file, tags_added, tags_dropped, touched_file, touches_file}
 use Rattle.tree_model.specs.IndexRoom.{Index, directory_index, has_entry, is_object_id_item, is_point_item, object_id_index, point_index}
-use Rattle.tree_model.specs.Need.{Bill, Counted, clusters_for, empty_bill, need_of}
+use Rattle.tree_model.specs.Need.{Counted, clusters_for, empty_bill, need_of}
 use Rattle.tree_model.specs.NoRoom.{mft_free, mft_need, need_on, no_room_for}
 use Rattle.tree_model.specs.Refusals.{when}
 use Rattle.tree_model.specs.Room.{unowned_clusters, unused_records}
@@ -32,10 +32,11 @@ none-refused view =
     let records = unused_records view in
     let clusters = unowned_clusters view in
     let enough : nat_lt records 0 ≡ false = le-ltb records 0 (omega arith) in
-    let need : nat_lt clusters (need_on view empty_bill) ≡ false = ap (nat_lt clusters) (need-empty size records) ∙ le-ltb clusters 0 (omega arith) in
+    let need : nat_lt clusters (need_on view empty_bill) ≡ false =
+        ap (nat_lt clusters) (need-empty size records) ∙ le-ltb clusters 0 (omega arith) in
     ap (λ short. option_or (when (short && nat_lt (mft_free view empty_bill) (mft_need view empty_bill))
-        (no.MftFull (mft_need view empty_bill) (mft_free view empty_bill)))
-      (option_or (when (nat_lt clusters (need_on view empty_bill)) (no.NoRoom (need_on view empty_bill) clusters)) None)) enough
+    (no.MftFull (mft_need view empty_bill) (mft_free view empty_bill)))
+    (option_or (when (nat_lt clusters (need_on view empty_bill)) (no.NoRoom (need_on view empty_bill) clusters)) None)) enough
     ∙ ap (λ short. option_or (when short (no.NoRoom (need_on view empty_bill) clusters)) None) need
 
 -- changes without entries count nothing
@@ -47,7 +48,7 @@ counts-none : {X : Type 0} (view : VolumeView) (change : X → Change) (xs : Lis
 counts-none view change [] rest none = refl
 counts-none view change (x ∷ xs) rest none =
     ap (λ entries. cond (nat_lt 0 entries) (counted_in view (change x) ∷ counts view (map change xs ++ rest))
-      (counts view (map change xs ++ rest))) (none x)
+    (counts view (map change xs ++ rest))) (none x)
     ∙ counts-none view change xs rest none
 
 -- The command names nothing new, drops no link, takes no file away, and touches no key of a reparse point.
@@ -63,21 +64,25 @@ directory-none : (view : VolumeView) (tree : Tree) (command : Command) (at : Loc
 directory-none view tree command at quiet dir =
     ap (λ new. new_names_in dir new + counted_drops view (directory_change tree command at dir)) quiet.new
     ∙ ap (λ links. 0 + counted_drops view
-      (record { index = directory_index dir; added = 0; dropped = map is_entry_of (filter (is_in dir) links) })) quiet.links
+    (record { index = directory_index dir; added = 0; dropped = map is_entry_of (filter (is_in dir) links) })) quiet.links
 
 point-none : (view : VolumeView) (tree : Tree) (command : Command) (at : Located) → IsQuiet tree command at → (index : Index)
     → (counted_in view (point_change view tree command at index)).entries ≡ 0
 point-none view tree command at quiet index =
     ap (λ tags. length (filter (λ tag. not (has_entry view index (is_point_item view at.file tag))) tags)
-      + counted_drops view (point_change view tree command at index)) quiet.added
+    + counted_drops view (point_change view tree command at index)) quiet.added
     ∙ ap (λ tags. 0 + counted_drops view
-      (record { index = index; added = 0; dropped = map (is_point_item view at.file) tags })) quiet.dropped
+    (record { index = index; added = 0; dropped = map (is_point_item view at.file) tags })) quiet.dropped
 
 object_id-none : (view : VolumeView) (tree : Tree) (command : Command) (at : Located) → IsQuiet tree command at → (index : Index)
     → (counted_in view (object_id_change tree command at index)).entries ≡ 0
 object_id-none view tree command at quiet index =
-    ap (λ goes. 0 + counted_drops view (record { index = index; added = 0; dropped = map is_object_id_item
-      (cond goes (filter (λ id. length id == 16) (map object_id (option_to_list at.node))) []) })) quiet.stays
+    ap (λ goes. 0 + counted_drops view (record {
+      index = index;
+      added = 0;
+      dropped = map is_object_id_item
+          (cond goes (filter (λ id. length id == 16) (map object_id (option_to_list at.node))) []);
+    })) quiet.stays
 
 counted-none : (view : VolumeView) (tree : Tree) (command : Command) (at : Located) → IsQuiet tree command at
     → counted_of view tree command at ≡ []

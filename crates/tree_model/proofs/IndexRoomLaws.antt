@@ -1,21 +1,17 @@
 -- The depth of an index is that of the tree which its walk goes through, and its nodes have the entries of the walk.
-use Rattle.std.proofs.Common.{◌≡◌, ◌≤◌, ◌++◌, ◌||◌, Bool, true, false, append-nil, cond, eqb, ℕ, zero, suc, map, List, [], ◌∷◌, Option, Some, None, refl, sym, ap, ◌∙◌, arith}
+use Rattle.std.proofs.Common.{◌≡◌, ◌≤◌, ◌++◌, ◌||◌, Bool, true, false, cond, eqb, ℕ, zero, suc, map, List, [], ◌∷◌, Option, Some, None}
+use Rattle.std.proofs.Common.{append-nil, refl, sym, ap, ◌∙◌, arith}
 use Rattle.std.proofs.lemmas.List.Folds.{list_any-append}
 use Rattle.std.specs.List.{filter_map, find, flat_map, list_any}
 use Rattle.std.specs.Option.{option_and_then, option_map_or, option_to_list}
 use Rattle.ntfs_def.specs.IndexTree.{AreStored, Branch, EachBelow, IsStored, Nodes, Spread, Tree, branch_items, child_of, entry_of}
 use Rattle.ntfs_def.specs.IndexTree.{items_of, most_depth, node_of, spread_items}
 use Rattle.ntfs_def.specs.Node.{Entry, Item, Node, short_node}
-use Rattle.ntfs_def.specs.declared.index.NodeForm.{NodeForm}
 use Rattle.volume_def.specs.Files.{Clusters, Content, Part, Value, content_value}
 use Rattle.volume_def.specs.IndexesClause.{HasIndex, KeyRule, index_parts}
 use Rattle.volume_def.specs.Values.{first_part, first_vcn_of, is_first}
 use Rattle.volume_def.specs.View.{VolumeView}
 use Rattle.tree_model.specs.IndexRoom.{Index, all_nodes, has_entry, holds_entry, index_depth, levels_below, nodes_under, other_nodes}
-use Rattle.tree_model.specs.IndexRoom.{root_of}
-
-some_same : {X : Type 0} {a b : X} → Some a ≡ Some b → a ≡ b
-some_same e = cc
 
 none_other : {X : Type 0} {a : X} → None ≡ Some a → ⊥
 none_other e = cc
@@ -109,7 +105,8 @@ inner test nodes found d (b ∷ bs) last below h =
     ap (λ any. (test b.item || own test (suc d) bs) || any)
     (list_any-append (holds_entry test) (found b.below.vcn) (flat_map found rest)
     ∙ ap (λ any. any || list_any (holds_entry test) (flat_map found rest)) (below b.below h.0))
-    ∙ apart (test b.item) (own test (suc d) bs) (list_any test (items_of (suc d) b.below)) (list_any (holds_entry test) (flat_map found rest))
+    ∙ apart (test b.item) (own test (suc d) bs) (list_any test (items_of (suc d) b.below))
+    (list_any (holds_entry test) (flat_map found rest))
     ∙ ap (λ any. list_any test (items_of (suc d) b.below) || (test b.item || any)) (inner test nodes found d bs last below h.1)
     ∙ sym (list_any-append test (items_of (suc d) b.below) (b.item ∷ branch_items (items_of (suc d)) bs last))
 
@@ -119,13 +116,13 @@ unfolding own children
 under-items test nodes zero zero s few h = or-false (own test 0 s.branches) ∙ own-leaf test s.branches s.last
 under-items test nodes zero (suc d) s few h = absurd (omega (arith, few))
 under-items test nodes (suc levels) zero s few h =
-    ap (λ below. own test 0 s.branches || list_any (holds_entry test) (flat_map (λ vcn. option_map_or (nodes_under levels nodes) (nodes vcn) []) below))
-    (children-leaf s.branches s.last)
+    let found : ℕ → List Node = λ vcn. option_map_or (nodes_under levels nodes) (nodes vcn) [] in
+    ap (λ below. own test 0 s.branches || list_any (holds_entry test) (flat_map found below)) (children-leaf s.branches s.last)
     ∙ or-false (own test 0 s.branches) ∙ own-leaf test s.branches s.last
 under-items test nodes (suc levels) (suc d) s few h =
     inner test nodes (λ vcn. option_map_or (nodes_under levels nodes) (nodes vcn) []) d s.branches s.last
     (λ t stored. ap (λ node. list_any (holds_entry test) (option_map_or (nodes_under levels nodes) node [])) stored.0
-      ∙ under-items test nodes levels d t.spread (omega (arith, few)) stored.1)
+    ∙ under-items test nodes levels d t.spread (omega (arith, few)) stored.1)
     h
 
 pub entry-walk : (view : VolumeView) (index : Index) (rule : KeyRule) (items : List Item) (test : Item → Bool)

@@ -38,7 +38,7 @@ one_reply facts m session command given other next last x y = both x.replied y.r
     free_memory r e = subst IsFree (sym e) tt
 
     Replied : Reply → Type 0
-    Replied r = (r ≡ reply_of (due facts m session command)) ⊎ (r ≡ reply.No no.Memory) 
+    Replied r = (r ≡ reply_of (due facts m session command)) ⊎ (r ≡ reply.No no.Memory)
         ⊎ Overflows (outcome facts m session command) (facts.spills m command) r
 
     both : Replied given → Replied other → IsFree given ⊎ IsFree other ⊎ (given ≡ other)

@@ -1,12 +1,12 @@
 -- THE BILL of each command: which files it touches, which entries of indexes count, and how many clusters it may come to own. All
 -- is read from the image before the command. What is on it is this project's choice.
 use Rattle.std.specs.Prelude.{ℕ, ◌+◌, ◌==◌, ◌&&◌, ◌||◌, not, nat_lt, max, Bool, true, false, List, [], ◌∷◌, ◌++◌, codes}
-use Rattle.std.specs.Prelude.{filter, flat_map, length, map, Option, Some, None, is_some, option_and_then, option_map, if◌then◌else◌}
+use Rattle.std.specs.Prelude.{filter, length, map, Option, Some, None, is_some, option_and_then, option_map, if◌then◌else◌}
 use Rattle.std.specs.List.{list_any, range_with_len}
 use Rattle.std.specs.Option.{option_map_or, option_to_list}
 use Rattle.ntfs_def.specs.FileName.{link_of}
 use Rattle.ntfs_def.specs.Node.{Item}
-use Rattle.volume_def.specs.Files.{parts, records_of}
+use Rattle.volume_def.specs.Files.{Part, parts, records_of}
 use Rattle.volume_def.specs.Table.{cluster_bytes}
 use Rattle.volume_def.specs.View.{VolumeView}
 use Rattle.tree_model.specs.Answers.{object_id}
@@ -17,9 +17,9 @@ use Rattle.tree_model.specs.IndexRoom.{is_point_item, object_id_index, point_ind
 use Rattle.tree_model.specs.Need.{Bill, Counted, Touched, clusters_for}
 use Rattle.tree_model.specs.Reading.{link_by, standard_of}
 use Rattle.tree_model.specs.Room.{list_len_of, longest_name}
-use Rattle.tree_model.specs.StreamRoom.{is_in_place, new_clusters, stream_parts, value_in}
+use Rattle.tree_model.specs.StreamRoom.{is_in_place, new_clusters, parts_named, value_in}
 use Rattle.tree_model.specs.Subjects.{Located, NameIn, NewName}
-use Rattle.tree_model.specs.Tree.{Tree, is_in}
+use Rattle.tree_model.specs.Tree.{Tree, is_in, sought_stream}
 use Rattle.tree_model.specs.declared.command.Command.{Command}
 use Rattle.tree_model.specs.declared.command.Command.TheVariants as c
 use Rattle.tree_model.specs.declared.tree.Content.{Content}
@@ -117,6 +117,12 @@ counted_of view tree command at =
     filter (λ counted. nat_lt 0 counted.entries) (map (counted_in view) (changes_of view tree command at))
 
 -- THE CLUSTERS that a stream, or a reparse point, may come to own.
+
+-- the parts of the stream that a command names, as it is spelt in its file; none where it is not there
+abbrev pub stream_parts : VolumeView → Tree → Located → List Part
+stream_parts view tree at =
+    option_map_or (λ stream. parts_named view at.file stream.name)
+    (option_and_then (λ node. sought_stream tree.fold node.streams at.stream) at.node) []
 
 -- A stream grows by `truncate` where it is shorter, or missing.
 abbrev pub grows : ℕ → Option Content → Bool

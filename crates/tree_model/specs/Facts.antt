@@ -1,20 +1,18 @@
 -- What an image says: its volume, its reading, and what it tells beside the tree.
 -- Layout: Linux-NTFS documentation, file $Secure; Carrier, File System Forensic Analysis, chapters 11 to 13.
-use Rattle.std.specs.Prelude.{◌≡◌, ℕ, ◌+◌, ◌-◌, ◌/◌, ◌≤◌, ◌==◌, List, Contains, codes, count_by, drop, is_none, is_some, length}
+use Rattle.std.specs.Prelude.{◌≡◌, ℕ, ◌+◌, ◌-◌, ◌/◌, ◌≤◌, List, Contains, codes, drop, is_some, length}
 use Rattle.std.specs.Prelude.{slice_range, take, Option, Some, None}
-use Rattle.std.specs.List.{range_with_len}
 use Rattle.vol_bytes.specs.Field.{u16_at, u32_at, u64_at}
 use Rattle.vol_disk.specs.Contents.{sector_in}
 use Rattle.ntfs_def.specs.Boot.{boot_sector}
 use Rattle.ntfs_def.specs.Node.{Item}
 use Rattle.ntfs_def.specs.Units.{wide}
 use Rattle.ntfs_def.specs.declared.kinds.TheConstants.{DATA}
-use Rattle.ntfs_def.specs.declared.records.TheConstants.{FIRST_ORDINARY, SECURE}
+use Rattle.ntfs_def.specs.declared.records.TheConstants.{SECURE}
 use Rattle.volume_def.specs.Values.{IsPlain}
 use Rattle.volume_def.specs.Files.{parts_at}
-use Rattle.volume_def.specs.Files.{Part, record_on, records_of}
+use Rattle.volume_def.specs.Files.{Part, record_on}
 use Rattle.volume_def.specs.IndexesClause.{IsViewIndex, id_rule, index_parts}
-use Rattle.volume_def.specs.OwnersClause.{times_owned}
 use Rattle.volume_def.specs.Sound.{HasLayout, told_view}
 use Rattle.volume_def.specs.Table.{TableLayout}
 use Rattle.volume_def.specs.Values.{value_on}

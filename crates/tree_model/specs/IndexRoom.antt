@@ -1,8 +1,8 @@
 -- An index as room is asked of it: how deep it is, and where in it an entry stands.
 -- Layout: Linux-NTFS documentation, concept "B*Trees", attributes $INDEX_ROOT and $INDEX_ALLOCATION, files $ObjId and $Reparse;
 -- Carrier, File System Forensic Analysis, chapters 12 and 13.
-use Rattle.std.specs.Prelude.{ℕ, zero, suc, ◌+◌, ◌*◌, ◌^◌, ◌==◌, ◌&&◌, nat_le, nat_lt, Bool, List, [], ◌∷◌, ◌++◌, codes, filter_map}
-use Rattle.std.specs.Prelude.{find, flat_map, length, Option, Some, None, is_some, option_and_then, option_map, if◌then◌else◌}
+use Rattle.std.specs.Prelude.{ℕ, zero, suc, ◌+◌, ◌*◌, ◌^◌, ◌==◌, ◌&&◌, nat_le, Bool, List, [], ◌∷◌, ◌++◌, codes, filter_map}
+use Rattle.std.specs.Prelude.{find, flat_map, length, Option, Some, None, is_some, option_and_then, if◌then◌else◌}
 use Rattle.std.specs.List.{list_any, range_with_len}
 use Rattle.std.specs.Option.{option_map_or, option_to_list}
 use Rattle.std.specs.Str.{bytes_eq}

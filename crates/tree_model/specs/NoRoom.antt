@@ -1,6 +1,6 @@
 -- THE REFUSALS FOR ROOM, in their order. Each asks for no more than its case, so that an edit that none of them refuses is done.
 -- How much is asked for is this project's choice.
-use Rattle.std.specs.Prelude.{ℕ, ◌+◌, ◌*◌, ◌^◌, ◌&&◌, nat_lt, nat_le, Bool, List, [], ◌∷◌, find, Option, is_some, option_map, if◌then◌else◌}
+use Rattle.std.specs.Prelude.{ℕ, ◌+◌, ◌*◌, ◌^◌, ◌&&◌, nat_lt, nat_le, Bool, [], ◌∷◌, find, Option, is_some, option_map, if◌then◌else◌}
 use Rattle.std.specs.List.{list_any}
 use Rattle.ntfs_def.specs.declared.lengths.TheConstants.{RECORD}
 use Rattle.ntfs_def.specs.declared.records.TheConstants.{MFT}

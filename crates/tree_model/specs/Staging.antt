@@ -1,8 +1,8 @@
 -- WHAT IS NOT BUILT YET, told here alone: Unbuilt, Linked and Overflow. Once all is built this file goes out, with the places that
 -- name it: `is_built` and `linked` in `Refusals`, `Overflows` and `IsOverflow` in `Step`, the field `spills` of `Facts` and of
 -- `TellsFacts`, and the three variants of the type `No`.
-use Rattle.std.specs.Prelude.{◌≡◌, ℕ, ◌+◌, ◌*◌, ◌==◌, ◌&&◌, ◌||◌, not, nat_lt, Bool, true, false, filter, filter_map, length, Option, Some, None}
-use Rattle.std.specs.Prelude.{Result, Ok, is_some, option_and_then, slice_get, sum_by, if◌then◌else◌}
+use Rattle.std.specs.Prelude.{◌≡◌, ℕ, ◌+◌, ◌*◌, ◌==◌, ◌&&◌, ◌||◌, not, nat_lt, Bool, true, false, filter, filter_map, length, Option}
+use Rattle.std.specs.Prelude.{Some, None, Result, Ok, is_some, option_and_then, slice_get, sum_by, if◌then◌else◌}
 use Rattle.std.specs.List.{list_any}
 use Rattle.std.specs.Option.{option_map_or}
 use Rattle.ntfs_def.specs.declared.kinds.TheConstants.{OBJECT_ID}

@@ -1,5 +1,5 @@
 -- One step of the machine: a session's command, its reply, and the state after it.
-use Rattle.std.specs.Prelude.{◌≡◌, ◌⊎◌, ℕ, ◌≤◌, false, All, Some, None, Result, Ok, Err, IsTrue}
+use Rattle.std.specs.Prelude.{◌≡◌, ◌⊎◌, ℕ, ◌≤◌, false, All, None, Result, Ok, Err, IsTrue}
 use Rattle.ntfs_def.specs.declared.records.TheConstants.{FIRST_ORDINARY}
 use Rattle.tree_model.specs.Answers.{answer_of}
 use Rattle.tree_model.specs.Effects.{after, makes_file}

@@ -1,7 +1,7 @@
 -- The clusters that an edit of a stream may come to own. `size` is the bytes of a cluster, `extents` the parts of the stream.
 -- Layout: Linux-NTFS documentation, "Attribute Headers" and concept "Data Runs"; Carrier, File System Forensic Analysis, chapter 13.
-use Rattle.std.specs.Prelude.{ℕ, ◌+◌, ◌*◌, ◌==◌, ◌&&◌, ◌||◌, not, nat_lt, nat_le, max, Bool, true, false, List, [], count_by, filter, length}
-use Rattle.std.specs.Prelude.{Option, is_some, option_and_then}
+use Rattle.std.specs.Prelude.{ℕ, ◌+◌, ◌*◌, ◌==◌, ◌&&◌, ◌||◌, not, nat_lt, nat_le, max, Bool, true, false, List, count_by, filter, length}
+use Rattle.std.specs.Prelude.{Option, option_and_then}
 use Rattle.std.specs.List.{range_with_len}
 use Rattle.std.specs.Option.{option_map_or}
 use Rattle.std.specs.Str.{bytes_eq}
@@ -14,18 +14,10 @@ use Rattle.volume_def.specs.StreamSize.{real_size, told_size}
 use Rattle.volume_def.specs.Values.{first_part, spot_at}
 use Rattle.volume_def.specs.View.{VolumeView}
 use Rattle.tree_model.specs.Need.{clusters_for}
-use Rattle.tree_model.specs.Subjects.{Located}
-use Rattle.tree_model.specs.Tree.{Tree, sought_stream}
 
 -- the parts of a stream of the file, by the units of its name
 abbrev pub parts_named : VolumeView → ℕ → List ℕ → List Part
 parts_named view f name = filter (λ part. (part.kind == DATA) && bytes_eq (units_in part.name) name) (parts (records_of view) f)
-
--- those of the stream that a command names, none where it is not there
-abbrev pub stream_parts : VolumeView → Tree → Located → List Part
-stream_parts view tree at =
-    option_map_or (λ stream. parts_named view at.file stream.name)
-    (option_and_then (λ node. sought_stream tree.fold node.streams at.stream) at.node) []
 
 -- the value of a stream that has one, which an edit may have to put into clusters
 abbrev pub value_in : List Part → Option (List ℕ)
