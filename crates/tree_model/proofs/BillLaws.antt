@@ -33,7 +33,7 @@ none-refused view =
     let clusters = unowned_clusters view in
     let enough : nat_lt records 0 ≡ false = le-ltb records 0 (omega arith) in
     let need : nat_lt clusters (need_on view empty_bill) ≡ false =
-        ap (nat_lt clusters) (need-empty size records) ∙ le-ltb clusters 0 (omega arith) in
+    ap (nat_lt clusters) (need-empty size records) ∙ le-ltb clusters 0 (omega arith) in
     ap (λ short. option_or (when (short && nat_lt (mft_free view empty_bill) (mft_need view empty_bill))
     (no.MftFull (mft_need view empty_bill) (mft_free view empty_bill)))
     (option_or (when (nat_lt clusters (need_on view empty_bill)) (no.NoRoom (need_on view empty_bill) clusters)) None)) enough
