@@ -7,4 +7,5 @@ pub mod OutputLaws
 pub mod PathLaws
 pub mod PieceLaws
 pub mod RowLaws
+pub mod TextLaws
 pub mod VerbLaws

@@ -1,6 +1,6 @@
 -- Texts behind one another.
 use Rattle.std.proofs.Common.{◌≡◌, ℕ, zero, suc, ◌+◌, ◌<◌, ◌≤◌, List, [], ◌∷◌, ◌++◌, length, take, drop, get_or, Option, Some, None, Result, Ok, Err, refl, sym, ap, ◌∙◌, subst, arith, append-nil, append_assoc, take-append-drop}
-use Rattle.std.specs.Prelude.{IsErr, OnOk, flat_map}
+use Rattle.std.specs.Prelude.{IsErr, OnErr, OnOk, flat_map}
 use Rattle.std.proofs.lemmas.List.{drop_all}
 use Rattle.vol_disk.specs.Count.{CountsFault, Rose}
 use Rattle.vol_disk.specs.declared.Failed.{Failed}
@@ -63,6 +63,14 @@ prints_more a b c s t u r p q = record {
   faults = counts_on a.faults b.faults c.faults r p.faults q.faults;
 }
 
+-- what was held back is handed on
+pub prints_flushed : {S T E : Type 0} (a b c : Output) (s : List ℕ) (u : S) (r : Result T E) → Prints {E = E} a b s (Ok u) → Prints b c [] r → Prints a c s r
+prints_flushed a b c s u r p q = subst (λ t. Prints a c t r) (append-nil s) (prints_more a b c s [] u r p q)
+
+pub on_err : {T E : Type 0} {P : Type 0} (r : Result T E) → P → OnErr r P
+on_err (Ok u) h = tt
+on_err (Err why) h = h
+
 take_front : (xs ys : List ℕ) → take (length xs) (xs ++ ys) ≡ xs
 take_front [] ys = refl
 take_front (x ∷ xs) ys = ap (λ t. x ∷ t) (take_front xs ys)
@@ -104,3 +112,20 @@ onto_stop text xs i x start now next why r h is onto err p =
 pub onto_end : {A : Type 0} (text : A → List ℕ) (xs : List A) (i : ℕ) (start now : Output) → length xs ≤ i → Onto text xs i start now
     → Prints {E = Failed} start now (flat_map text xs) (Ok (tt {0}))
 onto_end text xs i start now h onto = onto now (Ok (tt {0})) (rw (drop_all i xs h) (prints_none now))
+
+-- What is printed of the rest of a text makes all of it.
+abbrev pub OntoRest : {A : Type 0} → (List A → List ℕ) → List A → List A → Output → Output → Type 0
+OntoRest text whole rest start now = (after : Output) (r : Result (Unit {0}) Failed) → Prints now after (text rest) r → Prints start after (text whole) r
+
+pub rest_more : {A S : Type 0} (text : List A → List ℕ) (whole rest back : List A) (front : List ℕ) (start now next : Output) (u : S) → text rest ≡ front ++ text back
+    → OntoRest text whole rest start now → Prints {E = Failed} now next front (Ok u) → OntoRest text whole back start next
+rest_more text whole rest back front start now next u parts onto p = λ after r q.
+    onto after r (rw parts (prints_more now next after front (text back) u r p q))
+
+pub rest_stop : {A S : Type 0} (text : List A → List ℕ) (whole rest back : List A) (front : List ℕ) (start now next : Output) (why : Failed) (r : Result (Unit {0}) Failed)
+    → text rest ≡ front ++ text back → OntoRest text whole rest start now → IsErr r → Prints {T = S} now next front (Err why) → Prints start next (text whole) r
+rest_stop text whole rest back front start now next why r parts onto err p = onto next r (rw parts (prints_less now next front (text back) why r err p))
+
+pub rest_end : {A : Type 0} (text : List A → List ℕ) (whole rest : List A) (start now : Output) → text rest ≡ [] → OntoRest text whole rest start now
+    → Prints {E = Failed} start now (text whole) (Ok (tt {0}))
+rest_end text whole rest start now none onto = onto now (Ok (tt {0})) (rw none (prints_none now))

@@ -35,11 +35,14 @@ kind_text dir = if dir then codes "dir" else codes "file"
 
 -- `ls`: a kind and a name
 abbrev pub listed_text : Listed → List ℕ
-listed_text listed = kind_text listed.dir ++ and_word (name_text listed.name) ++ codes "\n"
+listed_text listed = kind_text listed.dir ++ (and_word (name_text listed.name) ++ codes "\n")
 
 -- `links`: a namespace and a path
 abbrev pub link_text : ShownLink → List ℕ
-link_text link = codes "link" ++ and_word (decimal link.space) ++ and_word (path_text link.path) ++ codes "\n"
+link_text link = codes "link" ++ and_word (decimal link.space) ++ (and_word (path_text link.path) ++ codes "\n")
+
+abbrev pub stream_word : Bool → List ℕ
+stream_word packed = if packed then codes "packed" else codes "stream"
 
 -- `streams`: a size, and the name, where the stream has one
 abbrev pub name_word : List ℕ → List ℕ
@@ -47,7 +50,7 @@ name_word [] = []
 name_word (unit ∷ units) = and_word (name_text (unit ∷ units))
 
 abbrev pub stream_text : ShownStream → List ℕ
-stream_text stream = (if stream.packed then codes "packed" else codes "stream") ++ and_word (decimal stream.size) ++ name_word stream.name ++ codes "\n"
+stream_text stream = stream_word stream.packed ++ and_word (decimal stream.size) ++ (name_word stream.name ++ codes "\n")
 
 -- `stat`: a kind, the numbers of links and bytes, DOS flags, an id, and four times
 abbrev pub stat_text : Bool → ℕ → ℕ → ℕ → ℕ → ℕ → ℕ → ℕ → ℕ → List ℕ
@@ -69,7 +72,7 @@ abbrev pub flags_text : List ℕ → ℕ → List ℕ
 flags_text name flags = name ++ and_word (hexadecimal 2 flags) ++ codes "\n"
 
 abbrev pub data_text : List ℕ → List ℕ → List ℕ
-data_text name bytes = name ++ and_word (bytes_text bytes) ++ codes "\n"
+data_text name bytes = name ++ (and_word (bytes_text bytes) ++ codes "\n")
 
 -- `reparse`, before its bytes
 abbrev pub tag_text : ℕ → List ℕ
@@ -142,7 +145,7 @@ abbrev pub refusal_text : No → List ℕ
 refusal_text refused = codes "no" ++ and_word (refusal_name refused) ++ refusal_numbers refused ++ codes "\n"
 
 -- a reply that is no device fault
-unfoldable pub text_of : Reply → List ℕ
+abbrev pub text_of : Reply → List ℕ
 text_of (reply.Ok told) = lines_of told ++ codes "ok\n"
 text_of (reply.No refused) = refusal_text refused
 text_of reply.Device = []

@@ -13,6 +13,8 @@ mod paths;
 mod pieces;
 mod print;
 mod rows;
+#[cfg(test)]
+mod tests;
 mod verb;
 mod words;
 

@@ -1,7 +1,7 @@
 //! Short texts, laid out without memory.
 ghost use Rattle.std.specs.Prelude.{◌≡◌, ◌+◌, ◌≤◌, ◌++◌, decimal, length, slice_index};
 ghost use Rattle.arrayvec.specs.ArrayVec.{array_vec_len};
-ghost use Rattle.cmd_lang.specs.Printed.{and_word, df_text, flags_text, kind_text, number_text, refusal_name, refusal_numbers, refusal_text, stat_text, tag_text};
+ghost use Rattle.cmd_lang.specs.Printed.{and_word, df_text, flags_text, kind_text, number_text, refusal_name, refusal_numbers, refusal_text, stat_text, stream_word, tag_text};
 
 use crate::digits::{flags_digits, tag_digits};
 use arrayvec::ArrayVec;
@@ -44,6 +44,14 @@ pub fn kind_text(dir: bool) -> &'static [u8]
     ensures short { length result.now ≤ 4 }
 {
     if dir { b"dir" } else { b"file" }
+}
+
+/// The word for a stream.
+pub fn stream_word(packed: bool) -> &'static [u8]
+    ensures text { result.now ≡ stream_word packed }
+    ensures short { length result.now ≤ 16 }
+{
+    if packed { b"packed" } else { b"stream" }
 }
 
 /// The line of `stat`.

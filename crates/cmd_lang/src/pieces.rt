@@ -55,7 +55,8 @@ pub fn put_name<K: Sink>(out: &mut K, held: &mut Held, units: &[u16]) -> Result<
     'characters: while !rest.is_empty() {
         let first = first_text(rest);
         put(out, held, first.text.as_slice())?;
-        rest = &rest[first.units..];
+        let (_, more) = rest.split_at(first.units);
+        rest = more;
     }
     Ok(())
 }

@@ -7,7 +7,7 @@ ghost use Rattle.cmd_lang.specs.Printed.{data_text, lines_of, link_text, listed_
 ghost use Rattle.tree_model.specs.declared.reply.Reply.TheVariants as reply_is;
 
 use crate::held::{Held, flush, put};
-use crate::line::{df_line, flags_line, kind_text, number_front, number_line, refusal_line, stat_line, tag_front};
+use crate::line::{df_line, flags_line, kind_text, number_front, number_line, refusal_line, stat_line, stream_word, tag_front};
 use crate::pieces::{put_bytes, put_name, put_path};
 use tree_model::{Answer, Listed, Reply, ShownLink, ShownStream};
 use vol_disk::{Failed, Sink};
@@ -47,8 +47,7 @@ fn put_name_word<K: Sink>(out: &mut K, held: &mut Held, units: &[u16]) -> Result
 fn put_stream<K: Sink>(out: &mut K, held: &mut Held, stream: &ShownStream) -> Result<(), Failed>
     ensures { Prints (output K.Sink out.old held.old.items) (output K.Sink out.new held.new.items) (stream_text stream.now) result }
 {
-    let kind = if stream.packed { b"packed" } else { b"stream" };
-    put(out, held, number_front(kind, stream.size).as_slice())?;
+    put(out, held, number_front(stream_word(stream.packed), stream.size).as_slice())?;
     put_name_word(out, held, stream.name.as_slice())?;
     put(out, held, b"\n")
 }
