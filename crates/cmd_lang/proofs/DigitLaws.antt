@@ -111,7 +111,7 @@ all_lower (byte ∷ bytes) each =
     let high : byte / 16 < 16 = omega (arith, small) in
     let low : byte % 16 < 16 = omega arith in
     All-cons IsLower (slice_index lower_digits (byte / 16)) (slice_index lower_digits (byte % 16) ∷ encode_lower bytes) (digit_lower (byte / 16) high)
-      (All-cons IsLower (slice_index lower_digits (byte % 16)) (encode_lower bytes) (digit_lower (byte % 16) low) (all_lower bytes (λ k. each (suc k))))
+    (All-cons IsLower (slice_index lower_digits (byte % 16)) (encode_lower bytes) (digit_lower (byte % 16) low) (all_lower bytes (λ k. each (suc k))))
 
 -- the digits of bytes are pairs
 pub ArePairs-digits : (text bytes : List ℕ) → AreDigits text bytes → ArePairs text

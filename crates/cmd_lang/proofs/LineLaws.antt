@@ -1,5 +1,5 @@
 -- The first word of a line.
-use Rattle.std.proofs.Common.{◌≡◌, ℕ, List, [], ◌∷◌, Option, Some, None, inl, inr, sym, ◌∙◌, subst}
+use Rattle.std.proofs.Common.{ℕ, List, ◌∷◌, Option, Some, None, inl, inr, sym, ◌∙◌, subst}
 use Rattle.std.specs.Prelude.{decimal}
 use Rattle.tree_model.specs.declared.command.Command.{Command}
 use Rattle.cmd_lang.specs.Grammar.{AreWords, IsCommand, IsSession}

@@ -1,17 +1,14 @@
 -- A word stands for one thing.
-use Rattle.std.proofs.Common.{◌≡◌, ◌≢◌, ℕ, suc, zero, ◌+◌, ◌*◌, ◌%◌, ◌<◌, ◌≤◌, ◌^◌, Bool, true, false, List, [], ◌∷◌, ◌++◌, length, Option, Some, None, Result, Ok, Err, inl, inr, refl, sym, ap, ◌∙◌, subst, arith}
-use Rattle.std.specs.Prelude.{◌⊎◌, codes, ◌==◌, flat_map, if◌then◌else◌}
-use Rattle.std.specs.Result.{result_unwrap_or}
-use Rattle.hex.specs.declared.error.FromHexError.{FromHexError}
+use Rattle.std.proofs.Common.{◌≡◌, ℕ, ◌<◌, Bool, true, false, List, [], ◌∷◌, ◌++◌, length, Option, Some, None, inl, inr, refl, sym, ap, ◌∙◌, subst, arith}
+use Rattle.std.specs.Prelude.{codes, ◌==◌, flat_map, if◌then◌else◌}
 use Rattle.hex.specs.Hex.{decode_of}
 use Rattle.hex.proofs.HexLemmas.{decode_of-encode_lower, decode_of-same}
 use Rattle.vol_bytes.specs.NameText.{IsNameText, letter_text, letter_units}
 use Rattle.vol_bytes.specs.declared.letter.Letter.{Letter}
 use Rattle.vol_bytes.proofs.LetterLaws.{letter-some, one_name}
 use Rattle.tree_model.specs.declared.opens.Access.{Access}
-use Rattle.cmd_lang.specs.Words.{AreDigits, AreNames, IsAccess, IsBehind, IsHex, IsPath, IsShare, IsTarget, IsTargetOf, letter_if, letters_of, pieces}
+use Rattle.cmd_lang.specs.Words.{AreDigits, AreNames, IsAccess, IsBehind, IsHex, IsPath, IsShare, IsTarget, IsTargetOf, letters_of, pieces}
 use Rattle.cmd_lang.proofs.DigitLaws.{ArePairs-digits}
-use Rattle.cmd_lang.specs.Digits.{ArePairs}
 
 pub one_names : (texts a b : List (List ℕ)) → AreNames texts a → AreNames texts b → a ≡ b
 one_names [] [] [] x y = refl

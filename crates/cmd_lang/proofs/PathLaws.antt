@@ -1,5 +1,5 @@
 -- Names with a `/` between them.
-use Rattle.std.proofs.Common.{◌≡◌, ◌≢◌, ℕ, List, [], ◌∷◌, ◌++◌, length, ◌==◌, true, false, Option, Some, None, Result, Ok, Err, refl, sym, ap, ◌∙◌, subst}
+use Rattle.std.proofs.Common.{◌≡◌, ◌≢◌, ℕ, List, [], ◌∷◌, length, ◌==◌, true, false, Option, Some, None, Result, Ok, Err, refl, sym, ap, ◌∙◌, subst}
 use Rattle.std.specs.Prelude.{IfOk}
 use Rattle.vol_bytes.specs.NameText.{IsNameText}
 use Rattle.cmd_lang.specs.Lines.{Finds}
@@ -41,7 +41,6 @@ not_path text first rest e n names p = n (ap head (sym e ∙ p.written))
 
 pub not_empty : (rest : List ℕ) → (length rest == 0) ≡ false → rest ≢ []
 not_empty rest e h = let f : (length rest == 0) ≡ true = ap (λ r. length r == 0) h in cc
-
 
 -- the names behind the first `/`, where there is something
 pub behind : (rest : List ℕ) (found : Option (List (List ℕ))) → rest ≢ [] → Finds (AreNames (pieces 47 rest)) found → Finds (IsBehind rest) found

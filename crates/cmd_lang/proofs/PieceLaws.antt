@@ -1,7 +1,6 @@
 -- The first piece of a text.
-use Rattle.std.proofs.Common.{◌≡◌, ◌≢◌, ◌==◌, ℕ, zero, suc, ◌+◌, ◌-◌, ◌<◌, ◌≤◌, Bool, true, false, List, [], ◌∷◌, length, take, drop, slice_index, get_or, refl, sym, ap, ◌∙◌, subst, arith, length-drop}
-use Rattle.std.proofs.lemmas.List.{take_all}
-use Rattle.cmd_lang.specs.Words.{onto, pieces}
+use Rattle.std.proofs.Common.{◌≡◌, ◌≢◌, ◌==◌, ℕ, zero, suc, ◌+◌, ◌<◌, Bool, true, false, List, [], ◌∷◌, length, take, drop, slice_index, refl, sym, ap, ◌∙◌, arith}
+use Rattle.cmd_lang.specs.Words.{pieces}
 
 pub whole : (sep : ℕ) (text : List ℕ) → ((k : ℕ) → k < length text → (slice_index text k == sep) ≡ true → ⊥) → pieces sep text ≡ text ∷ []
 unfolding pieces

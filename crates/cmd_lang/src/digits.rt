@@ -94,11 +94,7 @@ pub fn read_tag(text: &[u8]) -> Option<u32>
         return None;
     }
     let tag = BigEndian::read_u32(&bytes);
-    if is_tag(text, tag) {
-        Some(tag)
-    } else {
-        None
-    }
+    if is_tag(text, tag) { Some(tag) } else { None }
 }
 
 // The number that four digits write.

@@ -55,7 +55,14 @@ pub fn stream_word(packed: bool) -> &'static [u8]
 }
 
 /// The line of `stat`.
-pub fn stat_line(dir: bool, links: u64, size: u64, flags: u16, security: u32, times: [u64; 4]) -> Line
+pub fn stat_line(
+    dir: bool,
+    links: u64,
+    size: u64,
+    flags: u16,
+    security: u32,
+    times: [u64; 4],
+) -> Line
     ensures text { let time = slice_index times in
         result.items ≡ stat_text dir links size flags security (time 0) (time 1) (time 2) (time 3) }
     ensures short { length result.items ≤ 256 }

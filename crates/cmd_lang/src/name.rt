@@ -60,7 +60,8 @@ fn char_text(char: char) -> CharText
 {
     let mut bytes = [0; 4];
     let mut text = CharText::new();
-    text.try_extend_from_slice(char.encode_utf8(&mut bytes).as_bytes()).unwrap();
+    text.try_extend_from_slice(char.encode_utf8(&mut bytes).as_bytes())
+        .unwrap();
     text
 }
 

@@ -68,7 +68,11 @@ pub fn read_path(alloc: Global, text: &[u8]) -> Result<Option<Path>, AllocError>
 }
 
 // The target of two pieces, a path and a name of a stream.
-fn read_named_stream(alloc: Global, first: &[u8], second: &[u8]) -> Result<Option<Target>, AllocError>
+fn read_named_stream(
+    alloc: Global,
+    first: &[u8],
+    second: &[u8],
+) -> Result<Option<Target>, AllocError>
     ensures { IfOk result (FindsTarget (first.now ∷ second.now ∷ [])) }
 {
     let Some(path) = read_path(alloc, first)? else {

@@ -7,7 +7,10 @@ ghost use Rattle.cmd_lang.specs.Printed.{data_text, lines_of, link_text, listed_
 ghost use Rattle.tree_model.specs.declared.reply.Reply.TheVariants as reply_is;
 
 use crate::held::{Held, flush, put};
-use crate::line::{df_line, flags_line, kind_text, number_front, number_line, refusal_line, stat_line, stream_word, tag_front};
+use crate::line::{
+    df_line, flags_line, kind_text, number_front, number_line, refusal_line, stat_line,
+    stream_word, tag_front,
+};
 use crate::pieces::{put_bytes, put_name, put_path};
 use tree_model::{Answer, Listed, Reply, ShownLink, ShownStream};
 use vol_disk::{Failed, Sink};
@@ -26,7 +29,11 @@ fn put_listed<K: Sink>(out: &mut K, held: &mut Held, listed: &Listed) -> Result<
 fn put_link<K: Sink>(out: &mut K, held: &mut Held, link: &ShownLink) -> Result<(), Failed>
     ensures { Prints (output K.Sink out.old held.old.items) (output K.Sink out.new held.new.items) (link_text link.now) result }
 {
-    put(out, held, number_front(b"link", u64::from(link.space)).as_slice())?;
+    put(
+        out,
+        held,
+        number_front(b"link", u64::from(link.space)).as_slice(),
+    )?;
     put(out, held, b" ")?;
     put_path(out, held, link.path.as_slice())?;
     put(out, held, b"\n")
@@ -47,7 +54,11 @@ fn put_name_word<K: Sink>(out: &mut K, held: &mut Held, units: &[u16]) -> Result
 fn put_stream<K: Sink>(out: &mut K, held: &mut Held, stream: &ShownStream) -> Result<(), Failed>
     ensures { Prints (output K.Sink out.old held.old.items) (output K.Sink out.new held.new.items) (stream_text stream.now) result }
 {
-    put(out, held, number_front(stream_word(stream.packed), stream.size).as_slice())?;
+    put(
+        out,
+        held,
+        number_front(stream_word(stream.packed), stream.size).as_slice(),
+    )?;
     put_name_word(out, held, stream.name.as_slice())?;
     put(out, held, b"\n")
 }
@@ -118,15 +129,28 @@ fn put_answer<K: Sink>(out: &mut K, held: &mut Held, answer: &Answer) -> Result<
         Answer::Attr(flags) => put(out, held, flags_line(b"attr", *flags).as_slice()),
         Answer::Sec(id) => put(out, held, number_line(b"sec", u64::from(*id)).as_slice()),
         Answer::Sd(bytes) => put_data(out, held, b"sd", bytes.as_slice()),
-        Answer::Reparse { tag, bytes } => put_data(out, held, tag_front(*tag).as_slice(), bytes.as_slice()),
+        Answer::Reparse { tag, bytes } => put_data(
+            out,
+            held,
+            tag_front(*tag).as_slice(),
+            bytes.as_slice(),
+        ),
         Answer::ObjectId(bytes) => put_data(out, held, b"objid", bytes.as_slice()),
         Answer::Df {
             clusters,
             free,
             records,
             free_records,
-        } => put(out, held, df_line(*clusters, *free, *records, *free_records).as_slice()),
-        Answer::Handle(handle) => put(out, held, number_line(b"handle", u64::from(*handle)).as_slice()),
+        } => put(
+            out,
+            held,
+            df_line(*clusters, *free, *records, *free_records).as_slice(),
+        ),
+        Answer::Handle(handle) => put(
+            out,
+            held,
+            number_line(b"handle", u64::from(*handle)).as_slice(),
+        ),
     }
 }
 

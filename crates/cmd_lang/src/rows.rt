@@ -15,7 +15,11 @@ use crate::words::{one, three, two};
 use std::alloc::{AllocError, Global};
 use tree_model::{Command, Path};
 
-fn read_path_command(alloc: Global, which: PathVerb, words: Option<&[u8]>) -> Result<Option<Command>, AllocError>
+fn read_path_command(
+    alloc: Global,
+    which: PathVerb,
+    words: Option<&[u8]>,
+) -> Result<Option<Command>, AllocError>
     ensures { IfOk result (Finds (Row (verb.OfPath which) (rest_of 32 words.entry))) }
 {
     let Some(word) = one(words) else {
@@ -62,7 +66,12 @@ fn read_read(alloc: Global, words: Option<&[u8]>) -> Result<Option<Command>, All
     let Some(Target { path, stream }) = read_target(alloc, first)? else {
         return Ok(None);
     };
-    Ok(Some(Command::Read { path, stream, at, len }))
+    Ok(Some(Command::Read {
+        path,
+        stream,
+        at,
+        len,
+    }))
 }
 
 fn read_two_paths(alloc: Global, words: Option<&[u8]>) -> Result<Option<(Path, Path)>, AllocError>
@@ -113,7 +122,12 @@ fn read_write(alloc: Global, words: Option<&[u8]>) -> Result<Option<Command>, Al
     let Some(bytes) = read_some_bytes(alloc, third)? else {
         return Ok(None);
     };
-    Ok(Some(Command::Write { path, stream, at, bytes }))
+    Ok(Some(Command::Write {
+        path,
+        stream,
+        at,
+        bytes,
+    }))
 }
 
 fn read_truncate(alloc: Global, words: Option<&[u8]>) -> Result<Option<Command>, AllocError>
@@ -146,7 +160,12 @@ fn read_punch(alloc: Global, words: Option<&[u8]>) -> Result<Option<Command>, Al
     let Some(Target { path, stream }) = read_target(alloc, first)? else {
         return Ok(None);
     };
-    Ok(Some(Command::Punch { path, stream, at, len }))
+    Ok(Some(Command::Punch {
+        path,
+        stream,
+        at,
+        len,
+    }))
 }
 
 fn read_rmstream(alloc: Global, words: Option<&[u8]>) -> Result<Option<Command>, AllocError>
@@ -244,7 +263,12 @@ fn read_open(alloc: Global, words: Option<&[u8]>) -> Result<Option<Command>, All
     let Some(Target { path, stream }) = read_target(alloc, first)? else {
         return Ok(None);
     };
-    Ok(Some(Command::Open { path, stream, access, share }))
+    Ok(Some(Command::Open {
+        path,
+        stream,
+        access,
+        share,
+    }))
 }
 
 fn read_hread(words: Option<&[u8]>) -> Option<Command>
@@ -284,7 +308,11 @@ fn read_close(words: Option<&[u8]>) -> Option<Command>
 }
 
 /// The command of a first word and of the words behind it.
-pub fn read_row(alloc: Global, verb: Verb, words: Option<&[u8]>) -> Result<Option<Command>, AllocError>
+pub fn read_row(
+    alloc: Global,
+    verb: Verb,
+    words: Option<&[u8]>,
+) -> Result<Option<Command>, AllocError>
     ensures { IfOk result (Finds (Row verb (rest_of 32 words.entry))) }
 {
     match verb {

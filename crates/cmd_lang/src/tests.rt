@@ -12,8 +12,16 @@ use vol_disk::{Failed, MemSink};
 const LINES: [(&str, u8, &str); 36] = [
     ("time 1000", 0, "Time { now: 1000 }"),
     ("ls /", 0, "Ls { path: Path { names: [] } }"),
-    ("stat /d", 0, "Stat { path: Path { names: [Name { units: [100] }] } }"),
-    ("links /a", 0, "Links { path: Path { names: [Name { units: [97] }] } }"),
+    (
+        "stat /d",
+        0,
+        "Stat { path: Path { names: [Name { units: [100] }] } }",
+    ),
+    (
+        "links /a",
+        0,
+        "Links { path: Path { names: [Name { units: [97] }] } }",
+    ),
     (
         "cat /d/f",
         0,
@@ -39,9 +47,21 @@ const LINES: [(&str, u8, &str); 36] = [
         0,
         "Create { path: Path { names: [Name { units: [97, 32, 98] }] } }",
     ),
-    ("create /é", 0, "Create { path: Path { names: [Name { units: [233] }] } }"),
-    ("mkdir /d", 0, "Mkdir { path: Path { names: [Name { units: [100] }] } }"),
-    ("rm /f", 0, "Rm { path: Path { names: [Name { units: [102] }] } }"),
+    (
+        "create /é",
+        0,
+        "Create { path: Path { names: [Name { units: [233] }] } }",
+    ),
+    (
+        "mkdir /d",
+        0,
+        "Mkdir { path: Path { names: [Name { units: [100] }] } }",
+    ),
+    (
+        "rm /f",
+        0,
+        "Rm { path: Path { names: [Name { units: [102] }] } }",
+    ),
     ("rmdir /", 0, "Rmdir { path: Path { names: [] } }"),
     (
         "ln /a /b",
@@ -68,13 +88,21 @@ const LINES: [(&str, u8, &str); 36] = [
         0,
         "Punch { path: Path { names: [Name { units: [112] }] }, stream: None, at: 2048, len: 8192 }",
     ),
-    ("streams /f", 0, "Streams { path: Path { names: [Name { units: [102] }] } }"),
+    (
+        "streams /f",
+        0,
+        "Streams { path: Path { names: [Name { units: [102] }] } }",
+    ),
     (
         "rmstream /f:s",
         0,
         "Rmstream { path: Path { names: [Name { units: [102] }] }, name: Name { units: [115] } }",
     ),
-    ("attr /f", 0, "Attr { path: Path { names: [Name { units: [102] }] } }"),
+    (
+        "attr /f",
+        0,
+        "Attr { path: Path { names: [Name { units: [102] }] } }",
+    ),
     (
         "setattr /f 0001",
         0,
@@ -85,14 +113,22 @@ const LINES: [(&str, u8, &str); 36] = [
         0,
         "Setattr { path: Path { names: [Name { units: [102] }] }, flags: 12583 }",
     ),
-    ("sec /f", 0, "Sec { path: Path { names: [Name { units: [102] }] } }"),
+    (
+        "sec /f",
+        0,
+        "Sec { path: Path { names: [Name { units: [102] }] } }",
+    ),
     (
         "setsec /a 256",
         0,
         "Setsec { path: Path { names: [Name { units: [97] }] }, id: 256 }",
     ),
     ("sd 4294967295", 0, "Sd { id: 4294967295 }"),
-    ("reparse /a", 0, "Reparse { path: Path { names: [Name { units: [97] }] } }"),
+    (
+        "reparse /a",
+        0,
+        "Reparse { path: Path { names: [Name { units: [97] }] } }",
+    ),
     (
         "mkreparse /a a000000c 0102",
         0,
@@ -103,8 +139,16 @@ const LINES: [(&str, u8, &str); 36] = [
         0,
         "Mkreparse { path: Path { names: [Name { units: [97] }] }, tag: 12, bytes: Octets { bytes: [] } }",
     ),
-    ("rmreparse /a", 0, "Rmreparse { path: Path { names: [Name { units: [97] }] } }"),
-    ("objid /f", 0, "Objid { path: Path { names: [Name { units: [102] }] } }"),
+    (
+        "rmreparse /a",
+        0,
+        "Rmreparse { path: Path { names: [Name { units: [97] }] } }",
+    ),
+    (
+        "objid /f",
+        0,
+        "Objid { path: Path { names: [Name { units: [102] }] } }",
+    ),
     ("@0 df", 0, "Df"),
     (
         "@1 open /f rd -",
@@ -123,11 +167,42 @@ const LINES: [(&str, u8, &str); 36] = [
 
 // Lines that are in no row of the grammar.
 const REFUSED: [&str; 36] = [
-    "", " ", "zzz", "LS /", "ls", "ls  /", "ls / ", " ls /", "ls / /", "ls a", "ls //", "ls /a/",
-    "ls /a:b", "cat /f:", "cat /a:b:c", "rmstream /f", "time 01", "time +1", "time -1",
-    "time 18446744073709551616", "sd 4294967296", "close 4294967296", "df x", "@16 df", "@01 df",
-    "@1", "@1 ", "@ df", "write /f 0 -", "write /f 0 4A", "write /f 0 4", "setattr /f 0040",
-    "setattr /f 001", "mkreparse /a A000000C 00", "open /f wr r", "open /f - r",
+    "",
+    " ",
+    "zzz",
+    "LS /",
+    "ls",
+    "ls  /",
+    "ls / ",
+    " ls /",
+    "ls / /",
+    "ls a",
+    "ls //",
+    "ls /a/",
+    "ls /a:b",
+    "cat /f:",
+    "cat /a:b:c",
+    "rmstream /f",
+    "time 01",
+    "time +1",
+    "time -1",
+    "time 18446744073709551616",
+    "sd 4294967296",
+    "close 4294967296",
+    "df x",
+    "@16 df",
+    "@01 df",
+    "@1",
+    "@1 ",
+    "@ df",
+    "write /f 0 -",
+    "write /f 0 4A",
+    "write /f 0 4",
+    "setattr /f 0040",
+    "setattr /f 001",
+    "mkreparse /a A000000C 00",
+    "open /f wr r",
+    "open /f - r",
 ];
 
 #[test]
@@ -136,7 +211,8 @@ fn lines_mean_commands(rt: HostRuntime) -> Result<(), AllocError> {
         match parse_line(rt.alloc(), line.as_bytes()) {
             Ok((of, command)) => {
                 assert_eq!(rt; of, session, "{line}");
-                assert_eq!(rt; format!(in rt.alloc(); "{command:?}")?, want, "{line}");
+                let shown = format!(in rt.alloc(); "{command:?}")?;
+                assert_eq!(rt; shown.as_str(), want, "{line}");
             }
             Err(fault) => assert!(rt; false, "{line}: {fault}"),
         }
@@ -151,7 +227,11 @@ fn fault_of(alloc: Global, line: &[u8]) -> Option<LineFault> {
 #[test]
 fn other_lines_are_refused(rt: HostRuntime) -> Result<(), AllocError> {
     for line in REFUSED {
-        assert_eq!(rt; fault_of(rt.alloc(), line.as_bytes()), Some(LineFault::Syntax), "{line}");
+        assert_eq!(rt;
+            fault_of(rt.alloc(), line.as_bytes()),
+            Some(LineFault::Syntax),
+            "{line}"
+        );
     }
     assert_eq!(rt; fault_of(rt.alloc(), b"ls /\xFF"), Some(LineFault::Syntax));
     let line = vec![in rt.alloc(); b'a'; 70_001]?;
@@ -242,9 +322,15 @@ fn answers(alloc: Global) -> Result<Vec<(Answer, &'static str)>, AllocError> {
         changed: 1002,
         accessed: 18_446_744_073_709_551_615,
     };
-    answers.push((stat, "stat file 1 5 0020 256 1000 1001 1002 18446744073709551615\nok\n"))?;
+    answers.push((
+        stat,
+        "stat file 1 5 0020 256 1000 1001 1002 18446744073709551615\nok\n",
+    ))?;
     answers.push((links(alloc)?, "link 2 /d/f\nlink 0 /\nok\n"))?;
-    answers.push((Answer::Data(octets(alloc, b"hello")?), "data 68656c6c6f\nok\n"))?;
+    answers.push((
+        Answer::Data(octets(alloc, b"hello")?),
+        "data 68656c6c6f\nok\n",
+    ))?;
     answers.push((Answer::Data(octets(alloc, b"")?), "data -\nok\n"))?;
     answers.push((streams(alloc)?, "packed 0\nstream 2 s\nok\n"))?;
     answers.push((Answer::Attr(1), "attr 0001\nok\n"))?;
@@ -319,7 +405,10 @@ fn refusals_are_printed(rt: HostRuntime) -> Result<(), Fail> {
 fn a_long_answer_is_printed(rt: HostRuntime) -> Result<(), Fail> {
     let bytes = Octets::from_vec(vec![in rt.alloc(); 0x41; 65_536]?);
     let mut out = sink(rt.alloc(), 200_000)?;
-    assert_eq!(rt; print_reply(&Reply::Ok(Answer::Data(bytes)), &mut out), Ok(()));
+    assert_eq!(rt;
+        print_reply(&Reply::Ok(Answer::Data(bytes)), &mut out),
+        Ok(())
+    );
     assert_eq!(rt; out.bytes().len(), 131_081);
     assert!(rt; out.bytes().starts_with(b"data 4141"));
     assert!(rt; out.bytes().ends_with(b"4141\nok\n"));

@@ -18,7 +18,10 @@ pub fn cut(text: &[u8], separator: u8) -> Parted<'_>
     ensures shorter { IfSome result.rest (λ rest. length rest.now < length text.now) }
 {
     match memchr(separator, text) {
-        None => Parted { first: text, rest: None },
+        None => Parted {
+            first: text,
+            rest: None,
+        },
         Some(at) => Parted {
             first: &text[..at],
             rest: Some(&text[at + 1..]),

@@ -1,4 +1,4 @@
-use Rattle.std.proofs.Common.{◌≡◌, sym, subst}
+use Rattle.std.proofs.Common.{sym, subst}
 use Rattle.cmd_lang.specs.Words.{AreDigits}
 use Rattle.cmd_lang.proofs.DigitLaws.{AreDigits-decoded, ArePairs-digits}
 use Rattle.cmd_lang.proofs.digits.read_some_bytes.Goals as goal

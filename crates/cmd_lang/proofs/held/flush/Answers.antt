@@ -1,5 +1,3 @@
-use Rattle.std.proofs.Common.{subst}
-use Rattle.std.specs.Prelude.{take}
 use Rattle.cmd_lang.proofs.OutputLaws.{prints_stopped}
 use Rattle.cmd_lang.proofs.held.flush.Goals as goal
 

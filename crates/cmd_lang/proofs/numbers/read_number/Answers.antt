@@ -1,4 +1,4 @@
-use Rattle.std.proofs.Common.{ap, sym, ◌∙◌, refl}
+use Rattle.std.proofs.Common.{ap, ◌∙◌}
 use Rattle.std.specs.Prelude.{decimal}
 use Rattle.cmd_lang.proofs.NumberLaws.{is_utf8, parsed, not_err, same_number}
 use Rattle.cmd_lang.proofs.numbers.read_number.Goals as goal

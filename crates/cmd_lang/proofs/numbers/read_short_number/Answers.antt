@@ -1,4 +1,3 @@
-use Rattle.std.proofs.Common.{◌∙◌, sym, ap}
 use Rattle.cmd_lang.proofs.NumberLaws.{shorter}
 use Rattle.cmd_lang.proofs.numbers.read_short_number.Goals as goal
 

@@ -12,14 +12,14 @@ returns-in_default c =
     let words = c.cut-parted.ensures.pieces in
     let told = subst (λ words. IfOk c.parse_in_session.result (FindsIn 0 (IsCommand words))) words c.parse_in_session.ensures in
     subst (λ words. IfOk c.parse_in_session.result (FindsSaid (AreWords words))) (sym words)
-      (IfOk-follows _ _ c.parse_in_session.result (λ found. without_session c.cut-parted.result.first.now _ found c.in_default.ensures) told)
+    (IfOk-follows _ _ c.parse_in_session.result (λ found. without_session c.cut-parted.result.first.now _ found c.in_default.ensures) told)
 
 pub returns-in-Some-rest : goal.returns-in-Some-rest
 returns-in-Some-rest c =
     let words = c.cut-parted.ensures.pieces ∙ ap (λ o. c.cut-parted.result.first.now ∷ rest_of 32 o) c.in-Some-rest.is in
     subst (λ words. IfOk c.parse_in_session-in-Some-rest.result (FindsSaid (AreWords words))) (sym words)
-      (IfOk-follows _ _ c.parse_in_session-in-Some-rest.result (λ found. behind_session c.cut-parted.result.first.now _ _ found c.in-Some.ensures)
-        c.parse_in_session-in-Some-rest.ensures)
+    (IfOk-follows _ _ c.parse_in_session-in-Some-rest.result (λ found. behind_session c.cut-parted.result.first.now _ _ found c.in-Some.ensures)
+    c.parse_in_session-in-Some-rest.ensures)
 
 pub returns-in-None : goal.returns-in-None
 returns-in-None c =

@@ -21,6 +21,6 @@ pub returns-in-None-only : goal.returns-in-None-only
 returns-in-None-only c = λ path stream x.
     let more = rest_of 58 c.cut-parted.result.rest in
     not_target c.cut-parted.result.first.now more path stream
-      (λ none. some_piece 58 c.in-Some.field-0.now (sym (ap (rest_of 58) c.in-Some.is) ∙ none))
-      c.in-None-only.ensures
-      (subst (λ parts. IsTargetOf parts path stream) c.cut-parted.ensures.pieces x)
+    (λ none. some_piece 58 c.in-Some.field-0.now (sym (ap (rest_of 58) c.in-Some.is) ∙ none))
+    c.in-None-only.ensures
+    (subst (λ parts. IsTargetOf parts path stream) c.cut-parted.ensures.pieces x)

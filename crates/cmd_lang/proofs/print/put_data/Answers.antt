@@ -1,7 +1,6 @@
 use Rattle.std.proofs.Common.{[], ◌∷◌, ◌++◌}
-use Rattle.std.specs.Prelude.{codes, decimal}
-use Rattle.vol_bytes.specs.NameText.{name_text}
-use Rattle.cmd_lang.specs.Printed.{and_word, bytes_text, kind_text, name_word, path_text}
+use Rattle.std.specs.Prelude.{codes}
+use Rattle.cmd_lang.specs.Printed.{bytes_text}
 use Rattle.cmd_lang.proofs.OutputLaws.{prints_less, prints_more}
 use Rattle.cmd_lang.proofs.print.put_data.Goals as goal
 

@@ -1,7 +1,7 @@
 use Rattle.std.proofs.Common.{[], ◌∷◌, ◌++◌}
-use Rattle.std.specs.Prelude.{codes, decimal}
+use Rattle.std.specs.Prelude.{codes}
 use Rattle.vol_bytes.specs.NameText.{name_text}
-use Rattle.cmd_lang.specs.Printed.{and_word, bytes_text, kind_text, name_word, path_text}
+use Rattle.cmd_lang.specs.Printed.{kind_text}
 use Rattle.cmd_lang.proofs.OutputLaws.{prints_less, prints_more}
 use Rattle.cmd_lang.proofs.print.put_listed.Goals as goal
 

@@ -1,4 +1,4 @@
-use Rattle.std.proofs.Common.{◌≡◌, ◌∙◌, sym, arith}
+use Rattle.std.proofs.Common.{arith}
 use Rattle.cmd_lang.proofs.VerbLaws.{one_more, is_none, all}
 use Rattle.cmd_lang.proofs.verb.verb_of.Goals as goal
 
