@@ -4,17 +4,17 @@ use Rattle.std.specs.Prelude.{IsErr, OnErr, OnOk, flat_map}
 use Rattle.std.proofs.lemmas.List.{drop_all}
 use Rattle.vol_disk.specs.Count.{CountsFault, Rose}
 use Rattle.vol_disk.specs.declared.Failed.{Failed}
-use Rattle.vol_disk.specs.Stream.{Appended, AppendedPart}
-use Rattle.vol_disk.proofs.StreamLaws.{Appended-twice}
+use Rattle.vol_disk.specs.Stream.{IsAppended, IsAppendedPart}
+use Rattle.vol_disk.proofs.StreamLaws.{IsAppended-twice}
 use Rattle.cmd_lang.specs.Output.{Output, Prints}
 
 -- nothing is printed
-Appended-none : (got : Option (List ℕ)) → Appended got [] got
-Appended-none None = refl
-Appended-none (Some all) = ap (λ (t : List ℕ). Some t) (sym (append-nil all))
+IsAppended-none : (got : Option (List ℕ)) → IsAppended got [] got
+IsAppended-none None = refl
+IsAppended-none (Some all) = ap (λ (t : List ℕ). Some t) (sym (append-nil all))
 
 pub prints_none : {E : Type 0} (a : Output) → Prints {E = E} a a [] (Ok (tt {0}))
-prints_none a = record { taken = []; left = a.held; parted = append-nil a.held; got = Appended-none a.got; held = refl; faults = refl }
+prints_none a = record { taken = []; left = a.held; parted = append-nil a.held; got = IsAppended-none a.got; held = refl; faults = refl }
 
 -- a failure raised the count
 rose : {T E : Type 0} (x y : ℕ) (r : Result T E) → IsErr r → Rose x y → CountsFault r x y
@@ -37,7 +37,7 @@ prints_less a b s t why r is p = record {
 }
 
 -- a part of what is held back was taken
-pub prints_stopped : {T E : Type 0} (a b : Output) (r : Result T E) → IsErr r → AppendedPart a.got a.held b.got → Rose a.faults b.faults → Prints a b [] r
+pub prints_stopped : {T E : Type 0} (a b : Output) (r : Result T E) → IsErr r → IsAppendedPart a.got a.held b.got → Rose a.faults b.faults → Prints a b [] r
 prints_stopped a b r is part h = record {
   taken = take part.0 a.held;
   left = drop part.0 a.held;
@@ -58,7 +58,7 @@ prints_more a b c s t u r p q = record {
   parted =
       sym (append_assoc a.held s t) ∙ ap (λ w. w ++ t) p.parted ∙ append_assoc p.taken p.left t
       ∙ ap (λ w. p.taken ++ (w ++ t)) (sym p.held) ∙ ap (λ w. p.taken ++ w) q.parted ∙ sym (append_assoc p.taken q.taken q.left);
-  got = Appended-twice a.got b.got c.got p.taken q.taken p.got q.got;
+  got = IsAppended-twice a.got b.got c.got p.taken q.taken p.got q.got;
   held = q.held;
   faults = counts_on a.faults b.faults c.faults r p.faults q.faults;
 }
@@ -76,17 +76,17 @@ take_front [] ys = refl
 take_front (x ∷ xs) ys = ap (λ t. x ∷ t) (take_front xs ys)
 
 -- from an empty buffer, a part of the text was taken
-pub prints_part : {T E : Type 0} (a b : Output) (s : List ℕ) (r : Result T E) → a.held ≡ [] → Prints a b s r → AppendedPart a.got s b.got
+pub prints_part : {T E : Type 0} (a b : Output) (s : List ℕ) (r : Result T E) → a.held ≡ [] → Prints a b s r → IsAppendedPart a.got s b.got
 prints_part a b s r empty p =
     let whole : s ≡ p.taken ++ p.left = ap (λ w. w ++ s) (sym empty) ∙ p.parted in
-    (length p.taken, subst (λ w. Appended a.got w b.got) (sym (ap (take (length p.taken)) whole ∙ take_front p.taken p.left)) p.got)
+    (length p.taken, subst (λ w. IsAppended a.got w b.got) (sym (ap (take (length p.taken)) whole ∙ take_front p.taken p.left)) p.got)
 
 -- from an empty buffer to an empty one, all of it was
-pub prints_all : {T E : Type 0} (a b : Output) (s : List ℕ) (u : T) → a.held ≡ [] → b.held ≡ [] → Prints {E = E} a b s (Ok u) → Appended a.got s b.got
+pub prints_all : {T E : Type 0} (a b : Output) (s : List ℕ) (u : T) → a.held ≡ [] → b.held ≡ [] → Prints {E = E} a b s (Ok u) → IsAppended a.got s b.got
 prints_all a b s u empty none p =
     let whole : s ≡ p.taken ++ p.left = ap (λ w. w ++ s) (sym empty) ∙ p.parted in
     let left : p.left ≡ [] = sym p.held ∙ none in
-    subst (λ w. Appended a.got w b.got) (sym (whole ∙ ap (λ w. p.taken ++ w) left ∙ append-nil p.taken)) p.got
+    subst (λ w. IsAppended a.got w b.got) (sym (whole ∙ ap (λ w. p.taken ++ w) left ∙ append-nil p.taken)) p.got
 
 -- the items from a place on
 drop_item : {A : Type 0} (xs : List A) (i : ℕ) (x : A) → i < length xs → x ≡ get_or xs i x → drop i xs ≡ x ∷ drop (i + 1) xs

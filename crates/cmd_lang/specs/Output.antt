@@ -1,7 +1,7 @@
 -- Texts that go to a sink by way of a buffer.
 use Rattle.std.specs.Prelude.{◌≡◌, ℕ, List, ◌++◌, Option, Result, OnOk}
 use Rattle.vol_disk.specs.Count.{CountsFault}
-use Rattle.vol_disk.specs.Stream.{Appended}
+use Rattle.vol_disk.specs.Stream.{IsAppended}
 use Rattle.vol_disk.specs.declared.Sink as sink
 
 -- What a sink took and how often it failed, and what is held back for it.
@@ -19,6 +19,6 @@ pub record Prints {T E : Type 0} (before after : Output) (text : List ℕ) (resu
   pub taken : List ℕ
   pub left : List ℕ
   pub parted : before.held ++ text ≡ taken ++ left
-  pub got : Appended before.got taken after.got
+  pub got : IsAppended before.got taken after.got
   pub held : OnOk result (after.held ≡ left)
   pub faults : CountsFault result before.faults after.faults

@@ -1,7 +1,7 @@
 //! Replies, printed.
 ghost use Rattle.std.specs.Prelude.{◌≡◌, ◌≢◌, ◌≤◌, flat_map, length, OnErr, OnOk};
 ghost use Rattle.vol_disk.specs.Count.{CountsFault};
-ghost use Rattle.vol_disk.specs.Stream.{Appended, AppendedPart};
+ghost use Rattle.vol_disk.specs.Stream.{IsAppended, IsAppendedPart};
 ghost use Rattle.cmd_lang.specs.Output.{output, Prints};
 ghost use Rattle.cmd_lang.specs.Printed.{data_text, lines_of, link_text, listed_text, name_word, stream_text, text_of};
 ghost use Rattle.tree_model.specs.declared.reply.Reply.TheVariants as reply_is;
@@ -176,8 +176,8 @@ fn put_reply<K: Sink>(out: &mut K, held: &mut Held, reply: &Reply) -> Result<(),
 /// Where the sink failed; it then took a part of the text from its front.
 pub fn print_reply<K: Sink>(reply: &Reply, out: &mut K) -> Result<(), Failed>
     requires { reply.now ≢ reply_is.Device }
-    ensures text { OnOk result (Appended (K.got out.old) (text_of reply.now) (K.got out.new)) }
-    ensures part { OnErr result (AppendedPart (K.got out.old) (text_of reply.now) (K.got out.new)) }
+    ensures text { OnOk result (IsAppended (K.got out.old) (text_of reply.now) (K.got out.new)) }
+    ensures part { OnErr result (IsAppendedPart (K.got out.old) (text_of reply.now) (K.got out.new)) }
     ensures faults { CountsFault result (K.faults out.old) (K.faults out.new) }
 {
     let mut held = Held::new();
