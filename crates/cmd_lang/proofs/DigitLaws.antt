@@ -19,16 +19,19 @@ byte_at-small (suc n) x (suc i) = byte_at-small n x i
 
 -- digits that write a number are decoded
 pub decoded : (size : ℕ) (text : List ℕ) (number : ℕ) → IsHexNumber size text number → decode_sized text size ≡ Ok (big_bytes size number)
-decoded size text number is = rw (is.written) (decode_sized-encode_lower (big_bytes size number) size (length-bytes_high_first size number) (byte_at-small size number))
+decoded size text number is = rw (is.written) (decode_sized-encode_lower (big_bytes size number) size
+    (length-bytes_high_first size number) (byte_at-small size number))
 
 -- the number of the bytes of a number
 pub back : (size number : ℕ) → number < 256 ^ size → big_number size (big_bytes size number) ≡ number
-back size number below = let e : big_bytes size number ++ [] ≡ big_bytes size number = append-nil _ in rw (← e) (big_number-reads_back size number [] below)
+back size number below = let e : big_bytes size number ++ [] ≡ big_bytes size number = append-nil _ in
+    rw (← e) (big_number-reads_back size number [] below)
 
 -- digits write one number
 pub one_hex_number : (size : ℕ) (text : List ℕ) (a b : ℕ) → IsHexNumber size text a → IsHexNumber size text b → a ≡ b
 one_hex_number size text a b x y =
-    let same : big_bytes size a ≡ big_bytes size b = ap (λ (r : Result (List ℕ) FromHexError). result_unwrap_or r []) (sym (decoded size text a x) ∙ decoded size text b y) in
+    let same : big_bytes size a ≡ big_bytes size b = ap (λ (r : Result (List ℕ) FromHexError). result_unwrap_or r []) (sym
+    (decoded size text a x) ∙ decoded size text b y) in
     sym (back size a x.below) ∙ ap (big_number size) same ∙ back size b y.below
 
 -- the code of a lower-case digit
@@ -72,7 +75,8 @@ abbrev IsLower : ℕ → Type 0
 IsLower code = IsTrue (is_lower code)
 
 -- a step of decoding that gave a value
-bind_ok : {A B : Type 0} (r : Result A FromHexError) (f : A → Result B FromHexError) (y : B) → (r >>= f) ≡ Ok y → (x : A) × (r ≡ Ok x) × (f x ≡ Ok y)
+bind_ok : {A B : Type 0} (r : Result A FromHexError) (f : A → Result B FromHexError) (y : B) → (r >>= f) ≡ Ok y → (x : A) × (r ≡ Ok x)
+    × (f x ≡ Ok y)
 bind_ok (Ok x) f y h = (x, refl, h)
 bind_ok (Err e) f y h = cc h
 
@@ -81,7 +85,8 @@ value_read code i (Some w) v h = ap Some (ap (λ (r : Result ℕ FromHexError). 
 value_read code i None v h = cc h
 
 -- digits in lower case are those of their bytes
-pub lower_written : (i : ℕ) (s bytes : List ℕ) → All (λ code. IsTrue (is_lower code)) s → decode_pairs i s ≡ Ok bytes → s ≡ encode_lower bytes
+pub lower_written : (i : ℕ) (s bytes : List ℕ) → All (λ code. IsTrue (is_lower code)) s → decode_pairs i s ≡ Ok bytes
+    → s ≡ encode_lower bytes
 unfolding decode_pairs encode_with
 lower_written i [] bytes l h = let e : [] ≡ bytes = ap (λ (r : Result (List ℕ) FromHexError). result_unwrap_or r []) h in rw (← e) refl
 lower_written i (a ∷ []) bytes l h = cc h
@@ -110,8 +115,10 @@ all_lower (byte ∷ bytes) each =
     let small = each 0 in
     let high : byte / 16 < 16 = omega (arith, small) in
     let low : byte % 16 < 16 = omega arith in
-    All-cons IsLower (slice_index lower_digits (byte / 16)) (slice_index lower_digits (byte % 16) ∷ encode_lower bytes) (digit_lower (byte / 16) high)
-    (All-cons IsLower (slice_index lower_digits (byte % 16)) (encode_lower bytes) (digit_lower (byte % 16) low) (all_lower bytes (λ k. each (suc k))))
+    All-cons IsLower (slice_index lower_digits (byte / 16)) (slice_index lower_digits (byte % 16) ∷ encode_lower bytes) (digit_lower
+    (byte / 16) high)
+    (All-cons IsLower (slice_index lower_digits (byte % 16)) (encode_lower bytes) (digit_lower (byte % 16) low) (all_lower bytes
+    (λ k. each (suc k))))
 
 -- the digits of bytes are pairs
 pub ArePairs-digits : (text bytes : List ℕ) → AreDigits text bytes → ArePairs text

@@ -12,7 +12,8 @@ use Rattle.cmd_lang.specs.Words.{IsNumber}
 pub is_utf8 : (text : List ℕ) (n : ℕ) → IsNumber (2 ^ 64) text n → IsUtf8 text
 is_utf8 text n x = subst IsUtf8 (sym x.written) (IsUtf8-from_ascii (decimal n) (IsAscii-decimal n x.below))
 
-pub parsed : {E : Type 0} (text digits : List ℕ) (n : ℕ) (r : Result ℕ E) → digits ≡ text → IsNumber (2 ^ 64) text n → ParsesUnsigned 64 10 digits r → r ≡ Ok n
+pub parsed : {E : Type 0} (text digits : List ℕ) (n : ℕ) (r : Result ℕ E) → digits ≡ text → IsNumber (2 ^ 64) text n
+    → ParsesUnsigned 64 10 digits r → r ≡ Ok n
 parsed text digits n r e x p = parse-decimal 64 n digits r x.below x.below (e ∙ x.written) p
 
 pub not_err : {E : Type 0} (n : ℕ) (r : Result ℕ E) (why : E) → r ≡ Ok n → r ≢ Err why

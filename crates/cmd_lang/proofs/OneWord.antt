@@ -22,7 +22,8 @@ one_names (text ∷ texts) (m ∷ ms) (n ∷ ns) x y =
     rw (first, more) refl
 
 -- nothing is no name text
-nothing_spelled : (letters : List Letter) (text units : List ℕ) → length text ≡ 0 → text ≡ flat_map letter_text letters → units ≡ flat_map letter_units letters
+nothing_spelled : (letters : List Letter) (text units : List ℕ) → length text ≡ 0 → text ≡ flat_map letter_text letters
+    → units ≡ flat_map letter_units letters
     → 0 < length units → ⊥
 nothing_spelled [] text units none written meant some = let len : length units ≡ 0 = ap length meant in omega (arith, len, some)
 nothing_spelled (letter ∷ letters) text units none written meant some =
@@ -57,7 +58,8 @@ one_path text a b x y =
 abbrev pub SameTarget : List (List ℕ) → Option (List ℕ) → List (List ℕ) → Option (List ℕ) → Type 0
 SameTarget path stream other named = (path ≡ other) × (stream ≡ named)
 
-one_target_of : (parts path other : List (List ℕ)) (stream named : Option (List ℕ)) → IsTargetOf parts path stream → IsTargetOf parts other named
+one_target_of : (parts path other : List (List ℕ)) (stream named : Option (List ℕ)) → IsTargetOf parts path stream
+    → IsTargetOf parts other named
     → SameTarget path stream other named
 one_target_of [] path other stream named x y = absurd x
 one_target_of (a ∷ []) path other None None x y = (one_path a path other x y, refl)
@@ -65,16 +67,22 @@ one_target_of (a ∷ []) path other None (Some n) x y = absurd y
 one_target_of (a ∷ []) path other (Some m) named x y = absurd x
 one_target_of (a ∷ b ∷ []) path other None named x y = absurd x
 one_target_of (a ∷ b ∷ []) path other (Some m) None x y = absurd y
-one_target_of (a ∷ b ∷ []) path other (Some m) (Some n) x y = (one_path a path other x.0 y.0, ap (λ (t : List ℕ). Some t) (one_name b m n x.1 y.1))
+one_target_of (a ∷ b ∷ []) path other (Some m) (Some n) x y = (
+  one_path a path other x.0 y.0,
+  ap (λ (t : List ℕ). Some t)
+      (one_name b m n x.1 y.1),
+)
 one_target_of (a ∷ b ∷ d ∷ parts) path other stream named x y = absurd x
 
-pub one_target : (text : List ℕ) (path other : List (List ℕ)) (stream named : Option (List ℕ)) → IsTarget text path stream → IsTarget text other named
+pub one_target : (text : List ℕ) (path other : List (List ℕ)) (stream named : Option (List ℕ)) → IsTarget text path stream
+    → IsTarget text other named
     → SameTarget path stream other named
 one_target text path other stream named x y = one_target_of (pieces 58 text) path other stream named x y
 
 pub one_digits : (text a b : List ℕ) → AreDigits text a → AreDigits text b → a ≡ b
 one_digits text a b x y =
-    decode_of-same text a b (ap decode_of x.written ∙ decode_of-encode_lower a x.each) (ap decode_of y.written ∙ decode_of-encode_lower b y.each)
+    decode_of-same text a b (ap decode_of x.written ∙ decode_of-encode_lower a x.each) (ap decode_of y.written
+    ∙ decode_of-encode_lower b y.each)
 
 no_digits : (text bytes : List ℕ) → text ≡ codes "-" → AreDigits text bytes → ⊥
 no_digits text bytes e x =

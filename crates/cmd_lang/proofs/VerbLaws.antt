@@ -12,18 +12,24 @@ inside [] k d e h = absurd (omega arith)
 inside (v ∷ vs) zero d e h = refl
 inside (v ∷ vs) (suc k) d e h = inside vs k d e (omega arith)
 
-pub one_more : (word : List ℕ) (vs : List Verb) (n : ℕ) (d0 : Verb) → ((k : ℕ) (d : Verb) → k < n → word ≢ verb_text (get_or vs k d)) → n < length vs → word ≢ verb_text (get_or vs n d0)
+pub one_more : (word : List ℕ) (vs : List Verb) (n : ℕ) (d0 : Verb) → ((k : ℕ) (d : Verb) → k < n → word ≢ verb_text (get_or vs k d))
+    → n < length vs → word ≢ verb_text (get_or vs n d0)
     → (k : ℕ) (d : Verb) → k < n + 1 → word ≢ verb_text (get_or vs k d)
 one_more word vs n d0 before h here k d l e = elim (cases_lt k n) [
   | inl lt ↦ before k d lt e
-  | inr ge ↦ let same : k ≡ n = omega arith in here (subst (λ j. word ≡ verb_text (get_or vs j d0)) same (e ∙ ap verb_text (inside vs k d d0 (omega arith))))
+  | inr ge ↦ let same : k ≡ n = omega arith in here (subst (λ j. word ≡ verb_text (get_or vs j d0)) same (e
+      ∙ ap verb_text (inside vs k d d0 (omega arith))))
 ]
 
 abbrev pub all : List Verb
 all =
-    verb.Time ∷ verb.OfPath path_verb.Ls ∷ verb.OfPath path_verb.Stat ∷ verb.OfPath path_verb.Links ∷ verb.Cat ∷ verb.Read ∷ verb.OfPath path_verb.Create ∷ verb.OfPath path_verb.Mkdir ∷ verb.OfPath path_verb.Rm ∷ verb.OfPath path_verb.Rmdir ∷ verb.Ln ∷ verb.Mv
-    ∷ verb.Write ∷ verb.Truncate ∷ verb.Punch ∷ verb.OfPath path_verb.Streams ∷ verb.Rmstream ∷ verb.OfPath path_verb.Attr ∷ verb.Setattr ∷ verb.OfPath path_verb.Sec ∷ verb.Setsec ∷ verb.Sd
-    ∷ verb.OfPath path_verb.Reparse ∷ verb.Mkreparse ∷ verb.OfPath path_verb.Rmreparse ∷ verb.OfPath path_verb.Objid ∷ verb.Df ∷ verb.Open ∷ verb.Hread ∷ verb.Hwrite ∷ verb.Close ∷ []
+    verb.Time ∷ verb.OfPath path_verb.Ls ∷ verb.OfPath path_verb.Stat ∷ verb.OfPath path_verb.Links ∷ verb.Cat ∷ verb.Read
+    ∷ verb.OfPath path_verb.Create ∷ verb.OfPath path_verb.Mkdir ∷ verb.OfPath path_verb.Rm ∷ verb.OfPath path_verb.Rmdir
+    ∷ verb.Ln ∷ verb.Mv
+    ∷ verb.Write ∷ verb.Truncate ∷ verb.Punch ∷ verb.OfPath path_verb.Streams ∷ verb.Rmstream ∷ verb.OfPath path_verb.Attr
+    ∷ verb.Setattr ∷ verb.OfPath path_verb.Sec ∷ verb.Setsec ∷ verb.Sd
+    ∷ verb.OfPath path_verb.Reparse ∷ verb.Mkreparse ∷ verb.OfPath path_verb.Rmreparse ∷ verb.OfPath path_verb.Objid ∷ verb.Df
+    ∷ verb.Open ∷ verb.Hread ∷ verb.Hwrite ∷ verb.Close ∷ []
 
 pub is_none : (word : List ℕ) → ((k : ℕ) (d : Verb) → k < 31 → word ≢ verb_text (get_or all k d)) → (which : Verb) → word ≢ verb_text which
 is_none word h verb.Time = h 0 verb.Time (omega arith)

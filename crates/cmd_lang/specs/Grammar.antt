@@ -78,7 +78,8 @@ abbrev pub OnePath : (List (List ℕ) → Command) → List (List ℕ) → Comma
 OnePath make words said = (path : List (List ℕ)) × One words (λ a. IsPath a path) × (said ≡ make path)
 
 abbrev pub OneTarget : (List (List ℕ) → Option (List ℕ) → Command) → List (List ℕ) → Command → Type 0
-OneTarget make words said = (path : List (List ℕ)) × (stream : Option (List ℕ)) × One words (λ a. IsTarget a path stream) × (said ≡ make path stream)
+OneTarget make words said = (path : List (List ℕ)) × (stream : Option (List ℕ)) × One words (λ a. IsTarget a path stream)
+    × (said ≡ make path stream)
 
 abbrev pub TwoPaths : (List (List ℕ) → List (List ℕ) → Command) → List (List ℕ) → Command → Type 0
 TwoPaths make words said = (old new : List (List ℕ)) × Two words (λ a b. IsPath a old × IsPath b new) × (said ≡ make old new)
@@ -101,13 +102,17 @@ Row verb.Read words said = RangeOfTarget command.Read words said
 Row verb.Ln words said = TwoPaths command.Ln words said
 Row verb.Mv words said = TwoPaths command.Mv words said
 Row verb.Write words said = (path : List (List ℕ)) × (stream : Option (List ℕ)) × (at : ℕ) × (bytes : List ℕ)
-    × Three words (λ a b c. IsTarget a path stream × IsNumber (2 ^ 64) b at × AreDigits c bytes) × (said ≡ command.Write path stream at bytes)
+    × Three words (λ a b c. IsTarget a path stream × IsNumber (2 ^ 64) b at × AreDigits c bytes)
+    × (said ≡ command.Write path stream at bytes)
 Row verb.Truncate words said = (path : List (List ℕ)) × (stream : Option (List ℕ)) × (size : ℕ)
     × Two words (λ a b. IsTarget a path stream × IsNumber (2 ^ 64) b size) × (said ≡ command.Truncate path stream size)
 Row verb.Punch words said = RangeOfTarget command.Punch words said
-Row verb.Rmstream words said = (path : List (List ℕ)) × (name : List ℕ) × One words (λ a. IsTarget a path (Some name)) × (said ≡ command.Rmstream path name)
-Row verb.Setattr words said = (path : List (List ℕ)) × (flags : ℕ) × Two words (λ a b. IsPath a path × AreFlags b flags) × (said ≡ command.Setattr path flags)
-Row verb.Setsec words said = (path : List (List ℕ)) × (id : ℕ) × Two words (λ a b. IsPath a path × IsNumber (2 ^ 32) b id) × (said ≡ command.Setsec path id)
+Row verb.Rmstream words said = (path : List (List ℕ)) × (name : List ℕ) × One words (λ a. IsTarget a path (Some name))
+    × (said ≡ command.Rmstream path name)
+Row verb.Setattr words said = (path : List (List ℕ)) × (flags : ℕ) × Two words (λ a b. IsPath a path × AreFlags b flags)
+    × (said ≡ command.Setattr path flags)
+Row verb.Setsec words said = (path : List (List ℕ)) × (id : ℕ) × Two words (λ a b. IsPath a path × IsNumber (2 ^ 32) b id)
+    × (said ≡ command.Setsec path id)
 Row verb.Sd words said = OneId command.Sd words said
 Row verb.Mkreparse words said = (path : List (List ℕ)) × (tag : ℕ) × (bytes : List ℕ)
     × Three words (λ a b c. IsPath a path × IsTag b tag × IsHex c bytes) × (said ≡ command.Mkreparse path tag bytes)
@@ -115,9 +120,11 @@ Row verb.Df words said = (words ≡ []) × (said ≡ command.Df)
 Row verb.Open words said = (path : List (List ℕ)) × (stream : Option (List ℕ)) × (access share : Access)
     × Three words (λ a b c. IsTarget a path stream × IsAccess b access × IsShare c share) × (said ≡ command.Open path stream access share)
 Row verb.Hread words said = (handle at len : ℕ)
-    × Three words (λ a b c. IsNumber (2 ^ 32) a handle × IsNumber (2 ^ 64) b at × IsNumber (2 ^ 64) c len) × (said ≡ command.Hread handle at len)
+    × Three words (λ a b c. IsNumber (2 ^ 32) a handle × IsNumber (2 ^ 64) b at × IsNumber (2 ^ 64) c len)
+    × (said ≡ command.Hread handle at len)
 Row verb.Hwrite words said = (handle at : ℕ) × (bytes : List ℕ)
-    × Three words (λ a b c. IsNumber (2 ^ 32) a handle × IsNumber (2 ^ 64) b at × AreDigits c bytes) × (said ≡ command.Hwrite handle at bytes)
+    × Three words (λ a b c. IsNumber (2 ^ 32) a handle × IsNumber (2 ^ 64) b at × AreDigits c bytes)
+    × (said ≡ command.Hwrite handle at bytes)
 Row verb.Close words said = OneId command.Close words said
 
 -- the words are a command

@@ -62,7 +62,8 @@ stat_text dir links size flags security created modified changed accessed =
 -- `df`: all clusters, the free ones, all records, and the free ones
 abbrev pub df_text : ℕ → ℕ → ℕ → ℕ → List ℕ
 df_text clusters free records free_records =
-    codes "df" ++ and_word (decimal clusters) ++ and_word (decimal free) ++ and_word (decimal records) ++ and_word (decimal free_records) ++ codes "\n"
+    codes "df" ++ and_word (decimal clusters) ++ and_word (decimal free) ++ and_word (decimal records) ++ and_word
+    (decimal free_records) ++ codes "\n"
 
 -- a name and a number, a name and flags, a name and bytes
 abbrev pub number_text : List ℕ → ℕ → List ℕ
@@ -82,7 +83,8 @@ tag_text tag = codes "reparse" ++ and_word (hexadecimal 4 tag)
 abbrev pub lines_of : Answer → List ℕ
 lines_of answer.Done = []
 lines_of (answer.List listing) = flat_map listed_text listing
-lines_of (answer.Stat dir links size flags security created modified changed accessed) = stat_text dir links size flags security created modified changed accessed
+lines_of (answer.Stat dir links size flags security created modified changed accessed) = stat_text dir links size flags security created
+    modified changed accessed
 lines_of (answer.Links links) = flat_map link_text links
 lines_of (answer.Data bytes) = data_text (codes "data") bytes
 lines_of (answer.Streams streams) = flat_map stream_text streams

@@ -18,10 +18,12 @@ pub returns-in-Some-rest : goal.returns-in-Some-rest
 returns-in-Some-rest c =
     let words = c.cut-parted.ensures.pieces ∙ ap (λ o. c.cut-parted.result.first.now ∷ rest_of 32 o) c.in-Some-rest.is in
     subst (λ words. IfOk c.parse_in_session-in-Some-rest.result (FindsSaid (AreWords words))) (sym words)
-    (IfOk-follows _ _ c.parse_in_session-in-Some-rest.result (λ found. behind_session c.cut-parted.result.first.now _ _ found c.in-Some.ensures)
+    (IfOk-follows _ _ c.parse_in_session-in-Some-rest.result
+    (λ found. behind_session c.cut-parted.result.first.now _ _ found c.in-Some.ensures)
     c.parse_in_session-in-Some-rest.ensures)
 
 pub returns-in-None : goal.returns-in-None
 returns-in-None c =
     let words = c.cut-parted.ensures.pieces ∙ ap (λ o. c.cut-parted.result.first.now ∷ rest_of 32 o) c.in-None.is in
-    subst (λ words. FindsSaid (AreWords words) None) (sym words) (behind_session c.cut-parted.result.first.now [] c.in-Some.session None c.in-Some.ensures (λ command x. x))
+    subst (λ words. FindsSaid (AreWords words) None) (sym words)
+    (behind_session c.cut-parted.result.first.now [] c.in-Some.session None c.in-Some.ensures (λ command x. x))

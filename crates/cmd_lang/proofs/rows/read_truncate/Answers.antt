@@ -7,4 +7,5 @@ use Rattle.cmd_lang.proofs.rows.read_truncate.Goals as goal
 pub returns-in_default-2 : goal.returns-in_default-2
 returns-in_default-2 c = λ meant x.
     let none = subst (FindsTarget (pieces 58 c.in-Some.first.now)) c.in_default-2.is c.in_ok-path.ensures in
-    none x.0 x.1 (same_word (λ a. IsTarget a x.0 x.1) _ (x.3.0 ∷ x.3.1 ∷ []) (c.in-Some.first.now ∷ c.in-Some.second.now ∷ []) 0 x.3.2 c.in-Some.ensures x.3.3.0)
+    none x.0 x.1 (same_word (λ a. IsTarget a x.0 x.1) _ (x.3.0 ∷ x.3.1 ∷ [])
+    (c.in-Some.first.now ∷ c.in-Some.second.now ∷ []) 0 x.3.2 c.in-Some.ensures x.3.3.0)

@@ -7,4 +7,5 @@ verbs-preserved c = one_more c.args.word.now all c.verbs.verb-index _ c.verbs.in
     (λ e. let h = c.is_word_of.ensures.1 e in let no = c.if-is_word_of.false in cc)
 
 pub returns : goal.returns
-returns c = λ which. is_none c.args.word.now (λ k d h. c.verbs.invariant k d (omega (arith, h, c.verbs-test.false, c.verbs.auto.verb-index-end))) which
+returns c = λ which. is_none c.args.word.now (λ k d h. c.verbs.invariant k d (omega
+    (arith, h, c.verbs-test.false, c.verbs.auto.verb-index-end))) which

@@ -9,4 +9,5 @@ returns-in-None-clause-pieces c = whole c.args.separator c.args.text.now (λ k h
 pub returns-in-Some-clause-pieces : goal.returns-in-Some-clause-pieces
 returns-in-Some-clause-pieces c =
     let f = c.in-Some.ensures in
-    rw (take_rest c.args.text.now (c.in-Some.at + 1)) (first c.args.separator c.args.text.now c.in-Some.at f.0.high (λ k h t. f.0.before k (omega arith) h t) f.1)
+    rw (take_rest c.args.text.now (c.in-Some.at + 1)) (first c.args.separator c.args.text.now c.in-Some.at f.0.high
+    (λ k h t. f.0.before k (omega arith) h t) f.1)
