@@ -18,15 +18,14 @@ use Rattle.volume_def.proofs.MemberLaws.{All-from_Contains, Contains-from_filter
 use Rattle.volume_def.proofs.SameItemsLaws.{count-filter, count-map}
 use Rattle.volume_facts.specs.declared.names.NameFact.{NameFact}
 use Rattle.volume_facts.specs.declared.pairs.NameKey.{NameKey}
-use Rattle.volume_facts.specs.Least.{IsLeastFailing}
+use Rattle.volume_facts.specs.Least.{IsLeastFailing, lesser}
 use Rattle.volume_facts.specs.Links.{HasPairs, HasRightFiling, MeetsFiling}
 use Rattle.volume_facts.specs.Names.{HeldName, PlacedName, is_of_file, names_held_below, placed, told_name}
 use Rattle.volume_facts.specs.Pairs.{ArePaired, is_key, key_of, times_named}
-use Rattle.volume_facts.specs.References.{lesser}
 use Rattle.volume_facts.proofs.FilingLaws.{used-from}
-use Rattle.volume_facts.proofs.LeastLaws.{least-same}
+use Rattle.volume_facts.proofs.LeastLaws.{least-lesser, least-same}
 use Rattle.volume_facts.proofs.NameLaws.{held-by, held-file}
-use Rattle.volume_facts.proofs.ReferenceLaws.{TellNames, if_some, least-lesser}
+use Rattle.volume_facts.proofs.ReferenceLaws.{TellNames, if_some}
 
 -- a name of this namespace in this directory
 abbrev is_placed : ℕ → ℕ → PlacedName → Bool
