@@ -1,12 +1,12 @@
 -- Entries of lists, sorted by the attribute that they name.
 use Rattle.std.proofs.Common.{◌≡◌, ◌↔◌, ◌<◌, ◌==◌, ◌/◌, ◌%◌, ◌^◌, ℕ, suc, IsTrue, Bool, List, [], ◌∷◌, subst, length, map, get_or, refl, sym, ap, ◌∙◌, arith}
 use Rattle.std.specs.List.Sorted.{IsNonDecreasingBy, IsPermutation}
-use Rattle.std.specs.Coded.{Coded, code_by, coded×, coded_ℕ, coded_list}
 use Rattle.std.proofs.lemmas.List.{length-map, get_or-map}
 use Rattle.std.proofs.lemmas.List.Sorted.{IsPermutation-map}
 use Rattle.ntfs_def.specs.AttributeList.{ListEntry}
 use Rattle.ntfs_def.specs.Record.{Reference, reference_in}
 use Rattle.volume_def.specs.SameItems.{SameItems}
+use Rattle.volume_def.proofs.Codes.{entry_code}
 use Rattle.volume_def.proofs.SameItemsLaws.{SameItems-permutation, SameItems-sym, SameItems-trans}
 use Rattle.attr_list.specs.declared.EntryView.{EntryView}
 use Rattle.attr_list.specs.View.{entry_shown}
@@ -19,17 +19,6 @@ reference_in-exact a b h =
     let low : a % 2 ^ 48 ≡ b % 2 ^ 48 = ap (λ (r : Reference). r.number) h in
     let high : a / 2 ^ 48 ≡ b / 2 ^ 48 = ap (λ (r : Reference). r.sequence) h in
     omega arith
-
--- Entries are told apart.
-
-reference_code : Coded Reference
-reference_code = code_by (ℕ × ℕ) (coded× coded_ℕ coded_ℕ) (λ r. (r.number, r.sequence)) (λ p. record { number = p.0; sequence = p.1 }) (λ _. refl)
-
-entry_code : Coded ListEntry
-entry_code = code_by (ℕ × (List ℕ × (ℕ × (Reference × ℕ))))
-    (coded× coded_ℕ (coded× (coded_list coded_ℕ) (coded× coded_ℕ (coded× reference_code coded_ℕ))))
-    (λ e. (e.kind, (e.name, (e.first, (e.holder, e.id)))))
-    (λ p. record { kind = p.0; name = p.1.0; first = p.1.1.0; holder = p.1.1.1.0; id = p.1.1.1.1 }) (λ _. refl)
 
 -- Views that are sorted are entries that rise.
 

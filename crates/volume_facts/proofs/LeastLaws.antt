@@ -1,7 +1,7 @@
 -- The least failing number, as a pass finds it.
 use Rattle.std.proofs.Common.{◌≡◌, ℕ, ◌+◌, ◌<◌, ◌≤◌, min, Option, Some, None, unwrap_or, inl, inr, subst, arith}
 use Rattle.std.proofs.lemmas.Bool.{cases_lt}
-use Rattle.volume_facts.specs.Least.{IsLeastBelow, IsLeastFailing, lesser}
+use Rattle.volume_facts.specs.Least.{IsLeastBelow, IsLeastFailing, least_of}
 
 abbrev pub lower_of : Option ℕ → ℕ → ℕ
 lower_of None c = c
@@ -38,12 +38,12 @@ below-fails P end None bad below = (omega arith, bad, below)
 below-fails P end (Some l) bad (h, worse, below) = (omega arith, worse, below)
 
 -- two facts fail first at the lesser of their numbers
-pub least-lesser : (P Q : ℕ → Type 0) (a b : Option ℕ) → IsLeastFailing P a → IsLeastFailing Q b
-    → IsLeastFailing (λ n. P n × Q n) (lesser a b)
-least-lesser P Q None None all every = λ n. (all n, every n)
-least-lesser P Q None (Some b) all (bad, below) = (λ p. bad p.1, λ m h. (all m, below m h))
-least-lesser P Q (Some a) None (bad, below) every = (λ p. bad p.0, λ m h. (below m h, every m))
-least-lesser P Q (Some a) (Some b) (bad, below) (worse, under) = elim (cases_lt b a) [
+pub least-two : (P Q : ℕ → Type 0) (a b : Option ℕ) → IsLeastFailing P a → IsLeastFailing Q b
+    → IsLeastFailing (λ n. P n × Q n) (least_of a b)
+least-two P Q None None all every = λ n. (all n, every n)
+least-two P Q None (Some b) all (bad, below) = (λ p. bad p.1, λ m h. (all m, below m h))
+least-two P Q (Some a) None (bad, below) every = (λ p. bad p.0, λ m h. (below m h, every m))
+least-two P Q (Some a) (Some b) (bad, below) (worse, under) = elim (cases_lt b a) [
   | inl lt ↦ let e : b ≡ min a b = omega arith in
       subst (λ n. ¬ (P n × Q n) × ((m : ℕ) → m < n → P m × Q m)) e (λ p. worse p.1, λ m h. (below m (omega arith), under m h))
   | inr ge ↦ let e : a ≡ min a b = omega arith in

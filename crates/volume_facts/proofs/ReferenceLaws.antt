@@ -14,10 +14,10 @@ use Rattle.volume_def.specs.ReferencesClause.{HasRightReferences, MeetsReference
 use Rattle.volume_def.proofs.MemberLaws.{All-from_Contains, Contains-from_map, Contains-map}
 use Rattle.volume_facts.specs.declared.names.NameFact.{NameFact}
 use Rattle.volume_facts.specs.Heads.{EndsAtCount}
-use Rattle.volume_facts.specs.Least.{IsLeastFailing, lesser}
+use Rattle.volume_facts.specs.Least.{IsLeastFailing, least_of}
 use Rattle.volume_facts.specs.Names.{HeldName, held_name, names_held_below, told_name}
 use Rattle.volume_facts.specs.References.{MeetsBase, MeetsParents}
-use Rattle.volume_facts.proofs.LeastLaws.{least-lesser, least-same}
+use Rattle.volume_facts.proofs.LeastLaws.{least-two, least-same}
 use Rattle.volume_facts.proofs.NameLaws.{holder_of, held-among, held-by, held-rising}
 
 pub if_some : {A : Type 0} (o : Option A) (P : A → Type 0) → ((x : A) → o ≡ Some x → P x) → IfSome o P
@@ -107,8 +107,8 @@ parts records None right = (tt, tt)
 parts records (Some r) right = (right.base, right.parents)
 
 pub least-reference : (records : Records) (a b : Option ℕ) → IsLeastFailing (MeetsBase records) a → IsLeastFailing (MeetsParents records) b
-    → IsLeastFailing (MeetsReferences records) (lesser a b)
+    → IsLeastFailing (MeetsReferences records) (least_of a b)
 least-reference records a b base parents =
-    least-same (λ n. MeetsBase records n × MeetsParents records n) (MeetsReferences records) (lesser a b)
+    least-same (λ n. MeetsBase records n × MeetsParents records n) (MeetsReferences records) (least_of a b)
     (λ n p. whole records (records.record_at n) p.0 p.1) (λ n m. parts records (records.record_at n) m)
-    (least-lesser (MeetsBase records) (MeetsParents records) a b base parents)
+    (least-two (MeetsBase records) (MeetsParents records) a b base parents)

@@ -17,12 +17,12 @@ use Rattle.volume_def.proofs.PartLaws.{IsPart-Contains, NameHolders-view}
 use Rattle.volume_facts.specs.declared.unlisted.UnlistedFiles.{UnlistedFiles}
 use Rattle.volume_facts.specs.Extents.{AreWholeParts, IsAlone}
 use Rattle.volume_facts.specs.Heads.{EndsAtCount}
-use Rattle.volume_facts.specs.Least.{IsLeastBelow, IsLeastFailing, lesser}
+use Rattle.volume_facts.specs.Least.{IsLeastBelow, IsLeastFailing, least_of}
 use Rattle.volume_facts.specs.Unlisted.{AreUnlistedAlone, IsUnlistedWhole, MeetsListed, MeetsUnlisted, UnlistedNote, bytes_noted, is_unlisted}
 use Rattle.volume_facts.proofs.AttributesLaws.{is_base-zero}
 use Rattle.volume_facts.proofs.HeadLaws.{EndsAtCount-view}
 use Rattle.volume_facts.proofs.InOrderLaws.{alone-parts}
-use Rattle.volume_facts.proofs.LeastLaws.{below-fails, below-next, least-lesser, least-same, least-whole}
+use Rattle.volume_facts.proofs.LeastLaws.{below-fails, below-next, least-two, least-same, least-whole}
 use Rattle.volume_facts.proofs.SpreadLaws.{list_any-map}
 
 -- One record.
@@ -92,12 +92,12 @@ meets-both records size n (Some r) here inside alone meets = (
 pub first-of-all : (records : Records) (size : ℕ) (first listed : Option ℕ) → EndsAtCount records
     → IsLeastBelow (MeetsUnlisted records size) records.count first → AreUnlistedAlone records
     → IsLeastFailing (MeetsListed records size) listed
-    → IsLeastFailing (MeetsExtents records size) (lesser first listed)
+    → IsLeastFailing (MeetsExtents records size) (least_of first listed)
 first-of-all records size first listed past note alone least =
-    least-same (λ n. MeetsUnlisted records size n × MeetsListed records size n) (MeetsExtents records size) (lesser first listed)
+    least-same (λ n. MeetsUnlisted records size n × MeetsListed records size n) (MeetsExtents records size) (least_of first listed)
     (λ n. both-meet records size n (records.record_at n) refl (within n) (alone n))
     (λ n. meets-both records size n (records.record_at n) refl (within n) (alone n))
-    (least-lesser (MeetsUnlisted records size) (MeetsListed records size) first listed
+    (least-two (MeetsUnlisted records size) (MeetsListed records size) first listed
     (least-whole (MeetsUnlisted records size) records.count first (λ n h. subst (UnlistedIn size n) (sym (past n h)) tt) note) least)
   where
     within : (n : ℕ) → records.record_at n ≢ None → n < records.count
@@ -146,6 +146,6 @@ lists-alone view meets n = alone-in view n ((records_of view).record_at n) refl 
 pub first-of-volume : (view : VolumeView) (size : ℕ) (first listed : Option ℕ) → ((n : ℕ) → MeetsLists view n)
     → IsLeastBelow (MeetsUnlisted (records_of view) size) view.layout.count first
     → IsLeastFailing (MeetsListed (records_of view) size) listed
-    → IsLeastFailing (MeetsExtents (records_of view) size) (lesser first listed)
+    → IsLeastFailing (MeetsExtents (records_of view) size) (least_of first listed)
 first-of-volume view size first listed meets note least =
     first-of-all (records_of view) size first listed (EndsAtCount-view view) note (lists-alone view meets) least

@@ -30,6 +30,7 @@ pub use attributes::is_right_record;
 pub use extents::{Extent, Held, extents_of};
 pub use facts::Facts;
 pub use heads::{Head, Heads};
+pub use least::least_of;
 pub use links::first_wrong_link;
 pub use lists::{add_wanted, names_each};
 pub use names::{NameFact, Names};

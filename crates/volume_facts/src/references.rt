@@ -6,7 +6,7 @@ ghost use Rattle.volume_facts.specs.Least.{IsLeastFailing};
 ghost use Rattle.volume_facts.specs.Names.{NamesNote};
 ghost use Rattle.volume_facts.specs.References.{MeetsBase, MeetsParents};
 
-use crate::least::lesser;
+use crate::least::least_of;
 use crate::{Heads, Names};
 
 // The first record whose base reference names no base record.
@@ -43,5 +43,5 @@ pub fn first_wrong_reference(heads: &Heads, names: &Names) -> Option<u64>
     ensures { (records : Records) → EndsAtCount records → HeadsNote records records.count heads.now
         → NamesNote records records.count names.now → IsLeastFailing (MeetsReferences records) result }
 {
-    lesser(first_wrong_base(heads), first_wrong_parent(heads, names))
+    least_of(first_wrong_base(heads), first_wrong_parent(heads, names))
 }

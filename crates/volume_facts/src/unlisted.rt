@@ -9,7 +9,7 @@ ghost use Rattle.volume_facts.specs.Heads.{EndsAtCount};
 ghost use Rattle.volume_facts.specs.Least.{IsLeastFailing};
 ghost use Rattle.volume_facts.specs.Unlisted.{AreUnlistedAlone, IsUnlistedWhole, MeetsListed, UnlistedNote, bytes_noted, is_unlisted};
 
-use crate::least::lesser;
+use crate::least::least_of;
 use crate::spread::has_list;
 use crate::whole::has_whole_extents;
 use attr_view::RecordView;
@@ -98,6 +98,6 @@ impl UnlistedFiles {
             → IsLeastFailing (MeetsListed records (bytes_noted self.now)) listed
             → IsLeastFailing (MeetsExtents records (bytes_noted self.now)) result }
     {
-        lesser(self.first_wrong, listed)
+        least_of(self.first_wrong, listed)
     }
 }
