@@ -105,7 +105,7 @@ first-of-all records size first listed past note alone least =
 
 -- What the clause on lists gives.
 
-none-among : {A : Type 0} (p : A → Bool) (xs : List A) (x : A) → list_any p xs ≡ false → Contains xs x → p x ≡ false
+pub none-among : {A : Type 0} (p : A → Bool) (xs : List A) (x : A) → list_any p xs ≡ false → Contains xs x → p x ≡ false
 none-among p [] x none c = absurd (Contains-nil x c)
 none-among p (y ∷ ys) x none c = elim (cases_Bool (p y)) [
   | inl t ↦ let some : p y || list_any p ys ≡ true = ap (λ b. b || list_any p ys) t in absurd (cc)
