@@ -3,7 +3,7 @@ use Rattle.std.proofs.lemmas.Bool.{both_ways}
 use Rattle.volume_def.specs.Coverage.{times_covered}
 use Rattle.volume_facts.proofs.OwnersLaws.{owners-met}
 use Rattle.volume_facts.proofs.RecordsLaws.{boot_runs_below-all}
-use Rattle.volume_facts.proofs.owners.Owners.first_badly_owned.Goals as goal
+use Rattle.volume_facts.proofs.owners.Owners.first_wrong_cluster.Goals as goal
 
 pub returns-then-not-self : goal.returns-then-not-self
 returns-then-not-self c = λ records notes. (

@@ -1,4 +1,4 @@
--- Runs: how often they cover a cluster, and those of an attribute.
+-- How often runs cover a cluster, and the runs of an attribute.
 use Rattle.std.proofs.Common.{◌≡◌, ℕ, zero, suc, ◌+◌, ◌<◌, ◌≤◌, List, [], ◌∷◌, ◌++◌, length, get_or, Some, None, cond, unwrap_or, Bool, IsTrue, ◌||◌, inl, inr, refl, ap, arith}
 use Rattle.std.specs.Prelude.{◌↔◌}
 use Rattle.std.proofs.lemmas.Bool.{cases_lt, or_cases, or_left, or_right}

@@ -13,6 +13,7 @@ use Rattle.ntfs_def.specs.KeyOrder.{by_numbers}
 use Rattle.ntfs_def.proofs.KeyOrderLaws.{numbers_is_eq}
 use Rattle.volume_facts.specs.Extents.{Outline, first_vcn, group_order, is_like, outline_order}
 use Rattle.volume_facts.specs.Groups.{AreSorted, IsGroup}
+use Rattle.volume_facts.proofs.SortedLaws.{Rises}
 
 -- One type and name.
 
@@ -114,11 +115,8 @@ like-rises x y low like = numbers_upto (first_vcn x) (first_vcn y) (then_tied (g
 
 -- Those of a type and name, and the others behind them.
 
-abbrev pub Rises : List Outline → Type 0
-Rises outlines = (i j : ℕ) (d : Outline) → i ≤ j → j < length outlines → first_vcn (get_or outlines i d) ≤ first_vcn (get_or outlines j d)
-
 pub group-rises : (outlines : List Outline) (start end : ℕ) → AreSorted outlines → IsGroup outlines start end
-    → Rises (take (end - start) (drop start outlines))
+    → Rises first_vcn (take (end - start) (drop start outlines))
 group-rises outlines start end sorted group i j d le lt =
     let some = group.some in
     let inside = group.inside in

@@ -1,4 +1,4 @@
--- The clusters of a list of runs.
+-- How many clusters runs have.
 use Rattle.std.proofs.Common.{ℕ, ◌+◌, ◌^◌, ◌≤◌, List, [], ◌∷◌, arith}
 use Rattle.std.proofs.lemmas.List.Sums.{sum_by-cons}
 use Rattle.ntfs_def.specs.declared.run_text.Run.{Run}
