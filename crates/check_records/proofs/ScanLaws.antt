@@ -1,7 +1,7 @@
 -- What a pass over the table has decided and noted, a record at a time.
 use Rattle.std.proofs.Common.{◌≡◌, ◌<◌, ◌≤◌, ◌+◌, ℕ, IsTrue, true, false, List, Some, None, inl, inr, cond, ap, subst, ◌∙◌, arith}
 use Rattle.std.specs.Prelude.{is_some}
-use Rattle.std.proofs.lemmas.Bool.{cases_lt, le-ltb, lt-ltb}
+use Rattle.std.proofs.lemmas.Bool.{cases_lt, lt-ltb}
 use Rattle.vol_disk.specs.Contents.{sector_in}
 use Rattle.vol_disk.specs.declared.Disk.{Ghosts}
 use Rattle.vol_stage.specs.declared.stage.Stage.{Stage}
@@ -53,7 +53,3 @@ record_in-used n stored used = ap (λ b. cond b (Some (record_of n (opened_of st
 pub record_in-unused : (n : ℕ) (stored : List ℕ) → is_in_use stored ≡ false → record_in n stored ≡ None
 unfolding record_in
 record_in-unused n stored unused = ap (λ b. cond b (Some (record_of n (opened_of stored))) None) unused
-
--- no record past the last is in use
-pub record_on-past : (view : VolumeView) (n : ℕ) → view.layout.count ≤ n → record_on view n ≡ None
-record_on-past view n past = ap (λ b. cond b (record_in n (view.block n)) None) (le-ltb n view.layout.count past)

@@ -9,6 +9,7 @@ use Rattle.volume_def.specs.View.{VolumeView, view_of}
 use Rattle.volume_facts.specs.declared.facts.Facts.{Facts}
 use Rattle.volume_facts.specs.Facts.{records_known}
 use Rattle.volume_facts.specs.Owners.{clusters_noted}
+use Rattle.volume_facts.specs.Unlisted.{bytes_noted}
 
 -- with its table where the layout says
 abbrev pub stage_view : {D : Type 0} (g : Ghosts D) → Stage D g → TableLayout → VolumeView
@@ -18,4 +19,4 @@ stage_view g stage layout = view_of (is_some (image g stage)) (sector_in (image 
 pub record IsOfVolume (layout : TableLayout) (facts : Facts) : Type 0 where
   pub records : records_known facts ≡ layout.count
   pub clusters : clusters_noted facts.owners ≡ layout.clusters
-  pub cluster_bytes : facts.cluster_bytes ≡ cluster_bytes layout
+  pub cluster_bytes : bytes_noted facts.unlisted ≡ cluster_bytes layout

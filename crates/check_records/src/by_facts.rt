@@ -22,7 +22,7 @@ pub fn first_wrong_owner(facts: &Facts) -> Option<u64>
     ensures { (view : VolumeView) → IsOfVolume view.layout facts.now → FactsNote (records_of view) view.layout.count facts.now
         → DecidesFirst Owners view result }
 {
-    facts.owners.first_badly_owned()
+    facts.owners.first_wrong_cluster()
 }
 
 /// The least record that breaks the clause on references.

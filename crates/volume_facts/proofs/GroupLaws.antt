@@ -3,56 +3,17 @@
 use Rattle.std.proofs.Common.{◌≡◌, ◌≢◌, ◌<◌, ◌≤◌, ◌+◌, ◌==◌, ℕ, zero, suc, Bool, true, false, cond, List, [], ◌∷◌, ◌++◌, length, get_or, All, refl, sym, ap, subst, inl, inr, ◌∙◌, arith, append-nil}
 use Rattle.std.specs.Prelude.{filter}
 use Rattle.std.specs.List.{Contains, count_by}
-use Rattle.std.proofs.lemmas.Bool.{cases_Bool, cases_lt, eq-eqb, ne_eqb}
+use Rattle.std.proofs.lemmas.Bool.{cases_Bool, cases_lt, ne_eqb}
 use Rattle.std.proofs.lemmas.List.Elements.{All-append, All-contains, All-head, All-tail, Contains-append_left, Contains-append_right, Contains-get_or, filter-append}
 use Rattle.ntfs_def.specs.declared.kinds.TheConstants.{FILE_NAME}
-use Rattle.volume_def.specs.SameItems.{SameItems}
-use Rattle.volume_def.proofs.CodedLaws.{SameItems-Contains}
-use Rattle.volume_def.proofs.FindLaws.{count-cons, count-no, count-some, count-yes}
-use Rattle.volume_def.proofs.MemberLaws.{Contains-cases, Contains-head, Contains-nil}
-use Rattle.volume_def.proofs.SameItemsLaws.{SameItems-cancel, SameItems-same, SameItems-sym}
+use Rattle.volume_def.proofs.FindLaws.{count-cons, count-no}
+use Rattle.volume_def.proofs.SameItemsLaws.{SameItems-same}
 use Rattle.volume_facts.specs.declared.extents.Held.{Held}
 use Rattle.volume_facts.specs.declared.extents.Held.TheVariants.{InClusters, InRecord}
 use Rattle.volume_facts.specs.Extents.{AreAllWhole, AreInOrder, AreOne, Begins, Follow, HaveClusters, IsWholeInOrder, Outline, clusters_covered, first_of, first_vcn, is_like}
-use Rattle.volume_facts.proofs.OrderLaws.{Rises, like-itself, like-same, like-told}
+use Rattle.volume_facts.proofs.OutlineOrderLaws.{like-itself, like-same, like-told}
 use Rattle.volume_facts.proofs.OutlineLaws.{outline_code}
-
--- No two begin with one cluster.
-abbrev Apart : List Outline → Type 0
-Apart outlines = (k : ℕ) → count_by (λ outline. first_vcn outline == k) outlines ≤ 1
-
-least-first : (x : Outline) (xs : List Outline) (y : Outline) → Rises (x ∷ xs) → Contains (x ∷ xs) y → first_vcn x ≤ first_vcn y
-least-first x xs y up (k, l, is) = let u = up 0 k y (omega arith) l in let e = ap first_vcn is in omega arith
-
-rises-tail : (x : Outline) (xs : List Outline) → Rises (x ∷ xs) → Rises xs
-rises-tail x xs up i j d h l = up (suc i) (suc j) d (omega arith) (omega arith)
-
-apart-tail : (x : Outline) (xs : List Outline) → Apart (x ∷ xs) → Apart xs
-apart-tail x xs apart k = let c = count-cons (λ z. first_vcn z == k) x xs in let a = apart k in omega arith
-
--- lists of the same outlines that rise are one list, where no two begin with one cluster
-same-sorted : (xs ys : List Outline) → Rises xs → Rises ys → Apart ys → SameItems xs ys → xs ≡ ys
-same-sorted [] [] a b apart h = refl
-same-sorted [] (y ∷ ys) a b apart h =
-    absurd (Contains-nil y (SameItems-Contains outline_code (y ∷ ys) [] y (SameItems-sym [] (y ∷ ys) h) (Contains-head y ys)))
-same-sorted (x ∷ xs) [] a b apart h = absurd (Contains-nil x (SameItems-Contains outline_code (x ∷ xs) [] x h (Contains-head x xs)))
-same-sorted (x ∷ xs) (y ∷ ys) a b apart h =
-    let there = SameItems-Contains outline_code (x ∷ xs) (y ∷ ys) x h (Contains-head x xs) in
-    let back = SameItems-Contains outline_code (y ∷ ys) (x ∷ xs) y (SameItems-sym (x ∷ xs) (y ∷ ys) h) (Contains-head y ys) in
-    let low = least-first y ys x b there in
-    let high = least-first x xs y a back in
-    let keys : first_vcn x ≡ first_vcn y = omega arith in
-    let same : y ≡ x = elim (Contains-cases y ys x there) [
-      | inl e ↦ e
-      | inr later ↦
-          let one = count-yes (λ z. first_vcn z == first_vcn y) y ys (eq-eqb (first_vcn y) (first_vcn y) refl) in
-          let two = count-some (λ z. first_vcn z == first_vcn y) ys x later (eq-eqb (first_vcn x) (first_vcn y) keys) in
-          let most = apart (first_vcn y) in
-          absurd (omega arith)
-    ] in
-    let rest = same-sorted xs ys (rises-tail x xs a) (rises-tail y ys b) (apart-tail y ys apart)
-    (SameItems-cancel (x ∷ []) xs ys (subst (λ z. SameItems (x ∷ xs) (z ∷ ys)) same h)) in
-    ap (λ z. z ∷ xs) (sym same) ∙ ap (λ zs. y ∷ zs) rest
+use Rattle.volume_facts.proofs.SortedLaws.{Apart, Rises, same-sorted}
 
 -- Those that follow one another rise.
 
@@ -65,7 +26,7 @@ low vcn [] f i d h = absurd (omega arith)
 low vcn (x ∷ xs) (begins, rest) zero d h = let e = begins-first vcn x.held begins in omega arith
 low vcn (x ∷ xs) (begins, rest) (suc i) d h = let r = low (vcn + clusters_covered x) xs rest i d (omega arith) in omega arith
 
-follow-rises : (vcn : ℕ) (xs : List Outline) → Follow vcn xs → Rises xs
+follow-rises : (vcn : ℕ) (xs : List Outline) → Follow vcn xs → Rises first_vcn xs
 follow-rises vcn [] f i j d le h = absurd (omega arith)
 follow-rises vcn (x ∷ xs) (begins, rest) zero j d le h =
     let e = begins-first vcn x.held begins in
@@ -108,7 +69,7 @@ at-most-one : (b : Bool) → cond b 1 0 ≤ 1
 at-most-one true = omega arith
 at-most-one false = omega arith
 
-follow-apart : (vcn : ℕ) (xs : List Outline) → Follow vcn xs → Full xs → Apart xs
+follow-apart : (vcn : ℕ) (xs : List Outline) → Follow vcn xs → Full xs → Apart first_vcn xs
 follow-apart vcn [] f full k = omega arith
 follow-apart vcn (x ∷ []) f full k =
     let c = count-cons (λ z. first_vcn z == k) x [] in
@@ -128,14 +89,14 @@ follow-apart vcn (x ∷ y ∷ rest) (begins, behind) (some, full) k =
           omega arith
     ]
 
-whole-rises : (xs : List Outline) → IsWholeInOrder xs → Rises xs
+whole-rises : (xs : List Outline) → IsWholeInOrder xs → Rises first_vcn xs
 whole-rises [] whole i j d le h = absurd (omega arith)
 whole-rises (x ∷ []) whole zero zero d le h = omega arith
 whole-rises (x ∷ []) whole i (suc j) d le h = absurd (omega arith)
 whole-rises (x ∷ []) whole (suc i) zero d le h = absurd (omega arith)
 whole-rises (x ∷ y ∷ rest) whole i j d le h = follow-rises 0 (x ∷ y ∷ rest) whole i j d le h
 
-whole-apart : (xs : List Outline) → IsWholeInOrder xs → Full xs → Apart xs
+whole-apart : (xs : List Outline) → IsWholeInOrder xs → Full xs → Apart first_vcn xs
 whole-apart [] whole full k = omega arith
 whole-apart (x ∷ []) whole full k =
     let c = count-cons (λ z. first_vcn z == k) x [] in
@@ -143,9 +104,9 @@ whole-apart (x ∷ []) whole full k =
     omega arith
 whole-apart (x ∷ y ∷ rest) whole full k = follow-apart 0 (x ∷ y ∷ rest) whole full k
 
-pub AreOne-sorted : (size f : ℕ) (xs : List Outline) → Rises xs → AreOne size f xs → AreInOrder size f xs
+pub AreOne-sorted : (size f : ℕ) (xs : List Outline) → Rises first_vcn xs → AreOne size f xs → AreInOrder size f xs
 AreOne-sorted size f xs up one =
-    subst (AreInOrder size f) (sym (same-sorted xs one.ordered up (whole-rises one.ordered one.right.whole)
+    subst (AreInOrder size f) (sym (same-sorted outline_code first_vcn xs one.ordered up (whole-rises one.ordered one.right.whole)
     (whole-apart one.ordered one.right.whole (clusters-full one.ordered one.right.several)) one.order)) one.right
 
 pub sorted-AreOne : (size f : ℕ) (xs : List Outline) → AreInOrder size f xs → AreOne size f xs

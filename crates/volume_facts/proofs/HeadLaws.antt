@@ -1,8 +1,9 @@
 -- The headers of records, as they are noted.
-use Rattle.std.proofs.Common.{◌≡◌, ◌+◌, ◌++◌, ◌∷◌, [], ℕ, Option, Some, None, length, get_or, refl, ap, sym, subst, inl, inr, ◌∙◌, arith, below_more}
-use Rattle.std.proofs.lemmas.Bool.{cases_lt}
+use Rattle.std.proofs.Common.{◌≡◌, ◌+◌, ◌++◌, ◌∷◌, [], ℕ, Option, Some, None, length, cond, get_or, refl, ap, sym, subst, inl, inr, ◌∙◌, arith, below_more}
+use Rattle.std.proofs.lemmas.Bool.{cases_lt, le-ltb}
 use Rattle.std.proofs.lemmas.List.{get_or_append_left, get_or_past, get_or_push, length_push}
-use Rattle.volume_def.specs.Files.{Record, Records}
+use Rattle.volume_def.specs.Files.{Record, Records, record_in, records_of}
+use Rattle.volume_def.specs.View.{VolumeView}
 use Rattle.volume_facts.specs.declared.heads.Head.{Head}
 use Rattle.volume_facts.specs.declared.heads.Heads.{Heads}
 use Rattle.volume_facts.specs.Heads.{EndsAtCount, HeadsNote, IsHead, IsHeadIn, head_at}
@@ -19,6 +20,10 @@ HeadsNote-more records n old new o items here note = record {
       (let e : head_at new n ≡ o = ap (λ xs. get_or xs n None) items ∙ get_or_push old.heads.items o None n note.count in
       subst (IsHeadIn (records.record_at n)) (sym e) here);
 }
+
+-- no record past the last of a volume is in use
+pub EndsAtCount-view : (view : VolumeView) → EndsAtCount (records_of view)
+EndsAtCount-view view n past = ap (λ b. cond b (record_in n (view.block n)) None) (le-ltb n view.layout.count past)
 
 -- of all records
 pub HeadsNote-all : (records : Records) (heads : Heads) → EndsAtCount records → HeadsNote records records.count heads

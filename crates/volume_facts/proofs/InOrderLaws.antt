@@ -23,7 +23,7 @@ use Rattle.volume_facts.specs.declared.extents.Held.TheVariants.{InClusters, InR
 use Rattle.volume_facts.specs.Extents.{AreAllWhole, AreInOrder, AreWholeParts, FitsFirst, Follow, HasFitSizes, HaveClusters, IsAlone, IsInRecord, IsOneValue, IsWholeInOrder, Outline, clusters_covered, is_like, outline_order, outlined}
 use Rattle.volume_facts.specs.Groups.{AreSorted, IsGroup}
 use Rattle.volume_facts.proofs.GroupLaws.{AreOne-sorted, group-whole, sorted-AreOne, whole-group}
-use Rattle.volume_facts.proofs.OrderLaws.{group-alike, group-apart, group-rises, outline_total}
+use Rattle.volume_facts.proofs.OutlineOrderLaws.{group-alike, group-apart, group-rises, outline_total}
 use Rattle.volume_facts.proofs.OutlineLaws.{All-unmap}
 
 -- a fact at a place, whatever is read past the end

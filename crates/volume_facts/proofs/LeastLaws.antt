@@ -1,7 +1,7 @@
 -- The least failing number, as a pass finds it.
-use Rattle.std.proofs.Common.{◌≡◌, ℕ, ◌+◌, ◌<◌, ◌≤◌, min, Option, Some, None, inl, inr, subst, arith}
+use Rattle.std.proofs.Common.{◌≡◌, ℕ, ◌+◌, ◌<◌, ◌≤◌, min, Option, Some, None, unwrap_or, inl, inr, subst, arith}
 use Rattle.std.proofs.lemmas.Bool.{cases_lt}
-use Rattle.volume_facts.specs.Least.{IsLeastFailing, IsLeastBelow}
+use Rattle.volume_facts.specs.Least.{IsLeastBelow, IsLeastFailing, least_of}
 
 abbrev pub lower_of : Option ℕ → ℕ → ℕ
 lower_of None c = c
@@ -33,20 +33,19 @@ below-next P end None here below = λ n h. elim (cases_lt n end) [ inl lt ↦ be
 below-next P end (Some l) here (h, bad, below) = (omega arith, bad, below)
 
 -- one number more fails: the first stays the first
-abbrev pub first_of : Option ℕ → ℕ → ℕ
-first_of None n = n
-first_of (Some l) n = l
-
-pub below-fails : (P : ℕ → Type 0) (end : ℕ) (o : Option ℕ) → ¬ (P end) → IsLeastBelow P end o → IsLeastBelow P (end + 1) (Some (first_of o end))
+pub below-fails : (P : ℕ → Type 0) (end : ℕ) (o : Option ℕ) → ¬ (P end) → IsLeastBelow P end o → IsLeastBelow P (end + 1) (Some (unwrap_or o end))
 below-fails P end None bad below = (omega arith, bad, below)
 below-fails P end (Some l) bad (h, worse, below) = (omega arith, worse, below)
 
--- two least numbers of two facts give that of both
-pub least-both : (P Q : ℕ → Type 0) (c : ℕ) (o : Option ℕ) → ¬ (P c) → ((n : ℕ) → n < c → P n) → IsLeastFailing Q o → IsLeastFailing (λ n. P n × Q n) (Some (lower_of o c))
-least-both P Q c None bad before all = (λ p. bad p.0, λ m h. (before m h, all m))
-least-both P Q c (Some l) bad before (worse, below) = elim (cases_lt l c) [
-  | inl lt ↦ let e : l ≡ min l c = omega arith in
-      subst (λ n. ¬ (P n × Q n) × ((m : ℕ) → m < n → P m × Q m)) e (λ p. worse p.1, λ m h. (before m (omega arith), below m h))
-  | inr ge ↦ let e : c ≡ min l c = omega arith in
-      subst (λ n. ¬ (P n × Q n) × ((m : ℕ) → m < n → P m × Q m)) e (λ p. bad p.0, λ m h. (before m h, below m (omega arith)))
+-- two facts fail first at the lesser of their numbers
+pub least-two : (P Q : ℕ → Type 0) (a b : Option ℕ) → IsLeastFailing P a → IsLeastFailing Q b
+    → IsLeastFailing (λ n. P n × Q n) (least_of a b)
+least-two P Q None None all every = λ n. (all n, every n)
+least-two P Q None (Some b) all (bad, below) = (λ p. bad p.1, λ m h. (all m, below m h))
+least-two P Q (Some a) None (bad, below) every = (λ p. bad p.0, λ m h. (below m h, every m))
+least-two P Q (Some a) (Some b) (bad, below) (worse, under) = elim (cases_lt b a) [
+  | inl lt ↦ let e : b ≡ min a b = omega arith in
+      subst (λ n. ¬ (P n × Q n) × ((m : ℕ) → m < n → P m × Q m)) e (λ p. worse p.1, λ m h. (below m (omega arith), under m h))
+  | inr ge ↦ let e : a ≡ min a b = omega arith in
+      subst (λ n. ¬ (P n × Q n) × ((m : ℕ) → m < n → P m × Q m)) e (λ p. bad p.0, λ m h. (below m h, under m (omega arith)))
 ]

@@ -1,10 +1,10 @@
 -- The clause on links is that of pairs and that of filing.
-use Rattle.std.proofs.Common.{◌≡◌, ◌≤◌, ◌==◌, ◌&&◌, ℕ, Bool, true, false, cond, List, Option, Some, None, map, unwrap_or, refl, sym, ap, subst, ◌∙◌, eq-eqb}
+use Rattle.std.proofs.Common.{◌≡◌, ◌≤◌, ◌==◌, ◌&&◌, ℕ, Bool, true, cond, List, Option, Some, None, map, unwrap_or, refl, sym, ap, subst, ◌∙◌, eq-eqb}
 use Rattle.std.specs.List.{Contains, count_by, filter}
 use Rattle.std.specs.List.Sorted.{IsPermutation}
 use Rattle.std.specs.Option.{option_map}
 use Rattle.std.specs.Prelude.{IfSome, IsTrue, is_none}
-use Rattle.std.proofs.lemmas.Bool.{eqb-true}
+use Rattle.std.proofs.lemmas.Bool.{and_parts, eqb-true}
 use Rattle.std.proofs.lemmas.List.Elements.{All-contains}
 use Rattle.std.proofs.lemmas.List.Sorted.{sum_by-IsPermutation}
 use Rattle.ntfs_def.specs.FileName.{FileName}
@@ -18,15 +18,14 @@ use Rattle.volume_def.proofs.MemberLaws.{All-from_Contains, Contains-from_filter
 use Rattle.volume_def.proofs.SameItemsLaws.{count-filter, count-map}
 use Rattle.volume_facts.specs.declared.names.NameFact.{NameFact}
 use Rattle.volume_facts.specs.declared.pairs.NameKey.{NameKey}
-use Rattle.volume_facts.specs.Least.{IsLeastFailing}
+use Rattle.volume_facts.specs.Least.{IsLeastFailing, least_of}
 use Rattle.volume_facts.specs.Links.{HasPairs, HasRightFiling, MeetsFiling}
 use Rattle.volume_facts.specs.Names.{HeldName, PlacedName, is_of_file, names_held_below, placed, told_name}
 use Rattle.volume_facts.specs.Pairs.{ArePaired, is_key, key_of, times_named}
-use Rattle.volume_facts.specs.References.{lesser}
 use Rattle.volume_facts.proofs.FilingLaws.{used-from}
-use Rattle.volume_facts.proofs.LeastLaws.{least-same}
+use Rattle.volume_facts.proofs.LeastLaws.{least-two, least-same}
 use Rattle.volume_facts.proofs.NameLaws.{held-by, held-file}
-use Rattle.volume_facts.proofs.ReferenceLaws.{TellNames, if_some, least-lesser}
+use Rattle.volume_facts.proofs.ReferenceLaws.{TellNames, if_some}
 
 -- a name of this namespace in this directory
 abbrev is_placed : ℕ → ℕ → PlacedName → Bool
@@ -71,11 +70,6 @@ paired-names records facts keys f tell same paired =
     both : (a b : Bool) → a ≡ true → b ≡ true → (a && b) ≡ true
     both a b x y = rw (x, y) refl
 
-split : (a b : Bool) → (a && b) ≡ true → (a ≡ true) × (b ≡ true)
-split true true h = (refl, refl)
-split true false h = absurd (cc)
-split false b h = absurd (cc)
-
 names-paired : (records : Records) (facts : List NameFact) (keys : List NameKey) (f : ℕ) → TellNames records facts
     → IsPermutation (map key_of facts) keys
     → HasPairs records f → ArePaired keys f
@@ -85,7 +79,7 @@ names-paired records facts keys f tell same all directory some =
     let long = times-names records facts keys f directory 1 tell same in
     let w = passing (is_dos_in directory) names (subst (λ n. 1 ≤ n) dos some) in
     let name = w.0 in
-    let is = split (is_dos name) (name.parent.number == directory) w.2 in
+    let is = and_parts (is_dos name) (name.parent.number == directory) w.2 in
     let here : name.parent.number ≡ directory = eqb-true name.parent.number directory is.1 in
     let p = All-contains (IsPairedAmong names) names name all w.1 in
     record {
@@ -158,8 +152,8 @@ least-pair records facts keys o tell same =
     (λ n p. paired-names records facts keys n tell same p) (λ n m. names-paired records facts keys n tell same m)
 
 pub least-link : (records : Records) (a b : Option ℕ) → ((n : ℕ) → MeetsReferences records n) → IsLeastFailing (HasPairs records) a
-    → IsLeastFailing (MeetsFiling records) b → IsLeastFailing (MeetsLinks records) (lesser a b)
+    → IsLeastFailing (MeetsFiling records) b → IsLeastFailing (MeetsLinks records) (least_of a b)
 least-link records a b references pairs filing =
-    least-same (λ n. HasPairs records n × MeetsFiling records n) (MeetsLinks records) (lesser a b)
+    least-same (λ n. HasPairs records n × MeetsFiling records n) (MeetsLinks records) (least_of a b)
     (λ n p. meets-of records n p.0 p.1) (λ n m. (pairs-of records n references m, filing-of records n m))
-    (least-lesser (HasPairs records) (MeetsFiling records) a b pairs filing)
+    (least-two (HasPairs records) (MeetsFiling records) a b pairs filing)

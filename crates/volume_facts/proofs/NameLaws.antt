@@ -6,7 +6,6 @@ use Rattle.std.specs.Option.{option_map}
 use Rattle.std.specs.Prelude.{IfSome}
 use Rattle.std.proofs.lemmas.Bool.{cases_Bool, cases_lt, eq-eqb}
 use Rattle.std.proofs.lemmas.List.{append-nil, map-append, get_or_append_left, get_or-append_right, length-append}
-use Rattle.std.proofs.lemmas.List.Concat.{flat_map-append}
 use Rattle.std.proofs.lemmas.List.Elements.{All-get_or, All-append, All-head, All-map, All-nil, All-tail, All-weaker, filter-append, filter_map-append}
 use Rattle.ntfs_def.specs.declared.kinds.TheConstants.{FILE_NAME}
 use Rattle.ntfs_def.specs.Attribute.{Attribute, Body, NonResident, Resident, attributes, value_of}
@@ -14,9 +13,10 @@ use Rattle.ntfs_def.specs.FileName.{FileName, name_in}
 use Rattle.volume_def.specs.AttributesClause.{IsRightPart, IsRightRecord, MeetsAttributes}
 use Rattle.volume_def.specs.FileNames.{is_file_name, names_among, names_of}
 use Rattle.volume_def.specs.Files.{Part, Record, Records, content_of, content_value, file_of, part_of, parts, parts_in, record_of}
-use Rattle.volume_def.proofs.RangeLaws.{range-append}
 use Rattle.volume_def.proofs.MemberLaws.{Contains-flat_map, Contains-from_flat_map, Contains-from_map, Contains-from_range, Contains-map, Contains-nil, Contains-range}
-use Rattle.volume_facts.specs.Names.{HeldName, PlacedName, held_name, is_of_file, names_held, names_held_below, placed}
+use Rattle.volume_facts.specs.declared.names.Names.{Names}
+use Rattle.volume_facts.specs.Names.{HeldName, NamesNote, PlacedName, held_name, is_of_file, names_held, names_held_below, placed}
+use Rattle.volume_facts.proofs.RecordsLaws.{flat_map-range_more}
 
 pub held-none : (records : Records) → names_held_below records 0 ≡ []
 unfolding names_held_below
@@ -26,11 +26,7 @@ held-none records = refl
 pub held-more : (records : Records) (n : ℕ)
     → names_held_below records (n + 1) ≡ names_held_below records n ++ names_held n (records.record_at n)
 unfolding names_held_below
-held-more records n =
-    let h : ℕ → List HeldName = λ k. names_held k (records.record_at k) in
-    let z : 0 + n ≡ n = omega arith in
-    ap (flat_map h) (range-append 0 n 1) ∙ flat_map-append h (range_with_len 0 n) (range_with_len (0 + n) 1)
-    ∙ ap (λ zs. flat_map h (range_with_len 0 n) ++ zs) (append-nil (h (0 + n)) ∙ ap h z)
+held-more records n = flat_map-range_more (λ k. names_held k (records.record_at k)) n
 
 pub held-some : (n : ℕ) (o : Option Record) (r : Record) → o ≡ Some r
     → names_held n o ≡ map (held_name n (file_of n r)) (names_among r.parts)
@@ -40,6 +36,14 @@ held-some n o r e = ap (names_held n) e
 pub held-unused : (n : ℕ) (o : Option Record) → o ≡ None → names_held n o ≡ []
 unfolding names_held
 held-unused n o e = ap (names_held n) e
+
+-- what is noted of names stays so with a record that is not in use
+pub NamesNote-unused : (records : Records) (n : ℕ) (names : Names) → records.record_at n ≡ None → NamesNote records n names
+    → NamesNote records (n + 1) names
+NamesNote-unused records n names is note =
+    note
+    ∙ sym (held-more records n ∙ ap (λ xs. names_held_below records n ++ xs) (held-unused n (records.record_at n) is)
+    ∙ append-nil (names_held_below records n))
 
 abbrev pub name_of_part : Part → Option FileName
 name_of_part part = option_map name_in (content_value part.content)

@@ -1,6 +1,6 @@
 -- What one record more adds to the runs of the records below it, and what the runs of all records are.
-use Rattle.std.proofs.Common.{◌≡◌, ◌≢◌, ℕ, ◌+◌, ◌&&◌, ◌==◌, cond, List, [], ◌∷◌, ◌++◌, map, filter, Some, None, inl, inr, refl, sym, ap, ◌∙◌, arith}
-use Rattle.std.specs.Prelude.{flat_map}
+use Rattle.std.proofs.Common.{◌≡◌, ◌≢◌, ℕ, ◌+◌, ◌≤◌, ◌&&◌, ◌==◌, cond, List, [], ◌∷◌, ◌++◌, map, filter, Some, None, IsTrue, inl, inr, refl, sym, ap, subst, ◌∙◌, arith}
+use Rattle.std.specs.Prelude.{◌↔◌, flat_map}
 use Rattle.std.specs.List.{range_with_len}
 use Rattle.std.specs.Str.{bytes_eq}
 use Rattle.std.proofs.lemmas.Bool.{cases_Bool}
@@ -16,9 +16,11 @@ use Rattle.volume_def.specs.Files.{Part, Records, file_of, is_of, part_of, part_
 use Rattle.volume_def.specs.OwnersClause.{all_runs, boot_runs, record_runs, times_owned}
 use Rattle.volume_def.proofs.RangeLaws.{range-append}
 use Rattle.volume_def.proofs.RecordLaws.{parts_in-other, parts_in-own, parts_in-unused}
-use Rattle.volume_facts.specs.Owners.{attribute_runs, boot_parts_below, boot_runs_below, runs_below, unnamed_data_runs}
+use Rattle.volume_facts.specs.declared.owners.Owners.{Owners}
+use Rattle.volume_facts.specs.Owners.{OwnersNote, RunsNote, attribute_runs, boot_parts_below, boot_runs_below, runs_below, unnamed_data_runs}
 
-flat_map-range_more : {X : Type 0} (f : ℕ → List X) (n : ℕ)
+-- what one record more adds to a list that goes over the records below n
+pub flat_map-range_more : {X : Type 0} (f : ℕ → List X) (n : ℕ)
     → flat_map f (range_with_len 0 (n + 1)) ≡ flat_map f (range_with_len 0 n) ++ f n
 flat_map-range_more f n =
     let z : 0 + n ≡ n = omega arith in
@@ -114,3 +116,11 @@ pub boot_runs_below-unused : (records : Records) (n : ℕ) → records.record_at
     → boot_runs_below records (n + 1) ≡ boot_runs_below records n
 boot_runs_below-unused records n e =
     boot-held records n [] (ap (λ r. parts_in r n BOOT) e ∙ parts_in-unused n BOOT) ∙ append-nil (boot_runs_below records n)
+
+-- what is noted of owners stays so with a record that is not in use
+pub OwnersNote-unused : (records : Records) (n : ℕ) (owners : Owners) → records.record_at n ≡ None → OwnersNote records n owners
+    → OwnersNote records (n + 1) owners
+OwnersNote-unused records n owners is note = record {
+  owned = subst (λ runs. RunsNote runs owners.owned) (sym (runs_below-unused records n is)) note.owned;
+  boot = subst (λ runs. IsTrue owners.boot ↔ (1 ≤ times_covered runs 0)) (sym (boot_runs_below-unused records n is)) note.boot;
+}

@@ -1,5 +1,5 @@
 -- The clause on references, from the names that are noted.
-use Rattle.std.proofs.Common.{◌≡◌, ◌<◌, ◌≤◌, ℕ, List, Option, Some, None, length, map, take, get_or, min, refl, ap, sym, subst, inl, inr, ◌∙◌, arith}
+use Rattle.std.proofs.Common.{◌≡◌, ◌<◌, ◌≤◌, ℕ, List, Option, Some, None, length, map, take, get_or, refl, ap, sym, subst, inl, inr, ◌∙◌, arith}
 use Rattle.std.specs.List.{All, Contains}
 use Rattle.std.specs.List.Sorted.{IsNonDecreasingBy}
 use Rattle.std.specs.Prelude.{IfSome}
@@ -14,10 +14,10 @@ use Rattle.volume_def.specs.ReferencesClause.{HasRightReferences, MeetsReference
 use Rattle.volume_def.proofs.MemberLaws.{All-from_Contains, Contains-from_map, Contains-map}
 use Rattle.volume_facts.specs.declared.names.NameFact.{NameFact}
 use Rattle.volume_facts.specs.Heads.{EndsAtCount}
-use Rattle.volume_facts.specs.Least.{IsLeastFailing}
+use Rattle.volume_facts.specs.Least.{IsLeastFailing, least_of}
 use Rattle.volume_facts.specs.Names.{HeldName, held_name, names_held_below, told_name}
-use Rattle.volume_facts.specs.References.{MeetsBase, MeetsParents, lesser}
-use Rattle.volume_facts.proofs.LeastLaws.{least-same}
+use Rattle.volume_facts.specs.References.{MeetsBase, MeetsParents}
+use Rattle.volume_facts.proofs.LeastLaws.{least-two, least-same}
 use Rattle.volume_facts.proofs.NameLaws.{holder_of, held-among, held-by, held-rising}
 
 pub if_some : {A : Type 0} (o : Option A) (P : A → Type 0) → ((x : A) → o ≡ Some x → P x) → IfSome o P
@@ -94,19 +94,6 @@ least-parent records facts i d ends tell inside all bad =
       ]),
     )
 
--- the least of two
-pub least-lesser : (P Q : ℕ → Type 0) (a b : Option ℕ) → IsLeastFailing P a → IsLeastFailing Q b
-    → IsLeastFailing (λ n. P n × Q n) (lesser a b)
-least-lesser P Q None None all every = λ n. (all n, every n)
-least-lesser P Q None (Some b) all (bad, below) = (λ p. bad p.1, λ m h. (all m, below m h))
-least-lesser P Q (Some a) None (bad, below) every = (λ p. bad p.0, λ m h. (below m h, every m))
-least-lesser P Q (Some a) (Some b) (bad, below) (worse, under) = elim (cases_lt b a) [
-  | inl lt ↦ let e : b ≡ min a b = omega arith in
-      subst (λ n. ¬ (P n × Q n) × ((m : ℕ) → m < n → P m × Q m)) e (λ p. worse p.1, λ m h. (below m (omega arith), under m h))
-  | inr ge ↦ let e : a ≡ min a b = omega arith in
-      subst (λ n. ¬ (P n × Q n) × ((m : ℕ) → m < n → P m × Q m)) e (λ p. bad p.0, λ m h. (below m h, under m (omega arith)))
-]
-
 -- the two parts are the clause
 whole : (records : Records) (o : Option Record) → IfSome o (λ r. IfSome r.header.base (NamesBase records))
     → IfSome o (λ r. All (λ name. NamesDirectory records name.parent) (names_among r.parts)) → IfSome o (HasRightReferences records)
@@ -120,8 +107,8 @@ parts records None right = (tt, tt)
 parts records (Some r) right = (right.base, right.parents)
 
 pub least-reference : (records : Records) (a b : Option ℕ) → IsLeastFailing (MeetsBase records) a → IsLeastFailing (MeetsParents records) b
-    → IsLeastFailing (MeetsReferences records) (lesser a b)
+    → IsLeastFailing (MeetsReferences records) (least_of a b)
 least-reference records a b base parents =
-    least-same (λ n. MeetsBase records n × MeetsParents records n) (MeetsReferences records) (lesser a b)
+    least-same (λ n. MeetsBase records n × MeetsParents records n) (MeetsReferences records) (least_of a b)
     (λ n p. whole records (records.record_at n) p.0 p.1) (λ n m. parts records (records.record_at n) m)
-    (least-lesser (MeetsBase records) (MeetsParents records) a b base parents)
+    (least-two (MeetsBase records) (MeetsParents records) a b base parents)

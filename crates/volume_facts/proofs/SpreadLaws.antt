@@ -1,28 +1,18 @@
 -- What one record more adds to what is noted of spread files.
-use Rattle.std.proofs.Common.{◌≡◌, ◌≢◌, ◌==◌, ◌&&◌, ◌||◌, ◌%◌, ◌^◌, ℕ, ◌+◌, ◌++◌, Bool, true, false, cond, List, [], ◌∷◌, map, Option, Some, None, refl, sym, ap, zero-add, ◌∙◌}
+use Rattle.std.proofs.Common.{◌≡◌, ◌≢◌, ◌==◌, ◌&&◌, ◌||◌, ◌%◌, ◌^◌, ℕ, ◌+◌, ◌++◌, Bool, cond, List, [], ◌∷◌, map, Option, Some, None, refl, sym, ap, ◌∙◌}
 use Rattle.std.specs.Prelude.{is_none, unwrap_or}
-use Rattle.std.specs.List.{flat_map, list_any, range_with_len}
+use Rattle.std.specs.List.{list_any}
 use Rattle.std.specs.Option.{option_map}
 use Rattle.std.proofs.lemmas.Bool.{ne_eqb}
-use Rattle.std.proofs.lemmas.Grind.{flat_map-append}
 use Rattle.std.proofs.lemmas.List.{append-nil}
 use Rattle.ntfs_def.specs.declared.kinds.TheConstants.{ATTRIBUTE_LIST}
 use Rattle.ntfs_def.specs.Attribute.{Attribute, attributes}
 use Rattle.ntfs_def.specs.Record.{Reference, base_in, header_of, reference_in}
-use Rattle.volume_def.proofs.RangeLaws.{range-append}
-use Rattle.volume_def.specs.Files.{Part, Record, Records, part_of, record_of}
+use Rattle.volume_def.specs.Files.{Record, Records, part_of, record_of}
 use Rattle.volume_def.specs.ListsClause.{is_list}
-use Rattle.volume_facts.specs.declared.spread.Extension.{Extension}
 use Rattle.volume_facts.specs.declared.spread.SpreadFiles.{SpreadFiles}
 use Rattle.volume_facts.specs.Spread.{SpreadNote, extension_in, extensions_below, listed_below, listed_in}
-
--- what a record more adds to a list that goes over the records below n
-pub below-more : {A : Type 0} (f : ℕ → List A) (n : ℕ) → flat_map f (range_with_len 0 (n + 1)) ≡ flat_map f (range_with_len 0 n) ++ f n
-below-more f n =
-    ap (flat_map f) (range-append 0 n 1)
-    ∙ flat_map-append f (range_with_len 0 n) (range_with_len (0 + n) 1)
-    ∙ ap (λ m. flat_map f (range_with_len 0 n) ++ (f m ++ [])) (zero-add n)
-    ∙ ap (λ xs. flat_map f (range_with_len 0 n) ++ xs) (append-nil (f n))
+use Rattle.volume_facts.proofs.RecordsLaws.{flat_map-range_more}
 
 -- one record more
 pub SpreadNote-more : (records : Records) (n : ℕ) (found : Option Record) (old new : SpreadFiles) → records.record_at n ≡ found
@@ -31,9 +21,9 @@ pub SpreadNote-more : (records : Records) (n : ℕ) (found : Option Record) (old
     → SpreadNote records n old → SpreadNote records (n + 1) new
 SpreadNote-more records n found old new is extensions listed below = record {
   extensions = extensions ∙ ap (λ xs. xs ++ extension_in n found) below.extensions
-      ∙ sym (below-more (λ k. extension_in k (records.record_at k)) n ∙ ap (λ o. extensions_below records n ++ extension_in n o) is);
+      ∙ sym (flat_map-range_more (λ k. extension_in k (records.record_at k)) n ∙ ap (λ o. extensions_below records n ++ extension_in n o) is);
   listed = listed ∙ ap (λ xs. xs ++ listed_in n found) below.listed
-      ∙ sym (below-more (λ k. listed_in k (records.record_at k)) n ∙ ap (λ o. listed_below records n ++ listed_in n o) is);
+      ∙ sym (flat_map-range_more (λ k. listed_in k (records.record_at k)) n ∙ ap (λ o. listed_below records n ++ listed_in n o) is);
 }
 
 -- a record that is not in use

@@ -1,31 +1,31 @@
 -- Files that stand in one record, and the others: what is found of both is found of all.
-use Rattle.std.proofs.Common.{◌≡◌, ◌≢◌, ◌↔◌, ◌<◌, ◌≤◌, ◌+◌, ◌==◌, ◌&&◌, ◌||◌, ℕ, min, Bool, true, false, cond, List, [], ◌∷◌, map, Option, Some, None, IfSome, IsTrue, IsFalse, refl, sym, ap, subst, inl, inr, ◌∙◌, arith}
+use Rattle.std.proofs.Common.{◌≡◌, ◌≢◌, ◌↔◌, ◌<◌, ◌+◌, ◌==◌, ◌&&◌, ◌||◌, ℕ, Bool, true, false, List, [], ◌∷◌, Option, Some, None, IfSome, IsTrue, IsFalse, refl, sym, ap, subst, inl, inr, ◌∙◌, arith}
 use Rattle.std.specs.Prelude.{All, not, unwrap_or}
 use Rattle.std.specs.List.{Contains, count_by, list_any}
-use Rattle.std.proofs.lemmas.Bool.{and_from, and_parts, cases_Bool, cases_lt, le-ltb, not-true}
+use Rattle.std.proofs.lemmas.Bool.{and_from, and_parts, cases_Bool, cases_lt, not-true}
 use Rattle.std.proofs.lemmas.List.Elements.{All-contains}
 use Rattle.ntfs_def.specs.declared.kinds.TheConstants.{ATTRIBUTE_LIST}
 use Rattle.ntfs_def.specs.Attribute.{Attribute, attributes}
 use Rattle.ntfs_def.specs.Record.{base_in, header_of}
 use Rattle.volume_def.specs.ExtentsClause.{MeetsExtents}
-use Rattle.volume_def.specs.Files.{Record, Records, is_base, part_of, parts, record_in, record_of, records_of}
+use Rattle.volume_def.specs.Files.{Record, Records, is_base, part_of, parts, record_of, records_of}
 use Rattle.volume_def.specs.ListsClause.{HasRightList, IsRightList, MeetsLists, is_list}
 use Rattle.volume_def.specs.View.{VolumeView}
 use Rattle.volume_def.proofs.FindLaws.{passing}
 use Rattle.volume_def.proofs.MemberLaws.{Contains-cases, Contains-nil}
 use Rattle.volume_def.proofs.PartLaws.{IsPart-Contains, NameHolders-view}
+use Rattle.volume_facts.specs.declared.unlisted.UnlistedFiles.{UnlistedFiles}
 use Rattle.volume_facts.specs.Extents.{AreWholeParts, IsAlone}
-use Rattle.volume_facts.specs.Least.{IsLeastBelow, IsLeastFailing}
-use Rattle.volume_facts.specs.Unlisted.{AreUnlistedAlone, IsUnlistedWhole, MeetsListed, MeetsUnlisted, is_unlisted, least_of}
+use Rattle.volume_facts.specs.Heads.{EndsAtCount}
+use Rattle.volume_facts.specs.Least.{IsLeastBelow, IsLeastFailing, least_of}
+use Rattle.volume_facts.specs.Unlisted.{AreUnlistedAlone, IsUnlistedWhole, MeetsListed, MeetsUnlisted, UnlistedNote, bytes_noted, is_unlisted}
 use Rattle.volume_facts.proofs.AttributesLaws.{is_base-zero}
+use Rattle.volume_facts.proofs.HeadLaws.{EndsAtCount-view}
 use Rattle.volume_facts.proofs.InOrderLaws.{alone-parts}
-use Rattle.volume_facts.proofs.LeastLaws.{below-fails, below-next, first_of, least-same, least-whole}
+use Rattle.volume_facts.proofs.LeastLaws.{below-fails, below-next, least-two, least-same, least-whole}
+use Rattle.volume_facts.proofs.SpreadLaws.{list_any-map}
 
 -- One record.
-
-list_any-map : {A B : Type 0} (p : B → Bool) (f : A → B) (xs : List A) → list_any p (map f xs) ≡ list_any (λ x. p (f x)) xs
-list_any-map p f [] = refl
-list_any-map p f (x ∷ xs) = ap (λ b. p (f x) || b) (list_any-map p f xs)
 
 pub unlisted-told : (n base : ℕ) (block : List ℕ) (has : Bool) → base_in base ≡ (header_of block).base
     → has ≡ list_any (λ (attribute : Attribute). attribute.kind == ATTRIBUTE_LIST) (attributes block)
@@ -36,10 +36,6 @@ unlisted-told n base block has header is =
 
 -- One record more.
 
-unwrap-first : (o : Option ℕ) (n : ℕ) → unwrap_or o n ≡ first_of o n
-unwrap-first None n = refl
-unwrap-first (Some l) n = refl
-
 pub note-more : (records : Records) (size n : ℕ) (r : Record) (old new : Option ℕ) (whole : Bool) → records.record_at n ≡ Some r
     → IsTrue whole ↔ IsUnlistedWhole size n r → (IsTrue whole → new ≡ old) → (IsFalse whole → new ≡ Some (unwrap_or old n))
     → IsLeastBelow (MeetsUnlisted records size) n old → IsLeastBelow (MeetsUnlisted records size) (n + 1) new
@@ -48,30 +44,17 @@ note-more records size n r old new whole here decided same first note = elim (ca
       subst (IsLeastBelow (MeetsUnlisted records size) (n + 1)) (sym (same t))
       (below-next (MeetsUnlisted records size) n old (subst (λ o. IfSome o (IsUnlistedWhole size n)) (sym here) (decided.0 t)) note)
   | inr f ↦
-      subst (IsLeastBelow (MeetsUnlisted records size) (n + 1)) (sym (first f ∙ ap (λ k. Some k) (unwrap-first old n)))
+      subst (IsLeastBelow (MeetsUnlisted records size) (n + 1)) (sym (first f))
       (below-fails (MeetsUnlisted records size) n old
       (λ meets. let t : whole ≡ true = decided.1 (subst (λ o. IfSome o (IsUnlistedWhole size n)) here meets) in absurd (cc)) note)
 ]
 
 -- a record that is not in use
-pub note-unused : (records : Records) (size n : ℕ) (first : Option ℕ) → records.record_at n ≡ None
-    → IsLeastBelow (MeetsUnlisted records size) n first → IsLeastBelow (MeetsUnlisted records size) (n + 1) first
-note-unused records size n first none note =
-    below-next (MeetsUnlisted records size) n first (subst (λ o. IfSome o (IsUnlistedWhole size n)) (sym none) tt) note
-
--- The least of two facts is the least of both.
-least-two : (P Q : ℕ → Type 0) (o u : Option ℕ) → IsLeastFailing P o → IsLeastFailing Q u → IsLeastFailing (λ n. P n × Q n) (least_of o u)
-least-two P Q None None all each = λ n. (all n, each n)
-least-two P Q None (Some m) all (bad, below) = (λ p. bad p.1, λ k h. (all k, below k h))
-least-two P Q (Some n) None (bad, below) each = (λ p. bad p.0, λ k h. (below k h, each k))
-least-two P Q (Some n) (Some m) (bad, below) (worse, under) = elim (cases_lt n m) [
-  | inl lt ↦
-      let e : n ≡ min n m = omega arith in
-      subst (λ l. ¬ (P l × Q l) × ((k : ℕ) → k < l → P k × Q k)) e (λ p. bad p.0, λ k h. (below k h, under k (omega arith)))
-  | inr ge ↦
-      let e : m ≡ min n m = omega arith in
-      subst (λ l. ¬ (P l × Q l) × ((k : ℕ) → k < l → P k × Q k)) e (λ p. worse p.1, λ k h. (below k (omega arith), under k h))
-]
+pub UnlistedNote-unused : (records : Records) (n : ℕ) (files : UnlistedFiles) → records.record_at n ≡ None → UnlistedNote records n files
+    → UnlistedNote records (n + 1) files
+UnlistedNote-unused records n files none note =
+    below-next (MeetsUnlisted records (bytes_noted files)) n files.first_wrong
+    (subst (λ o. IfSome o (IsUnlistedWhole (bytes_noted files) n)) (sym none) tt) note
 
 -- A file meets the clause where it does as one without a list, and as one with a list.
 
@@ -106,7 +89,7 @@ meets-both records size n (Some r) here inside alone meets = (
   λ base t. meets base,
 )
 
-pub first-of-all : (records : Records) (size : ℕ) (first listed : Option ℕ) → ((n : ℕ) → records.count ≤ n → records.record_at n ≡ None)
+pub first-of-all : (records : Records) (size : ℕ) (first listed : Option ℕ) → EndsAtCount records
     → IsLeastBelow (MeetsUnlisted records size) records.count first → AreUnlistedAlone records
     → IsLeastFailing (MeetsListed records size) listed
     → IsLeastFailing (MeetsExtents records size) (least_of first listed)
@@ -122,7 +105,7 @@ first-of-all records size first listed past note alone least =
 
 -- What the clause on lists gives.
 
-none-among : {A : Type 0} (p : A → Bool) (xs : List A) (x : A) → list_any p xs ≡ false → Contains xs x → p x ≡ false
+pub none-among : {A : Type 0} (p : A → Bool) (xs : List A) (x : A) → list_any p xs ≡ false → Contains xs x → p x ≡ false
 none-among p [] x none c = absurd (Contains-nil x c)
 none-among p (y ∷ ys) x none c = elim (cases_Bool (p y)) [
   | inl t ↦ let some : p y || list_any p ys ≡ true = ap (λ b. b || list_any p ys) t in absurd (cc)
@@ -160,13 +143,9 @@ alone-in view n (Some r) here meets = λ only.
 pub lists-alone : (view : VolumeView) → ((n : ℕ) → MeetsLists view n) → AreUnlistedAlone (records_of view)
 lists-alone view meets n = alone-in view n ((records_of view).record_at n) refl (meets n)
 
--- there is no record past the end of the table
-past-end : (view : VolumeView) (n : ℕ) → view.layout.count ≤ n → (records_of view).record_at n ≡ None
-past-end view n past = ap (λ b. cond b (record_in n (view.block n)) None) (le-ltb n view.layout.count past)
-
 pub first-of-volume : (view : VolumeView) (size : ℕ) (first listed : Option ℕ) → ((n : ℕ) → MeetsLists view n)
     → IsLeastBelow (MeetsUnlisted (records_of view) size) view.layout.count first
     → IsLeastFailing (MeetsListed (records_of view) size) listed
     → IsLeastFailing (MeetsExtents (records_of view) size) (least_of first listed)
 first-of-volume view size first listed meets note least =
-    first-of-all (records_of view) size first listed (past-end view) note (lists-alone view meets) least
+    first-of-all (records_of view) size first listed (EndsAtCount-view view) note (lists-alone view meets) least

@@ -1,13 +1,11 @@
 -- What a list has to say of the parts of a record.
-use Rattle.std.proofs.Common.{◌≡◌, ◌==◌, ◌++◌, ◌+◌, ◌*◌, ◌^◌, ◌<◌, ◌/◌, ◌%◌, ℕ, Bool, true, false, cond, not, List, [], ◌∷◌, map, Some, refl, sym, ap, append_assoc, ◌∙◌, arith}
+use Rattle.std.proofs.Common.{◌≡◌, ◌==◌, ◌++◌, ◌+◌, ◌*◌, ◌^◌, ◌<◌, ◌/◌, ◌%◌, ℕ, true, false, cond, not, List, [], ◌∷◌, map, Some, refl, sym, ap, append_assoc, ◌∙◌, arith}
 use Rattle.std.proofs.lemmas.List.{map-append}
 use Rattle.ntfs_def.specs.declared.kinds.TheConstants.{ATTRIBUTE_LIST}
 use Rattle.ntfs_def.specs.Attribute.{Attribute}
-use Rattle.ntfs_def.specs.AttributeList.{ListEntry}
 use Rattle.ntfs_def.specs.Record.{Reference, reference_in}
-use Rattle.volume_def.specs.Files.{Part, Record, Records, part_of}
+use Rattle.volume_def.specs.Files.{Record, Records, part_of}
 use Rattle.volume_def.specs.ListsClause.{entry_in, listed_parts, sequence_in}
-use Rattle.volume_def.specs.Values.{first_vcn_of}
 use Rattle.attr_list.specs.declared.EntryView.{EntryView}
 use Rattle.attr_list.specs.View.{entry_shown}
 use Rattle.volume_facts.specs.Lists.{wanted_in, wanted_of}

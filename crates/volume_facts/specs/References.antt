@@ -1,5 +1,5 @@
 -- The clause on references, S10, in two parts.
-use Rattle.std.specs.Prelude.{ℕ, All, IfSome, Option, Some, None, min}
+use Rattle.std.specs.Prelude.{ℕ, All, IfSome}
 use Rattle.volume_def.specs.FileNames.{names_among}
 use Rattle.volume_def.specs.Files.{Records}
 use Rattle.volume_def.specs.ReferencesClause.{NamesBase, NamesDirectory}
@@ -11,9 +11,3 @@ MeetsBase records n = IfSome (records.record_at n) (λ r. IfSome r.header.base (
 -- the names that record n holds stand in directories
 abbrev pub MeetsParents : Records → ℕ → Type 0
 MeetsParents records n = IfSome (records.record_at n) (λ r. All (λ name. NamesDirectory records name.parent) (names_among r.parts))
-
--- the lesser of two numbers, where there are such
-abbrev pub lesser : Option ℕ → Option ℕ → Option ℕ
-lesser None b = b
-lesser (Some a) None = Some a
-lesser (Some a) (Some b) = Some (min a b)

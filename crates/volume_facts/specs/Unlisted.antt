@@ -1,5 +1,5 @@
 -- The clause on extents over files that stand in one record, as a pass over the table notes them, and over the others.
-use Rattle.std.specs.Prelude.{ℕ, ◌&&◌, not, Bool, min, Option, Some, None, IfSome, IsTrue}
+use Rattle.std.specs.Prelude.{ℕ, ◌&&◌, not, Bool, IfSome, IsTrue}
 use Rattle.std.specs.List.{list_any}
 use Rattle.volume_def.specs.Files.{Record, Records, is_base, parts}
 use Rattle.volume_def.specs.ListsClause.{is_list}
@@ -18,9 +18,13 @@ IsUnlistedWhole size n r = IsTrue (is_unlisted r) → AreWholeParts size n r.par
 abbrev pub MeetsUnlisted : Records → ℕ → ℕ → Type 0
 MeetsUnlisted records size n = IfSome (records.record_at n) (IsUnlistedWhole size n)
 
+-- the bytes of a cluster, by which sizes are judged
+abbrev pub bytes_noted : UnlistedFiles → ℕ
+bytes_noted files = files.cluster_bytes
+
 -- What is noted of the records below n.
 abbrev pub UnlistedNote : Records → ℕ → UnlistedFiles → Type 0
-UnlistedNote records n files = IsLeastBelow (MeetsUnlisted records files.cluster_bytes) n files.first_broken
+UnlistedNote records n files = IsLeastBelow (MeetsUnlisted records (bytes_noted files)) n files.first_wrong
 
 -- What the clause asks of a file whose base record has an attribute list.
 abbrev pub MeetsListed : Records → ℕ → ℕ → Type 0
@@ -30,9 +34,3 @@ MeetsListed records size n = IfSome (records.record_at n) (λ r. IsTrue (is_base
 -- A file without a list has no extension record, as the clause on lists asks.
 abbrev pub AreUnlistedAlone : Records → Type 0
 AreUnlistedAlone records = (n : ℕ) → IfSome (records.record_at n) (λ r. IsTrue (is_unlisted r) → IsAlone records n)
-
--- the lesser of two numbers that may be there
-abbrev pub least_of : Option ℕ → Option ℕ → Option ℕ
-least_of None other = other
-least_of (Some n) None = Some n
-least_of (Some n) (Some m) = Some (min n m)

@@ -107,12 +107,12 @@ fn files_in_one_record(rt: HostRuntime) -> Result<(), Fail> {
     let broken = changed(0x138, 0xFD);
     let mut files = UnlistedFiles::new(4096);
     files.note(rt.alloc(), 8, &RecordView::new(&whole)?)?;
-    assert_eq!(rt; files.first_broken(None), None);
+    assert_eq!(rt; files.first_wrong_file(None), None);
     files.note(rt.alloc(), 30, &RecordView::new(&broken)?)?;
     files.note(rt.alloc(), 31, &RecordView::new(&broken)?)?;
-    assert_eq!(rt; files.first_broken(None), Some(30));
-    assert_eq!(rt; files.first_broken(Some(29)), Some(29));
-    assert_eq!(rt; files.first_broken(Some(31)), Some(30));
+    assert_eq!(rt; files.first_wrong_file(None), Some(30));
+    assert_eq!(rt; files.first_wrong_file(Some(29)), Some(29));
+    assert_eq!(rt; files.first_wrong_file(Some(31)), Some(30));
     Ok(())
 }
 

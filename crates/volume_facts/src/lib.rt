@@ -5,9 +5,14 @@
 mod attributes;
 mod bits;
 mod climb;
+#[cfg(test)]
+mod extent_tests;
 mod extents;
 mod facts;
 mod heads;
+mod least;
+#[cfg(test)]
+mod link_tests;
 mod links;
 mod lists;
 mod marks;
@@ -20,19 +25,16 @@ mod tallies;
 mod unlisted;
 mod used;
 mod whole;
-#[cfg(test)]
-mod extent_tests;
-#[cfg(test)]
-mod link_tests;
 
 pub use attributes::is_right_record;
 pub use extents::{Extent, Held, extents_of};
 pub use facts::Facts;
 pub use heads::{Head, Heads};
+pub use least::least_of;
 pub use links::first_wrong_link;
 pub use lists::{add_wanted, names_each};
-pub use names::{NameFact, Names, note_laws};
-pub use owners::{Owners, cluster_bits_laws, owners_laws};
+pub use names::{NameFact, Names};
+pub use owners::{Owners, cluster_bits_laws};
 pub use references::first_wrong_reference;
 pub use spread::{Extension, SpreadFiles};
 pub use unlisted::UnlistedFiles;

@@ -11,9 +11,9 @@ ghost use Rattle.volume_facts.specs.Names.{NamesNote};
 ghost use Rattle.volume_facts.specs.Tallies.{tally_at};
 
 use crate::climb::reaching;
+use crate::least::least_of;
 use crate::marks::Mark;
 use crate::pairs::{first_unpaired, sorted_keys};
-use crate::references::lesser;
 use crate::tallies::{Tally, parents_of, tallies_of};
 use crate::{Head, Heads, Names};
 use ntfs_def::records::{FIRST_ORDINARY, ROOT};
@@ -100,5 +100,5 @@ pub fn first_wrong_link(
 {
     let unpaired = first_wrong_pair(alloc, names)?;
     let misfiled = first_wrong_filing(alloc, heads, names)?;
-    Ok(lesser(unpaired, misfiled))
+    Ok(least_of(unpaired, misfiled))
 }

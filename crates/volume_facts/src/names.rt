@@ -102,11 +102,3 @@ impl Names {
         Ok(())
     }
 }
-
-/// Laws with nothing to run. A record that is not in use holds no name, so that it needs no note (`unused`). In a volume no
-/// record past the last one is in use (`ends`).
-pub fn note_laws()
-    ensures unused { (records : Records) (n : ℕ) (names : Names) → records.record_at n ≡ None → NamesNote records n names
-        → NamesNote records (n + 1) names }
-    ensures ends { (view : VolumeView) → EndsAtCount (records_of view) }
-{}

@@ -8,7 +8,6 @@ mod note;
 mod tests;
 
 pub use bitmap::cluster_bits_laws;
-pub use note::owners_laws;
 
 /// The clusters that the runs noted so far own.
 #[derive(Debug, Drop)]

@@ -1,24 +1,13 @@
 //! The clause on references, from what is noted of headers and names.
-ghost use Rattle.std.specs.Prelude.{◌≡◌, ℕ};
 ghost use Rattle.volume_def.specs.Files.{Records};
 ghost use Rattle.volume_def.specs.ReferencesClause.{MeetsReferences};
 ghost use Rattle.volume_facts.specs.Heads.{EndsAtCount, HeadsNote};
 ghost use Rattle.volume_facts.specs.Least.{IsLeastFailing};
 ghost use Rattle.volume_facts.specs.Names.{NamesNote};
-ghost use Rattle.volume_facts.specs.References.{MeetsBase, MeetsParents, lesser};
+ghost use Rattle.volume_facts.specs.References.{MeetsBase, MeetsParents};
 
+use crate::least::least_of;
 use crate::{Heads, Names};
-
-/// The lesser of two numbers, where there are such.
-pub(crate) fn lesser(a: Option<u64>, b: Option<u64>) -> Option<u64>
-    ensures { result ≡ lesser a b }
-{
-    match (a, b) {
-        (Some(a), Some(b)) => Some(a.min(b)),
-        (Some(a), None) => Some(a),
-        (None, b) => b,
-    }
-}
 
 // The first record whose base reference names no base record.
 fn first_wrong_base(heads: &Heads) -> Option<u64>
@@ -54,5 +43,5 @@ pub fn first_wrong_reference(heads: &Heads, names: &Names) -> Option<u64>
     ensures { (records : Records) → EndsAtCount records → HeadsNote records records.count heads.now
         → NamesNote records records.count names.now → IsLeastFailing (MeetsReferences records) result }
 {
-    lesser(first_wrong_base(heads), first_wrong_parent(heads, names))
+    least_of(first_wrong_base(heads), first_wrong_parent(heads, names))
 }

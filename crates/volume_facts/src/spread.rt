@@ -29,7 +29,7 @@ pub struct SpreadFiles {
 }
 
 /// Whether a record has an attribute list.
-pub fn has_list(view: &RecordView<'_>) -> bool
+pub(crate) fn has_list(view: &RecordView<'_>) -> bool
     ensures { result ≡ list_any (λ attribute. attribute.kind == ATTRIBUTE_LIST) (attributes_of view.now) }
 {
     for attribute in view.attributes() {

@@ -1,14 +1,14 @@
 -- The names in the indexes of a new volume's directories are those of the files that stand there.
-use Rattle.std.proofs.Common.{◌≡◌, ℕ, zero, suc, ◌+◌, ◌<◌, ◌≤◌, Bool, cond, List, [], ◌++◌, filter, map, Option, Some, None, inl, inr, refl, sym, ap, ◌∙◌, arith}
+use Rattle.std.proofs.Common.{◌≡◌, ℕ, ◌<◌, ◌≤◌, Bool, cond, List, [], filter, map, Option, Some, None, inl, inr, refl, sym, ap, ◌∙◌, arith}
 use Rattle.std.specs.List.{count_by, flat_map, range_with_len}
 use Rattle.std.proofs.lemmas.Bool.{cases_lt}
-use Rattle.std.proofs.lemmas.List.Concat.{flat_map-cons}
 use Rattle.ntfs_def.specs.FileName.{FileName, Link, link_of, name_in}
 use Rattle.ntfs_def.specs.Units.{units_at}
 use Rattle.volume_def.specs.FileNames.{is_in_directory, links, links_of_file, names_among, names_of}
 use Rattle.volume_def.specs.Files.{Record, is_base, records_of}
 use Rattle.volume_def.specs.View.{VolumeView}
 use Rattle.volume_def.specs.SameItems.{SameItems}
+use Rattle.volume_def.proofs.ReplacesLaws.{flat_map_agree}
 use Rattle.volume_format.specs.Planned.{IsPlanned}
 use Rattle.volume_format.specs.Plan.{Plan, planned_records, record_count, record_in_list, record_list}
 use Rattle.volume_format.proofs.Bases.{AllBase-planned, parts-planned}
@@ -16,15 +16,6 @@ use Rattle.volume_format.specs.IndexItems.{extend_items, root_items}
 use Rattle.volume_format.proofs.PartsOf.{parts-past, parts_or_none}
 use Rattle.volume_format.proofs.Listed.{record_in_list-past}
 use Rattle.volume_format.proofs.Records.{records_of-planned}
-
-flat_map-agree : {A : Type 0} (g h : ℕ → List A) (from n : ℕ) → ((m : ℕ) → from ≤ m → m < from + n → g m ≡ h m)
-    → flat_map g (range_with_len from n) ≡ flat_map h (range_with_len from n)
-flat_map-agree g h from zero same = refl
-flat_map-agree g h from (suc n) same =
-    flat_map-cons g from (range_with_len (from + 1) n)
-    ∙ ap (λ xs. xs ++ flat_map g (range_with_len (from + 1) n)) (same from (omega arith) (omega arith))
-    ∙ ap (λ xs. h from ++ xs) (flat_map-agree g h (from + 1) n (λ m low high. same m (omega arith) (omega arith)))
-    ∙ sym (flat_map-cons h from (range_with_len (from + 1) n))
 
 -- the link of a name of file f
 abbrev link_by : ℕ → ℕ → FileName → Link
@@ -55,7 +46,7 @@ module _ (p : Plan) where
 
   links-planned : links (planned_records p) ≡ all_links
   unfolding links all_links
-  links-planned = flat_map-agree _ _ 0 record_count (λ m low high. links-by m (record_in_list (record_list p) m) (names-planned m (omega arith)))
+  links-planned = flat_map_agree _ _ 0 record_count (λ m low high. links-by m (record_in_list (record_list p) m) (names-planned m (omega arith)))
 
   root-counts : (q : Link → Bool) → count_by q (filter (is_in_directory 5) all_links) ≡ count_by q (map link_of root_items)
   unfolding all_links name_in units_at

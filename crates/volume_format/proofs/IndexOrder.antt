@@ -3,7 +3,7 @@ use Rattle.std.proofs.Common.{◌≡◌, ℕ, ◌<◌, Bool, true, List, [], ◌
 use Rattle.std.specs.Prelude.{nat_lt}
 use Rattle.std.specs.List.{list_all}
 use Rattle.std.specs.Ordering.{then_cmp}
-use Rattle.std.proofs.lemmas.Bool.{ltb-true}
+use Rattle.std.proofs.lemmas.Bool.{and_parts, ltb-true}
 use Rattle.std.specs.declared.cmp.Ordering.TheVariants.{Less}
 use Rattle.ntfs_def.specs.FileName.{key_units}
 use Rattle.ntfs_def.specs.IndexTree.{Ascends, Each}
@@ -12,7 +12,7 @@ use Rattle.ntfs_def.specs.Node.{Item}
 use Rattle.ntfs_def.specs.Units.{units_at}
 use Rattle.volume_format.specs.Items.{case_of}
 use Rattle.volume_format.specs.IndexItems.{extend_items, root_items}
-use Rattle.volume_format.proofs.Tested.{Ascends-tested, both, is_ascending}
+use Rattle.volume_format.proofs.Tested.{Ascends-tested, is_ascending}
 
 -- two foldings that agree on ASCII
 abbrev pub AgreeOnAscii : (ℕ → ℕ) → (ℕ → ℕ) → Type 0
@@ -28,7 +28,7 @@ module _ (f g : ℕ → ℕ) (agree : AgreeOnAscii f g) where
   map-same : (units : List ℕ) → are_ascii units ≡ true → map f units ≡ map g units
   map-same [] ascii = refl
   map-same (u ∷ us) ascii =
-      let pair = both (nat_lt u 128) (are_ascii us) ascii in
+      let pair = and_parts (nat_lt u 128) (are_ascii us) ascii in
       ap (λ v. v ∷ map f us) (agree u (ltb-true u 128 pair.0)) ∙ ap (λ vs. g u ∷ vs) (map-same us pair.1)
 
   -- they compare names of ASCII alike
@@ -45,13 +45,13 @@ module _ (f g : ℕ → ℕ) (agree : AgreeOnAscii f g) where
       → Each (λ (y : Item). name_order g x.key y.key ≡ Less) ys → Each (λ (y : Item). name_order f x.key y.key ≡ Less) ys
   each-same x [] ascii all each = tt
   each-same x (y ∷ ys) ascii all each =
-      let pair = both (is_ascii y) (list_all is_ascii ys) all in
+      let pair = and_parts (is_ascii y) (list_all is_ascii ys) all in
       (order-same x y ascii pair.0 ∙ each.0, each-same x ys ascii pair.1 each.1)
 
   ascends-same : (xs : List Item) → list_all is_ascii xs ≡ true → Ascends (name_order g) xs → Ascends (name_order f) xs
   ascends-same [] all up = tt
   ascends-same (x ∷ xs) all up =
-      let pair = both (is_ascii x) (list_all is_ascii xs) all in
+      let pair = and_parts (is_ascii x) (list_all is_ascii xs) all in
       (each-same x xs pair.0 pair.1 up.0, ascends-same xs pair.1 up.1)
 
 -- the names are of ASCII, and ascend by the table of case

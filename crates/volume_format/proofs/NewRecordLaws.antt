@@ -32,7 +32,7 @@ length-wide (x ∷ xs) = omega (arith, length-wide xs)
 
 pub ruleset wide_laws = (length-wide)
 
-array_place-shape : (block : List ℕ) → header_failing block ≡ None → array_place block ≡ 0x30
+pub array_place-shape : (block : List ℕ) → header_failing block ≡ None → array_place block ≡ 0x30
 array_place-shape block right = search rules
 
 next-own : (n : ℕ) → n < 0xFFFF → next_id_after n n ≡ n + 1

@@ -1,9 +1,9 @@
 -- The clause on the record bitmap holds of a new volume: the bits of its records are set.
-use Rattle.std.proofs.Common.{◌≡◌, ℕ, zero, suc, ◌+◌, ◌/◌, ◌%◌, ◌<◌, ◌≤◌, ◌==◌, Bool, true, false, cond, [], ◌∷◌, inl, inr, refl, ap, ◌∙◌, arith}
+use Rattle.std.proofs.Common.{◌≡◌, ℕ, ◌/◌, ◌%◌, ◌<◌, ◌==◌, Bool, true, false, cond, [], ◌∷◌, refl, ap, ◌∙◌, arith}
 use Rattle.std.specs.Prelude.{IsSome, is_some, ◌↔◌}
 use Rattle.std.specs.Int.{bit_at}
 use Rattle.std.specs.List.{range_with_len, list_all}
-use Rattle.std.proofs.lemmas.Bool.{cases_Bool, cases_eq, false≢true}
+use Rattle.std.proofs.lemmas.Bool.{false≢true}
 use Rattle.std.proofs.lemmas.Bool.Decides.{nat_tests}
 use Rattle.std.proofs.lemmas.List.Elements.{All-from_recursion}
 use Rattle.std.proofs.lemmas.List.FromFn.{get_or-map-range_with_len}
@@ -19,6 +19,7 @@ use Rattle.volume_format.proofs.ClusterBits.{HasNoHole-stream}
 use Rattle.volume_format.proofs.Contents.{record_bits-planned, record_bits-value}
 use Rattle.volume_format.proofs.Needed.{clusters_needed-covers}
 use Rattle.volume_format.proofs.Records.{record_on-planned}
+use Rattle.volume_format.proofs.Tested.{range-tested}
 
 -- the bit of record n, as it stands in the bitmap
 abbrev bit_of : ℕ → ℕ
@@ -30,16 +31,6 @@ agrees p n = cond (is_some (record_in_list (record_list p) n)) (bit_of n == 1) (
 -- each of the 64 bits says whether the record is in use
 bits-agree : (p : Plan) → list_all (agrees p) (range_with_len 0 record_count) ≡ true
 bits-agree p = refl
-
-agree-from : (test : ℕ → Bool) (from n m : ℕ) → list_all test (range_with_len from n) ≡ true → from ≤ m → m < from + n → test m ≡ true
-agree-from test from zero m all low high = absurd (omega arith)
-agree-from test from (suc n) m all low high = elim (cases_Bool (test from)) [
-  | inl t ↦ elim (cases_eq m from) [
-    | inl e ↦ ap test e ∙ t
-    | inr ne ↦ agree-from test (from + 1) n m (rw t at all) (omega (arith, ne)) (omega arith)
-  ]
-  | inr e ↦ absurd (false≢true (rw e at all))
-]
 
 by_use : (used : Bool) (bit : ℕ) → cond used (bit == 1) (bit == 0) ≡ true → (bit ≡ 1) ↔ (used ≡ true)
 by_use true bit e = ((λ t. refl), (λ t. grind (arith, nat_tests)))
@@ -67,5 +58,5 @@ module _ (p : Plan) (view : VolumeView) (is : IsPlanned p view) (some : 0 < p.si
     bit = λ low high.
         let inside : n < record_count = omega (arith, is.count, high) in
         rw (bit-value n inside, record_on-planned p view is n)
-        (by_use (is_some (record_in_list (record_list p) n)) _ (agree-from (agrees p) 0 record_count n (bits-agree p) (omega arith) (omega arith)));
+        (by_use (is_some (record_in_list (record_list p) n)) _ (range-tested (agrees p) 0 record_count n (bits-agree p) (omega arith) (omega arith)));
   }

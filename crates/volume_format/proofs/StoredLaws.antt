@@ -1,8 +1,8 @@
 -- A record that was made and sealed is stored, and zeros are no record.
-use Rattle.std.proofs.Common.{◌≡◌, ℕ, zero, suc, ◌+◌, ◌%◌, ◌<◌, ◌≤◌, ◌==◌, ◌&&◌, ◌||◌, Bool, true, false, cond, List, ◌∷◌, map, length, Option, Some, None, inl, inr, refl, sym, ap, subst, ◌∙◌, arith, rules}
+use Rattle.std.proofs.Common.{◌≡◌, ℕ, ◌+◌, ◌%◌, ◌<◌, ◌==◌, ◌&&◌, ◌||◌, Bool, true, false, cond, List, ◌∷◌, map, length, Option, Some, None, inl, inr, refl, sym, ap, subst, ◌∙◌, arith, rules}
 use Rattle.std.specs.Prelude.{codes, nat_eq, nat_lt, is_none, replicate}
 use Rattle.std.specs.List.{starts_with, range_with_len, list_all}
-use Rattle.std.proofs.lemmas.Bool.{cases_Bool, cases_lt, cases_eq, false≢true}
+use Rattle.std.proofs.lemmas.Bool.{cases_lt, false≢true}
 use Rattle.vol_bytes.specs.Field.{SameOutside}
 use Rattle.vol_bytes.proofs.FieldLaws.{u16_at-same}
 use Rattle.ntfs_def.specs.Attribute.{Attribute, attributes}
@@ -18,9 +18,8 @@ use Rattle.volume_format.specs.Plan.{Plan, is_planned, record_in_list, record_li
 use Rattle.volume_format.specs.Planned.{AreAligned}
 use Rattle.volume_format.specs.StoredRecord.{IsStoredRecord}
 use Rattle.volume_format.proofs.Listed.{record_in_list-past}
-
-array_place-shape : (block : List ℕ) → header_failing block ≡ None → array_place block ≡ 0x30
-array_place-shape block right = search rules
+use Rattle.volume_format.proofs.NewRecordLaws.{array_place-shape}
+use Rattle.volume_format.proofs.Tested.{range-tested}
 
 array_count-shape : (block : List ℕ) → header_failing block ≡ None → array_count block ≡ 3
 array_count-shape block right = search rules
@@ -122,22 +121,12 @@ agrees p n = is_planned n || is_none (record_in_list (record_list p) n)
 all-agree : (p : Plan) → list_all (agrees p) (range_with_len 0 26) ≡ true
 all-agree p = refl
 
-agree-from : (test : ℕ → Bool) (from n m : ℕ) → list_all test (range_with_len from n) ≡ true → from ≤ m → m < from + n → test m ≡ true
-agree-from test from zero m all low high = absurd (omega arith)
-agree-from test from (suc n) m all low high = elim (cases_Bool (test from)) [
-  | inl t ↦ elim (cases_eq m from) [
-    | inl e ↦ ap test e ∙ t
-    | inr ne ↦ agree-from test (from + 1) n m (rw t at all) (omega (arith, ne)) (omega arith)
-  ]
-  | inr e ↦ absurd (false≢true (rw e at all))
-]
-
 none-of : (o : Option Record) (b : Bool) → b ≡ false → (b || is_none o) ≡ true → o ≡ None
 none-of None b e h = refl
 none-of (Some r) b e h = absurd (false≢true (rw e at h))
 
 pub record_in_list-free : (p : Plan) (n : ℕ) → is_planned n ≡ false → record_in_list (record_list p) n ≡ None
 record_in_list-free p n free = elim (cases_lt n 26) [
-  | inl lt ↦ none-of (record_in_list (record_list p) n) (is_planned n) free (agree-from (agrees p) 0 26 n (all-agree p) (omega arith) (omega arith))
+  | inl lt ↦ none-of (record_in_list (record_list p) n) (is_planned n) free (range-tested (agrees p) 0 26 n (all-agree p) (omega arith) (omega arith))
   | inr past ↦ record_in_list-past (record_list p) n past
 ]

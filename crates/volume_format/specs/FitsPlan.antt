@@ -1,8 +1,8 @@
--- What the options give of a plan.
+-- The limits of a plan, and the sizes of its clusters.
 use Rattle.std.specs.Prelude.{◌≡◌, ◌⊎◌, ℕ, ◌^◌, ◌≤◌, length}
 use Rattle.volume_format.specs.Plan.{Plan, items_end}
 
--- the sizes that a cluster may have
+-- the sizes of clusters that are made here
 abbrev pub IsClusterSize : ℕ → Type 0
 IsClusterSize size = (size ≡ 512) ⊎ (size ≡ 1024) ⊎ (size ≡ 2048) ⊎ (size ≡ 4096)
 

@@ -82,7 +82,7 @@ items_end p = node_at p + clusters_needed p node_len
 
 -- Values.
 
--- a number in two and in four bytes, the lower first; each is below 256, or a multiple of 256 below 65,536
+-- a number in two and in four bytes, the lower first; each is below 256
 abbrev pub two_bytes : ℕ → List ℕ
 two_bytes n = n ∷ 0 ∷ []
 

@@ -7,7 +7,6 @@ ghost use Rattle.volume_def.specs.Coverage.{has_cluster, times_covered};
 ghost use Rattle.volume_def.specs.Files.{Records, file_of, record_of};
 ghost use Rattle.volume_def.specs.OwnersClause.{MeetsOwners};
 ghost use Rattle.volume_facts.specs.Least.{IsLeastFailing};
-ghost use Rattle.volume_facts.specs.declared.owners.Owners.{Owners as NotedOwners};
 ghost use Rattle.volume_facts.specs.Owners.{OwnersNote, attribute_runs, clusters_noted, unnamed_data_runs};
 
 use crate::owners::{OwnedClusters, Owners};
@@ -113,7 +112,7 @@ impl Owners {
     }
 
     /// The least cluster that breaks the clause on owners, S7.
-    pub fn first_badly_owned(&self) -> Option<u64>
+    pub fn first_wrong_cluster(&self) -> Option<u64>
         ensures { (records : Records) → OwnersNote records records.count self.now
             → IsLeastFailing (MeetsOwners records (clusters_noted self.now)) result }
     {
@@ -123,9 +122,3 @@ impl Owners {
         self.owned.least
     }
 }
-
-/// What is noted stays so where the next record is not in use.
-pub fn owners_laws()
-    ensures unused { (records : Records) (n : ℕ) (owners : NotedOwners) → records.record_at n ≡ None
-        → OwnersNote records n owners → OwnersNote records (n + 1) owners }
-{}

@@ -41,7 +41,7 @@ fn owns_all_of_the_largest_volume(rt: HostRuntime) -> Result<(), Fail> {
     let mut owners = Owners::new(rt.alloc(), clusters)?;
     owners.note(rt.alloc(), 7, &RecordView::new(&record(&BOOT_TEXT))?)?;
     owners.note(rt.alloc(), 8, &RecordView::new(&record(&REST_TEXT))?)?;
-    assert_eq!(rt; owners.first_badly_owned(), None);
+    assert_eq!(rt; owners.first_wrong_cluster(), None);
 
     let mut bitmap = vec![in rt.alloc(); 0xFF; 1 << 23]?;
     assert_eq!(rt; owners.bitmap_len(1 << 24), 1 << 23);
@@ -57,7 +57,7 @@ fn owns_all_of_the_largest_volume(rt: HostRuntime) -> Result<(), Fail> {
     for _again in 0..10_000 {
         owners.note(rt.alloc(), 9, &RecordView::new(&record(&REST_TEXT))?)?;
     }
-    assert_eq!(rt; owners.first_badly_owned(), Some(1));
+    assert_eq!(rt; owners.first_wrong_cluster(), Some(1));
     Ok(())
 }
 
@@ -89,11 +89,11 @@ fn finds_the_first_bad_cluster(rt: HostRuntime) -> Result<(), Fail> {
     for (first, second, expected) in cases {
         let mut owners = Owners::new(rt.alloc(), 100)?;
         owners.note(rt.alloc(), 40, &RecordView::new(&record(first))?)?;
-        assert_eq!(rt; owners.first_badly_owned(), Some(0));
+        assert_eq!(rt; owners.first_wrong_cluster(), Some(0));
         owners.note(rt.alloc(), 7, &RecordView::new(&record(&BOOT_TEXT))?)?;
         owners.note(rt.alloc(), 41, &RecordView::new(&record(second))?)?;
         assert_eq!(rt;
-            owners.first_badly_owned(),
+            owners.first_wrong_cluster(),
             expected,
             "{first:?} {second:?}"
         );

@@ -9,7 +9,6 @@ ghost use Rattle.volume_def.specs.View.{VolumeView};
 ghost use Rattle.volume_facts.specs.BitRanges.{IsLeastWithin, IsPieceOf};
 ghost use Rattle.volume_facts.specs.Least.{IsLeastBelow, IsLeastFailing};
 ghost use Rattle.volume_facts.specs.Used.{AllUsedNote, UsedNote, records_noted};
-ghost use Rattle.volume_facts.specs.declared.used.Used.{Used as NotedUse};
 
 use crate::bits::{first_difference, set_bit};
 use crate::used::Used;
@@ -80,11 +79,9 @@ impl Used {
     }
 }
 
-/// What is noted stays so where the next record is not in use. The clause on the bitmap of records holds where it holds of the
+/// The clause on the bitmap of records holds where it holds of the
 /// bits of all records, and record 24 breaks it where there is no such bitmap.
 pub fn used_laws()
-    ensures unused { (records : Records) (n : ℕ) (used : NotedUse) → records.record_at n ≡ None
-        → UsedNote records n used → UsedNote records (n + 1) used }
     ensures end { (view : VolumeView) (end : ℕ) → HasRecordBits view → view.layout.count ≤ end
         → IsLeastBelow (MeetsRecordBits view) end None → IsLeastFailing (MeetsRecordBits view) None }
     ensures without { (view : VolumeView) → ¬ (HasRecordBits view) → IsLeastFailing (MeetsRecordBits view) (Some FIRST_ORDINARY) }

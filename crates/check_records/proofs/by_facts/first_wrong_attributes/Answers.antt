@@ -1,6 +1,6 @@
 use Rattle.volume_def.specs.Files.{records_of}
-use Rattle.check_records.proofs.ScanLaws.{record_on-past}
+use Rattle.volume_facts.proofs.HeadLaws.{EndsAtCount-view}
 use Rattle.check_records.proofs.by_facts.first_wrong_attributes.Goals as goal
 
 pub returns : goal.returns
-returns c = λ view note before. c.first_wrong_record.ensures (records_of view) (record_on-past view) note
+returns c = λ view note before. c.first_wrong_record.ensures (records_of view) (EndsAtCount-view view) note

@@ -1,10 +1,10 @@
 use Rattle.std.proofs.Common.{arith}
 use Rattle.volume_def.specs.Files.{records_of}
+use Rattle.volume_facts.proofs.HeadLaws.{EndsAtCount-view}
 use Rattle.check_records.proofs.FactsGiven.{RightNote-all}
-use Rattle.check_records.proofs.ScanLaws.{record_on-past}
 use Rattle.check_records.proofs.by_facts.first_wrong_holder.Goals as goal
 
 pub returns : goal.returns
 returns c = λ view note before.
     let right = RightNote-all view c.args.facts.now 7 (omega arith) before note in
-    c.first_wrong_reference.ensures (records_of view) (record_on-past view) right.heads right.names
+    c.first_wrong_reference.ensures (records_of view) (EndsAtCount-view view) right.heads right.names

@@ -8,5 +8,5 @@ use Rattle.check_records.proofs.by_facts.first_wrong_owner.Goals as goal
 pub returns : goal.returns
 returns c = λ view volume note before.
     let right = RightNote-all view c.args.facts.now 4 (omega arith) before note in
-    subst (λ n. IsLeastFailing (MeetsOwners (records_of view) n) c.first_badly_owned.result) volume.clusters
-    (c.first_badly_owned.ensures (records_of view) right.owners)
+    subst (λ n. IsLeastFailing (MeetsOwners (records_of view) n) c.first_wrong_cluster.result) volume.clusters
+    (c.first_wrong_cluster.ensures (records_of view) right.owners)

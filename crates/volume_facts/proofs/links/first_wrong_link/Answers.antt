@@ -6,6 +6,6 @@ use Rattle.volume_facts.proofs.links.first_wrong_link.Goals as goal
 
 pub returns : goal.returns
 returns c records ends heads names references =
-    subst (IsLeastFailing (MeetsLinks records)) (sym c.lesser.ensures)
+    subst (IsLeastFailing (MeetsLinks records)) (sym c.least_of.ensures)
     (least-link records _ _ references (c.in_ok-unpaired.ensures records names)
     (c.in_ok-misfiled.ensures records ends heads names references))

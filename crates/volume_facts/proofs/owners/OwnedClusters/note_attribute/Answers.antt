@@ -1,7 +1,7 @@
 use Rattle.std.proofs.Common.{◌++◌, sym, subst}
 use Rattle.attr_view.specs.View.{attribute_of}
 use Rattle.volume_facts.specs.Owners.{RunsNote}
-use Rattle.volume_facts.proofs.RunsLaws.{runs-some}
+use Rattle.volume_facts.proofs.CoverageLaws.{runs-some}
 use Rattle.volume_facts.proofs.owners.OwnedClusters.note_attribute.Goals as goal
 
 pub returns-clause-noted : goal.returns-clause-noted

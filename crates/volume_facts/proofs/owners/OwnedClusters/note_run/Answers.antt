@@ -2,7 +2,7 @@ use Rattle.std.proofs.Common.{◌≡◌, ◌+◌, ◌∷◌, ◌++◌, [], cond,
 use Rattle.volume_def.specs.Coverage.{is_in_run, times_covered}
 use Rattle.volume_facts.specs.Owners.{CountsNote, inside}
 use Rattle.volume_facts.proofs.OwnersLaws.{Counts-same}
-use Rattle.volume_facts.proofs.RunsLaws.{covered-push}
+use Rattle.volume_facts.proofs.CoverageLaws.{covered-push}
 use Rattle.volume_facts.proofs.owners.OwnedClusters.note_run.Goals as goal
 
 pub returns-clause-noted : goal.returns-clause-noted

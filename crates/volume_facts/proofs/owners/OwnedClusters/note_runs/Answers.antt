@@ -1,7 +1,7 @@
 use Rattle.std.proofs.Common.{◌++◌, ◌∷◌, [], ◌∙◌, ap, get_or, subst, sym, take, None, append_assoc}
 use Rattle.std.proofs.lemmas.List.{take_all, take_more}
 use Rattle.volume_facts.specs.Owners.{RunsNote}
-use Rattle.volume_facts.proofs.RunsLaws.{IsRunListFrom-at}
+use Rattle.volume_facts.proofs.CoverageLaws.{IsRunListFrom-at}
 use Rattle.volume_facts.proofs.owners.OwnedClusters.note_runs.Goals as goal
 
 pub note_run-requires : goal.note_run-requires

@@ -4,7 +4,7 @@ use Rattle.ntfs_def.specs.Attribute.{attributes}
 use Rattle.attr_view.specs.View.{viewed_block}
 use Rattle.volume_def.specs.Coverage.{times_covered}
 use Rattle.volume_facts.specs.Owners.{RunsNote, boot_runs_below, runs_below, unnamed_data_runs}
-use Rattle.volume_facts.proofs.RunsLaws.{covered-or}
+use Rattle.volume_facts.proofs.CoverageLaws.{covered-or}
 use Rattle.volume_facts.proofs.RecordsLaws.{boot_runs_below-other, boot_runs_below-own, runs_below-record}
 use Rattle.volume_facts.proofs.owners.Owners.note.Goals as goal
 

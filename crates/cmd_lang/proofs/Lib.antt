@@ -1,0 +1,11 @@
+pub mod DigitLaws
+pub mod LineLaws
+pub mod NumberLaws
+pub mod OneLine
+pub mod OneWord
+pub mod OutputLaws
+pub mod PathLaws
+pub mod PieceLaws
+pub mod RowLaws
+pub mod TextLaws
+pub mod VerbLaws

@@ -1,0 +1,19 @@
+use Rattle.std.proofs.Common.{◌≡◌, false, sym, ap, ◌∙◌}
+use Rattle.std.specs.Prelude.{is_err}
+use Rattle.byteorder.specs.Endian.{big_number}
+use Rattle.cmd_lang.specs.Words.{hexadecimal}
+use Rattle.cmd_lang.proofs.DigitLaws.{back, decoded}
+use Rattle.cmd_lang.proofs.digits.read_short_digits.Goals as goal
+
+pub returns-then-is_err : goal.returns-then-is_err
+returns-then-is_err c = λ n x.
+    let ok = rw (decoded 2 c.args.text.now n x) at c.decode_to_slice.ensures.value in
+    let is : c.is_err.result ≡ false = c.is_err.ensures.value ∙ ap is_err ok.0 in
+    let yes = c.if-is_err.true in cc
+
+pub returns-else-are_flags : goal.returns-else-are_flags
+returns-else-are_flags c = λ n x.
+    let ok = rw (decoded 2 c.args.text.now n x) at c.decode_to_slice.ensures.value in
+    let same : c.read_u16-flags.result ≡ n = c.read_u16-flags.ensures ∙ ap (big_number 2) ok.1 ∙ back 2 n x.below in
+    let yes = c.are_flags.ensures.1 (x.written ∙ ap (hexadecimal 2) (sym same)) in
+    let no = c.if-are_flags.false in cc

@@ -1,0 +1,23 @@
+//! The language of scripts: lines that are read as commands, and replies that are printed.
+#![tactic(auto)]
+
+mod access;
+mod digits;
+mod held;
+mod laws;
+mod line;
+mod name;
+mod numbers;
+mod parse;
+mod paths;
+mod pieces;
+mod print;
+mod rows;
+#[cfg(test)]
+mod tests;
+mod verb;
+mod words;
+
+pub use laws::line_laws;
+pub use parse::{LineFault, parse_line};
+pub use print::print_reply;

@@ -1,0 +1,186 @@
+//! Replies, printed.
+ghost use Rattle.std.specs.Prelude.{◌≡◌, ◌≢◌, ◌≤◌, flat_map, length, OnErr, OnOk};
+ghost use Rattle.vol_disk.specs.Count.{CountsFault};
+ghost use Rattle.vol_disk.specs.Stream.{IsAppended, IsAppendedPart};
+ghost use Rattle.cmd_lang.specs.Output.{output, Prints};
+ghost use Rattle.cmd_lang.specs.Printed.{data_text, lines_of, link_text, listed_text, name_word, stream_text, text_of};
+ghost use Rattle.tree_model.specs.declared.reply.Reply.TheVariants as reply_is;
+
+use crate::held::{Held, flush, put};
+use crate::line::{
+    df_line, flags_line, kind_text, number_front, number_line, refusal_line, stat_line,
+    stream_word, tag_front,
+};
+use crate::pieces::{put_bytes, put_name, put_path};
+use tree_model::{Answer, Listed, Reply, ShownLink, ShownStream};
+use vol_disk::{Failed, Sink};
+
+// A line of `ls`.
+fn put_listed<K: Sink>(out: &mut K, held: &mut Held, listed: &Listed) -> Result<(), Failed>
+    ensures { Prints (output K.Sink out.old held.old.items) (output K.Sink out.new held.new.items) (listed_text listed.now) result }
+{
+    put(out, held, kind_text(listed.dir))?;
+    put(out, held, b" ")?;
+    put_name(out, held, listed.name.as_slice())?;
+    put(out, held, b"\n")
+}
+
+// A line of `links`.
+fn put_link<K: Sink>(out: &mut K, held: &mut Held, link: &ShownLink) -> Result<(), Failed>
+    ensures { Prints (output K.Sink out.old held.old.items) (output K.Sink out.new held.new.items) (link_text link.now) result }
+{
+    put(
+        out,
+        held,
+        number_front(b"link", u64::from(link.space)).as_slice(),
+    )?;
+    put(out, held, b" ")?;
+    put_path(out, held, link.path.as_slice())?;
+    put(out, held, b"\n")
+}
+
+// The word for the name of a stream, where it has one.
+fn put_name_word<K: Sink>(out: &mut K, held: &mut Held, units: &[u16]) -> Result<(), Failed>
+    ensures { Prints (output K.Sink out.old held.old.items) (output K.Sink out.new held.new.items) (name_word units.now) result }
+{
+    if units.is_empty() {
+        return Ok(());
+    }
+    put(out, held, b" ")?;
+    put_name(out, held, units)
+}
+
+// A line of `streams`.
+fn put_stream<K: Sink>(out: &mut K, held: &mut Held, stream: &ShownStream) -> Result<(), Failed>
+    ensures { Prints (output K.Sink out.old held.old.items) (output K.Sink out.new held.new.items) (stream_text stream.now) result }
+{
+    put(
+        out,
+        held,
+        number_front(stream_word(stream.packed), stream.size).as_slice(),
+    )?;
+    put_name_word(out, held, stream.name.as_slice())?;
+    put(out, held, b"\n")
+}
+
+fn put_listing<K: Sink>(out: &mut K, held: &mut Held, lines: &[Listed]) -> Result<(), Failed>
+    ensures { Prints (output K.Sink out.old held.old.items) (output K.Sink out.new held.new.items) (flat_map listed_text lines.now) result }
+{
+    'lines: for line in lines {
+        put_listed(out, held, line)?;
+    }
+    Ok(())
+}
+
+fn put_links<K: Sink>(out: &mut K, held: &mut Held, lines: &[ShownLink]) -> Result<(), Failed>
+    ensures { Prints (output K.Sink out.old held.old.items) (output K.Sink out.new held.new.items) (flat_map link_text lines.now) result }
+{
+    'lines: for line in lines {
+        put_link(out, held, line)?;
+    }
+    Ok(())
+}
+
+fn put_streams<K: Sink>(out: &mut K, held: &mut Held, lines: &[ShownStream]) -> Result<(), Failed>
+    ensures { Prints (output K.Sink out.old held.old.items) (output K.Sink out.new held.new.items) (flat_map stream_text lines.now) result }
+{
+    'lines: for line in lines {
+        put_stream(out, held, line)?;
+    }
+    Ok(())
+}
+
+// A line of a name and bytes.
+fn put_data<K: Sink>(out: &mut K, held: &mut Held, name: &[u8], bytes: &[u8]) -> Result<(), Failed>
+    requires { length name.now ≤ 256 }
+    ensures { Prints (output K.Sink out.old held.old.items) (output K.Sink out.new held.new.items) (data_text name.now bytes.now) result }
+{
+    put(out, held, name)?;
+    put(out, held, b" ")?;
+    put_bytes(out, held, bytes)?;
+    put(out, held, b"\n")
+}
+
+// The lines before `ok`.
+fn put_answer<K: Sink>(out: &mut K, held: &mut Held, answer: &Answer) -> Result<(), Failed>
+    ensures { Prints (output K.Sink out.old held.old.items) (output K.Sink out.new held.new.items) (lines_of answer.now) result }
+{
+    match answer {
+        Answer::Done => Ok(()),
+        Answer::List(listing) => put_listing(out, held, listing.as_slice()),
+        Answer::Stat {
+            dir,
+            links,
+            size,
+            flags,
+            security,
+            created,
+            modified,
+            changed,
+            accessed,
+        } => {
+            let times = [*created, *modified, *changed, *accessed];
+            let line = stat_line(*dir, *links, *size, *flags, *security, times);
+            put(out, held, line.as_slice())
+        }
+        Answer::Links(links) => put_links(out, held, links.as_slice()),
+        Answer::Data(bytes) => put_data(out, held, b"data", bytes.as_slice()),
+        Answer::Streams(streams) => put_streams(out, held, streams.as_slice()),
+        Answer::Attr(flags) => put(out, held, flags_line(b"attr", *flags).as_slice()),
+        Answer::Sec(id) => put(out, held, number_line(b"sec", u64::from(*id)).as_slice()),
+        Answer::Sd(bytes) => put_data(out, held, b"sd", bytes.as_slice()),
+        Answer::Reparse { tag, bytes } => put_data(
+            out,
+            held,
+            tag_front(*tag).as_slice(),
+            bytes.as_slice(),
+        ),
+        Answer::ObjectId(bytes) => put_data(out, held, b"objid", bytes.as_slice()),
+        Answer::Df {
+            clusters,
+            free,
+            records,
+            free_records,
+        } => put(
+            out,
+            held,
+            df_line(*clusters, *free, *records, *free_records).as_slice(),
+        ),
+        Answer::Handle(handle) => put(
+            out,
+            held,
+            number_line(b"handle", u64::from(*handle)).as_slice(),
+        ),
+    }
+}
+
+// The text of a reply.
+fn put_reply<K: Sink>(out: &mut K, held: &mut Held, reply: &Reply) -> Result<(), Failed>
+    ensures { Prints (output K.Sink out.old held.old.items) (output K.Sink out.new held.new.items) (text_of reply.now) result }
+{
+    match reply {
+        Reply::Ok(answer) => {
+            put_answer(out, held, answer)?;
+            put(out, held, b"ok\n")
+        }
+        Reply::No(no) => put(out, held, refusal_line(*no).as_slice()),
+        Reply::Device => Ok(()),
+    }
+}
+
+/// Prints a reply: its lines and `ok`, or the line of its refusal. It takes no memory, and hands the sink few pieces.
+/// A device fault has no text, so a caller does not print one.
+///
+/// # Errors
+///
+/// Where the sink failed; it then took a part of the text from its front.
+pub fn print_reply<K: Sink>(reply: &Reply, out: &mut K) -> Result<(), Failed>
+    requires { reply.now ≢ reply_is.Device }
+    ensures text { OnOk result (IsAppended (K.got out.old) (text_of reply.now) (K.got out.new)) }
+    ensures part { OnErr result (IsAppendedPart (K.got out.old) (text_of reply.now) (K.got out.new)) }
+    ensures faults { CountsFault result (K.faults out.old) (K.faults out.new) }
+{
+    let mut held = Held::new();
+    put_reply(out, &mut held, reply)?;
+    flush(out, &mut held)
+}
