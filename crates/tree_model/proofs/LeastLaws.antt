@@ -140,7 +140,7 @@ module _ {A : Type 0} {above : A → A → Bool} (o : IsOrder above) where
 
   pub least-both : (a p : A → Bool) (xs ys : List A)
       → least above (least above None (filter (λ x. a x && p x) xs)) (filter (λ x. a x && p x) ys)
-          ≡ find p (in_order above (filter a (xs ++ ys)))
+      ≡ find p (in_order above (filter a (xs ++ ys)))
   least-both a p xs ys =
       least-append above None (filter (λ x. a x && p x) xs) (filter (λ x. a x && p x) ys)
       ∙ ap (least above None) (both a p xs ys)

@@ -1,5 +1,5 @@
 -- A step has one reply, want of memory and Overflow aside; and an image has one reading.
-use Rattle.std.proofs.Common.{◌≡◌, ◌⊎◌, ℕ, List, sym, ap, subst, inl, inr, ◌∙◌, Some}
+use Rattle.std.proofs.Common.{◌≡◌, ◌⊎◌, ℕ, false, List, sym, ap, subst, inl, inr, ◌∙◌, Some}
 use Rattle.vol_disk.specs.Contents.{sector_in}
 use Rattle.ntfs_def.specs.Boot.{boot_sector}
 use Rattle.volume_def.specs.Sound.{told_view}
@@ -7,7 +7,7 @@ use Rattle.volume_def.specs.View.{VolumeView}
 use Rattle.volume_def.proofs.OneTable.{layout-exact}
 use Rattle.tree_model.specs.Facts.{IsVolumeOf, ReadsAs}
 use Rattle.tree_model.specs.Reading.{read}
-use Rattle.tree_model.specs.Refusals.{Facts}
+use Rattle.tree_model.specs.Refusals.{Facts, is_edit}
 use Rattle.tree_model.specs.Step.{IsFree, Overflows, Step, due, reply_of}
 use Rattle.tree_model.specs.Subjects.{Machine}
 use Rattle.tree_model.specs.Tree.{Tree}
@@ -45,3 +45,15 @@ one_reply facts m session command given other next last x y = both x.replied y.r
     both (inr (inr a)) (b) = inl (subst IsFree (sym a.told) tt)
     both (inl a) (inr (inl b)) = inr (inl (free_memory other b))
     both (inl a) (inr (inr b)) = inr (inl (subst IsFree (sym b.told) tt))
+
+-- no Overflow in place of what a command shows that is no edit
+pub shown_reply : (facts : Facts) (m : Machine) (session : ℕ) (command : Command) (given : Reply) (next : Machine)
+    → is_edit command ≡ false → Step facts m session command given next
+    → (given ≡ reply_of (due facts m session command)) ⊎ (given ≡ reply.No no.Memory)
+shown_reply facts m session command given next shows x = by x.replied
+  where
+    by : (given ≡ reply_of (due facts m session command)) ⊎ (given ≡ reply.No no.Memory) ⊎ Overflows facts m session command given
+        → (given ≡ reply_of (due facts m session command)) ⊎ (given ≡ reply.No no.Memory)
+    by (inl a) = inl a
+    by (inr (inl b)) = inr b
+    by (inr (inr o)) = let e = sym shows ∙ o.edits in cc

@@ -74,7 +74,8 @@ abbrev pub TellsDescriptor : VolumeView → ℕ → Option (List ℕ) → Type 0
 TellsDescriptor view id None = (bytes : List ℕ) → ¬ (HasDescriptor view id bytes)
 TellsDescriptor view id (Some bytes) = HasDescriptor view id bytes
 
--- What a volume tells beside its tree. Of room nothing is said yet: it is asked of edits alone, and no edit is built.
+-- What a volume tells beside its tree. Of room (`no_room`, `spills`) nothing is said yet: it counts for edits alone, and no edit
+-- is built.
 pub record TellsFacts (view : VolumeView) (facts : Facts) : Type 0 where
   pub clusters : facts.clusters ≡ view.layout.clusters
   pub free : facts.free ≡ unowned_clusters view

@@ -1,9 +1,9 @@
 -- One step of the machine: a session's command, its reply, and the state after it.
-use Rattle.std.specs.Prelude.{◌≡◌, ◌⊎◌, ℕ, ◌≤◌, false, All, Some, None, Result, Ok, Err, IsTrue}
+use Rattle.std.specs.Prelude.{◌≡◌, ◌⊎◌, ℕ, ◌<◌, ◌≤◌, false, All, Some, None, Result, Ok, Err, IsTrue}
 use Rattle.ntfs_def.specs.declared.records.TheConstants.{FIRST_ORDINARY}
 use Rattle.tree_model.specs.Answers.{answer_of}
 use Rattle.tree_model.specs.Effects.{after, makes_file}
-use Rattle.tree_model.specs.Refusals.{Facts, outcome}
+use Rattle.tree_model.specs.Refusals.{Facts, is_edit, outcome}
 use Rattle.tree_model.specs.Subjects.{Located, Machine}
 use Rattle.tree_model.specs.Tree.{Tree, leads_to, node_of}
 use Rattle.tree_model.specs.declared.command.Command.{Command}
@@ -46,13 +46,15 @@ Leads facts m session command (reply.Ok answer) next = Moves facts m session com
 Leads facts m session command (reply.No refused) next = next ≡ m
 Leads facts m session command reply.Device next = ⊥
 
--- Overflow, until files get further records: it may stand in place of what is due where the command would be done, and a file
--- that it changes may lack room in its base record.
+-- Overflow, until files get further records: it may stand in place of what is due where the command is an edit that would be
+-- done, and a file that it changes may lack room in its base record.
 pub record Overflows (facts : Facts) (m : Machine) (session : ℕ) (command : Command) (given : Reply) : Type 0 where
   pub at : Located
+  pub edits : IsTrue (is_edit command)
   pub found : outcome facts m session command ≡ Ok at
   pub need : ℕ
   pub free : ℕ
+  pub less : free < need
   pub lacks : facts.spills m command at ≡ Some (need, free)
   pub told : given ≡ reply.No (no.Overflow need free)
 
