@@ -5,3 +5,5 @@ pub mod StepLaws
 pub mod LeastLaws
 pub mod PlainLaws
 pub mod LookLaws
+pub mod NamesLaws
+pub mod SessionLaws

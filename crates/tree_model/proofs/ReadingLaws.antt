@@ -101,7 +101,8 @@ nodes-insert old new f node here same =
   where
     one : (q : ℕ) → finmap.get (tree_nodes new) q ≡ cond (eq_by_cmp nat_cmp q f) (Some node) (finmap.get (tree_nodes old) q)
     one q = elim (cases_eq q f) [
-      | inl e ↦ subst (λ x. finmap.get (tree_nodes new) x ≡ cond (eq_by_cmp nat_cmp x f) (Some node) (finmap.get (tree_nodes old) x)) (sym e)
+      | inl e ↦
+          subst (λ x. finmap.get (tree_nodes new) x ≡ cond (eq_by_cmp nat_cmp x f) (Some node) (finmap.get (tree_nodes old) x)) (sym e)
           (get-nodes new f ∙ here ∙ sym (ap (λ b. cond b (Some node) (finmap.get (tree_nodes old) f)) (key_same f)))
       | inr ne ↦ get-nodes new q ∙ same q ne ∙ sym (get-nodes old q)
           ∙ sym (ap (λ b. cond b (Some node) (finmap.get (tree_nodes old) q)) (key_other q f ne))

@@ -19,7 +19,7 @@ use Rattle.ntfs_def.specs.declared.kinds.TheConstants.{REPARSE_POINT, STANDARD_I
 use Rattle.ntfs_def.specs.declared.records.TheConstants.{ROOT}
 use Rattle.volume_def.specs.Values.{first_part}
 use Rattle.volume_def.specs.CaseClause.{volume_fold}
-use Rattle.volume_def.specs.FileNames.{links}
+use Rattle.volume_def.specs.FileNames.{links, names_of}
 use Rattle.volume_def.specs.Files.{Part, Record, content_value, is_base, is_directory, is_of, parts, parts_like, record_on, records_of}
 use Rattle.volume_def.specs.StreamSize.{told_size}
 use Rattle.volume_def.specs.Values.{is_first, value_on}
@@ -144,13 +144,15 @@ tree_nodes view =
     finmap.from_entries (filter_map (λ f. option_map (λ node. (f, node)) (node_at view f)) (range_with_len 0 view.layout.count))
 
 -- The names of all files as links. One to a hidden file is hidden, and so is every link to the root.
+abbrev pub link_for : ℕ → names.FileName → Link
+link_for file name = record { parent = name.parent.number; name = name.units; space = name.namespace; child = file }
+
 abbrev pub link_by : names.Link → Link
-link_by link = record {
-  parent = link.name.parent.number;
-  name = link.name.units;
-  space = link.name.namespace;
-  child = link.file.number;
-}
+link_by link = link_for link.file.number link.name
+
+-- the names of one file as links
+abbrev pub links_to : VolumeView → ℕ → List Link
+links_to view file = map (link_for file) (names_of (records_of view) file)
 
 abbrev pub is_hidden_link : VolumeView → Link → Bool
 is_hidden_link view link = (link.child == ROOT) || is_hidden (records_of view) link.child

@@ -1,8 +1,8 @@
 -- The refusals of a command in their order, told here alone.
 use Rattle.std.specs.Prelude.{ℕ, Bool, true, false, List, [], ◌∷◌, Option, Some, None, Result, Ok, Err, if◌then◌else◌}
 use Rattle.std.specs.Option.{option_or}
-use Rattle.tree_model.specs.Cases.{names_badly, bad_tag, dos_name, exists, directory_for_file, loops, no_reparse, no_security, no_stream, not_empty}
-use Rattle.tree_model.specs.Cases.{packed, shared, too_big, too_many_handles, too_many_links}
+use Rattle.tree_model.specs.Cases.{bad_tag, directory_for_file, dos_name, exists, loops, names_badly, no_reparse, no_security, no_stream}
+use Rattle.tree_model.specs.Cases.{not_empty, packed, shared, too_big, too_many_handles, too_many_links}
 use Rattle.tree_model.specs.Paths.{and_then}
 use Rattle.tree_model.specs.Staging.{is_built, linked}
 use Rattle.tree_model.specs.Subjects.{Located, Machine, Subject, locate, subject_of}

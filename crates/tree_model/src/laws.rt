@@ -1,16 +1,20 @@
 //! Laws of the definitions, with nothing to run.
-ghost use Rattle.std.specs.Prelude.{◌≡◌, ◌≢◌, ◌⊎◌, ◌++◌, ◌∷◌, ℕ, Bool, true, false, List, Option, Some, filter};
+ghost use Rattle.std.specs.Prelude.{◌≡◌, ◌≢◌, ◌⊎◌, ◌↔◌, ◌++◌, ◌∷◌, ℕ, Bool, true, false, List, Contains, IsTrue};
+ghost use Rattle.std.specs.Prelude.{Option, Some, None, filter};
 ghost use Rattle.std.specs.FinMap as finmap;
+ghost use Rattle.ntfs_def.specs.declared.records.TheConstants.{ROOT};
 ghost use Rattle.volume_def.specs.CaseClause.{volume_fold};
+ghost use Rattle.volume_def.specs.VersionClause.{IsClean};
 ghost use Rattle.volume_def.specs.View.{VolumeView};
 ghost use Rattle.tree_model.specs.Facts.{IsVolumeOf, ReadsAs};
 ghost use Rattle.tree_model.specs.Ordered.{in_order, put_in_order};
 ghost use Rattle.tree_model.specs.Paths.{links_in_order, lookup};
-ghost use Rattle.tree_model.specs.Reading.{directory_links, node_at, tree_nodes, read};
+ghost use Rattle.tree_model.specs.Reading.{all_links, directory_links, is_hidden_link, links_to, node_at, read, tree_nodes};
 ghost use Rattle.tree_model.specs.Refusals.{Facts, is_edit};
+ghost use Rattle.tree_model.specs.Session.{dirty_flag};
 ghost use Rattle.tree_model.specs.Step.{IsFree, Step, due, reply_of};
 ghost use Rattle.tree_model.specs.Subjects.{Machine};
-ghost use Rattle.tree_model.specs.Tree.{Tree, link_above, node_of, sought_link};
+ghost use Rattle.tree_model.specs.Tree.{Tree, leads_to, link_above, node_of, shown_node, sought_link};
 ghost use Rattle.tree_model.specs.declared.command.Command.{Command};
 ghost use Rattle.tree_model.specs.declared.reply.No.TheVariants as no;
 ghost use Rattle.tree_model.specs.declared.reply.Reply.{Reply};
@@ -37,12 +41,22 @@ pub fn one_reply()
 
 /// What the tree of a volume has at each number, and in each directory: what the record of that number tells
 /// (`node`), and the names that stand there in name order, hidden ones too (`links_in_order`), among which a name is
-/// sought (`lookup`).
+/// sought (`lookup`). The links that lead to a file other than the root are its names (`names`). A link leads to no file
+/// that is shown exactly where it is hidden (`hidden`).
 pub fn reading_laws()
     ensures node { (view : VolumeView) (file : ℕ) → node_of (read view) file ≡ node_at view file }
     ensures links_in_order { (view : VolumeView) (dir : ℕ) → links_in_order (read view) dir ≡ directory_links view dir }
     ensures lookup { (view : VolumeView) (dir : ℕ) (name : List ℕ)
         → lookup (read view) dir name ≡ sought_link (volume_fold view) (directory_links view dir) name }
+    ensures names { (view : VolumeView) (file : ℕ) (node : Node) → node_at view file ≡ Some node → file ≢ ROOT
+        → filter (leads_to file) (read view).links ≡ in_order (link_above (volume_fold view)) (links_to view file) }
+    ensures hidden { (view : VolumeView) (link : Link) → Contains (all_links view) link
+        → (shown_node (read view) link ≡ None) ↔ IsTrue (is_hidden_link view link) }
+{}
+
+/// A volume is clean where its dirty flag is 0.
+pub fn clean_law()
+    ensures { (view : VolumeView) → IsClean view ↔ (dirty_flag view ≡ Some 0) }
 {}
 
 /// How an edit changes a tree. Where one file differs (`node`) it is put into the map; a link that stands anywhere among

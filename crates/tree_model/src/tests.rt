@@ -352,12 +352,19 @@ fn reparse_points_are_shown(rt: HostRuntime) -> Result<(), Fail> {
 #[test]
 fn object_ids_are_shown(rt: HostRuntime) -> Result<(), Fail> {
     let alloc = rt.alloc();
-    let long: &[u8] = b"0123456789abcdefghij";
     for (kind, value, want) in [
-        (0x40, Content::Plain(octets(alloc, long)?), &long[..16]),
-        (0x40, Content::Plain(octets(alloc, &long[..4])?), &long[..4]),
+        (
+            0x40,
+            Content::Plain(octets(alloc, b"0123456789abcdefghij")?),
+            b"0123456789abcdef".as_slice(),
+        ),
+        (0x40, Content::Plain(octets(alloc, b"0123")?), b"0123".as_slice()),
         (0x40, Content::Packed(20), &[]),
-        (0x100, Content::Plain(octets(alloc, long)?), &[]),
+        (
+            0x100,
+            Content::Plain(octets(alloc, b"0123456789abcdefghij")?),
+            &[],
+        ),
     ] {
         let mut others = Vec::new(alloc);
         let name = Name::from_vec(Vec::new(alloc));

@@ -12,5 +12,6 @@ returns-in-None c =
     c.first_named-in-None.ensures
     ∙ ap
     (λ found. option_or found
-    (find (λ link. are_same (fold_of c.args.self.now.case) link.name c.args.name.now) (links_in_order (tree_of c.args.self.now) c.args.dir)))
+    (find (λ link. are_same (fold_of c.args.self.now.case) link.name c.args.name.now)
+    (links_in_order (tree_of c.args.self.now) c.args.dir)))
     (sym (ap lent c.in-None.is) ∙ c.first_named.ensures)
