@@ -140,8 +140,53 @@ module _ {A : Type 0} {above : A → A → Bool} (o : IsOrder above) where
 
   pub least-both : (a p : A → Bool) (xs ys : List A)
       → least above (least above None (filter (λ x. a x && p x) xs)) (filter (λ x. a x && p x) ys)
-          ≡ find p (in_order above (filter a (xs ++ ys)))
+      ≡ find p (in_order above (filter a (xs ++ ys)))
   least-both a p xs ys =
       least-append above None (filter (λ x. a x && p x) xs) (filter (λ x. a x && p x) ys)
       ∙ ap (least above None) (both a p xs ys)
       ∙ sym (find-in_order p (filter a (xs ++ ys)))
+
+  -- items that pass a test, of a list in order
+  front-filter : (p : A → Bool) (x : A) (ys : List A) → IsFront x ys → IsFront x (filter p ys)
+  front-filter p x [] front = tt
+  front-filter p x (y ∷ ys) front = by (front-filter p x ys front.1) (p y) refl
+    where
+      by : IsFront x (filter p ys) → (s : Bool) → p y ≡ s → IsFront x (filter p (y ∷ ys))
+      by ih true s = rw s (front.0, ih)
+      by ih false s = rw s ih
+
+  put-front : (x : A) (ys : List A) → IsFront x ys → put_in_order above x ys ≡ x ∷ ys
+  put-front x [] front = refl
+  put-front x (y ∷ ys) front = let e = front.0 in rw e refl
+
+  abbrev put_if : Bool → A → List A → List A
+  put_if true x ys = put_in_order above x ys
+  put_if false x ys = ys
+
+  filter-put : (p : A → Bool) (x : A) (ys : List A) → Ascends ys → filter p (put_in_order above x ys) ≡ put_if (p x) x (filter p ys)
+  filter-put p x [] a = by (p x) refl
+    where
+      by : (s : Bool) → p x ≡ s → filter p (x ∷ []) ≡ put_if (p x) x []
+      by true s = rw s refl
+      by false s = rw s refl
+  filter-put p x (y ∷ ys) a = by (filter-put p x ys a.1) (above x y) (p x) (p y) refl refl refl
+    where
+      by : filter p (put_in_order above x ys) ≡ put_if (p x) x (filter p ys) → (s t u : Bool) → above x y ≡ s → p x ≡ t → p y ≡ u
+          → filter p (put_in_order above x (y ∷ ys)) ≡ put_if (p x) x (filter p (y ∷ ys))
+      by ih true true true s t u = let e = ih ∙ ap (λ b. put_if b x (filter p ys)) t in rw (s, t, u) (rw s (ap (λ l. y ∷ l) e))
+      by ih true false true s t u = let e = ih ∙ ap (λ b. put_if b x (filter p ys)) t in rw (s, t, u) (ap (λ l. y ∷ l) e)
+      by ih true t' false s t u = rw (s, u) ih
+      by ih false true u' s t u =
+          let front = front-filter p x (y ∷ ys) (s, front-chain x y ys s a.0) in
+          let e = put-front x (filter p (y ∷ ys)) front in
+          rw (s, t) (sym e)
+      by ih false false u' s t u = rw (s, t) refl
+
+  pub filter-in_order : (p : A → Bool) (xs : List A) → filter p (in_order above xs) ≡ in_order above (filter p xs)
+  filter-in_order p [] = refl
+  filter-in_order p (x ∷ xs) =
+      filter-put p x (in_order above xs) (ascends-in_order xs) ∙ ap (put_if (p x) x) (filter-in_order p xs) ∙ by (p x) refl
+    where
+      by : (s : Bool) → p x ≡ s → put_if (p x) x (in_order above (filter p xs)) ≡ in_order above (filter p (x ∷ xs))
+      by true s = rw s refl
+      by false s = rw s refl

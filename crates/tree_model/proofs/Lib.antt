@@ -5,5 +5,7 @@ pub mod StepLaws
 pub mod LeastLaws
 pub mod PlainLaws
 pub mod LookLaws
-pub mod IndexRoomLaws
 pub mod BillLaws
+pub mod IndexRoomLaws
+pub mod NamesLaws
+pub mod SessionLaws

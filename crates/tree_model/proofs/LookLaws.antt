@@ -4,7 +4,7 @@ use Rattle.std.proofs.Common.{Err, refl, sym, ◌∙◌}
 use Rattle.tree_model.specs.Answers.{answer_of}
 use Rattle.tree_model.specs.Cases.{is_wide}
 use Rattle.tree_model.specs.Paths.{and_then, found_file, resolve}
-use Rattle.tree_model.specs.Plain.{Tells, cat_of, file_at, listing_of, looked, read_of, reparse_of}
+use Rattle.tree_model.specs.Plain.{Tells, cat_of, file_at, looked, read_of, reparse_of}
 use Rattle.tree_model.specs.Refusals.{Facts, outcome}
 use Rattle.tree_model.specs.Step.{due}
 use Rattle.tree_model.specs.Subjects.{content_named, is_directory, locate, stream_name}
@@ -83,19 +83,6 @@ module _ (facts : Facts) (tree : Tree) (now session : ℕ) (path : List (List �
       by : (r : Result Found No) → resolve tree path ≡ r → Follows (c.Reparse path) reparse_of
       by (Err refused) e = rw e refl
       by (Ok found) e = by_node found e (node_of tree (found_file found)) refl
-
-  pub ls-due : Follows (c.Ls path) (listing_of tree)
-  unfolding due outcome locate answer_of
-  ls-due = by (resolve tree path) refl
-    where
-      by_node : (found : Found) → resolve tree path ≡ Ok found → (b : Bool) → is_directory (node_of tree (found_file found)) ≡ b
-          → Follows (c.Ls path) (listing_of tree)
-      by_node found e true b = rw (e, b) refl
-      by_node found e false b = rw (e, b) refl
-
-      by : (r : Result Found No) → resolve tree path ≡ r → Follows (c.Ls path) (listing_of tree)
-      by (Err refused) e = rw e refl
-      by (Ok found) e = by_node found e (is_directory (node_of tree (found_file found))) refl
 
   pub cat-due : (stream : Option (List ℕ)) → Follows (c.Cat path stream) (cat_of tree (stream_name stream))
   unfolding due outcome locate answer_of

@@ -15,8 +15,8 @@ use Rattle.tree_model.proofs.OrderedLaws.{both_ordered, moved}
 use Rattle.tree_model.specs.declared.tree.Node.{Node}
 use Rattle.tree_model.specs.declared.tree.Link.{Link}
 use Rattle.tree_model.specs.Tree.{is_in, link_above, node_of, sought_link}
-use Rattle.tree_model.specs.Paths.{children, lookup}
-use Rattle.tree_model.specs.Reading.{all_links, directory_links, is_hidden_link, node_at, nodes_of, read}
+use Rattle.tree_model.specs.Paths.{links_in_order, lookup}
+use Rattle.tree_model.specs.Reading.{all_links, directory_links, is_hidden_link, node_at, tree_nodes, read}
 use Rattle.tree_model.proofs.LinkOrder.{link_order}
 
 -- numbers as keys
@@ -30,8 +30,11 @@ key_other q f ne = elim (cases_lt q f) [
 ]
 
 key_is : (q f : ℕ) → eq_by_cmp nat_cmp q f ≡ eqb q f
-key_is q f = elim (cases_eq q f) [ inl e ↦ subst (λ x. eq_by_cmp nat_cmp q x ≡ eqb q x) e (key_same q
-    ∙ sym (eq-eqb q q refl)) | inr ne ↦ key_other q f ne ∙ sym (ne_eqb q f ne) ]
+key_is q f = elim (cases_eq q f) [
+  | inl e ↦ subst (λ x. eq_by_cmp nat_cmp q x ≡ eqb q x) e (key_same q
+      ∙ sym (eq-eqb q q refl))
+  | inr ne ↦ key_other q f ne ∙ sym (ne_eqb q f ne)
+]
 
 -- the first of the entries
 abbrev entry_of : ℕ → Option Node → Option (ℕ × Node)
@@ -67,8 +70,8 @@ unfolding node_at
 past v q ge = rw (le-ltb q v.layout.count ge) refl
 
 -- the tree has at each number the node of that record
-pub get-nodes : (v : VolumeView) (q : ℕ) → finmap.get (nodes_of v) q ≡ node_at v q
-unfolding nodes_of
+pub get-nodes : (v : VolumeView) (q : ℕ) → finmap.get (tree_nodes v) q ≡ node_at v q
+unfolding tree_nodes
 get-nodes v q = finmap.get-from_entries nat_cmp_total _ q ∙ elim (cases_lt q v.layout.count) [
   | inl lt ↦ find_in (node_at v) 0 v.layout.count q (omega arith) (omega arith)
   | inr ge ↦ find_out (node_at v) 0 v.layout.count q (inr (omega arith)) ∙ sym (past v q ge)
@@ -79,33 +82,34 @@ unfolding read
 node_of-read v f = get-nodes v f
 
 -- a directory of the tree has the links that its index has
-pub children-read : (v : VolumeView) (dir : ℕ) → children (read v) dir ≡ directory_links v dir
-unfolding read children directory_links
-children-read v dir = both_ordered (link_order (volume_fold v)) (is_in dir) (is_hidden_link v) (all_links v)
+pub links_in_order-read : (v : VolumeView) (dir : ℕ) → links_in_order (read v) dir ≡ directory_links v dir
+unfolding read links_in_order directory_links
+links_in_order-read v dir = both_ordered (link_order (volume_fold v)) (is_in dir) (is_hidden_link v) (all_links v)
 
 pub lookup-read : (v : VolumeView) (dir : ℕ) (name : List ℕ)
     → lookup (read v) dir name ≡ sought_link (volume_fold v) (directory_links v dir) name
 unfolding read
-lookup-read v dir name = ap (λ links. sought_link (volume_fold v) links name) (children-read v dir)
+lookup-read v dir name = ap (λ links. sought_link (volume_fold v) links name) (links_in_order-read v dir)
 
 -- one node differs
 pub nodes-insert : (old new : VolumeView) (f : ℕ) (node : Node) → node_at new f ≡ Some node → ((q : ℕ) → q ≢ f
     → node_at new q ≡ node_at old q)
-    → nodes_of new ≡ finmap.insert (nodes_of old) f node
+    → tree_nodes new ≡ finmap.insert (tree_nodes old) f node
 nodes-insert old new f node here same =
     finmap.same_map nat_cmp_total finmap.nat_cmp-IsAntisymmetric _ _ (λ q. one q
-        ∙ sym (finmap.get-insert nat_cmp_total (nodes_of old) f node q))
+    ∙ sym (finmap.get-insert nat_cmp_total (tree_nodes old) f node q))
   where
-    one : (q : ℕ) → finmap.get (nodes_of new) q ≡ cond (eq_by_cmp nat_cmp q f) (Some node) (finmap.get (nodes_of old) q)
+    one : (q : ℕ) → finmap.get (tree_nodes new) q ≡ cond (eq_by_cmp nat_cmp q f) (Some node) (finmap.get (tree_nodes old) q)
     one q = elim (cases_eq q f) [
-      | inl e ↦ subst (λ x. finmap.get (nodes_of new) x ≡ cond (eq_by_cmp nat_cmp x f) (Some node) (finmap.get (nodes_of old) x)) (sym e)
-          (get-nodes new f ∙ here ∙ sym (ap (λ b. cond b (Some node) (finmap.get (nodes_of old) f)) (key_same f)))
+      | inl e ↦
+          subst (λ x. finmap.get (tree_nodes new) x ≡ cond (eq_by_cmp nat_cmp x f) (Some node) (finmap.get (tree_nodes old) x)) (sym e)
+          (get-nodes new f ∙ here ∙ sym (ap (λ b. cond b (Some node) (finmap.get (tree_nodes old) f)) (key_same f)))
       | inr ne ↦ get-nodes new q ∙ same q ne ∙ sym (get-nodes old q)
-          ∙ sym (ap (λ b. cond b (Some node) (finmap.get (nodes_of old) q)) (key_other q f ne))
+          ∙ sym (ap (λ b. cond b (Some node) (finmap.get (tree_nodes old) q)) (key_other q f ne))
     ]
 
 -- one link more, wherever its name stands among the parts
 pub links-more : (fold : ℕ → ℕ) (test : Link → Bool) (before after : List Link) (link : Link) → test link ≡ true
     → in_order (link_above fold) (filter test (before ++ link ∷ after))
-        ≡ put_in_order (link_above fold) link (in_order (link_above fold) (filter test (before ++ after)))
+    ≡ put_in_order (link_above fold) link (in_order (link_above fold) (filter test (before ++ after)))
 links-more fold test before after link passes = moved (link_order fold) test before link after ∙ rw passes refl

@@ -1,5 +1,6 @@
 -- A step has one reply, want of memory and Overflow aside; and an image has one reading.
-use Rattle.std.proofs.Common.{◌≡◌, ◌⊎◌, ℕ, List, sym, ap, subst, inl, inr, ◌∙◌, Some}
+use Rattle.std.proofs.Common.{◌≡◌, ◌⊎◌, ℕ, false, List, sym, ap, subst, inl, inr, ◌∙◌, Some}
+use Rattle.std.specs.Prelude.{IsTrue}
 use Rattle.vol_disk.specs.Contents.{sector_in}
 use Rattle.ntfs_def.specs.Boot.{boot_sector}
 use Rattle.volume_def.specs.Sound.{told_view}
@@ -7,7 +8,7 @@ use Rattle.volume_def.specs.View.{VolumeView}
 use Rattle.volume_def.proofs.OneTable.{layout-exact}
 use Rattle.tree_model.specs.Facts.{IsVolumeOf, ReadsAs}
 use Rattle.tree_model.specs.Reading.{read}
-use Rattle.tree_model.specs.Refusals.{Facts, outcome}
+use Rattle.tree_model.specs.Refusals.{Facts, is_edit, outcome}
 use Rattle.tree_model.specs.Staging.{Overflows}
 use Rattle.tree_model.specs.Step.{IsFree, Step, due, reply_of}
 use Rattle.tree_model.specs.Subjects.{Machine}
@@ -39,11 +40,24 @@ one_reply facts m session command given other next last x y = both x.replied y.r
 
     Replied : Reply → Type 0
     Replied r = (r ≡ reply_of (due facts m session command)) ⊎ (r ≡ reply.No no.Memory)
-        ⊎ Overflows (outcome facts m session command) (facts.spills m command) r
+        ⊎ (IsTrue (is_edit command) × Overflows (outcome facts m session command) (facts.spills m command) r)
 
     both : Replied given → Replied other → IsFree given ⊎ IsFree other ⊎ (given ≡ other)
     both (inl a) (inl b) = inr (inr (a ∙ sym b))
     both (inr (inl a)) (b) = inl (free_memory given a)
-    both (inr (inr a)) (b) = inl (subst IsFree (sym a.told) tt)
+    both (inr (inr a)) (b) = inl (subst IsFree (sym a.1.told) tt)
     both (inl a) (inr (inl b)) = inr (inl (free_memory other b))
-    both (inl a) (inr (inr b)) = inr (inl (subst IsFree (sym b.told) tt))
+    both (inl a) (inr (inr b)) = inr (inl (subst IsFree (sym b.1.told) tt))
+
+-- no Overflow in place of what a command shows that is no edit
+pub shown_reply : (facts : Facts) (m : Machine) (session : ℕ) (command : Command) (given : Reply) (next : Machine)
+    → is_edit command ≡ false → Step facts m session command given next
+    → (given ≡ reply_of (due facts m session command)) ⊎ (given ≡ reply.No no.Memory)
+shown_reply facts m session command given next shows x = by x.replied
+  where
+    by : (given ≡ reply_of (due facts m session command)) ⊎ (given ≡ reply.No no.Memory)
+        ⊎ (IsTrue (is_edit command) × Overflows (outcome facts m session command) (facts.spills m command) given)
+        → (given ≡ reply_of (due facts m session command)) ⊎ (given ≡ reply.No no.Memory)
+    by (inl a) = inl a
+    by (inr (inl b)) = inr b
+    by (inr (inr o)) = let e = sym shows ∙ o.0 in cc

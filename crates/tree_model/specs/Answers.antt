@@ -12,10 +12,10 @@ use Rattle.ntfs_def.specs.declared.records.TheConstants.{ROOT}
 use Rattle.tree_model.specs.Cases.{is_packed, size_of}
 use Rattle.tree_model.specs.Opens.{free_handle}
 use Rattle.tree_model.specs.Ordered.{in_order}
-use Rattle.tree_model.specs.Paths.{children}
+use Rattle.tree_model.specs.Paths.{links_in_order}
 use Rattle.tree_model.specs.Refusals.{Facts}
 use Rattle.tree_model.specs.Subjects.{Located, Machine, content_named}
-use Rattle.tree_model.specs.Tree.{Tree, is_dos, leads_to, shown_node}
+use Rattle.tree_model.specs.Tree.{Tree, first_name, is_dos, leads_to, names_file, shown_node}
 use Rattle.tree_model.specs.declared.command.Command.{Command}
 use Rattle.tree_model.specs.declared.command.Command.TheVariants as c
 use Rattle.tree_model.specs.declared.reply.Answer.{Answer}
@@ -39,15 +39,15 @@ abbrev pub listed : Tree → Link → Option Listed
 listed tree link = if is_dos link then None else option_map (listed_node link.name) (shown_node tree link)
 
 unfoldable pub listing : Tree → ℕ → List Listed
-listing tree dir = filter_map (listed tree) (children tree dir)
+listing tree dir = filter_map (listed tree) (links_in_order tree dir)
 
 -- stat: how many names a file has that are no DOS names, the size of its unnamed stream, and what its node says.
-abbrev pub link_count : Tree → ℕ → ℕ
-link_count tree file = count_by (λ link. leads_to file link && not (is_dos link)) tree.links
+abbrev pub shown_link_count : Tree → ℕ → ℕ
+shown_link_count tree file = count_by (names_file file) tree.links
 
 abbrev pub stat_of : Tree → ℕ → Node → Answer
 stat_of tree file node =
-    a.Stat node.dir (link_count tree file) (option_map_or size_of (content_named tree [] (Some node)) 0) node.flags node.security
+    a.Stat node.dir (shown_link_count tree file) (option_map_or size_of (content_named tree [] (Some node)) 0) node.flags node.security
     (slice_index node.times 0) (slice_index node.times 1) (slice_index node.times 2) (slice_index node.times 3)
 
 -- links: each link that is not hidden, by the path that leads to it. A directory on the way goes by its name that is no DOS
@@ -60,7 +60,7 @@ path_through path_of (Some link) = path_of link.parent ++ link.name ∷ []
 abbrev pub path_to : Tree → ℕ → ℕ → List (List ℕ)
 path_to tree zero dir = []
 path_to tree (suc steps) dir =
-    if dir == ROOT then [] else path_through (path_to tree steps) (find (λ link. leads_to dir link && not (is_dos link)) tree.links)
+    if dir == ROOT then [] else path_through (path_to tree steps) (first_name tree.links dir)
 
 abbrev pub path_text : List (List ℕ) → List ℕ
 path_text path = flat_map (λ name. codes "/" ++ name_text name) path
@@ -91,11 +91,11 @@ abbrev pub shown_stream : Stream → ShownStream
 shown_stream stream = record { packed = is_packed stream.content; size = size_of stream.content; name = stream.name }
 
 -- objid: the first 16 bytes of the unnamed $OBJECT_ID.
-abbrev pub is_object_id : RawAttr → Bool
-is_object_id attribute = (attribute.kind == OBJECT_ID) && (length attribute.name == 0)
+abbrev pub is_unnamed_object_id : RawAttr → Bool
+is_unnamed_object_id attribute = (attribute.kind == OBJECT_ID) && (length attribute.name == 0)
 
 abbrev pub object_id : Node → List ℕ
-object_id node = take 16 (option_map_or (λ attribute. bytes_of attribute.value) (find is_object_id node.others) [])
+object_id node = take 16 (option_map_or (λ attribute. bytes_of attribute.value) (find is_unnamed_object_id node.others) [])
 
 -- reparse: the tag of the point, and its data.
 abbrev pub point_answer : Point → Answer

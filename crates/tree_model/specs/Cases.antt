@@ -7,7 +7,7 @@ use Rattle.tree_model.specs.Drops.{goes_with, is_last_link}
 use Rattle.tree_model.specs.Opens.{all_access, are_compatible, to_delete, to_read, to_write}
 use Rattle.tree_model.specs.Subjects.{DirectoryLinkAt, LinkAt, LinkAtAndNew, Located, Machine, NameIn, NewName, NoName, RootPath}
 use Rattle.tree_model.specs.Subjects.{StreamAt, Subject, Through, WhatIsAtAndNew, is_directory}
-use Rattle.tree_model.specs.Tree.{Tree, are_same, is_dos, leads_to, links_in}
+use Rattle.tree_model.specs.Tree.{Tree, are_same, first_name, is_dos, is_of_microsoft, leads_to, links_in}
 use Rattle.tree_model.specs.declared.command.Command.{Command}
 use Rattle.tree_model.specs.declared.command.Command.TheVariants as c
 use Rattle.tree_model.specs.declared.opens.Access.{Access}
@@ -49,8 +49,8 @@ is_bad_new (NameIn dir name) = is_bad_name name
 is_bad_new other = false
 
 -- of a stream: more than 255 units, or the unit 0 or one of these
-abbrev pub is_bad_stream : List ℕ → Bool
-is_bad_stream name = nat_lt 255 (length name) || list_any (λ unit. (unit == 0) || is_among (codes "/:\\") unit) name
+abbrev pub is_bad_stream_name : List ℕ → Bool
+is_bad_stream_name name = nat_lt 255 (length name) || list_any (λ unit. (unit == 0) || is_among (codes "/:\\") unit) name
 
 -- the commands that make their stream where it is missing
 abbrev pub makes_stream : Command → Bool
@@ -58,15 +58,15 @@ makes_stream (c.Write path stream at bytes) = true
 makes_stream (c.Truncate path stream size) = true
 makes_stream other = false
 
-abbrev pub bad_name : Command → Located → Bool
-bad_name command at = is_bad_new at.new || (makes_stream command && not (is_some at.content) && is_bad_stream at.stream)
+abbrev pub names_badly : Command → Located → Bool
+names_badly command at = is_bad_new at.new || (makes_stream command && not (is_some at.content) && is_bad_stream_name at.stream)
 
 -- IsDir: a directory for `rm`, for the old path of `ln`, and for its unnamed stream.
-abbrev pub is_dir : Subject → Located → Bool
-is_dir (LinkAt path) at = is_directory at.node
-is_dir (WhatIsAtAndNew old new) at = is_directory at.node
-is_dir (StreamAt path name) at = (length name == 0) && is_directory at.node
-is_dir other at = false
+abbrev pub directory_for_file : Subject → Located → Bool
+directory_for_file (LinkAt path) at = is_directory at.node
+directory_for_file (WhatIsAtAndNew old new) at = is_directory at.node
+directory_for_file (StreamAt path name) at = (length name == 0) && is_directory at.node
+directory_for_file other at = false
 
 -- NoStream: the stream is not there, and the command does not make it.
 abbrev pub no_stream : Command → Subject → Located → Bool
@@ -105,7 +105,7 @@ not_empty tree other at = false
 
 -- Loop: the new name's directory is the old path's, or lies below it.
 abbrev pub parent_of : Tree → ℕ → Option ℕ
-parent_of tree file = option_map (λ link. link.parent) (find (λ link. leads_to file link && not (is_dos link)) tree.links)
+parent_of tree file = option_map (λ link. link.parent) (first_name tree.links file)
 
 -- the directory is `above`, or at most so many steps up from it lead there
 abbrev pub lies_in : Tree → ℕ → ℕ → ℕ → Bool
@@ -128,7 +128,7 @@ packed other at = false
 
 -- BadTag: bit 31 of the tag is clear.
 abbrev pub bad_tag : Command → Bool
-bad_tag (c.Mkreparse path tag bytes) = tag / 2 ^ 31 % 2 == 0
+bad_tag (c.Mkreparse path tag bytes) = not (is_of_microsoft tag)
 bad_tag other = false
 
 -- NoSecurity: the volume has no descriptor of this id.

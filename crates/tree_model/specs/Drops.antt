@@ -4,7 +4,7 @@ use Rattle.std.specs.Prelude.{◌==◌, ◌&&◌, ◌||◌, not, Bool, false, Op
 use Rattle.std.specs.List.{list_any}
 use Rattle.std.specs.Option.{option_map_or}
 use Rattle.std.specs.Str.{bytes_eq}
-use Rattle.tree_model.specs.Tree.{Tree, is_dos, leads_to}
+use Rattle.tree_model.specs.Tree.{Tree, is_dos, names_file}
 use Rattle.tree_model.specs.declared.tree.Link.{Link}
 
 abbrev pub is_link : Link → Link → Bool
@@ -29,7 +29,7 @@ goes_with tree link other =
 -- No name but DOS names would be left of the file.
 abbrev pub is_last : Tree → Link → Bool
 is_last tree link =
-    not (list_any (λ other. leads_to link.child other && not (is_dos other) && not (is_link link other)) tree.links)
+    not (list_any (λ other. names_file link.child other && not (is_link link other)) tree.links)
 
 abbrev pub is_last_link : Tree → Option Link → Bool
 is_last_link tree link = option_map_or (is_last tree) link false

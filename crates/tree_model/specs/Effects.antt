@@ -35,7 +35,7 @@ stamped now node = record node { times = slice_set node.times 2 now }
 abbrev pub touched : ℕ → Node → Node
 touched now node = record node { times = slice_set (slice_set node.times 1 now) 2 now }
 
--- its record changed; its contents did too
+-- the times after its record was changed, and after its contents were too
 abbrev pub stamp : ℕ → ℕ → Tree → Tree
 stamp now file tree = changed file (stamped now) tree
 

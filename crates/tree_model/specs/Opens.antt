@@ -6,9 +6,6 @@ use Rattle.std.specs.Prelude.{true, false}
 use Rattle.tree_model.specs.declared.opens.Access.{Access}
 use Rattle.tree_model.specs.declared.opens.OpenEntry.{OpenEntry}
 
-abbrev pub no_access : Access
-no_access = record { r = false; w = false; d = false }
-
 abbrev pub to_read : Access
 to_read = record { r = true; w = false; d = false }
 
@@ -25,7 +22,7 @@ all_access = record { r = true; w = true; d = true }
 abbrev pub contains : Access → Access → Bool
 contains given asked = (given.r || not asked.r) && (given.w || not asked.w) && (given.d || not asked.d)
 
--- Two opens of one file conflict where one's access is not within what the other shares.
+-- Two opens of one file go together where the access of each is within what the other shares; else they conflict.
 abbrev pub are_compatible : Access → Access → Access → Access → Bool
 are_compatible access share other_access other_share = contains other_share access && contains share other_access
 

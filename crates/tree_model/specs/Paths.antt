@@ -16,12 +16,12 @@ and_then (Err refused) f = Err refused
 and_then (Ok x) f = f x
 
 -- all links of a directory in name order, hidden ones too
-unfoldable pub children : Tree → ℕ → List Link
-children tree dir = in_order (link_above tree.fold) (links_in tree dir)
+unfoldable pub links_in_order : Tree → ℕ → List Link
+links_in_order tree dir = in_order (link_above tree.fold) (links_in tree dir)
 
 -- a name in a directory: the exact one, else the first that is the same
 abbrev pub lookup : Tree → ℕ → List ℕ → Option Link
-lookup tree dir name = sought_link tree.fold (children tree dir) name
+lookup tree dir name = sought_link tree.fold (links_in_order tree dir) name
 
 -- A component before the last one leads through a directory that has no reparse point.
 abbrev pub passed_node : ℕ → Option Node → Result ℕ No

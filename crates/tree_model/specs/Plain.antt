@@ -8,7 +8,7 @@ use Rattle.std.specs.Str.{bytes_eq}
 use denote.Ref.{Bor}
 use Rattle.ntfs_def.specs.KeyOrder.{fold_of}
 use Rattle.tree_model.specs.Paths.{Place, and_then, found_file, resolve}
-use Rattle.tree_model.specs.Answers.{listing, node_answer, point_answer, range_of}
+use Rattle.tree_model.specs.Answers.{node_answer, point_answer, range_of}
 use Rattle.tree_model.specs.Cases.{is_wide}
 use Rattle.tree_model.specs.Refusals.{Facts}
 use Rattle.tree_model.specs.Step.{due}
@@ -92,7 +92,8 @@ listed_as line = record { dir = line.0; name = line.1.now.name }
 abbrev pub lent_listed : Option (Bool × Bor Link) → Option Listed
 lent_listed line = option_map listed_as line
 
--- What is shown of a file that a path leads to: what its node tells ..
+-- What is shown of a file that a path leads to, by its parts, so that each can be proved alone; that it is what is due, in the order of
+-- refusals, a law says (`LookLaws`). It is what the node tells ..
 abbrev pub looked : Tree → Command → (ℕ × Option Node) → Result Answer No
 looked tree command file = Ok (option_map_or (node_answer tree command file.0) file.1 a.Done)
 
@@ -103,10 +104,6 @@ point_shown (Some point) = Ok (point_answer point)
 
 abbrev pub reparse_of : (ℕ × Option Node) → Result Answer No
 reparse_of file = point_shown (option_and_then (λ node. node.point) file.1)
-
--- .. what stands in it ..
-abbrev pub listing_of : Tree → (ℕ × Option Node) → Result Answer No
-listing_of tree file = if is_directory file.1 then Ok (a.List (listing tree file.0)) else Err no.NotDir
 
 -- .. and a stream of it that is not packed, whole or in part.
 abbrev pub plain_bytes : Option Content → Result (List ℕ) No

@@ -19,7 +19,7 @@ use Rattle.ntfs_def.specs.declared.kinds.TheConstants.{REPARSE_POINT, STANDARD_I
 use Rattle.ntfs_def.specs.declared.records.TheConstants.{ROOT}
 use Rattle.volume_def.specs.Values.{first_part}
 use Rattle.volume_def.specs.CaseClause.{volume_fold}
-use Rattle.volume_def.specs.FileNames.{links}
+use Rattle.volume_def.specs.FileNames.{links, names_of}
 use Rattle.volume_def.specs.Files.{Part, Record, content_value, is_base, is_directory, is_of, parts, parts_like, record_on, records_of}
 use Rattle.volume_def.specs.StreamSize.{told_size}
 use Rattle.volume_def.specs.Values.{is_first, value_on}
@@ -27,7 +27,7 @@ use Rattle.volume_def.specs.View.{VolumeView}
 use Rattle.tree_model.specs.Hidden.{is_hidden}
 use Rattle.tree_model.specs.Ordered.{in_order}
 use Rattle.tree_model.specs.Streams.{stream_above}
-use Rattle.tree_model.specs.Tree.{Tree, is_in, link_above}
+use Rattle.tree_model.specs.Tree.{Tree, is_in, is_of_microsoft, link_above}
 use Rattle.tree_model.specs.declared.tree.Content.{Content}
 use Rattle.tree_model.specs.declared.tree.Content.TheVariants.{Packed, Plain}
 use Rattle.tree_model.specs.declared.tree.Link.{Link}
@@ -40,14 +40,14 @@ use Rattle.tree_model.specs.declared.tree.Stream.{Stream}
 abbrev pub is_packed_part : Part → Bool
 is_packed_part part = is_packed part.kind part.flags
 
-abbrev pub content_of : VolumeView → List Part → Content
-content_of view extents =
+abbrev pub shown_content : VolumeView → List Part → Content
+shown_content view extents =
     if option_map_or is_packed_part (first_part extents) false then Packed (told_size (first_part extents))
     else Plain (value_on view extents)
 
 -- the attribute that this part is of, among all parts of its file
 abbrev pub content_at : VolumeView → List Part → Part → Content
-content_at view all part = content_of view (parts_like part all)
+content_at view all part = shown_content view (parts_like part all)
 
 -- The streams: the $DATA attributes, in name order.
 abbrev pub begins_stream : Part → Bool
@@ -64,18 +64,18 @@ streams_of view all = in_order (stream_above (volume_fold view)) (map (stream_at
 abbrev pub standard_of : List Part → List ℕ
 standard_of all = unwrap_or (option_and_then (λ part. content_value part.content) (find (is_of STANDARD_INFORMATION []) all)) []
 
-abbrev pub times_in : List ℕ → List ℕ
-times_in standard = u64_at standard 0x00 ∷ u64_at standard 0x08 ∷ u64_at standard 0x10 ∷ u64_at standard 0x18 ∷ []
+abbrev pub standard_times : List ℕ → List ℕ
+standard_times standard = u64_at standard 0x00 ∷ u64_at standard 0x08 ∷ u64_at standard 0x10 ∷ u64_at standard 0x18 ∷ []
 
 -- read-only, hidden, system, archive, temporary, offline and not indexed: the flags that commands show and set
 abbrev pub shown_flags : ℕ
 shown_flags = 0x3127
 
-abbrev pub flags_in : List ℕ → ℕ
-flags_in standard = bit_and (u32_at standard 0x20) shown_flags
+abbrev pub standard_flags : List ℕ → ℕ
+standard_flags standard = bit_and (u32_at standard 0x20) shown_flags
 
-abbrev pub security_in : List ℕ → ℕ
-security_in standard = if nat_lt (length standard) 72 then 0 else u32_at standard 0x34
+abbrev pub standard_security : List ℕ → ℕ
+standard_security standard = if nat_lt (length standard) 72 then 0 else u32_at standard 0x34
 
 -- The reparse point, the unnamed $REPARSE_POINT: 0x00 the tag, 0x04 the length of the data, which begin at 0x08, or at 0x18
 -- behind a GUID where bit 31 of the tag is clear. A value below 8 bytes is read as padded with zeros.
@@ -83,7 +83,7 @@ abbrev pub padded : List ℕ → List ℕ
 padded value = value ++ replicate (8 - length value) 0
 
 abbrev pub data_place : ℕ → ℕ
-data_place tag = if tag / 2 ^ 31 % 2 == 1 then 8 else 24
+data_place tag = if is_of_microsoft tag then 8 else 24
 
 abbrev pub point_in : List ℕ → Point
 point_in value = record { tag = u32_at value 0x00; bytes = take (u16_at value 0x04) (drop (data_place (u32_at value 0x00)) value) }
@@ -123,9 +123,9 @@ others_of view all = in_order (other_above (volume_fold view)) (map (other_at vi
 unfoldable pub node_by : VolumeView → Record → List Part → Node
 node_by view base all = record {
   dir = is_directory base;
-  times = times_in (standard_of all);
-  flags = flags_in (standard_of all);
-  security = security_in (standard_of all);
+  times = standard_times (standard_of all);
+  flags = standard_flags (standard_of all);
+  security = standard_security (standard_of all);
   streams = streams_of view all;
   point = point_of view all;
   others = others_of view all;
@@ -139,18 +139,20 @@ node_on view f r =
 unfoldable pub node_at : VolumeView → ℕ → Option Node
 node_at view f = option_and_then (node_on view f) (record_on view f)
 
-unfoldable pub nodes_of : VolumeView → finmap.FinMap nat_cmp Node
-nodes_of view =
+unfoldable pub tree_nodes : VolumeView → finmap.FinMap nat_cmp Node
+tree_nodes view =
     finmap.from_entries (filter_map (λ f. option_map (λ node. (f, node)) (node_at view f)) (range_with_len 0 view.layout.count))
 
 -- The names of all files as links. One to a hidden file is hidden, and so is every link to the root.
+abbrev pub link_for : ℕ → names.FileName → Link
+link_for file name = record { parent = name.parent.number; name = name.units; space = name.namespace; child = file }
+
 abbrev pub link_by : names.Link → Link
-link_by link = record {
-  parent = link.name.parent.number;
-  name = link.name.units;
-  space = link.name.namespace;
-  child = link.file.number;
-}
+link_by link = link_for link.file.number link.name
+
+-- the names of one file as links
+abbrev pub links_to : VolumeView → ℕ → List Link
+links_to view file = map (link_for file) (names_of (records_of view) file)
 
 abbrev pub is_hidden_link : VolumeView → Link → Bool
 is_hidden_link view link = (link.child == ROOT) || is_hidden (records_of view) link.child
@@ -170,7 +172,7 @@ links_that view test = in_order (link_above (volume_fold view)) (filter test (al
 unfoldable pub read : VolumeView → Tree
 read view = record {
   fold = volume_fold view;
-  nodes = nodes_of view;
+  nodes = tree_nodes view;
   links = links_that view (λ link. not (is_hidden_link view link));
   hidden = links_that view (is_hidden_link view);
 }

@@ -1,8 +1,8 @@
 -- The refusals of a command in their order, told here alone.
 use Rattle.std.specs.Prelude.{ℕ, Bool, true, false, List, [], ◌∷◌, Option, Some, None, Result, Ok, Err, if◌then◌else◌}
 use Rattle.std.specs.Option.{option_or}
-use Rattle.tree_model.specs.Cases.{bad_name, bad_tag, dos_name, exists, is_dir, loops, no_reparse, no_security, no_stream, not_empty}
-use Rattle.tree_model.specs.Cases.{packed, shared, too_big, too_many_handles, too_many_links}
+use Rattle.tree_model.specs.Cases.{bad_tag, directory_for_file, dos_name, exists, loops, names_badly, no_reparse, no_security, no_stream}
+use Rattle.tree_model.specs.Cases.{not_empty, packed, shared, too_big, too_many_handles, too_many_links}
 use Rattle.tree_model.specs.Paths.{and_then}
 use Rattle.tree_model.specs.Staging.{is_built, linked}
 use Rattle.tree_model.specs.Subjects.{Located, Machine, Subject, locate, subject_of}
@@ -57,8 +57,8 @@ first_some (test ∷ tests) = option_or test (first_some tests)
 abbrev pub refusal : Facts → Machine → ℕ → Command → Subject → Located → Option No
 refusal facts m session command subject at = first_some (
     when (dos_name subject at) no.DosName ∷
-    when (bad_name command at) no.BadName ∷
-    when (is_dir subject at) no.IsDir ∷
+    when (names_badly command at) no.BadName ∷
+    when (directory_for_file subject at) no.IsDir ∷
     when (no_stream command subject at) no.NoStream ∷
     when (no_reparse command at) no.NoReparse ∷
     when (exists m.tree subject at.link at.new) no.Exists ∷

@@ -1,11 +1,12 @@
 -- A run of sessions over an image: what its lines say, their replies, and where the run stands after each.
-use Rattle.std.specs.Prelude.{◌≡◌, ◌⊎◌, ℕ, ◌%◌, Bool, true, false, List, [], ◌∷◌, map, Result, Ok, Err, IsSomeAnd}
+use Rattle.std.specs.Prelude.{◌≡◌, ◌⊎◌, ℕ, ◌%◌, Bool, true, false, List, [], ◌∷◌, map, Option, Some, Result, Ok, Err, option_map}
 use Rattle.vol_bytes.specs.Field.{u16_at}
 use Rattle.ntfs_def.specs.Attribute.{attributes, first_value}
 use Rattle.ntfs_def.specs.Fixup.{opened_of}
 use Rattle.ntfs_def.specs.declared.kinds.TheConstants.{VOLUME_INFORMATION}
 use Rattle.ntfs_def.specs.declared.records.TheConstants.{VOLUME}
 use Rattle.volume_def.specs.Sound.{IsSound}
+use Rattle.volume_def.specs.VersionClause.{IsClean}
 use Rattle.volume_def.specs.View.{VolumeView}
 use Rattle.tree_model.specs.Facts.{IsVolumeOf, TellsFacts}
 use Rattle.tree_model.specs.Reading.{read}
@@ -30,9 +31,10 @@ pub record Stands (state : State) : Type 0 where
   pub sound : IsSound state.view
   pub reading : read state.view ≡ state.machine.tree
 
--- A run begins without opens, at the moment 0.
+-- A run begins on a clean volume, without opens, at the moment 0.
 pub record Begins (state : State) : Type 0 where
   pub stands : Stands state
+  pub clean : IsClean state.view
   pub machine : state.machine ≡ record { tree = read state.view; opens = []; now = 0 }
 
 -- What a line says: a session's command, or why it says none.
@@ -49,10 +51,14 @@ abbrev pub Steps : Facts → Machine → Said → Reply → Machine → Type 0
 Steps facts m (Ok said) given next = Step facts m said.0 said.1 given next
 Steps facts m (Err fault) given next = ((given ≡ reply.No fault) ⊎ (given ≡ reply.No no.Memory)) × (next ≡ m)
 
--- 0x0A of $VOLUME_INFORMATION: bit 0 says that the volume was not closed
+-- The dirty flag: bit 0 of the u16 at 0x0A of $VOLUME_INFORMATION says that the volume was not closed. It is 0 where the volume
+-- is clean, by a law.
+abbrev pub dirty_flag : VolumeView → Option ℕ
+dirty_flag view =
+    option_map (λ value. u16_at value 0x0A % 2) (first_value VOLUME_INFORMATION (attributes (opened_of (view.block VOLUME))))
+
 abbrev pub IsDirty : VolumeView → Type 0
-IsDirty view =
-    IsSomeAnd (first_value VOLUME_INFORMATION (attributes (opened_of (view.block VOLUME)))) (λ value. u16_at value 0x0A % 2 ≡ 1)
+IsDirty view = dirty_flag view ≡ Some 1
 
 -- What a line says has this reply, and takes the run from one state to the next. Only an edit that was done changes the image,
 -- and then the volume is marked.

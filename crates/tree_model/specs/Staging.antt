@@ -1,7 +1,7 @@
 -- WHAT IS NOT BUILT YET, told here alone: Unbuilt, Linked and Overflow. Once all is built this file goes out, with the places that
 -- name it: `is_built` and `linked` in `Refusals`, `Overflows` and `IsOverflow` in `Step`, the field `spills` of `Facts` and of
 -- `TellsFacts`, and the three variants of the type `No`.
-use Rattle.std.specs.Prelude.{◌≡◌, ℕ, ◌+◌, ◌*◌, ◌==◌, ◌&&◌, ◌||◌, not, nat_lt, Bool, true, false, filter, filter_map, length, Option}
+use Rattle.std.specs.Prelude.{◌≡◌, ℕ, ◌+◌, ◌*◌, ◌<◌, ◌==◌, ◌&&◌, ◌||◌, not, nat_lt, Bool, true, false, filter, filter_map, length, Option}
 use Rattle.std.specs.Prelude.{Some, None, Result, Ok, is_some, option_and_then, slice_get, sum_by, if◌then◌else◌}
 use Rattle.std.specs.List.{list_any}
 use Rattle.std.specs.Option.{option_map_or}
@@ -94,13 +94,14 @@ spills_in view bill command at touched = option_and_then (spills_at view bill co
 unfoldable pub spills_for : VolumeView → Bill → Command → Located → Option (ℕ × ℕ)
 spills_for view bill command at = slice_get (filter_map (spills_in view bill command at) bill.touched) 0
 
--- Overflow may stand in place of what is due where the command would be done, and some file may lack room. `found` is what comes of
+-- Overflow may stand in place of what is due where an edit would be done, and some file may lack room. `found` is what comes of
 -- the command, `spills` what the image tells of such a file.
 pub record Overflows (found : Result Located No) (spills : Located → Option (ℕ × ℕ)) (given : Reply) : Type 0 where
   pub at : Located
   pub done : found ≡ Ok at
   pub need : ℕ
   pub free : ℕ
+  pub less : free < need
   pub lacks : spills at ≡ Some (need, free)
   pub told : given ≡ reply.No (no.Overflow need free)
 

@@ -44,7 +44,7 @@ pub enum Command {
     Mkdir {
         path: Path,
     },
-    /// Removes a name of a file, and the file with the last one.
+    /// Removes a name of a file, and the file with the last that is no DOS name.
     Rm {
         path: Path,
     },

@@ -1,10 +1,12 @@
 //! Laws of the definitions, with nothing to run.
-ghost use Rattle.std.specs.Prelude.{◌≡◌, ◌≢◌, ◌⊎◌, ◌++◌, ◌∷◌, ℕ, suc, Bool, true, List, Option, Some, None, filter};
+ghost use Rattle.std.specs.Prelude.{◌≡◌, ◌≢◌, ◌⊎◌, ◌++◌, ◌∷◌, ℕ, suc, Bool, true, List, Some, None, filter, ◌↔◌, false, Contains, IsTrue};
 ghost use Rattle.std.specs.List.{list_any};
-ghost use Rattle.std.specs.FinMap as finmap;
 ghost use Rattle.ntfs_def.specs.Node.{Item};
 ghost use Rattle.volume_def.specs.CaseClause.{volume_fold};
 ghost use Rattle.volume_def.specs.IndexesClause.{HasIndex, KeyRule, index_parts};
+ghost use Rattle.ntfs_def.specs.declared.records.TheConstants.{ROOT};
+ghost use Rattle.volume_def.specs.VersionClause.{IsClean};
+ghost use Rattle.std.specs.FinMap as finmap;
 ghost use Rattle.volume_def.specs.View.{VolumeView};
 ghost use Rattle.tree_model.specs.Bill.{bill_of};
 ghost use Rattle.tree_model.specs.Facts.{IsVolumeOf, ReadsAs};
@@ -12,15 +14,18 @@ ghost use Rattle.tree_model.specs.IndexRoom.{Index, has_entry, index_depth};
 ghost use Rattle.tree_model.specs.Need.{empty_bill};
 ghost use Rattle.tree_model.specs.NoRoom.{no_room_for};
 ghost use Rattle.tree_model.specs.Ordered.{in_order, put_in_order};
-ghost use Rattle.tree_model.specs.Paths.{children, lookup};
-ghost use Rattle.tree_model.specs.Reading.{directory_links, node_at, nodes_of, read};
-ghost use Rattle.tree_model.specs.Refusals.{Facts};
-ghost use Rattle.tree_model.specs.Step.{IsFree, Step};
+ghost use Rattle.tree_model.specs.Paths.{lookup, links_in_order};
+ghost use Rattle.tree_model.specs.Reading.{directory_links, node_at, read, all_links, is_hidden_link, links_to, tree_nodes};
+ghost use Rattle.tree_model.specs.Refusals.{Facts, is_edit};
+ghost use Rattle.tree_model.specs.Step.{IsFree, Step, due, reply_of};
 ghost use Rattle.tree_model.specs.Subjects.{Located, Machine, NoName};
-ghost use Rattle.tree_model.specs.Tree.{Tree, link_above, node_of, sought_link};
+ghost use Rattle.tree_model.specs.Tree.{Tree, link_above, node_of, sought_link, leads_to, shown_node};
 ghost use Rattle.tree_model.specs.declared.command.Command.{Command};
+ghost use Rattle.tree_model.specs.Session.{dirty_flag};
 ghost use Rattle.tree_model.specs.declared.command.Command.TheVariants as c;
+ghost use Rattle.tree_model.specs.declared.reply.No.TheVariants as no;
 ghost use Rattle.tree_model.specs.declared.reply.Reply.{Reply};
+ghost use Rattle.tree_model.specs.declared.reply.Reply.TheVariants as reply;
 ghost use Rattle.tree_model.specs.declared.tree.Link.{Link};
 ghost use Rattle.tree_model.specs.declared.tree.Node.{Node};
 
@@ -31,21 +36,34 @@ pub fn one_reading()
 {}
 
 /// A step has one reply: one refusal, or one answer. Want of memory may stand in its place, and until files get
-/// further records so may Overflow.
+/// further records so may Overflow (`one`); but in place of a reply that shows something, want of memory alone (`shown`).
 pub fn one_reply()
-    ensures { (facts : Facts) (m : Machine) (session : ℕ) (command : Command) (given other : Reply) (next last : Machine)
+    ensures one { (facts : Facts) (m : Machine) (session : ℕ) (command : Command) (given other : Reply) (next last : Machine)
         → Step facts m session command given next → Step facts m session command other last
         → IsFree given ⊎ IsFree other ⊎ (given ≡ other) }
+    ensures shown { (facts : Facts) (m : Machine) (session : ℕ) (command : Command) (given : Reply) (next : Machine)
+        → is_edit command ≡ false → Step facts m session command given next
+        → (given ≡ reply_of (due facts m session command)) ⊎ (given ≡ reply.No no.Memory) }
 {}
 
 /// What the tree of a volume has at each number, and in each directory: what the record of that number tells
-/// (`node`), and the names that stand there in name order, hidden ones too (`children`), among which a name is
-/// sought (`lookup`).
+/// (`node`), and the names that stand there in name order, hidden ones too (`links_in_order`), among which a name is
+/// sought (`lookup`). The links that lead to a file other than the root are its names (`names`). A link leads to no file
+/// that is shown exactly where it is hidden (`hidden`).
 pub fn reading_laws()
     ensures node { (view : VolumeView) (file : ℕ) → node_of (read view) file ≡ node_at view file }
-    ensures children { (view : VolumeView) (dir : ℕ) → children (read view) dir ≡ directory_links view dir }
+    ensures links_in_order { (view : VolumeView) (dir : ℕ) → links_in_order (read view) dir ≡ directory_links view dir }
     ensures lookup { (view : VolumeView) (dir : ℕ) (name : List ℕ)
         → lookup (read view) dir name ≡ sought_link (volume_fold view) (directory_links view dir) name }
+    ensures names { (view : VolumeView) (file : ℕ) (node : Node) → node_at view file ≡ Some node → file ≢ ROOT
+        → filter (leads_to file) (read view).links ≡ in_order (link_above (volume_fold view)) (links_to view file) }
+    ensures hidden { (view : VolumeView) (link : Link) → Contains (all_links view) link
+        → (shown_node (read view) link ≡ None) ↔ IsTrue (is_hidden_link view link) }
+{}
+
+/// A volume is clean where its dirty flag is 0.
+pub fn clean_law()
+    ensures { (view : VolumeView) → IsClean view ↔ (dirty_flag view ≡ Some 0) }
 {}
 
 /// How an edit changes a tree. Where one file differs (`node`) it is put into the map; a link that stands anywhere among
@@ -53,7 +71,7 @@ pub fn reading_laws()
 pub fn edited_reading_laws()
     ensures node { (old new : VolumeView) (file : ℕ) (node : Node) → node_at new file ≡ Some node
         → ((other : ℕ) → other ≢ file → node_at new other ≡ node_at old other)
-        → nodes_of new ≡ finmap.insert (nodes_of old) file node }
+        → tree_nodes new ≡ finmap.insert (tree_nodes old) file node }
     ensures link { (fold : ℕ → ℕ) (test : Link → Bool) (before after : List Link) (link : Link) → test link ≡ true
         → in_order (link_above fold) (filter test (before ++ link ∷ after))
         ≡ put_in_order (link_above fold) link (in_order (link_above fold) (filter test (before ++ after))) }

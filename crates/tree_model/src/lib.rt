@@ -13,7 +13,7 @@ mod tests;
 mod tree;
 
 pub use command::Command;
-pub use laws::{edited_reading_laws, one_reading, one_reply, reading_laws};
+pub use laws::{clean_law, edited_reading_laws, one_reading, one_reply, reading_laws};
 pub use lists::{Listing, Path, RawAttrs, ShownLinks, ShownStreams, Streams};
 pub use opens::{Access, OpenEntry};
 pub use plain::PlainTree;

@@ -2,7 +2,7 @@
 ghost use Rattle.std.specs.Prelude.{◌≡◌, [], ◌∷◌, filter, find};
 ghost use Rattle.ntfs_def.specs.KeyOrder.{fold_of};
 ghost use Rattle.ntfs_def.specs.declared.records.TheConstants.{ROOT};
-ghost use Rattle.tree_model.specs.Paths.{children, last_place, lookup, passed, reached, resolve};
+ghost use Rattle.tree_model.specs.Paths.{links_in_order, last_place, lookup, passed, reached, resolve};
 ghost use Rattle.tree_model.specs.Plain.{has_name, is_named, least, lent, lent_found, lent_place, tree_of};
 ghost use Rattle.tree_model.specs.Tree.{compare_links, link_above, node_of, shown_node};
 
@@ -15,7 +15,9 @@ use upcase::UpCase;
 use vol_bytes::Name;
 
 /// A tree of files: what units of names are compared as, the files by record number, the links that are shown, DOS
-/// names too, and those that are hidden. Of several files of one number the first counts.
+/// names too, and those that are hidden. Of several files of one number the first counts. Whether a link is hidden is asked of
+/// the files alone: of a tree that a volume reads as, links in `hidden` lead to none of `nodes` but the root, and all
+/// others to one of them.
 #[derive(Debug, Drop)]
 pub struct PlainTree {
     pub case: UpCase,
@@ -89,7 +91,8 @@ impl PlainTree {
 
     // The first in order of the links of a directory, hidden ones too, that have this name.
     fn first_named(&self, dir: u64, name: &[u16], exact: bool) -> Option<&Link>
-        ensures { lent result ≡ find (λ link. has_name (fold_of self.now.case) exact link.name name.now) (children (tree_of self.now) dir) }
+        ensures { lent result
+            ≡ find (λ link. has_name (fold_of self.now.case) exact link.name name.now) (links_in_order (tree_of self.now) dir) }
     {
         let shown = self.first_among(None, &self.links, dir, name, exact);
         self.first_among(shown, &self.hidden, dir, name, exact)

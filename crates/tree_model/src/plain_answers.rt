@@ -1,7 +1,7 @@
 //! What commands that read are answered over a tree in plain lists, where no session has an open.
 ghost use Rattle.std.specs.Prelude.{◌≡◌, [], Some, find, map, option_map};
 ghost use Rattle.ntfs_def.specs.KeyOrder.{fold_of};
-ghost use Rattle.tree_model.specs.Answers.{is_object_id, link_count, listed, object_id, range_of, shown_stream};
+ghost use Rattle.tree_model.specs.Answers.{is_unnamed_object_id, shown_link_count, listed, object_id, range_of, shown_stream};
 ghost use Rattle.tree_model.specs.Cases.{is_wide, size_of};
 ghost use Rattle.tree_model.specs.Plain.{Answers, Tells, cat_of, file_at, is_answered, read_of, reparse_of, has_name, lent, lent_bytes};
 ghost use Rattle.tree_model.specs.Plain.{lent_file, lent_listed, looked, stream_of, tree_of};
@@ -100,8 +100,8 @@ impl PlainTree {
     }
 
     // The names of a file that are no DOS names.
-    fn link_count(&self, file: u64) -> u64
-        ensures { result ≡ link_count (tree_of self.now) file }
+    fn shown_link_count(&self, file: u64) -> u64
+        ensures { result ≡ shown_link_count (tree_of self.now) file }
     {
         let mut count = 0;
         'links: for link in &self.links {
@@ -124,7 +124,7 @@ impl PlainTree {
         };
         Ok(Answer::Stat {
             dir: node.dir,
-            links: self.link_count(file),
+            links: self.shown_link_count(file),
             size: self.size(node),
             flags: node.flags,
             security: node.security,
@@ -361,7 +361,7 @@ fn object_id(node: &Node) -> &[u8]
 
 // The first unnamed object id among attributes.
 fn first_object_id(attributes: &[RawAttr]) -> Option<&RawAttr>
-    ensures { lent result ≡ find is_object_id attributes.now }
+    ensures { lent result ≡ find is_unnamed_object_id attributes.now }
 {
     'attributes: for attribute in attributes {
         if attribute.kind == OBJECT_ID && attribute.name.as_slice().is_empty() {

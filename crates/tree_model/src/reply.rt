@@ -141,7 +141,7 @@ pub enum No {
     /// A file's attribute list would become too long.
     #[error("too many parts: {length} {more}")]
     TooManyParts { length: u64, more: u64 },
-    /// The index of a directory is too deep.
+    /// An index is too deep: of a directory, of reparse points or of object ids.
     #[error("an index is too deep")]
     TooDeep,
     /// Record 0 has no room for the table to grow.
@@ -159,8 +159,8 @@ pub enum No {
     /// A file's record is full, and it may not get another yet.
     #[error("a record is full: {need} {free}")]
     Overflow { need: u64, free: u64 },
-    /// The node to be removed has keys in a view index, and those may not be dropped yet.
-    #[error("keys in a view index")]
+    /// The node to be removed has an object id or a reparse point, and its keys in a view index may not be dropped yet.
+    #[error("an object id or a reparse point")]
     Linked,
 }
 

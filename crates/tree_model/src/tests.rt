@@ -25,6 +25,10 @@ fn name(alloc: Global, text: &str) -> Result<Name, Fail> {
     Ok(units_of_text(alloc, text.as_bytes())?)
 }
 
+fn octets(alloc: Global, bytes: &[u8]) -> Result<Octets, Fail> {
+    Ok(Octets::from_vec(Vec::from_slice(alloc, bytes)?))
+}
+
 fn path(alloc: Global, names: &[&str]) -> Result<Path, Fail> {
     let mut all = Vec::new(alloc);
     for text in names {
@@ -58,7 +62,7 @@ fn link(alloc: Global, parent: u64, text: &str, space: u8, child: u64) -> Result
 fn tree(alloc: Global) -> Result<PlainTree, Fail> {
     let point = Point {
         tag: 0xA000_0003,
-        bytes: Octets::from_vec(Vec::new(alloc)),
+        bytes: octets(alloc, &[1, 2, 3])?,
     };
     let mut nodes = Vec::new(alloc);
     for (number, dir, point) in [
@@ -146,37 +150,52 @@ fn a_large_directory(rt: HostRuntime) -> Result<(), Fail> {
     Ok(())
 }
 
-// Bytes by the unnamed stream, a stream `s`, and a packed one, of a file `/a`; `/d` is a directory.
-fn streamed(alloc: Global) -> Result<PlainTree, Fail> {
-    let mut streams = Vec::new(alloc);
-    for (text, content) in [
-        (
-            "",
-            Content::Plain(Octets::from_vec(Vec::from_slice(alloc, b"hello")?)),
-        ),
-        ("p", Content::Packed(70_000)),
-        ("s", Content::Plain(Octets::from_vec(Vec::new(alloc)))),
-    ] {
-        let name = if text.is_empty() {
-            Name::from_vec(Vec::new(alloc))
-        } else {
-            name(alloc, text)?
-        };
-        streams.push(Stream { name, content })?;
-    }
+// The tree above with a file `/a`, which has a second name in `/d`, and a DOS name there.
+fn tree_with(alloc: Global, file: Node) -> Result<PlainTree, Fail> {
     let mut tree = tree(alloc)?;
-    let mut file = node(alloc, false, None);
-    file.flags = 0x20;
-    file.streams = Streams::from_vec(streams);
     tree.nodes.push((40, file))?;
-    tree.links.push(link(alloc, 5, "a", 0, 40)?)?;
+    for (parent, text, space) in [(5, "a", 0), (27, "second", 1), (27, "SECOND~1", 2)] {
+        tree.links.push(link(alloc, parent, text, space, 40)?)?;
+    }
     Ok(tree)
+}
+
+fn stream(alloc: Global, text: &str, content: Content) -> Result<Stream, Fail> {
+    let name = if text.is_empty() {
+        Name::from_vec(Vec::new(alloc))
+    } else {
+        name(alloc, text)?
+    };
+    Ok(Stream { name, content })
+}
+
+// A file with bytes in its unnamed stream, an empty stream `s` and a packed one.
+fn streamed(alloc: Global) -> Result<Node, Fail> {
+    let mut streams = Vec::new(alloc);
+    streams.push(stream(alloc, "", Content::Plain(octets(alloc, b"hello")?))?)?;
+    streams.push(stream(alloc, "p", Content::Packed(70_000))?)?;
+    streams.push(stream(alloc, "s", Content::Plain(octets(alloc, b"")?))?)?;
+    let mut file = node(alloc, false, None);
+    file.times = [1, 2, 3, 4];
+    file.flags = 0x20;
+    file.security = 259;
+    file.streams = Streams::from_vec(streams);
+    Ok(file)
+}
+
+// The bytes of an answer, or why it is refused.
+fn data(answer: &Result<Answer, No>) -> Result<&[u8], No> {
+    match answer {
+        Ok(Answer::Data(bytes)) | Ok(Answer::ObjectId(bytes)) => Ok(bytes.as_slice()),
+        Ok(_) => Ok(b"another answer".as_slice()),
+        Err(refused) => Err(*refused),
+    }
 }
 
 #[test]
 fn streams_are_shown(rt: HostRuntime) -> Result<(), Fail> {
     let alloc = rt.alloc();
-    let tree = streamed(alloc)?;
+    let tree = tree_with(alloc, streamed(alloc)?)?;
     let rows: [(&str, Option<&str>, Result<&[u8], No>); 8] = [
         ("a", None, Ok(b"hello")),
         ("A", Some("S"), Ok(b"")),
@@ -194,12 +213,190 @@ fn streams_are_shown(rt: HostRuntime) -> Result<(), Fail> {
         };
         let path = path(alloc, &[text])?;
         let answer = tree.answer(alloc, &Command::Cat { path, stream });
-        let given = match &answer {
-            Ok(Answer::Data(bytes)) => Ok(bytes.as_slice()),
-            Ok(_) => Ok(b"another answer".as_slice()),
-            Err(refused) => Err(*refused),
+        assert_eq!(rt; data(&answer), want, "{text}");
+    }
+    let path = path(alloc, &["a"])?;
+    let Answer::Streams(shown) = tree.answer(alloc, &Command::Streams { path })? else {
+        return Err(Fail::from("another answer"));
+    };
+    let rows = [(false, 5, 0), (true, 70_000, 1), (false, 0, 1)];
+    assert_eq!(rt; shown.as_slice().len(), rows.len());
+    for (line, (packed, size, units)) in shown.as_slice().iter().zip(rows) {
+        assert_eq!(rt; line.packed, packed);
+        assert_eq!(rt; line.size, size);
+        assert_eq!(rt; line.name.as_slice().len(), units);
+    }
+    Ok(())
+}
+
+#[test]
+fn ranges_are_read(rt: HostRuntime) -> Result<(), Fail> {
+    let alloc = rt.alloc();
+    let tree = tree_with(alloc, streamed(alloc)?)?;
+    let rows: [(u64, u64, Result<&[u8], No>); 7] = [
+        (0, 5, Ok(b"hello")),
+        (1, 2, Ok(b"el")),
+        (3, 10, Ok(b"lo")), // what of the range lies below the size
+        (0, 32_768, Ok(b"hello")),
+        (1 << 40, 0, Ok(b"")),
+        (1 << 40, 1, Err(No::TooBig)),
+        (0, 32_769, Err(No::TooBig)),
+    ];
+    for (at, len, want) in rows {
+        let path = path(alloc, &["a"])?;
+        let stream = None;
+        let answer = tree.answer(
+            alloc,
+            &Command::Read {
+                path,
+                stream,
+                at,
+                len,
+            },
+        );
+        assert_eq!(rt; data(&answer), want, "{at} {len}");
+    }
+    Ok(())
+}
+
+// `cat` shows 65,536 bytes, and no more.
+#[test]
+fn a_large_stream(rt: HostRuntime) -> Result<(), Fail> {
+    let alloc = rt.alloc();
+    let mut bytes = Vec::new(alloc);
+    for _ in 0..65_536 {
+        bytes.push(7)?;
+    }
+    for fits in [true, false] {
+        let mut streams = Vec::new(alloc);
+        streams.push(stream(alloc, "", Content::Plain(octets(alloc, &bytes)?))?)?;
+        let mut file = node(alloc, false, None);
+        file.streams = Streams::from_vec(streams);
+        let tree = tree_with(alloc, file)?;
+        let path = path(alloc, &["a"])?;
+        let answer = tree.answer(alloc, &Command::Cat { path, stream: None });
+        let want = if fits {
+            Ok(bytes.as_slice())
+        } else {
+            Err(No::TooBig)
         };
-        assert_eq!(rt; given, want, "{text}");
+        assert!(rt; data(&answer) == want);
+        bytes.push(7)?;
+    }
+    Ok(())
+}
+
+#[test]
+fn a_file_is_shown(rt: HostRuntime) -> Result<(), Fail> {
+    let alloc = rt.alloc();
+    let tree = tree_with(alloc, streamed(alloc)?)?;
+    let file = path(alloc, &["a"])?;
+    let stat = tree.answer(alloc, &Command::Stat { path: file })?;
+    assert!(rt;
+        matches!(
+            stat,
+            Answer::Stat {
+                dir: false,
+                links: 2,
+                size: 5,
+                flags: 0x20,
+                security: 259,
+                created: 1,
+                modified: 2,
+                changed: 3,
+                accessed: 4,
+            }
+        )
+    );
+    // the root has no name that is shown, and no stream
+    let root = path(alloc, &[])?;
+    let stat = tree.answer(alloc, &Command::Stat { path: root })?;
+    assert!(rt;
+        matches!(
+            stat,
+            Answer::Stat {
+                dir: true,
+                links: 0,
+                size: 0,
+                ..
+            }
+        )
+    );
+    let file = path(alloc, &["d", "second"])?;
+    let attr = tree.answer(alloc, &Command::Attr { path: file })?;
+    assert!(rt; matches!(attr, Answer::Attr(0x20)));
+    let file = path(alloc, &["d", "SECOND~1"])?;
+    let sec = tree.answer(alloc, &Command::Sec { path: file })?;
+    assert!(rt; matches!(sec, Answer::Sec(259)));
+    Ok(())
+}
+
+#[test]
+fn reparse_points_are_shown(rt: HostRuntime) -> Result<(), Fail> {
+    let alloc = rt.alloc();
+    let tree = tree(alloc)?;
+    let there = path(alloc, &["r"])?;
+    let Answer::Reparse { tag, bytes } = tree.answer(alloc, &Command::Reparse { path: there })?
+    else {
+        return Err(Fail::from("another answer"));
+    };
+    assert_eq!(rt; tag, 0xA000_0003);
+    assert_eq!(rt; bytes.as_slice(), b"\x01\x02\x03".as_slice());
+    let none = path(alloc, &["d"])?;
+    let answer = tree.answer(alloc, &Command::Reparse { path: none });
+    assert_eq!(rt; data(&answer), Err(No::NoReparse));
+    Ok(())
+}
+
+// The first 16 bytes of the unnamed object id; none of one that is packed, and none without one.
+#[test]
+fn object_ids_are_shown(rt: HostRuntime) -> Result<(), Fail> {
+    let alloc = rt.alloc();
+    for (kind, value, want) in [
+        (
+            0x40,
+            Content::Plain(octets(alloc, b"0123456789abcdefghij")?),
+            b"0123456789abcdef".as_slice(),
+        ),
+        (0x40, Content::Plain(octets(alloc, b"0123")?), b"0123".as_slice()),
+        (0x40, Content::Packed(20), &[]),
+        (
+            0x100,
+            Content::Plain(octets(alloc, b"0123456789abcdefghij")?),
+            &[],
+        ),
+    ] {
+        let mut others = Vec::new(alloc);
+        let name = Name::from_vec(Vec::new(alloc));
+        others.push(RawAttr { kind, name, value })?;
+        let mut file = node(alloc, false, None);
+        file.others = RawAttrs::from_vec(others);
+        let tree = tree_with(alloc, file)?;
+        let path = path(alloc, &["a"])?;
+        let answer = tree.answer(alloc, &Command::Objid { path });
+        assert_eq!(rt; data(&answer), Ok(want));
+    }
+    Ok(())
+}
+
+// What `ls` lists: a DOS name, a file, directories, and what stands in one; then hidden names.
+#[test]
+fn names_are_listed(rt: HostRuntime) -> Result<(), Fail> {
+    let alloc = rt.alloc();
+    let tree = tree(alloc)?;
+    let rows = [
+        None,
+        Some(false),
+        Some(true),
+        Some(true),
+        Some(false),
+        Some(false),
+    ];
+    for (link, want) in tree.links.iter().zip(rows) {
+        assert_eq!(rt; tree.listed(link).map(|(dir, _)| dir), want);
+    }
+    for link in &tree.hidden {
+        assert!(rt; tree.listed(link).is_none());
     }
     Ok(())
 }

@@ -62,7 +62,7 @@ pub struct Link {
 /// What a path leads to.
 #[derive(Debug, Drop)]
 pub enum Found {
-    /// The root, which no link leads to.
+    /// The root, which no link leads to that is shown.
     Root,
     /// What this link names.
     Link(Link),

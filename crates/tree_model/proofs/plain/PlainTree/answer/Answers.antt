@@ -26,14 +26,14 @@ returns-in-Stat c facts now session =
     let path = c.in-Stat.path in
     by_case facts tree now session c.args.command.now (commands.Stat path) (and_then (file_at tree path) (looked tree (commands.Stat path)))
     c.stat.result c.in-Stat.is (laws.stat-due facts tree now session path) (laws.told-same (and_then (file_at tree path) (looked tree
-        (commands.Stat path))) c.stat.result c.stat.ensures)
+    (commands.Stat path))) c.stat.result c.stat.ensures)
 
 pub returns-in-Streams : goal.returns-in-Streams
 returns-in-Streams c facts now session =
     let tree = tree_of c.args.self.now in
     let path = c.in-Streams.path in
     by_case facts tree now session c.args.command.now (commands.Streams path) (and_then (file_at tree path) (looked tree
-        (commands.Streams path)))
+    (commands.Streams path)))
     c.streams.result c.in-Streams.is (laws.streams-due facts tree now session path) c.streams.ensures
 
 pub returns-in-Attr : goal.returns-in-Attr
@@ -42,7 +42,7 @@ returns-in-Attr c facts now session =
     let path = c.in-Attr.path in
     by_case facts tree now session c.args.command.now (commands.Attr path) (and_then (file_at tree path) (looked tree (commands.Attr path)))
     c.attr.result c.in-Attr.is (laws.attr-due facts tree now session path) (laws.told-same (and_then (file_at tree path) (looked tree
-        (commands.Attr path))) c.attr.result c.attr.ensures)
+    (commands.Attr path))) c.attr.result c.attr.ensures)
 
 pub returns-in-Sec : goal.returns-in-Sec
 returns-in-Sec c facts now session =
@@ -50,14 +50,14 @@ returns-in-Sec c facts now session =
     let path = c.in-Sec.path in
     by_case facts tree now session c.args.command.now (commands.Sec path) (and_then (file_at tree path) (looked tree (commands.Sec path)))
     c.sec.result c.in-Sec.is (laws.sec-due facts tree now session path) (laws.told-same (and_then (file_at tree path) (looked tree
-        (commands.Sec path))) c.sec.result c.sec.ensures)
+    (commands.Sec path))) c.sec.result c.sec.ensures)
 
 pub returns-in-Objid : goal.returns-in-Objid
 returns-in-Objid c facts now session =
     let tree = tree_of c.args.self.now in
     let path = c.in-Objid.path in
     by_case facts tree now session c.args.command.now (commands.Objid path) (and_then (file_at tree path) (looked tree
-        (commands.Objid path)))
+    (commands.Objid path)))
     c.objid.result c.in-Objid.is (laws.objid-due facts tree now session path) c.objid.ensures
 
 pub returns-in-Reparse : goal.returns-in-Reparse
@@ -88,4 +88,4 @@ returns-in-Read c facts now session =
     (and_then (file_at tree path) (read_of tree (stream_name stream) from len))
     c.read.result c.in-Read.is (laws.read-due facts tree now session path stream from len)
     (subst (λ name. Tells (and_then (file_at tree path)
-        (read_of tree name from len)) c.read.result) c.stream_name-in-Read.ensures c.read.ensures)
+    (read_of tree name from len)) c.read.result) c.stream_name-in-Read.ensures c.read.ensures)

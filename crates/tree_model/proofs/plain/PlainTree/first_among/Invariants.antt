@@ -7,5 +7,5 @@ use Rattle.tree_model.proofs.plain.PlainTree.first_among.Given as goal
 abbrev pub invariant-links : goal.invariant-links
 invariant-links l =
     least (link_above (fold_of l.self.case)) (lent l.best) (filter (is_named (fold_of l.self.case) l.dir l.name l.exact)
-        (drop l.link-index l.links))
+    (drop l.link-index l.links))
     ≡ least (link_above (fold_of l.self.case)) (lent l.fn.best) (filter (is_named (fold_of l.self.case) l.dir l.name l.exact) l.links)

@@ -1,5 +1,5 @@
 use Rattle.ntfs_def.specs.KeyOrder.{fold_of}
-use Rattle.tree_model.specs.Paths.{children}
+use Rattle.tree_model.specs.Paths.{links_in_order}
 use Rattle.tree_model.specs.Plain.{has_name, is_named, tree_of}
 use Rattle.tree_model.specs.Tree.{is_in}
 use Rattle.tree_model.proofs.LeastLaws.{least-both}
@@ -7,7 +7,7 @@ use Rattle.tree_model.proofs.LinkOrder.{link_order}
 use Rattle.tree_model.proofs.plain.PlainTree.first_named.Goals as goal
 
 pub returns : goal.returns
-unfolding children tree_of
+unfolding links_in_order tree_of
 returns c =
     let fold = fold_of c.args.self.now.case in
     let is_wanted = is_named fold c.args.dir c.args.name.now c.args.exact in

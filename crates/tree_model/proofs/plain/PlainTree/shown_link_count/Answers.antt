@@ -1,6 +1,6 @@
 use Rattle.std.proofs.Common.{arith, zero-add}
 use Rattle.tree_model.specs.Plain.{tree_of}
-use Rattle.tree_model.proofs.plain.PlainTree.link_count.Goals as goal
+use Rattle.tree_model.proofs.plain.PlainTree.shown_link_count.Goals as goal
 
 pub links-init : goal.links-init
 unfolding tree_of
