@@ -2,7 +2,12 @@
 //! fails, with the least number that breaks it, or the tables of the volume.
 #![tactic(auto)]
 
+mod case;
 mod clause;
+mod clusters;
 mod order;
+mod records;
 mod scan;
 mod start;
+mod unnamed;
+mod values;

@@ -6,7 +6,7 @@ ghost use Rattle.volume_def.specs.Files.{Records, record_in, records_of};
 ghost use Rattle.volume_def.specs.Sound.{HoldBelow};
 ghost use Rattle.volume_def.specs.Table.{IsWellFormed, LiesOn};
 ghost use Rattle.vol_stage.specs.Staged.{StageReads, disk_of};
-ghost use Rattle.mft_table.specs.Blocks.{reader_layout};
+ghost use Rattle.mft_table.specs.Tables.{reader_layout};
 ghost use Rattle.mft_table.specs.MountNos.{CountsMount};
 ghost use Rattle.volume_facts.specs.Facts.{FactsNote};
 ghost use Rattle.check_records.specs.Refusals.{IsRefusalOf};

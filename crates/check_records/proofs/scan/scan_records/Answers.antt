@@ -2,7 +2,7 @@ use Rattle.std.proofs.Common.{rules, ◌≡◌, ◌<◌, ◌+◌, ◌*◌, ℕ, 
 use Rattle.ntfs_def.specs.Record.{is_in_use}
 use Rattle.volume_def.specs.Files.{record_in, records_of}
 use Rattle.volume_def.specs.Table.{IsWellFormed}
-use Rattle.mft_table.specs.Blocks.{reader_layout}
+use Rattle.mft_table.specs.Tables.{reader_layout}
 use Rattle.mft_table.proofs.StreamReads.{StageReads-then}
 use Rattle.check_records.specs.Refusals.{IsFirstBroken}
 use Rattle.check_records.specs.Views.{stage_view}
