@@ -1,6 +1,6 @@
 -- The value of an attribute, by the part that tells its sizes, and its first bytes.
-use Rattle.std.proofs.Common.{◌≡◌, ◌<◌, ◌≤◌, ◌+◌, ◌-◌, ◌*◌, ◌/◌, ◌%◌, ◌&&◌, ℕ, Bool, true, false, List, [], ◌∷◌, ◌++◌, length, length-append, map, replicate, get_or, take, Option, Some, None, refl, sym, ap, subst, inl, inr, min, ◌∙◌, arith}
-use Rattle.std.specs.Prelude.{◌==◌, find, filter, slice_get, slice_index, slice_range, unwrap_or}
+use Rattle.std.proofs.Common.{◌≡◌, ◌<◌, ◌≤◌, ◌+◌, ◌-◌, ◌*◌, ◌/◌, ◌%◌, ◌&&◌, ℕ, Bool, true, false, List, [], ◌∷◌, ◌++◌, length, length-append, map, replicate, get_or, take, Option, Some, None, Ok, Err, refl, sym, ap, subst, inl, inr, min, ◌∙◌, arith}
+use Rattle.std.specs.Prelude.{◌==◌, Result, IfOk, OnOk, find, filter, slice_get, slice_index, slice_range, unwrap_or}
 use Rattle.std.specs.Int.{bit_at}
 use Rattle.std.specs.Str.{bytes_eq}
 use Rattle.std.specs.List.{range_with_len}
@@ -32,6 +32,9 @@ flags_in-piece value bytes count is enough =
 pub whole-piece : (value bytes : List ℕ) → IsPieceOf value 0 bytes → length bytes ≡ length value → bytes ≡ value
 whole-piece value bytes is long = same_number_lists bytes value long (λ k lt. let at : 0 + k ≡ k = omega arith in is k lt ∙ ap (slice_index value) at)
 
+abbrev zero_byte : ℕ
+zero_byte = 0
+
 -- What was read of a value from its first byte on, with zeros behind it where the value ends.
 pub start-read : (value piece : List ℕ) (n more : ℕ) → piece ≡ slice_range value 0 (0 + n) → n ≤ length value
     → (0 < more → length value ≤ n) → IsPieceOf value 0 (piece ++ replicate more 0)
@@ -40,14 +43,15 @@ start-read value piece n more is within rest i lt =
     let same : piece ≡ take n value = is ∙ ap (λ k. take k value) all_of in
     let long : length piece ≡ n = ap length same ∙ length-take-le n value within in
     let at : 0 + i ≡ i = omega arith in
-    let all = length-append piece (replicate more 0) in
-    let zeros = length-replicate more 0 in
+    let zeros : length (replicate more zero_byte) ≡ more = length-replicate more zero_byte in
+    let all : length (piece ++ replicate more zero_byte) ≡ n + more = length-append piece (replicate more zero_byte) ∙ ap (λ k. length piece + k) zeros ∙ ap (λ k. k + more) long in
+    let inside : i < n + more = subst (λ k. i < k) all lt in
     elim (cases_lt i n) [
       | inl low ↦
-          get_or_append_left piece (replicate more 0) 0 i (omega arith) ∙ ap (λ p. get_or p i 0) same ∙ get_or-take n value i 0 low ∙ ap (slice_index value) (sym at)
+          get_or_append_left piece (replicate more 0) 0 i (omega (arith, low, long)) ∙ ap (λ p. get_or p i 0) same ∙ get_or-take n value i 0 low ∙ ap (slice_index value) (sym at)
       | inr high ↦
-          get_or-append_right piece (replicate more 0) n i 0 long high ∙ get_or-replicate more (i - n) 0 0 (omega arith)
-          ∙ sym (get_or_past value i 0 (omega (arith, rest (omega arith)))) ∙ ap (slice_index value) (sym at)
+          get_or-append_right piece (replicate more 0) n i 0 long high ∙ get_or-replicate more (i - n) 0 0 (omega (arith, inside, high))
+          ∙ sym (get_or_past value i 0 (omega (arith, high, rest (omega (arith, inside, high))))) ∙ ap (slice_index value) (sym at)
     ]
 
 both-true : (b c : Bool) → (b && c) ≡ true → (b ≡ true) × (c ≡ true)
@@ -80,3 +84,13 @@ sought-value view kind all part e =
     let (same, name) = sought-part kind all part e in
     let like : parts_like part all ≡ filter (is_of kind []) all = ap (λ k. filter (is_of k part.name) all) same ∙ ap (λ n. filter (is_of kind n) all) name in
     by-content view (filter (is_of kind []) all) all part part.content refl e like
+
+-- A fact of a value that is there, and another that follows.
+pub ok-weaker : {T E : Type 0} {P Q : T → Type 0} (r : Result T E) → ((x : T) → P x → Q x) → IfOk r P → IfOk r Q
+ok-weaker (Ok x) gives p = gives x p
+ok-weaker (Err e) gives p = tt
+
+-- a fact that holds in any case
+pub ok-always : {T E P : Type 0} (r : Result T E) → P → OnOk r P
+ok-always (Ok x) p = p
+ok-always (Err e) p = tt

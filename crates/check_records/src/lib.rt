@@ -2,7 +2,6 @@
 //! fails, with the least number that breaks it, or the tables of the volume.
 #![tactic(auto)]
 
-mod case;
 mod clause;
 mod clusters;
 mod order;
