@@ -137,7 +137,7 @@ case-table-held view file holds has =
     let same = sym (unnamed-held view UPCASE DATA file holds) in (
       subst IsPlain same has.plain,
       subst (λ ps. told_size (first_part ps) ≡ case_table_len) same
-      (sym (value-length view.cluster (cluster_bytes view.layout) (case_parts view)) ∙ has.whole),
+          (sym (value-length view.cluster (cluster_bytes view.layout) (case_parts view)) ∙ has.whole),
     )
 
 pub no-case-table : (view : VolumeView) → ¬ (HasCaseTable view) → IsLeastFailing (MeetsCaseTable view) (Some UPCASE)

@@ -215,8 +215,7 @@ TellsPlaces-value xs n a old new none placed extents covered tells =
     let no_runs : part_runs (part_of n a) ≡ [] = ap (λ r. unwrap_or r []) runs in
     let few = few-covered xs old tells in
     let clusters = ap total_clusters no_runs in
-    TellsPlaces-more xs (part_of n a) old new
-    (
+    TellsPlaces-more xs (part_of n a) old new (
       λ t. (sym placed ∙ t, subst (All (λ run. IsSome run.lcn)) (sym no_runs) (All-nil (λ (run : Run). IsSome run.lcn))),
       λ (t, _). placed ∙ t,
     )
@@ -245,8 +244,7 @@ pub TellsPlaces-runs : (xs : List Part) (n : ℕ) (a : Attribute) (text : List �
 TellsPlaces-runs xs n a text runs old new its is placed extents covered tells =
     let (extent, own) = extent-runs a.body text its in
     let same : part_runs (part_of n a) ≡ runs = ap (λ r. unwrap_or r []) (own ∙ is) in
-    TellsPlaces-more xs (part_of n a) old new
-    (
+    TellsPlaces-more xs (part_of n a) old new (
       λ t. let (before, here) = placed.0 t in (before, subst (All (λ run. IsSome run.lcn)) (sym same) here),
       λ (before, here). placed.1 (before, subst (All (λ run. IsSome run.lcn)) same here),
     )

@@ -20,8 +20,8 @@ loop-attribute-preserved-in-Continue-1 c =
       seen ++ a ∷ [],
       append_assoc seen (a ∷ []) (attributes_left c.next.new.self) ∙ sym (ap (λ xs. seen ++ xs) c.in-Some.ensures.steps) ∙ split,
       subst (λ ps. TellsPlaces ps c.note.new.self)
-      (sym (unnamed_of-yes c.args.kind seen a (sym (c.is_unnamed.ensures 0) ∙ c.if-is_unnamed.true)))
-      (c.in_ok-note.ensures 0 (unnamed_of c.args.kind seen) tells),
+          (sym (unnamed_of-yes c.args.kind seen a (sym (c.is_unnamed.ensures 0) ∙ c.if-is_unnamed.true)))
+          (c.in_ok-note.ensures 0 (unnamed_of c.args.kind seen) tells),
     )
 
 pub loop-attribute-preserved : goal.loop-attribute-preserved
@@ -31,7 +31,7 @@ loop-attribute-preserved c =
       seen ++ a ∷ [],
       append_assoc seen (a ∷ []) (attributes_left c.next.new.self) ∙ sym (ap (λ xs. seen ++ xs) c.in-Some.ensures.steps) ∙ split,
       subst (λ ps. TellsPlaces ps c.loop-attribute.placement)
-      (sym (unnamed_of-no c.args.kind seen a (sym (c.is_unnamed.ensures 0) ∙ c.if-is_unnamed.false))) tells,
+          (sym (unnamed_of-no c.args.kind seen a (sym (c.is_unnamed.ensures 0) ∙ c.if-is_unnamed.false))) tells,
     )
 
 pub returns : goal.returns
