@@ -2,3 +2,4 @@ pub mod Clauses
 pub mod Refusals
 pub mod Views
 pub mod Tables
+pub mod Unnamed

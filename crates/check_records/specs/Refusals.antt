@@ -44,3 +44,10 @@ IsRefusal told (no.Refused k n) = WhereTold told (λ image.
 IsRefusal told no.Dirty = ⊥
 IsRefusal told no.Device = Unit {0}
 IsRefusal told no.Memory = Unit {0}
+
+-- the disk failed, or there was no memory
+abbrev pub IsFault : MountNo → Type 0
+IsFault (no.Refused k n) = ⊥
+IsFault no.Dirty = ⊥
+IsFault no.Device = Unit {0}
+IsFault no.Memory = Unit {0}

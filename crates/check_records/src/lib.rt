@@ -4,6 +4,10 @@
 
 mod by_facts;
 mod clause;
+mod clusters;
 mod order;
+mod records;
 mod scan;
 mod start;
+mod unnamed;
+mod values;

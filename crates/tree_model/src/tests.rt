@@ -358,7 +358,11 @@ fn object_ids_are_shown(rt: HostRuntime) -> Result<(), Fail> {
             Content::Plain(octets(alloc, b"0123456789abcdefghij")?),
             b"0123456789abcdef".as_slice(),
         ),
-        (0x40, Content::Plain(octets(alloc, b"0123")?), b"0123".as_slice()),
+        (
+            0x40,
+            Content::Plain(octets(alloc, b"0123")?),
+            b"0123".as_slice(),
+        ),
         (0x40, Content::Packed(20), &[]),
         (
             0x100,
