@@ -1,6 +1,6 @@
 use Rattle.std.proofs.Common.{◌≤◌, ◌^◌, sym, subst, arith}
 use Rattle.ntfs_def.specs.Runs.{total_clusters}
-use Rattle.volume_facts.proofs.RunLaws.{IsRunListFrom-total}
+use Rattle.volume_facts.proofs.TotalLaws.{IsRunListFrom-total}
 use Rattle.check_records.proofs.unnamed.clusters_of.Goals as goal
 
 pub total_of-requires : goal.total_of-requires
