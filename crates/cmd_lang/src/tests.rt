@@ -306,11 +306,31 @@ fn streams(alloc: Global) -> Result<Answer, AllocError> {
     Ok(Answer::Streams(ShownStreams::from_vec(lines)))
 }
 
-// Each kind of answer once, with its text.
-fn answers(alloc: Global) -> Result<Vec<(Answer, &'static str)>, AllocError> {
-    let mut answers = Vec::new(alloc);
-    answers.push((Answer::Done, "ok\n"))?;
-    answers.push((listing(alloc)?, "dir d\nfile a%0020é😀%D83D\nok\n"))?;
+fn sink(alloc: Global, room: usize) -> Result<MemSink, Fail> {
+    let mut sink = MemSink::new(alloc, Vec::new(alloc));
+    sink.reserve(room)?;
+    Ok(sink)
+}
+
+// Whether an answer is printed so.
+fn prints(alloc: Global, answer: Answer, text: &str) -> Result<bool, Fail> {
+    let mut out = sink(alloc, 1000)?;
+    let printed = print_reply(&Reply::Ok(answer), &mut out);
+    Ok(printed == Ok(()) && out.bytes() == text.as_bytes())
+}
+
+#[test]
+fn numbers_are_printed(rt: HostRuntime) -> Result<(), Fail> {
+    let alloc = rt.alloc();
+    assert!(rt; prints(alloc, Answer::Done, "ok\n")?);
+    assert!(rt; prints(alloc, Answer::Attr(1), "attr 0001\nok\n")?);
+    assert!(rt; prints(alloc, Answer::Sec(256), "sec 256\nok\n")?);
+    assert!(rt; prints(alloc, Answer::Handle(63), "handle 63\nok\n")?);
+    Ok(())
+}
+
+#[test]
+fn rows_of_numbers_are_printed(rt: HostRuntime) -> Result<(), Fail> {
     let stat = Answer::Stat {
         dir: false,
         links: 1,
@@ -322,50 +342,51 @@ fn answers(alloc: Global) -> Result<Vec<(Answer, &'static str)>, AllocError> {
         changed: 1002,
         accessed: 18_446_744_073_709_551_615,
     };
-    answers.push((
-        stat,
-        "stat file 1 5 0020 256 1000 1001 1002 18446744073709551615\nok\n",
-    ))?;
-    answers.push((links(alloc)?, "link 2 /d/f\nlink 0 /\nok\n"))?;
-    answers.push((
-        Answer::Data(octets(alloc, b"hello")?),
-        "data 68656c6c6f\nok\n",
-    ))?;
-    answers.push((Answer::Data(octets(alloc, b"")?), "data -\nok\n"))?;
-    answers.push((streams(alloc)?, "packed 0\nstream 2 s\nok\n"))?;
-    answers.push((Answer::Attr(1), "attr 0001\nok\n"))?;
-    answers.push((Answer::Sec(256), "sec 256\nok\n"))?;
-    answers.push((Answer::Sd(octets(alloc, &[1, 0, 0x80])?), "sd 010080\nok\n"))?;
-    let point = Answer::Reparse {
-        tag: 0xA000_000C,
-        bytes: octets(alloc, &[1, 2])?,
-    };
-    answers.push((point, "reparse a000000c 0102\nok\n"))?;
-    answers.push((Answer::ObjectId(octets(alloc, b"")?), "objid -\nok\n"))?;
     let room = Answer::Df {
         clusters: 2048,
         free: 1913,
         records: 64,
         free_records: 35,
     };
-    answers.push((room, "df 2048 1913 64 35\nok\n"))?;
-    answers.push((Answer::Handle(63), "handle 63\nok\n"))?;
-    Ok(answers)
-}
-
-fn sink(alloc: Global, room: usize) -> Result<MemSink, Fail> {
-    let mut sink = MemSink::new(alloc, Vec::new(alloc));
-    sink.reserve(room)?;
-    Ok(sink)
+    assert!(rt;
+        prints(
+            rt.alloc(),
+            stat,
+            "stat file 1 5 0020 256 1000 1001 1002 18446744073709551615\nok\n"
+        )?
+    );
+    assert!(rt; prints(rt.alloc(), room, "df 2048 1913 64 35\nok\n")?);
+    Ok(())
 }
 
 #[test]
-fn answers_are_printed(rt: HostRuntime) -> Result<(), Fail> {
-    for (answer, text) in answers(rt.alloc())? {
-        let mut out = sink(rt.alloc(), 1000)?;
-        assert_eq!(rt; print_reply(&Reply::Ok(answer), &mut out), Ok(()));
-        assert!(rt; out.bytes() == text.as_bytes(), "{text}");
-    }
+fn bytes_are_printed(rt: HostRuntime) -> Result<(), Fail> {
+    let alloc = rt.alloc();
+    let data = Answer::Data(octets(alloc, b"hello")?);
+    assert!(rt; prints(alloc, data, "data 68656c6c6f\nok\n")?);
+    let sd = Answer::Sd(octets(alloc, &[1, 0, 0x80])?);
+    assert!(rt; prints(alloc, sd, "sd 010080\nok\n")?);
+    let id = Answer::ObjectId(octets(alloc, b"")?);
+    assert!(rt; prints(alloc, id, "objid -\nok\n")?);
+    Ok(())
+}
+
+#[test]
+fn points_are_printed(rt: HostRuntime) -> Result<(), Fail> {
+    let point = Answer::Reparse {
+        tag: 0xA000_000C,
+        bytes: octets(rt.alloc(), &[1, 2])?,
+    };
+    assert!(rt; prints(rt.alloc(), point, "reparse a000000c 0102\nok\n")?);
+    Ok(())
+}
+
+#[test]
+fn lists_are_printed(rt: HostRuntime) -> Result<(), Fail> {
+    let alloc = rt.alloc();
+    assert!(rt; prints(alloc, listing(alloc)?, "dir d\nfile a%0020é😀%D83D\nok\n")?);
+    assert!(rt; prints(alloc, links(alloc)?, "link 2 /d/f\nlink 0 /\nok\n")?);
+    assert!(rt; prints(alloc, streams(alloc)?, "packed 0\nstream 2 s\nok\n")?);
     Ok(())
 }
 
