@@ -6,7 +6,6 @@ mod digits;
 mod held;
 mod laws;
 mod line;
-mod name;
 mod numbers;
 mod parse;
 mod paths;

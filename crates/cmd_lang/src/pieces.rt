@@ -6,8 +6,7 @@ ghost use Rattle.cmd_lang.specs.Output.{output, Prints};
 ghost use Rattle.cmd_lang.specs.Printed.{bytes_text, path_text, step_text};
 
 use crate::held::{Held, put};
-use crate::name::first_text;
-use vol_bytes::Name;
+use vol_bytes::{Name, first_text};
 use vol_disk::{Failed, Sink};
 
 /// The most bytes whose digits are laid out at once.

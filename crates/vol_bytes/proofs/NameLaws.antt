@@ -1,5 +1,5 @@
 -- The text of a name, by its first character.
-use Rattle.std.proofs.Common.{◌≡◌, ℕ, ◌<◌, ◌≤◌, List, [], ◌∷◌, ◌++◌, length, drop, get_or, true, false, refl, append-nil, append_assoc, sym, ◌∙◌, arith}
+use Rattle.std.proofs.Common.{◌≡◌, ℕ, ◌<◌, ◌≤◌, List, [], ◌∷◌, ◌++◌, length, drop, get_or, true, false, refl, append-nil, sym, ◌∙◌, arith}
 use Rattle.std.proofs.lemmas.List.{drop_all}
 use Rattle.std.specs.Prelude.{encode_utf8}
 use Rattle.std.specs.Char.Utf16.{surrogate_pair_char}
@@ -21,12 +21,6 @@ name_text-unit [] some lone = absurd (omega arith)
 name_text-unit (unit ∷ []) some lone = sym (append-nil _)
 name_text-unit (unit ∷ next ∷ units) some lone =
     let apart = lone (omega arith) in rw apart refl
-
--- a text with the front of the units behind it
-pub printed-front : (old new front units : List ℕ) (n : ℕ) → new ≡ old ++ front
-    → name_text units ≡ front ++ name_text (drop n units)
-    → new ++ name_text (drop n units) ≡ old ++ name_text units
-printed-front old new front units n pushed is = rw (pushed, is) (append_assoc old front (name_text (drop n units)))
 
 -- when all units are printed
 pub printed-all : (text units : List ℕ) (at : ℕ) → length units ≤ at

@@ -4,6 +4,7 @@
 ghost use Rattle.std.specs.Prelude.{◌≡◌, ◌+◌, ◌≤◌, length};
 ghost use Rattle.vol_bytes.specs.Field.{SameOutside, u16_at, u32_at, u64_at};
 
+mod character;
 mod laws;
 mod letter;
 mod reading;
@@ -13,6 +14,7 @@ mod tests;
 mod text;
 
 use byteorder::{ByteOrder, LittleEndian};
+pub use character::{FirstText, first_text};
 pub use laws::name_text_laws;
 pub use reading::units_of_text;
 pub use small::{Name, Octets};

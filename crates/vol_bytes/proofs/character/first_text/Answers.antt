@@ -2,7 +2,7 @@ use Rattle.std.proofs.Common.{◌++◌, drop, ap, sym, ◌∙◌}
 use Rattle.std.specs.Prelude.{encode_utf8}
 use Rattle.vol_bytes.specs.NameText.{name_text}
 use Rattle.vol_bytes.proofs.NameLaws.{name_text-pair, name_text-unit}
-use Rattle.cmd_lang.proofs.name.first_text.Goals as goal
+use Rattle.vol_bytes.proofs.character.first_text.Goals as goal
 
 pub returns-then-begins_with_pair-clause-printed : goal.returns-then-begins_with_pair-clause-printed
 returns-then-begins_with_pair-clause-printed c =

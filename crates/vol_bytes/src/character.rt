@@ -5,10 +5,10 @@ ghost use Rattle.vol_bytes.specs.NameText.{are_pair, escape_digit, escape_of, is
 
 use arrayvec::ArrayVec;
 
-/// The text of a character.
+/// The text of a character: at most four bytes in UTF-8, or the five of an escape.
 type CharText = ArrayVec<u8, 5>;
 
-/// The text of the first character of a name, and how many units it has.
+/// The printed form of the first character of a name, and how many units it stands for.
 #[derive(Drop)]
 pub struct FirstText {
     pub text: CharText,
@@ -84,7 +84,7 @@ fn begins_with_pair(units: &[u16]) -> bool
     }
 }
 
-/// The text of the first character.
+/// The printed form of the first character of a name: a character of one unit or of a pair in UTF-8, or an escape.
 pub fn first_text(units: &[u16]) -> FirstText
     requires { 0 < length units.now }
     ensures some { 0 < result.units }
