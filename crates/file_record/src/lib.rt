@@ -15,4 +15,5 @@ mod tests;
 pub use error::FileNo;
 pub use held::Held;
 pub use iter::FileAttributes;
+pub use list::{list_of, read_list};
 pub use parts::FileParts;

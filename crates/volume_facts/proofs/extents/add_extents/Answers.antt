@@ -6,20 +6,19 @@ use Rattle.attr_view.specs.View.{attribute_of}
 use Rattle.volume_def.specs.Files.{part_of}
 use Rattle.volume_facts.specs.declared.extents.Extent.{Extent}
 use Rattle.volume_facts.specs.Extents.{Outline, outline_of, outlined}
-use Rattle.volume_facts.proofs.extents.extents_of.Goals as goal
+use Rattle.volume_facts.proofs.extents.add_extents.Goals as goal
 
 abbrev outlines_of : ℕ → List Attribute → List Outline
 outlines_of n attributes = map outline_of (map (part_of n) attributes)
 
 pub loop-attribute-init : goal.loop-attribute-init
 loop-attribute-init c = λ n.
-    ap (λ es. map outlined es ++ outlines_of n (attributes_left c.into_iter-attribute-iterator.result)) c.new-extents.ensures.items
-    ∙ ap (λ it. outlines_of n (attributes_left it)) c.into_iter-attribute-iterator.ensures.into_iter_gives
-    ∙ ap (outlines_of n) c.attributes-attribute-items.ensures
+    ap (λ xs. map outlined c.args.extents.now.items ++ outlines_of n xs)
+    (ap attributes_left c.into_iter-attribute-iterator.ensures.into_iter_gives ∙ c.attributes-attribute-items.ensures)
 
-one_more : (n : ℕ) (items pushed : List Extent) (extent : Extent) (left rest all : List Attribute) (attribute : Attribute)
+one_more : (n : ℕ) (items pushed : List Extent) (extent : Extent) (left rest : List Attribute) (all : List Outline) (attribute : Attribute)
     → pushed ≡ items ++ extent ∷ [] → left ≡ attribute ∷ rest → outlined extent ≡ outline_of (part_of n attribute)
-    → map outlined items ++ outlines_of n left ≡ outlines_of n all → map outlined pushed ++ outlines_of n rest ≡ outlines_of n all
+    → map outlined items ++ outlines_of n left ≡ all → map outlined pushed ++ outlines_of n rest ≡ all
 one_more n items pushed extent left rest all attribute more step same before =
     ap (λ es. map outlined es ++ outlines_of n rest) more
     ∙ ap (λ os. os ++ outlines_of n rest) (map-append outlined items (extent ∷ []))
