@@ -2,6 +2,7 @@
 #![tactic(auto)]
 
 mod error;
+mod gather;
 mod held;
 mod iter;
 mod list;
