@@ -9,3 +9,5 @@ pub mod BillLaws
 pub mod IndexRoomLaws
 pub mod NamesLaws
 pub mod SessionLaws
+pub mod PlaceLaws
+pub mod FactsLaws

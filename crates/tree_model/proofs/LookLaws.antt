@@ -4,14 +4,16 @@ use Rattle.std.proofs.Common.{Err, refl, sym, ◌∙◌}
 use Rattle.tree_model.specs.Answers.{answer_of}
 use Rattle.tree_model.specs.Cases.{is_wide}
 use Rattle.tree_model.specs.Paths.{and_then, found_file, resolve}
-use Rattle.tree_model.specs.Plain.{Tells, cat_of, file_at, looked, read_of, reparse_of}
+use Rattle.tree_model.specs.Plain.{Tells, cat_of, df_of, AreTold, file_at, links_of, looked, ls_of, read_of, reparse_of}
 use Rattle.tree_model.specs.Refusals.{Facts, outcome}
 use Rattle.tree_model.specs.Step.{due}
 use Rattle.tree_model.specs.Subjects.{content_named, is_directory, locate, stream_name}
 use Rattle.tree_model.specs.Tree.{Tree, node_of}
 use Rattle.tree_model.specs.declared.command.Command.{Command}
 use Rattle.tree_model.specs.declared.command.Command.TheVariants as c
+use Rattle.tree_model.specs.declared.plain_facts.PlainFacts.{PlainFacts}
 use Rattle.tree_model.specs.declared.reply.Answer.{Answer}
+use Rattle.tree_model.specs.declared.reply.Answer.TheVariants as a
 use Rattle.tree_model.specs.declared.reply.No.{No}
 use Rattle.tree_model.specs.declared.tree.Content.{Content}
 use Rattle.tree_model.specs.declared.tree.Content.TheVariants.{Packed, Plain}
@@ -25,6 +27,27 @@ module _ (facts : Facts) (tree : Tree) (now session : ℕ) (path : List (List �
 
   abbrev Follows : Command → ((ℕ × Option Node) → Result Answer No) → Type 0
   Follows command of_file = due_here command ≡ and_then (file_at tree path) of_file
+
+  pub ls-due : Follows (c.Ls path) (ls_of tree)
+  unfolding due outcome locate answer_of
+  ls-due = by (resolve tree path) refl
+    where
+      by_directory : (found : Found) → resolve tree path ≡ Ok found → (b : Bool) → is_directory (node_of tree (found_file found)) ≡ b
+          → Follows (c.Ls path) (ls_of tree)
+      by_directory found e true d = rw (e, d) refl
+      by_directory found e false d = rw (e, d) refl
+
+      by : (r : Result Found No) → resolve tree path ≡ r → Follows (c.Ls path) (ls_of tree)
+      by (Err refused) e = rw e refl
+      by (Ok found) e = by_directory found e _ refl
+
+  pub links-due : Follows (c.Links path) (links_of tree)
+  unfolding due outcome locate answer_of
+  links-due = by (resolve tree path) refl
+    where
+      by : (r : Result Found No) → resolve tree path ≡ r → Follows (c.Links path) (links_of tree)
+      by (Err refused) e = rw e refl
+      by (Ok found) e = rw e refl
 
   pub stat-due : Follows (c.Stat path) (looked tree (c.Stat path))
   unfolding due outcome locate answer_of
@@ -139,3 +162,9 @@ told want other (Err refused) same (inr memory) = inr memory
 pub told-same : {A : Type 0} (want result : Result A No) → result ≡ want → Tells want result
 told-same want (Ok x) same = sym same
 told-same want (Err refused) same = inl (sym same)
+
+pub df-due : (told : PlainFacts) (facts : Facts) (tree : Tree) (now session : ℕ) → AreTold told facts
+    → due facts (record { tree = tree; opens = []; now = now }) session c.Df ≡ Ok (df_of told)
+unfolding due outcome locate answer_of
+df-due told facts tree now session is =
+    λ i. Ok (a.Df (is.clusters i) (is.free i) (is.records i) (is.free_records i))

@@ -8,7 +8,7 @@ use Rattle.std.specs.Str.{bytes_eq}
 use denote.Ref.{Bor}
 use Rattle.ntfs_def.specs.KeyOrder.{fold_of}
 use Rattle.tree_model.specs.Paths.{Place, and_then, found_file, resolve}
-use Rattle.tree_model.specs.Answers.{node_answer, point_answer, range_of}
+use Rattle.tree_model.specs.Answers.{listing, node_answer, point_answer, range_of, shown_links}
 use Rattle.tree_model.specs.Cases.{is_wide}
 use Rattle.tree_model.specs.Refusals.{Facts}
 use Rattle.tree_model.specs.Step.{due}
@@ -17,6 +17,7 @@ use Rattle.tree_model.specs.Tree.{Tree, are_same, is_in, node_of}
 use Rattle.tree_model.specs.declared.command.Command.{Command}
 use Rattle.tree_model.specs.declared.command.Command.TheVariants as c
 use Rattle.tree_model.specs.declared.plain.PlainTree.{PlainTree}
+use Rattle.tree_model.specs.declared.plain_facts.PlainFacts.{PlainFacts}
 use Rattle.tree_model.specs.declared.reply.Answer.{Answer}
 use Rattle.tree_model.specs.declared.reply.Answer.TheVariants as a
 use Rattle.tree_model.specs.declared.reply.Listed.{Listed}
@@ -123,19 +124,40 @@ abbrev pub read_of : Tree → List ℕ → ℕ → ℕ → (ℕ × Option Node) 
 read_of tree name from len file =
     and_then (stream_of tree name file.1) (λ bytes. if is_wide from len then Err no.TooBig else Ok (a.Data (range_of from len bytes)))
 
+-- What is shown of a directory ..
+abbrev pub ls_of : Tree → (ℕ × Option Node) → Result Answer No
+ls_of tree file = if is_directory file.1 then Ok (a.List (listing tree file.0)) else Err no.NotDir
+
+-- .. and of the names of a file.
+abbrev pub links_of : Tree → (ℕ × Option Node) → Result Answer No
+links_of tree file = Ok (a.Links (shown_links tree file.0))
+
+-- The numbers are told.
+pub record AreTold (plain : PlainFacts) (facts : Facts) : Type 0 where
+  pub clusters : facts.clusters ≡ plain.clusters
+  pub free : facts.free ≡ plain.free
+  pub records : facts.records ≡ plain.records
+  pub free_records : facts.free_records ≡ plain.free_records
+
+abbrev pub df_of : PlainFacts → Answer
+df_of plain = a.Df plain.clusters plain.free plain.records plain.free_records
+
 -- bytes that are lent
 abbrev pub lent_bytes : Result (Bor (List ℕ)) No → Result (List ℕ) No
 lent_bytes (Ok bytes) = Ok bytes.now
 lent_bytes (Err refused) = Err refused
 
 -- what is due where no session has an open
-abbrev pub Answers : PlainTree → Command → Result Answer No → Type 0
-Answers plain command result =
-    (facts : Facts) (now session : ℕ)
+abbrev pub Answers : PlainTree → PlainFacts → Command → Result Answer No → Type 0
+Answers plain told command result =
+    (facts : Facts) (now session : ℕ) → AreTold told facts
     → Tells (due facts (record { tree = tree_of plain; opens = []; now = now }) session command) result
 
 -- the commands that `PlainTree::answer` answers
 abbrev pub is_answered : Command → Bool
+is_answered (c.Ls path) = true
+is_answered (c.Links path) = true
+is_answered c.Df = true
 is_answered (c.Stat path) = true
 is_answered (c.Streams path) = true
 is_answered (c.Attr path) = true

@@ -1,5 +1,5 @@
-use Rattle.std.proofs.Common.{◌≡◌, ℕ, Result, [], subst, sym}
-use Rattle.tree_model.specs.Plain.{Tells, cat_of, file_at, looked, read_of, reparse_of, tree_of}
+use Rattle.std.proofs.Common.{◌≡◌, ℕ, Result, Ok, [], ap, subst, sym}
+use Rattle.tree_model.specs.Plain.{Tells, cat_of, df_of, file_at, links_of, looked, ls_of, read_of, reparse_of, tree_of}
 use Rattle.tree_model.specs.Paths.{and_then}
 use Rattle.tree_model.specs.Refusals.{Facts}
 use Rattle.tree_model.specs.Step.{due}
@@ -20,8 +20,27 @@ by_case facts tree now session command this due_here result is follows tells =
     subst (λ it. Tells (due facts (record { tree = tree; opens = []; now = now }) session it) result) (sym is)
     (laws.told (due facts (record { tree = tree; opens = []; now = now }) session this) due_here result follows tells)
 
+pub returns-in-Ls : goal.returns-in-Ls
+returns-in-Ls c facts now session told =
+    let tree = tree_of c.args.self.now in
+    let path = c.in-Ls.path in
+    by_case facts tree now session c.args.command.now (commands.Ls path) (and_then (file_at tree path) (ls_of tree))
+    c.ls.result c.in-Ls.is (laws.ls-due facts tree now session path) c.ls.ensures
+
+pub returns-in-Links : goal.returns-in-Links
+returns-in-Links c facts now session told =
+    let tree = tree_of c.args.self.now in
+    let path = c.in-Links.path in
+    by_case facts tree now session c.args.command.now (commands.Links path) (and_then (file_at tree path) (links_of tree))
+    c.links.result c.in-Links.is (laws.links-due facts tree now session path) c.links.ensures
+
+pub returns-in-Df : goal.returns-in-Df
+returns-in-Df c facts now session told =
+    by_case facts (tree_of c.args.self.now) now session c.args.command.now commands.Df (Ok (df_of c.args.facts.now)) (Ok c.df.result)
+    c.in-Df.is (laws.df-due c.args.facts.now facts (tree_of c.args.self.now) now session told) (sym (ap Ok c.df.ensures))
+
 pub returns-in-Stat : goal.returns-in-Stat
-returns-in-Stat c facts now session =
+returns-in-Stat c facts now session told =
     let tree = tree_of c.args.self.now in
     let path = c.in-Stat.path in
     by_case facts tree now session c.args.command.now (commands.Stat path) (and_then (file_at tree path) (looked tree (commands.Stat path)))
@@ -29,7 +48,7 @@ returns-in-Stat c facts now session =
     (commands.Stat path))) c.stat.result c.stat.ensures)
 
 pub returns-in-Streams : goal.returns-in-Streams
-returns-in-Streams c facts now session =
+returns-in-Streams c facts now session told =
     let tree = tree_of c.args.self.now in
     let path = c.in-Streams.path in
     by_case facts tree now session c.args.command.now (commands.Streams path) (and_then (file_at tree path) (looked tree
@@ -37,7 +56,7 @@ returns-in-Streams c facts now session =
     c.streams.result c.in-Streams.is (laws.streams-due facts tree now session path) c.streams.ensures
 
 pub returns-in-Attr : goal.returns-in-Attr
-returns-in-Attr c facts now session =
+returns-in-Attr c facts now session told =
     let tree = tree_of c.args.self.now in
     let path = c.in-Attr.path in
     by_case facts tree now session c.args.command.now (commands.Attr path) (and_then (file_at tree path) (looked tree (commands.Attr path)))
@@ -45,7 +64,7 @@ returns-in-Attr c facts now session =
     (commands.Attr path))) c.attr.result c.attr.ensures)
 
 pub returns-in-Sec : goal.returns-in-Sec
-returns-in-Sec c facts now session =
+returns-in-Sec c facts now session told =
     let tree = tree_of c.args.self.now in
     let path = c.in-Sec.path in
     by_case facts tree now session c.args.command.now (commands.Sec path) (and_then (file_at tree path) (looked tree (commands.Sec path)))
@@ -53,7 +72,7 @@ returns-in-Sec c facts now session =
     (commands.Sec path))) c.sec.result c.sec.ensures)
 
 pub returns-in-Objid : goal.returns-in-Objid
-returns-in-Objid c facts now session =
+returns-in-Objid c facts now session told =
     let tree = tree_of c.args.self.now in
     let path = c.in-Objid.path in
     by_case facts tree now session c.args.command.now (commands.Objid path) (and_then (file_at tree path) (looked tree
@@ -61,14 +80,14 @@ returns-in-Objid c facts now session =
     c.objid.result c.in-Objid.is (laws.objid-due facts tree now session path) c.objid.ensures
 
 pub returns-in-Reparse : goal.returns-in-Reparse
-returns-in-Reparse c facts now session =
+returns-in-Reparse c facts now session told =
     let tree = tree_of c.args.self.now in
     let path = c.in-Reparse.path in
     by_case facts tree now session c.args.command.now (commands.Reparse path) (and_then (file_at tree path) (reparse_of))
     c.reparse.result c.in-Reparse.is (laws.reparse-due facts tree now session path) c.reparse.ensures
 
 pub returns-in-Cat : goal.returns-in-Cat
-returns-in-Cat c facts now session =
+returns-in-Cat c facts now session told =
     let tree = tree_of c.args.self.now in
     let path = c.in-Cat.path in
     let stream = c.in-Cat.stream in
@@ -78,7 +97,7 @@ returns-in-Cat c facts now session =
     (subst (λ name. Tells (and_then (file_at tree path) (cat_of tree name)) c.cat.result) c.stream_name.ensures c.cat.ensures)
 
 pub returns-in-Read : goal.returns-in-Read
-returns-in-Read c facts now session =
+returns-in-Read c facts now session told =
     let tree = tree_of c.args.self.now in
     let path = c.in-Read.path in
     let stream = c.in-Read.stream in
