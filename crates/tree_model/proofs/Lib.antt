@@ -11,3 +11,4 @@ pub mod NamesLaws
 pub mod SessionLaws
 pub mod PlaceLaws
 pub mod FactsLaws
+pub mod MachineLaws

@@ -10,6 +10,7 @@ mod plain;
 mod plain_answers;
 mod plain_facts;
 mod plain_lists;
+mod plain_machine;
 mod plain_order;
 mod reply;
 #[cfg(test)]
@@ -22,5 +23,6 @@ pub use lists::{Listing, Path, RawAttrs, ShownLinks, ShownStreams, Streams};
 pub use opens::{Access, OpenEntry};
 pub use plain::PlainTree;
 pub use plain_facts::PlainFacts;
+pub use plain_machine::PlainMachine;
 pub use reply::{Answer, Listed, No, Reply, ShownLink, ShownStream};
 pub use tree::{Content, Found, Link, Node, Point, RawAttr, Stream};

@@ -1,10 +1,12 @@
-//! What commands that read are answered over a tree in plain lists, where no session has an open.
+//! What commands that read are answered over a tree in plain lists.
 ghost use Rattle.std.specs.Prelude.{◌≡◌, [], Some, find, map, option_map};
 ghost use Rattle.ntfs_def.specs.KeyOrder.{fold_of};
 ghost use Rattle.tree_model.specs.Answers.{is_unnamed_object_id, shown_link_count, listed, object_id, range_of, shown_stream};
 ghost use Rattle.tree_model.specs.Cases.{is_wide, size_of};
-ghost use Rattle.tree_model.specs.Plain.{Answers, Tells, cat_of, df_of, links_of, ls_of, file_at, is_answered, read_of, reparse_of, has_name, lent, lent_bytes};
+ghost use Rattle.tree_model.specs.Plain.{Answers, Tells, cat_of, df_of, kept_apart, links_of, ls_of, file_at, read_of, reparse_of, has_name, lent, lent_bytes};
 ghost use Rattle.tree_model.specs.Plain.{lent_file, lent_listed, looked, stream_of, tree_of};
+ghost use Rattle.tree_model.specs.Plain.{unless_apart};
+ghost use Rattle.tree_model.specs.Staging.{is_built};
 ghost use Rattle.std.specs.Option.{option_map_or};
 ghost use Rattle.tree_model.specs.Paths.{and_then};
 ghost use Rattle.tree_model.specs.declared.command.Command.TheVariants as c;
@@ -16,6 +18,7 @@ ghost use Rattle.std.specs.Prelude.{IfOk, IfErr, IsTrue};
 use crate::command::Command;
 use crate::copies::{copied, copied_name};
 use crate::lists::{Path, ShownStreams};
+use crate::opens::OpenEntry;
 use crate::plain::PlainTree;
 use crate::plain_facts::PlainFacts;
 use crate::reply::{Answer, No, ShownStream};
@@ -167,11 +170,17 @@ impl PlainTree {
         }
     }
 
-    fn cat(&self, alloc: Global, path: &Path, stream: &[u16]) -> Result<Answer, No>
-        ensures { Tells (and_then (file_at (tree_of self.now) path.now) (cat_of (tree_of self.now) stream.now)) result }
+    fn cat(
+        &self,
+        alloc: Global,
+        opens: &[OpenEntry],
+        path: &Path,
+        stream: &[u16],
+    ) -> Result<Answer, No>
+        ensures { Tells (and_then (file_at (tree_of self.now) path.now) (cat_of (tree_of self.now) opens.now stream.now)) result }
     {
-        let node = match self.file_at(path) {
-            Ok((_, node)) => node,
+        let (file, node) = match self.file_at(path) {
+            Ok((file, node)) => (file, node),
             Err(refused) => return Err(refused),
         };
         let bytes = match self.stream_bytes(node, stream) {
@@ -181,10 +190,7 @@ impl PlainTree {
         if bytes.len() > 65_536 {
             return Err(No::TooBig);
         }
-        match copied(alloc, bytes) {
-            Ok(bytes) => Ok(Answer::Data(bytes)),
-            Err(refused) => Err(refused),
-        }
+        data(alloc, opens, file, bytes)
     }
 }
 
@@ -192,15 +198,16 @@ impl PlainTree {
     fn read(
         &self,
         alloc: Global,
+        opens: &[OpenEntry],
         path: &Path,
         stream: &[u16],
         at: u64,
         len: u64,
     ) -> Result<Answer, No>
-        ensures { Tells (and_then (file_at (tree_of self.now) path.now) (read_of (tree_of self.now) stream.now at len)) result }
+        ensures { Tells (and_then (file_at (tree_of self.now) path.now) (read_of (tree_of self.now) opens.now stream.now at len)) result }
     {
-        let node = match self.file_at(path) {
-            Ok((_, node)) => node,
+        let (file, node) = match self.file_at(path) {
+            Ok((file, node)) => (file, node),
             Err(refused) => return Err(refused),
         };
         let bytes = match self.stream_bytes(node, stream) {
@@ -210,10 +217,7 @@ impl PlainTree {
         if is_wide(at, len) {
             return Err(No::TooBig);
         }
-        match copied(alloc, range(bytes, at, len)) {
-            Ok(bytes) => Ok(Answer::Data(bytes)),
-            Err(refused) => Err(refused),
-        }
+        data(alloc, opens, file, range(bytes, at, len))
     }
 
     fn streams(&self, alloc: Global, path: &Path) -> Result<Answer, No>
@@ -293,21 +297,22 @@ impl PlainTree {
         }
     }
 
-    /// What a command that reads is answered, or why it is refused, where no session has an open.
+    /// What a command that reads is answered, or why it is refused, beside the opens that are kept.
     /// Condition: it is `ls`, `links`, `stat`, `streams`, `attr`, `sec`, `objid`, `reparse`, `cat`, `read` or `df`.
     ///
     /// # Errors
     ///
-    /// Those of walking the path, then `NotDir`, `IsDir`, `NoStream`, `NoReparse`, `Packed` and `TooBig`, in this
-    /// order; and `Memory`.
+    /// Those of walking the path, then `NotDir`, `IsDir`, `NoStream`, `NoReparse`, `Packed`, `TooBig` and `Shared`, in
+    /// this order; and `Memory`.
     pub fn answer(
         &self,
         alloc: Global,
+        opens: &[OpenEntry],
         facts: &PlainFacts,
         command: &Command,
     ) -> Result<Answer, No>
-        requires { IsTrue (is_answered command.now) }
-        ensures { Answers self.now facts.now command.now result }
+        requires { IsTrue (is_built command.now) }
+        ensures { Answers self.now opens.now facts.now command.now result }
     {
         match command {
             Command::Ls { path } => self.ls(alloc, path),
@@ -319,15 +324,43 @@ impl PlainTree {
             Command::Sec { path } => self.sec(path),
             Command::Objid { path } => self.objid(alloc, path),
             Command::Reparse { path } => self.reparse(alloc, path),
-            Command::Cat { path, stream } => self.cat(alloc, path, stream_name(stream)),
+            Command::Cat { path, stream } => self.cat(alloc, opens, path, stream_name(stream)),
             Command::Read {
                 path,
                 stream,
                 at,
                 len,
-            } => self.read(alloc, path, stream_name(stream), *at, *len),
+            } => self.read(alloc, opens, path, stream_name(stream), *at, *len),
             _ => unreachable!(),
         }
+    }
+}
+
+// The first open of a file that does not share reading.
+fn conflict(opens: &[OpenEntry], file: u64) -> Option<No>
+    ensures { result ≡ kept_apart opens.now file }
+{
+    'opens: for entry in opens {
+        if entry.file == file && !entry.share.r {
+            return Some(No::Shared {
+                session: entry.session,
+                handle: entry.handle,
+            });
+        }
+    }
+    None
+}
+
+// Bytes of a file as an answer, unless an open of it does not share reading.
+fn data(alloc: Global, opens: &[OpenEntry], file: u64, bytes: &[u8]) -> Result<Answer, No>
+    ensures { Tells (unless_apart opens.now file bytes.now) result }
+{
+    if let Some(refused) = conflict(opens, file) {
+        return Err(refused);
+    }
+    match copied(alloc, bytes) {
+        Ok(bytes) => Ok(Answer::Data(bytes)),
+        Err(refused) => Err(refused),
     }
 }
 
