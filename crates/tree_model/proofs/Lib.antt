@@ -9,3 +9,6 @@ pub mod BillLaws
 pub mod IndexRoomLaws
 pub mod NamesLaws
 pub mod SessionLaws
+pub mod PlaceLaws
+pub mod FactsLaws
+pub mod MachineLaws
