@@ -50,18 +50,21 @@ is_met-insert : (met : List ℕ) (k place : ℕ) → is_met (insert_key nat_cmp 
 is_met-insert [] k place = refl
 is_met-insert (x ∷ met) k place = inserted k x place met (nat_cmp k x) refl (is_met-insert met k place)
 
+abbrev one_where : Bool → ℕ
+one_where b = cond b 1 0
+
 counted : (k place : ℕ) (here : Bool) → (place ≡ k → here ≡ false) → (b : Bool) → (k == place) ≡ b
     → cond (b || here) 1 0 ≡ cond here 1 0 + one_if place k
 counted k place here new true e =
     let same : k ≡ place = eqb-true k place e in
     let none : here ≡ false = new (sym same) in
     let own : (place == k) ≡ true = eq-eqb place k (sym same) in
-    let before : cond here 1 0 ≡ 0 = ap (λ b. cond b 1 0) none in
-    let one : one_if place k ≡ 1 = ap (λ b. cond b 1 0) own in
+    let before : one_where here ≡ 0 = ap one_where none in
+    let one : one_if place k ≡ 1 = ap one_where own in
     omega arith
 counted k place here new false e =
     let other : (place == k) ≡ false = grind (arith, nat_tests) in
-    let none : one_if place k ≡ 0 = ap (λ b. cond b 1 0) other in
+    let none : one_if place k ≡ 0 = ap one_where other in
     omega arith
 
 -- one number more
