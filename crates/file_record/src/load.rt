@@ -28,16 +28,8 @@ pub fn hold_record<D: Disk>(
         (CountsNo (faults_of D.Disk mft.old) (faults_of D.Disk mft.new)) }
     ensures reads { MftReads D.Disk mft.old mft.new 2 }
 {
-    if n >= mft.mounted().records.count() {
-        return Ok(());
-    }
-    let mut block = [0; 1024];
-    if let Some(count) = read_record_of(mft, n, number, &mut block)? {
-        held.push(Held {
-            number: n,
-            block,
-            count,
-        })?;
+    if let Some(record) = Held::read(mft, n, number)? {
+        held.push(record)?;
     }
     Ok(())
 }
