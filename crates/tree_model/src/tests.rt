@@ -166,8 +166,7 @@ fn answered(alloc: Global, command: &Command) -> Result<Answer, Fail>
 fn an_answer_of_stat(rt: HostRuntime) -> Result<(), Fail> {
     let path = path(rt.alloc(), "F")?;
     let answer = answered(rt.alloc(), &Command::Stat { path })?;
-    assert!(
-        rt;
+    assert!(rt;
         matches!(
             answer,
             Answer::Stat {
@@ -205,8 +204,7 @@ fn an_answer_of_sec(rt: HostRuntime) -> Result<(), Fail> {
 #[test]
 fn an_answer_of_df(rt: HostRuntime) -> Result<(), Fail> {
     let answer = answered(rt.alloc(), &Command::Df)?;
-    assert!(
-        rt;
+    assert!(rt;
         matches!(
             answer,
             Answer::Df {
