@@ -1,12 +1,14 @@
 //! What edits make of the files of a tree in plain lists.
-ghost use Rattle.std.specs.Prelude.{◌≡◌, None};
+ghost use Rattle.std.specs.Prelude.{◌≡◌, IfErr, IfOk, None};
 ghost use Rattle.std.specs.Option.{MatchOption};
-ghost use Rattle.tree_model.specs.Effects.{changed, put_point, stamp, stamped, touch};
+ghost use Rattle.tree_model.specs.Effects.{add_link, changed, put_point, stamp, stamped, touch};
 ghost use Rattle.tree_model.specs.Plain.{IsFirstOf, tree_of};
 ghost use Rattle.tree_model.specs.Tree.{node_of};
+ghost use Rattle.tree_model.specs.declared.reply.No.TheVariants as no;
 
 use crate::plain::PlainTree;
-use crate::tree::Point;
+use crate::reply::No;
+use crate::tree::{Link, Point};
 
 impl PlainTree {
     // The place of a file among the nodes.
@@ -73,5 +75,20 @@ impl PlainTree {
             node.times[1] = now;
             node.times[2] = now;
         }
+    }
+
+    /// One link more, in order.
+    ///
+    /// # Errors
+    ///
+    /// `Memory`; the tree is as it was.
+    #[tactic(auto, unfolding(crate::specs::Plain::tree_of))]
+    pub fn add_link(&mut self, link: Link) -> Result<(), No>
+        ensures ok { IfOk result (λ _. tree_of self.new ≡ add_link link (tree_of self.old)) }
+        ensures err { IfErr result (λ refused. (refused ≡ no.Memory) × (tree_of self.new ≡ tree_of self.old)) }
+    {
+        let place = self.place_of(self.links.as_slice(), &link);
+        self.links.insert(place, link)?;
+        Ok(())
     }
 }
