@@ -1,7 +1,6 @@
 -- What a volume tells beside its tree is one.
 use Rattle.std.proofs.Common.{◌≡◌, ◌<◌, ◌+◌, ◌&&◌, ◌⊎◌, ℕ, zero, suc, Bool, true, false, List, [], ◌∷◌, Option, Some, None, length, arith}
 use Rattle.std.proofs.Common.{refl, sym, ap, subst, inl, inr, ◌∙◌}
-use Rattle.std.proofs.lemmas.Bool.Decides.{Decides-and}
 use Rattle.std.proofs.lemmas.Map.Views.{Contains-from_any}
 use Rattle.std.proofs.lemmas.Slice.Eq.{bytes_eq-Decides}
 use Rattle.std.specs.Cmp.{tied_itself}
@@ -9,7 +8,6 @@ use Rattle.std.specs.Cmp.Lexicographic.{nat_list_cmp_total}
 use Rattle.std.specs.List.{Contains, list_any}
 use Rattle.std.specs.Prelude.{codes, slice_range, slice_index_or}
 use Rattle.std.specs.Str.{bytes_eq}
-use Rattle.std.specs.declared.cmp.Ordering.{Ordering}
 use Rattle.std.specs.declared.cmp.Ordering.TheVariants.{Less, Equal}
 use Rattle.vol_bytes.specs.Field.{u32_at, u64_at}
 use Rattle.ntfs_def.specs.IndexTree.{Ascends, Each}
@@ -22,7 +20,7 @@ use Rattle.volume_def.specs.IndexesClause.{HasIndex, KeyRule, index_parts}
 use Rattle.volume_def.specs.Values.{value_on}
 use Rattle.volume_def.specs.View.{VolumeView}
 use Rattle.tree_model.specs.Facts.{HasDescriptor, IsVolumeOf, TellsDescriptor, TellsFacts, item_data, sds_parts}
-use Rattle.tree_model.specs.IndexRoom.{Index, has_entry}
+use Rattle.tree_model.specs.IndexRoom.{Index}
 use Rattle.tree_model.specs.Refusals.{Facts}
 use Rattle.tree_model.proofs.IndexRoomLaws.{entry-walk}
 use Rattle.tree_model.proofs.StepLaws.{one_volume}

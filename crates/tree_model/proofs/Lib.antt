@@ -12,3 +12,4 @@ pub mod SessionLaws
 pub mod PlaceLaws
 pub mod FactsLaws
 pub mod MachineLaws
+pub mod EffectLaws

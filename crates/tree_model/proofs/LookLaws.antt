@@ -42,7 +42,8 @@ conflict-is file entry = by entry.share.r entry.share.w entry.share.d refl refl 
     by false w' d' r w d = rw r refl
 
 find-apart : (opens : List OpenEntry) (file : ℕ)
-    → find (conflicts (AsksFor to_read all_access) file) opens ≡ find (λ (entry : OpenEntry). (entry.file == file) && not entry.share.r) opens
+    → find (conflicts (AsksFor to_read all_access) file) opens
+    ≡ find (λ (entry : OpenEntry). (entry.file == file) && not entry.share.r) opens
 find-apart opens file = ap (λ test. find test opens) (λ i entry. conflict-is file entry i)
 
 module _ (facts : Facts) (tree : Tree) (opens : List OpenEntry) (now session : ℕ) (path : List (List ℕ)) where

@@ -1,11 +1,10 @@
 -- A step of a command that reads, and of one that is not built.
-use Rattle.std.proofs.Common.{◌≡◌, ◌⊎◌, inl, inr, ℕ, Bool, true, false, List, Result, Ok, Err, refl, sym, ap, subst, ◌∙◌}
-use Rattle.tree_model.specs.Answers.{answer_of}
+use Rattle.std.proofs.Common.{◌≡◌, inl, inr, ℕ, true, false, List, Result, Ok, Err, refl, sym, ap, subst, ◌∙◌}
 use Rattle.tree_model.specs.Effects.{after, makes_file, opens_after, tree_after}
 use Rattle.tree_model.specs.Plain.{Answers, AreTold, Tells, machine_of, tree_of}
 use Rattle.tree_model.specs.Refusals.{Facts, outcome}
 use Rattle.tree_model.specs.Staging.{is_built}
-use Rattle.tree_model.specs.Step.{Leads, Moves, Step, answered, due, reply_of}
+use Rattle.tree_model.specs.Step.{Step, answered, due, reply_of}
 use Rattle.tree_model.specs.Subjects.{Located, Machine}
 use Rattle.tree_model.specs.declared.command.Command.{Command}
 use Rattle.tree_model.specs.declared.command.Command.TheVariants as c

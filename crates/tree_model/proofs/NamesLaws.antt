@@ -15,7 +15,7 @@ use Rattle.volume_def.specs.View.{VolumeView}
 use Rattle.volume_def.proofs.MemberLaws.{Contains-from_flat_map, Contains-from_map, Contains-nil, filter-map}
 use Rattle.tree_model.specs.Hidden.{is_hidden}
 use Rattle.tree_model.specs.Ordered.{in_order}
-use Rattle.tree_model.specs.Reading.{all_links, is_hidden_link, link_by, link_for, links_to, node_at, node_on, read}
+use Rattle.tree_model.specs.Reading.{all_links, is_hidden_link, link_by, links_to, node_at, node_on, read}
 use Rattle.tree_model.specs.Tree.{leads_to, link_above, node_of, shown_node}
 use Rattle.tree_model.specs.declared.tree.Link.{Link}
 use Rattle.tree_model.specs.declared.tree.Node.{Node}

@@ -1,6 +1,6 @@
 -- Items put in order one after another, each at its place.
-use Rattle.std.proofs.Common.{◌≡◌, ◌≤◌, ◌<◌, ◌-◌, ◌+◌, ℕ, suc, Bool, true, false, List, [], ◌∷◌, ◌++◌, drop, filter, length, get_or}
-use Rattle.std.proofs.Common.{map, refl, sym, ap, ◌∙◌, arith, if◌then◌else◌}
+use Rattle.std.proofs.Common.{◌≡◌, ◌≤◌, ◌<◌, ◌+◌, ℕ, suc, Bool, true, false, List, [], ◌∷◌, ◌++◌, drop, filter, length, get_or}
+use Rattle.std.proofs.Common.{refl, ap, ◌∙◌, arith, if◌then◌else◌}
 use Rattle.std.specs.List.{insert}
 use Rattle.std.proofs.lemmas.List.{at_drop_more, drop_all}
 use Rattle.tree_model.specs.Ordered.{in_order, put_all, put_in_order}

@@ -20,16 +20,16 @@ use Rattle.tree_model.specs.Reading.{all_links, directory_links, is_hidden_link,
 use Rattle.tree_model.proofs.LinkOrder.{link_order}
 
 -- numbers as keys
-key_same : (q : ℕ) → eq_by_cmp nat_cmp q q ≡ true
+pub key_same : (q : ℕ) → eq_by_cmp nat_cmp q q ≡ true
 key_same q = rw (le-ltb q q (omega arith), eq-eqb q q refl) refl
 
-key_other : (q f : ℕ) → q ≢ f → eq_by_cmp nat_cmp q f ≡ false
+pub key_other : (q f : ℕ) → q ≢ f → eq_by_cmp nat_cmp q f ≡ false
 key_other q f ne = elim (cases_lt q f) [
   | inl lt ↦ rw (lt-ltb q f lt) refl
   | inr ge ↦ rw (le-ltb q f ge, ne_eqb q f ne) refl
 ]
 
-key_is : (q f : ℕ) → eq_by_cmp nat_cmp q f ≡ eqb q f
+pub key_is : (q f : ℕ) → eq_by_cmp nat_cmp q f ≡ eqb q f
 key_is q f = elim (cases_eq q f) [
   | inl e ↦ subst (λ x. eq_by_cmp nat_cmp q x ≡ eqb q x) e (key_same q
       ∙ sym (eq-eqb q q refl))

@@ -1,7 +1,7 @@
 -- A tree kept in plain lists, and what its calls lend of it.
 use Rattle.std.specs.Prelude.{◌≡◌, ◌⊎◌, ℕ, ◌&&◌, Bool, true, false, List, [], ◌∷◌, Option, Some, None, Result, Ok, Err, option_and_then}
 use Rattle.std.specs.Prelude.{option_map, if◌then◌else◌}
-use Rattle.std.specs.Prelude.{◌==◌, find, length, nat_lt, not}
+use Rattle.std.specs.Prelude.{◌<◌, ◌==◌, ◌≢◌, find, length, nat_lt, not, slice_index_or}
 use Rattle.std.specs.FinMap as finmap
 use Rattle.std.specs.Option.{option_map_or}
 use Rattle.std.specs.Str.{bytes_eq}
@@ -40,6 +40,12 @@ tree_of plain = record {
   links = plain.links.items;
   hidden = plain.hidden.items;
 }
+
+-- The first node of this number stands here in the list.
+pub record IsFirstOf (nodes : List (ℕ × Node)) (file place : ℕ) : Type 0 where
+  pub within : place < length nodes
+  pub here : (other : ℕ × Node) → (slice_index_or nodes place other).0 ≡ file
+  pub first : (k : ℕ) (other : ℕ × Node) → k < place → (slice_index_or nodes k other).0 ≢ file
 
 -- what is lent, as a value
 abbrev pub lent : {A : Type 0} → Option (Bor A) → Option A

@@ -8,6 +8,7 @@ mod lists;
 mod opens;
 mod plain;
 mod plain_answers;
+mod plain_effects;
 mod plain_facts;
 mod plain_lists;
 mod plain_machine;

@@ -23,7 +23,7 @@ impl PlainTree {
     }
 
     // The place of a link among others that are in order.
-    fn place_of(&self, links: &[Link], link: &Link) -> usize
+    pub(crate) fn place_of(&self, links: &[Link], link: &Link) -> usize
         ensures place { insert links.now result link.now ≡ put_in_order (link_above (fold_of self.now.case)) link.now links.now }
         ensures within { result ≤ length links.now }
     {

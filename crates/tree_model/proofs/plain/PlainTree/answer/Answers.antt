@@ -14,7 +14,8 @@ use Rattle.tree_model.specs.Tree.{Tree}
 use Rattle.tree_model.proofs.plain.PlainTree.answer.Goals as goal
 
 -- the command is this one, for which this is due
-by_case : (facts : Facts) (tree : Tree) (opens : List OpenEntry) (now session : ℕ) (command this : Command) (due_here result : Result Answer No)
+by_case : (facts : Facts) (tree : Tree) (opens : List OpenEntry) (now session : ℕ) (command this : Command)
+    (due_here result : Result Answer No)
     → command ≡ this → due facts (record { tree = tree; opens = opens; now = now }) session this ≡ due_here → Tells due_here result
     → Tells (due facts (record { tree = tree; opens = opens; now = now }) session command) result
 by_case facts tree opens now session command this due_here result is follows tells =
@@ -39,15 +40,16 @@ returns-in-Links c facts now session told =
 
 pub returns-in-Df : goal.returns-in-Df
 returns-in-Df c facts now session told =
-    by_case facts (tree_of c.args.self.now) c.args.opens.now now session c.args.command.now commands.Df (Ok (df_of c.args.facts.now)) (Ok c.df.result)
-    c.in-Df.is (laws.df-due c.args.facts.now facts (tree_of c.args.self.now) c.args.opens.now now session told) (sym (ap Ok c.df.ensures))
+    by_case facts (tree_of c.args.self.now) c.args.opens.now now session c.args.command.now commands.Df
+    (Ok (df_of c.args.facts.now)) (Ok c.df.result) c.in-Df.is (laws.df-due c.args.facts.now facts (tree_of c.args.self.now) c.args.opens.now now session told) (sym (ap Ok c.df.ensures))
 
 pub returns-in-Stat : goal.returns-in-Stat
 returns-in-Stat c facts now session told =
     let tree = tree_of c.args.self.now in
     let opens = c.args.opens.now in
     let path = c.in-Stat.path in
-    by_case facts tree opens now session c.args.command.now (commands.Stat path) (and_then (file_at tree path) (looked tree (commands.Stat path)))
+    by_case facts tree opens now session c.args.command.now (commands.Stat path)
+    (and_then (file_at tree path) (looked tree (commands.Stat path)))
     c.stat.result c.in-Stat.is (laws.stat-due facts tree opens now session path) (laws.told-same (and_then (file_at tree path) (looked tree
     (commands.Stat path))) c.stat.result c.stat.ensures)
 
@@ -56,7 +58,8 @@ returns-in-Streams c facts now session told =
     let tree = tree_of c.args.self.now in
     let opens = c.args.opens.now in
     let path = c.in-Streams.path in
-    by_case facts tree opens now session c.args.command.now (commands.Streams path) (and_then (file_at tree path) (looked tree
+    by_case facts tree opens now session c.args.command.now (commands.Streams path)
+    (and_then (file_at tree path) (looked tree
     (commands.Streams path)))
     c.streams.result c.in-Streams.is (laws.streams-due facts tree opens now session path) c.streams.ensures
 
@@ -65,7 +68,8 @@ returns-in-Attr c facts now session told =
     let tree = tree_of c.args.self.now in
     let opens = c.args.opens.now in
     let path = c.in-Attr.path in
-    by_case facts tree opens now session c.args.command.now (commands.Attr path) (and_then (file_at tree path) (looked tree (commands.Attr path)))
+    by_case facts tree opens now session c.args.command.now (commands.Attr path)
+    (and_then (file_at tree path) (looked tree (commands.Attr path)))
     c.attr.result c.in-Attr.is (laws.attr-due facts tree opens now session path) (laws.told-same (and_then (file_at tree path) (looked tree
     (commands.Attr path))) c.attr.result c.attr.ensures)
 
@@ -74,7 +78,8 @@ returns-in-Sec c facts now session told =
     let tree = tree_of c.args.self.now in
     let opens = c.args.opens.now in
     let path = c.in-Sec.path in
-    by_case facts tree opens now session c.args.command.now (commands.Sec path) (and_then (file_at tree path) (looked tree (commands.Sec path)))
+    by_case facts tree opens now session c.args.command.now (commands.Sec path)
+    (and_then (file_at tree path) (looked tree (commands.Sec path)))
     c.sec.result c.in-Sec.is (laws.sec-due facts tree opens now session path) (laws.told-same (and_then (file_at tree path) (looked tree
     (commands.Sec path))) c.sec.result c.sec.ensures)
 
@@ -83,7 +88,8 @@ returns-in-Objid c facts now session told =
     let tree = tree_of c.args.self.now in
     let opens = c.args.opens.now in
     let path = c.in-Objid.path in
-    by_case facts tree opens now session c.args.command.now (commands.Objid path) (and_then (file_at tree path) (looked tree
+    by_case facts tree opens now session c.args.command.now (commands.Objid path)
+    (and_then (file_at tree path) (looked tree
     (commands.Objid path)))
     c.objid.result c.in-Objid.is (laws.objid-due facts tree opens now session path) c.objid.ensures
 
