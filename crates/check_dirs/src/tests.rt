@@ -55,7 +55,7 @@ impl IndexRecords for Listed {
     ghost only_reads_on = { λ a b c h k. tt };
 }
 
-fn listed(there: bool) -> Listed {
+fn records_of(there: bool) -> Listed {
     let mut block = [0; 4096];
     block[..128].copy_from_slice(&RECORD);
     Listed { there, block }
@@ -72,21 +72,21 @@ fn entries(alloc: Global, records: &mut Listed, root: &[u8]) -> Result<Option<us
 
 #[test]
 fn two_levels(rt: HostRuntime) -> Result<(), Fail> {
-    let mut records = listed(true);
+    let mut records = records_of(true);
     assert_eq!(rt; entries(rt.alloc(), &mut records, &ROOT)?, Some(2));
     Ok(())
 }
 
 #[test]
 fn no_record(rt: HostRuntime) -> Result<(), Fail> {
-    let mut records = listed(false);
+    let mut records = records_of(false);
     assert_eq!(rt; entries(rt.alloc(), &mut records, &ROOT)?, None);
     Ok(())
 }
 
 #[test]
 fn ids_that_are_equal(rt: HostRuntime) -> Result<(), Fail> {
-    let mut records = listed(true);
+    let mut records = records_of(true);
     records.block[0x50] = 2;
     assert_eq!(rt; entries(rt.alloc(), &mut records, &ROOT)?, None);
     Ok(())
@@ -94,7 +94,7 @@ fn ids_that_are_equal(rt: HostRuntime) -> Result<(), Fail> {
 
 #[test]
 fn another_collation(rt: HostRuntime) -> Result<(), Fail> {
-    let mut records = listed(true);
+    let mut records = records_of(true);
     let found = check_index(rt.alloc(), &mut records, NodeForm::View, 0x12, &IdOrder, &ROOT)?;
     assert!(rt; found.is_none());
     Ok(())
