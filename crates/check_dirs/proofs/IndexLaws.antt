@@ -42,10 +42,13 @@ module _ (form : NodeForm) (rule : KeyRule) (nodes : Nodes) (root : List ℕ) wh
       pub an_index : HasFields form rule.collation root → AreOrdered rule.order rule.valid (items_in entries)
           → TellsIndex form rule nodes root (Some entries)
       an_index fields ordered = record {
-        fields = fields;
-        root_node = node;
-        says = said;
-        walks = walk.walks;
-        keys = ordered.keys;
-        ascending = ordered.ascending;
+        index = record {
+          fields = fields;
+          root_node = node;
+          says = said;
+          walks = walk.walks;
+          keys = ordered.keys;
+          ascending = ordered.ascending;
+        };
+        only = λ items other. walk.only items (same_walk items other);
       }
