@@ -99,7 +99,8 @@ pub fn has_names<N: DirectoryNames>(names: &mut N, entries: &[Octets]) -> Result
     ensures faults { MatchResult result (λ _. N.faults names.new ≡ N.faults names.old)
         (CountsNo (N.faults names.old) (N.faults names.new)) }
 {
-    if names.count() != entries.len() as u64 {
+    let as_many = names.count() == entries.len() as u64;
+    if !as_many {
         return Ok(false);
     }
     let all = are_named(names, entries)?;
