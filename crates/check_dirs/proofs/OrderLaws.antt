@@ -50,8 +50,8 @@ module _ (order : List ℕ → List ℕ → Ordering) (laws : IsTotalOrder order
   ascends_from_rise (e ∷ f ∷ entries) h =
       let rest : Ascends order (items_in (f ∷ entries)) =
       ascends_from_rise (f ∷ entries) (λ i k.
-          let next : suc i + 1 ≡ suc (i + 1) = omega arith in
-          subst (λ j. order (key_at (e ∷ f ∷ entries) (suc i)) (key_at (e ∷ f ∷ entries) j) ≡ Less) next (h (suc i) (omega arith))) in
+      let next : suc i + 1 ≡ suc (i + 1) = omega arith in
+      subst (λ j. order (key_at (e ∷ f ∷ entries) (suc i)) (key_at (e ∷ f ∷ entries) j) ≡ Less) next (h (suc i) (omega arith))) in
       let first : order (item_in e).key (item_in f).key ≡ Less = h 0 (omega arith) in
       ((first, above (item_in e).key (items_in entries) (item_in f) first rest.0), rest)
 

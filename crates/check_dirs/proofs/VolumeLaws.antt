@@ -39,7 +39,7 @@ module _ (nodes others : Nodes) where
   tree_moved (suc depth) t h k = (
     h t.vcn (let own = one_if-same t.vcn in omega arith) (node_of depth t.spread) k.0,
     branches_moved (λ vcn. times_in vcn depth) (IsStored nodes depth) (IsStored others depth) (SaysAt nodes others)
-    (tree_moved depth) t.spread.branches t.spread.last (λ vcn met. h vcn (omega arith)) k.1,
+        (tree_moved depth) t.spread.branches t.spread.last (λ vcn met. h vcn (omega arith)) k.1,
   )
 
   pub spread_moved : (depth : ℕ) (s : Spread (Tree depth)) → ((vcn : ℕ) → 1 ≤ spread_times vcn depth s → SaysAt nodes others vcn)
@@ -110,8 +110,8 @@ module _ (form : NodeForm) (rule : KeyRule) (view : VolumeView) (index : IndexPa
       let walks = ordered.walks in
       let there : (vcn : ℕ) → 1 ≤ spread_times vcn walks.depth walks.s → IsIndexRecordAt view index vcn =
       λ vcn met.
-          let said = spread_there (short_nodes form records) vcn walks.depth walks.s met walks.holds.stored in
-          are.only vcn (some_record form records vcn said.0 said.1) in
+      let said = spread_there (short_nodes form records) vcn walks.depth walks.s met walks.holds.stored in
+      are.only vcn (some_record form records vcn said.0 said.1) in
       record {
         root = root;
         is_root = parts.is_root;

@@ -12,9 +12,9 @@ use crate::order::are_ordered;
 use crate::{CheckNo, IndexRecords};
 use collation::Collation;
 use index_node::NodeView;
+use ntfs_def::NodeForm;
 use ntfs_def::kinds::FILE_NAME;
 use ntfs_def::lengths::INDEX_RECORD;
-use ntfs_def::NodeForm;
 use std::alloc::Global;
 use vol_bytes::{Octets, u32_at};
 

@@ -96,7 +96,14 @@ fn ids_that_are_equal(rt: HostRuntime) -> Result<(), Fail> {
 #[test]
 fn another_collation(rt: HostRuntime) -> Result<(), Fail> {
     let mut records = records_of(true);
-    let found = check_index(rt.alloc(), &mut records, NodeForm::View, 0x12, &IdOrder, &ROOT)?;
+    let found = check_index(
+        rt.alloc(),
+        &mut records,
+        NodeForm::View,
+        0x12,
+        &IdOrder,
+        &ROOT,
+    )?;
     assert!(rt; found.is_none());
     Ok(())
 }
@@ -181,7 +188,11 @@ fn order(alloc: Global) -> Result<FileNameOrder, Fail> {
 }
 
 // Whether the directory has these names; `None` where its index is wrong.
-fn named(alloc: Global, order: &FileNameOrder, names: &mut OneName) -> Result<Option<bool>, CheckNo> {
+fn named(
+    alloc: Global,
+    order: &FileNameOrder,
+    names: &mut OneName,
+) -> Result<Option<bool>, CheckNo> {
     let mut records = records_of(false);
     let found = check_index(alloc, &mut records, NodeForm::Names, 1, order, &DIRECTORY)?;
     let Some(entries) = found else {

@@ -71,9 +71,9 @@ returns-then-not-are_ordered-clause-index g c r e =
     let walk = subst (λ k. IsTheWalk (short_nodes k r) n entries) c.in-Ok.ensures.form
     (rw c.in-Some.is at (c.in_ok-found.ensures.tells r e)) in
     no_order form rule nodes root n said entries walk (λ ordered.
-        let shown = subst (λ xs. AreOrdered rule.order rule.valid (items_in xs)) (sym c.deref.ensures.value) ordered in
-        let f : false ≡ true = subst IsTrue c.if-not-are_ordered.true (c.are_ordered.ensures.1 shown) in
-        cc)
+    let shown = subst (λ xs. AreOrdered rule.order rule.valid (items_in xs)) (sym c.deref.ensures.value) ordered in
+    let f : false ≡ true = subst IsTrue c.if-not-are_ordered.true (c.are_ordered.ensures.1 shown) in
+    cc)
 
 pub returns-clause-index : goal.returns-clause-index
 returns-clause-index g c r e =
