@@ -1,7 +1,7 @@
 -- The answer of the check, by what its tests told.
-use Rattle.std.proofs.Common.{◌≡◌, ℕ, ◌+◌, ◌≤◌, List, Option, Some, None, length, refl, sym, ap, subst, ◌∙◌, arith}
+use Rattle.std.proofs.Common.{◌≡◌, ℕ, ◌≤◌, List, Option, Some, None, length, refl, sym, subst, ◌∙◌, arith}
 use Rattle.ntfs_def.specs.IndexTree.{Nodes, Walks}
-use Rattle.ntfs_def.specs.Node.{Item, Node, BadAt, Whole, node_header, node_header_failing, scan_node, short_node}
+use Rattle.ntfs_def.specs.Node.{Item, Node, BadAt, Whole, node_header_failing, scan_node, short_node}
 use Rattle.ntfs_def.specs.declared.index.NodeForm.{NodeForm}
 use Rattle.volume_def.specs.IndexesClause.{KeyRule}
 use Rattle.index_node.proofs.NodeLaws.{header_short, scan_node-wrong}

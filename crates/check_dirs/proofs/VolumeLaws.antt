@@ -1,10 +1,10 @@
 -- The clause on indexes, from what is checked of one, and back.
-use Rattle.std.proofs.Common.{◌≡◌, ◌≢◌, ℕ, zero, suc, ◌+◌, ◌≤◌, ◌==◌, List, [], ◌∷◌, map, Option, Some, None, Bool, true, false, cond, refl, sym, ap, subst, ◌∙◌, arith, inl, inr}
+use Rattle.std.proofs.Common.{◌≡◌, ◌≢◌, ℕ, zero, suc, ◌≤◌, ◌==◌, List, [], ◌∷◌, map, Option, Some, None, cond, refl, sym, ap, subst, ◌∙◌, arith, inl, inr}
 use Rattle.std.specs.Prelude.{IsSome}
 use Rattle.std.proofs.lemmas.Bool.{cases_Bool, eqb-false, eqb-true}
 use Rattle.vol_bytes.specs.Field.{u32_at}
 use Rattle.ntfs_def.specs.Fixup.{opened_of}
-use Rattle.ntfs_def.specs.IndexTree.{Nodes, Branch, Spread, Tree, AreStored, EachBelow, HoldsIndex, IsStored, Walks, branch_times, node_of, one_if, spread_times, times_in}
+use Rattle.ntfs_def.specs.IndexTree.{Nodes, Branch, Spread, Tree, AreStored, EachBelow, IsStored, Walks, branch_times, node_of, one_if, spread_times, times_in}
 use Rattle.ntfs_def.specs.Node.{Item, Node, short_node}
 use Rattle.ntfs_def.specs.declared.index.NodeForm.{NodeForm}
 use Rattle.ntfs_def.specs.declared.index.NodeForm.TheVariants.{Names}

@@ -1,5 +1,5 @@
 -- The index of a volume, by what is checked of it: its parts, and its records.
-use Rattle.std.specs.Prelude.{◌≡◌, ℕ, List, [], ◌∷◌, codes, filter, map, Option, Some, IfSome, IsSome}
+use Rattle.std.specs.Prelude.{◌≡◌, ℕ, List, [], ◌∷◌, codes, filter, map, Some, IfSome, IsSome}
 use Rattle.ntfs_def.specs.declared.index.NodeForm.TheVariants.{Names}
 use Rattle.ntfs_def.specs.FileName.{Link, link_of}
 use Rattle.ntfs_def.specs.Fixup.{opened_of}

@@ -1,9 +1,7 @@
-use Rattle.std.proofs.Common.{◌≡◌, ℕ, List, None, Some, ap, sym, ◌∙◌, subst, true, false}
+use Rattle.std.proofs.Common.{◌≡◌, None, sym, subst, true, false}
 use Rattle.std.specs.Prelude.{IsTrue}
-use Rattle.ntfs_def.specs.IndexTree.{Each}
-use Rattle.ntfs_def.specs.Node.{Node, IsOwnEntry}
+use Rattle.ntfs_def.specs.Node.{Node}
 use Rattle.index_node.specs.View.{bytes_of, form_of_view, node_of_view}
-use Rattle.volume_def.specs.IndexesClause.{KeyRule}
 use Rattle.index_tree.specs.Walk.{items_in}
 use Rattle.check_dirs.specs.Entries.{AreOrdered, AreWhole}
 use Rattle.check_dirs.specs.Gathered.{IsTheWalk, TellsWalk}

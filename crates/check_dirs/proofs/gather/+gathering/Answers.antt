@@ -1,4 +1,4 @@
-use Rattle.std.proofs.Common.{◌≡◌, ℕ, suc, ◌+◌, ◌-◌, ◌*◌, ◌<◌, ◌≤◌, ◌==◌, None, Some, Option, List, length, ap, sym, ◌∙◌, subst, arith, refl}
+use Rattle.std.proofs.Common.{◌≡◌, suc, ◌+◌, ◌-◌, ◌<◌, ◌==◌, None, Some, length, ap, sym, ◌∙◌, subst, arith, refl}
 use Rattle.ntfs_def.specs.IndexTree.{Each}
 use Rattle.ntfs_def.specs.Node.{IsOwnEntry, Node, child_from}
 use Rattle.index_node.specs.View.{bytes_of, form_of_view, node_of_view}

@@ -1,4 +1,4 @@
-use Rattle.std.proofs.Common.{◌≡◌, ◌≤◌, ◌+◌, ◌*◌, ℕ, [], List, Option, None, Some, length, ap, arith, sym, ◌∙◌, subst}
+use Rattle.std.proofs.Common.{◌≡◌, [], Some, length, ap, arith, sym, ◌∙◌, subst}
 use Rattle.ntfs_def.specs.Node.{Node, child_from}
 use Rattle.index_node.specs.View.{form_of_view, node_of_view}
 use Rattle.check_dirs.specs.Gathered.{AreMet, IsDepth, TellsNode}

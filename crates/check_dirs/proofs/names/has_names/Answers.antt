@@ -1,4 +1,4 @@
-use Rattle.std.proofs.Common.{◌≡◌, ◌≢◌, ◌↔◌, ◌∙◌, Bool, true, false, sym, subst}
+use Rattle.std.proofs.Common.{◌≡◌, ◌∙◌, true, false, sym}
 use Rattle.std.specs.Prelude.{IsTrue}
 use Rattle.check_dirs.proofs.NameLaws.{count_links, named_links, same_links}
 use Rattle.check_dirs.proofs.names.has_names.Goals as goal
