@@ -25,11 +25,13 @@ const RECORD: [u8; 128] = [
     0, 0, 0, 0, 0, 0, 0, 0, 16, 0, 0, 0, 2, 0, 0, 0, // the last entry
 ];
 
-// One record, at number 0, or none.
+// One record, at number 0, or none. It tells nothing, and may fail.
 #[derive(Drop)]
 struct Listed {
     there: bool,
     block: [u8; 4096],
+    fails: bool,
+    faults: u64,
 }
 
 impl IndexRecords for Listed {
@@ -41,9 +43,13 @@ impl IndexRecords for Listed {
 
     ghost fetched = { λ it. 0 };
 
-    ghost faults = { λ it. 0 };
+    ghost faults = { λ it. it.faults };
 
     fn fetch(&mut self, vcn: u64, into: &mut [u8; 4096]) -> Result<bool, CheckNo> {
+        if self.fails {
+            self.faults = self.faults.saturating_add(1);
+            return Err(CheckNo::Device);
+        }
         if !self.there || vcn != 0 {
             return Ok(false);
         }
@@ -59,7 +65,12 @@ impl IndexRecords for Listed {
 fn records_of(there: bool) -> Listed {
     let mut block = [0; 4096];
     block[..128].copy_from_slice(&RECORD);
-    Listed { there, block }
+    Listed {
+        there,
+        block,
+        fails: false,
+        faults: 0,
+    }
 }
 
 // How many entries the index has under this root.
@@ -82,6 +93,16 @@ fn two_levels(rt: HostRuntime) -> Result<(), Fail> {
 fn no_record(rt: HostRuntime) -> Result<(), Fail> {
     let mut records = records_of(false);
     assert_eq!(rt; entries(rt.alloc(), &mut records, &ROOT)?, None);
+    Ok(())
+}
+
+#[test]
+fn device_that_fails(rt: HostRuntime) -> Result<(), Fail> {
+    let mut records = records_of(true);
+    records.fails = true;
+    let found = entries(rt.alloc(), &mut records, &ROOT);
+    assert_eq!(rt; found, Err(CheckNo::Device));
+    assert_eq!(rt; records.faults, 1);
     Ok(())
 }
 
