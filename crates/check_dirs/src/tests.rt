@@ -62,12 +62,47 @@ impl IndexRecords for Listed {
     ghost only_reads_on = { λ a b c h k. tt };
 }
 
-fn records_of(there: bool) -> Listed {
+// Records by their numbers, which tell their contents.
+#[derive(Drop)]
+struct Told<'b> {
+    blocks: &'b [[u8; 4096]],
+}
+
+impl<'b> IndexRecords for Told<'b> {
+    ghost use Rattle.std.specs.Prelude.{Some};
+    ghost use Rattle.std.specs.List.{slice_get};
+
+    ghost records = { λ it. Some (slice_get it.blocks.now) };
+
+    ghost only_reads = { λ old new. Unit {0} };
+
+    ghost fetched = { λ it. 0 };
+
+    ghost faults = { λ it. 0 };
+
+    fn fetch(&mut self, vcn: u64, into: &mut [u8; 4096]) -> Result<bool, CheckNo> {
+        let Some(block) = self.blocks.get(vcn as usize) else {
+            return Ok(false);
+        };
+        *into = *block;
+        Ok(true)
+    }
+
+    ghost only_reads_itself = { λ it. tt };
+
+    ghost only_reads_on = { λ a b c h k. tt };
+}
+
+fn record() -> [u8; 4096] {
     let mut block = [0; 4096];
     block[..128].copy_from_slice(&RECORD);
+    block
+}
+
+fn records_of(there: bool) -> Listed {
     Listed {
         there,
-        block,
+        block: record(),
         fails: false,
         faults: 0,
     }
@@ -86,6 +121,15 @@ fn entries(alloc: Global, records: &mut Listed, root: &[u8]) -> Result<Option<us
 fn two_levels(rt: HostRuntime) -> Result<(), Fail> {
     let mut records = records_of(true);
     assert_eq!(rt; entries(rt.alloc(), &mut records, &ROOT)?, Some(2));
+    Ok(())
+}
+
+#[test]
+fn contents_told(rt: HostRuntime) -> Result<(), Fail> {
+    let blocks = [record()];
+    let mut told = Told { blocks: &blocks };
+    let found = check_index(rt.alloc(), &mut told, NodeForm::View, 0x10, &IdOrder, &ROOT)?;
+    assert!(rt; found.is_some());
     Ok(())
 }
 
