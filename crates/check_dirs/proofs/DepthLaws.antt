@@ -1,7 +1,7 @@
 -- The depth of an index, by its first leaf.
-use Rattle.std.proofs.Common.{◌≡◌, ◌≢◌, ℕ, zero, suc, ◌+◌, ◌-◌, ◌≤◌, Option, Some, None, refl, sym, ap, ◌∙◌, arith}
+use Rattle.std.proofs.Common.{◌≡◌, ◌≢◌, ℕ, zero, suc, ◌+◌, ◌-◌, Some, None, refl, sym, ap, ◌∙◌, arith}
 use Rattle.ntfs_def.specs.Node.{Node, child_from}
-use Rattle.ntfs_def.specs.IndexTree.{Nodes, Spread, Tree, IsStored, child_of, node_of}
+use Rattle.ntfs_def.specs.IndexTree.{Nodes, Tree, IsStored, child_of, node_of}
 use Rattle.check_dirs.specs.Gathered.{IsDepth}
 use Rattle.check_dirs.proofs.TreeLaws.{below_at, child_at_place, none_other, some_same, stored_at}
 

@@ -1,10 +1,10 @@
 -- The steps of a gathering.
-use Rattle.std.proofs.Common.{◌≡◌, ◌≢◌, ℕ, zero, suc, ◌+◌, ◌<◌, ◌≤◌, ◌==◌, List, [], ◌∷◌, ◌++◌, Option, Some, None, Bool, true, false, length, map, take, get_or, refl, sym, ap, subst, ◌∙◌, arith, append_assoc, append-nil, cond}
+use Rattle.std.proofs.Common.{◌≡◌, ℕ, zero, suc, ◌+◌, ◌<◌, ◌==◌, List, [], ◌∷◌, ◌++◌, Option, Some, None, Bool, true, false, length, map, take, get_or, refl, sym, ap, subst, ◌∙◌, arith, append_assoc, append-nil, cond}
 use Rattle.std.proofs.lemmas.Bool.{eq-eqb, eqb-true}
 use Rattle.std.proofs.lemmas.Bool.Decides.{nat_tests}
 use Rattle.std.proofs.lemmas.List.{map-append}
 use Rattle.ntfs_def.specs.Node.{Item, Entry, Node, child_from, item_in}
-use Rattle.ntfs_def.specs.IndexTree.{Nodes, Branch, Spread, Tree, Each, child_of, entry_of, node_of, items_of, times_in, IsStored, AreStored, one_if}
+use Rattle.ntfs_def.specs.IndexTree.{Nodes, Branch, Tree, Each, entry_of, node_of, items_of, times_in, IsStored, one_if}
 use Rattle.index_tree.specs.Walk.{items_in}
 use Rattle.check_dirs.specs.Gathered.{GathersNode, GathersTree, LacksNode, LacksTree, Meets, TellsNode, TellsTree, met_times}
 use Rattle.check_dirs.proofs.TreeLaws.{AreBranchesStored, below_at, branch_items-list, branch_times-list, child_at_place, each_below, each_branch, each_take, list_items, list_items-more, list_times, list_times-more, none_other, one_branches, some_same, stored_at, times_front}
@@ -59,10 +59,10 @@ module _ (nodes : Nodes) where
     tells_number false met' old new none = λ tree at stored times.
         let n : node_of depth tree.spread ≡ node = some_same (sym stored.0 ∙ ap nodes (some_same at) ∙ read) in
         none tree.spread n stored.1 (λ place.
-            let a = times place in
-            let b = meets.times place in
-            let e : one_if place tree.vcn ≡ one_if place v = ap (one_if place) (some_same at) in
-            omega arith)
+        let a = times place in
+        let b = meets.times place in
+        let e : one_if place tree.vcn ≡ one_if place v = ap (one_if place) (some_same at) in
+        omega arith)
 
 -- Lists of entries.
 take_more : (xs : List Entry) (i : ℕ) (d : Entry) → i < length xs → take (suc i) xs ≡ take i xs ++ get_or xs i d ∷ []
@@ -193,12 +193,12 @@ module _ (nodes : Nodes) (depth : ℕ) (node : Node) (met : List ℕ) (old : Lis
         (each_take (λ (x : Branch (Tree depth)). IsStored nodes depth x.below) s.branches i
         (each_branch (IsStored nodes depth) s.branches s.last stored)) in
         none t (child_at_place depth node s i n) (stored_at (IsStored nodes depth) s.branches s.last i stored) (λ place.
-            let a = times place in
-            let b = front.times place in
-            let c : list_times (times_in place depth) front.bs ≡ list_times (times_in place depth) (take i s.branches) =
-            ap (list_times (times_in place depth)) same in
-            let d = times_front (times_in place depth) s.branches s.last i in
-            omega arith)
+        let a = times place in
+        let b = front.times place in
+        let c : list_times (times_in place depth) front.bs ≡ list_times (times_in place depth) (take i s.branches) =
+        ap (list_times (times_in place depth)) same in
+        let d = times_front (times_in place depth) s.branches s.last i in
+        omega arith)
 
     -- the last child, behind all entries
     pub tells_all : (good : Bool) (met2 : List ℕ) (new : List (List ℕ)) → i ≡ length node.entries

@@ -1,7 +1,7 @@
 -- The answer of the check, by what its tests told.
-use Rattle.std.proofs.Common.{◌≡◌, ℕ, ◌+◌, ◌≤◌, List, Option, Some, None, length, refl, sym, ap, subst, ◌∙◌, arith}
+use Rattle.std.proofs.Common.{◌≡◌, ℕ, ◌≤◌, List, Option, Some, None, length, refl, sym, subst, ◌∙◌, arith}
 use Rattle.ntfs_def.specs.IndexTree.{Nodes, Walks}
-use Rattle.ntfs_def.specs.Node.{Item, Node, BadAt, Whole, node_header, node_header_failing, scan_node, short_node}
+use Rattle.ntfs_def.specs.Node.{Item, Node, BadAt, Whole, node_header_failing, scan_node, short_node}
 use Rattle.ntfs_def.specs.declared.index.NodeForm.{NodeForm}
 use Rattle.volume_def.specs.IndexesClause.{KeyRule}
 use Rattle.index_node.proofs.NodeLaws.{header_short, scan_node-wrong}
@@ -42,10 +42,13 @@ module _ (form : NodeForm) (rule : KeyRule) (nodes : Nodes) (root : List ℕ) wh
       pub an_index : HasFields form rule.collation root → AreOrdered rule.order rule.valid (items_in entries)
           → TellsIndex form rule nodes root (Some entries)
       an_index fields ordered = record {
-        fields = fields;
-        root_node = node;
-        says = said;
-        walks = walk.walks;
-        keys = ordered.keys;
-        ascending = ordered.ascending;
+        index = record {
+          fields = fields;
+          root_node = node;
+          says = said;
+          walks = walk.walks;
+          keys = ordered.keys;
+          ascending = ordered.ascending;
+        };
+        only = λ items other. walk.only items (same_walk items other);
       }

@@ -1,7 +1,7 @@
 -- The order of entries, by their places and as lists.
-use Rattle.std.proofs.Common.{◌≡◌, ℕ, zero, suc, ◌+◌, ◌<◌, List, [], ◌∷◌, Bool, length, map, get_or, refl, sym, ap, subst, ◌∙◌, arith}
+use Rattle.std.proofs.Common.{◌≡◌, ℕ, zero, suc, ◌+◌, ◌<◌, List, [], ◌∷◌, Bool, length, get_or, refl, subst, arith}
 use Rattle.std.specs.Prelude.{All, IsTrue}
-use Rattle.std.proofs.lemmas.List.Elements.{All-map, All-cons, All-head, All-nil, All-tail}
+use Rattle.std.proofs.lemmas.List.Elements.{All-cons, All-head, All-nil, All-tail}
 use Rattle.std.specs.Cmp.{IsTotalOrder}
 use Rattle.std.specs.declared.cmp.Ordering.{Ordering}
 use Rattle.std.specs.declared.cmp.Ordering.TheVariants.{Less}
@@ -10,7 +10,7 @@ use Rattle.ntfs_def.specs.Node.{IsOwnEntry, Item, has_child, item_in}
 use Rattle.ntfs_def.specs.declared.index.NodeForm.{NodeForm}
 use Rattle.index_tree.proofs.OwnEntries.{own_whole}
 use Rattle.index_tree.specs.Walk.{items_in}
-use Rattle.check_dirs.specs.Entries.{AreOrdered, AreValid, AreWhole, IsWhole, Rise, key_at}
+use Rattle.check_dirs.specs.Entries.{AreValid, AreWhole, IsWhole, Rise, key_at}
 
 -- an element, whatever stands for a missing one
 pub get_or-any : (xs : List (List ℕ)) (i : ℕ) (a b : List ℕ) → i < length xs → get_or xs i a ≡ get_or xs i b
@@ -50,8 +50,8 @@ module _ (order : List ℕ → List ℕ → Ordering) (laws : IsTotalOrder order
   ascends_from_rise (e ∷ f ∷ entries) h =
       let rest : Ascends order (items_in (f ∷ entries)) =
       ascends_from_rise (f ∷ entries) (λ i k.
-          let next : suc i + 1 ≡ suc (i + 1) = omega arith in
-          subst (λ j. order (key_at (e ∷ f ∷ entries) (suc i)) (key_at (e ∷ f ∷ entries) j) ≡ Less) next (h (suc i) (omega arith))) in
+      let next : suc i + 1 ≡ suc (i + 1) = omega arith in
+      subst (λ j. order (key_at (e ∷ f ∷ entries) (suc i)) (key_at (e ∷ f ∷ entries) j) ≡ Less) next (h (suc i) (omega arith))) in
       let first : order (item_in e).key (item_in f).key ≡ Less = h 0 (omega arith) in
       ((first, above (item_in e).key (items_in entries) (item_in f) first rest.0), rest)
 

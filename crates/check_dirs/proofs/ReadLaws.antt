@@ -1,5 +1,5 @@
 -- What a record that was fetched says.
-use Rattle.std.proofs.Common.{◌≡◌, ℕ, List, Option, Some, None, Bool, true, false, length, refl, sym, ap, subst, ◌∙◌, cond}
+use Rattle.std.proofs.Common.{◌≡◌, ℕ, List, Option, Some, None, Bool, true, false, length, sym, ap, ◌∙◌, cond}
 use Rattle.std.specs.Option.{option_and_then}
 use Rattle.ntfs_def.specs.declared.index.NodeForm.{NodeForm}
 use Rattle.ntfs_def.specs.Node.{Node, Whole, are_short, node_in, scan_node, short_node, whole_of}

@@ -1,7 +1,7 @@
 -- The records under a child hold one tree of a depth, and a tree by the list of its branches.
-use Rattle.std.proofs.Common.{◌≡◌, ℕ, zero, suc, ◌+◌, ◌<◌, ◌≤◌, List, [], ◌∷◌, ◌++◌, Option, Some, None, length, map, take, refl, sym, ap, ◌∙◌, arith, append_assoc, append-nil}
+use Rattle.std.proofs.Common.{◌≡◌, ℕ, zero, suc, ◌+◌, ◌≤◌, List, [], ◌∷◌, ◌++◌, Option, Some, None, map, take, refl, sym, ap, ◌∙◌, arith, append_assoc}
 use Rattle.ntfs_def.specs.Node.{Item, Entry, Node, child_from}
-use Rattle.ntfs_def.specs.IndexTree.{Nodes, Branch, Spread, Vertex, Tree, Each, EachBelow, branch_items, branch_times, child_of, entry_of, node_of, items_of, times_in, IsStored, AreStored}
+use Rattle.ntfs_def.specs.IndexTree.{Nodes, Branch, Spread, Vertex, Tree, Each, EachBelow, branch_items, branch_times, child_of, entry_of, node_of, IsStored, AreStored}
 
 pub some_same : {X : Type 0} {a b : X} → Some a ≡ Some b → a ≡ b
 some_same e = cc

@@ -1,15 +1,18 @@
 -- The clause on indexes, from what is checked of one, and back.
-use Rattle.std.proofs.Common.{◌≡◌, ◌≢◌, ℕ, zero, suc, ◌+◌, ◌≤◌, ◌==◌, List, [], ◌∷◌, Option, Some, None, Bool, true, false, cond, refl, sym, ap, subst, ◌∙◌, arith, inl, inr}
+use Rattle.std.proofs.Common.{◌≡◌, ◌≢◌, ℕ, zero, suc, ◌≤◌, ◌==◌, List, [], ◌∷◌, map, Option, Some, None, cond, refl, sym, ap, subst, ◌∙◌, arith, inl, inr}
 use Rattle.std.specs.Prelude.{IsSome}
 use Rattle.std.proofs.lemmas.Bool.{cases_Bool, eqb-false, eqb-true}
 use Rattle.vol_bytes.specs.Field.{u32_at}
 use Rattle.ntfs_def.specs.Fixup.{opened_of}
-use Rattle.ntfs_def.specs.IndexTree.{Nodes, Branch, Spread, Tree, AreStored, EachBelow, HoldsIndex, IsStored, Walks, branch_times, node_of, one_if, spread_times, times_in}
+use Rattle.ntfs_def.specs.IndexTree.{Nodes, Branch, Spread, Tree, AreStored, EachBelow, IsStored, Walks, branch_times, node_of, one_if, spread_times, times_in}
 use Rattle.ntfs_def.specs.Node.{Item, Node, short_node}
 use Rattle.ntfs_def.specs.declared.index.NodeForm.{NodeForm}
-use Rattle.volume_def.specs.IndexesClause.{HasIndex, IndexParts, IsIndexRecordAt, KeyRule, index_nodes, stored_index_record}
+use Rattle.ntfs_def.specs.declared.index.NodeForm.TheVariants.{Names}
+use Rattle.ntfs_def.specs.FileName.{link_of}
+use Rattle.volume_def.specs.SameItems.{SameItems}
+use Rattle.volume_def.specs.IndexesClause.{HasIndex, IsDirectoryIndex, name_rule, IndexParts, IsIndexRecordAt, KeyRule, index_nodes, stored_index_record}
 use Rattle.volume_def.specs.View.{VolumeView}
-use Rattle.check_dirs.specs.OfVolume.{AreRecordsOf, HasParts}
+use Rattle.check_dirs.specs.OfVolume.{AreRecordsOf, HasNames, HasParts, directory_parts, links_in}
 use Rattle.check_dirs.specs.OrderedIndex.{IndexesKind, IsOrderedIndex}
 use Rattle.check_dirs.specs.Records.{Records, short_nodes}
 use Rattle.check_dirs.proofs.GatherLaws.{one_if-same}
@@ -36,10 +39,10 @@ module _ (nodes others : Nodes) where
   tree_moved (suc depth) t h k = (
     h t.vcn (let own = one_if-same t.vcn in omega arith) (node_of depth t.spread) k.0,
     branches_moved (λ vcn. times_in vcn depth) (IsStored nodes depth) (IsStored others depth) (SaysAt nodes others)
-    (tree_moved depth) t.spread.branches t.spread.last (λ vcn met. h vcn (omega arith)) k.1,
+        (tree_moved depth) t.spread.branches t.spread.last (λ vcn met. h vcn (omega arith)) k.1,
   )
 
-  spread_moved : (depth : ℕ) (s : Spread (Tree depth)) → ((vcn : ℕ) → 1 ≤ spread_times vcn depth s → SaysAt nodes others vcn)
+  pub spread_moved : (depth : ℕ) (s : Spread (Tree depth)) → ((vcn : ℕ) → 1 ≤ spread_times vcn depth s → SaysAt nodes others vcn)
       → AreStored nodes depth s → AreStored others depth s
   spread_moved depth s h k =
       branches_moved (λ vcn. times_in vcn depth) (IsStored nodes depth) (IsStored others depth) (SaysAt nodes others)
@@ -67,7 +70,7 @@ module _ (nodes : Nodes) (place : ℕ) where
         branches_there (times_in place depth) (IsStored nodes depth) (tree_there depth) t.spread.branches t.spread.last (omega arith) k.1
   ]
 
-  spread_there : (depth : ℕ) (s : Spread (Tree depth)) → 1 ≤ spread_times place depth s → AreStored nodes depth s → IsThere
+  pub spread_there : (depth : ℕ) (s : Spread (Tree depth)) → 1 ≤ spread_times place depth s → AreStored nodes depth s → IsThere
   spread_there depth s met k =
       branches_there (times_in place depth) (IsStored nodes depth) (tree_there depth) s.branches s.last met k
 
@@ -86,7 +89,7 @@ walks_moved nodes others root items walks says = record {
 }
 
 -- The nodes of the records, and those of the volume.
-some_record : (form : NodeForm) (records : Records) (vcn : ℕ) (node : Node) → short_nodes form records vcn ≡ Some node → IsSome (records vcn)
+pub some_record : (form : NodeForm) (records : Records) (vcn : ℕ) (node : Node) → short_nodes form records vcn ≡ Some node → IsSome (records vcn)
 some_record form records vcn node e = go (records vcn) refl
   where
     go : (o : Option (List ℕ)) → records vcn ≡ o → IsSome (records vcn)
@@ -95,20 +98,20 @@ some_record form records vcn node e = go (records vcn) refl
 
 module _ (form : NodeForm) (rule : KeyRule) (view : VolumeView) (index : IndexParts) (records : Records)
     (are : AreRecordsOf view index records) (root : List ℕ) (items : List Item) where
-  said_there : (vcn : ℕ) → IsIndexRecordAt view index vcn → short_nodes form records vcn ≡ index_nodes form view index vcn
+  pub said_there : (vcn : ℕ) → IsIndexRecordAt view index vcn → short_nodes form records vcn ≡ index_nodes form view index vcn
   unfolding index_nodes
   said_there vcn there =
       at_record form records vcn (opened_of (stored_index_record view index vcn))
       (short_node form (opened_of (stored_index_record view index vcn))) (are.there vcn there) refl
 
-  pub index_from_ordered : HasParts index root → IsOrderedIndex form rule (short_nodes form records) root items
+  abbrev pub index_from_ordered : HasParts index root → IsOrderedIndex form rule (short_nodes form records) root items
       → HasIndex form rule view index items
   index_from_ordered parts ordered =
       let walks = ordered.walks in
       let there : (vcn : ℕ) → 1 ≤ spread_times vcn walks.depth walks.s → IsIndexRecordAt view index vcn =
       λ vcn met.
-          let said = spread_there (short_nodes form records) vcn walks.depth walks.s met walks.holds.stored in
-          are.only vcn (some_record form records vcn said.0 said.1) in
+      let said = spread_there (short_nodes form records) vcn walks.depth walks.s met walks.holds.stored in
+      are.only vcn (some_record form records vcn said.0 said.1) in
       record {
         root = root;
         is_root = parts.is_root;
@@ -126,7 +129,7 @@ module _ (form : NodeForm) (rule : KeyRule) (view : VolumeView) (index : IndexPa
         ascending = ordered.ascending;
       }
 
-  root_same : {a b : List ℕ} → Some a ∷ [] ≡ Some b ∷ [] → a ≡ b
+  pub root_same : {a b : List ℕ} → Some a ∷ [] ≡ Some b ∷ [] → a ≡ b
   root_same e = cc
 
   pub ordered_from_index : HasParts index root → IndexesKind form root → HasIndex form rule view index items
@@ -145,4 +148,27 @@ module _ (form : NodeForm) (rule : KeyRule) (view : VolumeView) (index : IndexPa
             (λ vcn met node e. said_there vcn (has.each vcn met) ∙ e);
         keys = has.keys;
         ascending = has.ascending;
+      }
+
+-- The same of a directory.
+module _ (view : VolumeView) (f : ℕ) (records : Records) (are : AreRecordsOf view (directory_parts view f) records) (root : List ℕ)
+    (parts : HasParts (directory_parts view f) root) where
+  pub directory_from_ordered : (items : List Item) → IsOrderedIndex Names (name_rule view) (short_nodes Names records) root items
+      → SameItems (map link_of items) (links_in view f) → IsDirectoryIndex view f
+  directory_from_ordered items ordered names = record {
+    items = items;
+    index = index_from_ordered Names (name_rule view) view (directory_parts view f) records are root items parts ordered;
+    kind = ordered.fields.kind;
+    names = names;
+  }
+
+  pub ordered_from_directory : IsDirectoryIndex view f → HasNames view f (short_nodes Names records) root
+  ordered_from_directory has =
+      let same : has.index.root ≡ root =
+      root_same Names (name_rule view) view (directory_parts view f) records are root has.items (sym has.index.is_root ∙ parts.is_root) in
+      record {
+        items = has.items;
+        index = ordered_from_index Names (name_rule view) view (directory_parts view f) records are root has.items parts
+            (ap (λ r. u32_at r 0x00) (sym same) ∙ has.kind) has.index;
+        names = has.names;
       }

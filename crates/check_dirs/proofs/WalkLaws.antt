@@ -1,10 +1,10 @@
 -- The walk of an index, from what was gathered.
-use Rattle.std.proofs.Common.{◌≡◌, ℕ, ◌+◌, ◌≤◌, List, [], ◌++◌, Option, Some, None, Bool, true, false, cond, eqb, refl, sym, ap, subst, ◌∙◌, arith}
+use Rattle.std.proofs.Common.{◌≡◌, ℕ, ◌≤◌, List, [], Some, None, Bool, true, false, cond, eqb, sym, ap, subst, ◌∙◌, arith}
 use Rattle.std.specs.List.{list_any}
 use Rattle.ntfs_def.specs.Node.{Item, Node, child_from}
-use Rattle.ntfs_def.specs.IndexTree.{Nodes, Spread, Tree, HoldsIndex, IsStored, Walks, node_of, spread_items}
+use Rattle.ntfs_def.specs.IndexTree.{Nodes, Spread, Tree, HoldsIndex, IsStored, Walks, spread_items}
 use Rattle.index_tree.specs.Walk.{items_in}
-use Rattle.check_dirs.specs.Gathered.{GathersNode, IsDepth, IsTheWalk, LacksNode, TellsNode, TellsWalk, met_times}
+use Rattle.check_dirs.specs.Gathered.{GathersNode, IsDepth, IsTheWalk, LacksNode, TellsNode, TellsWalk}
 use Rattle.check_dirs.proofs.TreeLaws.{below_at, child_at_place, one_spread, stored_at}
 
 one_if-small : (b : Bool) → cond b 1 0 ≤ 1

@@ -1,9 +1,10 @@
 -- What the gathering of an index's entries finds.
-use Rattle.std.specs.Prelude.{◌≡◌, ℕ, ◌+◌, ◌≤◌, ◌==◌, Bool, true, false, List, ◌++◌, Option, Some, None, map, take, length, if◌then◌else◌}
-use Rattle.std.specs.List.{list_any}
+use Rattle.std.specs.Prelude.{◌≡◌, ℕ, ◌+◌, ◌<◌, ◌≤◌, ◌==◌, Bool, true, false, List, ◌++◌, Option, Some, None, IsSome, length, if◌then◌else◌}
+use Rattle.std.specs.List.{AllPairs, list_any}
 use Rattle.ntfs_def.specs.Node.{Item, Node}
-use Rattle.ntfs_def.specs.IndexTree.{Nodes, Branch, Spread, Tree, Each, Walks, branch_items, branch_times, child_of, entry_of, node_of, items_of, one_if, times_in, IsStored, AreStored, spread_items, spread_times}
+use Rattle.ntfs_def.specs.IndexTree.{Nodes, Spread, Tree, Walks, child_of, node_of, items_of, one_if, times_in, IsStored, AreStored, spread_items, spread_times}
 use Rattle.index_tree.specs.Walk.{items_in}
+use Rattle.check_dirs.specs.Records.{HasAtMost, Records}
 
 -- The records that were met, by their numbers: how often a number is among them, which is once at most.
 abbrev pub met_times : List ℕ → ℕ → ℕ
@@ -13,6 +14,16 @@ met_times met place = if list_any (λ vcn. vcn == place) met then 1 else 0
 pub record Meets (old new : List ℕ) (vcn : ℕ) : Type 0 where
   pub times : (place : ℕ) → met_times new place ≡ met_times old place + one_if place vcn
   pub len : length new ≡ length old + 1
+  pub rising : AllPairs (λ vcn later. vcn < later) new
+
+-- The numbers that were met rise, and each of them has a record.
+pub record AreMet (records : Records) (met : List ℕ) : Type 0 where
+  pub rising : AllPairs (λ vcn later. vcn < later) met
+  pub there : (place : ℕ) → met_times met place ≡ 1 → IsSome (records place)
+
+-- They are no more than there are records, and one.
+abbrev pub AreFew : Records → List ℕ → Type 0
+AreFew records met = (n : ℕ) → HasAtMost n records → length met ≤ n + 1
 
 -- How deep the leaves are, by the way that leads to the first of them.
 

@@ -32,10 +32,15 @@ pub record IsOrderedIndex (form : NodeForm) (rule : KeyRule) (nodes : Nodes) (ro
   pub keys : All (λ item. IsTrue (rule.valid item.key)) items
   pub ascending : Ascends rule.order items
 
+-- The entries are those of such an index, which has no others.
+pub record IsTheIndex (form : NodeForm) (rule : KeyRule) (nodes : Nodes) (root : List ℕ) (entries : List (List ℕ)) : Type 0 where
+  pub index : IsOrderedIndex form rule nodes root (items_in entries)
+  pub only : (items : List Item) → IsOrderedIndex form rule nodes root items → items_in entries ≡ items
+
 -- THE ANSWER: the bytes of the entries of such an index, in order, or that there is none
 abbrev pub TellsIndex : NodeForm → KeyRule → Nodes → List ℕ → Option (List (List ℕ)) → Type 0
 TellsIndex form rule nodes root None = (items : List Item) → IsOrderedIndex form rule nodes root items → ⊥
-TellsIndex form rule nodes root (Some entries) = IsOrderedIndex form rule nodes root (items_in entries)
+TellsIndex form rule nodes root (Some entries) = IsTheIndex form rule nodes root entries
 
 -- the rule of these parts
 abbrev pub key_rule : ℕ → (List ℕ → List ℕ → Ordering) → (List ℕ → Bool) → KeyRule

@@ -5,16 +5,16 @@ ghost use Rattle.vol_disk.specs.Contents.{WhereTold};
 ghost use Rattle.index_tree.specs.Walk.{items_in};
 ghost use Rattle.check_dirs.specs.Entries.{AreOrdered, AreWhole};
 ghost use Rattle.check_dirs.specs.OrderedIndex.{HasFields, TellsIndex, key_rule};
-ghost use Rattle.check_dirs.specs.Records.{CountsNo, short_nodes};
+ghost use Rattle.check_dirs.specs.Records.{CostsCheck, CountsNo, short_nodes};
 
 use crate::gather::gather;
 use crate::order::are_ordered;
 use crate::{CheckNo, IndexRecords};
 use collation::Collation;
 use index_node::NodeView;
+use ntfs_def::NodeForm;
 use ntfs_def::kinds::FILE_NAME;
 use ntfs_def::lengths::INDEX_RECORD;
-use ntfs_def::NodeForm;
 use std::alloc::Global;
 use vol_bytes::{Octets, u32_at};
 
@@ -57,6 +57,7 @@ pub fn check_index<R: IndexRecords, C: Collation>(
 
     ensures records { R.records records.new ≡ R.records records.old }
     ensures only_reads { R.only_reads records.old records.new }
+    ensures fetched { WhereTold (R.records records.old) (λ r. CostsCheck r (R.fetched records.old) (R.fetched records.new)) }
 
     ensures faults { MatchResult result (λ _. R.faults records.new ≡ R.faults records.old)
         (CountsNo (R.faults records.old) (R.faults records.new)) }

@@ -1,12 +1,12 @@
 //! The entries of an index are gathered in order, and each record is met once.
-ghost use Rattle.std.specs.Prelude.{◌≡◌, ◌≤◌, ◌+◌, ◌*◌, ◌++◌, ◌∷◌, [], Option, List, IfOk, IfErr, IfSome, MatchResult, OnOk, length};
+ghost use Rattle.std.specs.Prelude.{◌≡◌, ◌≤◌, ◌+◌, ◌*◌, ◌++◌, ◌∷◌, [], IfOk, IfErr, IfSome, IsTrue, MatchResult, OnOk, length};
 ghost use Rattle.std.specs.Option.{option_map};
 ghost use Rattle.ntfs_def.specs.IndexTree.{Each};
 ghost use Rattle.ntfs_def.specs.Node.{IsOwnEntry};
 ghost use Rattle.vol_disk.specs.Contents.{WhereTold};
 ghost use Rattle.index_node.specs.View.{form_of_view, node_of_view};
-ghost use Rattle.check_dirs.specs.Gathered.{TellsNode, TellsTree, TellsWalk};
-ghost use Rattle.check_dirs.specs.Records.{CountsNo, short_nodes};
+ghost use Rattle.check_dirs.specs.Gathered.{AreFew, AreMet, TellsNode, TellsTree, TellsWalk};
+ghost use Rattle.check_dirs.specs.Records.{CostsCheck, CountsNo, short_nodes};
 
 use crate::depth::depth_below;
 use crate::met::Met;
@@ -43,6 +43,8 @@ fn gather_tree<R: IndexRecords>(
     ensures tells { IfOk result (λ good. WhereTold (R.records records.old) (λ r.
         TellsTree good (short_nodes form r) depth child met.old met.new out.old.items out.new.items)) }
     ensures own { OnOk result (Each (IsOwnEntry form) out.old.items → Each (IsOwnEntry form) out.new.items) }
+    ensures met { IfOk result (λ good. WhereTold (R.records records.old) (λ r. IsTrue good → AreMet r met.old → AreMet r met.new)) }
+    ensures few { WhereTold (R.records records.old) (λ r. AreMet r met.old → AreFew r met.new) }
 
     ensures records { R.records records.new ≡ R.records records.old }
     ensures only_reads { R.only_reads records.old records.new }
@@ -91,6 +93,8 @@ fn gather_node<R: IndexRecords>(
         met.old met.new out.old.items out.new.items)) }
     ensures own { OnOk result (Each (IsOwnEntry (form_of_view node.now)) out.old.items
         → Each (IsOwnEntry (form_of_view node.now)) out.new.items) }
+    ensures met { IfOk result (λ good. WhereTold (R.records records.old) (λ r. IsTrue good → AreMet r met.old → AreMet r met.new)) }
+    ensures few { WhereTold (R.records records.old) (λ r. AreMet r met.old → AreFew r met.new) }
 
     ensures records { R.records records.new ≡ R.records records.old }
     ensures only_reads { R.only_reads records.old records.new }
@@ -124,6 +128,7 @@ pub fn gather<R: IndexRecords>(
 
     ensures records { R.records records.new ≡ R.records records.old }
     ensures only_reads { R.only_reads records.old records.new }
+    ensures fetched { WhereTold (R.records records.old) (λ r. CostsCheck r (R.fetched records.old) (R.fetched records.new)) }
 
     ensures faults { MatchResult result (λ _. R.faults records.new ≡ R.faults records.old)
         (CountsNo (R.faults records.old) (R.faults records.new)) }

@@ -15,7 +15,7 @@ mod records;
 mod tests;
 
 pub use check::check_index;
-pub use laws::checked_indexes;
+pub use laws::{checked_directories, checked_indexes};
 pub use names::{DirectoryNames, has_names};
 pub use records::IndexRecords;
 use std::alloc::{AllocError, AllocFailed};

@@ -1,5 +1,5 @@
 //! Which records were met.
-ghost use Rattle.std.specs.Prelude.{◌≡◌, ◌+◌, ℕ, List, [], IfOk, IfErr, OnErr, IsTrue, IsFalse, length};
+ghost use Rattle.std.specs.Prelude.{◌≡◌, ℕ, List, [], IfOk, IfErr, OnErr, IsTrue, IsFalse};
 ghost use Rattle.check_dirs.specs.Gathered.{Meets, met_times};
 
 use crate::CheckNo;

@@ -1,9 +1,6 @@
 //! The entries of a directory, compared with the names that stand in it.
-ghost use Rattle.std.specs.Prelude.{◌≡◌, ◌↔◌, ◌+◌, ◌*◌, ◌≤◌, ℕ, List, Option, All, IfOk, IsTrue, MatchResult, length, map};
-ghost use Rattle.std.specs.List.{Contains};
-ghost use Rattle.ntfs_def.specs.FileName.{Link, is_name_key, link_of, name_in};
-ghost use Rattle.ntfs_def.specs.Node.{item_in};
-ghost use Rattle.ntfs_def.specs.Record.{reference_in};
+ghost use Rattle.std.specs.Prelude.{◌≡◌, ◌↔◌, ◌+◌, ◌*◌, ◌≤◌, ℕ, List, Option, IfOk, IsTrue, MatchResult, length, map};
+ghost use Rattle.ntfs_def.specs.FileName.{Link, is_name_key, link_of};
 ghost use Rattle.volume_def.specs.SameItems.{SameItems};
 ghost use Rattle.vol_disk.specs.Contents.{WhereTold};
 ghost use Rattle.index_tree.specs.Walk.{items_in};
@@ -99,7 +96,8 @@ pub fn has_names<N: DirectoryNames>(names: &mut N, entries: &[Octets]) -> Result
     ensures faults { MatchResult result (λ _. N.faults names.new ≡ N.faults names.old)
         (CountsNo (N.faults names.old) (N.faults names.new)) }
 {
-    if names.count() != entries.len() as u64 {
+    let as_many = names.count() == entries.len() as u64;
+    if !as_many {
         return Ok(false);
     }
     let all = are_named(names, entries)?;

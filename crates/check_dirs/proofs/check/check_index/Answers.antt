@@ -1,9 +1,7 @@
-use Rattle.std.proofs.Common.{◌≡◌, ℕ, List, None, Some, ap, sym, ◌∙◌, subst, true, false}
+use Rattle.std.proofs.Common.{◌≡◌, None, sym, subst, true, false}
 use Rattle.std.specs.Prelude.{IsTrue}
-use Rattle.ntfs_def.specs.IndexTree.{Each}
-use Rattle.ntfs_def.specs.Node.{Node, IsOwnEntry}
+use Rattle.ntfs_def.specs.Node.{Node}
 use Rattle.index_node.specs.View.{bytes_of, form_of_view, node_of_view}
-use Rattle.volume_def.specs.IndexesClause.{KeyRule}
 use Rattle.index_tree.specs.Walk.{items_in}
 use Rattle.check_dirs.specs.Entries.{AreOrdered, AreWhole}
 use Rattle.check_dirs.specs.Gathered.{IsTheWalk, TellsWalk}
@@ -71,9 +69,9 @@ returns-then-not-are_ordered-clause-index g c r e =
     let walk = subst (λ k. IsTheWalk (short_nodes k r) n entries) c.in-Ok.ensures.form
     (rw c.in-Some.is at (c.in_ok-found.ensures.tells r e)) in
     no_order form rule nodes root n said entries walk (λ ordered.
-        let shown = subst (λ xs. AreOrdered rule.order rule.valid (items_in xs)) (sym c.deref.ensures.value) ordered in
-        let f : false ≡ true = subst IsTrue c.if-not-are_ordered.true (c.are_ordered.ensures.1 shown) in
-        cc)
+    let shown = subst (λ xs. AreOrdered rule.order rule.valid (items_in xs)) (sym c.deref.ensures.value) ordered in
+    let f : false ≡ true = subst IsTrue c.if-not-are_ordered.true (c.are_ordered.ensures.1 shown) in
+    cc)
 
 pub returns-clause-index : goal.returns-clause-index
 returns-clause-index g c r e =

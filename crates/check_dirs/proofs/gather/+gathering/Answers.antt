@@ -1,11 +1,13 @@
-use Rattle.std.proofs.Common.{◌≡◌, ℕ, suc, ◌+◌, ◌-◌, ◌*◌, ◌<◌, ◌≤◌, ◌==◌, None, Some, Option, List, length, ap, sym, ◌∙◌, subst, arith, refl}
+use Rattle.std.proofs.Common.{◌≡◌, suc, ◌+◌, ◌-◌, ◌<◌, ◌==◌, None, Some, length, ap, sym, ◌∙◌, subst, arith, refl}
 use Rattle.ntfs_def.specs.IndexTree.{Each}
 use Rattle.ntfs_def.specs.Node.{IsOwnEntry, Node, child_from}
 use Rattle.index_node.specs.View.{bytes_of, form_of_view, node_of_view}
 use Rattle.index_tree.proofs.OwnEntries.{one_own}
-use Rattle.check_dirs.specs.Gathered.{LacksTree, TellsNode, TellsTree}
+use Rattle.std.specs.Prelude.{IsSome}
+use Rattle.check_dirs.specs.Gathered.{AreFew, LacksTree, TellsNode, TellsTree}
 use Rattle.check_dirs.specs.Records.{short_nodes}
 use Rattle.check_dirs.proofs.GatherLaws.{GathersFront, front_more, front_start, gathers_tree, lacks_bare, lacks_low, lacks_met, lacks_place, lacks_tree, own_more, tells_all, tells_leaf, tells_number}
+use Rattle.check_dirs.proofs.MetLaws.{few_met, more_met, some_met}
 use Rattle.check_dirs.proofs.ReadLaws.{at_record, fetched_none, fetched_some, is_long, is_short, no_record, refused}
 use Rattle.check_dirs.proofs.gather.+gathering.Goals as goal
 
@@ -84,6 +86,7 @@ gather_node-loop-i-init g t c = record {
   front = λ r e. front_start (short_nodes (form_of_view c.args.node.now) r) c.args.depth (node_of_view c.args.node.now) c.args.met.now
       c.args.out.now.items;
   own = λ h. h;
+  met = λ r e are. are;
   records = refl;
   only_reads = g.met.R.IndexRecords.only_reads_itself c.args.records.now;
   fetched = omega arith;
@@ -118,6 +121,7 @@ gather_node-loop-i-preserved g t c =
           own_more (IsOwnEntry (form_of_view node)) mid c.keep.new.out.items c.entry.result.now c.in_ok-keep.ensures.kept
           (subst (λ k. Each (IsOwnEntry k) old → Each (IsOwnEntry k) mid) c.form.ensures below.own (so_far.own h))
           (one_own (form_of_view node) _ c.entry.result.now c.entry.ensures.own);
+      met = λ r e are. below.met r (so_far.records ∙ e) c.if-not-good.false (so_far.met r e are);
       records = c.gather_tree.ensures.records ∙ so_far.records;
       only_reads = g.met.R.IndexRecords.only_reads_on c.args.records.now c.loop-i.records c.gather_tree.new.records so_far.only_reads
           c.gather_tree.ensures.only_reads;
@@ -160,3 +164,87 @@ gather_node-returns-clause-tells g t c r e =
     (subst (λ x. TellsTree good nodes c.args.depth x c.loop-i.met met old new) child
     (subst (λ k. TellsTree good (short_nodes k r) c.args.depth c.child-last.result c.loop-i.met met old new) c.form-2.ensures
     (c.in_ok-good-2.ensures.tells r (so_far.records ∙ e))))
+
+pub gather_tree-returns-in_default-clause-few : goal.gather_tree-returns-in_default-clause-few
+gather_tree-returns-in_default-clause-few g t c r e are = few_met r c.args.met.now are
+
+pub gather_tree-returns-then-depth-eq0-clause-few : goal.gather_tree-returns-then-depth-eq0-clause-few
+gather_tree-returns-then-depth-eq0-clause-few g t c r e are = few_met r c.args.met.now are
+
+pub gather_tree-returns-in_err-first-clause-few : goal.gather_tree-returns-in_err-first-clause-few
+gather_tree-returns-in_err-first-clause-few g t c r e are =
+    subst (AreFew r) (sym c.in_err-first.ensures.kept) (few_met r c.args.met.now are)
+
+pub gather_tree-returns-then-not-first-clause-few : goal.gather_tree-returns-then-not-first-clause-few
+gather_tree-returns-then-not-first-clause-few g t c r e are =
+    subst (AreFew r) (sym (c.in_ok-first.ensures.same c.if-not-first.true)) (few_met r c.args.met.now are)
+
+pub gather_tree-returns-in_err-found-clause-few : goal.gather_tree-returns-in_err-found-clause-few
+gather_tree-returns-in_err-found-clause-few g t c r e are =
+    some_met r c.args.met.now c.meet.new.self c.in-Some.vcn are (c.in_ok-first.ensures.first c.if-not-first.false)
+
+pub gather_tree-returns-then-not-found-clause-few : goal.gather_tree-returns-then-not-found-clause-few
+gather_tree-returns-then-not-found-clause-few g t c r e are =
+    some_met r c.args.met.now c.meet.new.self c.in-Some.vcn are (c.in_ok-first.ensures.first c.if-not-first.false)
+
+pub gather_tree-returns-in_default-new-clause-few : goal.gather_tree-returns-in_default-new-clause-few
+gather_tree-returns-in_default-new-clause-few g t c r e are =
+    some_met r c.args.met.now c.meet.new.self c.in-Some.vcn are (c.in_ok-first.ensures.first c.if-not-first.false)
+
+pub gather_tree-returns-then-not-is_short-clause-few : goal.gather_tree-returns-then-not-is_short-clause-few
+gather_tree-returns-then-not-is_short-clause-few g t c r e are =
+    some_met r c.args.met.now c.meet.new.self c.in-Some.vcn are (c.in_ok-first.ensures.first c.if-not-first.false)
+
+pub gather_tree-returns-in_err-good-clause-few : goal.gather_tree-returns-in_err-good-clause-few
+gather_tree-returns-in_err-good-clause-few g t c r e are =
+    let there = fetched_some (r c.in-Some.vcn) c.in_ok-found.found c.fetch.new.into c.if-not-found.false (c.in_ok-found.ensures.found r e) in
+    let met = more_met r c.args.met.now c.meet.new.self c.in-Some.vcn are (c.in_ok-first.ensures.first c.if-not-first.false)
+    (subst IsSome (sym there) refl) in
+    c.gather_node.ensures.few r (c.fetch.ensures.records ∙ e) met
+
+pub gather_tree-returns-clause-few : goal.gather_tree-returns-clause-few
+gather_tree-returns-clause-few g t c r e are =
+    let there = fetched_some (r c.in-Some.vcn) c.in_ok-found.found c.fetch.new.into c.if-not-found.false (c.in_ok-found.ensures.found r e) in
+    let met = more_met r c.args.met.now c.meet.new.self c.in-Some.vcn are (c.in_ok-first.ensures.first c.if-not-first.false)
+    (subst IsSome (sym there) refl) in
+    c.gather_node.ensures.few r (c.fetch.ensures.records ∙ e) met
+
+pub gather_tree-returns-in_default-clause-met : goal.gather_tree-returns-in_default-clause-met
+gather_tree-returns-in_default-clause-met g t c r e good are = are
+
+pub gather_tree-returns-clause-met : goal.gather_tree-returns-clause-met
+gather_tree-returns-clause-met g t c r e good are =
+    let there = fetched_some (r c.in-Some.vcn) c.in_ok-found.found c.fetch.new.into c.if-not-found.false (c.in_ok-found.ensures.found r e) in
+    let met = more_met r c.args.met.now c.meet.new.self c.in-Some.vcn are (c.in_ok-first.ensures.first c.if-not-first.false)
+    (subst IsSome (sym there) refl) in
+    c.in_ok-good.ensures.met r (c.fetch.ensures.records ∙ e) good met
+
+pub gather_node-returns-in_err-good-clause-few : goal.gather_node-returns-in_err-good-clause-few
+gather_node-returns-in_err-good-clause-few g t c r e are =
+    let so_far = c.loop-i.invariant in
+    c.gather_tree.ensures.few r (so_far.records ∙ e) (so_far.met r e are)
+
+pub gather_node-returns-then-not-good-clause-few : goal.gather_node-returns-then-not-good-clause-few
+gather_node-returns-then-not-good-clause-few g t c r e are =
+    let so_far = c.loop-i.invariant in
+    c.gather_tree.ensures.few r (so_far.records ∙ e) (so_far.met r e are)
+
+pub gather_node-returns-in_err-keep-clause-few : goal.gather_node-returns-in_err-keep-clause-few
+gather_node-returns-in_err-keep-clause-few g t c r e are =
+    let so_far = c.loop-i.invariant in
+    c.gather_tree.ensures.few r (so_far.records ∙ e) (so_far.met r e are)
+
+pub gather_node-returns-in_err-good-2-clause-few : goal.gather_node-returns-in_err-good-2-clause-few
+gather_node-returns-in_err-good-2-clause-few g t c r e are =
+    let so_far = c.loop-i.invariant in
+    c.gather_tree-2.ensures.few r (so_far.records ∙ e) (so_far.met r e are)
+
+pub gather_node-returns-clause-few : goal.gather_node-returns-clause-few
+gather_node-returns-clause-few g t c r e are =
+    let so_far = c.loop-i.invariant in
+    c.gather_tree-2.ensures.few r (so_far.records ∙ e) (so_far.met r e are)
+
+pub gather_node-returns-clause-met : goal.gather_node-returns-clause-met
+gather_node-returns-clause-met g t c r e good are =
+    let so_far = c.loop-i.invariant in
+    c.in_ok-good-2.ensures.met r (so_far.records ∙ e) good (so_far.met r e are)

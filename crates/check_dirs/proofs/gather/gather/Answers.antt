@@ -1,8 +1,9 @@
-use Rattle.std.proofs.Common.{◌≡◌, ℕ, [], List, Option, None, Some, ap, sym, ◌∙◌, subst}
+use Rattle.std.proofs.Common.{◌≡◌, [], Some, length, ap, arith, sym, ◌∙◌, subst}
 use Rattle.ntfs_def.specs.Node.{Node, child_from}
 use Rattle.index_node.specs.View.{form_of_view, node_of_view}
-use Rattle.check_dirs.specs.Gathered.{IsDepth, TellsNode}
+use Rattle.check_dirs.specs.Gathered.{AreMet, IsDepth, TellsNode}
 use Rattle.check_dirs.specs.Records.{short_nodes}
+use Rattle.check_dirs.proofs.MetLaws.{none_met}
 use Rattle.check_dirs.proofs.WalkLaws.{tells_none, tells_some, too_deep}
 use Rattle.check_dirs.proofs.gather.gather.Goals as goal
 
@@ -51,3 +52,30 @@ returns-clause-tells g c r e =
     (subst (λ first. TellsNode good nodes d n first met [] entries) c.new-met.ensures
     (subst (λ old. TellsNode good nodes d n c.new-met.result met old entries) c.new-out.ensures.items
     (c.in_ok-good.ensures.tells r (c.depth_below.ensures.records ∙ e))))
+
+pub returns-in_err-good-clause-fetched : goal.returns-in_err-good-clause-fetched
+returns-in_err-good-clause-fetched g c r e n most =
+    let none : AreMet r c.new-met.result = subst (AreMet r) (sym c.new-met.ensures) (none_met r) in
+    let begun : length c.new-met.result ≡ 0 = ap length c.new-met.ensures in
+    let deep = c.depth_below.ensures.fetched in
+    let wide = c.gather_node.ensures.fetched in
+    let few = c.gather_node.ensures.few r (c.depth_below.ensures.records ∙ e) none n most in
+    omega arith
+
+pub returns-then-not-good-clause-fetched : goal.returns-then-not-good-clause-fetched
+returns-then-not-good-clause-fetched g c r e n most =
+    let none : AreMet r c.new-met.result = subst (AreMet r) (sym c.new-met.ensures) (none_met r) in
+    let begun : length c.new-met.result ≡ 0 = ap length c.new-met.ensures in
+    let deep = c.depth_below.ensures.fetched in
+    let wide = c.gather_node.ensures.fetched in
+    let few = c.gather_node.ensures.few r (c.depth_below.ensures.records ∙ e) none n most in
+    omega arith
+
+pub returns-clause-fetched : goal.returns-clause-fetched
+returns-clause-fetched g c r e n most =
+    let none : AreMet r c.new-met.result = subst (AreMet r) (sym c.new-met.ensures) (none_met r) in
+    let begun : length c.new-met.result ≡ 0 = ap length c.new-met.ensures in
+    let deep = c.depth_below.ensures.fetched in
+    let wide = c.gather_node.ensures.fetched in
+    let few = c.gather_node.ensures.few r (c.depth_below.ensures.records ∙ e) none n most in
+    omega arith

@@ -1,4 +1,4 @@
-use Rattle.std.proofs.Common.{◌≡◌, ℕ, ◌+◌, ◌*◌, ◌<◌, ◌≤◌, [], Bool, true, false, List, length, ap, sym, ◌∙◌, subst, arith, refl, get_or, below_more}
+use Rattle.std.proofs.Common.{◌≡◌, ℕ, ◌+◌, ◌*◌, ◌<◌, ◌≤◌, [], true, false, List, length, ap, sym, ◌∙◌, subst, arith, refl, get_or, below_more}
 use Rattle.std.specs.Prelude.{IsTrue}
 use Rattle.std.specs.List.{Contains}
 use Rattle.ntfs_def.specs.FileName.{Link, is_name_key, link_of, name_in}

@@ -1,4 +1,4 @@
-use Rattle.std.proofs.Common.{◌≡◌, ◌↔◌, Bool, true, false, subst}
+use Rattle.std.proofs.Common.{◌≡◌, true, false, subst}
 use Rattle.std.specs.Prelude.{IsTrue}
 use Rattle.check_dirs.proofs.OrderLaws.{ascends_from_rise, keys_from_valid, rise_from_ascends, valid_from_keys}
 use Rattle.check_dirs.proofs.order.are_ordered.Goals as goal

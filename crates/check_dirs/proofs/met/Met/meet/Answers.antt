@@ -21,7 +21,7 @@ returns-clause-first c first =
     let same : old ≡ c.args.self.now = (let v = c.self.view_is in cc) in
     subst (λ met. Meets met c.insert.new.self.keys c.args.vcn) same
     (meets_new old c.insert.new.self.keys c.args.vcn (not_false _ _ added.added first) added.keys
-    (added.len ∙ ap (λ b. length old + one_where b) first))
+    (added.len ∙ ap (λ b. length old + one_where b) first) added.ordered)
 
 pub returns-clause-again : goal.returns-clause-again
 returns-clause-again c again =
