@@ -1,4 +1,4 @@
-use Rattle.std.proofs.Common.{refl, ◌≡◌, ◌≤◌, ◌<◌, length, ap, subst, ◌∙◌, arith}
+use Rattle.std.proofs.Common.{refl, ◌≡◌, length, ap, subst, arith}
 use Rattle.std.specs.Prelude.{IfNone, IfSome}
 use Rattle.ntfs_def.specs.Fixup.{opened_of}
 use Rattle.mft_table.specs.declared.mounted.Mounted.{Mounted}
