@@ -1,12 +1,12 @@
 -- What the clauses before give, and bitmaps and the table of case decided by what is held of their files.
-use Rattle.std.proofs.Common.{◌≡◌, ◌<◌, ◌≤◌, ◌+◌, ◌*◌, ◌/◌, ℕ, List, [], length, take, get_or, Option, Some, None, sym, ap, subst, inl, inr, min, refl, ◌∙◌, arith}
-use Rattle.std.specs.Prelude.{All, IfNone, IsSome, filter}
+use Rattle.std.proofs.Common.{◌≡◌, ◌≤◌, ◌*◌, ℕ, List, [], length, take, Option, Some, None, sym, ap, subst, min, refl, ◌∙◌, arith}
+use Rattle.std.specs.Prelude.{IfNone, filter}
 use Rattle.std.proofs.lemmas.List.{get_or-take, length-take-le}
 use Rattle.ntfs_def.specs.declared.kinds.TheConstants.{BITMAP, DATA}
 use Rattle.ntfs_def.specs.declared.records.TheConstants.{CLUSTER_BITMAP, FIRST_ORDINARY, MFT, UPCASE}
-use Rattle.volume_def.specs.BitmapClauses.{HasNoHole, HasRecordBits, MeetsClusterBits, MeetsRecordBits, cluster_bits, record_bits, written_by}
+use Rattle.volume_def.specs.BitmapClauses.{HasNoHole, HasRecordBits, MeetsRecordBits, record_bits, written_by}
 use Rattle.volume_def.specs.CaseClause.{HasCaseTable, MeetsCaseTable, case_parts}
-use Rattle.volume_def.specs.Files.{Part, all_covered, content_extent, is_of, parts, parts_at, records_of}
+use Rattle.volume_def.specs.Files.{Part, all_covered, is_of, parts, parts_at, records_of}
 use Rattle.volume_def.specs.Readable.{IsReadableVolume}
 use Rattle.volume_def.specs.Sound.{HoldBelow}
 use Rattle.volume_def.specs.Sound.Clause.{Shape, Attributes, Lists, Extents}
@@ -16,7 +16,6 @@ use Rattle.volume_def.specs.Values.{IsPlain, first_part, pieces_touched, value_o
 use Rattle.volume_def.specs.View.{VolumeView}
 use Rattle.volume_def.proofs.ValueLaws.{value-length}
 use Rattle.file_record.specs.declared.parts.FileParts.{FileParts}
-use Rattle.file_record.specs.Held.{parts_held}
 use Rattle.volume_facts.specs.BitRanges.{IsPieceOf}
 use Rattle.volume_facts.specs.Bitmaps.{HasClusterBytes}
 use Rattle.volume_facts.specs.Least.{IsLeastBelow, IsLeastFailing}

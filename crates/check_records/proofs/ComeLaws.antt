@@ -1,5 +1,5 @@
 -- What is known where the check has come to a clause.
-use Rattle.std.proofs.Common.{◌≡◌, ◌<◌, ◌+◌, ℕ, arith}
+use Rattle.std.proofs.Common.{◌<◌, ℕ, arith}
 use Rattle.volume_def.specs.Files.{records_of}
 use Rattle.volume_def.specs.ShapeClause.{MeetsShape}
 use Rattle.volume_def.specs.Sound.Clause.{Owners, Shape}

@@ -1,6 +1,6 @@
 -- A stream by the runs of its parts: where a cluster lies, and what is read of it.
-use Rattle.std.proofs.Common.{◌≡◌, ◌&&◌, ◌<◌, ◌≤◌, ◌+◌, ◌-◌, ◌*◌, ◌/◌, ◌%◌, ℕ, Bool, true, false, cond, leb, ltb, List, [], ◌∷◌, ◌++◌, length, map, replicate, get_or, min, Option, Some, None, refl, sym, ap, subst, inl, inr, ◌∙◌, length-append, arith}
-use Rattle.std.specs.Prelude.{IsSomeAnd, find, filter, slice_get, slice_index, unwrap_or}
+use Rattle.std.proofs.Common.{◌≡◌, ◌&&◌, ◌<◌, ◌≤◌, ◌+◌, ◌-◌, ◌*◌, ◌/◌, ◌%◌, ℕ, Bool, true, false, cond, leb, ltb, List, [], ◌∷◌, ◌++◌, length, map, replicate, min, Option, Some, None, refl, sym, ap, subst, inl, inr, ◌∙◌, length-append, arith}
+use Rattle.std.specs.Prelude.{IsSomeAnd, find, slice_get, slice_index, unwrap_or}
 use Rattle.std.specs.List.{range_with_len}
 use Rattle.std.proofs.Math.Nat.{div-lt_iff_lt-mul, div-mul-le_self, le-div_iff_mul-le}
 use Rattle.std.proofs.lemmas.Bool.{cases_Bool, cases_lt, le-ltb, leb-true, lt-ltb, ltb-true}
@@ -12,7 +12,7 @@ use Rattle.ntfs_def.specs.declared.run_text.Spot.TheVariants.{Outside}
 use Rattle.ntfs_def.specs.Attribute.{Attribute, Body, ExtentHeader, NonResident, Resident, run_text_of, value_of}
 use Rattle.ntfs_def.specs.Runs.{runs_in, spot_of, total_clusters}
 use Rattle.volume_def.specs.BitmapClauses.{written_in}
-use Rattle.volume_def.specs.Files.{Clusters, Content, Part, Value, content_of, content_runs, is_of, part_clusters, part_of, part_runs}
+use Rattle.volume_def.specs.Files.{Clusters, Part, content_of, content_runs, is_of, part_clusters, part_of, part_runs}
 use Rattle.volume_def.specs.StreamSize.{real_size}
 use Rattle.volume_def.specs.Table.{cluster_bytes}
 use Rattle.volume_def.specs.Values.{byte_there, first_part, first_vcn_of, holds_vcn, spot_at, spot_by, stored_byte, stored_bytes, value_by, value_byte, value_of_parts, value_on, value_over}
@@ -176,7 +176,8 @@ value-resident view extents part (Resident own) value first is e =
     ap (value_over view.cluster size extents) first ∙ ap (value_by view.cluster size extents) is ∙ same
 value-resident view extents part (NonResident extent text) value first is e = cc
 
-in-clusters : (body : Body) → value_of body ≡ None → (extent : ExtentHeader) × (runs : Option (List Run)) × (content_of body ≡ Clusters extent runs)
+in-clusters : (body : Body) → value_of body ≡ None
+    → (extent : ExtentHeader) × (runs : Option (List Run)) × (content_of body ≡ Clusters extent runs)
 in-clusters (Resident own) e = cc
 in-clusters (NonResident extent text) e = (extent, runs_in text, refl)
 
@@ -184,7 +185,8 @@ in-clusters (NonResident extent text) e = (extent, runs_in text, refl)
 value-stored : (view : VolumeView) (extents : List Part) (part : Part) (extent : ExtentHeader) (runs : Option (List Run))
     → first_part extents ≡ Some part → part.content ≡ Clusters extent runs
     → value_on view extents
-    ≡ map (value_byte view.cluster (cluster_bytes view.layout) (spot_at extents) extent.sizes.initialized) (range_with_len 0 extent.sizes.real)
+    ≡ map (value_byte view.cluster (cluster_bytes view.layout) (spot_at extents) extent.sizes.initialized)
+    (range_with_len 0 extent.sizes.real)
 unfolding value_of_parts
 value-stored view extents part extent runs first is =
     let size = cluster_bytes view.layout in
@@ -205,14 +207,16 @@ past-rule f len i le =
 
 -- What was read of the clusters of a stream, as far as it was written, with zeros behind.
 stored-piece : (cluster : ℕ → List ℕ) (size : ℕ) (spot : ℕ → Spot) (real initialized n len : ℕ) → n ≡ min (min real initialized) len
-    → IsPieceOf (map (value_byte cluster size spot initialized) (range_with_len 0 real)) 0 (stored_bytes cluster size spot 0 n ++ replicate (len - n) 0)
+    → IsPieceOf (map (value_byte cluster size spot initialized) (range_with_len 0 real)) 0
+    (stored_bytes cluster size spot 0 n ++ replicate (len - n) 0)
 unfolding stored_bytes
 stored-piece cluster size spot real initialized n len is i lt =
     let f = value_byte cluster size spot initialized in
     let read = map (stored_byte cluster size spot) (range_with_len 0 n) in
     let short = length-map-range_with_len (stored_byte cluster size spot) 0 n in
     let zeros : length (replicate (len - n) zero_byte) ≡ len - n = length-replicate (len - n) zero_byte in
-    let all : length (read ++ replicate (len - n) zero_byte) ≡ n + (len - n) = length-append read (replicate (len - n) zero_byte) ∙ omega (arith, short, zeros) in
+    let all : length (read ++ replicate (len - n) zero_byte) ≡ n + (len - n) =
+    length-append read (replicate (len - n) zero_byte) ∙ omega (arith, short, zeros) in
     let inside : i < n + (len - n) = subst (λ k. i < k) all lt in
     elim (cases_lt i n) [
       | inl low ↦
@@ -228,11 +232,13 @@ stored-piece cluster size spot real initialized n len is i lt =
                 by-rule f real i low ∙ ap (λ b. cond b (stored_byte cluster size spot (0 + i)) 0) unwritten
             | inr past ↦ past-rule f real i past
           ] in
-          get_or-append_right read (replicate (len - n) 0) n i 0 short high ∙ get_or-replicate (len - n) (i - n) 0 0 (omega (arith, inside, high)) ∙ sym zero
+          get_or-append_right read (replicate (len - n) 0) n i 0 short high
+          ∙ get_or-replicate (len - n) (i - n) 0 0 (omega (arith, inside, high)) ∙ sym zero
     ]
 
 -- the same by the part that tells the sizes
-pub stored-start : (view : VolumeView) (kind : ℕ) (file : FileParts) (first : FirstPart) (a : Attribute) (n len : ℕ) (tells : TellsSizes kind file first)
+pub stored-start : (view : VolumeView) (kind : ℕ) (file : FileParts) (first : FirstPart) (a : Attribute) (n len : ℕ)
+    (tells : TellsSizes kind file first)
     → tells.part.content ≡ content_of a.body → value_of a.body ≡ None → n ≡ min (min first.len first.written) len
     → IsPieceOf (value_on view (unnamed_in kind file)) 0
     (stored_bytes view.cluster (cluster_bytes view.layout) (spot_at (unnamed_in kind file)) 0 n ++ replicate (len - n) 0)

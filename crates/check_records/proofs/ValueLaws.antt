@@ -1,6 +1,6 @@
 -- The value of an attribute, by the part that tells its sizes, and its first bytes.
-use Rattle.std.proofs.Common.{◌≡◌, ◌<◌, ◌≤◌, ◌+◌, ◌-◌, ◌*◌, ◌/◌, ◌%◌, ◌&&◌, ℕ, Bool, true, false, List, [], ◌∷◌, ◌++◌, length, length-append, map, replicate, get_or, take, Option, Some, None, Ok, Err, refl, sym, ap, subst, inl, inr, min, ◌∙◌, arith}
-use Rattle.std.specs.Prelude.{◌==◌, Result, IfOk, OnOk, find, filter, slice_get, slice_index, slice_range, unwrap_or}
+use Rattle.std.proofs.Common.{◌≡◌, ◌<◌, ◌≤◌, ◌+◌, ◌-◌, ◌*◌, ◌/◌, ◌%◌, ◌&&◌, ℕ, Bool, true, false, List, [], ◌++◌, length, length-append, replicate, get_or, take, Some, Ok, Err, refl, sym, ap, subst, inl, inr, ◌∙◌, arith}
+use Rattle.std.specs.Prelude.{◌==◌, Result, IfOk, OnOk, filter, slice_index, slice_range, unwrap_or}
 use Rattle.std.specs.Int.{bit_at}
 use Rattle.std.specs.Str.{bytes_eq}
 use Rattle.std.specs.List.{range_with_len}

@@ -41,12 +41,7 @@ fn is_of_file(heads: &Heads, n: u64, file: u64) -> bool
 }
 
 // Puts the next record behind the others, where it is one of the file.
-fn push_number(
-    heads: &Heads,
-    n: u64,
-    file: u64,
-    numbers: &mut Vec<u64>,
-) -> Result<(), AllocError>
+fn push_number(heads: &Heads, n: u64, file: u64, numbers: &mut Vec<u64>) -> Result<(), AllocError>
     ensures few { OnOk result (length numbers.new.items ≤ length numbers.old.items + 1) }
     ensures all { OnOk result ((records : Records) → IsHeadIn (records.record_at n) (head_at heads.now n)
         → numbers.old.items ≡ numbers_below records file n → numbers.new.items ≡ numbers_below records file (n + 1)) }
@@ -59,12 +54,7 @@ fn push_number(
 }
 
 // The records of a file among so many.
-fn find_numbers(
-    alloc: Global,
-    heads: &Heads,
-    count: u64,
-    file: u64,
-) -> Result<Vec<u64>, AllocError>
+fn find_numbers(alloc: Global, heads: &Heads, count: u64, file: u64) -> Result<Vec<u64>, AllocError>
     ensures few { IfOk result (λ numbers. length numbers.items ≤ count) }
     ensures all { IfOk result (λ numbers. (records : Records) → HeadsNote records count heads.now
         → numbers.items ≡ numbers_below records file count) }

@@ -151,7 +151,12 @@ fn read_cluster<D: Disk>(
     let size = mft.cluster_bytes();
     let len = spanned_len(at / size, size, at, into.len());
     match find_extent(alloc, file, kind, at / size)? {
-        Some(extent) => read_runs_at(mft, &extent.runs, at - extent.first * size, &mut into[..len])?,
+        Some(extent) => read_runs_at(
+            mft,
+            &extent.runs,
+            at - extent.first * size,
+            &mut into[..len],
+        )?,
         None => into[..len].fill(0),
     }
     Ok(len)

@@ -1,4 +1,4 @@
-use Rattle.std.proofs.Common.{◌≡◌, ◌≤◌, ◌*◌, List, length, refl, sym, ap, subst, ◌∙◌, arith}
+use Rattle.std.proofs.Common.{◌≡◌, length, sym, ap, subst, ◌∙◌, arith}
 use Rattle.std.specs.Prelude.{◌↔◌, IsTrue}
 use Rattle.std.proofs.lemmas.List.{with_items_is}
 use Rattle.ntfs_def.specs.declared.records.TheConstants.{UPCASE}
@@ -46,29 +46,35 @@ returns-clause-table g c = ok-weaker c.load_table.result (λ table same told com
 pub returns-in_err-right-clause-reads : goal.returns-in_err-right-clause-reads
 returns-in_err-right-clause-reads g c =
     let long : length c.deref_mut.result.now ≡ table_len = omega (arith, c.deref_mut.ensures.len, c.in_ok-bytes.ensures) in
-    MftReads-less g.D.Disk c.args.mft.now c.read_table.new.mft _ _ c.read_table.ensures.reads (omega (arith, ap (pieces_touched 0) long, touched-table))
+    MftReads-less g.D.Disk c.args.mft.now c.read_table.new.mft _ _ c.read_table.ensures.reads
+    (omega (arith, ap (pieces_touched 0) long, touched-table))
 
 pub returns-in_err-right-clause-fetched : goal.returns-in_err-right-clause-fetched
 returns-in_err-right-clause-fetched g c noted =
     let long : length c.deref_mut.result.now ≡ table_len = omega (arith, c.deref_mut.ensures.len, c.in_ok-bytes.ensures) in
-    MftReads-less g.D.Disk c.args.mft.now c.read_table.new.mft _ _ (c.read_table.ensures.fetched noted) (omega (arith, ap (pieces_touched 0) long, touched-table))
+    MftReads-less g.D.Disk c.args.mft.now c.read_table.new.mft _ _ (c.read_table.ensures.fetched noted)
+    (omega (arith, ap (pieces_touched 0) long, touched-table))
 
 pub returns-then-not-right-clause-reads : goal.returns-then-not-right-clause-reads
 returns-then-not-right-clause-reads g c =
     let long : length c.deref_mut.result.now ≡ table_len = omega (arith, c.deref_mut.ensures.len, c.in_ok-bytes.ensures) in
-    MftReads-less g.D.Disk c.args.mft.now c.read_table.new.mft _ _ c.read_table.ensures.reads (omega (arith, ap (pieces_touched 0) long, touched-table))
+    MftReads-less g.D.Disk c.args.mft.now c.read_table.new.mft _ _ c.read_table.ensures.reads
+    (omega (arith, ap (pieces_touched 0) long, touched-table))
 
 pub returns-then-not-right-clause-fetched : goal.returns-then-not-right-clause-fetched
 returns-then-not-right-clause-fetched g c noted =
     let long : length c.deref_mut.result.now ≡ table_len = omega (arith, c.deref_mut.ensures.len, c.in_ok-bytes.ensures) in
-    MftReads-less g.D.Disk c.args.mft.now c.read_table.new.mft _ _ (c.read_table.ensures.fetched noted) (omega (arith, ap (pieces_touched 0) long, touched-table))
+    MftReads-less g.D.Disk c.args.mft.now c.read_table.new.mft _ _ (c.read_table.ensures.fetched noted)
+    (omega (arith, ap (pieces_touched 0) long, touched-table))
 
 pub returns-clause-reads : goal.returns-clause-reads
 returns-clause-reads g c =
     let long : length c.deref_mut.result.now ≡ table_len = omega (arith, c.deref_mut.ensures.len, c.in_ok-bytes.ensures) in
-    MftReads-less g.D.Disk c.args.mft.now c.read_table.new.mft _ _ c.read_table.ensures.reads (omega (arith, ap (pieces_touched 0) long, touched-table))
+    MftReads-less g.D.Disk c.args.mft.now c.read_table.new.mft _ _ c.read_table.ensures.reads
+    (omega (arith, ap (pieces_touched 0) long, touched-table))
 
 pub returns-clause-fetched : goal.returns-clause-fetched
 returns-clause-fetched g c noted =
     let long : length c.deref_mut.result.now ≡ table_len = omega (arith, c.deref_mut.ensures.len, c.in_ok-bytes.ensures) in
-    MftReads-less g.D.Disk c.args.mft.now c.read_table.new.mft _ _ (c.read_table.ensures.fetched noted) (omega (arith, ap (pieces_touched 0) long, touched-table))
+    MftReads-less g.D.Disk c.args.mft.now c.read_table.new.mft _ _ (c.read_table.ensures.fetched noted)
+    (omega (arith, ap (pieces_touched 0) long, touched-table))

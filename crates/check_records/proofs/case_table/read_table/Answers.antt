@@ -1,8 +1,8 @@
-use Rattle.std.proofs.Common.{◌≡◌, ◌*◌, ◌+◌, refl, sym, subst, length, arith}
+use Rattle.std.proofs.Common.{refl, sym, subst, length, arith}
 use Rattle.ntfs_def.specs.declared.kinds.TheConstants.{DATA}
 use Rattle.ntfs_def.specs.declared.records.TheConstants.{UPCASE}
 use Rattle.mft_table.specs.Mft.{view}
-use Rattle.check_records.specs.Unnamed.{IsPlainOf, unnamed_in}
+use Rattle.check_records.specs.Unnamed.{IsPlainOf}
 use Rattle.check_records.proofs.BelowLaws.{piece-held, unnamed-held}
 use Rattle.check_records.proofs.ComeLaws.{heads-come, shape-come}
 use Rattle.check_records.proofs.case_table.read_table.Goals as goal

@@ -1,4 +1,4 @@
-use Rattle.std.proofs.Common.{◌≡◌, ◌*◌, ◌+◌, arith, length, subst, sym, ap, ◌∙◌}
+use Rattle.std.proofs.Common.{arith, subst, sym}
 use Rattle.ntfs_def.specs.declared.kinds.TheConstants.{DATA}
 use Rattle.ntfs_def.specs.declared.records.TheConstants.{CLUSTER_BITMAP}
 use Rattle.volume_def.specs.BitmapClauses.{HasNoHole}
@@ -21,7 +21,8 @@ returns-clause-first g c told come enough =
     let plain : IsPlain (unnamed_in DATA file) = rw c.in-Some.is at c.in_ok-first.ensures.plain in
     let placed : HasNoHole (unnamed_in DATA file) = rw c.in-Some.is at c.in_ok-first.ensures.placed in
     let read = rw (kept.stage.only_reads.image, kept.mounted) at c.in_ok-read_start.ensures.read told tells in
-    c.first_wrong_cluster.ensures v (owners-come v facts come) (HasClusterBytes-held v file first c.min-written.result holds tells plain placed c.min-written.ensures)
+    let bytes = HasClusterBytes-held v file first c.min-written.result holds tells plain placed c.min-written.ensures in
+    c.first_wrong_cluster.ensures v (owners-come v facts come) bytes
     (piece-held v CLUSTER_BITMAP DATA file c.read_start.new.into holds read) (omega (arith, enough, c.read_start.auto.into))
 
 pub returns-clause-bytes : goal.returns-clause-bytes

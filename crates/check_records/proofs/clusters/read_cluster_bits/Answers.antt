@@ -1,11 +1,11 @@
-use Rattle.std.proofs.Common.{◌≡◌, ◌≤◌, ◌*◌, List, None, Some, length, sym, ap, subst, ◌∙◌, arith}
+use Rattle.std.proofs.Common.{◌≤◌, ◌*◌, None, Some, length, sym, ap, subst, ◌∙◌, arith}
 use Rattle.std.proofs.lemmas.List.{with_items_is}
 use Rattle.ntfs_def.specs.Bits.{flags_in}
 use Rattle.volume_def.specs.BitmapClauses.{MeetsClusterBits, cluster_bits}
 use Rattle.volume_def.specs.Sound.Clause.{ClusterBits}
 use Rattle.volume_def.specs.Values.{value_on}
 use Rattle.mft_table.specs.declared.mounted.Mounted.{Mounted}
-use Rattle.mft_table.specs.Mft.{mounted_of, view}
+use Rattle.mft_table.specs.Mft.{view}
 use Rattle.volume_facts.specs.BitRanges.{IsPieceOf}
 use Rattle.volume_facts.specs.Least.{IsLeastFailing}
 use Rattle.check_records.specs.Refusals.{IsFirstBroken}

@@ -1,4 +1,4 @@
-use Rattle.std.proofs.Common.{◌≡◌, ◌≤◌, ◌+◌, arith}
+use Rattle.std.proofs.Common.{arith}
 use Rattle.check_records.proofs.files.find_numbers.Goals as goal
 
 pub loop-n-preserved : goal.loop-n-preserved

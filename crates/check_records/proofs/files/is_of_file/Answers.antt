@@ -1,4 +1,4 @@
-use Rattle.std.proofs.Common.{◌≡◌, sym}
+use Rattle.std.proofs.Common.{sym}
 use Rattle.std.proofs.lemmas.Bool.{ne_eqb}
 use Rattle.volume_facts.specs.Heads.{head_at}
 use Rattle.check_records.proofs.FileLaws.{belongs-base, belongs-extension, belongs-unused}

@@ -26,7 +26,8 @@ returns-clause-first g c told come enough =
     c.count-records.ensures ∙ ap (λ (m : Mounted). length m.records) (c.mounted.ensures ∙ kept.mounted) in
     let has = HasRecordBits-held v file _ _ holds size count room in
     let read = rw (kept.stage.only_reads.image, kept.mounted) at c.in_ok-read_start.ensures.read told tells in
-    let below = c.first_wrong_bit.ensures v (used-come v facts come) has (piece-held v MFT BITMAP file new holds read) (least-none (MeetsRecordBits v)) in
+    let piece = piece-held v MFT BITMAP file new holds read in
+    let below = c.first_wrong_bit.ensures v (used-come v facts come) has piece (least-none (MeetsRecordBits v)) in
     record-bits-decided v (8 * (0 + length new)) c.first_wrong_bit.result has (omega (arith, enough, c.read_start.auto.into)) below
 
 pub returns-clause-bytes : goal.returns-clause-bytes

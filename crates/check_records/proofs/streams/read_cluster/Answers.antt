@@ -1,4 +1,4 @@
-use Rattle.std.proofs.Common.{◌≡◌, ◌≤◌, ◌+◌, ◌-◌, ◌*◌, ◌/◌, ◌++◌, drop, length, min, sym, ap, ◌∙◌, arith}
+use Rattle.std.proofs.Common.{◌≤◌, ◌/◌, ◌++◌, drop, length, ap, ◌∙◌, arith}
 use Rattle.std.proofs.lemmas.List.{length-take-le}
 use Rattle.std.proofs.lemmas.Result.{err_from_is_err_and}
 use Rattle.volume_def.specs.Table.{cluster_bytes}
@@ -38,11 +38,13 @@ returns-in-None-clause-read g c told =
 
 pub returns-in_ok-read_runs_at-in-Some-clause-some : goal.returns-in_ok-read_runs_at-in-Some-clause-some
 returns-in_ok-read_runs_at-in-Some-clause-some g c = λ some.
-    omega (arith, c.spanned_len-len.ensures, span-some c.args.at c.cluster_bytes-size.result (c.args.at / c.cluster_bytes-size.result) (omega arith) (omega arith))
+    let size = c.cluster_bytes-size.result in
+    omega (arith, c.spanned_len-len.ensures, span-some c.args.at size (c.args.at / size) (omega arith) (omega arith))
 
 pub returns-in-None-clause-some : goal.returns-in-None-clause-some
 returns-in-None-clause-some g c = λ some.
-    omega (arith, c.spanned_len-len.ensures, span-some c.args.at c.cluster_bytes-size.result (c.args.at / c.cluster_bytes-size.result) (omega arith) (omega arith))
+    let size = c.cluster_bytes-size.result in
+    omega (arith, c.spanned_len-len.ensures, span-some c.args.at size (c.args.at / size) (omega arith) (omega arith))
 
 pub returns-in_ok-read_runs_at-in-Some-clause-cut : goal.returns-in_ok-read_runs_at-in-Some-clause-cut
 returns-in_ok-read_runs_at-in-Some-clause-cut g c =

@@ -1,4 +1,4 @@
-use Rattle.std.proofs.Common.{◌≡◌, ℕ, ◌-◌, ◌≤◌, ◌++◌, drop, length}
+use Rattle.std.proofs.Common.{◌≡◌, ◌-◌, ◌≤◌, ◌++◌, drop, length}
 use Rattle.std.specs.Prelude.{IsTrue}
 use Rattle.volume_def.specs.Values.{pieces_touched, spot_at, stored_bytes}
 use Rattle.volume_def.specs.Table.{cluster_bytes}

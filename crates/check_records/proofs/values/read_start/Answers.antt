@@ -1,4 +1,4 @@
-use Rattle.std.proofs.Common.{◌≡◌, ◌+◌, ◌-◌, ◌≤◌, ◌++◌, length, replicate, sym, ap, subst, ◌∙◌, arith}
+use Rattle.std.proofs.Common.{◌≡◌, ◌-◌, ◌≤◌, ◌++◌, length, replicate, sym, ap, subst, ◌∙◌, arith}
 use Rattle.std.proofs.lemmas.List.{length-take-le}
 use Rattle.attr_view.specs.View.{attribute_of}
 use Rattle.volume_def.specs.Values.{value_on}
@@ -16,7 +16,8 @@ returns-in-Some-clause-read g c told tells =
     let a = attribute_of c.attr.result in
     let same = same-content (parts_held c.args.file.now) c.args.first.now.index tells.part a tells.at c.attr.ensures.part in
     subst (λ value. IsPieceOf value 0 c.copy_start.new.into)
-    (sym (value-resident v (unnamed_in c.args.kind c.args.file.now) tells.part a.body c.in-Some.value.now tells.is_first same (sym c.in-Some.ensures)))
+    (sym (value-resident v (unnamed_in c.args.kind c.args.file.now) tells.part a.body c.in-Some.value.now tells.is_first same
+    (sym c.in-Some.ensures)))
     c.copy_start.ensures
 
 pub returns-clause-read : goal.returns-clause-read
@@ -32,6 +33,8 @@ returns-clause-read g c told tells =
     let same = same-content (parts_held c.args.file.now) c.args.first.now.index tells.part a tells.at c.attr.ensures.part in
     let read = rw all at c.in_ok-read_stored.ensures.read told in
     let short : length c.read_stored.new.into ≡ n = omega (arith, all) in
-    let is = filled c.args.into.now c.read_stored.new.into c.fill.new.self n _ within short (omega arith) (c.fill.ensures.after (λ y e. e)) in
+    let is =
+    filled c.args.into.now c.read_stored.new.into c.fill.new.self n _ within short (omega arith) (c.fill.ensures.after (λ y e. e)) in
     subst (IsPieceOf value 0) (sym (is ∙ ap (λ xs. xs ++ replicate (len - n) 0) read))
-    (stored-start v kind c.args.file.now c.args.first.now a n len tells same (sym c.in_default.ensures) (omega (arith, c.min-written.ensures)))
+    (stored-start v kind c.args.file.now c.args.first.now a n len tells same (sym c.in_default.ensures)
+    (omega (arith, c.min-written.ensures)))
