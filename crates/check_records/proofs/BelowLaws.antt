@@ -7,9 +7,6 @@ use Rattle.ntfs_def.specs.declared.records.TheConstants.{CLUSTER_BITMAP, FIRST_O
 use Rattle.volume_def.specs.BitmapClauses.{HasNoHole, HasRecordBits, MeetsRecordBits, record_bits, written_by}
 use Rattle.volume_def.specs.CaseClause.{HasCaseTable, MeetsCaseTable, case_parts}
 use Rattle.volume_def.specs.Files.{Part, all_covered, is_of, parts, parts_at, records_of}
-use Rattle.volume_def.specs.Readable.{IsReadableVolume}
-use Rattle.volume_def.specs.Sound.{HoldBelow}
-use Rattle.volume_def.specs.Sound.Clause.{Shape, Attributes, Lists, Extents}
 use Rattle.volume_def.specs.StreamSize.{told_size}
 use Rattle.volume_def.specs.Table.{cluster_bytes}
 use Rattle.volume_def.specs.Values.{IsPlain, first_part, pieces_touched, value_on}
@@ -22,15 +19,6 @@ use Rattle.volume_facts.specs.Least.{IsLeastBelow, IsLeastFailing}
 use Rattle.volume_facts.proofs.LeastLaws.{least-whole}
 use Rattle.check_records.specs.declared.unnamed.FirstPart.{FirstPart}
 use Rattle.check_records.specs.Unnamed.{HasRoomIn, HoldsFile, IsPlainOf, TellsSizes, table_len, unnamed_in}
-
--- where the first four hold, files can be read
-pub readable-below : (view : VolumeView) (rank : ℕ) → 4 ≤ rank → HoldBelow view rank → IsReadableVolume view
-readable-below view rank enough below = record {
-  shape = below Shape (omega arith);
-  attributes = below Attributes (omega arith);
-  lists = below Lists (omega arith);
-  extents = below Extents (omega arith);
-}
 
 -- the first bytes of a piece
 pub shorter-piece : (value piece : List ℕ) (n : ℕ) → n ≤ length piece → IsPieceOf value 0 piece → IsPieceOf value 0 (take n piece)

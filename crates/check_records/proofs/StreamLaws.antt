@@ -1,16 +1,16 @@
 -- A stream by the runs of its parts: where a cluster lies, and what is read of it.
-use Rattle.std.proofs.Common.{◌≡◌, ◌&&◌, ◌<◌, ◌≤◌, ◌+◌, ◌-◌, ◌*◌, ◌/◌, ◌%◌, ℕ, Bool, true, false, cond, leb, ltb, List, [], ◌∷◌, ◌++◌, length, map, replicate, min, Option, Some, None, refl, sym, ap, subst, inl, inr, ◌∙◌, length-append, arith}
+use Rattle.std.proofs.Common.{◌≡◌, ◌&&◌, ◌<◌, ◌≤◌, ◌+◌, ◌-◌, ◌*◌, ◌/◌, ◌%◌, ℕ, Bool, true, false, cond, ltb, List, [], ◌∷◌, ◌++◌, length, map, replicate, min, Option, Some, None, refl, sym, ap, subst, inl, inr, ◌∙◌, length-append, arith}
 use Rattle.std.specs.Prelude.{IsSomeAnd, find, slice_get, slice_index, unwrap_or}
 use Rattle.std.specs.List.{range_with_len}
 use Rattle.std.proofs.Math.Nat.{div-lt_iff_lt-mul, div-mul-le_self, le-div_iff_mul-le}
-use Rattle.std.proofs.lemmas.Bool.{cases_Bool, cases_lt, le-ltb, leb-true, lt-ltb, ltb-true}
+use Rattle.std.proofs.lemmas.Bool.{cases_lt, le-ltb, lt-ltb}
 use Rattle.std.proofs.lemmas.List.{get_or-append_right, get_or-replicate, get_or_append_left, get_or_past, length-replicate}
 use Rattle.std.proofs.lemmas.List.FromFn.{get_or-map-range_with_len, length-map-range_with_len}
 use Rattle.ntfs_def.specs.declared.run_text.Run.{Run}
 use Rattle.ntfs_def.specs.declared.run_text.Spot.{Spot}
 use Rattle.ntfs_def.specs.declared.run_text.Spot.TheVariants.{Outside}
 use Rattle.ntfs_def.specs.Attribute.{Attribute, Body, ExtentHeader, NonResident, Resident, run_text_of, value_of}
-use Rattle.ntfs_def.specs.Runs.{runs_in, spot_of, total_clusters}
+use Rattle.ntfs_def.specs.Runs.{runs_in, spot_of}
 use Rattle.volume_def.specs.BitmapClauses.{written_in}
 use Rattle.volume_def.specs.Files.{Clusters, Part, content_of, content_runs, is_of, part_clusters, part_of, part_runs}
 use Rattle.volume_def.specs.StreamSize.{real_size}
@@ -30,74 +30,28 @@ use Rattle.check_records.specs.Unnamed.{TellsSizes, holds_unnamed, unnamed_in}
 
 -- Which attribute holds a cluster.
 
-both-true : (b c : Bool) → (b && c) ≡ true → (b ≡ true) × (c ≡ true)
-both-true true true e = (refl, refl)
-both-true true false e = cc
-both-true false c e = cc
-
 first-false : (b c : Bool) → b ≡ false → (b && c) ≡ false
 first-false true c e = cc
 first-false false c e = refl
-
-second-false : (b c : Bool) → c ≡ false → (b && c) ≡ false
-second-false true c e = e
-second-false false c e = refl
 
 second-true : (b c : Bool) → b ≡ true → c ≡ true → (b && c) ≡ true
 second-true true c t e = e
 second-true false c t e = cc
 
--- what a part that holds a cluster tells
-holds-bounds : (vcn : ℕ) (part : Part) → holds_vcn vcn part ≡ true
-    → (first_vcn_of part.content ≤ vcn) × (vcn < first_vcn_of part.content + part_clusters part)
-holds-bounds vcn part e =
-    let both = both-true (leb (first_vcn_of part.content) vcn) (ltb vcn (first_vcn_of part.content + part_clusters part)) e in
-    (leb-true _ _ both.0, ltb-true _ _ both.1)
-
-holds-not : (vcn : ℕ) (part : Part) → (first_vcn_of part.content ≤ vcn → vcn < first_vcn_of part.content + part_clusters part → ⊥)
-    → holds_vcn vcn part ≡ false
-holds-not vcn part none = elim (cases_Bool (holds_vcn vcn part)) [
-  | inl t ↦ let w = holds-bounds vcn part t in absurd (none w.0 w.1)
-  | inr e ↦ e
-]
-
 -- an attribute of another type or name
 pub held-other : (kind vcn : ℕ) (a : Attribute) → is_of kind [] (part_of 0 a) ≡ false → holds_unnamed kind vcn a ≡ false
 held-other kind vcn a other = first-false (is_of kind [] (part_of 0 a)) (holds_vcn vcn (part_of 0 a)) other
 
-value-runs : (body : Body) → run_text_of body ≡ None → content_runs (content_of body) ≡ None
-value-runs (Resident value) e = refl
-value-runs (NonResident extent text) e = cc
-
 text-runs : (body : Body) (text : List ℕ) → run_text_of body ≡ Some text → content_runs (content_of body) ≡ runs_in text
 text-runs (Resident value) text e = cc
 text-runs (NonResident extent own) text e = let same : own ≡ text = cc in ap runs_in same
-
--- one without runs
-pub held-no_runs : (kind vcn : ℕ) (a : Attribute) → content_runs (content_of a.body) ≡ None → holds_unnamed kind vcn a ≡ false
-held-no_runs kind vcn a none =
-    let empty : part_clusters (part_of 0 a) ≡ 0 = ap (λ (o : Option (List Run)). total_clusters (unwrap_or o [])) none in
-    second-false (is_of kind [] (part_of 0 a)) (holds_vcn vcn (part_of 0 a)) (holds-not vcn (part_of 0 a) (λ le lt. absurd (omega arith)))
-
-pub held-value : (kind vcn : ℕ) (a : Attribute) → run_text_of a.body ≡ None → holds_unnamed kind vcn a ≡ false
-held-value kind vcn a e = held-no_runs kind vcn a (value-runs a.body e)
-
-pub held-no_list : (kind vcn : ℕ) (a : Attribute) (text : List ℕ) → run_text_of a.body ≡ Some text → runs_in text ≡ None
-    → holds_unnamed kind vcn a ≡ false
-held-no_list kind vcn a text e none = held-no_runs kind vcn a (text-runs a.body text e ∙ none)
 
 -- the runs of one with these
 pub runs-told : (a : Attribute) (text : List ℕ) (runs : List Run) → run_text_of a.body ≡ Some text → runs_in text ≡ Some runs
     → runs ≡ part_runs (part_of 0 a)
 runs-told a text runs e is = sym (ap (λ (o : Option (List Run)). unwrap_or o []) (text-runs a.body text e ∙ is))
 
--- one whose runs do not reach the cluster, and one whose runs do
-pub held-past : (kind vcn first clusters : ℕ) (a : Attribute) → first ≡ first_vcn_of (content_of a.body)
-    → clusters ≡ part_clusters (part_of 0 a) → (first ≤ vcn → vcn < first + clusters → ⊥) → holds_unnamed kind vcn a ≡ false
-held-past kind vcn first clusters a from all none =
-    second-false (is_of kind [] (part_of 0 a)) (holds_vcn vcn (part_of 0 a))
-    (holds-not vcn (part_of 0 a) (λ le lt. none (omega arith) (omega arith)))
-
+-- one that holds the cluster
 pub held-here : (kind vcn first clusters : ℕ) (a : Attribute) → is_of kind [] (part_of 0 a) ≡ true
     → first ≡ first_vcn_of (content_of a.body) → clusters ≡ part_clusters (part_of 0 a) → first ≤ vcn → vcn < first + clusters
     → holds_unnamed kind vcn a ≡ true
@@ -108,9 +62,6 @@ held-here kind vcn first clusters a its from all le lt =
 
 pub found-first : (p : Attribute → Bool) (a : Attribute) (rest : List Attribute) → p a ≡ true → find p (a ∷ rest) ≡ Some a
 found-first p a rest t = ap (λ b. cond b (Some a) (find p rest)) t
-
-pub found-later : (p : Attribute → Bool) (a : Attribute) (rest : List Attribute) → p a ≡ false → find p (a ∷ rest) ≡ find p rest
-found-later p a rest e = ap (λ b. cond b (Some a) (find p rest)) e
 
 among-parts : (kind vcn : ℕ) (file : FileParts)
     → IsFoundAs (find (holds_unnamed kind vcn) (attributes_held file)) (find (holds_vcn vcn) (unnamed_in kind file))
@@ -131,12 +82,6 @@ lies-in kind vcn first runs file a found from is =
     ap (λ o. spot_by o vcn) part
     ∙ ap (λ k. spot_of (part_runs (part_of n a)) (vcn - k)) (sym from)
     ∙ ap (λ rs. spot_of rs (vcn - first)) (sym is)
-
-pub first-below : (kind vcn first : ℕ) (a : Attribute) → holds_unnamed kind vcn a ≡ true → first ≡ first_vcn_of (content_of a.body)
-    → first ≤ vcn
-first-below kind vcn first a t from =
-    let low = (holds-bounds vcn (part_of 0 a) (both-true (is_of kind [] (part_of 0 a)) (holds_vcn vcn (part_of 0 a)) t).1).0 in
-    omega arith
 
 -- Bytes of one cluster of a stream.
 

@@ -21,7 +21,8 @@ clusters-preserved g c =
     let kept = c.clusters.invariant.reads in
     record {
       within = omega (arith, c.in_ok-done.ensures.len);
-      cut = seam-next c.args.at c.clusters.done _ n _ len c.in_ok-done.ensures.cut refl (omega arith) lt (omega (arith, c.in_ok-done.ensures.some));
+      cut = seam-next c.args.at c.clusters.done _ n _ len c.in_ok-done.ensures.cut refl (omega arith) lt
+          (omega (arith, c.in_ok-done.ensures.some));
       read = λ told. stored_bytes-next _ _ _ c.args.into.now c.clusters.into _ _ _ c.clusters.done n _ refl (omega arith)
           (c.clusters.invariant.read told)
           (rw (kept.stage.only_reads.image, kept.mounted) at c.in_ok-done.ensures.read told);
