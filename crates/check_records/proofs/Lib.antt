@@ -5,3 +5,6 @@ pub mod BelowLaws
 pub mod FactsGiven
 pub mod UnnamedLaws
 pub mod ValueLaws
+pub mod FileLaws
+pub mod ComeLaws
+pub mod StreamLaws

@@ -33,6 +33,13 @@ IsRefusalOf view no.Dirty = ⊥
 IsRefusalOf view no.Device = Unit {0}
 IsRefusalOf view no.Memory = Unit {0}
 
+-- the same, where this stands before it too
+abbrev pub IsRefusalIf : Type 0 → VolumeView → MountNo → Type 0
+IsRefusalIf before view (no.Refused k n) = IsTrue view.told → before → IsFirstBroken view k n
+IsRefusalIf before view no.Dirty = ⊥
+IsRefusalIf before view no.Device = Unit {0}
+IsRefusalIf before view no.Memory = Unit {0}
+
 -- the clauses that are decided here: S1 to S11 and S13
 abbrev pub IsDecided : ℕ → Type 0
 IsDecided k = (k ≤ 11) ⊎ (k ≡ 13)

@@ -3,11 +3,14 @@
 #![tactic(auto)]
 
 mod by_facts;
+mod case_table;
 mod clause;
 mod clusters;
+mod files;
 mod order;
 mod records;
 mod scan;
 mod start;
+mod streams;
 mod unnamed;
 mod values;

@@ -1,6 +1,6 @@
-use Rattle.std.proofs.Common.{◌≡◌, ◌<◌, ◌≤◌, ◌+◌, ◌*◌, get_or, take, subst, ◌∙◌, arith}
+use Rattle.std.proofs.Common.{get_or, subst, ◌∙◌, arith}
 use Rattle.volume_def.specs.View.{VolumeView}
-use Rattle.mft_table.specs.Mft.{MftReads, view}
+use Rattle.mft_table.specs.Mft.{view}
 use Rattle.mft_table.proofs.StreamReads.{MftReads-then}
 use Rattle.file_record.specs.Holds.{HoldsNext}
 use Rattle.file_record.proofs.ReadLaws.{view-kept}
@@ -23,9 +23,9 @@ loop-n-preserved g c =
     c.in_ok-hold_record.ensures.holds in
     let volume = view g.D.Disk c.args.mft.now in
     record {
-      reads = MftReads-then g.D.Disk c.args.mft.now c.loop-n.mft c.hold_record.new.mft _ _ _ c.loop-n.invariant.reads c.hold_record.ensures.reads
-          (omega arith);
+      reads = MftReads-then g.D.Disk c.args.mft.now c.loop-n.mft c.hold_record.new.mft _ _ _ c.loop-n.invariant.reads
+          c.hold_record.ensures.reads (omega arith);
       faults = c.in_ok-hold_record.ensures.faults ∙ c.loop-n.invariant.faults;
       held = λ told. HoldsAll-more volume number numbers k _ _ c.loop-n-test.true told (c.loop-n.invariant.held told) next;
-      few = omega (arith, held-few volume number (get_or numbers k 0) c.loop-n.held.items c.hold_record.new.held.items next, c.loop-n.invariant.few);
+      few = omega (arith, held-few volume number (get_or numbers k 0) _ _ next, c.loop-n.invariant.few);
     }
