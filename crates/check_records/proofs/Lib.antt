@@ -5,3 +5,5 @@ pub mod BelowLaws
 pub mod FactsGiven
 pub mod UnnamedLaws
 pub mod ValueLaws
+pub mod PlacedLaws
+pub mod HeldFileLaws

@@ -5,6 +5,7 @@
 mod by_facts;
 mod clause;
 mod clusters;
+mod listed;
 mod order;
 mod records;
 mod scan;

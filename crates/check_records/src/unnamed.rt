@@ -114,7 +114,7 @@ fn total_of(runs: &[Run]) -> u64
 }
 
 // The clusters of a list of runs.
-fn clusters_of(runs: &RunList) -> u64
+pub(crate) fn clusters_of(runs: &RunList) -> u64
     ensures { result ≡ total_clusters runs.now }
 {
     total_of(runs.runs())

@@ -21,7 +21,7 @@ use std::alloc::Global;
 use vol_disk::Disk;
 
 // Why a volume is not taken into use whose file is not read.
-fn no_file(no: FileNo) -> MountNo
+pub(crate) fn no_file(no: FileNo) -> MountNo
     ensures fault { IsReadNo no → IsFault result }
     ensures counts { (before after : ℕ) → IsReadNo no → CountsNo before after no → CountsMount before after result }
 {
