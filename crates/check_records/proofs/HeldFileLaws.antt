@@ -1,12 +1,13 @@
 -- The parts of a file whose records are held, one record after another, and what is asked of them.
-use Rattle.std.proofs.Common.{◌≡◌, ◌↔◌, ◌<◌, ◌≤◌, ◌+◌, ◌*◌, ◌++◌, ◌^◌, ◌==◌, ℕ, Bool, true, false, not, List, [], ◌∷◌, Option, Some, None, IfSome, IsTrue, length, map, take, get_or, filter, refl, sym, ap, subst, inl, inr, ◌∙◌, arith, append-nil, length-append}
+use Rattle.std.proofs.Common.{◌≡◌, ◌↔◌, ◌<◌, ◌≤◌, ◌+◌, ◌*◌, ◌-◌, ◌++◌, ◌^◌, ◌==◌, ℕ, Bool, true, false, not, List, [], ◌∷◌, Option, Some, None, IfSome, IsTrue, length, map, take, get_or, filter, refl, sym, ap, subst, inl, inr, ◌∙◌, arith, append-nil, append_assoc, length-append}
 use Rattle.std.specs.Prelude.{All, IfNone, count_by}
 use Rattle.std.specs.List.{flat_map}
 use Rattle.std.specs.Option.{option_to_list}
 use Rattle.std.proofs.lemmas.List.{length-map, map-append, take_more}
 use Rattle.std.proofs.lemmas.List.Concat.{flat_map-append}
-use Rattle.std.proofs.lemmas.List.Elements.{All-contains, Contains-get_or, filter-append}
+use Rattle.std.proofs.lemmas.List.Elements.{All-append, All-cons, All-nil, filter-append}
 use Rattle.std.proofs.lemmas.List.Filters.{length-filter_both}
+use Rattle.std.proofs.lemmas.List.Folds.{length-flat_map-take}
 use Rattle.std.proofs.lemmas.List.Sums.{length-filter}
 use Rattle.ntfs_def.specs.Attribute.{Attribute, attributes}
 use Rattle.ntfs_def.specs.AttributeList.{ListEntry}
@@ -23,7 +24,9 @@ use Rattle.file_record.specs.Records.{IsRecordOf}
 use Rattle.file_record.proofs.RecordLaws.{IsBlockOf-record, IsRecordOf-at, IsRecordOf-inside}
 use Rattle.volume_facts.specs.declared.extents.Extent.{Extent}
 use Rattle.volume_facts.specs.Extents.{Outline, outline_of, outlined}
+use Rattle.volume_facts.specs.declared.spread.Extension.{Extension}
 use Rattle.volume_facts.specs.Lists.{NamesEach}
+use Rattle.volume_facts.specs.Spread.{parts_from}
 use Rattle.check_records.specs.Listed.{IsHeldIn, all_parts}
 
 -- one record more
@@ -121,3 +124,63 @@ not-named records parts wanted value is many h =
     let c = length-map wanted entry_shown in
     let d = h.0 in
     absurd (omega arith)
+
+-- The extension records of a file, one after another.
+
+pub from-more : (records : Records) (f : ℕ) (extensions : List Extension) (i : ℕ) (d : Extension) → i < length extensions
+    → parts_from records f (take (i + 1) extensions) ≡ parts_from records f (take i extensions)
+    ++ parts_in (records.record_at (get_or extensions i d).number) (get_or extensions i d).number f
+from-more records f extensions i d lt =
+    let g : Extension → List Part = λ extension. parts_in (records.record_at extension.number) extension.number f in
+    ap (parts_from records f) (take_more extensions i d lt) ∙ flat_map-append g (take i extensions) (get_or extensions i d ∷ [])
+    ∙ ap (λ xs. parts_from records f (take i extensions) ++ xs) (append-nil (g (get_or extensions i d)))
+
+pub held-more : (view : VolumeView) (f : ℕ) (base : List Part) (extensions : List Extension) (i : ℕ) (d : Extension) (old new : List Held) (found : Option Held)
+    → i < length extensions → new ≡ old ++ option_to_list found
+    → all_parts (option_to_list found) ≡ parts_in (record_on view (get_or extensions i d).number) (get_or extensions i d).number f
+    → all_parts old ≡ base ++ parts_from (records_of view) f (take i extensions)
+    → all_parts new ≡ base ++ parts_from (records_of view) f (take (i + 1) extensions)
+held-more view f base extensions i d old new found lt added parts before =
+    ap all_parts added ∙ flat_map-append parts_of old (option_to_list found)
+    ∙ ap (λ xs. xs ++ all_parts (option_to_list found)) before
+    ∙ append_assoc base (parts_from (records_of view) f (take i extensions)) (all_parts (option_to_list found))
+    ∙ ap (λ xs. base ++ (parts_from (records_of view) f (take i extensions) ++ xs)) parts
+    ∙ ap (λ xs. base ++ xs) (sym (from-more (records_of view) f extensions i d lt))
+
+-- What a call tells of the volume that it finds, said of the volume as it was.
+pub moved-parts : (old volume : VolumeView) (f base n : ℕ) (found : Option Held) → old ≡ volume → f ≡ base
+    → (IsTrue old.told → IsRecordOf old f n → all_parts (option_to_list found) ≡ parts_in (record_on old n) n f)
+    → IsTrue volume.told → IsRecordOf volume base n → all_parts (option_to_list found) ≡ parts_in (record_on volume n) n base
+moved-parts old volume f base n found same number parts =
+    subst (λ g. IsTrue volume.told → IsRecordOf volume g n → all_parts (option_to_list found) ≡ parts_in (record_on volume n) n g) number
+    (subst (λ (v : VolumeView). IsTrue v.told → IsRecordOf v f n → all_parts (option_to_list found) ≡ parts_in (record_on v n) n f) same parts)
+
+pub each-more : (records : Records) (old new : List Held) (found : Option Held) → new ≡ old ++ option_to_list found
+    → IfSome found (IsHeldIn records) → All (IsHeldIn records) old → All (IsHeldIn records) new
+each-more records old new None added here all = subst (All (IsHeldIn records)) (sym (added ∙ append-nil old)) all
+each-more records old new (Some held) added here all =
+    subst (All (IsHeldIn records)) (sym added)
+    (All-append (IsHeldIn records) old (held ∷ []) all (All-cons (IsHeldIn records) held [] here (All-nil (IsHeldIn records))))
+
+length-held : (next : Held) → length (all_parts (next ∷ [])) ≡ length (attributes next.block)
+length-held next = ap length (append-nil (parts_of next)) ∙ length-map (attributes next.block) (part_of next.number)
+
+pub count-more : (own others more : ℕ) (old new : List Held) (next : Held) → new ≡ old ++ next ∷ [] → more ≡ length (attributes next.block)
+    → own + others ≡ length (all_parts old) → own + (others + more) ≡ length (all_parts new)
+count-more own others more old new next added is before =
+    let a = ap length (ap all_parts added ∙ flat_map-append parts_of old (next ∷ [])) ∙ length-append (all_parts old) (all_parts (next ∷ [])) in
+    let b = length-held next in
+    omega arith
+
+pub many-parts : (view : VolumeView) (f : ℕ) (base : List Part) (extensions : List Extension) (i : ℕ) (d : Extension) (old : List Held) (next : Held)
+    (own others more : ℕ) → i < length extensions → own ≡ length base → own + others ≡ length (all_parts old)
+    → all_parts (next ∷ []) ≡ parts_in (record_on view (get_or extensions i d).number) (get_or extensions i d).number f
+    → all_parts old ≡ base ++ parts_from (records_of view) f (take i extensions) → more ≡ length (attributes next.block) → others ≤ 10082
+    → 10082 - others < more → 10082 < length (parts_from (records_of view) f extensions)
+many-parts view f base extensions i d old next own others more lt is count parts before length_is few many =
+    let g : Extension → List Part = λ extension. parts_in (record_on view extension.number) extension.number f in
+    let a = ap length before ∙ length-append base (parts_from (records_of view) f (take i extensions)) in
+    let b = length-flat_map-take g extensions i d lt in
+    let c = ap length parts in
+    let e = length-held next in
+    omega arith

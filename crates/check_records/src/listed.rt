@@ -251,6 +251,49 @@ struct HeldFile {
     parts: usize,
 }
 
+// Holds the records of a file that have parts, of which the base record is held. `None` where the others have more parts than a
+// list has entries.
+fn hold_file<D: Disk>(
+    alloc: Global,
+    mft: &mut Mft<'_, D>,
+    base: Held,
+    extensions: &[Extension],
+) -> Result<Option<HeldFile>, MountNo>
+    ensures parts { IfOk result (λ found. IfSome found (λ file. file.parts ≡ length (all_parts file.held.items))) }
+    ensures held { IfOk result (λ found. IsTrue (view D.Disk mft.old).told
+        → All (λ extension. IsRecordOf (view D.Disk mft.old) base.number extension.number) extensions.now
+        → IfSome found (λ file. all_parts file.held.items
+        ≡ parts_of base ++ parts_from (records_of (view D.Disk mft.old)) base.number extensions.now)) }
+    ensures each { IfOk result (λ found. IsTrue (view D.Disk mft.old).told → IsHeldIn (records_of (view D.Disk mft.old)) base
+        → IfSome found (λ file. All (IsHeldIn (records_of (view D.Disk mft.old))) file.held.items)) }
+    ensures many { IfOk result (λ found. IsTrue (view D.Disk mft.old).told
+        → All (λ extension. IsRecordOf (view D.Disk mft.old) base.number extension.number) extensions.now
+        → IfNone found (10082 < length (parts_from (records_of (view D.Disk mft.old)) base.number extensions.now))) }
+    ensures err { IfErr result IsFault }
+    ensures faults { MatchResult result (λ _. faults_of D.Disk mft.new ≡ faults_of D.Disk mft.old)
+        (CountsMount (faults_of D.Disk mft.old) (faults_of D.Disk mft.new)) }
+    ensures reads { MftReads D.Disk mft.old mft.new (2 * length extensions.now) }
+{
+    let number = base.number();
+    let own = base.count();
+    let mut others = 0;
+    let mut held = Vec::new(alloc);
+    hold(&mut held, base)?;
+    for extension in extensions {
+        if let Some(next) = read_extension(mft, extension.number, number)? {
+            if next.count() > MOST_ENTRIES - others {
+                return Ok(None);
+            }
+            others += next.count();
+            hold(&mut held, next)?;
+        }
+    }
+    Ok(Some(HeldFile {
+        held,
+        parts: own + others,
+    }))
+}
+
 // Whether a file has one list, and its value names each other part once.
 fn names_parts(alloc: Global, file: &HeldFile, value: &[u8]) -> Result<bool, AllocError>
     requires { file.now.parts ≡ length (all_parts file.now.held.items) }
