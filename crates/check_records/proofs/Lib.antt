@@ -7,3 +7,4 @@ pub mod UnnamedLaws
 pub mod ValueLaws
 pub mod PlacedLaws
 pub mod HeldFileLaws
+pub mod JudgeLaws

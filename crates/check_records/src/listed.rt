@@ -319,3 +319,32 @@ fn has_whole(alloc: Global, f: u64, bytes: u64, held: &[Held]) -> Result<bool, A
     let whole = are_whole(f, bytes, &mut extents);
     Ok(whole)
 }
+
+// Judges a file with a list by its base record and the value of the list.
+fn judge_held<D: Disk>(
+    alloc: Global,
+    mft: &mut Mft<'_, D>,
+    base: Held,
+    value: &[u8],
+    extensions: &[Extension],
+) -> Result<Verdict, MountNo>
+    ensures listed { IfOk result (λ verdict. IsTrue (view D.Disk mft.old).told → IsBaseHeld (view D.Disk mft.old) base extensions.now
+        → length value.now ≤ 262144 → IsTrue verdict.listed ↔ NamesParts (view D.Disk mft.old) base.number value.now) }
+    ensures whole { IfOk result (λ verdict. IsTrue (view D.Disk mft.old).told → IsBaseHeld (view D.Disk mft.old) base extensions.now
+        → length value.now ≤ 262144 → NamesParts (view D.Disk mft.old) base.number value.now
+        → IsTrue verdict.whole ↔ AreWholeParts (cluster_bytes (view D.Disk mft.old).layout) base.number
+        (parts (records_of (view D.Disk mft.old)) base.number)) }
+    ensures err { IfErr result IsFault }
+    ensures faults { MatchResult result (λ _. faults_of D.Disk mft.new ≡ faults_of D.Disk mft.old)
+        (CountsMount (faults_of D.Disk mft.old) (faults_of D.Disk mft.new)) }
+    ensures reads { MftReads D.Disk mft.old mft.new (2 * length extensions.now) }
+{
+    let f = base.number();
+    let bytes = mft.cluster_bytes();
+    let Some(file) = hold_file(alloc, mft, base, extensions)? else {
+        return Ok(WRONG_LIST);
+    };
+    let listed = names_parts(alloc, &file, value)?;
+    let whole = has_whole(alloc, f, bytes, &file.held)?;
+    Ok(Verdict { listed, whole })
+}
