@@ -8,3 +8,4 @@ pub mod ValueLaws
 pub mod PlacedLaws
 pub mod HeldFileLaws
 pub mod JudgeLaws
+pub mod RightListLaws

@@ -348,3 +348,40 @@ fn judge_held<D: Disk>(
     let whole = has_whole(alloc, f, bytes, &file.held)?;
     Ok(Verdict { listed, whole })
 }
+
+/// Judges file `f`, which has an attribute list, by reading its records: two reads each, and 512 for the list.
+///
+/// # Errors
+///
+/// `Device` and `Memory` alone.
+pub fn judge_file<D: Disk>(
+    alloc: Global,
+    mft: &mut Mft<'_, D>,
+    f: u64,
+    extensions: &[Extension],
+) -> Result<Verdict, MountNo>
+    ensures listed { IfOk result (λ verdict. IsTrue (view D.Disk mft.old).told → ((n : ℕ) → MeetsShape (view D.Disk mft.old) n)
+        → IsListedFile (view D.Disk mft.old) f → AreExtensionsOf (records_of (view D.Disk mft.old)) f extensions.now
+        → IsTrue verdict.listed ↔ HasRightList (view D.Disk mft.old) f (parts (records_of (view D.Disk mft.old)) f)) }
+    ensures whole { IfOk result (λ verdict. IsTrue (view D.Disk mft.old).told → ((n : ℕ) → MeetsShape (view D.Disk mft.old) n)
+        → IsListedFile (view D.Disk mft.old) f → AreExtensionsOf (records_of (view D.Disk mft.old)) f extensions.now
+        → HasRightList (view D.Disk mft.old) f (parts (records_of (view D.Disk mft.old)) f)
+        → IsTrue verdict.whole ↔ AreWholeParts (cluster_bytes (view D.Disk mft.old).layout) f (parts (records_of (view D.Disk mft.old)) f)) }
+    ensures err { IfErr result IsFault }
+    ensures faults { MatchResult result (λ _. faults_of D.Disk mft.new ≡ faults_of D.Disk mft.old)
+        (CountsMount (faults_of D.Disk mft.old) (faults_of D.Disk mft.new)) }
+    ensures reads { MftReads D.Disk mft.old mft.new (514 + 2 * length extensions.now) }
+{
+    let Some(base) = read_record(mft, f, f)? else {
+        return Ok(WRONG_LIST);
+    };
+    let view = base.view();
+    let Some(list) = list_of(&view) else {
+        return Ok(WRONG_LIST);
+    };
+    let Some(value) = placed_value(alloc, mft, &list)? else {
+        return Ok(WRONG_LIST);
+    };
+    let verdict = judge_held(alloc, mft, base, &value, extensions)?;
+    Ok(verdict)
+}
