@@ -44,10 +44,13 @@ names-same view f held value right same decided =
           },
       λ n.
           let few = n.few in
-          decided.1 (omega arith, record {
-            shape = n.names.shape;
-            each_once = SameItems-trans (entries_in (records_of view) held) (entries_in (records_of view) all) (list_entries value) entries n.names.each_once;
-          }),
+          decided.1 (
+            omega arith,
+            record {
+              shape = n.names.shape;
+              each_once = SameItems-trans (entries_in (records_of view) held) (entries_in (records_of view) all) (list_entries value) entries n.names.each_once;
+            },
+          ),
     )
 
 -- the records that are held have all parts

@@ -189,11 +189,7 @@ fn read_record<D: Disk>(mft: &mut Mft<'_, D>, n: u64, f: u64) -> Result<Option<H
 }
 
 // Reads an extension record of file `f`: `None` where it is none, or has no parts.
-fn read_extension<D: Disk>(
-    mft: &mut Mft<'_, D>,
-    n: u64,
-    f: u64,
-) -> Result<Option<Held>, MountNo>
+fn read_extension<D: Disk>(mft: &mut Mft<'_, D>, n: u64, f: u64) -> Result<Option<Held>, MountNo>
     ensures held { IfOk result (λ found. IsTrue (view D.Disk mft.old).told
         → IfSome found (IsHeldIn (records_of (view D.Disk mft.old)))) }
     ensures parts { IfOk result (λ found. IsTrue (view D.Disk mft.old).told → IsRecordOf (view D.Disk mft.old) f n
