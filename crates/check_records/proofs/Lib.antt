@@ -8,3 +8,7 @@ pub mod ValueLaws
 pub mod FileLaws
 pub mod ComeLaws
 pub mod StreamLaws
+pub mod PlacedLaws
+pub mod HeldFileLaws
+pub mod JudgeLaws
+pub mod RightListLaws

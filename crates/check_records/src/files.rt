@@ -16,8 +16,8 @@ use std::alloc::{AllocError, Global};
 use vol_disk::Disk;
 use volume_facts::Heads;
 
-// Why a volume is not taken into use whose file is not read.
-fn no_file(no: FileNo) -> MountNo
+/// Why a volume is not taken into use whose file is not read.
+pub fn no_file(no: FileNo) -> MountNo
     ensures fault { IsReadNo no → IsFault result }
     ensures counts { (before after : ℕ) → IsReadNo no → CountsNo before after no → CountsMount before after result }
 {

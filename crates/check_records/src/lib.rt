@@ -7,6 +7,7 @@ mod case_table;
 mod clause;
 mod clusters;
 mod files;
+mod listed;
 mod order;
 mod records;
 mod scan;

@@ -35,11 +35,11 @@ value-short block at value e =
     value-within (is_resident block at) block (content_bytes block at) _ value
     (slice_range-short block (at + content_offset block at) (at + content_end block at)) e
 
-resident-content : (body : Body) (value : List ℕ) → value_of body ≡ Some value → content_of body ≡ Value value
+pub resident-content : (body : Body) (value : List ℕ) → value_of body ≡ Some value → content_of body ≡ Value value
 resident-content (Resident content) value e = ap Value (same_Some content value e)
 resident-content (NonResident extent text) value e = cc
 
-clusters-content : (body : Body) (sizes : Sizes) (text : List ℕ) → option_map (λ extent. extent.sizes) (extent_of body) ≡ Some sizes
+pub clusters-content : (body : Body) (sizes : Sizes) (text : List ℕ) → option_map (λ extent. extent.sizes) (extent_of body) ≡ Some sizes
     → run_text_of body ≡ Some text → (extent : ExtentHeader) × (content_of body ≡ Clusters extent (runs_in text)) × (extent.sizes ≡ sizes)
 clusters-content (Resident content) sizes text e f = cc
 clusters-content (NonResident extent content) sizes text e f =

@@ -81,11 +81,7 @@ impl Held {
     /// # Errors
     ///
     /// `Device` where the disk failed.
-    pub fn read<D: Disk>(
-        mft: &mut Mft<'_, D>,
-        n: u64,
-        number: u64,
-    ) -> Result<Option<Held>, FileNo>
+    pub fn read<D: Disk>(mft: &mut Mft<'_, D>, n: u64, number: u64) -> Result<Option<Held>, FileNo>
         ensures number { IfOk result (λ found. IfSome found (λ held. held.number ≡ n)) }
         ensures inside { IfOk result (λ found. IfSome found (λ _. n < length (mounted_of D.Disk mft.old).records)) }
         ensures own { IfOk result (λ found. IsTrue (view D.Disk mft.old).told → IfSome found (λ held.

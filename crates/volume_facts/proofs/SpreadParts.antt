@@ -87,7 +87,7 @@ module _ (records : Records) (f : ℕ) where
         let low = extensions_below records n in
         let last = extension_in n (records.record_at n) in
         let noted : parts_from records f (extensions_of f (extensions_below records (n + 1)))
-            ≡ parts_from records f (extensions_of f low) ++ parts_from records f (extensions_of f last) =
+        ≡ parts_from records f (extensions_of f low) ++ parts_from records f (extensions_of f last) =
         ap (λ xs. parts_from records f (extensions_of f xs)) (flat_map-range_more (λ k. extension_in k (records.record_at k)) n)
         ∙ ap (parts_from records f) (filter-append (λ (extension : Extension). extension.file == f) low last)
         ∙ flat_map-append (λ (extension : Extension). parts_in (records.record_at extension.number) extension.number f)
