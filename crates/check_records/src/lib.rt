@@ -15,3 +15,4 @@ mod start;
 mod streams;
 mod unnamed;
 mod values;
+mod wrong_files;
