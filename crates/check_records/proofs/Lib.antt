@@ -12,3 +12,4 @@ pub mod PlacedLaws
 pub mod HeldFileLaws
 pub mod JudgeLaws
 pub mod RightListLaws
+pub mod ListedLoopLaws
