@@ -1,13 +1,14 @@
 -- The files with a list, taken one after another: what is found of those that were seen, and which extension records are left.
-use Rattle.std.proofs.Common.{◌≡◌, ◌↔◌, ◌<◌, ◌≤◌, ◌+◌, ◌*◌, ◌==◌, ◌++◌, ℕ, Bool, true, false, cond, List, [], ◌∷◌, Option, Some, None, IfSome, IsSomeAnd, IsTrue, IsFalse, length, get_or, take, filter, refl, sym, ap, subst, inl, inr, ◌∙◌, arith}
+use Rattle.std.proofs.Common.{◌≡◌, ◌↔◌, ◌<◌, ◌+◌, ◌==◌, ◌++◌, ℕ, Bool, true, false, cond, List, [], ◌∷◌, Option, Some, None, IfSome, IsSomeAnd, IsTrue, IsFalse, length, get_or, take, filter, refl, sym, ap, subst, inl, inr, ◌∙◌, arith}
 use Rattle.std.specs.Prelude.{nat_lt}
 use Rattle.std.specs.List.{AllPairs, Contains, list_any}
 use Rattle.std.specs.List.Sorted.{IsPermutation}
-use Rattle.std.proofs.lemmas.Bool.{and_from, and_parts, cases_Bool, cases_lt, eqb-true, lt-ltb}
+use Rattle.std.proofs.lemmas.Bool.{and_from, and_parts, cases_Bool, eqb-true, lt-ltb}
 use Rattle.std.proofs.lemmas.List.{take_more}
 use Rattle.std.proofs.lemmas.List.Elements.{Contains-append_left, Contains-get_or, Contains-push, Contains-push_cases}
 use Rattle.volume_def.specs.Files.{Record, is_base, parts, record_on, records_of}
 use Rattle.volume_def.specs.ListsClause.{HasRightList, MeetsLists, is_list}
+use Rattle.volume_def.specs.ShapeClause.{MeetsShape}
 use Rattle.volume_def.specs.Table.{cluster_bytes}
 use Rattle.volume_def.specs.View.{VolumeView}
 use Rattle.file_record.proofs.RecordLaws.{record_at-inside, some-value}
@@ -15,10 +16,10 @@ use Rattle.volume_facts.specs.declared.spread.Extension.{Extension}
 use Rattle.volume_facts.specs.declared.spread.SpreadFiles.{SpreadFiles}
 use Rattle.volume_facts.specs.Extents.{AreWholeParts}
 use Rattle.volume_facts.specs.Least.{IsLeastFailing, least_of}
-use Rattle.volume_facts.specs.Spread.{AreExtensionsOf, SpreadNote, extensions_of, listed_below}
+use Rattle.volume_facts.specs.Spread.{AreExtensionsOf, SpreadNote, extensions_of}
 use Rattle.volume_facts.specs.Unlisted.{MeetsListed}
 use Rattle.volume_facts.proofs.LeastLaws.{least-same, least-two}
-use Rattle.volume_facts.proofs.ListedLaws.{IsListedBase, listed-held, listed-noted, listed-rising}
+use Rattle.volume_facts.proofs.ListedLaws.{listed-held, listed-noted, listed-rising}
 use Rattle.check_records.specs.Listed.{IsListedFile, MeetsListedLists}
 
 -- Of the numbers seen, the least that fails.
@@ -146,20 +147,32 @@ module _ (view : VolumeView) (spread : SpreadFiles) (note : SpreadNote (records_
       → IsLeastFailing (MeetsListed (records_of view) size) first
   extents-seen size first seen =
       least-same (λ n. Contains spread.listed.items n → MeetsListed (records_of view) size n) (MeetsListed (records_of view) size) first
-      (λ n h. answered (AreWholeParts size n (parts (records_of view) n)) (record_on view n) (λ listed. h (listed-among n listed))) (λ n h c. h) seen
+      (λ n h. answered (AreWholeParts size n (parts (records_of view) n)) (record_on view n) (λ listed. h (listed-among n listed)))
+      (λ n h c. h) seen
 
--- The verdict on a file.
+-- The verdict on a file whose extension records are `own`.
 
-pub lists-decided : (view : VolumeView) (f : ℕ) (right : Bool) → IsListedFile view f
-    → IsTrue right ↔ HasRightList view f (parts (records_of view) f) → IsTrue right ↔ MeetsListedLists view f
-lists-decided view f right listed decided = (λ t _. decided.0 t, λ meets. decided.1 (meets listed))
+abbrev pub JudgesLists : VolumeView → ℕ → List Extension → Bool → Type 0
+JudgesLists view f own right = IsTrue view.told → ((n : ℕ) → MeetsShape view n) → IsListedFile view f
+    → AreExtensionsOf (records_of view) f own → IsTrue right ↔ HasRightList view f (parts (records_of view) f)
 
-pub extents-decided : (view : VolumeView) (f : ℕ) (whole : Bool) → MeetsLists view f → IsListedFile view f
-    → (HasRightList view f (parts (records_of view) f)
-    → IsTrue whole ↔ AreWholeParts (cluster_bytes view.layout) f (parts (records_of view) f))
+abbrev pub JudgesExtents : VolumeView → ℕ → List Extension → Bool → Type 0
+JudgesExtents view f own whole = IsTrue view.told → ((n : ℕ) → MeetsShape view n) → IsListedFile view f
+    → AreExtensionsOf (records_of view) f own → HasRightList view f (parts (records_of view) f)
+    → IsTrue whole ↔ AreWholeParts (cluster_bytes view.layout) f (parts (records_of view) f)
+
+pub lists-decided : (view : VolumeView) (f : ℕ) (own : List Extension) (right : Bool) → JudgesLists view f own right → IsTrue view.told
+    → ((n : ℕ) → MeetsShape view n) → IsListedFile view f → AreExtensionsOf (records_of view) f own
+    → IsTrue right ↔ MeetsListedLists view f
+lists-decided view f own right judged told shape listed its =
+    let it = judged told shape listed its in
+    (λ t _. it.0 t, λ meets. it.1 (meets listed))
+
+pub extents-decided : (view : VolumeView) (f : ℕ) (own : List Extension) (whole : Bool) → JudgesExtents view f own whole → IsTrue view.told
+    → ((n : ℕ) → MeetsShape view n) → IsListedFile view f → AreExtensionsOf (records_of view) f own → MeetsLists view f
     → IsTrue whole ↔ MeetsListed (records_of view) (cluster_bytes view.layout) f
-extents-decided view f whole meets listed decided =
+extents-decided view f own whole judged told shape listed its meets =
     let W = AreWholeParts (cluster_bytes view.layout) f (parts (records_of view) f) in
     let o = record_on view f in
-    let it = decided (right-asked (HasRightList view f (parts (records_of view) f)) o listed meets) in
+    let it = judged told shape listed its (right-asked (HasRightList view f (parts (records_of view) f)) o listed meets) in
     (λ t. answered-by W o (it.0 t), λ m. it.1 (asked W o listed m))

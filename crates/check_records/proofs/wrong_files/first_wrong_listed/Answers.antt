@@ -1,25 +1,24 @@
-use Rattle.std.proofs.Common.{◌≡◌, ◌↔◌, ◌+◌, ◌*◌, ◌-◌, ◌<◌, ◌≤◌, ℕ, Some, IsTrue, length, get_or, take, refl, sym, ap, subst, ◌∙◌, arith}
+use Rattle.std.proofs.Common.{◌≡◌, ◌<◌, ℕ, Some, length, get_or, refl, sym, ap, subst, ◌∙◌, arith}
 use Rattle.std.specs.Prelude.{nat_lt}
 use Rattle.std.specs.List.Sorted.{IsNonDecreasingBy, IsPermutation}
 use Rattle.std.proofs.lemmas.List.{take_all}
 use Rattle.std.proofs.lemmas.List.Kept.{IsNonDecreasingBy-filter}
 use Rattle.std.proofs.lemmas.List.Sorted.{length_permutation}
-use Rattle.volume_def.specs.Files.{parts, records_of}
-use Rattle.volume_def.specs.ListsClause.{HasRightList}
-use Rattle.volume_def.specs.ShapeClause.{MeetsShape}
+use Rattle.volume_def.specs.Files.{records_of}
 use Rattle.volume_def.specs.Table.{cluster_bytes}
-use Rattle.volume_def.specs.View.{VolumeView}
 use Rattle.mft_table.specs.Mft.{view}
 use Rattle.mft_table.proofs.StreamReads.{MftReads-none, MftReads-then}
 use Rattle.file_record.proofs.ReadLaws.{view-kept}
 use Rattle.volume_facts.specs.declared.spread.Extension.{Extension}
-use Rattle.volume_facts.specs.Extents.{AreWholeParts}
 use Rattle.volume_facts.specs.Least.{least_of}
-use Rattle.volume_facts.specs.Spread.{AreExtensionsOf, extensions_of}
+use Rattle.volume_facts.specs.Spread.{extensions_of}
 use Rattle.volume_facts.specs.Unlisted.{MeetsListed}
-use Rattle.check_records.specs.Listed.{IsListedFile, MeetsListedLists}
-use Rattle.check_records.proofs.ListedLoopLaws.{IsLeastSeen, extents-decided, extents-seen, later-kept, least-more, least-none, lists-decided, lists-seen, noted-listed, noted-own, noted-rising}
+use Rattle.check_records.specs.Listed.{MeetsListedLists}
+use Rattle.check_records.proofs.ListedLoopLaws.{IsLeastSeen, JudgesExtents, JudgesLists, extents-decided, extents-seen, later-kept, least-more, least-none, lists-decided, lists-seen, noted-listed, noted-own, noted-rising}
 use Rattle.check_records.proofs.wrong_files.first_wrong_listed.Goals as goal
+
+abbrev file_of : Extension → ℕ
+file_of extension = extension.file
 
 pub loop-f-init : goal.loop-f-init
 loop-f-init g c =
@@ -27,7 +26,7 @@ loop-f-init g c =
     let moved = subst (IsPermutation c.args.spread.now.extensions.items) (sym c.deref-rest.ensures.value) c.in_ok-sorted.ensures.same in
     let none = MftReads-none g.D.Disk c.args.mft.now in
     record {
-      rising = subst (IsNonDecreasingBy (λ (extension : Extension). extension.file)) (sym c.deref-rest.ensures.value) c.in_ok-sorted.ensures.rising;
+      rising = subst (IsNonDecreasingBy file_of) (sym c.deref-rest.ensures.value) c.in_ok-sorted.ensures.rising;
       few = omega (arith, length_permutation _ _ moved);
       reads = MftReads-then g.D.Disk c.args.mft.now c.args.mft.now c.args.mft.now 0 0 _ none none (omega arith);
       faults = refl;
@@ -50,14 +49,13 @@ loop-f-preserved g c =
     let named : f ≡ n = ap (λ xs. get_or xs i 0) is in
     let kept = view-kept g.D.Disk c.args.mft.now c.loop-f.mft _ before.reads in
     let rest = c.loop-f.rest.now in
-    let sorted = c.deref-rest.result.now in
     let own = c.split_file.result.0.now in
     let verdict = c.in_ok-verdict.verdict in
     let moved = subst (IsPermutation spread.extensions.items) (sym c.deref-rest.ensures.value) c.in_ok-sorted.ensures.same in
     let its = c.split_file.ensures.own ∙ ap (λ m. extensions_of m rest) named in
     record {
-      rising = subst (IsNonDecreasingBy (λ (extension : Extension). extension.file)) (sym c.split_file.ensures.behind)
-          (IsNonDecreasingBy-filter (λ (extension : Extension). extension.file) (λ (extension : Extension). nat_lt f extension.file) rest before.rising);
+      rising = subst (IsNonDecreasingBy file_of) (sym c.split_file.ensures.behind)
+          (IsNonDecreasingBy-filter file_of (λ extension. nat_lt f extension.file) rest before.rising);
       few = omega (arith, before.few, c.split_file.ensures.few);
       reads = MftReads-then g.D.Disk c.args.mft.now c.loop-f.mft c.judge_file.new.mft _ _ _ before.reads c.judge_file.ensures.reads
           (omega (arith, before.few, c.split_file.ensures.few));
@@ -67,26 +65,24 @@ loop-f-preserved g c =
           ∙ later-kept f (get_or listed j 0) rest (omega (arith, named, noted-rising volume spread note i j (omega arith) lt))
           ∙ before.later note j (omega arith) lt;
       lists = λ told shape note.
-          let here = noted-listed volume spread note i inside in
-          let extensions = noted-own volume spread note n sorted own moved (its ∙ before.later note i (omega arith) inside) in
-          let judged = subst (λ (v : VolumeView). IsTrue v.told → ((m : ℕ) → MeetsShape v m) → IsListedFile v f → AreExtensionsOf (records_of v) f own
-          → IsTrue verdict.listed ↔ HasRightList v f (parts (records_of v) f)) kept c.in_ok-verdict.ensures.listed told shape in
-          let decided = subst (λ m. IsListedFile volume m → AreExtensionsOf (records_of volume) m own
-          → IsTrue verdict.listed ↔ HasRightList volume m (parts (records_of volume) m)) named judged here extensions in
+          let judged = subst (λ m. JudgesLists volume m own verdict.listed) named
+          (subst (λ v. JudgesLists v f own verdict.listed) kept c.in_ok-verdict.ensures.listed) in
           least-more (MeetsListedLists volume) listed i c.loop-f.lists c.first_with-lists.result verdict.listed inside
-          (lists-decided volume n verdict.listed here decided) c.first_with-lists.ensures.holds
-          (λ wrong. c.first_with-lists.ensures.breaks wrong ∙ ap (λ m. least_of c.loop-f.lists (Some m)) named) (before.lists told shape note);
+          (lists-decided volume n own verdict.listed judged told shape (noted-listed volume spread note i inside)
+          (noted-own volume spread note n c.deref-rest.result.now own moved (its ∙ before.later note i (omega arith) inside)))
+          c.first_with-lists.ensures.holds
+          (λ wrong. c.first_with-lists.ensures.breaks wrong ∙ ap (λ m. least_of c.loop-f.lists (Some m)) named)
+          (before.lists told shape note);
       extents = λ told shape note meets.
-          let here = noted-listed volume spread note i inside in
-          let extensions = noted-own volume spread note n sorted own moved (its ∙ before.later note i (omega arith) inside) in
-          let judged = subst (λ (v : VolumeView). IsTrue v.told → ((m : ℕ) → MeetsShape v m) → IsListedFile v f → AreExtensionsOf (records_of v) f own
-          → HasRightList v f (parts (records_of v) f)
-          → IsTrue verdict.whole ↔ AreWholeParts (cluster_bytes v.layout) f (parts (records_of v) f)) kept c.in_ok-verdict.ensures.whole told shape in
-          let decided = subst (λ m. IsListedFile volume m → AreExtensionsOf (records_of volume) m own → HasRightList volume m (parts (records_of volume) m)
-          → IsTrue verdict.whole ↔ AreWholeParts (cluster_bytes volume.layout) m (parts (records_of volume) m)) named judged here extensions in
-          least-more (MeetsListed (records_of volume) (cluster_bytes volume.layout)) listed i c.loop-f.extents c.first_with-extents.result verdict.whole inside
-          (extents-decided volume n verdict.whole (meets n) here decided) c.first_with-extents.ensures.holds
-          (λ wrong. c.first_with-extents.ensures.breaks wrong ∙ ap (λ m. least_of c.loop-f.extents (Some m)) named) (before.extents told shape note meets);
+          let judged = subst (λ m. JudgesExtents volume m own verdict.whole) named
+          (subst (λ v. JudgesExtents v f own verdict.whole) kept c.in_ok-verdict.ensures.whole) in
+          least-more (MeetsListed (records_of volume) (cluster_bytes volume.layout)) listed i c.loop-f.extents
+          c.first_with-extents.result verdict.whole inside
+          (extents-decided volume n own verdict.whole judged told shape (noted-listed volume spread note i inside)
+          (noted-own volume spread note n c.deref-rest.result.now own moved (its ∙ before.later note i (omega arith) inside)) (meets n))
+          c.first_with-extents.ensures.holds
+          (λ wrong. c.first_with-extents.ensures.breaks wrong ∙ ap (λ m. least_of c.loop-f.extents (Some m)) named)
+          (before.extents told shape note meets);
     }
 
 pub returns-in_err-verdict-clause-reads : goal.returns-in_err-verdict-clause-reads
