@@ -13,3 +13,4 @@ pub mod HeldFileLaws
 pub mod JudgeLaws
 pub mod RightListLaws
 pub mod AllFilesLaws
+pub mod ListedLoopLaws

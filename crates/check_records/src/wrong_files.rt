@@ -60,18 +60,16 @@ fn first_wrong_listed<D: Disk>(
 {
     let sorted = spread.by_file(alloc)?;
     let mut rest: &[Extension] = &sorted;
-    let mut wrong = WrongFiles {
-        lists: None,
-        extents: None,
-    };
+    let mut lists = None;
+    let mut extents = None;
     for f in &spread.listed {
         let (own, behind) = split_file(rest, *f);
         rest = behind;
         let verdict = judge_file(alloc, mft, *f, own)?;
-        wrong.lists = first_with(wrong.lists, *f, verdict.listed);
-        wrong.extents = first_with(wrong.extents, *f, verdict.whole);
+        lists = first_with(lists, *f, verdict.listed);
+        extents = first_with(extents, *f, verdict.whole);
     }
-    Ok(wrong)
+    Ok(WrongFiles { lists, extents })
 }
 
 /// The least base records that break the clauses on lists and on extents.
@@ -93,7 +91,8 @@ pub fn first_wrong_files<D: Disk>(
     ensures err { IfErr result IsFault }
     ensures faults { MatchResult result (λ _. faults_of D.Disk mft.new ≡ faults_of D.Disk mft.old)
         (CountsMount (faults_of D.Disk mft.old) (faults_of D.Disk mft.new)) }
-    ensures reads { MftReads D.Disk mft.old mft.new (514 * length facts.now.spread.listed.items + 2 * length facts.now.spread.extensions.items) }
+    ensures reads { MftReads D.Disk mft.old mft.new
+        (514 * length facts.now.spread.listed.items + 2 * length facts.now.spread.extensions.items) }
 {
     let listed = first_wrong_listed(alloc, mft, &facts.spread)?;
     Ok(WrongFiles {
