@@ -5,3 +5,6 @@ pub mod BelowLaws
 pub mod FactsGiven
 pub mod UnnamedLaws
 pub mod ValueLaws
+pub mod AnswerLaws
+pub mod CheckLaws
+pub mod TablesLaws

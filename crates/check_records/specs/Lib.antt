@@ -3,3 +3,4 @@ pub mod Refusals
 pub mod Views
 pub mod Tables
 pub mod Unnamed
+pub mod Reads

@@ -19,19 +19,19 @@ pub record IsFirstBroken (view : VolumeView) (k n : ℕ) : Type 0 where
   pub number : clause_number clause ≡ k
   pub first : FirstBroken view clause n
 
--- what is said of a volume whose table was found
-abbrev pub IsFirstRefusal : VolumeView → MountNo → Type 0
-IsFirstRefusal view (no.Refused k n) = IsFirstBroken view k n
-IsFirstRefusal view no.Dirty = ⊥
-IsFirstRefusal view no.Device = Unit {0}
-IsFirstRefusal view no.Memory = Unit {0}
-
--- the same, where the contents of the disk are told
+-- what is said of a volume whose table was found, where the contents of the disk are told
 abbrev pub IsRefusalOf : VolumeView → MountNo → Type 0
 IsRefusalOf view (no.Refused k n) = IsTrue view.told → IsFirstBroken view k n
 IsRefusalOf view no.Dirty = ⊥
 IsRefusalOf view no.Device = Unit {0}
 IsRefusalOf view no.Memory = Unit {0}
+
+-- the same, where the contents are told and the clauses before hold
+abbrev pub IsRefusalIf : Type 0 → VolumeView → MountNo → Type 0
+IsRefusalIf before view (no.Refused k n) = IsTrue view.told → before → IsFirstBroken view k n
+IsRefusalIf before view no.Dirty = ⊥
+IsRefusalIf before view no.Device = Unit {0}
+IsRefusalIf before view no.Memory = Unit {0}
 
 -- the clauses that are decided here: S1 to S11 and S13
 abbrev pub IsDecided : ℕ → Type 0

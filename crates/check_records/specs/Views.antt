@@ -4,10 +4,11 @@ use Rattle.vol_disk.specs.Contents.{sector_in}
 use Rattle.vol_disk.specs.declared.Disk.{Ghosts}
 use Rattle.vol_stage.specs.declared.stage.Stage.{Stage}
 use Rattle.vol_stage.specs.Staged.{image}
+use Rattle.volume_def.specs.Files.{records_of}
 use Rattle.volume_def.specs.Table.{TableLayout, cluster_bytes}
 use Rattle.volume_def.specs.View.{VolumeView, view_of}
 use Rattle.volume_facts.specs.declared.facts.Facts.{Facts}
-use Rattle.volume_facts.specs.Facts.{records_known}
+use Rattle.volume_facts.specs.Facts.{FactsNote, records_known}
 use Rattle.volume_facts.specs.Owners.{clusters_noted}
 use Rattle.volume_facts.specs.Unlisted.{bytes_noted}
 
@@ -20,3 +21,8 @@ pub record IsOfVolume (layout : TableLayout) (facts : Facts) : Type 0 where
   pub records : records_known facts ≡ layout.count
   pub clusters : clusters_noted facts.owners ≡ layout.clusters
   pub cluster_bytes : bytes_noted facts.unlisted ≡ cluster_bytes layout
+
+-- The facts are those that a pass over the whole table has noted of this volume.
+pub record AreFactsOf (view : VolumeView) (facts : Facts) : Type 0 where
+  pub volume : IsOfVolume view.layout facts
+  pub note : FactsNote (records_of view) view.layout.count facts

@@ -5,9 +5,12 @@
 mod by_facts;
 mod clause;
 mod clusters;
+mod laws;
 mod order;
 mod records;
 mod scan;
 mod start;
 mod unnamed;
 mod values;
+
+pub use laws::one_answer;
