@@ -41,12 +41,12 @@ found-held p q each (one ∷ held) =
     found-in p q one.number (each one.number) (attributes one.block) (flat_map attributes_in held) (flat_map parts_of held)
     (found-held p q each held)
 
-found-none : (x : Option Attribute) (y : Option Part) → IsFoundAs x y → x ≡ None → y ≡ None
+pub found-none : (x : Option Attribute) (y : Option Part) → IsFoundAs x y → x ≡ None → y ≡ None
 found-none None None same is = refl
 found-none None (Some part) same is = absurd same
 found-none (Some a) y same is = cc
 
-found-some : (x : Option Attribute) (y : Option Part) (a : Attribute) → IsFoundAs x y → x ≡ Some a → (n : ℕ) × (y ≡ Some (part_of n a))
+pub found-some : (x : Option Attribute) (y : Option Part) (a : Attribute) → IsFoundAs x y → x ≡ Some a → (n : ℕ) × (y ≡ Some (part_of n a))
 found-some None y a same is = cc
 found-some (Some b) None a same is = absurd same
 found-some (Some b) (Some part) a (n, same) is = let e : b ≡ a = cc in (n, ap Some (same ∙ ap (part_of n) e))

@@ -27,7 +27,7 @@ use Rattle.mft_table.specs.Streams.{IsSeam}
 use Rattle.attr_store.specs.Sought.{spot_in_text}
 
 -- the byte that lies `first` clusters further on in the stream
-moved-byte : (cluster : ℕ → List ℕ) (size first x y : ℕ) (spot : ℕ → Spot) → 0 < size → y ≡ first * size + x
+pub moved-byte : (cluster : ℕ → List ℕ) (size first x y : ℕ) (spot : ℕ → Spot) → 0 < size → y ≡ first * size + x
     → stored_byte cluster size spot x ≡ stored_byte cluster size (λ vcn. spot (vcn - first)) y
 moved-byte cluster size first x y spot some e =
     let q : y / size ≡ first + x / size = ap (λ n. n / size) e ∙ mul-add-div_right some first x in

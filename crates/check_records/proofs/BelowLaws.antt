@@ -1,38 +1,24 @@
 -- What the clauses before give, and bitmaps and the table of case decided by what is held of their files.
-use Rattle.std.proofs.Common.{◌≡◌, ◌<◌, ◌≤◌, ◌+◌, ◌*◌, ◌/◌, ℕ, List, [], length, take, get_or, Option, Some, None, sym, ap, subst, inl, inr, min, refl, ◌∙◌, arith}
-use Rattle.std.specs.Prelude.{All, IfNone, IsSome, filter}
+use Rattle.std.proofs.Common.{◌≡◌, ◌≤◌, ◌*◌, ℕ, List, [], length, take, Option, Some, None, sym, ap, subst, min, refl, ◌∙◌, arith}
+use Rattle.std.specs.Prelude.{IfNone, filter}
 use Rattle.std.proofs.lemmas.List.{get_or-take, length-take-le}
-use Rattle.ntfs_def.specs.KeyOrder.{case_table_len}
 use Rattle.ntfs_def.specs.declared.kinds.TheConstants.{BITMAP, DATA}
 use Rattle.ntfs_def.specs.declared.records.TheConstants.{CLUSTER_BITMAP, FIRST_ORDINARY, MFT, UPCASE}
-use Rattle.volume_def.specs.BitmapClauses.{HasNoHole, HasRecordBits, MeetsClusterBits, MeetsRecordBits, cluster_bits, record_bits, written_by}
+use Rattle.volume_def.specs.BitmapClauses.{HasNoHole, HasRecordBits, MeetsRecordBits, record_bits, written_by}
 use Rattle.volume_def.specs.CaseClause.{HasCaseTable, MeetsCaseTable, case_parts}
-use Rattle.volume_def.specs.Files.{Part, all_covered, content_extent, is_of, parts, parts_at, records_of}
-use Rattle.volume_def.specs.Readable.{IsReadableVolume}
-use Rattle.volume_def.specs.Sound.{HoldBelow}
-use Rattle.volume_def.specs.Sound.Clause.{Shape, Attributes, Lists, Extents}
+use Rattle.volume_def.specs.Files.{Part, all_covered, is_of, parts, parts_at, records_of}
 use Rattle.volume_def.specs.StreamSize.{told_size}
 use Rattle.volume_def.specs.Table.{cluster_bytes}
-use Rattle.volume_def.specs.Values.{IsPlain, first_part, value_on}
+use Rattle.volume_def.specs.Values.{IsPlain, first_part, pieces_touched, value_on}
 use Rattle.volume_def.specs.View.{VolumeView}
 use Rattle.volume_def.proofs.ValueLaws.{value-length}
 use Rattle.file_record.specs.declared.parts.FileParts.{FileParts}
-use Rattle.file_record.specs.Held.{parts_held}
 use Rattle.volume_facts.specs.BitRanges.{IsPieceOf}
 use Rattle.volume_facts.specs.Bitmaps.{HasClusterBytes}
 use Rattle.volume_facts.specs.Least.{IsLeastBelow, IsLeastFailing}
 use Rattle.volume_facts.proofs.LeastLaws.{least-whole}
 use Rattle.check_records.specs.declared.unnamed.FirstPart.{FirstPart}
-use Rattle.check_records.specs.Unnamed.{HasRoomIn, HoldsFile, TellsSizes, unnamed_in}
-
--- where the first four hold, files can be read
-pub readable-below : (view : VolumeView) (rank : ℕ) → 4 ≤ rank → HoldBelow view rank → IsReadableVolume view
-readable-below view rank enough below = record {
-  shape = below Shape (omega arith);
-  attributes = below Attributes (omega arith);
-  lists = below Lists (omega arith);
-  extents = below Extents (omega arith);
-}
+use Rattle.check_records.specs.Unnamed.{HasRoomIn, HoldsFile, IsPlainOf, TellsSizes, table_len, unnamed_in}
 
 -- the first bytes of a piece
 pub shorter-piece : (value piece : List ℕ) (n : ℕ) → n ≤ length piece → IsPieceOf value 0 piece → IsPieceOf value 0 (take n piece)
@@ -121,24 +107,28 @@ record-bits-decided view end first has all =
 
 -- The table of case.
 
-pub HasCaseTable-held : (view : VolumeView) (file : FileParts) → HoldsFile view UPCASE file → IsPlain (unnamed_in DATA file)
-    → told_size (first_part (unnamed_in DATA file)) ≡ case_table_len → HasCaseTable view
-HasCaseTable-held view file holds plain long =
-    let same = unnamed-held view UPCASE DATA file holds in
-    record {
-      plain = subst IsPlain same plain;
-      whole = value-length view.cluster (cluster_bytes view.layout) (case_parts view)
-          ∙ subst (λ ps. told_size (first_part ps) ≡ case_table_len) same long;
-    }
+pub HasCaseTable-of : (view : VolumeView) (len : ℕ) → len ≡ table_len → IsPlainOf len (case_parts view) → HasCaseTable view
+unfolding table_len
+HasCaseTable-of view len all is = record {
+  plain = is.plain;
+  whole = value-length view.cluster (cluster_bytes view.layout) (case_parts view) ∙ is.long ∙ all;
+}
 
-pub case-table-held : (view : VolumeView) (file : FileParts) → HoldsFile view UPCASE file → HasCaseTable view
-    → IsPlain (unnamed_in DATA file) × (told_size (first_part (unnamed_in DATA file)) ≡ case_table_len)
-case-table-held view file holds has =
-    let same = sym (unnamed-held view UPCASE DATA file holds) in (
-      subst IsPlain same has.plain,
-      subst (λ ps. told_size (first_part ps) ≡ case_table_len) same
-          (sym (value-length view.cluster (cluster_bytes view.layout) (case_parts view)) ∙ has.whole),
-    )
+pub IsPlainOf-case : (view : VolumeView) (len : ℕ) → len ≡ table_len → HasCaseTable view → IsPlainOf len (case_parts view)
+unfolding table_len
+IsPlainOf-case view len all has = record {
+  plain = has.plain;
+  long = sym (value-length view.cluster (cluster_bytes view.layout) (case_parts view)) ∙ has.whole ∙ sym all;
+}
+
+-- the pieces of 512 bytes that a table has
+pub touched-table : pieces_touched 0 table_len ≡ 256
+unfolding table_len
+touched-table = refl
+
+-- it has as many bytes as are told
+pub length-plain : (view : VolumeView) (len : ℕ) (extents : List Part) → IsPlainOf len extents → length (value_on view extents) ≡ len
+length-plain view len extents is = value-length view.cluster (cluster_bytes view.layout) extents ∙ is.long
 
 pub no-case-table : (view : VolumeView) → ¬ (HasCaseTable view) → IsLeastFailing (MeetsCaseTable view) (Some UPCASE)
 no-case-table view none = (λ meets. none (meets refl), λ m low is. absurd (omega arith))

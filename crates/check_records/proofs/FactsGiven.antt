@@ -1,5 +1,5 @@
 -- What the facts of a pass give where the clause on attributes holds.
-use Rattle.std.proofs.Common.{◌<◌, ℕ, arith}
+use Rattle.std.proofs.Common.{◌<◌, ℕ}
 use Rattle.volume_def.specs.Files.{records_of}
 use Rattle.volume_def.specs.Sound.{HoldBelow}
 use Rattle.volume_def.specs.Sound.Clause.{Attributes}

@@ -8,3 +8,10 @@ pub mod ValueLaws
 pub mod AnswerLaws
 pub mod CheckLaws
 pub mod TablesLaws
+pub mod FileLaws
+pub mod ComeLaws
+pub mod StreamLaws
+pub mod PlacedLaws
+pub mod HeldFileLaws
+pub mod JudgeLaws
+pub mod RightListLaws

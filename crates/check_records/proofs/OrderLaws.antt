@@ -1,7 +1,7 @@
 -- How the clauses follow one another.
-use Rattle.std.proofs.Common.{◌≡◌, ◌<◌, ◌≤◌, ◌+◌, ℕ, List, [], ◌∷◌, Option, Some, None, IfSome, inl, inr, get_or, refl, sym, ap, ◌∙◌, subst, arith}
+use Rattle.std.proofs.Common.{◌≡◌, ◌<◌, ◌+◌, ℕ, List, [], ◌∷◌, Some, inl, inr, get_or, refl, sym, ap, ◌∙◌, subst, arith}
 use Rattle.std.proofs.lemmas.Bool.{cases_lt}
-use Rattle.volume_def.specs.Sound.{Clause, HoldBelow, Holds, Meets, clause_number, rank_of}
+use Rattle.volume_def.specs.Sound.{Clause, HoldBelow, Holds, clause_number, rank_of}
 use Rattle.volume_def.specs.Sound.Clause.{Shape, Attributes, Lists, Extents, Owners, ClusterBits, RecordBits, References, Links, CaseTable, Indexes, Version, MirrorPlace, Mirror, Limits}
 use Rattle.volume_def.specs.View.{VolumeView}
 use Rattle.check_records.specs.Refusals.{DecidesFirst, IsFirstBroken}

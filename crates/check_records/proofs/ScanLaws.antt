@@ -1,5 +1,5 @@
 -- What a pass over the table has decided and noted, a record at a time.
-use Rattle.std.proofs.Common.{◌≡◌, ◌<◌, ◌≤◌, ◌+◌, ℕ, IsTrue, true, false, List, Some, None, inl, inr, cond, ap, subst, ◌∙◌, arith}
+use Rattle.std.proofs.Common.{◌≡◌, ◌<◌, ◌≤◌, ◌+◌, ℕ, IsTrue, true, false, List, Some, None, inl, inr, cond, ap, subst, arith}
 use Rattle.std.specs.Prelude.{is_some}
 use Rattle.std.proofs.lemmas.Bool.{cases_lt, lt-ltb}
 use Rattle.vol_disk.specs.Contents.{sector_in}

@@ -14,7 +14,7 @@ use Rattle.mft_table.specs.Tables.{layout_on}
 use Rattle.check_records.specs.Reads.{check_reads, files_reads, values_reads}
 use Rattle.check_records.specs.Refusals.{IsRefusal, IsRefusalIf}
 use Rattle.check_records.specs.Tables.{AreStored, HasTable, HoldsTables, volume_in}
-use Rattle.check_records.specs.Views.{AreFactsOf}
+use Rattle.check_records.specs.Views.{HasComeTo}
 use Rattle.check_records.proofs.CheckLaws.{check_reads-sum}
 use Rattle.check_records.proofs.RefusalLaws.{IsRefusal-later, IsRefusalOf-if}
 
@@ -60,40 +60,37 @@ HoldsTables-stored image mounted clusters records upcase table long below stored
 -- all steps were passed
 pub tables-checked : (told : Option (List ℕ)) (mounted : Mounted) (facts : Facts) (clusters records : List Bool) (upcase : List ℕ)
     → WhereTold told (λ image. HasTable image mounted) → length records ≡ length mounted.records
-    → (IsTrue (is_some told) → AreFactsOf (found_view told mounted) facts) → (IsTrue (is_some told) → HoldBelow (found_view told mounted) 1)
-    → (IsTrue (is_some told) → AreFactsOf (found_view told mounted) facts → HoldBelow (found_view told mounted) 1
-    → HoldBelow (found_view told mounted) 10)
-    → (IsTrue (is_some told) → AreFactsOf (found_view told mounted) facts → HoldBelow (found_view told mounted) 1
-    → AreStored (found_view told mounted) clusters records upcase)
+    → (IsTrue (is_some told) → HasComeTo (found_view told mounted) 1 facts)
+    → (IsTrue (is_some told) → HasComeTo (found_view told mounted) 1 facts → HoldBelow (found_view told mounted) 10)
+    → (IsTrue (is_some told) → HasComeTo (found_view told mounted) 1 facts → AreStored (found_view told mounted) clusters records upcase)
     → WhereTold told (λ image. HoldsTables image (stored_tables mounted clusters records upcase))
-tables-checked told mounted facts clusters records upcase table long of shape below stored = λ image is.
+tables-checked told mounted facts clusters records upcase table long come below stored = λ image is.
     let yes : IsTrue (is_some told) = subst (λ (t : Option (List ℕ)). IsTrue (is_some t)) (sym is) refl in
     HoldsTables-stored image mounted clusters records upcase (table image is) long
-    (subst (λ (t : Option (List ℕ)). HoldBelow (found_view t mounted) 10) is (below yes (of yes) (shape yes)))
-    (subst (λ (t : Option (List ℕ)). AreStored (found_view t mounted) clusters records upcase) is (stored yes (of yes) (shape yes)))
+    (subst (λ (t : Option (List ℕ)). HoldBelow (found_view t mounted) 10) is (below yes (come yes)))
+    (subst (λ (t : Option (List ℕ)). AreStored (found_view t mounted) clusters records upcase) is (stored yes (come yes)))
 
 -- a step refused the volume, or failed
 pub refusal-checked : (told : Option (List ℕ)) (mounted : Mounted) (facts : Facts) (refusal : MountNo)
     → WhereTold told (λ image. HasTable image mounted)
-    → (IsTrue (is_some told) → AreFactsOf (found_view told mounted) facts) → (IsTrue (is_some told) → HoldBelow (found_view told mounted) 1)
-    → IsRefusalIf (AreFactsOf (found_view told mounted) facts × HoldBelow (found_view told mounted) 1) (found_view told mounted) refusal
+    → (IsTrue (is_some told) → HasComeTo (found_view told mounted) 1 facts)
+    → IsRefusalIf (HasComeTo (found_view told mounted) 1 facts) (found_view told mounted) refusal
     → IsRefusal told refusal
-refusal-checked told mounted facts refusal table of shape refused =
+refusal-checked told mounted facts refusal table come refused =
     IsRefusal-later told (mounted_layout mounted) refusal
     (λ image is. let found = table image is in record { boot_clause = found.boot; table_clause = found.clause })
-    (IsRefusalOf-if (found_view told mounted) refusal (λ yes. (of yes, shape yes)) refused)
+    (IsRefusalOf-if (found_view told mounted) refusal come refused)
 
 -- .. and these are the reads of all of them
 pub reads-checked : (told : Option (List ℕ)) (mounted : Mounted) (facts : Facts) (clusters records : List Bool) (upcase : List ℕ)
     → length records ≡ length mounted.records
-    → (IsTrue (is_some told) → AreFactsOf (found_view told mounted) facts) → (IsTrue (is_some told) → HoldBelow (found_view told mounted) 1)
-    → (IsTrue (is_some told) → AreFactsOf (found_view told mounted) facts → HoldBelow (found_view told mounted) 1
-    → HoldBelow (found_view told mounted) 10)
+    → (IsTrue (is_some told) → HasComeTo (found_view told mounted) 1 facts)
+    → (IsTrue (is_some told) → HasComeTo (found_view told mounted) 1 facts → HoldBelow (found_view told mounted) 10)
     → WhereTold told (λ image. (3 + 2 * length mounted.records)
-    + (files_reads (length facts.spread.listed.items) (length facts.spread.extensions.items) + values_reads (mounted_layout mounted))
+    + (files_reads (length facts.spread.listed.items) (length facts.spread.extensions.items) + values_reads (found_view told mounted))
     ≡ check_reads (volume_in image (stored_tables mounted clusters records upcase)))
-reads-checked told mounted facts clusters records upcase long of shape below = λ image is.
+reads-checked told mounted facts clusters records upcase long come below = λ image is.
     let yes : IsTrue (is_some told) = subst (λ (t : Option (List ℕ)). IsTrue (is_some t)) (sym is) refl in
-    check_reads-sum (found_view told mounted) facts (of yes) (below yes (of yes) (shape yes))
+    check_reads-sum (found_view told mounted) facts (come yes) (below yes (come yes))
     ∙ ap (λ (t : Option (List ℕ)). check_reads (found_view t mounted)) is
     ∙ ap (λ (l : TableLayout). check_reads (told_view (sector_in (Some image)) l)) (same-layout mounted clusters records upcase long)

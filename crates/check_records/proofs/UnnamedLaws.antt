@@ -1,5 +1,5 @@
 -- The attributes of a file that is held beside its parts, one by one.
-use Rattle.std.proofs.Common.{◌≡◌, ◌&&◌, ◌<◌, ◌≤◌, ◌+◌, ◌-◌, ◌^◌, ℕ, zero, suc, Bool, true, false, cond, All, List, [], ◌∷◌, ◌++◌, length, map, drop, Option, Some, None, refl, sym, ap, subst, inl, inr, min, ◌∙◌, arith}
+use Rattle.std.proofs.Common.{◌≡◌, ◌&&◌, ◌≤◌, ◌+◌, ◌-◌, ◌^◌, ℕ, zero, suc, Bool, true, false, cond, All, List, [], ◌∷◌, ◌++◌, length, map, drop, Option, Some, None, refl, sym, ap, subst, min, ◌∙◌, arith}
 use Rattle.std.specs.Prelude.{◌↔◌, IsSome, IsTrue, filter, find, slice_get, unwrap_or, sum_by}
 use Rattle.std.specs.List.{flat_map}
 use Rattle.std.proofs.lemmas.List.Elements.{All-append, All-cons, All-head, All-nil, All-tail, filter-append}
@@ -8,8 +8,7 @@ use Rattle.std.proofs.lemmas.List.Sums.{sum_by-append, sum_by-cons}
 use Rattle.ntfs_def.specs.declared.run_text.Run.{Run}
 use Rattle.ntfs_def.specs.Attribute.{Attribute, Body, ExtentHeader, NonResident, Resident, attributes, run_text_of}
 use Rattle.ntfs_def.specs.Runs.{runs_in, total_clusters}
-use Rattle.volume_def.specs.BitmapClauses.{HasNoHole}
-use Rattle.volume_def.specs.Files.{Content, Part, all_covered, content_extent, content_of, content_runs, is_of, part_clusters, part_of, part_runs}
+use Rattle.volume_def.specs.Files.{Content, Part, content_extent, content_of, content_runs, is_of, part_clusters, part_of, part_runs}
 use Rattle.volume_def.specs.Values.{first_part, is_first}
 use Rattle.volume_def.proofs.FindLaws.{find-filter}
 use Rattle.file_record.specs.declared.held.Held.{Held}

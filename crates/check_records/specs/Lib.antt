@@ -4,3 +4,5 @@ pub mod Views
 pub mod Tables
 pub mod Unnamed
 pub mod Reads
+pub mod Listed
+pub mod Decided

@@ -1,33 +1,29 @@
 -- How many sectors the steps of the check ask for at most.
 use Rattle.std.specs.Prelude.{ℕ, ◌+◌, ◌*◌, ◌/◌, length}
+use Rattle.ntfs_def.specs.declared.records.TheConstants.{CLUSTER_BITMAP, MFT, UPCASE}
 use Rattle.volume_def.specs.Files.{records_of}
 use Rattle.volume_def.specs.Table.{TableLayout}
 use Rattle.volume_def.specs.Values.{pieces_touched}
 use Rattle.volume_def.specs.View.{VolumeView}
+use Rattle.file_record.specs.Records.{records_of_file}
 use Rattle.volume_facts.specs.Spread.{extensions_below, listed_below}
-
--- a file of the system, with its list
-abbrev pub one_file : ℕ
-one_file = 20678
 
 -- of files that stand in several records: so many have a list, and so many are extension records
 abbrev pub files_reads : ℕ → ℕ → ℕ
 files_reads listed extensions = 514 * listed + 2 * extensions
 
--- the first bytes of a bitmap of so many bits
-abbrev pub bits_reads : ℕ → ℕ
-bits_reads bits = one_file + pieces_touched 0 ((bits + 7) / 8)
+-- the bytes of both bitmaps and of the table of case
+abbrev pub bytes_reads : TableLayout → ℕ
+bytes_reads layout = pieces_touched 0 ((layout.clusters + 7) / 8) + pieces_touched 0 ((layout.count + 7) / 8) + 256
 
-abbrev pub case_reads : ℕ
-case_reads = one_file + 256
+-- .. and the records of their files
+abbrev pub values_reads : VolumeView → ℕ
+values_reads view =
+    2 * (records_of_file view CLUSTER_BITMAP + records_of_file view MFT + records_of_file view UPCASE) + bytes_reads view.layout
 
--- both bitmaps and the table of case
-abbrev pub values_reads : TableLayout → ℕ
-values_reads layout = bits_reads layout.clusters + bits_reads layout.count + case_reads
-
--- the whole check: the boot sector, record 0, each record once, and then files
+-- .. and the whole check: the boot sector, record 0, each record once, and then files
 abbrev pub check_reads : VolumeView → ℕ
 check_reads view = 3 + 2 * view.layout.count
     + files_reads (length (listed_below (records_of view) view.layout.count))
     (length (extensions_below (records_of view) view.layout.count))
-    + values_reads view.layout
+    + values_reads view

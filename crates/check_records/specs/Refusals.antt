@@ -26,7 +26,7 @@ IsRefusalOf view no.Dirty = ⊥
 IsRefusalOf view no.Device = Unit {0}
 IsRefusalOf view no.Memory = Unit {0}
 
--- the same, where the contents are told and the clauses before hold
+-- the same, where this stands before it too
 abbrev pub IsRefusalIf : Type 0 → VolumeView → MountNo → Type 0
 IsRefusalIf before view (no.Refused k n) = IsTrue view.told → before → IsFirstBroken view k n
 IsRefusalIf before view no.Dirty = ⊥

@@ -1,10 +1,11 @@
--- The image below a stage, as a volume.
-use Rattle.std.specs.Prelude.{◌≡◌, is_some}
+-- The image below a stage, as a volume, and the facts that are noted of it.
+use Rattle.std.specs.Prelude.{◌≡◌, ℕ, is_some}
 use Rattle.vol_disk.specs.Contents.{sector_in}
 use Rattle.vol_disk.specs.declared.Disk.{Ghosts}
 use Rattle.vol_stage.specs.declared.stage.Stage.{Stage}
 use Rattle.vol_stage.specs.Staged.{image}
 use Rattle.volume_def.specs.Files.{records_of}
+use Rattle.volume_def.specs.Sound.{HoldBelow}
 use Rattle.volume_def.specs.Table.{TableLayout, cluster_bytes}
 use Rattle.volume_def.specs.View.{VolumeView, view_of}
 use Rattle.volume_facts.specs.declared.facts.Facts.{Facts}
@@ -22,7 +23,8 @@ pub record IsOfVolume (layout : TableLayout) (facts : Facts) : Type 0 where
   pub clusters : clusters_noted facts.owners ≡ layout.clusters
   pub cluster_bytes : bytes_noted facts.unlisted ≡ cluster_bytes layout
 
--- The facts are those that a pass over the whole table has noted of this volume.
-pub record AreFactsOf (view : VolumeView) (facts : Facts) : Type 0 where
+-- The check has come to the clause of this rank: those before it hold, and the facts are those of the volume.
+pub record HasComeTo (view : VolumeView) (rank : ℕ) (facts : Facts) : Type 0 where
   pub volume : IsOfVolume view.layout facts
-  pub note : FactsNote (records_of view) view.layout.count facts
+  pub noted : FactsNote (records_of view) view.layout.count facts
+  pub before : HoldBelow view rank

@@ -4,22 +4,25 @@ ghost use Rattle.ntfs_def.specs.Bits.{flags_in};
 ghost use Rattle.ntfs_def.specs.declared.kinds.TheConstants.{DATA};
 ghost use Rattle.ntfs_def.specs.declared.records.TheConstants.{CLUSTER_BITMAP};
 ghost use Rattle.volume_def.specs.BitmapClauses.{HasNoHole, MeetsClusterBits, cluster_bits};
-ghost use Rattle.volume_def.specs.Readable.{IsFile, WhereReadable};
+ghost use Rattle.volume_def.specs.Files.{records_of};
 ghost use Rattle.volume_def.specs.Sound.{HoldBelow};
 ghost use Rattle.volume_def.specs.Values.{IsPlain, pieces_touched, value_on};
 ghost use Rattle.volume_def.specs.View.{VolumeView};
-ghost use Rattle.mft_table.specs.Mft.{MftReads, faults_of, mounted_of, view};
+ghost use Rattle.mft_table.specs.Mft.{MftReads, faults_of, view};
 ghost use Rattle.mft_table.specs.MountNos.{CountsMount};
-ghost use Rattle.file_record.specs.Records.{file_reads};
+ghost use Rattle.file_record.specs.Records.{records_of_file};
 ghost use Rattle.volume_facts.specs.BitRanges.{IsPieceOf};
 ghost use Rattle.volume_facts.specs.Bitmaps.{AllOwnersNote, HasClusterBytes};
 ghost use Rattle.volume_facts.specs.Least.{IsLeastFailing};
-ghost use Rattle.check_records.specs.Refusals.{IsFault, IsRefusalOf};
+ghost use Rattle.volume_facts.specs.Heads.{HeadsNote};
+ghost use Rattle.check_records.specs.Refusals.{IsFault, IsRefusalIf};
+ghost use Rattle.check_records.specs.Views.{HasComeTo};
 ghost use Rattle.check_records.specs.Unnamed.{TellsSizes, unnamed_in};
 
 use crate::clause::Clause;
+use crate::files::load_file;
 use crate::unnamed::{FirstPart, find_first, find_places};
-use crate::values::{load_bits, load_file, read_start};
+use crate::values::{load_bits, read_start};
 use cluster_bitmap::Bits;
 use file_record::FileParts;
 use mft_table::{Mft, MountNo};
@@ -27,7 +30,7 @@ use ntfs_def::kinds::DATA;
 use ntfs_def::records::CLUSTER_BITMAP;
 use std::alloc::{AllocError, Global};
 use vol_disk::Disk;
-use volume_facts::Owners;
+use volume_facts::{Facts, Owners};
 
 // The first cluster that breaks the clause, by the first bytes of the bitmap, of which so many were written.
 fn first_wrong_cluster(owners: &Owners, bytes: &[u8], written: u64) -> Option<u64>
@@ -64,29 +67,28 @@ fn find_bitmap(alloc: Global, file: &FileParts) -> Result<Option<FirstPart>, All
 fn decide_cluster_bits<D: Disk>(
     alloc: Global,
     mft: &mut Mft<'_, D>,
-    owners: &Owners,
+    facts: &Facts,
     into: &mut [u8],
 ) -> Result<Option<u64>, MountNo>
-    requires { CLUSTER_BITMAP < length (mounted_of D.Disk mft.old).records }
-    ensures first { IfOk result (λ first. WhereReadable (view D.Disk mft.old) (IsFile (view D.Disk mft.old) CLUSTER_BITMAP
-        → AllOwnersNote (view D.Disk mft.old) owners.now → (view D.Disk mft.old).layout.clusters ≤ 8 * length into.old
-        → IsLeastFailing (MeetsClusterBits (view D.Disk mft.old)) first)) }
-    ensures bytes { IfOk result (λ first. WhereReadable (view D.Disk mft.old) (IsFile (view D.Disk mft.old) CLUSTER_BITMAP
-        → IfNone first (IsPieceOf (value_on (view D.Disk mft.old) (cluster_bits (view D.Disk mft.old))) 0 into.new))) }
+    ensures first { IfOk result (λ first. IsTrue (view D.Disk mft.old).told → HasComeTo (view D.Disk mft.old) 5 facts.now
+        → (view D.Disk mft.old).layout.clusters ≤ 8 * length into.old → IsLeastFailing (MeetsClusterBits (view D.Disk mft.old)) first) }
+    ensures bytes { IfOk result (λ first. IsTrue (view D.Disk mft.old).told → HasComeTo (view D.Disk mft.old) 5 facts.now
+        → IfNone first (IsPieceOf (value_on (view D.Disk mft.old) (cluster_bits (view D.Disk mft.old))) 0 into.new)) }
     ensures err { IfErr result IsFault }
     ensures faults { MatchResult result (λ _. faults_of D.Disk mft.new ≡ faults_of D.Disk mft.old)
         (CountsMount (faults_of D.Disk mft.old) (faults_of D.Disk mft.new)) }
-    ensures reads { MftReads D.Disk mft.old mft.new (20678 + pieces_touched 0 (length into.old)) }
-    ensures fetched { WhereReadable (view D.Disk mft.old) (IsFile (view D.Disk mft.old) CLUSTER_BITMAP
-        → MftReads D.Disk mft.old mft.new (file_reads (view D.Disk mft.old) CLUSTER_BITMAP + pieces_touched 0 (length into.old))) }
+    ensures reads { MftReads D.Disk mft.old mft.new (2 * (view D.Disk mft.old).layout.count
+        + pieces_touched 0 (length into.old)) }
+    ensures fetched { HeadsNote (records_of (view D.Disk mft.old)) (view D.Disk mft.old).layout.count facts.now.heads
+        → MftReads D.Disk mft.old mft.new (2 * records_of_file (view D.Disk mft.old) CLUSTER_BITMAP + pieces_touched 0 (length into.old)) }
 {
-    let file = load_file(alloc, mft, CLUSTER_BITMAP)?;
+    let file = load_file(alloc, mft, &facts.heads, CLUSTER_BITMAP)?;
     let Some(first) = find_bitmap(alloc, &file)? else {
         return Ok(Some(0));
     };
-    read_start(alloc, mft, &file, &first, into)?;
+    read_start(alloc, mft, &file, DATA, &first, into)?;
     let written = first.len.min(first.written);
-    Ok(first_wrong_cluster(owners, into, written))
+    Ok(first_wrong_cluster(&facts.owners, into, written))
 }
 
 /// Reads the bitmap of clusters, once, and decides the clause on it. The volume meets those before.
@@ -97,28 +99,25 @@ fn decide_cluster_bits<D: Disk>(
 pub fn read_cluster_bits<D: Disk>(
     alloc: Global,
     mft: &mut Mft<'_, D>,
-    owners: &Owners,
+    facts: &Facts,
 ) -> Result<Bits, MountNo>
-    requires { CLUSTER_BITMAP < length (mounted_of D.Disk mft.old).records }
-    ensures ok { OnOk result (IsTrue (view D.Disk mft.old).told → HoldBelow (view D.Disk mft.old) 5
-        → IsFile (view D.Disk mft.old) CLUSTER_BITMAP → AllOwnersNote (view D.Disk mft.old) owners.now
+    ensures ok { OnOk result (IsTrue (view D.Disk mft.old).told → HasComeTo (view D.Disk mft.old) 5 facts.now
         → HoldBelow (view D.Disk mft.old) 6) }
-    ensures bits { IfOk result (λ bits. IsTrue (view D.Disk mft.old).told → HoldBelow (view D.Disk mft.old) 5
-        → IsFile (view D.Disk mft.old) CLUSTER_BITMAP
+    ensures bits { IfOk result (λ bits. IsTrue (view D.Disk mft.old).told → HasComeTo (view D.Disk mft.old) 5 facts.now
         → bits ≡ flags_in (value_on (view D.Disk mft.old) (cluster_bits (view D.Disk mft.old))) (view D.Disk mft.old).layout.clusters) }
     ensures count { IfOk result (λ bits. length bits ≡ (view D.Disk mft.old).layout.clusters) }
-    ensures err { IfErr result (λ no. HoldBelow (view D.Disk mft.old) 5 → IsFile (view D.Disk mft.old) CLUSTER_BITMAP
-        → AllOwnersNote (view D.Disk mft.old) owners.now → IsRefusalOf (view D.Disk mft.old) no) }
+    ensures err { IfErr result (IsRefusalIf (HasComeTo (view D.Disk mft.old) 5 facts.now) (view D.Disk mft.old)) }
     ensures faults { MatchResult result (λ _. faults_of D.Disk mft.new ≡ faults_of D.Disk mft.old)
         (CountsMount (faults_of D.Disk mft.old) (faults_of D.Disk mft.new)) }
-    ensures reads { MftReads D.Disk mft.old mft.new (20678 + pieces_touched 0 (((view D.Disk mft.old).layout.clusters + 7) / 8)) }
-    ensures fetched { WhereReadable (view D.Disk mft.old) (IsFile (view D.Disk mft.old) CLUSTER_BITMAP
-        → MftReads D.Disk mft.old mft.new (file_reads (view D.Disk mft.old) CLUSTER_BITMAP
-        + pieces_touched 0 (((view D.Disk mft.old).layout.clusters + 7) / 8))) }
+    ensures reads { MftReads D.Disk mft.old mft.new (2 * (view D.Disk mft.old).layout.count
+        + pieces_touched 0 (((view D.Disk mft.old).layout.clusters + 7) / 8)) }
+    ensures fetched { HeadsNote (records_of (view D.Disk mft.old)) (view D.Disk mft.old).layout.count facts.now.heads
+        → MftReads D.Disk mft.old mft.new (2 * records_of_file (view D.Disk mft.old) CLUSTER_BITMAP
+        + pieces_touched 0 (((view D.Disk mft.old).layout.clusters + 7) / 8)) }
 {
     let clusters = mft.mounted().geometry.clusters;
     let mut bytes = vec![in alloc; 0u8; clusters.div_ceil(8) as usize]?;
-    if let Some(number) = decide_cluster_bits(alloc, mft, owners, &mut bytes)? {
+    if let Some(number) = decide_cluster_bits(alloc, mft, facts, &mut bytes)? {
         return Err(MountNo::Refused {
             clause: Clause::ClusterBits.number(),
             number,

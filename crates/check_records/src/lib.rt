@@ -3,14 +3,21 @@
 #![tactic(auto)]
 
 mod by_facts;
+mod case_table;
+mod check;
 mod clause;
 mod clusters;
+mod files;
 mod laws;
+mod listed;
 mod order;
 mod records;
 mod scan;
 mod start;
+mod streams;
 mod unnamed;
 mod values;
+mod wrong_files;
 
+pub use check::check_records;
 pub use laws::one_answer;

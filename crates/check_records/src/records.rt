@@ -4,22 +4,24 @@ ghost use Rattle.ntfs_def.specs.Bits.{flags_in};
 ghost use Rattle.ntfs_def.specs.declared.kinds.TheConstants.{BITMAP};
 ghost use Rattle.ntfs_def.specs.declared.records.TheConstants.{MFT};
 ghost use Rattle.volume_def.specs.BitmapClauses.{HasRecordBits, MeetsRecordBits, record_bits};
-ghost use Rattle.volume_def.specs.Readable.{IsFile, WhereReadable};
+ghost use Rattle.volume_def.specs.Files.{records_of};
 ghost use Rattle.volume_def.specs.Sound.{HoldBelow};
 ghost use Rattle.volume_def.specs.Values.{pieces_touched, value_on};
 ghost use Rattle.volume_def.specs.View.{VolumeView};
-ghost use Rattle.mft_table.specs.Mft.{MftReads, faults_of, mounted_of, view};
+ghost use Rattle.mft_table.specs.Mft.{MftReads, faults_of, view};
 ghost use Rattle.mft_table.specs.MountNos.{CountsMount};
-ghost use Rattle.file_record.specs.Records.{file_reads};
+ghost use Rattle.file_record.specs.Records.{records_of_file};
 ghost use Rattle.volume_facts.specs.BitRanges.{IsPieceOf};
 ghost use Rattle.volume_facts.specs.Least.{IsLeastFailing};
-ghost use Rattle.volume_facts.specs.Used.{AllUsedNote};
-ghost use Rattle.check_records.specs.Refusals.{IsFault, IsRefusalOf};
+ghost use Rattle.volume_facts.specs.Heads.{HeadsNote};
+ghost use Rattle.check_records.specs.Refusals.{IsFault, IsRefusalIf};
+ghost use Rattle.check_records.specs.Views.{HasComeTo};
 ghost use Rattle.check_records.specs.Unnamed.{HasRoomIn, TellsSizes, unnamed_in};
 
 use crate::clause::Clause;
+use crate::files::load_file;
 use crate::unnamed::{FirstPart, find_first, find_places};
-use crate::values::{load_bits, load_file, read_start};
+use crate::values::{load_bits, read_start};
 use cluster_bitmap::Bits;
 use file_record::FileParts;
 use mft_table::{Mft, MountNo};
@@ -27,7 +29,7 @@ use ntfs_def::kinds::BITMAP;
 use ntfs_def::records::{FIRST_ORDINARY, MFT};
 use std::alloc::{AllocError, Global};
 use vol_disk::{Disk, SECTOR};
-use volume_facts::Used;
+use volume_facts::Facts;
 
 // Whether clusters of so many bytes have room for a bit for each record. Of more than 2^64 - 1 clusters that many are told.
 fn have_room(covered: u64, cluster: u64, records: u64) -> bool
@@ -67,30 +69,29 @@ fn find_bitmap(
 fn decide_record_bits<D: Disk>(
     alloc: Global,
     mft: &mut Mft<'_, D>,
-    used: &Used,
+    facts: &Facts,
     into: &mut [u8],
 ) -> Result<Option<u64>, MountNo>
-    requires { MFT < length (mounted_of D.Disk mft.old).records }
-    ensures first { IfOk result (λ first. WhereReadable (view D.Disk mft.old) (IsFile (view D.Disk mft.old) MFT
-        → AllUsedNote (view D.Disk mft.old) used.now → (view D.Disk mft.old).layout.count ≤ 8 * length into.old
-        → IsLeastFailing (MeetsRecordBits (view D.Disk mft.old)) first)) }
-    ensures bytes { IfOk result (λ first. WhereReadable (view D.Disk mft.old) (IsFile (view D.Disk mft.old) MFT
-        → IfNone first (IsPieceOf (value_on (view D.Disk mft.old) (record_bits (view D.Disk mft.old))) 0 into.new))) }
+    ensures first { IfOk result (λ first. IsTrue (view D.Disk mft.old).told → HasComeTo (view D.Disk mft.old) 6 facts.now
+        → (view D.Disk mft.old).layout.count ≤ 8 * length into.old → IsLeastFailing (MeetsRecordBits (view D.Disk mft.old)) first) }
+    ensures bytes { IfOk result (λ first. IsTrue (view D.Disk mft.old).told → HasComeTo (view D.Disk mft.old) 6 facts.now
+        → IfNone first (IsPieceOf (value_on (view D.Disk mft.old) (record_bits (view D.Disk mft.old))) 0 into.new)) }
     ensures err { IfErr result IsFault }
     ensures faults { MatchResult result (λ _. faults_of D.Disk mft.new ≡ faults_of D.Disk mft.old)
         (CountsMount (faults_of D.Disk mft.old) (faults_of D.Disk mft.new)) }
-    ensures reads { MftReads D.Disk mft.old mft.new (20678 + pieces_touched 0 (length into.old)) }
-    ensures fetched { WhereReadable (view D.Disk mft.old) (IsFile (view D.Disk mft.old) MFT
-        → MftReads D.Disk mft.old mft.new (file_reads (view D.Disk mft.old) MFT + pieces_touched 0 (length into.old))) }
+    ensures reads { MftReads D.Disk mft.old mft.new (2 * (view D.Disk mft.old).layout.count
+        + pieces_touched 0 (length into.old)) }
+    ensures fetched { HeadsNote (records_of (view D.Disk mft.old)) (view D.Disk mft.old).layout.count facts.now.heads
+        → MftReads D.Disk mft.old mft.new (2 * records_of_file (view D.Disk mft.old) MFT + pieces_touched 0 (length into.old)) }
 {
-    let file = load_file(alloc, mft, MFT)?;
+    let file = load_file(alloc, mft, &facts.heads, MFT)?;
     let cluster = SECTOR as u64 * mft.cluster_sectors();
     let records = mft.mounted().records.count();
     let Some(first) = find_bitmap(alloc, &file, cluster, records)? else {
         return Ok(Some(FIRST_ORDINARY));
     };
-    read_start(alloc, mft, &file, &first, into)?;
-    Ok(used.first_wrong_bit(into, 0))
+    read_start(alloc, mft, &file, BITMAP, &first, into)?;
+    Ok(facts.used.first_wrong_bit(into, 0))
 }
 
 /// Reads the bitmap of records, once, and decides the clause on it. The volume meets those before. A bit past the end of
@@ -102,27 +103,25 @@ fn decide_record_bits<D: Disk>(
 pub fn read_record_bits<D: Disk>(
     alloc: Global,
     mft: &mut Mft<'_, D>,
-    used: &Used,
+    facts: &Facts,
 ) -> Result<Bits, MountNo>
-    requires { MFT < length (mounted_of D.Disk mft.old).records }
-    ensures ok { OnOk result (IsTrue (view D.Disk mft.old).told → HoldBelow (view D.Disk mft.old) 6
-        → IsFile (view D.Disk mft.old) MFT → AllUsedNote (view D.Disk mft.old) used.now → HoldBelow (view D.Disk mft.old) 7) }
-    ensures bits { IfOk result (λ bits. IsTrue (view D.Disk mft.old).told → HoldBelow (view D.Disk mft.old) 6
-        → IsFile (view D.Disk mft.old) MFT
+    ensures ok { OnOk result (IsTrue (view D.Disk mft.old).told → HasComeTo (view D.Disk mft.old) 6 facts.now
+        → HoldBelow (view D.Disk mft.old) 7) }
+    ensures bits { IfOk result (λ bits. IsTrue (view D.Disk mft.old).told → HasComeTo (view D.Disk mft.old) 6 facts.now
         → bits ≡ flags_in (value_on (view D.Disk mft.old) (record_bits (view D.Disk mft.old))) (view D.Disk mft.old).layout.count) }
     ensures count { IfOk result (λ bits. length bits ≡ (view D.Disk mft.old).layout.count) }
-    ensures err { IfErr result (λ no. HoldBelow (view D.Disk mft.old) 6 → IsFile (view D.Disk mft.old) MFT
-        → AllUsedNote (view D.Disk mft.old) used.now → IsRefusalOf (view D.Disk mft.old) no) }
+    ensures err { IfErr result (IsRefusalIf (HasComeTo (view D.Disk mft.old) 6 facts.now) (view D.Disk mft.old)) }
     ensures faults { MatchResult result (λ _. faults_of D.Disk mft.new ≡ faults_of D.Disk mft.old)
         (CountsMount (faults_of D.Disk mft.old) (faults_of D.Disk mft.new)) }
-    ensures reads { MftReads D.Disk mft.old mft.new (20678 + pieces_touched 0 (((view D.Disk mft.old).layout.count + 7) / 8)) }
-    ensures fetched { WhereReadable (view D.Disk mft.old) (IsFile (view D.Disk mft.old) MFT
-        → MftReads D.Disk mft.old mft.new (file_reads (view D.Disk mft.old) MFT
-        + pieces_touched 0 (((view D.Disk mft.old).layout.count + 7) / 8))) }
+    ensures reads { MftReads D.Disk mft.old mft.new (2 * (view D.Disk mft.old).layout.count
+        + pieces_touched 0 (((view D.Disk mft.old).layout.count + 7) / 8)) }
+    ensures fetched { HeadsNote (records_of (view D.Disk mft.old)) (view D.Disk mft.old).layout.count facts.now.heads
+        → MftReads D.Disk mft.old mft.new (2 * records_of_file (view D.Disk mft.old) MFT
+        + pieces_touched 0 (((view D.Disk mft.old).layout.count + 7) / 8)) }
 {
     let records = mft.mounted().records.count();
     let mut bytes = vec![in alloc; 0u8; records.div_ceil(8) as usize]?;
-    if let Some(number) = decide_record_bits(alloc, mft, used, &mut bytes)? {
+    if let Some(number) = decide_record_bits(alloc, mft, facts, &mut bytes)? {
         return Err(MountNo::Refused {
             clause: Clause::RecordBits.number(),
             number,

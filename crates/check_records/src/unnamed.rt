@@ -39,8 +39,8 @@ pub struct Placement {
     pub covered: u64,
 }
 
-// Whether an attribute is of the type and has no name.
-fn is_unnamed(attribute: &AttrView<'_>, kind: u32) -> bool
+/// Whether an attribute is of the type and has no name.
+pub fn is_unnamed(attribute: &AttrView<'_>, kind: u32) -> bool
     ensures { (n : ℕ) → result ≡ is_of kind [] (part_of n (attribute_of attribute.now)) }
 {
     attribute.kind() == kind && attribute.name().is_empty()
@@ -113,8 +113,8 @@ fn total_of(runs: &[Run]) -> u64
     runs.iter().map(|run| run.len).sum()
 }
 
-// The clusters of a list of runs.
-fn clusters_of(runs: &RunList) -> u64
+/// The clusters of a list of runs.
+pub fn clusters_of(runs: &RunList) -> u64
     ensures { result ≡ total_clusters runs.now }
 {
     total_of(runs.runs())

@@ -5,6 +5,6 @@ ghost use Rattle.cmd_lang.specs.Grammar.{IsLine};
 
 /// A line means one command of one session at most.
 pub fn line_laws()
-    ensures one_command { (line : List ℕ) (session other : ℕ) (said told : Command) → IsLine line session said → IsLine line other told
-        → (session ≡ other) × (said ≡ told) }
+    ensures one_command { (line : List ℕ) (session other : ℕ) (said told : Command)
+        → IsLine line session said → IsLine line other told → (session ≡ other) × (said ≡ told) }
 {}

@@ -1,7 +1,7 @@
 -- The records that a file's list names are those that hold its parts.
-use Rattle.std.proofs.Common.{◌≡◌, ◌==◌, ◌<◌, ◌≤◌, ◌+◌, ℕ, Bool, true, false, not, List, [], ◌∷◌, ◌++◌, map, length, Option, Some, None, IsSomeAnd, refl, sym, ap, subst, inl, inr, ◌∙◌, arith}
+use Rattle.std.proofs.Common.{◌≡◌, ◌==◌, ℕ, true, false, not, List, [], ◌∷◌, ◌++◌, map, Some, None, IsSomeAnd, refl, sym, ap, subst, inl, inr, ◌∙◌, arith}
 use Rattle.std.specs.Prelude.{find, IfSome, IsTrue, unwrap_or}
-use Rattle.std.specs.List.{All, Contains, count_by, filter, range_with_len}
+use Rattle.std.specs.List.{Contains, count_by}
 use Rattle.std.proofs.lemmas.Bool.{cases_Bool, eq-eqb, eqb-true}
 use Rattle.std.specs.Option.{option_map}
 use Rattle.std.proofs.lemmas.Option.{same_Some}
@@ -17,13 +17,13 @@ use Rattle.volume_def.specs.ListsClause.{HasRightList, IsReadableList, IsRightLi
 use Rattle.volume_def.specs.Readable.{IsFile, IsReadableVolume}
 use Rattle.volume_def.specs.View.{VolumeView}
 use Rattle.volume_def.proofs.FindLaws.{count-none, count-some, find-fails, find-found, find-one}
-use Rattle.volume_def.proofs.MemberLaws.{Contains-cases, Contains-filter, Contains-from_filter, Contains-from_map, Contains-head, Contains-later, Contains-map, Contains-only}
+use Rattle.volume_def.proofs.MemberLaws.{Contains-filter, Contains-from_filter, Contains-from_map, Contains-head, Contains-map, Contains-only}
 use Rattle.volume_def.proofs.PartLaws.{Contains-HoldsPart, IsPart-Contains, NameHolders-view}
 use Rattle.volume_def.proofs.ReadableLaws.{readable-list}
 use Rattle.volume_def.proofs.SameItemsLaws.{SameItems-passing, SameItems-sym}
 use Rattle.file_record.specs.Numbers.{AddsListed, named_in}
 use Rattle.file_record.specs.Records.{IsRecordOf, list_reads, reads_for_list}
-use Rattle.file_record.proofs.RecordLaws.{IsBlockOf-record, IsRecordOf-at, IsRecordOf-inside, record_at-in_use, record_at-inside}
+use Rattle.file_record.proofs.RecordLaws.{IsBlockOf-record, IsRecordOf-at, IsRecordOf-inside, record_at-in_use}
 
 -- These records are of the file, and have all of its parts.
 pub record Covers (view : VolumeView) (f : ℕ) (numbers : List ℕ) : Type 0 where

@@ -1,5 +1,5 @@
 -- What is held, record by record.
-use Rattle.std.proofs.Common.{◌≡◌, ◌<◌, ◌≤◌, ◌+◌, ◌==◌, ℕ, zero, suc, Bool, true, false, cond, not, List, [], ◌∷◌, ◌++◌, length, get_or, take, map, Option, Some, None, refl, sym, ap, subst, inl, inr, ◌∙◌, arith, append-nil, length-append}
+use Rattle.std.proofs.Common.{◌≡◌, ◌<◌, ◌≤◌, ◌+◌, ℕ, List, [], ◌∷◌, ◌++◌, length, get_or, take, map, Option, Some, None, refl, sym, ap, subst, ◌∙◌, arith, append-nil, length-append}
 use Rattle.std.specs.Prelude.{IfNone, IfSome, IsTrue}
 use Rattle.std.specs.List.{All, AllPairs, Contains, flat_map}
 use Rattle.std.specs.Option.{option_to_list}
@@ -9,7 +9,7 @@ use Rattle.std.proofs.lemmas.List.Elements.{All-append, All-cons, All-nil, Conta
 use Rattle.std.proofs.lemmas.List.Quantifiers.{all_pairs_push}
 use Rattle.ntfs_def.specs.Attribute.{attributes}
 use Rattle.ntfs_def.specs.Fixup.{bare_of, opened_of}
-use Rattle.volume_def.specs.Files.{Part, part_of, parts_in, record_on, record_of}
+use Rattle.volume_def.specs.Files.{part_of, parts_in, record_on, record_of}
 use Rattle.volume_def.specs.View.{VolumeView}
 use Rattle.volume_def.proofs.MemberLaws.{Contains-head}
 use Rattle.volume_def.proofs.RecordLaws.{parts_in-own}

@@ -1,16 +1,13 @@
 -- The value of the list that a part holds.
-use Rattle.std.proofs.Common.{◌≡◌, ◌==◌, ◌&&◌, ℕ, ◌+◌, ◌-◌, ◌*◌, ◌/◌, ◌%◌, ◌<◌, ◌≤◌, Bool, true, false, cond, ltb, leb, List, [], ◌∷◌, length, map, min, Option, Some, None, IsSome, refl, sym, ap, subst, inl, inr, ◌∙◌, arith}
-use Rattle.std.specs.Prelude.{find, unwrap_or, IfSome, IsTrue, is_some}
+use Rattle.std.proofs.Common.{◌≡◌, ◌&&◌, ℕ, ◌+◌, ◌-◌, ◌/◌, ◌%◌, ◌≤◌, Bool, true, false, cond, ltb, leb, List, [], ◌∷◌, length, map, Some, None, refl, sym, ap, inl, inr, ◌∙◌, arith}
+use Rattle.std.specs.Prelude.{find, unwrap_or}
 use Rattle.std.specs.List.{range_with_len}
-use Rattle.std.specs.Option.{option_map}
 use Rattle.std.proofs.lemmas.Bool.{cases_lt, cond-false, cond-true, eq-eqb, le-ltb}
 use Rattle.std.proofs.lemmas.List.FromFn.{length-map-range_with_len}
 use Rattle.ntfs_def.specs.declared.run_text.Run.{Run}
-use Rattle.ntfs_def.specs.declared.run_text.Spot.{Spot}
-use Rattle.ntfs_def.specs.declared.run_text.Spot.TheVariants.{Outside}
 use Rattle.ntfs_def.specs.Attribute.{ExtentHeader}
 use Rattle.ntfs_def.specs.Runs.{spot_of, total_clusters}
-use Rattle.volume_def.specs.Files.{Clusters, Content, Part, Value, part_clusters, part_runs, content_runs}
+use Rattle.volume_def.specs.Files.{Clusters, Part, Value, part_clusters, part_runs, content_runs}
 use Rattle.volume_def.specs.ListsClause.{list_value}
 use Rattle.volume_def.specs.Values.{byte_there, first_vcn_of, holds_vcn, is_first, spot_at, spot_by, value_by, value_byte, value_of_parts, value_over}
 use Rattle.volume_def.specs.Table.{cluster_bytes}

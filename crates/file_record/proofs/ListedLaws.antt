@@ -1,17 +1,17 @@
 -- What an attribute list adds to the numbers that are read.
-use Rattle.std.proofs.Common.{◌≡◌, ℕ, ◌+◌, ◌-◌, ◌*◌, ◌<◌, ◌≤◌, Bool, true, false, cond, List, [], ◌++◌, length, length-drop, map, take, drop, min, Option, Some, None, Result, Ok, Err, IsSome, refl, sym, ap, subst, ◌∙◌, arith}
-use Rattle.std.specs.Prelude.{IfSome, IsTrue, OnOk, is_some, slice_range}
+use Rattle.std.proofs.Common.{◌≡◌, ℕ, ◌+◌, ◌-◌, ◌≤◌, Bool, true, false, cond, List, length, length-drop, map, drop, min, Option, Some, None, IsSome, refl, sym, ap, subst, ◌∙◌, arith}
+use Rattle.std.specs.Prelude.{IfSome, IsTrue, is_some, slice_range}
 use Rattle.std.specs.List.{range_with_len}
 use Rattle.std.specs.Option.{option_map}
 use Rattle.std.proofs.lemmas.List.{length-take}
 use Rattle.std.proofs.lemmas.Option.{same_Some}
-use Rattle.std.proofs.lemmas.Bool.{cond-false, cond-true, cases_Bool}
+use Rattle.std.proofs.lemmas.Bool.{cond-false}
 use Rattle.ntfs_def.specs.declared.run_text.Run.{Run}
 use Rattle.ntfs_def.specs.declared.sizes.Sizes.{Sizes}
-use Rattle.ntfs_def.specs.Attribute.{Attribute, Body, ExtentHeader, NonResident, Resident, attribute_at, bytes_between, content_bytes, content_end, content_offset, extent_of, is_resident, run_text_of, value_of}
+use Rattle.ntfs_def.specs.Attribute.{Attribute, Body, ExtentHeader, NonResident, Resident, attribute_at, content_bytes, content_end, content_offset, extent_of, is_resident, run_text_of, value_of}
 use Rattle.ntfs_def.specs.AttributeList.{HasListShape, list_entries}
 use Rattle.ntfs_def.specs.Runs.{runs_in, spot_of}
-use Rattle.volume_def.specs.Files.{Clusters, Content, Part, Value, content_of, content_extent, part_of, content_runs, content_value}
+use Rattle.volume_def.specs.Files.{Clusters, Part, Value, content_of, content_extent, part_of, content_runs, content_value}
 use Rattle.volume_def.specs.ListsClause.{IsReadableList, LiesOnVolume, list_value, most_list_len}
 use Rattle.volume_def.specs.Values.{pieces_touched, value_byte}
 use Rattle.volume_def.specs.Table.{cluster_bytes}
@@ -35,11 +35,11 @@ value-short block at value e =
     value-within (is_resident block at) block (content_bytes block at) _ value
     (slice_range-short block (at + content_offset block at) (at + content_end block at)) e
 
-resident-content : (body : Body) (value : List ℕ) → value_of body ≡ Some value → content_of body ≡ Value value
+pub resident-content : (body : Body) (value : List ℕ) → value_of body ≡ Some value → content_of body ≡ Value value
 resident-content (Resident content) value e = ap Value (same_Some content value e)
 resident-content (NonResident extent text) value e = cc
 
-clusters-content : (body : Body) (sizes : Sizes) (text : List ℕ) → option_map (λ extent. extent.sizes) (extent_of body) ≡ Some sizes
+pub clusters-content : (body : Body) (sizes : Sizes) (text : List ℕ) → option_map (λ extent. extent.sizes) (extent_of body) ≡ Some sizes
     → run_text_of body ≡ Some text → (extent : ExtentHeader) × (content_of body ≡ Clusters extent (runs_in text)) × (extent.sizes ≡ sizes)
 clusters-content (Resident content) sizes text e f = cc
 clusters-content (NonResident extent content) sizes text e f =

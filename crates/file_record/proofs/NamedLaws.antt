@@ -1,5 +1,5 @@
 -- The records that a list names.
-use Rattle.std.proofs.Common.{◌≡◌, ℕ, zero, suc, ◌+◌, ◌*◌, ◌≤◌, ◌<◌, List, length, map, ap, ◌∙◌, arith}
+use Rattle.std.proofs.Common.{ℕ, zero, suc, ◌*◌, ◌≤◌, List, length, arith}
 use Rattle.std.proofs.lemmas.List.{length-map}
 use Rattle.ntfs_def.specs.AttributeList.{HasListEntries, HasListShape, ListEntry, list_entries, list_entry_place}
 use Rattle.ntfs_def.specs.Record.{Reference}

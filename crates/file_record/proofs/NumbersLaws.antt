@@ -1,13 +1,11 @@
 -- The numbers that are read for a file, in order.
-use Rattle.std.proofs.Common.{◌≡◌, ◌==◌, ◌<◌, ◌≤◌, ◌+◌, ℕ, Bool, true, not, List, [], ◌∷◌, ◌++◌, length, Option, Some, None, refl, sym, ap, subst, inl, inr, ◌∙◌, arith}
-use Rattle.std.specs.Prelude.{find, IsTrue, unwrap_or}
-use Rattle.std.specs.List.{Contains, count_by, flat_map, range_with_len}
+use Rattle.std.proofs.Common.{◌≡◌, ◌<◌, ◌≤◌, ℕ, true, List, [], Option, Some, None, refl, ap, subst, inl, inr, ◌∙◌, arith}
+use Rattle.std.specs.List.{Contains, flat_map, range_with_len}
 use Rattle.std.specs.List.Sorted.{IsStrictlyIncreasing}
-use Rattle.std.specs.Option.{option_map}
 use Rattle.std.proofs.lemmas.Bool.{cases_eq, eq-eqb}
 use Rattle.std.proofs.lemmas.List.Elements.{All-contains}
 use Rattle.volume_def.specs.Members.{HoldsPart}
-use Rattle.volume_def.specs.Files.{Part, Record, file_of, parts, parts_in, record_on, record_of, records_of}
+use Rattle.volume_def.specs.Files.{Part, Record, file_of, parts, parts_in, record_on, records_of}
 use Rattle.volume_def.specs.View.{VolumeView}
 use Rattle.volume_def.proofs.FindLaws.{count-some}
 use Rattle.volume_def.proofs.MemberLaws.{Contains-range, nil-from_Contains}

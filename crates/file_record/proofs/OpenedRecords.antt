@@ -1,5 +1,5 @@
 -- A record that is opened says what the stored one does, where the ends of its strides say nothing.
-use Rattle.std.proofs.Common.{◌≡◌, ℕ, ◌<◌, ◌≤◌, List, length, arith}
+use Rattle.std.proofs.Common.{◌≡◌, ℕ, ◌≤◌, List, length, arith}
 use Rattle.ntfs_def.specs.Fixup.{opened_of}
 use Rattle.ntfs_def.specs.Record.{is_in_use}
 use Rattle.ntfs_def.proofs.FixupLaws.{length-opened_of, opened_of-within}

@@ -1,9 +1,8 @@
 -- Records of the table that belong to a file.
-use Rattle.std.proofs.Common.{◌≡◌, ◌<◌, ◌≤◌, ◌==◌, ℕ, Bool, true, false, cond, ltb, List, length, Option, Some, None, IsSomeAnd, IfSome, IfNone, IsTrue, refl, sym, ap, subst, inl, inr, ◌∙◌, arith}
+use Rattle.std.proofs.Common.{◌≡◌, ◌<◌, ℕ, cond, ltb, List, Option, Some, None, IsSomeAnd, IfSome, IfNone, IsTrue, refl, sym, ap, subst, inl, inr, ◌∙◌, arith}
 use Rattle.std.proofs.lemmas.Bool.{cases_Bool, lt-ltb, ltb-true}
 use Rattle.std.specs.Prelude.{is_none, unwrap_or}
 use Rattle.std.specs.Option.{option_map}
-use Rattle.ntfs_def.specs.Attribute.{attributes}
 use Rattle.ntfs_def.specs.Fixup.{IsSealed, opened_of}
 use Rattle.ntfs_def.specs.Record.{Reference, is_in_use}
 use Rattle.ntfs_def.specs.Shape.{HasShape}

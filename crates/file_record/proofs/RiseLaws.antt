@@ -1,9 +1,8 @@
 -- Numbers that rise.
 use Rattle.std.proofs.Common.{◌≡◌, ◌==◌, ◌<◌, ◌≤◌, ◌+◌, ℕ, zero, suc, Bool, true, false, cond, not, List, [], ◌∷◌, ◌++◌, length, get_or, refl, sym, ap, subst, inl, inr, ◌∙◌, arith}
 use Rattle.std.proofs.lemmas.Bool.{cases_eq, eq-eqb}
-use Rattle.std.proofs.lemmas.List.Sums.{count_by-le-length, sum_by-cons}
+use Rattle.std.proofs.lemmas.List.Sums.{count_by-le-length}
 use Rattle.std.specs.List.{Contains, count_by, flat_map, range_with_len}
-use Rattle.std.specs.List.Sorted.{IsStrictlyIncreasing}
 use Rattle.volume_def.proofs.FindLaws.{count-cons, count-no, count-yes}
 use Rattle.volume_def.proofs.MemberLaws.{Contains-cases, Contains-later, Contains-nil}
 use Rattle.file_record.specs.Numbers.{RiseFrom}

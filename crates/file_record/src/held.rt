@@ -1,5 +1,6 @@
 //! A record of a file, as it is held.
-ghost use Rattle.std.specs.Prelude.{◌≡◌};
+ghost use Rattle.std.specs.Prelude.{◌≡◌, ◌≤◌, length};
+ghost use Rattle.ntfs_def.specs.Attribute.{attributes};
 ghost use Rattle.ntfs_def.specs.Shape.{HasShape};
 ghost use Rattle.attr_view.specs.View.{viewed_block};
 
@@ -16,8 +17,23 @@ pub struct Held {
 }
 
 impl Held {
-    // The record, which is not looked at again.
-    pub(crate) fn view(&self) -> RecordView<'_>
+    /// The number of the record.
+    pub fn number(&self) -> u64
+        ensures { result ≡ self.now.number }
+    {
+        self.number
+    }
+
+    /// How many attributes it has.
+    pub fn count(&self) -> usize
+        ensures count { result ≡ length (attributes self.now.block) }
+        ensures few { result ≤ 1024 }
+    {
+        self.count
+    }
+
+    /// A view of the record, which is not looked at again.
+    pub fn view(&self) -> RecordView<'_>
         ensures { viewed_block result ≡ self.now.block }
     {
         RecordView::again(&self.block, self.count)

@@ -2,6 +2,7 @@
 #![tactic(auto)]
 
 mod error;
+mod gather;
 mod held;
 mod iter;
 mod list;
@@ -15,4 +16,5 @@ mod tests;
 pub use error::FileNo;
 pub use held::Held;
 pub use iter::FileAttributes;
+pub use list::{list_of, read_list};
 pub use parts::FileParts;

@@ -15,7 +15,26 @@ use mft_table::Mft;
 use std::alloc::Global;
 use vol_disk::Disk;
 
-// Holds a record behind the others, where it is one of the file. The base record is not read again.
+/// Holds a record behind the others, where it is one of the file.
+pub fn hold_record<D: Disk>(
+    mft: &mut Mft<'_, D>,
+    n: u64,
+    number: u64,
+    held: &mut Vec<Held>,
+) -> Result<(), FileNo>
+    ensures holds { OnOk result (HoldsNext (view D.Disk mft.old) number n held.old.items held.new.items) }
+    ensures err { IfErr result IsReadNo }
+    ensures faults { MatchResult result (λ _. faults_of D.Disk mft.new ≡ faults_of D.Disk mft.old)
+        (CountsNo (faults_of D.Disk mft.old) (faults_of D.Disk mft.new)) }
+    ensures reads { MftReads D.Disk mft.old mft.new 2 }
+{
+    if let Some(record) = Held::read(mft, n, number)? {
+        held.push(record)?;
+    }
+    Ok(())
+}
+
+// The same, where the base record is not read again.
 fn hold_next<D: Disk>(
     mft: &mut Mft<'_, D>,
     n: u64,
@@ -33,17 +52,7 @@ fn hold_next<D: Disk>(
         held.push(base.again())?;
         return Ok(());
     }
-    if n >= mft.mounted().records.count() {
-        return Ok(());
-    }
-    let mut block = [0; 1024];
-    if let Some(count) = read_record_of(mft, n, base.number, &mut block)? {
-        held.push(Held {
-            number: n,
-            block,
-            count,
-        })?;
-    }
+    hold_record(mft, n, base.number, held)?;
     Ok(())
 }
 

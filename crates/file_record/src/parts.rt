@@ -1,5 +1,5 @@
 //! The parts of a file: how many, and each of them.
-ghost use Rattle.std.specs.Prelude.{◌≤◌, vec_len};
+ghost use Rattle.std.specs.Prelude.{◌≤◌, ◌^◌, vec_len};
 
 use crate::Held;
 use attr_view::AttrView;
@@ -9,8 +9,8 @@ use attr_view::AttrView;
 pub struct FileParts {
     pub(crate) number: u64,
     pub(crate) held: Vec<Held>,
-    // a list names no more records, and the base record holds the list
-    ghost few: { vec_len held ≤ 10083 },
+    // no table has more records
+    ghost few: { vec_len held ≤ 2 ^ 22 },
 }
 
 impl FileParts {

@@ -9,7 +9,7 @@ ghost use Rattle.mft_table.specs.Mft.{MftReads, faults_of, mounted_of, view};
 ghost use Rattle.file_record.specs.FileNos.{CountsNo, IsReadNo};
 ghost use Rattle.file_record.specs.Records.{IsBlockOf, IsRecordOf};
 
-use crate::FileNo;
+use crate::{FileNo, Held};
 use attr_view::RecordView;
 use mft_table::{Mft, MftNo};
 use ntfs_def::is_in_use;
@@ -71,5 +71,39 @@ pub fn read_record_of<D: Disk>(
         Ok(()) => Ok(count_of(into, n, number)),
         Err(MftNo::Torn { .. }) => Ok(None),
         Err(_) => Err(FileNo::Device),
+    }
+}
+
+impl Held {
+    /// Reads record `n`, where it is one of file `number`: `None` where it lies past the table, does not open, has no shape,
+    /// is not in use or belongs to another file.
+    ///
+    /// # Errors
+    ///
+    /// `Device` where the disk failed.
+    pub fn read<D: Disk>(mft: &mut Mft<'_, D>, n: u64, number: u64) -> Result<Option<Held>, FileNo>
+        ensures number { IfOk result (λ found. IfSome found (λ held. held.number ≡ n)) }
+        ensures inside { IfOk result (λ found. IfSome found (λ _. n < length (mounted_of D.Disk mft.old).records)) }
+        ensures own { IfOk result (λ found. IsTrue (view D.Disk mft.old).told → IfSome found (λ held.
+            IsRecordOf (view D.Disk mft.old) number n × (held.block ≡ opened_of ((view D.Disk mft.old).block n)))) }
+        ensures other { IfOk result (λ found. IsTrue (view D.Disk mft.old).told
+            → IfNone found (¬ (IsRecordOf (view D.Disk mft.old) number n))) }
+        ensures err { IfErr result IsReadNo }
+        ensures faults { MatchResult result (λ _. faults_of D.Disk mft.new ≡ faults_of D.Disk mft.old)
+            (CountsNo (faults_of D.Disk mft.old) (faults_of D.Disk mft.new)) }
+        ensures reads { MftReads D.Disk mft.old mft.new 2 }
+    {
+        if n >= mft.mounted().records.count() {
+            return Ok(None);
+        }
+        let mut block = [0; 1024];
+        let Some(count) = read_record_of(mft, n, number, &mut block)? else {
+            return Ok(None);
+        };
+        Ok(Some(Held {
+            number: n,
+            block,
+            count,
+        }))
     }
 }

@@ -20,9 +20,9 @@ Words that are not built yet:
 
 Numbers are decimal. format takes 2048 sectors or more, as many as IMAGE has at
 most, clusters of 512, 1024, 2048 or 4096 bytes, and a label of 1 to 32 units.
-The tools of ntfs-3g open and list such a volume; mounting it was not tried. Its
-$AttrDef is empty, so a driver that needs it creates nothing in it, and nothing
-is claimed of Windows.
+The tools of ntfs-3g open and list such a volume. ntfs-3g mounts it and warns that
+its log is small; it creates nothing in it, as may be expected of a driver that
+needs $AttrDef, which is empty. Nothing is claimed of Windows.
 
 An answer goes to standard output, and a line on what went wrong to standard
 error. The status is 0 where all was done, 2 where the words are not known, 3

@@ -9,3 +9,7 @@ pub mod BillLaws
 pub mod IndexRoomLaws
 pub mod NamesLaws
 pub mod SessionLaws
+pub mod PlaceLaws
+pub mod FactsLaws
+pub mod MachineLaws
+pub mod EffectLaws

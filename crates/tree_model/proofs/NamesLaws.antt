@@ -15,13 +15,14 @@ use Rattle.volume_def.specs.View.{VolumeView}
 use Rattle.volume_def.proofs.MemberLaws.{Contains-from_flat_map, Contains-from_map, Contains-nil, filter-map}
 use Rattle.tree_model.specs.Hidden.{is_hidden}
 use Rattle.tree_model.specs.Ordered.{in_order}
-use Rattle.tree_model.specs.Reading.{all_links, is_hidden_link, link_by, link_for, links_to, node_at, node_on, read}
+use Rattle.tree_model.specs.Reading.{all_links, is_hidden_link, link_by, links_to, node_at, node_on, read}
 use Rattle.tree_model.specs.Tree.{leads_to, link_above, node_of, shown_node}
 use Rattle.tree_model.specs.declared.tree.Link.{Link}
 use Rattle.tree_model.specs.declared.tree.Node.{Node}
 use Rattle.tree_model.proofs.LeastLaws.{filter-in_order}
 use Rattle.tree_model.proofs.LinkOrder.{link_order}
-use Rattle.tree_model.proofs.ReadingLaws.{node_of-read}
+use Rattle.tree_model.proofs.ReadingLaws.{node_of-read, nodes-remove}
+use Rattle.tree_model.specs.Taken.{IsTaken, without_file}
 
 -- a name of a file, with the reference of the file
 abbrev named : ℕ → Record → names.FileName → names.Link
@@ -198,3 +199,73 @@ links-read v f node e ne =
     filter-in_order (link_order (volume_fold v)) (leads_to f) (filter (λ link. not (is_hidden_link v link)) (all_links v))
     ∙ ap (in_order (link_above (volume_fold v)))
     (filter-passed (leads_to f) (λ link. not (is_hidden_link v link)) (all_links v) shown ∙ links-of v f s)
+
+-- two tests in either order
+filter-swap : {A : Type 0} (p q : A → Bool) (xs : List A) → filter p (filter q xs) ≡ filter q (filter p xs)
+filter-swap p q [] = refl
+filter-swap p q (x ∷ xs) = by (filter-swap p q xs) (p x) (q x) refl refl
+  where
+    by : filter p (filter q xs) ≡ filter q (filter p xs) → (s t : Bool) → p x ≡ s → q x ≡ t
+        → filter p (filter q (x ∷ xs)) ≡ filter q (filter p (x ∷ xs))
+    by ih true true s t = rw (s, t) (rw s (ap (λ l. x ∷ l) ih))
+    by ih true false s t = rw (s, t) ih
+    by ih false true s t = rw (s, t) (rw s ih)
+    by ih false false s t = rw (s, t) ih
+
+-- two tests that agree where a third one passes
+filter-agree : {A : Type 0} (p other q : A → Bool) (xs : List A) → ((x : A) → q x ≡ true → p x ≡ other x)
+    → filter p (filter q xs) ≡ filter other (filter q xs)
+filter-agree p other q [] h = refl
+filter-agree p other q (x ∷ xs) h = by (filter-agree p other q xs h) (q x) (other x) refl refl
+  where
+    by : filter p (filter q xs) ≡ filter other (filter q xs) → (s t : Bool) → q x ≡ s → other x ≡ t
+        → filter p (filter q (x ∷ xs)) ≡ filter other (filter q (x ∷ xs))
+    by ih true true s t = let u = h x s ∙ t in rw s (rw (t, u) (ap (λ l. x ∷ l) ih))
+    by ih true false s t = let u = h x s ∙ t in rw s (rw (t, u) ih)
+    by ih false t' s t = rw s ih
+
+-- A file that is shown goes with all its names: the tree is as before without it.
+pub read-taken : (old new : VolumeView) (f : ℕ) (node : Node) → node_at old f ≡ Some node → f ≢ ROOT → IsTaken old new f
+    → read new ≡ without_file f (read old)
+unfolding read
+read-taken old new f node e ne taken =
+    let s = is_shown old f node e in
+    let fold = volume_fold old in
+    let stays : Link → Bool = λ link. not (leads_to f link) in
+    let apart : (link : Link) → stays link ≡ true → is_hidden_link new link ≡ is_hidden_link old link = λ link h.
+    ap (λ b. (link.child == ROOT) || b) (taken.hidden link.child (λ same. no_both link.child f same h)) in
+    let kept : (link : Link) → is_hidden_link old link ≡ true → stays link ≡ true = λ link h.
+    stays_hidden (records_of old) f ne s.shown link h in
+    let agree : (link : Link) → stays link ≡ true → not (is_hidden_link new link) ≡ not (is_hidden_link old link) = λ link h.
+    ap not (apart link h) in
+    let links =
+    ap (λ by. in_order (link_above by) (filter (λ link. not (is_hidden_link new link)) (all_links new))) taken.fold
+    ∙ ap (λ l. in_order (link_above fold) (filter (λ link. not (is_hidden_link new link)) l)) taken.links
+    ∙ ap (in_order (link_above fold))
+    (filter-agree (λ link. not (is_hidden_link new link)) (λ link. not (is_hidden_link old link)) stays (all_links old) agree
+    ∙ filter-swap (λ link. not (is_hidden_link old link)) stays (all_links old))
+    ∙ sym (filter-in_order (link_order fold) stays (filter (λ link. not (is_hidden_link old link)) (all_links old))) in
+    let hidden =
+    ap (λ by. in_order (link_above by) (filter (is_hidden_link new) (all_links new))) taken.fold
+    ∙ ap (λ l. in_order (link_above fold) (filter (is_hidden_link new) l)) taken.links
+    ∙ ap (in_order (link_above fold))
+    (filter-agree (is_hidden_link new) (is_hidden_link old) stays (all_links old) apart
+    ∙ filter-passed (is_hidden_link old) stays (all_links old) kept) in
+    let nodes = nodes-remove old new f taken.gone taken.nodes in
+    λ i. record { fold = taken.fold i; nodes = nodes i; links = links i; hidden = hidden i }
+  where
+    no_both : (child f : ℕ) → child ≡ f → not (child == f) ≡ true → ⊥
+    no_both child f same h = let e = eq-eqb child f same in let g = sym (ap not e) ∙ h in cc
+
+    stays_hidden : (records : Records) (f : ℕ) → f ≢ ROOT → is_hidden records f ≡ false → (link : Link)
+        → ((link.child == ROOT) || is_hidden records link.child) ≡ true → not (leads_to f link) ≡ true
+    stays_hidden records f ne shown link h = by (leads_to f link) refl
+      where
+        by : (b : Bool) → leads_to f link ≡ b → not (leads_to f link) ≡ true
+        by false b = ap not b
+        by true b =
+            let r = ne_eqb f ROOT ne in
+            let at : ((f == ROOT) || is_hidden records f) ≡ true =
+            subst (λ k. ((k == ROOT) || is_hidden records k) ≡ true) (eqb-true link.child f b) h in
+            let none : ((f == ROOT) || is_hidden records f) ≡ false = rw (r, shown) refl in
+            let g = sym none ∙ at in cc

@@ -20,16 +20,16 @@ use Rattle.tree_model.specs.Reading.{all_links, directory_links, is_hidden_link,
 use Rattle.tree_model.proofs.LinkOrder.{link_order}
 
 -- numbers as keys
-key_same : (q : ℕ) → eq_by_cmp nat_cmp q q ≡ true
+pub key_same : (q : ℕ) → eq_by_cmp nat_cmp q q ≡ true
 key_same q = rw (le-ltb q q (omega arith), eq-eqb q q refl) refl
 
-key_other : (q f : ℕ) → q ≢ f → eq_by_cmp nat_cmp q f ≡ false
+pub key_other : (q f : ℕ) → q ≢ f → eq_by_cmp nat_cmp q f ≡ false
 key_other q f ne = elim (cases_lt q f) [
   | inl lt ↦ rw (lt-ltb q f lt) refl
   | inr ge ↦ rw (le-ltb q f ge, ne_eqb q f ne) refl
 ]
 
-key_is : (q f : ℕ) → eq_by_cmp nat_cmp q f ≡ eqb q f
+pub key_is : (q f : ℕ) → eq_by_cmp nat_cmp q f ≡ eqb q f
 key_is q f = elim (cases_eq q f) [
   | inl e ↦ subst (λ x. eq_by_cmp nat_cmp q x ≡ eqb q x) e (key_same q
       ∙ sym (eq-eqb q q refl))
@@ -113,3 +113,19 @@ pub links-more : (fold : ℕ → ℕ) (test : Link → Bool) (before after : Lis
     → in_order (link_above fold) (filter test (before ++ link ∷ after))
     ≡ put_in_order (link_above fold) link (in_order (link_above fold) (filter test (before ++ after)))
 links-more fold test before after link passes = moved (link_order fold) test before link after ∙ rw passes refl
+
+-- one node is gone
+pub nodes-remove : (old new : VolumeView) (f : ℕ) → node_at new f ≡ None → ((q : ℕ) → q ≢ f → node_at new q ≡ node_at old q)
+    → tree_nodes new ≡ finmap.remove (tree_nodes old) f
+nodes-remove old new f here same =
+    finmap.same_map nat_cmp_total finmap.nat_cmp-IsAntisymmetric _ _ (λ q. one q
+    ∙ sym (finmap.get-remove nat_cmp_total (tree_nodes old) f q))
+  where
+    one : (q : ℕ) → finmap.get (tree_nodes new) q ≡ cond (eq_by_cmp nat_cmp q f) None (finmap.get (tree_nodes old) q)
+    one q = elim (cases_eq q f) [
+      | inl e ↦
+          subst (λ x. finmap.get (tree_nodes new) x ≡ cond (eq_by_cmp nat_cmp x f) None (finmap.get (tree_nodes old) x)) (sym e)
+          (get-nodes new f ∙ here ∙ sym (ap (λ b. cond b None (finmap.get (tree_nodes old) f)) (key_same f)))
+      | inr ne ↦ get-nodes new q ∙ same q ne ∙ sym (get-nodes old q)
+          ∙ sym (ap (λ b. cond b None (finmap.get (tree_nodes old) q)) (key_other q f ne))
+    ]

@@ -1,5 +1,5 @@
 -- What a command that nothing refuses shows before `ok`.
-use Rattle.std.specs.Prelude.{ℕ, zero, suc, ◌==◌, ◌&&◌, not, Bool, List, [], ◌∷◌, ◌++◌, codes, count_by, drop, filter, find, flat_map}
+use Rattle.std.specs.Prelude.{ℕ, zero, suc, ◌==◌, ◌&&◌, Bool, List, [], ◌∷◌, ◌++◌, codes, count_by, drop, filter, find, flat_map}
 use Rattle.std.specs.Prelude.{length, map, take}
 use Rattle.std.specs.Prelude.{Option, Some, None, option_map, slice_index, unwrap_or, if◌then◌else◌}
 use Rattle.std.specs.List.{filter_map}

@@ -22,3 +22,4 @@ pub mod Reading
 pub mod Facts
 pub mod Session
 pub mod Plain
+pub mod Taken

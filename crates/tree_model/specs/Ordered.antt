@@ -10,6 +10,11 @@ abbrev pub in_order : {A : Type 0} → (A → A → Bool) → List A → List A
 in_order above [] = []
 in_order above (x ∷ xs) = put_in_order above x (in_order above xs)
 
+-- the items of a list put in order among others
+abbrev pub put_all : {A : Type 0} → (A → A → Bool) → List A → List A → List A
+put_all above [] others = others
+put_all above (x ∷ xs) others = put_in_order above x (put_all above xs others)
+
 -- An order in which of each two items that differ one stands above the other.
 pub record IsOrder {A : Type 0} (above : A → A → Bool) : Type 0 where
   pub one_way : (x y : A) → above x y ≡ true → above y x ≡ false

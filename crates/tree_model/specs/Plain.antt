@@ -1,22 +1,24 @@
 -- A tree kept in plain lists, and what its calls lend of it.
 use Rattle.std.specs.Prelude.{◌≡◌, ◌⊎◌, ℕ, ◌&&◌, Bool, true, false, List, [], ◌∷◌, Option, Some, None, Result, Ok, Err, option_and_then}
 use Rattle.std.specs.Prelude.{option_map, if◌then◌else◌}
-use Rattle.std.specs.Prelude.{◌==◌, length, nat_lt}
+use Rattle.std.specs.Prelude.{◌<◌, ◌==◌, ◌≢◌, find, length, nat_lt, not, slice_index_or}
 use Rattle.std.specs.FinMap as finmap
 use Rattle.std.specs.Option.{option_map_or}
 use Rattle.std.specs.Str.{bytes_eq}
 use denote.Ref.{Bor}
 use Rattle.ntfs_def.specs.KeyOrder.{fold_of}
 use Rattle.tree_model.specs.Paths.{Place, and_then, found_file, resolve}
-use Rattle.tree_model.specs.Answers.{node_answer, point_answer, range_of}
+use Rattle.tree_model.specs.Answers.{listing, node_answer, point_answer, range_of, shown_links}
 use Rattle.tree_model.specs.Cases.{is_wide}
 use Rattle.tree_model.specs.Refusals.{Facts}
 use Rattle.tree_model.specs.Step.{due}
-use Rattle.tree_model.specs.Subjects.{content_named, is_directory}
+use Rattle.tree_model.specs.Subjects.{Machine, content_named, is_directory}
 use Rattle.tree_model.specs.Tree.{Tree, are_same, is_in, node_of}
 use Rattle.tree_model.specs.declared.command.Command.{Command}
-use Rattle.tree_model.specs.declared.command.Command.TheVariants as c
+use Rattle.tree_model.specs.declared.opens.OpenEntry.{OpenEntry}
 use Rattle.tree_model.specs.declared.plain.PlainTree.{PlainTree}
+use Rattle.tree_model.specs.declared.plain_facts.PlainFacts.{PlainFacts}
+use Rattle.tree_model.specs.declared.plain_machine.PlainMachine.{PlainMachine}
 use Rattle.tree_model.specs.declared.reply.Answer.{Answer}
 use Rattle.tree_model.specs.declared.reply.Answer.TheVariants as a
 use Rattle.tree_model.specs.declared.reply.Listed.{Listed}
@@ -38,6 +40,12 @@ tree_of plain = record {
   links = plain.links.items;
   hidden = plain.hidden.items;
 }
+
+-- The first node of this number stands here in the list.
+pub record IsFirstOf (nodes : List (ℕ × Node)) (file place : ℕ) : Type 0 where
+  pub within : place < length nodes
+  pub here : (other : ℕ × Node) → (slice_index_or nodes place other).0 ≡ file
+  pub first : (k : ℕ) (other : ℕ × Node) → k < place → (slice_index_or nodes k other).0 ≢ file
 
 -- what is lent, as a value
 abbrev pub lent : {A : Type 0} → Option (Bor A) → Option A
@@ -115,33 +123,53 @@ abbrev pub stream_of : Tree → List ℕ → Option Node → Result (List ℕ) N
 stream_of tree name node =
     if (length name == 0) && is_directory node then Err no.IsDir else plain_bytes (content_named tree name node)
 
-abbrev pub cat_of : Tree → List ℕ → (ℕ × Option Node) → Result Answer No
-cat_of tree name file =
-    and_then (stream_of tree name file.1) (λ bytes. if nat_lt 65536 (length bytes) then Err no.TooBig else Ok (a.Data bytes))
+-- It is not shown where an open of the file does not share reading.
+abbrev pub kept_apart : List OpenEntry → ℕ → Option No
+kept_apart opens file =
+    option_map (λ entry. no.Shared entry.session entry.handle) (find (λ entry. (entry.file == file) && not entry.share.r) opens)
 
-abbrev pub read_of : Tree → List ℕ → ℕ → ℕ → (ℕ × Option Node) → Result Answer No
-read_of tree name from len file =
-    and_then (stream_of tree name file.1) (λ bytes. if is_wide from len then Err no.TooBig else Ok (a.Data (range_of from len bytes)))
+abbrev pub unless_apart : List OpenEntry → ℕ → List ℕ → Result Answer No
+unless_apart opens file bytes = option_map_or Err (kept_apart opens file) (Ok (a.Data bytes))
+
+abbrev pub cat_of : Tree → List OpenEntry → List ℕ → (ℕ × Option Node) → Result Answer No
+cat_of tree opens name file =
+    and_then (stream_of tree name file.1)
+    (λ bytes. if nat_lt 65536 (length bytes) then Err no.TooBig else unless_apart opens file.0 bytes)
+
+abbrev pub read_of : Tree → List OpenEntry → List ℕ → ℕ → ℕ → (ℕ × Option Node) → Result Answer No
+read_of tree opens name from len file =
+    and_then (stream_of tree name file.1)
+    (λ bytes. if is_wide from len then Err no.TooBig else unless_apart opens file.0 (range_of from len bytes))
+
+-- What is shown of a directory ..
+abbrev pub ls_of : Tree → (ℕ × Option Node) → Result Answer No
+ls_of tree file = if is_directory file.1 then Ok (a.List (listing tree file.0)) else Err no.NotDir
+
+-- .. and of the names of a file.
+abbrev pub links_of : Tree → (ℕ × Option Node) → Result Answer No
+links_of tree file = Ok (a.Links (shown_links tree file.0))
+
+-- The numbers are told.
+pub record AreTold (plain : PlainFacts) (facts : Facts) : Type 0 where
+  pub clusters : facts.clusters ≡ plain.clusters
+  pub free : facts.free ≡ plain.free
+  pub records : facts.records ≡ plain.records
+  pub free_records : facts.free_records ≡ plain.free_records
+
+abbrev pub df_of : PlainFacts → Answer
+df_of plain = a.Df plain.clusters plain.free plain.records plain.free_records
 
 -- bytes that are lent
 abbrev pub lent_bytes : Result (Bor (List ℕ)) No → Result (List ℕ) No
 lent_bytes (Ok bytes) = Ok bytes.now
 lent_bytes (Err refused) = Err refused
 
--- what is due where no session has an open
-abbrev pub Answers : PlainTree → Command → Result Answer No → Type 0
-Answers plain command result =
-    (facts : Facts) (now session : ℕ)
-    → Tells (due facts (record { tree = tree_of plain; opens = []; now = now }) session command) result
+-- the machine that is kept
+unfoldable pub machine_of : PlainMachine → Machine
+machine_of plain = record { tree = tree_of plain.tree; opens = plain.opens.items; now = plain.now }
 
--- the commands that `PlainTree::answer` answers
-abbrev pub is_answered : Command → Bool
-is_answered (c.Stat path) = true
-is_answered (c.Streams path) = true
-is_answered (c.Attr path) = true
-is_answered (c.Sec path) = true
-is_answered (c.Objid path) = true
-is_answered (c.Reparse path) = true
-is_answered (c.Cat path stream) = true
-is_answered (c.Read path stream from len) = true
-is_answered other = false
+-- what is due, whatever the moment and the session
+abbrev pub Answers : PlainTree → List OpenEntry → PlainFacts → Command → Result Answer No → Type 0
+Answers plain opens told command result =
+    (facts : Facts) (now session : ℕ) → AreTold told facts
+    → Tells (due facts (record { tree = tree_of plain; opens = opens; now = now }) session command) result

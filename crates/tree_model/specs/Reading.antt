@@ -1,7 +1,7 @@
 -- The tree that a volume reads as: by a scan of its records and the clusters of their values alone; no index is looked at.
 -- Layout: Linux-NTFS documentation, attributes $STANDARD_INFORMATION, $FILE_NAME, $DATA, $REPARSE_POINT and $OBJECT_ID; Carrier,
 -- File System Forensic Analysis, chapters 11 to 13.
-use Rattle.std.specs.Prelude.{ℕ, ◌-◌, ◌/◌, ◌%◌, ◌^◌, ◌==◌, ◌&&◌, ◌||◌, not, nat_lt, Bool, List, [], ◌∷◌, ◌++◌, bit_and, codes, drop}
+use Rattle.std.specs.Prelude.{ℕ, ◌-◌, ◌==◌, ◌&&◌, ◌||◌, not, nat_lt, Bool, List, [], ◌∷◌, ◌++◌, bit_and, codes, drop}
 use Rattle.std.specs.Prelude.{filter, find}
 use Rattle.std.specs.Prelude.{false, length, map, replicate, take, Option, Some, None, option_and_then, option_map, unwrap_or}
 use Rattle.std.specs.Prelude.{if◌then◌else◌}

@@ -9,7 +9,7 @@ ghost use Rattle.volume_def.specs.VersionClause.{IsClean};
 ghost use Rattle.std.specs.FinMap as finmap;
 ghost use Rattle.volume_def.specs.View.{VolumeView};
 ghost use Rattle.tree_model.specs.Bill.{bill_of};
-ghost use Rattle.tree_model.specs.Facts.{IsVolumeOf, ReadsAs};
+ghost use Rattle.tree_model.specs.Facts.{IsVolumeOf, ReadsAs, TellsFacts};
 ghost use Rattle.tree_model.specs.IndexRoom.{Index, has_entry, index_depth};
 ghost use Rattle.tree_model.specs.Need.{empty_bill};
 ghost use Rattle.tree_model.specs.NoRoom.{no_room_for};
@@ -17,6 +17,7 @@ ghost use Rattle.tree_model.specs.Ordered.{in_order, put_in_order};
 ghost use Rattle.tree_model.specs.Paths.{lookup, links_in_order};
 ghost use Rattle.tree_model.specs.Reading.{directory_links, node_at, read, all_links, is_hidden_link, links_to, tree_nodes};
 ghost use Rattle.tree_model.specs.Refusals.{Facts, is_edit};
+ghost use Rattle.tree_model.specs.Taken.{IsTaken, without_file};
 ghost use Rattle.tree_model.specs.Step.{IsFree, Step, due, reply_of};
 ghost use Rattle.tree_model.specs.Subjects.{Located, Machine, NoName};
 ghost use Rattle.tree_model.specs.Tree.{Tree, link_above, node_of, sought_link, leads_to, shown_node};
@@ -33,6 +34,13 @@ ghost use Rattle.tree_model.specs.declared.tree.Node.{Node};
 pub fn one_reading()
     ensures volume { (image : List ℕ) (one other : VolumeView) → IsVolumeOf image one → IsVolumeOf image other → one ≡ other }
     ensures tree { (image : List ℕ) (one other : Tree) → ReadsAs image one → ReadsAs image other → one ≡ other }
+{}
+
+/// What a volume tells beside its tree is one (`volume`), and so is what an image tells (`image`).
+pub fn one_facts()
+    ensures volume { (view : VolumeView) (one other : Facts) → TellsFacts view one → TellsFacts view other → one ≡ other }
+    ensures image { (image : List ℕ) (view last : VolumeView) (one other : Facts) → IsVolumeOf image view → IsVolumeOf image last
+        → TellsFacts view one → TellsFacts last other → one ≡ other }
 {}
 
 /// A step has one reply: one refusal, or one answer. Want of memory may stand in its place, and until files get
@@ -67,7 +75,8 @@ pub fn clean_law()
 {}
 
 /// How an edit changes a tree. Where one file differs (`node`) it is put into the map; a link that stands anywhere among
-/// the names of a volume is put in order (`link`).
+/// the names of a volume is put in order (`link`). A volume from which a file was taken that was shown, with all its names,
+/// reads as the tree without it (`taken`).
 pub fn edited_reading_laws()
     ensures node { (old new : VolumeView) (file : ℕ) (node : Node) → node_at new file ≡ Some node
         → ((other : ℕ) → other ≢ file → node_at new other ≡ node_at old other)
@@ -75,6 +84,8 @@ pub fn edited_reading_laws()
     ensures link { (fold : ℕ → ℕ) (test : Link → Bool) (before after : List Link) (link : Link) → test link ≡ true
         → in_order (link_above fold) (filter test (before ++ link ∷ after))
         ≡ put_in_order (link_above fold) link (in_order (link_above fold) (filter test (before ++ after))) }
+    ensures taken { (old new : VolumeView) (file : ℕ) (node : Node) → node_at old file ≡ Some node → file ≢ ROOT
+        → IsTaken old new file → read new ≡ without_file file (read old) }
 {}
 
 /// What room asks of an index is what its walk has: its depth, which goes by the last child of each node, is that of the

@@ -40,7 +40,7 @@ impl PlainTree {
     }
 
     // Links by directory and name.
-    fn compare(&self, a: &Link, b: &Link) -> Ordering
+    pub(crate) fn compare(&self, a: &Link, b: &Link) -> Ordering
         ensures { result ≡ compare_links (fold_of self.now.case) a.now b.now }
     {
         let names = self.case.compare(a.name.as_slice(), b.name.as_slice());

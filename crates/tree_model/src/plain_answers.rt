@@ -1,10 +1,12 @@
-//! What commands that read are answered over a tree in plain lists, where no session has an open.
+//! What commands that read are answered over a tree in plain lists.
 ghost use Rattle.std.specs.Prelude.{◌≡◌, [], Some, find, map, option_map};
 ghost use Rattle.ntfs_def.specs.KeyOrder.{fold_of};
 ghost use Rattle.tree_model.specs.Answers.{is_unnamed_object_id, shown_link_count, listed, object_id, range_of, shown_stream};
 ghost use Rattle.tree_model.specs.Cases.{is_wide, size_of};
-ghost use Rattle.tree_model.specs.Plain.{Answers, Tells, cat_of, file_at, is_answered, read_of, reparse_of, has_name, lent, lent_bytes};
+ghost use Rattle.tree_model.specs.Plain.{Answers, Tells, cat_of, df_of, kept_apart, links_of, ls_of, file_at, read_of, reparse_of, has_name, lent, lent_bytes};
 ghost use Rattle.tree_model.specs.Plain.{lent_file, lent_listed, looked, stream_of, tree_of};
+ghost use Rattle.tree_model.specs.Plain.{unless_apart};
+ghost use Rattle.tree_model.specs.Staging.{is_built};
 ghost use Rattle.std.specs.Option.{option_map_or};
 ghost use Rattle.tree_model.specs.Paths.{and_then};
 ghost use Rattle.tree_model.specs.declared.command.Command.TheVariants as c;
@@ -14,14 +16,17 @@ ghost use Rattle.tree_model.specs.declared.reply.No.TheVariants as no;
 ghost use Rattle.std.specs.Prelude.{IfOk, IfErr, IsTrue};
 
 use crate::command::Command;
+use crate::copies::{copied, copied_name};
 use crate::lists::{Path, ShownStreams};
+use crate::opens::OpenEntry;
 use crate::plain::PlainTree;
+use crate::plain_facts::PlainFacts;
 use crate::reply::{Answer, No, ShownStream};
 use crate::tree::{Content, Link, Node, RawAttr, Stream};
 use ntfs_def::kinds::OBJECT_ID;
 use ntfs_def::records::ROOT;
 use std::alloc::Global;
-use vol_bytes::{Name, Octets};
+use vol_bytes::Name;
 
 impl PlainTree {
     // The file that a path leads to, by its number, and its node.
@@ -165,11 +170,17 @@ impl PlainTree {
         }
     }
 
-    fn cat(&self, alloc: Global, path: &Path, stream: &[u16]) -> Result<Answer, No>
-        ensures { Tells (and_then (file_at (tree_of self.now) path.now) (cat_of (tree_of self.now) stream.now)) result }
+    fn cat(
+        &self,
+        alloc: Global,
+        opens: &[OpenEntry],
+        path: &Path,
+        stream: &[u16],
+    ) -> Result<Answer, No>
+        ensures { Tells (and_then (file_at (tree_of self.now) path.now) (cat_of (tree_of self.now) opens.now stream.now)) result }
     {
-        let node = match self.file_at(path) {
-            Ok((_, node)) => node,
+        let (file, node) = match self.file_at(path) {
+            Ok((file, node)) => (file, node),
             Err(refused) => return Err(refused),
         };
         let bytes = match self.stream_bytes(node, stream) {
@@ -179,10 +190,7 @@ impl PlainTree {
         if bytes.len() > 65_536 {
             return Err(No::TooBig);
         }
-        match copied(alloc, bytes) {
-            Ok(bytes) => Ok(Answer::Data(bytes)),
-            Err(refused) => Err(refused),
-        }
+        data(alloc, opens, file, bytes)
     }
 }
 
@@ -190,15 +198,16 @@ impl PlainTree {
     fn read(
         &self,
         alloc: Global,
+        opens: &[OpenEntry],
         path: &Path,
         stream: &[u16],
         at: u64,
         len: u64,
     ) -> Result<Answer, No>
-        ensures { Tells (and_then (file_at (tree_of self.now) path.now) (read_of (tree_of self.now) stream.now at len)) result }
+        ensures { Tells (and_then (file_at (tree_of self.now) path.now) (read_of (tree_of self.now) opens.now stream.now at len)) result }
     {
-        let node = match self.file_at(path) {
-            Ok((_, node)) => node,
+        let (file, node) = match self.file_at(path) {
+            Ok((file, node)) => (file, node),
             Err(refused) => return Err(refused),
         };
         let bytes = match self.stream_bytes(node, stream) {
@@ -208,10 +217,7 @@ impl PlainTree {
         if is_wide(at, len) {
             return Err(No::TooBig);
         }
-        match copied(alloc, range(bytes, at, len)) {
-            Ok(bytes) => Ok(Answer::Data(bytes)),
-            Err(refused) => Err(refused),
-        }
+        data(alloc, opens, file, range(bytes, at, len))
     }
 
     fn streams(&self, alloc: Global, path: &Path) -> Result<Answer, No>
@@ -262,33 +268,110 @@ impl PlainTree {
         }
     }
 
-    /// What a command that looks at one file is answered, or why it is refused, where no session has an open.
-    /// Condition: it is `stat`, `streams`, `attr`, `sec`, `objid`, `reparse`, `cat` or `read`.
+    fn ls(&self, alloc: Global, path: &Path) -> Result<Answer, No>
+        ensures { Tells (and_then (file_at (tree_of self.now) path.now) (ls_of (tree_of self.now))) result }
+    {
+        let (file, node) = match self.file_at(path) {
+            Ok((file, node)) => (file, node),
+            Err(refused) => return Err(refused),
+        };
+        if !is_directory(node) {
+            return Err(No::NotDir);
+        }
+        match self.listing(alloc, file) {
+            Ok(lines) => Ok(Answer::List(lines)),
+            Err(refused) => Err(refused),
+        }
+    }
+
+    fn links(&self, alloc: Global, path: &Path) -> Result<Answer, No>
+        ensures { Tells (and_then (file_at (tree_of self.now) path.now) (links_of (tree_of self.now))) result }
+    {
+        let file = match self.file_at(path) {
+            Ok((file, _)) => file,
+            Err(refused) => return Err(refused),
+        };
+        match self.shown_links(alloc, file) {
+            Ok(lines) => Ok(Answer::Links(lines)),
+            Err(refused) => Err(refused),
+        }
+    }
+
+    /// What a command that reads is answered, or why it is refused, beside the opens that are kept.
+    /// Condition: it is `ls`, `links`, `stat`, `streams`, `attr`, `sec`, `objid`, `reparse`, `cat`, `read` or `df`.
     ///
     /// # Errors
     ///
-    /// Those of walking the path, then `IsDir`, `NoStream`, `NoReparse`, `Packed` and `TooBig`, in this order; and
-    /// `Memory`.
-    pub fn answer(&self, alloc: Global, command: &Command) -> Result<Answer, No>
-        requires { IsTrue (is_answered command.now) }
-        ensures { Answers self.now command.now result }
+    /// Those of walking the path, then `NotDir`, `IsDir`, `NoStream`, `NoReparse`, `Packed`, `TooBig` and `Shared`, in
+    /// this order; and `Memory`.
+    pub fn answer(
+        &self,
+        alloc: Global,
+        opens: &[OpenEntry],
+        facts: &PlainFacts,
+        command: &Command,
+    ) -> Result<Answer, No>
+        requires { IsTrue (is_built command.now) }
+        ensures { Answers self.now opens.now facts.now command.now result }
     {
         match command {
+            Command::Ls { path } => self.ls(alloc, path),
+            Command::Links { path } => self.links(alloc, path),
+            Command::Df => Ok(df(facts)),
             Command::Stat { path } => self.stat(path),
             Command::Streams { path } => self.streams(alloc, path),
             Command::Attr { path } => self.attr(path),
             Command::Sec { path } => self.sec(path),
             Command::Objid { path } => self.objid(alloc, path),
             Command::Reparse { path } => self.reparse(alloc, path),
-            Command::Cat { path, stream } => self.cat(alloc, path, stream_name(stream)),
+            Command::Cat { path, stream } => self.cat(alloc, opens, path, stream_name(stream)),
             Command::Read {
                 path,
                 stream,
                 at,
                 len,
-            } => self.read(alloc, path, stream_name(stream), *at, *len),
+            } => self.read(alloc, opens, path, stream_name(stream), *at, *len),
             _ => unreachable!(),
         }
+    }
+}
+
+// The first open of a file that does not share reading.
+fn conflict(opens: &[OpenEntry], file: u64) -> Option<No>
+    ensures { result ≡ kept_apart opens.now file }
+{
+    'opens: for entry in opens {
+        if entry.file == file && !entry.share.r {
+            return Some(No::Shared {
+                session: entry.session,
+                handle: entry.handle,
+            });
+        }
+    }
+    None
+}
+
+// Bytes of a file as an answer, unless an open of it does not share reading.
+fn data(alloc: Global, opens: &[OpenEntry], file: u64, bytes: &[u8]) -> Result<Answer, No>
+    ensures { Tells (unless_apart opens.now file bytes.now) result }
+{
+    if let Some(refused) = conflict(opens, file) {
+        return Err(refused);
+    }
+    match copied(alloc, bytes) {
+        Ok(bytes) => Ok(Answer::Data(bytes)),
+        Err(refused) => Err(refused),
+    }
+}
+
+fn df(facts: &PlainFacts) -> Answer
+    ensures { result ≡ df_of facts.now }
+{
+    Answer::Df {
+        clusters: facts.clusters,
+        free: facts.free,
+        records: facts.records,
+        free_records: facts.free_records,
     }
 }
 
@@ -333,14 +416,6 @@ fn shown_streams(alloc: Global, streams: &[Stream]) -> Result<ShownStreams, No>
         })?;
     }
     Ok(ShownStreams::from_vec(shown))
-}
-
-// This name again.
-fn copied_name(alloc: Global, name: &Name) -> Result<Name, No>
-    ensures ok { IfOk result (λ copy. copy ≡ name.now) }
-    ensures err { IfErr result (λ refused. refused ≡ no.Memory) }
-{
-    Ok(Name::from_vec(Vec::from_slice(alloc, name.as_slice())?))
 }
 
 // The first 16 bytes of the unnamed object id; none without one, and where it is packed.
@@ -398,12 +473,4 @@ fn size_of(content: &Content) -> u64
         Content::Plain(bytes) => bytes.as_slice().len() as u64,
         Content::Packed(size) => *size,
     }
-}
-
-// These bytes again.
-fn copied(alloc: Global, bytes: &[u8]) -> Result<Octets, No>
-    ensures ok { IfOk result (λ octets. octets ≡ bytes.now) }
-    ensures err { IfErr result (λ refused. refused ≡ no.Memory) }
-{
-    Ok(Octets::from_vec(Vec::from_slice(alloc, bytes)?))
 }

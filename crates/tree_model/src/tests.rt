@@ -1,4 +1,8 @@
-//! A tree that is laid out by hand: a root, and in it a directory `d` with as many files as are put into it.
+//! A tree that is laid out by hand: a root, and in it a directory `d` with as many files as are put into it, or beside it a
+//! file `f`.
+ghost use Rattle.std.specs.Prelude.{IsTrue};
+ghost use Rattle.tree_model.specs.Staging.{is_built};
+
 use super::*;
 use std::alloc::Global;
 use std::test::Fail;
@@ -78,5 +82,257 @@ fn a_large_directory(rt: HostRuntime) -> Result<(), Fail> {
     }
     let last = path_in_d(alloc, "N2099")?;
     assert_eq!(rt; tree.resolve(&last)?.map_or(5, |link| link.child), 2099);
+    Ok(())
+}
+
+fn octets(alloc: Global, bytes: &[u8]) -> Result<Octets, Fail> {
+    Ok(Octets::from_vec(Vec::from_slice(alloc, bytes)?))
+}
+
+// The unnamed stream, of three bytes.
+fn streams(alloc: Global) -> Result<Streams, Fail> {
+    let mut streams = Vec::new(alloc);
+    streams.push(Stream {
+        name: Name::from_vec(Vec::new(alloc)),
+        content: Content::Plain(octets(alloc, b"abc")?),
+    })?;
+    Ok(Streams::from_vec(streams))
+}
+
+// An object id.
+fn others(alloc: Global) -> Result<RawAttrs, Fail> {
+    let mut others = Vec::new(alloc);
+    others.push(RawAttr {
+        kind: 0x40,
+        name: Name::from_vec(Vec::new(alloc)),
+        value: Content::Plain(octets(alloc, b"0123456789abcdefgh")?),
+    })?;
+    Ok(RawAttrs::from_vec(others))
+}
+
+fn file(alloc: Global) -> Result<Node, Fail> {
+    let streams = streams(alloc)?;
+    let others = others(alloc)?;
+    let bytes = octets(alloc, b"xy")?;
+    Ok(Node {
+        dir: false,
+        times: [1, 2, 3, 4],
+        flags: 0x20,
+        security: 257,
+        streams,
+        point: Some(Point {
+            tag: 0xA000_000C,
+            bytes,
+        }),
+        others,
+    })
+}
+
+// With a file `f` in the root.
+fn tree_with_file(alloc: Global) -> Result<PlainTree, Fail> {
+    let mut tree = tree(alloc)?;
+    tree.nodes.push((28, file(alloc)?))?;
+    tree.links.push(link(alloc, 5, "f", 28)?)?;
+    Ok(tree)
+}
+
+fn path(alloc: Global, text: &str) -> Result<Path, Fail> {
+    let mut names = Vec::new(alloc);
+    names.push(name(alloc, text)?)?;
+    Ok(Path::from_vec(names))
+}
+
+fn root(alloc: Global) -> Path {
+    Path::from_vec(Vec::new(alloc))
+}
+
+fn facts() -> PlainFacts {
+    PlainFacts {
+        clusters: 9,
+        free: 4,
+        records: 64,
+        free_records: 30,
+    }
+}
+
+fn answered(alloc: Global, command: &Command) -> Result<Answer, Fail>
+    requires { IsTrue (is_built command.now) }
+{
+    let tree = tree_with_file(alloc)?;
+    Ok(tree.answer(alloc, &[], &facts(), command)?)
+}
+
+#[test]
+fn an_answer_of_stat(rt: HostRuntime) -> Result<(), Fail> {
+    let path = path(rt.alloc(), "F")?;
+    let answer = answered(rt.alloc(), &Command::Stat { path })?;
+    assert!(rt;
+        matches!(
+            answer,
+            Answer::Stat {
+                dir: false,
+                links: 1,
+                size: 3,
+                flags: 0x20,
+                security: 257,
+                created: 1,
+                modified: 2,
+                changed: 3,
+                accessed: 4
+            }
+        )
+    );
+    Ok(())
+}
+
+#[test]
+fn an_answer_of_attr(rt: HostRuntime) -> Result<(), Fail> {
+    let path = path(rt.alloc(), "F")?;
+    let answer = answered(rt.alloc(), &Command::Attr { path })?;
+    assert!(rt; matches!(answer, Answer::Attr(0x20)));
+    Ok(())
+}
+
+#[test]
+fn an_answer_of_sec(rt: HostRuntime) -> Result<(), Fail> {
+    let path = path(rt.alloc(), "F")?;
+    let answer = answered(rt.alloc(), &Command::Sec { path })?;
+    assert!(rt; matches!(answer, Answer::Sec(257)));
+    Ok(())
+}
+
+#[test]
+fn an_answer_of_df(rt: HostRuntime) -> Result<(), Fail> {
+    let answer = answered(rt.alloc(), &Command::Df)?;
+    assert!(rt;
+        matches!(
+            answer,
+            Answer::Df {
+                clusters: 9,
+                free: 4,
+                records: 64,
+                free_records: 30
+            }
+        )
+    );
+    Ok(())
+}
+
+// Whether an answer is these bytes of a stream or an object id.
+fn is_bytes(answer: &Answer, bytes: &[u8]) -> bool {
+    match answer {
+        Answer::Data(shown) | Answer::ObjectId(shown) => shown.as_slice() == bytes,
+        Answer::Reparse {
+            tag: 0xA000_000C,
+            bytes: shown,
+        } => shown.as_slice() == bytes,
+        _ => false,
+    }
+}
+
+#[test]
+fn an_answer_of_cat(rt: HostRuntime) -> Result<(), Fail> {
+    let path = path(rt.alloc(), "F")?;
+    let answer = answered(rt.alloc(), &Command::Cat { path, stream: None })?;
+    assert!(rt; is_bytes(&answer, b"abc"));
+    Ok(())
+}
+
+#[test]
+fn an_answer_of_read(rt: HostRuntime) -> Result<(), Fail> {
+    let path = path(rt.alloc(), "F")?;
+    let command = Command::Read {
+        path,
+        stream: None,
+        at: 1,
+        len: 9,
+    };
+    let answer = answered(rt.alloc(), &command)?;
+    assert!(rt; is_bytes(&answer, b"bc"));
+    Ok(())
+}
+
+#[test]
+fn an_answer_of_objid(rt: HostRuntime) -> Result<(), Fail> {
+    let path = path(rt.alloc(), "F")?;
+    let answer = answered(rt.alloc(), &Command::Objid { path })?;
+    assert!(rt; is_bytes(&answer, b"0123456789abcdef"));
+    Ok(())
+}
+
+#[test]
+fn an_answer_of_reparse(rt: HostRuntime) -> Result<(), Fail> {
+    let path = path(rt.alloc(), "F")?;
+    let answer = answered(rt.alloc(), &Command::Reparse { path })?;
+    assert!(rt; is_bytes(&answer, b"xy"));
+    Ok(())
+}
+
+// How many lines an answer has.
+fn count_lines(answer: &Answer) -> usize {
+    match answer {
+        Answer::List(lines) => lines.as_slice().len(),
+        Answer::Links(lines) => lines.as_slice().len(),
+        Answer::Streams(lines) => lines.as_slice().len(),
+        _ => 0,
+    }
+}
+
+#[test]
+fn an_answer_of_ls(rt: HostRuntime) -> Result<(), Fail> {
+    let path = root(rt.alloc());
+    let answer = answered(rt.alloc(), &Command::Ls { path })?;
+    assert_eq!(rt; count_lines(&answer), 2);
+    Ok(())
+}
+
+#[test]
+fn an_answer_of_links(rt: HostRuntime) -> Result<(), Fail> {
+    let path = path(rt.alloc(), "F")?;
+    let answer = answered(rt.alloc(), &Command::Links { path })?;
+    assert_eq!(rt; count_lines(&answer), 1);
+    Ok(())
+}
+
+#[test]
+fn an_answer_of_streams(rt: HostRuntime) -> Result<(), Fail> {
+    let path = path(rt.alloc(), "F")?;
+    let answer = answered(rt.alloc(), &Command::Streams { path })?;
+    assert_eq!(rt; count_lines(&answer), 1);
+    Ok(())
+}
+
+#[test]
+fn a_dos_name_is_not_listed(rt: HostRuntime) -> Result<(), Fail> {
+    let tree = tree(rt.alloc())?;
+    let mut link = link(rt.alloc(), 5, "d", 27)?;
+    assert!(rt; tree.listed(&link).is_some());
+    link.space = 2;
+    assert!(rt; tree.listed(&link).is_none());
+    Ok(())
+}
+
+#[test]
+fn a_step_of_the_machine(rt: HostRuntime) -> Result<(), Fail> {
+    let mut machine = PlainMachine {
+        tree: tree_with_file(rt.alloc())?,
+        opens: Vec::new(rt.alloc()),
+        now: 0,
+    };
+    let path = path(rt.alloc(), "F")?;
+    let reply = machine.step(rt.alloc(), &facts(), 1, &Command::Attr { path });
+    assert!(rt; matches!(reply, Reply::Ok(Answer::Attr(0x20))));
+    Ok(())
+}
+
+#[test]
+fn a_step_that_is_not_built(rt: HostRuntime) -> Result<(), Fail> {
+    let mut machine = PlainMachine {
+        tree: tree(rt.alloc())?,
+        opens: Vec::new(rt.alloc()),
+        now: 0,
+    };
+    let reply = machine.step(rt.alloc(), &facts(), 1, &Command::Time { now: 7 });
+    assert!(rt; matches!(reply, Reply::No(No::Unbuilt)));
     Ok(())
 }

@@ -320,7 +320,7 @@ has_sectors : (disk : ℕ → List ℕ) (boot : List ℕ) (layout : TableLayout)
 has_sectors disk boot layout t =
     some_sectors layout.cluster_sectors (total_clusters layout.runs) t.table.extent.sizes.real t.table.fits.covered t.table.fits.least
 
-agree-back : (old new : ℕ → List ℕ) (boot : List ℕ) → AgreeWhereLooked old new boot → AgreeWhereLooked new old boot
+pub agree-back : (old new : ℕ → List ℕ) (boot : List ℕ) → AgreeWhereLooked old new boot → AgreeWhereLooked new old boot
 agree-back old new boot a = record {
   record_0 = sym a.record_0;
   sectors = λ layout t sector looked.
@@ -332,16 +332,16 @@ agree-back old new boot a = record {
 -- Where two disks agree, one meets what the other meets.
 module _ (old new : ℕ → List ℕ) (boot : List ℕ) (sectors : ℕ) (agree : AgreeWhereLooked old new boot) (layout : TableLayout)
     (has : HasLayout old boot sectors layout) where
-  layout-kept : HasLayout new boot sectors layout
+  pub layout-kept : HasLayout new boot sectors layout
   layout-kept = record {
     boot_clause = has.boot_clause;
     table_clause = table-kept old new boot layout agree.record_0 has.table_clause;
   }
 
-  meets-agreed : (clause : Clause) (n : ℕ) → Meets clause (told_view old layout) n → Meets clause (told_view new layout) n
+  pub meets-agreed : (clause : Clause) (n : ℕ) → Meets clause (told_view old layout) n → Meets clause (told_view new layout) n
   meets-agreed = meets-kept old new layout (has_sectors old boot layout has.table_clause) (agree.sectors layout has.table_clause)
 
-  clean-agreed : IsClean (told_view old layout) → IsClean (told_view new layout)
+  pub clean-agreed : IsClean (told_view old layout) → IsClean (told_view new layout)
   clean-agreed = clean-kept old new layout (has_sectors old boot layout has.table_clause) (agree.sectors layout has.table_clause)
 
 pub IsAccepted-agreed : (old new : ℕ → List ℕ) (boot : List ℕ) (sectors : ℕ) → AgreeWhereLooked old new boot

@@ -3,8 +3,9 @@ ghost use Rattle.std.specs.Prelude.{◌≡◌, ◌+◌, ◌*◌, ◌<◌, ◌≤
 ghost use Rattle.volume_def.specs.Blocks.{mirror_sector, table_place};
 ghost use Rattle.volume_def.specs.Coverage.{IsOutsideTable, IsApart};
 ghost use Rattle.volume_def.specs.Looked.{AgreeWhereLooked};
-ghost use Rattle.volume_def.specs.Sound.{IsAccepted, IsRefused};
+ghost use Rattle.volume_def.specs.Sound.{Clause, HasLayout, IsAccepted, IsRefused, Meets, told_view};
 ghost use Rattle.volume_def.specs.Table.{TableLayout, MeetsTable};
+ghost use Rattle.volume_def.specs.VersionClause.{IsClean};
 ghost use Rattle.volume_def.specs.View.{ReplacesBlock, ReplacesPiece, WritesOne, WritesTwo, view_of};
 
 /// Where no cluster of the table is another of it or one of the mirror, a write of the two sectors of a block changes
@@ -46,9 +47,19 @@ pub fn one_answer()
         → IsAccepted disk boot sectors → ¬ (IsRefused disk boot sectors k n) }
 {}
 
-/// A change of sectors that no clause looks at changes no answer: of two disks with one boot sector, which agree where a
-/// clause looks, both are accepted, or both are refused by the same clause and number.
+/// A change of sectors that no clause looks at changes no answer. Two disks with one boot sector that agree where a clause
+/// looks agree so either way; what the one has for its table the other has, and number by number it meets the clauses that
+/// the one meets, and is clean where the one is. So where one is accepted the other is, and where one is refused the other
+/// is refused by the same clause and number.
 pub fn same_answer()
+    ensures agree { (old new : ℕ → List ℕ) (boot : List ℕ) → AgreeWhereLooked old new boot → AgreeWhereLooked new old boot }
+    ensures layout { (old new : ℕ → List ℕ) (boot : List ℕ) (sectors : ℕ) (layout : TableLayout) → AgreeWhereLooked old new boot
+        → HasLayout old boot sectors layout → HasLayout new boot sectors layout }
+    ensures meets { (old new : ℕ → List ℕ) (boot : List ℕ) (sectors : ℕ) (layout : TableLayout) → AgreeWhereLooked old new boot
+        → HasLayout old boot sectors layout
+        → (clause : Clause) (n : ℕ) → Meets clause (told_view old layout) n → Meets clause (told_view new layout) n }
+    ensures clean { (old new : ℕ → List ℕ) (boot : List ℕ) (sectors : ℕ) (layout : TableLayout) → AgreeWhereLooked old new boot
+        → HasLayout old boot sectors layout → IsClean (told_view old layout) → IsClean (told_view new layout) }
     ensures accepted { (old new : ℕ → List ℕ) (boot : List ℕ) (sectors : ℕ) → AgreeWhereLooked old new boot
         → IsAccepted old boot sectors → IsAccepted new boot sectors }
     ensures refused { (old new : ℕ → List ℕ) (boot : List ℕ) (sectors k n : ℕ) → AgreeWhereLooked old new boot

@@ -1,17 +1,24 @@
--- Entries of lists, sorted by the attribute that they name.
-use Rattle.std.proofs.Common.{◌≡◌, ◌↔◌, ◌<◌, ◌==◌, ◌/◌, ◌%◌, ◌^◌, ℕ, suc, IsTrue, Bool, List, [], ◌∷◌, subst, length, map, get_or, refl, sym, ap, ◌∙◌, arith}
-use Rattle.std.specs.List.Sorted.{IsNonDecreasingBy, IsPermutation}
+-- Entries of lists, in the order in which they are compared.
+use Rattle.std.proofs.Common.{◌≡◌, ◌↔◌, ◌<◌, ◌/◌, ◌%◌, ◌^◌, ℕ, suc, IsTrue, Bool, List, [], ◌∷◌, subst, length, map, get_or, refl, sym, ap, ◌∙◌, arith}
+use Rattle.std.specs.declared.cmp.Ordering.TheVariants.{Equal}
+use Rattle.std.specs.Cmp.{IsStrictWeakOrder, IsTotalOrder}
+use Rattle.std.specs.List.Sorted.{IsPermutation, IsSortedBy}
+use Rattle.std.specs.Ordering.{is_eq, is_lt, nat_cmp, on, then_cmp}
+use Rattle.std.proofs.lemmas.Cmp.{nat_cmp_total, nat_list_cmp_total, on_total, then_total}
 use Rattle.std.proofs.lemmas.List.{length-map, get_or-map}
-use Rattle.std.proofs.lemmas.List.Sorted.{IsPermutation-map}
+use Rattle.std.proofs.lemmas.List.Sorted.{IsPermutation-map, ranks_by, sorted_far}
 use Rattle.ntfs_def.specs.AttributeList.{ListEntry}
+use Rattle.ntfs_def.specs.KeyOrder.{by_numbers}
 use Rattle.ntfs_def.specs.Record.{Reference, reference_in}
+use Rattle.ntfs_def.proofs.KeyOrderLaws.{numbers_is_eq}
 use Rattle.volume_def.specs.SameItems.{SameItems}
 use Rattle.volume_def.proofs.Codes.{entry_code}
 use Rattle.volume_def.proofs.SameItemsLaws.{SameItems-permutation, SameItems-sym, SameItems-trans}
 use Rattle.attr_list.specs.declared.EntryView.{EntryView}
 use Rattle.attr_list.specs.View.{entry_shown}
-use Rattle.volume_facts.specs.Lists.{AreApart, entry_place}
-use Rattle.volume_facts.proofs.SortedLaws.{Apart, Rises, same-sorted}
+use Rattle.volume_facts.specs.Lists.{entry_order}
+use Rattle.volume_facts.proofs.OutlineOrderLaws.{numbers_equal, then_first, then_second}
+use Rattle.volume_facts.proofs.SortedLaws.{InOrder, same-ordered}
 
 -- a reference tells its whole number
 pub reference_in-exact : (a b : ℕ) → reference_in a ≡ reference_in b → a ≡ b
@@ -20,19 +27,54 @@ reference_in-exact a b h =
     let high : a / 2 ^ 48 ≡ b / 2 ^ 48 = ap (λ (r : Reference). r.sequence) h in
     omega arith
 
--- Views that are sorted are entries that rise.
+-- The order.
 
-abbrev pub view_place : EntryView → ℕ
-view_place entry = entry_place (entry_shown entry)
+pub entry_total : IsTotalOrder entry_order
+entry_total =
+    then_total (then_total (then_total (then_total (then_total
+    (on_total (λ (e : ListEntry). e.holder.number) nat_cmp_total) (on_total (λ (e : ListEntry). e.holder.sequence) nat_cmp_total))
+    (on_total (λ (e : ListEntry). e.id) nat_cmp_total)) (on_total (λ (e : ListEntry). e.kind) nat_cmp_total))
+    (on_total (λ (e : ListEntry). e.first) nat_cmp_total)) (on_total (λ (e : ListEntry). e.name) nat_list_cmp_total)
 
-pub Rises-map : (views : List EntryView) → IsNonDecreasingBy view_place views → Rises entry_place (map entry_shown views)
-Rises-map [] up i j d h l = absurd (omega arith)
-Rises-map (x ∷ xs) up i j d h l =
+abbrev made : ℕ → ℕ → ℕ → ℕ → ℕ → List ℕ → ListEntry
+made number sequence id kind first name =
+    record { kind = kind; name = name; first = first; holder = record { number = number; sequence = sequence }; id = id }
+
+-- no two entries tie
+pub entry_ties : (a b : ListEntry) → entry_order a b ≡ Equal → a ≡ b
+entry_ties a b e =
+    let five = then_first _ _ e in
+    let four = then_first _ _ five in
+    let three = then_first _ _ four in
+    let two = then_first _ _ three in
+    let number = numbers_equal a.holder.number b.holder.number (then_first _ _ two) in
+    let sequence = numbers_equal a.holder.sequence b.holder.sequence (then_second _ _ two) in
+    let id = numbers_equal a.id b.id (then_second _ _ three) in
+    let kind = numbers_equal a.kind b.kind (then_second _ _ four) in
+    let first = numbers_equal a.first b.first (then_second _ _ five) in
+    let name = (numbers_is_eq a.name b.name).0 (ap is_eq (then_second _ _ e)) in
+    ap (λ n. made n a.holder.sequence a.id a.kind a.first a.name) number
+    ∙ ap (λ n. made b.holder.number n a.id a.kind a.first a.name) sequence
+    ∙ ap (λ n. made b.holder.number b.holder.sequence n a.kind a.first a.name) id
+    ∙ ap (λ n. made b.holder.number b.holder.sequence b.id n a.first a.name) kind
+    ∙ ap (λ n. made b.holder.number b.holder.sequence b.id b.kind n a.name) first
+    ∙ ap (λ n. made b.holder.number b.holder.sequence b.id b.kind b.first n) name
+
+-- Views that are sorted are entries in order.
+
+abbrev pub view_lt : EntryView → EntryView → Bool
+view_lt a b = is_lt (entry_order (entry_shown a) (entry_shown b))
+
+pub view_ranks : IsStrictWeakOrder view_lt
+view_ranks = ranks_by entry_total entry_shown
+
+pub views-ordered : (views : List EntryView) → IsSortedBy view_lt views → InOrder entry_order (map entry_shown views)
+views-ordered [] sorted i j d le lt = absurd (omega arith)
+views-ordered (x ∷ xs) sorted i j d le lt =
     let long : j < length (x ∷ xs) = omega (arith, length-map (x ∷ xs) entry_shown) in
-    let r = up i j x h long in
-    let a = ap entry_place (get_or-map entry_shown (x ∷ xs) i x d (omega arith)) in
-    let b = ap entry_place (get_or-map entry_shown (x ∷ xs) j x d long) in
-    omega arith
+    ap (λ e. is_lt (entry_order e (get_or (map entry_shown (x ∷ xs)) i d))) (get_or-map entry_shown (x ∷ xs) j x d long)
+    ∙ ap (λ e. is_lt (entry_order (entry_shown (get_or (x ∷ xs) j x)) e)) (get_or-map entry_shown (x ∷ xs) i x d (omega arith))
+    ∙ sorted_far view_lt view_ranks (x ∷ xs) sorted i j x le long
 
 -- lists of views that show the same
 pub map-same : (xs ys : List EntryView) → length xs ≡ length ys
@@ -55,18 +97,16 @@ pub map-length : (xs ys : List EntryView) → map entry_shown xs ≡ map entry_s
 map-length xs ys h = sym (length-map xs entry_shown) ∙ ap length h ∙ length-map ys entry_shown
 
 -- what the two sorts give
-pub same_entries-decided : (entries wanted entries' wanted' : List EntryView) (result : Bool) → AreApart (map entry_shown wanted)
-    → IsPermutation entries entries' → IsPermutation wanted wanted' → IsNonDecreasingBy view_place entries' → IsNonDecreasingBy view_place wanted'
+pub same_entries-decided : (entries wanted entries' wanted' : List EntryView) (result : Bool)
+    → IsPermutation entries entries' → IsPermutation wanted wanted' → IsSortedBy view_lt entries' → IsSortedBy view_lt wanted'
     → IsTrue result ↔ map entry_shown entries' ≡ map entry_shown wanted' → IsTrue result ↔ SameItems (map entry_shown wanted) (map entry_shown entries)
-same_entries-decided entries wanted entries' wanted' result apart moved moved' up up' decided =
+same_entries-decided entries wanted entries' wanted' result moved moved' up up' decided =
     let es = SameItems-permutation _ _ (IsPermutation-map entry_shown entries entries' moved) in
-    let ws = SameItems-permutation _ _ (IsPermutation-map entry_shown wanted wanted' moved') in
-    let apart' : Apart entry_place (map entry_shown wanted') =
-    λ k. let c = ws.counts (λ entry. entry_place entry == k) in let a = apart k in omega arith in (
+    let ws = SameItems-permutation _ _ (IsPermutation-map entry_shown wanted wanted' moved') in (
       λ yes. SameItems-trans (map entry_shown wanted) (map entry_shown wanted') (map entry_shown entries) ws
           (subst (λ xs. SameItems xs (map entry_shown entries)) (decided.0 yes) (SameItems-sym (map entry_shown entries) (map entry_shown entries') es)),
-      λ h. decided.1 (same-sorted entry_code entry_place (map entry_shown entries') (map entry_shown wanted')
-          (Rises-map entries' up) (Rises-map wanted' up') apart'
+      λ h. decided.1 (same-ordered entry_code entry_order entry_total entry_ties (map entry_shown entries') (map entry_shown wanted')
+          (views-ordered entries' up) (views-ordered wanted' up')
           (SameItems-trans (map entry_shown entries') (map entry_shown entries) (map entry_shown wanted')
           (SameItems-sym (map entry_shown entries) (map entry_shown entries') es)
           (SameItems-trans (map entry_shown entries) (map entry_shown wanted) (map entry_shown wanted')

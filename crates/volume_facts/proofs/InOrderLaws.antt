@@ -199,7 +199,7 @@ flat_map-one g from (suc n) k low high none = elim (cases_eq from k) [
       ∙ flat_map-one g (from + 1) n k (omega arith) (omega arith) none
 ]
 
-based-here : (n : ℕ) (base : Option Reference) → IsTrue (is_none base) → unwrap_or (option_map (λ (b : Reference). b.number) base) n ≡ n
+pub based-here : (n : ℕ) (base : Option Reference) → IsTrue (is_none base) → unwrap_or (option_map (λ (b : Reference). b.number) base) n ≡ n
 based-here n None none = refl
 based-here n (Some base) none = absurd (cc)
 

@@ -31,3 +31,7 @@ pub mod UsedLaws
 pub mod WalkLaws
 pub mod WantedLaws
 pub mod WayLaws
+pub mod SplitLaws
+pub mod AloneLaws
+pub mod SpreadParts
+pub mod ListedLaws

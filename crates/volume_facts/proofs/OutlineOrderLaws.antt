@@ -54,17 +54,17 @@ like-tied outline other like =
     ∙ ap (λ n. ordering_then (nat_cmp outline.kind outline.kind) (by_numbers n outline.name)) like.name
     ∙ tied_itself group_total outline
 
-then_first : (a b : Ordering) → ordering_then a b ≡ Equal → a ≡ Equal
+pub then_first : (a b : Ordering) → ordering_then a b ≡ Equal → a ≡ Equal
 then_first Less b e = let f : Less ≡ Equal = e in absurd (cc)
 then_first Equal b e = refl
 then_first Greater b e = let f : Greater ≡ Equal = e in absurd (cc)
 
-then_second : (a b : Ordering) → ordering_then a b ≡ Equal → b ≡ Equal
+pub then_second : (a b : Ordering) → ordering_then a b ≡ Equal → b ≡ Equal
 then_second Less b e = let f : Less ≡ Equal = e in absurd (cc)
 then_second Equal b e = e
 then_second Greater b e = let f : Greater ≡ Equal = e in absurd (cc)
 
-numbers_equal : (x y : ℕ) → nat_cmp x y ≡ Equal → x ≡ y
+pub numbers_equal : (x y : ℕ) → nat_cmp x y ≡ Equal → x ≡ y
 numbers_equal x y e = by_ranked (x < y) (x ≡ y) (y < x) (nat_cmp x y) (ranked x y (nat_cmp x y) refl)
     (λ f h. let g : Less ≡ Equal = sym f ∙ e in absurd (cc)) (λ f h. h) (λ f h. let g : Greater ≡ Equal = sym f ∙ e in absurd (cc))
 

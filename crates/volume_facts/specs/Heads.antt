@@ -1,8 +1,10 @@
 -- What is noted of the headers of records.
 use Rattle.std.specs.Prelude.{◌≡◌, ℕ, ◌<◌, ◌≤◌, Option, Some, None, length, slice_index_or}
+use Rattle.std.specs.List.{list_any}
 use Rattle.ntfs_def.specs.Record.{base_in}
 use Rattle.volume_def.specs.Files.{Record, Records}
 use Rattle.volume_def.specs.Files.{is_directory}
+use Rattle.volume_def.specs.ListsClause.{is_list}
 use Rattle.volume_facts.specs.declared.heads.Head.{Head}
 use Rattle.volume_facts.specs.declared.heads.Heads.{Heads}
 
@@ -12,6 +14,7 @@ pub record IsHead (r : Record) (head : Head) : Type 0 where
   pub sequence : head.sequence ≡ r.header.sequence
   pub links : head.links ≡ r.header.links
   pub directory : head.directory ≡ is_directory r
+  pub listed : head.listed ≡ list_any is_list r.parts
 
 -- the same where the record may not be in use
 abbrev pub IsHeadIn : Option Record → Option Head → Type 0

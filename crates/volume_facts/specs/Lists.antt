@@ -1,19 +1,21 @@
 -- What a list has to say of the parts of its file, and in which order its entries are compared.
-use Rattle.std.specs.Prelude.{◌≤◌, ◌==◌, ◌+◌, ◌*◌, ◌^◌, ℕ, List, count_by, length, map}
+use Rattle.std.specs.Prelude.{ℕ, List, length, map}
+use Rattle.std.specs.Ordering.{nat_cmp, on, then_cmp}
+use Rattle.std.specs.declared.cmp.Ordering.{Ordering}
 use Rattle.ntfs_def.specs.Attribute.{Attribute}
 use Rattle.ntfs_def.specs.AttributeList.{HasListShape, ListEntry, list_entries}
+use Rattle.ntfs_def.specs.KeyOrder.{by_numbers}
 use Rattle.volume_def.specs.Files.{Part, part_of}
 use Rattle.volume_def.specs.ListsClause.{listed_parts}
 use Rattle.volume_def.specs.SameItems.{SameItems}
 use Rattle.volume_def.specs.Values.{first_vcn_of}
 
--- the record and the id of the attribute that an entry names, as one number
-abbrev pub entry_place : ListEntry → ℕ
-entry_place entry = entry.holder.number * 2 ^ 16 + entry.id
-
--- no two entries name one attribute
-abbrev pub AreApart : List ListEntry → Type 0
-AreApart entries = (place : ℕ) → count_by (λ entry. entry_place entry == place) entries ≤ 1
+-- The order in which entries are compared: by the record and the id of the attribute that they name, and what else they say
+-- of it.
+abbrev pub entry_order : ListEntry → ListEntry → Ordering
+entry_order =
+    then_cmp (then_cmp (then_cmp (then_cmp (then_cmp (on (λ entry. entry.holder.number) nat_cmp) (on (λ entry. entry.holder.sequence) nat_cmp))
+    (on (λ entry. entry.id) nat_cmp)) (on (λ entry. entry.kind) nat_cmp)) (on (λ entry. entry.first) nat_cmp)) (on (λ entry. entry.name) by_numbers)
 
 -- The value is a list, of exactly these entries in any order.
 pub record NamesEach (wanted : List ListEntry) (value : List ℕ) : Type 0 where

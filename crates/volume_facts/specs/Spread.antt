@@ -1,7 +1,8 @@
 -- Which files have more than one record, or an attribute list, as a pass notes them.
-use Rattle.std.specs.Prelude.{◌≡◌, ℕ, ◌&&◌, List, [], ◌∷◌, Option, Some, None, if◌then◌else◌}
+use Rattle.std.specs.Prelude.{◌≡◌, ℕ, ◌==◌, ◌&&◌, List, [], ◌∷◌, Option, Some, None, filter, if◌then◌else◌}
 use Rattle.std.specs.List.{flat_map, list_any, range_with_len}
-use Rattle.volume_def.specs.Files.{Record, Records, file_of, is_base}
+use Rattle.std.specs.List.Sorted.{IsPermutation}
+use Rattle.volume_def.specs.Files.{Part, Record, Records, file_of, is_base, parts_in}
 use Rattle.volume_def.specs.ListsClause.{is_list}
 use Rattle.volume_facts.specs.declared.spread.Extension.{Extension}
 use Rattle.volume_facts.specs.declared.spread.SpreadFiles.{SpreadFiles}
@@ -27,3 +28,17 @@ listed_below records n = flat_map (λ k. listed_in k (records.record_at k)) (ran
 pub record SpreadNote (records : Records) (n : ℕ) (spread : SpreadFiles) : Type 0 where
   pub extensions : spread.extensions.items ≡ extensions_below records n
   pub listed : spread.listed.items ≡ listed_below records n
+
+-- those of file f
+abbrev pub extensions_of : ℕ → List Extension → List Extension
+extensions_of f extensions = filter (λ extension. extension.file == f) extensions
+
+-- These are the extension records of file f, in any order.
+pub record AreExtensionsOf (records : Records) (f : ℕ) (extensions : List Extension) : Type 0 where
+  pub all : List Extension
+  pub order : IsPermutation (extensions_below records records.count) all
+  pub own : extensions ≡ extensions_of f all
+
+-- the parts of file f that these records hold
+abbrev pub parts_from : Records → ℕ → List Extension → List Part
+parts_from records f extensions = flat_map (λ extension. parts_in (records.record_at extension.number) extension.number f) extensions

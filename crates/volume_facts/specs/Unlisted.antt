@@ -32,5 +32,8 @@ MeetsListed records size n = IfSome (records.record_at n) (λ r. IsTrue (is_base
     → AreWholeParts size n (parts records n))
 
 -- A file without a list has no extension record, as the clause on lists asks.
+abbrev pub MeetsAlone : Records → ℕ → Type 0
+MeetsAlone records n = IfSome (records.record_at n) (λ r. IsTrue (is_unlisted r) → IsAlone records n)
+
 abbrev pub AreUnlistedAlone : Records → Type 0
-AreUnlistedAlone records = (n : ℕ) → IfSome (records.record_at n) (λ r. IsTrue (is_unlisted r) → IsAlone records n)
+AreUnlistedAlone records = (n : ℕ) → MeetsAlone records n

@@ -1,5 +1,5 @@
 //! What the clause on extents looks at in a part of a file.
-ghost use Rattle.std.specs.Prelude.{◌≡◌, ℕ, ◌≤◌, ◌^◌, IfOk, map};
+ghost use Rattle.std.specs.Prelude.{◌≡◌, ℕ, ◌≤◌, ◌^◌, ◌++◌, IfOk, OnOk, map};
 ghost use Rattle.ntfs_def.specs.Runs.{total_clusters};
 ghost use Rattle.volume_def.specs.Files.{part_of, record_of};
 ghost use Rattle.attr_view.specs.View.{attribute_of, viewed_block};
@@ -89,6 +89,25 @@ fn held_by(alloc: Global, attribute: &AttrView<'_>) -> Result<Held, AllocError>
     Ok(Held::InClusters { sizes, covered })
 }
 
+/// Adds the attributes of a record, in order.
+///
+/// # Errors
+///
+/// Want of memory alone.
+pub fn add_extents<'b>(
+    alloc: Global,
+    view: &RecordView<'b>,
+    extents: &mut Vec<Extent<'b>>,
+) -> Result<(), AllocError>
+    ensures { OnOk result ((n : ℕ) → map outlined extents.new.items
+        ≡ map outlined extents.old.items ++ map outline_of (record_of n (viewed_block view.now)).parts) }
+{
+    for attribute in view.attributes() {
+        extents.push(Extent::new(alloc, &attribute)?)?;
+    }
+    Ok(())
+}
+
 /// The attributes of a record, in order.
 ///
 /// # Errors
@@ -99,8 +118,6 @@ pub fn extents_of<'b>(alloc: Global, view: &RecordView<'b>) -> Result<Vec<Extent
         → map outlined extents.items ≡ map outline_of (record_of n (viewed_block view.now)).parts) }
 {
     let mut extents = Vec::new(alloc);
-    for attribute in view.attributes() {
-        extents.push(Extent::new(alloc, &attribute)?)?;
-    }
+    add_extents(alloc, view, &mut extents)?;
     Ok(extents)
 }

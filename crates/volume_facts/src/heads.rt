@@ -1,11 +1,13 @@
 //! What the headers of records say, by the numbers of the records.
-ghost use Rattle.std.specs.Prelude.{◌≡◌, ◌↔◌, ◌+◌, ℕ, Some, None, IsTrue, OnOk, length};
+ghost use Rattle.std.specs.Prelude.{◌≡◌, ◌↔◌, ◌+◌, ℕ, Some, None, IsSomeAnd, IsTrue, OnOk, length};
 ghost use Rattle.ntfs_def.specs.Record.{reference_in};
 ghost use Rattle.volume_def.specs.Files.{Records, record_of};
 ghost use Rattle.volume_def.specs.ReferencesClause.{NamesBase, NamesDirectory};
 ghost use Rattle.attr_view.specs.View.{viewed_block};
 ghost use Rattle.volume_facts.specs.Heads.{EndsAtCount, HeadsNote, IsHead, head_at};
+ghost use Rattle.volume_facts.specs.Unlisted.{is_unlisted};
 
+use crate::spread::has_list;
 use attr_view::RecordView;
 use std::alloc::{AllocError, Global};
 
@@ -20,6 +22,8 @@ pub struct Head {
     pub links: u16,
     /// Whether it is a directory.
     pub directory: bool,
+    /// Whether the record has an attribute list.
+    pub listed: bool,
 }
 
 /// What is noted of the headers of records, by their numbers from 0 on: `None` where one is not in use.
@@ -37,6 +41,7 @@ fn head_of(view: &RecordView<'_>) -> Head
         sequence: header.sequence,
         links: header.links,
         directory: header.flags / 2 % 2 == 1,
+        listed: has_list(view),
     }
 }
 
@@ -88,6 +93,17 @@ impl Heads {
         ensures { result ≡ head_at self.now number }
     {
         self.heads.get(number as usize).copied().flatten()
+    }
+
+    /// Whether the record of a number is a base record in use without an attribute list.
+    pub fn is_unlisted(&self, number: u64) -> bool
+        ensures { (records : Records) → EndsAtCount records → HeadsNote records records.count self.now
+            → IsTrue result ↔ IsSomeAnd (records.record_at number) (λ r. IsTrue (is_unlisted r)) }
+    {
+        match self.get(number) {
+            Some(head) => head.base == 0 && !head.listed,
+            None => false,
+        }
     }
 
     /// Whether a stored reference names a base record in use, by its number and its sequence number.

@@ -27,7 +27,7 @@ mod used;
 mod whole;
 
 pub use attributes::is_right_record;
-pub use extents::{Extent, Held, extents_of};
+pub use extents::{Extent, Held, add_extents, extents_of};
 pub use facts::Facts;
 pub use heads::{Head, Heads};
 pub use least::least_of;
@@ -36,7 +36,7 @@ pub use lists::{add_wanted, names_each};
 pub use names::{NameFact, Names};
 pub use owners::{Owners, cluster_bits_laws};
 pub use references::first_wrong_reference;
-pub use spread::{Extension, SpreadFiles};
+pub use spread::{Extension, SpreadFiles, split_file};
 pub use unlisted::UnlistedFiles;
 pub use used::{Used, used_laws};
 pub use whole::{are_whole, has_whole_extents};

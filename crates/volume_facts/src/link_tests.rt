@@ -162,3 +162,55 @@ fn a_changed_record_is_named(rt: HostRuntime) -> Result<(), Fail> {
     }
     Ok(())
 }
+
+// What is noted of a volume of so many records in which each directory from 24 on stands in the one behind it, and the last
+// of them in the root. So a way leads from 24 over all others.
+fn note_nested(alloc: Global, count: u32) -> Result<(Heads, Names), Fail> {
+    let mut heads = Heads::new(alloc);
+    let mut names = Names::new(alloc);
+    for n in 0..count {
+        let directory = if n < 24 || n == count - 1 { 5 } else { n + 1 };
+        let block = if n < 24 && n != 5 {
+            record(FILE, 0, 0, &[])
+        } else {
+            record(DIRECTORY, 1, 0, &[(directory, 3)])
+        };
+        let view = RecordView::new(&block)?;
+        heads.note(&view)?;
+        names.note(u64::from(n), &view)?;
+    }
+    Ok((heads, names))
+}
+
+#[test]
+fn a_long_way_is_walked_once(rt: HostRuntime) -> Result<(), Fail> {
+    let (heads, names) = note_nested(rt.alloc(), 300_000)?;
+    assert_eq!(rt; first_wrong_reference(&heads, &names), None);
+    assert_eq!(rt; first_wrong_link(rt.alloc(), &heads, &names)?, None);
+    Ok(())
+}
+
+// Notes record n as base record, or as extension record of 24.
+fn note_plain(alloc: Global, facts: &mut Facts, n: u64, base: u64) -> Result<(), Fail> {
+    let block = record(FILE, 0, base, &[]);
+    facts.note(alloc, n, &RecordView::new(&block)?)?;
+    Ok(())
+}
+
+// Three records of one volume: a base record, an extension record of it, and one that is not in use. A base record has to
+// tell when it was made, and this one does not.
+#[test]
+fn facts_are_noted(rt: HostRuntime) -> Result<(), Fail> {
+    let mut facts = Facts::new(rt.alloc(), 4096, 2048, 64)?;
+    for n in 0..24 {
+        facts.note_unused()?;
+    }
+    assert_eq!(rt; facts.first_wrong_record(), None);
+    note_plain(rt.alloc(), &mut facts, 24, reference(24))?;
+    facts.note_unused()?;
+    assert_eq!(rt; facts.first_wrong_record(), None);
+    assert_eq!(rt; facts.spread.extensions.len(), 1);
+    note_plain(rt.alloc(), &mut facts, 26, 0)?;
+    assert_eq!(rt; facts.first_wrong_record(), Some(26));
+    Ok(())
+}

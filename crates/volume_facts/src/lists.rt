@@ -1,5 +1,5 @@
 //! Whether an attribute list names each other part of its file once, and nothing else: the entries that it has and those
-//! that the parts call for are sorted by the attribute that they name, and compared.
+//! that the parts call for are sorted, and compared.
 ghost use Rattle.std.specs.Prelude.{◌≡◌, ◌↔◌, ◌++◌, ◌<◌, ◌^◌, Some, IfOk, OnOk, IsTrue, map};
 ghost use Rattle.ntfs_def.specs.AttributeList.{list_entries};
 ghost use Rattle.volume_def.specs.Files.{Records, part_of, record_of};
@@ -7,18 +7,25 @@ ghost use Rattle.volume_def.specs.ListsClause.{entries_in};
 ghost use Rattle.volume_def.specs.SameItems.{SameItems};
 ghost use Rattle.attr_list.specs.View.{entries_of, entry_shown};
 ghost use Rattle.attr_view.specs.View.{attribute_of, viewed_block};
-ghost use Rattle.volume_facts.specs.Lists.{AreApart, NamesEach, entry_place, wanted_of};
+ghost use Rattle.volume_facts.specs.Lists.{NamesEach, entry_order, wanted_of};
 
 use attr_list::{EntryView, ListView};
 use attr_view::{AttrView, RecordView};
 use ntfs_def::kinds::ATTRIBUTE_LIST;
 use std::alloc::{AllocError, Global};
+use std::cmp::Ordering;
 
-// The place of the attribute that an entry names.
-fn place_of(entry: &EntryView<'_>) -> u64
-    ensures { result ≡ entry_place (entry_shown entry.now) }
+// The order in which entries are compared.
+fn compare(a: &EntryView<'_>, b: &EntryView<'_>) -> Ordering
+    ensures { result ≡ entry_order (entry_shown a.now) (entry_shown b.now) }
 {
-    (entry.holder % (1 << 48)) * 0x1_0000 + u64::from(entry.id)
+    (a.holder % (1 << 48))
+        .cmp(&(b.holder % (1 << 48)))
+        .then((a.holder >> 48).cmp(&(b.holder >> 48)))
+        .then(a.id.cmp(&b.id))
+        .then(a.kind.cmp(&b.kind))
+        .then(a.first.cmp(&b.first))
+        .then(a.name.cmp(b.name))
 }
 
 fn is_same(a: &EntryView<'_>, b: &EntryView<'_>) -> bool
@@ -46,13 +53,12 @@ fn same_in_order(a: &[EntryView<'_>], b: &[EntryView<'_>]) -> bool
     true
 }
 
-// Whether two lists have the same entries, each as often, of which the second names no attribute twice.
+// Whether two lists have the same entries, each as often.
 fn same_entries(entries: &mut [EntryView<'_>], wanted: &mut [EntryView<'_>]) -> bool
-    requires { AreApart (map entry_shown wanted.old) }
     ensures { IsTrue result ↔ SameItems (map entry_shown wanted.old) (map entry_shown entries.old) }
 {
-    entries.sort_unstable_by_key(|entry| place_of(entry));
-    wanted.sort_unstable_by_key(|entry| place_of(entry));
+    entries.sort_unstable_by(compare);
+    wanted.sort_unstable_by(compare);
     same_in_order(entries, wanted)
 }
 
@@ -67,14 +73,17 @@ fn entries_of<'b>(alloc: Global, list: &ListView<'b>) -> Result<Vec<EntryView<'b
     Ok(entries)
 }
 
-/// Whether a value is a list that has exactly the wanted entries, each once, in any order. No two of the wanted name one
-/// attribute; they are put into another order.
+/// Whether a value is a list that has exactly the wanted entries, each as often, in any order. The wanted are put into
+/// another order.
+///
+/// # Errors
+///
+/// Want of memory alone.
 pub fn names_each(
     alloc: Global,
     value: &[u8],
     wanted: &mut [EntryView<'_>],
 ) -> Result<bool, AllocError>
-    requires { AreApart (map entry_shown wanted.old) }
     ensures { IfOk result (λ right. IsTrue right ↔ NamesEach (map entry_shown wanted.old) value.now) }
 {
     let Ok(list) = ListView::new(value) else {
@@ -87,8 +96,7 @@ pub fn names_each(
 
 // What a list has to say of an attribute that record `n` holds.
 fn wanted_entry<'b>(n: u64, sequence: u16, attribute: &AttrView<'b>) -> EntryView<'b>
-    requires { n < 2 ^ 48 }
-    ensures { entry_shown result ≡ wanted_of n sequence (part_of n (attribute_of attribute.now)) }
+    ensures { n < 2 ^ 48 → entry_shown result ≡ wanted_of n sequence (part_of n (attribute_of attribute.now)) }
 {
     let first = match attribute.sizes() {
         Some(sizes) => sizes.first,
@@ -98,19 +106,22 @@ fn wanted_entry<'b>(n: u64, sequence: u16, attribute: &AttrView<'b>) -> EntryVie
         kind: attribute.kind(),
         name: attribute.name(),
         first,
-        holder: u64::from(sequence) * (1 << 48) + n,
+        holder: u64::from(sequence) * (1 << 48) + n % (1 << 48),
         id: attribute.id(),
     }
 }
 
 /// Adds what the list of its file has to say of each attribute of record `n` that is no list.
+///
+/// # Errors
+///
+/// Want of memory alone.
 pub fn add_wanted<'b>(
     n: u64,
     view: &RecordView<'b>,
     wanted: &mut Vec<EntryView<'b>>,
 ) -> Result<(), AllocError>
-    requires { n < 2 ^ 48 }
-    ensures { OnOk result ((records : Records) → records.record_at n ≡ Some (record_of n (viewed_block view.now))
+    ensures { OnOk result ((records : Records) → n < 2 ^ 48 → records.record_at n ≡ Some (record_of n (viewed_block view.now))
         → map entry_shown wanted.new.items ≡ map entry_shown wanted.old.items ++ entries_in records (record_of n (viewed_block view.now)).parts) }
 {
     let sequence = view.header().sequence;

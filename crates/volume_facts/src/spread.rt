@@ -1,11 +1,17 @@
 //! Files that have more than one record, or an attribute list, as a pass over the table notes them.
-ghost use Rattle.std.specs.Prelude.{◌≡◌, ◌==◌, ◌+◌, Some, OnOk};
+ghost use Rattle.std.specs.Prelude.{◌≡◌, ◌==◌, ◌+◌, ◌≤◌, Some, OnOk, IfOk, filter, length, nat_lt};
 ghost use Rattle.std.specs.List.{list_any};
+ghost use Rattle.std.specs.List.Sorted.{IsNonDecreasingBy, IsPermutation};
 ghost use Rattle.ntfs_def.specs.declared.kinds.TheConstants.{ATTRIBUTE_LIST};
 ghost use Rattle.volume_def.specs.Files.{Records, record_of};
 ghost use Rattle.attr_view.specs.View.{attributes_of, viewed_block};
-ghost use Rattle.volume_facts.specs.Spread.{SpreadNote};
+ghost use Rattle.volume_facts.specs.Heads.{EndsAtCount, HeadsNote};
+ghost use Rattle.volume_facts.specs.Least.{IsLeastFailing};
+ghost use Rattle.volume_facts.specs.Spread.{SpreadNote, extensions_of};
+ghost use Rattle.volume_facts.specs.Unlisted.{MeetsAlone};
 
+use crate::Heads;
+use crate::least::least_of;
 use attr_view::RecordView;
 use ntfs_def::kinds::ATTRIBUTE_LIST;
 use std::alloc::{AllocError, Global};
@@ -67,4 +73,47 @@ impl SpreadFiles {
         }
         Ok(())
     }
+
+    /// The least file without an attribute list to which another record belongs, once all records are noted. The clause on
+    /// lists asks that there is none.
+    pub fn first_spread_file(&self, heads: &Heads) -> Option<u64>
+        ensures { (records : Records) → EndsAtCount records → HeadsNote records records.count heads.now
+            → SpreadNote records records.count self.now → IsLeastFailing (MeetsAlone records) result }
+    {
+        let mut first = None;
+        for extension in &self.extensions {
+            if heads.is_unlisted(extension.file) {
+                first = least_of(first, Some(extension.file));
+            }
+        }
+        first
+    }
+
+    /// The extension records, sorted by their files.
+    ///
+    /// # Errors
+    ///
+    /// Want of memory alone.
+    pub fn by_file(&self, alloc: Global) -> Result<Vec<Extension>, AllocError>
+        ensures same { IfOk result (λ sorted. IsPermutation self.now.extensions.items sorted.items) }
+        ensures rising { IfOk result (λ sorted. IsNonDecreasingBy (λ extension. extension.file) sorted.items) }
+    {
+        let mut sorted = Vec::with_capacity(alloc, self.extensions.len())?;
+        sorted.extend_from_slice(&self.extensions)?;
+        sorted.sort_unstable_by_key(|extension| extension.file);
+        Ok(sorted)
+    }
+}
+
+/// Of extension records that are sorted by their files, those of a file, and those of files behind it.
+pub fn split_file(sorted: &[Extension], file: u64) -> (&[Extension], &[Extension])
+    requires { IsNonDecreasingBy (λ extension. extension.file) sorted.now }
+    ensures own { result.0.now ≡ extensions_of file sorted.now }
+    ensures behind { result.1.now ≡ filter (λ extension. nat_lt file extension.file) sorted.now }
+    ensures few { length result.0.now + length result.1.now ≤ length sorted.now }
+{
+    let start = sorted.partition_point(|extension| extension.file < file);
+    let from = &sorted[start..];
+    let own = from.partition_point(|extension| extension.file <= file);
+    (&from[..own], &from[own..])
 }

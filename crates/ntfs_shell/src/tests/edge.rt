@@ -207,12 +207,11 @@ fn is_apart(opened: &RefCell<Vec<i32>>) -> bool {
     }
 }
 
-// Whether the program ends so: its status, how its output begins, and words of what it says on
-// standard error.
-fn ends(rt: HostRuntime, line: &[u8], status: u8, printed: &str, said: &str) -> io::Result<bool> {
+// Whether the program ends so.
+fn ends(rt: HostRuntime, end: &End) -> io::Result<bool> {
     let noted = Noted {
         rt,
-        line,
+        line: end.line,
         opened: RefCell::new(Vec::new(rt.alloc())),
         printed: RefCell::new(Vec::new(rt.alloc())),
         said: RefCell::new(Vec::new(rt.alloc())),
@@ -222,86 +221,133 @@ fn ends(rt: HostRuntime, line: &[u8], status: u8, printed: &str, said: &str) -> 
     let told = copy_of(rt.alloc(), &noted.said)?;
     let told = str::from_utf8(&told).unwrap_or("");
     Ok(
-        got == status
+        got == end.status
             && is_apart(&noted.opened)
-            && out.starts_with(printed.as_bytes())
-            && told.contains(said),
+            && out.starts_with(end.printed.as_bytes())
+            && told.contains(end.said),
     )
 }
 
-#[test]
-fn each_end_says_what_can_be_done(rt: HostRuntime) -> io::Result<()> {
-    lay(&rt, "ntfs_shell_whole", &boot_sector(0x44, 0xF4), 8_388_608)?;
-    lay(&rt, "ntfs_shell_blank", &[0; 512], 8_388_608)?;
-    lay(&rt, "ntfs_shell_cut", &boot_sector(0x44, 0xF4), 4096)?;
-    lay(&rt, "ntfs_shell_bare", &[0; 512], 4096)?;
-    lay(&rt, "ntfs_shell_empty", &[0; 512], 511)?;
-    let rows: [(&[u8], u8, &str, &str); 16] = [
-        (b"ntfs_shell", 2, "", "--help"),
-        (b"ntfs_shell boot", 2, "", "--help"),
-        (
-            b"ntfs_shell --help",
-            0,
-            "usage: ntfs_shell IMAGE WORDS\n",
-            "",
-        ),
-        (b"ntfs_shell --version", 0, "ntfs_shell 0.1.0\n", ""),
-        (b"ntfs_shell ntfs_shell_whole boot", 0, GEOMETRY, ""),
-        (
-            b"ntfs_shell ntfs_shell_whole format 2047 4096 1 X",
-            3,
-            "refused options\n",
-            "options: SECTORS is from 2048",
-        ),
-        (
-            b"ntfs_shell ntfs_shell_blank format 16384 4096 1 DATA",
-            0,
-            "formatted 2048\n",
-            "",
-        ),
-        (b"ntfs_shell ntfs_shell_blank boot", 0, GEOMETRY, ""),
-        (b"ntfs_shell ntfs_shell_whole bot", 2, "", "--help"),
-        (b"ntfs_shell ntfs_shell_whole check", 9, "", "not built"),
-        (
-            b"ntfs_shell ntfs_shell_cut label",
-            3,
-            "refused S1 6\n",
-            "S1 6: IMAGE is shorter",
-        ),
-        (
-            b"ntfs_shell ntfs_shell_bare boot",
-            3,
-            "refused S1 1\n",
-            "partition",
-        ),
-        (
-            b"ntfs_shell ntfs_shell_empty boot",
-            3,
-            "refused S1 1\n",
-            "no whole sector",
-        ),
-        (
-            b"ntfs_shell /\x1B boot",
-            6,
-            "",
-            "IMAGE \"/\\u{1b}\" cannot be opened",
-        ),
-        (
-            b"ntfs_shell a\xFF\n boot",
-            2,
-            "",
-            "argument 1 is not UTF-8: \"a\\xff\\n\"",
-        ),
-        (
-            b"ntfs_shell /dev boot",
-            6,
-            "",
-            "cannot be opened for reading and writing",
-        ),
-    ];
-    for (line, status, printed, said) in rows {
-        assert!(rt; ends(rt, line, status, printed, said)?, "{status}, {said}");
-    }
+/// Words, and how the program ends on them.
+#[derive(Clone, Copy)]
+struct End {
+    line: &'static [u8],
+    status: u8,
+    /// How its output begins.
+    printed: &'static str,
+    /// What it says on standard error, among more.
+    said: &'static str,
+}
+
+const ENDS: [End; 16] = [
+    End {
+        line: b"ntfs_shell",
+        status: 2,
+        printed: "",
+        said: "--help",
+    },
+    End {
+        line: b"ntfs_shell boot",
+        status: 2,
+        printed: "",
+        said: "--help",
+    },
+    End {
+        line: b"ntfs_shell --help",
+        status: 0,
+        printed: "usage: ntfs_shell IMAGE WORDS\n",
+        said: "",
+    },
+    End {
+        line: b"ntfs_shell --version",
+        status: 0,
+        printed: "ntfs_shell 0.1.0\n",
+        said: "",
+    },
+    End {
+        line: b"ntfs_shell ntfs_shell_whole boot",
+        status: 0,
+        printed: GEOMETRY,
+        said: "",
+    },
+    End {
+        line: b"ntfs_shell ntfs_shell_whole format 2047 4096 1 X",
+        status: 3,
+        printed: "refused options\n",
+        said: "options: SECTORS is from 2048",
+    },
+    End {
+        line: b"ntfs_shell ntfs_shell_blank format 16384 4096 1 DATA",
+        status: 0,
+        printed: "formatted 2048\n",
+        said: "",
+    },
+    End {
+        line: b"ntfs_shell ntfs_shell_blank boot",
+        status: 0,
+        printed: GEOMETRY,
+        said: "",
+    },
+    End {
+        line: b"ntfs_shell ntfs_shell_whole bot",
+        status: 2,
+        printed: "",
+        said: "--help",
+    },
+    End {
+        line: b"ntfs_shell ntfs_shell_whole check",
+        status: 9,
+        printed: "",
+        said: "not built",
+    },
+    End {
+        line: b"ntfs_shell ntfs_shell_cut label",
+        status: 3,
+        printed: "refused S1 6\n",
+        said: "S1 6: IMAGE is shorter",
+    },
+    End {
+        line: b"ntfs_shell ntfs_shell_bare boot",
+        status: 3,
+        printed: "refused S1 1\n",
+        said: "partition",
+    },
+    End {
+        line: b"ntfs_shell ntfs_shell_empty boot",
+        status: 3,
+        printed: "refused S1 1\n",
+        said: "no whole sector",
+    },
+    End {
+        line: b"ntfs_shell /\x1B boot",
+        status: 6,
+        printed: "",
+        said: "IMAGE \"/\\u{1b}\" cannot be opened",
+    },
+    End {
+        line: b"ntfs_shell a\xFF\n boot",
+        status: 2,
+        printed: "",
+        said: "argument 1 is not UTF-8: \"a\\xff\\n\"",
+    },
+    End {
+        line: b"ntfs_shell /dev boot",
+        status: 6,
+        printed: "",
+        said: "cannot be opened for reading and writing",
+    },
+];
+
+// The images that the words name, each by its first sector and its length.
+fn lay_images(rt: &HostRuntime) -> io::Result<()> {
+    lay(rt, "ntfs_shell_whole", &boot_sector(0x44, 0xF4), 8_388_608)?;
+    lay(rt, "ntfs_shell_blank", &[0; 512], 8_388_608)?;
+    lay(rt, "ntfs_shell_cut", &boot_sector(0x44, 0xF4), 4096)?;
+    lay(rt, "ntfs_shell_bare", &[0; 512], 4096)?;
+    lay(rt, "ntfs_shell_empty", &[0; 512], 511)
+}
+
+fn remove_images(rt: &HostRuntime) -> io::Result<()> {
     for name in [
         "ntfs_shell_whole",
         "ntfs_shell_blank",
@@ -309,7 +355,16 @@ fn each_end_says_what_can_be_done(rt: HostRuntime) -> io::Result<()> {
         "ntfs_shell_bare",
         "ntfs_shell_empty",
     ] {
-        fs::remove_file(&rt, path_of(&rt, name)?.as_path())?;
+        fs::remove_file(rt, path_of(rt, name)?.as_path())?;
     }
     Ok(())
+}
+
+#[test]
+fn each_end_says_what_can_be_done(rt: HostRuntime) -> io::Result<()> {
+    lay_images(&rt)?;
+    for end in ENDS {
+        assert!(rt; ends(rt, &end)?, "{}, {}", end.status, end.said);
+    }
+    remove_images(&rt)
 }

@@ -18,8 +18,8 @@ use std::alloc::{AllocError, Global};
 // The first bit of a piece that differs from that of the bits, without the bits of the system's own records, which fill bytes.
 fn first_ordinary_difference(bits: &[u8], piece: &[u8], from: usize) -> Option<u64>
     requires { length bits.now ≤ 2 ^ 32 }
-    ensures { IsLeastWithin (λ k. FIRST_ORDINARY ≤ k → k < 8 * length bits.now → bit_in piece.now (k - 8 * from) ≡ bit_in bits.now k)
-        (8 * from) (8 * (from + length piece.now)) result }
+    ensures { IsLeastWithin (λ k. FIRST_ORDINARY ≤ k → k < 8 * length bits.now
+        → bit_in piece.now (k - 8 * from) ≡ bit_in bits.now k) (8 * from) (8 * (from + length piece.now)) result }
 {
     let skipped = ((FIRST_ORDINARY / 8) as usize)
         .saturating_sub(from)

@@ -1,47 +1,46 @@
-use Rattle.std.proofs.Common.{◌≡◌, ◌≤◌, ◌*◌, List, None, Some, length, sym, ap, subst, ◌∙◌, arith}
+use Rattle.std.proofs.Common.{◌≤◌, ◌*◌, None, Some, length, sym, ap, subst, ◌∙◌, arith}
 use Rattle.std.proofs.lemmas.List.{with_items_is}
 use Rattle.ntfs_def.specs.Bits.{flags_in}
 use Rattle.volume_def.specs.BitmapClauses.{MeetsClusterBits, cluster_bits}
 use Rattle.volume_def.specs.Sound.Clause.{ClusterBits}
 use Rattle.volume_def.specs.Values.{value_on}
 use Rattle.mft_table.specs.declared.mounted.Mounted.{Mounted}
-use Rattle.mft_table.specs.Mft.{mounted_of, view}
+use Rattle.mft_table.specs.Mft.{view}
 use Rattle.volume_facts.specs.BitRanges.{IsPieceOf}
 use Rattle.volume_facts.specs.Least.{IsLeastFailing}
 use Rattle.check_records.specs.Refusals.{IsFirstBroken}
-use Rattle.check_records.proofs.BelowLaws.{readable-below}
 use Rattle.check_records.proofs.OrderLaws.{HoldBelow-more, IsFirstBroken-of}
 use Rattle.check_records.proofs.ValueLaws.{ok-always, ok-weaker}
 use Rattle.check_records.proofs.clusters.read_cluster_bits.Goals as goal
 
 pub returns-in-Some-clause-err : goal.returns-in-Some-clause-err
-returns-in-Some-clause-err g c below is_file notes told =
+returns-in-Some-clause-err g c told come =
     let v = view g.D.Disk c.args.mft.now in
     let clusters = ap (λ (m : Mounted). m.geometry.clusters) c.mounted.ensures in
     let enough : v.layout.clusters ≤ 8 * length c.deref_mut.result.now =
     omega (arith, clusters, c.div_ceil.ensures, c.deref_mut.ensures.len, c.in_ok-bytes.ensures.len) in
     let first : IsLeastFailing (MeetsClusterBits v) (Some c.in-Some.number) =
-    rw c.in-Some.is at c.in_ok-number.ensures.first told (readable-below v 5 (omega arith) below) is_file notes enough in
+    rw c.in-Some.is at c.in_ok-number.ensures.first told come enough in
     subst (λ k. IsFirstBroken v k c.in-Some.number) (sym c.number.ensures)
-    (IsFirstBroken-of v ClusterBits c.in-Some.number (omega arith) below (λ _. first))
+    (IsFirstBroken-of v ClusterBits c.in-Some.number (omega arith) come.before (λ _. first))
 
 pub returns-clause-ok : goal.returns-clause-ok
-returns-clause-ok g c = ok-always c.load_bits.result (λ told below is_file notes.
+returns-clause-ok g c = ok-always c.load_bits.result (λ told come.
     let v = view g.D.Disk c.args.mft.now in
     let clusters = ap (λ (m : Mounted). m.geometry.clusters) c.mounted.ensures in
     let enough : v.layout.clusters ≤ 8 * length c.deref_mut.result.now =
     omega (arith, clusters, c.div_ceil.ensures, c.deref_mut.ensures.len, c.in_ok-bytes.ensures.len) in
     let none : IsLeastFailing (MeetsClusterBits v) None =
-    rw c.in_default.is at c.in_ok-number.ensures.first told (readable-below v 5 (omega arith) below) is_file notes enough in
-    HoldBelow-more v ClusterBits below none)
+    rw c.in_default.is at c.in_ok-number.ensures.first told come enough in
+    HoldBelow-more v ClusterBits come.before none)
 
 pub returns-clause-bits : goal.returns-clause-bits
-returns-clause-bits g c = ok-weaker c.load_bits.result (λ bits flags told below is_file.
+returns-clause-bits g c = ok-weaker c.load_bits.result (λ bits flags told come.
     let v = view g.D.Disk c.args.mft.now in
     let value = value_on v (cluster_bits v) in
     let new = c.decide_cluster_bits.new.into in
     let items = with_items_is c.in_ok-bytes.bytes new (omega (arith, c.decide_cluster_bits.auto.into, c.deref_mut.ensures.len)) in
     let read : IsPieceOf value 0 new =
-    rw c.in_default.is at c.in_ok-number.ensures.bytes told (readable-below v 5 (omega arith) below) is_file in
+    rw c.in_default.is at c.in_ok-number.ensures.bytes told come in
     flags value (subst (IsPieceOf value 0) (sym (c.deref.ensures.value ∙ items)) read)
     ∙ ap (λ (m : Mounted). flags_in value m.geometry.clusters) c.mounted.ensures) c.load_bits.ensures.flags

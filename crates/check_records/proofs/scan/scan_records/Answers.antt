@@ -1,4 +1,4 @@
-use Rattle.std.proofs.Common.{rules, ◌≡◌, ◌<◌, ◌+◌, ◌*◌, ℕ, true, false, IsTrue, refl, sym, subst, ◌∙◌, ap, arith}
+use Rattle.std.proofs.Common.{rules, ◌≡◌, ◌<◌, true, false, IsTrue, refl, sym, subst, ◌∙◌, ap, arith}
 use Rattle.ntfs_def.specs.Record.{is_in_use}
 use Rattle.volume_def.specs.Files.{record_in, records_of}
 use Rattle.volume_def.specs.Table.{IsWellFormed}

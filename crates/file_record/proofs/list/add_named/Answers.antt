@@ -1,4 +1,4 @@
-use Rattle.std.proofs.Common.{◌≡◌, ◌++◌, map, refl, sym, ap, ◌∙◌, append-nil}
+use Rattle.std.proofs.Common.{◌++◌, map, refl, sym, ap, ◌∙◌, append-nil}
 use Rattle.ntfs_def.specs.Record.{Reference}
 use Rattle.file_record.specs.Numbers.{named_in}
 use Rattle.file_record.proofs.NamedLaws.{named-few}

@@ -1,4 +1,4 @@
-use Rattle.std.proofs.Common.{◌≡◌, length, arith}
+use Rattle.std.proofs.Common.{arith}
 use Rattle.std.proofs.lemmas.List.{length-take-le}
 use Rattle.file_record.proofs.ListValues.{value-filled}
 use Rattle.file_record.proofs.list.read_value.Goals as goal

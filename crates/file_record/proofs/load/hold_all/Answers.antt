@@ -1,13 +1,11 @@
-use Rattle.std.proofs.Common.{◌≡◌, ◌<◌, ◌≤◌, ◌+◌, ◌*◌, ◌==◌, ℕ, cond, not, get_or, take, sym, ap, subst, ◌∙◌, arith}
-use Rattle.std.specs.Prelude.{IsTrue}
-use Rattle.std.specs.List.{count_by}
+use Rattle.std.proofs.Common.{◌+◌, get_or, subst, ◌∙◌, arith}
 use Rattle.std.proofs.lemmas.List.Kept.{AllPairs-from_increasing}
 use Rattle.volume_def.specs.View.{VolumeView}
-use Rattle.mft_table.specs.Mft.{MftReads, view}
+use Rattle.mft_table.specs.Mft.{view}
 use Rattle.mft_table.proofs.StreamReads.{MftReads-then}
 use Rattle.file_record.specs.Holds.{HoldsNext}
 use Rattle.file_record.proofs.ReadLaws.{reads-more, reads-within, view-kept}
-use Rattle.file_record.proofs.HoldLaws.{HoldsAll-more, HoldsAll-none, come-more, held-few, rising-more}
+use Rattle.file_record.proofs.HoldLaws.{HoldsAll-more, come-more, held-few, rising-more}
 use Rattle.file_record.proofs.load.hold_all.Goals as goal
 
 pub returns-in_err-hold_next-clause-reads : goal.returns-in_err-hold_next-clause-reads

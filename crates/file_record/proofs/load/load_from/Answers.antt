@@ -1,14 +1,12 @@
-use Rattle.std.proofs.Common.{◌≡◌, ◌<◌, ◌≤◌, ◌+◌, ◌-◌, ◌*◌, ◌==◌, ℕ, List, length, not, sym, ap, subst, ◌∙◌, arith}
+use Rattle.std.proofs.Common.{◌≡◌, ◌≤◌, ◌+◌, ◌-◌, ◌*◌, ◌==◌, ℕ, List, length, not, sym, ap, subst, ◌∙◌, arith}
 use Rattle.std.specs.Prelude.{IsTrue}
-use Rattle.std.specs.List.{Contains, count_by, flat_map}
-use Rattle.volume_def.specs.Files.{parts_in, record_on}
-use Rattle.volume_def.specs.Readable.{IsFile, IsReadableVolume}
+use Rattle.std.specs.List.{Contains, count_by}
 use Rattle.volume_def.specs.View.{VolumeView}
-use Rattle.mft_table.specs.Mft.{MftReads, view}
+use Rattle.mft_table.specs.Mft.{view}
 use Rattle.mft_table.proofs.StreamReads.{MftReads-none, MftReads-then}
 use Rattle.file_record.specs.Holds.{HoldsAll}
 use Rattle.file_record.specs.Numbers.{AreNumbers}
-use Rattle.file_record.specs.Records.{file_reads, reads_for_list, records_of_file}
+use Rattle.file_record.specs.Records.{file_reads, reads_for_list}
 use Rattle.file_record.proofs.NumbersLaws.{AreNumbers-parts, records-some}
 use Rattle.file_record.proofs.ReadLaws.{view-kept}
 use Rattle.file_record.proofs.RiseLaws.{count-others}

@@ -1,9 +1,8 @@
-use Rattle.std.proofs.Common.{◌≡◌, List, Option, Result, Ok, Err, sym, ap, subst, ◌∙◌, arith}
+use Rattle.std.proofs.Common.{Result, Ok, Err, sym, subst, ◌∙◌, arith}
 use Rattle.std.specs.Prelude.{OnOk}
-use Rattle.volume_def.specs.Files.{part_of}
 use Rattle.attr_view.specs.View.{attribute_of}
 use Rattle.mft_table.specs.Mft.{MftReads, view}
-use Rattle.file_record.specs.Numbers.{AddsListed, AddsNamed}
+use Rattle.file_record.specs.Numbers.{AddsNamed}
 use Rattle.file_record.proofs.ListedLaws.{added-by, added-resident, listed-clusters, value-short}
 use Rattle.file_record.proofs.numbers.add_listed.Goals as goal
 

@@ -1,4 +1,4 @@
-use Rattle.std.proofs.Common.{◌≡◌, All, refl, sym, subst, ◌∙◌, arith}
+use Rattle.std.proofs.Common.{All, refl, sym, subst, ◌∙◌, arith}
 use Rattle.std.specs.Prelude.{◌↔◌, IsSome, IsTrue}
 use Rattle.attr_view.specs.View.{attribute_of}
 use Rattle.check_records.proofs.UnnamedLaws.{TellsPlaces-no_list, TellsPlaces-runs, TellsPlaces-value, both-flags}

@@ -1,11 +1,9 @@
-use Rattle.std.proofs.Common.{◌≡◌, ◌<◌, ◌≤◌, ◌+◌, ◌-◌, ◌*◌, ℕ, List, Result, Ok, Err, sym, ap, subst, ◌∙◌, arith}
+use Rattle.std.proofs.Common.{◌≤◌, ◌-◌, ℕ, subst, arith}
 use Rattle.std.specs.Prelude.{All, IfNone, IfOk, IsTrue}
 use Rattle.volume_def.specs.Readable.{IsFile, IsReadableVolume, WhereReadable}
 use Rattle.volume_def.specs.View.{VolumeView}
 use Rattle.mft_table.specs.Mft.{MftReads, view}
 use Rattle.mft_table.proofs.StreamReads.{MftReads-none, MftReads-then}
-use Rattle.file_record.specs.declared.error.FileNo.{FileNo}
-use Rattle.file_record.specs.declared.parts.FileParts.{FileParts}
 use Rattle.file_record.specs.Held.{AreParts, IsCurrent, held_of}
 use Rattle.file_record.specs.Records.{IsRecordOf, file_reads}
 use Rattle.file_record.proofs.NumbersLaws.{records-some}

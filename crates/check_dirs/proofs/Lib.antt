@@ -1,0 +1,10 @@
+pub mod TreeLaws
+pub mod GatherLaws
+pub mod ReadLaws
+pub mod DepthLaws
+pub mod WalkLaws
+pub mod MetLaws
+pub mod OrderLaws
+pub mod NameLaws
+pub mod VolumeLaws
+pub mod IndexLaws

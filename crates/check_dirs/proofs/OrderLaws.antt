@@ -1,0 +1,65 @@
+-- The order of entries, by their places and as lists.
+use Rattle.std.proofs.Common.{◌≡◌, ℕ, zero, suc, ◌+◌, ◌<◌, List, [], ◌∷◌, Bool, length, get_or, refl, subst, arith}
+use Rattle.std.specs.Prelude.{All, IsTrue}
+use Rattle.std.proofs.lemmas.List.Elements.{All-cons, All-head, All-nil, All-tail}
+use Rattle.std.specs.Cmp.{IsTotalOrder}
+use Rattle.std.specs.declared.cmp.Ordering.{Ordering}
+use Rattle.std.specs.declared.cmp.Ordering.TheVariants.{Less}
+use Rattle.ntfs_def.specs.IndexTree.{Ascends, Each}
+use Rattle.ntfs_def.specs.Node.{IsOwnEntry, Item, has_child, item_in}
+use Rattle.ntfs_def.specs.declared.index.NodeForm.{NodeForm}
+use Rattle.index_tree.proofs.OwnEntries.{own_whole}
+use Rattle.index_tree.specs.Walk.{items_in}
+use Rattle.check_dirs.specs.Entries.{AreValid, AreWhole, IsWhole, Rise, key_at}
+
+-- an element, whatever stands for a missing one
+pub get_or-any : (xs : List (List ℕ)) (i : ℕ) (a b : List ℕ) → i < length xs → get_or xs i a ≡ get_or xs i b
+get_or-any [] i a b h = absurd (omega arith)
+get_or-any (x ∷ xs) zero a b h = refl
+get_or-any (x ∷ xs) (suc i) a b h = get_or-any xs i a b (omega arith)
+
+pub whole_from_own : (form : NodeForm) (entries : List (List ℕ)) → Each (IsOwnEntry form) entries → AreWhole entries
+whole_from_own form [] h = All-nil IsWhole
+whole_from_own form (entry ∷ entries) h =
+    All-cons IsWhole entry entries (own_whole form (has_child entry 0) entry h.0) (whole_from_own form entries h.1)
+
+-- from places to lists and back
+module _ (valid : List ℕ → Bool) where
+  pub keys_from_valid : (entries : List (List ℕ)) → AreValid valid entries → All (λ (x : Item). IsTrue (valid x.key)) (items_in entries)
+  keys_from_valid [] h = All-nil (λ (x : Item). IsTrue (valid x.key))
+  keys_from_valid (entry ∷ entries) h =
+      All-cons (λ (x : Item). IsTrue (valid x.key)) (item_in entry) (items_in entries) (h 0 (omega arith))
+      (keys_from_valid entries (λ i k. h (suc i) (omega arith)))
+
+  pub valid_from_keys : (entries : List (List ℕ)) → All (λ (x : Item). IsTrue (valid x.key)) (items_in entries) → AreValid valid entries
+  valid_from_keys [] h i k = absurd (omega arith)
+  valid_from_keys (entry ∷ entries) h zero k = All-head (λ (x : Item). IsTrue (valid x.key)) (item_in entry) (items_in entries) h
+  valid_from_keys (entry ∷ entries) h (suc i) k =
+      valid_from_keys entries (All-tail (λ (x : Item). IsTrue (valid x.key)) (item_in entry) (items_in entries) h) i (omega arith)
+
+module _ (order : List ℕ → List ℕ → Ordering) (laws : IsTotalOrder order) where
+  above : (key : List ℕ) (xs : List Item) (x : Item) → order key x.key ≡ Less → Each (λ (y : Item). order x.key y.key ≡ Less) xs
+      → Each (λ (y : Item). order key y.key ≡ Less) xs
+  above key [] x h k = tt
+  above key (y ∷ xs) x h k = (laws.trans key x.key y.key h k.0, above key xs x h k.1)
+
+  -- each below the next is each below all later ones
+  pub ascends_from_rise : (entries : List (List ℕ)) → Rise order entries → Ascends order (items_in entries)
+  ascends_from_rise [] h = tt
+  ascends_from_rise (e ∷ []) h = (tt, tt)
+  ascends_from_rise (e ∷ f ∷ entries) h =
+      let rest : Ascends order (items_in (f ∷ entries)) =
+      ascends_from_rise (f ∷ entries) (λ i k.
+      let next : suc i + 1 ≡ suc (i + 1) = omega arith in
+      subst (λ j. order (key_at (e ∷ f ∷ entries) (suc i)) (key_at (e ∷ f ∷ entries) j) ≡ Less) next (h (suc i) (omega arith))) in
+      let first : order (item_in e).key (item_in f).key ≡ Less = h 0 (omega arith) in
+      ((first, above (item_in e).key (items_in entries) (item_in f) first rest.0), rest)
+
+  pub rise_from_ascends : (entries : List (List ℕ)) → Ascends order (items_in entries) → Rise order entries
+  rise_from_ascends [] h i k = absurd (omega arith)
+  rise_from_ascends (e ∷ []) h i k = absurd (omega arith)
+  rise_from_ascends (e ∷ f ∷ entries) h zero k = h.0.0
+  rise_from_ascends (e ∷ f ∷ entries) h (suc i) k =
+      let next : suc (i + 1) ≡ suc i + 1 = omega arith in
+      subst (λ j. order (key_at (e ∷ f ∷ entries) (suc i)) (key_at (e ∷ f ∷ entries) j) ≡ Less) next
+      (rise_from_ascends (f ∷ entries) h.1 i (omega arith))

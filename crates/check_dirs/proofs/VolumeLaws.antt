@@ -1,0 +1,174 @@
+-- The clause on indexes, from what is checked of one, and back.
+use Rattle.std.proofs.Common.{◌≡◌, ◌≢◌, ℕ, zero, suc, ◌≤◌, ◌==◌, List, [], ◌∷◌, map, Option, Some, None, cond, refl, sym, ap, subst, ◌∙◌, arith, inl, inr}
+use Rattle.std.specs.Prelude.{IsSome}
+use Rattle.std.proofs.lemmas.Bool.{cases_Bool, eqb-false, eqb-true}
+use Rattle.vol_bytes.specs.Field.{u32_at}
+use Rattle.ntfs_def.specs.Fixup.{opened_of}
+use Rattle.ntfs_def.specs.IndexTree.{Nodes, Branch, Spread, Tree, AreStored, EachBelow, IsStored, Walks, branch_times, node_of, one_if, spread_times, times_in}
+use Rattle.ntfs_def.specs.Node.{Item, Node, short_node}
+use Rattle.ntfs_def.specs.declared.index.NodeForm.{NodeForm}
+use Rattle.ntfs_def.specs.declared.index.NodeForm.TheVariants.{Names}
+use Rattle.ntfs_def.specs.FileName.{link_of}
+use Rattle.volume_def.specs.SameItems.{SameItems}
+use Rattle.volume_def.specs.IndexesClause.{HasIndex, IsDirectoryIndex, name_rule, IndexParts, IsIndexRecordAt, KeyRule, index_nodes, stored_index_record}
+use Rattle.volume_def.specs.View.{VolumeView}
+use Rattle.check_dirs.specs.OfVolume.{AreRecordsOf, HasNames, HasParts, directory_parts, links_in}
+use Rattle.check_dirs.specs.OrderedIndex.{IndexesKind, IsOrderedIndex}
+use Rattle.check_dirs.specs.Records.{Records, short_nodes}
+use Rattle.check_dirs.proofs.GatherLaws.{one_if-same}
+use Rattle.check_dirs.proofs.ReadLaws.{at_record, no_record}
+
+-- A tree that one list of nodes holds is held by another that says the same at each number of the tree.
+abbrev pub SaysAt : Nodes → Nodes → ℕ → Type 0
+SaysAt nodes others vcn = (node : Node) → nodes vcn ≡ Some node → others vcn ≡ Some node
+
+module _ {T : Type 0} (times : ℕ → T → ℕ) (P Q : T → Type 0) (R : ℕ → Type 0)
+    (step : (t : T) → ((vcn : ℕ) → 1 ≤ times vcn t → R vcn) → P t → Q t) where
+  branches_moved : (bs : List (Branch T)) (last : T) → ((vcn : ℕ) → 1 ≤ branch_times (times vcn) bs last → R vcn)
+      → EachBelow P bs last → EachBelow Q bs last
+  branches_moved [] last h k = step last h k
+  branches_moved (b ∷ bs) last h k = (
+    step b.below (λ vcn met. h vcn (omega arith)) k.0,
+    branches_moved bs last (λ vcn met. h vcn (omega arith)) k.1,
+  )
+
+module _ (nodes others : Nodes) where
+  tree_moved : (depth : ℕ) (t : Tree depth) → ((vcn : ℕ) → 1 ≤ times_in vcn depth t → SaysAt nodes others vcn) → IsStored nodes depth t
+      → IsStored others depth t
+  tree_moved zero t h k = tt
+  tree_moved (suc depth) t h k = (
+    h t.vcn (let own = one_if-same t.vcn in omega arith) (node_of depth t.spread) k.0,
+    branches_moved (λ vcn. times_in vcn depth) (IsStored nodes depth) (IsStored others depth) (SaysAt nodes others)
+        (tree_moved depth) t.spread.branches t.spread.last (λ vcn met. h vcn (omega arith)) k.1,
+  )
+
+  pub spread_moved : (depth : ℕ) (s : Spread (Tree depth)) → ((vcn : ℕ) → 1 ≤ spread_times vcn depth s → SaysAt nodes others vcn)
+      → AreStored nodes depth s → AreStored others depth s
+  spread_moved depth s h k =
+      branches_moved (λ vcn. times_in vcn depth) (IsStored nodes depth) (IsStored others depth) (SaysAt nodes others)
+      (tree_moved depth) s.branches s.last h k
+
+-- At each number of a tree its records say a node.
+module _ (nodes : Nodes) (place : ℕ) where
+  abbrev pub IsThere : Type 0
+  IsThere = (node : Node) × (nodes place ≡ Some node)
+
+  branches_there : {T : Type 0} (times : T → ℕ) (P : T → Type 0) → ((t : T) → 1 ≤ times t → P t → IsThere)
+      → (bs : List (Branch T)) (last : T) → 1 ≤ branch_times times bs last → EachBelow P bs last → IsThere
+  branches_there times P step [] last met k = step last met k
+  branches_there times P step (b ∷ bs) last met k = elim (cases_Bool (times b.below == 0)) [
+    | inl e ↦ let none : times b.below ≡ 0 = eqb-true (times b.below) 0 e in branches_there times P step bs last (omega arith) k.1
+    | inr e ↦ let some : times b.below ≢ 0 = eqb-false (times b.below) 0 e in step b.below (omega arith) k.0
+  ]
+
+  tree_there : (depth : ℕ) (t : Tree depth) → 1 ≤ times_in place depth t → IsStored nodes depth t → IsThere
+  tree_there zero t met k = absurd (omega arith)
+  tree_there (suc depth) t met k = elim (cases_Bool (place == t.vcn)) [
+    | inl e ↦ (node_of depth t.spread, ap nodes (eqb-true place t.vcn e) ∙ k.0)
+    | inr e ↦
+        let none : one_if place t.vcn ≡ 0 = ap (λ b. cond b 1 0) e in
+        branches_there (times_in place depth) (IsStored nodes depth) (tree_there depth) t.spread.branches t.spread.last (omega arith) k.1
+  ]
+
+  pub spread_there : (depth : ℕ) (s : Spread (Tree depth)) → 1 ≤ spread_times place depth s → AreStored nodes depth s → IsThere
+  spread_there depth s met k =
+      branches_there (times_in place depth) (IsStored nodes depth) (tree_there depth) s.branches s.last met k
+
+abbrev walks_moved : (nodes others : Nodes) (root : Node) (items : List Item) (walks : Walks nodes root items)
+    → ((vcn : ℕ) → 1 ≤ spread_times vcn walks.depth walks.s → SaysAt nodes others vcn) → Walks others root items
+walks_moved nodes others root items walks says = record {
+  depth = walks.depth;
+  small = walks.small;
+  s = walks.s;
+  holds = record {
+    node = walks.holds.node;
+    stored = spread_moved nodes others walks.depth walks.s says walks.holds.stored;
+    once = walks.holds.once;
+  };
+  is = walks.is;
+}
+
+-- The nodes of the records, and those of the volume.
+pub some_record : (form : NodeForm) (records : Records) (vcn : ℕ) (node : Node) → short_nodes form records vcn ≡ Some node → IsSome (records vcn)
+some_record form records vcn node e = go (records vcn) refl
+  where
+    go : (o : Option (List ℕ)) → records vcn ≡ o → IsSome (records vcn)
+    go None n = absurd (let f : None ≡ Some node = sym (no_record form records vcn n) ∙ e in cc)
+    go (Some bytes) n = subst IsSome (sym n) refl
+
+module _ (form : NodeForm) (rule : KeyRule) (view : VolumeView) (index : IndexParts) (records : Records)
+    (are : AreRecordsOf view index records) (root : List ℕ) (items : List Item) where
+  pub said_there : (vcn : ℕ) → IsIndexRecordAt view index vcn → short_nodes form records vcn ≡ index_nodes form view index vcn
+  unfolding index_nodes
+  said_there vcn there =
+      at_record form records vcn (opened_of (stored_index_record view index vcn))
+      (short_node form (opened_of (stored_index_record view index vcn))) (are.there vcn there) refl
+
+  abbrev pub index_from_ordered : HasParts index root → IsOrderedIndex form rule (short_nodes form records) root items
+      → HasIndex form rule view index items
+  index_from_ordered parts ordered =
+      let walks = ordered.walks in
+      let there : (vcn : ℕ) → 1 ≤ spread_times vcn walks.depth walks.s → IsIndexRecordAt view index vcn =
+      λ vcn met.
+      let said = spread_there (short_nodes form records) vcn walks.depth walks.s met walks.holds.stored in
+      are.only vcn (some_record form records vcn said.0 said.1) in
+      record {
+        root = root;
+        is_root = parts.is_root;
+        collation = ordered.fields.collates;
+        record_size = ordered.fields.record_size;
+        plain = parts.plain;
+        plain_bits = parts.plain_bits;
+        written = parts.written;
+        root_node = ordered.root_node;
+        says = ordered.says;
+        walks = walks_moved (short_nodes form records) (index_nodes form view index) ordered.root_node items walks
+            (λ vcn met node e. sym (said_there vcn (there vcn met)) ∙ e);
+        each = there;
+        keys = ordered.keys;
+        ascending = ordered.ascending;
+      }
+
+  pub root_same : {a b : List ℕ} → Some a ∷ [] ≡ Some b ∷ [] → a ≡ b
+  root_same e = cc
+
+  pub ordered_from_index : HasParts index root → IndexesKind form root → HasIndex form rule view index items
+      → IsOrderedIndex form rule (short_nodes form records) root items
+  ordered_from_index parts kind has =
+      let same : has.root ≡ root = root_same (sym has.is_root ∙ parts.is_root) in
+      record {
+        fields = record {
+          kind = kind;
+          collates = ap (λ r. u32_at r 0x04) (sym same) ∙ has.collation;
+          record_size = ap (λ r. u32_at r 0x08) (sym same) ∙ has.record_size;
+        };
+        root_node = has.root_node;
+        says = ap (short_node form) (sym same) ∙ has.says;
+        walks = walks_moved (index_nodes form view index) (short_nodes form records) has.root_node items has.walks
+            (λ vcn met node e. said_there vcn (has.each vcn met) ∙ e);
+        keys = has.keys;
+        ascending = has.ascending;
+      }
+
+-- The same of a directory.
+module _ (view : VolumeView) (f : ℕ) (records : Records) (are : AreRecordsOf view (directory_parts view f) records) (root : List ℕ)
+    (parts : HasParts (directory_parts view f) root) where
+  pub directory_from_ordered : (items : List Item) → IsOrderedIndex Names (name_rule view) (short_nodes Names records) root items
+      → SameItems (map link_of items) (links_in view f) → IsDirectoryIndex view f
+  directory_from_ordered items ordered names = record {
+    items = items;
+    index = index_from_ordered Names (name_rule view) view (directory_parts view f) records are root items parts ordered;
+    kind = ordered.fields.kind;
+    names = names;
+  }
+
+  pub ordered_from_directory : IsDirectoryIndex view f → HasNames view f (short_nodes Names records) root
+  ordered_from_directory has =
+      let same : has.index.root ≡ root =
+      root_same Names (name_rule view) view (directory_parts view f) records are root has.items (sym has.index.is_root ∙ parts.is_root) in
+      record {
+        items = has.items;
+        index = ordered_from_index Names (name_rule view) view (directory_parts view f) records are root has.items parts
+            (ap (λ r. u32_at r 0x00) (sym same) ∙ has.kind) has.index;
+        names = has.names;
+      }
