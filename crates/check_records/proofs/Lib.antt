@@ -5,6 +5,9 @@ pub mod BelowLaws
 pub mod FactsGiven
 pub mod UnnamedLaws
 pub mod ValueLaws
+pub mod AnswerLaws
+pub mod CheckLaws
+pub mod TablesLaws
 pub mod FileLaws
 pub mod ComeLaws
 pub mod StreamLaws

@@ -13,7 +13,8 @@ use Rattle.mft_table.specs.declared.error.TableNo.{TableNo}
 use Rattle.mft_table.specs.declared.error.TableNo.TheVariants as table
 use Rattle.mft_table.specs.declared.mount.MountNo.{MountNo}
 use Rattle.mft_table.specs.declared.mount.MountNo.TheVariants as no
-use Rattle.check_records.specs.Refusals.{IsDecided, IsFirstBroken, IsRefusal, IsRefusalOf}
+use Rattle.volume_def.specs.View.{VolumeView}
+use Rattle.check_records.specs.Refusals.{IsDecided, IsFault, IsFirstBroken, IsRefusal, IsRefusalIf, IsRefusalOf}
 
 -- the numbers of the clauses that are decided here
 IsDecided-of : (clause : Clause) → rank_of clause < 10 → IsDecided (clause_number clause)
@@ -61,3 +62,25 @@ IsRefusal-later told layout (no.Refused k n) found h = λ image is.
 IsRefusal-later told layout no.Dirty found h = h
 IsRefusal-later told layout no.Device found h = tt
 IsRefusal-later told layout no.Memory found h = tt
+
+-- a refusal under premises that others give
+pub IsRefusalIf-weaker : {A B : Type 0} (view : VolumeView) (refusal : MountNo) → (IsTrue view.told → B → A) → IsRefusalIf A view refusal
+    → IsRefusalIf B view refusal
+IsRefusalIf-weaker view (no.Refused k n) gives h = λ told b. h told (gives told b)
+IsRefusalIf-weaker view no.Dirty gives h = h
+IsRefusalIf-weaker view no.Device gives h = tt
+IsRefusalIf-weaker view no.Memory gives h = tt
+
+pub IsRefusalOf-if : {A : Type 0} (view : VolumeView) (refusal : MountNo) → (IsTrue view.told → A) → IsRefusalIf A view refusal
+    → IsRefusalOf view refusal
+IsRefusalOf-if view (no.Refused k n) gives h = λ told. h told (gives told)
+IsRefusalOf-if view no.Dirty gives h = h
+IsRefusalOf-if view no.Device gives h = tt
+IsRefusalOf-if view no.Memory gives h = tt
+
+-- what failed is no refusal
+pub IsRefusalIf-fault : (A : Type 0) (view : VolumeView) (refusal : MountNo) → IsFault refusal → IsRefusalIf A view refusal
+IsRefusalIf-fault A view (no.Refused k n) h = absurd h
+IsRefusalIf-fault A view no.Dirty h = h
+IsRefusalIf-fault A view no.Device h = tt
+IsRefusalIf-fault A view no.Memory h = tt

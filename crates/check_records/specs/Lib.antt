@@ -3,4 +3,6 @@ pub mod Refusals
 pub mod Views
 pub mod Tables
 pub mod Unnamed
+pub mod Reads
 pub mod Listed
+pub mod Decided

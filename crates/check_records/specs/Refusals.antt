@@ -19,14 +19,7 @@ pub record IsFirstBroken (view : VolumeView) (k n : ℕ) : Type 0 where
   pub number : clause_number clause ≡ k
   pub first : FirstBroken view clause n
 
--- what is said of a volume whose table was found
-abbrev pub IsFirstRefusal : VolumeView → MountNo → Type 0
-IsFirstRefusal view (no.Refused k n) = IsFirstBroken view k n
-IsFirstRefusal view no.Dirty = ⊥
-IsFirstRefusal view no.Device = Unit {0}
-IsFirstRefusal view no.Memory = Unit {0}
-
--- the same, where the contents of the disk are told
+-- what is said of a volume whose table was found, where the contents of the disk are told
 abbrev pub IsRefusalOf : VolumeView → MountNo → Type 0
 IsRefusalOf view (no.Refused k n) = IsTrue view.told → IsFirstBroken view k n
 IsRefusalOf view no.Dirty = ⊥

@@ -1,5 +1,5 @@
 -- The tables of a volume that meets the clauses that are decided here.
-use Rattle.std.specs.Prelude.{◌≡◌, ℕ, List, Some, None}
+use Rattle.std.specs.Prelude.{◌≡◌, ℕ, Bool, List, Some, None}
 use Rattle.vol_disk.specs.Contents.{sector_in}
 use Rattle.ntfs_def.specs.Bits.{flags_in}
 use Rattle.ntfs_def.specs.Boot.{boot_sector, image_boot_failing}
@@ -20,10 +20,10 @@ pub record HasTable (image : List ℕ) (mounted : Mounted) : Type 0 where
   pub clause : MeetsTable (sector_in (Some image)) (boot_sector image) (mounted_layout mounted)
 
 -- The bits and the table of case are those that the volume stores. A bit past the end of its bitmap is clear.
-pub record HoldsValues (view : VolumeView) (mounted : Mounted) : Type 0 where
-  pub clusters : mounted.clusters ≡ flags_in (value_on view (cluster_bits view)) view.layout.clusters
-  pub records : mounted.records ≡ flags_in (value_on view (record_bits view)) view.layout.count
-  pub upcase : mounted.upcase ≡ value_on view (case_parts view)
+pub record AreStored (view : VolumeView) (clusters records : List Bool) (upcase : List ℕ) : Type 0 where
+  pub clusters_are : clusters ≡ flags_in (value_on view (cluster_bits view)) view.layout.clusters
+  pub records_are : records ≡ flags_in (value_on view (record_bits view)) view.layout.count
+  pub upcase_is : upcase ≡ value_on view (case_parts view)
 
 -- the volume that a disk of these contents is, with the table that is kept
 abbrev pub volume_in : List ℕ → Mounted → VolumeView
@@ -33,4 +33,4 @@ volume_in image mounted = told_view (sector_in (Some image)) (mounted_layout mou
 pub record HoldsTables (image : List ℕ) (mounted : Mounted) : Type 0 where
   pub table : HasTable image mounted
   pub clauses : HoldBelow (volume_in image mounted) 10
-  pub values : HoldsValues (volume_in image mounted) mounted
+  pub values : AreStored (volume_in image mounted) mounted.clusters mounted.records mounted.upcase

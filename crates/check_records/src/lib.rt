@@ -4,9 +4,11 @@
 
 mod by_facts;
 mod case_table;
+mod check;
 mod clause;
 mod clusters;
 mod files;
+mod laws;
 mod listed;
 mod order;
 mod records;
@@ -16,3 +18,6 @@ mod streams;
 mod unnamed;
 mod values;
 mod wrong_files;
+
+pub use check::check_records;
+pub use laws::one_answer;

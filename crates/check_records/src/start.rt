@@ -88,6 +88,7 @@ pub fn scan_volume<D: Disk>(alloc: Global, stage: &mut Stage<'_, D>) -> Result<S
         → FactsNote (records_of (stage_view D.Disk stage.old (mounted_layout scanned.mounted))) (mounted_layout scanned.mounted).count
         scanned.facts) }
     ensures volume { IfOk result (λ scanned. IsOfVolume (mounted_layout scanned.mounted) scanned.facts) }
+    ensures records { IfOk result (λ scanned. 24 ≤ length scanned.mounted.records) }
     ensures err { IfErr result (IsRefusal (image D.Disk stage.old)) }
     ensures reads { StageReads D.Disk stage.old stage.new (3 + 2 * 2 ^ 22) }
     ensures fetched { IfOk result (λ scanned. StageReads D.Disk stage.old stage.new (3 + 2 * length scanned.mounted.records)) }

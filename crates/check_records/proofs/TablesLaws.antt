@@ -1,0 +1,96 @@
+-- From what the pass gives and the steps behind it decide to the answer on a disk.
+use Rattle.std.proofs.Common.{◌≡◌, ◌+◌, ◌*◌, ℕ, Bool, List, length, Option, Some, IsTrue, refl, sym, ap, subst, ◌∙◌}
+use Rattle.std.specs.Prelude.{is_some}
+use Rattle.vol_disk.specs.Contents.{WhereTold, sector_in}
+use Rattle.ntfs_def.specs.Boot.{boot_sector}
+use Rattle.volume_def.specs.Sound.{HoldBelow, told_view}
+use Rattle.volume_def.specs.Table.{LiesOn, MeetsTable, TableLayout}
+use Rattle.volume_def.specs.View.{VolumeView, view_of}
+use Rattle.volume_facts.specs.declared.facts.Facts.{Facts}
+use Rattle.mft_table.specs.declared.mount.MountNo.{MountNo}
+use Rattle.mft_table.specs.declared.mounted.Mounted.{Mounted}
+use Rattle.mft_table.specs.Mounted.{StandsOn, mounted_layout}
+use Rattle.mft_table.specs.Tables.{layout_on}
+use Rattle.check_records.specs.Reads.{check_reads, files_reads, values_reads}
+use Rattle.check_records.specs.Refusals.{IsRefusal, IsRefusalIf}
+use Rattle.check_records.specs.Tables.{AreStored, HasTable, HoldsTables, volume_in}
+use Rattle.check_records.specs.Views.{HasComeTo}
+use Rattle.check_records.proofs.CheckLaws.{check_reads-sum}
+use Rattle.check_records.proofs.RefusalLaws.{IsRefusal-later, IsRefusalOf-if}
+
+-- the volume that a disk is, with the table that was found
+abbrev pub found_view : Option (List ℕ) → Mounted → VolumeView
+found_view told mounted = view_of (is_some told) (sector_in told) (mounted_layout mounted)
+
+-- the tables, with those that the volume stores
+abbrev pub stored_tables : Mounted → List Bool → List Bool → List ℕ → Mounted
+stored_tables mounted clusters records upcase = record mounted { clusters = clusters; records = records; upcase = upcase }
+
+-- they tell the same table of records
+same-layout : (mounted : Mounted) (clusters records : List Bool) (upcase : List ℕ) → length records ≡ length mounted.records
+    → mounted_layout mounted ≡ mounted_layout (stored_tables mounted clusters records upcase)
+same-layout mounted clusters records upcase long = ap (λ n. layout_on mounted.geometry mounted.table mounted.initialized n) (sym long)
+
+pub stands-stored : (sectors : ℕ) (mounted : Mounted) (clusters records : List Bool) (upcase : List ℕ) → StandsOn sectors mounted
+    → length clusters ≡ mounted.geometry.clusters → length records ≡ length mounted.records
+    → StandsOn sectors (stored_tables mounted clusters records upcase)
+stands-stored sectors mounted clusters records upcase stands all long = record {
+  whole = stands.whole;
+  size = stands.size;
+  clusters = all;
+  table = subst (LiesOn sectors) (same-layout mounted clusters records upcase long) stands.table;
+}
+
+HoldsTables-stored : (image : List ℕ) (mounted : Mounted) (clusters records : List Bool) (upcase : List ℕ) → HasTable image mounted
+    → length records ≡ length mounted.records → HoldBelow (volume_in image mounted) 10
+    → AreStored (volume_in image mounted) clusters records upcase → HoldsTables image (stored_tables mounted clusters records upcase)
+HoldsTables-stored image mounted clusters records upcase table long below stored =
+    let disk = sector_in (Some image) in
+    let layout = same-layout mounted clusters records upcase long in
+    record {
+      table = record {
+        boot = table.boot;
+        geometry = table.geometry;
+        clause = subst (MeetsTable disk (boot_sector image)) layout table.clause;
+      };
+      clauses = subst (λ (l : TableLayout). HoldBelow (told_view disk l) 10) layout below;
+      values = subst (λ (l : TableLayout). AreStored (told_view disk l) clusters records upcase) layout stored;
+    }
+
+-- all steps were passed
+pub tables-checked : (told : Option (List ℕ)) (mounted : Mounted) (facts : Facts) (clusters records : List Bool) (upcase : List ℕ)
+    → WhereTold told (λ image. HasTable image mounted) → length records ≡ length mounted.records
+    → (IsTrue (is_some told) → HasComeTo (found_view told mounted) 1 facts)
+    → (IsTrue (is_some told) → HasComeTo (found_view told mounted) 1 facts → HoldBelow (found_view told mounted) 10)
+    → (IsTrue (is_some told) → HasComeTo (found_view told mounted) 1 facts → AreStored (found_view told mounted) clusters records upcase)
+    → WhereTold told (λ image. HoldsTables image (stored_tables mounted clusters records upcase))
+tables-checked told mounted facts clusters records upcase table long come below stored = λ image is.
+    let yes : IsTrue (is_some told) = subst (λ (t : Option (List ℕ)). IsTrue (is_some t)) (sym is) refl in
+    HoldsTables-stored image mounted clusters records upcase (table image is) long
+    (subst (λ (t : Option (List ℕ)). HoldBelow (found_view t mounted) 10) is (below yes (come yes)))
+    (subst (λ (t : Option (List ℕ)). AreStored (found_view t mounted) clusters records upcase) is (stored yes (come yes)))
+
+-- a step refused the volume, or failed
+pub refusal-checked : (told : Option (List ℕ)) (mounted : Mounted) (facts : Facts) (refusal : MountNo)
+    → WhereTold told (λ image. HasTable image mounted)
+    → (IsTrue (is_some told) → HasComeTo (found_view told mounted) 1 facts)
+    → IsRefusalIf (HasComeTo (found_view told mounted) 1 facts) (found_view told mounted) refusal
+    → IsRefusal told refusal
+refusal-checked told mounted facts refusal table come refused =
+    IsRefusal-later told (mounted_layout mounted) refusal
+    (λ image is. let found = table image is in record { boot_clause = found.boot; table_clause = found.clause })
+    (IsRefusalOf-if (found_view told mounted) refusal come refused)
+
+-- .. and these are the reads of all of them
+pub reads-checked : (told : Option (List ℕ)) (mounted : Mounted) (facts : Facts) (clusters records : List Bool) (upcase : List ℕ)
+    → length records ≡ length mounted.records
+    → (IsTrue (is_some told) → HasComeTo (found_view told mounted) 1 facts)
+    → (IsTrue (is_some told) → HasComeTo (found_view told mounted) 1 facts → HoldBelow (found_view told mounted) 10)
+    → WhereTold told (λ image. (3 + 2 * length mounted.records)
+    + (files_reads (length facts.spread.listed.items) (length facts.spread.extensions.items) + values_reads (found_view told mounted))
+    ≡ check_reads (volume_in image (stored_tables mounted clusters records upcase)))
+reads-checked told mounted facts clusters records upcase long come below = λ image is.
+    let yes : IsTrue (is_some told) = subst (λ (t : Option (List ℕ)). IsTrue (is_some t)) (sym is) refl in
+    check_reads-sum (found_view told mounted) facts (come yes) (below yes (come yes))
+    ∙ ap (λ (t : Option (List ℕ)). check_reads (found_view t mounted)) is
+    ∙ ap (λ (l : TableLayout). check_reads (told_view (sector_in (Some image)) l)) (same-layout mounted clusters records upcase long)

@@ -1,0 +1,41 @@
+use Rattle.std.proofs.Common.{◌+◌, IsTrue, length, subst, arith}
+use Rattle.std.proofs.lemmas.Result.{err_from_is_err_and}
+use Rattle.mft_table.specs.Mft.{MftReads, view}
+use Rattle.mft_table.proofs.StreamReads.{MftReads-then}
+use Rattle.file_record.proofs.ReadLaws.{view-kept}
+use Rattle.check_records.specs.Reads.{files_reads, values_reads}
+use Rattle.check_records.specs.Views.{HasComeTo}
+use Rattle.check_records.proofs.CheckLaws.{come-on}
+use Rattle.check_records.proofs.RefusalLaws.{IsRefusalIf-weaker}
+use Rattle.check_records.proofs.check.check_files.Goals as goal
+
+pub returns-in_err-stored-clause-err : goal.returns-in_err-stored-clause-err
+returns-in_err-stored-clause-err g c =
+    let v = view g.D.Disk c.args.mft.now in
+    let first = c.in_ok-decide_files.ensures.reads in
+    let p = err_from_is_err_and c.from_residual-in_err-stored.result c.from_residual-in_err-stored.ensures.1 in
+    let refused = rw (first.stage.only_reads.image, first.mounted) at c.in_err-stored.ensures.err in
+    rw (p.1, p.2) (IsRefusalIf-weaker v _ (λ told come. come-on v 1 5 c.args.facts.now come (c.in_ok-decide_files.ensures.ok told come)) refused)
+
+pub returns-clause-ok : goal.returns-clause-ok
+returns-clause-ok g c = λ told come.
+    let first = c.in_ok-decide_files.ensures.reads in
+    let later = rw (first.stage.only_reads.image, first.mounted) at c.in_ok-stored.ensures.ok in
+    later told (come-on (view g.D.Disk c.args.mft.now) 1 5 c.args.facts.now come (c.in_ok-decide_files.ensures.ok told come))
+
+pub returns-clause-stored : goal.returns-clause-stored
+returns-clause-stored g c = λ told come.
+    let first = c.in_ok-decide_files.ensures.reads in
+    let later = rw (first.stage.only_reads.image, first.mounted) at c.in_ok-stored.ensures.stored in
+    later told (come-on (view g.D.Disk c.args.mft.now) 1 5 c.args.facts.now come (c.in_ok-decide_files.ensures.ok told come))
+
+pub returns-clause-fetched : goal.returns-clause-fetched
+returns-clause-fetched g c = λ told come.
+    let first = c.in_ok-decide_files.ensures.reads in
+    let v = view g.D.Disk c.args.mft.now in
+    let files = files_reads (length c.args.facts.now.spread.listed.items) (length c.args.facts.now.spread.extensions.items) in
+    let same = view-kept g.D.Disk c.args.mft.now c.decide_files.new.mft _ first in
+    let later = subst (λ w. IsTrue w.told → HasComeTo w 5 c.args.facts.now
+    → MftReads g.D.Disk c.decide_files.new.mft c.read_stored.new.mft (values_reads w)) same c.in_ok-stored.ensures.fetched in
+    MftReads-then g.D.Disk c.args.mft.now c.decide_files.new.mft c.read_stored.new.mft files (values_reads v) (files + values_reads v) first
+    (later told (come-on v 1 5 c.args.facts.now come (c.in_ok-decide_files.ensures.ok told come))) (omega arith)
