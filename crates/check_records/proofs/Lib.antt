@@ -15,3 +15,5 @@ pub mod PlacedLaws
 pub mod HeldFileLaws
 pub mod JudgeLaws
 pub mod RightListLaws
+pub mod AllFilesLaws
+pub mod ListedLoopLaws

@@ -254,6 +254,20 @@ fn long_lines_are_read(rt: HostRuntime) -> Result<(), AllocError> {
     Ok(())
 }
 
+// The longest line: 12 bytes in front of 69,988 digits.
+#[test]
+fn the_longest_line_is_read(rt: HostRuntime) -> Result<(), AllocError> {
+    let mut line = Vec::from_slice(rt.alloc(), b"write /ff 0 ")?;
+    line.resize(70_000, b'4')?;
+    match parse_line(rt.alloc(), &line) {
+        Ok((0, Command::Write { bytes, .. })) => {
+            assert_eq!(rt; bytes.as_slice().len(), 34_994);
+        }
+        _ => assert!(rt; false, "no write"),
+    }
+    Ok(())
+}
+
 fn name(alloc: Global, units: &[u16]) -> Result<Name, AllocError> {
     Ok(Name::from_vec(Vec::from_slice(alloc, units)?))
 }
@@ -433,6 +447,19 @@ fn a_long_answer_is_printed(rt: HostRuntime) -> Result<(), Fail> {
     assert_eq!(rt; out.bytes().len(), 131_081);
     assert!(rt; out.bytes().starts_with(b"data 4141"));
     assert!(rt; out.bytes().ends_with(b"4141\nok\n"));
+    Ok(())
+}
+
+// 131,081 bytes are handed on in pieces of 4,096, so in 33 calls: a sink that fails at call 34 takes them all.
+#[test]
+fn a_long_answer_has_few_pieces(rt: HostRuntime) -> Result<(), Fail> {
+    let bytes = Octets::from_vec(vec![in rt.alloc(); 0x41; 65_536]?);
+    let mut out = MemSink::new(rt.alloc(), Vec::from_slice(rt.alloc(), &[34])?);
+    out.reserve(200_000)?;
+    assert_eq!(rt;
+        print_reply(&Reply::Ok(Answer::Data(bytes)), &mut out),
+        Ok(())
+    );
     Ok(())
 }
 

@@ -1,7 +1,5 @@
 //! A tree that is laid out by hand: a root, and in it a directory `d` with as many files as are put into it, or beside it a
 //! file `f`.
-ghost use Rattle.std.specs.Prelude.{IsTrue};
-ghost use Rattle.tree_model.specs.Staging.{is_built};
 
 use super::*;
 use std::alloc::Global;
@@ -155,11 +153,17 @@ fn facts() -> PlainFacts {
     }
 }
 
-fn answered(alloc: Global, command: &Command) -> Result<Answer, Fail>
-    requires { IsTrue (is_built command.now) }
-{
-    let tree = tree_with_file(alloc)?;
-    Ok(tree.answer(alloc, &[], &facts(), command)?)
+// What the machine answers over that tree.
+fn answered(alloc: Global, command: &Command) -> Result<Answer, Fail> {
+    let mut machine = PlainMachine {
+        tree: tree_with_file(alloc)?,
+        opens: Vec::new(alloc),
+        now: 0,
+    };
+    match machine.step(alloc, &facts(), 0, command) {
+        Reply::Ok(answer) => Ok(answer),
+        _ => Err(Fail::from(No::Unbuilt)),
+    }
 }
 
 #[test]
@@ -312,16 +316,13 @@ fn a_dos_name_is_not_listed(rt: HostRuntime) -> Result<(), Fail> {
     Ok(())
 }
 
+// Between `d` and `f`.
 #[test]
-fn a_step_of_the_machine(rt: HostRuntime) -> Result<(), Fail> {
-    let mut machine = PlainMachine {
-        tree: tree_with_file(rt.alloc())?,
-        opens: Vec::new(rt.alloc()),
-        now: 0,
-    };
-    let path = path(rt.alloc(), "F")?;
-    let reply = machine.step(rt.alloc(), &facts(), 1, &Command::Attr { path });
-    assert!(rt; matches!(reply, Reply::Ok(Answer::Attr(0x20))));
+fn a_link_is_put_in_order(rt: HostRuntime) -> Result<(), Fail> {
+    let mut tree = tree_with_file(rt.alloc())?;
+    tree.add_link(link(rt.alloc(), 5, "e", 28)?)?;
+    assert_eq!(rt; tree.links.len(), 3);
+    assert!(rt; tree.links[1].name.as_slice() == [0x65].as_slice());
     Ok(())
 }
 

@@ -1,5 +1,5 @@
 -- Files without an attribute list that have more than one record, by the extension records that are noted.
-use Rattle.std.proofs.Common.{◌≡◌, ◌≢◌, ◌↔◌, ◌<◌, ◌+◌, ◌==◌, ◌&&◌, ℕ, Bool, true, false, cond, List, [], ◌∷◌, ◌++◌, Option, Some, None, IfSome, IsTrue, IsSomeAnd, length, take, get_or, refl, sym, ap, subst, inl, inr, ◌∙◌, arith}
+use Rattle.std.proofs.Common.{◌≡◌, ◌≢◌, ◌<◌, ◌+◌, ℕ, true, false, cond, List, [], ◌∷◌, Option, Some, None, IfSome, IsTrue, IsSomeAnd, length, take, get_or, refl, sym, ap, subst, inl, inr, ◌∙◌, arith}
 use Rattle.std.specs.Prelude.{All, not}
 use Rattle.std.specs.List.{Contains, list_any, range_with_len}
 use Rattle.std.proofs.lemmas.Bool.{and_parts, cases_Bool}
@@ -8,14 +8,12 @@ use Rattle.std.proofs.lemmas.List.Elements.{All-append, All-cons, All-contains, 
 use Rattle.volume_def.specs.Files.{Record, Records, file_of, is_base}
 use Rattle.volume_def.specs.ListsClause.{is_list}
 use Rattle.volume_def.proofs.MemberLaws.{All-from_Contains, Contains-flat_map, Contains-from_flat_map, Contains-head, Contains-nil, Contains-only, Contains-range}
-use Rattle.volume_facts.specs.declared.heads.Head.{Head}
 use Rattle.volume_facts.specs.declared.spread.Extension.{Extension}
 use Rattle.volume_facts.specs.Extents.{IsAlone}
-use Rattle.volume_facts.specs.Heads.{EndsAtCount, IsHeadIn}
+use Rattle.volume_facts.specs.Heads.{EndsAtCount}
 use Rattle.volume_facts.specs.Least.{IsLeastFailing, least_of}
 use Rattle.volume_facts.specs.Spread.{extension_in, extensions_below}
 use Rattle.volume_facts.specs.Unlisted.{MeetsAlone, is_unlisted}
-use Rattle.volume_facts.proofs.AttributesLaws.{is_base-zero}
 use Rattle.volume_facts.proofs.InOrderLaws.{based-here}
 use Rattle.volume_facts.proofs.LeastLaws.{least-same, least-two}
 use Rattle.volume_facts.proofs.ReferenceLaws.{if_some, inside-used}
@@ -53,22 +51,6 @@ extension-noted records n m r lt at other =
     Contains-flat_map (λ k. extension_in k (records.record_at k)) (range_with_len 0 n) m one (Contains-range 0 n m (omega arith) (omega arith))
     (subst (λ o. Contains (extension_in m o) one) (sym at)
     (subst (λ b. Contains (cond b [] (one ∷ [])) one) (sym other) (Contains-head one [])))
-
--- What is noted of a header tells whether the record is a base record without a list.
-
-pub head-unlisted : (o : Option Record) (head : Head) (b : Bool) → IsHeadIn o (Some head) → b ≡ ((head.base == 0) && not head.listed)
-    → IsTrue b ↔ IsSomeAnd o (λ r. IsTrue (is_unlisted r))
-head-unlisted None head b is e = absurd is
-head-unlisted (Some r) head b is e =
-    let same : b ≡ is_unlisted r =
-    e ∙ ap (λ x. x && not head.listed) (sym (is_base-zero r head.base is.base)) ∙ ap (λ x. is_base r && not x) is.listed in (
-      λ t. sym same ∙ t,
-      λ t. same ∙ t,
-    )
-
-pub unused-unlisted : (o : Option Record) → IsHeadIn o None → IsSomeAnd o (λ r. IsTrue (is_unlisted r)) → ⊥
-unused-unlisted None is h = h
-unused-unlisted (Some r) is h = absurd is
 
 -- Of the first records that are noted none belongs to another file without a list.
 

@@ -3,12 +3,11 @@ use Rattle.std.proofs.Common.{◌≡◌, ◌↔◌, ◌<◌, ◌/◌, ◌%◌, �
 use Rattle.std.specs.declared.cmp.Ordering.TheVariants.{Equal}
 use Rattle.std.specs.Cmp.{IsStrictWeakOrder, IsTotalOrder}
 use Rattle.std.specs.List.Sorted.{IsPermutation, IsSortedBy}
-use Rattle.std.specs.Ordering.{is_eq, is_lt, nat_cmp, on, then_cmp}
+use Rattle.std.specs.Ordering.{is_eq, is_lt}
 use Rattle.std.proofs.lemmas.Cmp.{nat_cmp_total, nat_list_cmp_total, on_total, then_total}
 use Rattle.std.proofs.lemmas.List.{length-map, get_or-map}
 use Rattle.std.proofs.lemmas.List.Sorted.{IsPermutation-map, ranks_by, sorted_far}
 use Rattle.ntfs_def.specs.AttributeList.{ListEntry}
-use Rattle.ntfs_def.specs.KeyOrder.{by_numbers}
 use Rattle.ntfs_def.specs.Record.{Reference, reference_in}
 use Rattle.ntfs_def.proofs.KeyOrderLaws.{numbers_is_eq}
 use Rattle.volume_def.specs.SameItems.{SameItems}

@@ -1,5 +1,5 @@
 -- The parts of a file, by the extension records that are noted.
-use Rattle.std.proofs.Common.{◌≡◌, ◌≢◌, ◌<◌, ◌≤◌, ◌+◌, ◌==◌, ◌++◌, ℕ, zero, suc, Bool, true, false, cond, List, [], ◌∷◌, Option, Some, None, filter, refl, sym, ap, subst, inl, inr, ◌∙◌, arith, append-nil}
+use Rattle.std.proofs.Common.{◌≡◌, ◌≢◌, ◌<◌, ◌+◌, ◌==◌, ◌++◌, ℕ, zero, suc, Bool, true, cond, List, [], ◌∷◌, Option, Some, None, filter, refl, sym, ap, subst, inl, inr, ◌∙◌, arith, append-nil}
 use Rattle.std.specs.Prelude.{All, IsSomeAnd, nat_lt}
 use Rattle.std.specs.List.{Contains, count_by, flat_map, range_with_len, sum_by}
 use Rattle.std.specs.List.Sorted.{IsPermutation}
@@ -15,7 +15,7 @@ use Rattle.volume_def.proofs.MemberLaws.{All-from_Contains, Contains-from_filter
 use Rattle.volume_def.proofs.SameItemsLaws.{SameItems-append, SameItems-same, SameItems-trans, count-append}
 use Rattle.volume_facts.specs.declared.spread.Extension.{Extension}
 use Rattle.volume_facts.specs.Spread.{AreExtensionsOf, extension_in, extensions_below, extensions_of, parts_from}
-use Rattle.volume_facts.proofs.AloneLaws.{IsExtension, extension-held}
+use Rattle.volume_facts.proofs.AloneLaws.{extension-held}
 use Rattle.volume_facts.proofs.InOrderLaws.{based-here}
 use Rattle.volume_facts.proofs.RecordsLaws.{flat_map-range_more}
 

@@ -131,7 +131,8 @@ no-list view n r here none each = elim (cases_lt 0 (count_by is_list (parts (rec
   | inr few ↦ omega arith
 ]
 
-alone-in : (view : VolumeView) (n : ℕ) (o : Option Record) → (records_of view).record_at n ≡ o
+-- a base record without a list stands alone
+pub alone-in : (view : VolumeView) (n : ℕ) (o : Option Record) → (records_of view).record_at n ≡ o
     → IfSome o (λ r. IsTrue (is_base r) → HasRightList view n (parts (records_of view) n))
     → IfSome o (λ r. IsTrue (is_unlisted r) → IsAlone (records_of view) n)
 alone-in view n None here meets = tt

@@ -1,9 +1,6 @@
-use Rattle.std.proofs.Common.{◌≡◌, length, ap, subst, arith}
-use Rattle.std.specs.Prelude.{IfNone, IfSome}
-use Rattle.ntfs_def.specs.Fixup.{opened_of}
+use Rattle.std.proofs.Common.{length, ap, arith}
 use Rattle.mft_table.specs.declared.mounted.Mounted.{Mounted}
 use Rattle.mft_table.specs.Mft.{view}
-use Rattle.file_record.specs.Records.{IsRecordOf}
 use Rattle.file_record.proofs.RecordLaws.{IsRecordOf-inside}
 use Rattle.file_record.proofs.held.Held.read.Goals as goal
 

@@ -1,4 +1,4 @@
-use Rattle.std.proofs.Common.{◌≡◌, true, false, Some, None, take, ◌∙◌, subst, arith}
+use Rattle.std.proofs.Common.{◌≡◌, true, false, None, take, ◌∙◌, subst, arith}
 use Rattle.std.proofs.lemmas.List.{take_all}
 use Rattle.volume_facts.specs.Least.{IsLeastFailing}
 use Rattle.volume_facts.specs.Spread.{extensions_below}
