@@ -1,6 +1,8 @@
 //! Whole runs of the program, over a disk, a script and a sink in memory.
 ghost use Rattle.std.specs.Prelude.{◌≡◌, ◌%◌, vec_len};
 
+mod check;
+mod damage;
 mod edge;
 mod format;
 mod label;
