@@ -1,7 +1,7 @@
 -- The clause on lists over all files: those without a list, and those with one.
-use Rattle.std.proofs.Common.{◌≡◌, ◌<◌, ◌≤◌, ◌==◌, ℕ, Bool, true, false, List, Option, Some, None, IfSome, IsSomeAnd, IsTrue, refl, sym, ap, subst, inl, inr, ◌∙◌, arith}
-use Rattle.std.specs.Prelude.{All, count_by, not}
-use Rattle.std.specs.List.{Contains, list_any}
+use Rattle.std.proofs.Common.{◌≡◌, ◌<◌, ℕ, false, List, Option, Some, None, IfSome, IsSomeAnd, IsTrue, refl, sym, ap, subst, inl, inr, arith}
+use Rattle.std.specs.Prelude.{count_by, not}
+use Rattle.std.specs.List.{list_any}
 use Rattle.std.proofs.lemmas.Bool.{and_from, cases_Bool, cases_lt}
 use Rattle.volume_def.specs.Files.{Part, Record, is_base, parts, record_on, records_of}
 use Rattle.volume_def.specs.ListsClause.{HasRightList, IsRightList, MeetsLists, is_list}
@@ -15,7 +15,7 @@ use Rattle.volume_facts.specs.Unlisted.{MeetsAlone, is_unlisted}
 use Rattle.volume_facts.proofs.InOrderLaws.{alone-parts}
 use Rattle.volume_facts.proofs.LeastLaws.{least-same, least-two}
 use Rattle.volume_facts.proofs.UnlistedLaws.{alone-in, none-among}
-use Rattle.check_records.specs.Listed.{IsListedFile, MeetsListedLists}
+use Rattle.check_records.specs.Listed.{MeetsListedLists}
 
 -- no part is a list: of such a file nothing but its one record is asked
 right-without : (view : VolumeView) (f : ℕ) (all : List Part) → list_any is_list all ≡ false → IsAlone (records_of view) f

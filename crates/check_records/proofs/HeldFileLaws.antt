@@ -1,7 +1,6 @@
 -- The parts of a file whose records are held, one record after another, and what is asked of them.
-use Rattle.std.proofs.Common.{◌≡◌, ◌↔◌, ◌<◌, ◌≤◌, ◌+◌, ◌*◌, ◌-◌, ◌++◌, ◌^◌, ◌==◌, ℕ, Bool, true, false, not, List, [], ◌∷◌, Option, Some, None, IfSome, IsTrue, length, map, take, get_or, filter, refl, sym, ap, subst, inl, inr, ◌∙◌, arith, append-nil, append_assoc, length-append}
+use Rattle.std.proofs.Common.{◌≡◌, ◌↔◌, ◌<◌, ◌≤◌, ◌+◌, ◌-◌, ◌++◌, ◌^◌, ℕ, Bool, not, List, [], ◌∷◌, Option, Some, None, IfSome, IsTrue, length, map, take, get_or, refl, sym, ap, subst, ◌∙◌, arith, append-nil, append_assoc, length-append}
 use Rattle.std.specs.Prelude.{All, IfNone, count_by}
-use Rattle.std.specs.List.{flat_map}
 use Rattle.std.specs.Option.{option_to_list}
 use Rattle.std.proofs.lemmas.List.{length-map, map-append, take_more}
 use Rattle.std.proofs.lemmas.List.Concat.{flat_map-append}
@@ -10,9 +9,8 @@ use Rattle.std.proofs.lemmas.List.Filters.{length-filter_both}
 use Rattle.std.proofs.lemmas.List.Folds.{length-flat_map-take}
 use Rattle.std.proofs.lemmas.List.Sums.{length-filter}
 use Rattle.ntfs_def.specs.Attribute.{Attribute, attributes}
-use Rattle.ntfs_def.specs.AttributeList.{ListEntry}
 use Rattle.ntfs_def.specs.Fixup.{opened_of}
-use Rattle.volume_def.specs.Files.{Part, Record, Records, part_of, parts_in, record_of, record_on, records_of}
+use Rattle.volume_def.specs.Files.{Part, Records, part_of, parts_in, record_of, record_on, records_of}
 use Rattle.volume_def.specs.ListsClause.{entries_in, entry_in, is_list, listed_parts}
 use Rattle.volume_def.specs.View.{VolumeView}
 use Rattle.volume_def.proofs.RecordLaws.{parts_in-own}
@@ -23,7 +21,7 @@ use Rattle.file_record.specs.Held.{parts_of}
 use Rattle.file_record.specs.Records.{IsRecordOf}
 use Rattle.file_record.proofs.RecordLaws.{IsBlockOf-record, IsRecordOf-at, IsRecordOf-inside}
 use Rattle.volume_facts.specs.declared.extents.Extent.{Extent}
-use Rattle.volume_facts.specs.Extents.{Outline, outline_of, outlined}
+use Rattle.volume_facts.specs.Extents.{outline_of, outlined}
 use Rattle.volume_facts.specs.declared.spread.Extension.{Extension}
 use Rattle.volume_facts.specs.Lists.{NamesEach}
 use Rattle.volume_facts.specs.Spread.{parts_from}

@@ -1,15 +1,14 @@
 -- What the list of a file and its extents are judged by, from the records that are held.
-use Rattle.std.proofs.Common.{◌≡◌, ◌↔◌, ◌<◌, ◌≤◌, ◌+◌, ◌*◌, ◌++◌, ℕ, Bool, not, List, length, map, IsTrue, refl, sym, ap, subst, ◌∙◌, arith, length-append}
-use Rattle.std.specs.Prelude.{All, count_by}
+use Rattle.std.proofs.Common.{◌≡◌, ◌↔◌, ◌<◌, ◌≤◌, ◌++◌, ℕ, Bool, not, List, length, map, IsTrue, sym, subst, arith, length-append}
+use Rattle.std.specs.Prelude.{count_by}
 use Rattle.std.proofs.lemmas.List.{length-map}
-use Rattle.std.proofs.lemmas.List.Sums.{length-filter}
 use Rattle.ntfs_def.specs.AttributeList.{ListEntry, list_entries}
 use Rattle.ntfs_def.specs.Record.{Reference}
 use Rattle.volume_def.specs.Files.{Part, Records, parts, records_of}
 use Rattle.volume_def.specs.ListsClause.{entries_in, entry_in, is_list, listed_parts}
 use Rattle.volume_def.specs.SameItems.{SameItems}
 use Rattle.volume_def.specs.View.{VolumeView}
-use Rattle.volume_def.proofs.SameItemsLaws.{SameItems-filter, SameItems-length, SameItems-map, SameItems-same, SameItems-sym, SameItems-trans}
+use Rattle.volume_def.proofs.SameItemsLaws.{SameItems-filter, SameItems-length, SameItems-map, SameItems-sym, SameItems-trans}
 use Rattle.file_record.specs.declared.held.Held.{Held}
 use Rattle.file_record.specs.Held.{parts_of}
 use Rattle.file_record.proofs.NamedLaws.{named-few}

@@ -1,5 +1,5 @@
 -- A list of a record, as its numbers and its text tell it: whether it lies whole on the volume, and its value.
-use Rattle.std.proofs.Common.{Vec, Global, ◌≡◌, ◌↔◌, ◌<◌, ◌≤◌, ◌*◌, ℕ, false, List, [], Option, Some, None, IfSome, IsSome, length, map, refl, sym, ap, subst, ◌∙◌, arith}
+use Rattle.std.proofs.Common.{Vec, Global, ◌≡◌, ◌<◌, ◌≤◌, ◌*◌, ℕ, false, List, [], Option, Some, None, IfSome, IsSome, length, map, refl, sym, ap, subst, ◌∙◌, arith}
 use Rattle.std.specs.Prelude.{All, IfNone, unwrap_or}
 use Rattle.std.specs.List.{range_with_len}
 use Rattle.std.specs.Option.{option_map}
@@ -8,7 +8,7 @@ use Rattle.ntfs_def.specs.declared.sizes.Sizes.{Sizes}
 use Rattle.ntfs_def.specs.Attribute.{Attribute, Body, ExtentHeader, NonResident, Resident, extent_of, run_text_of, value_of}
 use Rattle.ntfs_def.specs.Flags.{is_packed}
 use Rattle.ntfs_def.specs.Runs.{runs_in, spot_of, total_clusters}
-use Rattle.volume_def.specs.Files.{Clusters, Content, Part, content_extent, content_of, content_runs, part_of}
+use Rattle.volume_def.specs.Files.{Clusters, Part, content_extent, content_of, content_runs, part_of}
 use Rattle.volume_def.specs.ListsClause.{LiesOnVolume, list_value}
 use Rattle.volume_def.specs.Table.{IsOnVolume, cluster_bytes}
 use Rattle.volume_def.specs.Values.{value_byte}

@@ -1,15 +1,13 @@
 -- A file with a list, by its base record as it is held: its list is right exactly where it is placed and names each part.
-use Rattle.std.proofs.Common.{◌≡◌, ◌<◌, ◌≤◌, ◌==◌, ◌||◌, ℕ, Bool, true, cond, List, [], ◌∷◌, Option, Some, None, IfSome, IsSomeAnd, IsTrue, length, map, refl, sym, ap, subst, inl, inr, ◌∙◌, arith}
-use Rattle.std.specs.Prelude.{All, count_by, find}
+use Rattle.std.proofs.Common.{◌≡◌, ◌==◌, ◌||◌, ℕ, Bool, true, cond, List, [], ◌∷◌, Some, None, IsSomeAnd, IsTrue, refl, sym, ap, subst, inl, inr, ◌∙◌, arith}
+use Rattle.std.specs.Prelude.{find}
 use Rattle.std.specs.List.{Contains, list_any}
 use Rattle.std.proofs.lemmas.Bool.{cases_Bool}
 use Rattle.std.proofs.lemmas.List.Elements.{All-contains, All-weaker}
 use Rattle.ntfs_def.specs.declared.kinds.TheConstants.{ATTRIBUTE_LIST}
 use Rattle.ntfs_def.specs.Attribute.{Attribute, attributes}
-use Rattle.ntfs_def.specs.AttributeList.{HasListShape, list_entries}
-use Rattle.volume_def.specs.Files.{Part, Record, file_of, is_base, part_of, parts, record_of, record_on, records_of}
+use Rattle.volume_def.specs.Files.{Record, file_of, is_base, part_of, parts, record_of, record_on, records_of}
 use Rattle.volume_def.specs.ListsClause.{HasRightList, IsRightList, entries_in, is_list, list_value}
-use Rattle.volume_def.specs.SameItems.{SameItems}
 use Rattle.volume_def.specs.ShapeClause.{MeetsShape}
 use Rattle.volume_def.specs.View.{VolumeView}
 use Rattle.volume_def.proofs.FindLaws.{count-some, find-found, same_passing}

@@ -131,7 +131,8 @@ fn check_files<D: Disk>(
         + (6 * (view D.Disk mft.old).layout.count + bytes_reads (view D.Disk mft.old).layout)) }
     ensures fetched { OnOk result (IsTrue (view D.Disk mft.old).told → HasComeTo (view D.Disk mft.old) 1 facts.now
         → MftReads D.Disk mft.old mft.new
-        (files_reads (length facts.now.spread.listed.items) (length facts.now.spread.extensions.items) + values_reads (view D.Disk mft.old))) }
+        (files_reads (length facts.now.spread.listed.items) (length facts.now.spread.extensions.items)
+        + values_reads (view D.Disk mft.old))) }
 {
     decide_files(alloc, mft, facts)?;
     let stored = read_stored(alloc, mft, facts)?;
@@ -163,7 +164,8 @@ pub fn check_records<D: Disk>(alloc: Global, disk: &mut D) -> Result<Mounted, Mo
     ensures stands { IfOk result (StandsOn (D.size disk.old)) }
     ensures records { IfOk result (λ mounted. 24 ≤ length mounted.records) }
     ensures err { IfErr result (IsRefusal (D.now disk.old)) }
-    ensures faults { MatchResult result (λ _. D.faults disk.new ≡ D.faults disk.old) (CountsMount (D.faults disk.old) (D.faults disk.new)) }
+    ensures faults { MatchResult result (λ _. D.faults disk.new ≡ D.faults disk.old)
+        (CountsMount (D.faults disk.old) (D.faults disk.new)) }
     ensures only_reads { (reads : ℕ) × DiskReads D.Disk disk.old disk.new reads }
     ensures fetched { IfOk result (λ mounted. WhereTold (D.now disk.old) (λ image.
         D.fetched disk.new ≤ D.fetched disk.old + check_reads (volume_in image mounted))) }

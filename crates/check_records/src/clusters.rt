@@ -71,7 +71,8 @@ fn decide_cluster_bits<D: Disk>(
     into: &mut [u8],
 ) -> Result<Option<u64>, MountNo>
     ensures first { IfOk result (λ first. IsTrue (view D.Disk mft.old).told → HasComeTo (view D.Disk mft.old) 5 facts.now
-        → (view D.Disk mft.old).layout.clusters ≤ 8 * length into.old → IsLeastFailing (MeetsClusterBits (view D.Disk mft.old)) first) }
+        → (view D.Disk mft.old).layout.clusters ≤ 8 * length into.old
+        → IsLeastFailing (MeetsClusterBits (view D.Disk mft.old)) first) }
     ensures bytes { IfOk result (λ first. IsTrue (view D.Disk mft.old).told → HasComeTo (view D.Disk mft.old) 5 facts.now
         → IfNone first (IsPieceOf (value_on (view D.Disk mft.old) (cluster_bits (view D.Disk mft.old))) 0 into.new)) }
     ensures err { IfErr result IsFault }
@@ -80,7 +81,8 @@ fn decide_cluster_bits<D: Disk>(
     ensures reads { MftReads D.Disk mft.old mft.new (2 * (view D.Disk mft.old).layout.count
         + pieces_touched 0 (length into.old)) }
     ensures fetched { HeadsNote (records_of (view D.Disk mft.old)) (view D.Disk mft.old).layout.count facts.now.heads
-        → MftReads D.Disk mft.old mft.new (2 * records_of_file (view D.Disk mft.old) CLUSTER_BITMAP + pieces_touched 0 (length into.old)) }
+        → MftReads D.Disk mft.old mft.new (2 * records_of_file (view D.Disk mft.old) CLUSTER_BITMAP
+        + pieces_touched 0 (length into.old)) }
 {
     let file = load_file(alloc, mft, &facts.heads, CLUSTER_BITMAP)?;
     let Some(first) = find_bitmap(alloc, &file)? else {

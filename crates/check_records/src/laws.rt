@@ -16,7 +16,8 @@ pub fn one_answer()
         → (k ≡ l) × (m ≡ n) }
     ensures accepted { (image : List ℕ) (k n : ℕ) → IsAccepted (sector_in (Some image)) (boot_sector image) (length image / 512)
         → ¬ (IsRefusal (Some image) (Refused k n)) }
-    ensures taken { (image : List ℕ) (tables : Tables) (k n : ℕ) → HoldsTables image tables → ¬ (IsRefusal (Some image) (Refused k n)) }
+    ensures taken { (image : List ℕ) (tables : Tables) (k n : ℕ) → HoldsTables image tables
+        → ¬ (IsRefusal (Some image) (Refused k n)) }
     ensures one_table { (image : List ℕ) (one other : Tables) → HoldsTables image one → HoldsTables image other
         → (one.geometry ≡ other.geometry) × (mounted_layout one ≡ mounted_layout other) × (one.clusters ≡ other.clusters)
         × (one.records ≡ other.records) × (one.upcase ≡ other.upcase) }

@@ -77,7 +77,8 @@ fn is_placed(
     clusters: u64,
     bytes: u64,
 ) -> Result<bool, AllocError>
-    ensures { IfOk result (λ placed. (view : VolumeView) (n : ℕ) → view.layout.clusters ≡ clusters → cluster_bytes view.layout ≡ bytes
+    ensures { IfOk result (λ placed. (view : VolumeView) (n : ℕ)
+        → view.layout.clusters ≡ clusters → cluster_bytes view.layout ≡ bytes
         → IsTrue placed ↔ IfSome (content_extent (part_of n (attribute_of list.now)).content)
         (LiesOnVolume view (part_of n (attribute_of list.now)))) }
 {
@@ -111,7 +112,8 @@ fn value_of<D: Disk>(
     list: &AttrView<'_>,
 ) -> Result<Option<Vec<u8>>, MountNo>
     ensures value { IfOk result (λ found. IsTrue (view D.Disk mft.old).told → (n : ℕ)
-        → IfSome (content_extent (part_of n (attribute_of list.now)).content) (LiesOnVolume (view D.Disk mft.old) (part_of n (attribute_of list.now)))
+        → IfSome (content_extent (part_of n (attribute_of list.now)).content)
+        (LiesOnVolume (view D.Disk mft.old) (part_of n (attribute_of list.now)))
         → IfSome found (λ value. (length value.items ≤ 262144)
         × (value.items ≡ list_value (view D.Disk mft.old) (part_of n (attribute_of list.now))))) }
     ensures long { IfOk result (λ found. (volume : VolumeView) (n : ℕ)
@@ -150,7 +152,8 @@ fn placed_value<D: Disk>(
     ensures some { IfOk result (λ found. IsTrue (view D.Disk mft.old).told → (n : ℕ) → IfSome found (λ value.
         IsPlacedList (view D.Disk mft.old) (part_of n (attribute_of list.now))
         × (value.items ≡ list_value (view D.Disk mft.old) (part_of n (attribute_of list.now))))) }
-    ensures none { IfOk result (λ found. (n : ℕ) → IfNone found (¬ (IsPlacedList (view D.Disk mft.old) (part_of n (attribute_of list.now))))) }
+    ensures none { IfOk result (λ found. (n : ℕ)
+        → IfNone found (¬ (IsPlacedList (view D.Disk mft.old) (part_of n (attribute_of list.now))))) }
     ensures err { IfErr result IsFault }
     ensures faults { MatchResult result (λ _. faults_of D.Disk mft.new ≡ faults_of D.Disk mft.old)
         (CountsMount (faults_of D.Disk mft.old) (faults_of D.Disk mft.new)) }
@@ -362,7 +365,8 @@ pub fn judge_file<D: Disk>(
     ensures whole { IfOk result (λ verdict. IsTrue (view D.Disk mft.old).told → ((n : ℕ) → MeetsShape (view D.Disk mft.old) n)
         → IsListedFile (view D.Disk mft.old) f → AreExtensionsOf (records_of (view D.Disk mft.old)) f extensions.now
         → HasRightList (view D.Disk mft.old) f (parts (records_of (view D.Disk mft.old)) f)
-        → IsTrue verdict.whole ↔ AreWholeParts (cluster_bytes (view D.Disk mft.old).layout) f (parts (records_of (view D.Disk mft.old)) f)) }
+        → IsTrue verdict.whole
+        ↔ AreWholeParts (cluster_bytes (view D.Disk mft.old).layout) f (parts (records_of (view D.Disk mft.old)) f)) }
     ensures err { IfErr result IsFault }
     ensures faults { MatchResult result (λ _. faults_of D.Disk mft.new ≡ faults_of D.Disk mft.old)
         (CountsMount (faults_of D.Disk mft.old) (faults_of D.Disk mft.new)) }

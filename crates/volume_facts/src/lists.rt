@@ -122,7 +122,8 @@ pub fn add_wanted<'b>(
     wanted: &mut Vec<EntryView<'b>>,
 ) -> Result<(), AllocError>
     ensures { OnOk result ((records : Records) → n < 2 ^ 48 → records.record_at n ≡ Some (record_of n (viewed_block view.now))
-        → map entry_shown wanted.new.items ≡ map entry_shown wanted.old.items ++ entries_in records (record_of n (viewed_block view.now)).parts) }
+        → map entry_shown wanted.new.items
+        ≡ map entry_shown wanted.old.items ++ entries_in records (record_of n (viewed_block view.now)).parts) }
 {
     let sequence = view.header().sequence;
     for attribute in view.attributes() {
