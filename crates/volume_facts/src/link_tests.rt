@@ -190,27 +190,17 @@ fn a_long_way_is_walked_once(rt: HostRuntime) -> Result<(), Fail> {
     Ok(())
 }
 
-// Notes record n as base record, or as extension record of 24.
-fn note_plain(alloc: Global, facts: &mut Facts, n: u64, base: u64) -> Result<(), Fail> {
-    let block = record(FILE, 0, base, &[]);
-    facts.note(alloc, n, &RecordView::new(&block)?)?;
-    Ok(())
-}
-
-// Three records of one volume: a base record, an extension record of it, and one that is not in use. A base record has to
-// tell when it was made, and this one does not.
+// An extension record, one that is not in use, and a base record, which has to tell when it was made, as this one does not.
 #[test]
 fn facts_are_noted(rt: HostRuntime) -> Result<(), Fail> {
     let mut facts = Facts::new(rt.alloc(), 4096, 2048, 64)?;
-    for n in 0..24 {
-        facts.note_unused()?;
-    }
-    assert_eq!(rt; facts.first_wrong_record(), None);
-    note_plain(rt.alloc(), &mut facts, 24, reference(24))?;
+    let extension = record(FILE, 0, reference(24), &[]);
+    facts.note(rt.alloc(), 24, &RecordView::new(&extension)?)?;
     facts.note_unused()?;
-    assert_eq!(rt; facts.first_wrong_record(), None);
     assert_eq!(rt; facts.spread.extensions.len(), 1);
-    note_plain(rt.alloc(), &mut facts, 26, 0)?;
+    assert_eq!(rt; facts.first_wrong_record(), None);
+    let base = record(FILE, 0, 0, &[]);
+    facts.note(rt.alloc(), 26, &RecordView::new(&base)?)?;
     assert_eq!(rt; facts.first_wrong_record(), Some(26));
     Ok(())
 }
@@ -230,8 +220,9 @@ fn a_list_names_each_part(rt: HostRuntime) -> Result<(), Fail> {
     let block = record(FILE, 1, 0, &[(5, 3)]);
     let mut wanted = Vec::new(rt.alloc());
     add_wanted(24, &RecordView::new(&block)?, &mut wanted)?;
-    assert!(rt; names_each(rt.alloc(), &list_of_name(reference(24)), &mut wanted)?);
-    assert!(rt; !names_each(rt.alloc(), &list_of_name(24), &mut wanted)?);
-    assert!(rt; !names_each(rt.alloc(), &[], &mut wanted)?);
+    let right = list_of_name(reference(24));
+    assert!(rt; names_each(rt.alloc(), &right, &mut wanted)?);
+    let wrong = list_of_name(24);
+    assert!(rt; !names_each(rt.alloc(), &wrong, &mut wanted)?);
     Ok(())
 }
