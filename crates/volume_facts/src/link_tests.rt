@@ -204,25 +204,3 @@ fn facts_are_noted(rt: HostRuntime) -> Result<(), Fail> {
     assert_eq!(rt; facts.first_wrong_record(), Some(26));
     Ok(())
 }
-
-// A list of one entry: the first name of a record.
-fn list_of_name(holder: u64) -> [u8; 32] {
-    let mut list = [0; 32];
-    put_u32(&mut list, 0x00, 0x30);
-    put_u16(&mut list, 0x04, 32);
-    list[0x07] = 0x1A;
-    put_u64(&mut list, 0x10, holder);
-    list
-}
-
-#[test]
-fn a_list_names_each_part(rt: HostRuntime) -> Result<(), Fail> {
-    let block = record(FILE, 1, 0, &[(5, 3)]);
-    let mut wanted = Vec::new(rt.alloc());
-    add_wanted(24, &RecordView::new(&block)?, &mut wanted)?;
-    let right = list_of_name(reference(24));
-    assert!(rt; names_each(rt.alloc(), &right, &mut wanted)?);
-    let wrong = list_of_name(24);
-    assert!(rt; !names_each(rt.alloc(), &wrong, &mut wanted)?);
-    Ok(())
-}
