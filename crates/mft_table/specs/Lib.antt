@@ -6,3 +6,4 @@ pub mod Mft
 pub mod MftNos
 pub mod Streams
 pub mod MountNos
+pub mod HeldTables
