@@ -8,5 +8,6 @@ pub mod ListedLaws
 pub mod RiseLaws
 pub mod CoverLaws
 pub mod NumbersLaws
+pub mod BaseLaws
 pub mod HoldLaws
 pub mod ReadLaws

@@ -1,3 +1,4 @@
+pub mod Base
 pub mod Held
 pub mod Left
 pub mod Records

@@ -1,6 +1,7 @@
 //! The parts of a file: the records that hold them, read by following the file's attribute list.
 #![tactic(auto)]
 
+mod base;
 mod error;
 mod gather;
 mod held;
@@ -13,6 +14,7 @@ mod record;
 #[cfg(test)]
 mod tests;
 
+pub use base::{BaseFile, load_base};
 pub use error::FileNo;
 pub use held::Held;
 pub use iter::FileAttributes;

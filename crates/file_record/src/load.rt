@@ -81,8 +81,12 @@ fn hold_all<D: Disk>(
     Ok(())
 }
 
-// The records of a file, by its base record.
-fn load_from<D: Disk>(alloc: Global, mft: &mut Mft<'_, D>, base: &Held) -> Result<FileParts, FileNo>
+/// The records of a file, by its base record.
+pub fn load_from<D: Disk>(
+    alloc: Global,
+    mft: &mut Mft<'_, D>,
+    base: &Held,
+) -> Result<FileParts, FileNo>
     requires { IsTrue (view D.Disk mft.old).told → IsHeldBase (view D.Disk mft.old) base.now }
     ensures number { IfOk result (λ file. file_number file ≡ base.now.number) }
     ensures rising { IfOk result (λ file. AreRising (held_of file)) }

@@ -17,13 +17,20 @@ impl FileParts {
     ghost use Rattle.std.specs.Prelude.{◌≡◌, ◌<◌, IsSomeAnd, Some, length, slice_get};
     ghost use Rattle.attr_view.specs.View.{attribute_of};
     ghost use Rattle.volume_def.specs.Files.{part_of};
-    ghost use Rattle.file_record.specs.Held.{attributes_held, file_number, parts_held};
+    ghost use Rattle.file_record.specs.Held.{attributes_held, file_number, held_of, parts_held};
 
     /// The number of the file: that of its base record.
     pub fn number(&self) -> u64
         ensures { result ≡ file_number self.now }
     {
         self.number
+    }
+
+    /// The records that hold them, by rising number.
+    pub fn records(&self) -> &[Held]
+        ensures { result.now ≡ held_of self.now }
+    {
+        &self.held
     }
 
     /// How many parts are held.

@@ -1,24 +1,20 @@
-use Rattle.std.proofs.Common.{◌≤◌, ◌-◌, ℕ, subst, arith}
+use Rattle.std.proofs.Common.{◌-◌, subst, arith}
 use Rattle.std.specs.Prelude.{All, IfNone, IfOk, IsTrue}
-use Rattle.volume_def.specs.Readable.{IsFile, IsReadableVolume, WhereReadable}
+use Rattle.volume_def.specs.Readable.{IsFile, WhereReadable}
 use Rattle.volume_def.specs.View.{VolumeView}
 use Rattle.mft_table.specs.Mft.{MftReads, view}
 use Rattle.mft_table.proofs.StreamReads.{MftReads-none, MftReads-then}
 use Rattle.file_record.specs.Held.{AreParts, IsCurrent, held_of}
 use Rattle.file_record.specs.Records.{IsRecordOf, file_reads}
-use Rattle.file_record.proofs.NumbersLaws.{records-some}
+use Rattle.file_record.proofs.BaseLaws.{least-reads}
 use Rattle.file_record.proofs.ReadLaws.{view-kept}
 use Rattle.file_record.proofs.RecordLaws.{IsRecordOf-file}
 use Rattle.file_record.proofs.parts.FileParts.load.Goals as goal
 
--- a file takes two reads at least
-least : (view : VolumeView) (f : ℕ) → IsReadableVolume view → IsFile view f → 2 ≤ file_reads view f
-least view f readable file = omega (arith, records-some view f (IsRecordOf-file view f readable file))
-
 pub returns-in_err-count-clause-fetched : goal.returns-in_err-count-clause-fetched
 returns-in_err-count-clause-fetched g c told readable file =
     MftReads-then g.D.Disk c.args.mft.now c.read_record_of.new.mft c.read_record_of.new.mft 2 0 _ c.read_record_of.ensures.reads
-    (MftReads-none g.D.Disk c.read_record_of.new.mft) (omega (arith, least (view g.D.Disk c.args.mft.now) c.args.number readable file))
+    (MftReads-none g.D.Disk c.read_record_of.new.mft) (omega (arith, least-reads (view g.D.Disk c.args.mft.now) c.args.number readable file))
 
 pub returns-in-Some-clause-held : goal.returns-in-Some-clause-held
 returns-in-Some-clause-held g c =
@@ -43,7 +39,7 @@ returns-in-Some-clause-fetched g c told readable file =
     subst (λ (v : VolumeView). WhereReadable v (IsFile v c.args.number → MftReads g.D.Disk c.read_record_of.new.mft c.load_from.new.mft (file_reads v c.args.number - 2)))
     (view-kept g.D.Disk c.args.mft.now c.read_record_of.new.mft _ c.read_record_of.ensures.reads) c.load_from.ensures.fetched told readable file in
     MftReads-then g.D.Disk c.args.mft.now c.read_record_of.new.mft c.load_from.new.mft 2 _ _ c.read_record_of.ensures.reads rest
-    (omega (arith, least volume c.args.number readable file))
+    (omega (arith, least-reads volume c.args.number readable file))
 
 pub returns-in-None-clause-parts : goal.returns-in-None-clause-parts
 returns-in-None-clause-parts g c told readable file =
@@ -54,4 +50,4 @@ returns-in-None-clause-parts g c told readable file =
 pub returns-in-None-clause-fetched : goal.returns-in-None-clause-fetched
 returns-in-None-clause-fetched g c told readable file =
     MftReads-then g.D.Disk c.args.mft.now c.read_record_of.new.mft c.read_record_of.new.mft 2 0 _ c.read_record_of.ensures.reads
-    (MftReads-none g.D.Disk c.read_record_of.new.mft) (omega (arith, least (view g.D.Disk c.args.mft.now) c.args.number readable file))
+    (MftReads-none g.D.Disk c.read_record_of.new.mft) (omega (arith, least-reads (view g.D.Disk c.args.mft.now) c.args.number readable file))
