@@ -70,7 +70,7 @@ held-some file wanted a vcn is = found-some _ _ a (among-held file wanted vcn) i
 
 -- What its header tells.
 
-both-true : (b c : Bool) → (b && c) ≡ true → (b ≡ true) × (c ≡ true)
+pub both-true : (b c : Bool) → (b && c) ≡ true → (b ≡ true) × (c ≡ true)
 both-true true true is = (refl, refl)
 both-true true false is = cc
 both-true false c is = cc

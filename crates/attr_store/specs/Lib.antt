@@ -1,1 +1,3 @@
 pub mod Sought
+pub mod Index
+pub mod IndexRecords

@@ -1,9 +1,16 @@
-//! Values of attributes, over all extents of a file.
+//! Values of attributes, over all extents of a file, and the indexes of a file with their records.
 #![tactic(auto)]
 
 mod extents;
+mod first;
+mod index;
+mod index_record;
+mod laws;
 mod read;
 #[cfg(test)]
 mod tests;
 
+pub use index::{FoundIndex, Stored, find_index};
+pub use index_record::read_index_record;
+pub use laws::index_laws;
 pub use read::read_value;
