@@ -3,7 +3,7 @@ use Rattle.std.proofs.Common.{◌≡◌, ◌/◌, ◌<◌, ℕ, List, length, So
 use Rattle.std.proofs.lemmas.Option.{none-some}
 use Rattle.vol_disk.specs.Contents.{sector_in}
 use Rattle.ntfs_def.specs.Boot.{boot_sector}
-use Rattle.volume_def.specs.Sound.{Clause, IsAccepted, IsRefused, Meets, clause_number, rank_of, told_view}
+use Rattle.volume_def.specs.Sound.{Clause, HasLayout, HoldBelow, IsAccepted, IsRefused, Meets, clause_number, rank_of, told_view}
 use Rattle.volume_def.specs.Sound.Clause.{Shape, Attributes, Lists, Extents, Owners, ClusterBits, RecordBits, References, Links, CaseTable, Indexes, Version, MirrorPlace, Mirror, Limits}
 use Rattle.volume_def.specs.Table.{TableLayout}
 use Rattle.volume_def.proofs.OneTable.{layout-exact}
@@ -12,7 +12,7 @@ use Rattle.mft_table.specs.declared.mounted.Mounted.{Mounted}
 use Rattle.mft_table.specs.declared.mount.MountNo.TheVariants.{Refused}
 use Rattle.mft_table.specs.Mounted.{mounted_layout}
 use Rattle.check_records.specs.Refusals.{IsDecided, IsRefusal}
-use Rattle.check_records.specs.Tables.{AreStored, HoldsTables, volume_in}
+use Rattle.mft_table.specs.HeldTables.{AreStored, HoldsTables, volume_in}
 
 -- a clause that is decided here, by its number
 rank-decided : (clause : Clause) → IsDecided (clause_number clause) → rank_of clause < 10
@@ -47,29 +47,39 @@ pub IsAccepted-not_refused : (image : List ℕ) (k n : ℕ)
 IsAccepted-not_refused image k n x y =
     IsAccepted-only (sector_in (Some image)) (boot_sector image) (length image / 512) k n x (y image refl).1
 
-not-refused : (image : List ℕ) (mounted : Mounted) (k n : ℕ) → HoldsTables image mounted → IsDecided k
+not-refused : (image : List ℕ) (layout : TableLayout) (k n : ℕ)
+    → HasLayout (sector_in (Some image)) (boot_sector image) (length image / 512) layout
+    → HoldBelow (told_view (sector_in (Some image)) layout) 10 → IsDecided k
     → IsRefused (sector_in (Some image)) (boot_sector image) (length image / 512) k n → ⊥
-not-refused image mounted k n holds decided (inl boot) = none-some n (sym holds.table.boot ∙ boot.1)
-not-refused image mounted k n holds decided (inr (inl none)) = none.broken (mounted_layout mounted) holds.table.clause
-not-refused image mounted k n holds decided (inr (inr later)) =
+not-refused image layout k n has below decided (inl boot) = none-some n (sym has.boot_clause ∙ boot.1)
+not-refused image layout k n has below decided (inr (inl none)) = none.broken layout has.table_clause
+not-refused image layout k n has below decided (inr (inr later)) =
     let disk = sector_in (Some image) in
-    let same : mounted_layout mounted ≡ later.layout =
-    layout-exact disk (boot_sector image) (mounted_layout mounted) later.layout holds.table.clause later.has.table_clause in
+    let same : layout ≡ later.layout =
+    layout-exact disk (boot_sector image) layout later.layout has.table_clause later.has.table_clause in
     let low : rank_of later.clause < 10 = rank-decided later.clause (subst IsDecided (sym later.number) decided) in
     let meets : Meets later.clause (told_view disk later.layout) n =
-    subst (λ (w : TableLayout). Meets later.clause (told_view disk w) n) same (holds.clauses later.clause low n) in
+    subst (λ (w : TableLayout). Meets later.clause (told_view disk w) n) same (below later.clause low n) in
     later.first.broken meets
 
-pub HoldsTables-not_refused : (image : List ℕ) (mounted : Mounted) (k n : ℕ) → HoldsTables image mounted
+-- an image with a layout that meets the clauses that are decided here
+pub HoldBelow-not_refused : (image : List ℕ) (layout : TableLayout) (k n : ℕ)
+    → HasLayout (sector_in (Some image)) (boot_sector image) (length image / 512) layout
+    → HoldBelow (told_view (sector_in (Some image)) layout) 10 → IsRefusal (Some image) (Refused k n) → ⊥
+HoldBelow-not_refused image layout k n has below refused =
+    let told = refused image refl in not-refused image layout k n has below told.0 told.1
+
+pub HoldsTables-not_refused : (image : List ℕ) (mounted : Mounted) (k n : ℕ) → HoldsTables 10 image mounted
     → IsRefusal (Some image) (Refused k n) → ⊥
-HoldsTables-not_refused image mounted k n holds refused =
-    let told = refused image refl in not-refused image mounted k n holds told.0 told.1
+HoldsTables-not_refused image mounted k n holds =
+    HoldBelow-not_refused image (mounted_layout mounted) k n
+    (record { boot_clause = holds.table.boot; table_clause = holds.table.clause }) holds.clauses
 
 -- two tables of one image are the same
-pub HoldsTables-exact : (image : List ℕ) (one other : Mounted) → HoldsTables image one → HoldsTables image other
+pub HoldsTables-exact : (m n : ℕ) (image : List ℕ) (one other : Mounted) → HoldsTables m image one → HoldsTables n image other
     → (one.geometry ≡ other.geometry) × (mounted_layout one ≡ mounted_layout other) × (one.clusters ≡ other.clusters)
     × (one.records ≡ other.records) × (one.upcase ≡ other.upcase)
-HoldsTables-exact image one other x y =
+HoldsTables-exact m n image one other x y =
     let disk = sector_in (Some image) in
     let layouts : mounted_layout other ≡ mounted_layout one =
     layout-exact disk (boot_sector image) (mounted_layout other) (mounted_layout one) y.table.clause x.table.clause in

@@ -3,8 +3,8 @@ use Rattle.std.proofs.Common.{◌≡◌, ◌↔◌, ◌<◌, ◌+◌, ◌==◌, 
 use Rattle.std.specs.Prelude.{nat_lt}
 use Rattle.std.specs.List.{AllPairs, Contains, list_any}
 use Rattle.std.specs.List.Sorted.{IsPermutation}
-use Rattle.std.proofs.lemmas.Bool.{and_from, and_parts, cases_Bool, eqb-true, lt-ltb}
-use Rattle.std.proofs.lemmas.List.{take_more}
+use Rattle.std.proofs.lemmas.Bool.{and_from, and_parts, cases_Bool, cases_lt, eqb-true, lt-ltb, true≢false}
+use Rattle.std.proofs.lemmas.List.{get_or-take, get_or_default, length-take-le, take_more}
 use Rattle.std.proofs.lemmas.List.Elements.{Contains-append_left, Contains-get_or, Contains-push, Contains-push_cases}
 use Rattle.volume_def.specs.Files.{Record, is_base, parts, record_on, records_of}
 use Rattle.volume_def.specs.ListsClause.{HasRightList, MeetsLists, is_list}
@@ -21,6 +21,10 @@ use Rattle.volume_facts.specs.Unlisted.{MeetsListed}
 use Rattle.volume_facts.proofs.LeastLaws.{least-same, least-two}
 use Rattle.volume_facts.proofs.ListedLaws.{listed-held, listed-noted, listed-rising}
 use Rattle.check_records.specs.Listed.{IsListedFile, MeetsListedLists}
+
+-- a verdict is not both
+pub not-both : (right : Bool) → IsTrue right → IsFalse right → ⊥
+not-both right t f = true≢false (sym t ∙ f)
 
 -- Of the numbers seen, the least that fails.
 abbrev pub IsLeastSeen : (ℕ → Type 0) → List ℕ → Option ℕ → Type 0
@@ -61,6 +65,26 @@ pub least-more : (P : ℕ → Type 0) (numbers : List ℕ) (i : ℕ) (first next
 least-more P numbers i first next right inside decided same fails before =
     subst (λ xs. IsLeastSeen P xs next) (sym (take_more numbers i 0 inside))
     (least-next P (take i numbers) (get_or numbers i 0) first next right decided same fails before)
+
+-- Numbers that rise: where those before are right, one that fails is the least of all.
+pub least-rising : (P : ℕ → Type 0) (numbers : List ℕ) (i : ℕ) → AllPairs (λ a b. a < b) numbers → i < length numbers
+    → IsLeastSeen P (take i numbers) None → ¬ (P (get_or numbers i 0)) → IsLeastSeen P numbers (Some (get_or numbers i 0))
+least-rising P numbers i rising inside before bad = (
+  λ right. bad (right (Contains-get_or numbers i 0 inside)),
+  λ m lt (k, l, is). elim (cases_lt k i) [
+    | inl early ↦
+        before m (k, omega (arith, length-take-le i numbers (omega arith)), get_or-take i numbers k m early ∙ is)
+    | inr late ↦
+        let same : get_or numbers k 0 ≡ m = get_or_default numbers k 0 m l ∙ is in
+        elim (cases_lt i k) [
+          | inl behind ↦ let more = rising i k 0 behind l in absurd (omega arith)
+          | inr here ↦
+              let one : k ≡ i = omega arith in
+              let low : get_or numbers k 0 ≡ get_or numbers i 0 = ap (λ j. get_or numbers j 0) one in
+              absurd (omega arith)
+        ]
+  ],
+)
 
 -- Extension records of a file that comes later are left.
 
@@ -110,9 +134,8 @@ right-asked W (Some r) listed meets = meets listed.0
 -- What the note tells.
 
 module _ (view : VolumeView) (spread : SpreadFiles) (note : SpreadNote (records_of view) view.layout.count spread) where
-  pub noted-rising : (i j : ℕ) → i < j → j < length spread.listed.items → get_or spread.listed.items i 0 < get_or spread.listed.items j 0
-  noted-rising i j lt inside =
-      subst (AllPairs (λ a b. a < b)) (sym note.listed) (listed-rising (records_of view) view.layout.count) i j 0 lt inside
+  pub noted-rising : AllPairs (λ a b. a < b) spread.listed.items
+  noted-rising = subst (AllPairs (λ a b. a < b)) (sym note.listed) (listed-rising (records_of view) view.layout.count)
 
   pub noted-listed : (i : ℕ) → i < length spread.listed.items → IsListedFile view (get_or spread.listed.items i 0)
   noted-listed i inside =
@@ -168,11 +191,14 @@ lists-decided view f own right judged told shape listed its =
     let it = judged told shape listed its in
     (λ t _. it.0 t, λ meets. it.1 (meets listed))
 
+pub lists-met : (view : VolumeView) (f : ℕ) → MeetsLists view f → MeetsListedLists view f
+lists-met view f meets listed = right-asked (HasRightList view f (parts (records_of view) f)) (record_on view f) listed meets
+
 pub extents-decided : (view : VolumeView) (f : ℕ) (own : List Extension) (whole : Bool) → JudgesExtents view f own whole → IsTrue view.told
     → ((n : ℕ) → MeetsShape view n) → IsListedFile view f → AreExtensionsOf (records_of view) f own → MeetsLists view f
     → IsTrue whole ↔ MeetsListed (records_of view) (cluster_bytes view.layout) f
 extents-decided view f own whole judged told shape listed its meets =
     let W = AreWholeParts (cluster_bytes view.layout) f (parts (records_of view) f) in
     let o = record_on view f in
-    let it = judged told shape listed its (right-asked (HasRightList view f (parts (records_of view) f)) o listed meets) in
+    let it = judged told shape listed its (lists-met view f meets listed) in
     (λ t. answered-by W o (it.0 t), λ m. it.1 (asked W o listed m))

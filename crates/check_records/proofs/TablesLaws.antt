@@ -13,7 +13,7 @@ use Rattle.mft_table.specs.Mounted.{StandsOn, mounted_layout}
 use Rattle.mft_table.specs.Tables.{layout_on}
 use Rattle.check_records.specs.Reads.{check_reads, files_reads, values_reads}
 use Rattle.check_records.specs.Refusals.{IsRefusal, IsRefusalIf}
-use Rattle.check_records.specs.Tables.{AreStored, HasTable, HoldsTables, volume_in}
+use Rattle.mft_table.specs.HeldTables.{AreStored, HasTable, HoldsTables, volume_in}
 use Rattle.check_records.specs.Views.{HasComeTo}
 use Rattle.check_records.proofs.CheckLaws.{check_reads-sum}
 use Rattle.check_records.proofs.RefusalLaws.{IsRefusal-later, IsRefusalOf-if}
@@ -43,7 +43,7 @@ stands-stored sectors mounted clusters records upcase stands all long = record {
 
 HoldsTables-stored : (image : List ℕ) (mounted : Mounted) (clusters records : List Bool) (upcase : List ℕ) → HasTable image mounted
     → length records ≡ length mounted.records → HoldBelow (volume_in image mounted) 10
-    → AreStored (volume_in image mounted) clusters records upcase → HoldsTables image (stored_tables mounted clusters records upcase)
+    → AreStored (volume_in image mounted) clusters records upcase → HoldsTables 10 image (stored_tables mounted clusters records upcase)
 HoldsTables-stored image mounted clusters records upcase table long below stored =
     let disk = sector_in (Some image) in
     let layout = same-layout mounted clusters records upcase long in
@@ -63,7 +63,7 @@ pub tables-checked : (told : Option (List ℕ)) (mounted : Mounted) (facts : Fac
     → (IsTrue (is_some told) → HasComeTo (found_view told mounted) 1 facts)
     → (IsTrue (is_some told) → HasComeTo (found_view told mounted) 1 facts → HoldBelow (found_view told mounted) 10)
     → (IsTrue (is_some told) → HasComeTo (found_view told mounted) 1 facts → AreStored (found_view told mounted) clusters records upcase)
-    → WhereTold told (λ image. HoldsTables image (stored_tables mounted clusters records upcase))
+    → WhereTold told (λ image. HoldsTables 10 image (stored_tables mounted clusters records upcase))
 tables-checked told mounted facts clusters records upcase table long come below stored = λ image is.
     let yes : IsTrue (is_some told) = subst (λ (t : Option (List ℕ)). IsTrue (is_some t)) (sym is) refl in
     HoldsTables-stored image mounted clusters records upcase (table image is) long

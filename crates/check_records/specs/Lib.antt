@@ -1,7 +1,6 @@
 pub mod Clauses
 pub mod Refusals
 pub mod Views
-pub mod Tables
 pub mod Unnamed
 pub mod Reads
 pub mod Listed

@@ -118,10 +118,7 @@ pub fn read_case_table<D: Disk>(
     let mut bytes = empty_table(alloc)?;
     let right = read_table(alloc, mft, facts, &mut bytes)?;
     if !right {
-        return Err(MountNo::Refused {
-            clause: Clause::CaseTable.number(),
-            number: UPCASE,
-        });
+        return Err(Clause::CaseTable.refusal(UPCASE));
     }
     load_table(alloc, &bytes)
 }

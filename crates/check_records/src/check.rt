@@ -10,7 +10,7 @@ ghost use Rattle.mft_table.specs.Mounted.{StandsOn, mounted_layout};
 ghost use Rattle.check_records.specs.Decided.{AreDecided};
 ghost use Rattle.check_records.specs.Reads.{bytes_reads, check_reads, files_reads, values_reads};
 ghost use Rattle.check_records.specs.Refusals.{IsRefusal, IsRefusalIf};
-ghost use Rattle.check_records.specs.Tables.{AreStored, HoldsTables, volume_in};
+ghost use Rattle.mft_table.specs.HeldTables.{AreStored, HoldsTables, volume_in};
 ghost use Rattle.check_records.specs.Views.{HasComeTo};
 
 use crate::by_facts::{
@@ -160,7 +160,7 @@ fn with_stored(mounted: Mounted, stored: Stored) -> Mounted
 ///
 /// `Refused` with the first of these clauses that fails and the least number that breaks it, `Device` and `Memory`.
 pub fn check_records<D: Disk>(alloc: Global, disk: &mut D) -> Result<Mounted, MountNo>
-    ensures tables { IfOk result (λ mounted. WhereTold (D.now disk.old) (λ image. HoldsTables image mounted)) }
+    ensures tables { IfOk result (λ mounted. WhereTold (D.now disk.old) (λ image. HoldsTables 10 image mounted)) }
     ensures stands { IfOk result (StandsOn (D.size disk.old)) }
     ensures records { IfOk result (λ mounted. 24 ≤ length mounted.records) }
     ensures err { IfErr result (IsRefusal (D.now disk.old)) }

@@ -3,6 +3,8 @@ ghost use Rattle.std.specs.Prelude.{◌≡◌};
 ghost use Rattle.volume_def.specs.Sound.{clause_number};
 ghost use Rattle.check_records.specs.Clauses.{named};
 
+use mft_table::MountNo;
+
 /// A clause of the volume definition, in their order.
 #[derive(Clone, Copy, Debug, PartialEq, Eq)]
 pub enum Clause {
@@ -34,6 +36,16 @@ impl Clause {
             Clause::References => 10,
             Clause::Links => 11,
             Clause::CaseTable => 13,
+        }
+    }
+
+    /// The refusal of a volume by this clause, and the number that breaks it.
+    pub fn refusal(self, number: u64) -> MountNo
+        ensures { result ≡ MountNo.Refused (clause_number (named self)) number }
+    {
+        MountNo::Refused {
+            clause: self.number(),
+            number,
         }
     }
 }

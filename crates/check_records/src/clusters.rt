@@ -120,10 +120,7 @@ pub fn read_cluster_bits<D: Disk>(
     let clusters = mft.mounted().geometry.clusters;
     let mut bytes = vec![in alloc; 0u8; clusters.div_ceil(8) as usize]?;
     if let Some(number) = decide_cluster_bits(alloc, mft, facts, &mut bytes)? {
-        return Err(MountNo::Refused {
-            clause: Clause::ClusterBits.number(),
-            number,
-        });
+        return Err(Clause::ClusterBits.refusal(number));
     }
     load_bits(alloc, &bytes, clusters)
 }

@@ -23,9 +23,6 @@ pub fn refuse_first(clause: Clause, first: Option<u64>) -> Result<(), MountNo>
 {
     match first {
         None => Ok(()),
-        Some(number) => Err(MountNo::Refused {
-            clause: clause.number(),
-            number,
-        }),
+        Some(number) => Err(clause.refusal(number)),
     }
 }

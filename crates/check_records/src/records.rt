@@ -122,10 +122,7 @@ pub fn read_record_bits<D: Disk>(
     let records = mft.mounted().records.count();
     let mut bytes = vec![in alloc; 0u8; records.div_ceil(8) as usize]?;
     if let Some(number) = decide_record_bits(alloc, mft, facts, &mut bytes)? {
-        return Err(MountNo::Refused {
-            clause: Clause::RecordBits.number(),
-            number,
-        });
+        return Err(Clause::RecordBits.refusal(number));
     }
     load_bits(alloc, &bytes, records)
 }

@@ -73,10 +73,7 @@ pub fn scan_records<D: Disk>(
         blocks.read_block(stage, n, &mut block)?;
         let right = note_block(alloc, &mut facts, n, &mut block)?;
         if !right {
-            return Err(MountNo::Refused {
-                clause: Clause::Shape.number(),
-                number: n,
-            });
+            return Err(Clause::Shape.refusal(n));
         }
     }
     Ok(facts)

@@ -11,7 +11,7 @@ ghost use Rattle.mft_table.specs.Mounted.{StandsOn, mounted_layout};
 ghost use Rattle.mft_table.specs.Tables.{table_layout};
 ghost use Rattle.volume_facts.specs.Facts.{FactsNote};
 ghost use Rattle.check_records.specs.Refusals.{IsRefusal};
-ghost use Rattle.check_records.specs.Tables.{HasTable};
+ghost use Rattle.mft_table.specs.HeldTables.{HasTable};
 ghost use Rattle.check_records.specs.Views.{IsOfVolume, stage_view};
 
 use crate::scan::scan_records;

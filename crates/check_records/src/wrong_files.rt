@@ -21,7 +21,7 @@ use std::alloc::Global;
 use vol_disk::Disk;
 use volume_facts::{Extension, Facts, SpreadFiles, least_of, split_file};
 
-/// The least base records that break the clauses on lists and on extents.
+/// The least base record that breaks the clause on lists and, where none does, the one that breaks the clause on extents.
 #[derive(Clone, Copy, Debug)]
 pub struct WrongFiles {
     pub lists: Option<u64>,
@@ -40,7 +40,8 @@ fn first_with(first: Option<u64>, f: u64, right: bool) -> Option<u64>
     }
 }
 
-// The least of the files with a list that break the clauses.
+// The least of the files with a list that break the clauses. They come in rising number, so the first wrong list that is
+// read is the least: no file behind it is read, and the clause on extents is not asked where a list is wrong.
 fn first_wrong_listed<D: Disk>(
     alloc: Global,
     mft: &mut Mft<'_, D>,
@@ -60,19 +61,26 @@ fn first_wrong_listed<D: Disk>(
 {
     let sorted = spread.by_file(alloc)?;
     let mut rest: &[Extension] = &sorted;
-    let mut lists = None;
     let mut extents = None;
     for f in &spread.listed {
         let (own, behind) = split_file(rest, *f);
         rest = behind;
         let verdict = judge_file(alloc, mft, *f, own)?;
-        lists = first_with(lists, *f, verdict.listed);
+        if !verdict.listed {
+            return Ok(WrongFiles {
+                lists: Some(*f),
+                extents: None,
+            });
+        }
         extents = first_with(extents, *f, verdict.whole);
     }
-    Ok(WrongFiles { lists, extents })
+    Ok(WrongFiles {
+        lists: None,
+        extents,
+    })
 }
 
-/// The least base records that break the clauses on lists and on extents.
+/// The least base record that breaks the clause on lists and, where none does, the one that breaks the clause on extents.
 ///
 /// # Errors
 ///

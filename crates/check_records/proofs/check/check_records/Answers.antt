@@ -3,11 +3,11 @@ use Rattle.std.specs.Prelude.{is_some}
 use Rattle.vol_disk.specs.Contents.{WhereTold}
 use Rattle.mft_table.specs.declared.mounted.Mounted.{Mounted}
 use Rattle.std.proofs.lemmas.Result.{err_from_is_err_and}
-use Rattle.check_records.specs.Tables.{HoldsTables}
+use Rattle.mft_table.specs.HeldTables.{HoldsTables}
 use Rattle.vol_disk.specs.Reading.{DiskReads}
 use Rattle.vol_stage.specs.Staged.{disk_of, image}
 use Rattle.check_records.specs.Reads.{bytes_reads, check_reads, files_reads, values_reads}
-use Rattle.check_records.specs.Tables.{volume_in}
+use Rattle.mft_table.specs.HeldTables.{volume_in}
 use Rattle.check_records.specs.Views.{HasComeTo}
 use Rattle.mft_table.specs.Mft.{MftReads, view}
 use Rattle.mft_table.specs.Mounted.{mounted_layout}
@@ -68,7 +68,7 @@ returns-clause-tables g c =
     let same : c.with_stored.result ≡ stored_tables scanned.mounted stored.clusters stored.records stored.upcase =
     c.with_stored.ensures ∙ ap (λ (m : Mounted). stored_tables m stored.clusters stored.records stored.upcase)
     (c.into_parts-stage.ensures.mounted ∙ c.check_files-checked.ensures.reads.mounted ∙ c.resume-mft.ensures.mounted) in
-    subst (λ (m : Mounted). WhereTold told (λ image. HoldsTables image m)) (sym same)
+    subst (λ (m : Mounted). WhereTold told (λ image. HoldsTables 10 image m)) (sym same)
     (tables-checked told scanned.mounted scanned.facts stored.clusters stored.records stored.upcase table long come below its)
 
 pub returns-clause-only_reads : goal.returns-clause-only_reads

@@ -8,21 +8,22 @@ use Rattle.mft_table.specs.declared.mounted.Mounted.{Mounted}
 use Rattle.mft_table.specs.Mft.{view}
 use Rattle.volume_facts.specs.BitRanges.{IsPieceOf}
 use Rattle.volume_facts.specs.Least.{IsLeastFailing}
-use Rattle.check_records.specs.Refusals.{IsFirstBroken}
+use Rattle.check_records.specs.Refusals.{IsRefusalIf}
+use Rattle.check_records.specs.Views.{HasComeTo}
 use Rattle.check_records.proofs.OrderLaws.{HoldBelow-more, IsFirstBroken-of}
 use Rattle.check_records.proofs.ValueLaws.{ok-always, ok-weaker}
 use Rattle.check_records.proofs.clusters.read_cluster_bits.Goals as goal
 
 pub returns-in-Some-clause-err : goal.returns-in-Some-clause-err
-returns-in-Some-clause-err g c told come =
+returns-in-Some-clause-err g c =
     let v = view g.D.Disk c.args.mft.now in
     let clusters = ap (λ (m : Mounted). m.geometry.clusters) c.mounted.ensures in
     let enough : v.layout.clusters ≤ 8 * length c.deref_mut.result.now =
     omega (arith, clusters, c.div_ceil.ensures, c.deref_mut.ensures.len, c.in_ok-bytes.ensures.len) in
+    subst (IsRefusalIf (HasComeTo v 5 c.args.facts.now) v) (sym c.refusal.ensures) (λ told come.
     let first : IsLeastFailing (MeetsClusterBits v) (Some c.in-Some.number) =
     rw c.in-Some.is at c.in_ok-number.ensures.first told come enough in
-    subst (λ k. IsFirstBroken v k c.in-Some.number) (sym c.number.ensures)
-    (IsFirstBroken-of v ClusterBits c.in-Some.number (omega arith) come.before (λ _. first))
+    IsFirstBroken-of v ClusterBits c.in-Some.number (omega arith) come.before (λ _. first))
 
 pub returns-clause-ok : goal.returns-clause-ok
 returns-clause-ok g c = ok-always c.load_bits.result (λ told come.

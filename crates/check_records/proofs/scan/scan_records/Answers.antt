@@ -5,7 +5,7 @@ use Rattle.volume_def.specs.Table.{IsWellFormed}
 use Rattle.mft_table.specs.Tables.{reader_layout}
 use Rattle.mft_table.proofs.StreamReads.{StageReads-then}
 use Rattle.volume_facts.specs.Facts.{FactsNote}
-use Rattle.check_records.specs.Refusals.{IsFirstBroken}
+use Rattle.check_records.specs.Refusals.{IsRefusalOf}
 use Rattle.check_records.specs.Views.{stage_view}
 use Rattle.check_records.proofs.ScanLaws.{record_on-inside, shape-broken, shape-more}
 use Rattle.check_records.proofs.scan.scan_records.Goals as goal
@@ -44,17 +44,18 @@ loop-n-preserved g c =
     }
 
 pub returns-then-not-right-clause-err : goal.returns-then-not-right-clause-err
-returns-then-not-right-clause-err g c = λ told.
+returns-then-not-right-clause-err g c =
     let view = stage_view g.D.Disk c.args.stage.now (reader_layout c.args.blocks.now) in
     let before = c.loop-n.invariant in
     let n = c.loop-n.n in
     let inside : n < view.layout.count = omega arith in
     let no : c.in_ok-right.right ≡ false = c.if-not-right.true in
+    subst (IsRefusalOf view) (sym c.refusal.ensures) (λ told.
     let stored : c.read_block.new.into ≡ view.block n = rw before.reads.only_reads.image at c.in_ok-read_block.ensures.read told in
     let bad : ¬ (IsTrue (is_in_use (view.block n)) → IsWellFormed (view.block n)) =
     λ good. let yes : c.in_ok-right.right ≡ true =
     c.in_ok-right.ensures.shape.1 (subst (λ b. IsTrue (is_in_use b) → IsWellFormed b) (sym stored) good) in absurd (cc) in
-    subst (λ k. IsFirstBroken view k n) (sym c.number.ensures) (shape-broken view n inside (before.shape told) bad)
+    shape-broken view n inside (before.shape told) bad)
 
 pub returns-clause-facts : goal.returns-clause-facts
 returns-clause-facts g c = λ told.

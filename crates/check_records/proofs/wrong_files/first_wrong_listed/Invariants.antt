@@ -1,4 +1,4 @@
-use Rattle.std.proofs.Common.{◌≡◌, ◌+◌, ◌*◌, ◌-◌, ◌<◌, ◌≤◌, ℕ, IsTrue, length, get_or, take}
+use Rattle.std.proofs.Common.{◌≡◌, ◌+◌, ◌*◌, ◌-◌, ◌<◌, ◌≤◌, ℕ, None, IsTrue, length, get_or, take}
 use Rattle.std.specs.List.Sorted.{IsNonDecreasingBy}
 use Rattle.volume_def.specs.Files.{records_of}
 use Rattle.volume_def.specs.ListsClause.{MeetsLists}
@@ -23,7 +23,7 @@ invariant-loop-f g l = record {
       → extensions_of (get_or l.spread.listed.items j 0) l.rest ≡ extensions_of (get_or l.spread.listed.items j 0) l.initial.rest;
   lists : IsTrue (view g.D.Disk l.fn.mft).told → ((n : ℕ) → MeetsShape (view g.D.Disk l.fn.mft) n)
       → SpreadNote (records_of (view g.D.Disk l.fn.mft)) (view g.D.Disk l.fn.mft).layout.count l.spread
-      → IsLeastSeen (MeetsListedLists (view g.D.Disk l.fn.mft)) (take l.f-index l.spread.listed.items) l.lists;
+      → IsLeastSeen (MeetsListedLists (view g.D.Disk l.fn.mft)) (take l.f-index l.spread.listed.items) None;
   extents : IsTrue (view g.D.Disk l.fn.mft).told → ((n : ℕ) → MeetsShape (view g.D.Disk l.fn.mft) n)
       → SpreadNote (records_of (view g.D.Disk l.fn.mft)) (view g.D.Disk l.fn.mft).layout.count l.spread
       → ((n : ℕ) → MeetsLists (view g.D.Disk l.fn.mft) n)
