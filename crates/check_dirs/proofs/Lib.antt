@@ -5,6 +5,16 @@ pub mod DepthLaws
 pub mod WalkLaws
 pub mod MetLaws
 pub mod OrderLaws
-pub mod NameLaws
+pub mod SeenLaws
 pub mod VolumeLaws
 pub mod IndexLaws
+pub mod NoteLaws
+pub mod NotedLaws
+pub mod UnaskedLaws
+pub mod SortedNotes
+pub mod FaultLaws
+pub mod DirectoryLaws
+pub mod DirectoryIndexLaws
+pub mod WantedLaws
+pub mod AnswerLaws
+pub mod FileLaws

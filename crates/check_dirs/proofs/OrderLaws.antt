@@ -1,10 +1,12 @@
 -- The order of entries, by their places and as lists.
-use Rattle.std.proofs.Common.{◌≡◌, ℕ, zero, suc, ◌+◌, ◌<◌, List, [], ◌∷◌, Bool, length, get_or, refl, subst, arith}
+use Rattle.std.proofs.Common.{◌≡◌, ℕ, zero, suc, ◌+◌, ◌<◌, ◌≤◌, List, [], ◌∷◌, Bool, length, get_or, refl, ap, ◌∙◌, subst, inl, inr, arith, below_more}
 use Rattle.std.specs.Prelude.{All, IsTrue}
+use Rattle.std.proofs.lemmas.Bool.{cases_lt}
 use Rattle.std.proofs.lemmas.List.Elements.{All-cons, All-head, All-nil, All-tail}
 use Rattle.std.specs.Cmp.{IsTotalOrder}
+use Rattle.std.specs.Ordering.{ordering_reverse}
 use Rattle.std.specs.declared.cmp.Ordering.{Ordering}
-use Rattle.std.specs.declared.cmp.Ordering.TheVariants.{Less}
+use Rattle.std.specs.declared.cmp.Ordering.TheVariants.{Less, Greater}
 use Rattle.ntfs_def.specs.IndexTree.{Ascends, Each}
 use Rattle.ntfs_def.specs.Node.{IsOwnEntry, Item, has_child, item_in}
 use Rattle.ntfs_def.specs.declared.index.NodeForm.{NodeForm}
@@ -13,7 +15,7 @@ use Rattle.index_tree.specs.Walk.{items_in}
 use Rattle.check_dirs.specs.Entries.{AreValid, AreWhole, IsWhole, Rise, key_at}
 
 -- an element, whatever stands for a missing one
-pub get_or-any : (xs : List (List ℕ)) (i : ℕ) (a b : List ℕ) → i < length xs → get_or xs i a ≡ get_or xs i b
+pub get_or-any : {A : Type 0} (xs : List A) (i : ℕ) (a b : A) → i < length xs → get_or xs i a ≡ get_or xs i b
 get_or-any [] i a b h = absurd (omega arith)
 get_or-any (x ∷ xs) zero a b h = refl
 get_or-any (x ∷ xs) (suc i) a b h = get_or-any xs i a b (omega arith)
@@ -63,3 +65,38 @@ module _ (order : List ℕ → List ℕ → Ordering) (laws : IsTotalOrder order
       let next : suc (i + 1) ≡ suc i + 1 = omega arith in
       subst (λ j. order (key_at (e ∷ f ∷ entries) (suc i)) (key_at (e ∷ f ∷ entries) j) ≡ Less) next
       (rise_from_ascends (f ∷ entries) h.1 i (omega arith))
+
+  each_at : (P : Item → Type 0) (entries : List (List ℕ)) (i : ℕ) → Each P (items_in entries) → i < length entries
+      → P (item_in (get_or entries i []))
+  each_at P [] i h k = absurd (omega arith)
+  each_at P (e ∷ entries) zero h k = h.0
+  each_at P (e ∷ entries) (suc i) h k = each_at P entries i h.1 (omega arith)
+
+  -- of two places the first has the key below
+  pub below_later : (entries : List (List ℕ)) (i j : ℕ) → Ascends order (items_in entries) → i < j → j < length entries
+      → order (key_at entries i) (key_at entries j) ≡ Less
+  below_later [] i j h k l = absurd (omega arith)
+  below_later (e ∷ entries) i zero h k l = absurd (omega arith)
+  below_later (e ∷ entries) zero (suc j) h k l =
+      each_at (λ (y : Item). order (item_in e).key y.key ≡ Less) entries j h.0 (omega arith)
+  below_later (e ∷ entries) (suc i) (suc j) h k l = below_later entries i j h.1 (omega arith) (omega arith)
+
+  -- On the sides of a key that is sought.
+  module _ (entries : List (List ℕ)) (ascends : Ascends order (items_in entries)) (key : List ℕ) (middle : ℕ) (inside : middle < length entries) where
+    pub all_below : order (key_at entries middle) key ≡ Less → (k : ℕ) → k < middle + 1 → order (key_at entries k) key ≡ Less
+    all_below here = below_more (λ k. order (key_at entries k) key ≡ Less) middle
+        (λ k before. laws.trans (key_at entries k) (key_at entries middle) key (below_later entries k middle ascends before inside) here) here
+
+    pub all_above : order (key_at entries middle) key ≡ Greater → (k : ℕ) → middle ≤ k → k < length entries
+        → order (key_at entries k) key ≡ Greater
+    all_above here k from to = elim (cases_lt middle k) [
+      | inl later ↦
+          let under : order key (key_at entries middle) ≡ Less =
+          laws.antisymm key (key_at entries middle) ∙ ap ordering_reverse here in
+          laws.antisymm (key_at entries k) key
+          ∙ ap ordering_reverse (laws.trans key (key_at entries middle) (key_at entries k) under
+          (below_later entries middle k ascends later to))
+      | inr same ↦
+          let e : middle ≡ k = omega arith in
+          subst (λ i. order (key_at entries i) key ≡ Greater) e here
+    ]

@@ -6,7 +6,8 @@ use Rattle.ntfs_def.specs.Node.{Node, Whole, are_short, node_in, scan_node, shor
 use Rattle.index_node.specs.declared.NodeNo.{NodeNo}
 use Rattle.index_node.specs.declared.NodeNo.TheVariants.{Shape, Full}
 use Rattle.index_node.specs.View.{Refuses}
-use Rattle.check_dirs.specs.Records.{Fetches, Records, short_nodes}
+use Rattle.attr_store.specs.IndexRecords.{Fetches}
+use Rattle.check_dirs.specs.Records.{Records, short_nodes}
 
 pub fetched_none : (here : Option (List ℕ)) (found : Bool) (into : List ℕ) → found ≡ false → Fetches here found into → here ≡ None
 fetched_none here true into e h = absurd (let f : true ≡ false = e in cc)

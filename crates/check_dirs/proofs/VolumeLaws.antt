@@ -12,7 +12,9 @@ use Rattle.ntfs_def.specs.FileName.{link_of}
 use Rattle.volume_def.specs.SameItems.{SameItems}
 use Rattle.volume_def.specs.IndexesClause.{HasIndex, IsDirectoryIndex, name_rule, IndexParts, IsIndexRecordAt, KeyRule, index_nodes, stored_index_record}
 use Rattle.volume_def.specs.View.{VolumeView}
-use Rattle.check_dirs.specs.OfVolume.{AreRecordsOf, HasNames, HasParts, directory_parts, links_in}
+use Rattle.attr_store.specs.Index.{HasParts}
+use Rattle.attr_store.specs.IndexRecords.{AreRecordsOf}
+use Rattle.check_dirs.specs.OfVolume.{HasNames, directory_parts, links_in}
 use Rattle.check_dirs.specs.OrderedIndex.{IndexesKind, IsOrderedIndex}
 use Rattle.check_dirs.specs.Records.{Records, short_nodes}
 use Rattle.check_dirs.proofs.GatherLaws.{one_if-same}

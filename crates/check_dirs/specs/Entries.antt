@@ -1,7 +1,7 @@
 -- What is asked of the entries of an index by themselves.
-use Rattle.std.specs.Prelude.{◌≡◌, ◌<◌, ◌+◌, ℕ, List, [], Bool, All, IsTrue, length, slice_index_or}
+use Rattle.std.specs.Prelude.{◌≡◌, ◌≢◌, ◌<◌, ◌+◌, ℕ, List, [], Bool, Option, Some, None, All, IsTrue, length, slice_index_or}
 use Rattle.std.specs.declared.cmp.Ordering.{Ordering}
-use Rattle.std.specs.declared.cmp.Ordering.TheVariants.{Less}
+use Rattle.std.specs.declared.cmp.Ordering.TheVariants.{Less, Equal}
 use Rattle.ntfs_def.specs.FileName.{is_name_key}
 use Rattle.ntfs_def.specs.IndexTree.{Ascends}
 use Rattle.ntfs_def.specs.KeyOrder.{name_order}
@@ -32,8 +32,12 @@ AreValid valid entries = (i : ℕ) → i < length entries → IsTrue (valid (key
 abbrev pub Rise : (List ℕ → List ℕ → Ordering) → List (List ℕ) → Type 0
 Rise order entries = (i : ℕ) → i + 1 < length entries → order (key_at entries i) (key_at entries (i + 1)) ≡ Less
 
--- The entries are whole, and their keys are names that ascend by some table of case, so that no name stands twice.
-pub record AreNames (entries : List (List ℕ)) : Type 0 where
+-- where the key stands on whose side each other one is told, or that it stands nowhere
+abbrev pub IsPlace : (List ℕ → Ordering) → List (List ℕ) → Option ℕ → Type 0
+IsPlace side entries None = (i : ℕ) → i < length entries → side (key_at entries i) ≢ Equal
+IsPlace side entries (Some i) = (i < length entries) × (side (key_at entries i) ≡ Equal)
+
+-- The entries are whole, and their keys are names that ascend by this table of case, so that no name stands twice.
+pub record AreNames (fold : ℕ → ℕ) (entries : List (List ℕ)) : Type 0 where
   pub whole : AreWhole entries
-  pub fold : ℕ → ℕ
   pub ordered : AreOrdered (name_order fold) is_name_key (items_in entries)

@@ -2,5 +2,12 @@ pub mod Records
 pub mod Gathered
 pub mod Entries
 pub mod OrderedIndex
-pub mod Named
+pub mod Seen
 pub mod OfVolume
+pub mod Notes
+pub mod Noted
+pub mod FileNos
+pub mod Volume
+pub mod Directory
+pub mod Files
+pub mod Refusals

@@ -1,5 +1,5 @@
 -- What the records of an index answer.
-use Rattle.std.specs.Prelude.{◌≡◌, ◌<◌, ◌≤◌, ◌+◌, ◌*◌, ℕ, Bool, true, false, List, Option, Some, None, All, IsSome, length}
+use Rattle.std.specs.Prelude.{◌≡◌, ◌<◌, ◌≤◌, ◌+◌, ◌*◌, ℕ, List, Option, All, IsSome, length}
 use Rattle.std.specs.List.{AllPairs}
 use Rattle.std.specs.Option.{option_and_then}
 use Rattle.vol_disk.specs.Count.{Rose}
@@ -19,11 +19,6 @@ CountsNo before after Memory = after ≡ before
 abbrev pub Records : Type 0
 Records = ℕ → Option (List ℕ)
 
--- what a fetch says of the record that it was asked for
-abbrev pub Fetches : Option (List ℕ) → Bool → List ℕ → Type 0
-Fetches here true into = here ≡ Some into
-Fetches here false into = here ≡ None
-
 -- the nodes that the records say, where their entries are short
 abbrev pub short_nodes : NodeForm → Records → Nodes
 short_nodes form records vcn = option_and_then (short_node form) (records vcn)
@@ -33,6 +28,6 @@ abbrev pub HasAtMost : ℕ → Records → Type 0
 HasAtMost n records =
     (vcns : List ℕ) → AllPairs (λ vcn later. vcn < later) vcns → All (λ vcn. IsSome (records vcn)) vcns → length vcns ≤ n
 
--- THE COST of a check: of an index with so many records, eight sectors for each one, and for sixteen more
+-- THE COST of a check: of an index with so many records, nine sectors for each one, and for sixteen more
 abbrev pub CostsCheck : Records → ℕ → ℕ → Type 0
-CostsCheck records before after = (n : ℕ) → HasAtMost n records → after ≤ before + 8 * (n + 16)
+CostsCheck records before after = (n : ℕ) → HasAtMost n records → after ≤ before + 9 * (n + 16)

@@ -48,6 +48,7 @@ pub fn check_index<R: IndexRecords, C: Collation>(
     order: &C,
     root: &[u8],
 ) -> Result<Option<Vec<Octets>>, CheckNo>
+    requires { R.ready records.old }
     ensures index { IfOk result (λ found. WhereTold (R.records records.old) (λ r.
         TellsIndex form (key_rule collation (C.order order.now) (C.valid order.now)) (short_nodes form r) root.now
         (option_map (λ entries. entries.items) found))) }
@@ -56,6 +57,7 @@ pub fn check_index<R: IndexRecords, C: Collation>(
         AreOrdered (C.order order.now) (C.valid order.now) (items_in entries.items))) }
 
     ensures records { R.records records.new ≡ R.records records.old }
+    ensures ready { R.ready records.new }
     ensures only_reads { R.only_reads records.old records.new }
     ensures fetched { WhereTold (R.records records.old) (λ r. CostsCheck r (R.fetched records.old) (R.fetched records.new)) }
 

@@ -15,12 +15,14 @@ pub fn depth_below<R: IndexRecords>(
     child: Option<u64>,
     level: usize,
 ) -> Result<Option<usize>, CheckNo>
+    requires { R.ready records.old }
     ensures depth { IfOk result (λ found. WhereTold (R.records records.old) (λ r. IsDepth (short_nodes form r) child level found)) }
     ensures small { IfOk result (λ found. IfSome found (λ depth. depth ≤ level)) }
 
     ensures records { R.records records.new ≡ R.records records.old }
+    ensures ready { R.ready records.new }
     ensures only_reads { R.only_reads records.old records.new }
-    ensures fetched { R.fetched records.new ≤ R.fetched records.old + 8 * level }
+    ensures fetched { R.fetched records.new ≤ R.fetched records.old + 9 * level }
 
     ensures faults { MatchResult result (λ _. R.faults records.new ≡ R.faults records.old)
         (CountsNo (R.faults records.old) (R.faults records.new)) }

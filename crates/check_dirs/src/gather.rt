@@ -40,6 +40,7 @@ fn gather_tree<R: IndexRecords>(
     met: &mut Met,
     out: &mut Vec<Octets>,
 ) -> Result<bool, CheckNo>
+    requires { R.ready records.old }
     ensures tells { IfOk result (λ good. WhereTold (R.records records.old) (λ r.
         TellsTree good (short_nodes form r) depth child met.old met.new out.old.items out.new.items)) }
     ensures own { OnOk result (Each (IsOwnEntry form) out.old.items → Each (IsOwnEntry form) out.new.items) }
@@ -47,8 +48,9 @@ fn gather_tree<R: IndexRecords>(
     ensures few { WhereTold (R.records records.old) (λ r. AreMet r met.old → AreFew r met.new) }
 
     ensures records { R.records records.new ≡ R.records records.old }
+    ensures ready { R.ready records.new }
     ensures only_reads { R.only_reads records.old records.new }
-    ensures fetched { R.fetched records.new + 8 * length met.old ≤ R.fetched records.old + 8 * length met.new }
+    ensures fetched { R.fetched records.new + 9 * length met.old ≤ R.fetched records.old + 9 * length met.new }
 
     ensures faults { MatchResult result (λ _. R.faults records.new ≡ R.faults records.old)
         (CountsNo (R.faults records.old) (R.faults records.new)) }
@@ -88,6 +90,7 @@ fn gather_node<R: IndexRecords>(
     met: &mut Met,
     out: &mut Vec<Octets>,
 ) -> Result<bool, CheckNo>
+    requires { R.ready records.old }
     ensures tells { IfOk result (λ good. WhereTold (R.records records.old) (λ r.
         TellsNode good (short_nodes (form_of_view node.now) r) depth (node_of_view node.now)
         met.old met.new out.old.items out.new.items)) }
@@ -97,8 +100,9 @@ fn gather_node<R: IndexRecords>(
     ensures few { WhereTold (R.records records.old) (λ r. AreMet r met.old → AreFew r met.new) }
 
     ensures records { R.records records.new ≡ R.records records.old }
+    ensures ready { R.ready records.new }
     ensures only_reads { R.only_reads records.old records.new }
-    ensures fetched { R.fetched records.new + 8 * length met.old ≤ R.fetched records.old + 8 * length met.new }
+    ensures fetched { R.fetched records.new + 9 * length met.old ≤ R.fetched records.old + 9 * length met.new }
 
     ensures faults { MatchResult result (λ _. R.faults records.new ≡ R.faults records.old)
         (CountsNo (R.faults records.old) (R.faults records.new)) }
@@ -122,11 +126,13 @@ pub fn gather<R: IndexRecords>(
     records: &mut R,
     root: &NodeView<'_>,
 ) -> Result<Option<Vec<Octets>>, CheckNo>
+    requires { R.ready records.old }
     ensures tells { IfOk result (λ found. WhereTold (R.records records.old) (λ r.
         TellsWalk (short_nodes (form_of_view root.now) r) (node_of_view root.now) (option_map (λ entries. entries.items) found))) }
     ensures own { IfOk result (λ found. IfSome found (λ entries. Each (IsOwnEntry (form_of_view root.now)) entries.items)) }
 
     ensures records { R.records records.new ≡ R.records records.old }
+    ensures ready { R.ready records.new }
     ensures only_reads { R.only_reads records.old records.new }
     ensures fetched { WhereTold (R.records records.old) (λ r. CostsCheck r (R.fetched records.old) (R.fetched records.new)) }
 

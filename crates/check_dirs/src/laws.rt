@@ -5,7 +5,9 @@ ghost use Rattle.ntfs_def.specs.Node.{Item};
 ghost use Rattle.volume_def.specs.IndexesClause.{HasIndex, IndexParts, IsDirectoryIndex, KeyRule, name_rule};
 ghost use Rattle.volume_def.specs.SameItems.{SameItems};
 ghost use Rattle.volume_def.specs.View.{VolumeView};
-ghost use Rattle.check_dirs.specs.OfVolume.{AreRecordsOf, HasNames, HasParts, directory_parts, links_in};
+ghost use Rattle.attr_store.specs.Index.{HasParts};
+ghost use Rattle.attr_store.specs.IndexRecords.{AreRecordsOf};
+ghost use Rattle.check_dirs.specs.OfVolume.{HasNames, directory_parts, links_in};
 ghost use Rattle.check_dirs.specs.OrderedIndex.{IndexesKind, IsOrderedIndex};
 ghost use Rattle.check_dirs.specs.Records.{Records, short_nodes};
 

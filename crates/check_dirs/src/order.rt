@@ -3,7 +3,7 @@ ghost use Rattle.std.specs.Prelude.{◌≡◌, ◌↔◌, IsTrue, length};
 ghost use Rattle.vol_bytes.specs.Field.{u64_at};
 ghost use Rattle.ntfs_def.specs.Node.{item_in};
 ghost use Rattle.index_tree.specs.Walk.{items_in};
-ghost use Rattle.check_dirs.specs.Entries.{AreOrdered, AreValid, AreWhole, IsWhole, Rise};
+ghost use Rattle.check_dirs.specs.Entries.{AreOrdered, AreValid, AreWhole, IsPlace, IsWhole, Rise};
 
 use collation::Collation;
 use std::cmp::Ordering;
@@ -71,4 +71,24 @@ pub fn are_ordered<C: Collation>(order: &C, entries: &[Octets]) -> bool
         return false;
     }
     rise(order, entries)
+}
+
+/// Where the entry with this key stands, which is sought by halves; `None` where there is none.
+pub fn place_of<C: Collation>(order: &C, entries: &[Octets], key: &[u8]) -> Option<usize>
+    requires whole { AreWhole entries.now }
+    requires ordered { AreOrdered (C.order order.now) (C.valid order.now) (items_in entries.now) }
+    requires key { IsTrue (C.valid order.now key.now) }
+    ensures { IsPlace (λ other. C.order order.now other key.now) entries.now result }
+{
+    let mut low = 0;
+    let mut high = entries.len();
+    'halves: while low < high {
+        let middle = low + (high - low) / 2;
+        match order.compare(key_of(entries[middle].as_slice()), key) {
+            Ordering::Less => low = middle + 1,
+            Ordering::Equal => return Some(middle),
+            Ordering::Greater => high = middle,
+        }
+    }
+    None
 }

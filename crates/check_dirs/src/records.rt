@@ -1,7 +1,8 @@
 //! The index records of one index, of which any may be missing.
 ghost use Rattle.std.specs.Prelude.{◌≡◌, ℕ, ◌+◌, ◌≤◌, List, Option, IfOk, MatchResult};
 ghost use Rattle.vol_disk.specs.Contents.{WhereTold};
-ghost use Rattle.check_dirs.specs.Records.{CountsNo, Fetches};
+ghost use Rattle.attr_store.specs.IndexRecords.{Fetches};
+ghost use Rattle.check_dirs.specs.Records.{CountsNo};
 
 use crate::CheckNo;
 
@@ -23,17 +24,22 @@ pub trait IndexRecords {
     /// The calls of the disk that failed.
     ghost faults: { Self → ℕ };
 
+    /// What its records are told from can be read.
+    ghost ready: { Self → Type 0 };
+
     /// Reads the record at a number, opened; `false` where there is none, and what `into` has then is not said.
     ///
     /// # Errors
     ///
     /// `Device` where the disk failed, and `Memory` where it did not.
     fn fetch(&mut self, vcn: u64, into: &mut [u8; 4096]) -> Result<bool, CheckNo>
+        requires { ready self.old }
         ensures found { IfOk result (λ found. WhereTold (records self.old) (λ record_at. Fetches (record_at vcn) found into.new)) }
 
         ensures records { records self.new ≡ records self.old }
+        ensures ready { ready self.new }
         ensures only_reads { only_reads self.old self.new }
-        ensures fetched { fetched self.new ≤ fetched self.old + 8 }
+        ensures fetched { fetched self.new ≤ fetched self.old + 9 }
 
         ensures faults { MatchResult result (λ _. faults self.new ≡ faults self.old)
             (CountsNo (faults self.old) (faults self.new)) };

@@ -1,7 +1,7 @@
 //! Indexes of ids laid by hand, over a list of records, and the names of a directory.
 
 use super::*;
-use collation::{FileNameOrder, IdOrder};
+use collation::{Collation, FileNameOrder, IdOrder};
 use ntfs_def::NodeForm;
 use std::alloc::Global;
 use std::test::Fail;
@@ -45,6 +45,8 @@ impl IndexRecords for Listed {
 
     ghost faults = { λ it. it.faults };
 
+    ghost ready = { λ it. Unit {0} };
+
     fn fetch(&mut self, vcn: u64, into: &mut [u8; 4096]) -> Result<bool, CheckNo> {
         if self.fails {
             self.faults = self.faults.saturating_add(1);
@@ -79,6 +81,8 @@ impl<'b> IndexRecords for Told<'b> {
     ghost fetched = { λ it. 0 };
 
     ghost faults = { λ it. 0 };
+
+    ghost ready = { λ it. Unit {0} };
 
     fn fetch(&mut self, vcn: u64, into: &mut [u8; 4096]) -> Result<bool, CheckNo> {
         let Some(block) = self.blocks.get(vcn as usize) else {
@@ -192,6 +196,96 @@ fn one_record_twice(rt: HostRuntime) -> Result<(), Fail> {
     Ok(())
 }
 
+// An index of three levels: record 0 under the root, with ten ids, and under it the records 1 to 11, with twelve each.
+#[derive(Drop)]
+struct Levels;
+
+fn put(block: &mut [u8; 4096], at: usize, byte: u8) {
+    if let Some(place) = block.get_mut(at) {
+        *place = byte;
+    }
+}
+
+// A leaf: the entries have 24 bytes each, and the last one 16.
+fn leaf(number: u8) -> [u8; 4096] {
+    let mut block = record();
+    put(&mut block, 0x1C, 0x58);
+    put(&mut block, 0x1D, 0x01);
+    for k in 0..12 {
+        let at = 0x40 + 24 * k as usize;
+        put(&mut block, at + 8, 24);
+        put(&mut block, at + 10, 4);
+        put(&mut block, at + 12, 0);
+        put(&mut block, at + 16, number.wrapping_mul(13).wrapping_add(k));
+    }
+    put(&mut block, 0x168, 16);
+    put(&mut block, 0x16C, 2);
+    block
+}
+
+// The node above the leaves: the entries have 32 bytes each with the number of the leaf, and the last one 24.
+fn branch() -> [u8; 4096] {
+    let mut block = record();
+    put(&mut block, 0x1C, 0x80);
+    put(&mut block, 0x1D, 0x01);
+    put(&mut block, 0x24, 1);
+    for k in 0..10 {
+        let at = 0x40 + 32 * k as usize;
+        for i in 0..32 {
+            put(&mut block, at + i, 0);
+        }
+        put(&mut block, at + 8, 32);
+        put(&mut block, at + 10, 4);
+        put(&mut block, at + 12, 1);
+        put(&mut block, at + 16, 25 + 13 * k);
+        put(&mut block, at + 24, k + 1);
+    }
+    put(&mut block, 0x188, 24);
+    put(&mut block, 0x18C, 3);
+    put(&mut block, 0x190, 11);
+    block
+}
+
+impl IndexRecords for Levels {
+    ghost use Rattle.std.specs.Prelude.{None};
+
+    ghost records = { λ it. None };
+
+    ghost only_reads = { λ old new. Unit {0} };
+
+    ghost fetched = { λ it. 0 };
+
+    ghost faults = { λ it. 0 };
+
+    ghost ready = { λ it. Unit {0} };
+
+    fn fetch(&mut self, vcn: u64, into: &mut [u8; 4096]) -> Result<bool, CheckNo> {
+        if vcn > 11 {
+            return Ok(false);
+        }
+        *into = if vcn == 0 { branch() } else { leaf(vcn as u8) };
+        Ok(true)
+    }
+
+    ghost only_reads_itself = { λ it. tt };
+
+    ghost only_reads_on = { λ a b c h k. tt };
+}
+
+#[test]
+fn three_levels(rt: HostRuntime) -> Result<(), Fail> {
+    let found = check_index(
+        rt.alloc(),
+        &mut Levels,
+        NodeForm::View,
+        0x10,
+        &IdOrder,
+        &ROOT,
+    )?;
+    assert_eq!(rt; found.map(|entries| entries.len()), Some(142));
+    Ok(())
+}
+
 // The root of a directory with one name: the file 5, by `a`.
 const DIRECTORY: [u8; 136] = [
     0x30, 0, 0, 0, 1, 0, 0, 0, 0, 0x10, 0, 0, 1, 0, 0, 0, // the fields of an `$INDEX_ROOT`
@@ -204,39 +298,11 @@ const DIRECTORY: [u8; 136] = [
     0, 0, 0, 0, 0, 0, 0, 0, 16, 0, 0, 0, 2, 0, 0, 0, // the last entry
 ];
 
-// Names of one unit, of one file, of which one alone is told.
-#[derive(Drop)]
-struct OneName {
-    count: u64,
-    file: u64,
-    unit: u8,
-}
-
-impl DirectoryNames for OneName {
-    ghost use Rattle.std.specs.Prelude.{None};
-
-    ghost links = { λ it. None };
-
-    ghost only_reads = { λ old new. Unit {0} };
-
-    ghost fetched = { λ it. 0 };
-
-    ghost most = { λ it. 0 };
-
-    ghost faults = { λ it. 0 };
-
-    fn count(&self) -> u64 {
-        self.count
-    }
-
-    fn has(&mut self, file: u64, key: &[u8]) -> Result<bool, CheckNo> {
-        let unit = key.get(0x42).copied();
-        Ok(file == self.file && unit == Some(self.unit))
-    }
-
-    ghost only_reads_itself = { λ it. tt };
-
-    ghost only_reads_on = { λ a b c h k. tt };
+// The name of that entry.
+fn name() -> [u8; 68] {
+    let mut key = [0; 68];
+    key.copy_from_slice(&DIRECTORY[48..116]);
+    key
 }
 
 // A table of case by which each unit is compared as itself.
@@ -252,43 +318,61 @@ fn order(alloc: Global) -> Result<FileNameOrder, Fail> {
     })
 }
 
-// Whether the directory has these names; `None` where its index is wrong.
-fn named(
+// Whether the directory has this name of this file, whether that is all it has, and whether it has it again; `None` where
+// its index is wrong.
+fn met(
     alloc: Global,
     order: &FileNameOrder,
-    names: &mut OneName,
-) -> Result<Option<bool>, CheckNo> {
+    file: u64,
+    key: &[u8],
+) -> Result<Option<[bool; 3]>, CheckNo> {
     let mut records = records_of(false);
     let found = check_index(alloc, &mut records, NodeForm::Names, 1, order, &DIRECTORY)?;
     let Some(entries) = found else {
         return Ok(None);
     };
-    let same = has_names(names, &entries)?;
-    Ok(Some(same))
+    if !order.is_valid(key) {
+        return Ok(None);
+    }
+    let mut seen = Seen::new(alloc, entries)?;
+    let first = seen.meet(order, file, key);
+    let all = seen.are_all();
+    let again = seen.meet(order, file, key);
+    Ok(Some([first, all, again]))
 }
 
 #[test]
 fn names_of_a_directory(rt: HostRuntime) -> Result<(), Fail> {
     let order = order(rt.alloc())?;
-    let mut names = OneName {
-        count: 1,
-        file: 0x5000000000005,
-        unit: 0x61,
-    };
-    assert_eq!(rt; named(rt.alloc(), &order, &mut names)?, Some(true));
-    names.count = 2;
-    assert_eq!(rt; named(rt.alloc(), &order, &mut names)?, Some(false));
+    let found = met(rt.alloc(), &order, 0x5000000000005, &name())?;
+    assert_eq!(rt; found, Some([true, true, false]));
+    Ok(())
+}
+
+#[test]
+fn another_file(rt: HostRuntime) -> Result<(), Fail> {
+    let order = order(rt.alloc())?;
+    let found = met(rt.alloc(), &order, 0x6000000000005, &name())?;
+    assert_eq!(rt; found, Some([false, false, false]));
     Ok(())
 }
 
 #[test]
 fn another_name(rt: HostRuntime) -> Result<(), Fail> {
     let order = order(rt.alloc())?;
-    let mut names = OneName {
-        count: 1,
-        file: 0x5000000000005,
-        unit: 0x62,
-    };
-    assert_eq!(rt; named(rt.alloc(), &order, &mut names)?, Some(false));
+    let mut key = name();
+    key[0x42] = 0x62;
+    let found = met(rt.alloc(), &order, 0x5000000000005, &key)?;
+    assert_eq!(rt; found, Some([false, false, false]));
+    Ok(())
+}
+
+#[test]
+fn another_namespace(rt: HostRuntime) -> Result<(), Fail> {
+    let order = order(rt.alloc())?;
+    let mut key = name();
+    key[0x41] = 1;
+    let found = met(rt.alloc(), &order, 0x5000000000005, &key)?;
+    assert_eq!(rt; found, Some([false, false, false]));
     Ok(())
 }

@@ -88,6 +88,7 @@ gather_node-loop-i-init g t c = record {
   own = λ h. h;
   met = λ r e are. are;
   records = refl;
+  ready = c.requires;
   only_reads = g.met.R.IndexRecords.only_reads_itself c.args.records.now;
   fetched = omega arith;
   faults = refl;
@@ -123,6 +124,7 @@ gather_node-loop-i-preserved g t c =
           (one_own (form_of_view node) _ c.entry.result.now c.entry.ensures.own);
       met = λ r e are. below.met r (so_far.records ∙ e) c.if-not-good.false (so_far.met r e are);
       records = c.gather_tree.ensures.records ∙ so_far.records;
+      ready = c.gather_tree.ensures.ready;
       only_reads = g.met.R.IndexRecords.only_reads_on c.args.records.now c.loop-i.records c.gather_tree.new.records so_far.only_reads
           c.gather_tree.ensures.only_reads;
       fetched = (let a = so_far.fetched in let b = c.gather_tree.ensures.fetched in omega arith);

@@ -21,7 +21,8 @@ invariant-gather_node-loop-i g l = record {
   own : Each (IsOwnEntry (form_of_view l.node)) l.fn.out.items → Each (IsOwnEntry (form_of_view l.node)) l.out.items;
   met : WhereTold (g.R.IndexRecords.records l.fn.records) (λ r. AreMet r l.fn.met → AreMet r l.met);
   records : g.R.IndexRecords.records l.records ≡ g.R.IndexRecords.records l.fn.records;
+  ready : g.R.IndexRecords.ready l.records;
   only_reads : g.R.IndexRecords.only_reads l.fn.records l.records;
-  fetched : g.R.IndexRecords.fetched l.records + 8 * length l.fn.met ≤ g.R.IndexRecords.fetched l.fn.records + 8 * length l.met;
+  fetched : g.R.IndexRecords.fetched l.records + 9 * length l.fn.met ≤ g.R.IndexRecords.fetched l.fn.records + 9 * length l.met;
   faults : g.R.IndexRecords.faults l.records ≡ g.R.IndexRecords.faults l.fn.records;
 }
