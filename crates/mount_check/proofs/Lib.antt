@@ -1,0 +1,10 @@
+pub mod RecordLaws
+pub mod OrderLaws
+pub mod RefusalLaws
+pub mod VersionLaws
+pub mod PlaceLaws
+pub mod MirrorLaws
+pub mod LimitLaws
+pub mod FinishLaws
+pub mod AnswerLaws
+pub mod MountLaws

@@ -1,0 +1,4 @@
+pub mod Clauses
+pub mod Views
+pub mod Limits
+pub mod Refusals

@@ -1,0 +1,17 @@
+//! The check of a volume: a disk is taken into use where all clauses of the volume definition hold and it was closed.
+#![tactic(auto)]
+
+mod check;
+mod clause;
+mod finish;
+mod laws;
+mod limits;
+mod mirror;
+mod mirror_place;
+mod order;
+mod records;
+mod version;
+
+pub use check::mount;
+pub use finish::finish_mount;
+pub use laws::one_answer;
