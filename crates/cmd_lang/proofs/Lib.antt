@@ -7,5 +7,8 @@ pub mod OutputLaws
 pub mod PathLaws
 pub mod PieceLaws
 pub mod RowLaws
+pub mod SayableLaws
+pub mod SayableWords
 pub mod TextLaws
+pub mod ToldLaws
 pub mod VerbLaws

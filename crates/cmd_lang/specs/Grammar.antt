@@ -7,7 +7,7 @@ use Rattle.cmd_lang.specs.declared.verb.PathVerb.{PathVerb}
 use Rattle.cmd_lang.specs.declared.verb.PathVerb.TheVariants as path_verb
 use Rattle.cmd_lang.specs.declared.verb.Verb.{Verb}
 use Rattle.cmd_lang.specs.declared.verb.Verb.TheVariants as verb
-use Rattle.cmd_lang.specs.Words.{words_of, IsNumber, AreFlags, IsTag, AreDigits, IsHex, IsPath, IsTarget, IsAccess, IsShare}
+use Rattle.cmd_lang.specs.Words.{most_bytes, words_of, IsNumber, AreFlags, IsTag, AreDigits, IsHex, IsPath, IsTarget, IsAccess, IsShare}
 
 -- the first word of a command that has a path alone
 abbrev pub path_verb_text : PathVerb → List ℕ
@@ -85,9 +85,12 @@ abbrev pub TwoPaths : (List (List ℕ) → List (List ℕ) → Command) → List
 TwoPaths make words said = (old new : List (List ℕ)) × Two words (λ a b. IsPath a old × IsPath b new) × (said ≡ make old new)
 
 -- a target and a range of it, a place and a length in bytes
+abbrev pub AreRange : List (List ℕ) → List (List ℕ) → Option (List ℕ) → ℕ → ℕ → Type 0
+AreRange words path stream at len = Three words (λ a b c. IsTarget a path stream × IsNumber (2 ^ 64) b at × IsNumber (2 ^ 64) c len)
+
 abbrev pub RangeOfTarget : (List (List ℕ) → Option (List ℕ) → ℕ → ℕ → Command) → List (List ℕ) → Command → Type 0
 RangeOfTarget make words said = (path : List (List ℕ)) × (stream : Option (List ℕ)) × (at len : ℕ)
-    × Three words (λ a b c. IsTarget a path stream × IsNumber (2 ^ 64) b at × IsNumber (2 ^ 64) c len) × (said ≡ make path stream at len)
+    × AreRange words path stream at len × (said ≡ make path stream at len)
 
 -- a number of 32 bits alone
 abbrev pub OneId : (ℕ → Command) → List (List ℕ) → Command → Type 0
@@ -145,5 +148,5 @@ AreWords (first ∷ words) session said =
 
 -- A line of a script: at most 70,000 bytes, without the byte that ends it.
 pub record IsLine (line : List ℕ) (session : ℕ) (said : Command) : Type 0 where
-  pub short : length line ≤ 70000
+  pub short : length line ≤ most_bytes
   pub words : AreWords (words_of line) session said

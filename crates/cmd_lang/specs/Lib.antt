@@ -2,6 +2,7 @@ pub mod Words
 pub mod Cuts
 pub mod Grammar
 pub mod Lines
+pub mod Sayable
 pub mod Digits
 pub mod Printed
 pub mod Output

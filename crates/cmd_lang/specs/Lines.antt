@@ -4,6 +4,7 @@ use Rattle.tree_model.specs.declared.command.Command.{Command}
 use Rattle.cmd_lang.specs.declared.parse.LineFault.{LineFault}
 use Rattle.cmd_lang.specs.declared.parse.LineFault.TheVariants as fault
 use Rattle.cmd_lang.specs.Grammar.{IsLine}
+use Rattle.cmd_lang.specs.Words.{most_bytes}
 
 -- one that is meant, and none only where nothing is
 abbrev pub Finds : {A : Type 0} → (A → Type 0) → Option A → Type 0
@@ -23,6 +24,6 @@ FindsIn session IsMeant None = (command : Command) → IsMeant command → ⊥
 -- longer and no command. Want of memory may stand in place of any.
 abbrev pub Means : List ℕ → Result (ℕ × Command) LineFault → Type 0
 Means line (Ok said) = IsLine line said.0 said.1
-Means line (Err fault.Long) = 70000 < length line
-Means line (Err fault.Syntax) = (length line ≤ 70000) × ((session : ℕ) (command : Command) → IsLine line session command → ⊥)
+Means line (Err fault.Long) = most_bytes < length line
+Means line (Err fault.Syntax) = (length line ≤ most_bytes) × ((session : ℕ) (command : Command) → IsLine line session command → ⊥)
 Means line (Err fault.Memory) = Unit {0}

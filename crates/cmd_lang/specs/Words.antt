@@ -4,6 +4,11 @@ use Rattle.byteorder.specs.Endian.{big_bytes}
 use Rattle.hex.specs.Hex.{encode_lower, IsBytes}
 use Rattle.vol_bytes.specs.NameText.{IsNameText}
 use Rattle.tree_model.specs.declared.opens.Access.{Access}
+use Rattle.tree_model.specs.declared.tree.TheConstants.{SHOWN_FLAGS}
+
+-- a line has no more bytes than these
+abbrev pub most_bytes : ℕ
+most_bytes = 70000
 
 -- a byte stands in front of the first piece
 abbrev pub onto : ℕ → List (List ℕ) → List (List ℕ)
@@ -33,10 +38,10 @@ pub record IsHexNumber (size : ℕ) (text : List ℕ) (number : ℕ) : Type 0 wh
   pub written : text ≡ hexadecimal size number
   pub below : number < 256 ^ size
 
--- DOS flags: four digits, and no bit but those that may be set.
+-- DOS flags: four digits, and no bit but those that are shown.
 pub record AreFlags (text : List ℕ) (flags : ℕ) : Type 0 where
   pub number : IsHexNumber 2 text flags
-  pub settable : bit_and flags 0x3127 ≡ flags
+  pub shown : bit_and flags SHOWN_FLAGS ≡ flags
 
 -- a tag of a reparse point: eight digits
 abbrev pub IsTag : List ℕ → ℕ → Type 0

@@ -6,10 +6,8 @@ ghost use Rattle.cmd_lang.specs.Words.{AreDigits, AreFlags, hexadecimal, IsHex, 
 
 use byteorder::{BigEndian, ByteOrder};
 use std::alloc::{AllocError, Global};
+use tree_model::SHOWN_FLAGS;
 use vol_bytes::Octets;
-
-/// The DOS flags that `setattr` sets.
-const SETTABLE: u16 = 0x3127;
 
 // Whether a byte is a digit, none of them in upper case.
 fn is_lower(byte: u8) -> bool
@@ -118,7 +116,7 @@ pub fn read_flags(text: &[u8]) -> Option<u16>
     ensures { Finds (AreFlags text.now) result }
 {
     let flags = read_short_digits(text)?;
-    if flags & SETTABLE == flags {
+    if flags & SHOWN_FLAGS == flags {
         Some(flags)
     } else {
         None

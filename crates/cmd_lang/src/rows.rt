@@ -1,7 +1,7 @@
 //! The words behind the first one, as a command.
 ghost use Rattle.std.specs.Prelude.{IfOk};
 ghost use Rattle.cmd_lang.specs.Cuts.{rest_of};
-ghost use Rattle.cmd_lang.specs.Grammar.{Row, Two};
+ghost use Rattle.cmd_lang.specs.Grammar.{AreRange, Row, Two};
 ghost use Rattle.cmd_lang.specs.Lines.{Finds};
 ghost use Rattle.cmd_lang.specs.Words.{IsPath};
 ghost use Rattle.cmd_lang.specs.declared.verb.Verb.TheVariants as verb;
@@ -14,6 +14,16 @@ use crate::verb::{PathVerb, Verb, path_command};
 use crate::words::{one, three, two};
 use std::alloc::{AllocError, Global};
 use tree_model::{Command, Path};
+use vol_bytes::Name;
+
+/// A range of a stream, a place and a length in bytes.
+#[derive(Drop)]
+struct TargetRange {
+    path: Path,
+    stream: Option<Name>,
+    at: u64,
+    len: u64,
+}
 
 fn read_path_command(
     alloc: Global,
@@ -51,8 +61,9 @@ fn read_cat(alloc: Global, words: Option<&[u8]>) -> Result<Option<Command>, Allo
     Ok(Some(Command::Cat { path, stream }))
 }
 
-fn read_read(alloc: Global, words: Option<&[u8]>) -> Result<Option<Command>, AllocError>
-    ensures { IfOk result (Finds (Row verb.Read (rest_of 32 words.entry))) }
+// A target and a range of it, a place and a length in bytes.
+fn read_range(alloc: Global, words: Option<&[u8]>) -> Result<Option<TargetRange>, AllocError>
+    ensures { IfOk result (Finds (λ found. AreRange (rest_of 32 words.entry) found.path found.stream found.at found.len)) }
 {
     let Some((first, second, third)) = three(words) else {
         return Ok(None);
@@ -66,11 +77,25 @@ fn read_read(alloc: Global, words: Option<&[u8]>) -> Result<Option<Command>, All
     let Some(Target { path, stream }) = read_target(alloc, first)? else {
         return Ok(None);
     };
-    Ok(Some(Command::Read {
+    Ok(Some(TargetRange {
         path,
         stream,
         at,
         len,
+    }))
+}
+
+fn read_read(alloc: Global, words: Option<&[u8]>) -> Result<Option<Command>, AllocError>
+    ensures { IfOk result (Finds (Row verb.Read (rest_of 32 words.entry))) }
+{
+    let Some(range) = read_range(alloc, words)? else {
+        return Ok(None);
+    };
+    Ok(Some(Command::Read {
+        path: range.path,
+        stream: range.stream,
+        at: range.at,
+        len: range.len,
     }))
 }
 
@@ -148,23 +173,14 @@ fn read_truncate(alloc: Global, words: Option<&[u8]>) -> Result<Option<Command>,
 fn read_punch(alloc: Global, words: Option<&[u8]>) -> Result<Option<Command>, AllocError>
     ensures { IfOk result (Finds (Row verb.Punch (rest_of 32 words.entry))) }
 {
-    let Some((first, second, third)) = three(words) else {
-        return Ok(None);
-    };
-    let Some(at) = read_number(second) else {
-        return Ok(None);
-    };
-    let Some(len) = read_number(third) else {
-        return Ok(None);
-    };
-    let Some(Target { path, stream }) = read_target(alloc, first)? else {
+    let Some(range) = read_range(alloc, words)? else {
         return Ok(None);
     };
     Ok(Some(Command::Punch {
-        path,
-        stream,
-        at,
-        len,
+        path: range.path,
+        stream: range.stream,
+        at: range.at,
+        len: range.len,
     }))
 }
 

@@ -404,34 +404,76 @@ fn lists_are_printed(rt: HostRuntime) -> Result<(), Fail> {
     Ok(())
 }
 
+// Each refusal without numbers.
+const REFUSALS: [(No, &str); 25] = [
+    (No::Syntax, "no 1 Syntax\n"),
+    (No::Long, "no 2 Long\n"),
+    (No::NoHandle, "no 3 NoHandle\n"),
+    (No::NotFound, "no 4 NotFound\n"),
+    (No::NotDir, "no 5 NotDir\n"),
+    (No::Reparse, "no 6 Reparse\n"),
+    (No::Hidden, "no 7 Hidden\n"),
+    (No::DosName, "no 8 DosName\n"),
+    (No::BadName, "no 9 BadName\n"),
+    (No::IsDir, "no 10 IsDir\n"),
+    (No::NoStream, "no 11 NoStream\n"),
+    (No::NoReparse, "no 12 NoReparse\n"),
+    (No::Exists, "no 13 Exists\n"),
+    (No::NotEmpty, "no 14 NotEmpty\n"),
+    (No::Loop, "no 15 Loop\n"),
+    (No::Packed, "no 16 Packed\n"),
+    (No::BadTag, "no 17 BadTag\n"),
+    (No::NoSecurity, "no 18 NoSecurity\n"),
+    (No::TooBig, "no 19 TooBig\n"),
+    (No::TooManyLinks, "no 20 TooManyLinks\n"),
+    (No::TooManyHandles, "no 21 TooManyHandles\n"),
+    (No::TooDeep, "no 24 TooDeep\n"),
+    (No::Memory, "no 27 Memory\n"),
+    (No::Unbuilt, "no 28 Unbuilt\n"),
+    (No::Linked, "no 30 Linked\n"),
+];
+
+// Each refusal with numbers.
+const REFUSALS_WITH_NUMBERS: [(No, &str); 5] = [
+    (
+        No::Shared {
+            session: 1,
+            handle: 0,
+        },
+        "no 22 Shared 1 0\n",
+    ),
+    (
+        No::TooManyParts {
+            length: 37_080,
+            more: 4336,
+        },
+        "no 23 TooManyParts 37080 4336\n",
+    ),
+    (No::MftFull { need: 97, free: 40 }, "no 25 MftFull 97 40\n"),
+    (No::NoRoom { need: 10, free: 9 }, "no 26 NoRoom 10 9\n"),
+    (
+        No::Overflow {
+            need: 320,
+            free: 264,
+        },
+        "no 29 Overflow 320 264\n",
+    ),
+];
+
+// Whether a refusal is printed so.
+fn tells(alloc: Global, no: No, text: &str) -> Result<bool, Fail> {
+    let mut out = sink(alloc, 100)?;
+    let printed = print_reply(&Reply::No(no), &mut out);
+    Ok(printed == Ok(()) && out.bytes() == text.as_bytes())
+}
+
 #[test]
 fn refusals_are_printed(rt: HostRuntime) -> Result<(), Fail> {
-    let table = [
-        (No::Syntax, "no 1 Syntax\n"),
-        (No::Hidden, "no 7 Hidden\n"),
-        (No::TooManyLinks, "no 20 TooManyLinks\n"),
-        (
-            No::Shared {
-                session: 1,
-                handle: 0,
-            },
-            "no 22 Shared 1 0\n",
-        ),
-        (
-            No::TooManyParts {
-                length: 37_080,
-                more: 4336,
-            },
-            "no 23 TooManyParts 37080 4336\n",
-        ),
-        (No::MftFull { need: 97, free: 40 }, "no 25 MftFull 97 40\n"),
-        (No::NoRoom { need: 10, free: 9 }, "no 26 NoRoom 10 9\n"),
-        (No::Unbuilt, "no 28 Unbuilt\n"),
-    ];
-    for (no, text) in table {
-        let mut out = sink(rt.alloc(), 100)?;
-        assert_eq!(rt; print_reply(&Reply::No(no), &mut out), Ok(()));
-        assert!(rt; out.bytes() == text.as_bytes(), "{text}");
+    for (no, text) in REFUSALS {
+        assert!(rt; tells(rt.alloc(), no, text)?, "{text}");
+    }
+    for (no, text) in REFUSALS_WITH_NUMBERS {
+        assert!(rt; tells(rt.alloc(), no, text)?, "{text}");
     }
     Ok(())
 }

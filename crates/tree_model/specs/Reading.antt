@@ -35,6 +35,7 @@ use Rattle.tree_model.specs.declared.tree.Node.{Node}
 use Rattle.tree_model.specs.declared.tree.Point.{Point}
 use Rattle.tree_model.specs.declared.tree.RawAttr.{RawAttr}
 use Rattle.tree_model.specs.declared.tree.Stream.{Stream}
+use Rattle.tree_model.specs.declared.tree.TheConstants.{SHOWN_FLAGS}
 
 -- What an attribute holds, by its parts: its real size alone where the first of them is packed.
 abbrev pub is_packed_part : Part → Bool
@@ -67,12 +68,8 @@ standard_of all = unwrap_or (option_and_then (λ part. content_value part.conten
 abbrev pub standard_times : List ℕ → List ℕ
 standard_times standard = u64_at standard 0x00 ∷ u64_at standard 0x08 ∷ u64_at standard 0x10 ∷ u64_at standard 0x18 ∷ []
 
--- read-only, hidden, system, archive, temporary, offline and not indexed: the flags that commands show and set
-abbrev pub shown_flags : ℕ
-shown_flags = 0x3127
-
 abbrev pub standard_flags : List ℕ → ℕ
-standard_flags standard = bit_and (u32_at standard 0x20) shown_flags
+standard_flags standard = bit_and (u32_at standard 0x20) SHOWN_FLAGS
 
 abbrev pub standard_security : List ℕ → ℕ
 standard_security standard = if nat_lt (length standard) 72 then 0 else u32_at standard 0x34

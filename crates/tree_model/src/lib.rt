@@ -26,4 +26,4 @@ pub use plain::PlainTree;
 pub use plain_facts::PlainFacts;
 pub use plain_machine::PlainMachine;
 pub use reply::{Answer, Listed, No, Reply, ShownLink, ShownStream};
-pub use tree::{Content, Found, Link, Node, Point, RawAttr, Stream};
+pub use tree::{Content, Found, Link, Node, Point, RawAttr, SHOWN_FLAGS, Stream};

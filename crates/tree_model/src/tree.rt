@@ -2,6 +2,9 @@
 use crate::lists::{RawAttrs, Streams};
 use vol_bytes::{Name, Octets};
 
+/// The DOS flags that commands show and set: read-only, hidden, system, archive, temporary, offline and not indexed.
+pub const SHOWN_FLAGS: u16 = 0x3127;
+
 /// What a stream or an attribute holds.
 #[derive(Debug, Drop)]
 pub enum Content {

@@ -1,11 +1,12 @@
-use Rattle.std.proofs.Common.{[], ◌∷◌, subst}
-use Rattle.cmd_lang.specs.Targets.{FindsTarget}
-use Rattle.cmd_lang.specs.Words.{IsTarget, pieces}
-use Rattle.cmd_lang.proofs.RowLaws.{same_word}
+use Rattle.std.proofs.Common.{subst}
+use Rattle.cmd_lang.specs.Cuts.{rest_of}
+use Rattle.cmd_lang.specs.Grammar.{AreRange}
+use Rattle.cmd_lang.specs.Lines.{Finds}
+use Rattle.cmd_lang.specs.declared.rows.TargetRange.{TargetRange}
 use Rattle.cmd_lang.proofs.rows.read_punch.Goals as goal
 
-pub returns-in_default-2 : goal.returns-in_default-2
-returns-in_default-2 c = λ meant x.
-    let none = subst (FindsTarget (pieces 58 c.in-Some.first.now)) c.in_default-2.is c.in_ok-path.ensures in
-    none x.0 x.1 (same_word (λ a. IsTarget a x.0 x.1) _ (x.4.0 ∷ x.4.1 ∷ x.4.2 ∷ [])
-    (c.in-Some.first.now ∷ c.in-Some.second.now ∷ c.in-Some.third.now ∷ []) 0 x.4.3 c.in-Some.ensures x.4.4.0)
+pub returns-in_default : goal.returns-in_default
+returns-in_default c = λ meant x.
+    let none = subst (Finds (λ (found : TargetRange). AreRange (rest_of 32 c.args.words) found.path found.stream found.at
+    found.len)) c.in_default.is c.in_ok-range.ensures in
+    none (record { path = x.0; stream = x.1; at = x.2; len = x.3 }) x.4
