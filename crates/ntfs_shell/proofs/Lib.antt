@@ -1,4 +1,6 @@
 pub mod Boots
+pub mod CheckLaws
+pub mod Checks
 pub mod Formats
 pub mod FrontLaws
 pub mod LabelLaws

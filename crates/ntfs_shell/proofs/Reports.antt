@@ -2,7 +2,7 @@
 use Rattle.std.proofs.Common.{◌≡◌, ℕ, List, Some, refl, inl, inr}
 use Rattle.ntfs_shell.specs.declared.ending.Ending.{Ending}
 use Rattle.vol_disk.specs.Stream.{IsAppended}
-use Rattle.ntfs_shell.specs.Report.{IsReported, Report, ReportEnds, ending_of, refuses, says, text_of}
+use Rattle.ntfs_shell.specs.Report.{IsReported, Report, ReportEnds, ending_of, refuses, says, text_of, unclosed}
 use Rattle.ntfs_shell.specs.Printing.{EndsPrinting}
 use Rattle.ntfs_shell.specs.World.{World, OnlyReads, Blames}
 
@@ -11,6 +11,7 @@ reported_whole : (IsReport : Report → Type 0) (report : Report) (old new : Wor
     → IsAppended old.got (text_of report) new.got → IsReported IsReport (ending_of report) old new
 reported_whole IsReport (says text) old new is all = (says text, is, record { ends = refl; text = all })
 reported_whole IsReport (refuses refusal) old new is all = (refuses refusal, is, record { ends = refl; text = all })
+reported_whole IsReport unclosed old new is all = (unclosed, is, record { ends = refl; text = all })
 
 -- neither ending of a whole report blames a count
 blames_none : (report : Report) (old new : World) → new.disk_faults ≡ old.disk_faults
@@ -18,6 +19,7 @@ blames_none : (report : Report) (old new : World) → new.disk_faults ≡ old.di
     → Blames (ending_of report) old new
 blames_none (says text) old new disk source sink = record { disk = disk; source = source; sink = sink }
 blames_none (refuses refusal) old new disk source sink = record { disk = disk; source = source; sink = sink }
+blames_none unclosed old new disk source sink = record { disk = disk; source = source; sink = sink }
 
 -- what is shown answers the word, where it is the report of the image
 pub ends_shown : (Reports : List ℕ → Report → Type 0) (report : Report) (given : Ending) (old new : World)

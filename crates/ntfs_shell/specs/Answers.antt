@@ -1,9 +1,10 @@
 -- What an answer of the code says.
 use Rattle.ntfs_shell.specs.declared.answer.Answer.{Answer}
-use Rattle.ntfs_shell.specs.declared.answer.Answer.TheVariants.{Short, Long, Refused}
-use Rattle.ntfs_shell.specs.Report.{Report, says, refuses}
+use Rattle.ntfs_shell.specs.declared.answer.Answer.TheVariants.{Dirty, Short, Long, Refused}
+use Rattle.ntfs_shell.specs.Report.{Report, says, refuses, unclosed}
 
 abbrev pub report_of : Answer → Report
 report_of (Short text) = says text.items
 report_of (Long text) = says text.items
 report_of (Refused refusal) = refuses refusal
+report_of Dirty = unclosed

@@ -1,5 +1,5 @@
 -- How a run ends that was asked for a new volume.
-use Rattle.std.specs.Prelude.{◌≡◌, ◌⊎◌, ◌≤◌, ℕ, List, codes, decimal, is_some}
+use Rattle.std.specs.Prelude.{◌≡◌, ◌⊎◌, ◌≤◌, ℕ, List, is_some}
 use Rattle.vol_disk.specs.Contents.{WhereTold, sector_in, settled_more}
 use Rattle.vol_disk.specs.Stream.{IsAppended, IsAppendedPart}
 use Rattle.volume_format.specs.Formatted.{IsNewVolume}

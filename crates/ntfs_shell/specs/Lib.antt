@@ -1,5 +1,7 @@
 pub mod Answers
 pub mod Boot
+pub mod Check
+pub mod CheckSteps
 pub mod Ending
 pub mod Format
 pub mod Fronts
@@ -10,5 +12,6 @@ pub mod Report
 pub mod Printing
 pub mod Stops
 pub mod Text
+pub mod Watched
 pub mod Words
 pub mod World

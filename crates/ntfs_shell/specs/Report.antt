@@ -1,28 +1,32 @@
--- How a word that only reads is answered: by lines, or by the line that refuses the volume.
-use Rattle.std.specs.Prelude.{◌≡◌, ℕ, List, Option, Some}
+-- How a word that only reads is answered: by lines, or by the line that refuses the volume, or by the one on a volume that
+-- was not closed.
+use Rattle.std.specs.Prelude.{◌≡◌, ℕ, List, Option}
 use Rattle.vol_disk.specs.Contents.{WhereTold}
 use Rattle.vol_disk.specs.Stream.{IsAppended, IsAppendedPart}
 use Rattle.ntfs_shell.specs.declared.ending.Ending.{Ending}
 use Rattle.ntfs_shell.specs.declared.ending.Ending.TheVariants as ending
 use Rattle.ntfs_shell.specs.declared.refusal.Refusal.{Refusal}
 use Rattle.ntfs_shell.specs.Ending.{status_of}
-use Rattle.ntfs_shell.specs.Text.{refusal_text}
+use Rattle.ntfs_shell.specs.Text.{dirty_text, refusal_text}
 use Rattle.ntfs_shell.specs.World.{World, OnlyReads, Blames}
 
 -- what the word has to say of an image
 pub data Report : Type 0 where
   says : List ℕ → Report
   refuses : Refusal → Report
+  unclosed : Report
 
 -- what is printed of it
 abbrev pub text_of : Report → List ℕ
 text_of (says text) = text
 text_of (refuses refusal) = refusal_text refusal
+text_of unclosed = dirty_text
 
 -- how a run ends that prints all of it
 abbrev pub ending_of : Report → Ending
 ending_of (says text) = ending.Done
 ending_of (refuses refusal) = ending.Refused
+ending_of unclosed = ending.Refused
 
 -- All of the report was printed, and the run ended as it calls for.
 pub record PrintsAll (report : Report) (given : Ending) (before after : Option (List ℕ)) : Type 0 where

@@ -45,6 +45,14 @@ label_text units version = name_line units ++ version_line version
 unfoldable pub refusal_text : Refusal → List ℕ
 refusal_text refusal = codes "refused S" ++ line_of (decimal refusal.clause) (decimal refusal.number)
 
+-- the line on a volume that is sound and was closed
+abbrev pub sound_text : List ℕ
+sound_text = codes "sound\n"
+
+-- the line on one that is sound, but was not closed
+abbrev pub dirty_text : List ℕ
+dirty_text = codes "refused dirty\n"
+
 -- the line that tells how many clusters a new volume has
 unfoldable pub formatted_text : ℕ → List ℕ
 formatted_text clusters = line_of (codes "formatted") (decimal clusters)

@@ -9,7 +9,7 @@ AreWords words text = words ≡ text ∷ []
 
 -- the words ask for no more than to read the volume
 abbrev pub AskToRead : List (List ℕ) → Type 0
-AskToRead words = AreWords words (codes "boot") ⊎ AreWords words (codes "label")
+AskToRead words = AreWords words (codes "boot") ⊎ AreWords words (codes "label") ⊎ AreWords words (codes "check")
 
 -- The text is a name text of these units, of which there are 32 at most.
 pub record IsLabelText (text units : List ℕ) : Type 0 where
@@ -32,7 +32,7 @@ AskToFormat words = (o : Options) × AreFormatWords words o
 
 -- the words of the program that are not built yet
 abbrev pub IsUnbuilt : List ℕ → Type 0
-IsUnbuilt word = (word ≡ codes "check") ⊎ (word ≡ codes "run") ⊎ (word ≡ codes "make")
+IsUnbuilt word = (word ≡ codes "run") ⊎ (word ≡ codes "make")
 
 -- the first word is not built yet, whatever follows
 abbrev pub AskUnbuilt : List (List ℕ) → Type 0

@@ -17,6 +17,8 @@ pub enum Answer {
     Long(Vec<u8>),
     /// The volume is refused.
     Refused(Refusal),
+    /// The volume is sound, but was not closed.
+    Dirty,
 }
 
 /// Prints a text, and ends the run so where all of it was printed.
@@ -38,5 +40,6 @@ pub fn show<K: Sink>(out: &mut K, answer: &Answer) -> Ending
         Answer::Short(text) => print(out, text.as_slice(), Ending::Done),
         Answer::Long(text) => print(out, text.as_slice(), Ending::Done),
         Answer::Refused(refusal) => print(out, refusal_text(*refusal).as_slice(), Ending::Refused),
+        Answer::Dirty => print(out, b"refused dirty\n", Ending::Refused),
     }
 }

@@ -1,4 +1,5 @@
-//! What a person is told on standard error beside a status: what failed, and what can be done.
+//! What a person is told on standard error beside a status: what failed, and what can be done. What is told beside a refusal
+//! is in `refused`.
 use crate::ending::{DEVICE_FAILED, NOT_BUILT, OUT_OF_MEMORY, SINK_FAILED, UNKNOWN_WORDS};
 use crate::image::Access;
 
@@ -47,26 +48,6 @@ pub fn sentence_on(status: u8, access: Access) -> Option<&'static str> {
         }
         (_, Access::Reads) => sentence_on_reading(status),
         (_, Access::Writes) => sentence_on_making(status),
-    }
-}
-
-/// The sentence on the line that refuses an image of so many sectors, or the options of a volume.
-pub fn sentence_on_refusal(line: &str, sectors: u64) -> &'static str {
-    match line {
-        "refused options" => {
-            "SECTORS is from 2048 to the whole sectors of IMAGE, CLUSTER is 512, 1024, 2048 or 4096, and \
-             the volume has at most 67108864 clusters; nothing was written"
-        }
-        "refused S1 1" if sectors == 0 => "IMAGE has no whole sector of 512 bytes",
-        "refused S1 1" => {
-            "no NTFS boot sector is at the front of IMAGE; of a whole disk with a partition table \
-             give the partition alone"
-        }
-        "refused S1 6" => {
-            "IMAGE is shorter than the volume in it, as a copy is that was cut short, or the volume \
-             tells a size out of range"
-        }
-        _ => "this volume is not read here; docs/FORMAT.md says what the clause asks",
     }
 }
 

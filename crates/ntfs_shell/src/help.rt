@@ -5,18 +5,36 @@ pub const HELP: &str = "\
 usage: ntfs_shell IMAGE WORDS
 
 Works on the NTFS 3.1 volume in the file or block device IMAGE, which is opened
-for reading and writing. Where boot or label is asked and IMAGE may only be
-read, it is opened for reading alone.
+for reading and writing. Where boot, label or check is asked and IMAGE may only
+be read, it is opened for reading alone.
 
 Words:
   boot                                 prints the geometry of the volume
   label                                prints the volume's name and version
+  check                                prints whether the volume is sound
   format SECTORS CLUSTER SERIAL LABEL  makes a new volume; what IMAGE held is lost
 
 Words that are not built yet:
-  check                                prints whether the volume is sound
   run                                  runs the script on standard input
   make N SEED                          runs N commands made from SEED
+
+check prints sound, or the first clause that fails and a number N, as refused S7 N:
+  S1   the boot sector is right; N counts its seven tests
+  S2   record 0 tells where the table of records lies; N is 0
+  S3   record N opens, and every length and place in it is right
+  S4   record N has the attributes that it has to have, in order
+  S5   the attribute list of record N names each part of the file once
+  S6   the extents and sizes of the streams of record N fit each other
+  S7   cluster N lies on the volume and has one owner at most
+  S8   the bitmap of clusters is right about cluster N
+  S9   the bitmap of records is right about record N
+  S10  the references in record N lead to the records that they mean
+  S11  record N has as many names as it counts, and they lead to the root
+  S13  the table of case is whole; N is 10; asked before S12
+  S12  the indexes of record N are whole and list the names in a directory
+  S14  record 3 tells version 3.1, and the records 0 to 3 have equal copies
+  S15  no stream of record N is longer than 1099511627776 bytes
+or refused dirty, where all of them hold and the volume was not closed.
 
 Numbers are decimal. format takes 2048 sectors or more, as many as IMAGE has at
 most, clusters of 512, 1024, 2048 or 4096 bytes, and a label of 1 to 32 units.

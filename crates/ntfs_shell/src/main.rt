@@ -4,6 +4,7 @@
 mod answer;
 mod arguments;
 mod boot;
+mod check;
 mod ending;
 mod explain;
 mod format;
@@ -14,6 +15,7 @@ mod label;
 mod label_option;
 mod laws;
 mod refusal;
+mod refused;
 mod shell;
 mod start;
 mod stop;
@@ -21,10 +23,12 @@ mod stop;
 mod tests;
 mod text;
 mod volume;
+mod watched;
 mod words;
 
+use std::io::IsTerminal;
 use std::process::ExitCode;
 
 fn main(rt: HostRuntime) -> ExitCode {
-    ExitCode::from(start::start(&rt))
+    ExitCode::from(start::start(&rt, rt.stderr().is_terminal()))
 }

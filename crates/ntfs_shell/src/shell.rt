@@ -5,10 +5,12 @@ ghost use Rattle.ntfs_shell.specs.Words.{AreFormatWords, AreKnown, AreWords, Ask
 ghost use Rattle.ntfs_shell.specs.World.{world};
 ghost use Rattle.ntfs_shell.specs.Report.{AnswersReport};
 ghost use Rattle.ntfs_shell.specs.Boot.{BootReports};
+ghost use Rattle.ntfs_shell.specs.Check.{CheckReports};
 ghost use Rattle.ntfs_shell.specs.Label.{LabelReports};
 ghost use Rattle.ntfs_shell.specs.Format.{AnswersFormat};
 
 use crate::boot::boot;
+use crate::check::check;
 use crate::ending::{NOT_BUILT, OUT_OF_MEMORY, UNKNOWN_WORDS};
 use crate::format::make_volume;
 use crate::label::label;
@@ -35,6 +37,9 @@ pub fn run_shell<D: Disk, S: Source, K: Sink>(
         (world D.Disk S.Source K.Sink disk.old script.old out.old) result (world D.Disk S.Source K.Sink disk.new script.new out.new) }
     ensures label_reads { AreWords (map string_bytes words.now) (codes "label") → D.fetched disk.new ≤ D.fetched disk.old + 5 }
 
+    ensures check { AreWords (map string_bytes words.now) (codes "check") → AnswersReport CheckReports
+        (world D.Disk S.Source K.Sink disk.old script.old out.old) result (world D.Disk S.Source K.Sink disk.new script.new out.new) }
+
     ensures format { (options : Options) → AreFormatWords (map string_bytes words.now) options → AnswersFormat options
         (world D.Disk S.Source K.Sink disk.old script.old out.old) result (world D.Disk S.Source K.Sink disk.new script.new out.new) }
 
@@ -49,6 +54,7 @@ pub fn run_shell<D: Disk, S: Source, K: Sink>(
     match read_words(alloc, words) {
         Ok(Asked::Boot) => boot(alloc, disk, script, out).status(),
         Ok(Asked::Label) => label(alloc, disk, script, out).status(),
+        Ok(Asked::Check) => check(alloc, disk, script, out).status(),
         Ok(Asked::Format(options)) => make_volume(alloc, disk, &options, script, out).status(),
         Ok(Asked::Unbuilt) => NOT_BUILT,
         Ok(Asked::Unknown) => UNKNOWN_WORDS,

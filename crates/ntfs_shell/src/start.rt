@@ -1,11 +1,13 @@
 //! The edge of the program: its arguments, the image's file and the standard streams.
 use crate::arguments::{Request, odd_argument, read_arguments, request_of};
 use crate::ending::{DEVICE_FAILED, DONE, OUT_OF_MEMORY, REFUSED, SINK_FAILED, UNKNOWN_WORDS};
-use crate::explain::{first_line, sentence_on, sentence_on_refusal};
+use crate::explain::{first_line, sentence_on};
 use crate::front::FrontSink;
 use crate::help::{HELP, VERSION};
 use crate::image::{Access, hold_streams, open_image};
+use crate::refused::sentence_on_refusal;
 use crate::shell::run_shell;
+use crate::watched::WatchedDisk;
 use crate::words::access_of;
 use std::fs::File;
 use std::io;
@@ -54,7 +56,7 @@ fn complain_of_argument<R: Env + Eprint>(rt: &R) {
     }
 }
 
-fn run_request<R>(rt: &R, request: &Request<'_>) -> u8
+fn run_request<R>(rt: &R, request: &Request<'_>, watched: bool) -> u8
 where
     R: Files<File = File> + AllocGlobal + Input + Print + Eprint,
 {
@@ -68,7 +70,7 @@ where
     };
     let access = access_of(request.words);
     let mut disk = match open_image(rt, image, access) {
-        Ok(disk) => disk,
+        Ok(disk) => WatchedDisk::new(rt, disk, watched),
         Err(fault) => {
             let _ = rt.eprintln(format_args!("ntfs_shell: IMAGE {image:?} {fault}"));
             return DEVICE_FAILED;
@@ -81,7 +83,7 @@ where
     status
 }
 
-fn start_with<R>(rt: &R, arguments: &[String]) -> u8
+fn start_with<R>(rt: &R, arguments: &[String], watched: bool) -> u8
 where
     R: Files<File = File> + AllocGlobal + Input + Print + Eprint,
 {
@@ -91,7 +93,7 @@ where
         _ => {}
     }
     match request_of(arguments) {
-        Some(request) => run_request(rt, &request),
+        Some(request) => run_request(rt, &request, watched),
         None => {
             complain(rt, "IMAGE and a word are wanted; see ntfs_shell --help");
             UNKNOWN_WORDS
@@ -99,13 +101,14 @@ where
     }
 }
 
-/// Does what the program's arguments ask for, and gives its status.
-pub fn start<R>(rt: &R) -> u8
+/// Does what the program's arguments ask for, and gives its status. Where it is `watched`, a long reading tells on standard
+/// error how far it has come.
+pub fn start<R>(rt: &R, watched: bool) -> u8
 where
     R: Env + Files<File = File> + AllocGlobal + Input + Print + Eprint,
 {
     match read_arguments(rt) {
-        Ok(arguments) => start_with(rt, &arguments),
+        Ok(arguments) => start_with(rt, &arguments, watched),
         Err(error) if error.kind() == ErrorKind::OutOfMemory => {
             complain(rt, "out of memory; nothing was done");
             OUT_OF_MEMORY

@@ -2,10 +2,12 @@
 ghost use Rattle.std.specs.Prelude.{◌≡◌, ◌%◌, vec_len};
 
 mod check;
+mod check_word;
 mod damage;
 mod edge;
 mod format;
 mod label;
+mod lists;
 
 use crate::front::FrontSink;
 use crate::shell::run_shell;
@@ -166,7 +168,7 @@ fn other_words_print_nothing(rt: HostRuntime) -> Result<(), test::Fail> {
         ("bo", 2),
         ("run x", 9),
         ("make", 9),
-        ("check", 9),
+        ("check x", 2),
     ] {
         let mut disk = disk_of(rt.alloc(), 16, &boot_sector(0x44, 0xF4))?;
         let mut out = sink_of(rt.alloc(), AMPLE, 0)?;

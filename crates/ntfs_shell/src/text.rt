@@ -1,7 +1,7 @@
 //! The lines that are printed, laid out without memory.
 ghost use Rattle.std.specs.Prelude.{◌≡◌, ◌+◌, ◌^◌, ◌<◌, ◌≤◌, ◌++◌, length, decimal};
 ghost use Rattle.arrayvec.specs.ArrayVec.{array_vec_len};
-ghost use Rattle.ntfs_shell.specs.Text.{formatted_text, geometry_text, hexadecimal, line_of, refusal_text};
+ghost use Rattle.ntfs_shell.specs.Text.{formatted_text, geometry_text, hexadecimal, line_of, refusal_text, sound_text};
 
 use crate::refusal::Refusal;
 use arrayvec::ArrayVec;
@@ -81,6 +81,15 @@ pub fn refusal_text(refusal: Refusal) -> Text
         itoa::Buffer::new().format(refusal.clause).as_bytes(),
         refusal.number,
     );
+    text
+}
+
+/// The line on a volume that is sound and was closed.
+pub fn sound_text() -> Text
+    ensures { result.items ≡ sound_text }
+{
+    let mut text = Text::new();
+    add(&mut text, b"sound\n");
     text
 }
 

@@ -15,6 +15,8 @@ pub enum Asked {
     Boot,
     /// The name and the version of the volume.
     Label,
+    /// Whether the volume is sound.
+    Check,
     /// A new volume.
     Format(FormatOptions),
     /// A word of the program that is not built yet.
@@ -42,7 +44,7 @@ fn are_words(words: &[String], text: &str) -> bool
 fn is_unbuilt(word: &str) -> bool
     ensures { IsTrue result ↔ IsUnbuilt word.now }
 {
-    word == "check" || word == "run" || word == "make"
+    word == "run" || word == "make"
 }
 
 fn ask_unbuilt(words: &[String]) -> bool
@@ -57,7 +59,7 @@ fn ask_unbuilt(words: &[String]) -> bool
 fn ask_to_read(words: &[String]) -> bool
     ensures { IsTrue result ↔ AskToRead (map string_bytes words.now) }
 {
-    are_words(words, "boot") || are_words(words, "label")
+    are_words(words, "boot") || are_words(words, "label") || are_words(words, "check")
 }
 
 /// What the words ask of the image.
@@ -154,6 +156,7 @@ fn format_options(alloc: Global, words: &[String]) -> Result<Option<FormatOption
 pub fn read_words(alloc: Global, words: &[String]) -> Result<Asked, AllocError>
     ensures boot { (result ≡ Ok Asked.Boot) ↔ AreWords (map string_bytes words.now) (codes "boot") }
     ensures label { (result ≡ Ok Asked.Label) ↔ AreWords (map string_bytes words.now) (codes "label") }
+    ensures check { (result ≡ Ok Asked.Check) ↔ AreWords (map string_bytes words.now) (codes "check") }
     ensures format { (options : Options) → AreFormatWords (map string_bytes words.now) options
         → IfOk result (λ asked. asked ≡ Asked.Format options) }
     ensures unbuilt { (result ≡ Ok Asked.Unbuilt) ↔ AskUnbuilt (map string_bytes words.now) }
@@ -164,6 +167,9 @@ pub fn read_words(alloc: Global, words: &[String]) -> Result<Asked, AllocError>
     }
     if are_words(words, "label") {
         return Ok(Asked::Label);
+    }
+    if are_words(words, "check") {
+        return Ok(Asked::Check);
     }
     if ask_unbuilt(words) {
         return Ok(Asked::Unbuilt);

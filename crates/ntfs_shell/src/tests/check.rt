@@ -14,8 +14,8 @@ const SECTORS: usize = 2048;
 // case.
 const READS: u64 = 1 + 2 + 2 * 64 + (2 + 1) + (2 + 1) + (2 + 256);
 
-// The volume that these words make.
-fn made_by(alloc: Global, words: &str) -> Result<Vec<u8>, test::Fail> {
+/// The volume of 2,048 sectors that these words make.
+pub fn made_by(alloc: Global, words: &str) -> Result<Vec<u8>, test::Fail> {
     let mut disk = MemDisk::new(alloc, vec![in alloc; 0; 512 * SECTORS]?);
     disk.reserve(2000)?;
     let mut out = sink_of(alloc, AMPLE, 0)?;
@@ -23,20 +23,20 @@ fn made_by(alloc: Global, words: &str) -> Result<Vec<u8>, test::Fail> {
     Ok(disk.contents().to_vec(alloc)?)
 }
 
-// The volume, as it was made.
-fn volume(alloc: Global) -> Result<Vec<u8>, test::Fail> {
+/// The volume, as it was made.
+pub fn volume(alloc: Global) -> Result<Vec<u8>, test::Fail> {
     made_by(alloc, "format 2048 4096 1 DATA")
 }
 
-// A disk with these contents.
-fn disk_of(alloc: Global, image: &[u8]) -> Result<MemDisk, AllocError> {
+/// A disk with these contents.
+pub fn disk_of(alloc: Global, image: &[u8]) -> Result<MemDisk, AllocError> {
     let mut contents = image.to_vec(alloc)?;
     contents.resize(512 * SECTORS, 0)?;
     Ok(MemDisk::new(alloc, contents))
 }
 
-// Why the volume is refused, if it is; writes are told as a failing device.
-fn refusal(alloc: Global, image: &[u8]) -> Result<Option<MountNo>, test::Fail> {
+/// Why the volume is refused, if it is; writes are told as a failing device.
+pub fn refusal(alloc: Global, image: &[u8]) -> Result<Option<MountNo>, test::Fail> {
     let mut disk = disk_of(alloc, image)?;
     let refusal = match check_records(alloc, &mut disk) {
         Ok(_) => None,

@@ -1,24 +1,30 @@
 //! Damage to the volume that `format 2048 4096 1 DATA` makes, one clause of the volume definition at a time. Where things
 //! lie was computed by hand from the table of items that `format` lays. No edit here touches the last two bytes of a
-//! sector, so the update sequences of the records stay right.
+//! sector, but where it says so, so the update sequences of the records stay right.
 ghost use Rattle.std.specs.Prelude.{◌≡◌, ◌<◌, ◌^◌, length};
 
-// The bytes at which the table of records, its bitmap and the bitmap of clusters begin.
+// The byte at which the table of records begins.
 const TABLE: usize = 2 * 4096;
 
-const RECORD_BITS: usize = 18 * 4096;
+/// The byte at which the bitmap of records begins.
+pub const RECORD_BITS: usize = 18 * 4096;
 
-const CLUSTER_BITS: usize = 36 * 4096;
+const MIRROR: usize = 19 * 4096;
+
+/// The byte at which the bitmap of clusters begins.
+pub const CLUSTER_BITS: usize = 36 * 4096;
 
 // Types of attributes.
 const FILE_NAME: u8 = 0x30;
+
+const VOLUME_INFORMATION: u8 = 0x70;
 
 const DATA: u8 = 0x80;
 
 const BITMAP: u8 = 0xB0;
 
-// Puts bytes at a place; nothing where they do not fit.
-fn put(image: &mut [u8], at: usize, bytes: &[u8])
+/// Puts bytes at a place; nothing where they do not fit.
+pub fn put(image: &mut [u8], at: usize, bytes: &[u8])
     ensures { length image.new ≡ length image.old }
 {
     if at <= image.len() && bytes.len() <= image.len() - at {
@@ -39,8 +45,8 @@ fn number(image: &[u8], at: usize) -> usize
     usize::from(byte(image, at)) + 256 * usize::from(next)
 }
 
-// Where record n begins.
-fn record(n: u8) -> usize
+/// Where record n begins.
+pub fn record(n: u8) -> usize
     ensures { result < 2 ^ 20 }
 {
     TABLE + 1024 * usize::from(n)
@@ -141,8 +147,8 @@ fn move_run(image: &mut [u8], n: u8, cluster: u8)
     put(image, text.saturating_add(2), &[cluster]);
 }
 
-// Sets a bit of the bitmap that begins at a place.
-fn set_bit(image: &mut [u8], bits: usize, n: u8)
+/// Sets a bit of the bitmap that begins at a place.
+pub fn set_bit(image: &mut [u8], bits: usize, n: u8)
     ensures { length image.new ≡ length image.old }
 {
     let at = bits.saturating_add(usize::from(n / 8));
@@ -227,5 +233,82 @@ pub fn break_clause(image: &mut [u8], clause: u8)
         }
         12 => clear_index_bit(image),
         _ => cut_case_table(image),
+    }
+}
+
+/// Changes the last byte of record n, where its second update sequence ends.
+pub fn tear(image: &mut [u8], n: u8)
+    ensures { length image.new ≡ length image.old }
+{
+    let at = record(n) + 1023;
+    let other = byte(image, at) ^ 0xFF;
+    put(image, at, &[other]);
+}
+
+/// Marks the volume as not closed, in record 3, and in its copy too where both are wanted.
+pub fn mark_dirty(image: &mut [u8], both: bool)
+    ensures { length image.new ≡ length image.old }
+{
+    let at = value(image, 3, VOLUME_INFORMATION).saturating_add(0x0A);
+    let flags = byte(image, at) | 1;
+    put(image, at, &[flags]);
+    if both {
+        put(image, at.saturating_add(MIRROR - TABLE), &[flags]);
+    }
+}
+
+// A sparse stream named `a` of one hole of 268,435,457 clusters, one byte longer than 2^40.
+fn long_stream() -> [u8; 88] {
+    let mut attribute = [0; 88];
+    attribute[0x00] = DATA;
+    attribute[0x04] = 88;
+    attribute[0x08] = 1;
+    attribute[0x09] = 1;
+    attribute[0x0A] = 0x48;
+    attribute[0x0D] = 0x80;
+    attribute[0x0E] = 9;
+    attribute[0x1B] = 0x10;
+    attribute[0x20] = 0x50;
+    attribute[0x29] = 0x10;
+    attribute[0x2D] = 1;
+    attribute[0x30] = 1;
+    attribute[0x35] = 1;
+    attribute[0x48] = b'a';
+    attribute[0x50..0x56].copy_from_slice(b"\x04\x01\0\0\x10\0");
+    attribute
+}
+
+// Puts that stream behind the last attribute of record n, which is one of `$DATA`.
+fn lengthen(image: &mut [u8], n: u8)
+    ensures { length image.new ≡ length image.old }
+{
+    let stream = long_stream();
+    let end = attribute(image, n, 0xFF);
+    let used = (number(image, record(n) + 0x18) as u32).saturating_add(88);
+    put(image, end, &stream);
+    put(image, end.saturating_add(88), &[0xFF; 4]);
+    put(image, record(n) + 0x18, &used.to_le_bytes());
+}
+
+/// Breaks a clause, by its number and in one place.
+pub fn break_once(image: &mut [u8], clause: u8)
+    ensures { length image.new ≡ length image.old }
+{
+    match clause {
+        1 => move_table(image),
+        2 => drop_first_record(image),
+        3 => stretch_record(image, 5),
+        4 => repeat_id(image, 4),
+        5 => extend(image, 26, 4),
+        6 => stretch_value(image, 2),
+        7 => move_run(image, 2, 19),
+        8 => set_bit(image, CLUSTER_BITS, 255),
+        9 => set_bit(image, RECORD_BITS, 30),
+        10 => age_parent(image, 24),
+        11 => count_links(image, 25),
+        12 => clear_index_bit(image),
+        13 => cut_case_table(image),
+        14 => mark_dirty(image, false),
+        _ => lengthen(image, 4),
     }
 }

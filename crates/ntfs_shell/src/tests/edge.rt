@@ -216,7 +216,7 @@ fn ends(rt: HostRuntime, end: &End) -> io::Result<bool> {
         printed: RefCell::new(Vec::new(rt.alloc())),
         said: RefCell::new(Vec::new(rt.alloc())),
     };
-    let got = start(&noted);
+    let got = start(&noted, false);
     let out = copy_of(rt.alloc(), &noted.printed)?;
     let told = copy_of(rt.alloc(), &noted.said)?;
     let told = str::from_utf8(&told).unwrap_or("");
@@ -239,7 +239,7 @@ struct End {
     said: &'static str,
 }
 
-const ENDS: [End; 16] = [
+const ENDS: [End; 18] = [
     End {
         line: b"ntfs_shell",
         status: 2,
@@ -295,7 +295,19 @@ const ENDS: [End; 16] = [
         said: "--help",
     },
     End {
+        line: b"ntfs_shell ntfs_shell_blank check",
+        status: 0,
+        printed: "sound\n",
+        said: "",
+    },
+    End {
         line: b"ntfs_shell ntfs_shell_whole check",
+        status: 3,
+        printed: "refused S2 0\n",
+        said: "S2 0: record 0 does not open",
+    },
+    End {
+        line: b"ntfs_shell ntfs_shell_whole run",
         status: 9,
         printed: "",
         said: "not built",

@@ -30,6 +30,7 @@ fn a_volume_is_what_was_asked_for(rt: HostRuntime) -> Result<(), test::Fail> {
         (FORMAT, "formatted 2048\n"),
         ("boot", GEOMETRY),
         ("label", LABEL),
+        ("check", "sound\n"),
     ] {
         let mut out = sink_of(rt.alloc(), AMPLE, 0)?;
         assert_eq!(rt; run(rt.alloc(), words, &mut disk, &mut out)?, 0, "{words}");

@@ -1,6 +1,4 @@
-use Rattle.std.proofs.Common.{◌≡◌, ◌+◌, ◌-◌, ◌<◌, ◌≤◌, ℕ, List, length, refl, sym, subst, arith}
-use Rattle.std.specs.Str.Iter.{chars_rest}
-use Rattle.std.specs.Char.Escape.{encode_utf16}
+use Rattle.std.proofs.Common.{◌<◌, ℕ, List, length, refl, sym, subst, arith}
 use Rattle.vol_bytes.specs.NameText.{IsSpelled}
 use Rattle.ntfs_shell.proofs.LabelTexts.{IsPassed-first, length-none, length-utf16}
 use Rattle.ntfs_shell.proofs.label_option.is_short.Goals as goal

@@ -1,11 +1,12 @@
 use Rattle.std.proofs.Common.{◌⊎◌, refl, inl, inr}
 use Rattle.ntfs_shell.proofs.words.read_words.Goals as goal
 
-none-of : {A B C D : Type 0} → ¬ A → ¬ B → ¬ C → ¬ D → ¬ ((A ⊎ B) ⊎ C ⊎ D)
-none-of a b c d (inl (inl is)) = a is
-none-of a b c d (inl (inr is)) = b is
-none-of a b c d (inr (inl is)) = c is
-none-of a b c d (inr (inr is)) = d is
+none-of : {A B C D E : Type 0} → ¬ A → ¬ B → ¬ C → ¬ D → ¬ E → ¬ ((A ⊎ B ⊎ C) ⊎ D ⊎ E)
+none-of a b c d e (inl (inl is)) = a is
+none-of a b c d e (inl (inr (inl is))) = b is
+none-of a b c d e (inl (inr (inr is))) = c is
+none-of a b c d e (inr (inl is)) = d is
+none-of a b c d e (inr (inr is)) = e is
 
 pub returns-in-Some-clause-format : goal.returns-in-Some-clause-format
 returns-in-Some-clause-format c options are =
@@ -24,6 +25,7 @@ returns-in-None-clause-unknown c = (
   λ _. none-of
       (λ boot. let yes = c.are_words.ensures.1 boot in let no = c.if-are_words.false in absurd (cc))
       (λ label. let yes = c.are_words-2.ensures.1 label in let no = c.if-are_words-2.false in absurd (cc))
+      (λ check. let yes = c.are_words-3.ensures.1 check in let no = c.if-are_words-3.false in absurd (cc))
       (λ ask. let found = c.in_ok-options.ensures.exact ask.0 ask.1 in let is = c.in-None.is in absurd (cc))
       (λ unbuilt. let yes = c.ask_unbuilt.ensures.1 unbuilt in let no = c.if-ask_unbuilt.false in absurd (cc)),
   λ _. refl,

@@ -1,0 +1,111 @@
+//! The word `check`, on volumes of 2,048 sectors that `format` makes, whole and damaged.
+use super::check::{disk_of, made_by, volume};
+use super::damage::{break_once, mark_dirty, tear};
+use super::{AMPLE, run, sink_of};
+use std::alloc::Global;
+use std::test;
+use vol_disk::{CallKind, Fail, FailDisk};
+
+const SOUND: &str = "sound\n";
+
+// Whether `check` of these contents ends so, and writes nothing.
+fn ends_so(alloc: Global, image: &[u8], status: u8, text: &str) -> Result<bool, test::Fail> {
+    let mut disk = disk_of(alloc, image)?;
+    let mut out = sink_of(alloc, AMPLE, 0)?;
+    let got = run(alloc, "check", &mut disk, &mut out)?;
+    Ok(got == status && out.bytes() == text.as_bytes() && disk.writes().is_empty())
+}
+
+#[test]
+fn a_new_volume_is_sound(rt: HostRuntime) -> Result<(), test::Fail> {
+    for words in [
+        "format 2048 512 1 A",
+        "format 2048 1024 1 A",
+        "format 2048 2048 1 A",
+        "format 2048 4096 1 A",
+    ] {
+        let image = made_by(rt.alloc(), words)?;
+        assert!(rt; ends_so(rt.alloc(), &image, 0, SOUND)?, "{words}");
+    }
+    Ok(())
+}
+
+// Of two records that are torn the lesser is told.
+#[test]
+fn a_torn_record_is_told(rt: HostRuntime) -> Result<(), test::Fail> {
+    let mut image = volume(rt.alloc())?;
+    tear(&mut image, 9);
+    tear(&mut image, 6);
+    assert!(rt; ends_so(rt.alloc(), &image, 3, "refused S3 6\n")?);
+    Ok(())
+}
+
+// Where record 3 alone says so, it differs from its copy, and that is told first.
+#[test]
+fn a_volume_that_was_not_closed_is_told(rt: HostRuntime) -> Result<(), test::Fail> {
+    let mut image = volume(rt.alloc())?;
+    mark_dirty(&mut image, false);
+    assert!(rt; ends_so(rt.alloc(), &image, 3, "refused S14 3\n")?);
+    mark_dirty(&mut image, true);
+    assert!(rt; ends_so(rt.alloc(), &image, 3, "refused dirty\n")?);
+    Ok(())
+}
+
+// One clause is broken, in one place.
+#[test]
+fn each_damage_is_told(rt: HostRuntime) -> Result<(), test::Fail> {
+    let whole = volume(rt.alloc())?;
+    for (clause, text) in [
+        (1, "refused S1 7\n"),
+        (2, "refused S2 0\n"),
+        (3, "refused S3 5\n"),
+        (4, "refused S4 4\n"),
+        (5, "refused S5 4\n"),
+        (6, "refused S6 2\n"),
+        (7, "refused S7 19\n"),
+        (8, "refused S8 255\n"),
+        (9, "refused S9 30\n"),
+        (10, "refused S10 24\n"),
+        (11, "refused S11 25\n"),
+        (12, "refused S12 5\n"),
+        (13, "refused S13 10\n"),
+        (14, "refused S14 3\n"),
+        (15, "refused S15 4\n"),
+    ] {
+        let mut image = whole.as_slice().to_vec(rt.alloc())?;
+        break_once(&mut image, clause);
+        assert!(rt; ends_so(rt.alloc(), &image, 3, text)?, "{text}");
+    }
+    Ok(())
+}
+
+// The status of `check` on a disk of which one read fails, and whether what is printed is that of this status.
+fn failing(alloc: Global, image: &[u8], number: u64) -> Result<(u8, bool), test::Fail> {
+    let fail = Fail {
+        kind: CallKind::Read,
+        number,
+        lands: false,
+    };
+    let mut disk = FailDisk::new(disk_of(alloc, image)?, vec![in alloc; fail]?);
+    let mut out = sink_of(alloc, AMPLE, 0)?;
+    let status = run(alloc, "check", &mut disk, &mut out)?;
+    let text = if status == 0 { SOUND } else { "" };
+    Ok((status, out.bytes() == text.as_bytes()))
+}
+
+// Each read fails in turn, until none is left to fail.
+#[test]
+fn each_failing_read_is_told(rt: HostRuntime) -> Result<(), test::Fail> {
+    let image = volume(rt.alloc())?;
+    for number in 1..=4000_u64 {
+        let (status, right) = failing(rt.alloc(), &image, number)?;
+        assert!(rt; right, "read {number}");
+        if status == 0 {
+            assert!(rt; 395 < number, "read {number}");
+            return Ok(());
+        }
+        assert_eq!(rt; status, 6, "read {number}");
+    }
+    assert!(rt; false, "a read of 4000 fails");
+    Ok(())
+}
