@@ -1,9 +1,9 @@
 -- What the table of records in use shows, and what its calls keep.
-use Rattle.std.specs.Prelude.{◌≡◌, ℕ, is_some}
+use Rattle.std.specs.Prelude.{◌≡◌, ℕ, Bool, is_some}
 use Rattle.vol_disk.specs.Contents.{sector_in}
 use Rattle.vol_disk.specs.declared.Disk.{Ghosts}
 use Rattle.vol_stage.specs.declared.stage.Stage.{Stage}
-use Rattle.vol_stage.specs.Staged.{StageReads, disk_of, image}
+use Rattle.vol_stage.specs.Staged.{StageReads, StageSettles, disk_of, image, is_broken}
 use Rattle.volume_def.specs.View.{VolumeView, view_of}
 use Rattle.mft_table.specs.declared.mft.Mft.{Mft}
 use Rattle.mft_table.specs.declared.mounted.Mounted.{Mounted}
@@ -27,3 +27,12 @@ view g mft = view_of (is_some (image g (stage_of g mft))) (sector_in (image g (s
 pub record MftReads {D : Type 0} (g : Ghosts D) (old new : Mft D g) (reads : ℕ) : Type 0 where
   pub stage : StageReads g (stage_of g old) (stage_of g new) reads
   pub mounted : mounted_of g new ≡ mounted_of g old
+
+-- What a call keeps that settles the disk.
+pub record MftSettles {D : Type 0} (g : Ghosts D) (old new : Mft D g) : Type 0 where
+  pub stage : StageSettles g (stage_of g old) (stage_of g new)
+  pub mounted : mounted_of g new ≡ mounted_of g old
+
+-- a call failed that no write may come behind
+abbrev pub is_mft_broken : {D : Type 0} (g : Ghosts D) → Mft D g → Bool
+is_mft_broken g mft = is_broken g (stage_of g mft)

@@ -1,7 +1,7 @@
 //! The table of records in use: a stage, and what is kept of the volume.
 ghost use Rattle.std.proofs.Props.{props};
-ghost use Rattle.std.specs.Prelude.{◌≡◌, ◌<◌, Contains, IfErr, IsOk, IsTrue, MatchResult, OnErr, OnOk, length, ◌*◌, ◌^◌, ◌≤◌, IfSome};
-ghost use Rattle.vol_disk.specs.Contents.{IsTold, sector_in};
+ghost use Rattle.std.specs.Prelude.{◌≡◌, ◌<◌, ◌*◌, ◌^◌, ◌≤◌, false, Contains, IfErr, IfSome, IsOk, IsTrue, MatchResult, OnErr, OnOk, is_err, length};
+ghost use Rattle.vol_disk.specs.Contents.{IsTold, sector_in, settled_more};
 ghost use Rattle.vol_disk.specs.Count.{CountsFault};
 ghost use Rattle.ntfs_def.specs.Fixup.{HasArray, IsSealed, bare_of, opened_of};
 ghost use Rattle.volume_def.specs.Table.{cluster_bytes};
@@ -46,7 +46,7 @@ impl<'d, D: Disk> Mft<'d, D> {
 }
 
 impl<D: Disk> Mft<'_, D> {
-    ghost use Rattle.mft_table.specs.Mft.{MftReads, faults_of, mounted_of, stage_of, view};
+    ghost use Rattle.mft_table.specs.Mft.{MftReads, MftSettles, faults_of, is_mft_broken, mounted_of, stage_of, view};
 
     /// Lends the tables.
     pub fn mounted(&self) -> &Mounted
@@ -123,6 +123,26 @@ impl<D: Disk> Mft<'_, D> {
         ensures reads { MftReads D.Disk self.old self.new 1 }
     {
         self.stage.read(sector, into)?;
+        Ok(())
+    }
+
+    /// Has the disk make stay what was written to it. What is staged is not written.
+    ///
+    /// # Errors
+    ///
+    /// `Device` where the disk failed; no write may then come behind it.
+    pub fn settle(&mut self) -> Result<(), MftNo>
+        requires { is_mft_broken D.Disk self.old ≡ false }
+        ensures settled { OnOk result (D.settled (disk_of D.Disk (stage_of D.Disk self.new))
+            ≡ settled_more (D.settled (disk_of D.Disk (stage_of D.Disk self.old))) (D.now (disk_of D.Disk (stage_of D.Disk self.old)))) }
+        ensures unsettled { OnErr result (D.settled (disk_of D.Disk (stage_of D.Disk self.new))
+            ≡ D.settled (disk_of D.Disk (stage_of D.Disk self.old))) }
+        ensures keeps { MftSettles D.Disk self.old self.new }
+        ensures broken { is_mft_broken D.Disk self.new ≡ is_err result }
+        ensures faults { CountsFault result (faults_of D.Disk self.old) (faults_of D.Disk self.new) }
+        ensures device { IfErr result (λ no. no ≡ MftNo.Device) }
+    {
+        self.stage.settle()?;
         Ok(())
     }
 }

@@ -99,9 +99,13 @@ impl<D: Disk> Mft<'_, D> {
         Ok(())
     }
 
-    // Bytes of a run that begins at a cluster, from its byte `skip` on. Those past the end of the disk are
-    // zero.
-    fn read_placed(&mut self, lcn: u64, skip: u64, into: &mut [u8]) -> Result<(), MftNo>
+    /// Reads what lies from a cluster of the volume on, from its byte `skip` on. What lies past the end of the disk reads as
+    /// zeros. Each piece of 512 bytes is read once.
+    ///
+    /// # Errors
+    ///
+    /// `Device` where the disk failed; what `into` then holds is not told.
+    pub fn read_placed(&mut self, lcn: u64, skip: u64, into: &mut [u8]) -> Result<(), MftNo>
         requires skip { skip < cluster_bytes (view D.Disk self.old).layout }
         requires fits { skip + length into.old < 2 ^ 64 }
         ensures read { OnOk result (IsTrue (view D.Disk self.old).told → into.new

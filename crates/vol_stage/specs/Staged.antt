@@ -56,3 +56,15 @@ pub record StageReads {D : Type 0} (g : Ghosts D) (old new : Stage D g) (reads :
   pub goes_on : GoesOn g old new
   pub only_reads : OnlyReads g old new
   pub fetched : g.fetched (disk_of g new) ≤ g.fetched (disk_of g old) + reads
+
+-- What a call keeps that settles the disk: what it tells, what is staged, and all counts but that of faults.
+pub record StageSettles {D : Type 0} (g : Ghosts D) (old new : Stage D g) : Type 0 where
+  pub goes_on : GoesOn g old new
+  pub now : g.now (disk_of g new) ≡ g.now (disk_of g old)
+  pub fenced : g.fenced (disk_of g new) ≡ g.fenced (disk_of g old)
+  pub written : g.written (disk_of g new) ≡ g.written (disk_of g old)
+  pub fetched : g.fetched (disk_of g new) ≡ g.fetched (disk_of g old)
+  pub late : g.late (disk_of g new) ≡ g.late (disk_of g old)
+  pub image : image g new ≡ image g old
+  pub places : places g new ≡ places g old
+  pub spare : spare g new ≡ spare g old

@@ -1,6 +1,6 @@
 //! The stage: a disk, and the sectors that are to be written to it.
-ghost use Rattle.std.specs.Prelude.{◌≡◌, ◌*◌, ◌^◌, ◌<◌, [], false, Contains, IfErr, IfSome, IsOk, OnOk, OnErr, length};
-ghost use Rattle.vol_disk.specs.Contents.{IsTold, sector_in};
+ghost use Rattle.std.specs.Prelude.{◌≡◌, ◌*◌, ◌^◌, ◌<◌, [], false, Contains, IfErr, IfSome, IsOk, OnOk, OnErr, is_err, length};
+ghost use Rattle.vol_disk.specs.Contents.{IsTold, sector_in, settled_more};
 ghost use Rattle.vol_disk.specs.Count.{CountsFault};
 ghost use Rattle.vol_stage.specs.StagedWrites.{AreRising, AreWithin, HaveSectorLength};
 
@@ -57,7 +57,7 @@ impl<'d, D: Disk> Stage<'d, D> {
 }
 
 impl<D: Disk> Stage<'_, D> {
-    ghost use Rattle.vol_stage.specs.Staged.{disk_of, image, is_broken, places, StageReads};
+    ghost use Rattle.vol_stage.specs.Staged.{disk_of, image, is_broken, places, StageReads, StageSettles};
 
     /// The number of sectors of the disk.
     pub fn sectors(&self) -> u64
@@ -94,6 +94,27 @@ impl<D: Disk> Stage<'_, D> {
             return Ok(());
         }
         self.disk.read(sector, into)?;
+        Ok(())
+    }
+
+    /// Has the disk make stay what was written to it. What is staged is not written.
+    ///
+    /// # Errors
+    ///
+    /// `Device` where the disk failed; the stage is then broken.
+    pub fn settle(&mut self) -> Result<(), StageNo>
+        requires { is_broken D.Disk self.old ≡ false }
+        ensures settled { OnOk result (D.settled (disk_of D.Disk self.new)
+            ≡ settled_more (D.settled (disk_of D.Disk self.old)) (D.now (disk_of D.Disk self.old))) }
+        ensures unsettled { OnErr result (D.settled (disk_of D.Disk self.new) ≡ D.settled (disk_of D.Disk self.old)) }
+        ensures keeps { StageSettles D.Disk self.old self.new }
+        ensures broken { is_broken D.Disk self.new ≡ is_err result }
+        ensures faults { CountsFault result (D.faults (disk_of D.Disk self.old)) (D.faults (disk_of D.Disk self.new)) }
+        ensures device { IfErr result (λ error. error ≡ StageNo.Device) }
+    {
+        let done = self.disk.settle();
+        self.broken = done.is_err();
+        done?;
         Ok(())
     }
 }
