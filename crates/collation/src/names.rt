@@ -9,11 +9,11 @@ use std::cmp::Ordering;
 use upcase::UpCase;
 use vol_bytes::u16_at;
 
-/// Where a key has the number of its units.
-const UNIT_COUNT: usize = 0x40;
+/// Where a key, the value of a `$FILE_NAME`, has the number of its units.
+pub const UNIT_COUNT: usize = 0x40;
 
-/// Where the units of a key begin.
-const UNITS: usize = 0x42;
+/// Where the units of a key begin, of two bytes each.
+pub const UNITS: usize = 0x42;
 
 /// The order of a directory: names by their folded units, and equal ones by their plain units.
 #[derive(Debug, Drop)]
@@ -27,8 +27,8 @@ pub struct FoldedOrder<'u> {
     pub names: &'u FileNameOrder,
 }
 
-// Whether bytes are the value of a `$FILE_NAME` that holds its units.
-fn is_name_key(key: &[u8]) -> bool
+/// Whether bytes are the value of a `$FILE_NAME` that holds its units, one at least.
+pub fn is_name_key(key: &[u8]) -> bool
     ensures { result ≡ is_name_key key.now }
 {
     key.len() >= UNITS && key[UNIT_COUNT] >= 1 && UNITS + 2 * key[UNIT_COUNT] as usize <= key.len()

@@ -59,23 +59,27 @@ pub trait Blocks {
     /// The calls that found no room.
     ghost full: { Self → ℕ };
 
+    /// What its records are told from can be read.
+    ghost ready: { Self → Type 0 };
+
     /// Reads a record, opened. No record changes.
     ///
     /// # Errors
     ///
     /// `Device` where the disk failed, and `Memory` where it did not. Never `NoRoom`. `into` is then as before.
     fn read(&mut self, vcn: u64, into: &mut [u8; 4096]) -> Result<(), BlockNo>
-        requires { WhereTold (records self.old) (λ record_at. IsSome (record_at vcn)) }
+        requires ready { ready self.old }
+        requires there { WhereTold (records self.old) (λ record_at. IsSome (record_at vcn)) }
         ensures read { OnOk result (WhereTold (records self.old) (λ record_at. record_at vcn ≡ Some into.new)) }
         ensures kept { OnErr result (into.new ≡ into.old) }
 
+        ensures ready { ready self.new }
         ensures records { records self.new ≡ records self.old }
         ensures volume { volume self.new ≡ volume self.old }
         ensures file { file self.new ≡ file self.old }
         ensures only_reads { only_reads self.old self.new }
         ensures reads { reads self.new ≡ next_count (reads self.old) }
         ensures fetched { fetched self.new ≤ fetched self.old + 8 }
-        ensures rising { fetched self.old ≤ fetched self.new }
         ensures taken { taken self.new ≡ taken self.old }
         ensures full { full self.new ≡ full self.old }
 

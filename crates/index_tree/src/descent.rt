@@ -26,6 +26,7 @@ fn first_below<B: Blocks, C: Collation>(
     key: &[u8],
     level: usize,
 ) -> Result<Option<Octets>, IndexNo>
+    requires ready { B.ready blocks.old }
     requires tree { WhereTold (B.records blocks.old) (λ r.
         HasRising (λ x. C.order order.now x key.now) (C.valid order.now) (nodes_of form r) child level) }
     requires key { IsTrue (C.valid order.now key.now) }
@@ -38,6 +39,7 @@ fn first_below<B: Blocks, C: Collation>(
     ensures fetched { WhereTold (B.records blocks.old) (λ r. CostsBelow 8 (λ x. C.order order.now x key.now) (C.valid order.now)
         (nodes_of form r) child (B.fetched blocks.old) (B.fetched blocks.new)) }
 
+    ensures ready { B.ready blocks.new }
     ensures records { B.records blocks.new ≡ B.records blocks.old }
     ensures volume { B.volume blocks.new ≡ B.volume blocks.old }
     ensures file { B.file blocks.new ≡ B.file blocks.old }
@@ -92,6 +94,7 @@ impl<C: Collation> Index<C> {
         root: &[u8],
         key: &[u8],
     ) -> Result<Option<Octets>, IndexNo>
+        requires ready { B.ready blocks.old }
         requires index { WhereTold (B.records blocks.old) (λ r. HasRisingIndex (λ x. C.order (order_of self.now) x key.now)
             (C.valid (order_of self.now)) (nodes_of (form_of self.now) r) (node_in (form_of self.now) root.now)) }
         requires key { IsTrue (C.valid (order_of self.now) key.now) }
@@ -106,6 +109,7 @@ impl<C: Collation> Index<C> {
             (C.valid (order_of self.now)) (nodes_of (form_of self.now) r) (node_in (form_of self.now) root.now)
             (B.fetched blocks.old) (B.fetched blocks.new)) }
 
+        ensures ready { B.ready blocks.new }
         ensures records { B.records blocks.new ≡ B.records blocks.old }
         ensures volume { B.volume blocks.new ≡ B.volume blocks.old }
         ensures file { B.file blocks.new ≡ B.file blocks.old }

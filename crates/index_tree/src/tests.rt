@@ -166,6 +166,8 @@ impl<'b> Blocks for Listed<'b> {
 
     ghost full = { λ it. 0 };
 
+    ghost ready = { λ it. Unit {0} };
+
     fn read(&mut self, vcn: u64, into: &mut [u8; 4096]) -> Result<(), BlockNo> {
         let read = self.reads;
         self.reads = read.saturating_add(1);
@@ -218,6 +220,8 @@ impl<'b> Blocks for Stored<'b> {
     ghost faults = { λ it. 0 };
 
     ghost full = { λ it. 0 };
+
+    ghost ready = { λ it. Unit {0} };
 
     fn read(&mut self, vcn: u64, into: &mut [u8; 4096]) -> Result<(), BlockNo> {
         self.reads = self.reads.saturating_add(1);

@@ -35,6 +35,7 @@ fn walk_tree<B: Blocks>(
     level: usize,
     out: &mut Vec<Octets>,
 ) -> Result<(), IndexNo>
+    requires ready { B.ready blocks.old }
     requires tree { WhereTold (B.records blocks.old) (λ r. HasTree (nodes_of form r) child level) }
     ensures walked { OnOk result (WhereTold (B.records blocks.old) (λ r.
         WalksTree (nodes_of form r) child out.old.items out.new.items)) }
@@ -45,6 +46,7 @@ fn walk_tree<B: Blocks>(
     ensures fetched { OnOk result (WhereTold (B.records blocks.old) (λ r.
         CostsTree 8 (nodes_of form r) child (B.fetched blocks.old) (B.fetched blocks.new))) }
 
+    ensures ready { B.ready blocks.new }
     ensures records { B.records blocks.new ≡ B.records blocks.old }
     ensures volume { B.volume blocks.new ≡ B.volume blocks.old }
     ensures file { B.file blocks.new ≡ B.file blocks.old }
@@ -78,6 +80,7 @@ fn walk_node<B: Blocks>(
     level: usize,
     out: &mut Vec<Octets>,
 ) -> Result<(), IndexNo>
+    requires ready { B.ready blocks.old }
     requires spread { WhereTold (B.records blocks.old) (λ r.
         HasSpread (nodes_of (form_of_view node.now) r) (node_of_view node.now) level) }
     ensures walked { OnOk result (WhereTold (B.records blocks.old) (λ r.
@@ -90,6 +93,7 @@ fn walk_node<B: Blocks>(
     ensures fetched { OnOk result (WhereTold (B.records blocks.old) (λ r.
         CostsNode 8 (nodes_of (form_of_view node.now) r) (node_of_view node.now) (B.fetched blocks.old) (B.fetched blocks.new))) }
 
+    ensures ready { B.ready blocks.new }
     ensures records { B.records blocks.new ≡ B.records blocks.old }
     ensures volume { B.volume blocks.new ≡ B.volume blocks.old }
     ensures file { B.file blocks.new ≡ B.file blocks.old }
@@ -129,6 +133,7 @@ impl<C> Index<C> {
         blocks: &mut B,
         root: &[u8],
     ) -> Result<Vec<Octets>, IndexNo>
+        requires ready { B.ready blocks.old }
         requires index { WhereTold (B.records blocks.old) (λ r.
             HasWalk (nodes_of (form_of self.now) r) (node_in (form_of self.now) root.now)) }
         ensures walked { IfOk result (λ entries. WhereTold (B.records blocks.old) (λ r.
@@ -141,6 +146,7 @@ impl<C> Index<C> {
             CostsWalk 8 (nodes_of (form_of self.now) r) (node_in (form_of self.now) root.now)
             (B.fetched blocks.old) (B.fetched blocks.new))) }
 
+        ensures ready { B.ready blocks.new }
         ensures records { B.records blocks.new ≡ B.records blocks.old }
         ensures volume { B.volume blocks.new ≡ B.volume blocks.old }
         ensures file { B.file blocks.new ≡ B.file blocks.old }

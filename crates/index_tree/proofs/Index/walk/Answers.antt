@@ -11,6 +11,7 @@ walk_node-requires g c =
     let form = c.args.self.now.form in
     let n : Node = node_of_view c.in-Ok.node in
     record {
+      ready = c.requires.ready;
       spread = λ r e. subst (λ k. HasSpread (nodes_of k r) n 15) (sym c.in-Ok.ensures.form)
           (root_spread (nodes_of form r) (node_in form c.args.root.now) n (ap whole_of c.in-Ok.ensures.ok) (c.requires.index r e));
     }

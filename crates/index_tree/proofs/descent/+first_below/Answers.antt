@@ -8,8 +8,8 @@ use Rattle.index_tree.proofs.Rising.{IfOk-map, some_record, read_node, not_refus
 use Rattle.index_tree.proofs.Rising.{one_more, rising_node, rising_level, keys_there, firsts, first_reads, has_rising, hit_inside}
 use Rattle.index_tree.proofs.descent.+first_below.Goals as goal
 
-pub read-requires : goal.read-requires
-read-requires g t c r e =
+pub read-requires-clause-there : goal.read-requires-clause-there
+read-requires-clause-there g t c r e =
     let side : List ℕ → Ordering = λ x. g.C.Collation.order c.args.order.now x c.args.key.now in
     let valid = g.C.Collation.valid c.args.order.now in
     let nodes = nodes_of c.args.form r in
@@ -56,18 +56,21 @@ first_below-requires g t c κs within =
         (
           within.1,
           (
-            (λ r e'.
-                let e = sym c.read.ensures.records ∙ e' in
-                let side : List ℕ → Ordering = λ x. g.C.Collation.order c.args.order.now x c.args.key.now in
-                let valid = g.C.Collation.valid c.args.order.now in
-                let nodes = nodes_of c.args.form r in
-                let has = subst (λ x. HasRising side valid nodes x c.args.level) c.in-Some.is (c.requires.tree r e) in
-                let n : Node = node_of_view c.in-Ok.node in
-                let read = read_node c.args.form r c.in-Some.vcn c.read.new.into n (c.in_ok-read.ensures.read r e) c.in-Ok.ensures.ok in
-                subst (λ b. HasRising side valid nodes b (c.args.level - 1)) (sym c.child.ensures)
-                (has_rising side valid nodes c.in-Some.vcn n read c.in-Some-seek_in.i c.in-Some-seek_in.hit
-                c.in-Some-seek_in.ensures.place c.args.level has)),
-            c.requires.key,
+            c.read.ensures.ready,
+            (
+              (λ r e'.
+                  let e = sym c.read.ensures.records ∙ e' in
+                  let side : List ℕ → Ordering = λ x. g.C.Collation.order c.args.order.now x c.args.key.now in
+                  let valid = g.C.Collation.valid c.args.order.now in
+                  let nodes = nodes_of c.args.form r in
+                  let has = subst (λ x. HasRising side valid nodes x c.args.level) c.in-Some.is (c.requires.tree r e) in
+                  let n : Node = node_of_view c.in-Ok.node in
+                  let read = read_node c.args.form r c.in-Some.vcn c.read.new.into n (c.in_ok-read.ensures.read r e) c.in-Ok.ensures.ok in
+                  subst (λ b. HasRising side valid nodes b (c.args.level - 1)) (sym c.child.ensures)
+                  (has_rising side valid nodes c.in-Some.vcn n read c.in-Some-seek_in.i c.in-Some-seek_in.hit
+                  c.in-Some-seek_in.ensures.place c.args.level has)),
+              c.requires.key,
+            ),
           ),
         ),
       ),

@@ -35,6 +35,7 @@ root_is = refl
 
 pub walk-requires : goal.walk-requires
 walk-requires g c = record {
+  ready = tt;
   index = λ r e. subst (λ form. HasWalk (nodes_of form r) (node_in form root_bytes)) (sym c.new-index.ensures.form)
       (bare_walk (nodes_of View r) (node_in View root_bytes) root_is);
 }

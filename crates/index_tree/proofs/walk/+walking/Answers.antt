@@ -19,6 +19,7 @@ walk_node-loop-i-init g t c =
       own = λ h. h;
       reads = λ r e. costs_start 1 (nodes_of (form_of_view node) r) n (g.B.Blocks.reads c.args.blocks.now);
       fetched = λ r e. costs_start 8 (nodes_of (form_of_view node) r) n (g.B.Blocks.fetched c.args.blocks.now);
+      ready = c.requires.ready;
       records = refl;
       volume = refl;
       file = refl;
@@ -36,10 +37,13 @@ walk_node-walk_tree-requires g t c κs within =
       omega arith,
       (
         within,
-        λ r e.
-            subst (λ k. HasTree (nodes_of k r) c.child.result c.args.level) (sym c.form.ensures)
-            (subst (λ x. HasTree (nodes_of (form_of_view node) r) x c.args.level) (sym c.child.ensures)
-            (tree_below (nodes_of (form_of_view node) r) n c.args.level c.loop-i.i (c.requires.spread r (sym c.loop-i.invariant.records ∙ e)))),
+        (
+          c.loop-i.invariant.ready,
+          λ r e.
+              subst (λ k. HasTree (nodes_of k r) c.child.result c.args.level) (sym c.form.ensures)
+              (subst (λ x. HasTree (nodes_of (form_of_view node) r) x c.args.level) (sym c.child.ensures)
+              (tree_below (nodes_of (form_of_view node) r) n c.args.level c.loop-i.i (c.requires.spread r (sym c.loop-i.invariant.records ∙ e)))),
+        ),
       ),
     )
 
@@ -51,11 +55,14 @@ walk_node-walk_tree-requires-2 g t c κs within =
       omega arith,
       (
         within,
-        λ r e.
-            subst (λ k. HasTree (nodes_of k r) c.child-2.result c.args.level) (sym c.form-2.ensures)
-            (subst (λ x. HasTree (nodes_of (form_of_view node) r) x c.args.level) (sym c.child-2.ensures)
-            (tree_below (nodes_of (form_of_view node) r) n c.args.level c.entries.result (c.requires.spread r
-            (sym c.loop-i.invariant.records ∙ e)))),
+        (
+          c.loop-i.invariant.ready,
+          λ r e.
+              subst (λ k. HasTree (nodes_of k r) c.child-2.result c.args.level) (sym c.form-2.ensures)
+              (subst (λ x. HasTree (nodes_of (form_of_view node) r) x c.args.level) (sym c.child-2.ensures)
+              (tree_below (nodes_of (form_of_view node) r) n c.args.level c.entries.result (c.requires.spread r
+              (sym c.loop-i.invariant.records ∙ e)))),
+        ),
       ),
     )
 
@@ -94,6 +101,7 @@ walk_node-loop-i-preserved g t c =
           (g.B.Blocks.fetched c.walk_tree.new.blocks)) c.child.ensures
           (subst (λ k. CostsTree 8 (nodes_of k r) c.child.result (g.B.Blocks.fetched c.loop-i.blocks)
           (g.B.Blocks.fetched c.walk_tree.new.blocks)) c.form.ensures (below.fetched r (so_far.records ∙ e))));
+      ready = c.walk_tree.ensures.ready;
       records = c.walk_tree.ensures.records ∙ so_far.records;
       volume = c.walk_tree.ensures.volume ∙ so_far.volume;
       file = c.walk_tree.ensures.file ∙ so_far.file;
@@ -169,8 +177,8 @@ walk_tree-returns-then-level-eq0-clause-walked g t c r e =
     let f = c.if-level-eq0.true in
     absurd (omega arith)
 
-pub walk_tree-read-requires : goal.walk_tree-read-requires
-walk_tree-read-requires g t c r e =
+pub walk_tree-read-requires-clause-there : goal.walk_tree-read-requires-clause-there
+walk_tree-read-requires-clause-there g t c r e =
     let has = subst (λ x. HasTree (nodes_of c.args.form r) x c.args.level) c.in-Some.is (c.requires.tree r e) in
     some_record c.args.form r c.in-Some.vcn (tree_node (nodes_of c.args.form r) c.in-Some.vcn c.args.level has)
 
@@ -189,12 +197,15 @@ walk_tree-walk_node-requires g t c κs within =
       omega arith,
       (
         within,
-        λ r e'.
-            let e = sym c.read.ensures.records ∙ e' in
-            let has = subst (λ x. HasTree (nodes_of c.args.form r) x c.args.level) c.in-Some.is (c.requires.tree r e) in
-            let read = read_node c.args.form r c.in-Some.vcn c.read.new.into n (c.in_ok-read.ensures.read r e) c.in-Ok.ensures.ok in
-            subst (λ k. HasSpread (nodes_of k r) n (c.args.level - 1)) (sym c.in-Ok.ensures.form)
-            (has_spread (nodes_of c.args.form r) c.in-Some.vcn n read c.args.level has),
+        (
+          c.read.ensures.ready,
+          λ r e'.
+              let e = sym c.read.ensures.records ∙ e' in
+              let has = subst (λ x. HasTree (nodes_of c.args.form r) x c.args.level) c.in-Some.is (c.requires.tree r e) in
+              let read = read_node c.args.form r c.in-Some.vcn c.read.new.into n (c.in_ok-read.ensures.read r e) c.in-Ok.ensures.ok in
+              subst (λ k. HasSpread (nodes_of k r) n (c.args.level - 1)) (sym c.in-Ok.ensures.form)
+              (has_spread (nodes_of c.args.form r) c.in-Some.vcn n read c.args.level has),
+        ),
       ),
     )
 

@@ -22,6 +22,7 @@ invariant-walk_node-loop-i g l = record {
       (g.B.Blocks.reads l.fn.blocks) (g.B.Blocks.reads l.blocks));
   fetched : WhereTold (g.B.Blocks.records l.fn.blocks) (λ r. CostsFront 8 (nodes_of (form_of_view l.node) r) (node_of_view l.node) l.i
       (g.B.Blocks.fetched l.fn.blocks) (g.B.Blocks.fetched l.blocks));
+  ready : g.B.Blocks.ready l.blocks;
   records : g.B.Blocks.records l.blocks ≡ g.B.Blocks.records l.fn.blocks;
   volume : g.B.Blocks.volume l.blocks ≡ g.B.Blocks.volume l.fn.blocks;
   file : g.B.Blocks.file l.blocks ≡ g.B.Blocks.file l.fn.blocks;

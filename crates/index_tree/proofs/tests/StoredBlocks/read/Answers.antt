@@ -11,4 +11,4 @@ returns-in_default-clause-read c = λ contents e.
     let blocks = c.args.self.now.blocks.now in
     let past : length blocks ≤ c.args.vcn = ltb-false c.args.vcn (length blocks) (sym c.in_default.ensures.lookup.0) in
     let none : slice_get blocks c.args.vcn ≡ None = slice_get_past blocks c.args.vcn past in
-    absurd (is_none (contents c.args.vcn) (sym (ap (λ f. f c.args.vcn) (some_same e)) ∙ none) (c.requires contents e))
+    absurd (is_none (contents c.args.vcn) (sym (ap (λ f. f c.args.vcn) (some_same e)) ∙ none) (c.requires.there contents e))
