@@ -1,23 +1,19 @@
 -- What the steps of the check have decided, one behind the other.
-use Rattle.std.proofs.Common.{◌≡◌, ◌+◌, ◌*◌, ℕ, List, Option, length, ap, subst, ◌∙◌, arith}
-use Rattle.std.specs.Prelude.{is_some}
+use Rattle.std.proofs.Common.{◌≡◌, ◌+◌, ◌*◌, ℕ, length, ap, subst, arith}
 use Rattle.vol_disk.specs.declared.Disk.{Ghosts}
-use Rattle.vol_disk.specs.Contents.{sector_in}
 use Rattle.vol_disk.specs.Reading.{DiskReads}
 use Rattle.vol_stage.specs.declared.stage.Stage.{Stage}
-use Rattle.vol_stage.specs.Staged.{StageReads, disk_of, image}
+use Rattle.vol_stage.specs.Staged.{StageReads, disk_of}
 use Rattle.mft_table.specs.declared.mft.Mft.{Mft}
-use Rattle.mft_table.specs.declared.mounted.Mounted.{Mounted}
-use Rattle.mft_table.specs.Mft.{MftReads, mounted_of, stage_of, view}
-use Rattle.mft_table.specs.Mounted.{mounted_layout}
+use Rattle.mft_table.specs.Mft.{MftReads, stage_of, view}
 use Rattle.mft_table.proofs.StreamReads.{MftReads-none, StageReads-then}
 use Rattle.attr_store.proofs.FewerReads.{MftReads-less}
 use Rattle.volume_def.specs.Files.{records_of}
 use Rattle.volume_def.specs.Sound.{HoldBelow}
-use Rattle.volume_def.specs.View.{VolumeView, view_of}
+use Rattle.volume_def.specs.View.{VolumeView}
 use Rattle.volume_facts.specs.declared.facts.Facts.{Facts}
 use Rattle.volume_facts.specs.Spread.{extensions_below, listed_below}
-use Rattle.check_records.specs.Reads.{check_reads, files_reads, values_reads}
+use Rattle.check_records.specs.Reads.{bytes_reads, check_reads, files_reads}
 use Rattle.check_records.specs.Views.{HasComeTo}
 use Rattle.check_records.proofs.FactsGiven.{RightNote-all}
 
@@ -48,18 +44,10 @@ disk-read g before after resumed new m n scan same steps =
 -- what all steps ask for
 pub check_reads-sum : (view : VolumeView) (facts : Facts) → HasComeTo view 1 facts → HoldBelow view 10
     → (3 + 2 * view.layout.count) + (files_reads (length facts.spread.listed.items) (length facts.spread.extensions.items)
-    + values_reads view) ≡ check_reads view
+    + bytes_reads view.layout) ≡ check_reads view
 check_reads-sum view facts come below =
     let spread = (RightNote-all view facts 10 (omega arith) below come.noted).spread in
     let listed : length facts.spread.listed.items ≡ length (listed_below (records_of view) view.layout.count) = ap length spread.listed in
     let extensions : length facts.spread.extensions.items ≡ length (extensions_below (records_of view) view.layout.count) =
     ap length spread.extensions in
     omega (arith, listed, extensions)
-
--- the volume of a table that goes on
-pub resumed-view : {D : Type 0} (g : Ghosts D) (mft : Mft D g) (told : Option (List ℕ)) (mounted : Mounted)
-    → image g (stage_of g mft) ≡ told → mounted_of g mft ≡ mounted
-    → view g mft ≡ view_of (is_some told) (sector_in told) (mounted_layout mounted)
-resumed-view g mft told mounted same its =
-    ap (λ i. view_of (is_some i) (sector_in i) (mounted_layout (mounted_of g mft))) same
-    ∙ ap (λ m. view_of (is_some told) (sector_in told) (mounted_layout m)) its

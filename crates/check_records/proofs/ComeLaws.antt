@@ -1,14 +1,18 @@
 -- What is known where the check has come to a clause.
-use Rattle.std.proofs.Common.{◌<◌, ℕ, arith}
+use Rattle.std.proofs.Common.{◌<◌, ℕ, subst, arith}
+use Rattle.ntfs_def.specs.declared.kinds.TheConstants.{BITMAP, DATA}
+use Rattle.ntfs_def.specs.declared.records.TheConstants.{CLUSTER_BITMAP, MFT, UPCASE}
+use Rattle.volume_def.specs.BitmapClauses.{cluster_bits, record_bits}
+use Rattle.volume_def.specs.CaseClause.{case_parts}
 use Rattle.volume_def.specs.Files.{records_of}
-use Rattle.volume_def.specs.ShapeClause.{MeetsShape}
-use Rattle.volume_def.specs.Sound.Clause.{Owners, Shape}
+use Rattle.volume_def.specs.Sound.Clause.{Owners}
 use Rattle.volume_def.specs.View.{VolumeView}
 use Rattle.volume_facts.specs.declared.facts.Facts.{Facts}
 use Rattle.volume_facts.specs.Bitmaps.{AllOwnersNote}
 use Rattle.volume_facts.specs.Facts.{RightNote}
-use Rattle.volume_facts.specs.Heads.{HeadsNote}
+use Rattle.volume_facts.specs.Streams.{NotesStream, StreamsNote}
 use Rattle.volume_facts.specs.Used.{AllUsedNote}
+use Rattle.volume_facts.proofs.StreamLaws.{stream_below-all}
 use Rattle.check_records.specs.Views.{HasComeTo}
 use Rattle.check_records.proofs.FactsGiven.{RightNote-all}
 
@@ -16,12 +20,25 @@ right-come : (view : VolumeView) (rank : ℕ) (facts : Facts) → 1 < rank → H
     → RightNote (records_of view) view.layout.count facts
 right-come view rank facts behind come = RightNote-all view facts rank behind come.before come.noted
 
-pub heads-come : (view : VolumeView) (rank : ℕ) (facts : Facts) → 1 < rank → HasComeTo view rank facts
-    → HeadsNote (records_of view) view.layout.count facts.heads
-heads-come view rank facts behind come = (right-come view rank facts behind come).heads
+streams-come : (view : VolumeView) (rank : ℕ) (facts : Facts) → 1 < rank → HasComeTo view rank facts
+    → StreamsNote (records_of view) view.layout.count facts.streams
+streams-come view rank facts behind come = (right-come view rank facts behind come).streams
 
-pub shape-come : (view : VolumeView) (rank : ℕ) (facts : Facts) → 1 < rank → HasComeTo view rank facts → (n : ℕ) → MeetsShape view n
-shape-come view rank facts behind come = come.before Shape (omega arith)
+-- what is noted of the streams of all records is noted of those of the volume
+pub cluster-bits-come : (view : VolumeView) (facts : Facts) → HasComeTo view 5 facts
+    → NotesStream (cluster_bits view) facts.streams.cluster_bits
+cluster-bits-come view facts come = subst (λ ps. NotesStream ps facts.streams.cluster_bits)
+    (stream_below-all (records_of view) CLUSTER_BITMAP DATA) (streams-come view 5 facts (omega arith) come).cluster_bits
+
+pub record-bits-come : (view : VolumeView) (facts : Facts) → HasComeTo view 6 facts
+    → NotesStream (record_bits view) facts.streams.record_bits
+record-bits-come view facts come = subst (λ ps. NotesStream ps facts.streams.record_bits)
+    (stream_below-all (records_of view) MFT BITMAP) (streams-come view 6 facts (omega arith) come).record_bits
+
+pub case-table-come : (view : VolumeView) (facts : Facts) → HasComeTo view 9 facts
+    → NotesStream (case_parts view) facts.streams.case_table
+case-table-come view facts come = subst (λ ps. NotesStream ps facts.streams.case_table)
+    (stream_below-all (records_of view) UPCASE DATA) (streams-come view 9 facts (omega arith) come).case_table
 
 pub owners-come : (view : VolumeView) (facts : Facts) → HasComeTo view 5 facts → AllOwnersNote view facts.owners
 owners-come view facts come = record {

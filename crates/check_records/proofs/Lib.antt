@@ -3,12 +3,10 @@ pub mod ScanLaws
 pub mod RefusalLaws
 pub mod BelowLaws
 pub mod FactsGiven
-pub mod UnnamedLaws
 pub mod ValueLaws
 pub mod AnswerLaws
 pub mod CheckLaws
 pub mod TablesLaws
-pub mod FileLaws
 pub mod ComeLaws
 pub mod StreamLaws
 pub mod PlacedLaws

@@ -11,7 +11,7 @@ use Rattle.mft_table.specs.declared.mount.MountNo.{MountNo}
 use Rattle.mft_table.specs.declared.mounted.Mounted.{Mounted}
 use Rattle.mft_table.specs.Mounted.{StandsOn, mounted_layout}
 use Rattle.mft_table.specs.Tables.{layout_on}
-use Rattle.check_records.specs.Reads.{check_reads, files_reads, values_reads}
+use Rattle.check_records.specs.Reads.{bytes_reads, check_reads, files_reads}
 use Rattle.check_records.specs.Refusals.{IsRefusal, IsRefusalIf}
 use Rattle.mft_table.specs.HeldTables.{AreStored, HasTable, HoldsTables, volume_in}
 use Rattle.check_records.specs.Views.{HasComeTo}
@@ -87,7 +87,7 @@ pub reads-checked : (told : Option (List ℕ)) (mounted : Mounted) (facts : Fact
     → (IsTrue (is_some told) → HasComeTo (found_view told mounted) 1 facts)
     → (IsTrue (is_some told) → HasComeTo (found_view told mounted) 1 facts → HoldBelow (found_view told mounted) 10)
     → WhereTold told (λ image. (3 + 2 * length mounted.records)
-    + (files_reads (length facts.spread.listed.items) (length facts.spread.extensions.items) + values_reads (found_view told mounted))
+    + (files_reads (length facts.spread.listed.items) (length facts.spread.extensions.items) + bytes_reads (mounted_layout mounted))
     ≡ check_reads (volume_in image (stored_tables mounted clusters records upcase)))
 reads-checked told mounted facts clusters records upcase long come below = λ image is.
     let yes : IsTrue (is_some told) = subst (λ (t : Option (List ℕ)). IsTrue (is_some t)) (sym is) refl in

@@ -1,7 +1,7 @@
 pub mod Clauses
 pub mod Refusals
 pub mod Views
-pub mod Unnamed
+pub mod Streams
 pub mod Reads
 pub mod Listed
 pub mod Decided

@@ -1,11 +1,9 @@
 -- How many sectors the steps of the check ask for at most.
 use Rattle.std.specs.Prelude.{ℕ, ◌+◌, ◌*◌, ◌/◌, length}
-use Rattle.ntfs_def.specs.declared.records.TheConstants.{CLUSTER_BITMAP, MFT, UPCASE}
 use Rattle.volume_def.specs.Files.{records_of}
 use Rattle.volume_def.specs.Table.{TableLayout}
 use Rattle.volume_def.specs.Values.{pieces_touched}
 use Rattle.volume_def.specs.View.{VolumeView}
-use Rattle.file_record.specs.Records.{records_of_file}
 use Rattle.volume_facts.specs.Spread.{extensions_below, listed_below}
 
 -- of files that stand in several records: so many have a list, and so many are extension records
@@ -16,14 +14,9 @@ files_reads listed extensions = 514 * listed + 2 * extensions
 abbrev pub bytes_reads : TableLayout → ℕ
 bytes_reads layout = pieces_touched 0 ((layout.clusters + 7) / 8) + pieces_touched 0 ((layout.count + 7) / 8) + 256
 
--- .. and the records of their files
-abbrev pub values_reads : VolumeView → ℕ
-values_reads view =
-    2 * (records_of_file view CLUSTER_BITMAP + records_of_file view MFT + records_of_file view UPCASE) + bytes_reads view.layout
-
 -- .. and the whole check: the boot sector, record 0, each record once, and then files
 abbrev pub check_reads : VolumeView → ℕ
 check_reads view = 3 + 2 * view.layout.count
     + files_reads (length (listed_below (records_of view) view.layout.count))
     (length (extensions_below (records_of view) view.layout.count))
-    + values_reads view
+    + bytes_reads view.layout

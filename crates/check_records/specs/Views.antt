@@ -11,6 +11,7 @@ use Rattle.volume_def.specs.View.{VolumeView, view_of}
 use Rattle.volume_facts.specs.declared.facts.Facts.{Facts}
 use Rattle.volume_facts.specs.Facts.{FactsNote, records_known}
 use Rattle.volume_facts.specs.Owners.{clusters_noted}
+use Rattle.volume_facts.specs.Streams.{HasPlaces}
 use Rattle.volume_facts.specs.Unlisted.{bytes_noted}
 
 -- with its table where the layout says
@@ -21,6 +22,7 @@ stage_view g stage layout = view_of (is_some (image g stage)) (sector_in (image 
 pub record IsOfVolume (layout : TableLayout) (facts : Facts) : Type 0 where
   pub records : records_known facts ≡ layout.count
   pub clusters : clusters_noted facts.owners ≡ layout.clusters
+  pub places : HasPlaces layout.clusters layout.count (cluster_bytes layout) facts.streams
   pub cluster_bytes : bytes_noted facts.unlisted ≡ cluster_bytes layout
 
 -- The check has come to the clause of this rank: those before it hold, and the facts are those of the volume.

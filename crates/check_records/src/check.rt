@@ -8,7 +8,7 @@ ghost use Rattle.mft_table.specs.Mft.{MftReads, faults_of, view};
 ghost use Rattle.mft_table.specs.MountNos.{CountsMount};
 ghost use Rattle.mft_table.specs.Mounted.{StandsOn, mounted_layout};
 ghost use Rattle.check_records.specs.Decided.{AreDecided};
-ghost use Rattle.check_records.specs.Reads.{bytes_reads, check_reads, files_reads, values_reads};
+ghost use Rattle.check_records.specs.Reads.{bytes_reads, check_reads, files_reads};
 ghost use Rattle.check_records.specs.Refusals.{IsRefusal, IsRefusalIf};
 ghost use Rattle.mft_table.specs.HeldTables.{AreStored, HoldsTables, volume_in};
 ghost use Rattle.check_records.specs.Views.{HasComeTo};
@@ -95,10 +95,7 @@ fn read_stored<D: Disk>(
     ensures err { IfErr result (IsRefusalIf (HasComeTo (view D.Disk mft.old) 5 facts.now) (view D.Disk mft.old)) }
     ensures faults { MatchResult result (λ _. faults_of D.Disk mft.new ≡ faults_of D.Disk mft.old)
         (CountsMount (faults_of D.Disk mft.old) (faults_of D.Disk mft.new)) }
-    ensures reads { MftReads D.Disk mft.old mft.new
-        (6 * (view D.Disk mft.old).layout.count + bytes_reads (view D.Disk mft.old).layout) }
-    ensures fetched { OnOk result (IsTrue (view D.Disk mft.old).told → HasComeTo (view D.Disk mft.old) 5 facts.now
-        → MftReads D.Disk mft.old mft.new (values_reads (view D.Disk mft.old))) }
+    ensures reads { MftReads D.Disk mft.old mft.new (bytes_reads (view D.Disk mft.old).layout) }
 {
     let clusters = read_cluster_bits(alloc, mft, facts)?;
     let records = read_record_bits(alloc, mft, facts)?;
@@ -128,11 +125,7 @@ fn check_files<D: Disk>(
         (CountsMount (faults_of D.Disk mft.old) (faults_of D.Disk mft.new)) }
     ensures reads { MftReads D.Disk mft.old mft.new
         (files_reads (length facts.now.spread.listed.items) (length facts.now.spread.extensions.items)
-        + (6 * (view D.Disk mft.old).layout.count + bytes_reads (view D.Disk mft.old).layout)) }
-    ensures fetched { OnOk result (IsTrue (view D.Disk mft.old).told → HasComeTo (view D.Disk mft.old) 1 facts.now
-        → MftReads D.Disk mft.old mft.new
-        (files_reads (length facts.now.spread.listed.items) (length facts.now.spread.extensions.items)
-        + values_reads (view D.Disk mft.old))) }
+        + bytes_reads (view D.Disk mft.old).layout) }
 {
     decide_files(alloc, mft, facts)?;
     let stored = read_stored(alloc, mft, facts)?;

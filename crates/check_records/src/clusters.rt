@@ -1,34 +1,24 @@
 //! The bitmap of clusters, read and compared with the owners.
-ghost use Rattle.std.specs.Prelude.{◌≡◌, ◌+◌, ◌*◌, ◌/◌, ◌<◌, ◌≤◌, ℕ, false, IfErr, IfNone, IfOk, IfSome, IsTrue, MatchResult, OnOk, length};
+ghost use Rattle.std.specs.Prelude.{◌≡◌, ◌+◌, ◌*◌, ◌/◌, ◌≤◌, IfErr, IfNone, IfOk, IsTrue, MatchResult, OnOk, length};
+ghost use Rattle.std.specs.Int.{div_ceil};
 ghost use Rattle.ntfs_def.specs.Bits.{flags_in};
-ghost use Rattle.ntfs_def.specs.declared.kinds.TheConstants.{DATA};
-ghost use Rattle.ntfs_def.specs.declared.records.TheConstants.{CLUSTER_BITMAP};
-ghost use Rattle.volume_def.specs.BitmapClauses.{HasNoHole, MeetsClusterBits, cluster_bits};
-ghost use Rattle.volume_def.specs.Files.{records_of};
+ghost use Rattle.volume_def.specs.BitmapClauses.{MeetsClusterBits, cluster_bits};
 ghost use Rattle.volume_def.specs.Sound.{HoldBelow};
-ghost use Rattle.volume_def.specs.Values.{IsPlain, pieces_touched, value_on};
+ghost use Rattle.volume_def.specs.Values.{pieces_touched, value_on};
 ghost use Rattle.volume_def.specs.View.{VolumeView};
 ghost use Rattle.mft_table.specs.Mft.{MftReads, faults_of, view};
 ghost use Rattle.mft_table.specs.MountNos.{CountsMount};
-ghost use Rattle.file_record.specs.Records.{records_of_file};
 ghost use Rattle.volume_facts.specs.BitRanges.{IsPieceOf};
 ghost use Rattle.volume_facts.specs.Bitmaps.{AllOwnersNote, HasClusterBytes};
 ghost use Rattle.volume_facts.specs.Least.{IsLeastFailing};
-ghost use Rattle.volume_facts.specs.Heads.{HeadsNote};
 ghost use Rattle.check_records.specs.Refusals.{IsFault, IsRefusalIf};
 ghost use Rattle.check_records.specs.Views.{HasComeTo};
-ghost use Rattle.check_records.specs.Unnamed.{TellsSizes, unnamed_in};
 
 use crate::clause::Clause;
-use crate::files::load_file;
-use crate::unnamed::{FirstPart, find_first, find_places};
-use crate::values::{load_bits, read_start};
+use crate::values::{is_whole, load_bits, read_start};
 use cluster_bitmap::Bits;
-use file_record::FileParts;
 use mft_table::{Mft, MountNo};
-use ntfs_def::kinds::DATA;
-use ntfs_def::records::CLUSTER_BITMAP;
-use std::alloc::{AllocError, Global};
+use std::alloc::Global;
 use vol_disk::Disk;
 use volume_facts::{Facts, Owners};
 
@@ -45,51 +35,30 @@ fn first_wrong_cluster(owners: &Owners, bytes: &[u8], written: u64) -> Option<u6
     }
 }
 
-// The part that tells the sizes of the bitmap, where it is not packed and has no hole.
-fn find_bitmap(alloc: Global, file: &FileParts) -> Result<Option<FirstPart>, AllocError>
-    ensures sizes { IfOk result (λ found. IfSome found (TellsSizes DATA file.now)) }
-    ensures plain { IfOk result (λ found. IfSome found (λ _. IsPlain (unnamed_in DATA file.now))) }
-    ensures placed { IfOk result (λ found. IfSome found (λ _. HasNoHole (unnamed_in DATA file.now))) }
-    ensures none { IfOk result (λ found. IfNone found (IsPlain (unnamed_in DATA file.now) → ¬ (HasNoHole (unnamed_in DATA file.now)))) }
-{
-    let Some(first) = find_first(file, DATA) else {
-        return Ok(None);
-    };
-    let places = find_places(alloc, file, DATA)?;
-    if first.packed || !places.placed {
-        return Ok(None);
-    }
-    Ok(Some(first))
-}
-
 // Reads the first bytes of the bitmap, and decides the clause by them: the least cluster that breaks it. They are not read
 // where the bitmap is packed or has a hole, or there is none.
 fn decide_cluster_bits<D: Disk>(
-    alloc: Global,
     mft: &mut Mft<'_, D>,
     facts: &Facts,
     into: &mut [u8],
 ) -> Result<Option<u64>, MountNo>
     ensures first { IfOk result (λ first. IsTrue (view D.Disk mft.old).told → HasComeTo (view D.Disk mft.old) 5 facts.now
-        → (view D.Disk mft.old).layout.clusters ≤ 8 * length into.old
+        → length into.old ≡ div_ceil (view D.Disk mft.old).layout.clusters 8
         → IsLeastFailing (MeetsClusterBits (view D.Disk mft.old)) first) }
     ensures bytes { IfOk result (λ first. IsTrue (view D.Disk mft.old).told → HasComeTo (view D.Disk mft.old) 5 facts.now
+        → length into.old ≡ div_ceil (view D.Disk mft.old).layout.clusters 8
         → IfNone first (IsPieceOf (value_on (view D.Disk mft.old) (cluster_bits (view D.Disk mft.old))) 0 into.new)) }
     ensures err { IfErr result IsFault }
     ensures faults { MatchResult result (λ _. faults_of D.Disk mft.new ≡ faults_of D.Disk mft.old)
         (CountsMount (faults_of D.Disk mft.old) (faults_of D.Disk mft.new)) }
-    ensures reads { MftReads D.Disk mft.old mft.new (2 * (view D.Disk mft.old).layout.count
-        + pieces_touched 0 (length into.old)) }
-    ensures fetched { HeadsNote (records_of (view D.Disk mft.old)) (view D.Disk mft.old).layout.count facts.now.heads
-        → MftReads D.Disk mft.old mft.new (2 * records_of_file (view D.Disk mft.old) CLUSTER_BITMAP
-        + pieces_touched 0 (length into.old)) }
+    ensures reads { MftReads D.Disk mft.old mft.new (pieces_touched 0 (length into.old)) }
 {
-    let file = load_file(alloc, mft, &facts.heads, CLUSTER_BITMAP)?;
-    let Some(first) = find_bitmap(alloc, &file)? else {
+    let note = &facts.streams.cluster_bits;
+    if !is_whole(note) {
         return Ok(Some(0));
-    };
-    read_start(alloc, mft, &file, DATA, &first, into)?;
-    let written = first.len.min(first.written);
+    }
+    read_start(mft, note, into)?;
+    let written = note.written_len();
     Ok(first_wrong_cluster(&facts.owners, into, written))
 }
 
@@ -111,15 +80,11 @@ pub fn read_cluster_bits<D: Disk>(
     ensures err { IfErr result (IsRefusalIf (HasComeTo (view D.Disk mft.old) 5 facts.now) (view D.Disk mft.old)) }
     ensures faults { MatchResult result (λ _. faults_of D.Disk mft.new ≡ faults_of D.Disk mft.old)
         (CountsMount (faults_of D.Disk mft.old) (faults_of D.Disk mft.new)) }
-    ensures reads { MftReads D.Disk mft.old mft.new (2 * (view D.Disk mft.old).layout.count
-        + pieces_touched 0 (((view D.Disk mft.old).layout.clusters + 7) / 8)) }
-    ensures fetched { HeadsNote (records_of (view D.Disk mft.old)) (view D.Disk mft.old).layout.count facts.now.heads
-        → MftReads D.Disk mft.old mft.new (2 * records_of_file (view D.Disk mft.old) CLUSTER_BITMAP
-        + pieces_touched 0 (((view D.Disk mft.old).layout.clusters + 7) / 8)) }
+    ensures reads { MftReads D.Disk mft.old mft.new (pieces_touched 0 (((view D.Disk mft.old).layout.clusters + 7) / 8)) }
 {
     let clusters = mft.mounted().geometry.clusters;
     let mut bytes = vec![in alloc; 0u8; clusters.div_ceil(8) as usize]?;
-    if let Some(number) = decide_cluster_bits(alloc, mft, facts, &mut bytes)? {
+    if let Some(number) = decide_cluster_bits(mft, facts, &mut bytes)? {
         return Err(Clause::ClusterBits.refusal(number));
     }
     load_bits(alloc, &bytes, clusters)

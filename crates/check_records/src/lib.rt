@@ -15,12 +15,9 @@ mod records;
 mod scan;
 mod start;
 mod streams;
-mod unnamed;
 mod values;
 mod wrong_files;
 
 pub use check::check_records;
 pub use files::no_file;
 pub use laws::one_answer;
-pub use streams::{Extent, find_extent};
-pub use unnamed::{FirstPart, find_first};

@@ -22,7 +22,6 @@ ghost use Rattle.check_records.specs.Listed.{IsBaseHeld, IsHeldIn, IsListedFile,
 ghost use Rattle.check_records.specs.Refusals.{IsFault};
 
 use crate::files::no_file;
-use crate::unnamed::clusters_of;
 use attr_list::EntryView;
 use attr_view::AttrView;
 use data_runs::{Run, read_runs};
@@ -31,7 +30,9 @@ use mft_table::{Mft, MountNo};
 use ntfs_def::is_packed;
 use std::alloc::{AllocError, Global};
 use vol_disk::Disk;
-use volume_facts::{Extension, Extent, add_extents, add_wanted, are_whole, names_each};
+use volume_facts::{
+    Extension, Extent, add_extents, add_wanted, are_whole, clusters_of, names_each,
+};
 
 /// The bytes that a list may have.
 const MOST_BYTES: u64 = 262_144;

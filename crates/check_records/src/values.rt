@@ -1,21 +1,30 @@
-//! The value of the unnamed attribute of a type of a file, read from its first byte on.
-ghost use Rattle.std.specs.Prelude.{◌≡◌, ◌*◌, ◌<◌, ◌≤◌, ℕ, List, IfErr, IfOk, IsTrue, MatchResult, OnOk, length};
+//! The value of a stream, read from its first byte on by what the pass noted of it.
+ghost use Rattle.std.specs.Prelude.{◌≡◌, ◌↔◌, ◌*◌, ◌≤◌, ℕ, List, IfErr, IfOk, IsTrue, MatchResult, OnOk, length};
 ghost use Rattle.ntfs_def.specs.Bits.{flags_in};
-ghost use Rattle.volume_def.specs.Values.{pieces_touched, value_on};
+ghost use Rattle.volume_def.specs.BitmapClauses.{HasNoHole};
+ghost use Rattle.volume_def.specs.Files.{Part};
+ghost use Rattle.volume_def.specs.Table.{cluster_bytes};
+ghost use Rattle.volume_def.specs.Values.{IsPlain, pieces_touched, value_on};
 ghost use Rattle.mft_table.specs.Mft.{MftReads, faults_of, view};
 ghost use Rattle.mft_table.specs.MountNos.{CountsMount};
-ghost use Rattle.file_record.specs.Held.{parts_held};
 ghost use Rattle.volume_facts.specs.BitRanges.{IsPieceOf};
+ghost use Rattle.volume_facts.specs.Streams.{NotesStream};
 ghost use Rattle.check_records.specs.Refusals.{IsFault};
-ghost use Rattle.check_records.specs.Unnamed.{TellsSizes, unnamed_in};
+ghost use Rattle.check_records.specs.Streams.{ArePlacesFor};
 
 use crate::streams::read_stored;
-use crate::unnamed::FirstPart;
 use cluster_bitmap::Bits;
-use file_record::FileParts;
 use mft_table::{Mft, MountNo};
 use std::alloc::Global;
 use vol_disk::Disk;
+use volume_facts::StreamNote;
+
+/// Whether a stream is not packed, and has no hole.
+pub fn is_whole(note: &StreamNote) -> bool
+    ensures { (extents : List Part) → NotesStream extents note.now → IsTrue result ↔ IsPlain extents × HasNoHole extents }
+{
+    note.is_plain() && note.placement.placed
+}
 
 // The first bytes of a value, and zeros behind its last.
 fn copy_start(value: &[u8], into: &mut [u8])
@@ -26,33 +35,31 @@ fn copy_start(value: &[u8], into: &mut [u8])
     into[len..].fill(0);
 }
 
-/// Reads the unnamed attribute of a type from its first byte on; zeros behind its last. Each piece of 512 bytes is read once.
+/// Reads the value of a stream from its first byte on; zeros behind its last, and where there is no such stream. Each piece of
+/// 512 bytes is read once.
 ///
 /// # Errors
 ///
-/// `Device` and `Memory` alone; what `into` then holds is not told.
+/// `Device` alone; what `into` then holds is not told.
 pub fn read_start<D: Disk>(
-    alloc: Global,
     mft: &mut Mft<'_, D>,
-    file: &FileParts,
-    kind: u32,
-    first: &FirstPart,
+    note: &StreamNote,
     into: &mut [u8],
 ) -> Result<(), MountNo>
-    requires { first.now.index < length (parts_held file.now) }
-    ensures read { OnOk result (IsTrue (view D.Disk mft.old).told → TellsSizes kind file.now first.now
-        → IsPieceOf (value_on (view D.Disk mft.old) (unnamed_in kind file.now)) 0 into.new) }
+    ensures read { OnOk result (IsTrue (view D.Disk mft.old).told → (extents : List Part) → NotesStream extents note.now
+        → ArePlacesFor (length into.old) (cluster_bytes (view D.Disk mft.old).layout) note.now
+        → IsPieceOf (value_on (view D.Disk mft.old) extents) 0 into.new) }
     ensures err { IfErr result IsFault }
     ensures faults { MatchResult result (λ _. faults_of D.Disk mft.new ≡ faults_of D.Disk mft.old)
         (CountsMount (faults_of D.Disk mft.old) (faults_of D.Disk mft.new)) }
     ensures reads { MftReads D.Disk mft.old mft.new (pieces_touched 0 (length into.old)) }
 {
-    if let Some(value) = file.attr(first.index).value() {
+    if let Some(value) = note.resident() {
         copy_start(value, into);
         return Ok(());
     }
-    let written = first.len.min(first.written).min(into.len() as u64) as usize;
-    read_stored(alloc, mft, file, kind, 0, &mut into[..written])?;
+    let written = note.written_len().min(into.len() as u64) as usize;
+    read_stored(mft, note, 0, &mut into[..written])?;
     into[written..].fill(0);
     Ok(())
 }

@@ -3,7 +3,6 @@
 
 mod base;
 mod error;
-mod gather;
 mod held;
 mod iter;
 mod list;

@@ -15,8 +15,8 @@ use mft_table::Mft;
 use std::alloc::Global;
 use vol_disk::Disk;
 
-/// Holds a record behind the others, where it is one of the file.
-pub fn hold_record<D: Disk>(
+// Holds a record behind the others, where it is one of the file.
+fn hold_record<D: Disk>(
     mft: &mut Mft<'_, D>,
     n: u64,
     number: u64,

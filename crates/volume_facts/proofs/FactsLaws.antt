@@ -12,6 +12,7 @@ use Rattle.volume_facts.proofs.LeastLaws.{below-fails, below-next}
 use Rattle.volume_facts.proofs.NameLaws.{NamesNote-unused}
 use Rattle.volume_facts.proofs.RecordsLaws.{OwnersNote-unused}
 use Rattle.volume_facts.proofs.SpreadLaws.{SpreadNote-unused}
+use Rattle.volume_facts.proofs.StreamLaws.{StreamsNote-unused}
 use Rattle.volume_facts.proofs.UnlistedLaws.{UnlistedNote-unused}
 use Rattle.volume_facts.proofs.UsedLaws.{UsedNote-unused}
 
@@ -49,4 +50,5 @@ RightNote-unused records n facts heads is more note = record {
   heads = more note.heads;
   names = NamesNote-unused records n facts.names is note.names;
   spread = SpreadNote-unused records n facts.spread is note.spread;
+  streams = StreamsNote-unused records n facts.streams is note.streams;
 }

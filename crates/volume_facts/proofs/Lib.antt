@@ -35,3 +35,5 @@ pub mod SplitLaws
 pub mod AloneLaws
 pub mod SpreadParts
 pub mod ListedLaws
+pub mod SpotLaws
+pub mod StreamLaws

@@ -8,6 +8,7 @@ use Rattle.volume_facts.specs.Least.{IsLeastBelow}
 use Rattle.volume_facts.specs.Names.{NamesNote}
 use Rattle.volume_facts.specs.Owners.{OwnersNote, clusters_noted}
 use Rattle.volume_facts.specs.Spread.{SpreadNote}
+use Rattle.volume_facts.specs.Streams.{SamePlaces, StreamsNote}
 use Rattle.volume_facts.specs.Unlisted.{UnlistedNote, bytes_noted}
 use Rattle.volume_facts.specs.Used.{UsedNote, records_noted}
 
@@ -19,6 +20,7 @@ pub record RightNote (records : Records) (n : ℕ) (facts : Facts) : Type 0 wher
   pub heads : HeadsNote records n facts.heads
   pub names : NamesNote records n facts.names
   pub spread : SpreadNote records n facts.spread
+  pub streams : StreamsNote records n facts.streams
 
 -- What is noted of the records below n: the first whose attributes are wrong, and of right ones all else.
 pub record FactsNote (records : Records) (n : ℕ) (facts : Facts) : Type 0 where
@@ -34,3 +36,4 @@ pub record SameVolume (old new : Facts) : Type 0 where
   pub records : records_known new ≡ records_known old
   pub clusters : clusters_noted new.owners ≡ clusters_noted old.owners
   pub cluster_bytes : bytes_noted new.unlisted ≡ bytes_noted old.unlisted
+  pub streams : SamePlaces old.streams new.streams

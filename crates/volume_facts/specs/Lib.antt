@@ -17,3 +17,5 @@ pub mod References
 pub mod Tallies
 pub mod Unlisted
 pub mod Used
+pub mod Skips
+pub mod Streams

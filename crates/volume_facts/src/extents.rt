@@ -39,8 +39,8 @@ fn total_of(runs: &[Run]) -> u64
     runs.iter().map(|run| run.len).sum()
 }
 
-// The clusters of a list of runs.
-fn clusters_of(runs: &RunList) -> u64
+/// The clusters of a list of runs.
+pub fn clusters_of(runs: &RunList) -> u64
     ensures { result ≡ total_clusters runs.now }
 {
     total_of(runs.runs())

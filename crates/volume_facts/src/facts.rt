@@ -7,10 +7,11 @@ ghost use Rattle.volume_facts.specs.Facts.{FactsNote, RightNote, SameVolume, rec
 ghost use Rattle.volume_facts.specs.Heads.{EndsAtCount};
 ghost use Rattle.volume_facts.specs.Least.{IsLeastFailing};
 ghost use Rattle.volume_facts.specs.Owners.{clusters_noted};
+ghost use Rattle.volume_facts.specs.Streams.{HasPlaces};
 ghost use Rattle.volume_facts.specs.Unlisted.{bytes_noted};
 
 use crate::names::file_of;
-use crate::{Heads, Names, Owners, SpreadFiles, UnlistedFiles, Used, is_right_record};
+use crate::{Heads, Names, Owners, SpreadFiles, Streams, UnlistedFiles, Used, is_right_record};
 use attr_view::RecordView;
 use std::alloc::{AllocError, Global};
 
@@ -25,6 +26,7 @@ pub struct Facts {
     pub heads: Heads,
     pub names: Names,
     pub spread: SpreadFiles,
+    pub streams: Streams,
 }
 
 impl Facts {
@@ -35,15 +37,18 @@ impl Facts {
         clusters: u64,
         count: u64,
     ) -> Result<Facts, AllocError>
+        requires some { 0 < cluster_bytes }
         requires clusters { clusters ≤ 2 ^ 26 }
         requires records { count ≤ 2 ^ 22 }
         ensures none { IfOk result (λ facts. (records : Records) → FactsNote records 0 facts) }
         ensures records { IfOk result (λ facts. records_known facts ≡ count) }
         ensures clusters { IfOk result (λ facts. clusters_noted facts.owners ≡ clusters) }
         ensures cluster_bytes { IfOk result (λ facts. bytes_noted facts.unlisted ≡ cluster_bytes) }
+        ensures streams { IfOk result (λ facts. HasPlaces clusters count cluster_bytes facts.streams) }
     {
         let owners = Owners::new(alloc, clusters)?;
         let used = Used::new(alloc, count)?;
+        let streams = Streams::new(alloc, cluster_bytes, clusters, count)?;
         Ok(Facts {
             first_wrong: None,
             unlisted: UnlistedFiles::new(cluster_bytes),
@@ -52,6 +57,7 @@ impl Facts {
             heads: Heads::new(alloc),
             names: Names::new(alloc),
             spread: SpreadFiles::new(alloc),
+            streams,
         })
     }
 
@@ -63,12 +69,14 @@ impl Facts {
         ensures kept { self.new.first_wrong ≡ self.old.first_wrong }
         ensures same { SameVolume self.old self.new }
     {
+        let file = file_of(n, view);
         self.unlisted.note(alloc, n, view)?;
-        self.owners.note(alloc, file_of(n, view), view)?;
+        self.owners.note(alloc, file, view)?;
         self.used.note(n);
         self.heads.note(view)?;
         self.names.note(n, view)?;
         self.spread.note(n, view)?;
+        self.streams.note(alloc, file, view)?;
         Ok(())
     }
 

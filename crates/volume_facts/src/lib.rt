@@ -10,6 +10,8 @@ mod extent_tests;
 mod extents;
 mod facts;
 mod heads;
+#[cfg(test)]
+mod laid;
 mod least;
 #[cfg(test)]
 mod link_tests;
@@ -21,13 +23,14 @@ mod owners;
 mod pairs;
 mod references;
 mod spread;
+mod streams;
 mod tallies;
 mod unlisted;
 mod used;
 mod whole;
 
 pub use attributes::is_right_record;
-pub use extents::{Extent, Held, add_extents, extents_of};
+pub use extents::{Extent, Held, add_extents, clusters_of, extents_of};
 pub use facts::Facts;
 pub use heads::{Head, Heads};
 pub use least::least_of;
@@ -37,6 +40,7 @@ pub use names::{NameFact, Names};
 pub use owners::{Owners, cluster_bits_laws};
 pub use references::first_wrong_reference;
 pub use spread::{Extension, SpreadFiles, split_file};
+pub use streams::{FirstPart, Placement, StreamNote, Streams, is_unnamed};
 pub use unlisted::UnlistedFiles;
 pub use used::{Used, used_laws};
 pub use whole::{are_whole, has_whole_extents};

@@ -10,6 +10,7 @@ ghost use Rattle.volume_facts.specs.Least.{IsLeastFailing};
 ghost use Rattle.volume_facts.specs.Owners.{OwnersNote, attribute_runs, clusters_noted, unnamed_data_runs};
 
 use crate::owners::{OwnedClusters, Owners};
+use crate::streams::is_unnamed;
 use attr_view::{AttrView, RecordView};
 use data_runs::{Run, read_runs};
 use ntfs_def::kinds::DATA;
@@ -53,7 +54,7 @@ fn owns_first_cluster(alloc: Global, attribute: &AttrView<'_>) -> Result<bool, A
 fn is_unnamed_data(attribute: &AttrView<'_>) -> bool
     ensures { result ≡ (((attribute_of attribute.now).kind == DATA) && bytes_eq (attribute_of attribute.now).name []) }
 {
-    attribute.kind() == DATA && attribute.name().is_empty()
+    is_unnamed(attribute, DATA)
 }
 
 // Whether the unnamed $DATA of a record has cluster 0.

@@ -8,7 +8,7 @@ use Rattle.volume_def.specs.Values.{pieces_touched, value_on}
 use Rattle.mft_table.specs.Mft.{view}
 use Rattle.attr_store.proofs.FewerReads.{MftReads-less}
 use Rattle.check_records.specs.Refusals.{IsRefusalIf}
-use Rattle.check_records.specs.Unnamed.{IsPlainOf, table_len}
+use Rattle.check_records.specs.Streams.{IsPlainOf, table_len}
 use Rattle.check_records.specs.Views.{HasComeTo}
 use Rattle.check_records.proofs.BelowLaws.{HasCaseTable-of, IsPlainOf-case, length-plain, no-case-table, touched-table}
 use Rattle.check_records.proofs.OrderLaws.{HoldBelow-more, IsFirstBroken-of}
@@ -40,7 +40,7 @@ returns-clause-table g c = ok-weaker c.load_table.result (λ table same told com
     let new = c.read_table.new.into in
     let items = with_items_is c.in_ok-bytes.bytes new (omega (arith, c.read_table.auto.into, c.deref_mut.ensures.len)) in
     let is : IsPlainOf len (case_parts v) = (c.in_ok-right.ensures.right told come).0 c.if-not-right.false in
-    let piece = c.in_ok-right.ensures.bytes told come c.if-not-right.false in
+    let piece = c.in_ok-right.ensures.bytes told come (omega (arith, c.deref_mut.ensures.len, c.in_ok-bytes.ensures)) c.if-not-right.false in
     same ∙ c.deref.ensures.value ∙ items
     ∙ whole-piece (value_on v (case_parts v)) new piece (c.read_table.auto.into ∙ sym (length-plain v len (case_parts v) is)))
     c.load_table.ensures.ok
@@ -51,32 +51,14 @@ returns-in_err-right-clause-reads g c =
     MftReads-less g.D.Disk c.args.mft.now c.read_table.new.mft _ _ c.read_table.ensures.reads
     (omega (arith, ap (pieces_touched 0) long, touched-table))
 
-pub returns-in_err-right-clause-fetched : goal.returns-in_err-right-clause-fetched
-returns-in_err-right-clause-fetched g c noted =
-    let long : length c.deref_mut.result.now ≡ table_len = omega (arith, c.deref_mut.ensures.len, c.in_ok-bytes.ensures) in
-    MftReads-less g.D.Disk c.args.mft.now c.read_table.new.mft _ _ (c.read_table.ensures.fetched noted)
-    (omega (arith, ap (pieces_touched 0) long, touched-table))
-
 pub returns-then-not-right-clause-reads : goal.returns-then-not-right-clause-reads
 returns-then-not-right-clause-reads g c =
     let long : length c.deref_mut.result.now ≡ table_len = omega (arith, c.deref_mut.ensures.len, c.in_ok-bytes.ensures) in
     MftReads-less g.D.Disk c.args.mft.now c.read_table.new.mft _ _ c.read_table.ensures.reads
     (omega (arith, ap (pieces_touched 0) long, touched-table))
 
-pub returns-then-not-right-clause-fetched : goal.returns-then-not-right-clause-fetched
-returns-then-not-right-clause-fetched g c noted =
-    let long : length c.deref_mut.result.now ≡ table_len = omega (arith, c.deref_mut.ensures.len, c.in_ok-bytes.ensures) in
-    MftReads-less g.D.Disk c.args.mft.now c.read_table.new.mft _ _ (c.read_table.ensures.fetched noted)
-    (omega (arith, ap (pieces_touched 0) long, touched-table))
-
 pub returns-clause-reads : goal.returns-clause-reads
 returns-clause-reads g c =
     let long : length c.deref_mut.result.now ≡ table_len = omega (arith, c.deref_mut.ensures.len, c.in_ok-bytes.ensures) in
     MftReads-less g.D.Disk c.args.mft.now c.read_table.new.mft _ _ c.read_table.ensures.reads
-    (omega (arith, ap (pieces_touched 0) long, touched-table))
-
-pub returns-clause-fetched : goal.returns-clause-fetched
-returns-clause-fetched g c noted =
-    let long : length c.deref_mut.result.now ≡ table_len = omega (arith, c.deref_mut.ensures.len, c.in_ok-bytes.ensures) in
-    MftReads-less g.D.Disk c.args.mft.now c.read_table.new.mft _ _ (c.read_table.ensures.fetched noted)
     (omega (arith, ap (pieces_touched 0) long, touched-table))

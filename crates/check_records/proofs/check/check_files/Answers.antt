@@ -1,10 +1,5 @@
-use Rattle.std.proofs.Common.{◌+◌, IsTrue, length, subst, arith}
 use Rattle.std.proofs.lemmas.Result.{err_from_is_err_and}
-use Rattle.mft_table.specs.Mft.{MftReads, view}
-use Rattle.mft_table.proofs.StreamReads.{MftReads-then}
-use Rattle.file_record.proofs.ReadLaws.{view-kept}
-use Rattle.check_records.specs.Reads.{files_reads, values_reads}
-use Rattle.check_records.specs.Views.{HasComeTo}
+use Rattle.mft_table.specs.Mft.{view}
 use Rattle.check_records.proofs.CheckLaws.{come-on}
 use Rattle.check_records.proofs.RefusalLaws.{IsRefusalIf-weaker}
 use Rattle.check_records.proofs.check.check_files.Goals as goal
@@ -28,14 +23,3 @@ returns-clause-stored g c = λ told come.
     let first = c.in_ok-decide_files.ensures.reads in
     let later = rw (first.stage.only_reads.image, first.mounted) at c.in_ok-stored.ensures.stored in
     later told (come-on (view g.D.Disk c.args.mft.now) 1 5 c.args.facts.now come (c.in_ok-decide_files.ensures.ok told come))
-
-pub returns-clause-fetched : goal.returns-clause-fetched
-returns-clause-fetched g c = λ told come.
-    let first = c.in_ok-decide_files.ensures.reads in
-    let v = view g.D.Disk c.args.mft.now in
-    let files = files_reads (length c.args.facts.now.spread.listed.items) (length c.args.facts.now.spread.extensions.items) in
-    let same = view-kept g.D.Disk c.args.mft.now c.decide_files.new.mft _ first in
-    let later = subst (λ w. IsTrue w.told → HasComeTo w 5 c.args.facts.now
-    → MftReads g.D.Disk c.decide_files.new.mft c.read_stored.new.mft (values_reads w)) same c.in_ok-stored.ensures.fetched in
-    MftReads-then g.D.Disk c.args.mft.now c.decide_files.new.mft c.read_stored.new.mft files (values_reads v) (files + values_reads v) first
-    (later told (come-on v 1 5 c.args.facts.now come (c.in_ok-decide_files.ensures.ok told come))) (omega arith)

@@ -1,17 +1,17 @@
-use Rattle.std.proofs.Common.{rules, ◌≡◌, ◌+◌, ◌*◌, ◌^◌, ◌≤◌, ℕ, List, Option, IsTrue, length, refl, sym, ap, subst, ◌∙◌}
+use Rattle.std.proofs.Common.{rules, ◌≡◌, ◌+◌, ◌*◌, ◌^◌, ◌≤◌, IsTrue, length, sym, ap, subst, ◌∙◌}
 use Rattle.std.specs.Prelude.{is_some}
 use Rattle.vol_disk.specs.Contents.{WhereTold}
 use Rattle.mft_table.specs.declared.mounted.Mounted.{Mounted}
 use Rattle.std.proofs.lemmas.Result.{err_from_is_err_and}
 use Rattle.mft_table.specs.HeldTables.{HoldsTables}
 use Rattle.vol_disk.specs.Reading.{DiskReads}
-use Rattle.vol_stage.specs.Staged.{disk_of, image}
-use Rattle.check_records.specs.Reads.{bytes_reads, check_reads, files_reads, values_reads}
+use Rattle.vol_stage.specs.Staged.{disk_of}
+use Rattle.check_records.specs.Reads.{bytes_reads, check_reads, files_reads}
 use Rattle.mft_table.specs.HeldTables.{volume_in}
 use Rattle.check_records.specs.Views.{HasComeTo}
-use Rattle.mft_table.specs.Mft.{MftReads, view}
+use Rattle.mft_table.specs.Mft.{MftReads}
 use Rattle.mft_table.specs.Mounted.{mounted_layout}
-use Rattle.check_records.proofs.CheckLaws.{disk-read, resumed-view}
+use Rattle.check_records.proofs.CheckLaws.{disk-read}
 use Rattle.check_records.proofs.TablesLaws.{found_view, reads-checked, refusal-checked, stored_tables, tables-checked}
 use Rattle.check_records.proofs.check.check_records.Goals as goal
 
@@ -38,7 +38,7 @@ returns-in_err-stored-clause-only_reads g c =
     let scanned = c.in-Ok.scanned in
     let first = 3 + 2 * 2 ^ 22 in
     let files = files_reads (length scanned.facts.spread.listed.items) (length scanned.facts.spread.extensions.items) in
-    let most = λ (m : Mounted). files + (6 * length m.records + bytes_reads (mounted_layout m)) in
+    let most = λ (m : Mounted). files + bytes_reads (mounted_layout m) in
     let steps = most scanned.mounted in
     let reads = subst (λ n. MftReads g.D.Disk c.resume-mft.result c.check_files-checked.new.mft n)
     (ap most c.resume-mft.ensures.mounted) c.in_err-stored.ensures.reads in
@@ -76,7 +76,7 @@ returns-clause-only_reads g c =
     let scanned = c.in-Ok.scanned in
     let first = 3 + 2 * 2 ^ 22 in
     let files = files_reads (length scanned.facts.spread.listed.items) (length scanned.facts.spread.extensions.items) in
-    let most = λ (m : Mounted). files + (6 * length m.records + bytes_reads (mounted_layout m)) in
+    let most = λ (m : Mounted). files + bytes_reads (mounted_layout m) in
     let steps = most scanned.mounted in
     let reads = subst (λ n. MftReads g.D.Disk c.resume-mft.result c.check_files-checked.new.mft n)
     (ap most c.resume-mft.ensures.mounted) c.in_ok-stored.ensures.reads in
@@ -89,6 +89,7 @@ returns-clause-only_reads g c =
 
 pub returns-clause-fetched : goal.returns-clause-fetched
 returns-clause-fetched g c = λ contents is.
+    subst (λ d. g.D.Disk.fetched d ≤ g.D.Disk.fetched c.args.disk.now + check_reads (volume_in contents c.with_stored.result)) (search rules) (
     let told = g.D.Disk.now c.args.disk.now in
     let start = c.over-stage.ensures.image in
     let scanned = c.in-Ok.scanned in
@@ -102,14 +103,10 @@ returns-clause-fetched g c = λ contents is.
     let long = rw c.resume-mft.ensures.mounted at c.in_ok-stored.ensures.records in
     let first = 3 + 2 * length scanned.mounted.records in
     let files = files_reads (length scanned.facts.spread.listed.items) (length scanned.facts.spread.extensions.items) in
-    let steps = files + values_reads (found_view told scanned.mounted) in
-    let yes : IsTrue (is_some told) = subst (λ (t : Option (List ℕ)). IsTrue (is_some t)) (sym is) refl in
-    let through : view g.D.Disk c.resume-mft.result ≡ found_view told scanned.mounted = resumed-view g.D.Disk c.resume-mft.result told
-    scanned.mounted (ap (λ s. image g.D.Disk s) c.resume-mft.ensures.stage ∙ c.in-Ok.ensures.reads.only_reads.image ∙ start)
-    c.resume-mft.ensures.mounted in
-    let reads = subst (λ w. IsTrue w.told → HasComeTo w 1 scanned.facts
-    → MftReads g.D.Disk c.resume-mft.result c.check_files-checked.new.mft (files + values_reads w)) through c.in_ok-stored.ensures.fetched
-    yes (come yes) in
+    let most = λ (m : Mounted). files + bytes_reads (mounted_layout m) in
+    let steps = most scanned.mounted in
+    let reads = subst (λ n. MftReads g.D.Disk c.resume-mft.result c.check_files-checked.new.mft n)
+    (ap most c.resume-mft.ensures.mounted) c.in_ok-stored.ensures.reads in
     let read = disk-read g.D.Disk _ _ _ _ first steps c.in-Ok.ensures.fetched c.resume-mft.ensures.stage reads in
     let last = c.finish-2.ensures.disk ∙ ap (λ s. disk_of g.D.Disk s) c.into_parts-stage.ensures.stage in
     let whole : DiskReads g.D.Disk c.args.disk.now c.finish-2.result.now (first + steps) =
@@ -121,5 +118,4 @@ returns-clause-fetched g c = λ contents is.
     let sum : first + steps ≡ check_reads (volume_in contents c.with_stored.result) =
     reads-checked told scanned.mounted scanned.facts stored.clusters stored.records stored.upcase long come below contents is
     ∙ ap (λ (m : Mounted). check_reads (volume_in contents m)) (sym same) in
-    subst (λ d. g.D.Disk.fetched d ≤ g.D.Disk.fetched c.args.disk.now + check_reads (volume_in contents c.with_stored.result)) (search rules)
-    (subst (λ n. g.D.Disk.fetched c.finish-2.result.now ≤ g.D.Disk.fetched c.args.disk.now + n) sum whole.fetched)
+    subst (λ n. g.D.Disk.fetched c.finish-2.result.now ≤ g.D.Disk.fetched c.args.disk.now + n) sum whole.fetched)

@@ -1,17 +1,8 @@
-use Rattle.std.proofs.Common.{◌+◌, ◌*◌, ◌/◌, sym, subst, ◌∙◌, arith}
+use Rattle.std.proofs.Common.{sym, subst, ◌∙◌}
 use Rattle.std.proofs.lemmas.Result.{err_from_is_err_and}
-use Rattle.ntfs_def.specs.declared.records.TheConstants.{CLUSTER_BITMAP, MFT, UPCASE}
-use Rattle.volume_def.specs.Files.{records_of}
-use Rattle.volume_def.specs.Values.{pieces_touched}
-use Rattle.mft_table.specs.Mft.{MftReads, faults_of, view}
+use Rattle.mft_table.specs.Mft.{faults_of, view}
 use Rattle.mft_table.specs.MountNos.{CountsMount}
-use Rattle.mft_table.proofs.StreamReads.{MftReads-then}
-use Rattle.file_record.specs.Records.{records_of_file}
-use Rattle.file_record.proofs.ReadLaws.{view-kept}
-use Rattle.volume_facts.specs.Heads.{HeadsNote}
-use Rattle.check_records.specs.Reads.{values_reads}
 use Rattle.check_records.proofs.CheckLaws.{come-on}
-use Rattle.check_records.proofs.ComeLaws.{heads-come}
 use Rattle.check_records.proofs.RefusalLaws.{IsRefusalIf-weaker}
 use Rattle.check_records.proofs.check.read_stored.Goals as goal
 
@@ -86,25 +77,3 @@ returns-clause-stored g c = λ told come.
       records_are = bits told six;
       upcase_is = case told (come-on v 7 9 c.args.facts.now seven (c.in_ok-decide_names.ensures.ok v seven));
     }
-
-pub returns-clause-fetched : goal.returns-clause-fetched
-returns-clause-fetched g c = λ told come.
-    let v = view g.D.Disk c.args.mft.now in
-    let mft_0 = c.args.mft.now in
-    let mft_1 = c.read_cluster_bits.new.mft in
-    let mft_2 = c.read_record_bits.new.mft in
-    let mft_3 = c.read_case_table.new.mft in
-    let heads = heads-come v 5 c.args.facts.now (omega arith) come in
-    let one = view-kept g.D.Disk mft_0 mft_1 _ c.in_ok-clusters.ensures.reads in
-    let two = view-kept g.D.Disk mft_1 mft_2 _ c.in_ok-records.ensures.reads ∙ one in
-    let a = 2 * records_of_file v CLUSTER_BITMAP + pieces_touched 0 ((v.layout.clusters + 7) / 8) in
-    let b = 2 * records_of_file v MFT + pieces_touched 0 ((v.layout.count + 7) / 8) in
-    let d = 2 * records_of_file v UPCASE + 256 in
-    let first : MftReads g.D.Disk mft_0 mft_1 a = c.in_ok-clusters.ensures.fetched heads in
-    let second : MftReads g.D.Disk mft_1 mft_2 b = subst (λ w. HeadsNote (records_of w) w.layout.count c.args.facts.now.heads
-    → MftReads g.D.Disk mft_1 mft_2 (2 * records_of_file w MFT + pieces_touched 0 ((w.layout.count + 7) / 8)))
-    one c.in_ok-records.ensures.fetched heads in
-    let third : MftReads g.D.Disk mft_2 mft_3 d = subst (λ w. HeadsNote (records_of w) w.layout.count c.args.facts.now.heads
-    → MftReads g.D.Disk mft_2 mft_3 (2 * records_of_file w UPCASE + 256)) two c.in_ok-upcase.ensures.fetched heads in
-    MftReads-then g.D.Disk mft_0 mft_2 mft_3 (a + b) d (values_reads v)
-    (MftReads-then g.D.Disk mft_0 mft_1 mft_2 a b (a + b) first second (omega arith)) third (omega arith)

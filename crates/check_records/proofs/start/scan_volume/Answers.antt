@@ -1,7 +1,8 @@
-use Rattle.std.proofs.Common.{Some, subst, sym, ◌∙◌}
+use Rattle.std.proofs.Common.{IsTrue, Some, subst, sym, ◌∙◌}
 use Rattle.std.specs.Prelude.{is_some}
 use Rattle.std.proofs.lemmas.Result.{err_from_is_err_and}
 use Rattle.vol_stage.specs.Staged.{disk_of, image}
+use Rattle.volume_def.specs.Sound.{HoldBelow}
 use Rattle.volume_def.specs.Table.{MeetsTable, TableLayout}
 use Rattle.vol_disk.specs.Contents.{sector_in}
 use Rattle.ntfs_def.specs.Boot.{boot_sector}
@@ -40,3 +41,12 @@ pub returns-in_err-table-clause-err : goal.returns-in_err-table-clause-err
 returns-in_err-table-clause-err g c =
     let p = err_from_is_err_and c.from_residual.result c.from_residual.ensures.1 in
     rw (p.1, p.2) (IsRefusal-table (image g.D.Disk c.args.stage.now) c.in_err-table.field-0.0 c.in_err-table.ensures.err)
+
+pub returns-clause-shape : goal.returns-clause-shape
+returns-clause-shape g c = λ told.
+    let layout : TableLayout = table_layout c.in_ok-table.table in
+    let found = subst (λ l. IsTrue (stage_view g.D.Disk c.find_table.new.stage l).told
+    → HoldBelow (stage_view g.D.Disk c.find_table.new.stage l) 1) c.blocks-2.ensures c.in_ok-facts.ensures.shape in
+    let here = subst (λ i. IsTrue (is_some i) → HoldBelow (view_of (is_some i) (sector_in i) layout) 1)
+    c.in_ok-table.ensures.reads.only_reads.image found in
+    subst (λ l. HoldBelow (stage_view g.D.Disk c.args.stage.now l) 1) (sym c.in_ok-mounted.ensures.layout) (here told)

@@ -1,10 +1,10 @@
 use Rattle.std.proofs.Common.{◌≡◌, ◌-◌, ◌≤◌, ◌++◌, drop, length}
 use Rattle.std.specs.Prelude.{IsTrue}
-use Rattle.volume_def.specs.Values.{pieces_touched, spot_at, stored_bytes}
+use Rattle.volume_def.specs.Values.{pieces_touched, stored_bytes}
 use Rattle.volume_def.specs.Table.{cluster_bytes}
 use Rattle.mft_table.specs.Mft.{MftReads, faults_of, view}
 use Rattle.mft_table.specs.Streams.{IsSeam}
-use Rattle.check_records.specs.Unnamed.{unnamed_in}
+use Rattle.volume_facts.specs.Streams.{spot_noted}
 use Rattle.check_records.proofs.streams.read_stored.Given as goal
 
 -- what was read stands in front, and each piece of it was asked for once
@@ -14,7 +14,7 @@ invariant-clusters g l = record {
   cut : IsSeam l.at l.done (length l.initial.into);
   read : IsTrue (view g.D.Disk l.initial.mft).told
       → l.into ≡ stored_bytes (view g.D.Disk l.initial.mft).cluster (cluster_bytes (view g.D.Disk l.initial.mft).layout)
-      (spot_at (unnamed_in l.kind l.file)) l.at l.done ++ drop l.done l.initial.into;
+      (spot_noted l.note) l.at l.done ++ drop l.done l.initial.into;
   faults : faults_of g.D.Disk l.mft ≡ faults_of g.D.Disk l.initial.mft;
   reads : MftReads g.D.Disk l.initial.mft l.mft (pieces_touched l.at l.done);
 }
