@@ -9,3 +9,5 @@ pub mod FirstLaws
 pub mod IndexRecordLaws
 pub mod Values
 pub mod HeldIndexLaws
+pub mod ToldLaws
+pub mod UsedRecord

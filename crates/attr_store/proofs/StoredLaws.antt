@@ -87,18 +87,18 @@ module _ (file : FileParts) (kind : ℕ) (name : List ℕ) (stored : Stored) (s 
 
 -- Its value.
 
-by-first : (view : VolumeView) (extents : List Part) (part : Part) → first_part extents ≡ Some part
+pub by-first : (view : VolumeView) (extents : List Part) (part : Part) → first_part extents ≡ Some part
     → value_on view extents ≡ value_by view.cluster (cluster_bytes view.layout) extents part.content
 unfolding value_of_parts
 by-first view extents part first = ap (value_over view.cluster (cluster_bytes view.layout) extents) first
 
-whole-value : (view : VolumeView) (extents : List Part) (content : Content)
+pub whole-value : (view : VolumeView) (extents : List Part) (content : Content)
     → value_on view extents ≡ value_by view.cluster (cluster_bytes view.layout) extents content
     → unwrap_or (content_value content) (value_on view extents) ≡ value_on view extents
 whole-value view extents (Value value) is = sym is
 whole-value view extents (Clusters extent runs) is = refl
 
-length-by : (cluster : ℕ → List ℕ) (size : ℕ) (extents : List Part) (content : Content)
+pub length-by : (cluster : ℕ → List ℕ) (size : ℕ) (extents : List Part) (content : Content)
     → length (value_by cluster size extents content) ≡ real_size content
 length-by cluster size extents (Value value) = refl
 length-by cluster size extents (Clusters extent runs) =

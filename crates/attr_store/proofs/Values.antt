@@ -79,7 +79,7 @@ if-some None gives p = tt
 if-some (Some x) gives p = gives x refl p
 
 -- a part is of its own type and name
-like-itself : (part : Part) → is_of part.kind part.name part ≡ true
+pub like-itself : (part : Part) → is_of part.kind part.name part ≡ true
 like-itself part =
     ap (λ b. b && bytes_eq part.name part.name) (eq-eqb part.kind part.kind refl)
     ∙ (bytes_eq-Decides part.name part.name).1 refl

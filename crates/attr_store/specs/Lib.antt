@@ -1,3 +1,5 @@
 pub mod Sought
 pub mod Index
 pub mod IndexRecords
+pub mod InUse
+pub mod IndexBlocks

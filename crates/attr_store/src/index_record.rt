@@ -1,5 +1,5 @@
 //! The records of one index of a file, read one by one.
-ghost use Rattle.std.specs.Prelude.{◌≡◌, ◌≢◌, ◌+◌, ◌*◌, ◌/◌, ◌%◌, ◌<◌, ◌≤◌, ◌^◌, ◌==◌, ℕ, IfErr, IfNone, IfOk, IfSome, List, MatchResult, OnOk, length, slice_range};
+ghost use Rattle.std.specs.Prelude.{◌≡◌, ◌≢◌, ◌+◌, ◌*◌, ◌/◌, ◌%◌, ◌<◌, ◌≤◌, ◌^◌, ◌==◌, ℕ, IfErr, IfNone, IfOk, IfSome, IsSome, List, MatchResult, OnErr, OnOk, Some, length, slice_range};
 ghost use Rattle.ntfs_def.specs.Bits.{bit_in};
 ghost use Rattle.attr_view.specs.View.{attribute_of};
 ghost use Rattle.volume_def.specs.ExtentsClause.{AreAttribute};
@@ -224,4 +224,44 @@ pub fn read_index_record<D: Disk>(
     }
     read_stored(alloc, mft, file, &records, at, into)?;
     Ok(opens_as(into, vcn))
+}
+
+/// Reads the index record of a number (VCN, in clusters) that is there, opened. It reads eight sectors at most, whatever
+/// the disk holds. Where no such record is there, what `into` then has is not told.
+///
+/// # Errors
+///
+/// `Device` where the disk failed, and `Memory`; `into` is then as before.
+pub fn read_used_record<D: Disk>(
+    alloc: Global,
+    mft: &mut Mft<'_, D>,
+    file: &FileParts,
+    index: &FoundIndex<'_>,
+    vcn: u64,
+    into: &mut [u8; 4096],
+) -> Result<(), FileNo>
+    requires { IsFound file.now index.now }
+    ensures read { OnOk result (WhereReadable (view D.Disk mft.old) (AreParts (view D.Disk mft.old) file.now
+        → IsFile (view D.Disk mft.old) (file_number file.now)
+        → IsSome (index_record_on (view D.Disk mft.old) (index_held file.now index.now.name.now) vcn)
+        → index_record_on (view D.Disk mft.old) (index_held file.now index.now.name.now) vcn ≡ Some into.new)) }
+    ensures kept { OnErr result (into.new ≡ into.old) }
+    ensures err { IfErr result IsReadNo }
+    ensures faults { MatchResult result (λ _. faults_of D.Disk mft.new ≡ faults_of D.Disk mft.old)
+        (CountsNo (faults_of D.Disk mft.old) (faults_of D.Disk mft.new)) }
+    ensures reads { MftReads D.Disk mft.old mft.new 8 }
+{
+    let Some(records) = index.records else {
+        return Ok(());
+    };
+    let Some(at) = record_place(vcn, mft.cluster_bytes(), records.len) else {
+        return Ok(());
+    };
+    let mut block = [0; 4096];
+    read_stored(alloc, mft, file, &records, at, &mut block)?;
+    if !opens_as(&mut block, vcn) {
+        return Ok(());
+    }
+    *into = block;
+    Ok(())
 }

@@ -4,13 +4,16 @@
 mod extents;
 mod first;
 mod index;
+mod index_blocks;
 mod index_record;
 mod laws;
 mod read;
 #[cfg(test)]
 mod tests;
 
+pub use first::{FirstPart, find_first, is_of};
 pub use index::{FoundIndex, Stored, find_index};
-pub use index_record::read_index_record;
+pub use index_blocks::IndexBlocks;
+pub use index_record::{read_index_record, read_used_record};
 pub use laws::index_laws;
 pub use read::read_value;

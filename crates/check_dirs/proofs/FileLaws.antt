@@ -45,7 +45,7 @@ use Rattle.check_dirs.specs.Directory.{TellsNames}
 use Rattle.check_dirs.specs.Notes.{AreNotes, notes_in}
 use Rattle.check_dirs.specs.OrderedIndex.{TellsIndex}
 use Rattle.check_dirs.specs.Records.{short_nodes}
-use Rattle.check_dirs.specs.Volume.{IsHeldFile}
+use Rattle.attr_store.specs.IndexBlocks.{IsHeldFile}
 use Rattle.check_dirs.proofs.NoteLaws.{value-held}
 use Rattle.check_dirs.proofs.VolumeLaws.{index_from_ordered, ordered_from_index}
 

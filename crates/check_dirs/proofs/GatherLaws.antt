@@ -1,16 +1,13 @@
 -- The steps of a gathering.
-use Rattle.std.proofs.Common.{◌≡◌, ℕ, zero, suc, ◌+◌, ◌<◌, ◌==◌, List, [], ◌∷◌, ◌++◌, Option, Some, None, Bool, true, false, length, map, take, get_or, refl, sym, ap, subst, ◌∙◌, arith, append_assoc, append-nil, cond}
+use Rattle.std.proofs.Common.{◌≡◌, ℕ, zero, suc, ◌+◌, ◌<◌, ◌==◌, List, [], ◌∷◌, ◌++◌, Option, Some, None, Bool, true, false, length, map, take, get_or, refl, sym, ap, subst, ◌∙◌, arith, append_assoc, append-nil}
 use Rattle.std.proofs.lemmas.Bool.{eq-eqb, eqb-true}
-use Rattle.std.proofs.lemmas.Bool.Decides.{nat_tests}
 use Rattle.std.proofs.lemmas.List.{map-append}
 use Rattle.ntfs_def.specs.Node.{Item, Entry, Node, child_from, item_in}
 use Rattle.ntfs_def.specs.IndexTree.{Nodes, Branch, Tree, Each, entry_of, node_of, items_of, times_in, IsStored, one_if}
 use Rattle.index_tree.specs.Walk.{items_in}
+use Rattle.index_tree.proofs.MovedWalks.{one_if-same}
 use Rattle.check_dirs.specs.Gathered.{GathersNode, GathersTree, LacksNode, LacksTree, Meets, TellsNode, TellsTree, met_times}
 use Rattle.check_dirs.proofs.TreeLaws.{AreBranchesStored, below_at, branch_items-list, branch_times-list, child_at_place, each_below, each_branch, each_take, list_items, list_items-more, list_times, list_times-more, none_other, one_branches, some_same, stored_at, times_front}
-
-pub one_if-same : (v : ℕ) → one_if v v ≡ 1
-one_if-same v = let e : (v == v) ≡ true = grind (arith, nat_tests) in ap (λ b. cond b 1 0) e
 
 module _ (nodes : Nodes) where
   -- below a leaf

@@ -4,7 +4,7 @@ use Rattle.std.specs.Prelude.{IsSome}
 use Rattle.std.proofs.lemmas.Bool.{cases_Bool, eqb-false, eqb-true}
 use Rattle.vol_bytes.specs.Field.{u32_at}
 use Rattle.ntfs_def.specs.Fixup.{opened_of}
-use Rattle.ntfs_def.specs.IndexTree.{Nodes, Branch, Spread, Tree, AreStored, EachBelow, IsStored, Walks, branch_times, node_of, one_if, spread_times, times_in}
+use Rattle.ntfs_def.specs.IndexTree.{Nodes, Branch, Spread, Tree, AreStored, EachBelow, IsStored, branch_times, node_of, one_if, spread_times, times_in}
 use Rattle.ntfs_def.specs.Node.{Item, Node, short_node}
 use Rattle.ntfs_def.specs.declared.index.NodeForm.{NodeForm}
 use Rattle.ntfs_def.specs.declared.index.NodeForm.TheVariants.{Names}
@@ -12,43 +12,13 @@ use Rattle.ntfs_def.specs.FileName.{link_of}
 use Rattle.volume_def.specs.SameItems.{SameItems}
 use Rattle.volume_def.specs.IndexesClause.{HasIndex, IsDirectoryIndex, name_rule, IndexParts, IsIndexRecordAt, KeyRule, index_nodes, stored_index_record}
 use Rattle.volume_def.specs.View.{VolumeView}
+use Rattle.index_tree.proofs.MovedWalks.{walks_moved}
 use Rattle.attr_store.specs.Index.{HasParts}
 use Rattle.attr_store.specs.IndexRecords.{AreRecordsOf}
 use Rattle.check_dirs.specs.OfVolume.{HasNames, directory_parts, links_in}
 use Rattle.check_dirs.specs.OrderedIndex.{IndexesKind, IsOrderedIndex}
 use Rattle.check_dirs.specs.Records.{Records, short_nodes}
-use Rattle.check_dirs.proofs.GatherLaws.{one_if-same}
 use Rattle.check_dirs.proofs.ReadLaws.{at_record, no_record}
-
--- A tree that one list of nodes holds is held by another that says the same at each number of the tree.
-abbrev pub SaysAt : Nodes → Nodes → ℕ → Type 0
-SaysAt nodes others vcn = (node : Node) → nodes vcn ≡ Some node → others vcn ≡ Some node
-
-module _ {T : Type 0} (times : ℕ → T → ℕ) (P Q : T → Type 0) (R : ℕ → Type 0)
-    (step : (t : T) → ((vcn : ℕ) → 1 ≤ times vcn t → R vcn) → P t → Q t) where
-  branches_moved : (bs : List (Branch T)) (last : T) → ((vcn : ℕ) → 1 ≤ branch_times (times vcn) bs last → R vcn)
-      → EachBelow P bs last → EachBelow Q bs last
-  branches_moved [] last h k = step last h k
-  branches_moved (b ∷ bs) last h k = (
-    step b.below (λ vcn met. h vcn (omega arith)) k.0,
-    branches_moved bs last (λ vcn met. h vcn (omega arith)) k.1,
-  )
-
-module _ (nodes others : Nodes) where
-  tree_moved : (depth : ℕ) (t : Tree depth) → ((vcn : ℕ) → 1 ≤ times_in vcn depth t → SaysAt nodes others vcn) → IsStored nodes depth t
-      → IsStored others depth t
-  tree_moved zero t h k = tt
-  tree_moved (suc depth) t h k = (
-    h t.vcn (let own = one_if-same t.vcn in omega arith) (node_of depth t.spread) k.0,
-    branches_moved (λ vcn. times_in vcn depth) (IsStored nodes depth) (IsStored others depth) (SaysAt nodes others)
-        (tree_moved depth) t.spread.branches t.spread.last (λ vcn met. h vcn (omega arith)) k.1,
-  )
-
-  pub spread_moved : (depth : ℕ) (s : Spread (Tree depth)) → ((vcn : ℕ) → 1 ≤ spread_times vcn depth s → SaysAt nodes others vcn)
-      → AreStored nodes depth s → AreStored others depth s
-  spread_moved depth s h k =
-      branches_moved (λ vcn. times_in vcn depth) (IsStored nodes depth) (IsStored others depth) (SaysAt nodes others)
-      (tree_moved depth) s.branches s.last h k
 
 -- At each number of a tree its records say a node.
 module _ (nodes : Nodes) (place : ℕ) where
@@ -75,20 +45,6 @@ module _ (nodes : Nodes) (place : ℕ) where
   pub spread_there : (depth : ℕ) (s : Spread (Tree depth)) → 1 ≤ spread_times place depth s → AreStored nodes depth s → IsThere
   spread_there depth s met k =
       branches_there (times_in place depth) (IsStored nodes depth) (tree_there depth) s.branches s.last met k
-
-abbrev walks_moved : (nodes others : Nodes) (root : Node) (items : List Item) (walks : Walks nodes root items)
-    → ((vcn : ℕ) → 1 ≤ spread_times vcn walks.depth walks.s → SaysAt nodes others vcn) → Walks others root items
-walks_moved nodes others root items walks says = record {
-  depth = walks.depth;
-  small = walks.small;
-  s = walks.s;
-  holds = record {
-    node = walks.holds.node;
-    stored = spread_moved nodes others walks.depth walks.s says walks.holds.stored;
-    once = walks.holds.once;
-  };
-  is = walks.is;
-}
 
 -- The nodes of the records, and those of the volume.
 pub some_record : (form : NodeForm) (records : Records) (vcn : ℕ) (node : Node) → short_nodes form records vcn ≡ Some node → IsSome (records vcn)

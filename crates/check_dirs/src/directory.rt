@@ -7,12 +7,13 @@ ghost use Rattle.volume_def.specs.SameItems.{SameItems};
 ghost use Rattle.volume_def.specs.View.{VolumeView};
 ghost use Rattle.mft_table.specs.Mft.{MftReads, faults_of, view};
 ghost use Rattle.file_record.specs.Held.{file_number};
+ghost use Rattle.attr_store.specs.IndexBlocks.{IsHeldFile};
 ghost use Rattle.check_dirs.specs.Directory.{MeetsLink, MeetsLinks, TellsNames};
 ghost use Rattle.check_dirs.specs.Entries.{AreNames};
 ghost use Rattle.check_dirs.specs.Notes.{IsNoted, link_noted};
 ghost use Rattle.check_dirs.specs.Records.{CountsNo};
 ghost use Rattle.check_dirs.specs.Seen.{HasMarks, links_of_entries};
-ghost use Rattle.check_dirs.specs.Volume.{IsHeldFile, IsStoredCase};
+ghost use Rattle.check_dirs.specs.Volume.{IsStoredCase};
 
 use crate::volume_index::index_entries;
 use crate::{CheckNo, NameNote, Seen};

@@ -13,11 +13,12 @@ ghost use Rattle.mft_table.specs.Mft.{MftReads, faults_of, view};
 ghost use Rattle.file_record.specs.Base.{HasBaseRecord};
 ghost use Rattle.file_record.specs.Held.{file_number, parts_held};
 ghost use Rattle.attr_store.specs.Index.{attribute_held};
+ghost use Rattle.attr_store.specs.IndexBlocks.{IsHeldFile};
 ghost use Rattle.check_dirs.specs.Files.{MeetsExtended, MeetsNames, MeetsSecured};
 ghost use Rattle.check_dirs.specs.Notes.{AreNotes};
 ghost use Rattle.check_dirs.specs.OrderedIndex.{key_rule};
 ghost use Rattle.check_dirs.specs.Records.{CountsNo};
-ghost use Rattle.check_dirs.specs.Volume.{IsHeldFile, IsStoredCase};
+ghost use Rattle.check_dirs.specs.Volume.{IsStoredCase};
 
 use crate::directory::check_directory;
 use crate::noting::is_name_key;

@@ -4,15 +4,15 @@ ghost use Rattle.std.specs.Option.{option_map};
 ghost use Rattle.index_tree.specs.Walk.{items_in};
 ghost use Rattle.mft_table.specs.Mft.{MftReads, faults_of, view};
 ghost use Rattle.attr_store.specs.Index.{IsFound, index_held};
+ghost use Rattle.attr_store.specs.IndexBlocks.{IsHeldFile};
 ghost use Rattle.attr_store.specs.IndexRecords.{index_record_on};
 ghost use Rattle.check_dirs.specs.Entries.{AreOrdered, AreWhole};
 ghost use Rattle.check_dirs.specs.OrderedIndex.{TellsIndex, key_rule};
 ghost use Rattle.check_dirs.specs.Records.{CountsNo, short_nodes};
-ghost use Rattle.check_dirs.specs.Volume.{IsHeldFile};
 
 use crate::check::check_index;
 use crate::{CheckNo, IndexRecords};
-use attr_store::{FoundIndex, read_index_record};
+use attr_store::{FoundIndex, IndexBlocks, read_index_record};
 use collation::Collation;
 use file_record::FileParts;
 use mft_table::Mft;
@@ -21,24 +21,15 @@ use std::alloc::Global;
 use vol_bytes::Octets;
 use vol_disk::Disk;
 
-/// The records of an index of a file.
-#[derive(Drop)]
-pub struct VolumeIndex<'m, 'd, D: Disk> {
-    pub alloc: Global,
-    pub mft: &'m mut Mft<'d, D>,
-    pub file: &'m FileParts,
-    pub index: FoundIndex<'m>,
-}
-
-impl<D: Disk> IndexRecords for VolumeIndex<'_, '_, D> {
+impl<D: Disk> IndexRecords for IndexBlocks<'_, '_, D> {
     ghost use Rattle.std.specs.Prelude.{◌+◌, refl};
     ghost use Rattle.std.proofs.Common.{◌∙◌, le_refl};
     ghost use Rattle.mft_table.proofs.StreamReads.{MftReads-none, MftReads-then};
-    ghost use Rattle.check_dirs.specs.Volume.{IsReady, OnlyFetches, records_under, sectors_under};
+    ghost use Rattle.attr_store.specs.IndexBlocks.{IsReady, OnlyReads, records_under, sectors_under};
 
     ghost records = { records_under D.Disk };
 
-    ghost only_reads = { OnlyFetches D.Disk };
+    ghost only_reads = { OnlyReads D.Disk };
 
     ghost fetched = { sectors_under D.Disk };
 
@@ -97,11 +88,12 @@ pub fn index_entries<'m, 'd, D: Disk, C: Collation>(
         (CountsNo (faults_of D.Disk mft.old) (faults_of D.Disk mft.new)) }
 {
     let root = index.root;
-    let mut records = VolumeIndex {
+    let mut records = IndexBlocks {
         alloc,
         mft,
         file,
         index,
+        reads: 0,
     };
     check_index(alloc, &mut records, form, collation, order, root)
 }

@@ -1,9 +1,9 @@
 -- The file of copies as it is loaded, and where its clusters lie.
-use Rattle.std.proofs.Common.{◌≡◌, ◌⊎◌, ◌+◌, ◌*◌, ◌<◌, ℕ, Bool, true, false, List, [], Option, Some, None, inl, inr, refl, sym, ap, subst, ◌∙◌, arith}
+use Rattle.std.proofs.Common.{◌≡◌, ◌⊎◌, ◌+◌, ◌*◌, ◌/◌, ◌%◌, ◌<◌, ◌≤◌, ℕ, Bool, false, List, [], ◌∷◌, ◌++◌, length, map, take, get_or, Option, Some, None, inl, inr, refl, sym, ap, subst, ◌∙◌, arith}
 use Rattle.std.specs.Prelude.{All, IfSome, IsSome, IsSomeAnd, IsTrue, filter, is_none, option_map, unwrap_or}
 use Rattle.std.specs.List.{flat_map}
-use Rattle.std.proofs.lemmas.Bool.{cases_Bool, false≢true}
-use Rattle.std.proofs.lemmas.List.Elements.{All-contains}
+use Rattle.std.proofs.lemmas.Bool.{cases_Bool, cases_lt, false≢true}
+use Rattle.std.proofs.lemmas.List.Elements.{All-contains, filter-append}
 use Rattle.ntfs_def.specs.Record.{Reference}
 use Rattle.volume_def.specs.Files.{Part, Record, file_of, is_base, is_of, parts, parts_at, record_on, records_of}
 use Rattle.volume_def.specs.Readable.{IsFile, IsReadableVolume}
@@ -17,16 +17,22 @@ use Rattle.file_record.specs.declared.parts.FileParts.{FileParts}
 use Rattle.file_record.specs.Held.{AreParts, file_number, held_of, parts_held, parts_of}
 use Rattle.file_record.specs.Records.{IsRecordOf}
 use Rattle.file_record.proofs.RecordLaws.{some-value}
-use Rattle.check_records.specs.declared.unnamed.FirstPart.{FirstPart}
-use Rattle.check_records.specs.Unnamed.{TellsSizes, unnamed_in}
-use Rattle.ntfs_def.specs.Attribute.{Attribute, Body, ExtentHeader, NonResident, Resident, extent_of}
+use Rattle.volume_facts.specs.declared.streams.StreamNote.{StreamNote}
+use Rattle.volume_facts.specs.Streams.{NotesStream, places_in, spot_noted}
+use Rattle.mount_check.specs.Copies.{data_held}
+use Rattle.ntfs_def.specs.declared.kinds.TheConstants.{DATA}
 use Rattle.ntfs_def.specs.Flags.{is_packed}
 use Rattle.ntfs_def.specs.declared.run_text.Spot.{Spot}
 use Rattle.ntfs_def.specs.declared.run_text.Spot.TheVariants.{At}
 use Rattle.std.specs.Prelude.{◌↔◌}
+use Rattle.std.specs.Int.{div_ceil}
+use Rattle.std.proofs.Math.Nat.{div-lt_iff_lt-mul, mul-div_cancel, mul_comm}
 use Rattle.std.proofs.lemmas.Nat.{mul-le}
-use Rattle.std.specs.Prelude.{is_some, slice_get}
-use Rattle.volume_def.specs.Files.{content_extent, content_of, part_of}
+use Rattle.volume_def.specs.Files.{Clusters, Content, Value, content_extent, content_value, part_of}
+use Rattle.file_record.specs.declared.held.Held.{Held}
+use Rattle.std.proofs.lemmas.List.Concat.{flat_map-append}
+use Rattle.std.proofs.lemmas.List.{append-nil, take_all, take_more}
+use Rattle.ntfs_def.specs.Attribute.{attributes}
 use Rattle.volume_def.specs.Values.{IsPlain, first_part, spot_at}
 use Rattle.volume_def.specs.VersionClause.{IsMirror}
 
@@ -74,10 +80,10 @@ none-held view f file before none own = ap (flat_map parts_of) (nil-from_Contain
     let w = some-value (record_on view one.number) (λ r. file_of one.number r ≡ f) its.belongs in
     none (file-held view f one.number w.0 before w.1 w.2)))
 
-pub parts-loaded : (view : VolumeView) (f kind : ℕ) (file : FileParts) → HoldBelow view 11 → file_number file ≡ f
+pub parts-loaded : (view : VolumeView) (f : ℕ) (file : FileParts) → HoldBelow view 11 → file_number file ≡ f
     → All (λ one. IsRecordOf view f one.number) (held_of file)
-    → (IsReadableVolume view → IsFile view f → AreParts view file) → unnamed_in kind file ≡ parts_at view f kind []
-parts-loaded view f kind file before number own whole = ap (filter (is_of kind [])) (elim (file-or-not (record_on view f)) [
+    → (IsReadableVolume view → IsFile view f → AreParts view file) → data_held file ≡ parts_at view f DATA []
+parts-loaded view f file before number own whole = ap (filter (is_of DATA [])) (elim (file-or-not (record_on view f)) [
   | inl is ↦ (whole (readable-below view before) is).parts ∙ ap (parts (records_of view)) number
   | inr none ↦ none-held view f file before none own ∙ sym (no-parts view f before none)
 ])
@@ -90,35 +96,50 @@ is_plain part = is_packed part.kind part.flags ≡ false
 abbrev is_extent : Part → Type 0
 is_extent part = IsSome (content_extent part.content)
 
-extent-sizes : (body : Body) → is_some (content_extent (content_of body)) ≡ is_some (option_map (λ (e : ExtentHeader). e.sizes) (extent_of body))
-extent-sizes (Resident value) = refl
-extent-sizes (NonResident extent text) = refl
+-- a value is no extent
+value-extent : (content : Content) (value : List ℕ) → content_value content ≡ Some value → IsSome (content_extent content) → ⊥
+value-extent (Value own) value e some = cc
+value-extent (Clusters extent runs) value e some = cc
 
-module _ (kind : ℕ) (file : FileParts) (first : FirstPart) (tells : TellsSizes kind file first) where
-  pub plain-told : first.packed ≡ false → IsPlain (unnamed_in kind file)
-  plain-told f = subst (λ o. IsSomeAnd o is_plain) (sym tells.is_first) (sym tells.packed ∙ f)
+pub value-told : (told : Option Part) (value : List ℕ) → IsSomeAnd told (λ part. content_value part.content ≡ Some value)
+    → IsSomeAnd told is_extent → ⊥
+value-told None value is extent = is
+value-told (Some part) value is extent = value-extent part.content value is extent
 
-  pub packed-told : IsPlain (unnamed_in kind file) → first.packed ≡ false
-  packed-told plain = tells.packed ∙ subst (λ o. IsSomeAnd o is_plain) tells.is_first plain
+clusters-extent : (content : Content) → content_value content ≡ None → IsSome (content_extent content)
+clusters-extent (Value own) e = cc
+clusters-extent (Clusters extent runs) e = refl
 
-  sizes-are : (a : Attribute) → IsSomeAnd (slice_get (parts_held file) first.index) (λ part. part ≡ part_of part.holder a)
-      → is_some (content_extent tells.part.content) ≡ is_some (option_map (λ (e : ExtentHeader). e.sizes) (extent_of a.body))
-  sizes-are a is =
-      let same : tells.part ≡ part_of tells.part.holder a = subst (λ o. IsSomeAnd o (λ part. part ≡ part_of part.holder a)) tells.at is in
-      ap (λ (p : Part). is_some (content_extent p.content)) same ∙ extent-sizes a.body
+pub extent-told : (told : Option Part) → IsSomeAnd told is_plain → IfSome told (λ part. content_value part.content ≡ None)
+    → IsSomeAnd told is_extent
+extent-told None plain none = absurd plain
+extent-told (Some part) plain none = clusters-extent part.content none
 
-  pub extent-told : (a : Attribute) → IsSomeAnd (slice_get (parts_held file) first.index) (λ part. part ≡ part_of part.holder a)
-      → is_some (option_map (λ (e : ExtentHeader). e.sizes) (extent_of a.body)) ≡ true
-      → IsSomeAnd (first_part (unnamed_in kind file)) (λ part. IsSome (content_extent part.content))
-  extent-told a is some = subst (λ o. IsSomeAnd o is_extent) (sym tells.is_first) (sizes-are a is ∙ some)
+-- The first so many records that are held.
+abbrev pub data_of_first : List Held → ℕ → List Part
+data_of_first held i = filter (is_of DATA []) (flat_map parts_of (take i held))
 
-  pub sizes-told : (a : Attribute) → IsSomeAnd (slice_get (parts_held file) first.index) (λ part. part ≡ part_of part.holder a)
-      → IsSomeAnd (first_part (unnamed_in kind file)) (λ part. IsSome (content_extent part.content))
-      → is_some (option_map (λ (e : ExtentHeader). e.sizes) (extent_of a.body)) ≡ true
-  sizes-told a is some = sym (sizes-are a is) ∙ subst (λ o. IsSomeAnd o is_extent) tells.is_first some
+data-more : (held : List Held) (i : ℕ) (d : Held) → i < length held
+    → data_of_first held (i + 1) ≡ data_of_first held i ++ filter (is_of DATA []) (parts_of (get_or held i d))
+data-more held i d lt =
+    ap (λ xs. filter (is_of DATA []) (flat_map parts_of xs)) (take_more held i d lt)
+    ∙ ap (filter (is_of DATA [])) (flat_map-append parts_of (take i held) (get_or held i d ∷ [])
+    ∙ ap (λ xs. flat_map parts_of (take i held) ++ xs) (append-nil (parts_of (get_or held i d))))
+    ∙ filter-append (is_of DATA []) (flat_map parts_of (take i held)) (parts_of (get_or held i d))
 
-pub no-first : (extents : List Part) → first_part extents ≡ None → IsPlain extents → ⊥
-no-first extents none plain = subst (λ o. IsSomeAnd o is_plain) none plain
+pub noted-more : (held : List Held) (i : ℕ) (d one : Held) (block : List ℕ) (new : StreamNote) → i < length held → one ≡ get_or held i d
+    → block ≡ one.block
+    → NotesStream (data_of_first held i ++ filter (is_of DATA []) (map (part_of one.number) (attributes block))) new
+    → NotesStream (data_of_first held (i + 1)) new
+noted-more held i d one block new lt same is notes =
+    subst (λ ps. NotesStream ps new)
+    (ap (λ b. data_of_first held i ++ filter (is_of DATA []) (map (part_of one.number) (attributes b))) is
+    ∙ ap (λ h. data_of_first held i ++ filter (is_of DATA []) (parts_of h)) same ∙ sym (data-more held i d lt)) notes
+
+pub noted-all : (held : List Held) (i : ℕ) (note : StreamNote) → length held ≤ i → NotesStream (data_of_first held i) note
+    → NotesStream (filter (is_of DATA []) (flat_map parts_of held)) note
+noted-all held i note end notes =
+    subst (λ xs. NotesStream (filter (is_of DATA []) (flat_map parts_of xs)) note) (take_all i held end) notes
 
 -- Where the clusters of the copies lie.
 
@@ -150,6 +171,32 @@ IsMirror-back view extents held mirror sectors same place wide is =
     subst (LieFrom held mirror) (sym wide) (subst (λ m. LieFrom held m view.layout.cluster_sectors) (sym place)
     (subst (λ ps. LieFrom ps view.layout.mirror view.layout.cluster_sectors) (sym same)
     (λ k lt. is.placed k (copied-bytes k view.layout.cluster_sectors lt))))
+
+-- a place is noted for each
+place-noted : (k sectors places : ℕ) → 0 < sectors → places ≡ div_ceil 4096 (512 * sectors) → k * sectors < 8 → k < places
+place-noted k sectors places some is lt =
+    let size : 0 < 512 * sectors = omega arith in
+    let bytes = copied-bytes k sectors lt in
+    let above : 4096 < (4096 / (512 * sectors) + 1) * (512 * sectors) = (div-lt_iff_lt-mul size).0 (omega arith) in
+    let at : k * (512 * sectors) / (512 * sectors) ≡ k = mul-div_cancel k size in
+    elim (cases_lt 0 (4096 % (512 * sectors))) [
+      | inl rest ↦
+          let below : k * (512 * sectors) / (512 * sectors) < 4096 / (512 * sectors) + 1 = (div-lt_iff_lt-mul size).1 (omega arith) in
+          omega arith
+      | inr whole ↦
+          let turned = mul_comm (4096 / (512 * sectors)) (512 * sectors) in
+          let below : k * (512 * sectors) / (512 * sectors) < 4096 / (512 * sectors) = (div-lt_iff_lt-mul size).1 (omega (arith, turned)) in
+          omega arith
+    ]
+
+-- the places that are noted are those of the stream
+pub LieFrom-noted : (extents : List Part) (note : StreamNote) (mirror sectors : ℕ) → 0 < sectors → sectors ≤ 8
+    → NotesStream extents note → places_in note ≡ div_ceil 4096 (512 * sectors)
+    → ((k : ℕ) → k * sectors < 8 → spot_noted note k ≡ At (mirror + k)) ↔ LieFrom extents mirror sectors
+LieFrom-noted extents note mirror sectors some few notes places = (
+  λ lie k lt. sym (notes.spots k (place-noted k sectors (places_in note) some places lt)) ∙ lie k lt,
+  λ lie k lt. notes.spots k (place-noted k sectors (places_in note) some places lt) ∙ lie k lt,
+)
 
 -- a cluster of the copies is one of the first eight
 pub copied-low : (k sectors : ℕ) → 0 < sectors → k * sectors < 8 → k < 8

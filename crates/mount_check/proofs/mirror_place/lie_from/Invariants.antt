@@ -1,10 +1,8 @@
 use Rattle.std.proofs.Common.{◌≡◌, ◌+◌, ◌*◌, ◌<◌, ℕ}
-use Rattle.ntfs_def.specs.declared.kinds.TheConstants.{DATA}
 use Rattle.ntfs_def.specs.declared.run_text.Spot.TheVariants.{At}
-use Rattle.volume_def.specs.Values.{spot_at}
-use Rattle.check_records.specs.Unnamed.{unnamed_in}
+use Rattle.volume_facts.specs.Streams.{spot_noted}
 use Rattle.mount_check.proofs.mirror_place.lie_from.Given as goal
 
 -- the clusters so far lie where they have to
 abbrev pub invariant-loop-vcn : goal.invariant-loop-vcn
-invariant-loop-vcn l = (k : ℕ) → k < l.vcn → k * l.sectors < 8 → spot_at (unnamed_in DATA l.file) k ≡ At (l.mirror + k)
+invariant-loop-vcn l = (k : ℕ) → k < l.vcn → k * l.sectors < 8 → spot_noted l.note k ≡ At (l.mirror + k)

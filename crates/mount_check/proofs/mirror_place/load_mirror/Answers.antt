@@ -1,4 +1,3 @@
-use Rattle.ntfs_def.specs.declared.kinds.TheConstants.{DATA}
 use Rattle.ntfs_def.specs.declared.records.TheConstants.{MFT_MIRROR}
 use Rattle.mft_table.specs.Mft.{view}
 use Rattle.mount_check.proofs.PlaceLaws.{parts-loaded}
@@ -6,7 +5,7 @@ use Rattle.mount_check.proofs.mirror_place.load_mirror.Goals as goal
 
 pub returns-in-Ok-clause-parts : goal.returns-in-Ok-clause-parts
 returns-in-Ok-clause-parts g c = λ told come.
-    parts-loaded (view g.D.Disk c.args.mft.now) MFT_MIRROR DATA c.in-Ok.file come.before c.in-Ok.ensures.number
+    parts-loaded (view g.D.Disk c.args.mft.now) MFT_MIRROR c.in-Ok.file come.before c.in-Ok.ensures.number
     (c.in-Ok.ensures.own told) (c.in-Ok.ensures.parts told)
 
 pub returns-in-Err-clause-faults : goal.returns-in-Err-clause-faults

@@ -1,0 +1,73 @@
+use Rattle.std.proofs.Common.{◌≡◌, ◌+◌, ◌*◌, ◌%◌, ◌≤◌, ◌<◌, ℕ, true, false, List, sym, ap, subst, ◌∙◌, arith}
+use Rattle.std.specs.Prelude.{slice_range}
+use Rattle.ntfs_def.specs.declared.kinds.TheConstants.{INDEX_ALLOCATION}
+use Rattle.volume_def.specs.Table.{cluster_bytes}
+use Rattle.volume_def.specs.Values.{value_on}
+use Rattle.mft_table.specs.Mft.{view}
+use Rattle.attr_store.specs.Index.{IsStoredIfThere, attribute_held, index_held}
+use Rattle.attr_store.specs.IndexRecords.{TellsOpened}
+use Rattle.attr_store.proofs.StoredLaws.{stored-length, stored-within}
+use Rattle.attr_store.proofs.UsedRecord.{used-opened, used-opens, used-placed, used-stored}
+use Rattle.attr_store.proofs.index_record.read_used_record.Goals as goal
+
+pub returns-in_default-clause-read : goal.returns-in_default-clause-read
+returns-in_default-clause-read g c told readable are is_file used =
+    let file = c.args.file.now in
+    let name = c.args.index.now.name.now in
+    absurd (used-stored (view g.D.Disk c.args.mft.now) (index_held file name) c.args.vcn (omega (arith, c.args.mft.now.stands.table.some)) used
+    (subst (IsStoredIfThere file INDEX_ALLOCATION name) c.in_default.is c.requires.records))
+
+pub returns-in_default-record_place-clause-read : goal.returns-in_default-record_place-clause-read
+returns-in_default-record_place-clause-read g c told readable are is_file used =
+    let file = c.args.file.now in
+    let name = c.args.index.now.name.now in
+    let volume = view g.D.Disk c.args.mft.now in
+    let s = subst (IsStoredIfThere file INDEX_ALLOCATION name) c.in-Some.is c.requires.records in
+    absurd (used-placed volume (index_held file name) c.args.vcn (omega (arith, c.args.mft.now.stands.table.some)) used c.in-Some.records.len
+    (stored-length volume file INDEX_ALLOCATION name c.in-Some.records s)
+    (subst (λ (size : ℕ). c.args.vcn * size % 4096 ≡ 0 → c.args.vcn * size + 4096 ≤ c.in-Some.records.len → ⊥)
+    c.cluster_bytes.ensures c.in_default-record_place.ensures.none))
+
+pub read_stored-requires : goal.read_stored-requires
+read_stored-requires g c =
+    let file = c.args.file.now in
+    let name = c.args.index.now.name.now in
+    record {
+      part = stored-within file INDEX_ALLOCATION name c.in-Some.records
+          (subst (IsStoredIfThere file INDEX_ALLOCATION name) c.in-Some.is c.requires.records);
+    }
+
+pub returns-then-not-opens_as-clause-read : goal.returns-then-not-opens_as-clause-read
+returns-then-not-opens_as-clause-read g c told readable are is_file used =
+    let file = c.args.file.now in
+    let name = c.args.index.now.name.now in
+    let volume = view g.D.Disk c.args.mft.now in
+    let value = value_on volume (attribute_held file INDEX_ALLOCATION name) in
+    let some : 0 < cluster_bytes volume.layout = omega (arith, c.args.mft.now.stands.table.some) in
+    let at = c.in-Some-record_place.at in
+    let s = subst (IsStoredIfThere file INDEX_ALLOCATION name) c.in-Some.is c.requires.records in
+    let (is, aligned, whole) = c.in-Some-record_place.ensures.some in
+    let its : at ≡ c.args.vcn * cluster_bytes volume.layout = is ∙ ap (λ k. c.args.vcn * k) c.cluster_bytes.ensures in
+    let read = c.in_ok-read_stored.ensures.read told readable are is_file INDEX_ALLOCATION name s whole in
+    let stored = read ∙ ap (λ n. slice_range value n (n + 4096)) its in
+    let opened = used-opened volume (index_held file name) c.args.vcn some used c.opens_as.result c.opens_as.new.block
+    (subst (λ (b : List ℕ). TellsOpened b c.args.vcn c.opens_as.result c.opens_as.new.block) stored c.opens_as.ensures) in
+    let never : false ≡ true = sym c.if-not-opens_as.true ∙ opened in
+    cc
+
+pub returns-clause-read : goal.returns-clause-read
+returns-clause-read g c told readable are is_file used =
+    let file = c.args.file.now in
+    let name = c.args.index.now.name.now in
+    let volume = view g.D.Disk c.args.mft.now in
+    let value = value_on volume (attribute_held file INDEX_ALLOCATION name) in
+    let some : 0 < cluster_bytes volume.layout = omega (arith, c.args.mft.now.stands.table.some) in
+    let at = c.in-Some-record_place.at in
+    let s = subst (IsStoredIfThere file INDEX_ALLOCATION name) c.in-Some.is c.requires.records in
+    let (is, aligned, whole) = c.in-Some-record_place.ensures.some in
+    let its : at ≡ c.args.vcn * cluster_bytes volume.layout = is ∙ ap (λ k. c.args.vcn * k) c.cluster_bytes.ensures in
+    let read = c.in_ok-read_stored.ensures.read told readable are is_file INDEX_ALLOCATION name s whole in
+    let stored = read ∙ ap (λ n. slice_range value n (n + 4096)) its in
+    used-opens volume (index_held file name) c.args.vcn some used c.opens_as.result c.opens_as.new.block
+    (subst (λ (b : List ℕ). TellsOpened b c.args.vcn c.opens_as.result c.opens_as.new.block) stored c.opens_as.ensures)
+    c.if-not-opens_as.false
