@@ -44,7 +44,7 @@ then_same Less s e = cc
 then_same Equal s e = (refl, e)
 then_same Greater s e = cc
 
-link_total : (fold : ℕ → ℕ) → IsTotalOrder (compare_links fold)
+pub link_total : (fold : ℕ → ℕ) → IsTotalOrder (compare_links fold)
 link_total fold =
     then_total (on_total (λ (l : Link). l.parent) nat_cmp_total)
     (then_total (on_total (λ (l : Link). l.name) (then_total (on_total (map fold) (lists_total nat_cmp_total)) (lists_total nat_cmp_total)))

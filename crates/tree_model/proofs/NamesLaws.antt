@@ -86,7 +86,7 @@ pub record IsShown (v : VolumeView) (f : ℕ) : Type 0 where
   pub is : is_base base ≡ true
   pub shown : is_hidden (records_of v) f ≡ false
 
-is_shown : (v : VolumeView) (f : ℕ) (node : Node) → node_at v f ≡ Some node → IsShown v f
+pub is_shown : (v : VolumeView) (f : ℕ) (node : Node) → node_at v f ≡ Some node → IsShown v f
 unfolding node_at
 is_shown v f node e = by (record_on v f) refl e
   where

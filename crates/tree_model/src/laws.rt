@@ -5,6 +5,7 @@ ghost use Rattle.ntfs_def.specs.Node.{Item};
 ghost use Rattle.volume_def.specs.CaseClause.{volume_fold};
 ghost use Rattle.volume_def.specs.IndexesClause.{HasIndex, KeyRule, index_parts};
 ghost use Rattle.ntfs_def.specs.declared.records.TheConstants.{ROOT};
+ghost use Rattle.volume_def.specs.Sound.{IsSound};
 ghost use Rattle.volume_def.specs.VersionClause.{IsClean};
 ghost use Rattle.std.specs.FinMap as finmap;
 ghost use Rattle.volume_def.specs.View.{VolumeView};
@@ -41,6 +42,11 @@ pub fn one_facts()
     ensures volume { (view : VolumeView) (one other : Facts) → TellsFacts view one → TellsFacts view other → one ≡ other }
     ensures image { (image : List ℕ) (view last : VolumeView) (one other : Facts) → IsVolumeOf image view → IsVolumeOf image last
         → TellsFacts view one → TellsFacts last other → one ≡ other }
+{}
+
+/// A sound volume tells facts: what its view says, and of each id its descriptor, or that it has none.
+pub fn has_facts()
+    ensures { (view : VolumeView) → IsSound view → (facts : Facts) × TellsFacts view facts }
 {}
 
 /// A step has one reply: one refusal, or one answer. Want of memory may stand in its place, and until files get

@@ -23,7 +23,9 @@ pub use laws::{clean_law, edited_reading_laws, one_facts, one_reading, one_reply
 pub use lists::{Listing, Path, RawAttrs, ShownLinks, ShownStreams, Streams};
 pub use opens::{Access, OpenEntry};
 pub use plain::PlainTree;
+pub use plain_answers::{is_wide, range};
 pub use plain_facts::PlainFacts;
+pub use plain_lists::path_text;
 pub use plain_machine::PlainMachine;
 pub use reply::{Answer, Listed, No, Reply, ShownLink, ShownStream};
-pub use tree::{Content, Found, Link, Node, Point, RawAttr, SHOWN_FLAGS, Stream};
+pub use tree::{Content, Found, Link, Node, Point, RawAttr, SHOWN_FLAGS, Stream, compare_links};

@@ -8,7 +8,7 @@ ghost use Rattle.tree_model.specs.Tree.{compare_links, link_above, node_of, show
 
 use crate::lists::Path;
 use crate::reply::No;
-use crate::tree::{Link, Node};
+use crate::tree::{Link, Node, compare_links};
 use ntfs_def::records::ROOT;
 use std::cmp::Ordering;
 use upcase::UpCase;
@@ -43,9 +43,7 @@ impl PlainTree {
     pub(crate) fn compare(&self, a: &Link, b: &Link) -> Ordering
         ensures { result ≡ compare_links (fold_of self.now.case) a.now b.now }
     {
-        let names = self.case.compare(a.name.as_slice(), b.name.as_slice());
-        let rest = a.space.cmp(&b.space).then(a.child.cmp(&b.child));
-        a.parent.cmp(&b.parent).then(names.then(rest))
+        compare_links(&self.case, a, b)
     }
 
     // Whether a name is exactly this one, or the same.

@@ -385,15 +385,15 @@ fn stream_name(stream: &Option<Name>) -> &[u16]
     }
 }
 
-// An end behind 2^40, or more than 32,768 bytes.
-fn is_wide(at: u64, len: u64) -> bool
+/// Whether a range has an end above 2^40, or more than 32,768 bytes.
+pub fn is_wide(at: u64, len: u64) -> bool
     ensures { result ≡ is_wide at len }
 {
     len > 32_768 || at > (1 << 40) - len
 }
 
-// The bytes of the range that lie below the size.
-fn range(bytes: &[u8], at: u64, len: u64) -> &[u8]
+/// The bytes of a range that lie below the size.
+pub fn range(bytes: &[u8], at: u64, len: u64) -> &[u8]
     ensures { result.now ≡ range_of at len bytes.now }
 {
     let size = bytes.len() as u64;

@@ -117,8 +117,12 @@ fn name_text(alloc: Global, name: &[u16]) -> Result<Octets, No>
     }
 }
 
-// The text of a path.
-fn path_text(alloc: Global, path: &[Name]) -> Result<Vec<u8>, No>
+/// The text of a path: a slash and a name's text for each of its names.
+///
+/// # Errors
+///
+/// `Memory` alone.
+pub fn path_text(alloc: Global, path: &[Name]) -> Result<Vec<u8>, No>
     ensures ok { IfOk result (λ text. text.items ≡ path_text path.now) }
     ensures err { IfErr result (λ refused. refused ≡ no.Memory) }
 {

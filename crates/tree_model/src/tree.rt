@@ -1,5 +1,11 @@
 //! The parts of the tree.
+ghost use Rattle.std.specs.Prelude.{◌≡◌};
+ghost use Rattle.ntfs_def.specs.KeyOrder.{fold_of};
+ghost use Rattle.tree_model.specs.Tree.{compare_links};
+
 use crate::lists::{RawAttrs, Streams};
+use std::cmp::Ordering;
+use upcase::UpCase;
 use vol_bytes::{Name, Octets};
 
 /// The DOS flags that commands show and set: read-only, hidden, system, archive, temporary, offline and not indexed.
@@ -60,6 +66,15 @@ pub struct Link {
     pub name: Name,
     pub space: u8,
     pub child: u64,
+}
+
+/// Links by directory and name: the names by the table of case, and those that are the same by their units, namespaces and files.
+pub fn compare_links(case: &UpCase, a: &Link, b: &Link) -> Ordering
+    ensures { result ≡ compare_links (fold_of case.now) a.now b.now }
+{
+    let names = case.compare(a.name.as_slice(), b.name.as_slice());
+    let rest = a.space.cmp(&b.space).then(a.child.cmp(&b.child));
+    a.parent.cmp(&b.parent).then(names.then(rest))
 }
 
 /// What a path leads to.
