@@ -39,7 +39,7 @@ use Rattle.volume_format.proofs.Values.{spot-stream}
 
 module _ (p : Plan) (view : VolumeView) (is : IsPlanned p view) (some : 0 < p.size) where
   -- the volume's own table of case
-  fold-planned : AgreeOnAscii (volume_fold view) case_of
+  pub fold-planned : AgreeOnAscii (volume_fold view) case_of
   fold-planned unit small = volume_fold-planned p view is some unit (omega arith)
 
   pub IsDirectoryIndex-extend : IsDirectoryIndex view EXTEND

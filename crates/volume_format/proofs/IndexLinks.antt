@@ -41,19 +41,19 @@ module _ (p : Plan) where
   links-by f None e = refl
   links-by f (Some r) e = ap (λ (names : List FileName). cond (is_base r) (map (link_by f r.header.sequence) names) []) e
 
-  all_links : List Link
-  all_links = flat_map (λ f. own_links f (record_in_list (record_list p) f)) (range_with_len 0 record_count)
+  unfoldable pub planned_links : List Link
+  planned_links = flat_map (λ f. own_links f (record_in_list (record_list p) f)) (range_with_len 0 record_count)
 
-  links-planned : links (planned_records p) ≡ all_links
-  unfolding links all_links
+  pub links-planned : links (planned_records p) ≡ planned_links
+  unfolding links planned_links
   links-planned = flat_map_agree _ _ 0 record_count (λ m low high. links-by m (record_in_list (record_list p) m) (names-planned m (omega arith)))
 
-  root-counts : (q : Link → Bool) → count_by q (filter (is_in_directory 5) all_links) ≡ count_by q (map link_of root_items)
-  unfolding all_links name_in units_at
+  root-counts : (q : Link → Bool) → count_by q (filter (is_in_directory 5) planned_links) ≡ count_by q (map link_of root_items)
+  unfolding planned_links name_in units_at
   root-counts q = omega arith
 
-  extend-counts : (q : Link → Bool) → count_by q (filter (is_in_directory 11) all_links) ≡ count_by q (map link_of extend_items)
-  unfolding all_links name_in units_at
+  extend-counts : (q : Link → Bool) → count_by q (filter (is_in_directory 11) planned_links) ≡ count_by q (map link_of extend_items)
+  unfolding planned_links name_in units_at
   extend-counts q = omega arith
 
   pub root-names : SameItems (map link_of root_items) (filter (is_in_directory 5) (links (planned_records p)))

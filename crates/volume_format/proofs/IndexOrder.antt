@@ -18,7 +18,7 @@ use Rattle.volume_format.proofs.Tested.{Ascends-tested, is_ascending}
 abbrev pub AgreeOnAscii : (ℕ → ℕ) → (ℕ → ℕ) → Type 0
 AgreeOnAscii f g = (unit : ℕ) → unit < 128 → f unit ≡ g unit
 
-abbrev are_ascii : List ℕ → Bool
+abbrev pub are_ascii : List ℕ → Bool
 are_ascii units = list_all (λ unit. nat_lt unit 128) units
 
 abbrev is_ascii : Item → Bool
@@ -32,7 +32,7 @@ module _ (f g : ℕ → ℕ) (agree : AgreeOnAscii f g) where
       ap (λ v. v ∷ map f us) (agree u (ltb-true u 128 pair.0)) ∙ ap (λ vs. g u ∷ vs) (map-same us pair.1)
 
   -- they compare names of ASCII alike
-  units-same : (a b : List ℕ) → are_ascii a ≡ true → are_ascii b ≡ true → compare_units f a b ≡ compare_units g a b
+  pub units-same : (a b : List ℕ) → are_ascii a ≡ true → are_ascii b ≡ true → compare_units f a b ≡ compare_units g a b
   units-same a b ascii_a ascii_b =
       ap (λ xs. then_cmp (λ x y. by_numbers xs (map f b)) by_numbers a b) (map-same a ascii_a)
       ∙ ap (λ ys. then_cmp (λ x y. by_numbers (map g a) ys) by_numbers a b) (map-same b ascii_b)

@@ -46,6 +46,8 @@ mod ViewIndexes
 mod Directories
 mod IndexesClause
 mod Soundness
+mod LinksAlike
+mod Readings
 pub mod ResidentLaws
 pub mod ExtentLaws
 pub mod NewRecordLaws

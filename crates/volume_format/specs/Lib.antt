@@ -1,6 +1,7 @@
 pub mod Plan
 pub mod Items
 pub mod RootIndex
+pub mod Reading
 pub mod AttributeBytes
 pub mod FitsPlan
 pub mod IndexItems

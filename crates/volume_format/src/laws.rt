@@ -6,11 +6,13 @@ ghost use Rattle.volume_def.specs.CaseClause.{case_parts, volume_fold};
 ghost use Rattle.volume_def.specs.Sound.{Attributes, CaseTable, ClusterBits, Extents, IsSound, Limits, Links, Lists, Mirror, MirrorPlace, Owners, RecordBits, References, Shape, Version};
 ghost use Rattle.volume_def.specs.Table.{TableLayout, cluster_bytes};
 ghost use Rattle.volume_def.specs.VersionClause.{IsClean};
+ghost use Rattle.tree_model.specs.Reading.{read};
 ghost use Rattle.volume_format.specs.FitsPlan.{FitsPlan, IsClusterSize};
 ghost use Rattle.volume_format.specs.Items.{HoldsItem, StandsAt, case_byte, case_of, log_byte, ones_byte, record_bits_byte, security_byte};
 ghost use Rattle.volume_format.specs.NewVolume.{HoldsBytes, HoldsOfNew, OfNewVolumes, OwnsItems, log_parts, security_parts};
 ghost use Rattle.volume_format.specs.Options.{AreInRange, Options, clusters_in, plan_of};
 ghost use Rattle.volume_format.specs.Plan.{Plan, bits_len, case_len, items_end, log_len, security_len, table_bits_len};
+ghost use Rattle.volume_format.specs.Reading.{new_tree};
 
 /// A new volume meets each clause (that on indexes: `planned_indexes`), so it is sound; and it is clean.
 pub fn planned_laws()
@@ -40,7 +42,7 @@ pub fn plan_laws()
 {}
 
 /// The clusters of the items of a new volume are owned once, and no others. Its bitmaps, its table of case, its log and
-/// its security descriptors are the bytes that the plan says, and units are compared as it says.
+/// its security descriptors are the bytes that the plan says, and units are compared as it says. It reads as the root alone.
 pub fn content_laws()
     ensures owned { OfNewVolumes OwnsItems }
     ensures cluster_bits { OfNewVolumes (λ p view. HoldsBytes view (cluster_bits view) (bits_len p) (ones_byte (items_end p))) }
@@ -49,6 +51,7 @@ pub fn content_laws()
     ensures log { OfNewVolumes (λ p view. HoldsBytes view (log_parts view) log_len log_byte) }
     ensures security { OfNewVolumes (λ p view. HoldsBytes view (security_parts view) security_len security_byte) }
     ensures fold { OfNewVolumes (λ p view. (unit : ℕ) → unit < 2 ^ 16 → volume_fold view unit ≡ case_of unit) }
+    ensures reading { OfNewVolumes (λ p view. read view ≡ new_tree) }
 {}
 
 /// Where an item stands in the sectors of a disk, the clusters there hold it.

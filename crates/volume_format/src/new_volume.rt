@@ -2,10 +2,12 @@
 ghost use Rattle.std.specs.Prelude.{◌≡◌, ◌⊎◌, ◌↔◌, ◌≤◌, ℕ, Err, IfErr, IfOk, MatchResult, OnOk, is_some};
 ghost use Rattle.vol_disk.specs.Contents.{IsTold, WhereTold, sector_in, settled_more};
 ghost use Rattle.vol_disk.specs.Count.{CountsFault};
+ghost use Rattle.tree_model.specs.Facts.{ReadsAs};
 ghost use Rattle.volume_format.specs.Formatted.{IsNewVolume};
 ghost use Rattle.volume_format.specs.FormatNos.{CountsNo};
 ghost use Rattle.volume_format.specs.Options.{AreInRange, clusters_in, plan_of};
 ghost use Rattle.volume_format.specs.Plan.{items_end};
+ghost use Rattle.volume_format.specs.Reading.{new_tree};
 ghost use Rattle.volume_format.specs.Written.{ItemsStand, sector_at};
 
 use crate::made::{Made, make};
@@ -33,7 +35,8 @@ fn put<D: Disk>(disk: &mut D, made: &Made) -> Result<(), Failed>
     disk.settle()
 }
 
-/// Makes a new volume on a disk, and gives the number of its clusters. Sectors behind its items stay.
+/// Makes a new volume on a disk, and gives the number of its clusters. The volume reads as the root alone, and all other files
+/// are hidden. Sectors behind its items stay.
 ///
 /// # Errors
 ///
@@ -49,6 +52,7 @@ pub fn format<D: Disk>(
     ensures untouched { IfErr result (λ no. (no ≡ FormatNo.Device) ⊎ (disk.new ≡ disk.old)) }
     ensures clusters { IfOk result (λ clusters. clusters ≡ clusters_in options.now.sectors options.now.cluster) }
     ensures volume { OnOk result (WhereTold (D.now disk.new) (IsNewVolume options.now (D.size disk.old))) }
+    ensures reading { OnOk result (WhereTold (D.now disk.new) (λ contents. ReadsAs contents new_tree)) }
     ensures settled { OnOk result (D.settled disk.new ≡ settled_more (D.settled disk.old) (D.now disk.new)) }
     ensures others { (sector : ℕ) → sector_at (plan_of options.now) (items_end (plan_of options.now)) ≤ sector
         → sector_in (D.now disk.new) sector ≡ sector_in (D.now disk.old) sector }

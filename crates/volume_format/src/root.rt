@@ -4,7 +4,7 @@ ghost use Rattle.ntfs_def.specs.Fixup.{sequence_number};
 ghost use Rattle.volume_format.specs.NodeBlock.{blank_node};
 ghost use Rattle.volume_format.specs.Plan.{last_entry};
 ghost use Rattle.volume_format.specs.Planned.{IsRootRecord};
-ghost use Rattle.volume_format.specs.RootIndex.{root_entries, root_entry, root_name};
+ghost use Rattle.volume_format.specs.RootIndex.{root_entries, root_entry, system_name};
 
 use crate::new_record::put_front;
 use crate::value_bytes::{LAST_ENTRY, name_value, push_name_entry};
@@ -36,7 +36,7 @@ fn push_entry(
     letters: &[u8],
 ) -> Result<(), AllocError>
     requires { length letters.now ≤ 10 }
-    ensures { OnOk result (entries.new.items ≡ entries.old.items ++ root_entry (root_name number sequence directory letters.now) ∷ []) }
+    ensures { OnOk result (entries.new.items ≡ entries.old.items ++ root_entry (system_name number sequence directory letters.now) ∷ []) }
 {
     let name = name_value(alloc, 5, directory, letters)?;
     let mut entry = Vec::new(alloc);

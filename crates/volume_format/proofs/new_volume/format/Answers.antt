@@ -1,5 +1,5 @@
-use Rattle.std.proofs.Common.{◌≡◌, ℕ, ◌≤◌, Ok, Err, inr, sym, ap, subst}
-use Rattle.std.specs.Prelude.{Result, is_some}
+use Rattle.std.proofs.Common.{◌≡◌, ℕ, ◌*◌, ◌≤◌, List, length, Ok, Err, inr, sym, ap, subst, ◌∙◌}
+use Rattle.std.specs.Prelude.{IfSome, Result, is_some}
 use Rattle.std.specs.Result.{IsErrAnd}
 use Rattle.vol_disk.specs.Contents.{IsTold, sector_in}
 use Rattle.volume_format.specs.declared.error.FormatNo.{FormatNo}
@@ -9,6 +9,7 @@ use Rattle.volume_format.specs.Plan.{Plan, items_end}
 use Rattle.volume_format.specs.Written.{ItemsStand, sector_at}
 use Rattle.volume_format.proofs.NewImages.{IsNewVolume-stand}
 use Rattle.volume_format.proofs.OnDisk.{items_end-on_disk}
+use Rattle.volume_format.proofs.Readings.{ReadsAs-new}
 use Rattle.volume_format.proofs.new_volume.format.Goals as goal
 
 -- the disk's failure is no fault of the options
@@ -63,6 +64,15 @@ returns-clause-volume g c contents is =
     let here = subst (λ now. ItemsStand (sector_in now) (plan_of c.args.options.now) made.boot made.table.items made.root) is stand in
     IsNewVolume-stand c.args.options.now (g.D.Disk.size c.args.disk.now) contents made.boot made.table.items made.root range
     c.in_ok-made.ensures.made here
+
+pub returns-clause-reading : goal.returns-clause-reading
+returns-clause-reading g c contents is =
+    let own = c.is_in_range.ensures.0 c.if-not-is_in_range.false in
+    let range = subst (λ (n : ℕ). AreInRange n c.args.options.now) c.sectors.ensures own in
+    let len = subst (λ now. IfSome now (λ (all : List ℕ). length all ≡ 512 * g.D.Disk.size c.put.new.disk)) is
+    (g.met.D.Disk.told_length c.put.new.disk) in
+    ReadsAs-new c.args.options.now (g.D.Disk.size c.args.disk.now) contents range
+    (len ∙ ap (λ (n : ℕ). 512 * n) c.put.ensures.size) (returns-clause-volume g c contents is)
 
 pub returns-clause-others : goal.returns-clause-others
 returns-clause-others g c sector behind =
