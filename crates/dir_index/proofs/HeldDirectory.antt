@@ -1,0 +1,167 @@
+-- A directory that is held: of a volume in use, and with its index found.
+use Rattle.std.proofs.Common.{◌≡◌, ◌<◌, ◌≤◌, ◌+◌, ◌*◌, ℕ, true, false, is_some, List, [], ◌∷◌, map, Option, Some, None, refl, sym, ap, subst, ◌∙◌}
+use Rattle.std.specs.Prelude.{IsSomeAnd, IsTrue, IfSome, codes}
+use Rattle.std.specs.List.{filter_map}
+use Rattle.std.specs.Option.{option_and_then}
+use Rattle.std.specs.declared.cmp.Ordering.{Ordering}
+use Rattle.vol_disk.specs.declared.Disk.{Ghosts}
+use Rattle.ntfs_def.specs.Fixup.{opened_of}
+use Rattle.ntfs_def.specs.KeyOrder.{fold_of}
+use Rattle.ntfs_def.specs.Units.{wide}
+use Rattle.volume_def.specs.CaseClause.{volume_fold}
+use Rattle.volume_def.specs.Files.{Record, content_value, is_base, is_directory, record_on}
+use Rattle.volume_def.specs.IndexesClause.{IndexParts, IsDirectoryIndex, IsIndexRecordAt, stored_index_record}
+use Rattle.volume_def.specs.Readable.{IsFile, IsReadableVolume}
+use Rattle.volume_def.specs.Sound.{Attributes, Extents, Indexes, Lists, Shape}
+use Rattle.volume_def.specs.Table.{cluster_bytes}
+use Rattle.volume_def.specs.View.{VolumeView}
+use Rattle.index_tree.specs.Walk.{HasWalk, IsWalk}
+use Rattle.mft_table.specs.declared.mft.Mft.{Mft}
+use Rattle.mft_table.specs.declared.mounted.Mounted.{Mounted}
+use Rattle.mft_table.specs.Mft.{MftReads}
+use Rattle.tree_model.specs.Reading.{directory_links}
+use Rattle.tree_model.specs.Tree.{sought_link}
+use Rattle.file_record.specs.declared.parts.FileParts.{FileParts}
+use Rattle.file_record.specs.Held.{AreParts, file_number}
+use Rattle.file_record.proofs.RecordLaws.{record_at-inside}
+use Rattle.attr_store.specs.declared.index.FoundIndex.{FoundIndex}
+use Rattle.attr_store.specs.Index.{HasParts, IsFound, index_held}
+use Rattle.attr_store.specs.InUse.{IsDirectory, IsSoundVolume}
+use Rattle.attr_store.proofs.HeldIndexLaws.{index-held}
+use Rattle.attr_store.proofs.IndexRecordLaws.{record-there}
+use Rattle.dir_index.specs.Held.{IsHeldDirectory, fetched_of, nodes_found, records_found, root_found}
+use Rattle.dir_index.specs.Links.{IsHeldIndex, link_in, names_index}
+use Rattle.dir_index.specs.Sought.{CanSeek, SeekCosts, Seeks, exact_order, folded_order}
+use Rattle.dir_index.proofs.HeldIndex.{can_seek_both, costs_exact, costs_folded, finds_exact, finds_folded, has_walk, walked}
+
+-- A call that only reads, with a bound on the sectors that it asked for.
+pub reads-within : {D : Type 0} (g : Ghosts D) (a b : Mft D g) (m k : ℕ) → MftReads g a b m → fetched_of g b ≤ fetched_of g a + k
+    → MftReads g a b k
+reads-within g a b m k reads fits = record {
+  stage = record { goes_on = reads.stage.goes_on; only_reads = reads.stage.only_reads; fetched = fits };
+  mounted = reads.mounted;
+}
+
+-- A directory of a volume in use.
+module _ (view : VolumeView) (mounted : Mounted) (dir : ℕ) (volume : IsSoundVolume view mounted) (is : IsDirectory view dir) where
+  by-record : (o : Option Record) → record_on view dir ≡ o → IsSomeAnd o (λ r. IsTrue (is_base r) × IsTrue (is_directory r))
+      → IfSome o (λ r. IsTrue (is_base r) → IsTrue (is_directory r) → IsDirectoryIndex view dir)
+      → (dir < view.layout.count) × IsSomeAnd o (λ r. IsTrue (is_base r)) × IsDirectoryIndex view dir
+  by-record None e h k = absurd h
+  by-record (Some r) e h k = (record_at-inside view dir r e, h.0, k h.0 h.1)
+
+  there : (dir < view.layout.count) × IsFile view dir × IsDirectoryIndex view dir
+  there = by-record (record_on view dir) refl is (volume.sound Indexes dir).directory
+
+  pub is-inside : dir < view.layout.count
+  is-inside = there.0
+
+  pub is-file : IsFile view dir
+  is-file = there.1
+
+  pub is-readable : IsReadableVolume view
+  is-readable = record {
+    shape = volume.sound Shape;
+    attributes = volume.sound Attributes;
+    lists = volume.sound Lists;
+    extents = volume.sound Extents;
+  }
+
+  pub is-held : (file : FileParts) (table : List ℕ) → file_number file ≡ dir → AreParts view file → table ≡ mounted.upcase
+      → IsHeldDirectory view file table
+  is-held file table number parts same = record {
+    held = record { readable = is-readable; parts = parts; is_file = subst (IsFile view) (sym number) is-file };
+    directory = subst (IsDirectoryIndex view) (sym number) there.2;
+    case = same ∙ volume.stored.upcase_is;
+  }
+
+-- Its index.
+module _ (view : VolumeView) (file : FileParts) (table : List ℕ) (held : IsHeldDirectory view file table) where
+  abbrev names : List ℕ
+  names = wide (codes "$I30")
+
+  same-parts : index_held file names ≡ names_index view (file_number file)
+  same-parts = index-held view file names held.held.parts
+
+  pub has-index : ((root : List ℕ) → ¬ (HasParts (index_held file names) root)) → ⊥
+  has-index none =
+      let has = held.directory.index in
+      none has.root (subst (λ (i : IndexParts). HasParts i has.root) (sym same-parts)
+      (record { is_root = has.is_root; plain = has.plain; plain_bits = has.plain_bits; written = has.written }))
+
+  module _ (some : 0 < cluster_bytes view.layout) (index : FoundIndex) (found : IsFound file index) (named : index.name.now ≡ names) where
+    same-index : index_held file index.name.now ≡ names_index view (file_number file)
+    same-index = ap (index_held file) named ∙ same-parts
+
+    abbrev records : ℕ → Option (List ℕ)
+    records = records_found view file index
+
+    pub held-index : IsHeldIndex view (file_number file) table index.root.now records
+    held-index = record {
+      directory = held.directory;
+      case = held.case;
+      is_root = subst (λ (i : IndexParts). map (λ part. content_value part.content) i.root ≡ Some index.root.now ∷ []) same-index
+          found.parts.is_root;
+      there = subst (λ (i : IndexParts). (vcn : ℕ) → IsIndexRecordAt view i vcn
+          → records vcn ≡ Some (opened_of (stored_index_record view i vcn))) same-index
+          (λ vcn. record-there view (index_held file index.name.now) vcn some);
+    }
+
+    -- what a walk asks for, and what it gives
+    pub can-walk : HasWalk (nodes_found view file index) (root_found index)
+    can-walk = has_walk view (file_number file) table index.root.now records held-index held.directory
+
+    pub walk-said : (entries : List (List ℕ)) → IsWalk (nodes_found view file index) (root_found index) entries
+        → directory_links view (file_number file) ≡ filter_map link_in entries
+    walk-said entries is = walked view (file_number file) table index.root.now records held-index held.directory entries is
+
+    module _ (name : List ℕ) where
+      abbrev exact : List ℕ → List ℕ → List ℕ → Ordering
+      exact table = exact_order (fold_of table) name
+
+      abbrev folded : List ℕ → List ℕ → List ℕ → Ordering
+      folded table = folded_order (fold_of table) name
+
+      pub can-seek : CanSeek (exact table) records index.root.now × CanSeek (folded table) records index.root.now
+      can-seek =
+          subst (λ t. CanSeek (exact t) records index.root.now × CanSeek (folded t) records index.root.now) (sym held.case)
+          (can_seek_both view (file_number file) table index.root.now records held-index held.directory name)
+
+      exact-said : (entry : List ℕ) → Seeks (exact table) records index.root.now (Some entry)
+          → link_in entry ≡ sought_link (volume_fold view) (directory_links view (file_number file)) name
+      exact-said entry seeks =
+          finds_exact view (file_number file) table index.root.now records held-index held.directory name entry
+          (subst (λ t. Seeks (exact t) records index.root.now (Some entry)) held.case seeks)
+
+      folded-said : (found : Option (List ℕ)) → Seeks (exact table) records index.root.now None
+          → Seeks (folded table) records index.root.now found
+          → option_and_then link_in found ≡ sought_link (volume_fold view) (directory_links view (file_number file)) name
+      folded-said found none seeks =
+          finds_folded view (file_number file) table index.root.now records held-index held.directory name found
+          (subst (λ t. Seeks (exact t) records index.root.now None) held.case none)
+          (subst (λ t. Seeks (folded t) records index.root.now found) held.case seeks)
+
+      -- an entry that was found by exactly the name, and the second search behind one that found none
+      pub first-said : (found : Option (List ℕ)) → is_some found ≡ true → Seeks (exact table) records index.root.now found
+          → option_and_then link_in found ≡ sought_link (volume_fold view) (directory_links view (file_number file)) name
+      first-said None e seeks = let f : false ≡ true = e in cc
+      first-said (Some entry) e seeks = exact-said entry seeks
+
+      pub second-said : (first found : Option (List ℕ)) → is_some first ≡ false → Seeks (exact table) records index.root.now first
+          → Seeks (folded table) records index.root.now found
+          → option_and_then link_in found ≡ sought_link (volume_fold view) (directory_links view (file_number file)) name
+      second-said None found e none seeks = folded-said found none seeks
+      second-said (Some entry) found e none seeks = let f : true ≡ false = e in cc
+
+      module _ (has : IsDirectoryIndex view (file_number file)) (before after : ℕ) where
+        pub exact-costs : SeekCosts 8 (exact table) records index.root.now before after
+            → after ≤ before + 8 * has.index.walks.depth
+        exact-costs costs =
+            costs_exact view (file_number file) table index.root.now records held-index has name 8 before after
+            (subst (λ t. SeekCosts 8 (exact t) records index.root.now before after) held.case costs)
+
+        pub folded-costs : SeekCosts 8 (folded table) records index.root.now before after
+            → after ≤ before + 8 * has.index.walks.depth
+        folded-costs costs =
+            costs_folded view (file_number file) table index.root.now records held-index has name 8 before after
+            (subst (λ t. SeekCosts 8 (folded t) records index.root.now before after) held.case costs)

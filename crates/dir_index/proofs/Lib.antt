@@ -1,0 +1,7 @@
+pub mod SoughtOrders
+pub mod SoughtUnits
+pub mod InOrder
+pub mod DirectoryLinks
+pub mod FoundLinks
+pub mod HeldIndex
+pub mod HeldDirectory

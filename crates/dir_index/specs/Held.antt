@@ -1,0 +1,55 @@
+-- A directory that is held while its index is read.
+use Rattle.std.specs.Prelude.{◌≡◌, ℕ, List, [], Option}
+use Rattle.std.specs.declared.cmp.Ordering.{Ordering}
+use Rattle.vol_disk.specs.declared.Disk.{Ghosts}
+use Rattle.vol_stage.specs.Staged.{disk_of}
+use Rattle.ntfs_def.specs.IndexTree.{Nodes}
+use Rattle.ntfs_def.specs.Node.{Node, node_in}
+use Rattle.ntfs_def.specs.declared.index.NodeForm.TheVariants.{Names}
+use Rattle.volume_def.specs.CaseClause.{case_parts}
+use Rattle.volume_def.specs.IndexesClause.{IsDirectoryIndex}
+use Rattle.volume_def.specs.Values.{value_on}
+use Rattle.volume_def.specs.View.{VolumeView}
+use Rattle.index_tree.specs.Search.{nodes_of}
+use Rattle.index_tree.specs.declared.IndexNo.{IndexNo}
+use Rattle.index_tree.specs.declared.IndexNo.TheVariants as index_no
+use Rattle.mft_table.specs.declared.mft.Mft.{Mft}
+use Rattle.mft_table.specs.Mft.{stage_of}
+use Rattle.file_record.specs.declared.error.FileNo.{FileNo}
+use Rattle.file_record.specs.declared.error.FileNo.TheVariants.{Device, Memory, NoRoom}
+use Rattle.file_record.specs.declared.parts.FileParts.{FileParts}
+use Rattle.file_record.specs.Held.{file_number}
+use Rattle.attr_store.specs.declared.index.FoundIndex.{FoundIndex}
+use Rattle.attr_store.specs.Index.{index_held}
+use Rattle.attr_store.specs.IndexBlocks.{IsHeldFile}
+use Rattle.attr_store.specs.IndexRecords.{index_record_on}
+
+-- The directory is held as the volume has it, its index is right, and this is the volume's table of case.
+pub record IsHeldDirectory (view : VolumeView) (file : FileParts) (table : List ℕ) : Type 0 where
+  pub held : IsHeldFile view file
+  pub directory : IsDirectoryIndex view (file_number file)
+  pub case : table ≡ value_on view (case_parts view)
+
+-- the records of an index that was found in a file, the nodes that they say, and the node that its root says
+abbrev pub records_found : VolumeView → FileParts → FoundIndex → ℕ → Option (List ℕ)
+records_found view file index = index_record_on view (index_held file index.name.now)
+
+abbrev pub nodes_found : VolumeView → FileParts → FoundIndex → Nodes
+nodes_found view file index = nodes_of Names (records_found view file index)
+
+abbrev pub root_found : FoundIndex → Option Node
+root_found index = node_in Names index.root.now
+
+-- on which side of the empty key, which stands for what is sought, a key is
+abbrev pub side_of : (List ℕ → List ℕ → Ordering) → List ℕ → Ordering
+side_of order key = order key []
+
+-- the sectors that were asked for
+abbrev pub fetched_of : {D : Type 0} (g : Ghosts D) → Mft D g → ℕ
+fetched_of g mft = g.fetched (disk_of g (stage_of g mft))
+
+-- why a directory was not searched, by why its index was not
+abbrev pub file_no_of : IndexNo → FileNo
+file_no_of index_no.Device = Device
+file_no_of index_no.NoRoom = NoRoom
+file_no_of index_no.Memory = Memory

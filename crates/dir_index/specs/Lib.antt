@@ -1,0 +1,4 @@
+pub mod Held
+pub mod Links
+pub mod Sought
+pub mod SoughtLaws

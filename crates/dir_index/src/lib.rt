@@ -1,0 +1,15 @@
+//! The names of a directory, by its index.
+#![tactic(auto)]
+
+mod index;
+mod laws;
+mod link;
+mod search;
+mod sought;
+#[cfg(test)]
+mod tests;
+
+pub use laws::{directory_search_laws, directory_walk_laws};
+pub use link::link_of_entry;
+pub use search::{list, lookup};
+pub use sought::{ExactName, FoldedName};

@@ -1,0 +1,67 @@
+//! The link that an entry of a directory says.
+ghost use Rattle.std.specs.Prelude.{◌≡◌, IfOk, IsTrue};
+ghost use Rattle.vol_bytes.specs.Field.{u64_at};
+ghost use Rattle.ntfs_def.specs.FileName.{is_name_key, key_units};
+ghost use Rattle.ntfs_def.specs.Node.{IsOwnEntry, item_in};
+ghost use Rattle.ntfs_def.specs.declared.index.NodeForm.TheVariants.{Names};
+ghost use Rattle.dir_index.specs.Links.{link_in};
+
+use collation::{UNIT_COUNT, UNITS, is_name_key};
+use std::alloc::{AllocError, Global};
+use tree_model::Link;
+use vol_bytes::{Name, u16_at, u64_at};
+
+/// The number in a file reference is its lower 48 bits.
+const NUMBERS: u64 = 1 << 48;
+
+// The key of an entry.
+#[tactic(auto, unfolding(ntfs_def::specs::Node::item_at))]
+fn key_in(entry: &[u8]) -> &[u8]
+    requires { IsOwnEntry Names entry.now }
+    ensures { result.now ≡ (item_in entry.now).key }
+{
+    &entry[16..16 + u16_at(entry, 0x0A) as usize]
+}
+
+// The reference of the file that an entry names.
+#[tactic(auto, unfolding(ntfs_def::specs::Node::item_at))]
+fn reference_in(entry: &[u8]) -> u64
+    requires { IsOwnEntry Names entry.now }
+    ensures { result ≡ u64_at (item_in entry.now).head 0 }
+{
+    u64_at(entry, 0)
+}
+
+// The units of a key.
+#[tactic(auto, unfolding(ntfs_def::specs::Units::units_at))]
+fn units_in(alloc: Global, key: &[u8]) -> Result<Vec<u16>, AllocError>
+    requires { IsTrue (is_name_key key.now) }
+    ensures { IfOk result (λ units. units.items ≡ key_units key.now) }
+{
+    (0..key[UNIT_COUNT] as usize)
+        .map(|k| u16_at(key, UNITS + 2 * k))
+        .collect(alloc)
+}
+
+/// The link that an entry says, of a node of names. `None` exactly where its key is no name.
+///
+/// # Errors
+///
+/// Want of memory alone.
+#[tactic(auto, unfolding(ntfs_def::specs::FileName::name_in))]
+pub fn link_of_entry(alloc: Global, entry: &[u8]) -> Result<Option<Link>, AllocError>
+    requires { IsOwnEntry Names entry.now }
+    ensures { IfOk result (λ link. link ≡ link_in entry.now) }
+{
+    let key = key_in(entry);
+    if !is_name_key(key) {
+        return Ok(None);
+    }
+    let units = units_in(alloc, key)?;
+    Ok(Some(Link {
+        parent: u64_at(key, 0) % NUMBERS,
+        name: Name::from_vec(units),
+        space: key[0x41],
+        child: reference_in(entry) % NUMBERS,
+    }))
+}

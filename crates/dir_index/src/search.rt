@@ -1,0 +1,215 @@
+//! A name is sought in a directory, and all names of one are listed.
+ghost use Rattle.std.specs.Prelude.{◌≡◌, ◌+◌, ◌*◌, ◌++◌, ◌∷◌, [], ℕ, IfErr, IfOk, IfSome, IsTrue, MatchResult, OnOk, codes};
+ghost use Rattle.std.specs.List.{filter_map};
+ghost use Rattle.std.specs.Option.{option_and_then};
+ghost use Rattle.ntfs_def.specs.IndexTree.{Each};
+ghost use Rattle.ntfs_def.specs.Node.{IsOwnEntry};
+ghost use Rattle.ntfs_def.specs.declared.index.NodeForm.TheVariants.{Names};
+ghost use Rattle.ntfs_def.specs.Units.{wide};
+ghost use Rattle.volume_def.specs.CaseClause.{volume_fold};
+ghost use Rattle.volume_def.specs.IndexesClause.{IsDirectoryIndex};
+ghost use Rattle.index_tree.specs.Search.{IsKeyed};
+ghost use Rattle.mft_table.specs.Mft.{MftReads, faults_of, view};
+ghost use Rattle.tree_model.specs.Reading.{directory_links};
+ghost use Rattle.tree_model.specs.Tree.{sought_link};
+ghost use Rattle.file_record.specs.FileNos.{CountsNo, IsReadNo};
+ghost use Rattle.file_record.specs.Held.{file_number};
+ghost use Rattle.file_record.specs.Records.{file_reads};
+ghost use Rattle.attr_store.specs.Index.{IsFound};
+ghost use Rattle.attr_store.specs.InUse.{IsDirectory, IsInUse};
+ghost use Rattle.dir_index.specs.Held.{IsHeldDirectory};
+ghost use Rattle.dir_index.specs.Links.{link_in};
+ghost use Rattle.dir_index.specs.Sought.{is_sought_key};
+
+use crate::index::{find_first, walk_all};
+use crate::{ExactName, FoldedName, link_of_entry};
+use attr_store::{FoundIndex, find_index};
+use file_record::{FileNo, FileParts};
+use mft_table::Mft;
+use std::alloc::Global;
+use tree_model::Link;
+use upcase::UpCase;
+use vol_bytes::{Name, Octets};
+use vol_disk::Disk;
+
+/// The name of a directory's index, `$I30`.
+const NAMES: &[u8] = b"$\0I\03\00\0";
+
+// A table of case, once more.
+fn share(upcase: &UpCase) -> Result<UpCase, FileNo>
+    ensures table { IfOk result (λ table. table ≡ upcase.now) }
+    ensures err { IfErr result (λ no. no ≡ FileNo.Memory) }
+{
+    match upcase.share() {
+        Ok(table) => Ok(table),
+        Err(_) => Err(FileNo::Memory),
+    }
+}
+
+// The entry of exactly this name, else the first that is the same by the table of case.
+fn find_entry<D: Disk>(
+    alloc: Global,
+    mft: &mut Mft<'_, D>,
+    file: &FileParts,
+    index: FoundIndex<'_>,
+    upcase: &UpCase,
+    name: &[u16],
+) -> Result<Option<Octets>, FileNo>
+    requires found { IsFound file.now index }
+    requires name { index.name.now ≡ wide (codes "$I30") }
+    requires held { IsTrue (view D.Disk mft.old).told → IsHeldDirectory (view D.Disk mft.old) file.now upcase.now }
+    ensures found { IfOk result (λ found. IsTrue (view D.Disk mft.old).told → option_and_then link_in found
+        ≡ sought_link (volume_fold (view D.Disk mft.old)) (directory_links (view D.Disk mft.old) (file_number file.now)) name.now) }
+    ensures keyed { IfOk result (λ found. IfSome found (IsKeyed Names is_sought_key)) }
+    ensures err { IfErr result IsReadNo }
+    ensures faults { MatchResult result (λ _. faults_of D.Disk mft.new ≡ faults_of D.Disk mft.old)
+        (CountsNo (faults_of D.Disk mft.old) (faults_of D.Disk mft.new)) }
+    ensures reads { (reads : ℕ) × MftReads D.Disk mft.old mft.new reads }
+    ensures fetched { IsTrue (view D.Disk mft.old).told → (index : IsDirectoryIndex (view D.Disk mft.old) (file_number file.now))
+        → MftReads D.Disk mft.old mft.new (16 * index.index.walks.depth) }
+{
+    let exact = find_first(alloc, mft, file, index, ExactName { upcase, name })?;
+    if exact.is_some() {
+        return Ok(exact);
+    }
+    find_first(alloc, mft, file, index, FoldedName { upcase, name })
+}
+
+// The link that an entry says, where there is one.
+fn link_found(alloc: Global, entry: Option<Octets>) -> Result<Option<Link>, FileNo>
+    requires { IfSome entry (IsKeyed Names is_sought_key) }
+    ensures link { IfOk result (λ link. link ≡ option_and_then link_in entry) }
+    ensures err { IfErr result (λ no. no ≡ FileNo.Memory) }
+{
+    match entry {
+        Some(entry) => Ok(link_of_entry(alloc, entry.as_slice())?),
+        None => Ok(None),
+    }
+}
+
+// The link that is sought by a name in a directory that is held.
+fn find_link<D: Disk>(
+    alloc: Global,
+    mft: &mut Mft<'_, D>,
+    file: &FileParts,
+    upcase: &UpCase,
+    name: &[u16],
+) -> Result<Option<Link>, FileNo>
+    requires held { IsTrue (view D.Disk mft.old).told → IsHeldDirectory (view D.Disk mft.old) file.now upcase.now }
+    ensures found { IfOk result (λ found. IsTrue (view D.Disk mft.old).told → found
+        ≡ sought_link (volume_fold (view D.Disk mft.old)) (directory_links (view D.Disk mft.old) (file_number file.now)) name.now) }
+    ensures err { IfErr result IsReadNo }
+    ensures faults { MatchResult result (λ _. faults_of D.Disk mft.new ≡ faults_of D.Disk mft.old)
+        (CountsNo (faults_of D.Disk mft.old) (faults_of D.Disk mft.new)) }
+    ensures reads { (reads : ℕ) × MftReads D.Disk mft.old mft.new reads }
+    ensures fetched { IsTrue (view D.Disk mft.old).told → (index : IsDirectoryIndex (view D.Disk mft.old) (file_number file.now))
+        → MftReads D.Disk mft.old mft.new (16 * index.index.walks.depth) }
+{
+    let Some(index) = find_index(file, NAMES) else {
+        return Ok(None);
+    };
+    let entry = find_entry(alloc, mft, file, index, upcase, name)?;
+    link_found(alloc, entry)
+}
+
+/// Seeks a name in a directory among all its links, DOS names and hidden ones too: the link of exactly this name, else the first
+/// in name order whose units are the same by the volume's table of case. The directory is loaded once; for each of the two
+/// searches one index record a level is read at most.
+///
+/// # Errors
+///
+/// `Device` where the disk failed, and `Memory`.
+pub fn lookup<D: Disk>(
+    alloc: Global,
+    mft: &mut Mft<'_, D>,
+    dir: u64,
+    name: &Name,
+) -> Result<Option<Link>, FileNo>
+    requires volume { IsInUse D.Disk mft.old }
+    requires directory { IsTrue (view D.Disk mft.old).told → IsDirectory (view D.Disk mft.old) dir }
+    ensures found { IfOk result (λ found. IsTrue (view D.Disk mft.old).told
+        → found ≡ sought_link (volume_fold (view D.Disk mft.old)) (directory_links (view D.Disk mft.old) dir) name.now) }
+    ensures err { IfErr result IsReadNo }
+    ensures faults { MatchResult result (λ _. faults_of D.Disk mft.new ≡ faults_of D.Disk mft.old)
+        (CountsNo (faults_of D.Disk mft.old) (faults_of D.Disk mft.new)) }
+    ensures reads { (reads : ℕ) × MftReads D.Disk mft.old mft.new reads }
+    ensures fetched { IsTrue (view D.Disk mft.old).told → (index : IsDirectoryIndex (view D.Disk mft.old) dir)
+        → MftReads D.Disk mft.old mft.new (file_reads (view D.Disk mft.old) dir + 16 * index.index.walks.depth) }
+{
+    if dir >= mft.mounted().records.count() {
+        return Ok(None);
+    }
+    let upcase = share(&mft.mounted().upcase)?;
+    let file = FileParts::load(alloc, mft, dir)?;
+    find_link(alloc, mft, &file, &upcase, name.as_slice())
+}
+
+// Puts the link that an entry says behind the others, where its key is a name.
+fn put_link(alloc: Global, entry: &[u8], links: &mut Vec<Link>) -> Result<(), FileNo>
+    requires { IsOwnEntry Names entry.now }
+    ensures links { OnOk result (links.new.items ≡ links.old.items ++ filter_map link_in (entry.now ∷ [])) }
+    ensures err { IfErr result (λ no. no ≡ FileNo.Memory) }
+{
+    if let Some(link) = link_of_entry(alloc, entry)? {
+        links.push(link)?;
+    }
+    Ok(())
+}
+
+// The links that entries say, in their order.
+fn links_of(alloc: Global, entries: &[Octets]) -> Result<Vec<Link>, FileNo>
+    requires { Each (IsOwnEntry Names) entries.now }
+    ensures links { IfOk result (λ links. links.items ≡ filter_map link_in entries.now) }
+    ensures err { IfErr result (λ no. no ≡ FileNo.Memory) }
+{
+    let mut links = Vec::new(alloc);
+    for entry in entries {
+        put_link(alloc, entry.as_slice(), &mut links)?;
+    }
+    Ok(links)
+}
+
+// The links of a directory that is held.
+fn list_links<D: Disk>(
+    alloc: Global,
+    mft: &mut Mft<'_, D>,
+    file: &FileParts,
+    upcase: UpCase,
+) -> Result<Vec<Link>, FileNo>
+    requires held { IsTrue (view D.Disk mft.old).told → IsHeldDirectory (view D.Disk mft.old) file.now upcase }
+    ensures links { IfOk result (λ links. IsTrue (view D.Disk mft.old).told
+        → links.items ≡ directory_links (view D.Disk mft.old) (file_number file.now)) }
+    ensures err { IfErr result IsReadNo }
+    ensures faults { MatchResult result (λ _. faults_of D.Disk mft.new ≡ faults_of D.Disk mft.old)
+        (CountsNo (faults_of D.Disk mft.old) (faults_of D.Disk mft.new)) }
+    ensures reads { (reads : ℕ) × MftReads D.Disk mft.old mft.new reads }
+{
+    let Some(index) = find_index(file, NAMES) else {
+        return Ok(Vec::new(alloc));
+    };
+    let entries = walk_all(alloc, mft, file, index, upcase)?;
+    links_of(alloc, &entries)
+}
+
+/// Lists the links of a directory, DOS names and hidden ones too, in name order.
+///
+/// # Errors
+///
+/// `Device` where the disk failed, and `Memory`.
+pub fn list<D: Disk>(alloc: Global, mft: &mut Mft<'_, D>, dir: u64) -> Result<Vec<Link>, FileNo>
+    requires volume { IsInUse D.Disk mft.old }
+    requires directory { IsTrue (view D.Disk mft.old).told → IsDirectory (view D.Disk mft.old) dir }
+    ensures links { IfOk result (λ links. IsTrue (view D.Disk mft.old).told
+        → links.items ≡ directory_links (view D.Disk mft.old) dir) }
+    ensures err { IfErr result IsReadNo }
+    ensures faults { MatchResult result (λ _. faults_of D.Disk mft.new ≡ faults_of D.Disk mft.old)
+        (CountsNo (faults_of D.Disk mft.old) (faults_of D.Disk mft.new)) }
+    ensures reads { (reads : ℕ) × MftReads D.Disk mft.old mft.new reads }
+{
+    if dir >= mft.mounted().records.count() {
+        return Ok(Vec::new(alloc));
+    }
+    let upcase = share(&mft.mounted().upcase)?;
+    let file = FileParts::load(alloc, mft, dir)?;
+    list_links(alloc, mft, &file, upcase)
+}

@@ -1,0 +1,119 @@
+//! A name is sought among keys, and an entry says its link.
+
+use super::*;
+use collation::Collation;
+use index_node::NodeView;
+use ntfs_def::NodeForm;
+use std::alloc::Global;
+use std::cmp::Ordering;
+use std::test::Fail;
+use tree_model::Link;
+use upcase::UpCase;
+
+// A table that folds the letters of ASCII alone.
+fn table(alloc: Global) -> Result<UpCase, Fail> {
+    let mut bytes = Vec::new(alloc);
+    for unit in 0..=u16::MAX {
+        let folded = match unit {
+            0x61..=0x7A => unit - 0x20,
+            _ => unit,
+        };
+        for byte in folded.to_le_bytes() {
+            bytes.push(byte)?;
+        }
+    }
+    Ok(UpCase::load(alloc, &bytes)?)
+}
+
+// The value of a `$FILE_NAME` with these units.
+fn key(alloc: Global, units: &[u16]) -> Result<Vec<u8>, Fail> {
+    let mut bytes = vec![in alloc; 0u8; 0x40]?;
+    bytes.push(u8::try_from(units.len()).unwrap_or(0))?;
+    bytes.push(3)?;
+    for unit in units {
+        for byte in unit.to_le_bytes() {
+            bytes.push(byte)?;
+        }
+    }
+    Ok(bytes)
+}
+
+// The root of a directory with one entry: record 26, with the sequence number 3, as `a` and `é` in directory 5.
+const ROOT: [u8; 136] = [
+    0x30, 0, 0, 0, 1, 0, 0, 0, 0, 16, 0, 0, 1, 0, 0, 0, // the root's header
+    0x10, 0, 0, 0, 0x78, 0, 0, 0, 0x78, 0, 0, 0, 0, 0, 0, 0, // the header of the index
+    26, 0, 0, 0, 0, 0, 3, 0, 0x58, 0, 0x46, 0, 0, 0, 0, 0, // the entry
+    5, 0, 0, 0, 0, 0, 5, 0, 0, 0, 0, 0, 0, 0, 0, 0, // its key, at 0x30
+    0, 0, 0, 0, 0, 0, 0, 0, 0, 0, 0, 0, 0, 0, 0, 0, //
+    0, 0, 0, 0, 0, 0, 0, 0, 0, 0, 0, 0, 0, 0, 0, 0, //
+    0, 0, 0, 0, 0, 0, 0, 0, 0, 0, 0, 0, 0, 0, 0, 0, //
+    2, 1, 0x61, 0, 0xE9, 0, 0, 0, // two units, namespace 1
+    0, 0, 0, 0, 0, 0, 0, 0, 0x10, 0, 0, 0, 2, 0, 0, 0, // the last entry
+];
+
+fn link_of_first(alloc: Global, root: &[u8]) -> Result<Option<Link>, Fail> {
+    let node = NodeView::new(root, NodeForm::Names)?;
+    if node.entries() == 0 {
+        return Ok(None);
+    }
+    Ok(link_of_entry(alloc, node.entry(0))?)
+}
+
+#[test]
+fn an_entry_says_its_link(rt: HostRuntime) -> Result<(), Fail> {
+    let link = link_of_first(rt.alloc(), &ROOT)?;
+    assert_eq!(rt;
+        format!(in rt.alloc(); "{link:?}")?.as_str(),
+        "Some(Link { parent: 5, name: Name { units: [97, 233] }, space: 1, child: 26 })"
+    );
+    let mut nameless = ROOT;
+    nameless[0x70] = 0;
+    assert!(rt; link_of_first(rt.alloc(), &nameless)?.is_none());
+    Ok(())
+}
+
+fn side<C: Collation>(order: &C, key: &[u8]) -> Option<Ordering> {
+    if order.is_valid(key) && order.is_valid(&[]) {
+        Some(order.compare(key, &[]))
+    } else {
+        None
+    }
+}
+
+#[test]
+fn names_are_sought(rt: HostRuntime) -> Result<(), Fail> {
+    let upcase = table(rt.alloc())?;
+    let rows: [(&[u16], &[u16], Ordering, Ordering); 5] = [
+        (&[0x61], &[0x61], Ordering::Equal, Ordering::Equal), // a, a
+        (&[0x41], &[0x61], Ordering::Less, Ordering::Equal), // A, a
+        (&[0x61], &[0x41], Ordering::Greater, Ordering::Equal), // a, A
+        (&[0x61], &[0x61, 0x61], Ordering::Less, Ordering::Less), // a, aa
+        (&[0x61], &[], Ordering::Greater, Ordering::Greater), // a, the empty name
+    ];
+    for (units, name, exact, folded) in rows {
+        let key = key(rt.alloc(), units)?;
+        let by_units = ExactName {
+            upcase: &upcase,
+            name,
+        };
+        let by_fold = FoldedName {
+            upcase: &upcase,
+            name,
+        };
+        assert_eq!(rt; side(&by_units, &key), Some(exact));
+        assert_eq!(rt; side(&by_fold, &key), Some(folded));
+    }
+    Ok(())
+}
+
+#[test]
+fn a_long_name_is_no_key(rt: HostRuntime) -> Result<(), Fail> {
+    let upcase = table(rt.alloc())?;
+    let key = key(rt.alloc(), &[0x61; 255])?;
+    let order = ExactName {
+        upcase: &upcase,
+        name: &[0x61; 256],
+    };
+    assert_eq!(rt; side(&order, &key), Some(Ordering::Less));
+    Ok(())
+}
