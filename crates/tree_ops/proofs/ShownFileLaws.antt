@@ -1,0 +1,60 @@
+-- A file that is shown, and the directories of its names.
+use Rattle.std.proofs.Common.{◌≡◌, ◌≢◌, inl, inr, ℕ, ◌≤◌, Bool, true, false, Option, Some, None, IsSome, refl, sym, subst, ◌∙◌}
+use Rattle.std.specs.List.{All}
+use Rattle.std.proofs.lemmas.Bool.{cases_lt}
+use Rattle.ntfs_def.specs.declared.records.TheConstants.{FIRST_ORDINARY, ROOT}
+use Rattle.volume_def.specs.CaseClause.{volume_fold}
+use Rattle.volume_def.specs.FileNames.{names_of}
+use Rattle.volume_def.specs.Files.{records_of}
+use Rattle.volume_def.specs.Readable.{IsFile}
+use Rattle.volume_def.specs.Sound.{IsSound, Links, References}
+use Rattle.volume_def.specs.View.{VolumeView}
+use Rattle.volume_def.proofs.MemberLaws.{All-from_Contains, Contains-from_map}
+use Rattle.tree_model.specs.Ordered.{in_order}
+use Rattle.tree_model.specs.Reading.{link_for, links_to, node_at, read}
+use Rattle.tree_model.specs.Tree.{link_above, node_of}
+use Rattle.tree_model.specs.declared.tree.Link.{Link}
+use Rattle.tree_model.specs.declared.tree.Node.{Node}
+use Rattle.tree_model.proofs.ClimbLaws.{IsShownDirectory, shown-parent}
+use Rattle.tree_model.proofs.HiddenLaws.{hidden-system}
+use Rattle.tree_model.proofs.NamesLaws.{IsShown, is_shown}
+use Rattle.tree_model.proofs.OrderedMembers.{Contains-from_in_order}
+use Rattle.tree_model.proofs.ReadingLaws.{node_of-read}
+
+-- The file has a node.
+pub record HasNode (view : VolumeView) (f : ℕ) : Type 0 where
+  pub node : Node
+  pub at : node_at view f ≡ Some node
+
+pub has-node : (view : VolumeView) (f : ℕ) → IsSome (node_of (read view) f) → HasNode view f
+has-node view f some = by (node_at view f) refl (subst IsSome (node_of-read view f) some)
+  where
+    by : (o : Option Node) → node_at view f ≡ o → IsSome o → HasNode view f
+    by None at h = cc
+    by (Some node) at h = record { node = node; at = at }
+
+module _ (view : VolumeView) (sound : IsSound view) (f : ℕ) (has : HasNode view f) where
+  is : IsShown view f
+  is = is_shown view f has.node has.at
+
+  pub shown-is-file : IsFile view f
+  shown-is-file = let e = is.at in rw e is.is
+
+  ordinary : f ≢ ROOT → FIRST_ORDINARY ≤ f
+  ordinary ne = elim (cases_lt f FIRST_ORDINARY) [
+    | inl low ↦ let e = hidden-system (records_of view) f low ne in let s = is.shown in absurd (differ e s)
+    | inr high ↦ high
+  ]
+    where
+      differ : {b : Bool} → b ≡ true → b ≡ false → ⊥
+      differ e s = let g = sym e ∙ s in cc
+
+  pub shown-directories : f ≢ ROOT
+      → All (λ (link : Link). IsShownDirectory view link.parent) (in_order (link_above (volume_fold view)) (links_to view f))
+  shown-directories ne =
+      All-from_Contains (λ (link : Link). IsShownDirectory view link.parent) (in_order (link_above (volume_fold view)) (links_to view f))
+      (λ link c.
+      let w = Contains-from_map (link_for f) (names_of (records_of view) f) link
+      (Contains-from_in_order (link_above (volume_fold view)) (links_to view f) link c) in
+      subst (λ (l : Link). IsShownDirectory view l.parent) w.2
+      (shown-parent view (sound References) (sound Links) f (ordinary ne) is.shown w.0 w.1))

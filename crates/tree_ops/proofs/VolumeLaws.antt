@@ -1,0 +1,121 @@
+-- A volume behind calls that only read, and one that was just taken into use.
+use Rattle.std.proofs.Common.{◌≡◌, ◌⊎◌, ℕ, Bool, true, false, List, Option, Some, None, Result, Ok, Err, inl, inr, refl, sym, ap, subst, ◌∙◌, arith}
+use Rattle.std.specs.Prelude.{is_some}
+use Rattle.vol_disk.specs.declared.Disk.{Ghosts}
+use Rattle.volume_def.specs.Sound.{HoldBelow, IsSound}
+use Rattle.volume_def.specs.Sound.{Attributes, CaseTable, ClusterBits, Extents, Indexes, Limits, Links, Lists, Mirror, MirrorPlace, Owners, RecordBits, References, Shape, Version}
+use Rattle.volume_def.specs.View.{VolumeView, view_of}
+use Rattle.file_record.proofs.ReadLaws.{view-kept}
+use Rattle.mft_table.specs.declared.mft.Mft.{Mft}
+use Rattle.mft_table.specs.declared.mounted.Mounted.{Mounted}
+use Rattle.mft_table.specs.HeldTables.{HoldsTables, volume_in}
+use Rattle.mft_table.specs.Mft.{MftReads, mounted_of, stage_of, view}
+use Rattle.mft_table.specs.Mounted.{mounted_layout}
+use Rattle.vol_disk.specs.Contents.{WhereTold, sector_in}
+use Rattle.vol_stage.specs.declared.stage.Stage.{Stage}
+use Rattle.vol_stage.specs.Staged.{disk_of, image, is_broken}
+use Rattle.attr_store.specs.InUse.{IsInUse, IsSoundVolume}
+use Rattle.tree_model.specs.Refusals.{Facts}
+use Rattle.tree_model.specs.Staging.{is_built}
+use Rattle.tree_model.specs.Step.{Step, reply_of}
+use Rattle.tree_model.specs.declared.command.Command.{Command}
+use Rattle.tree_model.specs.declared.reply.Answer.{Answer}
+use Rattle.tree_model.specs.declared.reply.No.{No}
+use Rattle.tree_model.specs.declared.reply.No.TheVariants as no
+use Rattle.tree_model.specs.declared.reply.Reply.{Reply}
+use Rattle.tree_model.specs.declared.reply.Reply.TheVariants as reply
+use Rattle.tree_model.proofs.MachineLaws.{shown-step}
+use Rattle.tree_ops.specs.Serves.{Serves}
+use Rattle.tree_ops.specs.Volumes.{VolumeReads}
+use Rattle.tree_ops.specs.Wanted.{machine_on, wanted}
+use Rattle.tree_ops.specs.declared.volume.Volume.{Volume}
+use Rattle.tree_ops.proofs.AnsweredLaws.{in-use-kept}
+use Rattle.tree_ops.proofs.WantedLaws.{not-built}
+
+module _ {D : Type 0} (g : Ghosts D) (old new : Volume D g) (n : ℕ) (reads : MftReads g old.mft new.mft n) where
+  pub volume-reads : VolumeReads g old new
+  volume-reads =
+      let goes = reads.stage.goes_on in
+      let only = reads.stage.only_reads in
+      record {
+        same_reference = goes.same_reference;
+        now = only.now;
+        fenced = only.fenced;
+        size = goes.size;
+        written = only.written;
+        late = only.late;
+        faults = goes.faults;
+        view = view-kept g old.mft new.mft n reads;
+      }
+
+  pub serves-kept : Serves g old → Serves g new
+  serves-kept serves =
+      let only = reads.stage.only_reads in
+      record {
+        in_use = in-use-kept g old.mft new.mft n reads serves.in_use;
+        tells = only.image ∙ serves.tells ∙ sym only.now;
+        whole = only.broken ∙ serves.whole;
+      }
+
+-- What was answered is a step of the machine.
+module _ (facts : Facts) (moment session : ℕ) (command : Command) (view : VolumeView) where
+  abbrev IsStep : Reply → Type 0
+  IsStep given = Step facts (machine_on view moment) session command given (machine_on view moment)
+
+  none-shown : (x : Answer) (w : Result Answer No) → w ≡ Ok x → w ≡ Err no.Unbuilt → ⊥
+  none-shown x w e f = cc
+
+  pub answer-step : (x : Answer) → wanted facts moment session command view ≡ Ok x → IsStep (reply.Ok x)
+  answer-step x is = by (is_built command) refl
+    where
+      by : (b : Bool) → is_built command ≡ b → IsStep (reply.Ok x)
+      by true built = shown-step facts (machine_on view moment) session command (Ok x) built is
+      by false built = absurd (none-shown x _ is (not-built facts moment session command view built))
+
+  pub refused-step : (refused : No) → (wanted facts moment session command view ≡ Err refused) ⊎ (refused ≡ no.Memory) → IsStep (reply.No refused)
+  refused-step refused (inl is) = record { replied = inl (sym (ap reply_of is)); moved = refl }
+  refused-step refused (inr memory) = record { replied = inr (inl (ap reply.No memory)); moved = refl }
+
+-- all clauses stand before the fifteenth place
+pub all-clauses : (view : VolumeView) → HoldBelow view 15 → IsSound view
+all-clauses view below Shape = below Shape (omega arith)
+all-clauses view below Attributes = below Attributes (omega arith)
+all-clauses view below Lists = below Lists (omega arith)
+all-clauses view below Extents = below Extents (omega arith)
+all-clauses view below Owners = below Owners (omega arith)
+all-clauses view below ClusterBits = below ClusterBits (omega arith)
+all-clauses view below RecordBits = below RecordBits (omega arith)
+all-clauses view below References = below References (omega arith)
+all-clauses view below Links = below Links (omega arith)
+all-clauses view below CaseTable = below CaseTable (omega arith)
+all-clauses view below Indexes = below Indexes (omega arith)
+all-clauses view below Version = below Version (omega arith)
+all-clauses view below MirrorPlace = below MirrorPlace (omega arith)
+all-clauses view below Mirror = below Mirror (omega arith)
+all-clauses view below Limits = below Limits (omega arith)
+
+-- A volume that was just taken into use.
+module _ {D : Type 0} (g : Ghosts D) (mft : Mft D g) (mounted : Mounted) (kept : mounted_of g mft ≡ mounted) where
+  view-new : (o : Option (List ℕ)) → image g (stage_of g mft) ≡ o → view g mft ≡ view_of (is_some o) (sector_in o) (mounted_layout mounted)
+  view-new o e =
+      ap (λ i. view_of (is_some i) (sector_in i) (mounted_layout (mounted_of g mft))) e
+      ∙ ap (λ (m : Mounted). view_of (is_some o) (sector_in o) (mounted_layout m)) kept
+
+  in_use-new : (o : Option (List ℕ)) → image g (stage_of g mft) ≡ o → WhereTold o (λ all. HoldsTables 15 all mounted) → IsInUse g mft
+  in_use-new None e holds = λ told. let none = sym (ap (λ (i : Option (List ℕ)). is_some i) e) ∙ told in cc
+  in_use-new (Some all) e holds = λ told.
+      let tables = holds all refl in
+      subst (λ v. IsSoundVolume v (mounted_of g mft)) (sym (view-new (Some all) e))
+      (subst (λ (m : Mounted). IsSoundVolume (volume_in all mounted) m) (sym kept)
+      (record { sound = all-clauses (volume_in all mounted) tables.clauses; stored = tables.values }))
+
+pub new-serves : {D : Type 0} (g : Ghosts D) (volume : Volume D g) (stage : Stage D g) (mounted : Mounted) (disk : D)
+    → stage_of g volume.mft ≡ stage → mounted_of g volume.mft ≡ mounted → disk_of g stage ≡ disk → image g stage ≡ g.now disk
+    → is_broken g stage ≡ false → WhereTold (g.now disk) (λ all. HoldsTables 15 all mounted) → Serves g volume
+new-serves g volume stage mounted disk same kept under shown whole holds =
+    let seen : image g (stage_of g volume.mft) ≡ g.now disk = ap (image g) same ∙ shown in
+    record {
+      in_use = in_use-new g volume.mft mounted kept (g.now disk) seen holds;
+      tells = seen ∙ sym (ap (λ s. g.now (disk_of g s)) same ∙ ap g.now under);
+      whole = ap (is_broken g) same ∙ whole;
+    }

@@ -1,0 +1,83 @@
+-- What is due for each command that is built, on a machine without opens, is what the command wants of its tree and its path.
+use Rattle.std.proofs.Common.{◌≡◌, ℕ, List, [], false, Option, Result, Ok, Err, refl, ◌∙◌}
+use Rattle.tree_model.specs.Answers.{answer_of}
+use Rattle.tree_model.specs.Paths.{and_then, found_file, resolve}
+use Rattle.tree_model.specs.Plain.{cat_of, file_at, links_of, looked, ls_of, read_of, reparse_of}
+use Rattle.tree_model.specs.Reading.{read}
+use Rattle.tree_model.specs.Refusals.{Facts, outcome}
+use Rattle.tree_model.specs.Staging.{is_built}
+use Rattle.tree_model.specs.Step.{due}
+use Rattle.tree_model.specs.Subjects.{locate, stream_name}
+use Rattle.tree_model.specs.Tree.{Tree, node_of}
+use Rattle.tree_model.specs.declared.command.Command.{Command}
+use Rattle.tree_model.specs.declared.command.Command.TheVariants as c
+use Rattle.tree_model.specs.declared.reply.Answer.{Answer}
+use Rattle.tree_model.specs.declared.reply.No.{No}
+use Rattle.tree_model.specs.declared.reply.No.TheVariants as no
+use Rattle.tree_model.specs.declared.tree.Found.{Found}
+use Rattle.tree_model.specs.declared.tree.Node.{Node}
+use Rattle.tree_model.proofs.LookLaws as look
+use Rattle.volume_def.specs.View.{VolumeView}
+use Rattle.tree_ops.specs.Wanted.{attr_wanted, cat_wanted, df_wanted, links_wanted, ls_wanted, objid_wanted, read_wanted}
+use Rattle.tree_ops.specs.Wanted.{reparse_wanted, sec_wanted, stat_wanted, streams_wanted, wanted}
+
+-- the file that a path leads to, and what follows
+of_file : (tree : Tree) (path : List (List ℕ)) (shown : (ℕ × Option Node) → Result Answer No)
+    → and_then (file_at tree path) shown ≡ and_then (resolve tree path) (λ found. shown (found_file found, node_of tree (found_file found)))
+of_file tree path shown = by (resolve tree path)
+  where
+    by : (r : Result Found No)
+        → and_then (and_then r (λ found. Ok (found_file found, node_of tree (found_file found)))) shown
+        ≡ and_then r (λ found. shown (found_file found, node_of tree (found_file found)))
+    by (Err refused) = refl
+    by (Ok found) = refl
+
+module _ (facts : Facts) (moment session : ℕ) (view : VolumeView) (path : List (List ℕ)) where
+  abbrev is_wanted : Command → Result Answer No → Type 0
+  is_wanted command other = wanted facts moment session command view ≡ other
+
+  pub ls-wanted : is_wanted (c.Ls path) (ls_wanted (read view) path)
+  ls-wanted = look.ls-due facts (read view) [] moment session path ∙ of_file (read view) path (ls_of (read view))
+
+  pub stat-wanted : is_wanted (c.Stat path) (stat_wanted (read view) path)
+  stat-wanted = look.stat-due facts (read view) [] moment session path ∙ of_file (read view) path (looked (read view) (c.Stat path))
+
+  pub links-wanted : is_wanted (c.Links path) (links_wanted (read view) path)
+  links-wanted = look.links-due facts (read view) [] moment session path ∙ of_file (read view) path (links_of (read view))
+
+  pub cat-wanted : (stream : Option (List ℕ)) → is_wanted (c.Cat path stream) (cat_wanted (read view) path stream)
+  cat-wanted stream =
+      look.cat-due facts (read view) [] moment session path stream
+      ∙ of_file (read view) path (cat_of (read view) [] (stream_name stream))
+
+  pub read-wanted : (stream : Option (List ℕ)) (from len : ℕ)
+      → is_wanted (c.Read path stream from len) (read_wanted (read view) path stream from len)
+  read-wanted stream from len =
+      look.read-due facts (read view) [] moment session path stream from len
+      ∙ of_file (read view) path (read_of (read view) [] (stream_name stream) from len)
+
+  pub streams-wanted : is_wanted (c.Streams path) (streams_wanted (read view) path)
+  streams-wanted =
+      look.streams-due facts (read view) [] moment session path ∙ of_file (read view) path (looked (read view) (c.Streams path))
+
+  pub attr-wanted : is_wanted (c.Attr path) (attr_wanted (read view) path)
+  attr-wanted = look.attr-due facts (read view) [] moment session path ∙ of_file (read view) path (looked (read view) (c.Attr path))
+
+  pub sec-wanted : is_wanted (c.Sec path) (sec_wanted (read view) path)
+  sec-wanted = look.sec-due facts (read view) [] moment session path ∙ of_file (read view) path (looked (read view) (c.Sec path))
+
+  pub reparse-wanted : is_wanted (c.Reparse path) (reparse_wanted (read view) path)
+  reparse-wanted = look.reparse-due facts (read view) [] moment session path ∙ of_file (read view) path reparse_of
+
+  pub objid-wanted : is_wanted (c.Objid path) (objid_wanted (read view) path)
+  objid-wanted = look.objid-due facts (read view) [] moment session path ∙ of_file (read view) path (looked (read view) (c.Objid path))
+
+pub df-wanted : (facts : Facts) (moment session : ℕ) (view : VolumeView) → wanted facts moment session c.Df view ≡ df_wanted facts
+unfolding due outcome locate answer_of
+df-wanted facts moment session view = refl
+
+-- all other commands are refused
+pub not-built : (facts : Facts) (moment session : ℕ) (command : Command) (view : VolumeView) → is_built command ≡ false
+    → wanted facts moment session command view ≡ Err no.Unbuilt
+unfolding due outcome
+not-built facts moment session command view unbuilt = rw unbuilt refl

@@ -1,0 +1,49 @@
+use Rattle.std.proofs.Common.{◌≡◌, ◌-◌, true, false, length, refl, sym, ap, ◌∙◌}
+use Rattle.std.proofs.lemmas.List.Folds.{list_any_at}
+use Rattle.volume_def.specs.Files.{records_of}
+use Rattle.mft_table.specs.Mft.{view}
+use Rattle.mft_table.specs.declared.mounted.Mounted.{Mounted}
+use Rattle.tree_model.specs.Hidden.{leads_to_system}
+use Rattle.tree_model.specs.declared.tree.Link.{Link}
+use Rattle.tree_ops.proofs.FindsLaws.{finds-after, finds-both, finds-ok, finds-plain, finds-stop}
+use Rattle.tree_ops.proofs.KindLaws.{any-more-none}
+use Rattle.tree_ops.proofs.hidden.stands_in_hidden.Goals as goal
+
+pub loop-link-init : goal.loop-link-init
+loop-link-init g c = finds-plain g.D.Disk c.args.mft.now _ 0 (λ told. (c.new-above.ensures (view g.D.Disk c.args.mft.now), refl))
+
+pub returns-in-Ok-true : goal.returns-in-Ok-true
+returns-in-Ok-true g c = record {
+  found = finds-ok g.D.Disk c.args.mft.now c.leads_elsewhere.new.mft _ _ _ _
+      (finds-both g.D.Disk c.args.mft.now c.loop-link.mft c.leads_elsewhere.new.mft _ _ _ _ c.loop-link.invariant c.in-Ok-true.ensures.found)
+      (λ told both.
+      let v = view g.D.Disk c.args.mft.now in
+      let p = λ (link : Link). leads_to_system (records_of v) (v.layout.count - 1) link.parent in
+      let most : c.saturating_sub-most.result ≡ v.layout.count - 1 =
+      c.saturating_sub-most.ensures ∙ ap (λ n. n - 1) (c.count.ensures ∙ ap (λ (m : Mounted). length m.records) c.mounted.ensures) in
+      let here : p c.link-item.result ≡ true =
+      ap (λ n. leads_to_system (records_of v) n c.link-item.result.parent) (sym most) ∙ sym both.1.1 ∙ c.in-Ok-true.field-0-test in
+      sym (list_any_at p c.args.links.now c.loop-link.link-index c.link-item.result c.loop-link-test.true (ap p (sym c.link-item.is) ∙ here)));
+}
+
+pub returns-in-Err : goal.returns-in-Err
+returns-in-Err g c = record {
+  found = finds-after g.D.Disk c.args.mft.now c.loop-link.mft c.leads_elsewhere.new.mft _ _ _ _ c.loop-link.invariant
+      (finds-stop g.D.Disk c.loop-link.mft c.leads_elsewhere.new.mft _ _ c.in-Err.why c.in-Err.ensures.found);
+}
+
+pub loop-link-preserved : goal.loop-link-preserved
+loop-link-preserved g c =
+    finds-ok g.D.Disk c.args.mft.now c.leads_elsewhere.new.mft _ _ _ _
+    (finds-both g.D.Disk c.args.mft.now c.loop-link.mft c.leads_elsewhere.new.mft _ _ _ _ c.loop-link.invariant c.in-Ok-false.ensures.found)
+    (λ told both.
+    let v = view g.D.Disk c.args.mft.now in
+    let p = λ (link : Link). leads_to_system (records_of v) (v.layout.count - 1) link.parent in
+    let most : c.saturating_sub-most.result ≡ v.layout.count - 1 =
+    c.saturating_sub-most.ensures ∙ ap (λ n. n - 1) (c.count.ensures ∙ ap (λ (m : Mounted). length m.records) c.mounted.ensures) in
+    let here : p c.link-item.result ≡ false =
+    ap (λ n. leads_to_system (records_of v) n c.link-item.result.parent) (sym most) ∙ sym both.1.1 ∙ c.in-Ok-false.field-0-test in (
+      both.1.0,
+      any-more-none p c.args.links.now c.loop-link.link-index c.link-item.result c.loop-link-test.true both.0.1
+          (ap p (sym c.link-item.is) ∙ here),
+    ))

@@ -1,0 +1,12 @@
+use Rattle.std.proofs.Common.{◌≡◌, length}
+use Rattle.std.specs.Vec.Iter.{into_iter_items, into_iter_len}
+use Rattle.tree_ops.proofs.ListSteps.{IsListed}
+use Rattle.tree_ops.proofs.walk.list_shown.Given as goal
+
+abbrev pub invariant-links : goal.invariant-links
+invariant-links g l = record {
+  goes : (goal.iterator-links g).can_next l.link-iterator;
+  ends : (goal.iterator-links g).is_finite l.link-iterator;
+  counted : into_iter_len l.link-iterator ≡ length (into_iter_items l.link-iterator);
+  listed : IsListed g.D.Disk l.fn.mft l.mft l.dir l.lines.items (into_iter_items l.link-iterator);
+}

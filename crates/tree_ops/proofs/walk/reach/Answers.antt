@@ -1,0 +1,34 @@
+use Rattle.std.proofs.Common.{Ok, Err, sym, ◌∙◌}
+use Rattle.tree_model.specs.Paths.{reached}
+use Rattle.tree_ops.specs.Walks.{reached_kind}
+use Rattle.tree_ops.proofs.AnsweredLaws.{as-residual}
+use Rattle.tree_ops.proofs.WalkLaws.{reached-steps}
+use Rattle.tree_ops.proofs.WalkSteps.{step-seen, step-unseen}
+use Rattle.tree_ops.specs.declared.stop.Stop.TheVariants as stop
+use Rattle.tree_ops.proofs.walk.reach.Goals as goal
+
+pub returns-in_err-kind : goal.returns-in_err-kind
+returns-in_err-kind g c = record {
+  answered = as-residual g.D.Disk c.args.mft.now c.kind_below.new.mft _ c.in_err-kind.field-0.0 c.from_residual-in_err-kind.result
+      c.from_residual-in_err-kind.ensures.1
+      (step-unseen g.D.Disk reached reached_kind reached-steps c.args.dir c.args.name.now c.args.mft.now c.seek.new.mft
+      c.kind_below.new.mft c.in_ok-link.link c.in_err-kind.field-0.0 c.in_ok-link.ensures.answered c.in_err-kind.ensures.answered);
+}
+
+pub returns-in_err-reached_kind : goal.returns-in_err-reached_kind
+returns-in_err-reached_kind g c = record {
+  answered = as-residual g.D.Disk c.args.mft.now c.kind_below.new.mft _ (stop.No c.in_err-reached_kind.field-0.0)
+      c.from_residual-in_err-reached_kind.result c.from_residual-in_err-reached_kind.ensures.1
+      (step-seen g.D.Disk reached reached_kind reached-steps c.args.dir c.args.name.now
+      c.args.mft.now c.seek.new.mft c.kind_below.new.mft c.in_ok-link.link c.in_ok-kind.kind (Err c.in_err-reached_kind.field-0.0)
+      (sym c.in_err-reached_kind.was ∙ c.reached_kind.ensures)
+      c.in_ok-link.ensures.answered c.in_ok-kind.ensures.answered);
+}
+
+pub returns : goal.returns
+returns g c = record {
+  answered = step-seen g.D.Disk reached reached_kind reached-steps c.args.dir c.args.name.now
+      c.args.mft.now c.seek.new.mft c.kind_below.new.mft c.in_ok-link.link c.in_ok-kind.kind (Ok c.in_ok-reached_kind.field-0)
+      (sym c.in_ok-reached_kind.was ∙ c.reached_kind.ensures)
+      c.in_ok-link.ensures.answered c.in_ok-kind.ensures.answered;
+}

@@ -1,0 +1,13 @@
+-- When a volume in use can do a command.
+use Rattle.std.specs.Prelude.{◌≡◌, false}
+use Rattle.vol_disk.specs.declared.Disk.{Ghosts}
+use Rattle.mft_table.specs.Mft.{is_mft_broken}
+use Rattle.attr_store.specs.InUse.{IsInUse}
+use Rattle.tree_ops.specs.declared.volume.Volume.{Volume}
+use Rattle.tree_ops.specs.Volumes.{TellsDisk}
+
+-- Where the disk tells its contents they are sound, and the tables that are kept are theirs. Nothing is staged, and no write failed.
+pub record Serves {D : Type 0} (g : Ghosts D) (volume : Volume D g) : Type 0 where
+  pub in_use : IsInUse g volume.mft
+  pub tells : TellsDisk g volume
+  pub whole : is_mft_broken g volume.mft ≡ false

@@ -1,0 +1,35 @@
+-- A volume whose commands are done: what it tells, and what its calls keep.
+use Rattle.std.specs.Prelude.{◌≡◌, ◌≤◌}
+use Rattle.std.specs.Borrow.{GName}
+use Rattle.vol_disk.specs.declared.Disk.{Ghosts}
+use Rattle.vol_stage.specs.Staged.{disk_of, image, reference_of}
+use Rattle.volume_def.specs.View.{VolumeView}
+use Rattle.mft_table.specs.Mft.{stage_of, view}
+use Rattle.tree_ops.specs.declared.volume.Volume.{Volume}
+
+-- the disk below, and the reference by which it is borrowed
+abbrev pub disk_under : {D : Type 0} (g : Ghosts D) → Volume D g → D
+disk_under g volume = disk_of g (stage_of g volume.mft)
+
+abbrev pub reference_under : {D : Type 0} (g : Ghosts D) → Volume D g → GName
+reference_under g volume = reference_of g (stage_of g volume.mft)
+
+-- the volume as it is read
+abbrev pub view_under : {D : Type 0} (g : Ghosts D) → Volume D g → VolumeView
+view_under g volume = view g volume.mft
+
+-- What every call keeps until there are edits: the same disk stands below, of which nothing changes but what it counts of reads
+-- and of faults, and what it was asked to settle; and the volume reads as before.
+pub record VolumeReads {D : Type 0} (g : Ghosts D) (old new : Volume D g) : Type 0 where
+  pub same_reference : reference_under g new ≡ reference_under g old
+  pub now : g.now (disk_under g new) ≡ g.now (disk_under g old)
+  pub fenced : g.fenced (disk_under g new) ≡ g.fenced (disk_under g old)
+  pub size : g.size (disk_under g new) ≡ g.size (disk_under g old)
+  pub written : g.written (disk_under g new) ≡ g.written (disk_under g old)
+  pub late : g.late (disk_under g new) ≡ g.late (disk_under g old)
+  pub faults : g.faults (disk_under g old) ≤ g.faults (disk_under g new)
+  pub view : view_under g new ≡ view_under g old
+
+-- What the volume tells is what its disk tells: nothing is staged between commands.
+abbrev pub TellsDisk : {D : Type 0} (g : Ghosts D) → Volume D g → Type 0
+TellsDisk g volume = image g (stage_of g volume.mft) ≡ g.now (disk_under g volume)

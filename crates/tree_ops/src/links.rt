@@ -1,0 +1,195 @@
+//! The links to a file, by the paths that lead to them.
+ghost use Rattle.std.specs.Prelude.{◌≡◌, ◌∷◌, ◌++◌, [], All, IfOk, IsTrue, OnOk, false, length, map};
+ghost use Rattle.ntfs_def.specs.KeyOrder.{fold_of};
+ghost use Rattle.volume_def.specs.CaseClause.{volume_fold};
+ghost use Rattle.volume_def.specs.Files.{records_of};
+ghost use Rattle.volume_def.specs.Readable.{IsFile};
+ghost use Rattle.mft_table.specs.Mft.{view};
+ghost use Rattle.tree_model.specs.Answers.{path_above, path_to, shown_link};
+ghost use Rattle.tree_model.specs.Hidden.{is_hidden};
+ghost use Rattle.tree_model.specs.Ordered.{in_order};
+ghost use Rattle.tree_model.specs.Reading.{links_to, read};
+ghost use Rattle.tree_model.specs.Tree.{link_above};
+ghost use Rattle.attr_store.specs.InUse.{IsDirectory, IsInUse};
+ghost use Rattle.tree_ops.specs.Above.{AreAbove};
+ghost use Rattle.tree_ops.specs.Finds.{Finds};
+ghost use Rattle.tree_ops.specs.Lines.{shown_in};
+
+use crate::above::Above;
+use crate::line::Line;
+use crate::outline::load_outline;
+use crate::stop::Stop;
+use mft_table::Mft;
+use ntfs_def::records::ROOT;
+use std::alloc::{AllocError, Global};
+use tree_model::{Link, No, Path, ShownLink, compare_links};
+use upcase::UpCase;
+use vol_bytes::Name;
+use vol_disk::Disk;
+
+// Puts a link's name before other names.
+fn put_name(alloc: Global, link: &Link, names: &mut Vec<Name>) -> Result<(), AllocError>
+    ensures { OnOk result (names.new.items ≡ link.now.name ∷ names.old.items) }
+{
+    let name = Name::from_vec(Vec::from_slice(alloc, link.name.as_slice())?);
+    names.insert(0, name)?;
+    Ok(())
+}
+
+// The path of a link that stands in a directory that is shown.
+fn path_of<D: Disk>(
+    alloc: Global,
+    mft: &mut Mft<'_, D>,
+    above: &mut Above,
+    link: &Link,
+) -> Result<Vec<Name>, Stop>
+    requires volume { IsInUse D.Disk mft.old }
+    requires directory { IsTrue (view D.Disk mft.old).told → IsDirectory (view D.Disk mft.old) link.now.parent }
+    requires shown { IsTrue (view D.Disk mft.old).told → is_hidden (records_of (view D.Disk mft.old)) link.now.parent ≡ false }
+    requires above { IsTrue (view D.Disk mft.old).told → AreAbove (view D.Disk mft.old) above.old }
+    ensures found { Finds D.Disk mft.old mft.new (λ volume names. AreAbove volume above.new
+        × (names.items ≡ path_to (read volume) (length (read volume).links) link.now.parent ++ link.now.name ∷ [])) result }
+{
+    let mut names = Vec::new(alloc);
+    put_name(alloc, link, &mut names)?;
+    let mut at = link.parent;
+    let mut left = mft.mounted().records.count();
+    'steps: while left > 0 && at != ROOT {
+        match above.learn(alloc, mft, at) {
+            Ok(()) => {}
+            Err(why) => return Err(why),
+        }
+        let up = match above.name(at) {
+            Some(up) => up,
+            None => return Ok(names),
+        };
+        match put_name(alloc, up, &mut names) {
+            Ok(()) => {}
+            Err(_) => return Err(Stop::No(No::Memory)),
+        }
+        at = up.parent;
+        left -= 1;
+    }
+    Ok(names)
+}
+
+// The line of a link that stands in a directory that is shown.
+fn line_of<D: Disk>(
+    alloc: Global,
+    mft: &mut Mft<'_, D>,
+    above: &mut Above,
+    link: &Link,
+) -> Result<Line, Stop>
+    requires volume { IsInUse D.Disk mft.old }
+    requires directory { IsTrue (view D.Disk mft.old).told → IsDirectory (view D.Disk mft.old) link.now.parent }
+    requires shown { IsTrue (view D.Disk mft.old).told → is_hidden (records_of (view D.Disk mft.old)) link.now.parent ≡ false }
+    requires above { IsTrue (view D.Disk mft.old).told → AreAbove (view D.Disk mft.old) above.old }
+    ensures found { Finds D.Disk mft.old mft.new (λ volume line. AreAbove volume above.new
+        × (line.shown ≡ shown_link (read volume) link.now)) result }
+{
+    let names = match path_of(alloc, mft, above, link) {
+        Ok(names) => names,
+        Err(why) => return Err(why),
+    };
+    let shown = ShownLink {
+        space: link.space,
+        path: Path::from_vec(names),
+    };
+    match Line::new(alloc, shown) {
+        Ok(line) => Ok(line),
+        Err(no) => Err(Stop::No(no)),
+    }
+}
+
+/// The lines of links that stand in directories that are shown, in their order. Each directory above is read once.
+///
+/// # Errors
+///
+/// `Device` where the disk failed, and `Memory`.
+pub fn lines_of<D: Disk>(
+    alloc: Global,
+    mft: &mut Mft<'_, D>,
+    links: &[Link],
+) -> Result<Vec<Line>, Stop>
+    requires volume { IsInUse D.Disk mft.old }
+    requires directories { IsTrue (view D.Disk mft.old).told → All (λ link. IsDirectory (view D.Disk mft.old) link.parent) links.now }
+    requires shown { IsTrue (view D.Disk mft.old).told
+        → All (λ link. is_hidden (records_of (view D.Disk mft.old)) link.parent ≡ false) links.now }
+    ensures found { Finds D.Disk mft.old mft.new (λ volume lines.
+        shown_in lines.items ≡ map (shown_link (read volume)) links.now) result }
+{
+    let mut above = Above::new(alloc);
+    let mut lines = Vec::new(alloc);
+    for link in links {
+        let line = match line_of(alloc, mft, &mut above, link) {
+            Ok(line) => line,
+            Err(why) => return Err(why),
+        };
+        match lines.push(line) {
+            Ok(()) => {}
+            Err(_) => return Err(Stop::No(No::Memory)),
+        }
+    }
+    Ok(lines)
+}
+
+// Puts links in order, by their directories and names.
+fn sort_links(case: &UpCase, links: &mut Vec<Link>) -> Result<(), AllocError>
+    ensures { OnOk result (links.new.items ≡ in_order (link_above (fold_of case.now)) links.old.items) }
+{
+    links.sort_by(|a, b| compare_links(case, a, b))?;
+    Ok(())
+}
+
+// Puts lines in byte order of their paths' texts.
+fn sort_lines(lines: &mut Vec<Line>) -> Result<(), AllocError>
+    ensures { OnOk result (shown_in lines.new.items ≡ in_order path_above (shown_in lines.old.items)) }
+{
+    lines.sort_by(|a, b| a.text.as_slice().cmp(b.text.as_slice()))?;
+    Ok(())
+}
+
+// Lines without their texts.
+fn without_text(alloc: Global, lines: Vec<Line>) -> Result<Vec<ShownLink>, AllocError>
+    ensures { IfOk result (λ shown. shown.items ≡ shown_in lines.items) }
+{
+    lines.into_iter().map(|line| line.shown).collect(alloc)
+}
+
+/// What lines show, in byte order of their paths' texts.
+///
+/// # Errors
+///
+/// Want of memory alone.
+pub fn in_order(alloc: Global, lines: Vec<Line>) -> Result<Vec<ShownLink>, AllocError>
+    ensures { IfOk result (λ shown. shown.items ≡ in_order path_above (shown_in lines.items)) }
+{
+    let mut lines = lines;
+    sort_lines(&mut lines)?;
+    without_text(alloc, lines)
+}
+
+/// The links to a file, in order by their directories and names.
+///
+/// # Errors
+///
+/// `Device` where the disk failed, and `Memory`.
+pub fn links_in_order<D: Disk>(
+    alloc: Global,
+    mft: &mut Mft<'_, D>,
+    file: u64,
+) -> Result<Vec<Link>, Stop>
+    requires volume { IsInUse D.Disk mft.old }
+    requires file { IsTrue (view D.Disk mft.old).told → IsFile (view D.Disk mft.old) file }
+    ensures found { Finds D.Disk mft.old mft.new (λ volume links.
+        links.items ≡ in_order (link_above (volume_fold volume)) (links_to volume file)) result }
+{
+    match load_outline(alloc, mft, file) {
+        Ok(outline) => {
+            let mut links = outline.links;
+            sort_links(&mft.mounted().upcase, &mut links)?;
+            Ok(links)
+        }
+        Err(why) => Err(why),
+    }
+}
