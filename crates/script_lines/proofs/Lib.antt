@@ -1,0 +1,5 @@
+pub mod KeptLaws
+pub mod TextLaws
+pub mod ByteLaws
+pub mod LineLaws
+pub mod ReadingLaws

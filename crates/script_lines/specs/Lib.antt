@@ -1,0 +1,5 @@
+pub mod Text
+pub mod Bytes
+pub mod Coming
+pub mod Part
+pub mod Reading

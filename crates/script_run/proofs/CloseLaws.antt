@@ -1,0 +1,152 @@
+-- The end of a run: the volume is closed.
+use Rattle.std.proofs.Common.{◌≡◌, ◌⊎◌, ℕ, true, false, List, [], ◌++◌, Option, Some, None, refl, sym, ap, ◌∙◌, subst, inl, inr, append-nil}
+use Rattle.vol_disk.specs.Count.{Rose}
+use Rattle.vol_disk.specs.declared.Disk as disk
+use Rattle.vol_disk.specs.Contents.{map_told}
+use Rattle.vol_disk.specs.Stream.{IsAppended}
+use Rattle.tree_model.specs.Session.{State, Turn, images_of, last_of}
+use Rattle.tree_ops.specs.declared.volume.Volume.{Volume}
+use Rattle.tree_ops.specs.Volumes.{VolumeReads, disk_under}
+use Rattle.script_run.specs.declared.end.ScriptEnd.{ScriptEnd}
+use Rattle.script_run.specs.declared.end.ScriptEnd.TheVariants as end
+use Rattle.script_run.specs.Ran.{BlamesEnd, IsCutOff, IsPrinted, Ran, is_broken}
+use Rattle.script_run.specs.Says.{printed_of}
+use Rattle.script_run.specs.SoFar.{PrintsAt, RanLines}
+use Rattle.script_run.specs.Turns.{Ready}
+use Rattle.script_run.specs.World.{World}
+use Rattle.script_run.proofs.TurnLaws.{harmed_before, whole_as}
+
+-- nothing is settled behind the images of the lines
+none_behind : (turns : List Turn) (past : Option (List (List ℕ)))
+    → map_told (λ images. images ++ images_of turns) past ≡ map_told (λ images. (images ++ images_of turns) ++ []) past
+none_behind turns None = refl
+none_behind turns (Some images) = ap (λ (xs : List (List ℕ)). Some xs) (sym (append-nil (images ++ images_of turns)))
+
+printed_at : (given : ScriptEnd) (turns : List Turn) (old new : World) → is_broken given ≡ false → PrintsAt given old.got turns new.got
+    → IsPrinted given turns old new
+printed_at end.Done turns old new b p = p
+printed_at end.Source turns old new b p = p
+printed_at end.Sink turns old new b p = p
+printed_at end.Device turns old new b p = cc
+printed_at end.Memory turns old new b p = p
+printed_at end.TooMuch turns old new b p = p
+
+-- the printed text, where the disk failed behind this end
+printed_behind : (given : ScriptEnd) (turns : List Turn) (old new : World) → BlamesEnd given old new → PrintsAt given old.got turns new.got
+    → IsPrinted end.Device turns old new
+printed_behind end.Done turns old new b p = inl p
+printed_behind end.Source turns old new b p = inl p
+printed_behind end.Sink turns old new b p = inr (b.2, p)
+printed_behind end.Device turns old new b p = inl p
+printed_behind end.Memory turns old new b p = inl p
+printed_behind end.TooMuch turns old new b p = inl p
+
+printed_past : (turns : List Turn) (old middle new : World) → middle.got ≡ new.got → middle.sink_faults ≡ new.sink_faults
+    → IsPrinted end.Device turns old middle → IsPrinted end.Device turns old new
+printed_past turns old middle new got sink (inl all) = inl (subst (IsAppended old.got (printed_of turns)) got all)
+printed_past turns old middle new got sink (inr part) =
+    inr (subst (Rose old.sink_faults) sink part.0, subst (IsCutOff turns old.got) got part.1)
+
+-- what a device fault blames behind an end
+pub blames_behind : (given : ScriptEnd) (old new : World) → is_broken given ≡ false → BlamesEnd given old new → (last : ℕ)
+    → Rose new.disk_faults last
+    → Rose old.disk_faults last × ((new.source_faults ≡ old.source_faults) ⊎ (new.sink_faults ≡ old.sink_faults))
+blames_behind end.Done old new b n last r = (subst (λ count. Rose count last) n.disk r, inl n.source)
+blames_behind end.Source old new b n last r = (subst (λ count. Rose count last) n.0 r, inr n.2)
+blames_behind end.Sink old new b n last r = (subst (λ count. Rose count last) n.0 r, inl n.1)
+blames_behind end.Device old new b n last r = cc
+blames_behind end.Memory old new b n last r = (subst (λ count. Rose count last) n.disk r, inl n.source)
+blames_behind end.TooMuch old new b n last r = (subst (λ count. Rose count last) n.disk r, inl n.source)
+
+pub blames_same : (given : ScriptEnd) (old new last : World) → BlamesEnd given old new → last.disk_faults ≡ new.disk_faults
+    → last.source_faults ≡ new.source_faults → last.sink_faults ≡ new.sink_faults → BlamesEnd given old last
+blames_same end.Done old new last n d s k = record { disk = d ∙ n.disk; source = s ∙ n.source; sink = k ∙ n.sink }
+blames_same end.Source old new last n d s k = (d ∙ n.0, subst (Rose old.source_faults) (sym s) n.1, k ∙ n.2)
+blames_same end.Sink old new last n d s k = (d ∙ n.0, s ∙ n.1, subst (Rose old.sink_faults) (sym k) n.2)
+blames_same end.Device old new last n d s k =
+    (subst (Rose old.disk_faults) (sym d) n.0, elim n.1 [ inl a ↦ inl (s ∙ a) | inr a ↦ inr (k ∙ a) ])
+blames_same end.Memory old new last n d s k = record { disk = d ∙ n.disk; source = s ∙ n.source; sink = k ∙ n.sink }
+blames_same end.TooMuch old new last n d s k = record { disk = d ∙ n.disk; source = s ∙ n.source; sink = k ∙ n.sink }
+
+-- the disk failed among the lines
+pub ran_broken : {D : Type 0} (g : disk.Ghosts D) (first : State) (text : List ℕ) (given : ScriptEnd) (volume volume' : Volume D g)
+    (old new : World) → Ready g volume first → VolumeReads g volume volume' → is_broken given ≡ true
+    → RanLines g first text old.got old.settled given volume' new.left new.got
+    → old.written ≡ g.written (disk_under g volume) → new.written ≡ g.written (disk_under g volume')
+    → new.now ≡ g.now (disk_under g volume') → new.settled ≡ g.settled (disk_under g volume')
+    → Ran first.image text given old new
+ran_broken g first text given volume volume' old new ready reads b r w w' now settled = record {
+  first = first;
+  on_image = refl;
+  begins = ready.begins;
+  turns = r.turns;
+  session = r.session;
+  lines = r.lines;
+  printed = by given b r.printed;
+  finals = [];
+  settled = settled ∙ r.settled ∙ none_behind r.turns old.settled;
+  leaves = rw b (refl, rw now (rw b at r.stands));
+  unwritten = λ _. w' ∙ reads.written ∙ sym w;
+}
+  where
+    by : (given : ScriptEnd) → is_broken given ≡ true → PrintsAt given old.got r.turns new.got
+        → IsPrinted given r.turns old new
+    by end.Done e p = cc
+    by end.Source e p = cc
+    by end.Sink e p = cc
+    by end.Device e p = inl p
+    by end.Memory e p = cc
+    by end.TooMuch e p = cc
+
+-- the volume was closed
+pub ran_closed : {D : Type 0} (g : disk.Ghosts D) (first : State) (text : List ℕ) (given : ScriptEnd) (volume lined closed : Volume D g)
+    (old new : World) → Ready g volume first → VolumeReads g volume lined → VolumeReads g lined closed → is_broken given ≡ false
+    → RanLines g first text old.got old.settled given lined new.left new.got
+    → old.written ≡ g.written (disk_under g volume) → new.written ≡ g.written (disk_under g closed)
+    → new.now ≡ g.now (disk_under g closed) → new.settled ≡ g.settled (disk_under g lined)
+    → Ran first.image text given old new
+ran_closed g first text given volume lined closed old new ready reads then b r w w' now settled =
+    let last : Ready g lined (last_of first r.turns) = rw b at r.stands in
+    record {
+      first = first;
+      on_image = refl;
+      begins = ready.begins;
+      turns = r.turns;
+      session = r.session;
+      lines = r.lines;
+      printed = printed_at given r.turns old new b r.printed;
+      finals = [];
+      settled = settled ∙ r.settled ∙ none_behind r.turns old.settled;
+      leaves = rw b (record {
+        bytes = (last_of first r.turns).image;
+        are = now ∙ then.now ∙ last.now;
+        final = rw r.unedited (refl, refl);
+        accepted = whole_as (last_of first r.turns) last.begins;
+      });
+      unwritten = λ _. w' ∙ then.written ∙ reads.written ∙ sym w;
+    }
+
+-- the disk failed while the volume was closed
+pub ran_unclosed : {D : Type 0} (g : disk.Ghosts D) (first : State) (text : List ℕ) (given : ScriptEnd) (volume lined closed : Volume D g)
+    (old new : World) → Ready g volume first → VolumeReads g volume lined → VolumeReads g lined closed → is_broken given ≡ false
+    → RanLines g first text old.got old.settled given lined new.left new.got → (middle : World) → BlamesEnd given old middle
+    → middle.got ≡ new.got → middle.sink_faults ≡ new.sink_faults
+    → old.written ≡ g.written (disk_under g volume) → new.written ≡ g.written (disk_under g closed)
+    → new.now ≡ g.now (disk_under g closed) → new.settled ≡ g.settled (disk_under g lined)
+    → Ran first.image text end.Device old new
+ran_unclosed g first text given volume lined closed old new ready reads then b r middle blames got sink w w' now settled =
+    let last : Ready g lined (last_of first r.turns) = rw b at r.stands in
+    record {
+      first = first;
+      on_image = refl;
+      begins = ready.begins;
+      turns = r.turns;
+      session = r.session;
+      lines = r.first_lines;
+      printed = printed_past r.turns old middle new got sink
+          (printed_behind given r.turns old middle blames (subst (PrintsAt given old.got r.turns) (sym got) r.printed));
+      finals = [];
+      settled = settled ∙ r.settled ∙ none_behind r.turns old.settled;
+      leaves = (refl, rw now (harmed_before g first.view (last_of first r.turns) lined closed last then));
+      unwritten = λ _. w' ∙ then.written ∙ reads.written ∙ sym w;
+    }

@@ -1,0 +1,33 @@
+use Rattle.std.proofs.Common.{refl, sym, ◌∙◌}
+use Rattle.tree_ops.specs.Volumes.{disk_under}
+use Rattle.script_run.specs.World.{world}
+use Rattle.script_run.proofs.CloseLaws.{ran_broken, ran_closed, ran_unclosed}
+use Rattle.script_run.proofs.run.run_script.Goals as goal
+
+pub returns-then-is_broken-clause-ran : goal.returns-then-is_broken-clause-ran
+returns-then-is_broken-clause-ran g c first text ready left =
+    ran_broken g.D.Disk first text c.run_lines-end.result c.args.volume.now c.run_lines-end.new.volume
+    (world g.D.Disk g.S.Source g.K.Sink (disk_under g.D.Disk c.args.volume.now) c.args.script.now c.args.out.now)
+    (world g.D.Disk g.S.Source g.K.Sink (disk_under g.D.Disk c.run_lines-end.new.volume) c.run_lines-end.new.script
+    c.run_lines-end.new.out)
+    ready c.run_lines-end.ensures.reads (sym c.is_broken.ensures ∙ c.if-is_broken.true)
+    (c.run_lines-end.ensures.ran first text ready left) refl refl refl refl
+
+pub returns-in-Ok-clause-ran : goal.returns-in-Ok-clause-ran
+returns-in-Ok-clause-ran g c first text ready left =
+    ran_closed g.D.Disk first text c.run_lines-end.result c.args.volume.now c.run_lines-end.new.volume c.close.new.self
+    (world g.D.Disk g.S.Source g.K.Sink (disk_under g.D.Disk c.args.volume.now) c.args.script.now c.args.out.now)
+    (world g.D.Disk g.S.Source g.K.Sink (disk_under g.D.Disk c.close.new.self) c.run_lines-end.new.script c.run_lines-end.new.out)
+    ready c.run_lines-end.ensures.reads c.close.ensures.reads (sym c.is_broken.ensures ∙ c.if-is_broken.false)
+    (c.run_lines-end.ensures.ran first text ready left) refl refl refl c.close.ensures.settled
+
+pub returns-in-Err-clause-ran : goal.returns-in-Err-clause-ran
+returns-in-Err-clause-ran g c first text ready left =
+    ran_unclosed g.D.Disk first text c.run_lines-end.result c.args.volume.now c.run_lines-end.new.volume c.close.new.self
+    (world g.D.Disk g.S.Source g.K.Sink (disk_under g.D.Disk c.args.volume.now) c.args.script.now c.args.out.now)
+    (world g.D.Disk g.S.Source g.K.Sink (disk_under g.D.Disk c.close.new.self) c.run_lines-end.new.script c.run_lines-end.new.out)
+    ready c.run_lines-end.ensures.reads c.close.ensures.reads (sym c.is_broken.ensures ∙ c.if-is_broken.false)
+    (c.run_lines-end.ensures.ran first text ready left)
+    (world g.D.Disk g.S.Source g.K.Sink (disk_under g.D.Disk c.run_lines-end.new.volume) c.run_lines-end.new.script
+    c.run_lines-end.new.out)
+    c.run_lines-end.ensures.faults refl refl refl refl refl c.close.ensures.settled

@@ -1,0 +1,87 @@
+-- WHAT A SCRIPT DID on an accepted volume. A run begins on its image; each line is a turn of a session, with the reply of the tree's
+-- machine, and its image is settled; how it ended tells which lines there were, what was printed, and what is left on the disk.
+use Rattle.std.specs.Prelude.{◌≡◌, ◌⊎◌, ◌++◌, ℕ, List, [], ◌∷◌, Bool, true, false, Option, MatchBool, take}
+use Rattle.vol_disk.specs.Contents.{map_told}
+use Rattle.vol_disk.specs.Count.{Rose}
+use Rattle.vol_disk.specs.Stream.{IsAppended}
+use Rattle.cmd_lang.specs.Printed.{text_of}
+use Rattle.script_lines.specs.Reading.{AreAllLines, AreEndedLines, AreFirstLines, AreMostLines}
+use Rattle.tree_model.specs.Session.{Begins, Session, State, Turn, images_of, last_of}
+use Rattle.script_run.specs.declared.end.ScriptEnd.{ScriptEnd}
+use Rattle.script_run.specs.declared.end.ScriptEnd.TheVariants as end
+use Rattle.script_run.specs.Closing.{Closes, IsHarmed, has_edit}
+use Rattle.script_run.specs.Says.{SaysLine, lines_of, printed_of}
+use Rattle.script_run.specs.World.{NoFaults, World}
+
+-- The count that rose says how a script ended, as in the program's other words. A device fault may come behind another, while the
+-- volume is closed.
+abbrev pub BlamesEnd : ScriptEnd → World → World → Type 0
+BlamesEnd end.Done old new = NoFaults old new
+BlamesEnd end.Source old new =
+    (new.disk_faults ≡ old.disk_faults) × Rose old.source_faults new.source_faults × (new.sink_faults ≡ old.sink_faults)
+BlamesEnd end.Sink old new =
+    (new.disk_faults ≡ old.disk_faults) × (new.source_faults ≡ old.source_faults) × Rose old.sink_faults new.sink_faults
+BlamesEnd end.Device old new =
+    Rose old.disk_faults new.disk_faults × ((new.source_faults ≡ old.source_faults) ⊎ (new.sink_faults ≡ old.sink_faults))
+BlamesEnd end.Memory old new = NoFaults old new
+BlamesEnd end.TooMuch old new = NoFaults old new
+
+-- the disk failed
+abbrev pub is_broken : ScriptEnd → Bool
+is_broken end.Done = false
+is_broken end.Source = false
+is_broken end.Sink = false
+is_broken end.Device = true
+is_broken end.Memory = false
+is_broken end.TooMuch = false
+
+-- EVERY SCRIPT: which lines of the text were taken. An end by the sink, the disk or memory takes some, from the first.
+abbrev pub AreLines : ScriptEnd → List ℕ → List (List ℕ) → Option (List ℕ) → Type 0
+AreLines end.Done text lines left = AreAllLines text lines left
+AreLines end.Source text lines left = AreEndedLines text lines left
+AreLines end.TooMuch text lines left = AreMostLines text lines left
+AreLines end.Sink text lines left = AreFirstLines text lines
+AreLines end.Device text lines left = AreFirstLines text lines
+AreLines end.Memory text lines left = AreFirstLines text lines
+
+-- The output failed at the last reply: those before it were printed, and a part of it from its front.
+pub record IsCutOff (turns : List Turn) (before after : Option (List ℕ)) : Type 0 where
+  pub whole : List Turn
+  pub last : Turn
+  pub are : turns ≡ whole ++ last ∷ []
+  pub part : ℕ
+  pub printed : IsAppended before (printed_of whole ++ take part (text_of last.answer)) after
+
+-- What was printed of the replies: all of them, and only where the sink failed a part of the last one.
+abbrev pub IsPrinted : ScriptEnd → List Turn → World → World → Type 0
+IsPrinted end.Sink turns old new = IsCutOff turns old.got new.got
+IsPrinted end.Device turns old new = IsAppended old.got (printed_of turns) new.got
+    ⊎ (Rose old.sink_faults new.sink_faults × IsCutOff turns old.got new.got)
+IsPrinted end.Done turns old new = IsAppended old.got (printed_of turns) new.got
+IsPrinted end.Source turns old new = IsAppended old.got (printed_of turns) new.got
+IsPrinted end.Memory turns old new = IsAppended old.got (printed_of turns) new.got
+IsPrinted end.TooMuch turns old new = IsAppended old.got (printed_of turns) new.got
+
+-- What is left on the disk, and what was settled behind the images of the lines.
+abbrev pub Leaves : ScriptEnd → State → List Turn → List (List ℕ) → Option (List ℕ) → Type 0
+Leaves end first turns finals now = MatchBool (is_broken end)
+    ((finals ≡ []) × IsHarmed first.view (last_of first turns).machine.tree now)
+    (Closes first.view (last_of first turns) (has_edit turns) finals now)
+
+-- the images that were settled before, those of the lines, and the final one where there is one
+abbrev pub Settles : List Turn → List (List ℕ) → World → World → Type 0
+Settles turns finals old new = new.settled ≡ map_told (λ past. past ++ images_of turns ++ finals) old.settled
+
+-- THE RUN of a script with this text on this image, which ended so.
+pub record Ran (image text : List ℕ) (given : ScriptEnd) (old new : World) : Type 0 where
+  pub first : State
+  pub on_image : first.image ≡ image
+  pub begins : Begins first
+  pub turns : List Turn
+  pub session : Session SaysLine first turns
+  pub lines : AreLines given text (lines_of turns) new.left
+  pub printed : IsPrinted given turns old new
+  pub finals : List (List ℕ)
+  pub settled : Settles turns finals old new
+  pub leaves : Leaves given first turns finals new.now
+  pub unwritten : has_edit turns ≡ false → new.written ≡ old.written

@@ -1,0 +1,67 @@
+-- One turn of a run on a volume in use.
+use Rattle.std.specs.Prelude.{◌≡◌, ◌⊎◌, ℕ, List, Option, Some}
+use Rattle.vol_disk.specs.declared.Disk as disk
+use Rattle.vol_disk.specs.declared.Sink as sink
+use Rattle.vol_disk.specs.Contents.{settled_more}
+use Rattle.vol_disk.specs.Count.{Rose}
+use Rattle.vol_disk.specs.Stream.{IsAppended, IsAppendedPart}
+use Rattle.volume_def.specs.View.{VolumeView}
+use Rattle.cmd_lang.specs.Printed.{text_of}
+use Rattle.tree_model.specs.Session.{Begins, Said, State, Takes}
+use Rattle.tree_model.specs.declared.reply.No.TheVariants as no
+use Rattle.tree_model.specs.declared.reply.Reply.{Reply}
+use Rattle.tree_model.specs.declared.reply.Reply.TheVariants as reply
+use Rattle.tree_ops.specs.declared.volume.Volume.{Volume}
+use Rattle.tree_ops.specs.Volumes.{disk_under, view_under}
+use Rattle.script_run.specs.declared.turn.Went.{Went}
+use Rattle.script_run.specs.declared.turn.Went.TheVariants as went
+use Rattle.script_run.specs.Closing.{IsHarmed}
+use Rattle.script_run.specs.Says.{SaysLine}
+
+-- The run stands in this state on the volume. Until there are edits that is a state that a run begins in.
+pub record Ready {D : Type 0} (g : disk.Ghosts D) (volume : Volume D g) (state : State) : Type 0 where
+  pub now : g.now (disk_under g volume) ≡ Some state.image
+  pub view : view_under g volume ≡ state.view
+  pub begins : Begins state
+
+-- A line has this reply, which is not settled yet.
+pub record Replied {D : Type 0} (g : disk.Ghosts D) (before : State) (line : List ℕ) (given : Reply) (volume : Volume D g) : Type 0 where
+  pub said : Said
+  pub says : SaysLine line said ⊎ (given ≡ reply.No no.Memory)
+  pub next : State
+  pub takes : Takes before said given next
+  pub ready : Ready g volume next
+
+-- A line was answered, and settled; what was printed of the reply is told beside.
+pub record Turned {D K : Type 0} (g : disk.Ghosts D) (k : sink.Ghosts K) (Prints : Option (List ℕ) → List ℕ → Option (List ℕ) → Type 0)
+    (before : State) (line : List ℕ) (settled : Option (List (List ℕ))) (out : K) (volume : Volume D g) (out' : K) : Type 0 where
+  pub given : Reply
+  pub replied : Replied g before line given volume
+  pub more : g.settled (disk_under g volume) ≡ settled_more settled (Some replied.next.image)
+  pub printed : Prints (k.got out) (text_of given) (k.got out')
+
+-- The disk failed before the reply was settled, and nothing was printed.
+pub record Broke {D K : Type 0} (g : disk.Ghosts D) (k : sink.Ghosts K) (first : VolumeView) (before : State)
+    (settled : Option (List (List ℕ))) (out : K) (volume : Volume D g) (out' : K) : Type 0 where
+  pub harmed : IsHarmed first before.machine.tree (g.now (disk_under g volume))
+  pub same : g.settled (disk_under g volume) ≡ settled
+  pub unprinted : k.got out' ≡ k.got out
+
+-- How a turn went.
+abbrev pub TurnDid : {D K : Type 0} (g : disk.Ghosts D) → sink.Ghosts K → Went → VolumeView → State → List ℕ → Option (List (List ℕ))
+    → K → Volume D g → K → Type 0
+TurnDid g k went.On first before line settled out volume out' = Turned g k IsAppended before line settled out volume out'
+TurnDid g k went.Sink first before line settled out volume out' = Turned g k IsAppendedPart before line settled out volume out'
+TurnDid g k went.Device first before line settled out volume out' = Broke g k first before settled out volume out'
+
+-- what it did to the counts of faults of the disk and of the sink
+abbrev pub CountsTurn : Went → ℕ → ℕ → ℕ → ℕ → Type 0
+CountsTurn went.On disk disk' sink sink' = (disk' ≡ disk) × (sink' ≡ sink)
+CountsTurn went.Sink disk disk' sink sink' = (disk' ≡ disk) × Rose sink sink'
+CountsTurn went.Device disk disk' sink sink' = Rose disk disk' × (sink' ≡ sink)
+
+-- what a reply did to the disk's
+abbrev pub CountsReply : Reply → ℕ → ℕ → Type 0
+CountsReply (reply.Ok answer) before after = after ≡ before
+CountsReply (reply.No refused) before after = after ≡ before
+CountsReply reply.Device before after = Rose before after

@@ -1,0 +1,100 @@
+//! One line of a script: its reply, which is settled and printed.
+ghost use Rattle.std.specs.Prelude.{◌≡◌, ◌≢◌, ℕ, List};
+ghost use Rattle.volume_def.specs.View.{VolumeView};
+ghost use Rattle.tree_model.specs.Session.{Begins, State};
+ghost use Rattle.tree_ops.specs.Serves.{Serves};
+ghost use Rattle.tree_ops.specs.Volumes.{VolumeReads, disk_under};
+ghost use Rattle.script_run.specs.Says.{refusal_of};
+ghost use Rattle.script_run.specs.Turns.{CountsReply, CountsTurn, Ready, Replied, TurnDid};
+
+use cmd_lang::{LineFault, parse_line, print_reply};
+use std::alloc::Global;
+use tree_model::{No, Reply};
+use tree_ops::Volume;
+use vol_disk::{Disk, Sink};
+
+/// How a line went.
+#[derive(Clone, Copy, Debug, PartialEq, Eq)]
+pub enum Went {
+    /// It was answered, and the next one may come.
+    On,
+    /// The disk failed.
+    Device,
+    /// The reply could not be printed.
+    Sink,
+}
+
+// The refusal of a line that says no command.
+fn refusal_of(fault: LineFault) -> No
+    ensures { result ≡ refusal_of fault }
+{
+    match fault {
+        LineFault::Syntax => No::Syntax,
+        LineFault::Long => No::Long,
+        LineFault::Memory => No::Memory,
+    }
+}
+
+// The reply to a line.
+fn reply_to<D: Disk>(alloc: Global, volume: &mut Volume<'_, D>, line: &[u8]) -> Reply
+    requires serves { Serves D.Disk volume.old }
+    ensures serves { Serves D.Disk volume.new }
+    ensures reads { VolumeReads D.Disk volume.old volume.new }
+    ensures settled { D.settled (disk_under D.Disk volume.new) ≡ D.settled (disk_under D.Disk volume.old) }
+    ensures faults { CountsReply result (D.faults (disk_under D.Disk volume.old)) (D.faults (disk_under D.Disk volume.new)) }
+    ensures replied { result ≢ Reply.Device → (before : State) → Ready D.Disk volume.old before
+        → Replied D.Disk before line.now result volume.new }
+{
+    match parse_line(alloc, line) {
+        Ok((session, command)) => volume.apply(session, &command),
+        Err(fault) => Reply::No(refusal_of(fault)),
+    }
+}
+
+// Settles, and prints the reply to a line.
+fn settle_and_print<D: Disk, K: Sink>(
+    volume: &mut Volume<'_, D>,
+    reply: &Reply,
+    out: &mut K,
+) -> Went
+    requires serves { Serves D.Disk volume.old }
+    requires reply { reply.now ≢ Reply.Device }
+    ensures serves { result ≢ Went.Device → Serves D.Disk volume.new }
+    ensures reads { VolumeReads D.Disk volume.old volume.new }
+    ensures faults { CountsTurn result (D.faults (disk_under D.Disk volume.old)) (D.faults (disk_under D.Disk volume.new))
+        (K.faults out.old) (K.faults out.new) }
+    ensures did { (first : VolumeView) (before : State) (line : List ℕ) → Begins before
+        → Replied D.Disk before line reply.now volume.old
+        → TurnDid D.Disk K.Sink result first before line (D.settled (disk_under D.Disk volume.old)) out.old volume.new out.new }
+{
+    match volume.settle() {
+        Ok(()) => {}
+        Err(_) => return Went::Device,
+    }
+    match print_reply(reply, out) {
+        Ok(()) => Went::On,
+        Err(_) => Went::Sink,
+    }
+}
+
+/// Does what a line says, settles once, and prints the reply.
+pub fn take_turn<D: Disk, K: Sink>(
+    alloc: Global,
+    volume: &mut Volume<'_, D>,
+    line: &[u8],
+    out: &mut K,
+) -> Went
+    requires serves { Serves D.Disk volume.old }
+    ensures serves { result ≢ Went.Device → Serves D.Disk volume.new }
+    ensures reads { VolumeReads D.Disk volume.old volume.new }
+    ensures faults { CountsTurn result (D.faults (disk_under D.Disk volume.old)) (D.faults (disk_under D.Disk volume.new))
+        (K.faults out.old) (K.faults out.new) }
+    ensures did { (first : VolumeView) (before : State) → Ready D.Disk volume.old before
+        → TurnDid D.Disk K.Sink result first before line.now (D.settled (disk_under D.Disk volume.old)) out.old volume.new out.new }
+{
+    let reply = reply_to(alloc, volume, line);
+    if let Reply::Device = reply {
+        return Went::Device;
+    }
+    settle_and_print(volume, &reply, out)
+}
