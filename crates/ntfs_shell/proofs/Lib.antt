@@ -7,3 +7,4 @@ pub mod LabelLaws
 pub mod LabelTexts
 pub mod OneLabel
 pub mod Reports
+pub mod RunLaws

@@ -9,6 +9,8 @@ pub mod Label
 pub mod LabelSteps
 pub mod Refusals
 pub mod Report
+pub mod Run
+pub mod RunSteps
 pub mod Printing
 pub mod Stops
 pub mod Text

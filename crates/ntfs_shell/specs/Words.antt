@@ -30,9 +30,13 @@ pub record AreFormatWords (words : List (List ℕ)) (o : Options) : Type 0 where
 abbrev pub AskToFormat : List (List ℕ) → Type 0
 AskToFormat words = (o : Options) × AreFormatWords words o
 
--- the words of the program that are not built yet
+-- the words ask for a script to be run
+abbrev pub AskToRun : List (List ℕ) → Type 0
+AskToRun words = AreWords words (codes "run")
+
+-- the word of the program that is not built yet
 abbrev pub IsUnbuilt : List ℕ → Type 0
-IsUnbuilt word = (word ≡ codes "run") ⊎ (word ≡ codes "make")
+IsUnbuilt word = word ≡ codes "make"
 
 -- the first word is not built yet, whatever follows
 abbrev pub AskUnbuilt : List (List ℕ) → Type 0
@@ -41,4 +45,4 @@ AskUnbuilt (word ∷ words) = IsUnbuilt word
 
 -- the words ask for something that the program knows
 abbrev pub AreKnown : List (List ℕ) → Type 0
-AreKnown words = AskToRead words ⊎ AskToFormat words ⊎ AskUnbuilt words
+AreKnown words = AskToRead words ⊎ AskToFormat words ⊎ AskToRun words ⊎ AskUnbuilt words

@@ -1,42 +1,9 @@
--- What is known of the outside: what it tells, and its counts.
-use Rattle.std.specs.Prelude.{◌≡◌, ◌⊎◌, ℕ, List, Option}
-use Rattle.vol_disk.specs.declared.Disk as disk
-use Rattle.vol_disk.specs.declared.Source as source
-use Rattle.vol_disk.specs.declared.Sink as sink
+-- What a word did to the outside. What is known of it at one moment is told by `World` of `script_run`.
+use Rattle.std.specs.Prelude.{◌≡◌, ◌⊎◌}
 use Rattle.vol_disk.specs.Count.{Rose}
+pub use Rattle.script_run.specs.World.{NoFaults, World, world}
 use Rattle.ntfs_shell.specs.declared.ending.Ending.{Ending}
 use Rattle.ntfs_shell.specs.declared.ending.Ending.TheVariants as ending
-
--- the meanings of the disk, the source and the sink at one moment
-pub record World : Type 0 where
-  pub now : Option (List ℕ)
-  pub settled : Option (List (List ℕ))
-  pub fenced : Option (List ℕ)
-  pub sectors : ℕ
-  pub written : ℕ
-  pub fetched : ℕ
-  pub late : ℕ
-  pub disk_faults : ℕ
-  pub left : Option (List ℕ)
-  pub source_faults : ℕ
-  pub got : Option (List ℕ)
-  pub sink_faults : ℕ
-
-abbrev pub world : {D S K : Type 0} → disk.Ghosts D → source.Ghosts S → sink.Ghosts K → D → S → K → World
-world d s k disk source sink = record {
-  now = d.now disk;
-  settled = d.settled disk;
-  fenced = d.fenced disk;
-  sectors = d.size disk;
-  written = d.written disk;
-  fetched = d.fetched disk;
-  late = d.late disk;
-  disk_faults = d.faults disk;
-  left = s.left source;
-  source_faults = s.faults source;
-  got = k.got sink;
-  sink_faults = k.faults sink;
-}
 
 -- the contents of the disk are as they were, and so is what it counts of writes
 pub record KeepsContents (old new : World) : Type 0 where
@@ -58,12 +25,6 @@ pub record KeepsDisk (old new : World) : Type 0 where
   pub contents : KeepsContents old new
   pub fetched : new.fetched ≡ old.fetched
   pub faults : new.disk_faults ≡ old.disk_faults
-
--- no count of faults rose
-pub record NoFaults (old new : World) : Type 0 where
-  pub disk : new.disk_faults ≡ old.disk_faults
-  pub source : new.source_faults ≡ old.source_faults
-  pub sink : new.sink_faults ≡ old.sink_faults
 
 -- The count that rose says how a run ended: the disk's by `Device`, the sink's by `Sink`, the
 -- source's by `Source`, and none by another. Where the disk fails while the volume is closed, the

@@ -19,8 +19,8 @@ use mount_check::mount;
 use std::alloc::Global;
 use vol_disk::{Disk, Sink, Source};
 
-// What is said of a disk that is not taken into use.
-fn report_no_mount(no: MountNo) -> Result<Answer, Stop>
+/// What is said of a disk that is not taken into use.
+pub fn report_no_mount(no: MountNo) -> Result<Answer, Stop>
     ensures { SaysNoMount no result }
 {
     match no {

@@ -1,6 +1,9 @@
 //! How a run ends, and the status of the program.
 ghost use Rattle.std.specs.Prelude.{◌≡◌, ◌≢◌};
 ghost use Rattle.ntfs_shell.specs.Ending.{status_of};
+ghost use Rattle.ntfs_shell.specs.Run.{ending_of_script};
+
+use script_run::ScriptEnd;
 
 /// All was done and printed.
 pub const DONE: u8 = 0;
@@ -49,6 +52,20 @@ pub enum Ending {
 }
 
 impl Ending {
+    /// The ending of a run by that of its script.
+    pub fn of_script(end: ScriptEnd) -> Ending
+        ensures { result ≡ ending_of_script end }
+    {
+        match end {
+            ScriptEnd::Done => Ending::Done,
+            ScriptEnd::Source => Ending::Source,
+            ScriptEnd::Sink => Ending::Sink,
+            ScriptEnd::Device => Ending::Device,
+            ScriptEnd::Memory => Ending::Memory,
+            ScriptEnd::TooMuch => Ending::TooMuch,
+        }
+    }
+
     /// The status that the program ends with.
     pub fn status(self) -> u8
         ensures status { result ≡ status_of self }

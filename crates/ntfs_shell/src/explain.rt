@@ -1,6 +1,8 @@
 //! What a person is told on standard error beside a status: what failed, and what can be done. What is told beside a refusal
 //! is in `refused`.
-use crate::ending::{DEVICE_FAILED, NOT_BUILT, OUT_OF_MEMORY, SINK_FAILED, UNKNOWN_WORDS};
+use crate::ending::{
+    DEVICE_FAILED, NOT_BUILT, OUT_OF_MEMORY, SINK_FAILED, SOURCE_FAILED, TOO_MUCH, UNKNOWN_WORDS,
+};
 use crate::image::Access;
 
 // The sentence on a failure of a word that only reads IMAGE.
@@ -38,8 +40,30 @@ fn sentence_on_making(status: u8) -> Option<&'static str> {
     }
 }
 
-/// The sentence on a status that is neither done nor a refusal, where the words ask this of IMAGE. Of the
-/// words that write, the one that can fail today makes a volume.
+// The sentence on a failure of the word that runs a script.
+fn sentence_on_running(status: u8) -> Option<&'static str> {
+    match status {
+        SOURCE_FAILED => Some(
+            "standard input failed, so the script was cut off; the lines that ended before were \
+             answered",
+        ),
+        SINK_FAILED => Some(
+            "standard output failed, so the replies are not whole, and the script ended there",
+        ),
+        DEVICE_FAILED => Some(
+            "IMAGE failed, so the script ended there; a line without a reply may have been done or \
+             not, so ask check of IMAGE",
+        ),
+        OUT_OF_MEMORY => Some("out of memory, so the script ended there"),
+        TOO_MUCH => Some(
+            "the script has more than 1073741824 bytes; the lines that end within so many were \
+             answered",
+        ),
+        _ => None,
+    }
+}
+
+/// The sentence on a status that is neither done nor a refusal, where the words ask this of IMAGE.
 pub fn sentence_on(status: u8, access: Access) -> Option<&'static str> {
     match (status, access) {
         (UNKNOWN_WORDS, _) => Some("these words are not known; see ntfs_shell --help"),
@@ -47,7 +71,8 @@ pub fn sentence_on(status: u8, access: Access) -> Option<&'static str> {
             Some("this word is not built yet, so nothing was done; see ntfs_shell --help")
         }
         (_, Access::Reads) => sentence_on_reading(status),
-        (_, Access::Writes) => sentence_on_making(status),
+        (_, Access::Makes) => sentence_on_making(status),
+        (_, Access::Runs) => sentence_on_running(status),
     }
 }
 

@@ -13,10 +13,16 @@ Words:
   label                                prints the volume's name and version
   check                                prints whether the volume is sound
   format SECTORS CLUSTER SERIAL LABEL  makes a new volume; what IMAGE held is lost
+  run                                  answers the script on standard input
 
-Words that are not built yet:
-  run                                  runs the script on standard input
+A word that is not built yet:
   make N SEED                          runs N commands made from SEED
+
+run takes each line of standard input in order, settles IMAGE and prints the reply:
+some lines and ok, or no with a number and a name, as no 4 NotFound. An empty line
+and one that begins with # have none. The commands that are built read: ls, stat,
+links, cat, read, streams, attr, sec, reparse, objid and df; all others are
+no 28 Unbuilt. A volume that check refuses is refused in the same words.
 
 check prints sound, or the first clause that fails and a number N, as refused S7 N:
   S1   the boot sector is right; N counts its seven tests
@@ -44,9 +50,10 @@ needs $AttrDef, which is empty. Nothing is claimed of Windows.
 
 An answer goes to standard output, and a line on what went wrong to standard
 error. The status is 0 where all was done, 2 where the words are not known, 3
-where the volume or an option is refused, 5 where standard output failed, 6 where IMAGE
-cannot be opened or failed, 7 where memory ran out, and 9 for a word that is
-not built yet.
+where the volume or an option is refused, 4 where standard input failed, 5 where
+standard output failed, 6 where IMAGE cannot be opened or failed, 7 where memory
+ran out, 8 where the script has more than 1073741824 bytes, and 9 for a word that
+is not built yet.
 
   ntfs_shell --help       prints this text
   ntfs_shell --version    prints the version

@@ -14,8 +14,10 @@ use vol_disk::{FileDisk, SECTOR};
 pub enum Access {
     /// Nothing but to be read.
     Reads,
-    /// To be read and written.
-    Writes,
+    /// To be written anew.
+    Makes,
+    /// What a script asks of it.
+    Runs,
 }
 
 /// Why there is no disk over the image.
@@ -68,7 +70,7 @@ fn open_file<R: Files<File = File>>(
 ) -> Result<File, ImageFault> {
     match OpenOptions::new().read(true).write(true).open(rt, image) {
         Ok(file) => Ok(file),
-        Err(error) if access == Access::Writes || !is_write_refused(error.kind()) => {
+        Err(error) if access != Access::Reads || !is_write_refused(error.kind()) => {
             Err(ImageFault::Unwritable(error))
         }
         Err(error) if !has_end(rt, image) => Err(ImageFault::Unwritable(error)),

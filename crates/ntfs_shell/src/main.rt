@@ -16,6 +16,7 @@ mod label_option;
 mod laws;
 mod refusal;
 mod refused;
+mod run;
 mod shell;
 mod start;
 mod stop;

@@ -7,7 +7,11 @@ mod damage;
 mod edge;
 mod format;
 mod label;
+mod laid;
+mod laid_files;
 mod lists;
+mod reading;
+mod script;
 
 use crate::front::FrontSink;
 use crate::shell::run_shell;
@@ -166,7 +170,7 @@ fn other_words_print_nothing(rt: HostRuntime) -> Result<(), test::Fail> {
         ("", 2),
         ("boot x", 2),
         ("bo", 2),
-        ("run x", 9),
+        ("run x", 2),
         ("make", 9),
         ("check x", 2),
     ] {

@@ -1,7 +1,7 @@
 //! The words of the command line.
 ghost use Rattle.std.specs.Prelude.{◌≡◌, ◌<◌, ◌^◌, ◌↔◌, ℕ, ◌∷◌, [], Ok, Some, IfOk, IfSome, IsErr, IsTrue, codes, decimal, map, string_bytes};
 ghost use Rattle.volume_format.specs.Options.{Options};
-ghost use Rattle.ntfs_shell.specs.Words.{AreFormatWords, AreKnown, AreWords, AskToFormat, AskToRead, AskUnbuilt, IsUnbuilt};
+ghost use Rattle.ntfs_shell.specs.Words.{AreFormatWords, AreKnown, AreWords, AskToFormat, AskToRead, AskToRun, AskUnbuilt, IsUnbuilt};
 
 use crate::image::Access;
 use crate::label_option::read_label;
@@ -19,6 +19,8 @@ pub enum Asked {
     Check,
     /// A new volume.
     Format(FormatOptions),
+    /// A script to be run.
+    Run,
     /// A word of the program that is not built yet.
     Unbuilt,
     /// Nothing that the program knows.
@@ -44,7 +46,7 @@ fn are_words(words: &[String], text: &str) -> bool
 fn is_unbuilt(word: &str) -> bool
     ensures { IsTrue result ↔ IsUnbuilt word.now }
 {
-    word == "run" || word == "make"
+    word == "make"
 }
 
 fn ask_unbuilt(words: &[String]) -> bool
@@ -64,12 +66,16 @@ fn ask_to_read(words: &[String]) -> bool
 
 /// What the words ask of the image.
 pub fn access_of(words: &[String]) -> Access
-    ensures { (result ≡ Access.Reads) ↔ AskToRead (map string_bytes words.now) }
+    ensures reads { (result ≡ Access.Reads) ↔ AskToRead (map string_bytes words.now) }
+    ensures runs { (result ≡ Access.Runs) ↔ AskToRun (map string_bytes words.now) }
 {
+    if are_words(words, "run") {
+        return Access::Runs;
+    }
     if ask_to_read(words) {
         Access::Reads
     } else {
-        Access::Writes
+        Access::Makes
     }
 }
 
@@ -159,6 +165,7 @@ pub fn read_words(alloc: Global, words: &[String]) -> Result<Asked, AllocError>
     ensures check { (result ≡ Ok Asked.Check) ↔ AreWords (map string_bytes words.now) (codes "check") }
     ensures format { (options : Options) → AreFormatWords (map string_bytes words.now) options
         → IfOk result (λ asked. asked ≡ Asked.Format options) }
+    ensures run { (result ≡ Ok Asked.Run) ↔ AskToRun (map string_bytes words.now) }
     ensures unbuilt { (result ≡ Ok Asked.Unbuilt) ↔ AskUnbuilt (map string_bytes words.now) }
     ensures unknown { (result ≡ Ok Asked.Unknown) ↔ ¬ (AreKnown (map string_bytes words.now)) }
 {
@@ -170,6 +177,9 @@ pub fn read_words(alloc: Global, words: &[String]) -> Result<Asked, AllocError>
     }
     if are_words(words, "check") {
         return Ok(Asked::Check);
+    }
+    if are_words(words, "run") {
+        return Ok(Asked::Run);
     }
     if ask_unbuilt(words) {
         return Ok(Asked::Unbuilt);

@@ -8,19 +8,23 @@ use std::alloc::{AllocError, Global};
 use std::test;
 use vol_disk::{CallKind, Fail, FailDisk, MemDisk};
 
-const SECTORS: usize = 2048;
+const SECTORS: u16 = 2048;
 
-// The boot sector, record 0, each record, and then the records 6, 0 and 10 with a sector of each bitmap and the table of
-// case.
-const READS: u64 = 1 + 2 + 2 * 64 + (2 + 1) + (2 + 1) + (2 + 256);
+// The boot sector, record 0, each record, and then a sector of each bitmap and the table of case.
+const READS: u64 = 1 + 2 + 2 * 64 + 1 + 1 + 256;
 
-/// The volume of 2,048 sectors that these words make.
-pub fn made_by(alloc: Global, words: &str) -> Result<Vec<u8>, test::Fail> {
-    let mut disk = MemDisk::new(alloc, vec![in alloc; 0; 512 * SECTORS]?);
+/// The volume of so many sectors that these words make.
+pub fn made_on(alloc: Global, sectors: u16, words: &str) -> Result<Vec<u8>, test::Fail> {
+    let mut disk = MemDisk::new(alloc, vec![in alloc; 0; usize::from(sectors) * 512]?);
     disk.reserve(2000)?;
     let mut out = sink_of(alloc, AMPLE, 0)?;
     let _ = run(alloc, words, &mut disk, &mut out)?;
     Ok(disk.contents().to_vec(alloc)?)
+}
+
+/// The volume of 2,048 sectors that these words make.
+pub fn made_by(alloc: Global, words: &str) -> Result<Vec<u8>, test::Fail> {
+    made_on(alloc, SECTORS, words)
 }
 
 /// The volume, as it was made.
@@ -28,11 +32,16 @@ pub fn volume(alloc: Global) -> Result<Vec<u8>, test::Fail> {
     made_by(alloc, "format 2048 4096 1 DATA")
 }
 
-/// A disk with these contents.
-pub fn disk_of(alloc: Global, image: &[u8]) -> Result<MemDisk, AllocError> {
+/// A disk of so many sectors with these contents.
+pub fn disk_on(alloc: Global, sectors: u16, image: &[u8]) -> Result<MemDisk, AllocError> {
     let mut contents = image.to_vec(alloc)?;
-    contents.resize(512 * SECTORS, 0)?;
+    contents.resize(usize::from(sectors) * 512, 0)?;
     Ok(MemDisk::new(alloc, contents))
+}
+
+/// A disk of 2,048 sectors with these contents.
+pub fn disk_of(alloc: Global, image: &[u8]) -> Result<MemDisk, AllocError> {
+    disk_on(alloc, SECTORS, image)
 }
 
 /// Why the volume is refused, if it is; writes are told as a failing device.

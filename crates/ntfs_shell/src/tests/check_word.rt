@@ -101,7 +101,7 @@ fn each_failing_read_is_told(rt: HostRuntime) -> Result<(), test::Fail> {
         let (status, right) = failing(rt.alloc(), &image, number)?;
         assert!(rt; right, "read {number}");
         if status == 0 {
-            assert!(rt; 395 < number, "read {number}");
+            assert!(rt; 389 < number, "read {number}");
             return Ok(());
         }
         assert_eq!(rt; status, 6, "read {number}");

@@ -32,13 +32,13 @@ pub fn put(image: &mut [u8], at: usize, bytes: &[u8])
     }
 }
 
-// The byte at a place, 0 past the end.
-fn byte(image: &[u8], at: usize) -> u8 {
+/// The byte at a place, 0 past the end.
+pub fn byte(image: &[u8], at: usize) -> u8 {
     image.get(at).copied().unwrap_or(0)
 }
 
-// The number of two bytes at a place.
-fn number(image: &[u8], at: usize) -> usize
+/// The number of two bytes at a place.
+pub fn number(image: &[u8], at: usize) -> usize
     ensures { result < 2 ^ 16 }
 {
     let next = byte(image, at.saturating_add(1));

@@ -239,7 +239,7 @@ struct End {
     said: &'static str,
 }
 
-const ENDS: [End; 18] = [
+const ENDS: [End; 20] = [
     End {
         line: b"ntfs_shell",
         status: 2,
@@ -307,10 +307,22 @@ const ENDS: [End; 18] = [
         said: "S2 0: record 0 does not open",
     },
     End {
-        line: b"ntfs_shell ntfs_shell_whole run",
+        line: b"ntfs_shell ntfs_shell_whole make 1 1",
         status: 9,
         printed: "",
         said: "not built",
+    },
+    End {
+        line: b"ntfs_shell ntfs_shell_whole run",
+        status: 3,
+        printed: "refused S2 0\n",
+        said: "S2 0: record 0 does not open",
+    },
+    End {
+        line: b"ntfs_shell ntfs_shell_blank run",
+        status: 0,
+        printed: "",
+        said: "",
     },
     End {
         line: b"ntfs_shell ntfs_shell_cut label",

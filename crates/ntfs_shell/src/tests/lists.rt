@@ -154,8 +154,8 @@ fn lay_name(image: &mut [u8], at: usize) -> usize {
     at.saturating_add(96)
 }
 
-// Begins record n in use, with so many links and this base record, if it is not 0; tells where its first attribute stands.
-fn begin(image: &mut [u8], n: u8, links: u8, base: u8) -> usize {
+/// Begins record n in use, with so many links and this base record, if it is not 0; tells where its first attribute stands.
+pub fn begin(image: &mut [u8], n: u8, links: u8, base: u8) -> usize {
     let at = record(n);
     put(image, at, &[0; 1024]);
     put(image, at, b"FILE\x30\0\x03\0");

@@ -1,12 +1,13 @@
 use Rattle.std.proofs.Common.{◌⊎◌, refl, inl, inr}
 use Rattle.ntfs_shell.proofs.words.read_words.Goals as goal
 
-none-of : {A B C D E : Type 0} → ¬ A → ¬ B → ¬ C → ¬ D → ¬ E → ¬ ((A ⊎ B ⊎ C) ⊎ D ⊎ E)
-none-of a b c d e (inl (inl is)) = a is
-none-of a b c d e (inl (inr (inl is))) = b is
-none-of a b c d e (inl (inr (inr is))) = c is
-none-of a b c d e (inr (inl is)) = d is
-none-of a b c d e (inr (inr is)) = e is
+none-of : {A B C D E F : Type 0} → ¬ A → ¬ B → ¬ C → ¬ D → ¬ E → ¬ F → ¬ ((A ⊎ B ⊎ C) ⊎ D ⊎ E ⊎ F)
+none-of a b c d e f (inl (inl is)) = a is
+none-of a b c d e f (inl (inr (inl is))) = b is
+none-of a b c d e f (inl (inr (inr is))) = c is
+none-of a b c d e f (inr (inl is)) = d is
+none-of a b c d e f (inr (inr (inl is))) = e is
+none-of a b c d e f (inr (inr (inr is))) = f is
 
 pub returns-in-Some-clause-format : goal.returns-in-Some-clause-format
 returns-in-Some-clause-format c options are =
@@ -27,6 +28,7 @@ returns-in-None-clause-unknown c = (
       (λ label. let yes = c.are_words-2.ensures.1 label in let no = c.if-are_words-2.false in absurd (cc))
       (λ check. let yes = c.are_words-3.ensures.1 check in let no = c.if-are_words-3.false in absurd (cc))
       (λ ask. let found = c.in_ok-options.ensures.exact ask.0 ask.1 in let is = c.in-None.is in absurd (cc))
+      (λ run. let yes = c.are_words-4.ensures.1 run in let no = c.if-are_words-4.false in absurd (cc))
       (λ unbuilt. let yes = c.ask_unbuilt.ensures.1 unbuilt in let no = c.if-ask_unbuilt.false in absurd (cc)),
   λ _. refl,
 )
