@@ -46,7 +46,7 @@ impl PlainTree {
     pub fn listed<'t>(&self, link: &'t Link) -> Option<(bool, &'t Link)>
         ensures { lent_listed result ≡ listed (tree_of self.now) link.now }
     {
-        if link.space == 2 {
+        if link.is_dos() {
             return None;
         }
         let node = self.shown_node(link)?;
@@ -110,7 +110,7 @@ impl PlainTree {
     {
         let mut count = 0;
         'links: for link in &self.links {
-            if link.child == file && link.space != 2 {
+            if link.child == file && !link.is_dos() {
                 count += 1;
             }
         }

@@ -41,7 +41,7 @@ impl PlainTree {
         ensures { lent result ≡ first_name (tree_of self.now).links file }
     {
         'links: for link in &self.links {
-            if link.child == file && link.space != 2 {
+            if link.child == file && !link.is_dos() {
                 return Some(link);
             }
         }

@@ -68,6 +68,17 @@ pub struct Link {
     pub child: u64,
 }
 
+impl Link {
+    ghost use Rattle.tree_model.specs.Tree.{is_dos};
+
+    /// Whether it is a DOS name: the short partner of a Win32 name.
+    pub fn is_dos(&self) -> bool
+        ensures { result ≡ is_dos self.now }
+    {
+        self.space == 2
+    }
+}
+
 /// Links by directory and name: the names by the table of case, and those that are the same by their units, namespaces and files.
 pub fn compare_links(case: &UpCase, a: &Link, b: &Link) -> Ordering
     ensures { result ≡ compare_links (fold_of case.now) a.now b.now }
