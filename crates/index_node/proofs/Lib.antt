@@ -1,3 +1,4 @@
 pub mod NodeLaws
 pub mod LayOutLaws
 pub mod SealedLaws
+pub mod PlaceLaws

@@ -2,3 +2,4 @@ pub mod View
 pub mod Blocks
 pub mod LayOut
 pub mod Sealed
+pub mod Shape

@@ -3,6 +3,7 @@ use Rattle.std.specs.Prelude.{◌≡◌, ℕ, List}
 use Rattle.ntfs_def.specs.Node.{Node, BadAt, child_at, entries_from, entry_place, scan_node}
 use Rattle.ntfs_def.specs.declared.index.NodeForm.{NodeForm}
 use Rattle.index_node.specs.declared.NodeView.{NodeView}
+use Rattle.index_node.specs.declared.Place.{Place}
 use Rattle.index_node.specs.declared.NodeNo.{NodeNo}
 use Rattle.index_node.specs.declared.NodeNo.TheVariants.{Shape, Full}
 
@@ -23,6 +24,13 @@ node_of_view view = record {
   entries = entries_from view.node.now view.children view.first view.count;
   last = child_at view.node.now view.children (place_of view view.count);
 }
+
+-- a place in a node: the view of the node, and how many entries stand before it
+abbrev pub view_of : Place → NodeView
+view_of place = place.view
+
+abbrev pub number_of : Place → ℕ
+number_of place = place.number
 
 -- why bytes are no node
 abbrev pub Refuses : NodeForm → List ℕ → NodeNo → Type 0

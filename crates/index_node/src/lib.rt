@@ -9,6 +9,7 @@ ghost use Rattle.ntfs_def.specs.Node.{HasEntries, entry_place, first_entry, has_
 
 mod blocks;
 mod laws;
+mod places;
 mod shape;
 #[cfg(test)]
 mod tests;
@@ -49,4 +50,14 @@ pub struct NodeView<'r> {
     ghost small: { first < 2 ^ 33 },
     ghost each: { HasEntries form node.now children end first count },
     ghost last: { IsTrue (is_last_entry node.now children end (entry_place node.now first count)) },
+}
+
+/// A place in a node: that of an entry with a key, or behind all of those the last one, by its number.
+#[derive(Clone, Copy, Debug)]
+pub struct Place<'r> {
+    view: NodeView<'r>,
+    number: usize,
+    at: usize,
+    ghost within: { number ≤ view.count },
+    ghost stands: { at ≡ entry_place view.node.now view.first number },
 }

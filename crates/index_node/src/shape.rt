@@ -1,6 +1,7 @@
 //! The tests of a node's shape: its header and its entries.
-ghost use Rattle.std.specs.Prelude.{◌≡◌, ◌<◌, ◌≤◌, ◌+◌, ◌^◌, IfOk, IfErr, IsTrue, None, length};
+ghost use Rattle.std.specs.Prelude.{◌≡◌, ◌<◌, ◌≤◌, ◌+◌, ◌^◌, IfOk, IfErr, IfSome, IsTrue, None, is_some, length};
 ghost use Rattle.ntfs_def.specs.Node.{HasEntries, entry_place, scan_from, scan_node, child_len, entries_end, entry_flags, entry_len, key_len, first_entry, first_offset, has_children, holds_data, is_entry, is_last_entry, is_whole, node_header, node_header_failing, room_end};
+ghost use Rattle.index_node.specs.Shape.{IsHeaderAt, Stands};
 ghost use Rattle.index_node.specs.View.{Refuses};
 
 use crate::NodeNo;
@@ -10,6 +11,22 @@ use vol_bytes::{u16_at, u32_at};
 
 /// The bytes of an entry before its key.
 pub const ENTRY_HEADER: usize = 16;
+
+// The numbers of an entry's header: its bytes, those of its key, and its flags.
+#[derive(Clone, Copy, Debug)]
+struct EntryHeader {
+    len: usize,
+    key: usize,
+    flags: u16,
+}
+
+// What stands at a place of a node: an entry with a key, of so many bytes, the last one, or none.
+#[derive(Clone, Copy, Debug)]
+enum Standing {
+    Entry { len: usize },
+    Last,
+    Nothing,
+}
 
 /// Where the index header stands.
 #[tactic(auto, unfolding(ntfs_def::specs::Node::node_header))]
@@ -143,14 +160,14 @@ pub fn count_of(
     let mut at = first;
     let mut count = 0;
     'entries: loop {
-        if is_last_entry(node, children, end, at) {
-            return Ok(count);
+        match standing_at(form, node, children, end, at) {
+            Standing::Last => return Ok(count),
+            Standing::Nothing => return Err(NodeNo::Shape { at }),
+            Standing::Entry { len } => {
+                at += len;
+                count += 1;
+            }
         }
-        if !is_entry(form, node, children, end, at) {
-            return Err(NodeNo::Shape { at });
-        }
-        at += entry_len(node, at) as usize;
-        count += 1;
     }
 }
 
@@ -161,23 +178,29 @@ pub fn child_len(children: bool) -> usize
     if children { 8 } else { 0 }
 }
 
-// Whether an entry stands there whole, the last one or another.
-fn is_whole(node: &[u8], children: bool, end: usize, at: usize) -> bool
+// The header of an entry that stands there whole, the last one or another; it is read once.
+fn whole_header(node: &[u8], children: bool, end: usize, at: usize) -> Option<EntryHeader>
     requires inside { end ≤ length node.now }
     requires small { at < 2 ^ 33 }
-    ensures { result ≡ is_whole node.now children end at }
+    ensures whole { is_some result ≡ is_whole node.now children end at }
+    ensures fields { IfSome result (IsHeaderAt node.now at) }
 {
     if at + ENTRY_HEADER > end {
-        return false;
+        return None;
     }
     let len = entry_len(node, at) as usize;
     let key = key_len(node, at) as usize;
     let flags = entry_flags(node, at);
     let child = if children { 1 } else { 0 };
-    len % 8 == 0
+    let whole = len % 8 == 0
         && ENTRY_HEADER + key + child_len(children) <= len
         && at + len <= end
-        && flags % 2 == child
+        && flags % 2 == child;
+    if whole {
+        Some(EntryHeader { len, key, flags })
+    } else {
+        None
+    }
 }
 
 // Whether the data of an entry lies behind the key and before the child's number.
@@ -197,26 +220,24 @@ fn holds_data(form: NodeForm, node: &[u8], children: bool, at: usize) -> bool
     }
 }
 
-/// Whether an entry with a key stands there.
-#[tactic(auto, unfolding(ntfs_def::specs::Node::is_entry))]
-pub fn is_entry(form: NodeForm, node: &[u8], children: bool, end: usize, at: usize) -> bool
+// What stands at a place of a node.
+fn standing_at(form: NodeForm, node: &[u8], children: bool, end: usize, at: usize) -> Standing
     requires inside { end ≤ length node.now }
     requires small { at < 2 ^ 33 }
-    ensures { result ≡ is_entry form node.now children end at }
+    ensures { Stands form node.now children end at result }
 {
-    is_whole(node, children, end, at)
-        && entry_flags(node, at) / 2 % 2 == 0
-        && holds_data(form, node, children, at)
-}
-
-/// Whether the last entry stands there.
-#[tactic(auto, unfolding(ntfs_def::specs::Node::is_last_entry))]
-pub fn is_last_entry(node: &[u8], children: bool, end: usize, at: usize) -> bool
-    requires inside { end ≤ length node.now }
-    requires small { at < 2 ^ 33 }
-    ensures { result ≡ is_last_entry node.now children end at }
-{
-    is_whole(node, children, end, at)
-        && entry_flags(node, at) / 2 % 2 == 1
-        && key_len(node, at) == 0
+    let Some(header) = whole_header(node, children, end, at) else {
+        return Standing::Nothing;
+    };
+    if header.flags / 2 % 2 == 1 {
+        if header.key == 0 {
+            Standing::Last
+        } else {
+            Standing::Nothing
+        }
+    } else if holds_data(form, node, children, at) {
+        Standing::Entry { len: header.len }
+    } else {
+        Standing::Nothing
+    }
 }

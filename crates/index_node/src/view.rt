@@ -1,15 +1,13 @@
 //! The view: how many entries the node has, and each of them.
-ghost use Rattle.std.specs.Prelude.{◌≡◌, ◌<◌, ◌≤◌, ◌^◌, IfOk, IfErr, IsTrue, length, slice_index_or};
-ghost use Rattle.ntfs_def.specs.Node.{IsWholeEntry, Entry, Whole, are_short, child_from, has_children, is_one_entry, item_in, scan_node};
-ghost use Rattle.index_node.specs.View.{Refuses, bytes_of, form_of_view, place_of, node_of_view};
+ghost use Rattle.std.specs.Prelude.{◌≡◌, ◌<◌, ◌≤◌, IfOk, IfErr, IsTrue, length, slice_index_or};
+ghost use Rattle.ntfs_def.specs.Node.{Entry, Whole, are_short, child_from, has_children, is_one_entry, item_in, scan_node};
+ghost use Rattle.index_node.specs.View.{Refuses, bytes_of, form_of_view, node_of_view, number_of, view_of};
 
 use crate::shape::{
-    ENTRY_HEADER, child_len, count_of, entries_end, entry_len, first_entry, has_children,
-    header_failing, key_len,
+    child_len, count_of, entries_end, entry_len, first_entry, has_children, header_failing,
 };
-use crate::{NodeNo, NodeView};
+use crate::{NodeNo, NodeView, Place};
 use ntfs_def::NodeForm;
-use vol_bytes::u64_at;
 
 /// The bytes of the longest entry, apart from a child's number.
 const MOST: usize = 632;
@@ -45,19 +43,29 @@ impl<'r> NodeView<'r> {
 }
 
 impl<'r> NodeView<'r> {
-    // Where an entry stands.
-    fn place(&self, i: usize) -> usize
-        requires { i ≤ self.now.count }
-        ensures place { result ≡ place_of self.now i }
-        ensures whole { IsWholeEntry self.now.node.now self.now.children self.now.end result }
-        ensures inside { self.now.end ≤ length self.now.node.now }
-        ensures short { self.now.end < 2 ^ 33 }
+    /// The place of the first entry, or the last place where no entry has a key. From there on the node is gone over once.
+    pub fn first_place(&self) -> Place<'r>
+        ensures view { view_of result ≡ self.now }
+        ensures number { number_of result ≡ 0 }
     {
-        let mut at = self.first;
-        for k in 0..i {
-            at += entry_len(self.node, at) as usize;
+        Place {
+            view: *self,
+            number: 0,
+            at: self.first,
         }
-        at
+    }
+
+    // A place by its number, from the first one on.
+    fn place(&self, i: usize) -> Place<'r>
+        requires { i ≤ length (node_of_view self.now).entries }
+        ensures view { view_of result ≡ self.now }
+        ensures number { number_of result ≡ i }
+    {
+        let mut place = self.first_place();
+        for k in 0..i {
+            place.advance();
+        }
+        place
     }
 
     /// What its entries are.
@@ -98,8 +106,7 @@ impl<'r> NodeView<'r> {
         ensures item { (d : Entry) → item_in result.now ≡ (slice_index_or (node_of_view self.now).entries i d).item }
         ensures own { IsTrue (is_one_entry (form_of_view self.now) (has_children (bytes_of self.now)) result.now) }
     {
-        let at = self.place(i);
-        &self.node[at..at + entry_len(self.node, at) as usize]
+        self.place(i).entry()
     }
 
     /// The key of an entry.
@@ -107,8 +114,7 @@ impl<'r> NodeView<'r> {
         requires { i < length (node_of_view self.now).entries }
         ensures { (d : Entry) → result.now ≡ (slice_index_or (node_of_view self.now).entries i d).item.key }
     {
-        let at = self.place(i);
-        &self.node[at + ENTRY_HEADER..at + ENTRY_HEADER + key_len(self.node, at) as usize]
+        self.place(i).key()
     }
 
     /// The child that place i leads to; the last place has no key.
@@ -116,10 +122,6 @@ impl<'r> NodeView<'r> {
         requires { i ≤ length (node_of_view self.now).entries }
         ensures { result ≡ child_from (node_of_view self.now).entries (node_of_view self.now).last i }
     {
-        if !self.children {
-            return None;
-        }
-        let at = self.place(i);
-        Some(u64_at(self.node, at + entry_len(self.node, at) as usize - 8))
+        self.place(i).child()
     }
 }
