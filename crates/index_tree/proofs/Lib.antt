@@ -1,5 +1,6 @@
 pub mod OwnEntries
 mod IndexTreeLaws
+pub mod PlaceLaws
 pub mod MovedWalks
 pub mod Rising
 pub mod RisingOrders

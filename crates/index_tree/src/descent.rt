@@ -5,7 +5,7 @@ ghost use Rattle.vol_disk.specs.Contents.{WhereTold};
 ghost use Rattle.index_tree.specs.Index.{CountsNo, form_of, limit_of, order_of};
 ghost use Rattle.index_tree.specs.Search.{Costs, CostsBelow, Finds, FindsBelow, HasRising, HasRisingIndex, IsKeyed, nodes_of};
 
-use crate::seek::{or_entry, seek_in};
+use crate::seek::{entry_hit, seek_in};
 use crate::{Index, IndexNo};
 use collation::Collation;
 use index_node::{Blocks, NodeView};
@@ -16,7 +16,8 @@ use vol_bytes::Octets;
 /// The most nodes below the root on a way to a leaf.
 pub const MOST_DEPTH: usize = 15;
 
-// The first entry with an equal key in the tree under `child`, which has at most `level` levels.
+// The first entry with an equal key in the tree under `child`, which has at most `level` levels. Each node of the way is
+// read into the same block.
 fn first_below<B: Blocks, C: Collation>(
     alloc: Global,
     blocks: &mut B,
@@ -25,6 +26,7 @@ fn first_below<B: Blocks, C: Collation>(
     child: Option<u64>,
     key: &[u8],
     level: usize,
+    block: &mut [u8; 4096],
 ) -> Result<Option<Octets>, IndexNo>
     requires ready { B.ready blocks.old }
     requires tree { WhereTold (B.records blocks.old) (λ r.
@@ -56,16 +58,17 @@ fn first_below<B: Blocks, C: Collation>(
     if level == 0 {
         return Ok(None);
     }
-    let mut block = [0; 4096];
-    blocks.read(vcn, &mut block)?;
-    let Ok(node) = NodeView::new(&block, form) else {
+    blocks.read(vcn, block)?;
+    let Ok(node) = NodeView::new(block, form) else {
         return Ok(None);
     };
-    let Some((i, hit)) = seek_in(&node, order, key) else {
+    let Some((place, hit)) = seek_in(&node, order, key) else {
         return Ok(None);
     };
-    let below = first_below(alloc, blocks, order, form, node.child(i), key, level - 1)?;
-    or_entry(alloc, order, below, &node, i, hit)
+    let here = entry_hit(alloc, order, &place, hit)?;
+    let child = place.child();
+    let below = first_below(alloc, blocks, order, form, child, key, level - 1, block)?;
+    Ok(below.or(here))
 }
 
 impl<C: Collation> Index<C> {
@@ -123,18 +126,21 @@ impl<C: Collation> Index<C> {
         let Ok(node) = NodeView::new(root, self.form) else {
             return Ok(None);
         };
-        let Some((i, hit)) = seek_in(&node, &self.order, key) else {
+        let Some((place, hit)) = seek_in(&node, &self.order, key) else {
             return Ok(None);
         };
+        let here = entry_hit(alloc, &self.order, &place, hit)?;
+        let mut block = [0; 4096];
         let below = first_below(
             alloc,
             blocks,
             &self.order,
             self.form,
-            node.child(i),
+            place.child(),
             key,
             MOST_DEPTH,
+            &mut block,
         )?;
-        or_entry(alloc, &self.order, below, &node, i, hit)
+        Ok(below.or(here))
     }
 }

@@ -1,33 +1,42 @@
 //! A key is sought in a node.
-ghost use Rattle.std.specs.Prelude.{◌≡◌, ◌<◌, IsTrue, length, IfErr, IfOk, IfSome, true};
-ghost use Rattle.index_node.specs.View.{form_of_view, node_of_view};
+ghost use Rattle.std.specs.Prelude.{◌≡◌, ◌<◌, IsTrue, None, length, IfErr, IfOk, IfSome, true};
+ghost use Rattle.std.specs.Option.{option_map};
+ghost use Rattle.index_node.specs.View.{form_of_view, node_of_view, number_of, view_of};
 ghost use Rattle.index_tree.specs.Search.{HitsKey, IsKeyed, Picks, Seeks};
 
 use crate::IndexNo;
 use collation::Collation;
-use index_node::NodeView;
+use index_node::{NodeView, Place};
 use std::alloc::{AllocError, Global};
 use std::cmp::Ordering;
 use vol_bytes::Octets;
 
-/// The first entry whose key is not below this one, and whether it is equal; `None` where a key before it is not valid.
-pub fn seek_in<C: Collation>(node: &NodeView<'_>, order: &C, key: &[u8]) -> Option<(usize, bool)>
+/// The place of the first entry whose key is not below this one, and whether it is equal; `None` where a key before it is
+/// not valid. The node is gone over once.
+pub fn seek_in<'r, C: Collation>(
+    node: &NodeView<'r>,
+    order: &C,
+    key: &[u8],
+) -> Option<(Place<'r>, bool)>
     requires key { IsTrue (C.valid order.now key.now) }
-    ensures place { Seeks (λ x. C.order order.now x key.now) (C.valid order.now) (node_of_view node.now).entries result }
-    ensures key { IfSome result (λ at. HitsKey (C.valid order.now) (node_of_view node.now).entries at.0 at.1) }
+    ensures place { Seeks (λ x. C.order order.now x key.now) (C.valid order.now) (node_of_view node.now).entries
+        (option_map (λ at. (number_of at.0, at.1)) result) }
+    ensures view { IfSome result (λ at. view_of at.0 ≡ node.now) }
+    ensures key { IfSome result (λ at. HitsKey (C.valid order.now) (node_of_view node.now).entries (number_of at.0) at.1) }
 {
-    for i in 0..node.entries() {
-        let entry = node.key(i);
+    let mut place = node.first_place();
+    'places: while place.has_key() {
+        let entry = place.key();
         if !order.is_valid(entry) {
             return None;
         }
         match order.compare(entry, key) {
-            Ordering::Less => {}
-            Ordering::Equal => return Some((i, true)),
-            Ordering::Greater => return Some((i, false)),
+            Ordering::Less => place.advance(),
+            Ordering::Equal => return Some((place, true)),
+            Ordering::Greater => return Some((place, false)),
         }
     }
-    Some((node.entries(), false))
+    Some((place, false))
 }
 
 /// The bytes of an entry.
@@ -37,25 +46,22 @@ pub fn copy(alloc: Global, entry: &[u8]) -> Result<Octets, AllocError>
     Ok(Octets::from_vec(Vec::from_slice(alloc, entry)?))
 }
 
-/// What was found below a place, or else the entry at it, where it is hit.
-pub fn or_entry<C: Collation>(
+/// The bytes of the entry at a place, where it is hit.
+pub fn entry_hit<C: Collation>(
     alloc: Global,
     _order: &C,
-    below: Option<Octets>,
-    node: &NodeView<'_>,
-    i: usize,
+    place: &Place<'_>,
     hit: bool,
 ) -> Result<Option<Octets>, IndexNo>
-    requires inside { hit ≡ true → i < length (node_of_view node.now).entries }
-    requires key { HitsKey (C.valid _order.now) (node_of_view node.now).entries i hit }
-    requires below { IfSome below (IsKeyed (form_of_view node.now) (C.valid _order.now)) }
-    ensures picks { IfOk result (Picks below hit (node_of_view node.now).entries i) }
-    ensures keyed { IfOk result (λ found. IfSome found (IsKeyed (form_of_view node.now) (C.valid _order.now))) }
+    requires inside { hit ≡ true → number_of place.now < length (node_of_view (view_of place.now)).entries }
+    requires key { HitsKey (C.valid _order.now) (node_of_view (view_of place.now)).entries (number_of place.now) hit }
+    ensures picks { IfOk result (Picks None hit (node_of_view (view_of place.now)).entries (number_of place.now)) }
+    ensures keyed { IfOk result (λ found. IfSome found (IsKeyed (form_of_view (view_of place.now)) (C.valid _order.now))) }
     ensures memory { IfErr result (λ no. no ≡ IndexNo.Memory) }
 {
-    match below {
-        Some(entry) => Ok(Some(entry)),
-        None if hit => Ok(Some(copy(alloc, node.entry(i))?)),
-        None => Ok(None),
+    if hit {
+        Ok(Some(copy(alloc, place.entry())?))
+    } else {
+        Ok(None)
     }
 }

@@ -104,18 +104,14 @@ fn walk_node<B: Blocks>(
     ensures faults { MatchResult result (λ _. B.faults blocks.new ≡ B.faults blocks.old)
         (CountsNo (B.faults blocks.old) (B.faults blocks.new)) }
 {
-    for i in 0..node.entries() {
-        walk_tree(alloc, blocks, node.form(), node.child(i), level, out)?;
-        keep(alloc, node.entry(i), out)?;
+    let mut place = node.first_place();
+    'places: while place.has_key() {
+        walk_tree(alloc, blocks, node.form(), place.child(), level, out)?;
+        keep(alloc, place.entry(), out)?;
+        place.advance();
     }
-    walk_tree(
-        alloc,
-        blocks,
-        node.form(),
-        node.child(node.entries()),
-        level,
-        out,
-    )
+    let last = place.child();
+    walk_tree(alloc, blocks, node.form(), last, level, out)
 }
 
 impl<C> Index<C> {

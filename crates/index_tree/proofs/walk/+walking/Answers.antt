@@ -1,24 +1,30 @@
-use Rattle.std.proofs.Common.{◌≡◌, ◌-◌, ◌<◌, ◌∷◌, [], length, refl, ap, sym, ◌∙◌, subst, arith}
-use Rattle.ntfs_def.specs.Node.{IsOwnEntry, Node, child_from}
+use Rattle.std.proofs.Common.{◌≡◌, ◌-◌, ◌<◌, ◌∷◌, [], length, refl, sym, ◌∙◌, subst, arith}
+use Rattle.ntfs_def.specs.Node.{IsOwnEntry, Node, item_in}
 use Rattle.ntfs_def.specs.IndexTree.{Each}
 use Rattle.index_tree.proofs.IndexTreeLaws.{Each-++}
 use Rattle.index_tree.proofs.OwnEntries.{one_own}
-use Rattle.index_node.specs.View.{form_of_view, node_of_view}
+use Rattle.index_node.specs.View.{form_of_view, node_of_view, number_of, view_of}
 use Rattle.index_tree.specs.Search.{nodes_of}
 use Rattle.index_tree.specs.Walk.{CostsNode, CostsTree, HasSpread, HasTree, WalksNode, WalksTree}
 use Rattle.index_tree.proofs.Rising.{not_refused, one_more, read_node, some_record}
-use Rattle.index_tree.proofs.WalkLaws.{OnOk-map, costs_all, costs_more, costs_start, costs_tree, front_all, front_more, front_start, has_spread, tree_below, tree_level, tree_node, walks_tree}
+use Rattle.index_tree.proofs.WalkLaws.{CostsFront, OnOk-map, WalksFront, costs_all, costs_more, costs_start, costs_tree, front_all, front_more, front_start, has_spread, tree_below, tree_level, tree_node, walks_tree}
+use Rattle.index_tree.proofs.PlaceLaws.{child_in, item_in_node, less_in, more_in}
 use Rattle.index_tree.proofs.walk.+walking.Goals as goal
 
-pub walk_node-loop-i-init : goal.walk_node-loop-i-init
-walk_node-loop-i-init g t c =
+pub walk_node-places-init : goal.walk_node-places-init
+walk_node-places-init g t c =
     let node = c.args.node.now in
     let n : Node = node_of_view node in
+    let first = sym c.first_place-place.ensures.number in
     record {
-      walked = λ r e. front_start (nodes_of (form_of_view node) r) n c.args.out.now.items;
+      view = c.first_place-place.ensures.view;
+      walked = λ r e. subst (λ k. WalksFront (nodes_of (form_of_view node) r) n k c.args.out.now.items c.args.out.now.items) first
+          (front_start (nodes_of (form_of_view node) r) n c.args.out.now.items);
       own = λ h. h;
-      reads = λ r e. costs_start 1 (nodes_of (form_of_view node) r) n (g.B.Blocks.reads c.args.blocks.now);
-      fetched = λ r e. costs_start 8 (nodes_of (form_of_view node) r) n (g.B.Blocks.fetched c.args.blocks.now);
+      reads = λ r e. subst (λ k. CostsFront 1 (nodes_of (form_of_view node) r) n k (g.B.Blocks.reads c.args.blocks.now)
+          (g.B.Blocks.reads c.args.blocks.now)) first (costs_start 1 (nodes_of (form_of_view node) r) n (g.B.Blocks.reads c.args.blocks.now));
+      fetched = λ r e. subst (λ k. CostsFront 8 (nodes_of (form_of_view node) r) n k (g.B.Blocks.fetched c.args.blocks.now)
+          (g.B.Blocks.fetched c.args.blocks.now)) first (costs_start 8 (nodes_of (form_of_view node) r) n (g.B.Blocks.fetched c.args.blocks.now));
       ready = c.requires.ready;
       records = refl;
       volume = refl;
@@ -33,16 +39,18 @@ pub walk_node-walk_tree-requires : goal.walk_node-walk_tree-requires
 walk_node-walk_tree-requires g t c κs within =
     let node = c.args.node.now in
     let n : Node = node_of_view node in
+    let i = number_of c.places.place in
+    let child = child_in _ _ c.places.invariant.view i c.child.result c.child.ensures in
     let d = c.decreases in (
       omega arith,
       (
         within,
         (
-          c.loop-i.invariant.ready,
+          c.places.invariant.ready,
           λ r e.
               subst (λ k. HasTree (nodes_of k r) c.child.result c.args.level) (sym c.form.ensures)
-              (subst (λ x. HasTree (nodes_of (form_of_view node) r) x c.args.level) (sym c.child.ensures)
-              (tree_below (nodes_of (form_of_view node) r) n c.args.level c.loop-i.i (c.requires.spread r (sym c.loop-i.invariant.records ∙ e)))),
+              (subst (λ x. HasTree (nodes_of (form_of_view node) r) x c.args.level) (sym child)
+              (tree_below (nodes_of (form_of_view node) r) n c.args.level i (c.requires.spread r (sym c.places.invariant.records ∙ e)))),
         ),
       ),
     )
@@ -51,61 +59,75 @@ pub walk_node-walk_tree-requires-2 : goal.walk_node-walk_tree-requires-2
 walk_node-walk_tree-requires-2 g t c κs within =
     let node = c.args.node.now in
     let n : Node = node_of_view node in
+    let i = number_of c.places.place in
+    let last = child_in _ _ c.places.invariant.view i c.child-last.result c.child-last.ensures in
     let d = c.decreases in (
       omega arith,
       (
         within,
         (
-          c.loop-i.invariant.ready,
+          c.places.invariant.ready,
           λ r e.
-              subst (λ k. HasTree (nodes_of k r) c.child-2.result c.args.level) (sym c.form-2.ensures)
-              (subst (λ x. HasTree (nodes_of (form_of_view node) r) x c.args.level) (sym c.child-2.ensures)
-              (tree_below (nodes_of (form_of_view node) r) n c.args.level c.entries.result (c.requires.spread r
-              (sym c.loop-i.invariant.records ∙ e)))),
+              subst (λ k. HasTree (nodes_of k r) c.child-last.result c.args.level) (sym c.form-2.ensures)
+              (subst (λ x. HasTree (nodes_of (form_of_view node) r) x c.args.level) (sym last)
+              (tree_below (nodes_of (form_of_view node) r) n c.args.level i (c.requires.spread r
+              (sym c.places.invariant.records ∙ e)))),
         ),
       ),
     )
 
-pub walk_node-loop-i-preserved : goal.walk_node-loop-i-preserved
-walk_node-loop-i-preserved g t c =
+pub walk_node-places-preserved : goal.walk_node-places-preserved
+walk_node-places-preserved g t c =
     let node = c.args.node.now in
     let n : Node = node_of_view node in
-    let i = c.loop-i.i in
-    let so_far = c.loop-i.invariant in
+    let i = number_of c.places.place in
+    let so_far = c.places.invariant in
     let below = c.in_ok-walk_tree.ensures in
-    let within : i < length n.entries = omega (arith, c.loop-i-test.true, c.entries-i-end.ensures) in
+    let within : i < length n.entries = less_in _ _ so_far.view i (c.has_key.ensures.inside c.places-test.true) in
+    let child = child_in _ _ so_far.view i c.child.result c.child.ensures in
+    let item = item_in_node _ _ so_far.view i (item_in c.entry.result.now) c.entry.ensures.item in
+    let next = c.advance.ensures.number in
     record {
+      view = c.advance.ensures.view ∙ so_far.view;
       walked = λ r e.
-          front_more (nodes_of (form_of_view node) r) n i within c.args.out.now.items c.loop-i.out.items c.walk_tree.new.out.items
+          subst (λ k. WalksFront (nodes_of (form_of_view node) r) n k c.args.out.now.items c.keep.new.out.items) (sym next)
+          (front_more (nodes_of (form_of_view node) r) n i within c.args.out.now.items c.places.out.items c.walk_tree.new.out.items
           c.keep.new.out.items c.entry.result.now (so_far.walked r e)
-          (subst (λ x. WalksTree (nodes_of (form_of_view node) r) x c.loop-i.out.items c.walk_tree.new.out.items) c.child.ensures
-          (subst (λ k. WalksTree (nodes_of k r) c.child.result c.loop-i.out.items c.walk_tree.new.out.items) c.form.ensures
+          (subst (λ x. WalksTree (nodes_of (form_of_view node) r) x c.places.out.items c.walk_tree.new.out.items) child
+          (subst (λ k. WalksTree (nodes_of k r) c.child.result c.places.out.items c.walk_tree.new.out.items) c.form.ensures
           (below.walked r (so_far.records ∙ e))))
-          c.in_ok-keep.ensures.kept c.entry.ensures.item;
+          c.in_ok-keep.ensures.kept item);
       own = λ h. subst (Each (IsOwnEntry (form_of_view node))) (sym c.in_ok-keep.ensures.kept)
           (Each-++ (IsOwnEntry (form_of_view node)) c.walk_tree.new.out.items (c.entry.result.now ∷ [])
-          (subst (λ k. Each (IsOwnEntry k) c.loop-i.out.items → Each (IsOwnEntry k) c.walk_tree.new.out.items) c.form.ensures
-          below.own (so_far.own h))
-          (one_own (form_of_view node) _ c.entry.result.now c.entry.ensures.own, tt));
+          (subst (λ k. Each (IsOwnEntry k) c.places.out.items → Each (IsOwnEntry k) c.walk_tree.new.out.items) c.form.ensures
+          below.own (so_far.own h)) (
+            subst (λ v. IsOwnEntry (form_of_view v) c.entry.result.now) so_far.view
+                (one_own (form_of_view (view_of c.places.place)) _ c.entry.result.now c.entry.ensures.own),
+            tt,
+          ));
       reads = λ r e.
-          costs_more 1 (nodes_of (form_of_view node) r) n i within (g.B.Blocks.reads c.args.blocks.now) (g.B.Blocks.reads c.loop-i.blocks)
+          subst (λ k. CostsFront 1 (nodes_of (form_of_view node) r) n k (g.B.Blocks.reads c.args.blocks.now)
+          (g.B.Blocks.reads c.walk_tree.new.blocks)) (sym next)
+          (costs_more 1 (nodes_of (form_of_view node) r) n i within (g.B.Blocks.reads c.args.blocks.now) (g.B.Blocks.reads c.places.blocks)
           (g.B.Blocks.reads c.walk_tree.new.blocks) (so_far.reads r e)
-          (subst (λ x. CostsTree 1 (nodes_of (form_of_view node) r) x (g.B.Blocks.reads c.loop-i.blocks)
-          (g.B.Blocks.reads c.walk_tree.new.blocks)) c.child.ensures
-          (subst (λ k. CostsTree 1 (nodes_of k r) c.child.result (g.B.Blocks.reads c.loop-i.blocks)
-          (g.B.Blocks.reads c.walk_tree.new.blocks)) c.form.ensures (below.reads r (so_far.records ∙ e))));
+          (subst (λ x. CostsTree 1 (nodes_of (form_of_view node) r) x (g.B.Blocks.reads c.places.blocks)
+          (g.B.Blocks.reads c.walk_tree.new.blocks)) child
+          (subst (λ k. CostsTree 1 (nodes_of k r) c.child.result (g.B.Blocks.reads c.places.blocks)
+          (g.B.Blocks.reads c.walk_tree.new.blocks)) c.form.ensures (below.reads r (so_far.records ∙ e)))));
       fetched = λ r e.
-          costs_more 8 (nodes_of (form_of_view node) r) n i within (g.B.Blocks.fetched c.args.blocks.now)
-          (g.B.Blocks.fetched c.loop-i.blocks) (g.B.Blocks.fetched c.walk_tree.new.blocks) (so_far.fetched r e)
-          (subst (λ x. CostsTree 8 (nodes_of (form_of_view node) r) x (g.B.Blocks.fetched c.loop-i.blocks)
-          (g.B.Blocks.fetched c.walk_tree.new.blocks)) c.child.ensures
-          (subst (λ k. CostsTree 8 (nodes_of k r) c.child.result (g.B.Blocks.fetched c.loop-i.blocks)
-          (g.B.Blocks.fetched c.walk_tree.new.blocks)) c.form.ensures (below.fetched r (so_far.records ∙ e))));
+          subst (λ k. CostsFront 8 (nodes_of (form_of_view node) r) n k (g.B.Blocks.fetched c.args.blocks.now)
+          (g.B.Blocks.fetched c.walk_tree.new.blocks)) (sym next)
+          (costs_more 8 (nodes_of (form_of_view node) r) n i within (g.B.Blocks.fetched c.args.blocks.now)
+          (g.B.Blocks.fetched c.places.blocks) (g.B.Blocks.fetched c.walk_tree.new.blocks) (so_far.fetched r e)
+          (subst (λ x. CostsTree 8 (nodes_of (form_of_view node) r) x (g.B.Blocks.fetched c.places.blocks)
+          (g.B.Blocks.fetched c.walk_tree.new.blocks)) child
+          (subst (λ k. CostsTree 8 (nodes_of k r) c.child.result (g.B.Blocks.fetched c.places.blocks)
+          (g.B.Blocks.fetched c.walk_tree.new.blocks)) c.form.ensures (below.fetched r (so_far.records ∙ e)))));
       ready = c.walk_tree.ensures.ready;
       records = c.walk_tree.ensures.records ∙ so_far.records;
       volume = c.walk_tree.ensures.volume ∙ so_far.volume;
       file = c.walk_tree.ensures.file ∙ so_far.file;
-      only_reads = g.met.B.Blocks.only_reads_on c.args.blocks.now c.loop-i.blocks c.walk_tree.new.blocks so_far.only_reads
+      only_reads = g.met.B.Blocks.only_reads_on c.args.blocks.now c.places.blocks c.walk_tree.new.blocks so_far.only_reads
           c.walk_tree.ensures.only_reads;
       taken = c.walk_tree.ensures.taken ∙ so_far.taken;
       full = c.walk_tree.ensures.full ∙ so_far.full;
@@ -116,58 +138,55 @@ pub walk_node-returns-clause-walked : goal.walk_node-returns-clause-walked
 walk_node-returns-clause-walked g t c =
     let node = c.args.node.now in
     let n : Node = node_of_view node in
-    let all : c.entries.result ≡ c.loop-i.i = omega
-    (arith, c.loop-i-test.false, c.entries.ensures, c.entries-i-end.ensures, c.loop-i.auto.i-end) in
-    let end : c.loop-i.i ≡ length n.entries = omega (arith, all, c.entries.ensures) in
-    let child : c.child-2.result ≡ child_from n.entries n.last c.loop-i.i = c.child-2.ensures ∙ ap (child_from n.entries n.last) all in
+    let i = number_of c.places.place in
+    let end : i ≡ length n.entries = more_in _ _ c.places.invariant.view i (c.has_key.ensures.last c.places-test.false) in
+    let last = child_in _ _ c.places.invariant.view i c.child-last.result c.child-last.ensures in
     OnOk-map c.walk_tree-2.result
-    (λ w r e. front_all (nodes_of (form_of_view node) r) n c.loop-i.i end c.args.out.now.items c.loop-i.out.items c.walk_tree-2.new.out.items
-    (c.loop-i.invariant.walked r e)
-    (subst (λ x. WalksTree (nodes_of (form_of_view node) r) x c.loop-i.out.items c.walk_tree-2.new.out.items) child
-    (subst (λ k. WalksTree (nodes_of k r) c.child-2.result c.loop-i.out.items c.walk_tree-2.new.out.items) c.form-2.ensures (w r
-    (c.loop-i.invariant.records ∙ e)))))
+    (λ w r e. front_all (nodes_of (form_of_view node) r) n i end c.args.out.now.items c.places.out.items c.walk_tree-2.new.out.items
+    (c.places.invariant.walked r e)
+    (subst (λ x. WalksTree (nodes_of (form_of_view node) r) x c.places.out.items c.walk_tree-2.new.out.items) last
+    (subst (λ k. WalksTree (nodes_of k r) c.child-last.result c.places.out.items c.walk_tree-2.new.out.items) c.form-2.ensures (w r
+    (c.places.invariant.records ∙ e)))))
     c.walk_tree-2.ensures.walked
 
 pub walk_node-returns-clause-own : goal.walk_node-returns-clause-own
 walk_node-returns-clause-own g t c =
     let node = c.args.node.now in
     OnOk-map c.walk_tree-2.result
-    (λ own h. subst (λ k. Each (IsOwnEntry k) c.loop-i.out.items → Each (IsOwnEntry k) c.walk_tree-2.new.out.items) c.form-2.ensures own
-    (c.loop-i.invariant.own h))
+    (λ own h. subst (λ k. Each (IsOwnEntry k) c.places.out.items → Each (IsOwnEntry k) c.walk_tree-2.new.out.items) c.form-2.ensures own
+    (c.places.invariant.own h))
     c.walk_tree-2.ensures.own
 
 pub walk_node-returns-clause-reads : goal.walk_node-returns-clause-reads
 walk_node-returns-clause-reads g t c =
     let node = c.args.node.now in
     let n : Node = node_of_view node in
-    let all : c.entries.result ≡ c.loop-i.i = omega
-    (arith, c.loop-i-test.false, c.entries.ensures, c.entries-i-end.ensures, c.loop-i.auto.i-end) in
-    let end : c.loop-i.i ≡ length n.entries = omega (arith, all, c.entries.ensures) in
-    let child : c.child-2.result ≡ child_from n.entries n.last c.loop-i.i = c.child-2.ensures ∙ ap (child_from n.entries n.last) all in
+    let i = number_of c.places.place in
+    let end : i ≡ length n.entries = more_in _ _ c.places.invariant.view i (c.has_key.ensures.last c.places-test.false) in
+    let last = child_in _ _ c.places.invariant.view i c.child-last.result c.child-last.ensures in
     OnOk-map c.walk_tree-2.result
-    (λ w r e. costs_all 1 (nodes_of (form_of_view node) r) n c.loop-i.i end (g.B.Blocks.reads c.args.blocks.now)
-    (g.B.Blocks.reads c.loop-i.blocks) (g.B.Blocks.reads c.walk_tree-2.new.blocks) (c.loop-i.invariant.reads r e)
-    (subst (λ x. CostsTree 1 (nodes_of (form_of_view node) r) x (g.B.Blocks.reads c.loop-i.blocks)
-    (g.B.Blocks.reads c.walk_tree-2.new.blocks)) child
-    (subst (λ k. CostsTree 1 (nodes_of k r) c.child-2.result (g.B.Blocks.reads c.loop-i.blocks)
-    (g.B.Blocks.reads c.walk_tree-2.new.blocks)) c.form-2.ensures (w r (c.loop-i.invariant.records ∙ e)))))
+    (λ w r e. costs_all 1 (nodes_of (form_of_view node) r) n i end (g.B.Blocks.reads c.args.blocks.now)
+    (g.B.Blocks.reads c.places.blocks) (g.B.Blocks.reads c.walk_tree-2.new.blocks) (c.places.invariant.reads r e)
+    (subst (λ x. CostsTree 1 (nodes_of (form_of_view node) r) x (g.B.Blocks.reads c.places.blocks)
+    (g.B.Blocks.reads c.walk_tree-2.new.blocks)) last
+    (subst (λ k. CostsTree 1 (nodes_of k r) c.child-last.result (g.B.Blocks.reads c.places.blocks)
+    (g.B.Blocks.reads c.walk_tree-2.new.blocks)) c.form-2.ensures (w r (c.places.invariant.records ∙ e)))))
     c.walk_tree-2.ensures.reads
 
 pub walk_node-returns-clause-fetched : goal.walk_node-returns-clause-fetched
 walk_node-returns-clause-fetched g t c =
     let node = c.args.node.now in
     let n : Node = node_of_view node in
-    let all : c.entries.result ≡ c.loop-i.i = omega
-    (arith, c.loop-i-test.false, c.entries.ensures, c.entries-i-end.ensures, c.loop-i.auto.i-end) in
-    let end : c.loop-i.i ≡ length n.entries = omega (arith, all, c.entries.ensures) in
-    let child : c.child-2.result ≡ child_from n.entries n.last c.loop-i.i = c.child-2.ensures ∙ ap (child_from n.entries n.last) all in
+    let i = number_of c.places.place in
+    let end : i ≡ length n.entries = more_in _ _ c.places.invariant.view i (c.has_key.ensures.last c.places-test.false) in
+    let last = child_in _ _ c.places.invariant.view i c.child-last.result c.child-last.ensures in
     OnOk-map c.walk_tree-2.result
-    (λ w r e. costs_all 8 (nodes_of (form_of_view node) r) n c.loop-i.i end (g.B.Blocks.fetched c.args.blocks.now)
-    (g.B.Blocks.fetched c.loop-i.blocks) (g.B.Blocks.fetched c.walk_tree-2.new.blocks) (c.loop-i.invariant.fetched r e)
-    (subst (λ x. CostsTree 8 (nodes_of (form_of_view node) r) x (g.B.Blocks.fetched c.loop-i.blocks)
-    (g.B.Blocks.fetched c.walk_tree-2.new.blocks)) child
-    (subst (λ k. CostsTree 8 (nodes_of k r) c.child-2.result (g.B.Blocks.fetched c.loop-i.blocks)
-    (g.B.Blocks.fetched c.walk_tree-2.new.blocks)) c.form-2.ensures (w r (c.loop-i.invariant.records ∙ e)))))
+    (λ w r e. costs_all 8 (nodes_of (form_of_view node) r) n i end (g.B.Blocks.fetched c.args.blocks.now)
+    (g.B.Blocks.fetched c.places.blocks) (g.B.Blocks.fetched c.walk_tree-2.new.blocks) (c.places.invariant.fetched r e)
+    (subst (λ x. CostsTree 8 (nodes_of (form_of_view node) r) x (g.B.Blocks.fetched c.places.blocks)
+    (g.B.Blocks.fetched c.walk_tree-2.new.blocks)) last
+    (subst (λ k. CostsTree 8 (nodes_of k r) c.child-last.result (g.B.Blocks.fetched c.places.blocks)
+    (g.B.Blocks.fetched c.walk_tree-2.new.blocks)) c.form-2.ensures (w r (c.places.invariant.records ∙ e)))))
     c.walk_tree-2.ensures.fetched
 
 pub walk_tree-returns-then-level-eq0-clause-walked : goal.walk_tree-returns-then-level-eq0-clause-walked
