@@ -1,6 +1,6 @@
 -- The attributes of a file that is held beside its parts, one by one.
-use Rattle.std.proofs.Common.{◌≡◌, ◌&&◌, ◌+◌, ℕ, zero, suc, Bool, true, false, cond, List, [], ◌∷◌, ◌++◌, length, map, drop, Option, Some, None, refl, sym, ap, subst, ◌∙◌, arith}
-use Rattle.std.specs.Prelude.{IfNone, IfSome, filter, find, is_some, slice_get}
+use Rattle.std.proofs.Common.{◌≡◌, ◌&&◌, ◌+◌, ℕ, zero, suc, Bool, true, false, cond, List, [], ◌∷◌, ◌++◌, length, map, drop, Some, refl, sym, ap, subst, ◌∙◌, arith}
+use Rattle.std.specs.Prelude.{filter, find, slice_get}
 use Rattle.std.specs.List.{flat_map}
 use Rattle.std.proofs.lemmas.List.{drop_all}
 use Rattle.ntfs_def.specs.Attribute.{Attribute, Body, NonResident, Resident, attributes, value_of}
@@ -74,7 +74,7 @@ find-later p part ps e = ap (λ b. cond b (Some part) (find p ps)) e
 
 -- The values of the parts of a type and name, by the attributes.
 
-body-value : (body : Body) → content_value (content_of body) ≡ value_of body
+pub body-value : (body : Body) → content_value (content_of body) ≡ value_of body
 body-value (Resident value) = refl
 body-value (NonResident extent text) = refl
 
@@ -103,39 +103,3 @@ file-values kind name file = held-values kind name (attributes_held file) (parts
 
 abbrev pub of_name : ℕ → List ℕ → Attribute → Bool
 of_name kind name a = is_of kind name (part_of 0 a)
-
-abbrev pub values_held : FileParts → ℕ → List ℕ → List (Option (List ℕ))
-values_held file kind name = map (λ (part : Part). content_value part.content) (attribute_held file kind name)
-
--- none of them, one, or several
-module _ (file : FileParts) (kind : ℕ) (name : List ℕ) (left : List Attribute) (all : left ≡ attributes_held file) where
-  values-left : values_held file kind name ≡ map (λ (a : Attribute). value_of a.body) (filter (of_name kind name) left)
-  values-left =
-      file-values kind name file ∙ ap (λ xs. map (λ (a : Attribute). value_of a.body) (filter (of_name kind name) xs)) (sym all)
-
-  pub values-none : filter (of_name kind name) left ≡ [] → (value : List ℕ) → ¬ (values_held file kind name ≡ Some value ∷ [])
-  values-none none value is =
-      let f : [] ≡ Some value ∷ [] = sym (values-left ∙ ap (map (λ (a : Attribute). value_of a.body)) none) ∙ is in absurd (cc)
-
-  pub values-one : (a : Attribute) → filter (of_name kind name) left ≡ a ∷ [] → values_held file kind name ≡ value_of a.body ∷ []
-  values-one a one = values-left ∙ ap (map (λ (a : Attribute). value_of a.body)) one
-
-  pub values-two : (a b : Attribute) (rest : List Attribute) → filter (of_name kind name) left ≡ a ∷ b ∷ rest
-      → (value : List ℕ) → ¬ (values_held file kind name ≡ Some value ∷ [])
-  values-two a b rest two value is =
-      let f : value_of a.body ∷ value_of b.body ∷ map (λ (x : Attribute). value_of x.body) rest ≡ Some value ∷ [] =
-      sym (values-left ∙ ap (map (λ (a : Attribute). value_of a.body)) two) ∙ is in
-      absurd (cc)
-
-pub some-first : {X : Type 0} (f : X → Attribute) (xs rest : List Attribute) (o : Option X) → is_some o ≡ true
-    → IfSome o (λ found. xs ≡ f found ∷ rest) → (a : Attribute) × (xs ≡ a ∷ rest)
-some-first f xs rest None some is = cc
-some-first f xs rest (Some x) some is = (f x, is)
-
-pub none-left : {X : Type 0} (P : Type 0) (o : Option X) → is_some o ≡ false → IfNone o P → P
-none-left P None none p = p
-none-left P (Some x) none p = cc
-
-pub if-none : {X : Type 0} (P : Type 0) (o : Option X) → P → IfNone o P
-if-none P None p = p
-if-none P (Some x) p = tt

@@ -1,15 +1,20 @@
 -- An attribute that is found among those of a file, and the part that it is.
 use Rattle.std.proofs.Common.{cond, leb, subst, ◌≡◌, ◌≤◌, ℕ, ◌&&◌, Bool, true, false, List, [], ◌∷◌, ◌++◌, Option, Some, None, refl, sym, ap, ◌∙◌}
-use Rattle.std.specs.Prelude.{find, map, flat_map}
+use Rattle.std.specs.Prelude.{IfNone, IfSome, IsSomeAnd, find, map, flat_map, slice_get}
+use Rattle.std.specs.List.{Contains}
+use Rattle.std.specs.Option.{option_map}
 use Rattle.std.proofs.lemmas.Bool.{leb-true}
+use Rattle.std.proofs.lemmas.Option.{get_or_from_slice_get, slice_get_within}
 use Rattle.ntfs_def.specs.Attribute.{Attribute, Body, ExtentHeader, NonResident, Resident, attributes}
 use Rattle.volume_def.specs.Files.{Part, content_of, content_extent, is_of, part_of}
 use Rattle.volume_def.specs.Spans.{is_within, spans_vcn}
 use Rattle.volume_def.proofs.FindLaws.{find-filter, find-found}
+use Rattle.volume_def.proofs.MemberLaws.{Contains-filter}
 use Rattle.file_record.specs.declared.parts.FileParts.{FileParts}
 use Rattle.file_record.specs.declared.held.Held.{Held}
 use Rattle.file_record.specs.Held.{attributes_held, attributes_in, held_of, parts_held, parts_of}
-use Rattle.attr_store.specs.Sought.{parts_held_like, spans_like}
+use Rattle.attr_store.specs.Sought.{IsAmong, IsExtentAt, parts_held_like, spans_named}
+use Rattle.attr_store.proofs.Values.{like-itself}
 
 -- The part is the attribute, as some record holds it; or neither is there.
 abbrev pub IsFoundAs : Option Attribute → Option Part → Type 0
@@ -54,19 +59,51 @@ found-some (Some b) (Some part) a (n, same) is = let e : b ≡ a = cc in (n, ap 
 -- What is found among the attributes is found among the parts of the type and name.
 
 among-held : (file : FileParts) (wanted : Attribute) (vcn : ℕ)
-    → IsFoundAs (find (spans_like wanted vcn) (attributes_held file)) (find (spans_vcn vcn) (parts_held_like file wanted))
+    → IsFoundAs (find (spans_named wanted.kind wanted.name vcn) (attributes_held file)) (find (spans_vcn vcn) (parts_held_like file wanted))
 among-held file wanted vcn =
-    subst (IsFoundAs (find (spans_like wanted vcn) (attributes_held file)))
+    subst (IsFoundAs (find (spans_named wanted.kind wanted.name vcn) (attributes_held file)))
     (sym (find-filter (spans_vcn vcn) (is_of wanted.kind wanted.name) (parts_held file)))
-    (found-held (λ part. is_of wanted.kind wanted.name part && spans_vcn vcn part) (spans_like wanted vcn) (λ n a. refl) (held_of file))
+    (found-held (λ part. is_of wanted.kind wanted.name part && spans_vcn vcn part) (spans_named wanted.kind wanted.name vcn) (λ n a. refl)
+    (held_of file))
 
-pub held-none : (file : FileParts) (wanted : Attribute) (vcn : ℕ) → find (spans_like wanted vcn) (attributes_held file) ≡ None
-    → find (spans_vcn vcn) (parts_held_like file wanted) ≡ None
-held-none file wanted vcn is = found-none _ _ (among-held file wanted vcn) is
+held-extent : (file : FileParts) (wanted a : Attribute) (vcn : ℕ)
+    → find (spans_named wanted.kind wanted.name vcn) (attributes_held file) ≡ Some a → IsExtentAt file wanted vcn a
+held-extent file wanted a vcn is =
+    let (n, part) = found-some _ _ a (among-held file wanted vcn) is in
+    let found = find-found (spans_vcn vcn) (parts_held_like file wanted) (part_of n a) part in
+    record { holder = n; among = found.0; spans = found.1 }
 
-pub held-some : (file : FileParts) (wanted a : Attribute) (vcn : ℕ) → find (spans_like wanted vcn) (attributes_held file) ≡ Some a
-    → (n : ℕ) × (find (spans_vcn vcn) (parts_held_like file wanted) ≡ Some (part_of n a))
-held-some file wanted a vcn is = found-some _ _ a (among-held file wanted vcn) is
+pub held-found : {X : Type 0} (f : X → Attribute) (file : FileParts) (wanted : Attribute) (vcn : ℕ) (o : Option X)
+    → option_map f o ≡ find (spans_named wanted.kind wanted.name vcn) (attributes_held file)
+    → IfSome o (λ x. IsExtentAt file wanted vcn (f x))
+held-found f file wanted vcn None is = tt
+held-found f file wanted vcn (Some x) is = held-extent file wanted (f x) vcn (sym is)
+
+pub held-unfound : {X : Type 0} (f : X → Attribute) (file : FileParts) (wanted : Attribute) (vcn : ℕ) (o : Option X)
+    → option_map f o ≡ find (spans_named wanted.kind wanted.name vcn) (attributes_held file)
+    → IfNone o (find (spans_vcn vcn) (parts_held_like file wanted) ≡ None)
+held-unfound f file wanted vcn None is = found-none _ _ (among-held file wanted vcn) (sym is)
+held-unfound f file wanted vcn (Some x) is = tt
+
+-- an attribute of the file that tells so itself
+pub own-extent : (file : FileParts) (wanted : Attribute) (vcn : ℕ) → IsAmong file wanted → spans_vcn vcn (part_of 0 wanted) ≡ true
+    → IsExtentAt file wanted vcn wanted
+own-extent file wanted vcn (n, among) spans = record {
+  holder = n;
+  among = Contains-filter (is_of wanted.kind wanted.name) (parts_held file) (part_of n wanted) among (like-itself (part_of n wanted));
+  spans = spans;
+}
+
+among-by : (parts : List Part) (i : ℕ) (a : Attribute) (o : Option Part) → slice_get parts i ≡ o
+    → IsSomeAnd o (λ part. part ≡ part_of part.holder a) → (holder : ℕ) × Contains parts (part_of holder a)
+among-by parts i a None there h = absurd h
+among-by parts i a (Some part) there h =
+    (part.holder, subst (Contains parts) h (i, slice_get_within parts i part there, get_or_from_slice_get parts i part part there))
+
+-- the attribute at a place of the file is one of it
+pub among-place : (file : FileParts) (i : ℕ) (a : Attribute)
+    → IsSomeAnd (slice_get (parts_held file) i) (λ part. part ≡ part_of part.holder a) → IsAmong file a
+among-place file i a found = among-by (parts_held file) i a (slice_get (parts_held file) i) refl found
 
 -- What its header tells.
 
@@ -82,9 +119,3 @@ body-spans (Resident value) vcn is = cc
 body-spans (NonResident extent text) vcn is =
     let both = both-true (leb extent.sizes.first vcn) (leb vcn extent.sizes.last) is in
     (extent, text, refl, leb-true extent.sizes.first vcn both.0, leb-true vcn extent.sizes.last both.1)
-
-pub held-spans : (file : FileParts) (wanted a : Attribute) (vcn : ℕ) → find (spans_like wanted vcn) (attributes_held file) ≡ Some a
-    → is_within vcn (content_extent (content_of a.body)) ≡ true
-held-spans file wanted a vcn is =
-    (both-true (is_of wanted.kind wanted.name (part_of 0 a)) (spans_vcn vcn (part_of 0 a))
-    (find-found (spans_like wanted vcn) (attributes_held file) a is).1).1

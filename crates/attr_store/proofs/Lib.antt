@@ -11,3 +11,4 @@ pub mod Values
 pub mod HeldIndexLaws
 pub mod ToldLaws
 pub mod UsedRecord
+pub mod SeenLaws

@@ -19,7 +19,6 @@ use Rattle.volume_def.specs.Values.{byte_there, first_vcn_of, holds_vcn, pieces_
 use Rattle.volume_def.proofs.Codes.{part_code}
 use Rattle.volume_def.proofs.CodedLaws.{SameItems-Contains}
 use Rattle.volume_def.proofs.ExtentLaws.{spot_at-part}
-use Rattle.volume_def.proofs.FindLaws.{find-found}
 use Rattle.volume_def.proofs.MemberLaws.{Contains-nil, Contains-only}
 use Rattle.volume_def.proofs.SpanLaws.{several-cover, spot-spans, whole-spans}
 use Rattle.mft_table.proofs.StreamBytes.{bytes-same, bytes-zero}
@@ -76,14 +75,14 @@ both-trues : (b c : Bool) → b ≡ true → c ≡ true → (b && c) ≡ true
 both-trues true c b is = is
 both-trues false c b is = cc
 
--- The same bytes, by the extent that is found for byte `at`.
+-- The same bytes, by an extent that holds byte `at`.
 pub extent-bytes : (cluster : ℕ → List ℕ) (size f at n k : ℕ) (extents : List Part) (a : Attribute) (extent : ExtentHeader) (text : List ℕ)
     → 0 < size → AreAttribute size f extents → a.body ≡ NonResident extent text
-    → find (spans_vcn (at / size)) extents ≡ Some (part_of k a)
+    → Contains extents (part_of k a)
     → extent.sizes.first ≤ at / size → n ≤ (extent.sizes.last + 1) * size - at
     → stored_bytes cluster size (spot_in_text extent.sizes.first text) at n ≡ stored_bytes cluster size (spot_at extents) at n
 unfolding stored_bytes
-extent-bytes cluster size f at n k extents a extent text some s body found begins fits =
+extent-bytes cluster size f at n k extents a extent text some s body among begins fits =
     bytes-same (stored_byte cluster size (spot_in_text extent.sizes.first text)) (stored_byte cluster size (spot_at extents)) at at n (λ j lt.
     let vcn = (at + j) / size in
     let inside : vcn < extent.sizes.last + 1 = (div-lt_iff_lt-mul some).1 (omega arith) in
@@ -92,7 +91,7 @@ extent-bytes cluster size f at n k extents a extent text some s body found begin
     both-trues (leb extent.sizes.first vcn) (leb vcn extent.sizes.last)
     (le-leb extent.sizes.first vcn (omega arith)) (le-leb vcn extent.sizes.last (omega arith)) in
     let its = ap (λ body. is_within vcn (content_extent (content_of body))) body ∙ spans in
-    let lies = spot-extent size f extents (part_of k a) vcn s (find-found (spans_vcn (at / size)) extents (part_of k a) found).0 its in
+    let lies = spot-extent size f extents (part_of k a) vcn s among its in
     let told = ap (λ body. spot_of (unwrap_or (content_runs (content_of body)) []) (vcn - first_vcn_of (content_of body))) body in
     ap (λ spot. byte_there cluster spot ((at + j) % size)) (sym (lies ∙ told)))
 

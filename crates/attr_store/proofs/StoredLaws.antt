@@ -29,16 +29,16 @@ use Rattle.attr_store.specs.declared.index.Stored.{Stored}
 use Rattle.attr_store.specs.Index.{IsStored, attribute_held}
 use Rattle.attr_store.specs.Sought.{parts_held_like, spot_in_text}
 use Rattle.attr_store.proofs.Found.{both-true}
+use Rattle.attr_store.proofs.Spanned.{spot-extent}
 
 -- Where clusters lie, by the extent that is found.
 
 pub found-spot : (size f n : ℕ) (extents : List Part) (a : Attribute) (vcn : ℕ) (extent : ExtentHeader) (text : List ℕ)
-    → AreAttribute size f extents → a.body ≡ NonResident extent text → find (spans_vcn vcn) extents ≡ Some (part_of n a)
+    → AreAttribute size f extents → a.body ≡ NonResident extent text → Contains extents (part_of n a) → spans_vcn vcn (part_of n a) ≡ true
     → spot_in_text extent.sizes.first text vcn ≡ spot_at extents vcn
-found-spot size f n extents a vcn extent text s body found =
-    sym (ap (λ o. spot_by o vcn) found
+found-spot size f n extents a vcn extent text s body among spans =
+    sym (spot-extent size f extents (part_of n a) vcn s among spans
     ∙ ap (λ body. spot_of (unwrap_or (content_runs (content_of body)) []) (vcn - first_vcn_of (content_of body))) body)
-    ∙ spot-spans size f extents vcn s
 
 pub unheld-spot : (size f : ℕ) (extents : List Part) (vcn : ℕ) → AreAttribute size f extents → find (spans_vcn vcn) extents ≡ None
     → Outside ≡ spot_at extents vcn

@@ -31,3 +31,8 @@ module _ (view : VolumeView) (index : IndexParts) (vcn : ℕ) (some : 0 < cluste
       → opened ≡ true → index_record_on view index vcn ≡ Some new
   used-opens true new (opens, told) e = record-there view index vcn some used-there ∙ ap Some (sym told)
   used-opens false new told e = let f : false ≡ true = e in cc
+
+  -- what was read opens as the record
+  pub used-read : (opened : Bool) (new : List ℕ) → TellsOpened (stored_index_record view index vcn) vcn opened new
+      → index_record_on view index vcn ≡ Some new
+  used-read opened new told = used-opens opened new told (used-opened opened new told)

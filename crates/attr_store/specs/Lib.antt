@@ -1,5 +1,6 @@
 pub mod Sought
 pub mod Index
+pub mod Seen
 pub mod IndexRecords
 pub mod InUse
 pub mod IndexBlocks

@@ -1,14 +1,14 @@
 //! The extents of an attribute, sought among all attributes of its file.
-ghost use Rattle.std.specs.Prelude.{◌≡◌, ℕ, List, find};
+ghost use Rattle.std.specs.Prelude.{◌≡◌, ℕ, IfNone, IfSome, List, None, find};
 ghost use Rattle.std.specs.Option.{option_map};
 ghost use Rattle.ntfs_def.specs.Attribute.{ExtentHeader, NonResident};
 ghost use Rattle.attr_view.specs.View.{attribute_of};
 ghost use Rattle.volume_def.specs.Files.{content_extent, part_of};
 ghost use Rattle.volume_def.specs.Spans.{is_within, spans_vcn};
-ghost use Rattle.file_record.specs.Held.{attributes_held};
 ghost use Rattle.file_record.specs.Left.{attributes_left};
-ghost use Rattle.attr_store.specs.Sought.{is_like, spans_like};
+ghost use Rattle.attr_store.specs.Sought.{IsAmong, IsExtentAt, parts_held_like, spans_named};
 
+use crate::first::is_of;
 use attr_view::{AttrView, Sizes};
 use file_record::{FileAttributes, FileParts};
 
@@ -40,16 +40,9 @@ pub fn extent_text<'r>(attribute: &AttrView<'r>) -> &'r [u8]
     }
 }
 
-// Whether two attributes are of one type and name.
-fn is_like(attribute: &AttrView<'_>, wanted: &AttrView<'_>) -> bool
-    ensures { result ≡ is_like (attribute_of wanted.now) (attribute_of attribute.now) }
-{
-    attribute.kind() == wanted.kind() && attribute.name() == wanted.name()
-}
-
 // Whether the header of an attribute tells that it holds a cluster of its stream.
 fn spans_vcn(attribute: &AttrView<'_>, vcn: u64) -> bool
-    ensures { result ≡ spans_vcn vcn (part_of 0 (attribute_of attribute.now)) }
+    ensures { (n : ℕ) → result ≡ spans_vcn vcn (part_of n (attribute_of attribute.now)) }
 {
     match attribute.sizes() {
         Some(sizes) => sizes.first <= vcn && vcn <= sizes.last,
@@ -57,32 +50,40 @@ fn spans_vcn(attribute: &AttrView<'_>, vcn: u64) -> bool
     }
 }
 
-fn is_sought(attribute: &AttrView<'_>, wanted: &AttrView<'_>, vcn: u64) -> bool
-    ensures { result ≡ spans_like (attribute_of wanted.now) vcn (attribute_of attribute.now) }
+// Whether an attribute is of a type and name, and its header tells so.
+fn is_sought(attribute: &AttrView<'_>, kind: u32, name: &[u8], vcn: u64) -> bool
+    ensures { result ≡ spans_named kind name.now vcn (attribute_of attribute.now) }
 {
-    is_like(attribute, wanted) && spans_vcn(attribute, vcn)
+    is_of(attribute, kind, name) && spans_vcn(attribute, vcn)
 }
 
 // The next one among the attributes that are left.
 fn next_extent<'f>(
     attributes: &mut FileAttributes<'f>,
-    wanted: &AttrView<'_>,
+    kind: u32,
+    name: &[u8],
     vcn: u64,
 ) -> Option<AttrView<'f>>
-    ensures { option_map attribute_of result ≡ find (spans_like (attribute_of wanted.now) vcn) (attributes_left attributes.old) }
+    ensures { option_map attribute_of result ≡ find (spans_named kind name.now vcn) (attributes_left attributes.old) }
 {
     while let Some(attribute) = attributes.next() {
-        if is_sought(&attribute, wanted, vcn) {
+        if is_sought(&attribute, kind, name, vcn) {
             return Some(attribute);
         }
     }
     None
 }
 
-/// The first extent of the type and name of an attribute whose header tells that it holds a cluster of the stream.
-pub fn find_extent<'f>(file: &'f FileParts, wanted: &AttrView<'_>, vcn: u64) -> Option<AttrView<'f>>
-    ensures { option_map attribute_of result ≡ find (spans_like (attribute_of wanted.now) vcn) (attributes_held file.now) }
+/// An extent of the type and name of an attribute whose header tells that it holds a cluster of the stream: the attribute
+/// itself where it does, and otherwise the first one of its file. `None` exactly where there is none.
+pub fn find_extent<'f>(file: &'f FileParts, wanted: &AttrView<'f>, vcn: u64) -> Option<AttrView<'f>>
+    requires among { IsAmong file.now (attribute_of wanted.now) }
+    ensures some { IfSome result (λ found. IsExtentAt file.now (attribute_of wanted.now) vcn (attribute_of found)) }
+    ensures none { IfNone result (find (spans_vcn vcn) (parts_held_like file.now (attribute_of wanted.now)) ≡ None) }
 {
+    if spans_vcn(wanted, vcn) {
+        return Some(*wanted);
+    }
     let mut attributes = file.attributes();
-    next_extent(&mut attributes, wanted, vcn)
+    next_extent(&mut attributes, wanted.kind(), wanted.name(), vcn)
 }

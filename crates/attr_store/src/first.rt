@@ -1,11 +1,13 @@
 //! The part of an attribute that tells its sizes, sought by type and name among all parts of its file.
-ghost use Rattle.std.specs.Prelude.{◌≡◌, ℕ};
+ghost use Rattle.std.specs.Prelude.{◌≡◌, ◌∷◌, ◌&&◌, ℕ, List, None, Some, slice_get};
 ghost use Rattle.attr_view.specs.View.{attribute_of};
 ghost use Rattle.volume_def.specs.BitmapClauses.{written_in};
-ghost use Rattle.volume_def.specs.Files.{content_of, is_of, part_of};
+ghost use Rattle.volume_def.specs.Files.{Part, content_of, is_of, part_of};
 ghost use Rattle.volume_def.specs.StreamSize.{real_size};
 ghost use Rattle.volume_def.specs.Values.{is_first};
+ghost use Rattle.file_record.specs.Held.{parts_held};
 ghost use Rattle.attr_store.specs.Index.{TellsFirst};
+ghost use Rattle.attr_store.specs.Seen.{FirstSeen};
 
 use attr_view::AttrView;
 use file_record::FileParts;
@@ -31,8 +33,9 @@ pub fn is_of(attribute: &AttrView<'_>, kind: u32, name: &[u8]) -> bool
     attribute.kind() == kind && attribute.name() == name
 }
 
-// Whether an attribute tells the sizes of a stream: it is a value, or begins with cluster 0.
-fn is_first(attribute: &AttrView<'_>) -> bool
+/// Whether an attribute tells the sizes of what it is a part of: it is a value, or the extent that begins with cluster 0 of
+/// its stream.
+pub fn is_first(attribute: &AttrView<'_>) -> bool
     ensures { (n : ℕ) → result ≡ is_first (part_of n (attribute_of attribute.now)) }
 {
     match attribute.sizes() {
@@ -41,8 +44,8 @@ fn is_first(attribute: &AttrView<'_>) -> bool
     }
 }
 
-// The bytes of the value.
-fn real_size(attribute: &AttrView<'_>) -> u64
+/// The bytes of the value of an attribute that is a value or tells its sizes.
+pub fn real_size(attribute: &AttrView<'_>) -> u64
     ensures { result ≡ real_size (content_of (attribute_of attribute.now).body) }
 {
     match attribute.sizes() {
@@ -61,6 +64,38 @@ fn written_size(attribute: &AttrView<'_>) -> u64
     }
 }
 
+// Whether an attribute tells the sizes of the attribute of a type and name.
+fn tells_sizes(attribute: &AttrView<'_>, kind: u32, name: &[u8]) -> bool
+    ensures { (n : ℕ) → result ≡ (is_of kind name.now (part_of n (attribute_of attribute.now))
+        && is_first (part_of n (attribute_of attribute.now))) }
+{
+    is_of(attribute, kind, name) && is_first(attribute)
+}
+
+/// What an attribute tells, at its place among the parts of its file, of the sizes of the attribute of a type and name:
+/// `None` where it is of another one, and where it does not tell them.
+pub fn first_here(
+    attribute: &AttrView<'_>,
+    index: usize,
+    kind: u32,
+    name: &[u8],
+) -> Option<FirstPart>
+    ensures { (file : FileParts) (n : ℕ) (left : List Part)
+        → slice_get (parts_held file) index ≡ Some (part_of n (attribute_of attribute.now))
+        → FirstSeen file kind name.now (part_of n (attribute_of attribute.now) ∷ left) None
+        → FirstSeen file kind name.now left result }
+{
+    if !tells_sizes(attribute, kind, name) {
+        return None;
+    }
+    Some(FirstPart {
+        index,
+        packed: is_packed(attribute.kind(), attribute.flags()),
+        len: real_size(attribute),
+        written: written_size(attribute),
+    })
+}
+
 /// The part that tells the sizes of the attribute of a type and name, `None` where there is none.
 pub fn find_first(file: &FileParts, kind: u32, name: &[u8]) -> Option<FirstPart>
     ensures { TellsFirst file.now kind name.now result }
@@ -70,13 +105,8 @@ pub fn find_first(file: &FileParts, kind: u32, name: &[u8]) -> Option<FirstPart>
         let Some(attribute) = attributes.next() else {
             return None;
         };
-        if is_of(&attribute, kind, name) && is_first(&attribute) {
-            return Some(FirstPart {
-                index,
-                packed: is_packed(attribute.kind(), attribute.flags()),
-                len: real_size(&attribute),
-                written: written_size(&attribute),
-            });
+        if let Some(first) = first_here(&attribute, index, kind, name) {
+            return Some(first);
         }
     }
     None

@@ -10,7 +10,7 @@ ghost use Rattle.file_record.specs.FileNos.{CountsNo, IsReadNo};
 ghost use Rattle.file_record.specs.Held.{AreParts, file_number, parts_held};
 ghost use Rattle.attr_store.specs.Index.{IsFound, IsStored, attribute_held, index_held};
 ghost use Rattle.attr_store.specs.IndexRecords.{Fetches, TellsOpened, TellsPlace, are_placed, index_record_on, is_hole, record_clusters};
-ghost use Rattle.attr_store.specs.Sought.{parts_held_like, spot_in_text};
+ghost use Rattle.attr_store.specs.Sought.{IsAmong, parts_held_like, spot_in_text};
 
 use crate::extents::{extent_sizes, extent_text, find_extent};
 use crate::index::{FoundIndex, Stored};
@@ -60,6 +60,7 @@ fn spot_at(
     stream: &AttrView<'_>,
     vcn: u64,
 ) -> Result<Spot, AllocError>
+    requires among { IsAmong file.now (attribute_of stream.now) }
     ensures { IfOk result (λ spot. (size f : ℕ) → AreAttribute size f (parts_held_like file.now (attribute_of stream.now))
         → spot ≡ spot_at (parts_held_like file.now (attribute_of stream.now)) vcn) }
 {
@@ -80,7 +81,8 @@ fn are_placed(
     vcn: u64,
     count: u64,
 ) -> Result<bool, AllocError>
-    requires { vcn + count < 2 ^ 64 }
+    requires fits { vcn + count < 2 ^ 64 }
+    requires among { IsAmong file.now (attribute_of stream.now) }
     ensures { IfOk result (λ placed. (size f : ℕ) → AreAttribute size f (parts_held_like file.now (attribute_of stream.now))
         → placed ≡ are_placed (parts_held_like file.now (attribute_of stream.now)) vcn count) }
 {
@@ -188,6 +190,32 @@ fn opens_as(block: &mut [u8; 4096], vcn: u64) -> bool
     unseal(block).is_ok() && u64_at(block, 0x10) == vcn
 }
 
+// Reads the block at byte `at` of the records of an index, and opens it as the record of a number.
+fn read_opened<D: Disk>(
+    alloc: Global,
+    mft: &mut Mft<'_, D>,
+    file: &FileParts,
+    records: &Stored,
+    at: u64,
+    vcn: u64,
+    into: &mut [u8; 4096],
+) -> Result<bool, FileNo>
+    requires part { records.now.part < length (parts_held file.now) }
+    requires aligned { at % 4096 ≡ 0 }
+    ensures read { IfOk result (λ opened. WhereReadable (view D.Disk mft.old) (AreParts (view D.Disk mft.old) file.now
+        → IsFile (view D.Disk mft.old) (file_number file.now)
+        → (kind : ℕ) (name : List ℕ) → IsStored file.now kind name records.now → at + 4096 ≤ records.now.len
+        → TellsOpened (slice_range (value_on (view D.Disk mft.old) (attribute_held file.now kind name)) at (at + 4096)) vcn
+        opened into.new)) }
+    ensures err { IfErr result IsReadNo }
+    ensures faults { MatchResult result (λ _. faults_of D.Disk mft.new ≡ faults_of D.Disk mft.old)
+        (CountsNo (faults_of D.Disk mft.old) (faults_of D.Disk mft.new)) }
+    ensures reads { MftReads D.Disk mft.old mft.new 8 }
+{
+    read_stored(alloc, mft, file, records, at, into)?;
+    Ok(opens_as(into, vcn))
+}
+
 /// Reads the index record of a number (VCN, in clusters), opened; `false` where it is not there: where it does not lie
 /// whole in the index, a part of it lies in a hole, its bit is clear, it does not open, or it has another number. It
 /// reads nine sectors at most, whatever the disk holds.
@@ -222,8 +250,7 @@ pub fn read_index_record<D: Disk>(
     if !has_bit(alloc, mft, file, index, at / INDEX_RECORD as u64)? {
         return Ok(false);
     }
-    read_stored(alloc, mft, file, &records, at, into)?;
-    Ok(opens_as(into, vcn))
+    read_opened(alloc, mft, file, &records, at, vcn, into)
 }
 
 /// Reads the index record of a number (VCN, in clusters) that is there, opened. It reads eight sectors at most, whatever
@@ -257,11 +284,12 @@ pub fn read_used_record<D: Disk>(
     let Some(at) = record_place(vcn, mft.cluster_bytes(), records.len) else {
         return Ok(());
     };
-    let mut block = [0; 4096];
-    read_stored(alloc, mft, file, &records, at, &mut block)?;
-    if !opens_as(&mut block, vcn) {
-        return Ok(());
+    let before = *into;
+    match read_opened(alloc, mft, file, &records, at, vcn, into) {
+        Ok(_) => Ok(()),
+        Err(no) => {
+            *into = before;
+            Err(no)
+        }
     }
-    *into = block;
-    Ok(())
 }

@@ -8,10 +8,11 @@ mod index_blocks;
 mod index_record;
 mod laws;
 mod read;
+mod seen;
 #[cfg(test)]
 mod tests;
 
-pub use first::{FirstPart, find_first, is_of};
+pub use first::{FirstPart, find_first, is_first, is_of, real_size};
 pub use index::{FoundIndex, Stored, find_index};
 pub use index_blocks::IndexBlocks;
 pub use index_record::{read_index_record, read_used_record};

@@ -12,7 +12,7 @@ ghost use Rattle.mft_table.specs.Mft.{MftReads, faults_of, view};
 ghost use Rattle.mft_table.specs.Streams.{IsSeam};
 ghost use Rattle.file_record.specs.FileNos.{CountsNo, IsReadNo};
 ghost use Rattle.file_record.specs.Held.{AreParts, file_number, parts_held};
-ghost use Rattle.attr_store.specs.Sought.{parts_held_like, spot_in_text};
+ghost use Rattle.attr_store.specs.Sought.{IsAmong, parts_held_like, spot_in_text};
 
 use crate::extents::{extent_sizes, extent_text, find_extent};
 use attr_view::{AttrView, Sizes};
@@ -122,7 +122,8 @@ fn read_extent<D: Disk>(
     at: u64,
     into: &mut [u8],
 ) -> Result<usize, FileNo>
-    requires { at + length into.old < 2 ^ 64 }
+    requires fits { at + length into.old < 2 ^ 64 }
+    requires among { IsAmong file.now (attribute_of wanted.now) }
     ensures len { IfOk result (λ n. n ≤ length into.old) }
     ensures some { IfOk result (λ n. 0 < length into.old → 0 < n) }
     ensures cut { IfOk result (λ n. IsSeam at n (length into.old)) }
@@ -159,7 +160,8 @@ fn read_stored<D: Disk>(
     at: u64,
     into: &mut [u8],
 ) -> Result<(), FileNo>
-    requires { at + length into.old < 2 ^ 64 }
+    requires fits { at + length into.old < 2 ^ 64 }
+    requires among { IsAmong file.now (attribute_of wanted.now) }
     ensures read { OnOk result (IsTrue (view D.Disk mft.old).told → (f : ℕ)
         → AreAttribute (cluster_bytes (view D.Disk mft.old).layout) f (parts_held_like file.now (attribute_of wanted.now))
         → into.new ≡ stored_bytes (view D.Disk mft.old).cluster (cluster_bytes (view D.Disk mft.old).layout)
@@ -185,6 +187,7 @@ fn read_stored<D: Disk>(
 
 // The initialized size of the stream of an attribute, as its first extent tells it.
 fn initialized_size(file: &FileParts, wanted: &AttrView<'_>) -> u64
+    requires among { IsAmong file.now (attribute_of wanted.now) }
     ensures { (size f : ℕ) → AreAttribute size f (parts_held_like file.now (attribute_of wanted.now))
         → (extent : ExtentHeader) → IsFirstExtent (parts_held_like file.now (attribute_of wanted.now)) extent
         → (first : ExtentHeader) × IsFirstExtent (parts_held_like file.now (attribute_of wanted.now)) first
@@ -205,6 +208,7 @@ fn read_clusters<D: Disk>(
     at: u64,
     into: &mut [u8],
 ) -> Result<(), FileNo>
+    requires among { IsAmong file.now (attribute_of wanted.now) }
     ensures read { OnOk result (IsTrue (view D.Disk mft.old).told → (f : ℕ) (extent : ExtentHeader)
         → AreAttribute (cluster_bytes (view D.Disk mft.old).layout) f (parts_held_like file.now (attribute_of wanted.now))
         → IsFirstExtent (parts_held_like file.now (attribute_of wanted.now)) extent

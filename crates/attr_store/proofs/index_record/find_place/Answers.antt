@@ -3,9 +3,14 @@ use Rattle.attr_view.specs.View.{attribute_of}
 use Rattle.volume_def.specs.ExtentsClause.{AreAttribute}
 use Rattle.attr_store.specs.Index.{attribute_held}
 use Rattle.attr_store.specs.IndexRecords.{are_placed}
+use Rattle.attr_store.proofs.Found.{among-place}
 use Rattle.attr_store.proofs.RecordSteps.{lies-not, lies-whole}
 use Rattle.attr_store.proofs.StoredLaws.{stored-like}
 use Rattle.attr_store.proofs.index_record.find_place.Goals as goal
+
+pub are_placed-requires-clause-among : goal.are_placed-requires-clause-among
+are_placed-requires-clause-among c =
+    among-place c.args.file.now c.args.records.now.part (attribute_of c.attr-stream.result) c.attr-stream.ensures.part
 
 pub returns-then-not-branch-clause-place : goal.returns-then-not-branch-clause-place
 returns-then-not-branch-clause-place c kind name f s stream =

@@ -1,5 +1,6 @@
-use Rattle.std.proofs.Common.{◌≡◌, ◌≢◌, ◌+◌, ◌*◌, ◌≤◌, ℕ, List, length, sym, ap, subst, ◌∙◌, arith}
+use Rattle.std.proofs.Common.{◌≡◌, ◌≢◌, ◌+◌, ◌*◌, ◌≤◌, ℕ, List, sym, ap, subst, ◌∙◌, arith}
 use Rattle.std.specs.Prelude.{slice_range}
+use Rattle.std.proofs.lemmas.Result.{IfOk-weaker}
 use Rattle.ntfs_def.specs.declared.kinds.TheConstants.{FILE_NAME, INDEX_ALLOCATION}
 use Rattle.volume_def.specs.ExtentsClause.{AreAttribute}
 use Rattle.volume_def.specs.Readable.{IsFile, WhereReadable}
@@ -64,17 +65,15 @@ returns-then-not-branch-clause-found g c told readable are is_file =
     record-unmarked volume (index_held file name) c.args.vcn (omega arith) c.in-Some-2.at (is ∙ ap (λ k. c.args.vcn * k) size)
     (sym c.if-not-branch.true ∙ c.in_ok-has_bit.ensures.bit told readable are is_file)
 
-pub read_stored-requires : goal.read_stored-requires
-read_stored-requires g c =
+pub read_opened-requires-clause-part : goal.read_opened-requires-clause-part
+read_opened-requires-clause-part g c =
     let file = c.args.file.now in
     let name = c.args.index.now.name.now in
-    record {
-      part = stored-within file INDEX_ALLOCATION name c.in-Some.records
-          (subst (IsStoredIfThere file INDEX_ALLOCATION name) c.in-Some.is c.requires.records);
-    }
+    stored-within file INDEX_ALLOCATION name c.in-Some.records
+    (subst (IsStoredIfThere file INDEX_ALLOCATION name) c.in-Some.is c.requires.records)
 
 pub returns-clause-found : goal.returns-clause-found
-returns-clause-found g c told readable are is_file =
+returns-clause-found g c =
     let file = c.args.file.now in
     let name = c.args.index.now.name.now in
     let volume = view g.D.Disk c.args.mft.now in
@@ -83,24 +82,23 @@ returns-clause-found g c told readable are is_file =
     let vcn = c.args.vcn in
     let at = c.in-Some-2.at in
     let len = c.in-Some.records.len in
-    let bytes = length c.args.into.now in
+    let new = c.read_opened.new.into in
     let s = subst (IsStoredIfThere file INDEX_ALLOCATION name) c.in-Some.is c.requires.records in
     let f = file_number file in
     let size = c.cluster_bytes-size.ensures in
+    let kept = view-kept g.D.Disk c.args.mft.now c.has_bit.new.mft 1 c.in_ok-has_bit.ensures.reads in
+    IfOk-weaker c.read_opened.result _ _ (λ found read told readable are is_file.
     let stream = stored-stream file INDEX_ALLOCATION name c.in-Some.records s volume readable are is_file no-name in
     let place = c.in_ok-at.ensures.place INDEX_ALLOCATION name f s (subst (λ (k : ℕ). AreAttribute k f extents) (sym size) stream) in
     let (lies, is) = subst (TellsPlace extents c.cluster_bytes-size.result len vcn) c.in-Some-2.is place in
     let its : at ≡ vcn * cluster_bytes volume.layout = is ∙ ap (λ k. vcn * k) size in
     let whole = lies.whole in
-    let long : bytes ≡ 4096 = omega arith in
-    let kept = view-kept g.D.Disk c.args.mft.now c.has_bit.new.mft 1 c.in_ok-has_bit.ensures.reads in
     let reads = subst (λ (v : VolumeView). WhereReadable v (AreParts v file → IsFile v f
-    → (kind : ℕ) (name : List ℕ) → IsStored file kind name c.in-Some.records → at + bytes ≤ len
-    → c.read_stored.new.into ≡ slice_range (value_on v (attribute_held file kind name)) at (at + bytes))) kept c.in_ok-read_stored.ensures.read in
-    let read = reads told readable are is_file INDEX_ALLOCATION name s (omega (arith, is, whole, long)) in
-    let stored = read ∙ ap (λ n. slice_range value at (at + n)) long ∙ ap (λ n. slice_range value n (n + 4096)) its in
-    record-told volume (index_held file name) vcn (omega arith) len at c.opens_as.result c.opens_as.new.block
+    → (kind : ℕ) (name : List ℕ) → IsStored file kind name c.in-Some.records → at + 4096 ≤ len
+    → TellsOpened (slice_range (value_on v (attribute_held file kind name)) at (at + 4096)) vcn found new)) kept read in
+    let opened = reads told readable are is_file INDEX_ALLOCATION name s (omega (arith, is, whole)) in
+    record-told volume (index_held file name) vcn (omega arith) len at found new
     (stored-length volume file INDEX_ALLOCATION name c.in-Some.records s)
     (subst (λ (k : ℕ). LiesWhole extents k len vcn) size lies) its
     (sym c.if-not-branch.false ∙ c.in_ok-has_bit.ensures.bit told readable are is_file)
-    (subst (λ (b : List ℕ). TellsOpened b vcn c.opens_as.result c.opens_as.new.block) stored c.opens_as.ensures)
+    (subst (λ (n : ℕ). TellsOpened (slice_range value n (n + 4096)) vcn found new) its opened)) c.read_opened.ensures.read

@@ -1,4 +1,4 @@
-use Rattle.std.proofs.Common.{◌≡◌, ◌+◌, ◌*◌, ◌%◌, ◌≤◌, ◌<◌, ℕ, true, false, List, sym, ap, subst, ◌∙◌, arith}
+use Rattle.std.proofs.Common.{◌≡◌, ◌+◌, ◌*◌, ◌%◌, ◌≤◌, ℕ, ap, subst, ◌∙◌, arith}
 use Rattle.std.specs.Prelude.{slice_range}
 use Rattle.ntfs_def.specs.declared.kinds.TheConstants.{INDEX_ALLOCATION}
 use Rattle.volume_def.specs.Table.{cluster_bytes}
@@ -7,7 +7,7 @@ use Rattle.mft_table.specs.Mft.{view}
 use Rattle.attr_store.specs.Index.{IsStoredIfThere, attribute_held, index_held}
 use Rattle.attr_store.specs.IndexRecords.{TellsOpened}
 use Rattle.attr_store.proofs.StoredLaws.{stored-length, stored-within}
-use Rattle.attr_store.proofs.UsedRecord.{used-opened, used-opens, used-placed, used-stored}
+use Rattle.attr_store.proofs.UsedRecord.{used-placed, used-read, used-stored}
 use Rattle.attr_store.proofs.index_record.read_used_record.Goals as goal
 
 pub returns-in_default-clause-read : goal.returns-in_default-clause-read
@@ -28,46 +28,22 @@ returns-in_default-record_place-clause-read g c told readable are is_file used =
     (subst (λ (size : ℕ). c.args.vcn * size % 4096 ≡ 0 → c.args.vcn * size + 4096 ≤ c.in-Some.records.len → ⊥)
     c.cluster_bytes.ensures c.in_default-record_place.ensures.none))
 
-pub read_stored-requires : goal.read_stored-requires
-read_stored-requires g c =
+pub read_opened-requires-clause-part : goal.read_opened-requires-clause-part
+read_opened-requires-clause-part g c =
     let file = c.args.file.now in
     let name = c.args.index.now.name.now in
-    record {
-      part = stored-within file INDEX_ALLOCATION name c.in-Some.records
-          (subst (IsStoredIfThere file INDEX_ALLOCATION name) c.in-Some.is c.requires.records);
-    }
+    stored-within file INDEX_ALLOCATION name c.in-Some.records
+    (subst (IsStoredIfThere file INDEX_ALLOCATION name) c.in-Some.is c.requires.records)
 
-pub returns-then-not-opens_as-clause-read : goal.returns-then-not-opens_as-clause-read
-returns-then-not-opens_as-clause-read g c told readable are is_file used =
+pub returns-in-Ok-clause-read : goal.returns-in-Ok-clause-read
+returns-in-Ok-clause-read g c told readable are is_file used =
     let file = c.args.file.now in
     let name = c.args.index.now.name.now in
     let volume = view g.D.Disk c.args.mft.now in
     let value = value_on volume (attribute_held file INDEX_ALLOCATION name) in
-    let some : 0 < cluster_bytes volume.layout = omega (arith, c.args.mft.now.stands.table.some) in
-    let at = c.in-Some-record_place.at in
     let s = subst (IsStoredIfThere file INDEX_ALLOCATION name) c.in-Some.is c.requires.records in
     let (is, aligned, whole) = c.in-Some-record_place.ensures.some in
-    let its : at ≡ c.args.vcn * cluster_bytes volume.layout = is ∙ ap (λ k. c.args.vcn * k) c.cluster_bytes.ensures in
-    let read = c.in_ok-read_stored.ensures.read told readable are is_file INDEX_ALLOCATION name s whole in
-    let stored = read ∙ ap (λ n. slice_range value n (n + 4096)) its in
-    let opened = used-opened volume (index_held file name) c.args.vcn some used c.opens_as.result c.opens_as.new.block
-    (subst (λ (b : List ℕ). TellsOpened b c.args.vcn c.opens_as.result c.opens_as.new.block) stored c.opens_as.ensures) in
-    let never : false ≡ true = sym c.if-not-opens_as.true ∙ opened in
-    cc
-
-pub returns-clause-read : goal.returns-clause-read
-returns-clause-read g c told readable are is_file used =
-    let file = c.args.file.now in
-    let name = c.args.index.now.name.now in
-    let volume = view g.D.Disk c.args.mft.now in
-    let value = value_on volume (attribute_held file INDEX_ALLOCATION name) in
-    let some : 0 < cluster_bytes volume.layout = omega (arith, c.args.mft.now.stands.table.some) in
-    let at = c.in-Some-record_place.at in
-    let s = subst (IsStoredIfThere file INDEX_ALLOCATION name) c.in-Some.is c.requires.records in
-    let (is, aligned, whole) = c.in-Some-record_place.ensures.some in
-    let its : at ≡ c.args.vcn * cluster_bytes volume.layout = is ∙ ap (λ k. c.args.vcn * k) c.cluster_bytes.ensures in
-    let read = c.in_ok-read_stored.ensures.read told readable are is_file INDEX_ALLOCATION name s whole in
-    let stored = read ∙ ap (λ n. slice_range value n (n + 4096)) its in
-    used-opens volume (index_held file name) c.args.vcn some used c.opens_as.result c.opens_as.new.block
-    (subst (λ (b : List ℕ). TellsOpened b c.args.vcn c.opens_as.result c.opens_as.new.block) stored c.opens_as.ensures)
-    c.if-not-opens_as.false
+    let its : c.in-Some-record_place.at ≡ c.args.vcn * cluster_bytes volume.layout = is ∙ ap (λ k. c.args.vcn * k) c.cluster_bytes.ensures in
+    let opened = c.in-Ok.ensures.read told readable are is_file INDEX_ALLOCATION name s whole in
+    used-read volume (index_held file name) c.args.vcn (omega (arith, c.args.mft.now.stands.table.some)) used c.in-Ok.field-0 c.read_opened.new.into
+    (subst (λ (n : ℕ). TellsOpened (slice_range value n (n + 4096)) c.args.vcn c.in-Ok.field-0 c.read_opened.new.into) its opened)

@@ -1,4 +1,4 @@
-use Rattle.std.proofs.Common.{◌≤◌, ◌/◌, ◌++◌, drop, length, sym, ap, ◌∙◌, arith}
+use Rattle.std.proofs.Common.{◌≤◌, ◌/◌, ◌++◌, drop, length, ap, ◌∙◌, arith}
 use Rattle.std.proofs.lemmas.List.{length-take-le}
 use Rattle.std.proofs.lemmas.Result.{IfOk-weaker}
 use Rattle.attr_view.specs.View.{attribute_of}
@@ -6,7 +6,7 @@ use Rattle.volume_def.specs.Values.{pieces_touched}
 use Rattle.volume_def.specs.Table.{cluster_bytes}
 use Rattle.mft_table.specs.Mft.{MftReads, view}
 use Rattle.attr_store.proofs.Cases.{match-known, ok-both}
-use Rattle.attr_store.proofs.Found.{body-spans, held-none, held-some, held-spans}
+use Rattle.attr_store.proofs.Found.{body-spans}
 use Rattle.attr_store.proofs.FewerReads.{MftReads-less}
 use Rattle.attr_store.proofs.Spanned.{extent-bytes, seam-cluster, span-some, touched-le, unheld-bytes}
 use Rattle.attr_store.proofs.read.read_extent.Goals as goal
@@ -14,22 +14,22 @@ use Rattle.attr_store.proofs.read.read_extent.Goals as goal
 pub read_spanned-requires-clause-first : goal.read_spanned-requires-clause-first
 read_spanned-requires-clause-first g c =
     let a = attribute_of c.in-Some.extent in
-    let found = rw c.cluster_bytes-size.ensures at (sym c.in-Some.ensures) in
-    let (extent, text, body, first, last) = body-spans a.body _ (held-spans c.args.file.now (attribute_of c.args.wanted.now) a _ found) in
+    let found = rw c.cluster_bytes-size.ensures at c.in-Some.ensures.some in
+    let (extent, text, body, first, last) = body-spans a.body _ found.spans in
     rw (c.extent_sizes-sizes.ensures extent text body) first
 
 pub read_spanned-requires-clause-last : goal.read_spanned-requires-clause-last
 read_spanned-requires-clause-last g c =
     let a = attribute_of c.in-Some.extent in
-    let found = rw c.cluster_bytes-size.ensures at (sym c.in-Some.ensures) in
-    let (extent, text, body, first, last) = body-spans a.body _ (held-spans c.args.file.now (attribute_of c.args.wanted.now) a _ found) in
+    let found = rw c.cluster_bytes-size.ensures at c.in-Some.ensures.some in
+    let (extent, text, body, first, last) = body-spans a.body _ found.spans in
     rw (c.extent_sizes-sizes.ensures extent text body) last
 
 pub returns-in-Some-clause-some : goal.returns-in-Some-clause-some
 returns-in-Some-clause-some g c =
     let a = attribute_of c.in-Some.extent in
-    let found = rw c.cluster_bytes-size.ensures at (sym c.in-Some.ensures) in
-    let (extent, text, body, first, last) = body-spans a.body _ (held-spans c.args.file.now (attribute_of c.args.wanted.now) a _ found) in
+    let found = rw c.cluster_bytes-size.ensures at c.in-Some.ensures.some in
+    let (extent, text, body, first, last) = body-spans a.body _ found.spans in
     let size = cluster_bytes (view g.D.Disk c.args.mft.now).layout in
     let reach : c.args.at / size ≤ c.extent_sizes-sizes.result.last = rw (c.extent_sizes-sizes.ensures extent text body) last in
     IfOk-weaker c.read_spanned.result _ _
@@ -39,16 +39,14 @@ returns-in-Some-clause-some g c =
 pub returns-in-Some-clause-read : goal.returns-in-Some-clause-read
 returns-in-Some-clause-read g c =
     let a = attribute_of c.in-Some.extent in
-    let wanted = attribute_of c.args.wanted.now in
-    let found = rw c.cluster_bytes-size.ensures at (sym c.in-Some.ensures) in
-    let (extent, text, body, first, last) = body-spans a.body _ (held-spans c.args.file.now wanted a _ found) in
-    let (k, part) = held-some c.args.file.now wanted a _ found in
+    let found = rw c.cluster_bytes-size.ensures at c.in-Some.ensures.some in
+    let (extent, text, body, first, last) = body-spans a.body _ found.spans in
     let sizes = c.extent_sizes-sizes.ensures extent text body in
     let its = c.extent_text.ensures extent text body in
     ok-both c.read_spanned.result (λ n same read told f s.
     let fits = rw sizes at same in
     read told ∙ ap (λ xs. xs ++ drop n c.args.into.now) (rw (sizes, its)
-    (extent-bytes _ _ f c.args.at n k _ a extent text (omega arith) s body part first (omega (arith, fits)))))
+    (extent-bytes _ _ f c.args.at n found.holder _ a extent text (omega arith) s body found.among first (omega (arith, fits)))))
     c.read_spanned.ensures.len c.read_spanned.ensures.read
 
 pub returns-in-Some-clause-reads : goal.returns-in-Some-clause-reads
@@ -69,6 +67,6 @@ returns-in-None-clause-read g c told f s =
     let size = c.cluster_bytes-size.ensures in
     let is = rw size at c.spanned_len-len.ensures in
     let all = length-take-le n c.args.into.now (omega (arith, is)) in
-    let none = held-none c.args.file.now (attribute_of c.args.wanted.now) _ (rw size at (sym c.in-None.ensures)) in
+    let none = rw size at c.in-None.ensures.none in
     ap (λ xs. xs ++ drop n c.args.into.now) (rw all at (c.fill.ensures.after (λ y e. e))
     ∙ unheld-bytes _ _ f c.args.at n _ (omega arith) s none (omega (arith, is)))

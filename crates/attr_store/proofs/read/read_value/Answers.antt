@@ -2,8 +2,14 @@ use Rattle.std.proofs.Common.{length, sym}
 use Rattle.std.proofs.lemmas.Result.{on_ok_weaker}
 use Rattle.attr_view.specs.View.{attribute_of}
 use Rattle.mft_table.specs.Mft.{view}
+use Rattle.attr_store.proofs.Found.{among-place}
 use Rattle.attr_store.proofs.Values.{clusters-read}
 use Rattle.attr_store.proofs.read.read_value.Goals as goal
+
+pub read_clusters-requires : goal.read_clusters-requires
+read_clusters-requires g c = record {
+  among = among-place c.args.file.now c.args.i (attribute_of c.attr-attribute.result) c.attr-attribute.ensures.part;
+}
 
 pub returns-in-None-clause-read : goal.returns-in-None-clause-read
 returns-in-None-clause-read g c = on_ok_weaker c.read_clusters.result
