@@ -69,6 +69,10 @@ fn seek<'s>(streams: &'s [HeldStream], upcase: &UpCase, name: &[u16]) -> Option<
 
 /// The stream of a name: of exactly this name, else the first in name order whose units are the same by the table of case. The
 /// unnamed stream has the empty name.
+///
+/// # Errors
+///
+/// Want of memory alone.
 pub fn find_stream(
     alloc: Global,
     file: &FileParts,
@@ -91,6 +95,10 @@ pub fn find_stream(
 }
 
 /// All streams of a file, in name order.
+///
+/// # Errors
+///
+/// Want of memory alone.
 pub fn list_streams(
     alloc: Global,
     file: &FileParts,

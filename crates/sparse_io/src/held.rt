@@ -8,6 +8,7 @@ ghost use Rattle.tree_model.specs.Ordered.{in_order};
 ghost use Rattle.tree_model.specs.Reading.{begins_stream};
 ghost use Rattle.sparse_io.specs.Held.{kept_above, kept_at, kept_from};
 
+use attr_store::{is_first, real_size};
 use attr_view::AttrView;
 use file_record::FileParts;
 use ntfs_def::kinds::DATA;
@@ -33,21 +34,7 @@ pub struct HeldStream {
 fn begins_stream(attribute: &AttrView<'_>) -> bool
     ensures { (n : ℕ) → result ≡ begins_stream (part_of n (attribute_of attribute.now)) }
 {
-    attribute.kind() == DATA
-        && match attribute.sizes() {
-            None => true,
-            Some(sizes) => sizes.first == 0,
-        }
-}
-
-// The bytes of a stream, by its first part.
-fn real_size(attribute: &AttrView<'_>) -> u64
-    ensures { (n : ℕ) → result ≡ (kept_at 0 (part_of n (attribute_of attribute.now))).size }
-{
-    match attribute.sizes() {
-        Some(sizes) => sizes.real,
-        None => attribute.value().unwrap_or(&[]).len() as u64,
-    }
+    attribute.kind() == DATA && is_first(attribute)
 }
 
 // What is kept of the stream that begins with the part at a place.
@@ -80,6 +67,10 @@ fn gather(alloc: Global, file: &FileParts) -> Result<Vec<HeldStream>, AllocError
 }
 
 /// The streams of a file, in name order.
+///
+/// # Errors
+///
+/// Want of memory alone.
 pub fn held_streams(
     alloc: Global,
     file: &FileParts,

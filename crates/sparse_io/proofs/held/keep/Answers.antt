@@ -10,4 +10,4 @@ returns c n =
     let a = attribute_of c.args.attribute.now in
     kept-by c.args.place (c.from_vec.ensures ∙ c.in_ok-read_units.ensures ∙ ap units_in c.name.ensures)
     (c.is_packed.ensures ∙ ap (λ k. is_packed k c.flags.result) c.kind.ensures ∙ ap (is_packed a.kind) c.flags.ensures)
-    (c.real_size.ensures n)
+    c.real_size.ensures
