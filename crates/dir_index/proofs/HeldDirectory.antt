@@ -18,15 +18,16 @@ use Rattle.volume_def.specs.View.{VolumeView}
 use Rattle.index_tree.specs.Walk.{HasWalk, IsWalk}
 use Rattle.mft_table.specs.declared.mft.Mft.{Mft}
 use Rattle.mft_table.specs.declared.mounted.Mounted.{Mounted}
-use Rattle.mft_table.specs.Mft.{MftReads}
+use Rattle.mft_table.specs.Mft.{MftReads, mounted_of, view}
 use Rattle.tree_model.specs.Reading.{directory_links}
 use Rattle.tree_model.specs.Tree.{sought_link}
 use Rattle.file_record.specs.declared.parts.FileParts.{FileParts}
 use Rattle.file_record.specs.Held.{AreParts, file_number}
+use Rattle.file_record.proofs.ReadLaws.{view-kept}
 use Rattle.file_record.proofs.RecordLaws.{record_at-inside}
 use Rattle.attr_store.specs.declared.index.FoundIndex.{FoundIndex}
 use Rattle.attr_store.specs.Index.{HasParts, IsFound, index_held}
-use Rattle.attr_store.specs.InUse.{IsDirectory, IsSoundVolume}
+use Rattle.attr_store.specs.InUse.{IsDirectory, IsInUse, IsSoundVolume}
 use Rattle.attr_store.proofs.HeldIndexLaws.{index-held}
 use Rattle.attr_store.proofs.IndexRecordLaws.{record-there}
 use Rattle.dir_index.specs.Held.{IsHeldDirectory, fetched_of, nodes_found, records_found, root_found}
@@ -41,6 +42,18 @@ reads-within g a b m k reads fits = record {
   stage = record { goes_on = reads.stage.goes_on; only_reads = reads.stage.only_reads; fetched = fits };
   mounted = reads.mounted;
 }
+
+-- A volume stays in use where it is only read, and what is known of it where it is told stays so.
+module _ {D : Type 0} (g : Ghosts D) (old new : Mft D g) (reads : ℕ) (only : MftReads g old new reads) where
+  pub still-in-use : IsInUse g old → IsInUse g new
+  still-in-use known told =
+      let same = view-kept g old new reads only in
+      subst (λ m. IsSoundVolume (view g new) m) (sym only.mounted)
+      (subst (λ v. IsSoundVolume v (mounted_of g old)) (sym same) (known (subst (λ v. IsTrue v.told) same told)))
+
+  pub still-told : (P : VolumeView → Type 0) → (IsTrue (view g old).told → P (view g old)) → IsTrue (view g new).told → P (view g new)
+  still-told P known told =
+      let same = view-kept g old new reads only in subst P (sym same) (known (subst (λ v. IsTrue v.told) same told))
 
 -- A directory of a volume in use.
 module _ (view : VolumeView) (mounted : Mounted) (dir : ℕ) (volume : IsSoundVolume view mounted) (is : IsDirectory view dir) where

@@ -1,5 +1,6 @@
 pub mod SoughtOrders
 pub mod SoughtUnits
+pub mod UnitOrders
 pub mod InOrder
 pub mod DirectoryLinks
 pub mod FoundLinks

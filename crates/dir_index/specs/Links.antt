@@ -1,6 +1,6 @@
 -- The links of a directory, as the entries of its index say them.
 use Rattle.std.specs.Prelude.{◌≡◌, ℕ, List, [], ◌∷◌, codes, map, Option, Some, None, if◌then◌else◌}
-use Rattle.ntfs_def.specs.FileName.{is_name_key, link_of}
+use Rattle.ntfs_def.specs.FileName.{is_name_key, link_of, name_in}
 use Rattle.ntfs_def.specs.Fixup.{opened_of}
 use Rattle.ntfs_def.specs.Node.{Item, item_in}
 use Rattle.ntfs_def.specs.Units.{wide}
@@ -9,7 +9,7 @@ use Rattle.volume_def.specs.Files.{content_value}
 use Rattle.volume_def.specs.IndexesClause.{IndexParts, IsDirectoryIndex, IsIndexRecordAt, index_parts, stored_index_record}
 use Rattle.volume_def.specs.Values.{value_on}
 use Rattle.volume_def.specs.View.{VolumeView}
-use Rattle.tree_model.specs.Reading.{link_by}
+use Rattle.tree_model.specs.Reading.{link_by, link_for}
 use Rattle.tree_model.specs.declared.tree.Link.{Link}
 
 -- what an entry says, as a link of the tree
@@ -19,6 +19,10 @@ link_of_item item = link_by (link_of item)
 -- the same of the bytes of an entry; none where its key is no name
 abbrev pub link_in : List ℕ → Option Link
 link_in entry = if is_name_key (item_in entry).key then Some (link_of_item (item_in entry)) else None
+
+-- what the value of a $FILE_NAME says of a file; none where it is no whole name
+abbrev pub key_link : ℕ → List ℕ → Option Link
+key_link file key = if is_name_key key then Some (link_for file (name_in key)) else None
 
 -- the index of a directory, by its parts
 abbrev pub names_index : VolumeView → ℕ → IndexParts

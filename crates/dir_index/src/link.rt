@@ -1,10 +1,10 @@
-//! The link that an entry of a directory says.
+//! The link that a name of a file says, as the key of an entry of a directory and as the value of an attribute.
 ghost use Rattle.std.specs.Prelude.{◌≡◌, IfOk, IsTrue};
 ghost use Rattle.vol_bytes.specs.Field.{u64_at};
 ghost use Rattle.ntfs_def.specs.FileName.{is_name_key, key_units};
 ghost use Rattle.ntfs_def.specs.Node.{IsOwnEntry, item_in};
 ghost use Rattle.ntfs_def.specs.declared.index.NodeForm.TheVariants.{Names};
-ghost use Rattle.dir_index.specs.Links.{link_in};
+ghost use Rattle.dir_index.specs.Links.{key_link, link_in};
 
 use collation::{UNIT_COUNT, UNITS, is_name_key};
 use std::alloc::{AllocError, Global};
@@ -13,6 +13,9 @@ use vol_bytes::{Name, u16_at, u64_at};
 
 /// The number in a file reference is its lower 48 bits.
 const NUMBERS: u64 = 1 << 48;
+
+/// Where a name says its namespace.
+const NAMESPACE: usize = 0x41;
 
 // The key of an entry.
 #[tactic(auto, unfolding(ntfs_def::specs::Node::item_at))]
@@ -43,17 +46,15 @@ fn units_in(alloc: Global, key: &[u8]) -> Result<Vec<u16>, AllocError>
         .collect(alloc)
 }
 
-/// The link that an entry says, of a node of names. `None` exactly where its key is no name.
+/// The link that the value of a `$FILE_NAME` says, of the file of a number. `None` exactly where the value is no whole name.
 ///
 /// # Errors
 ///
 /// Want of memory alone.
 #[tactic(auto, unfolding(ntfs_def::specs::FileName::name_in))]
-pub fn link_of_entry(alloc: Global, entry: &[u8]) -> Result<Option<Link>, AllocError>
-    requires { IsOwnEntry Names entry.now }
-    ensures { IfOk result (λ link. link ≡ link_in entry.now) }
+pub fn link_of_key(alloc: Global, key: &[u8], child: u64) -> Result<Option<Link>, AllocError>
+    ensures { IfOk result (λ link. link ≡ key_link child key.now) }
 {
-    let key = key_in(entry);
     if !is_name_key(key) {
         return Ok(None);
     }
@@ -61,7 +62,19 @@ pub fn link_of_entry(alloc: Global, entry: &[u8]) -> Result<Option<Link>, AllocE
     Ok(Some(Link {
         parent: u64_at(key, 0) % NUMBERS,
         name: Name::from_vec(units),
-        space: key[0x41],
-        child: reference_in(entry) % NUMBERS,
+        space: key[NAMESPACE],
+        child,
     }))
+}
+
+/// The link that an entry says, of a node of names. `None` exactly where its key is no name.
+///
+/// # Errors
+///
+/// Want of memory alone.
+pub fn link_of_entry(alloc: Global, entry: &[u8]) -> Result<Option<Link>, AllocError>
+    requires { IsOwnEntry Names entry.now }
+    ensures { IfOk result (λ link. link ≡ link_in entry.now) }
+{
+    link_of_key(alloc, key_in(entry), reference_in(entry) % NUMBERS)
 }

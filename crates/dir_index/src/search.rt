@@ -13,7 +13,7 @@ ghost use Rattle.mft_table.specs.Mft.{MftReads, faults_of, view};
 ghost use Rattle.tree_model.specs.Reading.{directory_links};
 ghost use Rattle.tree_model.specs.Tree.{sought_link};
 ghost use Rattle.file_record.specs.FileNos.{CountsNo, IsReadNo};
-ghost use Rattle.file_record.specs.Held.{file_number};
+ghost use Rattle.file_record.specs.Held.{AreParts, file_number};
 ghost use Rattle.file_record.specs.Records.{file_reads};
 ghost use Rattle.attr_store.specs.Index.{IsFound};
 ghost use Rattle.attr_store.specs.InUse.{IsDirectory, IsInUse};
@@ -112,9 +112,36 @@ fn find_link<D: Disk>(
     link_found(alloc, entry)
 }
 
-/// Seeks a name in a directory among all its links, DOS names and hidden ones too: the link of exactly this name, else the first
-/// in name order whose units are the same by the volume's table of case. The directory is loaded once; for each of the two
-/// searches one index record a level is read at most.
+/// Seeks a name in a directory that is held, among all its links, DOS names and hidden ones too: the link of exactly this name,
+/// else the first in name order whose units are the same by the volume's table of case. For each of the two searches one index
+/// record a level is read at most.
+///
+/// # Errors
+///
+/// `Device` where the disk failed, and `Memory`.
+pub fn lookup_in<D: Disk>(
+    alloc: Global,
+    mft: &mut Mft<'_, D>,
+    dir: &FileParts,
+    name: &Name,
+) -> Result<Option<Link>, FileNo>
+    requires volume { IsInUse D.Disk mft.old }
+    requires parts { IsTrue (view D.Disk mft.old).told → AreParts (view D.Disk mft.old) dir.now }
+    requires directory { IsTrue (view D.Disk mft.old).told → IsDirectory (view D.Disk mft.old) (file_number dir.now) }
+    ensures found { IfOk result (λ found. IsTrue (view D.Disk mft.old).told → found
+        ≡ sought_link (volume_fold (view D.Disk mft.old)) (directory_links (view D.Disk mft.old) (file_number dir.now)) name.now) }
+    ensures err { IfErr result IsReadNo }
+    ensures faults { MatchResult result (λ _. faults_of D.Disk mft.new ≡ faults_of D.Disk mft.old)
+        (CountsNo (faults_of D.Disk mft.old) (faults_of D.Disk mft.new)) }
+    ensures reads { (reads : ℕ) × MftReads D.Disk mft.old mft.new reads }
+    ensures fetched { IsTrue (view D.Disk mft.old).told → (index : IsDirectoryIndex (view D.Disk mft.old) (file_number dir.now))
+        → MftReads D.Disk mft.old mft.new (16 * index.index.walks.depth) }
+{
+    let upcase = share(&mft.mounted().upcase)?;
+    find_link(alloc, mft, dir, &upcase, name.as_slice())
+}
+
+/// Seeks a name in a directory as `lookup_in` does. The directory is loaded once.
 ///
 /// # Errors
 ///
@@ -139,9 +166,8 @@ pub fn lookup<D: Disk>(
     if dir >= mft.mounted().records.count() {
         return Ok(None);
     }
-    let upcase = share(&mft.mounted().upcase)?;
     let file = FileParts::load(alloc, mft, dir)?;
-    find_link(alloc, mft, &file, &upcase, name.as_slice())
+    lookup_in(alloc, mft, &file, name)
 }
 
 // Puts the link that an entry says behind the others, where its key is a name.
@@ -191,7 +217,31 @@ fn list_links<D: Disk>(
     links_of(alloc, &entries)
 }
 
-/// Lists the links of a directory, DOS names and hidden ones too, in name order.
+/// Lists the links of a directory that is held, DOS names and hidden ones too, in name order.
+///
+/// # Errors
+///
+/// `Device` where the disk failed, and `Memory`.
+pub fn list_in<D: Disk>(
+    alloc: Global,
+    mft: &mut Mft<'_, D>,
+    dir: &FileParts,
+) -> Result<Vec<Link>, FileNo>
+    requires volume { IsInUse D.Disk mft.old }
+    requires parts { IsTrue (view D.Disk mft.old).told → AreParts (view D.Disk mft.old) dir.now }
+    requires directory { IsTrue (view D.Disk mft.old).told → IsDirectory (view D.Disk mft.old) (file_number dir.now) }
+    ensures links { IfOk result (λ links. IsTrue (view D.Disk mft.old).told
+        → links.items ≡ directory_links (view D.Disk mft.old) (file_number dir.now)) }
+    ensures err { IfErr result IsReadNo }
+    ensures faults { MatchResult result (λ _. faults_of D.Disk mft.new ≡ faults_of D.Disk mft.old)
+        (CountsNo (faults_of D.Disk mft.old) (faults_of D.Disk mft.new)) }
+    ensures reads { (reads : ℕ) × MftReads D.Disk mft.old mft.new reads }
+{
+    let upcase = share(&mft.mounted().upcase)?;
+    list_links(alloc, mft, dir, upcase)
+}
+
+/// Lists the links of a directory as `list_in` does. The directory is loaded once.
 ///
 /// # Errors
 ///
@@ -209,7 +259,6 @@ pub fn list<D: Disk>(alloc: Global, mft: &mut Mft<'_, D>, dir: u64) -> Result<Ve
     if dir >= mft.mounted().records.count() {
         return Ok(Vec::new(alloc));
     }
-    let upcase = share(&mft.mounted().upcase)?;
     let file = FileParts::load(alloc, mft, dir)?;
-    list_links(alloc, mft, &file, upcase)
+    list_in(alloc, mft, &file)
 }

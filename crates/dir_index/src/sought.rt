@@ -1,5 +1,6 @@
 //! A name that is sought, in the orders of the keys of a directory.
 ghost use Rattle.std.specs.Prelude.{◌≡◌, ◌<◌, IsTrue, length, map, slice_index};
+ghost use Rattle.std.specs.Ordering.{nat_cmp};
 ghost use Rattle.ntfs_def.specs.KeyOrder.{by_numbers, fold_of};
 ghost use Rattle.dir_index.specs.Sought.{is_sought_key, sought_units};
 
@@ -55,17 +56,34 @@ fn unit_at(name: &[u16], key: &[u8], place: usize) -> u16
     }
 }
 
+// Units by what they are compared as. Equal ones are so by any table, and none is asked.
+fn compare_unit(upcase: &UpCase, unit: u16, other: u16) -> Ordering
+    ensures { result ≡ nat_cmp (fold_of upcase.now unit) (fold_of upcase.now other) }
+{
+    if unit == other {
+        return Ordering::Equal;
+    }
+    upcase.fold(unit).cmp(&upcase.fold(other))
+}
+
 fn compare_folded(upcase: &UpCase, name: &[u16], a: &[u8], b: &[u8]) -> Ordering
     requires left { IsTrue (is_sought_key a.now) }
     requires right { IsTrue (is_sought_key b.now) }
     ensures { result ≡ by_numbers (map (fold_of upcase.now) (sought_units name.now a.now))
         (map (fold_of upcase.now) (sought_units name.now b.now)) }
 {
-    let units = (0..unit_count(name, a)).map(|place| unit_at(name, a, place));
-    let others = (0..unit_count(name, b)).map(|place| unit_at(name, b, place));
-    units
-        .map(|unit| upcase.fold(unit))
-        .cmp(others.map(|unit| upcase.fold(unit)))
+    let units = unit_count(name, a);
+    let others = unit_count(name, b);
+    for place in 0..units.min(others) {
+        let unit = unit_at(name, a, place);
+        let other = unit_at(name, b, place);
+        match compare_unit(upcase, unit, other) {
+            Ordering::Less => return Ordering::Less,
+            Ordering::Equal => {}
+            Ordering::Greater => return Ordering::Greater,
+        }
+    }
+    units.cmp(&others)
 }
 
 fn compare_plain(name: &[u16], a: &[u8], b: &[u8]) -> Ordering
