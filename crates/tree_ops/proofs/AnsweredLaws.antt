@@ -14,7 +14,7 @@ use Rattle.file_record.specs.declared.error.FileNo.TheVariants as file
 use Rattle.tree_model.specs.Paths.{and_then}
 use Rattle.tree_model.specs.declared.reply.No.{No}
 use Rattle.tree_model.specs.declared.reply.No.TheVariants as no
-use Rattle.tree_ops.specs.Answered.{Answered, Counts, Says, stop_of}
+use Rattle.tree_ops.specs.Answered.{Answered, Counts, Says, stop_of, with_ok}
 use Rattle.tree_ops.specs.declared.stop.Stop.{Stop}
 use Rattle.tree_ops.specs.declared.stop.Stop.TheVariants as stop
 
@@ -121,6 +121,13 @@ told-kept g old new reads P only known told =
     let same = view-kept g old new reads only in
     subst P (sym same) (known (subst (λ v. IsTrue v.told) same told))
 
+-- .. and what is known behind the call was so before it.
+pub told-back : {D : Type 0} (g : Ghosts D) (old new : Mft D g) (reads : ℕ) (P : VolumeView → Type 0) → MftReads g old new reads
+    → (IsTrue (view g new).told → P (view g new)) → IsTrue (view g old).told → P (view g old)
+told-back g old new reads P only known told =
+    let same = view-kept g old new reads only in
+    subst P same (known (subst (λ v. IsTrue v.told) (sym same) told))
+
 -- A volume stays in use.
 pub in-use-kept : {D : Type 0} (g : Ghosts D) (old new : Mft D g) (reads : ℕ) → MftReads g old new reads → IsInUse g old → IsInUse g new
 in-use-kept g old new reads only known told =
@@ -133,6 +140,13 @@ pub as-residual : {D A : Type 0} (g : Ghosts D) (old new : Mft D g) (wanted : Vo
     → IsErrAnd result (λ e. e ≡ why) → Answered g old new wanted (Err why) → Answered g old new wanted result
 as-residual g old new wanted why (Ok x) is call = absurd is
 as-residual g old new wanted why (Err e) is call = subst (λ w. Answered g old new wanted (Err w)) (sym is) call
+
+-- .. where something is told of a result
+pub as-residual-of : {D A B : Type 0} (g : Ghosts D) (f : A → B) (old new : Mft D g) (wanted : VolumeView → Result B No) (why : Stop)
+    (result : Result A Stop) → IsErrAnd result (λ e. e ≡ why) → Answered g old new wanted (Err why)
+    → Answered g old new wanted (with_ok f result)
+as-residual-of g f old new wanted why (Ok x) is call = absurd is
+as-residual-of g f old new wanted why (Err e) is call = subst (λ w. Answered g old new wanted (Err w)) (sym is) call
 
 -- Memory ran out between two calls.
 pub out-of-memory : {D A : Type 0} (g : Ghosts D) (old new : Mft D g) (reads : ℕ) (wanted : VolumeView → Result A No) → MftReads g old new reads

@@ -1,6 +1,6 @@
 -- What was loaded and read of a file.
 use Rattle.std.proofs.Common.{◌≡◌, ◌+◌, ◌≤◌, ℕ, false, List, [], Option, Some, None, Ok, length, min, sym, ap, subst, ◌∙◌, arith}
-use Rattle.std.specs.Prelude.{IfSome, IsSome, IsTrue, slice_get, slice_range}
+use Rattle.std.specs.Prelude.{IfSome, IsTrue, slice_get, slice_range}
 use Rattle.volume_def.specs.Readable.{IsFile, WhereReadable}
 use Rattle.volume_def.specs.Values.{attribute_value, first_part, value_on}
 use Rattle.volume_def.specs.View.{VolumeView}
@@ -13,15 +13,15 @@ use Rattle.mft_table.specs.declared.mounted.Mounted.{Mounted}
 use Rattle.mft_table.specs.Mft.{MftReads, faults_of, view}
 use Rattle.vol_disk.specs.declared.Disk.{Ghosts}
 use Rattle.file_record.specs.Base.{HasBaseRecord}
-use Rattle.tree_model.specs.Tree.{node_of}
 use Rattle.attr_store.proofs.StoredLaws.{stored-length, stored-read}
 use Rattle.file_record.specs.Held.{AreParts, file_number, parts_held}
 use Rattle.file_record.specs.declared.base.BaseFile.{BaseFile}
 use Rattle.file_record.specs.declared.parts.FileParts.{FileParts}
-use Rattle.tree_model.specs.Reading.{read, shown_content}
-use Rattle.tree_ops.specs.Nodes.{Fetched, IsCaseOf, IsNodeHeld, begin_of}
+use Rattle.tree_model.specs.Reading.{shown_content}
+use Rattle.tree_ops.specs.Finds.{Finds}
+use Rattle.tree_ops.specs.Nodes.{IsCaseOf, IsFileHeld, IsNodeHeld, begin_of}
 use Rattle.tree_ops.proofs.DataLaws.{content-none, content-plain, first-read, no_first}
-use Rattle.tree_ops.proofs.NodeLaws.{held-file, loaded, sound-readable}
+use Rattle.tree_ops.proofs.NodeLaws.{held-file, sound-readable}
 
 -- none is there
 pub begin-none : (view : VolumeView) (file : FileParts) (kind most : ℕ) (name : List ℕ) → first_part (attribute_held file kind name) ≡ None
@@ -45,22 +45,21 @@ begin-read view held kind most name first new len n tells plain short read_ told
     rw whole (ap Some (first-read (value_on view (attribute_held held.parts kind name)) new first.len most
     (stored-length view held.parts kind name stored s) (got ∙ ap (λ k. slice_range (value_on view (attribute_held held.parts kind name)) 0 (0 + k)) short)))
 
--- a file that was loaded, of a number that is shown
-pub load-fetched : {D : Type 0} (g : Ghosts D) (old new : Mft D g) (f : ℕ) (found : Option BaseFile) (held : BaseFile) → found ≡ Some held
-    → IsInUse g old → (IsTrue (view g old).told → IsSome (node_of (read (view g old)) f)) → MftReads g old new 20678
-    → faults_of g new ≡ faults_of g old → IfSome found (λ file. file_number file.parts ≡ f)
+-- a file that was loaded, of a number in use
+pub file-found : {D : Type 0} (g : Ghosts D) (old new : Mft D g) (f : ℕ) (found : Option BaseFile) (held : BaseFile) → found ≡ Some held
+    → IsInUse g old → MftReads g old new 20678 → faults_of g new ≡ faults_of g old → IfSome found (λ file. file_number file.parts ≡ f)
     → (IsTrue (view g old).told → IfSome found (λ file. HasBaseRecord (view g old) f file.header))
-    → WhereReadable (view g old) (IfSome found (λ file. AreParts (view g old) file.parts)) → Fetched g old new IsNodeHeld (Ok held)
-load-fetched g old new f found held is in_use shown only quiet number header are = record {
+    → WhereReadable (view g old) (IfSome found (λ file. AreParts (view g old) file.parts)) → Finds g old new (λ v. IsFileHeld v f) (Ok held)
+file-found g old new f found held is in_use only quiet number header are = record {
   reads = 20678;
   only = only;
   counts = quiet;
-  fails = tt;
-  is_so = λ told.
-      let readable = sound-readable (view g old) (in_use told).sound in
-      loaded (view g old) f held readable (shown told) (subst (λ o. IfSome o (λ (file : BaseFile). file_number file.parts ≡ f)) is number)
-      (subst (λ o. IfSome o (λ (file : BaseFile). HasBaseRecord (view g old) f file.header)) is (header told))
-      (subst (λ o. IfSome o (λ (file : BaseFile). AreParts (view g old) file.parts)) is (are told readable));
+  found = λ told. record {
+    number = subst (λ o. IfSome o (λ (file : BaseFile). file_number file.parts ≡ f)) is number;
+    base = subst (λ o. IfSome o (λ (file : BaseFile). HasBaseRecord (view g old) f file.header)) is (header told);
+    parts = subst (λ o. IfSome o (λ (file : BaseFile). AreParts (view g old) file.parts)) is
+        (are told (sound-readable (view g old) (in_use told).sound));
+  };
 }
 
 -- the table of case that is kept

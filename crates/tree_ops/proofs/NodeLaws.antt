@@ -8,8 +8,7 @@ use Rattle.volume_def.specs.Sound.{Attributes, Extents, IsSound, Lists, Shape}
 use Rattle.volume_def.specs.View.{VolumeView}
 use Rattle.mft_table.specs.Mft.{view}
 use Rattle.attr_store.specs.InUse.{IsDirectory}
-use Rattle.file_record.specs.Base.{HasBaseRecord, HasHeader}
-use Rattle.file_record.specs.Held.{AreParts}
+use Rattle.file_record.specs.Base.{HasHeader}
 use Rattle.file_record.specs.declared.base.BaseFile.{BaseFile}
 use Rattle.sparse_io.specs.Held.{IsHeldWith, streams_held}
 use Rattle.tree_model.specs.Answers.{shown_link_count, shown_stream, stat_of}
@@ -22,7 +21,7 @@ use Rattle.tree_model.specs.declared.reply.Answer.TheVariants as a
 use Rattle.tree_model.specs.declared.tree.Node.{Node}
 use Rattle.tree_model.specs.declared.tree.Stream.{Stream}
 use Rattle.tree_model.proofs.ReadingLaws.{node_of-read}
-use Rattle.tree_ops.specs.Nodes.{IsCaseOf, IsNodeHeld, number_of, parts_in}
+use Rattle.tree_ops.specs.Nodes.{IsCaseOf, IsFileHeld, IsNodeHeld, number_of, parts_in}
 use Rattle.tree_ops.specs.Parts.{unnamed_size}
 use Rattle.tree_ops.specs.Wanted.{attr_shown, sec_shown, stat_shown, streams_shown, told_by}
 
@@ -69,21 +68,32 @@ header-of : (o : Option Record) (r : Record) (held : BaseFile) → o ≡ Some r
     → IsSomeAnd o (λ base. IsTrue (is_base base) × HasHeader held.header base) → HasHeader held.header r
 header-of o r held e has = (subst (λ o. IsSomeAnd o (λ base. IsTrue (is_base base) × HasHeader held.header base)) e has).1
 
--- a file that was loaded, of a number that is shown
-pub loaded : (view : VolumeView) (f : ℕ) (held : BaseFile) → IsReadableVolume view → IsSome (node_of (read view) f) → number_of held ≡ f
-    → HasBaseRecord view f held.header → AreParts view held.parts → IsNodeHeld view held
-loaded view f held readable is number header are =
-    let on = shown-node view f is in
+-- THE FILE OF A NUMBER that is shown, as it is held, is a node.
+pub node-held : (view : VolumeView) (f : ℕ) (held : BaseFile) → IsReadableVolume view → IsSome (node_of (read view) f) → IsFileHeld view f held
+    → IsNodeHeld view held
+node-held view f held readable shown is =
+    let on = shown-node view f shown in
     record {
       readable = readable;
       base = on.base;
-      on = subst (λ n. record_on view n ≡ Some on.base) (sym number) on.on;
+      on = subst (λ n. record_on view n ≡ Some on.base) (sym is.number) on.on;
       is_base = on.is_base;
-      header = header-of (record_on view f) on.base held on.on header;
-      parts = are;
-      node = ap (node_of (read view)) number ∙ node_of-read view f ∙ on.node
-          ∙ ap (λ (ps : List Part). Some (node_by view on.base ps)) (ap (parts (records_of view)) (sym number) ∙ sym are.parts);
+      header = header-of (record_on view f) on.base held on.on is.base;
+      parts = is.parts;
+      node = ap (node_of (read view)) is.number ∙ node_of-read view f ∙ on.node
+          ∙ ap (λ (ps : List Part). Some (node_by view on.base ps)) (ap (parts (records_of view)) (sym is.number) ∙ sym is.parts.parts);
     }
+
+-- and a node that is held is the file of its number
+pub file-held : (view : VolumeView) (held : BaseFile) → IsNodeHeld view held → IsFileHeld view (number_of held) held
+file-held view held n = record {
+  number = refl;
+  base = subst (λ (o : Option Record). IsSomeAnd o (λ r. IsTrue (is_base r) × HasHeader held.header r)) (sym n.on) (n.is_base, n.header);
+  parts = n.parts;
+}
+
+pub file-own : (view : VolumeView) (f : ℕ) (held : BaseFile) → IsFileHeld view f held → IsFileHeld view (number_of held) held
+file-own view f held is = subst (λ n. IsFileHeld view n held) (sym is.number) is
 
 -- What it shows.
 

@@ -15,15 +15,15 @@ use Rattle.volume_def.specs.Sound.{IsSound, Attributes, Extents, Lists, Shape}
 use Rattle.volume_def.specs.View.{VolumeView}
 use Rattle.volume_def.proofs.MemberLaws.{All-from_Contains}
 use Rattle.volume_def.proofs.ReadableLaws.{readable-part}
-use Rattle.file_record.specs.Base.{HasBaseRecord, HasHeader}
-use Rattle.file_record.specs.Held.{AreParts, attributes_held, file_number, parts_held}
+use Rattle.file_record.specs.Base.{HasHeader}
+use Rattle.file_record.specs.Held.{attributes_held, parts_held}
 use Rattle.file_record.specs.declared.base.BaseFile.{BaseFile}
 use Rattle.attr_view.specs.declared.record_mut.RecordHeader.{RecordHeader}
 use Rattle.attr_store.proofs.FirstLaws.{AreHeld, AreHeld-file}
-use Rattle.tree_model.specs.Reading.{link_for}
+use Rattle.tree_model.specs.Reading.{link_for, links_to}
 use Rattle.tree_model.specs.declared.tree.Link.{Link}
-use Rattle.tree_ops.specs.FileLinks.{IsOutline, attribute_link}
-use Rattle.tree_ops.specs.declared.outline.Outline.{Outline}
+use Rattle.tree_ops.specs.FileLinks.{attribute_link, has_point_held, links_held}
+use Rattle.tree_ops.specs.Nodes.{IsFileHeld}
 
 -- the files of a sound volume can be read
 pub readable : (view : VolumeView) → IsSound view → IsReadableVolume view
@@ -85,19 +85,23 @@ directory-held : (o : Option Record) (header : RecordHeader) (b : Bool) → b �
 directory-held None header b is h = absurd h
 directory-held (Some r) header b is h = is ∙ ap (λ n. n / 2 % 2 == 1) h.1.flags
 
--- A file that was loaded tells its outline.
-pub outlined : (view : VolumeView) → IsSound view → (base : BaseFile) (f : ℕ) (o : Outline) → file_number base.parts ≡ f
-    → HasBaseRecord view f base.header → AreParts view base.parts → o.directory ≡ (base.header.flags / 2 % 2 == 1)
-    → o.point ≡ list_any (λ (a : Attribute). is_of REPARSE_POINT [] (part_of 0 a)) (attributes_held base.parts)
-    → o.links.items ≡ filter_map (attribute_link base.parts.number) (attributes_held base.parts) → IsOutline view f o
-unfolding names_of
-outlined view sound base f o number header are directory point links =
-    let all : parts_held base.parts ≡ parts (records_of view) f = are.parts ∙ ap (parts (records_of view)) number in
-    let right = All-from_Contains IsRightPart (parts (records_of view) f) (λ part. readable-part view f part (readable view sound)) in
-    let held = subst (AreHeld (attributes_held base.parts)) all (AreHeld-file base.parts) in
-    record {
-      directory = directory-held (record_on view f) base.header o.directory directory header;
-      point = point ∙ points-held (attributes_held base.parts) (parts (records_of view) f) held;
-      links = links ∙ ap (λ n. filter_map (attribute_link n) (attributes_held base.parts)) number
-          ∙ links-held f (attributes_held base.parts) (parts (records_of view) f) held right;
-    }
+-- A file that is held tells its names, whether it has a reparse point, and whether it is a directory.
+module _ (view : VolumeView) (f : ℕ) (held : BaseFile) (is : IsFileHeld view f held) where
+  all-parts : parts_held held.parts ≡ parts (records_of view) f
+  all-parts = is.parts.parts ∙ ap (parts (records_of view)) is.number
+
+  all-held : AreHeld (attributes_held held.parts) (parts (records_of view) f)
+  all-held = subst (AreHeld (attributes_held held.parts)) all-parts (AreHeld-file held.parts)
+
+  pub links-told : IsSound view → links_held held.parts ≡ links_to view f
+  unfolding names_of
+  links-told sound =
+      let right = All-from_Contains IsRightPart (parts (records_of view) f) (λ part. readable-part view f part (readable view sound)) in
+      ap (λ n. filter_map (attribute_link n) (attributes_held held.parts)) is.number
+      ∙ links-held f (attributes_held held.parts) (parts (records_of view) f) all-held right
+
+  pub point-told : has_point_held held.parts ≡ list_any (is_of REPARSE_POINT []) (parts (records_of view) f)
+  point-told = points-held (attributes_held held.parts) (parts (records_of view) f) all-held
+
+  pub flag-told : IfSome (record_on view f) (λ r. (held.header.flags / 2 % 2 == 1) ≡ is_directory r)
+  flag-told = directory-held (record_on view f) held.header (held.header.flags / 2 % 2 == 1) refl is.base

@@ -1,5 +1,5 @@
 -- A file that is shown, and the directories of its names.
-use Rattle.std.proofs.Common.{◌≡◌, ◌≢◌, inl, inr, ℕ, ◌≤◌, Bool, true, false, Option, Some, None, IsSome, refl, sym, subst, ◌∙◌}
+use Rattle.std.proofs.Common.{◌≡◌, ◌≢◌, inl, inr, ℕ, ◌≤◌, Bool, true, false, List, Option, Some, None, IsSome, refl, sym, ap, subst, ◌∙◌}
 use Rattle.std.specs.List.{All}
 use Rattle.std.proofs.lemmas.Bool.{cases_lt}
 use Rattle.ntfs_def.specs.declared.records.TheConstants.{FIRST_ORDINARY, ROOT}
@@ -20,6 +20,12 @@ use Rattle.tree_model.proofs.HiddenLaws.{hidden-system}
 use Rattle.tree_model.proofs.NamesLaws.{IsShown, is_shown}
 use Rattle.tree_model.proofs.OrderedMembers.{Contains-from_in_order}
 use Rattle.tree_model.proofs.ReadingLaws.{node_of-read}
+use Rattle.ntfs_def.specs.KeyOrder.{fold_of}
+use Rattle.file_record.specs.declared.base.BaseFile.{BaseFile}
+use Rattle.tree_ops.specs.FileLinks.{links_held}
+use Rattle.tree_ops.specs.Nodes.{IsCaseOf, IsNodeHeld, number_of}
+use Rattle.tree_ops.proofs.NodeLaws.{file-held}
+use Rattle.tree_ops.proofs.OutlineLaws.{links-told}
 
 -- The file has a node.
 pub record HasNode (view : VolumeView) (f : ℕ) : Type 0 where
@@ -58,3 +64,11 @@ module _ (view : VolumeView) (sound : IsSound view) (f : ℕ) (has : HasNode vie
       (Contains-from_in_order (link_above (volume_fold view)) (links_to view f) link c) in
       subst (λ (l : Link). IsShownDirectory view l.parent) w.2
       (shown-parent view (sound References) (sound Links) f (ordinary ne) is.shown w.0 w.1))
+
+-- The names of a file that is held, in order by the table of case that is kept.
+pub in-order : (view : VolumeView) (held : BaseFile) → IsNodeHeld view held → IsSound view → (table : List ℕ) → IsCaseOf view table
+    → in_order (link_above (fold_of table)) (links_held held.parts)
+    ≡ in_order (link_above (volume_fold view)) (links_to view (number_of held))
+in-order view held n sound table case =
+    ap (λ t. in_order (link_above (fold_of t)) (links_held held.parts)) case
+    ∙ ap (in_order (link_above (volume_fold view))) (links-told view (number_of held) held (file-held view held n) sound)

@@ -1,6 +1,6 @@
 -- A volume behind calls that only read, and one that was just taken into use.
 use Rattle.std.proofs.Common.{◌≡◌, ◌⊎◌, ℕ, Bool, true, false, List, Option, Some, None, Result, Ok, Err, inl, inr, refl, sym, ap, subst, ◌∙◌, arith}
-use Rattle.std.specs.Prelude.{is_some}
+use Rattle.std.specs.Prelude.{IfSome, IsTrue, is_some}
 use Rattle.vol_disk.specs.declared.Disk.{Ghosts}
 use Rattle.volume_def.specs.Sound.{HoldBelow, IsSound}
 use Rattle.volume_def.specs.Sound.{Attributes, CaseTable, ClusterBits, Extents, Indexes, Limits, Links, Lists, Mirror, MirrorPlace, Owners, RecordBits, References, Shape, Version}
@@ -26,10 +26,11 @@ use Rattle.tree_model.specs.declared.reply.Reply.{Reply}
 use Rattle.tree_model.specs.declared.reply.Reply.TheVariants as reply
 use Rattle.tree_model.proofs.MachineLaws.{shown-step}
 use Rattle.tree_ops.specs.Serves.{Serves}
+use Rattle.tree_ops.specs.Standings.{IsStanding}
 use Rattle.tree_ops.specs.Volumes.{VolumeReads}
 use Rattle.tree_ops.specs.Wanted.{machine_on, wanted}
 use Rattle.tree_ops.specs.declared.volume.Volume.{Volume}
-use Rattle.tree_ops.proofs.AnsweredLaws.{in-use-kept}
+use Rattle.tree_ops.proofs.AnsweredLaws.{in-use-kept, told-kept}
 use Rattle.tree_ops.proofs.WantedLaws.{not-built}
 
 module _ {D : Type 0} (g : Ghosts D) (old new : Volume D g) (n : ℕ) (reads : MftReads g old.mft new.mft n) where
@@ -48,11 +49,12 @@ module _ {D : Type 0} (g : Ghosts D) (old new : Volume D g) (n : ℕ) (reads : M
         view = view-kept g old.mft new.mft n reads;
       }
 
-  pub serves-kept : Serves g old → Serves g new
-  serves-kept serves =
+  pub serves-kept : Serves g old → (IsTrue (view g old.mft).told → IfSome new.last (IsStanding (view g old.mft))) → Serves g new
+  serves-kept serves last =
       let only = reads.stage.only_reads in
       record {
         in_use = in-use-kept g old.mft new.mft n reads serves.in_use;
+        last = told-kept g old.mft new.mft n (λ v. IfSome new.last (IsStanding v)) reads last;
         tells = only.image ∙ serves.tells ∙ sym only.now;
         whole = only.broken ∙ serves.whole;
       }
@@ -111,11 +113,12 @@ module _ {D : Type 0} (g : Ghosts D) (mft : Mft D g) (mounted : Mounted) (kept :
 
 pub new-serves : {D : Type 0} (g : Ghosts D) (volume : Volume D g) (stage : Stage D g) (mounted : Mounted) (disk : D)
     → stage_of g volume.mft ≡ stage → mounted_of g volume.mft ≡ mounted → disk_of g stage ≡ disk → image g stage ≡ g.now disk
-    → is_broken g stage ≡ false → WhereTold (g.now disk) (λ all. HoldsTables 15 all mounted) → Serves g volume
-new-serves g volume stage mounted disk same kept under shown whole holds =
+    → is_broken g stage ≡ false → WhereTold (g.now disk) (λ all. HoldsTables 15 all mounted) → volume.last ≡ None → Serves g volume
+new-serves g volume stage mounted disk same kept under shown whole holds none =
     let seen : image g (stage_of g volume.mft) ≡ g.now disk = ap (image g) same ∙ shown in
     record {
       in_use = in_use-new g volume.mft mounted kept (g.now disk) seen holds;
+      last = λ told. subst (λ o. IfSome o (IsStanding (view g volume.mft))) (sym none) tt;
       tells = seen ∙ sym (ap (λ s. g.now (disk_of g s)) same ∙ ap g.now under);
       whole = ap (is_broken g) same ∙ whole;
     }

@@ -1,10 +1,9 @@
 -- The steps of a walk along a path, by what the links on it lead to.
-use Rattle.std.proofs.Common.{◌≡◌, ◌<◌, ◌≤◌, ◌+◌, ◌&&◌, ◌∷◌, ℕ, zero, suc, Bool, true, false, not, List, find, Option, Some, None, Result, Ok, Err, is_some}
-use Rattle.std.proofs.Common.{drop, get_or, length, IsSome, IsTrue, IsSomeAnd, Contains, refl, sym, ap, ◌∙◌, subst, if◌then◌else◌}
+use Rattle.std.proofs.Common.{◌≡◌, ◌&&◌, ◌∷◌, ℕ, zero, suc, Bool, true, false, not, List, find, Option, Some, None, Result, Ok, Err, is_some}
+use Rattle.std.proofs.Common.{IfSome, IsSome, IsTrue, IsSomeAnd, Contains, refl, sym, ap, ◌∙◌, subst, if◌then◌else◌}
 use Rattle.std.specs.Prelude.{option_and_then, option_map}
 use Rattle.std.specs.Option.{option_or}
 use Rattle.std.specs.Str.{bytes_eq}
-use Rattle.std.proofs.lemmas.List.{at_drop_more, drop_all}
 use Rattle.ntfs_def.specs.declared.records.TheConstants.{ROOT}
 use Rattle.volume_def.specs.Files.{Record, Records, is_base, is_directory, parts, record_on, records_of}
 use Rattle.volume_def.specs.Sound.{IsSound, Links}
@@ -25,7 +24,18 @@ use Rattle.tree_model.specs.declared.tree.Node.{Node}
 use Rattle.tree_model.proofs.ReadingLaws.{node_of-read}
 use Rattle.attr_store.specs.InUse.{IsDirectory}
 use Rattle.tree_ops.specs.Kinds.{kind_of}
-use Rattle.tree_ops.specs.Walks.{IsShownDirectory, listed_kind, passed_kind, reached_kind, there}
+use Rattle.tree_ops.specs.Below.{held_below, kind_below}
+use Rattle.tree_ops.specs.Nodes.{number_of}
+use Rattle.tree_ops.specs.Walks.{IsShownDirectory, found_by, listed_kind, passed_below, passed_kind, reached_below, reached_kind, there}
+use Rattle.tree_ops.specs.declared.hidden.Below.{Below}
+use Rattle.tree_ops.specs.declared.hidden.Below.TheVariants as below
+use Rattle.tree_ops.specs.declared.walk.Reached.{Reached}
+use Rattle.file_record.specs.declared.base.BaseFile.{BaseFile}
+
+-- what is told of a result of no call
+abbrev pub with_no : {A B : Type 0} → (A → B) → Result A No → Result B No
+with_no f (Ok x) = Ok (f x)
+with_no f (Err refused) = Err refused
 
 -- THE ROOT IS SHOWN, and a directory.
 root-leads : (records : Records) (steps : ℕ) → leads_to_system records steps ROOT ≡ false
@@ -162,6 +172,37 @@ reached-steps tree (Some link) = by (shown_node tree link)
     by None = refl
     by (Some node) = last node node.dir (is_some node.point) refl refl
 
+-- The same of what is loaded.
+pub passed-loaded : (link : Link) (to : Below) → IfSome (held_below to) (λ held. number_of held ≡ link.child)
+    → with_no number_of (passed_below to) ≡ passed_kind link.child (kind_below to)
+passed-loaded link below.Hidden number = refl
+passed-loaded link (below.File held) number = refl
+passed-loaded link (below.Directory held) number = ap Ok number
+passed-loaded link (below.Point held) number = refl
+
+pub reached-loaded : (link : Link) (to : Below) → with_no found_by (reached_below link to) ≡ reached_kind link (kind_below to)
+reached-loaded link below.Hidden = refl
+reached-loaded link (below.File held) = refl
+reached-loaded link (below.Directory held) = refl
+reached-loaded link (below.Point held) = refl
+
+-- a directory that was passed, and a file that was reached, is the one that was held
+pub passed-held : (P : BaseFile → Type 0) (to : Below) (inner : BaseFile) → IfSome (held_below to) P → passed_below to ≡ Ok inner → P inner
+passed-held P below.Hidden inner is e = cc
+passed-held P (below.File held) inner is e = cc
+passed-held P (below.Directory held) inner is e = let same : held ≡ inner = cc in subst P same is
+passed-held P (below.Point held) inner is e = cc
+
+pub reached-held : (P : ℕ → BaseFile → Type 0) (link : Link) (to : Below) (end : Reached) → IfSome (held_below to) (P link.child)
+    → reached_below link to ≡ Ok end → P (found_file end.found) end.held
+reached-held P link below.Hidden end is e = cc
+reached-held P link (below.File held) end is e =
+    let same : record { found = found.Link link; held = held } ≡ end = cc in subst (λ (r : Reached). P (found_file r.found) r.held) same is
+reached-held P link (below.Directory held) end is e =
+    let same : record { found = found.Link link; held = held } ≡ end = cc in subst (λ (r : Reached). P (found_file r.found) r.held) same is
+reached-held P link (below.Point held) end is e =
+    let same : record { found = found.Link link; held = held } ≡ end = cc in subst (λ (r : Reached). P (found_file r.found) r.held) same is
+
 -- The line of a link that is no DOS name, by what it leads to.
 pub listed-step : (tree : Tree) (link : Link) → is_dos link ≡ false → listed tree link ≡ listed_kind link.name (kind_of (shown_node tree link))
 listed-step tree link other = rw other (by (shown_node tree link))
@@ -184,19 +225,3 @@ pub resolve-place : (tree : Tree) (path : List (List ℕ)) (first : List ℕ) (r
     → resolve tree path ≡ and_then (last_place tree ROOT first rest) (ended tree)
 unfolding resolve
 resolve-place tree path first rest is = ap (resolve tree) is
-
--- one component more ..
-abbrev pub onwards : Tree → List ℕ → List (List ℕ) → ℕ → Result Place No
-onwards tree next names inner = last_place tree inner next names
-
-pub place-more : (tree : Tree) (dir : ℕ) (name : List ℕ) (rest : List (List ℕ)) (k : ℕ) (next : List ℕ) → k < length rest
-    → next ≡ get_or rest k next
-    → last_place tree dir name (drop k rest) ≡ and_then (passed tree (lookup tree dir name)) (onwards tree next (drop (k + 1) rest))
-place-more tree dir name rest k next inside is =
-    at_drop_more (last_place tree dir name) rest k next inside
-    ∙ ap (λ n. and_then (passed tree (lookup tree dir name)) (onwards tree n (drop (k + 1) rest))) (sym is)
-
--- .. and none
-pub place-last : (tree : Tree) (dir : ℕ) (name : List ℕ) (rest : List (List ℕ)) (k : ℕ) → length rest ≤ k
-    → last_place tree dir name (drop k rest) ≡ Ok (record { directory = dir; name = name })
-place-last tree dir name rest k past = ap (last_place tree dir name) (drop_all k rest past)

@@ -12,9 +12,8 @@ use Rattle.tree_model.specs.Tree.{Tree, shown_node, sought_link}
 use Rattle.tree_model.specs.declared.reply.No.{No}
 use Rattle.tree_model.specs.declared.tree.Link.{Link}
 use Rattle.tree_ops.specs.Answered.{Answered}
-use Rattle.tree_ops.specs.Kinds.{kind_of}
+use Rattle.tree_ops.specs.Kinds.{Kind, kind_of}
 use Rattle.tree_ops.specs.Walks.{sought_at, there}
-use Rattle.tree_ops.specs.declared.hidden.Kind.{Kind}
 use Rattle.tree_ops.specs.declared.stop.Stop.{Stop}
 use Rattle.tree_ops.specs.declared.stop.Stop.TheVariants as stop
 use Rattle.tree_ops.proofs.AnsweredLaws.{at_once, follows, read-goes, same_wanted, stops}

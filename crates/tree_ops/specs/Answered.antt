@@ -26,6 +26,11 @@ Says wanted (Ok x) = wanted ≡ Ok x
 Says wanted (Err (stop.No refused)) = (wanted ≡ Err refused) ⊎ (refused ≡ no.Memory)
 Says wanted (Err stop.Device) = Unit {0}
 
+-- what is told of a result, where there is one
+abbrev pub with_ok : {A B : Type 0} → (A → B) → Result A Stop → Result B Stop
+with_ok f (Ok x) = Ok (f x)
+with_ok f (Err why) = Err why
+
 -- what the disk's count of faults did
 abbrev pub Counts : {A : Type 0} → Result A Stop → ℕ → ℕ → Type 0
 Counts (Ok x) before after = after ≡ before

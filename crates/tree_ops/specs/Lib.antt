@@ -11,3 +11,5 @@ pub mod Nodes
 pub mod Shown
 pub mod Parts
 pub mod Walks
+pub mod Below
+pub mod Standings

@@ -8,7 +8,7 @@ use Rattle.volume_def.specs.Values.{value_on}
 use Rattle.volume_def.specs.View.{VolumeView}
 use Rattle.mft_table.specs.declared.mft.Mft.{Mft}
 use Rattle.mft_table.specs.Mft.{MftReads, faults_of, view}
-use Rattle.file_record.specs.Base.{HasHeader}
+use Rattle.file_record.specs.Base.{HasBaseRecord, HasHeader}
 use Rattle.file_record.specs.Held.{AreParts, file_number, parts_held}
 use Rattle.file_record.specs.declared.base.BaseFile.{BaseFile}
 use Rattle.tree_model.specs.Reading.{node_by, read}
@@ -26,6 +26,12 @@ number_of held = file_number held.parts
 
 abbrev pub parts_in : BaseFile → List Part
 parts_in held = parts_held held.parts
+
+-- The loaded file is the file of this number on the volume.
+pub record IsFileHeld (view : VolumeView) (f : ℕ) (held : BaseFile) : Type 0 where
+  pub number : number_of held ≡ f
+  pub base : HasBaseRecord view f held.header
+  pub parts : AreParts view held.parts
 
 -- The loaded file is a node of the volume's tree: the one that its header and its parts are.
 pub record IsNodeHeld (view : VolumeView) (held : BaseFile) : Type 0 where

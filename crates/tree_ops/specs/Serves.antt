@@ -1,13 +1,16 @@
 -- When a volume in use can do a command.
-use Rattle.std.specs.Prelude.{◌≡◌, false}
+use Rattle.std.specs.Prelude.{◌≡◌, IfSome, IsTrue, false}
 use Rattle.vol_disk.specs.declared.Disk.{Ghosts}
 use Rattle.mft_table.specs.Mft.{is_mft_broken}
 use Rattle.attr_store.specs.InUse.{IsInUse}
 use Rattle.tree_ops.specs.declared.volume.Volume.{Volume}
-use Rattle.tree_ops.specs.Volumes.{TellsDisk}
+use Rattle.tree_ops.specs.Standings.{IsStanding}
+use Rattle.tree_ops.specs.Volumes.{TellsDisk, view_under}
 
--- Where the disk tells its contents they are sound, and the tables that are kept are theirs. Nothing is staged, and no write failed.
+-- Where the disk tells its contents they are sound, and the tables that are kept are theirs, and so is the directory in which the
+-- last path ended. Nothing is staged, and no write failed.
 pub record Serves {D : Type 0} (g : Ghosts D) (volume : Volume D g) : Type 0 where
   pub in_use : IsInUse g volume.mft
+  pub last : IsTrue (view_under g volume).told → IfSome volume.last (IsStanding (view_under g volume))
   pub tells : TellsDisk g volume
   pub whole : is_mft_broken g volume.mft ≡ false

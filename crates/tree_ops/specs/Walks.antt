@@ -12,13 +12,23 @@ use Rattle.tree_model.specs.declared.reply.No.TheVariants as no
 use Rattle.tree_model.specs.declared.tree.Found.{Found}
 use Rattle.tree_model.specs.declared.tree.Found.TheVariants as found
 use Rattle.tree_model.specs.declared.tree.Link.{Link}
-use Rattle.tree_ops.specs.declared.hidden.Kind.{Kind}
-use Rattle.tree_ops.specs.declared.hidden.Kind.TheVariants as kind
+use Rattle.file_record.specs.declared.base.BaseFile.{BaseFile}
+use Rattle.tree_ops.specs.Kinds.{Kind}
+use Rattle.tree_ops.specs.Kinds as kind
+use Rattle.tree_ops.specs.Nodes.{IsFileHeld, number_of}
+use Rattle.tree_ops.specs.declared.hidden.Below.{Below}
+use Rattle.tree_ops.specs.declared.hidden.Below.TheVariants as below
+use Rattle.tree_ops.specs.declared.walk.Reached.{Reached}
 
 -- a directory that is shown: a walk stands in one
 pub record IsShownDirectory (view : VolumeView) (dir : ℕ) : Type 0 where
   pub directory : IsDirectory view dir
   pub shown : is_hidden (records_of view) dir ≡ false
+
+-- .. and is held
+pub record IsDirectoryHeld (view : VolumeView) (dir : BaseFile) : Type 0 where
+  pub held : IsFileHeld view (number_of dir) dir
+  pub is_shown : IsShownDirectory view (number_of dir)
 
 -- a name that has to be there
 abbrev pub there : Option Link → Result Link No
@@ -41,6 +51,22 @@ reached_kind link kind.Hidden = Err no.Hidden
 reached_kind link kind.File = Ok (found.Link link)
 reached_kind link kind.Directory = Ok (found.Link link)
 reached_kind link kind.Point = Ok (found.Link link)
+
+-- the same of what is loaded: the directory that goes on, and what was found with its file
+abbrev pub passed_below : Below → Result BaseFile No
+passed_below below.Hidden = Err no.Hidden
+passed_below (below.File held) = Err no.NotDir
+passed_below (below.Directory held) = Ok held
+passed_below (below.Point held) = Err no.Reparse
+
+abbrev pub reached_below : Link → Below → Result Reached No
+reached_below link below.Hidden = Err no.Hidden
+reached_below link (below.File held) = Ok (record { found = found.Link link; held = held })
+reached_below link (below.Directory held) = Ok (record { found = found.Link link; held = held })
+reached_below link (below.Point held) = Ok (record { found = found.Link link; held = held })
+
+abbrev pub found_by : Reached → Found
+found_by to = to.found
 
 -- the line of a link that is no DOS name
 abbrev pub listed_kind : List ℕ → Kind → Option Listed

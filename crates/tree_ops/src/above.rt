@@ -1,35 +1,40 @@
-//! The names by which directories are reached, each read once.
-ghost use Rattle.std.specs.Prelude.{◌≡◌, IsTrue, find, not};
+//! The names by which directories are reached, each read once, and where the ways up from them lead.
+ghost use Rattle.std.specs.Prelude.{◌≡◌, IsTrue, OnOk, find, not};
 ghost use Rattle.std.specs.Ordering.{nat_cmp};
 ghost use Rattle.std.specs.BTreeMap.{get};
 ghost use Rattle.std.specs.Option.{option_copied, option_map};
 ghost use Rattle.volume_def.specs.Readable.{IsFile};
+ghost use Rattle.volume_def.specs.Sound.{IsSound};
 ghost use Rattle.volume_def.specs.View.{VolumeView};
 ghost use Rattle.mft_table.specs.Mft.{view};
 ghost use Rattle.tree_model.specs.Tree.{is_dos};
-ghost use Rattle.attr_store.specs.InUse.{IsInUse};
-ghost use Rattle.tree_ops.specs.Above.{AreAbove, name_above};
+ghost use Rattle.attr_store.specs.InUse.{IsDirectory, IsInUse};
+ghost use Rattle.tree_ops.specs.Above.{AreAbove, leads_hidden, name_above};
 ghost use Rattle.tree_ops.specs.Finds.{Finds};
 
-use crate::outline::load_outline;
+use crate::load::load_file;
+use crate::outline::links_of;
 use crate::stop::Stop;
 use mft_table::Mft;
-use std::alloc::Global;
+use ntfs_def::records::FIRST_ORDINARY;
+use std::alloc::{AllocError, Global};
 use std::collections::BTreeMap;
 use tree_model::Link;
 use vol_disk::Disk;
 
-/// The names of directories that were read: of each the first that is no DOS name.
+/// What was read of the directories above some files: of each the first name that is no DOS name, and where it was asked, whether
+/// the way up from it leads to a record of the system.
 #[derive(Drop)]
 pub struct Above {
     names: BTreeMap<u64, Link>,
+    leads: BTreeMap<u64, bool>,
 }
 
 // The first name that is no DOS name.
 fn first_name(links: Vec<Link>) -> Option<Link>
     ensures { result ≡ find (λ link. not (is_dos link)) links.items }
 {
-    links.into_iter().find(|link| link.space != 2)
+    links.into_iter().find(|link| !link.is_dos())
 }
 
 impl Above {
@@ -39,6 +44,7 @@ impl Above {
     {
         Above {
             names: BTreeMap::new(alloc),
+            leads: BTreeMap::new(alloc),
         }
     }
 
@@ -62,11 +68,11 @@ impl Above {
         if self.names.contains_key(&dir) {
             return Ok(());
         }
-        let outline = match load_outline(alloc, mft, dir) {
-            Ok(outline) => outline,
+        let file = match load_file(alloc, mft, dir) {
+            Ok(file) => file,
             Err(why) => return Err(why),
         };
-        match first_name(outline.links) {
+        match first_name(links_of(alloc, &file.parts)?) {
             Some(link) => {
                 self.names.insert(dir, link)?;
                 Ok(())
@@ -103,5 +109,34 @@ impl Above {
             Ok(()) => Ok(self.name(dir).map(|link| link.parent)),
             Err(why) => Err(why),
         }
+    }
+
+    /// Whether the way up from a directory leads to a record of the system, where that was noted.
+    pub fn leads(&self, dir: u64) -> Option<bool>
+        ensures { result ≡ get nat_cmp self.now.leads dir }
+    {
+        self.leads.get(&dir).copied()
+    }
+
+    /// Notes whether the way up from a directory leads to a record of the system, of at most so many directories on it.
+    ///
+    /// # Errors
+    ///
+    /// Want of memory alone.
+    pub fn note(&mut self, dir: u64, known: bool, most: u64) -> Result<(), AllocError>
+        ensures { OnOk result ((volume : VolumeView) → IsSound volume → IsDirectory volume dir → leads_hidden volume dir ≡ known
+            → AreAbove volume self.old → AreAbove volume self.new) }
+    {
+        let mut at = dir;
+        let mut left = most;
+        'steps: while left > 0 && at >= FIRST_ORDINARY && !self.leads.contains_key(&at) {
+            self.leads.insert(at, known)?;
+            match self.names.get(&at) {
+                Some(link) => at = link.parent,
+                None => return Ok(()),
+            }
+            left -= 1;
+        }
+        Ok(())
     }
 }

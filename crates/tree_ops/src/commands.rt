@@ -1,30 +1,28 @@
 //! The commands that read.
-ghost use Rattle.std.specs.Prelude.{◌≡◌, ℕ, IsSome, IsTrue};
+ghost use Rattle.std.specs.Prelude.{◌≡◌, ℕ, IfSome, IsTrue};
 ghost use Rattle.std.specs.Option.{option_map};
 ghost use Rattle.mft_table.specs.Mft.{MftReads, faults_of, view};
 ghost use Rattle.tree_model.specs.Facts.{TellsFacts};
-ghost use Rattle.tree_model.specs.Paths.{found_file};
 ghost use Rattle.tree_model.specs.Reading.{read};
 ghost use Rattle.tree_model.specs.Refusals.{Facts};
-ghost use Rattle.tree_model.specs.Tree.{node_of};
 ghost use Rattle.attr_store.specs.InUse.{IsInUse};
 ghost use Rattle.tree_ops.specs.Answered.{Answered, Counts, Says};
 ghost use Rattle.tree_ops.specs.Nodes.{IsNodeHeld, number_of};
 ghost use Rattle.tree_ops.specs.Shown.{shown_by, shown_path};
+ghost use Rattle.tree_ops.specs.Standings.{IsStanding};
 ghost use Rattle.tree_ops.specs.Wanted.{links_shown, ls_shown, of_path, wanted};
 
 use crate::data::{cat, objid, read, reparse};
 use crate::df::df;
 use crate::hidden::links_to;
-use crate::load::load_node;
 use crate::node::{attr, is_directory, sec, stat, streams};
+use crate::standing::Standing;
 use crate::stop::Stop;
 use crate::walk::{list_shown, resolve};
 use file_record::BaseFile;
 use mft_table::Mft;
-use ntfs_def::records::ROOT;
 use std::alloc::Global;
-use tree_model::{Answer, Command, Found, No, Path};
+use tree_model::{Answer, Command, No, Path};
 use vol_disk::Disk;
 
 // The path of a command that shows something of a file.
@@ -46,16 +44,6 @@ fn shown_path(command: &Command) -> Option<&Path>
     }
 }
 
-// The file that was found.
-fn file_of(found: &Found) -> u64
-    ensures { result ≡ found_file found.now }
-{
-    match found {
-        Found::Root => ROOT,
-        Found::Link(link) => link.child,
-    }
-}
-
 // `ls`.
 fn ls<D: Disk>(alloc: Global, mft: &mut Mft<'_, D>, held: &BaseFile) -> Result<Answer, Stop>
     requires volume { IsInUse D.Disk mft.old }
@@ -65,7 +53,7 @@ fn ls<D: Disk>(alloc: Global, mft: &mut Mft<'_, D>, held: &BaseFile) -> Result<A
     if !is_directory(held) {
         return Err(Stop::No(No::NotDir));
     }
-    match list_shown(alloc, mft, held.parts.number()) {
+    match list_shown(alloc, mft, held) {
         Err(why) => Err(why),
         Ok(lines) => Ok(Answer::List(lines)),
     }
@@ -77,7 +65,7 @@ fn links<D: Disk>(alloc: Global, mft: &mut Mft<'_, D>, held: &BaseFile) -> Resul
     requires held { IsTrue (view D.Disk mft.old).told → IsNodeHeld (view D.Disk mft.old) held.now }
     ensures answered { Answered D.Disk mft.old mft.new (λ volume. links_shown (read volume) (number_of held.now)) result }
 {
-    match links_to(alloc, mft, held.parts.number()) {
+    match links_to(alloc, mft, held) {
         Err(why) => Err(why),
         Ok(lines) => Ok(Answer::Links(lines)),
     }
@@ -120,58 +108,47 @@ fn show_node<D: Disk>(
     }
 }
 
-// What a command shows of the file of a number, which is shown.
-fn show<D: Disk>(
-    alloc: Global,
-    mft: &mut Mft<'_, D>,
-    command: &Command,
-    file: u64,
-) -> Result<Answer, Stop>
-    requires volume { IsInUse D.Disk mft.old }
-    requires shown { IsTrue (view D.Disk mft.old).told → IsSome (node_of (read (view D.Disk mft.old)) file) }
-    ensures answered { Answered D.Disk mft.old mft.new (λ volume. shown_by command.now (read volume) file) result }
-{
-    match load_node(alloc, mft, file) {
-        Err(why) => Err(why),
-        Ok(held) => show_node(alloc, mft, command, &held),
-    }
-}
-
 // What a command shows of the file that a path leads to.
 fn show_at<D: Disk>(
     alloc: Global,
     mft: &mut Mft<'_, D>,
+    last: &mut Option<Standing>,
     command: &Command,
     path: &Path,
 ) -> Result<Answer, Stop>
     requires volume { IsInUse D.Disk mft.old }
+    requires last { IsTrue (view D.Disk mft.old).told → IfSome last.old (IsStanding (view D.Disk mft.old)) }
     ensures answered { Answered D.Disk mft.old mft.new (λ volume. of_path (read volume) path.now (shown_by command.now (read volume)))
         result }
+    ensures last { IsTrue (view D.Disk mft.old).told → IfSome last.new (IsStanding (view D.Disk mft.old)) }
 {
-    match resolve(alloc, mft, path) {
+    match resolve(alloc, mft, last, path) {
         Err(why) => Err(why),
-        Ok(found) => show(alloc, mft, command, file_of(&found)),
+        Ok(reached) => show_node(alloc, mft, command, &reached.held),
     }
 }
 
 /// The answer to a command, or the refusal that is due. No command that is built has anything to do with opens, with the moment,
-/// or with the session.
+/// or with the session. `last` is the directory in which the last path ended, before the command and behind it.
 pub fn answer<D: Disk>(
     alloc: Global,
     mft: &mut Mft<'_, D>,
+    last: &mut Option<Standing>,
     command: &Command,
 ) -> Result<Answer, Stop>
     requires volume { IsInUse D.Disk mft.old }
+    requires last { IsTrue (view D.Disk mft.old).told → IfSome last.old (IsStanding (view D.Disk mft.old)) }
     ensures reads { (reads : ℕ) × MftReads D.Disk mft.old mft.new reads }
     ensures counts { Counts result (faults_of D.Disk mft.old) (faults_of D.Disk mft.new) }
     ensures says { (facts : Facts) (moment session : ℕ) → IsTrue (view D.Disk mft.old).told → TellsFacts (view D.Disk mft.old) facts
         → Says (wanted facts moment session command.now (view D.Disk mft.old)) result }
+    ensures last { IsTrue (view D.Disk mft.old).told → IfSome last.new (IsStanding (view D.Disk mft.old)) }
 {
     match command {
         Command::Df => Ok(df(mft.mounted())),
         _ => match shown_path(command) {
             None => Err(Stop::No(No::Unbuilt)),
-            Some(path) => show_at(alloc, mft, command, path),
+            Some(path) => show_at(alloc, mft, last, command, path),
         },
     }
 }

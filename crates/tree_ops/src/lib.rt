@@ -11,6 +11,7 @@ mod links;
 mod load;
 mod node;
 mod outline;
+mod standing;
 mod stop;
 mod volume;
 mod walk;

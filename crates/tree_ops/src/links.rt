@@ -1,24 +1,24 @@
 //! The links to a file, by the paths that lead to them.
-ghost use Rattle.std.specs.Prelude.{◌≡◌, ◌∷◌, ◌++◌, [], All, IfOk, IsTrue, OnOk, false, length, map};
+ghost use Rattle.std.specs.Prelude.{◌≡◌, ◌∷◌, ◌++◌, [], All, IfOk, IsTrue, OnOk, false, length, map, reverse};
 ghost use Rattle.ntfs_def.specs.KeyOrder.{fold_of};
-ghost use Rattle.volume_def.specs.CaseClause.{volume_fold};
 ghost use Rattle.volume_def.specs.Files.{records_of};
-ghost use Rattle.volume_def.specs.Readable.{IsFile};
 ghost use Rattle.mft_table.specs.Mft.{view};
 ghost use Rattle.tree_model.specs.Answers.{path_above, path_to, shown_link};
 ghost use Rattle.tree_model.specs.Hidden.{is_hidden};
 ghost use Rattle.tree_model.specs.Ordered.{in_order};
-ghost use Rattle.tree_model.specs.Reading.{links_to, read};
+ghost use Rattle.tree_model.specs.Reading.{read};
 ghost use Rattle.tree_model.specs.Tree.{link_above};
 ghost use Rattle.attr_store.specs.InUse.{IsDirectory, IsInUse};
 ghost use Rattle.tree_ops.specs.Above.{AreAbove};
+ghost use Rattle.tree_ops.specs.FileLinks.{links_held};
 ghost use Rattle.tree_ops.specs.Finds.{Finds};
 ghost use Rattle.tree_ops.specs.Lines.{shown_in};
 
 use crate::above::Above;
 use crate::line::Line;
-use crate::outline::load_outline;
+use crate::outline::links_of;
 use crate::stop::Stop;
+use file_record::BaseFile;
 use mft_table::Mft;
 use ntfs_def::records::ROOT;
 use std::alloc::{AllocError, Global};
@@ -27,17 +27,17 @@ use upcase::UpCase;
 use vol_bytes::Name;
 use vol_disk::Disk;
 
-// Puts a link's name before other names.
+// Puts a link's name behind other names.
 fn put_name(alloc: Global, link: &Link, names: &mut Vec<Name>) -> Result<(), AllocError>
-    ensures { OnOk result (names.new.items ≡ link.now.name ∷ names.old.items) }
+    ensures { OnOk result (names.new.items ≡ names.old.items ++ link.now.name ∷ []) }
 {
     let name = Name::from_vec(Vec::from_slice(alloc, link.name.as_slice())?);
-    names.insert(0, name)?;
+    names.push(name)?;
     Ok(())
 }
 
-// The path of a link that stands in a directory that is shown.
-fn path_of<D: Disk>(
+// The names on the way up from a link that stands in a directory that is shown, its own first.
+fn names_up<D: Disk>(
     alloc: Global,
     mft: &mut Mft<'_, D>,
     above: &mut Above,
@@ -47,8 +47,8 @@ fn path_of<D: Disk>(
     requires directory { IsTrue (view D.Disk mft.old).told → IsDirectory (view D.Disk mft.old) link.now.parent }
     requires shown { IsTrue (view D.Disk mft.old).told → is_hidden (records_of (view D.Disk mft.old)) link.now.parent ≡ false }
     requires above { IsTrue (view D.Disk mft.old).told → AreAbove (view D.Disk mft.old) above.old }
-    ensures found { Finds D.Disk mft.old mft.new (λ volume names. AreAbove volume above.new
-        × (names.items ≡ path_to (read volume) (length (read volume).links) link.now.parent ++ link.now.name ∷ [])) result }
+    ensures found { Finds D.Disk mft.old mft.new (λ volume names. AreAbove volume above.new × (reverse names.items
+        ≡ path_to (read volume) (length (read volume).links) link.now.parent ++ link.now.name ∷ [])) result }
 {
     let mut names = Vec::new(alloc);
     put_name(alloc, link, &mut names)?;
@@ -71,6 +71,29 @@ fn path_of<D: Disk>(
         left -= 1;
     }
     Ok(names)
+}
+
+// The path of a link that stands in a directory that is shown.
+fn path_of<D: Disk>(
+    alloc: Global,
+    mft: &mut Mft<'_, D>,
+    above: &mut Above,
+    link: &Link,
+) -> Result<Vec<Name>, Stop>
+    requires volume { IsInUse D.Disk mft.old }
+    requires directory { IsTrue (view D.Disk mft.old).told → IsDirectory (view D.Disk mft.old) link.now.parent }
+    requires shown { IsTrue (view D.Disk mft.old).told → is_hidden (records_of (view D.Disk mft.old)) link.now.parent ≡ false }
+    requires above { IsTrue (view D.Disk mft.old).told → AreAbove (view D.Disk mft.old) above.old }
+    ensures found { Finds D.Disk mft.old mft.new (λ volume names. AreAbove volume above.new
+        × (names.items ≡ path_to (read volume) (length (read volume).links) link.now.parent ++ link.now.name ∷ [])) result }
+{
+    match names_up(alloc, mft, above, link) {
+        Ok(mut names) => {
+            names.reverse();
+            Ok(names)
+        }
+        Err(why) => Err(why),
+    }
 }
 
 // The line of a link that stands in a directory that is shown.
@@ -169,27 +192,19 @@ pub fn in_order(alloc: Global, lines: Vec<Line>) -> Result<Vec<ShownLink>, Alloc
     without_text(alloc, lines)
 }
 
-/// The links to a file, in order by their directories and names.
+/// The links to a file that is held, in order by their directories and names.
 ///
 /// # Errors
 ///
-/// `Device` where the disk failed, and `Memory`.
-pub fn links_in_order<D: Disk>(
+/// Want of memory alone.
+pub fn links_in_order(
     alloc: Global,
-    mft: &mut Mft<'_, D>,
-    file: u64,
-) -> Result<Vec<Link>, Stop>
-    requires volume { IsInUse D.Disk mft.old }
-    requires file { IsTrue (view D.Disk mft.old).told → IsFile (view D.Disk mft.old) file }
-    ensures found { Finds D.Disk mft.old mft.new (λ volume links.
-        links.items ≡ in_order (link_above (volume_fold volume)) (links_to volume file)) result }
+    case: &UpCase,
+    held: &BaseFile,
+) -> Result<Vec<Link>, AllocError>
+    ensures { IfOk result (λ links. links.items ≡ in_order (link_above (fold_of case.now)) (links_held held.now.parts)) }
 {
-    match load_outline(alloc, mft, file) {
-        Ok(outline) => {
-            let mut links = outline.links;
-            sort_links(&mft.mounted().upcase, &mut links)?;
-            Ok(links)
-        }
-        Err(why) => Err(why),
-    }
+    let mut links = links_of(alloc, &held.parts)?;
+    sort_links(case, &mut links)?;
+    Ok(links)
 }

@@ -1,5 +1,5 @@
 //! A file is loaded, and what an attribute of it holds is read.
-ghost use Rattle.std.specs.Prelude.{◌≡◌, ◌+◌, ◌<◌, ◌≤◌, IfErr, IfOk, IfSome, IsSome, IsTrue, MatchResult, length, slice_get, slice_range};
+ghost use Rattle.std.specs.Prelude.{◌≡◌, ◌+◌, ◌<◌, ◌≤◌, IfErr, IfOk, IfSome, IsTrue, MatchResult, length, slice_get, slice_range};
 ghost use Rattle.volume_def.specs.Readable.{IsFile, WhereReadable};
 ghost use Rattle.volume_def.specs.Values.{attribute_value, pieces_touched};
 ghost use Rattle.mft_table.specs.Mft.{MftReads, faults_of, view};
@@ -7,9 +7,9 @@ ghost use Rattle.file_record.specs.FileNos.{CountsNo, IsReadNo};
 ghost use Rattle.file_record.specs.Held.{AreParts, file_number, parts_held};
 ghost use Rattle.attr_store.specs.Index.{attribute_held};
 ghost use Rattle.attr_store.specs.InUse.{IsInUse};
-ghost use Rattle.tree_model.specs.Reading.{read, shown_content};
-ghost use Rattle.tree_model.specs.Tree.{node_of};
-ghost use Rattle.tree_ops.specs.Nodes.{Fetched, IsNodeHeld, begin_of, number_of};
+ghost use Rattle.tree_model.specs.Reading.{shown_content};
+ghost use Rattle.tree_ops.specs.Finds.{Finds};
+ghost use Rattle.tree_ops.specs.Nodes.{Fetched, IsFileHeld, IsNodeHeld, begin_of, number_of};
 
 use crate::stop::Stop;
 use attr_store::{find_first, read_value};
@@ -20,12 +20,16 @@ use tree_model::No;
 use vol_bytes::Octets;
 use vol_disk::Disk;
 
-/// Loads a file that is shown.
-pub fn load_node<D: Disk>(alloc: Global, mft: &mut Mft<'_, D>, file: u64) -> Result<BaseFile, Stop>
+/// Loads a file that is in use.
+///
+/// # Errors
+///
+/// `Device` where the disk failed, and `Memory`.
+pub fn load_file<D: Disk>(alloc: Global, mft: &mut Mft<'_, D>, file: u64) -> Result<BaseFile, Stop>
     requires volume { IsInUse D.Disk mft.old }
-    requires shown { IsTrue (view D.Disk mft.old).told → IsSome (node_of (read (view D.Disk mft.old)) file) }
+    requires file { IsTrue (view D.Disk mft.old).told → IsFile (view D.Disk mft.old) file }
     ensures number { IfOk result (λ held. number_of held ≡ file) }
-    ensures fetched { Fetched D.Disk mft.old mft.new IsNodeHeld result }
+    ensures found { Finds D.Disk mft.old mft.new (λ volume. IsFileHeld volume file) result }
 {
     match load_base(alloc, mft, file) {
         Ok(Some(held)) => Ok(held),
@@ -61,6 +65,10 @@ fn read_bytes<D: Disk>(
 
 /// Reads the first bytes of what the attribute of a type and name holds, at most so many; `None` where it is packed. An
 /// attribute that is not there holds no byte.
+///
+/// # Errors
+///
+/// `Device` where the disk failed, and `Memory`.
 pub fn read_begin<D: Disk>(
     alloc: Global,
     mft: &mut Mft<'_, D>,

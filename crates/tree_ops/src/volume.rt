@@ -13,6 +13,7 @@ ghost use Rattle.tree_model.specs.Step.{Step};
 ghost use Rattle.tree_model.specs.declared.reply.Reply.TheVariants as reply_is;
 
 use crate::commands::answer;
+use crate::standing::Standing;
 use crate::stop::{CloseNo, Stop};
 use mft_table::{Mft, Mounted};
 use std::alloc::Global;
@@ -24,6 +25,9 @@ use vol_stage::Stage;
 pub struct Volume<'d, D: Disk> {
     alloc: Global,
     mft: Mft<'d, D>,
+    /// The directory in which the last path ended, where one is remembered: a path in the same directory begins there. A command that
+    /// edits is to forget it first.
+    last: Option<Standing>,
 }
 
 impl<'d, D: Disk> Volume<'d, D> {
@@ -43,6 +47,7 @@ impl<'d, D: Disk> Volume<'d, D> {
         Volume {
             alloc,
             mft: Mft::resume(stage, mounted),
+            last: None,
         }
     }
 
@@ -51,7 +56,11 @@ impl<'d, D: Disk> Volume<'d, D> {
         ensures same_reference { result.ghost_name ≡ reference_under D.Disk self.entry }
         ensures disk { result.now ≡ disk_under D.Disk self.entry }
     {
-        let Volume { alloc: _, mft } = self;
+        let Volume {
+            alloc: _,
+            mft,
+            last: _,
+        } = self;
         let (stage, _) = mft.into_parts();
         stage.finish()
     }
@@ -77,7 +86,7 @@ impl<D: Disk> Volume<'_, D> {
             → Rose (D.faults (disk_under D.Disk self.old)) (D.faults (disk_under D.Disk self.new)) }
     {
         let _ = session;
-        match answer(self.alloc, &mut self.mft, command) {
+        match answer(self.alloc, &mut self.mft, &mut self.last, command) {
             Ok(shown) => Reply::Ok(shown),
             Err(Stop::No(refused)) => Reply::No(refused),
             Err(Stop::Device) => Reply::Device,

@@ -24,6 +24,7 @@ returns-in-None g c =
         | inl df ↦ absurd (c.in_default.not-Df df)
         | inr unbuilt ↦ not-built facts moment session c.args.command.now v unbuilt
       ]);
+      last = c.requires.last;
     }
 
 pub returns-in-Some : goal.returns-in-Some
@@ -36,4 +37,5 @@ returns-in-Some g c =
       says = λ facts moment session told tells.
           subst (λ r. Says r c.show_at.result) (sym (shown-wanted facts moment session v c.args.command.now c.in-Some.path.now (sym c.in-Some.ensures)))
           (call.says told);
+      last = c.show_at.ensures.last;
     }

@@ -9,6 +9,8 @@ use Rattle.tree_ops.specs.Wanted.{ls_shown}
 use Rattle.tree_ops.specs.declared.stop.Stop.TheVariants as stop
 use Rattle.tree_ops.proofs.AnsweredLaws.{at_once}
 use Rattle.tree_ops.proofs.FetchedLaws.{ok-answers}
+use Rattle.tree_ops.proofs.NodeLaws.{file-held, held-directory, held-shown}
+use Rattle.tree_ops.proofs.WalkLaws.{directory-shown}
 use Rattle.tree_ops.proofs.StreamLaws.{ls-directory, ls-file}
 use Rattle.tree_ops.proofs.commands.ls.Goals as goal
 
@@ -20,12 +22,26 @@ returns-then-not-is_directory g c =
           inl (ls-file (view g.D.Disk c.args.mft.now) held (c.requires.held told) (sym c.is_directory.ensures ∙ c.if-not-is_directory.true)));
     }
 
+pub list_shown-requires : goal.list_shown-requires
+list_shown-requires g c = record {
+  volume = c.requires.volume;
+  directory = λ told.
+      let v = view g.D.Disk c.args.mft.now in
+      let held = c.args.held.now in
+      let n = c.requires.held told in
+      let flag = sym c.is_directory.ensures ∙ c.if-not-is_directory.false in
+      record {
+        held = file-held v held n;
+        is_shown = directory-shown v (number_of held) (held-directory v held n flag) (held-shown v held n);
+      };
+}
+
 pub returns-in-Ok : goal.returns-in-Ok
 returns-in-Ok g c =
     let held = c.args.held.now in
     record {
-      answered = ok-answers g.D.Disk (λ v. listing (read v) c.number.result) (λ v. ls_shown (read v) (number_of held)) _ _ c.in-Ok.lines
+      answered = ok-answers g.D.Disk (λ v. listing (read v) (number_of held)) (λ v. ls_shown (read v) (number_of held)) _ _ c.in-Ok.lines
           (a.List c.in-Ok.lines) c.in-Ok.ensures.answered (λ told lines.
           ls-directory (view g.D.Disk c.args.mft.now) held (c.requires.held told) (sym c.is_directory.ensures ∙ c.if-not-is_directory.false)
-          ∙ ap (λ shown. Ok (a.List shown)) (ap (listing (read (view g.D.Disk c.args.mft.now))) (sym c.number.ensures) ∙ lines));
+          ∙ ap (λ shown. Ok (a.List shown)) lines);
     }

@@ -1,8 +1,6 @@
-use Rattle.std.proofs.Common.{IsSome, sym, subst}
-use Rattle.mft_table.specs.Mft.{view}
 use Rattle.tree_model.specs.Paths.{found_file, resolve}
 use Rattle.tree_model.specs.Reading.{read}
-use Rattle.tree_model.specs.Tree.{node_of}
+use Rattle.tree_ops.specs.Nodes.{IsNodeHeld}
 use Rattle.tree_ops.specs.Shown.{shown_by}
 use Rattle.tree_ops.proofs.AnsweredLaws.{follows, in-use-kept, stops, told-kept}
 use Rattle.tree_ops.proofs.FetchedLaws.{same-number}
@@ -12,19 +10,21 @@ pub returns-in-Err : goal.returns-in-Err
 returns-in-Err g c = record {
   answered = stops g.D.Disk _ _ (λ v. resolve (read v) c.args.path.now) (λ v found. shown_by c.args.command.now (read v) (found_file found))
       c.in-Err.why c.in-Err.ensures.answered;
+  last = c.resolve.ensures.last;
 }
 
-pub show-requires-clause-volume : goal.show-requires-clause-volume
-show-requires-clause-volume g c = in-use-kept g.D.Disk _ _ _ c.in-Ok.ensures.answered.only c.requires.volume
+pub show_node-requires-clause-volume : goal.show_node-requires-clause-volume
+show_node-requires-clause-volume g c = in-use-kept g.D.Disk _ _ _ c.in-Ok.ensures.answered.only c.requires.volume
 
-pub show-requires-clause-shown : goal.show-requires-clause-shown
-show-requires-clause-shown g c =
-    told-kept g.D.Disk _ _ _ (λ v. IsSome (node_of (read v) c.file_of.result)) c.in-Ok.ensures.answered.only
-    (λ told. subst (λ f. IsSome (node_of (read (view g.D.Disk c.args.mft.now)) f)) (sym c.file_of.ensures) (c.in-Ok.ensures.node told))
+pub show_node-requires-clause-held : goal.show_node-requires-clause-held
+show_node-requires-clause-held g c =
+    told-kept g.D.Disk _ _ _ (λ v. IsNodeHeld v c.in-Ok.reached.held) c.in-Ok.ensures.answered.only c.in-Ok.ensures.held
 
 pub returns-in-Ok : goal.returns-in-Ok
 returns-in-Ok g c = record {
   answered = follows g.D.Disk _ _ _ (λ v. resolve (read v) c.args.path.now) (λ v found. shown_by c.args.command.now (read v) (found_file found))
-      c.in-Ok.found _ c.in-Ok.ensures.answered
-      (same-number g.D.Disk _ _ (λ f v. shown_by c.args.command.now (read v) f) _ _ c.show.result c.file_of.ensures c.show.ensures.answered);
+      c.in-Ok.reached.found _ c.in-Ok.ensures.answered
+      (same-number g.D.Disk _ _ (λ f v. shown_by c.args.command.now (read v) f) _ _ c.show_node.result c.in-Ok.ensures.number
+      c.show_node.ensures.answered);
+  last = c.resolve.ensures.last;
 }

@@ -1,18 +1,26 @@
 use Rattle.std.proofs.Common.{◌≡◌, ◌-◌, suc, Some, None, sym, ap, subst, ◌∙◌, arith}
-use Rattle.volume_def.specs.Files.{records_of}
 use Rattle.mft_table.specs.Mft.{view}
 use Rattle.attr_store.specs.InUse.{IsDirectory}
-use Rattle.tree_model.specs.Hidden.{leads_to_system}
-use Rattle.tree_ops.proofs.FindsLaws.{finds-after, finds-both, finds-ok, finds-stop}
-use Rattle.tree_ops.proofs.KindLaws.{low-leads, steps-up}
+use Rattle.tree_ops.proofs.FindsLaws.{finds-after, finds-both, finds-ok, finds-plain, finds-stop}
+use Rattle.tree_ops.proofs.KindLaws.{IsUp, up-begins, up-ends, up-goes, up-known, up-low}
 use Rattle.tree_ops.proofs.hidden.leads_to_system.Goals as goal
+
+pub steps-init : goal.steps-init
+steps-init g c = finds-plain g.D.Disk c.args.mft.now _ 0 (λ told. (
+  c.requires.above told,
+  c.requires.directory told,
+  up-begins (view g.D.Disk c.args.mft.now) (c.requires.volume told).sound c.args.dir c.args.most (c.requires.directory told)
+      (c.requires.most told),
+))
 
 pub returns-in-Ok-None : goal.returns-in-Ok-None
 returns-in-Ok-None g c = record {
   found = finds-ok g.D.Disk c.args.mft.now c.parent.new.mft _ _ _ _
       (finds-both g.D.Disk c.args.mft.now c.steps.mft c.parent.new.mft _ _ _ _ c.steps.invariant c.in-Ok-None.ensures.found) (λ told both.
       let v = view g.D.Disk c.args.mft.now in
-      let up = steps-up v (c.requires.volume told).sound c.steps.at 0 c.in-Ok-None.field-0 c.if-at-ge-FIRST_ORDINARY.true both.0.1 both.1.1 in
+      let left : c.steps.left ≡ suc (c.steps.left - 1) = omega (arith, c.steps-test.true) in
+      let up = up-goes v (c.requires.volume told).sound c.args.dir c.steps.at (c.steps.left - 1) c.in-Ok-None.field-0
+      c.if-at-ge-FIRST_ORDINARY.true (subst (IsUp v c.args.dir c.steps.at) left both.0.2) both.1.1 in
       let none : None ≡ Some up.parent = sym c.in-Ok-None.field-0-is ∙ up.is in
       absurd (cc));
 }
@@ -28,19 +36,30 @@ steps-preserved g c =
     finds-ok g.D.Disk c.args.mft.now c.parent.new.mft _ _ _ _
     (finds-both g.D.Disk c.args.mft.now c.steps.mft c.parent.new.mft _ _ _ _ c.steps.invariant c.in-Ok-Some.ensures.found) (λ told both.
     let v = view g.D.Disk c.args.mft.now in
-    let left : suc (c.steps.left - 1) ≡ c.steps.left = omega (arith, c.steps-test.true) in
-    let up = steps-up v (c.requires.volume told).sound c.steps.at (c.steps.left - 1) c.in-Ok-Some.field-0 c.if-at-ge-FIRST_ORDINARY.true
-    both.0.1 both.1.1 in
+    let left : c.steps.left ≡ suc (c.steps.left - 1) = omega (arith, c.steps-test.true) in
+    let up = up-goes v (c.requires.volume told).sound c.args.dir c.steps.at (c.steps.left - 1) c.in-Ok-Some.field-0
+    c.if-at-ge-FIRST_ORDINARY.true (subst (IsUp v c.args.dir c.steps.at) left both.0.2) both.1.1 in
     let some : Some up.parent ≡ Some c.in-Ok-Some.parent = sym up.is ∙ c.in-Ok-Some.field-0-is in
     let same : up.parent ≡ c.in-Ok-Some.parent = cc in (
       both.1.0,
       subst (IsDirectory v) same up.directory,
-      ap (leads_to_system (records_of v) (c.steps.left - 1)) (sym same) ∙ up.leads
-          ∙ ap (λ k. leads_to_system (records_of v) k c.steps.at) left ∙ both.0.2,
+      subst (λ p. IsUp v c.args.dir p (c.steps.left - 1)) same up.up,
     ))
+
+pub returns-in-Some : goal.returns-in-Some
+returns-in-Some g c = record {
+  found = finds-ok g.D.Disk c.args.mft.now c.steps.mft _ _ _ _ c.steps.invariant (λ told is. (
+    is.0,
+    up-known (view g.D.Disk c.args.mft.now) (c.requires.volume told).sound c.args.dir c.steps.at c.steps.left c.in-Some.known is.2 is.1
+        (is.0.leads c.steps.at c.in-Some.known (sym c.in-Some.ensures)),
+  ));
+}
 
 pub returns-then-at-lt-FIRST_ORDINARY : goal.returns-then-at-lt-FIRST_ORDINARY
 returns-then-at-lt-FIRST_ORDINARY g c = record {
-  found = finds-ok g.D.Disk c.args.mft.now c.steps.mft _ _ _ _ c.steps.invariant (λ told is.
-      (is.0, low-leads (view g.D.Disk c.args.mft.now) c.steps.left c.steps.at c.if-at-lt-FIRST_ORDINARY.true ∙ is.2));
+  found = finds-ok g.D.Disk c.args.mft.now c.steps.mft _ _ _ _ c.steps.invariant (λ told is. (
+    is.0,
+    up-ends (view g.D.Disk c.args.mft.now) (c.requires.volume told).sound c.args.dir c.steps.at c.steps.left is.2
+        c.if-at-lt-FIRST_ORDINARY.true,
+  ));
 }

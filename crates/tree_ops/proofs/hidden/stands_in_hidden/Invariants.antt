@@ -1,9 +1,7 @@
-use Rattle.std.proofs.Common.{◌≡◌, ◌-◌, ℕ, Ok, false, take}
+use Rattle.std.proofs.Common.{◌≡◌, ℕ, Ok, false, take}
 use Rattle.std.specs.List.{list_any}
-use Rattle.volume_def.specs.Files.{records_of}
-use Rattle.tree_model.specs.Hidden.{leads_to_system}
 use Rattle.tree_model.specs.declared.tree.Link.{Link}
-use Rattle.tree_ops.specs.Above.{AreAbove}
+use Rattle.tree_ops.specs.Above.{AreAbove, leads_hidden}
 use Rattle.tree_ops.specs.Finds.{Finds}
 use Rattle.tree_ops.proofs.hidden.stands_in_hidden.Given as goal
 
@@ -11,5 +9,5 @@ use Rattle.tree_ops.proofs.hidden.stands_in_hidden.Given as goal
 abbrev pub invariant-loop-link : goal.invariant-loop-link
 invariant-loop-link g l =
     Finds g.D.Disk l.fn.mft l.mft (λ volume (_ : ℕ). AreAbove volume l.above
-    × (list_any (λ (link : Link). leads_to_system (records_of volume) (volume.layout.count - 1) link.parent) (take l.link-index l.links) ≡ false))
+    × (list_any (λ (link : Link). leads_hidden volume link.parent) (take l.link-index l.links) ≡ false))
     (Ok 0)

@@ -2,22 +2,29 @@ use Rattle.std.proofs.Common.{Some, None, sym, ◌∙◌}
 use Rattle.volume_def.specs.CaseClause.{volume_fold}
 use Rattle.mft_table.specs.Mft.{view}
 use Rattle.tree_model.specs.Reading.{directory_links}
+use Rattle.tree_ops.specs.Nodes.{number_of}
 use Rattle.tree_ops.proofs.WalkLaws.{sought-among}
 use Rattle.tree_ops.proofs.WalkSteps.{sought-goes}
 use Rattle.tree_ops.proofs.walk.seek.Goals as goal
 
+pub lookup_in-requires-clause-parts : goal.lookup_in-requires-clause-parts
+lookup_in-requires-clause-parts g c = λ told. (c.requires.directory told).held.parts
+
+pub lookup_in-requires-clause-directory : goal.lookup_in-requires-clause-directory
+lookup_in-requires-clause-directory g c = λ told. (c.requires.directory told).is_shown.directory
+
 pub returns-in-Some-clause-answered : goal.returns-in-Some-clause-answered
 returns-in-Some-clause-answered g c =
-    sought-goes g.D.Disk c.args.mft.now c.lookup.new.mft c.args.dir c.args.name.now (Some c.in-Some.link)
+    sought-goes g.D.Disk c.args.mft.now c.lookup_in.new.mft (number_of c.args.dir.now) c.args.name.now (Some c.in-Some.link)
     c.in_ok-link.ensures.reads c.in_ok-link.ensures.faults (λ told. sym c.in-Some.is ∙ c.in_ok-link.ensures.found told)
 
 pub returns-in-Some-clause-among : goal.returns-in-Some-clause-among
 returns-in-Some-clause-among g c = λ told.
     let volume = view g.D.Disk c.args.mft.now in
-    sought-among (volume_fold volume) (directory_links volume c.args.dir) c.args.name.now c.in_ok-link.field-0 c.in-Some.link
+    sought-among (volume_fold volume) (directory_links volume (number_of c.args.dir.now)) c.args.name.now c.in_ok-link.field-0 c.in-Some.link
     (c.in_ok-link.ensures.found told) c.in-Some.is
 
 pub returns-in-None-clause-answered : goal.returns-in-None-clause-answered
 returns-in-None-clause-answered g c =
-    sought-goes g.D.Disk c.args.mft.now c.lookup.new.mft c.args.dir c.args.name.now None
+    sought-goes g.D.Disk c.args.mft.now c.lookup_in.new.mft (number_of c.args.dir.now) c.args.name.now None
     c.in_ok-link.ensures.reads c.in_ok-link.ensures.faults (λ told. sym c.in-None.is ∙ c.in_ok-link.ensures.found told)
