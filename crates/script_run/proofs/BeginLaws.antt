@@ -44,15 +44,15 @@ ran_memory first text old new begins now same = record {
 }
 
 pub ran_device : (first : State) (text : List ℕ) (old new : World) → Begins first → old.now ≡ Some first.image → IsUntouched old new
-    → Ran first.image text end.Device old new
-ran_device first text old new begins now same = record {
+    → new.sink_faults ≡ old.sink_faults → Ran first.image text end.Device old new
+ran_device first text old new begins now same quiet = record {
   first = first;
   on_image = refl;
   begins = begins;
   turns = [];
   session = tt;
   lines = no_lines text;
-  printed = inl (same.got ∙ sym (no_text old.got));
+  printed = inl (quiet, same.got ∙ sym (no_text old.got));
   finals = [];
   settled = same.settled ∙ sym (no_images old.settled);
   leaves = (refl, record { bytes = first.image; are = same.now ∙ now; state = inr (inl (whole_as first begins)) });

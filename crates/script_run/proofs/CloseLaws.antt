@@ -11,7 +11,7 @@ use Rattle.script_run.specs.declared.end.ScriptEnd.{ScriptEnd}
 use Rattle.script_run.specs.declared.end.ScriptEnd.TheVariants as end
 use Rattle.script_run.specs.Ran.{BlamesEnd, IsCutOff, IsPrinted, Ran, is_broken}
 use Rattle.script_run.specs.Says.{printed_of}
-use Rattle.script_run.specs.SoFar.{PrintsAt, RanLines}
+use Rattle.script_run.specs.SoFar.{BlamesLines, PrintsAt, RanLines}
 use Rattle.script_run.specs.Turns.{Ready}
 use Rattle.script_run.specs.World.{World}
 use Rattle.script_run.proofs.TurnLaws.{harmed_before, whole_as}
@@ -32,23 +32,33 @@ printed_at end.Memory turns old new b p = p
 printed_at end.TooMuch turns old new b p = p
 
 -- the printed text, where the disk failed behind this end
-printed_behind : (given : ScriptEnd) (turns : List Turn) (old new : World) → BlamesEnd given old new → PrintsAt given old.got turns new.got
-    → IsPrinted end.Device turns old new
-printed_behind end.Done turns old new b p = inl p
-printed_behind end.Source turns old new b p = inl p
+printed_behind : (given : ScriptEnd) (turns : List Turn) (old new : World) → BlamesLines given old new
+    → PrintsAt given old.got turns new.got → IsPrinted end.Device turns old new
+printed_behind end.Done turns old new b p = inl (b.sink, p)
+printed_behind end.Source turns old new b p = inl (b.2, p)
 printed_behind end.Sink turns old new b p = inr (b.2, p)
-printed_behind end.Device turns old new b p = inl p
-printed_behind end.Memory turns old new b p = inl p
-printed_behind end.TooMuch turns old new b p = inl p
+printed_behind end.Device turns old new b p = inl (b.2, p)
+printed_behind end.Memory turns old new b p = inl (b.sink, p)
+printed_behind end.TooMuch turns old new b p = inl (b.sink, p)
 
 printed_past : (turns : List Turn) (old middle new : World) → middle.got ≡ new.got → middle.sink_faults ≡ new.sink_faults
     → IsPrinted end.Device turns old middle → IsPrinted end.Device turns old new
-printed_past turns old middle new got sink (inl all) = inl (subst (IsAppended old.got (printed_of turns)) got all)
+printed_past turns old middle new got sink (inl all) =
+    inl (subst (λ count. count ≡ old.sink_faults) sink all.0, subst (IsAppended old.got (printed_of turns)) got all.1)
 printed_past turns old middle new got sink (inr part) =
     inr (subst (Rose old.sink_faults) sink part.0, subst (IsCutOff turns old.got) got part.1)
 
+-- the lines' ending is one of a run
+pub blames_end : (given : ScriptEnd) (old new : World) → BlamesLines given old new → BlamesEnd given old new
+blames_end end.Done old new b = b
+blames_end end.Source old new b = b
+blames_end end.Sink old new b = b
+blames_end end.Device old new b = (b.0, inl b.1)
+blames_end end.Memory old new b = b
+blames_end end.TooMuch old new b = b
+
 -- what a device fault blames behind an end
-pub blames_behind : (given : ScriptEnd) (old new : World) → is_broken given ≡ false → BlamesEnd given old new → (last : ℕ)
+pub blames_behind : (given : ScriptEnd) (old new : World) → is_broken given ≡ false → BlamesLines given old new → (last : ℕ)
     → Rose new.disk_faults last
     → Rose old.disk_faults last × ((new.source_faults ≡ old.source_faults) ⊎ (new.sink_faults ≡ old.sink_faults))
 blames_behind end.Done old new b n last r = (subst (λ count. Rose count last) n.disk r, inl n.source)
@@ -71,32 +81,32 @@ blames_same end.TooMuch old new last n d s k = record { disk = d ∙ n.disk; sou
 -- the disk failed among the lines
 pub ran_broken : {D : Type 0} (g : disk.Ghosts D) (first : State) (text : List ℕ) (given : ScriptEnd) (volume volume' : Volume D g)
     (old new : World) → Ready g volume first → VolumeReads g volume volume' → is_broken given ≡ true
-    → RanLines g first text old.got old.settled given volume' new.left new.got
+    → RanLines g first text old.got old.settled given volume' new.left new.got → BlamesLines given old new
     → old.written ≡ g.written (disk_under g volume) → new.written ≡ g.written (disk_under g volume')
     → new.now ≡ g.now (disk_under g volume') → new.settled ≡ g.settled (disk_under g volume')
     → Ran first.image text given old new
-ran_broken g first text given volume volume' old new ready reads b r w w' now settled = record {
+ran_broken g first text given volume volume' old new ready reads b r blames w w' now settled = record {
   first = first;
   on_image = refl;
   begins = ready.begins;
   turns = r.turns;
   session = r.session;
   lines = r.lines;
-  printed = by given b r.printed;
+  printed = by given b blames r.printed;
   finals = [];
   settled = settled ∙ r.settled ∙ none_behind r.turns old.settled;
   leaves = rw b (refl, rw now (rw b at r.stands));
   unwritten = λ _. w' ∙ reads.written ∙ sym w;
 }
   where
-    by : (given : ScriptEnd) → is_broken given ≡ true → PrintsAt given old.got r.turns new.got
+    by : (given : ScriptEnd) → is_broken given ≡ true → BlamesLines given old new → PrintsAt given old.got r.turns new.got
         → IsPrinted given r.turns old new
-    by end.Done e p = cc
-    by end.Source e p = cc
-    by end.Sink e p = cc
-    by end.Device e p = inl p
-    by end.Memory e p = cc
-    by end.TooMuch e p = cc
+    by end.Done e b p = cc
+    by end.Source e b p = cc
+    by end.Sink e b p = cc
+    by end.Device e b p = inl (b.2, p)
+    by end.Memory e b p = cc
+    by end.TooMuch e b p = cc
 
 -- the volume was closed
 pub ran_closed : {D : Type 0} (g : disk.Ghosts D) (first : State) (text : List ℕ) (given : ScriptEnd) (volume lined closed : Volume D g)
@@ -129,7 +139,7 @@ ran_closed g first text given volume lined closed old new ready reads then b r w
 -- the disk failed while the volume was closed
 pub ran_unclosed : {D : Type 0} (g : disk.Ghosts D) (first : State) (text : List ℕ) (given : ScriptEnd) (volume lined closed : Volume D g)
     (old new : World) → Ready g volume first → VolumeReads g volume lined → VolumeReads g lined closed → is_broken given ≡ false
-    → RanLines g first text old.got old.settled given lined new.left new.got → (middle : World) → BlamesEnd given old middle
+    → RanLines g first text old.got old.settled given lined new.left new.got → (middle : World) → BlamesLines given old middle
     → middle.got ≡ new.got → middle.sink_faults ≡ new.sink_faults
     → old.written ≡ g.written (disk_under g volume) → new.written ≡ g.written (disk_under g closed)
     → new.now ≡ g.now (disk_under g closed) → new.settled ≡ g.settled (disk_under g lined)

@@ -13,8 +13,8 @@ use Rattle.script_run.specs.Closing.{Closes, IsHarmed, has_edit}
 use Rattle.script_run.specs.Says.{SaysLine, lines_of, printed_of}
 use Rattle.script_run.specs.World.{NoFaults, World}
 
--- The count that rose says how a script ended, as in the program's other words. A device fault may come behind another, while the
--- volume is closed.
+-- The count that rose says how a script ended, as in the program's other words. Beside the disk's the source's or the sink's may
+-- have risen too, but not both.
 abbrev pub BlamesEnd : ScriptEnd → World → World → Type 0
 BlamesEnd end.Done old new = NoFaults old new
 BlamesEnd end.Source old new =
@@ -52,10 +52,11 @@ pub record IsCutOff (turns : List Turn) (before after : Option (List ℕ)) : Typ
   pub part : ℕ
   pub printed : IsAppended before (printed_of whole ++ take part (text_of last.answer)) after
 
--- What was printed of the replies: all of them, and only where the sink failed a part of the last one.
+-- What was printed of the replies: all of them, and only where the sink failed a part of the last one. Where the disk failed in the
+-- end, the sink's count tells which.
 abbrev pub IsPrinted : ScriptEnd → List Turn → World → World → Type 0
 IsPrinted end.Sink turns old new = IsCutOff turns old.got new.got
-IsPrinted end.Device turns old new = IsAppended old.got (printed_of turns) new.got
+IsPrinted end.Device turns old new = ((new.sink_faults ≡ old.sink_faults) × IsAppended old.got (printed_of turns) new.got)
     ⊎ (Rose old.sink_faults new.sink_faults × IsCutOff turns old.got new.got)
 IsPrinted end.Done turns old new = IsAppended old.got (printed_of turns) new.got
 IsPrinted end.Source turns old new = IsAppended old.got (printed_of turns) new.got

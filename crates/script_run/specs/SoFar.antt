@@ -1,5 +1,6 @@
 -- A run so far. Until there are edits no turn is one.
 use Rattle.std.specs.Prelude.{◌≡◌, ◌++◌, ℕ, List, Option, false, MatchBool}
+use Rattle.vol_disk.specs.Count.{Rose}
 use Rattle.vol_disk.specs.declared.Disk as disk
 use Rattle.vol_disk.specs.declared.Source as source
 use Rattle.vol_disk.specs.Contents.{map_told}
@@ -12,9 +13,10 @@ use Rattle.tree_ops.specs.Volumes.{disk_under}
 use Rattle.script_run.specs.declared.end.ScriptEnd.{ScriptEnd}
 use Rattle.script_run.specs.declared.end.ScriptEnd.TheVariants as end
 use Rattle.script_run.specs.Closing.{IsHarmed, has_edit}
-use Rattle.script_run.specs.Ran.{AreLines, IsCutOff, is_broken}
+use Rattle.script_run.specs.Ran.{AreLines, BlamesEnd, IsCutOff, is_broken}
 use Rattle.script_run.specs.Says.{SaysLine, lines_of, printed_of}
 use Rattle.script_run.specs.Turns.{Ready}
+use Rattle.script_run.specs.World.{World}
 
 -- Between two lines.
 pub record SoFar {D S : Type 0} (g : disk.Ghosts D) (s : source.Ghosts S) (first : State) (text : List ℕ) (before : Option (List ℕ))
@@ -26,6 +28,16 @@ pub record SoFar {D S : Type 0} (g : disk.Ghosts D) (s : source.Ghosts S) (first
   pub settled : g.settled (disk_under g volume) ≡ map_told (λ images. images ++ images_of turns) past
   pub printed : IsAppended before (printed_of turns) got
   pub lines : HasRead s text (lines_of turns) reader script
+
+-- The count that rose says how the lines ended. Where the disk failed among them, no other count rose.
+abbrev pub BlamesLines : ScriptEnd → World → World → Type 0
+BlamesLines end.Device old new =
+    Rose old.disk_faults new.disk_faults × (new.source_faults ≡ old.source_faults) × (new.sink_faults ≡ old.sink_faults)
+BlamesLines end.Done old new = BlamesEnd end.Done old new
+BlamesLines end.Source old new = BlamesEnd end.Source old new
+BlamesLines end.Sink old new = BlamesEnd end.Sink old new
+BlamesLines end.Memory old new = BlamesEnd end.Memory old new
+BlamesLines end.TooMuch old new = BlamesEnd end.TooMuch old new
 
 -- what was printed at the end of the lines
 abbrev pub PrintsAt : ScriptEnd → Option (List ℕ) → List Turn → Option (List ℕ) → Type 0

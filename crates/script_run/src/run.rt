@@ -5,7 +5,7 @@ ghost use Rattle.tree_model.specs.Session.{State};
 ghost use Rattle.tree_ops.specs.Serves.{Serves};
 ghost use Rattle.tree_ops.specs.Volumes.{VolumeReads, disk_under};
 ghost use Rattle.script_run.specs.Ran.{BlamesEnd, Ran};
-ghost use Rattle.script_run.specs.SoFar.{RanLines, SoFar};
+ghost use Rattle.script_run.specs.SoFar.{BlamesLines, RanLines, SoFar};
 ghost use Rattle.script_run.specs.Turns.{Ready};
 ghost use Rattle.script_run.specs.World.{NoFaults, world};
 
@@ -31,7 +31,7 @@ fn run_line<D: Disk, S: Source, K: Sink>(
     ensures goes_on { result ≡ None → consumed_of reader.old < consumed_of reader.new }
     ensures faults { let old = world D.Disk S.Source K.Sink (disk_under D.Disk volume.old) script.old out.old in
         let new = world D.Disk S.Source K.Sink (disk_under D.Disk volume.new) script.new out.new in
-        MatchOption result (NoFaults old new) (λ end. BlamesEnd end old new) }
+        MatchOption result (NoFaults old new) (λ end. BlamesLines end old new) }
     ensures did { (first : State) (text : List ℕ) (before : Option (List ℕ)) (past : Option (List (List ℕ)))
         → SoFar D.Disk S.Source first text before past volume.old script.old (K.got out.old) reader.old
         → MatchOption result
@@ -62,7 +62,7 @@ fn run_lines<D: Disk, S: Source, K: Sink>(
     requires serves { Serves D.Disk volume.old }
     ensures serves { result ≢ ScriptEnd.Device → Serves D.Disk volume.new }
     ensures reads { VolumeReads D.Disk volume.old volume.new }
-    ensures faults { BlamesEnd result (world D.Disk S.Source K.Sink (disk_under D.Disk volume.old) script.old out.old)
+    ensures faults { BlamesLines result (world D.Disk S.Source K.Sink (disk_under D.Disk volume.old) script.old out.old)
         (world D.Disk S.Source K.Sink (disk_under D.Disk volume.new) script.new out.new) }
     ensures ran { (first : State) (text : List ℕ) → Ready D.Disk volume.old first → S.left script.old ≡ Some text
         → RanLines D.Disk first text (K.got out.old) (D.settled (disk_under D.Disk volume.old)) result volume.new

@@ -1,7 +1,7 @@
 use Rattle.std.proofs.Common.{refl, sym, ◌∙◌}
 use Rattle.tree_ops.specs.Volumes.{disk_under}
 use Rattle.script_run.specs.World.{world}
-use Rattle.script_run.proofs.CloseLaws.{ran_broken, ran_closed, ran_unclosed}
+use Rattle.script_run.proofs.CloseLaws.{blames_behind, blames_end, blames_same, ran_broken, ran_closed, ran_unclosed}
 use Rattle.script_run.proofs.run.run_script.Goals as goal
 
 pub returns-then-is_broken-clause-ran : goal.returns-then-is_broken-clause-ran
@@ -11,7 +11,7 @@ returns-then-is_broken-clause-ran g c first text ready left =
     (world g.D.Disk g.S.Source g.K.Sink (disk_under g.D.Disk c.run_lines-end.new.volume) c.run_lines-end.new.script
     c.run_lines-end.new.out)
     ready c.run_lines-end.ensures.reads (sym c.is_broken.ensures ∙ c.if-is_broken.true)
-    (c.run_lines-end.ensures.ran first text ready left) refl refl refl refl
+    (c.run_lines-end.ensures.ran first text ready left) c.run_lines-end.ensures.faults refl refl refl refl
 
 pub returns-in-Ok-clause-ran : goal.returns-in-Ok-clause-ran
 returns-in-Ok-clause-ran g c first text ready left =
@@ -31,3 +31,16 @@ returns-in-Err-clause-ran g c first text ready left =
     (world g.D.Disk g.S.Source g.K.Sink (disk_under g.D.Disk c.run_lines-end.new.volume) c.run_lines-end.new.script
     c.run_lines-end.new.out)
     c.run_lines-end.ensures.faults refl refl refl refl refl c.close.ensures.settled
+
+pub returns-then-is_broken-clause-faults : goal.returns-then-is_broken-clause-faults
+returns-then-is_broken-clause-faults g c = blames_end c.run_lines-end.result _ _ c.run_lines-end.ensures.faults
+
+pub returns-in-Ok-clause-faults : goal.returns-in-Ok-clause-faults
+returns-in-Ok-clause-faults g c =
+    blames_same c.run_lines-end.result _ _ _ (blames_end c.run_lines-end.result _ _ c.run_lines-end.ensures.faults) c.in-Ok.ensures.faults
+    refl refl
+
+pub returns-in-Err-clause-faults : goal.returns-in-Err-clause-faults
+returns-in-Err-clause-faults g c =
+    blames_behind c.run_lines-end.result _ _ (sym c.is_broken.ensures ∙ c.if-is_broken.false) c.run_lines-end.ensures.faults _
+    c.in-Err.ensures.faults
