@@ -36,7 +36,8 @@ fn push_entry(
     letters: &[u8],
 ) -> Result<(), AllocError>
     requires { length letters.now ≤ 10 }
-    ensures { OnOk result (entries.new.items ≡ entries.old.items ++ root_entry (system_name number sequence directory letters.now) ∷ []) }
+    ensures { OnOk result (entries.new.items
+        ≡ entries.old.items ++ root_entry (system_name number sequence directory letters.now) ∷ []) }
 {
     let name = name_value(alloc, 5, directory, letters)?;
     let mut entry = Vec::new(alloc);
