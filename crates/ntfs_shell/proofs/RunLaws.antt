@@ -117,7 +117,8 @@ printed_since : (end : ScriptEnd) (turns : List Turn) (old middle new : World) �
 printed_since script.Done turns old middle new l p = subst (λ got. IsAppended got (printed_of turns) new.got) l.got p
 printed_since script.Source turns old middle new l p = subst (λ got. IsAppended got (printed_of turns) new.got) l.got p
 printed_since script.Sink turns old middle new l p = subst (λ got. IsCutOff turns got new.got) l.got p
-printed_since script.Device turns old middle new l (inl p) = inl (subst (λ got. IsAppended got (printed_of turns) new.got) l.got p)
+printed_since script.Device turns old middle new l (inl p) =
+    inl (p.0 ∙ l.sink, subst (λ got. IsAppended got (printed_of turns) new.got) l.got p.1)
 printed_since script.Device turns old middle new l (inr p) =
     inr (subst (λ n. Rose n new.sink_faults) l.sink p.0, subst (λ got. IsCutOff turns got new.got) l.got p.1)
 printed_since script.Memory turns old middle new l p = subst (λ got. IsAppended got (printed_of turns) new.got) l.got p
@@ -206,7 +207,7 @@ ends_unmounted no.Device given old new shown only rose is = rw shown.ends (recor
         ended = script.Device;
         is = refl;
         ran = subst (λ bytes. Ran bytes text script.Device old new) b.on_image (ran_device b.first text old new b.begins
-            (now ∙ ap (λ (bytes : List ℕ). Some bytes) (sym b.on_image)) (untouched old new only shown.untouched));
+            (now ∙ ap (λ (bytes : List ℕ). Some bytes) (sym b.on_image)) (untouched old new only shown.untouched) shown.quiet);
       };
   refused = λ image now refused. record {
     causes = (rose, inl only.source_faults);

@@ -26,9 +26,8 @@ pub record KeepsDisk (old new : World) : Type 0 where
   pub fetched : new.fetched ≡ old.fetched
   pub faults : new.disk_faults ≡ old.disk_faults
 
--- The count that rose says how a run ended: the disk's by `Device`, the sink's by `Sink`, the
--- source's by `Source`, and none by another. Where the disk fails while the volume is closed, the
--- source or the sink may have failed before, but not both.
+-- The count that rose says how a run ended: the disk's by `Device`, the sink's by `Sink`, the source's by `Source`, and none by
+-- another. Beside the disk's the source's or the sink's may have risen too, but not both.
 abbrev pub Blames : Ending → World → World → Type 0
 Blames ending.Done old new = NoFaults old new
 Blames ending.Refused old new = NoFaults old new

@@ -4,6 +4,7 @@ ghost use Rattle.std.specs.Prelude.{◌≡◌, ◌%◌, vec_len};
 mod check;
 mod check_word;
 mod damage;
+mod deep;
 mod edge;
 mod format;
 mod label;

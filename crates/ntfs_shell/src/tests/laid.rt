@@ -245,9 +245,9 @@ pub fn end_file(image: &mut [u8], n: u8, at: usize) {
     seal(image, record(n), 0x30, 2);
 }
 
-// Puts the last two bytes of each sector of a block into its update sequence, which begins at an offset, and the number in
-// their place.
-fn seal(image: &mut [u8], at: usize, sequence: usize, sectors: usize) {
+/// Puts the last two bytes of each sector of a block into its update sequence, which begins at an offset, and the number in
+/// their place.
+pub fn seal(image: &mut [u8], at: usize, sequence: usize, sectors: usize) {
     let array = at.saturating_add(sequence);
     let mark = [byte(image, array), byte(image, array.saturating_add(1))];
     for n in 0..sectors {

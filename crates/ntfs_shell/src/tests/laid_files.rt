@@ -138,6 +138,10 @@ const WITH_HOLE: Extent = Extent {
 
 const ID: [u8; 16] = [0, 1, 2, 3, 4, 5, 6, 7, 8, 9, 10, 11, 12, 13, 14, 255];
 
+// An id with four bytes behind it.
+const LONGER_ID: &[u8] =
+    b"\xA0\xA1\xA2\xA3\xA4\xA5\xA6\xA7\xA8\xA9\xAA\xAB\xAC\xAD\xAE\xAF\x01\x02\x03\x04";
+
 // The directory `d`, and `r`, which has a reparse point.
 fn lay_directories(alloc: Global, image: &mut [u8]) -> Result<(), test::Fail> {
     let at = begin_file(image, 26, 1, true);
@@ -213,7 +217,7 @@ fn lay_packed(alloc: Global, image: &mut [u8]) -> Result<(), test::Fail> {
             kind: OBJECT_ID,
             id: 3,
             name: "",
-            value: &ID,
+            value: LONGER_ID,
         },
     );
     let at = lay_extent(image, at, PACKED);

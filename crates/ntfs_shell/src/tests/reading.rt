@@ -65,139 +65,179 @@ fn wrong_row(
     })
 }
 
-// Whether `check` prints that a volume is sound.
-fn is_sound(alloc: Global, sectors: u16, image: &[u8]) -> Result<bool, test::Fail> {
+/// Whether `check` prints that a volume is sound.
+pub fn is_sound(alloc: Global, sectors: u16, image: &[u8]) -> Result<bool, test::Fail> {
     let mut disk = disk_on(alloc, sectors, image)?;
     let mut out = sink_of(alloc, AMPLE, 0)?;
     let status = run(alloc, "check", &mut disk, &mut out)?;
     Ok(status == 0 && out.bytes() == b"sound\n".as_slice())
 }
 
+// Lines on a new volume.
+const NEW_VOLUME: [Row; 16] = [
+    ("ls /", "ok\n"),
+    ("stat /", "stat dir 0 0 0006 256 0 0 0 0\nok\n"),
+    ("df", "df 2048 1913 64 38\nok\n"),
+    ("cat /$MFT", "no 7 Hidden\n"),
+    ("cat /$MFT/x", "no 7 Hidden\n"),
+    ("ls /$Extend/$ObjId", "no 7 Hidden\n"),
+    ("cat /.", "no 7 Hidden\n"),
+    ("cat /", "no 10 IsDir\n"),
+    ("cat /:s", "no 11 NoStream\n"),
+    ("links /", "ok\n"),
+    ("streams /", "ok\n"),
+    ("attr /", "attr 0006\nok\n"),
+    ("sec /", "sec 256\nok\n"),
+    ("objid /", "objid -\nok\n"),
+    ("reparse /", "no 12 NoReparse\n"),
+    ("ls /f", "no 4 NotFound\n"),
+];
+
 #[test]
 fn a_new_volume_is_read(rt: HostRuntime) -> Result<(), test::Fail> {
     let image = made_on(rt.alloc(), SECTORS, FORMAT)?;
-    let rows = [
-        ("ls /", "ok\n"),
-        ("stat /", "stat dir 0 0 0006 256 0 0 0 0\nok\n"),
-        ("df", "df 2048 1913 64 38\nok\n"),
-        ("cat /$MFT", "no 7 Hidden\n"),
-        ("cat /$MFT/x", "no 7 Hidden\n"),
-        ("ls /$Extend/$ObjId", "no 7 Hidden\n"),
-        ("cat /.", "no 7 Hidden\n"),
-        ("cat /", "no 10 IsDir\n"),
-        ("cat /:s", "no 11 NoStream\n"),
-        ("links /", "ok\n"),
-        ("streams /", "ok\n"),
-        ("attr /", "attr 0006\nok\n"),
-        ("sec /", "sec 256\nok\n"),
-        ("objid /", "objid -\nok\n"),
-        ("reparse /", "no 12 NoReparse\n"),
-        ("ls /f", "no 4 NotFound\n"),
-    ];
-    assert_eq!(rt; wrong_row(rt.alloc(), SECTORS, &image, &rows)?, None);
+    assert_eq!(rt; wrong_row(rt.alloc(), SECTORS, &image, &NEW_VOLUME)?, None);
     Ok(())
 }
+
+// Lines on the volume with one empty file.
+const EMPTY_FILE: [Row; 39] = [
+    ("ls /", "file f\nok\n"),
+    ("@15 ls /", "file f\nok\n"),
+    ("@16 ls /", "no 1 Syntax\n"),
+    ("zzz", "no 1 Syntax\n"),
+    ("stat /f", "stat file 1 0 0020 256 0 0 0 0\nok\n"),
+    ("stat /F", "stat file 1 0 0020 256 0 0 0 0\nok\n"),
+    ("df", "df 2048 1913 64 37\nok\n"),
+    ("cat /f", "data -\nok\n"),
+    ("cat /F", "data -\nok\n"),
+    ("cat /x", "no 4 NotFound\n"),
+    ("cat /x/y", "no 4 NotFound\n"),
+    ("cat /f/x", "no 5 NotDir\n"),
+    ("ls /f", "no 5 NotDir\n"),
+    ("cat /f:s", "no 11 NoStream\n"),
+    ("read /f:s 0 32769", "no 11 NoStream\n"),
+    ("read /f 0 4", "data -\nok\n"),
+    ("read /f 0 32769", "no 19 TooBig\n"),
+    ("read /f 1099511627775 1", "data -\nok\n"),
+    ("read /f 1099511627775 2", "no 19 TooBig\n"),
+    ("read /f 18446744073709551615 1", "no 19 TooBig\n"),
+    ("read /f 18446744073709551616 1", "no 1 Syntax\n"),
+    ("read /f 00 1", "no 1 Syntax\n"),
+    ("streams /f", "stream 0\nok\n"),
+    ("attr /f", "attr 0020\nok\n"),
+    ("sec /f", "sec 256\nok\n"),
+    ("reparse /f", "no 12 NoReparse\n"),
+    ("objid /f", "objid -\nok\n"),
+    ("links /f", "link 0 /f\nok\n"),
+    ("rm /f", "no 28 Unbuilt\n"),
+    ("rm /x", "no 28 Unbuilt\n"),
+    ("close 5", "no 28 Unbuilt\n"),
+    ("time 5", "no 28 Unbuilt\n"),
+    ("@1 ls /", "file f\nok\n"),
+    ("@2 cat /x", "no 4 NotFound\n"),
+    ("# ls /", ""),
+    ("", ""),
+    ("@15 open /f r r", "no 28 Unbuilt\n"),
+    ("@1 stat /f", "stat file 1 0 0020 256 0 0 0 0\nok\n"),
+    ("@0 cat /F", "data -\nok\n"),
+];
 
 #[test]
 fn an_empty_file_is_read(rt: HostRuntime) -> Result<(), test::Fail> {
     let image = volume_with_f(rt.alloc())?;
     assert!(rt; is_sound(rt.alloc(), SECTORS, &image)?);
-    let rows = [
-        ("ls /", "file f\nok\n"),
-        ("@15 ls /", "file f\nok\n"),
-        ("@16 ls /", "no 1 Syntax\n"),
-        ("zzz", "no 1 Syntax\n"),
-        ("stat /f", "stat file 1 0 0020 256 0 0 0 0\nok\n"),
-        ("stat /F", "stat file 1 0 0020 256 0 0 0 0\nok\n"),
-        ("df", "df 2048 1913 64 37\nok\n"),
-        ("cat /f", "data -\nok\n"),
-        ("cat /F", "data -\nok\n"),
-        ("cat /x", "no 4 NotFound\n"),
-        ("cat /x/y", "no 4 NotFound\n"),
-        ("cat /f/x", "no 5 NotDir\n"),
-        ("ls /f", "no 5 NotDir\n"),
-        ("cat /f:s", "no 11 NoStream\n"),
-        ("read /f:s 0 32769", "no 11 NoStream\n"),
-        ("read /f 0 4", "data -\nok\n"),
-        ("read /f 0 32769", "no 19 TooBig\n"),
-        ("read /f 1099511627775 1", "data -\nok\n"),
-        ("read /f 1099511627775 2", "no 19 TooBig\n"),
-        ("read /f 18446744073709551615 1", "no 19 TooBig\n"),
-        ("read /f 18446744073709551616 1", "no 1 Syntax\n"),
-        ("read /f 00 1", "no 1 Syntax\n"),
-        ("streams /f", "stream 0\nok\n"),
-        ("attr /f", "attr 0020\nok\n"),
-        ("sec /f", "sec 256\nok\n"),
-        ("reparse /f", "no 12 NoReparse\n"),
-        ("objid /f", "objid -\nok\n"),
-        ("links /f", "link 0 /f\nok\n"),
-        ("rm /f", "no 28 Unbuilt\n"),
-        ("rm /x", "no 28 Unbuilt\n"),
-        ("close 5", "no 28 Unbuilt\n"),
-        ("time 5", "no 28 Unbuilt\n"),
-        ("@1 ls /", "file f\nok\n"),
-        ("@2 cat /x", "no 4 NotFound\n"),
-        ("# ls /", ""),
-        ("", ""),
-        ("@15 open /f r r", "no 28 Unbuilt\n"),
-        ("@1 stat /f", "stat file 1 0 0020 256 0 0 0 0\nok\n"),
-        ("@0 cat /F", "data -\nok\n"),
-    ];
-    assert_eq!(rt; wrong_row(rt.alloc(), SECTORS, &image, &rows)?, None);
+    assert_eq!(rt; wrong_row(rt.alloc(), SECTORS, &image, &EMPTY_FILE)?, None);
     Ok(())
 }
+
+// Lines on the volume with files of each kind.
+const EACH_KIND: [Row; 32] = [
+    (
+        "ls /",
+        "file a\ndir d\nfile h\nfile longfilename.txt\ndir r\nok\n",
+    ),
+    ("ls /d", "file b\nok\n"),
+    ("links /a", "link 0 /a\nlink 0 /d/b\nok\n"),
+    ("links /D/B", "link 0 /a\nlink 0 /d/b\nok\n"),
+    (
+        "links /longfilename.txt",
+        "link 2 /LONGFI~1.TXT\nlink 1 /longfilename.txt\nok\n",
+    ),
+    ("stat /d/b", "stat file 2 5 0021 256 1 2 3 4\nok\n"),
+    ("cat /a", "data 68656c6c6f\nok\n"),
+    ("read /a 1 2", "data 656c\nok\n"),
+    ("cat /d/b:S", "data 6162\nok\n"),
+    ("cat /a:t", "no 11 NoStream\n"),
+    ("streams /a", "stream 5\nstream 2 s\nok\n"),
+    ("objid /a", "objid 000102030405060708090a0b0c0d0eff\nok\n"),
+    (
+        "stat /longfi~1.txt",
+        "stat file 1 60000 0020 256 0 0 0 0\nok\n",
+    ),
+    ("streams /longfilename.txt", "packed 60000\nok\n"),
+    ("cat /longfilename.txt", "no 16 Packed\n"),
+    ("read /longfilename.txt 0 32769", "no 16 Packed\n"),
+    (
+        "objid /longfilename.txt",
+        "objid a0a1a2a3a4a5a6a7a8a9aaabacadaeaf\nok\n",
+    ),
+    ("stat /h", "stat file 1 73000 0020 256 0 0 0 0\nok\n"),
+    ("cat /h", "no 19 TooBig\n"),
+    ("read /h 4094 4", "data 78790000\nok\n"),
+    ("read /h 69630 4", "data 00003031\nok\n"),
+    ("read /h 69638 4", "data 36370000\nok\n"),
+    ("read /h 72998 10", "data 0000\nok\n"),
+    ("read /h 73000 1", "data -\nok\n"),
+    ("cat /d", "no 10 IsDir\n"),
+    ("cat /d:s", "no 11 NoStream\n"),
+    ("stat /d", "stat dir 1 0 0000 256 0 0 0 0\nok\n"),
+    ("reparse /r", "reparse a0000003 abcd\nok\n"),
+    ("attr /r", "attr 0000\nok\n"),
+    ("ls /r", "ok\n"),
+    ("ls /r/x", "no 6 Reparse\n"),
+    ("df", "df 256 117 64 33\nok\n"),
+];
 
 #[test]
 fn files_of_each_kind_are_read(rt: HostRuntime) -> Result<(), test::Fail> {
     let image = volume_with_all(rt.alloc())?;
     assert!(rt; is_sound(rt.alloc(), 2048, &image)?);
-    let rows = [
-        (
-            "ls /",
-            "file a\ndir d\nfile h\nfile longfilename.txt\ndir r\nok\n",
-        ),
-        ("ls /d", "file b\nok\n"),
-        ("links /a", "link 0 /a\nlink 0 /d/b\nok\n"),
-        ("links /D/B", "link 0 /a\nlink 0 /d/b\nok\n"),
-        (
-            "links /longfilename.txt",
-            "link 2 /LONGFI~1.TXT\nlink 1 /longfilename.txt\nok\n",
-        ),
-        ("stat /d/b", "stat file 2 5 0021 256 1 2 3 4\nok\n"),
-        ("cat /a", "data 68656c6c6f\nok\n"),
-        ("read /a 1 2", "data 656c\nok\n"),
-        ("cat /d/b:S", "data 6162\nok\n"),
-        ("cat /a:t", "no 11 NoStream\n"),
-        ("streams /a", "stream 5\nstream 2 s\nok\n"),
-        ("objid /a", "objid 000102030405060708090a0b0c0d0eff\nok\n"),
-        (
-            "stat /longfi~1.txt",
-            "stat file 1 60000 0020 256 0 0 0 0\nok\n",
-        ),
-        ("streams /longfilename.txt", "packed 60000\nok\n"),
-        ("cat /longfilename.txt", "no 16 Packed\n"),
-        ("read /longfilename.txt 0 32769", "no 16 Packed\n"),
-        (
-            "objid /longfilename.txt",
-            "objid 000102030405060708090a0b0c0d0eff\nok\n",
-        ),
-        ("stat /h", "stat file 1 73000 0020 256 0 0 0 0\nok\n"),
-        ("cat /h", "no 19 TooBig\n"),
-        ("read /h 4094 4", "data 78790000\nok\n"),
-        ("read /h 69630 4", "data 00003031\nok\n"),
-        ("read /h 69638 4", "data 36370000\nok\n"),
-        ("read /h 72998 10", "data 0000\nok\n"),
-        ("read /h 73000 1", "data -\nok\n"),
-        ("cat /d", "no 10 IsDir\n"),
-        ("cat /d:s", "no 11 NoStream\n"),
-        ("stat /d", "stat dir 1 0 0000 256 0 0 0 0\nok\n"),
-        ("reparse /r", "reparse a0000003 abcd\nok\n"),
-        ("attr /r", "attr 0000\nok\n"),
-        ("ls /r", "ok\n"),
-        ("ls /r/x", "no 6 Reparse\n"),
-        ("df", "df 256 117 64 33\nok\n"),
-    ];
-    assert_eq!(rt; wrong_row(rt.alloc(), 2048, &image, &rows)?, None);
+    assert_eq!(rt; wrong_row(rt.alloc(), 2048, &image, &EACH_KIND)?, None);
+    Ok(())
+}
+
+// Each session says something of its own, and some say more later.
+const SESSIONS: [Row; 20] = [
+    ("@7 cat /a", "data 68656c6c6f\nok\n"),
+    ("@0 ls /d", "file b\nok\n"),
+    ("@15 read /h 4094 4", "data 78790000\nok\n"),
+    ("@3 links /D/B", "link 0 /a\nlink 0 /d/b\nok\n"),
+    ("@12 cat /d/b:S", "data 6162\nok\n"),
+    ("@1 stat /d/b", "stat file 2 5 0021 256 1 2 3 4\nok\n"),
+    ("@14 df", "df 256 117 64 33\nok\n"),
+    (
+        "@9 objid /a",
+        "objid 000102030405060708090a0b0c0d0eff\nok\n",
+    ),
+    ("@5 reparse /r", "reparse a0000003 abcd\nok\n"),
+    ("@7 cat /a:t", "no 11 NoStream\n"),
+    ("@10 streams /a", "stream 5\nstream 2 s\nok\n"),
+    ("@2 cat /x", "no 4 NotFound\n"),
+    ("@13 ls /r/x", "no 6 Reparse\n"),
+    ("@4 attr /r", "attr 0000\nok\n"),
+    ("@11 cat /longfilename.txt", "no 16 Packed\n"),
+    ("@8 read /h 69638 4", "data 36370000\nok\n"),
+    ("@6 cat /h", "no 19 TooBig\n"),
+    ("@15 sec /d", "sec 256\nok\n"),
+    ("@0 ls /a", "no 5 NotDir\n"),
+    ("@8 cat /d", "no 10 IsDir\n"),
+];
+
+#[test]
+fn sixteen_sessions_are_answered(rt: HostRuntime) -> Result<(), test::Fail> {
+    let image = volume_with_all(rt.alloc())?;
+    assert_eq!(rt; wrong_row(rt.alloc(), 2048, &image, &SESSIONS)?, None);
     Ok(())
 }
 
@@ -209,8 +249,8 @@ const READS: [Row; 4] = [
     ("cat /d/b:s", "data 6162\nok\n"),
 ];
 
-// The status of a script on a disk of which one read fails, and what is printed.
-fn failing(
+/// The status of a script on a disk of 2,048 sectors of which one read fails, and what is printed.
+pub fn failing(
     alloc: Global,
     image: &[u8],
     script: &[u8],
