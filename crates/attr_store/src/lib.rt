@@ -9,8 +9,6 @@ mod index_record;
 mod laws;
 mod read;
 mod seen;
-#[cfg(test)]
-mod tests;
 
 pub use first::{FirstPart, find_first, is_first, is_of, real_size};
 pub use index::{FoundIndex, Stored, find_index};

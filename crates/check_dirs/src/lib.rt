@@ -15,8 +15,6 @@ mod noting;
 mod order;
 mod records;
 mod seen;
-#[cfg(test)]
-mod tests;
 mod volume;
 mod volume_index;
 

@@ -12,8 +12,6 @@ mod paths;
 mod pieces;
 mod print;
 mod rows;
-#[cfg(test)]
-mod tests;
 mod verb;
 mod words;
 

@@ -10,8 +10,6 @@ mod load;
 mod numbers;
 mod parts;
 mod record;
-#[cfg(test)]
-mod tests;
 
 pub use base::{BaseFile, load_base};
 pub use error::FileNo;

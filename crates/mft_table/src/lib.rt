@@ -10,8 +10,6 @@ mod open;
 mod stream;
 mod table;
 mod table_data;
-#[cfg(test)]
-mod tests;
 mod volume;
 
 pub use blocks::{BlockReader, read_two_sectors};

@@ -14,8 +14,6 @@ mod plain_lists;
 mod plain_machine;
 mod plain_order;
 mod reply;
-#[cfg(test)]
-mod tests;
 mod tree;
 
 pub use command::Command;

@@ -5,16 +5,10 @@
 mod attributes;
 mod bits;
 mod climb;
-#[cfg(test)]
-mod extent_tests;
 mod extents;
 mod facts;
 mod heads;
-#[cfg(test)]
-mod laid;
 mod least;
-#[cfg(test)]
-mod link_tests;
 mod links;
 mod lists;
 mod marks;

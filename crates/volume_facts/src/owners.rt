@@ -4,8 +4,6 @@ ghost use Rattle.std.specs.Prelude.{◌≤◌, ◌*◌, ◌^◌, length};
 mod bitmap;
 mod clusters;
 mod note;
-#[cfg(test)]
-mod tests;
 
 pub use bitmap::cluster_bits_laws;
 

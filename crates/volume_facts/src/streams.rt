@@ -6,8 +6,6 @@ mod attribute;
 mod common;
 mod note;
 mod places;
-#[cfg(test)]
-mod tests;
 mod value;
 
 pub use attribute::is_unnamed;

@@ -2,8 +2,6 @@
 ghost use Rattle.std.specs.Prelude.{◌≤◌, ◌*◌, ◌^◌, length};
 
 mod bitmap;
-#[cfg(test)]
-mod tests;
 
 pub use bitmap::used_laws;
 

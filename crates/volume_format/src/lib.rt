@@ -6,8 +6,6 @@ ghost use Rattle.std.specs.Prelude.{◌≡◌};
 mod attribute;
 mod boot;
 mod error;
-#[cfg(test)]
-mod format_tests;
 mod index_laws;
 mod item;
 mod laws;
@@ -20,8 +18,6 @@ mod record_blocks;
 mod root;
 mod rules;
 mod stored;
-#[cfg(test)]
-mod tests;
 mod value_bytes;
 mod write;
 

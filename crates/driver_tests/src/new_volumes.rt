@@ -1,9 +1,9 @@
 //! New volumes on a disk of 4,096 sectors. Where things lie was computed by hand from the table of items: the first three
 //! items have 8,192, 65,536 and 8 bytes, each rounded up to clusters, and so on.
-use crate::{FormatNo, FormatOptions, format};
 use std::alloc::{AllocError, Global};
 use vol_bytes::Name;
 use vol_disk::{CallKind, Disk, Fail, FailDisk, MemDisk};
+use volume_format::{FormatNo, FormatOptions, format};
 
 const SECTORS: usize = 4096;
 

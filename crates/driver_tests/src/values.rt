@@ -5,7 +5,8 @@
 ghost use Rattle.std.specs.Prelude.{◌≡◌, ◌<◌, IfOk, length};
 ghost use Rattle.mft_table.specs.Mounted.{StandsOn};
 
-use crate::read_value;
+use crate::laid::put;
+use attr_store::read_value;
 use cluster_bitmap::Bits;
 use data_runs::{Run, RunList};
 use file_record::{FileNo, FileParts};
@@ -22,16 +23,6 @@ const SECTORS: usize = 2400;
 const CLUSTER: u64 = 4096;
 
 const REAL: u64 = 300 * CLUSTER - 100;
-
-// Puts bytes at a place.
-fn put(image: &mut [u8], at: usize, bytes: &[u8])
-    ensures { length image.new ≡ length image.old }
-{
-    if let Some(slot) = image.get_mut(at..) {
-        let len = bytes.len().min(slot.len());
-        slot[..len].copy_from_slice(&bytes[..len]);
-    }
-}
 
 // An extent of `$DATA` with this run text.
 fn extent(first: u64, last: u64, written: u64, text: &[u8]) -> [u8; 80] {

@@ -1,9 +1,9 @@
 //! Streams noted of the largest volume. The records are laid from the published layout; what is expected is what was laid.
-use crate::Streams;
 use crate::laid::record;
 use attr_view::RecordView;
 use ntfs_def::Spot;
 use std::test::Fail;
+use volume_facts::Streams;
 
 // One run of 10,000 clusters at 100.
 const SOME_TEXT: [u8; 5] = [0x12, 0x10, 0x27, 100, 0];

@@ -2,7 +2,7 @@ use Rattle.std.proofs.Common.{ℕ, sym, subst}
 use Rattle.volume_def.specs.Table.{LiesOn}
 use Rattle.vol_stage.specs.Staged.{disk_of}
 use Rattle.mft_table.specs.Tables.{layout_on}
-use Rattle.file_record.proofs.tests.mount.Goals as goal
+use Rattle.driver_tests.proofs.laid.mount.Goals as goal
 
 pub returns-clause-stands : goal.returns-clause-stands
 returns-clause-stands g c =

@@ -1,13 +1,17 @@
 //! Blocks of a new volume of 2,048 clusters of 4,096 bytes with the label "Beryl", as stored. What is expected of them was
-//! laid out by hand from the layouts, apart from this crate.
+//! laid out by hand from the layouts, apart from the crate that makes it.
 
 ghost use Rattle.std.specs.Prelude.{◌≤◌, length};
 
-use crate::Places;
-use crate::root::fill_root_node;
-use crate::stored::fill_stored;
 use std::alloc::{AllocError, Global};
-use vol_bytes::{Name, u32_at};
+use vol_bytes::Name;
+use vol_disk::MemDisk;
+use volume_format::{FormatOptions, format};
+
+// Where the table and the root's index record begin: at clusters 2 and 134.
+const TABLE: usize = 2 * 4096;
+
+const ROOT_NODE: usize = 134 * 4096;
 
 // Record 0, $MFT.
 const MFT: [u8; 408] = [
@@ -139,11 +143,29 @@ const SECURE: [u8; 592] = [
     0x10, 0x00, 0x00, 0x00, 0x02, 0x00, 0x00, 0x00, 0xFF, 0xFF, 0xFF, 0xFF, 0x00, 0x00, 0x00, 0x00,
 ];
 
-// The plan of the volume.
-fn beryl(alloc: Global) -> Result<Places, AllocError> {
+// The volume, on a disk on which each byte was EE.
+fn beryl(alloc: Global) -> Result<MemDisk, AllocError> {
     let mut units = Vec::new(alloc);
     units.extend_from_slice(&[0x42u16, 0x65, 0x72, 0x79, 0x6C])?;
-    Places::new(alloc, 4096, 2048, &Name::from_vec(units))
+    let options = FormatOptions {
+        sectors: 16_384,
+        cluster: 4096,
+        serial: 0,
+        label: Name::from_vec(units),
+    };
+    let mut disk = MemDisk::new(alloc, vec![in alloc; 0xEE; 16_384 * 512]?);
+    if disk.reserve(16_384).is_ok() && format(alloc, &mut disk, &options).is_ok() {
+        return Ok(disk);
+    }
+    Err(AllocError)
+}
+
+// The bytes that stand on a disk from a place on, so many of them.
+fn stored(disk: &MemDisk, at: usize, len: usize) -> &[u8] {
+    disk.contents()
+        .get(at..)
+        .and_then(|rest| rest.get(..len))
+        .unwrap_or(&[])
 }
 
 // A stored block that begins so. Behind that stand zeros, and the update sequence number 1 at the ends of its sectors.
@@ -159,7 +181,7 @@ fn block_from(front: &[u8]) -> [u8; 1024]
 
 #[test]
 fn records(rt: HostRuntime) -> Result<(), AllocError> {
-    let places = beryl(rt.alloc())?;
+    let disk = beryl(rt.alloc())?;
     for (n, wanted) in [
         (0, block_from(&MFT)),
         (3, block_from(&VOLUME)),
@@ -168,46 +190,29 @@ fn records(rt: HostRuntime) -> Result<(), AllocError> {
         (12, [0; 1024]),
         (63, [0; 1024]),
     ] {
-        let mut block = [0xAB; 1024];
-        fill_stored(rt.alloc(), &places, n, &mut block)?;
-        assert!(rt; block == wanted, "record {n}");
+        assert!(rt;
+            stored(&disk, TABLE + 1024 * n, 1024) == wanted.as_slice(),
+            "record {n}"
+        );
     }
     Ok(())
 }
 
 #[test]
 fn all_records_are_made(rt: HostRuntime) -> Result<(), AllocError> {
-    let places = beryl(rt.alloc())?;
+    let disk = beryl(rt.alloc())?;
     for n in 0..64 {
-        let mut block = [0xAB; 1024];
-        fill_stored(rt.alloc(), &places, n, &mut block)?;
-        let is_file = block[0] == b'F' && block[1] == b'I';
+        let is_file = stored(&disk, TABLE + 1024 * n, 1024).starts_with(b"FILE");
         assert_eq!(rt; is_file, n < 12 || n == 24 || n == 25, "record {n}");
     }
-    Ok(())
-}
-
-// Where the items of the volume begin, as the table of its parts has it.
-#[test]
-fn items_lie_one_behind_the_other(rt: HostRuntime) -> Result<(), AllocError> {
-    let places = beryl(rt.alloc())?;
-    assert_eq!(rt; places.table_at(), 2);
-    assert_eq!(rt; places.table_bits_at(), 18);
-    assert_eq!(rt; places.mirror_at(), 19);
-    assert_eq!(rt; places.log_at(), 20);
-    assert_eq!(rt; places.bits_at(), 36);
-    assert_eq!(rt; places.case_at(), 37);
-    assert_eq!(rt; places.security_at(), 69);
-    assert_eq!(rt; places.node_at(), 134);
-    assert_eq!(rt; places.items_end(), 135);
     Ok(())
 }
 
 // The entries of the root: where each stands, and the number of its record.
 #[test]
 fn index_record_of_the_root(rt: HostRuntime) -> Result<(), AllocError> {
-    let mut block = [0xAB; 4096];
-    fill_root_node(rt.alloc(), &mut block)?;
+    let disk = beryl(rt.alloc())?;
+    let block = stored(&disk, ROOT_NODE, 4096);
     for (at, number) in [
         (0x40, 4),
         (0xA8, 8),
@@ -224,10 +229,14 @@ fn index_record_of_the_root(rt: HostRuntime) -> Result<(), AllocError> {
     ] {
         assert_eq!(rt; block.get(at).copied(), Some(number), "entry at {at}");
     }
-    assert_eq!(rt; u32_at(&block, 0), 0x5844_4E49);
-    assert_eq!(rt; u32_at(&block, 0x1C), 0x28 + 1192);
-    assert_eq!(rt; block[0x4D8 + 0x0C], 2);
-    assert_eq!(rt; block[0x28], 1);
-    assert_eq!(rt; block[4094], 1);
+    assert!(rt; block.starts_with(b"INDX"));
+    assert!(rt;
+        block
+            .get(0x1C..)
+            .is_some_and(|rest| rest.starts_with(&1232u32.to_le_bytes()))
+    );
+    assert_eq!(rt; block.get(0x4D8 + 0x0C).copied(), Some(2));
+    assert_eq!(rt; block.get(0x28).copied(), Some(1));
+    assert_eq!(rt; block.get(4094).copied(), Some(1));
     Ok(())
 }

@@ -2,9 +2,9 @@
 //! each sector are zero, and so is all behind the bytes that stand here. What is expected of changed bytes is what the
 //! published layout says of them.
 
-use crate::{Extent, Held, UnlistedFiles, are_whole, has_whole_extents, is_right_record};
 use attr_view::{RecordView, Sizes};
 use std::test::Fail;
+use volume_facts::{Extent, Held, UnlistedFiles, are_whole, has_whole_extents, is_right_record};
 
 const BAD_CLUSTERS: [u8; 376] = [
     0x46, 0x49, 0x4C, 0x45, 0x30, 0x00, 0x03, 0x00, 0x00, 0x00, 0x00, 0x00, 0x00, 0x00, 0x00, 0x00,

@@ -4,8 +4,8 @@ ghost use Rattle.std.specs.Prelude.{◌≡◌, ◌<◌, ◌^◌, IfOk, length};
 ghost use Rattle.vol_stage.specs.Staged.{disk_of};
 ghost use Rattle.mft_table.specs.Mounted.{StandsOn};
 
-use crate::{FileNo, FileParts};
-use cluster_bitmap::Bits;
+use crate::laid::{mount, put};
+use file_record::{FileNo, FileParts};
 use mft_table::{Mft, Mounted, find_table};
 use std::alloc::{AllocError, Global};
 use std::test;
@@ -25,16 +25,6 @@ const BOOT: [u8; 84] = [
     0x02, 0x00, 0x00, 0x00, 0x08, 0x00, 0x00, 0x00, 0xF7, 0x9F, 0x46, 0x02, 0x12, 0xEE, 0xF5, 0x34,
     0x00, 0x00, 0x00, 0x00,
 ];
-
-// Puts bytes at a place.
-fn put(image: &mut [u8], at: usize, bytes: &[u8])
-    ensures { length image.new ≡ length image.old }
-{
-    if let Some(slot) = image.get_mut(at..) {
-        let len = bytes.len().min(slot.len());
-        slot[..len].copy_from_slice(&bytes[..len]);
-    }
-}
 
 // A resident attribute without a name.
 fn resident(into: &mut Vec<u8>, kind: u32, id: u16, value: &[u8]) -> Result<(), AllocError> {
@@ -124,25 +114,6 @@ fn volume(alloc: Global) -> Result<Vec<u8>, AllocError>
     extent(&mut attributes, 0x80, 1, 0xFC00, 32)?;
     lay(&mut image, 0, 0, &attributes);
     Ok(image)
-}
-
-// The tables of a volume on which nothing is taken.
-fn mount<D: Disk>(alloc: Global, stage: &mut Stage<'_, D>) -> Result<Mounted, test::Fail>
-    ensures stands { IfOk result (StandsOn (D.size (disk_of D.Disk stage.new))) }
-    ensures size { D.size (disk_of D.Disk stage.new) ≡ D.size (disk_of D.Disk stage.old) }
-{
-    let table = find_table(alloc, stage)?;
-    let clusters = vec![in alloc; 0; (table.geometry.clusters / 8 + 1) as usize]?;
-    let records = vec![in alloc; 0; (table.count / 8 + 1) as usize]?;
-    let case = vec![in alloc; 0; 131_072]?;
-    Ok(Mounted {
-        geometry: table.geometry,
-        clusters: Bits::load(alloc, &clusters, table.geometry.clusters)?,
-        records: Bits::load(alloc, &records, table.count)?,
-        upcase: UpCase::load(alloc, &case)?,
-        table: table.runs,
-        initialized: table.initialized,
-    })
 }
 
 // Loads a file through tables that are found anew.

@@ -3,9 +3,9 @@
 ghost use Rattle.std.specs.Prelude.{◌≡◌, IfOk, length};
 ghost use Rattle.mft_table.specs.Mounted.{StandsOn};
 
-use crate::{Mft, MftNo, Mounted};
 use cluster_bitmap::Bits;
 use data_runs::{Run, RunList};
+use mft_table::{Mft, MftNo, Mounted};
 use ntfs_boot::Geometry;
 use std::alloc::{AllocError, Global};
 use std::test;

@@ -1,4 +1,5 @@
-use crate::{LineFault, parse_line, print_reply};
+//! Lines of a script as commands, and replies as text.
+use cmd_lang::{LineFault, parse_line, print_reply};
 use std::alloc::{AllocError, Global};
 use std::test::Fail;
 use tree_model::{

@@ -1,11 +1,11 @@
 //! Volumes of records that are made here by the published layout, each record with the sequence number 1. What is expected
 //! is what the clauses on references and links ask.
 
-use super::*;
 use attr_view::RecordView;
 use std::alloc::Global;
 use std::test::Fail;
 use vol_bytes::{put_u16, put_u32, put_u64};
+use volume_facts::{Facts, Heads, Names, first_wrong_link, first_wrong_reference};
 
 const FILE: u16 = 1;
 

@@ -1,5 +1,5 @@
 use Rattle.std.proofs.Common.{rules, ◌≡◌, ◌*◌, ◌≤◌, ◌^◌, length, refl, sym, arith}
-use Rattle.mft_table.proofs.tests.streams.mounted.Goals as goal
+use Rattle.driver_tests.proofs.file_table.streams.mounted.Goals as goal
 
 pub returns : goal.returns
 returns c =

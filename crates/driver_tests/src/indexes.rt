@@ -1,6 +1,6 @@
 //! Indexes of ids laid by hand, over a list of records, and the names of a directory.
 
-use super::*;
+use check_dirs::{CheckNo, IndexRecords, Seen, check_index};
 use collation::{Collation, FileNameOrder, IdOrder};
 use ntfs_def::NodeForm;
 use std::alloc::Global;

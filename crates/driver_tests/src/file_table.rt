@@ -7,9 +7,9 @@ ghost use Rattle.mft_table.specs.Mounted.{StandsOn};
 
 mod streams;
 
-use crate::{Mft, MftNo, Mounted, TableNo, find_table};
+use crate::laid::mount;
 use attr_view::RecordView;
-use cluster_bitmap::Bits;
+use mft_table::{Mft, MftNo, Mounted, TableNo, find_table};
 use std::alloc::{AllocError, Global};
 use std::test;
 use upcase::UpCase;
@@ -168,25 +168,6 @@ fn volume(alloc: Global) -> Result<Vec<u8>, AllocError>
     put(&mut image, 54, &RECORD_11[..512]);
     put(&mut image, 1032, &RECORD_11[512..]);
     Ok(image)
-}
-
-// The tables of a volume on which nothing is taken.
-fn mount<D: Disk>(alloc: Global, stage: &mut Stage<'_, D>) -> Result<Mounted, test::Fail>
-    ensures stands { IfOk result (StandsOn (D.size (disk_of D.Disk stage.new))) }
-    ensures size { D.size (disk_of D.Disk stage.new) ≡ D.size (disk_of D.Disk stage.old) }
-{
-    let table = find_table(alloc, stage)?;
-    let clusters = vec![in alloc; 0; (table.geometry.clusters / 8 + 1) as usize]?;
-    let records = vec![in alloc; 0; (table.count / 8 + 1) as usize]?;
-    let case = vec![in alloc; 0; 131_072]?;
-    Ok(Mounted {
-        geometry: table.geometry,
-        clusters: Bits::load(alloc, &clusters, table.geometry.clusters)?,
-        records: Bits::load(alloc, &records, table.count)?,
-        upcase: UpCase::load(alloc, &case)?,
-        table: table.runs,
-        initialized: table.initialized,
-    })
 }
 
 // Reads a record through tables that are found anew; `None` where there is none of this number.

@@ -4,7 +4,7 @@ use Rattle.ntfs_def.specs.declared.run_text.Run.{Run}
 use Rattle.volume_def.specs.Table.{IsOnVolume, LiesOn}
 use Rattle.ntfs_boot.specs.declared.Geometry.{Geometry}
 use Rattle.mft_table.specs.Tables.{layout_on}
-use Rattle.attr_store.proofs.tests.mounted.Goals as goal
+use Rattle.driver_tests.proofs.values.mounted.Goals as goal
 
 abbrev volume : Geometry
 volume = record { cluster = 4096; sectors = 2399; clusters = 299; mft = 4; mirror = 2; serial = 0 }
