@@ -1,5 +1,5 @@
 //! The entries of an index are gathered in order, and each record is met once.
-ghost use Rattle.std.specs.Prelude.{◌≡◌, ◌≤◌, ◌+◌, ◌*◌, ◌++◌, ◌∷◌, [], IfOk, IfErr, IfSome, IsTrue, MatchResult, OnOk, length};
+ghost use Rattle.std.specs.Prelude.{◌≡◌, ◌≤◌, ◌+◌, ◌*◌, ◌++◌, ◌∷◌, [], IfOk, IfErr, IfSome, IsTrue, MatchResult, OnOk, Some, length};
 ghost use Rattle.std.specs.Option.{option_map};
 ghost use Rattle.ntfs_def.specs.IndexTree.{Each};
 ghost use Rattle.ntfs_def.specs.Node.{IsOwnEntry};
@@ -58,6 +58,35 @@ fn gather_tree<R: IndexRecords>(
     let Some(vcn) = child else {
         return Ok(depth == 0);
     };
+    gather_record(alloc, records, form, vcn, depth, met, out)
+}
+
+// Gathers what stands under the record of this number. It stands apart, so that an entry without a child has no block.
+#[cycle(gathering)]
+fn gather_record<R: IndexRecords>(
+    alloc: Global,
+    records: &mut R,
+    form: NodeForm,
+    vcn: u64,
+    depth: usize,
+    met: &mut Met,
+    out: &mut Vec<Octets>,
+) -> Result<bool, CheckNo>
+    requires { R.ready records.old }
+    ensures tells { IfOk result (λ good. WhereTold (R.records records.old) (λ r.
+        TellsTree good (short_nodes form r) depth (Some vcn) met.old met.new out.old.items out.new.items)) }
+    ensures own { OnOk result (Each (IsOwnEntry form) out.old.items → Each (IsOwnEntry form) out.new.items) }
+    ensures met { IfOk result (λ good. WhereTold (R.records records.old) (λ r. IsTrue good → AreMet r met.old → AreMet r met.new)) }
+    ensures few { WhereTold (R.records records.old) (λ r. AreMet r met.old → AreFew r met.new) }
+
+    ensures records { R.records records.new ≡ R.records records.old }
+    ensures ready { R.ready records.new }
+    ensures only_reads { R.only_reads records.old records.new }
+    ensures fetched { R.fetched records.new + 9 * length met.old ≤ R.fetched records.old + 9 * length met.new }
+
+    ensures faults { MatchResult result (λ _. R.faults records.new ≡ R.faults records.old)
+        (CountsNo (R.faults records.old) (R.faults records.new)) }
+{
     if depth == 0 {
         return Ok(false);
     }

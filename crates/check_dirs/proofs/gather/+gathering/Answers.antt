@@ -17,52 +17,47 @@ gather_tree-returns-in_default-clause-tells g t c r e =
     subst (λ x. TellsTree (c.args.depth == 0) nodes c.args.depth x c.args.met.now c.args.met.now c.args.out.now.items c.args.out.now.items)
     (sym c.in_default.is) (tells_leaf nodes c.args.depth c.args.met.now c.args.out.now.items (c.args.depth == 0) refl)
 
-pub gather_tree-returns-then-depth-eq0-clause-tells : goal.gather_tree-returns-then-depth-eq0-clause-tells
-gather_tree-returns-then-depth-eq0-clause-tells g t c r e =
+pub gather_record-returns-then-depth-eq0-clause-tells : goal.gather_record-returns-then-depth-eq0-clause-tells
+gather_record-returns-then-depth-eq0-clause-tells g t c r e =
     let nodes = short_nodes c.args.form r in
-    subst (λ x. LacksTree nodes c.args.depth x c.args.met.now) (sym c.in-Some.is)
-    (lacks_low nodes c.args.depth c.in-Some.vcn c.args.met.now c.if-depth-eq0.true)
+    lacks_low nodes c.args.depth c.args.vcn c.args.met.now c.if-depth-eq0.true
 
-pub gather_tree-returns-then-not-first-clause-tells : goal.gather_tree-returns-then-not-first-clause-tells
-gather_tree-returns-then-not-first-clause-tells g t c r e =
+pub gather_record-returns-then-not-first-clause-tells : goal.gather_record-returns-then-not-first-clause-tells
+gather_record-returns-then-not-first-clause-tells g t c r e =
     let nodes = short_nodes c.args.form r in
-    subst (λ x. LacksTree nodes c.args.depth x c.args.met.now) (sym c.in-Some.is)
-    (lacks_met nodes c.args.depth c.in-Some.vcn c.args.met.now (c.in_ok-first.ensures.again c.if-not-first.true))
+    lacks_met nodes c.args.depth c.args.vcn c.args.met.now (c.in_ok-first.ensures.again c.if-not-first.true)
 
-pub gather_tree-returns-then-not-found-clause-tells : goal.gather_tree-returns-then-not-found-clause-tells
-gather_tree-returns-then-not-found-clause-tells g t c r e =
+pub gather_record-returns-then-not-found-clause-tells : goal.gather_record-returns-then-not-found-clause-tells
+gather_record-returns-then-not-found-clause-tells g t c r e =
     let nodes = short_nodes c.args.form r in
-    let vcn = c.in-Some.vcn in
+    let vcn = c.args.vcn in
     let none = fetched_none (r vcn) c.in_ok-found.found c.fetch.new.into c.if-not-found.true (c.in_ok-found.ensures.found r e) in
-    subst (λ x. LacksTree nodes c.args.depth x c.args.met.now) (sym c.in-Some.is)
-    (lacks_bare nodes c.args.depth vcn c.args.met.now (no_record c.args.form r vcn none))
+    lacks_bare nodes c.args.depth vcn c.args.met.now (no_record c.args.form r vcn none)
 
-pub gather_tree-returns-in_default-new-clause-tells : goal.gather_tree-returns-in_default-new-clause-tells
-gather_tree-returns-in_default-new-clause-tells g t c r e =
+pub gather_record-returns-in_default-clause-tells : goal.gather_record-returns-in_default-clause-tells
+gather_record-returns-in_default-clause-tells g t c r e =
     let nodes = short_nodes c.args.form r in
-    let vcn = c.in-Some.vcn in
+    let vcn = c.args.vcn in
     let block = c.fetch.new.into in
     let there = fetched_some (r vcn) c.in_ok-found.found block c.if-not-found.false (c.in_ok-found.ensures.found r e) in
-    subst (λ x. LacksTree nodes c.args.depth x c.args.met.now) (sym c.in-Some.is)
-    (lacks_bare nodes c.args.depth vcn c.args.met.now
-    (at_record c.args.form r vcn block None there (refused c.args.form block c.in_default-new.field-0 c.in_default-new.ensures.err)))
+    lacks_bare nodes c.args.depth vcn c.args.met.now
+    (at_record c.args.form r vcn block None there (refused c.args.form block c.in_default.field-0 c.in_default.ensures.err))
 
-pub gather_tree-returns-then-not-is_short-clause-tells : goal.gather_tree-returns-then-not-is_short-clause-tells
-gather_tree-returns-then-not-is_short-clause-tells g t c r e =
+pub gather_record-returns-then-not-is_short-clause-tells : goal.gather_record-returns-then-not-is_short-clause-tells
+gather_record-returns-then-not-is_short-clause-tells g t c r e =
     let nodes = short_nodes c.args.form r in
-    let vcn = c.in-Some.vcn in
+    let vcn = c.args.vcn in
     let block = c.fetch.new.into in
     let node = c.in-Ok.node in
     let there = fetched_some (r vcn) c.in_ok-found.found block c.if-not-found.false (c.in_ok-found.ensures.found r e) in
     let long = is_long c.args.form block (node_of_view node) c.in-Ok.ensures.ok (bytes_of node) c.in-Ok.ensures.bytes c.is_short.result
     c.is_short.ensures c.if-not-is_short.true in
-    subst (λ x. LacksTree nodes c.args.depth x c.args.met.now) (sym c.in-Some.is)
-    (lacks_bare nodes c.args.depth vcn c.args.met.now (at_record c.args.form r vcn block None there long))
+    lacks_bare nodes c.args.depth vcn c.args.met.now (at_record c.args.form r vcn block None there long)
 
-pub gather_tree-returns-clause-tells : goal.gather_tree-returns-clause-tells
-gather_tree-returns-clause-tells g t c r e =
+pub gather_record-returns-clause-tells : goal.gather_record-returns-clause-tells
+gather_record-returns-clause-tells g t c r e =
     let nodes = short_nodes c.args.form r in
-    let vcn = c.in-Some.vcn in
+    let vcn = c.args.vcn in
     let block = c.fetch.new.into in
     let node = c.in-Ok.node in
     let n : Node = node_of_view node in
@@ -75,7 +70,6 @@ gather_tree-returns-clause-tells g t c r e =
     let old = c.args.out.now.items in
     let new = c.gather_node.new.out.items in
     let met = c.gather_node.new.met in
-    subst (λ x. TellsTree c.in_ok-good.good nodes c.args.depth x c.args.met.now met old new) (sym c.in-Some.is)
     (subst (λ d. TellsTree c.in_ok-good.good nodes d (Some vcn) c.args.met.now met old new) deep
     (tells_number nodes (c.args.depth - 1) vcn n read c.args.met.now c.meet.new.self meets c.in_ok-good.good met old new
     (subst (λ k. TellsNode c.in_ok-good.good (short_nodes k r) (c.args.depth - 1) n c.meet.new.self met old new) c.in-Ok.ensures.form
@@ -170,54 +164,54 @@ gather_node-returns-clause-tells g t c r e =
 pub gather_tree-returns-in_default-clause-few : goal.gather_tree-returns-in_default-clause-few
 gather_tree-returns-in_default-clause-few g t c r e are = few_met r c.args.met.now are
 
-pub gather_tree-returns-then-depth-eq0-clause-few : goal.gather_tree-returns-then-depth-eq0-clause-few
-gather_tree-returns-then-depth-eq0-clause-few g t c r e are = few_met r c.args.met.now are
+pub gather_record-returns-then-depth-eq0-clause-few : goal.gather_record-returns-then-depth-eq0-clause-few
+gather_record-returns-then-depth-eq0-clause-few g t c r e are = few_met r c.args.met.now are
 
-pub gather_tree-returns-in_err-first-clause-few : goal.gather_tree-returns-in_err-first-clause-few
-gather_tree-returns-in_err-first-clause-few g t c r e are =
+pub gather_record-returns-in_err-first-clause-few : goal.gather_record-returns-in_err-first-clause-few
+gather_record-returns-in_err-first-clause-few g t c r e are =
     subst (AreFew r) (sym c.in_err-first.ensures.kept) (few_met r c.args.met.now are)
 
-pub gather_tree-returns-then-not-first-clause-few : goal.gather_tree-returns-then-not-first-clause-few
-gather_tree-returns-then-not-first-clause-few g t c r e are =
+pub gather_record-returns-then-not-first-clause-few : goal.gather_record-returns-then-not-first-clause-few
+gather_record-returns-then-not-first-clause-few g t c r e are =
     subst (AreFew r) (sym (c.in_ok-first.ensures.same c.if-not-first.true)) (few_met r c.args.met.now are)
 
-pub gather_tree-returns-in_err-found-clause-few : goal.gather_tree-returns-in_err-found-clause-few
-gather_tree-returns-in_err-found-clause-few g t c r e are =
-    some_met r c.args.met.now c.meet.new.self c.in-Some.vcn are (c.in_ok-first.ensures.first c.if-not-first.false)
+pub gather_record-returns-in_err-found-clause-few : goal.gather_record-returns-in_err-found-clause-few
+gather_record-returns-in_err-found-clause-few g t c r e are =
+    some_met r c.args.met.now c.meet.new.self c.args.vcn are (c.in_ok-first.ensures.first c.if-not-first.false)
 
-pub gather_tree-returns-then-not-found-clause-few : goal.gather_tree-returns-then-not-found-clause-few
-gather_tree-returns-then-not-found-clause-few g t c r e are =
-    some_met r c.args.met.now c.meet.new.self c.in-Some.vcn are (c.in_ok-first.ensures.first c.if-not-first.false)
+pub gather_record-returns-then-not-found-clause-few : goal.gather_record-returns-then-not-found-clause-few
+gather_record-returns-then-not-found-clause-few g t c r e are =
+    some_met r c.args.met.now c.meet.new.self c.args.vcn are (c.in_ok-first.ensures.first c.if-not-first.false)
 
-pub gather_tree-returns-in_default-new-clause-few : goal.gather_tree-returns-in_default-new-clause-few
-gather_tree-returns-in_default-new-clause-few g t c r e are =
-    some_met r c.args.met.now c.meet.new.self c.in-Some.vcn are (c.in_ok-first.ensures.first c.if-not-first.false)
+pub gather_record-returns-in_default-clause-few : goal.gather_record-returns-in_default-clause-few
+gather_record-returns-in_default-clause-few g t c r e are =
+    some_met r c.args.met.now c.meet.new.self c.args.vcn are (c.in_ok-first.ensures.first c.if-not-first.false)
 
-pub gather_tree-returns-then-not-is_short-clause-few : goal.gather_tree-returns-then-not-is_short-clause-few
-gather_tree-returns-then-not-is_short-clause-few g t c r e are =
-    some_met r c.args.met.now c.meet.new.self c.in-Some.vcn are (c.in_ok-first.ensures.first c.if-not-first.false)
+pub gather_record-returns-then-not-is_short-clause-few : goal.gather_record-returns-then-not-is_short-clause-few
+gather_record-returns-then-not-is_short-clause-few g t c r e are =
+    some_met r c.args.met.now c.meet.new.self c.args.vcn are (c.in_ok-first.ensures.first c.if-not-first.false)
 
-pub gather_tree-returns-in_err-good-clause-few : goal.gather_tree-returns-in_err-good-clause-few
-gather_tree-returns-in_err-good-clause-few g t c r e are =
-    let there = fetched_some (r c.in-Some.vcn) c.in_ok-found.found c.fetch.new.into c.if-not-found.false (c.in_ok-found.ensures.found r e) in
-    let met = more_met r c.args.met.now c.meet.new.self c.in-Some.vcn are (c.in_ok-first.ensures.first c.if-not-first.false)
+pub gather_record-returns-in_err-good-clause-few : goal.gather_record-returns-in_err-good-clause-few
+gather_record-returns-in_err-good-clause-few g t c r e are =
+    let there = fetched_some (r c.args.vcn) c.in_ok-found.found c.fetch.new.into c.if-not-found.false (c.in_ok-found.ensures.found r e) in
+    let met = more_met r c.args.met.now c.meet.new.self c.args.vcn are (c.in_ok-first.ensures.first c.if-not-first.false)
     (subst IsSome (sym there) refl) in
     c.gather_node.ensures.few r (c.fetch.ensures.records ∙ e) met
 
-pub gather_tree-returns-clause-few : goal.gather_tree-returns-clause-few
-gather_tree-returns-clause-few g t c r e are =
-    let there = fetched_some (r c.in-Some.vcn) c.in_ok-found.found c.fetch.new.into c.if-not-found.false (c.in_ok-found.ensures.found r e) in
-    let met = more_met r c.args.met.now c.meet.new.self c.in-Some.vcn are (c.in_ok-first.ensures.first c.if-not-first.false)
+pub gather_record-returns-clause-few : goal.gather_record-returns-clause-few
+gather_record-returns-clause-few g t c r e are =
+    let there = fetched_some (r c.args.vcn) c.in_ok-found.found c.fetch.new.into c.if-not-found.false (c.in_ok-found.ensures.found r e) in
+    let met = more_met r c.args.met.now c.meet.new.self c.args.vcn are (c.in_ok-first.ensures.first c.if-not-first.false)
     (subst IsSome (sym there) refl) in
     c.gather_node.ensures.few r (c.fetch.ensures.records ∙ e) met
 
 pub gather_tree-returns-in_default-clause-met : goal.gather_tree-returns-in_default-clause-met
 gather_tree-returns-in_default-clause-met g t c r e good are = are
 
-pub gather_tree-returns-clause-met : goal.gather_tree-returns-clause-met
-gather_tree-returns-clause-met g t c r e good are =
-    let there = fetched_some (r c.in-Some.vcn) c.in_ok-found.found c.fetch.new.into c.if-not-found.false (c.in_ok-found.ensures.found r e) in
-    let met = more_met r c.args.met.now c.meet.new.self c.in-Some.vcn are (c.in_ok-first.ensures.first c.if-not-first.false)
+pub gather_record-returns-clause-met : goal.gather_record-returns-clause-met
+gather_record-returns-clause-met g t c r e good are =
+    let there = fetched_some (r c.args.vcn) c.in_ok-found.found c.fetch.new.into c.if-not-found.false (c.in_ok-found.ensures.found r e) in
+    let met = more_met r c.args.met.now c.meet.new.self c.args.vcn are (c.in_ok-first.ensures.first c.if-not-first.false)
     (subst IsSome (sym there) refl) in
     c.in_ok-good.ensures.met r (c.fetch.ensures.records ∙ e) good met
 

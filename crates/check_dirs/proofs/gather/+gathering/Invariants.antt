@@ -9,10 +9,13 @@ use Rattle.check_dirs.proofs.GatherLaws.{GathersFront}
 use Rattle.check_dirs.proofs.gather.+gathering.Given as goal
 
 abbrev pub decreases-gather_tree : goal.decreases-gather_tree
-decreases-gather_tree g l = 2 * l.depth
+decreases-gather_tree g l = 3 * l.depth + 1
+
+abbrev pub decreases-gather_record : goal.decreases-gather_record
+decreases-gather_record g l = 3 * l.depth
 
 abbrev pub decreases-gather_node : goal.decreases-gather_node
-decreases-gather_node g l = 2 * l.depth + 1
+decreases-gather_node g l = 3 * l.depth + 2
 
 abbrev pub invariant-gather_node-loop-i : goal.invariant-gather_node-loop-i
 invariant-gather_node-loop-i g l = record {
