@@ -6,11 +6,11 @@ ghost use Rattle.cmd_lang.specs.Output.{output, Prints};
 use arrayvec::ArrayVec;
 use vol_disk::{Failed, Sink, write_all};
 
-/// How many bytes are held back at most.
-const ROOM: usize = 4096;
+/// How many bytes are held back at most: the space is filled anew for each reply, most of which are short.
+const ROOM: usize = 2048;
 
 /// Bytes that the sink did not get yet.
-pub type Held = ArrayVec<u8, 4096>;
+pub type Held = ArrayVec<u8, 2048>;
 
 /// Hands the sink all that is held back.
 pub fn flush<K: Sink>(out: &mut K, held: &mut Held) -> Result<(), Failed>
@@ -25,7 +25,7 @@ pub fn flush<K: Sink>(out: &mut K, held: &mut Held) -> Result<(), Failed>
 
 // Holds a piece back that there is room for.
 fn hold(held: &mut Held, piece: &[u8])
-    requires { array_vec_len held.old + length piece.now ≤ 4096 }
+    requires { array_vec_len held.old + length piece.now ≤ 2048 }
     ensures { held.new.items ≡ held.old.items ++ piece.now }
 {
     held.try_extend_from_slice(piece).unwrap();
@@ -33,7 +33,7 @@ fn hold(held: &mut Held, piece: &[u8])
 
 /// Prints a short piece.
 pub fn put<K: Sink>(out: &mut K, held: &mut Held, piece: &[u8]) -> Result<(), Failed>
-    requires { length piece.now ≤ 4096 }
+    requires { length piece.now ≤ 2048 }
     ensures { Prints (output K.Sink out.old held.old.items) (output K.Sink out.new held.new.items) piece.now result }
 {
     if piece.len() > ROOM - held.len() {

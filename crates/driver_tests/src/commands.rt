@@ -493,11 +493,11 @@ fn a_long_answer_is_printed(rt: HostRuntime) -> Result<(), Fail> {
     Ok(())
 }
 
-// 131,081 bytes are handed on in pieces of 4,096, so in 33 calls: a sink that fails at call 34 takes them all.
+// 131,081 bytes are handed on in pieces of 2,048, so in 65 calls: a sink that fails at call 66 takes them all.
 #[test]
 fn a_long_answer_has_few_pieces(rt: HostRuntime) -> Result<(), Fail> {
     let bytes = Octets::from_vec(vec![in rt.alloc(); 0x41; 65_536]?);
-    let mut out = MemSink::new(rt.alloc(), Vec::from_slice(rt.alloc(), &[34])?);
+    let mut out = MemSink::new(rt.alloc(), Vec::from_slice(rt.alloc(), &[66])?);
     out.reserve(200_000)?;
     assert_eq!(rt;
         print_reply(&Reply::Ok(Answer::Data(bytes)), &mut out),
