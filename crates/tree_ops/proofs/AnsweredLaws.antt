@@ -13,7 +13,6 @@ use Rattle.file_record.specs.declared.error.FileNo.{FileNo}
 use Rattle.file_record.specs.declared.error.FileNo.TheVariants as file
 use Rattle.tree_model.specs.Paths.{and_then}
 use Rattle.tree_model.specs.declared.reply.No.{No}
-use Rattle.tree_model.specs.declared.reply.No.TheVariants as no
 use Rattle.tree_ops.specs.Answered.{Answered, Counts, Says, stop_of, with_ok}
 use Rattle.tree_ops.specs.declared.stop.Stop.{Stop}
 use Rattle.tree_ops.specs.declared.stop.Stop.TheVariants as stop
@@ -147,8 +146,3 @@ pub as-residual-of : {D A B : Type 0} (g : Ghosts D) (f : A → B) (old new : Mf
     → Answered g old new wanted (with_ok f result)
 as-residual-of g f old new wanted why (Ok x) is call = absurd is
 as-residual-of g f old new wanted why (Err e) is call = subst (λ w. Answered g old new wanted (Err w)) (sym is) call
-
--- Memory ran out between two calls.
-pub out-of-memory : {D A : Type 0} (g : Ghosts D) (old new : Mft D g) (reads : ℕ) (wanted : VolumeView → Result A No) → MftReads g old new reads
-    → faults_of g new ≡ faults_of g old → Answered g old new wanted (Err (stop.No no.Memory))
-out-of-memory g old new reads wanted only quiet = record { reads = reads; only = only; counts = quiet; says = λ told. inr refl }

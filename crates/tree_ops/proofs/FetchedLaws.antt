@@ -1,13 +1,11 @@
 -- A call that fetches, and one that answers behind it.
-use Rattle.std.proofs.Common.{◌≡◌, ◌≢◌, ◌+◌, ℕ, Result, Ok, Err, le_refl, refl, sym, subst, inl, inr}
+use Rattle.std.proofs.Common.{◌≡◌, ◌≢◌, ℕ, Result, Ok, Err, refl, sym, subst, inl, inr}
 use Rattle.std.specs.Prelude.{IfErr, IfOk, IsTrue}
 use Rattle.vol_disk.specs.declared.Disk.{Ghosts}
 use Rattle.volume_def.specs.View.{VolumeView}
-use Rattle.file_record.proofs.ReadLaws.{view-kept}
 use Rattle.file_record.specs.FileNos.{CountsNo, IsReadNo}
 use Rattle.file_record.specs.declared.error.FileNo.{FileNo}
 use Rattle.file_record.specs.declared.error.FileNo.TheVariants as file
-use Rattle.mft_table.proofs.StreamReads.{MftReads-then}
 use Rattle.mft_table.specs.declared.mft.Mft.{Mft}
 use Rattle.mft_table.specs.Mft.{MftReads, faults_of, view}
 use Rattle.tree_model.specs.declared.reply.No.{No}
@@ -43,17 +41,6 @@ module _ {D A B : Type 0} (g : Ghosts D) (IsSo : VolumeView → A → Type 0) (w
   answers old new x (Err (stop.No refused)) call quiet says =
       record { reads = call.reads; only = call.only; counts = call.counts; says = λ told. says told (call.is_so told) }
   answers old new x (Err stop.Device) call quiet says = absurd (quiet refl)
-
-  -- the answer of a further call
-  pub goes_on : (old middle new : Mft D g) (x : A) (result : Result B Stop) → Fetched g old middle IsSo (Ok x)
-      → Answered g middle new wanted result → Answered g old new wanted result
-  goes_on old middle new x result call next =
-      let same = view-kept g old middle call.reads call.only in record {
-        reads = call.reads + next.reads;
-        only = MftReads-then g old middle new _ _ _ call.only next.only (le_refl _);
-        counts = subst (λ n. Counts result n (faults_of g new)) call.counts next.counts;
-        says = λ told. subst (λ v. Says (wanted v) result) same (next.says (subst (λ v. IsTrue v.told) (sym same) told));
-      }
 
 -- A read of a file that failed, as a stop.
 pub read-failed : (no_ : FileNo) → IsReadNo no_ → IsFailed (stop_of no_)

@@ -26,7 +26,7 @@ use Rattle.tree_model.proofs.HiddenLaws.{hidden-system, leads-ordinary, leads-ro
 use Rattle.tree_model.proofs.ParentLaws.{HasName, name-directory, one-parent}
 use Rattle.tree_model.proofs.PathLaws.{name-first}
 use Rattle.tree_model.proofs.ReadingLaws.{key_is}
-use Rattle.tree_model.proofs.ShownLaws.{IsNamed, directory-link, directory-shown, hidden-links, link-named, named-directory, shown-base}
+use Rattle.tree_model.proofs.ShownLaws.{IsNamed, directory-link, directory-shown, hidden-links, link-named, shown-base}
 use Rattle.tree_ops.specs.Above.{AreAbove, leads_hidden, name_above}
 use Rattle.tree_ops.specs.FileLinks.{has_point_held, links_held}
 use Rattle.tree_ops.specs.Kinds.{kind_of}

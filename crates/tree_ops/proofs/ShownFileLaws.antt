@@ -6,7 +6,6 @@ use Rattle.ntfs_def.specs.declared.records.TheConstants.{FIRST_ORDINARY, ROOT}
 use Rattle.volume_def.specs.CaseClause.{volume_fold}
 use Rattle.volume_def.specs.FileNames.{names_of}
 use Rattle.volume_def.specs.Files.{records_of}
-use Rattle.volume_def.specs.Readable.{IsFile}
 use Rattle.volume_def.specs.Sound.{IsSound, Links, References}
 use Rattle.volume_def.specs.View.{VolumeView}
 use Rattle.volume_def.proofs.MemberLaws.{All-from_Contains, Contains-from_map}
@@ -42,9 +41,6 @@ has-node view f some = by (node_at view f) refl (subst IsSome (node_of-read view
 module _ (view : VolumeView) (sound : IsSound view) (f : ℕ) (has : HasNode view f) where
   is : IsShown view f
   is = is_shown view f has.node has.at
-
-  pub shown-is-file : IsFile view f
-  shown-is-file = let e = is.at in rw e is.is
 
   ordinary : f ≢ ROOT → FIRST_ORDINARY ≤ f
   ordinary ne = elim (cases_lt f FIRST_ORDINARY) [

@@ -1,6 +1,6 @@
 -- A volume behind calls that only read, and one that was just taken into use.
 use Rattle.std.proofs.Common.{◌≡◌, ◌⊎◌, ℕ, Bool, true, false, List, Option, Some, None, Result, Ok, Err, inl, inr, refl, sym, ap, subst, ◌∙◌, arith}
-use Rattle.std.specs.Prelude.{IfSome, IsTrue, is_some}
+use Rattle.std.specs.Prelude.{IfSome, is_some}
 use Rattle.vol_disk.specs.declared.Disk.{Ghosts}
 use Rattle.volume_def.specs.Sound.{HoldBelow, IsSound}
 use Rattle.volume_def.specs.Sound.{Attributes, CaseTable, ClusterBits, Extents, Indexes, Limits, Links, Lists, Mirror, MirrorPlace, Owners, RecordBits, References, Shape, Version}
@@ -30,7 +30,6 @@ use Rattle.tree_ops.specs.Standings.{IsStanding}
 use Rattle.tree_ops.specs.Volumes.{VolumeReads}
 use Rattle.tree_ops.specs.Wanted.{machine_on, wanted}
 use Rattle.tree_ops.specs.declared.volume.Volume.{Volume}
-use Rattle.tree_ops.proofs.AnsweredLaws.{in-use-kept, told-kept}
 use Rattle.tree_ops.proofs.WantedLaws.{not-built}
 
 module _ {D : Type 0} (g : Ghosts D) (old new : Volume D g) (n : ℕ) (reads : MftReads g old.mft new.mft n) where
@@ -47,16 +46,6 @@ module _ {D : Type 0} (g : Ghosts D) (old new : Volume D g) (n : ℕ) (reads : M
         late = only.late;
         faults = goes.faults;
         view = view-kept g old.mft new.mft n reads;
-      }
-
-  pub serves-kept : Serves g old → (IsTrue (view g old.mft).told → IfSome new.last (IsStanding (view g old.mft))) → Serves g new
-  serves-kept serves last =
-      let only = reads.stage.only_reads in
-      record {
-        in_use = in-use-kept g old.mft new.mft n reads serves.in_use;
-        last = told-kept g old.mft new.mft n (λ v. IfSome new.last (IsStanding v)) reads last;
-        tells = only.image ∙ serves.tells ∙ sym only.now;
-        whole = only.broken ∙ serves.whole;
       }
 
 -- What was answered is a step of the machine.

@@ -50,7 +50,8 @@ fn leads_to_system<D: Disk>(
     requires directory { IsTrue (view D.Disk mft.old).told → IsDirectory (view D.Disk mft.old) dir }
     requires above { IsTrue (view D.Disk mft.old).told → AreAbove (view D.Disk mft.old) above.old }
     requires most { IsTrue (view D.Disk mft.old).told → most ≡ (view D.Disk mft.old).layout.count - 1 }
-    ensures found { Finds D.Disk mft.old mft.new (λ volume found. AreAbove volume above.new × (found ≡ leads_hidden volume dir)) result }
+    ensures found { Finds D.Disk mft.old mft.new
+        (λ volume found. AreAbove volume above.new × (found ≡ leads_hidden volume dir)) result }
 {
     let mut at = dir;
     let mut left = most;

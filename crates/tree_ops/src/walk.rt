@@ -115,7 +115,8 @@ fn reach<D: Disk>(
     ensures answered { Answered D.Disk mft.old mft.new
         (λ volume. reached (read volume) (lookup (read volume) (number_of dir.now) name.now)) (with_ok found_by result) }
     ensures number { IfOk result (λ to. number_of to.held ≡ found_file to.found) }
-    ensures held { IfOk result (λ to. IsTrue (view D.Disk mft.old).told → IsFileHeld (view D.Disk mft.old) (found_file to.found) to.held) }
+    ensures held { IfOk result (λ to. IsTrue (view D.Disk mft.old).told
+        → IsFileHeld (view D.Disk mft.old) (found_file to.found) to.held) }
 {
     let link = seek(alloc, mft, dir, name)?;
     let below = load_below(
@@ -208,7 +209,8 @@ fn list_link<D: Disk>(
     requires directory { IsTrue (view D.Disk mft.old).told → IsShownDirectory (view D.Disk mft.old) dir }
     requires above { IsTrue (view D.Disk mft.old).told → AreAbove (view D.Disk mft.old) above.old }
     requires among { IsTrue (view D.Disk mft.old).told → Contains (directory_links (view D.Disk mft.old) dir) link }
-    ensures found { Finds D.Disk mft.old mft.new (λ volume line. AreAbove volume above.new × (line ≡ listed (read volume) link)) result }
+    ensures found { Finds D.Disk mft.old mft.new
+        (λ volume line. AreAbove volume above.new × (line ≡ listed (read volume) link)) result }
 {
     if link.is_dos() {
         return Ok(None);

@@ -1,8 +1,8 @@
-use Rattle.std.proofs.Common.{◌≡◌, ◌-◌, suc, Some, None, sym, ap, subst, ◌∙◌, arith}
+use Rattle.std.proofs.Common.{◌≡◌, ◌-◌, suc, Some, None, sym, subst, ◌∙◌, arith}
 use Rattle.mft_table.specs.Mft.{view}
 use Rattle.attr_store.specs.InUse.{IsDirectory}
 use Rattle.tree_ops.proofs.FindsLaws.{finds-after, finds-both, finds-ok, finds-plain, finds-stop}
-use Rattle.tree_ops.proofs.KindLaws.{IsUp, up-begins, up-ends, up-goes, up-known, up-low}
+use Rattle.tree_ops.proofs.KindLaws.{IsUp, up-begins, up-ends, up-goes, up-known}
 use Rattle.tree_ops.proofs.hidden.leads_to_system.Goals as goal
 
 pub steps-init : goal.steps-init

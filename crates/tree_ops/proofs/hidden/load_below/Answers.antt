@@ -1,4 +1,4 @@
-use Rattle.std.proofs.Common.{◌≡◌, ◌-◌, Ok, Option, None, Some, IfSome, false, if◌then◌else◌, refl, sym, ap, subst, ◌∙◌}
+use Rattle.std.proofs.Common.{◌≡◌, ◌-◌, Option, IfSome, false, if◌then◌else◌, sym, ap, subst, ◌∙◌}
 use Rattle.std.specs.List.{All, list_any}
 use Rattle.volume_def.specs.Files.{records_of}
 use Rattle.file_record.specs.declared.base.BaseFile.{BaseFile}
@@ -8,7 +8,7 @@ use Rattle.tree_model.specs.Hidden.{leads_to_system}
 use Rattle.tree_model.specs.declared.tree.Link.{Link}
 use Rattle.tree_ops.specs.Kinds as kind
 use Rattle.tree_ops.specs.Nodes.{IsFileHeld, number_of}
-use Rattle.tree_ops.proofs.FindsLaws.{finds-after, finds-both, finds-ok, finds-plain, finds-short, finds-stop, told-kept}
+use Rattle.tree_ops.proofs.FindsLaws.{finds-after, finds-both, finds-ok, finds-plain, finds-stop, told-kept}
 use Rattle.tree_ops.proofs.KindLaws.{dir-shorter, directory-kind, file-kind, link-file, parents-directories, system-kind}
 use Rattle.tree_ops.proofs.OutlineLaws.{links-told}
 use Rattle.tree_ops.proofs.hidden.load_below.Goals as goal

@@ -1,18 +1,16 @@
-use Rattle.std.proofs.Common.{◌≡◌, ◌++◌, ℕ, List, length, refl, sym, ap, ◌∙◌, subst, arith}
+use Rattle.std.proofs.Common.{ℕ, length, sym, ap, ◌∙◌, subst, arith}
 use Rattle.std.specs.Vec.Iter.{into_iter_items}
-use Rattle.std.specs.Option.{option_to_list}
 use Rattle.mft_table.specs.Mft.{view}
-use Rattle.tree_model.specs.Reading.{directory_links, read}
+use Rattle.tree_model.specs.Reading.{directory_links}
 use Rattle.tree_ops.specs.declared.stop.Stop.TheVariants as stop
 use Rattle.tree_model.specs.declared.reply.No.TheVariants as no
-use Rattle.std.proofs.Common.{Contains, Ok, rules}
+use Rattle.std.proofs.Common.{Contains, rules}
 use Rattle.std.proofs.lemmas.List.{nil_from_length}
-use Rattle.tree_model.specs.Answers.{listing}
 use Rattle.tree_ops.specs.Above.{AreAbove}
 use Rattle.tree_ops.specs.Nodes.{number_of}
 use Rattle.tree_ops.specs.Walks.{IsShownDirectory}
 use Rattle.tree_ops.proofs.AnsweredLaws.{as-residual, in-use-kept, told-kept}
-use Rattle.tree_ops.proofs.FindsLaws.{answers-ok, answers-stop, finds-after, finds-both, finds-ok, finds-short, finds-stop}
+use Rattle.tree_ops.proofs.FindsLaws.{answers-ok, answers-stop, finds-after, finds-both, finds-ok, finds-short}
 use Rattle.tree_ops.proofs.ListSteps.{AreListed, list-among, list-begins, list-ends, list-goes}
 use Rattle.tree_ops.proofs.walk.list_shown.Goals as goal
 

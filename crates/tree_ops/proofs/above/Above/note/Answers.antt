@@ -1,4 +1,4 @@
-use Rattle.std.proofs.Common.{refl, sym, ap, ◌∙◌}
+use Rattle.std.proofs.Common.{refl, sym, ◌∙◌}
 use Rattle.tree_ops.proofs.KindLaws.{leads-more, up-parent}
 use Rattle.tree_ops.proofs.above.Above.note.Goals as goal
 
