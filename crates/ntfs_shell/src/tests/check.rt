@@ -157,14 +157,23 @@ fn each_clause_is_told(rt: HostRuntime) -> Result<(), test::Fail> {
     Ok(())
 }
 
-// Why the volume is refused on a disk of which one read fails.
-fn failing(alloc: Global, image: &[u8], number: u64) -> Result<Option<MountNo>, test::Fail> {
+/// A disk of 2,048 sectors with these contents, of which one read fails.
+pub fn failing_disk(
+    alloc: Global,
+    image: &[u8],
+    number: u64,
+) -> Result<FailDisk<MemDisk>, AllocError> {
     let fail = Fail {
         kind: CallKind::Read,
         number,
         lands: false,
     };
-    let mut disk = FailDisk::new(disk_of(alloc, image)?, vec![in alloc; fail]?);
+    Ok(FailDisk::new(disk_of(alloc, image)?, vec![in alloc; fail]?))
+}
+
+// Why the volume is refused on a disk of which one read fails.
+fn failing(alloc: Global, image: &[u8], number: u64) -> Result<Option<MountNo>, test::Fail> {
+    let mut disk = failing_disk(alloc, image, number)?;
     match check_records(alloc, &mut disk) {
         Ok(_) => Ok(None),
         Err(no) => Ok(Some(no)),

@@ -1,11 +1,10 @@
 //! The word `check`, on volumes of 2,048 and of 16,384 sectors that `format` makes, whole and damaged.
-use super::check::{disk_of, disk_on, made_by, made_on, volume};
+use super::check::{disk_on, failing_disk, made_by, made_on, volume};
 use super::damage::{break_once, mark_dirty, put, tear};
 use super::laid_files::{FORMAT, SECTORS};
 use super::{AMPLE, run, sink_of};
 use std::alloc::Global;
 use std::test;
-use vol_disk::{CallKind, Fail, FailDisk};
 
 const SOUND: &str = "sound\n";
 
@@ -126,12 +125,7 @@ fn each_damage_of_a_greater_volume_is_told(rt: HostRuntime) -> Result<(), test::
 
 // The status of `check` on a disk of which one read fails, and whether what is printed is that of this status.
 fn failing(alloc: Global, image: &[u8], number: u64) -> Result<(u8, bool), test::Fail> {
-    let fail = Fail {
-        kind: CallKind::Read,
-        number,
-        lands: false,
-    };
-    let mut disk = FailDisk::new(disk_of(alloc, image)?, vec![in alloc; fail]?);
+    let mut disk = failing_disk(alloc, image, number)?;
     let mut out = sink_of(alloc, AMPLE, 0)?;
     let status = run(alloc, "check", &mut disk, &mut out)?;
     let text = if status == 0 { SOUND } else { "" };

@@ -9,9 +9,11 @@ use super::laid::{
     LaidName, ROOT_RECORD, Value, begin_file, end_file, lay_in_root, lay_name, lay_standard,
     lay_value, seal,
 };
-use super::reading::{failing, is_sound};
+use super::reading::is_sound;
+use super::script::failing;
 use std::alloc::Global;
 use std::test;
+use vol_disk::CallKind;
 
 // Types of attributes.
 const FILE_NAME: u8 = 0x30;
@@ -225,10 +227,10 @@ const FAILING: u64 = 1635 + 200;
 fn a_path_is_walked_by_its_index(rt: HostRuntime) -> Result<(), test::Fail> {
     let image = volume_with_m(rt.alloc())?;
     assert!(rt; is_sound(rt.alloc(), 2048, &image)?);
-    let (status, out) = failing(rt.alloc(), &image, b"attr /m/T6\n", FAILING)?;
+    let (status, out) = failing(rt.alloc(), &image, b"attr /m/T6\n", CallKind::Read, FAILING)?;
     assert_eq!(rt; status, 0);
     assert!(rt; out.bytes() == b"attr 0020\nok\n".as_slice());
-    let (status, out) = failing(rt.alloc(), &image, b"ls /m\n", FAILING)?;
+    let (status, out) = failing(rt.alloc(), &image, b"ls /m\n", CallKind::Read, FAILING)?;
     assert_eq!(rt; status, 6);
     assert!(rt; out.bytes().is_empty());
     Ok(())

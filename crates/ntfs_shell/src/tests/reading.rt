@@ -1,12 +1,12 @@
 //! The reading commands of a script, on volumes that `format` makes and on which files were laid. What a script prints, by the
 //! table of commands and that of refusals; a reply is its lines and `ok`, or the refusal.
-use super::check::{disk_of, disk_on, made_on};
+use super::check::{disk_on, made_on};
 use super::laid_files::{FORMAT, SECTORS, volume_with_all, volume_with_f};
-use super::script::{run_on, source_of};
+use super::script::{failing, run_on, source_of};
 use super::{AMPLE, run, sink_of};
 use std::alloc::Global;
 use std::test;
-use vol_disk::{CallKind, Fail, FailDisk, MemSink};
+use vol_disk::{CallKind, MemSink};
 
 // A line of a script, and its reply.
 type Row = (&'static str, &'static str);
@@ -249,27 +249,6 @@ const READS: [Row; 4] = [
     ("cat /d/b:s", "data 6162\nok\n"),
 ];
 
-/// The status of a script on a disk of 2,048 sectors of which one read fails, and what is printed.
-pub fn failing(
-    alloc: Global,
-    image: &[u8],
-    script: &[u8],
-    number: u64,
-) -> Result<(u8, MemSink), test::Fail> {
-    let fail = Fail {
-        kind: CallKind::Read,
-        number,
-        lands: false,
-    };
-    let mut disk = disk_of(alloc, image)?;
-    disk.reserve(100)?;
-    let mut disk = FailDisk::new(disk, vec![in alloc; fail]?);
-    let mut source = source_of(alloc, script, 0)?;
-    let mut out = sink_of(alloc, AMPLE, 0)?;
-    let status = run_on(alloc, &mut disk, &mut source, &mut out)?;
-    Ok((status, out))
-}
-
 // Whether a text is that of the first few of some replies, and not of all.
 fn is_front(alloc: Global, text: &[u8], rows: &[Row]) -> Result<bool, test::Fail> {
     let mut front = Vec::new(alloc);
@@ -291,13 +270,13 @@ fn a_failing_read_ends_the_script(rt: HostRuntime) -> Result<(), test::Fail> {
     for number in [
         1, 540, 700, 708, 716, 724, 732, 740, 748, 756, 764, 772, 780, 788,
     ] {
-        let (status, out) = failing(rt.alloc(), &image, &script, number)?;
+        let (status, out) = failing(rt.alloc(), &image, &script, CallKind::Read, number)?;
         assert_eq!(rt; status, 6, "read {number}");
         assert!(rt; is_front(rt.alloc(), out.bytes(), &READS)?, "read {number}");
         partly = partly || !out.bytes().is_empty();
     }
     assert!(rt; partly);
-    let (status, _) = failing(rt.alloc(), &image, &script, 5000)?;
+    let (status, _) = failing(rt.alloc(), &image, &script, CallKind::Read, 5000)?;
     assert_eq!(rt; status, 0);
     assert_eq!(rt; wrong_row(rt.alloc(), 2048, &image, &READS)?, None);
     Ok(())

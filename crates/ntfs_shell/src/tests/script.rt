@@ -178,10 +178,11 @@ fn each_failing_call_of_the_sink_is_told(rt: HostRuntime) -> Result<(), test::Fa
     Ok(())
 }
 
-// The status and the text of the short script on a disk of which one call fails.
-fn failing(
+/// The status of a script on a disk of which one call fails, and what is printed.
+pub fn failing(
     alloc: Global,
     image: &[u8],
+    script: &[u8],
     kind: CallKind,
     number: u64,
 ) -> Result<(u8, MemSink), test::Fail> {
@@ -191,7 +192,7 @@ fn failing(
         lands: false,
     };
     let mut disk = FailDisk::new(settling(alloc, image)?, vec![in alloc; fail]?);
-    let mut source = source_of(alloc, SHORT, 0)?;
+    let mut source = source_of(alloc, script, 0)?;
     let mut out = sink_of(alloc, AMPLE, 0)?;
     let status = run_on(alloc, &mut disk, &mut source, &mut out)?;
     Ok((status, out))
@@ -202,7 +203,7 @@ fn failing(
 fn each_failing_settle_is_told(rt: HostRuntime) -> Result<(), test::Fail> {
     let image = volume(rt.alloc())?;
     for (number, status, text) in [(1, 6, ""), (2, 6, "no 1 Syntax\n"), (3, 0, SHORT_REPLIES)] {
-        let (got, out) = failing(rt.alloc(), &image, CallKind::Settle, number)?;
+        let (got, out) = failing(rt.alloc(), &image, SHORT, CallKind::Settle, number)?;
         assert_eq!(rt; got, status, "settle {number}");
         assert!(rt; out.bytes() == text.as_bytes(), "settle {number}");
     }
@@ -214,7 +215,7 @@ fn each_failing_settle_is_told(rt: HostRuntime) -> Result<(), test::Fail> {
 fn a_failing_read_is_told(rt: HostRuntime) -> Result<(), test::Fail> {
     let image = volume(rt.alloc())?;
     for number in [1, 2, 100, 395] {
-        let (status, out) = failing(rt.alloc(), &image, CallKind::Read, number)?;
+        let (status, out) = failing(rt.alloc(), &image, SHORT, CallKind::Read, number)?;
         assert_eq!(rt; status, 6, "read {number}");
         assert!(rt; out.bytes().is_empty(), "read {number}");
     }
