@@ -1,5 +1,5 @@
 -- A volume in use: it was mounted, and its contents are those of the volume definition still.
-use Rattle.std.specs.Prelude.{◌≡◌, ℕ, IsSomeAnd, IsTrue}
+use Rattle.std.specs.Prelude.{ℕ, IsSomeAnd, IsTrue}
 use Rattle.vol_disk.specs.declared.Disk.{Ghosts}
 use Rattle.volume_def.specs.Files.{is_base, is_directory, record_on}
 use Rattle.volume_def.specs.Sound.{IsSound}
