@@ -31,14 +31,16 @@ check prints sound, or the first clause that fails and a number N, as refused S7
   S4   record N has the attributes that it has to have, in order
   S5   the attribute list of record N names each part of the file once
   S6   the extents and sizes of the streams of record N fit each other
-  S7   cluster N lies on the volume and has one owner at most
+  S7   cluster N lies on the volume and has one owner at most; 0 is $Boot's
   S8   the bitmap of clusters is right about cluster N
   S9   the bitmap of records is right about record N
   S10  the references in record N lead to the records that they mean
-  S11  record N has as many names as it counts, and they lead to the root
+  S11  record N has as many names as it counts, DOS names have their partners,
+       a directory has one, and the way up from it leads to the root
   S13  the table of case is whole; N is 10; asked before S12
   S12  the indexes of record N are whole and list the names in a directory
-  S14  record 3 tells version 3.1, and the records 0 to 3 have equal copies
+  S14  record 3 tells version 3.1, and the records 0 to 3 have equal copies in
+       the mirror, which lies where the boot sector says
   S15  no stream of record N is longer than 1099511627776 bytes
 or refused dirty, where all of them hold and the volume was not closed.
 

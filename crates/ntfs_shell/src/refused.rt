@@ -76,7 +76,7 @@ fn sentence_around(clause: &str) -> (&'static str, &'static str) {
         "S4" => (
             "record ",
             " lacks an attribute, has one in a wrong form, or has them in a wrong order or with \
-             equal ids",
+             equal ids, or is one of the first 12 and extends another",
         ),
         "S5" => (
             "the attribute list of record ",
@@ -93,20 +93,21 @@ fn sentence_around(clause: &str) -> (&'static str, &'static str) {
         ),
         "S8" => (
             "the bitmap of clusters is wrong about cluster ",
-            ", which is taken exactly where something owns it",
+            ", which is taken exactly where something owns it, or cannot be read",
         ),
         "S9" => (
             "the bitmap of records is wrong about record ",
-            ", which is taken exactly where it is in use",
+            ", which is taken exactly where it is in use, or cannot be read",
         ),
         "S10" => (
             "a reference in record ",
-            " leads to a record that is not in use or has another sequence number, or to no \
-             directory",
+            " leads to a record that is not in use, begins no file or has another sequence number, \
+             or to no directory",
         ),
         "S11" => (
             "the names of record ",
-            " are not as many as it counts, lack a partner, or do not lead up to the root",
+            " are none, are not as many as it counts, lack a partner or have two, are several of a \
+             directory, or do not lead up to the root",
         ),
         "S12" => (
             "an index of record ",

@@ -13,6 +13,7 @@ mod laid_files;
 mod lists;
 mod reading;
 mod script;
+mod sentences;
 
 use crate::front::FrontSink;
 use crate::shell::run_shell;

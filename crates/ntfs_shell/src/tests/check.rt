@@ -157,6 +157,34 @@ fn each_clause_is_told(rt: HostRuntime) -> Result<(), test::Fail> {
     Ok(())
 }
 
+// How many sectors are read for a clause and those before it: the boot sector, record 0, each record, a sector of each bitmap.
+fn reads_for(clause: u8) -> u64 {
+    match clause {
+        1 => 1,
+        2 => 3,
+        3..=7 => 131,
+        8 => 132,
+        _ => 133,
+    }
+}
+
+// Each clause is broken alone, and the first read fails that no clause up to it asks for.
+#[test]
+fn a_refused_volume_is_read_no_further(rt: HostRuntime) -> Result<(), test::Fail> {
+    let whole = volume(rt.alloc())?;
+    for (clause, number) in BROKEN {
+        if clause == 12 {
+            continue;
+        }
+        let mut image = whole.as_slice().to_vec(rt.alloc())?;
+        break_clause(&mut image, clause);
+        let wanted = MountNo::Refused { clause, number };
+        let told = failing(rt.alloc(), &image, reads_for(clause) + 1)?;
+        assert_eq!(rt; told, Some(wanted), "S{clause}");
+    }
+    Ok(())
+}
+
 /// A disk of 2,048 sectors with these contents, of which one read fails.
 pub fn failing_disk(
     alloc: Global,

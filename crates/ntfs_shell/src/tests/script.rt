@@ -1,5 +1,5 @@
-//! The word `run`, on the volume that `format` makes. What each reading command answers is tested where the commands stand; here
-//! it is how a script is read, settled, printed and ended.
+//! The word `run`, on the volume that `format` makes. What each reading command answers is tested in `reading`; here it is
+//! how a script is read, settled, printed and ended.
 use super::check::{disk_of, volume};
 use super::damage::{mark_dirty, tear};
 use super::sink_of;
@@ -210,7 +210,7 @@ fn each_failing_settle_is_told(rt: HostRuntime) -> Result<(), test::Fail> {
     Ok(())
 }
 
-// A read that fails ends the run, before the first line or in one that reads.
+// A read of the mount that fails ends the run before its first line.
 #[test]
 fn a_failing_read_is_told(rt: HostRuntime) -> Result<(), test::Fail> {
     let image = volume(rt.alloc())?;
