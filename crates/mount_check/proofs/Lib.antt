@@ -3,6 +3,7 @@ pub mod OrderLaws
 pub mod RefusalLaws
 pub mod VersionLaws
 pub mod PlaceLaws
+pub mod InsideLaws
 pub mod MirrorLaws
 pub mod LimitLaws
 pub mod FinishLaws

@@ -1,5 +1,5 @@
 -- From what the three calls say of a disk to what is said of it in the end.
-use Rattle.std.proofs.Common.{◌≡◌, ◌+◌, ◌≤◌, ◌/◌, ℕ, List, length, Option, Some, sym, subst, ◌∙◌, arith}
+use Rattle.std.proofs.Common.{◌+◌, ◌/◌, ℕ, List, length, Option, Some, sym, subst, ◌∙◌, arith}
 use Rattle.vol_disk.specs.Contents.{sector_in}
 use Rattle.vol_disk.specs.Reading.{DiskReads}
 use Rattle.vol_disk.specs.declared.Disk.{Ghosts}

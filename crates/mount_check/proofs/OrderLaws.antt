@@ -1,5 +1,5 @@
 -- The clauses that speak of one number, and the order of the clauses.
-use Rattle.std.proofs.Common.{◌≡◌, ◌≤◌, ℕ, Bool, true, false, [], Option, Some, None, IsTrue, refl, sym, subst, arith}
+use Rattle.std.proofs.Common.{◌≡◌, ◌≤◌, ℕ, Bool, true, false, [], Option, Some, None, IsTrue, refl, sym, subst, ◌∙◌, arith}
 use Rattle.std.specs.Prelude.{◌↔◌, IsFalse}
 use Rattle.std.proofs.lemmas.Bool.{false≢true}
 use Rattle.ntfs_def.specs.declared.kinds.TheConstants.{DATA}
@@ -20,6 +20,11 @@ pub least-unless : (P : Type 0) (number : ℕ) (holds : Bool) (first : Option �
 least-unless P number true first so unset is = subst (IsLeastFailing (λ n. n ≡ number → P)) (sym (so refl)) (λ n e. is.0 refl)
 least-unless P number false first so unset is =
     subst (IsLeastFailing (λ n. n ≡ number → P)) (sym (unset refl)) (λ asks. false≢true (is.1 (asks refl)), λ m low e. absurd (omega arith))
+
+-- where no number breaks it, it holds
+pub holds-none : (holds : Bool) (number : ℕ) (first : Option ℕ) → (IsFalse holds → first ≡ Some number) → first ≡ None → IsTrue holds
+holds-none true number first unset none = refl
+holds-none false number first unset none = let e : Some number ≡ None = sym (unset refl) ∙ none in cc
 
 -- the first that fails
 pub IsFirstBroken-of : (view : VolumeView) (clause : Clause) (n : ℕ) → HoldBelow view (rank_of clause)

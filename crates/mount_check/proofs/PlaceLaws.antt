@@ -146,7 +146,7 @@ noted-all held i note end notes =
 copied-sectors : (k sectors : ℕ) → k * (512 * sectors) < 4096 → k * sectors < 8
 copied-sectors k sectors lt = omega arith
 
-copied-bytes : (k sectors : ℕ) → k * sectors < 8 → k * (512 * sectors) < 4096
+pub copied-bytes : (k sectors : ℕ) → k * sectors < 8 → k * (512 * sectors) < 4096
 copied-bytes k sectors lt = omega arith
 
 -- the first clusters of a stream lie one behind the other

@@ -3,3 +3,4 @@ pub mod Views
 pub mod Limits
 pub mod Refusals
 pub mod Copies
+pub mod MirrorClusters

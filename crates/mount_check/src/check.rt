@@ -6,6 +6,7 @@ ghost use Rattle.volume_def.specs.VersionClause.{IsClean};
 ghost use Rattle.mft_table.specs.HeldTables.{HoldsTables, volume_in};
 ghost use Rattle.mft_table.specs.MountNos.{CountsMount};
 ghost use Rattle.mft_table.specs.Mounted.{StandsOn};
+ghost use Rattle.mount_check.specs.MirrorClusters.{IsMirrorInside};
 ghost use Rattle.mount_check.specs.Refusals.{IsMountNo};
 
 use crate::finish::finish_mount;
@@ -16,7 +17,8 @@ use std::alloc::Global;
 use vol_disk::Disk;
 
 /// Takes a disk into use: decides all clauses of the volume definition in their order, and whether the volume was closed, and
-/// gives the tables of a volume that meets them. The disk is only read.
+/// gives the tables of a volume that meets them. The copies of the first records lie in clusters of the volume, whatever the disk
+/// tells. The disk is only read.
 ///
 /// # Errors
 ///
@@ -26,6 +28,7 @@ pub fn mount<D: Disk>(alloc: Global, disk: &mut D) -> Result<Mounted, MountNo>
     ensures accepted { IfOk result (λ mounted. WhereTold (D.now disk.old) (λ image.
         HoldsTables 15 image mounted × IsClean (volume_in image mounted))) }
     ensures stands { IfOk result (StandsOn (D.size disk.old)) }
+    ensures mirror { IfOk result IsMirrorInside }
     ensures err { IfErr result (IsMountNo (D.now disk.old)) }
     ensures faults { MatchResult result (λ _. D.faults disk.new ≡ D.faults disk.old)
         (CountsMount (D.faults disk.old) (D.faults disk.new)) }

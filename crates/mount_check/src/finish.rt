@@ -5,9 +5,10 @@ ghost use Rattle.vol_disk.specs.Reading.{DiskReads};
 ghost use Rattle.volume_def.specs.Sound.{HoldBelow};
 ghost use Rattle.volume_def.specs.VersionClause.{IsClean};
 ghost use Rattle.mft_table.specs.HeldTables.{HoldsTables, volume_in};
-ghost use Rattle.mft_table.specs.Mft.{MftReads, faults_of, view};
+ghost use Rattle.mft_table.specs.Mft.{MftReads, faults_of, mounted_of, view};
 ghost use Rattle.mft_table.specs.MountNos.{CountsMount};
 ghost use Rattle.mft_table.specs.Mounted.{StandsOn};
+ghost use Rattle.mount_check.specs.MirrorClusters.{IsMirrorInside};
 ghost use Rattle.mount_check.specs.Refusals.{IsMountNo, IsRefusalIf};
 ghost use Rattle.mount_check.specs.Views.{HasComeTo};
 
@@ -27,6 +28,7 @@ use vol_stage::Stage;
 fn decide_places<D: Disk>(alloc: Global, mft: &mut Mft<'_, D>) -> Result<(), MountNo>
     ensures ok { OnOk result (IsTrue (view D.Disk mft.old).told → HasComeTo (view D.Disk mft.old) 11
         → HoldBelow (view D.Disk mft.old) 13) }
+    ensures inside { OnOk result (IsMirrorInside (mounted_of D.Disk mft.old)) }
     ensures err { IfErr result (IsRefusalIf (HasComeTo (view D.Disk mft.old) 11) (view D.Disk mft.old)) }
     ensures faults { MatchResult result (λ _. faults_of D.Disk mft.new ≡ faults_of D.Disk mft.old)
         (CountsMount (faults_of D.Disk mft.old) (faults_of D.Disk mft.new)) }
@@ -74,6 +76,7 @@ fn refuse_dirty<D: Disk>(mft: &mut Mft<'_, D>) -> Result<(), MountNo>
 fn decide_rest<D: Disk>(alloc: Global, mft: &mut Mft<'_, D>) -> Result<(), MountNo>
     ensures ok { OnOk result (IsTrue (view D.Disk mft.old).told → HasComeTo (view D.Disk mft.old) 11
         → HoldBelow (view D.Disk mft.old) 15 × IsClean (view D.Disk mft.old)) }
+    ensures inside { OnOk result (IsMirrorInside (mounted_of D.Disk mft.old)) }
     ensures err { IfErr result (IsRefusalIf (HasComeTo (view D.Disk mft.old) 11) (view D.Disk mft.old)) }
     ensures faults { MatchResult result (λ _. faults_of D.Disk mft.new ≡ faults_of D.Disk mft.old)
         (CountsMount (faults_of D.Disk mft.old) (faults_of D.Disk mft.new)) }
@@ -102,6 +105,7 @@ pub fn finish_mount<D: Disk>(
     ensures accepted { IfOk result (λ kept. WhereTold (D.now disk.old) (λ image.
         HoldsTables 15 image kept × IsClean (volume_in image kept))) }
     ensures same { IfOk result (λ kept. kept ≡ mounted) }
+    ensures mirror { IfOk result IsMirrorInside }
     ensures err { IfErr result (IsMountNo (D.now disk.old)) }
     ensures faults { MatchResult result (λ _. D.faults disk.new ≡ D.faults disk.old)
         (CountsMount (D.faults disk.old) (D.faults disk.new)) }

@@ -1,5 +1,5 @@
 //! Where the mirror lies: the first clusters of the file of copies, against what the boot sector tells.
-ghost use Rattle.std.specs.Prelude.{◌≡◌, ◌↔◌, ◌+◌, ◌*◌, ◌^◌, ◌<◌, ◌≤◌, ℕ, List, [], IfErr, IfOk, IsSome, IsSomeAnd, IsTrue, MatchResult};
+ghost use Rattle.std.specs.Prelude.{◌≡◌, ◌↔◌, ◌+◌, ◌*◌, ◌/◌, ◌^◌, ◌<◌, ◌≤◌, ℕ, List, [], IfErr, IfOk, IsSome, IsSomeAnd, IsTrue, MatchResult};
 ghost use Rattle.std.specs.Int.{div_ceil};
 ghost use Rattle.ntfs_def.specs.declared.kinds.TheConstants.{DATA};
 ghost use Rattle.ntfs_def.specs.declared.records.TheConstants.{MFT_MIRROR};
@@ -7,11 +7,12 @@ ghost use Rattle.ntfs_def.specs.declared.run_text.Spot.TheVariants.{At};
 ghost use Rattle.volume_def.specs.Files.{Part, content_extent, parts_at};
 ghost use Rattle.volume_def.specs.Values.{IsPlain, first_part};
 ghost use Rattle.volume_def.specs.VersionClause.{IsMirror};
-ghost use Rattle.mft_table.specs.Mft.{MftReads, faults_of, view};
+ghost use Rattle.mft_table.specs.Mft.{MftReads, faults_of, mounted_of, view};
 ghost use Rattle.mft_table.specs.MountNos.{CountsMount};
 ghost use Rattle.volume_facts.specs.Streams.{NotesStream, places_in, spot_noted};
 ghost use Rattle.check_records.specs.Refusals.{IsFault};
 ghost use Rattle.mount_check.specs.Copies.{data_held};
+ghost use Rattle.mount_check.specs.MirrorClusters.{IsMirrorInside};
 ghost use Rattle.mount_check.specs.Views.{HasComeTo};
 
 use check_records::no_file;
@@ -97,6 +98,15 @@ fn lie_from(note: &StreamNote, mirror: u64, sectors: u64) -> bool
     true
 }
 
+// Whether the sectors of the copies lie in clusters of the volume, which has so many.
+fn lie_inside(mirror: u64, sectors: u64, clusters: u64) -> bool
+    requires { 0 < sectors }
+    ensures { IsTrue result ↔ ((sector : ℕ) → sector < COPIES → (mirror * sectors + sector) / sectors < clusters) }
+{
+    let last = (COPIES - 1) / sectors;
+    mirror <= clusters && last < clusters - mirror
+}
+
 // The file of copies.
 fn load_mirror<D: Disk>(alloc: Global, mft: &mut Mft<'_, D>) -> Result<Option<FileParts>, MountNo>
     ensures parts { IfOk result (λ found. IsTrue (view D.Disk mft.old).told → HasComeTo (view D.Disk mft.old) 11
@@ -115,7 +125,7 @@ fn load_mirror<D: Disk>(alloc: Global, mft: &mut Mft<'_, D>) -> Result<Option<Fi
     }
 }
 
-/// Whether the file of copies begins where the boot sector says, and its copies lie one behind the other.
+/// Whether the file of copies begins where the boot sector says, and its copies lie one behind the other, on the volume.
 ///
 /// # Errors
 ///
@@ -123,6 +133,7 @@ fn load_mirror<D: Disk>(alloc: Global, mft: &mut Mft<'_, D>) -> Result<Option<Fi
 pub fn meets_mirror_place<D: Disk>(alloc: Global, mft: &mut Mft<'_, D>) -> Result<bool, MountNo>
     ensures meets { IfOk result (λ meets. IsTrue (view D.Disk mft.old).told → HasComeTo (view D.Disk mft.old) 11
         → IsTrue meets ↔ IsMirror (view D.Disk mft.old) (parts_at (view D.Disk mft.old) MFT_MIRROR DATA [])) }
+    ensures inside { IfOk result (λ meets. IsTrue meets → IsMirrorInside (mounted_of D.Disk mft.old)) }
     ensures err { IfErr result IsFault }
     ensures faults { MatchResult result (λ _. faults_of D.Disk mft.new ≡ faults_of D.Disk mft.old)
         (CountsMount (faults_of D.Disk mft.old) (faults_of D.Disk mft.new)) }
@@ -137,6 +148,10 @@ pub fn meets_mirror_place<D: Disk>(alloc: Global, mft: &mut Mft<'_, D>) -> Resul
     if !is_plain_stream(&note) {
         return Ok(false);
     }
-    let mirror = mft.mounted().geometry.mirror;
-    Ok(lie_from(&note, mirror, sectors))
+    let geometry = mft.mounted().geometry;
+    // Where the disk tells its contents the clause on owners has seen to this.
+    if !lie_inside(geometry.mirror, sectors, geometry.clusters) {
+        return Ok(false);
+    }
+    Ok(lie_from(&note, geometry.mirror, sectors))
 }

@@ -26,6 +26,7 @@ pub fn first_unless(holds: bool, number: u64) -> Option<u64>
 pub fn refuse_first(clause: Clause, first: Option<u64>) -> Result<(), MountNo>
     ensures ok { OnOk result ((view : VolumeView) → HoldBelow view (rank_of (named clause)) → DecidesFirst (named clause) view first
         → HoldBelow view (rank_of (named clause) + 1)) }
+    ensures none { OnOk result (first ≡ None) }
     ensures err { IfErr result (λ no. (view : VolumeView)
         → IsRefusalIf (HoldBelow view (rank_of (named clause)) × DecidesFirst (named clause) view first) view no) }
     ensures faults { IfErr result (λ no. (count : ℕ) → CountsMount count count no) }

@@ -2,7 +2,8 @@ use Rattle.std.proofs.Common.{sym, subst, ◌∙◌}
 use Rattle.std.proofs.lemmas.Result.{err_from_is_err_and}
 use Rattle.mft_table.specs.Mft.{faults_of, view}
 use Rattle.mft_table.specs.MountNos.{CountsMount}
-use Rattle.mount_check.proofs.OrderLaws.{decided-place, decided-version}
+use Rattle.mount_check.specs.MirrorClusters.{IsMirrorInside}
+use Rattle.mount_check.proofs.OrderLaws.{decided-place, decided-version, holds-none}
 use Rattle.mount_check.proofs.RefusalLaws.{IsRefusalIf-fault, IsRefusalIf-weaker}
 use Rattle.mount_check.proofs.finish.decide_places.Goals as goal
 
@@ -68,3 +69,8 @@ returns-clause-ok g c = λ told come.
     c.first_unless.ensures.holds c.first_unless.ensures.fails (c.in_ok-version.ensures.meets told come)))
     (decided-place v c.in_ok-placed.placed c.first_unless-2.result c.first_unless-2.ensures.holds c.first_unless-2.ensures.fails
     (meets told come))
+
+pub returns-clause-inside : goal.returns-clause-inside
+returns-clause-inside g c =
+    subst IsMirrorInside c.in_ok-version.ensures.reads.mounted (c.in_ok-placed.ensures.inside
+    (holds-none c.in_ok-placed.placed _ c.first_unless-2.result c.first_unless-2.ensures.fails c.in_ok-refuse_first-2.ensures.none))

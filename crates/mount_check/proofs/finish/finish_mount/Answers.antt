@@ -7,6 +7,7 @@ use Rattle.volume_def.specs.VersionClause.{IsClean}
 use Rattle.mft_table.specs.declared.mounted.Mounted.{Mounted}
 use Rattle.mft_table.specs.HeldTables.{HoldsTables, volume_in}
 use Rattle.mft_table.specs.Mft.{stage_of, view}
+use Rattle.mount_check.specs.MirrorClusters.{IsMirrorInside}
 use Rattle.mount_check.proofs.FinishLaws.{disk-reads, refusal-finished, tables-finished}
 use Rattle.mount_check.proofs.finish.finish_mount.Goals as goal
 
@@ -38,6 +39,10 @@ returns-clause-accepted g c =
     let same = c.into_parts-stage.ensures.mounted ∙ c.decide_rest-decided.ensures.reads.mounted ∙ c.resume-mft.ensures.mounted in
     subst (λ (m : Mounted). WhereTold told (λ image. HoldsTables 15 image m × IsClean (volume_in image m))) (sym same)
     (tables-finished told c.args.mounted c.requires.tables decided)
+
+pub returns-clause-mirror : goal.returns-clause-mirror
+returns-clause-mirror g c =
+    subst IsMirrorInside (sym (c.into_parts-stage.ensures.mounted ∙ c.decide_rest-decided.ensures.reads.mounted)) c.in_ok-decided.ensures.inside
 
 pub returns-clause-only_reads : goal.returns-clause-only_reads
 returns-clause-only_reads g c =
