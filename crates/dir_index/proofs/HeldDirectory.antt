@@ -1,5 +1,5 @@
--- A directory that is held: of a volume in use, and with its index found.
-use Rattle.std.proofs.Common.{◌≡◌, ◌<◌, ◌≤◌, ◌+◌, ◌*◌, ℕ, true, false, is_some, List, [], ◌∷◌, map, Option, Some, None, refl, sym, ap, subst, ◌∙◌}
+-- A directory that is held: loaded, of a volume in use, and with its index found.
+use Rattle.std.proofs.Common.{◌≡◌, ◌<◌, ◌≤◌, ◌+◌, ◌*◌, ℕ, true, false, is_some, List, [], ◌∷◌, map, Option, Some, None, sym, ap, subst, ◌∙◌}
 use Rattle.std.specs.Prelude.{IsSomeAnd, IsTrue, IfSome, codes}
 use Rattle.std.specs.List.{filter_map}
 use Rattle.std.specs.Option.{option_and_then}
@@ -11,7 +11,7 @@ use Rattle.ntfs_def.specs.Units.{wide}
 use Rattle.volume_def.specs.CaseClause.{volume_fold}
 use Rattle.volume_def.specs.Files.{Record, content_value, is_base, is_directory, record_on}
 use Rattle.volume_def.specs.IndexesClause.{IndexParts, IsDirectoryIndex, IsIndexRecordAt, stored_index_record}
-use Rattle.volume_def.specs.Readable.{IsFile, IsReadableVolume}
+use Rattle.volume_def.specs.Readable.{IsFile, WhereReadable}
 use Rattle.volume_def.specs.Sound.{Attributes, Extents, Indexes, Lists, Shape}
 use Rattle.volume_def.specs.Table.{cluster_bytes}
 use Rattle.volume_def.specs.View.{VolumeView}
@@ -24,13 +24,12 @@ use Rattle.tree_model.specs.Tree.{sought_link}
 use Rattle.file_record.specs.declared.parts.FileParts.{FileParts}
 use Rattle.file_record.specs.Held.{AreParts, file_number}
 use Rattle.file_record.proofs.ReadLaws.{view-kept}
-use Rattle.file_record.proofs.RecordLaws.{record_at-inside}
 use Rattle.attr_store.specs.declared.index.FoundIndex.{FoundIndex}
 use Rattle.attr_store.specs.Index.{HasParts, IsFound, index_held}
-use Rattle.attr_store.specs.InUse.{IsDirectory, IsInUse, IsSoundVolume}
+use Rattle.attr_store.specs.InUse.{IsDirectory, IsSoundVolume}
 use Rattle.attr_store.proofs.HeldIndexLaws.{index-held}
 use Rattle.attr_store.proofs.IndexRecordLaws.{record-there}
-use Rattle.dir_index.specs.Held.{IsHeldDirectory, fetched_of, nodes_found, records_found, root_found}
+use Rattle.dir_index.specs.Held.{IsHeldDirectory, IsReadableDirectory, fetched_of, nodes_found, records_found, root_found}
 use Rattle.dir_index.specs.Links.{IsHeldIndex, link_in, names_index}
 use Rattle.dir_index.specs.Sought.{CanSeek, SeekCosts, Seeks, exact_order, folded_order}
 use Rattle.dir_index.proofs.HeldIndex.{can_seek_both, costs_exact, costs_folded, finds_exact, finds_folded, has_walk, walked}
@@ -43,49 +42,53 @@ reads-within g a b m k reads fits = record {
   mounted = reads.mounted;
 }
 
--- A volume stays in use where it is only read, and what is known of it where it is told stays so.
-module _ {D : Type 0} (g : Ghosts D) (old new : Mft D g) (reads : ℕ) (only : MftReads g old new reads) where
-  pub still-in-use : IsInUse g old → IsInUse g new
-  still-in-use known told =
-      let same = view-kept g old new reads only in
-      subst (λ m. IsSoundVolume (view g new) m) (sym only.mounted)
-      (subst (λ v. IsSoundVolume v (mounted_of g old)) (sym same) (known (subst (λ v. IsTrue v.told) same told)))
+-- A directory that can be read is held once it is loaded.
+pub is-loaded : {D : Type 0} (g : Ghosts D) (old new : Mft D g) (reads dir : ℕ) (file : FileParts) → MftReads g old new reads
+    → (IsTrue (view g old).told → IsReadableDirectory (view g old) dir (mounted_of g old).upcase) → file_number file ≡ dir
+    → WhereReadable (view g old) (IsFile (view g old) dir → AreParts (view g old) file)
+    → IsTrue (view g new).told → IsHeldDirectory (view g new) file (mounted_of g new).upcase
+is-loaded g old new reads dir file only directory number parts told =
+    let same = view-kept g old new reads only in
+    let before = subst (λ v. IsTrue v.told) same told in
+    let is = directory before in
+    let held : IsHeldDirectory (view g old) file (mounted_of g old).upcase = record {
+      held = record {
+        readable = is.readable;
+        parts = parts before is.readable is.is_file;
+        is_file = subst (IsFile (view g old)) (sym number) is.is_file;
+      };
+      directory = subst (IsDirectoryIndex (view g old)) (sym number) is.directory;
+      case = is.case;
+    } in
+    subst (λ (m : Mounted). IsHeldDirectory (view g new) file m.upcase) (sym only.mounted)
+    (subst (λ v. IsHeldDirectory v file (mounted_of g old).upcase) (sym same) held)
 
-  pub still-told : (P : VolumeView → Type 0) → (IsTrue (view g old).told → P (view g old)) → IsTrue (view g new).told → P (view g new)
-  still-told P known told =
-      let same = view-kept g old new reads only in subst P (sym same) (known (subst (λ v. IsTrue v.told) same told))
+-- A directory of a volume in use, which is held as the volume has it.
+module _ (view : VolumeView) (mounted : Mounted) (file : FileParts) (volume : IsSoundVolume view mounted)
+    (is : IsDirectory view (file_number file)) (parts : AreParts view file) where
+  by-record : (o : Option Record) → IsSomeAnd o (λ r. IsTrue (is_base r) × IsTrue (is_directory r))
+      → IfSome o (λ r. IsTrue (is_base r) → IsTrue (is_directory r) → IsDirectoryIndex view (file_number file))
+      → IsSomeAnd o (λ r. IsTrue (is_base r)) × IsDirectoryIndex view (file_number file)
+  by-record None h k = absurd h
+  by-record (Some r) h k = (h.0, k h.0 h.1)
 
--- A directory of a volume in use.
-module _ (view : VolumeView) (mounted : Mounted) (dir : ℕ) (volume : IsSoundVolume view mounted) (is : IsDirectory view dir) where
-  by-record : (o : Option Record) → record_on view dir ≡ o → IsSomeAnd o (λ r. IsTrue (is_base r) × IsTrue (is_directory r))
-      → IfSome o (λ r. IsTrue (is_base r) → IsTrue (is_directory r) → IsDirectoryIndex view dir)
-      → (dir < view.layout.count) × IsSomeAnd o (λ r. IsTrue (is_base r)) × IsDirectoryIndex view dir
-  by-record None e h k = absurd h
-  by-record (Some r) e h k = (record_at-inside view dir r e, h.0, k h.0 h.1)
+  there : IsFile view (file_number file) × IsDirectoryIndex view (file_number file)
+  there = by-record (record_on view (file_number file)) is (volume.sound Indexes (file_number file)).directory
 
-  there : (dir < view.layout.count) × IsFile view dir × IsDirectoryIndex view dir
-  there = by-record (record_on view dir) refl is (volume.sound Indexes dir).directory
-
-  pub is-inside : dir < view.layout.count
-  is-inside = there.0
-
-  pub is-file : IsFile view dir
-  is-file = there.1
-
-  pub is-readable : IsReadableVolume view
-  is-readable = record {
-    shape = volume.sound Shape;
-    attributes = volume.sound Attributes;
-    lists = volume.sound Lists;
-    extents = volume.sound Extents;
-  }
-
-  pub is-held : (file : FileParts) (table : List ℕ) → file_number file ≡ dir → AreParts view file → table ≡ mounted.upcase
-      → IsHeldDirectory view file table
-  is-held file table number parts same = record {
-    held = record { readable = is-readable; parts = parts; is_file = subst (IsFile view) (sym number) is-file };
-    directory = subst (IsDirectoryIndex view) (sym number) there.2;
-    case = same ∙ volume.stored.upcase_is;
+  pub is-held : IsHeldDirectory view file mounted.upcase
+  is-held = record {
+    held = record {
+      readable = record {
+        shape = volume.sound Shape;
+        attributes = volume.sound Attributes;
+        lists = volume.sound Lists;
+        extents = volume.sound Extents;
+      };
+      parts = parts;
+      is_file = there.0;
+    };
+    directory = there.1;
+    case = volume.stored.upcase_is;
   }
 
 -- Its index.

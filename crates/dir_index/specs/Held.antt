@@ -1,4 +1,4 @@
--- A directory that is held while its index is read.
+-- A directory that can be read, and one that is held while its index is read.
 use Rattle.std.specs.Prelude.{◌≡◌, ℕ, List, [], Option}
 use Rattle.std.specs.declared.cmp.Ordering.{Ordering}
 use Rattle.vol_disk.specs.declared.Disk.{Ghosts}
@@ -8,6 +8,7 @@ use Rattle.ntfs_def.specs.Node.{Node, node_in}
 use Rattle.ntfs_def.specs.declared.index.NodeForm.TheVariants.{Names}
 use Rattle.volume_def.specs.CaseClause.{case_parts}
 use Rattle.volume_def.specs.IndexesClause.{IsDirectoryIndex}
+use Rattle.volume_def.specs.Readable.{IsFile, IsReadableVolume}
 use Rattle.volume_def.specs.Values.{value_on}
 use Rattle.volume_def.specs.View.{VolumeView}
 use Rattle.index_tree.specs.Search.{nodes_of}
@@ -23,6 +24,14 @@ use Rattle.attr_store.specs.declared.index.FoundIndex.{FoundIndex}
 use Rattle.attr_store.specs.Index.{index_held}
 use Rattle.attr_store.specs.IndexBlocks.{IsHeldFile}
 use Rattle.attr_store.specs.IndexRecords.{index_record_on}
+
+-- The volume's files can be read, this is the number of one, the index of that directory is right, and this is the volume's table
+-- of case.
+pub record IsReadableDirectory (view : VolumeView) (dir : ℕ) (table : List ℕ) : Type 0 where
+  pub readable : IsReadableVolume view
+  pub is_file : IsFile view dir
+  pub directory : IsDirectoryIndex view dir
+  pub case : table ≡ value_on view (case_parts view)
 
 -- The directory is held as the volume has it, its index is right, and this is the volume's table of case.
 pub record IsHeldDirectory (view : VolumeView) (file : FileParts) (table : List ℕ) : Type 0 where

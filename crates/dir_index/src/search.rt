@@ -9,15 +9,14 @@ ghost use Rattle.ntfs_def.specs.Units.{wide};
 ghost use Rattle.volume_def.specs.CaseClause.{volume_fold};
 ghost use Rattle.volume_def.specs.IndexesClause.{IsDirectoryIndex};
 ghost use Rattle.index_tree.specs.Search.{IsKeyed};
-ghost use Rattle.mft_table.specs.Mft.{MftReads, faults_of, view};
+ghost use Rattle.mft_table.specs.Mft.{MftReads, faults_of, mounted_of, view};
 ghost use Rattle.tree_model.specs.Reading.{directory_links};
 ghost use Rattle.tree_model.specs.Tree.{sought_link};
 ghost use Rattle.file_record.specs.FileNos.{CountsNo, IsReadNo};
-ghost use Rattle.file_record.specs.Held.{AreParts, file_number};
+ghost use Rattle.file_record.specs.Held.{file_number};
 ghost use Rattle.file_record.specs.Records.{file_reads};
 ghost use Rattle.attr_store.specs.Index.{IsFound};
-ghost use Rattle.attr_store.specs.InUse.{IsDirectory, IsInUse};
-ghost use Rattle.dir_index.specs.Held.{IsHeldDirectory};
+ghost use Rattle.dir_index.specs.Held.{IsHeldDirectory, IsReadableDirectory};
 ghost use Rattle.dir_index.specs.Links.{link_in};
 ghost use Rattle.dir_index.specs.Sought.{is_sought_key};
 
@@ -114,7 +113,8 @@ fn find_link<D: Disk>(
 
 /// Seeks a name in a directory that is held, among all its links, DOS names and hidden ones too: the link of exactly this name,
 /// else the first in name order whose units are the same by the volume's table of case. For each of the two searches one index
-/// record a level is read at most.
+/// record a level is read at most. By condition, where the contents are told: the directory is held as the volume has it, the
+/// volume's files can be read, this directory's index is right, and the table of case that is kept is the volume's.
 ///
 /// # Errors
 ///
@@ -125,9 +125,7 @@ pub fn lookup_in<D: Disk>(
     dir: &FileParts,
     name: &Name,
 ) -> Result<Option<Link>, FileNo>
-    requires volume { IsInUse D.Disk mft.old }
-    requires parts { IsTrue (view D.Disk mft.old).told → AreParts (view D.Disk mft.old) dir.now }
-    requires directory { IsTrue (view D.Disk mft.old).told → IsDirectory (view D.Disk mft.old) (file_number dir.now) }
+    requires held { IsTrue (view D.Disk mft.old).told → IsHeldDirectory (view D.Disk mft.old) dir.now (mounted_of D.Disk mft.old).upcase }
     ensures found { IfOk result (λ found. IsTrue (view D.Disk mft.old).told → found
         ≡ sought_link (volume_fold (view D.Disk mft.old)) (directory_links (view D.Disk mft.old) (file_number dir.now)) name.now) }
     ensures err { IfErr result IsReadNo }
@@ -141,7 +139,9 @@ pub fn lookup_in<D: Disk>(
     find_link(alloc, mft, dir, &upcase, name.as_slice())
 }
 
-/// Seeks a name in a directory as `lookup_in` does. The directory is loaded once.
+/// Seeks a name in a directory as `lookup_in` does. The directory is loaded once. By condition, where the contents are told: the
+/// volume's files can be read, `dir` is the number of one, the index of that directory is right, and the table of case that is kept
+/// is the volume's.
 ///
 /// # Errors
 ///
@@ -152,8 +152,8 @@ pub fn lookup<D: Disk>(
     dir: u64,
     name: &Name,
 ) -> Result<Option<Link>, FileNo>
-    requires volume { IsInUse D.Disk mft.old }
-    requires directory { IsTrue (view D.Disk mft.old).told → IsDirectory (view D.Disk mft.old) dir }
+    requires directory { IsTrue (view D.Disk mft.old).told
+        → IsReadableDirectory (view D.Disk mft.old) dir (mounted_of D.Disk mft.old).upcase }
     ensures found { IfOk result (λ found. IsTrue (view D.Disk mft.old).told
         → found ≡ sought_link (volume_fold (view D.Disk mft.old)) (directory_links (view D.Disk mft.old) dir) name.now) }
     ensures err { IfErr result IsReadNo }
@@ -217,7 +217,7 @@ fn list_links<D: Disk>(
     links_of(alloc, &entries)
 }
 
-/// Lists the links of a directory that is held, DOS names and hidden ones too, in name order.
+/// Lists the links of a directory that is held, DOS names and hidden ones too, in name order. The condition is that of `lookup_in`.
 ///
 /// # Errors
 ///
@@ -227,9 +227,7 @@ pub fn list_in<D: Disk>(
     mft: &mut Mft<'_, D>,
     dir: &FileParts,
 ) -> Result<Vec<Link>, FileNo>
-    requires volume { IsInUse D.Disk mft.old }
-    requires parts { IsTrue (view D.Disk mft.old).told → AreParts (view D.Disk mft.old) dir.now }
-    requires directory { IsTrue (view D.Disk mft.old).told → IsDirectory (view D.Disk mft.old) (file_number dir.now) }
+    requires held { IsTrue (view D.Disk mft.old).told → IsHeldDirectory (view D.Disk mft.old) dir.now (mounted_of D.Disk mft.old).upcase }
     ensures links { IfOk result (λ links. IsTrue (view D.Disk mft.old).told
         → links.items ≡ directory_links (view D.Disk mft.old) (file_number dir.now)) }
     ensures err { IfErr result IsReadNo }
@@ -241,14 +239,14 @@ pub fn list_in<D: Disk>(
     list_links(alloc, mft, dir, upcase)
 }
 
-/// Lists the links of a directory as `list_in` does. The directory is loaded once.
+/// Lists the links of a directory as `list_in` does. The directory is loaded once. The condition is that of `lookup`.
 ///
 /// # Errors
 ///
 /// `Device` where the disk failed, and `Memory`.
 pub fn list<D: Disk>(alloc: Global, mft: &mut Mft<'_, D>, dir: u64) -> Result<Vec<Link>, FileNo>
-    requires volume { IsInUse D.Disk mft.old }
-    requires directory { IsTrue (view D.Disk mft.old).told → IsDirectory (view D.Disk mft.old) dir }
+    requires directory { IsTrue (view D.Disk mft.old).told
+        → IsReadableDirectory (view D.Disk mft.old) dir (mounted_of D.Disk mft.old).upcase }
     ensures links { IfOk result (λ links. IsTrue (view D.Disk mft.old).told
         → links.items ≡ directory_links (view D.Disk mft.old) dir) }
     ensures err { IfErr result IsReadNo }

@@ -17,8 +17,7 @@ use Rattle.ntfs_def.specs.declared.kinds.TheConstants.{DATA, FILE_NAME}
 use Rattle.volume_def.specs.CaseClause.{volume_fold}
 use Rattle.volume_def.specs.ExtentsClause.{AreAttribute, AreWhole, BeginsAt, FollowFrom}
 use Rattle.volume_def.specs.Files.{Clusters, Content, Part, Value, content_extent, is_of, part_clusters, parts, parts_like, records_of}
-use Rattle.volume_def.specs.Readable.{IsFile, IsReadableVolume}
-use Rattle.volume_def.specs.Sound.{Attributes, Extents, IsSound, Lists, Shape}
+use Rattle.volume_def.specs.Readable.{IsFile}
 use Rattle.volume_def.specs.StreamSize.{real_size, told_size}
 use Rattle.volume_def.specs.Table.{cluster_bytes}
 use Rattle.volume_def.specs.Values.{attribute_value, first_part, first_vcn_of, is_first, value_on}
@@ -38,13 +37,11 @@ use Rattle.tree_model.specs.declared.tree.Content.TheVariants.{Packed, Plain}
 use Rattle.tree_model.specs.declared.tree.Stream.{Stream}
 use Rattle.file_record.specs.declared.parts.FileParts.{FileParts}
 use Rattle.file_record.specs.Held.{AreParts, file_number, parts_held}
-use Rattle.mft_table.specs.declared.mounted.Mounted.{Mounted}
-use Rattle.attr_store.specs.InUse.{IsSoundVolume}
 use Rattle.attr_store.proofs.Values.{like-itself}
 use Rattle.attr_store.proofs.StoredLaws.{by-first, length-by, whole-value}
 use Rattle.sparse_io.specs.declared.held.HeldStream.{HeldStream}
 use Rattle.sparse_io.specs.declared.find.FoundStream.{FoundStream}
-use Rattle.sparse_io.specs.Held.{IsHeldWith, IsStream, KeepAll, Keeps, kept_above, kept_at, kept_from, found_kept, shown_kept, streams_held}
+use Rattle.sparse_io.specs.Held.{IsHeldWith, IsReadableWith, IsStream, KeepAll, Keeps, kept_above, kept_at, kept_from, found_kept, shown_kept, streams_held}
 
 -- what is kept, by its fields
 pub kept-by : {name name' : List ℕ} {packed packed' : Bool} {size size' : ℕ} (place : ℕ) → name ≡ name' → packed ≡ packed' → size ≡ size'
@@ -485,23 +482,15 @@ pub kept-none : (kept : List HeldStream) (place : ℕ) (part : Part) (rest : Lis
 kept-none kept place part rest whole begins e =
     sym (ap (λ b. kept ++ cond b (kept_at place part ∷ kept_from (place + 1) rest) (kept_from (place + 1) rest)) begins) ∙ e
 
--- A file of a volume in use, as it is held.
+-- A file of a volume whose files can be read, as it is held.
 
-pub readable-volume : (view : VolumeView) → IsSound view → IsReadableVolume view
-readable-volume view sound = record {
-  shape = sound Shape;
-  attributes = sound Attributes;
-  lists = sound Lists;
-  extents = sound Extents;
-}
-
-pub held-base : (view : VolumeView) (mounted : Mounted) (table : List ℕ) (file : FileParts) → IsSoundVolume view mounted
-    → table ≡ mounted.upcase → IsFile view (file_number file) → AreParts view file → IsHeldWith view table file
-held-base view mounted table file volume case is are = record {
-  readable = readable-volume view volume.sound;
+pub held-base : (view : VolumeView) (kept table : List ℕ) (file : FileParts) → IsReadableWith view kept → table ≡ kept
+    → IsFile view (file_number file) → AreParts view file → IsHeldWith view table file
+held-base view kept table file volume case is are = record {
+  readable = volume.readable;
   parts = are;
   is_file = is;
-  case = case ∙ volume.stored.upcase_is;
+  case = case ∙ volume.case;
 }
 
 abbrev pub streams_at : VolumeView → ℕ → List Stream

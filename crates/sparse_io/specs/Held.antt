@@ -20,6 +20,11 @@ use Rattle.file_record.specs.Held.{AreParts, file_number, parts_held}
 use Rattle.sparse_io.specs.declared.find.FoundStream.{FoundStream}
 use Rattle.sparse_io.specs.declared.held.HeldStream.{HeldStream}
 
+-- A volume whose files can be read, and its table of case.
+pub record IsReadableWith (view : VolumeView) (table : List ℕ) : Type 0 where
+  pub readable : IsReadableVolume view
+  pub case : table ≡ value_on view (case_parts view)
+
 -- A file of a volume whose files can be read, held as the volume has it, and the volume's table of case.
 pub record IsHeldWith (view : VolumeView) (table : List ℕ) (file : FileParts) : Type 0 where
   pub readable : IsReadableVolume view

@@ -4,15 +4,14 @@ ghost use Rattle.volume_def.specs.CaseClause.{volume_fold};
 ghost use Rattle.volume_def.specs.Files.{parts, records_of};
 ghost use Rattle.volume_def.specs.Readable.{IsFile};
 ghost use Rattle.volume_def.specs.Values.{pieces_touched};
-ghost use Rattle.mft_table.specs.Mft.{MftReads, faults_of, view};
+ghost use Rattle.mft_table.specs.Mft.{MftReads, faults_of, mounted_of, view};
 ghost use Rattle.tree_model.specs.Answers.{bytes_of, range_of};
 ghost use Rattle.tree_model.specs.Cases.{is_packed};
 ghost use Rattle.tree_model.specs.Reading.{streams_of};
 ghost use Rattle.tree_model.specs.Tree.{sought_stream};
 ghost use Rattle.file_record.specs.FileNos.{CountsNo, IsReadNo};
 ghost use Rattle.file_record.specs.Held.{parts_held};
-ghost use Rattle.attr_store.specs.InUse.{IsInUse};
-ghost use Rattle.sparse_io.specs.Held.{IsHeldWith, IsStream};
+ghost use Rattle.sparse_io.specs.Held.{IsHeldWith, IsReadableWith, IsStream};
 
 use crate::find::{FoundStream, find_stream};
 use attr_store::read_value;
@@ -37,8 +36,8 @@ fn below_size(size: u64, at: u64, len: usize) -> usize
     }
 }
 
-/// Reads the bytes of a stream from byte `at` on, at most `len`, that lie below its size. Each sector that holds some of them is
-/// read once.
+/// Reads the bytes of a stream from byte `at` on, at most `len`, that lie below its size, by one read at most for each piece of
+/// 512 bytes of the stream that they touch.
 ///
 /// # Errors
 ///
@@ -66,8 +65,9 @@ pub fn read_stream<D: Disk>(
     Ok(Octets::from_vec(bytes))
 }
 
-/// Reads the bytes of a stream of a file, by its name, from byte `at` on, at most `len`, that lie below its size. The stream is
-/// there and not packed, by condition.
+/// Reads the bytes of a stream of a file, by its name, from byte `at` on, at most `len`, that lie below its size. By condition,
+/// where the contents are told: the volume's files can be read, the table of case that is kept is the volume's, `file` is the number
+/// of a file, and the stream is there and not packed.
 ///
 /// # Errors
 ///
@@ -80,7 +80,7 @@ pub fn read_at<D: Disk>(
     at: u64,
     len: usize,
 ) -> Result<Octets, FileNo>
-    requires volume { IsInUse D.Disk mft.old }
+    requires volume { IsTrue (view D.Disk mft.old).told → IsReadableWith (view D.Disk mft.old) (mounted_of D.Disk mft.old).upcase }
     requires file { IsTrue (view D.Disk mft.old).told → IsFile (view D.Disk mft.old) file }
     requires stream { IsTrue (view D.Disk mft.old).told → IsSomeAnd (sought_stream (volume_fold (view D.Disk mft.old))
         (streams_of (view D.Disk mft.old) (parts (records_of (view D.Disk mft.old)) file)) stream.now)

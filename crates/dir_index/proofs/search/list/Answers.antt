@@ -1,31 +1,20 @@
-use Rattle.std.proofs.Common.{◌≡◌, ◌+◌, ap, sym, ◌∙◌, subst, arith}
+use Rattle.std.proofs.Common.{◌≡◌, ◌+◌, ap, ◌∙◌, subst, arith}
 use Rattle.std.specs.Prelude.{IsTrue}
 use Rattle.volume_def.specs.View.{VolumeView}
 use Rattle.index_tree.proofs.Rising.{IfOk-map}
-use Rattle.mft_table.specs.Mft.{mounted_of, view}
+use Rattle.mft_table.specs.Mft.{view}
 use Rattle.mft_table.proofs.StreamReads.{MftReads-then}
 use Rattle.tree_model.specs.Reading.{directory_links}
-use Rattle.file_record.specs.Held.{AreParts, file_number}
+use Rattle.file_record.specs.Held.{file_number}
 use Rattle.file_record.proofs.ReadLaws.{view-kept}
-use Rattle.attr_store.specs.InUse.{IsDirectory}
-use Rattle.dir_index.proofs.HeldDirectory.{is-file, is-readable, still-in-use, still-told}
+use Rattle.dir_index.proofs.HeldDirectory.{is-loaded}
 use Rattle.dir_index.proofs.search.list.Goals as goal
 
 pub list_in-requires : goal.list_in-requires
-list_in-requires g c =
-    let volume = view g.D.Disk c.args.mft.now in
-    let mounted = mounted_of g.D.Disk c.args.mft.now in
-    let file = c.in_ok-file.file in
-    let number = c.in_ok-file.ensures.number in
-    record {
-      volume = still-in-use g.D.Disk c.args.mft.now c.load.new.mft _ c.load.ensures.reads c.requires.volume;
-      parts = still-told g.D.Disk c.args.mft.now c.load.new.mft _ c.load.ensures.reads (λ v. AreParts v file) (λ told.
-          let sound = c.requires.volume told in
-          let is = c.requires.directory told in
-          c.in_ok-file.ensures.parts told (is-readable volume mounted c.args.dir sound is) (is-file volume mounted c.args.dir sound is));
-      directory = still-told g.D.Disk c.args.mft.now c.load.new.mft _ c.load.ensures.reads (λ v. IsDirectory v (file_number file))
-          (λ told. subst (IsDirectory volume) (sym number) (c.requires.directory told));
-    }
+list_in-requires g c = record {
+  held = is-loaded g.D.Disk c.args.mft.now c.load.new.mft _ c.args.dir c.in_ok-file.file c.load.ensures.reads c.requires.directory
+      c.in_ok-file.ensures.number c.in_ok-file.ensures.parts;
+}
 
 pub returns-clause-links : goal.returns-clause-links
 returns-clause-links g c =

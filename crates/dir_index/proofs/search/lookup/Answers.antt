@@ -1,45 +1,31 @@
-use Rattle.std.proofs.Common.{◌≡◌, ◌+◌, ◌*◌, ℕ, ap, sym, ◌∙◌, subst, arith}
+use Rattle.std.proofs.Common.{◌≡◌, ◌+◌, ◌*◌, ℕ, ap, ◌∙◌, subst, arith}
 use Rattle.std.specs.Prelude.{IsTrue}
 use Rattle.volume_def.specs.CaseClause.{volume_fold}
 use Rattle.volume_def.specs.IndexesClause.{IsDirectoryIndex}
 use Rattle.volume_def.specs.View.{VolumeView}
 use Rattle.index_tree.proofs.Rising.{IfOk-map}
-use Rattle.mft_table.specs.Mft.{MftReads, mounted_of, view}
+use Rattle.mft_table.specs.Mft.{MftReads, view}
 use Rattle.mft_table.proofs.StreamReads.{MftReads-then}
 use Rattle.tree_model.specs.Reading.{directory_links}
 use Rattle.tree_model.specs.Tree.{sought_link}
-use Rattle.file_record.specs.Held.{AreParts, file_number}
+use Rattle.file_record.specs.Held.{file_number}
 use Rattle.file_record.specs.Records.{file_reads}
 use Rattle.file_record.proofs.ReadLaws.{view-kept}
-use Rattle.attr_store.specs.InUse.{IsDirectory}
 use Rattle.attr_store.proofs.FewerReads.{MftReads-less}
-use Rattle.dir_index.proofs.HeldDirectory.{is-file, is-readable, still-in-use, still-told}
+use Rattle.dir_index.proofs.HeldDirectory.{is-loaded}
 use Rattle.dir_index.proofs.search.lookup.Goals as goal
 
 pub returns-in_err-file-clause-fetched : goal.returns-in_err-file-clause-fetched
 returns-in_err-file-clause-fetched g c told has =
-    let volume = view g.D.Disk c.args.mft.now in
-    let mounted = mounted_of g.D.Disk c.args.mft.now in
-    let sound = c.requires.volume told in
     let is = c.requires.directory told in
-    MftReads-less g.D.Disk c.args.mft.now c.load.new.mft (file_reads volume c.args.dir) _
-    (c.load.ensures.fetched told (is-readable volume mounted c.args.dir sound is) (is-file volume mounted c.args.dir sound is)) (omega arith)
+    MftReads-less g.D.Disk c.args.mft.now c.load.new.mft (file_reads (view g.D.Disk c.args.mft.now) c.args.dir) _
+    (c.load.ensures.fetched told is.readable is.is_file) (omega arith)
 
 pub lookup_in-requires : goal.lookup_in-requires
-lookup_in-requires g c =
-    let volume = view g.D.Disk c.args.mft.now in
-    let mounted = mounted_of g.D.Disk c.args.mft.now in
-    let file = c.in_ok-file.file in
-    let number = c.in_ok-file.ensures.number in
-    record {
-      volume = still-in-use g.D.Disk c.args.mft.now c.load.new.mft _ c.load.ensures.reads c.requires.volume;
-      parts = still-told g.D.Disk c.args.mft.now c.load.new.mft _ c.load.ensures.reads (λ v. AreParts v file) (λ told.
-          let sound = c.requires.volume told in
-          let is = c.requires.directory told in
-          c.in_ok-file.ensures.parts told (is-readable volume mounted c.args.dir sound is) (is-file volume mounted c.args.dir sound is));
-      directory = still-told g.D.Disk c.args.mft.now c.load.new.mft _ c.load.ensures.reads (λ v. IsDirectory v (file_number file))
-          (λ told. subst (IsDirectory volume) (sym number) (c.requires.directory told));
-    }
+lookup_in-requires g c = record {
+  held = is-loaded g.D.Disk c.args.mft.now c.load.new.mft _ c.args.dir c.in_ok-file.file c.load.ensures.reads c.requires.directory
+      c.in_ok-file.ensures.number c.in_ok-file.ensures.parts;
+}
 
 pub returns-clause-found : goal.returns-clause-found
 returns-clause-found g c =
@@ -61,12 +47,10 @@ returns-clause-reads g c = (
 pub returns-clause-fetched : goal.returns-clause-fetched
 returns-clause-fetched g c told has =
     let volume = view g.D.Disk c.args.mft.now in
-    let mounted = mounted_of g.D.Disk c.args.mft.now in
-    let sound = c.requires.volume told in
     let is = c.requires.directory told in
     let kept = view-kept g.D.Disk c.args.mft.now c.load.new.mft _ c.load.ensures.reads in
     let file = c.in_ok-file.file in
-    let one = c.load.ensures.fetched told (is-readable volume mounted c.args.dir sound is) (is-file volume mounted c.args.dir sound is) in
+    let one = c.load.ensures.fetched told is.readable is.is_file in
     let searched = subst (λ (v : VolumeView). IsTrue v.told → (index : IsDirectoryIndex v (file_number file))
     → MftReads g.D.Disk c.load.new.mft c.lookup_in.new.mft (16 * index.index.walks.depth)) kept c.lookup_in.ensures.fetched told in
     let two = subst (λ (dir : ℕ). (index : IsDirectoryIndex volume dir)

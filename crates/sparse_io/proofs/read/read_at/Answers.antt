@@ -9,36 +9,36 @@ use Rattle.mft_table.proofs.StreamReads.{MftReads-then}
 use Rattle.tree_model.specs.Answers.{bytes_of, range_of}
 use Rattle.tree_model.specs.Cases.{is_packed}
 use Rattle.sparse_io.specs.Held.{IsHeldWith, IsStream, IsStreamIfThere}
-use Rattle.sparse_io.proofs.KeptLaws.{held-base, none-there, read-there, readable-volume}
+use Rattle.sparse_io.proofs.KeptLaws.{held-base, none-there, read-there}
 use Rattle.sparse_io.proofs.read.read_at.Goals as goal
 
 pub returns-in_default-clause-read : goal.returns-in_default-clause-read
 returns-in_default-clause-read g c told =
     let volume = view g.D.Disk c.args.mft.now in
     absurd (subst (λ o. IfNone o (¬ (IsFile volume c.args.file))) c.in_default.is
-    (c.in_ok-base.ensures.other told (readable-volume volume (c.requires.volume told).sound)) (c.requires.file told))
+    (c.in_ok-base.ensures.other told (c.requires.volume told).readable) (c.requires.file told))
 
 pub returns-in_default-2-clause-read : goal.returns-in_default-2-clause-read
 returns-in_default-2-clause-read g c told =
     let volume = view g.D.Disk c.args.mft.now in
-    let in-use = c.requires.volume told in
+    let known = c.requires.volume told in
     let number = subst (λ o. IfSome o (λ file. file_number file.parts ≡ c.args.file)) c.in-Some.is c.in_ok-base.ensures.number in
     let are = subst (λ o. IfSome o (λ file. AreParts volume file.parts)) c.in-Some.is
-    (c.in_ok-base.ensures.parts told (readable-volume volume in-use.sound)) in
+    (c.in_ok-base.ensures.parts told known.readable) in
     let case = ap (λ m. m.upcase) (c.mounted.ensures ∙ c.in_ok-base.ensures.reads.mounted) in
-    let held = held-base volume _ _ c.in-Some.base.parts in-use case (subst (IsFile volume) (sym number) (c.requires.file told)) are in
+    let held = held-base volume _ _ c.in-Some.base.parts known case (subst (IsFile volume) (sym number) (c.requires.file told)) are in
     let none = subst (IsStreamIfThere volume c.in-Some.base.parts c.args.stream.now) c.in_default-2.is (c.in_ok-found.ensures.found volume held) in
     none-there volume c.mounted.result.now.upcase c.args.stream.now c.in-Some.base.parts c.args.file _ held number none
 
 pub returns-clause-read : goal.returns-clause-read
 returns-clause-read g c told =
     let volume = view g.D.Disk c.args.mft.now in
-    let in-use = c.requires.volume told in
+    let known = c.requires.volume told in
     let number = subst (λ o. IfSome o (λ file. file_number file.parts ≡ c.args.file)) c.in-Some.is c.in_ok-base.ensures.number in
     let are = subst (λ o. IfSome o (λ file. AreParts volume file.parts)) c.in-Some.is
-    (c.in_ok-base.ensures.parts told (readable-volume volume in-use.sound)) in
+    (c.in_ok-base.ensures.parts told known.readable) in
     let case = ap (λ m. m.upcase) (c.mounted.ensures ∙ c.in_ok-base.ensures.reads.mounted) in
-    let held = held-base volume _ _ c.in-Some.base.parts in-use case (subst (IsFile volume) (sym number) (c.requires.file told)) are in
+    let held = held-base volume _ _ c.in-Some.base.parts known case (subst (IsFile volume) (sym number) (c.requires.file told)) are in
     let is = subst (IsStreamIfThere volume c.in-Some.base.parts c.args.stream.now) c.in-Some-2.is (c.in_ok-found.ensures.found volume held) in
     let kept = view-kept g.D.Disk c.args.mft.now c.load_base.new.mft 20678 c.in_ok-base.ensures.reads in
     let read = subst (λ v. IsTrue v.told → (table name : List ℕ) → IsHeldWith v table c.in-Some.base.parts

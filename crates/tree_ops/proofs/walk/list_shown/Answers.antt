@@ -1,11 +1,12 @@
 use Rattle.std.proofs.Common.{ℕ, length, sym, ap, ◌∙◌, subst, arith}
 use Rattle.std.specs.Vec.Iter.{into_iter_items}
-use Rattle.mft_table.specs.Mft.{view}
+use Rattle.mft_table.specs.Mft.{mounted_of, view}
 use Rattle.tree_model.specs.Reading.{directory_links}
 use Rattle.tree_ops.specs.declared.stop.Stop.TheVariants as stop
 use Rattle.tree_model.specs.declared.reply.No.TheVariants as no
 use Rattle.std.proofs.Common.{Contains, rules}
 use Rattle.std.proofs.lemmas.List.{nil_from_length}
+use Rattle.dir_index.proofs.HeldDirectory.{is-held}
 use Rattle.tree_ops.specs.Above.{AreAbove}
 use Rattle.tree_ops.specs.Nodes.{number_of}
 use Rattle.tree_ops.specs.Walks.{IsShownDirectory}
@@ -14,11 +15,13 @@ use Rattle.tree_ops.proofs.FindsLaws.{answers-ok, answers-stop, finds-after, fin
 use Rattle.tree_ops.proofs.ListSteps.{AreListed, list-among, list-begins, list-ends, list-goes}
 use Rattle.tree_ops.proofs.walk.list_shown.Goals as goal
 
-pub list_in-requires-clause-parts : goal.list_in-requires-clause-parts
-list_in-requires-clause-parts g c = λ told. (c.requires.directory told).held.parts
-
-pub list_in-requires-clause-directory : goal.list_in-requires-clause-directory
-list_in-requires-clause-directory g c = λ told. (c.requires.directory told).is_shown.directory
+pub list_in-requires : goal.list_in-requires
+list_in-requires g c = record {
+  held = λ told.
+      let directory = c.requires.directory told in
+      is-held (view g.D.Disk c.args.mft.now) (mounted_of g.D.Disk c.args.mft.now) c.args.dir.now.parts (c.requires.volume told)
+      directory.is_shown.directory directory.held.parts;
+}
 
 pub links-init : goal.links-init
 links-init g c = record {

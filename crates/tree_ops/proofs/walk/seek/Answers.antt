@@ -1,17 +1,20 @@
 use Rattle.std.proofs.Common.{Some, None, sym, ◌∙◌}
 use Rattle.volume_def.specs.CaseClause.{volume_fold}
-use Rattle.mft_table.specs.Mft.{view}
+use Rattle.mft_table.specs.Mft.{mounted_of, view}
 use Rattle.tree_model.specs.Reading.{directory_links}
+use Rattle.dir_index.proofs.HeldDirectory.{is-held}
 use Rattle.tree_ops.specs.Nodes.{number_of}
 use Rattle.tree_ops.proofs.WalkLaws.{sought-among}
 use Rattle.tree_ops.proofs.WalkSteps.{sought-goes}
 use Rattle.tree_ops.proofs.walk.seek.Goals as goal
 
-pub lookup_in-requires-clause-parts : goal.lookup_in-requires-clause-parts
-lookup_in-requires-clause-parts g c = λ told. (c.requires.directory told).held.parts
-
-pub lookup_in-requires-clause-directory : goal.lookup_in-requires-clause-directory
-lookup_in-requires-clause-directory g c = λ told. (c.requires.directory told).is_shown.directory
+pub lookup_in-requires : goal.lookup_in-requires
+lookup_in-requires g c = record {
+  held = λ told.
+      let directory = c.requires.directory told in
+      is-held (view g.D.Disk c.args.mft.now) (mounted_of g.D.Disk c.args.mft.now) c.args.dir.now.parts (c.requires.volume told)
+      directory.is_shown.directory directory.held.parts;
+}
 
 pub returns-in-Some-clause-answered : goal.returns-in-Some-clause-answered
 returns-in-Some-clause-answered g c =
