@@ -30,7 +30,7 @@ const SENTENCES: [(&str, &str); 20] = [
         "the bitmap of records is wrong about record 30",
     ),
     ("refused S10 24", "a reference in record 24 leads to"),
-    ("refused S11 25", "the names of record 25 are not"),
+    ("refused S11 25", "the names of record 25 are none"),
     ("refused S13 10", "the table of case in record 10 "),
     ("refused S12 5", "an index of record 5 is damaged"),
     ("refused S14 2", "record 2 differs from its copy"),
