@@ -3,6 +3,8 @@
 #![tactic(auto)]
 
 #[cfg(test)]
+mod by_number;
+#[cfg(test)]
 mod cluster_owners;
 #[cfg(test)]
 mod commands;
