@@ -1,26 +1,22 @@
 -- The records of an index, where they are told.
 use Rattle.std.proofs.Common.{◌≡◌, ℕ, List, Option, Some, None, Bool, true, false, cond, refl, ap}
 use Rattle.std.specs.Prelude.{IsTrue}
-use Rattle.std.specs.Option.{option_map}
 use Rattle.volume_def.specs.IndexesClause.{IndexParts}
 use Rattle.volume_def.specs.View.{VolumeView}
-use Rattle.attr_store.specs.IndexBlocks.{IndexOn, records_on, told_records}
+use Rattle.attr_store.specs.IndexBlocks.{told_records}
 use Rattle.attr_store.specs.IndexRecords.{index_record_on}
 
 module _ (view : VolumeView) (index : IndexParts) where
-  abbrev on : IndexOn
-  on = record { volume = view; parts = index }
-
   -- they are those of the index,
   pub records-told : IsTrue view.told → told_records view index ≡ Some (index_record_on view index)
-  records-told told = ap (λ b. option_map records_on (cond b (Some on) None)) told
+  records-told told = ap (λ b. cond b (Some (index_record_on view index)) None) told
 
   -- and nothing else is told
   pub told-records : (records : ℕ → Option (List ℕ)) → told_records view index ≡ Some records
       → IsTrue view.told × (index_record_on view index ≡ records)
   told-records records e = by view.told e
     where
-      by : (b : Bool) → option_map records_on (cond b (Some on) None) ≡ Some records
+      by : (b : Bool) → cond b (Some (index_record_on view index)) None ≡ Some records
           → IsTrue b × (index_record_on view index ≡ records)
       by true e = (refl, cc)
       by false e = absurd (cc)

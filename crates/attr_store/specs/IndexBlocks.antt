@@ -1,6 +1,5 @@
 -- The records of an index of a file of a volume, as they are read.
 use Rattle.std.specs.Prelude.{◌≡◌, ℕ, List, Option, Some, None, IsTrue, if◌then◌else◌}
-use Rattle.std.specs.Option.{option_map}
 use Rattle.vol_disk.specs.declared.Disk.{Ghosts}
 use Rattle.vol_stage.specs.Staged.{disk_of}
 use Rattle.volume_def.specs.IndexesClause.{IndexParts}
@@ -23,31 +22,16 @@ pub record IsHeldFile (view : VolumeView) (file : FileParts) : Type 0 where
   pub parts : AreParts view file
   pub is_file : IsFile view (file_number file)
 
--- An index by its parts, and the volume that they are read from.
-pub record IndexOn : Type 0 where
-  pub volume : VolumeView
-  pub parts : IndexParts
-
--- its opened record at each number, none where there is none
-abbrev pub records_on : IndexOn → ℕ → Option (List ℕ)
-records_on index vcn = index_record_on index.volume index.parts vcn
-
--- The index and its records, where the contents are told.
-abbrev pub told_index : VolumeView → IndexParts → Option IndexOn
-told_index view index = if view.told then Some (record { volume = view; parts = index }) else None
-
+-- The opened record of an index at each number, none where there is none, where the contents are told.
 abbrev pub told_records : VolumeView → IndexParts → Option (ℕ → Option (List ℕ))
-told_records view index = option_map records_on (told_index view index)
+told_records view index = if view.told then Some (index_record_on view index) else None
 
--- Of an index that is read: its volume and its parts, what is told of them, and the sectors that were asked for.
+-- Of an index that is read: its volume, its parts, its records, and the sectors that were asked for.
 abbrev pub view_under : {D : Type 0} (g : Ghosts D) → IndexBlocks D g → VolumeView
 view_under g it = view g it.mft.now
 
 abbrev pub index_under : {D : Type 0} (g : Ghosts D) → IndexBlocks D g → IndexParts
 index_under g it = index_held it.file.now it.index.name.now
-
-abbrev pub index_told_under : {D : Type 0} (g : Ghosts D) → IndexBlocks D g → Option IndexOn
-index_told_under g it = told_index (view_under g it) (index_under g it)
 
 abbrev pub records_under : {D : Type 0} (g : Ghosts D) → IndexBlocks D g → Option (ℕ → Option (List ℕ))
 records_under g it = told_records (view_under g it) (index_under g it)

@@ -1,7 +1,6 @@
 //! The records of an index of a file, as the tree of the index reads them.
 ghost use Rattle.std.specs.Prelude.{◌≡◌, ℕ};
 ghost use Rattle.mft_table.specs.Mft.{faults_of};
-ghost use Rattle.file_record.specs.Held.{file_number};
 ghost use Rattle.attr_store.specs.IndexBlocks.{block_no_of};
 
 use crate::index::FoundIndex;
@@ -37,17 +36,9 @@ impl<D: Disk> Blocks for IndexBlocks<'_, '_, D> {
     ghost use Rattle.std.specs.Prelude.{◌+◌, refl};
     ghost use Rattle.std.proofs.Common.{◌∙◌, le_refl};
     ghost use Rattle.mft_table.proofs.StreamReads.{MftReads-none, MftReads-then};
-    ghost use Rattle.attr_store.specs.IndexBlocks.{IndexOn, IsReady, OnlyReads, index_told_under, records_on, records_under, sectors_under};
+    ghost use Rattle.attr_store.specs.IndexBlocks.{IsReady, OnlyReads, records_under, sectors_under};
 
     ghost records = { records_under D.Disk };
-
-    ghost Volume = { IndexOn };
-
-    ghost volume = { index_told_under D.Disk };
-
-    ghost file = { λ it. file_number it.file.now };
-
-    ghost index_record_in = { λ index file. records_on index };
 
     ghost only_reads = { OnlyReads D.Disk };
 
@@ -70,8 +61,6 @@ impl<D: Disk> Blocks for IndexBlocks<'_, '_, D> {
             Err(no) => Err(block_no(no)),
         }
     }
-
-    ghost are = { λ it. refl };
 
     ghost only_reads_itself = { λ it. record {
       same_mft = refl;

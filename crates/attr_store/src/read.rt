@@ -229,7 +229,8 @@ fn read_clusters<D: Disk>(
 }
 
 /// Reads bytes of the value of the attribute that part `i` of a file is of, from byte `at` on, over all of its
-/// extents. Bytes from the initialized size on are zero. It reads no sector twice, whatever the disk holds.
+/// extents. Bytes from the initialized size on are zero. No more reads are asked for than pieces of 512 bytes of the
+/// value are touched, whatever the disk holds.
 ///
 /// # Errors
 ///

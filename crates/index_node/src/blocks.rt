@@ -1,6 +1,5 @@
 //! The records of an index, as its tree reads them.
 ghost use Rattle.std.specs.Prelude.{◌≡◌, ℕ, ◌+◌, ◌≤◌, Option, List, Some, IsSome, MatchResult, OnErr, OnOk};
-ghost use Rattle.std.specs.Option.{option_map};
 ghost use Rattle.vol_disk.specs.Contents.{WhereTold};
 ghost use Rattle.vol_disk.specs.Count.{next_count};
 ghost use Rattle.index_node.specs.Blocks.{CountsNo};
@@ -28,18 +27,6 @@ pub enum BlockNo {
 pub trait Blocks {
     /// The opened record at each number, none where there is none.
     ghost records: { Self → Option (ℕ → Option (List ℕ)) };
-
-    /// What such records are part of: a volume, for those that are read from one.
-    ghost Volume: { Type 0 };
-
-    /// The volume.
-    ghost volume: { Self → Option Volume };
-
-    /// The file that has the index.
-    ghost file: { Self → ℕ };
-
-    /// The opened record at each number, in the index of this file of a volume.
-    ghost index_record_in: { Volume → ℕ → ℕ → Option (List ℕ) };
 
     /// What stays the same, from one state to another, where nothing but reads stands between them.
     ghost only_reads: { Self → Self → Type 0 };
@@ -75,8 +62,6 @@ pub trait Blocks {
 
         ensures ready { ready self.new }
         ensures records { records self.new ≡ records self.old }
-        ensures volume { volume self.new ≡ volume self.old }
-        ensures file { file self.new ≡ file self.old }
         ensures only_reads { only_reads self.old self.new }
         ensures reads { reads self.new ≡ next_count (reads self.old) }
         ensures fetched { fetched self.new ≤ fetched self.old + 8 }
@@ -85,8 +70,6 @@ pub trait Blocks {
 
         ensures faults { MatchResult result (λ _. faults self.new ≡ faults self.old)
             (CountsNo (faults self.old) (faults self.new)) };
-
-    ghost are: { (it : Self) → records it ≡ option_map (λ volume. index_record_in volume (file it)) (volume it) };
 
     ghost only_reads_itself: { (it : Self) → only_reads it it };
 

@@ -43,8 +43,6 @@ fn first_below<B: Blocks, C: Collation>(
 
     ensures ready { B.ready blocks.new }
     ensures records { B.records blocks.new ≡ B.records blocks.old }
-    ensures volume { B.volume blocks.new ≡ B.volume blocks.old }
-    ensures file { B.file blocks.new ≡ B.file blocks.old }
     ensures only_reads { B.only_reads blocks.old blocks.new }
     ensures taken { B.taken blocks.new ≡ B.taken blocks.old }
     ensures full { B.full blocks.new ≡ B.full blocks.old }
@@ -114,8 +112,6 @@ impl<C: Collation> Index<C> {
 
         ensures ready { B.ready blocks.new }
         ensures records { B.records blocks.new ≡ B.records blocks.old }
-        ensures volume { B.volume blocks.new ≡ B.volume blocks.old }
-        ensures file { B.file blocks.new ≡ B.file blocks.old }
         ensures only_reads { B.only_reads blocks.old blocks.new }
         ensures taken { B.taken blocks.new ≡ B.taken blocks.old }
         ensures full { B.full blocks.new ≡ B.full blocks.old }

@@ -146,14 +146,6 @@ impl<'b> Blocks for Listed<'b> {
 
     ghost records = { λ it. None };
 
-    ghost Volume = { Unit {0} };
-
-    ghost volume = { λ it. None };
-
-    ghost file = { λ it. 0 };
-
-    ghost index_record_in = { λ volume file vcn. None };
-
     ghost only_reads = { λ old new. Unit {0} };
 
     ghost reads = { λ it. it.reads };
@@ -181,8 +173,6 @@ impl<'b> Blocks for Listed<'b> {
         Ok(())
     }
 
-    ghost are = { λ it. refl };
-
     ghost only_reads_itself = { λ it. tt };
 
     ghost only_reads_on = { λ a b c h k. tt };
@@ -200,14 +190,6 @@ impl<'b> Blocks for Stored<'b> {
     ghost use Rattle.std.specs.List.{slice_get};
 
     ghost records = { λ it. Some (slice_get it.blocks.now) };
-
-    ghost Volume = { List (List ℕ) };
-
-    ghost volume = { λ it. Some it.blocks.now };
-
-    ghost file = { λ it. 0 };
-
-    ghost index_record_in = { λ volume file vcn. slice_get volume vcn };
 
     ghost only_reads = { λ old new. Unit {0} };
 
@@ -230,8 +212,6 @@ impl<'b> Blocks for Stored<'b> {
         }
         Ok(())
     }
-
-    ghost are = { λ it. refl };
 
     ghost only_reads_itself = { λ it. tt };
 

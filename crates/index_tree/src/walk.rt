@@ -48,8 +48,6 @@ fn walk_tree<B: Blocks>(
 
     ensures ready { B.ready blocks.new }
     ensures records { B.records blocks.new ≡ B.records blocks.old }
-    ensures volume { B.volume blocks.new ≡ B.volume blocks.old }
-    ensures file { B.file blocks.new ≡ B.file blocks.old }
     ensures only_reads { B.only_reads blocks.old blocks.new }
     ensures taken { B.taken blocks.new ≡ B.taken blocks.old }
     ensures full { B.full blocks.new ≡ B.full blocks.old }
@@ -95,8 +93,6 @@ fn walk_node<B: Blocks>(
 
     ensures ready { B.ready blocks.new }
     ensures records { B.records blocks.new ≡ B.records blocks.old }
-    ensures volume { B.volume blocks.new ≡ B.volume blocks.old }
-    ensures file { B.file blocks.new ≡ B.file blocks.old }
     ensures only_reads { B.only_reads blocks.old blocks.new }
     ensures taken { B.taken blocks.new ≡ B.taken blocks.old }
     ensures full { B.full blocks.new ≡ B.full blocks.old }
@@ -144,8 +140,6 @@ impl<C> Index<C> {
 
         ensures ready { B.ready blocks.new }
         ensures records { B.records blocks.new ≡ B.records blocks.old }
-        ensures volume { B.volume blocks.new ≡ B.volume blocks.old }
-        ensures file { B.file blocks.new ≡ B.file blocks.old }
         ensures only_reads { B.only_reads blocks.old blocks.new }
         ensures taken { B.taken blocks.new ≡ B.taken blocks.old }
         ensures full { B.full blocks.new ≡ B.full blocks.old }

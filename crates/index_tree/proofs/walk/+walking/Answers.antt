@@ -27,8 +27,6 @@ walk_node-places-init g t c =
           (g.B.Blocks.fetched c.args.blocks.now)) first (costs_start 8 (nodes_of (form_of_view node) r) n (g.B.Blocks.fetched c.args.blocks.now));
       ready = c.requires.ready;
       records = refl;
-      volume = refl;
-      file = refl;
       only_reads = g.met.B.Blocks.only_reads_itself c.args.blocks.now;
       taken = refl;
       full = refl;
@@ -125,8 +123,6 @@ walk_node-places-preserved g t c =
           (g.B.Blocks.fetched c.walk_tree.new.blocks)) c.form.ensures (below.fetched r (so_far.records ∙ e)))));
       ready = c.walk_tree.ensures.ready;
       records = c.walk_tree.ensures.records ∙ so_far.records;
-      volume = c.walk_tree.ensures.volume ∙ so_far.volume;
-      file = c.walk_tree.ensures.file ∙ so_far.file;
       only_reads = g.met.B.Blocks.only_reads_on c.args.blocks.now c.places.blocks c.walk_tree.new.blocks so_far.only_reads
           c.walk_tree.ensures.only_reads;
       taken = c.walk_tree.ensures.taken ∙ so_far.taken;

@@ -25,8 +25,6 @@ invariant-walk_node-places g l = record {
       (g.B.Blocks.fetched l.fn.blocks) (g.B.Blocks.fetched l.blocks));
   ready : g.B.Blocks.ready l.blocks;
   records : g.B.Blocks.records l.blocks ≡ g.B.Blocks.records l.fn.blocks;
-  volume : g.B.Blocks.volume l.blocks ≡ g.B.Blocks.volume l.fn.blocks;
-  file : g.B.Blocks.file l.blocks ≡ g.B.Blocks.file l.fn.blocks;
   only_reads : g.B.Blocks.only_reads l.fn.blocks l.blocks;
   taken : g.B.Blocks.taken l.blocks ≡ g.B.Blocks.taken l.fn.blocks;
   full : g.B.Blocks.full l.blocks ≡ g.B.Blocks.full l.fn.blocks;
