@@ -60,8 +60,8 @@ fn read_value<D: Disk>(
     }
 }
 
-/// The value of a list that lies in clusters, by its numbers and its run text. It is empty where it would be too long,
-/// does not begin with the stream's first cluster, or its text is no run list.
+/// The value of a list that lies in clusters, by its numbers and its run text, where the text is a run list from the
+/// stream's first cluster on and the value is not too long for a list. It is never longer than a list may be.
 pub fn read_list<D: Disk>(
     alloc: Global,
     mft: &mut Mft<'_, D>,

@@ -115,11 +115,8 @@ impl FileParts {
     /// Loads a file: the records that hold its parts, found by following the attribute list of its base record. Each of
     /// them is read once.
     ///
-    /// On a volume whose files can be read these are all parts of the file. On any other volume a base record that does
-    /// not open, has no shape, is not in use or belongs to another file gives a file without parts; a list that is none,
-    /// is longer than 262,144 bytes or does not lie in runs names nothing; and a record that is named but lies past the
-    /// table, does not open, has no shape, is not in use or belongs to another file is passed over. What is held is then
-    /// still what the volume has, of that file alone.
+    /// On a volume whose files can be read these are all parts of the file. On any other volume fewer may be held: what
+    /// cannot be read is passed over. What is held is then still what the volume has, of that file alone.
     ///
     /// # Errors
     ///

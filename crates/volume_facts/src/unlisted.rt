@@ -74,7 +74,7 @@ impl UnlistedFiles {
     ///
     /// # Errors
     ///
-    /// Want of memory alone. Then nothing was noted.
+    /// Want of memory alone.
     pub fn note(&mut self, alloc: Global, n: u64, view: &RecordView<'_>) -> Result<(), AllocError>
         ensures noted { OnOk result ((records : Records) → records.record_at n ≡ Some (record_of n (viewed_block view.now))
             → UnlistedNote records n self.old → UnlistedNote records (n + 1) self.new) }
