@@ -1,11 +1,10 @@
-pub mod FindsLaws
+pub mod GivesLaws
 pub mod OutlineLaws
 pub mod KindLaws
 pub mod PathsLaws
 pub mod SortLaws
 pub mod WantedLaws
 pub mod AnsweredLaws
-pub mod FetchedLaws
 pub mod NodeLaws
 pub mod LinkCounts
 pub mod RoomLaws

@@ -18,7 +18,7 @@ use Rattle.file_record.specs.Held.{AreParts, file_number, parts_held}
 use Rattle.file_record.specs.declared.base.BaseFile.{BaseFile}
 use Rattle.file_record.specs.declared.parts.FileParts.{FileParts}
 use Rattle.tree_model.specs.Reading.{shown_content}
-use Rattle.tree_ops.specs.Finds.{Finds}
+use Rattle.tree_ops.specs.Answered.{Finds}
 use Rattle.tree_ops.specs.Nodes.{IsCaseOf, IsFileHeld, IsNodeHeld, begin_of}
 use Rattle.tree_ops.proofs.DataLaws.{content-none, content-plain, first-read, no_first}
 use Rattle.tree_ops.proofs.NodeLaws.{held-file, sound-readable}
@@ -54,7 +54,7 @@ file-found g old new f found held is in_use only quiet number header are = recor
   reads = 20678;
   only = only;
   counts = quiet;
-  found = λ told. record {
+  is = λ told. record {
     number = subst (λ o. IfSome o (λ (file : BaseFile). file_number file.parts ≡ f)) is number;
     base = subst (λ o. IfSome o (λ (file : BaseFile). HasBaseRecord (view g old) f file.header)) is (header told);
     parts = subst (λ o. IfSome o (λ (file : BaseFile). AreParts (view g old) file.parts)) is

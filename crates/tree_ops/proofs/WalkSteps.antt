@@ -1,5 +1,5 @@
 -- A component of a path: its link is sought, what that leads to is asked, and then no more calls are made.
-use Rattle.std.proofs.Common.{◌≡◌, ℕ, List, Option, Result, Ok, Err, IsTrue, refl, sym, ◌∙◌, inl, subst}
+use Rattle.std.proofs.Common.{◌≡◌, ℕ, List, Option, Result, Ok, Err, IsTrue, refl, sym, ◌∙◌, inl, ap, subst}
 use Rattle.vol_disk.specs.declared.Disk.{Ghosts}
 use Rattle.volume_def.specs.CaseClause.{volume_fold}
 use Rattle.volume_def.specs.View.{VolumeView}
@@ -16,7 +16,8 @@ use Rattle.tree_ops.specs.Kinds.{Kind, kind_of}
 use Rattle.tree_ops.specs.Walks.{sought_at, there}
 use Rattle.tree_ops.specs.declared.stop.Stop.{Stop}
 use Rattle.tree_ops.specs.declared.stop.Stop.TheVariants as stop
-use Rattle.tree_ops.proofs.AnsweredLaws.{at_once, follows, read-goes, same_wanted, stops}
+use Rattle.tree_ops.proofs.AnsweredLaws.{follows, same_wanted, stops}
+use Rattle.tree_ops.proofs.GivesLaws.{at_once}
 
 -- what needs no call, as the answer of one
 abbrev pub as_answer : {A : Type 0} → Result A No → Result A Stop
@@ -24,8 +25,8 @@ as_answer (Ok x) = Ok x
 as_answer (Err refused) = Err (stop.No refused)
 
 pub decided : {D A : Type 0} (g : Ghosts D) (mft : Mft D g) (result : Result A No) → Answered g mft mft (λ volume. result) (as_answer result)
-decided g mft (Ok x) = at_once g mft (λ volume. Ok x) (Ok x) (λ e. cc) (λ told. refl)
-decided g mft (Err refused) = at_once g mft (λ volume. Err refused) (Err (stop.No refused)) (λ e. cc) (λ told. inl refl)
+decided g mft (Ok x) = at_once refl (λ told. refl)
+decided g mft (Err refused) = at_once refl (λ told. inl refl)
 
 -- A name that was sought is found, or missing.
 pub sought-goes : {D : Type 0} (g : Ghosts D) (old new : Mft D g) (dir : ℕ) (name : List ℕ) (at : Option Link)
@@ -33,9 +34,8 @@ pub sought-goes : {D : Type 0} (g : Ghosts D) (old new : Mft D g) (dir : ℕ) (n
     → (IsTrue (view g old).told → at ≡ sought_link (volume_fold (view g old)) (directory_links (view g old) dir) name)
     → Answered g old new (λ volume. sought_at (read volume) dir name) (as_answer (there at))
 sought-goes g old new dir name at reads quiet found =
-    follows g old new new (λ volume. Ok (lookup (read volume) dir name)) (λ volume. there) at (as_answer (there at))
-    (read-goes g old new (λ volume. lookup (read volume) dir name) at reads quiet
-    (λ told. found told ∙ sym (lookup-read (view g old) dir name)))
+    follows g (λ volume. Ok (lookup (read volume) dir name)) (λ volume. there) at (as_answer (there at))
+    (record { reads = reads.0; only = reads.1; counts = quiet; is = λ told. ap Ok (lookup-read (view g old) dir name ∙ sym (found told)) })
     (decided g new (there at))
 
 module _ {D B : Type 0} (g : Ghosts D) (of_link : Tree → Option Link → Result B No) (of_kind : Link → Kind → Result B No)
@@ -56,25 +56,25 @@ module _ {D B : Type 0} (g : Ghosts D) (of_link : Tree → Option Link → Resul
   as_component : (old new : Mft D g) (result : Result B Stop) → Answered g old new (λ volume. and_then (sought volume) (then_ volume)) result
       → Answered g old new component result
   as_component old new result =
-      same_wanted g old new (λ volume. and_then (sought volume) (then_ volume)) component result
+      same_wanted g (λ volume. and_then (sought volume) (then_ volume)) component result
       (λ volume. sym (steps (read volume) (lookup (read volume) dir name)))
 
   -- nothing is found
   pub step-unsought : (old new : Mft D g) (why : Stop) → Answered g old new sought (Err why) → Answered g old new component (Err why)
-  step-unsought old new why call = as_component old new (Err why) (stops g old new sought then_ why call)
+  step-unsought old new why call = as_component old new (Err why) (stops g sought then_ why call)
 
   -- what is found cannot be asked
   pub step-unseen : (old middle new : Mft D g) (link : Link) (why : Stop) → Answered g old middle sought (Ok link)
       → Answered g middle new (seen link) (Err why) → Answered g old new component (Err why)
   step-unseen old middle new link why first second =
-      as_component old new (Err why) (follows g old middle new sought then_ link (Err why) first
-      (stops g middle new (seen link) (λ volume. of_kind link) why second))
+      as_component old new (Err why) (follows g sought then_ link (Err why) first
+      (stops g (seen link) (λ volume. of_kind link) why second))
 
   -- it is asked, and what follows is made of the answer alone
   pub step-seen : (old middle new : Mft D g) (link : Link) (kind : Kind) (result : Result B No) → result ≡ of_kind link kind
       → Answered g old middle sought (Ok link) → Answered g middle new (seen link) (Ok kind)
       → Answered g old new component (as_answer result)
   step-seen old middle new link kind result is first second =
-      as_component old new (as_answer result) (follows g old middle new sought then_ link (as_answer result) first
-      (follows g middle new new (seen link) (λ volume. of_kind link) kind (as_answer result) second
+      as_component old new (as_answer result) (follows g sought then_ link (as_answer result) first
+      (follows g (seen link) (λ volume. of_kind link) kind (as_answer result) second
       (subst (λ r. Answered g new new (λ volume. r) (as_answer result)) is (decided g new result))))

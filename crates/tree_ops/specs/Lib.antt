@@ -3,7 +3,6 @@ pub mod Kinds
 pub mod Wanted
 pub mod Volumes
 pub mod Serves
-pub mod Finds
 pub mod FileLinks
 pub mod Above
 pub mod Lines

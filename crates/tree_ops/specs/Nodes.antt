@@ -1,24 +1,17 @@
 -- A file that is loaded, as the tree of its volume shows it.
-use Rattle.std.specs.Prelude.{◌≡◌, ℕ, List, IfErr, IfOk, IsTrue, Option, Some, None, Result, take}
-use Rattle.vol_disk.specs.declared.Disk.{Ghosts}
+use Rattle.std.specs.Prelude.{◌≡◌, ℕ, List, IsTrue, Option, Some, None, take}
 use Rattle.volume_def.specs.CaseClause.{case_parts}
 use Rattle.volume_def.specs.Files.{Part, Record, is_base, record_on}
 use Rattle.volume_def.specs.Readable.{IsReadableVolume}
 use Rattle.volume_def.specs.Values.{value_on}
 use Rattle.volume_def.specs.View.{VolumeView}
-use Rattle.mft_table.specs.declared.mft.Mft.{Mft}
-use Rattle.mft_table.specs.Mft.{MftReads, faults_of, view}
 use Rattle.file_record.specs.Base.{HasBaseRecord, HasHeader}
 use Rattle.file_record.specs.Held.{AreParts, file_number, parts_held}
 use Rattle.file_record.specs.declared.base.BaseFile.{BaseFile}
 use Rattle.tree_model.specs.Reading.{node_by, read}
 use Rattle.tree_model.specs.Tree.{node_of}
-use Rattle.tree_model.specs.declared.reply.No.TheVariants as no
 use Rattle.tree_model.specs.declared.tree.Content.{Content}
 use Rattle.tree_model.specs.declared.tree.Content.TheVariants.{Packed, Plain}
-use Rattle.tree_ops.specs.Answered.{Counts}
-use Rattle.tree_ops.specs.declared.stop.Stop.{Stop}
-use Rattle.tree_ops.specs.declared.stop.Stop.TheVariants as stop
 
 -- the number of a loaded file, and its parts
 abbrev pub number_of : BaseFile → ℕ
@@ -42,19 +35,6 @@ pub record IsNodeHeld (view : VolumeView) (held : BaseFile) : Type 0 where
   pub header : HasHeader held.header base
   pub parts : AreParts view held.parts
   pub node : node_of (read view) (number_of held) ≡ Some (node_by view base (parts_in held))
-
--- a call fails by the disk or for want of memory alone
-abbrev pub IsFailed : Stop → Type 0
-IsFailed stop.Device = Unit {0}
-IsFailed (stop.No refused) = refused ≡ no.Memory
-
--- A CALL FETCHED what is so on the volume, and only read.
-pub record Fetched {D A : Type 0} (g : Ghosts D) (old new : Mft D g) (IsSo : VolumeView → A → Type 0) (result : Result A Stop) : Type 0 where
-  pub reads : ℕ
-  pub only : MftReads g old new reads
-  pub counts : Counts result (faults_of g old) (faults_of g new)
-  pub fails : IfErr result IsFailed
-  pub is_so : IsTrue (view g old).told → IfOk result (IsSo (view g old))
 
 -- the table of case that is kept is the volume's
 abbrev pub IsCaseOf : VolumeView → List ℕ → Type 0

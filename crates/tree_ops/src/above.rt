@@ -10,7 +10,7 @@ ghost use Rattle.mft_table.specs.Mft.{view};
 ghost use Rattle.tree_model.specs.Tree.{is_dos};
 ghost use Rattle.attr_store.specs.InUse.{IsDirectory, IsInUse};
 ghost use Rattle.tree_ops.specs.Above.{AreAbove, leads_hidden, name_above};
-ghost use Rattle.tree_ops.specs.Finds.{Finds};
+ghost use Rattle.tree_ops.specs.Answered.{Finds};
 
 use crate::load::load_file;
 use crate::outline::links_of;

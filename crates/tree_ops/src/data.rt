@@ -8,9 +8,9 @@ ghost use Rattle.ntfs_def.specs.declared.kinds.TheConstants.{REPARSE_POINT};
 ghost use Rattle.volume_def.specs.Files.{is_of};
 ghost use Rattle.tree_ops.specs.declared.stop.Stop.TheVariants as stop;
 ghost use Rattle.tree_model.specs.Subjects.{stream_name};
-ghost use Rattle.tree_ops.specs.Answered.{Answered};
+ghost use Rattle.tree_ops.specs.Answered.{Answered, Finds};
 ghost use Rattle.tree_ops.specs.declared.data.TheConstants.{POINT};
-ghost use Rattle.tree_ops.specs.Nodes.{Fetched, IsCaseOf, IsNodeHeld, first_bytes, number_of, parts_in};
+ghost use Rattle.tree_ops.specs.Nodes.{IsCaseOf, IsNodeHeld, first_bytes, number_of, parts_in};
 ghost use Rattle.tree_ops.specs.Parts.{FindsPlain, IsPlainStream};
 ghost use Rattle.tree_ops.specs.Wanted.{cat_shown, objid_shown, read_shown, reparse_shown};
 ghost use Rattle.tree_model.specs.Answers.{point_answer, range_of};
@@ -81,7 +81,7 @@ fn data<D: Disk>(
     requires held { IsTrue (view D.Disk mft.old).told → IsNodeHeld (view D.Disk mft.old) held.now }
     requires volume { IsInUse D.Disk mft.old }
     requires place { found.now.part < length (parts_in held.now) }
-    ensures fetched { Fetched D.Disk mft.old mft.new (λ volume answer. (name : List ℕ)
+    ensures found { Finds D.Disk mft.old mft.new (λ volume answer. (name : List ℕ)
         → (is : IsPlainStream volume held.now name found.now)
         → answer ≡ a.Data (range_of at len is.bytes)) result }
 {

@@ -11,7 +11,7 @@ ghost use Rattle.tree_model.specs.Tree.{link_above};
 ghost use Rattle.attr_store.specs.InUse.{IsDirectory, IsInUse};
 ghost use Rattle.tree_ops.specs.Above.{AreAbove};
 ghost use Rattle.tree_ops.specs.FileLinks.{links_held};
-ghost use Rattle.tree_ops.specs.Finds.{Finds};
+ghost use Rattle.tree_ops.specs.Answered.{Finds};
 ghost use Rattle.tree_ops.specs.Lines.{shown_in};
 
 use crate::above::Above;

@@ -8,8 +8,8 @@ ghost use Rattle.file_record.specs.Held.{AreParts, file_number, parts_held};
 ghost use Rattle.attr_store.specs.Index.{attribute_held};
 ghost use Rattle.attr_store.specs.InUse.{IsInUse};
 ghost use Rattle.tree_model.specs.Reading.{shown_content};
-ghost use Rattle.tree_ops.specs.Finds.{Finds};
-ghost use Rattle.tree_ops.specs.Nodes.{Fetched, IsFileHeld, IsNodeHeld, begin_of, number_of};
+ghost use Rattle.tree_ops.specs.Answered.{Finds};
+ghost use Rattle.tree_ops.specs.Nodes.{IsFileHeld, IsNodeHeld, begin_of, number_of};
 
 use crate::stop::Stop;
 use attr_store::{find_first, read_value};
@@ -78,7 +78,7 @@ pub fn read_begin<D: Disk>(
     most: usize,
 ) -> Result<Option<Octets>, Stop>
     requires held { IsTrue (view D.Disk mft.old).told → IsNodeHeld (view D.Disk mft.old) held.now }
-    ensures fetched { Fetched D.Disk mft.old mft.new
+    ensures found { Finds D.Disk mft.old mft.new
         (λ volume found. found ≡ begin_of most (shown_content volume (attribute_held held.now.parts kind name.now))) result }
 {
     let Some(first) = find_first(&held.parts, kind, name) else {

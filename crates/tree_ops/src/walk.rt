@@ -7,9 +7,8 @@ ghost use Rattle.tree_model.specs.Paths.{found_file, lookup, passed, reached, re
 ghost use Rattle.tree_model.specs.Reading.{directory_links, read};
 ghost use Rattle.attr_store.specs.InUse.{IsInUse};
 ghost use Rattle.tree_ops.specs.Above.{AreAbove};
-ghost use Rattle.tree_ops.specs.Answered.{Answered, with_ok};
+ghost use Rattle.tree_ops.specs.Answered.{Answered, Finds, with_ok};
 ghost use Rattle.tree_ops.specs.Below.{kind_below};
-ghost use Rattle.tree_ops.specs.Finds.{Finds};
 ghost use Rattle.tree_ops.specs.Nodes.{IsFileHeld, IsNodeHeld, number_of};
 ghost use Rattle.tree_ops.specs.Standings.{IsStanding, led_to, number_within};
 ghost use Rattle.tree_ops.specs.Walks.{IsDirectoryHeld, IsShownDirectory, found_by, listed_kind, passed_below, reached_below, sought_at};

@@ -36,6 +36,6 @@ returns-in-Some g c =
       counts = call.counts;
       says = λ facts moment session told tells.
           subst (λ r. Says r c.show_at.result) (sym (shown-wanted facts moment session v c.args.command.now c.in-Some.path.now (sym c.in-Some.ensures)))
-          (call.says told);
+          (call.is told);
       last = c.show_at.ensures.last;
     }

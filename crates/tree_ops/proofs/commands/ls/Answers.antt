@@ -1,14 +1,10 @@
-use Rattle.std.proofs.Common.{Err, Ok, inl, ap, sym, ◌∙◌}
+use Rattle.std.proofs.Common.{◌≡◌, Ok, inl, ap, refl, sym, ◌∙◌}
 use Rattle.mft_table.specs.Mft.{view}
 use Rattle.tree_model.specs.Answers.{listing}
 use Rattle.tree_model.specs.Reading.{read}
 use Rattle.tree_model.specs.declared.reply.Answer.TheVariants as a
-use Rattle.tree_model.specs.declared.reply.No.TheVariants as no
 use Rattle.tree_ops.specs.Nodes.{number_of}
-use Rattle.tree_ops.specs.Wanted.{ls_shown}
-use Rattle.tree_ops.specs.declared.stop.Stop.TheVariants as stop
-use Rattle.tree_ops.proofs.AnsweredLaws.{at_once}
-use Rattle.tree_ops.proofs.FetchedLaws.{ok-answers}
+use Rattle.tree_ops.proofs.GivesLaws.{at_once, tells}
 use Rattle.tree_ops.proofs.NodeLaws.{file-held, held-directory, held-shown}
 use Rattle.tree_ops.proofs.WalkLaws.{directory-shown}
 use Rattle.tree_ops.proofs.StreamLaws.{ls-directory, ls-file}
@@ -18,7 +14,7 @@ pub returns-then-not-is_directory : goal.returns-then-not-is_directory
 returns-then-not-is_directory g c =
     let held = c.args.held.now in
     record {
-      answered = at_once g.D.Disk _ (λ v. ls_shown (read v) (number_of held)) (Err (stop.No no.NotDir)) (λ e. cc) (λ told.
+      answered = at_once refl (λ told.
           inl (ls-file (view g.D.Disk c.args.mft.now) held (c.requires.held told) (sym c.is_directory.ensures ∙ c.if-not-is_directory.true)));
     }
 
@@ -40,8 +36,8 @@ pub returns-in-Ok : goal.returns-in-Ok
 returns-in-Ok g c =
     let held = c.args.held.now in
     record {
-      answered = ok-answers g.D.Disk (λ v. listing (read v) (number_of held)) (λ v. ls_shown (read v) (number_of held)) _ _ c.in-Ok.lines
-          (a.List c.in-Ok.lines) c.in-Ok.ensures.answered (λ told lines.
+      answered = tells c.in-Ok.ensures.answered refl (λ told same.
+          let lines : listing (read (view g.D.Disk c.args.mft.now)) (number_of held) ≡ c.in-Ok.lines = cc in
           ls-directory (view g.D.Disk c.args.mft.now) held (c.requires.held told) (sym c.is_directory.ensures ∙ c.if-not-is_directory.false)
           ∙ ap (λ shown. Ok (a.List shown)) lines);
     }

@@ -1,9 +1,9 @@
-use Rattle.std.proofs.Common.{Ok, ap, ◌∙◌}
+use Rattle.std.proofs.Common.{ap, refl, ◌∙◌}
 use Rattle.mft_table.specs.Mft.{view}
 use Rattle.tree_model.specs.Reading.{read}
 use Rattle.tree_ops.specs.Nodes.{number_of}
 use Rattle.tree_ops.specs.Shown.{shown_by}
-use Rattle.tree_ops.proofs.AnsweredLaws.{at_once}
+use Rattle.tree_ops.proofs.GivesLaws.{at_once}
 use Rattle.tree_ops.proofs.commands.show_node.Goals as goal
 
 pub returns-in-Attr : goal.returns-in-Attr
@@ -11,7 +11,7 @@ returns-in-Attr g c =
     let held = c.args.held.now in
     let v = view g.D.Disk c.args.mft.now in
     record {
-      answered = at_once g.D.Disk _ (λ v. shown_by c.args.command.now (read v) (number_of held)) (Ok c.attr.result) (λ e. cc) (λ told.
+      answered = at_once refl (λ told.
           ap (λ command. shown_by command (read v) (number_of held)) c.in-Attr.is ∙ c.attr.ensures v (c.requires.held told));
     }
 
@@ -20,6 +20,6 @@ returns-in-Sec g c =
     let held = c.args.held.now in
     let v = view g.D.Disk c.args.mft.now in
     record {
-      answered = at_once g.D.Disk _ (λ v. shown_by c.args.command.now (read v) (number_of held)) (Ok c.sec.result) (λ e. cc) (λ told.
+      answered = at_once refl (λ told.
           ap (λ command. shown_by command (read v) (number_of held)) c.in-Sec.is ∙ c.sec.ensures v (c.requires.held told));
     }

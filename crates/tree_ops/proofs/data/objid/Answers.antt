@@ -1,20 +1,16 @@
-use Rattle.std.proofs.Common.{◌≡◌, [], List, ℕ, Ok, Option, ap, rules, sym, ◌∙◌}
+use Rattle.std.proofs.Common.{◌≡◌, [], List, ℕ, Ok, Option, ap, refl, rules, sym, ◌∙◌}
 use Rattle.std.specs.Prelude.{unwrap_or}
 use Rattle.mft_table.specs.Mft.{view}
-use Rattle.tree_model.specs.Reading.{read}
 use Rattle.tree_model.specs.declared.reply.Answer.TheVariants as a
-use Rattle.tree_ops.specs.Nodes.{number_of}
-use Rattle.tree_ops.specs.Wanted.{objid_shown}
 use Rattle.tree_ops.proofs.DataLaws.{objid-held}
-use Rattle.tree_ops.proofs.FetchedLaws.{answers}
+use Rattle.tree_ops.proofs.GivesLaws.{tells}
 use Rattle.tree_ops.proofs.data.objid.Goals as goal
 
 pub returns-in-Ok-Some : goal.returns-in-Ok-Some
 returns-in-Ok-Some g c =
     let held = c.args.held.now in
     record {
-      answered = answers g.D.Disk _ (λ v. objid_shown (read v) (number_of held)) _ _ c.in-Ok-Some.field-0 _ c.in-Ok-Some.ensures.fetched (λ e. cc)
-          (λ told so. objid-held (view g.D.Disk c.args.mft.now) held (c.requires.held told)
+      answered = tells c.in-Ok-Some.ensures.found refl (λ told so. objid-held (view g.D.Disk c.args.mft.now) held (c.requires.held told)
           ∙ ap (λ (o : Option (List ℕ)). Ok (a.ObjectId (unwrap_or o []))) (sym so ∙ c.in-Ok-Some.field-0-is));
     }
 
@@ -23,8 +19,7 @@ returns-in-Ok-None g c =
     let held = c.args.held.now in
     let none : c.from_vec.result ≡ [] = search rules in
     record {
-      answered = answers g.D.Disk _ (λ v. objid_shown (read v) (number_of held)) _ _ c.in-Ok-None.field-0 _ c.in-Ok-None.ensures.fetched (λ e. cc)
-          (λ told so. objid-held (view g.D.Disk c.args.mft.now) held (c.requires.held told)
+      answered = tells c.in-Ok-None.ensures.found refl (λ told so. objid-held (view g.D.Disk c.args.mft.now) held (c.requires.held told)
           ∙ ap (λ (o : Option (List ℕ)). Ok (a.ObjectId (unwrap_or o []))) (sym so ∙ c.in-Ok-None.field-0-is)
           ∙ ap (λ bytes. Ok (a.ObjectId bytes)) (sym none));
     }

@@ -4,7 +4,7 @@ use Rattle.tree_model.specs.Reading.{read}
 use Rattle.tree_model.specs.declared.reply.Answer.{Answer}
 use Rattle.tree_ops.specs.Nodes.{number_of}
 use Rattle.tree_ops.specs.Wanted.{read_shown}
-use Rattle.tree_ops.proofs.FetchedLaws.{answers-it}
+use Rattle.tree_ops.proofs.AnsweredLaws.{answers-it}
 use Rattle.tree_ops.proofs.LoadLaws.{case-kept}
 use Rattle.tree_ops.proofs.StreamLaws.{read-range}
 use Rattle.tree_ops.proofs.data.read_range.Goals as goal
@@ -14,7 +14,8 @@ returns-else-is_wide g c =
     let held = c.args.held.now in
     let v = view g.D.Disk c.args.mft.now in
     record {
-      answered = answers-it g.D.Disk _ (λ v. read_shown (read v) c.args.name.now c.args.at c.args.len (number_of held)) _ _ c.data.result c.data.ensures.fetched (λ told x so.
+      answered = answers-it _ (λ v. read_shown (read v) c.args.name.now c.args.at c.args.len (number_of held)) c.data.result
+          c.data.ensures.found (λ told x so.
           let is = c.in-Ok.ensures.found v (c.requires.held told)
           (case-kept v (mounted_of g.D.Disk c.args.mft.now) c.mounted.result.now c.mounted.ensures (c.requires.volume told)) in
           read-range v held c.args.name.now c.in-Ok.found is c.args.at c.args.len (sym c.is_wide.ensures ∙ c.if-is_wide.false) ∙ ap (λ (y : Answer). Ok y) (sym (so c.args.name.now is)));

@@ -1,11 +1,11 @@
-use Rattle.std.proofs.Common.{sym}
+use Rattle.std.proofs.Common.{refl, sym}
 use Rattle.mft_table.specs.Mft.{view}
-use Rattle.tree_ops.proofs.FindsLaws.{finds-ok, finds-short}
+use Rattle.tree_ops.proofs.GivesLaws.{tells}
 use Rattle.tree_ops.proofs.hidden.leads_elsewhere.Goals as goal
 
 pub returns-in-Ok-note : goal.returns-in-Ok-note
 returns-in-Ok-note g c = record {
-  found = finds-ok g.D.Disk c.args.mft.now c.leads_to_system.new.mft _ _ _ _ c.in-Ok.ensures.found (λ told is.
+  found = tells c.in-Ok.ensures.found refl (λ told is.
       let v = view g.D.Disk c.args.mft.now in (
         c.in-Ok-note.ensures v (c.requires.volume told).sound (c.requires.directory told) (sym is.1) is.0,
         is.1,
@@ -14,5 +14,5 @@ returns-in-Ok-note g c = record {
 
 pub returns-in-Err-note : goal.returns-in-Err-note
 returns-in-Err-note g c = record {
-  found = finds-short g.D.Disk c.args.mft.now c.leads_to_system.new.mft _ _ _ c.in-Ok.ensures.found;
+  found = tells c.in-Ok.ensures.found refl (λ told is. refl);
 }

@@ -1,12 +1,12 @@
-use Rattle.std.proofs.Common.{◌≡◌, ◌-◌, suc, Some, None, sym, subst, ◌∙◌, arith}
+use Rattle.std.proofs.Common.{◌≡◌, ◌-◌, suc, Some, None, refl, sym, subst, ◌∙◌, arith}
 use Rattle.mft_table.specs.Mft.{view}
 use Rattle.attr_store.specs.InUse.{IsDirectory}
-use Rattle.tree_ops.proofs.FindsLaws.{finds-after, finds-both, finds-ok, finds-plain, finds-stop}
+use Rattle.tree_ops.proofs.GivesLaws.{at_once, both, tells}
 use Rattle.tree_ops.proofs.KindLaws.{IsUp, up-begins, up-ends, up-goes, up-known}
 use Rattle.tree_ops.proofs.hidden.leads_to_system.Goals as goal
 
 pub steps-init : goal.steps-init
-steps-init g c = finds-plain g.D.Disk c.args.mft.now _ 0 (λ told. (
+steps-init g c = at_once refl (λ told. (
   c.requires.above told,
   c.requires.directory told,
   up-begins (view g.D.Disk c.args.mft.now) (c.requires.volume told).sound c.args.dir c.args.most (c.requires.directory told)
@@ -15,40 +15,37 @@ steps-init g c = finds-plain g.D.Disk c.args.mft.now _ 0 (λ told. (
 
 pub returns-in-Ok-None : goal.returns-in-Ok-None
 returns-in-Ok-None g c = record {
-  found = finds-ok g.D.Disk c.args.mft.now c.parent.new.mft _ _ _ _
-      (finds-both g.D.Disk c.args.mft.now c.steps.mft c.parent.new.mft _ _ _ _ c.steps.invariant c.in-Ok-None.ensures.found) (λ told both.
+  found = tells (both c.steps.invariant c.in-Ok-None.ensures.found) refl (λ told is.
       let v = view g.D.Disk c.args.mft.now in
       let left : c.steps.left ≡ suc (c.steps.left - 1) = omega (arith, c.steps-test.true) in
       let up = up-goes v (c.requires.volume told).sound c.args.dir c.steps.at (c.steps.left - 1) c.in-Ok-None.field-0
-      c.if-at-ge-FIRST_ORDINARY.true (subst (IsUp v c.args.dir c.steps.at) left both.0.2) both.1.1 in
+      c.if-at-ge-FIRST_ORDINARY.true (subst (IsUp v c.args.dir c.steps.at) left is.0.2) is.1.1 in
       let none : None ≡ Some up.parent = sym c.in-Ok-None.field-0-is ∙ up.is in
       absurd (cc));
 }
 
 pub returns-in-Err : goal.returns-in-Err
 returns-in-Err g c = record {
-  found = finds-after g.D.Disk c.args.mft.now c.steps.mft c.parent.new.mft _ _ _ _ c.steps.invariant
-      (finds-stop g.D.Disk c.steps.mft c.parent.new.mft _ _ c.in-Err.why c.in-Err.ensures.found);
+  found = tells (both c.steps.invariant c.in-Err.ensures.found) refl (λ told is. is.1);
 }
 
 pub steps-preserved : goal.steps-preserved
 steps-preserved g c =
-    finds-ok g.D.Disk c.args.mft.now c.parent.new.mft _ _ _ _
-    (finds-both g.D.Disk c.args.mft.now c.steps.mft c.parent.new.mft _ _ _ _ c.steps.invariant c.in-Ok-Some.ensures.found) (λ told both.
+    tells (both c.steps.invariant c.in-Ok-Some.ensures.found) refl (λ told is.
     let v = view g.D.Disk c.args.mft.now in
     let left : c.steps.left ≡ suc (c.steps.left - 1) = omega (arith, c.steps-test.true) in
     let up = up-goes v (c.requires.volume told).sound c.args.dir c.steps.at (c.steps.left - 1) c.in-Ok-Some.field-0
-    c.if-at-ge-FIRST_ORDINARY.true (subst (IsUp v c.args.dir c.steps.at) left both.0.2) both.1.1 in
+    c.if-at-ge-FIRST_ORDINARY.true (subst (IsUp v c.args.dir c.steps.at) left is.0.2) is.1.1 in
     let some : Some up.parent ≡ Some c.in-Ok-Some.parent = sym up.is ∙ c.in-Ok-Some.field-0-is in
     let same : up.parent ≡ c.in-Ok-Some.parent = cc in (
-      both.1.0,
+      is.1.0,
       subst (IsDirectory v) same up.directory,
       subst (λ p. IsUp v c.args.dir p (c.steps.left - 1)) same up.up,
     ))
 
 pub returns-in-Some : goal.returns-in-Some
 returns-in-Some g c = record {
-  found = finds-ok g.D.Disk c.args.mft.now c.steps.mft _ _ _ _ c.steps.invariant (λ told is. (
+  found = tells c.steps.invariant refl (λ told is. (
     is.0,
     up-known (view g.D.Disk c.args.mft.now) (c.requires.volume told).sound c.args.dir c.steps.at c.steps.left c.in-Some.known is.2 is.1
         (is.0.leads c.steps.at c.in-Some.known (sym c.in-Some.ensures)),
@@ -57,7 +54,7 @@ returns-in-Some g c = record {
 
 pub returns-then-at-lt-FIRST_ORDINARY : goal.returns-then-at-lt-FIRST_ORDINARY
 returns-then-at-lt-FIRST_ORDINARY g c = record {
-  found = finds-ok g.D.Disk c.args.mft.now c.steps.mft _ _ _ _ c.steps.invariant (λ told is. (
+  found = tells c.steps.invariant refl (λ told is. (
     is.0,
     up-ends (view g.D.Disk c.args.mft.now) (c.requires.volume told).sound c.args.dir c.steps.at c.steps.left is.2
         c.if-at-lt-FIRST_ORDINARY.true,

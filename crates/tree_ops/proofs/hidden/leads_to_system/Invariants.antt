@@ -1,7 +1,7 @@
 use Rattle.std.proofs.Common.{ℕ, Ok}
 use Rattle.attr_store.specs.InUse.{IsDirectory}
 use Rattle.tree_ops.specs.Above.{AreAbove}
-use Rattle.tree_ops.specs.Finds.{Finds}
+use Rattle.tree_ops.specs.Answered.{Finds}
 use Rattle.tree_ops.proofs.KindLaws.{IsUp}
 use Rattle.tree_ops.proofs.hidden.leads_to_system.Given as goal
 

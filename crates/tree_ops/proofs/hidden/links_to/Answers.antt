@@ -2,7 +2,6 @@ use Rattle.std.proofs.Common.{◌≡◌, Ok, false, map, refl, sym, ap, subst, �
 use Rattle.std.specs.List.{All}
 use Rattle.volume_def.specs.Files.{records_of}
 use Rattle.mft_table.specs.Mft.{mounted_of, view}
-use Rattle.mft_table.proofs.StreamReads.{MftReads-none}
 use Rattle.attr_store.specs.InUse.{IsDirectory}
 use Rattle.tree_model.specs.Answers.{path_above, shown_link, shown_links}
 use Rattle.tree_model.specs.Hidden.{is_hidden}
@@ -11,7 +10,7 @@ use Rattle.tree_model.specs.Reading.{read}
 use Rattle.tree_model.specs.declared.tree.Link.{Link}
 use Rattle.tree_model.proofs.ShownLinksLaws.{shown-names, shown-root}
 use Rattle.tree_ops.specs.Nodes.{number_of}
-use Rattle.tree_ops.proofs.FindsLaws.{answers-ok}
+use Rattle.tree_ops.proofs.GivesLaws.{at_once, tells}
 use Rattle.tree_ops.proofs.LoadLaws.{case-kept}
 use Rattle.tree_ops.proofs.NodeLaws.{held-shown}
 use Rattle.tree_ops.proofs.ShownFileLaws.{has-node, in-order, shown-directories}
@@ -19,15 +18,10 @@ use Rattle.tree_ops.proofs.hidden.links_to.Goals as goal
 
 pub returns-then-number-eq-ROOT : goal.returns-then-number-eq-ROOT
 returns-then-number-eq-ROOT g c = record {
-  answered = record {
-    reads = 0;
-    only = MftReads-none g.D.Disk c.args.mft.now;
-    counts = refl;
-    says = λ told.
-        let v = view g.D.Disk c.args.mft.now in
-        ap Ok (ap (shown_links (read v)) (sym c.number.ensures ∙ c.if-number-eq-ROOT.true) ∙ shown-root v
-        ∙ sym (c.from_vec.ensures ∙ c.new.ensures.items));
-  };
+  answered = at_once refl (λ told.
+      let v = view g.D.Disk c.args.mft.now in
+      ap Ok (ap (shown_links (read v)) (sym c.number.ensures ∙ c.if-number-eq-ROOT.true) ∙ shown-root v
+      ∙ sym (c.from_vec.ensures ∙ c.new.ensures.items)));
 }
 
 pub lines_of-requires-clause-directories : goal.lines_of-requires-clause-directories
@@ -58,15 +52,15 @@ lines_of-requires-clause-shown g c = λ told.
 
 pub returns-in-Ok-in_order : goal.returns-in-Ok-in_order
 returns-in-Ok-in_order g c = record {
-  answered = answers-ok g.D.Disk c.args.mft.now c.lines_of.new.mft _ _ _ _ c.in-Ok.ensures.found (λ told shown.
+  answered = tells c.in-Ok.ensures.found refl (λ told shown.
       let v = view g.D.Disk c.args.mft.now in
       let held = c.args.held.now in
       let n = c.requires.held told in
       let links = in-order v held n (c.requires.volume told).sound c.mounted.result.now.upcase
       (case-kept v (mounted_of g.D.Disk c.args.mft.now) c.mounted.result.now c.mounted.ensures (c.requires.volume told)) in
       let has = has-node v (number_of held) (held-shown v held n) in
-      shown-names v (number_of held) has.node has.at (λ e. c.if-number-eq-ROOT.false (c.number.ensures ∙ e))
+      ap Ok (shown-names v (number_of held) has.node has.at (λ e. c.if-number-eq-ROOT.false (c.number.ensures ∙ e))
       ∙ ap (λ links. in_order path_above (map (shown_link (read v)) links)) (sym (c.as_slice.ensures.value ∙ c.in_ok-links.ensures ∙ links))
       ∙ ap (in_order path_above) (sym shown)
-      ∙ sym (c.from_vec-in-Ok-in_order.ensures ∙ c.in-Ok-in_order.ensures));
+      ∙ sym (c.from_vec-in-Ok-in_order.ensures ∙ c.in-Ok-in_order.ensures)));
 }

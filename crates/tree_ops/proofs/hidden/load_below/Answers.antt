@@ -1,4 +1,4 @@
-use Rattle.std.proofs.Common.{◌≡◌, ◌-◌, Option, IfSome, false, if◌then◌else◌, sym, ap, subst, ◌∙◌}
+use Rattle.std.proofs.Common.{◌≡◌, ◌-◌, Option, IfSome, false, if◌then◌else◌, refl, sym, ap, subst, ◌∙◌}
 use Rattle.std.specs.List.{All, list_any}
 use Rattle.volume_def.specs.Files.{records_of}
 use Rattle.file_record.specs.declared.base.BaseFile.{BaseFile}
@@ -8,13 +8,13 @@ use Rattle.tree_model.specs.Hidden.{leads_to_system}
 use Rattle.tree_model.specs.declared.tree.Link.{Link}
 use Rattle.tree_ops.specs.Kinds as kind
 use Rattle.tree_ops.specs.Nodes.{IsFileHeld, number_of}
-use Rattle.tree_ops.proofs.FindsLaws.{finds-after, finds-both, finds-ok, finds-plain, finds-stop, told-kept}
+use Rattle.tree_ops.proofs.GivesLaws.{at_once, both, tells, told-kept}
 use Rattle.tree_ops.proofs.KindLaws.{dir-shorter, directory-kind, file-kind, link-file, parents-directories, system-kind}
 use Rattle.tree_ops.proofs.OutlineLaws.{links-told}
 use Rattle.tree_ops.proofs.hidden.load_below.Goals as goal
 
 pub returns-then-link-lt-FIRST_ORDINARY-clause-found : goal.returns-then-link-lt-FIRST_ORDINARY-clause-found
-returns-then-link-lt-FIRST_ORDINARY-clause-found g c = finds-plain g.D.Disk c.args.mft.now _ _ (λ told.
+returns-then-link-lt-FIRST_ORDINARY-clause-found g c = at_once refl (λ told.
     let dir = c.requires.directory told in (
       c.requires.above told,
       record {
@@ -36,7 +36,7 @@ returns-then-is_directory-clause-number g c =
 
 pub returns-then-is_directory-clause-found : goal.returns-then-is_directory-clause-found
 returns-then-is_directory-clause-found g c =
-    finds-ok g.D.Disk c.args.mft.now c.load_file.new.mft _ _ c.in-Ok.file _ c.in-Ok.ensures.found (λ told is.
+    tells c.in-Ok.ensures.found refl (λ told is.
     let v = view g.D.Disk c.args.mft.now in
     let dir = c.requires.directory told in (
       c.requires.above told,
@@ -50,9 +50,8 @@ returns-then-is_directory-clause-found g c =
 pub stands_in_hidden-requires-clause-directories : goal.stands_in_hidden-requires-clause-directories
 stands_in_hidden-requires-clause-directories g c =
     let v = view g.D.Disk c.args.mft.now in
-    told-kept g.D.Disk c.args.mft.now c.load_file.new.mft c.in-Ok.ensures.found.reads c.in-Ok.ensures.found.only
-    (λ volume. All (λ (link : Link). IsDirectory volume link.parent) c.deref.result.now) (λ told.
-    let is = c.in-Ok.ensures.found.found told in
+    told-kept (λ volume. All (λ (link : Link). IsDirectory volume link.parent) c.deref.result.now) c.in-Ok.ensures.found.only (λ told.
+    let is = c.in-Ok.ensures.found.is told in
     let sound = (c.requires.volume told).sound in
     subst (All (λ (link : Link). IsDirectory v link.parent))
     (sym (c.deref.ensures.value ∙ c.in_ok-links.ensures ∙ links-told v c.args.link.now.child c.in-Ok.file is sound))
@@ -60,24 +59,22 @@ stands_in_hidden-requires-clause-directories g c =
 
 pub stands_in_hidden-requires-clause-shown : goal.stands_in_hidden-requires-clause-shown
 stands_in_hidden-requires-clause-shown g c =
-    told-kept g.D.Disk c.args.mft.now c.load_file.new.mft c.in-Ok.ensures.found.reads c.in-Ok.ensures.found.only
-    (λ volume. leads_to_system (records_of volume) (volume.layout.count - 1) c.args.dir ≡ false) (λ told.
+    told-kept (λ volume. leads_to_system (records_of volume) (volume.layout.count - 1) c.args.dir ≡ false) c.in-Ok.ensures.found.only
+    (λ told.
     let dir = c.requires.directory told in
     dir-shorter (view g.D.Disk c.args.mft.now) (c.requires.volume told).sound c.args.dir c.args.link.now
     dir.directory dir.shown (c.requires.link told))
 
 pub returns-in-Ok-true-clause-found : goal.returns-in-Ok-true-clause-found
 returns-in-Ok-true-clause-found g c =
-    finds-ok g.D.Disk c.args.mft.now c.stands_in_hidden.new.mft _ _ _ _
-    (finds-both g.D.Disk c.args.mft.now c.load_file.new.mft c.stands_in_hidden.new.mft _ _ _ _ c.in-Ok.ensures.found c.in-Ok-true.ensures.found)
-    (λ told both.
+    tells (both c.in-Ok.ensures.found c.in-Ok-true.ensures.found) refl (λ told is.
     let v = view g.D.Disk c.args.mft.now in
     let dir = c.requires.directory told in (
-      both.1.0,
+      is.1.0,
       record {
         kind = file-kind v (c.requires.volume told).sound c.args.dir c.args.link.now dir.directory dir.shown (c.requires.link told)
-            c.in-Ok.file c.in-Ok-true.field-0 both.0 c.if-link-lt-FIRST_ORDINARY.false (sym c.is_directory.ensures ∙ c.if-is_directory.false)
-            (both.1.1 ∙ ap (list_any (λ (link : Link). leads_to_system (records_of v) (v.layout.count - 1) link.parent))
+            c.in-Ok.file c.in-Ok-true.field-0 is.0 c.if-link-lt-FIRST_ORDINARY.false (sym c.is_directory.ensures ∙ c.if-is_directory.false)
+            (is.1.1 ∙ ap (list_any (λ (link : Link). leads_to_system (records_of v) (v.layout.count - 1) link.parent))
             (c.deref.ensures.value ∙ c.in_ok-links.ensures))
             ∙ ap (λ b. if b then kind.Hidden else kind.File) c.in-Ok-true.field-0-test;
         held = tt;
@@ -86,23 +83,20 @@ returns-in-Ok-true-clause-found g c =
 
 pub returns-in-Ok-false-clause-found : goal.returns-in-Ok-false-clause-found
 returns-in-Ok-false-clause-found g c =
-    finds-ok g.D.Disk c.args.mft.now c.stands_in_hidden.new.mft _ _ _ _
-    (finds-both g.D.Disk c.args.mft.now c.load_file.new.mft c.stands_in_hidden.new.mft _ _ _ _ c.in-Ok.ensures.found c.in-Ok-false.ensures.found)
-    (λ told both.
+    tells (both c.in-Ok.ensures.found c.in-Ok-false.ensures.found) refl (λ told is.
     let v = view g.D.Disk c.args.mft.now in
     let dir = c.requires.directory told in (
-      both.1.0,
+      is.1.0,
       record {
         kind = file-kind v (c.requires.volume told).sound c.args.dir c.args.link.now dir.directory dir.shown (c.requires.link told)
-            c.in-Ok.file c.in-Ok-false.field-0 both.0 c.if-link-lt-FIRST_ORDINARY.false (sym c.is_directory.ensures ∙ c.if-is_directory.false)
-            (both.1.1 ∙ ap (list_any (λ (link : Link). leads_to_system (records_of v) (v.layout.count - 1) link.parent))
+            c.in-Ok.file c.in-Ok-false.field-0 is.0 c.if-link-lt-FIRST_ORDINARY.false (sym c.is_directory.ensures ∙ c.if-is_directory.false)
+            (is.1.1 ∙ ap (list_any (λ (link : Link). leads_to_system (records_of v) (v.layout.count - 1) link.parent))
             (c.deref.ensures.value ∙ c.in_ok-links.ensures))
             ∙ ap (λ b. if b then kind.Hidden else kind.File) c.in-Ok-false.field-0-test;
-        held = both.0;
+        held = is.0;
       },
     ))
 
 pub returns-in-Err-stands_in_hidden-clause-found : goal.returns-in-Err-stands_in_hidden-clause-found
 returns-in-Err-stands_in_hidden-clause-found g c =
-    finds-after g.D.Disk c.args.mft.now c.load_file.new.mft c.stands_in_hidden.new.mft _ _ _ _ c.in-Ok.ensures.found
-    (finds-stop g.D.Disk c.load_file.new.mft c.stands_in_hidden.new.mft _ _ c.in-Err-stands_in_hidden.why c.in-Err-stands_in_hidden.ensures.found)
+    tells (both c.in-Ok.ensures.found c.in-Err-stands_in_hidden.ensures.found) refl (λ told is. is.1)

@@ -4,45 +4,42 @@ use Rattle.mft_table.specs.Mft.{view}
 use Rattle.mft_table.specs.declared.mounted.Mounted.{Mounted}
 use Rattle.tree_model.specs.declared.tree.Link.{Link}
 use Rattle.tree_ops.specs.Above.{leads_hidden}
-use Rattle.tree_ops.proofs.FindsLaws.{finds-after, finds-both, finds-ok, finds-plain, finds-stop, told-kept}
+use Rattle.tree_ops.proofs.GivesLaws.{at_once, both, tells, told-kept}
 use Rattle.tree_ops.proofs.KindLaws.{any-more-none}
 use Rattle.tree_ops.proofs.hidden.stands_in_hidden.Goals as goal
 
 pub loop-link-init : goal.loop-link-init
-loop-link-init g c = finds-plain g.D.Disk c.args.mft.now _ 0 (λ told. (c.requires.above told, refl))
+loop-link-init g c = at_once refl (λ told. (c.requires.above told, refl))
 
 pub leads_elsewhere-requires-clause-most : goal.leads_elsewhere-requires-clause-most
 leads_elsewhere-requires-clause-most g c =
-    let is = c.loop-link.invariant in
-    told-kept g.D.Disk c.args.mft.now c.loop-link.mft is.reads is.only (λ v. c.saturating_sub-most.result ≡ v.layout.count - 1) (λ told.
+    told-kept (λ v. c.saturating_sub-most.result ≡ v.layout.count - 1) c.loop-link.invariant.only (λ told.
     c.saturating_sub-most.ensures ∙ ap (λ n. n - 1) (c.count.ensures ∙ ap (λ (m : Mounted). length m.records) c.mounted.ensures))
 
 pub returns-in-Ok-true : goal.returns-in-Ok-true
 returns-in-Ok-true g c = record {
-  found = finds-ok g.D.Disk c.args.mft.now c.leads_elsewhere.new.mft _ _ _ _
-      (finds-both g.D.Disk c.args.mft.now c.loop-link.mft c.leads_elsewhere.new.mft _ _ _ _ c.loop-link.invariant c.in-Ok-true.ensures.found)
-      (λ told both.
+  found = tells (both c.loop-link.invariant c.in-Ok-true.ensures.found) refl (λ told is.
       let v = view g.D.Disk c.args.mft.now in
       let p = λ (link : Link). leads_hidden v link.parent in
-      let here : p c.link-item.result ≡ true = sym both.1.1 ∙ c.in-Ok-true.field-0-test in
-      (both.1.0, sym (list_any_at p c.args.links.now c.loop-link.link-index c.link-item.result c.loop-link-test.true (ap p (sym c.link-item.is) ∙ here))));
+      let here : p c.link-item.result ≡ true = sym is.1.1 ∙ c.in-Ok-true.field-0-test in (
+        is.1.0,
+        sym (list_any_at p c.args.links.now c.loop-link.link-index c.link-item.result c.loop-link-test.true
+            (ap p (sym c.link-item.is) ∙ here)),
+      ));
 }
 
 pub returns-in-Err : goal.returns-in-Err
 returns-in-Err g c = record {
-  found = finds-after g.D.Disk c.args.mft.now c.loop-link.mft c.leads_elsewhere.new.mft _ _ _ _ c.loop-link.invariant
-      (finds-stop g.D.Disk c.loop-link.mft c.leads_elsewhere.new.mft _ _ c.in-Err.why c.in-Err.ensures.found);
+  found = tells (both c.loop-link.invariant c.in-Err.ensures.found) refl (λ told is. is.1);
 }
 
 pub loop-link-preserved : goal.loop-link-preserved
 loop-link-preserved g c =
-    finds-ok g.D.Disk c.args.mft.now c.leads_elsewhere.new.mft _ _ _ _
-    (finds-both g.D.Disk c.args.mft.now c.loop-link.mft c.leads_elsewhere.new.mft _ _ _ _ c.loop-link.invariant c.in-Ok-false.ensures.found)
-    (λ told both.
+    tells (both c.loop-link.invariant c.in-Ok-false.ensures.found) refl (λ told is.
     let v = view g.D.Disk c.args.mft.now in
     let p = λ (link : Link). leads_hidden v link.parent in
-    let here : p c.link-item.result ≡ false = sym both.1.1 ∙ c.in-Ok-false.field-0-test in (
-      both.1.0,
-      any-more-none p c.args.links.now c.loop-link.link-index c.link-item.result c.loop-link-test.true both.0.1
+    let here : p c.link-item.result ≡ false = sym is.1.1 ∙ c.in-Ok-false.field-0-test in (
+      is.1.0,
+      any-more-none p c.args.links.now c.loop-link.link-index c.link-item.result c.loop-link-test.true is.0.1
           (ap p (sym c.link-item.is) ∙ here),
     ))

@@ -2,7 +2,7 @@ use Rattle.std.proofs.Common.{◌≡◌, ℕ, Ok, false, take}
 use Rattle.std.specs.List.{list_any}
 use Rattle.tree_model.specs.declared.tree.Link.{Link}
 use Rattle.tree_ops.specs.Above.{AreAbove, leads_hidden}
-use Rattle.tree_ops.specs.Finds.{Finds}
+use Rattle.tree_ops.specs.Answered.{Finds}
 use Rattle.tree_ops.proofs.hidden.stands_in_hidden.Given as goal
 
 -- none of the names so far stands there

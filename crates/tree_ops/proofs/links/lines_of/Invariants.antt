@@ -2,7 +2,7 @@ use Rattle.std.proofs.Common.{◌≡◌, ℕ, Ok, map, take}
 use Rattle.tree_model.specs.Answers.{shown_link}
 use Rattle.tree_model.specs.Reading.{read}
 use Rattle.tree_ops.specs.Above.{AreAbove}
-use Rattle.tree_ops.specs.Finds.{Finds}
+use Rattle.tree_ops.specs.Answered.{Finds}
 use Rattle.tree_ops.specs.Lines.{shown_in}
 use Rattle.tree_ops.proofs.links.lines_of.Given as goal
 

@@ -1,16 +1,16 @@
-use Rattle.std.proofs.Common.{◌≡◌, ◌⊎◌, inl, inr, ◌-◌, [], ◌∷◌, ◌++◌, suc, length, reverse, Some, None, sym, ap, subst, ◌∙◌, arith}
+use Rattle.std.proofs.Common.{◌≡◌, ◌⊎◌, inl, inr, ◌-◌, [], ◌∷◌, ◌++◌, suc, length, reverse, Some, None, refl, sym, ap, subst, ◌∙◌, arith}
 use Rattle.std.proofs.lemmas.List.{reverse-append}
 use Rattle.ntfs_def.specs.declared.records.TheConstants.{ROOT}
 use Rattle.mft_table.specs.Mft.{view}
 use Rattle.mft_table.specs.declared.mounted.Mounted.{Mounted}
 use Rattle.tree_model.specs.declared.tree.Link.{Link}
-use Rattle.tree_ops.proofs.FindsLaws.{finds-after, finds-both, finds-ok, finds-plain, finds-short, finds-stop}
+use Rattle.tree_ops.proofs.GivesLaws.{at_once, both, tells}
 use Rattle.tree_ops.proofs.PathsLaws.{IsPathSoFar, path-begin, path-end, path-more}
 use Rattle.tree_ops.proofs.links.names_up.Goals as goal
 use Rattle.tree_ops.proofs.links.names_up.Goals.{then-steps-test+else-at-ne-ROOT, else-steps-test}
 
 pub steps-init : goal.steps-init
-steps-init g c = finds-plain g.D.Disk c.args.mft.now _ 0 (λ told.
+steps-init g c = at_once refl (λ told.
     let v = view g.D.Disk c.args.mft.now in
     let link = c.args.link.now in
     let left : c.count-left.result ≡ v.layout.count = c.count-left.ensures ∙ ap (λ (m : Mounted). length m.records) c.mounted.ensures in
@@ -23,48 +23,44 @@ steps-init g c = finds-plain g.D.Disk c.args.mft.now _ 0 (λ told.
 
 pub returns-in-Err : goal.returns-in-Err
 returns-in-Err g c = record {
-  found = finds-after g.D.Disk c.args.mft.now c.steps.mft c.learn.new.mft _ _ _ _ c.steps.invariant
-      (finds-stop g.D.Disk c.steps.mft c.learn.new.mft _ _ c.in-Err.why c.in-Err.ensures.found);
+  found = tells (both c.steps.invariant c.in-Err.ensures.found) refl (λ told is. is.1);
 }
 
 pub returns-in-None : goal.returns-in-None
 returns-in-None g c = record {
-  found = finds-ok g.D.Disk c.args.mft.now c.learn.new.mft _ _ _ _
-      (finds-both g.D.Disk c.args.mft.now c.steps.mft c.learn.new.mft _ _ _ _ c.steps.invariant c.in-Ok.ensures.found) (λ told both.
+  found = tells (both c.steps.invariant c.in-Ok.ensures.found) refl (λ told is.
       let v = view g.D.Disk c.args.mft.now in
       let left : c.steps.left ≡ suc (c.steps.left - 1) = omega (arith, c.steps-test.true) in
-      let so = subst (λ n. IsPathSoFar v c.args.link.now c.steps.at n (reverse c.steps.names.items)) left both.0.1 in
+      let so = subst (λ n. IsPathSoFar v c.args.link.now c.steps.at n (reverse c.steps.names.items)) left is.0.1 in
       let on = path-more v (c.requires.volume told).sound c.args.link.now c.steps.at (c.steps.left - 1) (reverse c.steps.names.items)
       c.if-at-ne-ROOT.true so in
-      let none : None ≡ Some on.up = c.in-None.ensures ∙ both.1.1 ∙ on.is in
+      let none : None ≡ Some on.up = c.in-None.ensures ∙ is.1.1 ∙ on.is in
       absurd (cc));
 }
 
 pub returns-in-Err-put_name : goal.returns-in-Err-put_name
 returns-in-Err-put_name g c = record {
-  found = finds-short g.D.Disk c.args.mft.now c.learn.new.mft _ _ _
-      (finds-both g.D.Disk c.args.mft.now c.steps.mft c.learn.new.mft _ _ _ _ c.steps.invariant c.in-Ok.ensures.found);
+  found = tells (both c.steps.invariant c.in-Ok.ensures.found) refl (λ told is. refl);
 }
 
 pub steps-preserved : goal.steps-preserved
 steps-preserved g c =
-    finds-ok g.D.Disk c.args.mft.now c.learn.new.mft _ _ _ _
-    (finds-both g.D.Disk c.args.mft.now c.steps.mft c.learn.new.mft _ _ _ _ c.steps.invariant c.in-Ok.ensures.found) (λ told both.
+    tells (both c.steps.invariant c.in-Ok.ensures.found) refl (λ told is.
     let v = view g.D.Disk c.args.mft.now in
     let left : c.steps.left ≡ suc (c.steps.left - 1) = omega (arith, c.steps-test.true) in
-    let so = subst (λ n. IsPathSoFar v c.args.link.now c.steps.at n (reverse c.steps.names.items)) left both.0.1 in
+    let so = subst (λ n. IsPathSoFar v c.args.link.now c.steps.at n (reverse c.steps.names.items)) left is.0.1 in
     let on = path-more v (c.requires.volume told).sound c.args.link.now c.steps.at (c.steps.left - 1) (reverse c.steps.names.items)
     c.if-at-ne-ROOT.true so in
-    let some : Some c.in-Some.up.now ≡ Some on.up = c.in-Some.ensures ∙ both.1.1 ∙ on.is in
+    let some : Some c.in-Some.up.now ≡ Some on.up = c.in-Some.ensures ∙ is.1.1 ∙ on.is in
     let same : on.up ≡ c.in-Some.up.now = cc in (
-      both.1.0,
+      is.1.0,
       subst (λ xs. IsPathSoFar v c.args.link.now c.in-Some.up.now.parent (c.steps.left - 1) xs) (sym (ap reverse c.in-Ok-put_name.ensures ∙ reverse-append c.steps.names.items (c.in-Some.up.now.name ∷ [])))
           (subst (λ (u : Link). IsPathSoFar v c.args.link.now u.parent (c.steps.left - 1) (u.name ∷ reverse c.steps.names.items)) same on.more),
     ))
 
 pub returns : goal.returns
 returns g c = record {
-  found = finds-ok g.D.Disk c.args.mft.now c.steps.mft _ _ _ _ c.steps.invariant (λ told is.
+  found = tells c.steps.invariant refl (λ told is.
       let ended : (c.steps.left ≡ 0) ⊎ (c.steps.at ≡ ROOT) = elim c.steps-test.branch [
         | then-steps-test+else-at-ne-ROOT w ↦ inr (omega (arith, w.if-at-ne-ROOT.false))
         | else-steps-test w ↦ inl (omega (arith, w.steps-test.false))

@@ -1,6 +1,6 @@
 use Rattle.std.proofs.Common.{ℕ, Ok, reverse}
 use Rattle.tree_ops.specs.Above.{AreAbove}
-use Rattle.tree_ops.specs.Finds.{Finds}
+use Rattle.tree_ops.specs.Answered.{Finds}
 use Rattle.tree_ops.proofs.PathsLaws.{IsPathSoFar}
 use Rattle.tree_ops.proofs.links.names_up.Given as goal
 

@@ -13,5 +13,5 @@ returns-in-Ok-None-clause-found g c = record {
   reads = 20678;
   only = c.in-Ok-None.ensures.reads;
   counts = c.in-Ok-None.ensures.faults;
-  found = λ told. refl;
+  is = λ told. refl;
 }

@@ -1,22 +1,15 @@
 use Rattle.std.proofs.Common.{Some, ap, refl, ◌∙◌}
 use Rattle.std.proofs.lemmas.Option.{slice_get_within}
-use Rattle.mft_table.proofs.StreamReads.{MftReads-none}
 use Rattle.mft_table.specs.Mft.{view}
 use Rattle.file_record.specs.Held.{parts_held}
-use Rattle.tree_ops.proofs.FetchedLaws.{fetched-no}
+use Rattle.tree_ops.proofs.GivesLaws.{at_once, unread}
 use Rattle.tree_ops.proofs.LoadLaws.{begin-none, begin-read}
 use Rattle.tree_ops.proofs.load.read_begin.Goals as goal
 
 pub returns-in_default : goal.returns-in_default
 returns-in_default g c = record {
-  fetched = record {
-    reads = 0;
-    only = MftReads-none g.D.Disk c.args.mft.now;
-    counts = refl;
-    fails = tt;
-    is_so = λ told. ap Some (c.from_vec.ensures ∙ c.new.ensures.items)
-        ∙ begin-none (view g.D.Disk c.args.mft.now) c.args.held.now.parts c.args.kind c.args.most c.args.name.now c.in_default.ensures;
-  };
+  found = at_once refl (λ told. ap Some (c.from_vec.ensures ∙ c.new.ensures.items)
+      ∙ begin-none (view g.D.Disk c.args.mft.now) c.args.held.now.parts c.args.kind c.args.most c.args.name.now c.in_default.ensures);
 }
 
 pub read_bytes-requires : goal.read_bytes-requires
@@ -26,12 +19,11 @@ read_bytes-requires g c = record {
 
 pub returns-in-Ok : goal.returns-in-Ok
 returns-in-Ok g c = record {
-  fetched = record {
+  found = record {
     reads = _;
     only = c.in-Ok.ensures.reads;
     counts = c.in-Ok.ensures.faults;
-    fails = tt;
-    is_so = λ told. ap Some c.from_vec-in-Ok.ensures
+    is = λ told. ap Some c.from_vec-in-Ok.ensures
         ∙ begin-read (view g.D.Disk c.args.mft.now) c.args.held.now c.args.kind c.args.most c.args.name.now c.in-Some.first c.in-Ok.bytes.items
         c.min-len.result (c.requires.held told) c.in-Some.ensures c.if-first.false c.min-len.ensures c.in-Ok.ensures.read told;
   };
@@ -39,5 +31,5 @@ returns-in-Ok g c = record {
 
 pub returns-in-Err : goal.returns-in-Err
 returns-in-Err g c = record {
-  fetched = fetched-no g.D.Disk _ _ _ c.in-Err.no _ _ c.in-Err.ensures.reads c.in-Err.ensures.err c.in-Err.ensures.faults c.from.ensures;
+  found = unread _ c.in-Err.no c.in-Err.ensures.reads c.in-Err.ensures.err c.in-Err.ensures.faults c.from.ensures;
 }

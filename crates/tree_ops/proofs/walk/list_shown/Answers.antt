@@ -1,4 +1,4 @@
-use Rattle.std.proofs.Common.{ℕ, length, sym, ap, ◌∙◌, subst, arith}
+use Rattle.std.proofs.Common.{Ok, inr, length, refl, sym, ap, ◌∙◌, subst, arith}
 use Rattle.std.specs.Vec.Iter.{into_iter_items}
 use Rattle.mft_table.specs.Mft.{mounted_of, view}
 use Rattle.tree_model.specs.Reading.{directory_links}
@@ -10,8 +10,8 @@ use Rattle.dir_index.proofs.HeldDirectory.{is-held}
 use Rattle.tree_ops.specs.Above.{AreAbove}
 use Rattle.tree_ops.specs.Nodes.{number_of}
 use Rattle.tree_ops.specs.Walks.{IsShownDirectory}
-use Rattle.tree_ops.proofs.AnsweredLaws.{as-residual, in-use-kept, told-kept}
-use Rattle.tree_ops.proofs.FindsLaws.{answers-ok, answers-stop, finds-after, finds-both, finds-ok, finds-short}
+use Rattle.tree_ops.proofs.AnsweredLaws.{says-failed}
+use Rattle.tree_ops.proofs.GivesLaws.{both, handed-on, in-use-kept, tells, told-kept}
 use Rattle.tree_ops.proofs.ListSteps.{AreListed, list-among, list-begins, list-ends, list-goes}
 use Rattle.tree_ops.proofs.walk.list_shown.Goals as goal
 
@@ -32,7 +32,7 @@ links-init g c = record {
     reads = c.in_ok-link-items.ensures.reads.0;
     only = c.in_ok-link-items.ensures.reads.1;
     counts = c.in_ok-link-items.ensures.faults;
-    found = λ told.
+    is = λ told.
         let v = view g.D.Disk c.args.mft.now in
         subst (λ lines. AreListed v (number_of c.args.dir.now) c.new-above.result lines (into_iter_items c.into_iter-link-iterator.result))
         (sym c.new-lines.ensures.items)
@@ -42,46 +42,37 @@ links-init g c = record {
 }
 
 pub list_link-requires-clause-volume : goal.list_link-requires-clause-volume
-list_link-requires-clause-volume g c =
-    let is = c.links.invariant.listed in in-use-kept g.D.Disk c.args.mft.now c.links.mft is.reads is.only c.requires.volume
+list_link-requires-clause-volume g c = in-use-kept c.links.invariant.listed.only c.requires.volume
 
 pub list_link-requires-clause-directory : goal.list_link-requires-clause-directory
 list_link-requires-clause-directory g c =
-    let is = c.links.invariant.listed in
-    told-kept g.D.Disk c.args.mft.now c.links.mft is.reads (λ volume. IsShownDirectory volume c.number.result) is.only
+    told-kept (λ volume. IsShownDirectory volume c.number.result) c.links.invariant.listed.only
     (λ told. subst (IsShownDirectory (view g.D.Disk c.args.mft.now)) (sym c.number.ensures) (c.requires.directory told).is_shown)
 
 pub list_link-requires-clause-above : goal.list_link-requires-clause-above
 list_link-requires-clause-above g c =
-    let is = c.links.invariant.listed in
-    told-kept g.D.Disk c.args.mft.now c.links.mft is.reads (λ volume. AreAbove volume c.links.above) is.only
-    (λ told. (is.found told).above_is)
+    let listed = c.links.invariant.listed in
+    told-kept (λ volume. AreAbove volume c.links.above) listed.only (λ told. (listed.is told).above_is)
 
 pub list_link-requires-clause-among : goal.list_link-requires-clause-among
 list_link-requires-clause-among g c =
-    let is = c.links.invariant.listed in
-    told-kept g.D.Disk c.args.mft.now c.links.mft is.reads (λ volume. Contains (directory_links volume c.number.result) c.in-Some.link) is.only
-    (λ told.
+    let so_far = c.links.invariant.listed in
+    told-kept (λ volume. Contains (directory_links volume c.number.result) c.in-Some.link) so_far.only (λ told.
     let v = view g.D.Disk c.args.mft.now in
     subst (λ d. Contains (directory_links v d) c.in-Some.link) (sym c.number.ensures)
     (list-among v (number_of c.args.dir.now) c.links.above c.links.lines.items c.in-Some.link (into_iter_items c.next.new.self)
-    (subst (AreListed v (number_of c.args.dir.now) c.links.above c.links.lines.items) c.in-Some.ensures.steps.0 (is.found told))))
+    (subst (AreListed v (number_of c.args.dir.now) c.links.above c.links.lines.items) c.in-Some.ensures.steps.0 (so_far.is told))))
 
 pub returns-in_err-line : goal.returns-in_err-line
 returns-in_err-line g c = record {
-  answered = as-residual g.D.Disk c.args.mft.now c.list_link.new.mft _ c.in_err-line.field-0.0 c.from_residual-in_err-line.result
-      c.from_residual-in_err-line.ensures.1
-      (answers-stop g.D.Disk _ _ _ _ _
-      (finds-after g.D.Disk c.args.mft.now c.links.mft c.list_link.new.mft _ _ _ _ c.links.invariant.listed c.in_err-line.ensures.found));
+  answered = rw (handed-on c.from_residual-in_err-line.result c.in_err-line.field-0.0 c.from_residual-in_err-line.ensures.1)
+      (tells (both c.links.invariant.listed c.in_err-line.ensures.found) refl (λ told is. says-failed _ c.in_err-line.field-0.0 is.1));
 }
 
 pub returns-in_err-add_line : goal.returns-in_err-add_line
 returns-in_err-add_line g c = record {
-  answered = as-residual g.D.Disk c.args.mft.now c.list_link.new.mft _ (stop.No no.Memory) c.from_residual-in_err-add_line.result
-      c.from_residual-in_err-add_line.ensures.1
-      (answers-stop g.D.Disk c.args.mft.now c.list_link.new.mft (λ volume (_ : ℕ). Unit {0}) _ (stop.No no.Memory)
-      (finds-short g.D.Disk c.args.mft.now c.list_link.new.mft _ (λ volume (_ : ℕ). Unit {0}) _
-      (finds-both g.D.Disk c.args.mft.now c.links.mft c.list_link.new.mft _ _ _ _ c.links.invariant.listed c.in_ok-line.ensures.found)));
+  answered = rw (handed-on c.from_residual-in_err-add_line.result (stop.No no.Memory) c.from_residual-in_err-add_line.ensures.1)
+      (tells (both c.links.invariant.listed c.in_ok-line.ensures.found) refl (λ told is. inr refl));
 }
 
 pub links-preserved : goal.links-preserved
@@ -89,22 +80,20 @@ links-preserved g c = record {
   goes = tt;
   ends = tt;
   counted = let was = c.links.invariant.counted in let short = ap length c.in-Some.ensures.steps.0 in omega (arith, c.in-Some.ensures.steps.1);
-  listed = finds-ok g.D.Disk c.args.mft.now c.list_link.new.mft _ _ _ _
-      (finds-both g.D.Disk c.args.mft.now c.links.mft c.list_link.new.mft _ _ _ _ c.links.invariant.listed c.in_ok-line.ensures.found)
-      (λ told both.
+  listed = tells (both c.links.invariant.listed c.in_ok-line.ensures.found) refl (λ told is.
       let v = view g.D.Disk c.args.mft.now in
       let dir = number_of c.args.dir.now in
       subst (λ lines. AreListed v dir c.list_link.new.above lines (into_iter_items c.next.new.self)) (sym c.in_ok-add_line.ensures)
       (list-goes v dir c.links.above c.list_link.new.above c.links.lines.items c.in-Some.link (into_iter_items c.next.new.self) c.in_ok-line.line
-      (subst (AreListed v dir c.links.above c.links.lines.items) c.in-Some.ensures.steps.0 both.0) both.1.0 both.1.1));
+      (subst (AreListed v dir c.links.above c.links.lines.items) c.in-Some.ensures.steps.0 is.0) is.1.0 is.1.1));
 }
 
 pub returns : goal.returns
 returns g c = record {
-  answered = answers-ok g.D.Disk c.args.mft.now c.links.mft _ _ _ _ c.links.invariant.listed (λ told is.
+  answered = tells c.links.invariant.listed refl (λ told is.
       let v = view g.D.Disk c.args.mft.now in
-      list-ends v (number_of c.args.dir.now) c.links.above c.links.lines.items
+      ap Ok (list-ends v (number_of c.args.dir.now) c.links.above c.links.lines.items
       (subst (AreListed v (number_of c.args.dir.now) c.links.above c.links.lines.items)
       (nil_from_length (into_iter_items c.links.link-iterator) (sym c.links.invariant.counted ∙ c.in-None.ensures.steps.0)) is)
-      ∙ sym c.from_vec.ensures);
+      ∙ sym c.from_vec.ensures));
 }

@@ -1,6 +1,6 @@
 use Rattle.std.proofs.Common.{◌≡◌, ℕ, Ok, length}
 use Rattle.std.specs.Vec.Iter.{into_iter_items, into_iter_len}
-use Rattle.tree_ops.specs.Finds.{Finds}
+use Rattle.tree_ops.specs.Answered.{Finds}
 use Rattle.tree_ops.specs.Nodes.{number_of}
 use Rattle.tree_ops.proofs.ListSteps.{AreListed}
 use Rattle.tree_ops.proofs.walk.list_shown.Given as goal

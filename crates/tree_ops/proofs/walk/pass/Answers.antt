@@ -1,14 +1,12 @@
-use Rattle.std.proofs.Common.{Contains, Ok, Err, sym, ap, subst, ◌∙◌}
+use Rattle.std.proofs.Common.{Contains, Ok, Err, refl, sym, ap, subst, ◌∙◌}
 use Rattle.mft_table.specs.Mft.{view}
 use Rattle.tree_model.specs.Paths.{passed}
-use Rattle.tree_model.specs.Reading.{directory_links, read}
-use Rattle.tree_model.specs.Tree.{shown_node}
-use Rattle.tree_ops.specs.Kinds.{kind_of}
+use Rattle.tree_model.specs.Reading.{directory_links}
 use Rattle.tree_ops.specs.Below.{kind_below}
 use Rattle.tree_ops.specs.Nodes.{IsFileHeld, number_of}
 use Rattle.tree_ops.specs.Walks.{IsShownDirectory, passed_kind}
-use Rattle.tree_ops.proofs.AnsweredLaws.{as-residual-of, in-use-kept, told-back, told-kept}
-use Rattle.tree_ops.proofs.FindsLaws.{answers-ok, answers-stop}
+use Rattle.tree_ops.proofs.AnsweredLaws.{says-failed}
+use Rattle.tree_ops.proofs.GivesLaws.{handed-on, in-use-kept, tells, told-back, told-kept}
 use Rattle.tree_ops.proofs.NodeLaws.{file-own}
 use Rattle.tree_ops.proofs.WalkLaws.{passed-held, passed-loaded, passed-steps, with_no}
 use Rattle.tree_ops.proofs.WalkSteps.{step-seen, step-unseen}
@@ -16,37 +14,36 @@ use Rattle.tree_ops.specs.declared.stop.Stop.TheVariants as stop
 use Rattle.tree_ops.proofs.walk.pass.Goals as goal
 
 pub load_below-requires-clause-volume : goal.load_below-requires-clause-volume
-load_below-requires-clause-volume g c = in-use-kept g.D.Disk c.args.mft.now c.seek.new.mft _ c.in_ok-link.ensures.answered.only c.requires.volume
+load_below-requires-clause-volume g c = in-use-kept c.in_ok-link.ensures.answered.only c.requires.volume
 
 pub load_below-requires-clause-directory : goal.load_below-requires-clause-directory
 load_below-requires-clause-directory g c =
-    told-kept g.D.Disk c.args.mft.now c.seek.new.mft _ (λ v. IsShownDirectory v c.number.result) c.in_ok-link.ensures.answered.only
+    told-kept (λ v. IsShownDirectory v c.number.result) c.in_ok-link.ensures.answered.only
     (λ told. subst (IsShownDirectory (view g.D.Disk c.args.mft.now)) (sym c.number.ensures) (c.requires.directory told).is_shown)
 
 pub load_below-requires-clause-link : goal.load_below-requires-clause-link
 load_below-requires-clause-link g c =
-    told-kept g.D.Disk c.args.mft.now c.seek.new.mft _ (λ v. Contains (directory_links v c.number.result) c.in_ok-link.link)
+    told-kept (λ v. Contains (directory_links v c.number.result) c.in_ok-link.link)
     c.in_ok-link.ensures.answered.only
     (λ told. subst (λ d. Contains (directory_links (view g.D.Disk c.args.mft.now) d) c.in_ok-link.link) (sym c.number.ensures)
     (c.in_ok-link.ensures.among told))
 
 pub returns-in_err-below-clause-answered : goal.returns-in_err-below-clause-answered
 returns-in_err-below-clause-answered g c =
-    as-residual-of g.D.Disk number_of c.args.mft.now c.load_below.new.mft _ c.in_err-below.field-0.0 c.from_residual-in_err-below.result
-    c.from_residual-in_err-below.ensures.1
+    rw (handed-on c.from_residual-in_err-below.result c.in_err-below.field-0.0 c.from_residual-in_err-below.ensures.1)
     (step-unseen g.D.Disk passed (λ link. passed_kind link.child) passed-steps (number_of c.args.dir.now) c.args.name.now c.args.mft.now c.seek.new.mft
     c.load_below.new.mft c.in_ok-link.link c.in_err-below.field-0.0 c.in_ok-link.ensures.answered
-    (answers-stop g.D.Disk _ _ _ _ _ c.in_err-below.ensures.found))
+    (tells c.in_err-below.ensures.found refl (λ told failed. says-failed _ c.in_err-below.field-0.0 failed)))
 
 pub returns-in_err-passed_below-clause-answered : goal.returns-in_err-passed_below-clause-answered
 returns-in_err-passed_below-clause-answered g c =
-    as-residual-of g.D.Disk number_of c.args.mft.now c.load_below.new.mft _ (stop.No c.in_err-passed_below.field-0.0)
-    c.from_residual-in_err-passed_below.result c.from_residual-in_err-passed_below.ensures.1
+    rw (handed-on c.from_residual-in_err-passed_below.result (stop.No c.in_err-passed_below.field-0.0)
+    c.from_residual-in_err-passed_below.ensures.1)
     (step-seen g.D.Disk passed (λ link. passed_kind link.child) passed-steps (number_of c.args.dir.now) c.args.name.now
     c.args.mft.now c.seek.new.mft c.load_below.new.mft c.in_ok-link.link (kind_below c.in_ok-below.below) (Err c.in_err-passed_below.field-0.0)
     (ap (with_no number_of) (sym c.in_err-passed_below.was ∙ c.passed_below.ensures) ∙ passed-loaded c.in_ok-link.link c.in_ok-below.below c.in_ok-below.ensures.number)
     c.in_ok-link.ensures.answered
-    (answers-ok g.D.Disk _ _ _ (λ v. kind_of (shown_node (read v) c.in_ok-link.link)) _ _ c.in_ok-below.ensures.found (λ told is. is.1.kind)))
+    (tells c.in_ok-below.ensures.found refl (λ told is. ap Ok is.1.kind)))
 
 pub returns-clause-answered : goal.returns-clause-answered
 returns-clause-answered g c =
@@ -54,15 +51,15 @@ returns-clause-answered g c =
     c.args.mft.now c.seek.new.mft c.load_below.new.mft c.in_ok-link.link (kind_below c.in_ok-below.below) (Ok (number_of c.in_ok-passed_below.field-0))
     (ap (with_no number_of) (sym c.in_ok-passed_below.was ∙ c.passed_below.ensures) ∙ passed-loaded c.in_ok-link.link c.in_ok-below.below c.in_ok-below.ensures.number)
     c.in_ok-link.ensures.answered
-    (answers-ok g.D.Disk _ _ _ (λ v. kind_of (shown_node (read v) c.in_ok-link.link)) _ _ c.in_ok-below.ensures.found (λ told is. is.1.kind))
+    (tells c.in_ok-below.ensures.found refl (λ told is. ap Ok is.1.kind))
 
 pub returns-clause-held : goal.returns-clause-held
 returns-clause-held g c = λ told.
     let inner = c.in_ok-passed_below.field-0 in
     let first = c.in_ok-link.ensures.answered in
-    told-back g.D.Disk c.args.mft.now c.seek.new.mft first.reads (λ v. IsFileHeld v (number_of inner) inner) first.only (λ told.
+    told-back (λ v. IsFileHeld v (number_of inner) inner) first.only (λ told.
     let v = view g.D.Disk c.seek.new.mft in
     file-own v c.in_ok-link.link.child inner
-    (passed-held (IsFileHeld v c.in_ok-link.link.child) c.in_ok-below.below inner (c.in_ok-below.ensures.found.found told).1.held
+    (passed-held (IsFileHeld v c.in_ok-link.link.child) c.in_ok-below.below inner (c.in_ok-below.ensures.found.is told).1.held
     (sym c.passed_below.ensures ∙ c.in_ok-passed_below.was)))
     told

@@ -2,11 +2,10 @@ use Rattle.std.proofs.Common.{◌≡◌, ◌∷◌, ◌+◌, List, ℕ, drop, ge
 use Rattle.std.proofs.lemmas.List.{at_drop_more, drop_all}
 use Rattle.ntfs_def.specs.declared.records.TheConstants.{ROOT}
 use Rattle.mft_table.specs.Mft.{view}
-use Rattle.tree_ops.proofs.AnsweredLaws.{as-residual-of, in-use-kept, told-kept}
+use Rattle.tree_ops.proofs.GivesLaws.{handed-on, in-use-kept, told-kept}
 use Rattle.tree_ops.proofs.KindLaws.{directory-file}
 use Rattle.tree_ops.proofs.PathSteps.{IsWalked, walk-begins, walk-ends, walk-enters, walk-stops}
 use Rattle.tree_ops.proofs.WalkLaws.{root-shown}
-use Rattle.tree_ops.specs.Nodes.{number_of}
 use Rattle.tree_ops.specs.Walks.{IsDirectoryHeld}
 use Rattle.tree_ops.proofs.walk.walk_down.Goals as goal
 
@@ -29,8 +28,7 @@ walked-next P rest k next inside is walked =
 pub returns-in_err-dir-2-clause-answered : goal.returns-in_err-dir-2-clause-answered
 returns-in_err-dir-2-clause-answered g c =
     let names = c.args.names.now in let k = c.names.name-index in let name = c.name-item.result in
-    as-residual-of g.D.Disk number_of c.args.mft.now c.pass.new.mft _ c.in_err-dir-2.field-0.0 c.from_residual-in_err-dir-2.result
-    c.from_residual-in_err-dir-2.ensures.1
+    rw (handed-on c.from_residual-in_err-dir-2.result c.in_err-dir-2.field-0.0 c.from_residual-in_err-dir-2.ensures.1)
     (walk-stops g.D.Disk names c.args.mft.now c.names.mft c.pass.new.mft c.names.dir name (drop (k + 1) names) c.in_err-dir-2.field-0.0
     (walked-next (IsWalked g.D.Disk c.args.mft.now c.names.mft names c.names.dir) names k name c.names-test.true c.name-item.is
     c.names.invariant)
@@ -45,13 +43,12 @@ names-preserved g c =
     c.in_ok-dir-2.ensures.answered c.in_ok-dir-2.ensures.held
 
 pub pass-requires-clause-volume : goal.pass-requires-clause-volume
-pass-requires-clause-volume g c =
-    let walked = c.names.invariant in in-use-kept g.D.Disk c.args.mft.now c.names.mft walked.reads walked.only c.requires.volume
+pass-requires-clause-volume g c = in-use-kept c.names.invariant.only c.requires.volume
 
 pub pass-requires-clause-directory : goal.pass-requires-clause-directory
 pass-requires-clause-directory g c =
     let walked = c.names.invariant in
-    told-kept g.D.Disk c.args.mft.now c.names.mft walked.reads (λ volume. IsDirectoryHeld volume c.names.dir) walked.only walked.held
+    told-kept (λ volume. IsDirectoryHeld volume c.names.dir) walked.only (λ told. (walked.is told).held)
 
 pub returns-clause-answered : goal.returns-clause-answered
 returns-clause-answered g c =
@@ -60,4 +57,4 @@ returns-clause-answered g c =
     (drop_all c.names.name-index c.args.names.now c.names-test.false) c.names.invariant)
 
 pub returns-clause-held : goal.returns-clause-held
-returns-clause-held g c = c.names.invariant.held
+returns-clause-held g c = λ told. (c.names.invariant.is told).held

@@ -6,16 +6,14 @@ use Rattle.mft_table.specs.Mft.{view}
 use Rattle.tree_model.specs.Tree.{is_dos}
 use Rattle.tree_model.specs.declared.tree.Link.{Link}
 use Rattle.tree_ops.specs.Above.{name_above}
-use Rattle.tree_ops.specs.Nodes.{IsFileHeld}
-use Rattle.tree_ops.proofs.FindsLaws.{finds-ok}
+use Rattle.tree_ops.proofs.GivesLaws.{tells}
 use Rattle.tree_ops.proofs.KindLaws.{above-more, none-known}
 use Rattle.tree_ops.proofs.OutlineLaws.{links-told}
 use Rattle.tree_ops.proofs.above.Above.learn.Goals as goal
 
 pub returns-in-Some : goal.returns-in-Some
 returns-in-Some g c = record {
-  found = finds-ok g.D.Disk c.args.mft.now c.load_file.new.mft (λ volume. IsFileHeld volume c.args.dir) _ c.in-Ok.file _
-      c.in-Ok.ensures.found (λ told is.
+  found = tells c.in-Ok.ensures.found refl (λ told is.
       let v = view g.D.Disk c.args.mft.now in
       let named : name_above v c.args.dir ≡ Some c.in-Some.link =
       ap (find (λ (link : Link). not (is_dos link))) (sym (c.in_ok-links_of.ensures ∙ links-told v c.args.dir c.in-Ok.file is (c.requires.volume told).sound)) ∙ sym c.in-Some.ensures in
@@ -27,8 +25,7 @@ returns-in-Some g c = record {
 
 pub returns : goal.returns
 returns g c = record {
-  found = finds-ok g.D.Disk c.args.mft.now c.load_file.new.mft (λ volume. IsFileHeld volume c.args.dir) _ c.in-Ok.file _
-      c.in-Ok.ensures.found (λ told is.
+  found = tells c.in-Ok.ensures.found refl (λ told is.
       let v = view g.D.Disk c.args.mft.now in
       let unnamed : name_above v c.args.dir ≡ None =
       ap (find (λ (link : Link). not (is_dos link))) (sym (c.in_ok-links_of.ensures ∙ links-told v c.args.dir c.in-Ok.file is (c.requires.volume told).sound)) ∙ sym c.in-None.ensures in
