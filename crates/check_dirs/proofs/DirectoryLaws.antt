@@ -1,5 +1,5 @@
 -- Names that are met one behind the other.
-use Rattle.std.proofs.Common.{◌≡◌, ◌+◌, ◌<◌, ℕ, Bool, true, false, List, [], ◌∷◌, ◌++◌, length, map, get_or, take, drop, ap, subst, sym, ◌∙◌, append-nil}
+use Rattle.std.proofs.Common.{◌≡◌, ◌+◌, ◌<◌, ℕ, Bool, true, false, List, [], ◌∷◌, ◌++◌, length, map, get_or, take, drop, ap, subst, sym, ◌∙◌}
 use Rattle.std.proofs.lemmas.List.{append_assoc, map-append, take-append-drop, take_more}
 use Rattle.ntfs_def.specs.FileName.{Link}
 use Rattle.volume_def.specs.SameItems.{SameItems}
@@ -9,10 +9,6 @@ use Rattle.check_dirs.specs.declared.seen.Seen.{Seen}
 use Rattle.check_dirs.specs.Directory.{MeetsLink, MeetsLinks}
 use Rattle.check_dirs.specs.Notes.{link_noted}
 use Rattle.check_dirs.specs.Seen.{IsMet, links_of_entries}
-
--- none
-pub meets-none : (seen : Seen) → MeetsLinks true seen seen []
-meets-none seen links met = subst (IsMet seen) (sym (append-nil links)) met
 
 -- one more
 pub meets-more : (old mid new : Seen) (met : List Link) (link : Link) → MeetsLinks true old mid met → MeetsLink true mid new link

@@ -12,7 +12,6 @@ pub mod NoteLaws
 pub mod NotedLaws
 pub mod UnaskedLaws
 pub mod SortedNotes
-pub mod FaultLaws
 pub mod DirectoryLaws
 pub mod DirectoryIndexLaws
 pub mod WantedLaws

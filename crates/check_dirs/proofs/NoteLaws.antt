@@ -1,13 +1,14 @@
 -- The names of parts, of a record and of a file, noted.
-use Rattle.std.proofs.Common.{◌≡◌, ◌<◌, ◌+◌, ◌%◌, ◌^◌, ◌==◌, ◌++◌, ℕ, true, cond, List, [], ◌∷◌, map, length, get_or, take, slice_get, Option, Some, None, IsSomeAnd, IsTrue, inl, inr, refl, sym, ap, subst, ◌∙◌, append_assoc, append-nil}
+use Rattle.std.proofs.Common.{◌≡◌, ◌<◌, ◌+◌, ◌%◌, ◌^◌, ◌==◌, ◌++◌, ℕ, suc, true, cond, List, [], ◌∷◌, map, length, get_or, take, drop, slice_get, Option, Some, None, IsSomeAnd, IsTrue, inl, inr, refl, sym, ap, subst, ◌∙◌, append_assoc, append-nil, arith}
 use Rattle.std.specs.Prelude.{unwrap_or}
 use Rattle.std.specs.List.{cons_option, filter_map, flat_map}
 use Rattle.std.specs.Option.{option_and_then, option_map, option_to_list}
 use Rattle.std.proofs.lemmas.Bool.{cases_Bool, eqb-true}
-use Rattle.std.proofs.lemmas.List.{map-append, take_more}
+use Rattle.std.proofs.lemmas.List.{length-drop, map-append, take_more}
 use Rattle.std.proofs.lemmas.List.Concat.{flat_map-append}
 use Rattle.std.proofs.lemmas.List.Elements.{All-append, All-cons, All-get_or, All-nil}
-use Rattle.std.proofs.lemmas.Option.{get_or_from_slice_get, slice_get-map, slice_get_within}
+use Rattle.std.proofs.lemmas.Option.{get_or_from_slice_get, slice_get-get_or, slice_get-map, slice_get_within}
+use Rattle.std.proofs.Math.Seq.{drop-cons}
 use Rattle.vol_bytes.specs.Field.{u64_at}
 use Rattle.ntfs_def.specs.declared.kinds.TheConstants.{FILE_NAME}
 use Rattle.ntfs_def.specs.Attribute.{Attribute, Body, NonResident, Resident, attributes, value_of}
@@ -129,6 +130,20 @@ module _ (view : VolumeView) (file holder place : ℕ) (a : Attribute) (inside :
         (ap (λ b. filter_map name_of_part (cond b (part_of holder a ∷ []) [])) f)
         added
   ]
+
+-- The next attribute of a record, and those behind it.
+module _ (xs : List Attribute) (place : ℕ) (inside : place < length xs) where
+  pub next-attribute : (a : Attribute) (behind : List Attribute) → drop place xs ≡ a ∷ behind
+      → (slice_get xs place ≡ Some a) × (drop (place + 1) xs ≡ behind)
+  next-attribute a behind is =
+      let both = sym (drop-cons xs place a inside) ∙ is in
+      let here : get_or xs place a ≡ a = cc in
+      let rest : drop (suc place) xs ≡ behind = cc in
+      let next : suc place ≡ place + 1 = omega arith in
+      (slice_get-get_or xs place a inside ∙ ap (λ x. Some x) here, subst (λ k. drop k xs ≡ behind) next rest)
+
+  pub next-there : drop place xs ≡ [] → ⊥
+  next-there none = let gone = ap length none in let left = length-drop place xs in omega arith
 
 -- The attributes of a record, one more.
 module _ (view : VolumeView) (file : ℕ) (held : Held) (is : IsHeldRight view held) where

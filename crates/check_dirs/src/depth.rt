@@ -9,6 +9,10 @@ use index_node::NodeView;
 use ntfs_def::NodeForm;
 
 /// How many nodes stand on the way from `child` down to the first leaf, if they are at most `level`.
+///
+/// # Errors
+///
+/// `Device` where the disk failed, and `Memory` where it did not.
 pub fn depth_below<R: IndexRecords>(
     records: &mut R,
     form: NodeForm,

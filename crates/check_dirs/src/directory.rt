@@ -15,8 +15,10 @@ ghost use Rattle.check_dirs.specs.Records.{CountsNo};
 ghost use Rattle.check_dirs.specs.Seen.{HasMarks, links_of_entries};
 ghost use Rattle.check_dirs.specs.Volume.{IsStoredCase};
 
+use crate::notes::NameNote;
+use crate::rules::COLLATION_FILE_NAME;
 use crate::volume_index::index_entries;
-use crate::{CheckNo, NameNote, Seen};
+use crate::{CheckNo, Seen};
 use attr_store::find_index;
 use attr_view::RecordView;
 use collation::{Collation, FileNameOrder};
@@ -149,7 +151,15 @@ pub fn check_directory<D: Disk>(
     let Some(index) = find_index(file, NAMES) else {
         return Ok(false);
     };
-    let found = index_entries(alloc, mft, file, index, NodeForm::Names, 1, order)?;
+    let found = index_entries(
+        alloc,
+        mft,
+        file,
+        index,
+        NodeForm::Names,
+        COLLATION_FILE_NAME,
+        order,
+    )?;
     let Some(entries) = found else {
         return Ok(false);
     };

@@ -20,13 +20,14 @@ ghost use Rattle.check_dirs.specs.OrderedIndex.{key_rule};
 ghost use Rattle.check_dirs.specs.Records.{CountsNo};
 ghost use Rattle.check_dirs.specs.Volume.{IsStoredCase};
 
+use crate::CheckNo;
 use crate::directory::check_directory;
-use crate::noting::is_name_key;
+use crate::notes::Notes;
+use crate::rules::{COLLATION_NTOFS_SECURITY_HASH, COLLATION_NTOFS_ULONG, COLLATION_NTOFS_ULONGS};
 use crate::volume_index::index_entries;
-use crate::{CheckNo, Notes};
 use attr_store::find_index;
 use attr_view::AttrView;
-use collation::{Collation, FileNameOrder, HashOrder, IdOrder, WordsOrder};
+use collation::{Collation, FileNameOrder, HashOrder, IdOrder, WordsOrder, is_name_key};
 use file_record::{BaseFile, FileParts};
 use mft_table::Mft;
 use ntfs_def::NodeForm;
@@ -112,8 +113,22 @@ fn check_secured<D: Disk>(
     if file.number() != SECURE {
         return Ok(true);
     }
-    let by_ids = check_view(alloc, mft, file, SECURITY_IDS, 0x10, &IdOrder)?;
-    let by_hashes = check_view(alloc, mft, file, SECURITY_HASHES, 0x12, &HashOrder)?;
+    let by_ids = check_view(
+        alloc,
+        mft,
+        file,
+        SECURITY_IDS,
+        COLLATION_NTOFS_ULONG,
+        &IdOrder,
+    )?;
+    let by_hashes = check_view(
+        alloc,
+        mft,
+        file,
+        SECURITY_HASHES,
+        COLLATION_NTOFS_SECURITY_HASH,
+        &HashOrder,
+    )?;
     Ok(by_ids && by_hashes)
 }
 
@@ -188,7 +203,7 @@ fn check_extended<D: Disk>(
     if !stands_in_extend(file, letters) {
         return Ok(true);
     }
-    check_view(alloc, mft, file, name, 0x13, &WordsOrder)
+    check_view(alloc, mft, file, name, COLLATION_NTOFS_ULONGS, &WordsOrder)
 }
 
 // Checks the indexes of reparse points and of object ids, of the file that has them.

@@ -136,20 +136,26 @@ fn gather_node<R: IndexRecords>(
     ensures faults { MatchResult result (λ _. R.faults records.new ≡ R.faults records.old)
         (CountsNo (R.faults records.old) (R.faults records.new)) }
 {
-    for i in 0..node.entries() {
-        let good = gather_tree(alloc, records, node.form(), node.child(i), depth, met, out)?;
+    let mut place = node.first_place();
+    'places: while place.has_key() {
+        let good = gather_tree(alloc, records, node.form(), place.child(), depth, met, out)?;
         if !good {
             return Ok(false);
         }
-        keep(alloc, node.entry(i), out)?;
+        keep(alloc, place.entry(), out)?;
+        place.advance();
     }
-    let last = node.child(node.entries());
+    let last = place.child();
     let good = gather_tree(alloc, records, node.form(), last, depth, met, out)?;
     Ok(good)
 }
 
 /// The entries of what stands under the node of a root, in order; `None` where no index stands there, of at most
 /// sixteen nodes on a way, with all its leaves at one depth and each record once.
+///
+/// # Errors
+///
+/// `Device` where the disk failed, and `Memory` where it did not.
 pub fn gather<R: IndexRecords>(
     alloc: Global,
     records: &mut R,

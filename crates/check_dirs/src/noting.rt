@@ -3,7 +3,6 @@ ghost use Rattle.std.specs.Prelude.{◌≡◌, ◌+◌, ◌*◌, ◌<◌, ◌≤
 ghost use Rattle.std.specs.List.{list_any};
 ghost use Rattle.std.specs.Option.{option_to_list};
 ghost use Rattle.ntfs_def.specs.declared.records.TheConstants.{EXTEND, SECURE};
-ghost use Rattle.ntfs_def.specs.FileName.{is_name_key};
 ghost use Rattle.ntfs_def.specs.Record.{reference_in};
 ghost use Rattle.volume_def.specs.Readable.{WhereReadable};
 ghost use Rattle.volume_def.specs.View.{VolumeView};
@@ -14,8 +13,10 @@ ghost use Rattle.check_dirs.specs.Notes.{AreNotes};
 ghost use Rattle.check_dirs.specs.Noted.{IsHeldRight, IsLoaded, NotesBelow, NotesNames, SortsNotes, note_in};
 ghost use Rattle.check_dirs.specs.Records.{CountsNo};
 
-use crate::{CheckNo, NameNote, Notes};
+use crate::CheckNo;
+use crate::notes::{NameNote, Notes};
 use attr_view::{AttrView, RecordHeader};
+use collation::is_name_key;
 use file_record::{BaseFile, FileParts, Held, load_base};
 use mft_table::Mft;
 use ntfs_def::kinds::FILE_NAME;
@@ -29,13 +30,6 @@ use vol_disk::Disk;
 struct Noting {
     names: Vec<NameNote>,
     wanted: Vec<u64>,
-}
-
-/// Whether a value is a whole name.
-pub fn is_name_key(key: &[u8]) -> bool
-    ensures { result ≡ is_name_key key.now }
-{
-    key.len() >= 0x42 && key[0x40] >= 1 && key.len() >= 0x42 + 2 * key[0x40] as usize
 }
 
 // Notes an attribute of a record, at its place, where it is a name.
@@ -73,9 +67,11 @@ fn note_record(held: &Held, file: u64, names: &mut Vec<NameNote>) -> Result<(), 
     ensures noted { OnOk result ((view : VolumeView) → IsHeldRight view held.now
         → NotesNames view (reference_in file) (parts_of held.now) names.old.items names.new.items) }
 {
-    let shown = held.view();
+    let mut attributes = held.view().attributes();
     for place in 0..held.count() {
-        let attribute = shown.attr(place);
+        let Some(attribute) = attributes.next() else {
+            return Ok(());
+        };
         note_attribute(&attribute, file, held.number(), place, names)?;
     }
     Ok(())

@@ -1,5 +1,5 @@
 //! The entries of an index by themselves: whether their keys are valid, and ascend.
-ghost use Rattle.std.specs.Prelude.{◌≡◌, ◌↔◌, IsTrue, length};
+ghost use Rattle.std.specs.Prelude.{◌≡◌, ◌↔◌, IsTrue};
 ghost use Rattle.vol_bytes.specs.Field.{u64_at};
 ghost use Rattle.ntfs_def.specs.Node.{item_in};
 ghost use Rattle.index_tree.specs.Walk.{items_in};

@@ -1,5 +1,5 @@
 //! The entries of a directory, compared with the names that stand in it, which are met one by one.
-ghost use Rattle.std.specs.Prelude.{◌≡◌, ◌↔◌, ◌++◌, ◌∷◌, [], ◌≢◌, List, All, IfErr, IfOk, IsFalse, IsTrue};
+ghost use Rattle.std.specs.Prelude.{◌≡◌, ◌↔◌, ◌++◌, ◌∷◌, [], List, All, IfErr, IfOk, IsFalse, IsTrue};
 ghost use Rattle.ntfs_def.specs.FileName.{Link, is_name_key, key_units, link_of};
 ghost use Rattle.ntfs_def.specs.KeyOrder.{fold_of};
 ghost use Rattle.ntfs_def.specs.Node.{item_in};

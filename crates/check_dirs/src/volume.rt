@@ -15,9 +15,10 @@ ghost use Rattle.check_dirs.specs.Records.{CountsNo};
 ghost use Rattle.check_dirs.specs.Refusals.{IsIndexRefusal};
 ghost use Rattle.check_dirs.specs.Volume.{IsStoredCase};
 
+use crate::CheckNo;
 use crate::file::check_file;
+use crate::notes::Notes;
 use crate::noting::note_files;
-use crate::{CheckNo, Notes};
 use collation::FileNameOrder;
 use file_record::load_base;
 use mft_table::{Mft, MountNo, Mounted};

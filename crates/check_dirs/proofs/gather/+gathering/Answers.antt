@@ -1,10 +1,11 @@
-use Rattle.std.proofs.Common.{◌≡◌, suc, ◌+◌, ◌-◌, ◌<◌, ◌==◌, None, Some, length, ap, sym, ◌∙◌, subst, arith, refl}
+use Rattle.std.proofs.Common.{◌≡◌, suc, ◌-◌, ◌<◌, ◌==◌, None, Some, length, sym, ◌∙◌, subst, arith, refl}
 use Rattle.ntfs_def.specs.IndexTree.{Each}
-use Rattle.ntfs_def.specs.Node.{IsOwnEntry, Node, child_from}
-use Rattle.index_node.specs.View.{bytes_of, form_of_view, node_of_view}
+use Rattle.ntfs_def.specs.Node.{IsOwnEntry, Node, child_from, item_in}
+use Rattle.index_node.specs.View.{bytes_of, form_of_view, node_of_view, number_of, view_of}
 use Rattle.index_tree.proofs.OwnEntries.{one_own}
+use Rattle.index_tree.proofs.PlaceLaws.{child_in, item_in_node, less_in, more_in}
 use Rattle.std.specs.Prelude.{IsSome}
-use Rattle.check_dirs.specs.Gathered.{AreFew, LacksTree, TellsNode, TellsTree}
+use Rattle.check_dirs.specs.Gathered.{AreFew, TellsNode, TellsTree}
 use Rattle.check_dirs.specs.Records.{short_nodes}
 use Rattle.check_dirs.proofs.GatherLaws.{GathersFront, front_more, front_start, gathers_tree, lacks_bare, lacks_low, lacks_met, lacks_place, lacks_tree, own_more, tells_all, tells_leaf, tells_number}
 use Rattle.check_dirs.proofs.MetLaws.{few_met, more_met, some_met}
@@ -75,51 +76,63 @@ gather_record-returns-clause-tells g t c r e =
     (subst (λ k. TellsNode c.in_ok-good.good (short_nodes k r) (c.args.depth - 1) n c.meet.new.self met old new) c.in-Ok.ensures.form
     (c.in_ok-good.ensures.tells r (c.fetch.ensures.records ∙ e)))))
 
-pub gather_node-loop-i-init : goal.gather_node-loop-i-init
-gather_node-loop-i-init g t c = record {
-  front = λ r e. front_start (short_nodes (form_of_view c.args.node.now) r) c.args.depth (node_of_view c.args.node.now) c.args.met.now
-      c.args.out.now.items;
-  own = λ h. h;
-  met = λ r e are. are;
-  records = refl;
-  ready = c.requires;
-  only_reads = g.met.R.IndexRecords.only_reads_itself c.args.records.now;
-  fetched = omega arith;
-  faults = refl;
-}
+pub gather_node-places-init : goal.gather_node-places-init
+gather_node-places-init g t c =
+    let node = c.args.node.now in
+    let first = sym c.first_place-place.ensures.number in
+    record {
+      view = c.first_place-place.ensures.view;
+      front = λ r e.
+          let nodes = short_nodes (form_of_view node) r in
+          let n : Node = node_of_view node in
+          let out = c.args.out.now.items in
+          subst (λ k. GathersFront nodes c.args.depth n k c.args.met.now c.args.met.now out out) first
+          (front_start nodes c.args.depth n c.args.met.now out);
+      own = λ h. h;
+      met = λ r e are. are;
+      records = refl;
+      ready = c.requires;
+      only_reads = g.met.R.IndexRecords.only_reads_itself c.args.records.now;
+      fetched = omega arith;
+      faults = refl;
+    }
 
-pub gather_node-loop-i-preserved : goal.gather_node-loop-i-preserved
-gather_node-loop-i-preserved g t c =
+pub gather_node-places-preserved : goal.gather_node-places-preserved
+gather_node-places-preserved g t c =
     let node = c.args.node.now in
     let n : Node = node_of_view node in
-    let i = c.loop-i.i in
-    let so_far = c.loop-i.invariant in
+    let i = number_of c.places.place in
+    let so_far = c.places.invariant in
     let below = c.in_ok-good.ensures in
-    let next : suc i ≡ i + 1 = omega arith in
-    let within : i < length n.entries = omega (arith, c.loop-i-test.true, c.entries-i-end.ensures) in
+    let next : suc i ≡ number_of c.advance.new.self = omega (arith, c.advance.ensures.number) in
+    let within : i < length n.entries = less_in _ _ so_far.view i (c.has_key.ensures.inside c.places-test.true) in
+    let child = child_in _ _ so_far.view i c.child.result c.child.ensures in
+    let item = item_in_node _ _ so_far.view i (item_in c.entry.result.now) c.entry.ensures.item in
     let met = c.gather_tree.new.met in
-    let old = c.loop-i.out.items in
+    let old = c.places.out.items in
     let mid = c.gather_tree.new.out.items in
     let front = c.args.out.now.items in
     record {
+      view = c.advance.ensures.view ∙ so_far.view;
       front = λ r e.
           let nodes = short_nodes (form_of_view node) r in
-          let there = gathers_tree c.in_ok-good.good nodes c.args.depth (child_from n.entries n.last i) c.loop-i.met met old mid
+          let there = gathers_tree c.in_ok-good.good nodes c.args.depth (child_from n.entries n.last i) c.places.met met old mid
           c.if-not-good.false
-          (subst (λ x. TellsTree c.in_ok-good.good nodes c.args.depth x c.loop-i.met met old mid) c.child.ensures
-          (subst (λ k. TellsTree c.in_ok-good.good (short_nodes k r) c.args.depth c.child.result c.loop-i.met met old mid) c.form.ensures
+          (subst (λ x. TellsTree c.in_ok-good.good nodes c.args.depth x c.places.met met old mid) child
+          (subst (λ k. TellsTree c.in_ok-good.good (short_nodes k r) c.args.depth c.child.result c.places.met met old mid) c.form.ensures
           (below.tells r (so_far.records ∙ e)))) in
           subst (λ j. GathersFront nodes c.args.depth n j c.args.met.now met front c.keep.new.out.items) next
-          (front_more nodes c.args.depth n c.args.met.now front i c.loop-i.met old (so_far.front r e) met mid c.keep.new.out.items
-          c.entry.result.now within there c.entry.ensures.item c.in_ok-keep.ensures.kept);
+          (front_more nodes c.args.depth n c.args.met.now front i c.places.met old (so_far.front r e) met mid c.keep.new.out.items
+          c.entry.result.now within there item c.in_ok-keep.ensures.kept);
       own = λ h.
           own_more (IsOwnEntry (form_of_view node)) mid c.keep.new.out.items c.entry.result.now c.in_ok-keep.ensures.kept
           (subst (λ k. Each (IsOwnEntry k) old → Each (IsOwnEntry k) mid) c.form.ensures below.own (so_far.own h))
-          (one_own (form_of_view node) _ c.entry.result.now c.entry.ensures.own);
+          (subst (λ v. IsOwnEntry (form_of_view v) c.entry.result.now) so_far.view
+          (one_own (form_of_view (view_of c.places.place)) _ c.entry.result.now c.entry.ensures.own));
       met = λ r e are. below.met r (so_far.records ∙ e) c.if-not-good.false (so_far.met r e are);
       records = c.gather_tree.ensures.records ∙ so_far.records;
       ready = c.gather_tree.ensures.ready;
-      only_reads = g.met.R.IndexRecords.only_reads_on c.args.records.now c.loop-i.records c.gather_tree.new.records so_far.only_reads
+      only_reads = g.met.R.IndexRecords.only_reads_on c.args.records.now c.places.records c.gather_tree.new.records so_far.only_reads
           c.gather_tree.ensures.only_reads;
       fetched = (let a = so_far.fetched in let b = c.gather_tree.ensures.fetched in omega arith);
       faults = below.faults ∙ so_far.faults;
@@ -129,36 +142,35 @@ pub gather_node-returns-then-not-good-clause-tells : goal.gather_node-returns-th
 gather_node-returns-then-not-good-clause-tells g t c r e =
     let node = c.args.node.now in
     let n : Node = node_of_view node in
-    let i = c.loop-i.i in
-    let so_far = c.loop-i.invariant in
+    let i = number_of c.places.place in
+    let so_far = c.places.invariant in
     let nodes = short_nodes (form_of_view node) r in
+    let child = child_in _ _ so_far.view i c.child.result c.child.ensures in
     let met = c.gather_tree.new.met in
-    let old = c.loop-i.out.items in
+    let old = c.places.out.items in
     let mid = c.gather_tree.new.out.items in
-    lacks_place nodes c.args.depth n c.args.met.now c.args.out.now.items i c.loop-i.met old (so_far.front r e)
-    (lacks_tree c.in_ok-good.good nodes c.args.depth (child_from n.entries n.last i) c.loop-i.met met old mid c.if-not-good.true
-    (subst (λ x. TellsTree c.in_ok-good.good nodes c.args.depth x c.loop-i.met met old mid) c.child.ensures
-    (subst (λ k. TellsTree c.in_ok-good.good (short_nodes k r) c.args.depth c.child.result c.loop-i.met met old mid) c.form.ensures
+    lacks_place nodes c.args.depth n c.args.met.now c.args.out.now.items i c.places.met old (so_far.front r e)
+    (lacks_tree c.in_ok-good.good nodes c.args.depth (child_from n.entries n.last i) c.places.met met old mid c.if-not-good.true
+    (subst (λ x. TellsTree c.in_ok-good.good nodes c.args.depth x c.places.met met old mid) child
+    (subst (λ k. TellsTree c.in_ok-good.good (short_nodes k r) c.args.depth c.child.result c.places.met met old mid) c.form.ensures
     (c.in_ok-good.ensures.tells r (so_far.records ∙ e)))))
 
 pub gather_node-returns-clause-tells : goal.gather_node-returns-clause-tells
 gather_node-returns-clause-tells g t c r e =
     let node = c.args.node.now in
     let n : Node = node_of_view node in
-    let so_far = c.loop-i.invariant in
+    let i = number_of c.places.place in
+    let so_far = c.places.invariant in
     let nodes = short_nodes (form_of_view node) r in
-    let all : c.entries.result ≡ c.loop-i.i =
-    omega (arith, c.loop-i-test.false, c.entries.ensures, c.entries-i-end.ensures, c.loop-i.auto.i-end) in
-    let end : c.loop-i.i ≡ length n.entries = omega (arith, all, c.entries.ensures) in
-    let child : c.child-last.result ≡ child_from n.entries n.last c.loop-i.i =
-    c.child-last.ensures ∙ ap (child_from n.entries n.last) all in
+    let end : i ≡ length n.entries = more_in _ _ so_far.view i (c.has_key.ensures.last c.places-test.false) in
+    let child = child_in _ _ so_far.view i c.child-last.result c.child-last.ensures in
     let good = c.in_ok-good-2.good in
     let met = c.gather_tree-2.new.met in
-    let old = c.loop-i.out.items in
+    let old = c.places.out.items in
     let new = c.gather_tree-2.new.out.items in
-    tells_all nodes c.args.depth n c.args.met.now c.args.out.now.items c.loop-i.i c.loop-i.met old (so_far.front r e) good met new end
-    (subst (λ x. TellsTree good nodes c.args.depth x c.loop-i.met met old new) child
-    (subst (λ k. TellsTree good (short_nodes k r) c.args.depth c.child-last.result c.loop-i.met met old new) c.form-2.ensures
+    tells_all nodes c.args.depth n c.args.met.now c.args.out.now.items i c.places.met old (so_far.front r e) good met new end
+    (subst (λ x. TellsTree good nodes c.args.depth x c.places.met met old new) child
+    (subst (λ k. TellsTree good (short_nodes k r) c.args.depth c.child-last.result c.places.met met old new) c.form-2.ensures
     (c.in_ok-good-2.ensures.tells r (so_far.records ∙ e))))
 
 pub gather_tree-returns-in_default-clause-few : goal.gather_tree-returns-in_default-clause-few
@@ -217,30 +229,30 @@ gather_record-returns-clause-met g t c r e good are =
 
 pub gather_node-returns-in_err-good-clause-few : goal.gather_node-returns-in_err-good-clause-few
 gather_node-returns-in_err-good-clause-few g t c r e are =
-    let so_far = c.loop-i.invariant in
+    let so_far = c.places.invariant in
     c.gather_tree.ensures.few r (so_far.records ∙ e) (so_far.met r e are)
 
 pub gather_node-returns-then-not-good-clause-few : goal.gather_node-returns-then-not-good-clause-few
 gather_node-returns-then-not-good-clause-few g t c r e are =
-    let so_far = c.loop-i.invariant in
+    let so_far = c.places.invariant in
     c.gather_tree.ensures.few r (so_far.records ∙ e) (so_far.met r e are)
 
 pub gather_node-returns-in_err-keep-clause-few : goal.gather_node-returns-in_err-keep-clause-few
 gather_node-returns-in_err-keep-clause-few g t c r e are =
-    let so_far = c.loop-i.invariant in
+    let so_far = c.places.invariant in
     c.gather_tree.ensures.few r (so_far.records ∙ e) (so_far.met r e are)
 
 pub gather_node-returns-in_err-good-2-clause-few : goal.gather_node-returns-in_err-good-2-clause-few
 gather_node-returns-in_err-good-2-clause-few g t c r e are =
-    let so_far = c.loop-i.invariant in
+    let so_far = c.places.invariant in
     c.gather_tree-2.ensures.few r (so_far.records ∙ e) (so_far.met r e are)
 
 pub gather_node-returns-clause-few : goal.gather_node-returns-clause-few
 gather_node-returns-clause-few g t c r e are =
-    let so_far = c.loop-i.invariant in
+    let so_far = c.places.invariant in
     c.gather_tree-2.ensures.few r (so_far.records ∙ e) (so_far.met r e are)
 
 pub gather_node-returns-clause-met : goal.gather_node-returns-clause-met
 gather_node-returns-clause-met g t c r e good are =
-    let so_far = c.loop-i.invariant in
+    let so_far = c.places.invariant in
     c.in_ok-good-2.ensures.met r (so_far.records ∙ e) good (so_far.met r e are)
