@@ -15,7 +15,7 @@ pub enum ScriptEnd {
     Device,
     /// Memory ran out.
     Memory,
-    /// The script was too long.
+    /// The script has more than 2^30 bytes.
     TooMuch,
 }
 
