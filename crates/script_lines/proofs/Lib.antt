@@ -1,5 +1,6 @@
 pub mod KeptLaws
 pub mod TextLaws
 pub mod ByteLaws
+pub mod Part
 pub mod LineLaws
 pub mod ReadingLaws

@@ -5,7 +5,7 @@ use Rattle.script_lines.specs.declared.reader.Next.TheVariants as next
 use Rattle.script_lines.specs.declared.reader.Byte.TheVariants as byte
 use Rattle.script_lines.specs.Text.{kept}
 use Rattle.script_lines.proofs.KeptLaws.{kept-push, kept-none, kept-nil}
-use Rattle.script_lines.specs.Part.{Part}
+use Rattle.script_lines.proofs.Part.{Part}
 use Rattle.script_lines.specs.Bytes.{NextByte}
 use Rattle.script_lines.specs.Coming.{NextLine}
 use Rattle.script_lines.proofs.TextLaws.{IsPiece-push}

@@ -1,5 +1,4 @@
 pub mod Text
 pub mod Bytes
 pub mod Coming
-pub mod Part
 pub mod Reading

@@ -4,6 +4,7 @@ ghost use Rattle.vol_disk.specs.Count.{CountsFault};
 ghost use Rattle.vol_disk.specs.Stream.{Gives};
 ghost use Rattle.script_lines.specs.Text.{is_command, kept};
 
+use std::alloc::AllocError;
 use vol_disk::{Failed, Source};
 
 /// The most bytes of a script.
@@ -85,10 +86,9 @@ impl LineReader {
         ensures kept { OnErr result (S.left source.new ≡ S.left source.old) }
         ensures faults { CountsFault result (S.faults source.old) (S.faults source.new) }
     {
+        // A failure may leave anything in the buffer, of which `at` and `end` still show nothing.
         let room = MOST_BYTES + 1 - self.consumed;
-        let mut piece = [0u8; PIECE];
-        let len = read_some(source, &mut piece, room)?;
-        self.buffer = piece;
+        let len = read_some(source, &mut self.buffer, room)?;
         self.at = 0;
         self.end = len;
         Ok(())
@@ -145,24 +145,19 @@ impl LineReader {
             return Next::End;
         }
         'bytes: loop {
-            match self.next_byte(source) {
-                Byte::Is(byte) => {
-                    if byte == NEWLINE {
-                        return Next::Line;
-                    }
-                    if !keep(line, byte) {
-                        return Next::Memory;
-                    }
-                }
+            let byte = match self.next_byte(source) {
+                Byte::Is(NEWLINE) => return Next::Line,
+                Byte::Is(byte) => byte,
+                Byte::End if is_empty(line) => return Next::End,
                 Byte::End => {
-                    if is_empty(line) {
-                        return Next::End;
-                    }
                     self.ended = true;
                     return Next::Line;
                 }
                 Byte::Failed => return Next::Failed,
                 Byte::TooMuch => return Next::TooMuch,
+            };
+            if keep(line, byte).is_err() {
+                return Next::Memory;
             }
         }
     }
@@ -177,11 +172,8 @@ impl LineReader {
     {
         'lines: loop {
             match self.next_line(source, line) {
-                Next::Line => {
-                    if is_command(line) {
-                        return Next::Line;
-                    }
-                }
+                Next::Line if is_command(line) => return Next::Line,
+                Next::Line => {}
                 Next::End => return Next::End,
                 Next::Failed => return Next::Failed,
                 Next::TooMuch => return Next::TooMuch,
@@ -208,20 +200,18 @@ fn is_empty(line: &[u8]) -> bool
     line.is_empty()
 }
 
-// Keeps a byte of a line, unless enough is kept of it. False where there is no memory.
-fn keep(line: &mut Vec<u8>, byte: u8) -> bool
+// Keeps a byte of a line, unless enough is kept of it.
+fn keep(line: &mut Vec<u8>, byte: u8) -> Result<(), AllocError>
     requires { vec_len line.old ≤ 70001 }
-    ensures kept { result ≡ true → line.new.items ≡ kept (line.old.items ++ byte ∷ []) }
+    ensures kept { OnOk result (line.new.items ≡ kept (line.old.items ++ byte ∷ [])) }
     ensures short { vec_len line.new ≤ 70001 }
     ensures grew { vec_len line.new ≤ vec_len line.old + 1 }
 {
     if line.len() >= KEPT {
-        return true;
+        return Ok(());
     }
-    match line.push(byte) {
-        Ok(()) => true,
-        Err(_) => false,
-    }
+    line.push(byte)?;
+    Ok(())
 }
 
 // Reads up to so many bytes.

@@ -1,5 +1,3 @@
-ghost use Rattle.std.specs.Prelude.{◌≡◌};
-
 use crate::{LineReader, Next};
 use std::alloc::{AllocError, Global};
 use vol_disk::{Failed, MemSource, Source};

@@ -3,8 +3,8 @@ use Rattle.script_lines.specs.Text.{is_command}
 use Rattle.script_lines.proofs.ReadingLaws.{asks_more, asks_nothing, comes_end, comes_failed, comes_line, comes_most, first_lines}
 use Rattle.script_lines.proofs.reader.LineReader.next_command.Goals as goal
 
-pub returns-then-is_command-clause-next : goal.returns-then-is_command-clause-next
-returns-then-is_command-clause-next g c text lines h =
+pub returns-in-Line-clause-next : goal.returns-in-Line-clause-next
+returns-in-Line-clause-next g c text lines h =
     asks_more g.S.Source text _ lines _ _
     (comes_line g.S.Source text _ lines c.lines.self c.next_line.new.self c.lines.source c.next_line.new.source (c.lines.invariant.read text lines h)
     (record { goes_on = c.in-Line.ensures.next; ended = c.in-Line.ensures.ended; left = c.in-Line.ensures.left }))

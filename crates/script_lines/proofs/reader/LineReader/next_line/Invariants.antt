@@ -1,6 +1,6 @@
 use Rattle.std.proofs.Common.{◌≡◌, ◌-◌, ◌+◌, ◌≤◌, ◌^◌, ℕ, List, Some, false, vec_len}
 use Rattle.script_lines.specs.Coming.{coming}
-use Rattle.script_lines.specs.Part.{Part}
+use Rattle.script_lines.proofs.Part.{Part}
 use Rattle.script_lines.proofs.reader.LineReader.next_line.Given as goal
 
 abbrev pub invariant-bytes : goal.invariant-bytes
