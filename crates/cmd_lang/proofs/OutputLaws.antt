@@ -1,7 +1,6 @@
 -- Texts behind one another.
-use Rattle.std.proofs.Common.{◌≡◌, ℕ, zero, suc, ◌+◌, ◌<◌, ◌≤◌, List, [], ◌∷◌, ◌++◌, length, take, drop, get_or, Option, Some, None, Result, Ok, Err, refl, sym, ap, ◌∙◌, subst, arith, append-nil, append_assoc, take-append-drop}
+use Rattle.std.proofs.Common.{◌≡◌, ℕ, zero, suc, ◌+◌, ◌<◌, List, [], ◌∷◌, ◌++◌, length, take, drop, get_or, Option, Some, None, Result, Ok, Err, refl, sym, ap, ◌∙◌, subst, arith, append-nil, append_assoc, take-append-drop}
 use Rattle.std.specs.Prelude.{IsErr, OnErr, OnOk, flat_map}
-use Rattle.std.proofs.lemmas.List.{drop_all}
 use Rattle.vol_disk.specs.Count.{CountsFault, Rose}
 use Rattle.vol_disk.specs.declared.Failed.{Failed}
 use Rattle.vol_disk.specs.Stream.{IsAppended, IsAppendedPart}
@@ -85,14 +84,6 @@ prints_part a b s r empty p =
     let whole : s ≡ p.taken ++ p.left = ap (λ w. w ++ s) (sym empty) ∙ p.parted in
     (length p.taken, subst (λ w. IsAppended a.got w b.got) (sym (ap (take (length p.taken)) whole ∙ take_front p.taken p.left)) p.got)
 
--- from an empty buffer to an empty one, all of it was
-pub prints_all : {T E : Type 0} (a b : Output) (s : List ℕ) (u : T) → a.held ≡ [] → b.held ≡ [] → Prints {E = E} a b s (Ok u)
-    → IsAppended a.got s b.got
-prints_all a b s u empty none p =
-    let whole : s ≡ p.taken ++ p.left = ap (λ w. w ++ s) (sym empty) ∙ p.parted in
-    let left : p.left ≡ [] = sym p.held ∙ none in
-    subst (λ w. IsAppended a.got w b.got) (sym (whole ∙ ap (λ w. p.taken ++ w) left ∙ append-nil p.taken)) p.got
-
 -- the items from a place on
 drop_item : {A : Type 0} (xs : List A) (i : ℕ) (x : A) → i < length xs → x ≡ get_or xs i x → drop i xs ≡ x ∷ drop (i + 1) xs
 drop_item [] i x h is = absurd (omega arith)
@@ -117,10 +108,6 @@ pub onto_stop : {A S : Type 0} (text : A → List ℕ) (xs : List A) (i : ℕ) (
     → Prints start next (flat_map text xs) r
 onto_stop text xs i x start now next why r h is onto err p =
     onto next r (rw (drop_item xs i x h is) (prints_less now next (text x) (flat_map text (drop (i + 1) xs)) why r err p))
-
-pub onto_end : {A : Type 0} (text : A → List ℕ) (xs : List A) (i : ℕ) (start now : Output) → length xs ≤ i → Onto text xs i start now
-    → Prints {E = Failed} start now (flat_map text xs) (Ok (tt {0}))
-onto_end text xs i start now h onto = onto now (Ok (tt {0})) (rw (drop_all i xs h) (prints_none now))
 
 -- What is printed of the rest of a text makes all of it.
 abbrev pub OntoRest : {A : Type 0} → (List A → List ℕ) → List A → List A → Output → Output → Type 0

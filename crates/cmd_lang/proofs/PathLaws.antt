@@ -1,18 +1,9 @@
 -- Names with a `/` between them.
-use Rattle.std.proofs.Common.{◌≡◌, ◌≢◌, ℕ, List, [], ◌∷◌, length, ◌==◌, true, false, Option, Some, None, Result, Ok, Err, refl, sym, ap, ◌∙◌, subst}
+use Rattle.std.proofs.Common.{◌≡◌, ◌≢◌, ℕ, List, [], ◌∷◌, length, ◌==◌, true, false, Option, Some, None, Result, Ok, Err, refl, ap}
 use Rattle.std.specs.Prelude.{IfOk}
-use Rattle.vol_bytes.specs.NameText.{IsNameText}
 use Rattle.cmd_lang.specs.Lines.{Finds}
 use Rattle.cmd_lang.specs.Words.{AreNames, IsBehind, IsPath, IsTargetOf, pieces}
 use Rattle.cmd_lang.proofs.PieceLaws.{some_piece}
-
-pub head_name : (parts : List (List ℕ)) (first : List ℕ) (rest names : List (List ℕ)) → parts ≡ first ∷ rest → AreNames parts names
-    → (n : List ℕ) × IsNameText first n
-head_name parts first rest names e h = by names (subst (λ p. AreNames p names) e h)
-  where
-    by : (names : List (List ℕ)) → AreNames (first ∷ rest) names → (n : List ℕ) × IsNameText first n
-    by [] h = absurd h
-    by (n ∷ ns) h = (n, h.0)
 
 pub behind_names : (rest : List ℕ) → rest ≢ [] → (names : List (List ℕ)) → IsBehind rest names → (list : List (List ℕ))
     × AreNames (pieces 47 rest) list
@@ -26,22 +17,6 @@ names_behind rest [] h = by (pieces 47 rest) refl h
     by [] e h = absurd (some_piece 47 rest e)
     by (x ∷ xs) e h = absurd h
 names_behind rest (n ∷ ns) h = h
-
-abbrev tail : List ℕ → List ℕ
-tail [] = []
-tail (x ∷ xs) = xs
-
-abbrev head : List ℕ → ℕ
-head [] = 0
-head (x ∷ xs) = x
-
-pub not_behind : (text rest : List ℕ) → text ≡ 47 ∷ rest → ((names : List (List ℕ)) → IsBehind rest names → ⊥)
-    → (names : List (List ℕ)) → IsPath text names → ⊥
-not_behind text rest e h names p = h names (subst (λ r. IsBehind r names) (ap tail (sym p.written ∙ e)) p.behind)
-
-pub not_path : (text : List ℕ) (first : ℕ) (rest : List ℕ) → text ≡ first ∷ rest → first ≢ 47 → (names : List (List ℕ))
-    → IsPath text names → ⊥
-not_path text first rest e n names p = n (ap head (sym e ∙ p.written))
 
 pub not_empty : (rest : List ℕ) → (length rest == 0) ≡ false → rest ≢ []
 not_empty rest e h = let f : (length rest == 0) ≡ true = ap (λ r. length r == 0) h in cc

@@ -1,9 +1,8 @@
 -- The texts of bytes, names and paths.
 use Rattle.std.proofs.Common.{◌≡◌, ℕ, ◌==◌, true, false, List, [], ◌∷◌, ◌++◌, length, take, drop, refl, sym, ap, ◌∙◌, take-append-drop, arith}
-use Rattle.std.specs.Prelude.{codes, flat_map}
 use Rattle.hex.specs.Hex.{encode_lower, encode_with, lower_digits}
 use Rattle.vol_bytes.specs.NameText.{name_text}
-use Rattle.cmd_lang.specs.Printed.{and_word, bytes_text, name_word, path_text, step_text}
+use Rattle.cmd_lang.specs.Printed.{and_word, name_word}
 
 is_zero : (n : ℕ) → (n == 0) ≡ true → n ≡ 0
 is_zero n e = grind (arith, e)
@@ -26,26 +25,6 @@ pub name_none : (xs : List ℕ) → (length xs == 0) ≡ true → name_text xs �
 unfolding name_text
 name_none [] e = refl
 name_none (x ∷ xs) e = let zero_is = is_zero (length (x ∷ xs)) e in absurd (omega (arith, zero_is))
-
-pub no_bytes : (xs : List ℕ) → (length xs == 0) ≡ true → bytes_text xs ≡ codes "-"
-no_bytes [] e = refl
-no_bytes (x ∷ xs) e = let zero_is = is_zero (length (x ∷ xs)) e in absurd (omega (arith, zero_is))
-
-pub some_bytes : (xs : List ℕ) → (length xs == 0) ≡ false → bytes_text xs ≡ encode_lower xs
-some_bytes [] e = cc e
-some_bytes (x ∷ xs) e = refl
-
-pub root_text : (names : List (List ℕ)) → (length names == 0) ≡ true → path_text names ≡ codes "/"
-root_text [] e = refl
-root_text (x ∷ xs) e = let zero_is = is_zero (length (x ∷ xs)) e in absurd (omega (arith, zero_is))
-
-pub steps_text : (names : List (List ℕ)) → (length names == 0) ≡ false → path_text names ≡ flat_map step_text names
-steps_text [] e = cc e
-steps_text (x ∷ xs) e = refl
-
-pub no_name : (units : List ℕ) → (length units == 0) ≡ true → name_word units ≡ []
-no_name [] e = refl
-no_name (x ∷ xs) e = let zero_is = is_zero (length (x ∷ xs)) e in absurd (omega (arith, zero_is))
 
 pub some_name : (units : List ℕ) → (length units == 0) ≡ false → name_word units ≡ and_word (name_text units)
 some_name [] e = cc e

@@ -19,8 +19,8 @@ pub fn add(line: &mut Line, text: &[u8])
     line.try_extend_from_slice(text).unwrap();
 }
 
-/// Adds a space and a word.
-pub fn add_word(line: &mut Line, word: &[u8])
+// Adds a space and a word.
+fn add_word(line: &mut Line, word: &[u8])
     requires { array_vec_len line.old + length word.now + 1 ≤ 256 }
     ensures items { line.new.items ≡ line.old.items ++ and_word word.now }
     ensures len { array_vec_len line.new ≡ array_vec_len line.old + length word.now + 1 }

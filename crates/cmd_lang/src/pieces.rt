@@ -1,5 +1,5 @@
 //! The parts of a reply whose length has no bound, printed piece by piece.
-ghost use Rattle.std.specs.Prelude.{◌≡◌, ◌≤◌, flat_map, length};
+ghost use Rattle.std.specs.Prelude.{◌≤◌, flat_map, length};
 ghost use Rattle.hex.specs.Hex.{encode_lower};
 ghost use Rattle.vol_bytes.specs.NameText.{name_text};
 ghost use Rattle.cmd_lang.specs.Output.{output, Prints};

@@ -1,5 +1,5 @@
 //! Replies, printed.
-ghost use Rattle.std.specs.Prelude.{◌≡◌, ◌≢◌, ◌≤◌, flat_map, length, OnErr, OnOk};
+ghost use Rattle.std.specs.Prelude.{◌≢◌, ◌≤◌, flat_map, length, OnErr, OnOk};
 ghost use Rattle.vol_disk.specs.Count.{CountsFault};
 ghost use Rattle.vol_disk.specs.Stream.{IsAppended, IsAppendedPart};
 ghost use Rattle.cmd_lang.specs.Output.{output, Prints};
@@ -168,7 +168,7 @@ fn put_reply<K: Sink>(out: &mut K, held: &mut Held, reply: &Reply) -> Result<(),
     }
 }
 
-/// Prints a reply: its lines and `ok`, or the line of its refusal. It takes no memory, and hands the sink few pieces.
+/// Prints a reply: its lines and `ok`, or the line of its refusal. It takes no memory.
 /// A device fault has no text, so a caller does not print one.
 ///
 /// # Errors

@@ -291,10 +291,6 @@ pub node_header-same : (old new : List ℕ) → length new ≡ length old → no
 unfolding node_header
 node_header-same old new len = ap (λ n. if n == 4096 then 0x18 else 0x10) len
 
-if_true : (b x : Bool) → (b ≡ true → x ≡ true) → (if b then x else true) ≡ true
-if_true true x h = h refl
-if_true false x h = refl
-
 true_if : (b x : Bool) → (if b then x else true) ≡ true → b ≡ true → x ≡ true
 true_if true x h e = h
 true_if false x h e = let f : false ≡ true = e in absurd (cc)

@@ -1,5 +1,5 @@
 -- Laws of index trees: a node of a tree by one of its places, and that an index has one walk.
-use Rattle.std.proofs.Common.{◌≡◌, ℕ, zero, suc, ◌+◌, ◌<◌, List, [], ◌∷◌, ◌++◌, Option, Some, None, length, map, get_or, refl, sym, ap, ◌∙◌, arith, append_assoc, append-nil}
+use Rattle.std.proofs.Common.{◌≡◌, ℕ, zero, suc, ◌+◌, List, [], ◌∷◌, ◌++◌, Option, Some, None, map, refl, sym, ap, ◌∙◌, arith, append_assoc, append-nil}
 use Rattle.ntfs_def.specs.Node.{Item, Entry, Node, child_from}
 use Rattle.ntfs_def.specs.IndexTree.{Nodes, Branch, Spread, Tree, Each, EachBelow, branch_items, branch_times, child_of, entry_of, node_of, items_of, IsStored, HoldsIndex, Walks, spread_items}
 
@@ -25,11 +25,6 @@ module _ {X : Type 0} (P : X → Type 0) where
 
   pub Each-mid : (xs : List X) (y : X) (ys : List X) → Each P (xs ++ y ∷ ys) → P y
   Each-mid xs y ys h = (Each-right xs (y ∷ ys) h).0
-
-  pub Each-place : (xs : List X) (i : ℕ) (d : X) → i < length xs → Each P xs → P (get_or xs i d)
-  Each-place [] i d h k = absurd (omega arith)
-  Each-place (x ∷ xs) zero d h k = k.0
-  Each-place (x ∷ xs) (suc i) d h k = Each-place xs i d (omega arith) k.1
 
 pub Each-map : {X : Type 0} (P Q : X → Type 0) (f : (x : X) → P x → Q x) (xs : List X) → Each P xs → Each Q xs
 Each-map P Q f [] h = tt

@@ -1,5 +1,5 @@
 pub mod OwnEntries
-mod IndexTreeLaws
+pub mod IndexTreeLaws
 pub mod PlaceLaws
 pub mod MovedWalks
 pub mod Rising

@@ -1,5 +1,5 @@
 -- The first item below is the first item.
-use Rattle.std.proofs.Common.{◌≡◌, ℕ, zero, suc, ◌+◌, ◌*◌, ◌-◌, ◌<◌, ◌≤◌, List, [], ◌∷◌, ◌++◌, Option, Some, None, Bool, true, false, length, map, take, drop, get_or, refl, sym, ap, subst, ◌∙◌, arith, append_assoc, IsSome}
+use Rattle.std.proofs.Common.{◌≡◌, ℕ, zero, suc, ◌+◌, ◌*◌, ◌-◌, ◌<◌, ◌≤◌, List, [], ◌∷◌, ◌++◌, Option, Some, None, Bool, true, false, map, take, drop, get_or, refl, sym, ap, subst, ◌∙◌, arith, append_assoc, IsSome}
 use Rattle.std.specs.Prelude.{IsTrue}
 use Rattle.std.specs.declared.cmp.Ordering.{Ordering}
 use Rattle.std.specs.declared.cmp.Ordering.TheVariants.{Less, Equal, Greater}
@@ -222,10 +222,6 @@ rising_keys side valid nodes depth s n index =
     (Each-branches (λ (x : Item). IsTrue (valid x.key)) (items_of depth) (child_of depth) s.branches s.last index.keys)
 
 module _ (side : List ℕ → Ordering) (valid : List ℕ → Bool) (nodes : Nodes) where
-  pub first_nothing : FindsBelow side valid nodes None None
-  first_nothing zero t rising = tt
-  first_nothing (suc depth) t rising = absurd (none_other (sym rising.held.at))
-
   pub rising_node : (vcn level : ℕ) → HasRising side valid nodes (Some vcn) level → IsSome (nodes vcn)
   rising_node vcn level h = go h.depth h.tree h.rising
     where
@@ -239,9 +235,6 @@ module _ (side : List ℕ → Ordering) (valid : List ℕ → Bool) (nodes : Nod
       go : (depth : ℕ) → depth ≤ level → (t : Tree depth) → IsRising side valid nodes depth t (Some vcn) → 0 < level
       go zero small t rising = absurd (none_other rising.held.at)
       go (suc depth) small t rising = omega arith
-
-  pub rising_level_not : (vcn level : ℕ) → HasRising side valid nodes (Some vcn) level → level ≡ 0 → ⊥
-  rising_level_not vcn level h e = let l = rising_level vcn level h in omega arith
 
   module _ (vcn : ℕ) (node : Node) (read : nodes vcn ≡ Some node) where
     rising_of : (depth : ℕ) (t : Tree (suc depth)) → IsRising side valid nodes (suc depth) t (Some vcn)
@@ -298,10 +291,6 @@ module _ (side : List ℕ → Ordering) (valid : List ℕ → Bool) (nodes : Nod
             rising = rising_below side valid nodes depth t.spread node (rising_of depth t rising) i hit place;
           }
 
-  pub first_stops : (most vcn before after : ℕ) → after ≤ before + most → CostsBelow most side valid nodes (Some vcn) before after
-  first_stops most vcn before after e zero t rising = absurd (none_other rising.held.at)
-  first_stops most vcn before after e (suc depth) t rising = omega arith
-
   -- The same from a root.
   module _ (root : Option Node) (node : Node) (is : root ≡ Some node) where
     index_at : (depth : ℕ) (s : Spread (Tree depth)) (n : Node) → root ≡ Some n → IsRisingIndex side valid nodes depth s n
@@ -332,19 +321,3 @@ module _ (side : List ℕ → Ordering) (valid : List ℕ → Bool) (nodes : Nod
         tree = below_at h.s.branches h.s.last i;
         rising = rising_below side valid nodes h.depth h.s node (index_at h.depth h.s h.node h.is h.index) i hit place;
       }
-
-  pub root_bad : (form : NodeForm) (root : List ℕ) → HasRisingIndex side valid nodes (node_in form root) → (no : NodeNo)
-      → Refuses form root no → ⊥
-  root_bad form root h (Shape at) bad = none_other (sym (ap whole_of bad) ∙ h.is)
-  root_bad form root h (Full need free) bad = absurd bad
-
--- a hit is at an entry
-pub hit_inside : (side : List ℕ → Ordering) (entries : List Entry) (i : ℕ) (hit : Bool) → IsPlace side entries i hit → hit ≡ true
-    → i < length entries
-hit_inside side entries i hit place e = go entries i (subst (λ h. StartsAt side (drop i entries) h) e place.there)
-  where
-    go : (xs : List Entry) (i : ℕ) → StartsAt side (drop i xs) true → i < length xs
-    go [] zero h = let f : true ≡ false = h in cc
-    go [] (suc i) h = let f : true ≡ false = h in cc
-    go (x ∷ xs) zero h = omega arith
-    go (x ∷ xs) (suc i) h = let r = go xs i h in omega arith

@@ -1,10 +1,10 @@
 -- A walk, branch by branch.
-use Rattle.std.proofs.Common.{◌≡◌, ℕ, zero, suc, ◌+◌, ◌-◌, ◌*◌, ◌<◌, ◌≤◌, List, [], ◌∷◌, ◌++◌, Option, Some, None, IsSome, Result, Ok, Err, OnOk, length, map, get_or, refl, sym, ap, subst, ◌∙◌, arith, append_assoc, append-nil, add-one}
+use Rattle.std.proofs.Common.{◌≡◌, ℕ, zero, suc, ◌+◌, ◌-◌, ◌*◌, ◌<◌, ◌≤◌, List, [], ◌∷◌, ◌++◌, Option, Some, IsSome, Result, Ok, Err, OnOk, length, map, get_or, refl, sym, ap, subst, ◌∙◌, arith, append_assoc, append-nil, add-one}
 use Rattle.std.proofs.lemmas.List.{length-map, map-append}
 use Rattle.ntfs_def.specs.Node.{Item, Entry, Node, child_from, item_in}
 use Rattle.ntfs_def.specs.IndexTree.{Nodes, Branch, Spread, Tree, branch_items, branch_times, child_of, entry_of, items_of, times_in, IsHeld, IsStored, HoldsIndex}
 use Rattle.index_tree.proofs.IndexTreeLaws.{some_same, none_other, before_items, below_at, branch_entry, child_below, times_split, EachBelow-at}
-use Rattle.index_tree.specs.Walk.{CostsNode, CostsTree, CostsWalk, HasSpread, HasTree, HasWalk, IsWalk, WalksNode, WalksTree, items_in, record_count}
+use Rattle.index_tree.specs.Walk.{CostsNode, CostsTree, HasSpread, HasTree, HasWalk, IsWalk, WalksNode, WalksTree, items_in, record_count}
 
 pub OnOk-map : {T E P Q : Type 0} (r : Result T E) → (P → Q) → OnOk r P → OnOk r Q
 OnOk-map (Ok x) f h = f h
@@ -154,12 +154,8 @@ tree_below nodes node level i h = record {
   held = held_below nodes node h.depth h.s h.holds i;
 }
 
--- Nothing stands under no child, and under a number a node.
+-- Under a number stands a node.
 module _ (nodes : Nodes) where
-  pub walks_nothing : (old : List (List ℕ)) → WalksTree nodes None old old
-  walks_nothing old zero tree held = sym (append-nil (items_in old))
-  walks_nothing old (suc depth) tree held = absurd (none_other (sym held.at))
-
   pub tree_node : (vcn level : ℕ) → HasTree nodes (Some vcn) level → IsSome (nodes vcn)
   tree_node vcn level h = go h.depth h.tree h.held
     where
@@ -215,7 +211,3 @@ module _ (nodes : Nodes) (root : Option Node) (node : Node) (is : root ≡ Some 
   pub root_walk : (entries : List (List ℕ)) → WalksNode nodes node [] entries → IsWalk nodes root entries
   root_walk entries w n e items walks =
       w walks.depth walks.s (subst (λ m. HoldsIndex nodes m walks.depth walks.s) (some_same (sym e ∙ is)) walks.holds) ∙ sym walks.is
-
-  pub root_costs : (most before after : ℕ) → CostsNode most nodes node before after → CostsWalk most nodes root before after
-  root_costs most before after below n e depth s holds = below depth s (subst (λ m. HoldsIndex nodes m depth s) (some_same (sym e
-      ∙ is)) holds)

@@ -111,8 +111,8 @@ fn walk_node<B: Blocks>(
 }
 
 impl<C> Index<C> {
-    /// All entries of the index under a root, the value of its `$INDEX_ROOT`, in order. No more records are read than the
-    /// index has below its root.
+    /// All entries of the index under a root, the value of its `$INDEX_ROOT`, in order. Where the contents are told, an Ok
+    /// has read no more records than the index has below its root.
     ///
     /// Where the contents are not told, each of the entries that are given still is one entry.
     ///
