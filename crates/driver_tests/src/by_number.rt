@@ -3,7 +3,8 @@
 ghost use Rattle.std.specs.Prelude.{◌≡◌, IfOk, false};
 ghost use Rattle.mft_table.specs.Mft.{view};
 
-use dir_index::{list, lookup};
+use crate::laid::put;
+use dir_index::{link_of_key, list, lookup};
 use mft_table::Mft;
 use mount_check::mount;
 use sparse_io::read_at;
@@ -166,5 +167,19 @@ fn the_table_of_case_is_read(rt: HostRuntime) -> Result<(), test::Fail> {
     assert_eq!(rt; last.as_slice(), b"\xFF\xFF".as_slice());
     let whole = case(rt.alloc(), &mut disk, 0, 200_000)?;
     assert_eq!(rt; whole.as_slice().len(), 131_072);
+    Ok(())
+}
+
+// The longest name there is, by the value of its `$FILE_NAME`.
+#[test]
+fn a_long_name_is_read(rt: HostRuntime) -> Result<(), test::Fail> {
+    let mut key = vec![in rt.alloc(); 0x61; 66 + 2 * 255]?;
+    put(&mut key, 0x00, &[5, 0, 0, 0, 0, 0, 5, 0]);
+    put(&mut key, 0x40, &[255, 1]);
+    let Some(link) = link_of_key(rt.alloc(), &key, 77)? else {
+        return Err("no name")?;
+    };
+    assert_eq!(rt; (link.parent, link.space, link.child), (ROOT, 1, 77));
+    assert!(rt; link.name.as_slice() == [0x6161; 255].as_slice());
     Ok(())
 }

@@ -255,6 +255,19 @@ fn long_lines_are_read(rt: HostRuntime) -> Result<(), AllocError> {
     Ok(())
 }
 
+#[test]
+fn a_long_path_is_read(rt: HostRuntime) -> Result<(), AllocError> {
+    let mut line = Vec::from_slice(rt.alloc(), b"ls ")?;
+    for _name in 0..1000 {
+        line.extend_from_slice(b"/a")?;
+    }
+    match parse_line(rt.alloc(), &line) {
+        Ok((0, Command::Ls { path })) => assert_eq!(rt; path.as_slice().len(), 1000),
+        _ => assert!(rt; false, "no ls"),
+    }
+    Ok(())
+}
+
 // The longest line: 12 bytes in front of 69,988 digits.
 #[test]
 fn the_longest_line_is_read(rt: HostRuntime) -> Result<(), AllocError> {

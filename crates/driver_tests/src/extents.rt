@@ -2,9 +2,14 @@
 //! each sector are zero, and so is all behind the bytes that stand here. What is expected of changed bytes is what the
 //! published layout says of them.
 
+use crate::laid::{put, record};
 use attr_view::{RecordView, Sizes};
+use std::alloc::{AllocError, Global};
 use std::test::Fail;
-use volume_facts::{Extent, Held, UnlistedFiles, are_whole, has_whole_extents, is_right_record};
+use volume_facts::{
+    Extent, Held, UnlistedFiles, add_wanted, are_whole, has_whole_extents, is_right_record,
+    names_each,
+};
 
 const BAD_CLUSTERS: [u8; 376] = [
     0x46, 0x49, 0x4C, 0x45, 0x30, 0x00, 0x03, 0x00, 0x00, 0x00, 0x00, 0x00, 0x00, 0x00, 0x00, 0x00,
@@ -147,5 +152,33 @@ fn thousands_of_extents(rt: HostRuntime) -> Result<(), Fail> {
     // one of them twice
     extents.push(one_cluster(b"a\0", 7))?;
     assert!(rt; !are_whole(30, 4096, &mut extents));
+    Ok(())
+}
+
+// A list that names the unnamed `$DATA` in each of 3,000 records, from the last to the first.
+fn list(alloc: Global) -> Result<Vec<u8>, AllocError> {
+    let mut bytes = Vec::new(alloc);
+    for holder in (0..3000u64).rev() {
+        let mut entry = [0; 32];
+        put(&mut entry, 0x00, &[0x80, 0, 0, 0, 32, 0, 0, 0x1A]);
+        put(&mut entry, 0x10, &holder.to_le_bytes());
+        bytes.extend_from_slice(&entry)?;
+    }
+    Ok(bytes)
+}
+
+#[test]
+fn thousands_of_entries(rt: HostRuntime) -> Result<(), Fail> {
+    let block = record(&[0]);
+    let view = RecordView::new(&block)?;
+    let mut wanted = Vec::new(rt.alloc());
+    for n in 0..3000 {
+        add_wanted(n, &view, &mut wanted)?;
+    }
+    let mut bytes = list(rt.alloc())?;
+    assert!(rt; names_each(rt.alloc(), &bytes, &mut wanted)?);
+    // record 2,816 twice, and 2,999 not at all
+    put(&mut bytes, 0x10, &[0]);
+    assert!(rt; !names_each(rt.alloc(), &bytes, &mut wanted)?);
     Ok(())
 }

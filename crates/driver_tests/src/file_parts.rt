@@ -5,7 +5,7 @@ ghost use Rattle.vol_stage.specs.Staged.{disk_of};
 ghost use Rattle.mft_table.specs.Mounted.{StandsOn};
 
 use crate::laid::{mount, put};
-use file_record::{FileNo, FileParts};
+use file_record::{BaseFile, FileNo, FileParts, load_base};
 use mft_table::{Mft, Mounted, find_table};
 use std::alloc::{AllocError, Global};
 use std::test;
@@ -142,6 +142,28 @@ fn load<D: Disk>(
     }
 }
 
+// Loads it with the header of its base record.
+fn load_with_header<D: Disk>(
+    alloc: Global,
+    disk: &mut D,
+    number: u64,
+) -> Result<Option<BaseFile>, test::Fail> {
+    let mut stage = Stage::over(alloc, disk);
+    match mount(alloc, &mut stage) {
+        Ok(mounted) => {
+            let mut mft = Mft::resume(stage, mounted);
+            let file = load_base(alloc, &mut mft, number);
+            let (stage, _) = mft.into_parts();
+            let _ = stage.finish();
+            Ok(file?)
+        }
+        Err(fail) => {
+            let _ = stage.finish();
+            Err(fail)
+        }
+    }
+}
+
 // The types and ids of a file's attributes, each as an attribute of its number and in a row.
 fn told(alloc: Global, file: &FileParts) -> Result<Vec<(u32, u16)>, test::Fail> {
     let mut told = Vec::new(alloc);
@@ -249,6 +271,18 @@ fn list_in_clusters(rt: HostRuntime) -> Result<(), test::Fail> {
     for i in 2..308 {
         assert_eq!(rt; parts[i], (0x30, ((i - 2) % 9) as u16), "at {i}");
     }
+    Ok(())
+}
+
+#[test]
+fn a_header_and_many_parts(rt: HostRuntime) -> Result<(), test::Fail> {
+    let mut image = volume(rt.alloc())?;
+    lay_many(rt.alloc(), &mut image)?;
+    let mut disk = MemDisk::new(rt.alloc(), image);
+    let Some(file) = load_with_header(rt.alloc(), &mut disk, 28)? else {
+        return Err("no file")?;
+    };
+    assert_eq!(rt; (file.header.sequence, file.parts.count()), (1, 308));
     Ok(())
 }
 

@@ -9,6 +9,8 @@ mod cluster_owners;
 #[cfg(test)]
 mod commands;
 #[cfg(test)]
+mod error_texts;
+#[cfg(test)]
 mod extents;
 #[cfg(test)]
 mod file_parts;

@@ -1,7 +1,7 @@
 //! A tree that is laid out by hand: a root, and in it a directory `d` with as many files as are put into it, or beside it a
 //! file `f`.
 
-use std::alloc::Global;
+use std::alloc::{AllocError, Global};
 use std::test::Fail;
 use tree_model::{
     Answer, Command, Content, Link, No, Node, Path, PlainFacts, PlainMachine, PlainTree, Point,
@@ -78,11 +78,16 @@ fn a_large_directory(rt: HostRuntime) -> Result<(), Fail> {
     let mut tree = tree(alloc)?;
     for number in 100..2100 {
         let text = format!(in alloc; "n{number}")?;
-        tree.links.push(link(alloc, 27, &text, number)?)?;
+        tree.add_link(link(alloc, 27, &text, number)?)?;
         tree.nodes.push((number, node(alloc, false)))?;
     }
     let last = path_in_d(alloc, "N2099")?;
     assert_eq!(rt; tree.resolve(&last)?.map_or(5, |link| link.child), 2099);
+    let path = path(alloc, "d")?;
+    match answer_of(alloc, tree, &Command::Ls { path })? {
+        Answer::List(lines) => assert_eq!(rt; lines.as_slice().len(), 2000),
+        _ => assert!(rt; false, "no list"),
+    }
     Ok(())
 }
 
@@ -156,10 +161,10 @@ fn facts() -> PlainFacts {
     }
 }
 
-// What the machine answers over that tree.
-fn answered(alloc: Global, command: &Command) -> Result<Answer, Fail> {
+// What the machine answers over a tree.
+fn answer_of(alloc: Global, tree: PlainTree, command: &Command) -> Result<Answer, Fail> {
     let mut machine = PlainMachine {
-        tree: tree_with_file(alloc)?,
+        tree,
         opens: Vec::new(alloc),
         now: 0,
     };
@@ -167,6 +172,11 @@ fn answered(alloc: Global, command: &Command) -> Result<Answer, Fail> {
         Reply::Ok(answer) => Ok(answer),
         _ => Err(Fail::from(No::Unbuilt)),
     }
+}
+
+// What it answers over the tree with a file.
+fn answered(alloc: Global, command: &Command) -> Result<Answer, Fail> {
+    answer_of(alloc, tree_with_file(alloc)?, command)
 }
 
 #[test]
@@ -275,13 +285,13 @@ fn an_answer_of_reparse(rt: HostRuntime) -> Result<(), Fail> {
     Ok(())
 }
 
-// How many lines an answer has.
-fn count_lines(answer: &Answer) -> usize {
+// The lines of an answer, spelled out.
+fn lines(alloc: Global, answer: Answer) -> Result<String, AllocError> {
     match answer {
-        Answer::List(lines) => lines.as_slice().len(),
-        Answer::Links(lines) => lines.as_slice().len(),
-        Answer::Streams(lines) => lines.as_slice().len(),
-        _ => 0,
+        Answer::List(lines) => format!(in alloc; "{:?}", lines.into_vec()),
+        Answer::Links(lines) => format!(in alloc; "{:?}", lines.into_vec()),
+        Answer::Streams(lines) => format!(in alloc; "{:?}", lines.into_vec()),
+        _ => Ok(String::new(alloc)),
     }
 }
 
@@ -289,7 +299,10 @@ fn count_lines(answer: &Answer) -> usize {
 fn an_answer_of_ls(rt: HostRuntime) -> Result<(), Fail> {
     let path = root(rt.alloc());
     let answer = answered(rt.alloc(), &Command::Ls { path })?;
-    assert_eq!(rt; count_lines(&answer), 2);
+    assert_eq!(rt;
+        lines(rt.alloc(), answer)?.as_str(),
+        "[Listed { dir: true, name: Name { units: [100] } }, Listed { dir: false, name: Name { units: [102] } }]"
+    );
     Ok(())
 }
 
@@ -297,7 +310,10 @@ fn an_answer_of_ls(rt: HostRuntime) -> Result<(), Fail> {
 fn an_answer_of_links(rt: HostRuntime) -> Result<(), Fail> {
     let path = path(rt.alloc(), "F")?;
     let answer = answered(rt.alloc(), &Command::Links { path })?;
-    assert_eq!(rt; count_lines(&answer), 1);
+    assert_eq!(rt;
+        lines(rt.alloc(), answer)?.as_str(),
+        "[ShownLink { space: 0, path: Path { names: [Name { units: [102] }] } }]"
+    );
     Ok(())
 }
 
@@ -305,7 +321,32 @@ fn an_answer_of_links(rt: HostRuntime) -> Result<(), Fail> {
 fn an_answer_of_streams(rt: HostRuntime) -> Result<(), Fail> {
     let path = path(rt.alloc(), "F")?;
     let answer = answered(rt.alloc(), &Command::Streams { path })?;
-    assert_eq!(rt; count_lines(&answer), 1);
+    assert_eq!(rt;
+        lines(rt.alloc(), answer)?.as_str(),
+        "[ShownStream { packed: false, size: 3, name: Name { units: [] } }]"
+    );
+    Ok(())
+}
+
+#[test]
+fn vectors_are_given_back(rt: HostRuntime) -> Result<(), Fail> {
+    let alloc = rt.alloc();
+    let names = path_in_d(alloc, "x")?.into_vec();
+    assert_eq!(rt;
+        format!(in alloc; "{names:?}")?.as_str(),
+        "[Name { units: [68] }, Name { units: [120] }]"
+    );
+    let streams = streams(alloc)?.into_vec();
+    assert_eq!(rt;
+        format!(in alloc; "{streams:?}")?.as_str(),
+        "[Stream { name: Name { units: [] }, content: Plain(Octets { bytes: [97, 98, 99] }) }]"
+    );
+    let others = others(alloc)?.into_vec();
+    assert_eq!(rt;
+        format!(in alloc; "{others:?}")?.as_str(),
+        "[RawAttr { kind: 64, name: Name { units: [] }, value: Plain(Octets { bytes: [48, 49, 50, 51, 52, 53, 54, 55, 56, 57, \
+         97, 98, 99, 100, 101, 102, 103, 104] }) }]"
+    );
     Ok(())
 }
 
@@ -326,6 +367,44 @@ fn a_link_is_put_in_order(rt: HostRuntime) -> Result<(), Fail> {
     tree.add_link(link(rt.alloc(), 5, "e", 28)?)?;
     assert_eq!(rt; tree.links.len(), 3);
     assert!(rt; tree.links[1].name.as_slice() == [0x65].as_slice());
+    Ok(())
+}
+
+// The times of the last file.
+fn last_times(tree: &PlainTree) -> [u64; 4] {
+    tree.nodes.last().map_or([0; 4], |(_, node)| node.times)
+}
+
+// Each call at a moment of its own.
+#[test]
+fn a_file_is_edited(rt: HostRuntime) -> Result<(), Fail> {
+    let mut tree = tree_with_file(rt.alloc())?;
+    let bytes = octets(rt.alloc(), b"z")?;
+    tree.set_flags(10, 28, 0x21);
+    assert_eq!(rt; last_times(&tree), [1, 2, 10, 4]);
+    tree.set_security(11, 28, 258);
+    assert_eq!(rt; last_times(&tree), [1, 2, 11, 4]);
+    tree.set_point(
+        12,
+        28,
+        Some(Point {
+            tag: 0xA000_0003,
+            bytes,
+        }),
+    );
+    assert_eq!(rt; last_times(&tree), [1, 2, 12, 4]);
+    tree.touch(13, 28);
+    assert_eq!(rt; last_times(&tree), [1, 13, 13, 4]);
+    tree.stamp(14, 28);
+    assert_eq!(rt; last_times(&tree), [1, 13, 14, 4]);
+    let Some((28, node)) = tree.nodes.last() else {
+        return Err("no file")?;
+    };
+    assert_eq!(rt; (node.flags, node.security), (0x21, 258));
+    assert_eq!(rt;
+        format!(in rt.alloc(); "{:?}", node.point)?.as_str(),
+        "Some(Point { tag: 2684354563, bytes: Octets { bytes: [122] } })"
+    );
     Ok(())
 }
 

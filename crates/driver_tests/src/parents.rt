@@ -5,7 +5,9 @@ use attr_view::RecordView;
 use std::alloc::Global;
 use std::test::Fail;
 use vol_bytes::{put_u16, put_u32, put_u64};
-use volume_facts::{Facts, Heads, Names, first_wrong_link, first_wrong_reference};
+use volume_facts::{
+    Extension, Facts, Heads, Names, SpreadFiles, first_wrong_link, first_wrong_reference,
+};
 
 const FILE: u16 = 1;
 
@@ -190,10 +192,26 @@ fn a_long_way_is_walked_once(rt: HostRuntime) -> Result<(), Fail> {
     Ok(())
 }
 
-// An extension record, one that is not in use, and a base record, which has to tell when it was made, as this one does not.
+// Each is an extension record of another file, the first of the last.
+#[test]
+fn many_extension_records_are_sorted(rt: HostRuntime) -> Result<(), Fail> {
+    let mut spread = SpreadFiles::new(rt.alloc());
+    for n in 0..100_000 {
+        let block = record(FILE, 0, reference(200_000 - n), &[]);
+        spread.note(u64::from(n), &RecordView::new(&block)?)?;
+    }
+    let sorted = spread.by_file(rt.alloc())?;
+    let ends = [(100_001, 99_999), (200_000, 0)].map(|(file, number)| Extension { file, number });
+    assert_eq!(rt; sorted.len(), 100_000);
+    assert_eq!(rt; sorted.first(), ends.first());
+    assert_eq!(rt; sorted.last(), ends.last());
+    Ok(())
+}
+
+// Of the largest volume: an extension record, one not in use, and a base record, which has to tell when it was made, as this one does not.
 #[test]
 fn facts_are_noted(rt: HostRuntime) -> Result<(), Fail> {
-    let mut facts = Facts::new(rt.alloc(), 4096, 2048, 64)?;
+    let mut facts = Facts::new(rt.alloc(), 4096, 1 << 26, 1 << 22)?;
     let extension = record(FILE, 0, reference(24), &[]);
     facts.note(rt.alloc(), 24, &RecordView::new(&extension)?)?;
     facts.note_unused()?;

@@ -1,5 +1,5 @@
 //! Streams noted of the largest volume. The records are laid from the published layout; what is expected is what was laid.
-use crate::laid::record;
+use crate::laid::{put, record};
 use attr_view::RecordView;
 use ntfs_def::Spot;
 use std::test::Fail;
@@ -37,5 +37,19 @@ fn the_first_part_tells(rt: HostRuntime) -> Result<(), Fail> {
     assert_eq!(rt; streams.case_table.spot(0), Spot::Outside);
     assert!(rt; streams.cluster_bits.is_plain());
     assert!(rt; !streams.record_bits.is_plain());
+    Ok(())
+}
+
+// The table of case, as five bytes in the record.
+#[test]
+fn a_value_in_the_record_is_noted(rt: HostRuntime) -> Result<(), Fail> {
+    let mut block = record(&[]);
+    put(&mut block, 0x40, &[0]);
+    put(&mut block, 0x48, &[5, 0, 0, 0, 0x18]);
+    put(&mut block, 0x50, b"abcde");
+    let mut streams = Streams::new(rt.alloc(), 512, 100, 100)?;
+    streams.note(rt.alloc(), 10, &RecordView::new(&block)?)?;
+    assert_eq!(rt; streams.case_table.resident(), Some(b"abcde".as_slice()));
+    assert_eq!(rt; streams.record_bits.resident(), None);
     Ok(())
 }

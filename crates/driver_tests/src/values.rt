@@ -1,7 +1,7 @@
 //! Values of a file on a disk of 2,400 sectors, whose byte at place d outside the table is 1 + d % 251. Its table is the
 //! clusters 4 to 11, of eight sectors each. The stream of record 24 has 300 clusters: its first extent has four, of
-//! which the last two are a hole, and is written up to byte 6,000; the second, in record 25, the others, from cluster 40 on.
-//! Record 26 has the same second extent, and is written whole.
+//! which the last two are a hole, and is written up to byte 6,000; the second, in record 25, the others, from cluster 40 on,
+//! in six runs that follow each other. Record 26 has the same second extent, and is written whole.
 ghost use Rattle.std.specs.Prelude.{◌≡◌, ◌<◌, IfOk, length};
 ghost use Rattle.mft_table.specs.Mounted.{StandsOn};
 
@@ -25,9 +25,9 @@ const CLUSTER: u64 = 4096;
 const REAL: u64 = 300 * CLUSTER - 100;
 
 // An extent of `$DATA` with this run text.
-fn extent(first: u64, last: u64, written: u64, text: &[u8]) -> [u8; 80] {
-    let mut bytes = [0; 80];
-    put(&mut bytes, 0x00, &[0x80, 0, 0, 0, 80]);
+fn extent(first: u64, last: u64, written: u64, text: &[u8]) -> [u8; 88] {
+    let mut bytes = [0; 88];
+    put(&mut bytes, 0x00, &[0x80, 0, 0, 0, 88]);
     put(&mut bytes, 0x08, &[1, 0, 0x40]);
     put(&mut bytes, 0x10, &first.to_le_bytes());
     put(&mut bytes, 0x18, &last.to_le_bytes());
@@ -100,16 +100,21 @@ fn lay_file(image: &mut [u8], number: usize, written: u64)
     ensures { length image.new ≡ length image.old }
 {
     let reference = number as u64 + (1 << 48);
-    let mut base = [0; 216];
+    let mut base = [0; 224];
     put(&mut base, 0, &list(reference, reference + 1));
     put(
         &mut base,
         88,
         &extent(0, 3, written, b"\x11\x02\x14\x01\x02\x00"),
     );
-    put(&mut base, 168, &value());
+    put(&mut base, 176, &value());
     lay(image, number, 0, &base);
-    let second = extent(4, 299, 0, b"\x12\x28\x01\x28\x00");
+    let second = extent(
+        4,
+        299,
+        0,
+        b"\x11\x32\x28\x11\x32\x32\x11\x32\x32\x11\x32\x32\x11\x32\x32\x11\x2E\x32\x00",
+    );
     lay(image, number + 1, reference, &second);
 }
 
