@@ -1,5 +1,5 @@
-//! The word `check`, on volumes of 2,048 and of 16,384 sectors that `format` makes, whole and damaged.
-use super::check::{disk_on, failing_disk, made_by, made_on, volume};
+//! The word `check`, on volumes of 2,048, of 16,384 and of 65,535 sectors that `format` makes, whole and damaged.
+use super::check::{disk_on, failing_disk, made_on, volume};
 use super::damage::{break_once, mark_dirty, put, tear};
 use super::laid_files::{FORMAT, SECTORS};
 use super::{AMPLE, run, sink_of};
@@ -24,14 +24,15 @@ fn ends_so(
 
 #[test]
 fn a_new_volume_is_sound(rt: HostRuntime) -> Result<(), test::Fail> {
-    for words in [
-        "format 2048 512 1 A",
-        "format 2048 1024 1 A",
-        "format 2048 2048 1 A",
-        "format 2048 4096 1 A",
+    for (sectors, words) in [
+        (2048, "format 2048 512 1 A"),
+        (2048, "format 2048 1024 1 A"),
+        (2048, "format 2048 2048 1 A"),
+        (2048, "format 2048 4096 1 A"),
+        (65_535, "format 65535 512 1 A"),
     ] {
-        let image = made_by(rt.alloc(), words)?;
-        assert!(rt; ends_so(rt.alloc(), 2048, &image, 0, SOUND)?, "{words}");
+        let image = made_on(rt.alloc(), sectors, words)?;
+        assert!(rt; ends_so(rt.alloc(), sectors, &image, 0, SOUND)?, "{words}");
     }
     Ok(())
 }

@@ -218,11 +218,23 @@ fn volume_with_m(alloc: Global) -> Result<Vec<u8>, test::Fail> {
     Ok(image)
 }
 
+// No run here makes as many reads.
+const UNREACHED: u64 = 1_000_000;
+
 // Read 200 behind those of the mount check. The index records alone are 304 sectors.
 const FAILING: u64 = 1635 + 200;
 
+// What `ls /m` prints: a line of eight bytes for each of the 295 names, in eight of which `:` is printed as `%003A`, and `ok`.
+const LISTED_LINES: usize = 295 + 1;
+
+const LISTED_BYTES: usize = 295 * 8 + 8 * 4 + 3;
+
+fn lines_of(text: &[u8]) -> usize {
+    text.iter().filter(|byte| **byte == b'\n').count()
+}
+
 // The last name is found by the nodes on its way, of which there are three, before the read that fails. All names are in 38, and
-// a list of them comes to it.
+// a list of them comes to it. Where no read fails all are listed.
 #[test]
 fn a_path_is_walked_by_its_index(rt: HostRuntime) -> Result<(), test::Fail> {
     let image = volume_with_m(rt.alloc())?;
@@ -233,5 +245,9 @@ fn a_path_is_walked_by_its_index(rt: HostRuntime) -> Result<(), test::Fail> {
     let (status, out) = failing(rt.alloc(), &image, b"ls /m\n", CallKind::Read, FAILING)?;
     assert_eq!(rt; status, 6);
     assert!(rt; out.bytes().is_empty());
+    let (status, out) = failing(rt.alloc(), &image, b"ls /m\n", CallKind::Read, UNREACHED)?;
+    assert_eq!(rt; status, 0);
+    assert_eq!(rt; lines_of(out.bytes()), LISTED_LINES);
+    assert_eq!(rt; out.bytes().len(), LISTED_BYTES);
     Ok(())
 }

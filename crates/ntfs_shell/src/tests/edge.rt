@@ -219,12 +219,14 @@ fn ends(rt: HostRuntime, end: &End) -> io::Result<bool> {
     let got = start(&noted, false);
     let out = copy_of(rt.alloc(), &noted.printed)?;
     let told = copy_of(rt.alloc(), &noted.said)?;
-    let told = str::from_utf8(&told).unwrap_or("");
+    let sentence = str::from_utf8(&told).unwrap_or("");
     Ok(
         got == end.status
             && is_apart(&noted.opened)
             && out.starts_with(end.printed.as_bytes())
-            && told.contains(end.said),
+            && out.is_empty() == end.printed.is_empty()
+            && sentence.contains(end.said)
+            && told.is_empty() == end.said.is_empty(),
     )
 }
 
@@ -233,9 +235,9 @@ fn ends(rt: HostRuntime, end: &End) -> io::Result<bool> {
 struct End {
     line: &'static [u8],
     status: u8,
-    /// How its output begins.
+    /// How its output begins; empty where nothing is printed.
     printed: &'static str,
-    /// What it says on standard error, among more.
+    /// What it says on standard error, among more; empty where nothing is said.
     said: &'static str,
 }
 

@@ -111,8 +111,22 @@ const POINT: LaidName = LaidName {
     is_dir: true,
 };
 
+const STREAMED: LaidName = LaidName {
+    file: 31,
+    parent: ROOT,
+    space: 0,
+    letters: "x",
+    is_dir: false,
+};
+
 // In the order of an index.
-const IN_ROOT: [LaidName; 6] = [A, D, HOLED, LONG, SHORT, POINT];
+const IN_ROOT: [LaidName; 7] = [A, D, HOLED, LONG, SHORT, POINT, STREAMED];
+
+// The names of its streams, in the order of the record: the unnamed one, and twenty.
+const STREAMS: [&str; 21] = [
+    "", "s00", "s01", "s02", "s03", "s04", "s05", "s06", "s07", "s08", "s09", "s10", "s11", "s12",
+    "s13", "s14", "s15", "s16", "s17", "s18", "s19",
+];
 
 // A packed stream of two clusters.
 const PACKED: Extent = Extent {
@@ -239,6 +253,27 @@ fn lay_holed(alloc: Global, image: &mut [u8]) -> Result<(), test::Fail> {
     Ok(())
 }
 
+// The file with many streams, all empty but the last.
+fn lay_streamed(alloc: Global, image: &mut [u8]) -> Result<(), test::Fail> {
+    let at = begin_file(image, 31, 1, false);
+    let at = lay_standard(image, at, [0; 4], 0x20);
+    let mut at = lay_name(alloc, image, at, 1, &STREAMED)?;
+    let mut id: u8 = 2;
+    for name in STREAMS {
+        let value: &[u8] = if name == "s19" { b"last" } else { b"" };
+        let stream = Value {
+            kind: DATA,
+            id,
+            name,
+            value,
+        };
+        at = lay_value(image, at, stream);
+        id = id.saturating_add(1);
+    }
+    end_file(image, 31, at);
+    Ok(())
+}
+
 /// The volume of 2,048 sectors with all other files here.
 pub fn volume_with_all(alloc: Global) -> Result<Vec<u8>, test::Fail> {
     let mut image = volume(alloc)?;
@@ -246,6 +281,7 @@ pub fn volume_with_all(alloc: Global) -> Result<Vec<u8>, test::Fail> {
     lay_named_twice(alloc, &mut image)?;
     lay_packed(alloc, &mut image)?;
     lay_holed(alloc, &mut image)?;
+    lay_streamed(alloc, &mut image)?;
     lay_in_root(alloc, &mut image, &IN_ROOT)?;
     Ok(image)
 }

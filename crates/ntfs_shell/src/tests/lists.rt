@@ -6,6 +6,8 @@
 //! Forensic Analysis, chapter 13.
 use super::check::{refusal, volume};
 use super::damage::{CLUSTER_BITS, RECORD_BITS, put, record, set_bit};
+use super::laid::{LaidName, ROOT_RECORD, lay_in_root};
+use super::reading::{Row, is_sound, wrong_row};
 use mft_table::MountNo;
 use std::alloc::Global;
 use std::test;
@@ -229,10 +231,34 @@ fn refused(clause: u8, number: u64) -> Option<MountNo> {
     Some(MountNo::Refused { clause, number })
 }
 
+// The name of the file, in the root.
+const A: LaidName = LaidName {
+    file: FILE,
+    parent: (ROOT_RECORD, ROOT_RECORD),
+    space: 0,
+    letters: "a",
+    is_dir: false,
+};
+
+// Lines on the stream, the last about two bytes in each of its clusters.
+const READS: [Row; 2] = [
+    ("streams /a", "stream 8192\nok\n"),
+    ("read /a 4094 4", "data 7778797a\nok\n"),
+];
+
+// Whether a volume with the file is sound, and the file is read, once its name is in the root.
+fn is_read(alloc: Global, image: &mut [u8]) -> Result<bool, test::Fail> {
+    lay_in_root(alloc, image, &[A])?;
+    put(image, 201 * 4096 - 2, b"wxyz");
+    let wrong = wrong_row(alloc, 2048, image, &READS)?;
+    Ok(is_sound(alloc, 2048, image)? && wrong.is_none())
+}
+
 #[test]
 fn a_right_list_is_taken(rt: HostRuntime) -> Result<(), test::Fail> {
-    let told = answer(rt.alloc(), &RIGHT)?;
-    assert_eq!(rt; told, None);
+    let mut image = volume_with(rt.alloc(), &RIGHT)?;
+    assert_eq!(rt; refusal(rt.alloc(), &image)?, None);
+    assert!(rt; is_read(rt.alloc(), &mut image)?);
     Ok(())
 }
 
@@ -251,6 +277,7 @@ fn a_list_in_a_cluster_is_taken(rt: HostRuntime) -> Result<(), test::Fail> {
     let mut image = volume_with_placed_list(rt.alloc())?;
     set_bit(&mut image, CLUSTER_BITS, LIST_CLUSTER);
     assert_eq!(rt; refusal(rt.alloc(), &image)?, None);
+    assert!(rt; is_read(rt.alloc(), &mut image)?);
     Ok(())
 }
 

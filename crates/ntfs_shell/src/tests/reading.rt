@@ -8,8 +8,11 @@ use std::alloc::Global;
 use std::test;
 use vol_disk::{CallKind, MemSink};
 
-// A line of a script, and its reply.
-type Row = (&'static str, &'static str);
+// More than any text here is long.
+const ROOM: usize = 70_000;
+
+/// A line of a script, and its reply.
+pub type Row = (&'static str, &'static str);
 
 // What a script prints, if it ends well and writes nothing.
 fn replies(
@@ -21,7 +24,7 @@ fn replies(
     let mut disk = disk_on(alloc, sectors, image)?;
     disk.reserve(100)?;
     let mut source = source_of(alloc, script, 0)?;
-    let mut out = sink_of(alloc, 2 * AMPLE, 0)?;
+    let mut out = sink_of(alloc, ROOM, 0)?;
     let status = run_on(alloc, &mut disk, &mut source, &mut out)?;
     Ok(if status == 0 && disk.writes().is_empty() {
         Some(out)
@@ -40,8 +43,8 @@ fn script_of(alloc: Global, rows: &[Row]) -> Result<Vec<u8>, test::Fail> {
     Ok(script)
 }
 
-// The first of some lines, run as one script, that is not answered as its row says.
-fn wrong_row(
+/// The first of some lines, run as one script, that is not answered as its row says.
+pub fn wrong_row(
     alloc: Global,
     sectors: u16,
     image: &[u8],
@@ -152,10 +155,10 @@ fn an_empty_file_is_read(rt: HostRuntime) -> Result<(), test::Fail> {
 }
 
 // Lines on the volume with files of each kind.
-const EACH_KIND: [Row; 32] = [
+const EACH_KIND: [Row; 34] = [
     (
         "ls /",
-        "file a\ndir d\nfile h\nfile longfilename.txt\ndir r\nok\n",
+        "file a\ndir d\nfile h\nfile longfilename.txt\ndir r\nfile x\nok\n",
     ),
     ("ls /d", "file b\nok\n"),
     ("links /a", "link 0 /a\nlink 0 /d/b\nok\n"),
@@ -196,14 +199,29 @@ const EACH_KIND: [Row; 32] = [
     ("attr /r", "attr 0000\nok\n"),
     ("ls /r", "ok\n"),
     ("ls /r/x", "no 6 Reparse\n"),
-    ("df", "df 256 117 64 33\nok\n"),
+    (
+        "streams /x",
+        "stream 0\nstream 0 s00\nstream 0 s01\nstream 0 s02\nstream 0 s03\nstream 0 s04\nstream 0 s05\n\
+         stream 0 s06\nstream 0 s07\nstream 0 s08\nstream 0 s09\nstream 0 s10\nstream 0 s11\nstream 0 s12\n\
+         stream 0 s13\nstream 0 s14\nstream 0 s15\nstream 0 s16\nstream 0 s17\nstream 0 s18\nstream 4 s19\n\
+         ok\n",
+    ),
+    ("cat /x:s19", "data 6c617374\nok\n"),
+    ("df", "df 256 117 64 32\nok\n"),
 ];
+
+// The most bytes that are read at once, most of them in the hole: `data`, two digits for each, and `ok`.
+const LONG_READ: &[u8] = b"read /h 4094 32768\n";
+
+const LONG_REPLY: usize = 5 + 2 * 32_768 + 1 + 3;
 
 #[test]
 fn files_of_each_kind_are_read(rt: HostRuntime) -> Result<(), test::Fail> {
     let image = volume_with_all(rt.alloc())?;
     assert!(rt; is_sound(rt.alloc(), 2048, &image)?);
     assert_eq!(rt; wrong_row(rt.alloc(), 2048, &image, &EACH_KIND)?, None);
+    let long = replies(rt.alloc(), 2048, &image, LONG_READ)?;
+    assert_eq!(rt; long.map(|out| out.bytes().len()), Some(LONG_REPLY));
     Ok(())
 }
 
@@ -215,7 +233,7 @@ const SESSIONS: [Row; 20] = [
     ("@3 links /D/B", "link 0 /a\nlink 0 /d/b\nok\n"),
     ("@12 cat /d/b:S", "data 6162\nok\n"),
     ("@1 stat /d/b", "stat file 2 5 0021 256 1 2 3 4\nok\n"),
-    ("@14 df", "df 256 117 64 33\nok\n"),
+    ("@14 df", "df 256 117 64 32\nok\n"),
     (
         "@9 objid /a",
         "objid 000102030405060708090a0b0c0d0eff\nok\n",
@@ -223,7 +241,7 @@ const SESSIONS: [Row; 20] = [
     ("@5 reparse /r", "reparse a0000003 abcd\nok\n"),
     ("@7 cat /a:t", "no 11 NoStream\n"),
     ("@10 streams /a", "stream 5\nstream 2 s\nok\n"),
-    ("@2 cat /x", "no 4 NotFound\n"),
+    ("@2 cat /z", "no 4 NotFound\n"),
     ("@13 ls /r/x", "no 6 Reparse\n"),
     ("@4 attr /r", "attr 0000\nok\n"),
     ("@11 cat /longfilename.txt", "no 16 Packed\n"),
