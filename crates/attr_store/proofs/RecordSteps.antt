@@ -1,8 +1,7 @@
 -- What the steps of the read of an index record tell, and the record.
-use Rattle.std.proofs.Common.{◌≡◌, ℕ, ◌+◌, ◌-◌, ◌*◌, ◌/◌, ◌^◌, ◌%◌, ◌<◌, ◌≤◌, true, false, Bool, List, length, Some, None, sym, ap, ◌∙◌, arith}
+use Rattle.std.proofs.Common.{◌≡◌, ℕ, ◌+◌, ◌*◌, ◌/◌, ◌%◌, ◌<◌, ◌≤◌, true, false, Bool, List, length, Some, None, sym, ap, ◌∙◌, arith}
 use Rattle.std.specs.Prelude.{◌==◌}
 use Rattle.std.specs.Int.{bit_at}
-use Rattle.std.proofs.Math.Nat.{div-lt_iff_lt-mul, mul-le-mul_right, mul_comm}
 use Rattle.std.proofs.lemmas.Bool.{eq-eqb, eqb-true}
 use Rattle.std.proofs.lemmas.List.{get_or_past}
 use Rattle.std.proofs.lemmas.Nat.Bits.{bit_at-zero}
@@ -10,7 +9,7 @@ use Rattle.ntfs_def.specs.Bits.{bit_in}
 use Rattle.volume_def.specs.Files.{Part}
 use Rattle.volume_def.specs.IndexesClause.{IndexParts, stored_index_record}
 use Rattle.volume_def.specs.Table.{cluster_bytes}
-use Rattle.volume_def.specs.Values.{first_part, pieces_touched, value_on}
+use Rattle.volume_def.specs.Values.{first_part, value_on}
 use Rattle.volume_def.specs.View.{VolumeView}
 use Rattle.attr_store.specs.IndexRecords.{Fetches, LiesWhole, TellsOpened, are_placed, index_record_on, record_clusters}
 use Rattle.attr_store.proofs.IndexRecordLaws.{are_placed-Decides, record-absent, record-there}
@@ -79,25 +78,3 @@ no-bit view extents number none =
 pub bit-behind : (bytes : List ℕ) (number : ℕ) → length bytes ≤ number / 8 → false ≡ (bit_in bytes number == 1)
 bit-behind bytes number past =
     sym (ap (λ byte. bit_at byte (number % 8) == 1) (get_or_past bytes (number / 8) 0 past) ∙ ap (λ b. b == 1) (bit_at-zero (number % 8)))
-
--- the sectors of an index record
-pub touched-record : (at len : ℕ) → at % 4096 ≡ 0 → len ≡ 4096 → pieces_touched at len ≡ 8
-touched-record at len aligned is = ap (pieces_touched at) is ∙ touched-aligned at aligned
-  where
-    touched-aligned : (at : ℕ) → at % 4096 ≡ 0 → (at + 4096 - 1) / 512 + 1 - at / 512 ≡ 8
-    touched-aligned at aligned = omega arith
-
--- a byte more is a sector
-pub touched-byte : (at len : ℕ) → len ≡ 1 → pieces_touched at len ≡ 1
-touched-byte at len is = ap (pieces_touched at) is ∙ one-piece at
-  where
-    one-piece : (at : ℕ) → (at + 1 - 1) / 512 + 1 - at / 512 ≡ 1
-    one-piece at = omega arith
-
--- the numbers of a record's clusters do not pass 2 ^ 64
-pub few-clusters : (vcn size at len : ℕ) → 0 < size → at ≡ vcn * size → at + 4096 ≤ len → len < 2 ^ 64
-    → vcn + record_clusters size < 2 ^ 64
-few-clusters vcn size at len some is whole small =
-    let few : record_clusters size < 4097 = (div-lt_iff_lt-mul some).1 (omega arith) in
-    let le = mul-le-mul_right {m = 1} {n = size} vcn some in
-    omega (arith, few, le, mul_comm size vcn)

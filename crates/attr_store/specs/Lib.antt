@@ -4,3 +4,4 @@ pub mod Seen
 pub mod IndexRecords
 pub mod InUse
 pub mod IndexBlocks
+pub mod IndexBlocksLaws

@@ -3,8 +3,8 @@ ghost use Rattle.std.specs.Prelude.{◌≡◌, ℕ, IfNone, IfSome, List, None, 
 ghost use Rattle.std.specs.Option.{option_map};
 ghost use Rattle.ntfs_def.specs.Attribute.{ExtentHeader, NonResident};
 ghost use Rattle.attr_view.specs.View.{attribute_of};
-ghost use Rattle.volume_def.specs.Files.{content_extent, part_of};
-ghost use Rattle.volume_def.specs.Spans.{is_within, spans_vcn};
+ghost use Rattle.volume_def.specs.Files.{part_of};
+ghost use Rattle.volume_def.specs.Spans.{spans_vcn};
 ghost use Rattle.file_record.specs.Left.{attributes_left};
 ghost use Rattle.attr_store.specs.Sought.{IsAmong, IsExtentAt, parts_held_like, spans_named};
 

@@ -1,5 +1,5 @@
 //! The records of an index of a file, as the tree of the index reads them.
-ghost use Rattle.std.specs.Prelude.{◌≡◌, ℕ};
+ghost use Rattle.std.specs.Prelude.{◌≡◌};
 ghost use Rattle.mft_table.specs.Mft.{faults_of};
 ghost use Rattle.attr_store.specs.IndexBlocks.{block_no_of};
 
@@ -33,10 +33,8 @@ fn block_no(no: FileNo) -> BlockNo
 }
 
 impl<D: Disk> Blocks for IndexBlocks<'_, '_, D> {
-    ghost use Rattle.std.specs.Prelude.{◌+◌, refl};
-    ghost use Rattle.std.proofs.Common.{◌∙◌, le_refl};
-    ghost use Rattle.mft_table.proofs.StreamReads.{MftReads-none, MftReads-then};
     ghost use Rattle.attr_store.specs.IndexBlocks.{IsReady, OnlyReads, records_under, sectors_under};
+    ghost use Rattle.attr_store.specs.IndexBlocksLaws.{OnlyReads-none, OnlyReads-then};
 
     ghost records = { records_under D.Disk };
 
@@ -62,20 +60,7 @@ impl<D: Disk> Blocks for IndexBlocks<'_, '_, D> {
         }
     }
 
-    ghost only_reads_itself = { λ it. record {
-      same_mft = refl;
-      file = refl;
-      index = refl;
-      reads = 0;
-      only = MftReads-none _ it.mft.now;
-    } };
+    ghost only_reads_itself = { OnlyReads-none _ };
 
-    ghost only_reads_on = { λ a b c first second. record {
-      same_mft = second.same_mft ∙ first.same_mft;
-      file = second.file ∙ first.file;
-      index = second.index ∙ first.index;
-      reads = first.reads + second.reads;
-      only = MftReads-then _ a.mft.now b.mft.now c.mft.now first.reads second.reads (first.reads + second.reads)
-          first.only second.only (le_refl _);
-    } };
+    ghost only_reads_on = { OnlyReads-then _ };
 }

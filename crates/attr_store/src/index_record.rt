@@ -1,5 +1,5 @@
 //! The records of one index of a file, read one by one.
-ghost use Rattle.std.specs.Prelude.{◌≡◌, ◌≢◌, ◌+◌, ◌*◌, ◌/◌, ◌%◌, ◌<◌, ◌≤◌, ◌^◌, ◌==◌, ℕ, IfErr, IfNone, IfOk, IfSome, IsSome, List, MatchResult, OnErr, OnOk, Some, length, slice_range};
+ghost use Rattle.std.specs.Prelude.{◌≡◌, ◌+◌, ◌*◌, ◌/◌, ◌%◌, ◌<◌, ◌≤◌, ◌^◌, ◌==◌, ℕ, IfErr, IfNone, IfOk, IfSome, IsSome, List, MatchResult, OnErr, OnOk, Some, length, slice_range};
 ghost use Rattle.ntfs_def.specs.Bits.{bit_in};
 ghost use Rattle.attr_view.specs.View.{attribute_of};
 ghost use Rattle.volume_def.specs.ExtentsClause.{AreAttribute};

@@ -13,6 +13,6 @@ mod seen;
 pub use first::{FirstPart, find_first, is_first, is_of, real_size};
 pub use index::{FoundIndex, Stored, find_index};
 pub use index_blocks::IndexBlocks;
-pub use index_record::{read_index_record, read_used_record};
+pub use index_record::read_index_record;
 pub use laws::index_laws;
 pub use read::read_value;

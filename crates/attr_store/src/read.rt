@@ -1,6 +1,6 @@
 //! Values of attributes, read.
-ghost use Rattle.std.specs.Prelude.{◌≡◌, ◌+◌, ◌-◌, ◌*◌, ◌/◌, ◌<◌, ◌≤◌, ◌^◌, ◌++◌, ℕ, IfErr, IfOk, IfSome, IsTrue, List, MatchResult, OnOk, drop, length, min, replicate, slice_get, slice_range};
-ghost use Rattle.ntfs_def.specs.Attribute.{ExtentHeader, NonResident};
+ghost use Rattle.std.specs.Prelude.{◌≡◌, ◌+◌, ◌-◌, ◌*◌, ◌/◌, ◌<◌, ◌≤◌, ◌^◌, ◌++◌, ℕ, IfErr, IfOk, IfSome, IsTrue, MatchResult, OnOk, drop, length, min, slice_get, slice_range};
+ghost use Rattle.ntfs_def.specs.Attribute.{ExtentHeader};
 ghost use Rattle.ntfs_def.specs.Runs.{spot_of};
 ghost use Rattle.attr_view.specs.View.{attribute_of};
 ghost use Rattle.volume_def.specs.ExtentsClause.{AreAttribute};

@@ -8,7 +8,7 @@ use Rattle.std.proofs.lemmas.List.Elements.{All-append, All-cons, All-nil, filte
 use Rattle.std.proofs.lemmas.List.Filters.{length-filter_both}
 use Rattle.std.proofs.lemmas.List.Folds.{length-flat_map-take}
 use Rattle.std.proofs.lemmas.List.Sums.{length-filter}
-use Rattle.ntfs_def.specs.Attribute.{Attribute, attributes}
+use Rattle.ntfs_def.specs.Attribute.{attributes}
 use Rattle.ntfs_def.specs.Fixup.{opened_of}
 use Rattle.volume_def.specs.Files.{Part, Records, part_of, parts_in, record_of, record_on, records_of}
 use Rattle.volume_def.specs.ListsClause.{entries_in, entry_in, is_list, listed_parts}
@@ -86,13 +86,6 @@ parts-found view f n (Some held) number (own, block) other is =
     ∙ ap (λ b. map (part_of n) (attributes b)) block
     ∙ sym (ap (λ o. parts_in o n f) (IsRecordOf-at view f n own)
     ∙ parts_in-own n f (record_of n (opened_of (view.block n))) (IsBlockOf-record view f n own).belongs)
-
-no-attributes : (n : ℕ) (attributes : List Attribute) → length attributes ≡ 0 → map (part_of n) attributes ≡ []
-no-attributes n [] e = refl
-no-attributes n (a ∷ rest) e = absurd (omega arith)
-
-pub no-parts : (held : Held) → length (attributes held.block) ≡ 0 → all_parts (held ∷ []) ≡ []
-no-parts held none = append-nil (parts_of held) ∙ no-attributes held.number (attributes held.block) none
 
 -- the parts that are not wanted are lists
 pub lists-left : (records : Records) (parts : List Part) → length (entries_in records parts) + count_by is_list parts ≡ length parts

@@ -1,16 +1,16 @@
 -- A list of a record, as its numbers and its text tell it: whether it lies whole on the volume, and its value.
-use Rattle.std.proofs.Common.{Vec, Global, ◌≡◌, ◌<◌, ◌≤◌, ◌*◌, ℕ, false, List, [], Option, Some, None, IfSome, IsSome, length, map, refl, sym, ap, subst, ◌∙◌, arith}
-use Rattle.std.specs.Prelude.{All, IfNone, unwrap_or}
+use Rattle.std.proofs.Common.{Vec, Global, ◌≡◌, ◌<◌, ◌≤◌, ℕ, false, List, Option, Some, None, IfSome, IsSome, length, map, refl, sym, ap, subst, ◌∙◌, arith}
+use Rattle.std.specs.Prelude.{IfNone}
 use Rattle.std.specs.List.{range_with_len}
 use Rattle.std.specs.Option.{option_map}
 use Rattle.ntfs_def.specs.declared.run_text.Run.{Run}
 use Rattle.ntfs_def.specs.declared.sizes.Sizes.{Sizes}
-use Rattle.ntfs_def.specs.Attribute.{Attribute, Body, ExtentHeader, NonResident, Resident, extent_of, run_text_of, value_of}
+use Rattle.ntfs_def.specs.Attribute.{Attribute, ExtentHeader, extent_of, run_text_of}
 use Rattle.ntfs_def.specs.Flags.{is_packed}
-use Rattle.ntfs_def.specs.Runs.{runs_in, spot_of, total_clusters}
-use Rattle.volume_def.specs.Files.{Clusters, Part, content_extent, content_of, content_runs, part_of}
+use Rattle.ntfs_def.specs.Runs.{runs_in, spot_of}
+use Rattle.volume_def.specs.Files.{Clusters, Part, content_extent, content_runs, part_of}
 use Rattle.volume_def.specs.ListsClause.{LiesOnVolume, list_value}
-use Rattle.volume_def.specs.Table.{IsOnVolume, cluster_bytes}
+use Rattle.volume_def.specs.Table.{cluster_bytes}
 use Rattle.volume_def.specs.Values.{value_byte}
 use Rattle.volume_def.specs.View.{VolumeView}
 use Rattle.check_records.specs.Listed.{IsPlacedList}
@@ -21,30 +21,6 @@ use Rattle.file_record.proofs.ListedLaws.{clusters-content}
 abbrev pub Lies : VolumeView → Part → Type 0
 Lies view part = IfSome (content_extent part.content) (LiesOnVolume view part)
 
--- An attribute without numbers is a value.
-
-body-value : (body : Body) → option_map (λ extent. extent.sizes) (extent_of body) ≡ None → content_extent (content_of body) ≡ None
-body-value (Resident value) e = refl
-body-value (NonResident extent text) e = cc
-
-pub lies-value : (view : VolumeView) (n : ℕ) (a : Attribute) → option_map (λ extent. extent.sizes) (extent_of a.body) ≡ None
-    → Lies view (part_of n a)
-lies-value view n a e = subst (λ o. IfSome o (LiesOnVolume view (part_of n a))) (sym (body-value a.body e)) tt
-
-body-text : (body : Body) (sizes : Sizes) → option_map (λ extent. extent.sizes) (extent_of body) ≡ Some sizes → run_text_of body ≡ None → ⊥
-body-text (Resident value) sizes e f = cc
-body-text (NonResident extent text) sizes e f = cc
-
-pub no-text : (a : Attribute) (sizes : Sizes) → option_map (λ extent. extent.sizes) (extent_of a.body) ≡ Some sizes → run_text_of a.body ≡ None → ⊥
-no-text a sizes e f = body-text a.body sizes e f
-
-body-none : (body : Body) → value_of body ≡ None → option_map (λ extent. extent.sizes) (extent_of body) ≡ None → ⊥
-body-none (Resident value) e f = cc
-body-none (NonResident extent text) e f = cc
-
-pub no-value : (a : Attribute) → value_of a.body ≡ None → option_map (λ extent. extent.sizes) (extent_of a.body) ≡ None → ⊥
-no-value a e f = body-none a.body e f
-
 -- A list in clusters.
 
 lies-at : (view : VolumeView) (part : Part) (extent : ExtentHeader) (found : Option (List Run)) → part.content ≡ Clusters extent found
@@ -53,47 +29,10 @@ lies-at view part extent found e lies = subst (λ o. IfSome o (LiesOnVolume view
 
 module _ (view : VolumeView) (n : ℕ) (a : Attribute) (sizes : Sizes) (text : List ℕ)
     (numbers : option_map (λ extent. extent.sizes) (extent_of a.body) ≡ Some sizes) (its_text : run_text_of a.body ≡ Some text) where
-  pub lies-no_runs : runs_in text ≡ None → Lies view (part_of n a) → ⊥
-  lies-no_runs none lies =
-      let w = clusters-content a.body sizes text numbers its_text in
-      let at = lies-at view (part_of n a) w.0 (runs_in text) w.1 lies in
-      let some = subst (λ o. IsSome o) none (subst (λ content. IsSome (content_runs content)) w.1 at.text) in
-      absurd (cc)
-
-  pub lies-to : (runs : List Run) → runs_in text ≡ Some runs → sizes.first ≡ 0 → sizes.real ≤ total_clusters runs * cluster_bytes view.layout
-      → All (IsOnVolume view.layout.clusters) runs → Lies view (part_of n a)
-  lies-to runs is first real all =
-      let w = clusters-content a.body sizes text numbers its_text in
-      let e : (part_of n a).content ≡ Clusters w.0 (Some runs) = w.1 ∙ ap (Clusters w.0) is in
-      let lies : LiesOnVolume view (part_of n a) w.0 = record {
-        from_start = ap (λ (s : Sizes). s.first) w.2 ∙ first;
-        text = subst (λ content. IsSome (content_runs content)) (sym e) refl;
-        on_volume = subst (λ content. All (IsOnVolume view.layout.clusters) (unwrap_or (content_runs content) [])) (sym e) all;
-        covered = subst (λ content. w.0.sizes.real ≤ total_clusters (unwrap_or (content_runs content) []) * cluster_bytes view.layout) (sym e)
-            (subst (λ (s : Sizes). s.real ≤ total_clusters runs * cluster_bytes view.layout) (sym w.2) real);
-      } in
-      subst (λ o. IfSome o (LiesOnVolume view (part_of n a))) (sym (ap content_extent e)) lies
-
   pub lies-first : Lies view (part_of n a) → sizes.first ≡ 0
   lies-first lies =
       let w = clusters-content a.body sizes text numbers its_text in
       sym (ap (λ (s : Sizes). s.first) w.2) ∙ (lies-at view (part_of n a) w.0 (runs_in text) w.1 lies).from_start
-
-  pub lies-real : (runs : List Run) → runs_in text ≡ Some runs → Lies view (part_of n a)
-      → sizes.real ≤ total_clusters runs * cluster_bytes view.layout
-  lies-real runs is lies =
-      let w = clusters-content a.body sizes text numbers its_text in
-      let e : (part_of n a).content ≡ Clusters w.0 (Some runs) = w.1 ∙ ap (Clusters w.0) is in
-      subst (λ (s : Sizes). s.real ≤ total_clusters runs * cluster_bytes view.layout) w.2
-      (subst (λ content. w.0.sizes.real ≤ total_clusters (unwrap_or (content_runs content) []) * cluster_bytes view.layout) e
-      (lies-at view (part_of n a) w.0 (Some runs) e lies).covered)
-
-  pub lies-all : (runs : List Run) → runs_in text ≡ Some runs → Lies view (part_of n a) → All (IsOnVolume view.layout.clusters) runs
-  lies-all runs is lies =
-      let w = clusters-content a.body sizes text numbers its_text in
-      let e : (part_of n a).content ≡ Clusters w.0 (Some runs) = w.1 ∙ ap (Clusters w.0) is in
-      subst (λ content. All (IsOnVolume view.layout.clusters) (unwrap_or (content_runs content) [])) e
-      (lies-at view (part_of n a) w.0 (Some runs) e lies).on_volume
 
   pub lies-runs : Lies view (part_of n a) → (runs : List Run) × (runs_in text ≡ Some runs)
   lies-runs lies =

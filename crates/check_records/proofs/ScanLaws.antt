@@ -1,27 +1,16 @@
 -- What a pass over the table has decided and noted, a record at a time.
 use Rattle.std.proofs.Common.{◌≡◌, ◌<◌, ◌≤◌, ◌+◌, ℕ, IsTrue, true, false, List, Some, None, inl, inr, cond, ap, subst, arith}
-use Rattle.std.specs.Prelude.{is_some}
 use Rattle.std.proofs.lemmas.Bool.{cases_lt, lt-ltb}
-use Rattle.vol_disk.specs.Contents.{sector_in}
-use Rattle.vol_disk.specs.declared.Disk.{Ghosts}
-use Rattle.vol_stage.specs.declared.stage.Stage.{Stage}
-use Rattle.vol_stage.specs.Staged.{StageReads}
 use Rattle.ntfs_def.specs.Fixup.{opened_of}
 use Rattle.ntfs_def.specs.Record.{is_in_use}
 use Rattle.volume_def.specs.Files.{record_in, record_of, record_on}
 use Rattle.volume_def.specs.ShapeClause.{MeetsShape}
 use Rattle.volume_def.specs.Sound.{HoldBelow}
 use Rattle.volume_def.specs.Sound.Clause.{Shape}
-use Rattle.volume_def.specs.Table.{IsWellFormed, TableLayout}
-use Rattle.volume_def.specs.View.{VolumeView, view_of}
+use Rattle.volume_def.specs.Table.{IsWellFormed}
+use Rattle.volume_def.specs.View.{VolumeView}
 use Rattle.check_records.specs.Refusals.{IsFirstBroken}
-use Rattle.check_records.specs.Views.{stage_view}
 use Rattle.check_records.proofs.OrderLaws.{HoldBelow-more, HoldBelow-none, IsFirstBroken-of}
-
--- what only reads leaves the volume as it is
-pub stage_view-kept : {D : Type 0} (g : Ghosts D) (old new : Stage D g) (layout : TableLayout) (n : ℕ) → StageReads g old new n
-    → stage_view g new layout ≡ stage_view g old layout
-stage_view-kept g old new layout n reads = ap (λ i. view_of (is_some i) (sector_in i) layout) reads.only_reads.image
 
 -- a record inside the table is what its block means
 pub record_on-inside : (view : VolumeView) (n : ℕ) → n < view.layout.count → record_on view n ≡ record_in n (view.block n)

@@ -4,12 +4,12 @@ use Rattle.std.specs.Prelude.{is_some}
 use Rattle.vol_disk.specs.Contents.{WhereTold, sector_in}
 use Rattle.ntfs_def.specs.Boot.{boot_sector}
 use Rattle.volume_def.specs.Sound.{HoldBelow, told_view}
-use Rattle.volume_def.specs.Table.{LiesOn, MeetsTable, TableLayout}
+use Rattle.volume_def.specs.Table.{MeetsTable, TableLayout}
 use Rattle.volume_def.specs.View.{VolumeView, view_of}
 use Rattle.volume_facts.specs.declared.facts.Facts.{Facts}
 use Rattle.mft_table.specs.declared.mount.MountNo.{MountNo}
 use Rattle.mft_table.specs.declared.mounted.Mounted.{Mounted}
-use Rattle.mft_table.specs.Mounted.{StandsOn, mounted_layout}
+use Rattle.mft_table.specs.Mounted.{mounted_layout}
 use Rattle.mft_table.specs.Tables.{layout_on}
 use Rattle.check_records.specs.Reads.{bytes_reads, check_reads, files_reads}
 use Rattle.check_records.specs.Refusals.{IsRefusal, IsRefusalIf}
@@ -30,16 +30,6 @@ stored_tables mounted clusters records upcase = record mounted { clusters = clus
 same-layout : (mounted : Mounted) (clusters records : List Bool) (upcase : List ℕ) → length records ≡ length mounted.records
     → mounted_layout mounted ≡ mounted_layout (stored_tables mounted clusters records upcase)
 same-layout mounted clusters records upcase long = ap (λ n. layout_on mounted.geometry mounted.table mounted.initialized n) (sym long)
-
-pub stands-stored : (sectors : ℕ) (mounted : Mounted) (clusters records : List Bool) (upcase : List ℕ) → StandsOn sectors mounted
-    → length clusters ≡ mounted.geometry.clusters → length records ≡ length mounted.records
-    → StandsOn sectors (stored_tables mounted clusters records upcase)
-stands-stored sectors mounted clusters records upcase stands all long = record {
-  whole = stands.whole;
-  size = stands.size;
-  clusters = all;
-  table = subst (LiesOn sectors) (same-layout mounted clusters records upcase long) stands.table;
-}
 
 HoldsTables-stored : (image : List ℕ) (mounted : Mounted) (clusters records : List Bool) (upcase : List ℕ) → HasTable image mounted
     → length records ≡ length mounted.records → HoldBelow (volume_in image mounted) 10

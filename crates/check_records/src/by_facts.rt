@@ -8,7 +8,7 @@ ghost use Rattle.check_records.specs.Refusals.{DecidesFirst};
 ghost use Rattle.check_records.specs.Views.{IsOfVolume};
 
 use std::alloc::{AllocError, Global};
-use volume_facts::{Facts, first_wrong_link, first_wrong_reference};
+use volume_facts::Facts;
 
 /// The least record that breaks the clause on attributes.
 pub fn first_wrong_attributes(facts: &Facts) -> Option<u64>
@@ -26,17 +26,21 @@ pub fn first_wrong_owner(facts: &Facts) -> Option<u64>
 }
 
 /// The least record that breaks the clause on references.
-pub fn first_wrong_holder(facts: &Facts) -> Option<u64>
+pub fn first_wrong_reference(facts: &Facts) -> Option<u64>
     ensures { (view : VolumeView) → FactsNote (records_of view) view.layout.count facts.now → DecidesFirst References view result }
 {
-    first_wrong_reference(&facts.heads, &facts.names)
+    volume_facts::first_wrong_reference(&facts.heads, &facts.names)
 }
 
 /// The least base record that breaks the clause on links.
-pub fn first_wrong_name(alloc: Global, facts: &Facts) -> Result<Option<u64>, AllocError>
+///
+/// # Errors
+///
+/// Want of memory alone.
+pub fn first_wrong_link(alloc: Global, facts: &Facts) -> Result<Option<u64>, AllocError>
     ensures { IfOk result (λ first. (view : VolumeView) → FactsNote (records_of view) view.layout.count facts.now
         → DecidesFirst Links view first) }
 {
-    let first = first_wrong_link(alloc, &facts.heads, &facts.names)?;
+    let first = volume_facts::first_wrong_link(alloc, &facts.heads, &facts.names)?;
     Ok(first)
 }

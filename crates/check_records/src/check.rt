@@ -1,12 +1,12 @@
 //! The whole check: each clause in its order, and the tables of a volume that meets all of them.
-ghost use Rattle.std.specs.Prelude.{◌≡◌, ◌+◌, ◌*◌, ◌≤◌, ℕ, IfErr, IfOk, IsTrue, MatchResult, OnOk, length};
+ghost use Rattle.std.specs.Prelude.{◌≡◌, ◌+◌, ◌≤◌, ℕ, IfErr, IfOk, IsTrue, MatchResult, OnOk, length};
 ghost use Rattle.vol_disk.specs.Contents.{WhereTold};
 ghost use Rattle.vol_disk.specs.Reading.{DiskReads};
 ghost use Rattle.volume_def.specs.Sound.{HoldBelow};
 ghost use Rattle.volume_def.specs.View.{VolumeView};
 ghost use Rattle.mft_table.specs.Mft.{MftReads, faults_of, view};
 ghost use Rattle.mft_table.specs.MountNos.{CountsMount};
-ghost use Rattle.mft_table.specs.Mounted.{StandsOn, mounted_layout};
+ghost use Rattle.mft_table.specs.Mounted.{StandsOn};
 ghost use Rattle.check_records.specs.Decided.{AreDecided};
 ghost use Rattle.check_records.specs.Reads.{bytes_reads, check_reads, files_reads};
 ghost use Rattle.check_records.specs.Refusals.{IsRefusal, IsRefusalIf};
@@ -14,7 +14,7 @@ ghost use Rattle.mft_table.specs.HeldTables.{AreStored, HoldsTables, volume_in};
 ghost use Rattle.check_records.specs.Views.{HasComeTo};
 
 use crate::by_facts::{
-    first_wrong_attributes, first_wrong_holder, first_wrong_name, first_wrong_owner,
+    first_wrong_attributes, first_wrong_link, first_wrong_owner, first_wrong_reference,
 };
 use crate::case_table::read_case_table;
 use crate::clause::Clause;
@@ -73,8 +73,8 @@ fn decide_names(alloc: Global, facts: &Facts) -> Result<(), MountNo>
     ensures err { IfErr result (λ no. (view : VolumeView) → IsRefusalIf (HasComeTo view 7 facts.now) view no) }
     ensures faults { IfErr result (λ no. (count : ℕ) → CountsMount count count no) }
 {
-    refuse_first(Clause::References, first_wrong_holder(facts))?;
-    let first = first_wrong_name(alloc, facts)?;
+    refuse_first(Clause::References, first_wrong_reference(facts))?;
+    let first = first_wrong_link(alloc, facts)?;
     refuse_first(Clause::Links, first)?;
     Ok(())
 }

@@ -8,7 +8,7 @@ use file_record::FileNo;
 use mft_table::MountNo;
 
 /// Why a volume is not taken into use whose file is not read.
-pub fn no_file(no: FileNo) -> MountNo
+pub fn mount_no_of(no: FileNo) -> MountNo
     ensures fault { IsReadNo no → IsFault result }
     ensures counts { (before after : ℕ) → IsReadNo no → CountsNo before after no → CountsMount before after result }
 {

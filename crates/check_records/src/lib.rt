@@ -19,5 +19,5 @@ mod values;
 mod wrong_files;
 
 pub use check::check_records;
-pub use files::no_file;
+pub use files::mount_no_of;
 pub use laws::one_answer;

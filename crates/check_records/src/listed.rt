@@ -21,7 +21,7 @@ ghost use Rattle.volume_facts.specs.Spread.{AreExtensionsOf, parts_from};
 ghost use Rattle.check_records.specs.Listed.{IsBaseHeld, IsHeldIn, IsListedFile, IsPlacedList, NamesParts, all_parts};
 ghost use Rattle.check_records.specs.Refusals.{IsFault};
 
-use crate::files::no_file;
+use crate::files::mount_no_of;
 use attr_list::EntryView;
 use attr_view::AttrView;
 use data_runs::{Run, read_runs};
@@ -97,15 +97,6 @@ fn is_placed(
     Ok(on_volume && sizes.first == 0 && u128::from(sizes.real) <= covered)
 }
 
-// The bytes of a value, in memory of its own.
-fn copy_of(alloc: Global, value: &[u8]) -> Result<Vec<u8>, AllocError>
-    ensures { IfOk result (λ copy. copy.items ≡ value.now) }
-{
-    let mut copy = Vec::with_capacity(alloc, value.len())?;
-    copy.extend_from_slice(value)?;
-    Ok(copy)
-}
-
 // The value of a list that is placed, wherever it lies; `None` where it is longer than a list may be.
 fn value_of<D: Disk>(
     alloc: Global,
@@ -126,7 +117,7 @@ fn value_of<D: Disk>(
     ensures reads { MftReads D.Disk mft.old mft.new 512 }
 {
     if let Some(value) = list.value() {
-        let value = copy_of(alloc, value)?;
+        let value = Vec::from_slice(alloc, value)?;
         return Ok(Some(value));
     }
     let Some(sizes) = list.sizes() else {
@@ -140,7 +131,7 @@ fn value_of<D: Disk>(
     }
     match read_list(alloc, mft, &sizes, text) {
         Ok(value) => Ok(Some(value)),
-        Err(no) => Err(no_file(no)),
+        Err(no) => Err(mount_no_of(no)),
     }
 }
 
@@ -188,7 +179,7 @@ fn read_record<D: Disk>(mft: &mut Mft<'_, D>, n: u64, f: u64) -> Result<Option<H
 {
     match Held::read(mft, n, f) {
         Ok(found) => Ok(found),
-        Err(no) => Err(no_file(no)),
+        Err(no) => Err(mount_no_of(no)),
     }
 }
 

@@ -1,5 +1,5 @@
 //! The order of the clauses.
-ghost use Rattle.std.specs.Prelude.{◌≡◌, ◌+◌, ℕ, IfErr, OnOk};
+ghost use Rattle.std.specs.Prelude.{◌+◌, ℕ, IfErr, OnOk};
 ghost use Rattle.volume_def.specs.Sound.{HoldBelow, rank_of};
 ghost use Rattle.volume_def.specs.View.{VolumeView};
 ghost use Rattle.mft_table.specs.MountNos.{CountsMount};

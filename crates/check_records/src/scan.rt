@@ -1,6 +1,5 @@
 //! The pass over the table: each block is read once.
 ghost use Rattle.std.specs.Prelude.{◌≡◌, ◌↔◌, ◌+◌, ◌*◌, ◌<◌, ◌≤◌, ◌^◌, IfErr, IfOk, IsTrue, MatchResult, OnOk};
-ghost use Rattle.vol_disk.specs.Count.{CountsFault};
 ghost use Rattle.ntfs_def.specs.Record.{is_in_use};
 ghost use Rattle.volume_def.specs.Files.{Records, record_in, records_of};
 ghost use Rattle.volume_def.specs.Sound.{HoldBelow};

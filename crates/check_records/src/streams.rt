@@ -6,7 +6,6 @@ ghost use Rattle.mft_table.specs.Mft.{MftReads, faults_of, view};
 ghost use Rattle.mft_table.specs.MountNos.{CountsMount};
 ghost use Rattle.mft_table.specs.Streams.{IsSeam, spot_on};
 ghost use Rattle.volume_facts.specs.Streams.{spot_noted};
-ghost use Rattle.check_records.specs.Refusals.{IsFault};
 
 use mft_table::{Mft, MountNo};
 use ntfs_def::Spot;
@@ -35,7 +34,7 @@ fn read_placed<D: Disk>(
     ensures read { OnOk result (IsTrue (view D.Disk mft.old).told → into.new
         ≡ stored_bytes (view D.Disk mft.old).cluster (cluster_bytes (view D.Disk mft.old).layout) (spot_on (Some cluster)) skip
         (length into.old)) }
-    ensures err { IfErr result IsFault }
+    ensures err { IfErr result (λ no. no ≡ MountNo.Device) }
     ensures faults { MatchResult result (λ _. faults_of D.Disk mft.new ≡ faults_of D.Disk mft.old)
         (CountsMount (faults_of D.Disk mft.old) (faults_of D.Disk mft.new)) }
     ensures reads { MftReads D.Disk mft.old mft.new (pieces_touched skip (length into.old)) }
@@ -60,7 +59,7 @@ fn read_cluster<D: Disk>(
     ensures read { IfOk result (λ n. IsTrue (view D.Disk mft.old).told → into.new
         ≡ stored_bytes (view D.Disk mft.old).cluster (cluster_bytes (view D.Disk mft.old).layout) (spot_noted note.now) at n
         ++ drop n into.old) }
-    ensures err { IfErr result IsFault }
+    ensures err { IfErr result (λ no. no ≡ MountNo.Device) }
     ensures faults { MatchResult result (λ _. faults_of D.Disk mft.new ≡ faults_of D.Disk mft.old)
         (CountsMount (faults_of D.Disk mft.old) (faults_of D.Disk mft.new)) }
     ensures reads { MatchResult result (λ n. MftReads D.Disk mft.old mft.new (pieces_touched at n))
@@ -90,7 +89,7 @@ pub fn read_stored<D: Disk>(
     ensures read { OnOk result (IsTrue (view D.Disk mft.old).told → into.new
         ≡ stored_bytes (view D.Disk mft.old).cluster (cluster_bytes (view D.Disk mft.old).layout) (spot_noted note.now) at
         (length into.old)) }
-    ensures err { IfErr result IsFault }
+    ensures err { IfErr result (λ no. no ≡ MountNo.Device) }
     ensures faults { MatchResult result (λ _. faults_of D.Disk mft.new ≡ faults_of D.Disk mft.old)
         (CountsMount (faults_of D.Disk mft.old) (faults_of D.Disk mft.new)) }
     ensures reads { MftReads D.Disk mft.old mft.new (pieces_touched at (length into.old)) }

@@ -9,7 +9,6 @@ ghost use Rattle.mft_table.specs.Mft.{MftReads, faults_of, view};
 ghost use Rattle.mft_table.specs.MountNos.{CountsMount};
 ghost use Rattle.volume_facts.specs.BitRanges.{IsPieceOf};
 ghost use Rattle.volume_facts.specs.Streams.{NotesStream};
-ghost use Rattle.check_records.specs.Refusals.{IsFault};
 ghost use Rattle.check_records.specs.Streams.{ArePlacesFor};
 
 use crate::streams::read_stored;
@@ -49,7 +48,7 @@ pub fn read_start<D: Disk>(
     ensures read { OnOk result (IsTrue (view D.Disk mft.old).told → (extents : List Part) → NotesStream extents note.now
         → ArePlacesFor (length into.old) (cluster_bytes (view D.Disk mft.old).layout) note.now
         → IsPieceOf (value_on (view D.Disk mft.old) extents) 0 into.new) }
-    ensures err { IfErr result IsFault }
+    ensures err { IfErr result (λ no. no ≡ MountNo.Device) }
     ensures faults { MatchResult result (λ _. faults_of D.Disk mft.new ≡ faults_of D.Disk mft.old)
         (CountsMount (faults_of D.Disk mft.old) (faults_of D.Disk mft.new)) }
     ensures reads { MftReads D.Disk mft.old mft.new (pieces_touched 0 (length into.old)) }

@@ -10,6 +10,5 @@ mod sought;
 mod tests;
 
 pub use laws::{directory_search_laws, directory_walk_laws};
-pub use link::{link_of_entry, link_of_key};
+pub use link::link_of_key;
 pub use search::{list, list_in, lookup, lookup_in};
-pub use sought::{ExactName, FoldedName};

@@ -21,7 +21,8 @@ ghost use Rattle.dir_index.specs.Links.{link_in};
 ghost use Rattle.dir_index.specs.Sought.{is_sought_key};
 
 use crate::index::{find_first, walk_all};
-use crate::{ExactName, FoldedName, link_of_entry};
+use crate::link::link_of_entry;
+use crate::sought::{ExactName, FoldedName};
 use attr_store::{FoundIndex, find_index};
 use file_record::{FileNo, FileParts};
 use mft_table::Mft;

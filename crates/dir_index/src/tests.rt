@@ -1,6 +1,7 @@
 //! A name is sought among keys, and an entry says its link.
 
-use super::*;
+use crate::link::link_of_entry;
+use crate::sought::{ExactName, FoldedName};
 use collation::Collation;
 use index_node::NodeView;
 use ntfs_def::NodeForm;

@@ -1,12 +1,9 @@
 -- The least file with a stream that is too long, as a pass over the records finds it.
-use Rattle.std.proofs.Common.{◌≡◌, ◌+◌, ◌<◌, ◌≤◌, ◌^◌, ℕ, Bool, true, false, List, Option, Some, None, min, inl, inr, refl, sym, ap, subst, ◌∙◌, arith}
+use Rattle.std.proofs.Common.{◌≡◌, ◌+◌, ◌<◌, ◌≤◌, ◌^◌, ℕ, Bool, true, false, List, ◌∷◌, Option, Some, None, min, inl, inr, refl, sym, ap, subst, ◌∙◌, arith}
 use Rattle.std.proofs.lemmas.Bool.{false≢true}
 use Rattle.std.specs.Prelude.{◌↔◌, All, IfSome, IsTrue, option_map}
 use Rattle.std.proofs.lemmas.Bool.{cases_lt}
-use Rattle.std.proofs.lemmas.List.Elements.{All-contains, All-more}
-use Rattle.std.proofs.lemmas.List.{length-map, take_all}
-use Rattle.std.proofs.lemmas.Option.{get_or_from_slice_get, slice_get-map, slice_get_within}
-use Rattle.std.proofs.Common.{get_or, slice_get, take}
+use Rattle.std.proofs.lemmas.List.Elements.{All-cons, All-contains, All-head, All-tail}
 use Rattle.ntfs_def.specs.declared.kinds.TheConstants.{DATA}
 use Rattle.ntfs_def.specs.declared.sizes.Sizes.{Sizes}
 use Rattle.ntfs_def.specs.Attribute.{Attribute, Body, ExtentHeader, NonResident, Resident, extent_of}
@@ -28,8 +25,17 @@ use Rattle.mount_check.specs.Views.{HasComeTo}
 use Rattle.mount_check.proofs.VersionLaws.{IsUsedAs}
 use Rattle.file_record.proofs.RecordLaws.{record_at-in_use, record_at-inside, record_at-used, some-value}
 use Rattle.volume_facts.specs.Least.{IsLeastFailing, least_of}
-use Rattle.mount_check.specs.Limits.{BreaksLimits, IsLeastLong, IsLongIn, KeepsBelow, KeepsLimits}
+use Rattle.mount_check.specs.Limits.{BreaksLimits, IsLongIn, KeepsLimits}
 use Rattle.mount_check.proofs.PlaceLaws.{file-held}
+
+-- No part that record n holds is of a stream that is too long for its file, if the file is one before file f.
+abbrev pub KeepsBelow : VolumeView → ℕ → ℕ → Type 0
+KeepsBelow view f n = (r : Record) → record_on view n ≡ Some r → file_of n r < f → All (IsInLimits (file_of n r)) r.parts
+
+-- the least file of which one of the records below n holds a part of a stream that is too long
+abbrev pub IsLeastLong : VolumeView → ℕ → Option ℕ → Type 0
+IsLeastLong view n None = (m : ℕ) → m < n → KeepsLimits view m
+IsLeastLong view n (Some f) = ((m : ℕ) × (m < n) × BreaksLimits view f m) × ((m : ℕ) → m < n → KeepsBelow view f m)
 
 -- before the first record
 pub long-none : (view : VolumeView) → IsLeastLong view 0 None
@@ -195,26 +201,17 @@ module _ (view : VolumeView) (n : ℕ) (come : HasComeTo view 11) (used : Bool) 
     broken = broken;
   }
 
--- The attributes of a record, one after another.
-module _ (f n i : ℕ) (items : List Attribute) (a : Attribute) (there : slice_get items i ≡ Some a) where
-  part-there : slice_get (map (part_of n) items) i ≡ Some (part_of n a)
-  part-there = slice_get-map (part_of n) items i ∙ ap (option_map (part_of n)) there
+-- The attributes of a record, one after another: those that are left behind one are in their limits where all from it on are.
+module _ (f n : ℕ) (a : Attribute) (left before : List Attribute) (steps : before ≡ a ∷ left) where
+  pub limits-first : All (IsInLimits f) (map (part_of n) before) → IsInLimits f (part_of n a)
+  limits-first all =
+      All-head (IsInLimits f) (part_of n a) (map (part_of n) left) (subst (λ items. All (IsInLimits f) (map (part_of n) items)) steps all)
 
-  part-is : get_or (map (part_of n) items) i (part_of n a) ≡ part_of n a
-  part-is = get_or_from_slice_get (map (part_of n) items) i (part_of n a) (part_of n a) part-there
-
-  part-inside : i < length (map (part_of n) items)
-  part-inside = slice_get_within (map (part_of n) items) i (part_of n a) part-there
-
-  pub limits-at : All (IsInLimits f) (map (part_of n) items) → IsInLimits f (part_of n a)
-  limits-at all = subst (IsInLimits f) part-is (all i (part_of n a) part-inside)
-
-  pub limits-more : All (IsInLimits f) (take i (map (part_of n) items)) → IsInLimits f (part_of n a)
-      → All (IsInLimits f) (take (i + 1) (map (part_of n) items))
-  limits-more all here =
-      All-more (IsInLimits f) (map (part_of n) items) i (part_of n a) part-inside all (subst (IsInLimits f) (sym part-is) here)
-
-pub limits-whole : (f n i : ℕ) (items : List Attribute) → length items ≤ i → All (IsInLimits f) (take i (map (part_of n) items))
-    → All (IsInLimits f) (map (part_of n) items)
-limits-whole f n i items past all =
-    subst (All (IsInLimits f)) (take_all i (map (part_of n) items) (omega (arith, length-map items (part_of n)))) all
+  pub limits-left : IsInLimits f (part_of n a)
+      → All (IsInLimits f) (map (part_of n) left) ↔ All (IsInLimits f) (map (part_of n) before)
+  limits-left here = (
+    λ rest. subst (λ items. All (IsInLimits f) (map (part_of n) items)) (sym steps)
+        (All-cons (IsInLimits f) (part_of n a) (map (part_of n) left) here rest),
+    λ all. All-tail (IsInLimits f) (part_of n a) (map (part_of n) left)
+        (subst (λ items. All (IsInLimits f) (map (part_of n) items)) steps all),
+  )

@@ -7,11 +7,10 @@ use Rattle.ntfs_def.specs.declared.records.TheConstants.{MFT_MIRROR, VOLUME}
 use Rattle.volume_def.specs.Files.{parts_at}
 use Rattle.volume_def.specs.Sound.Clause.{MirrorPlace, Version}
 use Rattle.volume_def.specs.VersionClause.{HasVersion, IsMirror}
-use Rattle.volume_def.specs.Sound.{Clause, HoldBelow, clause_number, rank_of}
+use Rattle.volume_def.specs.Sound.{HoldBelow}
 use Rattle.volume_def.specs.View.{VolumeView}
 use Rattle.volume_facts.specs.Least.{IsLeastFailing}
 use Rattle.check_records.specs.Refusals.{DecidesFirst}
-use Rattle.mount_check.specs.Refusals.{IsFirstBroken}
 use Rattle.mount_check.specs.Views.{HasComeTo}
 
 -- what a clause asks at one number alone
@@ -25,13 +24,6 @@ least-unless P number false first so unset is =
 pub holds-none : (holds : Bool) (number : ℕ) (first : Option ℕ) → (IsFalse holds → first ≡ Some number) → first ≡ None → IsTrue holds
 holds-none true number first unset none = refl
 holds-none false number first unset none = let e : Some number ≡ None = sym (unset refl) ∙ none in cc
-
--- the first that fails
-pub IsFirstBroken-of : (view : VolumeView) (clause : Clause) (n : ℕ) → HoldBelow view (rank_of clause)
-    → DecidesFirst clause view (Some n) → IsFirstBroken view (clause_number clause) n
-IsFirstBroken-of view clause n before first =
-    let (broken, below) = first before in
-    record { clause = clause; number = refl; first = record { before = before; below = below; broken = broken } }
 
 -- the clauses of a lower rank hold too
 pub HoldBelow-less : (view : VolumeView) (low high : ℕ) → low ≤ high → HoldBelow view high → HoldBelow view low

@@ -1,5 +1,5 @@
 -- What a refusal of a volume says of the contents of its disk.
-use Rattle.std.proofs.Common.{◌≡◌, ◌/◌, ℕ, List, length, Option, Some, IsTrue, inr, refl, subst}
+use Rattle.std.proofs.Common.{◌≡◌, ◌/◌, ℕ, List, length, Option, Some, IsTrue, inr, refl, sym, subst}
 use Rattle.std.specs.Prelude.{is_some}
 use Rattle.vol_disk.specs.Contents.{sector_in}
 use Rattle.ntfs_def.specs.Boot.{boot_sector}
@@ -25,6 +25,9 @@ IsRefusalIf-fault A view (no.Refused k n) h = absurd h
 IsRefusalIf-fault A view no.Dirty h = absurd h
 IsRefusalIf-fault A view no.Device h = tt
 IsRefusalIf-fault A view no.Memory h = tt
+
+pub IsRefusalIf-device : (A : Type 0) (view : VolumeView) (refusal : MountNo) → refusal ≡ no.Device → IsRefusalIf A view refusal
+IsRefusalIf-device A view refusal is = subst (IsRefusalIf A view) (sym is) tt
 
 -- a table was found on the disk, and its volume is refused
 pub IsMountNo-later : (A : Type 0) (told : Option (List ℕ)) (layout : TableLayout) (refusal : MountNo)

@@ -2,7 +2,7 @@
 use Rattle.std.proofs.Common.{◌≡◌, ℕ, ◌+◌, ◌-◌, ◌*◌, ◌%◌, ◌<◌, ◌≤◌, Bool, true, false, cond, List, length, inl, inr, refl, sym, ap, subst, ◌∙◌, arith}
 use Rattle.std.proofs.lemmas.Bool.{false≢true}
 use Rattle.std.specs.Prelude.{◌↔◌, IsTrue, Option, Some, None, slice_index}
-use Rattle.std.proofs.lemmas.Bool.{cases_Bool, cases_lt, le-leb, lt-leb}
+use Rattle.std.proofs.lemmas.Bool.{cases_Bool, cases_lt, lt-leb}
 use Rattle.std.proofs.Common.{drop, length-drop, length-take}
 use Rattle.std.specs.Prelude.{slice_range}
 use Rattle.ntfs_def.specs.declared.kinds.TheConstants.{VOLUME_INFORMATION}
@@ -15,7 +15,7 @@ use Rattle.ntfs_def.specs.Fixup.{opened_of}
 use Rattle.ntfs_def.specs.Record.{is_in_use}
 use Rattle.ntfs_def.specs.Shape.{HasShape}
 use Rattle.vol_bytes.specs.Field.{u16_at}
-use Rattle.std.specs.Prelude.{IsSomeAnd, get_or}
+use Rattle.std.specs.Prelude.{IsSomeAnd}
 use Rattle.volume_def.specs.ShapeClause.{MeetsShape}
 use Rattle.volume_def.specs.Sound.Clause.{Shape, Version as VersionClause}
 use Rattle.volume_def.specs.View.{VolumeView}
@@ -32,9 +32,6 @@ wanted = record { major = 3; minor = 1 }
 
 abbrev told_by : List ℕ → Version
 told_by value = record { major = slice_index value 0x08; minor = slice_index value 0x09 }
-
-version-of-long : (value : List ℕ) → 12 ≤ length value → version_in (Some value) ≡ Some (told_by value)
-version-of-long value long = ap (λ b. cond b (Some (told_by value)) None) (le-leb 12 (length value) long)
 
 version-of-short : (value : List ℕ) → length value < 12 → version_in (Some value) ≡ None
 version-of-short value short = ap (λ b. cond b (Some (told_by value)) None) (lt-leb 12 (length value) short)
@@ -68,10 +65,6 @@ module _ (block : List ℕ) (at : ℕ) where
     | inl t ↦ let e : Some (at + value_offset block at) ≡ Some place = sym (ap (λ r. cond r (Some (at + value_offset block at)) None) t) ∙ is in cc
     | inr f ↦ let e : None ≡ Some place = sym (ap (λ r. cond r (Some (at + value_offset block at)) None) f) ∙ is in absurd (cc)
   ]
-
-  pub no-place : value_place block at ≡ None → is_resident block at ≡ true → ⊥
-  no-place none t =
-      let e : Some (at + value_offset block at) ≡ None = sym (ap (λ r. cond r (Some (at + value_offset block at)) None) t) ∙ none in cc
 
   pub kind-of : (attribute_at block at).kind ≡ attribute_kind block at
   unfolding attribute_at
@@ -186,6 +179,3 @@ pub clean-read : (view : VolumeView) (block : List ℕ) (found : Option (List �
 clean-read view block found clean is first decided =
     subst (λ o. IsTrue clean ↔ IsSomeAnd o (λ value. u16_at value 0x0A % 2 ≡ 0))
     (first ∙ ap (λ b. first_value VOLUME_INFORMATION (attributes b)) is) decided
-
-pub even-low : (value : List ℕ) → u16_at value 0x0A % 2 ≡ get_or value 0x0A 0 % 2
-even-low value = omega arith

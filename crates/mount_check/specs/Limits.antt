@@ -1,5 +1,5 @@
 -- The streams of a volume that are too long, record by record.
-use Rattle.std.specs.Prelude.{◌≡◌, ℕ, ◌<◌, Option, Some, None, All}
+use Rattle.std.specs.Prelude.{◌≡◌, ℕ, Option, Some, None, All}
 use Rattle.volume_def.specs.Files.{Record, file_of, record_on}
 use Rattle.volume_def.specs.LimitsClause.{IsInLimits}
 use Rattle.volume_def.specs.View.{VolumeView}
@@ -7,10 +7,6 @@ use Rattle.volume_def.specs.View.{VolumeView}
 -- No part that record n holds is of a stream that is too long for its file.
 abbrev pub KeepsLimits : VolumeView → ℕ → Type 0
 KeepsLimits view n = (r : Record) → record_on view n ≡ Some r → All (IsInLimits (file_of n r)) r.parts
-
--- The same, if the file is one before file f.
-abbrev pub KeepsBelow : VolumeView → ℕ → ℕ → Type 0
-KeepsBelow view f n = (r : Record) → record_on view n ≡ Some r → file_of n r < f → All (IsInLimits (file_of n r)) r.parts
 
 -- Record n belongs to file f, and holds a part of a stream that is too long.
 pub record BreaksLimits (view : VolumeView) (f n : ℕ) : Type 0 where
@@ -23,8 +19,3 @@ pub record BreaksLimits (view : VolumeView) (f n : ℕ) : Type 0 where
 abbrev pub IsLongIn : VolumeView → ℕ → Option ℕ → Type 0
 IsLongIn view n None = KeepsLimits view n
 IsLongIn view n (Some f) = BreaksLimits view f n
-
--- the least file of which one of the records below n holds such a part
-abbrev pub IsLeastLong : VolumeView → ℕ → Option ℕ → Type 0
-IsLeastLong view n None = (m : ℕ) → m < n → KeepsLimits view m
-IsLeastLong view n (Some f) = ((m : ℕ) × (m < n) × BreaksLimits view f m) × ((m : ℕ) → m < n → KeepsBelow view f m)

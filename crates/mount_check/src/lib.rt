@@ -13,5 +13,4 @@ mod records;
 mod version;
 
 pub use check::mount;
-pub use finish::finish_mount;
 pub use laws::one_answer;

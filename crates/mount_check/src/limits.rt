@@ -6,9 +6,8 @@ ghost use Rattle.volume_def.specs.Files.{file_of, part_of, record_of, records_of
 ghost use Rattle.volume_def.specs.LimitsClause.{IsInLimits, MeetsLimits};
 ghost use Rattle.mft_table.specs.Mft.{MftReads, faults_of, view};
 ghost use Rattle.mft_table.specs.MountNos.{CountsMount};
-ghost use Rattle.check_records.specs.Refusals.{IsFault};
 ghost use Rattle.volume_facts.specs.Least.{IsLeastFailing};
-ghost use Rattle.mount_check.specs.Limits.{IsLeastLong, IsLongIn};
+ghost use Rattle.mount_check.specs.Limits.{IsLongIn};
 ghost use Rattle.mount_check.specs.Views.{HasComeTo};
 
 use crate::records::{read_in_use, view_of};
@@ -17,13 +16,10 @@ use mft_table::{Mft, MountNo};
 use ntfs_def::kinds::DATA;
 use ntfs_def::records::BAD_CLUSTERS;
 use vol_disk::Disk;
-use volume_facts::least_of;
+use volume_facts::{BAD_NAME, file_of, least_of};
 
 /// The most bytes of a stream.
 const MOST: u64 = 1 << 40;
-
-/// The name of the stream of bad clusters, `$Bad`.
-const BAD_NAME: &[u8] = b"$\0B\0a\0d\0";
 
 // Whether an attribute of a file is of the stream of bad clusters.
 fn is_bad_stream(f: u64, attribute: &AttrView<'_>) -> bool
@@ -59,8 +55,7 @@ fn is_in_limits(f: u64, attribute: &AttrView<'_>) -> bool
 fn are_in_limits(f: u64, opened: &RecordView<'_>) -> bool
     ensures { (n : ℕ) → IsTrue result ↔ All (IsInLimits f) (map (part_of n) (attributes_of opened.now)) }
 {
-    for i in 0..opened.count() {
-        let attribute = opened.attr(i);
+    for attribute in opened.attributes() {
         if !is_in_limits(f, &attribute) {
             return false;
         }
@@ -68,23 +63,11 @@ fn are_in_limits(f: u64, opened: &RecordView<'_>) -> bool
     true
 }
 
-// The file to which a record belongs.
-#[tactic(auto, unfolding(ntfs_def::specs::Record::header_of))]
-fn file_of(opened: &RecordView<'_>, n: u64) -> u64
-    ensures { result ≡ file_of n (record_of n (viewed_block opened.now)) }
-{
-    let base = opened.header().base;
-    if base == 0 {
-        return n;
-    }
-    base % (1 << 48)
-}
-
 // The file of a record, where the record holds an attribute that tells a stream that is too long.
 fn long_in<D: Disk>(mft: &mut Mft<'_, D>, n: u64) -> Result<Option<u64>, MountNo>
     ensures long { IfOk result (λ found. IsTrue (view D.Disk mft.old).told → HasComeTo (view D.Disk mft.old) 11
         → IsLongIn (view D.Disk mft.old) n found) }
-    ensures err { IfErr result IsFault }
+    ensures err { IfErr result (λ no. no ≡ MountNo.Device) }
     ensures faults { MatchResult result (λ _. faults_of D.Disk mft.new ≡ faults_of D.Disk mft.old)
         (CountsMount (faults_of D.Disk mft.old) (faults_of D.Disk mft.new)) }
     ensures reads { MftReads D.Disk mft.old mft.new 2 }
@@ -97,7 +80,7 @@ fn long_in<D: Disk>(mft: &mut Mft<'_, D>, n: u64) -> Result<Option<u64>, MountNo
     let Some(opened) = view_of(&block) else {
         return Ok(None);
     };
-    let file = file_of(&opened, n);
+    let file = file_of(n, &opened);
     if are_in_limits(file, &opened) {
         return Ok(None);
     }
@@ -112,7 +95,7 @@ fn long_in<D: Disk>(mft: &mut Mft<'_, D>, n: u64) -> Result<Option<u64>, MountNo
 pub fn first_long_stream<D: Disk>(mft: &mut Mft<'_, D>) -> Result<Option<u64>, MountNo>
     ensures first { IfOk result (λ first. IsTrue (view D.Disk mft.old).told → HasComeTo (view D.Disk mft.old) 11
         → IsLeastFailing (MeetsLimits (records_of (view D.Disk mft.old))) first) }
-    ensures err { IfErr result IsFault }
+    ensures err { IfErr result (λ no. no ≡ MountNo.Device) }
     ensures faults { MatchResult result (λ _. faults_of D.Disk mft.new ≡ faults_of D.Disk mft.old)
         (CountsMount (faults_of D.Disk mft.old) (faults_of D.Disk mft.new)) }
     ensures reads { MftReads D.Disk mft.old mft.new (2 * (view D.Disk mft.old).layout.count) }

@@ -9,7 +9,6 @@ ghost use Rattle.volume_def.specs.Table.{two_sectors};
 ghost use Rattle.volume_def.specs.VersionClause.{HasCopy, MeetsMirror, Mirrors};
 ghost use Rattle.mft_table.specs.Mft.{MftReads, faults_of, stage_of, view};
 ghost use Rattle.mft_table.specs.MountNos.{CountsMount};
-ghost use Rattle.check_records.specs.Refusals.{IsFault};
 ghost use Rattle.volume_facts.specs.Least.{IsLeastFailing};
 ghost use Rattle.mount_check.specs.Views.{HasComeTo};
 
@@ -64,7 +63,7 @@ fn read_two<D: Disk>(
     requires { sector + 2 ≤ D.size (disk_of D.Disk (stage_of D.Disk mft.old)) }
     ensures read { OnOk result (IsTrue (view D.Disk mft.old).told
         → into.new ≡ two_sectors (sector_in (image D.Disk (stage_of D.Disk mft.old))) sector) }
-    ensures err { IfErr result IsFault }
+    ensures err { IfErr result (λ no. no ≡ MountNo.Device) }
     ensures faults { MatchResult result (λ _. faults_of D.Disk mft.new ≡ faults_of D.Disk mft.old)
         (CountsMount (faults_of D.Disk mft.old) (faults_of D.Disk mft.new)) }
     ensures reads { MftReads D.Disk mft.old mft.new 2 }
@@ -111,7 +110,7 @@ pub fn read_copy<D: Disk>(
         → IsSealed ((view D.Disk mft.old).copy n) × (into.new ≡ opened_of ((view D.Disk mft.old).copy n))) }
     ensures sealed { IfOk result (λ opens. IsTrue (view D.Disk mft.old).told → IsSealed ((view D.Disk mft.old).copy n)
         → array_count ((view D.Disk mft.old).copy n) ≡ 3 → IsTrue opens) }
-    ensures err { IfErr result IsFault }
+    ensures err { IfErr result (λ no. no ≡ MountNo.Device) }
     ensures faults { MatchResult result (λ _. faults_of D.Disk mft.new ≡ faults_of D.Disk mft.old)
         (CountsMount (faults_of D.Disk mft.old) (faults_of D.Disk mft.new)) }
     ensures reads { MftReads D.Disk mft.old mft.new 2 }
@@ -131,7 +130,7 @@ fn has_copy<D: Disk>(mft: &mut Mft<'_, D>, n: u64) -> Result<bool, MountNo>
     requires { n < 4 }
     ensures has { IfOk result (λ has. IsTrue (view D.Disk mft.old).told → HasComeTo (view D.Disk mft.old) 11
         → IsTrue has ↔ (IsTrue (is_in_use ((view D.Disk mft.old).block n)) → HasCopy (view D.Disk mft.old) n)) }
-    ensures err { IfErr result IsFault }
+    ensures err { IfErr result (λ no. no ≡ MountNo.Device) }
     ensures faults { MatchResult result (λ _. faults_of D.Disk mft.new ≡ faults_of D.Disk mft.old)
         (CountsMount (faults_of D.Disk mft.old) (faults_of D.Disk mft.new)) }
     ensures reads { MftReads D.Disk mft.old mft.new 4 }
@@ -157,7 +156,7 @@ fn has_copy<D: Disk>(mft: &mut Mft<'_, D>, n: u64) -> Result<bool, MountNo>
 pub fn first_unlike_copy<D: Disk>(mft: &mut Mft<'_, D>) -> Result<Option<u64>, MountNo>
     ensures first { IfOk result (λ first. IsTrue (view D.Disk mft.old).told → HasComeTo (view D.Disk mft.old) 11
         → IsLeastFailing (MeetsMirror (view D.Disk mft.old)) first) }
-    ensures err { IfErr result IsFault }
+    ensures err { IfErr result (λ no. no ≡ MountNo.Device) }
     ensures faults { MatchResult result (λ _. faults_of D.Disk mft.new ≡ faults_of D.Disk mft.old)
         (CountsMount (faults_of D.Disk mft.old) (faults_of D.Disk mft.new)) }
     ensures reads { MftReads D.Disk mft.old mft.new 16 }

@@ -15,7 +15,7 @@ ghost use Rattle.mount_check.specs.Copies.{data_held};
 ghost use Rattle.mount_check.specs.MirrorClusters.{IsMirrorInside};
 ghost use Rattle.mount_check.specs.Views.{HasComeTo};
 
-use check_records::no_file;
+use check_records::mount_no_of;
 use file_record::FileParts;
 use mft_table::{Mft, MountNo};
 use ntfs_def::Spot;
@@ -121,7 +121,7 @@ fn load_mirror<D: Disk>(alloc: Global, mft: &mut Mft<'_, D>) -> Result<Option<Fi
     }
     match FileParts::load(alloc, mft, MFT_MIRROR) {
         Ok(file) => Ok(Some(file)),
-        Err(no) => Err(no_file(no)),
+        Err(no) => Err(mount_no_of(no)),
     }
 }
 

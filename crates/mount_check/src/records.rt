@@ -1,13 +1,12 @@
 //! Records of the table, read for the clauses.
 ghost use Rattle.std.specs.Prelude.{◌≡◌, ◌↔◌, ◌<◌, ℕ, IfErr, IfNone, IfOk, IfSome, IsTrue, MatchResult};
-ghost use Rattle.ntfs_def.specs.Fixup.{HasArray, opened_of};
+ghost use Rattle.ntfs_def.specs.Fixup.{opened_of};
 ghost use Rattle.ntfs_def.specs.Record.{is_in_use};
 ghost use Rattle.ntfs_def.specs.Shape.{HasShape};
 ghost use Rattle.attr_view.specs.View.{viewed_block};
 ghost use Rattle.volume_def.specs.ShapeClause.{MeetsShape};
 ghost use Rattle.mft_table.specs.Mft.{MftReads, faults_of, view};
 ghost use Rattle.mft_table.specs.MountNos.{CountsMount};
-ghost use Rattle.check_records.specs.Refusals.{IsFault};
 
 use attr_view::RecordView;
 use mft_table::{Mft, MftNo, MountNo};
@@ -29,7 +28,7 @@ pub fn read_in_use<D: Disk>(
     ensures read { IfOk result (λ used. IsTrue (view D.Disk mft.old).told → IsTrue used
         → into.new ≡ opened_of ((view D.Disk mft.old).block n)) }
     ensures inside { IfOk result (λ used. IsTrue used → n < (view D.Disk mft.old).layout.count) }
-    ensures err { IfErr result IsFault }
+    ensures err { IfErr result (λ no. no ≡ MountNo.Device) }
     ensures faults { MatchResult result (λ _. faults_of D.Disk mft.new ≡ faults_of D.Disk mft.old)
         (CountsMount (faults_of D.Disk mft.old) (faults_of D.Disk mft.new)) }
     ensures reads { MftReads D.Disk mft.old mft.new 2 }

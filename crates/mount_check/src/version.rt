@@ -2,14 +2,13 @@
 ghost use Rattle.std.specs.Prelude.{◌≡◌, ◌↔◌, ◌%◌, ◌<◌, ℕ, IfErr, IfOk, IsSomeAnd, IsTrue, MatchResult, Some, length};
 ghost use Rattle.std.specs.Option.{option_copied};
 ghost use Rattle.vol_bytes.specs.Field.{u16_at};
-ghost use Rattle.ntfs_def.specs.Attribute.{attribute_place, attributes};
+ghost use Rattle.ntfs_def.specs.Attribute.{attribute_place};
 ghost use Rattle.ntfs_def.specs.declared.records.TheConstants.{VOLUME};
 ghost use Rattle.attr_view.specs.View.{attributes_of, bytes_around, place_of, viewed_block};
 ghost use Rattle.volume_def.specs.VersionClause.{HasVersion, IsClean, IsVersionAt};
 ghost use Rattle.volume_def.specs.VolumeRecord.{version_in};
 ghost use Rattle.mft_table.specs.Mft.{MftReads, faults_of, view};
 ghost use Rattle.mft_table.specs.MountNos.{CountsMount};
-ghost use Rattle.check_records.specs.Refusals.{IsFault};
 ghost use Rattle.mount_check.specs.Views.{HasComeTo};
 
 use crate::records::{read_in_use, view_of};
@@ -70,7 +69,7 @@ fn has_version(opened: &RecordView<'_>) -> bool
 pub fn meets_version<D: Disk>(mft: &mut Mft<'_, D>) -> Result<bool, MountNo>
     ensures meets { IfOk result (λ meets. IsTrue (view D.Disk mft.old).told → HasComeTo (view D.Disk mft.old) 11
         → IsTrue meets ↔ HasVersion ((view D.Disk mft.old).block VOLUME)) }
-    ensures err { IfErr result IsFault }
+    ensures err { IfErr result (λ no. no ≡ MountNo.Device) }
     ensures faults { MatchResult result (λ _. faults_of D.Disk mft.new ≡ faults_of D.Disk mft.old)
         (CountsMount (faults_of D.Disk mft.old) (faults_of D.Disk mft.new)) }
     ensures reads { MftReads D.Disk mft.old mft.new 2 }
@@ -107,7 +106,7 @@ fn says_clean(value: Option<&[u8]>) -> bool
 pub fn is_clean<D: Disk>(mft: &mut Mft<'_, D>) -> Result<bool, MountNo>
     ensures clean { IfOk result (λ clean. IsTrue (view D.Disk mft.old).told → HasComeTo (view D.Disk mft.old) 15
         → IsTrue clean ↔ IsClean (view D.Disk mft.old)) }
-    ensures err { IfErr result IsFault }
+    ensures err { IfErr result (λ no. no ≡ MountNo.Device) }
     ensures faults { MatchResult result (λ _. faults_of D.Disk mft.new ≡ faults_of D.Disk mft.old)
         (CountsMount (faults_of D.Disk mft.old) (faults_of D.Disk mft.new)) }
     ensures reads { MftReads D.Disk mft.old mft.new 2 }

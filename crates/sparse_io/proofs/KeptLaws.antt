@@ -1,6 +1,6 @@
 -- What is kept of the streams of a file is what the tree has of them, in the order of the tree.
 use Rattle.std.proofs.Common.{◌≡◌, ◌≢◌, ℕ, zero, suc, ◌+◌, ◌-◌, ◌<◌, ◌≤◌, ◌==◌, ◌&&◌, leb, Bool, true, false, cond, List, [], ◌∷◌, ◌++◌, length, map, take, drop, min, Option, Some, None, inl, inr, refl, sym, ap, subst, append_assoc, ◌∙◌, arith}
-use Rattle.std.specs.Prelude.{IfSome, IsSomeAnd, filter, find, slice_get, slice_range}
+use Rattle.std.specs.Prelude.{IfSome, IsSomeAnd, IsTrue, filter, find, slice_get, slice_range}
 use Rattle.std.specs.List.{All, Contains, count_by}
 use Rattle.std.specs.Option.{option_map_or, option_or}
 use Rattle.std.specs.Ordering.{is_gt, is_lt, ordering_reverse}
@@ -41,7 +41,32 @@ use Rattle.attr_store.proofs.Values.{like-itself}
 use Rattle.attr_store.proofs.StoredLaws.{by-first, length-by, whole-value}
 use Rattle.sparse_io.specs.declared.held.HeldStream.{HeldStream}
 use Rattle.sparse_io.specs.declared.find.FoundStream.{FoundStream}
-use Rattle.sparse_io.specs.Held.{IsHeldWith, IsReadableWith, IsStream, KeepAll, Keeps, kept_above, kept_at, kept_from, found_kept, shown_kept, streams_held}
+use Rattle.sparse_io.specs.Held.{IsHeldWith, IsReadableWith, IsStream, kept_above, kept_at, kept_from, streams_held}
+
+-- a line of what is kept
+abbrev pub shown_kept : HeldStream → ShownStream
+shown_kept kept = record { packed = kept.packed; size = kept.size; name = kept.name }
+
+-- what is found of what is kept
+abbrev pub found_kept : HeldStream → FoundStream
+found_kept kept = record { part = kept.part; packed = kept.packed; size = kept.size }
+
+-- What is kept is this stream's.
+pub record Keeps (view : VolumeView) (all : List Part) (kept : HeldStream) (stream : Stream) : Type 0 where
+  pub part : Part
+  pub at : slice_get all kept.part ≡ Some part
+  pub begins : IsTrue (begins_stream part)
+  pub is : stream ≡ stream_at view all part
+  pub name : kept.name ≡ stream.name
+  pub packed : kept.packed ≡ is_packed stream.content
+  pub size : kept.size ≡ size_of stream.content
+
+-- one by one
+abbrev pub KeepAll : VolumeView → List Part → List HeldStream → List Stream → Type 0
+KeepAll view all [] [] = Unit {0}
+KeepAll view all [] (stream ∷ streams) = ⊥
+KeepAll view all (one ∷ kept) [] = ⊥
+KeepAll view all (one ∷ kept) (stream ∷ streams) = Keeps view all one stream × KeepAll view all kept streams
 
 -- what is kept, by its fields
 pub kept-by : {name name' : List ℕ} {packed packed' : Bool} {size size' : ℕ} (place : ℕ) → name ≡ name' → packed ≡ packed' → size ≡ size'

@@ -13,7 +13,6 @@ use Rattle.volume_def.specs.View.{VolumeView}
 use Rattle.tree_model.specs.Cases.{is_packed, size_of}
 use Rattle.tree_model.specs.Reading.{begins_stream, stream_at, streams_of}
 use Rattle.tree_model.specs.Tree.{sought_stream}
-use Rattle.tree_model.specs.declared.reply.ShownStream.{ShownStream}
 use Rattle.tree_model.specs.declared.tree.Stream.{Stream}
 use Rattle.file_record.specs.declared.parts.FileParts.{FileParts}
 use Rattle.file_record.specs.Held.{AreParts, file_number, parts_held}
@@ -54,31 +53,6 @@ kept_from place (part ∷ parts) =
 -- The first stands behind the second by their names.
 abbrev pub kept_above : (ℕ → ℕ) → HeldStream → HeldStream → Bool
 kept_above fold x y = is_lt (compare_units fold y.name x.name)
-
--- a line of what is kept
-abbrev pub shown_kept : HeldStream → ShownStream
-shown_kept kept = record { packed = kept.packed; size = kept.size; name = kept.name }
-
--- what is found of what is kept
-abbrev pub found_kept : HeldStream → FoundStream
-found_kept kept = record { part = kept.part; packed = kept.packed; size = kept.size }
-
--- What is kept is this stream's.
-pub record Keeps (view : VolumeView) (all : List Part) (kept : HeldStream) (stream : Stream) : Type 0 where
-  pub part : Part
-  pub at : slice_get all kept.part ≡ Some part
-  pub begins : IsTrue (begins_stream part)
-  pub is : stream ≡ stream_at view all part
-  pub name : kept.name ≡ stream.name
-  pub packed : kept.packed ≡ is_packed stream.content
-  pub size : kept.size ≡ size_of stream.content
-
--- one by one
-abbrev pub KeepAll : VolumeView → List Part → List HeldStream → List Stream → Type 0
-KeepAll view all [] [] = Unit {0}
-KeepAll view all [] (stream ∷ streams) = ⊥
-KeepAll view all (one ∷ kept) [] = ⊥
-KeepAll view all (one ∷ kept) (stream ∷ streams) = Keeps view all one stream × KeepAll view all kept streams
 
 -- THE STREAM OF A NAME, as it is held: the place of its first part, whether it is packed, and its real size in bytes.
 pub record IsStream (view : VolumeView) (file : FileParts) (name : List ℕ) (found : FoundStream) : Type 0 where

@@ -1,5 +1,5 @@
 //! What is kept of the streams of a file while one is sought, and in which order.
-ghost use Rattle.std.specs.Prelude.{◌≡◌, ◌<◌, ℕ, All, IfOk, length};
+ghost use Rattle.std.specs.Prelude.{◌≡◌, ◌<◌, ℕ, IfOk};
 ghost use Rattle.ntfs_def.specs.KeyOrder.{compare_units, fold_of};
 ghost use Rattle.attr_view.specs.View.{attribute_of};
 ghost use Rattle.volume_def.specs.Files.{part_of};

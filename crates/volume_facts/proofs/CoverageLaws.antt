@@ -1,5 +1,5 @@
 -- How often runs cover a cluster, and the runs of an attribute.
-use Rattle.std.proofs.Common.{◌≡◌, ℕ, zero, suc, ◌+◌, ◌<◌, ◌≤◌, List, [], ◌∷◌, ◌++◌, length, get_or, Some, None, cond, unwrap_or, Bool, IsTrue, ◌||◌, inl, inr, refl, ap, arith}
+use Rattle.std.proofs.Common.{◌≡◌, ℕ, zero, suc, ◌+◌, ◌<◌, ◌≤◌, List, [], ◌∷◌, ◌++◌, length, get_or, Some, cond, unwrap_or, Bool, IsTrue, ◌||◌, inl, inr, ap, arith}
 use Rattle.std.specs.Prelude.{◌↔◌}
 use Rattle.std.proofs.lemmas.Bool.{cases_lt, or_cases, or_left, or_right}
 use Rattle.std.proofs.lemmas.List.Sums.{sum_by_push, sum_by-append}
@@ -43,7 +43,3 @@ pub runs-some : (body : Body) (text : List ℕ) → run_text_of body ≡ Some te
     → unwrap_or (content_runs (content_of body)) [] ≡ unwrap_or (runs_in text) []
 runs-some (Resident value) text h = absurd (cc)
 runs-some (NonResident extent other) text h = let e : other ≡ text = cc in ap (λ t. unwrap_or (runs_in t) []) e
-
-pub runs-none : (body : Body) → run_text_of body ≡ None → unwrap_or (content_runs (content_of body)) [] ≡ []
-runs-none (Resident value) h = refl
-runs-none (NonResident extent other) h = absurd (cc)

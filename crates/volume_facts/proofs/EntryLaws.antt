@@ -1,5 +1,5 @@
 -- Entries of lists, in the order in which they are compared.
-use Rattle.std.proofs.Common.{◌≡◌, ◌↔◌, ◌<◌, ◌/◌, ◌%◌, ◌^◌, ℕ, suc, IsTrue, Bool, List, [], ◌∷◌, subst, length, map, get_or, refl, sym, ap, ◌∙◌, arith}
+use Rattle.std.proofs.Common.{◌≡◌, ◌↔◌, ◌<◌, ℕ, suc, IsTrue, Bool, List, [], ◌∷◌, subst, length, map, get_or, refl, sym, ap, ◌∙◌, arith}
 use Rattle.std.specs.declared.cmp.Ordering.TheVariants.{Equal}
 use Rattle.std.specs.Cmp.{IsStrictWeakOrder, IsTotalOrder}
 use Rattle.std.specs.List.Sorted.{IsPermutation, IsSortedBy}
@@ -8,7 +8,6 @@ use Rattle.std.proofs.lemmas.Cmp.{nat_cmp_total, nat_list_cmp_total, on_total, t
 use Rattle.std.proofs.lemmas.List.{length-map, get_or-map}
 use Rattle.std.proofs.lemmas.List.Sorted.{IsPermutation-map, ranks_by, sorted_far}
 use Rattle.ntfs_def.specs.AttributeList.{ListEntry}
-use Rattle.ntfs_def.specs.Record.{Reference, reference_in}
 use Rattle.ntfs_def.proofs.KeyOrderLaws.{numbers_is_eq}
 use Rattle.volume_def.specs.SameItems.{SameItems}
 use Rattle.volume_def.proofs.Codes.{entry_code}
@@ -18,13 +17,6 @@ use Rattle.attr_list.specs.View.{entry_shown}
 use Rattle.volume_facts.specs.Lists.{entry_order}
 use Rattle.volume_facts.proofs.OutlineOrderLaws.{numbers_equal, then_first, then_second}
 use Rattle.volume_facts.proofs.SortedLaws.{InOrder, same-ordered}
-
--- a reference tells its whole number
-pub reference_in-exact : (a b : ℕ) → reference_in a ≡ reference_in b → a ≡ b
-reference_in-exact a b h =
-    let low : a % 2 ^ 48 ≡ b % 2 ^ 48 = ap (λ (r : Reference). r.number) h in
-    let high : a / 2 ^ 48 ≡ b / 2 ^ 48 = ap (λ (r : Reference). r.sequence) h in
-    omega arith
 
 -- The order.
 
@@ -91,9 +83,6 @@ map-at xs ys h k d l =
     let same : length xs ≡ length ys = sym (length-map xs entry_shown) ∙ ap length h ∙ length-map ys entry_shown in
     sym (get_or-map entry_shown xs k d (entry_shown d) l) ∙ ap (λ es. get_or es k (entry_shown d)) h
     ∙ get_or-map entry_shown ys k d (entry_shown d) (omega arith)
-
-pub map-length : (xs ys : List EntryView) → map entry_shown xs ≡ map entry_shown ys → length xs ≡ length ys
-map-length xs ys h = sym (length-map xs entry_shown) ∙ ap length h ∙ length-map ys entry_shown
 
 -- what the two sorts give
 pub same_entries-decided : (entries wanted entries' wanted' : List EntryView) (result : Bool)

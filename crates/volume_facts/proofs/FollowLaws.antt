@@ -1,22 +1,11 @@
 -- Extents in memory, one after the other.
-use Rattle.std.proofs.Common.{◌≡◌, ◌<◌, ◌≤◌, ◌+◌, ◌^◌, ℕ, List, [], ◌∷◌, length, map, drop, get_or, Some, refl, sym, ap, subst, ◌∙◌, arith}
+use Rattle.std.proofs.Common.{◌≡◌, ◌<◌, ◌≤◌, ◌+◌, ℕ, List, [], ◌∷◌, length, map, drop, get_or, sym, ap, subst, ◌∙◌, arith}
 use Rattle.std.specs.Prelude.{sum_by}
 use Rattle.std.proofs.lemmas.List.{drop-map, drop_all, drop_more, get_or_default, length-map}
 use Rattle.std.proofs.lemmas.List.Sums.{sum_by-cons}
-use Rattle.ntfs_def.specs.declared.sizes.Sizes.{Sizes}
-use Rattle.volume_def.specs.ExtentsClause.{last_vcn_of}
 use Rattle.volume_facts.specs.declared.extents.Extent.{Extent}
-use Rattle.volume_facts.specs.declared.extents.Held.{Held}
-use Rattle.volume_facts.specs.declared.extents.Held.TheVariants.{InClusters}
 use Rattle.volume_facts.specs.Extents.{Begins, Follow, HaveClusters, clusters_covered, covered_by, outlined}
 use Rattle.volume_facts.proofs.OutlineLaws.{All-unmap}
-
--- an extent that begins there and tells what it covers
-pub begins-told : (vcn covered : ℕ) (sizes : Sizes) (held : Held) → held ≡ InClusters sizes (Some covered) → sizes.first ≡ vcn
-    → sizes.last ≡ last_vcn_of (vcn + covered) → vcn + covered ≤ 2 ^ 64
-    → Begins vcn held × (covered ≡ covered_by held) × (vcn + covered ≤ 2 ^ 64)
-begins-told vcn covered sizes held is first last low =
-    subst (λ h. Begins vcn h × (covered ≡ covered_by h) × (vcn + covered ≤ 2 ^ 64)) (sym is) ((refl, first, last), refl, low)
 
 -- what stands from a place on
 pub outlines-from : (extents : List Extent) (i : ℕ) (d : Extent) → i < length extents

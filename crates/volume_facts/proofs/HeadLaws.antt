@@ -1,12 +1,12 @@
 -- The headers of records, as they are noted.
-use Rattle.std.proofs.Common.{◌≡◌, ◌+◌, ◌++◌, ◌∷◌, [], ℕ, Option, Some, None, length, cond, get_or, refl, ap, sym, subst, inl, inr, ◌∙◌, arith, below_more}
+use Rattle.std.proofs.Common.{◌≡◌, ◌+◌, ◌++◌, ◌∷◌, [], ℕ, Option, None, length, cond, get_or, ap, sym, subst, inl, inr, ◌∙◌, arith, below_more}
 use Rattle.std.proofs.lemmas.Bool.{cases_lt, le-ltb}
 use Rattle.std.proofs.lemmas.List.{get_or_append_left, get_or_past, get_or_push, length_push}
-use Rattle.volume_def.specs.Files.{Record, Records, record_in, records_of}
+use Rattle.volume_def.specs.Files.{Records, record_in, records_of}
 use Rattle.volume_def.specs.View.{VolumeView}
 use Rattle.volume_facts.specs.declared.heads.Head.{Head}
 use Rattle.volume_facts.specs.declared.heads.Heads.{Heads}
-use Rattle.volume_facts.specs.Heads.{EndsAtCount, HeadsNote, IsHead, IsHeadIn, head_at}
+use Rattle.volume_facts.specs.Heads.{EndsAtCount, HeadsNote, IsHeadIn, head_at}
 
 -- one record more
 pub HeadsNote-more : (records : Records) (n : ℕ) (old new : Heads) (o : Option Head) → new.heads.items ≡ old.heads.items ++ o ∷ []
@@ -34,12 +34,3 @@ HeadsNote-all records heads ends note n = elim (cases_lt n records.count) [
       let past : head_at heads n ≡ None = get_or_past heads.heads.items n None (omega (arith, note.count)) in
       subst (λ o. IsHeadIn o (head_at heads n)) (sym (ends n ge)) (subst (IsHeadIn None) (sym past) tt)
 ]
-
--- where a header is noted, the record is in use
-pub record-noted : (o : Option Record) (head : Head) → IsHeadIn o (Some head) → (r : Record) × (o ≡ Some r) × IsHead r head
-record-noted None head is = absurd is
-record-noted (Some r) head is = (r, refl, is)
-
-pub unused-noted : (o : Option Record) → IsHeadIn o None → o ≡ None
-unused-noted None is = refl
-unused-noted (Some r) is = absurd is

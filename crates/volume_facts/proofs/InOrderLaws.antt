@@ -18,9 +18,7 @@ use Rattle.volume_def.specs.SameItems.{SameItems}
 use Rattle.volume_def.proofs.RecordLaws.{parts_in-other, parts_in-own, parts_in-unused}
 use Rattle.volume_def.proofs.SameItemsLaws.{SameItems-permutation, SameItems-sym, SameItems-trans}
 use Rattle.volume_facts.specs.declared.extents.Extent.{Extent}
-use Rattle.volume_facts.specs.declared.extents.Held.{Held}
-use Rattle.volume_facts.specs.declared.extents.Held.TheVariants.{InClusters, InRecord}
-use Rattle.volume_facts.specs.Extents.{AreAllWhole, AreInOrder, AreWholeParts, FitsFirst, Follow, HasFitSizes, HaveClusters, IsAlone, IsInRecord, IsOneValue, IsWholeInOrder, Outline, clusters_covered, is_like, outline_order, outlined}
+use Rattle.volume_facts.specs.Extents.{AreAllWhole, AreInOrder, AreWholeParts, Follow, HasFitSizes, HaveClusters, IsAlone, IsWholeInOrder, Outline, clusters_covered, is_like, outline_order, outlined}
 use Rattle.volume_facts.specs.Groups.{AreSorted, IsGroup}
 use Rattle.volume_facts.proofs.GroupLaws.{AreOne-sorted, group-whole, sorted-AreOne, whole-group}
 use Rattle.volume_facts.proofs.OutlineOrderLaws.{group-alike, group-apart, group-rises, outline_total}
@@ -34,38 +32,10 @@ at-same P extents i k d e lt same p =
 
 -- One value, or extents in order.
 
-fits-here : (bytes flags : ℕ) (held : Held) → IsInRecord held → FitsFirst bytes flags held
-fits-here bytes flags InRecord here = tt
-fits-here bytes flags (InClusters sizes covered) here = absurd here
-
-pub value-order : (size f : ℕ) (outlines : List Outline) → IsOneValue outlines → AreInOrder size f outlines
-value-order size f [] one = absurd one
-value-order size f (outline ∷ []) one = record {
-  whole = inl one;
-  several = λ long. absurd (omega arith);
-  sizes = λ k d lt judged. fits-at k d lt;
-}
-  where
-    fits-at : (k : ℕ) (d : Outline) → k < 1 → FitsFirst (sum_by clusters_covered (outline ∷ []) * size) (get_or
-        (outline ∷ []) k d).flags (get_or (outline ∷ []) k d).held
-    fits-at zero d lt = fits-here _ _ outline.held one
-    fits-at (suc k) d lt = absurd (omega arith)
-value-order size f (outline ∷ next ∷ outlines) one = absurd one
-
-whole-follow : (outlines : List Outline) → IsWholeInOrder outlines → (IsOneValue outlines → ⊥) → Follow 0 outlines
-whole-follow [] whole none = tt
-whole-follow (outline ∷ []) (inl here) none = absurd (none here)
-whole-follow (outline ∷ []) (inr begins) none = (begins, tt)
-whole-follow (outline ∷ next ∷ outlines) whole none = whole
-
 follow-whole : (outlines : List Outline) → Follow 0 outlines → IsWholeInOrder outlines
 follow-whole [] follow = tt
 follow-whole (outline ∷ []) (begins, rest) = inr begins
 follow-whole (outline ∷ next ∷ outlines) follow = follow
-
-pub order-follow : (size f : ℕ) (outlines : List Outline) → AreInOrder size f outlines → (IsOneValue outlines → ⊥)
-    → Follow 0 outlines × HaveClusters outlines
-order-follow size f outlines right none = (whole-follow outlines right.whole none, right.several)
 
 pub follow-order : (size f covered : ℕ) (extents : List Extent) → Follow 0 (map outlined extents) → HaveClusters (map outlined extents)
     → covered ≡ sum_by clusters_covered (map outlined extents) → All (λ extent. HasFitSizes (covered * size) f (outlined extent)) extents

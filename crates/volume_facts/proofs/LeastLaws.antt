@@ -3,24 +3,10 @@ use Rattle.std.proofs.Common.{◌≡◌, ℕ, ◌+◌, ◌<◌, ◌≤◌, min, 
 use Rattle.std.proofs.lemmas.Bool.{cases_lt}
 use Rattle.volume_facts.specs.Least.{IsLeastBelow, IsLeastFailing, least_of}
 
-abbrev pub lower_of : Option ℕ → ℕ → ℕ
-lower_of None c = c
-lower_of (Some l) c = min l c
-
 -- two facts that say the same fail first at one number
 pub least-same : (P Q : ℕ → Type 0) (o : Option ℕ) → ((n : ℕ) → P n → Q n) → ((n : ℕ) → Q n → P n) → IsLeastFailing P o → IsLeastFailing Q o
 least-same P Q None to from all = λ n. to n (all n)
 least-same P Q (Some l) to from (bad, below) = (λ q. bad (from l q), λ m h. to m (below m h))
-
--- one number more fails
-pub least-lower : (P Q : ℕ → Type 0) (o : Option ℕ) (c : ℕ) → ((n : ℕ) → Q n → P n) → ((n : ℕ) → n < c → P n → Q n) → ¬ (Q c) → IsLeastFailing P o → IsLeastFailing Q (Some (lower_of o c))
-least-lower P Q None c from keep bad all = (bad, λ m h. keep m h (all m))
-least-lower P Q (Some l) c from keep bad (worse, below) = elim (cases_lt l c) [
-  | inl lt ↦ let e : l ≡ min l c = omega arith in
-      subst (λ n. ¬ (Q n) × ((m : ℕ) → m < n → Q m)) e (λ q. worse (from l q), λ m h. keep m (omega arith) (below m h))
-  | inr ge ↦ let e : c ≡ min l c = omega arith in
-      subst (λ n. ¬ (Q n) × ((m : ℕ) → m < n → Q m)) e (bad, λ m h. keep m h (below m (omega arith)))
-]
 
 -- a pass that has come to the end has found the answer, where nothing fails from there on
 pub least-whole : (P : ℕ → Type 0) (end : ℕ) (o : Option ℕ) → ((n : ℕ) → end ≤ n → P n) → IsLeastBelow P end o → IsLeastFailing P o

@@ -1,5 +1,5 @@
 -- The count of owners grows: by clusters of the volume, and by clusters that it does not have.
-use Rattle.std.proofs.Common.{◌≡◌, ℕ, ◌+◌, ◌<◌, ◌≤◌, ◌&&◌, nat_lt, cond, min, max, IsTrue, List, Option, Some, None, unwrap_or, inl, inr, refl, sym, subst, ap, ◌∙◌, arith, le-ltb}
+use Rattle.std.proofs.Common.{◌≡◌, ℕ, ◌+◌, ◌<◌, ◌≤◌, ◌&&◌, nat_lt, cond, min, IsTrue, List, Option, Some, None, inl, inr, refl, subst, ap, ◌∙◌, arith, le-ltb}
 use Rattle.std.specs.Option.{option_or}
 use Rattle.std.proofs.lemmas.Bool.{cases_lt, le-leb, lt-leb, lt-ltb}
 use Rattle.ntfs_def.specs.Bits.{bit_in}
@@ -10,7 +10,7 @@ use Rattle.volume_def.specs.Files.{Records}
 use Rattle.volume_def.specs.OwnersClause.{MeetsOwners, boot_runs, times_owned}
 use Rattle.volume_facts.specs.declared.owners.Owners.{Owners}
 use Rattle.volume_facts.specs.Owners.{CountsOwners, OwnersNote, clusters_noted, inside, noted_end, owners_allowed, runs_below}
-use Rattle.volume_facts.proofs.LeastLaws.{least-lower, least-same, lower_of}
+use Rattle.volume_facts.proofs.LeastLaws.{least-same}
 use Rattle.volume_facts.proofs.RecordsLaws.{boot_runs_below-all, runs_below-all}
 
 pub inside-in : (from end k : ℕ) → from ≤ k → k < end → inside from end k ≡ 1
@@ -30,10 +30,6 @@ allowed-below clusters c h = ap (λ b. cond b 1 0) (lt-ltb c clusters h)
 
 allowed-past : (clusters c : ℕ) → clusters ≤ c → owners_allowed clusters c ≡ 0
 allowed-past clusters c h = ap (λ b. cond b 1 0) (le-ltb c clusters h)
-
-noted-inside : (clusters : ℕ) (least : Option ℕ) → noted_end clusters least ≤ clusters
-noted-inside clusters None = omega arith
-noted-inside clusters (Some l) = omega arith
 
 -- the same counts
 pub Counts-same : (f g : ℕ → ℕ) (clusters : ℕ) (bits : List ℕ) (least : Option ℕ) → ((k : ℕ) → f k ≡ g k)
@@ -144,66 +140,6 @@ Counts-filled times clusters old new least (Some f) from end fits fills counts =
   bit = λ c h. filled-some times clusters old new least from end f c fills counts (omega arith);
   bad = one-marked times clusters old new least from end f fits fills counts;
 }
-
--- Of clusters from `from` up to `end` those that the volume does not have have one owner more too.
-
-lower-is : (least : Option ℕ) (m : ℕ) → lower_of least m ≡ min (unwrap_or least m) m
-lower-is None m = omega arith
-lower-is (Some l) m = omega arith
-
-past-end : (clusters : ℕ) (least : Option ℕ) (m : ℕ) → clusters ≤ m
-    → noted_end clusters (Some (min (unwrap_or least m) m)) ≡ noted_end clusters least
-past-end clusters None m h = omega arith
-past-end clusters (Some l) m h = omega arith
-
-pub Counts-past : (times : ℕ → ℕ) (clusters : ℕ) (bits : List ℕ) (least : Option ℕ) (from end : ℕ) → from < end → clusters < end
-    → CountsOwners (λ k. times k + inside from (min end clusters) k) clusters bits least
-    → CountsOwners (λ k. times k + inside from end k) clusters bits (Some (min (unwrap_or least (max from clusters)) (max from clusters)))
-Counts-past times clusters bits least from end some past counts =
-    let P : ℕ → Type 0 = λ k. times k + inside from (min end clusters) k ≤ owners_allowed clusters k in
-    let Q : ℕ → Type 0 = λ k. times k + inside from end k ≤ owners_allowed clusters k in
-    let m : ℕ = max from clusters in
-    let alike : (k : ℕ) → k < clusters → inside from (min end clusters) k ≡ inside from end k =
-    λ k h. elim (cases_lt k from) [
-      | inl lt ↦ inside-before from (min end clusters) k lt ∙ sym (inside-before from end k lt)
-      | inr ge ↦ inside-in from (min end clusters) k ge (omega arith) ∙ sym (inside-in from end k ge (omega arith))
-    ] in
-    let none : (k : ℕ) → clusters ≤ k
-    → inside from (min end clusters) k ≡ 0 = λ k h. inside-behind from (min end clusters) k (omega arith) in
-    record {
-      bit = λ c h.
-          let e = past-end clusters least (max from clusters) (omega arith) in
-          let in_volume = noted-inside clusters least in
-          let same = alike c (omega arith) in
-          counts.bit c (omega arith) ∙ ap (λ n. min 1 (times c + n)) same;
-      bad = subst (λ l. IsLeastFailing Q (Some l)) (lower-is least (max from clusters)) (least-lower P Q least (max from clusters)
-          (λ k q. elim (cases_lt k clusters) [ inl lt ↦ let a = alike k lt in omega arith | inr ge ↦ let z = none k ge in omega arith ])
-          (λ k lt p. elim (cases_lt k clusters) [
-            | inl low ↦ let a = alike k low in omega arith
-            | inr ge ↦ let z = inside-before from end k (omega arith) in let y = none k ge in omega arith
-          ])
-          (λ q.
-          let o = inside-in from end (max from clusters) (omega arith) (omega arith) in
-          let p = allowed-past clusters (max from clusters) (omega arith) in
-          omega arith)
-          counts.bad);
-    }
-
--- where the volume has them all, or there are none
-pub Counts-all : (times : ℕ → ℕ) (clusters : ℕ) (bits : List ℕ) (least : Option ℕ) (from end : ℕ) → end ≤ clusters
-    → CountsOwners (λ k. times k + inside from (min end clusters) k) clusters bits least
-    → CountsOwners (λ k. times k + inside from end k) clusters bits least
-Counts-all times clusters bits least from end h counts =
-    let e : min end clusters ≡ end = omega arith in
-    subst (λ n. CountsOwners (λ k. times k + inside from n k) clusters bits least) e counts
-
-pub Counts-empty : (times : ℕ → ℕ) (clusters : ℕ) (bits : List ℕ) (least : Option ℕ) (from end : ℕ) → end ≤ from
-    → CountsOwners (λ k. times k + inside from (min end clusters) k) clusters bits least
-    → CountsOwners (λ k. times k + inside from end k) clusters bits least
-Counts-empty times clusters bits least from end h counts = Counts-same _ _ clusters bits least (λ k. elim (cases_lt k from) [
-  | inl lt ↦ ap (λ n. times k + n) (inside-before from (min end clusters) k lt ∙ sym (inside-before from end k lt))
-  | inr ge ↦ ap (λ n. times k + n) (inside-behind from (min end clusters) k (omega arith) ∙ sym (inside-behind from end k (omega arith)))
-]) counts
 
 -- What is noted of all records decides the clause.
 

@@ -100,15 +100,6 @@ spot_at-only part vcn le = elim (cases_lt vcn (first_vcn_of part.content + part_
 
 -- Places passed over.
 
-pub skips-none : (spots : List Spot) (skips : List ℕ) → length skips ≡ length spots → ((k : ℕ) → slice_index skips k ≡ 0)
-    → ((k : ℕ) → noted_at spots k ≡ Outside) → AreSkips spots skips
-skips-none spots skips len zeros nowhere = record {
-  len = len;
-  inside = λ k lt. let z = zeros k in omega arith;
-  noted = λ k j lt. let z = zeros k in absurd (omega arith);
-  vacant = λ k z. nowhere k;
-}
-
 -- one that is noted, and told to be so
 pub skips-set : (spots : List Spot) (skips : List ℕ) (at : ℕ) (spot : Spot) → at < length spots → spot ≢ Outside → AreSkips spots skips
     → AreSkips (set spots at spot) (set skips at 1)

@@ -1,5 +1,5 @@
 -- What one part, and one record, more adds to what is noted of a stream.
-use Rattle.std.proofs.Common.{◌≡◌, ◌&&◌, ◌<◌, ◌≤◌, ◌+◌, ◌-◌, ◌^◌, ℕ, Bool, true, false, cond, All, List, [], ◌∷◌, ◌++◌, length, map, min, Option, Some, None, inl, inr, refl, sym, ap, subst, ◌∙◌, arith}
+use Rattle.std.proofs.Common.{◌≡◌, ◌<◌, ◌≤◌, ◌+◌, ◌-◌, ◌^◌, ℕ, Bool, true, false, cond, All, List, [], ◌∷◌, ◌++◌, length, map, min, Option, Some, None, inl, inr, refl, sym, ap, subst, ◌∙◌, arith}
 use Rattle.std.specs.Prelude.{◌↔◌, ◌==◌, IsSome, IsTrue, filter, IfSome, IsSomeAnd, is_some, not, unwrap_or}
 use Rattle.std.specs.Option.{option_map, option_or}
 use Rattle.std.proofs.lemmas.Bool.{cases_lt}
@@ -142,15 +142,6 @@ TellsPlaces-more xs part old new placed extents covered tells =
           omega (arith, covered, tells.covered);
     }
 
--- no part yet
-pub TellsPlaces-none : (placement : Placement) → placement.placed ≡ true → placement.in_clusters ≡ true → placement.covered ≡ 0
-    → TellsPlaces [] placement
-TellsPlaces-none placement placed extents covered = record {
-  placed = (λ t. All-nil (λ part. All (λ run. IsSome run.lcn) (part_runs part)), λ all. placed);
-  in_clusters = (λ t. All-nil (λ (part : Part). IsSome (content_extent part.content)), λ all. extents);
-  covered = covered;
-}
-
 -- What a part is, by its attribute.
 
 resident-extent : (body : Body) → run_text_of body ≡ None → (content_extent (content_of body) ≡ None) × (content_runs (content_of body) ≡ None)
@@ -209,11 +200,6 @@ TellsPlaces-runs xs n a text runs old new its is placed extents covered tells =
     )
     (λ t. (sym extents ∙ t, extent), λ (t, _). extents ∙ t)
     (covered ∙ ap (λ r. min (2 ^ 64 - 1) (old.covered + total_clusters r)) (sym same)) tells
-
--- two flags, of which the second tells a fact
-pub both-flags : (a b : Bool) {P : Type 0} → IsTrue b ↔ P → IsTrue (a && b) ↔ (IsTrue a × P)
-both-flags true b here = (λ t. (refl, here.0 t), λ (_, p). here.1 p)
-both-flags false b here = (λ t. absurd (cc), λ (f, _). absurd (cc))
 
 -- Where the clusters lie.
 

@@ -6,7 +6,7 @@ use Rattle.std.proofs.lemmas.List.{length-set, get_or-set_same, get_or-set_other
 use Rattle.std.proofs.lemmas.List.Elements.{Contains-push, Contains-push_cases, Contains-append_left}
 use Rattle.volume_facts.specs.declared.marks.Mark.{Mark}
 use Rattle.volume_facts.specs.declared.marks.Mark.TheVariants.{Unknown, Walking, Found, Lost}
-use Rattle.volume_facts.specs.Marks.{HasRoot, mark_at, Says, AreRight, IsKnown, Walks, Walked, Settled, KeepsKnown, Reaches, verdict_of}
+use Rattle.volume_facts.specs.Marks.{HasRoot, mark_at, Says, AreRight, Walks, Walked, Settled, KeepsKnown, Reaches, verdict_of}
 use Rattle.volume_facts.proofs.ReachLaws.{Reaches-step, Reaches-root, Reaches-never}
 
 pub set_here : (marks : List Mark) (at : ℕ) (m : Mark) → at < length marks → mark_at (set marks at m) at ≡ m
@@ -14,27 +14,6 @@ set_here marks at m h = get_or-set_same marks at m Unknown h
 
 pub set_there : (marks : List Mark) (at k : ℕ) (m : Mark) → k ≢ at → mark_at (set marks at m) k ≡ mark_at marks k
 set_there marks at k m ne = get_or-set_other marks at k m Unknown ne
-
--- in right marks nothing is being walked
-pub none_walking : (parents : List ℕ) (root : ℕ) (marks : List Mark) (k : ℕ) → AreRight parents root marks → mark_at marks k ≡ Walking → ⊥
-none_walking parents root marks k right e = subst (λ m. Says parents root m k) e (right k)
-
-pub Walks-none : (parents : List ℕ) (root : ℕ) (marks : List Mark) (f : ℕ) (path : List ℕ) → path ≡ [] → HasRoot root marks
-    → AreRight parents root marks
-    → Walks parents root marks marks path f f
-Walks-none parents root marks f path empty found right =
-    let never : (k : ℕ) → mark_at marks k ≡ Walking → ⊥ = λ k e. none_walking parents root marks k right e in
-    record {
-      all = refl;
-      has_root = found;
-      others = λ k h. refl;
-      on_path = λ k e. absurd (never k e);
-      path_on = λ k (i, l, is). let z : length path ≡ 0 = ap length empty in absurd (omega arith);
-      was = λ k e. absurd (never k e);
-      goes_on = λ k e. absurd (never k e);
-      leads = λ k e. absurd (never k e);
-      start = inr refl;
-    }
 
 -- a mark is the one at a place, or another one's
 Marked : List Mark → List Mark → ℕ → ℕ → Type 0
@@ -163,13 +142,6 @@ KeepsKnown-of parents root old mid new path f at right walked settled =
         | inr w ↦ w.1
       ];
     }
-
--- a known mark that says what is so
-pub IsKnown-of : (parents : List ℕ) (root : ℕ) (m : Mark) (f : ℕ) → Says parents root m f → m ≢ Unknown → IsKnown parents root m f
-IsKnown-of parents root Unknown f says known = absurd (known refl)
-IsKnown-of parents root Walking f says known = absurd says
-IsKnown-of parents root Found f says known = record { found = (λ e. says, λ r. refl); known = known }
-IsKnown-of parents root Lost f says known = record { found = (λ e. absurd (cc), λ r. absurd (says r)); known = known }
 
 -- at the start the root alone is known
 pub AreRight-root : (parents : List ℕ) (root : ℕ) (marks : List Mark) → HasRoot root marks

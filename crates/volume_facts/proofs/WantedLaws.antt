@@ -3,12 +3,17 @@ use Rattle.std.proofs.Common.{◌≡◌, ◌==◌, ◌++◌, ◌+◌, ◌*◌, �
 use Rattle.std.proofs.lemmas.List.{map-append}
 use Rattle.ntfs_def.specs.declared.kinds.TheConstants.{ATTRIBUTE_LIST}
 use Rattle.ntfs_def.specs.Attribute.{Attribute}
+use Rattle.ntfs_def.specs.AttributeList.{ListEntry}
 use Rattle.ntfs_def.specs.Record.{Reference, reference_in}
 use Rattle.volume_def.specs.Files.{Record, Records, part_of}
 use Rattle.volume_def.specs.ListsClause.{entry_in, listed_parts, sequence_in}
 use Rattle.attr_list.specs.declared.EntryView.{EntryView}
 use Rattle.attr_list.specs.View.{entry_shown}
-use Rattle.volume_facts.specs.Lists.{wanted_in, wanted_of}
+use Rattle.volume_facts.specs.Lists.{wanted_of}
+
+-- what a list has to say of attributes that record n holds, which has this sequence number
+abbrev pub wanted_in : ℕ → ℕ → List Attribute → List ListEntry
+wanted_in n sequence attributes = map (wanted_of n sequence) (listed_parts (map (part_of n) attributes))
 
 -- a reference, put together
 pub reference_in-made : (n sequence : ℕ) → n < 2 ^ 48 → reference_in (sequence * 2 ^ 48 + n) ≡ record { number = n; sequence = sequence }

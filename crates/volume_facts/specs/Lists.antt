@@ -1,12 +1,10 @@
 -- What a list has to say of the parts of its file, and in which order its entries are compared.
-use Rattle.std.specs.Prelude.{ℕ, List, length, map}
+use Rattle.std.specs.Prelude.{ℕ, List, length}
 use Rattle.std.specs.Ordering.{nat_cmp, on, then_cmp}
 use Rattle.std.specs.declared.cmp.Ordering.{Ordering}
-use Rattle.ntfs_def.specs.Attribute.{Attribute}
 use Rattle.ntfs_def.specs.AttributeList.{HasListShape, ListEntry, list_entries}
 use Rattle.ntfs_def.specs.KeyOrder.{by_numbers}
-use Rattle.volume_def.specs.Files.{Part, part_of}
-use Rattle.volume_def.specs.ListsClause.{listed_parts}
+use Rattle.volume_def.specs.Files.{Part}
 use Rattle.volume_def.specs.SameItems.{SameItems}
 use Rattle.volume_def.specs.Values.{first_vcn_of}
 
@@ -31,7 +29,3 @@ wanted_of n sequence part = record {
   holder = record { number = n; sequence = sequence };
   id = part.id;
 }
-
--- the same of attributes that it holds
-abbrev pub wanted_in : ℕ → ℕ → List Attribute → List ListEntry
-wanted_in n sequence attributes = map (wanted_of n sequence) (listed_parts (map (part_of n) attributes))

@@ -22,9 +22,6 @@ pub record HeldName : Type 0 where
   pub file : ℕ
   pub place : PlacedName
 
-abbrev pub is_held_by : ℕ → HeldName → Bool
-is_held_by n held = held.holder == n
-
 abbrev pub is_of_file : ℕ → HeldName → Bool
 is_of_file f held = held.file == f
 

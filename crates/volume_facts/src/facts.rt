@@ -31,6 +31,10 @@ pub struct Facts {
 
 impl Facts {
     /// Of no record yet, of a volume of so many clusters of these bytes, and so many records.
+    ///
+    /// # Errors
+    ///
+    /// Want of memory alone.
     pub fn new(
         alloc: Global,
         cluster_bytes: u64,
@@ -89,6 +93,10 @@ impl Facts {
     }
 
     /// Notes record `n`, which is in use.
+    ///
+    /// # Errors
+    ///
+    /// Want of memory alone.
     pub fn note(&mut self, alloc: Global, n: u64, view: &RecordView<'_>) -> Result<(), AllocError>
         requires { n < records_known self.old }
         ensures noted { OnOk result ((records : Records) → records.record_at n ≡ Some (record_of n (viewed_block view.now))
@@ -104,6 +112,10 @@ impl Facts {
     }
 
     /// Notes that the next record is not in use.
+    ///
+    /// # Errors
+    ///
+    /// Want of memory alone.
     pub fn note_unused(&mut self) -> Result<(), AllocError>
         ensures noted { OnOk result ((records : Records) (n : ℕ) → records.record_at n ≡ None
             → FactsNote records n self.old → FactsNote records (n + 1) self.new) }

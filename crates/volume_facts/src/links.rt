@@ -11,11 +11,12 @@ ghost use Rattle.volume_facts.specs.Names.{NamesNote};
 ghost use Rattle.volume_facts.specs.Tallies.{tally_at};
 
 use crate::climb::reaching;
+use crate::heads::Head;
 use crate::least::least_of;
 use crate::marks::Mark;
 use crate::pairs::{first_unpaired, sorted_keys};
 use crate::tallies::{Tally, parents_of, tallies_of};
-use crate::{Head, Heads, Names};
+use crate::{Heads, Names};
 use ntfs_def::records::{FIRST_ORDINARY, ROOT};
 use std::alloc::{AllocError, Global};
 

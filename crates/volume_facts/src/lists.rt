@@ -1,7 +1,6 @@
 //! Whether an attribute list names each other part of its file once, and nothing else: the entries that it has and those
 //! that the parts call for are sorted, and compared.
 ghost use Rattle.std.specs.Prelude.{◌≡◌, ◌↔◌, ◌++◌, ◌<◌, ◌^◌, Some, IfOk, OnOk, IsTrue, map};
-ghost use Rattle.ntfs_def.specs.AttributeList.{list_entries};
 ghost use Rattle.volume_def.specs.Files.{Records, part_of, record_of};
 ghost use Rattle.volume_def.specs.ListsClause.{entries_in};
 ghost use Rattle.volume_def.specs.SameItems.{SameItems};

@@ -17,12 +17,14 @@ pub enum Mark {
 }
 
 impl Mark {
+    /// Whether nothing is known yet.
     pub fn is_unknown(self) -> bool
         ensures { IsTrue result ↔ self ≡ Unknown }
     {
         matches!(self, Mark::Unknown)
     }
 
+    /// Whether its parents are known to reach the root.
     pub fn is_found(self) -> bool
         ensures { result ≡ is_found self }
     {

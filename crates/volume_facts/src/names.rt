@@ -1,13 +1,11 @@
 //! The names of files, in the order of the records that hold them.
-ghost use Rattle.std.specs.Prelude.{◌≡◌, ◌+◌, ◌∷◌, [], ℕ, Some, None, OnOk, map};
+ghost use Rattle.std.specs.Prelude.{◌≡◌, ◌+◌, ◌∷◌, [], Some, None, OnOk, map};
 ghost use Rattle.std.specs.Option.{option_map, option_to_list};
 ghost use Rattle.volume_def.specs.AttributesClause.{IsRightPart, MeetsAttributes};
 ghost use Rattle.volume_def.specs.FileNames.{names_among};
-ghost use Rattle.volume_def.specs.Files.{Records, file_of, part_of, record_of, records_of};
-ghost use Rattle.volume_def.specs.View.{VolumeView};
+ghost use Rattle.volume_def.specs.Files.{Records, file_of, part_of, record_of};
 ghost use Rattle.attr_view.specs.View.{attribute_of, viewed_block};
 ghost use Rattle.volume_facts.specs.declared.names.Names.{Names};
-ghost use Rattle.volume_facts.specs.Heads.{EndsAtCount};
 ghost use Rattle.volume_facts.specs.Names.{NamesNote, held_name, told_name};
 
 use attr_view::{AttrView, RecordView};

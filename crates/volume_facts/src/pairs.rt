@@ -5,8 +5,7 @@ ghost use Rattle.volume_facts.specs.Least.{IsLeastFailing};
 ghost use Rattle.volume_facts.specs.declared.pairs.NameKey.{NameKey};
 ghost use Rattle.volume_facts.specs.Pairs.{ArePaired, IsBeside, IsInRange, IsPairedName, key_of, order_of};
 
-use crate::names::{DOS, WIN32};
-use crate::{NameFact, Names};
+use crate::names::{DOS, NameFact, Names, WIN32};
 use std::alloc::{AllocError, Global};
 
 /// What a name is paired by, in the order of sorting.

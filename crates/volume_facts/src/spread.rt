@@ -58,6 +58,10 @@ impl SpreadFiles {
     }
 
     /// Notes record `n`, which is in use.
+    ///
+    /// # Errors
+    ///
+    /// Want of memory alone.
     pub fn note(&mut self, n: u64, view: &RecordView<'_>) -> Result<(), AllocError>
         ensures { OnOk result ((records : Records) → records.record_at n ≡ Some (record_of n (viewed_block view.now))
             → SpreadNote records n self.old → SpreadNote records (n + 1) self.new) }

@@ -3,8 +3,7 @@ ghost use Rattle.std.specs.Prelude.{◌≡◌, ◌<◌, ◌+◌, ◌^◌, ◌∷
 ghost use Rattle.volume_facts.specs.Names.{PlacedName, told_name};
 ghost use Rattle.volume_facts.specs.Tallies.{IsTally, parent_within, places_in_file, tally_at};
 
-use crate::names::DOS;
-use crate::{NameFact, Names};
+use crate::names::{DOS, NameFact, Names};
 use std::alloc::{AllocError, Global};
 
 /// What the names of a file come to.

@@ -1,5 +1,5 @@
 //! The clause on the extents of a file.
-ghost use Rattle.std.specs.Prelude.{◌≡◌, ◌↔◌, ℕ, ◌+◌, ◌<◌, ◌≤◌, ◌^◌, List, Some, All, IfNone, IfOk, IfSome, IsTrue, length, map, sum_by};
+ghost use Rattle.std.specs.Prelude.{◌≡◌, ◌↔◌, ◌+◌, ◌<◌, ◌≤◌, ◌^◌, List, Some, All, IfNone, IfOk, IfSome, IsTrue, length, map, sum_by};
 ghost use Rattle.volume_def.specs.ExtentsClause.{MeetsExtents, last_vcn_of};
 ghost use Rattle.volume_def.specs.Files.{Part, Records, is_base, record_of};
 ghost use Rattle.volume_def.specs.SameItems.{SameItems};
@@ -16,7 +16,7 @@ use std::alloc::{AllocError, Global};
 use std::cmp::Ordering;
 
 /// The name of the stream of bad clusters, `$Bad`.
-const BAD_NAME: &[u8] = b"$\0B\0a\0d\0";
+pub const BAD_NAME: &[u8] = b"$\0B\0a\0d\0";
 
 // The order in which extents of a type and name stand together, and rise.
 fn compare(a: &Extent<'_>, b: &Extent<'_>) -> Ordering

@@ -1,7 +1,6 @@
 //! Runs noted as bits.
 ghost use Rattle.std.specs.Prelude.{◌≡◌, ◌+◌, ◌^◌, ◌<◌, ◌≤◌, ℕ, List, [], ◌∷◌, ◌++◌, IfOk, OnOk, min, flat_map};
 ghost use Rattle.ntfs_def.specs.Runs.{EndsInReach, IsRunList};
-ghost use Rattle.attr_view.specs.Left.{attributes_left};
 ghost use Rattle.attr_view.specs.View.{attribute_of, attributes_of};
 ghost use Rattle.ntfs_def.specs.declared.run_text.Run.{Run};
 ghost use Rattle.volume_facts.specs.Owners.{CountsNote, RunsNote, attribute_runs, inside, noted_end, runs_of_text};

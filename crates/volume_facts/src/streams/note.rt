@@ -1,5 +1,5 @@
 //! Parts of a stream noted, attribute by attribute, record by record.
-ghost use Rattle.std.specs.Prelude.{◌≡◌, ◌+◌, ◌++◌, ◌∷◌, ◌^◌, ◌<◌, ◌≤◌, ℕ, Bool, List, [], Some, IfOk, OnOk, if◌then◌else◌};
+ghost use Rattle.std.specs.Prelude.{◌≡◌, ◌+◌, ◌++◌, ◌∷◌, ◌^◌, ◌<◌, ◌≤◌, ℕ, List, [], Some, IfOk, OnOk, if◌then◌else◌};
 ghost use Rattle.std.specs.Int.{div_ceil};
 ghost use Rattle.attr_view.specs.View.{attribute_of, attributes_of, viewed_block};
 ghost use Rattle.volume_def.specs.Files.{Part, Records, file_of, part_of, record_of};

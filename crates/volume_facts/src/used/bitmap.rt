@@ -3,7 +3,7 @@ ghost use Rattle.std.specs.Prelude.{◌≡◌, ◌+◌, ◌-◌, ◌*◌, ◌^�
 ghost use Rattle.ntfs_def.specs.declared.records.TheConstants.{FIRST_ORDINARY};
 ghost use Rattle.ntfs_def.specs.Bits.{bit_in};
 ghost use Rattle.volume_def.specs.BitmapClauses.{HasRecordBits, MeetsRecordBits, record_bits};
-ghost use Rattle.volume_def.specs.Files.{Record, Records, records_of};
+ghost use Rattle.volume_def.specs.Files.{Record, Records};
 ghost use Rattle.volume_def.specs.Values.{value_on};
 ghost use Rattle.volume_def.specs.View.{VolumeView};
 ghost use Rattle.volume_facts.specs.BitRanges.{IsLeastWithin, IsPieceOf};

@@ -11,4 +11,4 @@ returns-in-Ok-clause-parts g c told =
     parts-found (view g.D.Disk c.args.mft.now) c.args.f c.args.n c.in-Ok.found c.in-Ok.ensures.number (c.in-Ok.ensures.own told) (c.in-Ok.ensures.other told)
 
 pub returns-in-Err-clause-faults : goal.returns-in-Err-clause-faults
-returns-in-Err-clause-faults g c = c.no_file.ensures.counts _ _ c.in-Err.ensures.err c.in-Err.ensures.faults
+returns-in-Err-clause-faults g c = c.mount_no_of.ensures.counts _ _ c.in-Err.ensures.err c.in-Err.ensures.faults

@@ -14,8 +14,9 @@ returns-in-Some-clause-value g c told n lies =
     let a = attribute_of list in
     let value = c.in-Some.value.now in
     let is : value_of a.body ≡ Some value = sym c.in-Some.ensures in (
-      omega (arith, value-short list.block.now list.at value is, list.size, ap length c.in_ok-value.ensures),
-      c.in_ok-value.ensures ∙ sym (list_value-resident (view g.D.Disk c.args.mft.now) (part_of n a) value (resident-content a.body value is)),
+      omega (arith, value-short list.block.now list.at value is, list.size, ap length c.in_ok-value.ensures.items),
+      c.in_ok-value.ensures.items
+          ∙ sym (list_value-resident (view g.D.Disk c.args.mft.now) (part_of n a) value (resident-content a.body value is)),
     )
 
 pub returns-then-sizes-gt-MOST_BYTES-clause-long : goal.returns-then-sizes-gt-MOST_BYTES-clause-long
@@ -42,4 +43,4 @@ returns-in-Ok-clause-value g c told n lies =
     )
 
 pub returns-in-Err-clause-faults : goal.returns-in-Err-clause-faults
-returns-in-Err-clause-faults g c = c.no_file.ensures.counts _ _ c.in-Err.ensures.err c.in-Err.ensures.faults
+returns-in-Err-clause-faults g c = c.mount_no_of.ensures.counts _ _ c.in-Err.ensures.err c.in-Err.ensures.faults

@@ -4,13 +4,13 @@ use Rattle.mft_table.specs.Mft.{faults_of, view}
 use Rattle.mft_table.specs.MountNos.{CountsMount}
 use Rattle.mount_check.specs.MirrorClusters.{IsMirrorInside}
 use Rattle.mount_check.proofs.OrderLaws.{decided-place, decided-version, holds-none}
-use Rattle.mount_check.proofs.RefusalLaws.{IsRefusalIf-fault, IsRefusalIf-weaker}
+use Rattle.mount_check.proofs.RefusalLaws.{IsRefusalIf-device, IsRefusalIf-fault, IsRefusalIf-weaker}
 use Rattle.mount_check.proofs.finish.decide_places.Goals as goal
 
 pub returns-in_err-version-clause-err : goal.returns-in_err-version-clause-err
 returns-in_err-version-clause-err g c =
     let p = err_from_is_err_and c.from_residual.result c.from_residual.ensures.1 in
-    rw (p.1, p.2) (IsRefusalIf-fault _ (view g.D.Disk c.args.mft.now) _ c.in_err-version.ensures.err)
+    rw (p.1, p.2) (IsRefusalIf-device _ (view g.D.Disk c.args.mft.now) _ c.in_err-version.ensures.err)
 
 pub returns-in_err-refuse_first-clause-err : goal.returns-in_err-refuse_first-clause-err
 returns-in_err-refuse_first-clause-err g c =

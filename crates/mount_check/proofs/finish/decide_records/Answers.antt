@@ -3,13 +3,13 @@ use Rattle.std.proofs.lemmas.Result.{err_from_is_err_and}
 use Rattle.mft_table.specs.Mft.{faults_of, view}
 use Rattle.mft_table.specs.MountNos.{CountsMount}
 use Rattle.mount_check.proofs.OrderLaws.{come-less}
-use Rattle.mount_check.proofs.RefusalLaws.{IsRefusalIf-fault, IsRefusalIf-weaker}
+use Rattle.mount_check.proofs.RefusalLaws.{IsRefusalIf-device, IsRefusalIf-weaker}
 use Rattle.mount_check.proofs.finish.decide_records.Goals as goal
 
 pub returns-in_err-unlike-clause-err : goal.returns-in_err-unlike-clause-err
 returns-in_err-unlike-clause-err g c =
     let p = err_from_is_err_and c.from_residual.result c.from_residual.ensures.1 in
-    rw (p.1, p.2) (IsRefusalIf-fault _ (view g.D.Disk c.args.mft.now) _ c.in_err-unlike.ensures.err)
+    rw (p.1, p.2) (IsRefusalIf-device _ (view g.D.Disk c.args.mft.now) _ c.in_err-unlike.ensures.err)
 
 pub returns-in_err-refuse_first-clause-err : goal.returns-in_err-refuse_first-clause-err
 returns-in_err-refuse_first-clause-err g c =
@@ -29,7 +29,7 @@ returns-in_err-refuse_first-clause-faults g c =
 pub returns-in_err-long-clause-err : goal.returns-in_err-long-clause-err
 returns-in_err-long-clause-err g c =
     let p = err_from_is_err_and c.from_residual-in_err-long.result c.from_residual-in_err-long.ensures.1 in
-    rw (p.1, p.2) (IsRefusalIf-fault _ (view g.D.Disk c.args.mft.now) _ c.in_err-long.ensures.err)
+    rw (p.1, p.2) (IsRefusalIf-device _ (view g.D.Disk c.args.mft.now) _ c.in_err-long.ensures.err)
 
 pub returns-in_err-refuse_first-2-clause-err : goal.returns-in_err-refuse_first-2-clause-err
 returns-in_err-refuse_first-2-clause-err g c =

@@ -4,9 +4,9 @@ use Rattle.mft_table.specs.declared.mounted.Mounted.{Mounted}
 use Rattle.mft_table.specs.Mft.{view}
 use Rattle.mft_table.proofs.StreamReads.{MftReads-none, MftReads-then}
 use Rattle.file_record.proofs.ReadLaws.{view-kept}
-use Rattle.mount_check.specs.Limits.{IsLeastLong, IsLongIn}
+use Rattle.mount_check.specs.Limits.{IsLongIn}
 use Rattle.mount_check.specs.Views.{HasComeTo}
-use Rattle.mount_check.proofs.LimitLaws.{long-all, long-next, long-none}
+use Rattle.mount_check.proofs.LimitLaws.{IsLeastLong, long-all, long-next, long-none}
 use Rattle.mount_check.proofs.limits.first_long_stream.Goals as goal
 
 pub loop-n-init : goal.loop-n-init

@@ -1,7 +1,7 @@
 use Rattle.std.proofs.Common.{◌≡◌, ◌*◌, IsTrue}
 use Rattle.mft_table.specs.Mft.{MftReads, faults_of, view}
-use Rattle.mount_check.specs.Limits.{IsLeastLong}
 use Rattle.mount_check.specs.Views.{HasComeTo}
+use Rattle.mount_check.proofs.LimitLaws.{IsLeastLong}
 use Rattle.mount_check.proofs.limits.first_long_stream.Given as goal
 
 -- the least of the records so far

@@ -9,4 +9,4 @@ returns-in-Ok-clause-parts g c = λ told come.
     (c.in-Ok.ensures.own told) (c.in-Ok.ensures.parts told)
 
 pub returns-in-Err-clause-faults : goal.returns-in-Err-clause-faults
-returns-in-Err-clause-faults g c = c.no_file.ensures.counts _ _ c.in-Err.ensures.err c.in-Err.ensures.faults
+returns-in-Err-clause-faults g c = c.mount_no_of.ensures.counts _ _ c.in-Err.ensures.err c.in-Err.ensures.faults

@@ -1,7 +1,7 @@
 use Rattle.std.proofs.Common.{◌≡◌, ◌++◌, append-nil, length, map, sym, ap, ◌∙◌, arith}
 use Rattle.file_record.specs.Held.{parts_held}
-use Rattle.sparse_io.specs.Held.{shown_kept, streams_held}
-use Rattle.sparse_io.proofs.KeptLaws.{keeps-streams, list-kept, no-item}
+use Rattle.sparse_io.specs.Held.{streams_held}
+use Rattle.sparse_io.proofs.KeptLaws.{keeps-streams, list-kept, no-item, shown_kept}
 use Rattle.sparse_io.proofs.find.list_streams.Goals as goal
 
 pub returns : goal.returns

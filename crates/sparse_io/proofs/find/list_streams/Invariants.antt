@@ -1,5 +1,5 @@
 use Rattle.std.proofs.Common.{◌≡◌, ◌++◌, map}
-use Rattle.sparse_io.specs.Held.{shown_kept}
+use Rattle.sparse_io.proofs.KeptLaws.{shown_kept}
 use Rattle.sparse_io.proofs.find.list_streams.Given as goal
 
 -- the lines of what was gone over, and those of what is left

@@ -7,8 +7,7 @@ use Rattle.volume_def.specs.Files.{record_of}
 use Rattle.attr_list.specs.View.{entry_shown}
 use Rattle.attr_view.specs.Left.{attributes_left}
 use Rattle.attr_view.specs.View.{attribute_of, viewed_block}
-use Rattle.volume_facts.specs.Lists.{wanted_in}
-use Rattle.volume_facts.proofs.WantedLaws.{entries_in-record, wanted-more, wanted_in-list}
+use Rattle.volume_facts.proofs.WantedLaws.{entries_in-record, wanted-more, wanted_in, wanted_in-list}
 use Rattle.volume_facts.proofs.lists.add_wanted.Goals as goal
 
 pub loop-attribute-preserved-in-Continue-1 : goal.loop-attribute-preserved-in-Continue-1

@@ -2,7 +2,7 @@ use Rattle.std.proofs.Common.{◌≡◌, ◌<◌, ◌^◌, ◌++◌, map}
 use Rattle.attr_list.specs.View.{entry_shown}
 use Rattle.attr_view.specs.Left.{attributes_left}
 use Rattle.attr_view.specs.View.{attributes_of}
-use Rattle.volume_facts.specs.Lists.{wanted_in}
+use Rattle.volume_facts.proofs.WantedLaws.{wanted_in}
 use Rattle.volume_facts.proofs.lists.add_wanted.Given as goal
 
 abbrev pub invariant-loop-attribute : goal.invariant-loop-attribute

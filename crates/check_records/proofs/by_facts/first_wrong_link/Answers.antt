@@ -3,7 +3,7 @@ use Rattle.volume_def.specs.Files.{records_of}
 use Rattle.volume_def.specs.Sound.Clause.{References}
 use Rattle.volume_facts.proofs.HeadLaws.{EndsAtCount-view}
 use Rattle.check_records.proofs.FactsGiven.{RightNote-all}
-use Rattle.check_records.proofs.by_facts.first_wrong_name.Goals as goal
+use Rattle.check_records.proofs.by_facts.first_wrong_link.Goals as goal
 
 pub returns : goal.returns
 returns c = λ view note before.
