@@ -68,10 +68,7 @@ impl Above {
         if self.names.contains_key(&dir) {
             return Ok(());
         }
-        let file = match load_file(alloc, mft, dir) {
-            Ok(file) => file,
-            Err(why) => return Err(why),
-        };
+        let file = load_file(alloc, mft, dir)?;
         match first_name(links_of(alloc, &file.parts)?) {
             Some(link) => {
                 self.names.insert(dir, link)?;
@@ -105,10 +102,8 @@ impl Above {
         ensures found { Finds D.Disk mft.old mft.new (λ volume parent. AreAbove volume self.new
             × (parent ≡ option_map (λ link. link.parent) (name_above volume dir))) result }
     {
-        match self.learn(alloc, mft, dir) {
-            Ok(()) => Ok(self.name(dir).map(|link| link.parent)),
-            Err(why) => Err(why),
-        }
+        self.learn(alloc, mft, dir)?;
+        Ok(self.name(dir).map(|link| link.parent))
     }
 
     /// Whether the way up from a directory leads to a record of the system, where that was noted.

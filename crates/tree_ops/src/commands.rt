@@ -53,10 +53,7 @@ fn ls<D: Disk>(alloc: Global, mft: &mut Mft<'_, D>, held: &BaseFile) -> Result<A
     if !is_directory(held) {
         return Err(Stop::No(No::NotDir));
     }
-    match list_shown(alloc, mft, held) {
-        Err(why) => Err(why),
-        Ok(lines) => Ok(Answer::List(lines)),
-    }
+    Ok(Answer::List(list_shown(alloc, mft, held)?))
 }
 
 // `links`.
@@ -65,10 +62,7 @@ fn links<D: Disk>(alloc: Global, mft: &mut Mft<'_, D>, held: &BaseFile) -> Resul
     requires held { IsTrue (view D.Disk mft.old).told → IsNodeHeld (view D.Disk mft.old) held.now }
     ensures answered { Answered D.Disk mft.old mft.new (λ volume. links_shown (read volume) (number_of held.now)) result }
 {
-    match links_to(alloc, mft, held) {
-        Err(why) => Err(why),
-        Ok(lines) => Ok(Answer::Links(lines)),
-    }
+    Ok(Answer::Links(links_to(alloc, mft, held)?))
 }
 
 // What a command shows of a file that is loaded.
@@ -122,10 +116,8 @@ fn show_at<D: Disk>(
         result }
     ensures last { IsTrue (view D.Disk mft.old).told → IfSome last.new (IsStanding (view D.Disk mft.old)) }
 {
-    match resolve(alloc, mft, last, path) {
-        Err(why) => Err(why),
-        Ok(reached) => show_node(alloc, mft, command, &reached.held),
-    }
+    let reached = resolve(alloc, mft, last, path)?;
+    show_node(alloc, mft, command, &reached.held)
 }
 
 /// The answer to a command, or the refusal that is due. No command that is built has anything to do with opens, with the moment,

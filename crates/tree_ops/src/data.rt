@@ -206,10 +206,9 @@ pub fn objid<D: Disk>(alloc: Global, mft: &mut Mft<'_, D>, held: &BaseFile) -> R
     requires held { IsTrue (view D.Disk mft.old).told → IsNodeHeld (view D.Disk mft.old) held.now }
     ensures answered { Answered D.Disk mft.old mft.new (λ volume. objid_shown (read volume) (number_of held.now)) result }
 {
-    match read_begin(alloc, mft, held, OBJECT_ID, &[], 16) {
-        Err(why) => Err(why),
-        Ok(Some(bytes)) => Ok(Answer::ObjectId(bytes)),
-        Ok(None) => Ok(Answer::ObjectId(Octets::from_vec(Vec::new(alloc)))),
+    match read_begin(alloc, mft, held, OBJECT_ID, &[], 16)? {
+        Some(bytes) => Ok(Answer::ObjectId(bytes)),
+        None => Ok(Answer::ObjectId(Octets::from_vec(Vec::new(alloc)))),
     }
 }
 
@@ -255,13 +254,12 @@ fn read_point<D: Disk>(alloc: Global, mft: &mut Mft<'_, D>, held: &BaseFile) -> 
     requires held { IsTrue (view D.Disk mft.old).told → IsNodeHeld (view D.Disk mft.old) held.now }
     ensures answered { Answered D.Disk mft.old mft.new (λ volume. reparse_shown (read volume) (number_of held.now)) result }
 {
-    match read_begin(alloc, mft, held, REPARSE_POINT, &[], POINT) {
-        Err(why) => Err(why),
-        Ok(None) => Ok(Answer::Reparse {
+    match read_begin(alloc, mft, held, REPARSE_POINT, &[], POINT)? {
+        None => Ok(Answer::Reparse {
             tag: 0,
             bytes: Octets::from_vec(Vec::new(alloc)),
         }),
-        Ok(Some(value)) => point_of(alloc, value),
+        Some(value) => point_of(alloc, value),
     }
 }
 

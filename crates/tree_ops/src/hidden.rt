@@ -58,10 +58,9 @@ fn leads_to_system<D: Disk>(
         if let Some(known) = above.leads(at) {
             return Ok(known);
         }
-        match above.parent(alloc, mft, at) {
-            Ok(Some(parent)) => at = parent,
-            Ok(None) => return Ok(false),
-            Err(why) => return Err(why),
+        match above.parent(alloc, mft, at)? {
+            Some(parent) => at = parent,
+            None => return Ok(false),
         }
         left -= 1;
     }
@@ -88,17 +87,15 @@ fn leads_elsewhere<D: Disk>(
     if link.parent == dir {
         return Ok(false);
     }
-    match leads_to_system(alloc, mft, above, link.parent, most) {
-        Ok(found) => match above.note(link.parent, found, most) {
-            Ok(()) => Ok(found),
-            Err(_) => Err(Stop::No(No::Memory)),
-        },
-        Err(why) => Err(why),
+    let found = leads_to_system(alloc, mft, above, link.parent, most)?;
+    match above.note(link.parent, found, most) {
+        Ok(()) => Ok(found),
+        Err(_) => Err(Stop::No(No::Memory)),
     }
 }
 
 // Whether one of the names of a file stands in a directory that leads to a record of the system. Of `dir` it is known that it does
-// not. Each directory above is read once.
+// not.
 fn stands_in_hidden<D: Disk>(
     alloc: Global,
     mft: &mut Mft<'_, D>,
@@ -116,10 +113,8 @@ fn stands_in_hidden<D: Disk>(
 {
     let most = mft.mounted().records.count().saturating_sub(1);
     for link in links {
-        match leads_elsewhere(alloc, mft, above, dir, link, most) {
-            Ok(false) => {}
-            Ok(true) => return Ok(true),
-            Err(why) => return Err(why),
+        if leads_elsewhere(alloc, mft, above, dir, link, most)? {
+            return Ok(true);
         }
     }
     Ok(false)
@@ -160,23 +155,18 @@ pub fn load_below<D: Disk>(
     if link.child < FIRST_ORDINARY {
         return Ok(Below::Hidden);
     }
-    let file = match load_file(alloc, mft, link.child) {
-        Ok(file) => file,
-        Err(why) => return Err(why),
-    };
+    let file = load_file(alloc, mft, link.child)?;
     if is_directory(&file) {
         return Ok(directory_below(file));
     }
     let links = links_of(alloc, &file.parts)?;
-    match stands_in_hidden(alloc, mft, above, dir, &links) {
-        Ok(true) => Ok(Below::Hidden),
-        Ok(false) => Ok(Below::File(file)),
-        Err(why) => Err(why),
+    if stands_in_hidden(alloc, mft, above, dir, &links)? {
+        return Ok(Below::Hidden);
     }
+    Ok(Below::File(file))
 }
 
-/// All links to a file that is held, by the paths that lead to them, in byte order of the paths' texts. Each directory above is
-/// read once.
+/// All links to a file that is held, by the paths that lead to them, in byte order of the paths' texts.
 ///
 /// # Errors
 ///
@@ -194,11 +184,9 @@ pub fn links_to<D: Disk>(
         return Ok(ShownLinks::from_vec(Vec::new(alloc)));
     }
     let links = links_in_order(alloc, &mft.mounted().upcase, held)?;
-    match lines_of(alloc, mft, links.as_slice()) {
-        Ok(lines) => match in_order(alloc, lines) {
-            Ok(shown) => Ok(ShownLinks::from_vec(shown)),
-            Err(_) => Err(Stop::No(No::Memory)),
-        },
-        Err(why) => Err(why),
+    let lines = lines_of(alloc, mft, links.as_slice())?;
+    match in_order(alloc, lines) {
+        Ok(shown) => Ok(ShownLinks::from_vec(shown)),
+        Err(_) => Err(Stop::No(No::Memory)),
     }
 }

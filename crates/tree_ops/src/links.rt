@@ -55,10 +55,7 @@ fn names_up<D: Disk>(
     let mut at = link.parent;
     let mut left = mft.mounted().records.count();
     'steps: while left > 0 && at != ROOT {
-        match above.learn(alloc, mft, at) {
-            Ok(()) => {}
-            Err(why) => return Err(why),
-        }
+        above.learn(alloc, mft, at)?;
         let up = match above.name(at) {
             Some(up) => up,
             None => return Ok(names),
@@ -87,13 +84,9 @@ fn path_of<D: Disk>(
     ensures found { Finds D.Disk mft.old mft.new (λ volume names. AreAbove volume above.new
         × (names.items ≡ path_to (read volume) (length (read volume).links) link.now.parent ++ link.now.name ∷ [])) result }
 {
-    match names_up(alloc, mft, above, link) {
-        Ok(mut names) => {
-            names.reverse();
-            Ok(names)
-        }
-        Err(why) => Err(why),
-    }
+    let mut names = names_up(alloc, mft, above, link)?;
+    names.reverse();
+    Ok(names)
 }
 
 // The line of a link that stands in a directory that is shown.
@@ -110,10 +103,7 @@ fn line_of<D: Disk>(
     ensures found { Finds D.Disk mft.old mft.new (λ volume line. AreAbove volume above.new
         × (line.shown ≡ shown_link (read volume) link.now)) result }
 {
-    let names = match path_of(alloc, mft, above, link) {
-        Ok(names) => names,
-        Err(why) => return Err(why),
-    };
+    let names = path_of(alloc, mft, above, link)?;
     let shown = ShownLink {
         space: link.space,
         path: Path::from_vec(names),
@@ -124,7 +114,7 @@ fn line_of<D: Disk>(
     }
 }
 
-/// The lines of links that stand in directories that are shown, in their order. Each directory above is read once.
+/// The lines of links that stand in directories that are shown, in their order.
 ///
 /// # Errors
 ///
@@ -144,10 +134,7 @@ pub fn lines_of<D: Disk>(
     let mut above = Above::new(alloc);
     let mut lines = Vec::new(alloc);
     for link in links {
-        let line = match line_of(alloc, mft, &mut above, link) {
-            Ok(line) => line,
-            Err(why) => return Err(why),
-        };
+        let line = line_of(alloc, mft, &mut above, link)?;
         match lines.push(line) {
             Ok(()) => {}
             Err(_) => return Err(Stop::No(No::Memory)),

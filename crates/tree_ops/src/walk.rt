@@ -214,10 +214,8 @@ fn list_link<D: Disk>(
     if link.is_dos() {
         return Ok(None);
     }
-    match load_below(alloc, mft, above, dir, &link) {
-        Ok(below) => Ok(listed_below(link.name, &below)),
-        Err(why) => Err(why),
-    }
+    let below = load_below(alloc, mft, above, dir, &link)?;
+    Ok(listed_below(link.name, &below))
 }
 
 // The line of a link that is no DOS name.
@@ -241,8 +239,7 @@ fn add_line(lines: &mut Vec<Listed>, line: Option<Listed>) -> Result<(), AllocEr
     }
 }
 
-/// The links of a directory that is shown, in name order, that are neither hidden nor DOS names. What each leads to is loaded, and
-/// each directory above their other names once.
+/// The links of a directory that is shown, in name order, that are neither hidden nor DOS names.
 ///
 /// # Errors
 ///

@@ -32,12 +32,12 @@ list_shown-requires g c = record {
       };
 }
 
-pub returns-in-Ok : goal.returns-in-Ok
-returns-in-Ok g c =
+pub returns : goal.returns
+returns g c =
     let held = c.args.held.now in
     record {
-      answered = tells c.in-Ok.ensures.answered refl (λ told same.
-          let lines : listing (read (view g.D.Disk c.args.mft.now)) (number_of held) ≡ c.in-Ok.lines = cc in
+      answered = tells c.in_ok-list_shown.ensures.answered refl (λ told same.
+          let lines : listing (read (view g.D.Disk c.args.mft.now)) (number_of held) ≡ c.in_ok-list_shown.field-0 = cc in
           ls-directory (view g.D.Disk c.args.mft.now) held (c.requires.held told) (sym c.is_directory.ensures ∙ c.if-not-is_directory.false)
           ∙ ap (λ shown. Ok (a.List shown)) lines);
     }

@@ -6,20 +6,20 @@ use Rattle.tree_ops.proofs.DataLaws.{objid-held}
 use Rattle.tree_ops.proofs.GivesLaws.{tells}
 use Rattle.tree_ops.proofs.data.objid.Goals as goal
 
-pub returns-in-Ok-Some : goal.returns-in-Ok-Some
-returns-in-Ok-Some g c =
+pub returns-in-Some : goal.returns-in-Some
+returns-in-Some g c =
     let held = c.args.held.now in
     record {
-      answered = tells c.in-Ok-Some.ensures.found refl (λ told so. objid-held (view g.D.Disk c.args.mft.now) held (c.requires.held told)
-          ∙ ap (λ (o : Option (List ℕ)). Ok (a.ObjectId (unwrap_or o []))) (sym so ∙ c.in-Ok-Some.field-0-is));
+      answered = tells c.in_ok-bytes.ensures.found refl (λ told so. objid-held (view g.D.Disk c.args.mft.now) held (c.requires.held told)
+          ∙ ap (λ (o : Option (List ℕ)). Ok (a.ObjectId (unwrap_or o []))) (sym so ∙ c.in-Some.is));
     }
 
-pub returns-in-Ok-None : goal.returns-in-Ok-None
-returns-in-Ok-None g c =
+pub returns-in-None : goal.returns-in-None
+returns-in-None g c =
     let held = c.args.held.now in
     let none : c.from_vec.result ≡ [] = search rules in
     record {
-      answered = tells c.in-Ok-None.ensures.found refl (λ told so. objid-held (view g.D.Disk c.args.mft.now) held (c.requires.held told)
-          ∙ ap (λ (o : Option (List ℕ)). Ok (a.ObjectId (unwrap_or o []))) (sym so ∙ c.in-Ok-None.field-0-is)
+      answered = tells c.in_ok-bytes.ensures.found refl (λ told so. objid-held (view g.D.Disk c.args.mft.now) held (c.requires.held told)
+          ∙ ap (λ (o : Option (List ℕ)). Ok (a.ObjectId (unwrap_or o []))) (sym so ∙ c.in-None.is)
           ∙ ap (λ bytes. Ok (a.ObjectId bytes)) (sym none));
     }

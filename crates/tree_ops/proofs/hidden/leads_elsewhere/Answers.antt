@@ -3,16 +3,16 @@ use Rattle.mft_table.specs.Mft.{view}
 use Rattle.tree_ops.proofs.GivesLaws.{tells}
 use Rattle.tree_ops.proofs.hidden.leads_elsewhere.Goals as goal
 
-pub returns-in-Ok-note : goal.returns-in-Ok-note
-returns-in-Ok-note g c = record {
-  found = tells c.in-Ok.ensures.found refl (λ told is.
+pub returns-in-Ok : goal.returns-in-Ok
+returns-in-Ok g c = record {
+  found = tells c.in_ok-found.ensures.found refl (λ told is.
       let v = view g.D.Disk c.args.mft.now in (
-        c.in-Ok-note.ensures v (c.requires.volume told).sound (c.requires.directory told) (sym is.1) is.0,
+        c.in-Ok.ensures v (c.requires.volume told).sound (c.requires.directory told) (sym is.1) is.0,
         is.1,
       ));
 }
 
-pub returns-in-Err-note : goal.returns-in-Err-note
-returns-in-Err-note g c = record {
-  found = tells c.in-Ok.ensures.found refl (λ told is. refl);
+pub returns-in-Err : goal.returns-in-Err
+returns-in-Err g c = record {
+  found = tells c.in_ok-found.ensures.found refl (λ told is. refl);
 }

@@ -1,7 +1,7 @@
 use Rattle.std.proofs.Common.{◌≡◌, ◌-◌, suc, Some, None, refl, sym, subst, ◌∙◌, arith}
 use Rattle.mft_table.specs.Mft.{view}
 use Rattle.attr_store.specs.InUse.{IsDirectory}
-use Rattle.tree_ops.proofs.GivesLaws.{at_once, both, tells}
+use Rattle.tree_ops.proofs.GivesLaws.{at_once, both, handed-on, tells}
 use Rattle.tree_ops.proofs.KindLaws.{IsUp, up-begins, up-ends, up-goes, up-known}
 use Rattle.tree_ops.proofs.hidden.leads_to_system.Goals as goal
 
@@ -13,31 +13,32 @@ steps-init g c = at_once refl (λ told. (
       (c.requires.most told),
 ))
 
-pub returns-in-Ok-None : goal.returns-in-Ok-None
-returns-in-Ok-None g c = record {
-  found = tells (both c.steps.invariant c.in-Ok-None.ensures.found) refl (λ told is.
+pub returns-in-None : goal.returns-in-None
+returns-in-None g c = record {
+  found = tells (both c.steps.invariant c.in_ok-parent.ensures.found) refl (λ told is.
       let v = view g.D.Disk c.args.mft.now in
       let left : c.steps.left ≡ suc (c.steps.left - 1) = omega (arith, c.steps-test.true) in
-      let up = up-goes v (c.requires.volume told).sound c.args.dir c.steps.at (c.steps.left - 1) c.in-Ok-None.field-0
+      let up = up-goes v (c.requires.volume told).sound c.args.dir c.steps.at (c.steps.left - 1) c.in_ok-parent.field-0
       c.if-at-ge-FIRST_ORDINARY.true (subst (IsUp v c.args.dir c.steps.at) left is.0.2) is.1.1 in
-      let none : None ≡ Some up.parent = sym c.in-Ok-None.field-0-is ∙ up.is in
+      let none : None ≡ Some up.parent = sym c.in-None.is ∙ up.is in
       absurd (cc));
 }
 
-pub returns-in-Err : goal.returns-in-Err
-returns-in-Err g c = record {
-  found = tells (both c.steps.invariant c.in-Err.ensures.found) refl (λ told is. is.1);
+pub returns-in_err-parent : goal.returns-in_err-parent
+returns-in_err-parent g c = record {
+  found = rw (handed-on c.from_residual.result c.in_err-parent.field-0.0 c.from_residual.ensures.1)
+      (tells (both c.steps.invariant c.in_err-parent.ensures.found) refl (λ told is. is.1));
 }
 
 pub steps-preserved : goal.steps-preserved
 steps-preserved g c =
-    tells (both c.steps.invariant c.in-Ok-Some.ensures.found) refl (λ told is.
+    tells (both c.steps.invariant c.in_ok-parent.ensures.found) refl (λ told is.
     let v = view g.D.Disk c.args.mft.now in
     let left : c.steps.left ≡ suc (c.steps.left - 1) = omega (arith, c.steps-test.true) in
-    let up = up-goes v (c.requires.volume told).sound c.args.dir c.steps.at (c.steps.left - 1) c.in-Ok-Some.field-0
+    let up = up-goes v (c.requires.volume told).sound c.args.dir c.steps.at (c.steps.left - 1) c.in_ok-parent.field-0
     c.if-at-ge-FIRST_ORDINARY.true (subst (IsUp v c.args.dir c.steps.at) left is.0.2) is.1.1 in
-    let some : Some up.parent ≡ Some c.in-Ok-Some.parent = sym up.is ∙ c.in-Ok-Some.field-0-is in
-    let same : up.parent ≡ c.in-Ok-Some.parent = cc in (
+    let some : Some up.parent ≡ Some c.in-Some-2.parent = sym up.is ∙ c.in-Some-2.is in
+    let same : up.parent ≡ c.in-Some-2.parent = cc in (
       is.1.0,
       subst (IsDirectory v) same up.directory,
       subst (λ p. IsUp v c.args.dir p (c.steps.left - 1)) same up.up,

@@ -50,9 +50,9 @@ lines_of-requires-clause-shown g c = λ told.
     subst (All (λ (link : Link). is_hidden (records_of v) link.parent ≡ false)) (sym (c.as_slice.ensures.value ∙ c.in_ok-links.ensures ∙ links))
     (λ k d lt. (all k d lt).shown)
 
-pub returns-in-Ok-in_order : goal.returns-in-Ok-in_order
-returns-in-Ok-in_order g c = record {
-  answered = tells c.in-Ok.ensures.found refl (λ told shown.
+pub returns-in-Ok : goal.returns-in-Ok
+returns-in-Ok g c = record {
+  answered = tells c.in_ok-lines.ensures.found refl (λ told shown.
       let v = view g.D.Disk c.args.mft.now in
       let held = c.args.held.now in
       let n = c.requires.held told in
@@ -62,5 +62,5 @@ returns-in-Ok-in_order g c = record {
       ap Ok (shown-names v (number_of held) has.node has.at (λ e. c.if-number-eq-ROOT.false (c.number.ensures ∙ e))
       ∙ ap (λ links. in_order path_above (map (shown_link (read v)) links)) (sym (c.as_slice.ensures.value ∙ c.in_ok-links.ensures ∙ links))
       ∙ ap (in_order path_above) (sym shown)
-      ∙ sym (c.from_vec-in-Ok-in_order.ensures ∙ c.in-Ok-in_order.ensures)));
+      ∙ sym (c.from_vec-in-Ok.ensures ∙ c.in-Ok.ensures)));
 }

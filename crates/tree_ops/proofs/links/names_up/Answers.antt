@@ -4,7 +4,7 @@ use Rattle.ntfs_def.specs.declared.records.TheConstants.{ROOT}
 use Rattle.mft_table.specs.Mft.{view}
 use Rattle.mft_table.specs.declared.mounted.Mounted.{Mounted}
 use Rattle.tree_model.specs.declared.tree.Link.{Link}
-use Rattle.tree_ops.proofs.GivesLaws.{at_once, both, tells}
+use Rattle.tree_ops.proofs.GivesLaws.{at_once, both, handed-on, tells}
 use Rattle.tree_ops.proofs.PathsLaws.{IsPathSoFar, path-begin, path-end, path-more}
 use Rattle.tree_ops.proofs.links.names_up.Goals as goal
 use Rattle.tree_ops.proofs.links.names_up.Goals.{then-steps-test+else-at-ne-ROOT, else-steps-test}
@@ -21,14 +21,15 @@ steps-init g c = at_once refl (λ told.
           (path-begin v (c.requires.volume told).sound link (c.requires.directory told) (c.requires.shown told))),
     ))
 
-pub returns-in-Err : goal.returns-in-Err
-returns-in-Err g c = record {
-  found = tells (both c.steps.invariant c.in-Err.ensures.found) refl (λ told is. is.1);
+pub returns-in_err-learn : goal.returns-in_err-learn
+returns-in_err-learn g c = record {
+  found = rw (handed-on c.from_residual-in_err-learn.result c.in_err-learn.field-0.0 c.from_residual-in_err-learn.ensures.1)
+      (tells (both c.steps.invariant c.in_err-learn.ensures.found) refl (λ told is. is.1));
 }
 
 pub returns-in-None : goal.returns-in-None
 returns-in-None g c = record {
-  found = tells (both c.steps.invariant c.in-Ok.ensures.found) refl (λ told is.
+  found = tells (both c.steps.invariant c.in_ok-learn.ensures.found) refl (λ told is.
       let v = view g.D.Disk c.args.mft.now in
       let left : c.steps.left ≡ suc (c.steps.left - 1) = omega (arith, c.steps-test.true) in
       let so = subst (λ n. IsPathSoFar v c.args.link.now c.steps.at n (reverse c.steps.names.items)) left is.0.1 in
@@ -38,14 +39,14 @@ returns-in-None g c = record {
       absurd (cc));
 }
 
-pub returns-in-Err-put_name : goal.returns-in-Err-put_name
-returns-in-Err-put_name g c = record {
-  found = tells (both c.steps.invariant c.in-Ok.ensures.found) refl (λ told is. refl);
+pub returns-in-Err : goal.returns-in-Err
+returns-in-Err g c = record {
+  found = tells (both c.steps.invariant c.in_ok-learn.ensures.found) refl (λ told is. refl);
 }
 
 pub steps-preserved : goal.steps-preserved
 steps-preserved g c =
-    tells (both c.steps.invariant c.in-Ok.ensures.found) refl (λ told is.
+    tells (both c.steps.invariant c.in_ok-learn.ensures.found) refl (λ told is.
     let v = view g.D.Disk c.args.mft.now in
     let left : c.steps.left ≡ suc (c.steps.left - 1) = omega (arith, c.steps-test.true) in
     let so = subst (λ n. IsPathSoFar v c.args.link.now c.steps.at n (reverse c.steps.names.items)) left is.0.1 in
@@ -54,7 +55,8 @@ steps-preserved g c =
     let some : Some c.in-Some.up.now ≡ Some on.up = c.in-Some.ensures ∙ is.1.1 ∙ on.is in
     let same : on.up ≡ c.in-Some.up.now = cc in (
       is.1.0,
-      subst (λ xs. IsPathSoFar v c.args.link.now c.in-Some.up.now.parent (c.steps.left - 1) xs) (sym (ap reverse c.in-Ok-put_name.ensures ∙ reverse-append c.steps.names.items (c.in-Some.up.now.name ∷ [])))
+      subst (λ xs. IsPathSoFar v c.args.link.now c.in-Some.up.now.parent (c.steps.left - 1) xs)
+          (sym (ap reverse c.in-Ok.ensures ∙ reverse-append c.steps.names.items (c.in-Some.up.now.name ∷ [])))
           (subst (λ (u : Link). IsPathSoFar v c.args.link.now u.parent (c.steps.left - 1) (u.name ∷ reverse c.steps.names.items)) same on.more),
     ))
 

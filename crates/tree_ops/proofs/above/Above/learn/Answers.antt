@@ -13,10 +13,12 @@ use Rattle.tree_ops.proofs.above.Above.learn.Goals as goal
 
 pub returns-in-Some : goal.returns-in-Some
 returns-in-Some g c = record {
-  found = tells c.in-Ok.ensures.found refl (λ told is.
+  found = tells c.in_ok-file.ensures.found refl (λ told is.
       let v = view g.D.Disk c.args.mft.now in
       let named : name_above v c.args.dir ≡ Some c.in-Some.link =
-      ap (find (λ (link : Link). not (is_dos link))) (sym (c.in_ok-links_of.ensures ∙ links-told v c.args.dir c.in-Ok.file is (c.requires.volume told).sound)) ∙ sym c.in-Some.ensures in
+      ap (find (λ (link : Link). not (is_dos link)))
+      (sym (c.in_ok-links_of.ensures ∙ links-told v c.args.dir c.in_ok-file.file is (c.requires.volume told).sound))
+      ∙ sym c.in-Some.ensures in
       let updates = c.in_ok-insert-in-Some.ensures.updates in (
         above-more v c.args.self.now (record { names = c.insert.new.self; leads = c.args.self.now.leads }) c.args.dir c.in-Some.link (c.requires.above told) named refl updates,
         updates.1 ∙ sym named,
@@ -25,10 +27,12 @@ returns-in-Some g c = record {
 
 pub returns : goal.returns
 returns g c = record {
-  found = tells c.in-Ok.ensures.found refl (λ told is.
+  found = tells c.in_ok-file.ensures.found refl (λ told is.
       let v = view g.D.Disk c.args.mft.now in
       let unnamed : name_above v c.args.dir ≡ None =
-      ap (find (λ (link : Link). not (is_dos link))) (sym (c.in_ok-links_of.ensures ∙ links-told v c.args.dir c.in-Ok.file is (c.requires.volume told).sound)) ∙ sym c.in-None.ensures in
+      ap (find (λ (link : Link). not (is_dos link)))
+      (sym (c.in_ok-links_of.ensures ∙ links-told v c.args.dir c.in_ok-file.file is (c.requires.volume told).sound))
+      ∙ sym c.in-None.ensures in
       let unknown = none-known (get nat_cmp c.args.self.now.names c.args.dir) (sym c.contains_key.ensures ∙ c.if-contains_key.false) in
       (c.requires.above told, unknown ∙ sym unnamed));
 }
