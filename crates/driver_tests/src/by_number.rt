@@ -17,13 +17,13 @@ use volume_format::{FormatOptions, format};
 
 const ROOT: u64 = 5;
 
-// A disk in memory of whose contents nothing is told.
+// A disk of whose contents nothing is told.
 #[derive(Drop)]
-struct Untold {
-    inner: MemDisk,
+struct Untold<D: Disk + Drop> {
+    inner: D,
 }
 
-impl Disk for Untold {
+impl<D: Disk + Drop> Disk for Untold<D> {
     ghost use Rattle.std.specs.Prelude.{None};
 
     ghost now = { λ disk. None };
@@ -32,19 +32,19 @@ impl Disk for Untold {
 
     ghost fenced = { λ disk. None };
 
-    ghost size = { λ disk. ⟦<MemDisk as Disk>⟧.size disk.inner };
+    ghost size = { λ disk. D.Disk.size disk.inner };
 
-    ghost faults = { λ disk. ⟦<MemDisk as Disk>⟧.faults disk.inner };
+    ghost faults = { λ disk. D.Disk.faults disk.inner };
 
-    ghost written = { λ disk. ⟦<MemDisk as Disk>⟧.written disk.inner };
+    ghost written = { λ disk. D.Disk.written disk.inner };
 
-    ghost fetched = { λ disk. ⟦<MemDisk as Disk>⟧.fetched disk.inner };
+    ghost fetched = { λ disk. D.Disk.fetched disk.inner };
 
-    ghost late = { λ disk. ⟦<MemDisk as Disk>⟧.late disk.inner };
+    ghost late = { λ disk. D.Disk.late disk.inner };
 
     ghost told_length = { λ disk. tt };
 
-    ghost size_fits = { λ disk. ⟦<MemDisk as Disk>⟧.size_fits disk.inner };
+    ghost size_fits = { λ disk. D.Disk.size_fits disk.inner };
 
     fn sectors(&self) -> u64 {
         self.inner.sectors()
@@ -68,7 +68,7 @@ impl Disk for Untold {
 }
 
 // A new volume.
-fn volume(alloc: Global) -> Result<Untold, test::Fail> {
+fn volume(alloc: Global) -> Result<Untold<MemDisk>, test::Fail> {
     let mut inner = MemDisk::new(alloc, vec![in alloc; 0; 4096 * 512]?);
     if inner.reserve(4096).is_err() {
         return Err(AllocError.into());
@@ -85,15 +85,18 @@ fn volume(alloc: Global) -> Result<Untold, test::Fail> {
 }
 
 // Its table of records in use.
-fn records_on(alloc: Global, disk: &mut Untold) -> Result<Mft<'_, Untold>, test::Fail>
-    ensures { IfOk result (λ mft. (view ⟦<Untold as Disk>⟧ mft).told ≡ false) }
+fn records_on(
+    alloc: Global,
+    disk: &mut Untold<MemDisk>,
+) -> Result<Mft<'_, Untold<MemDisk>>, test::Fail>
+    ensures { IfOk result (λ mft. (view ⟦<Untold<MemDisk> as Disk>⟧ mft).told ≡ false) }
 {
     let mounted = mount(alloc, disk)?;
     Ok(Mft::resume(Stage::over(alloc, disk), mounted))
 }
 
 // Lets it go again.
-fn let_go(mft: Mft<'_, Untold>) {
+fn let_go(mft: Mft<'_, Untold<MemDisk>>) {
     let (stage, _) = mft.into_parts();
     let _ = stage.finish();
 }
@@ -103,7 +106,7 @@ fn name(alloc: Global, text: &str) -> Result<Name, test::Fail> {
 }
 
 // The file that a name of the root leads to.
-fn child(alloc: Global, disk: &mut Untold, text: &str) -> Result<Option<u64>, test::Fail> {
+fn child(alloc: Global, disk: &mut Untold<MemDisk>, text: &str) -> Result<Option<u64>, test::Fail> {
     let name = name(alloc, text)?;
     let mut mft = records_on(alloc, disk)?;
     let found = lookup(alloc, &mut mft, ROOT, &name);
@@ -112,7 +115,7 @@ fn child(alloc: Global, disk: &mut Untold, text: &str) -> Result<Option<u64>, te
 }
 
 // The files that the names of the root lead to, in name order.
-fn children(alloc: Global, disk: &mut Untold) -> Result<Vec<u64>, test::Fail> {
+fn children(alloc: Global, disk: &mut Untold<MemDisk>) -> Result<Vec<u64>, test::Fail> {
     let mut mft = records_on(alloc, disk)?;
     let links = list(alloc, &mut mft, ROOT);
     let_go(mft);
@@ -124,7 +127,12 @@ fn children(alloc: Global, disk: &mut Untold) -> Result<Vec<u64>, test::Fail> {
 }
 
 // So many bytes of the table of case from byte `at` on.
-fn case(alloc: Global, disk: &mut Untold, at: u64, len: usize) -> Result<Octets, test::Fail> {
+fn case(
+    alloc: Global,
+    disk: &mut Untold<MemDisk>,
+    at: u64,
+    len: usize,
+) -> Result<Octets, test::Fail> {
     let unnamed = Name::from_vec(Vec::new(alloc));
     let mut mft = records_on(alloc, disk)?;
     let bytes = read_at(alloc, &mut mft, 10, &unnamed, at, len);
