@@ -4,6 +4,7 @@ ghost use Rattle.ntfs_def.specs.Record.{base_in, header_of};
 ghost use Rattle.attr_view.specs.View.{viewed_block};
 
 use crate::{RecordHeader, RecordView};
+use ntfs_def::record_header::{BASE, FLAGS, LINKS, SEQUENCE};
 use vol_bytes::{u16_at, u64_at};
 
 #[tactic(auto, unfolding(ntfs_def::specs::Record::header_of))]
@@ -16,10 +17,10 @@ impl<'r> RecordView<'r> {
         ensures base { base_in result.base ≡ (header_of (viewed_block self.now)).base }
     {
         RecordHeader {
-            sequence: u16_at(self.block, 0x10),
-            links: u16_at(self.block, 0x12),
-            flags: u16_at(self.block, 0x16),
-            base: u64_at(self.block, 0x20),
+            sequence: u16_at(self.block, SEQUENCE),
+            links: u16_at(self.block, LINKS),
+            flags: u16_at(self.block, FLAGS),
+            base: u64_at(self.block, BASE),
         }
     }
 }

@@ -8,3 +8,6 @@ pub const RECORD: usize = 1024;
 
 /// An index record.
 pub const INDEX_RECORD: usize = 4096;
+
+/// The table of case: a unit for each unit.
+pub const CASE_TABLE: usize = 131_072;

@@ -9,6 +9,9 @@ pub const MFT: u64 = 0;
 /// `$MFTMirr`: copies of the first records of the table.
 pub const MFT_MIRROR: u64 = 1;
 
+/// `$LogFile`: the log.
+pub const LOG_FILE: u64 = 2;
+
 /// `$Volume`: the volume's name and version.
 pub const VOLUME: u64 = 3;
 
