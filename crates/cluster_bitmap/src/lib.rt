@@ -1,18 +1,18 @@
 //! A bitmap in memory: which clusters of a volume, or which records of its table, are taken.
 #![tactic(auto)]
 
-ghost use Rattle.std.specs.Prelude.{◌≡◌, ℕ, ◌+◌, ◌-◌, ◌*◌, ◌^◌, ◌<◌, ◌≤◌, not, count_by, length, slice_get, Some, IfOk};
+ghost use Rattle.std.specs.Prelude.{◌≡◌, ℕ, ◌+◌, ◌-◌, ◌*◌, ◌^◌, ◌<◌, ◌≤◌, not, count_by, length, slice_get, Some, IfOk, IfSome, IfNone};
 ghost use Rattle.std.specs.Int.{bit_at};
 ghost use Rattle.ntfs_def.specs.Bits.{bit_in, flags_in};
-ghost use Rattle.cluster_bitmap.specs.Flags.{IsFree, with_taken};
-ghost use Rattle.cluster_bitmap.specs.Words.{bit_of, clear_below};
+ghost use Rattle.cluster_bitmap.specs.Flags.{IsFirstRun, IsFree, IsTaken, with_given, with_taken};
+ghost use Rattle.cluster_bitmap.specs.Words.{bit_of, clear_below, bit_for, IsClear, seen};
 
 mod laws;
 #[cfg(test)]
 mod tests;
 
 use byteorder::{ByteOrder, LittleEndian};
-pub use laws::taken_range_laws;
+pub use laws::{given_range_laws, taken_range_laws};
 use std::alloc::{AllocError, Global};
 use std::marker::Model;
 use thiserror::Error;
@@ -98,7 +98,33 @@ impl Bits {
         ensures count { length self.new ≡ length self.old }
     {
         if len > 0 {
-            set_range(&mut self.words, at, len);
+            put_range(&mut self.words, at, len, true);
+        }
+    }
+
+    /// Gives the flags of a range back, which are taken. All others stay.
+    pub fn give(&mut self, at: u64, len: u64)
+        requires { IsTaken self.old at len }
+        ensures flags { self.new ≡ with_given self.old at len }
+        ensures count { length self.new ≡ length self.old }
+    {
+        if len > 0 {
+            put_range(&mut self.words, at, len, false);
+        }
+    }
+
+    /// The first start of a free run of this length at or after `from`, else the first of all. A place past the end
+    /// counts as the end.
+    pub fn find_run(&self, len: u64, from: u64) -> Option<u64>
+        requires { 0 < len }
+        ensures some { IfSome result (λ at. IsFirstRun self.now len from at) }
+        ensures none { IfNone result ((at : ℕ) → IsFree self.now at len → ⊥) }
+    {
+        let end = 64 * self.words.len() as u64;
+        let start = from.min(end);
+        match find_in(&self.words, len, start, end) {
+            Some(at) => Some(at),
+            None => find_in(&self.words, len, 0, start),
         }
     }
 }
@@ -152,23 +178,27 @@ fn mask(low: u64, high: u64) -> u64
     (u64::MAX << low) & (u64::MAX >> (64 - high))
 }
 
-// A word with its bits from `low` up to `high` set.
-fn set_within(word: u64, low: u64, high: u64) -> u64
+// A word with its bits from `low` up to `high` put to a value.
+fn put_within(word: u64, low: u64, high: u64, value: bool) -> u64
     requires order { low < high }
     requires word { high ≤ 64 }
-    ensures inside { (i : ℕ) → low ≤ i → i < high → bit_at result i ≡ 1 }
+    ensures inside { (i : ℕ) → low ≤ i → i < high → bit_at result i ≡ bit_for value }
     ensures below { (i : ℕ) → i < low → bit_at result i ≡ bit_at word i }
-    ensures above { (i : ℕ) → high ≤ i → bit_at result i ≡ bit_at word i }
+    ensures above { (i : ℕ) → high ≤ i → i < 64 → bit_at result i ≡ bit_at word i }
 {
-    word | mask(low, high)
+    if value {
+        word | mask(low, high)
+    } else {
+        word & !mask(low, high)
+    }
 }
 
-// Sets the bits of a range, a word at a time.
-fn set_range(words: &mut [u64], at: u64, len: u64)
+// Puts the bits of a range to a value, a word at a time.
+fn put_range(words: &mut [u64], at: u64, len: u64, value: bool)
     requires end { at + len ≤ 64 * length words.old }
     requires small { length words.old ≤ 2 ^ 57 }
     ensures len { length words.new ≡ length words.old }
-    ensures inside { (k : ℕ) → at ≤ k → k < at + len → bit_of words.new k ≡ 1 }
+    ensures inside { (k : ℕ) → at ≤ k → k < at + len → bit_of words.new k ≡ bit_for value }
     ensures below { (k : ℕ) → k < at → bit_of words.new k ≡ bit_of words.old k }
     ensures above { (k : ℕ) → at + len ≤ k → bit_of words.new k ≡ bit_of words.old k }
 {
@@ -178,9 +208,68 @@ fn set_range(words: &mut [u64], at: u64, len: u64)
         let low = place % 64;
         let high = (low + (end - place)).min(64);
         let word = (place / 64) as usize;
-        words[word] = set_within(words[word], low, high);
+        words[word] = put_within(words[word], low, high, value);
         place += high - low;
     }
+}
+
+// A word, or its bits turned round.
+fn turned(word: u64, set: bool) -> u64
+    ensures { (i : ℕ) → i < 64 → bit_at result i ≡ seen set (bit_at word i) }
+{
+    if set { word } else { !word }
+}
+
+// The first bit from `at` on that is set, or that is clear; else the end.
+fn next_bit(words: &[u64], at: u64, set: bool) -> u64
+    requires at { at ≤ 64 * length words.now }
+    requires small { length words.now ≤ 2 ^ 57 }
+    ensures from { at ≤ result }
+    ensures end { result ≤ 64 * length words.now }
+    ensures here { result < 64 * length words.now → seen set (bit_of words.now result) ≡ 1 }
+    ensures before { (k : ℕ) → at ≤ k → k < result → seen set (bit_of words.now k) ≡ 0 }
+{
+    let first = (at / 64) as usize;
+    if first == words.len() {
+        return at;
+    }
+    let rest = turned(words[first], set) >> (at % 64);
+    if rest != 0 {
+        return at + rest.trailing_zeros() as u64;
+    }
+    let mut place = first + 1;
+    'words: while place < words.len() {
+        let word = turned(words[place], set);
+        if word != 0 {
+            return 64 * place as u64 + word.trailing_zeros() as u64;
+        }
+        place += 1;
+    }
+    64 * words.len() as u64
+}
+
+// The first start from `from` up to `end` of a run of clear bits of this length.
+fn find_in(words: &[u64], len: u64, from: u64, end: u64) -> Option<u64>
+    requires len { 0 < len }
+    requires from { from ≤ end }
+    requires end { end ≤ 64 * length words.now }
+    requires small { length words.now ≤ 2 ^ 57 }
+    ensures some { IfSome result (λ at. (from ≤ at) × (at < end) × IsClear words.now at len × ((b : ℕ) → from ≤ b → b < at → IsClear words.now b len → ⊥)) }
+    ensures none { IfNone result ((b : ℕ) → from ≤ b → b < end → IsClear words.now b len → ⊥) }
+{
+    let mut at = from;
+    'runs: while at < end {
+        let start = next_bit(words, at, false);
+        if end <= start {
+            return None;
+        }
+        let stop = next_bit(words, start, true);
+        if len <= stop - start {
+            return Some(start);
+        }
+        at = stop;
+    }
+    None
 }
 
 // How many bits of the words are clear.

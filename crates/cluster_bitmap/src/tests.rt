@@ -55,6 +55,62 @@ fn take_free(bits: &mut Bits, at: u64, len: u64) -> bool {
     true
 }
 
+// Gives a range back where it lies below the count and all its flags are taken.
+fn give_taken(bits: &mut Bits, at: u64, len: u64) -> bool {
+    let count = bits.count();
+    if at > count || len > count - at {
+        return false;
+    }
+    'flags: for k in at..at + len {
+        if !bits.is_set(k) {
+            return false;
+        }
+    }
+    bits.give(at, len);
+    true
+}
+
+// The free runs of the foreign bitmap begin at 3, 11, 169 and 320, and have 1, 56, 86 and 191 clusters, 334 in all.
+#[test]
+fn runs_are_found(rt: HostRuntime) -> Result<(), Fail> {
+    let bits = Bits::load(rt.alloc(), &MADE_BY_MKNTFS, 511)?;
+    for (len, from, found) in [
+        (1, 0, Some(3)),
+        (1, 4, Some(11)),
+        (2, 0, Some(11)),
+        (56, 0, Some(11)),
+        (57, 0, Some(169)),
+        (56, 12, Some(169)),
+        (191, 0, Some(320)),
+        (192, 0, None),
+        (100, 400, Some(400)),
+        (112, 400, Some(320)), // none begins at 400 or later, so the first of all
+        (1, 511, Some(3)),
+        (87, u64::MAX, Some(320)),
+        (u64::MAX, 7, None),
+    ] {
+        assert_eq!(rt; bits.find_run(len, from), found, "{len} from {from}");
+    }
+    Ok(())
+}
+
+// A million flags, all taken but the last three; and what is given back is found.
+#[test]
+fn a_run_is_found_far_behind(rt: HostRuntime) -> Result<(), Fail> {
+    let mut bytes = vec![in rt.alloc(); 0xFF; 1 << 17]?;
+    bytes[(1 << 17) - 1] = 0x1F;
+    let mut bits = Bits::load(rt.alloc(), &bytes, 1 << 20)?;
+    assert_eq!(rt; bits.find_run(3, 0), Some((1 << 20) - 3));
+    assert_eq!(rt; bits.find_run(4, 0), None);
+    assert!(rt; give_taken(&mut bits, 1000, 300));
+    assert_eq!(rt; bits.count_free(), 303);
+    assert_eq!(rt; bits.find_run(300, 0), Some(1000));
+    assert_eq!(rt; bits.find_run(300, 1001), Some(1000));
+    assert_eq!(rt; bits.find_run(301, 0), None);
+    assert_eq!(rt; count_taken(&bits, 998, 304), 4);
+    Ok(())
+}
+
 // A range within a word, one over two borders of words, all of a word but its last bit, one bit, and none.
 #[test]
 fn ranges_are_taken(rt: HostRuntime) -> Result<(), Fail> {
