@@ -1,4 +1,4 @@
--- How the meaning of a run text goes on by one run.
+-- How the clusters_with of a run text goes on by one run.
 use Rattle.std.proofs.Common.{◌∷◌, ◌+◌, List, drop, ℕ}
 use Rattle.std.proofs.lemmas.List.{drop-drop}
 use Rattle.ntfs_def.specs.Runs.{BeginsWith, BreaksAfter, MeansFrom, RunRule, place_after, run_width}
