@@ -12,7 +12,7 @@ use Rattle.volume_def.specs.Files.{Part, Record, content_extent, content_of, fil
 use Rattle.volume_def.specs.LimitsClause.{IsInLimits, MeetsLimits}
 use Rattle.volume_def.specs.Sound.{HoldBelow}
 use Rattle.volume_def.specs.View.{VolumeView}
-use Rattle.volume_def.proofs.MemberLaws.{All-from_Contains}
+use Rattle.list_laws.proofs.MemberLaws.{All-from_Contains}
 use Rattle.volume_def.proofs.PartLaws.{Contains-HoldsPart, HoldsPart-Contains}
 use Rattle.ntfs_def.specs.Attribute.{attributes}
 use Rattle.ntfs_def.specs.Fixup.{opened_of}

@@ -11,7 +11,7 @@ use Rattle.volume_def.specs.ReferencesClause.{HasRightReferences, NamesBase}
 use Rattle.volume_def.specs.Sound.{HoldBelow}
 use Rattle.volume_def.specs.Sound.Clause.{Attributes, Extents, Lists, References, Shape}
 use Rattle.volume_def.specs.View.{VolumeView}
-use Rattle.volume_def.proofs.MemberLaws.{nil-from_Contains}
+use Rattle.list_laws.proofs.MemberLaws.{nil-from_Contains}
 use Rattle.volume_def.proofs.PartLaws.{HoldsPart-Contains}
 use Rattle.file_record.specs.declared.parts.FileParts.{FileParts}
 use Rattle.file_record.specs.Held.{AreParts, file_number, held_of, parts_held, parts_of}

@@ -21,8 +21,8 @@ use Rattle.volume_def.specs.Files.{Part, is_of, part_of}
 use Rattle.volume_def.specs.StreamSize.{told_size}
 use Rattle.volume_def.specs.Values.{first_part, is_first, value_on}
 use Rattle.volume_def.specs.View.{VolumeView}
-use Rattle.volume_def.proofs.FindLaws.{find-agree, find-filter, find-found, find-map}
-use Rattle.volume_def.proofs.MemberLaws.{Contains-from_flat_map, Contains-from_map}
+use Rattle.list_laws.proofs.FindLaws.{find-agree, find-filter, find-found, find-map}
+use Rattle.list_laws.proofs.MemberLaws.{Contains-from_flat_map, Contains-from_map}
 use Rattle.attr_store.specs.declared.first.FirstPart.{FirstPart}
 use Rattle.attr_store.specs.Index.{TellsSizes, attribute_held}
 use Rattle.attr_store.proofs.FirstLaws.{is_sought, sought-first}

@@ -14,10 +14,10 @@ use Rattle.volume_def.specs.Files.{Record, record_on, records_of}
 use Rattle.volume_def.specs.OwnersClause.{times_owned}
 use Rattle.volume_def.specs.Values.{value_on}
 use Rattle.volume_def.specs.View.{VolumeView}
-use Rattle.volume_def.proofs.FindLaws.{count-agree}
-use Rattle.volume_def.proofs.MemberLaws.{Contains-from_range}
-use Rattle.volume_def.proofs.RangeLaws.{drop-range}
-use Rattle.volume_def.proofs.SameItemsLaws.{count-map}
+use Rattle.list_laws.proofs.FindLaws.{count-agree}
+use Rattle.list_laws.proofs.MemberLaws.{Contains-from_range}
+use Rattle.list_laws.proofs.RangeLaws.{drop-range}
+use Rattle.list_laws.proofs.SameItemsLaws.{count-map}
 use Rattle.volume_def.specs.Sound.{ClusterBits, RecordBits}
 use Rattle.mft_table.specs.declared.mounted.Mounted.{Mounted}
 use Rattle.attr_store.specs.InUse.{IsSoundVolume}

@@ -32,7 +32,7 @@ use Rattle.volume_def.specs.Values.{KeepsClusters, value_of_parts}
 use Rattle.volume_def.specs.VersionClause.{IsClean, MeetsMirror, MeetsMirrorPlace, Mirrors}
 use Rattle.volume_def.specs.View.{VolumeView}
 use Rattle.volume_def.proofs.BlockLaws.{block_of-same, cluster_of-same, copy_of-same, table_place-times}
-use Rattle.volume_def.proofs.MemberLaws.{All-from_Contains, Contains-from_filter, Contains-only}
+use Rattle.list_laws.proofs.MemberLaws.{All-from_Contains, Contains-from_filter, Contains-only}
 use Rattle.volume_def.proofs.OtherListLaws.{HasRightList-kept}
 use Rattle.volume_def.proofs.ValueLaws.{spot_at-owned, value-frame}
 

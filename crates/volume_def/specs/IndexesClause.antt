@@ -21,7 +21,7 @@ use Rattle.ntfs_def.specs.Node.{Item, Node, own_vcn, short_node}
 use Rattle.volume_def.specs.CaseClause.{volume_fold}
 use Rattle.volume_def.specs.FileNames.{is_in_directory, links, names_of}
 use Rattle.volume_def.specs.Files.{Part, content_extent, is_base, record_on, records_of, content_value, is_directory, parts_at}
-use Rattle.volume_def.specs.SameItems.{SameItems}
+use Rattle.list_laws.specs.SameItems.{SameItems}
 use Rattle.volume_def.specs.Values.{IsPlainIfThere, first_part, spot_at, value_on}
 use Rattle.volume_def.specs.Table.{cluster_bytes}
 use Rattle.volume_def.specs.View.{VolumeView}

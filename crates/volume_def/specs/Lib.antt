@@ -3,8 +3,6 @@ pub mod Blocks
 pub mod Coverage
 pub mod View
 pub mod VolumeRecord
-pub mod SameItems
-pub mod Replaces
 pub mod Files
 pub mod Values
 pub mod ShapeClause
