@@ -23,7 +23,7 @@ use Rattle.mft_table.specs.declared.mounted.Mounted.{Mounted}
 use Rattle.attr_store.specs.InUse.{IsSoundVolume}
 use Rattle.tree_model.specs.Facts.{TellsFacts}
 use Rattle.tree_model.specs.Refusals.{Facts}
-use Rattle.tree_model.specs.Room.{unowned_clusters, unused_records}
+use Rattle.volume_def.specs.Room.{unowned_clusters, unused_records}
 use Rattle.tree_model.specs.declared.reply.Answer.{Answer}
 use Rattle.tree_model.specs.declared.reply.Answer.TheVariants as a
 use Rattle.tree_ops.specs.Wanted.{df_wanted}

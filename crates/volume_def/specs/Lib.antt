@@ -26,3 +26,4 @@ pub mod Spans
 pub mod StreamSize
 pub mod KeptList
 pub mod Looked
+pub mod Room
