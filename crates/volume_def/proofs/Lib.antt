@@ -13,6 +13,7 @@ pub mod SpanLaws
 pub mod ValueLaws
 pub mod StoredLaws
 pub mod ReadableLaws
+pub mod FileLaws
 pub mod SaidLaws
 pub mod ExtentsClauseLaws
 pub mod ListClauseLaws
