@@ -20,7 +20,7 @@ use Rattle.volume_def.specs.IndexesClause.{IndexParts, IsIndexRecordAt, stored_i
 use Rattle.volume_def.specs.Table.{cluster_bytes}
 use Rattle.volume_def.specs.Values.{spot_at, value_on}
 use Rattle.volume_def.specs.View.{VolumeView}
-use Rattle.volume_def.proofs.MemberLaws.{Contains-range}
+use Rattle.list_laws.proofs.MemberLaws.{Contains-range}
 use Rattle.attr_store.specs.IndexRecords.{AreRecordsOf, are_placed, index_record_on, is_hole, is_index_record_at, is_sealed, record_clusters}
 
 -- a test of all numbers below n

@@ -19,8 +19,8 @@ use Rattle.volume_def.specs.StreamSize.{real_size}
 use Rattle.volume_def.specs.Table.{cluster_bytes}
 use Rattle.volume_def.specs.Values.{attribute_value, first_part, first_vcn_of, is_first, spot_at, spot_by, value_by, value_byte, value_of_parts, value_on, value_over}
 use Rattle.volume_def.specs.View.{VolumeView}
-use Rattle.volume_def.proofs.FindLaws.{find-found}
-use Rattle.volume_def.proofs.MemberLaws.{Contains-from_filter}
+use Rattle.list_laws.proofs.FindLaws.{find-found}
+use Rattle.list_laws.proofs.MemberLaws.{Contains-from_filter}
 use Rattle.volume_def.proofs.ReadableLaws.{readable-stream}
 use Rattle.volume_def.proofs.SpanLaws.{spot-spans}
 use Rattle.file_record.specs.declared.parts.FileParts.{FileParts}

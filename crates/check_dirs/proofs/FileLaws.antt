@@ -25,8 +25,8 @@ use Rattle.volume_def.specs.IndexesClause.{IndexParts, IsDirectoryIndex, IsViewI
 use Rattle.volume_def.specs.Readable.{IsReadableVolume}
 use Rattle.volume_def.specs.Table.{cluster_bytes}
 use Rattle.volume_def.specs.View.{VolumeView}
-use Rattle.volume_def.proofs.FindLaws.{count-none, count-some}
-use Rattle.volume_def.proofs.SameItemsLaws.{count-append}
+use Rattle.list_laws.proofs.FindLaws.{count-none, count-some}
+use Rattle.list_laws.proofs.SameItemsLaws.{count-append}
 use Rattle.volume_facts.proofs.NameLaws.{name_of_part, names_among-append}
 use Rattle.index_tree.specs.Walk.{items_in}
 use Rattle.attr_view.specs.declared.record_mut.RecordHeader.{RecordHeader}

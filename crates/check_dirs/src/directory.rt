@@ -3,7 +3,7 @@ ghost use Rattle.std.specs.Prelude.{◌≡◌, ◌↔◌, ◌*◌, ℕ, All, IfO
 ghost use Rattle.ntfs_def.specs.KeyOrder.{fold_of};
 ghost use Rattle.ntfs_def.specs.Fixup.{opened_of};
 ghost use Rattle.volume_def.specs.IndexesClause.{IsDirectoryIndex};
-ghost use Rattle.volume_def.specs.SameItems.{SameItems};
+ghost use Rattle.list_laws.specs.SameItems.{SameItems};
 ghost use Rattle.volume_def.specs.View.{VolumeView};
 ghost use Rattle.mft_table.specs.Mft.{MftReads, faults_of, view};
 ghost use Rattle.file_record.specs.Held.{file_number};

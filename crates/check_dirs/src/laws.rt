@@ -3,7 +3,7 @@ ghost use Rattle.std.specs.Prelude.{ℕ, List, map};
 ghost use Rattle.ntfs_def.specs.FileName.{link_of};
 ghost use Rattle.ntfs_def.specs.Node.{Item};
 ghost use Rattle.volume_def.specs.IndexesClause.{HasIndex, IndexParts, IsDirectoryIndex, KeyRule, name_rule};
-ghost use Rattle.volume_def.specs.SameItems.{SameItems};
+ghost use Rattle.list_laws.specs.SameItems.{SameItems};
 ghost use Rattle.volume_def.specs.View.{VolumeView};
 ghost use Rattle.attr_store.specs.Index.{HasParts};
 ghost use Rattle.attr_store.specs.IndexRecords.{AreRecordsOf};

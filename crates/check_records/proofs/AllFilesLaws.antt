@@ -6,8 +6,8 @@ use Rattle.std.proofs.lemmas.Bool.{and_from, cases_Bool, cases_lt}
 use Rattle.volume_def.specs.Files.{Part, Record, is_base, parts, record_on, records_of}
 use Rattle.volume_def.specs.ListsClause.{HasRightList, IsRightList, MeetsLists, is_list}
 use Rattle.volume_def.specs.View.{VolumeView}
-use Rattle.volume_def.proofs.FindLaws.{passing}
-use Rattle.volume_def.proofs.MemberLaws.{All-from_Contains}
+use Rattle.list_laws.proofs.FindLaws.{passing}
+use Rattle.list_laws.proofs.MemberLaws.{All-from_Contains}
 use Rattle.file_record.proofs.RecordLaws.{record_at-inside, some-value}
 use Rattle.volume_facts.specs.Extents.{IsAlone}
 use Rattle.volume_facts.specs.Least.{IsLeastFailing, least_of}

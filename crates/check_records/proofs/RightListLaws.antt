@@ -10,8 +10,8 @@ use Rattle.volume_def.specs.Files.{Record, file_of, is_base, part_of, parts, rec
 use Rattle.volume_def.specs.ListsClause.{HasRightList, IsRightList, entries_in, is_list, list_value}
 use Rattle.volume_def.specs.ShapeClause.{MeetsShape}
 use Rattle.volume_def.specs.View.{VolumeView}
-use Rattle.volume_def.proofs.FindLaws.{count-some, find-found, same_passing}
-use Rattle.volume_def.proofs.MemberLaws.{All-from_Contains, Contains-map}
+use Rattle.list_laws.proofs.FindLaws.{count-some, find-found, same_passing}
+use Rattle.list_laws.proofs.MemberLaws.{All-from_Contains, Contains-map}
 use Rattle.volume_def.proofs.PartLaws.{Contains-HoldsPart}
 use Rattle.file_record.specs.declared.held.Held.{Held}
 use Rattle.file_record.specs.Held.{parts_of}

@@ -4,7 +4,7 @@ use Rattle.std.specs.List.{flat_map, list_any}
 use Rattle.ntfs_def.specs.Flags.{is_packed}
 use Rattle.volume_def.specs.Files.{Part, Records, content_extent, is_base, parts, record_of, record_on, records_of}
 use Rattle.volume_def.specs.ListsClause.{HasRightList, LiesOnVolume, entries_in, is_list, list_value, most_list_len}
-use Rattle.volume_def.specs.SameItems.{SameItems}
+use Rattle.list_laws.specs.SameItems.{SameItems}
 use Rattle.volume_def.specs.View.{VolumeView}
 use Rattle.file_record.specs.declared.held.Held.{Held}
 use Rattle.file_record.specs.Held.{parts_of}

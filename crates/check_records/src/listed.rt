@@ -4,7 +4,7 @@ ghost use Rattle.std.specs.Prelude.{◌≡◌, ◌↔◌, ◌+◌, ◌*◌, ◌<
 ghost use Rattle.std.specs.Option.{option_to_list};
 ghost use Rattle.volume_def.specs.Files.{Part, Records, content_extent, part_of, parts, parts_in, record_on, records_of};
 ghost use Rattle.volume_def.specs.ListsClause.{HasRightList, LiesOnVolume, entries_in, is_list, list_value};
-ghost use Rattle.volume_def.specs.SameItems.{SameItems};
+ghost use Rattle.list_laws.specs.SameItems.{SameItems};
 ghost use Rattle.volume_def.specs.ShapeClause.{MeetsShape};
 ghost use Rattle.volume_def.specs.Table.{IsOnVolume, cluster_bytes};
 ghost use Rattle.volume_def.specs.View.{VolumeView};

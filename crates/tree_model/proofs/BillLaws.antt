@@ -11,10 +11,11 @@ use Rattle.tree_model.specs.Bill.{Change, bill_of, bill_with, changes_of, cluste
 use Rattle.tree_model.specs.Bill.{directory_change, dropped_links, is_entry_of, is_touched, new_names_in, object_id_change, point_change}
 use Rattle.tree_model.specs.Bill.{removes_file, tags_added, tags_dropped, touched_file, touches_file}
 use Rattle.tree_model.specs.IndexRoom.{Index, directory_index, has_entry, is_object_id_item, is_point_item, object_id_index, point_index}
-use Rattle.tree_model.specs.Need.{Counted, clusters_for, empty_bill, need_of}
+use Rattle.tree_model.specs.Need.{Counted, empty_bill, need_of}
+use Rattle.ntfs_def.specs.Rounded.{clusters_for}
 use Rattle.tree_model.specs.NoRoom.{mft_free, mft_need, need_on, no_room_for}
 use Rattle.tree_model.specs.Refusals.{when}
-use Rattle.tree_model.specs.Room.{unowned_clusters, unused_records}
+use Rattle.volume_def.specs.Room.{unowned_clusters, unused_records}
 use Rattle.tree_model.specs.Subjects.{Located, NoName}
 use Rattle.tree_model.specs.Tree.{Tree, is_in}
 use Rattle.tree_model.specs.declared.command.Command.{Command}

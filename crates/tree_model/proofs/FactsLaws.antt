@@ -19,7 +19,8 @@ use Rattle.ntfs_def.specs.declared.records.TheConstants.{SECURE}
 use Rattle.volume_def.specs.IndexesClause.{HasIndex, KeyRule, index_parts}
 use Rattle.volume_def.specs.Values.{value_on}
 use Rattle.volume_def.specs.View.{VolumeView}
-use Rattle.tree_model.specs.Facts.{HasDescriptor, IsVolumeOf, TellsDescriptor, TellsFacts, item_data, sds_parts}
+use Rattle.tree_model.specs.Facts.{HasDescriptor, IsVolumeOf, TellsDescriptor, TellsFacts, sds_parts}
+use Rattle.ntfs_def.specs.ViewData.{item_data}
 use Rattle.tree_model.specs.IndexRoom.{Index}
 use Rattle.tree_model.specs.Refusals.{Facts}
 use Rattle.tree_model.proofs.IndexRoomLaws.{entry-walk}

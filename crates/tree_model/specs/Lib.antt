@@ -6,7 +6,6 @@ pub mod Drops
 pub mod Cases
 pub mod Opens
 pub mod Need
-pub mod Room
 pub mod IndexRoom
 pub mod StreamRoom
 pub mod Bill

@@ -21,8 +21,8 @@ use Rattle.volume_def.specs.Files.{Part, is_of, part_of}
 use Rattle.volume_def.specs.StreamSize.{told_size}
 use Rattle.volume_def.specs.Values.{first_part, is_first, value_on}
 use Rattle.volume_def.specs.View.{VolumeView}
-use Rattle.volume_def.proofs.FindLaws.{find-agree, find-filter, find-found, find-map}
-use Rattle.volume_def.proofs.MemberLaws.{Contains-from_flat_map, Contains-from_map}
+use Rattle.list_laws.proofs.FindLaws.{find-agree, find-filter, find-found, find-map}
+use Rattle.list_laws.proofs.MemberLaws.{Contains-from_flat_map, Contains-from_map}
 use Rattle.attr_store.specs.declared.first.FirstPart.{FirstPart}
 use Rattle.attr_store.specs.Index.{TellsSizes, attribute_held}
 use Rattle.attr_store.proofs.FirstLaws.{is_sought, sought-first}
@@ -34,8 +34,8 @@ use Rattle.file_record.specs.Held.{held_of, parts_held, parts_of}
 use Rattle.tree_model.specs.Answers.{bytes_of, is_unnamed_object_id, object_id, point_answer}
 use Rattle.tree_model.specs.Ordered.{in_order, put_in_order}
 use Rattle.tree_model.specs.Plain.{point_shown}
-use Rattle.tree_model.specs.Reading.{begins_other, content_at, data_place, is_packed_part, is_told_elsewhere, node_by, other_above, other_at, others_of, padded, point_by, point_in, point_of, read, shown_content}
-use Rattle.tree_model.specs.Tree.{is_of_microsoft}
+use Rattle.tree_model.specs.Reading.{begins_other, content_at, is_packed_part, is_told_elsewhere, node_by, other_above, other_at, others_of, padded, point_by, point_in, point_of, read, shown_content}
+use Rattle.ntfs_def.specs.ReparsePoint.{data_place, is_of_microsoft}
 use Rattle.tree_model.specs.declared.reply.Answer.{Answer}
 use Rattle.tree_model.specs.declared.reply.Answer.TheVariants as a
 use Rattle.tree_model.specs.declared.reply.No.TheVariants as no

@@ -15,7 +15,7 @@ use Rattle.volume_def.specs.Files.{Part, Record, is_base, is_directory, is_of, p
 use Rattle.volume_def.specs.Readable.{IsFile}
 use Rattle.volume_def.specs.Sound.{IsSound, Links, References}
 use Rattle.volume_def.specs.View.{VolumeView}
-use Rattle.volume_def.proofs.MemberLaws.{All-from_Contains, Contains-from_map}
+use Rattle.list_laws.proofs.MemberLaws.{All-from_Contains, Contains-from_map}
 use Rattle.attr_store.specs.InUse.{IsDirectory}
 use Rattle.tree_model.specs.Hidden.{is_hidden, leads_to_system}
 use Rattle.tree_model.specs.Reading.{directory_links, link_for, links_to, node_by, point_of, read}

@@ -7,8 +7,8 @@ use Rattle.volume_def.specs.CaseClause.{volume_fold}
 use Rattle.volume_def.specs.FileNames.{is_file_name, is_not_dos, names_among, names_of}
 use Rattle.volume_def.specs.Files.{Part, content_value, parts, records_of}
 use Rattle.volume_def.specs.View.{VolumeView}
-use Rattle.volume_def.proofs.FindLaws.{count-cons, count-none}
-use Rattle.volume_def.proofs.SameItemsLaws.{count-filter, count-map}
+use Rattle.list_laws.proofs.FindLaws.{count-cons, count-none}
+use Rattle.list_laws.proofs.SameItemsLaws.{count-filter, count-map}
 use Rattle.file_record.specs.declared.base.BaseFile.{BaseFile}
 use Rattle.tree_model.specs.Answers.{shown_link_count}
 use Rattle.tree_model.specs.Hidden.{is_hidden}

@@ -13,7 +13,8 @@ use Rattle.file_record.specs.declared.base.BaseFile.{BaseFile}
 use Rattle.sparse_io.specs.Held.{IsHeldWith, streams_held}
 use Rattle.tree_model.specs.Answers.{shown_link_count, shown_stream, stat_of}
 use Rattle.tree_model.specs.Hidden.{is_hidden}
-use Rattle.tree_model.specs.Reading.{node_at, node_by, node_on, read, standard_flags, standard_of, standard_security, standard_times}
+use Rattle.tree_model.specs.Reading.{node_at, node_by, node_on, read, standard_flags, standard_of}
+use Rattle.ntfs_def.specs.StandardInformation.{standard_security, standard_times}
 use Rattle.tree_model.specs.Subjects.{content_named}
 use Rattle.tree_model.specs.Tree.{node_of, sought_stream}
 use Rattle.tree_model.specs.declared.reply.Answer.{Answer}

@@ -13,7 +13,7 @@ use Rattle.volume_def.specs.Files.{Part, Record, content_of, content_value, is_b
 use Rattle.volume_def.specs.Readable.{IsReadableVolume}
 use Rattle.volume_def.specs.Sound.{IsSound, Attributes, Extents, Lists, Shape}
 use Rattle.volume_def.specs.View.{VolumeView}
-use Rattle.volume_def.proofs.MemberLaws.{All-from_Contains}
+use Rattle.list_laws.proofs.MemberLaws.{All-from_Contains}
 use Rattle.volume_def.proofs.ReadableLaws.{readable-part}
 use Rattle.file_record.specs.Base.{HasHeader}
 use Rattle.file_record.specs.Held.{attributes_held, parts_held}

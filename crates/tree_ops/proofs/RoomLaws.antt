@@ -14,16 +14,16 @@ use Rattle.volume_def.specs.Files.{Record, record_on, records_of}
 use Rattle.volume_def.specs.OwnersClause.{times_owned}
 use Rattle.volume_def.specs.Values.{value_on}
 use Rattle.volume_def.specs.View.{VolumeView}
-use Rattle.volume_def.proofs.FindLaws.{count-agree}
-use Rattle.volume_def.proofs.MemberLaws.{Contains-from_range}
-use Rattle.volume_def.proofs.RangeLaws.{drop-range}
-use Rattle.volume_def.proofs.SameItemsLaws.{count-map}
+use Rattle.list_laws.proofs.FindLaws.{count-agree}
+use Rattle.list_laws.proofs.MemberLaws.{Contains-from_range}
+use Rattle.list_laws.proofs.RangeLaws.{drop-range}
+use Rattle.list_laws.proofs.SameItemsLaws.{count-map}
 use Rattle.volume_def.specs.Sound.{ClusterBits, RecordBits}
 use Rattle.mft_table.specs.declared.mounted.Mounted.{Mounted}
 use Rattle.attr_store.specs.InUse.{IsSoundVolume}
 use Rattle.tree_model.specs.Facts.{TellsFacts}
 use Rattle.tree_model.specs.Refusals.{Facts}
-use Rattle.tree_model.specs.Room.{unowned_clusters, unused_records}
+use Rattle.volume_def.specs.Room.{unowned_clusters, unused_records}
 use Rattle.tree_model.specs.declared.reply.Answer.{Answer}
 use Rattle.tree_model.specs.declared.reply.Answer.TheVariants as a
 use Rattle.tree_ops.specs.Wanted.{df_wanted}

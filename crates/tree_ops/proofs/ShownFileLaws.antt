@@ -8,7 +8,7 @@ use Rattle.volume_def.specs.FileNames.{names_of}
 use Rattle.volume_def.specs.Files.{records_of}
 use Rattle.volume_def.specs.Sound.{IsSound, Links, References}
 use Rattle.volume_def.specs.View.{VolumeView}
-use Rattle.volume_def.proofs.MemberLaws.{All-from_Contains, Contains-from_map}
+use Rattle.list_laws.proofs.MemberLaws.{All-from_Contains, Contains-from_map}
 use Rattle.tree_model.specs.Ordered.{in_order}
 use Rattle.tree_model.specs.Reading.{link_for, links_to, node_at, read}
 use Rattle.tree_model.specs.Tree.{link_above, node_of}

@@ -2,7 +2,8 @@
 use Rattle.std.proofs.Common.{◌≡◌, ℕ, List, [], ◌∷◌, ap}
 use Rattle.std.specs.Prelude.{bit_and}
 use Rattle.vol_bytes.specs.Field.{u32_at, u64_at}
-use Rattle.tree_model.specs.Reading.{standard_flags, standard_times}
+use Rattle.tree_model.specs.Reading.{standard_flags}
+use Rattle.ntfs_def.specs.StandardInformation.{standard_times}
 use Rattle.tree_model.specs.declared.tree.TheConstants.{SHOWN_FLAGS}
 
 module _ (value standard : List ℕ) (is : value ≡ standard) where

@@ -8,7 +8,7 @@ use Rattle.ntfs_def.specs.declared.records.TheConstants.{ROOT}
 use Rattle.volume_def.specs.Files.{Record, Records, is_base, is_directory, parts, record_on, records_of}
 use Rattle.volume_def.specs.Sound.{IsSound, Links}
 use Rattle.volume_def.specs.View.{VolumeView}
-use Rattle.volume_def.proofs.FindLaws.{find-found}
+use Rattle.list_laws.proofs.FindLaws.{find-found}
 use Rattle.tree_model.specs.Answers.{listed, listed_node}
 use Rattle.tree_model.specs.Hidden.{is_hidden, leads_to_system}
 use Rattle.tree_model.specs.Paths.{Place, and_then, found_file, last_place, lookup, passed, passed_node, reached, reached_node, resolve}

@@ -7,7 +7,7 @@ use Rattle.std.proofs.lemmas.List.{take_more}
 use Rattle.std.proofs.lemmas.List.Elements.{All-append, All-cons, All-contains, All-nil, Contains-append_left, Contains-append_right}
 use Rattle.volume_def.specs.Files.{Record, Records, file_of, is_base}
 use Rattle.volume_def.specs.ListsClause.{is_list}
-use Rattle.volume_def.proofs.MemberLaws.{All-from_Contains, Contains-flat_map, Contains-from_flat_map, Contains-head, Contains-nil, Contains-only, Contains-range}
+use Rattle.list_laws.proofs.MemberLaws.{All-from_Contains, Contains-flat_map, Contains-from_flat_map, Contains-head, Contains-nil, Contains-only, Contains-range}
 use Rattle.volume_facts.specs.declared.spread.Extension.{Extension}
 use Rattle.volume_facts.specs.Extents.{IsAlone}
 use Rattle.volume_facts.specs.Heads.{EndsAtCount}

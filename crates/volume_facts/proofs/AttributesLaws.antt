@@ -7,8 +7,8 @@ use Rattle.ntfs_def.specs.Attribute.{Attribute}
 use Rattle.ntfs_def.specs.Record.{base_in, reference_in}
 use Rattle.volume_def.specs.AttributesClause.{IsRightRecord, is_standard, times_id}
 use Rattle.volume_def.specs.Files.{Part, Record, is_base, part_of}
-use Rattle.volume_def.proofs.FindLaws.{count-cons, count-no, count-yes}
-use Rattle.volume_def.proofs.SameItemsLaws.{count-map}
+use Rattle.list_laws.proofs.FindLaws.{count-cons, count-no, count-yes}
+use Rattle.list_laws.proofs.SameItemsLaws.{count-map}
 use Rattle.volume_facts.specs.Attributes.{AreRight, IsRightAlone, IsRightNext, times_id_among}
 
 -- ids counted over the attributes of a record

@@ -9,9 +9,9 @@ use Rattle.std.proofs.lemmas.List.{length-map, get_or-map}
 use Rattle.std.proofs.lemmas.List.Sorted.{IsPermutation-map, ranks_by, sorted_far}
 use Rattle.ntfs_def.specs.AttributeList.{ListEntry}
 use Rattle.ntfs_def.proofs.KeyOrderLaws.{numbers_is_eq}
-use Rattle.volume_def.specs.SameItems.{SameItems}
+use Rattle.list_laws.specs.SameItems.{SameItems}
 use Rattle.volume_def.proofs.Codes.{entry_code}
-use Rattle.volume_def.proofs.SameItemsLaws.{SameItems-permutation, SameItems-sym, SameItems-trans}
+use Rattle.list_laws.proofs.SameItemsLaws.{SameItems-permutation, SameItems-sym, SameItems-trans}
 use Rattle.attr_list.specs.declared.EntryView.{EntryView}
 use Rattle.attr_list.specs.View.{entry_shown}
 use Rattle.volume_facts.specs.Lists.{entry_order}

@@ -14,9 +14,9 @@ use Rattle.volume_def.specs.Files.{Record, Records, is_base}
 use Rattle.volume_def.specs.LinksClause.{ReachesRoot, parent_of}
 use Rattle.volume_def.specs.ReferencesClause.{HasRightReferences, MeetsReferences, NamesDirectory}
 use Rattle.volume_def.specs.Files.{is_directory}
-use Rattle.volume_def.proofs.FindLaws.{find-found, find-map}
-use Rattle.volume_def.proofs.MemberLaws.{All-from_Contains}
-use Rattle.volume_def.proofs.SameItemsLaws.{count-map}
+use Rattle.list_laws.proofs.FindLaws.{find-found, find-map}
+use Rattle.list_laws.proofs.MemberLaws.{All-from_Contains}
+use Rattle.list_laws.proofs.SameItemsLaws.{count-map}
 use Rattle.volume_facts.specs.declared.heads.Head.{Head}
 use Rattle.volume_facts.specs.declared.heads.Heads.{Heads}
 use Rattle.volume_facts.specs.declared.names.NameFact.{NameFact}

@@ -6,8 +6,8 @@ use Rattle.std.specs.List.{Contains, count_by}
 use Rattle.std.proofs.lemmas.Bool.{cases_Bool, cases_lt, ne_eqb}
 use Rattle.std.proofs.lemmas.List.Elements.{All-append, All-contains, All-head, All-tail, Contains-append_left, Contains-append_right, Contains-get_or, filter-append}
 use Rattle.ntfs_def.specs.declared.kinds.TheConstants.{FILE_NAME}
-use Rattle.volume_def.proofs.FindLaws.{count-cons, count-no}
-use Rattle.volume_def.proofs.SameItemsLaws.{SameItems-same}
+use Rattle.list_laws.proofs.FindLaws.{count-cons, count-no}
+use Rattle.list_laws.proofs.SameItemsLaws.{SameItems-same}
 use Rattle.volume_facts.specs.declared.extents.Held.{Held}
 use Rattle.volume_facts.specs.declared.extents.Held.TheVariants.{InClusters, InRecord}
 use Rattle.volume_facts.specs.Extents.{AreAllWhole, AreInOrder, AreOne, Begins, Follow, HaveClusters, IsWholeInOrder, Outline, clusters_covered, first_of, first_vcn, is_like}

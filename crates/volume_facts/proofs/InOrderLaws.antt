@@ -14,9 +14,9 @@ use Rattle.ntfs_def.specs.declared.kinds.TheConstants.{FILE_NAME}
 use Rattle.ntfs_def.specs.Record.{Reference}
 use Rattle.volume_def.specs.ExtentsClause.{MeetsExtents}
 use Rattle.volume_def.specs.Files.{Record, Records, file_of, is_base, parts, parts_in}
-use Rattle.volume_def.specs.SameItems.{SameItems}
+use Rattle.list_laws.specs.SameItems.{SameItems}
 use Rattle.volume_def.proofs.RecordLaws.{parts_in-other, parts_in-own, parts_in-unused}
-use Rattle.volume_def.proofs.SameItemsLaws.{SameItems-permutation, SameItems-sym, SameItems-trans}
+use Rattle.list_laws.proofs.SameItemsLaws.{SameItems-permutation, SameItems-sym, SameItems-trans}
 use Rattle.volume_facts.specs.declared.extents.Extent.{Extent}
 use Rattle.volume_facts.specs.Extents.{AreAllWhole, AreInOrder, AreWholeParts, Follow, HasFitSizes, HaveClusters, IsAlone, IsWholeInOrder, Outline, clusters_covered, is_like, outline_order, outlined}
 use Rattle.volume_facts.specs.Groups.{AreSorted, IsGroup}

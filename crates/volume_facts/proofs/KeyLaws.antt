@@ -8,8 +8,8 @@ use Rattle.std.proofs.lemmas.Bool.Decides.{nat_tests}
 use Rattle.std.proofs.lemmas.List.{get_or-map, length-map}
 use Rattle.std.proofs.lemmas.List.Elements.{All-contains, Contains-get_or}
 use Rattle.std.proofs.lemmas.List.Sorted.{IsNonDecreasingBy-from_all_adjacent}
-use Rattle.volume_def.proofs.FindLaws.{count-agree, count-no, count-some}
-use Rattle.volume_def.proofs.SameItemsLaws.{count-map}
+use Rattle.list_laws.proofs.FindLaws.{count-agree, count-no, count-some}
+use Rattle.list_laws.proofs.SameItemsLaws.{count-map}
 use Rattle.volume_facts.specs.declared.pairs.NameKey.{NameKey}
 use Rattle.volume_facts.specs.Least.{IsLeastFailing}
 use Rattle.volume_facts.specs.Pairs.{ArePaired, IsBeside, IsInRange, IsPaired, IsPairedName, is_key, order_in, order_of, times_named}

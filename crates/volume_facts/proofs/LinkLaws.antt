@@ -13,9 +13,9 @@ use Rattle.volume_def.specs.FileNames.{is_dos, names_of}
 use Rattle.volume_def.specs.Files.{Record, Records, file_of, is_base}
 use Rattle.volume_def.specs.LinksClause.{HasRightLinks, IsPairedAmong, MeetsLinks, is_dos_in, is_long_in}
 use Rattle.volume_def.specs.ReferencesClause.{HasRightReferences, MeetsReferences, NamesBase}
-use Rattle.volume_def.proofs.FindLaws.{count-some, passing}
-use Rattle.volume_def.proofs.MemberLaws.{All-from_Contains, Contains-from_filter, Contains-from_map, Contains-map}
-use Rattle.volume_def.proofs.SameItemsLaws.{count-filter, count-map}
+use Rattle.list_laws.proofs.FindLaws.{count-some, passing}
+use Rattle.list_laws.proofs.MemberLaws.{All-from_Contains, Contains-from_filter, Contains-from_map, Contains-map}
+use Rattle.list_laws.proofs.SameItemsLaws.{count-filter, count-map}
 use Rattle.volume_facts.specs.declared.names.NameFact.{NameFact}
 use Rattle.volume_facts.specs.declared.pairs.NameKey.{NameKey}
 use Rattle.volume_facts.specs.Least.{IsLeastFailing, least_of}

@@ -8,7 +8,7 @@ use Rattle.std.proofs.lemmas.List.Elements.{All-append, All-cons, All-nil}
 use Rattle.std.proofs.lemmas.List.Quantifiers.{all_pairs_push}
 use Rattle.volume_def.specs.Files.{Record, Records, is_base}
 use Rattle.volume_def.specs.ListsClause.{is_list}
-use Rattle.volume_def.proofs.MemberLaws.{Contains-flat_map, Contains-from_flat_map, Contains-head, Contains-nil, Contains-only, Contains-range}
+use Rattle.list_laws.proofs.MemberLaws.{Contains-flat_map, Contains-from_flat_map, Contains-head, Contains-nil, Contains-only, Contains-range}
 use Rattle.volume_facts.specs.Spread.{listed_below, listed_in}
 use Rattle.volume_facts.proofs.RecordsLaws.{flat_map-range_more}
 

@@ -13,7 +13,7 @@ use Rattle.ntfs_def.specs.FileName.{FileName, name_in}
 use Rattle.volume_def.specs.AttributesClause.{IsRightPart, IsRightRecord, MeetsAttributes}
 use Rattle.volume_def.specs.FileNames.{is_file_name, names_among, names_of}
 use Rattle.volume_def.specs.Files.{Part, Record, Records, content_of, content_value, file_of, part_of, parts, parts_in, record_of}
-use Rattle.volume_def.proofs.MemberLaws.{Contains-flat_map, Contains-from_flat_map, Contains-from_map, Contains-from_range, Contains-map, Contains-nil, Contains-range}
+use Rattle.list_laws.proofs.MemberLaws.{Contains-flat_map, Contains-from_flat_map, Contains-from_map, Contains-from_range, Contains-map, Contains-nil, Contains-range}
 use Rattle.volume_facts.specs.declared.names.Names.{Names}
 use Rattle.volume_facts.specs.Names.{HeldName, NamesNote, PlacedName, held_name, is_of_file, names_held, names_held_below, placed}
 use Rattle.volume_facts.proofs.RecordsLaws.{flat_map-range_more}

@@ -11,10 +11,10 @@ use Rattle.ntfs_def.specs.Runs.{total_clusters}
 use Rattle.volume_def.specs.ExtentsClause.{AreAttribute, AreWhole, BeginsAt, FitExtents, FollowFrom, last_vcn_of}
 use Rattle.volume_def.specs.Files.{all_covered}
 use Rattle.volume_def.specs.Files.{Clusters, Content, Part, Value, content_extent, content_runs, content_value, is_of, part_clusters, parts_like}
-use Rattle.volume_def.specs.SameItems.{SameItems}
+use Rattle.list_laws.specs.SameItems.{SameItems}
 use Rattle.volume_def.proofs.CodedLaws.{SameItems-All, SameItems-lifted}
-use Rattle.volume_def.proofs.MemberLaws.{All-from_Contains, Contains-map}
-use Rattle.volume_def.proofs.SameItemsLaws.{SameItems-filter, SameItems-map, SameItems-sym, SameItems-trans}
+use Rattle.list_laws.proofs.MemberLaws.{All-from_Contains, Contains-map}
+use Rattle.list_laws.proofs.SameItemsLaws.{SameItems-filter, SameItems-map, SameItems-sym, SameItems-trans}
 use Rattle.volume_facts.specs.declared.extents.Held.{Held}
 use Rattle.volume_facts.specs.declared.extents.Held.TheVariants.{InClusters, InRecord}
 use Rattle.volume_facts.specs.Extents.{AreAllWhole, AreInOrder, AreOne, AreWholeParts, Begins, FitsFirst, Follow, HasFitSizes, HaveClusters, IsInRecord, IsWholeInOrder, Outline, clusters_covered, covered_by, held_of, is_like, outline_of}

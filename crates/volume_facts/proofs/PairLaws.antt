@@ -4,7 +4,7 @@ use Rattle.std.specs.List.{count_by}
 use Rattle.std.specs.List.Sorted.{IsNonDecreasing}
 use Rattle.std.proofs.lemmas.Bool.{cases_eq, cases_lt, ne_eqb}
 use Rattle.std.proofs.lemmas.List.{get_or_default}
-use Rattle.volume_def.proofs.FindLaws.{count-no, count-some, count-yes}
+use Rattle.list_laws.proofs.FindLaws.{count-no, count-some, count-yes}
 use Rattle.volume_facts.specs.Pairs.{IsBeside}
 
 abbrev pub times : ℕ → List ℕ → ℕ

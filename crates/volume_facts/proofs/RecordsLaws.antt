@@ -14,7 +14,7 @@ use Rattle.ntfs_def.specs.Attribute.{Attribute, attributes}
 use Rattle.volume_def.specs.Coverage.{times_covered}
 use Rattle.volume_def.specs.Files.{Part, Records, file_of, is_of, part_of, part_runs, parts, parts_in, record_of}
 use Rattle.volume_def.specs.OwnersClause.{all_runs, boot_runs, record_runs, times_owned}
-use Rattle.volume_def.proofs.RangeLaws.{range-append}
+use Rattle.list_laws.proofs.RangeLaws.{range-append}
 use Rattle.volume_def.proofs.RecordLaws.{parts_in-other, parts_in-own, parts_in-unused}
 use Rattle.volume_facts.specs.declared.owners.Owners.{Owners}
 use Rattle.volume_facts.specs.Owners.{OwnersNote, RunsNote, attribute_runs, boot_parts_below, boot_runs_below, runs_below, unnamed_data_runs}

@@ -11,7 +11,7 @@ use Rattle.ntfs_def.specs.Record.{Reference, reference_in}
 use Rattle.volume_def.specs.FileNames.{names_among}
 use Rattle.volume_def.specs.Files.{Record, Records, file_of}
 use Rattle.volume_def.specs.ReferencesClause.{HasRightReferences, MeetsReferences, NamesBase, NamesDirectory}
-use Rattle.volume_def.proofs.MemberLaws.{All-from_Contains, Contains-from_map, Contains-map}
+use Rattle.list_laws.proofs.MemberLaws.{All-from_Contains, Contains-from_map, Contains-map}
 use Rattle.volume_facts.specs.declared.names.NameFact.{NameFact}
 use Rattle.volume_facts.specs.Heads.{EndsAtCount}
 use Rattle.volume_facts.specs.Least.{IsLeastFailing, least_of}

@@ -7,11 +7,11 @@ use Rattle.std.specs.Coded.{Coded}
 use Rattle.std.specs.List.{Contains, count_by}
 use Rattle.std.specs.Ordering.{is_lt, ordering_reverse}
 use Rattle.std.proofs.lemmas.List.Sums.{sum_by-cons}
-use Rattle.volume_def.specs.SameItems.{SameItems}
+use Rattle.list_laws.specs.SameItems.{SameItems}
 use Rattle.volume_def.proofs.CodedLaws.{SameItems-Contains}
-use Rattle.volume_def.proofs.FindLaws.{count-some, count-yes}
-use Rattle.volume_def.proofs.MemberLaws.{Contains-cases, Contains-head, Contains-nil}
-use Rattle.volume_def.proofs.SameItemsLaws.{SameItems-cancel, SameItems-sym}
+use Rattle.list_laws.proofs.FindLaws.{count-some, count-yes}
+use Rattle.list_laws.proofs.MemberLaws.{Contains-cases, Contains-head, Contains-nil}
+use Rattle.list_laws.proofs.SameItemsLaws.{SameItems-cancel, SameItems-sym}
 
 -- keys never fall
 abbrev pub Rises : {A : Type 0} → (A → ℕ) → List A → Type 0

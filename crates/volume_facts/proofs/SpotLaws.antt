@@ -11,7 +11,7 @@ use Rattle.ntfs_def.specs.Runs.{spot_in, spot_of, total_clusters}
 use Rattle.ntfs_def.proofs.SpotLaws.{spot_of-first, spot_of-past}
 use Rattle.volume_def.specs.Files.{Part, part_clusters, part_runs}
 use Rattle.volume_def.specs.Values.{first_vcn_of, holds_vcn, spot_at, spot_by}
-use Rattle.volume_def.proofs.FindLaws.{find-found}
+use Rattle.list_laws.proofs.FindLaws.{find-found}
 use Rattle.volume_def.proofs.RunPieces.{spot_of-behind, total-cons}
 use Rattle.volume_facts.specs.Skips.{AreSkips, NotesRuns, first_spot, noted_at}
 

@@ -9,10 +9,10 @@ use Rattle.std.proofs.lemmas.List.Elements.{filter-append}
 use Rattle.std.proofs.lemmas.List.Sorted.{Contains-permutation, IsPermutation-sym, sum_by-IsPermutation}
 use Rattle.std.proofs.lemmas.List.Sums.{sum_by-cons}
 use Rattle.volume_def.specs.Files.{Part, Record, Records, file_of, is_base, parts, parts_in}
-use Rattle.volume_def.specs.SameItems.{SameItems}
+use Rattle.list_laws.specs.SameItems.{SameItems}
 use Rattle.volume_def.proofs.RecordLaws.{parts_in-other, parts_in-own, parts_in-unused}
-use Rattle.volume_def.proofs.MemberLaws.{All-from_Contains, Contains-from_filter}
-use Rattle.volume_def.proofs.SameItemsLaws.{SameItems-append, SameItems-same, SameItems-trans, count-append}
+use Rattle.list_laws.proofs.MemberLaws.{All-from_Contains, Contains-from_filter}
+use Rattle.list_laws.proofs.SameItemsLaws.{SameItems-append, SameItems-same, SameItems-trans, count-append}
 use Rattle.volume_facts.specs.declared.spread.Extension.{Extension}
 use Rattle.volume_facts.specs.Spread.{AreExtensionsOf, extension_in, extensions_below, extensions_of, parts_from}
 use Rattle.volume_facts.proofs.AloneLaws.{extension-held}

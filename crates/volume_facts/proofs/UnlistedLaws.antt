@@ -11,8 +11,8 @@ use Rattle.volume_def.specs.ExtentsClause.{MeetsExtents}
 use Rattle.volume_def.specs.Files.{Record, Records, is_base, part_of, parts, record_of, records_of}
 use Rattle.volume_def.specs.ListsClause.{HasRightList, IsRightList, MeetsLists, is_list}
 use Rattle.volume_def.specs.View.{VolumeView}
-use Rattle.volume_def.proofs.FindLaws.{passing}
-use Rattle.volume_def.proofs.MemberLaws.{Contains-cases, Contains-nil}
+use Rattle.list_laws.proofs.FindLaws.{passing}
+use Rattle.list_laws.proofs.MemberLaws.{Contains-cases, Contains-nil}
 use Rattle.volume_def.proofs.PartLaws.{IsPart-Contains, NameHolders-view}
 use Rattle.volume_facts.specs.declared.unlisted.UnlistedFiles.{UnlistedFiles}
 use Rattle.volume_facts.specs.Extents.{AreWholeParts, IsAlone}

@@ -10,7 +10,7 @@ use Rattle.ntfs_def.specs.KeyOrder.{by_numbers}
 use Rattle.ntfs_def.specs.Runs.{total_clusters}
 use Rattle.volume_def.specs.ExtentsClause.{AreAttribute, FitExtents, bad_name, last_vcn_of}
 use Rattle.volume_def.specs.Files.{Clusters, Content, Part, Records, Value, file_of, parts_like}
-use Rattle.volume_def.specs.SameItems.{SameItems}
+use Rattle.list_laws.specs.SameItems.{SameItems}
 use Rattle.volume_facts.specs.declared.extents.Extent.{Extent}
 use Rattle.volume_facts.specs.declared.extents.Held.{Held}
 use Rattle.volume_facts.specs.declared.extents.Held.TheVariants.{InClusters, InRecord}

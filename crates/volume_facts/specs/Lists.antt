@@ -5,7 +5,7 @@ use Rattle.std.specs.declared.cmp.Ordering.{Ordering}
 use Rattle.ntfs_def.specs.AttributeList.{HasListShape, ListEntry, list_entries}
 use Rattle.ntfs_def.specs.KeyOrder.{by_numbers}
 use Rattle.volume_def.specs.Files.{Part}
-use Rattle.volume_def.specs.SameItems.{SameItems}
+use Rattle.list_laws.specs.SameItems.{SameItems}
 use Rattle.volume_def.specs.Values.{first_vcn_of}
 
 -- The order in which entries are compared: by the record and the id of the attribute that they name, and what else they say

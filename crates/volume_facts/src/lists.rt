@@ -3,7 +3,7 @@
 ghost use Rattle.std.specs.Prelude.{◌≡◌, ◌↔◌, ◌++◌, ◌<◌, ◌^◌, Some, IfOk, OnOk, IsTrue, map};
 ghost use Rattle.volume_def.specs.Files.{Records, part_of, record_of};
 ghost use Rattle.volume_def.specs.ListsClause.{entries_in};
-ghost use Rattle.volume_def.specs.SameItems.{SameItems};
+ghost use Rattle.list_laws.specs.SameItems.{SameItems};
 ghost use Rattle.attr_list.specs.View.{entries_of, entry_shown};
 ghost use Rattle.attr_view.specs.View.{attribute_of, viewed_block};
 ghost use Rattle.volume_facts.specs.Lists.{NamesEach, entry_order, wanted_of};

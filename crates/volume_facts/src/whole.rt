@@ -2,7 +2,7 @@
 ghost use Rattle.std.specs.Prelude.{◌≡◌, ◌↔◌, ◌+◌, ◌<◌, ◌≤◌, ◌^◌, List, Some, All, IfNone, IfOk, IfSome, IsTrue, length, map, sum_by};
 ghost use Rattle.volume_def.specs.ExtentsClause.{MeetsExtents, last_vcn_of};
 ghost use Rattle.volume_def.specs.Files.{Part, Records, is_base, record_of};
-ghost use Rattle.volume_def.specs.SameItems.{SameItems};
+ghost use Rattle.list_laws.specs.SameItems.{SameItems};
 ghost use Rattle.attr_view.specs.View.{viewed_block};
 ghost use Rattle.volume_facts.specs.Extents.{AreAllWhole, AreInOrder, AreWholeParts, Begins, Follow, HasFitSizes, HaveClusters, IsAlone, IsOneValue, clusters_covered, is_bad_outline, is_like, outline_of, outline_order, outlined};
 ghost use Rattle.volume_facts.specs.Groups.{AreSorted, IsGroup};

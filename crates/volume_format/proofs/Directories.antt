@@ -16,7 +16,7 @@ use Rattle.volume_def.specs.CaseClause.{volume_fold}
 use Rattle.volume_def.specs.FileNames.{is_in_directory, links}
 use Rattle.volume_def.specs.Files.{Value, content_value}
 use Rattle.volume_def.specs.IndexesClause.{HasIndex, IndexParts, IsDirectoryIndex, IsIndexRecordAt, index_nodes, index_parts, name_rule}
-use Rattle.volume_def.specs.SameItems.{SameItems}
+use Rattle.list_laws.specs.SameItems.{SameItems}
 use Rattle.volume_def.specs.Table.{cluster_bytes}
 use Rattle.volume_def.specs.Values.{spot_at, value_of_parts, value_on}
 use Rattle.volume_def.specs.View.{VolumeView}

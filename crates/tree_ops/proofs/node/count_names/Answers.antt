@@ -1,7 +1,7 @@
 use Rattle.std.proofs.Common.{◌≡◌, ◌+◌, ◌∷◌, drop, sym, ap, ◌∙◌, arith}
 use Rattle.attr_view.specs.View.{attribute_of}
 use Rattle.volume_def.specs.Files.{part_of}
-use Rattle.volume_def.proofs.FindLaws.{count-no, count-yes}
+use Rattle.list_laws.proofs.FindLaws.{count-no, count-yes}
 use Rattle.file_record.specs.Held.{attributes_held, parts_held}
 use Rattle.file_record.specs.Left.{attributes_left}
 use Rattle.attr_store.proofs.FirstLaws.{AreHeld-at, AreHeld-end, AreHeld-file}

@@ -1,5 +1,5 @@
 use Rattle.std.proofs.Common.{ap, ◌∙◌}
-use Rattle.tree_model.specs.Reading.{standard_security}
+use Rattle.ntfs_def.specs.StandardInformation.{standard_security}
 use Rattle.tree_ops.proofs.StandardLaws.{flags-read, times-read}
 use Rattle.tree_ops.proofs.node.read_standard.Goals as goal
 

@@ -3,7 +3,7 @@ use Rattle.std.proofs.lemmas.Bool.{eq-eqb, ne_eqb}
 use Rattle.attr_view.specs.Left.{attributes_left}
 use Rattle.attr_view.specs.View.{attribute_of}
 use Rattle.ntfs_def.specs.Attribute.{Attribute}
-use Rattle.volume_def.proofs.FindLaws.{count-no, count-yes}
+use Rattle.list_laws.proofs.FindLaws.{count-no, count-yes}
 use Rattle.volume_facts.specs.Attributes.{times_id_among}
 use Rattle.volume_facts.proofs.attributes.has_id.Goals as goal
 

@@ -1,7 +1,7 @@
 use Rattle.std.proofs.Common.{ap, map, ◌∙◌}
 use Rattle.attr_view.specs.View.{viewed_block}
 use Rattle.volume_def.specs.Files.{record_of}
-use Rattle.volume_def.proofs.SameItemsLaws.{SameItems-same}
+use Rattle.list_laws.proofs.SameItemsLaws.{SameItems-same}
 use Rattle.volume_facts.specs.Extents.{outline_of, outlined}
 use Rattle.volume_facts.proofs.InOrderLaws.{alone-meets}
 use Rattle.volume_facts.proofs.whole.has_whole_extents.Goals as goal

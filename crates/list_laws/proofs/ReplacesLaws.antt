@@ -5,9 +5,9 @@ use Rattle.std.proofs.lemmas.List.{append-nil, map-append, take-append-drop}
 use Rattle.std.proofs.lemmas.List.Concat.{flat_map-append}
 use Rattle.std.proofs.lemmas.List.Elements.{Contains-append_cases, Contains-append_left, Contains-append_right, filter-append}
 use Rattle.std.specs.List.{Contains, count_by, filter, flat_map, insert, range_with_len}
-use Rattle.volume_def.specs.Replaces.{Replaces}
-use Rattle.volume_def.specs.SameItems.{SameItems}
-use Rattle.volume_def.proofs.SameItemsLaws.{count-append}
+use Rattle.list_laws.specs.Replaces.{Replaces}
+use Rattle.list_laws.specs.SameItems.{SameItems}
+use Rattle.list_laws.proofs.SameItemsLaws.{count-append}
 
 -- a piece replaced by itself
 pub Replaces-itself : {A : Type 0} (old new was now : List A) → was ≡ now → Replaces old new was now → new ≡ old

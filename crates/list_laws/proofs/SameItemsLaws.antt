@@ -5,8 +5,8 @@ use Rattle.std.proofs.lemmas.List.Sums.{sum_by-append}
 use Rattle.std.proofs.lemmas.List.Sorted.{sum_by-IsPermutation}
 use Rattle.std.specs.List.{Contains, count_by, filter, find}
 use Rattle.std.specs.List.Sorted.{IsPermutation}
-use Rattle.volume_def.specs.SameItems.{SameItems}
-use Rattle.volume_def.proofs.FindLaws.{count-cons, count-no, count-some, count-yes, find-found, find-none, find-one, passing}
+use Rattle.list_laws.specs.SameItems.{SameItems}
+use Rattle.list_laws.proofs.FindLaws.{count-cons, count-no, count-some, count-yes, find-found, find-none, find-one, passing}
 
 pub SameItems-same : {A : Type 0} (xs ys : List A) → xs ≡ ys → SameItems xs ys
 SameItems-same xs ys e = record { counts = λ p. ap (count_by p) (sym e) }

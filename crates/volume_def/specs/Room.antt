@@ -1,6 +1,6 @@
 -- What an image tells of room: what is free in it, and how long the attribute list of a file would be.
 -- Layout: Linux-NTFS documentation, "File Record" and attribute $ATTRIBUTE_LIST; Carrier, File System Forensic Analysis, chapter 13.
-use Rattle.std.specs.Prelude.{ℕ, ◌+◌, ◌-◌, ◌*◌, ◌/◌, ◌==◌, max, List, count_by, fold, is_none, length, sum_by}
+use Rattle.std.specs.Prelude.{ℕ, ◌+◌, ◌-◌, ◌/◌, ◌==◌, max, List, count_by, fold, is_none, length, sum_by}
 use Rattle.std.specs.List.{range_with_len}
 use Rattle.ntfs_def.specs.Fixup.{opened_of}
 use Rattle.ntfs_def.specs.Record.{used_size}
@@ -10,6 +10,7 @@ use Rattle.volume_def.specs.Files.{Part, parts, record_on, records_of}
 use Rattle.volume_def.specs.ListsClause.{listed_parts}
 use Rattle.volume_def.specs.OwnersClause.{times_owned}
 use Rattle.volume_def.specs.View.{VolumeView}
+use Rattle.ntfs_def.specs.Rounded.{up_to_8}
 
 -- clusters without an owner, and records from 24 on that are not in use
 unfoldable pub unowned_clusters : VolumeView → ℕ
@@ -24,9 +25,6 @@ abbrev pub free_bytes : VolumeView → ℕ → ℕ
 free_bytes view n = RECORD - used_size (opened_of (view.block n))
 
 -- An entry of an attribute list, as this project writes it: 26 bytes and the name, up to a multiple of 8.
-abbrev pub up_to_8 : ℕ → ℕ
-up_to_8 bytes = (bytes + 7) / 8 * 8
-
 abbrev pub list_entry_len : Part → ℕ
 list_entry_len part = up_to_8 (26 + length part.name)
 
