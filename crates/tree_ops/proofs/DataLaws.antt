@@ -33,7 +33,7 @@ use Rattle.file_record.specs.declared.base.BaseFile.{BaseFile}
 use Rattle.file_record.specs.Held.{held_of, parts_held, parts_of}
 use Rattle.tree_model.specs.Answers.{bytes_of, is_unnamed_object_id, object_id, point_answer}
 use Rattle.tree_model.specs.Ordered.{in_order, put_in_order}
-use Rattle.tree_model.specs.Plain.{point_shown}
+use Rattle.tree_model.specs.Shown.{point_shown}
 use Rattle.tree_model.specs.Reading.{begins_other, content_at, data_place, is_packed_part, is_told_elsewhere, node_by, other_above, other_at, others_of, padded, point_by, point_in, point_of, read, shown_content}
 use Rattle.tree_model.specs.Tree.{is_of_microsoft}
 use Rattle.tree_model.specs.declared.reply.Answer.{Answer}
