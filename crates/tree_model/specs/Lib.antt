@@ -13,6 +13,7 @@ pub mod NoRoom
 pub mod Staging
 pub mod Refusals
 pub mod Answers
+pub mod Shown
 pub mod Streams
 pub mod Effects
 pub mod Step
@@ -20,5 +21,4 @@ pub mod Hidden
 pub mod Reading
 pub mod Facts
 pub mod Session
-pub mod Plain
 pub mod Taken

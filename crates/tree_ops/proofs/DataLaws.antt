@@ -33,9 +33,9 @@ use Rattle.file_record.specs.declared.base.BaseFile.{BaseFile}
 use Rattle.file_record.specs.Held.{held_of, parts_held, parts_of}
 use Rattle.tree_model.specs.Answers.{bytes_of, is_unnamed_object_id, object_id, point_answer}
 use Rattle.tree_model.specs.Ordered.{in_order, put_in_order}
-use Rattle.tree_model.specs.Plain.{point_shown}
 use Rattle.tree_model.specs.Reading.{begins_other, content_at, is_packed_part, is_told_elsewhere, node_by, other_above, other_at, others_of, padded, point_by, point_in, point_of, read, shown_content}
 use Rattle.ntfs_def.specs.ReparsePoint.{data_place, is_of_microsoft}
+use Rattle.tree_model.specs.Shown.{point_shown}
 use Rattle.tree_model.specs.declared.reply.Answer.{Answer}
 use Rattle.tree_model.specs.declared.reply.Answer.TheVariants as a
 use Rattle.tree_model.specs.declared.reply.No.TheVariants as no

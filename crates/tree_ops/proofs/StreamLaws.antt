@@ -13,7 +13,7 @@ use Rattle.sparse_io.specs.declared.find.FoundStream.{FoundStream}
 use Rattle.tree_model.specs.Answers.{bytes_of, listing, range_of}
 use Rattle.tree_model.specs.Cases.{is_packed, is_wide, size_of}
 use Rattle.tree_model.specs.Paths.{and_then}
-use Rattle.tree_model.specs.Plain.{plain_bytes, stream_of}
+use Rattle.tree_model.specs.Shown.{plain_bytes, stream_of}
 use Rattle.tree_model.specs.Reading.{node_by, read}
 use Rattle.tree_model.specs.Subjects.{content_named, is_directory}
 use Rattle.tree_model.specs.Tree.{node_of, sought_stream}

@@ -2,7 +2,7 @@
 use Rattle.std.proofs.Common.{◌≡◌, ℕ, List, [], false, Option, Result, Ok, Err, refl, ◌∙◌}
 use Rattle.tree_model.specs.Answers.{answer_of}
 use Rattle.tree_model.specs.Paths.{and_then, found_file, resolve}
-use Rattle.tree_model.specs.Plain.{cat_of, file_at, links_of, looked, ls_of, read_of, reparse_of}
+use Rattle.tree_model.specs.Shown.{cat_of, file_at, links_of, looked, ls_of, read_of, reparse_of}
 use Rattle.tree_model.specs.Reading.{read}
 use Rattle.tree_model.specs.Refusals.{Facts, outcome}
 use Rattle.tree_model.specs.Staging.{is_built}

@@ -9,7 +9,7 @@ use Rattle.file_record.specs.declared.base.BaseFile.{BaseFile}
 use Rattle.file_record.specs.declared.parts.FileParts.{FileParts}
 use Rattle.file_record.specs.Held.{parts_held}
 use Rattle.tree_model.specs.Cases.{size_of}
-use Rattle.tree_model.specs.Plain.{stream_of}
+use Rattle.tree_model.specs.Shown.{stream_of}
 use Rattle.tree_model.specs.Reading.{read}
 use Rattle.tree_model.specs.Subjects.{content_named}
 use Rattle.tree_model.specs.Tree.{Tree, node_of}

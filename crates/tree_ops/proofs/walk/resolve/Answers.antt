@@ -1,7 +1,7 @@
 use Rattle.std.proofs.Common.{refl, sym, ◌∙◌}
 use Rattle.ntfs_def.specs.declared.records.TheConstants.{ROOT}
 use Rattle.mft_table.specs.Mft.{view}
-use Rattle.tree_model.proofs.PlainLaws.{resolve-root}
+use Rattle.tree_model.proofs.ResolveLaws.{resolve-root}
 use Rattle.tree_model.specs.Reading.{read}
 use Rattle.tree_ops.proofs.GivesLaws.{handed-on, tells}
 use Rattle.tree_ops.proofs.KindLaws.{directory-file}
