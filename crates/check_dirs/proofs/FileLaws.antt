@@ -27,7 +27,7 @@ use Rattle.volume_def.specs.Table.{cluster_bytes}
 use Rattle.volume_def.specs.View.{VolumeView}
 use Rattle.list_laws.proofs.FindLaws.{count-none, count-some}
 use Rattle.list_laws.proofs.SameItemsLaws.{count-append}
-use Rattle.volume_facts.proofs.NameLaws.{name_of_part, names_among-append}
+use Rattle.record_notes.proofs.NameLaws.{name_of_part, names_among-append}
 use Rattle.index_tree.specs.Walk.{items_in}
 use Rattle.attr_view.specs.declared.record_mut.RecordHeader.{RecordHeader}
 use Rattle.file_record.specs.Base.{HasBaseRecord, HasHeader}

@@ -12,9 +12,9 @@ use Rattle.list_laws.proofs.SameItemsLaws.{SameItems-filter, SameItems-length, S
 use Rattle.file_record.specs.declared.held.Held.{Held}
 use Rattle.file_record.specs.Held.{parts_of}
 use Rattle.file_record.proofs.NamedLaws.{named-few}
-use Rattle.volume_facts.specs.declared.spread.Extension.{Extension}
-use Rattle.volume_facts.specs.Lists.{NamesEach}
-use Rattle.volume_facts.specs.Spread.{parts_from}
+use Rattle.record_notes.specs.declared.spread.Extension.{Extension}
+use Rattle.file_clauses.specs.Lists.{NamesEach}
+use Rattle.record_notes.specs.Spread.{parts_from}
 use Rattle.check_records.specs.Listed.{IsBaseHeld, NamesParts, all_parts}
 use Rattle.check_records.proofs.HeldFileLaws.{lists-left}
 

@@ -9,9 +9,9 @@ use Rattle.volume_def.specs.View.{VolumeView}
 use Rattle.file_record.specs.declared.held.Held.{Held}
 use Rattle.file_record.specs.Held.{parts_of}
 use Rattle.file_record.specs.Records.{IsRecordOf}
-use Rattle.volume_facts.specs.declared.spread.Extension.{Extension}
-use Rattle.volume_facts.specs.Lists.{NamesEach}
-use Rattle.volume_facts.specs.Spread.{parts_from}
+use Rattle.record_notes.specs.declared.spread.Extension.{Extension}
+use Rattle.file_clauses.specs.Lists.{NamesEach}
+use Rattle.record_notes.specs.Spread.{parts_from}
 
 -- the parts of these records, in their order
 abbrev pub all_parts : List Held → List Part

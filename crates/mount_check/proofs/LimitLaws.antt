@@ -24,7 +24,7 @@ use Rattle.volume_def.proofs.PartLaws.{record_at-block}
 use Rattle.mount_check.specs.Views.{HasComeTo}
 use Rattle.mount_check.proofs.VersionLaws.{IsUsedAs}
 use Rattle.file_record.proofs.RecordLaws.{record_at-in_use, record_at-inside, record_at-used, some-value}
-use Rattle.volume_facts.specs.Least.{IsLeastFailing, least_of}
+use Rattle.record_notes.specs.Least.{IsLeastFailing, least_of}
 use Rattle.mount_check.specs.Limits.{BreaksLimits, IsLongIn, KeepsLimits}
 use Rattle.volume_def.proofs.FileLaws.{file-held}
 

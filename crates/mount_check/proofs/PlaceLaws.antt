@@ -15,8 +15,8 @@ use Rattle.file_record.specs.declared.parts.FileParts.{FileParts}
 use Rattle.file_record.specs.Held.{AreParts, file_number, held_of, parts_held, parts_of}
 use Rattle.file_record.specs.Records.{IsRecordOf}
 use Rattle.file_record.proofs.RecordLaws.{some-value}
-use Rattle.volume_facts.specs.declared.streams.StreamNote.{StreamNote}
-use Rattle.volume_facts.specs.Streams.{NotesStream, places_in, spot_noted}
+use Rattle.record_notes.specs.declared.streams.StreamNote.{StreamNote}
+use Rattle.record_notes.specs.Streams.{NotesStream, places_in, spot_noted}
 use Rattle.mount_check.specs.Copies.{data_held}
 use Rattle.ntfs_def.specs.declared.kinds.TheConstants.{DATA}
 use Rattle.ntfs_def.specs.Flags.{is_packed}
