@@ -26,7 +26,7 @@ use Rattle.tree_model.specs.declared.reply.Reply.{Reply}
 use Rattle.tree_model.specs.declared.reply.Reply.TheVariants as reply
 use Rattle.tree_model.proofs.MachineLaws.{shown-step}
 use Rattle.tree_ops.specs.Serves.{Serves}
-use Rattle.tree_ops.specs.Standings.{IsStanding}
+use Rattle.tree_read.specs.Standings.{IsStanding}
 use Rattle.tree_ops.specs.Volumes.{VolumeReads}
 use Rattle.tree_ops.specs.Wanted.{machine_on, wanted}
 use Rattle.tree_ops.specs.declared.volume.Volume.{Volume}

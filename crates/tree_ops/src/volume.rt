@@ -12,12 +12,12 @@ ghost use Rattle.tree_model.specs.Refusals.{Facts};
 ghost use Rattle.tree_model.specs.Step.{Step};
 ghost use Rattle.tree_model.specs.declared.reply.Reply.TheVariants as reply_is;
 
+use crate::close::CloseNo;
 use crate::commands::answer;
-use crate::standing::Standing;
-use crate::stop::{CloseNo, Stop};
 use mft_table::{Mft, Mounted};
 use std::alloc::Global;
 use tree_model::{Command, Reply};
+use tree_read::{Standing, Stop};
 use vol_disk::Disk;
 use vol_stage::Stage;
 
