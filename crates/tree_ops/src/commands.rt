@@ -5,7 +5,7 @@ ghost use Rattle.mft_table.specs.Mft.{MftReads, faults_of, view};
 ghost use Rattle.tree_model.specs.Facts.{TellsFacts};
 ghost use Rattle.tree_model.specs.Reading.{read};
 ghost use Rattle.tree_model.specs.Refusals.{Facts};
-ghost use Rattle.attr_store.specs.InUse.{IsInUse};
+ghost use Rattle.mft_table.specs.InUse.{IsInUse};
 ghost use Rattle.tree_ops.specs.Answered.{Answered, Counts, Says};
 ghost use Rattle.tree_ops.specs.Nodes.{IsNodeHeld, number_of};
 ghost use Rattle.tree_ops.specs.Shown.{shown_by, shown_path};

@@ -5,7 +5,7 @@ ghost use Rattle.mft_table.specs.Mft.{view};
 ghost use Rattle.tree_model.specs.Answers.{listed, listing};
 ghost use Rattle.tree_model.specs.Paths.{found_file, lookup, passed, reached, resolve};
 ghost use Rattle.tree_model.specs.Reading.{directory_links, read};
-ghost use Rattle.attr_store.specs.InUse.{IsInUse};
+ghost use Rattle.mft_table.specs.InUse.{IsInUse};
 ghost use Rattle.tree_ops.specs.Above.{AreAbove};
 ghost use Rattle.tree_ops.specs.Answered.{Answered, Finds, with_ok};
 ghost use Rattle.tree_ops.specs.Below.{kind_below};

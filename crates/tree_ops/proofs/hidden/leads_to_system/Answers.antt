@@ -1,6 +1,6 @@
 use Rattle.std.proofs.Common.{◌≡◌, ◌-◌, suc, Some, None, refl, sym, subst, ◌∙◌, arith}
 use Rattle.mft_table.specs.Mft.{view}
-use Rattle.attr_store.specs.InUse.{IsDirectory}
+use Rattle.volume_def.specs.Readable.{IsDirectory}
 use Rattle.tree_ops.proofs.GivesLaws.{at_once, both, handed-on, tells}
 use Rattle.tree_ops.proofs.KindLaws.{IsUp, up-begins, up-ends, up-goes, up-known}
 use Rattle.tree_ops.proofs.hidden.leads_to_system.Goals as goal

@@ -1,5 +1,5 @@
 use Rattle.std.proofs.Common.{ℕ, Ok}
-use Rattle.attr_store.specs.InUse.{IsDirectory}
+use Rattle.volume_def.specs.Readable.{IsDirectory}
 use Rattle.tree_ops.specs.Above.{AreAbove}
 use Rattle.tree_ops.specs.Answered.{Finds}
 use Rattle.tree_ops.proofs.KindLaws.{IsUp}

@@ -1,7 +1,7 @@
 use Rattle.std.proofs.Common.{◌≡◌}
 use Rattle.volume_def.specs.Sound.{IsSound}
 use Rattle.volume_def.specs.View.{VolumeView}
-use Rattle.attr_store.specs.InUse.{IsDirectory}
+use Rattle.volume_def.specs.Readable.{IsDirectory}
 use Rattle.tree_ops.specs.Above.{AreAbove, leads_hidden}
 use Rattle.tree_ops.proofs.above.Above.note.Given as goal
 
