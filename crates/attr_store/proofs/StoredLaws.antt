@@ -25,8 +25,8 @@ use Rattle.volume_def.proofs.ReadableLaws.{readable-stream}
 use Rattle.volume_def.proofs.SpanLaws.{spot-spans}
 use Rattle.file_record.specs.declared.parts.FileParts.{FileParts}
 use Rattle.file_record.specs.Held.{AreParts, file_number, parts_held}
-use Rattle.attr_store.specs.declared.index.Stored.{Stored}
-use Rattle.attr_store.specs.Index.{IsStored, attribute_held}
+use Rattle.attr_store.specs.declared.stored.Stored.{Stored}
+use Rattle.attr_store.specs.First.{IsStored, attribute_held}
 use Rattle.attr_store.specs.Sought.{parts_held_like, spot_in_text}
 use Rattle.attr_store.proofs.Found.{both-true}
 use Rattle.attr_store.proofs.Spanned.{spot-extent}

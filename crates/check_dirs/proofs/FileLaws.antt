@@ -34,18 +34,19 @@ use Rattle.file_record.specs.Base.{HasBaseRecord, HasHeader}
 use Rattle.file_record.specs.declared.parts.FileParts.{FileParts}
 use Rattle.file_record.specs.Held.{AreParts, attributes_held, file_number, parts_held}
 use Rattle.file_record.proofs.RecordLaws.{some-value}
-use Rattle.attr_store.specs.Index.{HasParts, attribute_held, index_held}
-use Rattle.attr_store.specs.IndexRecords.{index_record_on}
+use Rattle.index_store.specs.Index.{HasParts, index_held}
+use Rattle.attr_store.specs.First.{attribute_held}
+use Rattle.index_store.specs.IndexRecords.{index_record_on}
 use Rattle.attr_store.proofs.FirstLaws.{AreHeld, AreHeld-file, file-values, of_name}
-use Rattle.attr_store.proofs.HeldIndexLaws.{index-held}
-use Rattle.attr_store.proofs.IndexRecordLaws.{records-of}
+use Rattle.index_store.proofs.HeldIndexLaws.{index-held}
+use Rattle.index_store.proofs.IndexRecordLaws.{records-of}
 use Rattle.check_dirs.specs.Files.{MeetsExtended, MeetsNames, MeetsSecured}
 use Rattle.check_dirs.specs.declared.notes.Notes.{Notes}
 use Rattle.check_dirs.specs.Directory.{TellsNames}
 use Rattle.check_dirs.specs.Notes.{AreNotes, notes_in}
 use Rattle.check_dirs.specs.OrderedIndex.{TellsIndex}
 use Rattle.check_dirs.specs.Records.{short_nodes}
-use Rattle.attr_store.specs.IndexBlocks.{IsHeldFile}
+use Rattle.index_store.specs.IndexBlocks.{IsHeldFile}
 use Rattle.check_dirs.proofs.NoteLaws.{value-held}
 use Rattle.check_dirs.proofs.VolumeLaws.{index_from_ordered, ordered_from_index}
 

@@ -3,10 +3,10 @@ ghost use Rattle.std.specs.Prelude.{◌≡◌, ℕ, IfSome, IsTrue};
 ghost use Rattle.mft_table.specs.Mft.{MftReads, faults_of, view};
 ghost use Rattle.tree_model.specs.Facts.{TellsFacts};
 ghost use Rattle.tree_model.specs.Refusals.{Facts};
-ghost use Rattle.attr_store.specs.InUse.{IsInUse};
 ghost use Rattle.tree_read.specs.Answered.{Counts, Says};
 ghost use Rattle.tree_read.specs.Standings.{IsStanding};
 ghost use Rattle.tree_ops.specs.Wanted.{wanted};
+ghost use Rattle.mft_table.specs.InUse.{IsInUse};
 
 use crate::built::Built;
 use mft_table::Mft;

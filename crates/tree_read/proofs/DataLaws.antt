@@ -24,7 +24,7 @@ use Rattle.volume_def.specs.View.{VolumeView}
 use Rattle.list_laws.proofs.FindLaws.{find-agree, find-filter, find-found, find-map}
 use Rattle.list_laws.proofs.MemberLaws.{Contains-from_flat_map, Contains-from_map}
 use Rattle.attr_store.specs.declared.first.FirstPart.{FirstPart}
-use Rattle.attr_store.specs.Index.{TellsSizes, attribute_held}
+use Rattle.attr_store.specs.First.{TellsSizes, attribute_held}
 use Rattle.attr_store.proofs.FirstLaws.{is_sought, sought-first}
 use Rattle.attr_store.proofs.Found.{both-true}
 use Rattle.attr_store.proofs.StoredLaws.{named, no-value}

@@ -1,13 +1,12 @@
 -- Calls that only read, one behind another.
-use Rattle.std.proofs.Common.{◌≡◌, ◌+◌, ℕ, Bool, true, false, Result, Ok, Err, le_refl, refl, sym, ap, subst}
-use Rattle.std.proofs.Common.{IsErrAnd, IsTrue}
+use Rattle.std.proofs.Common.{◌≡◌, ◌+◌, ℕ, Bool, true, false, Result, Ok, Err, le_refl, refl, sym, ap, subst, IsErrAnd, IsTrue}
 use Rattle.vol_disk.specs.declared.Disk.{Ghosts}
 use Rattle.volume_def.specs.View.{VolumeView}
 use Rattle.file_record.proofs.ReadLaws.{view-kept}
 use Rattle.mft_table.proofs.StreamReads.{MftReads-none, MftReads-then}
 use Rattle.mft_table.specs.declared.mft.Mft.{Mft}
 use Rattle.mft_table.specs.Mft.{MftReads, faults_of, mounted_of, view}
-use Rattle.attr_store.specs.InUse.{IsInUse, IsSoundVolume}
+use Rattle.mft_table.specs.InUse.{IsInUse, IsSoundVolume}
 use Rattle.file_record.specs.FileNos.{CountsNo, IsReadNo}
 use Rattle.file_record.specs.declared.error.FileNo.{FileNo}
 use Rattle.file_record.specs.declared.error.FileNo.TheVariants as file

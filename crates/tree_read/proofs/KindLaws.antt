@@ -12,11 +12,10 @@ use Rattle.ntfs_def.specs.declared.kinds.TheConstants.{REPARSE_POINT}
 use Rattle.ntfs_def.specs.declared.records.TheConstants.{FIRST_ORDINARY, ROOT}
 use Rattle.volume_def.specs.FileNames.{names_of}
 use Rattle.volume_def.specs.Files.{Part, Record, is_base, is_directory, is_of, parts, record_on, records_of}
-use Rattle.volume_def.specs.Readable.{IsFile}
+use Rattle.volume_def.specs.Readable.{IsFile, IsDirectory}
 use Rattle.volume_def.specs.Sound.{IsSound, Links, References}
 use Rattle.volume_def.specs.View.{VolumeView}
 use Rattle.list_laws.proofs.MemberLaws.{All-from_Contains, Contains-from_map}
-use Rattle.attr_store.specs.InUse.{IsDirectory}
 use Rattle.tree_model.specs.Hidden.{is_hidden, leads_to_system}
 use Rattle.tree_model.specs.Reading.{directory_links, link_for, links_to, node_by, point_of, read}
 use Rattle.tree_model.specs.Tree.{shown_node}

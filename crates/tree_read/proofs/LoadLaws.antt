@@ -5,9 +5,9 @@ use Rattle.volume_def.specs.Readable.{IsFile, WhereReadable}
 use Rattle.volume_def.specs.Values.{attribute_value, first_part, value_on}
 use Rattle.volume_def.specs.View.{VolumeView}
 use Rattle.attr_store.specs.declared.first.FirstPart.{FirstPart}
-use Rattle.attr_store.specs.declared.index.Stored.{Stored}
-use Rattle.attr_store.specs.Index.{IsStored, TellsSizes, attribute_held}
-use Rattle.attr_store.specs.InUse.{IsInUse, IsSoundVolume}
+use Rattle.attr_store.specs.declared.stored.Stored.{Stored}
+use Rattle.attr_store.specs.First.{IsStored, TellsSizes, attribute_held}
+use Rattle.mft_table.specs.InUse.{IsInUse, IsSoundVolume}
 use Rattle.mft_table.specs.declared.mft.Mft.{Mft}
 use Rattle.mft_table.specs.declared.mounted.Mounted.{Mounted}
 use Rattle.mft_table.specs.Mft.{MftReads, faults_of, view}

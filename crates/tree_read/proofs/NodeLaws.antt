@@ -3,11 +3,10 @@ use Rattle.std.proofs.Common.{◌≡◌, ◌&&◌, ◌==◌, ◌/◌, ◌%◌, n
 use Rattle.std.specs.Prelude.{IsSome, IsSomeAnd, IsTrue, if◌then◌else◌, option_and_then, option_map, slice_index}
 use Rattle.volume_def.specs.CaseClause.{volume_fold}
 use Rattle.volume_def.specs.Files.{Part, Record, is_base, is_directory, parts, record_on, records_of}
-use Rattle.volume_def.specs.Readable.{IsFile, IsReadableVolume}
+use Rattle.volume_def.specs.Readable.{IsFile, IsReadableVolume, IsDirectory}
 use Rattle.volume_def.specs.Sound.{Attributes, Extents, IsSound, Lists, Shape}
 use Rattle.volume_def.specs.View.{VolumeView}
 use Rattle.mft_table.specs.Mft.{view}
-use Rattle.attr_store.specs.InUse.{IsDirectory}
 use Rattle.file_record.specs.Base.{HasHeader}
 use Rattle.file_record.specs.declared.base.BaseFile.{BaseFile}
 use Rattle.sparse_io.specs.Held.{IsHeldWith, streams_held}

@@ -5,7 +5,7 @@ use Rattle.vol_disk.specs.declared.Disk.{Ghosts}
 use Rattle.volume_def.specs.View.{VolumeView}
 use Rattle.mft_table.specs.declared.mft.Mft.{Mft}
 use Rattle.mft_table.specs.Mft.{view}
-use Rattle.attr_store.specs.InUse.{IsInUse}
+use Rattle.mft_table.specs.InUse.{IsInUse}
 use Rattle.tree_model.specs.Paths.{Place, and_then, found_file, last_place, lookup, passed, reached, resolve}
 use Rattle.tree_model.specs.Reading.{read}
 use Rattle.tree_model.specs.Tree.{Tree}

@@ -4,7 +4,7 @@ use Rattle.ntfs_def.specs.declared.records.TheConstants.{ROOT}
 use Rattle.volume_def.specs.Files.{records_of}
 use Rattle.volume_def.specs.Sound.{IsSound, Links, References}
 use Rattle.volume_def.specs.View.{VolumeView}
-use Rattle.attr_store.specs.InUse.{IsDirectory}
+use Rattle.volume_def.specs.Readable.{IsDirectory}
 use Rattle.tree_model.specs.Answers.{path_to}
 use Rattle.tree_model.specs.Hidden.{is_hidden}
 use Rattle.tree_model.specs.Reading.{link_for, read}

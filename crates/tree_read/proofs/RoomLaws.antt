@@ -20,7 +20,7 @@ use Rattle.list_laws.proofs.RangeLaws.{drop-range}
 use Rattle.list_laws.proofs.SameItemsLaws.{count-map}
 use Rattle.volume_def.specs.Sound.{ClusterBits, RecordBits}
 use Rattle.mft_table.specs.declared.mounted.Mounted.{Mounted}
-use Rattle.attr_store.specs.InUse.{IsSoundVolume}
+use Rattle.mft_table.specs.InUse.{IsSoundVolume}
 use Rattle.tree_model.specs.Facts.{TellsFacts}
 use Rattle.tree_model.specs.Refusals.{Facts}
 use Rattle.volume_def.specs.Room.{unowned_clusters, unused_records}

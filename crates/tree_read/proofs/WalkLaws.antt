@@ -1,6 +1,5 @@
 -- The steps of a walk along a path, by what the links on it lead to.
-use Rattle.std.proofs.Common.{◌≡◌, ◌&&◌, ◌∷◌, ℕ, zero, suc, Bool, true, false, not, List, find, Option, Some, None, Result, Ok, Err, is_some}
-use Rattle.std.proofs.Common.{IfSome, IsSome, IsTrue, IsSomeAnd, Contains, refl, sym, ap, ◌∙◌, subst, if◌then◌else◌}
+use Rattle.std.proofs.Common.{◌≡◌, ◌&&◌, ◌∷◌, ℕ, zero, suc, Bool, true, false, not, List, find, Option, Some, None, Result, Ok, Err, is_some, IfSome, IsSome, IsTrue, IsSomeAnd, Contains, refl, sym, ap, ◌∙◌, subst, if◌then◌else◌}
 use Rattle.std.specs.Prelude.{option_and_then, option_map}
 use Rattle.std.specs.Option.{option_or}
 use Rattle.std.specs.Str.{bytes_eq}
@@ -22,7 +21,6 @@ use Rattle.tree_model.specs.declared.tree.Found.TheVariants as found
 use Rattle.tree_model.specs.declared.tree.Link.{Link}
 use Rattle.tree_model.specs.declared.tree.Node.{Node}
 use Rattle.tree_model.proofs.ReadingLaws.{node_of-read}
-use Rattle.attr_store.specs.InUse.{IsDirectory}
 use Rattle.tree_read.specs.Kinds.{kind_of}
 use Rattle.tree_read.specs.Below.{held_below, kind_below}
 use Rattle.tree_read.specs.Nodes.{number_of}
@@ -30,6 +28,7 @@ use Rattle.tree_read.specs.Walks.{IsShownDirectory, found_by, listed_kind, passe
 use Rattle.tree_read.specs.declared.below.Below.{Below}
 use Rattle.tree_read.specs.declared.below.Below.TheVariants as below
 use Rattle.tree_read.specs.declared.walk.Reached.{Reached}
+use Rattle.volume_def.specs.Readable.{IsDirectory}
 use Rattle.file_record.specs.declared.base.BaseFile.{BaseFile}
 
 -- what is told of a result of no call

@@ -2,7 +2,7 @@
 use Rattle.std.specs.Prelude.{◌≡◌, ℕ, List, Option, Some, None, Result, Ok, Err, true, false}
 use Rattle.volume_def.specs.Files.{records_of}
 use Rattle.volume_def.specs.View.{VolumeView}
-use Rattle.attr_store.specs.InUse.{IsDirectory}
+use Rattle.volume_def.specs.Readable.{IsDirectory}
 use Rattle.tree_model.specs.Hidden.{is_hidden}
 use Rattle.tree_model.specs.Paths.{lookup}
 use Rattle.tree_model.specs.Tree.{Tree}

@@ -3,14 +3,14 @@ ghost use Rattle.std.specs.Prelude.{◌≡◌, IsTrue, OnOk, find, not};
 ghost use Rattle.std.specs.Ordering.{nat_cmp};
 ghost use Rattle.std.specs.BTreeMap.{get};
 ghost use Rattle.std.specs.Option.{option_copied, option_map};
-ghost use Rattle.volume_def.specs.Readable.{IsFile};
+ghost use Rattle.volume_def.specs.Readable.{IsFile, IsDirectory};
 ghost use Rattle.volume_def.specs.Sound.{IsSound};
 ghost use Rattle.volume_def.specs.View.{VolumeView};
 ghost use Rattle.mft_table.specs.Mft.{view};
 ghost use Rattle.tree_model.specs.Tree.{is_dos};
-ghost use Rattle.attr_store.specs.InUse.{IsDirectory, IsInUse};
 ghost use Rattle.tree_read.specs.Above.{AreAbove, leads_hidden, name_above};
 ghost use Rattle.tree_read.specs.Answered.{Finds};
+ghost use Rattle.mft_table.specs.InUse.{IsInUse};
 
 use crate::load::load_file;
 use crate::outline::links_of;

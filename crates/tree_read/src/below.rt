@@ -3,7 +3,6 @@ ghost use Rattle.std.specs.Prelude.{◌≡◌, ◌-◌, All, Contains, IfOk, IfS
 ghost use Rattle.std.specs.List.{list_any};
 ghost use Rattle.mft_table.specs.Mft.{view};
 ghost use Rattle.tree_model.specs.Reading.{directory_links};
-ghost use Rattle.attr_store.specs.InUse.{IsDirectory, IsInUse};
 ghost use Rattle.tree_read.specs.Above.{AreAbove, leads_hidden};
 ghost use Rattle.tree_read.specs.Answered.{Finds};
 ghost use Rattle.tree_read.specs.Below.{IsBelow, held_below, kind_below};
@@ -11,6 +10,8 @@ ghost use Rattle.tree_read.specs.FileLinks.{has_point_held};
 ghost use Rattle.tree_read.specs.Kinds.{Directory, Point};
 ghost use Rattle.tree_read.specs.Nodes.{number_of};
 ghost use Rattle.tree_read.specs.Walks.{IsShownDirectory};
+ghost use Rattle.volume_def.specs.Readable.{IsDirectory};
+ghost use Rattle.mft_table.specs.InUse.{IsInUse};
 
 use crate::above::Above;
 use crate::load::load_file;

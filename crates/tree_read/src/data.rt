@@ -2,9 +2,9 @@
 ghost use Rattle.std.specs.Prelude.{◌≡◌, ◌<◌, ◌==◌, ◌&&◌, ◌/◌, ◌%◌, nat_lt, ℕ, [], IfErr, IfOk, IsSome, IsTrue, List, find, length};
 ghost use Rattle.mft_table.specs.Mft.{view};
 ghost use Rattle.volume_def.specs.View.{VolumeView};
-ghost use Rattle.attr_store.specs.InUse.{IsInUse};
 ghost use Rattle.ntfs_def.specs.ReparsePoint.{data_place};
 ghost use Rattle.tree_model.specs.Reading.{padded, point_in, read};
+ghost use Rattle.mft_table.specs.InUse.{IsInUse};
 ghost use Rattle.ntfs_def.specs.declared.kinds.TheConstants.{REPARSE_POINT};
 ghost use Rattle.volume_def.specs.Files.{is_of};
 ghost use Rattle.tree_read.specs.declared.stop.Stop.TheVariants as stop;

@@ -8,12 +8,13 @@ ghost use Rattle.tree_model.specs.Hidden.{is_hidden};
 ghost use Rattle.tree_model.specs.Ordered.{in_order};
 ghost use Rattle.tree_model.specs.Reading.{read};
 ghost use Rattle.tree_model.specs.Tree.{link_above};
-ghost use Rattle.attr_store.specs.InUse.{IsDirectory, IsInUse};
 ghost use Rattle.tree_read.specs.Above.{AreAbove};
 ghost use Rattle.tree_read.specs.FileLinks.{links_held};
 ghost use Rattle.tree_read.specs.Answered.{Answered, Finds};
 ghost use Rattle.tree_read.specs.Lines.{shown_in};
 ghost use Rattle.tree_read.specs.Nodes.{IsNodeHeld, number_of};
+ghost use Rattle.volume_def.specs.Readable.{IsDirectory};
+ghost use Rattle.mft_table.specs.InUse.{IsInUse};
 
 use crate::above::Above;
 use crate::line::Line;

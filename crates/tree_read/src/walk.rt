@@ -5,13 +5,13 @@ ghost use Rattle.mft_table.specs.Mft.{view};
 ghost use Rattle.tree_model.specs.Answers.{listed, listing};
 ghost use Rattle.tree_model.specs.Paths.{found_file, lookup, passed, reached, resolve};
 ghost use Rattle.tree_model.specs.Reading.{directory_links, read};
-ghost use Rattle.attr_store.specs.InUse.{IsInUse};
 ghost use Rattle.tree_read.specs.Above.{AreAbove};
 ghost use Rattle.tree_read.specs.Answered.{Answered, Finds, with_ok};
 ghost use Rattle.tree_read.specs.Below.{kind_below};
 ghost use Rattle.tree_read.specs.Nodes.{IsFileHeld, IsNodeHeld, number_of};
 ghost use Rattle.tree_read.specs.Standings.{IsStanding, led_to, number_within};
 ghost use Rattle.tree_read.specs.Walks.{IsDirectoryHeld, IsShownDirectory, found_by, listed_kind, passed_below, reached_below, sought_at};
+ghost use Rattle.mft_table.specs.InUse.{IsInUse};
 
 use crate::above::Above;
 use crate::below::{Below, load_below};

@@ -1,9 +1,9 @@
 use Rattle.std.proofs.Common.{◌≡◌, ◌-◌, suc, Some, None, refl, sym, subst, ◌∙◌, arith}
 use Rattle.mft_table.specs.Mft.{view}
-use Rattle.attr_store.specs.InUse.{IsDirectory}
 use Rattle.tree_read.proofs.GivesLaws.{at_once, both, handed-on, tells}
 use Rattle.tree_read.proofs.KindLaws.{IsUp, up-begins, up-ends, up-goes, up-known}
 use Rattle.tree_read.proofs.below.leads_to_system.Goals as goal
+use Rattle.volume_def.specs.Readable.{IsDirectory}
 
 pub steps-init : goal.steps-init
 steps-init g c = at_once refl (λ told. (

@@ -1,9 +1,9 @@
 use Rattle.std.proofs.Common.{ℕ, Ok}
-use Rattle.attr_store.specs.InUse.{IsDirectory}
 use Rattle.tree_read.specs.Above.{AreAbove}
 use Rattle.tree_read.specs.Answered.{Finds}
 use Rattle.tree_read.proofs.KindLaws.{IsUp}
 use Rattle.tree_read.proofs.below.leads_to_system.Given as goal
+use Rattle.volume_def.specs.Readable.{IsDirectory}
 
 -- what is left to climb leads where all of it does
 abbrev pub invariant-steps : goal.invariant-steps

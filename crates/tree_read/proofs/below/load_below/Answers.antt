@@ -3,7 +3,7 @@ use Rattle.std.specs.List.{All, list_any}
 use Rattle.volume_def.specs.Files.{records_of}
 use Rattle.file_record.specs.declared.base.BaseFile.{BaseFile}
 use Rattle.mft_table.specs.Mft.{view}
-use Rattle.attr_store.specs.InUse.{IsDirectory}
+use Rattle.volume_def.specs.Readable.{IsDirectory}
 use Rattle.tree_model.specs.Hidden.{leads_to_system}
 use Rattle.tree_model.specs.declared.tree.Link.{Link}
 use Rattle.tree_read.specs.Kinds as kind

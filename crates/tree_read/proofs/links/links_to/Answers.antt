@@ -2,7 +2,7 @@ use Rattle.std.proofs.Common.{◌≡◌, Ok, false, map, refl, sym, ap, subst, �
 use Rattle.std.specs.List.{All}
 use Rattle.volume_def.specs.Files.{records_of}
 use Rattle.mft_table.specs.Mft.{mounted_of, view}
-use Rattle.attr_store.specs.InUse.{IsDirectory}
+use Rattle.volume_def.specs.Readable.{IsDirectory}
 use Rattle.tree_model.specs.Answers.{path_above, shown_link, shown_links}
 use Rattle.tree_model.specs.Hidden.{is_hidden}
 use Rattle.tree_model.specs.Ordered.{in_order}

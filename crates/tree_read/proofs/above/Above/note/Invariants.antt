@@ -1,9 +1,9 @@
 use Rattle.std.proofs.Common.{◌≡◌}
 use Rattle.volume_def.specs.Sound.{IsSound}
 use Rattle.volume_def.specs.View.{VolumeView}
-use Rattle.attr_store.specs.InUse.{IsDirectory}
 use Rattle.tree_read.specs.Above.{AreAbove, leads_hidden}
 use Rattle.tree_read.proofs.above.Above.note.Given as goal
+use Rattle.volume_def.specs.Readable.{IsDirectory}
 
 -- what is noted is so, and the next one leads where the first one does
 abbrev pub invariant-steps : goal.invariant-steps
