@@ -21,7 +21,9 @@ use Rattle.volume_def.specs.Table.{cluster_bytes}
 use Rattle.volume_def.specs.Values.{spot_at, value_of_parts, value_on}
 use Rattle.volume_def.specs.View.{VolumeView}
 use Rattle.volume_format.specs.Items.{case_of}
-use Rattle.volume_format.specs.Plan.{Plan, clusters_needed, extend_entries, index_name, last_above, node_at, node_len, part, root_value, stream_part}
+use Rattle.volume_format.specs.Plan.{Plan, clusters_needed, extend_entries, index_name, node_at, node_len, root_value, stream_part}
+use Rattle.record_bytes.specs.Entries.{last_above}
+use Rattle.record_bytes.specs.AttributeBytes.{part}
 use Rattle.volume_format.specs.Planned.{IsPlanned}
 use Rattle.volume_format.proofs.CaseTable.{volume_fold-planned}
 use Rattle.volume_format.proofs.Contents.{value_on-stream}
