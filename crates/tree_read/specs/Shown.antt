@@ -5,7 +5,7 @@ use Rattle.std.specs.Option.{option_map_or}
 use Rattle.tree_model.specs.Answers.{listing, object_id, range_of, shown_links, shown_stream, stat_of}
 use Rattle.tree_model.specs.Cases.{is_wide}
 use Rattle.tree_model.specs.Paths.{and_then, found_file, resolve}
-use Rattle.tree_model.specs.Plain.{point_shown, stream_of}
+use Rattle.tree_model.specs.Shown.{point_shown, stream_of}
 use Rattle.tree_model.specs.Refusals.{Facts}
 use Rattle.tree_model.specs.Subjects.{is_directory, stream_name}
 use Rattle.tree_model.specs.Tree.{Tree, node_of}

@@ -2,7 +2,7 @@
 ghost use Rattle.std.specs.Prelude.{◌≡◌, IfSome, IsTrue};
 ghost use Rattle.mft_table.specs.Mft.{view};
 ghost use Rattle.tree_model.specs.Reading.{read};
-ghost use Rattle.attr_store.specs.InUse.{IsInUse};
+ghost use Rattle.mft_table.specs.InUse.{IsInUse};
 ghost use Rattle.tree_read.specs.Answered.{Answered};
 ghost use Rattle.tree_read.specs.Nodes.{IsNodeHeld, number_of};
 ghost use Rattle.tree_read.specs.Shown.{links_shown, ls_shown, of_path, shown_by};
