@@ -4,6 +4,7 @@ ghost use Rattle.attr_list.specs.Left.{holders_left};
 ghost use Rattle.attr_list.specs.View.{holders_of};
 
 use crate::{Holders, ListView};
+use ntfs_def::list_entry;
 use vol_bytes::{u16_at, u64_at};
 
 impl<'r> ListView<'r> {
@@ -35,9 +36,9 @@ impl<'r> Iterator for Holders<'r> {
         if self.next == self.count {
             return None;
         }
-        let holder = u64_at(self.bytes, self.at + 0x10);
+        let holder = u64_at(self.bytes, self.at + list_entry::HOLDER);
         self.next += 1;
-        self.at += u16_at(self.bytes, self.at + 0x04) as usize;
+        self.at += u16_at(self.bytes, self.at + list_entry::LEN) as usize;
         Some(holder)
     }
 }

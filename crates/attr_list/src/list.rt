@@ -5,7 +5,7 @@ ghost use Rattle.attr_list.specs.View.{Refuses, IsEntryOf, entries_of, value_of}
 
 use crate::shape::count_of;
 use crate::{Entry, ListNo, ListView};
-use ntfs_def::read_units;
+use ntfs_def::{list_entry, read_units};
 use std::alloc::{AllocError, Global};
 use vol_bytes::{Name, u16_at, u32_at, u64_at};
 
@@ -14,14 +14,14 @@ fn entry_at(alloc: Global, bytes: &[u8], at: usize) -> Result<Entry, AllocError>
     requires { IsListEntry bytes.now at }
     ensures { IfOk result (IsEntryOf (list_entry_at bytes.now at)) }
 {
-    let from = at + 0x1A;
-    let end = from + 2 * bytes[at + 0x06] as usize;
+    let from = at + list_entry::NAME;
+    let end = from + 2 * bytes[at + list_entry::NAME_LEN] as usize;
     Ok(Entry {
         kind: u32_at(bytes, at),
         name: Name::from_vec(read_units(alloc, &bytes[from..end])?),
-        first: u64_at(bytes, at + 0x08),
-        holder: u64_at(bytes, at + 0x10),
-        id: u16_at(bytes, at + 0x18),
+        first: u64_at(bytes, at + list_entry::FIRST),
+        holder: u64_at(bytes, at + list_entry::HOLDER),
+        id: u16_at(bytes, at + list_entry::ID),
     })
 }
 
@@ -54,7 +54,7 @@ impl<'r> ListView<'r> {
     {
         let mut at = 0;
         for k in 0..i {
-            at += u16_at(self.bytes, at + 0x04) as usize;
+            at += u16_at(self.bytes, at + list_entry::LEN) as usize;
         }
         at
     }

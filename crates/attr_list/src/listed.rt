@@ -5,6 +5,7 @@ ghost use Rattle.attr_list.specs.Left.{entries_left};
 ghost use Rattle.attr_list.specs.View.{entries_of, entry_shown};
 
 use crate::{Entries, EntryView, ListView};
+use ntfs_def::list_entry;
 use vol_bytes::{u16_at, u32_at, u64_at};
 
 // The entry at a place.
@@ -12,14 +13,14 @@ fn entry_view(bytes: &[u8], at: usize) -> EntryView<'_>
     requires { IsListEntry bytes.now at }
     ensures { entry_shown result ≡ list_entry_at bytes.now at }
 {
-    let from = at + 0x1A;
-    let end = from + 2 * bytes[at + 0x06] as usize;
+    let from = at + list_entry::NAME;
+    let end = from + 2 * bytes[at + list_entry::NAME_LEN] as usize;
     EntryView {
         kind: u32_at(bytes, at),
         name: &bytes[from..end],
-        first: u64_at(bytes, at + 0x08),
-        holder: u64_at(bytes, at + 0x10),
-        id: u16_at(bytes, at + 0x18),
+        first: u64_at(bytes, at + list_entry::FIRST),
+        holder: u64_at(bytes, at + list_entry::HOLDER),
+        id: u16_at(bytes, at + list_entry::ID),
     }
 }
 
@@ -54,7 +55,7 @@ impl<'r> Iterator for Entries<'r> {
         }
         let entry = entry_view(self.bytes, self.at);
         self.next += 1;
-        self.at += u16_at(self.bytes, self.at + 0x04) as usize;
+        self.at += u16_at(self.bytes, self.at + list_entry::LEN) as usize;
         Some(entry)
     }
 }

@@ -5,10 +5,11 @@ ghost use Rattle.ntfs_def.specs.AttributeList.{HasListShape, IsListEntry};
 ghost use Rattle.attr_list.specs.View.{Refuses};
 
 use crate::ListNo;
+use ntfs_def::list_entry;
 use vol_bytes::u16_at;
 
 // The bytes of an entry before its name.
-const HEADER: usize = 0x1A;
+const HEADER: usize = list_entry::NAME;
 
 fn is_entry(bytes: &[u8], at: usize) -> bool
     requires { at ≤ length bytes.now }
@@ -18,9 +19,9 @@ fn is_entry(bytes: &[u8], at: usize) -> bool
     if room < HEADER {
         return false;
     }
-    let len = u16_at(bytes, at + 0x04) as usize;
-    let units = bytes[at + 0x06] as usize;
-    let name = bytes[at + 0x07] as usize;
+    let len = u16_at(bytes, at + list_entry::LEN) as usize;
+    let units = bytes[at + list_entry::NAME_LEN] as usize;
+    let name = bytes[at + list_entry::NAME_OFFSET] as usize;
     name == HEADER && HEADER + 2 * units <= len && len <= room
 }
 
@@ -35,7 +36,7 @@ pub fn count_of(bytes: &[u8]) -> Result<usize, ListNo>
         if !is_entry(bytes, at) {
             return Err(ListNo::Shape { at });
         }
-        at += u16_at(bytes, at + 0x04) as usize;
+        at += u16_at(bytes, at + list_entry::LEN) as usize;
         count += 1;
     }
     Ok(count)

@@ -6,11 +6,11 @@ use Rattle.std.proofs.lemmas.List.{drop_all}
 use Rattle.ntfs_def.specs.Attribute.{Attribute, Body, NonResident, Resident, attributes, value_of}
 use Rattle.volume_def.specs.Files.{Part, content_of, content_value, is_of, part_of}
 use Rattle.volume_def.specs.Values.{first_part, is_first}
-use Rattle.volume_def.proofs.FindLaws.{find-filter}
+use Rattle.list_laws.proofs.FindLaws.{find-filter}
 use Rattle.file_record.specs.declared.held.Held.{Held}
 use Rattle.file_record.specs.declared.parts.FileParts.{FileParts}
 use Rattle.file_record.specs.Held.{attributes_held, attributes_in, held_of, parts_held, parts_of}
-use Rattle.attr_store.specs.Index.{attribute_held}
+use Rattle.attr_store.specs.First.{attribute_held}
 
 -- Each part is the attribute at its place, as some record holds it.
 abbrev pub AreHeld : List Attribute → List Part → Type 0

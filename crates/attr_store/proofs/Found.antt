@@ -8,8 +8,8 @@ use Rattle.std.proofs.lemmas.Option.{get_or_from_slice_get, slice_get_within}
 use Rattle.ntfs_def.specs.Attribute.{Attribute, Body, ExtentHeader, NonResident, Resident, attributes}
 use Rattle.volume_def.specs.Files.{Part, content_of, content_extent, is_of, part_of}
 use Rattle.volume_def.specs.Spans.{is_within, spans_vcn}
-use Rattle.volume_def.proofs.FindLaws.{find-filter, find-found}
-use Rattle.volume_def.proofs.MemberLaws.{Contains-filter}
+use Rattle.list_laws.proofs.FindLaws.{find-filter, find-found}
+use Rattle.list_laws.proofs.MemberLaws.{Contains-filter}
 use Rattle.file_record.specs.declared.parts.FileParts.{FileParts}
 use Rattle.file_record.specs.declared.held.Held.{Held}
 use Rattle.file_record.specs.Held.{attributes_held, attributes_in, held_of, parts_held, parts_of}

@@ -2,13 +2,7 @@ pub mod Cases
 pub mod Filled
 pub mod FewerReads
 pub mod Found
-pub mod RecordSteps
 pub mod Spanned
 pub mod StoredLaws
 pub mod FirstLaws
-pub mod IndexRecordLaws
 pub mod Values
-pub mod HeldIndexLaws
-pub mod ToldLaws
-pub mod UsedRecord
-pub mod SeenLaws

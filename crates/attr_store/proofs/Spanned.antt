@@ -19,7 +19,7 @@ use Rattle.volume_def.specs.Values.{byte_there, first_vcn_of, holds_vcn, pieces_
 use Rattle.volume_def.proofs.Codes.{part_code}
 use Rattle.volume_def.proofs.CodedLaws.{SameItems-Contains}
 use Rattle.volume_def.proofs.ExtentLaws.{spot_at-part}
-use Rattle.volume_def.proofs.MemberLaws.{Contains-nil, Contains-only}
+use Rattle.list_laws.proofs.MemberLaws.{Contains-nil, Contains-only}
 use Rattle.volume_def.proofs.SpanLaws.{several-cover, spot-spans, whole-spans}
 use Rattle.mft_table.proofs.StreamBytes.{bytes-same, bytes-zero}
 use Rattle.mft_table.specs.Streams.{IsSeam}

@@ -19,14 +19,14 @@ use Rattle.volume_def.specs.StreamSize.{real_size}
 use Rattle.volume_def.specs.Table.{cluster_bytes}
 use Rattle.volume_def.specs.Values.{attribute_value, first_part, first_vcn_of, is_first, spot_at, spot_by, value_by, value_byte, value_of_parts, value_on, value_over}
 use Rattle.volume_def.specs.View.{VolumeView}
-use Rattle.volume_def.proofs.FindLaws.{find-found}
-use Rattle.volume_def.proofs.MemberLaws.{Contains-from_filter}
+use Rattle.list_laws.proofs.FindLaws.{find-found}
+use Rattle.list_laws.proofs.MemberLaws.{Contains-from_filter}
 use Rattle.volume_def.proofs.ReadableLaws.{readable-stream}
 use Rattle.volume_def.proofs.SpanLaws.{spot-spans}
 use Rattle.file_record.specs.declared.parts.FileParts.{FileParts}
 use Rattle.file_record.specs.Held.{AreParts, file_number, parts_held}
-use Rattle.attr_store.specs.declared.index.Stored.{Stored}
-use Rattle.attr_store.specs.Index.{IsStored, attribute_held}
+use Rattle.attr_store.specs.declared.stored.Stored.{Stored}
+use Rattle.attr_store.specs.First.{IsStored, attribute_held}
 use Rattle.attr_store.specs.Sought.{parts_held_like, spot_in_text}
 use Rattle.attr_store.proofs.Found.{both-true}
 use Rattle.attr_store.proofs.Spanned.{spot-extent}

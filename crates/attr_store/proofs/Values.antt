@@ -18,9 +18,9 @@ use Rattle.volume_def.specs.Table.{cluster_bytes}
 use Rattle.volume_def.specs.View.{VolumeView}
 use Rattle.volume_def.proofs.Codes.{part_code}
 use Rattle.volume_def.proofs.CodedLaws.{SameItems-Contains}
-use Rattle.volume_def.proofs.MemberLaws.{Contains-filter, Contains-head, Contains-nil, Contains-only}
+use Rattle.list_laws.proofs.MemberLaws.{Contains-filter, Contains-head, Contains-nil, Contains-only}
 use Rattle.volume_def.proofs.ReadableLaws.{readable-part, readable-stream}
-use Rattle.volume_def.proofs.SameItemsLaws.{SameItems-sym}
+use Rattle.list_laws.proofs.SameItemsLaws.{SameItems-sym}
 use Rattle.file_record.specs.declared.parts.FileParts.{FileParts}
 use Rattle.file_record.specs.Held.{AreParts, file_number, parts_held}
 use Rattle.attr_store.specs.Sought.{parts_held_like}

@@ -1,7 +1,2 @@
 pub mod Sought
-pub mod Index
-pub mod Seen
-pub mod IndexRecords
-pub mod InUse
-pub mod IndexBlocks
-pub mod IndexBlocksLaws
+pub mod First

@@ -1,13 +1,12 @@
 //! The part of an attribute that tells its sizes, sought by type and name among all parts of its file.
 ghost use Rattle.std.specs.Prelude.{◌≡◌, ◌∷◌, ◌&&◌, ℕ, List, None, Some, slice_get};
-ghost use Rattle.attr_view.specs.View.{attribute_of};
 ghost use Rattle.volume_def.specs.BitmapClauses.{written_in};
 ghost use Rattle.volume_def.specs.Files.{Part, content_of, is_of, part_of};
 ghost use Rattle.volume_def.specs.StreamSize.{real_size};
 ghost use Rattle.volume_def.specs.Values.{is_first};
+ghost use Rattle.attr_view.specs.View.{attribute_of};
 ghost use Rattle.file_record.specs.Held.{parts_held};
-ghost use Rattle.attr_store.specs.Index.{TellsFirst};
-ghost use Rattle.attr_store.specs.Seen.{FirstSeen};
+ghost use Rattle.attr_store.specs.First.{TellsFirst, FirstMet};
 
 use attr_view::AttrView;
 use file_record::FileParts;
@@ -82,8 +81,8 @@ pub fn first_here(
 ) -> Option<FirstPart>
     ensures { (file : FileParts) (n : ℕ) (left : List Part)
         → slice_get (parts_held file) index ≡ Some (part_of n (attribute_of attribute.now))
-        → FirstSeen file kind name.now (part_of n (attribute_of attribute.now) ∷ left) None
-        → FirstSeen file kind name.now left result }
+        → FirstMet file kind name.now (part_of n (attribute_of attribute.now) ∷ left) None
+        → FirstMet file kind name.now left result }
 {
     if !tells_sizes(attribute, kind, name) {
         return None;

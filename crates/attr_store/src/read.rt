@@ -2,12 +2,12 @@
 ghost use Rattle.std.specs.Prelude.{◌≡◌, ◌+◌, ◌-◌, ◌*◌, ◌/◌, ◌<◌, ◌≤◌, ◌^◌, ◌++◌, ℕ, IfErr, IfOk, IfSome, IsTrue, MatchResult, OnOk, drop, length, min, slice_get, slice_range};
 ghost use Rattle.ntfs_def.specs.Attribute.{ExtentHeader};
 ghost use Rattle.ntfs_def.specs.Runs.{spot_of};
-ghost use Rattle.attr_view.specs.View.{attribute_of};
 ghost use Rattle.volume_def.specs.ExtentsClause.{AreAttribute};
 ghost use Rattle.volume_def.specs.Readable.{IsFile, WhereReadable};
 ghost use Rattle.volume_def.specs.StreamSize.{IsFirstExtent};
 ghost use Rattle.volume_def.specs.Values.{attribute_value, pieces_touched, spot_at, stored_bytes, value_of_parts};
 ghost use Rattle.volume_def.specs.Table.{cluster_bytes};
+ghost use Rattle.attr_view.specs.View.{attribute_of};
 ghost use Rattle.mft_table.specs.Mft.{MftReads, faults_of, view};
 ghost use Rattle.mft_table.specs.Streams.{IsSeam};
 ghost use Rattle.file_record.specs.FileNos.{CountsNo, IsReadNo};
@@ -152,7 +152,7 @@ fn read_extent<D: Disk>(
 }
 
 // Bytes of a stream from byte `at` on, over all of its extents.
-fn read_stored<D: Disk>(
+fn read_stream<D: Disk>(
     alloc: Global,
     mft: &mut Mft<'_, D>,
     file: &FileParts,
@@ -223,7 +223,7 @@ fn read_clusters<D: Disk>(
 {
     let initialized = initialized_size(file, wanted);
     let written = written_len(initialized, at, into.len());
-    read_stored(alloc, mft, file, wanted, at, &mut into[..written])?;
+    read_stream(alloc, mft, file, wanted, at, &mut into[..written])?;
     into[written..].fill(0);
     Ok(())
 }

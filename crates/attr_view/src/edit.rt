@@ -5,6 +5,7 @@ ghost use Rattle.ntfs_def.specs.Record.{used_size};
 ghost use Rattle.attr_view.specs.Edit.{IsInsertedAt, PutsFields, next_id_after};
 
 use crate::RecordHeader;
+use ntfs_def::{attribute_header, record_header};
 use vol_bytes::{put_u16, put_u32, put_u64, u16_at, u32_at};
 
 // Moves the bytes from `at` up to `used` on by `by`.
@@ -48,12 +49,15 @@ pub fn insert_bytes(block: &mut [u8], at: usize, bytes: &[u8])
     requires fits { used_size block.old + length bytes.now ≤ 1024 }
     ensures { IsInsertedAt block.old block.new bytes.now at }
 {
-    let used = u32_at(block, 0x18) as usize;
-    let next = next_id_after(u16_at(block, 0x28), u16_at(bytes, 0x0E));
+    let used = u32_at(block, record_header::USED_SIZE) as usize;
+    let next = next_id_after(
+        u16_at(block, record_header::NEXT_ID),
+        u16_at(bytes, attribute_header::ID),
+    );
     make_room(block, at, used, bytes.len());
     put_bytes(block, at, bytes);
-    put_u32(block, 0x18, (used + bytes.len()) as u32);
-    put_u16(block, 0x28, next);
+    put_u32(block, record_header::USED_SIZE, (used + bytes.len()) as u32);
+    put_u16(block, record_header::NEXT_ID, next);
 }
 
 // Puts the fields of the header that an owner chooses.
@@ -61,8 +65,8 @@ pub fn put_header(block: &mut [u8], header: RecordHeader)
     requires { length block.old ≡ 1024 }
     ensures { PutsFields block.old block.new header }
 {
-    put_u16(block, 0x10, header.sequence);
-    put_u16(block, 0x12, header.links);
-    put_u16(block, 0x16, header.flags);
-    put_u64(block, 0x20, header.base);
+    put_u16(block, record_header::SEQUENCE, header.sequence);
+    put_u16(block, record_header::LINKS, header.links);
+    put_u16(block, record_header::FLAGS, header.flags);
+    put_u64(block, record_header::BASE, header.base);
 }

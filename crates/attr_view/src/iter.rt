@@ -4,6 +4,7 @@ ghost use Rattle.attr_view.specs.Left.{attributes_left};
 ghost use Rattle.attr_view.specs.View.{attributes_of};
 
 use crate::{AttrView, Attributes, RecordView};
+use ntfs_def::attribute_header;
 use vol_bytes::u32_at;
 
 impl<'r> RecordView<'r> {
@@ -40,7 +41,7 @@ impl<'r> Iterator for Attributes<'r> {
             at: self.at,
         };
         self.next += 1;
-        self.at += u32_at(self.block, attribute.at + 0x04) as usize;
+        self.at += u32_at(self.block, attribute.at + attribute_header::LEN) as usize;
         Some(attribute)
     }
 }

@@ -10,6 +10,7 @@ use crate::edit::{insert_bytes, put_header};
 use crate::shape::place_in;
 use crate::{RecordView, ViewNo};
 use ntfs_def::lengths::RECORD;
+use ntfs_def::record_header;
 use vol_bytes::u32_at;
 
 /// The fields of a record's header that an owner chooses.
@@ -44,7 +45,7 @@ fn insert_in(block: &mut [u8; 1024], i: usize, attr: &[u8]) -> Result<(), ViewNo
     ensures kept { OnErr result (block.new ≡ block.old) }
 {
     let need = attr.len();
-    let free = RECORD - u32_at(block, 0x18) as usize;
+    let free = RECORD - u32_at(block, record_header::USED_SIZE) as usize;
     if need > free {
         return Err(ViewNo::Full { need, free });
     }

@@ -8,17 +8,17 @@ use Rattle.ntfs_def.specs.Node.{Item}
 use Rattle.ntfs_def.specs.Units.{wide}
 use Rattle.volume_def.specs.CaseClause.{case_parts}
 use Rattle.volume_def.specs.IndexesClause.{IndexParts, IsDirectoryIndex}
-use Rattle.volume_def.specs.SameItems.{SameItems}
+use Rattle.list_laws.specs.SameItems.{SameItems}
 use Rattle.volume_def.specs.Table.{cluster_bytes}
 use Rattle.volume_def.specs.Values.{value_on}
 use Rattle.volume_def.specs.View.{VolumeView}
 use Rattle.file_record.specs.declared.parts.FileParts.{FileParts}
 use Rattle.file_record.specs.Held.{AreParts, file_number}
-use Rattle.attr_store.specs.declared.index.FoundIndex.{FoundIndex}
-use Rattle.attr_store.specs.Index.{HasParts, IsFound, index_held}
-use Rattle.attr_store.specs.IndexRecords.{index_record_on}
-use Rattle.attr_store.proofs.HeldIndexLaws.{index-held}
-use Rattle.attr_store.proofs.IndexRecordLaws.{records-of}
+use Rattle.index_store.specs.declared.index.FoundIndex.{FoundIndex}
+use Rattle.index_store.specs.Index.{HasParts, IsFound, index_held}
+use Rattle.index_store.specs.IndexRecords.{index_record_on}
+use Rattle.index_store.proofs.HeldIndexLaws.{index-held}
+use Rattle.index_store.proofs.IndexRecordLaws.{records-of}
 use Rattle.check_dirs.specs.declared.notes.NameNote.{NameNote}
 use Rattle.check_dirs.specs.Directory.{TellsNames}
 use Rattle.check_dirs.specs.Notes.{link_noted}

@@ -25,27 +25,28 @@ use Rattle.volume_def.specs.IndexesClause.{IndexParts, IsDirectoryIndex, IsViewI
 use Rattle.volume_def.specs.Readable.{IsReadableVolume}
 use Rattle.volume_def.specs.Table.{cluster_bytes}
 use Rattle.volume_def.specs.View.{VolumeView}
-use Rattle.volume_def.proofs.FindLaws.{count-none, count-some}
-use Rattle.volume_def.proofs.SameItemsLaws.{count-append}
-use Rattle.volume_facts.proofs.NameLaws.{name_of_part, names_among-append}
+use Rattle.list_laws.proofs.FindLaws.{count-none, count-some}
+use Rattle.list_laws.proofs.SameItemsLaws.{count-append}
+use Rattle.record_notes.proofs.NameLaws.{name_of_part, names_among-append}
 use Rattle.index_tree.specs.Walk.{items_in}
 use Rattle.attr_view.specs.declared.record_mut.RecordHeader.{RecordHeader}
 use Rattle.file_record.specs.Base.{HasBaseRecord, HasHeader}
 use Rattle.file_record.specs.declared.parts.FileParts.{FileParts}
 use Rattle.file_record.specs.Held.{AreParts, attributes_held, file_number, parts_held}
 use Rattle.file_record.proofs.RecordLaws.{some-value}
-use Rattle.attr_store.specs.Index.{HasParts, attribute_held, index_held}
-use Rattle.attr_store.specs.IndexRecords.{index_record_on}
+use Rattle.index_store.specs.Index.{HasParts, index_held}
+use Rattle.attr_store.specs.First.{attribute_held}
+use Rattle.index_store.specs.IndexRecords.{index_record_on}
 use Rattle.attr_store.proofs.FirstLaws.{AreHeld, AreHeld-file, file-values, of_name}
-use Rattle.attr_store.proofs.HeldIndexLaws.{index-held}
-use Rattle.attr_store.proofs.IndexRecordLaws.{records-of}
+use Rattle.index_store.proofs.HeldIndexLaws.{index-held}
+use Rattle.index_store.proofs.IndexRecordLaws.{records-of}
 use Rattle.check_dirs.specs.Files.{MeetsExtended, MeetsNames, MeetsSecured}
 use Rattle.check_dirs.specs.declared.notes.Notes.{Notes}
 use Rattle.check_dirs.specs.Directory.{TellsNames}
 use Rattle.check_dirs.specs.Notes.{AreNotes, notes_in}
 use Rattle.check_dirs.specs.OrderedIndex.{TellsIndex}
 use Rattle.check_dirs.specs.Records.{short_nodes}
-use Rattle.attr_store.specs.IndexBlocks.{IsHeldFile}
+use Rattle.index_store.specs.IndexBlocks.{IsHeldFile}
 use Rattle.check_dirs.proofs.NoteLaws.{value-held}
 use Rattle.check_dirs.proofs.VolumeLaws.{index_from_ordered, ordered_from_index}
 

@@ -20,7 +20,7 @@ use Rattle.volume_def.specs.FileNames.{names_among}
 use Rattle.volume_def.specs.Files.{Part, content_of, content_value, part_of}
 use Rattle.volume_def.specs.Table.{IsWellFormed}
 use Rattle.volume_def.specs.View.{VolumeView}
-use Rattle.volume_facts.proofs.NameLaws.{name_of_part, names_among-append}
+use Rattle.record_notes.proofs.NameLaws.{name_of_part, names_among-append}
 use Rattle.file_record.specs.declared.held.Held.{Held}
 use Rattle.file_record.specs.Held.{parts_of}
 use Rattle.file_record.proofs.RecordLaws.{some-value}

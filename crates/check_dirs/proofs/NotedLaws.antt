@@ -19,9 +19,9 @@ use Rattle.volume_def.specs.FileNames.{links_of_file, names_among, names_of}
 use Rattle.volume_def.specs.Files.{Record, is_base, is_directory, part_of, parts, record_of, record_on, records_of}
 use Rattle.volume_def.specs.Readable.{IsFile, IsReadableVolume}
 use Rattle.volume_def.specs.View.{VolumeView}
-use Rattle.volume_def.proofs.MemberLaws.{Contains-map}
-use Rattle.volume_facts.proofs.RecordsLaws.{flat_map-range_more}
-use Rattle.volume_facts.proofs.WantedLaws.{reference_in-made}
+use Rattle.list_laws.proofs.MemberLaws.{Contains-map}
+use Rattle.record_notes.proofs.RecordsLaws.{flat_map-range_more}
+use Rattle.file_clauses.proofs.WantedLaws.{reference_in-made}
 use Rattle.file_record.specs.declared.base.BaseFile.{BaseFile}
 use Rattle.file_record.specs.declared.held.Held.{Held}
 use Rattle.file_record.specs.Base.{HasBaseRecord, HasHeader}

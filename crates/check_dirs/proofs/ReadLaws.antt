@@ -6,7 +6,7 @@ use Rattle.ntfs_def.specs.Node.{Node, Whole, are_short, node_in, scan_node, shor
 use Rattle.index_node.specs.declared.NodeNo.{NodeNo}
 use Rattle.index_node.specs.declared.NodeNo.TheVariants.{Shape, Full}
 use Rattle.index_node.specs.View.{Refuses}
-use Rattle.attr_store.specs.IndexRecords.{Fetches}
+use Rattle.index_store.specs.IndexRecords.{Fetches}
 use Rattle.check_dirs.specs.Records.{Records, short_nodes}
 
 pub fetched_none : (here : Option (List ℕ)) (found : Bool) (into : List ℕ) → found ≡ false → Fetches here found into → here ≡ None

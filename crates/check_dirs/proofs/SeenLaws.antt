@@ -16,11 +16,11 @@ use Rattle.ntfs_def.specs.KeyOrder.{name_order}
 use Rattle.ntfs_def.specs.Node.{Item, item_in}
 use Rattle.ntfs_def.specs.Record.{Reference}
 use Rattle.ntfs_def.proofs.KeyOrderLaws.{name_ties}
-use Rattle.volume_def.specs.SameItems.{SameItems}
+use Rattle.list_laws.specs.SameItems.{SameItems}
 use Rattle.volume_def.proofs.CodedLaws.{SameItems-Contains}
-use Rattle.volume_def.proofs.FindLaws.{count-cons, count-no, count-yes, same_passing}
-use Rattle.volume_def.proofs.MemberLaws.{Contains-head}
-use Rattle.volume_def.proofs.SameItemsLaws.{SameItems-length, SameItems-sym, SameItems-trans, SameItems-same, count-append}
+use Rattle.list_laws.proofs.FindLaws.{count-cons, count-no, count-yes, same_passing}
+use Rattle.list_laws.proofs.MemberLaws.{Contains-head}
+use Rattle.list_laws.proofs.SameItemsLaws.{SameItems-length, SameItems-sym, SameItems-trans, SameItems-same, count-append}
 use Rattle.index_tree.specs.Walk.{items_in}
 use Rattle.check_dirs.specs.Entries.{AreNames, IsPlace, key_at}
 use Rattle.check_dirs.specs.Seen.{link_with, links_of_entries, marked}

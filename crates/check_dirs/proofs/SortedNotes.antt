@@ -14,7 +14,7 @@ use Rattle.volume_def.specs.IndexesClause.{MeetsIndexes}
 use Rattle.volume_def.specs.Readable.{IsFile}
 use Rattle.volume_def.specs.ReferencesClause.{MeetsReferences}
 use Rattle.volume_def.specs.View.{VolumeView}
-use Rattle.volume_facts.proofs.SplitLaws.{filter-between}
+use Rattle.record_notes.proofs.SplitLaws.{filter-between}
 use Rattle.check_dirs.specs.declared.notes.NameNote.{NameNote}
 use Rattle.check_dirs.specs.declared.notes.Notes.{Notes}
 use Rattle.check_dirs.specs.declared.noting.Noting.{Noting}

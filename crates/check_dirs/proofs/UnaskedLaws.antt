@@ -17,7 +17,7 @@ use Rattle.volume_def.specs.IndexesClause.{IsDirectoryIndex, KeyRule, MeetsIndex
 use Rattle.volume_def.specs.Readable.{IsFile}
 use Rattle.volume_def.specs.ReferencesClause.{HasRightReferences, MeetsReferences, NamesBase}
 use Rattle.volume_def.specs.View.{VolumeView}
-use Rattle.volume_def.proofs.FindLaws.{count-cons}
+use Rattle.list_laws.proofs.FindLaws.{count-cons}
 use Rattle.check_dirs.specs.Noted.{IsUnasked}
 
 -- WHERE THERE IS NO FILE

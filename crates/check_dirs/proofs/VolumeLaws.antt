@@ -9,12 +9,12 @@ use Rattle.ntfs_def.specs.Node.{Item, Node, short_node}
 use Rattle.ntfs_def.specs.declared.index.NodeForm.{NodeForm}
 use Rattle.ntfs_def.specs.declared.index.NodeForm.TheVariants.{Names}
 use Rattle.ntfs_def.specs.FileName.{link_of}
-use Rattle.volume_def.specs.SameItems.{SameItems}
+use Rattle.list_laws.specs.SameItems.{SameItems}
 use Rattle.volume_def.specs.IndexesClause.{HasIndex, IsDirectoryIndex, name_rule, IndexParts, IsIndexRecordAt, KeyRule, index_nodes, stored_index_record}
 use Rattle.volume_def.specs.View.{VolumeView}
 use Rattle.index_tree.proofs.MovedWalks.{walks_moved}
-use Rattle.attr_store.specs.Index.{HasParts}
-use Rattle.attr_store.specs.IndexRecords.{AreRecordsOf}
+use Rattle.index_store.specs.Index.{HasParts}
+use Rattle.index_store.specs.IndexRecords.{AreRecordsOf}
 use Rattle.check_dirs.specs.OfVolume.{HasNames, directory_parts, links_in}
 use Rattle.check_dirs.specs.OrderedIndex.{IndexesKind, IsOrderedIndex}
 use Rattle.check_dirs.specs.Records.{Records, short_nodes}

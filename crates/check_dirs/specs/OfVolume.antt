@@ -8,7 +8,7 @@ use Rattle.ntfs_def.specs.Units.{wide}
 use Rattle.volume_def.specs.FileNames.{is_in_directory, links}
 use Rattle.volume_def.specs.Files.{records_of}
 use Rattle.volume_def.specs.IndexesClause.{IndexParts, index_parts, name_rule}
-use Rattle.volume_def.specs.SameItems.{SameItems}
+use Rattle.list_laws.specs.SameItems.{SameItems}
 use Rattle.volume_def.specs.View.{VolumeView}
 use Rattle.check_dirs.specs.OrderedIndex.{IsOrderedIndex}
 

@@ -1,26 +1,26 @@
 -- What the clause on indexes asks of one index, by its root and the nodes that its records say.
 use Rattle.std.specs.Prelude.{◌≡◌, ℕ, List, Option, Some, None, Bool, All, IsTrue}
 use Rattle.std.specs.declared.cmp.Ordering.{Ordering}
-use Rattle.vol_bytes.specs.Field.{u32_at}
 use Rattle.ntfs_def.specs.declared.index.NodeForm.{NodeForm}
 use Rattle.ntfs_def.specs.declared.index.NodeForm.TheVariants.{Names, View}
 use Rattle.ntfs_def.specs.declared.kinds.TheConstants.{FILE_NAME}
 use Rattle.ntfs_def.specs.declared.lengths.TheConstants.{INDEX_RECORD}
+use Rattle.ntfs_def.specs.IndexRoot.{index_record_len, indexed_kind, key_collation}
 use Rattle.ntfs_def.specs.IndexTree.{Ascends, Nodes, Walks}
 use Rattle.ntfs_def.specs.Node.{Item, Node, short_node}
 use Rattle.volume_def.specs.IndexesClause.{KeyRule}
 use Rattle.index_tree.specs.Walk.{items_in}
 
--- The indexed type in the root, 0x00: of a directory that of names, and of a view index any.
+-- The indexed type in the root: of a directory that of names, and of a view index any.
 abbrev pub IndexesKind : NodeForm → List ℕ → Type 0
-IndexesKind Names root = u32_at root 0x00 ≡ FILE_NAME
+IndexesKind Names root = indexed_kind root ≡ FILE_NAME
 IndexesKind View root = Unit {0}
 
 -- what stands in front of the root's index header: also its collation, and the size of its records
 pub record HasFields (form : NodeForm) (collation : ℕ) (root : List ℕ) : Type 0 where
   pub kind : IndexesKind form root
-  pub collates : u32_at root 0x04 ≡ collation
-  pub record_size : u32_at root 0x08 ≡ INDEX_RECORD
+  pub collates : key_collation root ≡ collation
+  pub record_size : index_record_len root ≡ INDEX_RECORD
 
 -- THE CLAUSE: these fields, and the root says a node of short entries, under it each record stands once in a tree of at most sixteen nodes
 -- on a way, whose leaves have one depth, and the items of its walk are these; their keys are valid and ascend.

@@ -2,7 +2,7 @@
 use Rattle.std.specs.Prelude.{◌≡◌, ℕ, List, [], ◌∷◌, Bool, length, map, if◌then◌else◌}
 use Rattle.ntfs_def.specs.FileName.{Link, link_of, name_in}
 use Rattle.ntfs_def.specs.Record.{reference_in}
-use Rattle.volume_def.specs.SameItems.{SameItems}
+use Rattle.list_laws.specs.SameItems.{SameItems}
 use Rattle.index_tree.specs.Walk.{items_in}
 use Rattle.check_dirs.specs.declared.seen.Seen.{Seen}
 

@@ -1,7 +1,7 @@
 //! The index records of one index, of which any may be missing.
 ghost use Rattle.std.specs.Prelude.{◌≡◌, ℕ, ◌+◌, ◌≤◌, List, Option, IfOk, MatchResult};
 ghost use Rattle.vol_disk.specs.Contents.{WhereTold};
-ghost use Rattle.attr_store.specs.IndexRecords.{Fetches};
+ghost use Rattle.index_store.specs.IndexRecords.{Fetches};
 ghost use Rattle.check_dirs.specs.Records.{CountsNo};
 
 use crate::CheckNo;

@@ -3,7 +3,7 @@ ghost use Rattle.std.specs.Prelude.{◌≡◌, ◌↔◌, ◌++◌, ◌∷◌, [
 ghost use Rattle.ntfs_def.specs.FileName.{Link, is_name_key, key_units, link_of};
 ghost use Rattle.ntfs_def.specs.KeyOrder.{fold_of};
 ghost use Rattle.ntfs_def.specs.Node.{item_in};
-ghost use Rattle.volume_def.specs.SameItems.{SameItems};
+ghost use Rattle.list_laws.specs.SameItems.{SameItems};
 ghost use Rattle.check_dirs.specs.Entries.{AreNames, IsWhole};
 ghost use Rattle.check_dirs.specs.Seen.{HasMarks, IsMet, link_with, links_of_entries};
 

@@ -3,16 +3,16 @@ ghost use Rattle.std.specs.Prelude.{◌≡◌, ℕ, IfOk, IfSome, IsTrue, MatchR
 ghost use Rattle.std.specs.Option.{option_map};
 ghost use Rattle.index_tree.specs.Walk.{items_in};
 ghost use Rattle.mft_table.specs.Mft.{MftReads, faults_of, view};
-ghost use Rattle.attr_store.specs.Index.{IsFound, index_held};
-ghost use Rattle.attr_store.specs.IndexBlocks.{IsHeldFile};
-ghost use Rattle.attr_store.specs.IndexRecords.{index_record_on};
+ghost use Rattle.index_store.specs.Index.{IsFound, index_held};
+ghost use Rattle.index_store.specs.IndexBlocks.{IsHeldFile};
+ghost use Rattle.index_store.specs.IndexRecords.{index_record_on};
 ghost use Rattle.check_dirs.specs.Entries.{AreOrdered, AreWhole};
 ghost use Rattle.check_dirs.specs.OrderedIndex.{TellsIndex, key_rule};
 ghost use Rattle.check_dirs.specs.Records.{CountsNo, short_nodes};
 
 use crate::check::check_index;
 use crate::{CheckNo, IndexRecords};
-use attr_store::{FoundIndex, IndexBlocks, read_index_record};
+use index_store::{FoundIndex, IndexBlocks, read_index_record};
 use collation::Collation;
 use file_record::FileParts;
 use mft_table::Mft;
@@ -25,7 +25,7 @@ impl<D: Disk> IndexRecords for IndexBlocks<'_, '_, D> {
     ghost use Rattle.std.specs.Prelude.{◌+◌, refl};
     ghost use Rattle.std.proofs.Common.{◌∙◌, le_refl};
     ghost use Rattle.mft_table.proofs.StreamReads.{MftReads-none, MftReads-then};
-    ghost use Rattle.attr_store.specs.IndexBlocks.{IsReady, OnlyReads, records_under, sectors_under};
+    ghost use Rattle.index_store.specs.IndexBlocks.{IsReady, OnlyReads, records_under, sectors_under};
 
     ghost records = { records_under D.Disk };
 

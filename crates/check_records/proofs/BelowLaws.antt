@@ -12,11 +12,11 @@ use Rattle.volume_def.specs.Table.{cluster_bytes}
 use Rattle.volume_def.specs.Values.{IsPlain, first_part, pieces_touched, value_on}
 use Rattle.volume_def.specs.View.{VolumeView}
 use Rattle.volume_def.proofs.ValueLaws.{value-length}
-use Rattle.volume_facts.specs.BitRanges.{IsPieceOf}
-use Rattle.volume_facts.specs.Bitmaps.{HasClusterBytes}
-use Rattle.volume_facts.specs.Least.{IsLeastBelow, IsLeastFailing}
-use Rattle.volume_facts.proofs.LeastLaws.{least-whole}
-use Rattle.volume_facts.specs.declared.facts.Facts.{Facts}
+use Rattle.record_notes.specs.BitRanges.{IsPieceOf}
+use Rattle.record_notes.specs.Bitmaps.{HasClusterBytes}
+use Rattle.record_notes.specs.Least.{IsLeastBelow, IsLeastFailing}
+use Rattle.record_notes.proofs.LeastLaws.{least-whole}
+use Rattle.record_notes.specs.declared.facts.Facts.{Facts}
 use Rattle.check_records.specs.Streams.{ArePlacesFor, HasRoomIn, IsPlainOf, table_len}
 use Rattle.check_records.specs.Views.{HasComeTo}
 use Rattle.check_records.proofs.StreamLaws.{places-for}

@@ -11,8 +11,8 @@ use Rattle.attr_store.proofs.FewerReads.{MftReads-less}
 use Rattle.volume_def.specs.Files.{records_of}
 use Rattle.volume_def.specs.Sound.{HoldBelow}
 use Rattle.volume_def.specs.View.{VolumeView}
-use Rattle.volume_facts.specs.declared.facts.Facts.{Facts}
-use Rattle.volume_facts.specs.Spread.{extensions_below, listed_below}
+use Rattle.record_notes.specs.declared.facts.Facts.{Facts}
+use Rattle.record_notes.specs.Spread.{extensions_below, listed_below}
 use Rattle.check_records.specs.Reads.{bytes_reads, check_reads, files_reads}
 use Rattle.check_records.specs.Views.{HasComeTo}
 use Rattle.check_records.proofs.FactsGiven.{RightNote-all}

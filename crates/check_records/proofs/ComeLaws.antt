@@ -7,12 +7,12 @@ use Rattle.volume_def.specs.CaseClause.{case_parts}
 use Rattle.volume_def.specs.Files.{records_of}
 use Rattle.volume_def.specs.Sound.Clause.{Owners}
 use Rattle.volume_def.specs.View.{VolumeView}
-use Rattle.volume_facts.specs.declared.facts.Facts.{Facts}
-use Rattle.volume_facts.specs.Bitmaps.{AllOwnersNote}
-use Rattle.volume_facts.specs.Facts.{RightNote}
-use Rattle.volume_facts.specs.Streams.{NotesStream, StreamsNote}
-use Rattle.volume_facts.specs.Used.{AllUsedNote}
-use Rattle.volume_facts.proofs.StreamLaws.{stream_below-all}
+use Rattle.record_notes.specs.declared.facts.Facts.{Facts}
+use Rattle.record_notes.specs.Bitmaps.{AllOwnersNote}
+use Rattle.record_notes.specs.Facts.{RightNote}
+use Rattle.record_notes.specs.Streams.{NotesStream, StreamsNote}
+use Rattle.record_notes.specs.Used.{AllUsedNote}
+use Rattle.record_notes.proofs.StreamLaws.{stream_below-all}
 use Rattle.check_records.specs.Views.{HasComeTo}
 use Rattle.check_records.proofs.FactsGiven.{RightNote-all}
 

@@ -4,8 +4,8 @@ use Rattle.volume_def.specs.Files.{records_of}
 use Rattle.volume_def.specs.Sound.{HoldBelow}
 use Rattle.volume_def.specs.Sound.Clause.{Attributes}
 use Rattle.volume_def.specs.View.{VolumeView}
-use Rattle.volume_facts.specs.declared.facts.Facts.{Facts}
-use Rattle.volume_facts.specs.Facts.{FactsNote, RightNote}
+use Rattle.record_notes.specs.declared.facts.Facts.{Facts}
+use Rattle.record_notes.specs.Facts.{FactsNote, RightNote}
 
 pub RightNote-all : (view : VolumeView) (facts : Facts) (rank : ℕ) → 1 < rank → HoldBelow view rank
     → FactsNote (records_of view) view.layout.count facts → RightNote (records_of view) view.layout.count facts

@@ -20,11 +20,11 @@ use Rattle.file_record.specs.declared.held.Held.{Held}
 use Rattle.file_record.specs.Held.{parts_of}
 use Rattle.file_record.specs.Records.{IsRecordOf}
 use Rattle.file_record.proofs.RecordLaws.{IsBlockOf-record, IsRecordOf-at, IsRecordOf-inside}
-use Rattle.volume_facts.specs.declared.extents.Extent.{Extent}
-use Rattle.volume_facts.specs.Extents.{outline_of, outlined}
-use Rattle.volume_facts.specs.declared.spread.Extension.{Extension}
-use Rattle.volume_facts.specs.Lists.{NamesEach}
-use Rattle.volume_facts.specs.Spread.{parts_from}
+use Rattle.file_clauses.specs.declared.extents.Extent.{Extent}
+use Rattle.file_clauses.specs.Extents.{outline_of, outlined}
+use Rattle.record_notes.specs.declared.spread.Extension.{Extension}
+use Rattle.file_clauses.specs.Lists.{NamesEach}
+use Rattle.record_notes.specs.Spread.{parts_from}
 use Rattle.check_records.specs.Listed.{IsHeldIn, all_parts}
 
 -- one record more

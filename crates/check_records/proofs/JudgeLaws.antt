@@ -6,15 +6,15 @@ use Rattle.ntfs_def.specs.AttributeList.{ListEntry, list_entries}
 use Rattle.ntfs_def.specs.Record.{Reference}
 use Rattle.volume_def.specs.Files.{Part, Records, parts, records_of}
 use Rattle.volume_def.specs.ListsClause.{entries_in, entry_in, is_list, listed_parts}
-use Rattle.volume_def.specs.SameItems.{SameItems}
+use Rattle.list_laws.specs.SameItems.{SameItems}
 use Rattle.volume_def.specs.View.{VolumeView}
-use Rattle.volume_def.proofs.SameItemsLaws.{SameItems-filter, SameItems-length, SameItems-map, SameItems-sym, SameItems-trans}
+use Rattle.list_laws.proofs.SameItemsLaws.{SameItems-filter, SameItems-length, SameItems-map, SameItems-sym, SameItems-trans}
 use Rattle.file_record.specs.declared.held.Held.{Held}
 use Rattle.file_record.specs.Held.{parts_of}
 use Rattle.file_record.proofs.NamedLaws.{named-few}
-use Rattle.volume_facts.specs.declared.spread.Extension.{Extension}
-use Rattle.volume_facts.specs.Lists.{NamesEach}
-use Rattle.volume_facts.specs.Spread.{parts_from}
+use Rattle.record_notes.specs.declared.spread.Extension.{Extension}
+use Rattle.file_clauses.specs.Lists.{NamesEach}
+use Rattle.record_notes.specs.Spread.{parts_from}
 use Rattle.check_records.specs.Listed.{IsBaseHeld, NamesParts, all_parts}
 use Rattle.check_records.proofs.HeldFileLaws.{lists-left}
 

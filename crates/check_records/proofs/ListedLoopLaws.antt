@@ -12,14 +12,14 @@ use Rattle.volume_def.specs.ShapeClause.{MeetsShape}
 use Rattle.volume_def.specs.Table.{cluster_bytes}
 use Rattle.volume_def.specs.View.{VolumeView}
 use Rattle.file_record.proofs.RecordLaws.{record_at-inside, some-value}
-use Rattle.volume_facts.specs.declared.spread.Extension.{Extension}
-use Rattle.volume_facts.specs.declared.spread.SpreadFiles.{SpreadFiles}
-use Rattle.volume_facts.specs.Extents.{AreWholeParts}
-use Rattle.volume_facts.specs.Least.{IsLeastFailing, least_of}
-use Rattle.volume_facts.specs.Spread.{AreExtensionsOf, SpreadNote, extensions_of}
-use Rattle.volume_facts.specs.Unlisted.{MeetsListed}
-use Rattle.volume_facts.proofs.LeastLaws.{least-same, least-two}
-use Rattle.volume_facts.proofs.ListedLaws.{listed-held, listed-noted, listed-rising}
+use Rattle.record_notes.specs.declared.spread.Extension.{Extension}
+use Rattle.record_notes.specs.declared.spread.SpreadFiles.{SpreadFiles}
+use Rattle.file_clauses.specs.Extents.{AreWholeParts}
+use Rattle.record_notes.specs.Least.{IsLeastFailing, least_of}
+use Rattle.record_notes.specs.Spread.{AreExtensionsOf, SpreadNote, extensions_of}
+use Rattle.record_notes.specs.Unlisted.{MeetsListed}
+use Rattle.record_notes.proofs.LeastLaws.{least-same, least-two}
+use Rattle.record_notes.proofs.ListedLaws.{listed-held, listed-noted, listed-rising}
 use Rattle.check_records.specs.Listed.{IsListedFile, MeetsListedLists}
 
 -- a verdict is not both

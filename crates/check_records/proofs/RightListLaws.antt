@@ -10,19 +10,19 @@ use Rattle.volume_def.specs.Files.{Record, file_of, is_base, part_of, parts, rec
 use Rattle.volume_def.specs.ListsClause.{HasRightList, IsRightList, entries_in, is_list, list_value}
 use Rattle.volume_def.specs.ShapeClause.{MeetsShape}
 use Rattle.volume_def.specs.View.{VolumeView}
-use Rattle.volume_def.proofs.FindLaws.{count-some, find-found, same_passing}
-use Rattle.volume_def.proofs.MemberLaws.{All-from_Contains, Contains-map}
+use Rattle.list_laws.proofs.FindLaws.{count-some, find-found, same_passing}
+use Rattle.list_laws.proofs.MemberLaws.{All-from_Contains, Contains-map}
 use Rattle.volume_def.proofs.PartLaws.{Contains-HoldsPart}
 use Rattle.file_record.specs.declared.held.Held.{Held}
 use Rattle.file_record.specs.Held.{parts_of}
 use Rattle.file_record.specs.Records.{IsRecordOf}
 use Rattle.file_record.proofs.RecordLaws.{record_at-in_use, record_at-inside, some-value}
-use Rattle.volume_facts.specs.declared.spread.Extension.{Extension}
-use Rattle.volume_facts.specs.Lists.{NamesEach}
-use Rattle.volume_facts.specs.Spread.{AreExtensionsOf}
-use Rattle.volume_facts.proofs.InOrderLaws.{based-here}
-use Rattle.volume_facts.proofs.SpreadLaws.{list_any-map}
-use Rattle.volume_facts.proofs.SpreadParts.{extension-own, parts-own}
+use Rattle.record_notes.specs.declared.spread.Extension.{Extension}
+use Rattle.file_clauses.specs.Lists.{NamesEach}
+use Rattle.record_notes.specs.Spread.{AreExtensionsOf}
+use Rattle.file_clauses.proofs.InOrderLaws.{based-here}
+use Rattle.record_notes.proofs.SpreadLaws.{list_any-map}
+use Rattle.record_notes.proofs.SpreadParts.{extension-own, parts-own}
 use Rattle.check_records.specs.Listed.{IsBaseHeld, IsHeldIn, IsListedFile, IsPlacedList, NamesParts}
 
 -- the base record of such a file can be read

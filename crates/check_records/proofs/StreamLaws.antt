@@ -20,9 +20,9 @@ use Rattle.volume_def.specs.View.{VolumeView}
 use Rattle.mft_table.specs.Streams.{spot_on}
 use Rattle.mft_table.proofs.StreamBytes.{bytes-same, bytes-zero}
 use Rattle.attr_store.proofs.Spanned.{touched-spanned}
-use Rattle.volume_facts.specs.declared.streams.StreamNote.{StreamNote}
-use Rattle.volume_facts.specs.BitRanges.{IsPieceOf}
-use Rattle.volume_facts.specs.Streams.{NotesStream, places_in, spot_noted}
+use Rattle.record_notes.specs.declared.streams.StreamNote.{StreamNote}
+use Rattle.record_notes.specs.BitRanges.{IsPieceOf}
+use Rattle.record_notes.specs.Streams.{NotesStream, places_in, spot_noted}
 use Rattle.check_records.specs.Streams.{ArePlacesFor}
 
 -- Bytes of one cluster of a stream.

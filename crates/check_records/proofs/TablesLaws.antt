@@ -6,7 +6,7 @@ use Rattle.ntfs_def.specs.Boot.{boot_sector}
 use Rattle.volume_def.specs.Sound.{HoldBelow, told_view}
 use Rattle.volume_def.specs.Table.{MeetsTable, TableLayout}
 use Rattle.volume_def.specs.View.{VolumeView, view_of}
-use Rattle.volume_facts.specs.declared.facts.Facts.{Facts}
+use Rattle.record_notes.specs.declared.facts.Facts.{Facts}
 use Rattle.mft_table.specs.declared.mount.MountNo.{MountNo}
 use Rattle.mft_table.specs.declared.mounted.Mounted.{Mounted}
 use Rattle.mft_table.specs.Mounted.{mounted_layout}

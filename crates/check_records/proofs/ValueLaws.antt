@@ -5,8 +5,8 @@ use Rattle.std.specs.Int.{bit_at}
 use Rattle.std.specs.List.{range_with_len}
 use Rattle.std.proofs.lemmas.Grind.{same_number_lists}
 use Rattle.ntfs_def.specs.Bits.{bit_in, flags_in}
-use Rattle.volume_def.proofs.MemberLaws.{Contains-from_range, map_agree}
-use Rattle.volume_facts.specs.BitRanges.{IsPieceOf}
+use Rattle.list_laws.proofs.MemberLaws.{Contains-from_range, map_agree}
+use Rattle.record_notes.specs.BitRanges.{IsPieceOf}
 
 -- Where bytes are the first ones of a value, the bits are.
 pub flags_in-piece : (value bytes : List ℕ) (count : ℕ) → IsPieceOf value 0 bytes → count ≤ 8 * length bytes

@@ -1,7 +1,7 @@
 -- What is known of the files of a volume before the clauses on them are named.
 use Rattle.volume_def.specs.Sound.Clause.{Extents, Lists}
 use Rattle.volume_def.specs.View.{VolumeView}
-use Rattle.volume_facts.specs.declared.facts.Facts.{Facts}
+use Rattle.record_notes.specs.declared.facts.Facts.{Facts}
 use Rattle.check_records.specs.declared.wrong_files.WrongFiles.{WrongFiles}
 use Rattle.check_records.specs.Refusals.{DecidesFirst}
 use Rattle.check_records.specs.Views.{HasComeTo}

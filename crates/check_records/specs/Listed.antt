@@ -4,14 +4,14 @@ use Rattle.std.specs.List.{flat_map, list_any}
 use Rattle.ntfs_def.specs.Flags.{is_packed}
 use Rattle.volume_def.specs.Files.{Part, Records, content_extent, is_base, parts, record_of, record_on, records_of}
 use Rattle.volume_def.specs.ListsClause.{HasRightList, LiesOnVolume, entries_in, is_list, list_value, most_list_len}
-use Rattle.volume_def.specs.SameItems.{SameItems}
+use Rattle.list_laws.specs.SameItems.{SameItems}
 use Rattle.volume_def.specs.View.{VolumeView}
 use Rattle.file_record.specs.declared.held.Held.{Held}
 use Rattle.file_record.specs.Held.{parts_of}
 use Rattle.file_record.specs.Records.{IsRecordOf}
-use Rattle.volume_facts.specs.declared.spread.Extension.{Extension}
-use Rattle.volume_facts.specs.Lists.{NamesEach}
-use Rattle.volume_facts.specs.Spread.{parts_from}
+use Rattle.record_notes.specs.declared.spread.Extension.{Extension}
+use Rattle.file_clauses.specs.Lists.{NamesEach}
+use Rattle.record_notes.specs.Spread.{parts_from}
 
 -- the parts of these records, in their order
 abbrev pub all_parts : List Held → List Part

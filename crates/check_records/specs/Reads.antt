@@ -4,7 +4,7 @@ use Rattle.volume_def.specs.Files.{records_of}
 use Rattle.volume_def.specs.Table.{TableLayout}
 use Rattle.volume_def.specs.Values.{pieces_touched}
 use Rattle.volume_def.specs.View.{VolumeView}
-use Rattle.volume_facts.specs.Spread.{extensions_below, listed_below}
+use Rattle.record_notes.specs.Spread.{extensions_below, listed_below}
 
 -- of files that stand in several records: so many have a list, and so many are extension records
 abbrev pub files_reads : ℕ → ℕ → ℕ

@@ -5,8 +5,8 @@ use Rattle.volume_def.specs.BitmapClauses.{HasNoHole}
 use Rattle.volume_def.specs.Files.{Part, all_covered, content_extent}
 use Rattle.volume_def.specs.StreamSize.{told_size}
 use Rattle.volume_def.specs.Values.{IsPlain, first_part}
-use Rattle.volume_facts.specs.declared.streams.StreamNote.{StreamNote}
-use Rattle.volume_facts.specs.Streams.{places_in}
+use Rattle.record_notes.specs.declared.streams.StreamNote.{StreamNote}
+use Rattle.record_notes.specs.Streams.{places_in}
 
 -- It is noted of each cluster, of `size` bytes, that holds one of the first so many bytes.
 abbrev pub ArePlacesFor : ℕ → ℕ → StreamNote → Type 0

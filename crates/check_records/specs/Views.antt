@@ -8,11 +8,11 @@ use Rattle.volume_def.specs.Files.{records_of}
 use Rattle.volume_def.specs.Sound.{HoldBelow}
 use Rattle.volume_def.specs.Table.{TableLayout, cluster_bytes}
 use Rattle.volume_def.specs.View.{VolumeView, view_of}
-use Rattle.volume_facts.specs.declared.facts.Facts.{Facts}
-use Rattle.volume_facts.specs.Facts.{FactsNote, records_known}
-use Rattle.volume_facts.specs.Owners.{clusters_noted}
-use Rattle.volume_facts.specs.Streams.{HasPlaces}
-use Rattle.volume_facts.specs.Unlisted.{bytes_noted}
+use Rattle.record_notes.specs.declared.facts.Facts.{Facts}
+use Rattle.record_notes.specs.Facts.{FactsNote, records_known}
+use Rattle.record_notes.specs.Owners.{clusters_noted}
+use Rattle.record_notes.specs.Streams.{HasPlaces}
+use Rattle.record_notes.specs.Unlisted.{bytes_noted}
 
 -- with its table where the layout says
 abbrev pub stage_view : {D : Type 0} (g : Ghosts D) → Stage D g → TableLayout → VolumeView

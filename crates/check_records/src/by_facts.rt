@@ -3,12 +3,12 @@ ghost use Rattle.std.specs.Prelude.{IfOk};
 ghost use Rattle.volume_def.specs.Files.{records_of};
 ghost use Rattle.volume_def.specs.Sound.Clause.{Attributes, Links, Owners, References};
 ghost use Rattle.volume_def.specs.View.{VolumeView};
-ghost use Rattle.volume_facts.specs.Facts.{FactsNote};
+ghost use Rattle.record_notes.specs.Facts.{FactsNote};
 ghost use Rattle.check_records.specs.Refusals.{DecidesFirst};
 ghost use Rattle.check_records.specs.Views.{IsOfVolume};
 
 use std::alloc::{AllocError, Global};
-use volume_facts::Facts;
+use record_notes::Facts;
 
 /// The least record that breaks the clause on attributes.
 pub fn first_wrong_attributes(facts: &Facts) -> Option<u64>
@@ -29,7 +29,7 @@ pub fn first_wrong_owner(facts: &Facts) -> Option<u64>
 pub fn first_wrong_reference(facts: &Facts) -> Option<u64>
     ensures { (view : VolumeView) → FactsNote (records_of view) view.layout.count facts.now → DecidesFirst References view result }
 {
-    volume_facts::first_wrong_reference(&facts.heads, &facts.names)
+    volume_clauses::first_wrong_reference(&facts.heads, &facts.names)
 }
 
 /// The least base record that breaks the clause on links.
@@ -41,6 +41,6 @@ pub fn first_wrong_link(alloc: Global, facts: &Facts) -> Result<Option<u64>, All
     ensures { IfOk result (λ first. (view : VolumeView) → FactsNote (records_of view) view.layout.count facts.now
         → DecidesFirst Links view first) }
 {
-    let first = volume_facts::first_wrong_link(alloc, &facts.heads, &facts.names)?;
+    let first = volume_clauses::first_wrong_link(alloc, &facts.heads, &facts.names)?;
     Ok(first)
 }

@@ -6,8 +6,8 @@ ghost use Rattle.volume_def.specs.Sound.{HoldBelow};
 ghost use Rattle.volume_def.specs.Values.{pieces_touched, value_on};
 ghost use Rattle.mft_table.specs.Mft.{MftReads, faults_of, view};
 ghost use Rattle.mft_table.specs.MountNos.{CountsMount};
-ghost use Rattle.volume_facts.specs.BitRanges.{IsPieceOf};
-ghost use Rattle.volume_facts.specs.Streams.{NotesStream};
+ghost use Rattle.record_notes.specs.BitRanges.{IsPieceOf};
+ghost use Rattle.record_notes.specs.Streams.{NotesStream};
 ghost use Rattle.check_records.specs.Refusals.{IsFault, IsRefusalIf};
 ghost use Rattle.check_records.specs.Streams.{IsPlainOf, table_len};
 ghost use Rattle.check_records.specs.Views.{HasComeTo};
@@ -19,7 +19,7 @@ use ntfs_def::records::UPCASE;
 use std::alloc::{AllocError, Global};
 use upcase::UpCase;
 use vol_disk::Disk;
-use volume_facts::{Facts, StreamNote};
+use record_notes::{Facts, StreamNote};
 
 /// The bytes of a table.
 const LENGTH: usize = 131_072;

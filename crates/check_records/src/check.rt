@@ -29,7 +29,7 @@ use std::alloc::Global;
 use upcase::UpCase;
 use vol_disk::Disk;
 use vol_stage::Stage;
-use volume_facts::Facts;
+use record_notes::Facts;
 
 /// The tables that a volume stores.
 #[derive(Drop)]

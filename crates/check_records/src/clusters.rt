@@ -8,9 +8,9 @@ ghost use Rattle.volume_def.specs.Values.{pieces_touched, value_on};
 ghost use Rattle.volume_def.specs.View.{VolumeView};
 ghost use Rattle.mft_table.specs.Mft.{MftReads, faults_of, view};
 ghost use Rattle.mft_table.specs.MountNos.{CountsMount};
-ghost use Rattle.volume_facts.specs.BitRanges.{IsPieceOf};
-ghost use Rattle.volume_facts.specs.Bitmaps.{AllOwnersNote, HasClusterBytes};
-ghost use Rattle.volume_facts.specs.Least.{IsLeastFailing};
+ghost use Rattle.record_notes.specs.BitRanges.{IsPieceOf};
+ghost use Rattle.record_notes.specs.Bitmaps.{AllOwnersNote, HasClusterBytes};
+ghost use Rattle.record_notes.specs.Least.{IsLeastFailing};
 ghost use Rattle.check_records.specs.Refusals.{IsFault, IsRefusalIf};
 ghost use Rattle.check_records.specs.Views.{HasComeTo};
 
@@ -20,7 +20,7 @@ use cluster_bitmap::Bits;
 use mft_table::{Mft, MountNo};
 use std::alloc::Global;
 use vol_disk::Disk;
-use volume_facts::{Facts, Owners};
+use record_notes::{Facts, Owners};
 
 // The first cluster that breaks the clause, by the first bytes of the bitmap, of which so many were written.
 fn first_wrong_cluster(owners: &Owners, bytes: &[u8], written: u64) -> Option<u64>

@@ -4,7 +4,7 @@ ghost use Rattle.std.specs.Prelude.{◌≡◌, ◌↔◌, ◌+◌, ◌*◌, ◌<
 ghost use Rattle.std.specs.Option.{option_to_list};
 ghost use Rattle.volume_def.specs.Files.{Part, Records, content_extent, part_of, parts, parts_in, record_on, records_of};
 ghost use Rattle.volume_def.specs.ListsClause.{HasRightList, LiesOnVolume, entries_in, is_list, list_value};
-ghost use Rattle.volume_def.specs.SameItems.{SameItems};
+ghost use Rattle.list_laws.specs.SameItems.{SameItems};
 ghost use Rattle.volume_def.specs.ShapeClause.{MeetsShape};
 ghost use Rattle.volume_def.specs.Table.{IsOnVolume, cluster_bytes};
 ghost use Rattle.volume_def.specs.View.{VolumeView};
@@ -15,9 +15,9 @@ ghost use Rattle.mft_table.specs.MountNos.{CountsMount};
 ghost use Rattle.file_record.specs.declared.held.Held.{Held};
 ghost use Rattle.file_record.specs.Held.{parts_of};
 ghost use Rattle.file_record.specs.Records.{IsRecordOf};
-ghost use Rattle.volume_facts.specs.Extents.{AreWholeParts, outline_of, outlined};
-ghost use Rattle.volume_facts.specs.Lists.{NamesEach};
-ghost use Rattle.volume_facts.specs.Spread.{AreExtensionsOf, parts_from};
+ghost use Rattle.file_clauses.specs.Extents.{AreWholeParts, outline_of, outlined};
+ghost use Rattle.file_clauses.specs.Lists.{NamesEach};
+ghost use Rattle.record_notes.specs.Spread.{AreExtensionsOf, parts_from};
 ghost use Rattle.check_records.specs.Listed.{IsBaseHeld, IsHeldIn, IsListedFile, IsPlacedList, NamesParts, all_parts};
 ghost use Rattle.check_records.specs.Refusals.{IsFault};
 
@@ -30,9 +30,8 @@ use mft_table::{Mft, MountNo};
 use ntfs_def::is_packed;
 use std::alloc::{AllocError, Global};
 use vol_disk::Disk;
-use volume_facts::{
-    Extension, Extent, add_extents, add_wanted, are_whole, clusters_of, names_each,
-};
+use file_clauses::{Extent, add_extents, add_wanted, are_whole, clusters_of, names_each};
+use record_notes::Extension;
 
 /// The bytes that a list may have.
 const MOST_BYTES: u64 = 262_144;

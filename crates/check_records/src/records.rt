@@ -8,9 +8,9 @@ ghost use Rattle.volume_def.specs.Sound.{HoldBelow};
 ghost use Rattle.volume_def.specs.Values.{pieces_touched, value_on};
 ghost use Rattle.mft_table.specs.Mft.{MftReads, faults_of, view};
 ghost use Rattle.mft_table.specs.MountNos.{CountsMount};
-ghost use Rattle.volume_facts.specs.BitRanges.{IsPieceOf};
-ghost use Rattle.volume_facts.specs.Least.{IsLeastFailing};
-ghost use Rattle.volume_facts.specs.Streams.{NotesStream};
+ghost use Rattle.record_notes.specs.BitRanges.{IsPieceOf};
+ghost use Rattle.record_notes.specs.Least.{IsLeastFailing};
+ghost use Rattle.record_notes.specs.Streams.{NotesStream};
 ghost use Rattle.check_records.specs.Refusals.{IsFault, IsRefusalIf};
 ghost use Rattle.check_records.specs.Streams.{HasRoomIn};
 ghost use Rattle.check_records.specs.Views.{HasComeTo};
@@ -22,7 +22,7 @@ use mft_table::{Mft, MountNo};
 use ntfs_def::records::FIRST_ORDINARY;
 use std::alloc::Global;
 use vol_disk::{Disk, SECTOR};
-use volume_facts::{Facts, StreamNote};
+use record_notes::{Facts, StreamNote};
 
 // Whether clusters of so many bytes have room for a bit for each record. Of more than 2^64 - 1 clusters that many are told.
 fn have_room(covered: u64, cluster: u64, records: u64) -> bool

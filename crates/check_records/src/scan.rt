@@ -7,7 +7,7 @@ ghost use Rattle.volume_def.specs.Table.{IsWellFormed, LiesOn};
 ghost use Rattle.vol_stage.specs.Staged.{StageReads, disk_of};
 ghost use Rattle.mft_table.specs.Tables.{reader_layout};
 ghost use Rattle.mft_table.specs.MountNos.{CountsMount};
-ghost use Rattle.volume_facts.specs.Facts.{FactsNote, SameVolume, records_known};
+ghost use Rattle.record_notes.specs.Facts.{FactsNote, SameVolume, records_known};
 ghost use Rattle.check_records.specs.Refusals.{IsRefusalOf};
 ghost use Rattle.check_records.specs.Views.{IsOfVolume, stage_view};
 
@@ -17,7 +17,7 @@ use ntfs_def::is_in_use;
 use std::alloc::{AllocError, Global};
 use vol_disk::Disk;
 use vol_stage::Stage;
-use volume_facts::Facts;
+use record_notes::Facts;
 
 // Notes the record that a stored block is, and tells whether the block is right: not in use, or of the shape.
 fn note_block(

@@ -9,7 +9,7 @@ ghost use Rattle.vol_stage.specs.Staged.{StageReads, disk_of, image};
 ghost use Rattle.mft_table.specs.MountNos.{CountsMount};
 ghost use Rattle.mft_table.specs.Mounted.{StandsOn, mounted_layout};
 ghost use Rattle.mft_table.specs.Tables.{table_layout};
-ghost use Rattle.volume_facts.specs.Facts.{FactsNote};
+ghost use Rattle.record_notes.specs.Facts.{FactsNote};
 ghost use Rattle.check_records.specs.Refusals.{IsRefusal};
 ghost use Rattle.mft_table.specs.HeldTables.{HasTable};
 ghost use Rattle.check_records.specs.Views.{IsOfVolume, stage_view};
@@ -21,7 +21,7 @@ use std::alloc::{AllocError, Global};
 use upcase::UpCase;
 use vol_disk::Disk;
 use vol_stage::Stage;
-use volume_facts::Facts;
+use record_notes::Facts;
 
 /// A volume whose table of records was found and gone over once.
 #[derive(Drop)]

@@ -5,12 +5,12 @@ ghost use Rattle.volume_def.specs.Values.{pieces_touched, stored_bytes};
 ghost use Rattle.mft_table.specs.Mft.{MftReads, faults_of, view};
 ghost use Rattle.mft_table.specs.MountNos.{CountsMount};
 ghost use Rattle.mft_table.specs.Streams.{IsSeam, spot_on};
-ghost use Rattle.volume_facts.specs.Streams.{spot_noted};
+ghost use Rattle.record_notes.specs.Streams.{spot_noted};
 
 use mft_table::{Mft, MountNo};
 use ntfs_def::Spot;
 use vol_disk::Disk;
-use volume_facts::StreamNote;
+use record_notes::StreamNote;
 
 // How many bytes from byte `at` on lie in clusters up to the last one.
 fn spanned_len(last: u64, size: u64, at: u64, wanted: usize) -> usize

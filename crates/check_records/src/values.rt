@@ -7,8 +7,8 @@ ghost use Rattle.volume_def.specs.Table.{cluster_bytes};
 ghost use Rattle.volume_def.specs.Values.{IsPlain, pieces_touched, value_on};
 ghost use Rattle.mft_table.specs.Mft.{MftReads, faults_of, view};
 ghost use Rattle.mft_table.specs.MountNos.{CountsMount};
-ghost use Rattle.volume_facts.specs.BitRanges.{IsPieceOf};
-ghost use Rattle.volume_facts.specs.Streams.{NotesStream};
+ghost use Rattle.record_notes.specs.BitRanges.{IsPieceOf};
+ghost use Rattle.record_notes.specs.Streams.{NotesStream};
 ghost use Rattle.check_records.specs.Streams.{ArePlacesFor};
 
 use crate::streams::read_stored;
@@ -16,7 +16,7 @@ use cluster_bitmap::Bits;
 use mft_table::{Mft, MountNo};
 use std::alloc::Global;
 use vol_disk::Disk;
-use volume_facts::StreamNote;
+use record_notes::StreamNote;
 
 /// Whether a stream is not packed, and has no hole.
 pub fn is_whole(note: &StreamNote) -> bool

@@ -7,10 +7,10 @@ ghost use Rattle.volume_def.specs.Sound.Clause.{Extents, Lists};
 ghost use Rattle.volume_def.specs.Table.{cluster_bytes};
 ghost use Rattle.mft_table.specs.Mft.{MftReads, faults_of, view};
 ghost use Rattle.mft_table.specs.MountNos.{CountsMount};
-ghost use Rattle.volume_facts.specs.Facts.{FactsNote};
-ghost use Rattle.volume_facts.specs.Least.{IsLeastFailing, least_of};
-ghost use Rattle.volume_facts.specs.Spread.{SpreadNote};
-ghost use Rattle.volume_facts.specs.Unlisted.{MeetsListed};
+ghost use Rattle.record_notes.specs.Facts.{FactsNote};
+ghost use Rattle.record_notes.specs.Least.{IsLeastFailing, least_of};
+ghost use Rattle.record_notes.specs.Spread.{SpreadNote};
+ghost use Rattle.record_notes.specs.Unlisted.{MeetsListed};
 ghost use Rattle.check_records.specs.Listed.{MeetsListedLists};
 ghost use Rattle.check_records.specs.Refusals.{DecidesFirst, IsFault};
 ghost use Rattle.check_records.specs.Views.{IsOfVolume};
@@ -19,7 +19,7 @@ use crate::listed::judge_file;
 use mft_table::{Mft, MountNo};
 use std::alloc::Global;
 use vol_disk::Disk;
-use volume_facts::{Extension, Facts, SpreadFiles, least_of, split_file};
+use record_notes::{Extension, Facts, SpreadFiles, least_of, split_file};
 
 /// The least base record that breaks the clause on lists and, where none does, the one that breaks the clause on extents.
 #[derive(Clone, Copy, Debug)]

@@ -5,15 +5,16 @@ ghost use Rattle.ntfs_def.specs.FileName.{is_name_key, key_units, unit_count};
 ghost use Rattle.ntfs_def.specs.KeyOrder.{by_numbers, fold_of, fold_order, name_order};
 
 use crate::Collation;
+use ntfs_def::file_name;
 use std::cmp::Ordering;
 use upcase::UpCase;
 use vol_bytes::u16_at;
 
 /// Where a key, the value of a `$FILE_NAME`, has the number of its units.
-pub const UNIT_COUNT: usize = 0x40;
+pub const UNIT_COUNT: usize = file_name::UNITS_LEN;
 
 /// Where the units of a key begin, of two bytes each.
-pub const UNITS: usize = 0x42;
+pub const UNITS: usize = file_name::UNITS;
 
 /// The order of a directory: names by their folded units, and equal ones by their plain units.
 #[derive(Debug, Drop)]

@@ -16,11 +16,11 @@ use Rattle.volume_def.specs.CaseClause.{volume_fold}
 use Rattle.volume_def.specs.FileNames.{is_in_directory, links}
 use Rattle.volume_def.specs.Files.{records_of}
 use Rattle.volume_def.specs.IndexesClause.{IsDirectoryIndex}
-use Rattle.volume_def.specs.SameItems.{SameItems}
+use Rattle.list_laws.specs.SameItems.{SameItems}
 use Rattle.volume_def.specs.View.{VolumeView}
-use Rattle.volume_def.proofs.FindLaws.{count-cons, count-none}
-use Rattle.volume_def.proofs.MemberLaws.{filter-map}
-use Rattle.volume_def.proofs.SameItemsLaws.{SameItems-map, SameItems-same, SameItems-trans, count-filter}
+use Rattle.list_laws.proofs.FindLaws.{count-cons, count-none}
+use Rattle.list_laws.proofs.MemberLaws.{filter-map}
+use Rattle.list_laws.proofs.SameItemsLaws.{SameItems-map, SameItems-same, SameItems-trans, count-filter}
 use Rattle.tree_model.specs.Ordered.{in_order}
 use Rattle.tree_model.specs.Reading.{all_links, directory_links, link_by}
 use Rattle.tree_model.specs.Tree.{is_in, link_above}

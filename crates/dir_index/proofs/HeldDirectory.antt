@@ -11,24 +11,24 @@ use Rattle.ntfs_def.specs.Units.{wide}
 use Rattle.volume_def.specs.CaseClause.{volume_fold}
 use Rattle.volume_def.specs.Files.{Record, content_value, is_base, is_directory, record_on}
 use Rattle.volume_def.specs.IndexesClause.{IndexParts, IsDirectoryIndex, IsIndexRecordAt, stored_index_record}
-use Rattle.volume_def.specs.Readable.{IsFile, WhereReadable}
+use Rattle.volume_def.specs.Readable.{IsFile, WhereReadable, IsDirectory}
 use Rattle.volume_def.specs.Sound.{Attributes, Extents, Indexes, Lists, Shape}
 use Rattle.volume_def.specs.Table.{cluster_bytes}
 use Rattle.volume_def.specs.View.{VolumeView}
 use Rattle.index_tree.specs.Walk.{HasWalk, IsWalk}
+use Rattle.tree_model.specs.Reading.{directory_links}
+use Rattle.tree_model.specs.Tree.{sought_link}
 use Rattle.mft_table.specs.declared.mft.Mft.{Mft}
 use Rattle.mft_table.specs.declared.mounted.Mounted.{Mounted}
 use Rattle.mft_table.specs.Mft.{MftReads, mounted_of, view}
-use Rattle.tree_model.specs.Reading.{directory_links}
-use Rattle.tree_model.specs.Tree.{sought_link}
+use Rattle.mft_table.specs.InUse.{IsSoundVolume}
 use Rattle.file_record.specs.declared.parts.FileParts.{FileParts}
 use Rattle.file_record.specs.Held.{AreParts, file_number}
 use Rattle.file_record.proofs.ReadLaws.{view-kept}
-use Rattle.attr_store.specs.declared.index.FoundIndex.{FoundIndex}
-use Rattle.attr_store.specs.Index.{HasParts, IsFound, index_held}
-use Rattle.attr_store.specs.InUse.{IsDirectory, IsSoundVolume}
-use Rattle.attr_store.proofs.HeldIndexLaws.{index-held}
-use Rattle.attr_store.proofs.IndexRecordLaws.{record-there}
+use Rattle.index_store.specs.declared.index.FoundIndex.{FoundIndex}
+use Rattle.index_store.specs.Index.{HasParts, IsFound, index_held}
+use Rattle.index_store.proofs.HeldIndexLaws.{index-held}
+use Rattle.index_store.proofs.IndexRecordLaws.{record-there}
 use Rattle.dir_index.specs.Held.{IsHeldDirectory, IsReadableDirectory, fetched_of, nodes_found, records_found, root_found}
 use Rattle.dir_index.specs.Links.{IsHeldIndex, link_in, names_index}
 use Rattle.dir_index.specs.Sought.{CanSeek, SeekCosts, Seeks, exact_order, folded_order}

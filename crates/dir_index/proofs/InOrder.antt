@@ -3,9 +3,9 @@ use Rattle.std.proofs.Common.{◌≡◌, ◌&&◌, not, zero, suc, Bool, true, f
 use Rattle.std.proofs.lemmas.Bool.{and_parts}
 use Rattle.std.specs.List.{Contains, count_by}
 use Rattle.ntfs_def.specs.IndexTree.{Each}
-use Rattle.volume_def.specs.SameItems.{SameItems}
-use Rattle.volume_def.proofs.FindLaws.{count-cons, count-yes, passing}
-use Rattle.volume_def.proofs.SameItemsLaws.{count-append}
+use Rattle.list_laws.specs.SameItems.{SameItems}
+use Rattle.list_laws.proofs.FindLaws.{count-cons, count-yes, passing}
+use Rattle.list_laws.proofs.SameItemsLaws.{count-append}
 use Rattle.tree_model.specs.Ordered.{IsOrder, in_order, put_in_order}
 use Rattle.tree_model.proofs.OrderedLaws.{put-put}
 

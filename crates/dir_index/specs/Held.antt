@@ -20,10 +20,10 @@ use Rattle.file_record.specs.declared.error.FileNo.{FileNo}
 use Rattle.file_record.specs.declared.error.FileNo.TheVariants.{Device, Memory, NoRoom}
 use Rattle.file_record.specs.declared.parts.FileParts.{FileParts}
 use Rattle.file_record.specs.Held.{file_number}
-use Rattle.attr_store.specs.declared.index.FoundIndex.{FoundIndex}
-use Rattle.attr_store.specs.Index.{index_held}
-use Rattle.attr_store.specs.IndexBlocks.{IsHeldFile}
-use Rattle.attr_store.specs.IndexRecords.{index_record_on}
+use Rattle.index_store.specs.declared.index.FoundIndex.{FoundIndex}
+use Rattle.index_store.specs.Index.{index_held}
+use Rattle.index_store.specs.IndexBlocks.{IsHeldFile}
+use Rattle.index_store.specs.IndexRecords.{index_record_on}
 
 -- The volume's files can be read, this is the number of one, the index of that directory is right, and this is the volume's table
 -- of case.

@@ -3,15 +3,15 @@ ghost use Rattle.std.specs.Prelude.{◌≡◌, ℕ, [], IfErr, IfOk, IfSome, IsT
 ghost use Rattle.ntfs_def.specs.IndexTree.{Each};
 ghost use Rattle.ntfs_def.specs.Node.{IsOwnEntry};
 ghost use Rattle.ntfs_def.specs.declared.index.NodeForm.TheVariants.{Names};
-ghost use Rattle.mft_table.specs.Mft.{MftReads, faults_of, view};
-ghost use Rattle.file_record.specs.FileNos.{CountsNo, IsReadNo};
 ghost use Rattle.index_tree.specs.Search.{Costs, Finds, HasRisingIndex, IsKeyed};
 ghost use Rattle.index_tree.specs.Walk.{HasWalk, IsWalk};
-ghost use Rattle.attr_store.specs.Index.{IsFound};
-ghost use Rattle.attr_store.specs.IndexBlocks.{IsHeldFile};
+ghost use Rattle.mft_table.specs.Mft.{MftReads, faults_of, view};
+ghost use Rattle.file_record.specs.FileNos.{CountsNo, IsReadNo};
+ghost use Rattle.index_store.specs.Index.{IsFound};
+ghost use Rattle.index_store.specs.IndexBlocks.{IsHeldFile};
 ghost use Rattle.dir_index.specs.Held.{fetched_of, file_no_of, nodes_found, root_found, side_of};
 
-use attr_store::{FoundIndex, IndexBlocks};
+use index_store::{FoundIndex, IndexBlocks};
 use collation::{Collation, FileNameOrder};
 use file_record::{FileNo, FileParts};
 use index_tree::{Index, IndexNo};

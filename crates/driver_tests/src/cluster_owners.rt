@@ -2,7 +2,7 @@
 use crate::laid::record;
 use attr_view::RecordView;
 use std::test::Fail;
-use volume_facts::Owners;
+use record_notes::Owners;
 
 // One run of a cluster at 0.
 const BOOT_TEXT: [u8; 4] = [0x11, 1, 0, 0];

@@ -4,12 +4,12 @@
 
 use crate::laid::{put, record};
 use attr_view::{RecordView, Sizes};
+use file_clauses::{
+    Extent, Held, add_wanted, are_whole, has_whole_extents, is_right_record, names_each,
+};
+use record_notes::UnlistedFiles;
 use std::alloc::{AllocError, Global};
 use std::test::Fail;
-use volume_facts::{
-    Extent, Held, UnlistedFiles, add_wanted, are_whole, has_whole_extents, is_right_record,
-    names_each,
-};
 
 const BAD_CLUSTERS: [u8; 376] = [
     0x46, 0x49, 0x4C, 0x45, 0x30, 0x00, 0x03, 0x00, 0x00, 0x00, 0x00, 0x00, 0x00, 0x00, 0x00, 0x00,

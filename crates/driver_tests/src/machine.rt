@@ -1,11 +1,12 @@
 //! A tree that is laid out by hand: a root, and in it a directory `d` with as many files as are put into it, or beside it a
 //! file `f`.
 
+use plain_tree::{PlainFacts, PlainMachine, PlainTree};
 use std::alloc::{AllocError, Global};
 use std::test::Fail;
 use tree_model::{
-    Answer, Command, Content, Link, No, Node, Path, PlainFacts, PlainMachine, PlainTree, Point,
-    RawAttr, RawAttrs, Reply, Stream, Streams,
+    Answer, Command, Content, Link, No, Node, Path, Point, RawAttr, RawAttrs, Reply, Stream,
+    Streams,
 };
 use upcase::UpCase;
 use vol_bytes::{Name, Octets, units_of_text};

@@ -2,12 +2,11 @@
 //! is what the clauses on references and links ask.
 
 use attr_view::RecordView;
+use record_notes::{Extension, Facts, Heads, Names, SpreadFiles};
 use std::alloc::Global;
 use std::test::Fail;
 use vol_bytes::{put_u16, put_u32, put_u64};
-use volume_facts::{
-    Extension, Facts, Heads, Names, SpreadFiles, first_wrong_link, first_wrong_reference,
-};
+use volume_clauses::{first_wrong_link, first_wrong_reference};
 
 const FILE: u16 = 1;
 

@@ -1,6 +1,6 @@
 //! Records in use.
 use std::test::Fail;
-use volume_facts::Used;
+use record_notes::Used;
 
 #[test]
 fn compares_the_bits_of_records(rt: HostRuntime) -> Result<(), Fail> {

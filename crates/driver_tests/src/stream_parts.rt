@@ -3,7 +3,7 @@ use crate::laid::{put, record};
 use attr_view::RecordView;
 use ntfs_def::Spot;
 use std::test::Fail;
-use volume_facts::Streams;
+use record_notes::Streams;
 
 // One run of 10,000 clusters at 100.
 const SOME_TEXT: [u8; 5] = [0x12, 0x10, 0x27, 100, 0];

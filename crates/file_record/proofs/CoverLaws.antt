@@ -16,11 +16,11 @@ use Rattle.volume_def.specs.Files.{Part, Record, file_of, part_of, parts, record
 use Rattle.volume_def.specs.ListsClause.{HasRightList, IsReadableList, IsRightList, entry_in, is_list, list_value, listed_parts}
 use Rattle.volume_def.specs.Readable.{IsFile, IsReadableVolume}
 use Rattle.volume_def.specs.View.{VolumeView}
-use Rattle.volume_def.proofs.FindLaws.{count-none, count-some, find-fails, find-found, find-one}
-use Rattle.volume_def.proofs.MemberLaws.{Contains-filter, Contains-from_filter, Contains-from_map, Contains-head, Contains-map, Contains-only}
+use Rattle.list_laws.proofs.FindLaws.{count-none, count-some, find-fails, find-found, find-one}
+use Rattle.list_laws.proofs.MemberLaws.{Contains-filter, Contains-from_filter, Contains-from_map, Contains-head, Contains-map, Contains-only}
 use Rattle.volume_def.proofs.PartLaws.{Contains-HoldsPart, IsPart-Contains, NameHolders-view}
 use Rattle.volume_def.proofs.ReadableLaws.{readable-list}
-use Rattle.volume_def.proofs.SameItemsLaws.{SameItems-passing, SameItems-sym}
+use Rattle.list_laws.proofs.SameItemsLaws.{SameItems-passing, SameItems-sym}
 use Rattle.file_record.specs.Numbers.{AddsListed, named_in}
 use Rattle.file_record.specs.Records.{IsRecordOf, list_reads, reads_for_list}
 use Rattle.file_record.proofs.RecordLaws.{IsBlockOf-record, IsRecordOf-at, IsRecordOf-inside, record_at-in_use}

@@ -11,7 +11,7 @@ use Rattle.ntfs_def.specs.Attribute.{attributes}
 use Rattle.ntfs_def.specs.Fixup.{bare_of, opened_of}
 use Rattle.volume_def.specs.Files.{part_of, parts_in, record_on, record_of}
 use Rattle.volume_def.specs.View.{VolumeView}
-use Rattle.volume_def.proofs.MemberLaws.{Contains-head}
+use Rattle.list_laws.proofs.MemberLaws.{Contains-head}
 use Rattle.volume_def.proofs.RecordLaws.{parts_in-own}
 use Rattle.file_record.specs.declared.held.Held.{Held}
 use Rattle.file_record.specs.Held.{AreRising, IsCurrentRecord, parts_of}

@@ -13,7 +13,7 @@ use Rattle.volume_def.specs.Values.{byte_there, first_vcn_of, holds_vcn, is_firs
 use Rattle.volume_def.specs.Table.{cluster_bytes}
 use Rattle.volume_def.specs.View.{VolumeView}
 use Rattle.volume_def.proofs.ExtentLaws.{holds-here}
-use Rattle.volume_def.proofs.MemberLaws.{map_agree}
+use Rattle.list_laws.proofs.MemberLaws.{map_agree}
 use Rattle.volume_def.proofs.RunPieces.{spot_of-behind}
 
 -- what is sought in a list of one

@@ -7,8 +7,8 @@ use Rattle.std.proofs.lemmas.List.Elements.{All-contains}
 use Rattle.volume_def.specs.Members.{HoldsPart}
 use Rattle.volume_def.specs.Files.{Part, Record, file_of, parts, parts_in, record_on, records_of}
 use Rattle.volume_def.specs.View.{VolumeView}
-use Rattle.volume_def.proofs.FindLaws.{count-some}
-use Rattle.volume_def.proofs.MemberLaws.{Contains-range, nil-from_Contains}
+use Rattle.list_laws.proofs.FindLaws.{count-some}
+use Rattle.list_laws.proofs.MemberLaws.{Contains-range, nil-from_Contains}
 use Rattle.volume_def.proofs.RecordLaws.{parts_in-other, parts_in-own, parts_in-unused}
 use Rattle.volume_def.proofs.PartLaws.{Contains-HoldsPart, NameHolders-view}
 use Rattle.file_record.specs.Numbers.{AreNumbers, RiseFrom}

@@ -7,8 +7,8 @@ use Rattle.vol_disk.specs.Contents.{sector_in}
 use Rattle.vol_disk.specs.declared.Disk.{Ghosts}
 use Rattle.vol_stage.specs.Staged.{image}
 use Rattle.volume_def.specs.View.{view_of}
-use Rattle.volume_def.proofs.FindLaws.{count-cons}
-use Rattle.volume_def.proofs.SameItemsLaws.{count-append}
+use Rattle.list_laws.proofs.FindLaws.{count-cons}
+use Rattle.list_laws.proofs.SameItemsLaws.{count-append}
 use Rattle.mft_table.specs.declared.mft.Mft.{Mft}
 use Rattle.mft_table.specs.Mft.{MftReads, mounted_of, stage_of, view}
 use Rattle.mft_table.specs.Mounted.{mounted_layout}

@@ -3,8 +3,8 @@ use Rattle.std.proofs.Common.{◌≡◌, ◌==◌, ◌<◌, ◌≤◌, ◌+◌, 
 use Rattle.std.proofs.lemmas.Bool.{cases_eq, eq-eqb}
 use Rattle.std.proofs.lemmas.List.Sums.{count_by-le-length}
 use Rattle.std.specs.List.{Contains, count_by, flat_map, range_with_len}
-use Rattle.volume_def.proofs.FindLaws.{count-cons, count-no, count-yes}
-use Rattle.volume_def.proofs.MemberLaws.{Contains-cases, Contains-later, Contains-nil}
+use Rattle.list_laws.proofs.FindLaws.{count-cons, count-no, count-yes}
+use Rattle.list_laws.proofs.MemberLaws.{Contains-cases, Contains-later, Contains-nil}
 use Rattle.file_record.specs.Numbers.{RiseFrom}
 
 next_rises : (n : ℕ) (numbers : List ℕ) (k : ℕ) → get_or (n ∷ numbers) (suc k) 0 < get_or (n ∷ numbers) (suc k + 1) 0

@@ -7,3 +7,4 @@ pub mod MftNos
 pub mod Streams
 pub mod MountNos
 pub mod HeldTables
+pub mod InUse

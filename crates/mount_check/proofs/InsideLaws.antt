@@ -14,8 +14,8 @@ use Rattle.volume_def.specs.Sound.{HoldBelow}
 use Rattle.volume_def.specs.Sound.Clause.{Owners}
 use Rattle.volume_def.specs.VersionClause.{IsMirror}
 use Rattle.volume_def.specs.View.{VolumeView}
-use Rattle.volume_def.proofs.FindLaws.{count-some, passing}
-use Rattle.volume_def.proofs.MemberLaws.{Contains-flat_map, Contains-from_filter, Contains-range}
+use Rattle.list_laws.proofs.FindLaws.{count-some, passing}
+use Rattle.list_laws.proofs.MemberLaws.{Contains-flat_map, Contains-from_filter, Contains-range}
 use Rattle.volume_def.proofs.PartLaws.{HoldsPart-Contains}
 use Rattle.volume_def.proofs.ValueLaws.{spot_at-owned}
 use Rattle.mft_table.specs.declared.mounted.Mounted.{Mounted}

@@ -12,21 +12,21 @@ use Rattle.volume_def.specs.Files.{Part, Record, content_extent, content_of, fil
 use Rattle.volume_def.specs.LimitsClause.{IsInLimits, MeetsLimits}
 use Rattle.volume_def.specs.Sound.{HoldBelow}
 use Rattle.volume_def.specs.View.{VolumeView}
-use Rattle.volume_def.proofs.MemberLaws.{All-from_Contains}
+use Rattle.list_laws.proofs.MemberLaws.{All-from_Contains}
 use Rattle.volume_def.proofs.PartLaws.{Contains-HoldsPart, HoldsPart-Contains}
 use Rattle.ntfs_def.specs.Attribute.{attributes}
 use Rattle.ntfs_def.specs.Fixup.{opened_of}
 use Rattle.ntfs_def.specs.Shape.{HasShape}
 use Rattle.std.proofs.Common.{length, map}
 use Rattle.volume_def.specs.Files.{record_of}
-use Rattle.volume_def.specs.Sound.Clause.{Shape}
+use Rattle.volume_def.specs.Sound.Clause.{References, Shape}
 use Rattle.volume_def.proofs.PartLaws.{record_at-block}
 use Rattle.mount_check.specs.Views.{HasComeTo}
 use Rattle.mount_check.proofs.VersionLaws.{IsUsedAs}
 use Rattle.file_record.proofs.RecordLaws.{record_at-in_use, record_at-inside, record_at-used, some-value}
-use Rattle.volume_facts.specs.Least.{IsLeastFailing, least_of}
+use Rattle.record_notes.specs.Least.{IsLeastFailing, least_of}
 use Rattle.mount_check.specs.Limits.{BreaksLimits, IsLongIn, KeepsLimits}
-use Rattle.mount_check.proofs.PlaceLaws.{file-held}
+use Rattle.volume_def.proofs.FileLaws.{file-held}
 
 -- No part that record n holds is of a stream that is too long for its file, if the file is one before file f.
 abbrev pub KeepsBelow : VolumeView → ℕ → ℕ → Type 0
@@ -109,7 +109,7 @@ file-keeps view f keeps = if-some (record_on view f) (λ r. IsTrue (is_base r) �
 
 broken-file : (view : VolumeView) (f n : ℕ) → HoldBelow view 11 → BreaksLimits view f n → ¬ (MeetsLimits (records_of view) f)
 broken-file view f n before breaks meets =
-    let base = some-value (record_on view f) (λ r. IsTrue (is_base r)) (file-held view f n breaks.record_there before breaks.at breaks.file) in
+    let base = some-value (record_on view f) (λ r. IsTrue (is_base r)) (file-held view f n breaks.record_there (before References (omega arith) n) breaks.at breaks.file) in
     let all = subst (λ o. IfSome o (λ r. IsTrue (is_base r) → All (IsInLimits f) (parts (records_of view) f))) base.1 meets base.2 in
     breaks.broken (All-from_Contains (IsInLimits f) breaks.record_there.parts (λ part h.
     All-contains (IsInLimits f) (parts (records_of view) f) part all (Contains-HoldsPart (records_of view) f n part (record {

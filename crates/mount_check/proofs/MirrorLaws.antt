@@ -12,7 +12,7 @@ use Rattle.volume_def.specs.ShapeClause.{MeetsShape}
 use Rattle.volume_def.specs.Table.{TableLayout, two_sectors}
 use Rattle.volume_def.specs.VersionClause.{HasCopy, MeetsMirror, Mirrors}
 use Rattle.volume_def.specs.Sound.Clause.{Shape}
-use Rattle.volume_facts.specs.Least.{IsLeastFailing}
+use Rattle.record_notes.specs.Least.{IsLeastFailing}
 use Rattle.mount_check.specs.Views.{HasComeTo}
 use Rattle.mount_check.proofs.VersionLaws.{IsUsedAs, in-use, unused}
 use Rattle.std.proofs.lemmas.Bool.{cases_lt}

@@ -1,24 +1,22 @@
 -- The file of copies as it is loaded, and where its clusters lie.
-use Rattle.std.proofs.Common.{◌≡◌, ◌⊎◌, ◌+◌, ◌*◌, ◌/◌, ◌%◌, ◌<◌, ◌≤◌, ℕ, Bool, false, List, [], ◌∷◌, ◌++◌, length, map, take, get_or, Option, Some, None, inl, inr, refl, sym, ap, subst, ◌∙◌, arith}
-use Rattle.std.specs.Prelude.{All, IfSome, IsSome, IsSomeAnd, IsTrue, filter, is_none, option_map, unwrap_or}
+use Rattle.std.proofs.Common.{◌≡◌, ◌+◌, ◌*◌, ◌/◌, ◌%◌, ◌<◌, ◌≤◌, ℕ, Bool, false, List, ◌∷◌, ◌++◌, length, map, take, get_or, Option, Some, None, inl, inr, refl, sym, ap, subst, ◌∙◌, arith}
+use Rattle.std.specs.Prelude.{All, IfSome, IsSome, IsSomeAnd, IsTrue, filter}
 use Rattle.std.specs.List.{flat_map}
-use Rattle.std.proofs.lemmas.Bool.{cases_Bool, cases_lt, false≢true}
+use Rattle.std.proofs.lemmas.Bool.{cases_lt}
 use Rattle.std.proofs.lemmas.List.Elements.{All-contains, filter-append}
-use Rattle.ntfs_def.specs.Record.{Reference}
-use Rattle.volume_def.specs.Files.{Part, Record, file_of, is_base, is_of, parts, parts_at, record_on, records_of}
+use Rattle.volume_def.specs.Files.{Part, file_of, is_of, parts, parts_at, record_on, records_of}
 use Rattle.volume_def.specs.Readable.{IsFile, IsReadableVolume}
-use Rattle.volume_def.specs.ReferencesClause.{HasRightReferences, NamesBase}
 use Rattle.volume_def.specs.Sound.{HoldBelow}
 use Rattle.volume_def.specs.Sound.Clause.{Attributes, Extents, Lists, References, Shape}
 use Rattle.volume_def.specs.View.{VolumeView}
-use Rattle.volume_def.proofs.MemberLaws.{nil-from_Contains}
-use Rattle.volume_def.proofs.PartLaws.{HoldsPart-Contains}
+use Rattle.list_laws.proofs.MemberLaws.{nil-from_Contains}
+use Rattle.volume_def.proofs.FileLaws.{file-held, file-or-not, no-parts}
 use Rattle.file_record.specs.declared.parts.FileParts.{FileParts}
 use Rattle.file_record.specs.Held.{AreParts, file_number, held_of, parts_held, parts_of}
 use Rattle.file_record.specs.Records.{IsRecordOf}
 use Rattle.file_record.proofs.RecordLaws.{some-value}
-use Rattle.volume_facts.specs.declared.streams.StreamNote.{StreamNote}
-use Rattle.volume_facts.specs.Streams.{NotesStream, places_in, spot_noted}
+use Rattle.record_notes.specs.declared.streams.StreamNote.{StreamNote}
+use Rattle.record_notes.specs.Streams.{NotesStream, places_in, spot_noted}
 use Rattle.mount_check.specs.Copies.{data_held}
 use Rattle.ntfs_def.specs.declared.kinds.TheConstants.{DATA}
 use Rattle.ntfs_def.specs.Flags.{is_packed}
@@ -45,47 +43,21 @@ readable-below view before = record {
   extents = before Extents (omega arith);
 }
 
--- A record in use belongs to a file.
-
-base-named : (o : Option Record) (s : ℕ) → IsSomeAnd o (λ r. IsTrue (is_base r) × (r.header.sequence ≡ s)) → IsSomeAnd o (λ r. IsTrue (is_base r))
-base-named None s h = h
-base-named (Some r) s h = h.0
-
-file-by_base : (view : VolumeView) (f n : ℕ) (r : Record) (base : Option Reference) → r.header.base ≡ base → record_on view n ≡ Some r
-    → IfSome base (NamesBase (records_of view)) → unwrap_or (option_map (λ b. b.number) base) n ≡ f → IsFile view f
-file-by_base view f n r None e at names is =
-    subst (IsFile view) is (subst (λ o. IsSomeAnd o (λ r. IsTrue (is_base r))) (sym at) (ap is_none e))
-file-by_base view f n r (Some b) e at names is = subst (IsFile view) is (base-named (record_on view b.number) b.sequence names)
-
-pub file-held : (view : VolumeView) (f n : ℕ) (r : Record) → HoldBelow view 11 → record_on view n ≡ Some r → file_of n r ≡ f → IsFile view f
-file-held view f n r before at is =
-    let right : HasRightReferences (records_of view) r =
-    subst (λ o. IfSome o (HasRightReferences (records_of view))) at (before References (omega arith) n) in
-    file-by_base view f n r r.header.base refl at right.base is
-
 -- The parts that were loaded.
-
-file-or-not : (o : Option Record) → IsSomeAnd o (λ r. IsTrue (is_base r)) ⊎ (¬ (IsSomeAnd o (λ r. IsTrue (is_base r))))
-file-or-not None = inr (λ h. h)
-file-or-not (Some r) = elim (cases_Bool (is_base r)) [ inl t ↦ inl t | inr f ↦ inr (λ t. false≢true (sym f ∙ t)) ]
-
-no-parts : (view : VolumeView) (f : ℕ) → HoldBelow view 11 → ¬ (IsFile view f) → parts (records_of view) f ≡ []
-no-parts view f before none = nil-from_Contains (parts (records_of view) f) (λ part h.
-    let w = HoldsPart-Contains (records_of view) f part h in none (file-held view f w.0 w.1.record_there before w.1.held w.1.file))
 
 none-held : (view : VolumeView) (f : ℕ) (file : FileParts) → HoldBelow view 11 → ¬ (IsFile view f)
     → All (λ one. IsRecordOf view f one.number) (held_of file) → parts_held file ≡ []
 none-held view f file before none own = ap (flat_map parts_of) (nil-from_Contains (held_of file) (λ one h.
     let its = All-contains (λ one. IsRecordOf view f one.number) (held_of file) one own h in
     let w = some-value (record_on view one.number) (λ r. file_of one.number r ≡ f) its.belongs in
-    none (file-held view f one.number w.0 before w.1 w.2)))
+    none (file-held view f one.number w.0 (before References (omega arith) one.number) w.1 w.2)))
 
 pub parts-loaded : (view : VolumeView) (f : ℕ) (file : FileParts) → HoldBelow view 11 → file_number file ≡ f
     → All (λ one. IsRecordOf view f one.number) (held_of file)
     → (IsReadableVolume view → IsFile view f → AreParts view file) → data_held file ≡ parts_at view f DATA []
-parts-loaded view f file before number own whole = ap (filter (is_of DATA [])) (elim (file-or-not (record_on view f)) [
+parts-loaded view f file before number own whole = ap (filter (is_of DATA [])) (elim (file-or-not view f) [
   | inl is ↦ (whole (readable-below view before) is).parts ∙ ap (parts (records_of view)) number
-  | inr none ↦ none-held view f file before none own ∙ sym (no-parts view f before none)
+  | inr none ↦ none-held view f file before none own ∙ sym (no-parts view f (before References (omega arith)) none)
 ])
 
 -- The part that tells the sizes.

@@ -9,7 +9,7 @@ ghost use Rattle.volume_def.specs.Values.{IsPlain, first_part};
 ghost use Rattle.volume_def.specs.VersionClause.{IsMirror};
 ghost use Rattle.mft_table.specs.Mft.{MftReads, faults_of, mounted_of, view};
 ghost use Rattle.mft_table.specs.MountNos.{CountsMount};
-ghost use Rattle.volume_facts.specs.Streams.{NotesStream, places_in, spot_noted};
+ghost use Rattle.record_notes.specs.Streams.{NotesStream, places_in, spot_noted};
 ghost use Rattle.check_records.specs.Refusals.{IsFault};
 ghost use Rattle.mount_check.specs.Copies.{data_held};
 ghost use Rattle.mount_check.specs.MirrorClusters.{IsMirrorInside};
@@ -23,7 +23,7 @@ use ntfs_def::kinds::DATA;
 use ntfs_def::records::MFT_MIRROR;
 use std::alloc::{AllocError, Global};
 use vol_disk::{Disk, SECTOR};
-use volume_facts::StreamNote;
+use record_notes::StreamNote;
 
 /// The sectors of the copies.
 const COPIES: u64 = 8;

@@ -8,6 +8,10 @@ ghost use Rattle.ntfs_boot.specs.Geometry.{FitsDisk, geometry_of, number_of};
 #[cfg(test)]
 mod tests;
 
+use ntfs_def::boot_sector::{
+    CLUSTER_SECTORS, END_MARK, INDEX_SIZE, MFT, MIRROR, NAME, RECORD_SIZE, SECTOR_SIZE, SECTORS,
+    SERIAL,
+};
 use thiserror::Error;
 use vol_bytes::{u16_at, u64_at};
 use vol_disk::SECTOR;
@@ -68,13 +72,13 @@ impl BootFault {
 fn has_name(boot: &[u8; 512]) -> bool
     ensures { result ≡ has_name boot.now }
 {
-    boot[0x03..0x0B].starts_with(b"NTFS    ")
+    boot[NAME..NAME + 8].starts_with(b"NTFS    ")
 }
 
 fn has_end_mark(boot: &[u8; 512]) -> bool
     ensures { result ≡ has_end_mark boot.now }
 {
-    boot[0x1FE] == 0x55 && boot[0x1FF] == 0xAA
+    boot[END_MARK] == 0x55 && boot[END_MARK + 1] == 0xAA
 }
 
 fn is_ntfs(boot: &[u8; 512]) -> bool
@@ -86,7 +90,7 @@ fn is_ntfs(boot: &[u8; 512]) -> bool
 fn has_cluster_sectors(boot: &[u8; 512]) -> bool
     ensures { result ≡ has_cluster_sectors boot.now }
 {
-    matches!(boot[0x0D], 1 | 2 | 4 | 8)
+    matches!(boot[CLUSTER_SECTORS], 1 | 2 | 4 | 8)
 }
 
 // Whether a signed byte spells the size 2^power: in clusters where it is positive, else as -power.
@@ -108,15 +112,15 @@ impl Geometry {
         requires { 0 < cluster_sectors boot.now }
         ensures { result ≡ geometry_of boot.now }
     {
-        let cluster_sectors = boot[0x0D];
-        let sectors = u64_at(boot, 0x28);
+        let cluster_sectors = boot[CLUSTER_SECTORS];
+        let sectors = u64_at(boot, SECTORS);
         Geometry {
             cluster: SECTOR as u32 * cluster_sectors as u32,
             sectors,
             clusters: sectors / cluster_sectors as u64,
-            mft: u64_at(boot, 0x30),
-            mirror: u64_at(boot, 0x38),
-            serial: u64_at(boot, 0x48),
+            mft: u64_at(boot, MFT),
+            mirror: u64_at(boot, MIRROR),
+            serial: u64_at(boot, SERIAL),
         }
     }
 
@@ -133,17 +137,17 @@ impl Geometry {
         if !is_ntfs(boot) {
             return Err(BootFault::NotNtfs);
         }
-        if u16_at(boot, 0x0B) as usize != SECTOR {
+        if u16_at(boot, SECTOR_SIZE) as usize != SECTOR {
             return Err(BootFault::SectorSize);
         }
         if !has_cluster_sectors(boot) {
             return Err(BootFault::ClusterSize);
         }
         let geometry = Geometry::of(boot);
-        if !spells(boot[0x40], geometry.cluster, 10) {
+        if !spells(boot[RECORD_SIZE], geometry.cluster, 10) {
             return Err(BootFault::RecordSize);
         }
-        if !spells(boot[0x44], geometry.cluster, 12) {
+        if !spells(boot[INDEX_SIZE], geometry.cluster, 12) {
             return Err(BootFault::IndexSize);
         }
         if geometry.sectors == 0

@@ -7,9 +7,12 @@ use Rattle.std.proofs.lemmas.Cmp.{on_total, then_total, nat_list_cmp_total, tied
 use Rattle.ntfs_def.specs.FileName.{key_units}
 use Rattle.ntfs_def.specs.KeyOrder.{by_numbers, compare_units, name_order, fold_order, id_order, id_parts, hash_order, hash_parts, word_order, word_parts}
 
+pub units_total : (fold : ℕ → ℕ) → IsTotalOrder (compare_units fold)
+units_total fold = then_total (on_total (map fold) nat_list_cmp_total) nat_list_cmp_total
+
 pub name_total : (fold : ℕ → ℕ) → IsTotalOrder (name_order fold)
 unfolding name_order
-name_total fold = on_total key_units (then_total (on_total (map fold) nat_list_cmp_total) nat_list_cmp_total)
+name_total fold = on_total key_units (units_total fold)
 
 pub fold_total : (fold : ℕ → ℕ) → IsTotalOrder (fold_order fold)
 unfolding fold_order
@@ -48,7 +51,7 @@ then_both Greater b e = let f : Greater ≡ Equal = e in absurd (not f)
     not : Greater ≡ Equal → ⊥
     not g = cc
 
-numbers_equal : (xs ys : List ℕ) → by_numbers xs ys ≡ Equal → xs ≡ ys
+pub numbers_equal : (xs ys : List ℕ) → by_numbers xs ys ≡ Equal → xs ≡ ys
 numbers_equal [] [] e = refl
 numbers_equal [] (y ∷ ys) e = let f : Less ≡ Equal = e in cc
 numbers_equal (x ∷ xs) [] e = let f : Greater ≡ Equal = e in cc
@@ -76,14 +79,11 @@ pub name_ties : (fold : ℕ → ℕ) (a b : List ℕ) → (name_order fold a b �
 unfolding name_order
 name_ties fold a b = (
   λ e. numbers_equal (key_units a) (key_units b) (then_both (folded (key_units a) (key_units b)) _ e).1,
-  λ e. ap (λ us. compare_units fold us (key_units b)) e ∙ tied_itself (then_total folded_total nat_list_cmp_total) (key_units b),
+  λ e. ap (λ us. compare_units fold us (key_units b)) e ∙ tied_itself (units_total fold) (key_units b),
 )
   where
     folded : List ℕ → List ℕ → Ordering
     folded = on (map fold) by_numbers
-
-    folded_total : IsTotalOrder folded
-    folded_total = on_total (map fold) nat_list_cmp_total
 
 pub fold_ties : (fold : ℕ → ℕ) (a b : List ℕ) → (fold_order fold a b ≡ Equal) ↔ (map fold (key_units a) ≡ map fold (key_units b))
 unfolding fold_order

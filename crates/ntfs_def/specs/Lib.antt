@@ -15,3 +15,9 @@ pub mod Node
 pub mod FileName
 pub mod KeyOrder
 pub mod IndexTree
+pub mod StandardInformation
+pub mod ReparsePoint
+pub mod VolumeInformation
+pub mod IndexRoot
+pub mod ViewData
+pub mod Rounded

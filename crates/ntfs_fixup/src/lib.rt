@@ -12,6 +12,7 @@ mod laws;
 mod tests;
 
 pub use laws::{edited_alike, one_answer, patched_alike, sealed_opens};
+use ntfs_def::protected_block::{ARRAY_COUNT, ARRAY_PLACE};
 use thiserror::Error;
 use vol_bytes::{put_u16, u16_at};
 
@@ -39,8 +40,8 @@ fn has_array(block: &[u8]) -> bool
     if block.is_empty() || block.len() % STRIDE != 0 {
         return false;
     }
-    let place = u16_at(block, 0x04) as usize;
-    let count = u16_at(block, 0x06) as usize;
+    let place = u16_at(block, ARRAY_PLACE) as usize;
+    let count = u16_at(block, ARRAY_COUNT) as usize;
     count == block.len() / STRIDE + 1 && place >= 8 && place + 2 * count <= STRIDE_END
 }
 
@@ -48,7 +49,7 @@ fn first_torn(block: &[u8]) -> Option<usize>
     requires { HasArray block.now }
     ensures { MatchOption result (IsSealed block.now) (IsFirstTorn block.now) }
 {
-    let place = u16_at(block, 0x04) as usize;
+    let place = u16_at(block, ARRAY_PLACE) as usize;
     let number = u16_at(block, place);
     for stride in 0..block.len() / STRIDE {
         if u16_at(block, STRIDE * stride + STRIDE_END) != number {
@@ -63,7 +64,7 @@ fn restore(block: &mut [u8])
     requires { HasArray block.old }
     ensures { block.new ≡ opened_of block.old }
 {
-    let place = u16_at(block, 0x04) as usize;
+    let place = u16_at(block, ARRAY_PLACE) as usize;
     let strides = block.len() / STRIDE;
     for stride in 0..strides {
         let pair = place + 2 * (stride + 1);
@@ -124,7 +125,7 @@ pub fn seal(block: &mut [u8])
     ensures seals { Seals block.old block.new }
     ensures bare { bare_of (opened_of block.new) ≡ bare_of block.old }
 {
-    let place = u16_at(block, 0x04) as usize;
+    let place = u16_at(block, ARRAY_PLACE) as usize;
     let number = next_number(u16_at(block, place));
     mark(block, place, number);
 }

@@ -22,8 +22,8 @@ use Rattle.volume_def.specs.StreamSize.{real_size, told_size}
 use Rattle.volume_def.specs.Table.{cluster_bytes}
 use Rattle.volume_def.specs.Values.{attribute_value, first_part, first_vcn_of, is_first, value_on}
 use Rattle.volume_def.specs.View.{VolumeView}
-use Rattle.volume_def.proofs.FindLaws.{count-no, count-yes, find-one}
-use Rattle.volume_def.proofs.MemberLaws.{Contains-filter, Contains-head}
+use Rattle.list_laws.proofs.FindLaws.{count-no, count-yes, find-one}
+use Rattle.list_laws.proofs.MemberLaws.{Contains-filter, Contains-head}
 use Rattle.volume_def.proofs.ReadableLaws.{readable-stream}
 use Rattle.tree_model.specs.Answers.{bytes_of, range_of, shown_stream}
 use Rattle.tree_model.specs.Cases.{is_packed, size_of}

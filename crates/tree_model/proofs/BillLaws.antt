@@ -11,10 +11,11 @@ use Rattle.tree_model.specs.Bill.{Change, bill_of, bill_with, changes_of, cluste
 use Rattle.tree_model.specs.Bill.{directory_change, dropped_links, is_entry_of, is_touched, new_names_in, object_id_change, point_change}
 use Rattle.tree_model.specs.Bill.{removes_file, tags_added, tags_dropped, touched_file, touches_file}
 use Rattle.tree_model.specs.IndexRoom.{Index, directory_index, has_entry, is_object_id_item, is_point_item, object_id_index, point_index}
-use Rattle.tree_model.specs.Need.{Counted, clusters_for, empty_bill, need_of}
+use Rattle.tree_model.specs.Need.{Counted, empty_bill, need_of}
+use Rattle.ntfs_def.specs.Rounded.{clusters_for}
 use Rattle.tree_model.specs.NoRoom.{mft_free, mft_need, need_on, no_room_for}
 use Rattle.tree_model.specs.Refusals.{when}
-use Rattle.tree_model.specs.Room.{unowned_clusters, unused_records}
+use Rattle.volume_def.specs.Room.{unowned_clusters, unused_records}
 use Rattle.tree_model.specs.Subjects.{Located, NoName}
 use Rattle.tree_model.specs.Tree.{Tree, is_in}
 use Rattle.tree_model.specs.declared.command.Command.{Command}
@@ -52,12 +53,12 @@ counts-none view change (x ∷ xs) rest none =
     ∙ counts-none view change xs rest none
 
 -- The command names nothing new, drops no link, takes no file away, and touches no key of a reparse point.
-record IsQuiet (tree : Tree) (command : Command) (at : Located) : Type 0 where
-  new : at.new ≡ NoName
-  links : dropped_links tree command at ≡ []
-  stays : removes_file tree command at ≡ false
-  added : tags_added command ≡ []
-  dropped : tags_dropped tree command at ≡ []
+pub record IsQuiet (tree : Tree) (command : Command) (at : Located) : Type 0 where
+  pub new : at.new ≡ NoName
+  pub links : dropped_links tree command at ≡ []
+  pub stays : removes_file tree command at ≡ false
+  pub added : tags_added command ≡ []
+  pub dropped : tags_dropped tree command at ≡ []
 
 directory-none : (view : VolumeView) (tree : Tree) (command : Command) (at : Located) → IsQuiet tree command at → (dir : ℕ)
     → (counted_in view (directory_change tree command at dir)).entries ≡ 0
@@ -84,7 +85,8 @@ object_id-none view tree command at quiet index =
           (cond goes (filter (λ id. length id == 16) (map object_id (option_to_list at.node))) []);
     })) quiet.stays
 
-counted-none : (view : VolumeView) (tree : Tree) (command : Command) (at : Located) → IsQuiet tree command at
+-- the bill of such a command counts no change of an index
+pub counted-none : (view : VolumeView) (tree : Tree) (command : Command) (at : Located) → IsQuiet tree command at
     → counted_of view tree command at ≡ []
 unfolding counted_of changes_of
 counted-none view tree command at quiet =

@@ -12,7 +12,7 @@ use Rattle.volume_def.specs.Files.{Record, Records, is_base, is_directory, recor
 use Rattle.volume_def.specs.LinksClause.{MeetsLinks, ReachesRoot, parent_of, steps_up}
 use Rattle.volume_def.specs.ReferencesClause.{MeetsReferences}
 use Rattle.volume_def.specs.View.{VolumeView}
-use Rattle.volume_def.proofs.FindLaws.{find-one}
+use Rattle.list_laws.proofs.FindLaws.{find-one}
 use Rattle.tree_model.specs.Hidden.{is_hidden, leads_to_system}
 use Rattle.tree_model.proofs.HiddenLaws.{none-leads, hidden-ordinary, hidden-system, leads-ordinary, leads-root, leads-system, stands-parent}
 use Rattle.tree_model.proofs.ParentLaws.{HasName, name-directory, one-parent}

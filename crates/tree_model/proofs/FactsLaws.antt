@@ -19,7 +19,8 @@ use Rattle.ntfs_def.specs.declared.records.TheConstants.{SECURE}
 use Rattle.volume_def.specs.IndexesClause.{HasIndex, KeyRule, index_parts}
 use Rattle.volume_def.specs.Values.{value_on}
 use Rattle.volume_def.specs.View.{VolumeView}
-use Rattle.tree_model.specs.Facts.{HasDescriptor, IsVolumeOf, TellsDescriptor, TellsFacts, item_data, sds_parts}
+use Rattle.tree_model.specs.Facts.{HasDescriptor, IsVolumeOf, TellsDescriptor, TellsFacts, sds_parts}
+use Rattle.ntfs_def.specs.ViewData.{item_data}
 use Rattle.tree_model.specs.IndexRoom.{Index}
 use Rattle.tree_model.specs.Refusals.{Facts}
 use Rattle.tree_model.proofs.IndexRoomLaws.{entry-walk}
@@ -66,7 +67,7 @@ any-member test (z ∷ zs) x c t = by (λ d. any-member test zs x d t) (member z
     by ih (inr d) false s = rw s (ih d)
 
 -- two walks of one index have the same items
-other-walk : (view : VolumeView) (index : Index) (rule : KeyRule) (items others : List Item)
+pub other-walk : (view : VolumeView) (index : Index) (rule : KeyRule) (items others : List Item)
     → HasIndex index.form rule view (index_parts view index.file index.name) items
     → HasIndex index.form rule view (index_parts view index.file index.name) others
     → (x : Item) → Contains items x → Contains others x
@@ -94,7 +95,7 @@ behind x (z ∷ zs) y each c = by (behind x zs y each.1) (member z zs y c.0 c.1 
     by ih (inr d) = ih d
 
 -- an id stands once
-one_item : (zs : List Item) (x y : Item) → Ascends id_order zs → Contains zs x → Contains zs y → u32_at x.key 0 ≡ u32_at y.key 0 → x ≡ y
+pub one_item : (zs : List Item) (x y : Item) → Ascends id_order zs → Contains zs x → Contains zs y → u32_at x.key 0 ≡ u32_at y.key 0 → x ≡ y
 one_item [] x y ascends cx cy same = no_member x cx
 one_item (z ∷ zs) x y ascends cx cy same =
     by (λ dx dy. one_item zs x y ascends.1 dx dy same) (member z zs x cx.0 cx.1 cx.2) (member z zs y cy.0 cy.1 cy.2)
@@ -109,8 +110,8 @@ one_item (z ∷ zs) x y ascends cx cy same =
         absurd (less-tied (sym less ∙ tied y x (sym same)))
     by ih (inr c) (inr d) = ih c d
 
-one_descriptor : (view : VolumeView) (id : ℕ) (a b : List ℕ) → HasDescriptor view id a → HasDescriptor view id b → a ≡ b
-one_descriptor view id a b x y =
+same_bytes : (view : VolumeView) (id : ℕ) (a b : List ℕ) → HasDescriptor view id a → HasDescriptor view id b → a ≡ b
+same_bytes view id a b x y =
     let index : Index = record { file = SECURE; form = View; name = wide (codes "$SII") } in
     let moved : Contains y.index.items x.item =
     other-walk view index _ x.index.items y.index.items x.index.has y.index.has x.item x.among in
@@ -123,11 +124,12 @@ one_descriptor view id a b x y =
     ∙ ap (λ len. slice_range all (y.offset + 20) (y.offset + len)) size
     ∙ sym y.is
 
-one_told : (view : VolumeView) (id : ℕ) (a b : Option (List ℕ)) → TellsDescriptor view id a → TellsDescriptor view id b → a ≡ b
+-- of an id it tells one descriptor, or that it has none
+pub one_told : (view : VolumeView) (id : ℕ) (a b : Option (List ℕ)) → TellsDescriptor view id a → TellsDescriptor view id b → a ≡ b
 one_told view id None None x y = refl
 one_told view id None (Some b) x y = absurd (x b y)
 one_told view id (Some a) None x y = absurd (y a x)
-one_told view id (Some a) (Some b) x y = ap Some (one_descriptor view id a b x y)
+one_told view id (Some a) (Some b) x y = ap Some (same_bytes view id a b x y)
 
 pub one_facts : (view : VolumeView) (one other : Facts) → TellsFacts view one → TellsFacts view other → one ≡ other
 one_facts view one other x y = λ i. record {

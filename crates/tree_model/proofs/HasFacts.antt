@@ -20,11 +20,12 @@ use Rattle.volume_def.specs.Sound.{Indexes, IsSound}
 use Rattle.volume_def.specs.Values.{IsPlain, first_part, value_on}
 use Rattle.volume_def.specs.View.{VolumeView}
 use Rattle.tree_model.specs.Bill.{bill_of}
-use Rattle.tree_model.specs.Facts.{HasDescriptor, TellsDescriptor, TellsFacts, item_data, sds_parts}
+use Rattle.tree_model.specs.Facts.{HasDescriptor, TellsDescriptor, TellsFacts, sds_parts}
+use Rattle.ntfs_def.specs.ViewData.{item_data}
 use Rattle.tree_model.specs.IndexRoom.{Index}
 use Rattle.tree_model.specs.NoRoom.{no_room_for}
 use Rattle.tree_model.specs.Refusals.{Facts}
-use Rattle.tree_model.specs.Room.{unowned_clusters, unused_records}
+use Rattle.volume_def.specs.Room.{unowned_clusters, unused_records}
 use Rattle.tree_model.specs.Staging.{spills_for}
 use Rattle.tree_model.proofs.IndexRoomLaws.{entry-walk}
 

@@ -6,7 +6,7 @@ use Rattle.ntfs_def.specs.declared.records.TheConstants.{FIRST_ORDINARY, ROOT}
 use Rattle.ntfs_def.specs.FileName.{FileName}
 use Rattle.volume_def.specs.FileNames.{names_of}
 use Rattle.volume_def.specs.Files.{Records}
-use Rattle.volume_def.proofs.MemberLaws.{Contains-head, Contains-later, Contains-nil}
+use Rattle.list_laws.proofs.MemberLaws.{Contains-head, Contains-later, Contains-nil}
 use Rattle.tree_model.specs.Hidden.{is_hidden, is_system, leads_to_system}
 
 or_right : (a b : Bool) → b ≡ true → (a || b) ≡ true

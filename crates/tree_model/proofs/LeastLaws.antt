@@ -2,7 +2,7 @@
 use Rattle.std.proofs.Common.{◌≡◌, List, [], ◌∷◌, ◌++◌, ◌&&◌, Bool, true, false, Option, Some, None, filter, find, refl, sym, ap, ◌∙◌}
 use Rattle.std.proofs.Common.{if◌then◌else◌}
 use Rattle.tree_model.specs.Ordered.{IsOrder, in_order, put_in_order}
-use Rattle.tree_model.specs.Plain.{least}
+use Rattle.tree_model.specs.Ordered.{least}
 
 -- the least of two lists, one after the other
 pub least-append : {A : Type 0} (above : A → A → Bool) (best : Option A) (xs ys : List A)

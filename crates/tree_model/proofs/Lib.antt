@@ -3,7 +3,7 @@ pub mod LinkOrder
 pub mod ReadingLaws
 pub mod StepLaws
 pub mod LeastLaws
-pub mod PlainLaws
+pub mod ResolveLaws
 pub mod LookLaws
 pub mod BillLaws
 pub mod IndexRoomLaws
@@ -15,7 +15,6 @@ pub mod PlaceLaws
 pub mod FactsLaws
 pub mod HasFacts
 pub mod MachineLaws
-pub mod EffectLaws
 pub mod ParentLaws
 pub mod OrderedMembers
 pub mod ShownLaws

@@ -5,7 +5,7 @@ use Rattle.tree_model.specs.Answers.{answer_of}
 use Rattle.tree_model.specs.Cases.{AsksFor, AsksNothing, conflicts, is_wide}
 use Rattle.tree_model.specs.Opens.{all_access, to_read}
 use Rattle.tree_model.specs.Paths.{and_then, found_file, resolve}
-use Rattle.tree_model.specs.Plain.{Tells, cat_of, df_of, AreTold, file_at, links_of, looked, ls_of, read_of, reparse_of}
+use Rattle.tree_model.specs.Shown.{Tells, cat_of, file_at, links_of, looked, ls_of, read_of, reparse_of}
 use Rattle.tree_model.specs.Refusals.{Facts, outcome}
 use Rattle.tree_model.specs.Step.{due}
 use Rattle.tree_model.specs.Subjects.{content_named, is_directory, locate, stream_name}
@@ -13,7 +13,6 @@ use Rattle.tree_model.specs.Tree.{Tree, node_of}
 use Rattle.tree_model.specs.declared.command.Command.{Command}
 use Rattle.tree_model.specs.declared.command.Command.TheVariants as c
 use Rattle.tree_model.specs.declared.opens.OpenEntry.{OpenEntry}
-use Rattle.tree_model.specs.declared.plain_facts.PlainFacts.{PlainFacts}
 use Rattle.tree_model.specs.declared.reply.Answer.{Answer}
 use Rattle.tree_model.specs.declared.reply.Answer.TheVariants as a
 use Rattle.tree_model.specs.declared.reply.No.{No}
@@ -24,7 +23,7 @@ use Rattle.tree_model.specs.declared.tree.Node.{Node}
 use Rattle.tree_model.specs.declared.tree.Point.{Point}
 
 -- no open conflicts with a command that asks for nothing
-find-never : (opens : List OpenEntry) (file : ℕ) → find (conflicts AsksNothing file) opens ≡ None
+pub find-never : (opens : List OpenEntry) (file : ℕ) → find (conflicts AsksNothing file) opens ≡ None
 find-never [] file = refl
 find-never (entry ∷ opens) file = find-never opens file
 
@@ -205,9 +204,3 @@ told want other (Err refused) same (inr memory) = inr memory
 pub told-same : {A : Type 0} (want result : Result A No) → result ≡ want → Tells want result
 told-same want (Ok x) same = sym same
 told-same want (Err refused) same = inl (sym same)
-
-pub df-due : (told : PlainFacts) (facts : Facts) (tree : Tree) (opens : List OpenEntry) (now session : ℕ) → AreTold told facts
-    → due facts (record { tree = tree; opens = opens; now = now }) session c.Df ≡ Ok (df_of told)
-unfolding due outcome locate answer_of
-df-due told facts tree opens now session is =
-    let n = find-never opens 0 in rw n (λ i. Ok (a.Df (is.clusters i) (is.free i) (is.records i) (is.free_records i)))

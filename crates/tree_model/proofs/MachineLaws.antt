@@ -1,16 +1,13 @@
 -- A step of a command that reads, and of one that is not built.
-use Rattle.std.proofs.Common.{◌≡◌, inl, inr, ℕ, true, false, List, Result, Ok, Err, refl, sym, ap, subst, ◌∙◌}
+use Rattle.std.proofs.Common.{◌≡◌, inl, inr, ℕ, true, false, Result, Ok, Err, refl, sym, ap, ◌∙◌}
 use Rattle.tree_model.specs.Effects.{after, makes_file, opens_after, tree_after}
-use Rattle.tree_model.specs.Plain.{Answers, AreTold, Tells, machine_of, tree_of}
+use Rattle.tree_model.specs.Shown.{Tells}
 use Rattle.tree_model.specs.Refusals.{Facts, outcome}
 use Rattle.tree_model.specs.Staging.{is_built}
 use Rattle.tree_model.specs.Step.{Step, answered, due, reply_of}
 use Rattle.tree_model.specs.Subjects.{Located, Machine}
 use Rattle.tree_model.specs.declared.command.Command.{Command}
 use Rattle.tree_model.specs.declared.command.Command.TheVariants as c
-use Rattle.tree_model.specs.declared.opens.OpenEntry.{OpenEntry}
-use Rattle.tree_model.specs.declared.plain_facts.PlainFacts.{PlainFacts}
-use Rattle.tree_model.specs.declared.plain_machine.PlainMachine.{PlainMachine}
 use Rattle.tree_model.specs.declared.reply.Answer.{Answer}
 use Rattle.tree_model.specs.declared.reply.No.{No}
 use Rattle.tree_model.specs.declared.reply.No.TheVariants as no
@@ -83,13 +80,3 @@ shown-step facts m session command (Ok answer) built tells =
 shown-step facts m session command (Err refused) built (inl tells) = record { replied = inl (sym (ap reply_of tells)); moved = refl }
 shown-step facts m session command (Err refused) built (inr memory) =
     record { replied = inr (inl (ap reply.No memory)); moved = refl }
-
--- the same of the machine that is kept
-pub answered-step : (plain : PlainMachine) (opens : List OpenEntry) (told : PlainFacts) (facts : Facts) (session : ℕ) (command : Command)
-    (result : Result Answer No) → opens ≡ plain.opens.items → is_built command ≡ true → Answers plain.tree opens told command result
-    → AreTold told facts → Step facts (machine_of plain) session command (reply_of result) (machine_of plain)
-unfolding machine_of
-answered-step plain opens told facts session command result same built answers is =
-    shown-step facts (machine_of plain) session command result built
-    (subst (λ it. Tells (due facts (record { tree = tree_of plain.tree; opens = it; now = plain.now }) session command) result) same
-    (answers facts plain.now session is))

@@ -12,7 +12,7 @@ use Rattle.volume_def.specs.CaseClause.{volume_fold}
 use Rattle.volume_def.specs.FileNames.{links, links_of_file, names_of}
 use Rattle.volume_def.specs.Files.{Record, Records, is_base, record_on, records_of}
 use Rattle.volume_def.specs.View.{VolumeView}
-use Rattle.volume_def.proofs.MemberLaws.{Contains-from_flat_map, Contains-from_map, Contains-nil, filter-map}
+use Rattle.list_laws.proofs.MemberLaws.{Contains-from_flat_map, Contains-from_map, Contains-nil, filter-map}
 use Rattle.tree_model.specs.Hidden.{is_hidden}
 use Rattle.tree_model.specs.Ordered.{in_order}
 use Rattle.tree_model.specs.Reading.{all_links, is_hidden_link, link_by, links_to, node_at, node_on, read}

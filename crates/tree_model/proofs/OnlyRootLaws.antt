@@ -13,7 +13,7 @@ use Rattle.ntfs_def.specs.declared.records.TheConstants.{ROOT}
 use Rattle.volume_def.specs.FileNames.{names_of}
 use Rattle.volume_def.specs.Files.{Record, Records, is_base, parts, record_on, records_of}
 use Rattle.volume_def.specs.View.{VolumeView}
-use Rattle.volume_def.proofs.MemberLaws.{Contains-head, Contains-later}
+use Rattle.list_laws.proofs.MemberLaws.{Contains-head, Contains-later}
 use Rattle.tree_model.specs.Hidden.{is_hidden, is_system, leads_to_system}
 use Rattle.tree_model.specs.Reading.{all_links, is_hidden_link, node_at, node_by, node_on, tree_nodes}
 use Rattle.tree_model.specs.declared.tree.Link.{Link}

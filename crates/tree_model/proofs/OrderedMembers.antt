@@ -1,7 +1,7 @@
 -- The items of a list in order are those of the list.
 use Rattle.std.proofs.Common.{◌≡◌, ◌⊎◌, inl, inr, Bool, true, false, List, [], ◌∷◌, cond, arith}
 use Rattle.std.specs.List.{Contains}
-use Rattle.volume_def.proofs.MemberLaws.{Contains-cases, Contains-later}
+use Rattle.list_laws.proofs.MemberLaws.{Contains-cases, Contains-later}
 use Rattle.tree_model.specs.Ordered.{in_order, put_in_order}
 
 from-put : {A : Type 0} (above : A → A → Bool) (x : A) (ys : List A) (z : A) → Contains (put_in_order above x ys) z → (x ≡ z) ⊎ Contains ys z

@@ -10,8 +10,8 @@ use Rattle.volume_def.specs.FileNames.{is_dos, is_file_name, is_not_dos, names_a
 use Rattle.volume_def.specs.Files.{Part, Record, Records, content_value, file_of, is_base, is_directory, parts, parts_in}
 use Rattle.volume_def.specs.LinksClause.{HasRightLinks, IsPairedAmong, is_long_in}
 use Rattle.volume_def.specs.ReferencesClause.{HasRightReferences, MeetsReferences, NamesDirectory}
-use Rattle.volume_def.proofs.FindLaws.{passing, same_passing}
-use Rattle.volume_def.proofs.MemberLaws.{Contains-cases, Contains-filter, Contains-from_filter, Contains-from_flat_map, Contains-head, Contains-later, Contains-nil}
+use Rattle.list_laws.proofs.FindLaws.{passing, same_passing}
+use Rattle.list_laws.proofs.MemberLaws.{Contains-cases, Contains-filter, Contains-from_filter, Contains-from_flat_map, Contains-head, Contains-later, Contains-nil}
 use Rattle.tree_model.proofs.HiddenLaws.{HasOneParent}
 
 -- the items that a rule gives something of

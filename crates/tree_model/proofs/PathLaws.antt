@@ -14,8 +14,8 @@ use Rattle.volume_def.specs.Files.{Record, Records, is_base, parts, record_on, r
 use Rattle.volume_def.specs.LinksClause.{MeetsLinks}
 use Rattle.volume_def.specs.ReferencesClause.{MeetsReferences}
 use Rattle.volume_def.specs.View.{VolumeView}
-use Rattle.volume_def.proofs.FindLaws.{count-no, count-yes, find-filter, find-map, find-one, same_passing}
-use Rattle.volume_def.proofs.MemberLaws.{Contains-cases, Contains-head, Contains-nil, filter-map}
+use Rattle.list_laws.proofs.FindLaws.{count-no, count-yes, find-filter, find-map, find-one, same_passing}
+use Rattle.list_laws.proofs.MemberLaws.{Contains-cases, Contains-head, Contains-nil, filter-map}
 use Rattle.tree_model.specs.Answers.{path_to}
 use Rattle.tree_model.specs.Hidden.{is_hidden}
 use Rattle.tree_model.specs.Reading.{link_for, links_to, node_at, node_by, read}

@@ -10,7 +10,7 @@ use Rattle.volume_def.specs.FileNames.{links, links_of_file, names_of}
 use Rattle.volume_def.specs.Files.{Record, is_base, is_directory, parts, record_on, records_of}
 use Rattle.volume_def.specs.LinksClause.{HasRightLinks, MeetsLinks}
 use Rattle.volume_def.specs.View.{VolumeView}
-use Rattle.volume_def.proofs.MemberLaws.{Contains-from_filter, Contains-from_flat_map, Contains-from_map, Contains-nil}
+use Rattle.list_laws.proofs.MemberLaws.{Contains-from_filter, Contains-from_flat_map, Contains-from_map, Contains-nil}
 use Rattle.tree_model.specs.Hidden.{is_hidden, leads_to_system}
 use Rattle.tree_model.specs.Reading.{all_links, directory_links, link_by, link_for, links_to, node_at, node_by, node_on, read}
 use Rattle.tree_model.specs.Tree.{is_in, link_above, node_of, shown_node}

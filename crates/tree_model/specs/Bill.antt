@@ -14,9 +14,10 @@ use Rattle.tree_model.specs.Cases.{makes_stream, size_of}
 use Rattle.tree_model.specs.Drops.{goes_with, is_last_link, is_link}
 use Rattle.tree_model.specs.IndexRoom.{Index, directory_index, has_entry, has_inner_entry, index_depth, is_object_id_item}
 use Rattle.tree_model.specs.IndexRoom.{is_point_item, object_id_index, point_index}
-use Rattle.tree_model.specs.Need.{Bill, Counted, Touched, clusters_for}
+use Rattle.tree_model.specs.Need.{Bill, Counted, Touched}
+use Rattle.ntfs_def.specs.Rounded.{clusters_for}
 use Rattle.tree_model.specs.Reading.{link_by, standard_of}
-use Rattle.tree_model.specs.Room.{list_len_of, longest_name}
+use Rattle.volume_def.specs.Room.{list_len_of, longest_name}
 use Rattle.tree_model.specs.StreamRoom.{is_in_place, new_clusters, parts_named, value_in}
 use Rattle.tree_model.specs.Subjects.{Located, NameIn, NewName}
 use Rattle.tree_model.specs.Tree.{Tree, is_in, sought_stream}

@@ -7,7 +7,8 @@ use Rattle.tree_model.specs.Drops.{goes_with, is_last_link}
 use Rattle.tree_model.specs.Opens.{all_access, are_compatible, to_delete, to_read, to_write}
 use Rattle.tree_model.specs.Subjects.{DirectoryLinkAt, LinkAt, LinkAtAndNew, Located, Machine, NameIn, NewName, NoName, RootPath}
 use Rattle.tree_model.specs.Subjects.{StreamAt, Subject, Through, WhatIsAtAndNew, is_directory}
-use Rattle.tree_model.specs.Tree.{Tree, are_same, first_name, is_dos, is_of_microsoft, leads_to, links_in}
+use Rattle.tree_model.specs.Tree.{Tree, are_same, first_name, is_dos, leads_to, links_in}
+use Rattle.ntfs_def.specs.ReparsePoint.{is_of_microsoft}
 use Rattle.tree_model.specs.declared.command.Command.{Command}
 use Rattle.tree_model.specs.declared.command.Command.TheVariants as c
 use Rattle.tree_model.specs.declared.opens.Access.{Access}

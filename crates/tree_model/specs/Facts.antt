@@ -1,8 +1,8 @@
 -- What an image says: its volume, its reading, and what it tells beside the tree.
 -- Layout: Linux-NTFS documentation, file $Secure; Carrier, File System Forensic Analysis, chapters 11 to 13.
-use Rattle.std.specs.Prelude.{◌≡◌, ℕ, ◌+◌, ◌-◌, ◌/◌, ◌≤◌, List, Contains, codes, drop, is_some, length}
+use Rattle.std.specs.Prelude.{◌≡◌, ℕ, ◌+◌, ◌/◌, ◌≤◌, List, Contains, codes, is_some, length}
 use Rattle.std.specs.Prelude.{slice_range, take, Option, Some, None}
-use Rattle.vol_bytes.specs.Field.{u16_at, u32_at, u64_at}
+use Rattle.vol_bytes.specs.Field.{u32_at}
 use Rattle.vol_disk.specs.Contents.{sector_in}
 use Rattle.ntfs_def.specs.Boot.{boot_sector}
 use Rattle.ntfs_def.specs.Node.{Item}
@@ -21,11 +21,12 @@ use Rattle.tree_model.specs.Bill.{bill_of}
 use Rattle.tree_model.specs.NoRoom.{no_room_for}
 use Rattle.tree_model.specs.Reading.{read}
 use Rattle.tree_model.specs.Refusals.{Facts}
-use Rattle.tree_model.specs.Room.{unowned_clusters, unused_records}
+use Rattle.volume_def.specs.Room.{unowned_clusters, unused_records}
 use Rattle.tree_model.specs.Staging.{spills_for}
 use Rattle.tree_model.specs.Subjects.{Located, Machine}
 use Rattle.tree_model.specs.Tree.{Tree}
 use Rattle.tree_model.specs.declared.command.Command.{Command}
+use Rattle.ntfs_def.specs.ViewData.{item_data, security_offset, security_size}
 
 -- The volume of an image: its boot sector and its table tell where all else lies.
 pub record IsVolumeOf (image : List ℕ) (view : VolumeView) : Type 0 where
@@ -40,13 +41,9 @@ pub record ReadsAs (image : List ℕ) (tree : Tree) : Type 0 where
   pub reading : tree ≡ read view
 
 -- Security descriptors: $Secure has them in its stream $SDS, each behind a header of 20 bytes, and tells of them by id in its
--- index $SII. The data of an entry, and such a header, are u32 hash, u32 id, u64 offset of the header, u32 size with the header.
+-- index $SII.
 abbrev pub sds_parts : VolumeView → List Part
 sds_parts view = parts_at view SECURE DATA (wide (codes "$SDS"))
-
--- the data of a view index's entry: 0x00 where it stands, from the entry on, 0x02 its bytes; the key stands at 0x10
-abbrev pub item_data : Item → List ℕ
-item_data item = take (u16_at item.head 2) (drop (u16_at item.head 0 - 16 - length item.key) item.rest)
 
 -- The id has this descriptor.
 pub record HasDescriptor (view : VolumeView) (id : ℕ) (bytes : List ℕ) : Type 0 where
@@ -57,9 +54,9 @@ pub record HasDescriptor (view : VolumeView) (id : ℕ) (bytes : List ℕ) : Typ
   pub key : u32_at item.key 0 ≡ id
   pub long : 20 ≤ length (item_data item)
   pub offset : ℕ
-  pub offset_is : offset ≡ u64_at (item_data item) 8
+  pub offset_is : offset ≡ security_offset (item_data item)
   pub size : ℕ
-  pub size_is : size ≡ u32_at (item_data item) 16
+  pub size_is : size ≡ security_size (item_data item)
   pub least : 20 ≤ size
   pub most : size ≤ 65556
   pub inside : offset + size ≤ length (value_on view (sds_parts view))

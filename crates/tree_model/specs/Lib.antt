@@ -6,7 +6,6 @@ pub mod Drops
 pub mod Cases
 pub mod Opens
 pub mod Need
-pub mod Room
 pub mod IndexRoom
 pub mod StreamRoom
 pub mod Bill
@@ -14,6 +13,7 @@ pub mod NoRoom
 pub mod Staging
 pub mod Refusals
 pub mod Answers
+pub mod Shown
 pub mod Streams
 pub mod Effects
 pub mod Step
@@ -21,5 +21,4 @@ pub mod Hidden
 pub mod Reading
 pub mod Facts
 pub mod Session
-pub mod Plain
 pub mod Taken

@@ -1,12 +1,9 @@
 -- THE NEED of a command: the clusters and records that have to be free before it is tried, by its bill. `size` is the bytes of a
 -- cluster, `free` the records that are free. That room is asked for beforehand, and how much, is this project's choice.
-use Rattle.std.specs.Prelude.{ℕ, ◌+◌, ◌-◌, ◌*◌, ◌/◌, nat_le, List, [], length, sum_by, Option, if◌then◌else◌}
+use Rattle.std.specs.Prelude.{ℕ, ◌+◌, ◌*◌, nat_le, List, [], length, sum_by, Option, if◌then◌else◌}
 use Rattle.std.specs.List.{range_with_len}
 use Rattle.ntfs_def.specs.declared.lengths.TheConstants.{INDEX_RECORD, RECORD}
-
--- the clusters that so many bytes fill
-abbrev pub clusters_for : ℕ → ℕ → ℕ
-clusters_for bytes size = (bytes + (size - 1)) / size
+use Rattle.ntfs_def.specs.Rounded.{clusters_for}
 
 -- A file that a command touches: its number, `None` of a new one; the bytes of an attribute list that names all its attributes;
 -- and the units of its longest attribute name, one that the command adds too.

@@ -6,9 +6,10 @@ use Rattle.ntfs_def.specs.declared.lengths.TheConstants.{RECORD}
 use Rattle.ntfs_def.specs.declared.records.TheConstants.{MFT}
 use Rattle.volume_def.specs.Table.{cluster_bytes}
 use Rattle.volume_def.specs.View.{VolumeView}
-use Rattle.tree_model.specs.Need.{Bill, Touched, clusters_for, list_growth, need_of, records_wanted, table_growth}
+use Rattle.tree_model.specs.Need.{Bill, Touched, list_growth, need_of, records_wanted, table_growth}
+use Rattle.ntfs_def.specs.Rounded.{clusters_for}
 use Rattle.tree_model.specs.Refusals.{first_some, when}
-use Rattle.tree_model.specs.Room.{free_bytes, unowned_clusters, unused_records}
+use Rattle.volume_def.specs.Room.{free_bytes, unowned_clusters, unused_records}
 use Rattle.tree_model.specs.declared.reply.No.{No}
 use Rattle.tree_model.specs.declared.reply.No.TheVariants as no
 

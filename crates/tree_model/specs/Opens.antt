@@ -41,5 +41,5 @@ free_from (suc steps) opens session handle =
     if list_any (is_handle session handle) opens then free_from steps opens session (suc handle) else handle
 
 -- the handle that an open gets; a session has 64 at most
-abbrev pub free_handle : List OpenEntry → ℕ → ℕ
+unfoldable pub free_handle : List OpenEntry → ℕ → ℕ
 free_handle opens session = free_from 64 opens session 0

@@ -1,5 +1,5 @@
 -- Lists in order, as values. `above x y` says that x stands behind y.
-use Rattle.std.specs.Prelude.{◌≡◌, Bool, true, false, List, [], ◌∷◌, if◌then◌else◌}
+use Rattle.std.specs.Prelude.{◌≡◌, Bool, true, false, List, [], ◌∷◌, Option, Some, None, if◌then◌else◌}
 
 abbrev pub put_in_order : {A : Type 0} → (A → A → Bool) → A → List A → List A
 put_in_order above x [] = x ∷ []
@@ -14,6 +14,12 @@ in_order above (x ∷ xs) = put_in_order above x (in_order above xs)
 abbrev pub put_all : {A : Type 0} → (A → A → Bool) → List A → List A → List A
 put_all above [] others = others
 put_all above (x ∷ xs) others = put_in_order above x (put_all above xs others)
+
+-- The least of a list and of one before it.
+abbrev pub least : {A : Type 0} → (A → A → Bool) → Option A → List A → Option A
+least above best [] = best
+least above None (x ∷ xs) = least above (Some x) xs
+least above (Some y) (x ∷ xs) = least above (Some (if above y x then x else y)) xs
 
 -- An order in which of each two items that differ one stands above the other.
 pub record IsOrder {A : Type 0} (above : A → A → Bool) : Type 0 where

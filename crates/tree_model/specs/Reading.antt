@@ -1,15 +1,14 @@
 -- The tree that a volume reads as: by a scan of its records and the clusters of their values alone; no index is looked at.
 -- Layout: Linux-NTFS documentation, attributes $STANDARD_INFORMATION, $FILE_NAME, $DATA, $REPARSE_POINT and $OBJECT_ID; Carrier,
 -- File System Forensic Analysis, chapters 11 to 13.
-use Rattle.std.specs.Prelude.{ℕ, ◌-◌, ◌==◌, ◌&&◌, ◌||◌, not, nat_lt, Bool, List, [], ◌∷◌, ◌++◌, bit_and, codes, drop}
+use Rattle.std.specs.Prelude.{ℕ, ◌-◌, ◌==◌, ◌&&◌, ◌||◌, not, Bool, List, [], ◌++◌, bit_and, codes}
 use Rattle.std.specs.Prelude.{filter, find}
-use Rattle.std.specs.Prelude.{false, length, map, replicate, take, Option, Some, None, option_and_then, option_map, unwrap_or}
+use Rattle.std.specs.Prelude.{false, length, map, replicate, Option, Some, None, option_and_then, option_map, unwrap_or}
 use Rattle.std.specs.Prelude.{if◌then◌else◌}
 use Rattle.std.specs.FinMap as finmap
 use Rattle.std.specs.List.{filter_map, range_with_len}
 use Rattle.std.specs.Option.{option_map_or}
 use Rattle.std.specs.Ordering.{is_gt, nat_cmp, ordering_then}
-use Rattle.vol_bytes.specs.Field.{u16_at, u32_at, u64_at}
 use Rattle.ntfs_def.specs.FileName as names
 use Rattle.ntfs_def.specs.Flags.{is_packed}
 use Rattle.ntfs_def.specs.KeyOrder.{compare_units}
@@ -27,7 +26,7 @@ use Rattle.volume_def.specs.View.{VolumeView}
 use Rattle.tree_model.specs.Hidden.{is_hidden}
 use Rattle.tree_model.specs.Ordered.{in_order}
 use Rattle.tree_model.specs.Streams.{stream_above}
-use Rattle.tree_model.specs.Tree.{Tree, is_in, is_of_microsoft, link_above}
+use Rattle.tree_model.specs.Tree.{Tree, is_in, link_above}
 use Rattle.tree_model.specs.declared.tree.Content.{Content}
 use Rattle.tree_model.specs.declared.tree.Content.TheVariants.{Packed, Plain}
 use Rattle.tree_model.specs.declared.tree.Link.{Link}
@@ -36,6 +35,8 @@ use Rattle.tree_model.specs.declared.tree.Point.{Point}
 use Rattle.tree_model.specs.declared.tree.RawAttr.{RawAttr}
 use Rattle.tree_model.specs.declared.tree.Stream.{Stream}
 use Rattle.tree_model.specs.declared.tree.TheConstants.{SHOWN_FLAGS}
+use Rattle.ntfs_def.specs.StandardInformation.{dos_flags, standard_security, standard_times}
+use Rattle.ntfs_def.specs.ReparsePoint.{reparse_data, reparse_tag}
 
 -- What an attribute holds, by its parts: its real size alone where the first of them is packed.
 abbrev pub is_packed_part : Part → Bool
@@ -60,30 +61,19 @@ stream_at view all part = record { name = units_in part.name; content = content_
 unfoldable pub streams_of : VolumeView → List Part → List Stream
 streams_of view all = in_order (stream_above (volume_fold view)) (map (stream_at view all) (filter begins_stream all))
 
--- $STANDARD_INFORMATION: 0x00 creation, 0x08 modification, 0x10 record change, 0x18 access, 0x20 the DOS flags, and where the
--- value has 72 bytes 0x34 the id of the security descriptor, which else is shown as 0.
+-- the value of $STANDARD_INFORMATION, and the DOS flags that are shown of it
 abbrev pub standard_of : List Part → List ℕ
 standard_of all = unwrap_or (option_and_then (λ part. content_value part.content) (find (is_of STANDARD_INFORMATION []) all)) []
 
-abbrev pub standard_times : List ℕ → List ℕ
-standard_times standard = u64_at standard 0x00 ∷ u64_at standard 0x08 ∷ u64_at standard 0x10 ∷ u64_at standard 0x18 ∷ []
-
 abbrev pub standard_flags : List ℕ → ℕ
-standard_flags standard = bit_and (u32_at standard 0x20) SHOWN_FLAGS
+standard_flags standard = bit_and (dos_flags standard) SHOWN_FLAGS
 
-abbrev pub standard_security : List ℕ → ℕ
-standard_security standard = if nat_lt (length standard) 72 then 0 else u32_at standard 0x34
-
--- The reparse point, the unnamed $REPARSE_POINT: 0x00 the tag, 0x04 the length of the data, which begin at 0x08, or at 0x18
--- behind a GUID where bit 31 of the tag is clear. A value below 8 bytes is read as padded with zeros.
+-- The reparse point, the unnamed $REPARSE_POINT. A value below 8 bytes is read as padded with zeros.
 abbrev pub padded : List ℕ → List ℕ
 padded value = value ++ replicate (8 - length value) 0
 
-abbrev pub data_place : ℕ → ℕ
-data_place tag = if is_of_microsoft tag then 8 else 24
-
 abbrev pub point_in : List ℕ → Point
-point_in value = record { tag = u32_at value 0x00; bytes = take (u16_at value 0x04) (drop (data_place (u32_at value 0x00)) value) }
+point_in value = record { tag = reparse_tag value; bytes = reparse_data value }
 
 abbrev pub point_by : Content → Point
 point_by (Plain value) = point_in (padded value)

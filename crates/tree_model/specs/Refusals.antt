@@ -53,9 +53,9 @@ abbrev pub first_some : {A : Type 0} → List (Option A) → Option A
 first_some [] = None
 first_some (test ∷ tests) = option_or test (first_some tests)
 
--- THE ORDER OF REFUSALS, behind those that come of finding what the words lead to: the first whose case holds.
-abbrev pub refusal : Facts → Machine → ℕ → Command → Subject → Located → Option No
-refusal facts m session command subject at = first_some (
+-- THE ORDER OF REFUSALS, behind those that come of finding what the words lead to.
+abbrev pub refusal_cases : Facts → Machine → ℕ → Command → Subject → Located → List (Option No)
+refusal_cases facts m session command subject at =
     when (dos_name subject at) no.DosName ∷
     when (names_badly command at) no.BadName ∷
     when (directory_for_file subject at) no.IsDir ∷
@@ -72,7 +72,11 @@ refusal facts m session command subject at = first_some (
     when (too_many_handles m.opens session command) no.TooManyHandles ∷
     shared m command at ∷
     when (linked m.tree command at) no.Linked ∷
-    (if is_edit command then facts.no_room m command at else None) ∷ [])
+    (if is_edit command then facts.no_room m command at else None) ∷ []
+
+-- the first whose case holds
+abbrev pub refusal : Facts → Machine → ℕ → Command → Subject → Located → Option No
+refusal facts m session command subject at = first_some (refusal_cases facts m session command subject at)
 
 -- unless it is refused there
 abbrev pub unless : Option No → Located → Result Located No

@@ -1,8 +1,8 @@
 -- A run of sessions over an image: what its lines say, their replies, and where the run stands after each.
 use Rattle.std.specs.Prelude.{◌≡◌, ◌⊎◌, ℕ, ◌%◌, Bool, true, false, List, [], ◌∷◌, map, Option, Some, Result, Ok, Err, option_map}
-use Rattle.vol_bytes.specs.Field.{u16_at}
 use Rattle.ntfs_def.specs.Attribute.{attributes, first_value}
 use Rattle.ntfs_def.specs.Fixup.{opened_of}
+use Rattle.ntfs_def.specs.VolumeInformation.{dirty_bit}
 use Rattle.ntfs_def.specs.declared.kinds.TheConstants.{VOLUME_INFORMATION}
 use Rattle.ntfs_def.specs.declared.records.TheConstants.{VOLUME}
 use Rattle.volume_def.specs.Sound.{IsSound}
@@ -51,11 +51,10 @@ abbrev pub Steps : Facts → Machine → Said → Reply → Machine → Type 0
 Steps facts m (Ok said) given next = Step facts m said.0 said.1 given next
 Steps facts m (Err fault) given next = ((given ≡ reply.No fault) ⊎ (given ≡ reply.No no.Memory)) × (next ≡ m)
 
--- The dirty flag: bit 0 of the u16 at 0x0A of $VOLUME_INFORMATION says that the volume was not closed. It is 0 where the volume
--- is clean, by a law.
+-- The dirty flag: it says that the volume was not closed. It is 0 where the volume is clean, by a law.
 abbrev pub dirty_flag : VolumeView → Option ℕ
 dirty_flag view =
-    option_map (λ value. u16_at value 0x0A % 2) (first_value VOLUME_INFORMATION (attributes (opened_of (view.block VOLUME))))
+    option_map dirty_bit (first_value VOLUME_INFORMATION (attributes (opened_of (view.block VOLUME))))
 
 abbrev pub IsDirty : VolumeView → Type 0
 IsDirty view = dirty_flag view ≡ Some 1

@@ -13,8 +13,9 @@ use Rattle.volume_def.specs.Table.{cluster_bytes}
 use Rattle.volume_def.specs.View.{VolumeView}
 use Rattle.tree_model.specs.Cases.{has_point, makes_stream}
 use Rattle.tree_model.specs.Drops.{is_last_link}
-use Rattle.tree_model.specs.Need.{Bill, Touched, clusters_for, entry_levels}
-use Rattle.tree_model.specs.Room.{free_bytes, up_to_8}
+use Rattle.tree_model.specs.Need.{Bill, Touched, entry_levels}
+use Rattle.ntfs_def.specs.Rounded.{clusters_for, up_to_8}
+use Rattle.volume_def.specs.Room.{free_bytes}
 use Rattle.tree_model.specs.Subjects.{Located, NameIn, NewName}
 use Rattle.tree_model.specs.Tree.{Tree}
 use Rattle.tree_model.specs.declared.command.Command.{Command}

@@ -13,7 +13,7 @@ use Rattle.volume_def.specs.Files.{Part, content_extent, content_value, parts, r
 use Rattle.volume_def.specs.StreamSize.{real_size, told_size}
 use Rattle.volume_def.specs.Values.{first_part, spot_at}
 use Rattle.volume_def.specs.View.{VolumeView}
-use Rattle.tree_model.specs.Need.{clusters_for}
+use Rattle.ntfs_def.specs.Rounded.{clusters_for}
 
 -- the parts of a stream of the file, by the units of its name
 abbrev pub parts_named : VolumeView → ℕ → List ℕ → List Part

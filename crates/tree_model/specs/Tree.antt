@@ -1,6 +1,6 @@
 -- The tree of files that a volume reads as, in one canonical form, and how names are sought in it.
 -- Source: Linux-NTFS documentation, "Directory Indexes" and file $UpCase; Carrier, File System Forensic Analysis, chapter 12.
-use Rattle.std.specs.Prelude.{ℕ, ◌/◌, ◌%◌, ◌^◌, ◌==◌, ◌&&◌, not, Bool, List, ◌++◌, map, filter, find, Option, None, if◌then◌else◌}
+use Rattle.std.specs.Prelude.{ℕ, ◌==◌, ◌&&◌, not, Bool, List, ◌++◌, map, filter, find, Option, None, if◌then◌else◌}
 use Rattle.std.specs.FinMap as finmap
 use Rattle.std.specs.Option.{option_or}
 use Rattle.std.specs.Ordering.{is_gt, nat_cmp, ordering_then}
@@ -51,10 +51,6 @@ names_file file link = leads_to file link && not (is_dos link)
 
 abbrev pub first_name : List Link → ℕ → Option Link
 first_name links file = find (names_file file) links
-
--- Bit 31 of a reparse tag: it is set of those that Microsoft gives, whose points have no GUID.
-abbrev pub is_of_microsoft : ℕ → Bool
-is_of_microsoft tag = tag / 2 ^ 31 % 2 == 1
 
 -- the file of this number
 abbrev pub node_of : Tree → ℕ → Option Node

@@ -1,5 +1,5 @@
 //! Laws of the definitions, with nothing to run.
-ghost use Rattle.std.specs.Prelude.{◌≡◌, ◌≢◌, ◌⊎◌, ◌++◌, ◌∷◌, ℕ, suc, Bool, true, List, Some, None, filter, ◌↔◌, false, Contains, IsTrue};
+ghost use Rattle.std.specs.Prelude.{◌≡◌, ◌≢◌, ◌⊎◌, ◌++◌, ◌∷◌, ℕ, suc, Bool, true, List, Option, Some, None, filter, ◌↔◌, false, Contains, IsTrue};
 ghost use Rattle.std.specs.List.{list_any};
 ghost use Rattle.ntfs_def.specs.Node.{Item};
 ghost use Rattle.volume_def.specs.CaseClause.{volume_fold};
@@ -10,7 +10,7 @@ ghost use Rattle.volume_def.specs.VersionClause.{IsClean};
 ghost use Rattle.std.specs.FinMap as finmap;
 ghost use Rattle.volume_def.specs.View.{VolumeView};
 ghost use Rattle.tree_model.specs.Bill.{bill_of};
-ghost use Rattle.tree_model.specs.Facts.{IsVolumeOf, ReadsAs, TellsFacts};
+ghost use Rattle.tree_model.specs.Facts.{IsVolumeOf, ReadsAs, TellsDescriptor, TellsFacts};
 ghost use Rattle.tree_model.specs.IndexRoom.{Index, has_entry, index_depth};
 ghost use Rattle.tree_model.specs.Need.{empty_bill};
 ghost use Rattle.tree_model.specs.NoRoom.{no_room_for};
@@ -42,6 +42,12 @@ pub fn one_facts()
     ensures volume { (view : VolumeView) (one other : Facts) → TellsFacts view one → TellsFacts view other → one ≡ other }
     ensures image { (image : List ℕ) (view last : VolumeView) (one other : Facts) → IsVolumeOf image view → IsVolumeOf image last
         → TellsFacts view one → TellsFacts last other → one ≡ other }
+{}
+
+/// Of an id a volume tells one security descriptor, or that it has none.
+pub fn one_descriptor()
+    ensures { (view : VolumeView) (id : ℕ) (one other : Option (List ℕ))
+        → TellsDescriptor view id one → TellsDescriptor view id other → one ≡ other }
 {}
 
 /// A sound volume tells facts: what its view says, and of each id its descriptor, or that it has none.

@@ -2,8 +2,7 @@
 use Rattle.std.proofs.Common.{◌≡◌, ◌⊎◌, ℕ, Bool, true, false, List, Option, Some, None, Result, Ok, Err, inl, inr, refl, sym, ap, subst, ◌∙◌, arith}
 use Rattle.std.specs.Prelude.{IfSome, is_some}
 use Rattle.vol_disk.specs.declared.Disk.{Ghosts}
-use Rattle.volume_def.specs.Sound.{HoldBelow, IsSound}
-use Rattle.volume_def.specs.Sound.{Attributes, CaseTable, ClusterBits, Extents, Indexes, Limits, Links, Lists, Mirror, MirrorPlace, Owners, RecordBits, References, Shape, Version}
+use Rattle.volume_def.specs.Sound.{HoldBelow, IsSound, Attributes, CaseTable, ClusterBits, Extents, Indexes, Limits, Links, Lists, Mirror, MirrorPlace, Owners, RecordBits, References, Shape, Version}
 use Rattle.volume_def.specs.View.{VolumeView, view_of}
 use Rattle.file_record.proofs.ReadLaws.{view-kept}
 use Rattle.mft_table.specs.declared.mft.Mft.{Mft}
@@ -14,7 +13,7 @@ use Rattle.mft_table.specs.Mounted.{mounted_layout}
 use Rattle.vol_disk.specs.Contents.{WhereTold, sector_in}
 use Rattle.vol_stage.specs.declared.stage.Stage.{Stage}
 use Rattle.vol_stage.specs.Staged.{disk_of, image, is_broken}
-use Rattle.attr_store.specs.InUse.{IsInUse, IsSoundVolume}
+use Rattle.mft_table.specs.InUse.{IsInUse, IsSoundVolume}
 use Rattle.tree_model.specs.Refusals.{Facts}
 use Rattle.tree_model.specs.Staging.{is_built}
 use Rattle.tree_model.specs.Step.{Step, reply_of}
@@ -26,7 +25,7 @@ use Rattle.tree_model.specs.declared.reply.Reply.{Reply}
 use Rattle.tree_model.specs.declared.reply.Reply.TheVariants as reply
 use Rattle.tree_model.proofs.MachineLaws.{shown-step}
 use Rattle.tree_ops.specs.Serves.{Serves}
-use Rattle.tree_ops.specs.Standings.{IsStanding}
+use Rattle.tree_read.specs.Standings.{IsStanding}
 use Rattle.tree_ops.specs.Volumes.{VolumeReads}
 use Rattle.tree_ops.specs.Wanted.{machine_on, wanted}
 use Rattle.tree_ops.specs.declared.volume.Volume.{Volume}

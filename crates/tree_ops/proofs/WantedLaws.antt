@@ -2,7 +2,7 @@
 use Rattle.std.proofs.Common.{◌≡◌, ℕ, List, [], false, Option, Result, Ok, Err, refl, ◌∙◌}
 use Rattle.tree_model.specs.Answers.{answer_of}
 use Rattle.tree_model.specs.Paths.{and_then, found_file, resolve}
-use Rattle.tree_model.specs.Plain.{cat_of, file_at, links_of, looked, ls_of, read_of, reparse_of}
+use Rattle.tree_model.specs.Shown.{cat_of, file_at, links_of, looked, ls_of, read_of, reparse_of}
 use Rattle.tree_model.specs.Reading.{read}
 use Rattle.tree_model.specs.Refusals.{Facts, outcome}
 use Rattle.tree_model.specs.Staging.{is_built}
@@ -18,8 +18,9 @@ use Rattle.tree_model.specs.declared.tree.Found.{Found}
 use Rattle.tree_model.specs.declared.tree.Node.{Node}
 use Rattle.tree_model.proofs.LookLaws as look
 use Rattle.volume_def.specs.View.{VolumeView}
-use Rattle.tree_ops.specs.Wanted.{attr_wanted, cat_wanted, df_wanted, links_wanted, ls_wanted, objid_wanted, read_wanted}
-use Rattle.tree_ops.specs.Wanted.{reparse_wanted, sec_wanted, stat_wanted, streams_wanted, wanted}
+use Rattle.tree_read.specs.Shown.{attr_shown, cat_shown, df_shown, links_shown, ls_shown, objid_shown, of_path, read_shown}
+use Rattle.tree_read.specs.Shown.{reparse_shown, sec_shown, stat_shown, streams_shown}
+use Rattle.tree_ops.specs.Wanted.{wanted}
 
 -- the file that a path leads to, and what follows
 of_file : (tree : Tree) (path : List (List ℕ)) (shown : (ℕ × Option Node) → Result Answer No)
@@ -36,43 +37,43 @@ module _ (facts : Facts) (moment session : ℕ) (view : VolumeView) (path : List
   abbrev is_wanted : Command → Result Answer No → Type 0
   is_wanted command other = wanted facts moment session command view ≡ other
 
-  pub ls-wanted : is_wanted (c.Ls path) (ls_wanted (read view) path)
+  pub ls-wanted : is_wanted (c.Ls path) (of_path (read view) path (ls_shown (read view)))
   ls-wanted = look.ls-due facts (read view) [] moment session path ∙ of_file (read view) path (ls_of (read view))
 
-  pub stat-wanted : is_wanted (c.Stat path) (stat_wanted (read view) path)
+  pub stat-wanted : is_wanted (c.Stat path) (of_path (read view) path (stat_shown (read view)))
   stat-wanted = look.stat-due facts (read view) [] moment session path ∙ of_file (read view) path (looked (read view) (c.Stat path))
 
-  pub links-wanted : is_wanted (c.Links path) (links_wanted (read view) path)
+  pub links-wanted : is_wanted (c.Links path) (of_path (read view) path (links_shown (read view)))
   links-wanted = look.links-due facts (read view) [] moment session path ∙ of_file (read view) path (links_of (read view))
 
-  pub cat-wanted : (stream : Option (List ℕ)) → is_wanted (c.Cat path stream) (cat_wanted (read view) path stream)
+  pub cat-wanted : (stream : Option (List ℕ)) → is_wanted (c.Cat path stream) (of_path (read view) path (cat_shown (read view) (stream_name stream)))
   cat-wanted stream =
       look.cat-due facts (read view) [] moment session path stream
       ∙ of_file (read view) path (cat_of (read view) [] (stream_name stream))
 
   pub read-wanted : (stream : Option (List ℕ)) (from len : ℕ)
-      → is_wanted (c.Read path stream from len) (read_wanted (read view) path stream from len)
+      → is_wanted (c.Read path stream from len) (of_path (read view) path (read_shown (read view) (stream_name stream) from len))
   read-wanted stream from len =
       look.read-due facts (read view) [] moment session path stream from len
       ∙ of_file (read view) path (read_of (read view) [] (stream_name stream) from len)
 
-  pub streams-wanted : is_wanted (c.Streams path) (streams_wanted (read view) path)
+  pub streams-wanted : is_wanted (c.Streams path) (of_path (read view) path (streams_shown (read view)))
   streams-wanted =
       look.streams-due facts (read view) [] moment session path ∙ of_file (read view) path (looked (read view) (c.Streams path))
 
-  pub attr-wanted : is_wanted (c.Attr path) (attr_wanted (read view) path)
+  pub attr-wanted : is_wanted (c.Attr path) (of_path (read view) path (attr_shown (read view)))
   attr-wanted = look.attr-due facts (read view) [] moment session path ∙ of_file (read view) path (looked (read view) (c.Attr path))
 
-  pub sec-wanted : is_wanted (c.Sec path) (sec_wanted (read view) path)
+  pub sec-wanted : is_wanted (c.Sec path) (of_path (read view) path (sec_shown (read view)))
   sec-wanted = look.sec-due facts (read view) [] moment session path ∙ of_file (read view) path (looked (read view) (c.Sec path))
 
-  pub reparse-wanted : is_wanted (c.Reparse path) (reparse_wanted (read view) path)
+  pub reparse-wanted : is_wanted (c.Reparse path) (of_path (read view) path (reparse_shown (read view)))
   reparse-wanted = look.reparse-due facts (read view) [] moment session path ∙ of_file (read view) path reparse_of
 
-  pub objid-wanted : is_wanted (c.Objid path) (objid_wanted (read view) path)
+  pub objid-wanted : is_wanted (c.Objid path) (of_path (read view) path (objid_shown (read view)))
   objid-wanted = look.objid-due facts (read view) [] moment session path ∙ of_file (read view) path (looked (read view) (c.Objid path))
 
-pub df-wanted : (facts : Facts) (moment session : ℕ) (view : VolumeView) → wanted facts moment session c.Df view ≡ df_wanted facts
+pub df-wanted : (facts : Facts) (moment session : ℕ) (view : VolumeView) → wanted facts moment session c.Df view ≡ df_shown facts
 unfolding due outcome locate answer_of
 df-wanted facts moment session view = refl
 

@@ -1,14 +1,3 @@
-pub mod Answered
-pub mod Kinds
 pub mod Wanted
 pub mod Volumes
 pub mod Serves
-pub mod FileLinks
-pub mod Above
-pub mod Lines
-pub mod Nodes
-pub mod Shown
-pub mod Parts
-pub mod Walks
-pub mod Below
-pub mod Standings

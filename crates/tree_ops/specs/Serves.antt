@@ -2,9 +2,9 @@
 use Rattle.std.specs.Prelude.{◌≡◌, IfSome, IsTrue, false}
 use Rattle.vol_disk.specs.declared.Disk.{Ghosts}
 use Rattle.mft_table.specs.Mft.{is_mft_broken}
-use Rattle.attr_store.specs.InUse.{IsInUse}
+use Rattle.mft_table.specs.InUse.{IsInUse}
 use Rattle.tree_ops.specs.declared.volume.Volume.{Volume}
-use Rattle.tree_ops.specs.Standings.{IsStanding}
+use Rattle.tree_read.specs.Standings.{IsStanding}
 use Rattle.tree_ops.specs.Volumes.{TellsDisk, view_under}
 
 -- Where the disk tells its contents they are sound, and the tables that are kept are theirs, and so is the directory in which the

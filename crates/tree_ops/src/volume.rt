@@ -6,18 +6,18 @@ ghost use Rattle.volume_def.specs.VersionClause.{IsClean};
 ghost use Rattle.mft_table.specs.HeldTables.{HoldsTables, volume_in};
 ghost use Rattle.mft_table.specs.Mounted.{StandsOn};
 ghost use Rattle.mft_table.specs.Mft.{is_mft_broken};
-ghost use Rattle.attr_store.specs.InUse.{IsInUse};
+ghost use Rattle.mft_table.specs.InUse.{IsInUse};
 ghost use Rattle.tree_model.specs.Facts.{TellsFacts};
 ghost use Rattle.tree_model.specs.Refusals.{Facts};
 ghost use Rattle.tree_model.specs.Step.{Step};
 ghost use Rattle.tree_model.specs.declared.reply.Reply.TheVariants as reply_is;
 
+use crate::close::CloseNo;
 use crate::commands::answer;
-use crate::standing::Standing;
-use crate::stop::{CloseNo, Stop};
 use mft_table::{Mft, Mounted};
 use std::alloc::Global;
 use tree_model::{Command, Reply};
+use tree_read::{Standing, Stop};
 use vol_disk::Disk;
 use vol_stage::Stage;
 
@@ -31,7 +31,7 @@ pub struct Volume<'d, D: Disk> {
 }
 
 impl<'d, D: Disk> Volume<'d, D> {
-    ghost use Rattle.tree_ops.specs.Volumes.{disk_under, reference_under, view_under};
+    ghost use Rattle.tree_ops.specs.Volumes.{disk_under, reference_under, view_under, VolumeReads};
     ghost use Rattle.tree_ops.specs.Serves.{Serves};
 
     /// Takes a volume into use, with the tables that `mount` gave. Nothing is read.
@@ -67,8 +67,6 @@ impl<'d, D: Disk> Volume<'d, D> {
 }
 
 impl<D: Disk> Volume<'_, D> {
-    ghost use Rattle.tree_ops.specs.Volumes.{VolumeReads, disk_under, view_under};
-    ghost use Rattle.tree_ops.specs.Serves.{Serves};
     ghost use Rattle.tree_ops.specs.Wanted.{machine_on};
 
     /// Does a command of a session and gives its reply, `Device` where the disk failed. It does not settle the disk.

@@ -4,14 +4,12 @@ ghost use Rattle.ntfs_def.specs.KeyOrder.{by_numbers, case_table_len, compare_un
 ghost use Rattle.upcase.specs.Case.{Refuses};
 
 use crate::UpCaseNo;
+use ntfs_def::lengths::CASE_TABLE;
 use std::alloc::Global;
 use std::cmp::Ordering;
 use std::marker::Model;
 use std::rc::Rc;
 use vol_bytes::u16_at;
-
-/// The bytes of a table.
-const LENGTH: usize = 131_072;
 
 /// A table of case.
 #[derive(Debug, Drop)]
@@ -38,7 +36,7 @@ impl UpCase {
         ensures length { IfOk result (λ table. length bytes.now ≡ case_table_len) }
         ensures err { IfErr result (Refuses bytes.now) }
     {
-        if bytes.len() != LENGTH {
+        if bytes.len() != CASE_TABLE {
             return Err(UpCaseNo::Length);
         }
         let bytes = Vec::from_slice(alloc, bytes)?;

@@ -4,7 +4,7 @@ use Rattle.std.specs.Prelude.{filter}
 use Rattle.volume_def.specs.Edits.{Said, said_by}
 use Rattle.volume_def.specs.ExtentsClause.{AreAttribute}
 use Rattle.volume_def.specs.Files.{Part, is_of, parts_like, content_value}
-use Rattle.volume_def.specs.SameItems.{SameItems}
+use Rattle.list_laws.specs.SameItems.{SameItems}
 use Rattle.volume_def.specs.Values.{KeepsClusters, attribute_value, value_of_parts, value_on}
 use Rattle.volume_def.specs.Table.{TableLayout, cluster_bytes}
 use Rattle.volume_def.specs.View.{VolumeView}

@@ -7,10 +7,10 @@ use Rattle.std.proofs.lemmas.Bool.{and_from, and_parts, eq-eqb, eqb-true}
 use Rattle.std.proofs.lemmas.List.Elements.{All-contains}
 use Rattle.std.proofs.lemmas.List.Sorted.{IsPermutation-remove}
 use Rattle.std.specs.List.{Contains, count_by, find, remove}
-use Rattle.volume_def.specs.SameItems.{SameItems}
-use Rattle.volume_def.proofs.FindLaws.{count-cons, find-fails, find-found, find-none, find-one}
-use Rattle.volume_def.proofs.MemberLaws.{All-from_Contains, Contains-from_map, Contains-head}
-use Rattle.volume_def.proofs.SameItemsLaws.{SameItems-append, SameItems-length, SameItems-map, SameItems-passing, SameItems-permutation, SameItems-same, SameItems-sym, SameItems-trans}
+use Rattle.list_laws.specs.SameItems.{SameItems}
+use Rattle.list_laws.proofs.FindLaws.{count-cons, find-fails, find-found, find-none, find-one}
+use Rattle.list_laws.proofs.MemberLaws.{All-from_Contains, Contains-from_map, Contains-head}
+use Rattle.list_laws.proofs.SameItemsLaws.{SameItems-append, SameItems-length, SameItems-map, SameItems-passing, SameItems-permutation, SameItems-same, SameItems-sym, SameItems-trans}
 
 same_code : Gv → Gv → Bool
 same_code gnil gnil = true

@@ -8,13 +8,13 @@ use Rattle.volume_def.specs.Edits.{EditsAt, MovesPart, Said}
 use Rattle.volume_def.specs.Members.{FreesEmpty, NameHolders, TakesEmpty}
 use Rattle.volume_def.specs.Files.{Part, Record, Records, file_of, parts}
 use Rattle.volume_def.specs.ListsClause.{entries_in, entry_in, is_list, listed_parts, sequence_in}
-use Rattle.volume_def.specs.Replaces.{Replaces}
-use Rattle.volume_def.specs.SameItems.{SameItems}
+use Rattle.list_laws.specs.Replaces.{Replaces}
+use Rattle.list_laws.specs.SameItems.{SameItems}
 use Rattle.volume_def.specs.Values.{first_vcn_of}
-use Rattle.volume_def.proofs.MemberLaws.{Contains-from_filter, Contains-nil, map_agree}
+use Rattle.list_laws.proofs.MemberLaws.{Contains-from_filter, Contains-nil, map_agree}
 use Rattle.volume_def.proofs.PartLaws.{IsPart-Contains}
 use Rattle.volume_def.proofs.RecordLaws.{parts-freed, parts-other, parts-own, parts-own_at, parts-taken}
-use Rattle.volume_def.proofs.ReplacesLaws.{Replaces-count, Replaces-filter, Replaces-map}
+use Rattle.list_laws.proofs.ReplacesLaws.{Replaces-count, Replaces-filter, Replaces-map}
 
 -- The entry of a part depends on its record's sequence number alone.
 entry_in-same : (old new : Records) (part : Part) → sequence_in (new.record_at part.holder) ≡ sequence_in (old.record_at part.holder)

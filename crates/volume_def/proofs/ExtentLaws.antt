@@ -7,14 +7,14 @@ use Rattle.std.specs.List.{Contains, count_by, find}
 use Rattle.ntfs_def.specs.Runs.{spot_of}
 use Rattle.volume_def.specs.ExtentsClause.{AreAttribute, AreWhole, FollowFrom}
 use Rattle.volume_def.specs.Files.{Clusters, Content, Part, Value, part_clusters, content_extent, part_runs, content_value, joined_runs}
-use Rattle.volume_def.specs.SameItems.{SameItems}
+use Rattle.list_laws.specs.SameItems.{SameItems}
 use Rattle.volume_def.specs.Values.{first_vcn_of, holds_vcn, is_first, spot_at, spot_by}
 use Rattle.volume_def.proofs.Codes.{part_code}
 use Rattle.volume_def.proofs.CodedLaws.{find-SameItems}
-use Rattle.volume_def.proofs.FindLaws.{count-cons, count-no, find-one}
+use Rattle.list_laws.proofs.FindLaws.{count-cons, count-no, find-one}
 use Rattle.ntfs_def.proofs.SpotLaws.{spot_of-none}
 use Rattle.volume_def.proofs.RunPieces.{spot_of-back, spot_of-front}
-use Rattle.volume_def.proofs.SameItemsLaws.{SameItems-sym, SameItems-trans}
+use Rattle.list_laws.proofs.SameItemsLaws.{SameItems-sym, SameItems-trans}
 
 -- The clusters of the parts follow one another from this one on.
 abbrev pub Follow : ℕ → List Part → Type 0

@@ -10,14 +10,14 @@ use Rattle.volume_def.specs.Edits.{EditsAt, MovesPart, Said, said_by}
 use Rattle.volume_def.specs.ExtentsClause.{AreAttribute, MeetsExtents}
 use Rattle.volume_def.specs.Members.{FreesEmpty, TakesEmpty}
 use Rattle.volume_def.specs.Files.{Part, Record, Records, file_of, is_base, is_of, parts, parts_like}
-use Rattle.volume_def.specs.SameItems.{SameItems}
+use Rattle.list_laws.specs.SameItems.{SameItems}
 use Rattle.volume_def.proofs.Codes.{said_code}
 use Rattle.volume_def.proofs.CodedLaws.{SameItems-Contains}
-use Rattle.volume_def.proofs.MemberLaws.{All-from_Contains, Contains-from_map, Contains-map, filter-map}
+use Rattle.list_laws.proofs.MemberLaws.{All-from_Contains, Contains-from_map, Contains-map, filter-map}
 use Rattle.volume_def.proofs.ReadableLaws.{of_base}
 use Rattle.volume_def.proofs.RecordLaws.{parts-freed, parts-moved, parts-other, parts-taken, parts-unmoved}
 use Rattle.volume_def.proofs.SaidLaws.{AreStream-said}
-use Rattle.volume_def.proofs.SameItemsLaws.{SameItems-filter, SameItems-same, SameItems-sym, SameItems-trans}
+use Rattle.list_laws.proofs.SameItemsLaws.{SameItems-filter, SameItems-same, SameItems-sym, SameItems-trans}
 
 -- parts of one type and name say the same where all do
 pub parts_of-said : (kind : ℕ) (name : List ℕ) (xs ys : List Part) → SameItems (map said_by xs) (map said_by ys)

@@ -2,10 +2,6 @@ pub mod RunPlaces
 pub mod BlockLaws
 pub mod FrameLaws
 pub mod OneTable
-pub mod MemberLaws
-pub mod FindLaws
-pub mod SameItemsLaws
-pub mod ReplacesLaws
 pub mod CodedLaws
 pub mod Codes
 pub mod RecordLaws
@@ -15,9 +11,9 @@ pub mod RunPieces
 pub mod ExtentLaws
 pub mod SpanLaws
 pub mod ValueLaws
-pub mod RangeLaws
 pub mod StoredLaws
 pub mod ReadableLaws
+pub mod FileLaws
 pub mod SaidLaws
 pub mod ExtentsClauseLaws
 pub mod ListClauseLaws

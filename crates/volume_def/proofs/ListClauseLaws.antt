@@ -8,14 +8,14 @@ use Rattle.volume_def.specs.Edits.{EditsAt, MovesPart, Said}
 use Rattle.volume_def.specs.Files.{Part, Records, file_of, parts, records_of}
 use Rattle.volume_def.specs.KeptList.{HasList, StoresList}
 use Rattle.volume_def.specs.ListsClause.{HasRightList, IsRightList, entries_in, entry_in, is_list, list_value}
-use Rattle.volume_def.specs.Replaces.{Replaces}
-use Rattle.volume_def.specs.SameItems.{SameItems}
+use Rattle.list_laws.specs.Replaces.{Replaces}
+use Rattle.list_laws.specs.SameItems.{SameItems}
 use Rattle.volume_def.specs.View.{VolumeView}
 use Rattle.volume_def.proofs.EntryLaws.{entries-moved, entries-own}
-use Rattle.volume_def.proofs.FindLaws.{count-no, count-some, count-yes}
-use Rattle.volume_def.proofs.MemberLaws.{All-from_Contains, Contains-nil, Contains-only}
+use Rattle.list_laws.proofs.FindLaws.{count-no, count-some, count-yes}
+use Rattle.list_laws.proofs.MemberLaws.{All-from_Contains, Contains-nil, Contains-only}
 use Rattle.volume_def.proofs.RecordLaws.{parts-own_at}
-use Rattle.volume_def.proofs.ReplacesLaws.{Replaces-count, Replaces-member}
+use Rattle.list_laws.proofs.ReplacesLaws.{Replaces-count, Replaces-member}
 
 -- Before: the list has the entries that it stores.
 pub HasList-read : (view : VolumeView) (f : ℕ) (list : Part) → HasRightList view f (parts (records_of view) f)

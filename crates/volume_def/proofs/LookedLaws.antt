@@ -23,7 +23,7 @@ use Rattle.volume_def.specs.Files.{Part, is_base, parts, parts_at, record_on, re
 use Rattle.volume_def.specs.IndexesClause.{HasIndex, IndexParts, IsDirectoryIndex, IsIndexRecordAt, KeyRule, MeetsIndexes, MeetsViewIndex, hash_rule, id_rule, index_nodes, index_parts, word_rule}
 use Rattle.volume_def.specs.KeptList.{KeepsList}
 use Rattle.volume_def.specs.ListsClause.{HasRightList, MeetsLists, is_list}
-use Rattle.volume_def.specs.Looked.{AgreeWhereLooked, IsLookedAt, IsLookedAtSector, IsLookedInto}
+use Rattle.volume_def.specs.Looked.{AgreeWhereLooked, IsLookedAt, IsLookedAtSector, IsLookedInto, with_clusters}
 use Rattle.volume_def.specs.Sound.{Attributes, CaseTable, Clause, ClusterBits, Extents, Indexes, Limits, Links, Lists, Mirror, MirrorPlace, Owners, RecordBits, References, Shape, Version}
 use Rattle.volume_def.specs.Sound.{FirstBroken, HasLayout, IsAccepted, IsRefused, Meets, told_view}
 use Rattle.volume_def.specs.OwnersClause.{times_owned}
@@ -32,34 +32,23 @@ use Rattle.volume_def.specs.Values.{KeepsClusters, value_of_parts}
 use Rattle.volume_def.specs.VersionClause.{IsClean, MeetsMirror, MeetsMirrorPlace, Mirrors}
 use Rattle.volume_def.specs.View.{VolumeView}
 use Rattle.volume_def.proofs.BlockLaws.{block_of-same, cluster_of-same, copy_of-same, table_place-times}
-use Rattle.volume_def.proofs.MemberLaws.{All-from_Contains, Contains-from_filter, Contains-only}
+use Rattle.list_laws.proofs.MemberLaws.{All-from_Contains, Contains-from_filter, Contains-only}
 use Rattle.volume_def.proofs.OtherListLaws.{HasRightList-kept}
 use Rattle.volume_def.proofs.ValueLaws.{spot_at-owned, value-frame}
-
--- The view with other copies, clusters and sectors behind them.
-abbrev with_clusters : VolumeView → (ℕ → List ℕ) → (ℕ → List ℕ) → (ℕ → List ℕ) → VolumeView
-with_clusters view copy cluster rest = record {
-  told = view.told;
-  layout = view.layout;
-  block = view.block;
-  copy = copy;
-  cluster = cluster;
-  rest = rest;
-}
 
 if_some : {A : Type 0} (P Q : A → Type 0) (o : Option A) → ((a : A) → P a → Q a) → IfSome o P → IfSome o Q
 if_some P Q None f p = tt
 if_some P Q (Some a) f p = f a p
 
--- In two views that differ in copies, clusters, and the sectors behind them, but not where a clause looks.
+-- On one view: another view that differs in copies, clusters, and the sectors behind them, but not where a clause looks.
 module _ (view : VolumeView) (copy cluster rest : ℕ → List ℕ)
     (copies : (m : ℕ) → m < 4 → copy m ≡ view.copy m)
     (clusters : (c : ℕ) → IsLookedAt view c → cluster c ≡ view.cluster c) where
-  abbrev other : VolumeView
+  abbrev pub other : VolumeView
   other = with_clusters view copy cluster rest
 
   -- the value of parts into which a clause looks is the same
-  value-looked : (f : ℕ) (extents : List Part)
+  pub value-looked : (f : ℕ) (extents : List Part)
       → ((part : Part) → Contains extents part → Contains (parts (records_of view) f) part × IsLookedInto f part)
       → value_of_parts view.cluster (cluster_bytes view.layout) extents ≡ value_of_parts cluster (cluster_bytes view.layout) extents
   value-looked f extents inside = sym (value-frame view.cluster cluster (cluster_bytes view.layout) extents (λ vcn c at.
@@ -67,7 +56,7 @@ module _ (view : VolumeView) (copy cluster rest : ℕ → List ℕ)
       let is = inside owned.0 owned.1 in
       clusters c (record { file = f; part = owned.0; among = is.0; looked = is.1; covered = owned.2 })))
 
-  value-kind : (f kind : ℕ) (name : List ℕ) → ((part : Part) → part.kind ≡ kind → IsLookedInto f part)
+  pub value-kind : (f kind : ℕ) (name : List ℕ) → ((part : Part) → part.kind ≡ kind → IsLookedInto f part)
       → value_of_parts view.cluster (cluster_bytes view.layout) (parts_at view f kind name)
       ≡ value_of_parts cluster (cluster_bytes view.layout) (parts_at view f kind name)
   value-kind f kind name looked = value-looked f (parts_at view f kind name) (λ part c.
@@ -75,7 +64,7 @@ module _ (view : VolumeView) (copy cluster rest : ℕ → List ℕ)
       (w.0, looked part (eqb-true part.kind kind (and_parts _ _ w.1).0)))
 
   -- so is what a list of the file holds
-  list-looked : (f : ℕ) (part : Part) → Contains (parts (records_of view) f) part → IsTrue (is_list part)
+  pub list-looked : (f : ℕ) (part : Part) → Contains (parts (records_of view) f) part → IsTrue (is_list part)
       → KeepsClusters view other (part ∷ [])
   list-looked f part c list vcn cluster_at at =
       let owned = spot_at-owned (part ∷ []) vcn cluster_at at in
@@ -89,7 +78,7 @@ module _ (view : VolumeView) (copy cluster rest : ℕ → List ℕ)
         covered = owned.2;
       })
 
-  lists-kept : (f : ℕ) → MeetsLists view f → MeetsLists other f
+  pub lists-kept : (f : ℕ) → MeetsLists view f → MeetsLists other f
   lists-kept f meets =
       let all = parts (records_of view) f in
       let kept : KeepsList view other all =
@@ -97,7 +86,7 @@ module _ (view : VolumeView) (copy cluster rest : ℕ → List ℕ)
       if_some (λ r. IsTrue (is_base r) → HasRightList view f all) (λ r. IsTrue (is_base r) → HasRightList other f all) (record_on view f)
       (λ r h base. HasRightList-kept view other f all refl kept refl (λ alone. alone) (h base)) meets
 
-  cluster_bits-kept : (n : ℕ) → MeetsClusterBits view n → MeetsClusterBits other n
+  pub cluster_bits-kept : (n : ℕ) → MeetsClusterBits view n → MeetsClusterBits other n
   cluster_bits-kept n meets =
       let same = value-kind CLUSTER_BITMAP DATA [] (λ part e. inr (inr (inr (e, inl refl)))) in
       record {
@@ -108,7 +97,7 @@ module _ (view : VolumeView) (copy cluster rest : ℕ → List ℕ)
         bit = λ below. subst (λ value. (bit_in value n ≡ 1) ↔ (1 ≤ times_owned (records_of view) n)) same (meets.bit below);
       }
 
-  record_bits-kept : (n : ℕ) → MeetsRecordBits view n → MeetsRecordBits other n
+  pub record_bits-kept : (n : ℕ) → MeetsRecordBits view n → MeetsRecordBits other n
   record_bits-kept n meets =
       let same = value-kind MFT BITMAP [] (λ part e. inr (inr (inl e))) in
       record {
@@ -116,19 +105,19 @@ module _ (view : VolumeView) (copy cluster rest : ℕ → List ℕ)
         bit = λ from below. subst (λ value. (bit_in value n ≡ 1) ↔ IsSome (record_on view n)) same (meets.bit from below);
       }
 
-  case_value : value_of_parts view.cluster (cluster_bytes view.layout) (case_parts view)
+  pub case_value : value_of_parts view.cluster (cluster_bytes view.layout) (case_parts view)
       ≡ value_of_parts cluster (cluster_bytes view.layout) (case_parts view)
   case_value = value-kind UPCASE DATA [] (λ part e. inr (inr (inr (e, inr refl))))
 
-  case_table-kept : (n : ℕ) → MeetsCaseTable view n → MeetsCaseTable other n
+  pub case_table-kept : (n : ℕ) → MeetsCaseTable view n → MeetsCaseTable other n
   case_table-kept n meets is =
       let h = meets is in
       record { plain = h.plain; whole = subst (λ value. length value ≡ case_table_len) case_value h.whole }
 
-  mirror_place-kept : (n : ℕ) → MeetsMirrorPlace view n → MeetsMirrorPlace other n
+  pub mirror_place-kept : (n : ℕ) → MeetsMirrorPlace view n → MeetsMirrorPlace other n
   mirror_place-kept n meets is = let h = meets is in record { plain = h.plain; extent = h.extent; placed = h.placed }
 
-  mirror-kept : (n : ℕ) → MeetsMirror view n → MeetsMirror other n
+  pub mirror-kept : (n : ℕ) → MeetsMirror view n → MeetsMirror other n
   mirror-kept n meets few used =
       let h = meets few used in
       record {
@@ -138,18 +127,18 @@ module _ (view : VolumeView) (copy cluster rest : ℕ → List ℕ)
 
   -- Of an index of a file.
   module _ (f : ℕ) (name : List ℕ) where
-    abbrev index : IndexParts
+    abbrev pub index : IndexParts
     index = index_parts view f name
 
-    records-same : value_of_parts view.cluster (cluster_bytes view.layout) index.records
+    pub records-same : value_of_parts view.cluster (cluster_bytes view.layout) index.records
         ≡ value_of_parts cluster (cluster_bytes view.layout) index.records
     records-same = value-kind f INDEX_ALLOCATION name (λ part e. inr (inl e))
 
-    bits-same : value_of_parts view.cluster (cluster_bytes view.layout) index.bits
+    pub bits-same : value_of_parts view.cluster (cluster_bytes view.layout) index.bits
         ≡ value_of_parts cluster (cluster_bytes view.layout) index.bits
     bits-same = value-kind f BITMAP name (λ part e. inr (inr (inl e)))
 
-    record-kept : (vcn : ℕ) → IsIndexRecordAt view index vcn → IsIndexRecordAt other index vcn
+    pub record-kept : (vcn : ℕ) → IsIndexRecordAt view index vcn → IsIndexRecordAt other index vcn
     record-kept vcn r =
         let at = vcn * cluster_bytes view.layout in
         record {
@@ -161,12 +150,12 @@ module _ (view : VolumeView) (copy cluster rest : ℕ → List ℕ)
           bit = subst (λ value. bit_in value (at / 4096) ≡ 1) bits-same r.bit;
         }
 
-    nodes-same : (form : NodeForm) → index_nodes form view index ≡ index_nodes form other index
+    pub nodes-same : (form : NodeForm) → index_nodes form view index ≡ index_nodes form other index
     unfolding index_nodes
     nodes-same form = ap (λ value vcn. short_node form
         (opened_of (slice_range value (vcn * cluster_bytes view.layout) (vcn * cluster_bytes view.layout + 4096)))) records-same
 
-    abbrev walks-kept : (form : NodeForm) (node : Node) (items : List Item) → Walks (index_nodes form view index) node items
+    abbrev pub walks-kept : (form : NodeForm) (node : Node) (items : List Item) → Walks (index_nodes form view index) node items
         → Walks (index_nodes form other index) node items
     walks-kept form node items w = record {
       depth = w.depth;
@@ -176,7 +165,7 @@ module _ (view : VolumeView) (copy cluster rest : ℕ → List ℕ)
       is = w.is;
     }
 
-    index-kept : (form : NodeForm) (rule : KeyRule) (items : List Item) → HasIndex form rule view index items
+    pub index-kept : (form : NodeForm) (rule : KeyRule) (items : List Item) → HasIndex form rule view index items
         → HasIndex form rule other index items
     index-kept form rule items h = record {
       root = h.root;
@@ -194,7 +183,7 @@ module _ (view : VolumeView) (copy cluster rest : ℕ → List ℕ)
       ascending = h.ascending;
     }
 
-  directory-kept : (f : ℕ) → IsDirectoryIndex view f → IsDirectoryIndex other f
+  pub directory-kept : (f : ℕ) → IsDirectoryIndex view f → IsDirectoryIndex other f
   directory-kept f d =
       let name = wide (codes "$I30") in
       let h = d.index in
@@ -219,12 +208,12 @@ module _ (view : VolumeView) (copy cluster rest : ℕ → List ℕ)
         names = d.names;
       }
 
-  view_index-kept : (f : ℕ) (name : List ℕ) (rule : KeyRule) → MeetsViewIndex view f name rule → MeetsViewIndex other f name rule
+  pub view_index-kept : (f : ℕ) (name : List ℕ) (rule : KeyRule) → MeetsViewIndex view f name rule → MeetsViewIndex other f name rule
   view_index-kept f name rule meets there =
       let h = meets there in
       record { items = h.items; has = index-kept f (wide name) View rule h.items h.has }
 
-  indexes-kept : (f : ℕ) → MeetsIndexes view f → MeetsIndexes other f
+  pub indexes-kept : (f : ℕ) → MeetsIndexes view f → MeetsIndexes other f
   indexes-kept f meets = record {
     directory = if_some _ _ (record_on view f) (λ r h base directory. directory-kept f (h base directory)) meets.directory;
     security_ids = λ is. view_index-kept f (codes "$SII") id_rule (meets.security_ids is);
@@ -235,7 +224,7 @@ module _ (view : VolumeView) (copy cluster rest : ℕ → List ℕ)
         (meets.object_ids (record { ordinary = s.ordinary; named = s.named }));
   }
 
-  clause-kept : (clause : Clause) (n : ℕ) → Meets clause view n → Meets clause other n
+  pub clause-kept : (clause : Clause) (n : ℕ) → Meets clause view n → Meets clause other n
   clause-kept Shape n meets = meets
   clause-kept Attributes n meets = meets
   clause-kept Lists n meets = lists-kept n meets

@@ -10,12 +10,12 @@ use Rattle.volume_def.specs.Members.{FreesEmpty, TakesEmpty}
 use Rattle.volume_def.specs.Files.{Part, Record, Records, part_clusters, content_extent, file_of, parts, part_runs, records_of}
 use Rattle.volume_def.specs.KeptList.{KeepsList}
 use Rattle.volume_def.specs.ListsClause.{HasRightList, IsAlone, IsRightList, LiesOnVolume, entries_in, is_list, list_value, most_list_len}
-use Rattle.volume_def.specs.SameItems.{SameItems}
+use Rattle.list_laws.specs.SameItems.{SameItems}
 use Rattle.volume_def.specs.Values.{KeepsClusters, value_of_parts}
 use Rattle.volume_def.specs.Table.{IsOnVolume, TableLayout, cluster_bytes}
 use Rattle.volume_def.specs.View.{VolumeView}
 use Rattle.volume_def.proofs.EntryLaws.{entries-freed, entries-taken, entries_in-kept}
-use Rattle.volume_def.proofs.MemberLaws.{All-from_Contains}
+use Rattle.list_laws.proofs.MemberLaws.{All-from_Contains}
 use Rattle.volume_def.proofs.RecordLaws.{file_of-kept, parts-freed, parts-other, parts-taken, parts-unmoved}
 use Rattle.volume_def.proofs.PartLaws.{NameHolders-view}
 use Rattle.volume_def.proofs.ValueLaws.{value-frame}

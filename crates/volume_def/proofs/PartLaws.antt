@@ -9,7 +9,7 @@ use Rattle.ntfs_def.specs.Record.{is_in_use}
 use Rattle.volume_def.specs.Members.{HoldsPart, IsPart, NameHolders}
 use Rattle.volume_def.specs.Files.{Part, Record, Records, file_of, part_of, parts, parts_in, record_on, record_in, record_of, records_of}
 use Rattle.volume_def.specs.View.{VolumeView}
-use Rattle.volume_def.proofs.MemberLaws.{Contains-flat_map, Contains-from_flat_map, Contains-from_range, Contains-nil, Contains-range}
+use Rattle.list_laws.proofs.MemberLaws.{Contains-flat_map, Contains-from_flat_map, Contains-from_range, Contains-nil, Contains-range}
 use Rattle.volume_def.proofs.RecordLaws.{parts_in-other, parts_in-own}
 
 -- what a record holds of a file is held by a record of the file

@@ -7,9 +7,9 @@ use Rattle.ntfs_def.specs.Record.{Reference}
 use Rattle.volume_def.specs.Edits.{ChangesAt, EditsAt, KeepsRecordHeader, MovesPart, said_by}
 use Rattle.volume_def.specs.Members.{FreesEmpty, TakesEmpty}
 use Rattle.volume_def.specs.Files.{Part, Record, Records, file_of, parts, parts_in}
-use Rattle.volume_def.specs.Replaces.{Replaces}
-use Rattle.volume_def.specs.SameItems.{SameItems}
-use Rattle.volume_def.proofs.ReplacesLaws.{Replaces-itself, Replaces-range, Replaces-within, SameItems-moved}
+use Rattle.list_laws.specs.Replaces.{Replaces}
+use Rattle.list_laws.specs.SameItems.{SameItems}
+use Rattle.list_laws.proofs.ReplacesLaws.{Replaces-itself, Replaces-range, Replaces-within, SameItems-moved}
 
 -- record n changed: the parts of the file have what it holds of the file now in place of what it held
 pub parts-Replaces : (old new : Records) (n f : ℕ) → ChangesAt old new n → n < old.count

@@ -11,13 +11,13 @@ use Rattle.ntfs_def.specs.Runs.{total_clusters}
 use Rattle.volume_def.specs.Edits.{Said, said_by}
 use Rattle.volume_def.specs.ExtentsClause.{AreAttribute, AreWhole, BeginsAt, FitExtents, FollowFrom, has_sizes, last_vcn_of}
 use Rattle.volume_def.specs.Files.{Content, Part, part_clusters, content_extent, content_runs, content_value, all_covered}
-use Rattle.volume_def.specs.SameItems.{SameItems}
+use Rattle.list_laws.specs.SameItems.{SameItems}
 use Rattle.volume_def.specs.Values.{holds_vcn, is_first, spot_at, spot_by, value_of_parts, value_over}
 use Rattle.volume_def.proofs.Codes.{said_code}
 use Rattle.volume_def.proofs.CodedLaws.{SameItems-lifted}
 use Rattle.volume_def.proofs.ExtentLaws.{spot_at-SameItems, stream-holds}
-use Rattle.volume_def.proofs.FindLaws.{find-map}
-use Rattle.volume_def.proofs.SameItemsLaws.{SameItems-map, SameItems-same, SameItems-sym, SameItems-trans}
+use Rattle.list_laws.proofs.FindLaws.{find-map}
+use Rattle.list_laws.proofs.SameItemsLaws.{SameItems-map, SameItems-same, SameItems-sym, SameItems-trans}
 use Rattle.volume_def.proofs.ValueLaws.{over-spots, value-SameItems}
 
 -- Lists whose parts say the same, one by one.

@@ -12,10 +12,10 @@ use Rattle.volume_def.specs.Spans.{is_within, spans_vcn}
 use Rattle.volume_def.specs.Values.{first_vcn_of, holds_vcn, spot_at, spot_by}
 use Rattle.volume_def.proofs.Codes.{part_code}
 use Rattle.volume_def.proofs.CodedLaws.{SameItems-All, SameItems-Contains}
-use Rattle.volume_def.proofs.FindLaws.{find-agree, find-found}
-use Rattle.volume_def.proofs.MemberLaws.{Contains-cases, Contains-nil, Contains-only}
+use Rattle.list_laws.proofs.FindLaws.{find-agree, find-found}
+use Rattle.list_laws.proofs.MemberLaws.{Contains-cases, Contains-nil, Contains-only}
 use Rattle.volume_def.proofs.RunPieces.{spot_of-behind}
-use Rattle.volume_def.proofs.SameItemsLaws.{SameItems-length, SameItems-sym}
+use Rattle.list_laws.proofs.SameItemsLaws.{SameItems-length, SameItems-sym}
 
 -- a number is at most the last of n clusters where it is below n
 last-leb : (vcn n : ℕ) → 1 ≤ n → leb vcn (last_vcn_of n) ≡ ltb vcn n

@@ -15,9 +15,9 @@ use Rattle.volume_def.specs.Files.{Clusters, Content, Part, Value, part_clusters
 use Rattle.volume_def.specs.StreamSize.{IsFirstExtent}
 use Rattle.volume_def.specs.Values.{byte_there, first_vcn_of, holds_vcn, is_first, spot_at, stored_byte, stored_bytes, value_by, value_byte, value_of_parts, value_over}
 use Rattle.volume_def.proofs.ExtentLaws.{holds-here, spot_at-part, stream-first}
-use Rattle.volume_def.proofs.FindLaws.{find-one}
-use Rattle.volume_def.proofs.MemberLaws.{Contains-from_range, map_agree}
-use Rattle.volume_def.proofs.RangeLaws.{map_range-constant, map_ranges, range-append, slice_range-map}
+use Rattle.list_laws.proofs.FindLaws.{find-one}
+use Rattle.list_laws.proofs.MemberLaws.{Contains-from_range, map_agree}
+use Rattle.list_laws.proofs.RangeLaws.{map_range-constant, map_ranges, range-append, slice_range-map}
 
 -- Of a stream.
 

@@ -8,14 +8,14 @@ use Rattle.ntfs_def.specs.declared.run_text.Spot.TheVariants.{Outside, Hole, At}
 use Rattle.volume_def.specs.ExtentsClause.{AreAttribute}
 use Rattle.volume_def.specs.Files.{Clusters, Content, Part, Value, part_runs}
 use Rattle.volume_def.specs.Coverage.{times_covered}
-use Rattle.volume_def.specs.SameItems.{SameItems}
+use Rattle.list_laws.specs.SameItems.{SameItems}
 use Rattle.volume_def.specs.StreamSize.{real_size, told_size}
 use Rattle.volume_def.specs.Values.{byte_there, first_vcn_of, holds_vcn, is_first, spot_at, spot_by, value_by, value_byte, value_of_parts, value_over}
 use Rattle.volume_def.proofs.Codes.{part_code}
 use Rattle.volume_def.proofs.CodedLaws.{find-SameItems}
 use Rattle.volume_def.proofs.ExtentLaws.{spot_at-SameItems, stream-first, stream-holds}
-use Rattle.volume_def.proofs.FindLaws.{find-found, find-one}
-use Rattle.volume_def.proofs.MemberLaws.{map_agree}
+use Rattle.list_laws.proofs.FindLaws.{find-found, find-one}
+use Rattle.list_laws.proofs.MemberLaws.{map_agree}
 use Rattle.volume_def.proofs.RunPlaces.{times_in-spot_of}
 
 -- In any order.

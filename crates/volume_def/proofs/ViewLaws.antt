@@ -7,7 +7,7 @@ use Rattle.volume_def.specs.Edits.{ChangesAt}
 use Rattle.volume_def.specs.Files.{Part, Records, parts, parts_in, record_on, record_in, records_of}
 use Rattle.volume_def.specs.Table.{TableLayout}
 use Rattle.volume_def.specs.View.{ReplacesBlock, ReplacesPiece, VolumeView}
-use Rattle.volume_def.proofs.ReplacesLaws.{flat_map_agree}
+use Rattle.list_laws.proofs.ReplacesLaws.{flat_map_agree}
 
 -- a record is what its block says
 record_at-same : (old new : VolumeView) (n : ℕ) → new.layout ≡ old.layout → new.block n ≡ old.block n → record_on new n ≡ record_on old n

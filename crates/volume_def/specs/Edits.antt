@@ -2,7 +2,7 @@
 use Rattle.std.specs.Prelude.{◌≡◌, ◌≢◌, ℕ, ◌<◌, List, [], ◌∷◌, Some}
 use Rattle.ntfs_def.specs.Record.{Header}
 use Rattle.volume_def.specs.Files.{Content, Part, Record, Records, file_of}
-use Rattle.volume_def.specs.Replaces.{Replaces}
+use Rattle.list_laws.specs.Replaces.{Replaces}
 
 -- All records but n stay.
 pub record ChangesAt (old new : Records) (n : ℕ) : Type 0 where

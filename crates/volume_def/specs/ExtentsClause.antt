@@ -7,7 +7,7 @@ use Rattle.ntfs_def.specs.declared.sizes.Sizes.{Sizes}
 use Rattle.ntfs_def.specs.Units.{wide}
 use Rattle.ntfs_def.specs.Flags.{is_packed, is_sparse}
 use Rattle.volume_def.specs.Files.{Part, Records, part_clusters, content_extent, is_base, is_of, parts, parts_like, content_runs, content_value, all_covered}
-use Rattle.volume_def.specs.SameItems.{SameItems}
+use Rattle.list_laws.specs.SameItems.{SameItems}
 
 -- the number of the last of n clusters; 2^64 - 1 where there is none
 abbrev pub last_vcn_of : ℕ → ℕ

@@ -4,7 +4,6 @@
 use Rattle.std.specs.Prelude.{◌≡◌, ◌≢◌, ℕ, ◌+◌, ◌*◌, ◌/◌, ◌%◌, ◌<◌, ◌≤◌, ◌==◌, ◌&&◌, Bool, List, [], ◌∷◌, codes, map, filter, length, slice_range, All, count_by, Some, IfSome, IsTrue}
 use Rattle.std.specs.Str.{bytes_eq}
 use Rattle.std.specs.declared.cmp.Ordering.{Ordering}
-use Rattle.vol_bytes.specs.Field.{u32_at}
 use Rattle.ntfs_def.specs.declared.index.NodeForm.{NodeForm}
 use Rattle.ntfs_def.specs.declared.index.NodeForm.TheVariants.{Names, View}
 use Rattle.ntfs_def.specs.declared.kinds.TheConstants.{BITMAP, FILE_NAME, INDEX_ALLOCATION, INDEX_ROOT}
@@ -14,6 +13,7 @@ use Rattle.ntfs_def.specs.declared.lengths.TheConstants.{INDEX_RECORD}
 use Rattle.ntfs_def.specs.Bits.{bit_in}
 use Rattle.ntfs_def.specs.FileName.{FileName, is_name_key, link_of}
 use Rattle.ntfs_def.specs.Fixup.{IsSealed, opened_of}
+use Rattle.ntfs_def.specs.IndexRoot.{index_record_len, indexed_kind, key_collation}
 use Rattle.ntfs_def.specs.IndexTree.{Ascends, Nodes, Walks, spread_times}
 use Rattle.ntfs_def.specs.KeyOrder.{hash_order, id_order, is_hash_key, is_id_key, is_word_key, name_order, word_order}
 use Rattle.ntfs_def.specs.Units.{wide}
@@ -21,7 +21,7 @@ use Rattle.ntfs_def.specs.Node.{Item, Node, own_vcn, short_node}
 use Rattle.volume_def.specs.CaseClause.{volume_fold}
 use Rattle.volume_def.specs.FileNames.{is_in_directory, links, names_of}
 use Rattle.volume_def.specs.Files.{Part, content_extent, is_base, record_on, records_of, content_value, is_directory, parts_at}
-use Rattle.volume_def.specs.SameItems.{SameItems}
+use Rattle.list_laws.specs.SameItems.{SameItems}
 use Rattle.volume_def.specs.Values.{IsPlainIfThere, first_part, spot_at, value_on}
 use Rattle.volume_def.specs.Table.{cluster_bytes}
 use Rattle.volume_def.specs.View.{VolumeView}
@@ -67,8 +67,8 @@ pub record KeyRule : Type 0 where
 pub record HasIndex (form : NodeForm) (rule : KeyRule) (view : VolumeView) (index : IndexParts) (items : List Item) : Type 0 where
   pub root : List ℕ
   pub is_root : map (λ part. content_value part.content) index.root ≡ Some root ∷ []
-  pub collation : u32_at root 0x04 ≡ rule.collation
-  pub record_size : u32_at root 0x08 ≡ INDEX_RECORD
+  pub collation : key_collation root ≡ rule.collation
+  pub record_size : index_record_len root ≡ INDEX_RECORD
   pub plain : IsPlainIfThere index.records
   pub plain_bits : IsPlainIfThere index.bits
   pub written : IfSome (first_part index.records) (λ part. IfSome (content_extent part.content) (λ extent.
@@ -88,7 +88,7 @@ name_rule view = record { collation = 1; order = name_order (volume_fold view); 
 pub record IsDirectoryIndex (view : VolumeView) (f : ℕ) : Type 0 where
   pub items : List Item
   pub index : HasIndex Names (name_rule view) view (index_parts view f (wide (codes "$I30"))) items
-  pub kind : u32_at index.root 0x00 ≡ FILE_NAME
+  pub kind : indexed_kind index.root ≡ FILE_NAME
   pub names : SameItems (map link_of items) (filter (is_in_directory f) (links (records_of view)))
 
 -- the orders of view indexes

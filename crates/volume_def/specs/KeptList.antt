@@ -4,7 +4,7 @@ use Rattle.ntfs_def.specs.AttributeList.{ListEntry, list_entries}
 use Rattle.ntfs_def.specs.Flags.{is_packed}
 use Rattle.volume_def.specs.Files.{Part, Records, parts}
 use Rattle.volume_def.specs.ListsClause.{IsReadableList, entries_in, is_list, list_value}
-use Rattle.volume_def.specs.SameItems.{SameItems}
+use Rattle.list_laws.specs.SameItems.{SameItems}
 use Rattle.volume_def.specs.Values.{KeepsClusters}
 use Rattle.volume_def.specs.View.{VolumeView}
 

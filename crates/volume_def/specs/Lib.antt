@@ -3,8 +3,6 @@ pub mod Blocks
 pub mod Coverage
 pub mod View
 pub mod VolumeRecord
-pub mod SameItems
-pub mod Replaces
 pub mod Files
 pub mod Values
 pub mod ShapeClause
@@ -28,3 +26,4 @@ pub mod Spans
 pub mod StreamSize
 pub mod KeptList
 pub mod Looked
+pub mod Room

@@ -6,7 +6,7 @@ use Rattle.ntfs_def.specs.Attribute.{ExtentHeader}
 use Rattle.ntfs_def.specs.AttributeList.{HasListShape, ListEntry, list_entries}
 use Rattle.ntfs_def.specs.Flags.{is_packed}
 use Rattle.volume_def.specs.Files.{Part, Record, Records, content_extent, content_runs, file_of, is_base, part_clusters, part_runs, parts, record_on, records_of}
-use Rattle.volume_def.specs.SameItems.{SameItems}
+use Rattle.list_laws.specs.SameItems.{SameItems}
 use Rattle.volume_def.specs.Values.{first_vcn_of, value_on}
 use Rattle.volume_def.specs.Table.{IsOnVolume, cluster_bytes}
 use Rattle.volume_def.specs.View.{VolumeView}

@@ -32,6 +32,17 @@ abbrev pub IsLookedAtSector : (ℕ → List ℕ) → TableLayout → ℕ → Typ
 IsLookedAtSector disk layout sector = (1 ≤ times_covered layout.runs (sector / layout.cluster_sectors))
     ⊎ IsOfMirror layout sector ⊎ IsLookedAt (told_view disk layout) (sector / layout.cluster_sectors)
 
+-- The view with other copies, clusters and sectors behind them.
+abbrev pub with_clusters : VolumeView → (ℕ → List ℕ) → (ℕ → List ℕ) → (ℕ → List ℕ) → VolumeView
+with_clusters view copy cluster rest = record {
+  told = view.told;
+  layout = view.layout;
+  block = view.block;
+  copy = copy;
+  cluster = cluster;
+  rest = rest;
+}
+
 -- Two disks with this boot sector have the same record 0, and where it tells a table, the same in each sector that a clause
 -- looks at.
 pub record AgreeWhereLooked (old new : ℕ → List ℕ) (boot : List ℕ) : Type 0 where

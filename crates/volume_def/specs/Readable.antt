@@ -3,7 +3,7 @@
 use Rattle.std.specs.Prelude.{ℕ, IsSomeAnd, IsTrue}
 use Rattle.volume_def.specs.AttributesClause.{MeetsAttributes}
 use Rattle.volume_def.specs.ExtentsClause.{MeetsExtents}
-use Rattle.volume_def.specs.Files.{is_base, record_on, records_of}
+use Rattle.volume_def.specs.Files.{is_base, is_directory, record_on, records_of}
 use Rattle.volume_def.specs.ListsClause.{MeetsLists}
 use Rattle.volume_def.specs.ShapeClause.{MeetsShape}
 use Rattle.volume_def.specs.Table.{cluster_bytes}
@@ -22,3 +22,7 @@ WhereReadable view P = IsTrue view.told → IsReadableVolume view → P
 -- Record f is in use, and a base record: there is a file of this number.
 abbrev pub IsFile : VolumeView → ℕ → Type 0
 IsFile view f = IsSomeAnd (record_on view f) (λ r. IsTrue (is_base r))
+
+-- .. and a directory's
+abbrev pub IsDirectory : VolumeView → ℕ → Type 0
+IsDirectory view f = IsSomeAnd (record_on view f) (λ r. IsTrue (is_base r) × IsTrue (is_directory r))

@@ -3,13 +3,13 @@
 -- Layout: Linux-NTFS documentation, files $Volume and $MFTMirr, attribute $VOLUME_INFORMATION; Carrier, File System Forensic
 -- Analysis, chapters 12 and 13.
 use Rattle.std.specs.Prelude.{◌≡◌, ℕ, ◌+◌, ◌*◌, ◌%◌, ◌<◌, ◌≤◌, List, [], length, slice_index, Some, IsSome, IsSomeAnd, IsTrue}
-use Rattle.vol_bytes.specs.Field.{u16_at}
 use Rattle.ntfs_def.specs.declared.kinds.TheConstants.{DATA, VOLUME_INFORMATION}
 use Rattle.ntfs_def.specs.declared.run_text.Spot.TheVariants.{At}
 use Rattle.ntfs_def.specs.declared.records.TheConstants.{MFT_MIRROR, VOLUME}
 use Rattle.ntfs_def.specs.Attribute.{attribute_kind, attribute_place, attributes, content_bytes, first_value, is_resident, name_units, value_len, value_offset}
 use Rattle.ntfs_def.specs.Fixup.{IsSealed, array_end, array_place, opened_of}
 use Rattle.ntfs_def.specs.Record.{is_in_use, used_size}
+use Rattle.ntfs_def.specs.VolumeInformation.{dirty_bit}
 use Rattle.volume_def.specs.Files.{Part, content_extent, parts_at}
 use Rattle.volume_def.specs.Values.{IsPlain, first_part, spot_at}
 use Rattle.volume_def.specs.Table.{cluster_bytes}
@@ -61,7 +61,7 @@ pub record HasCopy (view : VolumeView) (n : ℕ) : Type 0 where
 abbrev pub MeetsMirror : VolumeView → ℕ → Type 0
 MeetsMirror view n = n < 4 → IsTrue (is_in_use (view.block n)) → HasCopy view n
 
--- 0x0A of $VOLUME_INFORMATION: bit 0 says that the volume was not closed
+-- the dirty flag is clear
 abbrev pub IsClean : VolumeView → Type 0
 IsClean view =
-    IsSomeAnd (first_value VOLUME_INFORMATION (attributes (opened_of (view.block VOLUME)))) (λ value. u16_at value 0x0A % 2 ≡ 0)
+    IsSomeAnd (first_value VOLUME_INFORMATION (attributes (opened_of (view.block VOLUME)))) (λ value. dirty_bit value ≡ 0)

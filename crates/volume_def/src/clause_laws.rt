@@ -10,7 +10,7 @@ ghost use Rattle.volume_def.specs.Files.{Part, Records, file_of, parts, parts_li
 ghost use Rattle.volume_def.specs.KeptList.{HasList, KeepsList, StoresList};
 ghost use Rattle.volume_def.specs.ListsClause.{HasRightList, entries_in, entry_in, is_list, list_value};
 ghost use Rattle.volume_def.specs.Readable.{IsFile, IsReadableVolume};
-ghost use Rattle.volume_def.specs.Replaces.{Replaces};
+ghost use Rattle.list_laws.specs.Replaces.{Replaces};
 ghost use Rattle.volume_def.specs.Table.{cluster_bytes};
 ghost use Rattle.volume_def.specs.View.{VolumeView};
 

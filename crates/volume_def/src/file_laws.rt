@@ -11,8 +11,8 @@ ghost use Rattle.volume_def.specs.Members.{FreesEmpty, HoldsPart, IsPart, TakesE
 ghost use Rattle.volume_def.specs.Files.{Part, Records, part_clusters, file_of, parts, parts_like, part_runs, record_on, record_in, records_of, joined_runs};
 ghost use Rattle.volume_def.specs.ListsClause.{entries_in, entry_in, is_list};
 ghost use Rattle.volume_def.specs.Coverage.{times_covered};
-ghost use Rattle.volume_def.specs.Replaces.{Replaces};
-ghost use Rattle.volume_def.specs.SameItems.{SameItems};
+ghost use Rattle.list_laws.specs.Replaces.{Replaces};
+ghost use Rattle.list_laws.specs.SameItems.{SameItems};
 ghost use Rattle.volume_def.specs.Spans.{spans_vcn};
 ghost use Rattle.volume_def.specs.StreamSize.{IsFirstExtent, told_size};
 ghost use Rattle.volume_def.specs.Values.{KeepsClusters, attribute_value, first_vcn_of, holds_vcn, is_first, spot_at, spot_by, stored_bytes, value_of_parts};

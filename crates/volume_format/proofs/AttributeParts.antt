@@ -5,7 +5,7 @@ use Rattle.ntfs_def.specs.Attribute.{Body, NonResident, Resident, attribute_at, 
 use Rattle.ntfs_def.specs.Record.{first_place}
 use Rattle.ntfs_def.specs.Shape.{HasShape, IsWhole}
 use Rattle.volume_def.specs.Files.{Part, Value, content_of, part_of}
-use Rattle.volume_format.specs.Plan.{part}
+use Rattle.record_bytes.specs.AttributeBytes.{part}
 
 -- An attribute that is an unnamed value.
 module _ (block : List ℕ) (at n kind id : ℕ) (value : List ℕ)

@@ -10,7 +10,8 @@ use Rattle.ntfs_def.specs.declared.kinds.TheConstants.{BITMAP, DATA, FILE_NAME, 
 use Rattle.ntfs_def.specs.FileName.{is_name_key}
 use Rattle.volume_def.specs.AttributesClause.{AscendsFrom, IsRightPart, IsRightRecord, IsStandard, MeetsAttributes, is_kept_resident, is_standard, times_id}
 use Rattle.volume_def.specs.Files.{Content, Part, Record, Value, content_value}
-use Rattle.volume_format.specs.Plan.{Plan, name_part, name_value, part, planned_records, standard_part}
+use Rattle.volume_format.specs.Plan.{Plan, name_part, name_value, planned_records, standard_part}
+use Rattle.record_bytes.specs.AttributeBytes.{part}
 use Rattle.volume_format.proofs.EachRecord.{each-listed}
 
 -- ids count up

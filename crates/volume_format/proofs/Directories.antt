@@ -16,12 +16,14 @@ use Rattle.volume_def.specs.CaseClause.{volume_fold}
 use Rattle.volume_def.specs.FileNames.{is_in_directory, links}
 use Rattle.volume_def.specs.Files.{Value, content_value}
 use Rattle.volume_def.specs.IndexesClause.{HasIndex, IndexParts, IsDirectoryIndex, IsIndexRecordAt, index_nodes, index_parts, name_rule}
-use Rattle.volume_def.specs.SameItems.{SameItems}
+use Rattle.list_laws.specs.SameItems.{SameItems}
 use Rattle.volume_def.specs.Table.{cluster_bytes}
 use Rattle.volume_def.specs.Values.{spot_at, value_of_parts, value_on}
 use Rattle.volume_def.specs.View.{VolumeView}
 use Rattle.volume_format.specs.Items.{case_of}
-use Rattle.volume_format.specs.Plan.{Plan, clusters_needed, extend_entries, index_name, last_above, node_at, node_len, part, root_value, stream_part}
+use Rattle.volume_format.specs.Plan.{Plan, clusters_needed, extend_entries, index_name, node_at, node_len, root_value, stream_part}
+use Rattle.record_bytes.specs.Entries.{last_above}
+use Rattle.record_bytes.specs.AttributeBytes.{part}
 use Rattle.volume_format.specs.Planned.{IsPlanned}
 use Rattle.volume_format.proofs.CaseTable.{volume_fold-planned}
 use Rattle.volume_format.proofs.Contents.{value_on-stream}

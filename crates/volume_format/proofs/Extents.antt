@@ -9,7 +9,8 @@ use Rattle.ntfs_def.specs.declared.run_text.Run.{Run}
 use Rattle.ntfs_def.specs.Attribute.{ExtentHeader}
 use Rattle.volume_def.specs.ExtentsClause.{AreAttribute, FitExtents, MeetsExtents, has_sizes, last_vcn_of}
 use Rattle.volume_def.specs.Files.{Clusters, Part, Record, Value, all_covered, content_extent, is_base, is_of, parts, parts_like}
-use Rattle.volume_format.specs.Plan.{Plan, bad_part, clusters_needed, extent_for, name_part, part, planned_records, record_0, record_1, record_10, record_11, record_2, record_24, record_25, record_3, record_4, record_5, record_6, record_7, record_8, record_9, record_in_list, record_list, standard_part, stream_part}
+use Rattle.volume_format.specs.Plan.{Plan, bad_part, clusters_needed, extent_for, name_part, planned_records, record_0, record_1, record_10, record_11, record_2, record_24, record_25, record_3, record_4, record_5, record_6, record_7, record_8, record_9, record_in_list, record_list, standard_part, stream_part}
+use Rattle.record_bytes.specs.AttributeBytes.{part}
 use Rattle.volume_format.proofs.Needed.{clusters_needed-covers}
 use Rattle.volume_format.proofs.EachRecord.{EachRecord, at-listed}
 use Rattle.volume_format.proofs.Listed.{IfSome-from}

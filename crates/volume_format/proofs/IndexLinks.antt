@@ -7,8 +7,8 @@ use Rattle.ntfs_def.specs.Units.{units_at}
 use Rattle.volume_def.specs.FileNames.{is_in_directory, links, links_of_file, names_among, names_of}
 use Rattle.volume_def.specs.Files.{Record, is_base, records_of}
 use Rattle.volume_def.specs.View.{VolumeView}
-use Rattle.volume_def.specs.SameItems.{SameItems}
-use Rattle.volume_def.proofs.ReplacesLaws.{flat_map_agree}
+use Rattle.list_laws.specs.SameItems.{SameItems}
+use Rattle.list_laws.proofs.ReplacesLaws.{flat_map_agree}
 use Rattle.volume_format.specs.Planned.{IsPlanned}
 use Rattle.volume_format.specs.Plan.{Plan, planned_records, record_count, record_in_list, record_list}
 use Rattle.volume_format.proofs.Bases.{AllBase-planned, parts-planned}

@@ -4,7 +4,8 @@ use Rattle.std.specs.Prelude.{false}
 use Rattle.ntfs_def.specs.declared.index.NodeForm.TheVariants.{Names, View}
 use Rattle.ntfs_def.specs.Node.{are_short, child_at, is_entry, is_last_entry, item_at, node_header, scan_node, short_node}
 use Rattle.index_node.specs.LayOut.{node_listed}
-use Rattle.volume_format.specs.Plan.{Plan, descriptor_hash, descriptor_header, descriptor_id, extend_entries, last_above, last_entry, root_value, view_entry}
+use Rattle.volume_format.specs.Plan.{Plan, descriptor_hash, descriptor_header, descriptor_id, extend_entries, root_value}
+use Rattle.record_bytes.specs.Entries.{last_above, last_entry, view_entry}
 use Rattle.volume_format.specs.RootIndex.{root_entries}
 use Rattle.volume_format.specs.IndexItems.{extend_items, hash_items, id_items, root_items}
 use Rattle.volume_format.proofs.Leaves.{above, leaf}

@@ -48,9 +48,7 @@ mod IndexesClause
 mod Soundness
 mod LinksAlike
 mod Readings
-pub mod ResidentLaws
-pub mod ExtentLaws
-pub mod NewRecordLaws
+pub mod StreamParts
 pub mod PlaceLaws
 pub mod StoredLaws
 pub mod NodeBlockLaws

@@ -13,12 +13,11 @@ use Rattle.ntfs_def.proofs.FixupLaws.{length-opened_of, opened_of-within}
 use Rattle.ntfs_def.proofs.SameLaws.{HasShape-same, attributes-same, header_of-same, is_in_use-same, starts-same}
 use Rattle.ntfs_def.proofs.ShapeLaws.{header_failing-length}
 use Rattle.volume_def.specs.Files.{Record, part_of, record_in, record_of}
-use Rattle.volume_format.specs.NewRecord.{IsNewRecord}
+use Rattle.record_bytes.specs.NewRecord.{IsNewRecord, AreAligned}
 use Rattle.volume_format.specs.Plan.{Plan, is_planned, record_in_list, record_list}
-use Rattle.volume_format.specs.Planned.{AreAligned}
 use Rattle.volume_format.specs.StoredRecord.{IsStoredRecord}
 use Rattle.volume_format.proofs.Listed.{record_in_list-past}
-use Rattle.volume_format.proofs.NewRecordLaws.{array_place-shape}
+use Rattle.record_bytes.proofs.NewRecordLaws.{array_place-shape}
 use Rattle.volume_format.proofs.Tested.{range-tested}
 
 array_count-shape : (block : List ℕ) → header_failing block ≡ None → array_count block ≡ 3

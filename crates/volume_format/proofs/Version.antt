@@ -15,7 +15,8 @@ use Rattle.volume_def.specs.Files.{Value, part_of}
 use Rattle.volume_def.specs.VersionClause.{IsVersionAt, MeetsVersion}
 use Rattle.volume_def.specs.VolumeRecord.{version_in}
 use Rattle.volume_def.specs.View.{VolumeView}
-use Rattle.volume_format.specs.Plan.{Plan, part}
+use Rattle.volume_format.specs.Plan.{Plan}
+use Rattle.record_bytes.specs.AttributeBytes.{part}
 use Rattle.volume_format.specs.Planned.{IsPlanned}
 use Rattle.volume_format.proofs.AttributeParts.{kind-part, long-part, place-aligned, resident-part, unnamed-part, value-part, value_offset-bytes}
 use Rattle.volume_format.proofs.VolumeRecord.{in_use-volume, parts-volume}

@@ -13,7 +13,8 @@ use Rattle.ntfs_def.specs.Units.{wide}
 use Rattle.volume_def.specs.Files.{content_value, is_of}
 use Rattle.volume_def.specs.IndexesClause.{HasIndex, KeyRule, hash_rule, id_rule, index_parts, word_rule}
 use Rattle.volume_def.specs.View.{VolumeView}
-use Rattle.volume_format.specs.Plan.{Plan, descriptor_hash, descriptor_header, descriptor_id, last_entry, record_count, record_in_list, record_list, root_value, view_entry}
+use Rattle.volume_format.specs.Plan.{Plan, descriptor_hash, descriptor_header, descriptor_id, record_count, record_in_list, record_list, root_value}
+use Rattle.record_bytes.specs.Entries.{last_entry, view_entry}
 use Rattle.volume_format.specs.Planned.{IsPlanned}
 use Rattle.volume_format.specs.IndexItems.{hash_items, id_items}
 use Rattle.volume_format.proofs.Leaves.{leaf}

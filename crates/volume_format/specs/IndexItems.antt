@@ -1,7 +1,9 @@
 -- The items of a new volume's indexes.
 use Rattle.std.specs.Prelude.{ℕ, List, [], ◌∷◌, ◌++◌, length, map}
 use Rattle.ntfs_def.specs.Node.{Item}
-use Rattle.volume_format.specs.Plan.{descriptor_hash, descriptor_header, descriptor_id, fill_to_8, name_value, reference_bytes, two_bytes, four_bytes}
+use Rattle.volume_format.specs.Plan.{descriptor_hash, descriptor_header, descriptor_id, name_value}
+use Rattle.record_bytes.specs.AttributeBytes.{fill_to_8}
+use Rattle.record_bytes.specs.Entries.{reference_bytes, two_bytes, four_bytes}
 use Rattle.volume_format.specs.RootIndex.{SystemName, extend_names, root_names}
 
 -- a directory's entry of a name

@@ -2,7 +2,6 @@ pub mod Plan
 pub mod Items
 pub mod RootIndex
 pub mod Reading
-pub mod AttributeBytes
 pub mod FitsPlan
 pub mod IndexItems
 pub mod Planned
@@ -10,7 +9,6 @@ pub mod Options
 pub mod NewVolume
 pub mod Written
 pub mod NewBoot
-pub mod NewRecord
 pub mod Made
 pub mod Formatted
 pub mod StoredRecord

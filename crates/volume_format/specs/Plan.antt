@@ -8,6 +8,8 @@ use Rattle.ntfs_def.specs.KeyOrder.{case_table_len}
 use Rattle.ntfs_def.specs.Units.{wide}
 use Rattle.volume_def.specs.ExtentsClause.{bad_name, last_vcn_of}
 use Rattle.volume_def.specs.Files.{Clusters, Content, Part, Record, Records, Value}
+use Rattle.record_bytes.specs.AttributeBytes.{part}
+use Rattle.record_bytes.specs.Entries.{four_bytes, index_root, last_above, last_entry, name_entry, reference_bytes, view_entry}
 
 -- The choices on which the plan depends.
 pub record Plan : Type 0 where
@@ -82,17 +84,6 @@ items_end p = node_at p + clusters_needed p node_len
 
 -- Values.
 
--- a number in two and in four bytes, the lower first; each is below 256
-abbrev pub two_bytes : ℕ → List ℕ
-two_bytes n = n ∷ 0 ∷ []
-
-abbrev pub four_bytes : ℕ → List ℕ
-four_bytes n = n ∷ 0 ∷ 0 ∷ 0 ∷ []
-
--- the reference of a record of the system, whose numbers are both small
-abbrev pub reference_bytes : ℕ → ℕ → List ℕ
-reference_bytes number sequence = number ∷ 0 ∷ 0 ∷ 0 ∷ 0 ∷ 0 ∷ sequence ∷ 0 ∷ []
-
 -- $STANDARD_INFORMATION of 72 bytes: no time, DOS flags 6 (hidden, system), security id 256
 abbrev pub standard_value : List ℕ
 standard_value = replicate 32 0 ++ four_bytes 6 ++ replicate 16 0 ++ (0 ∷ 1 ∷ 0 ∷ 0 ∷ []) ++ replicate 16 0
@@ -104,38 +95,9 @@ name_value parent directory letters =
     reference_bytes parent parent ++ replicate 48 0 ++ (6 ∷ 0 ∷ 0 ∷ directory ∷ []) ++ replicate 4 0
     ++ (length letters ∷ 3 ∷ []) ++ wide letters
 
--- $INDEX_ROOT: what it indexes, how its keys are compared, index records of 4,096 bytes; then the header of a node
+-- $INDEX_ROOT of an index of this volume
 abbrev pub root_value : Plan → ℕ → ℕ → ℕ → List ℕ → List ℕ
-root_value p kind collation children entries =
-    four_bytes kind ++ four_bytes collation ++ (0 ∷ 0x10 ∷ 0 ∷ 0 ∷ 4096 / p.size ∷ 0 ∷ 0 ∷ 0 ∷ [])
-    ++ four_bytes 16 ++ four_bytes (16 + length entries) ++ four_bytes (16 + length entries) ++ four_bytes children ++ entries
-
--- the last entry of a node without children, and one that leads to the index record 0
-abbrev pub last_entry : List ℕ
-last_entry = replicate 8 0 ++ (16 ∷ 0 ∷ 0 ∷ 0 ∷ 2 ∷ 0 ∷ 0 ∷ 0 ∷ [])
-
-abbrev pub last_above : List ℕ
-last_above = replicate 8 0 ++ (24 ∷ 0 ∷ 0 ∷ 0 ∷ 3 ∷ 0 ∷ 0 ∷ 0 ∷ replicate 8 0)
-
--- the next multiple of 8
-abbrev pub up_to_8 : ℕ → ℕ
-up_to_8 n = (n + 7) / 8 * 8
-
--- the zeros that fill bytes up to it
-abbrev pub fill_to_8 : ℕ → List ℕ
-fill_to_8 n = replicate (up_to_8 n - n) 0
-
--- a directory's entry of a name: the file's reference, the lengths, no flags, the name
-abbrev pub name_entry : List ℕ → List ℕ → List ℕ
-name_entry reference name =
-    reference ++ two_bytes (16 + up_to_8 (length name)) ++ two_bytes (length name) ++ four_bytes 0 ++ name ++ fill_to_8 (length name)
-
--- an entry of a view index: where its data stands and how long it is, the lengths, no flags, the key, the data
-abbrev pub view_entry : List ℕ → List ℕ → List ℕ
-view_entry key content =
-    two_bytes (16 + length key) ++ two_bytes (length content) ++ four_bytes 0
-    ++ two_bytes (16 + up_to_8 (length key + length content)) ++ two_bytes (length key) ++ four_bytes 0
-    ++ key ++ content ++ fill_to_8 (length key + length content)
+root_value p kind collation children entries = index_root kind collation (4096 / p.size) children entries
 
 -- the only security descriptor: self-relative, without owner, group and lists
 abbrev pub descriptor : List ℕ
@@ -158,9 +120,6 @@ security_entry = descriptor_header ++ descriptor
 
 -- Parts.
 
-abbrev pub part : ℕ → ℕ → List ℕ → ℕ → Content → Part
-part n kind name id content = record { holder = n; kind = kind; name = name; id = id; flags = 0; content = content }
-
 abbrev pub standard_part : ℕ → Part
 standard_part n = part n STANDARD_INFORMATION [] 0 (Value standard_value)
 
@@ -174,10 +133,12 @@ extent_for p bytes = record {
   compressed = None;
 }
 
--- a stream in one run from a cluster on
+-- a stream of so many bytes in one run from a cluster on, and it as a part
+abbrev pub stream_content : Plan → ℕ → ℕ → Content
+stream_content p at bytes = Clusters (extent_for p bytes) (Some (record { len = clusters_needed p bytes; lcn = Some at } ∷ []))
+
 abbrev pub stream_part : Plan → ℕ → ℕ → List ℕ → ℕ → ℕ → ℕ → Part
-stream_part p n kind name id at bytes =
-    part n kind name id (Clusters (extent_for p bytes) (Some (record { len = clusters_needed p bytes; lcn = Some at } ∷ [])))
+stream_part p n kind name id at bytes = part n kind name id (stream_content p at bytes)
 
 -- $Bad: one hole over all clusters, of which nothing is written
 abbrev pub bad_part : Plan → Part

@@ -1,8 +1,8 @@
 -- A view of a volume is that of a new one.
-use Rattle.std.specs.Prelude.{◌≡◌, ℕ, ◌%◌, ◌<◌, false, List, [], ◌∷◌, length, slice_index, All, Some, IsTrue}
+use Rattle.std.specs.Prelude.{◌≡◌, ℕ, ◌<◌, false, List, [], ◌∷◌, length, slice_index, Some, IsTrue}
 use Rattle.ntfs_def.specs.declared.index.NodeForm.TheVariants.{Names}
 use Rattle.ntfs_def.specs.declared.records.TheConstants.{VOLUME}
-use Rattle.ntfs_def.specs.Attribute.{Attribute, attributes, value_offset}
+use Rattle.ntfs_def.specs.Attribute.{attributes}
 use Rattle.ntfs_def.specs.Fixup.{IsSealed, opened_of}
 use Rattle.ntfs_def.specs.Node.{own_vcn, short_node}
 use Rattle.ntfs_def.specs.Record.{is_in_use}
@@ -10,6 +10,7 @@ use Rattle.index_node.specs.LayOut.{node_listed}
 use Rattle.volume_def.specs.Files.{record_in}
 use Rattle.volume_def.specs.Table.{IsWellFormed, cluster_bytes}
 use Rattle.volume_def.specs.View.{VolumeView}
+use Rattle.record_bytes.specs.NewRecord.{AreAligned}
 use Rattle.volume_format.specs.Items.{HoldsItem, case_byte, log_byte, ones_byte, record_bits_byte, security_byte}
 use Rattle.volume_format.specs.Plan.{Plan, bits_at, bits_len, case_at, case_len, clusters_needed, items_end, log_at, log_len, mirror_at, node_at, node_len, record_count, record_in_list, record_list, security_at, security_len, table_at, table_bits_at, table_bits_len, table_len}
 use Rattle.volume_format.specs.RootIndex.{root_entries}
@@ -26,10 +27,6 @@ pub record HoldsRootRecord (cluster : ℕ → List ℕ) (size at : ℕ) : Type 0
   pub stored : List ℕ
   pub is : IsRootRecord stored
   pub held : HoldsItem cluster size at node_len (slice_index stored)
-
--- The values of these attributes begin at multiples of 8, counted from where each attribute begins.
-abbrev pub AreAligned : List Attribute → Type 0
-AreAligned all = All (λ attribute. value_offset attribute.bytes 0 % 8 ≡ 0) all
 
 pub record IsPlanned (p : Plan) (view : VolumeView) : Type 0 where
   pub size : cluster_bytes view.layout ≡ p.size

@@ -1,7 +1,8 @@
 -- The names of a new volume, which are those of the system's files: twelve in the root, and two in $Extend. The root's index is an
 -- empty root node above one index record, which has its twelve names.
 use Rattle.std.specs.Prelude.{ℕ, List, [], ◌∷◌, ◌++◌, codes, map}
-use Rattle.volume_format.specs.Plan.{last_entry, name_entry, name_value, reference_bytes}
+use Rattle.record_bytes.specs.Entries.{last_entry, name_entry, reference_bytes}
+use Rattle.volume_format.specs.Plan.{name_value}
 
 -- A name: the number and the sequence number of its record, the flag of a directory in its byte, and its letters.
 pub record SystemName : Type 0 where

@@ -5,7 +5,7 @@ use Rattle.ntfs_def.specs.Fixup.{opened_of, sequence_number}
 use Rattle.ntfs_def.specs.Record.{is_in_use}
 use Rattle.volume_def.specs.Files.{Record, record_in}
 use Rattle.volume_def.specs.Table.{IsWellFormed}
-use Rattle.volume_format.specs.Planned.{AreAligned}
+use Rattle.record_bytes.specs.NewRecord.{AreAligned}
 
 -- The stored block n holds what is planned: a record, or `None` where it is not in use.
 pub record IsStoredRecord (n : ℕ) (planned : Option Record) (stored : List ℕ) : Type 0 where

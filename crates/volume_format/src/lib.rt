@@ -3,14 +3,12 @@
 
 ghost use Rattle.std.specs.Prelude.{◌≡◌};
 
-mod attribute;
 mod boot;
 mod error;
 mod index_laws;
 mod item;
 mod laws;
 mod made;
-mod new_record;
 mod new_volume;
 mod options;
 mod places;
@@ -18,7 +16,7 @@ mod record_blocks;
 mod root;
 mod rules;
 mod stored;
-mod value_bytes;
+mod system_values;
 mod write;
 
 pub use error::FormatNo;

@@ -7,24 +7,24 @@ ghost use Rattle.ntfs_def.specs.Shape.{HasShape};
 ghost use Rattle.ntfs_def.specs.Units.{wide};
 ghost use Rattle.volume_def.specs.ExtentsClause.{bad_name};
 ghost use Rattle.volume_def.specs.Files.{Value};
-ghost use Rattle.volume_format.specs.AttributeBytes.{runs_at};
-ghost use Rattle.volume_format.specs.NewRecord.{AddsPart, IsNewRecord, stream_content};
-ghost use Rattle.volume_format.specs.Plan.{bad_part, file, is_planned, last_entry, part, record_0, record_1, record_10, record_11, record_2, record_3, record_5, record_6, record_7, record_8, record_9, record_in_list, record_list, root_value, stream_part, up_to_8};
+ghost use Rattle.record_bytes.specs.AttributeBytes.{runs_at, part, up_to_8};
+ghost use Rattle.record_bytes.specs.NewRecord.{AddsPart, IsNewRecord};
+ghost use Rattle.volume_format.specs.Plan.{stream_content, bad_part, file, is_planned, record_0, record_1, record_10, record_11, record_2, record_3, record_5, record_6, record_7, record_8, record_9, record_in_list, record_list, root_value, stream_part};
+ghost use Rattle.record_bytes.specs.Entries.{last_entry};
 
 use crate::Places;
-use crate::new_record::{add_stream, add_value, blank};
 use crate::places::{
     BOOT_LEN, CASE_LEN, LOG_LEN, MIRROR_LEN, NODE_LEN, SECURITY_LEN, TABLE_BITS_LEN, TABLE_LEN,
 };
-use crate::value_bytes::{
-    DESCRIPTOR_HEADER, LAST_ABOVE, LAST_ENTRY, extend_entries, key_entries, name_value, root_value,
-    standard_value,
+use crate::system_values::{
+    DESCRIPTOR_HEADER, extend_entries, key_entries, name_value, root_value, standard_value,
 };
 use ntfs_def::kinds::{
     BITMAP, DATA, FILE_NAME, INDEX_ALLOCATION, INDEX_ROOT, STANDARD_INFORMATION,
     VOLUME_INFORMATION, VOLUME_NAME,
 };
 use ntfs_def::{Run, Sizes};
+use record_bytes::{LAST_ABOVE, LAST_ENTRY, add_stream, add_value, blank};
 use std::alloc::{AllocError, Global};
 
 /// How a record begins.

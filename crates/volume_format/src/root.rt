@@ -2,14 +2,14 @@
 ghost use Rattle.std.specs.Prelude.{◌≡◌, ◌≤◌, ◌++◌, ◌∷◌, [], IfOk, OnOk, length};
 ghost use Rattle.ntfs_def.specs.Fixup.{sequence_number};
 ghost use Rattle.volume_format.specs.NodeBlock.{blank_node};
-ghost use Rattle.volume_format.specs.Plan.{last_entry};
+ghost use Rattle.record_bytes.specs.Entries.{last_entry};
 ghost use Rattle.volume_format.specs.Planned.{IsRootRecord};
 ghost use Rattle.volume_format.specs.RootIndex.{root_entries, root_entry, system_name};
 
-use crate::new_record::put_front;
-use crate::value_bytes::{LAST_ENTRY, name_value, push_name_entry};
+use crate::system_values::name_value;
 use index_node::{NodeForm, lay_out};
 use ntfs_fixup::seal;
+use record_bytes::{LAST_ENTRY, push_name_entry, put_front};
 use std::alloc::{AllocError, Global};
 use vol_bytes::Octets;
 

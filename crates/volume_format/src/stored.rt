@@ -1,6 +1,6 @@
 //! The blocks of the table of a new volume, as stored.
 ghost use Rattle.std.specs.Prelude.{◌≡◌, IsTrue, OnOk};
-ghost use Rattle.volume_format.specs.NewRecord.{IsNewRecord};
+ghost use Rattle.record_bytes.specs.NewRecord.{IsNewRecord};
 ghost use Rattle.volume_format.specs.Plan.{record_in_list, record_list};
 ghost use Rattle.volume_format.specs.StoredRecord.{IsStoredRecord};
 

@@ -2,7 +2,7 @@ use Rattle.std.proofs.Common.{◌+◌, None, drop, sym, subst, ◌∙◌}
 use Rattle.attr_view.specs.View.{attribute_of}
 use Rattle.file_record.specs.Held.{attributes_held, parts_held}
 use Rattle.file_record.specs.Left.{attributes_left}
-use Rattle.attr_store.specs.Seen.{FirstSeen}
+use Rattle.attr_store.specs.First.{FirstMet}
 use Rattle.attr_store.proofs.FirstLaws.{AreHeld-at, AreHeld-end, AreHeld-file, sought-first}
 use Rattle.attr_store.proofs.first.find_first.Goals as goal
 
@@ -17,7 +17,7 @@ returns-in_default c =
     let file = c.args.file.now in
     let end = AreHeld-end c.loop-index.index (attributes_held file) (parts_held file) (AreHeld-file file)
     (sym c.loop-index.invariant.left ∙ c.in_default.ensures.steps.0) in
-    subst (λ left. FirstSeen file c.args.kind c.args.name.now left None) end c.loop-index.invariant.found
+    subst (λ left. FirstMet file c.args.kind c.args.name.now left None) end c.loop-index.invariant.found
 
 pub returns-in-Some-first_here : goal.returns-in-Some-first_here
 returns-in-Some-first_here c =
@@ -26,7 +26,7 @@ returns-in-Some-first_here c =
     let (n, at, here, behind) = AreHeld-at index (attributes_held file) (parts_held file) (attribute_of c.in-Some.attribute)
     (attributes_left c.next.new.self) (AreHeld-file file) (sym c.loop-index.invariant.left ∙ c.in-Some.ensures.steps) in
     c.in-Some-first_here.ensures file n (drop (index + 1) (parts_held file)) at
-    (subst (λ left. FirstSeen file c.args.kind c.args.name.now left None) here c.loop-index.invariant.found)
+    (subst (λ left. FirstMet file c.args.kind c.args.name.now left None) here c.loop-index.invariant.found)
 
 pub loop-index-preserved : goal.loop-index-preserved
 loop-index-preserved c =
@@ -37,5 +37,5 @@ loop-index-preserved c =
     record {
       left = sym behind;
       found = c.in_default-first_here.ensures file n (drop (index + 1) (parts_held file)) at
-          (subst (λ left. FirstSeen file c.args.kind c.args.name.now left None) here c.loop-index.invariant.found);
+          (subst (λ left. FirstMet file c.args.kind c.args.name.now left None) here c.loop-index.invariant.found);
     }

@@ -4,7 +4,7 @@ use Rattle.ntfs_def.specs.declared.sizes.Sizes.{Sizes}
 use Rattle.attr_view.specs.View.{attribute_of}
 use Rattle.volume_def.specs.Files.{content_of, content_extent, part_of}
 use Rattle.volume_def.specs.Spans.{is_within, spans_vcn}
-use Rattle.volume_def.proofs.FindLaws.{count-some, find-fails}
+use Rattle.list_laws.proofs.FindLaws.{count-some, find-fails}
 use Rattle.attr_store.specs.Sought.{parts_held_like}
 use Rattle.attr_store.proofs.Found.{body-spans}
 use Rattle.attr_store.proofs.read.initialized_size.Goals as goal

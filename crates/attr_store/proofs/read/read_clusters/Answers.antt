@@ -20,11 +20,11 @@ returns-clause-read g c told f extent s first fits =
     let (one, begins, is) = c.initialized_size-initialized.ensures size f s extent first in
     let within : n ≤ len = omega (arith, c.written_len-written.ensures) in
     let all = length-take-le n c.args.into.now within in
-    let read = rw all at c.in_ok-read_stored.ensures.read told f s in
-    let long : length c.read_stored.new.into ≡ n = omega (arith, all) in
+    let read = rw all at c.in_ok-read_stream.ensures.read told f s in
+    let long : length c.read_stream.new.into ≡ n = omega (arith, all) in
     let real = value-length_told v.cluster size f extents one s begins in
     let sum : n + (len - n) ≡ len = omega (arith, within) in
-    filled c.args.into.now c.read_stored.new.into c.fill.new.self n _ within long (omega arith) (c.fill.ensures.after (λ y e. e))
+    filled c.args.into.now c.read_stream.new.into c.fill.new.self n _ within long (omega arith) (c.fill.ensures.after (λ y e. e))
     ∙ ap (λ xs. xs ++ replicate (len - n) 0) read
     ∙ sym (value-range v.cluster size f extents one c.args.at n (len - n) s begins (omega (arith, fits, real, within))
     (λ some. omega (arith, c.written_len-written.ensures, is)) (λ some. omega (arith, c.written_len-written.ensures, is)))

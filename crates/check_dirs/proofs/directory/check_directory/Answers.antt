@@ -2,7 +2,7 @@ use Rattle.std.proofs.Common.{◌≡◌, ◌+◌, ◌*◌, ap, arith, length, ma
 use Rattle.std.specs.Prelude.{◌↔◌, All, IsTrue}
 use Rattle.std.specs.Option.{option_map}
 use Rattle.vol_bytes.specs.declared.small.Octets.{Octets}
-use Rattle.volume_def.specs.SameItems.{SameItems}
+use Rattle.list_laws.specs.SameItems.{SameItems}
 use Rattle.volume_def.specs.View.{VolumeView}
 use Rattle.index_tree.proofs.Rising.{IfOk-map}
 use Rattle.mft_table.specs.Mft.{view}

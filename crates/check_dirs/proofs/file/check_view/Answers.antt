@@ -7,7 +7,7 @@ use Rattle.ntfs_def.specs.declared.kinds.TheConstants.{INDEX_ROOT}
 use Rattle.volume_def.specs.IndexesClause.{KeyRule, MeetsViewIndex}
 use Rattle.mft_table.specs.Mft.{view}
 use Rattle.file_record.specs.Held.{file_number}
-use Rattle.attr_store.specs.Index.{attribute_held}
+use Rattle.attr_store.specs.First.{attribute_held}
 use Rattle.check_dirs.specs.OrderedIndex.{key_rule}
 use Rattle.check_dirs.proofs.FileLaws.{is_some-map, no-index-meets, no-root-meets, told-meets}
 use Rattle.check_dirs.proofs.file.check_view.Goals as goal

@@ -2,7 +2,7 @@ use Rattle.std.proofs.Common.{◌+◌, ◌*◌, le_refl, length, subst}
 use Rattle.std.specs.Prelude.{IsTrue}
 use Rattle.volume_def.specs.IndexesClause.{MeetsIndexes}
 use Rattle.volume_def.specs.View.{VolumeView}
-use Rattle.volume_facts.specs.Least.{IsLeastFailing}
+use Rattle.record_notes.specs.Least.{IsLeastFailing}
 use Rattle.index_tree.proofs.Rising.{IfOk-map}
 use Rattle.mft_table.specs.Mft.{mounted_of, view}
 use Rattle.mft_table.proofs.StreamReads.{MftReads-then}

@@ -12,7 +12,7 @@ use Rattle.file_record.specs.Held.{AreParts, file_number}
 use Rattle.file_record.proofs.BaseLaws.{is-file}
 use Rattle.file_record.proofs.ReadLaws.{view-kept}
 use Rattle.check_dirs.specs.Notes.{AreNotes}
-use Rattle.attr_store.specs.IndexBlocks.{IsHeldFile}
+use Rattle.index_store.specs.IndexBlocks.{IsHeldFile}
 use Rattle.check_dirs.proofs.WantedLaws.{readable}
 use Rattle.check_dirs.proofs.volume.is_right.Goals as goal
 

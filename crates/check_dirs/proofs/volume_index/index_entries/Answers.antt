@@ -1,8 +1,8 @@
 use Rattle.std.proofs.Common.{ℕ, List, Option, None, Some, ap, cond}
 use Rattle.index_tree.proofs.Rising.{IfOk-map}
 use Rattle.mft_table.specs.Mft.{view}
-use Rattle.attr_store.specs.Index.{index_held}
-use Rattle.attr_store.specs.IndexRecords.{index_record_on}
+use Rattle.index_store.specs.Index.{index_held}
+use Rattle.index_store.specs.IndexRecords.{index_record_on}
 use Rattle.check_dirs.proofs.volume_index.index_entries.Goals as goal
 
 pub returns-clause-index : goal.returns-clause-index

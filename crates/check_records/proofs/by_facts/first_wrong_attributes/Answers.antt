@@ -1,5 +1,5 @@
 use Rattle.volume_def.specs.Files.{records_of}
-use Rattle.volume_facts.proofs.HeadLaws.{EndsAtCount-view}
+use Rattle.record_notes.proofs.HeadLaws.{EndsAtCount-view}
 use Rattle.check_records.proofs.by_facts.first_wrong_attributes.Goals as goal
 
 pub returns : goal.returns

@@ -1,7 +1,7 @@
 use Rattle.std.proofs.Common.{arith}
 use Rattle.volume_def.specs.Files.{records_of}
 use Rattle.volume_def.specs.Sound.Clause.{References}
-use Rattle.volume_facts.proofs.HeadLaws.{EndsAtCount-view}
+use Rattle.record_notes.proofs.HeadLaws.{EndsAtCount-view}
 use Rattle.check_records.proofs.FactsGiven.{RightNote-all}
 use Rattle.check_records.proofs.by_facts.first_wrong_link.Goals as goal
 

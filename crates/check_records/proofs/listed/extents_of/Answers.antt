@@ -1,6 +1,6 @@
 use Rattle.std.proofs.Common.{map, ap, ◌∙◌, arith}
 use Rattle.std.proofs.lemmas.List.{take_all}
-use Rattle.volume_facts.specs.Extents.{outline_of}
+use Rattle.file_clauses.specs.Extents.{outline_of}
 use Rattle.check_records.specs.Listed.{all_parts}
 use Rattle.check_records.proofs.HeldFileLaws.{extents-more}
 use Rattle.check_records.proofs.listed.extents_of.Goals as goal

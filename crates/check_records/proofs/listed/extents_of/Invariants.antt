@@ -1,5 +1,5 @@
 use Rattle.std.proofs.Common.{◌≡◌, map, take}
-use Rattle.volume_facts.specs.Extents.{outline_of, outlined}
+use Rattle.file_clauses.specs.Extents.{outline_of, outlined}
 use Rattle.check_records.specs.Listed.{all_parts}
 use Rattle.check_records.proofs.listed.extents_of.Given as goal
 

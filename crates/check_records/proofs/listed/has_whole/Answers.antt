@@ -1,6 +1,6 @@
 use Rattle.std.proofs.Common.{ap, map, ◌∙◌}
-use Rattle.volume_def.proofs.SameItemsLaws.{SameItems-map, SameItems-same, SameItems-trans}
-use Rattle.volume_facts.specs.Extents.{outline_of, outlined}
+use Rattle.list_laws.proofs.SameItemsLaws.{SameItems-map, SameItems-same, SameItems-trans}
+use Rattle.file_clauses.specs.Extents.{outline_of, outlined}
 use Rattle.check_records.specs.Listed.{all_parts}
 use Rattle.check_records.proofs.listed.has_whole.Goals as goal
 

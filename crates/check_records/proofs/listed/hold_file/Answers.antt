@@ -8,7 +8,7 @@ use Rattle.mft_table.proofs.StreamReads.{MftReads-then}
 use Rattle.file_record.specs.declared.held.Held.{Held}
 use Rattle.file_record.specs.Held.{parts_of}
 use Rattle.file_record.proofs.ReadLaws.{view-kept}
-use Rattle.volume_facts.specs.Spread.{parts_from}
+use Rattle.record_notes.specs.Spread.{parts_from}
 use Rattle.check_records.specs.Listed.{IsHeldIn, all_parts}
 use Rattle.check_records.proofs.HeldFileLaws.{count-more, each-more, held-more, many-parts, moved-parts}
 use Rattle.check_records.proofs.listed.hold_file.Goals.{in-Some+else-count-others+in_ok-hold-2, in_default}

@@ -4,8 +4,8 @@ use Rattle.volume_def.specs.Files.{records_of}
 use Rattle.mft_table.specs.Mft.{MftReads, faults_of, view}
 use Rattle.file_record.specs.Held.{parts_of}
 use Rattle.file_record.specs.Records.{IsRecordOf}
-use Rattle.volume_facts.specs.declared.spread.Extension.{Extension}
-use Rattle.volume_facts.specs.Spread.{parts_from}
+use Rattle.record_notes.specs.declared.spread.Extension.{Extension}
+use Rattle.record_notes.specs.Spread.{parts_from}
 use Rattle.check_records.specs.Listed.{IsHeldIn, all_parts}
 use Rattle.check_records.proofs.listed.hold_file.Given as goal
 

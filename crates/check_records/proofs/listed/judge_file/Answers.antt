@@ -12,8 +12,8 @@ use Rattle.mft_table.proofs.StreamReads.{MftReads-then}
 use Rattle.file_record.specs.declared.held.Held.{Held}
 use Rattle.file_record.specs.Records.{IsRecordOf}
 use Rattle.file_record.proofs.ReadLaws.{view-kept}
-use Rattle.volume_facts.specs.Extents.{AreWholeParts}
-use Rattle.volume_facts.specs.Spread.{AreExtensionsOf}
+use Rattle.file_clauses.specs.Extents.{AreWholeParts}
+use Rattle.record_notes.specs.Spread.{AreExtensionsOf}
 use Rattle.check_records.specs.Listed.{IsBaseHeld, IsHeldIn, IsListedFile, IsPlacedList, NamesParts}
 use Rattle.check_records.proofs.RightListLaws.{base-held, listed-record, names-right, right-names, right-placed, some-list}
 use Rattle.check_records.proofs.listed.judge_file.Goals as goal

@@ -3,7 +3,7 @@ use Rattle.std.specs.Prelude.{All, IfNone}
 use Rattle.volume_def.specs.Files.{records_of}
 use Rattle.mft_table.specs.Mft.{view}
 use Rattle.file_record.specs.Held.{parts_of}
-use Rattle.volume_facts.specs.Spread.{parts_from}
+use Rattle.record_notes.specs.Spread.{parts_from}
 use Rattle.check_records.specs.declared.listed.HeldFile.{HeldFile}
 use Rattle.check_records.specs.Listed.{IsHeldIn, all_parts}
 use Rattle.check_records.proofs.JudgeLaws.{held-all, names-same, too-many}

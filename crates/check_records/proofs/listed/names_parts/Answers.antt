@@ -2,7 +2,7 @@ use Rattle.std.proofs.Common.{◌≡◌, ◌↔◌, map, ap, sym, subst, ◌∙�
 use Rattle.std.specs.Prelude.{All, IsTrue}
 use Rattle.volume_def.specs.ListsClause.{entries_in}
 use Rattle.attr_list.specs.View.{entry_shown}
-use Rattle.volume_facts.specs.Lists.{NamesEach}
+use Rattle.file_clauses.specs.Lists.{NamesEach}
 use Rattle.check_records.specs.Listed.{IsHeldIn, all_parts}
 use Rattle.check_records.proofs.HeldFileLaws.{named-decided, not-named}
 use Rattle.check_records.proofs.listed.names_parts.Goals as goal

@@ -7,8 +7,8 @@ use Rattle.volume_def.specs.Sound.Clause.{RecordBits}
 use Rattle.volume_def.specs.Values.{value_on}
 use Rattle.mft_table.specs.declared.mounted.Mounted.{Mounted}
 use Rattle.mft_table.specs.Mft.{view}
-use Rattle.volume_facts.specs.BitRanges.{IsPieceOf}
-use Rattle.volume_facts.specs.Least.{IsLeastFailing}
+use Rattle.record_notes.specs.BitRanges.{IsPieceOf}
+use Rattle.record_notes.specs.Least.{IsLeastFailing}
 use Rattle.check_records.specs.Refusals.{IsRefusalIf}
 use Rattle.check_records.specs.Views.{HasComeTo}
 use Rattle.check_records.proofs.OrderLaws.{HoldBelow-more, IsFirstBroken-of}

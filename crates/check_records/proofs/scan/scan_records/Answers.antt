@@ -4,9 +4,9 @@ use Rattle.volume_def.specs.Files.{record_in, records_of}
 use Rattle.volume_def.specs.Table.{IsWellFormed, cluster_bytes}
 use Rattle.mft_table.specs.Tables.{reader_layout}
 use Rattle.mft_table.proofs.StreamReads.{StageReads-then}
-use Rattle.volume_facts.specs.Facts.{FactsNote}
-use Rattle.volume_facts.specs.Streams.{HasPlaces}
-use Rattle.volume_facts.specs.Unlisted.{bytes_noted}
+use Rattle.record_notes.specs.Facts.{FactsNote}
+use Rattle.record_notes.specs.Streams.{HasPlaces}
+use Rattle.record_notes.specs.Unlisted.{bytes_noted}
 use Rattle.check_records.specs.Refusals.{IsRefusalOf}
 use Rattle.check_records.specs.Views.{stage_view}
 use Rattle.check_records.proofs.ScanLaws.{record_on-inside, shape-all, shape-broken, shape-more}

@@ -4,7 +4,7 @@ use Rattle.vol_stage.specs.Staged.{StageReads, disk_of}
 use Rattle.volume_def.specs.Files.{records_of}
 use Rattle.volume_def.specs.ShapeClause.{MeetsShape}
 use Rattle.mft_table.specs.Tables.{reader_layout}
-use Rattle.volume_facts.specs.Facts.{FactsNote}
+use Rattle.record_notes.specs.Facts.{FactsNote}
 use Rattle.check_records.specs.Views.{IsOfVolume, stage_view}
 use Rattle.check_records.proofs.scan.scan_records.Given as goal
 

@@ -6,7 +6,7 @@ use Rattle.volume_def.specs.Values.{pieces_touched}
 use Rattle.mft_table.specs.Mft.{view}
 use Rattle.attr_store.proofs.FewerReads.{MftReads-less}
 use Rattle.attr_store.proofs.Spanned.{seam-cluster, span-some, touched-le}
-use Rattle.volume_facts.specs.Streams.{spot_noted}
+use Rattle.record_notes.specs.Streams.{spot_noted}
 use Rattle.check_records.proofs.StreamLaws.{cluster-nowhere, cluster-placed, no-cluster, touched-inside}
 use Rattle.check_records.proofs.streams.read_cluster.Goals as goal
 

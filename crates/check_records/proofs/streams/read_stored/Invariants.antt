@@ -4,7 +4,7 @@ use Rattle.volume_def.specs.Values.{pieces_touched, stored_bytes}
 use Rattle.volume_def.specs.Table.{cluster_bytes}
 use Rattle.mft_table.specs.Mft.{MftReads, faults_of, view}
 use Rattle.mft_table.specs.Streams.{IsSeam}
-use Rattle.volume_facts.specs.Streams.{spot_noted}
+use Rattle.record_notes.specs.Streams.{spot_noted}
 use Rattle.check_records.proofs.streams.read_stored.Given as goal
 
 -- what was read stands in front, and each piece of it was asked for once

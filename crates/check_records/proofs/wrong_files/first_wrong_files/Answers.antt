@@ -4,9 +4,9 @@ use Rattle.volume_def.specs.Files.{records_of}
 use Rattle.volume_def.specs.ListsClause.{MeetsLists}
 use Rattle.volume_def.specs.Sound.Clause.{Lists, Shape}
 use Rattle.mft_table.specs.Mft.{view}
-use Rattle.volume_facts.specs.Least.{IsLeastFailing}
-use Rattle.volume_facts.specs.Unlisted.{MeetsListed}
-use Rattle.volume_facts.proofs.HeadLaws.{EndsAtCount-view}
+use Rattle.record_notes.specs.Least.{IsLeastFailing}
+use Rattle.record_notes.specs.Unlisted.{MeetsListed}
+use Rattle.record_notes.proofs.HeadLaws.{EndsAtCount-view}
 use Rattle.check_records.proofs.AllFilesLaws.{first-of-lists}
 use Rattle.check_records.proofs.FactsGiven.{RightNote-all}
 use Rattle.check_records.proofs.wrong_files.first_wrong_files.Goals as goal

@@ -10,10 +10,10 @@ use Rattle.volume_def.specs.Table.{cluster_bytes}
 use Rattle.mft_table.specs.Mft.{view}
 use Rattle.mft_table.proofs.StreamReads.{MftReads-none, MftReads-then}
 use Rattle.file_record.proofs.ReadLaws.{view-kept}
-use Rattle.volume_facts.specs.declared.spread.Extension.{Extension}
-use Rattle.volume_facts.specs.Least.{least_of}
-use Rattle.volume_facts.specs.Spread.{extensions_of}
-use Rattle.volume_facts.specs.Unlisted.{MeetsListed}
+use Rattle.record_notes.specs.declared.spread.Extension.{Extension}
+use Rattle.record_notes.specs.Least.{least_of}
+use Rattle.record_notes.specs.Spread.{extensions_of}
+use Rattle.record_notes.specs.Unlisted.{MeetsListed}
 use Rattle.check_records.specs.Listed.{MeetsListedLists}
 use Rattle.check_records.proofs.ListedLoopLaws.{IsLeastSeen, JudgesExtents, JudgesLists, extents-decided, extents-seen, later-kept, least-more, least-none, least-rising, lists-decided, lists-met, lists-seen, not-both, noted-listed, noted-own, noted-rising}
 use Rattle.check_records.proofs.wrong_files.first_wrong_listed.Goals as goal

@@ -5,9 +5,9 @@ use Rattle.volume_def.specs.ListsClause.{MeetsLists}
 use Rattle.volume_def.specs.ShapeClause.{MeetsShape}
 use Rattle.volume_def.specs.Table.{cluster_bytes}
 use Rattle.mft_table.specs.Mft.{MftReads, faults_of, view}
-use Rattle.volume_facts.specs.declared.spread.Extension.{Extension}
-use Rattle.volume_facts.specs.Spread.{SpreadNote, extensions_of}
-use Rattle.volume_facts.specs.Unlisted.{MeetsListed}
+use Rattle.record_notes.specs.declared.spread.Extension.{Extension}
+use Rattle.record_notes.specs.Spread.{SpreadNote, extensions_of}
+use Rattle.record_notes.specs.Unlisted.{MeetsListed}
 use Rattle.check_records.specs.Listed.{MeetsListedLists}
 use Rattle.check_records.proofs.ListedLoopLaws.{IsLeastSeen}
 use Rattle.check_records.proofs.wrong_files.first_wrong_listed.Given as goal

@@ -3,10 +3,10 @@ use Rattle.std.proofs.lemmas.Grind.{common_steps}
 use Rattle.ntfs_def.specs.Node.{node_in}
 use Rattle.ntfs_def.specs.declared.index.NodeForm.{NodeForm}
 use Rattle.ntfs_def.specs.declared.index.NodeForm.TheVariants.{Names}
-use Rattle.mft_table.specs.Mft.{view}
 use Rattle.index_tree.specs.Search.{Costs, Finds, HasRisingIndex, nodes_of}
-use Rattle.attr_store.specs.Index.{index_held}
-use Rattle.attr_store.proofs.ToldLaws.{records-told, told-records}
+use Rattle.mft_table.specs.Mft.{view}
+use Rattle.index_store.specs.Index.{index_held}
+use Rattle.index_store.proofs.ToldLaws.{records-told, told-records}
 use Rattle.dir_index.specs.Held.{fetched_of, records_found}
 use Rattle.dir_index.proofs.index.find_first.Goals as goal
 

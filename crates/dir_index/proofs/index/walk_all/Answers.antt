@@ -2,11 +2,11 @@ use Rattle.std.proofs.Common.{ℕ, sym, subst}
 use Rattle.ntfs_def.specs.Node.{node_in}
 use Rattle.ntfs_def.specs.declared.index.NodeForm.{NodeForm}
 use Rattle.ntfs_def.specs.declared.index.NodeForm.TheVariants.{Names}
-use Rattle.mft_table.specs.Mft.{view}
 use Rattle.index_tree.specs.Search.{nodes_of}
 use Rattle.index_tree.specs.Walk.{HasWalk, IsWalk}
-use Rattle.attr_store.specs.Index.{index_held}
-use Rattle.attr_store.proofs.ToldLaws.{records-told, told-records}
+use Rattle.mft_table.specs.Mft.{view}
+use Rattle.index_store.specs.Index.{index_held}
+use Rattle.index_store.proofs.ToldLaws.{records-told, told-records}
 use Rattle.dir_index.specs.Held.{records_found}
 use Rattle.dir_index.proofs.index.walk_all.Goals as goal
 

@@ -4,7 +4,7 @@ use Rattle.std.proofs.lemmas.List.Elements.{Contains-append_left}
 use Rattle.attr_view.specs.View.{attribute_of, viewed_block}
 use Rattle.mft_table.specs.Mft.{MftReads, view}
 use Rattle.mft_table.proofs.StreamReads.{MftReads-none, MftReads-then}
-use Rattle.volume_def.proofs.MemberLaws.{Contains-head}
+use Rattle.list_laws.proofs.MemberLaws.{Contains-head}
 use Rattle.file_record.specs.Numbers.{AddsListed}
 use Rattle.file_record.specs.Records.{reads_for_list}
 use Rattle.file_record.proofs.CoverLaws.{Covers, Covers-alone, Covers-listed, list-readable, reads-listed}

@@ -1,6 +1,6 @@
 use Rattle.std.proofs.Common.{◌≡◌, ◌+◌, ◌*◌, ◌<◌, ℕ}
 use Rattle.ntfs_def.specs.declared.run_text.Spot.TheVariants.{At}
-use Rattle.volume_facts.specs.Streams.{spot_noted}
+use Rattle.record_notes.specs.Streams.{spot_noted}
 use Rattle.mount_check.proofs.mirror_place.lie_from.Given as goal
 
 -- the clusters so far lie where they have to

@@ -1,7 +1,7 @@
 use Rattle.std.proofs.Common.{◌≡◌, ◌*◌}
 use Rattle.std.specs.Int.{div_ceil}
 use Rattle.file_record.specs.Held.{held_of}
-use Rattle.volume_facts.specs.Streams.{NotesStream, places_in}
+use Rattle.record_notes.specs.Streams.{NotesStream, places_in}
 use Rattle.mount_check.proofs.PlaceLaws.{data_of_first}
 use Rattle.mount_check.proofs.mirror_place.note_copies.Given as goal
 

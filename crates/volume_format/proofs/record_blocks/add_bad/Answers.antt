@@ -1,8 +1,8 @@
 use Rattle.std.proofs.Common.{subst}
-use Rattle.volume_format.proofs.NewRecordLaws.{content-bad}
+use Rattle.volume_format.proofs.StreamParts.{content-bad}
 use Rattle.ntfs_def.specs.declared.kinds.TheConstants.{DATA}
 use Rattle.volume_def.specs.ExtentsClause.{bad_name}
-use Rattle.volume_format.specs.NewRecord.{AddsPart}
+use Rattle.record_bytes.specs.NewRecord.{AddsPart}
 use Rattle.volume_format.proofs.record_blocks.add_bad.Goals as goal
 
 pub returns : goal.returns

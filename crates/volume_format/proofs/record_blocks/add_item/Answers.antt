@@ -1,7 +1,7 @@
 use Rattle.std.proofs.Common.{subst}
-use Rattle.volume_format.proofs.NewRecordLaws.{content-item}
+use Rattle.volume_format.proofs.StreamParts.{content-item}
 use Rattle.ntfs_def.specs.Units.{wide}
-use Rattle.volume_format.specs.NewRecord.{AddsPart}
+use Rattle.record_bytes.specs.NewRecord.{AddsPart}
 use Rattle.volume_format.proofs.record_blocks.add_item.Goals as goal
 
 pub returns-clause-adds : goal.returns-clause-adds

@@ -1,6 +1,5 @@
-use Rattle.std.proofs.Common.{ap, ◌∙◌, arith}
-use Rattle.std.proofs.Common.{length}
-use Rattle.volume_format.proofs.NewRecordLaws.{AddsPart-value, length-wide}
+use Rattle.std.proofs.Common.{ap, ◌∙◌, arith, length}
+use Rattle.record_bytes.proofs.NewRecordLaws.{AddsPart-value, length-wide}
 use Rattle.volume_format.proofs.record_blocks.add_root.Goals as goal
 
 pub add_value-requires-clause-room : goal.add_value-requires-clause-room

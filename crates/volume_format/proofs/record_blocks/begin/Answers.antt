@@ -1,5 +1,5 @@
 use Rattle.std.proofs.Common.{◌∙◌}
-use Rattle.volume_format.proofs.NewRecordLaws.{AddsPart-value}
+use Rattle.record_bytes.proofs.NewRecordLaws.{AddsPart-value}
 use Rattle.volume_format.proofs.record_blocks.begin.Goals as goal
 
 pub returns-clause-new : goal.returns-clause-new

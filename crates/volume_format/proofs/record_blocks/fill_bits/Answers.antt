@@ -1,4 +1,4 @@
-use Rattle.volume_format.proofs.NewRecordLaws.{IsNewRecord-stream}
+use Rattle.volume_format.proofs.StreamParts.{IsNewRecord-stream}
 use Rattle.std.specs.Prelude.{codes}
 use Rattle.volume_format.proofs.record_blocks.fill_bits.Goals as goal
 

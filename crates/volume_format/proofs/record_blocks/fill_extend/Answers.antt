@@ -1,5 +1,5 @@
 use Rattle.std.proofs.Common.{ap, ◌∙◌}
-use Rattle.volume_format.proofs.NewRecordLaws.{AddsPart-value}
+use Rattle.record_bytes.proofs.NewRecordLaws.{AddsPart-value}
 use Rattle.volume_format.specs.Plan.{root_value}
 use Rattle.volume_format.proofs.record_blocks.fill_extend.Goals as goal
 

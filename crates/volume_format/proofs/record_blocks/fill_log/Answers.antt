@@ -1,5 +1,5 @@
 use Rattle.std.proofs.Common.{refl}
-use Rattle.volume_format.proofs.NewRecordLaws.{IsNewRecord-stream}
+use Rattle.volume_format.proofs.StreamParts.{IsNewRecord-stream}
 use Rattle.std.specs.Prelude.{codes}
 use Rattle.volume_format.proofs.record_blocks.fill_log.Goals as goal
 

@@ -1,6 +1,6 @@
 use Rattle.std.proofs.Common.{sym, subst}
 use Rattle.std.specs.Prelude.{OnOk}
-use Rattle.volume_format.specs.NewRecord.{IsNewRecord}
+use Rattle.record_bytes.specs.NewRecord.{IsNewRecord}
 use Rattle.volume_format.specs.Plan.{record_in_list, record_list}
 use Rattle.volume_format.proofs.record_blocks.fill_record.Goals as goal
 

@@ -1,5 +1,6 @@
 use Rattle.std.proofs.Common.{ap, ◌∙◌}
-use Rattle.volume_format.proofs.NewRecordLaws.{AddsPart-at, AddsPart-value}
+use Rattle.volume_format.proofs.StreamParts.{AddsPart-at}
+use Rattle.record_bytes.proofs.NewRecordLaws.{AddsPart-value}
 use Rattle.volume_format.specs.Plan.{root_value}
 use Rattle.volume_format.proofs.record_blocks.fill_security.Goals as goal
 

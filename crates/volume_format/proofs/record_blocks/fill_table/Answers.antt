@@ -1,4 +1,4 @@
-use Rattle.volume_format.proofs.NewRecordLaws.{AddsPart-at}
+use Rattle.volume_format.proofs.StreamParts.{AddsPart-at}
 use Rattle.volume_format.proofs.record_blocks.fill_table.Goals as goal
 
 pub returns : goal.returns

@@ -1,4 +1,4 @@
-use Rattle.volume_format.proofs.NewRecordLaws.{AddsPart-value}
+use Rattle.record_bytes.proofs.NewRecordLaws.{AddsPart-value}
 use Rattle.volume_format.proofs.record_blocks.fill_volume.Goals as goal
 
 pub returns : goal.returns

@@ -1,5 +1,5 @@
 use Rattle.std.proofs.Common.{◌++◌, ◌∷◌, [], ap, ◌∙◌}
-use Rattle.volume_format.specs.Plan.{name_entry, reference_bytes}
+use Rattle.record_bytes.specs.Entries.{name_entry, reference_bytes}
 use Rattle.volume_format.proofs.root.push_entry.Goals as goal
 
 pub returns : goal.returns

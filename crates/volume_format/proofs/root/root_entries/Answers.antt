@@ -1,6 +1,6 @@
 use Rattle.std.proofs.Common.{ℕ, List, [], ◌∷◌, ◌++◌, ap, ◌∙◌}
 use Rattle.std.specs.Prelude.{codes}
-use Rattle.volume_format.specs.Plan.{last_entry}
+use Rattle.record_bytes.specs.Entries.{last_entry}
 use Rattle.volume_format.specs.RootIndex.{root_entry, system_name}
 use Rattle.volume_format.proofs.root.root_entries.Goals as goal
 

@@ -1,5 +1,5 @@
 use Rattle.std.proofs.Common.{◌∙◌, [], ap}
-use Rattle.volume_def.proofs.SameItemsLaws.{SameItems-same}
+use Rattle.list_laws.proofs.SameItemsLaws.{SameItems-same}
 use Rattle.check_dirs.specs.Seen.{links_of_entries, marked}
 use Rattle.check_dirs.proofs.SeenLaws.{marked_none}
 use Rattle.check_dirs.proofs.seen.Seen.new.Goals as goal

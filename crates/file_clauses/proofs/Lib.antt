@@ -1,0 +1,10 @@
+pub mod AttributesLaws
+pub mod EntryLaws
+pub mod FollowLaws
+pub mod GroupLaws
+pub mod InOrderLaws
+pub mod OutlineLaws
+pub mod OutlineOrderLaws
+pub mod SortedLaws
+pub mod TotalLaws
+pub mod WantedLaws

@@ -1,0 +1,4 @@
+pub mod Attributes
+pub mod Extents
+pub mod Groups
+pub mod Lists

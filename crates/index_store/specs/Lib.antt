@@ -1,0 +1,5 @@
+pub mod Index
+pub mod PartsMet
+pub mod IndexRecords
+pub mod IndexBlocks
+pub mod IndexBlocksLaws

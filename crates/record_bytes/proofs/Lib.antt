@@ -1,0 +1,3 @@
+pub mod ResidentLaws
+pub mod ExtentLaws
+pub mod NewRecordLaws

@@ -1,0 +1,3 @@
+pub mod AttributeBytes
+pub mod Entries
+pub mod NewRecord

@@ -1,0 +1,12 @@
+pub mod BitRanges
+pub mod Bitmaps
+pub mod Facts
+pub mod Heads
+pub mod Least
+pub mod Names
+pub mod Owners
+pub mod Skips
+pub mod Spread
+pub mod Streams
+pub mod Unlisted
+pub mod Used

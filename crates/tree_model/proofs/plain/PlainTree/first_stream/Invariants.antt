@@ -1,9 +1,0 @@
-use Rattle.std.proofs.Common.{◌≡◌, drop, find}
-use Rattle.ntfs_def.specs.KeyOrder.{fold_of}
-use Rattle.tree_model.specs.Plain.{has_name}
-use Rattle.tree_model.proofs.plain.PlainTree.first_stream.Given as goal
-
-abbrev pub invariant-streams : goal.invariant-streams
-invariant-streams l =
-    find (λ stream. has_name (fold_of l.self.case) l.exact stream.name l.name) (drop l.stream-index l.streams)
-    ≡ find (λ stream. has_name (fold_of l.self.case) l.exact stream.name l.name) l.streams

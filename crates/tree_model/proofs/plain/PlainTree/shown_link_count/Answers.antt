@@ -1,7 +1,0 @@
-use Rattle.std.proofs.Common.{arith, zero-add}
-use Rattle.tree_model.specs.Plain.{tree_of}
-use Rattle.tree_model.proofs.plain.PlainTree.shown_link_count.Goals as goal
-
-pub links-init : goal.links-init
-unfolding tree_of
-links-init c = (zero-add _, omega arith)

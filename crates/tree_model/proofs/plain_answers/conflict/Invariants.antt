@@ -1,8 +1,0 @@
-use Rattle.std.proofs.Common.{◌≡◌, ◌==◌, ◌&&◌, drop, find, not}
-use Rattle.tree_model.specs.declared.opens.OpenEntry.{OpenEntry}
-use Rattle.tree_model.proofs.plain_answers.conflict.Given as goal
-
-abbrev pub invariant-opens : goal.invariant-opens
-invariant-opens l =
-    find (λ (entry : OpenEntry). (entry.file == l.file) && not entry.share.r) (drop l.entry-index l.opens)
-    ≡ find (λ (entry : OpenEntry). (entry.file == l.file) && not entry.share.r) l.opens

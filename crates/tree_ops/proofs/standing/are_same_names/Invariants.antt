@@ -1,5 +1,0 @@
-use Rattle.std.proofs.Common.{◌≡◌, ◌↔◌, drop}
-use Rattle.tree_ops.proofs.standing.are_same_names.Given as goal
-
-abbrev pub invariant-names : goal.invariant-names
-invariant-names l = (l.fn.one ≡ l.fn.other) ↔ (drop l.name-index l.one ≡ l.rest)

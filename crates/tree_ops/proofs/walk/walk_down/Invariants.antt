@@ -1,6 +1,0 @@
-use Rattle.std.proofs.Common.{drop}
-use Rattle.tree_ops.proofs.PathSteps.{IsWalked}
-use Rattle.tree_ops.proofs.walk.walk_down.Given as goal
-
-abbrev pub invariant-names : goal.invariant-names
-invariant-names g l = IsWalked g.D.Disk l.fn.mft l.mft l.names l.dir (drop l.name-index l.names)

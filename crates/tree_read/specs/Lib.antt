@@ -1,0 +1,11 @@
+pub mod Answered
+pub mod Kinds
+pub mod FileLinks
+pub mod Above
+pub mod Lines
+pub mod Nodes
+pub mod Shown
+pub mod Parts
+pub mod Walks
+pub mod Below
+pub mod Standings

@@ -1,0 +1,25 @@
+//! What reading commands do on a volume in use: paths are walked, and of what they lead to something is shown.
+#![tactic(auto)]
+
+mod above;
+mod below;
+mod data;
+mod line;
+mod links;
+mod load;
+mod node;
+mod outline;
+mod room;
+mod shown;
+mod standing;
+mod stop;
+mod walk;
+
+pub use above::Above;
+pub use below::{Below, load_below};
+pub use load::load_file;
+pub use room::df;
+pub use shown::{Shown, show_at};
+pub use standing::Standing;
+pub use stop::Stop;
+pub use walk::{Reached, enter, resolve};

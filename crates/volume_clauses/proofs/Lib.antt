@@ -1,0 +1,11 @@
+pub mod FilingLaws
+pub mod KeyLaws
+pub mod LeastFiling
+pub mod LinkLaws
+pub mod MarkLaws
+pub mod PairLaws
+pub mod ReachLaws
+pub mod ReferenceLaws
+pub mod TallyLaws
+pub mod WalkLaws
+pub mod WayLaws

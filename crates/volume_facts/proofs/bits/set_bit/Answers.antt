@@ -1,6 +1,0 @@
-use Rattle.std.proofs.Common.{arith}
-use Rattle.volume_facts.proofs.BitLaws.{SetsBit-set}
-use Rattle.volume_facts.proofs.bits.set_bit.Goals as goal
-
-pub returns : goal.returns
-returns c = SetsBit-set c.args.bits.now c.args.k (omega arith)

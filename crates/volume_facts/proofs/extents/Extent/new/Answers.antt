@@ -1,4 +1,0 @@
-use Rattle.volume_facts.proofs.extents.Extent.new.Goals as goal
-
-pub returns : goal.returns
-returns c = λ n. let held = c.in_ok-held_by.ensures n in cc (c.kind.ensures, c.name.ensures, c.flags.ensures)

@@ -1,9 +1,0 @@
-use Rattle.std.proofs.Common.{◌≤◌, ◌^◌, sym, subst, arith}
-use Rattle.ntfs_def.specs.Runs.{total_clusters}
-use Rattle.volume_facts.proofs.TotalLaws.{IsRunListFrom-total}
-use Rattle.volume_facts.proofs.extents.clusters_of.Goals as goal
-
-pub total_of-requires : goal.total_of-requires
-total_of-requires c =
-    let few = IsRunListFrom-total 0 c.args.runs.now (omega arith) c.runs.ensures.limits in
-    subst (λ runs. total_clusters runs ≤ 2 ^ 62) (sym c.runs.ensures.runs) (omega arith)

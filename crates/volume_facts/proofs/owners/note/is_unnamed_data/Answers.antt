@@ -1,4 +1,0 @@
-use Rattle.volume_facts.proofs.owners.note.is_unnamed_data.Goals as goal
-
-pub returns : goal.returns
-returns c = c.is_unnamed.ensures 0
