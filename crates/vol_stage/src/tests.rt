@@ -1,7 +1,6 @@
-ghost use Rattle.std.specs.Prelude.{◌≡◌, ◌<◌, ◌≤◌, OnOk};
-ghost use Rattle.vol_disk.specs.Contents.{IsTold, sector_in};
+ghost use Rattle.std.specs.Prelude.{◌≡◌, ◌<◌, ◌≤◌, false};
 ghost use Rattle.vol_disk.specs.Count.{CountsFault};
-ghost use Rattle.vol_stage.specs.Staged.{disk_of, image, StageReads};
+ghost use Rattle.vol_stage.specs.Staged.{disk_of, is_broken, StageReads};
 
 use crate::search::find;
 use crate::{Stage, StageNo};
@@ -115,4 +114,89 @@ fn staged_bytes_are_found(rt: HostRuntime) {
     ] {
         assert!(rt; find(&writes, sector) == wanted, "sector {sector}");
     }
+}
+
+// Stages the first sectors, the last of them first, the lowest twice.
+fn stage_first<D: Disk>(
+    stage: &mut Stage<'_, D>,
+    count: u64,
+    from: &[u8; 512],
+) -> Result<(), StageNo>
+    requires sound { is_broken D.Disk stage.old ≡ false }
+    requires inside { count ≤ D.size (disk_of D.Disk stage.old) }
+    ensures sound { is_broken D.Disk stage.new ≡ false }
+    ensures size { D.size (disk_of D.Disk stage.new) ≡ D.size (disk_of D.Disk stage.old) }
+{
+    'sectors: for k in 0..count {
+        stage.reserve(1)?;
+        stage.put(count - 1 - k, from);
+    }
+    if count > 0 {
+        stage.reserve(1)?;
+        stage.put(0, from);
+    }
+    Ok(())
+}
+
+// Writes the first sectors through a stage, and uses the disk again.
+fn write_first<D: Disk>(
+    alloc: Global,
+    disk: &mut D,
+    count: u64,
+    from: &[u8; 512],
+) -> Result<(), StageNo>
+    requires { count ≤ D.size disk.old }
+    ensures { D.size disk.new ≡ D.size disk.old }
+{
+    let mut stage = Stage::over(alloc, disk);
+    let mut done = stage_first(&mut stage, count, from);
+    if done.is_ok() {
+        done = stage.commit();
+    }
+    let _ = stage.finish();
+    done
+}
+
+#[test]
+fn staged_sectors_are_written(rt: HostRuntime) -> Result<(), AllocError> {
+    let mut disk = MemDisk::new(rt.alloc(), vec![in rt.alloc(); 0; 2_560_000]?);
+    assert_eq!(rt; disk.reserve(4_000), Ok(()));
+    assert_eq!(rt; write_first(rt.alloc(), &mut disk, 4_000, &ONE), Ok(()));
+    for (sector, wanted) in [
+        (0, ONE),
+        (1, ONE),
+        (3_999, ONE),
+        (4_000, ZERO),
+        (4_999, ZERO),
+    ] {
+        let mut into = [2; 512];
+        assert_eq!(rt; disk.read(sector, &mut into), Ok(()));
+        assert!(rt; into == wanted, "sector {sector}");
+    }
+    Ok(())
+}
+
+// The third write fails: the sectors below are written, none behind it, and that one as the failure says.
+#[test]
+fn a_commit_ends_at_a_failure(rt: HostRuntime) -> Result<(), AllocError> {
+    for lands in [false, true] {
+        let third = Fail {
+            kind: CallKind::Write,
+            number: 3,
+            lands,
+        };
+        let mut inner = MemDisk::new(rt.alloc(), vec![in rt.alloc(); 0; 5120]?);
+        assert_eq!(rt; inner.reserve(10), Ok(()));
+        let mut disk = FailDisk::new(inner, vec![in rt.alloc(); third]?);
+        assert_eq!(rt;
+            write_first(rt.alloc(), &mut disk, 6, &ONE),
+            Err(StageNo::Device)
+        );
+        for (sector, written) in [(0, true), (1, true), (2, lands), (3, false), (5, false)] {
+            let mut into = [2; 512];
+            assert_eq!(rt; disk.read(sector, &mut into), Ok(()));
+            assert!(rt; into == if written { ONE } else { ZERO }, "sector {sector}");
+        }
+    }
+    Ok(())
 }
