@@ -3,7 +3,7 @@ use Rattle.std.proofs.Common.{cond, leb, subst, ◌≡◌, ◌≤◌, ℕ, ◌&&
 use Rattle.std.specs.Prelude.{IfNone, IfSome, IsSomeAnd, find, map, flat_map, slice_get}
 use Rattle.std.specs.List.{Contains}
 use Rattle.std.specs.Option.{option_map}
-use Rattle.std.proofs.lemmas.Bool.{leb-true}
+use Rattle.std.proofs.lemmas.Bool.{leb-true, and_parts}
 use Rattle.std.proofs.lemmas.Option.{get_or_from_slice_get, slice_get_within}
 use Rattle.ntfs_def.specs.Attribute.{Attribute, Body, ExtentHeader, NonResident, Resident, attributes}
 use Rattle.volume_def.specs.Files.{Part, content_of, content_extent, is_of, part_of}
@@ -107,15 +107,10 @@ among-place file i a found = among-by (parts_held file) i a (slice_get (parts_he
 
 -- What its header tells.
 
-pub both-true : (b c : Bool) → (b && c) ≡ true → (b ≡ true) × (c ≡ true)
-both-true true true is = (refl, refl)
-both-true true false is = cc
-both-true false c is = cc
-
 -- a body whose header spans a cluster is an extent
 pub body-spans : (body : Body) (vcn : ℕ) → is_within vcn (content_extent (content_of body)) ≡ true
     → (extent : ExtentHeader) × (text : List ℕ) × (body ≡ NonResident extent text) × (extent.sizes.first ≤ vcn) × (vcn ≤ extent.sizes.last)
 body-spans (Resident value) vcn is = cc
 body-spans (NonResident extent text) vcn is =
-    let both = both-true (leb extent.sizes.first vcn) (leb vcn extent.sizes.last) is in
+    let both = and_parts (leb extent.sizes.first vcn) (leb vcn extent.sizes.last) is in
     (extent, text, refl, leb-true extent.sizes.first vcn both.0, leb-true vcn extent.sizes.last both.1)

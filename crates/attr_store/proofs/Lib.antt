@@ -1,4 +1,3 @@
-pub mod Cases
 pub mod Filled
 pub mod FewerReads
 pub mod Found

@@ -1,9 +1,9 @@
 -- Bytes of a stream in the clusters that an extent tells it holds.
-use Rattle.std.proofs.Common.{leb, ◌&&◌, ◌≡◌, ℕ, zero, suc, ◌+◌, ◌-◌, ◌*◌, ◌/◌, ◌%◌, ◌<◌, ◌≤◌, Bool, true, false, List, [], ◌∷◌, length, drop, ◌++◌, replicate, Some, None, inl, inr, sym, ap, subst, ◌∙◌, arith}
+use Rattle.std.proofs.Common.{leb, ◌≡◌, ℕ, zero, suc, ◌+◌, ◌-◌, ◌*◌, ◌/◌, ◌%◌, ◌<◌, ◌≤◌, true, List, [], ◌∷◌, length, drop, ◌++◌, replicate, Some, None, inl, inr, sym, ap, subst, ◌∙◌, arith}
 use Rattle.std.specs.Prelude.{◌==◌, find, min, unwrap_or}
 use Rattle.std.specs.List.{Contains}
 use Rattle.std.proofs.Math.Nat.{add-mul-mod_self_right, div-lt_iff_lt-mul, div-mul-le_self, le-div_iff_mul-le, mul-add-div_right, mul-le-mul_right, mul_assoc, mul_comm}
-use Rattle.std.proofs.lemmas.Bool.{cases_lt, cond-false, cond-true, le-leb, ne_eqb}
+use Rattle.std.proofs.lemmas.Bool.{cases_lt, cond-false, cond-true, le-leb, ne_eqb, and_from}
 use Rattle.std.proofs.lemmas.List.{append-nil, drop_all}
 use Rattle.std.proofs.lemmas.List.Elements.{All-contains}
 use Rattle.ntfs_def.specs.declared.run_text.Run.{Run}
@@ -17,11 +17,11 @@ use Rattle.volume_def.specs.Files.{Part, content_of, part_clusters, content_exte
 use Rattle.volume_def.specs.Spans.{is_within, spans_vcn}
 use Rattle.volume_def.specs.Values.{byte_there, first_vcn_of, holds_vcn, pieces_touched, spot_at, spot_by, stored_byte, stored_bytes}
 use Rattle.volume_def.proofs.Codes.{part_code}
-use Rattle.volume_def.proofs.CodedLaws.{SameItems-Contains}
+use Rattle.list_laws.proofs.CodedLaws.{SameItems-Contains}
 use Rattle.volume_def.proofs.ExtentLaws.{spot_at-part}
 use Rattle.list_laws.proofs.MemberLaws.{Contains-nil, Contains-only}
 use Rattle.volume_def.proofs.SpanLaws.{several-cover, spot-spans, whole-spans}
-use Rattle.mft_table.proofs.StreamBytes.{bytes-same, bytes-zero}
+use Rattle.list_laws.proofs.RangeLaws.{map_ranges, bytes-zero}
 use Rattle.mft_table.specs.Streams.{IsSeam}
 use Rattle.attr_store.specs.Sought.{spot_in_text}
 
@@ -44,7 +44,7 @@ pub spanned-runs : (cluster : ℕ → List ℕ) (size first at n : ℕ) (text : 
     → stored_bytes cluster size (spot_of runs) (at - first * size) n ≡ stored_bytes cluster size (spot_in_text first text) at n
 unfolding stored_bytes
 spanned-runs cluster size first at n text runs some le means =
-    bytes-same (stored_byte cluster size (spot_of runs)) (stored_byte cluster size (spot_in_text first text)) (at - first * size) at n (λ j lt.
+    map_ranges (stored_byte cluster size (spot_of runs)) (stored_byte cluster size (spot_in_text first text)) (at - first * size) at n (λ j lt.
     moved-byte cluster size first (at - first * size + j) (at + j) (spot_of runs) some (omega arith)
     ∙ ap (λ all. stored_byte cluster size (λ vcn. spot_of (unwrap_or all []) (vcn - first)) (at + j)) (sym means))
 
@@ -71,10 +71,6 @@ spot-extent size f (one ∷ other ∷ extents) part vcn s c spans =
     let holds : holds_vcn vcn part ≡ true = sym (whole-spans s.ordered part vcn s.whole there some) ∙ spans in
     spot_at-part size f (one ∷ other ∷ extents) part vcn s c holds
 
-both-trues : (b c : Bool) → b ≡ true → c ≡ true → (b && c) ≡ true
-both-trues true c b is = is
-both-trues false c b is = cc
-
 -- The same bytes, by an extent that holds byte `at`.
 pub extent-bytes : (cluster : ℕ → List ℕ) (size f at n k : ℕ) (extents : List Part) (a : Attribute) (extent : ExtentHeader) (text : List ℕ)
     → 0 < size → AreAttribute size f extents → a.body ≡ NonResident extent text
@@ -83,12 +79,12 @@ pub extent-bytes : (cluster : ℕ → List ℕ) (size f at n k : ℕ) (extents :
     → stored_bytes cluster size (spot_in_text extent.sizes.first text) at n ≡ stored_bytes cluster size (spot_at extents) at n
 unfolding stored_bytes
 extent-bytes cluster size f at n k extents a extent text some s body among begins fits =
-    bytes-same (stored_byte cluster size (spot_in_text extent.sizes.first text)) (stored_byte cluster size (spot_at extents)) at at n (λ j lt.
+    map_ranges (stored_byte cluster size (spot_in_text extent.sizes.first text)) (stored_byte cluster size (spot_at extents)) at at n (λ j lt.
     let vcn = (at + j) / size in
     let inside : vcn < extent.sizes.last + 1 = (div-lt_iff_lt-mul some).1 (omega arith) in
     let from : at / size ≤ vcn = (le-div_iff_mul-le some).1 (omega (arith, div-mul-le_self at size)) in
     let spans : is_within vcn (Some extent) ≡ true =
-    both-trues (leb extent.sizes.first vcn) (leb vcn extent.sizes.last)
+    and_from (leb extent.sizes.first vcn) (leb vcn extent.sizes.last)
     (le-leb extent.sizes.first vcn (omega arith)) (le-leb vcn extent.sizes.last (omega arith)) in
     let its = ap (λ body. is_within vcn (content_extent (content_of body))) body ∙ spans in
     let lies = spot-extent size f extents (part_of k a) vcn s among its in

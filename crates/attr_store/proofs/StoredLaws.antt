@@ -3,7 +3,7 @@ use Rattle.std.proofs.Common.{◌≡◌, ◌≢◌, ◌+◌, ◌-◌, ◌<◌, �
 use Rattle.std.specs.Prelude.{◌==◌, IfSome, IsSomeAnd, filter, find, slice_get, slice_range, unwrap_or}
 use Rattle.std.specs.List.{Contains}
 use Rattle.std.specs.Str.{bytes_eq}
-use Rattle.std.proofs.lemmas.Bool.{eqb-true}
+use Rattle.std.proofs.lemmas.Bool.{eqb-true, and_parts}
 use Rattle.std.proofs.lemmas.List.FromFn.{length-map-range_with_len}
 use Rattle.std.proofs.lemmas.Option.{slice_get_within}
 use Rattle.std.proofs.lemmas.Slice.Eq.{bytes_eq-Decides}
@@ -28,7 +28,6 @@ use Rattle.file_record.specs.Held.{AreParts, file_number, parts_held}
 use Rattle.attr_store.specs.declared.stored.Stored.{Stored}
 use Rattle.attr_store.specs.First.{IsStored, attribute_held}
 use Rattle.attr_store.specs.Sought.{parts_held_like, spot_in_text}
-use Rattle.attr_store.proofs.Found.{both-true}
 use Rattle.attr_store.proofs.Spanned.{spot-extent}
 
 -- Where clusters lie, by the extent that is found.
@@ -48,7 +47,7 @@ unheld-spot size f extents vcn s none = sym (ap (λ o. spot_by o vcn) none) ∙ 
 
 pub named : (kind : ℕ) (name : List ℕ) (part : Part) → is_of kind name part ≡ true → (part.kind ≡ kind) × (part.name ≡ name)
 named kind name part is =
-    let both = both-true (part.kind == kind) (bytes_eq part.name name) is in
+    let both = and_parts (part.kind == kind) (bytes_eq part.name name) is in
     (eqb-true part.kind kind both.0, (bytes_eq-Decides part.name name).0 both.1)
 
 module _ (file : FileParts) (kind : ℕ) (name : List ℕ) (stored : Stored) (s : IsStored file kind name stored) where

@@ -17,13 +17,14 @@ use Rattle.volume_def.specs.Values.{attribute_value, value_of_parts, value_on}
 use Rattle.volume_def.specs.Table.{cluster_bytes}
 use Rattle.volume_def.specs.View.{VolumeView}
 use Rattle.volume_def.proofs.Codes.{part_code}
-use Rattle.volume_def.proofs.CodedLaws.{SameItems-Contains}
+use Rattle.list_laws.proofs.CodedLaws.{SameItems-Contains}
 use Rattle.list_laws.proofs.MemberLaws.{Contains-filter, Contains-head, Contains-nil, Contains-only}
 use Rattle.volume_def.proofs.ReadableLaws.{readable-part, readable-stream}
 use Rattle.list_laws.proofs.SameItemsLaws.{SameItems-sym}
 use Rattle.file_record.specs.declared.parts.FileParts.{FileParts}
 use Rattle.file_record.specs.Held.{AreParts, file_number, parts_held}
 use Rattle.attr_store.specs.Sought.{parts_held_like}
+use Rattle.list_laws.proofs.OptionLaws.{IfSome-from_and}
 
 told-extent : (found : Option ExtentHeader) → IsSomeAnd found (λ extent. extent.sizes.first ≡ 0)
     → (extent : ExtentHeader) × (found ≡ Some extent) × (extent.sizes.first ≡ 0)
@@ -74,10 +75,6 @@ other-kind view f part readable c none is =
     let value = (readable-part view f part readable c).resident (ap (λ k. is_kept_resident k) is) in
     cc (subst (λ (o : Option (List ℕ)). IsSome o) none value)
 
-if-some : {A : Type 0} {P Q : A → Type 0} (o : Option A) → ((x : A) → o ≡ Some x → P x → Q x) → IsSomeAnd o P → IfSome o Q
-if-some None gives p = tt
-if-some (Some x) gives p = gives x refl p
-
 -- a part is of its own type and name
 pub like-itself : (part : Part) → is_of part.kind part.name part ≡ true
 like-itself part =
@@ -99,7 +96,7 @@ clusters-read view file a i at len new value readable are is_file read found =
     let f = file_number file in
     let size = cluster_bytes view.layout in
     let none = body-none a.body value in
-    if-some (slice_get all i) (λ part there is fits.
+    IfSome-from_and (slice_get all i) (λ part there is fits.
     let same : attribute_value view all part ≡ value_of_parts view.cluster size (parts_held_like file a) =
     ap (attribute_value view all) is
     ∙ ap (λ v. unwrap_or v (value_on view (parts_like (part_of part.holder a) all))) none in

@@ -6,7 +6,7 @@ use Rattle.ntfs_def.specs.Boot.{boot_sector}
 use Rattle.volume_def.specs.IndexesClause.{MeetsIndexes}
 use Rattle.volume_def.specs.Sound.{Attributes, CaseTable, ClusterBits, Extents, HoldBelow, Holds, Indexes, IsRefused, Limits, Links, Lists, Mirror, MirrorPlace, Owners, RecordBits, References, Shape, Version}
 use Rattle.volume_def.specs.View.{VolumeView, view_of}
-use Rattle.record_notes.specs.Least.{IsLeastFailing}
+use Rattle.list_laws.specs.Least.{IsLeastFailing}
 use Rattle.mft_table.specs.declared.mounted.Mounted.{Mounted}
 use Rattle.mft_table.specs.HeldTables.{HoldsTables}
 use Rattle.mft_table.specs.Mounted.{mounted_layout}

@@ -3,7 +3,8 @@ use Rattle.std.proofs.Common.{◌≡◌, ◌≢◌, ℕ, zero, suc, ◌+◌, ◌
 use Rattle.ntfs_def.specs.Node.{Node, child_from}
 use Rattle.ntfs_def.specs.IndexTree.{Nodes, Tree, IsStored, child_of, node_of}
 use Rattle.check_dirs.specs.Gathered.{IsDepth}
-use Rattle.check_dirs.proofs.TreeLaws.{below_at, child_at_place, none_other, some_same, stored_at}
+use Rattle.check_dirs.proofs.TreeLaws.{below_at, child_at_place, stored_at}
+use Rattle.list_laws.proofs.OptionLaws.{none_other, some_same}
 
 module _ (nodes : Nodes) where
   pub depth_leaf : (level : ℕ) → IsDepth nodes None level (Some 0)

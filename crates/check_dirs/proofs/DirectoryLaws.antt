@@ -1,6 +1,6 @@
 -- Names that are met one behind the other.
-use Rattle.std.proofs.Common.{◌≡◌, ◌+◌, ◌<◌, ℕ, Bool, true, false, List, [], ◌∷◌, ◌++◌, length, map, get_or, take, drop, ap, subst, sym, ◌∙◌}
-use Rattle.std.proofs.lemmas.List.{append_assoc, map-append, take-append-drop, take_more}
+use Rattle.std.proofs.Common.{◌≡◌, ◌+◌, ◌<◌, ℕ, Bool, true, false, List, [], ◌∷◌, ◌++◌, length, map, get_or, take, drop, subst, sym}
+use Rattle.std.proofs.lemmas.List.{append_assoc, map_more}
 use Rattle.ntfs_def.specs.FileName.{Link}
 use Rattle.list_laws.specs.SameItems.{SameItems}
 use Rattle.volume_def.specs.View.{VolumeView}
@@ -9,6 +9,7 @@ use Rattle.check_dirs.specs.declared.seen.Seen.{Seen}
 use Rattle.check_dirs.specs.Directory.{MeetsLink, MeetsLinks}
 use Rattle.check_dirs.specs.Notes.{link_noted}
 use Rattle.check_dirs.specs.Seen.{IsMet, links_of_entries}
+use Rattle.list_laws.proofs.PieceLaws.{map-split}
 
 -- one more
 pub meets-more : (old mid new : Seen) (met : List Link) (link : Link) → MeetsLinks true old mid met → MeetsLink true mid new link
@@ -24,25 +25,12 @@ meets-not old mid new other met rest link entries before this links first same =
     (subst (λ e. SameItems (links_of_entries e.items) ((links ++ met) ++ link ∷ rest)) (sym entries)
     (subst (SameItems (links_of_entries old.entries.items)) (sym (append_assoc links met (link ∷ rest))) same))
 
--- The items up to one, that one, and those behind it.
-pub map-more : {A B : Type 0} (f : A → B) (xs : List A) (k : ℕ) (d : A) → k < length xs
-    → map f (take (k + 1) xs) ≡ map f (take k xs) ++ f (get_or xs k d) ∷ []
-map-more f xs k d inside = ap (map f) (take_more xs k d inside) ∙ map-append f (take k xs) (get_or xs k d ∷ [])
-
-pub map-split : {A B : Type 0} (f : A → B) (xs : List A) (k : ℕ) (d : A) → k < length xs
-    → map f xs ≡ map f (take k xs) ++ f (get_or xs k d) ∷ map f (drop (k + 1) xs)
-map-split f xs k d inside =
-    ap (map f) (sym (take-append-drop (k + 1) xs))
-    ∙ map-append f (take (k + 1) xs) (drop (k + 1) xs)
-    ∙ ap (λ ys. ys ++ map f (drop (k + 1) xs)) (map-more f xs k d inside)
-    ∙ append_assoc (map f (take k xs)) (f (get_or xs k d) ∷ []) (map f (drop (k + 1) xs))
-
 -- The notes up to one, that one, and those behind it.
 module _ (view : VolumeView) (notes : List NameNote) (k : ℕ) (d : NameNote) (inside : k < length notes) where
   pub notes-more : (old mid new : Seen) (met : Bool) → met ≡ true → MeetsLinks true old mid (map (link_noted view) (take k notes))
       → MeetsLink met mid new (link_noted view (get_or notes k d)) → MeetsLinks true old new (map (link_noted view) (take (k + 1) notes))
   notes-more old mid new met is before this =
-      subst (MeetsLinks true old new) (sym (map-more (link_noted view) notes k d inside))
+      subst (MeetsLinks true old new) (sym (map_more (link_noted view) notes k d inside))
       (meets-more old mid new (map (link_noted view) (take k notes)) (link_noted view (get_or notes k d)) before
       (subst (λ b. MeetsLink b mid new (link_noted view (get_or notes k d))) is this))
 

@@ -1,14 +1,12 @@
 -- What the attributes of one file tell of its roots and of its names in $Extend, and its view indexes.
-use Rattle.std.proofs.Common.{◌≡◌, ◌≢◌, ◌<◌, ◌≤◌, ◌+◌, ◌*◌, ◌/◌, ◌%◌, ◌^◌, ◌==◌, ◌&&◌, ◌||◌, ◌↔◌, ℕ, Bool, true, false, cond, List, [], ◌∷◌, length, get_or, Option, Some, None, IsSomeAnd, IfSome, IsTrue, is_some, inl, inr, refl, sym, ap, subst, ◌∙◌, arith}
+use Rattle.std.proofs.Common.{◌≡◌, ◌≢◌, ◌<◌, ◌≤◌, ◌+◌, ◌*◌, ◌/◌, ◌%◌, ◌^◌, ◌==◌, ◌&&◌, ◌↔◌, ℕ, Bool, true, false, cond, List, [], ◌∷◌, length, get_or, Option, Some, None, IsSomeAnd, IfSome, IsTrue, is_some, refl, sym, ap, subst, ◌∙◌, arith}
 use Rattle.std.specs.Prelude.{codes, filter}
-use Rattle.std.specs.Bool.{Decides}
-use Rattle.std.specs.List.{All, cons_option, count_by, filter_map, flat_map, list_any, range_with_len}
+use Rattle.std.specs.List.{All, cons_option, count_by, filter_map, list_any, range_with_len}
 use Rattle.std.specs.Option.{option_map}
 use Rattle.std.specs.Str.{bytes_eq}
-use Rattle.std.proofs.lemmas.Bool.{cases_Bool, eq-eqb, true≢false}
+use Rattle.std.proofs.lemmas.Bool.{eq-eqb, true≢false}
 use Rattle.std.proofs.lemmas.List.{get_or_default, length-map, same_lists}
-use Rattle.std.proofs.lemmas.List.Elements.{All-append, All-head, All-nil, All-tail}
-use Rattle.std.proofs.lemmas.List.Folds.{Any-from_list_any, list_any_at}
+use Rattle.std.proofs.lemmas.List.Elements.{All-head, All-nil, All-tail}
 use Rattle.std.proofs.lemmas.List.FromFn.{get_or-map-range_with_len, length-map-range_with_len}
 use Rattle.std.proofs.lemmas.Slice.Eq.{bytes_eq-Decides}
 use Rattle.vol_bytes.specs.Field.{u16_at, u64_at}
@@ -25,7 +23,6 @@ use Rattle.volume_def.specs.IndexesClause.{IndexParts, IsDirectoryIndex, IsViewI
 use Rattle.volume_def.specs.Readable.{IsReadableVolume}
 use Rattle.volume_def.specs.Table.{cluster_bytes}
 use Rattle.volume_def.specs.View.{VolumeView}
-use Rattle.list_laws.proofs.FindLaws.{count-none, count-some}
 use Rattle.list_laws.proofs.SameItemsLaws.{count-append}
 use Rattle.record_notes.proofs.NameLaws.{name_of_part, names_among-append}
 use Rattle.index_tree.specs.Walk.{items_in}
@@ -33,7 +30,7 @@ use Rattle.attr_view.specs.declared.record_mut.RecordHeader.{RecordHeader}
 use Rattle.file_record.specs.Base.{HasBaseRecord, HasHeader}
 use Rattle.file_record.specs.declared.parts.FileParts.{FileParts}
 use Rattle.file_record.specs.Held.{AreParts, attributes_held, file_number, parts_held}
-use Rattle.file_record.proofs.RecordLaws.{some-value}
+use Rattle.list_laws.proofs.OptionLaws.{some-value}
 use Rattle.index_store.specs.Index.{HasParts, index_held}
 use Rattle.attr_store.specs.First.{attribute_held}
 use Rattle.index_store.specs.IndexRecords.{index_record_on}
@@ -49,6 +46,9 @@ use Rattle.check_dirs.specs.Records.{short_nodes}
 use Rattle.index_store.specs.IndexBlocks.{IsHeldFile}
 use Rattle.check_dirs.proofs.NoteLaws.{value-held}
 use Rattle.check_dirs.proofs.VolumeLaws.{index_from_ordered, ordered_from_index}
+use Rattle.list_laws.proofs.FindLaws.{none-counted, some-counted}
+use Rattle.list_laws.proofs.FlatMapLaws.{All-flat_map}
+use Rattle.list_laws.proofs.BoolLaws.{both-then, or-false, same-test}
 
 -- ROOTS
 
@@ -104,13 +104,6 @@ pub letters-other : (key letters : List ℕ) (k : ℕ) → k < length letters �
 letters-other key letters k lt long other same =
     other (sym (unit-here key k 0 (omega (arith, lt, long))) ∙ ap (λ us. get_or us k 0) same)
 
--- a test that answers right is the test
-same-test : {A : Type 0} (a b : Bool) → IsTrue a ↔ A → Decides b A → a ≡ b
-same-test true true one two = refl
-same-test true false one two = absurd (true≢false (sym (two.1 (one.0 refl))))
-same-test false true one two = absurd (true≢false (sym (one.1 (two.0 refl))))
-same-test false false one two = refl
-
 pub letters-tested : (key letters : List ℕ) (a : Bool) → IsTrue a ↔ (key_units key ≡ letters) → a ≡ bytes_eq (key_units key) letters
 letters-tested key letters a one = same-test a (bytes_eq (key_units key) letters) one (bytes_eq-Decides (key_units key) letters)
 
@@ -123,10 +116,6 @@ stands letters ps = count_by (is_in_extend letters) (names_among ps)
 -- whether an attribute is such a name
 abbrev pub is_standing : List ℕ → Attribute → Bool
 is_standing letters a = list_any (is_in_extend letters) (names_among (part_of 0 a ∷ []))
-
-or-false : (b : Bool) → (b || false) ≡ b
-or-false true = refl
-or-false false = refl
 
 pub right-value : (a : Attribute) → IsRightPart (part_of 0 a) → a.kind ≡ FILE_NAME → IsSomeAnd (value_of a.body) (λ value. IsTrue (is_name_key value))
 right-value a right kind = subst (λ o. IsSomeAnd o (λ value. IsTrue (is_name_key value))) (value-held a.body) (right.name kind)
@@ -190,16 +179,6 @@ next-stands letters a rest (p ∷ ps) ((n, is), more) all = record {
       ∙ ap (λ ns. count_by (is_in_extend letters) ns + stands letters ps) (name-held n a);
 }
 
-some-counted : {X : Type 0} (p : X → Bool) (xs : List X) → list_any p xs ≡ true → 1 ≤ count_by p xs
-some-counted p xs some = let w = Any-from_list_any p xs some in count-some p xs w.1 (w.0, w.2, w.3) w.4
-
-none-counted : {X : Type 0} (p : X → Bool) (xs : List X) → list_any p xs ≡ false → count_by p xs ≡ 0
-none-counted p xs none =
-    count-none p xs (λ x (k, lt, is). elim (cases_Bool (p x)) [
-      | inl t ↦ absurd (true≢false (sym (list_any_at p xs k x lt (ap p is ∙ t)) ∙ none))
-      | inr f ↦ f
-    ])
-
 none-held : (ps : List Part) → AreHeld [] ps → ps ≡ []
 none-held [] h = refl
 none-held (p ∷ ps) h = absurd h
@@ -232,10 +211,6 @@ module _ (letters : List ℕ) (all : List Part) (left : List Attribute) (behind 
         }
 
 -- THE PARTS OF A FILE ARE RIGHT
-
-All-flat_map : {A B : Type 0} (P : B → Type 0) (f : A → List B) (xs : List A) → ((x : A) → All P (f x)) → All P (flat_map f xs)
-All-flat_map P f [] each = All-nil P
-All-flat_map P f (x ∷ xs) each = All-append P (f x) (flat_map f xs) (each x) (All-flat_map P f xs each)
 
 right-in : (o : Option Record) (n f : ℕ) → IfSome o (IsRightRecord n) → All IsRightPart (parts_in o n f)
 unfolding parts_in
@@ -308,13 +283,6 @@ module _ (view : VolumeView) (file : FileParts) (name units : List ℕ) (wide-na
         (λ t _. both.0 t, λ meets. both.1 (meets there))
 
 -- THE CLAUSE IN PARTS
-
--- where one is right both are right exactly where the other is, and where it is wrong they are not
-pub both-then : {A B : Type 0} (a b : Bool) → a ≡ true → IsTrue a ↔ A → IsTrue b ↔ B → IsTrue b ↔ (A × B)
-both-then a b is one two = (λ e. (one.0 is, two.0 e), λ (p, q). two.1 q)
-
-pub both-else : {A B : Type 0} (a : Bool) → a ≡ false → IsTrue a ↔ A → IsTrue a ↔ (A × B)
-both-else a is one = (λ e. absurd (true≢false (sym e ∙ is)), λ (p, q). one.1 p)
 
 -- the indexes of security descriptors
 pub secured-then : (view : VolumeView) (f : ℕ) (a b : Bool) → f ≡ SECURE → a ≡ true → IsTrue a ↔ MeetsViewIndex view f (codes "$SII") id_rule
@@ -391,7 +359,3 @@ indexes-then view f a b is one two = (
 
 pub indexes-else : (view : VolumeView) (f : ℕ) (a : Bool) → a ≡ false → IsTrue a ↔ MeetsNames view f → IsTrue a ↔ MeetsIndexes view f
 indexes-else view f a is one = (λ e. absurd (true≢false (sym e ∙ is)), λ m. one.1 m.directory)
-
-pub is_some-map : {A B : Type 0} (f : A → B) (o : Option A) → is_some (option_map f o) ≡ is_some o
-is_some-map f None = refl
-is_some-map f (Some x) = refl

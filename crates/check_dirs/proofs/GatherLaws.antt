@@ -7,7 +7,8 @@ use Rattle.ntfs_def.specs.IndexTree.{Nodes, Branch, Tree, Each, entry_of, node_o
 use Rattle.index_tree.specs.Walk.{items_in}
 use Rattle.index_tree.proofs.MovedWalks.{one_if-same}
 use Rattle.check_dirs.specs.Gathered.{GathersNode, GathersTree, LacksNode, LacksTree, Meets, TellsNode, TellsTree, met_times}
-use Rattle.check_dirs.proofs.TreeLaws.{AreBranchesStored, below_at, branch_items-list, branch_times-list, child_at_place, each_below, each_branch, each_take, list_items, list_items-more, list_times, list_times-more, none_other, one_branches, some_same, stored_at, times_front}
+use Rattle.check_dirs.proofs.TreeLaws.{AreBranchesStored, below_at, branch_items-list, branch_times-list, child_at_place, each_below, each_branch, each_take, list_items, list_items-more, list_times, list_times-more, one_branches, stored_at, times_front}
+use Rattle.list_laws.proofs.OptionLaws.{none_other, some_same}
 
 module _ (nodes : Nodes) where
   -- below a leaf

@@ -9,7 +9,7 @@ use Rattle.index_tree.specs.Walk.{items_in}
 use Rattle.check_dirs.specs.Entries.{AreOrdered}
 use Rattle.check_dirs.specs.Gathered.{IsTheWalk, TellsWalk}
 use Rattle.check_dirs.specs.OrderedIndex.{HasFields, IsOrderedIndex, TellsIndex}
-use Rattle.check_dirs.proofs.TreeLaws.{none_other, some_same}
+use Rattle.list_laws.proofs.OptionLaws.{none_other, some_same}
 
 -- a node has its header
 pub root_len : (form : NodeForm) (root : List ℕ) (node : Node) → scan_node form root ≡ Whole node → 12 ≤ length root

@@ -16,6 +16,8 @@ use Rattle.std.specs.declared.cmp.Ordering.TheVariants.{Less, Equal, Greater}
 use Rattle.ntfs_def.specs.IndexTree.{one_if}
 use Rattle.check_dirs.specs.Gathered.{AreFew, AreMet, Meets, met_times}
 use Rattle.check_dirs.specs.Records.{Records}
+use Rattle.list_laws.proofs.BoolLaws.{or_swap, or_twice}
+use Rattle.list_laws.proofs.OrderLaws.{equal_numbers}
 
 abbrev pub is_met : List ℕ → ℕ → Bool
 is_met met place = list_any (λ vcn. vcn == place) met
@@ -28,25 +30,13 @@ pub met-contained : (met : List ℕ) (k : ℕ) → list_any (is_at (nat_cmp k)) 
 met-contained [] k = refl
 met-contained (x ∷ met) k = let e = same_test k x in let f = met-contained met k in cc
 
-or_swap : (a b c : Bool) → (a || (b || c)) ≡ (b || (a || c))
-or_swap true true c = refl
-or_swap true false c = refl
-or_swap false b c = refl
-
-or_twice : (a c : Bool) → (a || c) ≡ (a || (a || c))
-or_twice true c = refl
-or_twice false c = refl
-
-same_number : (k x : ℕ) → nat_cmp k x ≡ Equal → k ≡ x
-same_number k x e = grind (arith, nat_tests)
-
 inserted : (k x place : ℕ) (met : List ℕ) (r : Ordering) → nat_cmp k x ≡ r
     → is_met (insert_key nat_cmp met k) place ≡ ((k == place) || is_met met place)
     → is_met (match_ordering r (k ∷ x ∷ met) (x ∷ met) (x ∷ insert_key nat_cmp met k)) place
     ≡ ((k == place) || ((x == place) || is_met met place))
 inserted k x place met Less e below = refl
 inserted k x place met Equal e below =
-    let same : k ≡ x = same_number k x e in
+    let same : k ≡ x = equal_numbers k x e in
     subst (λ y. ((y == place) || is_met met place) ≡ ((k == place) || ((y == place) || is_met met place))) same
     (or_twice (k == place) (is_met met place))
 inserted k x place met Greater e below =

@@ -23,7 +23,7 @@ use Rattle.volume_def.specs.View.{VolumeView}
 use Rattle.record_notes.proofs.NameLaws.{name_of_part, names_among-append}
 use Rattle.file_record.specs.declared.held.Held.{Held}
 use Rattle.file_record.specs.Held.{parts_of}
-use Rattle.file_record.proofs.RecordLaws.{some-value}
+use Rattle.list_laws.proofs.OptionLaws.{some-value}
 use Rattle.check_dirs.specs.declared.notes.NameNote.{NameNote}
 use Rattle.check_dirs.specs.Notes.{IsNoted, link_noted, noted_value}
 use Rattle.check_dirs.specs.Noted.{IsHeldRight, NotesNames, note_in, note_value}

@@ -1,7 +1,7 @@
 -- The notes of the files below a number, one file more.
-use Rattle.std.proofs.Common.{◌≡◌, ◌≢◌, ◌<◌, ◌+◌, ◌-◌, ◌*◌, ◌/◌, ◌%◌, ◌^◌, ◌==◌, ◌||◌, ◌++◌, ℕ, Bool, true, false, cond, List, [], ◌∷◌, map, length, get_or, take, drop, Option, Some, None, IsSomeAnd, IfSome, IsTrue, inl, inr, refl, sym, ap, subst, ◌∙◌, arith, append-nil}
+use Rattle.std.proofs.Common.{◌≡◌, ◌≢◌, ◌<◌, ◌+◌, ◌-◌, ◌*◌, ◌/◌, ◌%◌, ◌^◌, ◌==◌, ◌||◌, ◌++◌, ℕ, false, cond, List, [], ◌∷◌, map, length, get_or, take, drop, Option, Some, None, IsSomeAnd, IfSome, IsTrue, inl, inr, refl, sym, ap, subst, ◌∙◌, arith, append-nil}
 use Rattle.std.specs.List.{All, AllPairs, Contains, flat_map, list_any, range_with_len}
-use Rattle.std.proofs.lemmas.Bool.{cases_Bool, eq-eqb, eqb-false, eqb-true, true≢false}
+use Rattle.std.proofs.lemmas.Bool.{cases_Bool, eq-eqb, eqb-false, eqb-true}
 use Rattle.std.proofs.lemmas.List.{drop_at, map-append, take_rest}
 use Rattle.std.proofs.lemmas.List.Elements.{All-append, All-contains, All-map, All-nil, All-push, All-weaker, Contains-append_left, Contains-get_or, Contains-push}
 use Rattle.std.proofs.lemmas.List.Folds.{list_any_at}
@@ -20,19 +20,21 @@ use Rattle.volume_def.specs.Files.{Record, is_base, is_directory, part_of, parts
 use Rattle.volume_def.specs.Readable.{IsFile, IsReadableVolume}
 use Rattle.volume_def.specs.View.{VolumeView}
 use Rattle.list_laws.proofs.MemberLaws.{Contains-map}
-use Rattle.record_notes.proofs.RecordsLaws.{flat_map-range_more}
+use Rattle.list_laws.proofs.FlatMapLaws.{flat_map-range_more}
 use Rattle.file_clauses.proofs.WantedLaws.{reference_in-made}
 use Rattle.file_record.specs.declared.base.BaseFile.{BaseFile}
 use Rattle.file_record.specs.declared.held.Held.{Held}
 use Rattle.file_record.specs.Base.{HasBaseRecord, HasHeader}
 use Rattle.file_record.specs.Held.{AreParts, IsCurrentRecord, file_number, held_of, parts_held}
 use Rattle.file_record.specs.Records.{IsRecordOf}
-use Rattle.file_record.proofs.RecordLaws.{IsRecordOf-at, IsRecordOf-inside, some-value}
+use Rattle.file_record.proofs.RecordLaws.{IsRecordOf-at, IsRecordOf-inside}
+use Rattle.list_laws.proofs.OptionLaws.{some-value}
 use Rattle.check_dirs.specs.declared.notes.NameNote.{NameNote}
 use Rattle.check_dirs.specs.declared.noting.Noting.{Noting}
 use Rattle.check_dirs.specs.Notes.{IsNoted, link_noted}
 use Rattle.check_dirs.specs.Noted.{IsHeldRight, IsLoaded, IsUnasked, NotesBelow, NotesNames}
 use Rattle.check_dirs.proofs.NoteLaws.{linked}
+use Rattle.list_laws.proofs.BoolLaws.{not-either}
 
 -- WHAT WAS LOADED
 
@@ -206,11 +208,6 @@ module _ (view : VolumeView) (n : ℕ) (file : BaseFile) (old new : Noting) (ref
       }
 
 -- ONE FILE, WHOSE INDEXES NEED NOT BE LOOKED AT
-
-pub not-either : (a b c : Bool) → (a || b || c) ≡ false → (a ≡ false) × (b ≡ false) × (c ≡ false)
-not-either true b c e = absurd (true≢false e)
-not-either false true c e = absurd (true≢false e)
-not-either false false c e = (refl, refl, e)
 
 -- what was added to a list stands behind what it had
 rest-added : (old noted all : List NameNote) (from : ℕ) → from ≡ length old → all ≡ old ++ noted → take (length all - from) (drop from all) ≡ noted

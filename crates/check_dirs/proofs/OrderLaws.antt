@@ -1,5 +1,5 @@
 -- The order of entries, by their places and as lists.
-use Rattle.std.proofs.Common.{◌≡◌, ℕ, zero, suc, ◌+◌, ◌<◌, ◌≤◌, List, [], ◌∷◌, Bool, length, get_or, refl, ap, ◌∙◌, subst, inl, inr, arith, below_more}
+use Rattle.std.proofs.Common.{◌≡◌, ℕ, zero, suc, ◌+◌, ◌<◌, ◌≤◌, List, [], ◌∷◌, Bool, length, get_or, ap, ◌∙◌, subst, inl, inr, arith, below_more}
 use Rattle.std.specs.Prelude.{All, IsTrue}
 use Rattle.std.proofs.lemmas.Bool.{cases_lt}
 use Rattle.std.proofs.lemmas.List.Elements.{All-cons, All-head, All-nil, All-tail}
@@ -13,12 +13,6 @@ use Rattle.ntfs_def.specs.declared.index.NodeForm.{NodeForm}
 use Rattle.index_tree.proofs.OwnEntries.{own_whole}
 use Rattle.index_tree.specs.Walk.{items_in}
 use Rattle.check_dirs.specs.Entries.{AreValid, AreWhole, IsWhole, Rise, key_at}
-
--- an element, whatever stands for a missing one
-pub get_or-any : {A : Type 0} (xs : List A) (i : ℕ) (a b : A) → i < length xs → get_or xs i a ≡ get_or xs i b
-get_or-any [] i a b h = absurd (omega arith)
-get_or-any (x ∷ xs) zero a b h = refl
-get_or-any (x ∷ xs) (suc i) a b h = get_or-any xs i a b (omega arith)
 
 pub whole_from_own : (form : NodeForm) (entries : List (List ℕ)) → Each (IsOwnEntry form) entries → AreWhole entries
 whole_from_own form [] h = All-nil IsWhole

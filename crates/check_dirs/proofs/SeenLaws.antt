@@ -9,7 +9,7 @@ use Rattle.std.proofs.lemmas.List.{length-map}
 use Rattle.std.proofs.lemmas.List.Elements.{Contains-append_right}
 use Rattle.std.proofs.lemmas.Slice.Eq.{bytes_eq-Decides}
 use Rattle.std.specs.declared.cmp.Ordering.{Ordering}
-use Rattle.std.specs.declared.cmp.Ordering.TheVariants.{Less, Equal}
+use Rattle.std.specs.declared.cmp.Ordering.TheVariants.{Less}
 use Rattle.ntfs_def.specs.FileName.{FileName, Link, key_units, link_of, name_in}
 use Rattle.ntfs_def.specs.IndexTree.{Ascends, Each}
 use Rattle.ntfs_def.specs.KeyOrder.{name_order}
@@ -17,13 +17,14 @@ use Rattle.ntfs_def.specs.Node.{Item, item_in}
 use Rattle.ntfs_def.specs.Record.{Reference}
 use Rattle.ntfs_def.proofs.KeyOrderLaws.{name_ties}
 use Rattle.list_laws.specs.SameItems.{SameItems}
-use Rattle.volume_def.proofs.CodedLaws.{SameItems-Contains}
+use Rattle.list_laws.proofs.CodedLaws.{SameItems-Contains}
 use Rattle.list_laws.proofs.FindLaws.{count-cons, count-no, count-yes, same_passing}
 use Rattle.list_laws.proofs.MemberLaws.{Contains-head}
 use Rattle.list_laws.proofs.SameItemsLaws.{SameItems-length, SameItems-sym, SameItems-trans, SameItems-same, count-append}
 use Rattle.index_tree.specs.Walk.{items_in}
 use Rattle.check_dirs.specs.Entries.{AreNames, IsPlace, key_at}
 use Rattle.check_dirs.specs.Seen.{link_with, links_of_entries, marked}
+use Rattle.list_laws.proofs.OrderLaws.{less_equal}
 
 -- Items that are marked.
 module _ {A : Type 0} where
@@ -137,9 +138,6 @@ link_code = code_by (Reference × FileName) (coded× reference_code name_code) (
 -- What ascends by names has each name once.
 abbrev pub has_units : List ℕ → Link → Bool
 has_units units link = bytes_eq link.name.units units
-
-less_equal : Less ≡ Equal → ⊥
-less_equal e = cc
 
 module _ (fold : ℕ → ℕ) (units : List ℕ) where
   units_of : (y : Item) → has_units units (link_of y) ≡ true → key_units y.key ≡ units

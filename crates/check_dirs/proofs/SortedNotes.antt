@@ -4,7 +4,7 @@ use Rattle.std.specs.Prelude.{nat_le, nat_lt}
 use Rattle.std.specs.List.{All, AllPairs, Contains, flat_map, range_with_len}
 use Rattle.std.specs.List.Sorted.{IsStableByKey, ties}
 use Rattle.std.specs.Ordering.{is_lt, nat_cmp}
-use Rattle.std.proofs.lemmas.Bool.{cases_Bool, cases_lt, eq-eqb, le-ltb, leb-false, leb-true, lt-ltb, ltb-false, ltb-true, ne_eqb}
+use Rattle.std.proofs.lemmas.Bool.{cases_Bool, cases_lt, eq-eqb, le-ltb, leb-false, leb-true, ltb-false, ltb-true, ne_eqb}
 use Rattle.std.proofs.lemmas.List.{get_or-drop, length-drop}
 use Rattle.std.proofs.lemmas.List.Elements.{All-filter, All-head, All-tail, filter_agree}
 use Rattle.std.proofs.lemmas.List.Sorted.{All-permutation}
@@ -14,34 +14,16 @@ use Rattle.volume_def.specs.IndexesClause.{MeetsIndexes}
 use Rattle.volume_def.specs.Readable.{IsFile}
 use Rattle.volume_def.specs.ReferencesClause.{MeetsReferences}
 use Rattle.volume_def.specs.View.{VolumeView}
-use Rattle.record_notes.proofs.SplitLaws.{filter-between}
+use Rattle.list_laws.proofs.FilterLaws.{filter-between}
 use Rattle.check_dirs.specs.declared.notes.NameNote.{NameNote}
 use Rattle.check_dirs.specs.declared.notes.Notes.{Notes}
 use Rattle.check_dirs.specs.declared.noting.Noting.{Noting}
 use Rattle.check_dirs.specs.Notes.{AreNotes, IsNoted, link_noted}
 use Rattle.check_dirs.specs.Noted.{IsUnasked, NotesBelow, SortsNotes}
 use Rattle.check_dirs.proofs.UnaskedLaws.{unasked-meets}
+use Rattle.list_laws.proofs.OrderLaws.{is_lt-nat_cmp, tied_numbers}
 
 -- A STABLE SORT
-
-less : (x y : ℕ) → is_lt (nat_cmp x y) ≡ nat_lt x y
-less x y = elim (cases_lt x y) [
-  | inl lt ↦ rw (lt-ltb x y lt) refl
-  | inr ge ↦ elim (cases_Bool (x == y)) [
-    | inl t ↦ rw (le-ltb x y ge, t) refl
-    | inr e ↦ rw (le-ltb x y ge, e) refl
-  ]
-]
-
--- two numbers of which neither is less are the same
-tied : (x y : ℕ) → (not (nat_lt x y) && not (nat_lt y x)) ≡ (y == x)
-tied x y = elim (cases_lt x y) [
-  | inl lt ↦ ap (λ b. not b && not (nat_lt y x)) (lt-ltb x y lt) ∙ sym (ne_eqb y x (λ same. absurd (omega arith)))
-  | inr ge ↦ ap (λ b. not b && not (nat_lt y x)) (le-ltb x y ge) ∙ elim (cases_lt y x) [
-    | inl lt ↦ ap not (lt-ltb y x lt) ∙ sym (ne_eqb y x (λ same. absurd (omega arith)))
-    | inr le ↦ ap not (le-ltb y x le) ∙ sym (eq-eqb y x (omega arith))
-  ]
-]
 
 abbrev directory_of : NameNote → ℕ
 directory_of note = note.directory
@@ -54,9 +36,9 @@ before a b = is_lt (nat_cmp (directory_of a) (directory_of b))
 
 ties-same : (directory : ℕ) (note : NameNote) → ties before (in_directory directory) note ≡ (note.directory == directory)
 ties-same directory note =
-    ap (λ b. not b && not (before note (in_directory directory))) (less directory note.directory)
-    ∙ ap (λ b. not (nat_lt directory note.directory) && not b) (less note.directory directory)
-    ∙ tied directory note.directory
+    ap (λ b. not b && not (before note (in_directory directory))) (is_lt-nat_cmp directory note.directory)
+    ∙ ap (λ b. not (nat_lt directory note.directory) && not b) (is_lt-nat_cmp note.directory directory)
+    ∙ tied_numbers directory note.directory
 
 pub stable-same : (old new : List NameNote) → IsStableByKey directory_of nat_cmp old new → (directory : ℕ)
     → filter (λ (note : NameNote). note.directory == directory) new ≡ filter (λ (note : NameNote). note.directory == directory) old

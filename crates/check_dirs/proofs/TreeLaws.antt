@@ -1,13 +1,8 @@
 -- The records under a child hold one tree of a depth, and a tree by the list of its branches.
-use Rattle.std.proofs.Common.{◌≡◌, ℕ, zero, suc, ◌+◌, ◌≤◌, List, [], ◌∷◌, ◌++◌, Option, Some, None, map, take, refl, sym, ap, ◌∙◌, arith, append_assoc}
+use Rattle.std.proofs.Common.{◌≡◌, ℕ, zero, suc, ◌+◌, ◌≤◌, List, [], ◌∷◌, ◌++◌, Option, map, take, refl, sym, ap, ◌∙◌, arith, append_assoc}
 use Rattle.ntfs_def.specs.Node.{Item, Entry, Node, child_from}
 use Rattle.ntfs_def.specs.IndexTree.{Nodes, Branch, Spread, Vertex, Tree, Each, EachBelow, branch_items, branch_times, child_of, entry_of, node_of, IsStored, AreStored}
-
-pub some_same : {X : Type 0} {a b : X} → Some a ≡ Some b → a ≡ b
-some_same e = cc
-
-pub none_other : {X : Type 0} {a : X} → None ≡ Some a → ⊥
-none_other e = cc
+use Rattle.list_laws.proofs.OptionLaws.{some_same}
 
 head_same : {x y : Entry} {xs ys : List Entry} → x ∷ xs ≡ y ∷ ys → x ≡ y
 head_same e = cc

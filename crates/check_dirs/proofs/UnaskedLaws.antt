@@ -1,7 +1,7 @@
 -- Numbers of whose indexes nothing is asked meet the clause on indexes.
-use Rattle.std.proofs.Common.{◌≡◌, ◌≢◌, ◌+◌, ◌&&◌, ℕ, Bool, false, cond, List, [], ◌∷◌, ◌++◌, length, filter, Option, Some, None, IsSomeAnd, IfSome, IsTrue, inl, inr, refl, sym, ap, subst, ◌∙◌, arith}
+use Rattle.std.proofs.Common.{◌≡◌, ◌≢◌, ◌+◌, ◌&&◌, ℕ, Bool, false, cond, List, [], ◌∷◌, length, filter, Option, Some, None, IsSomeAnd, IfSome, IsTrue, inl, inr, refl, sym, ap, subst, ◌∙◌, arith}
 use Rattle.std.specs.Prelude.{codes, is_none, unwrap_or}
-use Rattle.std.specs.List.{All, count_by, flat_map, range_with_len}
+use Rattle.std.specs.List.{All, count_by, range_with_len}
 use Rattle.std.specs.Option.{option_map}
 use Rattle.std.specs.Str.{bytes_eq}
 use Rattle.std.proofs.lemmas.Bool.{cases_Bool, ne_eqb}
@@ -19,12 +19,9 @@ use Rattle.volume_def.specs.ReferencesClause.{HasRightReferences, MeetsReference
 use Rattle.volume_def.specs.View.{VolumeView}
 use Rattle.list_laws.proofs.FindLaws.{count-cons}
 use Rattle.check_dirs.specs.Noted.{IsUnasked}
+use Rattle.list_laws.proofs.FlatMapLaws.{flat_map-all_nil}
 
 -- WHERE THERE IS NO FILE
-
-flat_map-none : {A B : Type 0} (f : A → List B) (xs : List A) → ((x : A) → f x ≡ []) → flat_map f xs ≡ []
-flat_map-none f [] none = refl
-flat_map-none f (x ∷ xs) none = ap (λ ys. ys ++ flat_map f xs) (none x) ∙ flat_map-none f xs none
 
 module _ (view : VolumeView) (right : (n : ℕ) → MeetsReferences (records_of view) n) (f : ℕ) (un : ¬ (IsFile view f)) where
   -- a record that names no other as its base is of the file of its own number
@@ -51,7 +48,7 @@ module _ (view : VolumeView) (right : (n : ℕ) → MeetsReferences (records_of 
 
   pub no-parts : parts (records_of view) f ≡ []
   unfolding parts
-  no-parts = flat_map-none (λ n. parts_in (record_on view n) n f) (range_with_len 0 view.layout.count) (λ n. none-at n (record_on view n) refl)
+  no-parts = flat_map-all_nil (λ n. parts_in (record_on view n) n f) (range_with_len 0 view.layout.count) (λ n. none-at n (record_on view n) refl)
 
   no-index : (name : List ℕ) (rule : KeyRule) → MeetsViewIndex view f name rule
   no-index name rule some =

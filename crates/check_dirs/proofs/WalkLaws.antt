@@ -1,15 +1,12 @@
 -- The walk of an index, from what was gathered.
-use Rattle.std.proofs.Common.{◌≡◌, ℕ, ◌≤◌, List, [], Some, None, Bool, true, false, cond, eqb, sym, ap, subst, ◌∙◌, arith}
+use Rattle.std.proofs.Common.{◌≡◌, ℕ, List, [], Some, None, Bool, true, false, eqb, sym, ap, subst, ◌∙◌, arith}
 use Rattle.std.specs.List.{list_any}
 use Rattle.ntfs_def.specs.Node.{Item, Node, child_from}
 use Rattle.ntfs_def.specs.IndexTree.{Nodes, Spread, Tree, HoldsIndex, IsStored, Walks, spread_items}
 use Rattle.index_tree.specs.Walk.{items_in}
 use Rattle.check_dirs.specs.Gathered.{GathersNode, IsDepth, IsTheWalk, LacksNode, TellsNode, TellsWalk}
 use Rattle.check_dirs.proofs.TreeLaws.{below_at, child_at_place, one_spread, stored_at}
-
-one_if-small : (b : Bool) → cond b 1 0 ≤ 1
-one_if-small true = omega arith
-one_if-small false = omega arith
+use Rattle.list_laws.proofs.BoolLaws.{at_most_one}
 
 module _ (nodes : Nodes) (node : Node) where
   pub too_deep : IsDepth nodes (child_from node.entries node.last 0) 15 None → TellsWalk nodes node None
@@ -45,7 +42,7 @@ module _ (nodes : Nodes) (node : Node) where
             stored = g.stored;
             once = λ place.
                 let a = g.times place in
-                let b = one_if-small (list_any (λ vcn. eqb vcn place) met) in
+                let b = at_most_one (list_any (λ vcn. eqb vcn place) met) in
                 omega arith;
           };
           is = g.items;

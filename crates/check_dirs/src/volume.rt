@@ -5,7 +5,7 @@ ghost use Rattle.vol_disk.specs.Reading.{DiskReads};
 ghost use Rattle.volume_def.specs.IndexesClause.{MeetsIndexes};
 ghost use Rattle.volume_def.specs.Readable.{IsFile};
 ghost use Rattle.volume_def.specs.Sound.{HoldBelow};
-ghost use Rattle.record_notes.specs.Least.{IsLeastFailing};
+ghost use Rattle.list_laws.specs.Least.{IsLeastFailing};
 ghost use Rattle.mft_table.specs.HeldTables.{HoldsTables};
 ghost use Rattle.mft_table.specs.Mft.{MftReads, faults_of, mounted_of, view};
 ghost use Rattle.mft_table.specs.MountNos.{CountsMount};

@@ -6,15 +6,16 @@ use Rattle.std.proofs.lemmas.Bool.{and_from, cases_Bool, cases_lt}
 use Rattle.volume_def.specs.Files.{Part, Record, is_base, parts, record_on, records_of}
 use Rattle.volume_def.specs.ListsClause.{HasRightList, IsRightList, MeetsLists, is_list}
 use Rattle.volume_def.specs.View.{VolumeView}
-use Rattle.list_laws.proofs.FindLaws.{passing}
+use Rattle.list_laws.proofs.FindLaws.{passing, none-among}
 use Rattle.list_laws.proofs.MemberLaws.{All-from_Contains}
-use Rattle.file_record.proofs.RecordLaws.{record_at-inside, some-value}
+use Rattle.file_record.proofs.RecordLaws.{record_at-inside}
+use Rattle.list_laws.proofs.OptionLaws.{some-value}
 use Rattle.file_clauses.specs.Extents.{IsAlone}
-use Rattle.record_notes.specs.Least.{IsLeastFailing, least_of}
+use Rattle.list_laws.specs.Least.{IsLeastFailing, least_of}
 use Rattle.record_notes.specs.Unlisted.{MeetsAlone, is_unlisted}
 use Rattle.file_clauses.proofs.InOrderLaws.{alone-parts}
-use Rattle.record_notes.proofs.LeastLaws.{least-same, least-two}
-use Rattle.record_notes.proofs.UnlistedLaws.{alone-in, none-among}
+use Rattle.list_laws.proofs.LeastLaws.{least-same, least-two}
+use Rattle.record_notes.proofs.UnlistedLaws.{alone-in}
 use Rattle.check_records.specs.Listed.{MeetsListedLists}
 
 -- no part is a list: of such a file nothing but its one record is asked

@@ -1,8 +1,6 @@
 -- Bitmaps and the table of case decided by what is noted of them.
-use Rattle.std.proofs.Common.{◌≡◌, ◌<◌, ◌≤◌, ◌*◌, ℕ, List, length, take, Option, Some, None, sym, ap, subst, min, refl, ◌∙◌, arith}
+use Rattle.std.proofs.Common.{◌≡◌, ◌<◌, ◌≤◌, ◌*◌, ℕ, List, length, Option, Some, sym, ap, subst, min, refl, ◌∙◌, arith}
 use Rattle.std.specs.Int.{div_ceil}
-use Rattle.std.specs.Prelude.{IfNone}
-use Rattle.std.proofs.lemmas.List.{get_or-take, length-take-le}
 use Rattle.ntfs_def.specs.declared.records.TheConstants.{FIRST_ORDINARY, UPCASE}
 use Rattle.volume_def.specs.BitmapClauses.{HasNoHole, HasRecordBits, MeetsRecordBits, cluster_bits, record_bits, written_by}
 use Rattle.volume_def.specs.CaseClause.{HasCaseTable, MeetsCaseTable, case_parts}
@@ -12,28 +10,13 @@ use Rattle.volume_def.specs.Table.{cluster_bytes}
 use Rattle.volume_def.specs.Values.{IsPlain, first_part, pieces_touched, value_on}
 use Rattle.volume_def.specs.View.{VolumeView}
 use Rattle.volume_def.proofs.ValueLaws.{value-length}
-use Rattle.record_notes.specs.BitRanges.{IsPieceOf}
 use Rattle.record_notes.specs.Bitmaps.{HasClusterBytes}
-use Rattle.record_notes.specs.Least.{IsLeastBelow, IsLeastFailing}
-use Rattle.record_notes.proofs.LeastLaws.{least-whole}
+use Rattle.list_laws.specs.Least.{IsLeastBelow, IsLeastFailing}
+use Rattle.list_laws.proofs.LeastLaws.{least-whole}
 use Rattle.record_notes.specs.declared.facts.Facts.{Facts}
 use Rattle.check_records.specs.Streams.{ArePlacesFor, HasRoomIn, IsPlainOf, table_len}
 use Rattle.check_records.specs.Views.{HasComeTo}
 use Rattle.check_records.proofs.StreamLaws.{places-for}
-
--- the first bytes of a piece
-pub shorter-piece : (value piece : List ℕ) (n : ℕ) → n ≤ length piece → IsPieceOf value 0 piece → IsPieceOf value 0 (take n piece)
-shorter-piece value piece n within is i lt =
-    let long = length-take-le n piece within in
-    get_or-take n piece i 0 (omega arith) ∙ is i (omega arith)
-
--- nothing is before number 0
-pub least-none : (P : ℕ → Type 0) → IsLeastBelow P 0 None
-least-none P n low = absurd (omega arith)
-
--- what was found before an end is the least of all
-pub least-found : (P : ℕ → Type 0) (end n : ℕ) → IsLeastBelow P end (Some n) → IsLeastFailing P (Some n)
-least-found P end n (inside, bad, before) = (bad, before)
 
 -- The bitmap of clusters, as it is noted.
 pub HasClusterBytes-noted : (view : VolumeView) (written : ℕ) → IsPlain (cluster_bits view) → HasNoHole (cluster_bits view)
@@ -107,11 +90,6 @@ length-plain view len extents is = value-length view.cluster (cluster_bytes view
 
 pub no-case-table : (view : VolumeView) → ¬ (HasCaseTable view) → IsLeastFailing (MeetsCaseTable view) (Some UPCASE)
 no-case-table view none = (λ meets. none (meets refl), λ m low is. absurd (omega arith))
-
--- a fact that holds in any case
-pub none-always : {A P : Type 0} (o : Option A) → P → IfNone o P
-none-always None p = p
-none-always (Some x) p = tt
 
 -- Each cluster of what is read is noted.
 

@@ -3,7 +3,6 @@ pub mod ScanLaws
 pub mod RefusalLaws
 pub mod BelowLaws
 pub mod FactsGiven
-pub mod ValueLaws
 pub mod AnswerLaws
 pub mod CheckLaws
 pub mod TablesLaws

@@ -3,7 +3,7 @@ use Rattle.std.proofs.Common.{◌≡◌, ◌↔◌, ◌<◌, ◌+◌, ◌==◌, 
 use Rattle.std.specs.Prelude.{nat_lt}
 use Rattle.std.specs.List.{AllPairs, Contains, list_any}
 use Rattle.std.specs.List.Sorted.{IsPermutation}
-use Rattle.std.proofs.lemmas.Bool.{and_from, and_parts, cases_Bool, cases_lt, eqb-true, lt-ltb, true≢false}
+use Rattle.std.proofs.lemmas.Bool.{and_from, and_parts, cases_Bool, cases_lt, eqb-true, lt-ltb}
 use Rattle.std.proofs.lemmas.List.{get_or-take, get_or_default, length-take-le, take_more}
 use Rattle.std.proofs.lemmas.List.Elements.{Contains-append_left, Contains-get_or, Contains-push, Contains-push_cases}
 use Rattle.volume_def.specs.Files.{Record, is_base, parts, record_on, records_of}
@@ -11,20 +11,17 @@ use Rattle.volume_def.specs.ListsClause.{HasRightList, MeetsLists, is_list}
 use Rattle.volume_def.specs.ShapeClause.{MeetsShape}
 use Rattle.volume_def.specs.Table.{cluster_bytes}
 use Rattle.volume_def.specs.View.{VolumeView}
-use Rattle.file_record.proofs.RecordLaws.{record_at-inside, some-value}
+use Rattle.file_record.proofs.RecordLaws.{record_at-inside}
+use Rattle.list_laws.proofs.OptionLaws.{some-value}
 use Rattle.record_notes.specs.declared.spread.Extension.{Extension}
 use Rattle.record_notes.specs.declared.spread.SpreadFiles.{SpreadFiles}
 use Rattle.file_clauses.specs.Extents.{AreWholeParts}
-use Rattle.record_notes.specs.Least.{IsLeastFailing, least_of}
+use Rattle.list_laws.specs.Least.{IsLeastFailing, least_of}
 use Rattle.record_notes.specs.Spread.{AreExtensionsOf, SpreadNote, extensions_of}
 use Rattle.record_notes.specs.Unlisted.{MeetsListed}
-use Rattle.record_notes.proofs.LeastLaws.{least-same, least-two}
+use Rattle.list_laws.proofs.LeastLaws.{least-same, least-two}
 use Rattle.record_notes.proofs.ListedLaws.{listed-held, listed-noted, listed-rising}
 use Rattle.check_records.specs.Listed.{IsListedFile, MeetsListedLists}
-
--- a verdict is not both
-pub not-both : (right : Bool) → IsTrue right → IsFalse right → ⊥
-not-both right t f = true≢false (sym t ∙ f)
 
 -- Of the numbers seen, the least that fails.
 abbrev pub IsLeastSeen : (ℕ → Type 0) → List ℕ → Option ℕ → Type 0

@@ -1,8 +1,7 @@
 -- A file with a list, by its base record as it is held: its list is right exactly where it is placed and names each part.
-use Rattle.std.proofs.Common.{◌≡◌, ◌==◌, ◌||◌, ℕ, Bool, true, cond, List, [], ◌∷◌, Some, None, IsSomeAnd, IsTrue, refl, sym, ap, subst, inl, inr, ◌∙◌, arith}
+use Rattle.std.proofs.Common.{◌≡◌, ◌==◌, ℕ, Bool, true, List, Some, None, IsSomeAnd, IsTrue, refl, sym, subst, ◌∙◌, arith}
 use Rattle.std.specs.Prelude.{find}
 use Rattle.std.specs.List.{Contains, list_any}
-use Rattle.std.proofs.lemmas.Bool.{cases_Bool}
 use Rattle.std.proofs.lemmas.List.Elements.{All-contains, All-weaker}
 use Rattle.ntfs_def.specs.declared.kinds.TheConstants.{ATTRIBUTE_LIST}
 use Rattle.ntfs_def.specs.Attribute.{Attribute, attributes}
@@ -10,18 +9,18 @@ use Rattle.volume_def.specs.Files.{Record, file_of, is_base, part_of, parts, rec
 use Rattle.volume_def.specs.ListsClause.{HasRightList, IsRightList, entries_in, is_list, list_value}
 use Rattle.volume_def.specs.ShapeClause.{MeetsShape}
 use Rattle.volume_def.specs.View.{VolumeView}
-use Rattle.list_laws.proofs.FindLaws.{count-some, find-found, same_passing}
+use Rattle.list_laws.proofs.FindLaws.{count-some, find-found, same_passing, any-none, list_any-map}
 use Rattle.list_laws.proofs.MemberLaws.{All-from_Contains, Contains-map}
 use Rattle.volume_def.proofs.PartLaws.{Contains-HoldsPart}
 use Rattle.file_record.specs.declared.held.Held.{Held}
 use Rattle.file_record.specs.Held.{parts_of}
 use Rattle.file_record.specs.Records.{IsRecordOf}
-use Rattle.file_record.proofs.RecordLaws.{record_at-in_use, record_at-inside, some-value}
+use Rattle.file_record.proofs.RecordLaws.{record_at-in_use, record_at-inside}
+use Rattle.list_laws.proofs.OptionLaws.{some-value}
 use Rattle.record_notes.specs.declared.spread.Extension.{Extension}
 use Rattle.file_clauses.specs.Lists.{NamesEach}
 use Rattle.record_notes.specs.Spread.{AreExtensionsOf}
 use Rattle.file_clauses.proofs.InOrderLaws.{based-here}
-use Rattle.record_notes.proofs.SpreadLaws.{list_any-map}
 use Rattle.record_notes.proofs.SpreadParts.{extension-own, parts-own}
 use Rattle.check_records.specs.Listed.{IsBaseHeld, IsHeldIn, IsListedFile, IsPlacedList, NamesParts}
 
@@ -33,14 +32,6 @@ listed-record view f shape listed =
       belongs = subst (λ o. IsSomeAnd o (λ r. file_of f r ≡ f)) (sym w.1) (based-here f w.0.header.base w.2.0);
       well_formed = shape f (record_at-inside view f w.0 w.1) (record_at-in_use view f w.0 w.1);
     }
-
-any-none : {A : Type 0} (p : A → Bool) (xs : List A) → find p xs ≡ None → list_any p xs ≡ true → ⊥
-any-none p [] e t = cc
-any-none p (x ∷ xs) e t = elim (cases_Bool (p x)) [
-  | inl t' ↦ let s : Some x ≡ None = sym (ap (λ b. cond b (Some x) (find p xs)) t') ∙ e in cc
-  | inr other ↦
-      any-none p xs (sym (ap (λ b. cond b (Some x) (find p xs)) other) ∙ e) (sym (ap (λ b. b || list_any p xs) other) ∙ t)
-]
 
 abbrev is_list_attribute : Attribute → Bool
 is_list_attribute attribute = attribute.kind == ATTRIBUTE_LIST

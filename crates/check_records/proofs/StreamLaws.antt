@@ -5,8 +5,8 @@ use Rattle.std.specs.Int.{div_ceil}
 use Rattle.std.specs.List.{range_with_len}
 use Rattle.std.proofs.Math.Nat.{div-lt_iff_lt-mul, div-mul-le_self, le-div_iff_mul-le, mul_comm}
 use Rattle.std.proofs.lemmas.Bool.{cases_lt, le-ltb, lt-ltb}
-use Rattle.std.proofs.lemmas.List.{get_or-append_right, get_or-replicate, get_or_append_left, get_or_past, length-replicate}
-use Rattle.std.proofs.lemmas.List.FromFn.{get_or-map-range_with_len, length-map-range_with_len}
+use Rattle.std.proofs.lemmas.List.{get_or-append_right, get_or-replicate, get_or_append_left, length-replicate}
+use Rattle.std.proofs.lemmas.List.FromFn.{length-map-range_with_len}
 use Rattle.ntfs_def.specs.declared.run_text.Run.{Run}
 use Rattle.ntfs_def.specs.declared.run_text.Spot.{Spot}
 use Rattle.ntfs_def.specs.declared.run_text.Spot.TheVariants.{Outside, Hole, At}
@@ -18,10 +18,10 @@ use Rattle.volume_def.specs.Table.{cluster_bytes}
 use Rattle.volume_def.specs.Values.{byte_there, first_part, pieces_touched, spot_at, stored_byte, stored_bytes, value_by, value_byte, value_of_parts, value_on, value_over}
 use Rattle.volume_def.specs.View.{VolumeView}
 use Rattle.mft_table.specs.Streams.{spot_on}
-use Rattle.mft_table.proofs.StreamBytes.{bytes-same, bytes-zero}
+use Rattle.list_laws.proofs.RangeLaws.{map_ranges, bytes-zero, by-rule, past-rule}
 use Rattle.attr_store.proofs.Spanned.{touched-spanned}
 use Rattle.record_notes.specs.declared.streams.StreamNote.{StreamNote}
-use Rattle.record_notes.specs.BitRanges.{IsPieceOf}
+use Rattle.list_laws.specs.BitRanges.{IsPieceOf}
 use Rattle.record_notes.specs.Streams.{NotesStream, places_in, spot_noted}
 use Rattle.check_records.specs.Streams.{ArePlacesFor}
 
@@ -69,7 +69,7 @@ pub cluster-placed : (cluster : ℕ → List ℕ) (size lcn at n : ℕ) (spot : 
     → stored_bytes cluster size (spot_on (Some lcn)) (at % size) n ≡ stored_bytes cluster size spot at n
 unfolding stored_bytes
 cluster-placed cluster size lcn at n spot some fits lies =
-    bytes-same (stored_byte cluster size (spot_on (Some lcn))) (stored_byte cluster size spot) (at % size) at n (λ j lt.
+    map_ranges (stored_byte cluster size (spot_on (Some lcn))) (stored_byte cluster size spot) (at % size) at n (λ j lt.
     let within = inside-cluster size at n some fits in
     let low : at % size + j < size = omega arith in
     let here : lcn + 0 ≡ lcn = omega arith in
@@ -132,16 +132,6 @@ pub value-resident : (view : VolumeView) (extents : List Part) (value : List ℕ
 unfolding value_of_parts
 value-resident view extents value is = resident-in view extents value (first_part extents) is
 
-by-rule : (f : ℕ → ℕ) (len i : ℕ) → i < len → slice_index (map f (range_with_len 0 len)) (0 + i) ≡ f (0 + i)
-by-rule f len i lt =
-    let at : 0 + i ≡ i = omega arith in
-    ap (slice_index (map f (range_with_len 0 len))) at ∙ get_or-map-range_with_len f 0 len i (0 + i) 0 lt refl
-
-past-rule : (f : ℕ → ℕ) (len i : ℕ) → len ≤ i → slice_index (map f (range_with_len 0 len)) (0 + i) ≡ 0
-past-rule f len i le =
-    let long = length-map-range_with_len f 0 len in
-    get_or_past (map f (range_with_len 0 len)) (0 + i) 0 (omega (arith, long, le))
-
 abbrev zero_byte : ℕ
 zero_byte = 0
 
@@ -199,7 +189,7 @@ noted-bytes : (cluster : ℕ → List ℕ) (size n : ℕ) (extents : List Part) 
     → ArePlacesFor n size note → stored_bytes cluster size (spot_noted note) 0 n ≡ stored_bytes cluster size (spot_at extents) 0 n
 unfolding stored_bytes
 noted-bytes cluster size n extents note notes places =
-    bytes-same (stored_byte cluster size (spot_noted note)) (stored_byte cluster size (spot_at extents)) 0 0 n (λ j lt.
+    map_ranges (stored_byte cluster size (spot_noted note)) (stored_byte cluster size (spot_at extents)) 0 0 n (λ j lt.
     ap (λ s. byte_there cluster s ((0 + j) % size)) (notes.spots ((0 + j) / size) (places (0 + j) (omega arith))))
 
 pub noted-start : (view : VolumeView) (extents : List Part) (note : StreamNote) (n len : ℕ) → NotesStream extents note

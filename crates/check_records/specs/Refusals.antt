@@ -4,7 +4,7 @@ use Rattle.vol_disk.specs.Contents.{WhereTold, sector_in}
 use Rattle.ntfs_def.specs.Boot.{boot_sector}
 use Rattle.volume_def.specs.Sound.{Clause, FirstBroken, HoldBelow, IsRefused, Meets, clause_number, rank_of}
 use Rattle.volume_def.specs.View.{VolumeView}
-use Rattle.record_notes.specs.Least.{IsLeastFailing}
+use Rattle.list_laws.specs.Least.{IsLeastFailing}
 use Rattle.mft_table.specs.declared.mount.MountNo.{MountNo}
 use Rattle.mft_table.specs.declared.mount.MountNo.TheVariants as no
 

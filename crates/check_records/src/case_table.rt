@@ -6,7 +6,7 @@ ghost use Rattle.volume_def.specs.Sound.{HoldBelow};
 ghost use Rattle.volume_def.specs.Values.{pieces_touched, value_on};
 ghost use Rattle.mft_table.specs.Mft.{MftReads, faults_of, view};
 ghost use Rattle.mft_table.specs.MountNos.{CountsMount};
-ghost use Rattle.record_notes.specs.BitRanges.{IsPieceOf};
+ghost use Rattle.list_laws.specs.BitRanges.{IsPieceOf};
 ghost use Rattle.record_notes.specs.Streams.{NotesStream};
 ghost use Rattle.check_records.specs.Refusals.{IsFault, IsRefusalIf};
 ghost use Rattle.check_records.specs.Streams.{IsPlainOf, table_len};
@@ -16,10 +16,10 @@ use crate::clause::Clause;
 use crate::values::read_start;
 use mft_table::{Mft, MountNo};
 use ntfs_def::records::UPCASE;
+use record_notes::{Facts, StreamNote};
 use std::alloc::{AllocError, Global};
 use upcase::UpCase;
 use vol_disk::Disk;
-use record_notes::{Facts, StreamNote};
 
 /// The bytes of a table.
 const LENGTH: usize = 131_072;

@@ -1,16 +1,16 @@
 //! The bitmap of clusters, read and compared with the owners.
 ghost use Rattle.std.specs.Prelude.{◌≡◌, ◌+◌, ◌*◌, ◌/◌, ◌≤◌, IfErr, IfNone, IfOk, IsTrue, MatchResult, OnOk, length};
 ghost use Rattle.std.specs.Int.{div_ceil};
-ghost use Rattle.ntfs_def.specs.Bits.{flags_in};
+ghost use Rattle.list_laws.specs.Bits.{flags_in};
 ghost use Rattle.volume_def.specs.BitmapClauses.{MeetsClusterBits, cluster_bits};
 ghost use Rattle.volume_def.specs.Sound.{HoldBelow};
 ghost use Rattle.volume_def.specs.Values.{pieces_touched, value_on};
 ghost use Rattle.volume_def.specs.View.{VolumeView};
 ghost use Rattle.mft_table.specs.Mft.{MftReads, faults_of, view};
 ghost use Rattle.mft_table.specs.MountNos.{CountsMount};
-ghost use Rattle.record_notes.specs.BitRanges.{IsPieceOf};
+ghost use Rattle.list_laws.specs.BitRanges.{IsPieceOf};
 ghost use Rattle.record_notes.specs.Bitmaps.{AllOwnersNote, HasClusterBytes};
-ghost use Rattle.record_notes.specs.Least.{IsLeastFailing};
+ghost use Rattle.list_laws.specs.Least.{IsLeastFailing};
 ghost use Rattle.check_records.specs.Refusals.{IsFault, IsRefusalIf};
 ghost use Rattle.check_records.specs.Views.{HasComeTo};
 
@@ -18,9 +18,9 @@ use crate::clause::Clause;
 use crate::values::{is_whole, load_bits, read_start};
 use cluster_bitmap::Bits;
 use mft_table::{Mft, MountNo};
+use record_notes::{Facts, Owners};
 use std::alloc::Global;
 use vol_disk::Disk;
-use record_notes::{Facts, Owners};
 
 // The first cluster that breaks the clause, by the first bytes of the bitmap, of which so many were written.
 fn first_wrong_cluster(owners: &Owners, bytes: &[u8], written: u64) -> Option<u64>

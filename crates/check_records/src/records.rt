@@ -1,15 +1,15 @@
 //! The bitmap of records, read and compared with the records that are in use.
 ghost use Rattle.std.specs.Prelude.{◌≡◌, ◌↔◌, ◌+◌, ◌-◌, ◌*◌, ◌^◌, ◌/◌, ◌<◌, ◌≤◌, ℕ, List, IfErr, IfNone, IfOk, IsTrue, MatchResult, OnOk, length, min};
 ghost use Rattle.std.specs.Int.{div_ceil};
-ghost use Rattle.ntfs_def.specs.Bits.{flags_in};
+ghost use Rattle.list_laws.specs.Bits.{flags_in};
 ghost use Rattle.volume_def.specs.BitmapClauses.{MeetsRecordBits, record_bits};
 ghost use Rattle.volume_def.specs.Files.{Part};
 ghost use Rattle.volume_def.specs.Sound.{HoldBelow};
 ghost use Rattle.volume_def.specs.Values.{pieces_touched, value_on};
 ghost use Rattle.mft_table.specs.Mft.{MftReads, faults_of, view};
 ghost use Rattle.mft_table.specs.MountNos.{CountsMount};
-ghost use Rattle.record_notes.specs.BitRanges.{IsPieceOf};
-ghost use Rattle.record_notes.specs.Least.{IsLeastFailing};
+ghost use Rattle.list_laws.specs.BitRanges.{IsPieceOf};
+ghost use Rattle.list_laws.specs.Least.{IsLeastFailing};
 ghost use Rattle.record_notes.specs.Streams.{NotesStream};
 ghost use Rattle.check_records.specs.Refusals.{IsFault, IsRefusalIf};
 ghost use Rattle.check_records.specs.Streams.{HasRoomIn};
@@ -20,9 +20,9 @@ use crate::values::{is_whole, load_bits, read_start};
 use cluster_bitmap::Bits;
 use mft_table::{Mft, MountNo};
 use ntfs_def::records::FIRST_ORDINARY;
+use record_notes::{Facts, StreamNote};
 use std::alloc::Global;
 use vol_disk::{Disk, SECTOR};
-use record_notes::{Facts, StreamNote};
 
 // Whether clusters of so many bytes have room for a bit for each record. Of more than 2^64 - 1 clusters that many are told.
 fn have_room(covered: u64, cluster: u64, records: u64) -> bool

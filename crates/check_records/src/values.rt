@@ -1,22 +1,22 @@
 //! The value of a stream, read from its first byte on by what the pass noted of it.
 ghost use Rattle.std.specs.Prelude.{◌≡◌, ◌↔◌, ◌*◌, ◌≤◌, ℕ, List, IfErr, IfOk, IsTrue, MatchResult, OnOk, length};
-ghost use Rattle.ntfs_def.specs.Bits.{flags_in};
+ghost use Rattle.list_laws.specs.Bits.{flags_in};
 ghost use Rattle.volume_def.specs.BitmapClauses.{HasNoHole};
 ghost use Rattle.volume_def.specs.Files.{Part};
 ghost use Rattle.volume_def.specs.Table.{cluster_bytes};
 ghost use Rattle.volume_def.specs.Values.{IsPlain, pieces_touched, value_on};
 ghost use Rattle.mft_table.specs.Mft.{MftReads, faults_of, view};
 ghost use Rattle.mft_table.specs.MountNos.{CountsMount};
-ghost use Rattle.record_notes.specs.BitRanges.{IsPieceOf};
+ghost use Rattle.list_laws.specs.BitRanges.{IsPieceOf};
 ghost use Rattle.record_notes.specs.Streams.{NotesStream};
 ghost use Rattle.check_records.specs.Streams.{ArePlacesFor};
 
 use crate::streams::read_stored;
 use cluster_bitmap::Bits;
 use mft_table::{Mft, MountNo};
+use record_notes::StreamNote;
 use std::alloc::Global;
 use vol_disk::Disk;
-use record_notes::StreamNote;
 
 /// Whether a stream is not packed, and has no hole.
 pub fn is_whole(note: &StreamNote) -> bool

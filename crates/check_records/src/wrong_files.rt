@@ -8,7 +8,7 @@ ghost use Rattle.volume_def.specs.Table.{cluster_bytes};
 ghost use Rattle.mft_table.specs.Mft.{MftReads, faults_of, view};
 ghost use Rattle.mft_table.specs.MountNos.{CountsMount};
 ghost use Rattle.record_notes.specs.Facts.{FactsNote};
-ghost use Rattle.record_notes.specs.Least.{IsLeastFailing, least_of};
+ghost use Rattle.list_laws.specs.Least.{IsLeastFailing, least_of};
 ghost use Rattle.record_notes.specs.Spread.{SpreadNote};
 ghost use Rattle.record_notes.specs.Unlisted.{MeetsListed};
 ghost use Rattle.check_records.specs.Listed.{MeetsListedLists};
@@ -17,9 +17,9 @@ ghost use Rattle.check_records.specs.Views.{IsOfVolume};
 
 use crate::listed::judge_file;
 use mft_table::{Mft, MountNo};
+use record_notes::{Extension, Facts, SpreadFiles, least_of, split_file};
 use std::alloc::Global;
 use vol_disk::Disk;
-use record_notes::{Extension, Facts, SpreadFiles, least_of, split_file};
 
 /// The least base record that breaks the clause on lists and, where none does, the one that breaks the clause on extents.
 #[derive(Clone, Copy, Debug)]

@@ -3,7 +3,7 @@
 
 ghost use Rattle.std.specs.Prelude.{◌≡◌, ℕ, ◌+◌, ◌-◌, ◌*◌, ◌^◌, ◌<◌, ◌≤◌, not, count_by, length, slice_get, Some, IfOk, IfSome, IfNone};
 ghost use Rattle.std.specs.Int.{bit_at};
-ghost use Rattle.ntfs_def.specs.Bits.{bit_in, flags_in};
+ghost use Rattle.list_laws.specs.Bits.{bit_in, flags_in};
 ghost use Rattle.cluster_bitmap.specs.Flags.{IsFirstRun, IsFree, IsTaken, with_given, with_taken};
 ghost use Rattle.cluster_bitmap.specs.Words.{bit_of, clear_below, bit_for, IsClear, seen};
 

@@ -1,11 +1,12 @@
 -- Texts behind one another.
 use Rattle.std.proofs.Common.{◌≡◌, ℕ, zero, suc, ◌+◌, ◌<◌, List, [], ◌∷◌, ◌++◌, length, take, drop, get_or, Option, Some, None, Result, Ok, Err, refl, sym, ap, ◌∙◌, subst, arith, append-nil, append_assoc, take-append-drop}
-use Rattle.std.specs.Prelude.{IsErr, OnErr, OnOk, flat_map}
+use Rattle.std.specs.Prelude.{IsErr, flat_map}
 use Rattle.vol_disk.specs.Count.{CountsFault, Rose}
 use Rattle.vol_disk.specs.declared.Failed.{Failed}
 use Rattle.vol_disk.specs.Stream.{IsAppended, IsAppendedPart}
 use Rattle.vol_disk.proofs.StreamLaws.{IsAppended-twice}
 use Rattle.cmd_lang.specs.Output.{Output, Prints}
+use Rattle.list_laws.proofs.OptionLaws.{held_not}
 
 -- nothing is printed
 IsAppended-none : (got : Option (List ℕ)) → IsAppended got [] got
@@ -19,10 +20,6 @@ prints_none a = record { taken = []; left = a.held; parted = append-nil a.held; 
 rose : {T E : Type 0} (x y : ℕ) (r : Result T E) → IsErr r → Rose x y → CountsFault r x y
 rose x y (Ok u) is h = cc is
 rose x y (Err why) is h = h
-
-held_not : {T E : Type 0} (r : Result T E) (P : Type 0) → IsErr r → OnOk r P
-held_not (Ok u) P is = cc is
-held_not (Err why) P is = tt
 
 -- what failed also failed to print more
 pub prints_less : {S T E : Type 0} (a b : Output) (s t : List ℕ) (why : E) (r : Result T E) → IsErr r → Prints {T = S} a b s (Err why)
@@ -69,10 +66,6 @@ prints_more a b c s t u r p q = record {
 pub prints_flushed : {S T E : Type 0} (a b c : Output) (s : List ℕ) (u : S) (r : Result T E) → Prints {E = E} a b s (Ok u)
     → Prints b c [] r → Prints a c s r
 prints_flushed a b c s u r p q = subst (λ t. Prints a c t r) (append-nil s) (prints_more a b c s [] u r p q)
-
-pub on_err : {T E : Type 0} {P : Type 0} (r : Result T E) → P → OnErr r P
-on_err (Ok u) h = tt
-on_err (Err why) h = h
 
 take_front : (xs ys : List ℕ) → take (length xs) (xs ++ ys) ≡ xs
 take_front [] ys = refl

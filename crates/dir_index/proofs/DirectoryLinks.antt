@@ -21,7 +21,7 @@ use Rattle.volume_def.specs.View.{VolumeView}
 use Rattle.list_laws.proofs.FindLaws.{count-cons, count-none}
 use Rattle.list_laws.proofs.MemberLaws.{filter-map}
 use Rattle.list_laws.proofs.SameItemsLaws.{SameItems-map, SameItems-same, SameItems-trans, count-filter}
-use Rattle.tree_model.specs.Ordered.{in_order}
+use Rattle.list_laws.specs.Ordered.{in_order}
 use Rattle.tree_model.specs.Reading.{all_links, directory_links, link_by}
 use Rattle.tree_model.specs.Tree.{is_in, link_above}
 use Rattle.tree_model.proofs.LinkOrder.{link_order}

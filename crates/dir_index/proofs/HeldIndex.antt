@@ -1,6 +1,6 @@
 -- The index of a directory as it is held has what a walk and a search ask for, and what they give is what the directory has.
 use Rattle.std.proofs.Common.{◌≡◌, ◌≤◌, ◌+◌, ◌*◌, ℕ, suc, List, [], ◌∷◌, map, Bool, true, false, cond, length, Option, Some, None, refl, sym, ap, subst, ◌∙◌, IsTrue, arith}
-use Rattle.std.specs.Prelude.{◌==◌, ◌||◌, All}
+use Rattle.std.specs.Prelude.{◌==◌, All}
 use Rattle.std.specs.List.{filter_map}
 use Rattle.std.specs.Option.{option_and_then}
 use Rattle.std.specs.declared.cmp.Ordering.{Ordering}
@@ -23,6 +23,7 @@ use Rattle.dir_index.specs.Sought.{CanSeek, SeekCosts, Seeks, exact_order, folde
 use Rattle.dir_index.proofs.DirectoryLinks.{links_are_items}
 use Rattle.dir_index.proofs.FoundLinks.{HasName, entries_say, sought_exact, sought_folded}
 use Rattle.dir_index.proofs.SoughtOrders.{exact_rises, folded_rises}
+use Rattle.std.proofs.lemmas.Bool.{or_right}
 
 some_same : {X : Type 0} {a b : X} → Some a ∷ [] ≡ Some b ∷ [] → a ≡ b
 some_same e = cc
@@ -53,10 +54,6 @@ each_of P Q f (x ∷ xs) h = (f x (h 0 x (omega arith)), each_of P Q f xs (λ i 
 each_map : {A : Type 0} (P Q : A → Type 0) (f : (x : A) → P x → Q x) (xs : List A) → Each P xs → Each Q xs
 each_map P Q f [] h = tt
 each_map P Q f (x ∷ xs) h = (f x h.0, each_map P Q f xs h.1)
-
-or_right : (a b : Bool) → b ≡ true → (a || b) ≡ true
-or_right true b e = refl
-or_right false b e = e
 
 module _ (view : VolumeView) (dir : ℕ) (table root : List ℕ) (records : ℕ → Option (List ℕ)) (held : IsHeldIndex view dir table root records)
     (has : IsDirectoryIndex view dir) where

@@ -1,13 +1,13 @@
 -- A list in order is what its items are in order, whichever way they came.
 use Rattle.std.proofs.Common.{◌≡◌, ◌&&◌, not, zero, suc, Bool, true, false, List, [], ◌∷◌, ◌++◌, refl, sym, ap, ◌∙◌, arith}
-use Rattle.std.proofs.lemmas.Bool.{and_parts}
+use Rattle.std.proofs.lemmas.Bool.{and_parts, not-true}
 use Rattle.std.specs.List.{Contains, count_by}
 use Rattle.ntfs_def.specs.IndexTree.{Each}
 use Rattle.list_laws.specs.SameItems.{SameItems}
 use Rattle.list_laws.proofs.FindLaws.{count-cons, count-yes, passing}
 use Rattle.list_laws.proofs.SameItemsLaws.{count-append}
-use Rattle.tree_model.specs.Ordered.{IsOrder, in_order, put_in_order}
-use Rattle.tree_model.proofs.OrderedLaws.{put-put}
+use Rattle.list_laws.specs.Ordered.{IsOrder, in_order, put_in_order}
+use Rattle.list_laws.proofs.OrderedLaws.{put-put}
 
 -- no item is above a later one
 abbrev pub IsRising : {A : Type 0} → (A → A → Bool) → List A → Type 0
@@ -26,10 +26,6 @@ among x (y ∷ ys) (zero, l, is) = record { front = []; back = ys; whole = ap (�
 among x (y ∷ ys) (suc k, l, is) =
     let r = among x ys (k, omega arith, is) in
     record { front = y ∷ r.front; back = r.back; whole = ap (λ zs. y ∷ zs) r.whole }
-
-not-true : (b : Bool) → not b ≡ true → b ≡ false
-not-true true e = cc
-not-true false e = refl
 
 module _ {A : Type 0} {above : A → A → Bool} (o : IsOrder above) where
   -- an item goes in from anywhere

@@ -1,18 +1,14 @@
 -- The units that a key is compared by, one by one.
-use Rattle.std.proofs.Common.{◌≡◌, ◌≢◌, ◌&&◌, nat_le, Bool, true, false, ℕ, ◌+◌, ◌*◌, ◌<◌, ◌≤◌, List, map, length, refl, sym, ap, ◌∙◌, IsTrue, arith}
-use Rattle.std.specs.Prelude.{◌==◌, ◌||◌, slice_index}
-use Rattle.std.specs.List.{range_with_len}
+use Rattle.std.proofs.Common.{◌≡◌, ◌≢◌, ◌&&◌, nat_le, ℕ, ◌+◌, ◌*◌, ◌<◌, ◌≤◌, List, length, ap, ◌∙◌, IsTrue, arith}
+use Rattle.std.specs.Prelude.{◌==◌, slice_index}
 use Rattle.std.proofs.lemmas.Bool.{and_parts, leb-true, ne_eqb}
-use Rattle.std.proofs.lemmas.List.FromFn.{fill_by_all, get_or-map-range_with_len, length-map-range_with_len}
+use Rattle.std.proofs.lemmas.List.FromFn.{get_or-map-range_with_len, length-map-range_with_len}
 use Rattle.vol_bytes.specs.Field.{u16_at}
 use Rattle.ntfs_def.specs.FileName.{is_name_key, key_units, unit_count}
 use Rattle.ntfs_def.specs.Units.{units_at}
 use Rattle.dir_index.specs.Sought.{is_sought_key, sought_units}
 use Rattle.dir_index.proofs.SoughtOrders.{own_units}
-
-or_last : (a b : Bool) → a ≡ false → (a || b) ≡ true → b ≡ true
-or_last false b e h = h
-or_last true b e h = cc
+use Rattle.list_laws.proofs.BoolLaws.{or_last}
 
 -- a key that is not empty is a name's
 pub own_key : (key : List ℕ) → 0 < length key → IsTrue (is_sought_key key) → IsTrue (is_name_key key)
@@ -46,10 +42,3 @@ own_inside name key i some valid inside =
     (own_key key some valid) in
     let whole : 0x42 + 2 * unit_count key ≤ length key = leb-true (0x42 + 2 * unit_count key) (length key) parts.1 in
     omega arith
-
--- a list by its places
-pub by_places : (xs : List ℕ) → map (slice_index xs) (range_with_len 0 (length xs)) ≡ xs
-by_places xs = sym (fill_by_all (slice_index xs) xs (length xs) 0 refl (λ k inside. refl))
-
-pub by_so_many : (xs : List ℕ) (n : ℕ) → n ≡ length xs → map (slice_index xs) (range_with_len 0 n) ≡ xs
-by_so_many xs n e = ap (λ k. map (slice_index xs) (range_with_len 0 k)) e ∙ by_places xs

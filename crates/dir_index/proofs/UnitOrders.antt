@@ -1,27 +1,11 @@
 -- Lists of units that are compared one unit after the other.
-use Rattle.std.proofs.Common.{◌≡◌, ◌<◌, ◌==◌, ℕ, zero, suc, List, [], ◌∷◌, cond, true, false, drop, length, length-drop, inl, inr, refl, sym, ap, ◌∙◌, arith}
-use Rattle.std.specs.Prelude.{min, nat_lt, slice_index}
+use Rattle.std.proofs.Common.{◌≡◌, ◌<◌, ℕ, zero, suc, List, [], ◌∷◌, drop, length, length-drop, inl, inr, refl, sym, ◌∙◌, arith}
+use Rattle.std.specs.Prelude.{min, slice_index}
 use Rattle.std.specs.Ordering.{nat_cmp, ordering_then}
 use Rattle.std.specs.declared.cmp.Ordering.TheVariants.{Less, Equal, Greater}
 use Rattle.std.proofs.lemmas.Bool.{cases_order}
-use Rattle.std.proofs.lemmas.Bool.Decides.{nat_tests}
 use Rattle.dir_index.specs.SoughtLaws.{by_fold}
-
--- numbers by their order
-cmp_less : (a b : ℕ) → a < b → nat_cmp a b ≡ Less
-cmp_less a b h = let e : nat_lt a b ≡ true = grind (arith, nat_tests, h) in ap (λ c. cond c Less (cond (a == b) Equal Greater)) e
-
-pub cmp_equal : (a b : ℕ) → a ≡ b → nat_cmp a b ≡ Equal
-cmp_equal a b h =
-    let e : nat_lt a b ≡ false = grind (arith, nat_tests, h) in
-    let f : (a == b) ≡ true = grind (arith, nat_tests, h) in
-    ap (λ c. cond c Less (cond (a == b) Equal Greater)) e ∙ ap (λ c. cond c Equal Greater) f
-
-cmp_greater : (a b : ℕ) → b < a → nat_cmp a b ≡ Greater
-cmp_greater a b h =
-    let e : nat_lt a b ≡ false = grind (arith, nat_tests, h) in
-    let f : (a == b) ≡ false = grind (arith, nat_tests, h) in
-    ap (λ c. cond c Less (cond (a == b) Equal Greater)) e ∙ ap (λ c. cond c Equal Greater) f
+use Rattle.list_laws.proofs.OrderLaws.{cmp_equal, cmp_greater, cmp_less}
 
 module _ (fold : ℕ → ℕ) where
   rest_less : (xs ys : List ℕ) → length xs ≡ 0 → 0 < length ys → by_fold fold xs ys ≡ Less

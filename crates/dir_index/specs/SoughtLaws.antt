@@ -1,15 +1,15 @@
 -- The orders by which a name is sought are total, and tie exactly where the units that are compared are the same.
 use Rattle.std.specs.Prelude.{◌≡◌, ◌↔◌, ℕ, List, map}
-use Rattle.std.proofs.Common.{ap, subst, ◌∙◌}
-use Rattle.std.specs.Cmp.{IsTotalOrder, nat_cmp_total, on_total, then_total}
+use Rattle.std.proofs.Common.{ap, ◌∙◌}
+use Rattle.std.specs.Cmp.{IsTotalOrder, nat_cmp_total, on_total}
 use Rattle.std.specs.Cmp.Lexicographic.{lists_total}
-use Rattle.std.specs.Ordering.{is_eq, ordering_then}
 use Rattle.std.specs.declared.cmp.Ordering.{Ordering}
-use Rattle.std.specs.declared.cmp.Ordering.TheVariants.{Less, Equal, Greater}
+use Rattle.std.specs.declared.cmp.Ordering.TheVariants.{Equal}
 use Rattle.std.proofs.lemmas.Cmp.{tied_itself}
 use Rattle.ntfs_def.specs.KeyOrder.{by_numbers, compare_units}
-use Rattle.ntfs_def.proofs.KeyOrderLaws.{numbers_is_eq}
 use Rattle.dir_index.specs.Sought.{exact_order, folded_order, sought_units}
+use Rattle.list_laws.proofs.OrderLaws.{then_second}
+use Rattle.ntfs_def.proofs.KeyOrderLaws.{numbers_equal, units_total}
 
 -- units by their folded units alone
 abbrev pub by_fold : (ℕ → ℕ) → List ℕ → List ℕ → Ordering
@@ -21,26 +21,9 @@ numbers_total = lists_total nat_cmp_total
 pub by_fold_total : (fold : ℕ → ℕ) → IsTotalOrder (by_fold fold)
 by_fold_total fold = on_total (map fold) numbers_total
 
-pub units_total : (fold : ℕ → ℕ) → IsTotalOrder (compare_units fold)
-units_total fold = then_total (by_fold_total fold) numbers_total
-
--- of two comparisons, one after the other, the last ties where both do
-abbrev LastTies : Ordering → Ordering → Type 0
-LastTies b Less = Unit {0}
-LastTies b Equal = b ≡ Equal
-LastTies b Greater = Unit {0}
-
-last_ties : (a b : Ordering) → ordering_then a b ≡ Equal → b ≡ Equal
-last_ties Less b e = subst (LastTies b) e tt
-last_ties Equal b e = e
-last_ties Greater b e = subst (LastTies b) e tt
-
-numbers_equal : (xs ys : List ℕ) → by_numbers xs ys ≡ Equal → xs ≡ ys
-numbers_equal xs ys e = (numbers_is_eq xs ys).0 (ap is_eq e)
-
 pub units_ties : (fold : ℕ → ℕ) (xs ys : List ℕ) → (compare_units fold xs ys ≡ Equal) ↔ (xs ≡ ys)
 units_ties fold xs ys = (
-  λ e. numbers_equal xs ys (last_ties (by_fold fold xs ys) (by_numbers xs ys) e),
+  λ e. numbers_equal xs ys (then_second (by_fold fold xs ys) (by_numbers xs ys) e),
   λ e. ap (λ zs. compare_units fold zs ys) e ∙ tied_itself (units_total fold) ys,
 )
 

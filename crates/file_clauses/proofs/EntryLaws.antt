@@ -15,8 +15,8 @@ use Rattle.list_laws.proofs.SameItemsLaws.{SameItems-permutation, SameItems-sym,
 use Rattle.attr_list.specs.declared.EntryView.{EntryView}
 use Rattle.attr_list.specs.View.{entry_shown}
 use Rattle.file_clauses.specs.Lists.{entry_order}
-use Rattle.file_clauses.proofs.OutlineOrderLaws.{numbers_equal, then_first, then_second}
-use Rattle.file_clauses.proofs.SortedLaws.{InOrder, same-ordered}
+use Rattle.list_laws.proofs.OrderLaws.{equal_numbers, then_first, then_second}
+use Rattle.list_laws.proofs.SortedLaws.{InOrder, same-ordered}
 
 -- The order.
 
@@ -38,11 +38,11 @@ entry_ties a b e =
     let four = then_first _ _ five in
     let three = then_first _ _ four in
     let two = then_first _ _ three in
-    let number = numbers_equal a.holder.number b.holder.number (then_first _ _ two) in
-    let sequence = numbers_equal a.holder.sequence b.holder.sequence (then_second _ _ two) in
-    let id = numbers_equal a.id b.id (then_second _ _ three) in
-    let kind = numbers_equal a.kind b.kind (then_second _ _ four) in
-    let first = numbers_equal a.first b.first (then_second _ _ five) in
+    let number = equal_numbers a.holder.number b.holder.number (then_first _ _ two) in
+    let sequence = equal_numbers a.holder.sequence b.holder.sequence (then_second _ _ two) in
+    let id = equal_numbers a.id b.id (then_second _ _ three) in
+    let kind = equal_numbers a.kind b.kind (then_second _ _ four) in
+    let first = equal_numbers a.first b.first (then_second _ _ five) in
     let name = (numbers_is_eq a.name b.name).0 (ap is_eq (then_second _ _ e)) in
     ap (λ n. made n a.holder.sequence a.id a.kind a.first a.name) number
     ∙ ap (λ n. made b.holder.number n a.id a.kind a.first a.name) sequence

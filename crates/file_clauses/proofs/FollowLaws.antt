@@ -5,7 +5,7 @@ use Rattle.std.proofs.lemmas.List.{drop-map, drop_all, drop_more, get_or_default
 use Rattle.std.proofs.lemmas.List.Sums.{sum_by-cons}
 use Rattle.file_clauses.specs.declared.extents.Extent.{Extent}
 use Rattle.file_clauses.specs.Extents.{Begins, Follow, HaveClusters, clusters_covered, covered_by, outlined}
-use Rattle.file_clauses.proofs.OutlineLaws.{All-unmap}
+use Rattle.list_laws.proofs.PieceLaws.{All-unmap}
 
 -- what stands from a place on
 pub outlines-from : (extents : List Extent) (i : ℕ) (d : Extent) → i < length extents

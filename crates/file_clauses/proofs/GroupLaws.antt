@@ -13,7 +13,8 @@ use Rattle.file_clauses.specs.declared.extents.Held.TheVariants.{InClusters, InR
 use Rattle.file_clauses.specs.Extents.{AreAllWhole, AreInOrder, AreOne, Begins, Follow, HaveClusters, IsWholeInOrder, Outline, clusters_covered, first_of, first_vcn, is_like}
 use Rattle.file_clauses.proofs.OutlineOrderLaws.{like-itself, like-same, like-told}
 use Rattle.file_clauses.proofs.OutlineLaws.{outline_code}
-use Rattle.file_clauses.proofs.SortedLaws.{Apart, Rises, same-sorted}
+use Rattle.list_laws.proofs.SortedLaws.{Apart, Rises, same-sorted}
+use Rattle.list_laws.proofs.BoolLaws.{at_most_one}
 
 -- Those that follow one another rise.
 
@@ -65,19 +66,15 @@ none-at k (x ∷ xs) h =
     let r = none-at k xs (λ i d l. h (suc i) d (omega arith)) in
     omega arith
 
-at-most-one : (b : Bool) → cond b 1 0 ≤ 1
-at-most-one true = omega arith
-at-most-one false = omega arith
-
 follow-apart : (vcn : ℕ) (xs : List Outline) → Follow vcn xs → Full xs → Apart first_vcn xs
 follow-apart vcn [] f full k = omega arith
 follow-apart vcn (x ∷ []) f full k =
     let c = count-cons (λ z. first_vcn z == k) x [] in
-    let one = at-most-one (first_vcn x == k) in
+    let one = at_most_one (first_vcn x == k) in
     omega arith
 follow-apart vcn (x ∷ y ∷ rest) (begins, behind) (some, full) k =
     let c = count-cons (λ z. first_vcn z == k) x (y ∷ rest) in
-    let one = at-most-one (first_vcn x == k) in
+    let one = at_most_one (first_vcn x == k) in
     let later = follow-apart (vcn + clusters_covered x) (y ∷ rest) behind full k in
     elim (cases_lt vcn k) [
       | inl lt ↦
@@ -100,7 +97,7 @@ whole-apart : (xs : List Outline) → IsWholeInOrder xs → Full xs → Apart fi
 whole-apart [] whole full k = omega arith
 whole-apart (x ∷ []) whole full k =
     let c = count-cons (λ z. first_vcn z == k) x [] in
-    let one = at-most-one (first_vcn x == k) in
+    let one = at_most_one (first_vcn x == k) in
     omega arith
 whole-apart (x ∷ y ∷ rest) whole full k = follow-apart 0 (x ∷ y ∷ rest) whole full k
 

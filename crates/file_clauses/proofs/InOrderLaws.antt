@@ -1,11 +1,9 @@
 -- What the tests on extents of one type and name tell, and on a file whose parts stand in one record.
-use Rattle.std.proofs.Common.{◌≡◌, ◌≢◌, ◌↔◌, ◌<◌, ◌≤◌, ◌+◌, ◌-◌, ◌*◌, ℕ, zero, suc, Bool, true, false, List, [], ◌∷◌, ◌++◌, length, map, take, drop, get_or, All, IsTrue, IfSome, Option, Some, None, unwrap_or, refl, sym, ap, subst, inl, inr, ◌∙◌, arith, append-nil}
+use Rattle.std.proofs.Common.{◌≡◌, ◌≢◌, ◌↔◌, ◌<◌, ◌≤◌, ◌+◌, ◌-◌, ◌*◌, ℕ, Bool, true, false, List, [], ◌∷◌, ◌++◌, length, map, take, drop, get_or, All, IsTrue, IfSome, Option, Some, None, unwrap_or, refl, sym, ap, subst, inr, ◌∙◌, arith}
 use Rattle.std.specs.Prelude.{is_none, option_map, sum_by}
 use Rattle.std.specs.Cmp.{IsStrictWeakOrder}
-use Rattle.std.specs.List.{flat_map, range_with_len}
 use Rattle.std.specs.List.Sorted.{IsPermutation, IsSortedBy}
 use Rattle.std.specs.Ordering.{is_lt}
-use Rattle.std.proofs.lemmas.Bool.{cases_eq}
 use Rattle.std.proofs.lemmas.List.{drop-drop, drop-map, get_or-drop, get_or-map, get_or-take, get_or_default, length-drop, length-map, length-take-le, take-append-drop, take-map}
 use Rattle.std.proofs.lemmas.List.Elements.{All-map, Contains-get_or}
 use Rattle.std.proofs.lemmas.List.Sorted.{IsPermutation-map, ranks_by, sorted_far}
@@ -22,7 +20,8 @@ use Rattle.file_clauses.specs.Extents.{AreAllWhole, AreInOrder, AreWholeParts, F
 use Rattle.file_clauses.specs.Groups.{AreSorted, IsGroup}
 use Rattle.file_clauses.proofs.GroupLaws.{AreOne-sorted, group-whole, sorted-AreOne, whole-group}
 use Rattle.file_clauses.proofs.OutlineOrderLaws.{group-alike, group-apart, group-rises, outline_total}
-use Rattle.file_clauses.proofs.OutlineLaws.{All-unmap}
+use Rattle.list_laws.proofs.PieceLaws.{All-unmap}
+use Rattle.list_laws.proofs.FlatMapLaws.{flat_map-one}
 
 -- a fact at a place, whatever is read past the end
 pub at-same : (P : Extent → Type 0) (extents : List Extent) (i k : ℕ) (d e : Extent) → i < length extents → i ≡ k
@@ -150,24 +149,6 @@ moved-outlines extents sorted outlines moved same =
     (SameItems-permutation (map outlined extents) (map outlined sorted) (IsPermutation-map outlined extents sorted moved))) same
 
 -- A file in one record.
-
-flat_map-nil : {A : Type 0} (g : ℕ → List A) (from n : ℕ) → ((m : ℕ) → from ≤ m → g m ≡ []) → flat_map g (range_with_len from n) ≡ []
-flat_map-nil g from zero none = refl
-flat_map-nil g from (suc n) none =
-    ap (λ ys. ys ++ flat_map g (range_with_len (from + 1) n)) (none from (omega arith))
-    ∙ flat_map-nil g (from + 1) n (λ m low. none m (omega arith))
-
-flat_map-one : {A : Type 0} (g : ℕ → List A) (from n k : ℕ) → from ≤ k → k < from + n → ((m : ℕ) → m ≢ k → g m ≡ [])
-    → flat_map g (range_with_len from n) ≡ g k
-flat_map-one g from zero k low high none = absurd (omega arith)
-flat_map-one g from (suc n) k low high none = elim (cases_eq from k) [
-  | inl e ↦
-      ap (λ ys. g from ++ ys) (flat_map-nil g (from + 1) n (λ m above. none m (λ same. absurd (omega arith))))
-      ∙ append-nil (g from) ∙ ap g e
-  | inr ne ↦
-      ap (λ ys. ys ++ flat_map g (range_with_len (from + 1) n)) (none from ne)
-      ∙ flat_map-one g (from + 1) n k (omega arith) (omega arith) none
-]
 
 pub based-here : (n : ℕ) (base : Option Reference) → IsTrue (is_none base) → unwrap_or (option_map (λ (b : Reference). b.number) base) n ≡ n
 based-here n None none = refl

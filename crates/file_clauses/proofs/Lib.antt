@@ -5,6 +5,5 @@ pub mod GroupLaws
 pub mod InOrderLaws
 pub mod OutlineLaws
 pub mod OutlineOrderLaws
-pub mod SortedLaws
 pub mod TotalLaws
 pub mod WantedLaws

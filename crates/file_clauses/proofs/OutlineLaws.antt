@@ -4,7 +4,7 @@ use Rattle.std.specs.Prelude.{IfSome, IsSome, IsSomeAnd, filter, sum_by}
 use Rattle.std.specs.Coded.{Coded, code_by, coded×, coded_ℕ, coded_list, coded_option}
 use Rattle.std.proofs.lemmas.Bool.{cases_Bool}
 use Rattle.std.proofs.lemmas.List.{length-map}
-use Rattle.std.proofs.lemmas.List.Elements.{All-contains, All-map}
+use Rattle.std.proofs.lemmas.List.Elements.{All-map}
 use Rattle.std.proofs.lemmas.List.Sums.{sum_by-cons}
 use Rattle.ntfs_def.specs.declared.kinds.TheConstants.{FILE_NAME}
 use Rattle.ntfs_def.specs.Runs.{total_clusters}
@@ -12,12 +12,12 @@ use Rattle.volume_def.specs.ExtentsClause.{AreAttribute, AreWhole, BeginsAt, Fit
 use Rattle.volume_def.specs.Files.{all_covered}
 use Rattle.volume_def.specs.Files.{Clusters, Content, Part, Value, content_extent, content_runs, content_value, is_of, part_clusters, parts_like}
 use Rattle.list_laws.specs.SameItems.{SameItems}
-use Rattle.volume_def.proofs.CodedLaws.{SameItems-All, SameItems-lifted}
-use Rattle.list_laws.proofs.MemberLaws.{All-from_Contains, Contains-map}
+use Rattle.list_laws.proofs.CodedLaws.{SameItems-All, SameItems-lifted}
 use Rattle.list_laws.proofs.SameItemsLaws.{SameItems-filter, SameItems-map, SameItems-sym, SameItems-trans}
 use Rattle.file_clauses.specs.declared.extents.Held.{Held}
 use Rattle.file_clauses.specs.declared.extents.Held.TheVariants.{InClusters, InRecord}
 use Rattle.file_clauses.specs.Extents.{AreAllWhole, AreInOrder, AreOne, AreWholeParts, Begins, FitsFirst, Follow, HasFitSizes, HaveClusters, IsInRecord, IsWholeInOrder, Outline, clusters_covered, covered_by, held_of, is_like, outline_of}
+use Rattle.list_laws.proofs.PieceLaws.{All-unmap}
 
 -- Outlines are told apart.
 
@@ -131,9 +131,6 @@ sizes-held bytes flags (Clusters extent runs) fits = fits
 held-sizes : (bytes flags : ℕ) (content : Content) → FitsFirst bytes flags (held_of content) → TellsSizes bytes flags content
 held-sizes bytes flags (Value value) fits = tt
 held-sizes bytes flags (Clusters extent runs) fits = fits
-
-pub All-unmap : {A B : Type 0} (g : A → B) (P : B → Type 0) (xs : List A) → All P (map g xs) → All (λ x. P (g x)) xs
-All-unmap g P xs all = All-from_Contains (λ x. P (g x)) xs (λ x c. All-contains P (map g xs) (g x) all (Contains-map g xs x c))
 
 -- An attribute, in parts and in outlines.
 

@@ -1,11 +1,11 @@
 -- The order of outlines: those of one type and name stand together, and rise.
-use Rattle.std.proofs.Common.{◌≡◌, ◌<◌, ◌≤◌, ◌+◌, ◌-◌, ◌==◌, ◌&&◌, ℕ, true, false, List, length, take, drop, get_or, All, Ordering, refl, sym, ap, inl, inr, ◌∙◌, arith, eq-eqb}
-use Rattle.std.specs.declared.cmp.Ordering.TheVariants.{Less, Equal, Greater}
+use Rattle.std.proofs.Common.{◌≡◌, ◌<◌, ◌≤◌, ◌+◌, ◌-◌, ◌==◌, ◌&&◌, ℕ, true, false, List, length, take, drop, get_or, All, refl, sym, ap, inl, inr, ◌∙◌, arith, eq-eqb}
+use Rattle.std.specs.declared.cmp.Ordering.TheVariants.{Equal}
 use Rattle.std.specs.Cmp.{IsTotalOrder}
-use Rattle.std.specs.Ordering.{ordering_reverse, is_eq, is_gt, is_lt, nat_cmp, ordering_then}
+use Rattle.std.specs.Ordering.{is_eq, is_gt, is_lt, nat_cmp, ordering_then}
 use Rattle.std.specs.Str.{bytes_eq}
 use Rattle.std.proofs.lemmas.Bool.{and_from, and_parts, cases_Bool, eqb-true}
-use Rattle.std.proofs.lemmas.Cmp.{by_ranked, nat_cmp_total, nat_list_cmp_total, on_total, ranked, then_total, tied_itself, upto}
+use Rattle.std.proofs.lemmas.Cmp.{nat_cmp_total, nat_list_cmp_total, on_total, then_total, tied_itself, upto}
 use Rattle.std.proofs.lemmas.List.{get_or-drop, get_or-take, length-drop, length-take-le}
 use Rattle.std.proofs.lemmas.List.Elements.{All-from_get_or}
 use Rattle.std.proofs.lemmas.Slice.Eq.{bytes_eq-Decides}
@@ -13,7 +13,8 @@ use Rattle.ntfs_def.specs.KeyOrder.{by_numbers}
 use Rattle.ntfs_def.proofs.KeyOrderLaws.{numbers_is_eq}
 use Rattle.file_clauses.specs.Extents.{Outline, first_vcn, group_order, is_like, outline_order}
 use Rattle.file_clauses.specs.Groups.{AreSorted, IsGroup}
-use Rattle.file_clauses.proofs.SortedLaws.{Rises}
+use Rattle.list_laws.proofs.SortedLaws.{Rises}
+use Rattle.list_laws.proofs.OrderLaws.{equal_numbers, neither, numbers_upto, reversed, then_first, then_lt, then_second, then_tied}
 
 -- One type and name.
 
@@ -54,51 +55,13 @@ like-tied outline other like =
     ∙ ap (λ n. ordering_then (nat_cmp outline.kind outline.kind) (by_numbers n outline.name)) like.name
     ∙ tied_itself group_total outline
 
-pub then_first : (a b : Ordering) → ordering_then a b ≡ Equal → a ≡ Equal
-then_first Less b e = let f : Less ≡ Equal = e in absurd (cc)
-then_first Equal b e = refl
-then_first Greater b e = let f : Greater ≡ Equal = e in absurd (cc)
-
-pub then_second : (a b : Ordering) → ordering_then a b ≡ Equal → b ≡ Equal
-then_second Less b e = let f : Less ≡ Equal = e in absurd (cc)
-then_second Equal b e = e
-then_second Greater b e = let f : Greater ≡ Equal = e in absurd (cc)
-
-pub numbers_equal : (x y : ℕ) → nat_cmp x y ≡ Equal → x ≡ y
-numbers_equal x y e = by_ranked (x < y) (x ≡ y) (y < x) (nat_cmp x y) (ranked x y (nat_cmp x y) refl)
-    (λ f h. let g : Less ≡ Equal = sym f ∙ e in absurd (cc)) (λ f h. h) (λ f h. let g : Greater ≡ Equal = sym f ∙ e in absurd (cc))
-
 -- tied, they are alike
 tied-like : (outline other : Outline) → group_order other outline ≡ Equal → AreLike outline other
 tied-like outline other e = record {
-  kind = numbers_equal other.kind outline.kind (then_first _ _ e);
+  kind = equal_numbers other.kind outline.kind (then_first _ _ e);
   name = (numbers_is_eq other.name outline.name).0 (ap is_eq (then_second (nat_cmp other.kind outline.kind)
       (by_numbers other.name outline.name) e));
 }
-
-then_lt : (a b : Ordering) → is_lt (ordering_then a b) ≡ false → is_lt a ≡ false
-then_lt Less b e = e
-then_lt Equal b e = refl
-then_lt Greater b e = refl
-
-then_tied : (a b : Ordering) → a ≡ Equal → is_lt (ordering_then a b) ≡ false → is_lt b ≡ false
-then_tied Less b t e = absurd (cc)
-then_tied Equal b t e = e
-then_tied Greater b t e = absurd (cc)
-
-numbers_upto : (x y : ℕ) → is_lt (nat_cmp y x) ≡ false → x ≤ y
-numbers_upto x y e = by_ranked (y < x) (y ≡ x) (x < y) (nat_cmp y x) (ranked y x (nat_cmp y x) refl)
-    (λ f h. let t : is_lt (nat_cmp y x) ≡ true = ap is_lt f in absurd (cc)) (λ f h. omega arith) (λ f h. omega arith)
-
-reversed : (a b : Ordering) → a ≡ ordering_reverse b → is_lt b ≡ false → is_gt a ≡ false
-reversed a Less e f = absurd (cc)
-reversed a Equal e f = ap is_gt e
-reversed a Greater e f = ap is_gt e
-
-neither : (a b : Ordering) → a ≡ ordering_reverse b → is_gt a ≡ false → is_gt b ≡ false → b ≡ Equal
-neither a Less e f g = let t : is_gt a ≡ true = ap is_gt e in absurd (cc)
-neither a Equal e f g = refl
-neither a Greater e f g = absurd (cc)
 
 -- what stands between two that are alike is like them
 between-like : (x y z : Outline) → is_lt (outline_order y x) ≡ false → is_lt (outline_order z y) ≡ false → AreLike x z → AreLike x y

@@ -2,17 +2,17 @@
 use Rattle.std.proofs.Common.{inl, inr, ◌≡◌, ℕ, ◌+◌, ◌<◌, ◌≤◌, List, [], ◌∷◌, length, take, get_or, slice_get, Some, refl, sym, ap, ◌∙◌, arith, length-append, append-nil}
 use Rattle.std.specs.List.{flat_map}
 use Rattle.std.proofs.lemmas.List.{take_more, take_all, length-map}
-use Rattle.std.proofs.lemmas.List.Concat.{flat_map-append, get_or-flat_map}
-use Rattle.std.proofs.lemmas.List.Folds.{length-flat_map-take}
+use Rattle.std.proofs.lemmas.List.Concat.{flat_map-append}
 use Rattle.std.specs.Option.{option_map}
 use Rattle.std.proofs.lemmas.Bool.{cases_lt}
-use Rattle.std.proofs.lemmas.Option.{slice_get-get_or, slice_get_within, get_or_from_slice_get, slice_get-map}
+use Rattle.std.proofs.lemmas.Option.{slice_get-map}
 use Rattle.ntfs_def.specs.Attribute.{Attribute, attributes}
 use Rattle.ntfs_def.proofs.AttributeLaws.{length-attributes}
 use Rattle.ntfs_def.proofs.ShapeLaws.{HasShape-few, header_failing-length}
 use Rattle.volume_def.specs.Files.{part_of}
 use Rattle.file_record.specs.declared.held.Held.{Held}
 use Rattle.file_record.specs.Held.{attributes_in, parts_of}
+use Rattle.list_laws.proofs.FlatMapLaws.{slice_get-flat_map}
 
 -- one record more
 pub length-more : (held : List Held) (k : ℕ) (d : Held) → k < length held
@@ -38,21 +38,12 @@ length-parts (one ∷ held) =
     ∙ ap (λ n. length (attributes one.block) + n) (length-parts held)
     ∙ sym (length-append (attributes_in one) (flat_map attributes_in held))
 
--- an element of one of the pieces, in the whole
-piece-at : {X A : Type 0} (f : X → List A) (xs : List X) (k j : ℕ) (e : X) (a : A) → k < length xs
-    → slice_get (f (get_or xs k e)) j ≡ Some a → slice_get (flat_map f xs) (length (flat_map f (take k xs)) + j) ≡ Some a
-piece-at f xs k j e a inside read =
-    let within = slice_get_within (f (get_or xs k e)) j a read in
-    let fits = length-flat_map-take f xs k e inside in
-    slice_get-get_or (flat_map f xs) (length (flat_map f (take k xs)) + j) a (omega arith)
-    ∙ ap (λ x. Some x) (get_or-flat_map f xs k j e a inside within ∙ get_or_from_slice_get (f (get_or xs k e)) j a a read)
-
 -- an attribute of a record that is held
 pub attribute-at : (held : List Held) (k left i : ℕ) (e : Held) (a : Attribute) → k < length held
     → i ≡ length (flat_map attributes_in (take k held)) + left → slice_get (attributes_in (get_or held k e)) left ≡ Some a
     → slice_get (flat_map attributes_in held) i ≡ Some a
 attribute-at held k left i e a inside place read =
-    ap (slice_get (flat_map attributes_in held)) place ∙ piece-at attributes_in held k left e a inside read
+    ap (slice_get (flat_map attributes_in held)) place ∙ slice_get-flat_map attributes_in held k left e a inside read
 
 -- the part that it is
 pub part-at : (held : List Held) (k left i : ℕ) (e : Held) (a : Attribute) → k < length held
@@ -61,7 +52,7 @@ pub part-at : (held : List Held) (k left i : ℕ) (e : Held) (a : Attribute) →
 part-at held k left i e a inside place read =
     let one = get_or held k e in
     ap (slice_get (flat_map parts_of held)) (place ∙ ap (λ n. n + left) (sym (length-parts (take k held))))
-    ∙ piece-at parts_of held k left e (part_of one.number a) inside
+    ∙ slice_get-flat_map parts_of held k left e (part_of one.number a) inside
     (slice_get-map (part_of one.number) (attributes one.block) left ∙ ap (option_map (part_of one.number)) read)
 
 -- a place among the attributes lies in one of the records

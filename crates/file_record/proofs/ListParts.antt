@@ -1,8 +1,8 @@
 -- The value of the list that a part holds.
-use Rattle.std.proofs.Common.{◌≡◌, ◌&&◌, ℕ, ◌+◌, ◌-◌, ◌/◌, ◌%◌, ◌≤◌, Bool, true, false, cond, ltb, leb, List, [], ◌∷◌, length, map, Some, None, refl, sym, ap, inl, inr, ◌∙◌, arith}
-use Rattle.std.specs.Prelude.{find, unwrap_or}
+use Rattle.std.proofs.Common.{◌≡◌, ◌&&◌, ℕ, ◌+◌, ◌-◌, ◌/◌, ◌%◌, ◌≤◌, true, false, cond, ltb, leb, List, [], ◌∷◌, length, map, Some, refl, sym, ap, inl, inr, ◌∙◌, arith}
+use Rattle.std.specs.Prelude.{unwrap_or}
 use Rattle.std.specs.List.{range_with_len}
-use Rattle.std.proofs.lemmas.Bool.{cases_lt, cond-false, cond-true, eq-eqb, le-ltb}
+use Rattle.std.proofs.lemmas.Bool.{cases_lt, eq-eqb, le-ltb}
 use Rattle.std.proofs.lemmas.List.FromFn.{length-map-range_with_len}
 use Rattle.ntfs_def.specs.declared.run_text.Run.{Run}
 use Rattle.ntfs_def.specs.Attribute.{ExtentHeader}
@@ -15,13 +15,7 @@ use Rattle.volume_def.specs.View.{VolumeView}
 use Rattle.volume_def.proofs.ExtentLaws.{holds-here}
 use Rattle.list_laws.proofs.MemberLaws.{map_agree}
 use Rattle.volume_def.proofs.RunPieces.{spot_of-behind}
-
--- what is sought in a list of one
-find-yes : {X : Type 0} (p : X → Bool) (x : X) → p x ≡ true → find p (x ∷ []) ≡ Some x
-find-yes p x passes = cond-true (p x) (Some x) None passes
-
-find-not : {X : Type 0} (p : X → Bool) (x : X) → p x ≡ false → find p (x ∷ []) ≡ None
-find-not p x fails = cond-false (p x) (Some x) None fails
+use Rattle.list_laws.proofs.FindLaws.{find-not, find-yes}
 
 -- a list in the record is its value
 pub list_value-resident : (view : VolumeView) (part : Part) (value : List ℕ) → part.content ≡ Value value → list_value view part ≡ value

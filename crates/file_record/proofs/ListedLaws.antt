@@ -1,9 +1,8 @@
 -- What an attribute list adds to the numbers that are read.
-use Rattle.std.proofs.Common.{◌≡◌, ℕ, ◌+◌, ◌-◌, ◌≤◌, Bool, true, false, cond, List, length, length-drop, map, drop, min, Option, Some, None, IsSome, refl, sym, ap, subst, ◌∙◌, arith}
-use Rattle.std.specs.Prelude.{IfSome, IsTrue, is_some, slice_range}
+use Rattle.std.proofs.Common.{◌≡◌, ℕ, ◌+◌, ◌≤◌, Bool, true, false, cond, List, length, map, min, Some, IsSome, sym, ap, subst, ◌∙◌, arith}
+use Rattle.std.specs.Prelude.{IfSome, IsTrue, is_some}
 use Rattle.std.specs.List.{range_with_len}
 use Rattle.std.specs.Option.{option_map}
-use Rattle.std.proofs.lemmas.List.{length-take}
 use Rattle.std.proofs.lemmas.Option.{same_Some}
 use Rattle.std.proofs.lemmas.Bool.{cond-false}
 use Rattle.ntfs_def.specs.declared.run_text.Run.{Run}
@@ -19,9 +18,8 @@ use Rattle.volume_def.specs.View.{VolumeView}
 use Rattle.file_record.specs.Numbers.{AddsListed, AddsNamed, named_in}
 use Rattle.file_record.specs.Records.{list_reads}
 use Rattle.file_record.proofs.ListParts.{length-list_value, list_value-clusters, list_value-resident}
-
-slice_range-short : (xs : List ℕ) (i j : ℕ) → length (slice_range xs i j) ≤ length xs
-slice_range-short xs i j = omega (arith, length-take (j - i) (drop i xs), length-drop i xs)
+use Rattle.list_laws.proofs.PieceLaws.{slice_range-short}
+use Rattle.list_laws.proofs.OptionLaws.{some-is}
 
 value-within : (b : Bool) (block content : List ℕ) (extent : ExtentHeader) (value : List ℕ) → length content ≤ length block
     → value_of (cond b (Resident content) (NonResident extent content)) ≡ Some value → length value ≤ length block
@@ -74,10 +72,6 @@ pub record IsListOf (view : VolumeView) (part : Part) (sizes : Sizes) (text : Li
   pub value : list_value view part
       ≡ map (value_byte view.cluster (cluster_bytes view.layout) (spot_of runs) sizes.initialized) (range_with_len 0 sizes.real)
   pub reads : list_reads view part ≡ pieces_touched 0 (min sizes.real most_list_len)
-
-some-is : {X : Type 0} (o : Option X) → IsSome o → (x : X) × (o ≡ Some x)
-some-is None h = cc
-some-is (Some x) h = (x, refl)
 
 listed-at : (view : VolumeView) (part : Part) (extent : ExtentHeader) (text : List ℕ) → part.content ≡ Clusters extent (runs_in text)
     → IsReadableList view part → IsListOf view part extent.sizes text

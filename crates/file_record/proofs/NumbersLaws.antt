@@ -7,15 +7,16 @@ use Rattle.std.proofs.lemmas.List.Elements.{All-contains}
 use Rattle.volume_def.specs.Members.{HoldsPart}
 use Rattle.volume_def.specs.Files.{Part, Record, file_of, parts, parts_in, record_on, records_of}
 use Rattle.volume_def.specs.View.{VolumeView}
-use Rattle.list_laws.proofs.FindLaws.{count-some}
+use Rattle.list_laws.proofs.FindLaws.{count-some, count-others}
 use Rattle.list_laws.proofs.MemberLaws.{Contains-range, nil-from_Contains}
 use Rattle.volume_def.proofs.RecordLaws.{parts_in-other, parts_in-own, parts_in-unused}
 use Rattle.volume_def.proofs.PartLaws.{Contains-HoldsPart, NameHolders-view}
 use Rattle.file_record.specs.Numbers.{AreNumbers, RiseFrom}
 use Rattle.file_record.specs.Records.{IsRecordOf, belongs, records_of_file}
 use Rattle.file_record.proofs.CoverLaws.{Covers}
-use Rattle.file_record.proofs.RecordLaws.{IsRecordOf-inside, some-value}
-use Rattle.file_record.proofs.RiseLaws.{RiseFrom-count, RiseFrom-of, count-others, flat_map-rising}
+use Rattle.file_record.proofs.RecordLaws.{IsRecordOf-inside}
+use Rattle.list_laws.proofs.OptionLaws.{some-value}
+use Rattle.file_record.proofs.RiseLaws.{RiseFrom-count, RiseFrom-of, flat_map-rising}
 
 belongs-own : (view : VolumeView) (f n : ℕ) → IsRecordOf view f n → belongs f n (record_on view n) ≡ true
 belongs-own view f n own =

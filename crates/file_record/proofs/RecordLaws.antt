@@ -14,6 +14,7 @@ use Rattle.volume_def.specs.Readable.{IsFile, IsReadableVolume}
 use Rattle.volume_def.specs.View.{VolumeView}
 use Rattle.file_record.proofs.OpenedRecords.{is_in_use-opened_of}
 use Rattle.file_record.specs.Records.{IsBlockOf, IsRecordOf}
+use Rattle.list_laws.proofs.OptionLaws.{some-value}
 
 -- a block of a record's shape is in use where the opened one is
 in_use-opened : (stored : List ℕ) (count : ℕ) → HasShape (opened_of stored) count → is_in_use (opened_of stored) ≡ is_in_use stored
@@ -36,11 +37,6 @@ pub record_at-used : (view : VolumeView) (n : ℕ) → n < view.layout.count →
     → record_on view n ≡ Some (record_of n (opened_of (view.block n)))
 record_at-used view n inside used =
     ap (λ b. cond b (record_in n (view.block n)) None) (lt-ltb n view.layout.count inside) ∙ record_in-used n (view.block n) used
-
--- what is some has a value
-pub some-value : {X : Type 0} (o : Option X) (P : X → Type 0) → IsSomeAnd o P → (x : X) × (o ≡ Some x) × P x
-some-value None P h = absurd h
-some-value (Some x) P h = (x, refl, h)
 
 used_in : (n : ℕ) (stored : List ℕ) (r : Record) → record_in n stored ≡ Some r → IsTrue (is_in_use stored)
 unfolding record_in

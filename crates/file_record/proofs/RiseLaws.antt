@@ -1,9 +1,8 @@
 -- Numbers that rise.
-use Rattle.std.proofs.Common.{◌≡◌, ◌==◌, ◌<◌, ◌≤◌, ◌+◌, ℕ, zero, suc, Bool, true, false, cond, not, List, [], ◌∷◌, ◌++◌, length, get_or, refl, sym, ap, subst, inl, inr, ◌∙◌, arith}
-use Rattle.std.proofs.lemmas.Bool.{cases_eq, eq-eqb}
-use Rattle.std.proofs.lemmas.List.Sums.{count_by-le-length}
+use Rattle.std.proofs.Common.{◌≡◌, ◌<◌, ◌≤◌, ◌+◌, ℕ, zero, suc, Bool, true, List, [], ◌∷◌, ◌++◌, length, get_or, refl, sym, ap, subst, inl, inr, ◌∙◌, arith}
+use Rattle.std.proofs.lemmas.Bool.{cases_eq}
 use Rattle.std.specs.List.{Contains, count_by, flat_map, range_with_len}
-use Rattle.list_laws.proofs.FindLaws.{count-cons, count-no, count-yes}
+use Rattle.list_laws.proofs.FindLaws.{count-cons, count-yes}
 use Rattle.list_laws.proofs.MemberLaws.{Contains-cases, Contains-later, Contains-nil}
 use Rattle.file_record.specs.Numbers.{RiseFrom}
 
@@ -66,16 +65,4 @@ RiseFrom-count p from (suc n) end (m ∷ numbers) is (a, b, rising) each = elim 
   | inr ne ↦
       let rest = RiseFrom-count p (from + 1) n end (m ∷ numbers) (omega arith) (omega arith, b, rising) each in
       let c = count-cons p from (range_with_len (from + 1) n) in omega arith
-]
-
--- all but this number
-pub count-others : (numbers : List ℕ) (n : ℕ) → Contains numbers n → count_by (λ m. not (m == n)) numbers + 1 ≤ length numbers
-count-others [] n c = absurd (Contains-nil n c)
-count-others (m ∷ numbers) n c = elim (Contains-cases m numbers n c) [
-  | inl e ↦
-      let s = count-no (λ y. not (y == n)) m numbers (ap not (eq-eqb m n e)) in
-      let t = count_by-le-length (λ y. not (y == n)) numbers in omega arith
-  | inr later ↦ let rest = count-others numbers n later in let s = count-cons (λ y. not (y == n)) m numbers in
-      elim (not (m == n)) as (λ b. count_by (λ y. not (y == n)) (m ∷ numbers) ≡ cond b 1 0 + count_by (λ y. not (y == n)) numbers
-      → count_by (λ y. not (y == n)) (m ∷ numbers) + 1 ≤ length (m ∷ numbers)) [ true ↦ λ s. omega arith | false ↦ λ s. omega arith ] s
 ]

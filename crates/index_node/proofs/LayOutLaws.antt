@@ -8,7 +8,7 @@ use Rattle.std.proofs.lemmas.List.{get_or-take, get_or-drop}
 use Rattle.std.proofs.lemmas.List.Elements.{All-nil, All-cons, All-head, All-tail}
 use Rattle.std.specs.Option.{option_and_then}
 use Rattle.std.proofs.lemmas.Grind.{same_number_lists}
-use Rattle.std.proofs.lemmas.Bool.{cases_order, le-leb, leb-true}
+use Rattle.std.proofs.lemmas.Bool.{cases_order, le-leb, leb-true, and_parts}
 use Rattle.std.proofs.lemmas.List.Sums.{sum_by-cons}
 use Rattle.vol_bytes.specs.Field.{SameOutside, u16_at, u32_at, u64_at}
 use Rattle.vol_bytes.proofs.FieldLaws.{u16_at-same, u32_at-same}
@@ -19,6 +19,7 @@ use Rattle.ntfs_def.specs.declared.index.NodeForm.{NodeForm}
 use Rattle.ntfs_def.specs.declared.index.NodeForm.TheVariants.{Names, View}
 use Rattle.index_node.proofs.NodeLaws.{are_short-is, short_next, u16_within, u64_within, item_in-own, entry_whole, flag_is, scan_at_entry, scan_at_last, scan_node-is, child_at-some, child_at-none}
 use Rattle.index_node.specs.LayOut.{AreEntries, AreEntriesFrom, AreShort, HoldsPieces, KeepsHeader, SetsHeader, node_from, node_listed, total_len, with_entry}
+use Rattle.list_laws.proofs.BoolLaws.{true_if}
 
 -- The bytes that entries take, where they fit.
 pub need_is : (total need free room first : ℕ) → need ≡ min total (2 ^ 64 - 1) → need ≤ free → free ≡ room - first → room < 2 ^ 33
@@ -241,9 +242,6 @@ scan_listed form node children end entry (next ∷ entries) (suc most) at few ea
     (entry_eq (item_moved node entry at holds.0 children end long (entry_whole form node children end at is) facts.0)
     (child_moved node entry at holds.0 children facts.1 facts.0))
 
-and_parts : (a b : Bool) → (a && b) ≡ true → (a ≡ true) × (b ≡ true)
-and_parts a b h = search rules
-
 -- The entries of the node are short exactly where the pieces are.
 short_listed : (form : NodeForm) (node : List ℕ) (children : Bool) (most at : ℕ) (entry : List ℕ) (entries : List (List ℕ))
     → AreEntriesFrom form children entry entries → HoldsPieces node at (entry ∷ entries)
@@ -290,10 +288,6 @@ listed_short form node children most at entry (next ∷ entries) each holds shor
 pub node_header-same : (old new : List ℕ) → length new ≡ length old → node_header new ≡ node_header old
 unfolding node_header
 node_header-same old new len = ap (λ n. if n == 4096 then 0x18 else 0x10) len
-
-true_if : (b x : Bool) → (if b then x else true) ≡ true → b ≡ true → x ≡ true
-true_if true x h e = h
-true_if false x h e = let f : false ≡ true = e in absurd (cc)
 
 six_right : (p1 p2 p3 p4 p5 p6 : ℕ) {b1 b2 b3 b4 b5 b6 : Bool} → b1 ≡ true → b2 ≡ true → b3 ≡ true → b4 ≡ true → b5 ≡ true → b6 ≡ true
     → first_failing ((b1, p1) ∷ (b2, p2) ∷ (b3, p3) ∷ (b4, p4) ∷ (b5, p5) ∷ (b6, p6) ∷ []) ≡ None

@@ -1,41 +1,24 @@
 -- Whether an index record is there, as a test and as the volume definition says it.
-use Rattle.std.proofs.Common.{◌≡◌, ◌≢◌, ℕ, ◌+◌, ◌-◌, ◌*◌, ◌/◌, ◌%◌, ◌<◌, ◌≤◌, leb, true, false, not, Bool, List, length, Some, None, cond, inl, inr, refl, sym, ap, subst, ◌∙◌, arith}
+use Rattle.std.proofs.Common.{◌≡◌, ◌≢◌, ℕ, ◌+◌, ◌-◌, ◌*◌, ◌/◌, ◌%◌, ◌<◌, ◌≤◌, true, false, not, List, length, Some, None, cond, inl, inr, refl, sym, ap, subst, ◌∙◌, arith}
 use Rattle.std.specs.Prelude.{◌==◌, IsSome}
 use Rattle.std.specs.Bool.{Decides}
 use Rattle.std.specs.List.{list_all, range_with_len}
 use Rattle.std.proofs.Math.Nat.{le-div_iff_mul-le}
-use Rattle.std.proofs.lemmas.Bool.{cases_Bool, le-leb, leb-true}
+use Rattle.std.proofs.lemmas.Bool.{cases_Bool}
 use Rattle.std.proofs.lemmas.Bool.Decides.{Decides-and, Decides-eqb, Decides-like, Decides-ltb}
-use Rattle.std.proofs.lemmas.List.Elements.{All-contains}
-use Rattle.std.proofs.lemmas.List.FromFn.{get_or-range_with_len, length-range_with_len}
-use Rattle.std.proofs.lemmas.List.Sums.{AllPass-from_list_all, list_all-from_AllPass}
 use Rattle.vol_bytes.specs.Field.{u16_at}
 use Rattle.ntfs_def.specs.declared.run_text.Spot.{Spot}
 use Rattle.ntfs_def.specs.declared.run_text.Spot.TheVariants.{Outside, Hole, At}
 use Rattle.ntfs_def.specs.Fixup.{EndsWithNumber, IsSealed, array_count, array_end, array_place, opened_of, sequence_number, stride_count, stride_end}
-use Rattle.ntfs_def.specs.Bits.{bit_in}
+use Rattle.list_laws.specs.Bits.{bit_in}
 use Rattle.ntfs_def.specs.Node.{own_vcn}
 use Rattle.volume_def.specs.Files.{Part}
 use Rattle.volume_def.specs.IndexesClause.{IndexParts, IsIndexRecordAt, stored_index_record}
 use Rattle.volume_def.specs.Table.{cluster_bytes}
 use Rattle.volume_def.specs.Values.{spot_at, value_on}
 use Rattle.volume_def.specs.View.{VolumeView}
-use Rattle.list_laws.proofs.MemberLaws.{Contains-range}
 use Rattle.index_store.specs.IndexRecords.{AreRecordsOf, are_placed, index_record_on, is_hole, is_index_record_at, is_sealed, record_clusters}
-
--- a test of all numbers below n
-tests-below : (p : ℕ → Bool) (n : ℕ) → Decides (list_all p (range_with_len 0 n)) ((k : ℕ) → k < n → p k ≡ true)
-tests-below p n = (
-  λ all k lt.
-      All-contains (λ x. p x ≡ true) (range_with_len 0 n) k (AllPass-from_list_all p (range_with_len 0 n) all)
-      (Contains-range 0 n k (omega arith) (omega arith)),
-  λ each. list_all-from_AllPass p (range_with_len 0 n) (λ i d lt.
-      let inside : i < n = omega (arith, length-range_with_len 0 n) in
-      subst (λ x. p x ≡ true) (sym (get_or-range_with_len 0 n i d inside)) (each (0 + i) (omega arith))),
-)
-
-Decides-le : (a b : ℕ) → Decides (leb a b) (a ≤ b)
-Decides-le a b = (leb-true a b, le-leb a b)
+use Rattle.list_laws.proofs.BoolLaws.{Decides-le, tests-below}
 
 -- Blocks.
 

@@ -1,11 +1,9 @@
 -- What the steps of the read of an index record tell, and the record.
 use Rattle.std.proofs.Common.{◌≡◌, ℕ, ◌+◌, ◌*◌, ◌/◌, ◌%◌, ◌<◌, ◌≤◌, true, false, Bool, List, length, Some, None, sym, ap, ◌∙◌, arith}
 use Rattle.std.specs.Prelude.{◌==◌}
-use Rattle.std.specs.Int.{bit_at}
 use Rattle.std.proofs.lemmas.Bool.{eq-eqb, eqb-true}
-use Rattle.std.proofs.lemmas.List.{get_or_past}
 use Rattle.std.proofs.lemmas.Nat.Bits.{bit_at-zero}
-use Rattle.ntfs_def.specs.Bits.{bit_in}
+use Rattle.list_laws.specs.Bits.{bit_in}
 use Rattle.volume_def.specs.Files.{Part}
 use Rattle.volume_def.specs.IndexesClause.{IndexParts, stored_index_record}
 use Rattle.volume_def.specs.Table.{cluster_bytes}
@@ -74,7 +72,3 @@ pub no-bit : (view : VolumeView) (extents : List Part) (number : ℕ) → first_
     → false ≡ (bit_in (value_on view extents) number == 1)
 no-bit view extents number none =
     sym (ap (λ bytes. bit_in bytes number == 1) (no-value view extents none) ∙ ap (λ b. b == 1) (bit_at-zero (number % 8)))
-
-pub bit-behind : (bytes : List ℕ) (number : ℕ) → length bytes ≤ number / 8 → false ≡ (bit_in bytes number == 1)
-bit-behind bytes number past =
-    sym (ap (λ byte. bit_at byte (number % 8) == 1) (get_or_past bytes (number / 8) 0 past) ∙ ap (λ b. b == 1) (bit_at-zero (number % 8)))

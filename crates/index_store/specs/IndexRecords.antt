@@ -5,7 +5,7 @@ use Rattle.vol_bytes.specs.Field.{u16_at}
 use Rattle.ntfs_def.specs.declared.lengths.TheConstants.{INDEX_RECORD}
 use Rattle.ntfs_def.specs.declared.run_text.Spot.{Spot}
 use Rattle.ntfs_def.specs.declared.run_text.Spot.TheVariants.{Outside, Hole, At}
-use Rattle.ntfs_def.specs.Bits.{bit_in}
+use Rattle.list_laws.specs.Bits.{bit_in}
 use Rattle.ntfs_def.specs.Fixup.{IsSealed, array_count, array_end, array_place, opened_of, sequence_number, stride_count, stride_end}
 use Rattle.ntfs_def.specs.Node.{own_vcn}
 use Rattle.volume_def.specs.Files.{Part}

@@ -1,13 +1,8 @@
 -- Laws of index trees: a node of a tree by one of its places, and that an index has one walk.
-use Rattle.std.proofs.Common.{◌≡◌, ℕ, zero, suc, ◌+◌, List, [], ◌∷◌, ◌++◌, Option, Some, None, map, refl, sym, ap, ◌∙◌, arith, append_assoc, append-nil}
+use Rattle.std.proofs.Common.{◌≡◌, ℕ, zero, suc, ◌+◌, List, [], ◌∷◌, ◌++◌, Option, map, refl, sym, ap, ◌∙◌, arith, append_assoc, append-nil}
 use Rattle.ntfs_def.specs.Node.{Item, Entry, Node, child_from}
 use Rattle.ntfs_def.specs.IndexTree.{Nodes, Branch, Spread, Tree, Each, EachBelow, branch_items, branch_times, child_of, entry_of, node_of, items_of, IsStored, HoldsIndex, Walks, spread_items}
-
-pub some_same : {X : Type 0} {a b : X} → Some a ≡ Some b → a ≡ b
-some_same e = cc
-
-pub none_other : {X : Type 0} {a : X} → None ≡ Some a → ⊥
-none_other e = cc
+use Rattle.list_laws.proofs.OptionLaws.{none_other, some_same}
 
 -- Lists of which each element has a property.
 module _ {X : Type 0} (P : X → Type 0) where

@@ -10,23 +10,19 @@ use Rattle.ntfs_def.specs.Node.{Item, Entry, Node, Whole, scan_node, child_from,
 use Rattle.ntfs_def.specs.declared.index.NodeForm.{NodeForm}
 use Rattle.ntfs_def.specs.IndexTree.{Nodes, Branch, Spread, Tree, Each, branch_items, items_of, times_in, child_of, node_of, IsStored, spread_items}
 use Rattle.index_tree.specs.Search.{nodes_of, IsPlace, StartsAt, IsBefore, Rises, IsRising, HasRising, IsRisingIndex, HasRisingIndex, NoneEqual, IsFirst, IsFirstFound, FindsBelow, CostsBelow, Finds, Costs, Picks}
-use Rattle.index_tree.proofs.IndexTreeLaws.{some_same, none_other, below_at, before_items, behind_items, items_split, times_split, EachBelow-at, Each-branches, child_below, branch_entry, Each-++, Each-left, Each-right, Each-mid, Each-map}
+use Rattle.list_laws.proofs.OptionLaws.{some_same, none_other, none_not_some}
+use Rattle.index_tree.proofs.IndexTreeLaws.{below_at, before_items, behind_items, items_split, times_split, EachBelow-at, Each-branches, child_below, branch_entry, Each-++, Each-left, Each-right, Each-mid, Each-map}
 use Rattle.std.specs.Option.{option_and_then}
-use Rattle.std.proofs.Common.{Result, Ok, Err}
-use Rattle.std.specs.Prelude.{IfOk, ◌^◌}
+use Rattle.std.specs.Prelude.{◌^◌}
 use Rattle.std.proofs.Math.Nat.{min-le_left}
 use Rattle.vol_disk.specs.Count.{next_count}
-
--- The nodes that records say.
-pub is_none : {X : Type 0} (o : Option X) → o ≡ None → IsSome o → ⊥
-is_none None e h = let f : false ≡ true = h in cc
-is_none (Some x) e h = cc
+use Rattle.list_laws.proofs.OrderLaws.{greater_not, less_not}
 
 pub some_record : (form : NodeForm) (records : ℕ → Option (List ℕ)) (vcn : ℕ) → IsSome (nodes_of form records vcn) → IsSome (records vcn)
 some_record form records vcn h = go (records vcn) refl
   where
     go : (o : Option (List ℕ)) → records vcn ≡ o → IsSome (records vcn)
-    go None e = absurd (is_none (nodes_of form records vcn) (ap (option_and_then (node_in form)) e) h)
+    go None e = absurd (none_not_some (nodes_of form records vcn) (ap (option_and_then (node_in form)) e) h)
     go (Some bytes) e = subst IsSome (sym e) refl
 
 pub read_node : (form : NodeForm) (records : ℕ → Option (List ℕ)) (vcn : ℕ) (bytes : List ℕ) (node : Node) → records vcn ≡ Some bytes
@@ -37,28 +33,12 @@ pub not_refused : (form : NodeForm) (records : ℕ → Option (List ℕ)) (vcn :
     → (no : NodeNo) → Refuses form bytes no → IsSome (nodes_of form records vcn) → ⊥
 not_refused form records vcn bytes e (Shape at) h some =
     let f : nodes_of form records vcn ≡ None = ap (option_and_then (node_in form)) e ∙ ap whole_of h in
-    is_none (nodes_of form records vcn) f some
+    none_not_some (nodes_of form records vcn) f some
 not_refused form records vcn bytes e (Full need free) h some = absurd h
 
 -- a count that was raised is at most one higher
 pub one_more : (before after : ℕ) → after ≡ next_count before → after ≤ before + 1
 one_more before after e = let m = min-le_left (before + 1) (2 ^ 64 - 1) in omega (arith, e, m)
-
-pub IfOk-map : {T E : Type 0} {P Q : T → Type 0} (r : Result T E) → ((x : T) → P x → Q x) → IfOk r P → IfOk r Q
-IfOk-map (Ok x) f h = f x h
-IfOk-map (Err e) f h = tt
-
-less_not : {o : Ordering} → o ≡ Less → o ≡ Equal → ⊥
-less_not e f = let g : Less ≡ Equal = sym e ∙ f in absurd (less_equal g)
-  where
-    less_equal : Less ≡ Equal → ⊥
-    less_equal g = cc
-
-greater_not : {o : Ordering} → o ≡ Greater → o ≡ Equal → ⊥
-greater_not e f = let g : Greater ≡ Equal = sym e ∙ f in absurd (greater_equal g)
-  where
-    greater_equal : Greater ≡ Equal → ⊥
-    greater_equal g = cc
 
 module _ (side : List ℕ → Ordering) where
   abbrev Low : Item → Type 0

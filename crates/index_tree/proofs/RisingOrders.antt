@@ -35,9 +35,3 @@ module _ (order : List ℕ → List ℕ → Ordering) (laws : IsTotalOrder order
         (λ y e. before_of x.key y.key key (agree x.key y.key e)) xs h.0,
     rises_of fine agree key xs h.1,
   )
-
-pub less_not_greater : (o : Ordering) → o ≡ Less → o ≢ Greater
-less_not_greater o e f = let g : Less ≡ Greater = sym e ∙ f in absurd (no_such g)
-  where
-    no_such : Less ≡ Greater → ⊥
-    no_such g = cc

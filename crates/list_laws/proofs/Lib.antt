@@ -3,3 +3,17 @@ pub mod FindLaws
 pub mod RangeLaws
 pub mod SameItemsLaws
 pub mod ReplacesLaws
+pub mod MaskLaws
+pub mod CodedLaws
+pub mod FilterLaws
+pub mod FlatMapLaws
+pub mod PieceLaws
+pub mod SortedLaws
+pub mod OrderedLaws
+pub mod StableLaws
+pub mod PairLaws
+pub mod LeastLaws
+pub mod BitLaws
+pub mod OrderLaws
+pub mod OptionLaws
+pub mod BoolLaws

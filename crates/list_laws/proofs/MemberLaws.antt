@@ -1,9 +1,10 @@
 -- The items of lists that are made from lists.
-use Rattle.std.proofs.Common.{◌≡◌, ◌⊎◌, ◌+◌, ◌-◌, ◌<◌, ◌≤◌, ℕ, zero, suc, Bool, true, false, cond, List, [], ◌∷◌, map, refl, sym, ap, subst, inl, inr, ◌∙◌, arith}
+use Rattle.std.proofs.Common.{◌≡◌, ◌⊎◌, ◌+◌, ◌-◌, ◌<◌, ◌≤◌, ℕ, zero, suc, Bool, true, false, cond, List, [], ◌∷◌, map, refl, sym, ap, subst, inl, inr, ◌∙◌, arith, Option, Some, None}
 use Rattle.std.proofs.lemmas.Bool.{cases_Bool}
 use Rattle.std.proofs.lemmas.List.FromFn.{get_or-range_with_len, length-range_with_len}
 use Rattle.std.proofs.lemmas.List.Elements.{Contains-append_cases, Contains-append_left, Contains-append_right, Contains-get_or}
-use Rattle.std.specs.List.{All, Contains, flat_map, filter, range_with_len}
+use Rattle.std.specs.List.{All, Contains, flat_map, filter, range_with_len, cons_option}
+use Rattle.std.specs.Prelude.{filter_map}
 
 pub Contains-nil : {X : Type 0} (x : X) → Contains [] x → ⊥
 Contains-nil x (k, l, is) = absurd (omega arith)
@@ -111,3 +112,27 @@ filter-map g p (x ∷ xs) = elim (cases_Bool (p (g x))) [
       ap (λ b. cond b (g x ∷ filter p (map g xs)) (filter p (map g xs))) f ∙ filter-map g p xs
       ∙ sym (ap (λ b. map g (cond b (x ∷ filter (λ y. p (g y)) xs) (filter (λ y. p (g y)) xs))) f)
 ]
+
+-- the items that a rule gives something of
+pub Contains-from_filter_map : {X Y : Type 0} (h : X → Option Y) (xs : List X) (y : Y) → Contains (filter_map h xs) y → (x : X) × Contains xs x × (h x ≡ Some y)
+Contains-from_filter_map h [] y c = absurd (Contains-nil y c)
+Contains-from_filter_map {X = X} {Y = Y} h (x ∷ xs) y c = by (Contains-from_filter_map h xs y) (h x) refl c
+  where
+    by : (Contains (filter_map h xs) y → (x : X) × Contains xs x × (h x ≡ Some y)) → (o : Option Y) → h x ≡ o
+        → Contains (cons_option o (filter_map h xs)) y → (z : X) × Contains (x ∷ xs) z × (h z ≡ Some y)
+    by rest None e c = let w = rest c in (w.0, Contains-later x xs w.0 w.1, w.2)
+    by rest (Some z) e c = elim (Contains-cases z (filter_map h xs) y c) [
+      | inl same ↦ (x, Contains-head x xs, e ∙ ap Some same)
+      | inr later ↦ let w = rest later in (w.0, Contains-later x xs w.0 w.1, w.2)
+    ]
+
+pub Contains-filter_map : {X Y : Type 0} (h : X → Option Y) (xs : List X) (x : X) (y : Y) → Contains xs x → h x ≡ Some y → Contains (filter_map h xs) y
+Contains-filter_map h [] x y c e = absurd (Contains-nil x c)
+Contains-filter_map {X = X} {Y = Y} h (z ∷ zs) x y c e = by (Contains-filter_map h zs x y) (h z) refl (Contains-cases z zs x c)
+  where
+    by : (Contains zs x → h x ≡ Some y → Contains (filter_map h zs) y) → (o : Option Y) → h z ≡ o → (z ≡ x) ⊎ Contains zs x
+        → Contains (cons_option o (filter_map h zs)) y
+    by rest None is (inl same) = let f = sym is ∙ ap h same ∙ e in cc
+    by rest None is (inr later) = rest later e
+    by rest (Some w) is (inl same) = let f : Some w ≡ Some y = sym is ∙ ap h same ∙ e in (0, omega arith, cc)
+    by rest (Some w) is (inr later) = Contains-later w (filter_map h zs) y (rest later e)

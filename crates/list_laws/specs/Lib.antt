@@ -1,2 +1,7 @@
 pub mod SameItems
 pub mod Replaces
+pub mod Bits
+pub mod Ordered
+pub mod BitRanges
+pub mod Least
+pub mod Beside

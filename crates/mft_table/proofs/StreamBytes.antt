@@ -1,58 +1,18 @@
 -- Bytes of an image and of a stream, by their places.
-use Rattle.std.proofs.Common.{◌≡◌, ℕ, zero, suc, ◌+◌, ◌-◌, ◌*◌, ◌/◌, ◌%◌, ◌<◌, ◌≤◌, List, [], ◌∷◌, ◌++◌, length, take, drop, get_or, replicate, Option, None, Some, refl, sym, ap, ◌∙◌, arith, append_assoc, append-nil, length-drop}
+use Rattle.std.proofs.Common.{◌≡◌, ℕ, ◌+◌, ◌*◌, ◌/◌, ◌%◌, ◌<◌, ◌≤◌, List, [], ◌++◌, length, take, drop, get_or, replicate, Option, None, Some, refl, sym, ap, ◌∙◌, arith, append_assoc, append-nil, length-drop}
 use Rattle.std.specs.Prelude.{IsTrue, IfSome, is_some, map, slice_index, slice_range}
 use Rattle.std.specs.List.{range_with_len}
-use Rattle.std.proofs.lemmas.Grind.{same_number_lists}
-use Rattle.std.proofs.lemmas.List.{drop_all, drop_at, take_at, drop-drop, get_or-replicate, length-replicate, length-take-le, take_all}
-use Rattle.std.proofs.lemmas.List.FromFn.{length-map-range_with_len, get_or-map-range_with_len, take-map-range_with_len}
+use Rattle.std.proofs.lemmas.List.{drop_all, drop_at, take_at, drop-drop, length-take-le, take_all}
+use Rattle.std.proofs.lemmas.List.FromFn.{length-map-range_with_len}
 use borrow.Rule.Slice.PartMut.{mid_of, put_mid}
 use Rattle.vol_disk.specs.Contents.{IsTold, sector_in}
 use Rattle.ntfs_def.specs.declared.run_text.Spot.{Spot}
 use Rattle.volume_def.specs.Values.{stored_byte, stored_bytes}
 use Rattle.mft_table.proofs.ClusterBytes.{AreSectors}
 use Rattle.mft_table.specs.Streams.{image_byte, image_bytes}
+use Rattle.list_laws.proofs.RangeLaws.{bytes-append, bytes-list, bytes-part, bytes-zero}
 
 -- Lists of bytes by a rule.
-
-pub bytes-same : (f g : ℕ → ℕ) (a b n : ℕ) → ((j : ℕ) → j < n → f (a + j) ≡ g (b + j))
-    → map f (range_with_len a n) ≡ map g (range_with_len b n)
-bytes-same f g a b n same = same_number_lists _ _ (length-map-range_with_len f a n ∙ sym (length-map-range_with_len g b n))
-    (λ k h. let lt : k < n = omega (arith, length-map-range_with_len f a n) in
-    get_or-map-range_with_len f a n k (a + k) 0 lt refl ∙ same k lt ∙ sym (get_or-map-range_with_len g b n k (b + k) 0 lt refl))
-
--- a list whose bytes follow the rule
-pub bytes-list : (xs : List ℕ) (f : ℕ → ℕ) (a n : ℕ) → length xs ≡ n → ((j : ℕ) → j < n → get_or xs j 0 ≡ f (a + j))
-    → xs ≡ map f (range_with_len a n)
-bytes-list xs f a n size each = same_number_lists _ _ (size ∙ sym (length-map-range_with_len f a n))
-    (λ k h. let lt : k < n = omega arith in each k lt ∙ sym (get_or-map-range_with_len f a n k (a + k) 0 lt refl))
-
-pub bytes-zero : (f : ℕ → ℕ) (a n : ℕ) → ((j : ℕ) → j < n → f (a + j) ≡ 0) → replicate n 0 ≡ map f (range_with_len a n)
-bytes-zero f a n zeros =
-    bytes-list (replicate n 0) f a n (length-replicate n 0) (λ j lt. get_or-replicate n j 0 0 lt ∙ sym (zeros j lt))
-
-pub bytes-append : (f : ℕ → ℕ) (a b m n : ℕ) → a + m ≡ b
-    → map f (range_with_len a m) ++ map f (range_with_len b n) ≡ map f (range_with_len a (m + n))
-bytes-append f a b zero n e =
-    let same : b ≡ a = omega arith in
-    let more : n ≡ 0 + n = omega arith in
-    ap (λ b. map f (range_with_len b n)) same ∙ ap (λ k. map f (range_with_len a k)) more
-bytes-append f a b (suc m) n e =
-    let more : suc (m + n) ≡ suc m + n = omega arith in
-    ap (λ rest. f a ∷ rest) (bytes-append f (a + 1) b m n (omega arith)) ∙ ap (λ k. map f (range_with_len a k)) more
-
-pub bytes-drop : (f : ℕ → ℕ) (a b n k m : ℕ) → a + k ≡ b → k + m ≡ n
-    → drop k (map f (range_with_len a n)) ≡ map f (range_with_len b m)
-bytes-drop f a b n k m e size =
-    let whole = bytes-append f a b k m e in
-    let all : map f (range_with_len a (k + m)) ≡ map f (range_with_len a n) = ap (λ k. map f (range_with_len a k)) size in
-    ap (drop k) (sym (whole ∙ all)) ∙ drop_at (map f (range_with_len a k)) (map f (range_with_len b m)) k (length-map-range_with_len f a k)
-
-pub bytes-part : (f : ℕ → ℕ) (a b n k m : ℕ) → a + k ≡ b → k + m ≤ n
-    → slice_range (map f (range_with_len a n)) k (k + m) ≡ map f (range_with_len b m)
-bytes-part f a b n k m e fits =
-    let d = bytes-drop f a b n k (n - k) e (omega arith) in
-    let size : k + m - k ≡ m = omega arith in
-    ap (λ j. take j (drop k (map f (range_with_len a n)))) size ∙ ap (take m) d ∙ take-map-range_with_len f b (n - k) m (omega arith)
 
 -- What was read at the front of a buffer, and what is read next.
 bytes-more : (f : ℕ → ℕ) (old : List ℕ) (a b m n : ℕ) → a + m ≡ b

@@ -14,7 +14,7 @@ use Rattle.volume_def.specs.Values.{byte_there, stored_byte, stored_bytes}
 use Rattle.volume_def.specs.Table.{TableLayout, cluster_bytes}
 use Rattle.mft_table.specs.Streams.{image_byte, image_bytes, spot_on}
 use Rattle.mft_table.proofs.ClusterBytes.{AreSectors, cluster_byte}
-use Rattle.mft_table.proofs.StreamBytes.{bytes-same, bytes-zero}
+use Rattle.list_laws.proofs.RangeLaws.{map_ranges, bytes-zero}
 
 -- a byte of a run that is placed, by the sector that has it
 byte-placed : (disk : ℕ → List ℕ) (layout : TableLayout) (count lcn n : ℕ) → AreSectors count disk → 0 < layout.cluster_sectors
@@ -39,7 +39,7 @@ pub image_bytes-run : (disk : ℕ → List ℕ) (layout : TableLayout) (count lc
     → image_bytes disk at n ≡ stored_bytes (cluster_of disk layout) (cluster_bytes layout) (spot_on (Some lcn)) skip n
 unfolding image_bytes stored_bytes
 image_bytes-run disk layout count lcn skip at n are some e =
-    bytes-same (image_byte disk) (stored_byte (cluster_of disk layout) (cluster_bytes layout) (spot_on (Some lcn))) at skip n (λ j lt.
+    map_ranges (image_byte disk) (stored_byte (cluster_of disk layout) (cluster_bytes layout) (spot_on (Some lcn))) at skip n (λ j lt.
     let per = layout.cluster_sectors in
     let x = skip + j in
     let place = place-in_run per lcn x some in
@@ -83,7 +83,7 @@ pub stored_bytes-run : (cluster : ℕ → List ℕ) (size : ℕ) (runs : List Ru
     → stored_bytes cluster size (spot_on run.lcn) (at % size) n ≡ stored_bytes cluster size (spot_of runs) at n
 unfolding stored_bytes
 stored_bytes-run cluster size runs run at n some left fits =
-    bytes-same (stored_byte cluster size (spot_on run.lcn)) (stored_byte cluster size (spot_of runs)) (at % size) at n (λ j lt.
+    map_ranges (stored_byte cluster size (spot_on run.lcn)) (stored_byte cluster size (spot_of runs)) (at % size) at n (λ j lt.
     let k = (at % size + j) / size in
     let inside : k < run.len = (div-lt_iff_lt-mul some).1 (omega arith) in
     let lies = spot_of-left runs run (at / size) k left inside in

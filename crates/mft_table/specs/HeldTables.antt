@@ -1,7 +1,7 @@
 -- What the tables of a mounted volume hold of an image that tells its contents.
 use Rattle.std.specs.Prelude.{◌≡◌, ℕ, Bool, List, Some, None}
 use Rattle.vol_disk.specs.Contents.{sector_in}
-use Rattle.ntfs_def.specs.Bits.{flags_in}
+use Rattle.list_laws.specs.Bits.{flags_in}
 use Rattle.ntfs_def.specs.Boot.{boot_sector, image_boot_failing}
 use Rattle.ntfs_boot.specs.Geometry.{geometry_of}
 use Rattle.volume_def.specs.BitmapClauses.{cluster_bits, record_bits}

@@ -1,8 +1,7 @@
 -- The least file with a stream that is too long, as a pass over the records finds it.
 use Rattle.std.proofs.Common.{◌≡◌, ◌+◌, ◌<◌, ◌≤◌, ◌^◌, ℕ, Bool, true, false, List, ◌∷◌, Option, Some, None, min, inl, inr, refl, sym, ap, subst, ◌∙◌, arith}
-use Rattle.std.proofs.lemmas.Bool.{false≢true}
+use Rattle.std.proofs.lemmas.Bool.{false≢true, cases_lt}
 use Rattle.std.specs.Prelude.{◌↔◌, All, IfSome, IsTrue, option_map}
-use Rattle.std.proofs.lemmas.Bool.{cases_lt}
 use Rattle.std.proofs.lemmas.List.Elements.{All-cons, All-contains, All-head, All-tail}
 use Rattle.ntfs_def.specs.declared.kinds.TheConstants.{DATA}
 use Rattle.ntfs_def.specs.declared.sizes.Sizes.{Sizes}
@@ -23,8 +22,9 @@ use Rattle.volume_def.specs.Sound.Clause.{References, Shape}
 use Rattle.volume_def.proofs.PartLaws.{record_at-block}
 use Rattle.mount_check.specs.Views.{HasComeTo}
 use Rattle.mount_check.proofs.VersionLaws.{IsUsedAs}
-use Rattle.file_record.proofs.RecordLaws.{record_at-in_use, record_at-inside, record_at-used, some-value}
-use Rattle.record_notes.specs.Least.{IsLeastFailing, least_of}
+use Rattle.file_record.proofs.RecordLaws.{record_at-in_use, record_at-inside, record_at-used}
+use Rattle.list_laws.proofs.OptionLaws.{some-value, if-some}
+use Rattle.list_laws.specs.Least.{IsLeastFailing, least_of}
 use Rattle.mount_check.specs.Limits.{BreaksLimits, IsLongIn, KeepsLimits}
 use Rattle.volume_def.proofs.FileLaws.{file-held}
 
@@ -89,10 +89,6 @@ long-next view n (Some f) (Some g) ((m, lt, there), below) here = elim (cases_lt
 ]
 
 -- All records were gone over.
-
-if-some : {X : Type 0} (o : Option X) (P : X → Type 0) → ((x : X) → o ≡ Some x → P x) → IfSome o P
-if-some None P h = tt
-if-some (Some x) P h = h x refl
 
 parts-keep : (view : VolumeView) (f : ℕ)
     → ((m : ℕ) (r : Record) → record_on view m ≡ Some r → file_of m r ≡ f → All (IsInLimits f) r.parts)

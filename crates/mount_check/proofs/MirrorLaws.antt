@@ -1,7 +1,7 @@
 -- Copies of records: where they lie, and what they have of the records.
 use Rattle.std.proofs.Common.{rules, ◌≡◌, ◌+◌, ◌*◌, ◌<◌, ◌≤◌, ℕ, true, false, List, None, Option, Some, length, get_or, drop, inl, inr, refl, sym, ap, subst, ◌∙◌, arith, length-append, length-drop, length-take}
 use Rattle.std.specs.Prelude.{◌↔◌, IfSome, IsTrue, is_some}
-use Rattle.std.proofs.lemmas.Bool.{false≢true}
+use Rattle.std.proofs.lemmas.Bool.{false≢true, cases_lt}
 use Rattle.vol_disk.specs.Contents.{sector_in}
 use Rattle.ntfs_def.specs.Fixup.{IsSealed, array_count, opened_of}
 use Rattle.ntfs_def.specs.Record.{is_in_use}
@@ -12,10 +12,9 @@ use Rattle.volume_def.specs.ShapeClause.{MeetsShape}
 use Rattle.volume_def.specs.Table.{TableLayout, two_sectors}
 use Rattle.volume_def.specs.VersionClause.{HasCopy, MeetsMirror, Mirrors}
 use Rattle.volume_def.specs.Sound.Clause.{Shape}
-use Rattle.record_notes.specs.Least.{IsLeastFailing}
+use Rattle.list_laws.specs.Least.{IsLeastFailing}
 use Rattle.mount_check.specs.Views.{HasComeTo}
 use Rattle.mount_check.proofs.VersionLaws.{IsUsedAs, in-use, unused}
-use Rattle.std.proofs.lemmas.Bool.{cases_lt}
 use Rattle.std.proofs.Common.{Bool}
 use Rattle.volume_def.specs.View.{VolumeView}
 

@@ -9,7 +9,7 @@ use Rattle.volume_def.specs.Sound.Clause.{MirrorPlace, Version}
 use Rattle.volume_def.specs.VersionClause.{HasVersion, IsMirror}
 use Rattle.volume_def.specs.Sound.{HoldBelow}
 use Rattle.volume_def.specs.View.{VolumeView}
-use Rattle.record_notes.specs.Least.{IsLeastFailing}
+use Rattle.list_laws.specs.Least.{IsLeastFailing}
 use Rattle.check_records.specs.Refusals.{DecidesFirst}
 use Rattle.mount_check.specs.Views.{HasComeTo}
 

@@ -14,7 +14,7 @@ use Rattle.volume_def.proofs.FileLaws.{file-held, file-or-not, no-parts}
 use Rattle.file_record.specs.declared.parts.FileParts.{FileParts}
 use Rattle.file_record.specs.Held.{AreParts, file_number, held_of, parts_held, parts_of}
 use Rattle.file_record.specs.Records.{IsRecordOf}
-use Rattle.file_record.proofs.RecordLaws.{some-value}
+use Rattle.list_laws.proofs.OptionLaws.{some-value}
 use Rattle.record_notes.specs.declared.streams.StreamNote.{StreamNote}
 use Rattle.record_notes.specs.Streams.{NotesStream, places_in, spot_noted}
 use Rattle.mount_check.specs.Copies.{data_held}

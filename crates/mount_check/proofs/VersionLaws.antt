@@ -1,10 +1,8 @@
 -- What an attribute says, as the clause on the version asks for it, and what record 3 says by its attributes.
-use Rattle.std.proofs.Common.{◌≡◌, ℕ, ◌+◌, ◌-◌, ◌*◌, ◌%◌, ◌<◌, ◌≤◌, Bool, true, false, cond, List, length, inl, inr, refl, sym, ap, subst, ◌∙◌, arith}
+use Rattle.std.proofs.Common.{◌≡◌, ℕ, ◌+◌, ◌*◌, ◌%◌, ◌<◌, ◌≤◌, Bool, true, false, cond, List, length, inl, inr, refl, sym, ap, subst, ◌∙◌, arith}
 use Rattle.std.proofs.lemmas.Bool.{false≢true}
 use Rattle.std.specs.Prelude.{◌↔◌, IsTrue, Option, Some, None, slice_index}
 use Rattle.std.proofs.lemmas.Bool.{cases_Bool, cases_lt, lt-leb}
-use Rattle.std.proofs.Common.{drop, length-drop, length-take}
-use Rattle.std.specs.Prelude.{slice_range}
 use Rattle.ntfs_def.specs.declared.kinds.TheConstants.{VOLUME_INFORMATION}
 use Rattle.ntfs_def.specs.Attribute.{Body, NonResident, Resident, attribute_at, attribute_kind, attribute_len, attribute_place, attributes, content_bytes, content_end, content_offset, extent_at, is_resident, name_bytes, name_end, name_offset, name_units, runs_offset, value_len, value_of, value_offset, value_place}
 use Rattle.ntfs_def.specs.Record.{used_size}
@@ -23,9 +21,7 @@ use Rattle.mount_check.specs.Views.{HasComeTo}
 use Rattle.volume_def.specs.VersionClause.{HasVersion, IsClean, IsVersionAt}
 use Rattle.volume_def.specs.VolumeRecord.{version_in}
 use Rattle.volume_def.specs.declared.version.Version.{Version}
-
-range-long : (xs : List ℕ) (a b : ℕ) → b ≤ length xs → length (slice_range xs a b) ≡ b - a
-range-long xs a b le = let x = length-take (b - a) (drop a xs) in let y = length-drop a xs in omega arith
+use Rattle.list_laws.proofs.PieceLaws.{range-long}
 
 abbrev pub wanted : Version
 wanted = record { major = 3; minor = 1 }

@@ -6,18 +6,18 @@ ghost use Rattle.volume_def.specs.Files.{file_of, part_of, record_of, records_of
 ghost use Rattle.volume_def.specs.LimitsClause.{IsInLimits, MeetsLimits};
 ghost use Rattle.mft_table.specs.Mft.{MftReads, faults_of, view};
 ghost use Rattle.mft_table.specs.MountNos.{CountsMount};
-ghost use Rattle.record_notes.specs.Least.{IsLeastFailing};
+ghost use Rattle.list_laws.specs.Least.{IsLeastFailing};
 ghost use Rattle.mount_check.specs.Limits.{IsLongIn};
 ghost use Rattle.mount_check.specs.Views.{HasComeTo};
 
 use crate::records::{read_in_use, view_of};
 use attr_view::{AttrView, RecordView, Sizes};
+use file_clauses::BAD_NAME;
 use mft_table::{Mft, MountNo};
 use ntfs_def::kinds::DATA;
 use ntfs_def::records::BAD_CLUSTERS;
-use vol_disk::Disk;
-use file_clauses::BAD_NAME;
 use record_notes::{file_of, least_of};
+use vol_disk::Disk;
 
 /// The most bytes of a stream.
 const MOST: u64 = 1 << 40;

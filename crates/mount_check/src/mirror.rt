@@ -9,7 +9,7 @@ ghost use Rattle.volume_def.specs.Table.{two_sectors};
 ghost use Rattle.volume_def.specs.VersionClause.{HasCopy, MeetsMirror, Mirrors};
 ghost use Rattle.mft_table.specs.Mft.{MftReads, faults_of, stage_of, view};
 ghost use Rattle.mft_table.specs.MountNos.{CountsMount};
-ghost use Rattle.record_notes.specs.Least.{IsLeastFailing};
+ghost use Rattle.list_laws.specs.Least.{IsLeastFailing};
 ghost use Rattle.mount_check.specs.Views.{HasComeTo};
 
 use crate::records::read_in_use;

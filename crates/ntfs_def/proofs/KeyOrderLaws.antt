@@ -1,11 +1,12 @@
 -- Each order of keys is a total order, on all bytes, and ties exactly where the compared numbers are equal.
-use Rattle.std.proofs.Common.{◌≡◌, ◌≢◌, ◌↔◌, ℕ, ◌<◌, List, [], ◌∷◌, map, refl, sym, ap, ◌∙◌, Ordering, IsTrue, true, false}
+use Rattle.std.proofs.Common.{◌≡◌, ◌≢◌, ◌↔◌, ℕ, List, [], ◌∷◌, map, refl, ap, ◌∙◌, Ordering, IsTrue, true, false}
 use Rattle.std.specs.declared.cmp.Ordering.TheVariants.{Less, Equal, Greater}
-use Rattle.std.specs.Ordering.{nat_cmp, ordering_then, is_eq, on}
+use Rattle.std.specs.Ordering.{nat_cmp, is_eq, on}
 use Rattle.std.specs.Cmp.{IsTotalOrder}
-use Rattle.std.proofs.lemmas.Cmp.{on_total, then_total, nat_list_cmp_total, tied_itself, ranked, by_ranked}
+use Rattle.std.proofs.lemmas.Cmp.{on_total, then_total, nat_list_cmp_total, tied_itself}
 use Rattle.ntfs_def.specs.FileName.{key_units}
 use Rattle.ntfs_def.specs.KeyOrder.{by_numbers, compare_units, name_order, fold_order, id_order, id_parts, hash_order, hash_parts, word_order, word_parts}
+use Rattle.list_laws.proofs.OrderLaws.{equal_numbers, then_both, then_less}
 
 pub units_total : (fold : ℕ → ℕ) → IsTotalOrder (compare_units fold)
 units_total fold = then_total (on_total (map fold) nat_list_cmp_total) nat_list_cmp_total
@@ -29,27 +30,6 @@ hash_total = on_total hash_parts nat_list_cmp_total
 pub word_total : IsTotalOrder word_order
 unfolding word_order
 word_total = on_total word_parts nat_list_cmp_total
-
-equal_numbers : (x y : ℕ) → nat_cmp x y ≡ Equal → x ≡ y
-equal_numbers x y e = by_ranked (x < y) (x ≡ y) (y < x) (nat_cmp x y) (ranked x y (nat_cmp x y) refl)
-    (λ f h. absurd (less_equal (sym f ∙ e))) (λ f h. h) (λ f h. absurd (greater_equal (sym f ∙ e)))
-  where
-    less_equal : Less ≡ Equal → ⊥
-    less_equal g = cc
-
-    greater_equal : Greater ≡ Equal → ⊥
-    greater_equal g = cc
-
-then_both : (a b : Ordering) → ordering_then a b ≡ Equal → (a ≡ Equal) × (b ≡ Equal)
-then_both Less b e = let f : Less ≡ Equal = e in absurd (not f)
-  where
-    not : Less ≡ Equal → ⊥
-    not g = cc
-then_both Equal b e = (refl, e)
-then_both Greater b e = let f : Greater ≡ Equal = e in absurd (not f)
-  where
-    not : Greater ≡ Equal → ⊥
-    not g = cc
 
 pub numbers_equal : (xs ys : List ℕ) → by_numbers xs ys ≡ Equal → xs ≡ ys
 numbers_equal [] [] e = refl
@@ -100,11 +80,6 @@ hash_ties a b = numbers_ties (hash_parts a) (hash_parts b)
 pub word_ties : (a b : List ℕ) → (word_order a b ≡ Equal) ↔ (word_parts a ≡ word_parts b)
 unfolding word_order
 word_ties a b = numbers_ties (word_parts a) (word_parts b)
-
-then_less : (a b : Ordering) → ordering_then a b ≡ Less → a ≢ Greater
-then_less Less b e f = let g : Less ≡ Greater = f in cc
-then_less Equal b e f = let g : Equal ≡ Greater = f in cc
-then_less Greater b e f = let g : Greater ≡ Less = e in cc
 
 -- of two names in order the first is not above the second by folded units
 pub name_fold : (fold : ℕ → ℕ) (a b : List ℕ) → name_order fold a b ≡ Less → fold_order fold a b ≢ Greater

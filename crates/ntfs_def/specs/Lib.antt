@@ -10,7 +10,6 @@ pub mod Shape
 pub mod Splice
 pub mod Runs
 pub mod Units
-pub mod Bits
 pub mod Node
 pub mod FileName
 pub mod KeyOrder

@@ -12,7 +12,7 @@ use Rattle.plain_tree.specs.Plain.{IsFirstOf, tree_of}
 use Rattle.plain_tree.specs.declared.tree.PlainTree.{PlainTree}
 use Rattle.tree_model.specs.Tree.{Tree, node_of}
 use Rattle.tree_model.specs.declared.tree.Node.{Node}
-use Rattle.tree_model.proofs.ReadingLaws.{key_is, key_other, key_same}
+use Rattle.list_laws.proofs.OrderLaws.{key_is, key_other, key_same}
 
 behind : (e : ℕ × Node) (es : List (ℕ × Node)) (file place : ℕ) → IsFirstOf (e ∷ es) file (suc place) → IsFirstOf es file place
 behind e es file place is = record {

@@ -2,7 +2,7 @@
 ghost use Rattle.std.specs.Prelude.{◌≡◌, ◌≤◌, [], ◌∷◌, ◌++◌, IfErr, IfOk, length};
 ghost use Rattle.std.specs.List.{insert};
 ghost use Rattle.tree_model.specs.Answers.{listing, path_above, path_to, shown_link, shown_links};
-ghost use Rattle.tree_model.specs.Ordered.{put_in_order};
+ghost use Rattle.list_laws.specs.Ordered.{put_in_order};
 ghost use Rattle.plain_tree.specs.Plain.{lent, tree_of};
 ghost use Rattle.tree_model.specs.Tree.{first_name};
 ghost use Rattle.tree_model.specs.declared.reply.No.TheVariants as no;

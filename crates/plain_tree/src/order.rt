@@ -2,7 +2,7 @@
 ghost use Rattle.std.specs.Prelude.{◌≡◌, ◌≤◌, IfErr, IfOk, filter, length};
 ghost use Rattle.std.specs.List.{insert};
 ghost use Rattle.ntfs_def.specs.KeyOrder.{fold_of};
-ghost use Rattle.tree_model.specs.Ordered.{put_all, put_in_order};
+ghost use Rattle.list_laws.specs.Ordered.{put_all, put_in_order};
 ghost use Rattle.tree_model.specs.Paths.{links_in_order};
 ghost use Rattle.plain_tree.specs.Plain.{tree_of};
 ghost use Rattle.tree_model.specs.Tree.{is_in, link_above};

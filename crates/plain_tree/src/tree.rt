@@ -4,7 +4,7 @@ ghost use Rattle.ntfs_def.specs.KeyOrder.{fold_of};
 ghost use Rattle.ntfs_def.specs.declared.records.TheConstants.{ROOT};
 ghost use Rattle.tree_model.specs.Paths.{links_in_order, last_place, lookup, passed, reached, resolve};
 ghost use Rattle.plain_tree.specs.Plain.{has_name, is_named, lent, lent_found, lent_place, tree_of};
-ghost use Rattle.tree_model.specs.Ordered.{least};
+ghost use Rattle.list_laws.specs.Ordered.{least};
 ghost use Rattle.tree_model.specs.Tree.{compare_links, link_above, node_of, shown_node};
 
 use ntfs_def::records::ROOT;

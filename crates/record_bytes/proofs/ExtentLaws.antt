@@ -1,5 +1,5 @@
 -- The bytes of a non-resident attribute are the part that they were made of.
-use Rattle.std.proofs.Common.{◌≡◌, ◌≢◌, ℕ, ◌+◌, ◌*◌, ◌-◌, ◌/◌, ◌%◌, ◌^◌, ◌<◌, ◌≤◌, ◌&&◌, Bool, true, false, List, [], ◌∷◌, ◌++◌, Option, Some, None, take, drop, length, refl, sym, ap, subst, ◌∙◌, arith, length-append, append_assoc}
+use Rattle.std.proofs.Common.{◌≡◌, ◌≢◌, ℕ, ◌+◌, ◌*◌, ◌-◌, ◌/◌, ◌%◌, ◌^◌, ◌<◌, ◌≤◌, false, List, [], ◌∷◌, ◌++◌, Option, Some, None, take, drop, length, refl, sym, ap, subst, ◌∙◌, arith, length-append, append_assoc}
 use Rattle.std.specs.Prelude.{replicate, slice_range}
 use Rattle.std.proofs.Math.Seq.{take-append-add}
 use Rattle.std.proofs.lemmas.List.{append-nil, take_at, take-replicate, drop_at, drop-drop, drop-replicate, length-replicate}
@@ -13,12 +13,10 @@ use Rattle.ntfs_def.proofs.RunsInLaws.{runs_in-means}
 use Rattle.data_runs.specs.Written.{IsWritten, PutsText}
 use Rattle.data_runs.proofs.WrittenLaws.{MeansFrom-written, offset_short, short_up}
 use Rattle.volume_def.specs.Files.{Clusters}
-use Rattle.record_bytes.specs.AttributeBytes.{up_to_8, FitFields, IsExtent, IsPartBytes, IsRunTextOf, extent_bytes, extent_header, one_run, padded_bytes, runs_at}
+use Rattle.ntfs_def.specs.Rounded.{up_to_8}
+use Rattle.record_bytes.specs.AttributeBytes.{FitFields, IsExtent, IsPartBytes, IsRunTextOf, extent_bytes, extent_header, one_run, padded_bytes, runs_at}
 use Rattle.record_bytes.proofs.ResidentLaws.{length-padded_bytes, parts_same}
-
-no_and : (b : Bool) → (b && false) ≡ false
-no_and true = refl
-no_and false = refl
+use Rattle.list_laws.proofs.BoolLaws.{and-none}
 
 sizes_from : ℕ → ℕ → ℕ → ℕ → ℕ → Sizes
 sizes_from allocated real initialized first last =
@@ -76,7 +74,7 @@ module _ (kind : ℕ) (name : List ℕ) (id : ℕ) (sizes : Sizes) (runs : List 
   sizes-text = sizes_same sizes _ allocated-text real-text initialized-text first-text last-text
 
   no_compressed-text : has_compressed_len text 0 ≡ false
-  no_compressed-text = no_and _
+  no_compressed-text = and-none _
 
   compressed-text : compressed_len text 0 ≡ None
   compressed-text = rw no_compressed-text refl

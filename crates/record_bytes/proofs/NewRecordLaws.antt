@@ -1,8 +1,8 @@
 -- A record that is made, attribute by attribute.
-use Rattle.std.proofs.Common.{◌≡◌, ℕ, zero, suc, ◌+◌, ◌*◌, ◌%◌, ◌^◌, ◌<◌, ◌==◌, true, List, [], ◌∷◌, ◌++◌, map, length, Some, None, refl, sym, ap, subst, ◌∙◌, arith, rules, length-append}
-use Rattle.std.specs.Prelude.{All, option_map, replicate}
+use Rattle.std.proofs.Common.{◌≡◌, ℕ, ◌+◌, ◌*◌, ◌%◌, ◌^◌, ◌<◌, ◌==◌, true, List, [], ◌∷◌, ◌++◌, map, length, Some, None, refl, sym, ap, subst, ◌∙◌, arith, rules, length-append}
+use Rattle.std.specs.Prelude.{option_map, replicate}
 use Rattle.std.proofs.lemmas.Bool.Decides.{nat_tests}
-use Rattle.std.proofs.lemmas.List.{length-replicate, map-append, take_all}
+use Rattle.std.proofs.lemmas.List.{length-replicate, map-append, take_all, nil_from_length}
 use Rattle.std.proofs.lemmas.List.Edits.{insert_end}
 use Rattle.std.proofs.lemmas.List.Elements.{All-append}
 use Rattle.vol_bytes.proofs.FieldLaws.{u16_at-same}
@@ -21,6 +21,7 @@ use Rattle.ntfs_def.proofs.ShapeLaws.{HasShape-few, header_failing-length}
 use Rattle.volume_def.specs.Files.{Content, Part, Record, Value, part_of, record_of}
 use Rattle.record_bytes.specs.AttributeBytes.{part, IsPartBytes}
 use Rattle.record_bytes.specs.NewRecord.{AreAligned, AddsPart, IsNewRecord, blank_block, blank_header, blank_record, with_part}
+use Rattle.list_laws.proofs.PieceLaws.{All-one}
 
 pub length-wide : (letters : List ℕ) → length (wide letters) ≡ 2 * length letters
 length-wide [] = refl
@@ -33,10 +34,6 @@ array_place-shape block right = search rules
 
 next-own : (n : ℕ) → n < 0xFFFF → next_id_after n n ≡ n + 1
 next-own n small = let t : (n == n) ≡ true = (let e : n ≡ n = refl in grind (arith, nat_tests)) in rw t (omega arith)
-
-All-one : {X : Type 0} (P : X → Type 0) (x : X) → P x → All P (x ∷ [])
-All-one P x p zero d lt = p
-All-one P x p (suc k) d lt = absurd (omega arith)
 
 abbrev is_aligned : Attribute → Type 0
 is_aligned attribute = value_offset attribute.bytes 0 % 8 ≡ 0
@@ -100,11 +97,6 @@ module _ (old new attr : List ℕ) (one : IsOneAttribute attr) (puts : Inserts o
         (All-one is_aligned (attribute_at attr 0) (ap (λ b. value_offset b 0 % 8) bytes ∙ aligned)));
   }
 
--- A record without attributes.
-none-left : {A : Type 0} (xs : List A) → length xs ≡ 0 → xs ≡ []
-none-left [] e = refl
-none-left (x ∷ xs) e = absurd (omega (arith, e))
-
 -- z zeros behind the header; z is 960
 module _ (number sequence flags z : ℕ) (small_number : number < 256) (small : sequence < 256) (small_flags : flags < 256)
     (odd : flags % 2 ≡ 1) (is : z ≡ 960) where
@@ -127,7 +119,7 @@ module _ (number sequence flags z : ℕ) (small_number : number < 256) (small : 
   }
 
   list-blank : attributes blank ≡ []
-  list-blank = none-left _ (length-attributes blank 0 shape-blank)
+  list-blank = nil_from_length _ (length-attributes blank 0 shape-blank)
 
   abbrev made : Record
   made = record {

@@ -6,7 +6,8 @@ use Rattle.ntfs_def.specs.declared.kinds.TheConstants.{END}
 use Rattle.ntfs_def.specs.Attribute.{attribute_at, attribute_kind, attribute_len, attribute_id, value_len, value_offset, name_bytes, content_bytes}
 use Rattle.ntfs_def.specs.Shape.{IsOneAttribute}
 use Rattle.volume_def.specs.Files.{Content, Part, Value}
-use Rattle.record_bytes.specs.AttributeBytes.{up_to_8, IsPartBytes, indexed_byte, padded_bytes, resident_bytes, resident_header, resident_len, value_at}
+use Rattle.ntfs_def.specs.Rounded.{up_to_8}
+use Rattle.record_bytes.specs.AttributeBytes.{IsPartBytes, indexed_byte, padded_bytes, resident_bytes, resident_header, resident_len, value_at}
 
 pub length-padded_bytes : (bytes : List ℕ) → length (padded_bytes bytes) ≡ up_to_8 (length bytes)
 length-padded_bytes bytes = simp (length-append, length-replicate) (omega arith)

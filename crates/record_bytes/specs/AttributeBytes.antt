@@ -1,6 +1,6 @@
 -- An attribute as bytes: its name behind the header, and its value or its run text at the next multiple
 -- of 8. Layout: as in `Attribute` of ntfs_def; the places are this project's choice.
-use Rattle.std.specs.Prelude.{◌≡◌, ℕ, ◌+◌, ◌-◌, ◌*◌, ◌/◌, ◌^◌, ◌<◌, ◌==◌, List, [], ◌∷◌, ◌++◌, length, replicate, Some, None, if◌then◌else◌}
+use Rattle.std.specs.Prelude.{◌≡◌, ℕ, ◌+◌, ◌-◌, ◌/◌, ◌^◌, ◌<◌, ◌==◌, List, [], ◌∷◌, ◌++◌, length, replicate, Some, None, if◌then◌else◌}
 use Rattle.byteorder.specs.Endian.{little_bytes}
 use Rattle.data_runs.specs.Written.{IsWritten}
 use Rattle.ntfs_def.specs.declared.kinds.TheConstants.{FILE_NAME}
@@ -8,10 +8,7 @@ use Rattle.ntfs_def.specs.declared.run_text.Run.{Run}
 use Rattle.ntfs_def.specs.declared.sizes.Sizes.{Sizes}
 use Rattle.ntfs_def.specs.Attribute.{attribute_at}
 use Rattle.volume_def.specs.Files.{Clusters, Content, Part, part_of}
-
--- the next multiple of 8
-abbrev pub up_to_8 : ℕ → ℕ
-up_to_8 n = (n + 7) / 8 * 8
+use Rattle.ntfs_def.specs.Rounded.{up_to_8}
 
 -- the zeros that fill bytes up to it
 abbrev pub fill_to_8 : ℕ → List ℕ

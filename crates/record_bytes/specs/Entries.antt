@@ -1,7 +1,8 @@
 -- The entries of an index as bytes, and the value of `$INDEX_ROOT`, of numbers that are small.
 -- Layout: as in `Node` and `FileName` of ntfs_def; Linux-NTFS documentation, "Index Root" and "Index Entry".
 use Rattle.std.specs.Prelude.{ℕ, ◌+◌, List, [], ◌∷◌, ◌++◌, length, replicate}
-use Rattle.record_bytes.specs.AttributeBytes.{fill_to_8, up_to_8}
+use Rattle.record_bytes.specs.AttributeBytes.{fill_to_8}
+use Rattle.ntfs_def.specs.Rounded.{up_to_8}
 
 -- a number in two and in four bytes, the lower first; each is below 256
 abbrev pub two_bytes : ℕ → List ℕ

@@ -1,6 +1,6 @@
 //! The entries of an index as bytes, and the value of `$INDEX_ROOT`.
 ghost use Rattle.std.specs.Prelude.{◌≡◌, ◌≤◌, ◌<◌, ◌+◌, ◌++◌, IfOk, OnOk, length};
-ghost use Rattle.record_bytes.specs.AttributeBytes.{up_to_8};
+ghost use Rattle.ntfs_def.specs.Rounded.{up_to_8};
 ghost use Rattle.record_bytes.specs.Entries.{index_root, name_entry, reference_bytes, view_entry};
 
 use crate::attribute::{push_fill, push_padded, up_to_8};

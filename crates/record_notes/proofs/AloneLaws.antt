@@ -11,12 +11,13 @@ use Rattle.list_laws.proofs.MemberLaws.{All-from_Contains, Contains-flat_map, Co
 use Rattle.record_notes.specs.declared.spread.Extension.{Extension}
 use Rattle.file_clauses.specs.Extents.{IsAlone}
 use Rattle.record_notes.specs.Heads.{EndsAtCount}
-use Rattle.record_notes.specs.Least.{IsLeastFailing, least_of}
+use Rattle.list_laws.specs.Least.{IsLeastFailing, least_of}
 use Rattle.record_notes.specs.Spread.{extension_in, extensions_below}
 use Rattle.record_notes.specs.Unlisted.{MeetsAlone, is_unlisted}
 use Rattle.file_clauses.proofs.InOrderLaws.{based-here}
-use Rattle.record_notes.proofs.HeadLaws.{if_some, inside-used}
-use Rattle.record_notes.proofs.LeastLaws.{least-same, least-two}
+use Rattle.list_laws.proofs.OptionLaws.{if-some, some-value}
+use Rattle.record_notes.proofs.HeadLaws.{inside-used}
+use Rattle.list_laws.proofs.LeastLaws.{least-same, least-two}
 
 -- It is an extension record of the table.
 pub record IsExtension (records : Records) (extension : Extension) : Type 0 where
@@ -93,14 +94,6 @@ one-broken records file unlisted = (λ meets. meets unlisted refl, λ m lt u e. 
 pub one-right : (records : Records) (file : ℕ) → ¬ (IsUnlistedAt records file) → IsLeastFailing (MeetsOne records file) None
 one-right records file other n u e = other (subst (IsUnlistedAt records) (sym e) u)
 
-pub least_of-none : (o : Option ℕ) → o ≡ least_of o None
-least_of-none None = refl
-least_of-none (Some n) = refl
-
-some-at : {X : Type 0} (o : Option X) (P : X → Type 0) → IsSomeAnd o P → (x : X) × (o ≡ Some x) × P x
-some-at None P h = absurd h
-some-at (Some x) P h = (x, refl, h)
-
 -- all records are noted
 pub among-all : (records : Records) (first : Option ℕ) → EndsAtCount records
     → IsLeastFailing (MeetsAmong records (extensions_below records records.count)) first → IsLeastFailing (MeetsAlone records) first
@@ -108,7 +101,7 @@ among-all records first ends least =
     least-same (MeetsAmong records (extensions_below records records.count)) (MeetsAlone records) first to from least
   where
     belongs : (n : ℕ) → IsUnlistedAt records n → MeetsAmong records (extensions_below records records.count) n → IsAlone records n
-    belongs n u among k = if_some (records.record_at k) (λ r. file_of k r ≡ n → k ≡ n) (λ r at file. elim (cases_Bool (is_base r)) [
+    belongs n u among k = if-some (records.record_at k) (λ r. file_of k r ≡ n → k ≡ n) (λ r at file. elim (cases_Bool (is_base r)) [
       | inl base ↦ sym (based-here k r.header.base base) ∙ file
       | inr other ↦
           let noted = extension-noted records records.count k r (inside-used records k r ends at) at other in
@@ -116,12 +109,12 @@ among-all records first ends least =
     ])
 
     to : (n : ℕ) → MeetsAmong records (extensions_below records records.count) n → MeetsAlone records n
-    to n among = if_some (records.record_at n) (λ r. IsTrue (is_unlisted r) → IsAlone records n) (λ r at only.
+    to n among = if-some (records.record_at n) (λ r. IsTrue (is_unlisted r) → IsAlone records n) (λ r at only.
         belongs n (subst (λ o. IsSomeAnd o (λ r. IsTrue (is_unlisted r))) (sym at) only) among)
 
     from : (n : ℕ) → MeetsAlone records n → MeetsAmong records (extensions_below records records.count) n
     from n meets u =
-        let w = some-at (records.record_at n) (λ r. IsTrue (is_unlisted r)) u in
+        let w = some-value (records.record_at n) (λ r. IsTrue (is_unlisted r)) u in
         let alone : IsAlone records n = subst (λ o. IfSome o (λ r. IsTrue (is_unlisted r) → IsAlone records n)) w.1 meets w.2 in
         All-from_Contains (λ (extension : Extension). extension.file ≢ n) (extensions_below records records.count) (λ extension c same.
         let held = extension-held records records.count extension c in

@@ -1,12 +1,9 @@
 -- Bits of a stored bitmap beside those that are noted.
-use Rattle.std.proofs.Common.{◌≡◌, ℕ, ◌+◌, ◌-◌, ◌*◌, ◌/◌, ◌%◌, ◌<◌, ◌≤◌, min, List, length, length-drop, drop, Option, Some, None, inl, inr, refl, sym, ap, subst, ◌∙◌, arith}
-use Rattle.std.specs.Prelude.{◌↔◌, IsSome, slice_index}
-use Rattle.std.specs.Int.{bit_at}
-use Rattle.std.proofs.lemmas.Bool.{cases_eq, cases_lt}
-use Rattle.std.proofs.lemmas.List.{get_or-drop}
-use Rattle.std.proofs.lemmas.Nat.Bits.{bit_at-lt}
+use Rattle.std.proofs.Common.{◌≡◌, ℕ, ◌+◌, ◌-◌, ◌*◌, ◌<◌, ◌≤◌, min, List, length, length-drop, drop, Option, Some, None, inl, inr, refl, sym, ap, subst, ◌∙◌, arith}
+use Rattle.std.specs.Prelude.{◌↔◌, IsSome}
+use Rattle.std.proofs.lemmas.Bool.{cases_lt}
 use Rattle.ntfs_def.specs.declared.records.TheConstants.{FIRST_ORDINARY}
-use Rattle.ntfs_def.specs.Bits.{bit_in}
+use Rattle.list_laws.specs.Bits.{bit_in}
 use Rattle.volume_def.specs.BitmapClauses.{HasRecordBits, MeetsClusterBits, MeetsRecordBits, cluster_bits, record_bits}
 use Rattle.volume_def.specs.Coverage.{times_covered}
 use Rattle.volume_def.specs.Files.{record_on, records_of}
@@ -15,35 +12,14 @@ use Rattle.volume_def.specs.Values.{value_on}
 use Rattle.volume_def.specs.View.{VolumeView}
 use Rattle.record_notes.specs.declared.owners.Owners.{Owners}
 use Rattle.record_notes.specs.declared.used.Used.{Used}
-use Rattle.record_notes.specs.BitRanges.{IsLeastWithin, IsPieceOf}
+use Rattle.list_laws.specs.BitRanges.{IsLeastWithin, IsPieceOf}
 use Rattle.record_notes.specs.Bitmaps.{HasClusterBytes, AllOwnersNote}
-use Rattle.record_notes.specs.Least.{IsLeastFailing}
+use Rattle.list_laws.specs.Least.{IsLeastFailing}
 use Rattle.record_notes.specs.Owners.{clusters_noted, noted_end, owners_allowed, runs_below}
 use Rattle.record_notes.specs.Used.{AllUsedNote, records_noted}
 use Rattle.record_notes.proofs.OwnersLaws.{meets-allowed}
 use Rattle.record_notes.proofs.RecordsLaws.{runs_below-all}
-
--- a bit of a piece is that of the value
-pub piece-bit : (value piece : List ℕ) (from k : ℕ) → IsPieceOf value from piece → 8 * from ≤ k → k < 8 * (from + length piece)
-    → bit_in piece (k - 8 * from) ≡ bit_in value k
-piece-bit value piece from k h low high =
-    let at : (k - 8 * from) / 8 ≡ k / 8 - from = omega arith in
-    let same : (k - 8 * from) % 8 ≡ k % 8 = omega arith in
-    let there : from + (k / 8 - from) ≡ k / 8 = omega arith in
-    rw (at, same) (ap (λ b. bit_at b (k % 8)) (h (k / 8 - from) (omega arith) ∙ ap (slice_index value) there))
-
--- two bits of which each is 1 exactly where the same holds
-pub same-bits : (a i b j : ℕ) {P : Type 0} → (bit_at a i ≡ 1) ↔ P → (bit_at b j ≡ 1) ↔ P → bit_at a i ≡ bit_at b j
-same-bits a i b j left right =
-    let p = bit_at-lt a i in
-    let q = bit_at-lt b j in
-    elim (cases_eq (bit_at a i) 1) [
-      | inl one ↦ one ∙ sym (right.1 (left.0 one))
-      | inr zero ↦ elim (cases_eq (bit_at b j) 1) [
-        | inl one ↦ absurd (zero (left.1 (right.0 one)))
-        | inr none ↦ omega arith
-      ]
-    ]
+use Rattle.list_laws.proofs.BitLaws.{piece-bit, rest-bit, same-bits}
 
 -- where the clause on owners holds, no cluster is bad, and a bit tells of each
 none-bad : (view : VolumeView) (owners : Owners) (least : Option ℕ) → owners.owned.least ≡ least → AllOwnersNote view owners
@@ -114,16 +90,6 @@ pub records-differ : (view : VolumeView) (used : Used) (piece : List ℕ) (from 
 records-differ view used piece from n notes is low high ordinary inside meets =
     piece-bit (value_on view (record_bits view)) piece from n is low high
     ∙ same-bits _ _ _ _ (meets.bit ordinary (omega (arith, notes.count))) (use-bit view used n notes inside)
-
--- a bit of a piece without its first bytes
-pub rest-bit : (piece : List ℕ) (skipped from k : ℕ) → 8 * (from + skipped) ≤ k
-    → bit_in (drop skipped piece) (k - 8 * (from + skipped)) ≡ bit_in piece (k - 8 * from)
-rest-bit piece skipped from k low =
-    let at : (k - 8 * (from + skipped)) / 8 ≡ k / 8 - (from + skipped) = omega arith in
-    let same : (k - 8 * (from + skipped)) % 8 ≡ (k - 8 * from) % 8 = omega arith in
-    let there : skipped + (k / 8 - (from + skipped)) ≡ (k - 8 * from) / 8 = omega arith in
-    rw (at, same) (ap (λ b. bit_at b ((k - 8 * from) % 8))
-    (get_or-drop skipped piece (k / 8 - (from + skipped)) 0 ∙ ap (slice_index piece) there))
 
 -- the first difference, where the first bytes of a piece are passed over
 pub within-skipped : (bits piece : List ℕ) (from skipped : ℕ) (first : Option ℕ) → skipped ≡ min (3 - from) (length piece)

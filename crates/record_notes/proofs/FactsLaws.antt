@@ -7,8 +7,8 @@ use Rattle.record_notes.specs.declared.facts.Facts.{Facts}
 use Rattle.record_notes.specs.declared.heads.Heads.{Heads}
 use Rattle.record_notes.specs.Facts.{FactsNote, RightNote}
 use Rattle.record_notes.specs.Heads.{HeadsNote}
-use Rattle.record_notes.specs.Least.{IsLeastBelow}
-use Rattle.record_notes.proofs.LeastLaws.{below-fails, below-next}
+use Rattle.list_laws.specs.Least.{IsLeastBelow}
+use Rattle.list_laws.proofs.LeastLaws.{below-fails, below-next}
 use Rattle.record_notes.proofs.NameLaws.{NamesNote-unused}
 use Rattle.record_notes.proofs.RecordsLaws.{OwnersNote-unused}
 use Rattle.record_notes.proofs.SpreadLaws.{SpreadNote-unused}

@@ -1,6 +1,5 @@
 -- The headers of records, as they are noted.
-use Rattle.std.proofs.Common.{◌≡◌, ◌<◌, ◌+◌, ◌++◌, ◌∷◌, [], ℕ, Option, Some, None, length, cond, get_or, refl, ap, sym, subst, inl, inr, ◌∙◌, arith, below_more}
-use Rattle.std.specs.Prelude.{IfSome}
+use Rattle.std.proofs.Common.{◌≡◌, ◌<◌, ◌+◌, ◌++◌, ◌∷◌, [], ℕ, Option, Some, None, length, cond, get_or, ap, sym, subst, inl, inr, ◌∙◌, arith, below_more}
 use Rattle.std.proofs.lemmas.Bool.{cases_lt, le-ltb}
 use Rattle.std.proofs.lemmas.List.{get_or_append_left, get_or_past, get_or_push, length_push}
 use Rattle.volume_def.specs.Files.{Record, Records, record_in, records_of}
@@ -35,10 +34,6 @@ HeadsNote-all records heads ends note n = elim (cases_lt n records.count) [
       let past : head_at heads n ≡ None = get_or_past heads.heads.items n None (omega (arith, note.count)) in
       subst (λ o. IsHeadIn o (head_at heads n)) (sym (ends n ge)) (subst (IsHeadIn None) (sym past) tt)
 ]
-
-pub if_some : {A : Type 0} (o : Option A) (P : A → Type 0) → ((x : A) → o ≡ Some x → P x) → IfSome o P
-if_some None P h = tt
-if_some (Some x) P h = h x refl
 
 -- a record in use lies below the count
 pub inside-used : (records : Records) (n : ℕ) (r : Record) → EndsAtCount records → records.record_at n ≡ Some r → n < records.count

@@ -1,10 +1,8 @@
 pub mod AloneLaws
-pub mod BitLaws
 pub mod BitmapLaws
 pub mod CoverageLaws
 pub mod FactsLaws
 pub mod HeadLaws
-pub mod LeastLaws
 pub mod ListedLaws
 pub mod NameLaws
 pub mod OwnersLaws

@@ -10,7 +10,7 @@ use Rattle.volume_def.specs.Files.{Record, Records, is_base}
 use Rattle.volume_def.specs.ListsClause.{is_list}
 use Rattle.list_laws.proofs.MemberLaws.{Contains-flat_map, Contains-from_flat_map, Contains-head, Contains-nil, Contains-only, Contains-range}
 use Rattle.record_notes.specs.Spread.{listed_below, listed_in}
-use Rattle.record_notes.proofs.RecordsLaws.{flat_map-range_more}
+use Rattle.list_laws.proofs.FlatMapLaws.{flat_map-range_more}
 
 abbrev pub has_list : Record → Bool
 has_list r = is_base r && list_any is_list r.parts

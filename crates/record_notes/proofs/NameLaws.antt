@@ -16,7 +16,7 @@ use Rattle.volume_def.specs.Files.{Part, Record, Records, content_of, content_va
 use Rattle.list_laws.proofs.MemberLaws.{Contains-flat_map, Contains-from_flat_map, Contains-from_map, Contains-from_range, Contains-map, Contains-nil, Contains-range}
 use Rattle.record_notes.specs.declared.names.Names.{Names}
 use Rattle.record_notes.specs.Names.{HeldName, NamesNote, PlacedName, held_name, is_of_file, names_held, names_held_below, placed}
-use Rattle.record_notes.proofs.RecordsLaws.{flat_map-range_more}
+use Rattle.list_laws.proofs.FlatMapLaws.{flat_map-range_more}
 
 pub held-none : (records : Records) → names_held_below records 0 ≡ []
 unfolding names_held_below

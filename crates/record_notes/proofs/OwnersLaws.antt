@@ -2,15 +2,15 @@
 use Rattle.std.proofs.Common.{◌≡◌, ℕ, ◌+◌, ◌<◌, ◌≤◌, ◌&&◌, nat_lt, cond, min, IsTrue, List, Option, Some, None, inl, inr, refl, subst, ap, ◌∙◌, arith, le-ltb}
 use Rattle.std.specs.Option.{option_or}
 use Rattle.std.proofs.lemmas.Bool.{cases_lt, le-leb, lt-leb, lt-ltb}
-use Rattle.ntfs_def.specs.Bits.{bit_in}
-use Rattle.record_notes.specs.BitRanges.{Fills}
-use Rattle.record_notes.specs.Least.{IsLeastFailing}
+use Rattle.list_laws.specs.Bits.{bit_in}
+use Rattle.list_laws.specs.BitRanges.{Fills}
+use Rattle.list_laws.specs.Least.{IsLeastFailing}
 use Rattle.volume_def.specs.Coverage.{times_covered}
 use Rattle.volume_def.specs.Files.{Records}
 use Rattle.volume_def.specs.OwnersClause.{MeetsOwners, boot_runs, times_owned}
 use Rattle.record_notes.specs.declared.owners.Owners.{Owners}
 use Rattle.record_notes.specs.Owners.{CountsOwners, OwnersNote, clusters_noted, inside, noted_end, owners_allowed, runs_below}
-use Rattle.record_notes.proofs.LeastLaws.{least-same}
+use Rattle.list_laws.proofs.LeastLaws.{least-same}
 use Rattle.record_notes.proofs.RecordsLaws.{boot_runs_below-all, runs_below-all}
 
 pub inside-in : (from end k : ℕ) → from ≤ k → k < end → inside from end k ≡ 1

@@ -1,7 +1,6 @@
 -- What one record more adds to the runs of the records below it, and what the runs of all records are.
-use Rattle.std.proofs.Common.{◌≡◌, ◌≢◌, ℕ, ◌+◌, ◌≤◌, ◌&&◌, ◌==◌, cond, List, [], ◌∷◌, ◌++◌, map, filter, Some, None, IsTrue, inl, inr, refl, sym, ap, subst, ◌∙◌, arith}
+use Rattle.std.proofs.Common.{◌≡◌, ◌≢◌, ℕ, ◌+◌, ◌≤◌, ◌&&◌, ◌==◌, cond, List, [], ◌∷◌, ◌++◌, map, filter, Some, None, IsTrue, inl, inr, refl, sym, ap, subst, ◌∙◌}
 use Rattle.std.specs.Prelude.{◌↔◌, flat_map}
-use Rattle.std.specs.List.{range_with_len}
 use Rattle.std.specs.Str.{bytes_eq}
 use Rattle.std.proofs.lemmas.Bool.{cases_Bool}
 use Rattle.std.proofs.lemmas.List.{append-nil}
@@ -14,18 +13,10 @@ use Rattle.ntfs_def.specs.Attribute.{Attribute, attributes}
 use Rattle.volume_def.specs.Coverage.{times_covered}
 use Rattle.volume_def.specs.Files.{Part, Records, file_of, is_of, part_of, part_runs, parts, parts_in, record_of}
 use Rattle.volume_def.specs.OwnersClause.{all_runs, boot_runs, record_runs, times_owned}
-use Rattle.list_laws.proofs.RangeLaws.{range-append}
 use Rattle.volume_def.proofs.RecordLaws.{parts_in-other, parts_in-own, parts_in-unused}
 use Rattle.record_notes.specs.declared.owners.Owners.{Owners}
 use Rattle.record_notes.specs.Owners.{OwnersNote, RunsNote, attribute_runs, boot_parts_below, boot_runs_below, runs_below, unnamed_data_runs}
-
--- what one record more adds to a list that goes over the records below n
-pub flat_map-range_more : {X : Type 0} (f : ℕ → List X) (n : ℕ)
-    → flat_map f (range_with_len 0 (n + 1)) ≡ flat_map f (range_with_len 0 n) ++ f n
-flat_map-range_more f n =
-    let z : 0 + n ≡ n = omega arith in
-    ap (flat_map f) (range-append 0 n 1) ∙ flat_map-append f (range_with_len 0 n) ((0 + n) ∷ [])
-    ∙ ap (λ xs. flat_map f (range_with_len 0 n) ++ xs) (append-nil (f (0 + n)) ∙ ap f z)
+use Rattle.list_laws.proofs.FlatMapLaws.{flat_map-range_more}
 
 pub runs_below-more : (records : Records) (n : ℕ) → runs_below records (n + 1) ≡ runs_below records n ++ record_runs (records.record_at n)
 unfolding runs_below

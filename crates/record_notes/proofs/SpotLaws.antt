@@ -1,8 +1,8 @@
 -- Where a cluster of a stream lies once one more part is known, and places that are noted.
-use Rattle.std.proofs.Common.{◌≡◌, ◌≢◌, ◌<◌, ◌≤◌, ◌+◌, ◌-◌, ℕ, Bool, true, cond, List, [], ◌∷◌, ◌++◌, length, set, Option, Some, None, inl, inr, refl, sym, ap, subst, ◌∙◌, arith}
+use Rattle.std.proofs.Common.{◌≡◌, ◌≢◌, ◌<◌, ◌≤◌, ◌+◌, ◌-◌, ℕ, true, cond, List, [], ◌∷◌, ◌++◌, length, set, Option, Some, None, inl, inr, refl, sym, ap, subst, ◌∙◌, arith}
 use Rattle.std.specs.Prelude.{find, slice_index}
 use Rattle.std.specs.Option.{option_map, option_or}
-use Rattle.std.proofs.lemmas.Bool.{and_from, and_left, and_parts, and_right, cases_Bool, cases_eq, cases_lt, false≢true, le-leb, le-ltb, lt-leb, lt-ltb}
+use Rattle.std.proofs.lemmas.Bool.{and_from, and_left, and_parts, and_right, cases_eq, cases_lt, false≢true, le-leb, le-ltb, lt-leb, lt-ltb}
 use Rattle.std.proofs.lemmas.List.{get_or-set_other, get_or-set_same, get_or_past, length-set}
 use Rattle.ntfs_def.specs.declared.run_text.Run.{Run}
 use Rattle.ntfs_def.specs.declared.run_text.Spot.{Spot}
@@ -11,7 +11,7 @@ use Rattle.ntfs_def.specs.Runs.{spot_in, spot_of, total_clusters}
 use Rattle.ntfs_def.proofs.SpotLaws.{spot_of-first, spot_of-past}
 use Rattle.volume_def.specs.Files.{Part, part_clusters, part_runs}
 use Rattle.volume_def.specs.Values.{first_vcn_of, holds_vcn, spot_at, spot_by}
-use Rattle.list_laws.proofs.FindLaws.{find-found}
+use Rattle.list_laws.proofs.FindLaws.{find-found, find-more}
 use Rattle.volume_def.proofs.RunPieces.{spot_of-behind, total-cons}
 use Rattle.record_notes.specs.Skips.{AreSkips, NotesRuns, first_spot, noted_at}
 
@@ -43,17 +43,6 @@ first-outside Hole = refl
 first-outside (At cluster) = refl
 
 -- One part more.
-
-pub find-more : {X : Type 0} (p : X → Bool) (xs : List X) (y : X) → find p (xs ++ y ∷ []) ≡ option_or (find p xs) (find p (y ∷ []))
-find-more p [] y = refl
-find-more p (x ∷ xs) y = elim (cases_Bool (p x)) [
-  | inl t ↦
-      ap (λ b. cond b (Some x) (find p (xs ++ y ∷ []))) t
-      ∙ sym (ap (λ b. option_or (cond b (Some x) (find p xs)) (find p (y ∷ []))) t)
-  | inr f ↦
-      ap (λ b. cond b (Some x) (find p (xs ++ y ∷ []))) f ∙ find-more p xs y
-      ∙ sym (ap (λ b. option_or (cond b (Some x) (find p xs)) (find p (y ∷ []))) f)
-]
 
 holds-from : (vcn : ℕ) (part : Part) → holds_vcn vcn part ≡ true → first_vcn_of part.content ≤ vcn
 holds-from vcn part holds = elim (cases_lt vcn (first_vcn_of part.content)) [

@@ -1,5 +1,5 @@
 -- What one record more adds to what is noted of spread files.
-use Rattle.std.proofs.Common.{◌≡◌, ◌≢◌, ◌==◌, ◌&&◌, ◌||◌, ◌%◌, ◌^◌, ℕ, ◌+◌, ◌++◌, Bool, cond, List, [], ◌∷◌, map, Option, Some, None, refl, sym, ap, ◌∙◌}
+use Rattle.std.proofs.Common.{◌≡◌, ◌≢◌, ◌==◌, ◌&&◌, ◌%◌, ◌^◌, ℕ, ◌+◌, ◌++◌, Bool, cond, List, [], ◌∷◌, Option, Some, None, sym, ap, ◌∙◌}
 use Rattle.std.specs.Prelude.{is_none, unwrap_or}
 use Rattle.std.specs.List.{list_any}
 use Rattle.std.specs.Option.{option_map}
@@ -12,7 +12,8 @@ use Rattle.volume_def.specs.Files.{Record, Records, part_of, record_of}
 use Rattle.volume_def.specs.ListsClause.{is_list}
 use Rattle.record_notes.specs.declared.spread.SpreadFiles.{SpreadFiles}
 use Rattle.record_notes.specs.Spread.{SpreadNote, extension_in, extensions_below, listed_below, listed_in}
-use Rattle.record_notes.proofs.RecordsLaws.{flat_map-range_more}
+use Rattle.list_laws.proofs.FlatMapLaws.{flat_map-range_more}
+use Rattle.list_laws.proofs.FindLaws.{list_any-map}
 
 -- one record more
 pub SpreadNote-more : (records : Records) (n : ℕ) (found : Option Record) (old new : SpreadFiles) → records.record_at n ≡ found
@@ -33,10 +34,6 @@ SpreadNote-unused records n spread is note =
     SpreadNote-more records n None spread spread is (sym (append-nil spread.extensions.items)) (sym (append-nil spread.listed.items)) note
 
 -- What one record is.
-
-pub list_any-map : {A B : Type 0} (p : B → Bool) (f : A → B) (xs : List A) → list_any p (map f xs) ≡ list_any (λ x. p (f x)) xs
-list_any-map p f [] = refl
-list_any-map p f (x ∷ xs) = ap (λ b. p (f x) || b) (list_any-map p f xs)
 
 base_in-none : (base : ℕ) → base ≡ 0 → base_in base ≡ None
 base_in-none base e = ap base_in e

@@ -1,13 +1,12 @@
 -- The parts of a file, by the extension records that are noted.
-use Rattle.std.proofs.Common.{◌≡◌, ◌≢◌, ◌<◌, ◌+◌, ◌==◌, ◌++◌, ℕ, zero, suc, Bool, true, cond, List, [], ◌∷◌, Option, Some, None, filter, refl, sym, ap, subst, inl, inr, ◌∙◌, arith, append-nil}
+use Rattle.std.proofs.Common.{◌≡◌, ◌≢◌, ◌<◌, ◌+◌, ◌==◌, ◌++◌, ℕ, zero, suc, Bool, true, cond, List, [], ◌∷◌, Option, Some, None, refl, sym, ap, subst, inl, inr, ◌∙◌, arith, append-nil}
 use Rattle.std.specs.Prelude.{All, IsSomeAnd, nat_lt}
-use Rattle.std.specs.List.{Contains, count_by, flat_map, range_with_len, sum_by}
+use Rattle.std.specs.List.{Contains, count_by, flat_map, range_with_len}
 use Rattle.std.specs.List.Sorted.{IsPermutation}
 use Rattle.std.proofs.lemmas.Bool.{cases_Bool, cases_eq, eq-eqb, eqb-true, ne_eqb, lt-ltb, le-ltb, cases_lt}
 use Rattle.std.proofs.lemmas.List.Concat.{flat_map-append}
 use Rattle.std.proofs.lemmas.List.Elements.{filter-append}
 use Rattle.std.proofs.lemmas.List.Sorted.{Contains-permutation, IsPermutation-sym, sum_by-IsPermutation}
-use Rattle.std.proofs.lemmas.List.Sums.{sum_by-cons}
 use Rattle.volume_def.specs.Files.{Part, Record, Records, file_of, is_base, parts, parts_in}
 use Rattle.list_laws.specs.SameItems.{SameItems}
 use Rattle.volume_def.proofs.RecordLaws.{parts_in-other, parts_in-own, parts_in-unused}
@@ -17,7 +16,7 @@ use Rattle.record_notes.specs.declared.spread.Extension.{Extension}
 use Rattle.record_notes.specs.Spread.{AreExtensionsOf, extension_in, extensions_below, extensions_of, parts_from}
 use Rattle.record_notes.proofs.AloneLaws.{extension-held}
 use Rattle.file_clauses.proofs.InOrderLaws.{based-here}
-use Rattle.record_notes.proofs.RecordsLaws.{flat_map-range_more}
+use Rattle.list_laws.proofs.FlatMapLaws.{flat_map-range_more, count-flat_map_filter}
 
 -- The extension record n has what record n has of file f, where n is another number.
 module _ (records : Records) (f : ℕ) where
@@ -119,30 +118,13 @@ parts-spread records f r here base inside = record {
 
 -- In another order.
 
-count-kept : {A B : Type 0} (p : B → Bool) (q : A → Bool) (g : A → List B) (xs : List A)
-    → count_by p (flat_map g (filter q xs)) ≡ sum_by (λ x. cond (q x) (count_by p (g x)) 0) xs
-count-kept p q g [] = refl
-count-kept p q g (x ∷ xs) =
-    let rest = count-kept p q g xs in
-    let sum = sum_by-cons (λ y. cond (q y) (count_by p (g y)) 0) x xs in
-    elim (cases_Bool (q x)) [
-      | inl t ↦
-          let one = ap (λ b. cond b (count_by p (g x)) 0) t in
-          let front = ap (λ b. count_by p (flat_map g (cond b (x ∷ filter q xs) (filter q xs)))) t ∙ count-append p (g x) (flat_map g (filter q xs)) in
-          omega arith
-      | inr f ↦
-          let one = ap (λ b. cond b (count_by p (g x)) 0) f in
-          let front = ap (λ b. count_by p (flat_map g (cond b (x ∷ filter q xs) (filter q xs)))) f in
-          omega arith
-    ]
-
 pub from-moved : (records : Records) (f : ℕ) (xs ys : List Extension) → IsPermutation xs ys
     → SameItems (parts_from records f (extensions_of f ys)) (parts_from records f (extensions_of f xs))
 from-moved records f xs ys moved = record {
   counts = λ p.
       let q : Extension → Bool = λ extension. extension.file == f in
       let g : Extension → List Part = λ extension. parts_in (records.record_at extension.number) extension.number f in
-      count-kept p q g xs ∙ sym (sum_by-IsPermutation (λ x. cond (q x) (count_by p (g x)) 0) xs ys moved) ∙ sym (count-kept p q g ys);
+      count-flat_map_filter p q g xs ∙ sym (sum_by-IsPermutation (λ x. cond (q x) (count_by p (g x)) 0) xs ys moved) ∙ sym (count-flat_map_filter p q g ys);
 }
 
 -- Those of one file.

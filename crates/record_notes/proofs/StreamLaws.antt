@@ -4,7 +4,7 @@ use Rattle.std.specs.Prelude.{◌↔◌, ◌==◌, IsSome, IsTrue, filter, IfSom
 use Rattle.std.specs.Option.{option_map, option_or}
 use Rattle.std.proofs.lemmas.Bool.{cases_lt}
 use Rattle.std.proofs.lemmas.List.{append-nil}
-use Rattle.std.proofs.lemmas.List.Elements.{All-append, All-cons, All-head, All-nil, All-tail, filter-append}
+use Rattle.std.proofs.lemmas.List.Elements.{All-append, All-cons, All-nil, filter-append}
 use Rattle.std.proofs.lemmas.List.Sums.{sum_by-append, sum_by-cons}
 use Rattle.ntfs_def.specs.declared.kinds.TheConstants.{BITMAP, DATA}
 use Rattle.ntfs_def.specs.declared.records.TheConstants.{CLUSTER_BITMAP, MFT, UPCASE}
@@ -23,8 +23,11 @@ use Rattle.record_notes.specs.declared.streams.StreamNote.{StreamNote}
 use Rattle.record_notes.specs.declared.streams.Streams.{Streams}
 use Rattle.record_notes.specs.Skips.{first_spot, noted_at}
 use Rattle.record_notes.specs.Streams.{NotesStream, StreamsNote, TellsPlaces, TellsSizes, TellsSizesIn, parts_below, places_in, spot_noted, stream_below, unnamed_parts}
-use Rattle.record_notes.proofs.RecordsLaws.{flat_map-range_more}
-use Rattle.record_notes.proofs.SpotLaws.{find-more, first-outside, spot_at-before, spot_at-more, spot_at-only}
+use Rattle.list_laws.proofs.FlatMapLaws.{flat_map-range_more}
+use Rattle.list_laws.proofs.FindLaws.{find-more}
+use Rattle.record_notes.proofs.SpotLaws.{first-outside, spot_at-before, spot_at-more, spot_at-only}
+use Rattle.list_laws.proofs.PieceLaws.{all-left}
+use Rattle.list_laws.proofs.OptionLaws.{option_or-none}
 
 -- The part that tells the sizes.
 
@@ -43,11 +46,6 @@ first-again extents part None some tells = cc
 first-again extents part (Some first) some tells =
     subst (λ o. TellsSizesIn o (Some first)) (sym (first-more extents part))
     (first-told (first_part extents) first (first_part (part ∷ [])) tells)
-
--- the part begins further on
-option_or-none : {X : Type 0} (o : Option X) → option_or o None ≡ o
-option_or-none None = refl
-option_or-none (Some x) = refl
 
 pub first-later : (extents : List Part) (part : Part) (first : Option FirstPart) → is_first part ≡ false
     → TellsSizesIn (first_part extents) first → TellsSizesIn (first_part (extents ++ part ∷ [])) first
@@ -113,12 +111,6 @@ pub unplain-noted : (extents : List Part) → first_part extents ≡ None → Is
 unplain-noted extents none plain = subst (λ o. IsSomeAnd o (λ p. is_packed p.kind p.flags ≡ false)) none plain
 
 -- What the parts have in common.
-
-all-left : {X : Type 0} (P : X → Type 0) (xs : List X) (y : X) → All P (xs ++ y ∷ []) → All P xs × P y
-all-left P [] y all = (All-nil P, All-head P y [] all)
-all-left P (x ∷ xs) y all =
-    let rest = all-left P xs y (All-tail P x (xs ++ y ∷ []) all) in
-    (All-cons P x xs (All-head P x (xs ++ y ∷ []) all) rest.0, rest.1)
 
 TellsPlaces-more : (xs : List Part) (part : Part) (old new : Placement)
     → IsTrue new.placed ↔ (IsTrue old.placed × All (λ run. IsSome run.lcn) (part_runs part))

@@ -1,5 +1,5 @@
 -- Files that stand in one record, and the others: what is found of both is found of all.
-use Rattle.std.proofs.Common.{◌≡◌, ◌≢◌, ◌↔◌, ◌<◌, ◌+◌, ◌==◌, ◌&&◌, ◌||◌, ℕ, Bool, true, false, List, [], ◌∷◌, Option, Some, None, IfSome, IsTrue, IsFalse, refl, sym, ap, subst, inl, inr, ◌∙◌, arith}
+use Rattle.std.proofs.Common.{◌≡◌, ◌≢◌, ◌↔◌, ◌<◌, ◌+◌, ◌==◌, ◌&&◌, ℕ, Bool, true, false, List, Option, Some, None, IfSome, IsTrue, IsFalse, refl, sym, ap, subst, inl, inr, ◌∙◌, arith}
 use Rattle.std.specs.Prelude.{All, not, unwrap_or}
 use Rattle.std.specs.List.{Contains, count_by, list_any}
 use Rattle.std.proofs.lemmas.Bool.{and_from, and_parts, cases_Bool, cases_lt, not-true}
@@ -11,19 +11,17 @@ use Rattle.volume_def.specs.ExtentsClause.{MeetsExtents}
 use Rattle.volume_def.specs.Files.{Record, Records, is_base, part_of, parts, record_of, records_of}
 use Rattle.volume_def.specs.ListsClause.{HasRightList, IsRightList, MeetsLists, is_list}
 use Rattle.volume_def.specs.View.{VolumeView}
-use Rattle.list_laws.proofs.FindLaws.{passing}
-use Rattle.list_laws.proofs.MemberLaws.{Contains-cases, Contains-nil}
+use Rattle.list_laws.proofs.FindLaws.{passing, none-among, list_any-map}
 use Rattle.volume_def.proofs.PartLaws.{IsPart-Contains, NameHolders-view}
 use Rattle.record_notes.specs.declared.unlisted.UnlistedFiles.{UnlistedFiles}
 use Rattle.file_clauses.specs.Extents.{AreWholeParts, IsAlone}
 use Rattle.record_notes.specs.Heads.{EndsAtCount}
-use Rattle.record_notes.specs.Least.{IsLeastBelow, IsLeastFailing, least_of}
+use Rattle.list_laws.specs.Least.{IsLeastBelow, IsLeastFailing, least_of}
 use Rattle.record_notes.specs.Unlisted.{AreUnlistedAlone, IsUnlistedWhole, MeetsListed, MeetsUnlisted, UnlistedNote, bytes_noted, is_unlisted}
 use Rattle.file_clauses.proofs.AttributesLaws.{is_base-zero}
 use Rattle.record_notes.proofs.HeadLaws.{EndsAtCount-view}
 use Rattle.file_clauses.proofs.InOrderLaws.{alone-parts}
-use Rattle.record_notes.proofs.LeastLaws.{below-fails, below-next, least-two, least-same, least-whole}
-use Rattle.record_notes.proofs.SpreadLaws.{list_any-map}
+use Rattle.list_laws.proofs.LeastLaws.{below-fails, below-next, least-two, least-same, least-whole}
 
 -- One record.
 
@@ -104,15 +102,6 @@ first-of-all records size first listed past note alone least =
     within n some = elim (cases_lt n records.count) [ inl lt ↦ lt | inr ge ↦ absurd (some (past n ge)) ]
 
 -- What the clause on lists gives.
-
-pub none-among : {A : Type 0} (p : A → Bool) (xs : List A) (x : A) → list_any p xs ≡ false → Contains xs x → p x ≡ false
-none-among p [] x none c = absurd (Contains-nil x c)
-none-among p (y ∷ ys) x none c = elim (cases_Bool (p y)) [
-  | inl t ↦ let some : p y || list_any p ys ≡ true = ap (λ b. b || list_any p ys) t in absurd (cc)
-  | inr f ↦
-      let rest : list_any p ys ≡ false = sym (ap (λ b. b || list_any p ys) f) ∙ none in
-      elim (Contains-cases y ys x c) [ inl e ↦ ap p (sym e) ∙ f | inr later ↦ none-among p ys x rest later ]
-]
 
 no-list : (view : VolumeView) (n : ℕ) (r : Record) → (records_of view).record_at n ≡ Some r → list_any is_list r.parts ≡ false
     → All (λ part. IsTrue (is_list part) → IsRightList view n (parts (records_of view) n) part) (parts (records_of view) n)

@@ -2,7 +2,7 @@
 use Rattle.std.proofs.Common.{◌≡◌, ◌+◌, ℕ, true, false, None, inl, inr, sym, ap, subst, ◌∙◌, arith}
 use Rattle.std.specs.Prelude.{IsSome}
 use Rattle.std.proofs.lemmas.Bool.{cases_lt}
-use Rattle.ntfs_def.specs.Bits.{bit_in}
+use Rattle.list_laws.specs.Bits.{bit_in}
 use Rattle.volume_def.specs.Files.{Records}
 use Rattle.record_notes.specs.declared.used.Used.{Used}
 use Rattle.record_notes.specs.Used.{UsedNote}

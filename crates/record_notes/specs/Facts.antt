@@ -4,7 +4,7 @@ use Rattle.volume_def.specs.AttributesClause.{MeetsAttributes}
 use Rattle.volume_def.specs.Files.{Records}
 use Rattle.record_notes.specs.declared.facts.Facts.{Facts}
 use Rattle.record_notes.specs.Heads.{HeadsNote}
-use Rattle.record_notes.specs.Least.{IsLeastBelow}
+use Rattle.list_laws.specs.Least.{IsLeastBelow}
 use Rattle.record_notes.specs.Names.{NamesNote}
 use Rattle.record_notes.specs.Owners.{OwnersNote, clusters_noted}
 use Rattle.record_notes.specs.Spread.{SpreadNote}

@@ -1,8 +1,6 @@
-pub mod BitRanges
 pub mod Bitmaps
 pub mod Facts
 pub mod Heads
-pub mod Least
 pub mod Names
 pub mod Owners
 pub mod Skips

@@ -6,12 +6,12 @@ use Rattle.ntfs_def.specs.declared.kinds.TheConstants.{DATA}
 use Rattle.ntfs_def.specs.declared.records.TheConstants.{BOOT}
 use Rattle.ntfs_def.specs.declared.run_text.Run.{Run}
 use Rattle.ntfs_def.specs.Attribute.{Attribute}
-use Rattle.ntfs_def.specs.Bits.{bit_in}
+use Rattle.list_laws.specs.Bits.{bit_in}
 use Rattle.ntfs_def.specs.Runs.{runs_in}
 use Rattle.volume_def.specs.Coverage.{times_covered}
 use Rattle.volume_def.specs.Files.{Part, Records, content_of, content_runs, is_of, part_runs, parts_in}
 use Rattle.volume_def.specs.OwnersClause.{record_runs}
-use Rattle.record_notes.specs.Least.{IsLeastFailing}
+use Rattle.list_laws.specs.Least.{IsLeastFailing}
 use Rattle.record_notes.specs.declared.owners.OwnedClusters.{OwnedClusters}
 use Rattle.record_notes.specs.declared.owners.Owners.{Owners}
 

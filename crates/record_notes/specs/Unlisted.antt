@@ -5,7 +5,7 @@ use Rattle.volume_def.specs.Files.{Record, Records, is_base, parts}
 use Rattle.volume_def.specs.ListsClause.{is_list}
 use Rattle.record_notes.specs.declared.unlisted.UnlistedFiles.{UnlistedFiles}
 use Rattle.file_clauses.specs.Extents.{AreWholeParts, IsAlone}
-use Rattle.record_notes.specs.Least.{IsLeastBelow}
+use Rattle.list_laws.specs.Least.{IsLeastBelow}
 
 -- a base record without an attribute list
 abbrev pub is_unlisted : Record → Bool

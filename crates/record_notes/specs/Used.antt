@@ -1,6 +1,6 @@
 -- What is noted of the records that are in use.
 use Rattle.std.specs.Prelude.{◌≡◌, ◌↔◌, ℕ, ◌<◌, ◌≤◌, IsSome}
-use Rattle.ntfs_def.specs.Bits.{bit_in}
+use Rattle.list_laws.specs.Bits.{bit_in}
 use Rattle.volume_def.specs.Files.{Records, records_of}
 use Rattle.volume_def.specs.View.{VolumeView}
 use Rattle.record_notes.specs.declared.used.Used.{Used}

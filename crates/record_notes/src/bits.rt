@@ -1,8 +1,8 @@
 //! Bits of bytes, the lowest bit of a byte first, as the bitmaps of a volume have them.
 ghost use Rattle.std.specs.Prelude.{◌≡◌, ◌≢◌, ℕ, ◌+◌, ◌-◌, ◌*◌, ◌^◌, ◌<◌, ◌≤◌, length};
 ghost use Rattle.std.specs.Int.{bit_at};
-ghost use Rattle.ntfs_def.specs.Bits.{bit_in};
-ghost use Rattle.record_notes.specs.BitRanges.{DiffersFirst, Fills, IsLeastWithin, SetsBit};
+ghost use Rattle.list_laws.specs.Bits.{bit_in};
+ghost use Rattle.list_laws.specs.BitRanges.{DiffersFirst, Fills, IsLeastWithin, SetsBit};
 
 // The bits from `low` up to `high` of a byte, set.
 fn mask(low: u64, high: u64) -> u8

@@ -5,7 +5,7 @@ ghost use Rattle.volume_def.specs.Files.{Records, record_of};
 ghost use Rattle.attr_view.specs.View.{viewed_block};
 ghost use Rattle.record_notes.specs.Facts.{FactsNote, RightNote, SameVolume, records_known};
 ghost use Rattle.record_notes.specs.Heads.{EndsAtCount};
-ghost use Rattle.record_notes.specs.Least.{IsLeastFailing};
+ghost use Rattle.list_laws.specs.Least.{IsLeastFailing};
 ghost use Rattle.record_notes.specs.Owners.{clusters_noted};
 ghost use Rattle.record_notes.specs.Streams.{HasPlaces};
 ghost use Rattle.record_notes.specs.Unlisted.{bytes_noted};

@@ -6,7 +6,7 @@ ghost use Rattle.ntfs_def.specs.declared.kinds.TheConstants.{ATTRIBUTE_LIST};
 ghost use Rattle.volume_def.specs.Files.{Records, record_of};
 ghost use Rattle.attr_view.specs.View.{attributes_of, viewed_block};
 ghost use Rattle.record_notes.specs.Heads.{EndsAtCount, HeadsNote};
-ghost use Rattle.record_notes.specs.Least.{IsLeastFailing};
+ghost use Rattle.list_laws.specs.Least.{IsLeastFailing};
 ghost use Rattle.record_notes.specs.Spread.{SpreadNote, extensions_of};
 ghost use Rattle.record_notes.specs.Unlisted.{MeetsAlone};
 

@@ -6,7 +6,7 @@ ghost use Rattle.volume_def.specs.ListsClause.{MeetsLists};
 ghost use Rattle.volume_def.specs.View.{VolumeView};
 ghost use Rattle.attr_view.specs.View.{viewed_block};
 ghost use Rattle.record_notes.specs.Heads.{EndsAtCount};
-ghost use Rattle.record_notes.specs.Least.{IsLeastFailing};
+ghost use Rattle.list_laws.specs.Least.{IsLeastFailing};
 ghost use Rattle.record_notes.specs.Unlisted.{AreUnlistedAlone, IsUnlistedWhole, MeetsListed, UnlistedNote, bytes_noted, is_unlisted};
 
 use crate::least::least_of;

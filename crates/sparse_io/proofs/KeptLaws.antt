@@ -3,15 +3,11 @@ use Rattle.std.proofs.Common.{◌≡◌, ◌≢◌, ℕ, zero, suc, ◌+◌, ◌
 use Rattle.std.specs.Prelude.{IfSome, IsSomeAnd, IsTrue, filter, find, slice_get, slice_range}
 use Rattle.std.specs.List.{All, Contains, count_by}
 use Rattle.std.specs.Option.{option_map_or, option_or}
-use Rattle.std.specs.Ordering.{is_gt, is_lt, ordering_reverse}
-use Rattle.std.specs.Cmp.{IsTotalOrder, nat_cmp_total, on_total, then_total}
-use Rattle.std.specs.Cmp.Lexicographic.{lists_total}
-use Rattle.std.specs.declared.cmp.Ordering.{Ordering}
-use Rattle.std.specs.declared.cmp.Ordering.TheVariants.{Less, Equal, Greater}
+use Rattle.std.specs.Ordering.{is_lt}
 use Rattle.std.specs.Str.{bytes_eq}
 use Rattle.std.proofs.lemmas.Bool.{cases_Bool, eqb-true, leb-false, leb-true}
 use Rattle.std.proofs.lemmas.List.Elements.{All-contains}
-use Rattle.std.proofs.lemmas.List.{drop_all, length-drop, take_all}
+use Rattle.std.proofs.lemmas.List.{drop_all, nil_from_length}
 use Rattle.ntfs_def.specs.KeyOrder.{compare_units, fold_of}
 use Rattle.ntfs_def.specs.declared.kinds.TheConstants.{DATA, FILE_NAME}
 use Rattle.volume_def.specs.CaseClause.{volume_fold}
@@ -27,7 +23,7 @@ use Rattle.list_laws.proofs.MemberLaws.{Contains-filter, Contains-head}
 use Rattle.volume_def.proofs.ReadableLaws.{readable-stream}
 use Rattle.tree_model.specs.Answers.{bytes_of, range_of, shown_stream}
 use Rattle.tree_model.specs.Cases.{is_packed, size_of}
-use Rattle.tree_model.specs.Ordered.{in_order, put_in_order}
+use Rattle.list_laws.specs.Ordered.{in_order, put_in_order}
 use Rattle.tree_model.specs.Reading.{begins_stream, content_at, is_packed_part, stream_at, streams_of}
 use Rattle.tree_model.specs.Streams.{stream_above}
 use Rattle.tree_model.specs.Tree.{are_same, sought, sought_stream}
@@ -42,6 +38,9 @@ use Rattle.attr_store.proofs.StoredLaws.{by-first, length-by, whole-value}
 use Rattle.sparse_io.specs.declared.held.HeldStream.{HeldStream}
 use Rattle.sparse_io.specs.declared.find.FoundStream.{FoundStream}
 use Rattle.sparse_io.specs.Held.{IsHeldWith, IsReadableWith, IsStream, kept_above, kept_at, kept_from, streams_held}
+use Rattle.list_laws.proofs.OrderLaws.{lt-gt}
+use Rattle.ntfs_def.proofs.KeyOrderLaws.{units_total}
+use Rattle.list_laws.proofs.PieceLaws.{take-range}
 
 -- a line of what is kept
 abbrev pub shown_kept : HeldStream → ShownStream
@@ -214,14 +213,6 @@ module _ (view : VolumeView) (table : List ℕ) (file : FileParts) (h : IsHeldWi
       by more false b = more
 
 -- The order.
-
-pub units_total : (fold : ℕ → ℕ) → IsTotalOrder (compare_units fold)
-units_total fold = then_total (on_total (map fold) (lists_total nat_cmp_total)) (lists_total nat_cmp_total)
-
-lt-gt : (r s : Ordering) → s ≡ ordering_reverse r → is_lt s ≡ is_gt r
-lt-gt Less s e = ap is_lt e
-lt-gt Equal s e = ap is_lt e
-lt-gt Greater s e = ap is_lt e
 
 above-alike : (fold : ℕ → ℕ) (view : VolumeView) (ps : List Part) (x y : HeldStream) (s t : Stream) → Keeps view ps x s → Keeps view ps y t
     → kept_above fold x y ≡ stream_above fold s t
@@ -437,24 +428,6 @@ stream-value view table name file found h is plain =
     by true content e p = let q = ap is_packed e in cc
     by false content e p = e
 
-pub no-item : {A : Type 0} (xs : List A) → length xs ≡ 0 → xs ≡ []
-no-item [] e = refl
-no-item (x ∷ xs) e = cc
-
-take-range : (xs : List ℕ) (at len n : ℕ) → n ≡ min len (length xs - at) → at ≤ length xs → slice_range xs at (at + n) ≡ take len (drop at xs)
-take-range xs at len n is inside =
-    let back : at + n - at ≡ n = omega arith in
-    ap (λ k. take k (drop at xs)) (back ∙ is ∙ ap (min len) (sym (length-drop at xs))) ∙ take-short len (drop at xs)
-  where
-    take-short : (n : ℕ) (ys : List ℕ) → take (min n (length ys)) ys ≡ take n ys
-    take-short n ys = elim (cases_Bool (leb n (length ys))) [
-      | inl t ↦ let le = leb-true n (length ys) t in let m : min n (length ys) ≡ n = omega arith in ap (λ k. take k ys) m
-      | inr f ↦
-          let lt = leb-false n (length ys) f in
-          let m : min n (length ys) ≡ length ys = omega arith in
-          ap (λ k. take k ys) m ∙ take_all (length ys) ys (omega arith) ∙ sym (take_all n ys (omega arith))
-    ]
-
 -- THE LAW of what is read: the bytes of the range that lie below the size.
 pub read-range : (view : VolumeView) (table name : List ℕ) (file : FileParts) (found : FoundStream) (at len : ℕ) (old new : List ℕ)
     → IsHeldWith view table file → (is : IsStream view file name found) → is_packed is.stream.content ≡ false
@@ -480,7 +453,7 @@ read-range view table name file found at len old new h is plain count same read 
       | inr f ↦
           let outside = leb-false at (length bytes) f in
           let none : found.size - at ≡ 0 = omega (arith, value.1, outside) in
-          no-item new (same ∙ count ∙ ap (min len) none ∙ min-zero len)
+          nil_from_length new (same ∙ count ∙ ap (min len) none ∙ min-zero len)
           ∙ sym (ap (take len) (drop_all at bytes (omega arith)) ∙ take-nil len)
     ]
   where

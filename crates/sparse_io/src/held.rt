@@ -4,7 +4,7 @@ ghost use Rattle.ntfs_def.specs.KeyOrder.{compare_units, fold_of};
 ghost use Rattle.attr_view.specs.View.{attribute_of};
 ghost use Rattle.volume_def.specs.Files.{part_of};
 ghost use Rattle.file_record.specs.Held.{parts_held};
-ghost use Rattle.tree_model.specs.Ordered.{in_order};
+ghost use Rattle.list_laws.specs.Ordered.{in_order};
 ghost use Rattle.tree_model.specs.Reading.{begins_stream};
 ghost use Rattle.sparse_io.specs.Held.{kept_above, kept_at, kept_from};
 

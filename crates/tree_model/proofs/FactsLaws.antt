@@ -25,19 +25,17 @@ use Rattle.tree_model.specs.IndexRoom.{Index}
 use Rattle.tree_model.specs.Refusals.{Facts}
 use Rattle.tree_model.proofs.IndexRoomLaws.{entry-walk}
 use Rattle.tree_model.proofs.StepLaws.{one_volume}
+use Rattle.std.proofs.lemmas.Bool.{and_parts}
+use Rattle.list_laws.proofs.OrderLaws.{less_equal}
 
 -- an item by all its bytes
 abbrev is_item : Item → Item → Bool
 is_item x y = bytes_eq x.head y.head && (bytes_eq x.key y.key && bytes_eq x.rest y.rest)
 
-both_true : (a b : Bool) → (a && b) ≡ true → (a ≡ true) × (b ≡ true)
-both_true true b e = (refl, e)
-both_true false b e = cc
-
 item-same : (x y : Item) → is_item x y ≡ true → x ≡ y
 item-same x y e =
-    let outer = both_true (bytes_eq x.head y.head) _ e in
-    let inner = both_true (bytes_eq x.key y.key) _ outer.1 in
+    let outer = and_parts (bytes_eq x.head y.head) _ e in
+    let inner = and_parts (bytes_eq x.key y.key) _ outer.1 in
     let head = (bytes_eq-Decides x.head y.head).0 outer.0 in
     let key = (bytes_eq-Decides x.key y.key).0 inner.0 in
     let rest = (bytes_eq-Decides x.rest y.rest).0 inner.1 in
@@ -77,10 +75,6 @@ other-walk view index rule items others has other_has x c =
     ∙ entry-walk view index rule items (is_item x) has
     ∙ any-member (is_item x) items x c (item-itself x))
 
--- items in the order of ids
-less-tied : Less ≡ Equal → ⊥
-less-tied e = cc
-
 tied : (x y : Item) → u32_at x.key 0 ≡ u32_at y.key 0 → id_order x.key y.key ≡ Equal
 unfolding id_order
 tied x y e = ap (λ n. by_numbers (n ∷ []) (id_parts y.key)) e ∙ tied_itself nat_list_cmp_total (id_parts y.key)
@@ -104,10 +98,10 @@ one_item (z ∷ zs) x y ascends cx cy same =
     by ih (inl e) (inl f) = sym e ∙ f
     by ih (inl e) (inr c) =
         let less = ap (λ (w : Item). id_order w.key y.key) (sym e) ∙ behind z zs y ascends.0 c in
-        absurd (less-tied (sym less ∙ tied x y same))
+        absurd (less_equal (sym less ∙ tied x y same))
     by ih (inr c) (inl f) =
         let less = ap (λ (w : Item). id_order w.key x.key) (sym f) ∙ behind z zs x ascends.0 c in
-        absurd (less-tied (sym less ∙ tied y x (sym same)))
+        absurd (less_equal (sym less ∙ tied y x (sym same)))
     by ih (inr c) (inr d) = ih c d
 
 same_bytes : (view : VolumeView) (id : ℕ) (a b : List ℕ) → HasDescriptor view id a → HasDescriptor view id b → a ≡ b

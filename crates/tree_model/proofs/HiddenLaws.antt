@@ -1,31 +1,14 @@
 -- What decides whether a file is hidden.
-use Rattle.std.proofs.Common.{◌≡◌, ◌≢◌, ℕ, zero, suc, ◌<◌, ◌≤◌, ◌==◌, ◌||◌, Bool, true, false, List, [], ◌∷◌, refl, sym, ap, ◌∙◌, arith}
+use Rattle.std.proofs.Common.{◌≡◌, ◌≢◌, ℕ, zero, suc, ◌<◌, ◌≤◌, ◌==◌, Bool, true, false, List, [], ◌∷◌, refl, sym, ap, ◌∙◌, arith}
 use Rattle.std.specs.List.{Contains, list_any}
 use Rattle.std.proofs.lemmas.Bool.{ne_eqb, lt-ltb, le-ltb}
 use Rattle.ntfs_def.specs.declared.records.TheConstants.{FIRST_ORDINARY, ROOT}
 use Rattle.ntfs_def.specs.FileName.{FileName}
 use Rattle.volume_def.specs.FileNames.{names_of}
 use Rattle.volume_def.specs.Files.{Records}
-use Rattle.list_laws.proofs.MemberLaws.{Contains-head, Contains-later, Contains-nil}
+use Rattle.list_laws.proofs.MemberLaws.{Contains-head, Contains-later}
 use Rattle.tree_model.specs.Hidden.{is_hidden, is_system, leads_to_system}
-
-or_right : (a b : Bool) → b ≡ true → (a || b) ≡ true
-or_right true b e = refl
-or_right false b e = e
-
--- one test that passes more
-any-more : {A : Type 0} (p q : A → Bool) (xs : List A) → ((x : A) → p x ≡ true → q x ≡ true) → list_any p xs ≡ true → list_any q xs ≡ true
-any-more p q [] more e = e
-any-more p q (x ∷ xs) more e = by (any-more p q xs more) (p x) refl e
-  where
-    by : (list_any p xs ≡ true → list_any q xs ≡ true) → (b : Bool) → p x ≡ b → (b || list_any p xs) ≡ true → (q x || list_any q xs) ≡ true
-    by rest true here e = let now = more x here in rw now refl
-    by rest false here e = or_right (q x) (list_any q xs) (rest e)
-
-any-found : {A : Type 0} (p : A → Bool) (ys : List A) (y : A) → Contains ys y → p y ≡ true → list_any p ys ≡ true
-any-found p [] y c e = absurd (Contains-nil y c)
-any-found p (z ∷ zs) y (zero, lt, is) e = let now : p z ≡ true = ap p is ∙ e in rw now refl
-any-found p (z ∷ zs) y (suc k, lt, is) e = or_right (p z) (list_any p zs) (any-found p zs y (k, omega arith, is) e)
+use Rattle.list_laws.proofs.FindLaws.{any-found, any-more}
 
 -- a test that answers the same of all items, of which there is one
 any-same : {A : Type 0} (p : A → Bool) (xs : List A) (x : A) (b : Bool) → Contains xs x → ((y : A) → Contains xs y → p y ≡ b) → list_any p xs ≡ b

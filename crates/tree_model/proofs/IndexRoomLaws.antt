@@ -1,5 +1,5 @@
 -- The depth of an index is that of the tree which its walk goes through, and its nodes have the entries of the walk.
-use Rattle.std.proofs.Common.{◌≡◌, ◌≤◌, ◌++◌, ◌||◌, Bool, true, false, cond, eqb, ℕ, zero, suc, map, List, [], ◌∷◌, Option, Some, None}
+use Rattle.std.proofs.Common.{◌≡◌, ◌≤◌, ◌++◌, ◌||◌, Bool, true, false, cond, eqb, ℕ, zero, suc, map, List, [], ◌∷◌, Option, Some}
 use Rattle.std.proofs.Common.{append-nil, refl, sym, ap, ◌∙◌, arith}
 use Rattle.std.proofs.lemmas.List.Folds.{list_any-append}
 use Rattle.std.specs.List.{filter_map, find, flat_map, list_any}
@@ -12,9 +12,8 @@ use Rattle.volume_def.specs.IndexesClause.{HasIndex, KeyRule, index_parts}
 use Rattle.volume_def.specs.Values.{first_part, first_vcn_of, is_first}
 use Rattle.volume_def.specs.View.{VolumeView}
 use Rattle.tree_model.specs.IndexRoom.{Index, all_nodes, has_entry, holds_entry, index_depth, levels_below, nodes_under, other_nodes}
-
-none_other : {X : Type 0} {a : X} → None ≡ Some a → ⊥
-none_other e = cc
+use Rattle.list_laws.proofs.BoolLaws.{or-false}
+use Rattle.list_laws.proofs.OptionLaws.{none_other}
 
 last_below : (nodes : Nodes) (d : ℕ) (bs : List (Branch (Tree d))) (last : Tree d) → EachBelow (IsStored nodes d) bs last
     → IsStored nodes d last
@@ -87,10 +86,6 @@ apart true a false b = refl
 apart false true true b = refl
 apart false false true b = refl
 apart false a false b = refl
-
-or-false : (b : Bool) → (b || false) ≡ b
-or-false true = refl
-or-false false = refl
 
 -- a node with children, where below each child the nodes found have the items of its walk
 inner : (test : Item → Bool) (nodes : Nodes) (found : ℕ → List Node) (d : ℕ) (bs : List (Branch (Tree (suc d)))) (last : Tree (suc d))

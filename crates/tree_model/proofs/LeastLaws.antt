@@ -1,8 +1,7 @@
 -- The least item of a list is what stands first when the list is in order.
 use Rattle.std.proofs.Common.{◌≡◌, List, [], ◌∷◌, ◌++◌, ◌&&◌, Bool, true, false, Option, Some, None, filter, find, refl, sym, ap, ◌∙◌}
 use Rattle.std.proofs.Common.{if◌then◌else◌}
-use Rattle.tree_model.specs.Ordered.{IsOrder, in_order, put_in_order}
-use Rattle.tree_model.specs.Ordered.{least}
+use Rattle.list_laws.specs.Ordered.{IsOrder, in_order, put_in_order, least}
 
 -- the least of two lists, one after the other
 pub least-append : {A : Type 0} (above : A → A → Bool) (best : Option A) (xs ys : List A)

@@ -1,4 +1,3 @@
-pub mod OrderedLaws
 pub mod LinkOrder
 pub mod ReadingLaws
 pub mod StepLaws
@@ -9,16 +8,13 @@ pub mod BillLaws
 pub mod IndexRoomLaws
 pub mod NamesLaws
 pub mod HiddenLaws
-pub mod AlikeLaws
 pub mod SessionLaws
 pub mod PlaceLaws
 pub mod FactsLaws
 pub mod HasFacts
 pub mod MachineLaws
 pub mod ParentLaws
-pub mod OrderedMembers
 pub mod ShownLaws
-pub mod SortedLaws
 pub mod ClimbLaws
 pub mod PathLaws
 pub mod ShownLinksLaws

@@ -2,13 +2,14 @@
 use Rattle.std.proofs.Common.{◌≡◌, ℕ, map, true, false, refl, sym, ap, ◌∙◌}
 use Rattle.std.specs.declared.cmp.Ordering.{Ordering}
 use Rattle.std.specs.declared.cmp.Ordering.TheVariants.{Less, Equal, Greater}
-use Rattle.std.specs.Ordering.{ordering_then, ordering_reverse, is_gt}
+use Rattle.std.specs.Ordering.{ordering_reverse, is_gt}
 use Rattle.std.specs.Cmp.{IsTotalOrder, nat_cmp_total, on_total, then_total}
 use Rattle.std.specs.Cmp.Lexicographic.{lists_total}
 use Rattle.std.specs.FinMap.{IsAntisymmetric, nat_cmp-IsAntisymmetric, slice_cmp-IsAntisymmetric}
-use Rattle.tree_model.specs.Ordered.{IsOrder}
+use Rattle.list_laws.specs.Ordered.{IsOrder}
 use Rattle.tree_model.specs.declared.tree.Link.{Link}
 use Rattle.tree_model.specs.Tree.{compare_links, link_above}
+use Rattle.list_laws.proofs.OrderLaws.{then_both}
 
 -- a total order in which only equal items tie
 pub order : {A : Type 0} (cmp : A → A → Ordering) → IsTotalOrder cmp → IsAntisymmetric cmp → IsOrder (λ x y. is_gt (cmp x y))
@@ -38,12 +39,6 @@ order {A = A} cmp o same = record {
         let f = ap is_gt (sym xy ∙ e ∙ xz) in cc
     between x y z r Greater Less xz yz xy h k = cc
 
--- of two comparisons, one after the other
-then_same : (r s : Ordering) → ordering_then r s ≡ Equal → (r ≡ Equal) × (s ≡ Equal)
-then_same Less s e = cc
-then_same Equal s e = (refl, e)
-then_same Greater s e = cc
-
 pub link_total : (fold : ℕ → ℕ) → IsTotalOrder (compare_links fold)
 link_total fold =
     then_total (on_total (λ (l : Link). l.parent) nat_cmp_total)
@@ -52,10 +47,10 @@ link_total fold =
 
 link_same : (fold : ℕ → ℕ) → IsAntisymmetric (compare_links fold)
 link_same fold a b e =
-    let p = then_same _ _ e in
-    let n = then_same _ _ p.1 in
-    let u = then_same _ _ n.0 in
-    let s = then_same _ _ n.1 in
+    let p = then_both _ _ e in
+    let n = then_both _ _ p.1 in
+    let u = then_both _ _ n.0 in
+    let s = then_both _ _ n.1 in
     λ i. record {
       parent = nat_cmp-IsAntisymmetric a.parent b.parent p.0 i;
       name = slice_cmp-IsAntisymmetric nat_cmp-IsAntisymmetric a.name b.name u.1 i;

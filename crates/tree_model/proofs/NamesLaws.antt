@@ -1,6 +1,6 @@
 -- Which links lead to a file of a volume, and which of them are hidden.
 use Rattle.std.proofs.Common.{◌≡◌, ◌≢◌, ◌⊎◌, ◌↔◌, ◌<◌, ◌≤◌, ◌+◌, ◌==◌, ◌++◌, ◌||◌, ◌&&◌, not, nat_lt, ℕ, zero, suc, Bool, true, false}
-use Rattle.std.proofs.Common.{cond, List, [], ◌∷◌}
+use Rattle.std.proofs.Common.{cond, List, []}
 use Rattle.std.proofs.Common.{Option, Some, None, filter, map, refl, sym, ap, subst, inl, inr, ◌∙◌, append-nil, arith, if◌then◌else◌}
 use Rattle.std.proofs.lemmas.Bool.{cases_eq, cases_lt, eq-eqb, eqb-true, ne_eqb, le-ltb}
 use Rattle.std.proofs.lemmas.List.Elements.{filter-append}
@@ -14,7 +14,7 @@ use Rattle.volume_def.specs.Files.{Record, Records, is_base, record_on, records_
 use Rattle.volume_def.specs.View.{VolumeView}
 use Rattle.list_laws.proofs.MemberLaws.{Contains-from_flat_map, Contains-from_map, Contains-nil, filter-map}
 use Rattle.tree_model.specs.Hidden.{is_hidden}
-use Rattle.tree_model.specs.Ordered.{in_order}
+use Rattle.list_laws.specs.Ordered.{in_order}
 use Rattle.tree_model.specs.Reading.{all_links, is_hidden_link, link_by, links_to, node_at, node_on, read}
 use Rattle.tree_model.specs.Tree.{leads_to, link_above, node_of, shown_node}
 use Rattle.tree_model.specs.declared.tree.Link.{Link}
@@ -23,6 +23,8 @@ use Rattle.tree_model.proofs.LeastLaws.{filter-in_order}
 use Rattle.tree_model.proofs.LinkOrder.{link_order}
 use Rattle.tree_model.proofs.ReadingLaws.{node_of-read, nodes-remove}
 use Rattle.tree_model.specs.Taken.{IsTaken, without_file}
+use Rattle.std.proofs.lemmas.Simd.{map-map}
+use Rattle.list_laws.proofs.FilterLaws.{filter-agree, filter-alike, filter-passed, filter-swap}
 
 -- a name of a file, with the reference of the file
 abbrev named : ℕ → Record → names.FileName → names.Link
@@ -127,14 +129,6 @@ module _ {A : Type 0} (g : ℕ → List A) (p : A → Bool) (q : ℕ) (same : (k
 abbrev no_links : List names.Link
 no_links = []
 
--- all items that a rule gives pass a test, or none
-filter-alike : {X Y : Type 0} (h : X → Y) (p : Y → Bool) (b : Bool) (xs : List X) → ((x : X) → p (h x) ≡ b)
-    → filter p (map h xs) ≡ cond b (map h xs) []
-filter-alike h p true [] e = refl
-filter-alike h p false [] e = refl
-filter-alike h p true (x ∷ xs) e = let here = e x in rw here (ap (λ l. h x ∷ l) (filter-alike h p true xs e))
-filter-alike h p false (x ∷ xs) e = let here = e x in rw here (filter-alike h p false xs e)
-
 nothing-either : (b : Bool) → no_links ≡ cond b no_links no_links
 nothing-either true = refl
 nothing-either false = refl
@@ -149,10 +143,6 @@ filter-file records f k (Some r) = by (is_base r) refl
         ≡ cond (k == f) (links_of_file records k (Some r)) []
     by true b = rw b (filter-alike (named k r) (λ (link : names.Link). leads_to f (link_by link)) (k == f) (names_of records k) (λ _. refl))
     by false b = rw b (nothing-either (k == f))
-
-map-map : {X Y Z : Type 0} (g : Y → Z) (h : X → Y) (xs : List X) → map g (map h xs) ≡ map (λ x. g (h x)) xs
-map-map g h [] = refl
-map-map g h (x ∷ xs) = ap (λ l. g (h x) ∷ l) (map-map g h xs)
 
 none-some : (r : Record) → None ≡ Some r → ⊥
 none-some r e = cc
@@ -176,17 +166,6 @@ links-of v f s =
     ∙ ap (links_of_file records f) s.at ∙ ap (λ b. if b then map (named f s.base) (names_of records f) else []) s.is)
     ∙ map-map link_by (named f s.base) (names_of records f)
 
--- a test that each item passes which passes another
-filter-passed : {A : Type 0} (p q : A → Bool) (xs : List A) → ((x : A) → p x ≡ true → q x ≡ true) → filter p (filter q xs) ≡ filter p xs
-filter-passed p q [] h = refl
-filter-passed p q (x ∷ xs) h = by (filter-passed p q xs h) (p x) (q x) refl refl
-  where
-    by : filter p (filter q xs) ≡ filter p xs → (s t : Bool) → p x ≡ s → q x ≡ t → filter p (filter q (x ∷ xs)) ≡ filter p (x ∷ xs)
-    by ih true true s t = rw (s, t) (rw s (ap (λ l. x ∷ l) ih))
-    by ih true false s t = let e = sym (h x s) ∙ t in cc
-    by ih false true s t = rw (s, t) (rw s ih)
-    by ih false false s t = rw (s, t) ih
-
 pub links-read : (v : VolumeView) (f : ℕ) (node : Node) → node_at v f ≡ Some node → f ≢ ROOT
     → filter (leads_to f) (read v).links ≡ in_order (link_above (volume_fold v)) (links_to v f)
 unfolding read
@@ -199,30 +178,6 @@ links-read v f node e ne =
     filter-in_order (link_order (volume_fold v)) (leads_to f) (filter (λ link. not (is_hidden_link v link)) (all_links v))
     ∙ ap (in_order (link_above (volume_fold v)))
     (filter-passed (leads_to f) (λ link. not (is_hidden_link v link)) (all_links v) shown ∙ links-of v f s)
-
--- two tests in either order
-filter-swap : {A : Type 0} (p q : A → Bool) (xs : List A) → filter p (filter q xs) ≡ filter q (filter p xs)
-filter-swap p q [] = refl
-filter-swap p q (x ∷ xs) = by (filter-swap p q xs) (p x) (q x) refl refl
-  where
-    by : filter p (filter q xs) ≡ filter q (filter p xs) → (s t : Bool) → p x ≡ s → q x ≡ t
-        → filter p (filter q (x ∷ xs)) ≡ filter q (filter p (x ∷ xs))
-    by ih true true s t = rw (s, t) (rw s (ap (λ l. x ∷ l) ih))
-    by ih true false s t = rw (s, t) ih
-    by ih false true s t = rw (s, t) (rw s ih)
-    by ih false false s t = rw (s, t) ih
-
--- two tests that agree where a third one passes
-filter-agree : {A : Type 0} (p other q : A → Bool) (xs : List A) → ((x : A) → q x ≡ true → p x ≡ other x)
-    → filter p (filter q xs) ≡ filter other (filter q xs)
-filter-agree p other q [] h = refl
-filter-agree p other q (x ∷ xs) h = by (filter-agree p other q xs h) (q x) (other x) refl refl
-  where
-    by : filter p (filter q xs) ≡ filter other (filter q xs) → (s t : Bool) → q x ≡ s → other x ≡ t
-        → filter p (filter q (x ∷ xs)) ≡ filter other (filter q (x ∷ xs))
-    by ih true true s t = let u = h x s ∙ t in rw s (rw (t, u) (ap (λ l. x ∷ l) ih))
-    by ih true false s t = let u = h x s ∙ t in rw s (rw (t, u) ih)
-    by ih false t' s t = rw s ih
 
 -- A file that is shown goes with all its names: the tree is as before without it.
 pub read-taken : (old new : VolumeView) (f : ℕ) (node : Node) → node_at old f ≡ Some node → f ≢ ROOT → IsTaken old new f

@@ -13,14 +13,15 @@ use Rattle.ntfs_def.specs.declared.records.TheConstants.{ROOT}
 use Rattle.volume_def.specs.FileNames.{names_of}
 use Rattle.volume_def.specs.Files.{Record, Records, is_base, parts, record_on, records_of}
 use Rattle.volume_def.specs.View.{VolumeView}
-use Rattle.list_laws.proofs.MemberLaws.{Contains-head, Contains-later}
 use Rattle.tree_model.specs.Hidden.{is_hidden, is_system, leads_to_system}
 use Rattle.tree_model.specs.Reading.{all_links, is_hidden_link, node_at, node_by, node_on, tree_nodes}
 use Rattle.tree_model.specs.declared.tree.Link.{Link}
 use Rattle.tree_model.specs.declared.tree.Node.{Node}
 use Rattle.tree_model.proofs.HiddenLaws.{leads-root}
 use Rattle.tree_model.proofs.NamesLaws.{link-base}
-use Rattle.tree_model.proofs.ReadingLaws.{get-nodes, key_other, key_same}
+use Rattle.tree_model.proofs.ReadingLaws.{get-nodes}
+use Rattle.list_laws.proofs.OrderLaws.{key_other, key_same}
+use Rattle.list_laws.proofs.FilterLaws.{filter-all, filter-left_out}
 
 -- A file of the system is hidden, ..
 leads-system : (records : Records) (steps f : ℕ) → is_system f ≡ true → leads_to_system records steps f ≡ true
@@ -55,19 +56,6 @@ below-hidden records f name rest some no_root named system = by records.count so
 pub root-shown : (records : Records) → is_hidden records ROOT ≡ false
 unfolding is_hidden
 root-shown records = leads-root records records.count
-
--- Tests that all items pass.
-filter-all : {A : Type 0} (test : A → Bool) (xs : List A) → ((x : A) → Contains xs x → test x ≡ true) → filter test xs ≡ xs
-filter-all test [] all = refl
-filter-all test (x ∷ xs) all =
-    ap (λ b. cond b (x ∷ filter test xs) (filter test xs)) (all x (Contains-head x xs))
-    ∙ ap (λ l. x ∷ l) (filter-all test xs (λ y c. all y (Contains-later x xs y c)))
-
-filter-none : {A : Type 0} (test : A → Bool) (xs : List A) → ((x : A) → Contains xs x → test x ≡ true) → filter (λ x. not (test x)) xs ≡ []
-filter-none test [] all = refl
-filter-none test (x ∷ xs) all =
-    ap (λ b. cond (not b) (x ∷ filter (λ y. not (test y)) xs) (filter (λ y. not (test y)) xs)) (all x (Contains-head x xs))
-    ∙ filter-none test xs (λ y c. all y (Contains-later x xs y c))
 
 no_node : (b : Bool) (node : Node) → (if b && not true then Some node else None) ≡ None
 no_node true node = refl
@@ -113,7 +101,7 @@ module _ (view : VolumeView) (only : OnlyRoot view) where
 
   -- no link is shown
   pub shown-links : filter (λ link. not (is_hidden_link view link)) (all_links view) ≡ []
-  shown-links = filter-none (is_hidden_link view) (all_links view) hidden-link
+  shown-links = filter-left_out (is_hidden_link view) (all_links view) hidden-link
 
   pub hidden-links : filter (is_hidden_link view) (all_links view) ≡ all_links view
   hidden-links = filter-all (is_hidden_link view) (all_links view) hidden-link

@@ -1,7 +1,7 @@
 -- What the clauses on references and on links say of the names of directories.
-use Rattle.std.proofs.Common.{◌≡◌, ◌≢◌, ◌⊎◌, inl, inr, ℕ, ◌≤◌, ◌==◌, Bool, true, false, List, [], ◌∷◌, Option, Some, None, if◌then◌else◌, refl, sym, ap, subst, ◌∙◌, arith}
-use Rattle.std.specs.Prelude.{IfSome, IsSomeAnd, IsTrue, filter, filter_map, option_map}
-use Rattle.std.specs.List.{Contains, cons_option, count_by, range_with_len}
+use Rattle.std.proofs.Common.{◌≡◌, ◌≢◌, ℕ, ◌≤◌, ◌==◌, Bool, true, false, [], Option, Some, None, if◌then◌else◌, refl, sym, ap, subst, ◌∙◌, arith}
+use Rattle.std.specs.Prelude.{IfSome, IsSomeAnd, IsTrue, filter, option_map}
+use Rattle.std.specs.List.{Contains, count_by, range_with_len}
 use Rattle.std.proofs.lemmas.Bool.{eqb-true}
 use Rattle.std.proofs.lemmas.List.Elements.{All-contains}
 use Rattle.ntfs_def.specs.declared.records.TheConstants.{ROOT}
@@ -11,32 +11,8 @@ use Rattle.volume_def.specs.Files.{Part, Record, Records, content_value, file_of
 use Rattle.volume_def.specs.LinksClause.{HasRightLinks, IsPairedAmong, is_long_in}
 use Rattle.volume_def.specs.ReferencesClause.{HasRightReferences, MeetsReferences, NamesDirectory}
 use Rattle.list_laws.proofs.FindLaws.{passing, same_passing}
-use Rattle.list_laws.proofs.MemberLaws.{Contains-cases, Contains-filter, Contains-from_filter, Contains-from_flat_map, Contains-head, Contains-later, Contains-nil}
+use Rattle.list_laws.proofs.MemberLaws.{Contains-filter, Contains-from_filter, Contains-from_flat_map, Contains-nil, Contains-from_filter_map, Contains-filter_map}
 use Rattle.tree_model.proofs.HiddenLaws.{HasOneParent}
-
--- the items that a rule gives something of
-given-from : {X Y : Type 0} (h : X → Option Y) (xs : List X) (y : Y) → Contains (filter_map h xs) y → (x : X) × Contains xs x × (h x ≡ Some y)
-given-from h [] y c = absurd (Contains-nil y c)
-given-from {X = X} {Y = Y} h (x ∷ xs) y c = by (given-from h xs y) (h x) refl c
-  where
-    by : (Contains (filter_map h xs) y → (x : X) × Contains xs x × (h x ≡ Some y)) → (o : Option Y) → h x ≡ o
-        → Contains (cons_option o (filter_map h xs)) y → (z : X) × Contains (x ∷ xs) z × (h z ≡ Some y)
-    by rest None e c = let w = rest c in (w.0, Contains-later x xs w.0 w.1, w.2)
-    by rest (Some z) e c = elim (Contains-cases z (filter_map h xs) y c) [
-      | inl same ↦ (x, Contains-head x xs, e ∙ ap Some same)
-      | inr later ↦ let w = rest later in (w.0, Contains-later x xs w.0 w.1, w.2)
-    ]
-
-given-to : {X Y : Type 0} (h : X → Option Y) (xs : List X) (x : X) (y : Y) → Contains xs x → h x ≡ Some y → Contains (filter_map h xs) y
-given-to h [] x y c e = absurd (Contains-nil x c)
-given-to {X = X} {Y = Y} h (z ∷ zs) x y c e = by (given-to h zs x y) (h z) refl (Contains-cases z zs x c)
-  where
-    by : (Contains zs x → h x ≡ Some y → Contains (filter_map h zs) y) → (o : Option Y) → h z ≡ o → (z ≡ x) ⊎ Contains zs x
-        → Contains (cons_option o (filter_map h zs)) y
-    by rest None is (inl same) = let f = sym is ∙ ap h same ∙ e in cc
-    by rest None is (inr later) = rest later e
-    by rest (Some w) is (inl same) = let f : Some w ≡ Some y = sym is ∙ ap h same ∙ e in (0, omega arith, cc)
-    by rest (Some w) is (inr later) = Contains-later w (filter_map h zs) y (rest later e)
 
 abbrev name_of_part : Part → Option FileName
 name_of_part part = option_map name_in (content_value part.content)
@@ -62,7 +38,7 @@ module _ (records : Records) where
   pub name-held : (f : ℕ) (name : FileName) → Contains (names_of records f) name → HoldsName name
   unfolding names_of parts
   name-held f name c =
-      let w = given-from name_of_part (filter is_file_name (parts records f)) name c in
+      let w = Contains-from_filter_map name_of_part (filter is_file_name (parts records f)) name c in
       let p = Contains-from_filter is_file_name (parts records f) w.0 w.1 in
       let at = Contains-from_flat_map (λ n. parts_in (records.record_at n) n f) (range_with_len 0 records.count) w.0 p.0 in
       let h = held-in (records.record_at at.0) at.0 f w.0 refl at.2 in
@@ -70,7 +46,7 @@ module _ (records : Records) where
         number = at.0;
         holder = h.0;
         at = h.1;
-        there = given-to name_of_part (filter is_file_name h.0.parts) w.0 name (Contains-filter is_file_name h.0.parts w.0 h.2 p.1) w.2;
+        there = Contains-filter_map name_of_part (filter is_file_name h.0.parts) w.0 name (Contains-filter is_file_name h.0.parts w.0 h.2 p.1) w.2;
       }
 
   both_of : (o : Option Record) (P Q R : Record → Type 0) → IsSomeAnd o (λ r. P r × Q r) → IsSomeAnd o R → IsSomeAnd o (λ r. P r × R r)

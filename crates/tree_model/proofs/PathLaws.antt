@@ -1,7 +1,6 @@
 -- The path to a directory that is shown, step by step.
-use Rattle.std.proofs.Common.{◌≡◌, ◌≢◌, ◌⊎◌, inl, inr, ℕ, zero, suc, ◌≤◌, not, Bool, true, false, List, [], ◌∷◌, ◌++◌, map, length, Option, Some, None, IsSome, refl, sym, ap, subst, ◌∙◌, arith}
+use Rattle.std.proofs.Common.{◌≡◌, ◌≢◌, ◌⊎◌, inl, inr, ℕ, zero, suc, ◌≤◌, not, true, false, List, [], ◌∷◌, ◌++◌, map, length, Option, Some, None, IsSome, refl, sym, ap, subst, ◌∙◌, arith}
 use Rattle.std.specs.Prelude.{filter, find, nat_eq, option_map}
-use Rattle.std.specs.List.{Contains, count_by}
 use Rattle.std.specs.Map.{lookup}
 use Rattle.std.proofs.lemmas.Bool.{cases_eq, eq-eqb, ne_eqb}
 use Rattle.std.proofs.lemmas.Cmp.{nat_eq_equiv}
@@ -14,8 +13,8 @@ use Rattle.volume_def.specs.Files.{Record, Records, is_base, parts, record_on, r
 use Rattle.volume_def.specs.LinksClause.{MeetsLinks}
 use Rattle.volume_def.specs.ReferencesClause.{MeetsReferences}
 use Rattle.volume_def.specs.View.{VolumeView}
-use Rattle.list_laws.proofs.FindLaws.{count-no, count-yes, find-filter, find-map, find-one, same_passing}
-use Rattle.list_laws.proofs.MemberLaws.{Contains-cases, Contains-head, Contains-nil, filter-map}
+use Rattle.list_laws.proofs.FindLaws.{find-filter, find-map, find-one}
+use Rattle.list_laws.proofs.MemberLaws.{filter-map}
 use Rattle.tree_model.specs.Answers.{path_to}
 use Rattle.tree_model.specs.Hidden.{is_hidden}
 use Rattle.tree_model.specs.Reading.{link_for, links_to, node_at, node_by, read}
@@ -27,31 +26,7 @@ use Rattle.tree_model.proofs.LeastLaws.{find-in_order}
 use Rattle.tree_model.proofs.LinkOrder.{link_order}
 use Rattle.tree_model.proofs.NamesLaws.{links-read}
 use Rattle.tree_model.proofs.ParentLaws.{HasName}
-
-filter-none : {X : Type 0} (p : X → Bool) (xs : List X) → count_by p xs ≡ 0 → filter p xs ≡ []
-filter-none p [] e = refl
-filter-none p (x ∷ xs) e = by (filter-none p xs) (p x) refl
-  where
-    by : (count_by p xs ≡ 0 → filter p xs ≡ []) → (b : Bool) → p x ≡ b → filter p (x ∷ xs) ≡ []
-    by rest true b = let c = count-yes p x xs b in absurd (omega (arith, c, e))
-    by rest false b = let c = count-no p x xs b in rw b (rest (omega (arith, c, e)))
-
--- the one item that passes
-filter-one : {X : Type 0} (p : X → Bool) (xs : List X) (x : X) → count_by p xs ≡ 1 → Contains xs x → p x ≡ true → filter p xs ≡ x ∷ []
-filter-one p [] x e c t = absurd (Contains-nil x c)
-filter-one {X = X} p (y ∷ ys) x e c t = by (filter-one p ys x) (p y) refl
-  where
-    by : (count_by p ys ≡ 1 → Contains ys x → p x ≡ true → filter p ys ≡ x ∷ []) → (b : Bool) → p y ≡ b → filter p (y ∷ ys) ≡ x ∷ []
-    by rest true b =
-        let n = count-yes p y ys b in
-        let same : y ≡ x = same_passing p (y ∷ ys) y x (omega (arith, e)) (Contains-head y ys) b c t in
-        rw (b, filter-none p ys (omega (arith, n, e))) (ap (λ z. z ∷ []) same)
-    by rest false b =
-        let n = count-no p y ys b in
-        elim (Contains-cases y ys x c) [
-          | inl same ↦ let f = sym b ∙ ap p same ∙ t in cc
-          | inr later ↦ rw b (rest (omega (arith, n, e)) later t)
-        ]
+use Rattle.list_laws.proofs.FilterLaws.{filter-one}
 
 module _ (view : VolumeView) where
   abbrev records : Records

@@ -3,7 +3,7 @@ use Rattle.std.proofs.Common.{◌≡◌, ◌≤◌, ◌<◌, ◌+◌, ℕ, suc, 
 use Rattle.std.proofs.Common.{refl, ap, ◌∙◌, arith, if◌then◌else◌}
 use Rattle.std.specs.List.{insert}
 use Rattle.std.proofs.lemmas.List.{at_drop_more, drop_all}
-use Rattle.tree_model.specs.Ordered.{in_order, put_all, put_in_order}
+use Rattle.list_laws.specs.Ordered.{in_order, put_all, put_in_order}
 
 -- how many items at the front of a list x stands behind
 abbrev pub rank : {A : Type 0} → (A → A → Bool) → A → List A → ℕ

@@ -1,7 +1,7 @@
 -- What the tree of a volume has at each number, and in each directory.
-use Rattle.std.proofs.Common.{◌≡◌, ◌⊎◌, ◌≢◌, ◌<◌, ◌≤◌, ◌+◌, ◌++◌, eqb, Bool, ℕ, zero, suc, true, false, cond, List, ◌∷◌, filter, Option}
+use Rattle.std.proofs.Common.{◌≡◌, ◌⊎◌, ◌≢◌, ◌<◌, ◌≤◌, ◌+◌, ◌++◌, Bool, ℕ, zero, suc, true, cond, List, ◌∷◌, filter, Option}
 use Rattle.std.proofs.Common.{Some, None, refl, sym, ap, subst, inl, inr, ◌∙◌, arith}
-use Rattle.std.proofs.lemmas.Bool.{cases_eq, cases_lt, eq-eqb, ne_eqb, lt-ltb, le-ltb}
+use Rattle.std.proofs.lemmas.Bool.{cases_eq, cases_lt, le-ltb}
 use Rattle.std.specs.List.{filter_map, range_with_len, cons_option}
 use Rattle.std.specs.Prelude.{option_map}
 use Rattle.std.specs.FinMap as finmap
@@ -10,31 +10,15 @@ use Rattle.std.specs.Cmp.{nat_cmp_total}
 use Rattle.std.specs.Ordering.{nat_cmp, eq_by_cmp}
 use Rattle.volume_def.specs.CaseClause.{volume_fold}
 use Rattle.volume_def.specs.View.{VolumeView}
-use Rattle.tree_model.specs.Ordered.{in_order, put_in_order}
-use Rattle.tree_model.proofs.OrderedLaws.{both_ordered, moved}
+use Rattle.list_laws.specs.Ordered.{in_order, put_in_order}
+use Rattle.list_laws.proofs.OrderedLaws.{both_ordered, moved}
 use Rattle.tree_model.specs.declared.tree.Node.{Node}
 use Rattle.tree_model.specs.declared.tree.Link.{Link}
 use Rattle.tree_model.specs.Tree.{is_in, link_above, node_of, sought_link}
 use Rattle.tree_model.specs.Paths.{links_in_order, lookup}
 use Rattle.tree_model.specs.Reading.{all_links, directory_links, is_hidden_link, node_at, tree_nodes, read}
 use Rattle.tree_model.proofs.LinkOrder.{link_order}
-
--- numbers as keys
-pub key_same : (q : ℕ) → eq_by_cmp nat_cmp q q ≡ true
-key_same q = rw (le-ltb q q (omega arith), eq-eqb q q refl) refl
-
-pub key_other : (q f : ℕ) → q ≢ f → eq_by_cmp nat_cmp q f ≡ false
-key_other q f ne = elim (cases_lt q f) [
-  | inl lt ↦ rw (lt-ltb q f lt) refl
-  | inr ge ↦ rw (le-ltb q f ge, ne_eqb q f ne) refl
-]
-
-pub key_is : (q f : ℕ) → eq_by_cmp nat_cmp q f ≡ eqb q f
-key_is q f = elim (cases_eq q f) [
-  | inl e ↦ subst (λ x. eq_by_cmp nat_cmp q x ≡ eqb q x) e (key_same q
-      ∙ sym (eq-eqb q q refl))
-  | inr ne ↦ key_other q f ne ∙ sym (ne_eqb q f ne)
-]
+use Rattle.list_laws.proofs.OrderLaws.{key_other, key_same}
 
 -- the first of the entries
 abbrev entry_of : ℕ → Option Node → Option (ℕ × Node)

@@ -16,7 +16,7 @@ use Rattle.tree_model.specs.Reading.{all_links, directory_links, link_by, link_f
 use Rattle.tree_model.specs.Tree.{is_in, link_above, node_of, shown_node}
 use Rattle.tree_model.specs.declared.tree.Link.{Link}
 use Rattle.tree_model.proofs.HiddenLaws.{hidden-ordinary, shown-shorter, stands-parent}
-use Rattle.tree_model.proofs.OrderedMembers.{Contains-from_in_order}
+use Rattle.list_laws.proofs.OrderedLaws.{Contains-from_in_order}
 use Rattle.tree_model.proofs.ParentLaws.{HasName, directory-name, one-parent}
 use Rattle.tree_model.proofs.ReadingLaws.{node_of-read}
 

@@ -5,7 +5,7 @@ use Rattle.ntfs_def.specs.declared.records.TheConstants.{ROOT}
 use Rattle.volume_def.specs.CaseClause.{volume_fold}
 use Rattle.volume_def.specs.View.{VolumeView}
 use Rattle.tree_model.specs.Answers.{path_above, shown_link, shown_links}
-use Rattle.tree_model.specs.Ordered.{in_order, put_in_order}
+use Rattle.list_laws.specs.Ordered.{in_order, put_in_order}
 use Rattle.tree_model.specs.Reading.{all_links, is_hidden_link, links_to, node_at, read}
 use Rattle.tree_model.specs.Tree.{leads_to, link_above}
 use Rattle.tree_model.specs.declared.tree.Link.{Link}

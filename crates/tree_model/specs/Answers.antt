@@ -11,7 +11,7 @@ use Rattle.ntfs_def.specs.declared.kinds.TheConstants.{OBJECT_ID}
 use Rattle.ntfs_def.specs.declared.records.TheConstants.{ROOT}
 use Rattle.tree_model.specs.Cases.{is_packed, size_of}
 use Rattle.tree_model.specs.Opens.{free_handle}
-use Rattle.tree_model.specs.Ordered.{in_order}
+use Rattle.list_laws.specs.Ordered.{in_order}
 use Rattle.tree_model.specs.Paths.{links_in_order}
 use Rattle.tree_model.specs.Refusals.{Facts}
 use Rattle.tree_model.specs.Subjects.{Located, Machine, content_named}

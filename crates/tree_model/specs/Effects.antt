@@ -6,7 +6,7 @@ use Rattle.std.specs.Option.{option_map_or}
 use Rattle.tree_model.specs.Answers.{bytes_at}
 use Rattle.tree_model.specs.Drops.{goes_with, is_last}
 use Rattle.tree_model.specs.Opens.{free_handle, is_handle, open_above}
-use Rattle.tree_model.specs.Ordered.{put_in_order}
+use Rattle.list_laws.specs.Ordered.{put_in_order}
 use Rattle.tree_model.specs.Streams.{punched, resized, with_bytes, without_stream, written}
 use Rattle.tree_model.specs.Subjects.{Located, Machine, NameIn, NewName, NoName, RootPath}
 use Rattle.tree_model.specs.Tree.{Tree, link_above, node_of}

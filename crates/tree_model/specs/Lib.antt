@@ -1,4 +1,3 @@
-pub mod Ordered
 pub mod Tree
 pub mod Paths
 pub mod Subjects

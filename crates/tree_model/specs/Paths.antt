@@ -1,7 +1,7 @@
 -- Walking a path from the root. It stops at the first component that is bad.
 use Rattle.std.specs.Prelude.{ℕ, List, [], ◌∷◌, Option, Some, None, Result, Ok, Err, is_some, if◌then◌else◌}
 use Rattle.ntfs_def.specs.declared.records.TheConstants.{ROOT}
-use Rattle.tree_model.specs.Ordered.{in_order}
+use Rattle.list_laws.specs.Ordered.{in_order}
 use Rattle.tree_model.specs.Tree.{Tree, link_above, links_in, shown_node, sought_link}
 use Rattle.tree_model.specs.declared.reply.No.{No}
 use Rattle.tree_model.specs.declared.reply.No.TheVariants as no

@@ -24,7 +24,7 @@ use Rattle.volume_def.specs.StreamSize.{told_size}
 use Rattle.volume_def.specs.Values.{is_first, value_on}
 use Rattle.volume_def.specs.View.{VolumeView}
 use Rattle.tree_model.specs.Hidden.{is_hidden}
-use Rattle.tree_model.specs.Ordered.{in_order}
+use Rattle.list_laws.specs.Ordered.{in_order}
 use Rattle.tree_model.specs.Streams.{stream_above}
 use Rattle.tree_model.specs.Tree.{Tree, is_in, link_above}
 use Rattle.tree_model.specs.declared.tree.Content.{Content}

@@ -4,7 +4,7 @@ use Rattle.std.specs.Prelude.{if◌then◌else◌}
 use Rattle.std.specs.Ordering.{is_gt}
 use Rattle.std.specs.Str.{bytes_eq}
 use Rattle.ntfs_def.specs.KeyOrder.{compare_units}
-use Rattle.tree_model.specs.Ordered.{put_in_order}
+use Rattle.list_laws.specs.Ordered.{put_in_order}
 use Rattle.tree_model.specs.Tree.{sought_stream}
 use Rattle.tree_model.specs.declared.tree.Content.TheVariants.{Plain}
 use Rattle.tree_model.specs.declared.tree.Node.{Node}

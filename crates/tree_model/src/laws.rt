@@ -14,7 +14,7 @@ ghost use Rattle.tree_model.specs.Facts.{IsVolumeOf, ReadsAs, TellsDescriptor, T
 ghost use Rattle.tree_model.specs.IndexRoom.{Index, has_entry, index_depth};
 ghost use Rattle.tree_model.specs.Need.{empty_bill};
 ghost use Rattle.tree_model.specs.NoRoom.{no_room_for};
-ghost use Rattle.tree_model.specs.Ordered.{in_order, put_in_order};
+ghost use Rattle.list_laws.specs.Ordered.{in_order, put_in_order};
 ghost use Rattle.tree_model.specs.Paths.{lookup, links_in_order};
 ghost use Rattle.tree_model.specs.Reading.{directory_links, node_at, read, all_links, is_hidden_link, links_to, tree_nodes};
 ghost use Rattle.tree_model.specs.Refusals.{Facts, is_edit};

@@ -4,8 +4,8 @@ use Rattle.std.specs.Prelude.{IfOk, IsSome, find, option_and_then, option_map, s
 use Rattle.std.specs.List.{Contains}
 use Rattle.std.specs.Option.{option_map_or}
 use Rattle.std.specs.Str.{bytes_eq}
-use Rattle.std.proofs.lemmas.Bool.{cases_lt, eqb-true, ne_eqb}
-use Rattle.std.proofs.lemmas.List.{drop_all, drop-take, get_or-append-add, get_or-take, get_or_append_left, get_or_past, length-replicate, take_min}
+use Rattle.std.proofs.lemmas.Bool.{cases_lt, eqb-true, ne_eqb, and_parts}
+use Rattle.std.proofs.lemmas.List.{drop_all, get_or-append-add, get_or-take, get_or_append_left, get_or_past, length-replicate, take_min}
 use Rattle.std.proofs.lemmas.List.FromFn.{length-map-range_with_len}
 use Rattle.std.proofs.lemmas.Option.{slice_get-get_or}
 use Rattle.vol_bytes.specs.Field.{u16_at, u32_at}
@@ -26,13 +26,12 @@ use Rattle.list_laws.proofs.MemberLaws.{Contains-from_flat_map, Contains-from_ma
 use Rattle.attr_store.specs.declared.first.FirstPart.{FirstPart}
 use Rattle.attr_store.specs.First.{TellsSizes, attribute_held}
 use Rattle.attr_store.proofs.FirstLaws.{is_sought, sought-first}
-use Rattle.attr_store.proofs.Found.{both-true}
 use Rattle.attr_store.proofs.StoredLaws.{named, no-value}
 use Rattle.file_record.specs.declared.parts.FileParts.{FileParts}
 use Rattle.file_record.specs.declared.base.BaseFile.{BaseFile}
 use Rattle.file_record.specs.Held.{held_of, parts_held, parts_of}
 use Rattle.tree_model.specs.Answers.{bytes_of, is_unnamed_object_id, object_id, point_answer}
-use Rattle.tree_model.specs.Ordered.{in_order, put_in_order}
+use Rattle.list_laws.specs.Ordered.{in_order, put_in_order}
 use Rattle.tree_model.specs.Reading.{begins_other, content_at, is_packed_part, is_told_elsewhere, node_by, other_above, other_at, others_of, padded, point_by, point_in, point_of, read, shown_content}
 use Rattle.ntfs_def.specs.ReparsePoint.{data_place, is_of_microsoft}
 use Rattle.tree_model.specs.Shown.{point_shown}
@@ -45,6 +44,8 @@ use Rattle.tree_model.specs.declared.tree.RawAttr.{RawAttr}
 use Rattle.tree_read.specs.Nodes.{IsNodeHeld, begin_of, first_bytes, number_of, parts_in}
 use Rattle.tree_read.specs.Shown.{objid_shown, reparse_shown}
 use Rattle.tree_read.specs.declared.stop.Stop.{Stop}
+use Rattle.list_laws.proofs.PieceLaws.{take-drop-take}
+use Rattle.list_laws.proofs.BoolLaws.{and-none, and-swap}
 
 -- What an attribute holds, by the part that tells its sizes.
 
@@ -161,16 +162,6 @@ no-name (x ∷ name) even =
     let some : (length (units_in (x ∷ name)) == 0) ≡ false = ne_eqb _ 0 (λ none. absurd (omega arith)) in
     some
 
-and-none : (b : Bool) → (b && false) ≡ false
-and-none true = refl
-and-none false = refl
-
-and-swap : (b c : Bool) → (b && c) ≡ (c && b)
-and-swap true true = refl
-and-swap true false = refl
-and-swap false true = refl
-and-swap false false = refl
-
 object-told : (part : Part) → part.kind ≡ OBJECT_ID → is_told_elsewhere part ≡ false
 object-told part kind = rw kind refl
 
@@ -192,8 +183,8 @@ object-sought view all part even = by (part.kind == OBJECT_ID) refl
 
 object-tied : (fold : ℕ → ℕ) (x y : RawAttr) → is_unnamed_object_id x ≡ true → is_unnamed_object_id y ≡ true → other_above fold x y ≡ false
 object-tied fold x y p q =
-    let a = both-true (x.kind == OBJECT_ID) (length x.name == 0) p in
-    let b = both-true (y.kind == OBJECT_ID) (length y.name == 0) q in
+    let a = and_parts (x.kind == OBJECT_ID) (length x.name == 0) p in
+    let b = and_parts (y.kind == OBJECT_ID) (length y.name == 0) q in
     let k = eqb-true x.kind OBJECT_ID a.0 in
     let l = eqb-true y.kind OBJECT_ID b.0 in
     let m = empty x.name a.1 in
@@ -223,7 +214,7 @@ module _ (view : VolumeView) (held : BaseFile) (n : IsNodeHeld view held) where
       rw none (sym (no_first 16))
   object-content (Some part) e =
       let is = (find-found (is_sought OBJECT_ID []) (parts_in held) part e).1 in
-      let of_ = (both-true (is_of OBJECT_ID [] part) (is_first part) is).0 in
+      let of_ = (and_parts (is_of OBJECT_ID [] part) (is_first part) is).0 in
       let its = content-of view (parts_in held) OBJECT_ID [] part of_ in
       ap (λ (x : Content). take 16 (bytes_of x)) its ∙ by (shown_content view (attribute_held held.parts OBJECT_ID []))
     where
@@ -284,20 +275,6 @@ data-padded whole place low = elim (cases_lt (length whole) 8) [
       ∙ sym (drop_all place whole (omega arith))
 ]
 
-take-take-le : (n m : ℕ) (xs : List ℕ) → n ≤ m → take n (take m xs) ≡ take n xs
-take-take-le zero m xs le = refl
-take-take-le (suc n) zero xs le = absurd (omega arith)
-take-take-le (suc n) (suc m) [] le = refl
-take-take-le (suc n) (suc m) (x ∷ xs) le = ap (λ ys. x ∷ ys) (take-take-le n m xs (omega arith))
-
--- some bytes that lie among the first ones
-data-first : (whole : List ℕ) (place n most : ℕ) → place + n ≤ most → take n (drop place (take most whole)) ≡ take n (drop place whole)
-data-first whole place n most fits =
-    let split : most ≡ place + (n + (most - (place + n))) = omega arith in
-    ap (λ m. take n (drop place (take m whole))) split
-    ∙ ap (take n) (drop-take place (n + (most - (place + n))) whole)
-    ∙ take-take-le n (n + (most - (place + n))) (drop place whole) (omega arith)
-
 index-first : (whole value : List ℕ) (most k : ℕ) → value ≡ first_bytes most whole → k < most → slice_index value k ≡ slice_index (padded whole) k
 unfolding first_bytes
 index-first whole value most k is inside =
@@ -316,7 +293,7 @@ point-read whole value bytes most tag place n is many t m few at rest =
     let low : 8 ≤ place = low_place (is_of_microsoft tag) place at in
     let high : place ≤ 24 = high_place (is_of_microsoft tag) place at in
     let all : bytes ≡ take (u16_at (padded whole) 4) (drop (data_place (u32_at (padded whole) 0)) (padded whole)) =
-    rest ∙ ap (λ v. take n (drop place v)) is ∙ data-first whole place n most (omega arith)
+    rest ∙ ap (λ v. take n (drop place v)) is ∙ take-drop-take whole place n most (omega arith)
     ∙ ap (take n) (sym (data-padded whole place low))
     ∙ ap (λ c. take c (drop place (padded whole))) counts
     ∙ ap (λ p. take (u16_at (padded whole) 4) (drop p (padded whole))) places in

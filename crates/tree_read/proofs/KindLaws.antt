@@ -1,13 +1,11 @@
 -- What is read of a link tells what it leads to.
-use Rattle.std.proofs.Common.{◌≡◌, inl, inr, ℕ, zero, suc, ◌+◌, ◌-◌, ◌<◌, ◌≤◌, ◌==◌, ◌/◌, ◌%◌, ◌||◌, not, Bool, true, false, cond, List, [], ◌∷◌, get_or, length, take, Option, Some, None, IfSome, IsSomeAnd, IsTrue, is_some, if◌then◌else◌, refl, sym, ap, subst, ◌∙◌, arith}
+use Rattle.std.proofs.Common.{◌≡◌, inl, inr, ℕ, zero, suc, ◌-◌, ◌<◌, ◌≤◌, ◌==◌, ◌/◌, ◌%◌, not, Bool, true, false, cond, List, [], Option, Some, None, IfSome, IsSomeAnd, IsTrue, is_some, if◌then◌else◌, refl, sym, ap, subst, ◌∙◌, arith}
 use Rattle.std.specs.Prelude.{find}
 use Rattle.std.specs.List.{All, Contains, list_any}
 use Rattle.std.specs.Option.{option_map}
 use Rattle.std.specs.Ordering.{eq_by_cmp, nat_cmp}
 use Rattle.std.specs.BTreeMap.{Updates, get}
 use Rattle.std.proofs.lemmas.Bool.{cases_eq, cases_lt, eq-eqb, eqb-true, le-ltb, ne_eqb}
-use Rattle.std.proofs.lemmas.List.{take_more}
-use Rattle.std.proofs.lemmas.List.Folds.{list_any-append}
 use Rattle.ntfs_def.specs.declared.kinds.TheConstants.{REPARSE_POINT}
 use Rattle.ntfs_def.specs.declared.records.TheConstants.{FIRST_ORDINARY, ROOT}
 use Rattle.volume_def.specs.FileNames.{names_of}
@@ -24,7 +22,7 @@ use Rattle.tree_model.proofs.ClimbLaws.{Climbs, climbs, few-steps, leads-fixed}
 use Rattle.tree_model.proofs.HiddenLaws.{hidden-system, leads-ordinary, leads-root, leads-system, shown-shorter, stands-parent}
 use Rattle.tree_model.proofs.ParentLaws.{HasName, name-directory, one-parent}
 use Rattle.tree_model.proofs.PathLaws.{name-first}
-use Rattle.tree_model.proofs.ReadingLaws.{key_is}
+use Rattle.list_laws.proofs.OrderLaws.{key_is}
 use Rattle.tree_model.proofs.ShownLaws.{IsNamed, directory-link, directory-shown, hidden-links, link-named, shown-base}
 use Rattle.tree_read.specs.Above.{AreAbove, leads_hidden, name_above}
 use Rattle.tree_read.specs.FileLinks.{has_point_held, links_held}
@@ -34,6 +32,8 @@ use Rattle.tree_read.specs.Nodes.{IsFileHeld}
 use Rattle.tree_read.specs.declared.above.Above.{Above}
 use Rattle.tree_read.proofs.OutlineLaws.{flag-told, links-told, point-told}
 use Rattle.file_record.specs.declared.base.BaseFile.{BaseFile}
+use Rattle.list_laws.proofs.OptionLaws.{map-some}
+use Rattle.list_laws.proofs.FindLaws.{find-some}
 
 -- a directory is a file
 pub directory-file : (view : VolumeView) (f : ℕ) → IsDirectory view f → IsFile view f
@@ -167,12 +167,6 @@ module _ (view : VolumeView) (sound : IsSound view) where
           subst (λ (l : Link). IsDirectory view l.parent × (leads_hidden view l.parent ≡ leads_hidden view at)) same
           (parent, fixed n has.name.parent.number c parent ∙ sym (fixed (suc n) at (ne, has, c) is ∙ leads-parent n at high has))
 
--- one more that does not pass
-pub any-more-none : {A : Type 0} (p : A → Bool) (xs : List A) (k : ℕ) (d : A) → k < length xs → list_any p (take k xs) ≡ false
-    → p (get_or xs k d) ≡ false → list_any p (take (k + 1) xs) ≡ false
-any-more-none p xs k d lt none other =
-    ap (list_any p) (take_more xs k d lt) ∙ list_any-append p (take k xs) (get_or xs k d ∷ []) ∙ rw (none, other) refl
-
 -- the names of a file stand in directories
 pub parents-directories : (view : VolumeView) → IsSound view → (f : ℕ) → All (λ (link : Link). IsDirectory view link.parent) (links_to view f)
 parents-directories view sound f =
@@ -191,18 +185,6 @@ some-records view f dir = elim (cases_lt f view.layout.count) [
     past f ge dir = let e = le-ltb f view.layout.count ge in absurd (rw e at dir)
 
 -- KINDS
-
-find-some : {A : Type 0} (p : A → Bool) (xs : List A) → is_some (find p xs) ≡ list_any p xs
-find-some p [] = refl
-find-some p (x ∷ xs) = by (find-some p xs) (p x)
-  where
-    by : is_some (find p xs) ≡ list_any p xs → (b : Bool) → is_some (cond b (Some x) (find p xs)) ≡ (b || list_any p xs)
-    by rest true = refl
-    by rest false = rest
-
-map-some : {A B : Type 0} (f : A → B) (o : Option A) → is_some (option_map f o) ≡ is_some o
-map-some f None = refl
-map-some f (Some x) = refl
 
 point-some : (view : VolumeView) (all : List Part) → is_some (point_of view all) ≡ list_any (is_of REPARSE_POINT []) all
 unfolding point_of

@@ -12,7 +12,6 @@ use Rattle.list_laws.proofs.SameItemsLaws.{count-filter, count-map}
 use Rattle.file_record.specs.declared.base.BaseFile.{BaseFile}
 use Rattle.tree_model.specs.Answers.{shown_link_count}
 use Rattle.tree_model.specs.Hidden.{is_hidden}
-use Rattle.tree_model.specs.Ordered.{in_order, put_in_order}
 use Rattle.tree_model.specs.Reading.{all_links, is_hidden_link, link_for, links_to, node_at, read}
 use Rattle.tree_model.specs.Tree.{is_dos, leads_to, link_above, names_file}
 use Rattle.tree_model.specs.declared.tree.Link.{Link}
@@ -21,35 +20,7 @@ use Rattle.tree_model.proofs.NamesLaws.{links-read}
 use Rattle.tree_model.proofs.ReadingLaws.{node_of-read}
 use Rattle.tree_read.specs.Nodes.{IsNodeHeld, number_of, parts_in}
 use Rattle.tree_read.specs.Parts.{is_shown_name, shown_names}
-
--- Items that pass a test, counted in order or not.
-
-count-swap : {A : Type 0} (p : A → Bool) (x y : A) (zs : List A) → count_by p (x ∷ y ∷ zs) ≡ count_by p (y ∷ x ∷ zs)
-count-swap p x y zs =
-    let a = count-cons p x (y ∷ zs) in let b = count-cons p y zs in
-    let c = count-cons p y (x ∷ zs) in let d = count-cons p x zs in omega arith
-
-count-put : {A : Type 0} (above : A → A → Bool) (p : A → Bool) (x : A) (ys : List A)
-    → count_by p (put_in_order above x ys) ≡ count_by p (x ∷ ys)
-count-put above p x [] = refl
-count-put above p x (y ∷ ys) = by (count-put above p x ys) (above x y) refl
-  where
-    by : count_by p (put_in_order above x ys) ≡ count_by p (x ∷ ys) → (b : Bool) → above x y ≡ b
-        → count_by p (put_in_order above x (y ∷ ys)) ≡ count_by p (x ∷ y ∷ ys)
-    by rest false e = rw e refl
-    by rest true e =
-        let more = count-cons p y (put_in_order above x ys) in
-        let less = count-cons p y (x ∷ ys) in
-        let swapped = count-swap p x y ys in
-        rw e (omega arith)
-
-pub count-in_order : {A : Type 0} (above : A → A → Bool) (p : A → Bool) (xs : List A) → count_by p (in_order above xs) ≡ count_by p xs
-count-in_order above p [] = refl
-count-in_order above p (x ∷ xs) =
-    let here = count-put above p x (in_order above xs) in
-    let a = count-cons p x (in_order above xs) in
-    let b = count-cons p x xs in
-    let rest = count-in_order above p xs in omega arith
+use Rattle.list_laws.proofs.OrderedLaws.{count-in_order}
 
 -- The names among parts.
 

@@ -6,8 +6,7 @@ use Rattle.std.proofs.lemmas.Bool.{cases_eq, ne_eqb}
 use Rattle.std.proofs.lemmas.List.{drop-map, take_min}
 use Rattle.std.proofs.lemmas.List.Sums.{count_by_more_no, count_by_more_yes, sum_by-take-drop, sum_by-take-le}
 use Rattle.std.proofs.lemmas.Option.{get_or_from_slice_get, slice_get_within}
-use Rattle.std.proofs.lemmas.List.FromFn.{length-map-range_with_len}
-use Rattle.ntfs_def.specs.Bits.{bit_in, flags_in}
+use Rattle.list_laws.specs.Bits.{bit_in, flags_in}
 use Rattle.ntfs_def.specs.declared.records.TheConstants.{FIRST_ORDINARY}
 use Rattle.volume_def.specs.BitmapClauses.{MeetsClusterBits, MeetsRecordBits, cluster_bits, record_bits}
 use Rattle.volume_def.specs.Files.{Record, record_on, records_of}
@@ -27,6 +26,7 @@ use Rattle.volume_def.specs.Room.{unowned_clusters, unused_records}
 use Rattle.tree_model.specs.declared.reply.Answer.{Answer}
 use Rattle.tree_model.specs.declared.reply.Answer.TheVariants as a
 use Rattle.tree_read.specs.Shown.{df_shown}
+use Rattle.list_laws.proofs.BitLaws.{length-flags}
 
 -- a clear bit says that there is no owner, and no record in use
 unowned : (bit times : ℕ) → (bit ≡ 1) ↔ (1 ≤ times) → not (bit == 1) ≡ (times == 0)
@@ -72,10 +72,6 @@ module _ (view : VolumeView) where
       ∙ count-agree (λ n. is_none (record_on view n)) (λ at. not (bit_in (value_on view (record_bits view)) at == 1)) all (λ n among.
       let inside = Contains-from_range FIRST_ORDINARY (view.layout.count - FIRST_ORDINARY) n among in
       unused _ _ ((meets n).bit inside.0 (omega (arith, inside.1))))
-
-length-flags : (bytes : List ℕ) (count : ℕ) → length (flags_in bytes count) ≡ count
-unfolding flags_in
-length-flags bytes count = length-map-range_with_len (λ at. bit_in bytes at == 1) 0 count
 
 -- What `df` wants, by the bits that are kept.
 pub df-told : (view : VolumeView) (mounted : Mounted) (facts : Facts) → IsSoundVolume view mounted → TellsFacts view facts

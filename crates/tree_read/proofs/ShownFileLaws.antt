@@ -9,7 +9,7 @@ use Rattle.volume_def.specs.Files.{records_of}
 use Rattle.volume_def.specs.Sound.{IsSound, Links, References}
 use Rattle.volume_def.specs.View.{VolumeView}
 use Rattle.list_laws.proofs.MemberLaws.{All-from_Contains, Contains-from_map}
-use Rattle.tree_model.specs.Ordered.{in_order}
+use Rattle.list_laws.specs.Ordered.{in_order}
 use Rattle.tree_model.specs.Reading.{link_for, links_to, node_at, read}
 use Rattle.tree_model.specs.Tree.{link_above, node_of}
 use Rattle.tree_model.specs.declared.tree.Link.{Link}
@@ -17,7 +17,7 @@ use Rattle.tree_model.specs.declared.tree.Node.{Node}
 use Rattle.tree_model.proofs.ClimbLaws.{IsShownDirectory, shown-parent}
 use Rattle.tree_model.proofs.HiddenLaws.{hidden-system}
 use Rattle.tree_model.proofs.NamesLaws.{IsShown, is_shown}
-use Rattle.tree_model.proofs.OrderedMembers.{Contains-from_in_order}
+use Rattle.list_laws.proofs.OrderedLaws.{Contains-from_in_order}
 use Rattle.tree_model.proofs.ReadingLaws.{node_of-read}
 use Rattle.ntfs_def.specs.KeyOrder.{fold_of}
 use Rattle.file_record.specs.declared.base.BaseFile.{BaseFile}

@@ -1,33 +1,23 @@
 -- Links and lines that were sorted are in order.
-use Rattle.std.proofs.Common.{◌≡◌, ℕ, Bool, List, [], ◌∷◌, ◌++◌, map, take, get_or, length, ◌<◌, ◌+◌, refl, sym, ap, ◌∙◌}
+use Rattle.std.proofs.Common.{◌≡◌, ℕ, Bool, List, [], ◌∷◌, ◌++◌, map, take, get_or, length, ◌<◌, ◌+◌, sym, ap, ◌∙◌}
 use Rattle.std.specs.Cmp.{IsStrictWeakOrder, IsTotalOrder, nat_cmp_total}
 use Rattle.std.specs.Cmp.Lexicographic.{lists_total}
 use Rattle.std.specs.List.Sorted.{IsSortedBy, IsStableBy}
-use Rattle.std.specs.Ordering.{is_gt, is_lt, ordering_reverse}
-use Rattle.std.specs.declared.cmp.Ordering.{Ordering}
-use Rattle.std.specs.declared.cmp.Ordering.TheVariants.{Less, Equal, Greater}
+use Rattle.std.specs.Ordering.{is_gt, is_lt}
 use Rattle.std.proofs.lemmas.List.{map-append, take_more}
 use Rattle.std.proofs.lemmas.List.Sorted.{ranks_by}
 use Rattle.ntfs_def.specs.KeyOrder.{by_numbers}
 use Rattle.tree_model.specs.Answers.{path_above, path_text}
-use Rattle.tree_model.specs.Ordered.{in_order}
+use Rattle.list_laws.specs.Ordered.{in_order}
 use Rattle.tree_model.specs.Tree.{compare_links, link_above}
 use Rattle.tree_model.specs.declared.reply.ShownLink.{ShownLink}
 use Rattle.tree_model.specs.declared.tree.Link.{Link}
 use Rattle.tree_model.proofs.LinkOrder.{link_total}
 use Rattle.tree_model.proofs.ShownLinksLaws.{in_order-map}
-use Rattle.tree_model.proofs.SortedLaws.{sorted-in_order}
+use Rattle.list_laws.proofs.StableLaws.{sorted-in_order}
 use Rattle.tree_read.specs.Lines.{shown_in}
 use Rattle.tree_read.specs.declared.line.Line.{Line}
-
--- below the one way is above the other
-turned : {A : Type 0} (cmp : A → A → Ordering) → IsTotalOrder cmp → (x y : A) → is_lt (cmp y x) ≡ is_gt (cmp x y)
-turned cmp o x y = ap is_lt (o.antisymm y x) ∙ by (cmp x y)
-  where
-    by : (r : Ordering) → is_lt (ordering_reverse r) ≡ is_gt r
-    by Less = refl
-    by Equal = refl
-    by Greater = refl
+use Rattle.list_laws.proofs.OrderLaws.{turned}
 
 -- LINKS
 

@@ -5,7 +5,7 @@ ghost use Rattle.volume_def.specs.Files.{records_of};
 ghost use Rattle.mft_table.specs.Mft.{view};
 ghost use Rattle.tree_model.specs.Answers.{path_above, path_to, shown_link, shown_links};
 ghost use Rattle.tree_model.specs.Hidden.{is_hidden};
-ghost use Rattle.tree_model.specs.Ordered.{in_order};
+ghost use Rattle.list_laws.specs.Ordered.{in_order};
 ghost use Rattle.tree_model.specs.Reading.{read};
 ghost use Rattle.tree_model.specs.Tree.{link_above};
 ghost use Rattle.tree_read.specs.Above.{AreAbove};

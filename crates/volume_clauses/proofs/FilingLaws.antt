@@ -28,16 +28,13 @@ use Rattle.volume_clauses.specs.Tallies.{IsTally, first_parent, is_placed_not_do
 use Rattle.record_notes.proofs.NameLaws.{held-by, held-file}
 use Rattle.volume_clauses.proofs.ReferenceLaws.{TellNames}
 use Rattle.record_notes.proofs.HeadLaws.{inside-used}
+use Rattle.list_laws.proofs.OptionLaws.{map-twice, some-value}
 
 -- the names of a file among the facts are its names
 pub places-names : (records : Records) (facts : List NameFact) (f : ℕ) → TellNames records facts
     → places_in_file f facts ≡ map placed (names_of records f)
 places-names records facts f tell =
     ap (λ xs. map (λ (h : HeldName). h.place) (filter (is_of_file f) xs)) tell ∙ held-file records f
-
-map-twice : {A B C : Type 0} (g : B → C) (f : A → B) (o : Option A) → option_map g (option_map f o) ≡ option_map (λ x. g (f x)) o
-map-twice g f None = refl
-map-twice g f (Some x) = refl
 
 pub first-parent : (records : Records) (f : ℕ) → first_parent (map placed (names_of records f)) ≡ parent_of records f
 first-parent records f =
@@ -87,10 +84,6 @@ names-directories records f right =
     (All-from_Contains (λ (h : HeldName). NamesDirectory records h.place.parent) all
     (λ held among. held-directory records held right among))))
 
-pub used-from : {A : Type 0} (o : Option A) (P : A → Type 0) → IsSomeAnd o P → (x : A) × (o ≡ Some x) × P x
-used-from None P h = absurd h
-used-from (Some x) P h = (x, refl, h)
-
 found-number : (records : Records) (o : Option PlacedName) (p : ℕ) → option_map (λ (x : PlacedName). x.parent.number) o ≡ Some p
     → (x : PlacedName) × (o ≡ Some x) × (x.parent.number ≡ p)
 found-number records None p e = absurd (cc)
@@ -105,7 +98,7 @@ parent-inside records f p ends right e =
     let found = find-found is_placed_not_dos places w.0 w.1 in
     let directory = All-contains (λ (x : PlacedName). NamesDirectory records x.parent) places w.0
     (names-directories records f right) found.0 in
-    let used = used-from (records.record_at w.0.parent.number) _ directory.0 in
+    let used = some-value (records.record_at w.0.parent.number) _ directory.0 in
     subst (λ k. k < records.count) w.2 (inside-used records w.0.parent.number used.0 ends used.1)
 
 -- A record is filed as the clause asks.

@@ -11,9 +11,10 @@ use Rattle.std.proofs.lemmas.List.Sorted.{IsNonDecreasingBy-from_all_adjacent}
 use Rattle.list_laws.proofs.FindLaws.{count-agree, count-no, count-some}
 use Rattle.list_laws.proofs.SameItemsLaws.{count-map}
 use Rattle.volume_clauses.specs.declared.pairs.NameKey.{NameKey}
-use Rattle.record_notes.specs.Least.{IsLeastFailing}
-use Rattle.volume_clauses.specs.Pairs.{ArePaired, IsBeside, IsInRange, IsPaired, IsPairedName, is_key, order_in, order_of, times_named}
-use Rattle.volume_clauses.proofs.PairLaws.{IsPartnered-beside, beside-IsPartnered, times}
+use Rattle.list_laws.specs.Least.{IsLeastFailing}
+use Rattle.volume_clauses.specs.Pairs.{ArePaired, IsInRange, IsPaired, IsPairedName, is_key, order_in, order_of, times_named}
+use Rattle.list_laws.specs.Beside.{IsBeside}
+use Rattle.list_laws.proofs.PairLaws.{IsPartnered-beside, beside-IsPartnered, times}
 
 -- the order of keys is that of their places
 pub order-le : (x y : NameKey) → IsInRange x → IsInRange y

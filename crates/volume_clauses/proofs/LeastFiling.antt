@@ -13,13 +13,13 @@ use Rattle.volume_clauses.specs.declared.marks.Mark.TheVariants.{Unknown, Walkin
 use Rattle.record_notes.specs.declared.names.NameFact.{NameFact}
 use Rattle.volume_clauses.specs.declared.tallies.Tally.{Tally}
 use Rattle.record_notes.specs.Heads.{EndsAtCount, HeadsNote, head_at}
-use Rattle.record_notes.specs.Least.{IsLeastFailing}
+use Rattle.list_laws.specs.Least.{IsLeastFailing}
 use Rattle.volume_clauses.specs.Links.{IsFiled, MeetsFiling}
 use Rattle.volume_clauses.specs.Marks.{IsKnown, is_found, mark_at}
 use Rattle.volume_clauses.specs.Tallies.{IsTally, parent_within, places_in_file, tally_at}
 use Rattle.volume_clauses.proofs.FilingLaws.{IsTallyOf, IsTallyOf-noted, filed-meets, parent-inside, unused-meets}
 use Rattle.record_notes.proofs.HeadLaws.{HeadsNote-all}
-use Rattle.record_notes.proofs.LeastLaws.{least-same}
+use Rattle.list_laws.proofs.LeastLaws.{least-same}
 use Rattle.volume_clauses.proofs.ReferenceLaws.{TellNames}
 use Rattle.volume_clauses.proofs.WayLaws.{AreParents, Reaches-Leads}
 

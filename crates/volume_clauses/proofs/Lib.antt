@@ -3,7 +3,6 @@ pub mod KeyLaws
 pub mod LeastFiling
 pub mod LinkLaws
 pub mod MarkLaws
-pub mod PairLaws
 pub mod ReachLaws
 pub mod ReferenceLaws
 pub mod TallyLaws

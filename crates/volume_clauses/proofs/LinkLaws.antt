@@ -18,15 +18,14 @@ use Rattle.list_laws.proofs.MemberLaws.{All-from_Contains, Contains-from_filter,
 use Rattle.list_laws.proofs.SameItemsLaws.{count-filter, count-map}
 use Rattle.record_notes.specs.declared.names.NameFact.{NameFact}
 use Rattle.volume_clauses.specs.declared.pairs.NameKey.{NameKey}
-use Rattle.record_notes.specs.Least.{IsLeastFailing, least_of}
+use Rattle.list_laws.specs.Least.{IsLeastFailing, least_of}
 use Rattle.volume_clauses.specs.Links.{HasPairs, HasRightFiling, MeetsFiling}
 use Rattle.record_notes.specs.Names.{HeldName, PlacedName, is_of_file, names_held_below, placed, told_name}
 use Rattle.volume_clauses.specs.Pairs.{ArePaired, is_key, key_of, times_named}
-use Rattle.volume_clauses.proofs.FilingLaws.{used-from}
-use Rattle.record_notes.proofs.LeastLaws.{least-two, least-same}
+use Rattle.list_laws.proofs.OptionLaws.{some-value, if-some}
+use Rattle.list_laws.proofs.LeastLaws.{least-two, least-same}
 use Rattle.record_notes.proofs.NameLaws.{held-by, held-file}
 use Rattle.volume_clauses.proofs.ReferenceLaws.{TellNames}
-use Rattle.record_notes.proofs.HeadLaws.{if_some}
 
 -- a name of this namespace in this directory
 abbrev is_placed : ℕ → ℕ → PlacedName → Bool
@@ -99,7 +98,7 @@ based records k f r None none at file right =
 based records k f r (Some base) is at file right =
     let e : base.number ≡ f = sym (ap (λ (b : Option Reference). unwrap_or (option_map (λ (x : Reference). x.number) b) k) is) ∙ file in
     let named : NamesBase records base = subst (λ (b : Option Reference). IfSome b (NamesBase records)) is right.base in
-    let w = used-from (records.record_at base.number) _ named in
+    let w = some-value (records.record_at base.number) _ named in
     (w.0, ap records.record_at (sym e) ∙ w.1, w.2.0)
 
 named-base : (records : Records) (f : ℕ) (name : FileName) → ((n : ℕ) → MeetsReferences records n) → Contains (names_of records f) name
@@ -122,7 +121,7 @@ named-base records f name right among =
 
 meets-of : (records : Records) (f : ℕ) → HasPairs records f → MeetsFiling records f → MeetsLinks records f
 meets-of records f paired filing = record {
-  links = if_some (records.record_at f) (λ r. IsTrue (is_base r) → HasRightLinks records f r) (λ r at base.
+  links = if-some (records.record_at f) (λ r. IsTrue (is_base r) → HasRightLinks records f r) (λ r at base.
       let right : HasRightFiling records f r =
       subst (λ o. IfSome o (λ x. IsTrue (is_base x) → HasRightFiling records f x)) at filing.links base in
       record { named = right.named; count = right.count; paired = paired; once = right.once; rooted = right.rooted });
@@ -131,7 +130,7 @@ meets-of records f paired filing = record {
 
 filing-of : (records : Records) (f : ℕ) → MeetsLinks records f → MeetsFiling records f
 filing-of records f meets = record {
-  links = if_some (records.record_at f) (λ r. IsTrue (is_base r) → HasRightFiling records f r) (λ r at base.
+  links = if-some (records.record_at f) (λ r. IsTrue (is_base r) → HasRightFiling records f r) (λ r at base.
       let right : HasRightLinks records f r =
       subst (λ o. IfSome o (λ x. IsTrue (is_base x) → HasRightLinks records f x)) at meets.links base in
       record { named = right.named; count = right.count; once = right.once; rooted = right.rooted });

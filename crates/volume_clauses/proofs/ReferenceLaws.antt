@@ -14,11 +14,12 @@ use Rattle.volume_def.specs.ReferencesClause.{HasRightReferences, MeetsReference
 use Rattle.list_laws.proofs.MemberLaws.{All-from_Contains, Contains-from_map, Contains-map}
 use Rattle.record_notes.specs.declared.names.NameFact.{NameFact}
 use Rattle.record_notes.specs.Heads.{EndsAtCount}
-use Rattle.record_notes.specs.Least.{IsLeastFailing, least_of}
+use Rattle.list_laws.specs.Least.{IsLeastFailing, least_of}
 use Rattle.record_notes.specs.Names.{HeldName, held_name, names_held_below, told_name}
 use Rattle.volume_clauses.specs.References.{MeetsBase, MeetsParents}
-use Rattle.record_notes.proofs.HeadLaws.{if_some, inside-used}
-use Rattle.record_notes.proofs.LeastLaws.{least-two, least-same}
+use Rattle.list_laws.proofs.OptionLaws.{if-some}
+use Rattle.record_notes.proofs.HeadLaws.{inside-used}
+use Rattle.list_laws.proofs.LeastLaws.{least-two, least-same}
 use Rattle.record_notes.proofs.NameLaws.{holder_of, held-among, held-by, held-rising}
 
 -- the facts tell all names that records hold
@@ -33,7 +34,7 @@ pub parents-meet : (records : Records) (facts : List NameFact) (i m : ℕ) → E
     → All (HasDirectory records) (take i facts)
     → ((k : ℕ) (d : NameFact) → k < length facts → (get_or facts k d).holder ≡ m → k < i) → MeetsParents records m
 parents-meet records facts i m ends tell all before =
-    if_some (records.record_at m) (λ r. All (λ name. NamesDirectory records name.parent) (names_among r.parts)) (λ r at.
+    if-some (records.record_at m) (λ r. All (λ name. NamesDirectory records name.parent) (names_among r.parts)) (λ r at.
     All-from_Contains (λ name. NamesDirectory records name.parent) (names_among r.parts) (λ name among.
     let held = held-among records m r name (inside-used records m r ends at) at among in
     let told = Contains-from_map told_name facts _ (subst (λ xs. Contains xs (held_name m (file_of m r) name)) (sym tell) held) in

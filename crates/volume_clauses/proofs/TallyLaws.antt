@@ -10,24 +10,8 @@ use Rattle.record_notes.specs.declared.names.NameFact.{NameFact}
 use Rattle.volume_clauses.specs.declared.tallies.Tally.{Tally}
 use Rattle.record_notes.specs.Names.{HeldName, PlacedName, is_of_file, told_name}
 use Rattle.volume_clauses.specs.Tallies.{IsTally, is_placed_not_dos, places_in_file, tally_at}
-
-find-push-no : {X : Type 0} (p : X → Bool) (xs : List X) (y : X) → p y ≡ false → find p (xs ++ y ∷ []) ≡ find p xs
-find-push-no p [] y e = ap (λ b. cond b (Some y) None) e
-find-push-no p (x ∷ xs) y e = ap (λ o. cond (p x) (Some x) o) (find-push-no p xs y e)
-
-find-push-yes : {X : Type 0} (p : X → Bool) (xs : List X) (y : X) → p y ≡ true → find p (xs ++ y ∷ []) ≡ option_or (find p xs) (Some y)
-find-push-yes p [] y e = ap (λ b. cond b (Some y) None) e
-find-push-yes {X} p (x ∷ xs) y e =
-    let rest = find-push-yes p xs y e in
-    elim (p x) as (λ b. cond b (Some x) (find p (xs ++ y ∷ [])) ≡ option_or (cond b (Some x) (find p xs)) (Some y)) [
-      | true ↦
-          refl
-      | false ↦ rest
-    ]
-
-map-or : {X Y : Type 0} (f : X → Y) (o : Option X) (x : X) → option_map f (option_or o (Some x)) ≡ option_or (option_map f o) (Some (f x))
-map-or f None x = refl
-map-or f (Some y) x = refl
+use Rattle.list_laws.proofs.OptionLaws.{map-or}
+use Rattle.list_laws.proofs.FindLaws.{find-push-no, find-push-yes}
 
 abbrev weight : Bool → ℕ
 weight b = cond b 1 0

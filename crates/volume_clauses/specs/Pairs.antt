@@ -1,5 +1,5 @@
 -- DOS names and their partners, among the keys of names.
-use Rattle.std.specs.Prelude.{◌≡◌, ◌≢◌, ℕ, ◌+◌, ◌-◌, ◌*◌, ◌%◌, ◌^◌, ◌<◌, ◌≤◌, ◌==◌, ◌&&◌, Bool, List, count_by, length, slice_index}
+use Rattle.std.specs.Prelude.{◌≡◌, ℕ, ◌+◌, ◌*◌, ◌%◌, ◌^◌, ◌<◌, ◌≤◌, ◌==◌, ◌&&◌, Bool, List, count_by}
 use Rattle.record_notes.specs.declared.names.NameFact.{NameFact}
 use Rattle.volume_clauses.specs.declared.pairs.NameKey.{NameKey}
 
@@ -38,9 +38,3 @@ order_in file directory namespace = (file * 2 ^ 48 + directory) * 2 ^ 8 + namesp
 
 abbrev pub order_of : NameKey → ℕ
 order_of key = order_in key.file key.directory key.namespace
-
--- in sorted order: the partner of a DOS name stands before it, and none like it behind it
-pub record IsBeside (orders : List ℕ) (i : ℕ) : Type 0 where
-  pub some : 0 < i
-  pub before : slice_index orders (i - 1) ≡ slice_index orders i - 1
-  pub behind : i + 1 < length orders → slice_index orders (i + 1) ≢ slice_index orders i

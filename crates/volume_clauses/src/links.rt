@@ -4,7 +4,7 @@ ghost use Rattle.volume_def.specs.Files.{Records};
 ghost use Rattle.volume_def.specs.LinksClause.{MeetsLinks};
 ghost use Rattle.volume_def.specs.ReferencesClause.{MeetsReferences};
 ghost use Rattle.record_notes.specs.Heads.{EndsAtCount, HeadsNote, head_at};
-ghost use Rattle.record_notes.specs.Least.{IsLeastFailing};
+ghost use Rattle.list_laws.specs.Least.{IsLeastFailing};
 ghost use Rattle.volume_clauses.specs.Links.{HasPairs, IsFiled, IsLinked, MeetsFiling};
 ghost use Rattle.volume_clauses.specs.Marks.{is_found, mark_at};
 ghost use Rattle.record_notes.specs.Names.{NamesNote};

@@ -1,9 +1,10 @@
 //! Whether each DOS name stands beside a Win32 name of its file and directory, and is the only DOS name there.
 ghost use Rattle.std.specs.Prelude.{◌≡◌, ◌↔◌, ◌<◌, ◌%◌, ◌^◌, All, IfOk, IsTrue, length, map, slice_index, slice_index_or};
 ghost use Rattle.std.specs.List.Sorted.{IsNonDecreasing, IsPermutation};
-ghost use Rattle.record_notes.specs.Least.{IsLeastFailing};
+ghost use Rattle.list_laws.specs.Least.{IsLeastFailing};
 ghost use Rattle.volume_clauses.specs.declared.pairs.NameKey.{NameKey};
-ghost use Rattle.volume_clauses.specs.Pairs.{ArePaired, IsBeside, IsInRange, IsPairedName, key_of, order_of};
+ghost use Rattle.volume_clauses.specs.Pairs.{ArePaired, IsInRange, IsPairedName, key_of, order_of};
+ghost use Rattle.list_laws.specs.Beside.{IsBeside};
 
 use record_notes::{DOS, NameFact, Names, WIN32};
 use std::alloc::{AllocError, Global};

@@ -2,7 +2,7 @@
 ghost use Rattle.volume_def.specs.Files.{Records};
 ghost use Rattle.volume_def.specs.ReferencesClause.{MeetsReferences};
 ghost use Rattle.record_notes.specs.Heads.{EndsAtCount, HeadsNote};
-ghost use Rattle.record_notes.specs.Least.{IsLeastFailing};
+ghost use Rattle.list_laws.specs.Least.{IsLeastFailing};
 ghost use Rattle.record_notes.specs.Names.{NamesNote};
 ghost use Rattle.volume_clauses.specs.References.{MeetsBase, MeetsParents};
 

@@ -1,8 +1,7 @@
 -- Where the sectors of the table lie, and what disks that agree on some sectors have in common.
-use Rattle.std.proofs.Common.{◌≡◌, ℕ, zero, suc, ◌+◌, ◌-◌, ◌*◌, ◌/◌, ◌%◌, ◌<◌, ◌≤◌, List, [], ◌∷◌, ◌++◌, length, take, Option, Some, None, inl, inr, refl, sym, ap, ◌∙◌, arith, append-nil}
+use Rattle.std.proofs.Common.{◌≡◌, ℕ, ◌+◌, ◌-◌, ◌*◌, ◌/◌, ◌%◌, ◌<◌, ◌≤◌, List, [], ◌∷◌, ◌++◌, length, take, Option, Some, None, inl, inr, refl, sym, ap, ◌∙◌, arith, append-nil}
 use Rattle.std.specs.Prelude.{All, IsSomeAnd}
 use Rattle.std.specs.Option.{option_map}
-use Rattle.std.specs.List.{range_with_len, flat_map}
 use Rattle.std.proofs.lemmas.Bool.{cases_lt}
 use Rattle.std.proofs.lemmas.List.Elements.{All-head, All-tail}
 use Rattle.std.proofs.lemmas.Nat.{mul-add-lt, div-mul-add, mod-mul-add, mod_below, div-add-mod'}
@@ -16,6 +15,7 @@ use Rattle.volume_def.specs.Blocks.{block_of, cluster_of, copy_of, cut_off, mirr
 use Rattle.volume_def.specs.Coverage.{AreApart, times_covered}
 use Rattle.volume_def.specs.Table.{IsOnVolume, TableLayout}
 use Rattle.volume_def.proofs.RunPlaces.{spot_of-once, times_in-spot_of}
+use Rattle.list_laws.proofs.FlatMapLaws.{flat_map-range_agree}
 
 -- Places.
 
@@ -129,19 +129,12 @@ copy_of-same old new layout n same =
     let b : new (at + 2 * n + 1) ≡ old (at + 2 * n + 1) = rw e (same (2 * n + 1) (omega arith)) in
     ap (λ x. x ++ new (at + 2 * n + 1)) a ∙ ap (λ x. old (at + 2 * n) ++ x) b
 
-pieces-same : (f g : ℕ → List ℕ) (a n : ℕ) → ((i : ℕ) → a ≤ i → i < a + n → g i ≡ f i)
-    → flat_map g (range_with_len a n) ≡ flat_map f (range_with_len a n)
-pieces-same f g a zero same = refl
-pieces-same f g a (suc n) same =
-    ap (λ x. x ++ flat_map g (range_with_len (a + 1) n)) (same a (omega arith) (omega arith))
-    ∙ ap (λ x. f a ++ x) (pieces-same f g (a + 1) n (λ i l u. same i (omega arith) (omega arith)))
-
 pub cluster_of-same : (old new : ℕ → List ℕ) (layout : TableLayout) (c : ℕ)
     → ((place : ℕ) → place / layout.cluster_sectors ≡ c → new place ≡ old place) → cluster_of new layout c ≡ cluster_of old layout c
 unfolding cluster_of
 cluster_of-same old new layout c same =
     let per = layout.cluster_sectors in
-    pieces-same (λ i. old (c * per + i)) (λ i. new (c * per + i)) 0 per (λ i l u. same (c * per + i) (div-mul-add c per i (omega arith)))
+    flat_map-range_agree (λ i. old (c * per + i)) (λ i. new (c * per + i)) 0 per (λ i l u. same (c * per + i) (div-mul-add c per i (omega arith)))
 
 -- One block written.
 

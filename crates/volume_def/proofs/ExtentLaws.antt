@@ -1,5 +1,5 @@
 -- The extents of a stream: at most one holds a cluster, and at most one is the first.
-use Rattle.std.proofs.Common.{◌≡◌, ◌<◌, ◌≤◌, ◌+◌, ◌-◌, ℕ, Bool, true, false, cond, All, List, [], ◌∷◌, length, Some, refl, sym, ap, inl, inr, ◌∙◌, arith}
+use Rattle.std.proofs.Common.{◌≡◌, ◌<◌, ◌≤◌, ◌+◌, ◌-◌, ℕ, true, false, cond, All, List, [], ◌∷◌, length, Some, refl, sym, ap, inl, inr, ◌∙◌, arith}
 use Rattle.std.specs.Prelude.{IsSome, IsSomeAnd}
 use Rattle.std.proofs.lemmas.Bool.{and_from, and_left, and_right, cases_lt, le-leb, le-ltb, lt-leb, lt-ltb, ne_eqb}
 use Rattle.std.proofs.lemmas.List.Elements.{All-head}
@@ -10,11 +10,12 @@ use Rattle.volume_def.specs.Files.{Clusters, Content, Part, Value, part_clusters
 use Rattle.list_laws.specs.SameItems.{SameItems}
 use Rattle.volume_def.specs.Values.{first_vcn_of, holds_vcn, is_first, spot_at, spot_by}
 use Rattle.volume_def.proofs.Codes.{part_code}
-use Rattle.volume_def.proofs.CodedLaws.{find-SameItems}
+use Rattle.list_laws.proofs.CodedLaws.{find-SameItems}
 use Rattle.list_laws.proofs.FindLaws.{count-cons, count-no, find-one}
 use Rattle.ntfs_def.proofs.SpotLaws.{spot_of-none}
 use Rattle.volume_def.proofs.RunPieces.{spot_of-back, spot_of-front}
 use Rattle.list_laws.proofs.SameItemsLaws.{SameItems-sym, SameItems-trans}
+use Rattle.list_laws.proofs.BoolLaws.{at_most_one}
 
 -- The clusters of the parts follow one another from this one on.
 abbrev pub Follow : ℕ → List Part → Type 0
@@ -58,10 +59,6 @@ count-before (part ∷ parts) from vcn (e, f) h =
     let c = count-no (holds_vcn vcn) part parts (holds-earlier vcn part (omega arith)) in
     let rest = count-before parts (from + part_clusters part) vcn f (omega arith) in
     omega arith
-
-at_most_one : (b : Bool) → cond b 1 0 ≤ 1
-at_most_one true = omega arith
-at_most_one false = omega arith
 
 count-holds : (parts : List Part) (from vcn : ℕ) → Follow from parts → count_by (holds_vcn vcn) parts ≤ 1
 count-holds [] from vcn f = omega arith

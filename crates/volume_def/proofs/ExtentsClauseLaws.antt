@@ -12,7 +12,7 @@ use Rattle.volume_def.specs.Members.{FreesEmpty, TakesEmpty}
 use Rattle.volume_def.specs.Files.{Part, Record, Records, file_of, is_base, is_of, parts, parts_like}
 use Rattle.list_laws.specs.SameItems.{SameItems}
 use Rattle.volume_def.proofs.Codes.{said_code}
-use Rattle.volume_def.proofs.CodedLaws.{SameItems-Contains}
+use Rattle.list_laws.proofs.CodedLaws.{SameItems-Contains}
 use Rattle.list_laws.proofs.MemberLaws.{All-from_Contains, Contains-from_map, Contains-map, filter-map}
 use Rattle.volume_def.proofs.ReadableLaws.{of_base}
 use Rattle.volume_def.proofs.RecordLaws.{parts-freed, parts-moved, parts-other, parts-taken, parts-unmoved}

@@ -2,7 +2,6 @@ pub mod RunPlaces
 pub mod BlockLaws
 pub mod FrameLaws
 pub mod OneTable
-pub mod CodedLaws
 pub mod Codes
 pub mod RecordLaws
 pub mod PartLaws

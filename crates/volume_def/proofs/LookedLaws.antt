@@ -1,6 +1,6 @@
 -- A change of sectors that no clause looks at changes no answer.
-use Rattle.std.proofs.Common.{◌≡◌, ◌<◌, ◌≤◌, ◌+◌, ◌*◌, ◌/◌, ℕ, zero, suc, true, List, [], ◌∷◌, length, Option, Some, None, refl, sym, ap, subst, inl, inr, ◌∙◌, mul-zero, arith}
-use Rattle.std.specs.Prelude.{◌↔◌, IfSome, IsSome, IsTrue, codes, slice_range}
+use Rattle.std.proofs.Common.{◌≡◌, ◌<◌, ◌≤◌, ◌+◌, ◌*◌, ◌/◌, ℕ, zero, suc, true, List, [], ◌∷◌, length, refl, sym, ap, subst, inl, inr, ◌∙◌, mul-zero, arith}
+use Rattle.std.specs.Prelude.{◌↔◌, IsSome, IsTrue, codes, slice_range}
 use Rattle.std.proofs.Math.Path.{fun_ext}
 use Rattle.std.proofs.lemmas.Bool.{and_parts, eqb-true}
 use Rattle.std.specs.List.{Contains}
@@ -8,7 +8,7 @@ use Rattle.ntfs_def.specs.declared.index.NodeForm.{NodeForm}
 use Rattle.ntfs_def.specs.declared.index.NodeForm.TheVariants.{Names, View}
 use Rattle.ntfs_def.specs.declared.kinds.TheConstants.{ATTRIBUTE_LIST, BITMAP, DATA, INDEX_ALLOCATION}
 use Rattle.ntfs_def.specs.declared.records.TheConstants.{CLUSTER_BITMAP, MFT, UPCASE}
-use Rattle.ntfs_def.specs.Bits.{bit_in}
+use Rattle.list_laws.specs.Bits.{bit_in}
 use Rattle.ntfs_def.specs.Boot.{mft_cluster}
 use Rattle.ntfs_def.specs.Fixup.{IsSealed, opened_of}
 use Rattle.ntfs_def.specs.IndexTree.{Ascends, HoldsIndex, Walks}
@@ -35,10 +35,7 @@ use Rattle.volume_def.proofs.BlockLaws.{block_of-same, cluster_of-same, copy_of-
 use Rattle.list_laws.proofs.MemberLaws.{All-from_Contains, Contains-from_filter, Contains-only}
 use Rattle.volume_def.proofs.OtherListLaws.{HasRightList-kept}
 use Rattle.volume_def.proofs.ValueLaws.{spot_at-owned, value-frame}
-
-if_some : {A : Type 0} (P Q : A → Type 0) (o : Option A) → ((a : A) → P a → Q a) → IfSome o P → IfSome o Q
-if_some P Q None f p = tt
-if_some P Q (Some a) f p = f a p
+use Rattle.list_laws.proofs.OptionLaws.{IfSome-weaker}
 
 -- On one view: another view that differs in copies, clusters, and the sectors behind them, but not where a clause looks.
 module _ (view : VolumeView) (copy cluster rest : ℕ → List ℕ)
@@ -83,7 +80,7 @@ module _ (view : VolumeView) (copy cluster rest : ℕ → List ℕ)
       let all = parts (records_of view) f in
       let kept : KeepsList view other all =
       All-from_Contains (λ part. IsTrue (is_list part) → KeepsClusters view other (part ∷ [])) all (list-looked f) in
-      if_some (λ r. IsTrue (is_base r) → HasRightList view f all) (λ r. IsTrue (is_base r) → HasRightList other f all) (record_on view f)
+      IfSome-weaker (λ r. IsTrue (is_base r) → HasRightList view f all) (λ r. IsTrue (is_base r) → HasRightList other f all) (record_on view f)
       (λ r h base. HasRightList-kept view other f all refl kept refl (λ alone. alone) (h base)) meets
 
   pub cluster_bits-kept : (n : ℕ) → MeetsClusterBits view n → MeetsClusterBits other n
@@ -215,7 +212,7 @@ module _ (view : VolumeView) (copy cluster rest : ℕ → List ℕ)
 
   pub indexes-kept : (f : ℕ) → MeetsIndexes view f → MeetsIndexes other f
   indexes-kept f meets = record {
-    directory = if_some _ _ (record_on view f) (λ r h base directory. directory-kept f (h base directory)) meets.directory;
+    directory = IfSome-weaker _ _ (record_on view f) (λ r h base directory. directory-kept f (h base directory)) meets.directory;
     security_ids = λ is. view_index-kept f (codes "$SII") id_rule (meets.security_ids is);
     security_hashes = λ is. view_index-kept f (codes "$SDH") hash_rule (meets.security_hashes is);
     reparse_points = λ s. view_index-kept f (codes "$R") word_rule

@@ -14,7 +14,7 @@ use Rattle.volume_def.specs.Files.{Content, Part, part_clusters, content_extent,
 use Rattle.list_laws.specs.SameItems.{SameItems}
 use Rattle.volume_def.specs.Values.{holds_vcn, is_first, spot_at, spot_by, value_of_parts, value_over}
 use Rattle.volume_def.proofs.Codes.{said_code}
-use Rattle.volume_def.proofs.CodedLaws.{SameItems-lifted}
+use Rattle.list_laws.proofs.CodedLaws.{SameItems-lifted}
 use Rattle.volume_def.proofs.ExtentLaws.{spot_at-SameItems, stream-holds}
 use Rattle.list_laws.proofs.FindLaws.{find-map}
 use Rattle.list_laws.proofs.SameItemsLaws.{SameItems-map, SameItems-same, SameItems-sym, SameItems-trans}

@@ -11,7 +11,7 @@ use Rattle.volume_def.specs.Files.{Clusters, Content, Part, Value, part_clusters
 use Rattle.volume_def.specs.Spans.{is_within, spans_vcn}
 use Rattle.volume_def.specs.Values.{first_vcn_of, holds_vcn, spot_at, spot_by}
 use Rattle.volume_def.proofs.Codes.{part_code}
-use Rattle.volume_def.proofs.CodedLaws.{SameItems-All, SameItems-Contains}
+use Rattle.list_laws.proofs.CodedLaws.{SameItems-All, SameItems-Contains}
 use Rattle.list_laws.proofs.FindLaws.{find-agree, find-found}
 use Rattle.list_laws.proofs.MemberLaws.{Contains-cases, Contains-nil, Contains-only}
 use Rattle.volume_def.proofs.RunPieces.{spot_of-behind}

@@ -12,7 +12,7 @@ use Rattle.list_laws.specs.SameItems.{SameItems}
 use Rattle.volume_def.specs.StreamSize.{real_size, told_size}
 use Rattle.volume_def.specs.Values.{byte_there, first_vcn_of, holds_vcn, is_first, spot_at, spot_by, value_by, value_byte, value_of_parts, value_over}
 use Rattle.volume_def.proofs.Codes.{part_code}
-use Rattle.volume_def.proofs.CodedLaws.{find-SameItems}
+use Rattle.list_laws.proofs.CodedLaws.{find-SameItems}
 use Rattle.volume_def.proofs.ExtentLaws.{spot_at-SameItems, stream-first, stream-holds}
 use Rattle.list_laws.proofs.FindLaws.{find-found, find-one}
 use Rattle.list_laws.proofs.MemberLaws.{map_agree}

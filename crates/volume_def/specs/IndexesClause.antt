@@ -10,7 +10,7 @@ use Rattle.ntfs_def.specs.declared.kinds.TheConstants.{BITMAP, FILE_NAME, INDEX_
 use Rattle.ntfs_def.specs.declared.run_text.Spot.TheVariants.{Hole}
 use Rattle.ntfs_def.specs.declared.records.TheConstants.{EXTEND, FIRST_ORDINARY, SECURE}
 use Rattle.ntfs_def.specs.declared.lengths.TheConstants.{INDEX_RECORD}
-use Rattle.ntfs_def.specs.Bits.{bit_in}
+use Rattle.list_laws.specs.Bits.{bit_in}
 use Rattle.ntfs_def.specs.FileName.{FileName, is_name_key, link_of}
 use Rattle.ntfs_def.specs.Fixup.{IsSealed, opened_of}
 use Rattle.ntfs_def.specs.IndexRoot.{index_record_len, indexed_kind, key_collation}

@@ -1,5 +1,5 @@
 -- The clause on attributes holds of a new volume.
-use Rattle.std.proofs.Common.{◌≡◌, ℕ, suc, ◌+◌, ◌<◌, ◌≤◌, ◌==◌, Bool, true, false, cond, List, [], ◌∷◌, None, inl, inr, refl, sym, ap, ◌∙◌, arith}
+use Rattle.std.proofs.Common.{◌≡◌, ℕ, suc, ◌+◌, ◌<◌, ◌≤◌, ◌==◌, Bool, false, cond, List, [], ◌∷◌, None, inl, inr, refl, sym, ap, ◌∙◌, arith}
 use Rattle.std.specs.Prelude.{codes, IsTrue, IsSome, is_none}
 use Rattle.std.specs.List.{AllByRecursion, count_by}
 use Rattle.std.proofs.lemmas.List.Sums.{sum_by-cons}
@@ -13,6 +13,7 @@ use Rattle.volume_def.specs.Files.{Content, Part, Record, Value, content_value}
 use Rattle.volume_format.specs.Plan.{Plan, name_part, name_value, planned_records, standard_part}
 use Rattle.record_bytes.specs.AttributeBytes.{part}
 use Rattle.volume_format.proofs.EachRecord.{each-listed}
+use Rattle.list_laws.proofs.BoolLaws.{at_most_one}
 
 -- ids count up
 abbrev IdsFrom : ℕ → List Part → Type 0
@@ -35,10 +36,6 @@ IfStandard part = part.kind ≡ STANDARD_INFORMATION → IsStandard part
 abbrev one_if : Bool → ℕ
 one_if b = cond b 1 0
 
-one-most : (b : Bool) → cond b 1 0 ≤ 1
-one-most true = omega arith
-one-most false = omega arith
-
 -- ids that count up from k: none is below k, and none is there twice
 times_id-cons : (id : ℕ) (a : Part) (rest : List Part) → times_id id (a ∷ rest) ≡ cond (a.id == id) 1 0 + times_id id rest
 times_id-cons id a rest = sum_by-cons (λ (q : Part). cond (q.id == id) 1 0) a rest
@@ -53,7 +50,7 @@ times_id-below k id (a ∷ rest) ids lt =
 times_id-once : (k id : ℕ) (all : List Part) → IdsFrom k all → times_id id all ≤ 1
 times_id-once k id [] ids = omega arith
 times_id-once k id (a ∷ rest) ids = elim (cases_eq id k) [
-  | inl e ↦ omega (arith, times_id-cons id a rest, one-most (a.id == id), times_id-below (suc k) id rest ids.1 (omega arith))
+  | inl e ↦ omega (arith, times_id-cons id a rest, at_most_one (a.id == id), times_id-below (suc k) id rest ids.1 (omega arith))
   | inr ne ↦
       let i = ids.0 in
       let other : (a.id == id) ≡ false = grind (arith, nat_tests) in

@@ -8,7 +8,7 @@ use Rattle.ntfs_def.specs.declared.index.NodeForm.TheVariants.{Names}
 use Rattle.ntfs_def.specs.declared.kinds.TheConstants.{BITMAP, INDEX_ALLOCATION, INDEX_ROOT}
 use Rattle.ntfs_def.specs.declared.records.TheConstants.{EXTEND, ROOT}
 use Rattle.ntfs_def.specs.declared.run_text.Spot.TheVariants.{At}
-use Rattle.ntfs_def.specs.Bits.{bit_in}
+use Rattle.list_laws.specs.Bits.{bit_in}
 use Rattle.ntfs_def.specs.FileName.{is_name_key, link_of}
 use Rattle.ntfs_def.specs.Fixup.{opened_of}
 use Rattle.ntfs_def.specs.Node.{Item, short_node}
@@ -36,7 +36,7 @@ use Rattle.volume_format.proofs.IndexTrees.{HasIndex-leaf, root-holds, root-only
 use Rattle.volume_format.proofs.Needed.{clusters_needed-covers}
 use Rattle.volume_format.proofs.Records.{parts_at-planned, records_of-planned}
 use Rattle.volume_format.proofs.RootRecord.{IsIndexRecordAt-root, stored-is}
-use Rattle.volume_format.proofs.Tested.{All-tested}
+use Rattle.list_laws.proofs.PieceLaws.{All-tested}
 use Rattle.volume_format.proofs.Values.{spot-stream}
 
 module _ (p : Plan) (view : VolumeView) (is : IsPlanned p view) (some : 0 < p.size) where

@@ -2,10 +2,10 @@
 use Rattle.std.proofs.Common.{◌≡◌, ℕ, Bool, true, List, ap}
 use Rattle.std.specs.List.{list_all}
 use Rattle.std.specs.Ordering.{is_gt, nat_cmp, ordering_then}
-use Rattle.tree_model.specs.Ordered.{in_order}
+use Rattle.list_laws.specs.Ordered.{in_order}
 use Rattle.tree_model.specs.Tree.{link_above}
 use Rattle.tree_model.specs.declared.tree.Link.{Link}
-use Rattle.tree_model.proofs.AlikeLaws.{ordered-alike}
+use Rattle.list_laws.proofs.OrderedLaws.{ordered-alike}
 use Rattle.volume_format.proofs.IndexOrder.{AgreeOnAscii, are_ascii, units-same}
 
 abbrev pub has_ascii : Link → Bool

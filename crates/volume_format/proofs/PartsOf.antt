@@ -1,36 +1,10 @@
 -- Among base records each file has the parts of its own record.
-use Rattle.std.proofs.Common.{◌≡◌, ◌≢◌, ℕ, zero, suc, ◌+◌, ◌<◌, ◌≤◌, ◌==◌, true, false, cond, List, [], ◌++◌, Option, Some, None, inl, inr, refl, sym, ap, ◌∙◌, arith, append-nil}
+use Rattle.std.proofs.Common.{◌≡◌, ◌≢◌, ℕ, ◌<◌, ◌≤◌, ◌==◌, true, false, cond, List, [], Option, Some, None, refl, ap, ◌∙◌, arith}
 use Rattle.std.specs.Prelude.{IfSome, option_map, unwrap_or}
-use Rattle.std.specs.List.{flat_map, range_with_len}
-use Rattle.std.proofs.lemmas.List.Concat.{flat_map-cons}
-use Rattle.std.proofs.lemmas.Bool.{cases_eq}
 use Rattle.std.proofs.lemmas.Bool.Decides.{nat_tests}
 use Rattle.ntfs_def.specs.Record.{Reference}
 use Rattle.volume_def.specs.Files.{Part, Record, Records, file_of, parts, parts_in}
-
--- of a range where all numbers give nothing, nothing is left
-flat_map-none : {A : Type 0} (g : ℕ → List A) (from n : ℕ) → ((m : ℕ) → from ≤ m → m < from + n → g m ≡ [])
-    → flat_map g (range_with_len from n) ≡ []
-flat_map-none g from zero none = refl
-flat_map-none g from (suc n) none =
-    flat_map-cons g from (range_with_len (from + 1) n)
-    ∙ ap (λ xs. xs ++ flat_map g (range_with_len (from + 1) n)) (none from (omega arith) (omega arith))
-    ∙ flat_map-none g (from + 1) n (λ m low high. none m (omega arith) (omega arith))
-
--- where all numbers but one do, that one is left
-pub flat_map-one : {A : Type 0} (g : ℕ → List A) (from n k : ℕ) → from ≤ k → k < from + n → ((m : ℕ) → m ≢ k → g m ≡ [])
-    → flat_map g (range_with_len from n) ≡ g k
-flat_map-one g from zero k low high none = absurd (omega arith)
-flat_map-one g from (suc n) k low high none = elim (cases_eq k from) [
-  | inl e ↦
-      flat_map-cons g from (range_with_len (from + 1) n)
-      ∙ ap (λ xs. g from ++ xs) (flat_map-none g (from + 1) n (λ m l h. none m (omega arith)))
-      ∙ append-nil (g from) ∙ ap g (sym e)
-  | inr ne ↦
-      flat_map-cons g from (range_with_len (from + 1) n)
-      ∙ ap (λ xs. xs ++ flat_map g (range_with_len (from + 1) n)) (none from (omega (arith, ne)))
-      ∙ flat_map-one g (from + 1) n k (omega arith) (omega arith) none
-]
+use Rattle.list_laws.proofs.FlatMapLaws.{flat_map-none, flat_map-one}
 
 abbrev pub parts_or_none : Option Record → List Part
 parts_or_none None = []

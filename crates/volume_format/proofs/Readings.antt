@@ -17,7 +17,7 @@ use Rattle.volume_def.specs.Values.{value_on}
 use Rattle.volume_def.specs.View.{VolumeView}
 use Rattle.tree_model.specs.Facts.{ReadsAs}
 use Rattle.tree_model.specs.Hidden.{is_hidden, is_system}
-use Rattle.tree_model.specs.Ordered.{in_order}
+use Rattle.list_laws.specs.Ordered.{in_order}
 use Rattle.tree_model.specs.Reading.{all_links, is_hidden_link, link_by, links_that, node_at, node_by, node_on, others_of, point_of, read, streams_of}
 use Rattle.tree_model.specs.Tree.{link_above}
 use Rattle.tree_model.proofs.OnlyRootLaws.{OnlyRoot, below-hidden, hidden-links, root-nodes, root-shown, shown-links, system-hidden}

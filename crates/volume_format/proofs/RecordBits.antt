@@ -7,7 +7,7 @@ use Rattle.std.proofs.lemmas.Bool.{false≢true}
 use Rattle.std.proofs.lemmas.Bool.Decides.{nat_tests}
 use Rattle.std.proofs.lemmas.List.Elements.{All-from_recursion}
 use Rattle.std.proofs.lemmas.List.FromFn.{get_or-map-range_with_len}
-use Rattle.ntfs_def.specs.Bits.{bit_in}
+use Rattle.list_laws.specs.Bits.{bit_in}
 use Rattle.volume_def.specs.BitmapClauses.{HasRecordBits, MeetsRecordBits, record_bits}
 use Rattle.volume_def.specs.Files.{Part, content_extent}
 use Rattle.volume_def.specs.Values.{value_on}
@@ -19,7 +19,7 @@ use Rattle.volume_format.proofs.ClusterBits.{HasNoHole-stream}
 use Rattle.volume_format.proofs.Contents.{record_bits-planned, record_bits-value}
 use Rattle.volume_format.proofs.Needed.{clusters_needed-covers}
 use Rattle.volume_format.proofs.Records.{record_on-planned}
-use Rattle.volume_format.proofs.Tested.{range-tested}
+use Rattle.list_laws.proofs.RangeLaws.{range-tested}
 
 -- the bit of record n, as it stands in the bitmap
 abbrev bit_of : ℕ → ℕ

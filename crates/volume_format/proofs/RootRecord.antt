@@ -3,10 +3,8 @@ use Rattle.std.proofs.Common.{◌≡◌, ◌≢◌, ℕ, ◌+◌, ◌*◌, ◌/�
 use Rattle.std.specs.Prelude.{slice_index, slice_range}
 use Rattle.std.specs.List.{range_with_len}
 use Rattle.std.proofs.lemmas.List.{take_all}
-use Rattle.std.proofs.lemmas.Grind.{same_number_lists}
-use Rattle.std.proofs.lemmas.List.FromFn.{length-map-range_with_len, get_or-map-range_with_len}
 use Rattle.ntfs_def.specs.declared.run_text.Spot.TheVariants.{At, Hole}
-use Rattle.ntfs_def.specs.Bits.{bit_in}
+use Rattle.list_laws.specs.Bits.{bit_in}
 use Rattle.ntfs_def.specs.Fixup.{IsSealed, opened_of}
 use Rattle.ntfs_def.specs.Node.{own_vcn}
 use Rattle.volume_def.specs.IndexesClause.{IndexParts, IsIndexRecordAt, stored_index_record}
@@ -15,13 +13,7 @@ use Rattle.volume_def.specs.Values.{spot_at, value_on}
 use Rattle.volume_def.specs.View.{VolumeView}
 use Rattle.volume_format.specs.Plan.{node_len}
 use Rattle.volume_format.specs.Planned.{IsRootRecord}
-
--- bytes by their places
-bytes-by-place : (bytes : List ℕ) → map (slice_index bytes) (range_with_len 0 (length bytes)) ≡ bytes
-bytes-by-place bytes =
-    same_number_lists _ _ (length-map-range_with_len (slice_index bytes) 0 (length bytes))
-    (λ i lt. get_or-map-range_with_len (slice_index bytes) 0 (length bytes) i i 0
-    (omega (arith, lt, length-map-range_with_len (slice_index bytes) 0 (length bytes))) (omega arith))
+use Rattle.list_laws.proofs.RangeLaws.{by_places}
 
 at-not-hole : (c : ℕ) → At c ≢ Hole
 at-not-hole c e = cc
@@ -32,7 +24,7 @@ module _ (view : VolumeView) (index : IndexParts) (stored : List ℕ) (root : Is
     (at : ℕ) (placed : (k : ℕ) → k * cluster_bytes view.layout < node_len → spot_at index.records k ≡ At (at + k))
     (bit : bit_in (value_on view index.bits) 0 ≡ 1) where
   is-value : value_on view index.records ≡ stored
-  is-value = value ∙ ap (λ n. map (slice_index stored) (range_with_len 0 n)) (sym root.len) ∙ bytes-by-place stored
+  is-value = value ∙ ap (λ n. map (slice_index stored) (range_with_len 0 n)) (sym root.len) ∙ by_places stored
 
   from-0 : 0 * cluster_bytes view.layout ≡ 0
   from-0 = omega arith

@@ -18,7 +18,7 @@ use Rattle.volume_format.specs.Plan.{Plan, is_planned, record_in_list, record_li
 use Rattle.volume_format.specs.StoredRecord.{IsStoredRecord}
 use Rattle.volume_format.proofs.Listed.{record_in_list-past}
 use Rattle.record_bytes.proofs.NewRecordLaws.{array_place-shape}
-use Rattle.volume_format.proofs.Tested.{range-tested}
+use Rattle.list_laws.proofs.RangeLaws.{range-tested}
 
 array_count-shape : (block : List ℕ) → header_failing block ≡ None → array_count block ≡ 3
 array_count-shape block right = search rules

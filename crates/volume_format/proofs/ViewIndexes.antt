@@ -22,7 +22,7 @@ use Rattle.volume_format.proofs.IndexNodes.{hashes-say, ids-say, words-say}
 use Rattle.volume_format.proofs.IndexTrees.{HasIndex-leaf}
 use Rattle.volume_format.proofs.PartsOf.{parts_or_none}
 use Rattle.volume_format.proofs.Records.{parts_at-planned}
-use Rattle.volume_format.proofs.Tested.{All-tested}
+use Rattle.list_laws.proofs.PieceLaws.{All-tested}
 
 module _ (p : Plan) (view : VolumeView) (is : IsPlanned p view) where
   -- A view index of a file, whose only part is a root without children.

@@ -1,6 +1,6 @@
 use Rattle.std.proofs.Common.{◌≡◌, ◌*◌, ◌+◌, ◌-◌, ◌++◌, ◌∷◌, [], ap, inl, inr, ◌∙◌, arith}
 use Rattle.std.proofs.lemmas.Bool.{cases_lt}
-use Rattle.ntfs_def.specs.Bits.{bit_in}
+use Rattle.list_laws.specs.Bits.{bit_in}
 use Rattle.cluster_bitmap.specs.Words.{bit_of}
 use Rattle.cluster_bitmap.proofs.RangeLaws.{bit_of-push_old, bit_of-push_new}
 use Rattle.cluster_bitmap.proofs.read_words.Goals as goal

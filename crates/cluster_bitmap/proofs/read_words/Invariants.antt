@@ -1,5 +1,5 @@
 use Rattle.std.proofs.Common.{◌≡◌, ℕ, ◌*◌, ◌<◌, length}
-use Rattle.ntfs_def.specs.Bits.{bit_in}
+use Rattle.list_laws.specs.Bits.{bit_in}
 use Rattle.cluster_bitmap.specs.Words.{bit_of}
 use Rattle.cluster_bitmap.proofs.read_words.Given as goal
 

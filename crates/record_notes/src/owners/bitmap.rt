@@ -4,9 +4,9 @@ ghost use Rattle.volume_def.specs.BitmapClauses.{HasNoHole, MeetsClusterBits, cl
 ghost use Rattle.volume_def.specs.Values.{IsPlain};
 ghost use Rattle.volume_def.specs.Values.{value_on};
 ghost use Rattle.volume_def.specs.View.{VolumeView};
-ghost use Rattle.record_notes.specs.BitRanges.{IsPieceOf};
+ghost use Rattle.list_laws.specs.BitRanges.{IsPieceOf};
 ghost use Rattle.record_notes.specs.Bitmaps.{HasClusterBytes, AllOwnersNote, cluster_bytes_needed};
-ghost use Rattle.record_notes.specs.Least.{IsLeastBelow, IsLeastFailing};
+ghost use Rattle.list_laws.specs.Least.{IsLeastBelow, IsLeastFailing};
 ghost use Rattle.record_notes.specs.Owners.{clusters_noted};
 
 use crate::bits::first_difference;

@@ -6,7 +6,7 @@ ghost use Rattle.attr_view.specs.View.{attribute_of, attributes_of, viewed_block
 ghost use Rattle.volume_def.specs.Coverage.{has_cluster, times_covered};
 ghost use Rattle.volume_def.specs.Files.{Records, file_of, record_of};
 ghost use Rattle.volume_def.specs.OwnersClause.{MeetsOwners};
-ghost use Rattle.record_notes.specs.Least.{IsLeastFailing};
+ghost use Rattle.list_laws.specs.Least.{IsLeastFailing};
 ghost use Rattle.record_notes.specs.Owners.{OwnersNote, attribute_runs, clusters_noted, unnamed_data_runs};
 
 use crate::owners::{OwnedClusters, Owners};

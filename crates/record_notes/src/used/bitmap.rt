@@ -1,13 +1,13 @@
 //! Records noted as bits, and the clause on the bitmap of records, S9, decided a piece of the stored bitmap at a time.
 ghost use Rattle.std.specs.Prelude.{◌≡◌, ◌+◌, ◌-◌, ◌*◌, ◌^◌, ◌<◌, ◌≤◌, ℕ, None, Some, IfOk, length};
 ghost use Rattle.ntfs_def.specs.declared.records.TheConstants.{FIRST_ORDINARY};
-ghost use Rattle.ntfs_def.specs.Bits.{bit_in};
+ghost use Rattle.list_laws.specs.Bits.{bit_in};
 ghost use Rattle.volume_def.specs.BitmapClauses.{HasRecordBits, MeetsRecordBits, record_bits};
 ghost use Rattle.volume_def.specs.Files.{Record, Records};
 ghost use Rattle.volume_def.specs.Values.{value_on};
 ghost use Rattle.volume_def.specs.View.{VolumeView};
-ghost use Rattle.record_notes.specs.BitRanges.{IsLeastWithin, IsPieceOf};
-ghost use Rattle.record_notes.specs.Least.{IsLeastBelow, IsLeastFailing};
+ghost use Rattle.list_laws.specs.BitRanges.{IsLeastWithin, IsPieceOf};
+ghost use Rattle.list_laws.specs.Least.{IsLeastBelow, IsLeastFailing};
 ghost use Rattle.record_notes.specs.Used.{AllUsedNote, UsedNote, records_noted};
 
 use crate::bits::{first_difference, set_bit};

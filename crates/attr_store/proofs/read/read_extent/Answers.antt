@@ -5,7 +5,7 @@ use Rattle.attr_view.specs.View.{attribute_of}
 use Rattle.volume_def.specs.Values.{pieces_touched}
 use Rattle.volume_def.specs.Table.{cluster_bytes}
 use Rattle.mft_table.specs.Mft.{MftReads, view}
-use Rattle.attr_store.proofs.Cases.{match-known, ok-both}
+use Rattle.list_laws.proofs.OptionLaws.{match-known, ok-both}
 use Rattle.attr_store.proofs.Found.{body-spans}
 use Rattle.attr_store.proofs.FewerReads.{MftReads-less}
 use Rattle.attr_store.proofs.Spanned.{extent-bytes, seam-cluster, span-some, touched-le, unheld-bytes}

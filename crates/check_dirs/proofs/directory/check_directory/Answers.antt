@@ -4,7 +4,7 @@ use Rattle.std.specs.Option.{option_map}
 use Rattle.vol_bytes.specs.declared.small.Octets.{Octets}
 use Rattle.list_laws.specs.SameItems.{SameItems}
 use Rattle.volume_def.specs.View.{VolumeView}
-use Rattle.index_tree.proofs.Rising.{IfOk-map}
+use Rattle.list_laws.proofs.OptionLaws.{ok-weaker}
 use Rattle.mft_table.specs.Mft.{view}
 use Rattle.mft_table.proofs.StreamReads.{MftReads-then}
 use Rattle.file_record.proofs.ReadLaws.{view-kept}
@@ -34,7 +34,7 @@ returns-in_default-found-clause-right g c = λ told names. (
 pub returns-clause-right : goal.returns-clause-right
 returns-clause-right g c =
     let same = view-kept g.D.Disk c.args.mft.now c.index_entries.new.mft _ c.index_entries.ensures.reads.1 in
-    IfOk-map c.has_names.result (λ right tells told names.
+    ok-weaker c.has_names.result (λ right tells told names.
     directory-is (view g.D.Disk c.args.mft.now) c.args.file.now (omega (arith, c.args.mft.now.stands.table.some))
     (c.requires.held told).parts c.in-Some.index c.in-Some.ensures.found c.in-Some.ensures.name c.args.order.now.upcase (c.requires.case told)
     _ c.in-Some-found.entries.items c.args.notes.now right

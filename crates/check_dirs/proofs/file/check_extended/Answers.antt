@@ -1,7 +1,7 @@
 use Rattle.std.proofs.Common.{sym, ◌∙◌, arith}
 use Rattle.std.proofs.lemmas.Bool.{true≢false}
 use Rattle.mft_table.specs.Mft.{view}
-use Rattle.index_tree.proofs.Rising.{IfOk-map}
+use Rattle.list_laws.proofs.OptionLaws.{ok-weaker}
 use Rattle.check_dirs.proofs.FileLaws.{extended, not-extended, right-file}
 use Rattle.check_dirs.proofs.file.check_extended.Goals as goal
 
@@ -22,7 +22,7 @@ pub returns-clause-right : goal.returns-clause-right
 returns-clause-right g c =
     let volume = view g.D.Disk c.args.mft.now in
     let file = c.args.file.now in
-    IfOk-map c.check_view.result (λ right tells told units wide-name.
+    ok-weaker c.check_view.result (λ right tells told units wide-name.
     let test = c.stands_in_extend.ensures (right-file volume file (c.requires.held told)) in
     extended volume file c.args.letters.now units (c.requires.held told).parts right
     (omega (arith, c.number.ensures, c.if-number-lt-FIRST_ORDINARY.false)) (test.0 c.if-not-stands_in_extend.false) (tells told units wide-name))

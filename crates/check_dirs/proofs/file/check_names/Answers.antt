@@ -1,7 +1,7 @@
 use Rattle.std.proofs.Common.{◌∙◌, ap, subst, sym, ℕ}
 use Rattle.mft_table.specs.Mft.{view}
 use Rattle.file_record.specs.Held.{file_number}
-use Rattle.index_tree.proofs.Rising.{IfOk-map}
+use Rattle.list_laws.proofs.OptionLaws.{ok-weaker}
 use Rattle.check_dirs.specs.Directory.{TellsNames}
 use Rattle.check_dirs.specs.Notes.{notes_in}
 use Rattle.check_dirs.proofs.FileLaws.{a-directory, told-names}
@@ -12,7 +12,7 @@ returns-clause-right g c =
     let volume = view g.D.Disk c.args.mft.now in
     let file = c.args.file.now in
     let own = c.names_in-names.ensures ∙ ap (λ (n : ℕ). notes_in n c.args.notes.now) c.number.ensures in
-    IfOk-map c.check_directory.result (λ right tells told notes header.
+    ok-weaker c.check_directory.result (λ right tells told notes header.
     a-directory volume (file_number file.parts) file.header header right c.if-file-ne1.false
     (tells told (subst (TellsNames volume (file_number file.parts)) (sym own) (told-names volume c.args.notes.now (file_number file.parts) notes))))
     c.check_directory.ensures.right

@@ -9,7 +9,8 @@ use Rattle.mft_table.specs.Mft.{view}
 use Rattle.file_record.specs.Held.{file_number}
 use Rattle.attr_store.specs.First.{attribute_held}
 use Rattle.check_dirs.specs.OrderedIndex.{key_rule}
-use Rattle.check_dirs.proofs.FileLaws.{is_some-map, no-index-meets, no-root-meets, told-meets}
+use Rattle.list_laws.proofs.OptionLaws.{map-some}
+use Rattle.check_dirs.proofs.FileLaws.{no-index-meets, no-root-meets, told-meets}
 use Rattle.check_dirs.proofs.file.check_view.Goals as goal
 
 pub returns-then-not-has_root-clause-right : goal.returns-then-not-has_root-clause-right
@@ -32,4 +33,4 @@ returns-clause-right g c = λ told units wide-name.
     let meets = told-meets (view g.D.Disk c.args.mft.now) file index.name.now units (c.in-Some.ensures.name ∙ wide-name) (c.requires.held told).parts rule
     some index.root.now items (omega (arith, c.args.mft.now.stands.table.some)) c.in-Some.ensures.found.parts (c.in_ok-found.ensures.index told) in
     subst (λ b. IsTrue b ↔ MeetsViewIndex (view g.D.Disk c.args.mft.now) (file_number file) units rule)
-    (is_some-map (λ (entries : Vec Octets Global). entries.items) c.in_ok-found.found ∙ sym c.is_some.ensures) meets
+    (map-some (λ (entries : Vec Octets Global). entries.items) c.in_ok-found.found ∙ sym c.is_some.ensures) meets

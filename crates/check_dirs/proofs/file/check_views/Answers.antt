@@ -5,7 +5,7 @@ use Rattle.mft_table.proofs.StreamReads.{MftReads-then}
 use Rattle.file_record.proofs.ReadLaws.{view-kept}
 use Rattle.file_record.specs.Held.{file_number}
 use Rattle.check_dirs.specs.Files.{MeetsExtended}
-use Rattle.check_dirs.proofs.FileLaws.{both-else, both-then}
+use Rattle.list_laws.proofs.BoolLaws.{both-else, both-then}
 use Rattle.check_dirs.proofs.file.check_views.Goals as goal
 
 pub returns-then-secured-clause-right : goal.returns-then-secured-clause-right

@@ -2,7 +2,8 @@ use Rattle.std.proofs.Common.{◌≡◌, ◌+◌, ◌-◌, ◌/◌, ◌<◌, ℕ
 use Rattle.std.specs.Prelude.{IsTrue}
 use Rattle.ntfs_def.specs.Node.{item_in}
 use Rattle.check_dirs.specs.Entries.{key_at}
-use Rattle.check_dirs.proofs.OrderLaws.{all_above, all_below, get_or-any, valid_from_keys}
+use Rattle.check_dirs.proofs.OrderLaws.{all_above, all_below, valid_from_keys}
+use Rattle.std.proofs.lemmas.List.{get_or_default}
 use Rattle.check_dirs.proofs.order.place_of.Goals as goal
 
 pub compare-requires-clause-left : goal.compare-requires-clause-left
@@ -13,7 +14,7 @@ compare-requires-clause-left g c =
     let within : middle < length entries = omega (arith, c.halves-test.true, c.halves.invariant.inside) in
     let key : c.key_of.result.now ≡ key_at entries middle =
     c.key_of.ensures ∙ ap (λ x. (item_in x).key) (c.as_slice.ensures ∙ c.index-entries-middle.is
-    ∙ get_or-any entries middle c.index-entries-middle.result [] within) in
+    ∙ get_or_default entries middle c.index-entries-middle.result [] within) in
     subst (λ k. IsTrue (valid k)) (sym key) (valid_from_keys valid entries c.requires.ordered.keys middle within)
 
 pub halves-preserved-in-Less : goal.halves-preserved-in-Less
@@ -26,7 +27,7 @@ halves-preserved-in-Less g c =
     let within : middle < length entries = omega (arith, c.halves-test.true, inside) in
     let key : c.key_of.result.now ≡ key_at entries middle =
     c.key_of.ensures ∙ ap (λ x. (item_in x).key) (c.as_slice.ensures ∙ c.index-entries-middle.is
-    ∙ get_or-any entries middle c.index-entries-middle.result [] within) in
+    ∙ get_or_default entries middle c.index-entries-middle.result [] within) in
     record {
       within = omega (arith, c.halves-test.true);
       inside = inside;
@@ -45,7 +46,7 @@ halves-preserved g c =
     let within : middle < length entries = omega (arith, c.halves-test.true, inside) in
     let key : c.key_of.result.now ≡ key_at entries middle =
     c.key_of.ensures ∙ ap (λ x. (item_in x).key) (c.as_slice.ensures ∙ c.index-entries-middle.is
-    ∙ get_or-any entries middle c.index-entries-middle.result [] within) in
+    ∙ get_or_default entries middle c.index-entries-middle.result [] within) in
     record {
       within = omega (arith, c.halves-test.true);
       inside = omega (arith, within);

@@ -3,7 +3,7 @@ use Rattle.std.specs.Prelude.{◌↔◌, IfNone, IfSome, IsTrue}
 use Rattle.volume_def.specs.IndexesClause.{MeetsIndexes}
 use Rattle.volume_def.specs.Readable.{IsFile}
 use Rattle.volume_def.specs.View.{VolumeView}
-use Rattle.index_tree.proofs.Rising.{IfOk-map}
+use Rattle.list_laws.proofs.OptionLaws.{ok-weaker}
 use Rattle.mft_table.specs.Mft.{view}
 use Rattle.mft_table.proofs.StreamReads.{MftReads-then}
 use Rattle.file_record.specs.declared.base.BaseFile.{BaseFile}
@@ -44,7 +44,7 @@ returns-clause-right g c =
     let file = c.in-Some.file in
     let same = view-kept g.D.Disk c.args.mft.now c.load_base.new.mft _ c.load_base.ensures.reads in
     let number = subst (λ (o : Option BaseFile). IfSome o (λ one. file_number one.parts ≡ c.args.number)) c.in-Some.is c.in_ok-found.ensures.number in
-    IfOk-map c.check_file.result (λ right tells told notes is_file.
+    ok-weaker c.check_file.result (λ right tells told notes is_file.
     let header = subst (λ (o : Option BaseFile). IfSome o (λ one. HasBaseRecord volume c.args.number one.header)) c.in-Some.is
     (c.in_ok-found.ensures.header told) in
     subst (λ n. IsTrue right ↔ MeetsIndexes volume n) number

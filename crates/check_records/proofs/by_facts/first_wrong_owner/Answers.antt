@@ -1,7 +1,7 @@
 use Rattle.std.proofs.Common.{subst, arith}
 use Rattle.volume_def.specs.Files.{records_of}
 use Rattle.volume_def.specs.OwnersClause.{MeetsOwners}
-use Rattle.record_notes.specs.Least.{IsLeastFailing}
+use Rattle.list_laws.specs.Least.{IsLeastFailing}
 use Rattle.check_records.proofs.FactsGiven.{RightNote-all}
 use Rattle.check_records.proofs.by_facts.first_wrong_owner.Goals as goal
 

@@ -12,7 +12,8 @@ use Rattle.check_records.specs.Streams.{IsPlainOf, table_len}
 use Rattle.check_records.specs.Views.{HasComeTo}
 use Rattle.check_records.proofs.BelowLaws.{HasCaseTable-of, IsPlainOf-case, length-plain, no-case-table, touched-table}
 use Rattle.check_records.proofs.OrderLaws.{HoldBelow-more, IsFirstBroken-of}
-use Rattle.check_records.proofs.ValueLaws.{ok-always, ok-weaker, whole-piece}
+use Rattle.list_laws.proofs.OptionLaws.{ok-always, ok-weaker}
+use Rattle.list_laws.proofs.BitLaws.{whole-piece}
 use Rattle.check_records.proofs.case_table.read_case_table.Goals as goal
 
 pub returns-then-not-right-clause-err : goal.returns-then-not-right-clause-err

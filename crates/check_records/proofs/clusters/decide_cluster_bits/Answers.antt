@@ -1,7 +1,8 @@
 use Rattle.std.proofs.Common.{◌≤◌, ◌*◌, length, arith}
 use Rattle.volume_def.specs.BitmapClauses.{cluster_bits}
 use Rattle.mft_table.specs.Mft.{view}
-use Rattle.check_records.proofs.BelowLaws.{HasClusterBytes-noted, none-always, places-clusters}
+use Rattle.check_records.proofs.BelowLaws.{HasClusterBytes-noted, places-clusters}
+use Rattle.list_laws.proofs.OptionLaws.{none-always}
 use Rattle.check_records.proofs.ComeLaws.{cluster-bits-come, owners-come}
 use Rattle.check_records.proofs.clusters.decide_cluster_bits.Goals as goal
 

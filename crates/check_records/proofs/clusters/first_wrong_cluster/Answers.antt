@@ -2,7 +2,8 @@ use Rattle.std.proofs.Common.{◌≤◌, length, arith}
 use Rattle.std.proofs.lemmas.List.{length-take-le}
 use Rattle.volume_def.specs.BitmapClauses.{MeetsClusterBits, cluster_bits}
 use Rattle.volume_def.specs.Values.{value_on}
-use Rattle.check_records.proofs.BelowLaws.{least-found, least-none, shorter-piece}
+use Rattle.list_laws.proofs.LeastLaws.{least-found, least-none}
+use Rattle.list_laws.proofs.BitLaws.{shorter-piece}
 use Rattle.check_records.proofs.clusters.first_wrong_cluster.Goals as goal
 
 pub returns-in-Some : goal.returns-in-Some

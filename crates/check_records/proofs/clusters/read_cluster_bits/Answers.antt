@@ -1,18 +1,18 @@
 use Rattle.std.proofs.Common.{◌≡◌, None, Some, length, sym, ap, subst, ◌∙◌, arith}
 use Rattle.std.specs.Int.{div_ceil}
 use Rattle.std.proofs.lemmas.List.{with_items_is}
-use Rattle.ntfs_def.specs.Bits.{flags_in}
+use Rattle.list_laws.specs.Bits.{flags_in}
 use Rattle.volume_def.specs.BitmapClauses.{MeetsClusterBits, cluster_bits}
 use Rattle.volume_def.specs.Sound.Clause.{ClusterBits}
 use Rattle.volume_def.specs.Values.{value_on}
 use Rattle.mft_table.specs.declared.mounted.Mounted.{Mounted}
 use Rattle.mft_table.specs.Mft.{view}
-use Rattle.record_notes.specs.BitRanges.{IsPieceOf}
-use Rattle.record_notes.specs.Least.{IsLeastFailing}
+use Rattle.list_laws.specs.BitRanges.{IsPieceOf}
+use Rattle.list_laws.specs.Least.{IsLeastFailing}
 use Rattle.check_records.specs.Refusals.{IsRefusalIf}
 use Rattle.check_records.specs.Views.{HasComeTo}
 use Rattle.check_records.proofs.OrderLaws.{HoldBelow-more, IsFirstBroken-of}
-use Rattle.check_records.proofs.ValueLaws.{ok-always, ok-weaker}
+use Rattle.list_laws.proofs.OptionLaws.{ok-always, ok-weaker}
 use Rattle.check_records.proofs.clusters.read_cluster_bits.Goals as goal
 
 pub returns-in-Some-clause-err : goal.returns-in-Some-clause-err

@@ -1,6 +1,6 @@
 use Rattle.std.proofs.Common.{None}
 use Rattle.volume_def.specs.Sound.{Meets}
-use Rattle.record_notes.specs.Least.{IsLeastFailing}
+use Rattle.list_laws.specs.Least.{IsLeastFailing}
 use Rattle.check_records.specs.Clauses.{named}
 use Rattle.check_records.proofs.OrderLaws.{HoldBelow-more}
 use Rattle.check_records.proofs.order.refuse_first.Goals as goal

@@ -3,7 +3,9 @@ use Rattle.volume_def.specs.BitmapClauses.{MeetsRecordBits, record_bits}
 use Rattle.volume_def.specs.Table.{cluster_bytes}
 use Rattle.mft_table.specs.declared.mounted.Mounted.{Mounted}
 use Rattle.mft_table.specs.Mft.{view}
-use Rattle.check_records.proofs.BelowLaws.{HasRecordBits-room, HasRoomIn-bits, least-none, no-record-bits, none-always, places-records, record-bits-decided}
+use Rattle.check_records.proofs.BelowLaws.{HasRecordBits-room, HasRoomIn-bits, no-record-bits, places-records, record-bits-decided}
+use Rattle.list_laws.proofs.LeastLaws.{least-none}
+use Rattle.list_laws.proofs.OptionLaws.{none-always}
 use Rattle.check_records.proofs.ComeLaws.{record-bits-come, used-come}
 use Rattle.check_records.proofs.records.decide_record_bits.Goals as goal
 

@@ -1,5 +1,5 @@
 use Rattle.std.proofs.Common.{◌∙◌}
-use Rattle.check_records.proofs.ValueLaws.{flags_in-piece}
+use Rattle.list_laws.proofs.BitLaws.{flags_in-piece}
 use Rattle.check_records.proofs.values.load_bits.Goals as goal
 
 pub returns-in-Ok-clause-flags : goal.returns-in-Ok-clause-flags

@@ -3,7 +3,7 @@ use Rattle.std.proofs.lemmas.List.{length-take-le}
 use Rattle.volume_def.specs.Values.{value_on}
 use Rattle.mft_table.specs.Mft.{view}
 use Rattle.attr_store.proofs.Filled.{filled}
-use Rattle.record_notes.specs.BitRanges.{IsPieceOf}
+use Rattle.list_laws.specs.BitRanges.{IsPieceOf}
 use Rattle.check_records.proofs.StreamLaws.{noted-start, value-resident}
 use Rattle.check_records.proofs.values.read_start.Goals as goal
 

@@ -4,7 +4,7 @@ use Rattle.volume_def.specs.Files.{records_of}
 use Rattle.volume_def.specs.ListsClause.{MeetsLists}
 use Rattle.volume_def.specs.Sound.Clause.{Lists, Shape}
 use Rattle.mft_table.specs.Mft.{view}
-use Rattle.record_notes.specs.Least.{IsLeastFailing}
+use Rattle.list_laws.specs.Least.{IsLeastFailing}
 use Rattle.record_notes.specs.Unlisted.{MeetsListed}
 use Rattle.record_notes.proofs.HeadLaws.{EndsAtCount-view}
 use Rattle.check_records.proofs.AllFilesLaws.{first-of-lists}

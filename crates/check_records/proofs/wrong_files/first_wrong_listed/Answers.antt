@@ -11,11 +11,12 @@ use Rattle.mft_table.specs.Mft.{view}
 use Rattle.mft_table.proofs.StreamReads.{MftReads-none, MftReads-then}
 use Rattle.file_record.proofs.ReadLaws.{view-kept}
 use Rattle.record_notes.specs.declared.spread.Extension.{Extension}
-use Rattle.record_notes.specs.Least.{least_of}
+use Rattle.list_laws.specs.Least.{least_of}
 use Rattle.record_notes.specs.Spread.{extensions_of}
 use Rattle.record_notes.specs.Unlisted.{MeetsListed}
 use Rattle.check_records.specs.Listed.{MeetsListedLists}
-use Rattle.check_records.proofs.ListedLoopLaws.{IsLeastSeen, JudgesExtents, JudgesLists, extents-decided, extents-seen, later-kept, least-more, least-none, least-rising, lists-decided, lists-met, lists-seen, not-both, noted-listed, noted-own, noted-rising}
+use Rattle.check_records.proofs.ListedLoopLaws.{IsLeastSeen, JudgesExtents, JudgesLists, extents-decided, extents-seen, later-kept, least-more, least-none, least-rising, lists-decided, lists-met, lists-seen, noted-listed, noted-own, noted-rising}
+use Rattle.list_laws.proofs.BoolLaws.{not-both}
 use Rattle.check_records.proofs.wrong_files.first_wrong_listed.Goals as goal
 
 abbrev file_of : Extension → ℕ

@@ -1,5 +1,6 @@
 use Rattle.cmd_lang.specs.Printed.{text_of}
-use Rattle.cmd_lang.proofs.OutputLaws.{on_err, prints_flushed, prints_part}
+use Rattle.list_laws.proofs.OptionLaws.{on_err}
+use Rattle.cmd_lang.proofs.OutputLaws.{prints_flushed, prints_part}
 use Rattle.cmd_lang.proofs.print.print_reply.Goals as goal
 
 pub returns-in_err-put_reply-clause-part : goal.returns-in_err-put_reply-clause-part

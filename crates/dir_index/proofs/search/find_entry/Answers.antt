@@ -5,7 +5,7 @@ use Rattle.volume_def.specs.View.{VolumeView}
 use Rattle.mft_table.specs.Mft.{view}
 use Rattle.mft_table.proofs.StreamReads.{MftReads-then}
 use Rattle.file_record.proofs.ReadLaws.{view-kept}
-use Rattle.index_tree.proofs.Rising.{IfOk-map}
+use Rattle.list_laws.proofs.OptionLaws.{ok-weaker}
 use Rattle.ntfs_def.specs.KeyOrder.{fold_of}
 use Rattle.dir_index.specs.Held.{fetched_of, records_found}
 use Rattle.dir_index.specs.Sought.{CanSeek, SeekCosts, Seeks, folded_order}
@@ -62,7 +62,7 @@ returns-clause-found g c =
     let name = c.args.name.now in
     let some : 0 < cluster_bytes volume.layout = omega (arith, c.args.mft.now.stands.table.some) in
     let kept = view-kept g.D.Disk c.args.mft.now c.find_first.new.mft _ c.find_first.ensures.reads.1 in
-    IfOk-map c.find_first-2.result (λ found seeks told.
+    ok-weaker c.find_first-2.result (λ found seeks told.
     second-said volume file table (c.requires.held told) some index c.requires.found c.requires.name name c.in_ok-exact.exact found (search rules)
     (c.in_ok-exact.ensures.found told)
     (subst (λ (v : VolumeView). IsTrue v.told → Seeks (folded_order (fold_of table) name) (records_found v file index) index.root.now found)

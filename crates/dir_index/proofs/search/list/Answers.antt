@@ -1,7 +1,7 @@
 use Rattle.std.proofs.Common.{◌≡◌, ◌+◌, ap, ◌∙◌, subst, arith}
 use Rattle.std.specs.Prelude.{IsTrue}
 use Rattle.volume_def.specs.View.{VolumeView}
-use Rattle.index_tree.proofs.Rising.{IfOk-map}
+use Rattle.list_laws.proofs.OptionLaws.{ok-weaker}
 use Rattle.mft_table.specs.Mft.{view}
 use Rattle.mft_table.proofs.StreamReads.{MftReads-then}
 use Rattle.tree_model.specs.Reading.{directory_links}
@@ -21,7 +21,7 @@ returns-clause-links g c =
     let volume = view g.D.Disk c.args.mft.now in
     let kept = view-kept g.D.Disk c.args.mft.now c.load.new.mft _ c.load.ensures.reads in
     let file = c.in_ok-file.file in
-    IfOk-map c.list_in.result (λ links is told.
+    ok-weaker c.list_in.result (λ links is told.
     subst (λ (v : VolumeView). IsTrue v.told → links.items ≡ directory_links v (file_number file)) kept is told
     ∙ ap (directory_links volume) c.in_ok-file.ensures.number)
     c.list_in.ensures.links

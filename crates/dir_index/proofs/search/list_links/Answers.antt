@@ -1,7 +1,7 @@
 use Rattle.std.proofs.Common.{ap, sym, ◌∙◌, arith}
 use Rattle.std.specs.List.{filter_map}
 use Rattle.mft_table.specs.Mft.{view}
-use Rattle.index_tree.proofs.Rising.{IfOk-map}
+use Rattle.list_laws.proofs.OptionLaws.{ok-weaker}
 use Rattle.dir_index.specs.Links.{link_in}
 use Rattle.dir_index.proofs.HeldDirectory.{can-walk, has-index, walk-said}
 use Rattle.dir_index.proofs.search.list_links.Goals as goal
@@ -19,7 +19,7 @@ walk_all-requires-clause-walk g c told =
 pub returns-clause-links : goal.returns-clause-links
 returns-clause-links g c =
     let volume = view g.D.Disk c.args.mft.now in
-    IfOk-map c.links_of.result (λ links is told.
+    ok-weaker c.links_of.result (λ links is told.
     is ∙ ap (filter_map link_in) c.deref.ensures.value ∙ sym (walk-said volume c.args.file.now c.args.upcase (c.requires.held told) (omega (arith, c.args.mft.now.stands.table.some)) c.in-Some.index
     c.in-Some.ensures.found c.in-Some.ensures.name c.in_ok-entries.entries.items (c.in_ok-entries.ensures.walked told)))
     c.links_of.ensures.links

@@ -3,7 +3,7 @@ use Rattle.std.specs.Prelude.{IsTrue}
 use Rattle.volume_def.specs.CaseClause.{volume_fold}
 use Rattle.volume_def.specs.IndexesClause.{IsDirectoryIndex}
 use Rattle.volume_def.specs.View.{VolumeView}
-use Rattle.index_tree.proofs.Rising.{IfOk-map}
+use Rattle.list_laws.proofs.OptionLaws.{ok-weaker}
 use Rattle.mft_table.specs.Mft.{MftReads, view}
 use Rattle.mft_table.proofs.StreamReads.{MftReads-then}
 use Rattle.tree_model.specs.Reading.{directory_links}
@@ -33,7 +33,7 @@ returns-clause-found g c =
     let kept = view-kept g.D.Disk c.args.mft.now c.load.new.mft _ c.load.ensures.reads in
     let file = c.in_ok-file.file in
     let name = c.args.name.now in
-    IfOk-map c.lookup_in.result (λ found is told.
+    ok-weaker c.lookup_in.result (λ found is told.
     subst (λ (v : VolumeView). IsTrue v.told → found ≡ sought_link (volume_fold v) (directory_links v (file_number file)) name) kept is told
     ∙ ap (λ dir. sought_link (volume_fold volume) (directory_links volume dir) name) c.in_ok-file.ensures.number)
     c.lookup_in.ensures.found

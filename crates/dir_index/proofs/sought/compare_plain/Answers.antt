@@ -7,7 +7,7 @@ use Rattle.std.proofs.lemmas.Iterator.Consumers.{YieldsList-at}
 use Rattle.std.proofs.lemmas.Iterator.Search.{cmp_from_yields_List}
 use Rattle.ntfs_def.specs.KeyOrder.{by_numbers}
 use Rattle.dir_index.specs.Sought.{sought_units}
-use Rattle.dir_index.proofs.SoughtUnits.{by_so_many}
+use Rattle.list_laws.proofs.RangeLaws.{by_so_many}
 use Rattle.dir_index.proofs.sought.compare_plain.Goals as goal
 
 pub returns : goal.returns

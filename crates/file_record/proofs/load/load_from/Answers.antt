@@ -9,7 +9,7 @@ use Rattle.file_record.specs.Numbers.{AreNumbers}
 use Rattle.file_record.specs.Records.{file_reads, reads_for_list}
 use Rattle.file_record.proofs.NumbersLaws.{AreNumbers-parts, records-some}
 use Rattle.file_record.proofs.ReadLaws.{view-kept}
-use Rattle.file_record.proofs.RiseLaws.{count-others}
+use Rattle.list_laws.proofs.FindLaws.{count-others}
 use Rattle.file_record.proofs.load.load_from.Goals as goal
 
 -- the reads of the list, and two for each record but the base record

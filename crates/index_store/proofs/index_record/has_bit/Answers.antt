@@ -4,7 +4,8 @@ use Rattle.volume_def.specs.Values.{value_on}
 use Rattle.mft_table.specs.Mft.{view}
 use Rattle.attr_store.specs.First.{IsStoredIfThere, attribute_held}
 use Rattle.attr_store.proofs.StoredLaws.{stored-length, stored-within}
-use Rattle.index_store.proofs.RecordSteps.{bit-behind, no-bit}
+use Rattle.list_laws.proofs.BitLaws.{bit-behind}
+use Rattle.index_store.proofs.RecordSteps.{no-bit}
 use Rattle.index_store.proofs.index_record.has_bit.Goals as goal
 
 pub returns-in_default-clause-bit : goal.returns-in_default-clause-bit

@@ -1,6 +1,7 @@
 use Rattle.ntfs_def.specs.KeyOrder.{fold_order, name_order}
 use Rattle.ntfs_def.proofs.KeyOrderLaws.{fold_total, name_fold}
-use Rattle.index_tree.proofs.RisingOrders.{less_not_greater, rises_of}
+use Rattle.list_laws.proofs.OrderLaws.{less_not_greater}
+use Rattle.index_tree.proofs.RisingOrders.{rises_of}
 use Rattle.index_tree.proofs.laws.ordered_walks.Goals as goal
 
 pub returns : goal.returns

@@ -7,7 +7,8 @@ use Rattle.index_node.specs.View.{form_of_view, node_of_view, number_of, view_of
 use Rattle.index_tree.specs.Search.{nodes_of}
 use Rattle.index_tree.specs.Walk.{CostsNode, CostsTree, HasSpread, HasTree, WalksNode, WalksTree}
 use Rattle.index_tree.proofs.Rising.{not_refused, one_more, read_node, some_record}
-use Rattle.index_tree.proofs.WalkLaws.{CostsFront, OnOk-map, WalksFront, costs_all, costs_more, costs_start, costs_tree, front_all, front_more, front_start, has_spread, tree_below, tree_level, tree_node, walks_tree}
+use Rattle.index_tree.proofs.WalkLaws.{CostsFront, WalksFront, costs_all, costs_more, costs_start, costs_tree, front_all, front_more, front_start, has_spread, tree_below, tree_level, tree_node, walks_tree}
+use Rattle.std.proofs.lemmas.Result.{on_ok_weaker}
 use Rattle.index_tree.proofs.PlaceLaws.{child_in, item_in_node, less_in, more_in}
 use Rattle.index_tree.proofs.walk.+walking.Goals as goal
 
@@ -137,7 +138,7 @@ walk_node-returns-clause-walked g t c =
     let i = number_of c.places.place in
     let end : i ≡ length n.entries = more_in _ _ c.places.invariant.view i (c.has_key.ensures.last c.places-test.false) in
     let last = child_in _ _ c.places.invariant.view i c.child-last.result c.child-last.ensures in
-    OnOk-map c.walk_tree-2.result
+    on_ok_weaker c.walk_tree-2.result
     (λ w r e. front_all (nodes_of (form_of_view node) r) n i end c.args.out.now.items c.places.out.items c.walk_tree-2.new.out.items
     (c.places.invariant.walked r e)
     (subst (λ x. WalksTree (nodes_of (form_of_view node) r) x c.places.out.items c.walk_tree-2.new.out.items) last
@@ -148,7 +149,7 @@ walk_node-returns-clause-walked g t c =
 pub walk_node-returns-clause-own : goal.walk_node-returns-clause-own
 walk_node-returns-clause-own g t c =
     let node = c.args.node.now in
-    OnOk-map c.walk_tree-2.result
+    on_ok_weaker c.walk_tree-2.result
     (λ own h. subst (λ k. Each (IsOwnEntry k) c.places.out.items → Each (IsOwnEntry k) c.walk_tree-2.new.out.items) c.form-2.ensures own
     (c.places.invariant.own h))
     c.walk_tree-2.ensures.own
@@ -160,7 +161,7 @@ walk_node-returns-clause-reads g t c =
     let i = number_of c.places.place in
     let end : i ≡ length n.entries = more_in _ _ c.places.invariant.view i (c.has_key.ensures.last c.places-test.false) in
     let last = child_in _ _ c.places.invariant.view i c.child-last.result c.child-last.ensures in
-    OnOk-map c.walk_tree-2.result
+    on_ok_weaker c.walk_tree-2.result
     (λ w r e. costs_all 1 (nodes_of (form_of_view node) r) n i end (g.B.Blocks.reads c.args.blocks.now)
     (g.B.Blocks.reads c.places.blocks) (g.B.Blocks.reads c.walk_tree-2.new.blocks) (c.places.invariant.reads r e)
     (subst (λ x. CostsTree 1 (nodes_of (form_of_view node) r) x (g.B.Blocks.reads c.places.blocks)
@@ -176,7 +177,7 @@ walk_node-returns-clause-fetched g t c =
     let i = number_of c.places.place in
     let end : i ≡ length n.entries = more_in _ _ c.places.invariant.view i (c.has_key.ensures.last c.places-test.false) in
     let last = child_in _ _ c.places.invariant.view i c.child-last.result c.child-last.ensures in
-    OnOk-map c.walk_tree-2.result
+    on_ok_weaker c.walk_tree-2.result
     (λ w r e. costs_all 8 (nodes_of (form_of_view node) r) n i end (g.B.Blocks.fetched c.args.blocks.now)
     (g.B.Blocks.fetched c.places.blocks) (g.B.Blocks.fetched c.walk_tree-2.new.blocks) (c.places.invariant.fetched r e)
     (subst (λ x. CostsTree 8 (nodes_of (form_of_view node) r) x (g.B.Blocks.fetched c.places.blocks)
@@ -227,7 +228,7 @@ walk_tree-walk_node-requires g t c κs within =
 pub walk_tree-returns-clause-walked : goal.walk_tree-returns-clause-walked
 walk_tree-returns-clause-walked g t c =
     let n : Node = node_of_view c.in-Ok.node in
-    OnOk-map c.walk_node.result
+    on_ok_weaker c.walk_node.result
     (λ w r e.
     let read = read_node c.args.form r c.in-Some.vcn c.read.new.into n (c.in_ok-read.ensures.read r e) c.in-Ok.ensures.ok in
     subst (λ x. WalksTree (nodes_of c.args.form r) x c.args.out.now.items c.walk_node.new.out.items) (sym c.in-Some.is)
@@ -239,7 +240,7 @@ walk_tree-returns-clause-walked g t c =
 pub walk_tree-returns-clause-reads : goal.walk_tree-returns-clause-reads
 walk_tree-returns-clause-reads g t c =
     let n : Node = node_of_view c.in-Ok.node in
-    OnOk-map c.walk_node.result
+    on_ok_weaker c.walk_node.result
     (λ w r e.
     let read = read_node c.args.form r c.in-Some.vcn c.read.new.into n (c.in_ok-read.ensures.read r e) c.in-Ok.ensures.ok in
     subst (λ x. CostsTree 1 (nodes_of c.args.form r) x (g.B.Blocks.reads c.args.blocks.now) (g.B.Blocks.reads c.walk_node.new.blocks))
@@ -253,7 +254,7 @@ walk_tree-returns-clause-reads g t c =
 pub walk_tree-returns-clause-fetched : goal.walk_tree-returns-clause-fetched
 walk_tree-returns-clause-fetched g t c =
     let n : Node = node_of_view c.in-Ok.node in
-    OnOk-map c.walk_node.result
+    on_ok_weaker c.walk_node.result
     (λ w r e.
     let read = read_node c.args.form r c.in-Some.vcn c.read.new.into n (c.in_ok-read.ensures.read r e) c.in-Ok.ensures.ok in
     subst (λ x. CostsTree 8 (nodes_of c.args.form r) x (g.B.Blocks.fetched c.args.blocks.now)

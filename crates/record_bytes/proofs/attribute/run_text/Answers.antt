@@ -1,6 +1,6 @@
 use Rattle.std.proofs.Common.{◌≡◌, ◌++◌, take, arith, ◌≤◌, ◌∙◌, ap, length}
 use Rattle.std.proofs.lemmas.List.{length-take-le}
-use Rattle.record_bytes.specs.AttributeBytes.{up_to_8}
+use Rattle.ntfs_def.specs.Rounded.{up_to_8}
 use Rattle.record_bytes.proofs.ExtentLaws.{IsRunTextOf-put, run_text-short}
 use Rattle.record_bytes.proofs.attribute.run_text.Goals as goal
 

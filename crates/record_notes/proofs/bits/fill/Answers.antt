@@ -2,7 +2,7 @@ use Rattle.std.proofs.Common.{◌≡◌, ℕ, ◌+◌, ◌-◌, ◌*◌, ◌/◌
 use Rattle.std.specs.Int.{trailing_zeros}
 use Rattle.std.proofs.lemmas.Bool.{cases_lt}
 use Rattle.std.proofs.lemmas.Nat.{widths}
-use Rattle.record_notes.proofs.BitLaws.{IsFirstUnder, IsMask, first_under, masked-above, masked-below, masked-inside, unmasked-clear}
+use Rattle.list_laws.proofs.BitLaws.{IsFirstUnder, IsMask, first_under, masked-above, masked-below, masked-inside, unmasked-clear}
 use Rattle.record_notes.proofs.bits.fill.Goals as goal
 
 pub bytes-preserved : goal.bytes-preserved

@@ -1,6 +1,6 @@
 use Rattle.std.proofs.Common.{arith, bit_xor, ◌<◌, ◌^◌}
 use Rattle.std.proofs.lemmas.Nat.{widths}
-use Rattle.record_notes.proofs.BitLaws.{DiffersFirst-of}
+use Rattle.list_laws.proofs.BitLaws.{DiffersFirst-of}
 use Rattle.record_notes.proofs.bits.lowest_difference.Goals as goal
 
 pub returns : goal.returns

@@ -1,5 +1,5 @@
 use Rattle.std.proofs.Common.{arith}
-use Rattle.record_notes.proofs.BitLaws.{SetsBit-set}
+use Rattle.list_laws.proofs.BitLaws.{SetsBit-set}
 use Rattle.record_notes.proofs.bits.set_bit.Goals as goal
 
 pub returns : goal.returns

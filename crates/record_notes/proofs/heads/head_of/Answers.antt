@@ -3,7 +3,7 @@ use Rattle.ntfs_def.specs.Attribute.{attributes}
 use Rattle.attr_view.specs.View.{viewed_block}
 use Rattle.volume_def.specs.Files.{part_of}
 use Rattle.volume_def.specs.ListsClause.{is_list}
-use Rattle.record_notes.proofs.SpreadLaws.{list_any-map}
+use Rattle.list_laws.proofs.FindLaws.{list_any-map}
 use Rattle.record_notes.proofs.heads.head_of.Goals as goal
 
 pub returns : goal.returns

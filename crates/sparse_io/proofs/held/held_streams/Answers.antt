@@ -3,11 +3,11 @@ use Rattle.std.specs.Ordering.{is_lt}
 use Rattle.std.proofs.lemmas.Fn.{answers_by}
 use Rattle.std.proofs.lemmas.List.Sorted.{ranks_by}
 use Rattle.ntfs_def.specs.KeyOrder.{compare_units, fold_of}
-use Rattle.tree_model.specs.Ordered.{in_order}
-use Rattle.tree_model.proofs.SortedLaws.{sorted-in_order}
+use Rattle.list_laws.specs.Ordered.{in_order}
+use Rattle.list_laws.proofs.StableLaws.{sorted-in_order}
 use Rattle.sparse_io.specs.declared.held.HeldStream.{HeldStream}
 use Rattle.sparse_io.specs.Held.{kept_above}
-use Rattle.sparse_io.proofs.KeptLaws.{units_total}
+use Rattle.ntfs_def.proofs.KeyOrderLaws.{units_total}
 use Rattle.sparse_io.proofs.held.held_streams.Goals as goal
 
 pub returns : goal.returns

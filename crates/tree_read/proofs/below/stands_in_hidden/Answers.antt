@@ -5,7 +5,7 @@ use Rattle.mft_table.specs.declared.mounted.Mounted.{Mounted}
 use Rattle.tree_model.specs.declared.tree.Link.{Link}
 use Rattle.tree_read.specs.Above.{leads_hidden}
 use Rattle.tree_read.proofs.GivesLaws.{at_once, both, handed-on, tells, told-kept}
-use Rattle.tree_read.proofs.KindLaws.{any-more-none}
+use Rattle.list_laws.proofs.FindLaws.{any-more-none}
 use Rattle.tree_read.proofs.below.stands_in_hidden.Goals as goal
 
 pub loop-link-init : goal.loop-link-init

@@ -5,7 +5,7 @@ use Rattle.mft_table.specs.Mft.{mounted_of, view}
 use Rattle.volume_def.specs.Readable.{IsDirectory}
 use Rattle.tree_model.specs.Answers.{path_above, shown_link, shown_links}
 use Rattle.tree_model.specs.Hidden.{is_hidden}
-use Rattle.tree_model.specs.Ordered.{in_order}
+use Rattle.list_laws.specs.Ordered.{in_order}
 use Rattle.tree_model.specs.Reading.{read}
 use Rattle.tree_model.specs.declared.tree.Link.{Link}
 use Rattle.tree_model.proofs.ShownLinksLaws.{shown-names, shown-root}

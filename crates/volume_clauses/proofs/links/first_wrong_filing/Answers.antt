@@ -1,7 +1,7 @@
 use Rattle.std.proofs.Common.{◌≡◌, ◌<◌, ℕ, length, slice_index, ap, subst, ◌∙◌, arith}
 use Rattle.ntfs_def.specs.declared.records.TheConstants.{ROOT}
 use Rattle.record_notes.specs.Heads.{head_at}
-use Rattle.record_notes.specs.Least.{IsLeastFailing}
+use Rattle.list_laws.specs.Least.{IsLeastFailing}
 use Rattle.volume_clauses.specs.Links.{IsFiled}
 use Rattle.volume_clauses.specs.Marks.{IsKnown, is_found, mark_at}
 use Rattle.volume_clauses.specs.Tallies.{parent_within, tally_at}

@@ -1,6 +1,6 @@
 use Rattle.std.proofs.Common.{sym, subst}
 use Rattle.volume_def.specs.LinksClause.{MeetsLinks}
-use Rattle.record_notes.specs.Least.{IsLeastFailing}
+use Rattle.list_laws.specs.Least.{IsLeastFailing}
 use Rattle.volume_clauses.proofs.LinkLaws.{least-link}
 use Rattle.volume_clauses.proofs.links.first_wrong_link.Goals as goal
 

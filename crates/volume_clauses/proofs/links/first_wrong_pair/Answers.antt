@@ -1,5 +1,5 @@
 use Rattle.std.proofs.Common.{subst}
-use Rattle.record_notes.specs.Least.{IsLeastFailing}
+use Rattle.list_laws.specs.Least.{IsLeastFailing}
 use Rattle.volume_clauses.specs.Pairs.{ArePaired}
 use Rattle.volume_clauses.proofs.LinkLaws.{least-pair}
 use Rattle.volume_clauses.proofs.links.first_wrong_pair.Goals as goal

@@ -1,6 +1,6 @@
 use Rattle.std.proofs.Common.{sym, subst}
 use Rattle.volume_def.specs.ReferencesClause.{MeetsReferences}
-use Rattle.record_notes.specs.Least.{IsLeastFailing}
+use Rattle.list_laws.specs.Least.{IsLeastFailing}
 use Rattle.volume_clauses.proofs.ReferenceLaws.{least-reference}
 use Rattle.volume_clauses.proofs.references.first_wrong_reference.Goals as goal
 

@@ -5,7 +5,8 @@ use Rattle.ntfs_def.specs.FileName.{is_name_key, key_units, link_of}
 use Rattle.ntfs_def.specs.KeyOrder.{fold_of, name_order}
 use Rattle.ntfs_def.specs.Node.{item_in}
 use Rattle.check_dirs.specs.Entries.{IsPlace}
-use Rattle.check_dirs.proofs.OrderLaws.{get_or-any, valid_from_keys}
+use Rattle.std.proofs.lemmas.List.{get_or_default}
+use Rattle.check_dirs.proofs.OrderLaws.{valid_from_keys}
 use Rattle.check_dirs.proofs.SeenLaws.{lacks_link, lacks_other, lacks_place, meets_link, place_units}
 use Rattle.check_dirs.proofs.seen.Seen.meet.Goals as goal
 
@@ -28,7 +29,7 @@ returns-then-index-clause-unmet c told links rest met same =
     let here : IsPlace side entries (Some place) = subst (λ all. IsPlace side all (Some place)) c.deref.ensures.value c.in-Some.ensures in
     let within : place < length marks = omega (arith, here.0, c.requires.marks) in
     let is : get_or marks place false ≡ true =
-    get_or-any marks place false c.index.result.now within ∙ sym c.index.ensures ∙ c.if-index.true in
+    get_or_default marks place false c.index.result.now within ∙ sym c.index.ensures ∙ c.if-index.true in
     lacks_other fold entries c.requires.names c.args.file key place here marks c.requires.marks is links rest met same
 
 pub is_link-requires-clause-name : goal.is_link-requires-clause-name
@@ -39,7 +40,7 @@ is_link-requires-clause-name c =
     let entries = c.args.self.now.entries.items in
     let here : IsPlace side entries (Some place) = subst (λ all. IsPlace side all (Some place)) c.deref.ensures.value c.in-Some.ensures in
     let entry : c.as_slice.result.now ≡ get_or entries place [] =
-    c.as_slice.ensures ∙ c.index-2.ensures ∙ get_or-any entries place c.index-2.result.now [] here.0 in
+    c.as_slice.ensures ∙ c.index-2.ensures ∙ get_or_default entries place c.index-2.result.now [] here.0 in
     subst (λ x. IsTrue (is_name_key (item_in x).key)) (sym entry)
     (valid_from_keys is_name_key entries c.requires.names.ordered.keys place here.0)
 
@@ -52,7 +53,7 @@ is_link-requires-clause-units c =
     let entries = c.args.self.now.entries.items in
     let here : IsPlace side entries (Some place) = subst (λ all. IsPlace side all (Some place)) c.deref.ensures.value c.in-Some.ensures in
     let entry : c.as_slice.result.now ≡ get_or entries place [] =
-    c.as_slice.ensures ∙ c.index-2.ensures ∙ get_or-any entries place c.index-2.result.now [] here.0 in
+    c.as_slice.ensures ∙ c.index-2.ensures ∙ get_or_default entries place c.index-2.result.now [] here.0 in
     ap (λ x. key_units (item_in x).key) entry ∙ place_units fold entries c.requires.names c.args.file key place here
 
 pub returns-then-not-is_link-clause-unmet : goal.returns-then-not-is_link-clause-unmet
@@ -64,7 +65,7 @@ returns-then-not-is_link-clause-unmet c told links rest met same =
     let entries = c.args.self.now.entries.items in
     let here : IsPlace side entries (Some place) = subst (λ all. IsPlace side all (Some place)) c.deref.ensures.value c.in-Some.ensures in
     let entry : c.as_slice.result.now ≡ get_or entries place [] =
-    c.as_slice.ensures ∙ c.index-2.ensures ∙ get_or-any entries place c.index-2.result.now [] here.0 in
+    c.as_slice.ensures ∙ c.index-2.ensures ∙ get_or_default entries place c.index-2.result.now [] here.0 in
     lacks_link fold entries c.requires.names c.args.file key place here
     (λ said.
     let f : false ≡ true = sym c.if-not-is_link.true ∙ c.is_link.ensures.1 (ap (λ x. link_of (item_in x)) entry ∙ said) in
@@ -81,8 +82,8 @@ returns-clause-met c told links met =
     let here : IsPlace side entries (Some place) = subst (λ all. IsPlace side all (Some place)) c.deref.ensures.value c.in-Some.ensures in
     let within : place < length marks = omega (arith, here.0, c.requires.marks) in
     let is : get_or marks place false ≡ false =
-    get_or-any marks place false c.index.result.now within ∙ sym c.index.ensures ∙ c.if-index.false in
+    get_or_default marks place false c.index.result.now within ∙ sym c.index.ensures ∙ c.if-index.false in
     let entry : c.as_slice.result.now ≡ get_or entries place [] =
-    c.as_slice.ensures ∙ c.index-2.ensures ∙ get_or-any entries place c.index-2.result.now [] here.0 in
+    c.as_slice.ensures ∙ c.index-2.ensures ∙ get_or_default entries place c.index-2.result.now [] here.0 in
     meets_link fold entries c.requires.names c.args.file key place here marks c.requires.marks is
     (ap (λ x. link_of (item_in x)) (sym entry) ∙ c.is_link.ensures.0 c.if-not-is_link.false) links met

@@ -2,8 +2,7 @@ use Rattle.std.proofs.Common.{◌≡◌, ◌≤◌, None, length, ap, sym, ◌�
 use Rattle.std.proofs.lemmas.Bool.{ltb-false}
 use Rattle.std.proofs.lemmas.Option.{slice_get_past}
 use Rattle.std.specs.List.{slice_get}
-use Rattle.index_tree.proofs.IndexTreeLaws.{some_same}
-use Rattle.index_tree.proofs.Rising.{is_none}
+use Rattle.list_laws.proofs.OptionLaws.{some_same, none_not_some}
 use Rattle.index_tree.proofs.tests.StoredBlocks.read.Goals as goal
 
 pub returns-in_default-clause-read : goal.returns-in_default-clause-read
@@ -11,4 +10,4 @@ returns-in_default-clause-read c = λ contents e.
     let blocks = c.args.self.now.blocks.now in
     let past : length blocks ≤ c.args.vcn = ltb-false c.args.vcn (length blocks) (sym c.in_default.ensures.lookup.0) in
     let none : slice_get blocks c.args.vcn ≡ None = slice_get_past blocks c.args.vcn past in
-    absurd (is_none (contents c.args.vcn) (sym (ap (λ f. f c.args.vcn) (some_same e)) ∙ none) (c.requires.there contents e))
+    absurd (none_not_some (contents c.args.vcn) (sym (ap (λ f. f c.args.vcn) (some_same e)) ∙ none) (c.requires.there contents e))

@@ -1,7 +1,7 @@
 use Rattle.std.proofs.Common.{◌≡◌, drop, filter}
 use Rattle.ntfs_def.specs.KeyOrder.{fold_of}
 use Rattle.plain_tree.specs.Plain.{is_named, lent}
-use Rattle.tree_model.specs.Ordered.{least}
+use Rattle.list_laws.specs.Ordered.{least}
 use Rattle.tree_model.specs.Tree.{link_above}
 use Rattle.plain_tree.proofs.tree.PlainTree.first_among.Given as goal
 

@@ -1,6 +1,6 @@
 use Rattle.std.proofs.Common.{ap, filter, ◌∙◌}
 use Rattle.ntfs_def.specs.KeyOrder.{fold_of}
-use Rattle.tree_model.specs.Ordered.{put_all}
+use Rattle.list_laws.specs.Ordered.{put_all}
 use Rattle.tree_model.specs.Paths.{links_in_order}
 use Rattle.plain_tree.specs.Plain.{tree_of}
 use Rattle.tree_model.specs.Tree.{is_in, link_above}

@@ -1,6 +1,6 @@
 use Rattle.std.proofs.Common.{◌≡◌, ◌≤◌, drop, filter, length}
 use Rattle.ntfs_def.specs.KeyOrder.{fold_of}
-use Rattle.tree_model.specs.Ordered.{put_all}
+use Rattle.list_laws.specs.Ordered.{put_all}
 use Rattle.tree_model.specs.Tree.{is_in, link_above}
 use Rattle.plain_tree.proofs.tree.PlainTree.put_links_in.Given as goal
 

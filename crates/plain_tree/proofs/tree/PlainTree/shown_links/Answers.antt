@@ -1,6 +1,6 @@
 use Rattle.std.proofs.Common.{◌≡◌, [], ap, arith, drop, filter, map, ◌∙◌}
 use Rattle.tree_model.specs.Answers.{path_above, shown_link, shown_links}
-use Rattle.tree_model.specs.Ordered.{put_all}
+use Rattle.list_laws.specs.Ordered.{put_all}
 use Rattle.plain_tree.specs.Plain.{tree_of}
 use Rattle.tree_model.specs.Tree.{leads_to}
 use Rattle.tree_model.proofs.PlaceLaws.{in_order-put_all}

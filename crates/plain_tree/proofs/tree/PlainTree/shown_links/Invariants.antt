@@ -1,6 +1,6 @@
 use Rattle.std.proofs.Common.{◌≡◌, ◌≤◌, [], drop, filter, length, map}
 use Rattle.tree_model.specs.Answers.{path_above, shown_link}
-use Rattle.tree_model.specs.Ordered.{put_all}
+use Rattle.list_laws.specs.Ordered.{put_all}
 use Rattle.plain_tree.specs.Plain.{tree_of}
 use Rattle.tree_model.specs.Tree.{leads_to}
 use Rattle.plain_tree.proofs.tree.PlainTree.shown_links.Given as goal

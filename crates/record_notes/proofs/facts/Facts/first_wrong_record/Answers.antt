@@ -1,6 +1,6 @@
 use Rattle.volume_def.specs.AttributesClause.{MeetsAttributes}
 use Rattle.record_notes.proofs.FactsLaws.{MeetsAttributes-none}
-use Rattle.record_notes.proofs.LeastLaws.{least-whole}
+use Rattle.list_laws.proofs.LeastLaws.{least-whole}
 use Rattle.record_notes.proofs.facts.Facts.first_wrong_record.Goals as goal
 
 pub returns : goal.returns

@@ -2,7 +2,7 @@ use Rattle.std.proofs.Common.{◌≡◌, ◌+◌, min, ap, sym, subst, ◌∙◌
 use Rattle.std.specs.Option.{option_or}
 use Rattle.std.specs.Vec.{with_items}
 use Rattle.std.proofs.lemmas.List.{with_items_is}
-use Rattle.record_notes.specs.BitRanges.{Fills}
+use Rattle.list_laws.specs.BitRanges.{Fills}
 use Rattle.record_notes.specs.Owners.{CountsOwners, inside, noted_end}
 use Rattle.record_notes.proofs.OwnersLaws.{Counts-filled}
 use Rattle.record_notes.proofs.owners.OwnedClusters.note_inside.Goals as goal

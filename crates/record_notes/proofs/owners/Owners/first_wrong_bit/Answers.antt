@@ -1,6 +1,6 @@
 use Rattle.std.proofs.Common.{◌<◌, ◌*◌, length, arith, ap, inl, inr, sym, ◌∙◌}
 use Rattle.std.proofs.lemmas.Bool.{cases_lt}
-use Rattle.ntfs_def.specs.Bits.{bit_in}
+use Rattle.list_laws.specs.Bits.{bit_in}
 use Rattle.record_notes.specs.Owners.{clusters_noted}
 use Rattle.record_notes.proofs.BitmapLaws.{bits-differ, bits-meet}
 use Rattle.record_notes.proofs.owners.Owners.first_wrong_bit.Goals as goal

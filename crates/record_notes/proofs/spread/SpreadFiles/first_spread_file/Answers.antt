@@ -1,8 +1,9 @@
 use Rattle.std.proofs.Common.{◌≡◌, true, false, None, take, ◌∙◌, subst, arith}
 use Rattle.std.proofs.lemmas.List.{take_all}
-use Rattle.record_notes.specs.Least.{IsLeastFailing}
+use Rattle.list_laws.specs.Least.{IsLeastFailing}
 use Rattle.record_notes.specs.Spread.{extensions_below}
-use Rattle.record_notes.proofs.AloneLaws.{MeetsAmong, among-all, among-more, least_of-none, one-broken, one-right}
+use Rattle.record_notes.proofs.AloneLaws.{MeetsAmong, among-all, among-more, one-broken, one-right}
+use Rattle.list_laws.proofs.LeastLaws.{least_of-none}
 use Rattle.record_notes.proofs.spread.SpreadFiles.first_spread_file.Goals.{then-is_unlisted, else-is_unlisted}
 use Rattle.record_notes.proofs.spread.SpreadFiles.first_spread_file.Goals as goal
 

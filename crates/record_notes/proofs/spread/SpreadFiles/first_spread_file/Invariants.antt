@@ -1,7 +1,7 @@
 use Rattle.std.proofs.Common.{take}
 use Rattle.volume_def.specs.Files.{Records}
 use Rattle.record_notes.specs.Heads.{EndsAtCount, HeadsNote}
-use Rattle.record_notes.specs.Least.{IsLeastFailing}
+use Rattle.list_laws.specs.Least.{IsLeastFailing}
 use Rattle.record_notes.proofs.AloneLaws.{MeetsAmong}
 use Rattle.record_notes.proofs.spread.SpreadFiles.first_spread_file.Given as goal
 

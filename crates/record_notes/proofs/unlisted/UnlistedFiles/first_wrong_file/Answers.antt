@@ -1,7 +1,7 @@
 use Rattle.std.proofs.Common.{sym, subst}
 use Rattle.volume_def.specs.ExtentsClause.{MeetsExtents}
 use Rattle.volume_def.specs.Files.{records_of}
-use Rattle.record_notes.specs.Least.{IsLeastFailing}
+use Rattle.list_laws.specs.Least.{IsLeastFailing}
 use Rattle.record_notes.proofs.UnlistedLaws.{first-of-all, first-of-volume}
 use Rattle.record_notes.proofs.unlisted.UnlistedFiles.first_wrong_file.Goals as goal
 

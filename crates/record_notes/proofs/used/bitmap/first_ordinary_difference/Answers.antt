@@ -1,7 +1,7 @@
 use Rattle.std.proofs.Common.{◌≡◌, ◌+◌, ◌-◌, ◌*◌, ◌<◌, length, arith, subst}
 use Rattle.std.proofs.lemmas.List.{take_rest}
-use Rattle.ntfs_def.specs.Bits.{bit_in}
-use Rattle.record_notes.specs.BitRanges.{IsLeastWithin}
+use Rattle.list_laws.specs.Bits.{bit_in}
+use Rattle.list_laws.specs.BitRanges.{IsLeastWithin}
 use Rattle.record_notes.proofs.BitmapLaws.{within-skipped}
 use Rattle.record_notes.proofs.used.bitmap.first_ordinary_difference.Goals as goal
 

@@ -4,7 +4,7 @@ use Rattle.std.specs.Prelude.{filter}
 use Rattle.std.specs.Cmp.{IsStrictWeakOrder}
 use Rattle.std.specs.List.Sorted.{IsSortedBy, IsStableBy, ties}
 use Rattle.std.proofs.lemmas.List.Sorted.{sorted_far}
-use Rattle.tree_model.specs.Ordered.{in_order, put_in_order}
+use Rattle.list_laws.specs.Ordered.{in_order, put_in_order}
 
 module _ {A : Type 0} (lt : A → A → Bool) (o : IsStrictWeakOrder lt) where
   abbrev above : A → A → Bool

@@ -1,6 +1,6 @@
--- Bitmaps: which clusters of a volume, or which records of its table, are taken.
--- Layout: Linux-NTFS documentation, files "$Bitmap" and "$MFT" (its $BITMAP); Carrier, File System
--- Forensic Analysis, chapter 13, the $Bitmap file. One bit each, the lowest bit of a byte first.
+-- The bits of bytes, the lowest bit of a byte first, as a volume's bitmaps are stored.
+-- Layout: Linux-NTFS documentation, files "$Bitmap" and "$MFT" (its $BITMAP); Carrier, File System Forensic Analysis, chapter 13,
+-- the $Bitmap file.
 use Rattle.std.specs.Prelude.{ℕ, ◌/◌, ◌%◌, ◌==◌, Bool, List, map, slice_index}
 use Rattle.std.specs.List.{range_with_len}
 use Rattle.std.specs.Int.{bit_at}

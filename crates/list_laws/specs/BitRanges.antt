@@ -1,7 +1,7 @@
 -- Bits of bytes, over a range.
 use Rattle.std.specs.Prelude.{◌≡◌, ◌≢◌, ℕ, ◌+◌, ◌<◌, ◌≤◌, List, length, slice_index, Option, Some, None, IfSome, unwrap_or}
 use Rattle.std.specs.Int.{bit_at}
-use Rattle.ntfs_def.specs.Bits.{bit_in}
+use Rattle.list_laws.specs.Bits.{bit_in}
 
 -- The bits from `from` up to `end` were set, up to the first that was set before.
 pub record Fills (old new : List ℕ) (from end : ℕ) (found : Option ℕ) : Type 0 where

@@ -1,11 +1,11 @@
 -- Counts in a sorted list of numbers, by what stands beside an element.
-use Rattle.std.proofs.Common.{◌≡◌, ◌≢◌, ◌<◌, ◌≤◌, ◌+◌, ◌-◌, ◌==◌, ℕ, zero, suc, List, [], ◌∷◌, length, get_or, inl, inr, refl, ap, ◌∙◌, arith, eq-eqb}
+use Rattle.std.proofs.Common.{◌==◌, ℕ, List, ◌≤◌, ◌-◌, ◌≡◌, ◌≢◌, ◌<◌, suc, [], ◌∷◌, length, get_or, refl, arith, ◌∙◌, eq-eqb, zero, inl, inr, ◌+◌, ap}
 use Rattle.std.specs.List.{count_by}
-use Rattle.std.specs.List.Sorted.{IsNonDecreasing}
-use Rattle.std.proofs.lemmas.Bool.{cases_eq, cases_lt, ne_eqb}
-use Rattle.std.proofs.lemmas.List.{get_or_default}
+use Rattle.std.proofs.lemmas.Bool.{ne_eqb, cases_eq, cases_lt}
 use Rattle.list_laws.proofs.FindLaws.{count-no, count-some, count-yes}
-use Rattle.volume_clauses.specs.Pairs.{IsBeside}
+use Rattle.std.proofs.lemmas.List.{get_or_default}
+use Rattle.std.specs.List.Sorted.{IsNonDecreasing}
+use Rattle.list_laws.specs.Beside.{IsBeside}
 
 abbrev pub times : ℕ → List ℕ → ℕ
 times key keys = count_by (λ k. k == key) keys
@@ -15,16 +15,16 @@ pub record IsPartnered (keys : List ℕ) (key : ℕ) : Type 0 where
   pub long : 1 ≤ times (key - 1) keys
   pub alone : times key keys ≤ 1
 
-count_none : (k : ℕ) (xs : List ℕ) → ((j : ℕ) → j < length xs → get_or xs j 0 ≢ k) → times k xs ≡ 0
+pub count_none : (k : ℕ) (xs : List ℕ) → ((j : ℕ) → j < length xs → get_or xs j 0 ≢ k) → times k xs ≡ 0
 count_none k [] h = refl
 count_none k (x ∷ xs) h =
     let c = count-no (λ y. y == k) x xs (ne_eqb x k (h 0 (omega arith))) in
     let r = count_none k xs (λ j l. h (suc j) (omega arith)) in omega arith
 
-count_at : (k : ℕ) (xs : List ℕ) (i : ℕ) → i < length xs → get_or xs i 0 ≡ k → 1 ≤ times k xs
+pub count_at : (k : ℕ) (xs : List ℕ) (i : ℕ) → i < length xs → get_or xs i 0 ≡ k → 1 ≤ times k xs
 count_at k xs i h e = count-some (λ y. y == k) xs k (i, h, get_or_default xs i k 0 h ∙ e) (eq-eqb k k refl)
 
-count_two : (k : ℕ) (xs : List ℕ) (i j : ℕ) → i < j → j < length xs → get_or xs i 0 ≡ k → get_or xs j 0 ≡ k → 2 ≤ times k xs
+pub count_two : (k : ℕ) (xs : List ℕ) (i j : ℕ) → i < j → j < length xs → get_or xs i 0 ≡ k → get_or xs j 0 ≡ k → 2 ≤ times k xs
 count_two k [] i j lt h e f = absurd (omega arith)
 count_two k (x ∷ xs) i zero lt h e f = absurd (omega arith)
 count_two k (x ∷ xs) zero (suc j) lt h e f =
@@ -37,7 +37,7 @@ count_two k (x ∷ xs) (suc i) (suc j) lt h e f =
           count-no (λ y. y == k) x xs (ne_eqb x k s) in omega arith
     ]
 
-count_one : (k : ℕ) (xs : List ℕ) (i : ℕ) → ((j : ℕ) → j < length xs → j ≢ i → get_or xs j 0 ≢ k) → times k xs ≤ 1
+pub count_one : (k : ℕ) (xs : List ℕ) (i : ℕ) → ((j : ℕ) → j < length xs → j ≢ i → get_or xs j 0 ≢ k) → times k xs ≤ 1
 count_one k [] i h = omega arith
 count_one k (x ∷ xs) zero h =
     let r = count_none k xs (λ j l. h (suc j) (omega arith) (λ e. absurd (omega arith))) in

@@ -1,7 +1,7 @@
--- The least failing number, as a pass finds it.
-use Rattle.std.proofs.Common.{◌≡◌, ℕ, ◌+◌, ◌<◌, ◌≤◌, min, Option, Some, None, unwrap_or, inl, inr, subst, arith}
+-- The least number at which a fact fails.
+use Rattle.std.proofs.Common.{ℕ, Option, Some, None, ◌≤◌, inl, inr, ◌≡◌, ◌+◌, subst, arith, unwrap_or, ◌<◌, min, refl}
+use Rattle.list_laws.specs.Least.{IsLeastFailing, IsLeastBelow, least_of}
 use Rattle.std.proofs.lemmas.Bool.{cases_lt}
-use Rattle.record_notes.specs.Least.{IsLeastBelow, IsLeastFailing, least_of}
 
 -- two facts that say the same fail first at one number
 pub least-same : (P Q : ℕ → Type 0) (o : Option ℕ) → ((n : ℕ) → P n → Q n) → ((n : ℕ) → Q n → P n) → IsLeastFailing P o → IsLeastFailing Q o
@@ -35,3 +35,15 @@ least-two P Q (Some a) (Some b) (bad, below) (worse, under) = elim (cases_lt b a
   | inr ge ↦ let e : a ≡ min a b = omega arith in
       subst (λ n. ¬ (P n × Q n) × ((m : ℕ) → m < n → P m × Q m)) e (λ p. bad p.0, λ m h. (below m h, under m (omega arith)))
 ]
+
+pub least_of-none : (o : Option ℕ) → o ≡ least_of o None
+least_of-none None = refl
+least_of-none (Some n) = refl
+
+-- nothing is before number 0
+pub least-none : (P : ℕ → Type 0) → IsLeastBelow P 0 None
+least-none P n low = absurd (omega arith)
+
+-- what was found before an end is the least of all
+pub least-found : (P : ℕ → Type 0) (end n : ℕ) → IsLeastBelow P end (Some n) → IsLeastFailing P (Some n)
+least-found P end n (inside, bad, before) = (bad, before)

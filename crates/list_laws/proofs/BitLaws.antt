@@ -1,40 +1,16 @@
 -- Bits of bytes.
-use Rattle.std.proofs.Common.{◌≡◌, ◌≢◌, ℕ, ◌+◌, ◌-◌, ◌*◌, ◌/◌, ◌%◌, ◌^◌, ◌<◌, ◌≤◌, List, length, get_or, set, bit_and, bit_or, bit_xor, inl, inr, refl, sym, ap, ◌∙◌, arith, w8}
+use Rattle.std.proofs.Common.{◌≡◌, ℕ, ◌+◌, ◌*◌, ◌/◌, ◌%◌, ◌<◌, List, get_or, refl, arith, length, set, ap, ◌∙◌, ◌≢◌, ◌≤◌, bit_or, ◌-◌, sym, inl, inr, bit_and, ◌^◌, w8, bit_xor, drop, false, take}
 use Rattle.std.specs.Int.{bit_at, trailing_zeros}
+use Rattle.list_laws.specs.Bits.{bit_in, flags_in}
+use Rattle.std.proofs.lemmas.List.{get_or-set_same, get_or-set_other, length-set, get_or-drop, get_or_past, get_or-take, length-take-le}
+use Rattle.std.proofs.lemmas.Nat.Bits.{bit_at_or, bit_at-lt, bit_at_and, bit_at-zero, bit_at-trailing_zeros, bit_at_xor, same_from_bits, bit_at_set_other, bit_at_set_same}
 use Rattle.std.proofs.lemmas.Bool.{cases_eq, cases_lt}
-use Rattle.std.proofs.lemmas.List.{length-set, get_or-set_same, get_or-set_other}
-use Rattle.std.proofs.lemmas.Nat.Bits.{bit_at_and, bit_at_mask_below, bit_at_mask_inside, bit_at_ones, bit_at_ones_above, bit_at_or, bit_at_set_other, bit_at_set_same, bit_at_xor, bit_at-lt, bit_at-trailing_zeros, bit_at-zero, ones_shl, ones_shr, same_from_bits}
-use Rattle.ntfs_def.specs.Bits.{bit_in}
-use Rattle.record_notes.specs.BitRanges.{DiffersFirst, SetsBit}
-
--- the bits of a byte from `low` up to `high`
-abbrev between : ℕ → ℕ → ℕ
-between low high = bit_and (255 * 2 ^ low % 256) (255 / 2 ^ (8 - high))
-
-between-is : (low high : ℕ) → low < high → high ≤ 8 → between low high ≡ bit_and (2 ^ 8 - 2 ^ low) (2 ^ high - 1)
-between-is low high order byte =
-    let up : 255 * 2 ^ low % 256 ≡ 2 ^ 8 - 2 ^ low = ones_shl 8 low (omega arith) in
-    let down : 255 / 2 ^ (8 - high) ≡ 2 ^ (8 - (8 - high)) - 1 = ones_shr 8 (8 - high) (omega arith) in
-    let top : 8 - (8 - high) ≡ high = omega arith in
-    rw (up, down, top) refl
-
-pub mask-inside : (low high i : ℕ) → low < high → high ≤ 8 → low ≤ i → i < high
-    → bit_at (bit_and (255 * 2 ^ low % 256) (255 / 2 ^ (8 - high))) i ≡ 1
-mask-inside low high i order byte from to =
-    rw (between-is low high order byte) (omega (
-      arith,
-      bit_at_and (2 ^ 8 - 2 ^ low) (2 ^ high - 1) i,
-      bit_at_mask_inside low 8 i from (omega arith),
-      bit_at_ones high i to,
-    ))
-
-pub mask-below : (low high i : ℕ) → low < high → high ≤ 8 → i < low → bit_at (bit_and (255 * 2 ^ low % 256) (255 / 2 ^ (8 - high))) i ≡ 0
-mask-below low high i order byte h =
-    rw (between-is low high order byte) (omega (arith, bit_at_and (2 ^ 8 - 2 ^ low) (2 ^ high - 1) i, bit_at_mask_below low 8 i h))
-
-pub mask-above : (low high i : ℕ) → low < high → high ≤ 8 → high ≤ i → bit_at (bit_and (255 * 2 ^ low % 256) (255 / 2 ^ (8 - high))) i ≡ 0
-mask-above low high i order byte h =
-    rw (between-is low high order byte) (omega (arith, bit_at_and (2 ^ 8 - 2 ^ low) (2 ^ high - 1) i, bit_at_ones_above high i h))
+use Rattle.list_laws.specs.BitRanges.{DiffersFirst, SetsBit, IsPieceOf}
+use Rattle.std.specs.Prelude.{slice_index, ◌↔◌, ◌==◌}
+use Rattle.std.specs.List.{range_with_len}
+use Rattle.list_laws.proofs.MemberLaws.{Contains-from_range, map_agree}
+use Rattle.std.proofs.lemmas.Grind.{same_number_lists}
+use Rattle.std.proofs.lemmas.List.FromFn.{length-map-range_with_len}
 
 -- the bit at a place, by its byte
 pub bit_in-place : (bytes : List ℕ) (byte i k : ℕ) → k ≡ 8 * byte + i → i < 8 → bit_in bytes k ≡ bit_at (get_or bytes byte 0) i
@@ -69,7 +45,7 @@ masked-inside bytes byte mask low high k l m h from to =
     bit_in-set_here bytes byte (bit_or (get_or bytes byte 0) mask) (k - 8 * byte) k l (omega arith) (omega arith)
     ∙ omega (arith, bit_at_or (get_or bytes byte 0) mask (k - 8 * byte), bit_at-lt (get_or bytes byte 0) (k - 8 * byte), one)
 
-masked-zero : (bytes : List ℕ) (byte mask k : ℕ) → byte < length bytes → k / 8 ≡ byte → bit_at mask (k % 8) ≡ 0
+pub masked-zero : (bytes : List ℕ) (byte mask k : ℕ) → byte < length bytes → k / 8 ≡ byte → bit_at mask (k % 8) ≡ 0
     → bit_in (masked bytes byte mask) k ≡ bit_in bytes k
 masked-zero bytes byte mask k l e zero =
     bit_in-set_here bytes byte (bit_or (get_or bytes byte 0) mask) (k % 8) k l (omega arith) (omega arith)
@@ -171,3 +147,70 @@ SetsBit-set bytes k h =
         | inr other ↦ ap (λ n. bit_at n (j % 8)) (get_or-set_other bytes (k / 8) (j / 8) v 0 other)
       ];
     }
+
+pub set-inside : (word mask i : ℕ) → bit_at mask i ≡ 1 → bit_at (bit_or word mask) i ≡ 1
+set-inside word mask i set = omega (arith, bit_at_or word mask i, bit_at-lt word i, set)
+
+pub set-outside : (word mask i : ℕ) → bit_at mask i ≡ 0 → bit_at (bit_or word mask) i ≡ bit_at word i
+set-outside word mask i clear = omega (arith, bit_at_or word mask i, clear)
+
+-- a bit of a piece is that of the value
+pub piece-bit : (value piece : List ℕ) (from k : ℕ) → IsPieceOf value from piece → 8 * from ≤ k → k < 8 * (from + length piece)
+    → bit_in piece (k - 8 * from) ≡ bit_in value k
+piece-bit value piece from k h low high =
+    let at : (k - 8 * from) / 8 ≡ k / 8 - from = omega arith in
+    let same : (k - 8 * from) % 8 ≡ k % 8 = omega arith in
+    let there : from + (k / 8 - from) ≡ k / 8 = omega arith in
+    rw (at, same) (ap (λ b. bit_at b (k % 8)) (h (k / 8 - from) (omega arith) ∙ ap (slice_index value) there))
+
+-- two bits of which each is 1 exactly where the same holds
+pub same-bits : (a i b j : ℕ) {P : Type 0} → (bit_at a i ≡ 1) ↔ P → (bit_at b j ≡ 1) ↔ P → bit_at a i ≡ bit_at b j
+same-bits a i b j left right =
+    let p = bit_at-lt a i in
+    let q = bit_at-lt b j in
+    elim (cases_eq (bit_at a i) 1) [
+      | inl one ↦ one ∙ sym (right.1 (left.0 one))
+      | inr zero ↦ elim (cases_eq (bit_at b j) 1) [
+        | inl one ↦ absurd (zero (left.1 (right.0 one)))
+        | inr none ↦ omega arith
+      ]
+    ]
+
+-- a bit of a piece without its first bytes
+pub rest-bit : (piece : List ℕ) (skipped from k : ℕ) → 8 * (from + skipped) ≤ k
+    → bit_in (drop skipped piece) (k - 8 * (from + skipped)) ≡ bit_in piece (k - 8 * from)
+rest-bit piece skipped from k low =
+    let at : (k - 8 * (from + skipped)) / 8 ≡ k / 8 - (from + skipped) = omega arith in
+    let same : (k - 8 * (from + skipped)) % 8 ≡ (k - 8 * from) % 8 = omega arith in
+    let there : skipped + (k / 8 - (from + skipped)) ≡ (k - 8 * from) / 8 = omega arith in
+    rw (at, same) (ap (λ b. bit_at b ((k - 8 * from) % 8))
+    (get_or-drop skipped piece (k / 8 - (from + skipped)) 0 ∙ ap (slice_index piece) there))
+
+pub bit-behind : (bytes : List ℕ) (number : ℕ) → length bytes ≤ number / 8 → false ≡ (bit_in bytes number == 1)
+bit-behind bytes number past =
+    sym (ap (λ byte. bit_at byte (number % 8) == 1) (get_or_past bytes (number / 8) 0 past) ∙ ap (λ b. b == 1) (bit_at-zero (number % 8)))
+
+-- the first bytes of a piece
+pub shorter-piece : (value piece : List ℕ) (n : ℕ) → n ≤ length piece → IsPieceOf value 0 piece → IsPieceOf value 0 (take n piece)
+shorter-piece value piece n within is i lt =
+    let long = length-take-le n piece within in
+    get_or-take n piece i 0 (omega arith) ∙ is i (omega arith)
+
+-- Where bytes are the first ones of a value, the bits are.
+pub flags_in-piece : (value bytes : List ℕ) (count : ℕ) → IsPieceOf value 0 bytes → count ≤ 8 * length bytes
+    → flags_in bytes count ≡ flags_in value count
+unfolding flags_in
+flags_in-piece value bytes count is enough =
+    map_agree (λ at. bit_in value at == 1) (λ at. bit_in bytes at == 1) (range_with_len 0 count)
+    (λ k c.
+    let w = Contains-from_range 0 count k c in
+    let at : 0 + k / 8 ≡ k / 8 = omega arith in
+    ap (λ b. bit_at b (k % 8) == 1) (is (k / 8) (omega (arith, w.1)) ∙ ap (slice_index value) at))
+
+-- Bytes that are as many as those of the value, and the first ones of it, are the value.
+pub whole-piece : (value bytes : List ℕ) → IsPieceOf value 0 bytes → length bytes ≡ length value → bytes ≡ value
+whole-piece value bytes is long = same_number_lists bytes value long (λ k lt. let at : 0 + k ≡ k = omega arith in is k lt ∙ ap (slice_index value) at)
+
+pub length-flags : (bytes : List ℕ) (count : ℕ) → length (flags_in bytes count) ≡ count
+unfolding flags_in
+length-flags bytes count = length-map-range_with_len (λ at. bit_in bytes at == 1) 0 count

@@ -1,6 +1,41 @@
--- Lists in order: what a list in order is does not depend on the order in which its items came.
-use Rattle.std.proofs.Common.{◌≡◌, List, [], ◌∷◌, ◌++◌, filter, not, Bool, true, false, refl, sym, ap, subst, ◌∙◌, append-nil}
-use Rattle.tree_model.specs.Ordered.{put_in_order, in_order, IsOrder}
+-- Lists that are put in order item by item: in whichever sequence, and what stands in them.
+use Rattle.std.proofs.Common.{◌≡◌, List, [], ◌∷◌, ◌++◌, filter, not, Bool, true, false, refl, sym, ap, subst, ◌∙◌, append-nil, ◌⊎◌, inl, inr, cond, arith}
+use Rattle.list_laws.specs.Ordered.{put_in_order, in_order, IsOrder}
+use Rattle.std.specs.List.{Contains, list_all}
+use Rattle.list_laws.proofs.MemberLaws.{Contains-cases, Contains-later}
+use Rattle.std.proofs.lemmas.Bool.{and_parts}
+use Rattle.std.specs.Prelude.{count_by}
+use Rattle.list_laws.proofs.FindLaws.{count-cons, count-swap}
+
+module _ {A : Type 0} (above other : A → A → Bool) (test : A → Bool)
+    (agree : (x y : A) → test x ≡ true → test y ≡ true → above x y ≡ other x y) where
+  put-alike : (x : A) (ys : List A) → test x ≡ true → list_all test ys ≡ true → put_in_order above x ys ≡ put_in_order other x ys
+  put-alike x [] passes all = refl
+  put-alike x (y ∷ ys) passes all =
+      let pair = and_parts (test y) (list_all test ys) all in
+      ap (λ b. cond b (y ∷ put_in_order above x ys) (x ∷ y ∷ ys)) (agree x y passes pair.0)
+      ∙ ap (λ zs. cond (other x y) (y ∷ zs) (x ∷ y ∷ ys)) (put-alike x ys passes pair.1)
+
+  put-passes : (x : A) (ys : List A) → test x ≡ true → list_all test ys ≡ true → list_all test (put_in_order other x ys) ≡ true
+  put-passes x [] passes all = rw passes refl
+  put-passes x (y ∷ ys) passes all =
+      let pair = and_parts (test y) (list_all test ys) all in by pair.0 (put-passes x ys passes pair.1) (other x y)
+    where
+      by : test y ≡ true → list_all test (put_in_order other x ys) ≡ true → (b : Bool)
+          → list_all test (cond b (y ∷ put_in_order other x ys) (x ∷ y ∷ ys)) ≡ true
+      by here later true = rw here later
+      by here later false = rw passes all
+
+  ordered-passes : (xs : List A) → list_all test xs ≡ true → list_all test (in_order other xs) ≡ true
+  ordered-passes [] all = refl
+  ordered-passes (x ∷ xs) all =
+      let pair = and_parts (test x) (list_all test xs) all in put-passes x (in_order other xs) pair.0 (ordered-passes xs pair.1)
+
+  pub ordered-alike : (xs : List A) → list_all test xs ≡ true → in_order above xs ≡ in_order other xs
+  ordered-alike [] all = refl
+  ordered-alike (x ∷ xs) all =
+      let pair = and_parts (test x) (list_all test xs) all in
+      ap (put_in_order above x) (ordered-alike xs pair.1) ∙ put-alike x (in_order other xs) pair.0 (ordered-passes xs pair.1)
 
 module _ {A : Type 0} {above : A → A → Bool} (o : IsOrder above) where
   -- two items go in either way
@@ -88,3 +123,47 @@ module _ {A : Type 0} {above : A → A → Bool} (o : IsOrder above) where
       ordered-front p (filter (λ x. not (q x)) xs) (in_order above (filter q xs))
       ∙ ordered-back p (filter (λ x. not (q x)) xs) (filter q xs)
       ∙ both_parts p q xs
+
+pub from-put : {A : Type 0} (above : A → A → Bool) (x : A) (ys : List A) (z : A) → Contains (put_in_order above x ys) z → (x ≡ z) ⊎ Contains ys z
+from-put above x [] z c = Contains-cases x [] z c
+from-put {A = A} above x (y ∷ ys) z c = by (from-put above x ys z) (above x y) c
+  where
+    by : (Contains (put_in_order above x ys) z → (x ≡ z) ⊎ Contains ys z) → (b : Bool)
+        → Contains (cond b (y ∷ put_in_order above x ys) (x ∷ y ∷ ys)) z → (x ≡ z) ⊎ Contains (y ∷ ys) z
+    by rest false c = Contains-cases x (y ∷ ys) z c
+    by rest true c = elim (Contains-cases y (put_in_order above x ys) z c) [
+      | inl same ↦ inr (Contains-head-same y ys z same)
+      | inr later ↦ elim (rest later) [ inl same ↦ inl same | inr there ↦ inr (Contains-later y ys z there) ]
+    ]
+      where
+        Contains-head-same : (y : A) (ys : List A) (z : A) → y ≡ z → Contains (y ∷ ys) z
+        Contains-head-same y ys z same = (0, omega arith, same)
+
+pub Contains-from_in_order : {A : Type 0} (above : A → A → Bool) (xs : List A) (z : A) → Contains (in_order above xs) z → Contains xs z
+Contains-from_in_order above [] z c = c
+Contains-from_in_order above (x ∷ xs) z c = elim (from-put above x (in_order above xs) z c) [
+  | inl same ↦ (0, omega arith, same)
+  | inr later ↦ Contains-later x xs z (Contains-from_in_order above xs z later)
+]
+
+pub count-put : {A : Type 0} (above : A → A → Bool) (p : A → Bool) (x : A) (ys : List A)
+    → count_by p (put_in_order above x ys) ≡ count_by p (x ∷ ys)
+count-put above p x [] = refl
+count-put above p x (y ∷ ys) = by (count-put above p x ys) (above x y) refl
+  where
+    by : count_by p (put_in_order above x ys) ≡ count_by p (x ∷ ys) → (b : Bool) → above x y ≡ b
+        → count_by p (put_in_order above x (y ∷ ys)) ≡ count_by p (x ∷ y ∷ ys)
+    by rest false e = rw e refl
+    by rest true e =
+        let more = count-cons p y (put_in_order above x ys) in
+        let less = count-cons p y (x ∷ ys) in
+        let swapped = count-swap p x y ys in
+        rw e (omega arith)
+
+pub count-in_order : {A : Type 0} (above : A → A → Bool) (p : A → Bool) (xs : List A) → count_by p (in_order above xs) ≡ count_by p xs
+count-in_order above p [] = refl
+count-in_order above p (x ∷ xs) =
+    let here = count-put above p x (in_order above xs) in
+    let a = count-cons p x (in_order above xs) in
+    let b = count-cons p x xs in
+    let rest = count-in_order above p xs in omega arith

@@ -1,18 +1,18 @@
 -- Lists of the same items, where two items can be told apart: a code of each tells it from all others.
 use base.Stored.{Gv, gnil, gnum, gcons}
+use Rattle.std.proofs.Common.{◌&&◌, Bool, true, false, eqb, ◌≡◌, refl, ap, ◌∙◌, List, sym, subst, ◌≤◌, Option, Some, None, arith, ◌∷◌, map, []}
+use Rattle.std.proofs.lemmas.Bool.{and_from, eq-eqb, and_parts, eqb-true}
 use Rattle.std.specs.Coded.{Coded}
-use Rattle.std.proofs.Common.{◌&&◌, ◌≡◌, ◌≤◌, Bool, true, false, eqb, List, [], ◌∷◌, map, Option, Some, None, refl, sym, ap, subst, ◌∙◌, arith}
-use Rattle.std.specs.Prelude.{All}
-use Rattle.std.proofs.lemmas.Bool.{and_from, and_parts, eq-eqb, eqb-true}
-use Rattle.std.proofs.lemmas.List.Elements.{All-contains}
-use Rattle.std.proofs.lemmas.List.Sorted.{IsPermutation-remove}
 use Rattle.std.specs.List.{Contains, count_by, find, remove}
 use Rattle.list_laws.specs.SameItems.{SameItems}
-use Rattle.list_laws.proofs.FindLaws.{count-cons, find-fails, find-found, find-none, find-one}
+use Rattle.list_laws.proofs.SameItemsLaws.{SameItems-passing, SameItems-sym, SameItems-permutation, SameItems-map, SameItems-append, SameItems-same, SameItems-trans, SameItems-length}
+use Rattle.std.specs.Prelude.{All}
+use Rattle.std.proofs.lemmas.List.Elements.{All-contains}
 use Rattle.list_laws.proofs.MemberLaws.{All-from_Contains, Contains-from_map, Contains-head}
-use Rattle.list_laws.proofs.SameItemsLaws.{SameItems-append, SameItems-length, SameItems-map, SameItems-passing, SameItems-permutation, SameItems-same, SameItems-sym, SameItems-trans}
+use Rattle.list_laws.proofs.FindLaws.{find-fails, find-found, find-none, find-one, count-cons}
+use Rattle.std.proofs.lemmas.List.Sorted.{IsPermutation-remove}
 
-same_code : Gv → Gv → Bool
+pub same_code : Gv → Gv → Bool
 same_code gnil gnil = true
 same_code gnil (gnum n) = false
 same_code gnil (gcons c d) = false
@@ -23,13 +23,13 @@ same_code (gcons a b) gnil = false
 same_code (gcons a b) (gnum n) = false
 same_code (gcons a b) (gcons c d) = same_code a c && same_code b d
 
-same_code-itself : (x : Gv) → same_code x x ≡ true
+pub same_code-itself : (x : Gv) → same_code x x ≡ true
 unfolding same_code
 same_code-itself gnil = refl
 same_code-itself (gnum n) = eq-eqb n n refl
 same_code-itself (gcons a b) = and_from _ _ (same_code-itself a) (same_code-itself b)
 
-same_code-exact : (x y : Gv) → same_code x y ≡ true → x ≡ y
+pub same_code-exact : (x y : Gv) → same_code x y ≡ true → x ≡ y
 unfolding same_code
 same_code-exact gnil gnil e = refl
 same_code-exact gnil (gnum n) e = cc
@@ -54,7 +54,7 @@ pub SameItems-All : {A : Type 0} (coded : Coded A) (P : A → Type 0) (xs ys : L
 SameItems-All coded P xs ys h all =
     All-from_Contains P ys (λ x c. All-contains P xs x all (SameItems-Contains coded ys xs x (SameItems-sym xs ys h) c))
 
-found_among : {A : Type 0} (coded : Coded A) (p : A → Bool) (xs ys : List A) (o : Option A) → SameItems xs ys → count_by p xs ≤ 1
+pub found_among : {A : Type 0} (coded : Coded A) (p : A → Bool) (xs ys : List A) (o : Option A) → SameItems xs ys → count_by p xs ≤ 1
     → find p xs ≡ o → find p ys ≡ o
 found_among coded p xs ys None h one e = find-none p ys (h.counts p ∙ find-fails p xs e)
 found_among coded p xs ys (Some x) h one e =
@@ -67,10 +67,10 @@ pub find-SameItems : {A : Type 0} (coded : Coded A) (p : A → Bool) (xs ys : Li
 find-SameItems coded p xs ys h one = found_among coded p xs ys (find p xs) h one refl
 
 -- an item of a list stands before the others in some order
-picked : {A : Type 0} (xs : List A) (x : A) → Contains xs x → (rest : List A) × SameItems xs (x ∷ rest)
+pub picked : {A : Type 0} (xs : List A) (x : A) → Contains xs x → (rest : List A) × SameItems xs (x ∷ rest)
 picked xs x (k, lt, is) = (remove xs k, SameItems-permutation _ _ (IsPermutation-remove xs k x lt (sym is)))
 
-others_same : {A B : Type 0} (g : A → B) (ys rest : List A) (x : A) (z : B) (zs : List B) → SameItems (map g ys) (z ∷ zs)
+pub others_same : {A B : Type 0} (g : A → B) (ys rest : List A) (x : A) (z : B) (zs : List B) → SameItems (map g ys) (z ∷ zs)
     → SameItems ys (x ∷ rest) → g x ≡ z → SameItems (map g rest) zs
 others_same g ys rest x z zs h split is = record {
   counts = λ p.
@@ -86,7 +86,7 @@ others_same g ys rest x z zs h split is = record {
 abbrev pub Lifted : {A B : Type 0} → (A → B) → List A → List B → Type 0
 Lifted {A = A} g ys zs = (found : List A) × (map g found ≡ zs) × SameItems ys found
 
-lifted-cons : {A B : Type 0} (g : A → B) (ys rest : List A) (x : A) (z : B) (zs : List B) → SameItems ys (x ∷ rest) → g x ≡ z
+pub lifted-cons : {A B : Type 0} (g : A → B) (ys rest : List A) (x : A) (z : B) (zs : List B) → SameItems ys (x ∷ rest) → g x ≡ z
     → Lifted g rest zs → Lifted g ys (z ∷ zs)
 lifted-cons g ys rest x z zs split is (found, gives, same) = (
   x ∷ found,

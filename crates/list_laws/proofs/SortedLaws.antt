@@ -1,17 +1,17 @@
--- Lists that are sorted, with the same items, are one list: by a key that one of them has at most once, or by an order in
--- which no two items tie.
-use Rattle.std.proofs.Common.{◌≡◌, ◌<◌, ◌≤◌, ◌==◌, ℕ, suc, cond, false, List, [], ◌∷◌, length, get_or, Ordering, inl, inr, refl, sym, ap, subst, ◌∙◌, arith, eq-eqb}
-use Rattle.std.specs.declared.cmp.Ordering.TheVariants.{Less, Equal, Greater}
-use Rattle.std.specs.Cmp.{IsTotalOrder}
-use Rattle.std.specs.Coded.{Coded}
-use Rattle.std.specs.List.{Contains, count_by}
-use Rattle.std.specs.Ordering.{is_lt, ordering_reverse}
+-- Lists that are sorted, with the same items, are one list: by a key that one of them has at most once, or by an order in which
+-- no two items tie.
+use Rattle.std.proofs.Common.{◌<◌, ◌≤◌, ℕ, List, length, get_or, ◌==◌, ◌≡◌, ◌∷◌, ap, arith, suc, cond, [], inl, inr, refl, sym, subst, ◌∙◌, eq-eqb, false, Ordering}
+use Rattle.std.specs.List.{count_by, Contains}
 use Rattle.std.proofs.lemmas.List.Sums.{sum_by-cons}
+use Rattle.std.specs.Coded.{Coded}
 use Rattle.list_laws.specs.SameItems.{SameItems}
-use Rattle.volume_def.proofs.CodedLaws.{SameItems-Contains}
+use Rattle.list_laws.proofs.CodedLaws.{SameItems-Contains}
 use Rattle.list_laws.proofs.FindLaws.{count-some, count-yes}
 use Rattle.list_laws.proofs.MemberLaws.{Contains-cases, Contains-head, Contains-nil}
 use Rattle.list_laws.proofs.SameItemsLaws.{SameItems-cancel, SameItems-sym}
+use Rattle.std.specs.Ordering.{is_lt, ordering_reverse}
+use Rattle.std.specs.declared.cmp.Ordering.TheVariants.{Less, Equal, Greater}
+use Rattle.std.specs.Cmp.{IsTotalOrder}
 
 -- keys never fall
 abbrev pub Rises : {A : Type 0} → (A → ℕ) → List A → Type 0
@@ -21,16 +21,16 @@ Rises {A} key xs = (i j : ℕ) (d : A) → i ≤ j → j < length xs → key (ge
 abbrev pub Apart : {A : Type 0} → (A → ℕ) → List A → Type 0
 Apart key xs = (k : ℕ) → count_by (λ x. key x == k) xs ≤ 1
 
-first-least : {A : Type 0} (key : A → ℕ) (x : A) (xs : List A) (y : A) → Rises key (x ∷ xs) → Contains (x ∷ xs) y → key x ≤ key y
+pub first-least : {A : Type 0} (key : A → ℕ) (x : A) (xs : List A) (y : A) → Rises key (x ∷ xs) → Contains (x ∷ xs) y → key x ≤ key y
 first-least key x xs y up (k, l, is) =
     let u = up 0 k y (omega arith) l in
     let e : key (get_or (x ∷ xs) k y) ≡ key y = ap key is in
     omega arith
 
-rises-tail : {A : Type 0} (key : A → ℕ) (x : A) (xs : List A) → Rises key (x ∷ xs) → Rises key xs
+pub rises-tail : {A : Type 0} (key : A → ℕ) (x : A) (xs : List A) → Rises key (x ∷ xs) → Rises key xs
 rises-tail key x xs up i j d h l = up (suc i) (suc j) d (omega arith) (omega arith)
 
-apart-tail : {A : Type 0} (key : A → ℕ) (x : A) (xs : List A) → Apart key (x ∷ xs) → Apart key xs
+pub apart-tail : {A : Type 0} (key : A → ℕ) (x : A) (xs : List A) → Apart key (x ∷ xs) → Apart key xs
 apart-tail key x xs apart k = let s = sum_by-cons (λ z. cond (key z == k) 1 0) x xs in let a = apart k in omega arith
 
 -- for any sort of which a code tells the values apart
@@ -63,15 +63,15 @@ same-sorted code key (x ∷ xs) (y ∷ ys) a b apart h =
 abbrev pub InOrder : {A : Type 0} → (A → A → Ordering) → List A → Type 0
 InOrder {A} order xs = (i j : ℕ) (d : A) → i ≤ j → j < length xs → is_lt (order (get_or xs j d) (get_or xs i d)) ≡ false
 
-order-tail : {A : Type 0} (order : A → A → Ordering) (x : A) (xs : List A) → InOrder order (x ∷ xs) → InOrder order xs
+pub order-tail : {A : Type 0} (order : A → A → Ordering) (x : A) (xs : List A) → InOrder order (x ∷ xs) → InOrder order xs
 order-tail order x xs up i j d h l = up (suc i) (suc j) d (omega arith) (omega arith)
 
-first-before : {A : Type 0} (order : A → A → Ordering) (x : A) (xs : List A) (y : A) → InOrder order (x ∷ xs) → Contains (x ∷ xs) y
+pub first-before : {A : Type 0} (order : A → A → Ordering) (x : A) (xs : List A) (y : A) → InOrder order (x ∷ xs) → Contains (x ∷ xs) y
     → is_lt (order y x) ≡ false
 first-before order x xs y up (k, l, is) =
     subst (λ z. is_lt (order z x) ≡ false) is (up 0 k y (omega arith) l)
 
-tied : (a b : Ordering) → a ≡ ordering_reverse b → is_lt a ≡ false → is_lt b ≡ false → b ≡ Equal
+pub tied : (a b : Ordering) → a ≡ ordering_reverse b → is_lt a ≡ false → is_lt b ≡ false → b ≡ Equal
 tied a Less e f g = absurd (cc)
 tied a Equal e f g = refl
 tied a Greater e f g = let t = sym f ∙ ap is_lt e in absurd (cc)
