@@ -1,5 +1,5 @@
 -- What is printed of a reply: its lines, then `ok`; or one line with the refusal's number, name and numbers.
-use Rattle.std.specs.Prelude.{ℕ, Bool, List, [], ◌∷◌, ◌++◌, codes, decimal, flat_map, if◌then◌else◌}
+use Rattle.std.specs.Prelude.{ℕ, Bool, true, false, List, [], ◌∷◌, ◌++◌, codes, decimal, flat_map, if◌then◌else◌}
 use Rattle.hex.specs.Hex.{encode_lower}
 use Rattle.vol_bytes.specs.NameText.{name_text}
 use Rattle.tree_model.specs.declared.reply.Answer.{Answer}
@@ -26,9 +26,9 @@ bytes_text (byte ∷ bytes) = encode_lower (byte ∷ bytes)
 abbrev pub step_text : List ℕ → List ℕ
 step_text name = 0x2F ∷ name_text name
 
-abbrev pub path_text : List (List ℕ) → List ℕ
-path_text [] = codes "/"
-path_text (name ∷ names) = flat_map step_text (name ∷ names)
+abbrev pub path_word : List (List ℕ) → List ℕ
+path_word [] = codes "/"
+path_word (name ∷ names) = flat_map step_text (name ∷ names)
 
 abbrev pub kind_text : Bool → List ℕ
 kind_text dir = if dir then codes "dir" else codes "file"
@@ -39,7 +39,7 @@ listed_text listed = kind_text listed.dir ++ (and_word (name_text listed.name) +
 
 -- `links`: a namespace and a path
 abbrev pub link_text : ShownLink → List ℕ
-link_text link = codes "link" ++ and_word (decimal link.space) ++ (and_word (path_text link.path) ++ codes "\n")
+link_text link = codes "link" ++ and_word (decimal link.space) ++ (and_word (path_word link.path) ++ codes "\n")
 
 abbrev pub stream_word : Bool → List ℕ
 stream_word packed = if packed then codes "packed" else codes "stream"
@@ -79,22 +79,33 @@ data_text name bytes = name ++ (and_word (bytes_text bytes) ++ codes "\n")
 abbrev pub tag_text : ℕ → List ℕ
 tag_text tag = codes "reparse" ++ and_word (hexadecimal 4 tag)
 
+-- the answers that are one line of few bytes, or none
+abbrev pub is_short : Answer → Bool
+is_short (answer.List listing) = false
+is_short (answer.Links links) = false
+is_short (answer.Data bytes) = false
+is_short (answer.Streams streams) = false
+is_short (answer.Sd bytes) = false
+is_short (answer.Reparse tag bytes) = false
+is_short (answer.ObjectId bytes) = false
+is_short other = true
+
 -- the lines before `ok`
-abbrev pub lines_of : Answer → List ℕ
-lines_of answer.Done = []
-lines_of (answer.List listing) = flat_map listed_text listing
-lines_of (answer.Stat dir links size flags security created modified changed accessed) = stat_text dir links size flags security created
+abbrev pub answer_text : Answer → List ℕ
+answer_text answer.Done = []
+answer_text (answer.List listing) = flat_map listed_text listing
+answer_text (answer.Stat dir links size flags security created modified changed accessed) = stat_text dir links size flags security created
     modified changed accessed
-lines_of (answer.Links links) = flat_map link_text links
-lines_of (answer.Data bytes) = data_text (codes "data") bytes
-lines_of (answer.Streams streams) = flat_map stream_text streams
-lines_of (answer.Attr flags) = flags_text (codes "attr") flags
-lines_of (answer.Sec id) = number_text (codes "sec") id
-lines_of (answer.Sd bytes) = data_text (codes "sd") bytes
-lines_of (answer.Reparse tag bytes) = data_text (tag_text tag) bytes
-lines_of (answer.ObjectId bytes) = data_text (codes "objid") bytes
-lines_of (answer.Df clusters free records free_records) = df_text clusters free records free_records
-lines_of (answer.Handle handle) = number_text (codes "handle") handle
+answer_text (answer.Links links) = flat_map link_text links
+answer_text (answer.Data bytes) = data_text (codes "data") bytes
+answer_text (answer.Streams streams) = flat_map stream_text streams
+answer_text (answer.Attr flags) = flags_text (codes "attr") flags
+answer_text (answer.Sec id) = number_text (codes "sec") id
+answer_text (answer.Sd bytes) = data_text (codes "sd") bytes
+answer_text (answer.Reparse tag bytes) = data_text (tag_text tag) bytes
+answer_text (answer.ObjectId bytes) = data_text (codes "objid") bytes
+answer_text (answer.Df clusters free records free_records) = df_text clusters free records free_records
+answer_text (answer.Handle handle) = number_text (codes "handle") handle
 
 -- a refusal's number and name
 abbrev pub refusal_name : No → List ℕ
@@ -143,11 +154,11 @@ refusal_numbers (no.Overflow need free) = two_numbers need free
 refusal_numbers other = []
 
 -- the line of a refusal
-abbrev pub refusal_text : No → List ℕ
-refusal_text refused = codes "no" ++ and_word (refusal_name refused) ++ refusal_numbers refused ++ codes "\n"
+abbrev pub no_text : No → List ℕ
+no_text refused = codes "no" ++ and_word (refusal_name refused) ++ refusal_numbers refused ++ codes "\n"
 
 -- a reply that is no device fault
 abbrev pub text_of : Reply → List ℕ
-text_of (reply.Ok told) = lines_of told ++ codes "ok\n"
-text_of (reply.No refused) = refusal_text refused
+text_of (reply.Ok told) = answer_text told ++ codes "ok\n"
+text_of (reply.No refused) = no_text refused
 text_of reply.Device = []

@@ -1,11 +1,11 @@
 //! Short texts, laid out without memory.
-ghost use Rattle.std.specs.Prelude.{◌≡◌, ◌+◌, ◌≤◌, ◌++◌, decimal, length, slice_index};
+ghost use Rattle.std.specs.Prelude.{◌≡◌, ◌+◌, ◌≤◌, ◌++◌, IsTrue, decimal, length, slice_index};
 ghost use Rattle.arrayvec.specs.ArrayVec.{array_vec_len};
-ghost use Rattle.cmd_lang.specs.Printed.{and_word, df_text, flags_text, kind_text, number_text, refusal_name, refusal_numbers, refusal_text, stat_text, stream_word, tag_text};
+ghost use Rattle.cmd_lang.specs.Printed.{and_word, answer_text, df_text, flags_text, is_short, kind_text, no_text, number_text, refusal_name, refusal_numbers, stat_text, stream_word, tag_text};
 
 use crate::digits::{flags_digits, tag_digits};
 use arrayvec::ArrayVec;
-use tree_model::No;
+use tree_model::{Answer, No};
 
 /// A line, or the front of one.
 pub type Line = ArrayVec<u8, 256>;
@@ -54,15 +54,8 @@ pub fn stream_word(packed: bool) -> &'static [u8]
     if packed { b"packed" } else { b"stream" }
 }
 
-/// The line of `stat`.
-pub fn stat_line(
-    dir: bool,
-    links: u64,
-    size: u64,
-    flags: u16,
-    security: u32,
-    times: [u64; 4],
-) -> Line
+// The line of `stat`.
+fn stat_line(dir: bool, links: u64, size: u64, flags: u16, security: u32, times: [u64; 4]) -> Line
     ensures text { let time = slice_index times in
         result.items ≡ stat_text dir links size flags security (time 0) (time 1) (time 2) (time 3) }
     ensures short { length result.items ≤ 256 }
@@ -83,8 +76,8 @@ pub fn stat_line(
     line
 }
 
-/// The line of `df`.
-pub fn df_line(clusters: u64, free: u64, records: u64, free_records: u64) -> Line
+// The line of `df`.
+fn df_line(clusters: u64, free: u64, records: u64, free_records: u64) -> Line
     ensures text { result.items ≡ df_text clusters free records free_records }
     ensures short { length result.items ≤ 256 }
 {
@@ -98,8 +91,8 @@ pub fn df_line(clusters: u64, free: u64, records: u64, free_records: u64) -> Lin
     line
 }
 
-/// A line of a name and a number.
-pub fn number_line(name: &[u8], number: u64) -> Line
+// A line of a name and a number.
+fn number_line(name: &[u8], number: u64) -> Line
     requires { length name.now ≤ 16 }
     ensures text { result.items ≡ number_text name.now number }
     ensures short { length result.items ≤ 256 }
@@ -111,8 +104,8 @@ pub fn number_line(name: &[u8], number: u64) -> Line
     line
 }
 
-/// A line of a name and DOS flags.
-pub fn flags_line(name: &[u8], flags: u16) -> Line
+// A line of a name and DOS flags.
+fn flags_line(name: &[u8], flags: u16) -> Line
     requires { length name.now ≤ 16 }
     ensures text { result.items ≡ flags_text name.now flags }
     ensures short { length result.items ≤ 256 }
@@ -122,6 +115,41 @@ pub fn flags_line(name: &[u8], flags: u16) -> Line
     add_word(&mut line, &flags_digits(flags));
     add(&mut line, b"\n");
     line
+}
+
+/// The line of an answer that has one of few bytes at most.
+pub fn short_line(answer: &Answer) -> Line
+    requires { IsTrue (is_short answer.now) }
+    ensures text { result.items ≡ answer_text answer.now }
+    ensures short { length result.items ≤ 256 }
+{
+    match answer {
+        Answer::Done => Line::new(),
+        Answer::Stat {
+            dir,
+            links,
+            size,
+            flags,
+            security,
+            created,
+            modified,
+            changed,
+            accessed,
+        } => {
+            let times = [*created, *modified, *changed, *accessed];
+            stat_line(*dir, *links, *size, *flags, *security, times)
+        }
+        Answer::Attr(flags) => flags_line(b"attr", *flags),
+        Answer::Sec(id) => number_line(b"sec", u64::from(*id)),
+        Answer::Df {
+            clusters,
+            free,
+            records,
+            free_records,
+        } => df_line(*clusters, *free, *records, *free_records),
+        Answer::Handle(handle) => number_line(b"handle", u64::from(*handle)),
+        _ => unreachable!(),
+    }
 }
 
 /// The front of the line of `reparse`.
@@ -211,7 +239,7 @@ fn refusal_numbers(no: No) -> Line
 
 /// The line of a refusal.
 pub fn refusal_line(no: No) -> Line
-    ensures text { result.items ≡ refusal_text no }
+    ensures text { result.items ≡ no_text no }
     ensures short { length result.items ≤ 256 }
 {
     let mut line = Line::new();

@@ -3,7 +3,7 @@ ghost use Rattle.std.specs.Prelude.{◌≤◌, flat_map, length};
 ghost use Rattle.hex.specs.Hex.{encode_lower};
 ghost use Rattle.vol_bytes.specs.NameText.{name_text};
 ghost use Rattle.cmd_lang.specs.Output.{output, Prints};
-ghost use Rattle.cmd_lang.specs.Printed.{bytes_text, path_text, step_text};
+ghost use Rattle.cmd_lang.specs.Printed.{bytes_text, path_word, step_text};
 
 use crate::held::{Held, put};
 use vol_bytes::{Name, first_text};
@@ -80,7 +80,7 @@ fn put_steps<K: Sink>(out: &mut K, held: &mut Held, names: &[Name]) -> Result<()
 
 /// Prints a path.
 pub fn put_path<K: Sink>(out: &mut K, held: &mut Held, names: &[Name]) -> Result<(), Failed>
-    ensures { Prints (output K.Sink out.old held.old.items) (output K.Sink out.new held.new.items) (path_text names.now) result }
+    ensures { Prints (output K.Sink out.old held.old.items) (output K.Sink out.new held.new.items) (path_word names.now) result }
 {
     if names.is_empty() {
         return put(out, held, b"/");

@@ -3,14 +3,11 @@ ghost use Rattle.std.specs.Prelude.{◌≢◌, ◌≤◌, flat_map, length, OnEr
 ghost use Rattle.vol_disk.specs.Count.{CountsFault};
 ghost use Rattle.vol_disk.specs.Stream.{IsAppended, IsAppendedPart};
 ghost use Rattle.cmd_lang.specs.Output.{output, Prints};
-ghost use Rattle.cmd_lang.specs.Printed.{data_text, lines_of, link_text, listed_text, name_word, stream_text, text_of};
+ghost use Rattle.cmd_lang.specs.Printed.{data_text, answer_text, link_text, listed_text, name_word, stream_text, text_of};
 ghost use Rattle.tree_model.specs.declared.reply.Reply.TheVariants as reply_is;
 
 use crate::held::{Held, flush, put};
-use crate::line::{
-    df_line, flags_line, kind_text, number_front, number_line, refusal_line, stat_line,
-    stream_word, tag_front,
-};
+use crate::line::{kind_text, number_front, refusal_line, short_line, stream_word, tag_front};
 use crate::pieces::{put_bytes, put_name, put_path};
 use tree_model::{Answer, Listed, Reply, ShownLink, ShownStream};
 use vol_disk::{Failed, Sink};
@@ -103,54 +100,22 @@ fn put_data<K: Sink>(out: &mut K, held: &mut Held, name: &[u8], bytes: &[u8]) ->
 
 // The lines before `ok`.
 fn put_answer<K: Sink>(out: &mut K, held: &mut Held, answer: &Answer) -> Result<(), Failed>
-    ensures { Prints (output K.Sink out.old held.old.items) (output K.Sink out.new held.new.items) (lines_of answer.now) result }
+    ensures { Prints (output K.Sink out.old held.old.items) (output K.Sink out.new held.new.items) (answer_text answer.now) result }
 {
     match answer {
-        Answer::Done => Ok(()),
-        Answer::List(listing) => put_listing(out, held, listing.as_slice()),
-        Answer::Stat {
-            dir,
-            links,
-            size,
-            flags,
-            security,
-            created,
-            modified,
-            changed,
-            accessed,
-        } => {
-            let times = [*created, *modified, *changed, *accessed];
-            let line = stat_line(*dir, *links, *size, *flags, *security, times);
-            put(out, held, line.as_slice())
-        }
-        Answer::Links(links) => put_links(out, held, links.as_slice()),
+        Answer::List(lines) => put_listing(out, held, lines.as_slice()),
+        Answer::Links(lines) => put_links(out, held, lines.as_slice()),
+        Answer::Streams(lines) => put_streams(out, held, lines.as_slice()),
         Answer::Data(bytes) => put_data(out, held, b"data", bytes.as_slice()),
-        Answer::Streams(streams) => put_streams(out, held, streams.as_slice()),
-        Answer::Attr(flags) => put(out, held, flags_line(b"attr", *flags).as_slice()),
-        Answer::Sec(id) => put(out, held, number_line(b"sec", u64::from(*id)).as_slice()),
         Answer::Sd(bytes) => put_data(out, held, b"sd", bytes.as_slice()),
+        Answer::ObjectId(bytes) => put_data(out, held, b"objid", bytes.as_slice()),
         Answer::Reparse { tag, bytes } => put_data(
             out,
             held,
             tag_front(*tag).as_slice(),
             bytes.as_slice(),
         ),
-        Answer::ObjectId(bytes) => put_data(out, held, b"objid", bytes.as_slice()),
-        Answer::Df {
-            clusters,
-            free,
-            records,
-            free_records,
-        } => put(
-            out,
-            held,
-            df_line(*clusters, *free, *records, *free_records).as_slice(),
-        ),
-        Answer::Handle(handle) => put(
-            out,
-            held,
-            number_line(b"handle", u64::from(*handle)).as_slice(),
-        ),
+        short => put(out, held, short_line(short).as_slice()),
     }
 }
 

@@ -355,9 +355,9 @@ fn vectors_are_given_back(rt: HostRuntime) -> Result<(), Fail> {
 fn a_dos_name_is_not_listed(rt: HostRuntime) -> Result<(), Fail> {
     let tree = tree(rt.alloc())?;
     let mut link = link(rt.alloc(), 5, "d", 27)?;
-    assert!(rt; tree.listed(&link).is_some());
+    assert!(rt; tree.ls_line(&link).is_some());
     link.space = 2;
-    assert!(rt; tree.listed(&link).is_none());
+    assert!(rt; tree.ls_line(&link).is_none());
     Ok(())
 }
 

@@ -20,7 +20,7 @@ use Rattle.tree_model.specs.declared.reply.No.{No}
 use Rattle.tree_model.specs.declared.tree.Link.{Link}
 use Rattle.tree_model.proofs.LookLaws.{find-never}
 use Rattle.tree_model.proofs.MachineLaws.{shown-step}
-use Rattle.plain_tree.specs.Plain.{Answers, AreTold, df_of, lent_found, machine_of, tree_of}
+use Rattle.plain_tree.specs.Plain.{TellsDue, AreTold, df_of, lent_found, machine_of, tree_of}
 use Rattle.plain_tree.specs.declared.facts.PlainFacts.{PlainFacts}
 use Rattle.plain_tree.specs.declared.machine.PlainMachine.{PlainMachine}
 
@@ -47,7 +47,7 @@ df-due told facts tree opens now session is =
 
 -- a step of the machine that is kept
 pub answered-step : (plain : PlainMachine) (opens : List OpenEntry) (told : PlainFacts) (facts : Facts) (session : ℕ) (command : Command)
-    (result : Result Answer No) → opens ≡ plain.opens.items → is_built command ≡ true → Answers plain.tree opens told command result
+    (result : Result Answer No) → opens ≡ plain.opens.items → is_built command ≡ true → TellsDue plain.tree opens told command result
     → AreTold told facts → Step facts (machine_of plain) session command (reply_of result) (machine_of plain)
 unfolding machine_of
 answered-step plain opens told facts session command result same built answers is =

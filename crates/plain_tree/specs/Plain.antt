@@ -47,12 +47,12 @@ abbrev pub lent : {A : Type 0} → Option (Bor A) → Option A
 lent item = option_map (λ one. one.now) item
 
 -- a link of the directory by exactly this name, or by one of the same
-abbrev pub has_name : (ℕ → ℕ) → Bool → List ℕ → List ℕ → Bool
-has_name fold true a b = bytes_eq a b
-has_name fold false a b = are_same fold a b
+abbrev pub is_called : (ℕ → ℕ) → Bool → List ℕ → List ℕ → Bool
+is_called fold true a b = bytes_eq a b
+is_called fold false a b = are_same fold a b
 
 abbrev pub is_named : (ℕ → ℕ) → ℕ → List ℕ → Bool → Link → Bool
-is_named fold dir name exact link = is_in dir link && has_name fold exact link.name name
+is_named fold dir name exact link = is_in dir link && is_called fold exact link.name name
 
 -- a place that is lent in parts
 abbrev pub lent_place : Result (ℕ × Bor (List ℕ)) No → Result Place No
@@ -60,12 +60,12 @@ lent_place (Ok place) = Ok (record { directory = place.0; name = place.1.now })
 lent_place (Err refused) = Err refused
 
 -- what is found, by the link that leads to it; the root has none
-abbrev pub found_by : Option (Bor Link) → Found
-found_by None = found.Root
-found_by (Some link) = found.Link link.now
+abbrev pub lent_link : Option (Bor Link) → Found
+lent_link None = found.Root
+lent_link (Some link) = found.Link link.now
 
 abbrev pub lent_found : Result (Option (Bor Link)) No → Result Found No
-lent_found (Ok link) = Ok (found_by link)
+lent_found (Ok link) = Ok (lent_link link)
 lent_found (Err refused) = Err refused
 
 -- a file that is lent, by its number
@@ -100,7 +100,7 @@ unfoldable pub machine_of : PlainMachine → Machine
 machine_of plain = record { tree = tree_of plain.tree; opens = plain.opens.items; now = plain.now }
 
 -- what is due, whatever the moment and the session
-abbrev pub Answers : PlainTree → List OpenEntry → PlainFacts → Command → Result Answer No → Type 0
-Answers plain opens told command result =
+abbrev pub TellsDue : PlainTree → List OpenEntry → PlainFacts → Command → Result Answer No → Type 0
+TellsDue plain opens told command result =
     (facts : Facts) (now session : ℕ) → AreTold told facts
     → Tells (due facts (record { tree = tree_of plain; opens = opens; now = now }) session command) result

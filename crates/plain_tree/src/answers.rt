@@ -1,9 +1,9 @@
 //! What commands that read are answered over a tree in plain lists.
 ghost use Rattle.std.specs.Prelude.{◌≡◌, [], Some, find, map, option_map};
 ghost use Rattle.ntfs_def.specs.KeyOrder.{fold_of};
-ghost use Rattle.tree_model.specs.Answers.{is_unnamed_object_id, shown_link_count, listed, object_id, shown_stream};
+ghost use Rattle.tree_model.specs.Answers.{is_unnamed_object_id, shown_link_count, ls_line, object_id, shown_stream};
 ghost use Rattle.tree_model.specs.Cases.{size_of};
-ghost use Rattle.plain_tree.specs.Plain.{Answers, df_of, has_name, lent, lent_bytes};
+ghost use Rattle.plain_tree.specs.Plain.{TellsDue, df_of, is_called, lent, lent_bytes};
 ghost use Rattle.tree_model.specs.Shown.{Tells, cat_of, kept_apart, links_of, ls_of, file_at, read_of, reparse_of};
 ghost use Rattle.plain_tree.specs.Plain.{lent_file, lent_listed, tree_of};
 ghost use Rattle.tree_model.specs.Shown.{looked, stream_of};
@@ -44,8 +44,8 @@ impl PlainTree {
 
     /// What `ls` lists of a link: whether it leads to a directory, and the link, whose name is shown. DOS names and hidden
     /// links are not listed.
-    pub fn listed<'t>(&self, link: &'t Link) -> Option<(bool, &'t Link)>
-        ensures { lent_listed result ≡ listed (tree_of self.now) link.now }
+    pub fn ls_line<'t>(&self, link: &'t Link) -> Option<(bool, &'t Link)>
+        ensures { lent_listed result ≡ ls_line (tree_of self.now) link.now }
     {
         if link.is_dos() {
             return None;
@@ -61,10 +61,10 @@ impl PlainTree {
         name: &[u16],
         exact: bool,
     ) -> Option<&'t Stream>
-        ensures { lent result ≡ find (λ stream. has_name (fold_of self.now.case) exact stream.name name.now) streams.now }
+        ensures { lent result ≡ find (λ stream. is_called (fold_of self.now.case) exact stream.name name.now) streams.now }
     {
         'streams: for stream in streams {
-            if self.has_name(stream.name.as_slice(), name, exact) {
+            if self.is_called(stream.name.as_slice(), name, exact) {
                 return Some(stream);
             }
         }
@@ -313,7 +313,7 @@ impl PlainTree {
         command: &Command,
     ) -> Result<Answer, No>
         requires { IsTrue (is_built command.now) }
-        ensures { Answers self.now opens.now facts.now command.now result }
+        ensures { TellsDue self.now opens.now facts.now command.now result }
     {
         match command {
             Command::Ls { path } => self.ls(alloc, path),

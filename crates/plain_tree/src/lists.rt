@@ -23,7 +23,7 @@ impl PlainTree {
         let links = self.links_in_order(alloc, dir)?;
         let mut lines = Vec::new(alloc);
         'links: for link in links.as_slice() {
-            if let Some((is_dir, shown)) = self.listed(link) {
+            if let Some((is_dir, shown)) = self.ls_line(link) {
                 lines.push(Listed {
                     dir: is_dir,
                     name: copied_name(alloc, &shown.name)?,

@@ -3,7 +3,7 @@ ghost use Rattle.std.specs.Prelude.{◌≡◌, [], ◌∷◌, filter, find};
 ghost use Rattle.ntfs_def.specs.KeyOrder.{fold_of};
 ghost use Rattle.ntfs_def.specs.declared.records.TheConstants.{ROOT};
 ghost use Rattle.tree_model.specs.Paths.{links_in_order, last_place, lookup, passed, reached, resolve};
-ghost use Rattle.plain_tree.specs.Plain.{has_name, is_named, lent, lent_found, lent_place, tree_of};
+ghost use Rattle.plain_tree.specs.Plain.{is_named, lent, lent_found, lent_place, tree_of, is_called};
 ghost use Rattle.list_laws.specs.Ordered.{least};
 ghost use Rattle.tree_model.specs.Tree.{compare_links, link_above, node_of, shown_node};
 
@@ -46,8 +46,8 @@ impl PlainTree {
     }
 
     // Whether a name is exactly this one, or the same.
-    pub(crate) fn has_name(&self, name: &[u16], wanted: &[u16], exact: bool) -> bool
-        ensures { result ≡ has_name (fold_of self.now.case) exact name.now wanted.now }
+    pub(crate) fn is_called(&self, name: &[u16], wanted: &[u16], exact: bool) -> bool
+        ensures { result ≡ is_called (fold_of self.now.case) exact name.now wanted.now }
     {
         if exact {
             name == wanted
@@ -70,7 +70,7 @@ impl PlainTree {
     {
         let mut best = best;
         'links: for link in links {
-            if link.parent == dir && self.has_name(link.name.as_slice(), name, exact) {
+            if link.parent == dir && self.is_called(link.name.as_slice(), name, exact) {
                 best = self.first_of(best, link);
             }
         }
@@ -89,7 +89,7 @@ impl PlainTree {
     // The first in order of the links of a directory, hidden ones too, that have this name.
     fn first_named(&self, dir: u64, name: &[u16], exact: bool) -> Option<&Link>
         ensures { lent result
-            ≡ find (λ link. has_name (fold_of self.now.case) exact link.name name.now) (links_in_order (tree_of self.now) dir) }
+            ≡ find (λ link. is_called (fold_of self.now.case) exact link.name name.now) (links_in_order (tree_of self.now) dir) }
     {
         let shown = self.first_among(None, &self.links, dir, name, exact);
         self.first_among(shown, &self.hidden, dir, name, exact)

@@ -45,9 +45,6 @@ module _ (records : Records) where
       let b = ne_eqb f ROOT (λ e. absurd (omega arith)) in
       rw (a, b) refl
 
-  pub leads-none : (f : ℕ) → FIRST_ORDINARY ≤ f → leads_to_system records 0 f ≡ false
-  leads-none f high = let a = le-ltb f FIRST_ORDINARY high in rw a refl
-
   -- a step more leads to no fewer
   pub leads-longer : (n f : ℕ) → leads_to_system records n f ≡ true → leads_to_system records (suc n) f ≡ true
   leads-longer zero f e = rw e refl

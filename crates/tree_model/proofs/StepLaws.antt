@@ -10,7 +10,7 @@ use Rattle.tree_model.specs.Facts.{IsVolumeOf, ReadsAs}
 use Rattle.tree_model.specs.Reading.{read}
 use Rattle.tree_model.specs.Refusals.{Facts, is_edit, outcome}
 use Rattle.tree_model.specs.Staging.{Overflows}
-use Rattle.tree_model.specs.Step.{IsFree, Step, due, reply_of}
+use Rattle.tree_model.specs.Step.{MayStandIn, Step, due, reply_of}
 use Rattle.tree_model.specs.Subjects.{Machine}
 use Rattle.tree_model.specs.Tree.{Tree}
 use Rattle.tree_model.specs.declared.command.Command.{Command}
@@ -32,22 +32,22 @@ one_reading image one other x y = x.reading ∙ ap read (one_volume image x.view
 -- a step's reply is the one that is due, unless it is one of those that may stand in its place
 pub one_reply : (facts : Facts) (m : Machine) (session : ℕ) (command : Command) (given other : Reply) (next last : Machine)
     → Step facts m session command given next → Step facts m session command other last
-    → IsFree given ⊎ IsFree other ⊎ (given ≡ other)
+    → MayStandIn given ⊎ MayStandIn other ⊎ (given ≡ other)
 one_reply facts m session command given other next last x y = both x.replied y.replied
   where
-    free_memory : (r : Reply) → r ≡ reply.No no.Memory → IsFree r
-    free_memory r e = subst IsFree (sym e) tt
+    free_memory : (r : Reply) → r ≡ reply.No no.Memory → MayStandIn r
+    free_memory r e = subst MayStandIn (sym e) tt
 
     Replied : Reply → Type 0
     Replied r = (r ≡ reply_of (due facts m session command)) ⊎ (r ≡ reply.No no.Memory)
         ⊎ (IsTrue (is_edit command) × Overflows (outcome facts m session command) (facts.spills m command) r)
 
-    both : Replied given → Replied other → IsFree given ⊎ IsFree other ⊎ (given ≡ other)
+    both : Replied given → Replied other → MayStandIn given ⊎ MayStandIn other ⊎ (given ≡ other)
     both (inl a) (inl b) = inr (inr (a ∙ sym b))
     both (inr (inl a)) (b) = inl (free_memory given a)
-    both (inr (inr a)) (b) = inl (subst IsFree (sym a.1.told) tt)
+    both (inr (inr a)) (b) = inl (subst MayStandIn (sym a.1.told) tt)
     both (inl a) (inr (inl b)) = inr (inl (free_memory other b))
-    both (inl a) (inr (inr b)) = inr (inl (subst IsFree (sym b.1.told) tt))
+    both (inl a) (inr (inr b)) = inr (inl (subst MayStandIn (sym b.1.told) tt))
 
 -- no Overflow in place of what a command shows that is no edit
 pub shown_reply : (facts : Facts) (m : Machine) (session : ℕ) (command : Command) (given : Reply) (next : Machine)

@@ -35,11 +35,11 @@ use Rattle.tree_model.specs.declared.tree.Stream.{Stream}
 abbrev pub listed_node : List ℕ → Node → Listed
 listed_node name node = record { dir = node.dir; name = name }
 
-abbrev pub listed : Tree → Link → Option Listed
-listed tree link = if is_dos link then None else option_map (listed_node link.name) (shown_node tree link)
+abbrev pub ls_line : Tree → Link → Option Listed
+ls_line tree link = if is_dos link then None else option_map (listed_node link.name) (shown_node tree link)
 
 unfoldable pub listing : Tree → ℕ → List Listed
-listing tree dir = filter_map (listed tree) (links_in_order tree dir)
+listing tree dir = filter_map (ls_line tree) (links_in_order tree dir)
 
 -- stat: how many names a file has that are no DOS names, the size of its unnamed stream, and what its node says.
 abbrev pub shown_link_count : Tree → ℕ → ℕ

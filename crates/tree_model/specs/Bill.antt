@@ -18,7 +18,7 @@ use Rattle.tree_model.specs.Need.{Bill, Counted, Touched}
 use Rattle.ntfs_def.specs.Rounded.{clusters_for}
 use Rattle.tree_model.specs.Reading.{link_by, standard_of}
 use Rattle.volume_def.specs.Room.{list_len_of, longest_name}
-use Rattle.tree_model.specs.StreamRoom.{is_in_place, new_clusters, parts_named, value_in}
+use Rattle.tree_model.specs.StreamRoom.{is_in_place, new_clusters, parts_named, stream_value}
 use Rattle.tree_model.specs.Subjects.{Located, NameIn, NewName}
 use Rattle.tree_model.specs.Tree.{Tree, is_in, sought_stream}
 use Rattle.tree_model.specs.declared.command.Command.{Command}
@@ -152,7 +152,7 @@ touches_file size view tree (c.Write path stream from bytes) at =
     not (is_in_place size (stream_parts view tree at) from (length bytes))
 touches_file size view tree (c.Hwrite handle from bytes) at = not (is_in_place size (stream_parts view tree at) from (length bytes))
 touches_file size view tree (c.Truncate path stream end) at = grows end at.content
-touches_file size view tree (c.Punch path stream from len) at = not (is_some (value_in (stream_parts view tree at)))
+touches_file size view tree (c.Punch path stream from len) at = not (is_some (stream_value (stream_parts view tree at)))
 touches_file size view tree (c.Setsec path id) at = has_short_standard view at.file
 touches_file size view tree (c.Mkreparse path tag bytes) at = true
 touches_file size view tree other at = false

@@ -27,9 +27,9 @@ goes_with tree link other =
     is_link link other || (is_long link && is_dos other && is_beside link other && not (has_other_long tree link))
 
 -- No name but DOS names would be left of the file.
-abbrev pub is_last : Tree → Link → Bool
-is_last tree link =
+abbrev pub is_last_name : Tree → Link → Bool
+is_last_name tree link =
     not (list_any (λ other. names_file link.child other && not (is_link link other)) tree.links)
 
 abbrev pub is_last_link : Tree → Option Link → Bool
-is_last_link tree link = option_map_or (is_last tree) link false
+is_last_link tree link = option_map_or (is_last_name tree) link false

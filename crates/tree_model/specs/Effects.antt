@@ -4,7 +4,7 @@ use Rattle.std.specs.Prelude.{slice_set}
 use Rattle.std.specs.FinMap as finmap
 use Rattle.std.specs.Option.{option_map_or}
 use Rattle.tree_model.specs.Answers.{bytes_at}
-use Rattle.tree_model.specs.Drops.{goes_with, is_last}
+use Rattle.tree_model.specs.Drops.{goes_with, is_last_name}
 use Rattle.tree_model.specs.Opens.{free_handle, is_handle, open_above}
 use Rattle.list_laws.specs.Ordered.{put_in_order}
 use Rattle.tree_model.specs.Streams.{punched, resized, with_bytes, without_stream, written}
@@ -61,7 +61,7 @@ add_name now file (NameIn dir name) tree = touch now dir (stamp now file (add_li
 -- a link goes, and the file with the last one that is no DOS name
 abbrev pub leave_file : ℕ → Link → Tree → Tree
 leave_file now link tree =
-    if is_last tree link then record (drop_link link tree) { nodes = finmap.remove tree.nodes link.child }
+    if is_last_name tree link then record (drop_link link tree) { nodes = finmap.remove tree.nodes link.child }
     else stamp now link.child (drop_link link tree)
 
 abbrev pub drop_name : ℕ → Option Link → Tree → Tree

@@ -93,11 +93,11 @@ abbrev pub object_id_index : VolumeView → Option Index
 object_id_index view = extend_index view (codes "$ObjId") (codes "$O")
 
 -- A key of $R has 0x00 the tag of a point and 0x04 the reference of its file. A key of $O is the object id.
-abbrev pub reference_of : VolumeView → ℕ → ℕ
-reference_of view f = sequence_in (record_on view f) * 2 ^ 48 + f
+abbrev pub file_reference : VolumeView → ℕ → ℕ
+file_reference view f = sequence_in (record_on view f) * 2 ^ 48 + f
 
 abbrev pub is_point_item : VolumeView → ℕ → ℕ → Item → Bool
-is_point_item view f tag item = (length item.key == 12) && (u32_at item.key 0 == tag) && (u64_at item.key 4 == reference_of view f)
+is_point_item view f tag item = (length item.key == 12) && (u32_at item.key 0 == tag) && (u64_at item.key 4 == file_reference view f)
 
 abbrev pub is_object_id_item : List ℕ → Item → Bool
 is_object_id_item id item = bytes_eq item.key id

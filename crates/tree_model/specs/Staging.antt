@@ -59,15 +59,15 @@ name_len other = 0
 abbrev pub stream_len : Command → Located → ℕ
 stream_len command at = if makes_stream command && not (is_some at.content) then 24 + up_to_8 (2 * length at.stream) else 0
 
-abbrev pub attribute_len : Command → Located → ℕ
-attribute_len (c.Ln old new) at = name_len at.new
-attribute_len (c.Mv old new) at = name_len at.new
-attribute_len (c.Mkreparse path tag bytes) at = if has_point at then 0 else 24
-attribute_len command at = stream_len command at
+abbrev pub new_attribute_len : Command → Located → ℕ
+new_attribute_len (c.Ln old new) at = name_len at.new
+new_attribute_len (c.Mv old new) at = name_len at.new
+new_attribute_len (c.Mkreparse path tag bytes) at = if has_point at then 0 else 24
+new_attribute_len command at = stream_len command at
 
 -- the file that the words lead to gets it, and no other
 abbrev pub added_len : Command → Located → ℕ → ℕ
-added_len command at f = if f == at.file then attribute_len command at else 0
+added_len command at f = if f == at.file then new_attribute_len command at else 0
 
 -- the clusters of index records that the file may get
 abbrev pub index_clusters_of : ℕ → Bill → ℕ → ℕ

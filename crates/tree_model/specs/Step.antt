@@ -54,6 +54,6 @@ pub record Step (facts : Facts) (m : Machine) (session : ℕ) (command : Command
   pub moved : Leads facts m session command given next
 
 -- the replies that may stand in place of the one that is due
-abbrev pub IsFree : Reply → Type 0
-IsFree (reply.No no.Memory) = Unit {0}
-IsFree other = IsOverflow other
+abbrev pub MayStandIn : Reply → Type 0
+MayStandIn (reply.No no.Memory) = Unit {0}
+MayStandIn other = IsOverflow other

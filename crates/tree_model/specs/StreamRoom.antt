@@ -20,11 +20,11 @@ abbrev pub parts_named : VolumeView → ℕ → List ℕ → List Part
 parts_named view f name = filter (λ part. (part.kind == DATA) && bytes_eq (units_in part.name) name) (parts (records_of view) f)
 
 -- the value of a stream that has one, which an edit may have to put into clusters
-abbrev pub value_in : List Part → Option (List ℕ)
-value_in extents = option_and_then (λ part. content_value part.content) (first_part extents)
+abbrev pub stream_value : List Part → Option (List ℕ)
+stream_value extents = option_and_then (λ part. content_value part.content) (first_part extents)
 
-abbrev pub value_len : List Part → ℕ
-value_len extents = option_map_or length (value_in extents) 0
+abbrev pub stream_value_len : List Part → ℕ
+stream_value_len extents = option_map_or length (stream_value extents) 0
 
 -- so many bytes from `from` on touch the cluster of this number
 abbrev pub touches : ℕ → ℕ → ℕ → ℕ → Bool
@@ -39,8 +39,8 @@ is_cluster (At cluster) = true
 -- How many clusters the bytes touch that no run places, or the old value of the stream does.
 abbrev pub new_clusters : ℕ → List Part → ℕ → ℕ → ℕ
 new_clusters size extents from len =
-    count_by (λ vcn. (touches size from len vcn || touches size 0 (value_len extents) vcn) && not (is_cluster (spot_at extents vcn)))
-    (range_with_len 0 (clusters_for (max (from + len) (value_len extents)) size))
+    count_by (λ vcn. (touches size from len vcn || touches size 0 (stream_value_len extents) vcn) && not (is_cluster (spot_at extents vcn)))
+    (range_with_len 0 (clusters_for (max (from + len) (stream_value_len extents)) size))
 
 -- the bytes of a stream that were written
 abbrev pub initialized_in : Part → ℕ

@@ -19,7 +19,7 @@ ghost use Rattle.tree_model.specs.Paths.{lookup, links_in_order};
 ghost use Rattle.tree_model.specs.Reading.{directory_links, node_at, read, all_links, is_hidden_link, links_to, tree_nodes};
 ghost use Rattle.tree_model.specs.Refusals.{Facts, is_edit};
 ghost use Rattle.tree_model.specs.Taken.{IsTaken, without_file};
-ghost use Rattle.tree_model.specs.Step.{IsFree, Step, due, reply_of};
+ghost use Rattle.tree_model.specs.Step.{MayStandIn, Step, due, reply_of};
 ghost use Rattle.tree_model.specs.Subjects.{Located, Machine, NoName};
 ghost use Rattle.tree_model.specs.Tree.{Tree, link_above, node_of, sought_link, leads_to, shown_node};
 ghost use Rattle.tree_model.specs.declared.command.Command.{Command};
@@ -60,7 +60,7 @@ pub fn has_facts()
 pub fn one_reply()
     ensures one { (facts : Facts) (m : Machine) (session : ℕ) (command : Command) (given other : Reply) (next last : Machine)
         → Step facts m session command given next → Step facts m session command other last
-        → IsFree given ⊎ IsFree other ⊎ (given ≡ other) }
+        → MayStandIn given ⊎ MayStandIn other ⊎ (given ≡ other) }
     ensures shown { (facts : Facts) (m : Machine) (session : ℕ) (command : Command) (given : Reply) (next : Machine)
         → is_edit command ≡ false → Step facts m session command given next
         → (given ≡ reply_of (due facts m session command)) ⊎ (given ≡ reply.No no.Memory) }

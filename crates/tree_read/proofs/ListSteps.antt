@@ -5,7 +5,7 @@ use Rattle.std.specs.List.{cons_option, filter_map}
 use Rattle.std.specs.Option.{option_to_list}
 use Rattle.volume_def.specs.View.{VolumeView}
 use Rattle.tree_model.proofs.ReadingLaws.{links_in_order-read}
-use Rattle.tree_model.specs.Answers.{listed, listing}
+use Rattle.tree_model.specs.Answers.{ls_line, listing}
 use Rattle.tree_model.specs.Reading.{directory_links, read}
 use Rattle.tree_model.specs.declared.reply.Listed.{Listed}
 use Rattle.tree_model.specs.declared.tree.Link.{Link}
@@ -17,7 +17,7 @@ use Rattle.tree_read.specs.declared.above.Above.{Above}
 pub record AreListed (view : VolumeView) (dir : ℕ) (above : Above) (lines : List Listed) (rest : List Link) : Type 0 where
   pub above_is : AreAbove view above
   pub among : (link : Link) → Contains rest link → Contains (directory_links view dir) link
-  pub leads : lines ++ filter_map (listed (read view)) rest ≡ listing (read view) dir
+  pub leads : lines ++ filter_map (ls_line (read view)) rest ≡ listing (read view) dir
 
 -- one line more
 line-more : (lines : List Listed) (line : Option Listed) (rest : List Listed)
@@ -35,7 +35,7 @@ module _ (view : VolumeView) (dir : ℕ) where
   list-begins above links are is = record {
     above_is = are;
     among = λ link. subst (λ xs. Contains xs link) is;
-    leads = ap (filter_map (listed (read view))) (is ∙ sym (links_in_order-read view dir));
+    leads = ap (filter_map (ls_line (read view))) (is ∙ sym (links_in_order-read view dir));
   }
 
   pub list-among : (above : Above) (lines : List Listed) (link : Link) (rest : List Link) → AreListed view dir above lines (link ∷ rest)
@@ -43,13 +43,13 @@ module _ (view : VolumeView) (dir : ℕ) where
   list-among above lines link rest is = is.among link (0, omega arith, refl)
 
   pub list-goes : (above new : Above) (lines : List Listed) (link : Link) (rest : List Link) (line : Option Listed)
-      → AreListed view dir above lines (link ∷ rest) → AreAbove view new → line ≡ listed (read view) link
+      → AreListed view dir above lines (link ∷ rest) → AreAbove view new → line ≡ ls_line (read view) link
       → AreListed view dir new (lines ++ option_to_list line) rest
   list-goes above new lines link rest line is are line_is = record {
     above_is = are;
     among = λ other c. is.among other (behind_first link other rest c);
-    leads = line-more lines line (filter_map (listed (read view)) rest)
-        ∙ ap (λ o. lines ++ cons_option o (filter_map (listed (read view)) rest)) line_is
+    leads = line-more lines line (filter_map (ls_line (read view)) rest)
+        ∙ ap (λ o. lines ++ cons_option o (filter_map (ls_line (read view)) rest)) line_is
         ∙ is.leads;
   }
 

@@ -8,7 +8,7 @@ use Rattle.volume_def.specs.Files.{Record, Records, is_base, is_directory, parts
 use Rattle.volume_def.specs.Sound.{IsSound, Links}
 use Rattle.volume_def.specs.View.{VolumeView}
 use Rattle.list_laws.proofs.FindLaws.{find-found}
-use Rattle.tree_model.specs.Answers.{listed, listed_node}
+use Rattle.tree_model.specs.Answers.{ls_line, listed_node}
 use Rattle.tree_model.specs.Hidden.{is_hidden, leads_to_system}
 use Rattle.tree_model.specs.Paths.{Place, and_then, found_file, last_place, lookup, passed, passed_node, reached, reached_node, resolve}
 use Rattle.tree_model.specs.Reading.{node_at, node_by, node_on, read}
@@ -203,7 +203,7 @@ reached-held P link (below.Point held) end is e =
     let same : record { found = found.Link link; held = held } ≡ end = cc in subst (λ (r : Reached). P (found_file r.found) r.held) same is
 
 -- The line of a link that is no DOS name, by what it leads to.
-pub listed-step : (tree : Tree) (link : Link) → is_dos link ≡ false → listed tree link ≡ listed_kind link.name (kind_of (shown_node tree link))
+pub listed-step : (tree : Tree) (link : Link) → is_dos link ≡ false → ls_line tree link ≡ listed_kind link.name (kind_of (shown_node tree link))
 listed-step tree link other = rw other (by (shown_node tree link))
   where
     last : (node : Node) (d p : Bool) → node.dir ≡ d → is_some node.point ≡ p

@@ -2,7 +2,7 @@
 ghost use Rattle.std.specs.Prelude.{◌≡◌, ◌++◌, Contains, IfOk, IfSome, IsTrue, Ok, OnOk};
 ghost use Rattle.std.specs.Option.{option_to_list};
 ghost use Rattle.mft_table.specs.Mft.{view};
-ghost use Rattle.tree_model.specs.Answers.{listed, listing};
+ghost use Rattle.tree_model.specs.Answers.{ls_line, listing};
 ghost use Rattle.tree_model.specs.Paths.{found_file, lookup, passed, reached, resolve};
 ghost use Rattle.tree_model.specs.Reading.{directory_links, read};
 ghost use Rattle.tree_read.specs.Above.{AreAbove};
@@ -214,7 +214,7 @@ fn list_link<D: Disk>(
     requires above { IsTrue (view D.Disk mft.old).told → AreAbove (view D.Disk mft.old) above.old }
     requires among { IsTrue (view D.Disk mft.old).told → Contains (directory_links (view D.Disk mft.old) dir) link }
     ensures found { Finds D.Disk mft.old mft.new
-        (λ volume line. AreAbove volume above.new × (line ≡ listed (read volume) link)) result }
+        (λ volume line. AreAbove volume above.new × (line ≡ ls_line (read volume) link)) result }
 {
     if link.is_dos() {
         return Ok(None);
