@@ -24,6 +24,7 @@ use crate::stop::Stop;
 use file_record::BaseFile;
 use mft_table::Mft;
 use ntfs_def::kinds::{OBJECT_ID, REPARSE_POINT};
+use ntfs_def::reparse_point;
 use sparse_io::{FoundStream, find_stream, read_stream};
 use std::alloc::Global;
 use tree_model::{Answer, No, is_wide, range};
@@ -33,6 +34,9 @@ use vol_disk::Disk;
 
 // The most bytes that `cat` shows.
 const MOST_SHOWN: u64 = 65_536;
+
+// The bytes of a GUID: an object id is one, and one stands before the data of a reparse point whose tag has bit 31 clear.
+const GUID: u64 = 16;
 
 // The bytes that a reparse point can have: 24 before its data, whose length has two bytes.
 const POINT: usize = 24 + 65_535;
@@ -207,7 +211,7 @@ pub fn objid<D: Disk>(alloc: Global, mft: &mut Mft<'_, D>, held: &BaseFile) -> R
     requires held { IsTrue (view D.Disk mft.old).told → IsNodeHeld (view D.Disk mft.old) held.now }
     ensures answered { Answered D.Disk mft.old mft.new (λ volume. objid_shown (read volume) (number_of held.now)) result }
 {
-    match read_begin(alloc, mft, held, OBJECT_ID, &[], 16)? {
+    match read_begin(alloc, mft, held, OBJECT_ID, &[], GUID as usize)? {
         Some(bytes) => Ok(Answer::ObjectId(bytes)),
         None => Ok(Answer::ObjectId(Octets::from_vec(Vec::new(alloc)))),
     }
@@ -218,9 +222,9 @@ fn data_place(tag: u32) -> u64
     ensures { result ≡ data_place tag }
 {
     if (tag >> 31) % 2 == 1 {
-        return 8;
+        return reparse_point::DATA as u64;
     }
-    24
+    reparse_point::DATA as u64 + GUID
 }
 
 // The tag and the data of a reparse point, by the bytes of its attribute, or the first of them.
@@ -229,8 +233,8 @@ fn point(alloc: Global, value: &[u8]) -> Result<Answer, Stop>
         → answer ≡ point_answer (point_in (padded whole))) }
     ensures err { IfErr result (λ why. why ≡ stop.No no.Memory) }
 {
-    let tag = padded_u32(value, 0);
-    let count = padded_u16(value, 4);
+    let tag = padded_u32(value, reparse_point::TAG);
+    let count = padded_u16(value, reparse_point::DATA_LEN);
     let place = data_place(tag);
     let mut bytes = Vec::new(alloc);
     bytes.extend_from_slice(range(value, place, u64::from(count)))?;

@@ -19,11 +19,15 @@ use attr_view::AttrView;
 use file_record::{BaseFile, FileParts};
 use ntfs_def::kinds::{FILE_NAME, STANDARD_INFORMATION};
 use ntfs_def::records::ROOT;
+use ntfs_def::{file_name, standard_information};
 use sparse_io::{find_stream, list_streams};
 use std::alloc::{AllocError, Global};
 use tree_model::{Answer, No, SHOWN_FLAGS, ShownStreams};
 use upcase::UpCase;
 use vol_bytes::{Name, u32_at};
+
+// The namespace of a DOS name.
+const DOS: u8 = 2;
 
 /// The place of the first part of a type and name, `None` where there is none.
 pub fn find_part(file: &FileParts, kind: u32, name: &[u8]) -> Option<usize>
@@ -86,10 +90,10 @@ fn standard_value(file: &FileParts) -> &[u8]
 fn security(value: &[u8]) -> u32
     ensures { result ≡ standard_security value.now }
 {
-    if value.len() < 72 {
+    if value.len() < standard_information::LEN {
         return 0;
     }
-    u32_at(value, 0x34)
+    u32_at(value, standard_information::SECURITY)
 }
 
 // What $STANDARD_INFORMATION tells: the four times, the flags that are shown, and the id of the security descriptor.
@@ -109,12 +113,12 @@ fn read_standard(file: &FileParts) -> Standard
     let value = standard_value(file);
     Standard {
         times: [
-            padded_u64(value, 0x00),
-            padded_u64(value, 0x08),
-            padded_u64(value, 0x10),
-            padded_u64(value, 0x18),
+            padded_u64(value, standard_information::CREATED),
+            padded_u64(value, standard_information::MODIFIED),
+            padded_u64(value, standard_information::RECORD_CHANGED),
+            padded_u64(value, standard_information::ACCESSED),
         ],
-        flags: (padded_u32(value, 0x20) & u32::from(SHOWN_FLAGS)) as u16,
+        flags: (padded_u32(value, standard_information::FLAGS) & u32::from(SHOWN_FLAGS)) as u16,
         security: security(value),
     }
 }
@@ -123,7 +127,7 @@ fn read_standard(file: &FileParts) -> Standard
 pub fn is_directory(held: &BaseFile) -> bool
     ensures { result ≡ (held.now.header.flags / 2 % 2 == 1) }
 {
-    held.header.flags / 2 % 2 == 1
+    ntfs_def::is_directory(held.header.flags)
 }
 
 // Whether an attribute is a name that is no DOS name.
@@ -136,7 +140,7 @@ fn is_shown_name(attribute: &AttrView<'_>) -> bool
     }
     match attribute.value() {
         None => false,
-        Some(value) => value.get(0x41).copied().unwrap_or(0) != 2,
+        Some(value) => byte_at(value, file_name::NAMESPACE) != DOS,
     }
 }
 
