@@ -1,0 +1,235 @@
+-- The word run, by what became of the mount.
+use Rattle.std.proofs.Common.{◌≡◌, ◌⊎◌, ◌/◌, ℕ, List, [], Option, Some, None, length, refl, sym, ap, ◌∙◌, subst, inl, inr}
+use Rattle.vol_disk.specs.Count.{Rose}
+use Rattle.vol_disk.specs.Contents.{sector_in}
+use Rattle.vol_disk.specs.declared.Disk as disk
+use Rattle.vol_disk.specs.declared.Source as source
+use Rattle.vol_disk.specs.declared.Sink as sink
+use Rattle.vol_disk.specs.Stream.{IsAppended}
+use Rattle.ntfs_def.specs.Boot.{boot_sector}
+use Rattle.volume_def.specs.Sound.{IsAccepted, told_view}
+use Rattle.volume_def.specs.VersionClause.{IsClean}
+use Rattle.mft_table.specs.declared.mount.MountNo.{MountNo}
+use Rattle.mft_table.specs.declared.mount.MountNo.TheVariants as no
+use Rattle.mft_table.specs.declared.mounted.Mounted.{Mounted}
+use Rattle.mft_table.specs.HeldTables.{HoldsTables, volume_in}
+use Rattle.mft_table.specs.Mounted.{mounted_layout}
+use Rattle.mft_table.specs.MountNos.{CountsMount}
+use Rattle.mount_check.specs.Refusals.{IsMountNo}
+use Rattle.mount_check.proofs.AnswerLaws.{IsAccepted-clean, IsAccepted-tables, IsAccepted-whole, rank-most}
+use Rattle.tree_model.specs.Reading.{read}
+use Rattle.tree_model.specs.Session.{Begins, State, Turn}
+use Rattle.script_run.specs.declared.end.ScriptEnd.{ScriptEnd}
+use Rattle.script_run.specs.declared.end.ScriptEnd.TheVariants as script
+use Rattle.script_run.specs.Ran.{BlamesEnd, IsCutOff, IsPrinted, Ran}
+use Rattle.script_run.specs.Says.{printed_of}
+use Rattle.script_run.proofs.BeginLaws.{IsUntouched, ran_device, ran_memory}
+use Rattle.shell.specs.declared.ending.Ending.{Ending}
+use Rattle.shell.specs.declared.ending.Ending.TheVariants as ending
+use Rattle.shell.specs.Check.{AcceptsImage, CheckReports}
+use Rattle.shell.specs.Report.{ReportEnds, refuses, unclosed}
+use Rattle.shell.specs.Run.{OnlySettles, RunEnds, RunsScript, ending_of_script}
+use Rattle.shell.specs.RunSteps.{Refuses}
+use Rattle.shell.specs.World.{Blames, OnlyReads, World, world}
+use Rattle.shell.proofs.Reports.{ends_shown}
+
+-- where a run begins
+abbrev pub state_on : List ℕ → Mounted → State
+state_on image mounted = record {
+  image = image;
+  view = volume_in image mounted;
+  machine = record { tree = read (volume_in image mounted); opens = []; now = 0 };
+}
+
+pub begins_on : (image : List ℕ) (mounted : Mounted) → HoldsTables 15 image mounted → IsClean (volume_in image mounted)
+    → Begins (state_on image mounted)
+begins_on image mounted holds clean = record {
+  stands = record {
+    volume = record {
+      layout = mounted_layout mounted;
+      has = record { boot_clause = holds.table.boot; table_clause = holds.table.clause };
+      is = refl;
+    };
+    sound = λ clause n. holds.clauses clause (rank-most clause) n;
+    reading = refl;
+  };
+  clean = clean;
+  machine = refl;
+}
+
+-- a run begins on each image that is accepted
+record BeginsOn (image : List ℕ) : Type 0 where
+  first : State
+  on_image : first.image ≡ image
+  begins : Begins first
+
+accepted_begins : (image : List ℕ) → AcceptsImage image → BeginsOn image
+accepted_begins image a =
+    let view = told_view (sector_in (Some image)) a.layout in
+    record {
+      first = record { image = image; view = view; machine = record { tree = read view; opens = []; now = 0 } };
+      on_image = refl;
+      begins = record {
+        stands = record { volume = record { layout = a.layout; has = a.has; is = refl }; sound = a.sound; reading = refl };
+        clean = a.clean;
+        machine = refl;
+      };
+    }
+
+-- the same run, on the disk that was lent
+pub ran_over : {D S K : Type 0} (d : disk.Ghosts D) (s : source.Ghosts S) (k : sink.Ghosts K) (image text : List ℕ) (end : ScriptEnd)
+    (lent before after back : D) (script script' : S) (out out' : K) → before ≡ lent → back ≡ after
+    → Ran image text end (world d s k before script out) (world d s k after script' out')
+    → Ran image text end (world d s k lent script out) (world d s k back script' out')
+ran_over d s k image text end lent before after back script script' out out' e f r =
+    subst (λ x. Ran image text end (world d s k x script out) (world d s k back script' out')) e
+    (subst (λ x. Ran image text end (world d s k before script out) (world d s k x script' out')) (sym f) r)
+
+pub blames_script : (end : ScriptEnd) (old new : World) → BlamesEnd end old new → Blames (ending_of_script end) old new
+blames_script script.Done old new b = b
+blames_script script.Source old new b = b
+blames_script script.Sink old new b = b
+blames_script script.Device old new b = b
+blames_script script.Memory old new b = b
+blames_script script.TooMuch old new b = b
+
+-- What a mount leaves for a run: all but the count of reads.
+pub record LeavesRun (old middle : World) : Type 0 where
+  pub contents : OnlySettles old middle
+  pub settled : middle.settled ≡ old.settled
+  pub disk : middle.disk_faults ≡ old.disk_faults
+  pub left : middle.left ≡ old.left
+  pub source : middle.source_faults ≡ old.source_faults
+  pub got : middle.got ≡ old.got
+  pub sink : middle.sink_faults ≡ old.sink_faults
+
+blames_since : (end : ScriptEnd) (old middle new : World) → LeavesRun old middle → BlamesEnd end middle new → BlamesEnd end old new
+blames_since script.Done old middle new l b = record { disk = b.disk ∙ l.disk; source = b.source ∙ l.source; sink = b.sink ∙ l.sink }
+blames_since script.Source old middle new l b = (b.0 ∙ l.disk, subst (λ n. Rose n new.source_faults) l.source b.1, b.2 ∙ l.sink)
+blames_since script.Sink old middle new l b = (b.0 ∙ l.disk, b.1 ∙ l.source, subst (λ n. Rose n new.sink_faults) l.sink b.2)
+blames_since script.Device old middle new l b =
+    (subst (λ n. Rose n new.disk_faults) l.disk b.0, elim b.1 [ inl a ↦ inl (a ∙ l.source) | inr a ↦ inr (a ∙ l.sink) ])
+blames_since script.Memory old middle new l b = record { disk = b.disk ∙ l.disk; source = b.source ∙ l.source; sink = b.sink ∙ l.sink }
+blames_since script.TooMuch old middle new l b = record { disk = b.disk ∙ l.disk; source = b.source ∙ l.source; sink = b.sink ∙ l.sink }
+
+printed_since : (end : ScriptEnd) (turns : List Turn) (old middle new : World) → LeavesRun old middle → IsPrinted end turns middle new
+    → IsPrinted end turns old new
+printed_since script.Done turns old middle new l p = subst (λ got. IsAppended got (printed_of turns) new.got) l.got p
+printed_since script.Source turns old middle new l p = subst (λ got. IsAppended got (printed_of turns) new.got) l.got p
+printed_since script.Sink turns old middle new l p = subst (λ got. IsCutOff turns got new.got) l.got p
+printed_since script.Device turns old middle new l (inl p) =
+    inl (p.0 ∙ l.sink, subst (λ got. IsAppended got (printed_of turns) new.got) l.got p.1)
+printed_since script.Device turns old middle new l (inr p) =
+    inr (subst (λ n. Rose n new.sink_faults) l.sink p.0, subst (λ got. IsCutOff turns got new.got) l.got p.1)
+printed_since script.Memory turns old middle new l p = subst (λ got. IsAppended got (printed_of turns) new.got) l.got p
+printed_since script.TooMuch turns old middle new l p = subst (λ got. IsAppended got (printed_of turns) new.got) l.got p
+
+ran_since : (image text : List ℕ) (end : ScriptEnd) (old middle new : World) → LeavesRun old middle → Ran image text end middle new
+    → Ran image text end old new
+ran_since image text end old middle new l r = record {
+  first = r.first;
+  on_image = r.on_image;
+  begins = r.begins;
+  turns = r.turns;
+  session = r.session;
+  lines = r.lines;
+  printed = printed_since end r.turns old middle new l r.printed;
+  finals = r.finals;
+  settled = rw (← l.settled) r.settled;
+  leaves = r.leaves;
+  unwritten = λ none. r.unwritten none ∙ l.contents.written;
+}
+
+-- a volume that was accepted
+pub ends_mounted : (given : Ending) (end : ScriptEnd) (old middle new : World) (mounted : Mounted) → given ≡ ending_of_script end
+    → LeavesRun old middle → ((image : List ℕ) → old.now ≡ Some image → HoldsTables 15 image mounted × IsClean (volume_in image mounted))
+    → BlamesEnd end middle new → OnlySettles middle new
+    → ((image text : List ℕ) → middle.now ≡ Some image → middle.left ≡ Some text → Ran image text end middle new)
+    → RunEnds given old new
+ends_mounted given end old middle new mounted is l holds blames settles ran = record {
+  causes = rw is (blames_script end old new (blames_since end old middle new l blames));
+  on_time = λ _. settles.late ∙ l.contents.late;
+  only_settles = record {
+    now = settles.now ∙ l.contents.now;
+    fenced = settles.fenced ∙ l.contents.fenced;
+    sectors = settles.sectors ∙ l.contents.sectors;
+    written = settles.written ∙ l.contents.written;
+    late = settles.late ∙ l.contents.late;
+  };
+  ran = λ image text now left accepted. record {
+    ended = end;
+    is = is;
+    ran = ran_since image text end old middle new l (ran image text (l.contents.now ∙ now) (l.left ∙ left));
+  };
+  refused = λ image now refused.
+      let told = holds image now in absurd (refused (IsAccepted-tables image mounted told.0 told.1));
+}
+
+settles_of : (old new : World) → OnlyReads old new → OnlySettles old new
+settles_of old new o = record {
+  now = o.contents.now;
+  fenced = o.contents.fenced;
+  sectors = o.contents.sectors;
+  written = o.contents.written;
+  late = o.contents.late;
+}
+
+-- a report that refuses it, or a part of one
+ends_reported : (given : Ending) (old new : World) → OnlyReads old new → ReportEnds CheckReports given old new
+    → ((image : List ℕ) → old.now ≡ Some image → AcceptsImage image → ⊥) → RunEnds given old new
+ends_reported given old new only report none = record {
+  causes = report.causes;
+  on_time = λ _. only.contents.late;
+  only_settles = settles_of old new only;
+  ran = λ image text now left accepted. absurd (none image now accepted);
+  refused = λ image now refused. report;
+}
+
+untouched : (old new : World) → OnlyReads old new → new.got ≡ old.got → IsUntouched old new
+untouched old new o got = record { now = o.contents.now; settled = o.contents.settled; written = o.contents.written; got = got }
+
+-- a disk that was not taken into use
+pub ends_unmounted : (why : MountNo) (given : Ending) (old new : World) → Refuses why given old.got new.got old.sink_faults new.sink_faults
+    → OnlyReads old new → CountsMount old.disk_faults new.disk_faults why → IsMountNo old.now why → RunEnds given old new
+ends_unmounted (no.Refused k n) given old new shown only quiet is = ends_reported given old new only
+    (ends_shown CheckReports (refuses (record { clause = k; number = n })) given old new shown only quiet is)
+    (λ image now accepted. IsAccepted-whole image k n accepted (subst (λ told. IsMountNo told (no.Refused k n)) now is))
+ends_unmounted no.Dirty given old new shown only quiet is = ends_reported given old new only
+    (ends_shown CheckReports unclosed given old new shown only quiet is)
+    (λ image now accepted. IsAccepted-clean image accepted (subst (λ told. IsMountNo told no.Dirty) now is))
+ends_unmounted no.Device given old new shown only rose is = rw shown.ends (record {
+  causes = (rose, inl only.source_faults);
+  on_time = λ _. only.contents.late;
+  only_settles = settles_of old new only;
+  ran = λ image text now left accepted.
+      let b = accepted_begins image accepted in
+      record {
+        ended = script.Device;
+        is = refl;
+        ran = subst (λ bytes. Ran bytes text script.Device old new) b.on_image (ran_device b.first text old new b.begins
+            (now ∙ ap (λ (bytes : List ℕ). Some bytes) (sym b.on_image)) (untouched old new only shown.untouched) shown.quiet);
+      };
+  refused = λ image now refused. record {
+    causes = (rose, inl only.source_faults);
+    only_reads = only;
+    reported = record { got = shown.untouched; sink_faults = shown.quiet };
+  };
+})
+ends_unmounted no.Memory given old new shown only quiet is = rw shown.ends (record {
+  causes = record { disk = quiet; source = only.source_faults; sink = shown.quiet };
+  on_time = λ _. only.contents.late;
+  only_settles = settles_of old new only;
+  ran = λ image text now left accepted.
+      let b = accepted_begins image accepted in
+      record {
+        ended = script.Memory;
+        is = refl;
+        ran = subst (λ bytes. Ran bytes text script.Memory old new) b.on_image (ran_memory b.first text old new b.begins
+            (now ∙ ap (λ (bytes : List ℕ). Some bytes) (sym b.on_image)) (untouched old new only shown.untouched));
+      };
+  refused = λ image now refused. record {
+    causes = record { disk = quiet; source = only.source_faults; sink = shown.quiet };
+    only_reads = only;
+    reported = record { got = shown.untouched; sink_faults = shown.quiet };
+  };
+})

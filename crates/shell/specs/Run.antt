@@ -1,0 +1,47 @@
+-- How a script ended that was run on the image.
+use Rattle.std.specs.Prelude.{◌≡◌, ℕ, List, Some}
+use Rattle.script_run.specs.declared.end.ScriptEnd.{ScriptEnd}
+use Rattle.script_run.specs.declared.end.ScriptEnd.TheVariants as script
+use Rattle.script_run.specs.Ran.{Ran}
+use Rattle.shell.specs.declared.ending.Ending.{Ending}
+use Rattle.shell.specs.declared.ending.Ending.TheVariants as ending
+use Rattle.shell.specs.Check.{AcceptsImage, CheckReports}
+use Rattle.shell.specs.Ending.{status_of}
+use Rattle.shell.specs.Report.{ReportEnds}
+use Rattle.shell.specs.World.{Blames, World}
+
+-- the ending of a run by that of its script
+abbrev pub ending_of_script : ScriptEnd → Ending
+ending_of_script script.Done = ending.Done
+ending_of_script script.Source = ending.Source
+ending_of_script script.Sink = ending.Sink
+ending_of_script script.Device = ending.Device
+ending_of_script script.Memory = ending.Memory
+ending_of_script script.TooMuch = ending.TooMuch
+
+-- The script was run on the image, and ended so.
+pub record RunsScript (image text : List ℕ) (given : Ending) (old new : World) : Type 0 where
+  pub ended : ScriptEnd
+  pub is : given ≡ ending_of_script ended
+  pub ran : Ran image text ended old new
+
+-- Nothing of the disk changed but what was settled, and what it counts of reads and faults. No command is an edit that is built.
+pub record OnlySettles (old new : World) : Type 0 where
+  pub now : new.now ≡ old.now
+  pub fenced : new.fenced ≡ old.fenced
+  pub sectors : new.sectors ≡ old.sectors
+  pub written : new.written ≡ old.written
+  pub late : new.late ≡ old.late
+
+-- THE WORD RUN ended so. On an image that the volume definition accepts the script was run; any other is refused as `check` says,
+-- and nothing is taken from the source. No write is asked for once a call of the disk has failed.
+pub record RunEnds (given : Ending) (old new : World) : Type 0 where
+  pub causes : Blames given old new
+  pub on_time : old.disk_faults ≡ 0 → new.late ≡ old.late
+  pub only_settles : OnlySettles old new
+  pub ran : (image text : List ℕ) → old.now ≡ Some image → old.left ≡ Some text → AcceptsImage image → RunsScript image text given old new
+  pub refused : (image : List ℕ) → old.now ≡ Some image → ¬ (AcceptsImage image) → ReportEnds CheckReports given old new
+
+-- the status is that of such an ending
+abbrev pub AnswersRun : World → ℕ → World → Type 0
+AnswersRun old status new = (given : Ending) × (status ≡ status_of given) × RunEnds given old new

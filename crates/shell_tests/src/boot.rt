@@ -1,0 +1,96 @@
+//! The word `boot`, words that print nothing, and a sink that fails.
+use super::given::{AMPLE, GEOMETRY, Pieces, boot_sector, disk_of, run, sink_of};
+use shell::FrontSink;
+use std::test;
+use vol_disk::Sink;
+
+#[test]
+fn boot_prints_the_geometry_or_the_clause(rt: HostRuntime) -> Result<(), test::Fail> {
+    for (sectors, at, byte, status, text) in [
+        (16_384, 0x44, 0xF4, 0, GEOMETRY),
+        (16_384, 0x44, 0x01, 0, GEOMETRY),
+        (16_384, 0x1FE, 0x00, 3, "refused S1 1\n"),
+        (16_383, 0x44, 0xF4, 3, "refused S1 6\n"),
+        (0, 0x44, 0xF4, 3, "refused S1 1\n"),
+    ] {
+        let mut disk = disk_of(rt.alloc(), sectors, &boot_sector(at, byte))?;
+        let mut out = sink_of(rt.alloc(), AMPLE, 0)?;
+        let got = run(rt.alloc(), "boot", &mut disk, &mut out)?;
+        assert_eq!(rt; got, status, "{sectors} sectors, {byte} at {at}");
+        assert!(rt;
+            out.bytes() == text.as_bytes(),
+            "{sectors} sectors, {byte} at {at}"
+        );
+        assert!(rt;
+            disk.writes().is_empty(),
+            "{sectors} sectors, {byte} at {at}"
+        );
+    }
+    Ok(())
+}
+
+#[test]
+fn a_failing_sink_got_the_calls_before(rt: HostRuntime) -> Result<(), test::Fail> {
+    for (room, fails, status, length) in [
+        (AMPLE, 1, 5, 0),
+        (AMPLE, 2, 5, 25),
+        (AMPLE, 5, 5, 100),
+        (AMPLE, 6, 0, 115),
+        (17, 0, 5, 17),
+        (114, 0, 5, 114),
+        (115, 0, 0, 115),
+    ] {
+        let mut disk = disk_of(rt.alloc(), 16_384, &boot_sector(0x44, 0xF4))?;
+        let whole = sink_of(rt.alloc(), room, fails)?;
+        let mut out = Pieces { whole };
+        let got = run(rt.alloc(), "boot", &mut disk, &mut out)?;
+        assert_eq!(rt; got, status, "room {room}, failing at {fails}");
+        assert_eq!(rt;
+            out.whole.bytes().len(),
+            length,
+            "room {room}, failing at {fails}"
+        );
+        assert!(rt;
+            GEOMETRY.as_bytes().starts_with(out.whole.bytes()),
+            "room {room}, failing at {fails}"
+        );
+        assert!(rt; disk.writes().is_empty(), "room {room}, failing at {fails}");
+    }
+    Ok(())
+}
+
+#[test]
+fn other_words_print_nothing(rt: HostRuntime) -> Result<(), test::Fail> {
+    for (words, status) in [
+        ("", 2),
+        ("boot x", 2),
+        ("bo", 2),
+        ("run x", 2),
+        ("make", 9),
+        ("check x", 2),
+    ] {
+        let mut disk = disk_of(rt.alloc(), 16, &boot_sector(0x44, 0xF4))?;
+        let mut out = sink_of(rt.alloc(), AMPLE, 0)?;
+        let got = run(rt.alloc(), words, &mut disk, &mut out)?;
+        assert_eq!(rt; got, status, "words: {words}");
+        assert!(rt; out.bytes().is_empty(), "words: {words}");
+        assert!(rt; disk.writes().is_empty(), "words: {words}");
+    }
+    Ok(())
+}
+
+// The front is kept over calls, and no more than there is room for.
+#[test]
+fn a_sink_remembers_how_its_text_began(rt: HostRuntime) -> Result<(), test::Fail> {
+    for (room, status, front) in [
+        (AMPLE, 0, "sector 512\ncluster 4096\nsectors 16384\ncl"),
+        (17, 5, "sector 512\ncluste"),
+    ] {
+        let mut disk = disk_of(rt.alloc(), 16_384, &boot_sector(0x44, 0xF4))?;
+        let whole = sink_of(rt.alloc(), room, 0)?;
+        let mut out = FrontSink::new(Pieces { whole });
+        assert_eq!(rt; run(rt.alloc(), "boot", &mut disk, &mut out)?, status);
+        assert!(rt; out.front() == front.as_bytes(), "room {room}");
+    }
+    Ok(())
+}

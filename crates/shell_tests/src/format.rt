@@ -1,0 +1,160 @@
+//! The word `format`, and what the words that read say of the disk then.
+use super::given::{AMPLE, GEOMETRY, run, sink_of};
+use std::alloc::Global;
+use std::test;
+use vol_disk::{CallKind, Fail, FailDisk, MemDisk};
+
+const FORMAT: &str = "format 16384 4096 1 DATA";
+
+const SMALL: &str = "format 2048 4096 1 DATA";
+
+const OUT_OF_RANGE: &str = "format 2047 4096 1 X";
+
+const LABEL: &str = "label DATA\nversion 3.1\n";
+
+// A disk of so many sectors that is no volume, with room for the writes of one.
+fn blank(alloc: Global, sectors: u16) -> Result<MemDisk, test::Fail> {
+    let mut disk = MemDisk::new(alloc, vec![in alloc; 0xA5; usize::from(sectors) * 512]?);
+    disk.reserve(2000)?;
+    Ok(disk)
+}
+
+#[test]
+fn a_volume_is_what_was_asked_for(rt: HostRuntime) -> Result<(), test::Fail> {
+    let mut disk = blank(rt.alloc(), 16_384)?;
+    let mut out = sink_of(rt.alloc(), AMPLE, 0)?;
+    assert_eq!(rt; run(rt.alloc(), OUT_OF_RANGE, &mut disk, &mut out)?, 3);
+    assert!(rt; out.bytes() == b"refused options\n".as_slice());
+    assert!(rt; disk.writes().is_empty());
+    for (words, text) in [
+        (FORMAT, "formatted 2048\n"),
+        ("boot", GEOMETRY),
+        ("label", LABEL),
+        ("check", "sound\n"),
+    ] {
+        let mut out = sink_of(rt.alloc(), AMPLE, 0)?;
+        assert_eq!(rt; run(rt.alloc(), words, &mut disk, &mut out)?, 0, "{words}");
+        assert!(rt; out.bytes() == text.as_bytes(), "{words}");
+    }
+    assert!(rt; disk.settles() == [disk.writes().len()].as_slice());
+    Ok(())
+}
+
+// Twice a label of 32 units, of which the second has a character of two.
+#[test]
+fn a_label_may_be_long(rt: HostRuntime) -> Result<(), test::Fail> {
+    for (label, text) in [
+        (
+            "%0041%0041%0041%0041%0041%0041%0041%0041%0041%0041%0041%0041%0041%0041%0041%0041\
+             %0041%0041%0041%0041%0041%0041%0041%0041%0041%0041%0041%0041%0041%0041%0041%0041",
+            "label AAAAAAAAAAAAAAAAAAAAAAAAAAAAAAAA\nversion 3.1\n",
+        ),
+        (
+            "AAAAAAAAAAAAAAAAAAAAAAAAAAAAAA😀",
+            "label AAAAAAAAAAAAAAAAAAAAAAAAAAAAAA😀\nversion 3.1\n",
+        ),
+    ] {
+        let mut disk = blank(rt.alloc(), 2048)?;
+        let words = format!(in rt.alloc(); "format 2048 512 1 {label}")?;
+        let mut out = sink_of(rt.alloc(), AMPLE, 0)?;
+        assert_eq!(rt; run(rt.alloc(), &words, &mut disk, &mut out)?, 0, "{label}");
+        assert!(rt; out.bytes() == b"formatted 2048\n".as_slice(), "{label}");
+        let mut out = sink_of(rt.alloc(), AMPLE, 0)?;
+        assert_eq!(rt;
+            run(rt.alloc(), "label", &mut disk, &mut out)?,
+            0,
+            "{label}"
+        );
+        assert!(rt; out.bytes() == text.as_bytes(), "{label}");
+    }
+    Ok(())
+}
+
+#[test]
+fn what_is_not_taken_writes_nothing(rt: HostRuntime) -> Result<(), test::Fail> {
+    for (words, status, text) in [
+        (OUT_OF_RANGE, 3, "refused options\n"),
+        ("format 2049 4096 1 X", 3, "refused options\n"),
+        ("format 2048 8192 1 X", 3, "refused options\n"),
+        ("format 2048 0 1 X", 3, "refused options\n"),
+        ("format", 2, ""),
+        ("format 2048 4096 1", 2, ""),
+        ("format 2048 4096 1 X X", 2, ""),
+        ("format 02048 4096 1 X", 2, ""),
+        ("format +2048 4096 1 X", 2, ""),
+        ("format 2048 4294967296 1 X", 2, ""),
+        ("format 2048 4096 18446744073709551616 X", 2, ""),
+        ("format 2048 4096 1 a/b", 2, ""),
+        (
+            "format 2048 4096 1 AAAAAAAAAAAAAAAAAAAAAAAAAAAAAAAAA",
+            2,
+            "",
+        ),
+        ("format 2048 4096 1 AAAAAAAAAAAAAAAAAAAAAAAAAAAAAAA😀", 2, ""),
+    ] {
+        let mut disk = blank(rt.alloc(), 2048)?;
+        let mut out = sink_of(rt.alloc(), AMPLE, 0)?;
+        let got = run(rt.alloc(), words, &mut disk, &mut out)?;
+        assert_eq!(rt; got, status, "{words}");
+        assert!(rt; out.bytes() == text.as_bytes(), "{words}");
+        assert!(rt; disk.writes().is_empty(), "{words}");
+        assert!(rt; disk.settles().is_empty(), "{words}");
+    }
+    Ok(())
+}
+
+// Whether a run in which this call of the disk fails ends so, with this text.
+fn ends_so(
+    alloc: Global,
+    kind: CallKind,
+    number: u64,
+    status: u8,
+    text: &str,
+) -> Result<bool, test::Fail> {
+    let fail = Fail {
+        kind,
+        number,
+        lands: false,
+    };
+    let mut disk = FailDisk::new(blank(alloc, 2048)?, vec![in alloc; fail]?);
+    let mut out = sink_of(alloc, AMPLE, 0)?;
+    let got = run(alloc, SMALL, &mut disk, &mut out)?;
+    Ok(got == status && out.bytes() == text.as_bytes())
+}
+
+#[test]
+fn each_failing_write_is_told(rt: HostRuntime) -> Result<(), test::Fail> {
+    for number in 1..=1080_u64 {
+        assert!(rt;
+            ends_so(rt.alloc(), CallKind::Write, number, 6, "")?,
+            "{number}"
+        );
+    }
+    Ok(())
+}
+
+// There is no write behind the last one, and one settle.
+#[test]
+fn a_failing_settle_is_told(rt: HostRuntime) -> Result<(), test::Fail> {
+    assert!(rt; ends_so(rt.alloc(), CallKind::Settle, 1, 6, "")?);
+    assert!(rt; ends_so(rt.alloc(), CallKind::Settle, 2, 0, "formatted 256\n")?);
+    assert!(rt; ends_so(rt.alloc(), CallKind::Write, 1081, 0, "formatted 256\n")?);
+    Ok(())
+}
+
+// The volume is made all the same.
+#[test]
+fn a_failing_sink_is_told(rt: HostRuntime) -> Result<(), test::Fail> {
+    let mut disk = blank(rt.alloc(), 2048)?;
+    for (words, fails, status) in [(OUT_OF_RANGE, 1, 5), (SMALL, 1, 5), ("label", 0, 0)] {
+        let mut out = sink_of(rt.alloc(), AMPLE, fails)?;
+        assert_eq!(rt;
+            run(rt.alloc(), words, &mut disk, &mut out)?,
+            status,
+            "{words}"
+        );
+        let text = if fails == 0 { LABEL } else { "" };
+        assert!(rt; out.bytes() == text.as_bytes(), "{words}");
+    }
+    Ok(())
+}

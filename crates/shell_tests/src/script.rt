@@ -1,0 +1,223 @@
+//! The word `run`, on the volume that `format` makes. What each reading command answers is tested in `reading`; here it is
+//! how a script is read, settled, printed and ended.
+use super::check::{disk_of, volume};
+use super::damage::{mark_dirty, tear};
+use super::given::sink_of;
+use shell::run_shell;
+use std::alloc::{AllocError, Global};
+use std::test;
+use vol_disk::{CallKind, Disk, Fail, FailDisk, Failed, MemDisk, MemSink, MemSource, Sink, Source};
+
+// More than any text here is long.
+const AMPLE: usize = 4096;
+
+// Two lines that are refused, and what is printed of them; the rest has no reply.
+const SHORT: &[u8] = b"zzz\n# a comment\n\nrm /f";
+
+const SHORT_REPLIES: &str = "no 1 Syntax\nno 28 Unbuilt\n";
+
+// A source that gives one byte at a call.
+#[derive(Drop)]
+struct Slowly<S: Source> {
+    whole: S,
+}
+
+impl<S: Source> Source for Slowly<S> {
+    ghost left = { λ source. S.Source.left source.whole };
+
+    ghost faults = { λ source. S.Source.faults source.whole };
+
+    fn read(&mut self, into: &mut [u8]) -> Result<usize, Failed> {
+        let len = into.len().min(1);
+        self.whole.read(&mut into[..len])
+    }
+}
+
+/// A source of these bytes, whose call of this number fails; 0 is none.
+pub fn source_of(alloc: Global, text: &[u8], fails: u64) -> Result<MemSource, AllocError> {
+    Ok(MemSource::new(text.to_vec(alloc)?, vec![in alloc; fails]?))
+}
+
+/// The status of `run`.
+pub fn run_on<D: Disk, S: Source, K: Sink>(
+    alloc: Global,
+    disk: &mut D,
+    script: &mut S,
+    out: &mut K,
+) -> Result<u8, AllocError> {
+    let words = vec![in alloc; "run".to_string(alloc)?]?;
+    Ok(run_shell(alloc, &words, disk, script, out))
+}
+
+// A disk with these contents, and room for its settles.
+fn settling(alloc: Global, image: &[u8]) -> Result<MemDisk, test::Fail> {
+    let mut disk = disk_of(alloc, image)?;
+    disk.reserve(64)?;
+    Ok(disk)
+}
+
+// Whether a script ends so, with this text and so many settles, and writes nothing.
+fn ends_so(
+    alloc: Global,
+    image: &[u8],
+    script: &[u8],
+    status: u8,
+    text: &str,
+    settles: usize,
+) -> Result<bool, test::Fail> {
+    let mut disk = settling(alloc, image)?;
+    let mut source = source_of(alloc, script, 0)?;
+    let mut out = sink_of(alloc, AMPLE, 0)?;
+    let got = run_on(alloc, &mut disk, &mut source, &mut out)?;
+    Ok(
+        got == status
+            && out.bytes() == text.as_bytes()
+            && disk.settles().len() == settles
+            && disk.writes().is_empty(),
+    )
+}
+
+#[test]
+fn a_script_is_answered_line_by_line(rt: HostRuntime) -> Result<(), test::Fail> {
+    let image = volume(rt.alloc())?;
+    for (script, text, settles) in [
+        ("", "", 0),
+        ("\n#ls /\n", "", 0),
+        ("zzz\n", "no 1 Syntax\n", 1),
+        ("rm /f\n", "no 28 Unbuilt\n", 1),
+        ("@3 rm /f\n@16 rm /f", "no 28 Unbuilt\nno 1 Syntax\n", 2),
+    ] {
+        assert!(rt;
+            ends_so(rt.alloc(), &image, script.as_bytes(), 0, text, settles)?,
+            "{script}"
+        );
+    }
+    assert!(rt; ends_so(rt.alloc(), &image, SHORT, 0, SHORT_REPLIES, 2)?);
+    Ok(())
+}
+
+#[test]
+fn a_script_comes_in_any_pieces(rt: HostRuntime) -> Result<(), test::Fail> {
+    let mut disk = settling(rt.alloc(), &volume(rt.alloc())?)?;
+    let mut source = Slowly {
+        whole: source_of(rt.alloc(), SHORT, 0)?,
+    };
+    let mut out = sink_of(rt.alloc(), AMPLE, 0)?;
+    assert_eq!(rt; run_on(rt.alloc(), &mut disk, &mut source, &mut out)?, 0);
+    assert!(rt; out.bytes() == SHORT_REPLIES.as_bytes());
+    Ok(())
+}
+
+#[test]
+fn a_long_line_has_one_reply(rt: HostRuntime) -> Result<(), test::Fail> {
+    let image = volume(rt.alloc())?;
+    for (len, text) in [
+        (70_000, "no 1 Syntax\n"),
+        (70_001, "no 2 Long\n"),
+        (200_000, "no 2 Long\n"),
+    ] {
+        let script = vec![in rt.alloc(); b'a'; len]?;
+        assert!(rt;
+            ends_so(rt.alloc(), &image, &script, 0, text, 1)?,
+            "{len} bytes"
+        );
+    }
+    let mut comment = vec![in rt.alloc(); b'#'; 100_000]?;
+    comment.extend_from_slice(b"\nrm /f\n")?;
+    assert!(rt; ends_so(rt.alloc(), &image, &comment, 0, "no 28 Unbuilt\n", 1)?);
+    Ok(())
+}
+
+// A volume that is not accepted is refused as `check` says, and the script is left alone.
+#[test]
+fn a_volume_that_is_not_accepted_is_refused(rt: HostRuntime) -> Result<(), test::Fail> {
+    let mut image = volume(rt.alloc())?;
+    mark_dirty(&mut image, true);
+    assert!(rt; ends_so(rt.alloc(), &image, SHORT, 3, "refused dirty\n", 0)?);
+    tear(&mut image, 9);
+    assert!(rt; ends_so(rt.alloc(), &image, SHORT, 3, "refused S3 9\n", 0)?);
+    Ok(())
+}
+
+// The two calls of the source fail in turn. The first gives the whole script, whose last line has not ended then.
+#[test]
+fn each_failing_call_of_the_source_is_told(rt: HostRuntime) -> Result<(), test::Fail> {
+    let image = volume(rt.alloc())?;
+    for (fails, status, text) in [(1, 4, ""), (2, 4, "no 1 Syntax\n"), (3, 0, SHORT_REPLIES)] {
+        let mut disk = settling(rt.alloc(), &image)?;
+        let mut source = source_of(rt.alloc(), SHORT, fails)?;
+        let mut out = sink_of(rt.alloc(), AMPLE, 0)?;
+        let got = run_on(rt.alloc(), &mut disk, &mut source, &mut out)?;
+        assert_eq!(rt; got, status, "call {fails}");
+        assert!(rt; out.bytes() == text.as_bytes(), "call {fails}");
+    }
+    Ok(())
+}
+
+// Each reply is one call of the sink. A line whose reply is not printed was settled.
+#[test]
+fn each_failing_call_of_the_sink_is_told(rt: HostRuntime) -> Result<(), test::Fail> {
+    let image = volume(rt.alloc())?;
+    for (room, fails, status, len, settles) in [
+        (AMPLE, 1, 5, 0, 1),
+        (AMPLE, 2, 5, 12, 2),
+        (AMPLE, 3, 0, 26, 2),
+        (15, 0, 5, 15, 2),
+    ] {
+        let mut disk = settling(rt.alloc(), &image)?;
+        let mut source = source_of(rt.alloc(), SHORT, 0)?;
+        let mut out = sink_of(rt.alloc(), room, fails)?;
+        let got = run_on(rt.alloc(), &mut disk, &mut source, &mut out)?;
+        assert_eq!(rt; got, status, "room {room}, call {fails}");
+        assert!(rt;
+            out.bytes() == &SHORT_REPLIES.as_bytes()[..len],
+            "room {room}, call {fails}"
+        );
+        assert_eq!(rt; disk.settles().len(), settles, "room {room}, call {fails}");
+    }
+    Ok(())
+}
+
+/// The status of a script on a disk of which one call fails, and what is printed.
+pub fn failing(
+    alloc: Global,
+    image: &[u8],
+    script: &[u8],
+    kind: CallKind,
+    number: u64,
+) -> Result<(u8, MemSink), test::Fail> {
+    let fail = Fail {
+        kind,
+        number,
+        lands: false,
+    };
+    let mut disk = FailDisk::new(settling(alloc, image)?, vec![in alloc; fail]?);
+    let mut source = source_of(alloc, script, 0)?;
+    let mut out = sink_of(alloc, AMPLE, 0)?;
+    let status = run_on(alloc, &mut disk, &mut source, &mut out)?;
+    Ok((status, out))
+}
+
+// A line whose settle fails has no reply.
+#[test]
+fn each_failing_settle_is_told(rt: HostRuntime) -> Result<(), test::Fail> {
+    let image = volume(rt.alloc())?;
+    for (number, status, text) in [(1, 6, ""), (2, 6, "no 1 Syntax\n"), (3, 0, SHORT_REPLIES)] {
+        let (got, out) = failing(rt.alloc(), &image, SHORT, CallKind::Settle, number)?;
+        assert_eq!(rt; got, status, "settle {number}");
+        assert!(rt; out.bytes() == text.as_bytes(), "settle {number}");
+    }
+    Ok(())
+}
+
+// A read of the mount that fails ends the run before its first line.
+#[test]
+fn a_failing_read_is_told(rt: HostRuntime) -> Result<(), test::Fail> {
+    let image = volume(rt.alloc())?;
+    for number in [1, 2, 100, 395] {
+        let (status, out) = failing(rt.alloc(), &image, SHORT, CallKind::Read, number)?;
+        assert_eq!(rt; status, 6, "read {number}");
+        assert!(rt; out.bytes().is_empty(), "read {number}");
+    }
+    Ok(())
+}

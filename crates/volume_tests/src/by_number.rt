@@ -1,0 +1,192 @@
+//! The calls that take a file by its number, on a new volume of 4,096 sectors: a name of a directory, all its names, and
+//! bytes of a stream. The disk tells nothing of what it holds, so there is nothing to prove of the volume before a call.
+ghost use Rattle.std.specs.Prelude.{◌≡◌, IfOk, false};
+ghost use Rattle.mft_table.specs.Mft.{view};
+
+use dir_index::{link_of_key, list, lookup};
+use mft_table::Mft;
+use mount_check::mount;
+use sparse_io::read_at;
+use std::alloc::{AllocError, Global};
+use std::test;
+use vol_bytes::{Name, Octets, units_of_text};
+use vol_disk::{Disk, Failed, MemDisk};
+use vol_stage::Stage;
+use volume_format::{FormatOptions, format};
+
+const ROOT: u64 = 5;
+
+// A disk of whose contents nothing is told.
+#[derive(Drop)]
+struct Untold<D: Disk + Drop> {
+    inner: D,
+}
+
+impl<D: Disk + Drop> Disk for Untold<D> {
+    ghost use Rattle.std.specs.Prelude.{None};
+
+    ghost now = { λ disk. None };
+
+    ghost settled = { λ disk. None };
+
+    ghost fenced = { λ disk. None };
+
+    ghost size = { λ disk. D.Disk.size disk.inner };
+
+    ghost faults = { λ disk. D.Disk.faults disk.inner };
+
+    ghost written = { λ disk. D.Disk.written disk.inner };
+
+    ghost fetched = { λ disk. D.Disk.fetched disk.inner };
+
+    ghost late = { λ disk. D.Disk.late disk.inner };
+
+    ghost told_length = { λ disk. tt };
+
+    ghost size_fits = { λ disk. D.Disk.size_fits disk.inner };
+
+    fn sectors(&self) -> u64 {
+        self.inner.sectors()
+    }
+
+    fn read(&mut self, sector: u64, into: &mut [u8; 512]) -> Result<(), Failed> {
+        self.inner.read(sector, into)
+    }
+
+    fn write(&mut self, sector: u64, from: &[u8; 512]) -> Result<(), Failed> {
+        self.inner.write(sector, from)
+    }
+
+    fn barrier(&mut self) -> Result<(), Failed> {
+        self.inner.barrier()
+    }
+
+    fn settle(&mut self) -> Result<(), Failed> {
+        self.inner.settle()
+    }
+}
+
+// A new volume.
+fn volume(alloc: Global) -> Result<Untold<MemDisk>, test::Fail> {
+    let mut inner = MemDisk::new(alloc, vec![in alloc; 0; 4096 * 512]?);
+    if inner.reserve(4096).is_err() {
+        return Err(AllocError.into());
+    }
+    let mut disk = Untold { inner };
+    let options = FormatOptions {
+        sectors: 4096,
+        cluster: 4096,
+        serial: 1,
+        label: Name::from_vec(vec![in alloc; 0x41u16; 1]?),
+    };
+    format(alloc, &mut disk, &options)?;
+    Ok(disk)
+}
+
+// Its table of records in use.
+fn records_on(
+    alloc: Global,
+    disk: &mut Untold<MemDisk>,
+) -> Result<Mft<'_, Untold<MemDisk>>, test::Fail>
+    ensures { IfOk result (λ mft. (view ⟦<Untold<MemDisk> as Disk>⟧ mft).told ≡ false) }
+{
+    let mounted = mount(alloc, disk)?;
+    Ok(Mft::resume(Stage::over(alloc, disk), mounted))
+}
+
+// Lets it go again.
+fn let_go(mft: Mft<'_, Untold<MemDisk>>) {
+    let (stage, _) = mft.into_parts();
+    let _ = stage.finish();
+}
+
+fn name(alloc: Global, text: &str) -> Result<Name, test::Fail> {
+    Ok(units_of_text(alloc, text.as_bytes())?)
+}
+
+// The file that a name of the root leads to.
+fn child(alloc: Global, disk: &mut Untold<MemDisk>, text: &str) -> Result<Option<u64>, test::Fail> {
+    let name = name(alloc, text)?;
+    let mut mft = records_on(alloc, disk)?;
+    let found = lookup(alloc, &mut mft, ROOT, &name);
+    let_go(mft);
+    Ok(found?.map(|link| link.child))
+}
+
+// The files that the names of the root lead to, in name order.
+fn children(alloc: Global, disk: &mut Untold<MemDisk>) -> Result<Vec<u64>, test::Fail> {
+    let mut mft = records_on(alloc, disk)?;
+    let links = list(alloc, &mut mft, ROOT);
+    let_go(mft);
+    let mut children = Vec::new(alloc);
+    for link in &links? {
+        children.push(link.child)?;
+    }
+    Ok(children)
+}
+
+// So many bytes of the table of case from byte `at` on.
+fn case(
+    alloc: Global,
+    disk: &mut Untold<MemDisk>,
+    at: u64,
+    len: usize,
+) -> Result<Octets, test::Fail> {
+    let unnamed = Name::from_vec(Vec::new(alloc));
+    let mut mft = records_on(alloc, disk)?;
+    let bytes = read_at(alloc, &mut mft, 10, &unnamed, at, len);
+    let_go(mft);
+    Ok(bytes?)
+}
+
+#[test]
+fn a_name_is_found_in_the_root(rt: HostRuntime) -> Result<(), test::Fail> {
+    let mut disk = volume(rt.alloc())?;
+    for (text, wanted) in [
+        ("$MFTMirr", Some(1)),
+        ("$upcase", Some(10)),
+        (".", Some(5)),
+        ("$MFTMir", None),
+        ("~", None),
+    ] {
+        assert_eq!(rt; child(rt.alloc(), &mut disk, text)?, wanted, "{text}");
+    }
+    Ok(())
+}
+
+#[test]
+fn the_root_is_listed(rt: HostRuntime) -> Result<(), test::Fail> {
+    let mut disk = volume(rt.alloc())?;
+    let listed = children(rt.alloc(), &mut disk)?;
+    assert_eq!(rt;
+        listed.as_slice(),
+        [4, 8, 6, 7, 11, 2, 0, 1, 9, 10, 3, 5].as_slice()
+    );
+    Ok(())
+}
+
+#[test]
+fn the_table_of_case_is_read(rt: HostRuntime) -> Result<(), test::Fail> {
+    let mut disk = volume(rt.alloc())?;
+    let letters = case(rt.alloc(), &mut disk, 0xC2, 4)?;
+    assert_eq!(rt; letters.as_slice(), b"\x41\x00\x42\x00".as_slice());
+    let last = case(rt.alloc(), &mut disk, 131_070, 10)?;
+    assert_eq!(rt; last.as_slice(), b"\xFF\xFF".as_slice());
+    let whole = case(rt.alloc(), &mut disk, 0, 200_000)?;
+    assert_eq!(rt; whole.as_slice().len(), 131_072);
+    Ok(())
+}
+
+// The longest name there is, by the value of its `$FILE_NAME`.
+#[test]
+fn a_long_name_is_read(rt: HostRuntime) -> Result<(), test::Fail> {
+    let mut key = vec![in rt.alloc(); 0x61; 66 + 2 * 255]?;
+    key[..8].copy_from_slice(&[5, 0, 0, 0, 0, 0, 5, 0]);
+    key[0x40..0x42].copy_from_slice(&[255, 1]);
+    let Some(link) = link_of_key(rt.alloc(), &key, 77)? else {
+        return Err("no name")?;
+    };
+    assert_eq!(rt; (link.parent, link.space, link.child), (ROOT, 1, 77));
+    assert!(rt; link.name.as_slice() == [0x6161; 255].as_slice());
+    Ok(())
+}
