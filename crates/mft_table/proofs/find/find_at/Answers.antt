@@ -3,7 +3,7 @@ use Rattle.ntfs_def.specs.Boot.{cluster_sectors, mft_cluster}
 use Rattle.mft_table.specs.Tables.{table_layout}
 use Rattle.mft_table.proofs.BootSectors.{length-told}
 use Rattle.mft_table.proofs.TableLaws.{first_record-past, first_record-read, first_sector, has_table, lies_on, meets_clause}
-use Rattle.mft_table.proofs.volume.find_at.Goals as goal
+use Rattle.mft_table.proofs.find.find_at.Goals as goal
 
 pub returns-then-sector-sectors-clause-err : goal.returns-then-sector-sectors-clause-err
 returns-then-sector-sectors-clause-err g c image told boot is layout clause =

@@ -1,36 +1,27 @@
 //! The table of a volume, found from its boot sector on.
 ghost use Rattle.std.specs.Prelude.{◌≡◌, ◌*◌, ◌/◌, ◌^◌, ◌≤◌, ℕ, List, IfErr, IfNone, IfOk, IfSome, MatchResult};
 ghost use Rattle.vol_disk.specs.Contents.{WhereTold, sector_in};
-ghost use Rattle.vol_disk.specs.Count.{CountsFault};
-ghost use Rattle.ntfs_def.specs.Boot.{boot_sector};
 ghost use Rattle.ntfs_boot.specs.Geometry.{FitsDisk, geometry_of};
 ghost use Rattle.volume_def.specs.Table.{TableLayout, LiesOn, MeetsTable};
 ghost use Rattle.vol_stage.specs.Staged.{StageReads, disk_of, image};
 ghost use Rattle.mft_table.specs.TableNos.{CountsNo, IsFoundIn, Refuses, RefusesAt};
 ghost use Rattle.mft_table.specs.Tables.{BlockTells, IsFoundBy, table_layout};
 
+mod boot_sector;
+mod open;
+mod table;
+mod table_data;
+
 use crate::TableNo;
 use crate::blocks::read_two_sectors;
-use crate::open::open_record;
-use crate::table::{Table, read_table};
+pub use boot_sector::read_boot_sector;
 use ntfs_boot::Geometry;
+pub use open::open_record;
 use std::alloc::{AllocError, Global};
+pub use table::Table;
+use table::read_table;
 use vol_disk::Disk;
-use vol_stage::{Stage, StageNo};
-
-/// The first sector, which is zero on a disk without one.
-pub fn read_boot_sector<D: Disk>(stage: &mut Stage<'_, D>) -> Result<[u8; 512], StageNo>
-    ensures sector { IfOk result (λ sector. WhereTold (image D.Disk stage.old) (λ all. sector ≡ boot_sector all)) }
-    ensures reads { StageReads D.Disk stage.old stage.new 1 }
-    ensures faults { CountsFault result (D.faults (disk_of D.Disk stage.old)) (D.faults (disk_of D.Disk stage.new)) }
-    ensures device { IfErr result (λ error. error ≡ StageNo.Device) }
-{
-    let mut sector = [0; 512];
-    if stage.sectors() > 0 {
-        stage.read(0, &mut sector)?;
-    }
-    Ok(sector)
-}
+use vol_stage::Stage;
 
 // Where the table lies, by record 0 as it is stored, and `None` where the table clause does not hold.
 fn table_in(

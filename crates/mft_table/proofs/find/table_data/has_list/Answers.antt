@@ -4,7 +4,7 @@ use Rattle.std.proofs.lemmas.List.Elements.{All-cons, All-head, All-tail}
 use Rattle.ntfs_def.specs.declared.kinds.TheConstants.{ATTRIBUTE_LIST}
 use Rattle.ntfs_def.specs.Attribute.{Attribute}
 use Rattle.attr_view.specs.View.{attribute_of}
-use Rattle.mft_table.proofs.table_data.has_list.Goals as goal
+use Rattle.mft_table.proofs.find.table_data.has_list.Goals as goal
 
 abbrev IsOther : Attribute → Type 0
 IsOther attribute = attribute.kind ≢ ATTRIBUTE_LIST

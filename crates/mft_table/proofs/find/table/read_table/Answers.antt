@@ -4,7 +4,7 @@ use Rattle.ntfs_def.specs.Runs.{MeansRuns}
 use Rattle.ntfs_def.proofs.RunsInLaws.{means-runs_in, runs_in-means}
 use Rattle.attr_view.specs.View.{attribute_of, viewed_block}
 use Rattle.mft_table.proofs.TableParts.{Fits, IsRead, RecordTells-made, RecordTells-means, RecordTells-parts}
-use Rattle.mft_table.proofs.table.read_table.Goals as goal
+use Rattle.mft_table.proofs.find.table.read_table.Goals as goal
 
 pub returns-in_default-2-clause-none : goal.returns-in_default-2-clause-none
 returns-in_default-2-clause-none c layout tells =

@@ -1,6 +1,6 @@
 use Rattle.std.proofs.Common.{◌≡◌, ◌<◌, sym, arith}
 use Rattle.mft_table.proofs.BootSectors.{boot_sector-none, boot_sector-read}
-use Rattle.mft_table.proofs.volume.read_boot_sector.Goals as goal
+use Rattle.mft_table.proofs.find.boot_sector.read_boot_sector.Goals as goal
 
 pub returns-in_ok-read-clause-sector : goal.returns-in_ok-read-clause-sector
 returns-in_ok-read-clause-sector g c image told =

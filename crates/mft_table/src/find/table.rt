@@ -8,8 +8,8 @@ ghost use Rattle.ntfs_boot.specs.Geometry.{FitsDisk};
 ghost use Rattle.attr_view.specs.View.{viewed_block};
 ghost use Rattle.mft_table.specs.Tables.{IsFoundBy, RecordTells};
 
+use super::table_data::table_stream;
 use crate::BlockReader;
-use crate::table_data::table_stream;
 use attr_view::RecordView;
 use data_runs::{RunList, read_runs};
 use ntfs_boot::Geometry;

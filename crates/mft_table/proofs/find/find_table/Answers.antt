@@ -2,7 +2,7 @@ use Rattle.std.proofs.Common.{◌∙◌}
 use Rattle.ntfs_boot.specs.Geometry.{number_of}
 use Rattle.std.proofs.Common.{Some}
 use Rattle.mft_table.proofs.FoundLaws.{failing-read, found-err, found-ok}
-use Rattle.mft_table.proofs.volume.find_table.Goals as goal
+use Rattle.mft_table.proofs.find.find_table.Goals as goal
 
 pub returns-in-Ok-clause-ok : goal.returns-in-Ok-clause-ok
 returns-in-Ok-clause-ok g c =
