@@ -4,7 +4,7 @@ use Rattle.std.proofs.lemmas.Option.{slice_get_past}
 use Rattle.std.specs.List.{slice_get}
 use Rattle.index_tree.proofs.IndexTreeLaws.{some_same}
 use Rattle.index_tree.proofs.Rising.{is_none}
-use Rattle.index_tree.proofs.tests.StoredBlocks.read.Goals as goal
+use Rattle.index_tests.proofs.trees.StoredBlocks.read.Goals as goal
 
 pub returns-in_default-clause-read : goal.returns-in_default-clause-read
 returns-in_default-clause-read c = λ contents e.

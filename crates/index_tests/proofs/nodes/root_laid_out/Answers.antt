@@ -1,7 +1,7 @@
 use Rattle.std.proofs.Common.{List, ℕ, true, refl, sym, ◌∙◌, subst}
 use Rattle.std.specs.Prelude.{IsTrue}
 use Rattle.ntfs_def.specs.Node.{is_last_entry, is_one_last, node_header}
-use Rattle.index_node.proofs.tests.root_laid_out.Goals as goal
+use Rattle.index_tests.proofs.nodes.root_laid_out.Goals as goal
 
 pub lay_out-requires-clause-header : goal.lay_out-requires-clause-header
 unfolding node_header

@@ -4,7 +4,7 @@ use Rattle.ntfs_def.specs.Node.{Node, child_at, is_last_entry, node_header, node
 use Rattle.ntfs_def.specs.IndexTree.{Nodes}
 use Rattle.index_tree.specs.Search.{nodes_of}
 use Rattle.index_tree.specs.Walk.{HasWalk}
-use Rattle.index_tree.proofs.tests.contents_told.Goals as goal
+use Rattle.index_tests.proofs.trees.contents_told.Goals as goal
 
 abbrev bare : Node
 bare = record { entries = []; last = None }
