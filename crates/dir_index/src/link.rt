@@ -7,15 +7,10 @@ ghost use Rattle.ntfs_def.specs.declared.index.NodeForm.TheVariants.{Names};
 ghost use Rattle.dir_index.specs.Links.{key_link, link_in};
 
 use collation::{UNIT_COUNT, UNITS, is_name_key};
+use ntfs_def::{file_name, index_record, reference};
 use std::alloc::{AllocError, Global};
 use tree_model::Link;
 use vol_bytes::{Name, u16_at, u64_at};
-
-/// The number in a file reference is its lower 48 bits.
-const NUMBERS: u64 = 1 << 48;
-
-/// Where a name says its namespace.
-const NAMESPACE: usize = 0x41;
 
 // The key of an entry.
 #[tactic(auto, unfolding(ntfs_def::specs::Node::item_at))]
@@ -23,7 +18,7 @@ fn key_in(entry: &[u8]) -> &[u8]
     requires { IsOwnEntry Names entry.now }
     ensures { result.now ≡ (item_in entry.now).key }
 {
-    &entry[16..16 + u16_at(entry, 0x0A) as usize]
+    &entry[index_record::KEY..index_record::KEY + u16_at(entry, index_record::KEY_LEN) as usize]
 }
 
 // The reference of the file that an entry names.
@@ -60,9 +55,9 @@ pub fn link_of_key(alloc: Global, key: &[u8], child: u64) -> Result<Option<Link>
     }
     let units = units_in(alloc, key)?;
     Ok(Some(Link {
-        parent: u64_at(key, 0) % NUMBERS,
+        parent: u64_at(key, 0) % reference::NUMBERS,
         name: Name::from_vec(units),
-        space: key[NAMESPACE],
+        space: key[file_name::NAMESPACE],
         child,
     }))
 }
@@ -76,5 +71,5 @@ pub fn link_of_entry(alloc: Global, entry: &[u8]) -> Result<Option<Link>, AllocE
     requires { IsOwnEntry Names entry.now }
     ensures { IfOk result (λ link. link ≡ link_in entry.now) }
 {
-    link_of_key(alloc, key_in(entry), reference_in(entry) % NUMBERS)
+    link_of_key(alloc, key_in(entry), reference_in(entry) % reference::NUMBERS)
 }

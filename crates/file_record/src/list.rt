@@ -19,6 +19,7 @@ use attr_view::{AttrView, RecordView, Sizes};
 use data_runs::{RunList, read_runs};
 use mft_table::Mft;
 use ntfs_def::kinds::ATTRIBUTE_LIST;
+use ntfs_def::reference;
 use std::alloc::Global;
 use vol_disk::Disk;
 
@@ -98,7 +99,7 @@ pub fn add_named(value: &[u8], numbers: &mut Vec<u64>) -> Result<(), FileNo>
         return Ok(());
     };
     for holder in list.holders() {
-        numbers.push(holder % (1 << 48))?;
+        numbers.push(holder % reference::NUMBERS)?;
     }
     Ok(())
 }

@@ -12,7 +12,7 @@ ghost use Rattle.file_record.specs.Records.{IsBlockOf, IsRecordOf};
 use crate::{FileNo, Held};
 use attr_view::RecordView;
 use mft_table::{Mft, MftNo};
-use ntfs_def::is_in_use;
+use ntfs_def::{is_in_use, record_header, reference};
 use vol_bytes::u64_at;
 use vol_disk::Disk;
 
@@ -21,11 +21,11 @@ use vol_disk::Disk;
 fn base_of(block: &[u8; 1024]) -> Option<u64>
     ensures { result ≡ option_map (λ base. base.number) (header_of block.now).base }
 {
-    let reference = u64_at(block, 0x20);
-    if reference == 0 {
+    let base = u64_at(block, record_header::BASE);
+    if base == 0 {
         return None;
     }
-    Some(reference % (1 << 48))
+    Some(base % reference::NUMBERS)
 }
 
 // Whether an opened block of this number is in use, and belongs to the file.

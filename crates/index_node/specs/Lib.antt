@@ -3,3 +3,4 @@ pub mod Blocks
 pub mod LayOut
 pub mod Sealed
 pub mod Shape
+pub mod Lent

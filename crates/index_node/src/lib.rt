@@ -11,8 +11,6 @@ mod blocks;
 mod laws;
 mod places;
 mod shape;
-#[cfg(test)]
-mod tests;
 mod view;
 mod written;
 

@@ -1,10 +1,12 @@
 //! A place in a node: the entry there and its child, and the way on to the next place.
 ghost use Rattle.std.specs.Prelude.{◌≡◌, ◌+◌, ◌<◌, IsTrue, false, length, slice_index_or, true};
 ghost use Rattle.ntfs_def.specs.Node.{Entry, child_from, has_children, is_one_entry, item_in};
+ghost use Rattle.index_node.specs.Lent.{child_said};
 ghost use Rattle.index_node.specs.View.{bytes_of, form_of_view, node_of_view, number_of, view_of};
 
 use crate::Place;
-use crate::shape::{ENTRY_HEADER, entry_len, key_len};
+use crate::shape::{entry_len, key_len};
+use ntfs_def::index_record;
 use vol_bytes::u64_at;
 
 impl<'r> Place<'r> {
@@ -21,6 +23,8 @@ impl<'r> Place<'r> {
         requires { number_of self.now < length (node_of_view (view_of self.now)).entries }
         ensures item { (d : Entry)
             → item_in result.now ≡ (slice_index_or (node_of_view (view_of self.now)).entries (number_of self.now) d).item }
+        ensures child { (d : Entry)
+            → child_said result.now ≡ (slice_index_or (node_of_view (view_of self.now)).entries (number_of self.now) d).child }
         ensures own { IsTrue (is_one_entry (form_of_view (view_of self.now)) (has_children (bytes_of (view_of self.now))) result.now) }
     {
         &self.view.node[self.at..self.at + entry_len(self.view.node, self.at) as usize]
@@ -32,7 +36,7 @@ impl<'r> Place<'r> {
         ensures { (d : Entry)
             → result.now ≡ (slice_index_or (node_of_view (view_of self.now)).entries (number_of self.now) d).item.key }
     {
-        let from = self.at + ENTRY_HEADER;
+        let from = self.at + index_record::KEY;
         &self.view.node[from..from + key_len(self.view.node, self.at) as usize]
     }
 

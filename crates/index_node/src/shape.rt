@@ -5,12 +5,9 @@ ghost use Rattle.index_node.specs.Shape.{IsHeaderAt, Stands};
 ghost use Rattle.index_node.specs.View.{Refuses};
 
 use crate::NodeNo;
-use ntfs_def::NodeForm;
 use ntfs_def::lengths::INDEX_RECORD;
+use ntfs_def::{NodeForm, index_record, index_root, protected_block};
 use vol_bytes::{u16_at, u32_at};
-
-/// The bytes of an entry before its key.
-pub const ENTRY_HEADER: usize = 16;
 
 // The numbers of an entry's header: its bytes, those of its key, and its flags.
 #[derive(Clone, Copy, Debug)]
@@ -36,9 +33,9 @@ pub fn node_header(node: &[u8]) -> usize
     ensures high { result ≤ 24 }
 {
     if node.len() == INDEX_RECORD {
-        0x18
+        index_record::HEADER
     } else {
-        0x10
+        index_root::HEADER
     }
 }
 
@@ -47,30 +44,30 @@ pub fn header_failing(node: &[u8]) -> Option<usize>
     ensures { result ≡ node_header_failing node.now }
 {
     let header = node_header(node);
-    if header + 16 > node.len() {
+    if header + index_record::HEADER_LEN > node.len() {
         return Some(0x00);
     }
     let first = u32_at(node, header) as usize;
     if node.len() == INDEX_RECORD {
-        if !node.starts_with(b"INDX") {
+        if !node.starts_with(index_record::MARK) {
             return Some(0x00);
         }
-        let array = u16_at(node, 0x04) as usize;
-        let array_end = array + 2 * u16_at(node, 0x06) as usize;
+        let array = u16_at(node, protected_block::ARRAY_PLACE) as usize;
+        let array_end = array + 2 * u16_at(node, protected_block::ARRAY_COUNT) as usize;
         if array < 0x28 || array_end > header + first {
-            return Some(0x04);
+            return Some(protected_block::ARRAY_PLACE);
         }
     }
     if first < 16 {
         return Some(header);
     }
-    let end = u32_at(node, header + 0x04);
-    let room = u32_at(node, header + 0x08);
+    let end = u32_at(node, header + index_record::ENTRIES_END);
+    let room = u32_at(node, header + index_record::ROOM_END);
     if end > room {
-        return Some(header + 0x04);
+        return Some(header + index_record::ENTRIES_END);
     }
     if header + room as usize > node.len() {
-        return Some(header + 0x08);
+        return Some(header + index_record::ROOM_END);
     }
     None
 }
@@ -93,7 +90,7 @@ pub fn entries_end(node: &[u8]) -> usize
     ensures short { result < 2 ^ 33 }
 {
     let header = node_header(node);
-    header + u32_at(node, header + 0x04) as usize
+    header + u32_at(node, header + index_record::ENTRIES_END) as usize
 }
 
 /// Where the room for entries ends.
@@ -104,7 +101,7 @@ pub fn room_end(node: &[u8]) -> usize
     ensures short { result < 2 ^ 33 }
 {
     let header = node_header(node);
-    header + u32_at(node, header + 0x08) as usize
+    header + u32_at(node, header + index_record::ROOM_END) as usize
 }
 
 /// Whether the entries lead to children.
@@ -112,7 +109,7 @@ pub fn has_children(node: &[u8]) -> bool
     requires { node_header_failing node.now ≡ None }
     ensures { result ≡ has_children node.now }
 {
-    node[node_header(node) + 0x0C] % 2 == 1
+    node[node_header(node) + index_record::NODE_FLAGS] % 2 == 1
 }
 
 /// The bytes of an entry.
@@ -120,7 +117,7 @@ pub fn entry_len(node: &[u8], at: usize) -> u16
     requires { at + 16 ≤ length node.now }
     ensures { result ≡ entry_len node.now at }
 {
-    u16_at(node, at + 0x08)
+    u16_at(node, at + index_record::ENTRY_LEN)
 }
 
 /// The bytes of an entry's key.
@@ -128,7 +125,7 @@ pub fn key_len(node: &[u8], at: usize) -> u16
     requires { at + 16 ≤ length node.now }
     ensures { result ≡ key_len node.now at }
 {
-    u16_at(node, at + 0x0A)
+    u16_at(node, at + index_record::KEY_LEN)
 }
 
 // The flags of an entry: 1 it leads to a child, 2 it is the last one.
@@ -136,7 +133,7 @@ fn entry_flags(node: &[u8], at: usize) -> u16
     requires { at + 16 ≤ length node.now }
     ensures { result ≡ entry_flags node.now at }
 {
-    u16_at(node, at + 0x0C)
+    u16_at(node, at + index_record::ENTRY_FLAGS)
 }
 
 /// How many entries with a key stand from a place on, before the last one.
@@ -185,7 +182,7 @@ fn whole_header(node: &[u8], children: bool, end: usize, at: usize) -> Option<En
     ensures whole { is_some result ≡ is_whole node.now children end at }
     ensures fields { IfSome result (IsHeaderAt node.now at) }
 {
-    if at + ENTRY_HEADER > end {
+    if at + index_record::KEY > end {
         return None;
     }
     let len = entry_len(node, at) as usize;
@@ -193,7 +190,7 @@ fn whole_header(node: &[u8], children: bool, end: usize, at: usize) -> Option<En
     let flags = entry_flags(node, at);
     let child = if children { 1 } else { 0 };
     let whole = len % 8 == 0
-        && ENTRY_HEADER + key + child_len(children) <= len
+        && index_record::KEY + key + child_len(children) <= len
         && at + len <= end
         && flags % 2 == child;
     if whole {
@@ -212,10 +209,10 @@ fn holds_data(form: NodeForm, node: &[u8], children: bool, at: usize) -> bool
         NodeForm::Names => true,
         NodeForm::View => {
             let from = u16_at(node, at) as usize;
-            let data = u16_at(node, at + 0x02) as usize;
+            let data = u16_at(node, at + index_record::DATA_LEN) as usize;
             let len = entry_len(node, at) as usize;
             let key = key_len(node, at) as usize;
-            data == 0 || ENTRY_HEADER + key <= from && from + data + child_len(children) <= len
+            data == 0 || index_record::KEY + key <= from && from + data + child_len(children) <= len
         }
     }
 }

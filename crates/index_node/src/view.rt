@@ -1,6 +1,7 @@
 //! The view: how many entries the node has, and each of them.
 ghost use Rattle.std.specs.Prelude.{◌≡◌, ◌<◌, ◌≤◌, IfOk, IfErr, IsTrue, length, slice_index_or};
 ghost use Rattle.ntfs_def.specs.Node.{Entry, Whole, are_short, child_from, has_children, is_one_entry, item_in, scan_node};
+ghost use Rattle.index_node.specs.Lent.{child_said};
 ghost use Rattle.index_node.specs.View.{Refuses, bytes_of, form_of_view, node_of_view, number_of, view_of};
 
 use crate::shape::{
@@ -104,6 +105,7 @@ impl<'r> NodeView<'r> {
     pub fn entry(&self, i: usize) -> &'r [u8]
         requires { i < length (node_of_view self.now).entries }
         ensures item { (d : Entry) → item_in result.now ≡ (slice_index_or (node_of_view self.now).entries i d).item }
+        ensures child { (d : Entry) → child_said result.now ≡ (slice_index_or (node_of_view self.now).entries i d).child }
         ensures own { IsTrue (is_one_entry (form_of_view self.now) (has_children (bytes_of self.now)) result.now) }
     {
         self.place(i).entry()

@@ -6,7 +6,7 @@ ghost use Rattle.index_node.specs.LayOut.{AreEntries, AreShort, HoldsPieces, Kee
 
 use crate::NodeNo;
 use crate::shape::{first_entry, node_header, room_end};
-use ntfs_def::NodeForm;
+use ntfs_def::{NodeForm, index_record};
 use vol_bytes::{Octets, put_u32};
 
 // The bytes that entries take; the last value of a machine's number where they are more.
@@ -28,9 +28,13 @@ fn put_header(node: &mut [u8], children: bool, end: usize)
     ensures { SetsHeader node.old node.new children end }
 {
     let header = node_header(node);
-    put_u32(node, header + 0x04, (end - header) as u32);
-    let flags = node[header + 0x0C] / 2 * 2;
-    node[header + 0x0C] = if children { flags + 1 } else { flags };
+    put_u32(
+        node,
+        header + index_record::ENTRIES_END,
+        (end - header) as u32,
+    );
+    let flags = node[header + index_record::NODE_FLAGS] / 2 * 2;
+    node[header + index_record::NODE_FLAGS] = if children { flags + 1 } else { flags };
 }
 
 // Writes the bytes of an entry.

@@ -19,6 +19,7 @@ use attr_view::AttrView;
 use data_runs::Spot;
 use file_record::{FileNo, FileParts};
 use mft_table::Mft;
+use ntfs_def::index_record;
 use ntfs_def::lengths::INDEX_RECORD;
 use ntfs_fixup::unseal;
 use std::alloc::{AllocError, Global};
@@ -135,7 +136,7 @@ fn has_bit<D: Disk>(
 fn opens_as(block: &mut [u8; 4096], vcn: u64) -> bool
     ensures { TellsOpened block.old vcn result block.new }
 {
-    unseal(block).is_ok() && u64_at(block, 0x10) == vcn
+    unseal(block).is_ok() && u64_at(block, index_record::OWN_VCN) == vcn
 }
 
 // Reads the block at byte `at` of the records of an index, and opens it as the record of a number.

@@ -79,6 +79,13 @@ impl<C: Collation> Index<C> {
         Index { order, form, limit }
     }
 
+    /// Lends the order of its keys.
+    pub fn order(&self) -> &C
+        ensures { result.now ≡ order_of self.now }
+    {
+        &self.order
+    }
+
     /// The entry with this key, in the index under a root: the value of its `$INDEX_ROOT`. Of several entries whose keys
     /// compare as equal to it, it is the first. `None` exactly where no entry has such a key.
     ///

@@ -6,8 +6,6 @@ ghost use Rattle.std.specs.Prelude.{◌≡◌};
 mod descent;
 mod laws;
 mod seek;
-#[cfg(test)]
-mod tests;
 mod walk;
 
 use index_node::BlockNo;

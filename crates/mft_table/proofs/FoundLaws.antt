@@ -8,7 +8,7 @@ use Rattle.ntfs_boot.specs.Geometry.{geometry_of}
 use Rattle.volume_def.specs.Table.{MeetsTable}
 use Rattle.mft_table.specs.declared.error.TableNo.{TableNo}
 use Rattle.mft_table.specs.declared.error.TableNo.TheVariants as no
-use Rattle.mft_table.specs.declared.table.Table.{Table}
+use Rattle.mft_table.specs.declared.find.table.Table.{Table}
 use Rattle.mft_table.specs.TableNos.{IsFoundIn, Refuses, RefusesAt}
 use Rattle.mft_table.specs.Tables.{table_layout}
 use Rattle.mft_table.proofs.BootSectors.{sectors_told}

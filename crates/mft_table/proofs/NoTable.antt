@@ -4,7 +4,7 @@ use Rattle.std.specs.Prelude.{IfNone, IfOk}
 use Rattle.ntfs_def.specs.Fixup.{opened_of}
 use Rattle.ntfs_boot.specs.declared.Geometry.{Geometry}
 use Rattle.volume_def.specs.Table.{TableLayout}
-use Rattle.mft_table.specs.declared.table.Table.{Table}
+use Rattle.mft_table.specs.declared.find.table.Table.{Table}
 use Rattle.mft_table.specs.Tables.{BlockTells, RecordTells}
 
 pub none-stored : {E : Type 0} (found : Result (Option Table) E) (geometry : Geometry) (stored opened : List ℕ)

@@ -7,7 +7,7 @@ use Rattle.ntfs_boot.specs.Geometry.{geometry_of, number_of}
 use Rattle.volume_def.specs.Table.{HasNoTable, MeetsTable}
 use Rattle.mft_table.specs.declared.error.TableNo.{TableNo}
 use Rattle.mft_table.specs.declared.error.TableNo.TheVariants as no
-use Rattle.mft_table.specs.declared.table.Table.{Table}
+use Rattle.mft_table.specs.declared.find.table.Table.{Table}
 use Rattle.mft_table.specs.Tables.{table_layout}
 
 -- The image has this table: the boot clause and the table clause hold, and tell it.

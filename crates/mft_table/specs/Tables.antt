@@ -5,7 +5,7 @@ use Rattle.ntfs_def.specs.Fixup.{opened_of}
 use Rattle.volume_def.specs.Table.{IsRecord, TellsTable, TableLayout}
 use Rattle.ntfs_boot.specs.declared.Geometry.{Geometry}
 use Rattle.mft_table.specs.declared.blocks.BlockReader.{BlockReader}
-use Rattle.mft_table.specs.declared.table.Table.{Table}
+use Rattle.mft_table.specs.declared.find.table.Table.{Table}
 
 -- the layout of these runs on a volume of this geometry
 abbrev pub layout_on : Geometry → List Run → ℕ → ℕ → TableLayout

@@ -3,20 +3,14 @@
 
 mod blocks;
 mod error;
+mod find;
 mod mft;
 mod mount;
 mod mounted;
-mod open;
-mod stream;
-mod table;
-mod table_data;
-mod volume;
 
 pub use blocks::{BlockReader, read_two_sectors};
 pub use error::{MftNo, TableNo};
+pub use find::{Table, find_table, open_record, read_boot_sector};
 pub use mft::Mft;
 pub use mount::MountNo;
 pub use mounted::Mounted;
-pub use open::open_record;
-pub use table::Table;
-pub use volume::{find_table, read_boot_sector};

@@ -1,0 +1,9 @@
+//! Tests of the nodes of indexes and of their trees, by the public calls of `index_node` and `index_tree`.
+#![tactic(auto)]
+
+#[cfg(test)]
+mod nodes;
+#[cfg(test)]
+mod root_directory;
+#[cfg(test)]
+mod trees;

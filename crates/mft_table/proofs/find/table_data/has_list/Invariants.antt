@@ -1,0 +1,11 @@
+use Rattle.std.proofs.Common.{◌≢◌}
+use Rattle.std.specs.Prelude.{◌↔◌, All}
+use Rattle.ntfs_def.specs.declared.kinds.TheConstants.{ATTRIBUTE_LIST}
+use Rattle.attr_view.specs.Left.{attributes_left}
+use Rattle.attr_view.specs.View.{attributes_of}
+use Rattle.mft_table.proofs.find.table_data.has_list.Given as goal
+
+abbrev pub invariant-loop-attribute : goal.invariant-loop-attribute
+invariant-loop-attribute l =
+    All (λ attribute. attribute.kind ≢ ATTRIBUTE_LIST) (attributes_of l.view)
+    ↔ All (λ attribute. attribute.kind ≢ ATTRIBUTE_LIST) (attributes_left l.attribute-iterator)
