@@ -10,14 +10,6 @@ abbrev pub rank : {A : Type 0} → (A → A → Bool) → A → List A → ℕ
 rank above x [] = 0
 rank above x (y ∷ ys) = if above x y then suc (rank above x ys) else 0
 
-pub rank-within : {A : Type 0} (above : A → A → Bool) (x : A) (ys : List A) → rank above x ys ≤ length ys
-rank-within above x [] = omega arith
-rank-within above x (y ∷ ys) = by (rank-within above x ys) (above x y) refl
-  where
-    by : rank above x ys ≤ length ys → (s : Bool) → above x y ≡ s → rank above x (y ∷ ys) ≤ length (y ∷ ys)
-    by ih true s = rw s (omega (arith, ih))
-    by ih false s = rw s (omega arith)
-
 pub put-at : {A : Type 0} (above : A → A → Bool) (x : A) (ys : List A) → insert ys (rank above x ys) x ≡ put_in_order above x ys
 put-at above x [] = refl
 put-at above x (y ∷ ys) = by (put-at above x ys) (above x y) refl
