@@ -2,6 +2,7 @@ pub mod Tables
 pub mod StageCauses
 pub mod TableNos
 pub mod Mounted
+pub mod MirrorClusters
 pub mod Mft
 pub mod MftNos
 pub mod Streams

@@ -19,7 +19,7 @@ use Rattle.list_laws.proofs.MemberLaws.{Contains-flat_map, Contains-from_filter,
 use Rattle.volume_def.proofs.PartLaws.{HoldsPart-Contains}
 use Rattle.volume_def.proofs.ValueLaws.{spot_at-owned}
 use Rattle.mft_table.specs.declared.mounted.Mounted.{Mounted}
-use Rattle.mount_check.specs.MirrorClusters.{IsMirrorInside}
+use Rattle.mft_table.specs.MirrorClusters.{IsMirrorInside}
 use Rattle.mount_check.proofs.PlaceLaws.{copied-bytes}
 
 -- a cluster that a part in use covers is owned

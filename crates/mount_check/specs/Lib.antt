@@ -3,4 +3,3 @@ pub mod Views
 pub mod Limits
 pub mod Refusals
 pub mod Copies
-pub mod MirrorClusters

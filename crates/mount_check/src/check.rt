@@ -6,7 +6,7 @@ ghost use Rattle.volume_def.specs.VersionClause.{IsClean};
 ghost use Rattle.mft_table.specs.HeldTables.{HoldsTables, volume_in};
 ghost use Rattle.mft_table.specs.MountNos.{CountsMount};
 ghost use Rattle.mft_table.specs.Mounted.{StandsOn};
-ghost use Rattle.mount_check.specs.MirrorClusters.{IsMirrorInside};
+ghost use Rattle.mft_table.specs.MirrorClusters.{IsMirrorInside};
 ghost use Rattle.mount_check.specs.Refusals.{IsMountNo};
 
 use crate::finish::finish_mount;

@@ -8,7 +8,7 @@ ghost use Rattle.mft_table.specs.HeldTables.{HoldsTables, volume_in};
 ghost use Rattle.mft_table.specs.Mft.{MftReads, faults_of, mounted_of, view};
 ghost use Rattle.mft_table.specs.MountNos.{CountsMount};
 ghost use Rattle.mft_table.specs.Mounted.{StandsOn};
-ghost use Rattle.mount_check.specs.MirrorClusters.{IsMirrorInside};
+ghost use Rattle.mft_table.specs.MirrorClusters.{IsMirrorInside};
 ghost use Rattle.mount_check.specs.Refusals.{IsMountNo, IsRefusalIf};
 ghost use Rattle.mount_check.specs.Views.{HasComeTo};
 

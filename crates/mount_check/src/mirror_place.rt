@@ -12,7 +12,7 @@ ghost use Rattle.mft_table.specs.MountNos.{CountsMount};
 ghost use Rattle.record_notes.specs.Streams.{NotesStream, places_in, spot_noted};
 ghost use Rattle.check_records.specs.Refusals.{IsFault};
 ghost use Rattle.mount_check.specs.Copies.{data_held};
-ghost use Rattle.mount_check.specs.MirrorClusters.{IsMirrorInside};
+ghost use Rattle.mft_table.specs.MirrorClusters.{IsMirrorInside};
 ghost use Rattle.mount_check.specs.Views.{HasComeTo};
 
 use check_records::mount_no_of;

@@ -3,6 +3,7 @@ ghost use Rattle.std.specs.Prelude.{◌≡◌, ℕ, List, Some};
 ghost use Rattle.vol_disk.specs.Contents.{WhereTold};
 ghost use Rattle.volume_def.specs.VersionClause.{IsClean};
 ghost use Rattle.mft_table.specs.HeldTables.{HoldsTables, volume_in};
+ghost use Rattle.mft_table.specs.MirrorClusters.{IsMirrorInside};
 ghost use Rattle.mft_table.specs.Mounted.{StandsOn};
 ghost use Rattle.script_run.specs.Ran.{BlamesEnd, Ran};
 ghost use Rattle.script_run.specs.World.{world};
@@ -29,6 +30,7 @@ fn run_mounted<D: Disk, S: Source, K: Sink>(
     out: &mut K,
 ) -> ScriptEnd
     requires stands { StandsOn (D.size disk.old) mounted }
+    requires mirror { IsMirrorInside mounted }
     requires accepted { WhereTold (D.now disk.old) (λ image. HoldsTables 15 image mounted × IsClean (volume_in image mounted)) }
     ensures causes { BlamesEnd result (world D.Disk S.Source K.Sink disk.old script.old out.old)
         (world D.Disk S.Source K.Sink disk.new script.new out.new) }

@@ -7,6 +7,7 @@ use Rattle.volume_def.specs.View.{VolumeView, view_of}
 use Rattle.file_record.proofs.ReadLaws.{view-kept}
 use Rattle.mft_table.specs.declared.mft.Mft.{Mft}
 use Rattle.mft_table.specs.declared.mounted.Mounted.{Mounted}
+use Rattle.mft_table.specs.MirrorClusters.{IsMirrorInside}
 use Rattle.mft_table.specs.HeldTables.{HoldsTables, volume_in}
 use Rattle.mft_table.specs.Mft.{MftReads, mounted_of, stage_of, view}
 use Rattle.mft_table.specs.Mounted.{mounted_layout}
@@ -101,12 +102,14 @@ module _ {D : Type 0} (g : Ghosts D) (mft : Mft D g) (mounted : Mounted) (kept :
 
 pub new-serves : {D : Type 0} (g : Ghosts D) (volume : Volume D g) (stage : Stage D g) (mounted : Mounted) (disk : D)
     → stage_of g volume.mft ≡ stage → mounted_of g volume.mft ≡ mounted → disk_of g stage ≡ disk → image g stage ≡ g.now disk
-    → is_broken g stage ≡ false → WhereTold (g.now disk) (λ all. HoldsTables 15 all mounted) → volume.last ≡ None → Serves g volume
-new-serves g volume stage mounted disk same kept under shown whole holds none =
+    → is_broken g stage ≡ false → WhereTold (g.now disk) (λ all. HoldsTables 15 all mounted) → volume.last ≡ None
+    → IsMirrorInside mounted → Serves g volume
+new-serves g volume stage mounted disk same kept under shown whole holds none inside =
     let seen : image g (stage_of g volume.mft) ≡ g.now disk = ap (image g) same ∙ shown in
     record {
       in_use = in_use-new g volume.mft mounted kept (g.now disk) seen holds;
       last = λ told. subst (λ o. IfSome o (IsStanding (view g volume.mft))) (sym none) tt;
+      mirror = subst IsMirrorInside (sym kept) inside;
       tells = seen ∙ sym (ap (λ s. g.now (disk_of g s)) same ∙ ap g.now under);
       whole = ap (is_broken g) same ∙ whole;
     }

@@ -4,6 +4,7 @@ ghost use Rattle.vol_disk.specs.Contents.{WhereTold, settled_more};
 ghost use Rattle.vol_disk.specs.Count.{CountsFault, Rose};
 ghost use Rattle.volume_def.specs.VersionClause.{IsClean};
 ghost use Rattle.mft_table.specs.HeldTables.{HoldsTables, volume_in};
+ghost use Rattle.mft_table.specs.MirrorClusters.{IsMirrorInside};
 ghost use Rattle.mft_table.specs.Mounted.{StandsOn};
 ghost use Rattle.mft_table.specs.Mft.{is_mft_broken};
 ghost use Rattle.mft_table.specs.InUse.{IsInUse};
@@ -37,6 +38,7 @@ impl<'d, D: Disk> Volume<'d, D> {
     /// Takes a volume into use, with the tables that `mount` gave. Nothing is read.
     pub fn new(alloc: Global, disk: &'d mut D, mounted: Mounted) -> Volume<'d, D>
         requires stands { StandsOn (D.size disk.old) mounted }
+        requires mirror { IsMirrorInside mounted }
         requires accepted { WhereTold (D.now disk.old) (λ image. HoldsTables 15 image mounted) }
         ensures same_reference { reference_under D.Disk result ≡ disk.entry.ghost_name }
         ensures disk { disk_under D.Disk result ≡ disk.old }

@@ -2,7 +2,7 @@ use Rattle.std.proofs.Common.{sym, subst, ◌∙◌}
 use Rattle.std.proofs.lemmas.Result.{err_from_is_err_and}
 use Rattle.mft_table.specs.Mft.{faults_of, view}
 use Rattle.mft_table.specs.MountNos.{CountsMount}
-use Rattle.mount_check.specs.MirrorClusters.{IsMirrorInside}
+use Rattle.mft_table.specs.MirrorClusters.{IsMirrorInside}
 use Rattle.mount_check.proofs.OrderLaws.{decided-place, decided-version, holds-none}
 use Rattle.mount_check.proofs.RefusalLaws.{IsRefusalIf-device, IsRefusalIf-fault, IsRefusalIf-weaker}
 use Rattle.mount_check.proofs.finish.decide_places.Goals as goal

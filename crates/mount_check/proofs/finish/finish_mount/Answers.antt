@@ -7,7 +7,7 @@ use Rattle.volume_def.specs.VersionClause.{IsClean}
 use Rattle.mft_table.specs.declared.mounted.Mounted.{Mounted}
 use Rattle.mft_table.specs.HeldTables.{HoldsTables, volume_in}
 use Rattle.mft_table.specs.Mft.{stage_of, view}
-use Rattle.mount_check.specs.MirrorClusters.{IsMirrorInside}
+use Rattle.mft_table.specs.MirrorClusters.{IsMirrorInside}
 use Rattle.mount_check.proofs.FinishLaws.{disk-reads, refusal-finished, tables-finished}
 use Rattle.mount_check.proofs.finish.finish_mount.Goals as goal
 
