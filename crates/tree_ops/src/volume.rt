@@ -32,7 +32,7 @@ pub struct Volume<'d, D: Disk> {
 }
 
 impl<'d, D: Disk> Volume<'d, D> {
-    ghost use Rattle.tree_ops.specs.Volumes.{disk_under, reference_under, view_under, VolumeReads};
+    ghost use Rattle.tree_ops.specs.Volumes.{disk_under, reference_under, view_under};
     ghost use Rattle.tree_ops.specs.Serves.{Serves};
 
     /// Takes a volume into use, with the tables that `mount` gave. Nothing is read.
@@ -69,6 +69,8 @@ impl<'d, D: Disk> Volume<'d, D> {
 }
 
 impl<D: Disk> Volume<'_, D> {
+    ghost use Rattle.tree_ops.specs.Volumes.{VolumeReads, disk_under, view_under};
+    ghost use Rattle.tree_ops.specs.Serves.{Serves};
     ghost use Rattle.tree_ops.specs.Wanted.{machine_on};
 
     /// Does a command of a session and gives its reply, `Device` where the disk failed. It does not settle the disk.
