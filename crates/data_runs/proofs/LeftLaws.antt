@@ -101,7 +101,7 @@ run_left-past_all (next ∷ runs) n h =
     run_left-past next runs n (omega arith) ∙ run_left-past_all runs (n - next.len) (omega arith)
 
 -- where the cluster itself lies
-unmoved : (lcn : Option ℕ) → option_map (λ place. place + 0) lcn ≡ lcn
+pub unmoved : (lcn : Option ℕ) → option_map (λ place. place + 0) lcn ≡ lcn
 unmoved None = refl
 unmoved (Some place) = ap Some (omega arith)
 

@@ -6,6 +6,7 @@ use Rattle.ntfs_def.specs.declared.run_text.Run.{Run}
 use Rattle.ntfs_def.specs.Runs.{clusters_of, run_clusters, EndsInReach, IsRunListFrom, place_after}
 use Rattle.data_runs.specs.Written.{IsRunText, IsWritten, IsWrittenFrom}
 use Rattle.data_runs.proofs.PieceLaws.{clusters_of-push, length-run_clusters, take-append, run_clusters-part}
+use Rattle.data_runs.proofs.LeftLaws.{unmoved}
 
 pub take-none : (n : ℕ) → take {A = Option ℕ} n [] ≡ []
 take-none zero = refl
@@ -34,10 +35,6 @@ cut-next runs at inside vcn d lt past cut =
     ∙ ap (λ front. front ++ take (inside - run.len) (clusters_of (drop (at + 1) runs)))
     (sym (ap clusters_of (take_more runs at d lt) ∙ clusters_of-push (take at runs) run))
 
-lcn-same : (lcn : Option ℕ) → option_map (λ place. place + 0) lcn ≡ lcn
-lcn-same None = refl
-lcn-same (Some place) = let e : place + 0 ≡ place = omega arith in ap Some e
-
 -- a cut within a run
 pub cut-within : (runs : List Run) (at part vcn : ℕ) (d : Run) → at < length runs → part < (get_or runs at d).len
     → take vcn (clusters_of runs) ≡ clusters_of (take at runs) ++ take part (clusters_of (drop at runs))
@@ -45,7 +42,7 @@ pub cut-within : (runs : List Run) (at part vcn : ℕ) (d : Run) → at < length
 cut-within runs at part vcn d lt inside cut =
     let run = get_or runs at d in
     let one : Run = record { len = part; lcn = (get_or runs at d).lcn } in
-    let zero_more : option_map (λ place. place + 0) (get_or runs at d).lcn ≡ (get_or runs at d).lcn = lcn-same (get_or runs at d).lcn in
+    let zero_more : option_map (λ place. place + 0) (get_or runs at d).lcn ≡ (get_or runs at d).lcn = unmoved (get_or runs at d).lcn in
     let low : min 0 (get_or runs at d).len ≡ 0 = omega arith in
     let short : run_clusters one ≡ take part (run_clusters (get_or runs at d)) =
     run_clusters-part (get_or runs at d) one 0 part (omega (arith, inside)) (sym (ap (λ n. option_map (λ place. place + n) (get_or runs at d).lcn) low ∙ zero_more))
