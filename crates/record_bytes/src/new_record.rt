@@ -13,6 +13,7 @@ ghost use Rattle.record_bytes.specs.NewRecord.{AddsPart, IsNewRecord, blank_bloc
 
 use crate::attribute::{non_resident, push_wide, resident};
 use attr_view::RecordMut;
+use ntfs_def::record_header::NEXT_ID;
 use ntfs_def::{Run, Sizes};
 use std::alloc::{AllocError, Global};
 use vol_bytes::u16_at;
@@ -88,7 +89,7 @@ pub fn add_value(
     ensures adds { OnOk result (AddsPart block.old block.new kind (wide letters.now) (Value value.now)) }
     ensures kept { OnErr result (block.new ≡ block.old) }
 {
-    let id = u16_at(block, 0x28);
+    let id = u16_at(block, NEXT_ID);
     let name = wide(alloc, letters)?;
     let attr = resident(alloc, kind, &name, id, value)?;
     add(block, &attr);
@@ -117,7 +118,7 @@ pub fn add_stream(
     ensures adds { OnOk result (AddsPart block.old block.new kind (wide letters.now) (one_run sizes run)) }
     ensures kept { OnErr result (block.new ≡ block.old) }
 {
-    let id = u16_at(block, 0x28);
+    let id = u16_at(block, NEXT_ID);
     let name = wide(alloc, letters)?;
     let attr = non_resident(alloc, kind, &name, id, sizes, run)?;
     add(block, &attr);
