@@ -1,15 +1,14 @@
--- A volume behind calls that only read, and one that was just taken into use.
+-- What was answered is a step of the machine, and a volume that was just taken into use can do a command.
 use Rattle.std.proofs.Common.{◌≡◌, ◌⊎◌, ℕ, Bool, true, false, List, Option, Some, None, Result, Ok, Err, inl, inr, refl, sym, ap, subst, ◌∙◌, arith}
 use Rattle.std.specs.Prelude.{IfSome, is_some}
 use Rattle.vol_disk.specs.declared.Disk.{Ghosts}
 use Rattle.volume_def.specs.Sound.{HoldBelow, IsSound, Attributes, CaseTable, ClusterBits, Extents, Indexes, Limits, Links, Lists, Mirror, MirrorPlace, Owners, RecordBits, References, Shape, Version}
 use Rattle.volume_def.specs.View.{VolumeView, view_of}
-use Rattle.file_record.proofs.ReadLaws.{view-kept}
 use Rattle.mft_table.specs.declared.mft.Mft.{Mft}
 use Rattle.mft_table.specs.declared.mounted.Mounted.{Mounted}
 use Rattle.mft_table.specs.MirrorClusters.{IsMirrorInside}
 use Rattle.mft_table.specs.HeldTables.{HoldsTables, volume_in}
-use Rattle.mft_table.specs.Mft.{MftReads, mounted_of, stage_of, view}
+use Rattle.mft_table.specs.Mft.{mounted_of, stage_of, view}
 use Rattle.mft_table.specs.Mounted.{mounted_layout}
 use Rattle.vol_disk.specs.Contents.{WhereTold, sector_in}
 use Rattle.vol_stage.specs.declared.stage.Stage.{Stage}
@@ -27,26 +26,9 @@ use Rattle.tree_model.specs.declared.reply.Reply.TheVariants as reply
 use Rattle.tree_model.proofs.MachineLaws.{shown-step}
 use Rattle.tree_ops.specs.Serves.{Serves}
 use Rattle.tree_read.specs.Standings.{IsStanding}
-use Rattle.tree_ops.specs.Volumes.{VolumeReads}
 use Rattle.tree_ops.specs.Wanted.{machine_on, wanted}
 use Rattle.tree_ops.specs.declared.volume.Volume.{Volume}
 use Rattle.tree_ops.proofs.WantedLaws.{not-built}
-
-module _ {D : Type 0} (g : Ghosts D) (old new : Volume D g) (n : ℕ) (reads : MftReads g old.mft new.mft n) where
-  pub volume-reads : VolumeReads g old new
-  volume-reads =
-      let goes = reads.stage.goes_on in
-      let only = reads.stage.only_reads in
-      record {
-        same_reference = goes.same_reference;
-        now = only.now;
-        fenced = only.fenced;
-        size = goes.size;
-        written = only.written;
-        late = only.late;
-        faults = goes.faults;
-        view = view-kept g old.mft new.mft n reads;
-      }
 
 -- What was answered is a step of the machine.
 module _ (facts : Facts) (moment session : ℕ) (command : Command) (view : VolumeView) where

@@ -1,7 +1,6 @@
 -- What a session's command asks for, of a machine without opens that stands on a volume's reading.
 use Rattle.std.specs.Prelude.{ℕ, [], Option, Some, None, Result, Err}
 use Rattle.volume_def.specs.View.{VolumeView}
-use Rattle.tree_model.specs.Shown.{point_shown, stream_of}
 use Rattle.tree_model.specs.Reading.{read}
 use Rattle.tree_model.specs.Refusals.{Facts}
 use Rattle.tree_model.specs.Step.{due}
