@@ -5,6 +5,8 @@
 #[cfg(test)]
 mod cluster_owners;
 #[cfg(test)]
+mod error_texts;
+#[cfg(test)]
 mod extents;
 #[cfg(test)]
 mod file_parts;

@@ -5,6 +5,7 @@ ghost use Rattle.volume_format.specs.NewBoot.{HasGeometry, HasNumbers, IsSameEls
 ghost use Rattle.volume_format.specs.Options.{AreInRange, plan_of};
 
 use crate::{FormatOptions, Places};
+use ntfs_def::boot_sector::{CLUSTER_SECTORS, MFT, MIRROR, SECTORS, SERIAL};
 use vol_bytes::put_u64;
 
 // A boot sector without the numbers of its volume.
@@ -49,11 +50,11 @@ fn put_numbers(boot: &mut [u8; 512], per: u8, sectors: u64, mft: u64, mirror: u6
     ensures numbers { HasNumbers boot.new per sectors mft mirror serial }
     ensures elsewhere { IsSameElsewhere boot.old boot.new }
 {
-    boot[0x0D] = per;
-    put_u64(boot, 0x28, sectors);
-    put_u64(boot, 0x30, mft);
-    put_u64(boot, 0x38, mirror);
-    put_u64(boot, 0x48, serial);
+    boot[CLUSTER_SECTORS] = per;
+    put_u64(boot, SECTORS, sectors);
+    put_u64(boot, MFT, mft);
+    put_u64(boot, MIRROR, mirror);
+    put_u64(boot, SERIAL, serial);
 }
 
 /// The boot sector of the volume that options choose. It meets the boot clause on each disk on which

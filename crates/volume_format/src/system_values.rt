@@ -4,6 +4,7 @@ ghost use Rattle.record_bytes.specs.Entries.{last_entry, view_entry};
 ghost use Rattle.volume_format.specs.Plan.{descriptor_header, extend_entries, name_value, root_value, standard_value};
 
 use crate::Places;
+use ntfs_def::standard_information;
 use record_bytes::{LAST_ENTRY, index_root, push_name_entry, push_view_entry, push_wide};
 use std::alloc::{AllocError, Global};
 
@@ -17,8 +18,8 @@ pub fn standard_value() -> [u8; 72]
     ensures { result ≡ standard_value }
 {
     let mut value = [0; 72];
-    value[0x20] = 6;
-    value[0x35] = 1;
+    value[standard_information::FLAGS] = 6;
+    value[standard_information::SECURITY + 1] = 1;
     value
 }
 

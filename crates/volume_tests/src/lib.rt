@@ -7,8 +7,6 @@ mod by_number;
 #[cfg(test)]
 mod commands;
 #[cfg(test)]
-mod error_texts;
-#[cfg(test)]
 mod indexes;
 #[cfg(test)]
 mod machine;
