@@ -8,14 +8,16 @@ ghost use Rattle.attr_view.specs.View.{attribute_of, attributes_of, viewed_block
 ghost use Rattle.file_clauses.specs.Attributes.{AreRight, IsRightAlone, IsRightNext, times_id_among};
 
 use attr_view::{AttrView, Attributes, RecordView};
+use ntfs_def::file_name::{UNITS, UNITS_LEN};
 use ntfs_def::kinds::{FILE_NAME, INDEX_ROOT, STANDARD_INFORMATION, VOLUME_INFORMATION};
 use ntfs_def::records::SYSTEM_END;
+use ntfs_def::standard_information::{LEN, SHORT_LEN};
 
 // Whether bytes are the value of a `$FILE_NAME` that holds its units.
 fn is_name_key(key: &[u8]) -> bool
     ensures { result ≡ is_name_key key.now }
 {
-    key.len() >= 0x42 && key[0x40] >= 1 && 0x42 + 2 * key[0x40] as usize <= key.len()
+    key.len() >= UNITS && key[UNITS_LEN] >= 1 && UNITS + 2 * key[UNITS_LEN] as usize <= key.len()
 }
 
 // Whether a `$STANDARD_INFORMATION` is right: its value is that of an old version or of a new one.
@@ -25,7 +27,7 @@ fn is_standard(attribute: &AttrView<'_>) -> bool
     let Some(value) = attribute.value() else {
         return false;
     };
-    attribute.name().is_empty() && matches!(value.len(), 48 | 72)
+    attribute.name().is_empty() && matches!(value.len(), SHORT_LEN | LEN)
 }
 
 // Whether an attribute is right by itself, in a base record or not.

@@ -11,6 +11,7 @@ ghost use Rattle.file_clauses.specs.Lists.{NamesEach, entry_order, wanted_of};
 use attr_list::{EntryView, ListView};
 use attr_view::{AttrView, RecordView};
 use ntfs_def::kinds::ATTRIBUTE_LIST;
+use ntfs_def::reference::{NUMBERS, number_in, reference_to, sequence_in};
 use std::alloc::{AllocError, Global};
 use std::cmp::Ordering;
 
@@ -18,9 +19,9 @@ use std::cmp::Ordering;
 fn compare(a: &EntryView<'_>, b: &EntryView<'_>) -> Ordering
     ensures { result ≡ entry_order (entry_shown a.now) (entry_shown b.now) }
 {
-    (a.holder % (1 << 48))
-        .cmp(&(b.holder % (1 << 48)))
-        .then((a.holder >> 48).cmp(&(b.holder >> 48)))
+    number_in(a.holder)
+        .cmp(&number_in(b.holder))
+        .then(sequence_in(a.holder).cmp(&sequence_in(b.holder)))
         .then(a.id.cmp(&b.id))
         .then(a.kind.cmp(&b.kind))
         .then(a.first.cmp(&b.first))
@@ -105,7 +106,7 @@ fn wanted_entry<'b>(n: u64, sequence: u16, attribute: &AttrView<'b>) -> EntryVie
         kind: attribute.kind(),
         name: attribute.name(),
         first,
-        holder: u64::from(sequence) * (1 << 48) + n % (1 << 48),
+        holder: reference_to(n % NUMBERS, sequence),
         id: attribute.id(),
     }
 }

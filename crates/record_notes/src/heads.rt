@@ -9,6 +9,8 @@ ghost use Rattle.record_notes.specs.Unlisted.{is_unlisted};
 
 use crate::spread::has_list;
 use attr_view::RecordView;
+use ntfs_def::is_directory;
+use ntfs_def::reference::{number_in, sequence_in};
 use std::alloc::{AllocError, Global};
 
 /// What is noted of the header of a record in use.
@@ -40,7 +42,7 @@ fn head_of(view: &RecordView<'_>) -> Head
         base: header.base,
         sequence: header.sequence,
         links: header.links,
-        directory: header.flags / 2 % 2 == 1,
+        directory: is_directory(header.flags),
         listed: has_list(view),
     }
 }
@@ -111,8 +113,8 @@ impl Heads {
         ensures { (records : Records) → EndsAtCount records → HeadsNote records records.count self.now
             → IsTrue result ↔ NamesBase records (reference_in reference) }
     {
-        match self.get(reference % (1 << 48)) {
-            Some(head) => head.base == 0 && u64::from(head.sequence) == reference >> 48,
+        match self.get(number_in(reference)) {
+            Some(head) => head.base == 0 && head.sequence == sequence_in(reference),
             None => false,
         }
     }
@@ -122,7 +124,7 @@ impl Heads {
         ensures { (records : Records) → EndsAtCount records → HeadsNote records records.count self.now
             → IsTrue result ↔ NamesDirectory records (reference_in reference) }
     {
-        match self.get(reference % (1 << 48)) {
+        match self.get(number_in(reference)) {
             Some(head) => head.directory && self.names_base(reference),
             None => false,
         }

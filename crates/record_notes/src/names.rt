@@ -9,7 +9,9 @@ ghost use Rattle.record_notes.specs.declared.names.Names.{Names};
 ghost use Rattle.record_notes.specs.Names.{NamesNote, held_name, told_name};
 
 use attr_view::{AttrView, RecordView};
+use ntfs_def::file_name::{NAMESPACE, PARENT, UNITS};
 use ntfs_def::kinds::FILE_NAME;
+use ntfs_def::reference::number_in;
 use std::alloc::{AllocError, Global};
 use vol_bytes::u64_at;
 
@@ -43,7 +45,7 @@ pub fn file_of(n: u64, view: &RecordView<'_>) -> u64
     ensures { result ≡ file_of n (record_of n (viewed_block view.now)) }
 {
     let base = view.header().base;
-    if base == 0 { n } else { base % (1 << 48) }
+    if base == 0 { n } else { number_in(base) }
 }
 
 // What an attribute tells of a name: nothing where it is no `$FILE_NAME`, and where it is too short to be one.
@@ -55,14 +57,14 @@ fn fact_in(holder: u64, file: u64, attribute: &AttrView<'_>) -> Option<NameFact>
         return None;
     }
     let value = attribute.value()?;
-    if value.len() < 0x42 {
+    if value.len() < UNITS {
         return None;
     }
     Some(NameFact {
         holder,
         file,
-        parent: u64_at(value, 0x00),
-        namespace: value[0x41],
+        parent: u64_at(value, PARENT),
+        namespace: value[NAMESPACE],
     })
 }
 

@@ -14,6 +14,7 @@ use crate::Heads;
 use crate::least::least_of;
 use attr_view::RecordView;
 use ntfs_def::kinds::ATTRIBUTE_LIST;
+use ntfs_def::reference::number_in;
 use std::alloc::{AllocError, Global};
 
 /// An extension record.
@@ -69,7 +70,7 @@ impl SpreadFiles {
         let base = view.header().base;
         if base != 0 {
             self.extensions.push(Extension {
-                file: base % (1 << 48),
+                file: number_in(base),
                 number: n,
             })?;
         } else if has_list(view) {

@@ -6,6 +6,7 @@ ghost use Rattle.volume_clauses.specs.declared.pairs.NameKey.{NameKey};
 ghost use Rattle.volume_clauses.specs.Pairs.{ArePaired, IsInRange, IsPairedName, key_of, order_of};
 ghost use Rattle.list_laws.specs.Beside.{IsBeside};
 
+use ntfs_def::reference::number_in;
 use record_notes::{DOS, NameFact, Names, WIN32};
 use std::alloc::{AllocError, Global};
 
@@ -26,7 +27,7 @@ fn key_of(name: NameFact) -> NameKey
 {
     NameKey {
         file: name.file,
-        directory: name.parent % (1 << 48),
+        directory: number_in(name.parent),
         namespace: name.namespace,
     }
 }

@@ -3,6 +3,7 @@ ghost use Rattle.std.specs.Prelude.{◌≡◌, ◌<◌, ◌+◌, ◌^◌, ◌∷
 ghost use Rattle.record_notes.specs.Names.{PlacedName, told_name};
 ghost use Rattle.volume_clauses.specs.Tallies.{IsTally, parent_within, places_in_file, tally_at};
 
+use ntfs_def::reference::number_in;
 use record_notes::{DOS, NameFact, Names};
 use std::alloc::{AllocError, Global};
 
@@ -36,7 +37,7 @@ fn with_name(tally: Tally, name: &NameFact) -> Tally
     Tally {
         names,
         not_dos: tally.not_dos + 1,
-        parent: tally.parent.or(Some(name.parent % (1 << 48))),
+        parent: tally.parent.or(Some(number_in(name.parent))),
     }
 }
 

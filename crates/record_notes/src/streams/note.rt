@@ -10,11 +10,9 @@ use crate::streams::{Placement, Spots, StreamNote, Streams};
 use attr_view::{AttrView, RecordView};
 use data_runs::read_runs;
 use ntfs_def::kinds::{BITMAP, DATA};
+use ntfs_def::lengths::CASE_TABLE;
 use ntfs_def::records::{CLUSTER_BITMAP, MFT, UPCASE};
 use std::alloc::{AllocError, Global};
-
-/// The bytes of a table of case.
-const CASE_TABLE: u64 = 131_072;
 
 impl StreamNote {
     /// No part is noted yet, of a stream of which the first `len` bytes are needed, in clusters of `cluster` bytes.
@@ -134,7 +132,7 @@ impl Streams {
     {
         let cluster_bits = StreamNote::new(alloc, clusters.div_ceil(8), cluster_bytes)?;
         let record_bits = StreamNote::new(alloc, count.div_ceil(8), cluster_bytes)?;
-        let case_table = StreamNote::new(alloc, CASE_TABLE, cluster_bytes)?;
+        let case_table = StreamNote::new(alloc, CASE_TABLE as u64, cluster_bytes)?;
         Ok(Streams {
             cluster_bits,
             record_bits,
