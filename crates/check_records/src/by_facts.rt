@@ -7,8 +7,8 @@ ghost use Rattle.record_notes.specs.Facts.{FactsNote};
 ghost use Rattle.check_records.specs.Refusals.{DecidesFirst};
 ghost use Rattle.check_records.specs.Views.{IsOfVolume};
 
-use std::alloc::{AllocError, Global};
 use record_notes::Facts;
+use std::alloc::{AllocError, Global};
 
 /// The least record that breaks the clause on attributes.
 pub fn first_wrong_attributes(facts: &Facts) -> Option<u64>

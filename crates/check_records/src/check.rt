@@ -25,11 +25,11 @@ use crate::start::{Scanned, scan_volume};
 use crate::wrong_files::{WrongFiles, first_wrong_files};
 use cluster_bitmap::Bits;
 use mft_table::{Mft, MountNo, Mounted};
+use record_notes::Facts;
 use std::alloc::Global;
 use upcase::UpCase;
 use vol_disk::Disk;
 use vol_stage::Stage;
-use record_notes::Facts;
 
 /// The tables that a volume stores.
 #[derive(Drop)]

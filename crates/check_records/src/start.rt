@@ -17,11 +17,11 @@ ghost use Rattle.check_records.specs.Views.{IsOfVolume, stage_view};
 use crate::scan::scan_records;
 use cluster_bitmap::Bits;
 use mft_table::{MountNo, Mounted, Table, find_table};
+use record_notes::Facts;
 use std::alloc::{AllocError, Global};
 use upcase::UpCase;
 use vol_disk::Disk;
 use vol_stage::Stage;
-use record_notes::Facts;
 
 /// A volume whose table of records was found and gone over once.
 #[derive(Drop)]

@@ -11,9 +11,9 @@ ghost use Rattle.index_store.specs.Index.{IsFound};
 ghost use Rattle.index_store.specs.IndexBlocks.{IsHeldFile};
 ghost use Rattle.dir_index.specs.Held.{fetched_of, file_no_of, nodes_found, root_found, side_of};
 
-use index_store::{FoundIndex, IndexBlocks};
 use collation::{Collation, FileNameOrder};
 use file_record::{FileNo, FileParts};
+use index_store::{FoundIndex, IndexBlocks};
 use index_tree::{Index, IndexNo};
 use mft_table::Mft;
 use ntfs_def::NodeForm;

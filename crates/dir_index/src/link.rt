@@ -71,5 +71,9 @@ pub fn link_of_entry(alloc: Global, entry: &[u8]) -> Result<Option<Link>, AllocE
     requires { IsOwnEntry Names entry.now }
     ensures { IfOk result (λ link. link ≡ link_in entry.now) }
 {
-    link_of_key(alloc, key_in(entry), reference_in(entry) % reference::NUMBERS)
+    link_of_key(
+        alloc,
+        key_in(entry),
+        reference_in(entry) % reference::NUMBERS,
+    )
 }

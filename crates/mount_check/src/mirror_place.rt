@@ -21,9 +21,9 @@ use mft_table::{Mft, MountNo};
 use ntfs_def::Spot;
 use ntfs_def::kinds::DATA;
 use ntfs_def::records::MFT_MIRROR;
+use record_notes::StreamNote;
 use std::alloc::{AllocError, Global};
 use vol_disk::{Disk, SECTOR};
-use record_notes::StreamNote;
 
 /// The sectors of the copies.
 const COPIES: u64 = 8;

@@ -28,7 +28,9 @@ pub enum Shown<'c> {
     Stat,
     Links,
     /// All bytes of a stream, of the unnamed one where none is named.
-    Cat { stream: &'c Option<Name> },
+    Cat {
+        stream: &'c Option<Name>,
+    },
     /// Those of a range.
     Read {
         stream: &'c Option<Name>,
