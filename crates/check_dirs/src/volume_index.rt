@@ -12,9 +12,9 @@ ghost use Rattle.check_dirs.specs.Records.{CountsNo, short_nodes};
 
 use crate::check::check_index;
 use crate::{CheckNo, IndexRecords};
-use index_store::{FoundIndex, IndexBlocks, read_index_record};
 use collation::Collation;
 use file_record::FileParts;
+use index_store::{FoundIndex, IndexBlocks, read_index_record};
 use mft_table::Mft;
 use ntfs_def::NodeForm;
 use std::alloc::Global;

@@ -19,19 +19,19 @@ ghost use Rattle.file_clauses.specs.Extents.{AreWholeParts, outline_of, outlined
 ghost use Rattle.file_clauses.specs.Lists.{NamesEach};
 ghost use Rattle.record_notes.specs.Spread.{AreExtensionsOf, parts_from};
 ghost use Rattle.check_records.specs.Listed.{IsBaseHeld, IsHeldIn, IsListedFile, IsPlacedList, NamesParts, all_parts};
-ghost use Rattle.check_records.specs.Refusals.{IsFault};
+ghost use Rattle.clause_order.specs.Refusals.{IsFault};
 
 use crate::files::mount_no_of;
 use attr_list::EntryView;
 use attr_view::AttrView;
 use data_runs::{Run, read_runs};
+use file_clauses::{Extent, add_extents, add_wanted, are_whole, clusters_of, names_each};
 use file_record::{Held, list_of, read_list};
 use mft_table::{Mft, MountNo};
 use ntfs_def::is_packed;
+use record_notes::Extension;
 use std::alloc::{AllocError, Global};
 use vol_disk::Disk;
-use file_clauses::{Extent, add_extents, add_wanted, are_whole, clusters_of, names_each};
-use record_notes::Extension;
 
 /// The bytes that a list may have.
 const MOST_BYTES: u64 = 262_144;

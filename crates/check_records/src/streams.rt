@@ -9,8 +9,8 @@ ghost use Rattle.record_notes.specs.Streams.{spot_noted};
 
 use mft_table::{Mft, MountNo};
 use ntfs_def::Spot;
-use vol_disk::Disk;
 use record_notes::StreamNote;
+use vol_disk::Disk;
 
 // How many bytes from byte `at` on lie in clusters up to the last one.
 fn spanned_len(last: u64, size: u64, at: u64, wanted: usize) -> usize

@@ -1,8 +1,8 @@
 //! Owners of clusters. The records are laid from the published layout; what is expected is what was laid.
 use crate::laid::record;
 use attr_view::RecordView;
-use std::test::Fail;
 use record_notes::Owners;
+use std::test::Fail;
 
 // One run of a cluster at 0.
 const BOOT_TEXT: [u8; 4] = [0x11, 1, 0, 0];

@@ -1,6 +1,6 @@
 //! Records in use.
-use std::test::Fail;
 use record_notes::Used;
+use std::test::Fail;
 
 #[test]
 fn compares_the_bits_of_records(rt: HostRuntime) -> Result<(), Fail> {

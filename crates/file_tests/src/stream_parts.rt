@@ -2,8 +2,8 @@
 use crate::laid::{put, record};
 use attr_view::RecordView;
 use ntfs_def::Spot;
-use std::test::Fail;
 use record_notes::Streams;
+use std::test::Fail;
 
 // One run of 10,000 clusters at 100.
 const SOME_TEXT: [u8; 5] = [0x12, 0x10, 0x27, 100, 0];
