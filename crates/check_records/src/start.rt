@@ -18,6 +18,7 @@ use crate::scan::scan_records;
 use cluster_bitmap::Bits;
 use mft_table::{MountNo, Mounted, Table, find_table};
 use record_notes::Facts;
+use ntfs_def::lengths::CASE_TABLE;
 use std::alloc::{AllocError, Global};
 use upcase::UpCase;
 use vol_disk::Disk;
@@ -45,7 +46,7 @@ fn clear_bits(alloc: Global, count: u64) -> Result<Bits, AllocError>
 
 // A table of case that is zero.
 fn clear_case(alloc: Global) -> Result<UpCase, AllocError> {
-    let bytes = vec![in alloc; 0; 131_072]?;
+    let bytes = vec![in alloc; 0; CASE_TABLE]?;
     match UpCase::load(alloc, &bytes) {
         Ok(table) => Ok(table),
         Err(_) => Err(AllocError),
