@@ -1,5 +1,5 @@
 //! The word `boot`, words that print nothing, and a sink that fails.
-use super::given::{AMPLE, GEOMETRY, Pieces, boot_sector, disk_of, run, sink_of};
+use laid_volumes::given::{AMPLE, GEOMETRY, Pieces, boot_sector, disk_of, run, sink_of};
 use shell::FrontSink;
 use std::test;
 use vol_disk::Sink;

@@ -1,61 +1,14 @@
 //! The clauses on records, clusters and the table of case, on the volume that `format 2048 4096 1 DATA` makes, whole and
 //! damaged. It has 256 clusters, of which 135 are owned, and 64 records, of which 14 are in use.
-use super::damage::break_clause;
-use super::given::{AMPLE, run, sink_of};
 use check_records::check_records;
+use laid_volumes::damage::break_clause;
+use laid_volumes::made::{disk_of, failing_disk, made_by, refusal, volume};
 use mft_table::{MountNo, Mounted};
-use std::alloc::{AllocError, Global};
+use std::alloc::Global;
 use std::test;
-use vol_disk::{CallKind, Fail, FailDisk, MemDisk};
-
-const SECTORS: u16 = 2048;
 
 // The boot sector, record 0, each record, and then a sector of each bitmap and the table of case.
 const READS: u64 = 1 + 2 + 2 * 64 + 1 + 1 + 256;
-
-/// The volume of so many sectors that these words make.
-pub fn made_on(alloc: Global, sectors: u16, words: &str) -> Result<Vec<u8>, test::Fail> {
-    let mut disk = MemDisk::new(alloc, vec![in alloc; 0; usize::from(sectors) * 512]?);
-    disk.reserve(2000)?;
-    let mut out = sink_of(alloc, AMPLE, 0)?;
-    let _ = run(alloc, words, &mut disk, &mut out)?;
-    Ok(disk.contents().to_vec(alloc)?)
-}
-
-/// The volume of 2,048 sectors that these words make.
-pub fn made_by(alloc: Global, words: &str) -> Result<Vec<u8>, test::Fail> {
-    made_on(alloc, SECTORS, words)
-}
-
-/// The volume, as it was made.
-pub fn volume(alloc: Global) -> Result<Vec<u8>, test::Fail> {
-    made_by(alloc, "format 2048 4096 1 DATA")
-}
-
-/// A disk of so many sectors with these contents.
-pub fn disk_on(alloc: Global, sectors: u16, image: &[u8]) -> Result<MemDisk, AllocError> {
-    let mut contents = image.to_vec(alloc)?;
-    contents.resize(usize::from(sectors) * 512, 0)?;
-    Ok(MemDisk::new(alloc, contents))
-}
-
-/// A disk of 2,048 sectors with these contents.
-pub fn disk_of(alloc: Global, image: &[u8]) -> Result<MemDisk, AllocError> {
-    disk_on(alloc, SECTORS, image)
-}
-
-/// Why the volume is refused, if it is; writes are told as a failing device.
-pub fn refusal(alloc: Global, image: &[u8]) -> Result<Option<MountNo>, test::Fail> {
-    let mut disk = disk_of(alloc, image)?;
-    let refusal = match check_records(alloc, &mut disk) {
-        Ok(_) => None,
-        Err(no) => Some(no),
-    };
-    if !disk.writes().is_empty() {
-        return Ok(Some(MountNo::Device));
-    }
-    Ok(refusal)
-}
 
 // Whether the tables are those of the volume.
 fn are_right(mounted: &Mounted) -> bool {
@@ -184,20 +137,6 @@ fn a_refused_volume_is_read_no_further(rt: HostRuntime) -> Result<(), test::Fail
         assert_eq!(rt; told, Some(wanted), "S{clause}");
     }
     Ok(())
-}
-
-/// A disk of 2,048 sectors with these contents, of which one read fails.
-pub fn failing_disk(
-    alloc: Global,
-    image: &[u8],
-    number: u64,
-) -> Result<FailDisk<MemDisk>, AllocError> {
-    let fail = Fail {
-        kind: CallKind::Read,
-        number,
-        lands: false,
-    };
-    Ok(FailDisk::new(disk_of(alloc, image)?, vec![in alloc; fail]?))
 }
 
 // Why the volume is refused on a disk of which one read fails.

@@ -1,8 +1,8 @@
 //! The word `check`, on volumes of 2,048, of 16,384 and of 65,535 sectors that `format` makes, whole and damaged.
-use super::check::{disk_on, failing_disk, made_on, volume};
-use super::damage::{break_once, mark_dirty, put, tear};
-use super::given::{AMPLE, run, sink_of};
-use super::laid_files::{FORMAT, SECTORS};
+use laid_volumes::damage::{break_once, mark_dirty, put, tear};
+use laid_volumes::given::{AMPLE, run, sink_of};
+use laid_volumes::laid_files::{FORMAT, SECTORS};
+use laid_volumes::made::{disk_on, failing_disk, made_on, volume};
 use std::alloc::Global;
 use std::test;
 

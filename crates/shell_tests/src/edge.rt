@@ -1,5 +1,5 @@
 //! The edge of the program, over a runtime that notes what is opened, printed and said.
-use super::given::{GEOMETRY, boot_sector};
+use laid_volumes::given::{GEOMETRY, boot_sector};
 use shell::start;
 use std::alloc::{Allocator, Global};
 use std::cell::RefCell;

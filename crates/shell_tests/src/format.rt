@@ -1,5 +1,5 @@
 //! The word `format`, and what the words that read say of the disk then.
-use super::given::{AMPLE, GEOMETRY, run, sink_of};
+use laid_volumes::given::{AMPLE, GEOMETRY, run, sink_of};
 use std::alloc::Global;
 use std::test;
 use vol_disk::{CallKind, Fail, FailDisk, MemDisk};

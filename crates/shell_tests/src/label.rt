@@ -1,5 +1,5 @@
 //! The word `label`, on a volume of which record 0 and record 3 stand as a format lays them out.
-use super::given::{AMPLE, boot_sector, disk_with, run, sink_of};
+use laid_volumes::given::{AMPLE, boot_sector, disk_with, run, sink_of};
 use std::alloc::{AllocError, Global};
 use std::test;
 use vol_bytes::{put_u16, put_u32, put_u64, u16_at};

@@ -9,26 +9,10 @@ mod check;
 #[cfg(test)]
 mod check_word;
 #[cfg(test)]
-mod damage;
-#[cfg(test)]
-mod deep;
-#[cfg(test)]
 mod edge;
 #[cfg(test)]
 mod format;
 #[cfg(test)]
-mod given;
-#[cfg(test)]
 mod label;
-#[cfg(test)]
-mod laid;
-#[cfg(test)]
-mod laid_files;
-#[cfg(test)]
-mod lists;
-#[cfg(test)]
-mod reading;
-#[cfg(test)]
-mod script;
 #[cfg(test)]
 mod sentences;

@@ -1,10 +1,10 @@
 //! Two volumes with files: one that is empty, and one of each kind that the reading commands tell apart.
-use super::check::{made_on, volume};
-use super::damage::put;
-use super::laid::{
+use crate::damage::put;
+use crate::laid::{
     Extent, LaidName, ROOT_RECORD, Value, begin_file, end_file, lay_extent, lay_in_root, lay_index,
     lay_name, lay_standard, lay_value, own,
 };
+use crate::made::{made_on, volume};
 use std::alloc::Global;
 use std::test;
 

@@ -1,8 +1,8 @@
 //! The word `run`, on the volume that `format` makes. What each reading command answers is tested in `reading`; here it is
 //! how a script is read, settled, printed and ended.
-use super::check::{disk_of, volume};
-use super::damage::{mark_dirty, tear};
-use super::given::sink_of;
+use laid_volumes::damage::{mark_dirty, tear};
+use laid_volumes::given::sink_of;
+use laid_volumes::made::{disk_of, volume};
 use shell::run_shell;
 use std::alloc::{AllocError, Global};
 use std::test;

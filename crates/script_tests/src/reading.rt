@@ -1,9 +1,9 @@
 //! The reading commands of a script, on volumes that `format` makes and on which files were laid. What a script prints, by the
 //! table of commands and that of refusals; a reply is its lines and `ok`, or the refusal.
-use super::check::{disk_on, made_on};
-use super::given::{AMPLE, run, sink_of};
-use super::laid_files::{FORMAT, SECTORS, volume_with_all, volume_with_f};
 use super::script::{failing, run_on, source_of};
+use laid_volumes::given::{AMPLE, run, sink_of};
+use laid_volumes::laid_files::{FORMAT, SECTORS, volume_with_all, volume_with_f};
+use laid_volumes::made::{disk_on, made_on};
 use std::alloc::Global;
 use std::test;
 use vol_disk::{CallKind, MemSink};

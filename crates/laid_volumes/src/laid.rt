@@ -2,8 +2,7 @@
 //!
 //! Layout: Linux-NTFS documentation, "File Record", "Attribute Headers", "Index Header" and attributes $FILE_NAME and
 //! $INDEX_ROOT; Carrier, File System Forensic Analysis, chapter 13.
-use super::damage::{CLUSTER_BITS, RECORD_BITS, byte, number, put, record, set_bit};
-use super::lists::begin;
+use crate::damage::{CLUSTER_BITS, RECORD_BITS, byte, number, put, record, set_bit};
 use std::alloc::{AllocError, Global};
 
 // Where the index record of the root begins.
@@ -57,6 +56,20 @@ pub struct Extent<'a> {
     pub real: u64,
     pub initialized: u64,
     pub runs: &'a [u8],
+}
+
+/// Begins record n in use, with so many links and this base record, if it is not 0; tells where its first attribute stands.
+pub fn begin(image: &mut [u8], n: u8, links: u8, base: u8) -> usize {
+    let at = record(n);
+    put(image, at, &[0; 1024]);
+    put(image, at, b"FILE\x30\0\x03\0");
+    put(image, at + 0x10, &[1, 0, links, 0, 0x38, 0, 1, 0, 0, 2]);
+    put(image, at + 0x1D, &[4, 0, 0, base]);
+    put(image, at + 0x26, &[u8::from(base != 0), 0, 8]);
+    put(image, at + 0x2C, &[n, 0, 0, 0, 1]);
+    put(image, at + 510, &[1]);
+    put(image, at + 1022, &[1]);
+    at + 0x38
 }
 
 // Puts a number of eight bytes at a place.

@@ -4,10 +4,10 @@
 //!
 //! Layout: Linux-NTFS documentation, "File Record", "Attribute Headers" and attribute $ATTRIBUTE_LIST; Carrier, File System
 //! Forensic Analysis, chapter 13.
-use super::check::{refusal, volume};
-use super::damage::{CLUSTER_BITS, RECORD_BITS, put, record, set_bit};
-use super::laid::{LaidName, ROOT_RECORD, lay_in_root};
 use super::reading::{Row, is_sound, wrong_row};
+use laid_volumes::damage::{CLUSTER_BITS, RECORD_BITS, put, record, set_bit};
+use laid_volumes::laid::{LaidName, ROOT_RECORD, begin, lay_in_root};
+use laid_volumes::made::{refusal, volume};
 use mft_table::MountNo;
 use std::alloc::Global;
 use std::test;
@@ -154,20 +154,6 @@ fn lay_name(image: &mut [u8], at: usize) -> usize {
     put(image, value, &[5, 0, 0, 0, 0, 0, 5]);
     put(image, value.saturating_add(0x40), &[1, 0, b'a']);
     at.saturating_add(96)
-}
-
-/// Begins record n in use, with so many links and this base record, if it is not 0; tells where its first attribute stands.
-pub fn begin(image: &mut [u8], n: u8, links: u8, base: u8) -> usize {
-    let at = record(n);
-    put(image, at, &[0; 1024]);
-    put(image, at, b"FILE\x30\0\x03\0");
-    put(image, at + 0x10, &[1, 0, links, 0, 0x38, 0, 1, 0, 0, 2]);
-    put(image, at + 0x1D, &[4, 0, 0, base]);
-    put(image, at + 0x26, &[u8::from(base != 0), 0, 8]);
-    put(image, at + 0x2C, &[n, 0, 0, 0, 1]);
-    put(image, at + 510, &[1]);
-    put(image, at + 1022, &[1]);
-    at + 0x38
 }
 
 // Ends a record at a place.

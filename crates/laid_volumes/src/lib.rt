@@ -1,0 +1,9 @@
+//! What tests of whole runs stand on: a disk, a sink and words; volumes that `format` makes, and files and damage laid into them by
+//! hand. They stand in a library, so that several crates of tests share them.
+#![tactic(auto)]
+
+pub mod damage;
+pub mod given;
+pub mod laid;
+pub mod laid_files;
+pub mod made;

@@ -1,0 +1,12 @@
+//! Whole runs of scripts, over a disk, a script and a sink in memory. They stand here, in a crate above `shell`, so that it is
+//! proved once.
+#![tactic(auto)]
+
+#[cfg(test)]
+mod deep;
+#[cfg(test)]
+mod lists;
+#[cfg(test)]
+mod reading;
+#[cfg(test)]
+mod script;
