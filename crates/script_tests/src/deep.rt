@@ -222,7 +222,7 @@ fn volume_with_m(alloc: Global) -> Result<Vec<u8>, test::Fail> {
 const UNREACHED: u64 = 1_000_000;
 
 // Read 200 behind those of the mount check. The index records alone are 304 sectors.
-const FAILING: u64 = 1635 + 200;
+const FAILING: u64 = 1507 + 200;
 
 // What `ls /m` prints: a line of eight bytes for each of the 295 names, in eight of which `:` is printed as `%003A`, and `ok`.
 const LISTED_LINES: usize = 295 + 1;
