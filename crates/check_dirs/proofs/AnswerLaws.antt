@@ -4,39 +4,20 @@ use Rattle.std.specs.Prelude.{IsTrue, is_some}
 use Rattle.vol_disk.specs.Contents.{WhereTold, sector_in}
 use Rattle.ntfs_def.specs.Boot.{boot_sector}
 use Rattle.volume_def.specs.IndexesClause.{MeetsIndexes}
-use Rattle.volume_def.specs.Sound.{Attributes, CaseTable, ClusterBits, Extents, HoldBelow, Holds, Indexes, IsRefused, Limits, Links, Lists, Mirror, MirrorPlace, Owners, RecordBits, References, Shape, Version}
+use Rattle.volume_def.specs.Sound.{HoldBelow, Indexes, IsRefused}
 use Rattle.volume_def.specs.View.{VolumeView, view_of}
 use Rattle.list_laws.specs.Least.{IsLeastFailing}
+use Rattle.clause_order.specs.Views.{kept_view}
+use Rattle.clause_order.proofs.OrderLaws.{HoldBelow-more}
 use Rattle.mft_table.specs.declared.mounted.Mounted.{Mounted}
 use Rattle.mft_table.specs.HeldTables.{HoldsTables}
 use Rattle.mft_table.specs.Mounted.{mounted_layout}
-
--- the volume that a disk is, with the table that is kept
-abbrev pub kept_view : Option (List ℕ) → Mounted → VolumeView
-kept_view told mounted = view_of (is_some told) (sector_in told) (mounted_layout mounted)
 
 -- the clauses before that on indexes hold
 pub sound-kept : (told : Option (List ℕ)) (mounted : Mounted) → WhereTold told (λ image. HoldsTables 10 image mounted)
     → IsTrue (is_some told) → HoldBelow (kept_view told mounted) 10
 sound-kept None mounted tables yes_it = absurd (let f : false ≡ true = yes_it in cc)
 sound-kept (Some image) mounted tables yes_it = (tables image refl).clauses
-
-below-indexes : (view : VolumeView) → HoldBelow view 10 → Holds view Indexes → HoldBelow view 11
-below-indexes view before holds Shape lt = before Shape (omega arith)
-below-indexes view before holds Attributes lt = before Attributes (omega arith)
-below-indexes view before holds Lists lt = before Lists (omega arith)
-below-indexes view before holds Extents lt = before Extents (omega arith)
-below-indexes view before holds Owners lt = before Owners (omega arith)
-below-indexes view before holds ClusterBits lt = before ClusterBits (omega arith)
-below-indexes view before holds RecordBits lt = before RecordBits (omega arith)
-below-indexes view before holds References lt = before References (omega arith)
-below-indexes view before holds Links lt = before Links (omega arith)
-below-indexes view before holds CaseTable lt = before CaseTable (omega arith)
-below-indexes view before holds Indexes lt = holds
-below-indexes view before holds Version lt = absurd (omega arith)
-below-indexes view before holds MirrorPlace lt = absurd (omega arith)
-below-indexes view before holds Mirror lt = absurd (omega arith)
-below-indexes view before holds Limits lt = absurd (omega arith)
 
 -- no index is wrong
 pub tables-indexed : (told : Option (List ℕ)) (mounted : Mounted) (first : Option ℕ) → WhereTold told (λ image. HoldsTables 10 image mounted)
@@ -50,7 +31,7 @@ tables-indexed (Some all) mounted first tables none least image is =
     subst (IsLeastFailing (MeetsIndexes (kept_view (Some all) mounted))) none (least refl) in
     record {
       table = held.table;
-      clauses = below-indexes (kept_view (Some image) mounted) held.clauses
+      clauses = HoldBelow-more (kept_view (Some image) mounted) Indexes held.clauses
           (subst (λ (i : List ℕ). (n : ℕ) → MeetsIndexes (kept_view (Some i) mounted) n) same meets);
       values = held.values;
     }

@@ -3,8 +3,9 @@ use Rattle.std.proofs.Common.{◌≡◌, ◌≢◌, ℕ, zero, suc, ◌+◌, ◌
 use Rattle.ntfs_def.specs.Node.{Node, child_from}
 use Rattle.ntfs_def.specs.IndexTree.{Nodes, Tree, IsStored, child_of, node_of}
 use Rattle.check_dirs.specs.Gathered.{IsDepth}
-use Rattle.check_dirs.proofs.TreeLaws.{below_at, child_at_place, stored_at}
 use Rattle.list_laws.proofs.OptionLaws.{none_other, some_same}
+use Rattle.index_tree.proofs.IndexTreeLaws.{EachBelow-at, below_at}
+use Rattle.check_dirs.proofs.TreeLaws.{child_at_place}
 
 module _ (nodes : Nodes) where
   pub depth_leaf : (level : ℕ) → IsDepth nodes None level (Some 0)
@@ -32,7 +33,7 @@ module _ (nodes : Nodes) where
     depth_none h (suc depth) tree small at stored =
         h depth (below_at tree.spread.branches tree.spread.last 0) (omega arith)
         (child_at_place depth node tree.spread 0 (node_at depth tree at stored))
-        (stored_at (IsStored nodes depth) tree.spread.branches tree.spread.last 0 stored.1)
+        (EachBelow-at (IsStored nodes depth) tree.spread.branches tree.spread.last 0 stored.1)
 
     pub depth_some : (d : ℕ) → IsDepth nodes (child_from node.entries node.last 0) (level - 1) (Some d)
         → IsDepth nodes (Some v) level (Some (d + 1))
@@ -43,5 +44,5 @@ module _ (nodes : Nodes) where
         each (suc depth) tree at stored =
             let e = h.1 depth (below_at tree.spread.branches tree.spread.last 0)
             (child_at_place depth node tree.spread 0 (node_at depth tree at stored))
-            (stored_at (IsStored nodes depth) tree.spread.branches tree.spread.last 0 stored.1) in
+            (EachBelow-at (IsStored nodes depth) tree.spread.branches tree.spread.last 0 stored.1) in
             omega arith

@@ -7,8 +7,9 @@ use Rattle.ntfs_def.specs.IndexTree.{Nodes, Branch, Tree, Each, entry_of, node_o
 use Rattle.index_tree.specs.Walk.{items_in}
 use Rattle.index_tree.proofs.MovedWalks.{one_if-same}
 use Rattle.check_dirs.specs.Gathered.{GathersNode, GathersTree, LacksNode, LacksTree, Meets, TellsNode, TellsTree, met_times}
-use Rattle.check_dirs.proofs.TreeLaws.{AreBranchesStored, below_at, branch_items-list, branch_times-list, child_at_place, each_below, each_branch, each_take, list_items, list_items-more, list_times, list_times-more, one_branches, stored_at, times_front}
 use Rattle.list_laws.proofs.OptionLaws.{none_other, some_same}
+use Rattle.index_tree.proofs.IndexTreeLaws.{EachBelow-at, below_at}
+use Rattle.check_dirs.proofs.TreeLaws.{AreBranchesStored, branch_items-list, branch_times-list, child_at_place, each_below, each_branch, each_take, list_items, list_items-more, list_times, list_times-more, one_branches, times_front}
 
 module _ (nodes : Nodes) where
   -- below a leaf
@@ -190,7 +191,7 @@ module _ (nodes : Nodes) (depth : ℕ) (node : Node) (met : List ℕ) (old : Lis
         (front.at ∙ ap (λ (m : Node). take i m.entries) (sym n) ∙ sym (map_take (entry_of depth) s.branches i)) front.stored
         (each_take (λ (x : Branch (Tree depth)). IsStored nodes depth x.below) s.branches i
         (each_branch (IsStored nodes depth) s.branches s.last stored)) in
-        none t (child_at_place depth node s i n) (stored_at (IsStored nodes depth) s.branches s.last i stored) (λ place.
+        none t (child_at_place depth node s i n) (EachBelow-at (IsStored nodes depth) s.branches s.last i stored) (λ place.
         let a = times place in
         let b = front.times place in
         let c : list_times (times_in place depth) front.bs ≡ list_times (times_in place depth) (take i s.branches) =

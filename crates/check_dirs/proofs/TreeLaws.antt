@@ -3,6 +3,7 @@ use Rattle.std.proofs.Common.{◌≡◌, ℕ, zero, suc, ◌+◌, ◌≤◌, Lis
 use Rattle.ntfs_def.specs.Node.{Item, Entry, Node, child_from}
 use Rattle.ntfs_def.specs.IndexTree.{Nodes, Branch, Spread, Vertex, Tree, Each, EachBelow, branch_items, branch_times, child_of, entry_of, node_of, IsStored, AreStored}
 use Rattle.list_laws.proofs.OptionLaws.{some_same}
+use Rattle.index_tree.proofs.IndexTreeLaws.{below_at, child_below}
 
 head_same : {x y : Entry} {xs ys : List Entry} → x ∷ xs ≡ y ∷ ys → x ≡ y
 head_same e = cc
@@ -116,17 +117,6 @@ module _ {T : Type 0} where
   branch_times-list times [] last = omega arith
   branch_times-list times (b ∷ bs) last = let h = branch_times-list times bs last in omega arith
 
-  -- the tree at a place, and what it has at most
-  abbrev pub below_at : List (Branch T) → T → ℕ → T
-  below_at [] last i = last
-  below_at (b ∷ bs) last zero = b.below
-  below_at (b ∷ bs) last (suc i) = below_at bs last i
-
-  pub stored_at : (P : T → Type 0) (bs : List (Branch T)) (last : T) (i : ℕ) → EachBelow P bs last → P (below_at bs last i)
-  stored_at P [] last i h = h
-  stored_at P (b ∷ bs) last zero h = h.0
-  stored_at P (b ∷ bs) last (suc i) h = stored_at P bs last i h.1
-
   pub each_take : (P : Branch T → Type 0) (bs : List (Branch T)) (i : ℕ) → Each P bs → Each P (take i bs)
   each_take P [] zero h = tt
   each_take P [] (suc i) h = tt
@@ -139,14 +129,6 @@ module _ {T : Type 0} where
   times_front times [] last (suc i) = omega arith
   times_front times (b ∷ bs) last zero = omega arith
   times_front times (b ∷ bs) last (suc i) = let h = times_front times bs last i in omega arith
-
-  module _ (child : T → Option ℕ) where
-    pub child_below : (bs : List (Branch T)) (last : T) (i : ℕ)
-        → child_from (map (λ (b : Branch T). let e : Entry = record { item = b.item; child = child b.below } in e) bs) (child last) i
-        ≡ child (below_at bs last i)
-    child_below [] last i = refl
-    child_below (b ∷ bs) last zero = refl
-    child_below (b ∷ bs) last (suc i) = child_below bs last i
 
 -- what a spread under a node has at a place
 pub child_at_place : (depth : ℕ) (node : Node) (s : Spread (Tree depth)) (i : ℕ) → node_of depth s ≡ node

@@ -5,21 +5,22 @@ use Rattle.ntfs_def.specs.Node.{Item, Node, child_from}
 use Rattle.ntfs_def.specs.IndexTree.{Nodes, Spread, Tree, HoldsIndex, IsStored, Walks, spread_items}
 use Rattle.index_tree.specs.Walk.{items_in}
 use Rattle.check_dirs.specs.Gathered.{GathersNode, IsDepth, IsTheWalk, LacksNode, TellsNode, TellsWalk}
-use Rattle.check_dirs.proofs.TreeLaws.{below_at, child_at_place, one_spread, stored_at}
+use Rattle.index_tree.proofs.IndexTreeLaws.{EachBelow-at, below_at}
 use Rattle.list_laws.proofs.BoolLaws.{at_most_one}
+use Rattle.check_dirs.proofs.TreeLaws.{child_at_place, one_spread}
 
 module _ (nodes : Nodes) (node : Node) where
   pub too_deep : IsDepth nodes (child_from node.entries node.last 0) 15 None → TellsWalk nodes node None
   too_deep none items walks =
       none walks.depth (below_at walks.s.branches walks.s.last 0) walks.small
       (child_at_place walks.depth node walks.s 0 walks.holds.node)
-      (stored_at (IsStored nodes walks.depth) walks.s.branches walks.s.last 0 walks.holds.stored)
+      (EachBelow-at (IsStored nodes walks.depth) walks.s.branches walks.s.last 0 walks.holds.stored)
 
   module _ (d : ℕ) (deep : IsDepth nodes (child_from node.entries node.last 0) 15 (Some d)) where
     one_depth : (items : List Item) (walks : Walks nodes node items) → walks.depth ≡ d
     one_depth items walks =
         deep.1 walks.depth (below_at walks.s.branches walks.s.last 0) (child_at_place walks.depth node walks.s 0 walks.holds.node)
-        (stored_at (IsStored nodes walks.depth) walks.s.branches walks.s.last 0 walks.holds.stored)
+        (EachBelow-at (IsStored nodes walks.depth) walks.s.branches walks.s.last 0 walks.holds.stored)
 
     pub lacks_walk : LacksNode nodes d node [] → TellsWalk nodes node None
     lacks_walk none items walks =

@@ -13,6 +13,7 @@ use crate::{CheckNo, IndexRecords};
 use collation::Collation;
 use index_node::NodeView;
 use ntfs_def::NodeForm;
+use ntfs_def::index_root::{COLLATION, INDEXED_KIND, RECORD_SIZE};
 use ntfs_def::kinds::FILE_NAME;
 use ntfs_def::lengths::INDEX_RECORD;
 use std::alloc::Global;
@@ -24,10 +25,11 @@ fn has_fields(root: &[u8], form: NodeForm, collation: u32) -> bool
     ensures { IsTrue result ↔ HasFields form collation root.now }
 {
     let kind = match form {
-        NodeForm::Names => u32_at(root, 0x00) == FILE_NAME,
+        NodeForm::Names => u32_at(root, INDEXED_KIND) == FILE_NAME,
         NodeForm::View => true,
     };
-    kind && u32_at(root, 0x04) == collation && u32_at(root, 0x08) as usize == INDEX_RECORD
+    kind && u32_at(root, COLLATION) == collation
+        && u32_at(root, RECORD_SIZE) as usize == INDEX_RECORD
 }
 
 /// Checks an index by its root, the value of its `$INDEX_ROOT`, and its records: whether its nodes have their shape, no

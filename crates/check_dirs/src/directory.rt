@@ -25,12 +25,10 @@ use file_record::FileParts;
 use index_store::find_index;
 use mft_table::{Mft, MftNo};
 use ntfs_def::NodeForm;
+use ntfs_def::index_root::DIRECTORY_INDEX;
 use std::alloc::Global;
 use vol_bytes::Octets;
 use vol_disk::Disk;
-
-/// The name of a directory's index, `$I30`.
-const NAMES: &[u8] = b"$\0I\03\00\0";
 
 // Meets the name at a place of an opened record.
 fn meet_in(seen: &mut Seen, order: &FileNameOrder, note: &NameNote, block: &[u8]) -> bool
@@ -148,7 +146,7 @@ pub fn check_directory<D: Disk>(
     ensures faults { MatchResult result (λ _. faults_of D.Disk mft.new ≡ faults_of D.Disk mft.old)
         (CountsNo (faults_of D.Disk mft.old) (faults_of D.Disk mft.new)) }
 {
-    let Some(index) = find_index(file, NAMES) else {
+    let Some(index) = find_index(file, DIRECTORY_INDEX) else {
         return Ok(false);
     };
     let found = index_entries(

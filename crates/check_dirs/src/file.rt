@@ -30,9 +30,11 @@ use collation::{Collation, FileNameOrder, HashOrder, IdOrder, WordsOrder, is_nam
 use file_record::{BaseFile, FileParts};
 use index_store::find_index;
 use mft_table::Mft;
-use ntfs_def::NodeForm;
+use ntfs_def::file_name::{PARENT, UNITS, UNITS_LEN};
 use ntfs_def::kinds::{FILE_NAME, INDEX_ROOT};
 use ntfs_def::records::{EXTEND, FIRST_ORDINARY, SECURE};
+use ntfs_def::reference::number_in;
+use ntfs_def::{NodeForm, is_directory};
 use std::alloc::Global;
 use vol_bytes::{u16_at, u64_at};
 use vol_disk::Disk;
@@ -137,11 +139,11 @@ fn has_letters(key: &[u8], letters: &[u8]) -> bool
     requires { IsTrue (is_name_key key.now) }
     ensures { IsTrue result ↔ (key_units key.now ≡ letters.now) }
 {
-    if key[0x40] as usize != letters.len() {
+    if key[UNITS_LEN] as usize != letters.len() {
         return false;
     }
     for i in 0..letters.len() {
-        if u16_at(key, 0x42 + 2 * i) != u16::from(letters[i]) {
+        if u16_at(key, UNITS + 2 * i) != u16::from(letters[i]) {
             return false;
         }
     }
@@ -162,7 +164,7 @@ fn is_in_extend(attribute: &AttrView<'_>, letters: &[u8]) -> bool
     if !is_name_key(key) {
         return false;
     }
-    if u64_at(key, 0x00) % (1 << 48) != EXTEND {
+    if number_in(u64_at(key, PARENT)) != EXTEND {
         return false;
     }
     has_letters(key, letters)
@@ -260,7 +262,7 @@ fn check_names<D: Disk>(
     ensures faults { MatchResult result (λ _. faults_of D.Disk mft.new ≡ faults_of D.Disk mft.old)
         (CountsNo (faults_of D.Disk mft.old) (faults_of D.Disk mft.new)) }
 {
-    if file.header.flags / 2 % 2 != 1 {
+    if !is_directory(file.header.flags) {
         return Ok(true);
     }
     let names = notes.names_in(file.parts.number());

@@ -19,8 +19,11 @@ use attr_view::{AttrView, RecordHeader};
 use collation::is_name_key;
 use file_record::{BaseFile, FileParts, Held, load_base};
 use mft_table::Mft;
+use ntfs_def::file_name::PARENT;
+use ntfs_def::is_directory;
 use ntfs_def::kinds::FILE_NAME;
 use ntfs_def::records::{EXTEND, SECURE};
+use ntfs_def::reference::{NUMBERS, number_in};
 use std::alloc::{AllocError, Global};
 use vol_bytes::u64_at;
 use vol_disk::Disk;
@@ -53,7 +56,7 @@ fn note_attribute(
         return Ok(());
     }
     names.push(NameNote {
-        directory: u64_at(value, 0x00) % (1 << 48),
+        directory: number_in(u64_at(value, PARENT)),
         file,
         holder,
         place,
@@ -106,7 +109,7 @@ fn is_wanted(number: u64, header: &RecordHeader, names: &[NameNote]) -> bool
     ensures { result ≡ ((header.now.flags / 2 % 2 == 1) || (number == SECURE)
         || list_any (λ note. note.directory == EXTEND) names.now) }
 {
-    header.flags / 2 % 2 == 1 || number == SECURE || stand_in_extend(names)
+    is_directory(header.flags) || number == SECURE || stand_in_extend(names)
 }
 
 // The files that are noted, and those of all numbers.
@@ -118,7 +121,7 @@ impl Noting {
             → NotesBelow view number self.old → NotesBelow view (number + 1) self.new) }
     {
         let from = self.names.len();
-        let reference = u64::from(file.header.sequence) * (1 << 48) + number;
+        let reference = u64::from(file.header.sequence) * NUMBERS + number;
         note_names(&file.parts, reference, &mut self.names)?;
         if is_wanted(number, &file.header, &self.names[from..]) {
             self.wanted.push(number)?;

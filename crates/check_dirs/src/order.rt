@@ -6,14 +6,9 @@ ghost use Rattle.index_tree.specs.Walk.{items_in};
 ghost use Rattle.check_dirs.specs.Entries.{AreOrdered, AreValid, AreWhole, IsPlace, IsWhole, Rise};
 
 use collation::Collation;
+use ntfs_def::index_record::{KEY, KEY_LEN};
 use std::cmp::Ordering;
 use vol_bytes::{Octets, u16_at, u64_at};
-
-/// Where an entry has the length of its key.
-const KEY_LEN: usize = 0x0A;
-
-/// Where the key of an entry begins.
-const KEY: usize = 0x10;
 
 /// The key of an entry.
 #[tactic(auto, unfolding(ntfs_def::specs::Node::item_at))]

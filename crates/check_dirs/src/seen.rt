@@ -10,14 +10,9 @@ ghost use Rattle.check_dirs.specs.Seen.{HasMarks, IsMet, link_with, links_of_ent
 use crate::CheckNo;
 use crate::order::{head_of, key_of, place_of};
 use collation::FileNameOrder;
+use ntfs_def::file_name::{NAMESPACE, PARENT};
 use std::alloc::Global;
 use vol_bytes::{Octets, u64_at};
-
-/// Where a name has the reference of its directory.
-const PARENT: usize = 0x00;
-
-/// Where a name has its namespace.
-const NAMESPACE: usize = 0x41;
 
 /// The entries of a directory in order, and of each whether its name was met.
 #[derive(Drop)]

@@ -15,7 +15,7 @@ use Rattle.list_laws.specs.Least.{IsLeastBelow, IsLeastFailing}
 use Rattle.list_laws.proofs.LeastLaws.{least-whole}
 use Rattle.record_notes.specs.declared.facts.Facts.{Facts}
 use Rattle.check_records.specs.Streams.{ArePlacesFor, HasRoomIn, IsPlainOf, table_len}
-use Rattle.check_records.specs.Views.{HasComeTo}
+use Rattle.check_records.specs.Views.{HasComeWith}
 use Rattle.check_records.proofs.StreamLaws.{places-for}
 
 -- The bitmap of clusters, as it is noted.
@@ -93,19 +93,19 @@ no-case-table view none = (λ meets. none (meets refl), λ m low is. absurd (ome
 
 -- Each cluster of what is read is noted.
 
-pub places-clusters : (view : VolumeView) (facts : Facts) (len : ℕ) → HasComeTo view 5 facts → len ≡ div_ceil view.layout.clusters 8
+pub places-clusters : (view : VolumeView) (facts : Facts) (len : ℕ) → HasComeWith view 5 facts → len ≡ div_ceil view.layout.clusters 8
     → 0 < cluster_bytes view.layout → ArePlacesFor len (cluster_bytes view.layout) facts.streams.cluster_bits
 places-clusters view facts len come long some =
     places-for len (cluster_bytes view.layout) facts.streams.cluster_bits some
     (come.volume.places.cluster_bits ∙ ap (λ k. div_ceil k (cluster_bytes view.layout)) (sym long))
 
-pub places-records : (view : VolumeView) (facts : Facts) (len : ℕ) → HasComeTo view 6 facts → len ≡ div_ceil view.layout.count 8
+pub places-records : (view : VolumeView) (facts : Facts) (len : ℕ) → HasComeWith view 6 facts → len ≡ div_ceil view.layout.count 8
     → 0 < cluster_bytes view.layout → ArePlacesFor len (cluster_bytes view.layout) facts.streams.record_bits
 places-records view facts len come long some =
     places-for len (cluster_bytes view.layout) facts.streams.record_bits some
     (come.volume.places.record_bits ∙ ap (λ k. div_ceil k (cluster_bytes view.layout)) (sym long))
 
-pub places-table : (view : VolumeView) (facts : Facts) (len : ℕ) → HasComeTo view 9 facts → len ≡ table_len
+pub places-table : (view : VolumeView) (facts : Facts) (len : ℕ) → HasComeWith view 9 facts → len ≡ table_len
     → 0 < cluster_bytes view.layout → ArePlacesFor len (cluster_bytes view.layout) facts.streams.case_table
 unfolding table_len
 places-table view facts len come long some =

@@ -14,11 +14,11 @@ use Rattle.volume_def.specs.View.{VolumeView}
 use Rattle.record_notes.specs.declared.facts.Facts.{Facts}
 use Rattle.record_notes.specs.Spread.{extensions_below, listed_below}
 use Rattle.check_records.specs.Reads.{bytes_reads, check_reads, files_reads}
-use Rattle.check_records.specs.Views.{HasComeTo}
+use Rattle.check_records.specs.Views.{HasComeWith}
 use Rattle.check_records.proofs.FactsGiven.{RightNote-all}
 
 -- the check goes on to a later clause
-pub come-on : (view : VolumeView) (rank next : ℕ) (facts : Facts) → HasComeTo view rank facts → HoldBelow view next → HasComeTo view next facts
+pub come-on : (view : VolumeView) (rank next : ℕ) (facts : Facts) → HasComeWith view rank facts → HoldBelow view next → HasComeWith view next facts
 come-on view rank next facts come before = record { volume = come.volume; noted = come.noted; before = before }
 
 -- no call at all
@@ -42,7 +42,7 @@ disk-read g before after resumed new m n scan same steps =
     }
 
 -- what all steps ask for
-pub check_reads-sum : (view : VolumeView) (facts : Facts) → HasComeTo view 1 facts → HoldBelow view 10
+pub check_reads-sum : (view : VolumeView) (facts : Facts) → HasComeWith view 1 facts → HoldBelow view 10
     → (3 + 2 * view.layout.count) + (files_reads (length facts.spread.listed.items) (length facts.spread.extensions.items)
     + bytes_reads view.layout) ≡ check_reads view
 check_reads-sum view facts come below =

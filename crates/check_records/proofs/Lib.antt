@@ -1,4 +1,3 @@
-pub mod OrderLaws
 pub mod ScanLaws
 pub mod RefusalLaws
 pub mod BelowLaws

@@ -14,7 +14,8 @@ use Rattle.mft_table.specs.declared.error.TableNo.TheVariants as table
 use Rattle.mft_table.specs.declared.mount.MountNo.{MountNo}
 use Rattle.mft_table.specs.declared.mount.MountNo.TheVariants as no
 use Rattle.volume_def.specs.View.{VolumeView}
-use Rattle.check_records.specs.Refusals.{IsDecided, IsFault, IsFirstBroken, IsRefusal, IsRefusalIf, IsRefusalOf}
+use Rattle.clause_order.specs.Refusals.{IsFirstBroken, IsRefusalIf}
+use Rattle.check_records.specs.Refusals.{IsDecided, IsRefusal, IsRefusalOf}
 
 -- the numbers of the clauses that are decided here
 IsDecided-of : (clause : Clause) → rank_of clause < 10 → IsDecided (clause_number clause)
@@ -49,7 +50,7 @@ pub IsRefusal-later : (told : Option (List ℕ)) (layout : TableLayout) (refusal
     → ((image : List ℕ) → told ≡ Some image → HasLayout (sector_in (Some image)) (boot_sector image) (length image / 512) layout)
     → IsRefusalOf (view_of (is_some told) (sector_in told) layout) refusal → IsRefusal told refusal
 IsRefusal-later told layout (no.Refused k n) found h = λ image is.
-    let first = subst (λ t. IsTrue (is_some t) → IsFirstBroken (view_of (is_some t) (sector_in t) layout) k n) is h refl in (
+    let first = subst (λ t. IsTrue (is_some t) → IsFirstBroken 10 (view_of (is_some t) (sector_in t) layout) k n) is h refl in (
       subst IsDecided first.number (IsDecided-of first.clause first.decided),
       inr (inr (record {
         layout = layout;
@@ -63,24 +64,10 @@ IsRefusal-later told layout no.Dirty found h = h
 IsRefusal-later told layout no.Device found h = tt
 IsRefusal-later told layout no.Memory found h = tt
 
--- a refusal under premises that others give
-pub IsRefusalIf-weaker : {A B : Type 0} (view : VolumeView) (refusal : MountNo) → (IsTrue view.told → B → A) → IsRefusalIf A view refusal
-    → IsRefusalIf B view refusal
-IsRefusalIf-weaker view (no.Refused k n) gives h = λ told b. h told (gives told b)
-IsRefusalIf-weaker view no.Dirty gives h = h
-IsRefusalIf-weaker view no.Device gives h = tt
-IsRefusalIf-weaker view no.Memory gives h = tt
-
-pub IsRefusalOf-if : {A : Type 0} (view : VolumeView) (refusal : MountNo) → (IsTrue view.told → A) → IsRefusalIf A view refusal
+-- nothing has to stand before it
+pub IsRefusalOf-if : {A : Type 0} (view : VolumeView) (refusal : MountNo) → (IsTrue view.told → A) → IsRefusalIf 10 A view refusal
     → IsRefusalOf view refusal
 IsRefusalOf-if view (no.Refused k n) gives h = λ told. h told (gives told)
 IsRefusalOf-if view no.Dirty gives h = h
 IsRefusalOf-if view no.Device gives h = tt
 IsRefusalOf-if view no.Memory gives h = tt
-
--- what failed is no refusal
-pub IsRefusalIf-fault : (A : Type 0) (view : VolumeView) (refusal : MountNo) → IsFault refusal → IsRefusalIf A view refusal
-IsRefusalIf-fault A view (no.Refused k n) h = absurd h
-IsRefusalIf-fault A view no.Dirty h = h
-IsRefusalIf-fault A view no.Device h = tt
-IsRefusalIf-fault A view no.Memory h = tt

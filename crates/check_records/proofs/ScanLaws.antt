@@ -9,8 +9,8 @@ use Rattle.volume_def.specs.Sound.{HoldBelow}
 use Rattle.volume_def.specs.Sound.Clause.{Shape}
 use Rattle.volume_def.specs.Table.{IsWellFormed}
 use Rattle.volume_def.specs.View.{VolumeView}
-use Rattle.check_records.specs.Refusals.{IsFirstBroken}
-use Rattle.check_records.proofs.OrderLaws.{HoldBelow-more, HoldBelow-none, IsFirstBroken-of}
+use Rattle.clause_order.specs.Refusals.{IsFirstBroken}
+use Rattle.clause_order.proofs.OrderLaws.{HoldBelow-more, HoldBelow-none, IsFirstBroken-of}
 
 -- a record inside the table is what its block means
 pub record_on-inside : (view : VolumeView) (n : ℕ) → n < view.layout.count → record_on view n ≡ record_in n (view.block n)
@@ -30,9 +30,9 @@ shape-all view n end all = HoldBelow-more view Shape (HoldBelow-none view) (λ k
 
 -- record n is the first that has not
 pub shape-broken : (view : VolumeView) (n : ℕ) → n < view.layout.count → ((k : ℕ) → k < n → MeetsShape view k)
-    → ¬ (IsTrue (is_in_use (view.block n)) → IsWellFormed (view.block n)) → IsFirstBroken view 3 n
+    → ¬ (IsTrue (is_in_use (view.block n)) → IsWellFormed (view.block n)) → IsFirstBroken 10 view 3 n
 shape-broken view n inside before bad =
-    IsFirstBroken-of view Shape n (omega arith) (HoldBelow-none view) (λ _. (λ meets. bad (meets inside), before))
+    IsFirstBroken-of 10 view Shape n (omega arith) (HoldBelow-none view) (λ _. (λ meets. bad (meets inside), before))
 
 -- what a stored block means
 pub record_in-used : (n : ℕ) (stored : List ℕ) → is_in_use stored ≡ true → record_in n stored ≡ Some (record_of n (opened_of stored))

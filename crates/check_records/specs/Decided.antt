@@ -3,11 +3,11 @@ use Rattle.volume_def.specs.Sound.Clause.{Extents, Lists}
 use Rattle.volume_def.specs.View.{VolumeView}
 use Rattle.record_notes.specs.declared.facts.Facts.{Facts}
 use Rattle.check_records.specs.declared.wrong_files.WrongFiles.{WrongFiles}
-use Rattle.check_records.specs.Refusals.{DecidesFirst}
-use Rattle.check_records.specs.Views.{HasComeTo}
+use Rattle.clause_order.specs.Refusals.{DecidesFirst}
+use Rattle.check_records.specs.Views.{HasComeWith}
 
 -- the check has come to the clause on lists, and these are the least base records that break it and the clause on extents
 pub record AreDecided (view : VolumeView) (facts : Facts) (wrong : WrongFiles) : Type 0 where
-  pub come : HasComeTo view 2 facts
+  pub come : HasComeWith view 2 facts
   pub lists : DecidesFirst Lists view wrong.lists
   pub extents : DecidesFirst Extents view wrong.extents

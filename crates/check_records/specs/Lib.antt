@@ -1,4 +1,3 @@
-pub mod Clauses
 pub mod Refusals
 pub mod Views
 pub mod Streams

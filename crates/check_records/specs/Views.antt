@@ -26,7 +26,7 @@ pub record IsOfVolume (layout : TableLayout) (facts : Facts) : Type 0 where
   pub cluster_bytes : bytes_noted facts.unlisted ≡ cluster_bytes layout
 
 -- The check has come to the clause of this rank: those before it hold, and the facts are those of the volume.
-pub record HasComeTo (view : VolumeView) (rank : ℕ) (facts : Facts) : Type 0 where
+pub record HasComeWith (view : VolumeView) (rank : ℕ) (facts : Facts) : Type 0 where
   pub volume : IsOfVolume view.layout facts
   pub noted : FactsNote (records_of view) view.layout.count facts
   pub before : HoldBelow view rank

@@ -1,10 +1,10 @@
 //! The clauses that are decided by the facts of the pass alone.
 ghost use Rattle.std.specs.Prelude.{IfOk};
 ghost use Rattle.volume_def.specs.Files.{records_of};
-ghost use Rattle.volume_def.specs.Sound.Clause.{Attributes, Links, Owners, References};
+ghost use Rattle.volume_def.specs.Sound.Clause.{Attributes, Limits, Links, Owners, References};
 ghost use Rattle.volume_def.specs.View.{VolumeView};
 ghost use Rattle.record_notes.specs.Facts.{FactsNote};
-ghost use Rattle.check_records.specs.Refusals.{DecidesFirst};
+ghost use Rattle.clause_order.specs.Refusals.{DecidesFirst};
 ghost use Rattle.check_records.specs.Views.{IsOfVolume};
 
 use record_notes::Facts;
@@ -43,4 +43,11 @@ pub fn first_wrong_link(alloc: Global, facts: &Facts) -> Result<Option<u64>, All
 {
     let first = volume_clauses::first_wrong_link(alloc, &facts.heads, &facts.names)?;
     Ok(first)
+}
+
+/// The least file that breaks the clause on limits.
+pub fn first_long_file(facts: &Facts) -> Option<u64>
+    ensures { (view : VolumeView) → FactsNote (records_of view) view.layout.count facts.now → DecidesFirst Limits view result }
+{
+    volume_clauses::first_long_file(&facts.long)
 }

@@ -8,21 +8,19 @@ ghost use Rattle.mft_table.specs.Mft.{MftReads, faults_of, view};
 ghost use Rattle.mft_table.specs.MountNos.{CountsMount};
 ghost use Rattle.list_laws.specs.BitRanges.{IsPieceOf};
 ghost use Rattle.record_notes.specs.Streams.{NotesStream};
-ghost use Rattle.check_records.specs.Refusals.{IsFault, IsRefusalIf};
+ghost use Rattle.clause_order.specs.Refusals.{IsFault, IsRefusalIf};
 ghost use Rattle.check_records.specs.Streams.{IsPlainOf, table_len};
-ghost use Rattle.check_records.specs.Views.{HasComeTo};
+ghost use Rattle.check_records.specs.Views.{HasComeWith};
 
-use crate::clause::Clause;
 use crate::values::read_start;
+use clause_order::Clause;
 use mft_table::{Mft, MountNo};
+use ntfs_def::lengths::CASE_TABLE;
 use ntfs_def::records::UPCASE;
 use record_notes::{Facts, StreamNote};
 use std::alloc::{AllocError, Global};
 use upcase::UpCase;
 use vol_disk::Disk;
-
-/// The bytes of a table.
-const LENGTH: usize = 131_072;
 
 // Whether a stream is not packed and has so many bytes.
 fn is_plain_of(note: &StreamNote, len: u64) -> bool
@@ -37,9 +35,9 @@ fn read_table<D: Disk>(
     facts: &Facts,
     into: &mut [u8],
 ) -> Result<bool, MountNo>
-    ensures right { IfOk result (λ right. IsTrue (view D.Disk mft.old).told → HasComeTo (view D.Disk mft.old) 9 facts.now
+    ensures right { IfOk result (λ right. IsTrue (view D.Disk mft.old).told → HasComeWith (view D.Disk mft.old) 9 facts.now
         → IsTrue right ↔ IsPlainOf (length into.old) (case_parts (view D.Disk mft.old))) }
-    ensures bytes { IfOk result (λ right. IsTrue (view D.Disk mft.old).told → HasComeTo (view D.Disk mft.old) 9 facts.now
+    ensures bytes { IfOk result (λ right. IsTrue (view D.Disk mft.old).told → HasComeWith (view D.Disk mft.old) 9 facts.now
         → length into.old ≡ table_len
         → IsTrue right → IsPieceOf (value_on (view D.Disk mft.old) (case_parts (view D.Disk mft.old))) 0 into.new) }
     ensures err { IfErr result IsFault }
@@ -60,7 +58,7 @@ fn read_table<D: Disk>(
 fn empty_table(alloc: Global) -> Result<Vec<u8>, AllocError>
     ensures { IfOk result (λ bytes. length bytes.items ≡ table_len) }
 {
-    let bytes = vec![in alloc; 0u8; LENGTH]?;
+    let bytes = vec![in alloc; 0u8; CASE_TABLE]?;
     Ok(bytes)
 }
 
@@ -86,11 +84,11 @@ pub fn read_case_table<D: Disk>(
     mft: &mut Mft<'_, D>,
     facts: &Facts,
 ) -> Result<UpCase, MountNo>
-    ensures ok { OnOk result (IsTrue (view D.Disk mft.old).told → HasComeTo (view D.Disk mft.old) 9 facts.now
+    ensures ok { OnOk result (IsTrue (view D.Disk mft.old).told → HasComeWith (view D.Disk mft.old) 9 facts.now
         → HoldBelow (view D.Disk mft.old) 10) }
-    ensures table { IfOk result (λ table. IsTrue (view D.Disk mft.old).told → HasComeTo (view D.Disk mft.old) 9 facts.now
+    ensures table { IfOk result (λ table. IsTrue (view D.Disk mft.old).told → HasComeWith (view D.Disk mft.old) 9 facts.now
         → table ≡ value_on (view D.Disk mft.old) (case_parts (view D.Disk mft.old))) }
-    ensures err { IfErr result (IsRefusalIf (HasComeTo (view D.Disk mft.old) 9 facts.now) (view D.Disk mft.old)) }
+    ensures err { IfErr result (IsRefusalIf 10 (HasComeWith (view D.Disk mft.old) 9 facts.now) (view D.Disk mft.old)) }
     ensures faults { MatchResult result (λ _. faults_of D.Disk mft.new ≡ faults_of D.Disk mft.old)
         (CountsMount (faults_of D.Disk mft.old) (faults_of D.Disk mft.new)) }
     ensures reads { MftReads D.Disk mft.old mft.new 256 }

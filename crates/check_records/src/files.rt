@@ -2,7 +2,7 @@
 ghost use Rattle.std.specs.Prelude.{ℕ};
 ghost use Rattle.mft_table.specs.MountNos.{CountsMount};
 ghost use Rattle.file_record.specs.FileNos.{CountsNo, IsReadNo};
-ghost use Rattle.check_records.specs.Refusals.{IsFault};
+ghost use Rattle.clause_order.specs.Refusals.{IsFault};
 
 use file_record::FileNo;
 use mft_table::MountNo;

@@ -5,12 +5,10 @@
 mod by_facts;
 mod case_table;
 mod check;
-mod clause;
 mod clusters;
 mod files;
 mod laws;
 mod listed;
-mod order;
 mod records;
 mod scan;
 mod start;
@@ -18,6 +16,6 @@ mod streams;
 mod values;
 mod wrong_files;
 
-pub use check::check_records;
+pub use check::{Checked, check_records, check_records_and_limits};
 pub use files::mount_no_of;
 pub use laws::one_answer;

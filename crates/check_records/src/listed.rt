@@ -19,7 +19,7 @@ ghost use Rattle.file_clauses.specs.Extents.{AreWholeParts, outline_of, outlined
 ghost use Rattle.file_clauses.specs.Lists.{NamesEach};
 ghost use Rattle.record_notes.specs.Spread.{AreExtensionsOf, parts_from};
 ghost use Rattle.check_records.specs.Listed.{IsBaseHeld, IsHeldIn, IsListedFile, IsPlacedList, NamesParts, all_parts};
-ghost use Rattle.check_records.specs.Refusals.{IsFault};
+ghost use Rattle.clause_order.specs.Refusals.{IsFault};
 
 use crate::files::mount_no_of;
 use attr_list::EntryView;

@@ -11,12 +11,12 @@ ghost use Rattle.mft_table.specs.MountNos.{CountsMount};
 ghost use Rattle.list_laws.specs.BitRanges.{IsPieceOf};
 ghost use Rattle.list_laws.specs.Least.{IsLeastFailing};
 ghost use Rattle.record_notes.specs.Streams.{NotesStream};
-ghost use Rattle.check_records.specs.Refusals.{IsFault, IsRefusalIf};
+ghost use Rattle.clause_order.specs.Refusals.{IsFault, IsRefusalIf};
 ghost use Rattle.check_records.specs.Streams.{HasRoomIn};
-ghost use Rattle.check_records.specs.Views.{HasComeTo};
+ghost use Rattle.check_records.specs.Views.{HasComeWith};
 
-use crate::clause::Clause;
 use crate::values::{is_whole, load_bits, read_start};
+use clause_order::Clause;
 use cluster_bitmap::Bits;
 use mft_table::{Mft, MountNo};
 use ntfs_def::records::FIRST_ORDINARY;
@@ -49,10 +49,10 @@ fn decide_record_bits<D: Disk>(
     facts: &Facts,
     into: &mut [u8],
 ) -> Result<Option<u64>, MountNo>
-    ensures first { IfOk result (λ first. IsTrue (view D.Disk mft.old).told → HasComeTo (view D.Disk mft.old) 6 facts.now
+    ensures first { IfOk result (λ first. IsTrue (view D.Disk mft.old).told → HasComeWith (view D.Disk mft.old) 6 facts.now
         → length into.old ≡ div_ceil (view D.Disk mft.old).layout.count 8
         → IsLeastFailing (MeetsRecordBits (view D.Disk mft.old)) first) }
-    ensures bytes { IfOk result (λ first. IsTrue (view D.Disk mft.old).told → HasComeTo (view D.Disk mft.old) 6 facts.now
+    ensures bytes { IfOk result (λ first. IsTrue (view D.Disk mft.old).told → HasComeWith (view D.Disk mft.old) 6 facts.now
         → length into.old ≡ div_ceil (view D.Disk mft.old).layout.count 8
         → IfNone first (IsPieceOf (value_on (view D.Disk mft.old) (record_bits (view D.Disk mft.old))) 0 into.new)) }
     ensures err { IfErr result IsFault }
@@ -81,12 +81,12 @@ pub fn read_record_bits<D: Disk>(
     mft: &mut Mft<'_, D>,
     facts: &Facts,
 ) -> Result<Bits, MountNo>
-    ensures ok { OnOk result (IsTrue (view D.Disk mft.old).told → HasComeTo (view D.Disk mft.old) 6 facts.now
+    ensures ok { OnOk result (IsTrue (view D.Disk mft.old).told → HasComeWith (view D.Disk mft.old) 6 facts.now
         → HoldBelow (view D.Disk mft.old) 7) }
-    ensures bits { IfOk result (λ bits. IsTrue (view D.Disk mft.old).told → HasComeTo (view D.Disk mft.old) 6 facts.now
+    ensures bits { IfOk result (λ bits. IsTrue (view D.Disk mft.old).told → HasComeWith (view D.Disk mft.old) 6 facts.now
         → bits ≡ flags_in (value_on (view D.Disk mft.old) (record_bits (view D.Disk mft.old))) (view D.Disk mft.old).layout.count) }
     ensures count { IfOk result (λ bits. length bits ≡ (view D.Disk mft.old).layout.count) }
-    ensures err { IfErr result (IsRefusalIf (HasComeTo (view D.Disk mft.old) 6 facts.now) (view D.Disk mft.old)) }
+    ensures err { IfErr result (IsRefusalIf 10 (HasComeWith (view D.Disk mft.old) 6 facts.now) (view D.Disk mft.old)) }
     ensures faults { MatchResult result (λ _. faults_of D.Disk mft.new ≡ faults_of D.Disk mft.old)
         (CountsMount (faults_of D.Disk mft.old) (faults_of D.Disk mft.new)) }
     ensures reads { MftReads D.Disk mft.old mft.new (pieces_touched 0 (((view D.Disk mft.old).layout.count + 7) / 8)) }

@@ -11,7 +11,7 @@ ghost use Rattle.record_notes.specs.Facts.{FactsNote, SameVolume, records_known}
 ghost use Rattle.check_records.specs.Refusals.{IsRefusalOf};
 ghost use Rattle.check_records.specs.Views.{IsOfVolume, stage_view};
 
-use crate::clause::Clause;
+use clause_order::Clause;
 use mft_table::{BlockReader, MountNo, open_record};
 use ntfs_def::is_in_use;
 use record_notes::Facts;

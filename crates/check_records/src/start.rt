@@ -17,6 +17,7 @@ ghost use Rattle.check_records.specs.Views.{IsOfVolume, stage_view};
 use crate::scan::scan_records;
 use cluster_bitmap::Bits;
 use mft_table::{MountNo, Mounted, Table, find_table};
+use ntfs_def::lengths::CASE_TABLE;
 use record_notes::Facts;
 use std::alloc::{AllocError, Global};
 use upcase::UpCase;
@@ -45,7 +46,7 @@ fn clear_bits(alloc: Global, count: u64) -> Result<Bits, AllocError>
 
 // A table of case that is zero.
 fn clear_case(alloc: Global) -> Result<UpCase, AllocError> {
-    let bytes = vec![in alloc; 0; 131_072]?;
+    let bytes = vec![in alloc; 0; CASE_TABLE]?;
     match UpCase::load(alloc, &bytes) {
         Ok(table) => Ok(table),
         Err(_) => Err(AllocError),

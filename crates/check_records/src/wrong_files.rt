@@ -12,7 +12,7 @@ ghost use Rattle.list_laws.specs.Least.{IsLeastFailing, least_of};
 ghost use Rattle.record_notes.specs.Spread.{SpreadNote};
 ghost use Rattle.record_notes.specs.Unlisted.{MeetsListed};
 ghost use Rattle.check_records.specs.Listed.{MeetsListedLists};
-ghost use Rattle.check_records.specs.Refusals.{DecidesFirst, IsFault};
+ghost use Rattle.clause_order.specs.Refusals.{DecidesFirst, IsFault};
 ghost use Rattle.check_records.specs.Views.{IsOfVolume};
 
 use crate::listed::judge_file;

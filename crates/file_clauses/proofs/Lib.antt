@@ -3,6 +3,7 @@ pub mod EntryLaws
 pub mod FollowLaws
 pub mod GroupLaws
 pub mod InOrderLaws
+pub mod LimitLaws
 pub mod OutlineLaws
 pub mod OutlineOrderLaws
 pub mod TotalLaws

@@ -3,8 +3,7 @@ use Rattle.std.proofs.Common.{◌≡◌, ◌/◌, ◌<◌, ℕ, List, length, So
 use Rattle.std.proofs.lemmas.Option.{none-some}
 use Rattle.vol_disk.specs.Contents.{sector_in}
 use Rattle.ntfs_def.specs.Boot.{boot_sector}
-use Rattle.volume_def.specs.Sound.{Clause, HasLayout, IsAccepted, IsRefused, IsSound, Meets, rank_of, told_view}
-use Rattle.volume_def.specs.Sound.Clause.{Shape, Attributes, Lists, Extents, Owners, ClusterBits, RecordBits, References, Links, CaseTable, Indexes, Version, MirrorPlace, Mirror, Limits}
+use Rattle.volume_def.specs.Sound.{HasLayout, IsAccepted, IsRefused, IsSound, Meets, told_view}
 use Rattle.volume_def.specs.Table.{TableLayout}
 use Rattle.volume_def.specs.VersionClause.{IsClean}
 use Rattle.volume_def.proofs.OneTable.{layout-exact}
@@ -13,24 +12,8 @@ use Rattle.mft_table.specs.declared.mounted.Mounted.{Mounted}
 use Rattle.mft_table.specs.declared.mount.MountNo.TheVariants.{Dirty, Refused}
 use Rattle.mft_table.specs.HeldTables.{HoldsTables, volume_in}
 use Rattle.mft_table.specs.Mounted.{mounted_layout}
+use Rattle.clause_order.proofs.OrderLaws.{rank-most}
 use Rattle.mount_check.specs.Refusals.{IsMountNo}
-
-pub rank-most : (clause : Clause) → rank_of clause < 15
-rank-most Shape = omega arith
-rank-most Attributes = omega arith
-rank-most Lists = omega arith
-rank-most Extents = omega arith
-rank-most Owners = omega arith
-rank-most ClusterBits = omega arith
-rank-most RecordBits = omega arith
-rank-most References = omega arith
-rank-most Links = omega arith
-rank-most CaseTable = omega arith
-rank-most Indexes = omega arith
-rank-most Version = omega arith
-rank-most MirrorPlace = omega arith
-rank-most Mirror = omega arith
-rank-most Limits = omega arith
 
 pub IsAccepted-tables : (image : List ℕ) (tables : Mounted) → HoldsTables 15 image tables → IsClean (volume_in image tables)
     → IsAccepted (sector_in (Some image)) (boot_sector image) (length image / 512)

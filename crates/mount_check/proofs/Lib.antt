@@ -5,7 +5,6 @@ pub mod VersionLaws
 pub mod PlaceLaws
 pub mod InsideLaws
 pub mod MirrorLaws
-pub mod LimitLaws
 pub mod FinishLaws
 pub mod AnswerLaws
 pub mod MountLaws

@@ -10,24 +10,9 @@ use Rattle.volume_def.specs.VersionClause.{HasVersion, IsMirror}
 use Rattle.volume_def.specs.Sound.{HoldBelow}
 use Rattle.volume_def.specs.View.{VolumeView}
 use Rattle.list_laws.specs.Least.{IsLeastFailing}
-use Rattle.check_records.specs.Refusals.{DecidesFirst}
+use Rattle.clause_order.specs.Refusals.{DecidesFirst}
+use Rattle.clause_order.proofs.OrderLaws.{HoldBelow-less, least-unless}
 use Rattle.mount_check.specs.Views.{HasComeTo}
-
--- what a clause asks at one number alone
-pub least-unless : (P : Type 0) (number : ℕ) (holds : Bool) (first : Option ℕ) → (IsTrue holds → first ≡ None)
-    → (IsFalse holds → first ≡ Some number) → IsTrue holds ↔ P → IsLeastFailing (λ n. n ≡ number → P) first
-least-unless P number true first so unset is = subst (IsLeastFailing (λ n. n ≡ number → P)) (sym (so refl)) (λ n e. is.0 refl)
-least-unless P number false first so unset is =
-    subst (IsLeastFailing (λ n. n ≡ number → P)) (sym (unset refl)) (λ asks. false≢true (is.1 (asks refl)), λ m low e. absurd (omega arith))
-
--- where no number breaks it, it holds
-pub holds-none : (holds : Bool) (number : ℕ) (first : Option ℕ) → (IsFalse holds → first ≡ Some number) → first ≡ None → IsTrue holds
-holds-none true number first unset none = refl
-holds-none false number first unset none = let e : Some number ≡ None = sym (unset refl) ∙ none in cc
-
--- the clauses of a lower rank hold too
-pub HoldBelow-less : (view : VolumeView) (low high : ℕ) → low ≤ high → HoldBelow view high → HoldBelow view low
-HoldBelow-less view low high le before = λ clause h. before clause (omega arith)
 
 -- the check goes on to a later clause, or is asked for an earlier one
 pub come-on : (view : VolumeView) (rank next : ℕ) → HasComeTo view rank → HoldBelow view next → HasComeTo view next

@@ -1,5 +1,3 @@
-pub mod Clauses
 pub mod Views
-pub mod Limits
 pub mod Refusals
 pub mod Copies

@@ -11,7 +11,7 @@ ghost use Rattle.mount_check.specs.Refusals.{IsMountNo};
 
 use crate::finish::finish_mount;
 use check_dirs::check_dirs;
-use check_records::check_records;
+use check_records::check_records_and_limits;
 use mft_table::{MountNo, Mounted};
 use std::alloc::Global;
 use vol_disk::Disk;
@@ -34,7 +34,7 @@ pub fn mount<D: Disk>(alloc: Global, disk: &mut D) -> Result<Mounted, MountNo>
         (CountsMount (D.faults disk.old) (D.faults disk.new)) }
     ensures only_reads { (reads : ℕ) × DiskReads D.Disk disk.old disk.new reads }
 {
-    let found = check_records(alloc, disk)?;
-    let mounted = check_dirs(alloc, disk, found)?;
-    finish_mount(alloc, disk, mounted)
+    let found = check_records_and_limits(alloc, disk)?;
+    let mounted = check_dirs(alloc, disk, found.mounted)?;
+    finish_mount(alloc, disk, mounted, found.long)
 }

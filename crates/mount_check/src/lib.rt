@@ -2,13 +2,10 @@
 #![tactic(auto)]
 
 mod check;
-mod clause;
 mod finish;
 mod laws;
-mod limits;
 mod mirror;
 mod mirror_place;
-mod order;
 mod records;
 mod version;
 

@@ -14,6 +14,8 @@ ghost use Rattle.mount_check.specs.Views.{HasComeTo};
 
 use crate::records::read_in_use;
 use mft_table::{Mft, MountNo};
+use ntfs_def::protected_block::{ARRAY_COUNT, ARRAY_PLACE};
+use ntfs_def::record_header::USED_SIZE;
 use ntfs_fixup::unseal;
 use vol_bytes::{u16_at, u32_at};
 use vol_disk::{Disk, SECTOR};
@@ -37,10 +39,10 @@ fn agree(block: &[u8; 1024], copy: &[u8; 1024], from: usize, to: usize) -> bool
 fn says_same(block: &[u8; 1024], copy: &[u8; 1024]) -> bool
     ensures { IsTrue result ↔ Mirrors block.now copy.now }
 {
-    let place = u16_at(block, 0x04) as usize;
-    let end = place + 2 * u16_at(block, 0x06) as usize;
-    let used = u32_at(block, 0x18);
-    u32_at(copy, 0x18) == used
+    let place = u16_at(block, ARRAY_PLACE) as usize;
+    let end = place + 2 * u16_at(block, ARRAY_COUNT) as usize;
+    let used = u32_at(block, USED_SIZE);
+    u32_at(copy, USED_SIZE) == used
         && agree(block, copy, 0x00, 0x08)
         && agree(block, copy, 0x10, place)
         && agree(block, copy, end, used as usize)

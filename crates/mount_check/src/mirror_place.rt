@@ -10,7 +10,7 @@ ghost use Rattle.volume_def.specs.VersionClause.{IsMirror};
 ghost use Rattle.mft_table.specs.Mft.{MftReads, faults_of, mounted_of, view};
 ghost use Rattle.mft_table.specs.MountNos.{CountsMount};
 ghost use Rattle.record_notes.specs.Streams.{NotesStream, places_in, spot_noted};
-ghost use Rattle.check_records.specs.Refusals.{IsFault};
+ghost use Rattle.clause_order.specs.Refusals.{IsFault};
 ghost use Rattle.mount_check.specs.Copies.{data_held};
 ghost use Rattle.mft_table.specs.MirrorClusters.{IsMirrorInside};
 ghost use Rattle.mount_check.specs.Views.{HasComeTo};

@@ -16,13 +16,14 @@ use attr_view::{AttrView, RecordView};
 use mft_table::{Mft, MountNo};
 use ntfs_def::kinds::VOLUME_INFORMATION;
 use ntfs_def::records::VOLUME;
+use ntfs_def::volume_information::{FLAGS, LEN, MAJOR, MINOR};
 use vol_disk::Disk;
 
 // Whether a value of `$VOLUME_INFORMATION` says version 3.1.
 fn is_version(value: &[u8]) -> bool
     ensures { IsTrue result ↔ version_in (Some value.now) ≡ Some (record { major = 3; minor = 1 }) }
 {
-    value.len() >= 12 && value[0x08] == 3 && value[0x09] == 1
+    value.len() >= LEN && value[MAJOR] == 3 && value[MINOR] == 1
 }
 
 // Whether an attribute tells the version, as the clause asks for it.
@@ -92,10 +93,10 @@ fn says_clean(value: Option<&[u8]>) -> bool
     let Some(value) = value else {
         return false;
     };
-    if value.len() <= 0x0A {
+    if value.len() <= FLAGS {
         return true;
     }
-    value[0x0A] % 2 == 0
+    value[FLAGS] % 2 == 0
 }
 
 /// Whether the volume was closed.

@@ -9,6 +9,7 @@ use Rattle.record_notes.specs.Facts.{FactsNote, RightNote}
 use Rattle.record_notes.specs.Heads.{HeadsNote}
 use Rattle.list_laws.specs.Least.{IsLeastBelow}
 use Rattle.list_laws.proofs.LeastLaws.{below-fails, below-next}
+use Rattle.record_notes.proofs.LimitLaws.{LongNote-unused}
 use Rattle.record_notes.proofs.NameLaws.{NamesNote-unused}
 use Rattle.record_notes.proofs.RecordsLaws.{OwnersNote-unused}
 use Rattle.record_notes.proofs.SpreadLaws.{SpreadNote-unused}
@@ -51,4 +52,5 @@ RightNote-unused records n facts heads is more note = record {
   names = NamesNote-unused records n facts.names is note.names;
   spread = SpreadNote-unused records n facts.spread is note.spread;
   streams = StreamsNote-unused records n facts.streams is note.streams;
+  long = LongNote-unused records n facts.long is note.long;
 }

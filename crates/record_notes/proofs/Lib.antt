@@ -3,6 +3,7 @@ pub mod BitmapLaws
 pub mod CoverageLaws
 pub mod FactsLaws
 pub mod HeadLaws
+pub mod LimitLaws
 pub mod ListedLaws
 pub mod NameLaws
 pub mod OwnersLaws

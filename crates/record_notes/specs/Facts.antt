@@ -5,6 +5,7 @@ use Rattle.volume_def.specs.Files.{Records}
 use Rattle.record_notes.specs.declared.facts.Facts.{Facts}
 use Rattle.record_notes.specs.Heads.{HeadsNote}
 use Rattle.list_laws.specs.Least.{IsLeastBelow}
+use Rattle.record_notes.specs.Limits.{LongNote}
 use Rattle.record_notes.specs.Names.{NamesNote}
 use Rattle.record_notes.specs.Owners.{OwnersNote, clusters_noted}
 use Rattle.record_notes.specs.Spread.{SpreadNote}
@@ -21,6 +22,7 @@ pub record RightNote (records : Records) (n : ℕ) (facts : Facts) : Type 0 wher
   pub names : NamesNote records n facts.names
   pub spread : SpreadNote records n facts.spread
   pub streams : StreamsNote records n facts.streams
+  pub long : LongNote records n facts.long
 
 -- What is noted of the records below n: the first whose attributes are wrong, and of right ones all else.
 pub record FactsNote (records : Records) (n : ℕ) (facts : Facts) : Type 0 where

@@ -1,6 +1,7 @@
 pub mod Bitmaps
 pub mod Facts
 pub mod Heads
+pub mod Limits
 pub mod Names
 pub mod Owners
 pub mod Skips

@@ -11,7 +11,7 @@ ghost use Rattle.record_notes.specs.Streams.{HasPlaces};
 ghost use Rattle.record_notes.specs.Unlisted.{bytes_noted};
 
 use crate::names::file_of;
-use crate::{Heads, Names, Owners, SpreadFiles, Streams, UnlistedFiles, Used};
+use crate::{Heads, LongStreams, Names, Owners, SpreadFiles, Streams, UnlistedFiles, Used};
 use attr_view::RecordView;
 use file_clauses::is_right_record;
 use std::alloc::{AllocError, Global};
@@ -28,6 +28,7 @@ pub struct Facts {
     pub names: Names,
     pub spread: SpreadFiles,
     pub streams: Streams,
+    pub long: LongStreams,
 }
 
 impl Facts {
@@ -63,6 +64,7 @@ impl Facts {
             names: Names::new(alloc),
             spread: SpreadFiles::new(alloc),
             streams,
+            long: LongStreams::new(),
         })
     }
 
@@ -82,6 +84,7 @@ impl Facts {
         self.names.note(n, view)?;
         self.spread.note(n, view)?;
         self.streams.note(alloc, file, view)?;
+        self.long.note(n, view);
         Ok(())
     }
 

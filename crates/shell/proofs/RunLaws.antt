@@ -16,7 +16,8 @@ use Rattle.mft_table.specs.HeldTables.{HoldsTables, volume_in}
 use Rattle.mft_table.specs.Mounted.{mounted_layout}
 use Rattle.mft_table.specs.MountNos.{CountsMount}
 use Rattle.mount_check.specs.Refusals.{IsMountNo}
-use Rattle.mount_check.proofs.AnswerLaws.{IsAccepted-clean, IsAccepted-tables, IsAccepted-whole, rank-most}
+use Rattle.clause_order.proofs.OrderLaws.{rank-most}
+use Rattle.mount_check.proofs.AnswerLaws.{IsAccepted-clean, IsAccepted-tables, IsAccepted-whole}
 use Rattle.tree_model.specs.Reading.{read}
 use Rattle.tree_model.specs.Session.{Begins, State, Turn}
 use Rattle.script_run.specs.declared.end.ScriptEnd.{ScriptEnd}

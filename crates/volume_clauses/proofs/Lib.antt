@@ -1,6 +1,7 @@
 pub mod FilingLaws
 pub mod KeyLaws
 pub mod LeastFiling
+pub mod LimitLaws
 pub mod LinkLaws
 pub mod MarkLaws
 pub mod ReachLaws

@@ -2,11 +2,13 @@
 #![tactic(auto)]
 
 mod climb;
+mod limits;
 mod links;
 mod marks;
 mod pairs;
 mod references;
 mod tallies;
 
+pub use limits::first_long_file;
 pub use links::first_wrong_link;
 pub use references::first_wrong_reference;

@@ -7,11 +7,11 @@ use Rattle.volume_def.specs.Sound.Clause.{CaseTable}
 use Rattle.volume_def.specs.Values.{pieces_touched, value_on}
 use Rattle.mft_table.specs.Mft.{view}
 use Rattle.attr_store.proofs.FewerReads.{MftReads-less}
-use Rattle.check_records.specs.Refusals.{IsRefusalIf}
+use Rattle.clause_order.specs.Refusals.{IsRefusalIf}
 use Rattle.check_records.specs.Streams.{IsPlainOf, table_len}
-use Rattle.check_records.specs.Views.{HasComeTo}
+use Rattle.check_records.specs.Views.{HasComeWith}
 use Rattle.check_records.proofs.BelowLaws.{HasCaseTable-of, IsPlainOf-case, length-plain, no-case-table, touched-table}
-use Rattle.check_records.proofs.OrderLaws.{HoldBelow-more, IsFirstBroken-of}
+use Rattle.clause_order.proofs.OrderLaws.{HoldBelow-more, IsFirstBroken-of}
 use Rattle.list_laws.proofs.OptionLaws.{ok-always, ok-weaker}
 use Rattle.list_laws.proofs.BitLaws.{whole-piece}
 use Rattle.check_records.proofs.case_table.read_case_table.Goals as goal
@@ -21,9 +21,9 @@ returns-then-not-right-clause-err g c =
     let v = view g.D.Disk c.args.mft.now in
     let len = length c.deref_mut.result.now in
     let all : len ≡ table_len = omega (arith, c.deref_mut.ensures.len, c.in_ok-bytes.ensures) in
-    subst (IsRefusalIf (HasComeTo v 9 c.args.facts.now) v) (sym c.refusal.ensures) (λ told come.
+    subst (IsRefusalIf 10 (HasComeWith v 9 c.args.facts.now) v) (sym c.refusal.ensures) (λ told come.
     let decided : IsTrue c.in_ok-right.right ↔ IsPlainOf len (case_parts v) = c.in_ok-right.ensures.right told come in
-    IsFirstBroken-of v CaseTable UPCASE (omega arith) come.before
+    IsFirstBroken-of 10 v CaseTable UPCASE (omega arith) come.before
     (λ _. no-case-table v (λ has. let t = decided.1 (IsPlainOf-case v len all has) in absurd (cc (t, c.if-not-right.true)))))
 
 pub returns-clause-ok : goal.returns-clause-ok

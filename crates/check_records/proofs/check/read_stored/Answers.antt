@@ -3,7 +3,7 @@ use Rattle.std.proofs.lemmas.Result.{err_from_is_err_and}
 use Rattle.mft_table.specs.Mft.{faults_of, view}
 use Rattle.mft_table.specs.MountNos.{CountsMount}
 use Rattle.check_records.proofs.CheckLaws.{come-on}
-use Rattle.check_records.proofs.RefusalLaws.{IsRefusalIf-weaker}
+use Rattle.clause_order.proofs.RefusalLaws.{IsRefusalIf-weaker}
 use Rattle.check_records.proofs.check.read_stored.Goals as goal
 
 pub returns-in_err-records-clause-err : goal.returns-in_err-records-clause-err
@@ -12,7 +12,7 @@ returns-in_err-records-clause-err g c =
     let first = c.in_ok-clusters.ensures.reads in
     let p = err_from_is_err_and c.from_residual-in_err-records.result c.from_residual-in_err-records.ensures.1 in
     let refused = rw (first.stage.only_reads.image, first.mounted) at c.in_err-records.ensures.err in
-    rw (p.1, p.2) (IsRefusalIf-weaker v _ (λ told come. come-on v 5 6 c.args.facts.now come (c.in_ok-clusters.ensures.ok told come)) refused)
+    rw (p.1, p.2) (IsRefusalIf-weaker 10 v _ (λ told come. come-on v 5 6 c.args.facts.now come (c.in_ok-clusters.ensures.ok told come)) refused)
 
 pub returns-in_err-decide_names-clause-err : goal.returns-in_err-decide_names-clause-err
 returns-in_err-decide_names-clause-err g c =
@@ -20,7 +20,7 @@ returns-in_err-decide_names-clause-err g c =
     let first = c.in_ok-clusters.ensures.reads in
     let p = err_from_is_err_and c.from_residual-in_err-decide_names.result c.from_residual-in_err-decide_names.ensures.1 in
     let records = rw (first.stage.only_reads.image, first.mounted) at c.in_ok-records.ensures.ok in
-    rw (p.1, p.2) (IsRefusalIf-weaker v _
+    rw (p.1, p.2) (IsRefusalIf-weaker 10 v _
     (λ told come.
     let six = come-on v 5 6 c.args.facts.now come (c.in_ok-clusters.ensures.ok told come) in
     come-on v 6 7 c.args.facts.now six (records told six))
@@ -43,7 +43,7 @@ returns-in_err-upcase-clause-err g c =
     let records = rw (first.stage.only_reads.image, first.mounted) at c.in_ok-records.ensures.ok in
     let refused = rw (second.stage.only_reads.image, second.mounted, first.stage.only_reads.image, first.mounted)
     at c.in_err-upcase.ensures.err in
-    rw (p.1, p.2) (IsRefusalIf-weaker v _
+    rw (p.1, p.2) (IsRefusalIf-weaker 10 v _
     (λ told come.
     let six = come-on v 5 6 c.args.facts.now come (c.in_ok-clusters.ensures.ok told come) in
     let seven = come-on v 6 7 c.args.facts.now six (records told six) in

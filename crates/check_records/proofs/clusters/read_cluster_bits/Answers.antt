@@ -9,9 +9,9 @@ use Rattle.mft_table.specs.declared.mounted.Mounted.{Mounted}
 use Rattle.mft_table.specs.Mft.{view}
 use Rattle.list_laws.specs.BitRanges.{IsPieceOf}
 use Rattle.list_laws.specs.Least.{IsLeastFailing}
-use Rattle.check_records.specs.Refusals.{IsRefusalIf}
-use Rattle.check_records.specs.Views.{HasComeTo}
-use Rattle.check_records.proofs.OrderLaws.{HoldBelow-more, IsFirstBroken-of}
+use Rattle.clause_order.specs.Refusals.{IsRefusalIf}
+use Rattle.check_records.specs.Views.{HasComeWith}
+use Rattle.clause_order.proofs.OrderLaws.{HoldBelow-more, IsFirstBroken-of}
 use Rattle.list_laws.proofs.OptionLaws.{ok-always, ok-weaker}
 use Rattle.check_records.proofs.clusters.read_cluster_bits.Goals as goal
 
@@ -21,10 +21,10 @@ returns-in-Some-clause-err g c =
     let clusters = ap (λ (m : Mounted). m.geometry.clusters) c.mounted.ensures in
     let long : length c.deref_mut.result.now ≡ div_ceil v.layout.clusters 8 =
     omega (arith, clusters, c.div_ceil.ensures, c.deref_mut.ensures.len, c.in_ok-bytes.ensures.len) in
-    subst (IsRefusalIf (HasComeTo v 5 c.args.facts.now) v) (sym c.refusal.ensures) (λ told come.
+    subst (IsRefusalIf 10 (HasComeWith v 5 c.args.facts.now) v) (sym c.refusal.ensures) (λ told come.
     let first : IsLeastFailing (MeetsClusterBits v) (Some c.in-Some.number) =
     rw c.in-Some.is at c.in_ok-number.ensures.first told come long in
-    IsFirstBroken-of v ClusterBits c.in-Some.number (omega arith) come.before (λ _. first))
+    IsFirstBroken-of 10 v ClusterBits c.in-Some.number (omega arith) come.before (λ _. first))
 
 pub returns-clause-ok : goal.returns-clause-ok
 returns-clause-ok g c = ok-always c.load_bits.result (λ told come.

@@ -1,28 +1,29 @@
-use Rattle.std.proofs.Common.{sym, subst, ◌∙◌}
+use Rattle.std.proofs.Common.{sym, subst, ◌∙◌, arith}
 use Rattle.std.proofs.lemmas.Result.{err_from_is_err_and}
 use Rattle.mft_table.specs.Mft.{faults_of, view}
 use Rattle.mft_table.specs.MountNos.{CountsMount}
 use Rattle.mft_table.specs.MirrorClusters.{IsMirrorInside}
-use Rattle.mount_check.proofs.OrderLaws.{decided-place, decided-version, holds-none}
-use Rattle.mount_check.proofs.RefusalLaws.{IsRefusalIf-device, IsRefusalIf-fault, IsRefusalIf-weaker}
+use Rattle.clause_order.proofs.OrderLaws.{holds-none}
+use Rattle.mount_check.proofs.OrderLaws.{decided-place, decided-version}
+use Rattle.clause_order.proofs.RefusalLaws.{IsRefusalIf-device, IsRefusalIf-fault, IsRefusalIf-weaker}
 use Rattle.mount_check.proofs.finish.decide_places.Goals as goal
 
 pub returns-in_err-version-clause-err : goal.returns-in_err-version-clause-err
 returns-in_err-version-clause-err g c =
     let p = err_from_is_err_and c.from_residual.result c.from_residual.ensures.1 in
-    rw (p.1, p.2) (IsRefusalIf-device _ (view g.D.Disk c.args.mft.now) _ c.in_err-version.ensures.err)
+    rw (p.1, p.2) (IsRefusalIf-device 15 _ (view g.D.Disk c.args.mft.now) _ c.in_err-version.ensures.err)
 
 pub returns-in_err-refuse_first-clause-err : goal.returns-in_err-refuse_first-clause-err
 returns-in_err-refuse_first-clause-err g c =
     let v = view g.D.Disk c.args.mft.now in
     let p = err_from_is_err_and c.from_residual-in_err-refuse_first.result c.from_residual-in_err-refuse_first.ensures.1 in
-    rw (p.1, p.2) (IsRefusalIf-weaker v _
+    rw (p.1, p.2) (IsRefusalIf-weaker 15 v _
     (λ told come. (
       come.before,
       decided-version v c.in_ok-version.version c.first_unless.result c.first_unless.ensures.holds c.first_unless.ensures.fails
           (c.in_ok-version.ensures.meets told come),
     ))
-    (c.in_err-refuse_first.ensures.err v))
+    (c.in_err-refuse_first.ensures.err v 15 (omega arith)))
 
 pub returns-in_err-refuse_first-clause-faults : goal.returns-in_err-refuse_first-clause-faults
 returns-in_err-refuse_first-clause-faults g c =
@@ -34,7 +35,7 @@ returns-in_err-refuse_first-clause-faults g c =
 pub returns-in_err-placed-clause-err : goal.returns-in_err-placed-clause-err
 returns-in_err-placed-clause-err g c =
     let p = err_from_is_err_and c.from_residual-in_err-placed.result c.from_residual-in_err-placed.ensures.1 in
-    rw (p.1, p.2) (IsRefusalIf-fault _ (view g.D.Disk c.args.mft.now) _ c.in_err-placed.ensures.err)
+    rw (p.1, p.2) (IsRefusalIf-fault 15 _ (view g.D.Disk c.args.mft.now) _ c.in_err-placed.ensures.err)
 
 pub returns-in_err-refuse_first-2-clause-err : goal.returns-in_err-refuse_first-2-clause-err
 returns-in_err-refuse_first-2-clause-err g c =
@@ -42,14 +43,14 @@ returns-in_err-refuse_first-2-clause-err g c =
     let first = c.in_ok-version.ensures.reads in
     let meets = rw (first.stage.only_reads.image, first.mounted) at c.in_ok-placed.ensures.meets in
     let p = err_from_is_err_and c.from_residual-in_err-refuse_first-2.result c.from_residual-in_err-refuse_first-2.ensures.1 in
-    rw (p.1, p.2) (IsRefusalIf-weaker v _
+    rw (p.1, p.2) (IsRefusalIf-weaker 15 v _
     (λ told come. (
       c.in_ok-refuse_first.ensures.ok v come.before (decided-version v c.in_ok-version.version c.first_unless.result
           c.first_unless.ensures.holds c.first_unless.ensures.fails (c.in_ok-version.ensures.meets told come)),
       decided-place v c.in_ok-placed.placed c.first_unless-2.result c.first_unless-2.ensures.holds c.first_unless-2.ensures.fails
           (meets told come),
     ))
-    (c.in_err-refuse_first-2.ensures.err v))
+    (c.in_err-refuse_first-2.ensures.err v 15 (omega arith)))
 
 pub returns-in_err-refuse_first-2-clause-faults : goal.returns-in_err-refuse_first-2-clause-faults
 returns-in_err-refuse_first-2-clause-faults g c =

@@ -12,5 +12,6 @@ returns-clause-none c = λ records. record {
     names = c.new-6.ensures records;
     spread = c.new-7.ensures records;
     streams = c.in_ok-streams.ensures.none records;
+    long = c.new-8.ensures records;
   };
 }

@@ -12,4 +12,5 @@ returns-clause-noted c = λ records is meets right. record {
   names = c.in_ok-note-4.ensures records is meets right.names;
   spread = c.in_ok-note-5.ensures records is right.spread;
   streams = c.in_ok-note-6.ensures.noted records c.args.n is (sym c.file_of-file.ensures) right.streams;
+  long = c.note-8.ensures records is right.long;
 }
