@@ -1,4 +1,5 @@
-use Rattle.std.proofs.Common.{◌∙◌, ap, subst, sym, ℕ}
+use Rattle.std.proofs.Common.{◌∙◌, ◌/◌, ◌%◌, ap, subst, sym, ℕ}
+use Rattle.std.proofs.lemmas.Bool.{eqb-true}
 use Rattle.mft_table.specs.Mft.{view}
 use Rattle.file_record.specs.Held.{file_number}
 use Rattle.list_laws.proofs.OptionLaws.{ok-weaker}
@@ -13,6 +14,7 @@ returns-clause-right g c =
     let file = c.args.file.now in
     let own = c.names_in-names.ensures ∙ ap (λ (n : ℕ). notes_in n c.args.notes.now) c.number.ensures in
     ok-weaker c.check_directory.result (λ right tells told notes header.
-    a-directory volume (file_number file.parts) file.header header right c.if-file-ne1.false
+    a-directory volume (file_number file.parts) file.header header right
+    (eqb-true (file.header.flags / 2 % 2) 1 (sym c.is_directory.ensures ∙ c.if-not-is_directory.false))
     (tells told (subst (TellsNames volume (file_number file.parts)) (sym own) (told-names volume c.args.notes.now (file_number file.parts) notes))))
     c.check_directory.ensures.right

@@ -21,13 +21,14 @@ returns-then-not-is_name_key c = λ right.
     subst (λ o. IsSomeAnd o (λ v. IsTrue (is_name_key v))) value (right-value a right kind) in
     absurd (true≢false (sym held ∙ (sym c.is_name_key.ensures ∙ c.if-not-is_name_key.true)))
 
-pub returns-then-u64_at-ne-EXTEND : goal.returns-then-u64_at-ne-EXTEND
-returns-then-u64_at-ne-EXTEND c = λ right.
+pub returns-then-number_in-ne-EXTEND : goal.returns-then-number_in-ne-EXTEND
+returns-then-number_in-ne-EXTEND c = λ right.
     let a = attribute_of c.args.attribute.now in
     let key = c.in-Some.key.now in
     let kind : a.kind ≡ FILE_NAME = sym c.kind.ensures ∙ c.if-kind-ne-FILE_NAME.false in
     let value : value_of a.body ≡ Some key = sym c.value.ensures ∙ ap option_copied c.in-Some.is in
-    let other = subst (λ n. n % 2 ^ 48 ≢ EXTEND) c.u64_at.ensures c.if-u64_at-ne-EXTEND.true in
+    let number : c.number_in.result ≡ u64_at key 0 % 2 ^ 48 = c.number_in.ensures ∙ ap (λ n. n % 2 ^ 48) c.u64_at.ensures in
+    let other = subst (λ n. n ≢ EXTEND) number c.if-number_in-ne-EXTEND.true in
     sym (standing-value c.args.letters.now a key kind value
     ∙ ap (λ b. b && bytes_eq (key_units key) c.args.letters.now) (ne_eqb (u64_at key 0 % 2 ^ 48) EXTEND other))
 
@@ -37,7 +38,8 @@ returns c = λ right.
     let key = c.in-Some.key.now in
     let kind : a.kind ≡ FILE_NAME = sym c.kind.ensures ∙ c.if-kind-ne-FILE_NAME.false in
     let value : value_of a.body ≡ Some key = sym c.value.ensures ∙ ap option_copied c.in-Some.is in
-    let there = subst (λ n. n % 2 ^ 48 ≡ EXTEND) c.u64_at.ensures c.if-u64_at-ne-EXTEND.false in
+    let number : c.number_in.result ≡ u64_at key 0 % 2 ^ 48 = c.number_in.ensures ∙ ap (λ n. n % 2 ^ 48) c.u64_at.ensures in
+    let there : u64_at key 0 % 2 ^ 48 ≡ EXTEND = sym number ∙ c.if-number_in-ne-EXTEND.false in
     letters-tested key c.args.letters.now c.has_letters.result c.has_letters.ensures
     ∙ sym (standing-value c.args.letters.now a key kind value
     ∙ ap (λ b. b && bytes_eq (key_units key) c.args.letters.now) (eq-eqb (u64_at key 0 % 2 ^ 48) EXTEND there))
