@@ -20,13 +20,7 @@ returns-in_err-decided-clause-err g c =
 
 pub returns-in_err-decided-clause-only_reads : goal.returns-in_err-decided-clause-only_reads
 returns-in_err-decided-clause-only_reads g c =
-<<<<<<< ours
-    let n = 20698 in
-||||||| base
-    let n = 20698 + 2 * (view g.D.Disk c.resume-mft.result).layout.count in
-=======
     let n : ℕ = 20698 in
->>>>>>> theirs
     let read = disk-reads g.D.Disk c.resume-mft.result c.decide_rest-decided.new.mft n c.in_err-decided.ensures.reads in
     let first = ap (λ s. disk_of g.D.Disk s) c.resume-mft.ensures.stage ∙ c.over-stage.ensures.disk in
     let last = c.finish.ensures.disk ∙ ap (λ s. disk_of g.D.Disk s) c.into_parts-stage.ensures.stage in
@@ -52,13 +46,7 @@ returns-clause-mirror g c =
 
 pub returns-clause-only_reads : goal.returns-clause-only_reads
 returns-clause-only_reads g c =
-<<<<<<< ours
-    let n = 20698 in
-||||||| base
-    let n = 20698 + 2 * (view g.D.Disk c.resume-mft.result).layout.count in
-=======
     let n : ℕ = 20698 in
->>>>>>> theirs
     let read = disk-reads g.D.Disk c.resume-mft.result c.decide_rest-decided.new.mft n c.in_ok-decided.ensures.reads in
     let first = ap (λ s. disk_of g.D.Disk s) c.resume-mft.ensures.stage ∙ c.over-stage.ensures.disk in
     let last = c.finish.ensures.disk ∙ ap (λ s. disk_of g.D.Disk s) c.into_parts-stage.ensures.stage in
