@@ -1,6 +1,6 @@
 ghost use Rattle.std.specs.Prelude.{◌≡◌, ◌<◌, ◌≤◌, false};
 ghost use Rattle.vol_disk.specs.Count.{CountsFault};
-ghost use Rattle.vol_stage.specs.Staged.{disk_of, is_broken, StageReads};
+ghost use Rattle.vol_stage.specs.Staged.{disk_of, is_broken, reference_of, StageReads};
 
 use crate::search::find;
 use crate::{Stage, StageNo};
@@ -125,6 +125,7 @@ fn stage_first<D: Disk>(
     requires sound { is_broken D.Disk stage.old ≡ false }
     requires inside { count ≤ D.size (disk_of D.Disk stage.old) }
     ensures sound { is_broken D.Disk stage.new ≡ false }
+    ensures same_reference { reference_of D.Disk stage.new ≡ reference_of D.Disk stage.old }
     ensures size { D.size (disk_of D.Disk stage.new) ≡ D.size (disk_of D.Disk stage.old) }
 {
     'sectors: for k in 0..count {
@@ -135,6 +136,22 @@ fn stage_first<D: Disk>(
         stage.reserve(1)?;
         stage.put(0, from);
     }
+    Ok(())
+}
+
+// Stages the first sectors, and writes them.
+fn commit_first<D: Disk>(
+    stage: &mut Stage<'_, D>,
+    count: u64,
+    from: &[u8; 512],
+) -> Result<(), StageNo>
+    requires sound { is_broken D.Disk stage.old ≡ false }
+    requires inside { count ≤ D.size (disk_of D.Disk stage.old) }
+    ensures same_reference { reference_of D.Disk stage.new ≡ reference_of D.Disk stage.old }
+    ensures size { D.size (disk_of D.Disk stage.new) ≡ D.size (disk_of D.Disk stage.old) }
+{
+    stage_first(stage, count, from)?;
+    stage.commit()?;
     Ok(())
 }
 
@@ -149,12 +166,18 @@ fn write_first<D: Disk>(
     ensures { D.size disk.new ≡ D.size disk.old }
 {
     let mut stage = Stage::over(alloc, disk);
-    let mut done = stage_first(&mut stage, count, from);
-    if done.is_ok() {
-        done = stage.commit();
-    }
+    let done = commit_first(&mut stage, count, from);
     let _ = stage.finish();
     done
+}
+
+// Whether a sector of the disk reads so.
+fn shows<D: Disk>(disk: &mut D, sector: u64, wanted: &[u8; 512]) -> bool {
+    if sector >= disk.sectors() {
+        return false;
+    }
+    let mut into = [2; 512];
+    disk.read(sector, &mut into).is_ok() && into == *wanted
 }
 
 #[test]
@@ -169,9 +192,7 @@ fn staged_sectors_are_written(rt: HostRuntime) -> Result<(), AllocError> {
         (4_000, ZERO),
         (4_999, ZERO),
     ] {
-        let mut into = [2; 512];
-        assert_eq!(rt; disk.read(sector, &mut into), Ok(()));
-        assert!(rt; into == wanted, "sector {sector}");
+        assert!(rt; shows(&mut disk, sector, &wanted), "sector {sector}");
     }
     Ok(())
 }
@@ -193,9 +214,8 @@ fn a_commit_ends_at_a_failure(rt: HostRuntime) -> Result<(), AllocError> {
             Err(StageNo::Device)
         );
         for (sector, written) in [(0, true), (1, true), (2, lands), (3, false), (5, false)] {
-            let mut into = [2; 512];
-            assert_eq!(rt; disk.read(sector, &mut into), Ok(()));
-            assert!(rt; into == if written { ONE } else { ZERO }, "sector {sector}");
+            let wanted = if written { &ONE } else { &ZERO };
+            assert!(rt; shows(&mut disk, sector, wanted), "sector {sector}");
         }
     }
     Ok(())
