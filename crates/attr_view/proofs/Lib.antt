@@ -2,3 +2,10 @@ pub mod OneShape
 pub mod LeftLaws
 pub mod InsertLaws
 pub mod HeaderLaws
+mod HeadLaws
+mod RemoveLaws
+mod RefitLaws
+mod RangeWrites
+mod ValueLaws
+mod ResizedBytes
+mod ListedLaws

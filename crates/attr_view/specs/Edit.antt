@@ -1,7 +1,7 @@
 -- What an edit of a record makes of its bytes.
 use Rattle.std.specs.Prelude.{◌≡◌, ℕ, ◌+◌, ◌%◌, ◌<◌, ◌≤◌, ◌==◌, ◌&&◌, List, codes, length, min, nat_eq, slice_index, if◌then◌else◌}
-use Rattle.std.specs.List.{insert, starts_with}
-use Rattle.ntfs_def.specs.Attribute.{attribute_at, attribute_id, attribute_place, attributes}
+use Rattle.std.specs.List.{insert, remove, starts_with}
+use Rattle.ntfs_def.specs.Attribute.{attribute_at, attribute_id, attribute_len, attribute_place, attributes}
 use Rattle.ntfs_def.specs.Record.{Header, base_in, base_reference, header_of, is_in_use, link_count, next_attribute_id, record_flags}
 use Rattle.ntfs_def.specs.Record.{sequence_of, used_size}
 use Rattle.ntfs_def.specs.Shape.{HasShape}
@@ -38,6 +38,25 @@ pub record Inserts (old new attr : List ℕ) (i : ℕ) : Type 0 where
   pub header : header_of new ≡ with_next_id (header_of old) (next_id_after (next_attribute_id old) (attribute_id attr 0))
   pub in_use : is_in_use new ≡ is_in_use old
   pub attributes : attributes new ≡ insert (attributes old) i (attribute_at attr 0)
+
+-- So many bytes from `at` on were taken out, and what stood behind them, up to the used size, follows what stood before them.
+-- The used size tells so, and no other byte changed.
+pub record IsRemovedAt (old new : List ℕ) (at gone : ℕ) : Type 0 where
+  pub len : length new ≡ length old
+  pub front : (k : ℕ) → k < 0x18 → slice_index new k ≡ slice_index old k
+  pub used : used_size new + gone ≡ used_size old
+  pub before : (k : ℕ) → 0x1C ≤ k → k < at → slice_index new k ≡ slice_index old k
+  pub behind : (i j : ℕ) → at + gone ≤ i → i < used_size old → j + gone ≡ i → slice_index new j ≡ slice_index old i
+  pub free : (k : ℕ) → used_size new ≤ k → slice_index new k ≡ slice_index old k
+
+-- Attribute i was taken out, and every other one is as before.
+pub record Removes (old new : List ℕ) (i : ℕ) : Type 0 where
+  pub bytes : IsRemovedAt old new (attribute_place old i) (attribute_len old (attribute_place old i))
+  pub shape : HasShape new (length (attributes new))
+  pub one_less : length (attributes new) + 1 ≡ length (attributes old)
+  pub header : header_of new ≡ header_of old
+  pub in_use : is_in_use new ≡ is_in_use old
+  pub attributes : attributes new ≡ remove (attributes old) i
 
 -- The fields of the header are those given, and no other byte changed.
 pub record PutsFields (old new : List ℕ) (fields : RecordHeader) : Type 0 where

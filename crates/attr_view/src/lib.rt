@@ -17,6 +17,7 @@ mod laws;
 mod record;
 mod record_mut;
 mod shape;
+mod value;
 
 pub use laws::one_answer;
 pub use ntfs_def::Sizes;

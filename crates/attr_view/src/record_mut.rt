@@ -1,17 +1,19 @@
 //! A record that is edited in its block.
-ghost use Rattle.std.specs.Prelude.{◌≡◌, ◌≤◌, ◌+◌, ◌↔◌, IfErr, IfOk, IsOk, OnErr, OnOk, length};
-ghost use Rattle.ntfs_def.specs.Attribute.{attributes};
+ghost use Rattle.std.specs.Prelude.{◌≡◌, ◌<◌, ◌≤◌, ◌+◌, ◌-◌, ◌↔◌, IfErr, IfOk, IsOk, IsSome, IsSomeAnd, OnErr, OnOk, length};
+ghost use Rattle.ntfs_def.specs.Attribute.{attribute_len, attribute_place, attributes, value_of};
 ghost use Rattle.ntfs_def.specs.Record.{used_size};
 ghost use Rattle.ntfs_def.specs.Shape.{HasShape, IsOneAttribute};
-ghost use Rattle.attr_view.specs.Edit.{Inserts, LacksRoom, SetsHeader};
+ghost use Rattle.attr_view.specs.Edit.{Inserts, LacksRoom, Removes, SetsHeader};
+ghost use Rattle.attr_view.specs.Values.{Resizes, WritesValue, attribute_in, len_with};
 ghost use Rattle.attr_view.specs.View.{Refuses, viewed_block};
 
-use crate::edit::{insert_bytes, put_header};
+use crate::edit::{insert_bytes, put_bytes, put_header, remove_bytes};
 use crate::shape::place_in;
+use crate::value::{resize_bytes, resized_len, value_begin};
 use crate::{RecordView, ViewNo};
 use ntfs_def::lengths::RECORD;
-use ntfs_def::record_header;
-use vol_bytes::u32_at;
+use ntfs_def::{attribute_header, record_header};
+use vol_bytes::{u16_at, u32_at};
 
 /// The fields of a record's header that an owner chooses.
 #[derive(Clone, Copy, Debug, PartialEq, Eq)]
@@ -51,6 +53,52 @@ fn insert_in(block: &mut [u8; 1024], i: usize, attr: &[u8]) -> Result<(), ViewNo
     }
     let at = place_in(block, i);
     insert_bytes(block, at, attr);
+    Ok(())
+}
+
+// Takes attribute i out of a record.
+fn remove_in(block: &mut [u8; 1024], i: usize)
+    requires shape { HasShape block.old (length (attributes block.old)) }
+    requires within { i < length (attributes block.old) }
+    ensures { Removes block.old block.new i }
+{
+    let at = place_in(block, i);
+    let len = u32_at(block, at + attribute_header::LEN) as usize;
+    remove_bytes(block, at, len);
+}
+
+// Writes bytes into the value of attribute i, from its byte `at` on.
+fn write_value_in(block: &mut [u8; 1024], i: usize, at: usize, from: &[u8])
+    requires shape { HasShape block.old (length (attributes block.old)) }
+    requires within { i < length (attributes block.old) }
+    requires inside { IsSomeAnd (value_of (attribute_in block.old i).body) (λ value. at + length from.now ≤ length value) }
+    ensures { WritesValue block.old block.new from.now i at }
+{
+    let place = place_in(block, i);
+    let value = place + u16_at(block, place + attribute_header::VALUE_OFFSET) as usize;
+    put_bytes(block, value + at, from);
+}
+
+// Gives the value of attribute i the length n.
+fn resize_in(block: &mut [u8; 1024], i: usize, n: usize) -> Result<(), ViewNo>
+    requires shape { HasShape block.old (length (attributes block.old)) }
+    requires within { i < length (attributes block.old) }
+    requires resident { IsSome (value_of (attribute_in block.old i).body) }
+    requires most { n ≤ 65536 }
+    ensures ok { OnOk result (Resizes block.old block.new i n) }
+    ensures fits { IsOk result ↔ (used_size block.old + len_with block.old i n ≤ 1024 + attribute_len block.old (attribute_place block.old i)) }
+    ensures err { IfErr result (LacksRoom block.old (len_with block.old i n - attribute_len block.old (attribute_place block.old i))) }
+    ensures kept { OnErr result (block.new ≡ block.old) }
+{
+    let at = place_in(block, i);
+    let was = u32_at(block, at + attribute_header::LEN) as usize;
+    let len = resized_len(value_begin(block, at), n);
+    let free = RECORD - u32_at(block, record_header::USED_SIZE) as usize;
+    if len > was + free {
+        let need = len - was;
+        return Err(ViewNo::Full { need, free });
+    }
+    resize_bytes(block, at, len, n);
     Ok(())
 }
 
@@ -106,6 +154,50 @@ impl<'r> RecordMut<'r> {
         ensures kept { OnErr result (edited_block self.new ≡ edited_block self.old) }
     {
         insert_in(self.block, i, attr)
+    }
+
+    /// Takes attribute `i` out, and tells so in the used size. All other attributes stay.
+    pub fn remove(&mut self, i: usize)
+        requires { i < length (attributes (edited_block self.old)) }
+        ensures same_reference { reference_of self.new ≡ reference_of self.old }
+        ensures removed { Removes (edited_block self.old) (edited_block self.new) i }
+    {
+        remove_in(self.block, i);
+    }
+
+    /// Writes bytes into the value of attribute `i`, a resident one, from the value's byte `at` on. All other bytes stay.
+    pub fn write_value(&mut self, i: usize, at: usize, from: &[u8])
+        requires within { i < length (attributes (edited_block self.old)) }
+        requires inside { IsSomeAnd (value_of (attribute_in (edited_block self.old) i).body)
+            (λ value. at + length from.now ≤ length value) }
+        ensures same_reference { reference_of self.new ≡ reference_of self.old }
+        ensures written { WritesValue (edited_block self.old) (edited_block self.new) from.now i at }
+    {
+        write_value_in(self.block, i, at, from);
+    }
+
+    /// Gives the value of attribute `i`, a resident one, the length `n`, at most 65,536, with zeros behind it where it grows,
+    /// and tells so in the used size. All other attributes stay.
+    ///
+    /// A value begins past the header then: an empty one may have stood inside it, and an empty name is moved to the
+    /// header's end where it stood behind that.
+    ///
+    /// # Errors
+    ///
+    /// `Full` exactly where the record has no room for the attribute. It is then as before.
+    pub fn resize(&mut self, i: usize, n: usize) -> Result<(), ViewNo>
+        requires within { i < length (attributes (edited_block self.old)) }
+        requires resident { IsSome (value_of (attribute_in (edited_block self.old) i).body) }
+        requires most { n ≤ 65536 }
+        ensures same_reference { reference_of self.new ≡ reference_of self.old }
+        ensures ok { OnOk result (Resizes (edited_block self.old) (edited_block self.new) i n) }
+        ensures fits { IsOk result ↔ (used_size (edited_block self.old) + len_with (edited_block self.old) i n
+            ≤ 1024 + attribute_len (edited_block self.old) (attribute_place (edited_block self.old) i)) }
+        ensures err { IfErr result (LacksRoom (edited_block self.old)
+            (len_with (edited_block self.old) i n - attribute_len (edited_block self.old) (attribute_place (edited_block self.old) i))) }
+        ensures kept { OnErr result (edited_block self.new ≡ edited_block self.old) }
+    {
+        resize_in(self.block, i, n)
     }
 
     /// Sets these fields of the record's header. All other bytes stay.

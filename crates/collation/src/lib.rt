@@ -11,7 +11,7 @@ mod numbers;
 #[cfg(test)]
 mod tests;
 
-pub use names::{FileNameOrder, FoldedOrder, UNIT_COUNT, UNITS, is_name_key};
+pub use names::{FileNameOrder, FoldedOrder};
 pub use numbers::{HashOrder, IdOrder, WordsOrder};
 use std::cmp::Ordering;
 

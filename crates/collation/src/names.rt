@@ -5,16 +5,10 @@ ghost use Rattle.ntfs_def.specs.FileName.{is_name_key, key_units, unit_count};
 ghost use Rattle.ntfs_def.specs.KeyOrder.{by_numbers, fold_of, fold_order, name_order};
 
 use crate::Collation;
-use ntfs_def::file_name;
+use ntfs_def::file_name::{UNITS, UNITS_LEN, is_name_key};
 use std::cmp::Ordering;
 use upcase::UpCase;
 use vol_bytes::u16_at;
-
-/// Where a key, the value of a `$FILE_NAME`, has the number of its units.
-pub const UNIT_COUNT: usize = file_name::UNITS_LEN;
-
-/// Where the units of a key begin, of two bytes each.
-pub const UNITS: usize = file_name::UNITS;
 
 /// The order of a directory: names by their folded units, and equal ones by their plain units.
 #[derive(Debug, Drop)]
@@ -26,13 +20,6 @@ pub struct FileNameOrder {
 #[derive(Clone, Copy, Debug)]
 pub struct FoldedOrder<'u> {
     pub names: &'u FileNameOrder,
-}
-
-/// Whether bytes are the value of a `$FILE_NAME` that holds its units, one at least.
-pub fn is_name_key(key: &[u8]) -> bool
-    ensures { result ≡ is_name_key key.now }
-{
-    key.len() >= UNITS && key[UNIT_COUNT] >= 1 && UNITS + 2 * key[UNIT_COUNT] as usize <= key.len()
 }
 
 // A unit of a key, by its place in the name.
@@ -49,8 +36,8 @@ fn compare_folded(upcase: &UpCase, a: &[u8], b: &[u8]) -> Ordering
     requires right { IsTrue (is_name_key b.now) }
     ensures { result ≡ by_numbers (map (fold_of upcase.now) (key_units a.now)) (map (fold_of upcase.now) (key_units b.now)) }
 {
-    let units = (0..a[UNIT_COUNT]).map(|place| unit_at(a, place));
-    let others = (0..b[UNIT_COUNT]).map(|place| unit_at(b, place));
+    let units = (0..a[UNITS_LEN]).map(|place| unit_at(a, place));
+    let others = (0..b[UNITS_LEN]).map(|place| unit_at(b, place));
     units
         .map(|unit| upcase.fold(unit))
         .cmp(others.map(|unit| upcase.fold(unit)))
@@ -61,8 +48,8 @@ fn compare_plain(a: &[u8], b: &[u8]) -> Ordering
     requires right { IsTrue (is_name_key b.now) }
     ensures { result ≡ by_numbers (key_units a.now) (key_units b.now) }
 {
-    let units = (0..a[UNIT_COUNT]).map(|place| unit_at(a, place));
-    let others = (0..b[UNIT_COUNT]).map(|place| unit_at(b, place));
+    let units = (0..a[UNITS_LEN]).map(|place| unit_at(a, place));
+    let others = (0..b[UNITS_LEN]).map(|place| unit_at(b, place));
     units.cmp(others)
 }
 

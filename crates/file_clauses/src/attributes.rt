@@ -1,6 +1,5 @@
 //! The clause on the attributes of a record.
 ghost use Rattle.std.specs.Prelude.{◌≡◌, ◌↔◌, ℕ, ◌≤◌, Some, IsTrue, map};
-ghost use Rattle.ntfs_def.specs.FileName.{is_name_key};
 ghost use Rattle.volume_def.specs.AttributesClause.{IsRightRecord, IsStandard, MeetsAttributes};
 ghost use Rattle.volume_def.specs.Files.{Records, part_of, record_of};
 ghost use Rattle.attr_view.specs.Left.{attributes_left};
@@ -8,17 +7,10 @@ ghost use Rattle.attr_view.specs.View.{attribute_of, attributes_of, viewed_block
 ghost use Rattle.file_clauses.specs.Attributes.{AreRight, IsRightAlone, IsRightNext, times_id_among};
 
 use attr_view::{AttrView, Attributes, RecordView};
-use ntfs_def::file_name::{UNITS, UNITS_LEN};
+use ntfs_def::file_name::is_name_key;
 use ntfs_def::kinds::{FILE_NAME, INDEX_ROOT, STANDARD_INFORMATION, VOLUME_INFORMATION};
 use ntfs_def::records::SYSTEM_END;
 use ntfs_def::standard_information::{LEN, SHORT_LEN};
-
-// Whether bytes are the value of a `$FILE_NAME` that holds its units.
-fn is_name_key(key: &[u8]) -> bool
-    ensures { result ≡ is_name_key key.now }
-{
-    key.len() >= UNITS && key[UNITS_LEN] >= 1 && UNITS + 2 * key[UNITS_LEN] as usize <= key.len()
-}
 
 // Whether a `$STANDARD_INFORMATION` is right: its value is that of an old version or of a new one.
 fn is_standard(attribute: &AttrView<'_>) -> bool

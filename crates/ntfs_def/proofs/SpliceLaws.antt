@@ -54,7 +54,8 @@ module _ (old new : List ℕ) (count i a b rest was now : ℕ) (shape : HasShape
         there = omega (arith, x.len, all, used, fits);
       }
 
-  place-before : (j : ℕ) → j ≤ i → attribute_place new j ≡ attribute_place old j
+  -- the places before the change stay
+  pub place-before : (j : ℕ) → j ≤ i → attribute_place new j ≡ attribute_place old j
   place-before zero le = x.first
   place-before (suc j) le =
       let h = place-before j (omega arith) in

@@ -7,7 +7,6 @@ ghost use Rattle.attr_view.specs.View.{viewed_block};
 ghost use Rattle.record_notes.specs.Heads.{EndsAtCount, HeadsNote, IsHead, head_at};
 ghost use Rattle.record_notes.specs.Unlisted.{is_unlisted};
 
-use crate::spread::has_list;
 use attr_view::RecordView;
 use ntfs_def::is_directory;
 use ntfs_def::reference::{number_in, sequence_in};
@@ -43,7 +42,7 @@ fn head_of(view: &RecordView<'_>) -> Head
         sequence: header.sequence,
         links: header.links,
         directory: is_directory(header.flags),
-        listed: has_list(view),
+        listed: view.has_list(),
     }
 }
 

@@ -1,8 +1,6 @@
 //! Files that have more than one record, or an attribute list, as a pass over the table notes them.
-ghost use Rattle.std.specs.Prelude.{◌≡◌, ◌==◌, ◌+◌, ◌≤◌, Some, OnOk, IfOk, filter, length, nat_lt};
-ghost use Rattle.std.specs.List.{list_any};
+ghost use Rattle.std.specs.Prelude.{◌≡◌, ◌+◌, ◌≤◌, Some, OnOk, IfOk, filter, length, nat_lt};
 ghost use Rattle.std.specs.List.Sorted.{IsNonDecreasingBy, IsPermutation};
-ghost use Rattle.ntfs_def.specs.declared.kinds.TheConstants.{ATTRIBUTE_LIST};
 ghost use Rattle.volume_def.specs.Files.{Records, record_of};
 ghost use Rattle.attr_view.specs.View.{attributes_of, viewed_block};
 ghost use Rattle.record_notes.specs.Heads.{EndsAtCount, HeadsNote};
@@ -13,7 +11,6 @@ ghost use Rattle.record_notes.specs.Unlisted.{MeetsAlone};
 use crate::Heads;
 use crate::least::least_of;
 use attr_view::RecordView;
-use ntfs_def::kinds::ATTRIBUTE_LIST;
 use ntfs_def::reference::number_in;
 use std::alloc::{AllocError, Global};
 
@@ -33,18 +30,6 @@ pub struct SpreadFiles {
     pub extensions: Vec<Extension>,
     /// The base records in use that have an attribute list, by rising number.
     pub listed: Vec<u64>,
-}
-
-/// Whether a record has an attribute list.
-pub(crate) fn has_list(view: &RecordView<'_>) -> bool
-    ensures { result ≡ list_any (λ attribute. attribute.kind == ATTRIBUTE_LIST) (attributes_of view.now) }
-{
-    for attribute in view.attributes() {
-        if attribute.kind() == ATTRIBUTE_LIST {
-            return true;
-        }
-    }
-    false
 }
 
 impl SpreadFiles {
@@ -73,7 +58,7 @@ impl SpreadFiles {
                 file: number_in(base),
                 number: n,
             })?;
-        } else if has_list(view) {
+        } else if view.has_list() {
             self.listed.push(n)?;
         }
         Ok(())

@@ -10,7 +10,6 @@ ghost use Rattle.list_laws.specs.Least.{IsLeastFailing};
 ghost use Rattle.record_notes.specs.Unlisted.{AreUnlistedAlone, IsUnlistedWhole, MeetsListed, UnlistedNote, bytes_noted, is_unlisted};
 
 use crate::least::least_of;
-use crate::spread::has_list;
 use attr_view::RecordView;
 use file_clauses::has_whole_extents;
 use std::alloc::{AllocError, Global};
@@ -27,7 +26,7 @@ pub struct UnlistedFiles {
 fn is_unlisted(view: &RecordView<'_>) -> bool
     ensures { (n : ℕ) → result ≡ is_unlisted (record_of n (viewed_block view.now)) }
 {
-    view.header().base == 0 && !has_list(view)
+    view.header().base == 0 && !view.has_list()
 }
 
 // Whether a record, if it is a base record without a list, holds whole attributes.

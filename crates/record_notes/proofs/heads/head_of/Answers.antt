@@ -12,5 +12,5 @@ returns c = λ n. record {
   sequence = search rules;
   links = search rules;
   directory = search rules;
-  listed = c.has_list.ensures ∙ sym (list_any-map is_list (part_of n) (attributes (viewed_block c.args.view.now)));
+  listed = c.has_list.ensures.has ∙ sym (list_any-map is_list (part_of n) (attributes (viewed_block c.args.view.now)));
 }

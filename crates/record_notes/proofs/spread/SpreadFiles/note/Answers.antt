@@ -16,11 +16,11 @@ returns-in_ok-push c = λ records is note.
 pub returns-in_ok-push-2 : goal.returns-in_ok-push-2
 returns-in_ok-push-2 c = λ records is note.
     note-base records c.args.n c.header-base.result.base (viewed_block c.args.view.now) c.args.self.now _ c.has_list.result c.if-base-ne0.false
-    c.header-base.ensures.base is c.has_list.ensures refl
+    c.header-base.ensures.base is c.has_list.ensures.has refl
     (c.in_ok-push-2.ensures.items ∙ ap (λ b. c.args.self.now.listed.items ++ cond b (c.args.n ∷ []) []) (sym c.if-has_list.true)) note
 
 pub returns-else-has_list : goal.returns-else-has_list
 returns-else-has_list c = λ records is note.
     note-base records c.args.n c.header-base.result.base (viewed_block c.args.view.now) c.args.self.now _ c.has_list.result c.if-base-ne0.false
-    c.header-base.ensures.base is c.has_list.ensures refl
+    c.header-base.ensures.base is c.has_list.ensures.has refl
     (sym (append-nil c.args.self.now.listed.items) ∙ ap (λ b. c.args.self.now.listed.items ++ cond b (c.args.n ∷ []) []) (sym c.if-has_list.false)) note
