@@ -22,6 +22,7 @@ use Rattle.volume_def.proofs.ExtentLaws.{spot_at-part}
 use Rattle.list_laws.proofs.MemberLaws.{Contains-nil, Contains-only}
 use Rattle.volume_def.proofs.SpanLaws.{several-cover, spot-spans, whole-spans}
 use Rattle.list_laws.proofs.RangeLaws.{map_ranges, bytes-zero}
+use Rattle.mft_table.proofs.StreamReads.{touched}
 use Rattle.mft_table.specs.Streams.{IsSeam}
 use Rattle.attr_store.specs.Sought.{spot_in_text}
 
@@ -107,9 +108,6 @@ unheld-bytes cluster size f at n extents some s none fits =
     ap (λ spot. byte_there cluster spot ((at + j) % size)) (ap (spot_at extents) same ∙ outside))
 
 -- The pieces of a range are as many in the extent as in the stream.
-touched : (at len : ℕ) → 0 < len → pieces_touched at len ≡ (at + len - 1) / 512 + 1 - at / 512
-touched at len some = cond-false (len == 0) _ _ (ne_eqb len 0 (λ none. absurd (omega arith)))
-
 touched-back : (b q n : ℕ) → pieces_touched b n ≤ pieces_touched (b + 512 * q) n
 touched-back b q zero = omega arith
 touched-back b q (suc n) = omega (arith, touched b (suc n) (omega arith), touched (b + 512 * q) (suc n) (omega arith))

@@ -22,8 +22,8 @@ use mft_table::Mft;
 use std::alloc::Global;
 use vol_disk::Disk;
 
-// How many bytes from byte `at` on lie in clusters up to the last one.
-fn spanned_len(last: u64, size: u64, at: u64, wanted: usize) -> usize
+/// How many bytes of a range from byte `at` on lie in clusters of `size` bytes up to the last one.
+pub fn spanned_len(last: u64, size: u64, at: u64, wanted: usize) -> usize
     requires size { 0 < size }
     requires inside { at / size ≤ last }
     ensures { result ≡ min wanted ((last + 1) * size - at) }

@@ -7,20 +7,11 @@ ghost use Rattle.mft_table.specs.MountNos.{CountsMount};
 ghost use Rattle.mft_table.specs.Streams.{IsSeam, spot_on};
 ghost use Rattle.record_notes.specs.Streams.{spot_noted};
 
+use attr_store::spanned_len;
 use mft_table::{Mft, MountNo};
 use ntfs_def::Spot;
 use record_notes::StreamNote;
 use vol_disk::Disk;
-
-// How many bytes from byte `at` on lie in clusters up to the last one.
-fn spanned_len(last: u64, size: u64, at: u64, wanted: usize) -> usize
-    requires size { 0 < size }
-    requires inside { at / size ≤ last }
-    ensures { result ≡ min wanted ((last + 1) * size - at) }
-{
-    let left = (last as u128 + 1) * size as u128 - at as u128;
-    left.min(wanted as u128) as usize
-}
 
 // Bytes from a cluster of the volume on, from its byte `skip` on.
 fn read_placed<D: Disk>(

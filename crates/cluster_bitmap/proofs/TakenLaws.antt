@@ -35,7 +35,7 @@ put-outside value flags at len k fits side =
     ]
 
 -- flags of which a range is so already
-put-same : (value : Bool) (flags : List Bool) (at len : ℕ) → at + len ≤ length flags → AreAll value flags at len
+pub put-same : (value : Bool) (flags : List Bool) (at len : ℕ) → at + len ≤ length flags → AreAll value flags at len
     → with_all value flags at len ≡ flags
 put-same value flags at len fits all =
     let same = length-with_all value flags at len fits in

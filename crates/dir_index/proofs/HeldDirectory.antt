@@ -40,6 +40,7 @@ pub reads-within : {D : Type 0} (g : Ghosts D) (a b : Mft D g) (m k : ℕ) → M
 reads-within g a b m k reads fits = record {
   stage = record { goes_on = reads.stage.goes_on; only_reads = reads.stage.only_reads; fetched = fits };
   mounted = reads.mounted;
+  committed = reads.committed;
 }
 
 -- A directory that can be read is held once it is loaded.

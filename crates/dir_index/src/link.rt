@@ -6,7 +6,7 @@ ghost use Rattle.ntfs_def.specs.Node.{IsOwnEntry, item_in};
 ghost use Rattle.ntfs_def.specs.declared.index.NodeForm.TheVariants.{Names};
 ghost use Rattle.dir_index.specs.Links.{key_link, link_in};
 
-use collation::{UNIT_COUNT, UNITS, is_name_key};
+use ntfs_def::file_name::{UNITS, UNITS_LEN, is_name_key};
 use ntfs_def::{file_name, index_record, reference};
 use std::alloc::{AllocError, Global};
 use tree_model::Link;
@@ -36,7 +36,7 @@ fn units_in(alloc: Global, key: &[u8]) -> Result<Vec<u16>, AllocError>
     requires { IsTrue (is_name_key key.now) }
     ensures { IfOk result (λ units. units.items ≡ key_units key.now) }
 {
-    (0..key[UNIT_COUNT] as usize)
+    (0..key[UNITS_LEN] as usize)
         .map(|k| u16_at(key, UNITS + 2 * k))
         .collect(alloc)
 }

@@ -4,7 +4,8 @@ ghost use Rattle.std.specs.Ordering.{nat_cmp};
 ghost use Rattle.ntfs_def.specs.KeyOrder.{by_numbers, fold_of};
 ghost use Rattle.dir_index.specs.Sought.{is_sought_key, sought_units};
 
-use collation::{Collation, UNIT_COUNT, UNITS, is_name_key};
+use collation::Collation;
+use ntfs_def::file_name::{UNITS, UNITS_LEN, is_name_key};
 use std::cmp::Ordering;
 use upcase::UpCase;
 use vol_bytes::u16_at;
@@ -39,7 +40,7 @@ fn unit_count(name: &[u16], key: &[u8]) -> usize
     if key.is_empty() {
         name.len()
     } else {
-        key[UNIT_COUNT] as usize
+        key[UNITS_LEN] as usize
     }
 }
 

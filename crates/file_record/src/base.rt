@@ -81,6 +81,7 @@ pub fn load_base<D: Disk>(
     ensures faults { MatchResult result (λ _. faults_of D.Disk mft.new ≡ faults_of D.Disk mft.old)
         (CountsNo (faults_of D.Disk mft.old) (faults_of D.Disk mft.new)) }
     ensures reads { MftReads D.Disk mft.old mft.new 20678 }
+    ensures none { IfOk result (λ found. IfNone found (MftReads D.Disk mft.old mft.new 2)) }
     ensures fetched { WhereReadable (view D.Disk mft.old) (IsFile (view D.Disk mft.old) number
         → MftReads D.Disk mft.old mft.new (file_reads (view D.Disk mft.old) number)) }
 {

@@ -2,6 +2,10 @@ pub mod TableRuns
 pub mod TableParts
 pub mod Joined
 pub mod Places
+pub mod StageTwice
+pub mod RecordPuts
+pub mod StagedRecord
+pub mod ChangeLaws
 pub mod BootSectors
 pub mod NoTable
 pub mod TableLaws

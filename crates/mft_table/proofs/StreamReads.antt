@@ -1,5 +1,5 @@
 -- Calls that only read, one behind the other, and the pieces that they ask for.
-use Rattle.std.proofs.Common.{rules, ◌≡◌, ◌⊎◌, inl, inr, ℕ, zero, suc, ◌+◌, ◌-◌, ◌/◌, ◌%◌, ◌<◌, ◌≤◌, refl, sym, ap, ◌∙◌, arith}
+use Rattle.std.proofs.Common.{rules, ◌≡◌, inl, inr, ℕ, zero, suc, ◌+◌, ◌-◌, ◌*◌, ◌/◌, ◌%◌, ◌<◌, ◌≤◌, refl, ◌∙◌, arith}
 use Rattle.std.specs.Prelude.{◌==◌, min}
 use Rattle.std.proofs.lemmas.Bool.{cases_lt, cond-false, ne_eqb}
 use Rattle.vol_disk.specs.declared.Disk.{Ghosts}
@@ -48,11 +48,13 @@ pub MftReads-then : {D : Type 0} (g : Ghosts D) (a b c : Mft D g) (m n k : ℕ) 
 MftReads-then g a b c m n k first second fits = record {
   stage = StageReads-then g (stage_of g a) (stage_of g b) (stage_of g c) m n k first.stage second.stage fits;
   mounted = second.mounted ∙ first.mounted;
+  committed = second.committed ∙ first.committed;
 }
 
 -- Pieces.
 
-touched : (at len : ℕ) → 0 < len → pieces_touched at len ≡ (at + len - 1) / 512 + 1 - at / 512
+-- the pieces that some bytes touch
+pub touched : (at len : ℕ) → 0 < len → pieces_touched at len ≡ (at + len - 1) / 512 + 1 - at / 512
 touched at len some = cond-false (len == 0) _ _ (ne_eqb len 0 (λ none. absurd (omega arith)))
 
 -- the pieces of two parts that meet at a seam
@@ -73,6 +75,18 @@ touched-add at b (suc m) (suc n) len lt seam e = elim seam [
 pub touched-one : (at m n len : ℕ) → m < len → 0 < n → IsSeam at m len → pieces_touched at m + 1 ≤ pieces_touched at (m + n)
 touched-one at m n len lt some seam =
     omega (arith, touched-add at (at + m) m n len lt seam refl, touched (at + m) n some)
+
+-- the pieces of a part of a range, from its place in whole clusters on
+pub touched-part : (at per n len : ℕ) → 0 < per → n ≤ len → pieces_touched (at % (512 * per)) n ≤ pieces_touched at len
+touched-part at per n len some le = elim (cases_lt 0 n) [
+  | inl more ↦
+      let left : ℕ = at % (512 * per) in
+      let whole : 512 * (per * (at / (512 * per))) + left ≡ at = omega arith in
+      omega (arith, whole, touched left n more, touched at len (omega arith))
+  | inr none ↦
+      let nothing : n ≡ 0 = omega arith in
+      rw nothing (omega arith)
+]
 
 -- no call
 pub MftReads-none : {D : Type 0} (g : Ghosts D) (a : Mft D g) → MftReads g a a 0

@@ -1,11 +1,9 @@
 -- Bytes of a stream, run by run.
-use Rattle.std.proofs.Common.{◌≡◌, ℕ, ◌+◌, ◌-◌, ◌*◌, ◌/◌, ◌%◌, ◌<◌, ◌≤◌, List, [], get_or, replicate, Option, None, Some, refl, sym, ap, ◌∙◌, arith}
+use Rattle.std.proofs.Common.{◌≡◌, ℕ, ◌+◌, ◌-◌, ◌*◌, ◌/◌, ◌%◌, ◌<◌, ◌≤◌, List, get_or, replicate, None, Some, refl, sym, ap, ◌∙◌, arith}
 use Rattle.std.specs.Prelude.{slice_index}
 use Rattle.std.proofs.Math.Nat.{add-mul, add-mul-mod_self_right, div-lt_iff_lt-mul, le-mul_of_pos_right, mul-add-div_right, mul_assoc, mul_comm}
 use Rattle.std.proofs.lemmas.Nat.{div-add-mod', mod_below}
 use Rattle.ntfs_def.specs.declared.run_text.Run.{Run}
-use Rattle.ntfs_def.specs.declared.run_text.Spot.{Spot}
-use Rattle.ntfs_def.specs.declared.run_text.Spot.TheVariants.{Outside}
 use Rattle.ntfs_def.specs.Runs.{spot_of}
 use Rattle.data_runs.specs.Left.{run_left}
 use Rattle.data_runs.proofs.LeftLaws.{spot_of-behind, spot_of-left}

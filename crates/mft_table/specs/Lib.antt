@@ -2,8 +2,10 @@ pub mod Tables
 pub mod StageCauses
 pub mod TableNos
 pub mod Mounted
+pub mod Changes
 pub mod MirrorClusters
 pub mod Mft
+pub mod Staging
 pub mod MftNos
 pub mod Streams
 pub mod MountNos

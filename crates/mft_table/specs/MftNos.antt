@@ -1,5 +1,5 @@
 -- Why a record is not read.
-use Rattle.std.specs.Prelude.{◌≡◌, ◌≤◌, ℕ, IsTrue}
+use Rattle.std.specs.Prelude.{◌≡◌, ℕ, IsTrue}
 use Rattle.vol_disk.specs.Count.{Rose}
 use Rattle.ntfs_def.specs.Fixup.{IsSealed}
 use Rattle.volume_def.specs.View.{VolumeView}

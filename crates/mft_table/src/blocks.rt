@@ -72,8 +72,8 @@ impl BlockReader<'_> {
         u64::from(self.geometry.cluster) / SECTOR as u64
     }
 
-    // The sector of the disk at which a sector of the table lies.
-    fn place(&self, sector: u64) -> Option<u64>
+    /// The sector of the disk at which a sector of the table lies.
+    pub(crate) fn place(&self, sector: u64) -> Option<u64>
         requires some { 0 < (reader_layout self.now).cluster_sectors }
         requires fits { (place : ℕ) → table_place (reader_layout self.now) sector ≡ Some place → place < 2 ^ 64 }
         ensures { result ≡ table_place (reader_layout self.now) sector }

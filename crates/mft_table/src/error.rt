@@ -1,5 +1,6 @@
 //! Why the table is not found, and why a record of it is not read.
 ghost use Rattle.std.specs.Prelude.{◌≡◌};
+ghost use Rattle.mft_table.specs.declared.error.MftNo.TheVariants as mft;
 ghost use Rattle.mft_table.specs.declared.error.TableNo.TheVariants as table;
 ghost use Rattle.mft_table.specs.StageCauses.{mft_no, table_no};
 
@@ -72,5 +73,13 @@ impl From<StageNo> for MftNo {
             StageNo::Device => MftNo::Device,
             StageNo::Memory => MftNo::Memory,
         }
+    }
+}
+
+impl From<AllocError> for MftNo {
+    ghost from_gives = { λ _ error. error ≡ mft.Memory };
+
+    fn from(_error: AllocError) -> MftNo {
+        MftNo::Memory
     }
 }

@@ -2,6 +2,7 @@
 #![tactic(auto)]
 
 mod blocks;
+mod changes;
 mod error;
 mod find;
 mod mft;

@@ -3,14 +3,19 @@ ghost use Rattle.std.proofs.Props.{props};
 ghost use Rattle.std.specs.Prelude.{◌≡◌, ◌<◌, ◌*◌, ◌^◌, ◌≤◌, IfSome, length};
 ghost use Rattle.volume_def.specs.Table.{cluster_bytes};
 ghost use Rattle.vol_stage.specs.Staged.{disk_of, image};
+ghost use Rattle.mft_table.specs.Changes.{ShowAll, ShowAll-prop};
 ghost use Rattle.mft_table.specs.Mounted.{StandsOn};
 
+mod bits;
 mod clusters;
+mod commit;
 mod records;
 mod sectors;
 mod streams;
+mod write;
 
 use crate::Mounted;
+use crate::changes::Change;
 use vol_disk::{Disk, SECTOR};
 use vol_stage::Stage;
 
@@ -20,27 +25,40 @@ use vol_stage::Stage;
 pub struct Mft<'d, D: Disk> {
     stage: Stage<'d, D>,
     mounted: Mounted,
+    // What was changed of the tables since the last commit, the first change first. Each kind has a variant.
+    changes: Vec<Change>,
     ghost stands: { StandsOn (D.size (disk_of D.Disk stage)) mounted } by { Prim.hlevel props },
+    ghost shown: { ShowAll mounted changes.items } by { ShowAll-prop mounted changes.items },
 }
 
 impl<'d, D: Disk> Mft<'d, D> {
-    ghost use Rattle.mft_table.specs.Mft.{mounted_of, stage_of};
+    ghost use Rattle.mft_table.specs.Mft.{committed_of, mounted_of, stage_of};
 
-    /// Goes on with the tables that a mount gave. Nothing is read.
+    /// Goes on with the tables that a mount gave. Nothing is read. A discard goes back to them until there is a commit.
     pub fn resume(stage: Stage<'d, D>, mounted: Mounted) -> Mft<'d, D>
         requires { StandsOn (D.size (disk_of D.Disk stage)) mounted }
         ensures stage { stage_of D.Disk result ≡ stage.entry }
         ensures mounted { mounted_of D.Disk result ≡ mounted }
+        ensures committed { committed_of D.Disk result ≡ mounted }
     {
-        Mft { stage, mounted }
+        let changes = Vec::new(stage.allocator());
+        Mft {
+            stage,
+            mounted,
+            changes,
+        }
     }
 
-    /// Gives the stage and the tables back. What is staged is still staged.
+    /// Gives the stage and the tables back. What is staged is still staged, and the tables are as they stand.
     pub fn into_parts(self) -> (Stage<'d, D>, Mounted)
         ensures stage { result.0 ≡ stage_of D.Disk self.entry }
         ensures mounted { result.1 ≡ mounted_of D.Disk self.entry }
     {
-        let Mft { stage, mounted } = self;
+        let Mft {
+            stage,
+            mounted,
+            changes: _,
+        } = self;
         (stage, mounted)
     }
 }

@@ -1,5 +1,5 @@
 //! Bytes of a stream are read.
-ghost use Rattle.std.specs.Prelude.{◌≡◌, ◌-◌, ◌<◌, ◌≤◌, ℕ, IfErr, IfOk, IfSome, IsSomeAnd, IsTrue, List, MatchResult, false, length, min};
+ghost use Rattle.std.specs.Prelude.{◌≡◌, ◌+◌, ◌-◌, ◌<◌, ◌≤◌, ℕ, IfErr, IfOk, IfSome, IsSomeAnd, IsTrue, List, MatchResult, false, length, min};
 ghost use Rattle.volume_def.specs.CaseClause.{volume_fold};
 ghost use Rattle.volume_def.specs.Files.{parts, records_of};
 ghost use Rattle.volume_def.specs.Readable.{IsFile};
@@ -91,7 +91,7 @@ pub fn read_at<D: Disk>(
     ensures err { IfErr result IsReadNo }
     ensures faults { MatchResult result (λ _. faults_of D.Disk mft.new ≡ faults_of D.Disk mft.old)
         (CountsNo (faults_of D.Disk mft.old) (faults_of D.Disk mft.new)) }
-    ensures reads { (reads : ℕ) × MftReads D.Disk mft.old mft.new reads }
+    ensures reads { MftReads D.Disk mft.old mft.new (20678 + pieces_touched at len) }
 {
     let Some(base) = load_base(alloc, mft, file)? else {
         return Ok(Octets::from_vec(Vec::new(alloc)));

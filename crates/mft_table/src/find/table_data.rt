@@ -44,24 +44,12 @@ fn only_data_extent<'r>(view: &RecordView<'r>) -> Option<AttrView<'r>>
     }
 }
 
-// Whether the record has an attribute list.
-fn has_list(view: &RecordView<'_>) -> bool
-    ensures { IsFalse result ↔ All (λ attribute. attribute.kind ≢ ATTRIBUTE_LIST) (attributes_of view.now) }
-{
-    for attribute in view.attributes() {
-        if attribute.kind() == ATTRIBUTE_LIST {
-            return true;
-        }
-    }
-    false
-}
-
 /// The attribute that holds the table, where record 0 has one and no other part of it is elsewhere.
 pub fn table_stream<'r>(view: &RecordView<'r>) -> Option<AttrView<'r>>
     ensures some { IfSome result (λ stream. IsTableData (viewed_block view.now) (attribute_of stream)) }
     ensures none { IfNone result ((stream : Attribute) → ¬ (IsTableData (viewed_block view.now) stream)) }
 {
-    if has_list(view) {
+    if view.has_list() {
         return None;
     }
     let Some(stream) = only_data_extent(view) else {

@@ -73,3 +73,12 @@ returns-clause-fetched g c told readable file =
           subst (λ mft. MftReads g.D.Disk c.args.mft.now mft (reads_for_list volume number)) (sym w.mft-is)
           (MftReads-then g.D.Disk c.args.mft.now c.args.mft.now c.args.mft.now 0 0 _ none none (omega arith))
     ]
+
+pub returns-clause-reads : goal.returns-clause-reads
+returns-clause-reads g c = elim c.match-list_of.branch [
+  | in-Some+in_ok-add_listed w ↦ subst (λ mft. MftReads g.D.Disk c.args.mft.now mft 512) (sym w.mft-is) w.add_listed.ensures.reads
+  | in_default w ↦
+      let none = MftReads-none g.D.Disk c.args.mft.now in
+      subst (λ mft. MftReads g.D.Disk c.args.mft.now mft 512) (sym w.mft-is)
+      (MftReads-then g.D.Disk c.args.mft.now c.args.mft.now c.args.mft.now 0 0 512 none none (omega arith))
+]

@@ -6,6 +6,7 @@ use Rattle.mft_table.specs.Mft.{view}
 use Rattle.file_record.proofs.ReadLaws.{view-kept}
 use Rattle.file_record.specs.Held.{AreParts, file_number}
 use Rattle.mft_table.proofs.StreamReads.{MftReads-then}
+use Rattle.attr_store.proofs.Spanned.{touched-le}
 use Rattle.tree_model.specs.Answers.{bytes_of, range_of}
 use Rattle.tree_model.specs.Cases.{is_packed}
 use Rattle.sparse_io.specs.Held.{IsHeldWith, IsStream, IsStreamIfThere}
@@ -49,16 +50,14 @@ returns-clause-read g c told =
 
 pub returns-clause-reads : goal.returns-clause-reads
 returns-clause-reads g c =
-    let pieces = pieces_touched c.args.at (min c.args.len (c.in-Some-2.found.size - c.args.at)) in (
-      20678 + pieces,
-      MftReads-then g.D.Disk c.args.mft.now c.load_base.new.mft c.read_stream.new.mft 20678 pieces (20678 + pieces) c.in_ok-base.ensures.reads
-          c.read_stream.ensures.reads (omega arith),
-    )
+    let pieces = pieces_touched c.args.at (min c.args.len (c.in-Some-2.found.size - c.args.at)) in
+    let few = touched-le c.args.at (min c.args.len (c.in-Some-2.found.size - c.args.at)) c.args.len (omega arith) in
+    MftReads-then g.D.Disk c.args.mft.now c.load_base.new.mft c.read_stream.new.mft 20678 pieces (20678 + pieces_touched c.args.at c.args.len)
+    c.in_ok-base.ensures.reads c.read_stream.ensures.reads (omega (arith, few))
 
 pub returns-in_err-read_stream-clause-reads : goal.returns-in_err-read_stream-clause-reads
 returns-in_err-read_stream-clause-reads g c =
-    let pieces = pieces_touched c.args.at (min c.args.len (c.in-Some-2.found.size - c.args.at)) in (
-      20678 + pieces,
-      MftReads-then g.D.Disk c.args.mft.now c.load_base.new.mft c.read_stream.new.mft 20678 pieces (20678 + pieces) c.in_ok-base.ensures.reads
-          c.read_stream.ensures.reads (omega arith),
-    )
+    let pieces = pieces_touched c.args.at (min c.args.len (c.in-Some-2.found.size - c.args.at)) in
+    let few = touched-le c.args.at (min c.args.len (c.in-Some-2.found.size - c.args.at)) c.args.len (omega arith) in
+    MftReads-then g.D.Disk c.args.mft.now c.load_base.new.mft c.read_stream.new.mft 20678 pieces (20678 + pieces_touched c.args.at c.args.len)
+    c.in_ok-base.ensures.reads c.read_stream.ensures.reads (omega (arith, few))

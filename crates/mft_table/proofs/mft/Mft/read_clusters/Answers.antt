@@ -1,5 +1,4 @@
-use Rattle.std.proofs.Common.{◌≡◌, inl, ◌<◌, ◌≤◌, ◌+◌, ◌-◌, ◌*◌, ◌%◌, ◌/◌, length, refl, sym, ◌∙◌, arith}
-use Rattle.volume_def.specs.Values.{pieces_touched}
+use Rattle.std.proofs.Common.{inl, ◌<◌, length, refl, ◌∙◌, arith}
 use Rattle.mft_table.proofs.StreamBytes.{stored_bytes-next, stored_bytes-none}
 use Rattle.mft_table.proofs.StreamReads.{MftReads-none, MftReads-then, seam-next, touched-add}
 use Rattle.mft_table.proofs.mft.Mft.read_clusters.Goals as goal

@@ -1,4 +1,4 @@
-use Rattle.std.proofs.Common.{◌≡◌, ◌+◌, ◌-◌, ◌*◌, ◌≤◌, ◌++◌, drop, length}
+use Rattle.std.proofs.Common.{◌≡◌, ◌-◌, ◌≤◌, ◌++◌, drop, length}
 use Rattle.std.specs.Prelude.{IsTrue}
 use Rattle.ntfs_def.specs.Runs.{spot_of}
 use Rattle.volume_def.specs.Values.{pieces_touched, stored_bytes}

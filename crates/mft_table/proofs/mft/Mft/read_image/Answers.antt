@@ -1,5 +1,4 @@
-use Rattle.std.proofs.Common.{◌≡◌, inl, ◌<◌, ◌≤◌, ◌+◌, ◌-◌, ◌*◌, ◌%◌, ◌/◌, length, refl, sym, ◌∙◌, arith}
-use Rattle.volume_def.specs.Values.{pieces_touched}
+use Rattle.std.proofs.Common.{◌≡◌, inl, ◌<◌, ◌+◌, ◌*◌, ◌%◌, ◌/◌, length, refl, ◌∙◌, arith}
 use Rattle.mft_table.proofs.StreamBytes.{image_bytes-next, image_bytes-none}
 use Rattle.mft_table.proofs.StreamReads.{MftReads-none, MftReads-then, seam-piece, touched-one}
 use Rattle.mft_table.proofs.mft.Mft.read_image.Goals as goal

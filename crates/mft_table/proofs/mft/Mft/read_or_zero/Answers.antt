@@ -1,4 +1,4 @@
-use Rattle.std.proofs.Common.{◌≡◌, sym, ◌∙◌}
+use Rattle.std.proofs.Common.{◌∙◌}
 use Rattle.std.proofs.lemmas.Result.{on_ok_weaker}
 use Rattle.mft_table.proofs.StreamBytes.{no_sector_bytes, sector_bytes, sectors_told}
 use Rattle.mft_table.proofs.mft.Mft.read_or_zero.Goals as goal

@@ -1,4 +1,4 @@
-use Rattle.std.proofs.Common.{◌≡◌, ◌++◌, arith, drop, ap, sym, ◌∙◌}
+use Rattle.std.proofs.Common.{◌++◌, arith, drop, ap, ◌∙◌}
 use Rattle.mft_table.proofs.StreamBytes.{image_bytes-part}
 use Rattle.mft_table.proofs.mft.Mft.read_part.Goals as goal
 

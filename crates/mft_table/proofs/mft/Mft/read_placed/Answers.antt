@@ -1,4 +1,4 @@
-use Rattle.std.proofs.Common.{◌≡◌, ◌+◌, ◌*◌, ◌%◌, ◌/◌, length, ap, ◌∙◌, arith}
+use Rattle.std.proofs.Common.{◌*◌, length, ap, ◌∙◌, arith}
 use Rattle.std.proofs.lemmas.Result.{on_ok_weaker}
 use Rattle.mft_table.specs.Mft.{view}
 use Rattle.mft_table.proofs.StreamBytes.{sectors_told}

@@ -1,6 +1,4 @@
 use Rattle.std.proofs.Common.{rules, ◌≡◌, None, length, ◌∙◌}
-use Rattle.volume_def.specs.Table.{cluster_bytes}
-use Rattle.mft_table.specs.Mft.{view}
 use Rattle.mft_table.proofs.StreamRuns.{zeros-hole}
 use Rattle.mft_table.proofs.mft.Mft.read_run.Goals as goal
 
