@@ -137,7 +137,6 @@ refusal_name (no.MftFull need free) = codes "25 MftFull"
 refusal_name (no.NoRoom need free) = codes "26 NoRoom"
 refusal_name no.Memory = codes "27 Memory"
 refusal_name no.Unbuilt = codes "28 Unbuilt"
-refusal_name (no.Overflow need free) = codes "29 Overflow"
 refusal_name no.Linked = codes "30 Linked"
 
 -- two numbers behind them
@@ -150,7 +149,6 @@ refusal_numbers (no.Shared session handle) = two_numbers session handle
 refusal_numbers (no.TooManyParts length more) = two_numbers length more
 refusal_numbers (no.MftFull need free) = two_numbers need free
 refusal_numbers (no.NoRoom need free) = two_numbers need free
-refusal_numbers (no.Overflow need free) = two_numbers need free
 refusal_numbers other = []
 
 -- the line of a refusal

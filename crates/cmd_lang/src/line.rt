@@ -208,7 +208,6 @@ fn refusal_name(no: No) -> &'static [u8]
         No::NoRoom { .. } => b"26 NoRoom",
         No::Memory => b"27 Memory",
         No::Unbuilt => b"28 Unbuilt",
-        No::Overflow { .. } => b"29 Overflow",
         No::Linked => b"30 Linked",
     }
 }
@@ -228,7 +227,7 @@ fn refusal_numbers(no: No) -> Line
             add_number(&mut line, length);
             add_number(&mut line, more);
         }
-        No::MftFull { need, free } | No::NoRoom { need, free } | No::Overflow { need, free } => {
+        No::MftFull { need, free } | No::NoRoom { need, free } => {
             add_number(&mut line, need);
             add_number(&mut line, free);
         }

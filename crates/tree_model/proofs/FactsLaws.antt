@@ -134,7 +134,6 @@ one_facts view one other x y = λ i. record {
   in_use = λ n. (x.in_use n ∙ sym (y.in_use n)) i;
   descriptor = λ id. one_told view id (one.descriptor id) (other.descriptor id) (x.descriptors id) (y.descriptors id) i;
   no_room = λ m command at. (x.no_room m command at ∙ sym (y.no_room m command at)) i;
-  spills = λ m command at. (x.spills m command at ∙ sym (y.spills m command at)) i;
 }
 
 -- .. so what an image tells is one

@@ -26,7 +26,6 @@ use Rattle.tree_model.specs.IndexRoom.{Index}
 use Rattle.tree_model.specs.NoRoom.{no_room_for}
 use Rattle.tree_model.specs.Refusals.{Facts}
 use Rattle.volume_def.specs.Room.{unowned_clusters, unused_records}
-use Rattle.tree_model.specs.Staging.{spills_for}
 use Rattle.tree_model.proofs.IndexRoomLaws.{entry-walk}
 
 -- the index of the ids, and the stream $SDS
@@ -162,7 +161,6 @@ has_facts view sound =
       in_use = λ n. is_some (record_on view n);
       descriptor = λ id. (descriptors id).0;
       no_room = λ m command at. no_room_for view (bill_of view m.tree command at);
-      spills = λ m command at. spills_for view (bill_of view m.tree command at) command at;
     } in (
       facts,
       record {
@@ -173,6 +171,5 @@ has_facts view sound =
         in_use = λ n. refl;
         descriptors = λ id. (descriptors id).1;
         no_room = λ m command at. refl;
-        spills = λ m command at. refl;
       },
     )

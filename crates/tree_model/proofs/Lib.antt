@@ -8,7 +8,6 @@ pub mod BillLaws
 pub mod IndexRoomLaws
 pub mod NamesLaws
 pub mod HiddenLaws
-pub mod SessionLaws
 pub mod PlaceLaws
 pub mod FactsLaws
 pub mod HasFacts

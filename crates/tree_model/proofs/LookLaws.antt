@@ -14,7 +14,6 @@ use Rattle.tree_model.specs.declared.command.Command.{Command}
 use Rattle.tree_model.specs.declared.command.Command.TheVariants as c
 use Rattle.tree_model.specs.declared.opens.OpenEntry.{OpenEntry}
 use Rattle.tree_model.specs.declared.reply.Answer.{Answer}
-use Rattle.tree_model.specs.declared.reply.Answer.TheVariants as a
 use Rattle.tree_model.specs.declared.reply.No.{No}
 use Rattle.tree_model.specs.declared.tree.Content.{Content}
 use Rattle.tree_model.specs.declared.tree.Content.TheVariants.{Packed, Plain}

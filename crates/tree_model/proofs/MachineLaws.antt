@@ -79,4 +79,4 @@ shown-step facts m session command (Ok answer) built tells =
     }
 shown-step facts m session command (Err refused) built (inl tells) = record { replied = inl (sym (ap reply_of tells)); moved = refl }
 shown-step facts m session command (Err refused) built (inr memory) =
-    record { replied = inr (inl (ap reply.No memory)); moved = refl }
+    record { replied = inr (ap reply.No memory); moved = refl }

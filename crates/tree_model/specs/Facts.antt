@@ -22,7 +22,6 @@ use Rattle.tree_model.specs.NoRoom.{no_room_for}
 use Rattle.tree_model.specs.Reading.{read}
 use Rattle.tree_model.specs.Refusals.{Facts}
 use Rattle.volume_def.specs.Room.{unowned_clusters, unused_records}
-use Rattle.tree_model.specs.Staging.{spills_for}
 use Rattle.tree_model.specs.Subjects.{Located, Machine}
 use Rattle.tree_model.specs.Tree.{Tree}
 use Rattle.tree_model.specs.declared.command.Command.{Command}
@@ -67,7 +66,7 @@ abbrev pub TellsDescriptor : VolumeView → ℕ → Option (List ℕ) → Type 0
 TellsDescriptor view id None = (bytes : List ℕ) → ¬ (HasDescriptor view id bytes)
 TellsDescriptor view id (Some bytes) = HasDescriptor view id bytes
 
--- What a volume tells beside its tree. The refusal for room, and that of a record that is full, come of the bill of the command.
+-- What a volume tells beside its tree. The refusal for room comes of the bill of the command.
 pub record TellsFacts (view : VolumeView) (facts : Facts) : Type 0 where
   pub clusters : facts.clusters ≡ view.layout.clusters
   pub free : facts.free ≡ unowned_clusters view
@@ -77,5 +76,3 @@ pub record TellsFacts (view : VolumeView) (facts : Facts) : Type 0 where
   pub descriptors : (id : ℕ) → TellsDescriptor view id (facts.descriptor id)
   pub no_room : (m : Machine) (command : Command) (at : Located)
       → facts.no_room m command at ≡ no_room_for view (bill_of view m.tree command at)
-  pub spills : (m : Machine) (command : Command) (at : Located)
-      → facts.spills m command at ≡ spills_for view (bill_of view m.tree command at) command at

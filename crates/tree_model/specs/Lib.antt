@@ -19,5 +19,4 @@ pub mod Step
 pub mod Hidden
 pub mod Reading
 pub mod Facts
-pub mod Session
 pub mod Taken

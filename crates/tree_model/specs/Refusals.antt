@@ -24,8 +24,6 @@ pub record Facts : Type 0 where
   pub descriptor : ℕ → Option (List ℕ)
   -- the refusal for room of an edit: TooManyParts, TooDeep, MftFull or NoRoom
   pub no_room : Machine → Command → Located → Option No
-  -- of a file that the edit changes: the bytes that its base record wants and has free, where it may lack some
-  pub spills : Machine → Command → Located → Option (ℕ × ℕ)
 
 -- Every command but those that read, `time`, `open` and `close` is an edit.
 abbrev pub is_edit : Command → Bool

@@ -3,8 +3,7 @@ use Rattle.std.specs.Prelude.{◌≡◌, ◌⊎◌, ℕ, ◌≤◌, false, All, 
 use Rattle.ntfs_def.specs.declared.records.TheConstants.{FIRST_ORDINARY}
 use Rattle.tree_model.specs.Answers.{answer_of}
 use Rattle.tree_model.specs.Effects.{after, makes_file}
-use Rattle.tree_model.specs.Refusals.{Facts, is_edit, outcome}
-use Rattle.tree_model.specs.Staging.{IsOverflow, Overflows}
+use Rattle.tree_model.specs.Refusals.{Facts, outcome}
 use Rattle.tree_model.specs.Subjects.{Located, Machine}
 use Rattle.tree_model.specs.Tree.{Tree, leads_to, node_of}
 use Rattle.tree_model.specs.declared.command.Command.{Command}
@@ -47,13 +46,7 @@ Leads facts m session command (reply.Ok answer) next = Moves facts m session com
 Leads facts m session command (reply.No refused) next = next ≡ m
 Leads facts m session command reply.Device next = ⊥
 
--- A STEP. Want of memory may stand in place of any reply, and Overflow, where it may come, of what is due of an edit.
+-- A STEP. Want of memory may stand in place of any reply.
 pub record Step (facts : Facts) (m : Machine) (session : ℕ) (command : Command) (given : Reply) (next : Machine) : Type 0 where
   pub replied : (given ≡ reply_of (due facts m session command)) ⊎ (given ≡ reply.No no.Memory)
-      ⊎ (IsTrue (is_edit command) × Overflows (outcome facts m session command) (facts.spills m command) given)
   pub moved : Leads facts m session command given next
-
--- the replies that may stand in place of the one that is due
-abbrev pub MayStandIn : Reply → Type 0
-MayStandIn (reply.No no.Memory) = Unit {0}
-MayStandIn other = IsOverflow other

@@ -6,7 +6,6 @@ ghost use Rattle.volume_def.specs.CaseClause.{volume_fold};
 ghost use Rattle.volume_def.specs.IndexesClause.{HasIndex, KeyRule, index_parts};
 ghost use Rattle.ntfs_def.specs.declared.records.TheConstants.{ROOT};
 ghost use Rattle.volume_def.specs.Sound.{IsSound};
-ghost use Rattle.volume_def.specs.VersionClause.{IsClean};
 ghost use Rattle.std.specs.FinMap as finmap;
 ghost use Rattle.volume_def.specs.View.{VolumeView};
 ghost use Rattle.tree_model.specs.Bill.{bill_of};
@@ -17,13 +16,12 @@ ghost use Rattle.tree_model.specs.NoRoom.{no_room_for};
 ghost use Rattle.list_laws.specs.Ordered.{in_order, put_in_order};
 ghost use Rattle.tree_model.specs.Paths.{lookup, links_in_order};
 ghost use Rattle.tree_model.specs.Reading.{directory_links, node_at, read, all_links, is_hidden_link, links_to, tree_nodes};
-ghost use Rattle.tree_model.specs.Refusals.{Facts, is_edit};
+ghost use Rattle.tree_model.specs.Refusals.{Facts};
 ghost use Rattle.tree_model.specs.Taken.{IsTaken, without_file};
-ghost use Rattle.tree_model.specs.Step.{MayStandIn, Step, due, reply_of};
+ghost use Rattle.tree_model.specs.Step.{Step};
 ghost use Rattle.tree_model.specs.Subjects.{Located, Machine, NoName};
 ghost use Rattle.tree_model.specs.Tree.{Tree, link_above, node_of, sought_link, leads_to, shown_node};
 ghost use Rattle.tree_model.specs.declared.command.Command.{Command};
-ghost use Rattle.tree_model.specs.Session.{dirty_flag};
 ghost use Rattle.tree_model.specs.declared.command.Command.TheVariants as c;
 ghost use Rattle.tree_model.specs.declared.reply.No.TheVariants as no;
 ghost use Rattle.tree_model.specs.declared.reply.Reply.{Reply};
@@ -55,15 +53,11 @@ pub fn has_facts()
     ensures { (view : VolumeView) → IsSound view → (facts : Facts) × TellsFacts view facts }
 {}
 
-/// A step has one reply: one refusal, or one answer. Want of memory may stand in its place, and until files get
-/// further records so may Overflow (`one`); but in place of a reply that shows something, want of memory alone (`shown`).
+/// A step has one reply: one refusal, or one answer. Want of memory alone may stand in its place.
 pub fn one_reply()
-    ensures one { (facts : Facts) (m : Machine) (session : ℕ) (command : Command) (given other : Reply) (next last : Machine)
+    ensures { (facts : Facts) (m : Machine) (session : ℕ) (command : Command) (given other : Reply) (next last : Machine)
         → Step facts m session command given next → Step facts m session command other last
-        → MayStandIn given ⊎ MayStandIn other ⊎ (given ≡ other) }
-    ensures shown { (facts : Facts) (m : Machine) (session : ℕ) (command : Command) (given : Reply) (next : Machine)
-        → is_edit command ≡ false → Step facts m session command given next
-        → (given ≡ reply_of (due facts m session command)) ⊎ (given ≡ reply.No no.Memory) }
+        → (given ≡ reply.No no.Memory) ⊎ (other ≡ reply.No no.Memory) ⊎ (given ≡ other) }
 {}
 
 /// What the tree of a volume has at each number, and in each directory: what the record of that number tells
@@ -79,11 +73,6 @@ pub fn reading_laws()
         → filter (leads_to file) (read view).links ≡ in_order (link_above (volume_fold view)) (links_to view file) }
     ensures hidden { (view : VolumeView) (link : Link) → Contains (all_links view) link
         → (shown_node (read view) link ≡ None) ↔ IsTrue (is_hidden_link view link) }
-{}
-
-/// A volume is clean where its dirty flag is 0.
-pub fn clean_law()
-    ensures { (view : VolumeView) → IsClean view ↔ (dirty_flag view ≡ Some 0) }
 {}
 
 /// How an edit changes a tree. Where one file differs (`node`) it is put into the map; a link that stands anywhere among

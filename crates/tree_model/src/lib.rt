@@ -12,8 +12,8 @@ mod tree;
 
 pub use command::Command;
 pub use laws::{
-    clean_law, edited_reading_laws, empty_bill_laws, has_facts, index_room_laws, one_descriptor,
-    one_facts, one_reading, one_reply, reading_laws,
+    edited_reading_laws, empty_bill_laws, has_facts, index_room_laws, one_descriptor, one_facts,
+    one_reading, one_reply, reading_laws,
 };
 pub use lists::{Listing, Path, RawAttrs, ShownLinks, ShownStreams, Streams};
 pub use opens::{Access, OpenEntry};

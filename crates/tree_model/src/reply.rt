@@ -156,9 +156,6 @@ pub enum No {
     /// The command is not built yet.
     #[error("not built")]
     Unbuilt,
-    /// A file's record is full, and it may not get another yet.
-    #[error("a record is full: {need} {free}")]
-    Overflow { need: u64, free: u64 },
     /// The node to be removed has an object id or a reparse point, and its keys in a view index may not be dropped yet.
     #[error("an object id or a reparse point")]
     Linked,

@@ -448,7 +448,7 @@ const REFUSALS: [(No, &str); 25] = [
 ];
 
 // Each refusal with numbers.
-const REFUSALS_WITH_NUMBERS: [(No, &str); 5] = [
+const REFUSALS_WITH_NUMBERS: [(No, &str); 4] = [
     (
         No::Shared {
             session: 1,
@@ -465,13 +465,6 @@ const REFUSALS_WITH_NUMBERS: [(No, &str); 5] = [
     ),
     (No::MftFull { need: 97, free: 40 }, "no 25 MftFull 97 40\n"),
     (No::NoRoom { need: 10, free: 9 }, "no 26 NoRoom 10 9\n"),
-    (
-        No::Overflow {
-            need: 320,
-            free: 264,
-        },
-        "no 29 Overflow 320 264\n",
-    ),
 ];
 
 // Whether a refusal is printed so.

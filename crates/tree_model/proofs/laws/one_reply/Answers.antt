@@ -2,4 +2,4 @@ use Rattle.tree_model.proofs.StepLaws as laws
 use Rattle.tree_model.proofs.laws.one_reply.Goals as goal
 
 pub returns : goal.returns
-returns c = record { one = laws.one_reply; shown = laws.shown_reply }
+returns c = laws.one_reply

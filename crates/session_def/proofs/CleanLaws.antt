@@ -8,7 +8,7 @@ use Rattle.ntfs_def.specs.declared.kinds.TheConstants.{VOLUME_INFORMATION}
 use Rattle.ntfs_def.specs.declared.records.TheConstants.{VOLUME}
 use Rattle.volume_def.specs.VersionClause.{IsClean}
 use Rattle.volume_def.specs.View.{VolumeView}
-use Rattle.tree_model.specs.Session.{dirty_flag}
+use Rattle.session_def.specs.State.{dirty_flag}
 
 pub clean-flag : (view : VolumeView) → IsClean view ↔ (dirty_flag view ≡ Some 0)
 clean-flag view = by (first_value VOLUME_INFORMATION (attributes (opened_of (view.block VOLUME))))

@@ -1,0 +1,12 @@
+pub mod Kept
+pub mod Names
+pub mod Items
+pub mod Account
+pub mod Purses
+pub mod OneFile
+pub mod Marks
+pub mod Places
+pub mod Forms
+pub mod Unused
+pub mod Edited
+pub mod ListOrder

@@ -1,0 +1,10 @@
+pub mod CleanLaws
+pub mod SessionLaws
+pub mod MarkedLaws
+pub mod EntryLaws
+pub mod CallsLaws
+pub mod HiddenLaws
+pub mod OwedLaws
+pub mod UnnamedLaws
+pub mod LocatedLaws
+pub mod ApartLaws

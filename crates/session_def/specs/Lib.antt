@@ -1,0 +1,12 @@
+pub mod State
+pub mod Named
+pub mod Apart
+pub mod Cost
+pub mod Kept
+pub mod Nodes
+pub mod Indexes
+pub mod Room
+pub mod Done
+pub mod FirstMark
+pub mod Owed
+pub mod Session
