@@ -1,0 +1,18 @@
+use Rattle.std.proofs.Common.{◌≡◌, ◌≤◌, ◌<◌, ◌+◌, ℕ, false}
+use Rattle.vol_disk.specs.Contents.{IsTold, sector_in}
+use Rattle.vol_stage.specs.Staged.{disk_of, image, is_broken, places, GoesOn}
+use Rattle.mark_write.specs.Logs.{IsWithin, empty_sector}
+use Rattle.mark_write.proofs.log.fill_span.Given as goal
+
+abbrev pub invariant-loop-k : goal.invariant-loop-k
+invariant-loop-k g l = record {
+  goes_on : GoesOn g.D.Disk l.initial.stage l.stage;
+  filled : IsTold (image g.D.Disk l.initial.stage) → (n : ℕ) → l.span.first ≤ n → n < l.span.first + l.k → sector_in (g.D.Disk.now (disk_of g.D.Disk l.stage)) n ≡ empty_sector;
+  others : (n : ℕ) → ¬ (IsWithin l.span n) → sector_in (g.D.Disk.now (disk_of g.D.Disk l.stage)) n ≡ sector_in (g.D.Disk.now (disk_of g.D.Disk l.initial.stage)) n;
+  image : (n : ℕ) → ¬ (IsWithin l.span n) → sector_in (image g.D.Disk l.stage) n ≡ sector_in (image g.D.Disk l.initial.stage) n;
+  settled : g.D.Disk.settled (disk_of g.D.Disk l.stage) ≡ g.D.Disk.settled (disk_of g.D.Disk l.initial.stage);
+  most : g.D.Disk.written (disk_of g.D.Disk l.stage) ≤ g.D.Disk.written (disk_of g.D.Disk l.initial.stage) + l.k;
+  staged : places g.D.Disk l.stage ≡ places g.D.Disk l.initial.stage;
+  sound : is_broken g.D.Disk l.stage ≡ false;
+  quiet : g.D.Disk.faults (disk_of g.D.Disk l.stage) ≡ g.D.Disk.faults (disk_of g.D.Disk l.initial.stage);
+}

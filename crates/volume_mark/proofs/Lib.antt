@@ -1,0 +1,16 @@
+pub mod StandLaws
+pub mod HiddenNodes
+pub mod ReadingKept
+pub mod ReadingClusters
+pub mod SectorBytes
+pub mod ClearedLaws
+pub mod EditedLaws
+pub mod SameViews
+pub mod WrittenLaws
+pub mod FlagEdit
+pub mod DiskLaws
+pub mod MarkLaws
+pub mod OutsideLaws
+pub mod LiesLaws
+pub mod PokedRecord
+pub mod AgreeLaws
