@@ -19,6 +19,7 @@ use crate::CheckNo;
 use crate::file::check_file;
 use crate::notes::Notes;
 use crate::noting::note_files;
+use clause_order::Clause;
 use collation::FileNameOrder;
 use file_record::load_base;
 use mft_table::{Mft, MountNo, Mounted};
@@ -129,6 +130,6 @@ pub fn check_dirs<D: Disk>(
     let _ = stage.finish();
     match checked? {
         None => Ok(mounted),
-        Some(number) => Err(MountNo::Refused { clause: 12, number }),
+        Some(number) => Err(Clause::Indexes.refusal(number)),
     }
 }

@@ -1,3 +1,5 @@
+use Rattle.std.proofs.Common.{subst, sym}
+use Rattle.check_dirs.specs.Refusals.{IsIndexRefusal}
 use Rattle.check_dirs.proofs.AnswerLaws.{refused-indexed, sound-kept, tables-indexed}
 use Rattle.check_dirs.proofs.volume.check_dirs.Goals as goal
 
@@ -14,4 +16,5 @@ returns-in-None-clause-tables g c =
 pub returns-in-Some-clause-err : goal.returns-in-Some-clause-err
 returns-in-Some-clause-err g c =
     let first = rw (c.resume-mft.ensures.stage, c.resume-mft.ensures.mounted, c.over-stage.ensures.image) at c.in_ok-checked.ensures.first in
-    refused-indexed (g.D.Disk.now c.args.disk.now) c.args.mounted c.in_ok-checked.field-0 c.in-Some.number c.requires.tables c.in-Some.is first
+    subst (IsIndexRefusal (g.D.Disk.now c.args.disk.now)) (sym c.refusal.ensures)
+    (refused-indexed (g.D.Disk.now c.args.disk.now) c.args.mounted c.in_ok-checked.field-0 c.in-Some.number c.requires.tables c.in-Some.is first)
