@@ -20,7 +20,7 @@ const RUNS: [(RunFault, &str); 4] = [
 ];
 
 // Refusals with numbers.
-const REFUSALS: [(No, &str); 5] = [
+const REFUSALS: [(No, &str); 4] = [
     (
         No::Shared {
             session: 1,
@@ -40,13 +40,6 @@ const REFUSALS: [(No, &str); 5] = [
         "the table of records is full: 97 40",
     ),
     (No::NoRoom { need: 10, free: 9 }, "no room: 10 9"),
-    (
-        No::Overflow {
-            need: 320,
-            free: 264,
-        },
-        "a record is full: 320 264",
-    ),
 ];
 
 #[test]

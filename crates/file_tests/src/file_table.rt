@@ -6,6 +6,8 @@ ghost use Rattle.vol_stage.specs.Staged.{disk_of};
 ghost use Rattle.mft_table.specs.Mounted.{StandsOn};
 
 mod streams;
+mod taken;
+mod written;
 
 use crate::laid::mount;
 use attr_view::RecordView;
