@@ -3,7 +3,7 @@ use Rattle.std.proofs.Common.{◌≡◌, ℕ, List, [], ◌++◌, Option, Some, 
 use Rattle.vol_disk.specs.Contents.{map_told}
 use Rattle.script_lines.specs.Reading.{AreFirstLines}
 use Rattle.script_lines.specs.Text.{commands, lines_of}
-use Rattle.tree_model.specs.Session.{Begins, State}
+use Rattle.session_def.specs.State.{Begins, State}
 use Rattle.script_run.specs.declared.end.ScriptEnd.TheVariants as end
 use Rattle.script_run.specs.Ran.{Ran}
 use Rattle.script_run.specs.World.{World}
@@ -27,11 +27,13 @@ no_images : (past : Option (List (List ℕ))) → map_told (λ images. (images +
 no_images None = refl
 no_images (Some images) = ap (λ (xs : List (List ℕ)). Some xs) (append-nil (images ++ []) ∙ append-nil images)
 
-pub ran_memory : (first : State) (text : List ℕ) (old new : World) → Begins first → old.now ≡ Some first.image → IsUntouched old new
+pub ran_memory : (first : State) (text : List ℕ) (old new : World) → Begins first → old.written ≡ first.written → old.now ≡ Some first.image
+    → IsUntouched old new
     → Ran first.image text end.Memory old new
-ran_memory first text old new begins now same = record {
+ran_memory first text old new begins count now same = record {
   first = first;
   on_image = refl;
+  from_count = sym count;
   begins = begins;
   turns = [];
   session = tt;
@@ -39,15 +41,18 @@ ran_memory first text old new begins now same = record {
   printed = same.got ∙ sym (no_text old.got);
   finals = [];
   settled = same.settled ∙ sym (no_images old.settled);
-  leaves = record { bytes = first.image; are = same.now ∙ now; final = (refl, refl); accepted = whole_as first begins };
-  unwritten = λ _. same.written;
+  leaves = record {
+    closes = record { bytes = first.image; are = same.now ∙ now; final = (refl, refl); accepted = whole_as first begins };
+    count = same.written ∙ count;
+  };
 }
 
-pub ran_device : (first : State) (text : List ℕ) (old new : World) → Begins first → old.now ≡ Some first.image → IsUntouched old new
-    → new.sink_faults ≡ old.sink_faults → Ran first.image text end.Device old new
-ran_device first text old new begins now same quiet = record {
+pub ran_device : (first : State) (text : List ℕ) (old new : World) → Begins first → old.written ≡ first.written → old.now ≡ Some first.image
+    → IsUntouched old new → new.sink_faults ≡ old.sink_faults → Ran first.image text end.Device old new
+ran_device first text old new begins count now same quiet = record {
   first = first;
   on_image = refl;
+  from_count = sym count;
   begins = begins;
   turns = [];
   session = tt;
@@ -55,6 +60,9 @@ ran_device first text old new begins now same quiet = record {
   printed = inl (quiet, same.got ∙ sym (no_text old.got));
   finals = [];
   settled = same.settled ∙ sym (no_images old.settled);
-  leaves = (refl, record { bytes = first.image; are = same.now ∙ now; state = inr (inl (whole_as first begins)) });
-  unwritten = λ _. same.written;
+  leaves = record {
+    none = refl;
+    harmed = record { bytes = first.image; are = same.now ∙ now; state = inr (inl (whole_as first begins)) };
+    came = inl (record { none = refl; same = same.now ∙ now });
+  };
 }

@@ -1,20 +1,24 @@
 -- The end of a run: the volume is closed.
-use Rattle.std.proofs.Common.{◌≡◌, ◌⊎◌, ℕ, true, false, List, [], ◌++◌, Option, Some, None, refl, sym, ap, ◌∙◌, subst, inl, inr, append-nil}
+use Rattle.std.specs.Prelude.{IsOk, Result, is_ok, is_some}
+use Rattle.std.proofs.Common.{◌≡◌, ◌⊎◌, ℕ, true, false, List, [], ◌++◌, Option, Some, None, refl, sym, ap, ◌∙◌, subst, inl, inr, append-nil, true≢false}
 use Rattle.vol_disk.specs.Count.{Rose}
 use Rattle.vol_disk.specs.declared.Disk as disk
 use Rattle.vol_disk.specs.Contents.{map_told}
 use Rattle.vol_disk.specs.Stream.{IsAppended}
-use Rattle.tree_model.specs.Session.{State, Turn, images_of, last_of}
+use Rattle.session_def.specs.State.{Begins, State}
+use Rattle.session_def.specs.Session.{Turn, has_edit, images_of, last_of}
+use Rattle.mark_write.specs.declared.flag.Flag.{Flag}
+use Rattle.volume_mark.specs.Closing.{Closes, CountsClosing}
+use Rattle.volume_mark.specs.Mark.{IsHarmed}
+use Rattle.tree_ops.specs.Runs.{Closed, Ready}
 use Rattle.tree_ops.specs.declared.volume.Volume.{Volume}
-use Rattle.tree_ops.specs.Volumes.{VolumeReads, disk_under}
+use Rattle.tree_ops.specs.Volumes.{disk_under, mark_of}
 use Rattle.script_run.specs.declared.end.ScriptEnd.{ScriptEnd}
 use Rattle.script_run.specs.declared.end.ScriptEnd.TheVariants as end
-use Rattle.script_run.specs.Ran.{BlamesEnd, IsCutOff, IsPrinted, Ran, is_broken}
+use Rattle.script_run.specs.Ran.{BlamesEnd, BrokeInLine, IsCutOff, IsPrinted, Ran, is_broken}
 use Rattle.script_run.specs.Says.{printed_of}
 use Rattle.script_run.specs.SoFar.{BlamesLines, PrintsAt, RanLines}
-use Rattle.script_run.specs.Turns.{Ready}
 use Rattle.script_run.specs.World.{World}
-use Rattle.script_run.proofs.TurnLaws.{harmed_before, whole_as}
 
 -- nothing is settled behind the images of the lines
 none_behind : (turns : List Turn) (past : Option (List (List ℕ)))
@@ -78,26 +82,42 @@ blames_same end.Device old new last n d s k =
 blames_same end.Memory old new last n d s k = record { disk = d ∙ n.disk; source = s ∙ n.source; sink = k ∙ n.sink }
 blames_same end.TooMuch old new last n d s k = record { disk = d ∙ n.disk; source = s ∙ n.source; sink = k ∙ n.sink }
 
+-- lines that did not end by the disk left its count of faults
+pub quiet_lines : (given : ScriptEnd) (old new : World) → is_broken given ≡ false → BlamesLines given old new
+    → new.disk_faults ≡ old.disk_faults
+quiet_lines end.Done old new b n = n.disk
+quiet_lines end.Source old new b n = n.0
+quiet_lines end.Sink old new b n = n.0
+quiet_lines end.Device old new b n = cc
+quiet_lines end.Memory old new b n = n.disk
+quiet_lines end.TooMuch old new b n = n.disk
+
 -- the disk failed among the lines
-pub ran_broken : {D : Type 0} (g : disk.Ghosts D) (first : State) (text : List ℕ) (given : ScriptEnd) (volume volume' : Volume D g)
-    (old new : World) → Ready g volume first → VolumeReads g volume volume' → is_broken given ≡ true
-    → RanLines g first text old.got old.settled given volume' new.left new.got → BlamesLines given old new
-    → old.written ≡ g.written (disk_under g volume) → new.written ≡ g.written (disk_under g volume')
-    → new.now ≡ g.now (disk_under g volume') → new.settled ≡ g.settled (disk_under g volume')
+pub ran_broken : {D : Type 0} (g : disk.Ghosts D) (first : State) (text : List ℕ) (given : ScriptEnd) (lined : Volume D g)
+    (old new : World) → Begins first → old.written ≡ first.written → is_broken given ≡ true
+    → RanLines g first text old.got old.settled given lined new.left new.got → BlamesLines given old new
+    → new.now ≡ g.now (disk_under g lined) → new.settled ≡ g.settled (disk_under g lined)
     → Ran first.image text given old new
-ran_broken g first text given volume volume' old new ready reads b r blames w w' now settled = record {
-  first = first;
-  on_image = refl;
-  begins = ready.begins;
-  turns = r.turns;
-  session = r.session;
-  lines = r.lines;
-  printed = by given b blames r.printed;
-  finals = [];
-  settled = settled ∙ r.settled ∙ none_behind r.turns old.settled;
-  leaves = rw b (refl, rw now (rw b at r.stands));
-  unwritten = λ _. w' ∙ reads.written ∙ sym w;
-}
+ran_broken g first text given lined old new begins count b r blames now settled =
+    let stands : IsHarmed first.view (last_of first r.turns).machine.tree (g.now (disk_under g lined))
+    × BrokeInLine text first r.turns (g.now (disk_under g lined)) = rw b at r.stands in
+    record {
+      first = first;
+      on_image = refl;
+      from_count = sym count;
+      begins = begins;
+      turns = r.turns;
+      session = r.session;
+      lines = r.lines;
+      printed = by given b blames r.printed;
+      finals = [];
+      settled = settled ∙ r.settled ∙ none_behind r.turns old.settled;
+      leaves = rw b (record {
+        none = refl;
+        harmed = subst (IsHarmed first.view (last_of first r.turns).machine.tree) (sym now) stands.0;
+        came = inr (inl (subst (BrokeInLine text first r.turns) (sym now) stands.1));
+      });
+    }
   where
     by : (given : ScriptEnd) → is_broken given ≡ true → BlamesLines given old new → PrintsAt given old.got r.turns new.got
         → IsPrinted given r.turns old new
@@ -108,48 +128,62 @@ ran_broken g first text given volume volume' old new ready reads b r blames w w'
     by end.Memory e b p = cc
     by end.TooMuch e b p = cc
 
+-- what was settled behind the images of the lines
+behind_lines : (turns : List Turn) (finals : List (List ℕ)) (past : Option (List (List ℕ)))
+    → map_told (λ images. images ++ finals) (map_told (λ images. images ++ images_of turns) past)
+    ≡ map_told (λ images. images ++ images_of turns ++ finals) past
+behind_lines turns finals None = refl
+behind_lines turns finals (Some images) = refl
+
 -- the volume was closed
-pub ran_closed : {D : Type 0} (g : disk.Ghosts D) (first : State) (text : List ℕ) (given : ScriptEnd) (volume lined closed : Volume D g)
-    (old new : World) → Ready g volume first → VolumeReads g volume lined → VolumeReads g lined closed → is_broken given ≡ false
+pub ran_closed : {D : Type 0} (g : disk.Ghosts D) (first : State) (text : List ℕ) (given : ScriptEnd) (lined closed : Volume D g)
+    (old new : World) → Begins first → old.written ≡ first.written → is_broken given ≡ false
     → RanLines g first text old.got old.settled given lined new.left new.got
-    → old.written ≡ g.written (disk_under g volume) → new.written ≡ g.written (disk_under g closed)
-    → new.now ≡ g.now (disk_under g closed) → new.settled ≡ g.settled (disk_under g lined)
+    → ((state : State) → Ready g first.view lined state → Closed g first.view state lined closed)
+    → new.written ≡ g.written (disk_under g closed)
+    → new.now ≡ g.now (disk_under g closed) → new.settled ≡ g.settled (disk_under g closed)
     → Ran first.image text given old new
-ran_closed g first text given volume lined closed old new ready reads then b r w w' now settled =
-    let last : Ready g lined (last_of first r.turns) = rw b at r.stands in
+ran_closed g first text given lined closed old new begins count b r closes w now settled =
+    let last : Ready g first.view lined (last_of first r.turns) = rw b at r.stands in
+    let c = closes (last_of first r.turns) last in
+    let marked = r.marked b in
     record {
       first = first;
       on_image = refl;
-      begins = ready.begins;
+      from_count = sym count;
+      begins = begins;
       turns = r.turns;
       session = r.session;
       lines = r.lines;
       printed = printed_at given r.turns old new b r.printed;
-      finals = [];
-      settled = settled ∙ r.settled ∙ none_behind r.turns old.settled;
+      finals = c.finals;
+      settled = settled ∙ c.settled ∙ ap (map_told (λ past. past ++ c.finals)) r.settled ∙ behind_lines r.turns c.finals old.settled;
       leaves = rw b (record {
-        bytes = (last_of first r.turns).image;
-        are = now ∙ then.now ∙ last.now;
-        final = rw r.unedited (refl, refl);
-        accepted = whole_as (last_of first r.turns) last.begins;
+        closes = subst (λ contents. Closes first.view (last_of first r.turns) (has_edit r.turns) c.finals contents) (sym now)
+            (subst (λ m. Closes first.view (last_of first r.turns) m c.finals (g.now (disk_under g closed))) marked c.closes);
+        count = subst (CountsClosing (has_edit r.turns) (last_of first r.turns).written) (sym w)
+            (subst (λ n. CountsClosing (has_edit r.turns) n (g.written (disk_under g closed))) last.written
+            (subst (λ m. CountsClosing m (g.written (disk_under g lined)) (g.written (disk_under g closed))) marked c.count));
       });
-      unwritten = λ _. w' ∙ then.written ∙ reads.written ∙ sym w;
     }
 
--- the disk failed while the volume was closed
-pub ran_unclosed : {D : Type 0} (g : disk.Ghosts D) (first : State) (text : List ℕ) (given : ScriptEnd) (volume lined closed : Volume D g)
-    (old new : World) → Ready g volume first → VolumeReads g volume lined → VolumeReads g lined closed → is_broken given ≡ false
-    → RanLines g first text old.got old.settled given lined new.left new.got → (middle : World) → BlamesLines given old middle
+-- the disk failed while the volume was closed, which was marked
+pub ran_unclosed : {D : Type 0} (g : disk.Ghosts D) (first : State) (text : List ℕ) (given : ScriptEnd) (lined closed : Volume D g)
+    (old new : World) → Begins first → old.written ≡ first.written → is_broken given ≡ false
+    → RanLines g first text old.got old.settled given lined new.left new.got
+    → ((state : State) → Ready g first.view lined state → IsHarmed first.view state.machine.tree (g.now (disk_under g closed)))
+    → is_some (mark_of g lined) ≡ true
+    → (middle : World) → BlamesLines given old middle
     → middle.got ≡ new.got → middle.sink_faults ≡ new.sink_faults
-    → old.written ≡ g.written (disk_under g volume) → new.written ≡ g.written (disk_under g closed)
     → new.now ≡ g.now (disk_under g closed) → new.settled ≡ g.settled (disk_under g lined)
     → Ran first.image text end.Device old new
-ran_unclosed g first text given volume lined closed old new ready reads then b r middle blames got sink w w' now settled =
-    let last : Ready g lined (last_of first r.turns) = rw b at r.stands in
+ran_unclosed g first text given lined closed old new begins count b r harms marked middle blames got sink now settled =
+    let last : Ready g first.view lined (last_of first r.turns) = rw b at r.stands in
     record {
       first = first;
       on_image = refl;
-      begins = ready.begins;
+      from_count = sym count;
+      begins = begins;
       turns = r.turns;
       session = r.session;
       lines = r.first_lines;
@@ -157,6 +191,15 @@ ran_unclosed g first text given volume lined closed old new ready reads then b r
           (printed_behind given r.turns old middle blames (subst (PrintsAt given old.got r.turns) (sym got) r.printed));
       finals = [];
       settled = settled ∙ r.settled ∙ none_behind r.turns old.settled;
-      leaves = (refl, rw now (harmed_before g first.view (last_of first r.turns) lined closed last then));
-      unwritten = λ _. w' ∙ then.written ∙ reads.written ∙ sym w;
+      leaves = record {
+        none = refl;
+        harmed = subst (IsHarmed first.view (last_of first r.turns).machine.tree) (sym now) (harms (last_of first r.turns) last);
+        came = inr (inr (record { behind = given; ended = b; lines = r.lines; marked = sym (r.marked b) ∙ marked }));
+      };
     }
+
+-- a call that only an unmarked volume cannot fail has failed
+pub is-marked : {T E : Type 0} (mark : Option Flag) (result : Result T E) → (mark ≡ None → IsOk result) → is_ok result ≡ false
+    → is_some mark ≡ true
+is-marked None result whole failed = absurd (true≢false (sym (whole refl) ∙ failed))
+is-marked (Some flag) result whole failed = refl

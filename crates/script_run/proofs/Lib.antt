@@ -1,6 +1,6 @@
-pub mod EditLaws
 pub mod ReplyLaws
 pub mod TurnLaws
 pub mod LineLaws
 pub mod CloseLaws
 pub mod BeginLaws
+pub mod RanLaws

@@ -1,5 +1,6 @@
 -- A run, a line longer.
-use Rattle.std.proofs.Common.{◌≡◌, ◌⊎◌, ◌≤◌, ℕ, false, List, [], ◌∷◌, ◌++◌, length, take, Option, Some, None, Ok, Err, refl, sym, ap, ◌∙◌, subst, inl, inr, append_assoc, append-nil, arith}
+use Rattle.std.proofs.Common.{◌≡◌, ◌⊎◌, ◌≤◌, ℕ, Bool, true, false, List, [], ◌∷◌, ◌++◌, length, take, Option, Some, None, Ok, Err, refl, sym, ap, ◌∙◌, subst, inl, inr, append_assoc, append-nil, arith}
+use Rattle.std.specs.Prelude.{◌||◌, is_some}
 use Rattle.std.proofs.lemmas.List.{map-append}
 use Rattle.std.proofs.lemmas.List.Folds.{list_any-append}
 use Rattle.std.proofs.lemmas.Grind.{flat_map-append}
@@ -16,18 +17,21 @@ use Rattle.script_lines.proofs.KeptLaws.{kept-short, length-kept}
 use Rattle.script_lines.proofs.ReadingLaws.{first_lines, fresh_reads}
 use Rattle.cmd_lang.specs.Grammar.{IsLine}
 use Rattle.cmd_lang.specs.Printed.{text_of}
-use Rattle.tree_model.specs.Session.{Said, Session, State, Took, Turn, images_of, is_done_edit, last_of}
+use Rattle.session_def.specs.State.{State}
+use Rattle.session_def.specs.Session.{Said, Session, Took, Turn, images_of, is_done_edit, last_of}
 use Rattle.tree_model.specs.declared.reply.No.TheVariants as no
 use Rattle.tree_model.specs.declared.reply.Reply.{Reply}
 use Rattle.tree_model.specs.declared.reply.Reply.TheVariants as reply
 use Rattle.tree_ops.specs.declared.volume.Volume.{Volume}
-use Rattle.tree_ops.specs.Volumes.{disk_under}
+use Rattle.tree_ops.specs.Runs.{Ready}
+use Rattle.tree_ops.specs.Volumes.{disk_under, mark_of}
+use Rattle.volume_def.specs.View.{VolumeView}
+use Rattle.session_def.specs.Session.{has_edit}
+use Rattle.mark_write.specs.declared.flag.Flag.{Flag}
 use Rattle.script_run.specs.declared.end.ScriptEnd.TheVariants as end
-use Rattle.script_run.specs.Closing.{has_edit}
 use Rattle.script_run.specs.Says.{SaysLine, lines_of, printed_of}
 use Rattle.script_run.specs.SoFar.{RanLines, SoFar}
-use Rattle.script_run.specs.Turns.{Broke, Ready, Replied, Turned}
-use Rattle.script_run.proofs.EditLaws.{not_done}
+use Rattle.script_run.specs.Turns.{Broke, Replied, Turned}
 
 -- what the kept part of a line says, the line says
 says_kept : (line : List ℕ) (said : Said) → SaysLine (kept line) said → SaysLine line said
@@ -66,10 +70,14 @@ appended_twice None first then got got' a b = b ∙ ap (map_told (λ all. all ++
 appended_twice (Some all) first then got got' a b =
     b ∙ ap (map_told (λ xs. xs ++ then)) a ∙ ap (λ (xs : List ℕ). Some xs) (append_assoc all first then)
 
-no_more_edits : (turns : List Turn) (turn : Turn) → has_edit turns ≡ false → is_done_edit turn.said turn.answer ≡ false
-    → has_edit (turns ++ turn ∷ []) ≡ false
-no_more_edits turns turn none last =
-    list_any-append (λ (t : Turn). is_done_edit t.said t.answer) turns (turn ∷ []) ∙ rw (none, last) refl
+edits_more : (turns : List Turn) (turn : Turn)
+    → has_edit (turns ++ turn ∷ []) ≡ (has_edit turns || (is_done_edit turn.said turn.answer || false))
+edits_more turns turn = list_any-append (λ (t : Turn). is_done_edit t.said t.answer) turns (turn ∷ [])
+
+or_nothing : (a b : Bool) → (a || b) ≡ (a || (b || false))
+or_nothing true b = refl
+or_nothing false true = refl
+or_nothing false false = refl
 
 first_of : {D S : Type 0} (g : disk.Ghosts D) (s : source.Ghosts S) (first : State) (text : List ℕ) (before : Option (List ℕ))
     (past : Option (List (List ℕ))) (volume : Volume D g) (script : S) (got : Option (List ℕ)) (reader : LineReader)
@@ -79,12 +87,13 @@ first_of g s first text before past volume script got reader f =
 
 -- before the first line
 pub at_start : {D S : Type 0} (g : disk.Ghosts D) (s : source.Ghosts S) (first : State) (text : List ℕ) (volume : Volume D g) (script : S)
-    (got : Option (List ℕ)) (reader : LineReader) → IsFresh reader → Ready g volume first → s.left script ≡ Some text
+    (got : Option (List ℕ)) (reader : LineReader) → IsFresh reader → Ready g first.view volume first → mark_of g volume ≡ None
+    → s.left script ≡ Some text
     → SoFar g s first text got (g.settled (disk_under g volume)) volume script got reader
-at_start g s first text volume script got reader fresh ready left = record {
+at_start g s first text volume script got reader fresh ready none left = record {
   turns = [];
   session = tt;
-  unedited = refl;
+  marked = ap (λ (m : Option Flag). is_some m) none;
   ready = ready;
   settled = sym (none_settled (g.settled (disk_under g volume)));
   printed = sym (none_printed got);
@@ -107,7 +116,7 @@ pub ended_done : {D S : Type 0} (g : disk.Ghosts D) (s : source.Ghosts S) (first
 ended_done g s first text before past volume script got reader left f lines = record {
   turns = f.turns;
   session = f.session;
-  unedited = f.unedited;
+  marked = λ _. f.marked;
   lines = lines;
   first_lines = first_of g s first text before past volume script got reader f;
   settled = f.settled;
@@ -122,7 +131,7 @@ pub ended_source : {D S : Type 0} (g : disk.Ghosts D) (s : source.Ghosts S) (fir
 ended_source g s first text before past volume script got reader left f lines = record {
   turns = f.turns;
   session = f.session;
-  unedited = f.unedited;
+  marked = λ _. f.marked;
   lines = lines;
   first_lines = first_of g s first text before past volume script got reader f;
   settled = f.settled;
@@ -137,7 +146,7 @@ pub ended_much : {D S : Type 0} (g : disk.Ghosts D) (s : source.Ghosts S) (first
 ended_much g s first text before past volume script got reader left f lines = record {
   turns = f.turns;
   session = f.session;
-  unedited = f.unedited;
+  marked = λ _. f.marked;
   lines = lines;
   first_lines = first_of g s first text before past volume script got reader f;
   settled = f.settled;
@@ -152,7 +161,7 @@ pub ended_memory : {D S : Type 0} (g : disk.Ghosts D) (s : source.Ghosts S) (fir
 ended_memory g s first text before past volume script got reader left f = record {
   turns = f.turns;
   session = f.session;
-  unedited = f.unedited;
+  marked = λ _. f.marked;
   lines = first_of g s first text before past volume script got reader f;
   first_lines = first_of g s first text before past volume script got reader f;
   settled = f.settled;
@@ -163,21 +172,23 @@ ended_memory g s first text before past volume script got reader left f = record
 -- a session, a turn longer
 pub record Longer {D : Type 0} (g : disk.Ghosts D) (first : State) (turns : List Turn) (turn : Turn) (volume : Volume D g) : Type 0 where
   pub session : Session SaysLine first (turns ++ turn ∷ [])
-  pub unedited : has_edit (turns ++ turn ∷ []) ≡ false
-  pub ready : Ready g volume (last_of first (turns ++ turn ∷ []))
+  pub marked : is_some (mark_of g volume) ≡ has_edit (turns ++ turn ∷ [])
+  pub ready : Ready g first.view volume (last_of first (turns ++ turn ∷ []))
 
-longer : {D : Type 0} (g : disk.Ghosts D) (first : State) (turns : List Turn) (line seen : List ℕ) (given : Reply) (volume : Volume D g)
-    → Session SaysLine first turns → has_edit turns ≡ false → seen ≡ kept line
-    → (r : Replied g (last_of first turns) seen given volume)
+longer : {D : Type 0} (g : disk.Ghosts D) (first : State) (turns : List Turn) (line seen : List ℕ) (given : Reply)
+    (old volume : Volume D g) → Session SaysLine first turns → is_some (mark_of g old) ≡ has_edit turns
+    → seen ≡ kept line
+    → (r : Replied g first.view (last_of first turns) old seen given volume)
     → Longer g first turns (record { line = line; said = r.said; answer = given; next = r.next }) volume
-longer g first turns line seen given volume session none shown r =
+longer g first turns line seen given old volume session marked shown r =
     let turn : Turn = record { line = line; said = r.said; answer = given; next = r.next } in
     let says : SaysLine line r.said ⊎ (given ≡ reply.No no.Memory) =
     elim r.says [ inl h ↦ inl (says_kept line r.said (subst (λ l. SaysLine l r.said) shown h)) | inr m ↦ inr m ] in
     record {
       session = session_more first turns turn session (says, r.takes);
-      unedited = no_more_edits turns turn none (not_done (last_of first turns) r.said given r.next r.takes r.ready.begins.clean);
-      ready = subst (λ state. Ready g volume state) (sym (last_more first turns turn)) r.ready;
+      marked = r.marks ∙ ap (λ b. b || is_done_edit r.said given) marked ∙ or_nothing (has_edit turns) (is_done_edit r.said given)
+          ∙ sym (edits_more turns turn);
+      ready = subst (λ state. Ready g first.view volume state) (sym (last_more first turns turn)) r.ready;
     }
 
 lines_more : {S : Type 0} (s : source.Ghosts S) (text seen : List ℕ) (turns : List Turn) (turn : Turn) (reader : LineReader) (script : S)
@@ -190,24 +201,25 @@ lines_more s text seen turns turn reader script o e =
 
 -- the line of a turn, by what the code has of it
 pub turned_at : {D K : Type 0} (g : disk.Ghosts D) (k : sink.Ghosts K) (Prints : Option (List ℕ) → List ℕ → Option (List ℕ) → Type 0)
-    (state : State) (seen line : List ℕ) (settled : Option (List (List ℕ))) (out : K) (volume : Volume D g) (out' : K) → seen ≡ line
-    → Turned g k Prints state seen settled out volume out' → Turned g k Prints state line settled out volume out'
-turned_at g k Prints state seen line settled out volume out' e t = subst (λ l. Turned g k Prints state l settled out volume out') e t
+    (first : VolumeView) (state : State) (old : Volume D g) (seen line : List ℕ) (out : K) (volume : Volume D g) (out' : K) → seen ≡ line
+    → Turned g k Prints first state old seen out volume out' → Turned g k Prints first state old line out volume out'
+turned_at g k Prints first state old seen line out volume out' e t =
+    subst (λ l. Turned g k Prints first state old l out volume out') e t
 
 -- a line was answered
 pub went_on : {D S K : Type 0} (g : disk.Ghosts D) (s : source.Ghosts S) (k : sink.Ghosts K) (first : State) (text : List ℕ)
-    (before : Option (List ℕ)) (past : Option (List (List ℕ))) (old : Volume D g) (script script' : S) (out : K) (reader reader' : LineReader)
-    (new : Volume D g) (out' : K) (seen : List ℕ)
+    (before : Option (List ℕ)) (past : Option (List (List ℕ))) (old : Volume D g) (script script' : S) (out : K)
+    (reader reader' : LineReader) (new : Volume D g) (out' : K) (seen : List ℕ)
     → (f : SoFar g s first text before past old script (k.got out) reader) → OneMore s text (lines_of f.turns) seen reader' script'
-    → Turned g k IsAppended (last_of first f.turns) seen (g.settled (disk_under g old)) out new out'
+    → Turned g k IsAppended first.view (last_of first f.turns) old seen out new out'
     → SoFar g s first text before past new script' (k.got out') reader'
 went_on g s k first text before past old script script' out reader reader' new out' seen f o t =
     let turn : Turn = record { line = o.line; said = t.replied.said; answer = t.given; next = t.replied.next } in
-    let l = longer g first f.turns o.line seen t.given new f.session f.unedited o.shown t.replied in
+    let l = longer g first f.turns o.line seen t.given old new f.session f.marked o.shown t.replied in
     record {
       turns = f.turns ++ turn ∷ [];
       session = l.session;
-      unedited = l.unedited;
+      marked = l.marked;
       ready = l.ready;
       settled = t.more ∙ ap (λ past. settled_more past (Some turn.next.image)) f.settled ∙ settled_again f.turns turn past;
       printed = subst (λ xs. IsAppended before xs (k.got out')) (sym (printed_more f.turns turn))
@@ -217,21 +229,21 @@ went_on g s k first text before past old script script' out reader reader' new o
 
 -- its reply was not printed whole
 pub went_unprinted : {D S K : Type 0} (g : disk.Ghosts D) (s : source.Ghosts S) (k : sink.Ghosts K) (first : State) (text : List ℕ)
-    (before : Option (List ℕ)) (past : Option (List (List ℕ))) (old : Volume D g) (script script' : S) (out : K) (reader reader' : LineReader)
-    (new : Volume D g) (out' : K) (seen : List ℕ)
+    (before : Option (List ℕ)) (past : Option (List (List ℕ))) (old : Volume D g) (script script' : S) (out : K)
+    (reader reader' : LineReader) (new : Volume D g) (out' : K) (seen : List ℕ)
     → (f : SoFar g s first text before past old script (k.got out) reader) → OneMore s text (lines_of f.turns) seen reader' script'
-    → Turned g k IsAppendedPart (last_of first f.turns) seen (g.settled (disk_under g old)) out new out'
+    → Turned g k IsAppendedPart first.view (last_of first f.turns) old seen out new out'
     → RanLines g first text before past end.Sink new (s.left script') (k.got out')
 went_unprinted g s k first text before past old script script' out reader reader' new out' seen f o t =
     let turn : Turn = record { line = o.line; said = t.replied.said; answer = t.given; next = t.replied.next } in
-    let l = longer g first f.turns o.line seen t.given new f.session f.unedited o.shown t.replied in
+    let l = longer g first f.turns o.line seen t.given old new f.session f.marked o.shown t.replied in
     let first_ones : AreFirstLines text (lines_of (f.turns ++ turn ∷ [])) =
     first_lines text _ reader'.ended reader'.consumed (coming s reader' script') (s.left script')
     (lines_more s text seen f.turns turn reader' script' o refl) in
     record {
       turns = f.turns ++ turn ∷ [];
       session = l.session;
-      unedited = l.unedited;
+      marked = λ _. l.marked;
       lines = first_ones;
       first_lines = first_ones;
       settled = t.more ∙ ap (λ past. settled_more past (Some turn.next.image)) f.settled ∙ settled_again f.turns turn past;
@@ -248,18 +260,37 @@ went_unprinted g s k first text before past old script script' out reader reader
 
 -- the disk failed
 pub went_broken : {D S K : Type 0} (g : disk.Ghosts D) (s : source.Ghosts S) (k : sink.Ghosts K) (first : State) (text : List ℕ)
-    (before : Option (List ℕ)) (past : Option (List (List ℕ))) (old : Volume D g) (script : S) (out : K) (reader : LineReader)
-    (new : Volume D g) (out' : K) (left : Option (List ℕ))
-    → (f : SoFar g s first text before past old script (k.got out) reader)
-    → Broke g k first.view (last_of first f.turns) (g.settled (disk_under g old)) out new out'
+    (before : Option (List ℕ)) (past : Option (List (List ℕ))) (old : Volume D g) (script script' : S) (out : K)
+    (reader reader' : LineReader) (new : Volume D g) (out' : K) (seen : List ℕ) (left : Option (List ℕ))
+    → (f : SoFar g s first text before past old script (k.got out) reader) → OneMore s text (lines_of f.turns) seen reader' script'
+    → Broke g k first.view (last_of first f.turns) old seen out new out'
     → RanLines g first text before past end.Device new left (k.got out')
-went_broken g s k first text before past old script out reader new out' left f b = record {
-  turns = f.turns;
-  session = f.session;
-  unedited = f.unedited;
-  lines = first_of g s first text before past old script (k.got out) reader f;
-  first_lines = first_of g s first text before past old script (k.got out) reader f;
-  settled = b.same ∙ f.settled;
-  printed = b.unprinted ∙ f.printed;
-  stands = b.harmed;
-}
+went_broken g s k first text before past old script script' out reader reader' new out' seen left f o b =
+    let cut = b.failed.cut in
+    record {
+      turns = f.turns;
+      session = f.session;
+      marked = λ none. cc;
+      lines = first_of g s first text before past old script (k.got out) reader f;
+      first_lines = first_of g s first text before past old script (k.got out) reader f;
+      settled = b.same ∙ f.settled;
+      printed = b.unprinted ∙ f.printed;
+      stands = (
+        b.failed.harmed,
+        record {
+          line = o.line;
+          taken = first_lines text _ reader'.ended reader'.consumed (coming s reader' script') (s.left script') o.read;
+          cut = record {
+            said = cut.said;
+            says = elim cut.says [ inl h ↦ inl (says_kept o.line cut.said (subst (λ l. SaysLine l cut.said) o.shown h)) | inr e ↦ inr e ];
+            same = cut.same;
+          };
+        },
+      );
+    }
+
+-- the same of what the code has of the line
+pub broke_at : {D K : Type 0} (g : disk.Ghosts D) (k : sink.Ghosts K) (first : VolumeView) (state : State) (old : Volume D g)
+    (seen line : List ℕ) (out : K) (volume : Volume D g) (out' : K) → seen ≡ line → Broke g k first state old seen out volume out'
+    → Broke g k first state old line out volume out'
+broke_at g k first state old seen line out volume out' e b = subst (λ l. Broke g k first state old l out volume out') e b

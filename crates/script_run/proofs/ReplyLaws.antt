@@ -1,64 +1,69 @@
 -- What a line is replied.
-use Rattle.std.proofs.Common.{◌≡◌, ◌⊎◌, ℕ, List, Ok, Err, refl, sym, ap, ◌∙◌, subst, inl, inr}
-use Rattle.std.specs.Prelude.{IsTrue}
+use Rattle.std.proofs.Common.{◌≡◌, ◌⊎◌, ℕ, Bool, true, false, List, [], Ok, Err, refl, sym, ap, ◌∙◌, subst, inl, inr}
+use Rattle.std.specs.Prelude.{◌||◌, is_some}
 use Rattle.vol_disk.specs.declared.Disk as disk
 use Rattle.volume_def.specs.View.{VolumeView}
 use Rattle.cmd_lang.specs.Lines.{Means}
 use Rattle.cmd_lang.specs.declared.parse.LineFault.{LineFault}
 use Rattle.cmd_lang.specs.declared.parse.LineFault.TheVariants as fault
-use Rattle.tree_model.specs.Facts.{TellsFacts}
-use Rattle.tree_model.specs.Refusals.{Facts}
-use Rattle.tree_model.specs.Session.{State}
-use Rattle.tree_model.specs.Step.{Step}
+use Rattle.tree_model.specs.Reading.{read}
+use Rattle.session_def.specs.State.{State}
+use Rattle.session_def.specs.Session.{is_done_edit}
 use Rattle.tree_model.specs.declared.command.Command.{Command}
 use Rattle.tree_model.specs.declared.reply.No.TheVariants as no
 use Rattle.tree_model.specs.declared.reply.Reply.{Reply}
 use Rattle.tree_model.specs.declared.reply.Reply.TheVariants as reply
 use Rattle.tree_ops.specs.declared.volume.Volume.{Volume}
-use Rattle.tree_ops.specs.Volumes.{VolumeReads, view_under}
-use Rattle.tree_ops.specs.Wanted.{machine_on}
+use Rattle.tree_ops.specs.Runs.{Applied, Failed, Ready, machine_under}
+use Rattle.tree_ops.specs.Volumes.{VolumeReads, disk_under, mark_of, moment_of, view_under}
+use Rattle.volume_mark.specs.Closing.{MarkStands}
 use Rattle.script_run.specs.Says.{SaysLine, refusal_of}
-use Rattle.script_run.specs.Turns.{Ready, Replied}
-use Rattle.script_run.proofs.EditLaws.{no_edit}
+use Rattle.script_run.specs.Turns.{LineFailed, Replied}
 use Rattle.tree_model.proofs.HasFacts.{has_facts}
 
--- a call that only reads leaves the run where it stands
-pub reads_on : {D : Type 0} (g : disk.Ghosts D) (old new : Volume D g) (state : State) → Ready g old state → VolumeReads g old new
-    → Ready g new state
-reads_on g old new state r reads = record { now = reads.now ∙ r.now; view = reads.view ∙ r.view; begins = r.begins }
+machine_same : {D : Type 0} (g : disk.Ghosts D) (old new : Volume D g) → VolumeReads g old new → machine_under g old ≡ machine_under g new
+machine_same g old new reads =
+    ap (λ (view : VolumeView). record { tree = read view; opens = []; now = moment_of g old }) (sym reads.view)
+    ∙ ap (λ (n : ℕ). record { tree = read (view_under g new); opens = []; now = n }) (sym reads.moment)
 
-told_there : {D : Type 0} (g : disk.Ghosts D) (volume : Volume D g) (state : State) → Ready g volume state
-    → IsTrue (view_under g volume).told
-told_there g volume state r =
-    ap (λ (view : VolumeView). view.told) r.view ∙ ap (λ (view : VolumeView). view.told) r.begins.stands.volume.is
+-- a call that only reads leaves the run where it stands
+pub reads_on : {D : Type 0} (g : disk.Ghosts D) (first : VolumeView) (old new : Volume D g) (state : State) → Ready g first old state
+    → VolumeReads g old new → Ready g first new state
+reads_on g first old new state r reads = record {
+  now = reads.now ∙ r.now;
+  view = reads.view ∙ r.view;
+  stands = r.stands;
+  machine = r.machine ∙ machine_same g old new reads;
+  written = reads.written ∙ r.written;
+  mark = subst (MarkStands first state) (sym reads.mark) r.mark;
+}
 
 -- a line that is a command
-pub of_command : {D : Type 0} (g : disk.Ghosts D) (old new : Volume D g) (before : State) (line : List ℕ) (session : ℕ) (command : Command)
-    (given : Reply) → Means line (Ok (session, command)) → Ready g old before → VolumeReads g old new
-    → (IsTrue (view_under g old).told → (facts : Facts) (moment : ℕ) → TellsFacts (view_under g old) facts
-    → Step facts (machine_on (view_under g old) moment) session command given (machine_on (view_under g old) moment))
-    → Replied g before line given new
-of_command g old new before line session command given means r reads steps =
-    let f = has_facts before.view r.begins.stands.sound in
-    let told : TellsFacts (view_under g old) f.0 = subst (λ view. TellsFacts view f.0) (sym r.view) f.1 in
-    let machine : machine_on (view_under g old) 0 ≡ before.machine =
-    ap (λ view. machine_on view 0) r.view ∙ sym r.begins.machine in
-    let step : Step f.0 before.machine session command given before.machine =
-    subst (λ m. Step f.0 m session command given m) machine (steps (told_there g old before r) f.0 0 told) in
-    record {
-      said = Ok (session, command);
-      says = inl means;
-      next = before;
-      takes = record {
-        facts = f.0;
-        told = f.1;
-        step = step;
-        stands = r.begins.stands;
-        same = λ e. refl;
-        marked = λ e. let none = no_edit f.0 before.machine session command given before.machine step in cc;
-      };
-      ready = reads_on g old new before r reads;
-    }
+pub of_command : {D : Type 0} (g : disk.Ghosts D) (first : VolumeView) (old new : Volume D g) (before : State) (line : List ℕ)
+    (session : ℕ) (command : Command) (given : Reply) → Means line (Ok (session, command))
+    → (is_some (mark_of g new) ≡ (is_some (mark_of g old) || is_done_edit (Ok (session, command)) given))
+    → Applied g first before session command given new → Replied g first before old line given new
+of_command g first old new before line session command given means marks applied = record {
+  said = Ok (session, command);
+  says = inl means;
+  next = applied.next;
+  takes = applied.takes;
+  ready = applied.ready;
+  marks = marks;
+}
+
+-- the disk failed in one
+pub failed_command : {D : Type 0} (g : disk.Ghosts D) (first : VolumeView) (new : Volume D g) (before : State) (line : List ℕ)
+    (session : ℕ) (command : Command) → Means line (Ok (session, command)) → Failed g first before session command new
+    → LineFailed g first before line new
+failed_command g first new before line session command means failed = record {
+  harmed = failed.harmed;
+  cut = record { said = Ok (session, command); says = inl means; same = failed.same };
+}
+
+or_none : (b : Bool) → b ≡ (b || false)
+or_none true = refl
+or_none false = refl
 
 says_fault : (line : List ℕ) (given : LineFault) → Means line (Err given)
     → SaysLine line (Err (refusal_of given)) ⊎ (reply.No (refusal_of given) ≡ reply.No no.Memory)
@@ -67,10 +72,11 @@ says_fault line fault.Long means = inl means
 says_fault line fault.Memory means = inr refl
 
 -- a line that is none
-pub of_fault : {D : Type 0} (g : disk.Ghosts D) (volume : Volume D g) (before : State) (line : List ℕ) (given : LineFault)
-    → Means line (Err given) → Ready g volume before → Replied g before line (reply.No (refusal_of given)) volume
-of_fault g volume before line given means r =
-    let f = has_facts before.view r.begins.stands.sound in
+pub of_fault : {D : Type 0} (g : disk.Ghosts D) (first : VolumeView) (volume : Volume D g) (before : State) (line : List ℕ)
+    (given : LineFault) → Means line (Err given) → Ready g first volume before
+    → Replied g first before volume line (reply.No (refusal_of given)) volume
+of_fault g first volume before line given means r =
+    let f = has_facts before.view r.stands.sound in
     record {
       said = Err (refusal_of given);
       says = says_fault line given means;
@@ -79,9 +85,10 @@ of_fault g volume before line given means r =
         facts = f.0;
         told = f.1;
         step = (inl refl, refl);
-        stands = r.begins.stands;
-        same = λ e. refl;
-        marked = λ e. cc;
+        stands = r.stands;
+        same = λ e. record { image = refl; written = refl };
+        edited = λ e. cc;
       };
       ready = r;
+      marks = or_none (is_some (mark_of g volume));
     }

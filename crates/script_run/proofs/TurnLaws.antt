@@ -1,44 +1,44 @@
 -- A reply that is settled, or is not.
-use Rattle.std.proofs.Common.{◌≡◌, ◌≢◌, ℕ, List, Option, Some, refl, ap, ◌∙◌, subst, inl, inr, le_refl, le_trans}
+use Rattle.std.proofs.Common.{◌≡◌, ◌≢◌, ℕ, Bool, true, false, List, Option, Some, None, Ok, Err, refl, ap, ◌∙◌, subst, inl, inr, le_refl, le_trans}
+use Rattle.std.specs.Prelude.{◌||◌, is_some}
 use Rattle.vol_disk.specs.declared.Disk as disk
 use Rattle.vol_disk.specs.declared.Sink as sink
 use Rattle.vol_disk.specs.Contents.{settled_more}
 use Rattle.volume_def.specs.View.{VolumeView}
 use Rattle.cmd_lang.specs.Printed.{text_of}
-use Rattle.tree_model.specs.Session.{Begins, State}
+use Rattle.session_def.specs.State.{Begins, State}
+use Rattle.session_def.specs.Session.{Said, Takes, is_done_edit, is_due_edit}
+use Rattle.tree_model.specs.Facts.{TellsFacts}
+use Rattle.tree_model.specs.Refusals.{Facts}
+use Rattle.tree_model.proofs.FactsLaws.{one_facts}
+use Rattle.tree_model.specs.declared.reply.No.TheVariants as no
+use Rattle.mark_write.specs.declared.flag.Flag.{Flag}
+use Rattle.volume_mark.specs.Mark.{IsAcceptedAs, IsHarmed}
+use Rattle.volume_mark.proofs.StandLaws.{harmed_at, marked_at}
+use Rattle.tree_ops.specs.Runs.{Ready}
 use Rattle.tree_model.specs.declared.reply.Reply.{Reply}
 use Rattle.tree_model.specs.declared.reply.Reply.TheVariants as reply
 use Rattle.tree_ops.specs.declared.volume.Volume.{Volume}
-use Rattle.tree_ops.specs.Volumes.{VolumeReads, disk_under}
-use Rattle.script_run.specs.Closing.{IsAcceptedAs, IsHarmed}
+use Rattle.tree_ops.specs.Volumes.{VolumeGoesOn, VolumeReads, disk_under, mark_of}
 use Rattle.script_run.specs.declared.turn.Went.{Went}
-use Rattle.script_run.specs.Turns.{Broke, CountsReply, CountsTurn, Ready, Replied, Turned}
-use Rattle.script_run.proofs.EditLaws.{not_done}
+use Rattle.script_run.specs.Turns.{Broke, CountsReply, CountsTurn, Replied, Turned}
 use Rattle.script_run.proofs.ReplyLaws.{reads_on}
 
-pub reads_none : {D : Type 0} (g : disk.Ghosts D) (volume : Volume D g) → VolumeReads g volume volume
-reads_none g volume = record {
-  same_reference = refl;
-  now = refl;
-  fenced = refl;
-  size = refl;
-  written = refl;
-  late = refl;
-  faults = le_refl _;
-  view = refl;
+pub goes_none : {D : Type 0} (g : disk.Ghosts D) (volume : Volume D g) → VolumeGoesOn g volume volume
+goes_none g volume = record { same_reference = refl; size = refl; faults = le_refl _; on_time = λ _. refl }
+
+-- A call that went well leaves the count of faults, so no write came behind one.
+pub goes_twice : {D : Type 0} (g : disk.Ghosts D) (a b c : Volume D g) → VolumeGoesOn g a b → VolumeGoesOn g b c
+    → g.faults (disk_under g b) ≡ g.faults (disk_under g a) → VolumeGoesOn g a c
+goes_twice g a b c x y quiet = record {
+  same_reference = y.same_reference ∙ x.same_reference;
+  size = y.size ∙ x.size;
+  faults = le_trans x.faults y.faults;
+  on_time = λ none. y.on_time (quiet ∙ none) ∙ x.on_time none;
 }
 
-pub reads_twice : {D : Type 0} (g : disk.Ghosts D) (a b c : Volume D g) → VolumeReads g a b → VolumeReads g b c → VolumeReads g a c
-reads_twice g a b c x y = record {
-  same_reference = y.same_reference ∙ x.same_reference;
-  now = y.now ∙ x.now;
-  fenced = y.fenced ∙ x.fenced;
-  size = y.size ∙ x.size;
-  written = y.written ∙ x.written;
-  late = y.late ∙ x.late;
-  faults = le_trans x.faults y.faults;
-  view = y.view ∙ x.view;
-}
+pub goes_reading : {D : Type 0} (g : disk.Ghosts D) (a b : Volume D g) → VolumeReads g a b → VolumeGoesOn g a b
+goes_reading g a b x = record { same_reference = x.same_reference; size = x.size; faults = x.faults; on_time = λ _. x.late }
 
 -- a reply that is no device fault left the disk's count
 pub quiet_reply : (given : Reply) (before after : ℕ) → given ≢ reply.Device → CountsReply given before after → after ≡ before
@@ -60,39 +60,70 @@ whole_as state begins = record {
   reading = begins.stands.reading;
 }
 
--- a disk that failed below a command that was not done leaves the volume whole
-pub harmed_before : {D : Type 0} (g : disk.Ghosts D) (first : VolumeView) (before : State) (old new : Volume D g) → Ready g old before
-    → VolumeReads g old new → IsHarmed first before.machine.tree (g.now (disk_under g new))
-harmed_before g first before old new r reads =
-    record { bytes = before.image; are = reads.now ∙ r.now; state = inr (inl (whole_as before r.begins)) }
+or_true : (a b : Bool) → b ≡ true → (a || b) ≡ true
+or_true true b e = refl
+or_true false b e = e
 
 pub turned : {D K : Type 0} (g : disk.Ghosts D) (k : sink.Ghosts K) (Prints : Option (List ℕ) → List ℕ → Option (List ℕ) → Type 0)
-    (before : State) (line : List ℕ) (given : Reply) (old new : Volume D g) (out out' : K)
-    → (r : Replied g before line given old) → VolumeReads g old new
+    (first : VolumeView) (before : State) (from : Volume D g) (line : List ℕ) (given : Reply) (old new : Volume D g) (out out' : K)
+    → (r : Replied g first before from line given old) → VolumeReads g old new
+    → g.settled (disk_under g old) ≡ g.settled (disk_under g from)
     → g.settled (disk_under g new) ≡ settled_more (g.settled (disk_under g old)) (g.now (disk_under g old))
     → Prints (k.got out) (text_of given) (k.got out')
-    → Turned g k Prints before line (g.settled (disk_under g old)) out new out'
-turned g k Prints before line given old new out out' r reads more printed = record {
+    → Turned g k Prints first before from line out new out'
+turned g k Prints first before from line given old new out out' r reads same more printed = record {
   given = given;
-  replied = record { said = r.said; says = r.says; next = r.next; takes = r.takes; ready = reads_on g old new r.next r.ready reads };
-  more = more ∙ ap (settled_more (g.settled (disk_under g old))) r.ready.now;
+  replied = record {
+    said = r.said;
+    says = r.says;
+    next = r.next;
+    takes = r.takes;
+    ready = reads_on g first old new r.next r.ready reads;
+    marks = ap (λ (m : Option Flag). is_some m) reads.mark ∙ r.marks;
+  };
+  more = more ∙ ap (settled_more (g.settled (disk_under g old))) r.ready.now ∙ ap (λ past. settled_more past (Some r.next.image)) same;
   printed = printed;
 }
 
--- a settle that fails leaves the volume as it was before the line, which was no edit
-pub broke : {D K : Type 0} (g : disk.Ghosts D) (k : sink.Ghosts K) (first : VolumeView) (before : State) (line : List ℕ) (given : Reply)
-    (old new : Volume D g) (out : K) → Begins before → (r : Replied g before line given old) → VolumeReads g old new
-    → g.settled (disk_under g new) ≡ g.settled (disk_under g old)
-    → Broke g k first before (g.settled (disk_under g old)) out new out
-broke g k first before line given old new out begins r reads same =
-    let kept : r.next.image ≡ before.image =
-    r.takes.same (not_done before r.said given r.next r.takes r.ready.begins.clean) in
-    record {
-      harmed = record {
-        bytes = before.image;
-        are = reads.now ∙ r.ready.now ∙ ap (λ (bytes : List ℕ). Some bytes) kept;
-        state = inr (inl (whole_as before begins));
-      };
-      same = same;
-      unprinted = refl;
-    }
+-- what was due of a line tells whether it was an edit that was done
+not-due : (facts : Facts) (before : State) (said : Said) (given : Reply) (next : State) → TellsFacts before.view facts
+    → Takes before said given next → is_due_edit facts before.machine said ≡ false → is_done_edit said given ≡ false
+not-due facts before (Err fault) given next told takes none = refl
+not-due facts before (Ok said) given next told takes none = elim takes.step.replied [
+  | inl due_is ↦
+      ap (λ (r : Reply). is_done_edit (Ok said) r) due_is
+      ∙ ap (λ (f : Facts). is_due_edit f before.machine (Ok said)) (one_facts before.view takes.facts facts takes.told told) ∙ none
+  | inr memory ↦ ap (λ (r : Reply). is_done_edit (Ok said) r) memory
+]
+
+not-done : (said : Said) (given : Reply) → given ≡ reply.No no.Memory → is_done_edit said given ≡ false
+not-done (Err fault) given e = refl
+not-done (Ok said) given e = ap (λ (r : Reply). is_done_edit (Ok said) r) e
+
+-- A settle that fails leaves what the line left: where that was an edit the volume is marked, and else it is as it was before.
+pub broke : {D K : Type 0} (g : disk.Ghosts D) (k : sink.Ghosts K) (first : VolumeView) (before : State) (from : Volume D g)
+    (line : List ℕ) (given : Reply) (old new : Volume D g) (out : K) → Ready g first from before
+    → (r : Replied g first before from line given old) → VolumeReads g old new
+    → g.settled (disk_under g old) ≡ g.settled (disk_under g from)
+    → g.settled (disk_under g new) ≡ g.settled (disk_under g old) → Broke g k first before from line out new out
+broke g k first before from line given old new out ready r reads past same = record {
+  failed = record {
+    harmed = by (is_done_edit r.said given) refl;
+    cut = record {
+      said = r.said;
+      says = elim r.says [ inl says ↦ inl says | inr memory ↦ inr (kept (not-done r.said given memory)) ];
+      same = λ facts told none. kept (not-due facts before r.said given r.next told r.takes none);
+    };
+  };
+  same = same ∙ past;
+  unprinted = refl;
+}
+  where
+    kept : is_done_edit r.said given ≡ false → g.now (disk_under g new) ≡ Some before.image
+    kept e = reads.now ∙ r.ready.now ∙ ap (λ (bytes : List ℕ). Some bytes) (r.takes.same e).image
+
+    by : (b : Bool) → is_done_edit r.said given ≡ b → IsHarmed first before.machine.tree (g.now (disk_under g new))
+    by true e = marked_at first r.next (mark_of g old) before.machine.tree (g.now (disk_under g new)) r.ready.mark
+        (r.marks ∙ or_true (is_some (mark_of g from)) (is_done_edit r.said given) e) (reads.now ∙ r.ready.now)
+    by false e = harmed_at first before (mark_of g from) (g.now (disk_under g new)) ready.mark ready.stands
+        (reads.now ∙ r.ready.now ∙ ap (λ (bytes : List ℕ). Some bytes) (r.takes.same e).image)

@@ -1,15 +1,17 @@
 -- WHAT A SCRIPT DID on an accepted volume. A run begins on its image; each line is a turn of a session, with the reply of the tree's
 -- machine, and its image is settled; how it ended tells which lines there were, what was printed, and what is left on the disk.
-use Rattle.std.specs.Prelude.{◌≡◌, ◌⊎◌, ◌++◌, ℕ, List, [], ◌∷◌, Bool, true, false, Option, MatchBool, take}
+use Rattle.std.specs.Prelude.{◌≡◌, ◌⊎◌, ◌++◌, ℕ, List, [], ◌∷◌, Bool, true, false, Option, Some, MatchBool, take}
 use Rattle.vol_disk.specs.Contents.{map_told}
 use Rattle.vol_disk.specs.Count.{Rose}
 use Rattle.vol_disk.specs.Stream.{IsAppended}
 use Rattle.cmd_lang.specs.Printed.{text_of}
 use Rattle.script_lines.specs.Reading.{AreAllLines, AreEndedLines, AreFirstLines, AreMostLines}
-use Rattle.tree_model.specs.Session.{Begins, Session, State, Turn, images_of, last_of}
+use Rattle.session_def.specs.Session.{IsCutShort, Session, Turn, has_edit, images_of, last_of}
+use Rattle.session_def.specs.State.{Begins, State}
 use Rattle.script_run.specs.declared.end.ScriptEnd.{ScriptEnd}
 use Rattle.script_run.specs.declared.end.ScriptEnd.TheVariants as end
-use Rattle.script_run.specs.Closing.{Closes, IsHarmed, has_edit}
+use Rattle.volume_mark.specs.Closing.{Closes, CountsClosing}
+use Rattle.volume_mark.specs.Mark.{IsHarmed}
 use Rattle.script_run.specs.Says.{SaysLine, lines_of, printed_of}
 use Rattle.script_run.specs.World.{NoFaults, World}
 
@@ -63,20 +65,46 @@ IsPrinted end.Source turns old new = IsAppended old.got (printed_of turns) new.g
 IsPrinted end.Memory turns old new = IsAppended old.got (printed_of turns) new.got
 IsPrinted end.TooMuch turns old new = IsAppended old.got (printed_of turns) new.got
 
--- What is left on the disk, and what was settled behind the images of the lines.
-abbrev pub Leaves : ScriptEnd → State → List Turn → List (List ℕ) → Option (List ℕ) → Type 0
-Leaves end first turns finals now = MatchBool (is_broken end)
-    ((finals ≡ []) × IsHarmed first.view (last_of first turns).machine.tree now)
-    (Closes first.view (last_of first turns) (has_edit turns) finals now)
+-- HOW A DEVICE FAULT CAME: while the volume was taken into use, before the first line; in a line behind those that have a turn; or
+-- while a volume that was marked was closed, behind an end of the lines.
+pub record BrokeAtStart (first : State) (turns : List Turn) (now : Option (List ℕ)) : Type 0 where
+  pub none : turns ≡ []
+  pub same : now ≡ Some first.image
+
+pub record BrokeInLine (text : List ℕ) (first : State) (turns : List Turn) (now : Option (List ℕ)) : Type 0 where
+  pub line : List ℕ
+  pub taken : AreFirstLines text (lines_of turns ++ line ∷ [])
+  pub cut : IsCutShort SaysLine (last_of first turns) line now
+
+pub record BrokeInClosing (text : List ℕ) (turns : List Turn) (left : Option (List ℕ)) : Type 0 where
+  pub behind : ScriptEnd
+  pub ended : is_broken behind ≡ false
+  pub lines : AreLines behind text (lines_of turns) left
+  pub marked : has_edit turns ≡ true
+
+-- What it leaves: a volume that is marked, or whole. Nothing is settled behind the images of the lines.
+pub record Breaks (text : List ℕ) (first : State) (turns : List Turn) (finals : List (List ℕ)) (new : World) : Type 0 where
+  pub none : finals ≡ []
+  pub harmed : IsHarmed first.view (last_of first turns).machine.tree new.now
+  pub came : BrokeAtStart first turns new.now ⊎ (BrokeInLine text first turns new.now ⊎ BrokeInClosing text turns new.left)
+
+-- What any other end leaves, and how many sectors were written.
+pub record Ends (first : State) (turns : List Turn) (finals : List (List ℕ)) (new : World) : Type 0 where
+  pub closes : Closes first.view (last_of first turns) (has_edit turns) finals new.now
+  pub count : CountsClosing (has_edit turns) (last_of first turns).written new.written
+
+abbrev pub Leaves : ScriptEnd → List ℕ → State → List Turn → List (List ℕ) → World → Type 0
+Leaves end text first turns finals new = MatchBool (is_broken end) (Breaks text first turns finals new) (Ends first turns finals new)
 
 -- the images that were settled before, those of the lines, and the final one where there is one
 abbrev pub Settles : List Turn → List (List ℕ) → World → World → Type 0
 Settles turns finals old new = new.settled ≡ map_told (λ past. past ++ images_of turns ++ finals) old.settled
 
--- THE RUN of a script with this text on this image, which ended so.
+-- THE RUN of a script with this text on this image, which ended so. It begins with the disk's count of sectors written.
 pub record Ran (image text : List ℕ) (given : ScriptEnd) (old new : World) : Type 0 where
   pub first : State
   pub on_image : first.image ≡ image
+  pub from_count : first.written ≡ old.written
   pub begins : Begins first
   pub turns : List Turn
   pub session : Session SaysLine first turns
@@ -84,5 +112,4 @@ pub record Ran (image text : List ℕ) (given : ScriptEnd) (old new : World) : T
   pub printed : IsPrinted given turns old new
   pub finals : List (List ℕ)
   pub settled : Settles turns finals old new
-  pub leaves : Leaves given first turns finals new.now
-  pub unwritten : has_edit turns ≡ false → new.written ≡ old.written
+  pub leaves : Leaves given text first turns finals new

@@ -1,5 +1,5 @@
--- A run so far. Until there are edits no turn is one.
-use Rattle.std.specs.Prelude.{◌≡◌, ◌++◌, ℕ, List, Option, false, MatchBool}
+-- A run so far.
+use Rattle.std.specs.Prelude.{◌≡◌, ◌++◌, ℕ, List, Option, false, is_some, MatchBool}
 use Rattle.vol_disk.specs.Count.{Rose}
 use Rattle.vol_disk.specs.declared.Disk as disk
 use Rattle.vol_disk.specs.declared.Source as source
@@ -7,15 +7,17 @@ use Rattle.vol_disk.specs.Contents.{map_told}
 use Rattle.vol_disk.specs.Stream.{IsAppended}
 use Rattle.script_lines.specs.declared.reader.LineReader.{LineReader}
 use Rattle.script_lines.specs.Reading.{AreFirstLines, HasRead}
-use Rattle.tree_model.specs.Session.{Session, State, Turn, images_of, last_of}
+use Rattle.session_def.specs.State.{State}
+use Rattle.session_def.specs.Session.{Session, Turn, images_of, last_of}
 use Rattle.tree_ops.specs.declared.volume.Volume.{Volume}
-use Rattle.tree_ops.specs.Volumes.{disk_under}
+use Rattle.tree_ops.specs.Runs.{Ready}
+use Rattle.tree_ops.specs.Volumes.{disk_under, mark_of}
 use Rattle.script_run.specs.declared.end.ScriptEnd.{ScriptEnd}
 use Rattle.script_run.specs.declared.end.ScriptEnd.TheVariants as end
-use Rattle.script_run.specs.Closing.{IsHarmed, has_edit}
-use Rattle.script_run.specs.Ran.{AreLines, BlamesEnd, IsCutOff, is_broken}
+use Rattle.session_def.specs.Session.{has_edit}
+use Rattle.volume_mark.specs.Mark.{IsHarmed}
+use Rattle.script_run.specs.Ran.{AreLines, BlamesEnd, BrokeInLine, IsCutOff, is_broken}
 use Rattle.script_run.specs.Says.{SaysLine, lines_of, printed_of}
-use Rattle.script_run.specs.Turns.{Ready}
 use Rattle.script_run.specs.World.{World}
 
 -- Between two lines.
@@ -23,8 +25,8 @@ pub record SoFar {D S : Type 0} (g : disk.Ghosts D) (s : source.Ghosts S) (first
     (past : Option (List (List ℕ))) (volume : Volume D g) (script : S) (got : Option (List ℕ)) (reader : LineReader) : Type 0 where
   pub turns : List Turn
   pub session : Session SaysLine first turns
-  pub unedited : has_edit turns ≡ false
-  pub ready : Ready g volume (last_of first turns)
+  pub marked : is_some (mark_of g volume) ≡ has_edit turns
+  pub ready : Ready g first.view volume (last_of first turns)
   pub settled : g.settled (disk_under g volume) ≡ map_told (λ images. images ++ images_of turns) past
   pub printed : IsAppended before (printed_of turns) got
   pub lines : HasRead s text (lines_of turns) reader script
@@ -48,19 +50,21 @@ PrintsAt end.Device before turns got = IsAppended before (printed_of turns) got
 PrintsAt end.Memory before turns got = IsAppended before (printed_of turns) got
 PrintsAt end.TooMuch before turns got = IsAppended before (printed_of turns) got
 
--- how the volume stands there
-abbrev pub StandsAt : {D : Type 0} (g : disk.Ghosts D) → ScriptEnd → State → Volume D g → State → Type 0
-StandsAt g given first volume last = MatchBool (is_broken given)
-    (IsHarmed first.view last.machine.tree (g.now (disk_under g volume))) (Ready g volume last)
+-- how the volume stands there, behind these turns
+abbrev pub StandsAt : {D : Type 0} (g : disk.Ghosts D) → ScriptEnd → List ℕ → State → Volume D g → List Turn → Type 0
+StandsAt g given text first volume turns = MatchBool (is_broken given)
+    (IsHarmed first.view (last_of first turns).machine.tree (g.now (disk_under g volume))
+    × BrokeInLine text first turns (g.now (disk_under g volume)))
+    (Ready g first.view volume (last_of first turns))
 
 -- The lines have ended, and the volume is not closed.
 pub record RanLines {D : Type 0} (g : disk.Ghosts D) (first : State) (text : List ℕ) (before : Option (List ℕ))
     (past : Option (List (List ℕ))) (given : ScriptEnd) (volume : Volume D g) (left got : Option (List ℕ)) : Type 0 where
   pub turns : List Turn
   pub session : Session SaysLine first turns
-  pub unedited : has_edit turns ≡ false
+  pub marked : is_broken given ≡ false → is_some (mark_of g volume) ≡ has_edit turns
   pub lines : AreLines given text (lines_of turns) left
   pub first_lines : AreFirstLines text (lines_of turns)
   pub settled : g.settled (disk_under g volume) ≡ map_told (λ images. images ++ images_of turns) past
   pub printed : PrintsAt given before turns got
-  pub stands : StandsAt g given first volume (last_of first turns)
+  pub stands : StandsAt g given text first volume turns

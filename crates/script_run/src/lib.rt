@@ -2,8 +2,10 @@
 #![tactic(auto)]
 
 mod end;
+mod laws;
 mod run;
 mod turn;
 
 pub use end::ScriptEnd;
+pub use laws::written_laws;
 pub use run::run_script;

@@ -1,12 +1,12 @@
 //! All lines of a script, and the closing of the volume.
 ghost use Rattle.std.specs.Prelude.{◌≡◌, ◌≢◌, ◌<◌, ℕ, List, None, Option, Some, MatchOption};
 ghost use Rattle.script_lines.specs.Reading.{consumed_of};
-ghost use Rattle.tree_model.specs.Session.{State};
+ghost use Rattle.session_def.specs.State.{Begins, State};
 ghost use Rattle.tree_ops.specs.Serves.{Serves};
-ghost use Rattle.tree_ops.specs.Volumes.{VolumeReads, disk_under};
+ghost use Rattle.tree_ops.specs.Runs.{Ready};
+ghost use Rattle.tree_ops.specs.Volumes.{VolumeGoesOn, disk_under, mark_of};
 ghost use Rattle.script_run.specs.Ran.{BlamesEnd, Ran};
 ghost use Rattle.script_run.specs.SoFar.{BlamesLines, RanLines, SoFar};
-ghost use Rattle.script_run.specs.Turns.{Ready};
 ghost use Rattle.script_run.specs.World.{NoFaults, world};
 
 use crate::end::ScriptEnd;
@@ -27,7 +27,7 @@ fn run_line<D: Disk, S: Source, K: Sink>(
 ) -> Option<ScriptEnd>
     requires serves { Serves D.Disk volume.old }
     ensures serves { MatchOption result (Serves D.Disk volume.new) (λ end. end ≢ ScriptEnd.Device → Serves D.Disk volume.new) }
-    ensures reads { VolumeReads D.Disk volume.old volume.new }
+    ensures keeps { VolumeGoesOn D.Disk volume.old volume.new }
     ensures goes_on { result ≡ None → consumed_of reader.old < consumed_of reader.new }
     ensures faults { let old = world D.Disk S.Source K.Sink (disk_under D.Disk volume.old) script.old out.old in
         let new = world D.Disk S.Source K.Sink (disk_under D.Disk volume.new) script.new out.new in
@@ -61,10 +61,11 @@ fn run_lines<D: Disk, S: Source, K: Sink>(
 ) -> ScriptEnd
     requires serves { Serves D.Disk volume.old }
     ensures serves { result ≢ ScriptEnd.Device → Serves D.Disk volume.new }
-    ensures reads { VolumeReads D.Disk volume.old volume.new }
+    ensures keeps { VolumeGoesOn D.Disk volume.old volume.new }
     ensures faults { BlamesLines result (world D.Disk S.Source K.Sink (disk_under D.Disk volume.old) script.old out.old)
         (world D.Disk S.Source K.Sink (disk_under D.Disk volume.new) script.new out.new) }
-    ensures ran { (first : State) (text : List ℕ) → Ready D.Disk volume.old first → S.left script.old ≡ Some text
+    ensures ran { (first : State) (text : List ℕ) → Ready D.Disk first.view volume.old first → mark_of D.Disk volume.old ≡ None
+        → S.left script.old ≡ Some text
         → RanLines D.Disk first text (K.got out.old) (D.settled (disk_under D.Disk volume.old)) result volume.new
         (S.left script.new) (K.got out.new) }
 {
@@ -85,10 +86,11 @@ pub fn run_script<D: Disk, S: Source, K: Sink>(
     out: &mut K,
 ) -> ScriptEnd
     requires serves { Serves D.Disk volume.old }
-    ensures reads { VolumeReads D.Disk volume.old volume.new }
+    ensures keeps { VolumeGoesOn D.Disk volume.old volume.new }
     ensures faults { BlamesEnd result (world D.Disk S.Source K.Sink (disk_under D.Disk volume.old) script.old out.old)
         (world D.Disk S.Source K.Sink (disk_under D.Disk volume.new) script.new out.new) }
-    ensures ran { (first : State) (text : List ℕ) → Ready D.Disk volume.old first → S.left script.old ≡ Some text
+    ensures ran { (first : State) (text : List ℕ) → Ready D.Disk first.view volume.old first → Begins first
+        → mark_of D.Disk volume.old ≡ None → S.left script.old ≡ Some text
         → Ran first.image text result (world D.Disk S.Source K.Sink (disk_under D.Disk volume.old) script.old out.old)
         (world D.Disk S.Source K.Sink (disk_under D.Disk volume.new) script.new out.new) }
 {

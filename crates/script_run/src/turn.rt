@@ -1,11 +1,13 @@
 //! One line of a script: its reply, which is settled and printed.
 ghost use Rattle.std.specs.Prelude.{◌≡◌, ◌≢◌, ℕ, List};
 ghost use Rattle.volume_def.specs.View.{VolumeView};
-ghost use Rattle.tree_model.specs.Session.{Begins, State};
+ghost use Rattle.session_def.specs.State.{State};
+ghost use Rattle.tree_ops.specs.Runs.{Ready};
+ghost use Rattle.tree_ops.specs.declared.volume.Volume.{Volume};
 ghost use Rattle.tree_ops.specs.Serves.{Serves};
-ghost use Rattle.tree_ops.specs.Volumes.{VolumeReads, disk_under};
+ghost use Rattle.tree_ops.specs.Volumes.{VolumeGoesOn, disk_under};
 ghost use Rattle.script_run.specs.Says.{refusal_of};
-ghost use Rattle.script_run.specs.Turns.{CountsReply, CountsTurn, Ready, Replied, TurnDid};
+ghost use Rattle.script_run.specs.Turns.{CountsReply, CountsTurn, LineFailed, Replied, TurnDid};
 
 use cmd_lang::{LineFault, parse_line, print_reply};
 use std::alloc::Global;
@@ -38,12 +40,14 @@ fn refusal_of(fault: LineFault) -> No
 // The reply to a line.
 fn reply_to<D: Disk>(alloc: Global, volume: &mut Volume<'_, D>, line: &[u8]) -> Reply
     requires serves { Serves D.Disk volume.old }
-    ensures serves { Serves D.Disk volume.new }
-    ensures reads { VolumeReads D.Disk volume.old volume.new }
+    ensures serves { result ≢ Reply.Device → Serves D.Disk volume.new }
+    ensures keeps { VolumeGoesOn D.Disk volume.old volume.new }
     ensures settled { D.settled (disk_under D.Disk volume.new) ≡ D.settled (disk_under D.Disk volume.old) }
     ensures faults { CountsReply result (D.faults (disk_under D.Disk volume.old)) (D.faults (disk_under D.Disk volume.new)) }
-    ensures replied { result ≢ Reply.Device → (before : State) → Ready D.Disk volume.old before
-        → Replied D.Disk before line.now result volume.new }
+    ensures replied { result ≢ Reply.Device → (first : VolumeView) (before : State) → Ready D.Disk first volume.old before
+        → Replied D.Disk first before volume.old line.now result volume.new }
+    ensures failed { result ≡ Reply.Device → (first : VolumeView) (before : State) → Ready D.Disk first volume.old before
+        → LineFailed D.Disk first before line.now volume.new }
 {
     match parse_line(alloc, line) {
         Ok((session, command)) => volume.apply(session, &command),
@@ -60,12 +64,13 @@ fn settle_and_print<D: Disk, K: Sink>(
     requires serves { Serves D.Disk volume.old }
     requires reply { reply.now ≢ Reply.Device }
     ensures serves { result ≢ Went.Device → Serves D.Disk volume.new }
-    ensures reads { VolumeReads D.Disk volume.old volume.new }
+    ensures keeps { VolumeGoesOn D.Disk volume.old volume.new }
     ensures faults { CountsTurn result (D.faults (disk_under D.Disk volume.old)) (D.faults (disk_under D.Disk volume.new))
         (K.faults out.old) (K.faults out.new) }
-    ensures did { (first : VolumeView) (before : State) (line : List ℕ) → Begins before
-        → Replied D.Disk before line reply.now volume.old
-        → TurnDid D.Disk K.Sink result first before line (D.settled (disk_under D.Disk volume.old)) out.old volume.new out.new }
+    ensures did { (first : VolumeView) (before : State) (from : Volume D D.Disk) (line : List ℕ) → Ready D.Disk first from before
+        → Replied D.Disk first before from line reply.now volume.old
+        → D.settled (disk_under D.Disk volume.old) ≡ D.settled (disk_under D.Disk from)
+        → TurnDid D.Disk K.Sink result first before from line out.old volume.new out.new }
 {
     match volume.settle() {
         Ok(()) => {}
@@ -86,11 +91,11 @@ pub fn take_turn<D: Disk, K: Sink>(
 ) -> Went
     requires serves { Serves D.Disk volume.old }
     ensures serves { result ≢ Went.Device → Serves D.Disk volume.new }
-    ensures reads { VolumeReads D.Disk volume.old volume.new }
+    ensures keeps { VolumeGoesOn D.Disk volume.old volume.new }
     ensures faults { CountsTurn result (D.faults (disk_under D.Disk volume.old)) (D.faults (disk_under D.Disk volume.new))
         (K.faults out.old) (K.faults out.new) }
-    ensures did { (first : VolumeView) (before : State) → Ready D.Disk volume.old before
-        → TurnDid D.Disk K.Sink result first before line.now (D.settled (disk_under D.Disk volume.old)) out.old volume.new out.new }
+    ensures did { (first : VolumeView) (before : State) → Ready D.Disk first volume.old before
+        → TurnDid D.Disk K.Sink result first before volume.old line.now out.old volume.new out.new }
 {
     let reply = reply_to(alloc, volume, line);
     if let Reply::Device = reply {

@@ -9,6 +9,12 @@ use Rattle.vol_disk.specs.Stream.{IsAppended}
 use Rattle.ntfs_def.specs.Boot.{boot_sector}
 use Rattle.volume_def.specs.Sound.{IsAccepted, told_view}
 use Rattle.volume_def.specs.VersionClause.{IsClean}
+use Rattle.volume_def.specs.View.{VolumeView}
+use Rattle.tree_ops.specs.Runs.{Ready}
+use Rattle.tree_ops.specs.Volumes.{disk_under, mark_of, moment_of, view_under}
+use Rattle.tree_ops.specs.Wanted.{machine_on}
+use Rattle.tree_ops.specs.declared.volume.Volume.{Volume}
+use Rattle.volume_mark.specs.Closing.{MarkStands}
 use Rattle.mft_table.specs.declared.mount.MountNo.{MountNo}
 use Rattle.mft_table.specs.declared.mount.MountNo.TheVariants as no
 use Rattle.mft_table.specs.declared.mounted.Mounted.{Mounted}
@@ -19,7 +25,8 @@ use Rattle.mount_check.specs.Refusals.{IsMountNo}
 use Rattle.clause_order.proofs.OrderLaws.{rank-most}
 use Rattle.mount_check.proofs.AnswerLaws.{IsAccepted-clean, IsAccepted-tables, IsAccepted-whole}
 use Rattle.tree_model.specs.Reading.{read}
-use Rattle.tree_model.specs.Session.{Begins, State, Turn}
+use Rattle.session_def.specs.Session.{Turn}
+use Rattle.session_def.specs.State.{Begins, State}
 use Rattle.script_run.specs.declared.end.ScriptEnd.{ScriptEnd}
 use Rattle.script_run.specs.declared.end.ScriptEnd.TheVariants as script
 use Rattle.script_run.specs.Ran.{BlamesEnd, IsCutOff, IsPrinted, Ran}
@@ -29,22 +36,23 @@ use Rattle.shell.specs.declared.ending.Ending.{Ending}
 use Rattle.shell.specs.declared.ending.Ending.TheVariants as ending
 use Rattle.shell.specs.Check.{AcceptsImage, CheckReports}
 use Rattle.shell.specs.Report.{ReportEnds, refuses, unclosed}
-use Rattle.shell.specs.Run.{OnlySettles, RunEnds, RunsScript, ending_of_script}
+use Rattle.shell.specs.Run.{RunEnds, RunsScript, ending_of_script}
 use Rattle.shell.specs.RunSteps.{Refuses}
-use Rattle.shell.specs.World.{Blames, OnlyReads, World, world}
+use Rattle.shell.specs.World.{Blames, KeepsContents, OnlyReads, World, world}
 use Rattle.shell.proofs.Reports.{ends_shown}
 
 -- where a run begins
-abbrev pub state_on : List ℕ → Mounted → State
-state_on image mounted = record {
+abbrev pub state_on : List ℕ → Mounted → ℕ → State
+state_on image mounted written = record {
   image = image;
   view = volume_in image mounted;
   machine = record { tree = read (volume_in image mounted); opens = []; now = 0 };
+  written = written;
 }
 
-pub begins_on : (image : List ℕ) (mounted : Mounted) → HoldsTables 15 image mounted → IsClean (volume_in image mounted)
-    → Begins (state_on image mounted)
-begins_on image mounted holds clean = record {
+pub begins_on : (image : List ℕ) (mounted : Mounted) (written : ℕ) → HoldsTables 15 image mounted → IsClean (volume_in image mounted)
+    → Begins (state_on image mounted written)
+begins_on image mounted written holds clean = record {
   stands = record {
     volume = record {
       layout = mounted_layout mounted;
@@ -58,18 +66,40 @@ begins_on image mounted holds clean = record {
   machine = refl;
 }
 
--- a run begins on each image that is accepted
-record BeginsOn (image : List ℕ) : Type 0 where
+-- the machine of a volume that was just taken into use is the one that a run begins with
+pub machine-new : (view first : VolumeView) → view ≡ first → (moment : ℕ) → moment ≡ 0
+    → machine_on view moment ≡ machine_on first 0
+machine-new view first same moment zero_is =
+    ap (λ v. machine_on v moment) same ∙ ap (λ n. machine_on first n) zero_is
+
+-- and the run stands where it begins
+pub ready-new : {D : Type 0} (g : disk.Ghosts D) (volume : Volume D g) (image : List ℕ) (mounted : Mounted) (lent : D)
+    → disk_under g volume ≡ lent → g.now lent ≡ Some image → view_under g volume ≡ volume_in image mounted
+    → moment_of g volume ≡ 0 → mark_of g volume ≡ None → Begins (state_on image mounted (g.written lent))
+    → Ready g (volume_in image mounted) volume (state_on image mounted (g.written lent))
+ready-new g volume image mounted lent under now view moment unmarked begins = record {
+  now = ap g.now under ∙ now;
+  view = view;
+  stands = begins.stands;
+  machine = sym (machine-new (view_under g volume) (volume_in image mounted) view (moment_of g volume) moment);
+  written = ap g.written under;
+  mark = subst (MarkStands (volume_in image mounted) (state_on image mounted (g.written lent))) (sym unmarked) (refl, begins.clean);
+}
+
+-- a run begins on each image that is accepted, whatever was written before
+record BeginsOn (image : List ℕ) (written : ℕ) : Type 0 where
   first : State
   on_image : first.image ≡ image
+  count : written ≡ first.written
   begins : Begins first
 
-accepted_begins : (image : List ℕ) → AcceptsImage image → BeginsOn image
-accepted_begins image a =
+accepted_begins : (image : List ℕ) (written : ℕ) → AcceptsImage image → BeginsOn image written
+accepted_begins image written a =
     let view = told_view (sector_in (Some image)) a.layout in
     record {
-      first = record { image = image; view = view; machine = record { tree = read view; opens = []; now = 0 } };
+      first = record { image = image; view = view; machine = record { tree = read view; opens = []; now = 0 }; written = written };
       on_image = refl;
+      count = refl;
       begins = record {
         stands = record { volume = record { layout = a.layout; has = a.has; is = refl }; sound = a.sound; reading = refl };
         clean = a.clean;
@@ -96,8 +126,7 @@ blames_script script.TooMuch old new b = b
 
 -- What a mount leaves for a run: all but the count of reads.
 pub record LeavesRun (old middle : World) : Type 0 where
-  pub contents : OnlySettles old middle
-  pub settled : middle.settled ≡ old.settled
+  pub contents : KeepsContents old middle
   pub disk : middle.disk_faults ≡ old.disk_faults
   pub left : middle.left ≡ old.left
   pub source : middle.source_faults ≡ old.source_faults
@@ -130,33 +159,27 @@ ran_since : (image text : List ℕ) (end : ScriptEnd) (old middle new : World) �
 ran_since image text end old middle new l r = record {
   first = r.first;
   on_image = r.on_image;
+  from_count = r.from_count ∙ l.contents.written;
   begins = r.begins;
   turns = r.turns;
   session = r.session;
   lines = r.lines;
   printed = printed_since end r.turns old middle new l r.printed;
   finals = r.finals;
-  settled = rw (← l.settled) r.settled;
+  settled = rw (← l.contents.settled) r.settled;
   leaves = r.leaves;
-  unwritten = λ none. r.unwritten none ∙ l.contents.written;
 }
 
 -- a volume that was accepted
 pub ends_mounted : (given : Ending) (end : ScriptEnd) (old middle new : World) (mounted : Mounted) → given ≡ ending_of_script end
     → LeavesRun old middle → ((image : List ℕ) → old.now ≡ Some image → HoldsTables 15 image mounted × IsClean (volume_in image mounted))
-    → BlamesEnd end middle new → OnlySettles middle new
+    → BlamesEnd end middle new → (middle.disk_faults ≡ 0 → new.late ≡ middle.late) → new.sectors ≡ middle.sectors
     → ((image text : List ℕ) → middle.now ≡ Some image → middle.left ≡ Some text → Ran image text end middle new)
     → RunEnds given old new
-ends_mounted given end old middle new mounted is l holds blames settles ran = record {
+ends_mounted given end old middle new mounted is l holds blames on_time sectors ran = record {
   causes = rw is (blames_script end old new (blames_since end old middle new l blames));
-  on_time = λ _. settles.late ∙ l.contents.late;
-  only_settles = record {
-    now = settles.now ∙ l.contents.now;
-    fenced = settles.fenced ∙ l.contents.fenced;
-    sectors = settles.sectors ∙ l.contents.sectors;
-    written = settles.written ∙ l.contents.written;
-    late = settles.late ∙ l.contents.late;
-  };
+  on_time = λ none. on_time (l.disk ∙ none) ∙ l.contents.late;
+  sectors = sectors ∙ l.contents.sectors;
   ran = λ image text now left accepted. record {
     ended = end;
     is = is;
@@ -166,22 +189,13 @@ ends_mounted given end old middle new mounted is l holds blames settles ran = re
       let told = holds image now in absurd (refused (IsAccepted-tables image mounted told.0 told.1));
 }
 
-settles_of : (old new : World) → OnlyReads old new → OnlySettles old new
-settles_of old new o = record {
-  now = o.contents.now;
-  fenced = o.contents.fenced;
-  sectors = o.contents.sectors;
-  written = o.contents.written;
-  late = o.contents.late;
-}
-
 -- a report that refuses it, or a part of one
 ends_reported : (given : Ending) (old new : World) → OnlyReads old new → ReportEnds CheckReports given old new
     → ((image : List ℕ) → old.now ≡ Some image → AcceptsImage image → ⊥) → RunEnds given old new
 ends_reported given old new only report none = record {
   causes = report.causes;
   on_time = λ _. only.contents.late;
-  only_settles = settles_of old new only;
+  sectors = only.contents.sectors;
   ran = λ image text now left accepted. absurd (none image now accepted);
   refused = λ image now refused. report;
 }
@@ -201,13 +215,13 @@ ends_unmounted no.Dirty given old new shown only quiet is = ends_reported given 
 ends_unmounted no.Device given old new shown only rose is = rw shown.ends (record {
   causes = (rose, inl only.source_faults);
   on_time = λ _. only.contents.late;
-  only_settles = settles_of old new only;
+  sectors = only.contents.sectors;
   ran = λ image text now left accepted.
-      let b = accepted_begins image accepted in
+      let b = accepted_begins image old.written accepted in
       record {
         ended = script.Device;
         is = refl;
-        ran = subst (λ bytes. Ran bytes text script.Device old new) b.on_image (ran_device b.first text old new b.begins
+        ran = subst (λ bytes. Ran bytes text script.Device old new) b.on_image (ran_device b.first text old new b.begins b.count
             (now ∙ ap (λ (bytes : List ℕ). Some bytes) (sym b.on_image)) (untouched old new only shown.untouched) shown.quiet);
       };
   refused = λ image now refused. record {
@@ -219,13 +233,13 @@ ends_unmounted no.Device given old new shown only rose is = rw shown.ends (recor
 ends_unmounted no.Memory given old new shown only quiet is = rw shown.ends (record {
   causes = record { disk = quiet; source = only.source_faults; sink = shown.quiet };
   on_time = λ _. only.contents.late;
-  only_settles = settles_of old new only;
+  sectors = only.contents.sectors;
   ran = λ image text now left accepted.
-      let b = accepted_begins image accepted in
+      let b = accepted_begins image old.written accepted in
       record {
         ended = script.Memory;
         is = refl;
-        ran = subst (λ bytes. Ran bytes text script.Memory old new) b.on_image (ran_memory b.first text old new b.begins
+        ran = subst (λ bytes. Ran bytes text script.Memory old new) b.on_image (ran_memory b.first text old new b.begins b.count
             (now ∙ ap (λ (bytes : List ℕ). Some bytes) (sym b.on_image)) (untouched old new only shown.untouched));
       };
   refused = λ image now refused. record {

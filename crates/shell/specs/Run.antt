@@ -25,20 +25,12 @@ pub record RunsScript (image text : List ℕ) (given : Ending) (old new : World)
   pub is : given ≡ ending_of_script ended
   pub ran : Ran image text ended old new
 
--- Nothing of the disk changed but what was settled, and what it counts of reads and faults. No command is an edit that is built.
-pub record OnlySettles (old new : World) : Type 0 where
-  pub now : new.now ≡ old.now
-  pub fenced : new.fenced ≡ old.fenced
-  pub sectors : new.sectors ≡ old.sectors
-  pub written : new.written ≡ old.written
-  pub late : new.late ≡ old.late
-
 -- THE WORD RUN ended so. On an image that the volume definition accepts the script was run; any other is refused as `check` says,
--- and nothing is taken from the source. No write is asked for once a call of the disk has failed.
+-- and nothing is taken from the source. No write is asked for once a call of the disk has failed, and the disk stays as large.
 pub record RunEnds (given : Ending) (old new : World) : Type 0 where
   pub causes : Blames given old new
   pub on_time : old.disk_faults ≡ 0 → new.late ≡ old.late
-  pub only_settles : OnlySettles old new
+  pub sectors : new.sectors ≡ old.sectors
   pub ran : (image text : List ℕ) → old.now ≡ Some image → old.left ≡ Some text → AcceptsImage image → RunsScript image text given old new
   pub refused : (image : List ℕ) → old.now ≡ Some image → ¬ (AcceptsImage image) → ReportEnds CheckReports given old new
 

@@ -7,7 +7,7 @@ ghost use Rattle.mft_table.specs.MirrorClusters.{IsMirrorInside};
 ghost use Rattle.mft_table.specs.Mounted.{StandsOn};
 ghost use Rattle.script_run.specs.Ran.{BlamesEnd, Ran};
 ghost use Rattle.script_run.specs.World.{world};
-ghost use Rattle.shell.specs.Run.{OnlySettles, RunEnds};
+ghost use Rattle.shell.specs.Run.{RunEnds};
 ghost use Rattle.shell.specs.RunSteps.{Refuses};
 
 use crate::answer::show;
@@ -34,8 +34,8 @@ fn run_mounted<D: Disk, S: Source, K: Sink>(
     requires accepted { WhereTold (D.now disk.old) (λ image. HoldsTables 15 image mounted × IsClean (volume_in image mounted)) }
     ensures causes { BlamesEnd result (world D.Disk S.Source K.Sink disk.old script.old out.old)
         (world D.Disk S.Source K.Sink disk.new script.new out.new) }
-    ensures only_settles { OnlySettles (world D.Disk S.Source K.Sink disk.old script.old out.old)
-        (world D.Disk S.Source K.Sink disk.new script.new out.new) }
+    ensures on_time { D.faults disk.old ≡ 0 → D.late disk.new ≡ D.late disk.old }
+    ensures sectors { D.size disk.new ≡ D.size disk.old }
     ensures ran { (image text : List ℕ) → D.now disk.old ≡ Some image → S.left script.old ≡ Some text
         → Ran image text result (world D.Disk S.Source K.Sink disk.old script.old out.old)
         (world D.Disk S.Source K.Sink disk.new script.new out.new) }

@@ -1,3 +1,6 @@
 pub mod WantedLaws
 pub mod UnbuiltLaws
 pub mod VolumeLaws
+pub mod EditLaws
+pub mod UnmarkedLaws
+pub mod EditedVolume

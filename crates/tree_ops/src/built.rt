@@ -1,7 +1,7 @@
 //! Which commands are built.
-ghost use Rattle.std.specs.Prelude.{◌≡◌, ℕ};
+ghost use Rattle.std.specs.Prelude.{◌≡◌, ℕ, IfSome, false};
 ghost use Rattle.volume_def.specs.View.{VolumeView};
-ghost use Rattle.tree_model.specs.Refusals.{Facts};
+ghost use Rattle.tree_model.specs.Refusals.{Facts, is_edit};
 ghost use Rattle.tree_ops.specs.Wanted.{built_wanted, wanted};
 
 use tree_model::{Command, Path};
@@ -16,10 +16,11 @@ pub enum Built<'c> {
 }
 
 impl<'c> Built<'c> {
-    /// How a command is done, `None` where it is not built. No other place says which are.
+    /// How a command is done, `None` where it is not built. No other place says which are. None of them edits.
     pub fn of(command: &'c Command) -> Option<Built<'c>>
-        ensures { (facts : Facts) (moment session : ℕ) (view : VolumeView)
+        ensures wanted { (facts : Facts) (moment session : ℕ) (view : VolumeView)
             → wanted facts moment session command.now view ≡ built_wanted facts result view }
+        ensures reads { IfSome result (λ _. is_edit command.now ≡ false) }
     {
         match command {
             Command::Df => Some(Built::Df),

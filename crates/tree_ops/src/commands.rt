@@ -1,8 +1,8 @@
 //! A command is done.
-ghost use Rattle.std.specs.Prelude.{◌≡◌, ℕ, IfSome, IsTrue};
+ghost use Rattle.std.specs.Prelude.{◌≡◌, ℕ, IfSome, IsTrue, OnOk, false};
 ghost use Rattle.mft_table.specs.Mft.{MftReads, faults_of, view};
 ghost use Rattle.tree_model.specs.Facts.{TellsFacts};
-ghost use Rattle.tree_model.specs.Refusals.{Facts};
+ghost use Rattle.tree_model.specs.Refusals.{Facts, is_edit};
 ghost use Rattle.tree_read.specs.Answered.{Counts, Says};
 ghost use Rattle.tree_read.specs.Standings.{IsStanding};
 ghost use Rattle.tree_ops.specs.Wanted.{wanted};
@@ -29,6 +29,7 @@ pub fn answer<D: Disk>(
     ensures counts { Counts result (faults_of D.Disk mft.old) (faults_of D.Disk mft.new) }
     ensures says { (facts : Facts) (moment session : ℕ) → IsTrue (view D.Disk mft.old).told → TellsFacts (view D.Disk mft.old) facts
         → Says (wanted facts moment session command.now (view D.Disk mft.old)) result }
+    ensures plain { OnOk result (is_edit command.now ≡ false) }
     ensures last { IsTrue (view D.Disk mft.old).told → IfSome last.new (IsStanding (view D.Disk mft.old)) }
 {
     match Built::of(command) {

@@ -1,20 +1,22 @@
 //! A volume in use, and what is done with it.
-ghost use Rattle.std.specs.Prelude.{◌≡◌, ◌≢◌, ◌+◌, ◌<◌, ℕ, IsTrue, OnErr, OnOk, Some};
+ghost use Rattle.std.specs.Prelude.{◌≡◌, ◌≢◌, ◌||◌, ◌+◌, ◌<◌, ◌≤◌, IsOk, None, Ok, OnErr, OnOk, Some, false, is_some};
 ghost use Rattle.vol_disk.specs.Contents.{WhereTold, settled_more};
 ghost use Rattle.vol_disk.specs.Count.{CountsFault, Rose};
 ghost use Rattle.volume_def.specs.VersionClause.{IsClean};
+ghost use Rattle.volume_def.specs.View.{VolumeView};
 ghost use Rattle.mft_table.specs.HeldTables.{HoldsTables, volume_in};
 ghost use Rattle.mft_table.specs.MirrorClusters.{IsMirrorInside};
 ghost use Rattle.mft_table.specs.Mounted.{StandsOn};
 ghost use Rattle.mft_table.specs.Mft.{is_mft_broken};
 ghost use Rattle.mft_table.specs.InUse.{IsInUse};
-ghost use Rattle.tree_model.specs.Facts.{TellsFacts};
-ghost use Rattle.tree_model.specs.Refusals.{Facts};
-ghost use Rattle.tree_model.specs.Step.{Step};
+ghost use Rattle.session_def.specs.Session.{is_done_edit};
+ghost use Rattle.session_def.specs.State.{State};
+ghost use Rattle.volume_mark.specs.Mark.{IsHarmed};
 ghost use Rattle.tree_model.specs.declared.reply.Reply.TheVariants as reply_is;
 
 use crate::close::CloseNo;
 use crate::commands::answer;
+use mark_write::Flag;
 use mft_table::{Mft, Mounted};
 use std::alloc::Global;
 use tree_model::{Command, Reply};
@@ -29,10 +31,14 @@ pub struct Volume<'d, D: Disk> {
     /// The directory in which the last path ended, where one is remembered: a path in the same directory begins there. A command that
     /// edits is to forget it first.
     last: Option<Standing>,
+    /// The moment that commands stamp.
+    moment: u64,
+    /// Where the mark lies, once an edit was done.
+    mark: Option<Flag>,
 }
 
 impl<'d, D: Disk> Volume<'d, D> {
-    ghost use Rattle.tree_ops.specs.Volumes.{disk_under, reference_under, view_under};
+    ghost use Rattle.tree_ops.specs.Volumes.{disk_under, mark_of, moment_of, reference_under, view_under};
     ghost use Rattle.tree_ops.specs.Serves.{Serves};
 
     /// Takes a volume into use, with the tables that `mount` gave. Nothing is read.
@@ -44,12 +50,16 @@ impl<'d, D: Disk> Volume<'d, D> {
         ensures disk { disk_under D.Disk result ≡ disk.old }
         ensures serves { Serves D.Disk result }
         ensures view { WhereTold (D.now disk.old) (λ image. view_under D.Disk result ≡ volume_in image mounted) }
+        ensures unmarked { mark_of D.Disk result ≡ None }
+        ensures moment { moment_of D.Disk result ≡ 0 }
     {
         let stage = Stage::over(alloc, disk);
         Volume {
             alloc,
             mft: Mft::resume(stage, mounted),
             last: None,
+            moment: 0,
+            mark: None,
         }
     }
 
@@ -62,6 +72,8 @@ impl<'d, D: Disk> Volume<'d, D> {
             alloc: _,
             mft,
             last: _,
+            moment: _,
+            mark: _,
         } = self;
         let (stage, _) = mft.into_parts();
         stage.finish()
@@ -69,20 +81,28 @@ impl<'d, D: Disk> Volume<'d, D> {
 }
 
 impl<D: Disk> Volume<'_, D> {
-    ghost use Rattle.tree_ops.specs.Volumes.{VolumeReads, disk_under, view_under};
+    ghost use Rattle.tree_ops.specs.Volumes.{VolumeGoesOn, VolumeReads, VolumeStill, disk_under, mark_of};
     ghost use Rattle.tree_ops.specs.Serves.{Serves};
-    ghost use Rattle.tree_ops.specs.Wanted.{machine_on};
+    ghost use Rattle.tree_ops.specs.Runs.{Applied, Closed, Failed, Ready};
 
     /// Does a command of a session and gives its reply, `Device` where the disk failed. It does not settle the disk.
+    ///
+    /// Whatever the command, what was done is a step of the machine, and leaves on the disk what the command is to leave (`applied`).
+    /// Only an edit that was done writes (`still`), and behind the first one the volume is marked (`marks`). A device fault leaves it
+    /// marked, or whole (`failed`).
     pub fn apply(&mut self, session: u8, command: &Command) -> Reply
         requires serves { Serves D.Disk self.old }
-        ensures serves { Serves D.Disk self.new }
-        ensures reads { VolumeReads D.Disk self.old self.new }
+        ensures serves { result ≢ reply_is.Device → Serves D.Disk self.new }
+        ensures goes_on { VolumeGoesOn D.Disk self.old self.new }
         ensures settled { D.settled (disk_under D.Disk self.new) ≡ D.settled (disk_under D.Disk self.old) }
-        ensures step { result ≢ reply_is.Device → IsTrue (view_under D.Disk self.old).told → (facts : Facts) (moment : ℕ)
-            → TellsFacts (view_under D.Disk self.old) facts
-            → Step facts (machine_on (view_under D.Disk self.old) moment) session command.now result
-            (machine_on (view_under D.Disk self.old) moment) }
+        ensures still { result ≢ reply_is.Device → is_done_edit (Ok (session, command.now)) result ≡ false
+            → VolumeStill D.Disk self.old self.new }
+        ensures marks { result ≢ reply_is.Device → is_some (mark_of D.Disk self.new)
+            ≡ (is_some (mark_of D.Disk self.old) || is_done_edit (Ok (session, command.now)) result) }
+        ensures applied { result ≢ reply_is.Device → (first : VolumeView) (before : State) → Ready D.Disk first self.old before
+            → Applied D.Disk first before session command.now result self.new }
+        ensures failed { result ≡ reply_is.Device → (first : VolumeView) (before : State) → Ready D.Disk first self.old before
+            → Failed D.Disk first before session command.now self.new }
         ensures quiet { result ≢ reply_is.Device → D.faults (disk_under D.Disk self.new) ≡ D.faults (disk_under D.Disk self.old) }
         ensures device { result ≡ reply_is.Device
             → Rose (D.faults (disk_under D.Disk self.old)) (D.faults (disk_under D.Disk self.new)) }
@@ -115,16 +135,21 @@ impl<D: Disk> Volume<'_, D> {
         }
     }
 
-    /// Closes the volume. Where it was not marked, which no command does that is built, there is nothing to do.
+    /// Closes the volume: where it was marked, clears the mark and settles. Until a command is built that edits, there is nothing to do.
     ///
     /// # Errors
     ///
-    /// `Device` where the disk failed.
+    /// `Device` where the disk failed, which leaves the volume marked, or whole.
     pub fn close(&mut self) -> Result<(), CloseNo>
         requires serves { Serves D.Disk self.old }
-        ensures serves { OnOk result (Serves D.Disk self.new) }
-        ensures reads { VolumeReads D.Disk self.old self.new }
-        ensures settled { D.settled (disk_under D.Disk self.new) ≡ D.settled (disk_under D.Disk self.old) }
+        ensures goes_on { VolumeGoesOn D.Disk self.old self.new }
+        ensures untouched { mark_of D.Disk self.old ≡ None → IsOk result × VolumeReads D.Disk self.old self.new }
+        ensures closed { OnOk result ((first : VolumeView) (state : State) → Ready D.Disk first self.old state
+            → Closed D.Disk first state self.old self.new) }
+        ensures harmed { OnErr result ((first : VolumeView) (state : State) → Ready D.Disk first self.old state
+            → IsHarmed first state.machine.tree (D.now (disk_under D.Disk self.new))) }
+        ensures unsettled { OnErr result (D.settled (disk_under D.Disk self.new) ≡ D.settled (disk_under D.Disk self.old)) }
+        ensures most { D.written (disk_under D.Disk self.new) ≤ D.written (disk_under D.Disk self.old) + 2 }
         ensures faults { CountsFault result (D.faults (disk_under D.Disk self.old)) (D.faults (disk_under D.Disk self.new)) }
     {
         Ok(())

@@ -1,6 +1,6 @@
 use Rattle.vol_disk.specs.Stream.{IsAppended, IsAppendedPart}
-use Rattle.tree_model.specs.Session.{last_of}
-use Rattle.script_run.proofs.LineLaws.{ended_done, ended_memory, ended_much, ended_source, turned_at, went_broken, went_on, went_unprinted}
+use Rattle.session_def.specs.Session.{last_of}
+use Rattle.script_run.proofs.LineLaws.{broke_at, ended_done, ended_memory, ended_much, ended_source, turned_at, went_broken, went_on, went_unprinted}
 use Rattle.script_run.proofs.run.run_line.Goals as goal
 
 pub returns-in-End-clause-did : goal.returns-in-End-clause-did
@@ -27,7 +27,7 @@ returns-in-On-clause-did g c first text before past f =
     went_on g.D.Disk g.S.Source g.K.Sink first text before past c.args.volume.now c.args.script.now c.next_command.new.source
     c.args.out.now c.args.reader.now c.next_command.new.self c.take_turn.new.volume c.take_turn.new.out c.next_command.new.line.items f
     (c.in-Line.ensures.next text _ f.lines)
-    (turned_at g.D.Disk g.K.Sink IsAppended (last_of first f.turns) _ _ _ _ _ _ c.deref.ensures.value
+    (turned_at g.D.Disk g.K.Sink IsAppended first.view (last_of first f.turns) _ _ _ _ _ _ c.deref.ensures.value
     (c.in-On.ensures.did first.view _ f.ready))
 
 pub returns-in-Sink-clause-did : goal.returns-in-Sink-clause-did
@@ -35,10 +35,13 @@ returns-in-Sink-clause-did g c first text before past f =
     went_unprinted g.D.Disk g.S.Source g.K.Sink first text before past c.args.volume.now c.args.script.now c.next_command.new.source
     c.args.out.now c.args.reader.now c.next_command.new.self c.take_turn.new.volume c.take_turn.new.out c.next_command.new.line.items f
     (c.in-Line.ensures.next text _ f.lines)
-    (turned_at g.D.Disk g.K.Sink IsAppendedPart (last_of first f.turns) _ _ _ _ _ _ c.deref.ensures.value
+    (turned_at g.D.Disk g.K.Sink IsAppendedPart first.view (last_of first f.turns) _ _ _ _ _ _ c.deref.ensures.value
     (c.in-Sink.ensures.did first.view _ f.ready))
 
 pub returns-in-Device-clause-did : goal.returns-in-Device-clause-did
 returns-in-Device-clause-did g c first text before past f =
-    went_broken g.D.Disk g.S.Source g.K.Sink first text before past c.args.volume.now c.args.script.now c.args.out.now c.args.reader.now
-    c.take_turn.new.volume c.take_turn.new.out _ f (c.in-Device.ensures.did first.view _ f.ready)
+    went_broken g.D.Disk g.S.Source g.K.Sink first text before past c.args.volume.now c.args.script.now c.next_command.new.source
+    c.args.out.now c.args.reader.now c.next_command.new.self c.take_turn.new.volume c.take_turn.new.out c.next_command.new.line.items _ f
+    (c.in-Line.ensures.next text _ f.lines)
+    (broke_at g.D.Disk g.K.Sink first.view (last_of first f.turns) _ _ _ _ _ _ c.deref.ensures.value
+    (c.in-Device.ensures.did first.view _ f.ready))

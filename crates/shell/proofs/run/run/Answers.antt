@@ -13,15 +13,15 @@ returns-in-Ok g c =
           (world g.D.Disk g.S.Source g.K.Sink c.mount.new.disk c.args.script.now c.args.out.now)
           _ c.in-Ok.mounted c.of_script.ensures
           (record {
-            contents = record { now = read.now; fenced = read.fenced; sectors = read.size; written = read.written; late = read.late };
-            settled = read.settled;
+            contents = record { now = read.now; settled = read.settled; fenced = read.fenced; sectors = read.size; written = read.written; late = read.late };
             disk = c.in-Ok.ensures.faults;
             left = refl;
             source = refl;
             got = refl;
             sink = refl;
           })
-          c.in-Ok.ensures.accepted c.run_mounted.ensures.causes c.run_mounted.ensures.only_settles c.run_mounted.ensures.ran;
+          c.in-Ok.ensures.accepted c.run_mounted.ensures.causes c.run_mounted.ensures.on_time c.run_mounted.ensures.sectors
+          c.run_mounted.ensures.ran;
     }
 
 pub returns-in-Err : goal.returns-in-Err

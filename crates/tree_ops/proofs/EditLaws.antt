@@ -1,8 +1,7 @@
--- No command that is built is an edit, so no turn is one that was done.
+-- No command that is built is an edit.
 use Rattle.std.proofs.Common.{◌≡◌, ℕ, Bool, true, false, Some, Ok, Err, refl}
-use Rattle.volume_def.specs.VersionClause.{IsClean}
 use Rattle.tree_model.specs.Refusals.{Facts, is_edit, outcome}
-use Rattle.tree_model.specs.Session.{Said, State, Takes, dirty_flag, is_done_edit}
+use Rattle.session_def.specs.Session.{is_done_edit}
 use Rattle.tree_model.specs.Staging.{is_built}
 use Rattle.tree_model.specs.Step.{Moves, Step}
 use Rattle.tree_model.specs.Subjects.{Machine}
@@ -11,9 +10,8 @@ use Rattle.tree_model.specs.declared.command.Command.TheVariants as c
 use Rattle.tree_model.specs.declared.reply.No.TheVariants as no
 use Rattle.tree_model.specs.declared.reply.Reply.{Reply}
 use Rattle.tree_model.specs.declared.reply.Reply.TheVariants as reply
-use Rattle.tree_model.proofs.SessionLaws.{clean-flag}
 
-built_reads : (command : Command) → is_built command ≡ true → is_edit command ≡ false
+pub built_reads : (command : Command) → is_built command ≡ true → is_edit command ≡ false
 built_reads (c.Ls path) e = refl
 built_reads (c.Stat path) e = refl
 built_reads (c.Links path) e = refl
@@ -61,15 +59,3 @@ pub no_edit : (facts : Facts) (m : Machine) (session : ℕ) (command : Command) 
 no_edit facts m session command (reply.Ok answer) next x = moved_reads facts m session command next (is_built command) refl x.moved
 no_edit facts m session command (reply.No refused) next x = refl
 no_edit facts m session command reply.Device next x = refl
-
--- nor is a turn that leaves a clean volume
-pub not_done : (before : State) (said : Said) (given : Reply) (next : State) → Takes before said given next → IsClean next.view
-    → is_done_edit said given ≡ false
-not_done before said given next takes clean = by (is_done_edit said given) refl
-  where
-    by : (b : Bool) → is_done_edit said given ≡ b → is_done_edit said given ≡ false
-    by false e = e
-    by true e =
-        let marked : dirty_flag next.view ≡ Some 1 = takes.marked e in
-        let unmarked : dirty_flag next.view ≡ Some 0 = (clean-flag next.view).0 clean in
-        cc
