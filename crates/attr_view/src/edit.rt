@@ -15,7 +15,8 @@ pub fn move_bytes(block: &mut [u8], from: usize, used: usize, to: usize)
     requires fits { to + used ≤ length block.old + from }
     ensures len { length block.new ≡ length block.old }
     ensures before { (k : ℕ) → k < to → slice_index block.new k ≡ slice_index block.old k }
-    ensures moved { (i j : ℕ) → from ≤ i → i < used → j + from ≡ i + to → slice_index block.new j ≡ slice_index block.old i }
+    ensures moved { (i j : ℕ) → from ≤ i → i < used → j + from ≡ i + to
+        → slice_index block.new j ≡ slice_index block.old i }
     ensures behind { (k : ℕ) → to + used ≤ k + from → slice_index block.new k ≡ slice_index block.old k }
 {
     block.copy_within(from..used, to);

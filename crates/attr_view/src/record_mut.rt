@@ -86,7 +86,8 @@ fn resize_in(block: &mut [u8; 1024], i: usize, n: usize) -> Result<(), ViewNo>
     requires resident { IsSome (value_of (attribute_in block.old i).body) }
     requires most { n ≤ 65536 }
     ensures ok { OnOk result (Resizes block.old block.new i n) }
-    ensures fits { IsOk result ↔ (used_size block.old + len_with block.old i n ≤ 1024 + attribute_len block.old (attribute_place block.old i)) }
+    ensures fits { IsOk result
+        ↔ (used_size block.old + len_with block.old i n ≤ 1024 + attribute_len block.old (attribute_place block.old i)) }
     ensures err { IfErr result (LacksRoom block.old (len_with block.old i n - attribute_len block.old (attribute_place block.old i))) }
     ensures kept { OnErr result (block.new ≡ block.old) }
 {

@@ -254,7 +254,8 @@ fn find_in(words: &[u64], len: u64, from: u64, end: u64) -> Option<u64>
     requires from { from ≤ end }
     requires end { end ≤ 64 * length words.now }
     requires small { length words.now ≤ 2 ^ 57 }
-    ensures some { IfSome result (λ at. (from ≤ at) × (at < end) × IsClear words.now at len × ((b : ℕ) → from ≤ b → b < at → IsClear words.now b len → ⊥)) }
+    ensures some { IfSome result (λ at. (from ≤ at) × (at < end) × IsClear words.now at len
+        × ((b : ℕ) → from ≤ b → b < at → IsClear words.now b len → ⊥)) }
     ensures none { IfNone result ((b : ℕ) → from ≤ b → b < end → IsClear words.now b len → ⊥) }
 {
     let mut at = from;

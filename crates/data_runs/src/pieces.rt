@@ -81,7 +81,8 @@ impl RunList {
         requires hold { CanHold self.old pending.old }
         requires total { length (clusters_with self.old pending.old) + length (window from to (clusters_of runs.now)) ≤ 2 ^ 62 }
         ensures hold { OnOk result (CanHold self.new pending.new) }
-        ensures copied { OnOk result (clusters_with self.new pending.new ≡ clusters_with self.old pending.old ++ window from to (clusters_of runs.now)) }
+        ensures copied { OnOk result (clusters_with self.new pending.new
+            ≡ clusters_with self.old pending.old ++ window from to (clusters_of runs.now)) }
     {
         let mut at = 0;
         'runs: for run in runs {
@@ -161,7 +162,8 @@ fn cut_place(runs: &[Run], vcn: u64) -> (usize, u64)
     ensures within { result.0 ≤ length runs.now }
     ensures part { 0 < result.1 → result.0 < length runs.now }
     ensures less { (d : Run) → 0 < result.1 → result.1 < (slice_index_or runs.now result.0 d).len }
-    ensures cut { take vcn (clusters_of runs.now) ≡ clusters_of (take result.0 runs.now) ++ take result.1 (clusters_of (drop result.0 runs.now)) }
+    ensures cut { take vcn (clusters_of runs.now)
+        ≡ clusters_of (take result.0 runs.now) ++ take result.1 (clusters_of (drop result.0 runs.now)) }
 {
     let mut inside = vcn;
     let mut whole = 0;
@@ -215,7 +217,8 @@ impl RunList {
         requires { 1 ≤ limit }
         ensures within { result ≤ length self.now }
         ensures fits { (text : List ℕ) → IsWritten (take result self.now) text → length text ≤ limit }
-        ensures most { (n : ℕ) (text : List ℕ) → result < n → n ≤ length self.now → IsWritten (take n self.now) text → limit < length text }
+        ensures most { (n : ℕ) (text : List ℕ) → result < n → n ≤ length self.now → IsWritten (take n self.now) text
+            → limit < length text }
     {
         let mut len = 0;
         let mut last = 0;
@@ -235,10 +238,11 @@ impl RunList {
 
 /// What a run in place of as many clusters means for each cluster of the stream.
 pub fn run_put_spots()
-    ensures inside { (old new : List Run) (at n : ℕ) (run : Run) → clusters_of new ≡ with_run (clusters_of old) at run → at + run.len ≤ total_clusters old
+    ensures inside { (old new : List Run) (at n : ℕ) (run : Run) → clusters_of new ≡ with_run (clusters_of old) at run
+        → at + run.len ≤ total_clusters old
         → at ≤ n → n < at + run.len → spot_of new n ≡ spot_in (Some (option_map (λ place. place + (n - at)) run.lcn)) }
-    ensures before { (old new : List Run) (at n : ℕ) (run : Run) → clusters_of new ≡ with_run (clusters_of old) at run → at + run.len ≤ total_clusters old
-        → n < at → spot_of new n ≡ spot_of old n }
-    ensures behind { (old new : List Run) (at n : ℕ) (run : Run) → clusters_of new ≡ with_run (clusters_of old) at run → at + run.len ≤ total_clusters old
-        → at + run.len ≤ n → spot_of new n ≡ spot_of old n }
+    ensures before { (old new : List Run) (at n : ℕ) (run : Run) → clusters_of new ≡ with_run (clusters_of old) at run
+        → at + run.len ≤ total_clusters old → n < at → spot_of new n ≡ spot_of old n }
+    ensures behind { (old new : List Run) (at n : ℕ) (run : Run) → clusters_of new ≡ with_run (clusters_of old) at run
+        → at + run.len ≤ total_clusters old → at + run.len ≤ n → spot_of new n ≡ spot_of old n }
 {}

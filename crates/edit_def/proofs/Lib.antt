@@ -1,4 +1,3 @@
-pub mod AlikeLaws
 pub mod Sums
 pub mod AccountLaws
 pub mod NeedLaws

@@ -9,7 +9,7 @@ use Rattle.volume_def.specs.Files.{Record, Records, is_base, records_of}
 use Rattle.volume_def.specs.View.{VolumeView}
 use Rattle.tree_model.specs.Reading.{all_links, link_by, link_for}
 use Rattle.edit_def.specs.Names.{ComesUnnamed, GetsName, KeepsNames, Numbers, numbers_at, numbers_by}
-use Rattle.edit_def.proofs.AlikeLaws.{range-cut, range-more, range-same}
+use Rattle.list_laws.proofs.AlikeLaws.{range-cut, range-more, range-same}
 use Rattle.edit_def.proofs.NamesLaws.{number-inside, past}
 use Rattle.list_laws.specs.SameItems.{SameItems}
 use Rattle.list_laws.proofs.SameItemsLaws.{SameItems-map, SameItems-same, SameItems-trans}

@@ -13,7 +13,7 @@ use Rattle.volume_def.specs.View.{VolumeView}
 use Rattle.volume_def.specs.ReferencesClause.{HasRightReferences, MeetsReferences, NamesBase, NamesDirectory}
 use Rattle.volume_def.proofs.PartLaws.{Contains-HoldsPart}
 use Rattle.tree_model.proofs.ParentLaws.{name-held}
-use Rattle.edit_def.proofs.AlikeLaws.{All-SameItems}
+use Rattle.list_laws.proofs.AlikeLaws.{All-SameItems}
 use Rattle.list_laws.proofs.MemberLaws.{All-from_Contains, Contains-cases, Contains-filter, Contains-filter_map, Contains-from_filter}
 use Rattle.list_laws.proofs.MemberLaws.{Contains-from_filter_map, Contains-later}
 use Rattle.edit_def.specs.Names.{ComesUnnamed, GetsName, HasNoNames, HasRightBases, KeepsOthers, Numbers, StandRightly, is_directory_by}

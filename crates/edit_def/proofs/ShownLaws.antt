@@ -29,7 +29,7 @@ use Rattle.edit_def.specs.Kept.{AreTellable, IsUnseenButTimes, KeepsFile, Key, T
 use Rattle.edit_def.proofs.ToldLaws.{content-kept, same_told, same_told-exact, same_told-itself, tells}
 use Rattle.list_laws.proofs.BoolLaws.{and-swap}
 use Rattle.list_laws.proofs.FilterLaws.{filter-passed}
-use Rattle.edit_def.proofs.AlikeLaws.{alike-tied}
+use Rattle.list_laws.proofs.AlikeLaws.{alike-tied}
 use Rattle.list_laws.specs.SameItems.{SameItems}
 use Rattle.list_laws.proofs.MemberLaws.{Contains-filter, Contains-from_filter, Contains-from_map, filter-map, map_agree}
 use Rattle.list_laws.proofs.SameItemsLaws.{SameItems-filter, SameItems-map, SameItems-passing, SameItems-sym}

@@ -17,3 +17,4 @@ pub mod BitLaws
 pub mod OrderLaws
 pub mod OptionLaws
 pub mod BoolLaws
+pub mod AlikeLaws
