@@ -4,3 +4,6 @@ pub mod OwnerLaws
 pub mod TableParts
 pub mod PokeLaws
 pub mod StoredPoke
+pub mod ClusterWrites
+pub mod StreamClusters
+pub mod WithBytes

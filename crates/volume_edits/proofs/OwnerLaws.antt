@@ -15,14 +15,13 @@ use Rattle.volume_def.specs.OwnersClause.{all_runs, record_runs, times_owned}
 use Rattle.volume_def.specs.Sound.{IsSound}
 use Rattle.volume_def.specs.Sound.{MirrorPlace, Owners}
 use Rattle.volume_def.specs.Table.{IsOnVolume, cluster_bytes}
-use Rattle.volume_def.specs.VersionClause.{IsMirror}
 use Rattle.volume_def.specs.View.{VolumeView}
 use Rattle.list_laws.proofs.MemberLaws.{Contains-cases, Contains-from_filter, Contains-nil, Contains-range}
 use Rattle.volume_def.proofs.PartLaws.{IsPart-Contains, NameHolders-view}
 use Rattle.list_laws.proofs.SameItemsLaws.{count-append}
 use Rattle.volume_def.proofs.ValueLaws.{spot_at-owned}
 use Rattle.std.proofs.lemmas.Bool.{and_parts, eqb-true}
-use Rattle.volume_edits.specs.Owners.{HasTablePart, IsOwnPart}
+use Rattle.volume_edits.specs.Owners.{HasOwners, HasTablePart, IsOwnPart}
 
 -- What one item gives counts in what all give ..
 pub count-least : {A B : Type 0} (f : A → List B) (p : B → Bool) (xs : List A) (x : A) → Contains xs x
@@ -125,20 +124,17 @@ module _ (view : VolumeView) where
       of-same : (r s : Record) (n : ℕ) → Some r ≡ Some s → file_of n r ≡ file_of n s
       of-same r s n e = let q : r ≡ s = cc in ap (file_of n) q
 
-  module _ (sound : IsSound view) (t : HasTablePart view) where
-    pub never : (f g : ℕ) (one two : Part) (cluster : ℕ) → Contains (parts records f) one → Contains (parts records g) two
+  module _ (o : HasOwners view) where
+    pub no-shared : (f g : ℕ) (one two : Part) (cluster : ℕ) → Contains (parts records f) one → Contains (parts records g) two
         → one ≢ two → 1 ≤ times_covered (part_runs one) cluster → 1 ≤ times_covered (part_runs two) cluster → ⊥
-    never f g one two cluster c d ne a b =
+    no-shared f g one two cluster c d ne a b =
         let twice = owned-twice f g one two cluster c d ne a b in
-        let once = (sound Owners cluster).once in
+        let once = (o.owners cluster).once in
         omega (arith, twice, once)
 
-    mirror-extents : IsMirror view (parts_at view MFT_MIRROR DATA [])
-    mirror-extents = sound MirrorPlace MFT_MIRROR refl
-
     -- the clusters of the mirror belong to it
-    pub mirror-owned : (s : ℕ) → s < 8 → 0 < view.layout.cluster_sectors → IsOwnPart view MFT_MIRROR (mirror_at view.layout s)
-    mirror-owned s few some =
+    pub mirror-holds : (s : ℕ) → s < 8 → 0 < view.layout.cluster_sectors → IsOwnPart view MFT_MIRROR (mirror_at view.layout s)
+    mirror-holds s few some =
         let per = view.layout.cluster_sectors in
         let k = s / per in
         let parts_s = div-add-mod' s per in
@@ -149,7 +145,7 @@ module _ (view : VolumeView) where
         let at_s : view.layout.mirror * per + s ≡ (view.layout.mirror + k) * per + s % per = omega (arith, parts_s, spread) in
         let there : view.layout.mirror + k ≡ mirror_at view.layout s =
         sym (ap (λ x. x / per) at_s ∙ div-mul-add (view.layout.mirror + k) per (s % per) r) in
-        let at = mirror-extents.placed k below in
+        let at = o.mirror.placed k below in
         let owned = spot_at-owned (parts_at view MFT_MIRROR DATA []) k (view.layout.mirror + k) at in
         let among = Contains-from_filter (is_of DATA []) (parts records MFT_MIRROR) owned.0 owned.1 in
         record {
@@ -160,27 +156,78 @@ module _ (view : VolumeView) where
         }
 
     -- what another part covers lies outside the table and its mirror
-    pub own-outside : 0 < view.layout.cluster_sectors → (f : ℕ) (part : Part) (c : ℕ) → Contains (parts records f) part
+    pub lies-outside : 0 < view.layout.cluster_sectors → (f : ℕ) (part : Part) (c : ℕ) → Contains (parts records f) part
         → 1 ≤ times_covered (part_runs part) c → (part.kind ≢ DATA) ⊎ ((f ≢ MFT) × (f ≢ MFT_MIRROR)) → IsOutsideTable view.layout c
-    own-outside some f part c among covered which = record {
+    lies-outside some f part c among covered which = record {
       table = elim (cases_lt 0 (times_covered view.layout.runs c)) [
-        | inl covers ↦ absurd (never f MFT part t.part c among t.among (no-table which) covered
-            (subst (λ runs. 1 ≤ times_covered runs c) (sym t.runs) (omega (arith, covers))))
+        | inl covers ↦ absurd (no-shared f MFT part o.table.part c among o.table.among (no-table which) covered
+            (subst (λ runs. 1 ≤ times_covered runs c) (sym o.table.runs) (omega (arith, covers))))
         | inr none ↦ omega (arith, none)
       ];
       mirror = λ s few same.
-          let m = mirror-owned s few some in
-          never f MFT_MIRROR part m.part c among m.among (no-mirror m which) covered
+          let m = mirror-holds s few some in
+          no-shared f MFT_MIRROR part m.part c among m.among (no-mirror m which) covered
           (subst (λ k. 1 ≤ times_covered (part_runs m.part) k) same m.covered);
     }
       where
-        no-table : (part.kind ≢ DATA) ⊎ ((f ≢ MFT) × (f ≢ MFT_MIRROR)) → part ≢ t.part
-        no-table (inl kind) = λ same. kind (ap (λ (p : Part). p.kind) same ∙ t.data_is)
-        no-table (inr files) = files-apart f MFT part t.part files.0 among t.among
+        no-table : (part.kind ≢ DATA) ⊎ ((f ≢ MFT) × (f ≢ MFT_MIRROR)) → part ≢ o.table.part
+        no-table (inl kind) = λ same. kind (ap (λ (p : Part). p.kind) same ∙ o.table.data_is)
+        no-table (inr files) = files-apart f MFT part o.table.part files.0 among o.table.among
 
         no-mirror : {s : ℕ} (m : IsOwnPart view MFT_MIRROR s) → (part.kind ≢ DATA) ⊎ ((f ≢ MFT) × (f ≢ MFT_MIRROR)) → part ≢ m.part
         no-mirror m (inl kind) = λ same. kind (ap (λ (p : Part). p.kind) same ∙ m.data_is)
         no-mirror m (inr files) = files-apart f MFT_MIRROR part m.part files.1 among m.among
+
+    -- the layout of the table is one whose blocks can be written
+    pub layout-lies_apart : 0 < view.layout.cluster_sectors → All (IsOnVolume view.layout.clusters) view.layout.runs → IsApart view.layout
+    layout-lies_apart some on = record {
+      some = some;
+      on_volume = on;
+      mirror_on_volume = λ s few.
+          let m = mirror-holds s few some in
+          let c = mirror_at view.layout s in
+          elim (cases_lt c view.layout.clusters) [
+            | inl below ↦ below
+            | inr past ↦
+                let none = (o.owners c).inside past in
+                let owned = owned-once MFT_MIRROR m.part c m.among in
+                let covered = m.covered in
+                absurd (omega (arith, none, owned, covered))
+          ];
+      apart = λ c.
+          let once = (o.owners c).once in
+          let owned = owned-once MFT o.table.part c o.table.among in
+          let runs : times_covered (part_runs o.table.part) c ≡ times_covered view.layout.runs c = ap (λ xs. times_covered xs c) o.table.runs in
+          omega (arith, once, owned, runs);
+      mirror = λ s few.
+          let m = mirror-holds s few some in
+          let c = mirror_at view.layout s in
+          elim (cases_lt 0 (times_covered view.layout.runs c)) [
+            | inl covers ↦ absurd (no-shared MFT MFT_MIRROR o.table.part m.part c o.table.among m.among
+                (files-apart MFT MFT_MIRROR o.table.part m.part (λ q. omega (arith, q)) o.table.among m.among)
+                (subst (λ runs. 1 ≤ times_covered runs c) (sym o.table.runs) (omega (arith, covers))) m.covered)
+            | inr none ↦ omega (arith, none)
+          ];
+    }
+
+  -- On a sound volume it is so.
+  pub HasOwners-sound : IsSound view → HasTablePart view → HasOwners view
+  HasOwners-sound sound t = record { owners = sound Owners; mirror = sound MirrorPlace MFT_MIRROR refl; table = t }
+
+  module _ (sound : IsSound view) (t : HasTablePart view) where
+    pub never : (f g : ℕ) (one two : Part) (cluster : ℕ) → Contains (parts records f) one → Contains (parts records g) two
+        → one ≢ two → 1 ≤ times_covered (part_runs one) cluster → 1 ≤ times_covered (part_runs two) cluster → ⊥
+    never = no-shared (HasOwners-sound sound t)
+
+    pub mirror-owned : (s : ℕ) → s < 8 → 0 < view.layout.cluster_sectors → IsOwnPart view MFT_MIRROR (mirror_at view.layout s)
+    mirror-owned = mirror-holds (HasOwners-sound sound t)
+
+    pub own-outside : 0 < view.layout.cluster_sectors → (f : ℕ) (part : Part) (c : ℕ) → Contains (parts records f) part
+        → 1 ≤ times_covered (part_runs part) c → (part.kind ≢ DATA) ⊎ ((f ≢ MFT) × (f ≢ MFT_MIRROR)) → IsOutsideTable view.layout c
+    own-outside = lies-outside (HasOwners-sound sound t)
+
+    pub layout-apart : 0 < view.layout.cluster_sectors → All (IsOnVolume view.layout.clusters) view.layout.runs → IsApart view.layout
+    layout-apart = layout-lies_apart (HasOwners-sound sound t)
 
     pub looked-outside : 0 < view.layout.cluster_sectors → (c : ℕ) → IsLookedAt view c → IsOutsideTable view.layout c
     looked-outside some c l = own-outside some l.file l.part c l.among l.covered (which l.looked)
@@ -191,35 +238,3 @@ module _ (view : VolumeView) where
         which (inr (inr (inl bits))) = inl (λ q. omega (arith, bits, q))
         which (inr (inr (inr (kind, inl is)))) = inr ((λ q. omega (arith, is, q)), (λ q. omega (arith, is, q)))
         which (inr (inr (inr (kind, inr is)))) = inr ((λ q. omega (arith, is, q)), (λ q. omega (arith, is, q)))
-
-    -- the layout of the table is one whose blocks can be written
-    pub layout-apart : 0 < view.layout.cluster_sectors → All (IsOnVolume view.layout.clusters) view.layout.runs → IsApart view.layout
-    layout-apart some on = record {
-      some = some;
-      on_volume = on;
-      mirror_on_volume = λ s few.
-          let m = mirror-owned s few some in
-          let c = mirror_at view.layout s in
-          elim (cases_lt c view.layout.clusters) [
-            | inl below ↦ below
-            | inr past ↦
-                let none = (sound Owners c).inside past in
-                let owned = owned-once MFT_MIRROR m.part c m.among in
-                let covered = m.covered in
-                absurd (omega (arith, none, owned, covered))
-          ];
-      apart = λ c.
-          let once = (sound Owners c).once in
-          let owned = owned-once MFT t.part c t.among in
-          let runs : times_covered (part_runs t.part) c ≡ times_covered view.layout.runs c = ap (λ xs. times_covered xs c) t.runs in
-          omega (arith, once, owned, runs);
-      mirror = λ s few.
-          let m = mirror-owned s few some in
-          let c = mirror_at view.layout s in
-          elim (cases_lt 0 (times_covered view.layout.runs c)) [
-            | inl covers ↦ absurd (never MFT MFT_MIRROR t.part m.part c t.among m.among
-                (files-apart MFT MFT_MIRROR t.part m.part (λ q. omega (arith, q)) t.among m.among)
-                (subst (λ runs. 1 ≤ times_covered runs c) (sym t.runs) (omega (arith, covers))) m.covered)
-            | inr none ↦ omega (arith, none)
-          ];
-    }

@@ -1,2 +1,4 @@
 pub mod Quiet
 pub mod Owners
+pub mod Rewritten
+pub mod Clusters

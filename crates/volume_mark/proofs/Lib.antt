@@ -12,5 +12,4 @@ pub mod DiskLaws
 pub mod MarkLaws
 pub mod OutsideLaws
 pub mod LiesLaws
-pub mod PokedRecord
 pub mod AgreeLaws

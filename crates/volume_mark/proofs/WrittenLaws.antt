@@ -34,7 +34,7 @@ in-use n stored used = ap (λ b. cond b (Some (record_of n (opened_of stored))) 
 module _ (old new : VolumeView) (n : ℕ) (stored : List ℕ) (was now : Attribute) (w : WritesValue old new n stored was now)
     (outside : LooksOutside old) where
   r : ReplacesBlock old new n stored
-  r = w.replaces
+  r = w.record_is.replaces
 
   abbrev mid : VolumeView
   mid = with_blocks old new.block new.copy
@@ -55,35 +55,35 @@ module _ (old new : VolumeView) (n : ℕ) (stored : List ℕ) (was now : Attribu
   }
 
   was_at : record_on old n ≡ Some (record_of n (opened_of (old.block n)))
-  was_at = ap (λ b. cond b (record_in n (old.block n)) None) (lt-ltb n old.layout.count w.inside) ∙ in-use n (old.block n) w.used
+  was_at = ap (λ b. cond b (record_in n (old.block n)) None) (lt-ltb n old.layout.count w.record_is.inside) ∙ in-use n (old.block n) w.record_is.used
 
   block-is : new.block n ≡ stored
   unfolding r
-  block-is = r.block w.told
+  block-is = r.block w.record_is.told
 
   now_at : record_on mid n ≡ Some (record_of n (opened_of stored))
-  now_at = ap (λ b. cond b (record_in n (new.block n)) None) (lt-ltb n old.layout.count w.inside) ∙ ap (record_in n) block-is
-      ∙ in-use n stored w.used_still
+  now_at = ap (λ b. cond b (record_in n (new.block n)) None) (lt-ltb n old.layout.count w.record_is.inside) ∙ ap (record_in n) block-is
+      ∙ in-use n stored w.record_is.used_still
 
   changed : EditsAt (records_of old) (records_of mid) n (part_of n was ∷ []) (part_of n now ∷ [])
   unfolding r
   changed = record {
     changes = record { count = refl; others = λ m ne. ap (λ b. cond (nat_lt m old.layout.count) (record_in m b) None) (r.blocks m ne) };
-    inside = w.inside;
+    inside = w.record_is.inside;
     was_record = record_of n (opened_of (old.block n));
     now_record = record_of n (opened_of stored);
     was_at = was_at;
     now_at = now_at;
-    header = w.header;
-    edit = Replaces-map (part_of n) _ _ _ _ w.attributes_are;
+    header = w.record_is.header;
+    edit = Replaces-map (part_of n) _ _ _ _ w.record_is.attributes_are;
   }
 
   mirror : MeetsMirror mid n
   unfolding r
   mirror few used =
-      let c : new.copy n ≡ stored = r.copy w.told few in
+      let c : new.copy n ≡ stored = r.copy w.record_is.told few in
       record {
-        sealed = subst IsSealed (sym c) w.well.sealed;
+        sealed = subst IsSealed (sym c) w.record_is.well.sealed;
         same = subst (λ b. Mirrors (opened_of b) (opened_of (new.copy n))) (sym block-is)
             (subst (λ b. Mirrors (opened_of stored) (opened_of b)) (sym c) (mirrors-itself (opened_of stored)));
       }
@@ -95,7 +95,7 @@ module _ (old new : VolumeView) (n : ℕ) (stored : List ℕ) (was now : Attribu
     rewrites = w.rewrites;
     blocks = r.blocks;
     copies = r.copies;
-    shape = subst IsWellFormed (sym block-is) w.well;
+    shape = subst IsWellFormed (sym block-is) w.record_is.well;
     version = λ three. subst HasVersion (sym (ap new.block (sym three) ∙ block-is)) (w.version three);
     mirror = mirror;
   }
