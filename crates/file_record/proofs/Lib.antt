@@ -11,3 +11,6 @@ pub mod NumbersLaws
 pub mod BaseLaws
 pub mod HoldLaws
 pub mod ReadLaws
+mod SealedRecords
+mod HeldParts
+mod WriteLaws

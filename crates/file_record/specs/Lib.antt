@@ -5,3 +5,4 @@ pub mod Records
 pub mod Numbers
 pub mod Holds
 pub mod FileNos
+pub mod Written

@@ -10,6 +10,7 @@ mod load;
 mod numbers;
 mod parts;
 mod record;
+mod write;
 
 pub use base::{BaseFile, load_base};
 pub use error::FileNo;

@@ -13,11 +13,20 @@ pub struct FileParts {
     ghost few: { vec_len held ≤ 2 ^ 22 },
 }
 
+/// Where a part of a file is held: in which of the records, and which attribute of it.
+#[derive(Clone, Copy, Debug)]
+pub(crate) struct PartPlace {
+    pub(crate) record: usize,
+    pub(crate) attribute: usize,
+}
+
 impl FileParts {
-    ghost use Rattle.std.specs.Prelude.{◌≡◌, ◌<◌, IsSomeAnd, Some, length, slice_get};
+    ghost use Rattle.std.specs.Prelude.{◌≡◌, ◌+◌, ◌<◌, IsSomeAnd, Some, get_or, length, slice_get, take};
+    ghost use Rattle.std.specs.List.{flat_map};
+    ghost use Rattle.file_record.specs.declared.held.Held.{Held};
     ghost use Rattle.attr_view.specs.View.{attribute_of};
     ghost use Rattle.volume_def.specs.Files.{part_of};
-    ghost use Rattle.file_record.specs.Held.{attributes_held, file_number, held_of, parts_held};
+    ghost use Rattle.file_record.specs.Held.{attributes_held, attributes_in, file_number, held_of, parts_held};
 
     /// The number of the file: that of its base record.
     pub fn number(&self) -> u64
@@ -50,12 +59,26 @@ impl FileParts {
         ensures attribute { slice_get (attributes_held self.now) i ≡ Some (attribute_of result) }
         ensures part { IsSomeAnd (slice_get (parts_held self.now) i) (λ part. part ≡ part_of part.holder (attribute_of result)) }
     {
+        let place = self.place_of(i);
+        self.held[place.record].view().attr(place.attribute)
+    }
+
+    /// Where a part is held.
+    pub(crate) fn place_of(&self, i: usize) -> PartPlace
+        requires { i < length (parts_held self.now) }
+        ensures record { result.record < length (held_of self.now) }
+        ensures place { i ≡ length (flat_map attributes_in (take result.record (held_of self.now))) + result.attribute }
+        ensures attribute { (d : Held) → result.attribute < (get_or (held_of self.now) result.record d).count }
+    {
         let mut left = i;
         let mut record = 0;
         'records: loop {
             let held = &self.held[record];
             if left < held.count {
-                return held.view().attr(left);
+                return PartPlace {
+                    record,
+                    attribute: left,
+                };
             }
             left -= held.count;
             record += 1;

@@ -1,15 +1,12 @@
-use Rattle.std.proofs.Common.{◌≡◌, ◌≤◌, ◌-◌, ℕ, Some, ap, sym, subst, ◌∙◌, arith}
-use Rattle.std.specs.Prelude.{All, IfNone, IfOk, IfSome, IsSomeAnd, IsTrue}
-use Rattle.attr_view.specs.declared.record_mut.RecordHeader.{RecordHeader}
+use Rattle.std.proofs.Common.{◌≡◌, ◌-◌, sym, subst, arith}
+use Rattle.std.specs.Prelude.{All, IfSome, IsTrue}
 use Rattle.volume_def.specs.Files.{record_on}
-use Rattle.volume_def.specs.Readable.{IsFile, IsReadableVolume, WhereReadable}
+use Rattle.volume_def.specs.Readable.{IsFile, WhereReadable}
 use Rattle.volume_def.specs.View.{VolumeView}
 use Rattle.mft_table.specs.Mft.{MftReads, view}
 use Rattle.mft_table.proofs.StreamReads.{MftReads-none, MftReads-then}
-use Rattle.file_record.specs.declared.held.Held.{Held}
 use Rattle.file_record.specs.Base.{HasBaseRecord}
 use Rattle.file_record.specs.Held.{AreParts, IsCurrent, held_of}
-use Rattle.file_record.specs.Holds.{IsHeldBase}
 use Rattle.file_record.specs.Records.{IsRecordOf, file_reads}
 use Rattle.file_record.proofs.BaseLaws.{is-file, least-reads}
 use Rattle.file_record.proofs.ReadLaws.{view-kept}

@@ -1,11 +1,8 @@
-use Rattle.std.proofs.Common.{◌≡◌, Some, ap, sym, subst, ◌∙◌}
-use Rattle.std.specs.Prelude.{IfNone, IfSome, IsTrue}
+use Rattle.std.proofs.Common.{◌≡◌, subst}
+use Rattle.std.specs.Prelude.{IfNone, IfSome}
 use Rattle.ntfs_def.specs.Fixup.{opened_of}
-use Rattle.volume_def.specs.Files.{record_of}
-use Rattle.volume_def.specs.View.{VolumeView}
 use Rattle.mft_table.specs.Mft.{view}
 use Rattle.file_record.specs.declared.held.Held.{Held}
-use Rattle.file_record.specs.Base.{HasHeader}
 use Rattle.file_record.specs.Records.{IsRecordOf}
 use Rattle.file_record.proofs.BaseLaws.{HasHeader-of, base-record, no-base-record}
 use Rattle.file_record.proofs.RecordLaws.{IsRecordOf-file}

@@ -1,0 +1,91 @@
+use Rattle.std.proofs.Common.{◌≡◌, ◌+◌, ◌*◌, ◌<◌, ◌≤◌, ℕ, List, length, get_or, ap, refl, sym, subst, arith}
+use Rattle.std.specs.Prelude.{IsSomeAnd, IsTrue}
+use Rattle.std.proofs.lemmas.Result.{on_ok_weaker}
+use Rattle.ntfs_def.specs.Attribute.{attributes}
+use Rattle.ntfs_def.proofs.AttributeLaws.{length-attributes}
+use Rattle.volume_def.specs.Coverage.{IsApart}
+use Rattle.volume_def.specs.View.{ReplacesBlock}
+use Rattle.mft_table.specs.Mft.{MftStages, view}
+use Rattle.mft_table.specs.Staging.{record_places}
+use Rattle.file_record.specs.declared.held.Held.{Held}
+use Rattle.file_record.specs.Written.{IsWholeFile, PartHeld, StagesHeld, WritesBytes}
+use Rattle.file_record.proofs.WriteLaws.{bytes-written, holds-there, number-inside, part-held, whole-now}
+use Rattle.file_record.proofs.parts.FileParts.write_bytes.Goals as goal
+
+-- an attribute of a record that is held
+within-held : (held : List Held) (k left : ℕ) (one : Held) → one ≡ get_or held k one → ((d : Held) → left < (get_or held k d).count)
+    → left < length (attributes one.block)
+within-held held k left one is few =
+    let here = ap (λ (h : Held). h.count) is in
+    omega (arith, few one, here, length-attributes one.block one.count one.shape)
+
+pub write_value-requires-clause-within : goal.write_value-requires-clause-within
+write_value-requires-clause-within g c =
+    within-held c.args.self.now.held.items c.place_of-place.result.record c.place_of-place.result.attribute c.index_mut-held.result.now
+    c.index_mut-held.ensures.value c.place_of-place.ensures.attribute
+
+pub write_value-requires-clause-inside : goal.write_value-requires-clause-inside
+write_value-requires-clause-inside g c =
+    let place = c.place_of-place.result in
+    let one = c.index_mut-held.result.now in
+    let within = within-held c.args.self.now.held.items place.record place.attribute one c.index_mut-held.ensures.value c.place_of-place.ensures.attribute in
+    holds-there c.args.self.now.held.items place.record place.attribute c.args.i one c.index_mut-held.ensures.value
+    c.place_of-place.ensures.record c.place_of-place.ensures.place within c.args.at (length c.args.from.now) c.requires.inside
+
+-- What was staged is the record of the part, with its bytes; told of any such record.
+pub returns-clause-written : goal.returns-clause-written
+returns-clause-written g c =
+    let view' = view g.D.Disk c.args.mft.now in
+    let place = c.place_of-place.result in
+    let one = c.index_mut-held.result.now in
+    let now = c.write_value.new.self in
+    let within = within-held c.args.self.now.held.items place.record place.attribute one c.index_mut-held.ensures.value c.place_of-place.ensures.attribute in
+    let read = part-held c.args.self.now.held.items place.record place.attribute c.args.i one c.index_mut-held.ensures.value
+    c.place_of-place.ensures.record c.place_of-place.ensures.place within in
+    let weaker : StagesHeld view' (view g.D.Disk c.stage.new.mft) now.number now.block → IsTrue view'.told → IsApart view'.layout
+    → IsWholeFile view' c.args.self.now → PartHeld c.args.self.now c.args.i (λ part. 1024 * part.holder + 1024 ≤ view'.layout.initialized
+    → WritesBytes view' (view g.D.Disk c.stage.new.mft) part c.args.at c.args.from.now) = λ staged told apart whole.
+    subst (λ o. IsSomeAnd o (λ part. 1024 * part.holder + 1024 ≤ view'.layout.initialized → WritesBytes view' (view g.D.Disk c.stage.new.mft) part c.args.at c.args.from.now))
+    (sym read) (λ low.
+    let small = number-inside view' c.args.self.now place.record one whole c.index_mut-held.ensures.value c.place_of-place.ensures.record in
+    let number = c.write_value.ensures.number in
+    let w = staged (omega (arith, small, number)) apart (omega (arith, low, number)) in
+    bytes-written view' (view g.D.Disk c.stage.new.mft) c.args.self.now place.record place.attribute c.args.at one now c.args.from.now w.0
+    told whole c.index_mut-held.ensures.value c.place_of-place.ensures.record number within c.write_value.ensures.written w.1
+    (subst (λ n. ReplacesBlock view' (view g.D.Disk c.stage.new.mft) n w.0) number w.2)) in
+    on_ok_weaker _ weaker c.stage.ensures.staged
+
+pub returns-clause-held : goal.returns-clause-held
+returns-clause-held g c =
+    let view' = view g.D.Disk c.args.mft.now in
+    let place = c.place_of-place.result in
+    let one = c.index_mut-held.result.now in
+    let now = c.write_value.new.self in
+    let within = within-held c.args.self.now.held.items place.record place.attribute one c.index_mut-held.ensures.value c.place_of-place.ensures.attribute in
+    let read = part-held c.args.self.now.held.items place.record place.attribute c.args.i one c.index_mut-held.ensures.value
+    c.place_of-place.ensures.record c.place_of-place.ensures.place within in
+    let weaker : StagesHeld view' (view g.D.Disk c.stage.new.mft) now.number now.block → IsTrue view'.told → IsApart view'.layout
+    → IsWholeFile view' c.args.self.now → PartHeld c.args.self.now c.args.i (λ part. 1024 * part.holder + 1024 ≤ view'.layout.initialized)
+    → IsWholeFile (view g.D.Disk c.stage.new.mft) _ = λ staged told apart whole there.
+    let low = subst (λ o. IsSomeAnd o (λ part. 1024 * part.holder + 1024 ≤ view'.layout.initialized)) read there in
+    let small = number-inside view' c.args.self.now place.record one whole c.index_mut-held.ensures.value c.place_of-place.ensures.record in
+    let number = c.write_value.ensures.number in
+    let w = staged (omega (arith, small, number)) apart (omega (arith, low, number)) in
+    whole-now view' (view g.D.Disk c.stage.new.mft) c.args.self.now place.record place.attribute c.args.at one now c.args.from.now w.0
+    told whole c.index_mut-held.ensures.value c.place_of-place.ensures.record number within c.write_value.ensures.written w.1
+    (subst (λ n. ReplacesBlock view' (view g.D.Disk c.stage.new.mft) n w.0) number w.2) _ refl refl in
+    on_ok_weaker _ weaker c.stage.ensures.staged
+
+pub returns-clause-stages : goal.returns-clause-stages
+returns-clause-stages g c =
+    let layout = (view g.D.Disk c.args.mft.now).layout in
+    let now = c.write_value.new.self in
+    let place = c.place_of-place.result in
+    let one = c.index_mut-held.result.now in
+    let read = part-held c.args.self.now.held.items place.record place.attribute c.args.i one c.index_mut-held.ensures.value
+    c.place_of-place.ensures.record c.place_of-place.ensures.place (within-held c.args.self.now.held.items place.record place.attribute one c.index_mut-held.ensures.value c.place_of-place.ensures.attribute) in
+    let weaker : MftStages g.D.Disk (record_places layout now.number) 4 c.args.mft.now c.stage.new.mft
+    → PartHeld c.args.self.now c.args.i (λ part. MftStages g.D.Disk (record_places layout part.holder) 4 c.args.mft.now c.stage.new.mft) = λ stages.
+    subst (λ o. IsSomeAnd o (λ part. MftStages g.D.Disk (record_places layout part.holder) 4 c.args.mft.now c.stage.new.mft)) (sym read)
+    (subst (λ n. MftStages g.D.Disk (record_places layout n) 4 c.args.mft.now c.stage.new.mft) c.write_value.ensures.number stages) in
+    on_ok_weaker _ weaker c.stage.ensures.stages
