@@ -5,3 +5,6 @@ pub mod Spanned
 pub mod StoredLaws
 pub mod FirstLaws
 pub mod Values
+pub mod StageLaws
+pub mod RunLaws
+pub mod PutLaws

@@ -6,8 +6,10 @@ mod first;
 mod read;
 mod spot;
 mod stored;
+mod write;
 
 pub use first::{FirstPart, find_first, first_here, is_first, is_of, real_size};
 pub use read::{read_value, spanned_len};
 pub use spot::spot_at;
 pub use stored::{Stored, read_stored, stored_of};
+pub use write::write_stored;
