@@ -1,10 +1,14 @@
 //! Files of a volume of 2 MiB that is laid here from the published layout: its clusters have one sector, and its table of
 //! 63 records lies in the clusters from 32 on. What is expected of a file is what was laid.
-ghost use Rattle.std.specs.Prelude.{◌≡◌, ◌<◌, ◌^◌, IfOk, length};
+ghost use Rattle.std.specs.Prelude.{◌≡◌, ◌<◌, ◌^◌, IfOk, IsTrue, length};
 ghost use Rattle.vol_stage.specs.Staged.{disk_of};
+ghost use Rattle.mft_table.specs.Mft.{mounted_of};
+ghost use Rattle.mft_table.specs.MirrorClusters.{IsMirrorInside};
 ghost use Rattle.mft_table.specs.Mounted.{StandsOn};
+ghost use Rattle.file_record.specs.Held.{parts_held};
+ghost use Rattle.file_record.specs.Written.{HoldsBytes, PartHeld};
 
-use crate::laid::{mount, put};
+use crate::laid::{has_mirror, mount, put};
 use file_record::{BaseFile, FileNo, FileParts, load_base};
 use mft_table::{Mft, Mounted, find_table};
 use std::alloc::{AllocError, Global};
@@ -235,6 +239,79 @@ fn list_in_the_record(rt: HostRuntime) -> Result<(), test::Fail> {
     lay_three(rt.alloc(), &mut image)?;
     let parts = parts_of(rt.alloc(), image, 30)?;
     assert_eq!(rt; parts.as_slice(), THREE.as_slice());
+    Ok(())
+}
+
+// Whether a part stands in its record, and has so many bytes from `at` on.
+fn holds(file: &FileParts, i: usize, at: usize, len: usize) -> bool
+    requires { i < length (parts_held file.now) }
+    ensures { IsTrue result → PartHeld file.now i (HoldsBytes at len) }
+{
+    match file.attr(i).value() {
+        Some(value) => at <= value.len() && len <= value.len() - at,
+        None => false,
+    }
+}
+
+// Writes bytes over those of a part of a file, and gives what the part holds then, read anew through the stage.
+fn overwrite<D: Disk>(
+    alloc: Global,
+    mft: &mut Mft<'_, D>,
+    number: u64,
+    i: usize,
+    at: usize,
+    bytes: &[u8],
+) -> Result<Option<Vec<u8>>, test::Fail>
+    requires { IsMirrorInside (mounted_of D.Disk mft.old) }
+{
+    if mft.broken() || number >= mft.mounted().records.count() {
+        return Ok(None);
+    }
+    let mut file = FileParts::load(alloc, mft, number)?;
+    if i >= file.count() || !holds(&file, i, at, bytes.len()) {
+        return Ok(None);
+    }
+    file.write_bytes(mft, i, at, bytes)?;
+    if number >= mft.mounted().records.count() {
+        return Ok(None);
+    }
+    let again = FileParts::load(alloc, mft, number)?;
+    if i >= again.count() {
+        return Ok(None);
+    }
+    match again.attr(i).value() {
+        Some(value) => Ok(Some(Vec::from_slice(alloc, value)?)),
+        None => Ok(None),
+    }
+}
+
+#[test]
+fn a_value_in_another_record(rt: HostRuntime) -> Result<(), test::Fail> {
+    let mut image = volume(rt.alloc())?;
+    lay_three(rt.alloc(), &mut image)?;
+    let mut disk = MemDisk::new(rt.alloc(), image);
+    let mut stage = Stage::over(rt.alloc(), &mut disk);
+    let found = match mount(rt.alloc(), &mut stage) {
+        Ok(mounted) => {
+            let has_mirror = has_mirror(&mounted);
+            let mut mft = Mft::resume(stage, mounted);
+            let found = if has_mirror {
+                overwrite(rt.alloc(), &mut mft, 30, 4, 10, &[1, 2, 3, 4])
+            } else {
+                Ok(None)
+            };
+            let (stage, _) = mft.into_parts();
+            let _ = stage.finish();
+            found
+        }
+        Err(fail) => {
+            let _ = stage.finish();
+            Err(fail)
+        }
+    };
+    let mut wanted = [0; 70];
+    wanted[10..14].copy_from_slice(&[1, 2, 3, 4]);
+    assert_eq!(rt; found?, Some(Vec::from_slice(rt.alloc(), &wanted)?));
     Ok(())
 }
 

@@ -1,6 +1,7 @@
 //! Records and tables for the tests, laid from the published layout.
-ghost use Rattle.std.specs.Prelude.{◌≡◌, IfOk, length};
+ghost use Rattle.std.specs.Prelude.{◌≡◌, IfOk, IsTrue, length};
 ghost use Rattle.vol_stage.specs.Staged.{disk_of};
+ghost use Rattle.mft_table.specs.MirrorClusters.{IsMirrorInside};
 ghost use Rattle.mft_table.specs.Mounted.{StandsOn};
 
 use cluster_bitmap::Bits;
@@ -56,4 +57,12 @@ pub fn mount<D: Disk>(alloc: Global, stage: &mut Stage<'_, D>) -> Result<Mounted
         table: table.runs,
         initialized: table.initialized,
     })
+}
+
+/// Whether the copies lie in clusters of the volume, which are sectors.
+pub fn has_mirror(mounted: &Mounted) -> bool
+    ensures { IsTrue result → IsMirrorInside mounted.now }
+{
+    let geometry = &mounted.geometry;
+    geometry.cluster == 512 && geometry.mirror < 1 << 32 && geometry.mirror + 7 < geometry.clusters
 }

@@ -6,7 +6,7 @@ ghost use Rattle.std.specs.Prelude.{◌≡◌, ◌<◌, IfOk, length};
 ghost use Rattle.mft_table.specs.Mounted.{StandsOn};
 
 use crate::laid::put;
-use attr_store::read_value;
+use attr_store::{Stored, read_value, write_stored};
 use cluster_bitmap::Bits;
 use data_runs::{Run, RunList};
 use file_record::{FileNo, FileParts};
@@ -285,5 +285,112 @@ fn tells_each_read_that_fails(rt: HostRuntime) -> Result<(), test::Fail> {
             "{number}"
         );
     }
+    Ok(())
+}
+
+// Writes whole sectors into the stream of a file from byte `at` on, and commits them.
+fn write_stream<D: Disk>(
+    alloc: Global,
+    mft: &mut Mft<'_, D>,
+    number: u64,
+    at: u64,
+    from: &[u8],
+) -> Result<(), FileNo> {
+    if number >= mft.mounted().records.count() {
+        return Err(FileNo::NoRoom);
+    }
+    let file = FileParts::load(alloc, mft, number)?;
+    if file.count() < 2 || mft.broken() || at > REAL || at % 512 != 0 || from.len() % 512 != 0 {
+        return Err(FileNo::NoRoom);
+    }
+    let stored = Stored { part: 1, len: REAL };
+    write_stored(alloc, mft, &file, &stored, at, from)?;
+    if mft.broken() || mft.commit().is_err() {
+        return Err(FileNo::Device);
+    }
+    Ok(())
+}
+
+// The same, on a volume that is mounted and let go again.
+fn write<D: Disk>(
+    alloc: Global,
+    disk: &mut D,
+    number: u64,
+    at: u64,
+    from: &[u8],
+) -> Result<Result<(), FileNo>, test::Fail> {
+    let mounted = mounted(alloc)?;
+    let stage = Stage::over(alloc, disk);
+    if stage.sectors() != SECTORS as u64 {
+        let _ = stage.finish();
+        return Ok(Err(FileNo::NoRoom));
+    }
+    let mut mft = Mft::resume(stage, mounted);
+    let done = write_stream(alloc, &mut mft, number, at, from);
+    let (stage, _) = mft.into_parts();
+    let _ = stage.finish();
+    Ok(done)
+}
+
+// Bytes that no place of the image has in a row.
+fn other_bytes(alloc: Global, len: usize) -> Result<Vec<u8>, AllocError> {
+    let mut bytes = vec![in alloc; 0; len]?;
+    for (k, byte) in bytes.iter_mut().enumerate() {
+        *byte = (k % 241) as u8 ^ 0x55;
+    }
+    Ok(bytes)
+}
+
+// From the last sector of one run over the next one, of 50 clusters, into the third.
+#[test]
+fn writes_over_three_runs(rt: HostRuntime) -> Result<(), test::Fail> {
+    let mut disk = MemDisk::new(rt.alloc(), image(rt.alloc())?);
+    disk.reserve(500)?;
+    let at = 54 * CLUSTER - 512;
+    let bytes = other_bytes(rt.alloc(), 50 * 4096 + 1024)?;
+    assert_eq!(rt; write(rt.alloc(), &mut disk, 26, at, &bytes)?, Ok(()));
+    let mut back = vec![in rt.alloc(); 0xEE; 50 * 4096 + 1024]?;
+    assert_eq!(rt; read(rt.alloc(), &mut disk, 26, 1, at, &mut back)?, Ok(()));
+    assert!(rt; back == bytes);
+    // the sectors in front and behind are as they were
+    let mut beside = [0xEE; 512];
+    assert_eq!(rt;
+        read(rt.alloc(), &mut disk, 26, 1, at - 512, &mut beside)?,
+        Ok(())
+    );
+    assert_eq!(rt; first_wrong(at - 512, REAL, &beside), None);
+    assert_eq!(rt;
+        read(
+            rt.alloc(),
+            &mut disk,
+            26,
+            1,
+            104 * CLUSTER + 512,
+            &mut beside
+        )?,
+        Ok(())
+    );
+    assert_eq!(rt; first_wrong(104 * CLUSTER + 512, REAL, &beside), None);
+    Ok(())
+}
+
+// Clusters 2 and 3 of the stream are a hole: what would lie there is left.
+#[test]
+fn leaves_a_hole(rt: HostRuntime) -> Result<(), test::Fail> {
+    let mut disk = MemDisk::new(rt.alloc(), image(rt.alloc())?);
+    disk.reserve(500)?;
+    let at = 2 * CLUSTER - 512;
+    let mut bytes = other_bytes(rt.alloc(), 1024)?;
+    assert_eq!(rt; write(rt.alloc(), &mut disk, 26, at, &bytes)?, Ok(()));
+    let mut back = vec![in rt.alloc(); 0xEE; 512]?;
+    assert_eq!(rt; read(rt.alloc(), &mut disk, 26, 1, at, &mut back)?, Ok(()));
+    bytes.truncate(512);
+    assert!(rt; back == bytes);
+    let mut hole = [0xEE; 512];
+    assert_eq!(rt;
+        read(rt.alloc(), &mut disk, 26, 1, 2 * CLUSTER, &mut hole)?,
+        Ok(())
+    );
+    assert_eq!(rt; first_wrong(2 * CLUSTER, REAL, &hole), None);
     Ok(())
 }

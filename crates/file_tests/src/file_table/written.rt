@@ -1,11 +1,11 @@
 //! Records of the same volume, written: read back through the stage, and their sectors on the disk, with their copies.
 //! What is written is laid out from the published layout: the update sequence number, 2 before, is 3.
-ghost use Rattle.std.specs.Prelude.{◌≡◌, IsTrue};
+ghost use Rattle.std.specs.Prelude.{◌≡◌};
 ghost use Rattle.mft_table.specs.MirrorClusters.{IsMirrorInside};
 ghost use Rattle.mft_table.specs.Mft.{mounted_of};
 
 use super::{RECORD_3, RECORD_11, volume};
-use crate::laid::{self, mount};
+use crate::laid::{self, has_mirror, mount};
 use mft_table::{Mft, MftNo, Mounted};
 use std::alloc::Global;
 use std::test;
@@ -40,14 +40,6 @@ fn written() -> [[u8; 512]; 6] {
         low,
         high,
     ]
-}
-
-// Whether the copies lie in clusters of the volume, which are sectors.
-fn has_mirror(mounted: &Mounted) -> bool
-    ensures { IsTrue result → IsMirrorInside mounted.now }
-{
-    let geometry = &mounted.geometry;
-    geometry.cluster == 512 && geometry.mirror < 1 << 32 && geometry.mirror + 7 < geometry.clusters
 }
 
 // Writes a record as another one reads, and whether it then reads so, but for its update sequence number.
