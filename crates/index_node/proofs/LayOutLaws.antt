@@ -1,6 +1,8 @@
 -- What is laid out is read again: bytes that hold pieces, and the node that entries say.
 use Rattle.std.proofs.Math.Nat.{min-eq_left, min-eq_right}
-use Rattle.std.proofs.Common.{◌^◌, min, inl, inr, ◌≡◌, ℕ, zero, suc, ◌+◌, ◌-◌, ◌*◌, ◌/◌, ◌%◌, ◌<◌, ◌≤◌, ◌==◌, List, [], ◌∷◌, ◌++◌, Option, Some, None, Bool, true, false, length, take, drop, get_or, slice_range, slice_index, refl, sym, ap, subst, ◌∙◌, arith, rules, length-drop, length-take}
+use Rattle.std.proofs.Common.{◌^◌, min, inl, inr, ◌≡◌, ℕ, zero, suc, ◌+◌, ◌-◌, ◌*◌, ◌/◌, ◌%◌, ◌<◌, ◌≤◌, ◌==◌, List, [], ◌∷◌, ◌++◌}
+use Rattle.std.proofs.Common.{Option, Some, None, Bool, true, false, length, take, drop, get_or, slice_range, slice_index, refl, sym}
+use Rattle.std.proofs.Common.{ap, subst, ◌∙◌, arith, rules, length-drop, length-take}
 use Rattle.std.specs.Prelude.{All, IsTrue, ◌↔◌, codes, nat_eq, nat_le, ◌&&◌, if◌then◌else◌}
 use Rattle.std.specs.List.{starts_with}
 use Rattle.std.specs.Cmp.Lexicographic.{pointwise}
@@ -14,11 +16,17 @@ use Rattle.vol_bytes.specs.Field.{SameOutside, u16_at, u32_at, u64_at}
 use Rattle.vol_bytes.proofs.FieldLaws.{u16_at-same, u32_at-same}
 use Rattle.ntfs_def.specs.First.{first_failing}
 use Rattle.ntfs_def.specs.Fixup.{array_place, array_end}
-use Rattle.ntfs_def.specs.Node.{Item, Entry, Node, Whole, IsWholeEntry, are_short, are_short_from, child_at, child_len, data_len, data_offset, entries_end, entry_at, entry_flags, entry_len, first_entry, first_offset, has_children, holds_data, is_entry, is_index_record, is_last_entry, is_whole, item_at, item_in, key_len, most_len, node_header, node_header_failing, node_in, room_end, scan_from, short_node, whole_of, entry_and, is_one_entry, is_one_last}
+use Rattle.ntfs_def.specs.Node.{Item, Entry, Node, Whole, IsWholeEntry, are_short, are_short_from, child_at, child_len, data_len}
+use Rattle.ntfs_def.specs.Node.{data_offset, entries_end, entry_at, entry_flags, entry_len, first_entry, first_offset, has_children}
+use Rattle.ntfs_def.specs.Node.{holds_data, is_entry, is_index_record, is_last_entry, is_whole, item_at, item_in, key_len, most_len}
+use Rattle.ntfs_def.specs.Node.{node_header, node_header_failing, node_in, room_end, scan_from, short_node, whole_of, entry_and}
+use Rattle.ntfs_def.specs.Node.{is_one_entry, is_one_last}
 use Rattle.ntfs_def.specs.declared.index.NodeForm.{NodeForm}
 use Rattle.ntfs_def.specs.declared.index.NodeForm.TheVariants.{Names, View}
-use Rattle.index_node.proofs.NodeLaws.{are_short-is, short_next, u16_within, u64_within, item_in-own, entry_whole, flag_is, scan_at_entry, scan_at_last, scan_node-is, child_at-some, child_at-none}
-use Rattle.index_node.specs.LayOut.{AreEntries, AreEntriesFrom, AreShort, HoldsPieces, KeepsHeader, SetsHeader, node_from, node_listed, total_len, with_entry}
+use Rattle.index_node.proofs.NodeLaws.{are_short-is, short_next, u16_within, u64_within, item_in-own, entry_whole, flag_is}
+use Rattle.index_node.proofs.NodeLaws.{scan_at_entry, scan_at_last, scan_node-is, child_at-some, child_at-none}
+use Rattle.index_node.specs.LayOut.{AreEntries, AreEntriesFrom, AreShort, HoldsPieces, KeepsHeader, SetsHeader, node_from}
+use Rattle.index_node.specs.LayOut.{node_listed, total_len, with_entry}
 use Rattle.list_laws.proofs.BoolLaws.{true_if}
 
 -- The bytes that entries take, where they fit.
@@ -50,7 +58,8 @@ range_same old new a b len same =
     ∙ sym (get_or-take (b - a) (drop a old) k 0 (omega (arith, m, lt)) ∙ get_or-drop a old k 0))
 
 pub HoldsPieces-same : (old new : List ℕ) (at : ℕ) (pieces : List (List ℕ)) → length new ≡ length old
-    → ((k : ℕ) → at ≤ k → k < at + total_len pieces → get_or new k 0 ≡ get_or old k 0) → HoldsPieces old at pieces → HoldsPieces new at pieces
+    → ((k : ℕ) → at ≤ k → k < at + total_len pieces → get_or new k 0 ≡ get_or old k 0) → HoldsPieces old at pieces → HoldsPieces new at
+    pieces
 HoldsPieces-same old new at [] len same holds = tt
 HoldsPieces-same old new at (piece ∷ pieces) len same holds =
     let sum : total_len (piece ∷ pieces) ≡ length piece + total_len pieces = sum_by-cons length piece pieces in (
@@ -71,10 +80,10 @@ sixteen n h = omega arith
 
 -- A piece is an entry of the node as it is by itself.
 module _ (node entry : List ℕ) (at : ℕ) (is : slice_range node (at) (at + length entry) ≡ entry) where
-  field : (k : ℕ) → k + 1 < length entry → u16_at node (at + k) ≡ u16_at entry k
+  pub field : (k : ℕ) → k + 1 < length entry → u16_at node (at + k) ≡ u16_at entry k
   field k h = sym (u16_within node at (length entry) k h) ∙ ap (λ bytes. u16_at bytes k) is
 
-  len_same : 16 ≤ length entry → entry_len node at ≡ entry_len entry 0
+  pub len_same : 16 ≤ length entry → entry_len node at ≡ entry_len entry 0
   len_same h = field 0x08 (omega arith)
 
   key_same : 16 ≤ length entry → key_len node at ≡ key_len entry 0
@@ -148,7 +157,7 @@ module _ (node entry : List ℕ) (at : ℕ) (is : slice_range node (at) (at + le
       three : {a b c : Bool} → a ≡ true → b ≡ true → c ≡ true → (a && b && c) ≡ true
       three h i j = rw (h, i, j)
 
-  child_moved : (children : Bool) → 16 + child_len children ≤ length entry → entry_len entry 0 ≡ length entry
+  pub child_moved : (children : Bool) → 16 + child_len children ≤ length entry → entry_len entry 0 ≡ length entry
       → child_at node children at ≡ child_at entry children 0
   child_moved false h len = child_at-none node false at refl ∙ sym (child_at-none entry false 0 refl)
   child_moved true h len =
@@ -162,7 +171,7 @@ module _ (node entry : List ℕ) (at : ℕ) (is : slice_range node (at) (at + le
       ∙ ap (λ n. Some (u64_at entry (0 + n - 8))) (sym len)
       ∙ sym (child_at-some entry true 0 refl)
 
-  item_moved : (children : Bool) (end : ℕ) → 16 ≤ length entry → IsWholeEntry node children end at → entry_len entry 0 ≡ length entry
+  pub item_moved : (children : Bool) (end : ℕ) → 16 ≤ length entry → IsWholeEntry node children end at → entry_len entry 0 ≡ length entry
       → item_at node children at ≡ item_at entry children 0
   item_moved children end long w len =
       sym (item_in-own node children end at w)
@@ -171,7 +180,7 @@ module _ (node entry : List ℕ) (at : ℕ) (is : slice_range node (at) (at + le
       ∙ ap (λ b. item_at entry b 0) (flag_is children (entry_flags entry 0 % 2) (ap (λ n. n % 2) (sym (flags_same long)) ∙ w.flag))
 
 -- what the tests of one entry give
-entry_facts : (form : NodeForm) (children : Bool) (entry : List ℕ) → IsTrue (is_one_entry form children entry)
+pub entry_facts : (form : NodeForm) (children : Bool) (entry : List ℕ) → IsTrue (is_one_entry form children entry)
     → (entry_len entry 0 ≡ length entry) × (16 + child_len children ≤ length entry)
 unfolding is_entry
 entry_facts form children entry h =
@@ -182,7 +191,7 @@ entry_facts form children entry h =
     short_of : (k c n m : ℕ) → 16 + k + c ≤ n → n ≡ m → 16 + c ≤ m
     short_of k c n m h e = omega arith
 
-last_facts : (children : Bool) (entry : List ℕ) → IsTrue (is_one_last children entry)
+pub last_facts : (children : Bool) (entry : List ℕ) → IsTrue (is_one_last children entry)
     → (entry_len entry 0 ≡ length entry) × (16 + child_len children ≤ length entry)
 unfolding is_last_entry
 last_facts children entry h =
@@ -193,7 +202,7 @@ last_facts children entry h =
     short_of : (k c n m : ℕ) → 16 + k + c ≤ n → n ≡ m → 16 + c ≤ m
     short_of k c n m h e = omega arith
 
-sixteen_of : (c n : ℕ) → 16 + c ≤ n → 16 ≤ n
+pub sixteen_of : (c n : ℕ) → 16 + c ≤ n → 16 ≤ n
 sixteen_of c n h = omega arith
 
 pub entry_eq : {i j : Item} {c d : Option ℕ} → i ≡ j → c ≡ d
@@ -243,7 +252,7 @@ scan_listed form node children end entry (next ∷ entries) (suc most) at few ea
     (child_moved node entry at holds.0 children facts.1 facts.0))
 
 -- The entries of the node are short exactly where the pieces are.
-short_listed : (form : NodeForm) (node : List ℕ) (children : Bool) (most at : ℕ) (entry : List ℕ) (entries : List (List ℕ))
+pub short_listed : (form : NodeForm) (node : List ℕ) (children : Bool) (most at : ℕ) (entry : List ℕ) (entries : List (List ℕ))
     → AreEntriesFrom form children entry entries → HoldsPieces node at (entry ∷ entries)
     → All (λ piece. length piece ≤ most) (entry ∷ entries)
     → are_short_from node most at (length (node_from children entry entries).entries) ≡ true
@@ -289,11 +298,15 @@ pub node_header-same : (old new : List ℕ) → length new ≡ length old → no
 unfolding node_header
 node_header-same old new len = ap (λ n. if n == 4096 then 0x18 else 0x10) len
 
-six_right : (p1 p2 p3 p4 p5 p6 : ℕ) {b1 b2 b3 b4 b5 b6 : Bool} → b1 ≡ true → b2 ≡ true → b3 ≡ true → b4 ≡ true → b5 ≡ true → b6 ≡ true
+pub six_right : (p1 p2 p3 p4 p5 p6 : ℕ) {b1 b2 b3 b4 b5 b6 : Bool} → b1 ≡ true → b2 ≡ true → b3 ≡ true → b4 ≡ true → b5 ≡ true → b6 ≡ true
     → first_failing ((b1, p1) ∷ (b2, p2) ∷ (b3, p3) ∷ (b4, p4) ∷ (b5, p5) ∷ (b6, p6) ∷ []) ≡ None
 six_right p1 p2 p3 p4 p5 p6 h1 h2 h3 h4 h5 h6 = rw (h1, h2, h3, h4, h5, h6)
 
-header_low : (node : List ℕ) → 16 ≤ node_header node
+pub header_is : (node : List ℕ) → length node ≡ 4096 → node_header node ≡ 0x18
+unfolding node_header
+header_is node len = ap (λ n. if n == 4096 then 0x18 else 0x10) len
+
+pub header_low : (node : List ℕ) → 16 ≤ node_header node
 unfolding node_header
 header_low node = go (is_index_record node)
   where
@@ -310,13 +323,13 @@ head_right true p tests h = (refl, h)
 head_right false p tests h = let f : Some p ≡ None = h in absurd (cc)
 
 -- what a right header has
-record IsRight (node : List ℕ) : Type 0 where
-  long : nat_le (node_header node + 16) (length node) ≡ true
-  mark : (if is_index_record node then starts_with nat_eq node (codes "INDX") else true) ≡ true
-  array : (if is_index_record node then has_array node (first_entry node) else true) ≡ true
-  offset : nat_le 16 (first_offset node) ≡ true
-  used : nat_le (entries_end node) (room_end node) ≡ true
-  inside : nat_le (room_end node) (length node) ≡ true
+pub record IsRight (node : List ℕ) : Type 0 where
+  pub long : nat_le (node_header node + 16) (length node) ≡ true
+  pub mark : (if is_index_record node then starts_with nat_eq node (codes "INDX") else true) ≡ true
+  pub array : (if is_index_record node then has_array node (first_entry node) else true) ≡ true
+  pub offset : nat_le 16 (first_offset node) ≡ true
+  pub used : nat_le (entries_end node) (room_end node) ≡ true
+  pub inside : nat_le (room_end node) (length node) ≡ true
 
 six_facts : (p1 p2 p3 p4 p5 p6 : ℕ) (b1 b2 b3 b4 b5 b6 : Bool)
     → first_failing ((b1, p1) ∷ (b2, p2) ∷ (b3, p3) ∷ (b4, p4) ∷ (b5, p5) ∷ (b6, p6) ∷ []) ≡ None
@@ -330,7 +343,7 @@ six_facts p1 p2 p3 p4 p5 p6 b1 b2 b3 b4 b5 b6 h =
     let f = head_right b6 p6 [] e.1 in
     (a.0, b.0, c.0, d.0, e.0, f.0)
 
-right_of : (node : List ℕ) → node_header_failing node ≡ None → IsRight node
+pub right_of : (node : List ℕ) → node_header_failing node ≡ None → IsRight node
 right_of node h =
     let facts = six_facts 0x00 0x00 0x04 (node_header node) (node_header node + 0x04) (node_header node + 0x08)
     (nat_le (node_header node + 16) (length node))
@@ -373,7 +386,7 @@ module _ (old mid new : List ℕ) (children : Bool) (end first : ℕ) (sets : Se
   room_same : (k : ℕ) → node_header old + 0x08 ≤ k → k < node_header old + 0x0C → get_or new k 0 ≡ get_or old k 0
   room_same k from to = let b = begins in rest.below k (omega arith) ∙ sets.room k from to
 
-  first_same : first_entry new ≡ first_entry old
+  pub first_same : first_entry new ≡ first_entry old
   first_same =
       let n = u32_at-same old new (node_header old) (λ k from to. before_same k (omega arith)) in
       ap (λ h. h + u32_at new h) header_same ∙ ap (λ o. node_header old + o) n

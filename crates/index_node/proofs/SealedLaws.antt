@@ -1,5 +1,6 @@
 -- A node whose update sequence array alone differs says the same.
-use Rattle.std.proofs.Common.{◌≡◌, ℕ, zero, suc, ◌+◌, ◌-◌, ◌<◌, ◌≤◌, ◌==◌, ◌/◌, ◌%◌, ◌*◌, List, [], ◌∷◌, Option, Some, None, Bool, true, false, length, take, get_or, slice_range, slice_index, refl, sym, ap, ◌∙◌, arith, rules}
+use Rattle.std.proofs.Common.{◌≡◌, ℕ, zero, suc, ◌+◌, ◌-◌, ◌<◌, ◌≤◌, ◌==◌, ◌/◌, ◌%◌, ◌*◌, List, [], ◌∷◌, Option, Some, None, Bool}
+use Rattle.std.proofs.Common.{true, false, length, take, get_or, slice_range, slice_index, refl, sym, ap, ◌∙◌, arith, rules}
 use Rattle.std.specs.Prelude.{codes, nat_eq, nat_le, ◌&&◌, ◌||◌, if◌then◌else◌}
 use Rattle.std.specs.List.{starts_with}
 use Rattle.std.specs.Option.{option_and_then}
@@ -9,10 +10,14 @@ use Rattle.vol_bytes.specs.Field.{SameOutside, u16_at, u32_at, u64_at}
 use Rattle.vol_bytes.proofs.FieldLaws.{u16_at-same, u32_at-same, u64_at-same}
 use Rattle.ntfs_def.specs.First.{first_failing}
 use Rattle.ntfs_def.specs.Fixup.{array_place, array_end}
-use Rattle.ntfs_def.specs.Node.{Node, Whole, IsWholeEntry, are_short, are_short_from, child_at, child_len, entries_end, entry_and, entry_at, entry_len, first_entry, first_offset, has_children, holds_data, is_entry, is_index_record, is_last_entry, is_whole, item_at, key_len, most_len, node_header, node_header_failing, node_in, own_vcn, room_end, scan_behind, scan_from, scan_node, short_node, whole_of}
+use Rattle.ntfs_def.specs.Node.{Node, Whole, IsWholeEntry, are_short, are_short_from, child_at, child_len, entries_end, entry_and}
+use Rattle.ntfs_def.specs.Node.{entry_at, entry_len, first_entry, first_offset, has_children, holds_data, is_entry, is_index_record}
+use Rattle.ntfs_def.specs.Node.{is_last_entry, is_whole, item_at, key_len, most_len, node_header, node_header_failing, node_in}
+use Rattle.ntfs_def.specs.Node.{own_vcn, room_end, scan_behind, scan_from, scan_node, short_node, whole_of}
 use Rattle.ntfs_def.specs.declared.index.NodeForm.{NodeForm}
 use Rattle.ntfs_def.specs.declared.index.NodeForm.TheVariants.{Names, View}
-use Rattle.index_node.proofs.NodeLaws.{child_at-none, child_at-some, entry_whole, items_same, last_whole, scan_at_bad, scan_at_entry, scan_at_last, scan_node-wrong}
+use Rattle.index_node.proofs.NodeLaws.{child_at-none, child_at-some, entry_whole, items_same, last_whole, scan_at_bad, scan_at_entry}
+use Rattle.index_node.proofs.NodeLaws.{scan_at_last, scan_node-wrong}
 use Rattle.index_node.proofs.LayOutLaws.{entry_eq, has_array, node_eq, node_header-same, range_same, right_array}
 use Rattle.index_node.specs.Sealed.{HasArrayApart}
 
@@ -33,23 +38,24 @@ six_same h1 h2 h3 h4 h5 h6 e4 e5 e6 = rw (h1, h2, h3, h4, h5, h6, e4, e5, e6) re
 le_same : {a b c d : ℕ} → c ≡ a → d ≡ b → nat_le c d ≡ nat_le a b
 le_same e f = rw (e, f) refl
 
-three_same : {a b c d e f : Bool} → d ≡ a → e ≡ b → f ≡ c → (d && e && f) ≡ (a && b && c)
+pub three_same : {a b c d e f : Bool} → d ≡ a → e ≡ b → f ≡ c → (d && e && f) ≡ (a && b && c)
 three_same h i j = rw (h, i, j) refl
 
 -- what is a whole entry, and where its data lies, by its fields
-abbrev whole_by : Bool → ℕ → ℕ → ℕ → ℕ → ℕ → Bool
+abbrev pub whole_by : Bool → ℕ → ℕ → ℕ → ℕ → ℕ → Bool
 whole_by children end at len key flags =
     nat_le (at + 16) end && (len % 8 == 0) && nat_le (16 + key + child_len children) len && nat_le (at + len) end
     && (flags % 2 == (if children then 1 else 0))
 
-whole_by-same : (children : Bool) (end at : ℕ) {len key flags len' key' flags' : ℕ} → len' ≡ len → key' ≡ key → flags' ≡ flags
+pub whole_by-same : (children : Bool) (end at : ℕ) {len key flags len' key' flags' : ℕ} → len' ≡ len → key' ≡ key → flags' ≡ flags
     → whole_by children end at len' key' flags' ≡ whole_by children end at len key flags
 whole_by-same children end at e f g = rw (e, f, g) refl
 
-abbrev data_by : Bool → ℕ → ℕ → ℕ → ℕ → Bool
+abbrev pub data_by : Bool → ℕ → ℕ → ℕ → ℕ → Bool
 data_by children bytes from key len = (bytes == 0) || nat_le (16 + key) from && nat_le (from + bytes + child_len children) len
 
-data_by-same : (children : Bool) {bytes from key len bytes' from' key' len' : ℕ} → bytes' ≡ bytes → from' ≡ from → key' ≡ key → len' ≡ len
+pub data_by-same : (children : Bool) {bytes from key len bytes' from' key' len' : ℕ} → bytes' ≡ bytes → from' ≡ from → key' ≡ key →
+    len' ≡ len
     → data_by children bytes' from' key' len' ≡ data_by children bytes from key len
 data_by-same children e f g h = rw (e, f, g, h) refl
 

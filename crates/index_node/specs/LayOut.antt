@@ -1,7 +1,9 @@
 -- A node that is laid out from the bytes of its entries.
-use Rattle.std.specs.Prelude.{◌≡◌, ℕ, ◌+◌, ◌-◌, ◌*◌, ◌/◌, ◌^◌, ◌<◌, ◌≤◌, min, if◌then◌else◌, Bool, List, [], ◌∷◌, All, length, sum_by, slice_index, slice_range, None, IsTrue}
+use Rattle.std.specs.Prelude.{◌≡◌, ℕ, ◌+◌, ◌-◌, ◌*◌, ◌/◌, ◌^◌, ◌<◌, ◌≤◌, min, if◌then◌else◌, Bool, List, [], ◌∷◌, All, length, sum_by}
+use Rattle.std.specs.Prelude.{slice_index, slice_range, None, IsTrue}
 use Rattle.vol_bytes.specs.Field.{u32_at}
-use Rattle.ntfs_def.specs.Node.{Node, Entry, entries_end, entry_at, child_at, first_entry, is_one_entry, is_one_last, most_len, node_header, room_end}
+use Rattle.ntfs_def.specs.Node.{Node, Entry, entries_end, entry_at, child_at, first_entry, is_one_entry, is_one_last, most_len}
+use Rattle.ntfs_def.specs.Node.{node_header, room_end}
 use Rattle.ntfs_def.specs.declared.index.NodeForm.{NodeForm}
 use Rattle.index_node.specs.declared.NodeNo.{NodeNo}
 use Rattle.index_node.specs.declared.NodeNo.TheVariants.{Shape, Full}
@@ -9,7 +11,8 @@ use Rattle.index_node.specs.declared.NodeNo.TheVariants.{Shape, Full}
 -- They are the entries of a node in order, the last entry last. `AreEntriesFrom` speaks of the first of them and the others.
 abbrev pub AreEntriesFrom : NodeForm → Bool → List ℕ → List (List ℕ) → Type 0
 AreEntriesFrom form children entry [] = IsTrue (is_one_last children entry)
-AreEntriesFrom form children entry (next ∷ entries) = IsTrue (is_one_entry form children entry) × AreEntriesFrom form children next entries
+AreEntriesFrom form children entry (next ∷ entries) = IsTrue (is_one_entry form children entry)
+    × AreEntriesFrom form children next entries
 
 abbrev pub AreEntries : NodeForm → Bool → List (List ℕ) → Type 0
 AreEntries form children [] = ⊥

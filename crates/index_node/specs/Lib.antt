@@ -4,3 +4,6 @@ pub mod LayOut
 pub mod Sealed
 pub mod Shape
 pub mod Lent
+pub mod Edit
+pub mod EditBlocks
+pub mod Edited

@@ -4,19 +4,32 @@
 //! none.
 #![tactic(auto)]
 
-ghost use Rattle.std.specs.Prelude.{◌≡◌, ◌≤◌, ◌<◌, ◌^◌, IsTrue, length};
-ghost use Rattle.ntfs_def.specs.Node.{HasEntries, entry_place, first_entry, has_children, is_last_entry};
+ghost use Rattle.std.specs.Prelude.{◌≡◌, ◌≤◌, ◌<◌, ◌^◌, IsTrue, None, length};
+ghost use Rattle.ntfs_def.specs.Node.{HasEntries, entries_end, entry_place, first_entry, has_children, is_last_entry, node_header_failing};
 
 mod blocks;
+mod edit;
+mod edit_blocks;
 mod laws;
+mod node_mut;
+mod parts;
 mod places;
+mod root;
 mod shape;
+mod split;
+#[cfg(test)]
+mod tests;
 mod view;
 mod written;
 
 pub use blocks::{BlockNo, Blocks};
+pub use edit::{insert_at, remove_at, replace_at};
+pub use edit_blocks::{EditBlocks, WriteBlocks};
 pub use laws::sealed_nodes;
+pub use node_mut::NodeMut;
 pub use ntfs_def::NodeForm;
+pub use parts::{join_at, lead_to, new_record, set_child, split_with, with_child};
+pub use root::{empty_root, insert_in_root, root_record};
 use thiserror::Error;
 pub use written::lay_out;
 
@@ -48,6 +61,15 @@ pub struct NodeView<'r> {
     ghost small: { first < 2 ^ 33 },
     ghost each: { HasEntries form node.now children end first count },
     ghost last: { IsTrue (is_last_entry node.now children end (entry_place node.now first count)) },
+}
+
+// A view whose header is known to be right, and where it says that the entries end.
+#[derive(Clone, Copy, Debug)]
+struct WholeView<'r> {
+    view: NodeView<'r>,
+    ghost right: { node_header_failing view.node.now ≡ None },
+    ghost ends: { view.end ≡ entries_end view.node.now },
+    ghost few: { view.count < length view.node.now },
 }
 
 /// A place in a node: that of an entry with a key, or behind all of those the last one, by its number.

@@ -10,6 +10,13 @@ use ntfs_def::index_record;
 use vol_bytes::u64_at;
 
 impl<'r> Place<'r> {
+    /// How many entries stand before it.
+    pub fn number(&self) -> usize
+        ensures { result ≡ number_of self.now }
+    {
+        self.number
+    }
+
     /// Whether an entry with a key stands there. The last place alone has none.
     pub fn has_key(&self) -> bool
         ensures inside { result ≡ true → number_of self.now < length (node_of_view (view_of self.now)).entries }

@@ -1,13 +1,15 @@
 //! The view: how many entries the node has, and each of them.
 ghost use Rattle.std.specs.Prelude.{◌≡◌, ◌<◌, ◌≤◌, IfOk, IfErr, IsTrue, length, slice_index_or};
 ghost use Rattle.ntfs_def.specs.Node.{Entry, Whole, are_short, child_from, has_children, is_one_entry, item_in, scan_node};
+ghost use Rattle.index_node.specs.Edit.{HasSpan};
 ghost use Rattle.index_node.specs.Lent.{child_said};
 ghost use Rattle.index_node.specs.View.{Refuses, bytes_of, form_of_view, node_of_view, number_of, view_of};
 
+use crate::edit::Span;
 use crate::shape::{
     child_len, count_of, entries_end, entry_len, first_entry, has_children, header_failing,
 };
-use crate::{NodeNo, NodeView, Place};
+use crate::{NodeNo, NodeView, Place, WholeView};
 use ntfs_def::NodeForm;
 
 /// The bytes of the longest entry, apart from a child's number.
@@ -25,21 +27,59 @@ impl<'r> NodeView<'r> {
         ensures bytes { IfOk result (λ view. bytes_of view ≡ node.now) }
         ensures err { IfErr result (Refuses form node.now) }
     {
-        if let Some(at) = header_failing(node) {
-            return Err(NodeNo::Shape { at });
+        match whole_view(node, form) {
+            Ok(whole) => Ok(whole.view),
+            Err(no) => Err(no),
         }
-        let first = first_entry(node);
-        let end = entries_end(node);
-        let children = has_children(node);
-        let count = count_of(form, node, children, end, first)?;
-        Ok(NodeView {
+    }
+}
+
+/// A view, with what its header says.
+pub fn whole_view<'r>(node: &'r [u8], form: NodeForm) -> Result<WholeView<'r>, NodeNo>
+    ensures ok { IfOk result (λ whole. scan_node form node.now ≡ Whole (node_of_view whole.view)) }
+    ensures form { IfOk result (λ whole. form_of_view whole.view ≡ form) }
+    ensures bytes { IfOk result (λ whole. bytes_of whole.view ≡ node.now) }
+    ensures err { IfErr result (Refuses form node.now) }
+{
+    if let Some(at) = header_failing(node) {
+        return Err(NodeNo::Shape { at });
+    }
+    let first = first_entry(node);
+    let end = entries_end(node);
+    let children = has_children(node);
+    let count = count_of(form, node, children, end, first)?;
+    Ok(WholeView {
+        view: NodeView {
             node,
             form,
             children,
             first,
             end,
             count,
-        })
+        },
+    })
+}
+
+impl<'r> WholeView<'r> {
+    /// How many entries have a key.
+    pub fn entries(&self) -> usize
+        ensures { result ≡ length (node_of_view self.now.view).entries }
+    {
+        self.view.entries()
+    }
+
+    /// Where entry i stands, or the last one, and where the entries end.
+    pub fn span(&self, i: usize) -> Span
+        requires { i ≤ length (node_of_view self.now.view).entries }
+        ensures { HasSpan (form_of_view self.now.view) (bytes_of self.now.view) i result.at result.behind result.end }
+    {
+        let at = self.view.place(i).at;
+        let last = self.view.place(self.view.count).at;
+        Span {
+            at,
+            behind: at + entry_len(self.view.node, at) as usize,
+            end: last + entry_len(self.view.node, last) as usize,
+        }
     }
 }
 

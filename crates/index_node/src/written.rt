@@ -21,7 +21,7 @@ fn total_len(entries: &[Octets]) -> usize
 }
 
 // Says in the header where the entries end, and whether they lead to children.
-fn put_header(node: &mut [u8], children: bool, end: usize)
+pub fn put_header(node: &mut [u8], children: bool, end: usize)
     requires header { node_header_failing node.old ≡ None }
     requires begin { node_header node.old ≤ end }
     requires end { end ≤ room_end node.old }
@@ -38,7 +38,7 @@ fn put_header(node: &mut [u8], children: bool, end: usize)
 }
 
 // Writes the bytes of an entry.
-fn put_entry(node: &mut [u8], at: usize, entry: &[u8])
+pub fn put_entry(node: &mut [u8], at: usize, entry: &[u8])
     requires { at + length entry.now ≤ length node.old }
     ensures holds { HoldsPieces node.new at (entry.now ∷ []) }
     ensures rest { SameOutside node.old node.new at (at + length entry.now) }
