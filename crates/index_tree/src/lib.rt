@@ -4,7 +4,11 @@
 ghost use Rattle.std.specs.Prelude.{◌≡◌};
 
 mod descent;
+mod insertion;
 mod laws;
+mod parts;
+mod removal;
+mod replacement;
 mod seek;
 mod walk;
 

@@ -1,15 +1,17 @@
 //! A key is sought in a node.
-ghost use Rattle.std.specs.Prelude.{◌≡◌, ◌<◌, IsTrue, None, length, IfErr, IfOk, IfSome, true};
+ghost use Rattle.std.specs.Prelude.{◌≡◌, ◌+◌, ◌<◌, ◌≤◌, IsTrue, None, length, IfErr, IfOk, IfSome, true};
 ghost use Rattle.std.specs.Option.{option_map};
+ghost use Rattle.ntfs_def.specs.Node.{item_in, key_len};
 ghost use Rattle.index_node.specs.View.{form_of_view, node_of_view, number_of, view_of};
 ghost use Rattle.index_tree.specs.Search.{HitsKey, IsKeyed, Picks, Seeks};
 
 use crate::IndexNo;
 use collation::Collation;
 use index_node::{NodeView, Place};
+use ntfs_def::index_record;
 use std::alloc::{AllocError, Global};
 use std::cmp::Ordering;
-use vol_bytes::Octets;
+use vol_bytes::{Octets, u16_at};
 
 /// The place of the first entry whose key is not below this one, and whether it is equal; `None` where a key before it is
 /// not valid. The node is gone over once.
@@ -37,6 +39,15 @@ pub fn seek_in<'r, C: Collation>(
         }
     }
     Some((place, false))
+}
+
+/// The key of an entry by itself.
+pub fn key_of(entry: &[u8]) -> &[u8]
+    requires { 16 + key_len entry.now 0 ≤ length entry.now }
+    ensures { result.now ≡ (item_in entry.now).key }
+{
+    let len = u16_at(entry, index_record::KEY_LEN) as usize;
+    &entry[index_record::KEY..index_record::KEY + len]
 }
 
 /// The bytes of an entry.

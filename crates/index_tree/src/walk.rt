@@ -133,7 +133,8 @@ impl<C> Index<C> {
         ensures own { IfOk result (λ entries. Each (IsOwnEntry (form_of self.now)) entries.items) }
 
         ensures reads { IfOk result (λ _. WhereTold (B.records blocks.old) (λ r.
-            CostsWalk 1 (nodes_of (form_of self.now) r) (node_in (form_of self.now) root.now) (B.reads blocks.old) (B.reads blocks.new))) }
+            CostsWalk 1 (nodes_of (form_of self.now) r) (node_in (form_of self.now) root.now) (B.reads blocks.old)
+            (B.reads blocks.new))) }
         ensures fetched { IfOk result (λ _. WhereTold (B.records blocks.old) (λ r.
             CostsWalk 8 (nodes_of (form_of self.now) r) (node_in (form_of self.now) root.now)
             (B.fetched blocks.old) (B.fetched blocks.new))) }
