@@ -2,8 +2,15 @@
 #![tactic(auto)]
 
 #[cfg(test)]
+mod edits;
+#[cfg(test)]
+mod names;
+#[cfg(test)]
 mod nodes;
 #[cfg(test)]
 mod root_directory;
+#[cfg(test)]
+mod slots;
+pub mod table;
 #[cfg(test)]
 mod trees;

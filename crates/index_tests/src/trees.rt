@@ -132,7 +132,7 @@ fn over<'b>(blocks: &'b [[u8; 4096]], fails_at: u64) -> Listed<'b> {
 }
 
 // The table of case of `mkntfs` for the letters of ASCII; each other unit is compared as itself.
-fn table(alloc: Global) -> Result<UpCase, Fail> {
+pub fn table(alloc: Global) -> Result<UpCase, Fail> {
     let mut bytes = Vec::new(alloc);
     for unit in 0..=u16::MAX {
         let folded = match unit {
@@ -152,7 +152,7 @@ fn push(out: &mut Vec<u8>, bytes: &[u8]) -> Result<(), Fail> {
 }
 
 // The value of a `$FILE_NAME` with this name of ASCII.
-fn key(alloc: Global, name: &[u8]) -> Result<Vec<u8>, Fail> {
+pub fn key(alloc: Global, name: &[u8]) -> Result<Vec<u8>, Fail> {
     let mut bytes = vec![in alloc; 0u8; 0x40]?;
     bytes.push(u8::try_from(name.len()).unwrap_or(0))?;
     bytes.push(3)?;
@@ -299,7 +299,7 @@ fn put_node(
     push(out, &body)
 }
 
-fn record(alloc: Global, entries: &[(Option<u32>, Option<u64>)]) -> Result<[u8; 4096], Fail> {
+pub fn record(alloc: Global, entries: &[(Option<u32>, Option<u64>)]) -> Result<[u8; 4096], Fail> {
     let mut bytes = Vec::new(alloc);
     push(&mut bytes, b"INDX\x28\0\x09\0")?;
     push(&mut bytes, &[0; 16])?;
@@ -311,7 +311,7 @@ fn record(alloc: Global, entries: &[(Option<u32>, Option<u64>)]) -> Result<[u8; 
     Ok(block)
 }
 
-fn root(alloc: Global, entries: &[(Option<u32>, Option<u64>)]) -> Result<Vec<u8>, Fail> {
+pub fn root(alloc: Global, entries: &[(Option<u32>, Option<u64>)]) -> Result<Vec<u8>, Fail> {
     let mut bytes = vec![in alloc; 0u8; 16]?;
     put_node(&mut bytes, 0, alloc, entries)?;
     Ok(bytes)
