@@ -1,2 +1,3 @@
 pub mod Flags
 pub mod Logs
+pub mod Finish

@@ -4,6 +4,7 @@ ghost use Rattle.vol_disk.specs.Contents.{IsTold, sector_in, settled_more};
 ghost use Rattle.vol_disk.specs.Count.{CountsFault};
 ghost use Rattle.vol_stage.specs.Puts.{PutsSector};
 ghost use Rattle.vol_stage.specs.Staged.{disk_of, image, is_broken, places, GoesOn};
+ghost use Rattle.mark_write.specs.Finish.{CanClose, FailsSafe};
 ghost use Rattle.mark_write.specs.Flags.{IsCopySet, IsSafe, IsSet, LiesAt, SetsFlag, cleared_sector, with_bit_as};
 
 use crate::Flag;
@@ -102,19 +103,14 @@ pub fn set_mark<D: Disk>(stage: &mut Stage<'_, D>, flag: &Flag) -> Result<(), St
 ///
 /// `Device` where the disk failed: the volume is then marked, or as it was but for the mark.
 pub fn close_marked<D: Disk>(stage: &mut Stage<'_, D>, flag: &Flag) -> Result<(), StageNo>
-    requires place { LiesAt (D.size (disk_of D.Disk stage.old)) flag.now }
-    requires sound { is_broken D.Disk stage.old ≡ false }
-    requires home { ¬ (Contains (places D.Disk stage.old) flag.now.home) }
-    requires copy { ¬ (Contains (places D.Disk stage.old) flag.now.copy) }
-    requires marked { IsTold (image D.Disk stage.old) → IsSet flag.now (sector_in (D.now (disk_of D.Disk stage.old))) }
+    requires can { CanClose D.Disk flag.now stage.old }
     ensures goes_on { GoesOn D.Disk stage.old stage.new }
     ensures closed { OnOk result (IsTold (image D.Disk stage.old) → (n : ℕ)
         → sector_in (D.now (disk_of D.Disk stage.new)) n ≡ cleared_sector flag.now (sector_in (D.now (disk_of D.Disk stage.old))) n) }
     ensures settled { OnOk result (D.settled (disk_of D.Disk stage.new)
         ≡ settled_more (D.settled (disk_of D.Disk stage.old)) (D.now (disk_of D.Disk stage.new))) }
     ensures unsettled { OnErr result (D.settled (disk_of D.Disk stage.new) ≡ D.settled (disk_of D.Disk stage.old)) }
-    ensures safe { OnErr result (IsTold (image D.Disk stage.old)
-        → IsSafe flag.now (sector_in (D.now (disk_of D.Disk stage.old))) (sector_in (D.now (disk_of D.Disk stage.new)))) }
+    ensures fails { OnErr result (FailsSafe D.Disk flag.now stage.old stage.new) }
     ensures most { D.written (disk_of D.Disk stage.new) ≤ D.written (disk_of D.Disk stage.old) + 2 }
     ensures staged { places D.Disk stage.new ≡ places D.Disk stage.old }
     ensures sound { OnOk result (is_broken D.Disk stage.new ≡ false) }

@@ -35,8 +35,8 @@ fn put_two<D: Disk>(stage: &mut Stage<'_, D>, low: u64, high: u64, stored: &[u8;
 impl<D: Disk> Mft<'_, D> {
     ghost use Rattle.mft_table.specs.Mft.{MftReserves, MftStages, is_mft_broken, mounted_of, stage_of, view};
 
-    // The sector of the disk at which a sector of the table lies.
-    fn place(&self, sector: u64) -> u64
+    /// The sector of the disk at which a sector of the table lies, of which each record has two.
+    pub fn place(&self, sector: u64) -> u64
         requires { sector < 2 * length (mounted_of D.Disk self.now).records }
         ensures place { table_place (mounted_layout (mounted_of D.Disk self.now)) sector ≡ Some result }
         ensures on_disk { result < D.size (disk_of D.Disk (stage_of D.Disk self.now)) }
@@ -47,8 +47,8 @@ impl<D: Disk> Mft<'_, D> {
         }
     }
 
-    // The sector of the disk at which the copy of a record begins.
-    fn copy_place(&self, number: u64) -> u64
+    /// The sector of the disk at which the copy of a record begins, of the first four.
+    pub fn copy_place(&self, number: u64) -> u64
         requires copied { number < 4 }
         requires mirror { IsMirrorInside (mounted_of D.Disk self.now) }
         ensures place { result ≡ mirror_sector (mounted_layout (mounted_of D.Disk self.now)) + 2 * number }

@@ -1,12 +1,26 @@
-use Rattle.std.proofs.Common.{zero, suc, arith}
+use Rattle.std.proofs.Common.{ℕ, zero, suc, ◌<◌, ◌≤◌, ◌+◌, [], ◌∷◌, rules, arith}
+use Rattle.mark_write.specs.Logs.{IsOutside}
 use Rattle.mark_write.proofs.tests.edit_and_close.Goals as goal
 
-pub finish_edit-requires-clause-home : goal.finish_edit-requires-clause-home
-finish_edit-requires-clause-home g c h = let l = c.in_ok-stage_low.ensures.low 3 h in absurd (omega (arith, l))
+-- the log lies in the sectors from 6 on
+outside : (n : ℕ) → n < 6 → IsOutside (record { first = 6; len = 2 } ∷ []) n
+outside n low zero below within = let w = within.0 in absurd (omega (arith, w, low))
+outside n low (suc i) below within = absurd (omega (arith, below))
 
-pub finish_edit-requires-clause-copy : goal.finish_edit-requires-clause-copy
-finish_edit-requires-clause-copy g c h = let l = c.in_ok-stage_low.ensures.low 5 h in absurd (omega (arith, l))
-
-pub finish_edit-requires-clause-plain : goal.finish_edit-requires-clause-plain
-finish_edit-requires-clause-plain g c n h zero below within = let l = c.in_ok-stage_low.ensures.low n h in let w = within.0 in absurd (omega (arith, l))
-finish_edit-requires-clause-plain g c n h (suc i) below within = absurd (omega (arith, below))
+pub finish_edit-requires : goal.finish_edit-requires
+finish_edit-requires g c =
+    let low = c.in_ok-stage_low.ensures.low in
+    record {
+      can = record {
+        place = search rules;
+        spans = search rules;
+        sound = search rules;
+        home = λ h. let l = low 3 h in absurd (omega (arith, l));
+        copy = λ h. let l = low 5 h in absurd (omega (arith, l));
+        plain = λ n h. outside n (let l = low n h in omega (arith, l));
+        apart = outside 3 omega arith;
+        apart_copy = outside 5 omega arith;
+        marked = search rules;
+        copied = search rules;
+      };
+    }
