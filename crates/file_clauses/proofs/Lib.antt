@@ -8,3 +8,4 @@ pub mod OutlineLaws
 pub mod OutlineOrderLaws
 pub mod TotalLaws
 pub mod WantedLaws
+pub mod VersionLaws

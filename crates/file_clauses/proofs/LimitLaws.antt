@@ -1,5 +1,5 @@
 -- Whether the streams of which a record tells are too long.
-use Rattle.std.proofs.Common.{◌≡◌, ◌≤◌, ◌^◌, ℕ, Bool, true, false, List, ◌∷◌, Option, Some, None, map, refl, sym, subst, ◌∙◌}
+use Rattle.std.proofs.Common.{◌≡◌, ◌≤◌, ◌^◌, ℕ, Bool, true, false, List, ◌∷◌, Some, None, map, refl, sym, subst, ◌∙◌}
 use Rattle.std.specs.Prelude.{◌↔◌, All, IfSome, IsTrue, option_map}
 use Rattle.std.proofs.lemmas.Bool.{false≢true}
 use Rattle.std.proofs.lemmas.List.Elements.{All-cons, All-head, All-tail}

@@ -1,65 +1,30 @@
 //! What record 3 says of the volume: its version, and whether it was closed.
-ghost use Rattle.std.specs.Prelude.{◌≡◌, ◌↔◌, ◌%◌, ◌<◌, ℕ, IfErr, IfOk, IsSomeAnd, IsTrue, MatchResult, Some, length};
+ghost use Rattle.std.specs.Prelude.{◌≡◌, ◌↔◌, ◌%◌, ◌<◌, ℕ, IfErr, IfOk, IsSomeAnd, IsTrue, MatchResult, length};
 ghost use Rattle.std.specs.Option.{option_copied};
 ghost use Rattle.vol_bytes.specs.Field.{u16_at};
 ghost use Rattle.ntfs_def.specs.Attribute.{attribute_place};
 ghost use Rattle.ntfs_def.specs.declared.records.TheConstants.{VOLUME};
-ghost use Rattle.attr_view.specs.View.{attributes_of, bytes_around, place_of, viewed_block};
+ghost use Rattle.attr_view.specs.View.{attributes_of, viewed_block};
 ghost use Rattle.volume_def.specs.VersionClause.{HasVersion, IsClean, IsVersionAt};
-ghost use Rattle.volume_def.specs.VolumeRecord.{version_in};
 ghost use Rattle.mft_table.specs.Mft.{MftReads, faults_of, view};
 ghost use Rattle.mft_table.specs.MountNos.{CountsMount};
 ghost use Rattle.mount_check.specs.Views.{HasComeTo};
 
 use crate::records::{read_in_use, view_of};
-use attr_view::{AttrView, RecordView};
+use attr_view::RecordView;
+use file_clauses::find_version;
 use mft_table::{Mft, MountNo};
 use ntfs_def::kinds::VOLUME_INFORMATION;
 use ntfs_def::records::VOLUME;
-use ntfs_def::volume_information::{FLAGS, LEN, MAJOR, MINOR};
+use ntfs_def::volume_information::FLAGS;
 use vol_disk::Disk;
 
-// Whether a value of `$VOLUME_INFORMATION` says version 3.1.
-fn is_version(value: &[u8]) -> bool
-    ensures { IsTrue result ↔ version_in (Some value.now) ≡ Some (record { major = 3; minor = 1 }) }
-{
-    value.len() >= LEN && value[MAJOR] == 3 && value[MINOR] == 1
-}
-
-// Whether an attribute tells the version, as the clause asks for it.
-fn tells_version(attribute: &AttrView<'_>) -> bool
-    ensures { IsTrue result ↔ IsVersionAt (bytes_around attribute.now) (place_of attribute.now) }
-{
-    if attribute.kind() != VOLUME_INFORMATION {
-        return false;
-    }
-    if !attribute.name().is_empty() {
-        return false;
-    }
-    let Some(value) = attribute.value() else {
-        return false;
-    };
-    let Some(place) = attribute.value_place() else {
-        return false;
-    };
-    if place % 8 != 0 {
-        return false;
-    }
-    is_version(value)
-}
-
-// Whether one of the attributes of a record does.
+// Whether an attribute of a record tells the version, as the clause asks for it.
 fn has_version(opened: &RecordView<'_>) -> bool
     ensures { IsTrue result ↔ (i : ℕ) × (i < length (attributes_of opened.now))
         × IsVersionAt (viewed_block opened.now) (attribute_place (viewed_block opened.now) i) }
 {
-    for i in 0..opened.count() {
-        let attribute = opened.attr(i);
-        if tells_version(&attribute) {
-            return true;
-        }
-    }
-    false
+    find_version(opened).is_some()
 }
 
 /// Whether the volume says that its version is 3.1.

@@ -1,34 +1,20 @@
-use Rattle.std.proofs.Common.{◌≡◌, inl, inr, refl, sym, ◌∙◌, subst, arith}
-use Rattle.std.proofs.lemmas.Bool.{cases_lt, false≢true}
+use Rattle.std.proofs.Common.{◌<◌, ℕ, length, Option, Some, None, refl, sym, subst}
+use Rattle.std.proofs.lemmas.Bool.{false≢true}
+use Rattle.std.specs.Prelude.{◌↔◌, IfNone, IfSome, IsTrue, is_some}
 use Rattle.ntfs_def.specs.Attribute.{attribute_place}
-use Rattle.attr_view.specs.View.{place_of, viewed_block}
+use Rattle.attr_view.specs.View.{attributes_of, viewed_block}
 use Rattle.volume_def.specs.VersionClause.{IsVersionAt}
 use Rattle.mount_check.proofs.version.has_version.Goals as goal
 
-pub returns-then-tells_version : goal.returns-then-tells_version
-returns-then-tells_version c =
-    let block = viewed_block c.args.opened.now in
-    let its = c.tells_version.ensures.0 c.if-tells_version.true in
-    let here = subst (IsVersionAt block) c.attr-attribute.ensures.place
-    (subst (λ b. IsVersionAt b (place_of c.attr-attribute.result)) c.attr-attribute.ensures.block its) in
-    (λ _. (c.loop-i.i, omega (arith, c.count-i-end.ensures), here), λ _. refl)
-
-pub loop-i-preserved : goal.loop-i-preserved
-loop-i-preserved c =
-    let block = viewed_block c.args.opened.now in
-    λ j lt. elim (cases_lt j c.loop-i.i) [
-      | inl low ↦ c.loop-i.invariant j low
-      | inr high ↦
-          let e : c.loop-i.i ≡ j = omega arith in
-          λ has.
-          let here = subst (λ k. IsVersionAt block (attribute_place block k)) (sym e) has in
-          let its = subst (λ b. IsVersionAt b (place_of c.attr-attribute.result)) (sym c.attr-attribute.ensures.block)
-          (subst (IsVersionAt block) (sym c.attr-attribute.ensures.place) here) in
-          false≢true (sym c.if-tells_version.false ∙ c.tells_version.ensures.1 its)
-    ]
+decided : (Q : ℕ → Type 0) (n : ℕ) (o : Option ℕ) → IfSome o (λ i. (i < n) × Q i) → IfNone o ((i : ℕ) → i < n → ¬ (Q i))
+    → IsTrue (is_some o) ↔ (i : ℕ) × (i < n) × Q i
+decided Q n None some none = (λ f. absurd (false≢true f), λ (i, lt, q). absurd (none i lt q))
+decided Q n (Some i) some none = (λ _. (i, some.0, some.1), λ _. refl)
 
 pub returns : goal.returns
-returns c = (
-  λ f. absurd (false≢true f),
-  λ (i, lt, has). absurd (c.loop-i.invariant i (omega (arith, c.count-i-end.ensures)) has),
-)
+returns c =
+    let block = viewed_block c.args.opened.now in
+    let here : ℕ → Type 0 = λ i. IsVersionAt block (attribute_place block i) in
+    let n = length (attributes_of c.args.opened.now) in
+    subst (λ b. IsTrue b ↔ (i : ℕ) × (i < n) × here i) (sym c.is_some.ensures)
+    (decided here n c.find_version.result c.find_version.ensures.some c.find_version.ensures.none)

@@ -2,7 +2,7 @@ use Rattle.std.proofs.Common.{◌<◌, ℕ}
 use Rattle.ntfs_def.specs.Attribute.{attribute_place}
 use Rattle.attr_view.specs.View.{viewed_block}
 use Rattle.volume_def.specs.VersionClause.{IsVersionAt}
-use Rattle.mount_check.proofs.version.has_version.Given as goal
+use Rattle.file_clauses.proofs.version.find_version.Given as goal
 
 -- those that were passed over tell no version
 abbrev pub invariant-loop-i : goal.invariant-loop-i

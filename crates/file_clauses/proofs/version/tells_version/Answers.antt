@@ -2,8 +2,8 @@ use Rattle.std.proofs.Common.{◌≡◌, length, sym, ap, ◌∙◌}
 use Rattle.std.specs.Prelude.{option_copied}
 use Rattle.std.proofs.lemmas.Bool.{eq-eqb, eqb-true, false≢true}
 use Rattle.attr_view.specs.View.{bytes_around, place_of}
-use Rattle.mount_check.proofs.VersionLaws.{kind-of, no-value, units-unnamed, version-asked, version-there}
-use Rattle.mount_check.proofs.version.tells_version.Goals as goal
+use Rattle.file_clauses.proofs.VersionLaws.{kind-of, no-value, units-unnamed, version-asked, version-there}
+use Rattle.file_clauses.proofs.version.tells_version.Goals as goal
 
 pub returns-then-kind-ne-VOLUME_INFORMATION : goal.returns-then-kind-ne-VOLUME_INFORMATION
 returns-then-kind-ne-VOLUME_INFORMATION c =
