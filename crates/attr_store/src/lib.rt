@@ -12,4 +12,4 @@ pub use first::{FirstPart, find_first, first_here, is_first, is_of, real_size};
 pub use read::{read_value, spanned_len};
 pub use spot::spot_at;
 pub use stored::{Stored, read_stored, stored_of};
-pub use write::write_stored;
+pub use write::{find_run, write_stored};

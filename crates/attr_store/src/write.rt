@@ -108,9 +108,13 @@ fn run_in_text(alloc: Global, first: u64, text: &[u8], vcn: u64) -> Result<Optio
     }
 }
 
-// The clusters of a stream from one on, as far as they lie one behind the other in one extent, or in one hole; `None` behind
-// the stream. No disk is read.
-fn find_run(
+/// The clusters of a stream from one on, as far as they lie one behind the other in one extent, or in one hole; `None` behind
+/// the stream. No disk is read.
+///
+/// # Errors
+///
+/// Want of memory alone.
+pub fn find_run(
     alloc: Global,
     file: &FileParts,
     stream: &AttrView<'_>,

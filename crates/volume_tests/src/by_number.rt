@@ -1,9 +1,12 @@
 //! The calls that take a file by its number, on a new volume of 4,096 sectors: a name of a directory, all its names, and
-//! bytes of a stream. The disk tells nothing of what it holds, so there is nothing to prove of the volume before a call.
+//! bytes of a stream; and where its mark and its log lie. The disk tells nothing of what it holds, so there is nothing to
+//! prove of the volume before a call.
 ghost use Rattle.std.specs.Prelude.{◌≡◌, IfOk, false};
-ghost use Rattle.mft_table.specs.Mft.{view};
+ghost use Rattle.mft_table.specs.MirrorClusters.{IsMirrorInside};
+ghost use Rattle.mft_table.specs.Mft.{mounted_of, view};
 
 use dir_index::{link_of_key, list, lookup};
+use mark_place::{find_flag, find_log};
 use mft_table::Mft;
 use mount_check::mount;
 use sparse_io::read_at;
@@ -88,7 +91,8 @@ fn records_on(
     alloc: Global,
     disk: &mut Untold<MemDisk>,
 ) -> Result<Mft<'_, Untold<MemDisk>>, test::Fail>
-    ensures { IfOk result (λ mft. (view ⟦<Untold<MemDisk> as Disk>⟧ mft).told ≡ false) }
+    ensures untold { IfOk result (λ mft. (view ⟦<Untold<MemDisk> as Disk>⟧ mft).told ≡ false) }
+    ensures mirror { IfOk result (λ mft. IsMirrorInside (mounted_of ⟦<Untold<MemDisk> as Disk>⟧ mft)) }
 {
     let mounted = mount(alloc, disk)?;
     Ok(Mft::resume(Stage::over(alloc, disk), mounted))
@@ -188,5 +192,33 @@ fn a_long_name_is_read(rt: HostRuntime) -> Result<(), test::Fail> {
     };
     assert_eq!(rt; (link.parent, link.space, link.child), (ROOT, 1, 77));
     assert!(rt; link.name.as_slice() == [0x6161; 255].as_slice());
+    Ok(())
+}
+
+// The table begins with cluster 2, its mirror with cluster 19, and the log has the 16 clusters from 20 on, of 8 sectors each: so the
+// layout of a new volume says. The flags stand behind the version, which is 3.1.
+#[test]
+fn the_mark_and_the_log_lie_where_a_new_volume_has_them(rt: HostRuntime) -> Result<(), test::Fail> {
+    let mut disk = volume(rt.alloc())?;
+    let mut mft = records_on(rt.alloc(), &mut disk)?;
+    let flag = find_flag(&mut mft);
+    let log = find_log(rt.alloc(), &mut mft);
+    let_go(mft);
+    let Some(flag) = flag? else {
+        return Err("no flag")?;
+    };
+    assert_eq!(rt; (flag.home, flag.copy), (22, 158));
+    for sector in [flag.home, flag.copy] {
+        let at = 512 * sector as usize + flag.at;
+        assert_eq!(rt;
+            disk.inner.contents().get(at - 2..at + 2),
+            Some([3, 1, 0, 0].as_slice())
+        );
+    }
+    let log = log?;
+    assert_eq!(rt; log.len(), 1);
+    for span in &log {
+        assert_eq!(rt; (span.first, span.len), (160, 128));
+    }
     Ok(())
 }

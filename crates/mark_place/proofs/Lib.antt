@@ -1,0 +1,4 @@
+pub mod SpanLaws
+pub mod EndLaws
+pub mod LogLaws
+pub mod EmptyLaws

@@ -1,0 +1,8 @@
+use Rattle.mark_place.proofs.EmptyLaws.{emptied-log, outside-log}
+use Rattle.mark_place.proofs.laws.log_laws.Goals as goal
+
+pub returns-clause-outside : goal.returns-clause-outside
+returns-clause-outside c = outside-log
+
+pub returns-clause-emptied : goal.returns-clause-emptied
+returns-clause-emptied c = emptied-log
