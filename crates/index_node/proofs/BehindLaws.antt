@@ -1,6 +1,6 @@
 -- The parts of a node that is split into itself and a node without keys.
 use Rattle.std.proofs.Common.{◌≡◌, ℕ, zero, suc, ◌+◌, ◌-◌, ◌/◌, ◌<◌, ◌≤◌, List, [], ◌∷◌, ◌++◌, Option, Some, None, true, false, length}
-use Rattle.std.proofs.Common.{take, slice_range, slice_index, refl, sym, ap, subst, ◌∙◌, arith, append-nil}
+use Rattle.std.proofs.Common.{take, drop, slice_range, slice_index, refl, sym, ap, subst, ◌∙◌, arith, append-nil}
 use Rattle.std.specs.Prelude.{All, IsTrue, is_some}
 use Rattle.std.proofs.lemmas.List.{length-take-le}
 use Rattle.std.proofs.lemmas.List.Elements.{All-nil}
@@ -11,18 +11,20 @@ use Rattle.list_laws.proofs.PieceLaws.{index_within, length_within}
 use Rattle.index_node.specs.Edit.{CanSplice, EditsNode, EditsShort, FitsBehind, HasSpan, Splices, TakesBehind, entries_leading, entries_len}
 use Rattle.index_node.specs.Edit.{child_of_node, front_len, last_leading, leading, left_of, right_of, without_from}
 use Rattle.index_node.specs.LayOut.{AreEntries, HoldsPieces, KeepsHeader, node_listed, room_len, total_len}
+use Rattle.index_node.specs.Pieces.{EditsPieces, pieces_from}
+use Rattle.index_node.proofs.EditedPieces.{length-pieces, pieces_dropped, pieces_kept}
 use Rattle.index_node.specs.View.{bytes_of, node_of_view}
 use Rattle.index_node.specs.declared.NodeView.{NodeView}
 use Rattle.index_node.proofs.NodeLaws.{entry_place-next}
 use Rattle.index_node.proofs.LayOutLaws.{node_header-same}
 use Rattle.index_node.proofs.LenLaws.{front_behind, keeps_first}
-use Rattle.index_node.proofs.PieceLaws.{dropped, from_entries, from_holds, from_said, from_short, from_total, kept, pieces_from}
+use Rattle.index_node.proofs.PieceLaws.{dropped, from_entries, from_holds, from_said, from_short, from_total, kept, pieces_before}
 use Rattle.index_node.proofs.PieceLaws.{place-place}
 use Rattle.index_node.proofs.PieceLaws.{short_behind}
 use Rattle.index_node.proofs.SpanLaws.{child_some, entries_len-is, first_is, inside, low, order, place_low, room_ends}
-use Rattle.index_node.proofs.SpliceLaws.{Holds-moved, closed_node, closed_said, closed_short, edits_node, edits_short, ends, kept_opened}
+use Rattle.index_node.proofs.SpliceLaws.{Holds-moved, closed_node, closed_pieces, closed_said, closed_short, edits_node, edits_pieces, edits_short, ends, kept_opened}
 use Rattle.index_node.proofs.SpliceLaws.{said_now, spliced_all, spliced_children, spliced_keeps, spliced_len}
-use Rattle.index_node.proofs.SpliceLaws.{spliced_node}
+use Rattle.index_node.proofs.SpliceLaws.{spliced_node, spliced_pieces}
 
 nodes_eq : {es fs : List Entry} {c d : Option ℕ} → es ≡ fs → c ≡ d → (let x : Node = record { entries = es; last = c } in x) ≡ record {
   entries = fs;
@@ -125,6 +127,18 @@ module _ (form : NodeForm) (old : List ℕ) (i at behind end : ℕ) (h : HasSpan
     cut_short = edits_short form old i at behind end h new (without_from i) _ cut_is
         (closed_short form old new h.right h.count h.each h.last at last_at end [] sp room i h.within h.is_at h.count (omega arith)
         is_last h.is_end refl)
+
+    pub cut_pieces : EditsPieces form old new (λ before now. now ≡ take i before ++ drop (length before - 1) before)
+    cut_pieces =
+        let all : List (List ℕ) = pieces_from old (first_entry old) h.count in
+        edits_pieces form old i at behind end h new (λ before now. now ≡ take i before ++ drop (length before - 1) before) _
+        (closed_pieces form old new h.right h.count h.each h.last at last_at end [] sp room i h.within h.is_at h.count (omega arith)
+        is_last h.is_end refl)
+        (sym
+        (ap (λ ps. ps ++ drop (length all - 1) all) (pieces_kept old (first_entry old) h.count i h.within)
+        ∙ ap (λ k. pieces_before old (first_entry old) i ++ drop k all) {x = length all - 1} {y = h.count}
+        (let n = length-pieces old (first_entry old) h.count in omega arith)
+        ∙ ap (λ ps. pieces_before old (first_entry old) i ++ ps) (pieces_dropped old (first_entry old) h.count h.count (omega arith))))
 
     pub cut_children : has_children new ≡ has_children old
     cut_children = spliced_children form old new h.right h.count h.each h.last at last_at end [] sp room i h.within h.is_at
@@ -235,6 +249,12 @@ module _ (form : NodeForm) (old other : List ℕ) (at behind end : ℕ) (h : Has
         each_tail last_tail
         (short_behind form other (has_children other) (entries_end other) inner (most_len (has_children other)) (first_entry other)
         k.count (suc i) (omega arith) short))))
+
+    pub taken_pieces : EditsPieces form other new (λ before now. now ≡ drop (suc i) before)
+    taken_pieces = edits_pieces form other i at' behind' end' k new (λ before now. now ≡ drop (suc i) before) tail
+        (spliced_pieces form old new h.right h.count h.each h.last at end end (slice_range other behind' end') sp room 0 (omega arith)
+        h.is_at tail tail_are tail_holds total_tail)
+        (sym (pieces_dropped other (first_entry other) k.count (suc i) (omega arith)))
 
     pub taken_keeps : KeepsHeader old new
     taken_keeps = spliced_keeps form old new h.right h.count h.each h.last at end end (slice_range other behind' end') sp room 0 (omega

@@ -14,12 +14,14 @@ use Rattle.ntfs_def.specs.declared.index.NodeForm.{NodeForm}
 use Rattle.ntfs_def.specs.declared.index.NodeForm.TheVariants.{Names, View}
 use Rattle.index_node.specs.Edit.{EditsNode, EditsShort, HasSpan, entries_leading, last_leading, leading}
 use Rattle.index_node.specs.LayOut.{KeepsHeader, SetsHeader}
+use Rattle.index_node.specs.Pieces.{EditsPieces, LeadsPiece, piece_at, pieces_from, pieces_of}
+use Rattle.list_laws.proofs.PieceLaws.{index_within, length_within}
 use Rattle.index_node.proofs.NodeLaws.{are_short-is, child_at-some, entry_place-next, entry_whole, items_same, last_whole}
 use Rattle.index_node.proofs.NodeLaws.{length-entries_from, place_whole, scan-whole, scan_node-is}
 use Rattle.index_node.proofs.LayOutLaws.{entry_eq, laid_children, laid_end, laid_keeps, laid_right, first_same as laid_first, range_same}
 use Rattle.index_node.proofs.SealedLaws.{data_by-same, three_same, whole_by-same}
 use Rattle.index_node.proofs.SpanLaws.{place_low}
-use Rattle.index_node.proofs.SpliceLaws.{edits_node, edits_short, ends, said_now}
+use Rattle.index_node.proofs.SpliceLaws.{edits_node, edits_pieces, edits_short, ends, said_now}
 
 -- A header says itself.
 pub sets_itself : (old : List ℕ) → SetsHeader old old (has_children old) (entries_end old)
@@ -188,6 +190,76 @@ module _ (form : NodeForm) (old new : List ℕ) (end place vcn : ℕ) (same : Sa
       cons at w apart (each 0 (omega arith)) (entry_eq (item_same at w apart) (child_same at w apart (inr before)))
       (leads (at + entry_len old at) n i more last (omega arith) e)
 
+  -- the bytes of an entry that stands before them or behind them
+  same_piece : (at : ℕ) → IsWholeEntry old true end at → place + 8 ≤ at ⊎ at + entry_len old at ≤ place → piece_at new at ≡ piece_at old at
+  same_piece at w side =
+      ap (λ l. slice_range new at (at + l)) (len_same at w (λ k f t. bytes side k f (omega arith)))
+      ∙ range_same old new at (at + entry_len old at) same.len (bytes side)
+    where
+      bytes : place + 8 ≤ at ⊎ at + entry_len old at ≤ place → (k : ℕ) → at ≤ k → k < at + entry_len old at → get_or new k 0 ≡ get_or old k 0
+      bytes (inl le) k f t = same.above k (omega arith)
+      bytes (inr le) k f t = same.below k (omega arith)
+
+  same_pieces : (at n : ℕ) → HasEntries form old true end at n → IsTrue (is_last_entry old true end (entry_place old at n)) → place + 8 ≤ at
+      → pieces_from new at n ≡ pieces_from old at n
+  same_pieces at zero each last le = ap (λ p. p ∷ []) (same_piece at (last_whole old true end at last) (inl le))
+  same_pieces at (suc n) each last le =
+      let w = entry_whole form old true end at (each 0 (omega arith)) in
+      let len = len_same at w (λ k f t. same.above k (omega arith)) in
+      ap (λ p. p ∷ pieces_from new (at + entry_len new at) n) (same_piece at w (inl le))
+      ∙ ap (λ l. piece_at old at ∷ pieces_from new (at + l) n) len
+      ∙ ap (λ ps. piece_at old at ∷ ps) (same_pieces (at + entry_len old at) n (λ i lt. each (suc i) (omega arith)) last (omega arith))
+
+  -- and of the one that they end
+  module _ (inside : end ≤ length old) where
+    led_piece : (at : ℕ) → IsWholeEntry old true end at → place + 8 ≡ at + entry_len old at
+        → (length (piece_at new at) ≡ length (piece_at old at))
+        × ((k : ℕ) → k + 8 < length (piece_at old at) → slice_index (piece_at new at) k ≡ slice_index (piece_at old at) k)
+    led_piece at w e =
+        let h = w.inside in
+        let len = len_same at w (λ k f t. same.below k (omega arith)) in
+        let is : piece_at new at ≡ slice_range new at (at + entry_len old at) = ap (λ l. slice_range new at (at + l)) len in
+        let a = length_within new at (entry_len old at) (omega (arith, same.len)) in
+        let b = length_within old at (entry_len old at) (omega arith) in (
+          ap length is ∙ a ∙ sym b,
+          λ k lt.
+              ap (λ xs. slice_index xs k) is
+              ∙ index_within new at (entry_len old at) k (omega (arith, b, lt))
+              ∙ same.below (at + k) (omega (arith, b, lt))
+              ∙ sym (index_within old at (entry_len old at) k (omega (arith, b, lt))),
+        )
+
+    led_pieces : (at n i : ℕ) → HasEntries form old true end at n → IsTrue (is_last_entry old true end (entry_place old at n)) → i ≤ n
+        → place + 8 ≡ entry_place old at (suc i) → LeadsPiece i (pieces_from old at n) (pieces_from new at n)
+    led_pieces at zero zero each last within e =
+        let p = led_piece at (last_whole old true end at last) e in
+        (p.0, (p.1, refl))
+    led_pieces at zero (suc i) each last within e = absurd (omega arith)
+    led_pieces at (suc n) zero each last within e =
+        let w = entry_whole form old true end at (each 0 (omega arith)) in
+        let p = led_piece at w e in
+        let len = len_same at w (λ k f t. same.below k (omega arith)) in (
+          p.0,
+          (
+            p.1,
+            ap (λ l. pieces_from new (at + l) n) len
+                ∙ same_pieces (at + entry_len old at) n (λ i lt. each (suc i) (omega arith)) last (omega arith),
+          ),
+        )
+    led_pieces at (suc n) (suc i) each last within e =
+        let w = entry_whole form old true end at (each 0 (omega arith)) in
+        let more : HasEntries form old true end (at + entry_len old at) n = λ j lt. each (suc j) (omega arith) in
+        let there = place_whole form old true end (at + entry_len old at) n more last i (omega arith) in
+        let next = entry_place-next old (at + entry_len old at) i in
+        let low = place_low old (at + entry_len old at) i in
+        let h = there.holds in
+        let before : at + entry_len old at ≤ place = omega arith in
+        let len = len_same at w (λ k f t. same.below k (omega arith)) in (
+          same_piece at w (inr before),
+          subst (λ l. LeadsPiece i (pieces_from old (at + entry_len old at) n) (pieces_from new (at + l) n)) (sym len)
+              (led_pieces (at + entry_len old at) n i more last (omega arith) e),
+        )
+
 -- The edit, by the span of the entry.
 module _ (form : NodeForm) (old new : List ℕ) (i at behind end : ℕ) (h : HasSpan form old i at behind end) (kids : has_children old ≡ true)
     (place vcn : ℕ) (is_place : place + 8 ≡ behind) (same : SameOutside old new place (place + 8)) (is : u64_at new place ≡ vcn) where
@@ -274,6 +346,20 @@ module _ (form : NodeForm) (old new : List ℕ) (i at behind end : ℕ) (h : Has
 
   pub lead_node : EditsNode form old new (λ said. leading said i (Some vcn))
   lead_node = edits_node form old i at behind end h new (λ said. leading said i (Some vcn)) result result_is new_node
+
+  pub lead_pieces : EditsPieces form old new (LeadsPiece i)
+  lead_pieces = edits_pieces form old i at behind end h new (LeadsPiece i) (pieces_from new first h.count) there
+      (led_pieces form old new (entries_end old) place vcn same is (omega (arith, (ends old h.right).0, (ends old h.right).1)) first
+      h.count i each last h.within (is_place ∙ h.is_behind))
+    where
+      some_same : {m n : Node} → Some m ≡ Some n → m ≡ n
+      some_same e = cc
+
+      there : (said' : Node) → node_in form new ≡ Some said' → pieces_of new said' ≡ pieces_from new first h.count
+      there said' is' =
+          ap (λ a. pieces_from new a (length said'.entries)) new_first
+          ∙ ap (pieces_from new first) (ap (λ (m : Node). length m.entries) (some_same (sym is' ∙ new_node))
+          ∙ length-entries_from new true first h.count)
 
   new_short : are_short_from old (most_len (has_children old)) first h.count ≡ true → short_node form new ≡ Some result
   new_short short =

@@ -3,6 +3,7 @@ pub mod LayOutLaws
 pub mod SealedLaws
 pub mod PlaceLaws
 pub mod PieceLaws
+pub mod EditedPieces
 pub mod SpliceLaws
 pub mod SpanLaws
 pub mod LeadLaws
@@ -18,3 +19,4 @@ pub mod ReplaceLaws
 pub mod LenLaws
 pub mod FoundLaws
 pub mod CrowdLaws
+pub mod SeekLaws

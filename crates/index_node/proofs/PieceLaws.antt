@@ -11,22 +11,14 @@ use Rattle.ntfs_def.specs.IndexTree.{Each}
 use Rattle.ntfs_def.specs.declared.index.NodeForm.{NodeForm}
 use Rattle.list_laws.proofs.PieceLaws.{length_within}
 use Rattle.index_node.specs.LayOut.{AreEntries, HoldsPieces, node_listed, total_len, with_entry}
+use Rattle.index_node.specs.Pieces.{piece_at, pieces_from}
 use Rattle.index_node.proofs.NodeLaws.{entry_whole, last_whole, last_flag, whole_is, entry-own, u16_within}
 use Rattle.index_node.proofs.LayOutLaws.{child_moved, item_moved, entry_facts, last_facts, sixteen_of, entry_eq, len_same}
 
--- the bytes of what stands at a place
-abbrev pub piece_at : List ℕ → ℕ → List ℕ
-piece_at node at = slice_range node at (at + entry_len node at)
-
--- so many entries from a place on ..
+-- so many entries from a place on, without the last one
 abbrev pub pieces_before : List ℕ → ℕ → ℕ → List (List ℕ)
 pieces_before node at zero = []
 pieces_before node at (suc n) = piece_at node at ∷ pieces_before node (at + entry_len node at) n
-
--- .. and those with the last one
-abbrev pub pieces_from : List ℕ → ℕ → ℕ → List (List ℕ)
-pieces_from node at zero = piece_at node at ∷ []
-pieces_from node at (suc n) = piece_at node at ∷ pieces_from node (at + entry_len node at) n
 
 -- each of them is an entry with a key
 abbrev pub AreKeyed : NodeForm → Bool → List (List ℕ) → Type 0

@@ -1,6 +1,6 @@
 -- An entry in place of another one that is as long.
 use Rattle.std.proofs.Common.{◌≡◌, ℕ, zero, suc, ◌+◌, ◌-◌, ◌<◌, ◌≤◌, List, Some, Bool, true, length, slice_range, refl, sym, ap, ◌∙◌}
-use Rattle.std.proofs.Common.{arith, rules}
+use Rattle.std.proofs.Common.{arith, insert, remove, rules}
 use Rattle.std.specs.Prelude.{IsTrue, ◌&&◌, nat_le, slice_index_or}
 use Rattle.std.proofs.lemmas.Bool.{leb-true}
 use Rattle.list_laws.proofs.PieceLaws.{length_within}
@@ -10,11 +10,13 @@ use Rattle.ntfs_def.specs.Node.{node_in}
 use Rattle.ntfs_def.specs.declared.index.NodeForm.{NodeForm}
 use Rattle.index_node.specs.Edit.{CanSplice, EditsNode, EditsShort, HasEntry, HasSpan, Splices, entry_in, item_len, replaced}
 use Rattle.index_node.specs.LayOut.{KeepsHeader}
+use Rattle.index_node.specs.Pieces.{EditsPieces}
+use Rattle.index_node.proofs.EditedPieces.{other_pieces}
 use Rattle.index_node.proofs.NodeLaws.{entry_place-next, get_or-entries_from, place_whole}
 use Rattle.index_node.proofs.LeadLaws.{is_one}
 use Rattle.index_node.proofs.PieceLaws.{put_over}
 use Rattle.index_node.proofs.SpanLaws.{inner_in, inside, low, order, room_ends}
-use Rattle.index_node.proofs.SpliceLaws.{edits_node, edits_short, ends, entry_in-is, put_node, put_said, put_short, said_now}
+use Rattle.index_node.proofs.SpliceLaws.{edits_node, edits_pieces, edits_short, ends, entry_in-is, put_node, put_pieces, put_said, put_short, said_now}
 use Rattle.index_node.proofs.SpliceLaws.{spliced_children, spliced_keeps}
 
 -- what is known of one entry's length by its item
@@ -118,6 +120,12 @@ module _ (form : NodeForm) (old : List ℕ) (i at behind end : ℕ) (h : HasSpan
             let n = entry_place-next old (first_entry old) i in
             let p = h.is_at in let q = h.is_behind in
             omega arith
+
+    pub replaced_pieces : EditsPieces form old new (λ before now. now ≡ insert (remove before i) i entry)
+    replaced_pieces = edits_pieces form old i at behind end h new (λ before now. now ≡ insert (remove before i) i entry) _
+        (put_pieces form old new h.right h.count h.each h.last at behind end entry sp can_replace.fits i h.within h.is_at (suc i) (omega
+        (arith, inner)) h.is_behind h.is_end one)
+        (sym (other_pieces old (first_entry old) h.count i entry inner))
 
     pub replaced_children : has_children new ≡ has_children old
     replaced_children = spliced_children form old new h.right h.count h.each h.last at behind end entry sp can_replace.fits i h.within

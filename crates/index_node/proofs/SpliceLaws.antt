@@ -1,6 +1,6 @@
 -- What a node says whose entries were moved to make room, or to close it.
 use Rattle.std.proofs.Common.{◌≡◌, ℕ, suc, ◌+◌, ◌-◌, ◌<◌, ◌≤◌, ◌==◌, ◌/◌, ◌%◌, List, [], ◌∷◌, ◌++◌, Option, Some, None, Bool, true}
-use Rattle.std.proofs.Common.{false, length, take, get_or, slice_range, slice_index, refl, sym, ap, subst, ◌∙◌, arith, rules}
+use Rattle.std.proofs.Common.{false, insert, remove, length, take, get_or, slice_range, slice_index, refl, sym, ap, subst, ◌∙◌, arith, rules}
 use Rattle.std.specs.Prelude.{All, IsTrue, if◌then◌else◌}
 use Rattle.std.specs.Option.{option_and_then}
 use Rattle.std.proofs.lemmas.Bool.{leb-true}
@@ -18,12 +18,14 @@ use Rattle.list_laws.proofs.PieceLaws.{index_within, length_within}
 use Rattle.index_node.specs.Edit.{IsOpened, EditsNode, EditsShort, HasSpan, Splices, entry_in, right_of, with_entry_at, without_entry}
 use Rattle.index_node.specs.Edit.{entries_len}
 use Rattle.index_node.specs.LayOut.{AreEntries, HoldsPieces, KeepsHeader, node_listed, total_len, with_entry}
+use Rattle.index_node.specs.Pieces.{EditsPieces, pieces_from, pieces_of}
+use Rattle.index_node.proofs.EditedPieces.{less_pieces, more_pieces, pieces_held}
 use Rattle.index_node.proofs.NodeLaws.{are_short-is, flag_is, length-entries_from, place_whole, entry_place-next}
 use Rattle.index_node.proofs.LayOutLaws.{HoldsPieces-same, header_is, header_low, right_of as is_right, laid_children, laid_keeps}
 use Rattle.index_node.proofs.LayOutLaws.{laid_node, laid_short, first_same as laid_first}
 use Rattle.index_node.proofs.PieceLaws.{AreEntries-++, AreEntries-cons, AreKeyed, All-++, Holds-++, before_holds, before_keyed}
 use Rattle.index_node.proofs.PieceLaws.{before_said, before_short, before_total, dropped, entries_said, from_entries, from_holds}
-use Rattle.index_node.proofs.PieceLaws.{from_said, from_short, from_total, kept, listed-++, listed-cons, pieces_before, pieces_from}
+use Rattle.index_node.proofs.PieceLaws.{from_said, from_short, from_total, kept, listed-++, listed-cons, pieces_before}
 use Rattle.index_node.proofs.PieceLaws.{place-place, put_in, short_behind, taken_out, total-++, pieces_place}
 
 some_same : {X : Type 0} {a b : X} → Some a ≡ Some b → a ≡ b
@@ -188,6 +190,19 @@ module _ (form : NodeForm) (old new : List ℕ) (right : node_header_failing old
         form (front ++ tail) all_are all_holds all_total
         ∙ ap (λ m. Some m) says
 
+    -- the bytes of its entries
+    pub spliced_pieces : (said : Node) → node_in form new ≡ Some said → pieces_of new said ≡ front ++ tail
+    spliced_pieces said is =
+        let l = low in
+        let e : node_listed children (front ++ tail) ≡ said = some_same (sym (laid_node old sp.mid new children (at + length bytes +
+        (end - from)) first sp.sets refl outside right (omega arith) room
+        form (front ++ tail) all_are all_holds all_total) ∙ is) in
+        let f : first_entry new ≡ first = laid_first old sp.mid new children (at + length bytes + (end - from)) first sp.sets refl
+        outside right (omega arith) room in
+        ap (λ a. pieces_from new a (length said.entries)) f
+        ∙ ap (λ (m : Node). pieces_from new first (length m.entries)) (sym e)
+        ∙ pieces_held form children new first (front ++ tail) all_are all_holds
+
     -- where the entries end then
     pub spliced_len : (said : Node) → node_in form new ≡ Some said → first_entry new + entries_len new said ≡ at + length bytes + (end
         - from)
@@ -314,6 +329,9 @@ module _ (form : NodeForm) (old new : List ℕ) (right : node_header_failing old
       pub closed_node : node_in form new ≡ Some closed_said
       closed_node = spliced_node back back_are closed closed_total ∙ join back_said
 
+      pub closed_pieces : (said : Node) → node_in form new ≡ Some said → pieces_of new said ≡ front ++ back
+      closed_pieces = spliced_pieces back back_are closed closed_total
+
       pub closed_len : (said : Node) → node_in form new ≡ Some said → first_entry new + entries_len new said ≡ at + length bytes + (end
           - from)
       closed_len = spliced_len back back_are closed closed_total
@@ -360,6 +378,9 @@ module _ (form : NodeForm) (old new : List ℕ) (right : node_header_failing old
 
       pub put_node : node_in form new ≡ Some put_said
       put_node = spliced_node (bytes ∷ back) put_are (sp.put, back_holds) put_total ∙ join_put put_listed
+
+      pub put_pieces : (said : Node) → node_in form new ≡ Some said → pieces_of new said ≡ front ++ bytes ∷ back
+      put_pieces = spliced_pieces (bytes ∷ back) put_are (sp.put, back_holds) put_total
 
       pub put_len : (said : Node) → node_in form new ≡ Some said → first_entry new + entries_len new said ≡ at + length bytes + (end - from)
       put_len = spliced_len (bytes ∷ back) put_are (sp.put, back_holds) put_total
@@ -470,6 +491,15 @@ module _ (form : NodeForm) (old : List ℕ) (i at behind end : ℕ) (h : HasSpan
       EditsShort form old new f
   edits_short new f result e is said s = let b = short_facts said s in is b.1 ∙ ap (λ m. Some m) (e ∙ ap f (is_said said b.0))
 
+  -- the bytes of its entries, changed
+  pub edits_pieces : (new : List ℕ) (Change : List (List ℕ) → List (List ℕ) → Type 0) (pieces : List (List ℕ))
+      → ((said' : Node) → node_in form new ≡ Some said' → pieces_of new said' ≡ pieces)
+      → Change (pieces_from old (first_entry old) h.count) pieces → EditsPieces form old new Change
+  edits_pieces new Change pieces are change said said' is is' =
+      subst (λ n. Change (pieces_from old (first_entry old) n) (pieces_of new said')) (count_is ∙ ap (λ (m : Node). length m.entries)
+      (is_said said is))
+      (subst (λ ps. Change (pieces_from old (first_entry old) h.count) ps) (sym (are said' is')) change)
+
   nodes_eq : {es fs : List Entry} {c : Option ℕ} → es ≡ fs → (let x : Node = record { entries = es; last = c } in x) ≡ record {
     entries
         = fs;
@@ -495,6 +525,11 @@ module _ (form : NodeForm) (old : List ℕ) (i at behind end : ℕ) (h : HasSpan
         (λ short. put_short form old new h.right h.count h.each h.last at at end entry sp room i h.within h.is_at i h.within h.is_at
         h.is_end one short fits)
 
+    pub inserted_pieces : EditsPieces form old new (λ before now. now ≡ insert before i entry)
+    inserted_pieces = edits_pieces new (λ before now. now ≡ insert before i entry) _
+        (put_pieces form old new h.right h.count h.each h.last at at end entry sp room i h.within h.is_at i h.within h.is_at h.is_end one)
+        (sym (more_pieces old (first_entry old) h.count i entry h.within))
+
     pub inserted_children : has_children new ≡ has_children old
     inserted_children = spliced_children form old new h.right h.count h.each h.last at at end entry sp room i h.within h.is_at
 
@@ -518,6 +553,12 @@ module _ (form : NodeForm) (old : List ℕ) (i at behind end : ℕ) (h : HasSpan
       removed_short = edits_short new (λ said. without_entry said i) _ removed_is
           (closed_short form old new h.right h.count h.each h.last at behind end [] sp room i h.within h.is_at (suc i) (omega arith)
           h.is_behind h.is_end refl)
+
+      pub removed_pieces : EditsPieces form old new (λ before now. now ≡ remove before i)
+      removed_pieces = edits_pieces new (λ before now. now ≡ remove before i) _
+          (closed_pieces form old new h.right h.count h.each h.last at behind end [] sp room i h.within h.is_at (suc i) (omega arith)
+          h.is_behind h.is_end refl)
+          (sym (less_pieces old (first_entry old) h.count i inner))
 
       pub removed_children : has_children new ≡ has_children old
       removed_children = spliced_children form old new h.right h.count h.each h.last at behind end [] sp room i h.within h.is_at

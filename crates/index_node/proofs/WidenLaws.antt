@@ -12,9 +12,10 @@ use Rattle.ntfs_def.specs.Node.{node_header_failing, node_in, room_end, short_no
 use Rattle.ntfs_def.specs.declared.index.NodeForm.{NodeForm}
 use Rattle.index_node.specs.Edit.{EditsShort, HasSpan, IsWidened, HasRoomFor}
 use Rattle.index_node.specs.LayOut.{AreEntries, HoldsPieces, node_from, node_listed, total_len}
+use Rattle.index_node.specs.Pieces.{pieces_from}
 use Rattle.index_node.proofs.NodeLaws.{are_short-is, entry_place-next, place_whole, scan_node-is}
 use Rattle.index_node.proofs.LayOutLaws.{few_entries, has_array, right_of as is_right, scan_listed, short_listed, six_right}
-use Rattle.index_node.proofs.PieceLaws.{from_entries, from_holds, from_said, from_short, from_total, pieces_from, pieces_place}
+use Rattle.index_node.proofs.PieceLaws.{from_entries, from_holds, from_said, from_short, from_total, pieces_place}
 use Rattle.index_node.proofs.SpliceLaws.{Holds-moved, begins, ends, said_facts, short_said, said_now}
 use Rattle.index_node.proofs.RootLaws.{root_header, not_record}
 

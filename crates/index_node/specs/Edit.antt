@@ -8,6 +8,7 @@ use Rattle.ntfs_def.specs.Node.{Entry, Item, HasEntries, Node, child_at, child_f
 use Rattle.ntfs_def.specs.Node.{entry_place, first_entry, has_child, has_children, is_last_entry, is_one_entry, item_in, most_len}
 use Rattle.ntfs_def.specs.Node.{node_header_failing, node_in, own_vcn, room_end, short_node}
 use Rattle.index_node.specs.LayOut.{KeepsHeader, SetsHeader, room_len}
+use Rattle.index_node.specs.Sealed.{HasArrayApart}
 use Rattle.index_node.specs.declared.NodeNo.{NodeNo}
 use Rattle.index_node.specs.declared.NodeNo.TheVariants.{Shape, Full}
 use Rattle.ntfs_def.specs.declared.index.NodeForm.{NodeForm}
@@ -230,6 +231,8 @@ pub record IsHalf (form : NodeForm) (part : List ℕ) : Type 0 where
 pub record SplitsWith (form : NodeForm) (old right left : List ℕ) (vcn i : ℕ) (entry out : List ℕ) : Type 0 where
   pub opened_left : IsOpened vcn left
   pub opened : (own : ℕ) → IsOpened own old → IsOpened own right
+  pub apart_left : HasArrayApart left
+  pub apart : HasArrayApart right
   pub up : IsShortEntry form true out
   pub parts : (said : Node) → short_node form old ≡ Some said
       → IsParted form (with_entry_at said i (entry_in entry)) right left vcn (entry_in out)
@@ -247,6 +250,7 @@ pub record IsCrowded (form : NodeForm) (node : List ℕ) (len : ℕ) : Type 0 wh
 
 -- One entry more; the bytes grew by it, and hold nothing behind the entries.
 pub record InsertsInRoot (form : NodeForm) (old new : List ℕ) (i : ℕ) (entry : List ℕ) : Type 0 where
+  pub node : EditsNode form old new (λ said. with_entry_at said i (entry_in entry))
   pub short : EditsShort form old new (λ said. with_entry_at said i (entry_in entry))
   pub grown : length new ≤ length old + length entry
 
@@ -257,6 +261,7 @@ pub record LeadsDown (form : NodeForm) (root : List ℕ) (vcn : ℕ) : Type 0 wh
 -- The record of this number says what the root says.
 pub record HoldsRoot (form : NodeForm) (root record_ : List ℕ) (vcn : ℕ) : Type 0 where
   pub opened : IsOpened vcn record_
+  pub apart : HasArrayApart record_
   pub node : (said : Node) → node_in form root ≡ Some said → node_in form record_ ≡ Some said
   pub short : (said : Node) → short_node form root ≡ Some said → short_node form record_ ≡ Some said
   pub children : has_children record_ ≡ has_children root

@@ -7,3 +7,5 @@ pub mod Lent
 pub mod Edit
 pub mod EditBlocks
 pub mod Edited
+pub mod Pieces
+pub mod Seek

@@ -1,11 +1,12 @@
 //! Nodes are edited in their bytes: what stands behind an edit is moved, and nothing is copied out.
 ghost use Rattle.std.specs.Prelude.{◌≡◌, ◌↔◌, ◌+◌, ◌-◌, ◌<◌, ◌≤◌, ℕ, IfErr, IsOk, IsTrue, OnErr, OnOk, Some, length, suc};
-ghost use Rattle.std.specs.Prelude.{slice_index, slice_index_or};
+ghost use Rattle.std.specs.Prelude.{insert, remove, slice_index, slice_index_or};
 ghost use Rattle.vol_bytes.specs.Field.{SameOutside};
 ghost use Rattle.ntfs_def.specs.Node.{Entry, Node, has_children, is_one_entry, item_in, node_in};
 ghost use Rattle.index_node.specs.Edit.{Becomes, CanSplice, HasEntry, HasPlace, HasRoomFor, HasSpan, Inserts, LacksRoomFor};
 ghost use Rattle.index_node.specs.Edit.{PutsFront, Splices, entries_len, entry_in, front_len, item_len, replaced, right_of};
 ghost use Rattle.index_node.specs.Edit.{without_entry};
+ghost use Rattle.index_node.specs.Pieces.{EditsPieces};
 
 use crate::NodeNo;
 use crate::shape::{has_children, room_end};
@@ -65,6 +66,7 @@ pub fn insert_at(node: &mut [u8], form: NodeForm, i: usize, entry: &[u8]) -> Res
     ensures ok { OnOk result (Inserts form node.old node.new i entry.now) }
     ensures fits { IsOk result ↔ HasRoomFor form node.old (length entry.now) }
     ensures err { IfErr result (LacksRoomFor form node.old (length entry.now)) }
+    ensures pieces { OnOk result (EditsPieces form node.old node.new (λ before now. now ≡ insert before i entry.now)) }
     ensures kept { OnErr result (node.new ≡ node.old) }
 {
     let span = span_of(node, form, i);
@@ -82,7 +84,8 @@ pub fn insert_at(node: &mut [u8], form: NodeForm, i: usize, entry: &[u8]) -> Res
 /// Takes entry i out.
 pub fn remove_at(node: &mut [u8], form: NodeForm, i: usize)
     requires { HasEntry form node.old i }
-    ensures { Becomes form node.old node.new (λ said. without_entry said i) }
+    ensures ok { Becomes form node.old node.new (λ said. without_entry said i) }
+    ensures pieces { EditsPieces form node.old node.new (λ before now. now ≡ remove before i) }
 {
     let span = span_of(node, form, i);
     splice(node, span.at, span.behind, span.end, &[]);
@@ -94,7 +97,8 @@ pub fn replace_at(node: &mut [u8], form: NodeForm, i: usize, entry: &[u8])
     requires one { IsTrue (is_one_entry form (has_children node.old) entry.now) }
     requires alike { (said : Node) → node_in form node.old ≡ Some said
         → (d : Entry) → item_len (slice_index_or said.entries i d).item ≡ item_len (item_in entry.now) }
-    ensures { Becomes form node.old node.new (λ said. replaced said i (entry_in entry.now)) }
+    ensures ok { Becomes form node.old node.new (λ said. replaced said i (entry_in entry.now)) }
+    ensures pieces { EditsPieces form node.old node.new (λ before now. now ≡ insert (remove before i) i entry.now) }
 {
     let span = span_of(node, form, i);
     splice(node, span.at, span.behind, span.end, entry);

@@ -3,7 +3,9 @@ ghost use Rattle.std.specs.Prelude.{◌≡◌, ℕ, ◌+◌, ◌≤◌, List, If
 ghost use Rattle.vol_disk.specs.Contents.{WhereTold};
 ghost use Rattle.vol_disk.specs.Count.{next_count};
 ghost use Rattle.index_node.specs.Edit.{IsOpened};
+ghost use Rattle.index_node.specs.Blocks.{CountsNo};
 ghost use Rattle.index_node.specs.EditBlocks.{CountsTakeNo, Edits, Gives, Takes, Writes};
+ghost use Rattle.index_node.specs.Sealed.{HasArrayApart};
 
 use crate::{BlockNo, Blocks};
 
@@ -19,7 +21,8 @@ pub trait WriteBlocks: Blocks {
     /// At most the records that were written.
     ghost written: { Self → ℕ };
 
-    /// Puts the bytes into a record, its update sequence array aside. No other record changes.
+    /// Puts the bytes into a record, its update sequence array aside, which stands apart from its header and its entries, as
+    /// that of a node does (`sealed_nodes`). No other record changes.
     ///
     /// # Errors
     ///
@@ -28,6 +31,7 @@ pub trait WriteBlocks: Blocks {
         requires ready { Self.ready self.old }
         requires there { WhereTold (Self.records self.old) (λ r. IsSome (r vcn)) }
         requires opened { WhereTold (Self.records self.old) (λ r. IsOpened vcn from.now) }
+        requires apart { HasArrayApart from.now }
         ensures done { OnOk result (Edits (Self.records self.old) (Self.records self.new) (Writes vcn from.now)) }
         ensures ready { OnOk result (Self.ready self.new) }
 
@@ -35,10 +39,9 @@ pub trait WriteBlocks: Blocks {
         ensures reads { Self.reads self.new ≡ Self.reads self.old }
         ensures written { written self.new ≤ written self.old + 1 }
         ensures taken { Self.taken self.new ≡ Self.taken self.old }
-        ensures room { Self.full self.new ≡ Self.full self.old }
-        ensures counts { MatchResult result (λ _. (Self.faults self.new ≡ Self.faults self.old) × (Self.full self.new
-            ≡ Self.full self.old))
-            (CountsTakeNo (Self.faults self.old) (Self.faults self.new) (Self.full self.old) (Self.full self.new)) };
+        ensures full { Self.full self.new ≡ Self.full self.old }
+        ensures faults { MatchResult result (λ _. Self.faults self.new ≡ Self.faults self.old)
+            (CountsNo (Self.faults self.old) (Self.faults self.new)) };
 
     /// Each record is one that was opened, under its own number.
     ghost opened_records: { (it : Self) (r : ℕ → Option (List ℕ)) → Self.records it ≡ Some r
@@ -89,8 +92,7 @@ pub trait EditBlocks: WriteBlocks {
         ensures reads { Self.reads self.new ≡ Self.reads self.old }
         ensures written { Self.written self.new ≡ Self.written self.old }
         ensures taken { Self.taken self.new ≡ Self.taken self.old }
-        ensures room { Self.full self.new ≡ Self.full self.old }
-        ensures counts { MatchResult result (λ _. (Self.faults self.new ≡ Self.faults self.old) × (Self.full self.new
-            ≡ Self.full self.old))
-            (CountsTakeNo (Self.faults self.old) (Self.faults self.new) (Self.full self.old) (Self.full self.new)) };
+        ensures full { Self.full self.new ≡ Self.full self.old }
+        ensures faults { MatchResult result (λ _. Self.faults self.new ≡ Self.faults self.old)
+            (CountsNo (Self.faults self.old) (Self.faults self.new)) };
 }

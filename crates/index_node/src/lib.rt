@@ -15,6 +15,7 @@ mod node_mut;
 mod parts;
 mod places;
 mod root;
+mod seek;
 mod shape;
 mod split;
 #[cfg(test)]
@@ -30,6 +31,7 @@ pub use node_mut::NodeMut;
 pub use ntfs_def::NodeForm;
 pub use parts::{join_at, lead_to, new_record, set_child, split_with, with_child};
 pub use root::{empty_root, insert_in_root, root_record};
+pub use seek::seek_in;
 use thiserror::Error;
 pub use written::lay_out;
 

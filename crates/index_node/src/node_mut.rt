@@ -1,15 +1,21 @@
 //! A node that is edited in its bytes.
-ghost use Rattle.std.specs.Prelude.{◌≡◌, ◌↔◌, IfErr, IfOk, IsOk, IsSome, IsTrue, OnErr, OnOk, Some, length, true};
-ghost use Rattle.ntfs_def.specs.Node.{has_children, is_one_entry, node_in};
+ghost use Rattle.std.specs.Prelude.{◌≡◌, ◌↔◌, ◌++◌, ◌-◌, IfErr, IfOk, IsOk, IsSome, IsTrue, OnErr, OnOk, Some, drop, insert, length};
+ghost use Rattle.std.specs.Prelude.{remove, suc, take, true};
+ghost use Rattle.ntfs_def.specs.IndexTree.{Each};
+ghost use Rattle.ntfs_def.specs.Node.{Entry, Node, has_children, is_one_entry, node_in};
 ghost use Rattle.index_node.specs.Edit.{Becomes, FitsBehind, HasEntry, HasPlace, HasRoomFor, Inserts, IsKeyless, LacksRoomFor};
 ghost use Rattle.index_node.specs.Edit.{TakesBehind, leading, left_of, without_entry};
 ghost use Rattle.index_node.specs.LayOut.{room_len};
-ghost use Rattle.index_node.specs.View.{Refuses, bytes_of, form_of_view};
+ghost use Rattle.index_node.specs.Pieces.{EditsPieces, LeadsPiece};
+ghost use Rattle.index_node.specs.Seek.{IsPlace};
+ghost use Rattle.index_node.specs.View.{Refuses, bytes_of, form_of_view, node_of_view};
 
 use crate::edit::{insert_at, remove_at};
 use crate::parts::set_child;
+use crate::seek::seek_in;
 use crate::split::split_into;
 use crate::{NodeNo, NodeView};
+use collation::Collation;
 use ntfs_def::NodeForm;
 
 /// A node whose entries can be read and edited. All its bytes stay in the slice that was lent, which has every edit once
@@ -42,12 +48,28 @@ impl<'r> NodeMut<'r> {
 
     /// A view of the node as it is now.
     pub fn view(&self) -> NodeView<'_>
+        ensures node { node_in (edited_form self.now) (edited_bytes self.now) ≡ Some (node_of_view result) }
         ensures bytes { bytes_of result ≡ edited_bytes self.now }
         ensures form { form_of_view result ≡ edited_form self.now }
     {
         match NodeView::new(self.node, self.form) {
             Ok(view) => view,
             Err(_) => unreachable!(),
+        }
+    }
+
+    /// The first entry whose key is not below this one, or how many entries there are where all are, and whether its key is
+    /// equal. All keys are valid.
+    pub fn find<C: Collation>(&self, order: &C, key: &[u8]) -> (usize, bool)
+        requires key { IsTrue (C.valid order.now key.now) }
+        requires keys { (said : Node) → node_in (edited_form self.now) (edited_bytes self.now) ≡ Some said
+            → Each (λ (e : Entry). IsTrue (C.valid order.now e.item.key)) said.entries }
+        ensures { (said : Node) → node_in (edited_form self.now) (edited_bytes self.now) ≡ Some said
+            → IsPlace (λ x. C.order order.now x key.now) said.entries result.0 result.1 }
+    {
+        match seek_in(&self.view(), order, key) {
+            Some((place, hit)) => (place.number(), hit),
+            None => unreachable!(),
         }
     }
 
@@ -63,6 +85,8 @@ impl<'r> NodeMut<'r> {
         ensures same_reference { reference_of self.new ≡ reference_of self.old }
         ensures form { edited_form self.new ≡ edited_form self.old }
         ensures ok { OnOk result (Inserts (edited_form self.old) (edited_bytes self.old) (edited_bytes self.new) i entry.now) }
+        ensures pieces { OnOk result (EditsPieces (edited_form self.old) (edited_bytes self.old) (edited_bytes self.new)
+            (λ before now. now ≡ insert before i entry.now)) }
         ensures fits { IsOk result ↔ HasRoomFor (edited_form self.old) (edited_bytes self.old) (length entry.now) }
         ensures err { IfErr result (LacksRoomFor (edited_form self.old) (edited_bytes self.old) (length entry.now)) }
         ensures kept { OnErr result (edited_bytes self.new ≡ edited_bytes self.old) }
@@ -76,6 +100,8 @@ impl<'r> NodeMut<'r> {
         ensures same_reference { reference_of self.new ≡ reference_of self.old }
         ensures form { edited_form self.new ≡ edited_form self.old }
         ensures removed { Becomes (edited_form self.old) (edited_bytes self.old) (edited_bytes self.new) (λ said. without_entry said i) }
+        ensures pieces { EditsPieces (edited_form self.old) (edited_bytes self.old) (edited_bytes self.new)
+            (λ before now. now ≡ remove before i) }
     {
         remove_at(self.node, self.form, i);
     }
@@ -87,6 +113,7 @@ impl<'r> NodeMut<'r> {
         ensures same_reference { reference_of self.new ≡ reference_of self.old }
         ensures form { edited_form self.new ≡ edited_form self.old }
         ensures led { Becomes (edited_form self.old) (edited_bytes self.old) (edited_bytes self.new) (λ said. leading said i (Some vcn)) }
+        ensures pieces { EditsPieces (edited_form self.old) (edited_bytes self.old) (edited_bytes self.new) (LeadsPiece i) }
     {
         set_child(self.node, self.form, i, vcn);
     }
@@ -103,6 +130,10 @@ impl<'r> NodeMut<'r> {
         ensures form { edited_form self.new ≡ edited_form self.old }
         ensures left { Becomes (edited_form self.old) (edited_bytes self.old) (edited_bytes self.new) (left_of i) }
         ensures right { TakesBehind (edited_form self.old) right.old right.new (edited_bytes self.old) i }
+        ensures left_pieces { EditsPieces (edited_form self.old) (edited_bytes self.old) (edited_bytes self.new)
+            (λ before now. LeadsPiece i (take i before ++ drop (length before - 1) before) now) }
+        ensures right_pieces { EditsPieces (edited_form self.old) (edited_bytes self.old) right.new
+            (λ before now. now ≡ drop (suc i) before) }
     {
         split_into(self.node, self.form, right, i);
     }

@@ -1,12 +1,13 @@
 //! The parts of a node that is split, and new nodes.
 ghost use Rattle.std.specs.Prelude.{◌≡◌, ◌↔◌, ◌*◌, ◌+◌, ◌-◌, ◌<◌, ◌≤◌, [], Bool, IfNone, IfOk, IfSome, IsSome, IsTrue, OnErr, OnOk};
-ghost use Rattle.std.specs.Prelude.{Option, None, Some, is_some, length, suc, take, true};
+ghost use Rattle.std.specs.Prelude.{Option, None, Some, is_some, length, remove, suc, take, true};
 ghost use Rattle.ntfs_def.specs.Node.{Node, child_len, has_child, has_children, is_one_entry, most_len, node_in, short_node};
 ghost use Rattle.ntfs_def.specs.declared.index.NodeForm.{NodeForm};
 ghost use Rattle.index_node.specs.Edit.{Becomes, Turns, BeginsWith, child_of_node, leading, without_entry, HasEntry, HasPlace};
 ghost use Rattle.index_node.specs.Edit.{IsMiddle, IsOpened, IsShortEntry, LacksMiddle, LeadsBytes, LeadsTo, IsCrowded, SplitsWith};
 ghost use Rattle.index_node.specs.Edit.{entries_len, front_len, right_of};
 ghost use Rattle.index_node.specs.LayOut.{room_len};
+ghost use Rattle.index_node.specs.Pieces.{EditsPieces, LeadsPiece};
 
 use crate::edit::{insert_at, keep_behind, put_front, remove_at, span_of};
 use crate::view::whole_view;
@@ -216,7 +217,8 @@ pub fn split_with(
 pub fn set_child(node: &mut [u8], form: NodeForm, i: usize, vcn: u64)
     requires place { HasPlace form node.old i }
     requires children { has_children node.old ≡ true }
-    ensures { Becomes form node.old node.new (λ said. leading said i (Some vcn)) }
+    ensures ok { Becomes form node.old node.new (λ said. leading said i (Some vcn)) }
+    ensures pieces { EditsPieces form node.old node.new (LeadsPiece i) }
 {
     let span = span_of(node, form, i);
     put_u64(node, span.behind - 8, vcn);
@@ -225,7 +227,8 @@ pub fn set_child(node: &mut [u8], form: NodeForm, i: usize, vcn: u64)
 /// Takes entry i out, and lets its place lead to the child that it led to.
 pub fn join_at(node: &mut [u8], form: NodeForm, i: usize)
     requires { HasEntry form node.old i }
-    ensures { Turns form node.old node.new (λ said. leading (without_entry said i) i (child_of_node said i)) }
+    ensures ok { Turns form node.old node.new (λ said. leading (without_entry said i) i (child_of_node said i)) }
+    ensures pieces { EditsPieces form node.old node.new (λ before now. LeadsPiece i (remove before i) now) }
 {
     let below = child_of(node, form, i);
     remove_at(node, form, i);

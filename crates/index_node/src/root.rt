@@ -2,7 +2,7 @@
 ghost use Rattle.std.specs.Prelude.{◌≡◌, ◌+◌, ◌-◌, ◌<◌, ◌≤◌, ℕ, List, IfSome, IsSome, OnOk, Some, length};
 ghost use Rattle.vol_bytes.specs.Field.{SameOutside, u32_at};
 ghost use Rattle.ntfs_def.specs.Node.{Node, has_children, node_in};
-ghost use Rattle.index_node.specs.Edit.{EditsShort, HasLonger, HasPlace, IsLonger, IsOpened, entries_len, entry_in, with_entry_at};
+ghost use Rattle.index_node.specs.Edit.{EditsNode, EditsShort, HasLonger, HasPlace, IsLonger, IsOpened, entries_len, entry_in, with_entry_at};
 ghost use Rattle.index_node.specs.Edit.{HoldsRoot, InsertsInRoot, IsDown, IsShortEntry, LeadsDown};
 
 use crate::NodeView;
@@ -53,6 +53,8 @@ fn put_wide(root: &mut [u8], form: NodeForm, i: usize, entry: &[u8])
     requires was { HasLonger form root.old i entry.now }
     ensures ok { (old : List ℕ) → IsLonger form root.old old i entry.now
         → EditsShort form old root.new (λ said. with_entry_at said i (entry_in entry.now)) }
+    ensures node { (old : List ℕ) → IsLonger form root.old old i entry.now
+        → EditsNode form old root.new (λ said. with_entry_at said i (entry_in entry.now)) }
     ensures len { length root.new ≡ length root.old }
 {
     widen(root);

@@ -1,9 +1,10 @@
 //! A node is split into itself and a node without keys, in the bytes of both.
-ghost use Rattle.std.specs.Prelude.{◌≡◌, Some, length, true};
+ghost use Rattle.std.specs.Prelude.{◌≡◌, ◌++◌, ◌-◌, Some, drop, length, suc, take, true};
 ghost use Rattle.ntfs_def.specs.Node.{Node, entries_end, has_children, node_in};
 ghost use Rattle.index_node.specs.Edit.{Becomes, FitsBehind, HasEntry, HasPlace, HasSpan, IsKeyless, TakesBehind, leading};
 ghost use Rattle.index_node.specs.Edit.{left_of, without_from};
 ghost use Rattle.index_node.specs.LayOut.{room_len};
+ghost use Rattle.index_node.specs.Pieces.{EditsPieces, LeadsPiece};
 
 use crate::NodeView;
 use crate::edit::{Span, span_of, splice};
@@ -29,7 +30,8 @@ fn put_behind(into: &mut [u8], form: NodeForm, from: &[u8], i: usize)
     requires from { HasEntry form from.now i }
     requires same { has_children into.old ≡ has_children from.now }
     requires fits { FitsBehind form from.now i (room_len into.old) }
-    ensures { TakesBehind form into.old into.new from.now i }
+    ensures ok { TakesBehind form into.old into.new from.now i }
+    ensures pieces { EditsPieces form from.now into.new (λ before now. now ≡ drop (suc i) before) }
 {
     let place = span_of(into, form, 0);
     let span = span_of(from, form, i);
@@ -40,7 +42,8 @@ fn put_behind(into: &mut [u8], form: NodeForm, from: &[u8], i: usize)
 // Takes the entries from entry i on out; the last one, which has no key, stays.
 fn cut_from(node: &mut [u8], form: NodeForm, i: usize)
     requires { HasPlace form node.old i }
-    ensures { Becomes form node.old node.new (without_from i) }
+    ensures ok { Becomes form node.old node.new (without_from i) }
+    ensures pieces { EditsPieces form node.old node.new (λ before now. now ≡ take i before ++ drop (length before - 1) before) }
 {
     let span = span_of(node, form, i);
     let last = last_span_of(node, form);
@@ -52,6 +55,7 @@ fn lead_at(node: &mut [u8], form: NodeForm, i: usize, vcn: u64)
     requires place { HasPlace form node.old i }
     requires children { has_children node.old ≡ true }
     ensures led { Becomes form node.old node.new (λ said. leading said i (Some vcn)) }
+    ensures pieces { EditsPieces form node.old node.new (LeadsPiece i) }
     ensures used { entries_end node.new ≡ entries_end node.old }
 {
     let span = span_of(node, form, i);
@@ -61,7 +65,9 @@ fn lead_at(node: &mut [u8], form: NodeForm, i: usize, vcn: u64)
 // Keeps the entries before entry i, and the last one, which leads where entry i led.
 fn keep_before(node: &mut [u8], form: NodeForm, i: usize)
     requires { HasEntry form node.old i }
-    ensures { Becomes form node.old node.new (left_of i) }
+    ensures ok { Becomes form node.old node.new (left_of i) }
+    ensures pieces { EditsPieces form node.old node.new (λ before now.
+        LeadsPiece i (take i before ++ drop (length before - 1) before) now) }
 {
     let below = match NodeView::new(node, form) {
         Ok(view) => view.child(i),
@@ -81,6 +87,9 @@ pub fn split_into(node: &mut [u8], form: NodeForm, right: &mut [u8], i: usize)
     requires fits { FitsBehind form node.old i (room_len right.old) }
     ensures left { Becomes form node.old node.new (left_of i) }
     ensures right { TakesBehind form right.old right.new node.old i }
+    ensures left_pieces { EditsPieces form node.old node.new (λ before now.
+        LeadsPiece i (take i before ++ drop (length before - 1) before) now) }
+    ensures right_pieces { EditsPieces form node.old right.new (λ before now. now ≡ drop (suc i) before) }
 {
     put_behind(right, form, node, i);
     keep_before(node, form, i);

@@ -1,16 +1,14 @@
-use Rattle.std.proofs.Common.{◌≡◌, ◌≢◌, ℕ, zero, suc, ◌+◌, ◌-◌, ◌<◌, ◌≤◌, ◌⊎◌, List, [], ◌∷◌, ◌++◌, Option, Some, None, Bool, true, false, length, map, take, drop, insert, refl, sym, ap, subst, ◌∙◌, arith, inl, inr, IsSome}
+use Rattle.std.proofs.Common.{◌≡◌, ℕ, zero, suc, ◌+◌, ◌-◌, ◌≤◌, List, [], ◌∷◌, Option, Some, None, Bool, length, refl, sym, ap, subst, ◌∙◌, arith, IsSome}
 use Rattle.std.proofs.lemmas.List.{length-map}
 use Rattle.std.specs.declared.cmp.Ordering.{Ordering}
-use Rattle.std.specs.declared.cmp.Ordering.TheVariants.{Less, Equal, Greater}
-use Rattle.index_tree.proofs.EditTrees.{none_some}
-use Rattle.index_tree.proofs.EditGrow.{spread_of, below_sound, below_held, grow_none, grow_some, grow_kept, puts_through}
+use Rattle.index_tree.proofs.EditGrow.{spread_of, below_sound, grow_none, grow_some, grow_kept, puts_through}
 use Rattle.ntfs_def.specs.Node.{Entry, Item, Node}
 use Rattle.ntfs_def.specs.IndexTree.{Each, Nodes, child_of, Spread, Tree, items_of, entry_of, node_of, spread_items}
 use Rattle.index_node.specs.Edit.{child_of_node, with_entry_at}
 use Rattle.list_laws.proofs.OptionLaws.{some_same, none_other}
 use Rattle.index_tree.proofs.IndexTreeLaws.{Each-branches}
 use Rattle.std.specs.Prelude.{IsTrue, ◌*◌}
-use Rattle.index_tree.specs.Search.{IsPlace}
+use Rattle.index_node.specs.Seek.{IsPlace}
 use Rattle.index_tree.specs.Edit.{below_at, graft, Placed, IsSorted, HasSorted, Becomes, Puts, InsertsBelow, EditCostsBelow}
 use Rattle.index_tree.proofs.OrderLaws.{IsOrder}
 

@@ -1,8 +1,7 @@
-use Rattle.std.proofs.Common.{◌≡◌, ◌≢◌, ℕ, zero, suc, ◌+◌, ◌<◌, ◌≤◌, ◌⊎◌, List, [], ◌∷◌, ◌++◌, Option, Some, None, Bool, true, false, length, map, take, drop, insert, refl, sym, ap, subst, ◌∙◌, arith, inl, inr, append_assoc, append-nil, ◌==◌, if◌then◌else◌, get_or}
+use Rattle.std.proofs.Common.{◌≡◌, ◌≢◌, ℕ, zero, suc, ◌+◌, ◌<◌, ◌≤◌, ◌⊎◌, [], ◌∷◌, ◌++◌, Option, Some, None, map, take, drop, refl, sym, ap, subst, ◌∙◌, arith, inl, inr}
 use Rattle.std.proofs.lemmas.List.{length-map}
-use Rattle.std.specs.declared.cmp.Ordering.{Ordering}
 use Rattle.std.proofs.lemmas.Bool.Decides.{nat_tests, eqb_tells}
-use Rattle.index_tree.proofs.EditSpreads.{Each-change, Each-change_others, Each-others, Each-graft, Each-before, Each-after, times_none, times_split, times_graft, times-append, items-append, other_times, At, at_place}
+use Rattle.index_tree.proofs.EditSpreads.{Each-change, Each-change_others, Each-others, Each-graft, Each-before, Each-after, times_none, times_split, times_graft, times-append, items-append, At, at_place}
 use Rattle.index_tree.proofs.EditTrees.{IsStored-frame, times-none, one_if-same, one_if-other, none_some}
 use Rattle.ntfs_def.specs.Node.{Entry, Node}
 use Rattle.ntfs_def.specs.IndexTree.{Nodes, Spread, Tree, branch_items, branch_times, EachBelow, items_of, times_in, child_of, entry_of, node_of, IsStored, one_if, AreStored, spread_items, spread_times}

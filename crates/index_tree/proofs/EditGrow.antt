@@ -1,16 +1,15 @@
-use Rattle.std.proofs.Common.{◌≡◌, ◌≢◌, ℕ, zero, suc, ◌+◌, ◌-◌, ◌<◌, ◌≤◌, ◌⊎◌, List, [], ◌∷◌, ◌++◌, Option, Some, None, Bool, true, false, length, map, take, drop, insert, refl, sym, ap, subst, ◌∙◌, arith, inl, inr, append_assoc, append-nil, IsSome}
-use Rattle.std.proofs.lemmas.List.{length-map}
+use Rattle.std.proofs.Common.{◌≡◌, ℕ, zero, suc, ◌+◌, ◌≤◌, List, [], ◌∷◌, ◌++◌, Option, Some, None, Bool, true, false, length, map, drop, insert, refl, sym, ap, subst, ◌∙◌, arith}
 use Rattle.std.specs.declared.cmp.Ordering.{Ordering}
-use Rattle.std.specs.declared.cmp.Ordering.TheVariants.{Less, Equal, Greater}
-use Rattle.index_tree.proofs.EditSpreads.{times_split, times_graft, items_split, items_graft, Each-at, before_items, behind_items, child_below, last_graft, entries_graft-none, entries_graft-one, entry}
+use Rattle.std.specs.declared.cmp.Ordering.TheVariants.{Equal}
+use Rattle.index_tree.proofs.EditSpreads.{times_split, items_split, items_graft, Each-at, before_items, behind_items, child_below, last_graft, entries_graft-none, entries_graft-one, entry}
 use Rattle.index_tree.proofs.EditOrders.{Ascends-left, Ascends-right, Each-left, Each-right, put_within, before_low, behind_high, Each-mid}
 use Rattle.index_tree.proofs.EditTrees.{one_if-same, one_if-other, none_some, times-none}
-use Rattle.index_tree.proofs.EditCompose.{graft_moves, graft_stored, Moves-trans, PlacedTree, placed, spread-none, zero_or, Moves-once}
+use Rattle.index_tree.proofs.EditCompose.{graft_moves, graft_stored, Moves-trans, PlacedTree, placed, spread-none, Moves-once}
 use Rattle.ntfs_def.specs.Node.{Entry, Item, Node}
 use Rattle.ntfs_def.specs.IndexTree.{Nodes, Each, Branch, Spread, Tree, branch_items, items_of, times_in, child_of, entry_of, node_of, IsStored, Ascends, one_if, AreStored, spread_items, spread_times, IsHeld}
 use Rattle.index_node.specs.Edit.{child_of_node, with_entry_at}
 use Rattle.std.specs.Prelude.{IsTrue}
-use Rattle.index_tree.specs.Search.{IsPlace, StartsAt}
+use Rattle.index_node.specs.Seek.{IsPlace, StartsAt}
 use Rattle.index_tree.specs.Edit.{below_at, graft, graft_branches, fresh_of, Moves, IsLifted, Placed, IsSorted, IsSortedIndex, Becomes, Puts, IsAbsent}
 use Rattle.index_tree.proofs.OrderLaws.{IsOrder}
 

@@ -1,5 +1,5 @@
 -- What edits of records do to the nodes that they say.
-use Rattle.std.proofs.Common.{◌≡◌, ◌≢◌, ◌⊎◌, ℕ, suc, ◌<◌, ◌≤◌, List, Option, Some, None, [], IsSome, Bool, true, false, inl, inr, length, refl, sym, ap, subst, ◌∙◌, arith}
+use Rattle.std.proofs.Common.{◌≡◌, ◌≢◌, ℕ, List, Option, Some, None, [], IsSome, Bool, true, false, inl, inr, length, refl, sym, ap, subst, ◌∙◌}
 use Rattle.std.specs.Prelude.{if◌then◌else◌, ◌==◌}
 use Rattle.std.specs.Option.{option_and_then}
 use Rattle.std.proofs.lemmas.Bool.Decides.{eqb_tells}
@@ -7,15 +7,20 @@ use Rattle.vol_bytes.specs.Field.{SameOutside}
 use Rattle.ntfs_def.specs.Fixup.{array_end, array_place}
 use Rattle.ntfs_def.specs.Node.{Entry, Node, are_short, node_in, short_node}
 use Rattle.ntfs_def.specs.declared.index.NodeForm.{NodeForm}
-use Rattle.index_node.specs.Edit.{IsOpened, IsParted, left_of, right_of}
+use Rattle.index_node.specs.Edit.{IsHalf, IsParted, left_of, right_of}
 use Rattle.index_node.specs.EditBlocks.{Edits, Records, Takes, Writes}
 use Rattle.index_node.specs.Sealed.{HasArrayApart}
+use Rattle.index_node.proofs.SealedLaws.{node_array}
 use Rattle.index_tree.specs.Edit.{IsSplit, MovesDown, short_nodes, with_node}
-use Rattle.list_laws.proofs.OptionLaws.{some_same, none_other}
+use Rattle.list_laws.proofs.OptionLaws.{some_same, none_not_some, none_other}
 use Rattle.index_tree.proofs.EditCompose.{with_node-same, with_node-other}
 
 pub is_some_of : {X : Type 0} {o : Option X} {x : X} → o ≡ Some x → IsSome o
 is_some_of e = subst IsSome (sym e) refl
+
+pub said_of : {X : Type 0} (o : Option X) → IsSome o → (x : X) × (o ≡ Some x)
+said_of {X} (Some x) h = (x, refl)
+said_of {X} None h = let none : Option X = None in absurd (none_not_some none refl h)
 
 -- a node whose entries are short is a node
 pub short_in : (form : NodeForm) (bytes : List ℕ) (n : Node) → short_node form bytes ≡ Some n → node_in form bytes ≡ Some n
@@ -29,6 +34,14 @@ short_in form bytes n h = go (node_in form bytes) refl h
         → option_and_then (λ (said : Node). if are_short bytes (length said.entries) then Some said else None) o ≡ Some n → node_in form bytes ≡ Some n
     go None e k = absurd (none_other k)
     go (Some m) e k = e ∙ ap (λ x. Some x) (pick (are_short bytes (length m.entries)) m k)
+
+-- where the array of a node that is written stands
+pub apart_of : (form : NodeForm) (bytes : List ℕ) → IsSome (node_in form bytes) → length bytes ≡ 4096 → HasArrayApart bytes
+apart_of form bytes some len = by (node_in form bytes) refl
+  where
+    by : (node : Option Node) → node_in form bytes ≡ node → HasArrayApart bytes
+    by (Some said) is = node_array form bytes said len is
+    by None is = absurd (none_not_some (node_in form bytes) is some)
 
 -- where the records are told after an edit, they were told before it
 pub edits_after : {old new : Option Records} {Change : Records → Records → Type 0} → Edits old new Change → (after : Records) → new ≡ Some after
@@ -62,14 +75,15 @@ module _ (place_law : SealedPlace) (short_law : SealedShort) (form : NodeForm) w
   -- a node and its new part, written one after the other
   pub split : (vcn new : ℕ) (right left : List ℕ) (r r1 r2 r3 : Records) → Takes new r r1 → Writes new left r1 r2 → Writes vcn right r2 r3
       → length right ≡ 4096 → length left ≡ 4096 → (n : Node) (up : Entry) → IsParted form n right left new up
-      → IsSplit (short_nodes form r) (short_nodes form r3) vcn n up
-  split vcn new right left r r1 r2 r3 takes w w' len_right len_left n up p = record {
+      → IsHalf form left × IsHalf form right → IsSplit (short_nodes form r) (short_nodes form r3) vcn n up
+  split vcn new right left r r1 r2 r3 takes w w' len_right len_left n up p halves = record {
     new = new;
     at = p.at;
     within = p.within;
     child = p.child;
     item = p.item;
     free = ap (option_and_then (short_node form)) takes.free;
+    keyed = (halves.0.key (left_of p.at n) p.is_left, halves.1.key (right_of p.at n) p.is_right);
     now = λ place.
         wrote vcn right r2 r3 w' len_right (right_of p.at n) p.is_right place
         ∙ same_else (short_nodes form r2) (with_node (short_nodes form r) new (left_of p.at n)) vcn (right_of p.at n) place

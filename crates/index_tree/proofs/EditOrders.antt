@@ -1,10 +1,10 @@
-use Rattle.std.proofs.Common.{◌≡◌, ◌≢◌, ℕ, zero, suc, ◌+◌, ◌<◌, ◌≤◌, ◌⊎◌, List, [], ◌∷◌, ◌++◌, Option, Some, None, Bool, true, false, length, map, take, drop, refl, sym, ap, subst, ◌∙◌, arith, inl, inr, append_assoc, append-nil}
+use Rattle.std.proofs.Common.{◌≡◌, ℕ, zero, suc, List, [], ◌∷◌, ◌++◌, Option, false, map, take, drop, sym, ap, subst, ◌∙◌, append_assoc}
 use Rattle.std.specs.declared.cmp.Ordering.{Ordering}
 use Rattle.std.specs.declared.cmp.Ordering.TheVariants.{Less, Equal, Greater}
 use Rattle.index_tree.proofs.EditSpreads.{before_items, behind_items, entry}
 use Rattle.ntfs_def.specs.Node.{Entry, Item}
 use Rattle.ntfs_def.specs.IndexTree.{Each, Branch, branch_items, Ascends}
-use Rattle.index_tree.specs.Search.{StartsAt}
+use Rattle.index_node.specs.Seek.{StartsAt}
 use Rattle.index_tree.specs.Edit.{IsPut, IsAt}
 use Rattle.index_tree.proofs.OrderLaws.{IsOrder}
 

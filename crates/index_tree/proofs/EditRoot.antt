@@ -1,8 +1,8 @@
-use Rattle.std.proofs.Common.{◌≡◌, ◌≢◌, ℕ, zero, suc, ◌+◌, ◌-◌, ◌<◌, ◌≤◌, ◌⊎◌, List, [], ◌∷◌, ◌++◌, Option, Some, None, Bool, true, false, length, map, insert, refl, sym, ap, subst, ◌∙◌, arith, inl, inr}
+use Rattle.std.proofs.Common.{◌≡◌, ◌≢◌, ℕ, suc, ◌+◌, ◌<◌, ◌≤◌, List, [], ◌∷◌, ◌++◌, Option, Some, None, Bool, length, refl, sym, ap, subst, ◌∙◌, arith, inl, inr}
 use Rattle.std.proofs.lemmas.List.{length-map}
 use Rattle.std.specs.declared.cmp.Ordering.{Ordering}
 use Rattle.index_tree.proofs.EditOrders.{Ascends-put, Each-++, Each-left, Each-right}
-use Rattle.index_tree.proofs.EditTrees.{one_if-same, one_if-other, none_some}
+use Rattle.index_tree.proofs.EditTrees.{one_if-same}
 use Rattle.index_tree.proofs.EditCompose.{AreStored-frame, Moves-trans, Moves-once, spread-none, with_node-same, with_node-other, fresh_new, graft_moves, graft_stored}
 use Rattle.index_tree.proofs.EditGrow.{puts_through, node_same, node_more}
 use Rattle.index_tree.proofs.EditSearch.{index_below}
@@ -10,7 +10,7 @@ use Rattle.ntfs_def.specs.Node.{Entry, Item, Node}
 use Rattle.ntfs_def.specs.IndexTree.{Each, Nodes, Spread, Tree, entry_of, node_of, one_if, spread_items, spread_times}
 use Rattle.index_node.specs.Edit.{child_of_node, with_entry_at}
 use Rattle.std.specs.Prelude.{IsTrue, ◌*◌}
-use Rattle.index_tree.specs.Search.{IsPlace}
+use Rattle.index_node.specs.Seek.{IsPlace}
 use Rattle.index_tree.specs.Edit.{Inserted, below_at, graft, Moves, IsPut, IsSorted, IsSortedIndex, Becomes, Puts, IsAbsent, InsertsBelow, EditCostsBelow, Fits}
 use Rattle.index_tree.proofs.OrderLaws.{IsOrder}
 

@@ -1,17 +1,14 @@
 -- An insertion from the root.
-use Rattle.std.proofs.Common.{◌≡◌, ℕ, zero, suc, ◌+◌, ◌-◌, ◌*◌, ◌<◌, ◌≤◌, List, Option, Some, None, IsSome, Bool, refl, sym, ap, subst, ◌∙◌, arith, inl, inr}
+use Rattle.std.proofs.Common.{◌≡◌, ℕ, ◌+◌, ◌≤◌, List, Option, Some, None, Bool, refl, sym, subst, inl}
 use Rattle.std.specs.Prelude.{IsTrue}
-use Rattle.std.specs.Option.{option_map}
 use Rattle.std.specs.declared.cmp.Ordering.{Ordering}
 use Rattle.ntfs_def.specs.IndexTree.{Each, Spread, Tree}
 use Rattle.ntfs_def.specs.Node.{Entry, Item, Node, node_in, short_node}
 use Rattle.ntfs_def.specs.declared.index.NodeForm.{NodeForm}
-use Rattle.index_node.specs.Edit.{child_of_node, entry_in, with_entry_at}
 use Rattle.index_node.specs.EditBlocks.{Records}
-use Rattle.index_tree.specs.Search.{IsPlace}
-use Rattle.index_tree.specs.Edit.{EditCosts, EditCostsBelow, Fits, HasSorted, HasSortedIndex, Inserts, InsertsBelow, IsSorted, IsSortedIndex, SeeksNode, below_at, short_nodes}
+use Rattle.index_node.specs.Seek.{IsPlace}
+use Rattle.index_tree.specs.Edit.{EditCosts, EditCostsBelow, EditReads, Fits, HasSorted, HasSortedIndex, Inserts, InsertsBelow, IsSorted, IsSortedIndex, SeeksNode, below_at, short_nodes}
 use Rattle.index_tree.proofs.OrderLaws.{IsOrder}
-use Rattle.list_laws.proofs.OptionLaws.{some_same, none_other}
 use Rattle.index_tree.proofs.EditMemory.{short_in}
 use Rattle.index_tree.proofs.EditSearch.{index_below, index_keys}
 use Rattle.index_tree.proofs.EditRoot.{costs_in, grown_node, inserts_in}
@@ -36,6 +33,12 @@ module _ (order : List ℕ → List ℕ → Ordering) (valid : List ℕ → Bool
     root_costs most before mid after h le node is depth s index =
         costs_in most order valid laws (short_nodes form r) node i before mid after
         (subst (λ c. EditCostsBelow most order valid (short_nodes form r) c before mid) (seeks.leads node (short_in form root node is)) h) le depth s index
+
+    pub root_reads : (most before after : ℕ) → EditCostsBelow most order valid (short_nodes form r) child before after
+        → EditReads most order valid (short_nodes form r) (short_node form root) before after
+    root_reads most before after below node is depth s index =
+        (subst (λ c. EditCostsBelow most order valid (short_nodes form r) c before after) (seeks.leads node (short_in form root node is)) below)
+        depth (below_at s.branches s.last i) (index_below order valid laws (short_nodes form r) depth s node index i)
 
     pub root_done : (item : Item) → key ≡ item.key → IsTrue (valid key) → (r1 r2 : Records) (root' : List ℕ) (up : Option Entry)
         → InsertsBelow order valid (short_nodes form r) (short_nodes form r1) child item up

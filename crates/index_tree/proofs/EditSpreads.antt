@@ -1,7 +1,5 @@
 -- Sketch.
-use Rattle.std.proofs.Common.{◌≡◌, ◌≢◌, ℕ, zero, suc, ◌+◌, ◌<◌, ◌≤◌, ◌⊎◌, List, [], ◌∷◌, ◌++◌, Option, Some, None, Bool, true, false, length, map, take, drop, insert, get_or, refl, sym, ap, subst, ◌∙◌, arith, inl, inr, append_assoc, append-nil}
-use Rattle.std.specs.declared.cmp.Ordering.{Ordering}
-use Rattle.std.specs.declared.cmp.Ordering.TheVariants.{Less, Equal, Greater}
+use Rattle.std.proofs.Common.{◌≡◌, ℕ, zero, suc, ◌+◌, ◌<◌, ◌≤◌, List, [], ◌∷◌, ◌++◌, Option, length, map, take, drop, insert, get_or, refl, sym, ap, ◌∙◌, arith, append_assoc, append-nil}
 use Rattle.ntfs_def.specs.Node.{Entry, Item, child_from}
 use Rattle.ntfs_def.specs.IndexTree.{Branch, Spread, branch_items, branch_times, EachBelow}
 use Rattle.index_tree.specs.Edit.{below_at, graft_branches, graft_last}

@@ -1,5 +1,5 @@
 -- A step of an insertion, from a record that was read.
-use Rattle.std.proofs.Common.{◌≡◌, ℕ, zero, suc, ◌+◌, ◌-◌, ◌*◌, ◌<◌, ◌≤◌, List, Option, Some, None, IsSome, Bool, true, false, length, refl, sym, ap, subst, ◌∙◌, arith, rules, ◌%◌, ◌==◌}
+use Rattle.std.proofs.Common.{◌≡◌, ℕ, zero, suc, ◌+◌, ◌-◌, ◌≤◌, List, Option, Some, None, IsSome, Bool, true, false, length, refl, sym, ap, subst, ◌∙◌, arith, rules, ◌%◌, ◌==◌}
 use Rattle.std.specs.Prelude.{IsTrue, ◌&&◌}
 use Rattle.index_node.proofs.NodeLaws.{child_at-none, entry_whole, flag_is}
 use Rattle.std.specs.Option.{option_and_then, option_map}
@@ -7,10 +7,10 @@ use Rattle.std.specs.declared.cmp.Ordering.{Ordering}
 use Rattle.ntfs_def.specs.IndexTree.{Each, Nodes, Tree, node_of}
 use Rattle.ntfs_def.specs.Node.{Entry, Item, Node, entry_flags, entry_len, has_child, is_entry, is_one_entry, item_in, node_in, short_node}
 use Rattle.ntfs_def.specs.declared.index.NodeForm.{NodeForm}
-use Rattle.index_node.specs.Edit.{child_of_node, entry_in, with_entry_at}
+use Rattle.index_node.specs.Edit.{child_of_node, entry_in}
 use Rattle.index_node.specs.EditBlocks.{Records}
-use Rattle.index_tree.specs.Search.{IsPlace}
-use Rattle.index_tree.specs.Edit.{EditCostsBelow, HasSorted, InsertsBelow, IsSorted, Placed, PlacesIn, SeeksNode, short_nodes}
+use Rattle.index_node.specs.Seek.{IsPlace}
+use Rattle.index_tree.specs.Edit.{EditCostsBelow, HasSorted, InsertsBelow, IsSorted, PlacesIn, SeeksNode, short_nodes}
 use Rattle.index_tree.proofs.OrderLaws.{IsOrder}
 use Rattle.list_laws.proofs.OptionLaws.{some_same, none_other}
 use Rattle.index_tree.proofs.EditMemory.{is_some_of, short_in}

@@ -25,3 +25,4 @@ pub mod RemoveSteps
 pub mod RemoveRootSteps
 pub mod ReplaceTrees
 pub mod ReplaceSteps
+pub mod KeyedLaws

@@ -1,5 +1,5 @@
 -- What a place of a view says is said of the node.
-use Rattle.std.proofs.Common.{◌≡◌, ◌<◌, ℕ, List, Option, None, Some, Bool, length, get_or, subst, sym}
+use Rattle.std.proofs.Common.{◌≡◌, ℕ, List, Option, None, Some, Bool, get_or, subst, sym}
 use Rattle.std.specs.Option.{option_or}
 use Rattle.ntfs_def.specs.Node.{Entry, Item, child_from}
 use Rattle.index_node.specs.View.{node_of_view}
@@ -7,16 +7,6 @@ use Rattle.index_node.specs.declared.NodeView.{NodeView}
 use Rattle.index_tree.specs.Search.{Picks}
 
 module _ (view node : NodeView) (is : view ≡ node) (i : ℕ) where
-  pub less_in : i < length (node_of_view view).entries → i < length (node_of_view node).entries
-  less_in h = subst (λ v. i < length (node_of_view v).entries) is h
-
-  pub more_in : i ≡ length (node_of_view view).entries → i ≡ length (node_of_view node).entries
-  more_in h = subst (λ v. i ≡ length (node_of_view v).entries) is h
-
-  pub key_in : (key : List ℕ) → ((d : Entry) → key ≡ (get_or (node_of_view view).entries i d).item.key)
-      → (d : Entry) → key ≡ (get_or (node_of_view node).entries i d).item.key
-  key_in key h = subst (λ v. (d : Entry) → key ≡ (get_or (node_of_view v).entries i d).item.key) is h
-
   pub item_in_node : (item : Item) → ((d : Entry) → item ≡ (get_or (node_of_view view).entries i d).item)
       → (d : Entry) → item ≡ (get_or (node_of_view node).entries i d).item
   item_in_node item h = subst (λ v. (d : Entry) → item ≡ (get_or (node_of_view v).entries i d).item) is h

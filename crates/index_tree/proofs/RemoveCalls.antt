@@ -1,22 +1,20 @@
 -- Laws of removal.
-use Rattle.std.proofs.Common.{◌≡◌, ◌≢◌, ℕ, zero, suc, ◌+◌, ◌-◌, ◌<◌, ◌≤◌, ◌⊎◌, List, [], ◌∷◌, ◌++◌, Option, Some, None, Bool, true, false, length, map, take, drop, insert, remove, get_or, refl, sym, ap, subst, ◌∙◌, arith, inl, inr, append_assoc, IsSome}
+use Rattle.std.proofs.Common.{◌≡◌, ◌≢◌, ℕ, zero, suc, ◌+◌, ◌<◌, List, [], ◌∷◌, ◌++◌, Option, Some, None, Bool, true, false, length, drop, insert, remove, get_or, refl, sym, ap, subst, ◌∙◌, arith, append_assoc, IsSome}
 use Rattle.std.proofs.lemmas.List.{length-map}
 use Rattle.std.specs.declared.cmp.Ordering.{Ordering}
-use Rattle.std.specs.declared.cmp.Ordering.TheVariants.{Less, Equal, Greater}
-use Rattle.std.proofs.lemmas.Bool.Decides.{nat_tests}
-use Rattle.index_tree.proofs.EditSpreads.{times_split, times_graft, items_split, items_graft, Each-at, Each-graft, Each-others, Each-change_others, before_items, behind_items, other_times, EachOther, entry, child_below}
-use Rattle.index_tree.proofs.EditTrees.{one_if-same, one_if-other, none_some, times-none, IsStored-frame}
-use Rattle.index_tree.proofs.EditCompose.{AreStored-frame, spread-none, not_fresh, with_node-same, with_node-other, zero_or, graft_moves, graft_stored}
-use Rattle.index_tree.proofs.EditGrow.{below_held, grow_none, grow_kept, rebuilt_some, own_kept, nodes_same, node_more}
-use Rattle.index_tree.proofs.RemoveLaws.{held_node, held_off, below_other, spread_once, own_none, vcn_is, dropped, cons_none}
+use Rattle.std.specs.declared.cmp.Ordering.TheVariants.{Equal}
+use Rattle.index_tree.proofs.EditSpreads.{items_split, items_graft, before_items, behind_items, child_below}
+use Rattle.index_tree.proofs.EditCompose.{with_node-other}
+use Rattle.index_tree.proofs.EditGrow.{below_held, grow_none, grow_kept}
+use Rattle.index_tree.proofs.RemoveLaws.{held_node, held_off, spread_once, vcn_is, cons_none}
 use Rattle.std.proofs.Common.{add-one, Result, Ok, Err, OnOk, IfOk}
-use Rattle.index_tree.proofs.RemoveSpreads.{picked, gone, next_same, joined_here, replaced_here, replaced_kept, rest}
-use Rattle.index_tree.proofs.EditOrders.{at_middle, before_low, behind_high, Low, High}
+use Rattle.index_tree.proofs.RemoveSpreads.{gone, next_same, joined_here, replaced_here, replaced_kept, rest}
+use Rattle.index_tree.proofs.EditOrders.{at_middle, before_low, behind_high}
 use Rattle.index_tree.proofs.EditGrow.{spread_of, below_sound, grow_some}
 use Rattle.ntfs_def.specs.Node.{Entry, Item, Node}
 use Rattle.ntfs_def.specs.IndexTree.{Nodes, Spread, Tree, items_of, times_in, child_of, entry_of, node_of, spread_items, IsHeld}
 use Rattle.index_node.specs.Edit.{child_of_node}
-use Rattle.index_tree.specs.Search.{IsPlace, StartsAt}
+use Rattle.index_node.specs.Seek.{IsPlace, StartsAt}
 use Rattle.index_tree.specs.Edit.{below_at, graft, Moves, Placed, IsSorted, IsSortedIndex, HasSorted, Becomes, IsAt, with_node}
 use Rattle.index_tree.specs.Remove.{LosesFirst, TakesLeast, CutsAt, CutsKey, Cuts, joined, Drops, RemovesHere, RemovesBelow, HasNode, IfHit, StandsInLeaf, LeafOnly}
 use Rattle.index_tree.proofs.OrderLaws.{IsOrder}

@@ -1,13 +1,11 @@
 -- Laws of removal.
-use Rattle.std.proofs.Common.{◌≡◌, ◌≢◌, ℕ, zero, suc, ◌+◌, ◌-◌, ◌<◌, ◌≤◌, ◌⊎◌, List, [], ◌∷◌, ◌++◌, Option, Some, None, Bool, true, false, length, map, take, drop, insert, remove, get_or, refl, sym, ap, subst, ◌∙◌, arith, inl, inr, append_assoc, IsSome}
-use Rattle.std.proofs.lemmas.List.{length-map}
+use Rattle.std.proofs.Common.{◌≡◌, ◌≢◌, ℕ, zero, suc, ◌+◌, ◌-◌, ◌<◌, ◌≤◌, List, [], ◌∷◌, ◌++◌, Option, Some, None, Bool, length, map, remove, get_or, refl, sym, ap, subst, ◌∙◌, arith, inl, inr, IsSome}
 use Rattle.std.specs.declared.cmp.Ordering.{Ordering}
-use Rattle.std.specs.declared.cmp.Ordering.TheVariants.{Less, Equal, Greater}
 use Rattle.std.proofs.lemmas.Bool.Decides.{nat_tests}
-use Rattle.index_tree.proofs.EditSpreads.{times_split, times_graft, items_split, items_graft, Each-at, Each-graft, Each-others, Each-change_others, before_items, behind_items, other_times, EachOther, entry, child_below}
-use Rattle.index_tree.proofs.EditTrees.{one_if-same, one_if-other, none_some, times-none, IsStored-frame}
-use Rattle.index_tree.proofs.EditCompose.{AreStored-frame, spread-none, not_fresh, with_node-same, with_node-other, zero_or, graft_moves, graft_stored}
-use Rattle.index_tree.proofs.EditGrow.{below_held, grow_none, grow_kept, rebuilt_some, own_kept, nodes_same, node_more}
+use Rattle.index_tree.proofs.EditSpreads.{times_split, items_split, items_graft, before_items, behind_items, other_times, entry}
+use Rattle.index_tree.proofs.EditTrees.{one_if-same, IsStored-frame}
+use Rattle.index_tree.proofs.EditCompose.{AreStored-frame, with_node-same, with_node-other, zero_or}
+use Rattle.index_tree.proofs.EditGrow.{below_held, grow_none, nodes_same}
 use Rattle.ntfs_def.specs.Node.{Item, Node}
 use Rattle.ntfs_def.specs.IndexTree.{Nodes, Branch, Spread, Tree, branch_items, branch_times, EachBelow, items_of, times_in, child_of, entry_of, node_of, IsStored, one_if, AreStored, spread_items, spread_times, IsHeld}
 use Rattle.index_node.specs.Edit.{child_of_node}

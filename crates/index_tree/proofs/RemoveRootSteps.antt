@@ -1,16 +1,15 @@
 -- A removal from the root.
-use Rattle.std.proofs.Common.{◌≡◌, ℕ, zero, suc, ◌+◌, ◌-◌, ◌*◌, ◌<◌, ◌≤◌, List, Option, Some, None, IsSome, Bool, true, false, drop, length, refl, sym, ap, subst, ◌∙◌, arith, inl, inr}
-use Rattle.std.specs.Option.{option_map}
+use Rattle.std.proofs.Common.{◌≡◌, ℕ, suc, ◌+◌, ◌*◌, ◌<◌, ◌≤◌, List, Option, Some, None, Bool, true, false, length, refl, sym, ap, subst, ◌∙◌, arith}
 use Rattle.std.specs.declared.cmp.Ordering.{Ordering}
 use Rattle.ntfs_def.specs.IndexTree.{Nodes, Spread, Tree}
-use Rattle.ntfs_def.specs.Node.{Entry, Item, Node, Whole, child_from, node_in, scan_node, short_node, whole_of}
+use Rattle.ntfs_def.specs.Node.{Entry, Item, Node, Whole, child_from, scan_node, short_node, whole_of}
 use Rattle.ntfs_def.specs.declared.index.NodeForm.{NodeForm}
 use Rattle.index_node.specs.Edit.{EditsShort, child_of_node}
 use Rattle.index_node.specs.EditBlocks.{Records}
-use Rattle.index_tree.specs.Search.{IsPlace, StartsAt}
+use Rattle.index_node.specs.Seek.{IsPlace}
 use Rattle.index_tree.specs.Walk.{HasTree}
 use Rattle.index_tree.specs.Edit.{EditCosts, Fits, FitsIn, HasSortedIndex, IsSortedIndex, SeeksNode, below_at, short_nodes}
-use Rattle.index_tree.specs.Remove.{GivesBack, HasBehind, HasNoneBehind, IfHit, LeafOnly, LeafOnlyFrom, LeastGoes, StandsInLeaf, StandsInLeafFrom, RemovesBelow, RemovesFrom, RemovesIn, RootBecomes, RootRemoves, TakesLeast, joined, with_item_at}
+use Rattle.index_tree.specs.Remove.{GivesBack, HasBehind, HasNoneBehind, IfHit, LeafOnly, LeafOnlyFrom, StandsInLeaf, StandsInLeafFrom, RemovesBelow, RemovesFrom, RemovesIn, RootBecomes, RootRemoves, TakesLeast, joined, with_item_at}
 use Rattle.index_tree.proofs.OrderLaws.{IsOrder}
 use Rattle.list_laws.proofs.OptionLaws.{some_same}
 use Rattle.index_tree.proofs.EditMemory.{short_in}
@@ -19,20 +18,20 @@ use Rattle.index_tree.proofs.EditRoot.{grown_node}
 use Rattle.index_tree.proofs.RemoveRoot.{has_behind, removes_in, root_joined, root_replaced}
 use Rattle.index_tree.proofs.RemoveSteps.{hit_within}
 
-module _ (form : NodeForm) (root : List ℕ) (r : Records) (i : ℕ) (behind : HasBehind form root (short_nodes form r) i 15)
+module _ (form : NodeForm) (root : List ℕ) (r : Records) (i : ℕ) {level : ℕ} (behind : HasBehind form root (short_nodes form r) i level)
     (n : Node) (scan : scan_node form root ≡ Whole n) (gone : Option ℕ) (is : gone ≡ child_from n.entries n.last (i + 1)) where
   gone_at : (said : Node) → short_node form root ≡ Some said → gone ≡ child_of_node said (i + 1)
   gone_at said e = is ∙ ap (λ m. child_of_node m (i + 1)) (some_same (sym (ap whole_of scan) ∙ short_in form root said e))
 
-  pub root_tree : HasTree (short_nodes form r) gone 15
-  root_tree = subst (λ c. HasTree (short_nodes form r) c 15) (sym (gone_at behind.said behind.is)) behind.tree
+  pub root_tree : HasTree (short_nodes form r) gone level
+  root_tree = subst (λ c. HasTree (short_nodes form r) c level) (sym (gone_at behind.said behind.is)) behind.tree
 
   module _ (r1 : Records) where
     none_same : TakesLeast (short_nodes form r) (short_nodes form r1) gone None → short_nodes form r1 ≡ short_nodes form r
     none_same h = (h root_tree.depth root_tree.tree root_tree.held).1
 
-    pub root_after : TakesLeast (short_nodes form r) (short_nodes form r1) gone None → HasTree (short_nodes form r1) gone 15
-    root_after h = subst (λ m. HasTree m gone 15) (sym (none_same h)) root_tree
+    pub root_after : TakesLeast (short_nodes form r) (short_nodes form r1) gone None → HasTree (short_nodes form r1) gone level
+    root_after h = subst (λ m. HasTree m gone level) (sym (none_same h)) root_tree
 
     pub replaced_root : (x : Item) → TakesLeast (short_nodes form r) (short_nodes form r1) gone (Some x) → (root1 : List ℕ)
         → EditsShort form root root1 (λ said. with_item_at said i x) → (r2 : Records) (root2 : List ℕ) → FitsIn form root1 root2 r1 r2
@@ -64,11 +63,12 @@ module _ (form : NodeForm) (root : List ℕ) (r : Records) (i : ℕ) (behind : H
     )
 
 module _ (order : List ℕ → List ℕ → Ordering) (valid : List ℕ → Bool) (laws : IsOrder order) (form : NodeForm) (r : Records) (root : List ℕ) where
-  pub behind_of : HasSortedIndex order valid (short_nodes form r) (short_node form root) 15 → (i : ℕ) → HasBehind form root (short_nodes form r) i 15
-  behind_of h i = record {
+  pub behind_of : {level : ℕ} → HasSortedIndex order valid (short_nodes form r) (short_node form root) level → (i : ℕ)
+      → HasBehind form root (short_nodes form r) i level
+  behind_of {level} h i = record {
     said = h.node;
     is = h.is;
-    tree = has_behind order valid laws (short_nodes form r) h.node 15 (record { depth = h.depth; small = h.small; s = h.s; index = h.index }) (i + 1);
+    tree = has_behind order valid laws (short_nodes form r) h.node level (record { depth = h.depth; small = h.small; s = h.s; index = h.index }) (i + 1);
   }
 
   pub root_cost : (most before after : ℕ) → after ≤ before + most → EditCosts most order valid (short_nodes form r) (short_node form root) before after

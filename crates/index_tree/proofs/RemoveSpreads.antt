@@ -1,15 +1,10 @@
 -- Laws of removal.
-use Rattle.std.proofs.Common.{◌≡◌, ◌≢◌, ℕ, zero, suc, ◌+◌, ◌-◌, ◌<◌, ◌≤◌, ◌⊎◌, List, [], ◌∷◌, ◌++◌, Option, Some, None, Bool, true, false, length, map, take, drop, insert, remove, get_or, refl, sym, ap, subst, ◌∙◌, arith, inl, inr, append_assoc, IsSome}
-use Rattle.std.proofs.lemmas.List.{length-map}
-use Rattle.std.specs.declared.cmp.Ordering.{Ordering}
-use Rattle.std.specs.declared.cmp.Ordering.TheVariants.{Less, Equal, Greater}
-use Rattle.std.proofs.lemmas.Bool.Decides.{nat_tests}
-use Rattle.index_tree.proofs.EditSpreads.{times_split, times_graft, items_split, items_graft, Each-at, Each-graft, Each-others, Each-change_others, before_items, behind_items, other_times, EachOther, entry, child_below}
-use Rattle.index_tree.proofs.EditTrees.{one_if-same, one_if-other, none_some, times-none, IsStored-frame}
-use Rattle.index_tree.proofs.EditCompose.{AreStored-frame, spread-none, not_fresh, with_node-same, with_node-other, zero_or, graft_moves, graft_stored}
-use Rattle.index_tree.proofs.EditGrow.{below_held, grow_none, grow_kept, rebuilt_some, own_kept, nodes_same, node_more}
-use Rattle.index_tree.proofs.RemoveLaws.{held_node, held_off, below_other, spread_once, own_none, vcn_is, dropped}
-use Rattle.std.proofs.Common.{add-one}
+use Rattle.std.proofs.Common.{◌≡◌, ℕ, zero, suc, ◌+◌, ◌<◌, ◌≤◌, List, [], ◌∷◌, ◌++◌, Option, Some, None, length, map, insert, remove, get_or, refl, sym, ap, subst, ◌∙◌, arith, append_assoc}
+use Rattle.index_tree.proofs.EditSpreads.{times_split, times_graft, items_split, items_graft, Each-graft, Each-others, Each-change_others, before_items, behind_items, other_times, entry}
+use Rattle.index_tree.proofs.EditTrees.{IsStored-frame}
+use Rattle.index_tree.proofs.EditCompose.{not_fresh}
+use Rattle.index_tree.proofs.EditGrow.{rebuilt_some, own_kept, nodes_same, node_more}
+use Rattle.index_tree.proofs.RemoveLaws.{spread_once, dropped}
 use Rattle.ntfs_def.specs.Node.{Entry, Item, Node, child_from}
 use Rattle.ntfs_def.specs.IndexTree.{Nodes, Branch, Spread, Tree, branch_items, branch_times, EachBelow, items_of, times_in, child_of, node_of, IsStored, AreStored, spread_items, spread_times, IsHeld}
 use Rattle.index_node.specs.Edit.{child_of_node, entries_leading, last_leading}

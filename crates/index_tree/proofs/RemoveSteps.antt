@@ -1,28 +1,30 @@
 -- A step of a removal, from a record that was read.
-use Rattle.std.specs.Prelude.{IfOk, IsErrAnd, Result, slice_index_or}
+use Rattle.std.specs.Prelude.{IfOk, IsErrAnd, IsTrue, Result, slice_index_or}
 use Rattle.std.proofs.Common.{Ok, Err}
-use Rattle.std.proofs.Common.{◌≡◌, ◌≢◌, ℕ, zero, suc, ◌+◌, ◌-◌, ◌*◌, ◌<◌, ◌≤◌, List, [], ◌∷◌, drop, remove, Option, Some, None, IsSome, Bool, true, false, inl, inr, length, refl, sym, ap, subst, ◌∙◌, arith}
+use Rattle.std.proofs.Common.{◌≡◌, ℕ, zero, suc, ◌+◌, ◌-◌, ◌*◌, ◌<◌, ◌≤◌, List, [], ◌∷◌, drop, remove, Option, Some, None, IsSome, Bool, true, false, inl, inr, length, refl, sym, ap, subst, ◌∙◌, arith}
 use Rattle.std.proofs.Math.Path.{fun_ext}
 use Rattle.std.proofs.lemmas.Bool.Decides.{eqb_tells}
 use Rattle.std.specs.Option.{option_and_then, option_map}
 use Rattle.std.specs.declared.cmp.Ordering.{Ordering}
-use Rattle.std.specs.declared.cmp.Ordering.TheVariants.{Equal}
 use Rattle.ntfs_def.specs.IndexTree.{Nodes, Tree, IsHeld, node_of}
-use Rattle.ntfs_def.specs.Node.{Entry, Item, Node, Whole, child_from, node_in, scan_node, short_node, whole_of}
+use Rattle.ntfs_def.specs.Node.{Entry, Item, Node, Whole, child_from, has_child, has_children, is_one_entry, item_in, most_len, node_in, scan_node}
+use Rattle.ntfs_def.specs.Node.{short_node, whole_of}
+use Rattle.index_node.proofs.CrowdLaws.{short_entry}
+use Rattle.index_node.proofs.SplitLaws.{own_child}
 use Rattle.ntfs_def.specs.declared.index.NodeForm.{NodeForm}
-use Rattle.index_node.specs.Edit.{EditsShort, HasEntry, child_of_node, entry_in, leading, with_entry_at, without_entry}
+use Rattle.index_node.specs.Edit.{EditsShort, HasEntry, child_of_node, entry_in, without_entry}
 use Rattle.index_node.specs.EditBlocks.{Gives, Records, Writes}
 use Rattle.index_node.specs.View.{Refuses}
 use Rattle.index_node.specs.declared.NodeNo.{NodeNo}
 use Rattle.index_node.specs.declared.NodeNo.TheVariants.{Shape, Full}
-use Rattle.index_tree.specs.Search.{IsPlace, StartsAt}
+use Rattle.index_node.specs.Seek.{IsPlace, StartsAt}
 use Rattle.index_tree.specs.Walk.{HasTree}
-use Rattle.index_tree.specs.Edit.{EditCostsBelow, HasSorted, IsSorted, Placed, PlacesIn, SeeksNode, short_nodes, with_node, without_node}
-use Rattle.index_tree.specs.Remove.{Drops, DropsIn, FirstGoes, GivesBack, HasNode, HasNoneBehind, HeldOff, LeafOnly, RemovesAt, RemovesHere, RemovesBelow, ReplacesIn, TakesLeast, joined, with_item_at}
+use Rattle.index_tree.specs.Edit.{EditCostsBelow, HasSorted, PlacesIn, SeeksNode, short_nodes, without_node}
+use Rattle.index_tree.specs.Remove.{Drops, DropsIn, GivesBack, HasNode, HasNoneBehind, HeldOff, LeafOnly, RemovesAt, RemovesHere, RemovesBelow, ReplacesIn, TakesLeast, joined}
 use Rattle.index_tree.proofs.OrderLaws.{IsOrder}
 use Rattle.list_laws.proofs.OptionLaws.{some_same, none_other}
-use Rattle.index_tree.proofs.EditMemory.{SealedPlace, SealedShort, is_some_of, short_in, wrote}
-use Rattle.index_tree.proofs.EditSteps.{NodeThere, node_there, record_there}
+use Rattle.index_tree.proofs.EditMemory.{SealedPlace, SealedShort, short_in, wrote}
+use Rattle.index_tree.proofs.EditSteps.{NodeThere, record_there}
 use Rattle.index_tree.proofs.RemoveLaws.{gives_back, has_off, held_of_tree, level_held, least_below, least_first, least_same, node_of_held, without_node-same, without_node-other}
 use Rattle.index_tree.proofs.RemoveCalls.{leaf_below, leaf_hit, none_behind, removes_hit, removes_joined, removes_kept, removes_placed, removes_replaced, removes_there, some_behind}
 
@@ -107,6 +109,14 @@ module _ (form : NodeForm) (r : Records) (vcn level : ℕ) (has : HasTree (short
 
     pub child_is : child ≡ child_of_node said i
     child_is = is ∙ ap (λ m. child_of_node m i) view_is
+
+    -- no entry is longer than one in an index may be
+    pub first_short : (entry : List ℕ) → 0 < length n.entries → IsTrue (is_one_entry form (has_children block) entry)
+        → ((d : Entry) → item_in entry ≡ (slice_index_or n.entries 0 d).item) → length entry ≤ most_len (has_child entry 0)
+    first_short entry some one item =
+        subst (λ b. length entry ≤ most_len b) (sym (own_child form (has_children block) entry one))
+        (short_entry form block said tree_short 0 (subst (λ (m : Node). 0 < length m.entries) view_is some) entry one
+        (λ d. item d ∙ ap (λ (m : Node). (slice_index_or m.entries 0 d).item) view_is))
 
     pub off_tree : HeldOff (short_nodes form r) vcn child (level - 1)
     off_tree mem2 off = subst (λ c. HasTree mem2 c (level - 1)) (sym child_is)
@@ -262,6 +272,15 @@ module _ (order : List ℕ → List ℕ → Ordering) (valid : List ℕ → Bool
   pub cost_hit : (most before after : ℕ) → after ≤ before + most → EditCostsBelow most order valid (short_nodes form r) (Some vcn) before after
   cost_hit most before after le zero tree sorted = absurd (none_other sorted.held.at)
   cost_hit most before after le (suc depth) tree sorted = let e : most * suc depth ≡ most + most * depth = grind arith in omega (arith, le, e)
+
+  -- a key that was hit at the node
+  pub reads_hit : (before mid after : ℕ) → mid ≤ before + 1
+      → ((most : ℕ) → HasTree (short_nodes form r) (Some vcn) (most + 1) → after ≤ mid + 2 * most)
+      → EditCostsBelow 2 order valid (short_nodes form r) (Some vcn) before after
+  reads_hit before mid after le h zero tree sorted = absurd (none_other sorted.held.at)
+  reads_hit before mid after le h (suc depth) tree sorted =
+      let k = h depth (record { depth = suc depth; small = omega arith; tree = tree; held = sorted.held }) in
+      omega (arith, k, le)
 
   sought_node : node_in form block ≡ Some sought
   sought_node = tree_node form r vcn level sorted_tree block read

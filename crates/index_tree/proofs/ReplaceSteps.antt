@@ -1,20 +1,19 @@
 -- A step of a replacement, from a record that was read, and from the root.
-use Rattle.std.proofs.Common.{◌≡◌, ℕ, zero, suc, ◌+◌, ◌-◌, ◌*◌, ◌<◌, ◌≤◌, List, [], ◌∷◌, ◌++◌, drop, get_or, Option, Some, None, Bool, true, false, length, refl, sym, ap, subst, ◌∙◌, arith}
+use Rattle.std.proofs.Common.{◌≡◌, ℕ, zero, suc, ◌+◌, ◌<◌, ◌≤◌, List, [], ◌∷◌, ◌++◌, get_or, Option, Some, None, Bool, true, false, length, sym, subst, arith}
 use Rattle.std.specs.Prelude.{IsTrue, slice_index_or}
 use Rattle.std.specs.Cmp.{IsTotalOrder}
-use Rattle.std.specs.Option.{option_and_then}
 use Rattle.std.specs.declared.cmp.Ordering.{Ordering}
 use Rattle.std.specs.declared.cmp.Ordering.TheVariants.{Equal}
 use Rattle.ntfs_def.specs.IndexTree.{Ascends, Each, Nodes, Spread, Tree, child_of, items_of, node_of, spread_items}
-use Rattle.ntfs_def.specs.Node.{Entry, Item, Node, is_one_entry, key_len, node_in, short_node}
+use Rattle.ntfs_def.specs.Node.{Entry, Item, Node, is_one_entry, key_len, short_node}
 use Rattle.ntfs_def.specs.declared.index.NodeForm.{NodeForm}
-use Rattle.index_node.specs.Edit.{HasEntry, child_of_node, item_len, replaced}
+use Rattle.index_node.specs.Edit.{child_of_node, item_len, replaced}
 use Rattle.index_node.specs.EditBlocks.{Records}
 use Rattle.index_node.proofs.LeadLaws.{is_one}
-use Rattle.index_tree.specs.Search.{IsPlace, StartsAt}
-use Rattle.index_tree.specs.Edit.{EditCostsBelow, EditReads, HasSorted, IsSorted, IsSortedIndex, SeeksNode, below_at, short_nodes, with_node}
-use Rattle.index_tree.specs.Replace.{AreAlike, Replaces, ReplacesBelow, StaysSpread, SwapsAt, SwapsIn, entry_with}
-use Rattle.list_laws.proofs.OptionLaws.{some_same, none_other}
+use Rattle.index_node.specs.Seek.{IsPlace}
+use Rattle.index_tree.specs.Edit.{EditCostsBelow, EditReads, HasSorted, SeeksNode, below_at, short_nodes, with_node}
+use Rattle.index_tree.specs.Replace.{AreAlike, Replaces, ReplacesBelow, SwapsAt, SwapsIn, entry_with}
+use Rattle.list_laws.proofs.OptionLaws.{none_other}
 use Rattle.index_tree.proofs.IndexTreeLaws.{Each-branches}
 use Rattle.index_tree.proofs.OrderLaws.{IsOrder, is_order}
 use Rattle.index_tree.proofs.EditMemory.{short_in}

@@ -1,19 +1,19 @@
 -- An item comes in the place of one with an equal key: of a spread and of a tree.
-use Rattle.std.proofs.Common.{◌≡◌, ◌≢◌, ℕ, zero, suc, ◌+◌, ◌<◌, ◌≤◌, List, [], ◌∷◌, ◌++◌, Option, Some, None, Bool, true, false, length, map, take, drop, insert, remove, refl, sym, ap, subst, ◌∙◌, arith, append_assoc}
+use Rattle.std.proofs.Common.{◌≡◌, ℕ, zero, suc, ◌+◌, ◌<◌, List, [], ◌∷◌, ◌++◌, Option, Some, Bool, true, false, length, map, drop, insert, remove, refl, sym, ap, subst, ◌∙◌, arith, append_assoc}
 use Rattle.std.proofs.lemmas.List.{length-map}
 use Rattle.std.specs.Prelude.{IsTrue}
 use Rattle.std.specs.Cmp.{IsTotalOrder}
 use Rattle.std.specs.Ordering.{ordering_reverse}
 use Rattle.std.specs.declared.cmp.Ordering.{Ordering}
-use Rattle.std.specs.declared.cmp.Ordering.TheVariants.{Less, Equal, Greater}
-use Rattle.ntfs_def.specs.Node.{Entry, Item, Node, child_from}
-use Rattle.ntfs_def.specs.IndexTree.{Nodes, Each, Branch, Spread, Tree, branch_items, branch_times, EachBelow, items_of, times_in, child_of, entry_of, node_of, IsStored, AreStored, Ascends, HoldsIndex, spread_items, spread_times}
+use Rattle.std.specs.declared.cmp.Ordering.TheVariants.{Less, Equal}
+use Rattle.ntfs_def.specs.Node.{Item, Node, child_from}
+use Rattle.ntfs_def.specs.IndexTree.{Nodes, Each, Branch, Spread, Tree, branch_items, branch_times, EachBelow, items_of, times_in, child_of, entry_of, node_of, IsStored, Ascends, spread_items, spread_times}
 use Rattle.index_node.specs.Edit.{child_of_node, item_len, replaced}
-use Rattle.index_tree.specs.Search.{IsPlace, StartsAt}
+use Rattle.index_node.specs.Seek.{IsPlace, StartsAt}
 use Rattle.index_tree.specs.Edit.{IsAt, IsSorted, IsSortedIndex, Moves, below_at, graft, with_node}
-use Rattle.index_tree.specs.Replace.{AreAlike, IsSwapped, KeepsNodes, Replaced, ReplacesBelow, StaysSpread, StaysTree, entry_with}
-use Rattle.list_laws.proofs.OptionLaws.{some_same, none_other}
-use Rattle.index_tree.proofs.OrderLaws.{IsOrder, is_order}
+use Rattle.index_tree.specs.Replace.{AreAlike, IsSwapped, Replaced, ReplacesBelow, StaysSpread, StaysTree, entry_with}
+use Rattle.list_laws.proofs.OptionLaws.{none_other}
+use Rattle.index_tree.proofs.OrderLaws.{IsOrder}
 use Rattle.index_tree.proofs.EditSpreads.{before_items, behind_items, child_below, entries_graft-none, entry, items_graft, items_split, last_graft, times_graft, times_split}
 use Rattle.index_tree.proofs.EditOrders.{Each-++, Each-left, Each-right, at_middle, before_low, behind_high}
 use Rattle.index_tree.proofs.EditTrees.{one_if-same}

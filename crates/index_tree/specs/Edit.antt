@@ -2,13 +2,13 @@
 use Rattle.std.specs.Prelude.{◌≡◌, ℕ, zero, suc, ◌+◌, ◌*◌, ◌≤◌, ◌<◌, ◌==◌, Bool, List, [], ◌∷◌, ◌++◌, Option, Some, None, is_some, IsTrue, length, slice_index_or, ◌⊎◌, if◌then◌else◌}
 use Rattle.std.specs.Option.{option_and_then, option_map}
 use Rattle.std.specs.declared.cmp.Ordering.{Ordering}
-use Rattle.std.specs.declared.cmp.Ordering.TheVariants.{Less, Equal, Greater}
+use Rattle.std.specs.declared.cmp.Ordering.TheVariants.{Less, Equal}
 use Rattle.ntfs_def.specs.Node.{Entry, Item, Node, has_children, node_in, short_node}
-use Rattle.ntfs_def.specs.IndexTree.{Each, Nodes, Branch, Spread, Vertex, Tree, branch_items, branch_times, EachBelow, items_of, times_in, child_of, entry_of, node_of, IsStored, AreStored, Ascends, IsHeld, HoldsIndex, spread_items, spread_times}
+use Rattle.ntfs_def.specs.IndexTree.{Each, Nodes, Branch, Spread, Tree, items_of, times_in, child_of, entry_of, AreStored, Ascends, IsHeld, HoldsIndex, spread_items, spread_times}
 use Rattle.ntfs_def.specs.declared.index.NodeForm.{NodeForm}
 use Rattle.index_node.specs.Edit.{HasPlace, child_of_node, entry_in, left_of, right_of, with_entry_at}
 use Rattle.vol_disk.specs.Count.{Rose}
-use Rattle.index_tree.specs.Search.{IsPlace}
+use Rattle.index_node.specs.Seek.{IsPlace}
 use Rattle.index_tree.specs.declared.IndexNo.{IndexNo}
 use Rattle.index_tree.specs.declared.IndexNo.TheVariants.{Device, NoRoom, Memory}
 
@@ -87,6 +87,11 @@ pub record Moves (nodes nodes' : Nodes) (old new : ℕ → ℕ) : Type 0 where
   pub count : (place : ℕ) → new place ≤ old place + fresh_of (nodes place)
   pub others : (place : ℕ) → old place ≡ 0 → new place ≡ 0 → nodes' place ≡ nodes place
 
+-- Each node is as it was, or has a key.
+abbrev pub KeepsKeyed : Nodes → Nodes → Type 0
+KeepsKeyed nodes nodes' =
+    (place : ℕ) (said : Node) → nodes' place ≡ Some said → (nodes place ≡ Some said) ⊎ (0 < length said.entries)
+
 -- THE ANSWER of an insertion: whatever index in order stood under the root, one with the item more stands there now.
 pub record Inserted (order : List ℕ → List ℕ → Ordering) (valid : List ℕ
     → Bool) (nodes nodes' : Nodes) (depth : ℕ) (s : Spread (Tree depth)) (item : Item) (root' : Node) : Type 0 where
@@ -163,6 +168,7 @@ pub record IsSplit (nodes nodes' : Nodes) (vcn : ℕ) (n : Node) (up : Entry) : 
   pub child : up.child ≡ Some new
   pub item : (d : Entry) → up.item ≡ (slice_index_or n.entries at d).item
   pub free : nodes new ≡ None
+  pub keyed : (0 < length (left_of at n).entries) × (0 < length (right_of at n).entries)
   pub now : (place : ℕ) → nodes' place ≡ with_node (with_node nodes new (left_of at n)) vcn (right_of at n) place
 
 -- The record at vcn holds this node; or it was split, and an entry is to go up.

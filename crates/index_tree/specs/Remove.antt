@@ -1,14 +1,14 @@
 -- What a removal does.
-use Rattle.std.specs.Prelude.{◌≡◌, ◌≢◌, insert, ℕ, zero, suc, ◌+◌, ◌≤◌, ◌<◌, List, [], ◌∷◌, ◌++◌, Option, Some, None, length, slice_index_or, remove, Bool, true, false}
+use Rattle.std.specs.Prelude.{◌≡◌, ◌*◌, ◌≢◌, insert, ℕ, zero, suc, ◌+◌, ◌≤◌, ◌<◌, List, [], ◌∷◌, ◌++◌, Option, Some, None, length, slice_index_or, remove, Bool, true, false}
 use Rattle.ntfs_def.specs.declared.index.NodeForm.{NodeForm}
 use Rattle.std.specs.declared.cmp.Ordering.{Ordering}
-use Rattle.std.specs.declared.cmp.Ordering.TheVariants.{Less, Equal, Greater}
+use Rattle.std.specs.declared.cmp.Ordering.TheVariants.{Equal}
 use Rattle.ntfs_def.specs.Node.{Entry, Item, Node, node_in, short_node}
 use Rattle.ntfs_def.specs.IndexTree.{Nodes, Spread, Tree, items_of, times_in, node_of, spread_items, spread_times, IsHeld}
 use Rattle.index_node.specs.Edit.{child_of_node, entries_leading, entry_in, last_leading}
 use Rattle.index_tree.specs.Walk.{HasTree}
 use Rattle.std.specs.Option.{option_map}
-use Rattle.index_tree.specs.Search.{IsPlace}
+use Rattle.index_node.specs.Seek.{IsPlace}
 use Rattle.index_tree.specs.Edit.{below_at, Moves, IsSorted, IsSortedIndex, short_nodes, Becomes, Fits, IsAt, Placed, with_node}
 
 -- a tree without items was given back
@@ -137,6 +137,10 @@ RemovesFrom order valid form root root' key records records' =
     → IsSortedIndex order valid (short_nodes form records) depth s node → (x : Item) → IsAt order key (spread_items depth s) x
     → (node' : Node) × (root' ≡ Some node')
     × Removed order valid (short_nodes form records) (short_nodes form records') depth s key node'
+
+-- A count rises by at most so much a level, whatever number of levels bounds the tree.
+abbrev pub CostsLevel : ℕ → Nodes → Option ℕ → ℕ → ℕ → Type 0
+CostsLevel most mem child before after = (level : ℕ) → HasTree mem child level → after ≤ before + most * level
 
 -- A tree under `gone` is held by whatever records agree outside this one.
 abbrev pub HeldOff : Nodes → ℕ → Option ℕ → ℕ → Type 0

@@ -1,15 +1,11 @@
 -- What a replacement does: an entry comes in the place of the one with an equal key, which is as long.
-use Rattle.std.specs.Prelude.{◌≡◌, ℕ, ◌+◌, ◌*◌, ◌≤◌, suc, zero, Bool, List, ◌∷◌, ◌++◌, Option, Some, slice_index_or, length}
+use Rattle.std.specs.Prelude.{◌≡◌, ℕ, Bool, List, ◌∷◌, ◌++◌, Option, Some, IsSome, slice_index_or, length}
 use Rattle.std.specs.declared.cmp.Ordering.{Ordering}
 use Rattle.std.specs.declared.cmp.Ordering.TheVariants.{Equal}
-use Rattle.ntfs_def.specs.Node.{Entry, Item, Node, short_node}
+use Rattle.ntfs_def.specs.Node.{Entry, Item, Node, node_in, short_node}
 use Rattle.ntfs_def.specs.IndexTree.{Each, Nodes, Spread, Tree, items_of, times_in, child_of, node_of, IsStored, AreStored, spread_items, spread_times}
 use Rattle.ntfs_def.specs.declared.index.NodeForm.{NodeForm}
-use Rattle.index_node.specs.Edit.{IsOpened, child_of_node, item_len, replaced}
-use Rattle.index_node.specs.declared.blocks.BlockNo.{BlockNo}
-use Rattle.index_node.specs.declared.blocks.BlockNo.TheVariants.{Device as BlockDevice, NoRoom as BlockNoRoom, Memory as BlockMemory}
-use Rattle.index_tree.specs.declared.IndexNo.{IndexNo}
-use Rattle.index_tree.specs.declared.IndexNo.TheVariants.{Device, NoRoom, Memory}
+use Rattle.index_node.specs.Edit.{IsOpened, item_len, replaced}
 use Rattle.index_tree.specs.Edit.{IsAt, IsSorted, IsSortedIndex, short_nodes, with_node}
 
 -- This item stands in the place of one with an equal key.
@@ -76,12 +72,6 @@ pub record StaysSpread (order : List ℕ → List ℕ
   pub keeps : KeepsNodes nodes nodes' (λ place. spread_times place depth on) (λ place. spread_times place depth s)
   pub swapped : IsSwapped order item (spread_items depth on) (spread_items depth s)
 
--- why a replacement fails where a record was not written: never for want of room
-abbrev pub write_no_of : BlockNo → IndexNo
-write_no_of BlockDevice = Device
-write_no_of BlockNoRoom = Memory
-write_no_of BlockMemory = Memory
-
 -- In the bytes of a node.
 
 abbrev pub entry_with : Item → Option ℕ → Entry
@@ -92,6 +82,7 @@ pub record SwapsAt (form : NodeForm) (old new : List ℕ) (i : ℕ) (entry : Ent
   pub short : (said : Node) → short_node form old ≡ Some said
       → ((d : Entry) → item_len (slice_index_or said.entries i d).item ≡ item_len entry.item) → short_node form new
       ≡ Some (replaced said i entry)
+  pub node : IsSome (node_in form new)
   pub len : length new ≡ length old
   pub opened : (vcn : ℕ) → IsOpened vcn old → IsOpened vcn new
 

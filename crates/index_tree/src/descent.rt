@@ -5,10 +5,10 @@ ghost use Rattle.vol_disk.specs.Contents.{WhereTold};
 ghost use Rattle.index_tree.specs.Index.{CountsNo, form_of, limit_of, order_of};
 ghost use Rattle.index_tree.specs.Search.{Costs, CostsBelow, Finds, FindsBelow, HasRising, HasRisingIndex, IsKeyed, nodes_of};
 
-use crate::seek::{entry_hit, seek_in};
+use crate::seek::entry_hit;
 use crate::{Index, IndexNo};
 use collation::Collation;
-use index_node::{Blocks, NodeView};
+use index_node::{Blocks, NodeView, seek_in};
 use ntfs_def::NodeForm;
 use std::alloc::Global;
 use vol_bytes::Octets;

@@ -5,17 +5,19 @@ ghost use Rattle.std.specs.Option.{option_map};
 ghost use Rattle.vol_disk.specs.Contents.{WhereTold};
 ghost use Rattle.ntfs_def.specs.IndexTree.{Each};
 ghost use Rattle.ntfs_def.specs.Node.{Entry, Node, has_children, item_in, node_in, short_node};
-ghost use Rattle.index_node.specs.Edit.{HasPlace, IsOpened, IsShortEntry, entry_in};
+ghost use Rattle.index_node.specs.Edit.{HasPlace, IsCrowded, IsOpened, IsShortEntry, entry_in};
 ghost use Rattle.index_node.specs.EditBlocks.{Edits};
-ghost use Rattle.index_tree.specs.Edit.{CountsEditNo, EditCosts, EditCostsBelow, FitsIn, HasSorted, HasSortedIndex, Inserts, InsertsBelow, IsFitRoot, PlacesIn, SeeksNode, short_nodes};
+ghost use Rattle.index_tree.specs.Edit.{CountsEditNo, EditCosts, EditCostsBelow, EditReads, FitsIn, HasSorted, HasSortedIndex, Inserts, InsertsBelow, IsFitRoot, KeepsKeyed, PlacesIn, SeeksNode, short_nodes};
 ghost use Rattle.index_tree.specs.Index.{form_of, limit_of, order_of};
 
 use crate::descent::MOST_DEPTH;
-use crate::parts::{laid_anew, split};
-use crate::seek::{copy, key_of, seek_in};
+use crate::seek::{copy, key_of};
 use crate::{Index, IndexNo};
 use collation::Collation;
-use index_node::{EditBlocks, NodeView, empty_root, insert_at, insert_in_root, sealed_nodes};
+use index_node::{
+    EditBlocks, NodeView, empty_root, insert_at, insert_in_root, root_record, sealed_nodes,
+    seek_in, split_with,
+};
 use ntfs_def::NodeForm;
 use std::alloc::Global;
 use vol_bytes::Octets;
@@ -49,7 +51,8 @@ pub fn seek_block<C: Collation>(block: &[u8], form: NodeForm, order: &C, key: &[
 }
 
 // Splits the node of a record, into which an entry does not fit, and puts the entry into one part. The new record takes
-// the left part.
+// the left part. An entry always goes up: the node is a standard record without room for the entry, and only where the records
+// tell nothing it may have an entry too long for an index, which may leave none in the middle.
 fn split_up<B: EditBlocks>(
     alloc: Global,
     blocks: &mut B,
@@ -58,16 +61,18 @@ fn split_up<B: EditBlocks>(
     block: &mut [u8; 4096],
     i: usize,
     up: &[u8],
-) -> Result<Octets, IndexNo>
+) -> Result<Option<Octets>, IndexNo>
     requires ready { B.ready blocks.old }
     requires there { WhereTold (B.records blocks.old) (λ r. IsSome (r vcn)) }
     requires opened { WhereTold (B.records blocks.old) (λ r. IsOpened vcn block.old) }
     requires place { HasPlace form block.old i }
     requires up { IsShortEntry form (has_children block.old) up.now }
+    requires crowded { (said : Node) → short_node form block.old ≡ Some said → IsCrowded form block.old (length up.now) }
     ensures placed { IfOk result (λ out. Edits (B.records blocks.old) (B.records blocks.new) (λ r r'.
-        PlacesIn form block.old vcn i up.now r r' (Some out))) }
-    ensures out { IfOk result (IsShortEntry form true) }
+        PlacesIn form block.old vcn i up.now r r' out)) }
+    ensures out { IfOk result (λ out. IfSome out (IsShortEntry form true)) }
     ensures ready { OnOk result (B.ready blocks.new) }
+    ensures reads { B.reads blocks.new ≡ B.reads blocks.old }
     ensures taken { B.taken blocks.new ≤ B.taken blocks.old + 1 }
     ensures written { B.written blocks.new ≤ B.written blocks.old + 3 }
     ensures edits { B.edits blocks.old blocks.new }
@@ -77,13 +82,16 @@ fn split_up<B: EditBlocks>(
     sealed_nodes();
     let new = blocks.take()?;
     let mut left = [0; 4096];
-    let out = split(alloc, block, form, new, i, up, &mut left)?;
+    let Some(out) = split_with(alloc, block, form, new, i, up, &mut left)? else {
+        return Ok(None);
+    };
     blocks.write(new, &left)?;
     blocks.write(vcn, block)?;
-    Ok(out)
+    Ok(Some(out))
 }
 
-// Lays a node anew in a standard record, and puts an entry into it, or splits it.
+// Lays a node anew in a standard record, and puts an entry into it, or splits it. Every opened record has room for that; only
+// where the records tell nothing it may be none.
 fn put_anew<B: EditBlocks>(
     alloc: Global,
     blocks: &mut B,
@@ -102,6 +110,7 @@ fn put_anew<B: EditBlocks>(
         PlacesIn form block.old vcn i up.now r r' out)) }
     ensures out { IfOk result (λ out. IfSome out (IsShortEntry form true)) }
     ensures ready { OnOk result (B.ready blocks.new) }
+    ensures reads { B.reads blocks.new ≡ B.reads blocks.old }
     ensures taken { B.taken blocks.new ≤ B.taken blocks.old + 1 }
     ensures written { B.written blocks.new ≤ B.written blocks.old + 3 }
     ensures edits { B.edits blocks.old blocks.new }
@@ -109,13 +118,15 @@ fn put_anew<B: EditBlocks>(
         (CountsEditNo (B.faults blocks.old) (B.faults blocks.new) (B.full blocks.old) (B.full blocks.new)) }
 {
     sealed_nodes();
-    let mut fresh = laid_anew(block, form, vcn)?;
+    let Some(mut fresh) = root_record(block, form, vcn) else {
+        return Ok(None);
+    };
     match insert_at(&mut fresh, form, i, up) {
         Ok(()) => {
             blocks.write(vcn, &fresh)?;
             Ok(None)
         }
-        Err(_) => Ok(Some(split_up(alloc, blocks, form, vcn, &mut fresh, i, up)?)),
+        Err(_) => split_up(alloc, blocks, form, vcn, &mut fresh, i, up),
     }
 }
 
@@ -138,6 +149,7 @@ pub fn put_up<B: EditBlocks>(
         PlacesIn form block.old vcn i up.now r r' out)) }
     ensures out { IfOk result (λ out. IfSome out (IsShortEntry form true)) }
     ensures ready { OnOk result (B.ready blocks.new) }
+    ensures reads { B.reads blocks.new ≡ B.reads blocks.old }
     ensures taken { B.taken blocks.new ≤ B.taken blocks.old + 1 }
     ensures written { B.written blocks.new ≤ B.written blocks.old + 3 }
     ensures edits { B.edits blocks.old blocks.new }
@@ -176,6 +188,10 @@ fn insert_below<B: EditBlocks, C: Collation>(
         (option_map entry_in up))) }
     ensures out { IfOk result (λ up. IfSome up (IsShortEntry form (is_some child))) }
     ensures ready { OnOk result (B.ready blocks.new) }
+    ensures keyed { OnOk result (WhereTold (B.records blocks.old) (λ r. WhereTold (B.records blocks.new) (λ r'.
+        KeepsKeyed (short_nodes form r) (short_nodes form r')))) }
+    ensures reads { WhereTold (B.records blocks.old) (λ r. EditCostsBelow 1 (C.order order.now) (C.valid order.now)
+        (short_nodes form r) child (B.reads blocks.old) (B.reads blocks.new)) }
     ensures taken { WhereTold (B.records blocks.old) (λ r. EditCostsBelow 1 (C.order order.now) (C.valid order.now)
         (short_nodes form r) child (B.taken blocks.old) (B.taken blocks.new)) }
     ensures written { WhereTold (B.records blocks.old) (λ r. EditCostsBelow 3 (C.order order.now) (C.valid order.now)
@@ -218,10 +234,13 @@ pub fn fit_root<B: EditBlocks>(
     limit: usize,
 ) -> Result<(), IndexNo>
     requires ready { B.ready blocks.old }
+    requires node { IsSome (node_in form root.old.items) }
+    requires small { length root.old.items ≤ 2048 }
     ensures fits { OnOk result (Edits (B.records blocks.old) (B.records blocks.new) (λ r r'.
         FitsIn form root.old.items root.new.items r r')) }
     ensures root { OnOk result (IsFitRoot form limit root.new.items) }
     ensures ready { OnOk result (B.ready blocks.new) }
+    ensures reads { B.reads blocks.new ≡ B.reads blocks.old }
     ensures taken { B.taken blocks.new ≤ B.taken blocks.old + 1 }
     ensures written { B.written blocks.new ≤ B.written blocks.old + 3 }
     ensures edits { B.edits blocks.old blocks.new }
@@ -233,7 +252,9 @@ pub fn fit_root<B: EditBlocks>(
     }
     sealed_nodes();
     let vcn = blocks.take()?;
-    let down = laid_anew(root.as_slice(), form, vcn)?;
+    let Some(down) = root_record(root.as_slice(), form, vcn) else {
+        unreachable!();
+    };
     blocks.write(vcn, &down)?;
     empty_root(root, form, vcn)?;
     Ok(())
@@ -266,6 +287,10 @@ impl<C: Collation> Index<C> {
             (short_node (form_of self.now) root.new.items) (item_in entry.now))) }
         ensures root { OnOk result ((root.new.items ≡ root.old.items) ⊎ IsFitRoot (form_of self.now) (limit_of self.now) root.new.items) }
         ensures ready { OnOk result (B.ready blocks.new) }
+        ensures keyed { OnOk result (WhereTold (B.records blocks.old) (λ r. WhereTold (B.records blocks.new) (λ r'.
+            KeepsKeyed (short_nodes (form_of self.now) r) (short_nodes (form_of self.now) r')))) }
+        ensures reads { WhereTold (B.records blocks.old) (λ r. EditReads 1 (C.order (order_of self.now)) (C.valid (order_of self.now))
+            (short_nodes (form_of self.now) r) (short_node (form_of self.now) root.old.items) (B.reads blocks.old) (B.reads blocks.new)) }
         ensures taken { WhereTold (B.records blocks.old) (λ r. EditCosts 1 (C.order (order_of self.now)) (C.valid (order_of self.now))
             (short_nodes (form_of self.now) r) (short_node (form_of self.now) root.old.items) (B.taken blocks.old) (B.taken blocks.new)) }
         ensures written { WhereTold (B.records blocks.old) (λ r. EditCosts 3 (C.order (order_of self.now)) (C.valid (order_of self.now))

@@ -6,7 +6,6 @@ ghost use Rattle.std.specs.Prelude.{◌≡◌};
 mod descent;
 mod insertion;
 mod laws;
-mod parts;
 mod removal;
 mod replacement;
 mod seek;

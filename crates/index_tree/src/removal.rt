@@ -1,22 +1,25 @@
 //! A key goes out of an index. From a leaf it is taken alone; in a node above it the least key behind it comes in its place, and
 //! a tree behind it that has no key is given back. Nodes are not joined.
-ghost use Rattle.std.specs.Prelude.{◌≡◌, ◌+◌, ◌≤◌, ◌⊎◌, ℕ, length, IfErr, IfNone, IfOk, IfSome, IsSome, IsTrue, MatchResult, OnOk, Some, None, is_some, true};
+ghost use Rattle.std.specs.Prelude.{◌≡◌, ◌+◌, ◌*◌, ◌≤◌, ◌⊎◌, ℕ, length, IfErr, IfNone, IfOk, IfSome, IsSome, IsTrue, MatchResult, OnOk, Some, None, is_some, true};
 ghost use Rattle.std.specs.Option.{option_map};
 ghost use Rattle.vol_disk.specs.Contents.{WhereTold};
-ghost use Rattle.ntfs_def.specs.Node.{Node, has_child, has_children, is_one_entry, item_in, node_in, short_node};
+ghost use Rattle.ntfs_def.specs.Node.{Node, has_child, has_children, is_one_entry, item_in, most_len, node_in, short_node};
 ghost use Rattle.index_node.specs.Edit.{Becomes, EditsShort, Turns, child_of_node, leading, without_entry, HasEntry, HasPlace, IsOpened, IsShortEntry, entry_in};
 ghost use Rattle.index_node.specs.EditBlocks.{Edits};
-ghost use Rattle.index_tree.specs.Edit.{CountsEditNo, EditCosts, EditCostsBelow, HasSorted, HasSortedIndex, IsFitRoot, Placed, short_nodes};
+ghost use Rattle.index_node.specs.Sealed.{HasArrayApart};
+ghost use Rattle.index_tree.specs.Edit.{CountsEditNo, EditCosts, EditCostsBelow, EditReads, HasSorted, HasSortedIndex, IsFitRoot, Placed, short_nodes};
 ghost use Rattle.index_tree.specs.Index.{form_of, limit_of, order_of};
-ghost use Rattle.index_tree.specs.Remove.{DropsIn, GivesBack, HasBehind, HasNoneBehind, HeldOff, LeafOnly, LeafOnlyFrom, RootRemoves, with_item_at, RemovesAt, RemovesBelow, RemovesFrom, ReplacesIn, TakesLeast};
+ghost use Rattle.index_tree.specs.Remove.{CostsLevel, DropsIn, GivesBack, HasBehind, HasNoneBehind, HeldOff, LeafOnly, LeafOnlyFrom, RootRemoves, with_item_at, RemovesAt, RemovesBelow, RemovesFrom, ReplacesIn, TakesLeast};
 ghost use Rattle.index_tree.specs.Walk.{HasTree};
 
 use crate::descent::MOST_DEPTH;
 use crate::insertion::{fit_root, put_up, seek_block};
 use crate::seek::copy;
-use crate::{Index, IndexNo, parts};
+use crate::{Index, IndexNo};
 use collation::Collation;
-use index_node::{EditBlocks, NodeView, insert_in_root, join_at, remove_at, sealed_nodes};
+use index_node::{
+    EditBlocks, NodeView, insert_in_root, join_at, remove_at, sealed_nodes, with_child,
+};
 use ntfs_def::NodeForm;
 use std::alloc::Global;
 use vol_bytes::Octets;
@@ -33,6 +36,8 @@ fn give_back<B: EditBlocks>(
     ensures done { OnOk result (Edits (B.records blocks.old) (B.records blocks.new) (λ r r'.
         GivesBack (short_nodes form r) (short_nodes form r') child)) }
     ensures ready { OnOk result (B.ready blocks.new) }
+    ensures reads { WhereTold (B.records blocks.old) (λ r.
+        CostsLevel 1 (short_nodes form r) child (B.reads blocks.old) (B.reads blocks.new)) }
     ensures taken { B.taken blocks.new ≡ B.taken blocks.old }
     ensures full { B.full blocks.new ≡ B.full blocks.old }
     ensures written { B.written blocks.new ≡ B.written blocks.old }
@@ -68,9 +73,12 @@ fn write_without<B: EditBlocks>(
     requires ready { B.ready blocks.old }
     requires there { WhereTold (B.records blocks.old) (λ r. IsSome (r vcn)) }
     requires opened { WhereTold (B.records blocks.old) (λ r. IsOpened vcn block.now) }
+    requires apart { HasArrayApart block.now }
     requires tree { WhereTold (B.records blocks.old) (λ r. HeldOff (short_nodes form r) vcn gone level) }
     ensures done { OnOk result (Edits (B.records blocks.old) (B.records blocks.new) (DropsIn form block.now vcn gone)) }
     ensures ready { OnOk result (B.ready blocks.new) }
+    ensures reads { WhereTold (B.records blocks.old) (λ r. (most : ℕ) → HeldOff (short_nodes form r) vcn gone most
+        → B.reads blocks.new ≤ B.reads blocks.old + most) }
     ensures taken { B.taken blocks.new ≡ B.taken blocks.old }
     ensures full { B.full blocks.new ≡ B.full blocks.old }
     ensures written { B.written blocks.new ≤ B.written blocks.old + 1 }
@@ -96,9 +104,15 @@ fn take_least<B: EditBlocks>(
     ensures done { IfOk result (λ found. Edits (B.records blocks.old) (B.records blocks.new) (λ r r'.
         TakesLeast (short_nodes form r) (short_nodes form r') child (option_map item_in found))) }
     ensures one { IfOk result (λ found. IfSome found (λ entry. IsTrue (is_one_entry form (has_child entry 0) entry))) }
+    ensures short { IfOk result (λ found. WhereTold (B.records blocks.old) (λ r. IfSome found (λ entry.
+        length entry ≤ most_len (has_child entry 0)))) }
     ensures nothing { IfOk result (λ found. IfNone found (B.written blocks.new ≡ B.written blocks.old)) }
     ensures no_child { IfOk result (λ found. child ≡ None → found ≡ None) }
     ensures ready { OnOk result (B.ready blocks.new) }
+    ensures reads { WhereTold (B.records blocks.old) (λ r.
+        CostsLevel 2 (short_nodes form r) child (B.reads blocks.old) (B.reads blocks.new)) }
+    ensures reads_none { IfOk result (λ found. IfNone found (WhereTold (B.records blocks.old) (λ r.
+        CostsLevel 1 (short_nodes form r) child (B.reads blocks.old) (B.reads blocks.new)))) }
     ensures taken { B.taken blocks.new ≡ B.taken blocks.old }
     ensures full { B.full blocks.new ≡ B.full blocks.old }
     ensures written { B.written blocks.new ≤ B.written blocks.old + 1 }
@@ -130,7 +144,8 @@ fn take_least<B: EditBlocks>(
     Ok(Some(found))
 }
 
-// Puts this entry in the place of entry i, with the child of that.
+// Puts this entry in the place of entry i, with the child of that. It is no longer than one in an index may be; only where the
+// records tell nothing it may be, and stays away.
 fn put_least<B: EditBlocks>(
     alloc: Global,
     blocks: &mut B,
@@ -146,10 +161,12 @@ fn put_least<B: EditBlocks>(
     requires entry { HasEntry form block.old i }
     requires children { has_children block.old ≡ true }
     requires one { IsTrue (is_one_entry form (has_child entry.now 0) entry.now) }
+    requires short { WhereTold (B.records blocks.old) (λ r. length entry.now ≤ most_len (has_child entry.now 0)) }
     ensures placed { IfOk result (λ up. Edits (B.records blocks.old) (B.records blocks.new) (λ r r'.
         ReplacesIn form block.old vcn i (item_in entry.now) r r' up)) }
     ensures out { IfOk result (λ up. IfSome up (IsShortEntry form true)) }
     ensures ready { OnOk result (B.ready blocks.new) }
+    ensures reads { B.reads blocks.new ≡ B.reads blocks.old }
     ensures taken { B.taken blocks.new ≤ B.taken blocks.old + 1 }
     ensures written { B.written blocks.new ≤ B.written blocks.old + 3 }
     ensures edits { B.edits blocks.old blocks.new }
@@ -162,7 +179,9 @@ fn put_least<B: EditBlocks>(
     let Some(below) = view.child(i) else {
         unreachable!();
     };
-    let up = parts::leading(alloc, form, entry, below)?;
+    let Some(up) = with_child(alloc, form, entry, below)? else {
+        return Ok(None);
+    };
     remove_at(block, form, i);
     put_up(alloc, blocks, form, vcn, block, i, up.as_slice())
 }
@@ -185,6 +204,8 @@ fn remove_here<B: EditBlocks>(
         RemovesAt (short_nodes form r) (short_nodes form r') vcn (short_node form block.old) i (option_map entry_in up))) }
     ensures out { IfOk result (λ up. IfSome up (IsShortEntry form true)) }
     ensures ready { OnOk result (B.ready blocks.new) }
+    ensures reads { WhereTold (B.records blocks.old) (λ r. (most : ℕ) → HasTree (short_nodes form r) (Some vcn) (most + 1)
+        → B.reads blocks.new ≤ B.reads blocks.old + 2 * most) }
     ensures taken { B.taken blocks.new ≤ B.taken blocks.old + 1 }
     ensures written { B.written blocks.new ≤ B.written blocks.old + 4 }
     ensures leaf { HasNoneBehind form block.old i → (B.taken blocks.new ≡ B.taken blocks.old)
@@ -228,6 +249,8 @@ fn remove_below<B: EditBlocks, C: Collation>(
         (option_map entry_in up))) }
     ensures out { IfOk result (λ up. IfSome up (IsShortEntry form (is_some child))) }
     ensures ready { OnOk result (B.ready blocks.new) }
+    ensures reads { WhereTold (B.records blocks.old) (λ r. EditCostsBelow 2 (C.order order.now) (C.valid order.now)
+        (short_nodes form r) child (B.reads blocks.old) (B.reads blocks.new)) }
     ensures taken { WhereTold (B.records blocks.old) (λ r. EditCostsBelow 1 (C.order order.now) (C.valid order.now)
         (short_nodes form r) child (B.taken blocks.old) (B.taken blocks.new)) }
     ensures written { WhereTold (B.records blocks.old) (λ r. EditCostsBelow 4 (C.order order.now) (C.valid order.now)
@@ -275,7 +298,8 @@ fn join_in_root(root: &mut Vec<u8>, form: NodeForm, i: usize)
     join_at(root.as_mut_slice(), form, i);
 }
 
-// Puts this entry in the place of entry i of a root, with the child of that.
+// Puts this entry in the place of entry i of a root, with the child of that. One that is longer than an entry in an index may be
+// stays away.
 fn replace_in_root(
     alloc: Global,
     root: &mut Vec<u8>,
@@ -287,7 +311,10 @@ fn replace_in_root(
     requires children { has_children root.old.items ≡ true }
     requires small { length root.old.items ≤ 1056 }
     requires one { IsTrue (is_one_entry form (has_child entry.now 0) entry.now) }
-    ensures done { OnOk result (EditsShort form root.old.items root.new.items (λ said. with_item_at said i (item_in entry.now))) }
+    ensures done { OnOk result (length entry.now ≤ most_len (has_child entry.now 0)
+        → EditsShort form root.old.items root.new.items (λ said. with_item_at said i (item_in entry.now))) }
+    ensures node { OnOk result (IsSome (node_in form root.new.items)) }
+    ensures small { OnOk result (length root.new.items ≤ 2048) }
     ensures memory { IfErr result (λ no. no ≡ IndexNo.Memory) }
 {
     let Ok(view) = NodeView::new(root.as_slice(), form) else {
@@ -296,7 +323,9 @@ fn replace_in_root(
     let Some(below) = view.child(i) else {
         unreachable!();
     };
-    let up = parts::leading(alloc, form, entry, below)?;
+    let Some(up) = with_child(alloc, form, entry, below)? else {
+        return Ok(());
+    };
     take_in_root(root, form, i);
     insert_in_root(root, form, i, up.as_slice())?;
     Ok(())
@@ -317,6 +346,8 @@ fn remove_in_root<B: EditBlocks>(
     requires behind { WhereTold (B.records blocks.old) (λ r. HasBehind form root.old.items (short_nodes form r) i 15) }
     ensures done { OnOk result (Edits (B.records blocks.old) (B.records blocks.new) (RootRemoves form root.old.items root.new.items i)) }
     ensures ready { OnOk result (B.ready blocks.new) }
+    ensures reads { WhereTold (B.records blocks.old) (λ r. (most : ℕ) → HasBehind form root.old.items (short_nodes form r) i most
+        → B.reads blocks.new ≤ B.reads blocks.old + 2 * most) }
     ensures taken { B.taken blocks.new ≤ B.taken blocks.old + 1 }
     ensures written { B.written blocks.new ≤ B.written blocks.old + 4 }
     ensures root { OnOk result ((length root.new.items ≤ length root.old.items) ⊎ IsFitRoot form limit root.new.items) }
@@ -369,6 +400,8 @@ impl<C: Collation> Index<C> {
             (C.valid (order_of self.now)) (form_of self.now) (short_node (form_of self.now) root.old.items)
             (short_node (form_of self.now) root.new.items) key.now)) }
         ensures ready { OnOk result (B.ready blocks.new) }
+        ensures reads { WhereTold (B.records blocks.old) (λ r. EditReads 2 (C.order (order_of self.now)) (C.valid (order_of self.now))
+            (short_nodes (form_of self.now) r) (short_node (form_of self.now) root.old.items) (B.reads blocks.old) (B.reads blocks.new)) }
         ensures taken { WhereTold (B.records blocks.old) (λ r. EditCosts 1 (C.order (order_of self.now)) (C.valid (order_of self.now))
             (short_nodes (form_of self.now) r) (short_node (form_of self.now) root.old.items) (B.taken blocks.old) (B.taken blocks.new)) }
         ensures written { WhereTold (B.records blocks.old) (λ r. EditCosts 4 (C.order (order_of self.now)) (C.valid (order_of self.now))

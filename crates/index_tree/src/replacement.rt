@@ -6,14 +6,14 @@ ghost use Rattle.index_node.specs.Edit.{HasEntry, IsOpened, IsShortEntry, LeadsB
 ghost use Rattle.index_node.specs.EditBlocks.{Edits};
 ghost use Rattle.index_tree.specs.Edit.{EditCostsBelow, EditReads, HasSorted, HasSortedIndex, short_nodes};
 ghost use Rattle.index_tree.specs.Index.{CountsNo, form_of, order_of};
-ghost use Rattle.index_tree.specs.Replace.{Replaces, ReplacesBelow, SwapsAt, SwapsIn, entry_with, write_no_of};
+ghost use Rattle.index_tree.specs.Replace.{Replaces, ReplacesBelow, SwapsAt, SwapsIn, entry_with};
 
 use crate::descent::MOST_DEPTH;
 use crate::insertion::seek_block;
 use crate::seek::key_of;
 use crate::{Index, IndexNo};
 use collation::Collation;
-use index_node::{BlockNo, NodeView, WriteBlocks, lead_to, replace_at, sealed_nodes};
+use index_node::{NodeView, WriteBlocks, lead_to, replace_at, sealed_nodes};
 use ntfs_def::NodeForm;
 
 // Puts an entry in place of entry i where that is as long; leaves the node where it is not.
@@ -59,16 +59,6 @@ fn swap_item(node: &mut [u8], form: NodeForm, i: usize, entry: &[u8], child: Opt
     }
 }
 
-// Why a record was not written: never for want of room.
-fn write_no(no: BlockNo) -> IndexNo
-    ensures { result ≡ write_no_of no }
-{
-    match no {
-        BlockNo::Device => IndexNo::Device,
-        BlockNo::NoRoom | BlockNo::Memory => IndexNo::Memory,
-    }
-}
-
 // Puts an item in place of that of entry i of the node of a record.
 fn replace_here<B: WriteBlocks>(
     blocks: &mut B,
@@ -98,10 +88,8 @@ fn replace_here<B: WriteBlocks>(
 {
     sealed_nodes();
     swap_item(block, form, i, entry, child);
-    match blocks.write(vcn, block) {
-        Ok(()) => Ok(()),
-        Err(no) => Err(write_no(no)),
-    }
+    blocks.write(vcn, block)?;
+    Ok(())
 }
 
 // Puts an item in place of the one with an equal key in the tree under `child`, which has at most `level` levels.

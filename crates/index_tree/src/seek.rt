@@ -1,45 +1,17 @@
-//! A key is sought in a node.
+//! The key of an entry, and the entry that a search ends at.
 ghost use Rattle.std.specs.Prelude.{◌≡◌, ◌+◌, ◌<◌, ◌≤◌, IsTrue, None, length, IfErr, IfOk, IfSome, true};
 ghost use Rattle.std.specs.Option.{option_map};
 ghost use Rattle.ntfs_def.specs.Node.{item_in, key_len};
 ghost use Rattle.index_node.specs.View.{form_of_view, node_of_view, number_of, view_of};
-ghost use Rattle.index_tree.specs.Search.{HitsKey, IsKeyed, Picks, Seeks};
+ghost use Rattle.index_node.specs.Seek.{HitsKey, Seeks};
+ghost use Rattle.index_tree.specs.Search.{IsKeyed, Picks};
 
 use crate::IndexNo;
 use collation::Collation;
-use index_node::{NodeView, Place};
+use index_node::Place;
 use ntfs_def::index_record;
 use std::alloc::{AllocError, Global};
-use std::cmp::Ordering;
 use vol_bytes::{Octets, u16_at};
-
-/// The place of the first entry whose key is not below this one, and whether it is equal; `None` where a key before it is
-/// not valid. The node is gone over once.
-pub fn seek_in<'r, C: Collation>(
-    node: &NodeView<'r>,
-    order: &C,
-    key: &[u8],
-) -> Option<(Place<'r>, bool)>
-    requires key { IsTrue (C.valid order.now key.now) }
-    ensures place { Seeks (λ x. C.order order.now x key.now) (C.valid order.now) (node_of_view node.now).entries
-        (option_map (λ at. (number_of at.0, at.1)) result) }
-    ensures view { IfSome result (λ at. view_of at.0 ≡ node.now) }
-    ensures key { IfSome result (λ at. HitsKey (C.valid order.now) (node_of_view node.now).entries (number_of at.0) at.1) }
-{
-    let mut place = node.first_place();
-    'places: while place.has_key() {
-        let entry = place.key();
-        if !order.is_valid(entry) {
-            return None;
-        }
-        match order.compare(entry, key) {
-            Ordering::Less => place.advance(),
-            Ordering::Equal => return Some((place, true)),
-            Ordering::Greater => return Some((place, false)),
-        }
-    }
-    Some((place, false))
-}
 
 /// The key of an entry by itself.
 pub fn key_of(entry: &[u8]) -> &[u8]

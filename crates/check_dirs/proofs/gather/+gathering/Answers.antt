@@ -3,7 +3,8 @@ use Rattle.ntfs_def.specs.IndexTree.{Each}
 use Rattle.ntfs_def.specs.Node.{IsOwnEntry, Node, child_from, item_in}
 use Rattle.index_node.specs.View.{bytes_of, form_of_view, node_of_view, number_of, view_of}
 use Rattle.index_tree.proofs.OwnEntries.{one_own}
-use Rattle.index_tree.proofs.PlaceLaws.{child_in, item_in_node, less_in, more_in}
+use Rattle.index_node.proofs.SeekLaws.{less_in, more_in}
+use Rattle.index_tree.proofs.PlaceLaws.{child_in, item_in_node}
 use Rattle.std.specs.Prelude.{IsSome}
 use Rattle.check_dirs.specs.Gathered.{AreFew, TellsNode, TellsTree}
 use Rattle.check_dirs.specs.Records.{short_nodes}

@@ -1,6 +1,6 @@
 use Rattle.std.proofs.Common.{length, arith, ◌-◌, refl, ap}
 use Rattle.index_node.proofs.LenLaws.{inserted_len}
-use Rattle.index_node.proofs.SpliceLaws.{kept_opened, inserted_ok, inserted_short, inserted_keeps, inserted_children}
+use Rattle.index_node.proofs.SpliceLaws.{kept_opened, inserted_ok, inserted_short, inserted_keeps, inserted_children, inserted_pieces}
 use Rattle.index_node.proofs.SpanLaws.{has_room, lacks_room, no_room, can_insert, room_ends}
 use Rattle.index_node.proofs.edit.insert_at.Goals as goal
 
@@ -42,6 +42,15 @@ returns-clause-ok c =
       children = inserted_children c.args.form old c.args.i s.at s.behind s.end h c.splice.new.node c.args.entry.now c.splice.ensures
           can.fits c.requires.one;
     }
+
+pub returns-clause-pieces : goal.returns-clause-pieces
+returns-clause-pieces c =
+    let s = c.span_of-span.result in
+    let h = c.span_of-span.ensures in
+    let old = c.args.node.now in
+    let can = can_insert c.args.form old c.args.i s.at s.behind s.end h (length c.args.entry.now)
+    (omega (arith, c.if-entry-free.false, c.room_end.ensures.place)) in
+    inserted_pieces c.args.form old c.args.i s.at s.behind s.end h c.splice.new.node c.args.entry.now c.splice.ensures can.fits c.requires.one
 
 pub returns-then-entry-free-clause-fits : goal.returns-then-entry-free-clause-fits
 returns-then-entry-free-clause-fits c =

@@ -1,5 +1,5 @@
 use Rattle.std.proofs.Common.{arith}
-use Rattle.index_node.proofs.ReplaceLaws.{can_replace, replaced_children, replaced_keeps, replaced_node, replaced_short}
+use Rattle.index_node.proofs.ReplaceLaws.{can_replace, replaced_children, replaced_keeps, replaced_node, replaced_pieces, replaced_short}
 use Rattle.index_node.proofs.SpliceLaws.{kept_opened}
 use Rattle.index_node.proofs.edit.replace_at.Goals as goal
 
@@ -12,8 +12,15 @@ splice-requires c =
     can_replace c.args.form c.args.node.now c.args.i s.at s.behind s.end c.span_of-span.ensures c.args.entry.now c.requires.one
     c.requires.entry c.requires.alike
 
-pub returns : goal.returns
-returns c =
+pub returns-clause-pieces : goal.returns-clause-pieces
+returns-clause-pieces c =
+    let s = c.span_of-span.result in
+    let r = c.requires in
+    replaced_pieces c.args.form c.args.node.now c.args.i s.at s.behind s.end c.span_of-span.ensures c.args.entry.now r.one r.entry r.alike
+    c.splice.new.node c.splice.ensures
+
+pub returns-clause-ok : goal.returns-clause-ok
+returns-clause-ok c =
     let s = c.span_of-span.result in
     let h = c.span_of-span.ensures in
     let r = c.requires in

@@ -5,6 +5,8 @@ use Rattle.index_node.specs.View.{bytes_of, form_of_view, node_of_view}
 use Rattle.index_node.specs.Edit.{IsHalf, IsOpened, IsParted, child_of_node, entry_in, right_of, with_entry_at, LeadsTo, LacksRoomFor}
 use Rattle.index_node.proofs.CrowdLaws.{half_by, left_many, most_most, no_middle, node_most, record_most, right_many, short_entry}
 use Rattle.index_node.proofs.LenLaws.{keeps_room, lacks_more}
+use Rattle.index_node.proofs.SealedLaws.{node_array}
+use Rattle.index_node.specs.Sealed.{HasArrayApart}
 use Rattle.index_node.proofs.SpanLaws.{child_some}
 use Rattle.index_node.proofs.SplitLaws.{before_len, behind_len, inner_of, own_child, parted_high, parted_low, place_of, short_in}
 use Rattle.index_node.proofs.parts.split_with.Goals as goal
@@ -111,12 +113,16 @@ returns-in-Ok-put-clause-split c =
     λ said is. part.left_short said is ∙ ap (λ x. Some (let n : Node = record { entries = take m said.entries; last = x } in n)) (below
     said is) in
     let fits : length c.args.entry.now ≤ 640 = (let a = c.requires.entry.short in let b = most_most (has_children old) in omega arith) in
+    let right_len : length c.part_at.new.node ≡ 4096 = (let l = part.right.header.len in omega (arith, l, c.told-node)) in
     elim c.if-i-m.branch [
       | then-i-m w ↦
           (let ins = ok_of w.insert_at-put.ensures.ok (sym w.put-is ∙ c.in-Ok-put.is) in
           record {
             opened_left = subst (IsOpened c.args.vcn) (sym w.left-is) (ins.opened c.args.vcn part.left_opened);
             opened = λ own h. subst (IsOpened own) (sym w.node-is) (part.right.opened own h);
+            apart_left = subst HasArrayApart (sym w.left-is) (node_array form w.insert_at-put.new.node _
+                (ins.opened c.args.vcn part.left_opened).len (ins.node _ (part.left mid.entry.said mid.entry.is)));
+            apart = subst HasArrayApart (sym w.node-is) (node_array form c.part_at.new.node _ right_len (part.right.node _ mid.entry.is));
             up = leads.short;
             parts = λ said is.
                 subst (λ l. IsParted form (with_entry_at said c.args.i (entry_in c.args.entry.now)) c.if-i-m.node l c.args.vcn
@@ -147,6 +153,10 @@ returns-in-Ok-put-clause-split c =
           record {
             opened_left = subst (IsOpened c.args.vcn) (sym w.left-is) part.left_opened;
             opened = λ own h. subst (IsOpened own) (sym w.node-is) (ins.opened own (part.right.opened own h));
+            apart_left = subst HasArrayApart (sym w.left-is) (node_array form c.part_at.new.left _ part.left_opened.len
+                (part.left mid.entry.said mid.entry.is));
+            apart = subst HasArrayApart (sym w.node-is) (node_array form w.insert_at-put-else-i-m.new.node _
+                (ins.header.len ∙ right_len) (ins.node _ (part.right.node _ mid.entry.is)));
             up = leads.short;
             parts = λ said is.
                 subst (λ l. IsParted form (with_entry_at said c.args.i (entry_in c.args.entry.now)) c.if-i-m.node l c.args.vcn

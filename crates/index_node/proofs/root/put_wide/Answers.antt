@@ -85,5 +85,18 @@ returns-clause-ok c old l said is =
     l.fin l.span wide)) l.fits)
     said (wide_short c.args.form old c.widen.new.root c.args.i l.at l.behind l.fin l.span wide said is)
 
+pub returns-clause-node : goal.returns-clause-node
+returns-clause-node c old l said is =
+    let e = c.widen.ensures in
+    let short = c.requires.short in
+    let wide : IsWidened old c.widen.new.root = record {
+      long = let a = l.long in omega (arith, e.len);
+      short = omega (arith, e.len);
+      room = e.room;
+      low = λ k lt. let a = l.enough in e.rest.below k lt ∙ l.same k (omega arith);
+      high = λ k from to. e.rest.above k from ∙ l.same k to;
+    } in
+    c.in-Ok.ensures.ok.node said (wide_node c.args.form old c.widen.new.root c.args.i l.at l.behind l.fin l.span wide said is)
+
 pub returns-clause-len : goal.returns-clause-len
 returns-clause-len c = c.in-Ok.ensures.ok.header.len ∙ c.widen.ensures.len

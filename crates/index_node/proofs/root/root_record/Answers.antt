@@ -6,6 +6,7 @@ use Rattle.std.proofs.Math.Seq.{take-length}
 use Rattle.std.specs.Prelude.{is_some}
 use Rattle.ntfs_def.specs.Node.{Entry, Node, child_from, has_children, node_in, whole_of, child_len, first_entry}
 use Rattle.index_node.specs.View.{node_of_view}
+use Rattle.index_node.proofs.SealedLaws.{node_array}
 use Rattle.index_node.proofs.SpanLaws.{child_some}
 use Rattle.index_node.proofs.SplitLaws.{short_in}
 use Rattle.index_node.proofs.root.root_record.Goals as goal
@@ -66,6 +67,9 @@ returns-in-Ok-put_front-clause-holds c =
     same) in
     record {
       opened = pf.opened c.args.vcn new.ensures.opened;
+      apart =
+          node_array form c.put_front.new.into _ (pf.opened c.args.vcn new.ensures.opened).len
+          (pf.node _ here (short_in form new.result _ (new.ensures.node form)) (ap whole_of c.in-Ok.ensures.ok));
       node = λ said is. pf.node _ said (short_in form new.result _ (new.ensures.node form)) is ∙ ap (λ x. Some x) (whole said is);
       short = λ said is. pf.short _ said (new.ensures.node form) is ∙ ap (λ x. Some x) (whole said (short_in form c.args.root.now said is));
       children =

@@ -1,5 +1,5 @@
 use Rattle.std.proofs.Common.{◌≡◌, ◌+◌, ◌-◌, arith}
-use Rattle.index_node.proofs.ChildLaws.{lead_children, lead_keeps, lead_node, lead_short, new_end}
+use Rattle.index_node.proofs.ChildLaws.{lead_children, lead_keeps, lead_node, lead_pieces, lead_short, new_end}
 use Rattle.index_node.proofs.SpanLaws.{behind_far, behind_within}
 use Rattle.index_node.proofs.SpliceLaws.{kept_opened}
 use Rattle.index_node.proofs.split.lead_at.Goals as goal
@@ -16,6 +16,15 @@ put_u64-requires c =
     let a = behind_within c.args.form c.args.node.now c.args.i s.at s.behind s.end c.span_of-span.ensures in
     let b = behind_far c.args.form c.args.node.now c.args.i s.at s.behind s.end c.span_of-span.ensures in
     omega arith
+
+pub returns-clause-pieces : goal.returns-clause-pieces
+returns-clause-pieces c =
+    let s = c.span_of-span.result in
+    let h = c.span_of-span.ensures in
+    let old = c.args.node.now in
+    let place : s.behind - 8 + 8 ≡ s.behind = (let b = behind_far c.args.form old c.args.i s.at s.behind s.end h in omega arith) in
+    lead_pieces c.args.form old c.put_u64.new.bytes c.args.i s.at s.behind s.end h c.requires.children (s.behind - 8) c.args.vcn place
+    c.put_u64.ensures.rest c.put_u64.ensures.value
 
 pub returns-clause-led : goal.returns-clause-led
 returns-clause-led c =

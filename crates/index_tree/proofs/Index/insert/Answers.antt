@@ -1,13 +1,15 @@
-use Rattle.std.proofs.Common.{◌≡◌, ◌+◌, ◌≤◌, ℕ, List, Option, Some, None, false, Result, Ok, Err, OnOk, refl, sym, ap, subst, ◌∙◌, arith}
+use Rattle.std.proofs.Common.{Some, None, false, Result, Ok, Err, OnOk, sym, ap, subst, ◌∙◌, arith}
 use Rattle.std.specs.Prelude.{IsTrue}
 use Rattle.std.specs.Option.{option_map}
 use Rattle.ntfs_def.specs.Node.{item_in, node_in}
 use Rattle.index_node.specs.Edit.{entry_in, with_entry_at}
-use Rattle.index_tree.specs.Edit.{EditCostsBelow, HasSorted, InsertsBelow, SeeksNode, short_nodes}
+use Rattle.index_tree.specs.Edit.{EditCostsBelow, InsertsBelow, KeepsKeyed, SeeksNode, short_nodes}
 use Rattle.index_tree.proofs.OrderLaws.{is_order}
-use Rattle.index_tree.proofs.EditMemory.{edits_after}
-use Rattle.index_tree.proofs.EditRootSteps.{root_never, root_below, root_costs, root_done, fits_same}
+use Rattle.index_tree.proofs.EditMemory.{edits_after, short_in}
+use Rattle.index_tree.proofs.EditRootSteps.{root_never, root_below, root_costs, root_done, root_reads, fits_same}
 use Rattle.index_tree.proofs.ReplaceSteps.{key_fits}
+use Rattle.list_laws.proofs.OptionLaws.{some_same}
+use Rattle.index_tree.proofs.KeyedLaws.{fits_keyed, keyed_same, keyed_trans, some_put}
 use Rattle.index_tree.proofs.Index.insert.Goals as goal
 
 OnOk-map : {T E P Q : Type 0} (r : Result T E) → (P → Q) → OnOk r P → OnOk r Q
@@ -187,3 +189,76 @@ returns-in_ok-insert_in_root-in-Some-below-clause-written g c = λ r told.
 
 pub key_of-key-requires : goal.key_of-key-requires
 key_of-key-requires g c = key_fits c.args.self.now.form false c.args.entry.now c.requires.entry.one
+
+pub returns-in_err-below-clause-reads : goal.returns-in_err-below-clause-reads
+returns-in_err-below-clause-reads g c = λ r told.
+    let order = g.C.Collation.order c.args.self.now.order in
+    let valid = g.C.Collation.valid c.args.self.now.order in
+    let laws = is_order order (g.met.C.Collation.is_order c.args.self.now.order) in
+    let form = c.args.self.now.form in
+    let root = c.args.root.now.items in
+    let spot = c.in-Some.spot in
+    let seeks = subst (λ bytes. SeeksNode order form bytes c.key_of-key.result.now spot.i spot.hit spot.child) c.as_slice.ensures.value c.in-Some.ensures.some in
+    root_reads order valid laws form r root c.key_of-key.result.now spot.i spot.hit spot.child seeks 1 _ _ (c.insert_below.ensures.reads r told)
+
+pub returns-in_err-insert_in_root-in-Some-below-clause-reads : goal.returns-in_err-insert_in_root-in-Some-below-clause-reads
+returns-in_err-insert_in_root-in-Some-below-clause-reads g c = λ r told.
+    let order = g.C.Collation.order c.args.self.now.order in
+    let valid = g.C.Collation.valid c.args.self.now.order in
+    let laws = is_order order (g.met.C.Collation.is_order c.args.self.now.order) in
+    let form = c.args.self.now.form in
+    let root = c.args.root.now.items in
+    let spot = c.in-Some.spot in
+    let seeks = subst (λ bytes. SeeksNode order form bytes c.key_of-key.result.now spot.i spot.hit spot.child) c.as_slice.ensures.value c.in-Some.ensures.some in
+    root_reads order valid laws form r root c.key_of-key.result.now spot.i spot.hit spot.child seeks 1 _ _ (c.insert_below.ensures.reads r told)
+
+pub returns-in-None-clause-reads : goal.returns-in-None-clause-reads
+returns-in-None-clause-reads g c = λ r told.
+    let order = g.C.Collation.order c.args.self.now.order in
+    let valid = g.C.Collation.valid c.args.self.now.order in
+    let laws = is_order order (g.met.C.Collation.is_order c.args.self.now.order) in
+    let form = c.args.self.now.form in
+    let root = c.args.root.now.items in
+    let spot = c.in-Some.spot in
+    let seeks = subst (λ bytes. SeeksNode order form bytes c.key_of-key.result.now spot.i spot.hit spot.child) c.as_slice.ensures.value c.in-Some.ensures.some in
+    root_reads order valid laws form r root c.key_of-key.result.now spot.i spot.hit spot.child seeks 1 _ _ (c.insert_below.ensures.reads r told)
+
+pub returns-in_ok-insert_in_root-in-Some-below-clause-reads : goal.returns-in_ok-insert_in_root-in-Some-below-clause-reads
+returns-in_ok-insert_in_root-in-Some-below-clause-reads g c = λ r told.
+    let order = g.C.Collation.order c.args.self.now.order in
+    let valid = g.C.Collation.valid c.args.self.now.order in
+    let laws = is_order order (g.met.C.Collation.is_order c.args.self.now.order) in
+    let form = c.args.self.now.form in
+    let root = c.args.root.now.items in
+    let spot = c.in-Some.spot in
+    let seeks = subst (λ bytes. SeeksNode order form bytes c.key_of-key.result.now spot.i spot.hit spot.child) c.as_slice.ensures.value c.in-Some.ensures.some in
+    root_reads order valid laws form r root c.key_of-key.result.now spot.i spot.hit spot.child seeks 1 _ _ (subst (EditCostsBelow 1 order valid (short_nodes form r) spot.child (g.B.Blocks.reads c.args.blocks.now)) (sym c.fit_root.ensures.reads) (c.insert_below.ensures.reads r told))
+
+pub returns-in_default-clause-keyed : goal.returns-in_default-clause-keyed
+returns-in_default-clause-keyed g c = λ r told r' told'.
+    let form = c.args.self.now.form in
+    subst (λ q. KeepsKeyed (short_nodes form r) (short_nodes form q)) (some_same (sym told ∙ told')) (keyed_same (short_nodes form r))
+
+pub returns-in-None-clause-keyed : goal.returns-in-None-clause-keyed
+returns-in-None-clause-keyed g c = λ r told r' told'. c.in_ok-below.ensures.keyed r told r' told'
+
+pub returns-in_ok-insert_in_root-in-Some-below-clause-keyed : goal.returns-in_ok-insert_in_root-in-Some-below-clause-keyed
+returns-in_ok-insert_in_root-in-Some-below-clause-keyed g c =
+    let order = g.C.Collation.order c.args.self.now.order in
+    let form = c.args.self.now.form in
+    let root = c.args.root.now.items in
+    let spot = c.in-Some.spot in
+    let seeks = subst (λ bytes. SeeksNode order form bytes c.key_of-key.result.now spot.i spot.hit spot.child) c.as_slice.ensures.value c.in-Some.ensures.some in
+    let done = c.in_ok-below.ensures.done in
+    OnOk-map c.fit_root.result
+    (λ fits. λ r told r' told'.
+    let a = done.on r told in
+    let b = fits.on a.0 a.1 in
+    let has = c.requires.index r told in
+    let e = entry_in c.as_slice-in-Some-below.result.now in
+    let f = b.2 (with_entry_at has.node spot.i e) (c.in_ok-insert_in_root-in-Some-below.ensures.short has.node has.is) in
+    let within = (seeks.found has.node (short_in form root has.node has.is)).within in
+    subst (λ q. KeepsKeyed (short_nodes form r) (short_nodes form q)) (some_same (sym b.1 ∙ told'))
+    (keyed_trans (short_nodes form r) (short_nodes form a.0) (short_nodes form b.0) (c.in_ok-below.ensures.keyed r told a.0 a.1)
+    (fits_keyed (short_nodes form a.0) (short_nodes form b.0) (with_entry_at has.node spot.i e) f.0 f.2 (some_put has.node.entries spot.i e within))))
+    c.fit_root.ensures.fits

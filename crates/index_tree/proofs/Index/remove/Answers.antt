@@ -1,13 +1,13 @@
-use Rattle.std.proofs.Common.{◌≡◌, ◌+◌, ◌≤◌, ℕ, List, Option, Some, None, Result, Ok, Err, OnOk, inl, inr, refl, sym, ap, subst, ◌∙◌, arith}
+use Rattle.std.proofs.Common.{◌≡◌, ℕ, Some, None, Result, Ok, Err, OnOk, inl, inr, refl, sym, ap, subst, ◌∙◌, arith}
 use Rattle.std.specs.Option.{option_map}
-use Rattle.ntfs_def.specs.Node.{item_in, node_in}
-use Rattle.index_node.specs.Edit.{HasEntry, entry_in, with_entry_at}
-use Rattle.index_tree.specs.Edit.{EditCostsBelow, HasSorted, SeeksNode, short_nodes}
+use Rattle.ntfs_def.specs.Node.{node_in}
+use Rattle.index_node.specs.Edit.{entry_in, with_entry_at}
+use Rattle.index_tree.specs.Edit.{EditCostsBelow, SeeksNode, short_nodes}
 use Rattle.index_tree.specs.Remove.{RemovesBelow}
 use Rattle.list_laws.proofs.OptionLaws.{none_other}
 use Rattle.index_tree.proofs.OrderLaws.{is_order}
 use Rattle.index_tree.proofs.EditMemory.{edits_after}
-use Rattle.index_tree.proofs.EditRootSteps.{root_never, root_below, root_costs, fits_same}
+use Rattle.index_tree.proofs.EditRootSteps.{root_never, root_below, root_costs, root_reads, fits_same}
 use Rattle.std.specs.Prelude.{IfOk}
 use Rattle.index_tree.proofs.RemoveSteps.{NoneUp, hit_entry}
 use Rattle.index_tree.proofs.RemoveRootSteps.{behind_of, root_cost, root_hit, root_leaf, root_leaf_below, root_removed}
@@ -337,3 +337,58 @@ returns-in_default-clause-root g c = inl (omega arith)
 
 pub returns-in-None-clause-root : goal.returns-in-None-clause-root
 returns-in-None-clause-root g c = inl (omega arith)
+
+pub returns-then-spot-clause-reads : goal.returns-then-spot-clause-reads
+returns-then-spot-clause-reads g c = λ r told node is depth s index.
+    let order = g.C.Collation.order c.args.self.now.order in
+    let valid = g.C.Collation.valid c.args.self.now.order in
+    let laws = is_order order (g.met.C.Collation.is_order c.args.self.now.order) in
+    let form = c.args.self.now.form in
+    let root = c.args.root.now.items in
+    let spot = c.in-Some.spot in
+    c.remove_in_root.ensures.reads r told depth
+    (behind_of order valid laws form r root (record { node = node; is = is; depth = depth; small = omega arith; s = s; index = index }) spot.i)
+
+pub returns-in_err-below-clause-reads : goal.returns-in_err-below-clause-reads
+returns-in_err-below-clause-reads g c = λ r told.
+    let order = g.C.Collation.order c.args.self.now.order in
+    let valid = g.C.Collation.valid c.args.self.now.order in
+    let laws = is_order order (g.met.C.Collation.is_order c.args.self.now.order) in
+    let form = c.args.self.now.form in
+    let root = c.args.root.now.items in
+    let spot = c.in-Some.spot in
+    let seeks = subst (λ bytes. SeeksNode order form bytes c.args.key.now spot.i spot.hit spot.child) c.as_slice.ensures.value c.in-Some.ensures.some in
+    root_reads order valid laws form r root c.args.key.now spot.i spot.hit spot.child seeks 2 _ _ (c.remove_below.ensures.reads r told)
+
+pub returns-in_err-insert_in_root-in-Some-below-clause-reads : goal.returns-in_err-insert_in_root-in-Some-below-clause-reads
+returns-in_err-insert_in_root-in-Some-below-clause-reads g c = λ r told.
+    let order = g.C.Collation.order c.args.self.now.order in
+    let valid = g.C.Collation.valid c.args.self.now.order in
+    let laws = is_order order (g.met.C.Collation.is_order c.args.self.now.order) in
+    let form = c.args.self.now.form in
+    let root = c.args.root.now.items in
+    let spot = c.in-Some.spot in
+    let seeks = subst (λ bytes. SeeksNode order form bytes c.args.key.now spot.i spot.hit spot.child) c.as_slice.ensures.value c.in-Some.ensures.some in
+    root_reads order valid laws form r root c.args.key.now spot.i spot.hit spot.child seeks 2 _ _ (c.remove_below.ensures.reads r told)
+
+pub returns-in-None-clause-reads : goal.returns-in-None-clause-reads
+returns-in-None-clause-reads g c = λ r told.
+    let order = g.C.Collation.order c.args.self.now.order in
+    let valid = g.C.Collation.valid c.args.self.now.order in
+    let laws = is_order order (g.met.C.Collation.is_order c.args.self.now.order) in
+    let form = c.args.self.now.form in
+    let root = c.args.root.now.items in
+    let spot = c.in-Some.spot in
+    let seeks = subst (λ bytes. SeeksNode order form bytes c.args.key.now spot.i spot.hit spot.child) c.as_slice.ensures.value c.in-Some.ensures.some in
+    root_reads order valid laws form r root c.args.key.now spot.i spot.hit spot.child seeks 2 _ _ (c.remove_below.ensures.reads r told)
+
+pub returns-in_ok-insert_in_root-in-Some-below-clause-reads : goal.returns-in_ok-insert_in_root-in-Some-below-clause-reads
+returns-in_ok-insert_in_root-in-Some-below-clause-reads g c = λ r told.
+    let order = g.C.Collation.order c.args.self.now.order in
+    let valid = g.C.Collation.valid c.args.self.now.order in
+    let laws = is_order order (g.met.C.Collation.is_order c.args.self.now.order) in
+    let form = c.args.self.now.form in
+    let root = c.args.root.now.items in
+    let spot = c.in-Some.spot in
+    let seeks = subst (λ bytes. SeeksNode order form bytes c.args.key.now spot.i spot.hit spot.child) c.as_slice.ensures.value c.in-Some.ensures.some in
+    root_reads order valid laws form r root c.args.key.now spot.i spot.hit spot.child seeks 2 _ _ (subst (EditCostsBelow 2 order valid (short_nodes form r) spot.child (g.B.Blocks.reads c.args.blocks.now)) (sym c.fit_root.ensures.reads) (c.remove_below.ensures.reads r told))

@@ -1,10 +1,8 @@
-use Rattle.std.proofs.Common.{◌≡◌, ◌+◌, ◌≤◌, ℕ, List, Option, Some, None, false, Result, Ok, Err, OnOk, refl, sym, ap, subst, ◌∙◌, arith}
-use Rattle.ntfs_def.specs.Node.{item_in, node_in}
-use Rattle.index_tree.specs.Edit.{short_nodes}
+use Rattle.std.proofs.Common.{false, Result, Ok, Err, OnOk}
+use Rattle.ntfs_def.specs.Node.{item_in}
 use Rattle.index_tree.proofs.OrderLaws.{is_order}
 use Rattle.index_tree.proofs.EditMemory.{edits_after}
 use Rattle.index_tree.proofs.EditRootSteps.{root_never, root_below}
-use Rattle.index_tree.proofs.RemoveSteps.{hit_entry}
 use Rattle.index_tree.proofs.ReplaceSteps.{key_fits, root_hit, root_through, root_reads}
 use Rattle.index_tree.proofs.Index.replace.Goals as goal
 

@@ -1,18 +1,24 @@
-use Rattle.std.proofs.Common.{◌≡◌, ◌+◌, ◌-◌, ◌≤◌, ◌<◌, ℕ, List, Option, Some, None, IsSome, Result, Ok, Err, IfOk, refl, sym, ap, subst, ◌∙◌, arith}
+use Rattle.std.proofs.Common.{◌+◌, ℕ, Some, None, Result, Ok, Err, IfOk, OnOk, sym, ap, subst, ◌∙◌, arith}
 use Rattle.std.specs.Option.{option_map}
-use Rattle.ntfs_def.specs.Node.{Item, item_in}
-use Rattle.index_node.specs.Edit.{entry_in}
-use Rattle.index_node.specs.EditBlocks.{Records}
-use Rattle.index_tree.specs.Edit.{HasSorted, InsertsBelow, EditCostsBelow, short_nodes}
-use Rattle.index_tree.proofs.OrderLaws.{IsOrder, is_order}
+use Rattle.ntfs_def.specs.Node.{item_in}
+use Rattle.index_node.specs.Edit.{entry_in, with_entry_at}
+use Rattle.index_tree.specs.Edit.{HasSorted, InsertsBelow, EditCostsBelow, KeepsKeyed, short_nodes}
+use Rattle.index_tree.proofs.OrderLaws.{is_order}
 use Rattle.index_tree.proofs.EditCalls.{inserts_nothing}
-use Rattle.index_tree.proofs.EditMemory.{edits_after}
-use Rattle.index_tree.proofs.EditSteps.{level_more, never_none, node_there, record_there, below, costs, done_none, done_some, still, alone}
+use Rattle.index_tree.proofs.EditMemory.{edits_after, short_in}
+use Rattle.index_tree.proofs.EditSteps.{is_short, level_more, never_none, node_there, record_there, below, costs, done_none, done_some, still, alone}
+use Rattle.index_tree.proofs.Rising.{one_more}
+use Rattle.list_laws.proofs.OptionLaws.{some_same}
+use Rattle.index_tree.proofs.KeyedLaws.{keyed_same, keyed_trans, placed_keyed, some_put}
 use Rattle.index_tree.proofs.insertion.+insert_below.Goals as goal
 
 IfOk-map : {T E : Type 0} {P Q : T → Type 0} (r : Result T E) → ((x : T) → P x → Q x) → IfOk r P → IfOk r Q
 IfOk-map (Ok x) f h = f x h
 IfOk-map (Err e) f h = tt
+
+OnOk-of : {T E Q : Type 0} {P : T → Type 0} (r : Result T E) → ((x : T) → P x → Q) → IfOk r P → OnOk r Q
+OnOk-of (Ok x) f h = f x h
+OnOk-of (Err e) f h = tt
 
 pub returns-in_default-clause-done : goal.returns-in_default-clause-done
 returns-in_default-clause-done g t c =
@@ -265,3 +271,93 @@ pub returns-in-Some-2-clause-edits : goal.returns-in-Some-2-clause-edits
 returns-in-Some-2-clause-edits g t c =
     let laws = g.met.B.WriteBlocks in
     laws.edits_on _ _ _ (laws.edits_reads _ _ c.in_ok-read.ensures.only_reads) (laws.edits_on _ _ _ c.insert_below.ensures.edits c.put_up.ensures.edits)
+
+pub returns-in_err-insert_below-clause-reads : goal.returns-in_err-insert_below-clause-reads
+returns-in_err-insert_below-clause-reads g t c = λ r told.
+    let order = g.C.Collation.order c.args.order.now in
+    let valid = g.C.Collation.valid c.args.order.now in
+    let laws = is_order order (g.met.C.Collation.is_order c.args.order.now) in
+    let spot = c.in-Some-seek_block.spot in
+    let can = subst (λ child. HasSorted order valid (short_nodes c.args.form r) child c.args.level) c.in-Some.is (c.requires.tree r told) in
+    let mid : ℕ = g.B.Blocks.reads c.read.new.self in
+    let after : ℕ = g.B.Blocks.reads c.insert_below.new.blocks in
+    let e = one_more (g.B.Blocks.reads c.args.blocks.now) mid c.in_ok-read.ensures.reads in
+    subst (λ child. EditCostsBelow 1 order valid (short_nodes c.args.form r) child (g.B.Blocks.reads c.args.blocks.now) (g.B.Blocks.reads c.insert_below.new.blocks)) (sym c.in-Some.is)
+    (λ depth tree sorted.
+    let k = costs order valid laws c.args.form r c.in-Some.vcn c.args.level can c.read.new.into (c.in_ok-read.ensures.read r told)
+    spot.i spot.hit spot.child c.args.key.now c.in-Some-seek_block.ensures.some 1 mid after (after + 1)
+    (c.insert_below.ensures.reads r (c.in_ok-read.ensures.records ∙ told)) (omega arith) depth tree sorted in
+    omega (arith, e, k))
+
+pub returns-in-None-clause-reads : goal.returns-in-None-clause-reads
+returns-in-None-clause-reads g t c = λ r told.
+    let order = g.C.Collation.order c.args.order.now in
+    let valid = g.C.Collation.valid c.args.order.now in
+    let laws = is_order order (g.met.C.Collation.is_order c.args.order.now) in
+    let spot = c.in-Some-seek_block.spot in
+    let can = subst (λ child. HasSorted order valid (short_nodes c.args.form r) child c.args.level) c.in-Some.is (c.requires.tree r told) in
+    let mid : ℕ = g.B.Blocks.reads c.read.new.self in
+    let after : ℕ = g.B.Blocks.reads c.insert_below.new.blocks in
+    let e = one_more (g.B.Blocks.reads c.args.blocks.now) mid c.in_ok-read.ensures.reads in
+    subst (λ child. EditCostsBelow 1 order valid (short_nodes c.args.form r) child (g.B.Blocks.reads c.args.blocks.now) (g.B.Blocks.reads c.insert_below.new.blocks)) (sym c.in-Some.is)
+    (λ depth tree sorted.
+    let k = costs order valid laws c.args.form r c.in-Some.vcn c.args.level can c.read.new.into (c.in_ok-read.ensures.read r told)
+    spot.i spot.hit spot.child c.args.key.now c.in-Some-seek_block.ensures.some 1 mid after (after + 1)
+    (c.insert_below.ensures.reads r (c.in_ok-read.ensures.records ∙ told)) (omega arith) depth tree sorted in
+    omega (arith, e, k))
+
+pub returns-in-Some-2-clause-reads : goal.returns-in-Some-2-clause-reads
+returns-in-Some-2-clause-reads g t c = λ r told.
+    let order = g.C.Collation.order c.args.order.now in
+    let valid = g.C.Collation.valid c.args.order.now in
+    let laws = is_order order (g.met.C.Collation.is_order c.args.order.now) in
+    let spot = c.in-Some-seek_block.spot in
+    let can = subst (λ child. HasSorted order valid (short_nodes c.args.form r) child c.args.level) c.in-Some.is (c.requires.tree r told) in
+    let mid : ℕ = g.B.Blocks.reads c.read.new.self in
+    let after : ℕ = g.B.Blocks.reads c.insert_below.new.blocks in
+    let e = one_more (g.B.Blocks.reads c.args.blocks.now) mid c.in_ok-read.ensures.reads in
+    subst (λ child. EditCostsBelow 1 order valid (short_nodes c.args.form r) child (g.B.Blocks.reads c.args.blocks.now) (g.B.Blocks.reads c.put_up.new.blocks)) (sym c.in-Some.is)
+    (λ depth tree sorted.
+    let k = costs order valid laws c.args.form r c.in-Some.vcn c.args.level can c.read.new.into (c.in_ok-read.ensures.read r told)
+    spot.i spot.hit spot.child c.args.key.now c.in-Some-seek_block.ensures.some 1 mid after (after + 1)
+    (c.insert_below.ensures.reads r (c.in_ok-read.ensures.records ∙ told)) (omega arith) depth tree sorted in
+    omega (arith, e, k, c.put_up.ensures.reads))
+
+pub returns-in_default-clause-keyed : goal.returns-in_default-clause-keyed
+returns-in_default-clause-keyed g t c = λ r told r' told'.
+    subst (λ q. KeepsKeyed (short_nodes c.args.form r) (short_nodes c.args.form q)) (some_same (sym told ∙ told')) (keyed_same (short_nodes c.args.form r))
+
+pub returns-then-level-eq0-clause-keyed : goal.returns-then-level-eq0-clause-keyed
+returns-then-level-eq0-clause-keyed g t c = λ r told r' told'.
+    subst (λ q. KeepsKeyed (short_nodes c.args.form r) (short_nodes c.args.form q)) (some_same (sym told ∙ told')) (keyed_same (short_nodes c.args.form r))
+
+pub returns-in_default-seek_block-clause-keyed : goal.returns-in_default-seek_block-clause-keyed
+returns-in_default-seek_block-clause-keyed g t c = λ r told r' told'.
+    subst (λ q. KeepsKeyed (short_nodes c.args.form r) (short_nodes c.args.form q))
+    (some_same (sym (c.in_ok-read.ensures.records ∙ told) ∙ told')) (keyed_same (short_nodes c.args.form r))
+
+pub returns-in-None-clause-keyed : goal.returns-in-None-clause-keyed
+returns-in-None-clause-keyed g t c = λ r told r' told'. c.in_ok-insert_below.ensures.keyed r (c.in_ok-read.ensures.records ∙ told) r' told'
+
+pub returns-in-Some-2-clause-keyed : goal.returns-in-Some-2-clause-keyed
+returns-in-Some-2-clause-keyed g t c =
+    let order = g.C.Collation.order c.args.order.now in
+    let valid = g.C.Collation.valid c.args.order.now in
+    let laws = is_order order (g.met.C.Collation.is_order c.args.order.now) in
+    let spot = c.in-Some-seek_block.spot in
+    let form = c.args.form in
+    let done = c.in_ok-insert_below.ensures.done in
+    OnOk-of c.put_up.result
+    (λ out placed. λ r told r' told'.
+    let mid = c.in_ok-read.ensures.records ∙ told in
+    let a = done.on r mid in
+    let b = placed.on a.0 a.1 in
+    let can = subst (λ child. HasSorted order valid (short_nodes form r) child c.args.level) c.in-Some.is (c.requires.tree r told) in
+    let n = (node_there order valid (short_nodes form r) c.in-Some.vcn c.args.level can).said in
+    let short = is_short order valid laws form r c.in-Some.vcn c.args.level can c.read.new.into (c.in_ok-read.ensures.read r told) in
+    let within = (c.in-Some-seek_block.ensures.some.found n (short_in form c.read.new.into n short)).within in
+    subst (λ q. KeepsKeyed (short_nodes form r) (short_nodes form q)) (some_same (sym b.1 ∙ told'))
+    (keyed_trans (short_nodes form r) (short_nodes form a.0) (short_nodes form b.0) (c.in_ok-insert_below.ensures.keyed r mid a.0 a.1)
+    (placed_keyed (short_nodes form a.0) (short_nodes form b.0) c.in-Some.vcn (with_entry_at n spot.i (entry_in c.as_slice.result.now)) (option_map entry_in out)
+    (b.2 n short) (some_put n.entries spot.i (entry_in c.as_slice.result.now) within))))
+    c.put_up.ensures.placed

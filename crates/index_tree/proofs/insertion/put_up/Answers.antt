@@ -1,8 +1,6 @@
-use Rattle.std.proofs.Common.{◌≡◌, Some, Result, Ok, Err, IfOk, ap, sym, subst, ◌∙◌}
+use Rattle.std.proofs.Common.{Result, Ok, Err, IfOk, ap, ◌∙◌, arith}
 use Rattle.ntfs_def.specs.Node.{short_node}
-use Rattle.index_node.specs.EditBlocks.{Edits}
-use Rattle.index_tree.specs.Edit.{PlacesIn}
-use Rattle.index_tree.proofs.EditMemory.{wrote, edits_after}
+use Rattle.index_tree.proofs.EditMemory.{apart_of, is_some_of, wrote}
 use Rattle.index_tree.proofs.insertion.put_up.Goals as goal
 
 IfOk-map : {T E : Type 0} {P Q : T → Type 0} (r : Result T E) → ((x : T) → P x → Q x) → IfOk r P → IfOk r Q
@@ -14,6 +12,11 @@ write-requires-clause-there g c = c.requires.there
 
 pub write-requires-clause-opened : goal.write-requires-clause-opened
 write-requires-clause-opened g c = λ r told. c.in-Ok.ensures.ok.opened c.args.vcn (c.requires.opened r told)
+
+pub write-requires-clause-apart : goal.write-requires-clause-apart
+write-requires-clause-apart g c =
+    let n = c.in-Ok.ensures.ok.node c.requires.place.said c.requires.place.is in
+    apart_of c.args.form c.insert_at.new.node (is_some_of n) (omega (arith, c.in-Ok.ensures.ok.header.len, c.told-block))
 
 pub returns-in_ok-write-in-Ok-clause-placed : goal.returns-in_ok-write-in-Ok-clause-placed
 returns-in_ok-write-in-Ok-clause-placed g c =

@@ -1,13 +1,13 @@
-use Rattle.std.proofs.Common.{◌≡◌, Some, None, length, refl, ap, sym, subst, ◌∙◌, Bool}
+use Rattle.std.proofs.Common.{◌≡◌, Some, ap, sym, subst, ◌∙◌}
 use Rattle.ntfs_def.specs.Node.{Entry, Node, child_from, has_children, node_in, whole_of}
 use Rattle.ntfs_def.specs.declared.index.NodeForm.{NodeForm}
 use Rattle.std.specs.Prelude.{IsTrue, ℕ, List, is_some}
 use Rattle.ntfs_def.specs.IndexTree.{Each}
-use Rattle.index_node.specs.View.{Refuses, bytes_of, node_of_view, number_of}
+use Rattle.index_node.specs.View.{Refuses, node_of_view, number_of}
 use Rattle.index_node.specs.declared.NodeNo.{NodeNo}
 use Rattle.index_node.specs.declared.NodeNo.TheVariants.{Shape, Full}
 use Rattle.index_node.proofs.SpanLaws.{child_some}
-use Rattle.index_tree.specs.Search.{IsPlace}
+use Rattle.index_node.specs.Seek.{IsPlace}
 use Rattle.list_laws.proofs.OptionLaws.{some_same, none_other}
 use Rattle.index_tree.proofs.insertion.seek_block.Goals as goal
 

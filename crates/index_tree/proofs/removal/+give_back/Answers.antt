@@ -1,10 +1,12 @@
-use Rattle.std.proofs.Common.{◌≡◌, ◌-◌, ◌≤◌, ◌<◌, ℕ, Option, Some, None, Result, Ok, Err, OnOk, refl, sym, ap, subst, ◌∙◌, arith}
+use Rattle.std.proofs.Common.{◌-◌, Result, Ok, Err, OnOk, sym, subst, ◌∙◌, arith}
 use Rattle.index_tree.specs.Walk.{HasTree}
 use Rattle.index_tree.specs.Edit.{short_nodes}
 use Rattle.index_tree.specs.Remove.{GivesBack}
 use Rattle.index_node.specs.View.{node_of_view}
 use Rattle.index_tree.proofs.EditMemory.{edits_after}
 use Rattle.index_tree.proofs.RemoveSteps.{tree_record, given_tree, given_back}
+use Rattle.index_tree.proofs.Rising.{one_more}
+use Rattle.index_tree.proofs.RemoveLaws.{level_held}
 use Rattle.index_tree.proofs.removal.+give_back.Goals as goal
 
 OnOk-map : {T E P Q : Type 0} (r : Result T E) → (P → Q) → OnOk r P → OnOk r Q
@@ -58,3 +60,35 @@ pub returns-clause-edits : goal.returns-clause-edits
 returns-clause-edits g t c =
     let laws = g.met.B.WriteBlocks in
     laws.edits_on _ _ _ (laws.edits_reads _ _ c.in_ok-read.ensures.only_reads) (laws.edits_on _ _ _ c.in_ok-give.ensures.edits c.give_back.ensures.edits)
+
+pub returns-in_err-read-clause-reads : goal.returns-in_err-read-clause-reads
+returns-in_err-read-clause-reads g t c = λ r told level has.
+    let has' = subst (λ child. HasTree (short_nodes c.args.form r) child level) c.in-Some.is has in
+    let some = level_held (short_nodes c.args.form r) c.in-Some.vcn level has' in
+    let e = one_more (g.B.Blocks.reads c.args.blocks.now) (g.B.Blocks.reads c.read.new.self) c.read.ensures.reads in
+    omega (arith, some, e)
+
+pub returns-in_default-new-clause-reads : goal.returns-in_default-new-clause-reads
+returns-in_default-new-clause-reads g t c = λ r told level has.
+    let has' = subst (λ child. HasTree (short_nodes c.args.form r) child level) c.in-Some.is has in
+    let some = level_held (short_nodes c.args.form r) c.in-Some.vcn level has' in
+    let e = one_more (g.B.Blocks.reads c.args.blocks.now) (g.B.Blocks.reads c.read.new.self) c.in_ok-read.ensures.reads in
+    omega (arith, some, e)
+
+pub returns-in_err-give-clause-reads : goal.returns-in_err-give-clause-reads
+returns-in_err-give-clause-reads g t c = λ r told level has.
+    let has' = subst (λ child. HasTree (short_nodes c.args.form r) child level) c.in-Some.is has in
+    let some = level_held (short_nodes c.args.form r) c.in-Some.vcn level has' in
+    let e = one_more (g.B.Blocks.reads c.args.blocks.now) (g.B.Blocks.reads c.read.new.self) c.in_ok-read.ensures.reads in
+    omega (arith, some, e, c.give.ensures.reads)
+
+pub returns-clause-reads : goal.returns-clause-reads
+returns-clause-reads g t c = λ r told level has.
+    let has' = subst (λ child. HasTree (short_nodes c.args.form r) child level) c.in-Some.is has in
+    let some = level_held (short_nodes c.args.form r) c.in-Some.vcn level has' in
+    let e = one_more (g.B.Blocks.reads c.args.blocks.now) (g.B.Blocks.reads c.read.new.self) c.in_ok-read.ensures.reads in
+    let a = c.in_ok-give.ensures.done.on r (c.in_ok-read.ensures.records ∙ told) in
+    let below = given_tree c.args.form r c.in-Some.vcn level has' c.read.new.into (c.in_ok-read.ensures.read r told)
+    (node_of_view c.in-Ok.node) c.in-Ok.ensures.ok c.child-last.result c.entries.result c.child-last.ensures a.0 a.2 in
+    let k = c.give_back.ensures.reads a.0 a.1 (level - 1) below in
+    omega (arith, some, e, k, c.in_ok-give.ensures.reads)

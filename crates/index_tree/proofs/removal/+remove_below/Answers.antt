@@ -1,16 +1,16 @@
-use Rattle.std.proofs.Common.{◌≡◌, ◌+◌, ◌-◌, ◌≤◌, ◌<◌, ℕ, List, Option, Some, None, IsSome, Bool, true, false, Result, Ok, Err, IfOk, refl, sym, ap, subst, ◌∙◌, arith}
-use Rattle.std.specs.Prelude.{IfSome, is_some}
+use Rattle.std.proofs.Common.{◌≡◌, ◌+◌, ℕ, Some, None, Result, Ok, Err, IfOk, refl, sym, subst, ◌∙◌, arith}
 use Rattle.std.specs.Option.{option_map}
-use Rattle.ntfs_def.specs.Node.{Item, item_in}
-use Rattle.index_node.specs.Edit.{IsShortEntry, entry_in}
+use Rattle.index_node.specs.Edit.{entry_in}
 use Rattle.index_tree.specs.Edit.{HasSorted, EditCostsBelow, short_nodes}
 use Rattle.index_tree.specs.Remove.{HasNoneBehind, LeafOnly, RemovesBelow}
 use Rattle.list_laws.proofs.OptionLaws.{none_other}
-use Rattle.index_tree.proofs.OrderLaws.{IsOrder, is_order}
+use Rattle.index_tree.proofs.OrderLaws.{is_order}
 use Rattle.index_tree.proofs.EditMemory.{edits_after}
 use Rattle.index_tree.proofs.EditSteps.{level_more, never_none, node_there, record_there, below, costs}
 use Rattle.index_tree.proofs.RemoveCalls.{removes_nothing}
 use Rattle.index_tree.proofs.RemoveSteps.{NoneUp, err_if, hit_entry, hit_tree, cost_hit, done_hit, removed_none, removed_still, removed_some, sought_below, sought_leaf}
+use Rattle.index_tree.proofs.Rising.{one_more}
+use Rattle.index_tree.proofs.RemoveSteps.{reads_hit}
 use Rattle.index_tree.proofs.removal.+remove_below.Goals as goal
 
 IfOk-map : {T E : Type 0} {P Q : T → Type 0} (r : Result T E) → ((x : T) → P x → Q x) → IfOk r P → IfOk r Q
@@ -446,3 +446,68 @@ returns-in-Some-2-clause-leaf g t c = λ r told.
     (subst (λ b. LeafOnly order valid (short_nodes c.args.form r) spot.child c.args.key.now b (g.B.Blocks.taken c.remove_below.new.blocks) Below) c.in_ok-read.ensures.taken
     (c.in_ok-remove_below.ensures.leaf r (c.in_ok-read.ensures.records ∙ told)))
     step)
+
+pub returns-then-spot-clause-reads : goal.returns-then-spot-clause-reads
+returns-then-spot-clause-reads g t c = λ r told.
+    let order = g.C.Collation.order c.args.order.now in
+    let valid = g.C.Collation.valid c.args.order.now in
+    let laws = is_order order (g.met.C.Collation.is_order c.args.order.now) in
+    let spot = c.in-Some-seek_block.spot in
+    let can = subst (λ child. HasSorted order valid (short_nodes c.args.form r) child c.args.level) c.in-Some.is (c.requires.tree r told) in
+    let mid : ℕ = g.B.Blocks.reads c.read.new.self in
+    let e = one_more (g.B.Blocks.reads c.args.blocks.now) mid c.in_ok-read.ensures.reads in
+    subst (λ child. EditCostsBelow 2 order valid (short_nodes c.args.form r) child (g.B.Blocks.reads c.args.blocks.now) (g.B.Blocks.reads c.remove_here.new.blocks)) (sym c.in-Some.is)
+    (reads_hit order valid laws c.args.form r c.in-Some.vcn c.args.level can c.read.new.into (c.in_ok-read.ensures.read r told)
+    spot.i spot.hit spot.child c.args.key.now c.in-Some-seek_block.ensures.some _ mid _ e
+    (c.remove_here.ensures.reads r (c.in_ok-read.ensures.records ∙ told)))
+
+pub returns-in_err-remove_below-clause-reads : goal.returns-in_err-remove_below-clause-reads
+returns-in_err-remove_below-clause-reads g t c = λ r told.
+    let order = g.C.Collation.order c.args.order.now in
+    let valid = g.C.Collation.valid c.args.order.now in
+    let laws = is_order order (g.met.C.Collation.is_order c.args.order.now) in
+    let spot = c.in-Some-seek_block.spot in
+    let can = subst (λ child. HasSorted order valid (short_nodes c.args.form r) child c.args.level) c.in-Some.is (c.requires.tree r told) in
+    let mid : ℕ = g.B.Blocks.reads c.read.new.self in
+    let e = one_more (g.B.Blocks.reads c.args.blocks.now) mid c.in_ok-read.ensures.reads in
+    let after : ℕ = g.B.Blocks.reads c.remove_below.new.blocks in
+    subst (λ child. EditCostsBelow 2 order valid (short_nodes c.args.form r) child (g.B.Blocks.reads c.args.blocks.now) (g.B.Blocks.reads c.remove_below.new.blocks)) (sym c.in-Some.is)
+    (λ depth tree sorted.
+    let k = costs order valid laws c.args.form r c.in-Some.vcn c.args.level can c.read.new.into (c.in_ok-read.ensures.read r told)
+    spot.i spot.hit spot.child c.args.key.now c.in-Some-seek_block.ensures.some 2 mid after (after + 2)
+    (c.remove_below.ensures.reads r (c.in_ok-read.ensures.records ∙ told)) (omega arith) depth tree sorted in
+    omega (arith, e, k))
+
+pub returns-in-None-clause-reads : goal.returns-in-None-clause-reads
+returns-in-None-clause-reads g t c = λ r told.
+    let order = g.C.Collation.order c.args.order.now in
+    let valid = g.C.Collation.valid c.args.order.now in
+    let laws = is_order order (g.met.C.Collation.is_order c.args.order.now) in
+    let spot = c.in-Some-seek_block.spot in
+    let can = subst (λ child. HasSorted order valid (short_nodes c.args.form r) child c.args.level) c.in-Some.is (c.requires.tree r told) in
+    let mid : ℕ = g.B.Blocks.reads c.read.new.self in
+    let e = one_more (g.B.Blocks.reads c.args.blocks.now) mid c.in_ok-read.ensures.reads in
+    let after : ℕ = g.B.Blocks.reads c.remove_below.new.blocks in
+    subst (λ child. EditCostsBelow 2 order valid (short_nodes c.args.form r) child (g.B.Blocks.reads c.args.blocks.now) (g.B.Blocks.reads c.remove_below.new.blocks)) (sym c.in-Some.is)
+    (λ depth tree sorted.
+    let k = costs order valid laws c.args.form r c.in-Some.vcn c.args.level can c.read.new.into (c.in_ok-read.ensures.read r told)
+    spot.i spot.hit spot.child c.args.key.now c.in-Some-seek_block.ensures.some 2 mid after (after + 2)
+    (c.remove_below.ensures.reads r (c.in_ok-read.ensures.records ∙ told)) (omega arith) depth tree sorted in
+    omega (arith, e, k))
+
+pub returns-in-Some-2-clause-reads : goal.returns-in-Some-2-clause-reads
+returns-in-Some-2-clause-reads g t c = λ r told.
+    let order = g.C.Collation.order c.args.order.now in
+    let valid = g.C.Collation.valid c.args.order.now in
+    let laws = is_order order (g.met.C.Collation.is_order c.args.order.now) in
+    let spot = c.in-Some-seek_block.spot in
+    let can = subst (λ child. HasSorted order valid (short_nodes c.args.form r) child c.args.level) c.in-Some.is (c.requires.tree r told) in
+    let mid : ℕ = g.B.Blocks.reads c.read.new.self in
+    let e = one_more (g.B.Blocks.reads c.args.blocks.now) mid c.in_ok-read.ensures.reads in
+    let after : ℕ = g.B.Blocks.reads c.remove_below.new.blocks in
+    subst (λ child. EditCostsBelow 2 order valid (short_nodes c.args.form r) child (g.B.Blocks.reads c.args.blocks.now) (g.B.Blocks.reads c.put_up.new.blocks)) (sym c.in-Some.is)
+    (λ depth tree sorted.
+    let k = costs order valid laws c.args.form r c.in-Some.vcn c.args.level can c.read.new.into (c.in_ok-read.ensures.read r told)
+    spot.i spot.hit spot.child c.args.key.now c.in-Some-seek_block.ensures.some 2 mid after (after + 2)
+    (c.remove_below.ensures.reads r (c.in_ok-read.ensures.records ∙ told)) (omega arith) depth tree sorted in
+    omega (arith, e, k, c.put_up.ensures.reads))

@@ -1,15 +1,18 @@
-use Rattle.std.proofs.Common.{◌≡◌, ◌-◌, ◌+◌, ◌≤◌, ◌<◌, ℕ, Option, Some, None, Result, Ok, Err, OnOk, refl, sym, ap, subst, ◌∙◌, arith}
-use Rattle.std.specs.Prelude.{IfNone, IsTrue, slice_index_or, length}
+use Rattle.std.proofs.Common.{◌≡◌, ◌-◌, ◌≤◌, Some, None, refl, sym, ap, subst, ◌∙◌, arith}
+use Rattle.std.specs.Prelude.{IfNone, IfSome, IsTrue, length}
 use Rattle.std.specs.Option.{option_map}
-use Rattle.ntfs_def.specs.Node.{Entry, has_child, has_children, is_one_entry, item_in}
+use Rattle.ntfs_def.specs.Node.{has_child, has_children, is_one_entry, item_in, most_len, node_in, whole_of}
 use Rattle.index_tree.specs.Walk.{HasTree}
 use Rattle.index_tree.specs.Edit.{short_nodes}
 use Rattle.index_tree.specs.Remove.{TakesLeast}
-use Rattle.index_node.specs.View.{bytes_of, form_of_view, node_of_view}
+use Rattle.index_node.specs.View.{bytes_of, node_of_view}
 use Rattle.index_node.proofs.SplitLaws.{own_child}
-use Rattle.index_tree.proofs.EditMemory.{edits_after}
+use Rattle.index_tree.proofs.EditMemory.{apart_of, is_some_of, edits_after}
 use Rattle.index_tree.proofs.RemoveLaws.{level_held}
-use Rattle.index_tree.proofs.RemoveSteps.{tree_record, tree_refused, tree_short, below_tree, taken_below, same_below, still_first, off_first, none_here, first_here}
+use Rattle.index_tree.proofs.RemoveSteps.{tree_record, tree_refused, tree_short, below_tree, taken_below, first_short, still_first, off_first, none_here, first_here}
+use Rattle.vol_disk.specs.Contents.{WhereTold}
+use Rattle.index_tree.specs.Remove.{CostsLevel}
+use Rattle.index_tree.proofs.Rising.{one_more}
 use Rattle.index_tree.proofs.removal.+take_least.Goals as goal
 
 pub returns-then-level-eq0-clause-done : goal.returns-then-level-eq0-clause-done
@@ -108,7 +111,7 @@ pub write_without-requires-clause-opened : goal.write_without-requires-clause-op
 write_without-requires-clause-opened g t c = λ r1 told1.
     let e = edits_after c.in_ok-found.ensures.done r1 told1 in
     let told = sym c.in_ok-read.ensures.records ∙ e.1 in
-    c.remove_at.ensures.opened c.in-Some.vcn
+    c.remove_at.ensures.ok.opened c.in-Some.vcn
     (g.met.B.WriteBlocks.opened_records c.args.blocks.now e.0 told c.in-Some.vcn c.read.new.into (c.in_ok-read.ensures.read e.0 told))
 
 pub write_without-requires-clause-tree : goal.write_without-requires-clause-tree
@@ -126,6 +129,12 @@ returns-in_err-write_without-clause-written g t c =
     let n = subst (λ found. IfNone found (g.B.WriteBlocks.written c.take_least.new.blocks ≡ g.B.WriteBlocks.written c.read.new.self)) c.in_default-2.is c.in_ok-found.ensures.nothing in
     let x = c.write_without.ensures.written in
     omega (arith, w, n, x)
+
+pub write_without-requires-clause-apart : goal.write_without-requires-clause-apart
+write_without-requires-clause-apart g t c =
+    let form = subst (λ f. node_in f c.read.new.into ≡ Some (node_of_view c.in-Ok.node)) refl (ap whole_of c.in-Ok.ensures.ok) in
+    apart_of c.args.form c.remove_at.new.node (is_some_of (c.remove_at.ensures.ok.node _ form))
+    (let l = c.remove_at.ensures.ok.header.len in omega (arith, l))
 
 pub returns-in_err-write_without-clause-edits : goal.returns-in_err-write_without-clause-edits
 returns-in_err-write_without-clause-edits g t c =
@@ -152,7 +161,7 @@ returns-clause-done g t c =
                 (node_of_view c.in-Ok.node) c.in-Ok.ensures.ok c.child-below.result 0 c.child-below.ensures a.0 refl
                 (subst (λ found. TakesLeast (short_nodes c.args.form r) (short_nodes c.args.form a.0) c.child-below.result (option_map item_in found)) c.in_default-2.is a.2)
                 c.remove_at.new.node
-                (c.remove_at.ensures.short _ (tree_short c.args.form r c.in-Some.vcn c.args.level has c.read.new.into (c.in_ok-read.ensures.read r told)))
+                (c.remove_at.ensures.ok.short _ (tree_short c.args.form r c.in-Some.vcn c.args.level has c.read.new.into (c.in_ok-read.ensures.read r told)))
                 b.0 b.2 (item_in c.in_ok-found-2.found)
                 (λ z. let e = c.entries.ensures in let f = c.if-entries-eq0.false in omega (arith, e, f, z))
                 (λ d. ap item_in c.in_ok-found-2.ensures ∙ c.entry.ensures.item d)),
@@ -179,3 +188,132 @@ pub returns-clause-edits : goal.returns-clause-edits
 returns-clause-edits g t c =
     let laws = g.met.B.WriteBlocks in
     laws.edits_on _ _ _ (laws.edits_reads _ _ c.in_ok-read.ensures.only_reads) (laws.edits_on _ _ _ c.take_least.ensures.edits c.write_without.ensures.edits)
+
+pub returns-in-Some-2-clause-short : goal.returns-in-Some-2-clause-short
+returns-in-Some-2-clause-short g t c = λ r told.
+    subst (λ found. IfSome found (λ entry. length entry ≤ most_len (has_child entry 0))) c.in-Some-2.is
+    (c.in_ok-found.ensures.short r (c.in_ok-read.ensures.records ∙ told))
+
+pub returns-clause-short : goal.returns-clause-short
+returns-clause-short g t c = λ r told.
+    let here = c.entry.result.now in
+    let form = c.args.form in
+    let has = subst (λ child. HasTree (short_nodes form r) child c.args.level) c.in-Some.is (c.requires.tree r told) in
+    let own : IsTrue (is_one_entry form (has_children (bytes_of c.in-Ok.node)) here) =
+    subst (λ f. IsTrue (is_one_entry f (has_children (bytes_of c.in-Ok.node)) here)) c.in-Ok.ensures.form c.entry.ensures.own in
+    subst (λ e. length e ≤ most_len (has_child e 0)) (sym c.in_ok-found-2.ensures)
+    (first_short form r c.in-Some.vcn c.args.level has c.read.new.into (c.in_ok-read.ensures.read r told)
+    (node_of_view c.in-Ok.node) c.in-Ok.ensures.ok c.child-below.result 0 c.child-below.ensures here
+    (let e = c.entries.ensures in let z = c.if-entries-eq0.false in omega (arith, e, z))
+    (subst (λ bytes. IsTrue (is_one_entry form (has_children bytes) here)) c.in-Ok.ensures.bytes own) c.entry.ensures.item)
+
+pub returns-in_err-read-clause-reads : goal.returns-in_err-read-clause-reads
+returns-in_err-read-clause-reads g t c = λ r told level has.
+    let has' = subst (λ child. HasTree (short_nodes c.args.form r) child level) c.in-Some.is has in
+    let some = level_held (short_nodes c.args.form r) c.in-Some.vcn level has' in
+    let e = one_more (g.B.Blocks.reads c.args.blocks.now) (g.B.Blocks.reads c.read.new.self) c.read.ensures.reads in
+    omega (arith, some, e)
+
+pub returns-in_default-new-clause-reads : goal.returns-in_default-new-clause-reads
+returns-in_default-new-clause-reads g t c = λ r told level has.
+    let has' = subst (λ child. HasTree (short_nodes c.args.form r) child level) c.in-Some.is has in
+    let some = level_held (short_nodes c.args.form r) c.in-Some.vcn level has' in
+    let e = one_more (g.B.Blocks.reads c.args.blocks.now) (g.B.Blocks.reads c.read.new.self) c.in_ok-read.ensures.reads in
+    omega (arith, some, e)
+
+pub returns-in_default-new-clause-reads_none : goal.returns-in_default-new-clause-reads_none
+returns-in_default-new-clause-reads_none g t c = λ r told level has.
+    let has' = subst (λ child. HasTree (short_nodes c.args.form r) child level) c.in-Some.is has in
+    let some = level_held (short_nodes c.args.form r) c.in-Some.vcn level has' in
+    let e = one_more (g.B.Blocks.reads c.args.blocks.now) (g.B.Blocks.reads c.read.new.self) c.in_ok-read.ensures.reads in
+    omega (arith, some, e)
+
+pub returns-in_err-found-clause-reads : goal.returns-in_err-found-clause-reads
+returns-in_err-found-clause-reads g t c = λ r told level has.
+    let has' = subst (λ child. HasTree (short_nodes c.args.form r) child level) c.in-Some.is has in
+    let some = level_held (short_nodes c.args.form r) c.in-Some.vcn level has' in
+    let e = one_more (g.B.Blocks.reads c.args.blocks.now) (g.B.Blocks.reads c.read.new.self) c.in_ok-read.ensures.reads in
+    let below = below_tree c.args.form r c.in-Some.vcn level has' c.read.new.into (c.in_ok-read.ensures.read r told)
+    (node_of_view c.in-Ok.node) c.in-Ok.ensures.ok c.child-below.result 0 c.child-below.ensures in
+    let k = c.take_least.ensures.reads r (c.in_ok-read.ensures.records ∙ told) (level - 1) below in
+    omega (arith, some, e, k)
+
+pub returns-in-Some-2-clause-reads : goal.returns-in-Some-2-clause-reads
+returns-in-Some-2-clause-reads g t c = λ r told level has.
+    let has' = subst (λ child. HasTree (short_nodes c.args.form r) child level) c.in-Some.is has in
+    let some = level_held (short_nodes c.args.form r) c.in-Some.vcn level has' in
+    let e = one_more (g.B.Blocks.reads c.args.blocks.now) (g.B.Blocks.reads c.read.new.self) c.in_ok-read.ensures.reads in
+    let below = below_tree c.args.form r c.in-Some.vcn level has' c.read.new.into (c.in_ok-read.ensures.read r told)
+    (node_of_view c.in-Ok.node) c.in-Ok.ensures.ok c.child-below.result 0 c.child-below.ensures in
+    let k = c.take_least.ensures.reads r (c.in_ok-read.ensures.records ∙ told) (level - 1) below in
+    omega (arith, some, e, k)
+
+pub returns-then-entries-eq0-clause-reads : goal.returns-then-entries-eq0-clause-reads
+returns-then-entries-eq0-clause-reads g t c = λ r told level has.
+    let has' = subst (λ child. HasTree (short_nodes c.args.form r) child level) c.in-Some.is has in
+    let some = level_held (short_nodes c.args.form r) c.in-Some.vcn level has' in
+    let e = one_more (g.B.Blocks.reads c.args.blocks.now) (g.B.Blocks.reads c.read.new.self) c.in_ok-read.ensures.reads in
+    let below = below_tree c.args.form r c.in-Some.vcn level has' c.read.new.into (c.in_ok-read.ensures.read r told)
+    (node_of_view c.in-Ok.node) c.in-Ok.ensures.ok c.child-below.result 0 c.child-below.ensures in
+    let n = subst (λ found. IfNone found (WhereTold (g.B.Blocks.records c.read.new.self) (λ r. CostsLevel 1 (short_nodes c.args.form r) c.child-below.result
+    (g.B.Blocks.reads c.read.new.self) (g.B.Blocks.reads c.take_least.new.blocks)))) c.in_default-2.is c.in_ok-found.ensures.reads_none
+    r (c.in_ok-read.ensures.records ∙ told) (level - 1) below in
+    omega (arith, some, e, n)
+
+pub returns-then-entries-eq0-clause-reads_none : goal.returns-then-entries-eq0-clause-reads_none
+returns-then-entries-eq0-clause-reads_none g t c = λ r told level has.
+    let has' = subst (λ child. HasTree (short_nodes c.args.form r) child level) c.in-Some.is has in
+    let some = level_held (short_nodes c.args.form r) c.in-Some.vcn level has' in
+    let e = one_more (g.B.Blocks.reads c.args.blocks.now) (g.B.Blocks.reads c.read.new.self) c.in_ok-read.ensures.reads in
+    let below = below_tree c.args.form r c.in-Some.vcn level has' c.read.new.into (c.in_ok-read.ensures.read r told)
+    (node_of_view c.in-Ok.node) c.in-Ok.ensures.ok c.child-below.result 0 c.child-below.ensures in
+    let n = subst (λ found. IfNone found (WhereTold (g.B.Blocks.records c.read.new.self) (λ r. CostsLevel 1 (short_nodes c.args.form r) c.child-below.result
+    (g.B.Blocks.reads c.read.new.self) (g.B.Blocks.reads c.take_least.new.blocks)))) c.in_default-2.is c.in_ok-found.ensures.reads_none
+    r (c.in_ok-read.ensures.records ∙ told) (level - 1) below in
+    omega (arith, some, e, n)
+
+pub returns-in_err-found-2-clause-reads : goal.returns-in_err-found-2-clause-reads
+returns-in_err-found-2-clause-reads g t c = λ r told level has.
+    let has' = subst (λ child. HasTree (short_nodes c.args.form r) child level) c.in-Some.is has in
+    let some = level_held (short_nodes c.args.form r) c.in-Some.vcn level has' in
+    let e = one_more (g.B.Blocks.reads c.args.blocks.now) (g.B.Blocks.reads c.read.new.self) c.in_ok-read.ensures.reads in
+    let below = below_tree c.args.form r c.in-Some.vcn level has' c.read.new.into (c.in_ok-read.ensures.read r told)
+    (node_of_view c.in-Ok.node) c.in-Ok.ensures.ok c.child-below.result 0 c.child-below.ensures in
+    let n = subst (λ found. IfNone found (WhereTold (g.B.Blocks.records c.read.new.self) (λ r. CostsLevel 1 (short_nodes c.args.form r) c.child-below.result
+    (g.B.Blocks.reads c.read.new.self) (g.B.Blocks.reads c.take_least.new.blocks)))) c.in_default-2.is c.in_ok-found.ensures.reads_none
+    r (c.in_ok-read.ensures.records ∙ told) (level - 1) below in
+    omega (arith, some, e, n)
+
+pub returns-in_err-write_without-clause-reads : goal.returns-in_err-write_without-clause-reads
+returns-in_err-write_without-clause-reads g t c = λ r told level has.
+    let has' = subst (λ child. HasTree (short_nodes c.args.form r) child level) c.in-Some.is has in
+    let some = level_held (short_nodes c.args.form r) c.in-Some.vcn level has' in
+    let e = one_more (g.B.Blocks.reads c.args.blocks.now) (g.B.Blocks.reads c.read.new.self) c.in_ok-read.ensures.reads in
+    let below = below_tree c.args.form r c.in-Some.vcn level has' c.read.new.into (c.in_ok-read.ensures.read r told)
+    (node_of_view c.in-Ok.node) c.in-Ok.ensures.ok c.child-below.result 0 c.child-below.ensures in
+    let n = subst (λ found. IfNone found (WhereTold (g.B.Blocks.records c.read.new.self) (λ r. CostsLevel 1 (short_nodes c.args.form r) c.child-below.result
+    (g.B.Blocks.reads c.read.new.self) (g.B.Blocks.reads c.take_least.new.blocks)))) c.in_default-2.is c.in_ok-found.ensures.reads_none
+    r (c.in_ok-read.ensures.records ∙ told) (level - 1) below in
+    let a = c.in_ok-found.ensures.done.on r (c.in_ok-read.ensures.records ∙ told) in
+    let off = off_first c.args.form r c.in-Some.vcn level has' c.read.new.into (c.in_ok-read.ensures.read r told)
+    (node_of_view c.in-Ok.node) c.in-Ok.ensures.ok c.child-below.result 0 c.child-below.ensures a.0 refl
+    (subst (λ found. TakesLeast (short_nodes c.args.form r) (short_nodes c.args.form a.0) c.child-below.result (option_map item_in found)) c.in_default-2.is a.2) in
+    let w = c.write_without.ensures.reads a.0 a.1 (level - 1) off in
+    omega (arith, some, e, n, w)
+
+pub returns-clause-reads : goal.returns-clause-reads
+returns-clause-reads g t c = λ r told level has.
+    let has' = subst (λ child. HasTree (short_nodes c.args.form r) child level) c.in-Some.is has in
+    let some = level_held (short_nodes c.args.form r) c.in-Some.vcn level has' in
+    let e = one_more (g.B.Blocks.reads c.args.blocks.now) (g.B.Blocks.reads c.read.new.self) c.in_ok-read.ensures.reads in
+    let below = below_tree c.args.form r c.in-Some.vcn level has' c.read.new.into (c.in_ok-read.ensures.read r told)
+    (node_of_view c.in-Ok.node) c.in-Ok.ensures.ok c.child-below.result 0 c.child-below.ensures in
+    let n = subst (λ found. IfNone found (WhereTold (g.B.Blocks.records c.read.new.self) (λ r. CostsLevel 1 (short_nodes c.args.form r) c.child-below.result
+    (g.B.Blocks.reads c.read.new.self) (g.B.Blocks.reads c.take_least.new.blocks)))) c.in_default-2.is c.in_ok-found.ensures.reads_none
+    r (c.in_ok-read.ensures.records ∙ told) (level - 1) below in
+    let a = c.in_ok-found.ensures.done.on r (c.in_ok-read.ensures.records ∙ told) in
+    let off = off_first c.args.form r c.in-Some.vcn level has' c.read.new.into (c.in_ok-read.ensures.read r told)
+    (node_of_view c.in-Ok.node) c.in-Ok.ensures.ok c.child-below.result 0 c.child-below.ensures a.0 refl
+    (subst (λ found. TakesLeast (short_nodes c.args.form r) (short_nodes c.args.form a.0) c.child-below.result (option_map item_in found)) c.in_default-2.is a.2) in
+    let w = c.write_without.ensures.reads a.0 a.1 (level - 1) off in
+    omega (arith, some, e, n, w)

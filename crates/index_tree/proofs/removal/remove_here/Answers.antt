@@ -1,16 +1,17 @@
-use Rattle.std.proofs.Common.{◌≡◌, ◌-◌, ◌+◌, ◌≤◌, ◌<◌, ℕ, Option, Some, None, Result, Ok, Err, OnOk, IfOk, refl, sym, ap, subst, ◌∙◌, arith}
-use Rattle.std.proofs.lemmas.List.{length-map}
+use Rattle.std.proofs.Common.{◌≡◌, ◌+◌, ◌≤◌, ℕ, Option, Some, None, Result, Ok, Err, IfOk, refl, sym, ap, subst, ◌∙◌, arith}
 use Rattle.std.specs.Prelude.{is_some, length, true}
 use Rattle.std.specs.Option.{option_map}
-use Rattle.ntfs_def.specs.Node.{Entry, Node, child_from, has_children, item_in, short_node, whole_of}
+use Rattle.ntfs_def.specs.Node.{Node, child_from, has_children, item_in, whole_of}
 use Rattle.index_node.proofs.SpanLaws.{child_some}
 use Rattle.index_tree.specs.Edit.{short_nodes}
-use Rattle.index_tree.specs.Remove.{RemovesAt, ReplacesIn, TakesLeast}
-use Rattle.index_node.specs.Edit.{entry_in}
+use Rattle.index_tree.specs.Remove.{ReplacesIn, TakesLeast}
 use Rattle.index_node.specs.View.{node_of_view}
-use Rattle.index_tree.proofs.EditMemory.{edits_after}
+use Rattle.index_tree.proofs.EditMemory.{apart_of, is_some_of, edits_after}
 use Rattle.list_laws.proofs.OptionLaws.{some_same, none_other}
 use Rattle.index_tree.proofs.RemoveSteps.{NoneUp, err_if, tree_behind, still_some, still_none, off_none, here_replaced, here_joined}
+use Rattle.std.specs.Prelude.{IfNone}
+use Rattle.vol_disk.specs.Contents.{WhereTold}
+use Rattle.index_tree.specs.Remove.{CostsLevel}
 use Rattle.index_tree.proofs.removal.remove_here.Goals as goal
 
 IfOk-map : {T E : Type 0} {P Q : T → Type 0} (r : Result T E) → ((x : T) → P x → Q x) → IfOk r P → IfOk r Q
@@ -67,8 +68,13 @@ write_without-requires-clause-there g c = λ r1 told1.
 pub write_without-requires-clause-opened : goal.write_without-requires-clause-opened
 write_without-requires-clause-opened g c = λ r1 told1.
     let e = edits_after c.in_ok-entry.ensures.done r1 told1 in
-    c.join_at.ensures.opened c.args.vcn
+    c.join_at.ensures.ok.opened c.args.vcn
     (g.met.B.WriteBlocks.opened_records c.args.blocks.now e.0 e.1 c.args.vcn c.args.block.now (c.requires.there e.0 e.1))
+
+pub write_without-requires-clause-apart : goal.write_without-requires-clause-apart
+write_without-requires-clause-apart g c =
+    apart_of c.args.form c.join_at.new.node (is_some_of (c.join_at.ensures.ok.node c.requires.entry.said c.requires.entry.is))
+    (omega (arith, c.join_at.ensures.ok.len, c.told-block))
 
 pub write_without-requires-clause-tree : goal.write_without-requires-clause-tree
 write_without-requires-clause-tree g c = λ r1 told1.
@@ -125,7 +131,7 @@ returns-in_ok-write_without-in-None-clause-done g c =
             b.1,
             here_joined form r c.args.vcn c.args.level (c.requires.tree r told) block (c.requires.there r told) m c.in-Ok.ensures.ok c.args.i c.requires.entry c.child-gone.result c.child-gone.ensures a.0
                 (subst (λ found. TakesLeast (short_nodes form r) (short_nodes form a.0) c.child-gone.result (option_map item_in found)) c.in-None.is a.2)
-                c.join_at.new.node c.join_at.ensures.short b.0 b.2,
+                c.join_at.new.node c.join_at.ensures.ok.short b.0 b.2,
           );
     }
 
@@ -154,3 +160,47 @@ returns-in_ok-write_without-in-None-clause-leaf g c = λ leaf. (
   c.in_ok-write_without-in-None.ensures.taken ∙ c.in_ok-entry.ensures.taken,
   (c.in_ok-write_without-in-None.ensures.full ∙ c.in_ok-entry.ensures.full, refl),
 )
+
+pub returns-in_err-entry-clause-reads : goal.returns-in_err-entry-clause-reads
+returns-in_err-entry-clause-reads g c = λ r told most has.
+    let view = c.in-Ok.view in
+    let behind = tree_behind c.args.form r c.args.vcn most has c.args.block.now (c.requires.there r told) (node_of_view view) c.in-Ok.ensures.ok
+    c.args.i c.requires.entry c.child-gone.result c.child-gone.ensures in
+    let k = c.take_least.ensures.reads r told most behind in
+    omega (arith, k)
+
+pub returns-in-Some-clause-reads : goal.returns-in-Some-clause-reads
+returns-in-Some-clause-reads g c = λ r told most has.
+    let view = c.in-Ok.view in
+    let behind = tree_behind c.args.form r c.args.vcn most has c.args.block.now (c.requires.there r told) (node_of_view view) c.in-Ok.ensures.ok
+    c.args.i c.requires.entry c.child-gone.result c.child-gone.ensures in
+    let k = c.take_least.ensures.reads r told most behind in
+    omega (arith, k, c.put_least.ensures.reads)
+
+pub returns-in_err-write_without-in-None-clause-reads : goal.returns-in_err-write_without-in-None-clause-reads
+returns-in_err-write_without-in-None-clause-reads g c = λ r told most has.
+    let view = c.in-Ok.view in
+    let behind = tree_behind c.args.form r c.args.vcn most has c.args.block.now (c.requires.there r told) (node_of_view view) c.in-Ok.ensures.ok
+    c.args.i c.requires.entry c.child-gone.result c.child-gone.ensures in
+    let n = subst (λ found. IfNone found (WhereTold (g.B.Blocks.records c.args.blocks.now) (λ r. CostsLevel 1 (short_nodes c.args.form r) c.child-gone.result
+    (g.B.Blocks.reads c.args.blocks.now) (g.B.Blocks.reads c.take_least.new.blocks)))) c.in-None.is c.in_ok-entry.ensures.reads_none r told most behind in
+    let a = c.in_ok-entry.ensures.done.on r told in
+    let off = off_none c.args.form r c.args.vcn most has c.args.block.now (c.requires.there r told) (node_of_view view) c.in-Ok.ensures.ok
+    c.args.i c.requires.entry c.child-gone.result c.child-gone.ensures a.0
+    (subst (λ found. TakesLeast (short_nodes c.args.form r) (short_nodes c.args.form a.0) c.child-gone.result (option_map item_in found)) c.in-None.is a.2) in
+    let w = c.write_without.ensures.reads a.0 a.1 most off in
+    omega (arith, n, w)
+
+pub returns-in_ok-write_without-in-None-clause-reads : goal.returns-in_ok-write_without-in-None-clause-reads
+returns-in_ok-write_without-in-None-clause-reads g c = λ r told most has.
+    let view = c.in-Ok.view in
+    let behind = tree_behind c.args.form r c.args.vcn most has c.args.block.now (c.requires.there r told) (node_of_view view) c.in-Ok.ensures.ok
+    c.args.i c.requires.entry c.child-gone.result c.child-gone.ensures in
+    let n = subst (λ found. IfNone found (WhereTold (g.B.Blocks.records c.args.blocks.now) (λ r. CostsLevel 1 (short_nodes c.args.form r) c.child-gone.result
+    (g.B.Blocks.reads c.args.blocks.now) (g.B.Blocks.reads c.take_least.new.blocks)))) c.in-None.is c.in_ok-entry.ensures.reads_none r told most behind in
+    let a = c.in_ok-entry.ensures.done.on r told in
+    let off = off_none c.args.form r c.args.vcn most has c.args.block.now (c.requires.there r told) (node_of_view view) c.in-Ok.ensures.ok
+    c.args.i c.requires.entry c.child-gone.result c.child-gone.ensures a.0
+    (subst (λ found. TakesLeast (short_nodes c.args.form r) (short_nodes c.args.form a.0) c.child-gone.result (option_map item_in found)) c.in-None.is a.2) in
+    let w = c.write_without.ensures.reads a.0 a.1 most off in
+    omega (arith, n, w)

@@ -1,15 +1,18 @@
-use Rattle.std.proofs.Common.{◌≡◌, ◌-◌, ◌+◌, ◌≤◌, ◌<◌, ℕ, Option, Some, None, Result, Ok, Err, OnOk, IfOk, inl, inr, refl, sym, ap, subst, ◌∙◌, arith}
-use Rattle.std.specs.Prelude.{is_some, length, true}
+use Rattle.std.proofs.Common.{◌≡◌, ◌+◌, ◌≤◌, ℕ, Option, Some, None, Result, Ok, Err, OnOk, inl, inr, refl, sym, ap, subst, ◌∙◌, arith}
+use Rattle.std.specs.Prelude.{IfSome, is_some, length, true}
 use Rattle.std.specs.Option.{option_map}
-use Rattle.ntfs_def.specs.Node.{Entry, Node, child_from, has_children, item_in, node_in, scan_node, short_node, whole_of}
+use Rattle.ntfs_def.specs.Node.{Node, child_from, has_child, has_children, item_in, most_len, node_in, scan_node, whole_of}
 use Rattle.index_node.proofs.SpanLaws.{child_some}
-use Rattle.index_tree.specs.Edit.{FitsIn, short_nodes}
+use Rattle.index_tree.specs.Edit.{short_nodes}
 use Rattle.index_tree.specs.Remove.{TakesLeast, with_item_at}
 use Rattle.index_node.specs.Edit.{EditsShort}
 use Rattle.index_node.specs.View.{node_of_view}
 use Rattle.list_laws.proofs.OptionLaws.{some_same, none_other}
 use Rattle.index_tree.proofs.EditMemory.{edits_after}
 use Rattle.index_tree.proofs.RemoveRootSteps.{root_tree, root_after, replaced_root, joined_root}
+use Rattle.std.specs.Prelude.{IfNone}
+use Rattle.vol_disk.specs.Contents.{WhereTold}
+use Rattle.index_tree.specs.Remove.{CostsLevel}
 use Rattle.index_tree.proofs.removal.remove_in_root.Goals as goal
 
 OnOk-map : {T E P Q : Type 0} (r : Result T E) → (P → Q) → OnOk r P → OnOk r Q
@@ -58,7 +61,8 @@ returns-in_ok-replace_in_root-in-Some-clause-done g c =
                 (subst (λ found. TakesLeast (short_nodes c.args.form r) (short_nodes c.args.form a.0) c.child-gone.result (option_map item_in found)) c.in-Some.is a.2)
                 c.replace_in_root.new.root.items
                 (subst (λ bytes. EditsShort c.args.form c.args.root.now.items c.replace_in_root.new.root.items (λ said. with_item_at said c.args.i (item_in bytes)))
-                c.as_slice-in-Some.ensures c.in_ok-replace_in_root-in-Some.ensures.done)
+                c.as_slice-in-Some.ensures (c.in_ok-replace_in_root-in-Some.ensures.done (subst (λ bytes. length bytes ≤ most_len (has_child bytes 0)) (sym c.as_slice-in-Some.ensures)
+                (subst (λ found. IfSome found (λ entry. length entry ≤ most_len (has_child entry 0))) c.in-Some.is (c.in_ok-entry.ensures.short r told)))))
                 b.0 c.fit_root.new.root.items b.2,
           );
     })
@@ -110,3 +114,40 @@ returns-in_ok-replace_in_root-in-Some-clause-leaf g c = λ leaf.
 pub returns-in-None-clause-leaf : goal.returns-in-None-clause-leaf
 returns-in-None-clause-leaf g c = λ leaf.
     (c.give_back.ensures.taken ∙ c.in_ok-entry.ensures.taken, c.give_back.ensures.full ∙ c.in_ok-entry.ensures.full)
+
+pub returns-in_err-entry-clause-reads : goal.returns-in_err-entry-clause-reads
+returns-in_err-entry-clause-reads g c = λ r told most behind.
+    let scan = ap (scan_node c.args.form) (sym c.as_slice.ensures.value) ∙ c.in-Ok.ensures.ok in
+    let n = node_of_view c.in-Ok.view in
+    let held = root_tree c.args.form c.args.root.now.items r c.args.i behind n scan c.child-gone.result c.child-gone.ensures in
+    let k = c.take_least.ensures.reads r told most held in
+    omega (arith, k)
+
+pub returns-in_err-replace_in_root-in-Some-clause-reads : goal.returns-in_err-replace_in_root-in-Some-clause-reads
+returns-in_err-replace_in_root-in-Some-clause-reads g c = λ r told most behind.
+    let scan = ap (scan_node c.args.form) (sym c.as_slice.ensures.value) ∙ c.in-Ok.ensures.ok in
+    let n = node_of_view c.in-Ok.view in
+    let held = root_tree c.args.form c.args.root.now.items r c.args.i behind n scan c.child-gone.result c.child-gone.ensures in
+    let k = c.take_least.ensures.reads r told most held in
+    omega (arith, k)
+
+pub returns-in_ok-replace_in_root-in-Some-clause-reads : goal.returns-in_ok-replace_in_root-in-Some-clause-reads
+returns-in_ok-replace_in_root-in-Some-clause-reads g c = λ r told most behind.
+    let scan = ap (scan_node c.args.form) (sym c.as_slice.ensures.value) ∙ c.in-Ok.ensures.ok in
+    let n = node_of_view c.in-Ok.view in
+    let held = root_tree c.args.form c.args.root.now.items r c.args.i behind n scan c.child-gone.result c.child-gone.ensures in
+    let k = c.take_least.ensures.reads r told most held in
+    omega (arith, k, c.fit_root.ensures.reads)
+
+pub returns-in-None-clause-reads : goal.returns-in-None-clause-reads
+returns-in-None-clause-reads g c = λ r told most behind.
+    let scan = ap (scan_node c.args.form) (sym c.as_slice.ensures.value) ∙ c.in-Ok.ensures.ok in
+    let n = node_of_view c.in-Ok.view in
+    let held = root_tree c.args.form c.args.root.now.items r c.args.i behind n scan c.child-gone.result c.child-gone.ensures in
+    let none = subst (λ found. IfNone found (WhereTold (g.B.Blocks.records c.args.blocks.now) (λ r. CostsLevel 1 (short_nodes c.args.form r) c.child-gone.result
+    (g.B.Blocks.reads c.args.blocks.now) (g.B.Blocks.reads c.take_least.new.blocks)))) c.in-None.is c.in_ok-entry.ensures.reads_none r told most held in
+    let a = c.in_ok-entry.ensures.done.on r told in
+    let after = root_after c.args.form c.args.root.now.items r c.args.i behind n scan c.child-gone.result c.child-gone.ensures a.0
+    (subst (λ found. TakesLeast (short_nodes c.args.form r) (short_nodes c.args.form a.0) c.child-gone.result (option_map item_in found)) c.in-None.is a.2) in
+    let w = c.give_back.ensures.reads a.0 a.1 most after in
+    omega (arith, none, w)

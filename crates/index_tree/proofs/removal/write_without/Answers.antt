@@ -1,4 +1,4 @@
-use Rattle.std.proofs.Common.{◌≡◌, Option, Some, None, Result, Ok, Err, OnOk, sym, ap, subst, ◌∙◌}
+use Rattle.std.proofs.Common.{Result, Ok, Err, OnOk, ap, arith}
 use Rattle.ntfs_def.specs.Node.{short_node}
 use Rattle.std.specs.Option.{option_and_then}
 use Rattle.index_tree.proofs.EditMemory.{edits_after}
@@ -33,3 +33,10 @@ returns-clause-done g c =
           );
     })
     c.give_back.ensures.done
+
+pub returns-clause-reads : goal.returns-clause-reads
+returns-clause-reads g c = λ r told most off.
+    let a = c.in_ok-write.ensures.done.on r told in
+    let held = off (short_nodes c.args.form a.0) (λ place ne. ap (option_and_then (short_node c.args.form)) (a.2.others place ne)) in
+    let k = c.give_back.ensures.reads a.0 a.1 most held in
+    omega (arith, k, c.in_ok-write.ensures.reads)

@@ -1,8 +1,8 @@
-use Rattle.std.proofs.Common.{◌≡◌, ◌+◌, ◌-◌, ◌≤◌, ◌<◌, ℕ, List, Option, Some, None, IsSome, Result, Ok, Err, OnOk, refl, sym, ap, subst, ◌∙◌, arith}
-use Rattle.ntfs_def.specs.Node.{Item, item_in}
+use Rattle.std.proofs.Common.{◌+◌, ℕ, Result, Ok, Err, OnOk, sym, subst, ◌∙◌, arith}
+use Rattle.ntfs_def.specs.Node.{item_in}
 use Rattle.index_tree.specs.Edit.{HasSorted, EditCostsBelow, short_nodes}
 use Rattle.index_tree.specs.Replace.{ReplacesBelow}
-use Rattle.index_tree.proofs.OrderLaws.{IsOrder, is_order}
+use Rattle.index_tree.proofs.OrderLaws.{is_order}
 use Rattle.index_tree.proofs.EditMemory.{edits_after}
 use Rattle.index_tree.proofs.Rising.{one_more}
 use Rattle.index_tree.proofs.EditSteps.{level_more, never_none, node_there, record_there, below, costs}

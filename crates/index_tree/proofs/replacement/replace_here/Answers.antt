@@ -1,13 +1,16 @@
-use Rattle.std.proofs.Common.{◌≡◌, Some}
-use Rattle.index_tree.proofs.EditMemory.{wrote}
+use Rattle.std.proofs.Common.{arith}
+use Rattle.index_tree.proofs.EditMemory.{apart_of, wrote}
 use Rattle.index_tree.proofs.replacement.replace_here.Goals as goal
 
 pub write-requires-clause-opened : goal.write-requires-clause-opened
 write-requires-clause-opened g c = λ r told. c.swap_item.ensures.opened c.args.vcn (c.requires.opened r told)
 
-pub returns-in-Ok-clause-done : goal.returns-in-Ok-clause-done
-returns-in-Ok-clause-done g c =
-    let done = c.in-Ok.ensures.done in
+pub write-requires-clause-apart : goal.write-requires-clause-apart
+write-requires-clause-apart g c = apart_of c.args.form c.swap_item.new.node c.swap_item.ensures.node (omega (arith, c.swap_item.ensures.len, c.told-block))
+
+pub returns-clause-done : goal.returns-clause-done
+returns-clause-done g c =
+    let done = c.in_ok-write.ensures.done in
     record {
       back = done.back;
       on = λ r told.

@@ -1,11 +1,11 @@
-use Rattle.std.proofs.Common.{◌≡◌, ◌+◌, Some, length, refl, sym, ap, ◌∙◌, arith}
+use Rattle.std.proofs.Common.{◌≡◌, refl, sym, ap, ◌∙◌, arith}
 use Rattle.std.specs.Prelude.{slice_index_or, ℕ, List}
-use Rattle.ntfs_def.specs.Node.{Entry, Node, child_len, has_children, item_in, node_in, whole_of}
+use Rattle.ntfs_def.specs.Node.{Entry, Node, child_len, has_children, item_in, whole_of}
 use Rattle.index_node.specs.View.{bytes_of, form_of_view, node_of_view}
 use Rattle.index_node.specs.Edit.{entry_in, item_len}
 use Rattle.index_node.proofs.ReplaceLaws.{item_len-one}
 use Rattle.list_laws.proofs.OptionLaws.{some_same}
-use Rattle.index_tree.proofs.EditMemory.{short_in}
+use Rattle.index_tree.proofs.EditMemory.{is_some_of, short_in}
 use Rattle.index_tree.proofs.replacement.swap_entry.Goals as goal
 
 pub returns-then-entry : goal.returns-then-entry
@@ -20,6 +20,7 @@ returns-then-entry c = record {
       let b = item_len-one c.args.form (has_children c.args.node.now) c.args.entry.now c.requires.one in
       let k : child_len (has_children (bytes_of view)) ≡ child_len (has_children c.args.node.now) = ap (λ (xs : List ℕ). child_len (has_children xs)) c.in-Ok.ensures.bytes in
       absurd (c.if-entry.true (omega (arith, same, a, b, k)));
+  node = is_some_of c.requires.has.is;
   len = refl;
   opened = λ vcn h. h;
 }
@@ -34,3 +35,13 @@ replace_at-requires-clause-alike c = λ said is d.
     let b = item_len-one c.args.form (has_children c.args.node.now) c.args.entry.now c.requires.one in
     let k : child_len (has_children (bytes_of view)) ≡ child_len (has_children c.args.node.now) = ap (λ (xs : List ℕ). child_len (has_children xs)) c.in-Ok.ensures.bytes in
     omega (arith, same, a, b, k, c.if-entry.false)
+
+pub returns : goal.returns
+returns c =
+    let swapped = c.replace_at.ensures.ok in
+    record {
+      short = λ said is alike. swapped.short said is;
+      node = is_some_of (swapped.node c.requires.has.said c.requires.has.is);
+      len = swapped.header.len;
+      opened = swapped.opened;
+    }

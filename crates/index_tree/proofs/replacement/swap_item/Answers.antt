@@ -1,4 +1,4 @@
-use Rattle.std.proofs.Common.{◌≡◌, Some, None, OnOk, sym, ap, subst, ◌∙◌}
+use Rattle.std.proofs.Common.{sym, ap, subst, ◌∙◌}
 use Rattle.ntfs_def.specs.Node.{item_in}
 use Rattle.index_tree.specs.Replace.{SwapsAt, entry_with}
 use Rattle.index_tree.proofs.EditSteps.{alone}

@@ -1,11 +1,11 @@
-use Rattle.std.proofs.Common.{◌≡◌, ◌+◌, ◌<◌, ◌≤◌, Some, Bool, true, false, Result, OnOk, List, ◌++◌, ℕ, length, take, drop, get_or, refl, sym, ap, subst, ◌∙◌, arith}
+use Rattle.std.proofs.Common.{◌≡◌, ◌<◌, false, List, ◌++◌, ℕ, length, get_or, sym, ap, subst, ◌∙◌, arith}
 use Rattle.std.specs.Prelude.{IsTrue}
 use Rattle.std.proofs.lemmas.List.{get_or_append_left}
-use Rattle.ntfs_def.specs.Node.{has_children, is_one_entry, item_in}
-use Rattle.index_node.specs.Edit.{LeadsTo, entry_in}
+use Rattle.ntfs_def.specs.Node.{is_one_entry}
+use Rattle.index_node.specs.Edit.{LeadsTo}
 use Rattle.index_node.proofs.LayOutLaws.{entry_facts}
 use Rattle.index_node.proofs.LeadLaws.{leads_to}
-use Rattle.index_tree.specs.Replace.{SwapsAt, entry_with}
+use Rattle.index_tree.specs.Replace.{SwapsAt}
 use Rattle.index_tree.proofs.replacement.swap_leading.Goals as goal
 
 in_front : {xs zs : List ℕ} (ys : List ℕ) (k : ℕ) → xs ≡ zs → k < length zs → get_or (xs ++ ys) k 0 ≡ get_or zs k 0

@@ -9,7 +9,8 @@ use Rattle.index_tree.specs.Walk.{CostsNode, CostsTree, HasSpread, HasTree, Walk
 use Rattle.index_tree.proofs.Rising.{not_refused, one_more, read_node, some_record}
 use Rattle.index_tree.proofs.WalkLaws.{CostsFront, WalksFront, costs_all, costs_more, costs_start, costs_tree, front_all, front_more, front_start, has_spread, tree_below, tree_level, tree_node, walks_tree}
 use Rattle.std.proofs.lemmas.Result.{on_ok_weaker}
-use Rattle.index_tree.proofs.PlaceLaws.{child_in, item_in_node, less_in, more_in}
+use Rattle.index_node.proofs.SeekLaws.{less_in, more_in}
+use Rattle.index_tree.proofs.PlaceLaws.{child_in, item_in_node}
 use Rattle.index_tree.proofs.walk.+walking.Goals as goal
 
 pub walk_node-places-init : goal.walk_node-places-init

@@ -3,4 +3,4 @@ use Rattle.std.specs.Prelude.{is_some}
 use Rattle.index_node.proofs.node_mut.NodeMut.set_child.Goals as goal
 
 pub invariant_of-self : goal.invariant_of-self
-invariant_of-self c = record { shape = ap is_some (c.set_child.ensures.node c.requires.place.said c.requires.place.is) }
+invariant_of-self c = record { shape = ap is_some (c.set_child.ensures.ok.node c.requires.place.said c.requires.place.is) }

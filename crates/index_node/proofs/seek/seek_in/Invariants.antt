@@ -3,7 +3,7 @@ use Rattle.std.specs.declared.cmp.Ordering.TheVariants.{Less}
 use Rattle.ntfs_def.specs.Node.{Entry}
 use Rattle.ntfs_def.specs.IndexTree.{Each}
 use Rattle.index_node.specs.View.{node_of_view, number_of, view_of}
-use Rattle.index_tree.proofs.seek.seek_in.Given as goal
+use Rattle.index_node.proofs.seek.seek_in.Given as goal
 
 abbrev pub invariant-places : goal.invariant-places
 invariant-places g l = record {

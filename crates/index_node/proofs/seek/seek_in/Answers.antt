@@ -5,10 +5,10 @@ use Rattle.std.specs.declared.cmp.Ordering.TheVariants.{Less, Equal, Greater}
 use Rattle.ntfs_def.specs.Node.{Entry}
 use Rattle.ntfs_def.specs.IndexTree.{Each}
 use Rattle.index_node.specs.View.{node_of_view, number_of}
-use Rattle.index_tree.specs.Search.{StartsAt}
+use Rattle.index_node.specs.Seek.{StartsAt}
 use Rattle.std.proofs.lemmas.Grind.{common_steps}
-use Rattle.index_tree.proofs.PlaceLaws.{key_in, less_in, more_in}
-use Rattle.index_tree.proofs.seek.seek_in.Goals as goal
+use Rattle.index_node.proofs.SeekLaws.{key_in, less_in, more_in}
+use Rattle.index_node.proofs.seek.seek_in.Goals as goal
 
 bare : Entry
 bare = record { item = record { head = []; key = []; rest = [] }; child = None }
