@@ -4,3 +4,8 @@ pub mod HeldIndexLaws
 pub mod ToldLaws
 pub mod UsedRecord
 pub mod PartsMetLaws
+pub mod PlacedRecords
+pub mod WrittenRecords
+pub mod KeptFiles
+pub mod EditedBlocks
+pub mod RecordWriteLaws

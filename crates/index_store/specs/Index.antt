@@ -1,7 +1,7 @@
 -- One index of a file: the parts of its name, and what has to be known of them so that its records are read.
 use Rattle.std.specs.Prelude.{◌≡◌, ℕ, List, [], ◌∷◌, map, Some, IfSome}
 use Rattle.ntfs_def.specs.declared.kinds.TheConstants.{BITMAP, INDEX_ALLOCATION, INDEX_ROOT}
-use Rattle.volume_def.specs.Files.{Part, content_extent, content_value}
+use Rattle.volume_def.specs.Files.{content_extent, content_value}
 use Rattle.volume_def.specs.IndexesClause.{IndexParts}
 use Rattle.volume_def.specs.Values.{IsPlainIfThere, first_part}
 use Rattle.file_record.specs.declared.parts.FileParts.{FileParts}

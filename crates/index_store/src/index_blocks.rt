@@ -23,7 +23,7 @@ pub struct IndexBlocks<'m, 'd, D: Disk> {
 }
 
 // Why a record was not read, by why its file was not.
-fn block_no(no: FileNo) -> BlockNo
+pub(crate) fn block_no(no: FileNo) -> BlockNo
     ensures { result ≡ block_no_of no }
 {
     match no {

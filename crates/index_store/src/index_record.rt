@@ -67,8 +67,9 @@ fn are_placed(
 }
 
 // The byte of the stream at which the index record of a number begins, where it lies whole in so many bytes.
-fn record_place(vcn: u64, size: u64, len: u64) -> Option<u64>
+pub(crate) fn record_place(vcn: u64, size: u64, len: u64) -> Option<u64>
     ensures some { IfSome result (λ at. (at ≡ vcn * size) × (at % 4096 ≡ 0) × (at + 4096 ≤ len)) }
+    ensures fits { IfSome result (λ at. at + 4096 < 2 ^ 64) }
     ensures none { IfNone result (vcn * size % 4096 ≡ 0 → vcn * size + 4096 ≤ len → ⊥) }
 {
     let at = vcn as u128 * size as u128;

@@ -3,11 +3,14 @@
 
 mod index;
 mod index_blocks;
+mod index_blocks_mut;
 mod index_record;
 mod laws;
 mod parts_met;
+mod record_write;
 
 pub use index::{FoundIndex, find_index};
 pub use index_blocks::IndexBlocks;
+pub use index_blocks_mut::IndexBlocksMut;
 pub use index_record::read_index_record;
-pub use laws::index_laws;
+pub use laws::{changed_laws, index_laws};

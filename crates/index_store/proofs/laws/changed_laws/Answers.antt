@@ -1,0 +1,8 @@
+use Rattle.index_store.proofs.KeptFiles.{clusters-kept, held-kept}
+use Rattle.index_store.proofs.laws.changed_laws.Goals as goal
+
+pub returns-clause-held : goal.returns-clause-held
+returns-clause-held c old new f kind name file owners plain changes = held-kept old new f kind name owners changes plain file
+
+pub returns-clause-others : goal.returns-clause-others
+returns-clause-others c = clusters-kept
