@@ -6,13 +6,18 @@ use Rattle.std.specs.Option.{option_and_then}
 use Rattle.std.specs.declared.cmp.Ordering.{Ordering}
 use Rattle.ntfs_def.specs.FileName.{is_name_key}
 use Rattle.ntfs_def.specs.Fixup.{opened_of}
-use Rattle.ntfs_def.specs.IndexTree.{Each, Nodes, Walks}
+use Rattle.ntfs_def.specs.IndexTree.{Ascends, Each, Nodes, Walks, spread_items}
+use Rattle.ntfs_def.specs.KeyOrder.{name_order}
 use Rattle.ntfs_def.specs.Node.{Item, Node, are_short, node_in, short_node}
 use Rattle.ntfs_def.specs.declared.index.NodeForm.{NodeForm}
 use Rattle.ntfs_def.specs.declared.index.NodeForm.TheVariants.{Names}
 use Rattle.volume_def.specs.CaseClause.{volume_fold}
 use Rattle.volume_def.specs.IndexesClause.{IsDirectoryIndex, index_nodes, stored_index_record}
 use Rattle.volume_def.specs.View.{VolumeView}
+use Rattle.index_node.specs.Edit.{item_len}
+use Rattle.index_tree.specs.Edit.{HasSortedIndex, IsAt, IsSortedIndex, short_nodes}
+use Rattle.index_tree.specs.Replace.{IsSwapped, Replaces}
+use Rattle.dir_index.specs.Replaced.{HasSwapped}
 use Rattle.index_tree.specs.Search.{HasRisingIndex, IsFirstFound, IsRisingIndex, Rises, nodes_of}
 use Rattle.index_tree.specs.Walk.{HasWalk, IsWalk, items_in}
 use Rattle.index_tree.proofs.MovedWalks.{walks_moved}
@@ -33,7 +38,8 @@ short_said : (form : NodeForm) (bytes : List ℕ) (node : Node) → short_node f
 short_said form bytes node e = by (node_in form bytes) refl
   where
     by : (o : Option Node) → node_in form bytes ≡ o → node_in form bytes ≡ Some node
-    by None n = let f : None ≡ Some node = sym (ap (option_and_then (λ said. cond (are_short bytes (length said.entries)) (Some said) None)) n) ∙ e in cc
+    by None n = let f : None ≡ Some node = sym (ap (option_and_then (λ said. cond (are_short bytes (length said.entries))
+        (Some said) None)) n) ∙ e in cc
     by (Some said) n = n ∙ tested (are_short bytes (length said.entries)) refl
       where
         is : (b : Bool) → cond b (Some said) None ≡ Some node → Some said ≡ Some node
@@ -55,7 +61,8 @@ each_map : {A : Type 0} (P Q : A → Type 0) (f : (x : A) → P x → Q x) (xs :
 each_map P Q f [] h = tt
 each_map P Q f (x ∷ xs) h = (f x h.0, each_map P Q f xs h.1)
 
-module _ (view : VolumeView) (dir : ℕ) (table root : List ℕ) (records : ℕ → Option (List ℕ)) (held : IsHeldIndex view dir table root records)
+module _ (view : VolumeView) (dir : ℕ) (table root : List ℕ) (records : ℕ
+    → Option (List ℕ)) (held : IsHeldIndex view dir table root records)
     (has : IsDirectoryIndex view dir) where
   abbrev nodes : Nodes
   nodes = nodes_of Names records
@@ -78,6 +85,61 @@ module _ (view : VolumeView) (dir : ℕ) (table root : List ℕ) (records : ℕ 
 
   keys : Each HasName has.items
   keys = each_of HasName HasName (λ x h. h) has.items has.index.keys
+
+  -- what an edit asks for: its nodes as their entries are short, and its keys in order
+  short_says : (vcn : ℕ) → records vcn ≡ Some (opened_of (stored_index_record view (names_index view dir) vcn)) → (node : Node)
+      → index_nodes Names view (names_index view dir) vcn ≡ Some node → short_nodes Names records vcn ≡ Some node
+  unfolding index_nodes
+  short_says vcn at node e = ap (option_and_then (short_node Names)) at ∙ e
+
+  abbrev short_walk : Walks (short_nodes Names records) has.index.root_node has.items
+  short_walk = walks_moved (index_nodes Names view (names_index view dir))
+      (short_nodes Names records) has.index.root_node has.items has.index.walks
+      (λ vcn met. short_says vcn (held.there vcn (has.index.each vcn met)))
+
+  short_root : short_node Names root ≡ Some has.index.root_node
+  short_root = ap (short_node Names) (sym same_root) ∙ has.index.says
+
+  sorted : IsSortedIndex (name_order (volume_fold view)) is_name_key (short_nodes Names records) has.index.walks.depth has.index.walks.s
+      has.index.root_node
+  sorted = record {
+    holds = short_walk.holds;
+    keys = subst (Each HasName) has.index.walks.is keys;
+    ascends = subst (Ascends (name_order (volume_fold view))) has.index.walks.is has.index.ascending;
+  }
+
+  pub has_sorted : HasSortedIndex (name_order (volume_fold view)) is_name_key (short_nodes Names records) (short_node Names root) 15
+  has_sorted = record {
+    node = has.index.root_node;
+    is = short_root;
+    depth = has.index.walks.depth;
+    small = has.index.walks.small;
+    s = has.index.walks.s;
+    index = sorted;
+  }
+
+  -- and what it has once an item came in the place of one with an equal key
+  pub items_swapped : (records' : ℕ → Option (List ℕ)) (root' : List ℕ) (item : Item)
+      → Replaces (name_order (volume_fold view)) is_name_key Names (short_node Names root) (short_node Names root') item records records'
+      → (x : Item) → IsAt (name_order (volume_fold view)) item.key has.items x → item_len x ≡ item_len item
+      → HasSwapped (name_order (volume_fold view)) records' root' item has.items
+  items_swapped records' root' item replaces x at len =
+      let did = replaces has.index.root_node short_root has.index.walks.depth has.index.walks.s sorted x
+      (subst (λ items. IsAt (name_order (volume_fold view)) item.key items x) has.index.walks.is at) len in
+      record {
+        node = did.0;
+        says = did.1;
+        next = spread_items has.index.walks.depth did.2.s';
+        walks = record {
+          depth = has.index.walks.depth;
+          small = has.index.walks.small;
+          s = did.2.s';
+          holds = did.2.index.holds;
+          is = refl;
+        };
+        swapped = subst (λ items. IsSwapped (name_order (volume_fold view)) item items (spread_items has.index.walks.depth did.2.s'))
+            (sym has.index.walks.is) did.2.swapped;
+      }
 
   module _ (side : List ℕ → Ordering) (rises : Rises side has.items) where
     abbrev rising : IsRisingIndex side is_sought_key nodes has.index.walks.depth has.index.walks.s has.index.root_node

@@ -6,3 +6,5 @@ pub mod DirectoryLinks
 pub mod FoundLinks
 pub mod HeldIndex
 pub mod HeldDirectory
+pub mod ReplacedRecords
+pub mod StandardLaws

@@ -2,3 +2,5 @@ pub mod Held
 pub mod Links
 pub mod Sought
 pub mod SoughtLaws
+pub mod Replaced
+pub mod Standard

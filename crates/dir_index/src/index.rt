@@ -23,10 +23,10 @@ use vol_bytes::Octets;
 use vol_disk::Disk;
 
 /// The most bytes of entries in the root of a directory, which stands in a record.
-const ROOT_LIMIT: usize = 1024;
+pub(crate) const ROOT_LIMIT: usize = 1024;
 
 // Why a directory was not searched, by why its index was not.
-fn file_no(no: IndexNo) -> FileNo
+pub(crate) fn file_no(no: IndexNo) -> FileNo
     ensures { result ≡ file_no_of no }
 {
     match no {

@@ -2,13 +2,18 @@
 ghost use Rattle.std.specs.Prelude.{◌≡◌, ◌≤◌, ◌+◌, ◌*◌, ℕ, List, Option, Some, None, map};
 ghost use Rattle.std.specs.List.{filter_map};
 ghost use Rattle.std.specs.Option.{option_and_then};
-ghost use Rattle.ntfs_def.specs.KeyOrder.{fold_of};
-ghost use Rattle.ntfs_def.specs.Node.{node_in};
+ghost use Rattle.ntfs_def.specs.FileName.{is_name_key};
+ghost use Rattle.ntfs_def.specs.KeyOrder.{fold_of, name_order};
+ghost use Rattle.ntfs_def.specs.Node.{Item, node_in, short_node};
 ghost use Rattle.ntfs_def.specs.declared.index.NodeForm.TheVariants.{Names};
 ghost use Rattle.volume_def.specs.CaseClause.{volume_fold};
-ghost use Rattle.volume_def.specs.IndexesClause.{IsDirectoryIndex};
+ghost use Rattle.volume_def.specs.IndexesClause.{IndexParts, IsDirectoryIndex};
 ghost use Rattle.volume_def.specs.View.{VolumeView};
+ghost use Rattle.index_node.specs.Edit.{item_len};
+ghost use Rattle.index_tree.specs.Edit.{HasSortedIndex, IsAt, short_nodes};
 ghost use Rattle.index_tree.specs.Search.{nodes_of};
+ghost use Rattle.index_store.specs.IndexRecords.{index_record_on};
+ghost use Rattle.dir_index.specs.Replaced.{HasSwapped, ReplacesItem};
 ghost use Rattle.index_tree.specs.Walk.{HasWalk, IsWalk};
 ghost use Rattle.tree_model.specs.Reading.{directory_links};
 ghost use Rattle.tree_model.specs.Tree.{sought_link};
@@ -49,4 +54,19 @@ pub fn directory_search_laws()
         → after ≤ before + most * has.index.walks.depth)
         × (SeekCosts most (folded_order (fold_of table) name) records root before after
         → after ≤ before + most * has.index.walks.depth) }
+{}
+
+/// The index of a directory that is held has what an edit of its entries asks for (`can_edit`). Where an entry came in the place of
+/// the one with an equal key, which is as long, the walk of the index gives its item in the place of that one's, and all others as
+/// before (`replaced`).
+pub fn directory_edit_laws()
+    ensures can_edit { (view : VolumeView) (dir : ℕ) (table root : List ℕ) (records : ℕ → Option (List ℕ))
+        → IsHeldIndex view dir table root records
+        → HasSortedIndex (name_order (fold_of table)) is_name_key (short_nodes Names records) (short_node Names root) 15 }
+    ensures replaced { (view new : VolumeView) (dir : ℕ) (index : IndexParts) (table root next : List ℕ) (item : Item)
+        → IsHeldIndex view dir table root (index_record_on view index)
+        → ReplacesItem (name_order (fold_of table)) is_name_key view new index root next item
+        → (has : IsDirectoryIndex view dir) → (x : Item) → IsAt (name_order (fold_of table)) item.key has.items x
+        → item_len x ≡ item_len item
+        → HasSwapped (name_order (fold_of table)) (index_record_on new index) next item has.items }
 {}
