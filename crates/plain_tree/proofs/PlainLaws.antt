@@ -1,13 +1,12 @@
 -- What the calls lend, the path to a directory, and a step of the machine that is kept.
-use Rattle.std.proofs.Common.{◌≡◌, ◌≢◌, ◌==◌, ◌<◌, ◌-◌, ◌++◌, arith, ℕ, zero, suc, true, false, List, [], ◌∷◌, Result, Ok, Err, ap, subst}
+use Rattle.std.proofs.Common.{◌≡◌, ◌≢◌, ◌==◌, ◌&&◌, ◌<◌, ◌-◌, ◌++◌, arith, ℕ, zero, suc, Bool, true, false, not, List, [], ◌∷◌, Result, Ok, Err, ap, subst}
 use Rattle.std.proofs.Common.{IsErrAnd, Option, Some, refl}
 use Rattle.std.proofs.lemmas.Bool.{ne_eqb}
 use denote.Ref.{Bor}
 use Rattle.ntfs_def.specs.declared.records.TheConstants.{ROOT}
 use Rattle.tree_model.specs.Answers.{answer_of, path_to}
-use Rattle.tree_model.specs.Refusals.{Facts, outcome}
+use Rattle.tree_model.specs.Refusals.{Facts, is_reading, outcome}
 use Rattle.tree_model.specs.Shown.{Tells}
-use Rattle.tree_model.specs.Staging.{is_built}
 use Rattle.tree_model.specs.Step.{Step, due, reply_of}
 use Rattle.tree_model.specs.Subjects.{locate}
 use Rattle.tree_model.specs.Tree.{Tree, first_name}
@@ -20,7 +19,7 @@ use Rattle.tree_model.specs.declared.reply.No.{No}
 use Rattle.tree_model.specs.declared.tree.Link.{Link}
 use Rattle.tree_model.proofs.LookLaws.{find-never}
 use Rattle.tree_model.proofs.MachineLaws.{shown-step}
-use Rattle.plain_tree.specs.Plain.{TellsDue, AreTold, df_of, lent_found, machine_of, tree_of}
+use Rattle.plain_tree.specs.Plain.{TellsDue, AreTold, df_of, is_plain, lent_found, machine_of, tree_of}
 use Rattle.plain_tree.specs.declared.facts.PlainFacts.{PlainFacts}
 use Rattle.plain_tree.specs.declared.machine.PlainMachine.{PlainMachine}
 
@@ -45,12 +44,52 @@ unfolding due outcome locate answer_of
 df-due told facts tree opens now session is =
     let n = find-never opens 0 in rw n (λ i. Ok (a.Df (is.clusters i) (is.free i) (is.records i) (is.free_records i)))
 
+-- it reads
+plain-reads : (command : Command) → is_plain command ≡ true → is_reading command ≡ true
+plain-reads (c.Ls path) e = refl
+plain-reads (c.Stat path) e = refl
+plain-reads (c.Links path) e = refl
+plain-reads (c.Cat path stream) e = refl
+plain-reads (c.Read path stream from len) e = refl
+plain-reads (c.Streams path) e = refl
+plain-reads (c.Attr path) e = refl
+plain-reads (c.Sec path) e = refl
+plain-reads (c.Reparse path) e = refl
+plain-reads (c.Objid path) e = refl
+plain-reads c.Df e = refl
+plain-reads (c.Time now) e = cc
+plain-reads (c.Create path) e = cc
+plain-reads (c.Mkdir path) e = cc
+plain-reads (c.Rm path) e = cc
+plain-reads (c.Rmdir path) e = cc
+plain-reads (c.Ln old new) e = cc
+plain-reads (c.Mv old new) e = cc
+plain-reads (c.Write path stream from bytes) e = cc
+plain-reads (c.Truncate path stream size) e = cc
+plain-reads (c.Punch path stream from len) e = cc
+plain-reads (c.Rmstream path name) e = cc
+plain-reads (c.Setattr path flags) e = cc
+plain-reads (c.Setsec path id) e = cc
+plain-reads (c.Sd id) e = cc
+plain-reads (c.Mkreparse path tag bytes) e = cc
+plain-reads (c.Rmreparse path) e = cc
+plain-reads (c.Open path stream access share) e = cc
+plain-reads (c.Hread handle from len) e = cc
+plain-reads (c.Hwrite handle from bytes) e = cc
+plain-reads (c.Close handle) e = cc
+
+-- what is neither done nor of opens is not built
+pub not-built : (built does : Bool) → does ≡ false → (built && not does) ≡ false → built ≡ false
+not-built false does none other = refl
+not-built true false none other = cc
+not-built true true none other = cc
+
 -- a step of the machine that is kept
 pub answered-step : (plain : PlainMachine) (opens : List OpenEntry) (told : PlainFacts) (facts : Facts) (session : ℕ) (command : Command)
-    (result : Result Answer No) → opens ≡ plain.opens.items → is_built command ≡ true → TellsDue plain.tree opens told command result
+    (result : Result Answer No) → opens ≡ plain.opens.items → is_plain command ≡ true → TellsDue plain.tree opens told command result
     → AreTold told facts → Step facts (machine_of plain) session command (reply_of result) (machine_of plain)
 unfolding machine_of
-answered-step plain opens told facts session command result same built answers is =
-    shown-step facts (machine_of plain) session command result built
+answered-step plain opens told facts session command result same does answers is =
+    shown-step facts (machine_of plain) session command result (plain-reads command does)
     (subst (λ it. Tells (due facts (record { tree = tree_of plain.tree; opens = it; now = plain.now }) session command) result) same
     (answers facts plain.now session is))

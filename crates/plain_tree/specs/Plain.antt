@@ -13,6 +13,7 @@ use Rattle.tree_model.specs.Step.{due}
 use Rattle.tree_model.specs.Subjects.{Machine}
 use Rattle.tree_model.specs.Tree.{Tree, are_same, is_in}
 use Rattle.tree_model.specs.declared.command.Command.{Command}
+use Rattle.tree_model.specs.declared.command.Command.TheVariants as c
 use Rattle.tree_model.specs.declared.opens.OpenEntry.{OpenEntry}
 use Rattle.plain_tree.specs.declared.tree.PlainTree.{PlainTree}
 use Rattle.plain_tree.specs.declared.facts.PlainFacts.{PlainFacts}
@@ -104,3 +105,18 @@ abbrev pub TellsDue : PlainTree → List OpenEntry → PlainFacts → Command �
 TellsDue plain opens told command result =
     (facts : Facts) (now session : ℕ) → AreTold told facts
     → Tells (due facts (record { tree = tree_of plain; opens = opens; now = now }) session command) result
+
+-- The commands that the plain machine does: those that show something of what a path leads to, and `df`.
+abbrev pub is_plain : Command → Bool
+is_plain (c.Ls path) = true
+is_plain (c.Stat path) = true
+is_plain (c.Links path) = true
+is_plain (c.Cat path stream) = true
+is_plain (c.Read path stream at len) = true
+is_plain (c.Streams path) = true
+is_plain (c.Attr path) = true
+is_plain (c.Sec path) = true
+is_plain (c.Reparse path) = true
+is_plain (c.Objid path) = true
+is_plain c.Df = true
+is_plain other = false

@@ -3,12 +3,11 @@ ghost use Rattle.std.specs.Prelude.{◌≡◌, [], Some, find, map, option_map};
 ghost use Rattle.ntfs_def.specs.KeyOrder.{fold_of};
 ghost use Rattle.tree_model.specs.Answers.{is_unnamed_object_id, shown_link_count, ls_line, object_id, shown_stream};
 ghost use Rattle.tree_model.specs.Cases.{size_of};
-ghost use Rattle.plain_tree.specs.Plain.{TellsDue, df_of, is_called, lent, lent_bytes};
+ghost use Rattle.plain_tree.specs.Plain.{TellsDue, df_of, is_called, is_plain, lent, lent_bytes};
 ghost use Rattle.tree_model.specs.Shown.{Tells, cat_of, kept_apart, links_of, ls_of, file_at, read_of, reparse_of};
 ghost use Rattle.plain_tree.specs.Plain.{lent_file, lent_listed, tree_of};
 ghost use Rattle.tree_model.specs.Shown.{looked, stream_of};
 ghost use Rattle.tree_model.specs.Shown.{unless_apart};
-ghost use Rattle.tree_model.specs.Staging.{is_built};
 ghost use Rattle.std.specs.Option.{option_map_or};
 ghost use Rattle.tree_model.specs.Paths.{and_then};
 ghost use Rattle.tree_model.specs.declared.command.Command.TheVariants as c;
@@ -312,7 +311,7 @@ impl PlainTree {
         facts: &PlainFacts,
         command: &Command,
     ) -> Result<Answer, No>
-        requires { IsTrue (is_built command.now) }
+        requires { IsTrue (is_plain command.now) }
         ensures { TellsDue self.now opens.now facts.now command.now result }
     {
         match command {

@@ -1,6 +1,6 @@
 //! The machine kept in plain lists: the reply to a command, and the state after it.
-ghost use Rattle.std.specs.Prelude.{◌≡◌};
-ghost use Rattle.plain_tree.specs.Plain.{AreTold, machine_of};
+ghost use Rattle.std.specs.Prelude.{◌≡◌, ◌&&◌, ◌||◌, IfSome, None, is_some, not};
+ghost use Rattle.plain_tree.specs.Plain.{AreTold, is_plain, machine_of};
 ghost use Rattle.tree_model.specs.Refusals.{Facts};
 ghost use Rattle.tree_model.specs.Staging.{is_built};
 ghost use Rattle.tree_model.specs.Step.{Step};
@@ -20,31 +20,37 @@ pub struct PlainMachine {
 }
 
 impl PlainMachine {
-    /// A command of a session: its reply, and the state after it. What is not built yet is refused, so the state stays.
+    /// A command of a session: its reply, and the state after it. `None` for `time`, `open`, `hread` and `close`, which this machine
+    /// does not do. What is not built yet is refused, so the state stays.
     pub fn step(
         &mut self,
         alloc: Global,
         facts: &PlainFacts,
         session: u8,
         command: &Command,
-    ) -> Reply
-        ensures { (all : Facts) → AreTold facts.now all
-            → Step all (machine_of self.old) session command.now result (machine_of self.new) }
+    ) -> Option<Reply>
+        ensures step { (all : Facts) → AreTold facts.now all
+            → IfSome result (λ reply. Step all (machine_of self.old) session command.now reply (machine_of self.new)) }
+        ensures some { is_some result ≡ (is_plain command.now || not (is_built command.now)) }
+        ensures kept { result ≡ None → self.new ≡ self.old }
     {
-        if !is_built(command) {
-            return Reply::No(No::Unbuilt);
+        if is_plain(command) {
+            let opens = self.opens.as_slice();
+            return match self.tree.answer(alloc, opens, facts, command) {
+                Ok(answer) => Some(Reply::Ok(answer)),
+                Err(refused) => Some(Reply::No(refused)),
+            };
         }
-        let opens = self.opens.as_slice();
-        match self.tree.answer(alloc, opens, facts, command) {
-            Ok(answer) => Reply::Ok(answer),
-            Err(refused) => Reply::No(refused),
+        if is_of_opens(command) {
+            return None;
         }
+        Some(Reply::No(No::Unbuilt))
     }
 }
 
-// The commands that are built.
-fn is_built(command: &Command) -> bool
-    ensures { result ≡ is_built command.now }
+// The commands that the plain machine does.
+fn is_plain(command: &Command) -> bool
+    ensures { result ≡ is_plain command.now }
 {
     matches!(
         command,
@@ -59,5 +65,15 @@ fn is_built(command: &Command) -> bool
             | Command::Reparse { .. }
             | Command::Objid { .. }
             | Command::Df
+    )
+}
+
+// All others that are built.
+fn is_of_opens(command: &Command) -> bool
+    ensures { result ≡ (is_built command.now && not (is_plain command.now)) }
+{
+    matches!(
+        command,
+        Command::Time { .. } | Command::Open { .. } | Command::Hread { .. } | Command::Close { .. }
     )
 }

@@ -39,7 +39,7 @@ conflict-is file entry = by entry.share.r entry.share.w entry.share.d refl refl 
     by true false false r w d = rw (r, w, d) refl
     by false w' d' r w d = rw r refl
 
-find-apart : (opens : List OpenEntry) (file : ℕ)
+pub find-apart : (opens : List OpenEntry) (file : ℕ)
     → find (conflicts (AsksFor to_read all_access) file) opens
     ≡ find (λ (entry : OpenEntry). (entry.file == file) && not entry.share.r) opens
 find-apart opens file = ap (λ test. find test opens) (λ i entry. conflict-is file entry i)

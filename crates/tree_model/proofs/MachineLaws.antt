@@ -2,7 +2,7 @@
 use Rattle.std.proofs.Common.{◌≡◌, inl, inr, ℕ, true, false, Result, Ok, Err, refl, sym, ap, ◌∙◌}
 use Rattle.tree_model.specs.Effects.{after, makes_file, opens_after, tree_after}
 use Rattle.tree_model.specs.Shown.{Tells}
-use Rattle.tree_model.specs.Refusals.{Facts, outcome}
+use Rattle.tree_model.specs.Refusals.{Facts, is_reading, outcome}
 use Rattle.tree_model.specs.Staging.{is_built}
 use Rattle.tree_model.specs.Step.{Step, answered, due, reply_of}
 use Rattle.tree_model.specs.Subjects.{Located, Machine}
@@ -19,8 +19,8 @@ pub unbuilt-step : (facts : Facts) (m : Machine) (session : ℕ) (command : Comm
 unfolding due outcome
 unbuilt-step facts m session command unbuilt = record { replied = inl (rw unbuilt refl); moved = refl }
 
--- those that are built leave the state as it was, and make no file
-stays : (m : Machine) (session : ℕ) (command : Command) (at : Located) → is_built command ≡ true
+-- those that read leave the state as it was, and make no file
+stays : (m : Machine) (session : ℕ) (command : Command) (at : Located) → is_reading command ≡ true
     → (makes_file command ≡ false) × (m ≡ after m session command at 0)
 unfolding tree_after opens_after
 stays m session (c.Ls path) at e = (refl, refl)
@@ -31,9 +31,11 @@ stays m session (c.Read path stream from len) at e = (refl, refl)
 stays m session (c.Streams path) at e = (refl, refl)
 stays m session (c.Attr path) at e = (refl, refl)
 stays m session (c.Sec path) at e = (refl, refl)
+stays m session (c.Sd id) at e = (refl, refl)
 stays m session (c.Reparse path) at e = (refl, refl)
 stays m session (c.Objid path) at e = (refl, refl)
 stays m session c.Df at e = (refl, refl)
+stays m session (c.Hread handle from len) at e = (refl, refl)
 stays m session (c.Time now) at e = cc
 stays m session (c.Create path) at e = cc
 stays m session (c.Mkdir path) at e = cc
@@ -47,11 +49,9 @@ stays m session (c.Punch path stream from len) at e = cc
 stays m session (c.Rmstream path name) at e = cc
 stays m session (c.Setattr path flags) at e = cc
 stays m session (c.Setsec path id) at e = cc
-stays m session (c.Sd id) at e = cc
 stays m session (c.Mkreparse path tag bytes) at e = cc
 stays m session (c.Rmreparse path) at e = cc
 stays m session (c.Open path stream access share) at e = cc
-stays m session (c.Hread handle from len) at e = cc
 stays m session (c.Hwrite handle from bytes) at e = cc
 stays m session (c.Close handle) at e = cc
 
@@ -62,11 +62,11 @@ found facts m session command (Ok at) answer e = (at, refl)
 found facts m session command (Err refused) answer e = cc
 
 pub shown-step : (facts : Facts) (m : Machine) (session : ℕ) (command : Command) (result : Result Answer No)
-    → is_built command ≡ true → Tells (due facts m session command) result → Step facts m session command (reply_of result) m
+    → is_reading command ≡ true → Tells (due facts m session command) result → Step facts m session command (reply_of result) m
 unfolding due
-shown-step facts m session command (Ok answer) built tells =
+shown-step facts m session command (Ok answer) reads tells =
     let at = found facts m session command (outcome facts m session command) answer tells in
-    let same = stays m session command at.0 built in
+    let same = stays m session command at.0 reads in
     record {
       replied = inl (sym (ap reply_of tells));
       moved = record {
@@ -77,6 +77,6 @@ shown-step facts m session command (Ok answer) built tells =
         moved = same.1;
       };
     }
-shown-step facts m session command (Err refused) built (inl tells) = record { replied = inl (sym (ap reply_of tells)); moved = refl }
-shown-step facts m session command (Err refused) built (inr memory) =
+shown-step facts m session command (Err refused) reads (inl tells) = record { replied = inl (sym (ap reply_of tells)); moved = refl }
+shown-step facts m session command (Err refused) reads (inr memory) =
     record { replied = inr (ap reply.No memory); moved = refl }

@@ -1,5 +1,5 @@
 -- The refusals of a command in their order, told here alone.
-use Rattle.std.specs.Prelude.{ℕ, Bool, true, false, List, [], ◌∷◌, Option, Some, None, Result, Ok, Err, if◌then◌else◌}
+use Rattle.std.specs.Prelude.{ℕ, not, Bool, true, false, List, [], ◌∷◌, Option, Some, None, Result, Ok, Err, if◌then◌else◌}
 use Rattle.std.specs.Option.{option_or}
 use Rattle.tree_model.specs.Cases.{bad_tag, directory_for_file, dos_name, exists, loops, names_badly, no_reparse, no_security, no_stream}
 use Rattle.tree_model.specs.Cases.{not_empty, packed, shared, too_big, too_many_handles, too_many_links}
@@ -43,6 +43,13 @@ is_edit (c.Mkreparse path tag bytes) = true
 is_edit (c.Rmreparse path) = true
 is_edit (c.Hwrite handle at bytes) = true
 is_edit other = false
+
+-- Those that read leave the machine as it was.
+abbrev pub is_reading : Command → Bool
+is_reading (c.Time now) = false
+is_reading (c.Open path stream access share) = false
+is_reading (c.Close handle) = false
+is_reading other = not (is_edit other)
 
 abbrev pub when : Bool → No → Option No
 when test refused = if test then Some refused else None

@@ -24,6 +24,10 @@ is_built (c.Sec path) = true
 is_built (c.Reparse path) = true
 is_built (c.Objid path) = true
 is_built c.Df = true
+is_built (c.Time now) = true
+is_built (c.Open path stream access share) = true
+is_built (c.Hread handle at len) = true
+is_built (c.Close handle) = true
 is_built other = false
 
 -- LINKED: a file would go that has a reparse point or an object id, for which view indexes have keys.
