@@ -1,4 +1,5 @@
 pub mod DigitLaws
+pub mod DrawnLaws
 pub mod LineLaws
 pub mod NumberLaws
 pub mod OneLine

@@ -7,3 +7,4 @@ pub mod Digits
 pub mod Printed
 pub mod Output
 pub mod Targets
+pub mod Script

@@ -12,9 +12,11 @@ mod paths;
 mod pieces;
 mod print;
 mod rows;
+mod script;
 mod verb;
 mod words;
 
 pub use laws::line_laws;
 pub use parse::{LineFault, parse_line};
 pub use print::print_reply;
+pub use script::{ScriptNo, make_script, next_draw};

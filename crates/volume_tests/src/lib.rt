@@ -7,6 +7,8 @@ mod by_number;
 #[cfg(test)]
 mod commands;
 #[cfg(test)]
+mod drawn;
+#[cfg(test)]
 mod indexes;
 #[cfg(test)]
 mod machine;

@@ -170,7 +170,7 @@ fn answer_of(alloc: Global, tree: PlainTree, command: &Command) -> Result<Answer
         now: 0,
     };
     match machine.step(alloc, &facts(), 0, command) {
-        Reply::Ok(answer) => Ok(answer),
+        Some(Reply::Ok(answer)) => Ok(answer),
         _ => Err(Fail::from(No::Unbuilt)),
     }
 }
@@ -410,13 +410,18 @@ fn a_file_is_edited(rt: HostRuntime) -> Result<(), Fail> {
 }
 
 #[test]
-fn a_step_that_is_not_built(rt: HostRuntime) -> Result<(), Fail> {
+fn steps_that_are_refused_and_left(rt: HostRuntime) -> Result<(), Fail> {
     let mut machine = PlainMachine {
         tree: tree(rt.alloc())?,
         opens: Vec::new(rt.alloc()),
         now: 0,
     };
+    let rm = Command::Rm {
+        path: Path::from_vec(Vec::new(rt.alloc())),
+    };
+    let reply = machine.step(rt.alloc(), &facts(), 1, &rm);
+    assert!(rt; matches!(reply, Some(Reply::No(No::Unbuilt))));
     let reply = machine.step(rt.alloc(), &facts(), 1, &Command::Time { now: 7 });
-    assert!(rt; matches!(reply, Reply::No(No::Unbuilt)));
+    assert!(rt; reply.is_none());
     Ok(())
 }
