@@ -1,5 +1,5 @@
 -- What a line is replied.
-use Rattle.std.proofs.Common.{◌≡◌, ◌⊎◌, ℕ, Bool, true, false, List, [], Ok, Err, refl, sym, ap, ◌∙◌, subst, inl, inr}
+use Rattle.std.proofs.Common.{◌≡◌, ◌⊎◌, ℕ, Bool, true, false, List, Ok, Err, refl, sym, ap, ◌∙◌, subst, inl, inr}
 use Rattle.std.specs.Prelude.{◌||◌, is_some}
 use Rattle.vol_disk.specs.declared.Disk as disk
 use Rattle.volume_def.specs.View.{VolumeView}
@@ -10,12 +10,13 @@ use Rattle.tree_model.specs.Reading.{read}
 use Rattle.session_def.specs.State.{State}
 use Rattle.session_def.specs.Session.{is_done_edit}
 use Rattle.tree_model.specs.declared.command.Command.{Command}
+use Rattle.tree_model.specs.declared.opens.OpenEntry.{OpenEntry}
 use Rattle.tree_model.specs.declared.reply.No.TheVariants as no
 use Rattle.tree_model.specs.declared.reply.Reply.{Reply}
 use Rattle.tree_model.specs.declared.reply.Reply.TheVariants as reply
 use Rattle.tree_ops.specs.declared.volume.Volume.{Volume}
 use Rattle.tree_ops.specs.Runs.{Applied, Failed, Ready, machine_under}
-use Rattle.tree_ops.specs.Volumes.{VolumeReads, disk_under, mark_of, moment_of, view_under}
+use Rattle.tree_ops.specs.Volumes.{VolumeReads, disk_under, mark_of, moment_of, opens_of, view_under}
 use Rattle.volume_mark.specs.Closing.{MarkStands}
 use Rattle.script_run.specs.Says.{SaysLine, refusal_of}
 use Rattle.script_run.specs.Turns.{LineFailed, Replied}
@@ -23,8 +24,9 @@ use Rattle.tree_model.proofs.HasFacts.{has_facts}
 
 machine_same : {D : Type 0} (g : disk.Ghosts D) (old new : Volume D g) → VolumeReads g old new → machine_under g old ≡ machine_under g new
 machine_same g old new reads =
-    ap (λ (view : VolumeView). record { tree = read view; opens = []; now = moment_of g old }) (sym reads.view)
-    ∙ ap (λ (n : ℕ). record { tree = read (view_under g new); opens = []; now = n }) (sym reads.moment)
+    ap (λ (view : VolumeView). record { tree = read view; opens = opens_of g old; now = moment_of g old }) (sym reads.view)
+    ∙ ap (λ (opens : List OpenEntry). record { tree = read (view_under g new); opens = opens; now = moment_of g old }) (sym reads.opens)
+    ∙ ap (λ (n : ℕ). record { tree = read (view_under g new); opens = opens_of g new; now = n }) (sym reads.moment)
 
 -- a call that only reads leaves the run where it stands
 pub reads_on : {D : Type 0} (g : disk.Ghosts D) (first : VolumeView) (old new : Volume D g) (state : State) → Ready g first old state

@@ -7,6 +7,8 @@ mod deep;
 #[cfg(test)]
 mod lists;
 #[cfg(test)]
+mod opens;
+#[cfg(test)]
 mod reading;
 #[cfg(test)]
 mod script;

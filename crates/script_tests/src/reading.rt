@@ -14,8 +14,8 @@ const ROOM: usize = 70_000;
 /// A line of a script, and its reply.
 pub type Row = (&'static str, &'static str);
 
-// What a script prints, if it ends well and writes nothing.
-fn replies(
+/// What a script prints, if it ends well and writes nothing.
+pub fn replies(
     alloc: Global,
     sectors: u16,
     image: &[u8],
@@ -135,13 +135,13 @@ const EMPTY_FILE: [Row; 39] = [
     ("links /f", "link 0 /f\nok\n"),
     ("rm /f", "no 28 Unbuilt\n"),
     ("rm /x", "no 28 Unbuilt\n"),
-    ("close 5", "no 28 Unbuilt\n"),
-    ("time 5", "no 28 Unbuilt\n"),
+    ("close 5", "no 3 NoHandle\n"),
+    ("time 5", "ok\n"),
     ("@1 ls /", "file f\nok\n"),
     ("@2 cat /x", "no 4 NotFound\n"),
     ("# ls /", ""),
     ("", ""),
-    ("@15 open /f r r", "no 28 Unbuilt\n"),
+    ("@15 open /f r r", "handle 0\nok\n"),
     ("@1 stat /f", "stat file 1 0 0020 256 0 0 0 0\nok\n"),
     ("@0 cat /F", "data -\nok\n"),
 ];

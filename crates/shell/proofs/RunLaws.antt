@@ -11,7 +11,7 @@ use Rattle.volume_def.specs.Sound.{IsAccepted, told_view}
 use Rattle.volume_def.specs.VersionClause.{IsClean}
 use Rattle.volume_def.specs.View.{VolumeView}
 use Rattle.tree_ops.specs.Runs.{Ready}
-use Rattle.tree_ops.specs.Volumes.{disk_under, mark_of, moment_of, view_under}
+use Rattle.tree_ops.specs.Volumes.{disk_under, mark_of, moment_of, opens_of, view_under}
 use Rattle.tree_ops.specs.Wanted.{machine_on}
 use Rattle.tree_ops.specs.declared.volume.Volume.{Volume}
 use Rattle.volume_mark.specs.Closing.{MarkStands}
@@ -25,6 +25,7 @@ use Rattle.mount_check.specs.Refusals.{IsMountNo}
 use Rattle.clause_order.proofs.OrderLaws.{rank-most}
 use Rattle.mount_check.proofs.AnswerLaws.{IsAccepted-clean, IsAccepted-tables, IsAccepted-whole}
 use Rattle.tree_model.specs.Reading.{read}
+use Rattle.tree_model.specs.declared.opens.OpenEntry.{OpenEntry}
 use Rattle.session_def.specs.Session.{Turn}
 use Rattle.session_def.specs.State.{Begins, State}
 use Rattle.script_run.specs.declared.end.ScriptEnd.{ScriptEnd}
@@ -67,21 +68,21 @@ begins_on image mounted written holds clean = record {
 }
 
 -- the machine of a volume that was just taken into use is the one that a run begins with
-pub machine-new : (view first : VolumeView) → view ≡ first → (moment : ℕ) → moment ≡ 0
-    → machine_on view moment ≡ machine_on first 0
-machine-new view first same moment zero_is =
-    ap (λ v. machine_on v moment) same ∙ ap (λ n. machine_on first n) zero_is
+pub machine-new : (view first : VolumeView) → view ≡ first → (opens : List OpenEntry) → opens ≡ [] → (moment : ℕ) → moment ≡ 0
+    → machine_on view opens moment ≡ machine_on first [] 0
+machine-new view first same opens none moment zero_is =
+    ap (λ v. machine_on v opens moment) same ∙ ap (λ o. machine_on first o moment) none ∙ ap (λ n. machine_on first [] n) zero_is
 
 -- and the run stands where it begins
 pub ready-new : {D : Type 0} (g : disk.Ghosts D) (volume : Volume D g) (image : List ℕ) (mounted : Mounted) (lent : D)
     → disk_under g volume ≡ lent → g.now lent ≡ Some image → view_under g volume ≡ volume_in image mounted
-    → moment_of g volume ≡ 0 → mark_of g volume ≡ None → Begins (state_on image mounted (g.written lent))
+    → opens_of g volume ≡ [] → moment_of g volume ≡ 0 → mark_of g volume ≡ None → Begins (state_on image mounted (g.written lent))
     → Ready g (volume_in image mounted) volume (state_on image mounted (g.written lent))
-ready-new g volume image mounted lent under now view moment unmarked begins = record {
+ready-new g volume image mounted lent under now view opens moment unmarked begins = record {
   now = ap g.now under ∙ now;
   view = view;
   stands = begins.stands;
-  machine = sym (machine-new (view_under g volume) (volume_in image mounted) view (moment_of g volume) moment);
+  machine = sym (machine-new (view_under g volume) (volume_in image mounted) view (opens_of g volume) opens (moment_of g volume) moment);
   written = ap g.written under;
   mark = subst (MarkStands (volume_in image mounted) (state_on image mounted (g.written lent))) (sym unmarked) (refl, begins.clean);
 }

@@ -21,8 +21,9 @@ A word that is not built yet:
 run takes each line of standard input in order, settles IMAGE and prints the reply:
 some lines and ok, or no with a number and a name, as no 4 NotFound. An empty line
 and one that begins with # have none. The commands that are built read: ls, stat,
-links, cat, read, streams, attr, sec, reparse, objid and df; all others are
-no 28 Unbuilt. A volume that check refuses is refused in the same words.
+links, cat, read, streams, attr, sec, reparse, objid, df, open, hread and close;
+time sets the moment that edits will write; all others are no 28 Unbuilt.
+A volume that check refuses is refused in the same words.
 
 check prints sound, or the first clause that fails and a number N, as refused S7 N:
   S1   the boot sector is right; N counts its seven tests

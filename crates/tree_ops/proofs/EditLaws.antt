@@ -1,5 +1,5 @@
 -- No command that is built is an edit.
-use Rattle.std.proofs.Common.{◌≡◌, ℕ, Bool, true, false, Some, Ok, Err, refl}
+use Rattle.std.proofs.Common.{◌≡◌, ℕ, Bool, true, false, Ok, Err, refl}
 use Rattle.tree_model.specs.Refusals.{Facts, is_edit, outcome}
 use Rattle.session_def.specs.Session.{is_done_edit}
 use Rattle.tree_model.specs.Staging.{is_built}
@@ -23,7 +23,7 @@ built_reads (c.Sec path) e = refl
 built_reads (c.Reparse path) e = refl
 built_reads (c.Objid path) e = refl
 built_reads c.Df e = refl
-built_reads (c.Time now) e = cc
+built_reads (c.Time now) e = refl
 built_reads (c.Create path) e = cc
 built_reads (c.Mkdir path) e = cc
 built_reads (c.Rm path) e = cc
@@ -39,10 +39,10 @@ built_reads (c.Setsec path id) e = cc
 built_reads (c.Sd id) e = cc
 built_reads (c.Mkreparse path tag bytes) e = cc
 built_reads (c.Rmreparse path) e = cc
-built_reads (c.Open path stream access share) e = cc
-built_reads (c.Hread handle from len) e = cc
+built_reads (c.Open path stream access share) e = refl
+built_reads (c.Hread handle from len) e = refl
 built_reads (c.Hwrite handle from bytes) e = cc
-built_reads (c.Close handle) e = cc
+built_reads (c.Close handle) e = refl
 
 moved_reads : (facts : Facts) (m : Machine) (session : ℕ) (command : Command) (next : Machine) (built : Bool)
     → is_built command ≡ built → Moves facts m session command next → is_edit command ≡ false

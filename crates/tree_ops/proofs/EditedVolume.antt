@@ -1,11 +1,10 @@
 -- A volume behind an edit that was written, one whose disk failed within an edit, and one that was closed: what the calls that write
 -- say of bytes gives what every command promises.
-use Rattle.std.proofs.Common.{◌≡◌, ◌≤◌, ◌+◌, ℕ, Bool, true, false, List, [], ◌∷◌, ◌++◌, length, Option, Some, None, Ok, refl, sym, ap, subst, ◌∙◌, inl, inr}
-use Rattle.std.specs.Prelude.{is_some}
+use Rattle.std.proofs.Common.{◌≡◌, ◌≤◌, ◌+◌, ℕ, true, List, [], ◌∷◌, ◌++◌, length, Option, Some, None, Ok, refl, sym, ap, subst, ◌∙◌}
+use Rattle.std.specs.Prelude.{◌*◌, IfSome, is_some}
 use Rattle.vol_disk.specs.Contents.{map_told, sector_in, settled_more}
 use Rattle.vol_disk.specs.declared.Disk.{Ghosts}
 use Rattle.volume_def.specs.Sound.{IsSound, told_view}
-use Rattle.volume_def.specs.Table.{TableLayout}
 use Rattle.volume_def.specs.View.{VolumeView}
 use Rattle.tree_model.specs.Facts.{IsVolumeOf, TellsFacts}
 use Rattle.tree_model.specs.Reading.{read}
@@ -20,8 +19,8 @@ use Rattle.tree_model.specs.declared.reply.Answer.{Answer}
 use Rattle.tree_model.specs.declared.reply.Reply.TheVariants as reply
 use Rattle.mark_write.specs.declared.flag.Flag.{Flag}
 use Rattle.volume_mark.specs.Closing.{Closes, CountsClosing, IsMarkedBy, MarkStands}
-use Rattle.mark_write.specs.Flags.{ClearsTo, IsSafe, IsSet}
-use Rattle.volume_mark.specs.Mark.{ClosesAs, IsFlagOf, IsHarmed}
+use Rattle.mark_write.specs.Flags.{ClearsTo, IsSafe, IsSet, cleared_sector}
+use Rattle.volume_mark.specs.Mark.{IsFlagOf, IsHarmed}
 use Rattle.volume_mark.specs.SameVolume.{AgreesButMark, IsSameVolume}
 use Rattle.volume_mark.proofs.ClearedLaws.{harmed-safe}
 use Rattle.volume_mark.proofs.EditedLaws.{edited-marked, edited-stands, edited-state}
@@ -105,3 +104,43 @@ closed-marked g first state old new flag bytes r mark now clears settled most =
     more : (past : Option (List (List ℕ))) → settled_more past (Some bytes) ≡ map_told (λ images. images ++ bytes ∷ []) past
     more None = refl
     more (Some images) = refl
+
+-- THE CALLS THAT CLOSE A MARKED VOLUME, on the disk below.
+module _ {D : Type 0} (g : Ghosts D) (first : VolumeView) (state : State) (old new : Volume D g) (flag : Flag) (r : Ready g first old state)
+    (mark : mark_of g old ≡ Some flag) (told : is_some (g.now (disk_under g new)) ≡ is_some (g.now (disk_under g old)))
+    (size : g.size (disk_under g new) ≡ g.size (disk_under g old))
+    (long_old : IfSome (g.now (disk_under g old)) (λ all. length all ≡ 512 * g.size (disk_under g old)))
+    (long_new : IfSome (g.now (disk_under g new)) (λ all. length all ≡ 512 * g.size (disk_under g new))) where
+  some-bytes : (o : Option (List ℕ)) → is_some o ≡ true → (bytes : List ℕ) × (o ≡ Some bytes)
+  some-bytes None e = cc
+  some-bytes (Some bytes) e = (bytes, refl)
+
+  its : (bytes : List ℕ) × (g.now (disk_under g new) ≡ Some bytes)
+  its = some-bytes (g.now (disk_under g new)) (told ∙ ap is_some r.now)
+
+  as-long : length its.0 ≡ length state.image
+  as-long =
+      let a = subst (λ o. IfSome o (λ all. length all ≡ 512 * g.size (disk_under g new))) its.1 long_new in
+      let b = subst (λ o. IfSome o (λ all. length all ≡ 512 * g.size (disk_under g old))) r.now long_old in
+      a ∙ ap (λ n. 512 * n) size ∙ sym b
+
+  -- it was closed
+  pub close-done : ((n : ℕ) → sector_in (g.now (disk_under g new)) n ≡ cleared_sector flag (sector_in (g.now (disk_under g old))) n)
+      → g.settled (disk_under g new) ≡ settled_more (g.settled (disk_under g old)) (g.now (disk_under g new))
+      → g.written (disk_under g new) ≤ g.written (disk_under g old) + 2 → Closed g first state old new
+  close-done cleared settled most =
+      closed-marked g first state old new flag its.0 r mark its.1
+      (record {
+        long = as-long;
+        sectors = λ n. ap (λ o. sector_in o n) (sym its.1) ∙ cleared n ∙ ap (λ o. cleared_sector flag (sector_in o) n) r.now;
+      })
+      (settled ∙ ap (settled_more (g.settled (disk_under g old))) its.1) most
+
+  -- the disk failed within it
+  pub close-failed : IsSafe flag (sector_in (g.now (disk_under g old))) (sector_in (g.now (disk_under g new)))
+      → IsHarmed first state.machine.tree (g.now (disk_under g new))
+  close-failed safe =
+      let m : IsMarkedBy first state flag = subst (MarkStands first state) mark r.mark in
+      harmed-edit g first old new state flag its.0 r m.here m.of_first its.1 as-long
+      (subst (λ o. IsSafe flag (sector_in o) (sector_in (Some its.0))) r.now
+      (subst (λ o. IsSafe flag (sector_in (g.now (disk_under g old))) (sector_in o)) its.1 safe))

@@ -1,4 +1,5 @@
 pub mod WantedLaws
+pub mod SessionLaws
 pub mod UnbuiltLaws
 pub mod VolumeLaws
 pub mod EditLaws

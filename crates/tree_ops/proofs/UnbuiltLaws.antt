@@ -2,6 +2,7 @@
 use Rattle.std.proofs.Common.{◌≡◌, ◌≢◌, ℕ, List, false, Option, refl}
 use Rattle.tree_model.specs.Staging.{is_built}
 use Rattle.tree_model.specs.declared.command.Command.{Command}
+use Rattle.tree_model.specs.declared.opens.Access.{Access}
 use Rattle.tree_model.specs.declared.command.Command.TheVariants as c
 
 pub unbuilt : (command : Command) → command ≢ c.Df → ((path : List (List ℕ)) → command ≢ c.Ls path)
@@ -10,35 +11,39 @@ pub unbuilt : (command : Command) → command ≢ c.Df → ((path : List (List �
     → ((path : List (List ℕ)) (stream : Option (List ℕ)) (from len : ℕ) → command ≢ c.Read path stream from len)
     → ((path : List (List ℕ)) → command ≢ c.Streams path) → ((path : List (List ℕ)) → command ≢ c.Attr path)
     → ((path : List (List ℕ)) → command ≢ c.Sec path) → ((path : List (List ℕ)) → command ≢ c.Reparse path)
-    → ((path : List (List ℕ)) → command ≢ c.Objid path) → is_built command ≡ false
-unbuilt c.Df df ls stat links cat read_ streams attr sec reparse objid = absurd (df refl)
-unbuilt (c.Ls one) df ls stat links cat read_ streams attr sec reparse objid = absurd (ls one refl)
-unbuilt (c.Stat one) df ls stat links cat read_ streams attr sec reparse objid = absurd (stat one refl)
-unbuilt (c.Links one) df ls stat links cat read_ streams attr sec reparse objid = absurd (links one refl)
-unbuilt (c.Cat one stream) df ls stat links cat read_ streams attr sec reparse objid = absurd (cat one stream refl)
-unbuilt (c.Read one stream from len) df ls stat links cat read_ streams attr sec reparse objid = absurd (read_ one stream from len refl)
-unbuilt (c.Streams one) df ls stat links cat read_ streams attr sec reparse objid = absurd (streams one refl)
-unbuilt (c.Attr one) df ls stat links cat read_ streams attr sec reparse objid = absurd (attr one refl)
-unbuilt (c.Sec one) df ls stat links cat read_ streams attr sec reparse objid = absurd (sec one refl)
-unbuilt (c.Reparse one) df ls stat links cat read_ streams attr sec reparse objid = absurd (reparse one refl)
-unbuilt (c.Objid one) df ls stat links cat read_ streams attr sec reparse objid = absurd (objid one refl)
-unbuilt (c.Time now) df ls stat links cat read_ streams attr sec reparse objid = refl
-unbuilt (c.Create one) df ls stat links cat read_ streams attr sec reparse objid = refl
-unbuilt (c.Mkdir one) df ls stat links cat read_ streams attr sec reparse objid = refl
-unbuilt (c.Rm one) df ls stat links cat read_ streams attr sec reparse objid = refl
-unbuilt (c.Rmdir one) df ls stat links cat read_ streams attr sec reparse objid = refl
-unbuilt (c.Ln old new) df ls stat links cat read_ streams attr sec reparse objid = refl
-unbuilt (c.Mv old new) df ls stat links cat read_ streams attr sec reparse objid = refl
-unbuilt (c.Write one stream from bytes) df ls stat links cat read_ streams attr sec reparse objid = refl
-unbuilt (c.Truncate one stream size) df ls stat links cat read_ streams attr sec reparse objid = refl
-unbuilt (c.Punch one stream from len) df ls stat links cat read_ streams attr sec reparse objid = refl
-unbuilt (c.Rmstream one name) df ls stat links cat read_ streams attr sec reparse objid = refl
-unbuilt (c.Setattr one flags) df ls stat links cat read_ streams attr sec reparse objid = refl
-unbuilt (c.Setsec one id) df ls stat links cat read_ streams attr sec reparse objid = refl
-unbuilt (c.Sd id) df ls stat links cat read_ streams attr sec reparse objid = refl
-unbuilt (c.Mkreparse one tag bytes) df ls stat links cat read_ streams attr sec reparse objid = refl
-unbuilt (c.Rmreparse one) df ls stat links cat read_ streams attr sec reparse objid = refl
-unbuilt (c.Open one stream access share) df ls stat links cat read_ streams attr sec reparse objid = refl
-unbuilt (c.Hread handle from len) df ls stat links cat read_ streams attr sec reparse objid = refl
-unbuilt (c.Hwrite handle from bytes) df ls stat links cat read_ streams attr sec reparse objid = refl
-unbuilt (c.Close handle) df ls stat links cat read_ streams attr sec reparse objid = refl
+    → ((path : List (List ℕ)) → command ≢ c.Objid path) → ((now : ℕ) → command ≢ c.Time now)
+    → ((path : List (List ℕ)) (stream : Option (List ℕ)) (access share : Access) → command ≢ c.Open path stream access share)
+    → ((handle from len : ℕ) → command ≢ c.Hread handle from len) → ((handle : ℕ) → command ≢ c.Close handle) → is_built command ≡ false
+unbuilt c.Df df ls stat links cat read_ streams attr sec reparse objid time open_ hread close = absurd (df refl)
+unbuilt (c.Ls one) df ls stat links cat read_ streams attr sec reparse objid time open_ hread close = absurd (ls one refl)
+unbuilt (c.Stat one) df ls stat links cat read_ streams attr sec reparse objid time open_ hread close = absurd (stat one refl)
+unbuilt (c.Links one) df ls stat links cat read_ streams attr sec reparse objid time open_ hread close = absurd (links one refl)
+unbuilt (c.Cat one stream) df ls stat links cat read_ streams attr sec reparse objid time open_ hread close = absurd (cat one stream refl)
+unbuilt (c.Read one stream from len) df ls stat links cat read_ streams attr sec reparse objid time open_ hread close = absurd (read_ one stream from len refl)
+unbuilt (c.Streams one) df ls stat links cat read_ streams attr sec reparse objid time open_ hread close = absurd (streams one refl)
+unbuilt (c.Attr one) df ls stat links cat read_ streams attr sec reparse objid time open_ hread close = absurd (attr one refl)
+unbuilt (c.Sec one) df ls stat links cat read_ streams attr sec reparse objid time open_ hread close = absurd (sec one refl)
+unbuilt (c.Reparse one) df ls stat links cat read_ streams attr sec reparse objid time open_ hread close = absurd (reparse one refl)
+unbuilt (c.Objid one) df ls stat links cat read_ streams attr sec reparse objid time open_ hread close = absurd (objid one refl)
+unbuilt (c.Time now) df ls stat links cat read_ streams attr sec reparse objid time open_ hread close = absurd (time now refl)
+unbuilt (c.Create one) df ls stat links cat read_ streams attr sec reparse objid time open_ hread close = refl
+unbuilt (c.Mkdir one) df ls stat links cat read_ streams attr sec reparse objid time open_ hread close = refl
+unbuilt (c.Rm one) df ls stat links cat read_ streams attr sec reparse objid time open_ hread close = refl
+unbuilt (c.Rmdir one) df ls stat links cat read_ streams attr sec reparse objid time open_ hread close = refl
+unbuilt (c.Ln old new) df ls stat links cat read_ streams attr sec reparse objid time open_ hread close = refl
+unbuilt (c.Mv old new) df ls stat links cat read_ streams attr sec reparse objid time open_ hread close = refl
+unbuilt (c.Write one stream from bytes) df ls stat links cat read_ streams attr sec reparse objid time open_ hread close = refl
+unbuilt (c.Truncate one stream size) df ls stat links cat read_ streams attr sec reparse objid time open_ hread close = refl
+unbuilt (c.Punch one stream from len) df ls stat links cat read_ streams attr sec reparse objid time open_ hread close = refl
+unbuilt (c.Rmstream one name) df ls stat links cat read_ streams attr sec reparse objid time open_ hread close = refl
+unbuilt (c.Setattr one flags) df ls stat links cat read_ streams attr sec reparse objid time open_ hread close = refl
+unbuilt (c.Setsec one id) df ls stat links cat read_ streams attr sec reparse objid time open_ hread close = refl
+unbuilt (c.Sd id) df ls stat links cat read_ streams attr sec reparse objid time open_ hread close = refl
+unbuilt (c.Mkreparse one tag bytes) df ls stat links cat read_ streams attr sec reparse objid time open_ hread close = refl
+unbuilt (c.Rmreparse one) df ls stat links cat read_ streams attr sec reparse objid time open_ hread close = refl
+unbuilt (c.Open one stream access share) df ls stat links cat read_ streams attr sec reparse objid time open_ hread close =
+    absurd (open_ one stream access share refl)
+unbuilt (c.Hread handle from len) df ls stat links cat read_ streams attr sec reparse objid time open_ hread close =
+    absurd (hread handle from len refl)
+unbuilt (c.Hwrite handle from bytes) df ls stat links cat read_ streams attr sec reparse objid time open_ hread close = refl
+unbuilt (c.Close handle) df ls stat links cat read_ streams attr sec reparse objid time open_ hread close = absurd (close handle refl)

@@ -1,5 +1,5 @@
 -- What is promised of a volume that is not marked.
-use Rattle.std.proofs.Common.{◌≡◌, ℕ, true, false, List, [], ◌∷◌, ◌++◌, Option, Some, None, refl, sym, ap, subst, ◌∙◌, inl, inr, append-nil}
+use Rattle.std.proofs.Common.{◌≡◌, ℕ, List, [], ◌++◌, Option, Some, None, refl, sym, ap, subst, append-nil}
 use Rattle.std.specs.Prelude.{is_some}
 use Rattle.vol_disk.specs.Contents.{map_told}
 use Rattle.vol_disk.specs.declared.Disk.{Ghosts}

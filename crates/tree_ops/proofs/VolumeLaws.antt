@@ -1,5 +1,5 @@
 -- A volume behind calls that only read, and one that was just taken into use.
-use Rattle.std.proofs.Common.{◌≡◌, ◌⊎◌, ◌||◌, ℕ, Bool, true, false, List, [], Option, Some, None, Result, Ok, Err, inl, inr, refl, sym, ap, subst, ◌∙◌, arith, le_refl}
+use Rattle.std.proofs.Common.{◌≡◌, ◌≢◌, ◌||◌, ℕ, Bool, true, false, List, [], Option, Some, None, Result, Ok, Err, refl, sym, ap, subst, ◌∙◌, arith, le_refl}
 use Rattle.std.specs.Prelude.{IfSome, IsTrue, is_some}
 use Rattle.vol_disk.specs.declared.Disk.{Ghosts}
 use Rattle.volume_def.specs.Sound.{HoldBelow, IsSound, Attributes, CaseTable, ClusterBits, Extents, Indexes, Limits, Links, Lists, Mirror, MirrorPlace, Owners, RecordBits, References, Shape, Version}
@@ -13,35 +13,50 @@ use Rattle.mft_table.specs.Mft.{MftReads, mounted_of, stage_of, view}
 use Rattle.mft_table.specs.Mounted.{mounted_layout}
 use Rattle.vol_disk.specs.Contents.{WhereTold, sector_in}
 use Rattle.vol_stage.specs.declared.stage.Stage.{Stage}
-use Rattle.vol_stage.specs.Staged.{disk_of, image, is_broken}
+use Rattle.vol_stage.specs.Staged.{disk_of, image, is_broken, places}
 use Rattle.mft_table.specs.InUse.{IsInUse, IsSoundVolume}
 use Rattle.tree_model.specs.Facts.{TellsFacts}
 use Rattle.tree_model.specs.Reading.{read}
 use Rattle.tree_model.specs.Refusals.{Facts}
 use Rattle.tree_model.proofs.HasFacts.{has_facts}
-use Rattle.session_def.specs.State.{State}
+use Rattle.session_def.specs.State.{Stands, State}
+use Rattle.mark_write.specs.declared.flag.Flag.{Flag}
+use Rattle.share_table.specs.Held.{HoldsOpens}
+use Rattle.share_table.proofs.OpensLaws.{held-none, held-step}
 use Rattle.volume_mark.specs.Closing.{MarkStands}
 use Rattle.volume_mark.proofs.StandLaws.{harmed_at}
-use Rattle.tree_model.specs.Staging.{is_built}
-use Rattle.tree_model.specs.Step.{Step, reply_of}
+use Rattle.tree_model.specs.Step.{Step}
+use Rattle.tree_model.specs.Subjects.{Machine}
 use Rattle.tree_model.specs.declared.command.Command.{Command}
 use Rattle.tree_model.specs.declared.reply.Answer.{Answer}
-use Rattle.tree_model.specs.declared.reply.No.{No}
-use Rattle.tree_model.specs.declared.reply.No.TheVariants as no
 use Rattle.tree_model.specs.declared.reply.Reply.{Reply}
 use Rattle.tree_model.specs.declared.reply.Reply.TheVariants as reply
-use Rattle.tree_model.proofs.MachineLaws.{shown-step}
 use Rattle.tree_ops.specs.Runs.{Applied, Failed, Ready, machine_under}
-use Rattle.tree_ops.specs.Serves.{Serves}
-use Rattle.tree_ops.specs.Volumes.{VolumeReads, disk_under, mark_of, moment_of, view_under}
+use Rattle.tree_ops.specs.Serves.{HasMark, Serves}
+use Rattle.tree_ops.specs.Volumes.{VolumeReads, VolumeStill, disk_under, mark_of, moment_of, opens_of, view_under}
 use Rattle.tree_ops.proofs.EditLaws.{no_edit}
 use Rattle.tree_read.specs.Standings.{IsStanding}
-use Rattle.tree_ops.specs.Wanted.{machine_on, wanted}
+use Rattle.tree_read.proofs.GivesLaws.{in-use-kept, told-kept}
+use Rattle.tree_read.specs.declared.stop.Stop.{Stop}
+use Rattle.tree_read.specs.declared.stop.Stop.TheVariants as stop
+use Rattle.tree_ops.specs.Wanted.{Does, machine_on}
 use Rattle.tree_ops.specs.declared.volume.Volume.{Volume}
-use Rattle.tree_ops.proofs.WantedLaws.{not-built}
 
 module _ {D : Type 0} (g : Ghosts D) (old new : Volume D g) (n : ℕ) (reads : MftReads g old.mft new.mft n)
-    (mark : new.mark ≡ old.mark) (moment : new.moment ≡ old.moment) where
+    (mark : new.mark ≡ old.mark) where
+  pub volume-still : VolumeStill g old new
+  volume-still =
+      let only = reads.stage.only_reads in
+      record {
+        now = only.now;
+        fenced = only.fenced;
+        written = only.written;
+        view = view-kept g old.mft new.mft n reads;
+        mark = mark;
+      }
+
+module _ {D : Type 0} (g : Ghosts D) (old new : Volume D g) (n : ℕ) (reads : MftReads g old.mft new.mft n)
+    (mark : new.mark ≡ old.mark) (opens : new.opens ≡ old.opens) (moment : new.moment ≡ old.moment) where
   pub volume-reads : VolumeReads g old new
   volume-reads =
       let goes = reads.stage.goes_on in
@@ -56,6 +71,7 @@ module _ {D : Type 0} (g : Ghosts D) (old new : Volume D g) (n : ℕ) (reads : M
         faults = goes.faults;
         view = view-kept g old.mft new.mft n reads;
         mark = mark;
+        opens = opens;
         moment = moment;
       }
 
@@ -70,72 +86,104 @@ reads-none g volume = record {
   faults = le_refl _;
   view = refl;
   mark = refl;
+  opens = refl;
   moment = refl;
 }
 
--- What only reads is a step that leaves the run where it stands.
+-- WHAT IS NO EDIT is a step that leaves the disk as it was: the opens and the moment alone may change.
 
-machine-same : {D : Type 0} (g : Ghosts D) (old new : Volume D g) → VolumeReads g old new → machine_under g old ≡ machine_under g new
-machine-same g old new reads =
-    ap (λ (v : VolumeView). record { tree = read v; opens = []; now = moment_of g old }) (sym reads.view)
-    ∙ ap (λ (n : ℕ). record { tree = read (view_under g new); opens = []; now = n }) (sym reads.moment)
+-- the mark stands where the machine alone changes
+mark-stays : (first : VolumeView) (before : State) (m : Machine) (mark : Option Flag) → MarkStands first before mark
+    → MarkStands first (record before { machine = m }) mark
+mark-stays first before m None x = x
+mark-stays first before m (Some flag) x = record { of_first = x.of_first; here = x.here; set = x.set; log = x.log }
 
-pub applied-reads : {D : Type 0} (g : Ghosts D) (first : VolumeView) (old new : Volume D g) (before : State) (session : ℕ)
-    (command : Command) (given : Reply) → VolumeReads g old new → Ready g first old before
+pub applied-still : {D : Type 0} (g : Ghosts D) (first : VolumeView) (old new : Volume D g) (before : State) (session : ℕ)
+    (command : Command) (given : Reply) → VolumeStill g old new → Ready g first old before
     → (IsTrue (view_under g old).told → (facts : Facts) → TellsFacts (view_under g old) facts
-    → Step facts (machine_under g old) session command given (machine_under g old))
+    → Step facts (machine_under g old) session command given (machine_on (view_under g old) (opens_of g new) (moment_of g new)))
     → Applied g first before session command given new
-applied-reads g first old new before session command given reads r steps =
+applied-still g first old new before session command given still r steps =
     let f = has_facts before.view r.stands.sound in
     let told : IsTrue (view_under g old).told =
     ap (λ (v : VolumeView). v.told) r.view ∙ ap (λ (v : VolumeView). v.told) r.stands.volume.is in
-    let step : Step f.0 before.machine session command given before.machine =
-    subst (λ m. Step f.0 m session command given m) (sym r.machine) (steps told f.0 (subst (λ v. TellsFacts v f.0) (sym r.view) f.1)) in
+    let step : Step f.0 before.machine session command given (machine_under g new) =
+    subst (λ m. Step f.0 m session command given (machine_under g new)) (sym r.machine)
+    (subst (λ v. Step f.0 (machine_under g old) session command given (machine_on v (opens_of g new) (moment_of g new))) (sym still.view)
+    (steps told f.0 (subst (λ v. TellsFacts v f.0) (sym r.view) f.1))) in
+    let next : State = record before { machine = machine_under g new } in
+    let stands : Stands next =
+    record { volume = r.stands.volume; sound = r.stands.sound; reading = ap read (sym (still.view ∙ r.view)) } in
     record {
-      next = before;
+      next = next;
       takes = record {
         facts = f.0;
         told = f.1;
         step = step;
-        stands = r.stands;
+        stands = stands;
         same = λ e. record { image = refl; written = refl };
-        edited = λ e. let none = no_edit f.0 before.machine session command given before.machine step in cc;
+        edited = λ e. let none = no_edit f.0 before.machine session command given (machine_under g new) step in cc;
       };
       ready = record {
-        now = reads.now ∙ r.now;
-        view = reads.view ∙ r.view;
-        stands = r.stands;
-        machine = r.machine ∙ machine-same g old new reads;
-        written = reads.written ∙ r.written;
-        mark = subst (MarkStands first before) (sym reads.mark) r.mark;
+        now = still.now ∙ r.now;
+        view = still.view ∙ r.view;
+        stands = stands;
+        machine = refl;
+        written = still.written ∙ r.written;
+        mark = subst (MarkStands first next) (sym still.mark) (mark-stays first before (machine_under g new) (mark_of g old) r.mark);
       };
     }
 
-pub failed-reads : {D : Type 0} (g : Ghosts D) (first : VolumeView) (old new : Volume D g) (before : State) (session : ℕ)
-    (command : Command) → VolumeReads g old new → Ready g first old before → Failed g first before session command new
-failed-reads g first old new before session command reads r = record {
-  harmed = harmed_at first before (mark_of g old) (g.now (disk_under g new)) r.mark r.stands (reads.now ∙ r.now);
-  same = λ facts told none. reads.now ∙ r.now;
+pub failed-still : {D : Type 0} (g : Ghosts D) (first : VolumeView) (old new : Volume D g) (before : State) (session : ℕ)
+    (command : Command) → VolumeStill g old new → Ready g first old before → Failed g first before session command new
+failed-still g first old new before session command still r = record {
+  harmed = harmed_at first before (mark_of g old) (g.now (disk_under g new)) r.mark r.stands (still.now ∙ r.now);
+  same = λ facts told none. still.now ∙ r.now;
 }
 
--- What was answered is a step of the machine.
-module _ (facts : Facts) (moment session : ℕ) (command : Command) (view : VolumeView) where
-  abbrev IsStep : Reply → Type 0
-  IsStep given = Step facts (machine_on view moment) session command given (machine_on view moment)
+-- THE OPENS behind a command that was done, or refused.
+pub held-behind : {D : Type 0} (g : Ghosts D) (old new : Volume D g) (session : ℕ) (command : Command) (result : Result Answer Stop)
+    → view_under g new ≡ view_under g old → IsInUse g old.mft
+    → (IsTrue (view_under g old).told → HoldsOpens (machine_under g old))
+    → ((facts : Facts) → IsTrue (view_under g old).told → TellsFacts (view_under g old) facts
+    → Does facts (machine_under g old) session command result (machine_on (view_under g old) (opens_of g new) (moment_of g new)))
+    → result ≢ Err stop.Device → IsTrue (view_under g new).told → HoldsOpens (machine_under g new)
+held-behind g old new session command result view in_use held does answered told =
+    let before : IsTrue (view_under g old).told = subst (λ (v : VolumeView). IsTrue v.told) view told in
+    let f = has_facts (view_under g old) (in_use before).sound in
+    subst (λ v. HoldsOpens (machine_on v (opens_of g new) (moment_of g new))) (sym view) (by f.0 result answered (held before) (does f.0 before f.1))
+  where
+    by : (facts : Facts) (result : Result Answer Stop) → result ≢ Err stop.Device → HoldsOpens (machine_under g old)
+        → Does facts (machine_under g old) session command result (machine_on (view_under g old) (opens_of g new) (moment_of g new))
+        → HoldsOpens (machine_on (view_under g old) (opens_of g new) (moment_of g new))
+    by facts (Ok answer) answered held does = held-step facts (machine_under g old) session command (reply.Ok answer) _ held does
+    by facts (Err (stop.No refused)) answered held does = held-step facts (machine_under g old) session command (reply.No refused) _ held does
+    by facts (Err stop.Device) answered held does = absurd (answered refl)
 
-  none-shown : (x : Answer) (w : Result Answer No) → w ≡ Ok x → w ≡ Err no.Unbuilt → ⊥
-  none-shown x w e f = cc
+-- A volume that serves does so behind a command that only read.
+-- the mark stands where it stood, on a disk that holds what it held
+pub marked-kept : {D : Type 0} (g : Ghosts D) (old new : Volume D g) → new.mark ≡ old.mark
+    → g.size (disk_under g new) ≡ g.size (disk_under g old) → g.now (disk_under g new) ≡ g.now (disk_under g old)
+    → IfSome (mark_of g old) (HasMark (g.size (disk_under g old)) (g.now (disk_under g old)))
+    → IfSome (mark_of g new) (HasMark (g.size (disk_under g new)) (g.now (disk_under g new)))
+marked-kept g old new mark size now h =
+    subst (λ o. IfSome o (HasMark (g.size (disk_under g new)) (g.now (disk_under g new)))) (sym mark)
+    (subst (λ n. IfSome old.mark (HasMark n (g.now (disk_under g new)))) (sym size)
+    (subst (λ o. IfSome old.mark (HasMark (g.size (disk_under g old)) o)) (sym now) h))
 
-  pub answer-step : (x : Answer) → wanted facts moment session command view ≡ Ok x → IsStep (reply.Ok x)
-  answer-step x is = by (is_built command) refl
-    where
-      by : (b : Bool) → is_built command ≡ b → IsStep (reply.Ok x)
-      by true built = shown-step facts (machine_on view moment) session command (Ok x) built is
-      by false built = absurd (none-shown x _ is (not-built facts moment session command view built))
-
-  pub refused-step : (refused : No) → (wanted facts moment session command view ≡ Err refused) ⊎ (refused ≡ no.Memory) → IsStep (reply.No refused)
-  refused-step refused (inl is) = record { replied = inl (sym (ap reply_of is)); moved = refl }
-  refused-step refused (inr memory) = record { replied = inr (ap reply.No memory); moved = refl }
+pub serves-behind : {D : Type 0} (g : Ghosts D) (old new : Volume D g) (n : ℕ) (reads : MftReads g old.mft new.mft n) → new.mark ≡ old.mark
+    → Serves g old → (IsTrue (view_under g old).told → IfSome new.last (IsStanding (view_under g old)))
+    → (IsTrue (view_under g new).told → HoldsOpens (machine_under g new)) → Serves g new
+serves-behind g old new n reads mark s last held = record {
+  in_use = in-use-kept reads s.in_use;
+  last = told-kept (λ v. IfSome new.last (IsStanding v)) reads last;
+  held = held;
+  mirror = subst IsMirrorInside (sym reads.mounted) s.mirror;
+  tells = reads.stage.only_reads.image ∙ s.tells ∙ sym reads.stage.only_reads.now;
+  whole = reads.stage.only_reads.broken ∙ s.whole;
+  plain = reads.stage.only_reads.places ∙ s.plain;
+  marked = marked-kept g old new mark reads.stage.goes_on.size reads.stage.only_reads.now s.marked;
+}
 
 -- behind a command that is no edit the volume is marked where it was
 pub marks-same : (mark edit : Bool) → edit ≡ false → mark ≡ (mark || edit)
@@ -177,15 +225,18 @@ module _ {D : Type 0} (g : Ghosts D) (mft : Mft D g) (mounted : Mounted) (kept :
 
 pub new-serves : {D : Type 0} (g : Ghosts D) (volume : Volume D g) (stage : Stage D g) (mounted : Mounted) (disk : D)
     → stage_of g volume.mft ≡ stage → mounted_of g volume.mft ≡ mounted → disk_of g stage ≡ disk → image g stage ≡ g.now disk
-    → is_broken g stage ≡ false → WhereTold (g.now disk) (λ all. HoldsTables 15 all mounted) → volume.last ≡ None
+    → places g stage ≡ [] → is_broken g stage ≡ false → WhereTold (g.now disk) (λ all. HoldsTables 15 all mounted) → volume.last ≡ None
+    → volume.opens ≡ []
     → IsMirrorInside mounted → volume.mark ≡ None → Serves g volume
-new-serves g volume stage mounted disk same kept under shown whole holds none inside unmarked =
+new-serves g volume stage mounted disk same kept under shown plain whole holds none empty inside unmarked =
     let seen : image g (stage_of g volume.mft) ≡ g.now disk = ap (image g) same ∙ shown in
     record {
       in_use = in_use-new g volume.mft mounted kept (g.now disk) seen holds;
       last = λ told. subst (λ o. IfSome o (IsStanding (view g volume.mft))) (sym none) tt;
+      held = λ told. held-none (machine_under g volume) empty;
       mirror = subst IsMirrorInside (sym kept) inside;
       tells = seen ∙ sym (ap (λ s. g.now (disk_of g s)) same ∙ ap g.now under);
       whole = ap (is_broken g) same ∙ whole;
-      unmarked = unmarked;
+      plain = ap (places g) same ∙ plain;
+      marked = subst (λ o. IfSome o (HasMark (g.size (disk_under g volume)) (g.now (disk_under g volume)))) (sym unmarked) tt;
     }

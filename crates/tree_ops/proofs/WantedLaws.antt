@@ -1,11 +1,10 @@
--- What is due for each command that is built, on a machine without opens, is what the command wants of its tree and its path.
-use Rattle.std.proofs.Common.{◌≡◌, ℕ, List, [], false, Option, Result, Ok, Err, refl, ◌∙◌}
+-- What is due for each command that shows something is what the command wants of its tree, its path and the opens.
+use Rattle.std.proofs.Common.{◌≡◌, ℕ, List, true, Option, Result, Ok, Err, refl, ◌∙◌}
 use Rattle.tree_model.specs.Answers.{answer_of}
 use Rattle.tree_model.specs.Paths.{and_then, found_file, resolve}
 use Rattle.tree_model.specs.Shown.{cat_of, file_at, links_of, looked, ls_of, read_of, reparse_of}
 use Rattle.tree_model.specs.Reading.{read}
-use Rattle.tree_model.specs.Refusals.{Facts, outcome}
-use Rattle.tree_model.specs.Staging.{is_built}
+use Rattle.tree_model.specs.Refusals.{Facts, is_reading, outcome}
 use Rattle.tree_model.specs.Step.{due}
 use Rattle.tree_model.specs.Subjects.{locate, stream_name}
 use Rattle.tree_model.specs.Tree.{Tree, node_of}
@@ -13,14 +12,17 @@ use Rattle.tree_model.specs.declared.command.Command.{Command}
 use Rattle.tree_model.specs.declared.command.Command.TheVariants as c
 use Rattle.tree_model.specs.declared.reply.Answer.{Answer}
 use Rattle.tree_model.specs.declared.reply.No.{No}
-use Rattle.tree_model.specs.declared.reply.No.TheVariants as no
+use Rattle.tree_model.specs.declared.opens.OpenEntry.{OpenEntry}
 use Rattle.tree_model.specs.declared.tree.Found.{Found}
 use Rattle.tree_model.specs.declared.tree.Node.{Node}
 use Rattle.tree_model.proofs.LookLaws as look
+use Rattle.tree_model.proofs.LookLaws.{find-never}
 use Rattle.volume_def.specs.View.{VolumeView}
 use Rattle.tree_read.specs.Shown.{attr_shown, cat_shown, df_shown, links_shown, ls_shown, objid_shown, of_path, read_shown}
-use Rattle.tree_read.specs.Shown.{reparse_shown, sec_shown, stat_shown, streams_shown}
-use Rattle.tree_ops.specs.Wanted.{wanted}
+use Rattle.tree_read.specs.Shown.{reparse_shown, sec_shown, shown_by, stat_shown, streams_shown}
+use Rattle.tree_read.specs.declared.shown.Shown.{Shown}
+use Rattle.tree_read.specs.declared.shown.Shown.TheVariants as s
+use Rattle.tree_ops.specs.Wanted.{machine_on, shown_command}
 
 -- the file that a path leads to, and what follows
 of_file : (tree : Tree) (path : List (List ℕ)) (shown : (ℕ × Option Node) → Result Answer No)
@@ -33,52 +35,72 @@ of_file tree path shown = by (resolve tree path)
     by (Err refused) = refl
     by (Ok found) = refl
 
-module _ (facts : Facts) (moment session : ℕ) (view : VolumeView) (path : List (List ℕ)) where
+module _ (facts : Facts) (opens : List OpenEntry) (moment session : ℕ) (view : VolumeView) (path : List (List ℕ)) where
   abbrev is_wanted : Command → Result Answer No → Type 0
-  is_wanted command other = wanted facts moment session command view ≡ other
+  is_wanted command other = due facts (machine_on view opens moment) session command ≡ other
 
-  pub ls-wanted : is_wanted (c.Ls path) (of_path (read view) path (ls_shown (read view)))
-  ls-wanted = look.ls-due facts (read view) [] moment session path ∙ of_file (read view) path (ls_of (read view))
+  ls-wanted : is_wanted (c.Ls path) (of_path (read view) path (ls_shown (read view)))
+  ls-wanted = look.ls-due facts (read view) opens moment session path ∙ of_file (read view) path (ls_of (read view))
 
-  pub stat-wanted : is_wanted (c.Stat path) (of_path (read view) path (stat_shown (read view)))
-  stat-wanted = look.stat-due facts (read view) [] moment session path ∙ of_file (read view) path (looked (read view) (c.Stat path))
+  stat-wanted : is_wanted (c.Stat path) (of_path (read view) path (stat_shown (read view)))
+  stat-wanted = look.stat-due facts (read view) opens moment session path ∙ of_file (read view) path (looked (read view) (c.Stat path))
 
-  pub links-wanted : is_wanted (c.Links path) (of_path (read view) path (links_shown (read view)))
-  links-wanted = look.links-due facts (read view) [] moment session path ∙ of_file (read view) path (links_of (read view))
+  links-wanted : is_wanted (c.Links path) (of_path (read view) path (links_shown (read view)))
+  links-wanted = look.links-due facts (read view) opens moment session path ∙ of_file (read view) path (links_of (read view))
 
-  pub cat-wanted : (stream : Option (List ℕ)) → is_wanted (c.Cat path stream) (of_path (read view) path (cat_shown (read view) (stream_name stream)))
+  cat-wanted : (stream : Option (List ℕ)) → is_wanted (c.Cat path stream) (of_path (read view) path (cat_shown (read view) opens (stream_name stream)))
   cat-wanted stream =
-      look.cat-due facts (read view) [] moment session path stream
-      ∙ of_file (read view) path (cat_of (read view) [] (stream_name stream))
+      look.cat-due facts (read view) opens moment session path stream
+      ∙ of_file (read view) path (cat_of (read view) opens (stream_name stream))
 
-  pub read-wanted : (stream : Option (List ℕ)) (from len : ℕ)
-      → is_wanted (c.Read path stream from len) (of_path (read view) path (read_shown (read view) (stream_name stream) from len))
+  read-wanted : (stream : Option (List ℕ)) (from len : ℕ)
+      → is_wanted (c.Read path stream from len) (of_path (read view) path (read_shown (read view) opens (stream_name stream) from len))
   read-wanted stream from len =
-      look.read-due facts (read view) [] moment session path stream from len
-      ∙ of_file (read view) path (read_of (read view) [] (stream_name stream) from len)
+      look.read-due facts (read view) opens moment session path stream from len
+      ∙ of_file (read view) path (read_of (read view) opens (stream_name stream) from len)
 
-  pub streams-wanted : is_wanted (c.Streams path) (of_path (read view) path (streams_shown (read view)))
+  streams-wanted : is_wanted (c.Streams path) (of_path (read view) path (streams_shown (read view)))
   streams-wanted =
-      look.streams-due facts (read view) [] moment session path ∙ of_file (read view) path (looked (read view) (c.Streams path))
+      look.streams-due facts (read view) opens moment session path ∙ of_file (read view) path (looked (read view) (c.Streams path))
 
-  pub attr-wanted : is_wanted (c.Attr path) (of_path (read view) path (attr_shown (read view)))
-  attr-wanted = look.attr-due facts (read view) [] moment session path ∙ of_file (read view) path (looked (read view) (c.Attr path))
+  attr-wanted : is_wanted (c.Attr path) (of_path (read view) path (attr_shown (read view)))
+  attr-wanted = look.attr-due facts (read view) opens moment session path ∙ of_file (read view) path (looked (read view) (c.Attr path))
 
-  pub sec-wanted : is_wanted (c.Sec path) (of_path (read view) path (sec_shown (read view)))
-  sec-wanted = look.sec-due facts (read view) [] moment session path ∙ of_file (read view) path (looked (read view) (c.Sec path))
+  sec-wanted : is_wanted (c.Sec path) (of_path (read view) path (sec_shown (read view)))
+  sec-wanted = look.sec-due facts (read view) opens moment session path ∙ of_file (read view) path (looked (read view) (c.Sec path))
 
-  pub reparse-wanted : is_wanted (c.Reparse path) (of_path (read view) path (reparse_shown (read view)))
-  reparse-wanted = look.reparse-due facts (read view) [] moment session path ∙ of_file (read view) path reparse_of
+  reparse-wanted : is_wanted (c.Reparse path) (of_path (read view) path (reparse_shown (read view)))
+  reparse-wanted = look.reparse-due facts (read view) opens moment session path ∙ of_file (read view) path reparse_of
 
-  pub objid-wanted : is_wanted (c.Objid path) (of_path (read view) path (objid_shown (read view)))
-  objid-wanted = look.objid-due facts (read view) [] moment session path ∙ of_file (read view) path (looked (read view) (c.Objid path))
+  objid-wanted : is_wanted (c.Objid path) (of_path (read view) path (objid_shown (read view)))
+  objid-wanted = look.objid-due facts (read view) opens moment session path ∙ of_file (read view) path (looked (read view) (c.Objid path))
 
-pub df-wanted : (facts : Facts) (moment session : ℕ) (view : VolumeView) → wanted facts moment session c.Df view ≡ df_shown facts
+  -- what is shown, by what shows it
+  pub shown-wanted : (what : Shown) → is_wanted (shown_command path what) (of_path (read view) path (shown_by what (read view) opens))
+  shown-wanted s.Ls = ls-wanted
+  shown-wanted s.Stat = stat-wanted
+  shown-wanted s.Links = links-wanted
+  shown-wanted (s.Cat stream) = cat-wanted stream.now
+  shown-wanted (s.Read stream from len) = read-wanted stream.now from len
+  shown-wanted s.Streams = streams-wanted
+  shown-wanted s.Attr = attr-wanted
+  shown-wanted s.Sec = sec-wanted
+  shown-wanted s.Reparse = reparse-wanted
+  shown-wanted s.Objid = objid-wanted
+
+pub shown-reads : (path : List (List ℕ)) (what : Shown) → is_reading (shown_command path what) ≡ true
+shown-reads path s.Ls = refl
+shown-reads path s.Stat = refl
+shown-reads path s.Links = refl
+shown-reads path (s.Cat stream) = refl
+shown-reads path (s.Read stream from len) = refl
+shown-reads path s.Streams = refl
+shown-reads path s.Attr = refl
+shown-reads path s.Sec = refl
+shown-reads path s.Reparse = refl
+shown-reads path s.Objid = refl
+
+pub df-wanted : (facts : Facts) (opens : List OpenEntry) (moment session : ℕ) (view : VolumeView)
+    → due facts (machine_on view opens moment) session c.Df ≡ df_shown facts
 unfolding due outcome locate answer_of
-df-wanted facts moment session view = refl
-
--- all other commands are refused
-pub not-built : (facts : Facts) (moment session : ℕ) (command : Command) (view : VolumeView) → is_built command ≡ false
-    → wanted facts moment session command view ≡ Err no.Unbuilt
-unfolding due outcome
-not-built facts moment session command view unbuilt = rw unbuilt refl
+df-wanted facts opens moment session view = let n = find-never opens 0 in rw n refl

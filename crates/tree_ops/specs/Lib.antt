@@ -1,4 +1,4 @@
 pub mod Wanted
 pub mod Volumes
-pub mod Serves
 pub mod Runs
+pub mod Serves

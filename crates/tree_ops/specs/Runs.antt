@@ -1,5 +1,5 @@
 -- A run on a volume in use: where it stands, and what every command promises of it.
-use Rattle.std.specs.Prelude.{◌≡◌, ◌++◌, ℕ, List, [], Option, Some, Ok, false, is_some}
+use Rattle.std.specs.Prelude.{◌≡◌, ◌++◌, ℕ, List, Some, Ok, false, is_some}
 use Rattle.vol_disk.specs.Contents.{map_told}
 use Rattle.vol_disk.specs.declared.Disk.{Ghosts}
 use Rattle.volume_def.specs.View.{VolumeView}
@@ -14,11 +14,11 @@ use Rattle.tree_model.specs.declared.reply.Reply.{Reply}
 use Rattle.volume_mark.specs.Closing.{Closes, CountsClosing, MarkStands}
 use Rattle.volume_mark.specs.Mark.{IsHarmed}
 use Rattle.tree_ops.specs.declared.volume.Volume.{Volume}
-use Rattle.tree_ops.specs.Volumes.{disk_under, mark_of, moment_of, view_under}
+use Rattle.tree_ops.specs.Volumes.{disk_under, mark_of, moment_of, opens_of, view_under}
 
 -- the machine as the volume keeps it: the tree that it reads as, the opens, and the moment
 abbrev pub machine_under : {D : Type 0} (g : Ghosts D) → Volume D g → Machine
-machine_under g volume = record { tree = read (view_under g volume); opens = []; now = moment_of g volume }
+machine_under g volume = record { tree = read (view_under g volume); opens = opens_of g volume; now = moment_of g volume }
 
 -- A RUN STANDS in this state on the volume; it began on the volume `first`.
 pub record Ready {D : Type 0} (g : Ghosts D) (first : VolumeView) (volume : Volume D g) (state : State) : Type 0 where

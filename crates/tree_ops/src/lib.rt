@@ -4,6 +4,7 @@
 mod built;
 mod close;
 mod commands;
+mod handles;
 mod volume;
 
 pub use close::CloseNo;

@@ -1,5 +1,5 @@
 //! A volume in use, and what is done with it.
-ghost use Rattle.std.specs.Prelude.{◌≡◌, ◌≢◌, ◌||◌, ◌+◌, ◌<◌, ◌≤◌, IsOk, None, Ok, OnErr, OnOk, Some, false, is_some};
+ghost use Rattle.std.specs.Prelude.{◌≡◌, ◌≢◌, ◌||◌, ◌+◌, ◌<◌, ◌≤◌, IsOk, None, Ok, [], OnErr, OnOk, Some, false, is_some};
 ghost use Rattle.vol_disk.specs.Contents.{WhereTold, settled_more};
 ghost use Rattle.vol_disk.specs.Count.{CountsFault, Rose};
 ghost use Rattle.volume_def.specs.VersionClause.{IsClean};
@@ -18,6 +18,7 @@ use crate::close::CloseNo;
 use crate::commands::answer;
 use mark_write::Flag;
 use mft_table::{Mft, Mounted};
+use share_table::Opens;
 use std::alloc::Global;
 use tree_model::{Command, Reply};
 use tree_read::{Standing, Stop};
@@ -31,14 +32,16 @@ pub struct Volume<'d, D: Disk> {
     /// The directory in which the last path ended, where one is remembered: a path in the same directory begins there. A command that
     /// edits is to forget it first.
     last: Option<Standing>,
-    /// The moment that commands stamp.
+    /// The opens of all sessions.
+    opens: Opens,
+    /// The moment that edits write.
     moment: u64,
     /// Where the mark lies, once an edit was done.
     mark: Option<Flag>,
 }
 
 impl<'d, D: Disk> Volume<'d, D> {
-    ghost use Rattle.tree_ops.specs.Volumes.{disk_under, mark_of, moment_of, reference_under, view_under};
+    ghost use Rattle.tree_ops.specs.Volumes.{disk_under, mark_of, moment_of, opens_of, reference_under, view_under};
     ghost use Rattle.tree_ops.specs.Serves.{Serves};
 
     /// Takes a volume into use, with the tables that `mount` gave. Nothing is read.
@@ -51,6 +54,7 @@ impl<'d, D: Disk> Volume<'d, D> {
         ensures serves { Serves D.Disk result }
         ensures view { WhereTold (D.now disk.old) (λ image. view_under D.Disk result ≡ volume_in image mounted) }
         ensures unmarked { mark_of D.Disk result ≡ None }
+        ensures opens { opens_of D.Disk result ≡ [] }
         ensures moment { moment_of D.Disk result ≡ 0 }
     {
         let stage = Stage::over(alloc, disk);
@@ -58,6 +62,7 @@ impl<'d, D: Disk> Volume<'d, D> {
             alloc,
             mft: Mft::resume(stage, mounted),
             last: None,
+            opens: Opens::new(alloc),
             moment: 0,
             mark: None,
         }
@@ -72,6 +77,7 @@ impl<'d, D: Disk> Volume<'d, D> {
             alloc: _,
             mft,
             last: _,
+            opens: _,
             moment: _,
             mark: _,
         } = self;
@@ -107,8 +113,15 @@ impl<D: Disk> Volume<'_, D> {
         ensures device { result ≡ reply_is.Device
             → Rose (D.faults (disk_under D.Disk self.old)) (D.faults (disk_under D.Disk self.new)) }
     {
-        let _ = session;
-        match answer(self.alloc, &mut self.mft, &mut self.last, command) {
+        match answer(
+            self.alloc,
+            &mut self.mft,
+            &mut self.last,
+            &mut self.opens,
+            &mut self.moment,
+            session,
+            command,
+        ) {
             Ok(shown) => Reply::Ok(shown),
             Err(Stop::No(refused)) => Reply::No(refused),
             Err(Stop::Device) => Reply::Device,
@@ -135,7 +148,7 @@ impl<D: Disk> Volume<'_, D> {
         }
     }
 
-    /// Closes the volume: where it was marked, clears the mark and settles. Until a command is built that edits, there is nothing to do.
+    /// Closes the volume: where it was marked, clears the mark and settles. Where no edit was done, there is nothing to do.
     ///
     /// # Errors
     ///
@@ -152,6 +165,12 @@ impl<D: Disk> Volume<'_, D> {
         ensures most { D.written (disk_under D.Disk self.new) ≤ D.written (disk_under D.Disk self.old) + 2 }
         ensures faults { CountsFault result (D.faults (disk_under D.Disk self.old)) (D.faults (disk_under D.Disk self.new)) }
     {
-        Ok(())
+        let Some(flag) = self.mark else {
+            return Ok(());
+        };
+        match self.mft.close_marked(&flag) {
+            Ok(()) => Ok(()),
+            Err(_) => Err(CloseNo::Device),
+        }
     }
 }

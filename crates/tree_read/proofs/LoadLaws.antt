@@ -1,6 +1,6 @@
 -- What was loaded and read of a file.
-use Rattle.std.proofs.Common.{◌≡◌, ◌+◌, ◌≤◌, ℕ, false, List, [], Option, Some, None, Ok, length, min, sym, ap, subst, ◌∙◌, arith}
-use Rattle.std.specs.Prelude.{IfSome, IsTrue, slice_get, slice_range}
+use Rattle.std.proofs.Common.{◌≡◌, ◌+◌, ◌≤◌, ℕ, false, List, [], Option, Some, None, Result, Ok, Err, length, min, refl, sym, ap, subst, ◌∙◌, arith}
+use Rattle.std.specs.Prelude.{IfSome, IsSome, IsTrue, slice_get, slice_range}
 use Rattle.volume_def.specs.Readable.{IsFile, WhereReadable}
 use Rattle.volume_def.specs.Values.{attribute_value, first_part, value_on}
 use Rattle.volume_def.specs.View.{VolumeView}
@@ -17,11 +17,14 @@ use Rattle.attr_store.proofs.StoredLaws.{stored-length, stored-read}
 use Rattle.file_record.specs.Held.{AreParts, file_number, parts_held}
 use Rattle.file_record.specs.declared.base.BaseFile.{BaseFile}
 use Rattle.file_record.specs.declared.parts.FileParts.{FileParts}
-use Rattle.tree_model.specs.Reading.{shown_content}
-use Rattle.tree_read.specs.Answered.{Finds}
+use Rattle.tree_model.specs.Reading.{read, shown_content}
+use Rattle.tree_model.specs.Tree.{node_of}
+use Rattle.tree_read.specs.Answered.{Finds, IsFound}
+use Rattle.tree_read.specs.declared.stop.Stop.{Stop}
 use Rattle.tree_read.specs.Nodes.{IsCaseOf, IsFileHeld, IsNodeHeld, begin_of}
 use Rattle.tree_read.proofs.DataLaws.{content-none, content-plain, first-read, no_first}
-use Rattle.tree_read.proofs.NodeLaws.{held-file, sound-readable}
+use Rattle.tree_read.proofs.NodeLaws.{held-file, node-held, sound-readable}
+use Rattle.tree_read.proofs.GivesLaws.{tells}
 
 -- none is there
 pub begin-none : (view : VolumeView) (file : FileParts) (kind most : ℕ) (name : List ℕ) → first_part (attribute_held file kind name) ≡ None
@@ -61,6 +64,17 @@ file-found g old new f found held is in_use only quiet number header are = recor
         (are told (sound-readable (view g old) (in_use told).sound));
   };
 }
+
+-- the file of a number that is shown is a node
+pub node-found : {D : Type 0} (g : Ghosts D) (old new : Mft D g) (f : ℕ) (result : Result BaseFile Stop) → IsInUse g old
+    → (IsTrue (view g old).told → IsSome (node_of (read (view g old)) f)) → Finds g old new (λ v. IsFileHeld v f) result
+    → Finds g old new IsNodeHeld result
+node-found g old new f result in_use shown call = tells call refl (λ told. by result told)
+  where
+    by : (result : Result BaseFile Stop) → IsTrue (view g old).told → IsFound (IsFileHeld (view g old) f) result
+        → IsFound (IsNodeHeld (view g old)) result
+    by (Ok held) told is = node-held (view g old) f held (sound-readable (view g old) (in_use told).sound) (shown told) is
+    by (Err why) told failed = failed
 
 -- the table of case that is kept
 pub case-kept : (view : VolumeView) (mounted kept : Mounted) → kept ≡ mounted → IsSoundVolume view mounted → IsCaseOf view kept.upcase

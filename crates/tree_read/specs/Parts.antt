@@ -9,7 +9,7 @@ use Rattle.file_record.specs.declared.base.BaseFile.{BaseFile}
 use Rattle.file_record.specs.declared.parts.FileParts.{FileParts}
 use Rattle.file_record.specs.Held.{parts_held}
 use Rattle.tree_model.specs.Cases.{size_of}
-use Rattle.tree_model.specs.Shown.{stream_of}
+use Rattle.tree_model.specs.Shown.{plain_bytes, stream_of}
 use Rattle.tree_model.specs.Reading.{read}
 use Rattle.tree_model.specs.Subjects.{content_named}
 use Rattle.tree_model.specs.Tree.{Tree, node_of}
@@ -49,10 +49,15 @@ pub record IsPlainStream (view : VolumeView) (held : BaseFile) (name : List ℕ)
   pub bytes : List ℕ
   pub holds : is.stream.content ≡ Plain bytes
   pub size : found.size ≡ length bytes
-  pub shown : stream_of (read view) name (node_of (read view) (number_of held)) ≡ Ok bytes
 
--- the same, or the refusal that is due; memory may want
-abbrev pub FindsPlain : VolumeView → BaseFile → List ℕ → Result FoundStream No → Type 0
-FindsPlain view held name (Ok found) = IsPlainStream view held name found
-FindsPlain view held name (Err refused) =
-    (stream_of (read view) name (node_of (read view) (number_of held)) ≡ Err refused) ⊎ (refused ≡ no.Memory)
+-- the bytes of the stream of this name, or why they are not shown; of a directory's unnamed one never
+abbrev pub content_here : VolumeView → BaseFile → List ℕ → Result (List ℕ) No
+content_here view held name = plain_bytes (content_named (read view) name (node_of (read view) (number_of held)))
+
+abbrev pub stream_here : VolumeView → BaseFile → List ℕ → Result (List ℕ) No
+stream_here view held name = stream_of (read view) name (node_of (read view) (number_of held))
+
+-- The stream was found whose bytes are wanted, or the refusal that is due; memory may want.
+abbrev pub FindsPlain : Result (List ℕ) No → VolumeView → BaseFile → List ℕ → Result FoundStream No → Type 0
+FindsPlain wanted view held name (Ok found) = (is : IsPlainStream view held name found) × (wanted ≡ Ok is.bytes)
+FindsPlain wanted view held name (Err refused) = (wanted ≡ Err refused) ⊎ (refused ≡ no.Memory)

@@ -17,6 +17,7 @@ mod walk;
 
 pub use above::Above;
 pub use below::{Below, load_below};
+pub use data::{find_plain, name_or, read_through};
 pub use load::load_file;
 pub use room::df;
 pub use shown::{Shown, show_at};

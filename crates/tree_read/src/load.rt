@@ -1,5 +1,5 @@
 //! A file is loaded, and what an attribute of it holds is read.
-ghost use Rattle.std.specs.Prelude.{◌≡◌, ◌+◌, ◌<◌, ◌≤◌, IfErr, IfOk, IfSome, IsTrue, MatchResult, length, slice_get, slice_range};
+ghost use Rattle.std.specs.Prelude.{◌≡◌, ◌+◌, ◌<◌, ◌≤◌, IfErr, IfOk, IfSome, IsSome, IsTrue, MatchResult, length, slice_get, slice_range};
 ghost use Rattle.volume_def.specs.Readable.{IsFile, WhereReadable};
 ghost use Rattle.volume_def.specs.Values.{attribute_value, pieces_touched};
 ghost use Rattle.mft_table.specs.Mft.{MftReads, faults_of, view};
@@ -7,7 +7,8 @@ ghost use Rattle.file_record.specs.FileNos.{CountsNo, IsReadNo};
 ghost use Rattle.file_record.specs.Held.{AreParts, file_number, parts_held};
 ghost use Rattle.attr_store.specs.First.{attribute_held};
 ghost use Rattle.mft_table.specs.InUse.{IsInUse};
-ghost use Rattle.tree_model.specs.Reading.{shown_content};
+ghost use Rattle.tree_model.specs.Reading.{read, shown_content};
+ghost use Rattle.tree_model.specs.Tree.{node_of};
 ghost use Rattle.tree_read.specs.Answered.{Finds};
 ghost use Rattle.tree_read.specs.Nodes.{IsFileHeld, IsNodeHeld, begin_of, number_of};
 
@@ -37,6 +38,20 @@ pub fn load_file<D: Disk>(alloc: Global, mft: &mut Mft<'_, D>, file: u64) -> Res
         Ok(None) => Err(Stop::No(No::Memory)),
         Err(no) => Err(Stop::from(no)),
     }
+}
+
+/// Loads a file that is shown.
+///
+/// # Errors
+///
+/// `Device` where the disk failed, and `Memory`.
+pub fn load_node<D: Disk>(alloc: Global, mft: &mut Mft<'_, D>, file: u64) -> Result<BaseFile, Stop>
+    requires volume { IsInUse D.Disk mft.old }
+    requires file { IsTrue (view D.Disk mft.old).told → IsSome (node_of (read (view D.Disk mft.old)) file) }
+    ensures number { IfOk result (λ held. number_of held ≡ file) }
+    ensures found { Finds D.Disk mft.old mft.new (λ volume. IsNodeHeld volume) result }
+{
+    load_file(alloc, mft, file)
 }
 
 // Reads the first bytes of the value that a part of the file tells the sizes of.

@@ -16,6 +16,7 @@ use crate::stop::Stop;
 use crate::walk::{list_shown, resolve};
 use file_record::BaseFile;
 use mft_table::Mft;
+use share_table::Opens;
 use std::alloc::Global;
 use tree_model::{Answer, No, Path};
 use vol_bytes::Name;
@@ -69,12 +70,14 @@ fn links<D: Disk>(alloc: Global, mft: &mut Mft<'_, D>, held: &BaseFile) -> Resul
 fn show_node<D: Disk>(
     alloc: Global,
     mft: &mut Mft<'_, D>,
+    opens: &Opens,
     what: Shown<'_>,
     held: &BaseFile,
 ) -> Result<Answer, Stop>
     requires volume { IsInUse D.Disk mft.old }
     requires held { IsTrue (view D.Disk mft.old).told → IsNodeHeld (view D.Disk mft.old) held.now }
-    ensures answered { Answered D.Disk mft.old mft.new (λ volume. shown_by what.entry (read volume) (number_of held.now)) result }
+    ensures answered { Answered D.Disk mft.old mft.new
+        (λ volume. shown_by what.entry (read volume) opens.now (number_of held.now)) result }
 {
     match what {
         Shown::Ls => ls(alloc, mft, held),
@@ -83,8 +86,8 @@ fn show_node<D: Disk>(
             Err(refused) => Err(Stop::No(refused)),
         },
         Shown::Links => links(alloc, mft, held),
-        Shown::Cat { stream } => cat(alloc, mft, held, stream),
-        Shown::Read { stream, at, len } => read(alloc, mft, held, stream, at, len),
+        Shown::Cat { stream } => cat(alloc, mft, opens, held, stream),
+        Shown::Read { stream, at, len } => read(alloc, mft, opens, held, stream, at, len),
         Shown::Streams => match streams(alloc, held, &mft.mounted().upcase) {
             Ok(answer) => Ok(answer),
             Err(refused) => Err(Stop::No(refused)),
@@ -96,8 +99,8 @@ fn show_node<D: Disk>(
     }
 }
 
-/// What is shown of the file that a path leads to, or the refusal that is due. `last` is the directory in which the last path ended,
-/// before the call and behind it.
+/// What is shown of the file that a path leads to, beside the opens that are kept, or the refusal that is due. `last` is the
+/// directory in which the last path ended, before the call and behind it.
 ///
 /// # Errors
 ///
@@ -106,15 +109,16 @@ pub fn show_at<D: Disk>(
     alloc: Global,
     mft: &mut Mft<'_, D>,
     last: &mut Option<Standing>,
+    opens: &Opens,
     path: &Path,
     what: Shown<'_>,
 ) -> Result<Answer, Stop>
     requires volume { IsInUse D.Disk mft.old }
     requires last { IsTrue (view D.Disk mft.old).told → IfSome last.old (IsStanding (view D.Disk mft.old)) }
-    ensures answered { Answered D.Disk mft.old mft.new (λ volume. of_path (read volume) path.now (shown_by what.entry (read volume)))
-        result }
+    ensures answered { Answered D.Disk mft.old mft.new
+        (λ volume. of_path (read volume) path.now (shown_by what.entry (read volume) opens.now)) result }
     ensures last { IsTrue (view D.Disk mft.old).told → IfSome last.new (IsStanding (view D.Disk mft.old)) }
 {
     let reached = resolve(alloc, mft, last, path)?;
-    show_node(alloc, mft, what, &reached.held)
+    show_node(alloc, mft, opens, what, &reached.held)
 }

@@ -11,7 +11,7 @@ returns-clause-ran g c image text now left =
     (search (rules, c.run_script-end.ensures.keeps.same_reference, c.new-volume.ensures.same_reference, c.finish.ensures.same_reference, c.finish.ensures.disk))
     (c.run_script-end.ensures.ran (state_on image c.args.mounted (g.D.Disk.written c.args.disk.now)) text
     (ready-new g.D.Disk c.new-volume.result image c.args.mounted c.args.disk.now c.new-volume.ensures.disk now
-    (c.new-volume.ensures.view image now) c.new-volume.ensures.moment c.new-volume.ensures.unmarked
+    (c.new-volume.ensures.view image now) c.new-volume.ensures.opens c.new-volume.ensures.moment c.new-volume.ensures.unmarked
     (begins_on image c.args.mounted (g.D.Disk.written c.args.disk.now) (c.requires.accepted image now).0 (c.requires.accepted image now).1))
     (begins_on image c.args.mounted (g.D.Disk.written c.args.disk.now) (c.requires.accepted image now).0 (c.requires.accepted image now).1)
     c.new-volume.ensures.unmarked left)

@@ -1,22 +1,51 @@
-use Rattle.std.proofs.Common.{Ok, ap, sym, ◌∙◌}
-use Rattle.std.proofs.lemmas.Bool.{ltb-false}
+use Rattle.std.proofs.Common.{Ok, ap, inl, refl, sym, ◌∙◌}
+use Rattle.std.proofs.lemmas.Bool.{ltb-false, ltb-true}
 use Rattle.mft_table.specs.Mft.{mounted_of, view}
 use Rattle.tree_model.specs.Reading.{read}
+use Rattle.tree_model.specs.Shown.{kept_apart}
 use Rattle.tree_model.specs.declared.reply.Answer.{Answer}
 use Rattle.tree_read.specs.Nodes.{number_of}
 use Rattle.tree_read.specs.Shown.{cat_shown}
 use Rattle.tree_read.proofs.AnsweredLaws.{answers-it}
+use Rattle.tree_read.proofs.GivesLaws.{at_once}
 use Rattle.tree_read.proofs.LoadLaws.{case-kept}
-use Rattle.tree_read.proofs.StreamLaws.{cat-all}
+use Rattle.tree_read.proofs.StreamLaws.{cat-all, cat-apart, cat-big}
 use Rattle.tree_read.proofs.data.cat_stream.Goals as goal
 
-pub returns-else-is_too_large : goal.returns-else-is_too_large
-returns-else-is_too_large g c =
+pub returns-then-is_too_large : goal.returns-then-is_too_large
+returns-then-is_too_large g c =
     let held = c.args.held.now in
     let v = view g.D.Disk c.args.mft.now in
     record {
-      answered = answers-it _ (λ v. cat_shown (read v) c.args.name.now (number_of held)) c.data.result c.data.ensures.found (λ told x so.
+      answered = at_once refl (λ told.
           let is = c.in-Ok.ensures.found v (c.requires.held told)
           (case-kept v (mounted_of g.D.Disk c.args.mft.now) c.mounted.result.now c.mounted.ensures (c.requires.volume told)) in
-          cat-all v held c.args.name.now c.in-Ok.found is (ltb-false 65536 c.in-Ok.found.size (sym c.is_too_large.ensures ∙ c.if-is_too_large.false)) ∙ ap (λ (y : Answer). Ok y) (sym (so c.args.name.now is)));
+          inl (cat-big v held c.args.name.now c.args.opens.now c.in-Ok.found is.0 is.1
+          (ltb-true 65536 c.in-Ok.found.size (sym c.is_too_large.ensures ∙ c.if-is_too_large.true))));
+    }
+
+pub returns-in-Some : goal.returns-in-Some
+returns-in-Some g c =
+    let held = c.args.held.now in
+    let v = view g.D.Disk c.args.mft.now in
+    record {
+      answered = at_once refl (λ told.
+          let is = c.in-Ok.ensures.found v (c.requires.held told)
+          (case-kept v (mounted_of g.D.Disk c.args.mft.now) c.mounted.result.now c.mounted.ensures (c.requires.volume told)) in
+          inl (cat-apart v held c.args.name.now c.args.opens.now c.in-Ok.found is.0 is.1 c.in-Some.refused
+          (ltb-false 65536 c.in-Ok.found.size (sym c.is_too_large.ensures ∙ c.if-is_too_large.false))
+          (c.in-Some.ensures ∙ ap (kept_apart c.args.opens.now) c.number.ensures)));
+    }
+
+pub returns-in_default : goal.returns-in_default
+returns-in_default g c =
+    let held = c.args.held.now in
+    let v = view g.D.Disk c.args.mft.now in
+    record {
+      answered = answers-it _ (λ v. cat_shown (read v) c.args.opens.now c.args.name.now (number_of held)) c.data.result c.data.ensures.found (λ told x so.
+          let is = c.in-Ok.ensures.found v (c.requires.held told)
+          (case-kept v (mounted_of g.D.Disk c.args.mft.now) c.mounted.result.now c.mounted.ensures (c.requires.volume told)) in
+          cat-all v held c.args.name.now c.args.opens.now c.in-Ok.found is.0 is.1
+          (ltb-false 65536 c.in-Ok.found.size (sym c.is_too_large.ensures ∙ c.if-is_too_large.false)) (c.in_default.ensures ∙ ap (kept_apart c.args.opens.now) c.number.ensures)
+          ∙ ap (λ (y : Answer). Ok y) (sym (so c.args.name.now is.0)));
     }

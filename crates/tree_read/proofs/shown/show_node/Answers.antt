@@ -12,7 +12,7 @@ returns-in-Attr g c =
     let v = view g.D.Disk c.args.mft.now in
     record {
       answered = at_once refl (λ told.
-          ap (λ what. shown_by what (read v) (number_of held)) c.in-Attr.is ∙ c.attr.ensures v (c.requires.held told));
+          ap (λ what. shown_by what (read v) c.args.opens.now (number_of held)) c.in-Attr.is ∙ c.attr.ensures v (c.requires.held told));
     }
 
 pub returns-in-Sec : goal.returns-in-Sec
@@ -21,5 +21,5 @@ returns-in-Sec g c =
     let v = view g.D.Disk c.args.mft.now in
     record {
       answered = at_once refl (λ told.
-          ap (λ what. shown_by what (read v) (number_of held)) c.in-Sec.is ∙ c.sec.ensures v (c.requires.held told));
+          ap (λ what. shown_by what (read v) c.args.opens.now (number_of held)) c.in-Sec.is ∙ c.sec.ensures v (c.requires.held told));
     }
