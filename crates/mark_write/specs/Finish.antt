@@ -9,17 +9,17 @@ use Rattle.mark_write.specs.declared.log.Span.{Span}
 use Rattle.mark_write.specs.Flags.{IsCopySet, IsSafe, IsSet, LiesAt, cleared_sector}
 use Rattle.mark_write.specs.Logs.{IsEmptied, IsOutside}
 
--- THE EDIT CAN BE WRITTEN: the mark and the log lie on the disk and apart from one another, and nothing is staged of either. A
--- volume that is said to be marked before is so, in both sectors.
+-- THE EDIT CAN BE WRITTEN: the mark and the log lie on the disk, and where it tells its contents apart from one another, with nothing
+-- staged of either. A volume that is said to be marked before is so, in both sectors.
 pub record CanFinish {D : Type 0} (g : Ghosts D) (flag : Flag) (before : Bool) (log : List Span) (stage : Stage D g) : Type 0 where
   pub place : LiesAt (g.size (disk_of g stage)) flag
   pub spans : All (λ span. span.first + span.len ≤ g.size (disk_of g stage)) log
   pub sound : is_broken g stage ≡ false
-  pub home : ¬ (Contains (places g stage) flag.home)
-  pub copy : ¬ (Contains (places g stage) flag.copy)
-  pub plain : (n : ℕ) → Contains (places g stage) n → IsOutside log n
-  pub apart : IsOutside log flag.home
-  pub apart_copy : IsOutside log flag.copy
+  pub home : IsTold (image g stage) → ¬ (Contains (places g stage) flag.home)
+  pub copy : IsTold (image g stage) → ¬ (Contains (places g stage) flag.copy)
+  pub plain : IsTold (image g stage) → (n : ℕ) → Contains (places g stage) n → IsOutside log n
+  pub apart : IsTold (image g stage) → IsOutside log flag.home
+  pub apart_copy : IsTold (image g stage) → IsOutside log flag.copy
   pub marked : before ≡ true → IsTold (image g stage) → IsSet flag (sector_in (g.now (disk_of g stage)))
   pub copied : before ≡ true → IsTold (image g stage) → IsCopySet flag (sector_in (g.now (disk_of g stage)))
 
@@ -44,12 +44,12 @@ pub record Finishes {D : Type 0} (g : Ghosts D) (flag : Flag) (before : Bool) (l
   pub image : image g new ≡ g.now (disk_of g new)
   pub sound : is_broken g new ≡ false
 
--- THE VOLUME CAN BE CLOSED: the mark lies on the disk and is set, and nothing is staged of it.
+-- THE VOLUME CAN BE CLOSED: the mark lies on the disk, and where that tells its contents it is set, and nothing is staged of it.
 pub record CanClose {D : Type 0} (g : Ghosts D) (flag : Flag) (stage : Stage D g) : Type 0 where
   pub place : LiesAt (g.size (disk_of g stage)) flag
   pub sound : is_broken g stage ≡ false
-  pub home : ¬ (Contains (places g stage) flag.home)
-  pub copy : ¬ (Contains (places g stage) flag.copy)
+  pub home : IsTold (image g stage) → ¬ (Contains (places g stage) flag.home)
+  pub copy : IsTold (image g stage) → ¬ (Contains (places g stage) flag.copy)
   pub marked : IsTold (image g stage) → IsSet flag (sector_in (g.now (disk_of g stage)))
 
 -- THE DISK FAILED: the volume is marked, or as it was but for the mark.

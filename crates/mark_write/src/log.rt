@@ -22,12 +22,12 @@ pub struct Span {
 fn fill_sector<D: Disk>(stage: &mut Stage<'_, D>, sector: u64) -> Result<(), StageNo>
     requires place { sector < D.size (disk_of D.Disk stage.old) }
     requires sound { is_broken D.Disk stage.old ≡ false }
-    requires plain { ¬ (Contains (places D.Disk stage.old) sector) }
+    requires plain { IsTold (image D.Disk stage.old) → ¬ (Contains (places D.Disk stage.old) sector) }
     ensures goes_on { GoesOn D.Disk stage.old stage.new }
     ensures filled { OnOk result (IsTold (image D.Disk stage.old) → sector_in (D.now (disk_of D.Disk stage.new)) sector ≡ empty_sector) }
     ensures others { (other : ℕ) → other ≢ sector
         → sector_in (D.now (disk_of D.Disk stage.new)) other ≡ sector_in (D.now (disk_of D.Disk stage.old)) other }
-    ensures image { OnOk result ((other : ℕ) → other ≢ sector
+    ensures image { OnOk result (IsTold (image D.Disk stage.old) → (other : ℕ) → other ≢ sector
         → sector_in (image D.Disk stage.new) other ≡ sector_in (image D.Disk stage.old) other) }
     ensures settled { D.settled (disk_of D.Disk stage.new) ≡ D.settled (disk_of D.Disk stage.old) }
     ensures most { D.written (disk_of D.Disk stage.new) ≤ D.written (disk_of D.Disk stage.old) + 1 }
@@ -49,13 +49,13 @@ fn fill_sector<D: Disk>(stage: &mut Stage<'_, D>, sector: u64) -> Result<(), Sta
 fn fill_span<D: Disk>(stage: &mut Stage<'_, D>, span: Span) -> Result<(), StageNo>
     requires place { span.first + span.len ≤ D.size (disk_of D.Disk stage.old) }
     requires sound { is_broken D.Disk stage.old ≡ false }
-    requires plain { (n : ℕ) → IsWithin span n → ¬ (Contains (places D.Disk stage.old) n) }
+    requires plain { IsTold (image D.Disk stage.old) → (n : ℕ) → IsWithin span n → ¬ (Contains (places D.Disk stage.old) n) }
     ensures goes_on { GoesOn D.Disk stage.old stage.new }
     ensures filled { OnOk result (IsTold (image D.Disk stage.old) → (n : ℕ) → IsWithin span n
         → sector_in (D.now (disk_of D.Disk stage.new)) n ≡ empty_sector) }
     ensures others { (n : ℕ) → ¬ (IsWithin span n)
         → sector_in (D.now (disk_of D.Disk stage.new)) n ≡ sector_in (D.now (disk_of D.Disk stage.old)) n }
-    ensures image { OnOk result ((n : ℕ) → ¬ (IsWithin span n)
+    ensures image { OnOk result (IsTold (image D.Disk stage.old) → (n : ℕ) → ¬ (IsWithin span n)
         → sector_in (image D.Disk stage.new) n ≡ sector_in (image D.Disk stage.old) n) }
     ensures settled { D.settled (disk_of D.Disk stage.new) ≡ D.settled (disk_of D.Disk stage.old) }
     ensures most { D.written (disk_of D.Disk stage.new) ≤ D.written (disk_of D.Disk stage.old) + span.len }
@@ -79,12 +79,12 @@ fn fill_span<D: Disk>(stage: &mut Stage<'_, D>, span: Span) -> Result<(), StageN
 pub fn fill_log<D: Disk>(stage: &mut Stage<'_, D>, spans: &[Span]) -> Result<(), StageNo>
     requires place { All (λ span. span.first + span.len ≤ D.size (disk_of D.Disk stage.old)) spans.now }
     requires sound { is_broken D.Disk stage.old ≡ false }
-    requires plain { (n : ℕ) → Contains (places D.Disk stage.old) n → IsOutside spans.now n }
+    requires plain { IsTold (image D.Disk stage.old) → (n : ℕ) → Contains (places D.Disk stage.old) n → IsOutside spans.now n }
     ensures goes_on { GoesOn D.Disk stage.old stage.new }
     ensures filled { OnOk result (IsTold (image D.Disk stage.old) → IsEmptied spans.now (sector_in (D.now (disk_of D.Disk stage.new)))) }
     ensures others { (n : ℕ) → IsOutside spans.now n
         → sector_in (D.now (disk_of D.Disk stage.new)) n ≡ sector_in (D.now (disk_of D.Disk stage.old)) n }
-    ensures image { OnOk result ((n : ℕ) → IsOutside spans.now n
+    ensures image { OnOk result (IsTold (image D.Disk stage.old) → (n : ℕ) → IsOutside spans.now n
         → sector_in (image D.Disk stage.new) n ≡ sector_in (image D.Disk stage.old) n) }
     ensures settled { D.settled (disk_of D.Disk stage.new) ≡ D.settled (disk_of D.Disk stage.old) }
     ensures most { D.written (disk_of D.Disk stage.new) ≤ D.written (disk_of D.Disk stage.old) + span_sectors spans.now }

@@ -34,7 +34,7 @@ fn write_bit<D: Disk>(
     requires place { sector < D.size (disk_of D.Disk stage.old) }
     requires inside { at < 512 }
     requires sound { is_broken D.Disk stage.old ≡ false }
-    requires plain { ¬ (Contains (places D.Disk stage.old) sector) }
+    requires plain { IsTold (image D.Disk stage.old) → ¬ (Contains (places D.Disk stage.old) sector) }
     ensures goes_on { GoesOn D.Disk stage.old stage.new }
     ensures image { OnOk result (IsTold (image D.Disk stage.old)
         → PutsSector (image D.Disk stage.old) (image D.Disk stage.new) sector (with_bit_as set (sector_in (image D.Disk stage.old) sector) at)) }
@@ -70,8 +70,8 @@ fn write_bit<D: Disk>(
 pub fn set_mark<D: Disk>(stage: &mut Stage<'_, D>, flag: &Flag) -> Result<(), StageNo>
     requires place { LiesAt (D.size (disk_of D.Disk stage.old)) flag.now }
     requires sound { is_broken D.Disk stage.old ≡ false }
-    requires home { ¬ (Contains (places D.Disk stage.old) flag.now.home) }
-    requires copy { ¬ (Contains (places D.Disk stage.old) flag.now.copy) }
+    requires home { IsTold (image D.Disk stage.old) → ¬ (Contains (places D.Disk stage.old) flag.now.home) }
+    requires copy { IsTold (image D.Disk stage.old) → ¬ (Contains (places D.Disk stage.old) flag.now.copy) }
     ensures goes_on { GoesOn D.Disk stage.old stage.new }
     ensures now { OnOk result (IsTold (image D.Disk stage.old)
         → SetsFlag flag.now (sector_in (D.now (disk_of D.Disk stage.old))) (sector_in (D.now (disk_of D.Disk stage.new)))) }

@@ -33,6 +33,7 @@ impl<D: Disk> Mft<'_, D> {
             + 2 + span_sectors log.now + length (places D.Disk (stage_of D.Disk self.old)) }
         ensures mounted { mounted_of D.Disk self.new ≡ mounted_of D.Disk self.old }
         ensures committed { OnOk result (committed_of D.Disk self.new ≡ mounted_of D.Disk self.old) }
+        ensures uncommitted { OnErr result (committed_of D.Disk self.new ≡ committed_of D.Disk self.old) }
         ensures faults { CountsFault result (faults_of D.Disk self.old) (faults_of D.Disk self.new) }
         ensures device { IfErr result (λ no. no ≡ MftNo.Device) }
     {

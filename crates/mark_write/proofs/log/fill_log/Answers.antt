@@ -1,4 +1,4 @@
-use Rattle.std.proofs.Common.{◌≡◌, arith, rules, subst, ◌∙◌, get_or, inl, inr}
+use Rattle.std.proofs.Common.{◌≡◌, arith, rules, subst, sym, ◌∙◌, get_or, inl, inr}
 use Rattle.std.proofs.lemmas.Grind.{common_steps}
 use Rattle.std.proofs.lemmas.Bool.{cases_lt}
 use Rattle.vol_disk.specs.Contents.{IsTold}
@@ -9,8 +9,8 @@ use Rattle.std.specs.Prelude.{Contains}
 use Rattle.mark_write.proofs.log.fill_log.Goals as goal
 
 pub fill_span-requires-clause-plain : goal.fill_span-requires-clause-plain
-fill_span-requires-clause-plain g c n within h =
-    c.requires.plain n (subst (λ xs. Contains xs n) c.loop-span.invariant.staged h) c.loop-span.span-index (omega arith) within
+fill_span-requires-clause-plain g c told n within h =
+    c.requires.plain (sym c.loop-span.invariant.goes_on.told_image ∙ told) n (subst (λ xs. Contains xs n) c.loop-span.invariant.staged h) c.loop-span.span-index (omega arith) within
 
 pub loop-span-preserved : goal.loop-span-preserved
 loop-span-preserved g c =

@@ -15,11 +15,11 @@ finish_edit-requires g c =
         place = search rules;
         spans = search rules;
         sound = search rules;
-        home = λ h. let l = low 3 h in absurd (omega (arith, l));
-        copy = λ h. let l = low 5 h in absurd (omega (arith, l));
-        plain = λ n h. outside n (let l = low n h in omega (arith, l));
-        apart = outside 3 omega arith;
-        apart_copy = outside 5 omega arith;
+        home = λ told h. let l = low 3 h in absurd (omega (arith, l));
+        copy = λ told h. let l = low 5 h in absurd (omega (arith, l));
+        plain = λ told n h. outside n (let l = low n h in omega (arith, l));
+        apart = λ told. outside 3 omega arith;
+        apart_copy = λ told. outside 5 omega arith;
         marked = search rules;
         copied = search rules;
       };
