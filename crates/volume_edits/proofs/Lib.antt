@@ -2,6 +2,7 @@ pub mod QuietParts
 pub mod QuietClauses
 pub mod OwnerLaws
 pub mod TableParts
+pub mod RecordEdits
 pub mod PokeLaws
 pub mod StoredPoke
 pub mod ClusterWrites

@@ -178,6 +178,17 @@ module _ (view : VolumeView) where
         no-mirror m (inl kind) = λ same. kind (ap (λ (p : Part). p.kind) same ∙ m.data_is)
         no-mirror m (inr files) = files-apart f MFT_MIRROR part m.part files.1 among m.among
 
+    -- .. and so does whatever a clause looks at
+    pub lies-looked : 0 < view.layout.cluster_sectors → (c : ℕ) → IsLookedAt view c → IsOutsideTable view.layout c
+    lies-looked some c l = lies-outside some l.file l.part c l.among l.covered (which l.looked)
+      where
+        which : IsLookedInto l.file l.part → (l.part.kind ≢ DATA) ⊎ ((l.file ≢ MFT) × (l.file ≢ MFT_MIRROR))
+        which (inl list) = inl (λ q. omega (arith, list, q))
+        which (inr (inl records)) = inl (λ q. omega (arith, records, q))
+        which (inr (inr (inl bits))) = inl (λ q. omega (arith, bits, q))
+        which (inr (inr (inr (kind, inl is)))) = inr ((λ q. omega (arith, is, q)), (λ q. omega (arith, is, q)))
+        which (inr (inr (inr (kind, inr is)))) = inr ((λ q. omega (arith, is, q)), (λ q. omega (arith, is, q)))
+
     -- the layout of the table is one whose blocks can be written
     pub layout-lies_apart : 0 < view.layout.cluster_sectors → All (IsOnVolume view.layout.clusters) view.layout.runs → IsApart view.layout
     layout-lies_apart some on = record {
@@ -230,11 +241,4 @@ module _ (view : VolumeView) where
     layout-apart = layout-lies_apart (HasOwners-sound sound t)
 
     pub looked-outside : 0 < view.layout.cluster_sectors → (c : ℕ) → IsLookedAt view c → IsOutsideTable view.layout c
-    looked-outside some c l = own-outside some l.file l.part c l.among l.covered (which l.looked)
-      where
-        which : IsLookedInto l.file l.part → (l.part.kind ≢ DATA) ⊎ ((l.file ≢ MFT) × (l.file ≢ MFT_MIRROR))
-        which (inl list) = inl (λ q. omega (arith, list, q))
-        which (inr (inl records)) = inl (λ q. omega (arith, records, q))
-        which (inr (inr (inl bits))) = inl (λ q. omega (arith, bits, q))
-        which (inr (inr (inr (kind, inl is)))) = inr ((λ q. omega (arith, is, q)), (λ q. omega (arith, is, q)))
-        which (inr (inr (inr (kind, inr is)))) = inr ((λ q. omega (arith, is, q)), (λ q. omega (arith, is, q)))
+    looked-outside = lies-looked (HasOwners-sound sound t)

@@ -50,7 +50,7 @@ module _ (o o' : List ℕ) (count i from to : ℕ) (shape : HasShape o count) (l
   there : IsAttribute o at
   there = shape.each i lt
 
-  w : IsWhole o at
+  pub w : IsWhole o at
   w = there.whole
 
   offset-is : content_offset o at ≡ value_offset o at
@@ -59,10 +59,10 @@ module _ (o o' : List ℕ) (count i from to : ℕ) (shape : HasShape o count) (l
   end-is : content_end o at ≡ value_offset o at + value_len o at
   end-is = ap (λ b. cond b (value_offset o at + value_len o at) (attribute_len o at)) resident
 
-  header-is : header_len o at ≡ 24
+  pub header-is : header_len o at ≡ 24
   header-is = ap (λ b. cond b 24 (cond (has_compressed_len o at) 72 64)) resident
 
-  past-header : 24 ≤ value_offset o at
+  pub past-header : 24 ≤ value_offset o at
   past-header =
       let order = w.content_order (omega (arith, offset-is, end-is, low, some, high)) in
       omega (arith, order, offset-is, header-is)
@@ -73,7 +73,7 @@ module _ (o o' : List ℕ) (count i from to : ℕ) (shape : HasShape o count) (l
   pub kind' : attribute_kind o' at ≡ attribute_kind o at
   kind' = u32_at-same o o' at (λ k f t. below k (omega (arith, t)))
 
-  len' : attribute_len o' at ≡ attribute_len o at
+  pub len' : attribute_len o' at ≡ attribute_len o at
   len' = u32_at-same o o' (at + 4) (λ k f t. below k (omega (arith, t)))
 
   pub res' : is_resident o' at ≡ is_resident o at
@@ -85,10 +85,10 @@ module _ (o o' : List ℕ) (count i from to : ℕ) (shape : HasShape o count) (l
   name' : name_offset o' at ≡ name_offset o at
   name' = u16_at-same o o' (at + 0x0A) (λ k f t. below k (omega (arith, t)))
 
-  flags' : attribute_flags o' at ≡ attribute_flags o at
+  pub flags' : attribute_flags o' at ≡ attribute_flags o at
   flags' = u16_at-same o o' (at + 0x0C) (λ k f t. below k (omega (arith, t)))
 
-  id' : attribute_id o' at ≡ attribute_id o at
+  pub id' : attribute_id o' at ≡ attribute_id o at
   id' = u16_at-same o o' (at + 0x0E) (λ k f t. below k (omega (arith, t)))
 
   pub value' : value_len o' at ≡ value_len o at
@@ -228,6 +228,19 @@ module _ (o o' : List ℕ) (count i from to : ℕ) (shape : HasShape o count) (l
   content-now : content_bytes o' at ≡ slice_range o' (at + value_offset o at) (at + (value_offset o at + value_len o at))
   content-now = ap (λ f. slice_range o' (at + f) (at + content_end o' at)) offset-now
       ∙ ap (λ t. slice_range o' (at + value_offset o at) (at + t)) end-now
+
+  pub content-whole : length (content_bytes o at) ≡ value_len o at
+  content-whole =
+      let from = at + value_offset o at in
+      let to = at + (value_offset o at + value_len o at) in
+      let inside = there.below_used in
+      let ends = w.content_inside in
+      let used = bounded.1 in
+      let all = bounded.2 in
+      let l = length-take (to - from) (drop from o) in
+      let m = length-drop from o in
+      let z = ap length content-is in
+      omega (arith, inside, ends, end-is, used, all, l, m, z)
 
   pub content-length : length (content_bytes o' at) ≡ length (content_bytes o at)
   content-length = ap length content-now ∙ range-length o o' _ _ len ∙ sym (ap length content-is)

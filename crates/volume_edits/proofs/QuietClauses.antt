@@ -34,7 +34,7 @@ use Rattle.volume_def.specs.ReferencesClause.{HasRightReferences, MeetsReference
 use Rattle.list_laws.specs.Replaces.{Replaces}
 use Rattle.list_laws.specs.SameItems.{SameItems}
 use Rattle.volume_def.specs.ShapeClause.{MeetsShape}
-use Rattle.volume_def.specs.Sound.{Clause, IsSound, Meets}
+use Rattle.volume_def.specs.Sound.{Clause, Holds, IsSound, Meets, rank_of}
 use Rattle.volume_def.specs.Sound.{Attributes, CaseTable, ClusterBits, Extents, Indexes, Limits, Links, Lists, Mirror, MirrorPlace, Owners, RecordBits, References, Shape, Version}
 use Rattle.volume_def.specs.Table.{IsWellFormed, cluster_bytes}
 use Rattle.volume_def.specs.Values.{IsPlain, KeepsClusters, first_part, value_on}
@@ -51,7 +51,7 @@ use Rattle.volume_def.proofs.Codes.{part_code}
 use Rattle.std.proofs.lemmas.Slice.Eq.{bytes_eq-Decides}
 use Rattle.std.specs.Str.{bytes_eq}
 use Rattle.volume_def.proofs.EntryLaws.{entries_in-kept}
-use Rattle.volume_edits.specs.Quiet.{EditsQuietly, with_blocks}
+use Rattle.volume_edits.specs.Quiet.{EditsKind, EditsQuietly, EditsRoot, with_blocks}
 use Rattle.volume_edits.proofs.QuietParts as parts_of
 
 IsSomeAnd-weaker : {A : Type 0} (P Q : A → Type 0) (o : Option A) → ((a : A) → P a → Q a) → IsSomeAnd o P → IsSomeAnd o Q
@@ -63,7 +63,7 @@ ascends-replaced : (was now : Part) (before behind : List Part) (least : ℕ) �
 ascends-replaced was now [] behind least same h = subst (λ k. (least ≤ k) × AscendsFrom k behind) (sym same) h
 ascends-replaced was now (x ∷ before) behind least same h = (h.0, ascends-replaced was now before behind x.kind same h.1)
 
-module _ (view : VolumeView) (block copy : ℕ → List ℕ) (n : ℕ) (was now : Part) (e : EditsQuietly view block copy n was now) where
+module _ {root : Bool} (view : VolumeView) (block copy : ℕ → List ℕ) (n : ℕ) (was now : Part) (e : EditsKind root view block copy n was now) where
   abbrev other : VolumeView
   other = with_blocks view block copy
 
@@ -330,9 +330,9 @@ module _ (view : VolumeView) (block copy : ℕ → List ℕ) (n : ℕ) (was now 
           (λ same. absurd (parts_of.kind-now view block copy n was now e DATA (parts_of.not-data view block copy n was now e) same))
 
   -- S12
-  index_parts-kept : (f : ℕ) (name : List ℕ) → index_parts other f name ≡ index_parts view f name
-  index_parts-kept f name = λ i. record {
-    root = parts_of.parts_at-kept view block copy n was now e f INDEX_ROOT name (parts_of.not-root view block copy n was now e) i;
+  index_parts-kept : root ≡ false → (f : ℕ) (name : List ℕ) → index_parts other f name ≡ index_parts view f name
+  index_parts-kept plain f name = λ i. record {
+    root = parts_of.parts_at-kept view block copy n was now e f INDEX_ROOT name (parts_of.not-root view block copy n was now e plain) i;
     records = parts_of.parts_at-kept view block copy n was now e f INDEX_ALLOCATION name (parts_of.not-records view block copy n was now e) i;
     bits = parts_of.parts_at-kept view block copy n was now e f BITMAP name (parts_of.not-bitmap view block copy n was now e) i;
   }
@@ -379,8 +379,8 @@ module _ (view : VolumeView) (block copy : ℕ → List ℕ) (n : ℕ) (was now 
     ascending = h.ascending;
   }
 
-  directory-kept : (f : ℕ) → IsDirectoryIndex view f → IsDirectoryIndex other f
-  directory-kept f d =
+  directory-kept : root ≡ false → (f : ℕ) → IsDirectoryIndex view f → IsDirectoryIndex other f
+  directory-kept plain f d =
       let name = wide (codes "$I30") in
       let index = index_parts view f name in
       let h = d.index in
@@ -400,7 +400,7 @@ module _ (view : VolumeView) (block copy : ℕ → List ℕ) (n : ℕ) (was now 
         ascending = subst (λ fold. Ascends (name_order fold) d.items) (sym fold-kept) h.ascending;
       } in
       let moved = subst (λ x. (k : HasIndex Names (name_rule other) other x d.items) × (u32_at k.root 0x00 ≡ FILE_NAME))
-      (sym (index_parts-kept f name)) (k, d.kind) in
+      (sym (index_parts-kept plain f name)) (k, d.kind) in
       record {
         items = d.items;
         index = moved.0;
@@ -409,9 +409,9 @@ module _ (view : VolumeView) (block copy : ℕ → List ℕ) (n : ℕ) (was now 
             (sym (parts_of.links-kept view block copy n was now e)) d.names;
       }
 
-  view_index-kept : (f : ℕ) (name : List ℕ) (rule : KeyRule) → MeetsViewIndex view f name rule → MeetsViewIndex other f name rule
-  view_index-kept f name rule meets there =
-      let same = index_parts-kept f (wide name) in
+  view_index-kept : root ≡ false → (f : ℕ) (name : List ℕ) (rule : KeyRule) → MeetsViewIndex view f name rule → MeetsViewIndex other f name rule
+  view_index-kept plain f name rule meets there =
+      let same = index_parts-kept plain f (wide name) in
       let h = meets (subst (λ (x : IndexParts). 1 ≤ length x.root) same there) in
       record { items = h.items; has = subst (λ x. HasIndex View rule other x h.items) (sym same) (index-kept View rule _ h.items h.has) }
 
@@ -421,17 +421,17 @@ module _ (view : VolumeView) (block copy : ℕ → List ℕ) (n : ℕ) (was now 
     named = subst (λ names. 1 ≤ count_by (is_in_extend units) names) (parts_of.names_of-kept view block copy n was now e f) s.named;
   }
 
-  indexes-kept : (f : ℕ) → MeetsIndexes view f → MeetsIndexes other f
-  indexes-kept f meets = record {
+  indexes-kept : root ≡ false → (f : ℕ) → MeetsIndexes view f → MeetsIndexes other f
+  indexes-kept plain f meets = record {
     directory = cases f (λ o o'. IfSome o (λ r. IsTrue (is_base r) → IsTrue (is_directory r) → IsDirectoryIndex view f)
         → IfSome o' (λ r. IsTrue (is_base r) → IsTrue (is_directory r) → IsDirectoryIndex other f))
-        (λ here x b d. directory-kept f (x (parts_of.base-back view block copy n was now e b)
+        (λ here x b d. directory-kept plain f (x (parts_of.base-back view block copy n was now e b)
         (sym (parts_of.directory-same view block copy n was now e) ∙ d)))
-        (λ o x. IfSome-weaker _ _ o (λ r y b d. directory-kept f (y b d)) x) meets.directory;
-    security_ids = λ is. view_index-kept f (codes "$SII") id_rule (meets.security_ids is);
-    security_hashes = λ is. view_index-kept f (codes "$SDH") hash_rule (meets.security_hashes is);
-    reparse_points = λ s. view_index-kept f (codes "$R") word_rule (meets.reparse_points (stands-back f (codes "$Reparse") s));
-    object_ids = λ s. view_index-kept f (codes "$O") word_rule (meets.object_ids (stands-back f (codes "$ObjId") s));
+        (λ o x. IfSome-weaker _ _ o (λ r y b d. directory-kept plain f (y b d)) x) meets.directory;
+    security_ids = λ is. view_index-kept plain f (codes "$SII") id_rule (meets.security_ids is);
+    security_hashes = λ is. view_index-kept plain f (codes "$SDH") hash_rule (meets.security_hashes is);
+    reparse_points = λ s. view_index-kept plain f (codes "$R") word_rule (meets.reparse_points (stands-back f (codes "$Reparse") s));
+    object_ids = λ s. view_index-kept plain f (codes "$O") word_rule (meets.object_ids (stands-back f (codes "$ObjId") s));
   }
 
   -- S6: the stream of the value is that one part.
@@ -553,23 +553,30 @@ module _ (view : VolumeView) (block copy : ℕ → List ℕ) (n : ℕ) (was now 
       (λ here h b. extents-all size f (h (parts_of.base-back view block copy n was now e b)))
       (λ o h. IfSome-weaker _ _ o (λ r x b. extents-all size f (x b)) h)
 
-  pub clause-kept : (clause : Clause) (m : ℕ) → Meets clause view m → Meets clause other m
-  clause-kept Shape m h = shape-kept m h
-  clause-kept Attributes m h = attributes-kept m h
-  clause-kept Lists m h = lists-kept m h
-  clause-kept Extents m h = extents-kept (cluster_bytes view.layout) m h
-  clause-kept Owners m h = owners-kept m h
-  clause-kept ClusterBits m h = cluster_bits-kept m h
-  clause-kept RecordBits m h = record_bits-kept m h
-  clause-kept References m h = references-kept m h
-  clause-kept Links m h = links-kept m h
-  clause-kept CaseTable m h = case_table-kept m h
-  clause-kept Indexes m h = indexes-kept m h
-  clause-kept Version m h = version-kept m h
-  clause-kept MirrorPlace m h = mirror_place-kept m h
-  clause-kept Mirror m h = mirror-kept m h
-  clause-kept Limits m h = limits-kept m h
+  -- each clause, that on indexes where the value is no root
+  pub clause-kept : (clause : Clause) → (rank_of clause ≡ rank_of Indexes → root ≡ false) → (m : ℕ) → Meets clause view m → Meets clause other m
+  clause-kept Shape plain m h = shape-kept m h
+  clause-kept Attributes plain m h = attributes-kept m h
+  clause-kept Lists plain m h = lists-kept m h
+  clause-kept Extents plain m h = extents-kept (cluster_bytes view.layout) m h
+  clause-kept Owners plain m h = owners-kept m h
+  clause-kept ClusterBits plain m h = cluster_bits-kept m h
+  clause-kept RecordBits plain m h = record_bits-kept m h
+  clause-kept References plain m h = references-kept m h
+  clause-kept Links plain m h = links-kept m h
+  clause-kept CaseTable plain m h = case_table-kept m h
+  clause-kept Indexes plain m h = indexes-kept (plain refl) m h
+  clause-kept Version plain m h = version-kept m h
+  clause-kept MirrorPlace plain m h = mirror_place-kept m h
+  clause-kept Mirror plain m h = mirror-kept m h
+  clause-kept Limits plain m h = limits-kept m h
 
 pub sound-kept : (view : VolumeView) (block copy : ℕ → List ℕ) (n : ℕ) (was now : Part) → EditsQuietly view block copy n was now → IsSound view
     → IsSound (with_blocks view block copy)
-sound-kept view block copy n was now e sound clause m = clause-kept view block copy n was now e clause m (sound clause m)
+sound-kept view block copy n was now e sound clause m = clause-kept view block copy n was now e clause (λ is. refl) m (sound clause m)
+
+-- .. and where it is one each but that
+pub beside-kept : (view : VolumeView) (block copy : ℕ → List ℕ) (n : ℕ) (was now : Part) → EditsRoot view block copy n was now
+    → (clause : Clause) → rank_of clause ≢ rank_of Indexes → Holds view clause → Holds (with_blocks view block copy) clause
+beside-kept view block copy n was now e clause other holds m =
+    clause-kept view block copy n was now e clause (λ is. absurd (other is)) m (holds m)

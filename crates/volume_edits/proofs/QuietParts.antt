@@ -1,5 +1,5 @@
 -- What an edit leaves that rewrites a value of which no clause asks: the parts of all other types, and the names of files.
-use Rattle.std.proofs.Common.{◌≡◌, ◌≢◌, ◌+◌, ◌==◌, ◌/◌, ◌%◌, ℕ, Bool, false, cond, All, List, [], ◌∷◌, ◌++◌, map, not, Option, Some, None, refl, sym, ap, subst, inl, inr, ◌∙◌, arith}
+use Rattle.std.proofs.Common.{◌≡◌, ◌≢◌, ◌+◌, ◌==◌, ◌/◌, ◌%◌, ℕ, Bool, true, false, cond, All, List, [], ◌∷◌, ◌++◌, map, not, Option, Some, None, refl, sym, ap, subst, inl, inr, ◌∙◌, arith, true≢false}
 use Rattle.std.specs.Prelude.{IsTrue, count_by, filter, filter_map, is_none, option_map, unwrap_or}
 use Rattle.std.specs.List.{flat_map, range_with_len}
 use Rattle.std.proofs.Math.Path.{fun_ext}
@@ -22,12 +22,22 @@ use Rattle.list_laws.proofs.FindLaws.{count-cons}
 use Rattle.list_laws.proofs.MemberLaws.{All-from_Contains, Contains-only}
 use Rattle.volume_def.proofs.RecordLaws.{file_of-kept, parts-other, parts-own_at}
 use Rattle.list_laws.proofs.ReplacesLaws.{Replaces-count, Replaces-filter, Replaces-flat_map, Replaces-itself, Replaces-map, Replaces-member}
-use Rattle.volume_edits.specs.Quiet.{EditsQuietly, RewritesValue, with_blocks}
+use Rattle.volume_edits.specs.Quiet.{EditsKind, RewritesKind, RewritesValue, with_blocks}
 
 -- the types of which clauses ask
 pub asked-kind : (was now : Part) (kind : ℕ) → RewritesValue was now → kind ≢ STANDARD_INFORMATION → kind ≢ VOLUME_INFORMATION
     → was.kind ≢ kind
 asked-kind was now kind r standard version same = elim r.quiet [ inl a ↦ standard (sym same ∙ a) | inr b ↦ version (sym same ∙ b) ]
+
+-- .. and of which those ask, too, that leave indexes out
+unasked-kind : (root : Bool) (was now : Part) (kind : ℕ) → RewritesKind root was now → kind ≢ STANDARD_INFORMATION
+    → kind ≢ VOLUME_INFORMATION → kind ≢ INDEX_ROOT → was.kind ≢ kind
+unasked-kind false was now kind r standard version index same = asked-kind was now kind r standard version same
+unasked-kind true was now kind r standard version index same = index (sym same ∙ r.quiet)
+
+root-asked : (root : Bool) (was now : Part) → RewritesKind root was now → root ≡ false → was.kind ≢ INDEX_ROOT
+root-asked false was now r quiet is = asked-kind was now INDEX_ROOT r (λ q. omega (arith, q)) (λ q. omega (arith, q)) is
+root-asked true was now r quiet is = absurd (true≢false quiet)
 
 none-of : (p : Part → Bool) (x : Part) → p x ≡ false → filter p (x ∷ []) ≡ []
 none-of p x fails = ap (λ b. cond b (x ∷ []) []) fails
@@ -47,7 +57,7 @@ all-replaced was now P old new r all here = All-from_Contains P new (λ x c. eli
   | inr came ↦ subst P (Contains-only now x came) here
 ])
 
-module _ (view : VolumeView) (block copy : ℕ → List ℕ) (n : ℕ) (was now : Part) (e : EditsQuietly view block copy n was now) where
+module _ {root : Bool} (view : VolumeView) (block copy : ℕ → List ℕ) (n : ℕ) (was now : Part) (e : EditsKind root view block copy n was now) where
   abbrev other : VolumeView
   other = with_blocks view block copy
 
@@ -115,22 +125,22 @@ module _ (view : VolumeView) (block copy : ℕ → List ℕ) (n : ℕ) (was now 
   parts_at-kept f kind name ne = filter-kept (is_of kind name) f (fails-was kind name ne) (fails-now kind name ne)
 
   pub not-data : was.kind ≢ DATA
-  not-data = asked-kind was now DATA e.rewrites (λ q. omega (arith, q)) (λ q. omega (arith, q))
+  not-data = unasked-kind root was now DATA e.rewrites (λ q. omega (arith, q)) (λ q. omega (arith, q)) (λ q. omega (arith, q))
 
   pub not-name : was.kind ≢ FILE_NAME
-  not-name = asked-kind was now FILE_NAME e.rewrites (λ q. omega (arith, q)) (λ q. omega (arith, q))
+  not-name = unasked-kind root was now FILE_NAME e.rewrites (λ q. omega (arith, q)) (λ q. omega (arith, q)) (λ q. omega (arith, q))
 
   pub not-list : was.kind ≢ ATTRIBUTE_LIST
-  not-list = asked-kind was now ATTRIBUTE_LIST e.rewrites (λ q. omega (arith, q)) (λ q. omega (arith, q))
+  not-list = unasked-kind root was now ATTRIBUTE_LIST e.rewrites (λ q. omega (arith, q)) (λ q. omega (arith, q)) (λ q. omega (arith, q))
 
   pub not-bitmap : was.kind ≢ BITMAP
-  not-bitmap = asked-kind was now BITMAP e.rewrites (λ q. omega (arith, q)) (λ q. omega (arith, q))
+  not-bitmap = unasked-kind root was now BITMAP e.rewrites (λ q. omega (arith, q)) (λ q. omega (arith, q)) (λ q. omega (arith, q))
 
-  pub not-root : was.kind ≢ INDEX_ROOT
-  not-root = asked-kind was now INDEX_ROOT e.rewrites (λ q. omega (arith, q)) (λ q. omega (arith, q))
+  pub not-root : root ≡ false → was.kind ≢ INDEX_ROOT
+  not-root = root-asked root was now e.rewrites
 
   pub not-records : was.kind ≢ INDEX_ALLOCATION
-  not-records = asked-kind was now INDEX_ALLOCATION e.rewrites (λ q. omega (arith, q)) (λ q. omega (arith, q))
+  not-records = unasked-kind root was now INDEX_ALLOCATION e.rewrites (λ q. omega (arith, q)) (λ q. omega (arith, q)) (λ q. omega (arith, q))
 
   -- Names.
   pub among-kept : names_among e.edit.now_record.parts ≡ names_among e.edit.was_record.parts

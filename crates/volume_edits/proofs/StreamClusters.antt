@@ -1,5 +1,5 @@
 -- The clusters of a stream on a volume where no cluster has two owners: they are its own. And its value, once bytes were written.
-use Rattle.std.proofs.Common.{◌≡◌, ◌≢◌, ◌+◌, ◌-◌, ◌*◌, ◌/◌, ◌%◌, ◌<◌, ◌≤◌, ◌&&◌, ℕ, Bool, true, false, cond, List, [], ◌++◌, length, map, take, drop, Option, Some, None, refl, sym, ap, subst, inl, inr, ◌∙◌, arith, get_or, ltb}
+use Rattle.std.proofs.Common.{◌≡◌, ◌≢◌, ◌+◌, ◌-◌, ◌*◌, ◌/◌, ◌<◌, ◌≤◌, ℕ, Bool, true, false, cond, List, [], ◌++◌, length, map, take, drop, Option, Some, None, refl, sym, ap, subst, inl, inr, ◌∙◌, arith, get_or, ltb}
 use mathlib.Core.Path.{fun_ext}
 use Rattle.std.specs.Prelude.{◌⊎◌, Contains, IsSome, IsSomeAnd, IsTrue, filter, find}
 use Rattle.std.specs.List.{range_with_len}
@@ -16,7 +16,6 @@ use Rattle.list_laws.proofs.CodedLaws.{same_code, same_code-exact, same_code-its
 use Rattle.list_laws.proofs.FindLaws.{find-found}
 use Rattle.list_laws.proofs.MemberLaws.{Contains-from_filter, Contains-from_range, map_agree}
 use Rattle.list_laws.proofs.RangeLaws.{bytes-append, bytes-list}
-use Rattle.volume_def.specs.Coverage.{times_covered}
 use Rattle.volume_def.specs.ExtentsClause.{AreAttribute}
 use Rattle.volume_def.specs.Files.{Part, content_extent, is_of, part_runs, parts, parts_at, record_in, record_on, records_of}
 use Rattle.volume_def.specs.OwnersClause.{MeetsOwners}
@@ -29,7 +28,7 @@ use Rattle.volume_def.proofs.Codes.{part_code}
 use Rattle.volume_def.proofs.RunPlaces.{spot_of-once, times_in-spot_of}
 use Rattle.volume_def.proofs.StoredLaws.{value-bytes}
 use Rattle.volume_def.proofs.ValueLaws.{spot_at-owned}
-use Rattle.volume_edits.specs.Clusters.{IsInRange, IsOwnStream, WritesStream, with_bytes}
+use Rattle.volume_edits.specs.Clusters.{IsOwnStream, WritesStream, with_bytes}
 use Rattle.volume_edits.specs.Owners.{HasOwners}
 use Rattle.volume_edits.proofs.OwnerLaws.{files-apart, lies-outside, no-shared, owned-once}
 

@@ -2,6 +2,7 @@
 use Rattle.std.proofs.Common.{◌≡◌, ◌+◌, ◌-◌, ◌*◌, ◌/◌, ◌%◌, ◌<◌, ◌≤◌, ℕ, zero, suc, Bool, true, false, cond, List, [], ◌∷◌, ◌++◌, length, get_or, Option, Some, None, refl, sym, ap, subst, inl, inr, ◌∙◌, arith}
 use Rattle.std.specs.Prelude.{Contains, IfSome, IsSomeAnd, IsTrue, filter, is_none, nat_lt, option_map, replicate, unwrap_or}
 use Rattle.std.proofs.lemmas.Bool.{and_parts, cases_lt, eqb-true, lt-ltb}
+use Rattle.std.proofs.lemmas.List.{nil_from_length}
 use Rattle.std.proofs.lemmas.Nat.{div-add-mod'}
 use Rattle.ntfs_def.specs.Attribute.{Body, attributes}
 use Rattle.ntfs_def.specs.Boot.{cluster_sectors, mft_cluster}
@@ -162,3 +163,12 @@ module _ (disk : ℕ → List ℕ) (boot : List ℕ) (layout : TableLayout) (mee
         data_is = eqb-true tells.stream.kind DATA (and_parts _ _ (and_parts _ _ found.1).0).0;
         runs = runs-are;
       }
+
+  -- the part has no name
+  pub table-unnamed : table-part.part.name ≡ []
+  unfolding table-part
+  table-unnamed =
+      let only : Contains (filter is_data_extent (attributes (opened_of (first_record disk boot)))) tells.stream =
+      subst (λ xs. Contains xs tells.stream) (sym tells.holds.only) (Contains-head tells.stream []) in
+      let found = Contains-from_filter is_data_extent (attributes (opened_of (first_record disk boot))) tells.stream only in
+      nil_from_length tells.stream.name (eqb-true (length tells.stream.name) 0 (and_parts _ _ (and_parts _ _ found.1).0).1)

@@ -93,16 +93,16 @@ module _ (old : List ℕ) (layout : TableLayout) (has : HasLayout (sector_in (So
       differ m (inr file) = files-apart view g LOG_FILE part m.part file among m.among
 
   -- where the flag's sectors lie
-  abbrev kf : ℕ
+  abbrev pub kf : ℕ
   kf = 2 * VOLUME + f.byte / 512
 
-  kf-small : kf < 8
+  pub kf-small : kf < 8
   kf-small = let b = (byte-far view flag f sound many).1 in omega (arith, b)
 
-  home-table : 1 ≤ times_covered layout.runs (flag.home / per)
+  pub home-table : 1 ≤ times_covered layout.runs (flag.home / per)
   home-table = table_place-times layout kf flag.home some f.home
 
-  copy-cluster : flag.copy / per ≡ mirror_at layout kf
+  pub copy-cluster : flag.copy / per ≡ mirror_at layout kf
   copy-cluster = ap (λ x. x / per) (let c = f.copy in omega (arith, c))
 
   mirror-clear : (k : ℕ) → k < 8 → times_covered layout.runs (mirror_at layout k) ≡ 0
@@ -126,7 +126,7 @@ module _ (old : List ℕ) (layout : TableLayout) (has : HasLayout (sector_in (So
   other-byte xs ys e j ne =
       sym (get_or-set_other ys flag.at j _ 0 ne) ∙ ap (λ zs. get_or zs j 0) e ∙ get_or-set_other xs flag.at j _ 0 ne
 
-  upper-byte : (xs ys : List ℕ) → without_bit ys flag.at ≡ without_bit xs flag.at → flag.at < length xs → length ys ≡ length xs
+  pub upper-byte : (xs ys : List ℕ) → without_bit ys flag.at ≡ without_bit xs flag.at → flag.at < length xs → length ys ≡ length xs
       → get_or ys flag.at 0 - get_or ys flag.at 0 % 2 ≡ get_or xs flag.at 0 - get_or xs flag.at 0 % 2
   upper-byte xs ys e inside long =
       sym (get_or-set_same ys flag.at _ 0 (omega (arith, inside, long))) ∙ ap (λ zs. get_or zs flag.at 0) e ∙ get_or-set_same xs flag.at _ 0 inside
@@ -344,10 +344,10 @@ module _ (old : List ℕ) (layout : TableLayout) (has : HasLayout (sector_in (So
         mirror-plain k (omega (arith, half, few)) (λ e. let b = (byte-far view flag f sound many).1 in ne (omega (arith, e, half, b))))
 
     -- THE BYTES of record 3 and of its copy.
-    long-sector : (n : ℕ) → length (disk' n) ≡ length (disk n)
+    pub long-sector : (n : ℕ) → length (disk' n) ≡ length (disk n)
     long-sector n = length-sector_in new n ∙ ap (λ l. min 512 (l - 512 * n)) a.long ∙ sym (length-sector_in old n)
 
-    home-cleared : without_bit (disk' flag.home) flag.at ≡ without_bit (disk flag.home) flag.at
+    pub home-cleared : without_bit (disk' flag.home) flag.at ≡ without_bit (disk flag.home) flag.at
     home-cleared = sym (at-flag flag disk' flag.home (inl refl)) ∙ a.sectors flag.home (table-log flag.home home-table) ∙ at-flag flag disk flag.home (inl refl)
 
     copy-cleared : without_bit (disk' flag.copy) flag.at ≡ without_bit (disk flag.copy) flag.at

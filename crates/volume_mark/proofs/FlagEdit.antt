@@ -77,22 +77,22 @@ unfolding record_in
 in-use n s used = ap (λ b. cond b (Some (record_of n (opened_of s))) None) used
 
 module _ (view : VolumeView) (flag : Flag) (f : IsFlagOf view flag) (sound : IsSound view) (many : 3 < view.layout.count) where
-  abbrev s : List ℕ
+  abbrev pub s : List ℕ
   s = view.block VOLUME
 
-  abbrev o : List ℕ
+  abbrev pub o : List ℕ
   o = opened_of s
 
-  used : IsTrue (is_in_use s)
+  pub used : IsTrue (is_in_use s)
   used = (sound Version VOLUME refl).in_use
 
   well : IsWellFormed s
   well = sound Shape VOLUME many used
 
-  abbrev count : ℕ
+  abbrev pub count : ℕ
   count = length (attributes o)
 
-  shape : HasShape o count
+  pub shape : HasShape o count
   shape = well.shape
 
   all-o : length o ≡ 1024
@@ -101,7 +101,7 @@ module _ (view : VolumeView) (flag : Flag) (f : IsFlagOf view flag) (sound : IsS
   pub all : length s ≡ 1024
   all = sym (length-opened_of s) ∙ all-o
 
-  at-is : attribute_place o f.i ≡ f.place
+  pub at-is : attribute_place o f.i ≡ f.place
   at-is = sym f.place_is
 
   inside-o : f.place + attribute_len o f.place ≤ used_size o
@@ -131,20 +131,20 @@ module _ (view : VolumeView) (flag : Flag) (f : IsFlagOf view flag) (sound : IsS
         sym (u16_at-same s o 0x06 (λ k a b. opened_of-within s k (omega (arith, b, l)) (omega (arith, b)))) ∙ header-count o shape.header,
       )
 
-  resident : IsTrue (is_resident o (attribute_place o f.i))
+  pub resident : IsTrue (is_resident o (attribute_place o f.i))
   resident = subst (λ p. IsTrue (is_resident o p)) (sym at-is) f.version.resident
 
-  low : attribute_place o f.i + value_offset o (attribute_place o f.i) ≤ f.byte
+  pub low : attribute_place o f.i + value_offset o (attribute_place o f.i) ≤ f.byte
   low = subst (λ p. p + value_offset o p ≤ f.byte) (sym at-is) (let is = f.byte_is in omega (arith, is))
 
-  high : f.byte + 1 ≤ attribute_place o f.i + (value_offset o (attribute_place o f.i) + value_len o (attribute_place o f.i))
+  pub high : f.byte + 1 ≤ attribute_place o f.i + (value_offset o (attribute_place o f.i) + value_len o (attribute_place o f.i))
   high = subst (λ p. f.byte + 1 ≤ p + (value_offset o p + value_len o p)) (sym at-is)
       (let is = f.byte_is in let long = f.version.long in omega (arith, is, long))
 
-  some : f.byte < f.byte + 1
+  pub some : f.byte < f.byte + 1
   some = omega arith
 
-  abbrev at : ℕ
+  abbrev pub at : ℕ
   at = attribute_place o f.i
 
   -- The copy.
@@ -221,19 +221,19 @@ module _ (view : VolumeView) (flag : Flag) (f : IsFlagOf view flag) (sound : IsS
       by (suc n) e = absurd (omega (arith, e))
 
   module _ (block copy : ℕ → List ℕ) (c : ChangesFlag view block copy f.byte) where
-    abbrev s' : List ℕ
+    abbrev pub s' : List ℕ
     s' = block VOLUME
 
-    abbrev o' : List ℕ
+    abbrev pub o' : List ℕ
     o' = opened_of s'
 
-    opened-same : (k : ℕ) → k ≢ f.byte → get_or o' k 0 ≡ get_or o k 0
+    pub opened-same : (k : ℕ) → k ≢ f.byte → get_or o' k 0 ≡ get_or o k 0
     opened-same = stored.opened-poked s s' f.byte all c.block_long array-s.0 array-s.1 byte-far.0 byte-far.1 byte-far.2 c.block_same
 
-    opened-len : length o' ≡ length o
+    pub opened-len : length o' ≡ length o
     opened-len = stored.opened-length s s' f.byte all c.block_long array-s.0 array-s.1 byte-far.0 byte-far.1 byte-far.2 c.block_same
 
-    outside : (k : ℕ) → (k < f.byte) ⊎ (f.byte + 1 ≤ k) → get_or o' k 0 ≡ get_or o k 0
+    pub outside : (k : ℕ) → (k < f.byte) ⊎ (f.byte + 1 ≤ k) → get_or o' k 0 ≡ get_or o k 0
     outside k (inl below) = opened-same k (λ e. omega (arith, e, below))
     outside k (inr above) = opened-same k (λ e. omega (arith, e, above))
 
@@ -246,7 +246,7 @@ module _ (view : VolumeView) (flag : Flag) (f : IsFlagOf view flag) (sound : IsS
     place' : attribute_place o' f.i ≡ f.place
     place' = poke.place-poked o o' count f.i f.byte (f.byte + 1) shape f.inside resident low some high opened-len outside f.i (omega arith) ∙ at-is
 
-    used' : IsTrue (is_in_use s')
+    pub used' : IsTrue (is_in_use s')
     used' =
         let l = all in
         let far = byte-far.0 in
@@ -311,7 +311,7 @@ module _ (view : VolumeView) (flag : Flag) (f : IsFlagOf view flag) (sound : IsS
     abbrev pub now : Part
     now = part_of VOLUME (attribute_at o' at)
 
-    header-same : header_of o' ≡ header_of o
+    pub header-same : header_of o' ≡ header_of o
     header-same = poke.header-poked o o' count f.i f.byte (f.byte + 1) shape f.inside resident low some high opened-len outside
 
     changed : EditsAt (records_of view) (records_of other) VOLUME (was ∷ []) (now ∷ [])
@@ -416,14 +416,14 @@ module _ (view : VolumeView) (flag : Flag) (f : IsFlagOf view flag) (sound : IsS
     unfolding flag-edits changed
     edit-file = volume-file
 
-    unnamed-was : was.name ≡ []
+    pub unnamed-was : was.name ≡ []
     unfolding attribute_at
     unnamed-was =
         let v : IsVersionAt o at = subst (IsVersionAt o) (sym at-is) f.version in
         let u = v.unnamed in
         slice-none o (at + name_offset o at) (at + name_end o at) (omega (arith, u))
 
-    kind-was : was.kind ≡ VOLUME_INFORMATION
+    pub kind-was : was.kind ≡ VOLUME_INFORMATION
     unfolding attribute_at
     kind-was = subst (λ p. attribute_kind o p ≡ VOLUME_INFORMATION) (sym at-is) f.version.kind
 
@@ -477,7 +477,7 @@ module _ (view : VolumeView) (flag : Flag) (f : IsFlagOf view flag) (sound : IsS
             (count-least (λ k. parts_in ((records_of other).record_at k) k VOLUME) (is_of VOLUME_INFORMATION []) (range_with_len 0 view.layout.count)
             VOLUME (Contains-range 0 view.layout.count VOLUME (omega arith) (omega (arith, many))))
 
-    value-is : value_of (attribute_at o' at).body ≡ Some (content_bytes o' at)
+    pub value-is : value_of (attribute_at o' at).body ≡ Some (content_bytes o' at)
     unfolding attribute_at
     value-is = ap value_of (poke.body-poked o o' count f.i f.byte (f.byte + 1) shape f.inside resident low some high opened-len outside)
 
@@ -497,7 +497,7 @@ module _ (view : VolumeView) (flag : Flag) (f : IsFlagOf view flag) (sound : IsS
         let r = poke.attributes-poked o o' count f.i f.byte (f.byte + 1) shape f.inside resident low some high opened-len outside in
         Replaces-came _ _ _ _ (attribute_at o' at) r (Contains-head (attribute_at o' at) [])
 
-    flag-byte : get_or (content_bytes o' at) 0x0A 0 ≡ get_or s' f.byte 0
+    pub flag-byte : get_or (content_bytes o' at) 0x0A 0 ≡ get_or s' f.byte 0
     flag-byte =
         let long = subst (λ p. 12 ≤ value_len o p) (sym at-is) f.version.long in
         let is = f.byte_is in

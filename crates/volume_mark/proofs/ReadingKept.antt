@@ -46,7 +46,7 @@ both_same false = refl
 find-passing_of : {X : Type 0} (p : X → Bool) (xs : List X) → find p (filter p xs) ≡ find p xs
 find-passing_of p xs = find-filter p p xs ∙ find-agree p (λ x. p x && p x) xs (λ x c. both_same (p x))
 
-find-passing : {X : Type 0} (p : X → Bool) (xs ys : List X) → filter p xs ≡ filter p ys → find p xs ≡ find p ys
+pub find-passing : {X : Type 0} (p : X → Bool) (xs ys : List X) → filter p xs ≡ filter p ys → find p xs ≡ find p ys
 find-passing p xs ys same = sym (find-passing_of p xs) ∙ ap (find p) same ∙ find-passing_of p ys
 
 module _ (view : VolumeView) (block copy : ℕ → List ℕ) (n : ℕ) (was now : Part) (e : EditsQuietly view block copy n was now) where
@@ -309,14 +309,24 @@ module _ (view : VolumeView) (block copy : ℕ → List ℕ) (n : ℕ) (was now 
                 no-node : None ≡ Some node → ⊥
                 no-node q = cc
 
+    -- it is the only one of its type, before and after
+    pub standards-alone : (node : Node) → node_at view f ≡ Some node
+        → (parts_like was (parts olds f) ≡ was ∷ []) × (parts_like was (parts news f) ≡ now ∷ [])
+    standards-alone node there =
+        let size = cluster_bytes view.layout in
+        clauses.value-stands view block copy n was now e size f refl
+        (based (All (clauses.AreExtents view block copy n was now e size f (parts olds f)) (parts olds f)) node there (sound Extents f))
+
+    pub standard-was : (node : Node) → node_at view f ≡ Some node → standard_of (parts olds f) ≡ e.rewrites.value
+    standard-was node there = standard-is (parts olds f) was e.rewrites.value (standards-alone node there).0 e.rewrites.is
+
+    pub standard-now : (node : Node) → node_at view f ≡ Some node → standard_of (parts news f) ≡ e.rewrites.next
+    standard-now node there = standard-is (parts news f) now e.rewrites.next (standards-alone node there).1 e.rewrites.next_is
+
     pub read-standard : (node : Node) → node_at view f ≡ Some node
         → read other ≡ record (read view) { nodes = finmap.insert (tree_nodes view) f (with_standard e.rewrites.next node) }
     read-standard node there =
-        let size = cluster_bytes view.layout in
-        let all = based (All (clauses.AreExtents view block copy n was now e size f (parts olds f)) (parts olds f)) node there (sound Extents f) in
-        let stands = clauses.value-stands view block copy n was now e size f refl all in
-        let is = standard-is (parts news f) now e.rewrites.next stands.1 e.rewrites.next_is in
         let here : node_at other f ≡ Some (with_standard e.rewrites.next node) =
-        node_at-standard is ∙ ap (option_map (with_standard e.rewrites.next)) there in
+        node_at-standard (standard-now node there) ∙ ap (option_map (with_standard e.rewrites.next)) there in
         read-kept ∙ ap (λ nodes. record (read view) { nodes = nodes })
         (nodes-insert view other f (with_standard e.rewrites.next node) here (λ q ne. node_at-other q (λ s. ne (sym s))))

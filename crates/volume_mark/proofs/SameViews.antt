@@ -1,21 +1,18 @@
 -- The same volume, but for a value of which no clause asks, and clusters at which neither a clause nor the reading looks.
-use Rattle.std.proofs.Common.{◌≡◌, ◌≤◌, ℕ, List, [], ◌∷◌, refl, sym, ap, subst, inl, inr, ◌∙◌, arith}
-use Rattle.std.specs.Prelude.{Contains, unwrap_or}
-use Rattle.std.proofs.lemmas.Bool.{cases_eq}
+use Rattle.std.proofs.Common.{◌≡◌, ◌≤◌, ℕ, List, refl, ◌∙◌}
+use Rattle.std.specs.Prelude.{Contains}
 use Rattle.ntfs_def.specs.declared.records.TheConstants.{VOLUME}
 use Rattle.volume_def.specs.Coverage.{times_covered}
-use Rattle.volume_def.specs.Files.{Content, Part, content_runs, file_of, part_runs, parts, records_of}
+use Rattle.volume_def.specs.Files.{Part, file_of, part_runs, parts, records_of}
 use Rattle.volume_def.specs.Looked.{IsLookedAt}
 use Rattle.volume_def.specs.Sound.{IsSound}
 use Rattle.volume_def.specs.View.{VolumeView}
-use Rattle.list_laws.proofs.MemberLaws.{Contains-only}
-use Rattle.volume_def.proofs.RecordLaws.{parts-other, parts-own_at}
-use Rattle.list_laws.proofs.ReplacesLaws.{Replaces-member}
 use Rattle.tree_model.specs.Reading.{read}
 use Rattle.volume_def.specs.Looked.{with_clusters}
 use Rattle.volume_edits.specs.Quiet.{EditsQuietly, with_blocks}
 use Rattle.volume_def.proofs.LookedLaws as looked
 use Rattle.volume_edits.proofs.QuietClauses.{sound-kept}
+use Rattle.volume_edits.proofs.RecordEdits.{covering-stood}
 use Rattle.volume_mark.specs.Shown.{KeepsShown}
 use Rattle.volume_mark.proofs.ReadingClusters.{read-clusters}
 use Rattle.volume_mark.proofs.ReadingKept.{read-version}
@@ -31,20 +28,7 @@ module _ (view : VolumeView) (block copy cluster rest : ℕ → List ℕ) (n : �
   -- a part that covers a cluster stood there before
   stood : (f : ℕ) (part : Part) (c : ℕ) → Contains (parts (records_of mid) f) part → 1 ≤ times_covered (part_runs part) c
       → Contains (parts (records_of view) f) part
-  stood f part c among covered = elim (cases_eq (file_of n e.edit.was_record) f) [
-    | inr ne ↦ subst (λ xs. Contains xs part) (parts-other (records_of view) (records_of mid) n f (was ∷ []) (now ∷ []) e.edit ne) among
-    | inl own ↦ elim (Replaces-member _ _ _ _ part
-        (parts-own_at (records_of view) (records_of mid) n f (was ∷ []) (now ∷ []) e.edit own) among) [
-          | inl there ↦ there
-          | inr came ↦ absurd (none (subst (λ (p : Part). 1 ≤ times_covered (part_runs p) c) (sym (Contains-only now part came)) covered))
-        ]
-  ]
-    where
-      none : 1 ≤ times_covered (part_runs now) c → ⊥
-      none h =
-          let runs : part_runs now ≡ [] = ap (λ (x : Content). unwrap_or (content_runs x) []) e.rewrites.next_is in
-          let zero : 1 ≤ times_covered [] c = subst (λ xs. 1 ≤ times_covered xs c) runs h in
-          omega (arith, zero)
+  stood = covering-stood view block copy n was now e
 
   looked-mid : (c : ℕ) → IsLookedAt mid c → cluster c ≡ mid.cluster c
   looked-mid c l = kept c (record {

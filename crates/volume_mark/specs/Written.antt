@@ -1,5 +1,5 @@
 -- A record that was written with another value of one attribute.
-use Rattle.std.specs.Prelude.{◌≡◌, ◌⊎◌, ◌<◌, ℕ, List, [], ◌∷◌, IsTrue, false}
+use Rattle.std.specs.Prelude.{◌≡◌, ◌⊎◌, ℕ, List, false}
 use Rattle.ntfs_def.specs.Attribute.{Attribute}
 use Rattle.ntfs_def.specs.declared.records.TheConstants.{UPCASE, VOLUME}
 use Rattle.volume_def.specs.Coverage.{IsOutsideTable}
