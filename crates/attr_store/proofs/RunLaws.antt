@@ -1,9 +1,10 @@
 -- Where the sectors of a stream lie, run by run.
-use Rattle.std.proofs.Common.{◌≡◌, ◌+◌, ◌-◌, ◌*◌, ◌/◌, ◌%◌, ◌<◌, ◌≤◌, ℕ, List, [], ◌∷◌, leb, true, Option, Some, None, refl, sym, ap, subst, ◌∙◌, arith}
+use Rattle.std.proofs.Common.{◌≡◌, ◌+◌, ◌-◌, ◌*◌, ◌/◌, ◌%◌, ◌<◌, ◌≤◌, ℕ, List, [], ◌∷◌, leb, true, length, Option, Some, None, refl, sym, ap, subst, ◌∙◌, arith}
 use Rattle.std.specs.Prelude.{Contains, min, option_to_list, unwrap_or}
 use Rattle.std.specs.List.{flat_map, range_with_len}
 use Rattle.std.proofs.Math.Nat.{mul-add-div_right, mul-add-mod_self_right, mul_assoc, mul_comm, add-mul}
 use Rattle.std.proofs.lemmas.Bool.{and_from, le-leb}
+use Rattle.std.proofs.lemmas.List.FromFn.{length-range_with_len}
 use Rattle.std.proofs.lemmas.Nat.{div-add-mod', div_below, mod_below}
 use Rattle.ntfs_def.specs.Attribute.{Attribute, ExtentHeader, NonResident}
 use Rattle.ntfs_def.specs.Runs.{runs_in, spot_of}
@@ -93,6 +94,11 @@ pub span-whole : (place per a n rest : ℕ) → place % 512 ≡ 0 → rest % 512
 span-whole place per a n rest x y is =
     let turned : a * (512 * per) ≡ 512 * (a * per) = sym (mul_assoc a 512 per) ∙ ap (λ k. k * per) (mul_comm a 512) ∙ mul_assoc 512 a per in
     omega (arith, is, x, y, turned)
+
+-- It has no more sectors than bytes fill.
+pub run_sectors-few : (per : ℕ) (lcn : Option ℕ) (skip len : ℕ) → length (run_sectors per lcn skip len) ≤ len / 512
+run_sectors-few per None skip len = omega arith
+run_sectors-few per (Some first) skip len = omega (arith, length-range_with_len (first * per + skip / 512) (len / 512))
 
 -- Its sectors are among those of the range.
 pub run-named : (layout : TableLayout) (spot : ℕ → Spot) (at0 len0 place n len : ℕ) (lcn : Option ℕ) → 0 < layout.cluster_sectors

@@ -1,11 +1,14 @@
 -- What is staged by calls one behind the other, and what a staged sector is to a volume.
-use Rattle.std.proofs.Common.{◌≡◌, ◌+◌, ◌*◌, ◌/◌, ◌%◌, ◌<◌, ◌≤◌, ℕ, List, [], ◌++◌, length, refl, sym, ap, subst, inl, inr, ◌∙◌, arith}
+use Rattle.std.proofs.Common.{◌≡◌, ◌+◌, ◌*◌, ◌/◌, ◌%◌, ◌<◌, ◌≤◌, ℕ, List, [], ◌++◌, length, refl, sym, ap, subst, inl, inr, ◌∙◌, arith, length-append}
+use Rattle.std.proofs.lemmas.List.Elements.{Contains-append_left, Contains-append_right}
 use Rattle.std.specs.Prelude.{Contains, IfSome, IsTrue, Some, false, is_some}
 use Rattle.vol_disk.specs.Contents.{sector_in}
 use Rattle.vol_disk.specs.declared.Disk.{Ghosts}
 use Rattle.vol_stage.specs.Puts.{PutsSector}
 use Rattle.vol_stage.specs.Staged.{StagesOnly, disk_of, image, places}
 use Rattle.vol_stage.specs.declared.stage.Stage.{Stage}
+use Rattle.vol_stage.proofs.Conversions.{rising-at}
+use Rattle.vol_stage.proofs.FewLaws.{few-named}
 use Rattle.ntfs_def.specs.declared.run_text.Spot.{Spot}
 use Rattle.volume_def.specs.Coverage.{IsApart}
 use Rattle.volume_def.specs.View.{view_of}
@@ -69,44 +72,74 @@ MftStages-more g all one n k a b inside fits stages = record {
   committed = stages.committed;
 }
 
+-- each sector is staged once, so no more are staged than are named
+few-staged : {D : Type 0} (g : Ghosts D) (named : List ℕ) (a b : Stage D g) → StagesOnly g named a b
+    → length (places g b) ≤ length (places g a) + length named
+few-staged g named a b stages =
+    let all = few-named b.writes.items (places g a ++ named) (rising-at b.writes.items b.rising)
+    (λ s there. elim (stages.only s there) [
+      | inl was ↦ Contains-append_left (places g a) named s was
+      | inr new ↦ Contains-append_right (places g a) named s new
+    ]) in
+    omega (arith, all, length-append (places g a) named)
+
 -- whichever they are
-pub AtMost : {D : Type 0} (g : Ghosts D) (one : List ℕ) (n : ℕ) (a b : Mft D g) → MftStages g one n a b → StagesAtMost g n a b
-AtMost g one n a b stages = record {
-  goes_on = stages.goes_on;
-  disk = stages.disk;
-  places = record { only = λ s there. inr there };
-  room = stages.room;
-  sound = stages.sound;
-  mounted = stages.mounted;
-  committed = stages.committed;
+pub AtMost : {D : Type 0} (g : Ghosts D) (one : List ℕ) (n : ℕ) (a b : Mft D g) → length one ≤ n → MftStages g one n a b → StagesAtMost g n a b
+AtMost g one n a b fits stages = record {
+  stages = MftStages-any g one n a b stages;
+  few = omega (arith, fits, few-staged g one (stage_of g a) (stage_of g b) stages.places);
 }
+  where
+    MftStages-any : {D : Type 0} (g : Ghosts D) (one : List ℕ) (n : ℕ) (a b : Mft D g) → MftStages g one n a b
+        → MftStages g (places g (stage_of g b)) n a b
+    MftStages-any g one n a b stages = record {
+      goes_on = stages.goes_on;
+      disk = stages.disk;
+      places = record { only = λ s there. inr there };
+      room = stages.room;
+      sound = stages.sound;
+      mounted = stages.mounted;
+      committed = stages.committed;
+    }
 
 pub AtMost-then : {D : Type 0} (g : Ghosts D) (m n k : ℕ) (a b c : Mft D g) → m + n ≤ k → StagesAtMost g m a b → StagesAtMost g n b c
     → StagesAtMost g k a c
-AtMost-then g m n k a b c fits first second = record {
-  goes_on = GoesOn-twice g (stage_of g a) (stage_of g b) (stage_of g c) first.disk first.goes_on second.goes_on;
-  disk = second.disk ∙ first.disk;
-  places = record { only = λ s there. inr there };
-  room = omega (arith, first.room, second.room, fits);
-  sound = second.sound;
-  mounted = second.mounted ∙ first.mounted;
-  committed = second.committed ∙ first.committed;
-}
+AtMost-then g m n k a b c fits one other =
+    let first = one.stages in
+    let second = other.stages in
+    record {
+      stages = record {
+        goes_on = GoesOn-twice g (stage_of g a) (stage_of g b) (stage_of g c) first.disk first.goes_on second.goes_on;
+        disk = second.disk ∙ first.disk;
+        places = record { only = λ s there. inr there };
+        room = omega (arith, first.room, second.room, fits);
+        sound = second.sound;
+        mounted = second.mounted ∙ first.mounted;
+        committed = second.committed ∙ first.committed;
+      };
+      few = omega (arith, one.few, other.few, fits);
+    }
 
 -- behind a call that made room
 pub AtMost-reserved : {D : Type 0} (g : Ghosts D) (n : ℕ) (a b c : Mft D g) → MftReserves g a b → StagesAtMost g n b c → StagesAtMost g n a c
-AtMost-reserved g n a b c first stages = MftStages-reserved g a b first c (places g (stage_of g c)) n stages
+AtMost-reserved g n a b c first second = record {
+  stages = MftStages-reserved g a b first c (places g (stage_of g c)) n second.stages;
+  few = omega (arith, second.few, ap length first.places);
+}
 
 -- room was made, and no more
 pub AtMost-only_reserved : {D : Type 0} (g : Ghosts D) (n : ℕ) (a b : Mft D g) → MftReserves g a b → is_mft_broken g a ≡ false → StagesAtMost g n a b
 AtMost-only_reserved g n a b first sound = record {
-  goes_on = first.goes_on;
-  disk = first.disk;
-  places = record { only = λ s there. inr there };
-  room = omega (arith, first.spare);
-  sound = first.broken ∙ sound;
-  mounted = first.mounted;
-  committed = first.committed;
+  stages = record {
+    goes_on = first.goes_on;
+    disk = first.disk;
+    places = record { only = λ s there. inr there };
+    room = omega (arith, first.spare);
+    sound = first.broken ∙ sound;
+    mounted = first.mounted;
+    committed = first.committed;
+  };
+  few = omega (arith, ap length first.places);
 }
 
 -- the sectors of the volume's clusters are sectors of the disk

@@ -1,5 +1,5 @@
 -- Bytes that are written into the clusters of an attribute: where they lie, and what is staged.
-use Rattle.std.specs.Prelude.{◌≡◌, ◌+◌, ◌-◌, ◌*◌, ◌/◌, ◌<◌, ℕ, List, [], Option, Some, None, unwrap_or}
+use Rattle.std.specs.Prelude.{◌≡◌, ◌+◌, ◌-◌, ◌*◌, ◌/◌, ◌<◌, ◌≤◌, ℕ, List, [], Option, Some, None, length, unwrap_or}
 use Rattle.std.specs.List.{range_with_len}
 use Rattle.vol_disk.specs.declared.Disk.{Ghosts}
 use Rattle.ntfs_def.specs.declared.run_text.Run.{Run}
@@ -26,6 +26,7 @@ abbrev pub LiesAs : (ℕ → Spot) → ℕ → Option Run → Type 0
 LiesAs spot vcn None = spot vcn ≡ Outside
 LiesAs spot vcn (Some run) = (k : ℕ) → k < run.len → spot (vcn + k) ≡ spot_on run.lcn k
 
--- What a call keeps that stages so many sectors at most, whichever they are.
-abbrev pub StagesAtMost : {D : Type 0} (g : Ghosts D) → ℕ → Mft D g → Mft D g → Type 0
-StagesAtMost g most old new = MftStages g (places g (stage_of g new)) most old new
+-- What a call keeps that stages so many sectors at most, whichever they are: so many more are staged then at most, told or not.
+pub record StagesAtMost {D : Type 0} (g : Ghosts D) (most : ℕ) (old new : Mft D g) : Type 0 where
+  pub stages : MftStages g (places g (stage_of g new)) most old new
+  pub few : length (places g (stage_of g new)) ≤ length (places g (stage_of g old)) + most

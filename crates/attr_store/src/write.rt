@@ -1,5 +1,6 @@
 //! Values of attributes, written in place into their clusters.
-ghost use Rattle.std.specs.Prelude.{◌≡◌, ◌≢◌, ◌∷◌, [], ◌+◌, ◌*◌, ◌/◌, ◌%◌, ◌<◌, ◌≤◌, ◌^◌, ℕ, false, IfErr, IfOk, IfSome, List, OnOk, Some, length};
+ghost use Rattle.std.specs.Prelude.{◌≡◌, ◌≢◌, ◌∷◌, [], ◌+◌, ◌*◌, ◌/◌, ◌%◌, ◌<◌, ◌≤◌, ◌^◌, ℕ, false};
+ghost use Rattle.std.specs.Prelude.{IfErr, IfOk, IfSome, List, OnOk, Some, length};
 ghost use Rattle.std.specs.List.{range_with_len};
 ghost use Rattle.ntfs_def.specs.declared.kinds.TheConstants.{FILE_NAME};
 ghost use Rattle.ntfs_def.specs.declared.run_text.Spot.{Spot};
@@ -159,8 +160,10 @@ fn write_stream<D: Disk>(
         → AreAttribute (cluster_bytes (view D.Disk mft.old).layout) f (parts_held_like file.now (attribute_of wanted.now))
         → IsApart (view D.Disk mft.old).layout
         → IsOwnStream (view D.Disk mft.old).layout (spot_at (parts_held_like file.now (attribute_of wanted.now)))
-        → IsPlaced (cluster_bytes (view D.Disk mft.old).layout) (spot_at (parts_held_like file.now (attribute_of wanted.now))) at (length from.now)
-        → WritesStream (view D.Disk mft.old) (view D.Disk mft.new) (spot_at (parts_held_like file.now (attribute_of wanted.now))) at from.now) }
+        → IsPlaced (cluster_bytes (view D.Disk mft.old).layout) (spot_at (parts_held_like file.now (attribute_of wanted.now))) at
+        (length from.now)
+        → WritesStream (view D.Disk mft.old) (view D.Disk mft.new) (spot_at (parts_held_like file.now (attribute_of wanted.now)))
+        at from.now) }
     ensures places { (f : ℕ)
         → AreAttribute (cluster_bytes (view D.Disk mft.old).layout) f (parts_held_like file.now (attribute_of wanted.now))
         → StagesOnly D.Disk (stream_sectors (view D.Disk mft.old).layout (spot_at (parts_held_like file.now (attribute_of wanted.now))) at

@@ -13,4 +13,5 @@ pub mod HoldLaws
 pub mod ReadLaws
 mod SealedRecords
 mod HeldParts
+mod OverwriteLaws
 mod WriteLaws

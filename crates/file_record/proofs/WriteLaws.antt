@@ -30,6 +30,7 @@ use Rattle.file_record.specs.Records.{IsRecordOf}
 use Rattle.file_record.specs.Written.{HoldsBytes, IsWholeFile, WritesBytes}
 use Rattle.file_record.proofs.HeldLaws.{part-at}
 use Rattle.file_record.proofs.HeldParts.{parts-set}
+use Rattle.file_record.proofs.OverwriteLaws.{attribute-bytes, attribute-indexed}
 use Rattle.file_record.proofs.OpenedRecords.{is_in_use-opened_of}
 use Rattle.file_record.proofs.RecordLaws.{IsBlockOf-record, IsRecordOf-at, IsRecordOf-inside, record_at-used}
 use Rattle.file_record.proofs.SealedRecords.{bare-outside, bare-same, sealed-outside}
@@ -77,7 +78,7 @@ module _ (old new : VolumeView) (f n : ℕ) (o o' from stored : List ℕ) (count
   list' : attributes now ≡ attributes o'
   list' = attributes-same o' now _ shape' (sealed-outside o' stored _ shape' seals)
 
-  head' : header_of now ≡ header_of was
+  pub head' : header_of now ≡ header_of was
   head' = header_of-same o' now _ shape' (sealed-outside o' stored _ shape' seals) ∙ writes.changes.header ∙ head
 
   use' : is_in_use now ≡ is_in_use was
@@ -193,22 +194,29 @@ module _ (old new : VolumeView) (file : FileParts) (k left at : ℕ) (one now : 
   one-own : IsRecordOf old f one.number
   one-own = subst (λ (h : Held). IsRecordOf old f h.number) (sym is) (whole.own k one inside)
 
+  one-shape : HasShape one.block (length (attributes one.block))
+  one-shape = subst (HasShape one.block) (sym (length-attributes one.block one.count one.shape)) one.shape
+
   one-current : IsCurrentRecord old one
   one-current = subst (IsCurrentRecord old) (sym is) (whole.parts.current k one inside)
 
-  pub bytes-written : WritesBytes old new (part_of one.number (attribute_in one.block left)) at from
-  bytes-written = record {
+  pub bytes-written : IsSomeAnd (value_of (attribute_in one.block left).body) (λ value. at + length from ≤ length value)
+      → WritesBytes old new (part_of one.number (attribute_in one.block left)) at from
+  bytes-written fits = record {
     stored = stored;
     was = attribute_in one.block left;
     now = attribute_in now.block left;
     is = refl;
     record_is = rewrites old new f one.number one.block now.block from stored one.count left at told one-own one.shape one-current lt writes seals replaces;
+    header_is = head' old new f one.number one.block now.block from stored one.count left at told one-own one.shape one-current lt writes seals replaces;
     overwrites = record {
       kind = writes.changes.kind;
       name = writes.changes.name;
       id = writes.changes.id;
       flags = writes.changes.flags;
       value = writes.value;
+      bytes = attribute-bytes one.block now.block from (length (attributes one.block)) left at one-shape lt fits writes;
+      indexed = attribute-indexed one.block now.block from (length (attributes one.block)) left at one-shape lt fits writes;
     };
   }
 

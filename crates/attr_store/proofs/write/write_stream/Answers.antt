@@ -19,7 +19,7 @@ use Rattle.mft_table.specs.declared.mounted.Mounted.{Mounted}
 use Rattle.attr_store.specs.Sought.{parts_held_like}
 use Rattle.attr_store.specs.Written.{LiesAs, run_sectors}
 use Rattle.attr_store.proofs.PutLaws.{done-all, done-then}
-use Rattle.attr_store.proofs.RunLaws.{run-named, run-place, run-there, span-whole, span-within}
+use Rattle.attr_store.proofs.RunLaws.{run-named, run-place, run-there, run_sectors-few, span-whole, span-within}
 use Rattle.attr_store.proofs.StageLaws.{AtMost, AtMost-then, MftStages-more, MftStages-none, StagesOnly-none, StagesOnly-then}
 use Rattle.attr_store.proofs.write.write_stream.Goals as goal
 
@@ -33,7 +33,7 @@ runs-init g c = record {
   from = omega arith;
   sum = refl;
   room = c.requires.room;
-  stages = AtMost g.D.Disk [] ((c.args.at - c.args.at) / 512) c.args.mft.now c.args.mft.now
+  stages = AtMost g.D.Disk [] ((c.args.at - c.args.at) / 512) c.args.mft.now c.args.mft.now (omega arith)
       (MftStages-more g.D.Disk [] [] 0 ((c.args.at - c.args.at) / 512) c.args.mft.now c.args.mft.now (λ s h. h) (omega arith)
       (MftStages-none g.D.Disk [] c.args.mft.now c.requires.sound));
   places = λ f s. StagesOnly-none g.D.Disk _ (stage_of g.D.Disk c.args.mft.now);
@@ -90,7 +90,7 @@ runs-preserved g c =
     let all = length c.args.from.now in
     let total : place + n ≤ at + all = omega (arith, inv.sum, few) in
     let named : run_sectors mid.layout.cluster_sectors run.lcn (place % u) (length here) ≡ run_sectors per run.lcn (place % size) n =
-    ap (λ (t : Mounted). run_sectors (mounted_layout t).cluster_sectors run.lcn (place % u) (length here)) inv.stages.mounted
+    ap (λ (t : Mounted). run_sectors (mounted_layout t).cluster_sectors run.lcn (place % u) (length here)) inv.stages.stages.mounted
     ∙ ap (λ w. run_sectors per run.lcn (place % w) (length here)) unit ∙ ap (run_sectors per run.lcn (place % size)) front in
     record {
       aligned = omega (arith, inv.aligned, front, whole);
@@ -100,14 +100,15 @@ runs-preserved g c =
       room = omega (arith, inv.room, put.stages.room, front, back, few, whole);
       stages = AtMost-then g.D.Disk ((place - at) / 512) (length here / 512) ((place + length here - at) / 512)
           c.args.mft.now c.runs.mft c.put_run.new.mft (omega (arith, inv.from, front, whole)) inv.stages
-          (AtMost g.D.Disk _ (length here / 512) c.runs.mft c.put_run.new.mft put.stages);
+          (AtMost g.D.Disk _ (length here / 512) c.runs.mft c.put_run.new.mft
+          (run_sectors-few mid.layout.cluster_sectors run.lcn (place % u) (length here)) put.stages);
       places = λ f s. StagesOnly-then g.D.Disk (stream_sectors was.layout spot at all)
           (run_sectors mid.layout.cluster_sectors run.lcn (place % u) (length here))
           (stage_of g.D.Disk c.args.mft.now) (stage_of g.D.Disk c.runs.mft) (stage_of g.D.Disk c.put_run.new.mft)
           (λ x h. run-named was.layout spot at all place n run.len run.lcn some c.requires.aligned inv.aligned whole inv.from total (lies f s) within x
           (subst (λ xs. Contains xs x) named h)) (inv.places f s) put.stages.places;
       written = λ f s apart own placed.
-          let lay : (P : Mounted → Type 0) → P c.args.mft.now.mounted → P c.runs.mft.mounted = λ P. subst P (sym inv.stages.mounted) in
+          let lay : (P : Mounted → Type 0) → P c.args.mft.now.mounted → P c.runs.mft.mounted = λ P. subst P (sym inv.stages.stages.mounted) in
           let filled = left (length rest) (eqb-false (length rest) 0 (sym c.is_empty.ensures ∙ c.runs-test.true)) in
           let there = placed place (inv.from, omega (arith, inv.sum, filled)) in
           let zero : place / size + 0 ≡ place / size = omega arith in

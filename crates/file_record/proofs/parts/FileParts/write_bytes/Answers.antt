@@ -52,7 +52,9 @@ returns-clause-written g c =
     let w = staged (omega (arith, small, number)) apart (omega (arith, low, number)) in
     bytes-written view' (view g.D.Disk c.stage.new.mft) c.args.self.now place.record place.attribute c.args.at one now c.args.from.now w.0
     told whole c.index_mut-held.ensures.value c.place_of-place.ensures.record number within c.write_value.ensures.written w.1
-    (subst (λ n. ReplacesBlock view' (view g.D.Disk c.stage.new.mft) n w.0) number w.2)) in
+    (subst (λ n. ReplacesBlock view' (view g.D.Disk c.stage.new.mft) n w.0) number w.2)
+    (holds-there c.args.self.now.held.items place.record place.attribute c.args.i one c.index_mut-held.ensures.value
+    c.place_of-place.ensures.record c.place_of-place.ensures.place within c.args.at (length c.args.from.now) c.requires.inside)) in
     on_ok_weaker _ weaker c.stage.ensures.staged
 
 pub returns-clause-held : goal.returns-clause-held
