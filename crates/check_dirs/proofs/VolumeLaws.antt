@@ -12,39 +12,13 @@ use Rattle.ntfs_def.specs.FileName.{link_of}
 use Rattle.list_laws.specs.SameItems.{SameItems}
 use Rattle.volume_def.specs.IndexesClause.{HasIndex, IsDirectoryIndex, name_rule, IndexParts, IsIndexRecordAt, KeyRule, index_nodes, stored_index_record}
 use Rattle.volume_def.specs.View.{VolumeView}
-use Rattle.index_tree.proofs.MovedWalks.{walks_moved}
+use Rattle.index_tree.proofs.MovedWalks.{spread_there, walks_moved}
 use Rattle.index_store.specs.Index.{HasParts}
 use Rattle.index_store.specs.IndexRecords.{AreRecordsOf}
 use Rattle.check_dirs.specs.OfVolume.{HasNames, directory_parts, links_in}
 use Rattle.check_dirs.specs.OrderedIndex.{IndexesKind, IsOrderedIndex}
 use Rattle.check_dirs.specs.Records.{Records, short_nodes}
 use Rattle.check_dirs.proofs.ReadLaws.{at_record, no_record}
-
--- At each number of a tree its records say a node.
-module _ (nodes : Nodes) (place : ℕ) where
-  abbrev pub IsThere : Type 0
-  IsThere = (node : Node) × (nodes place ≡ Some node)
-
-  branches_there : {T : Type 0} (times : T → ℕ) (P : T → Type 0) → ((t : T) → 1 ≤ times t → P t → IsThere)
-      → (bs : List (Branch T)) (last : T) → 1 ≤ branch_times times bs last → EachBelow P bs last → IsThere
-  branches_there times P step [] last met k = step last met k
-  branches_there times P step (b ∷ bs) last met k = elim (cases_Bool (times b.below == 0)) [
-    | inl e ↦ let none : times b.below ≡ 0 = eqb-true (times b.below) 0 e in branches_there times P step bs last (omega arith) k.1
-    | inr e ↦ let some : times b.below ≢ 0 = eqb-false (times b.below) 0 e in step b.below (omega arith) k.0
-  ]
-
-  tree_there : (depth : ℕ) (t : Tree depth) → 1 ≤ times_in place depth t → IsStored nodes depth t → IsThere
-  tree_there zero t met k = absurd (omega arith)
-  tree_there (suc depth) t met k = elim (cases_Bool (place == t.vcn)) [
-    | inl e ↦ (node_of depth t.spread, ap nodes (eqb-true place t.vcn e) ∙ k.0)
-    | inr e ↦
-        let none : one_if place t.vcn ≡ 0 = ap (λ b. cond b 1 0) e in
-        branches_there (times_in place depth) (IsStored nodes depth) (tree_there depth) t.spread.branches t.spread.last (omega arith) k.1
-  ]
-
-  pub spread_there : (depth : ℕ) (s : Spread (Tree depth)) → 1 ≤ spread_times place depth s → AreStored nodes depth s → IsThere
-  spread_there depth s met k =
-      branches_there (times_in place depth) (IsStored nodes depth) (tree_there depth) s.branches s.last met k
 
 -- The nodes of the records, and those of the volume.
 pub some_record : (form : NodeForm) (records : Records) (vcn : ℕ) (node : Node) → short_nodes form records vcn ≡ Some node → IsSome (records vcn)

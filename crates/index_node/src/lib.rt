@@ -29,7 +29,7 @@ pub use edit_blocks::{EditBlocks, WriteBlocks};
 pub use laws::sealed_nodes;
 pub use node_mut::NodeMut;
 pub use ntfs_def::NodeForm;
-pub use parts::{join_at, lead_to, new_record, set_child, split_with, with_child};
+pub use parts::{base_len, join_at, lead_to, new_record, set_child, split_with, with_child};
 pub use root::{empty_root, insert_in_root, root_record};
 pub use seek::seek_in;
 use thiserror::Error;

@@ -97,8 +97,8 @@ pub fn lead_to(bytes: &mut [u8], base: usize, vcn: u64)
     put_u64(bytes, base, vcn);
 }
 
-// The bytes of an entry before its child's number, if it has one.
-fn base_len(entry: &[u8]) -> usize
+/// The bytes of an entry before its child's number, if it has one.
+pub fn base_len(entry: &[u8]) -> usize
     requires { 16 + child_len (has_child entry.now 0) ≤ length entry.now }
     ensures { result + child_len (has_child entry.now 0) ≡ length entry.now }
 {

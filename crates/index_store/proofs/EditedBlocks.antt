@@ -43,7 +43,7 @@ EditsRecords-writes g a b vcn sound same_mft file index stages only rises counte
       same_mft = same_mft;
       file = file;
       index = index;
-      disk = KeepsDisk-stages g a.mft.now b.mft.now (places g (stage_of g b.mft.now)) 8 sound stages;
+      disk = KeepsDisk-stages g a.mft.now b.mft.now (places g (stage_of g b.mft.now)) 8 sound stages.stages;
       vcns = vcn ∷ [];
       rises = rises;
       counted = counted;

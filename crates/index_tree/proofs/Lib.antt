@@ -23,6 +23,7 @@ pub mod RemoveCalls
 pub mod RemoveRoot
 pub mod RemoveSteps
 pub mod RemoveRootSteps
+pub mod FrontLaws
 pub mod ReplaceTrees
 pub mod ReplaceSteps
 pub mod KeyedLaws

@@ -1,5 +1,6 @@
 -- A tree that one list of nodes holds is held by another that says the same at each number of the tree.
-use Rattle.std.proofs.Common.{◌≡◌, ℕ, zero, suc, ◌≤◌, ◌==◌, List, [], ◌∷◌, Some, cond, true, ap, arith}
+use Rattle.std.proofs.Common.{◌≡◌, ◌≢◌, ◌+◌, ℕ, zero, suc, ◌≤◌, ◌==◌, List, [], ◌∷◌, Some, cond, true, ap, ◌∙◌, arith, inl, inr}
+use Rattle.std.proofs.lemmas.Bool.{cases_Bool, eqb-false, eqb-true}
 use Rattle.std.proofs.lemmas.Bool.Decides.{nat_tests}
 use Rattle.ntfs_def.specs.IndexTree.{Nodes, Branch, Spread, Tree, AreStored, EachBelow, IsStored, Walks, branch_times, node_of, one_if, spread_times, times_in}
 use Rattle.ntfs_def.specs.Node.{Item, Node}
@@ -50,3 +51,29 @@ walks_moved nodes others root items walks says = record {
   };
   is = walks.is;
 }
+
+-- At each number of a tree that is held the nodes say one.
+module _ (nodes : Nodes) (place : ℕ) where
+  abbrev pub IsThere : Type 0
+  IsThere = (node : Node) × (nodes place ≡ Some node)
+
+  branches_there : {T : Type 0} (times : T → ℕ) (P : T → Type 0) → ((t : T) → 1 ≤ times t → P t → IsThere)
+      → (bs : List (Branch T)) (last : T) → 1 ≤ branch_times times bs last → EachBelow P bs last → IsThere
+  branches_there times P step [] last met k = step last met k
+  branches_there times P step (b ∷ bs) last met k = elim (cases_Bool (times b.below == 0)) [
+    | inl e ↦ let none : times b.below ≡ 0 = eqb-true (times b.below) 0 e in branches_there times P step bs last (omega arith) k.1
+    | inr e ↦ let some : times b.below ≢ 0 = eqb-false (times b.below) 0 e in step b.below (omega arith) k.0
+  ]
+
+  tree_there : (depth : ℕ) (t : Tree depth) → 1 ≤ times_in place depth t → IsStored nodes depth t → IsThere
+  tree_there zero t met k = absurd (omega arith)
+  tree_there (suc depth) t met k = elim (cases_Bool (place == t.vcn)) [
+    | inl e ↦ (node_of depth t.spread, ap nodes (eqb-true place t.vcn e) ∙ k.0)
+    | inr e ↦
+        let none : one_if place t.vcn ≡ 0 = ap (λ b. cond b 1 0) e in
+        branches_there (times_in place depth) (IsStored nodes depth) (tree_there depth) t.spread.branches t.spread.last (omega arith) k.1
+  ]
+
+  pub spread_there : (depth : ℕ) (s : Spread (Tree depth)) → 1 ≤ spread_times place depth s → AreStored nodes depth s → IsThere
+  spread_there depth s met k =
+      branches_there (times_in place depth) (IsStored nodes depth) (tree_there depth) s.branches s.last met k

@@ -1,5 +1,5 @@
 -- What a replacement does: an entry comes in the place of the one with an equal key, which is as long.
-use Rattle.std.specs.Prelude.{◌≡◌, ℕ, Bool, List, ◌∷◌, ◌++◌, Option, Some, IsSome, slice_index_or, length}
+use Rattle.std.specs.Prelude.{◌≡◌, ℕ, Bool, List, ◌∷◌, ◌++◌, Option, Some, IsSome, slice_index_or, length, take}
 use Rattle.std.specs.declared.cmp.Ordering.{Ordering}
 use Rattle.std.specs.declared.cmp.Ordering.TheVariants.{Equal}
 use Rattle.ntfs_def.specs.Node.{Entry, Item, Node, node_in, short_node}
@@ -77,13 +77,15 @@ pub record StaysSpread (order : List ℕ → List ℕ
 abbrev pub entry_with : Item → Option ℕ → Entry
 entry_with item child = record { item = item; child = child }
 
--- Entry i of the node became this one, where it was as long; nothing is said where it was not.
+-- Entry i of the node became this one, where it was as long; nothing is said where it was not. The fields of an `$INDEX_ROOT` in
+-- front of the node, its first 16 bytes, stay.
 pub record SwapsAt (form : NodeForm) (old new : List ℕ) (i : ℕ) (entry : Entry) : Type 0 where
   pub short : (said : Node) → short_node form old ≡ Some said
       → ((d : Entry) → item_len (slice_index_or said.entries i d).item ≡ item_len entry.item) → short_node form new
       ≡ Some (replaced said i entry)
   pub node : IsSome (node_in form new)
   pub len : length new ≡ length old
+  pub front : take 16 new ≡ take 16 old
   pub opened : (vcn : ℕ) → IsOpened vcn old → IsOpened vcn new
 
 -- .. and the record holds that node

@@ -1,5 +1,5 @@
 //! An entry comes in the place of the one with an equal key, which is as long: no node gains or loses an entry.
-ghost use Rattle.std.specs.Prelude.{◌≡◌, ◌+◌, ◌≤◌, IsSome, IsTrue, MatchResult, OnErr, OnOk, Some, false, is_some, length, true};
+ghost use Rattle.std.specs.Prelude.{◌≡◌, ◌+◌, ◌≤◌, IsSome, IsTrue, MatchResult, OnErr, OnOk, Some, false, is_some, length, take, true};
 ghost use Rattle.vol_disk.specs.Contents.{WhereTold};
 ghost use Rattle.ntfs_def.specs.Node.{has_children, is_one_entry, item_in, short_node};
 ghost use Rattle.index_node.specs.Edit.{HasEntry, IsOpened, IsShortEntry, LeadsBytes, LeadsTo, entry_in};
@@ -140,7 +140,7 @@ fn replace_below<B: WriteBlocks, C: Collation>(
 impl<C: Collation> Index<C> {
     /// Puts an entry, without a child's number, in place of the one with an equal key in the index under a root, the value of
     /// its `$INDEX_ROOT`. That one has to be as long, apart from a child's number; the index keeps its shape then, and the
-    /// root its length. At most one record is written, and one a level is read.
+    /// root its length and the fields in front of its node. At most one record is written, and one a level is read.
     ///
     /// # Errors
     ///
@@ -161,6 +161,7 @@ impl<C: Collation> Index<C> {
             (C.valid (order_of self.now)) (form_of self.now) (short_node (form_of self.now) root.old)
             (short_node (form_of self.now) root.new) (item_in entry.now))) }
         ensures root { OnOk result (length root.new ≡ length root.old) }
+        ensures front { OnOk result (take 16 root.new ≡ take 16 root.old) }
         ensures ready { OnOk result (B.ready blocks.new) }
         ensures reads { WhereTold (B.records blocks.old) (λ r. EditReads 1 (C.order (order_of self.now)) (C.valid (order_of self.now))
             (short_nodes (form_of self.now) r) (short_node (form_of self.now) root.old) (B.reads blocks.old) (B.reads blocks.new)) }

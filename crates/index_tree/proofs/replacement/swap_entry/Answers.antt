@@ -6,6 +6,7 @@ use Rattle.index_node.specs.Edit.{entry_in, item_len}
 use Rattle.index_node.proofs.ReplaceLaws.{item_len-one}
 use Rattle.list_laws.proofs.OptionLaws.{some_same}
 use Rattle.index_tree.proofs.EditMemory.{is_some_of, short_in}
+use Rattle.index_tree.proofs.FrontLaws.{front-kept}
 use Rattle.index_tree.proofs.replacement.swap_entry.Goals as goal
 
 pub returns-then-entry : goal.returns-then-entry
@@ -22,6 +23,7 @@ returns-then-entry c = record {
       absurd (c.if-entry.true (omega (arith, same, a, b, k)));
   node = is_some_of c.requires.has.is;
   len = refl;
+  front = refl;
   opened = λ vcn h. h;
 }
 
@@ -43,5 +45,6 @@ returns c =
       short = λ said is alike. swapped.short said is;
       node = is_some_of (swapped.node c.requires.has.said c.requires.has.is);
       len = swapped.header.len;
+      front = front-kept c.args.node.now c.replace_at.new.node swapped.header;
       opened = swapped.opened;
     }

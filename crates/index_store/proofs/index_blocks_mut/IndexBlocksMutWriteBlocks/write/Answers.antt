@@ -24,7 +24,7 @@ returns-in-Ok-clause-done g c =
     let old = view g.D.Disk c.args.self.now.mft.now in
     let new = view g.D.Disk c.write_used_record.new.mft in
     let index = index_held c.args.self.now.file.now c.args.self.now.index.name.now in
-    records-edited old new index c.args.vcn c.args.from.now c.in-Ok.ensures.stages.goes_on.told_image (λ told.
+    records-edited old new index c.args.vcn c.args.from.now c.in-Ok.ensures.stages.stages.goes_on.told_image (λ told.
     let held = c.requires.ready.held told in
     let r = records-told old index told in
     c.in-Ok.ensures.written told held.readable held.parts held.is_file (c.requires.ready.owners told)
@@ -43,11 +43,11 @@ returns-in-Ok-clause-ready g c =
     record-left old new file name c.args.from.now c.args.vcn held (c.requires.ready.owners told)
     (c.in-Ok.ensures.written told held.readable held.parts held.is_file (c.requires.ready.owners told)
     (c.requires.there (index_record_on old index) r) (c.requires.opened (index_record_on old index) r) c.requires.apart) in
-    let before : IsTrue new.told → IsTrue old.told = λ told. sym c.in-Ok.ensures.stages.goes_on.told_image ∙ told in
+    let before : IsTrue new.told → IsTrue old.told = λ told. sym c.in-Ok.ensures.stages.stages.goes_on.told_image ∙ told in
     record {
       found = c.requires.ready.found;
       held = λ told. (left (before told)).0;
-      sound = c.in-Ok.ensures.stages.sound;
+      sound = c.in-Ok.ensures.stages.stages.sound;
       whole = c.requires.ready.whole;
       owners = λ told. (left (before told)).1;
     }
