@@ -1,11 +1,14 @@
 -- CALLS ONE AFTER ANOTHER.
-use Rattle.std.proofs.Common.{◌≡◌, ◌||◌, Bool, true, false, ◌∙◌, arith}
+use Rattle.std.proofs.Common.{◌≡◌, ◌==◌, ◌&&◌, ◌||◌, Bool, true, false, length, refl, ◌∙◌, arith}
+use Rattle.std.proofs.lemmas.Bool.{or_parts}
+use Rattle.ntfs_def.specs.declared.kinds.TheConstants.{DATA}
+use Rattle.ntfs_def.specs.declared.records.TheConstants.{CLUSTER_BITMAP, MFT, MFT_MIRROR}
 use Rattle.volume_def.specs.Sound.{Clause, Holds}
 use Rattle.volume_def.specs.Sound as clauses
 use Rattle.volume_def.specs.Table.{TableLayout}
 use Rattle.volume_def.specs.View.{VolumeView}
 use Rattle.edit_def.specs.Account.{Wants, Within, also}
-use Rattle.edit_def.specs.Edited.{Edited, SameVolume, StoresBits, is_list_key, is_low, is_room_key}
+use Rattle.edit_def.specs.Edited.{Edited, SameVolume, StoresBits, is_list_key, is_low, is_room_key, is_table_key}
 use Rattle.edit_def.specs.Kept.{Key, either}
 use Rattle.edit_def.specs.Marks.{Marks}
 use Rattle.edit_def.specs.Purses.{room_of}
@@ -68,3 +71,14 @@ low-of changed wants old new was now e bits clauses.Version ok = e.editable.vers
 low-of changed wants old new was now e bits clauses.MirrorPlace ok = e.editable.mirror_place
 low-of changed wants old new was now e bits clauses.Mirror ok = e.editable.mirror
 low-of changed wants old new was now e bits clauses.Limits ok = e.limits
+
+-- the table and its mirror are room
+pub table-room : (key : Key) → is_room_key key ≡ false → is_table_key key ≡ false
+table-room key e = by (key.kind == DATA) (length key.name == 0) (key.file == MFT) (key.file == MFT_MIRROR) (or_parts _ _ e).1
+  where
+    by : (a b c d : Bool) → (a && (b && (c || d || (key.file == CLUSTER_BITMAP)))) ≡ false → (a && (b && (c || d))) ≡ false
+    by false b c d e = refl
+    by true false c d e = refl
+    by true true false false e = refl
+    by true true true d e = cc
+    by true true false true e = cc

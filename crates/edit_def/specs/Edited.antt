@@ -29,6 +29,10 @@ is_room_key key =
     || ((key.kind == BITMAP) && ((length key.name == 0) && (key.file == MFT)))
     || ((key.kind == DATA) && ((length key.name == 0) && is_room_file key.file))
 
+-- of these the table and its mirror, in whose clusters each record lies that is written
+abbrev pub is_table_key : Key → Bool
+is_table_key key = (key.kind == DATA) && ((length key.name == 0) && ((key.file == MFT) || (key.file == MFT_MIRROR)))
+
 -- The volume stays where it is, and its table loses no record.
 pub record SameVolume (old new : TableLayout) : Type 0 where
   pub cluster_sectors : new.cluster_sectors ≡ old.cluster_sectors

@@ -1,7 +1,7 @@
 -- FROM THE RECORD OF ALL CALLS of a command, and the first mark, to what an edit leaves.
 use Rattle.std.proofs.Common.{◌≡◌, ◌<◌, ◌≤◌, ◌+◌, ◌||◌, ◌==◌, ℕ, Bool, true, false, List, [], length, Option, Some, None, filter, refl, sym, ap}
 use Rattle.std.proofs.Common.{subst, ◌∙◌, arith}
-use Rattle.std.specs.Prelude.{IsSomeAnd, is_some}
+use Rattle.std.specs.Prelude.{is_some}
 use Rattle.std.proofs.lemmas.Bool.{and_parts, eqb-true, or_from, or_parts}
 use Rattle.ntfs_def.specs.declared.kinds.TheConstants.{DATA, VOLUME_INFORMATION}
 use Rattle.ntfs_def.specs.declared.records.TheConstants.{LOG_FILE, VOLUME}
@@ -17,13 +17,14 @@ use Rattle.edit_def.specs.Account.{AreDistinct, AreTouched, IsPlanned, Plan, Wan
 use Rattle.edit_def.specs.OneFile.{IsTabled}
 use Rattle.edit_def.specs.Purses.{in_use, room_of}
 use Rattle.edit_def.proofs.TakenLaws.{count-taken, owners-taken, records-taken}
-use Rattle.edit_def.specs.Edited.{Edited, SameVolume, is_bare, is_list_key, is_room_key}
+use Rattle.edit_def.specs.Edited.{Edited, SameVolume, is_bare, is_list_key, is_room_key, is_table_key}
 use Rattle.edit_def.specs.Forms.{KeepsForms}
 use Rattle.edit_def.specs.Places.{KeepsPlaces, StaysInPlace}
 use Rattle.edit_def.specs.Kept.{KeepsBut, KeepsFile, Key, Told, either, is_kept, key_of, told_of}
 use Rattle.edit_def.specs.Marks.{IsEditable, Marks}
 use Rattle.edit_def.proofs.FormLaws.{KeepsForms-more, KeepsForms-then}
 use Rattle.edit_def.proofs.PlaceLaws.{in_place-then, no-name, places-kept, places-then}
+use Rattle.edit_def.proofs.EditedLaws.{table-room}
 use Rattle.edit_def.proofs.KeptLaws.{KeepsBut-then, KeepsFile-more}
 use Rattle.session_def.specs.FirstMark.{IsMarkedFrom, is_first_key, is_no_key}
 use Rattle.session_def.specs.Kept.{is_version, unmarked, versions}
@@ -47,25 +48,25 @@ four-parts view before next command at made key e =
     let c = or_parts (is_mark_key key) _ b.1 in
     (a.0, b.0, c.0, c.1)
 
-none-of : (a b c d : Bool) → a ≡ false → b ≡ false → c ≡ false → d ≡ false → ((a || b) || (c || d)) ≡ false
-none-of a b c d p q r s = rw (p, q, r, s) refl
+none-of : (a b c d e : Bool) → a ≡ false → b ≡ false → c ≡ false → d ≡ false → e ≡ false → ((a || b) || (e || (c || d))) ≡ false
+none-of a b c d e p q r s t = rw (p, q, r, s, t) refl
 
 -- ALL ATTRIBUTES but those that the command names, and what their headers tell
 names-less : (view : VolumeView) (before next : Tree) (command : Command) (at : Located) (made : ℕ) (changed : Key → Bool)
     → NamesIn (is_changed_key view before next command at made) changed → (key : Key) → is_named view before next command at made key ≡ false
-    → either (either is_room_key changed) is_first_key key ≡ false
+    → either (either is_room_key changed) (either is_table_key is_first_key) key ≡ false
 names-less view before next command at made changed inside key e =
     let t = four-parts view before next command at made key e in
-    none-of (is_room_key key) (changed key) (is_log_key key) (is_mark_key key) t.0 (inside key t.3) t.1 t.2
+    none-of (is_room_key key) (changed key) (is_log_key key) (is_mark_key key) (is_table_key key) t.0 (inside key t.3) t.1 t.2 (table-room key t.0)
 
 pub calls-kept : (view : VolumeView) (before next : Tree) (command : Command) (at : Located) (made : ℕ) (changed : Key → Bool)
     (old staged new : VolumeView)
     → NamesIn (is_changed_key view before next command at made) changed → KeepsBut (either is_room_key changed) old staged → IsMarkedFrom staged new
     → KeepsBut (is_named view before next command at made) old new
 calls-kept view before next command at made changed old staged new inside kept marked f =
-    KeepsFile-more (either (either is_room_key changed) is_first_key) (is_named view before next command at made) old new f
+    KeepsFile-more (either (either is_room_key changed) (either is_table_key is_first_key)) (is_named view before next command at made) old new f
     (names-less view before next command at made changed inside)
-    (KeepsBut-then (either is_room_key changed) is_first_key old staged new kept marked.kept f)
+    (KeepsBut-then (either is_room_key changed) (either is_table_key is_first_key) old staged new kept marked.kept f)
 
 forms-less : (view : VolumeView) (before next : Tree) (command : Command) (at : Located) (made : ℕ) (changed : Key → Bool)
     → NamesIn (is_changed_key view before next command at made) changed → (key : Key)

@@ -1,13 +1,14 @@
 -- WHAT AN EDIT THAT WAS DONE LEAVES: what it kept beside the tree, what it took and gave back, that entries of directories tell what their
 -- files do, the mark and the emptied log, and how many sectors it wrote.
 use Rattle.std.specs.Prelude.{◌≡◌, ℕ, ◌+◌, ◌*◌, ◌%◌, ◌/◌, ◌<◌, ◌≤◌, ◌==◌, ◌&&◌, ◌||◌, not, nat_le, nat_lt, min, Bool, true, false, List, [], ◌∷◌}
-use Rattle.std.specs.Prelude.{length, map, slice_index, Option, Some, None, Ok, IsSomeAnd, IsTrue, is_some, if◌then◌else◌}
+use Rattle.std.specs.Prelude.{length, map, slice_index, Option, Some, None, Ok, IsTrue, is_some, if◌then◌else◌}
 use Rattle.std.specs.Option.{option_map_or}
 use Rattle.ntfs_def.specs.Node.{Item}
 use Rattle.ntfs_def.specs.declared.kinds.TheConstants.{STANDARD_INFORMATION}
 use Rattle.ntfs_def.specs.declared.records.TheConstants.{FIRST_ORDINARY, LOG_FILE}
 use Rattle.ntfs_def.specs.declared.run_text.Spot.TheVariants.{At}
 use Rattle.volume_def.specs.Files.{Part, parts_at, record_on, records_of}
+use Rattle.volume_def.specs.Readable.{IsDirectory}
 use Rattle.volume_def.specs.Table.{cluster_bytes}
 use Rattle.volume_def.specs.Values.{IsPlain, first_part, spot_at}
 use Rattle.volume_def.specs.StreamSize.{told_size}
@@ -78,8 +79,8 @@ pub record KeepsOfNamed (before next : State) (command : Command) (at : Located)
       (map (is_point_item before.view at.file) (tags_dropped before.machine.tree command at)) (point_added before.view command at)
   pub object_ids : KeepsKeys before.view (object_id_index before.view) next.view (object_id_index next.view)
       (map is_object_id_item (ids_dropped before.machine.tree command at)) None
-  -- the entries of directories
-  pub entries : (dir : ℕ) (was now : List Item) → HasItems before.view dir was → HasItems next.view dir now
+  -- the entries of directories; what stands in a `$I30` of another file is none
+  pub entries : (dir : ℕ) (was now : List Item) → IsDirectory before.view dir → HasItems before.view dir was → HasItems next.view dir now
       → KeepsEntries next.view before.machine.tree next.machine.tree (timed command at made)
       (added_links at.new (main_file command at made)) was now
 

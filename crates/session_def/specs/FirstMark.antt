@@ -4,9 +4,9 @@ use Rattle.std.specs.Prelude.{◌≡◌, ℕ, ◌||◌, Bool, false, is_some}
 use Rattle.ntfs_def.specs.declared.records.TheConstants.{LOG_FILE}
 use Rattle.volume_def.specs.Files.{record_on, records_of}
 use Rattle.volume_def.specs.View.{VolumeView}
-use Rattle.edit_def.specs.Edited.{is_bare}
+use Rattle.edit_def.specs.Edited.{is_bare, is_table_key}
 use Rattle.edit_def.specs.Forms.{KeepsForms}
-use Rattle.edit_def.specs.Kept.{KeepsBut, Key}
+use Rattle.edit_def.specs.Kept.{KeepsBut, Key, either}
 use Rattle.edit_def.specs.Names.{numbers_at}
 use Rattle.edit_def.specs.Places.{KeepsPlaces, StaysInPlace}
 use Rattle.edit_def.specs.Purses.{in_use}
@@ -27,7 +27,8 @@ is_no_key key = false
 pub record IsMarkedFrom (staged next : VolumeView) : Type 0 where
   pub layout : next.layout ≡ staged.layout
   pub rest : (k : ℕ) → next.rest k ≡ staged.rest k
-  pub kept : KeepsBut is_first_key staged next
+  -- the record of the flag lies in a cluster of the table, and its copy in one of the mirror
+  pub kept : KeepsBut (either is_table_key is_first_key) staged next
   pub forms : (f : ℕ) → KeepsForms is_no_key staged next f
   pub places : StaysInPlace staged next
   pub log : KeepsPlaces staged next LOG_FILE

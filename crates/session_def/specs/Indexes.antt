@@ -2,12 +2,12 @@
 use Rattle.std.specs.Prelude.{◌≡◌, ◌⊎◌, ℕ, ◌+◌, ◌*◌, ◌/◌, ◌≤◌, ◌==◌, ◌&&◌, not, Bool, true, false, List, [], bit_and, count_by, drop}
 use Rattle.std.specs.Prelude.{filter, length, sum_by, take, Contains, IfSome, Some, unwrap_or}
 use Rattle.std.specs.List.{list_any, range_with_len}
-use Rattle.std.specs.Option.{option_map_or}
 use Rattle.std.specs.Str.{bytes_eq}
 use Rattle.vol_bytes.specs.Field.{u32_at}
 use Rattle.ntfs_def.specs.Node.{Item}
 use Rattle.ntfs_def.specs.declared.kinds.TheConstants.{BITMAP, INDEX_ALLOCATION, INDEX_ROOT}
 use Rattle.ntfs_def.specs.declared.lengths.TheConstants.{INDEX_RECORD}
+use Rattle.volume_def.specs.Readable.{IsDirectory}
 use Rattle.volume_def.specs.Files.{Part, content_value, parts_at}
 use Rattle.volume_def.specs.StreamSize.{told_size}
 use Rattle.volume_def.specs.Values.{first_part, value_on}
@@ -105,7 +105,7 @@ KeepsIndexIfThere old new changes index = (was now : Part) → first_part (parts
 
 -- ALL OF IT
 pub record KeepsIndexes (old new : VolumeView) (before next : Tree) (command : Command) (at : Located) (made : ℕ) : Type 0 where
-  pub keys : (dir : ℕ) (was now : List Item) → HasItems old dir was → HasItems new dir now
+  pub keys : (dir : ℕ) (was now : List Item) → IsDirectory old dir → HasItems old dir was → HasItems new dir now
       → KeepsRests new (timed command at made) (dropped_links before command at) was now
   pub directories : (dir : ℕ) → KeepsIndexIfThere old new (changes_of old before command at) (directory_index dir)
   pub points : (index : Index) → point_index new ≡ Some index → KeepsIndexIfThere old new (changes_of old before command at) index

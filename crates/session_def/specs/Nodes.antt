@@ -6,8 +6,7 @@ use Rattle.std.specs.List.{list_any, range_with_len}
 use Rattle.std.specs.Option.{option_map_or}
 use Rattle.vol_bytes.specs.Field.{u16_at, u32_at}
 use Rattle.ntfs_def.specs.Flags.{is_sparse}
-use Rattle.std.specs.Str.{bytes_eq}
-use Rattle.ntfs_def.specs.Units.{units_in, wide}
+use Rattle.ntfs_def.specs.Units.{wide}
 use Rattle.ntfs_def.specs.declared.flags.TheConstants.{SPARSE}
 use Rattle.ntfs_def.specs.declared.kinds.TheConstants.{DATA, FILE_NAME, INDEX_ROOT, REPARSE_POINT, STANDARD_INFORMATION}
 use Rattle.ntfs_def.specs.declared.lengths.TheConstants.{INDEX_RECORD}
