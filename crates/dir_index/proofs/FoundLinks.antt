@@ -69,7 +69,7 @@ module _ (fold : ℕ → ℕ) (name : List ℕ) where
   abbrev is_folded : Link → Bool
   is_folded link = are_same fold link.name name
 
-  exact_tells : (x : Item) → HasName x → (is_exact (link_of_item x) ≡ true) ↔ (exact_order fold name x.key [] ≡ Equal)
+  pub exact_tells : (x : Item) → HasName x → (is_exact (link_of_item x) ≡ true) ↔ (exact_order fold name x.key [] ≡ Equal)
   unfolding name_in
   exact_tells x h =
       let own = own_units name x.key h in

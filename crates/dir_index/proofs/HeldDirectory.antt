@@ -6,7 +6,10 @@ use Rattle.std.specs.Option.{option_and_then}
 use Rattle.std.specs.declared.cmp.Ordering.{Ordering}
 use Rattle.vol_disk.specs.declared.Disk.{Ghosts}
 use Rattle.ntfs_def.specs.Fixup.{opened_of}
-use Rattle.ntfs_def.specs.KeyOrder.{fold_of}
+use Rattle.ntfs_def.specs.KeyOrder.{fold_of, name_order}
+use Rattle.ntfs_def.specs.FileName.{is_name_key}
+use Rattle.ntfs_def.specs.Node.{short_node}
+use Rattle.ntfs_def.specs.declared.index.NodeForm.TheVariants.{Names}
 use Rattle.ntfs_def.specs.Units.{wide}
 use Rattle.volume_def.specs.CaseClause.{volume_fold}
 use Rattle.volume_def.specs.Files.{Record, content_value, is_base, is_directory, record_on}
@@ -15,6 +18,7 @@ use Rattle.volume_def.specs.Readable.{IsFile, WhereReadable, IsDirectory}
 use Rattle.volume_def.specs.Sound.{Attributes, Extents, Indexes, Lists, Shape}
 use Rattle.volume_def.specs.Table.{cluster_bytes}
 use Rattle.volume_def.specs.View.{VolumeView}
+use Rattle.index_tree.specs.Edit.{HasSortedIndex, short_nodes}
 use Rattle.index_tree.specs.Walk.{HasWalk, IsWalk}
 use Rattle.tree_model.specs.Reading.{directory_links}
 use Rattle.tree_model.specs.Tree.{sought_link}
@@ -31,8 +35,9 @@ use Rattle.index_store.proofs.HeldIndexLaws.{index-held}
 use Rattle.index_store.proofs.IndexRecordLaws.{record-there}
 use Rattle.dir_index.specs.Held.{IsHeldDirectory, IsReadableDirectory, fetched_of, nodes_found, records_found, root_found}
 use Rattle.dir_index.specs.Links.{IsHeldIndex, link_in, names_index}
+use Rattle.dir_index.specs.Refreshed.{FoundExactly}
 use Rattle.dir_index.specs.Sought.{CanSeek, SeekCosts, Seeks, exact_order, folded_order}
-use Rattle.dir_index.proofs.HeldIndex.{can_seek_both, costs_exact, costs_folded, finds_exact, finds_folded, has_walk, walked}
+use Rattle.dir_index.proofs.HeldIndex.{can_seek_both, costs_exact, costs_folded, finds_exact, finds_folded, found_exactly, has_sorted, has_walk, walked}
 
 -- A call that only reads, with a bound on the sectors that it asked for.
 pub reads-within : {D : Type 0} (g : Ghosts D) (a b : Mft D g) (m k : ℕ) → MftReads g a b m → fetched_of g b ≤ fetched_of g a + k
@@ -97,7 +102,7 @@ module _ (view : VolumeView) (file : FileParts) (table : List ℕ) (held : IsHel
   abbrev names : List ℕ
   names = wide (codes "$I30")
 
-  same-parts : index_held file names ≡ names_index view (file_number file)
+  pub same-parts : index_held file names ≡ names_index view (file_number file)
   same-parts = index-held view file names held.held.parts
 
   pub has-index : ((root : List ℕ) → ¬ (HasParts (index_held file names) root)) → ⊥
@@ -107,7 +112,7 @@ module _ (view : VolumeView) (file : FileParts) (table : List ℕ) (held : IsHel
       (record { is_root = has.is_root; plain = has.plain; plain_bits = has.plain_bits; written = has.written }))
 
   module _ (some : 0 < cluster_bytes view.layout) (index : FoundIndex) (found : IsFound file index) (named : index.name.now ≡ names) where
-    same-index : index_held file index.name.now ≡ names_index view (file_number file)
+    pub same-index : index_held file index.name.now ≡ names_index view (file_number file)
     same-index = ap (index_held file) named ∙ same-parts
 
     abbrev records : ℕ → Option (List ℕ)
@@ -123,6 +128,12 @@ module _ (view : VolumeView) (file : FileParts) (table : List ℕ) (held : IsHel
           → records vcn ≡ Some (opened_of (stored_index_record view i vcn))) same-index
           (λ vcn. record-there view (index_held file index.name.now) vcn some);
     }
+
+    -- what a replacement asks for
+    pub can-replace : HasSortedIndex (name_order (fold_of table)) is_name_key (short_nodes Names records) (short_node Names index.root.now) 15
+    can-replace =
+        subst (λ t. HasSortedIndex (name_order (fold_of t)) is_name_key (short_nodes Names records) (short_node Names index.root.now) 15)
+        (sym held.case) (has_sorted view (file_number file) table index.root.now records held-index held.directory)
 
     -- what a walk asks for, and what it gives
     pub can-walk : HasWalk (nodes_found view file index) (root_found index)
@@ -143,6 +154,13 @@ module _ (view : VolumeView) (file : FileParts) (table : List ℕ) (held : IsHel
       can-seek =
           subst (λ t. CanSeek (exact t) records index.root.now × CanSeek (folded t) records index.root.now) (sym held.case)
           (can_seek_both view (file_number file) table index.root.now records held-index held.directory name)
+
+      -- what is found by exactly the units of the name
+      pub exactly-said : (found : Option (List ℕ)) → Seeks (exact table) records index.root.now found
+          → FoundExactly view (file_number file) name found
+      exactly-said found seeks =
+          found_exactly view (file_number file) table index.root.now records held-index name found
+          (subst (λ t. Seeks (exact t) records index.root.now found) held.case seeks)
 
       exact-said : (entry : List ℕ) → Seeks (exact table) records index.root.now (Some entry)
           → link_in entry ≡ sought_link (volume_fold view) (directory_links view (file_number file)) name

@@ -1,14 +1,18 @@
 -- The index of a directory as it is held has what a walk and a search ask for, and what they give is what the directory has.
-use Rattle.std.proofs.Common.{◌≡◌, ◌≤◌, ◌+◌, ◌*◌, ℕ, suc, List, [], ◌∷◌, map, Bool, true, false, cond, length, Option, Some, None, refl, sym, ap, subst, ◌∙◌, IsTrue, arith}
-use Rattle.std.specs.Prelude.{◌==◌, All}
+use Rattle.std.proofs.Common.{◌≡◌, ◌≤◌, ◌+◌, ◌*◌, ℕ, zero, suc, ◌<◌, List, [], ◌∷◌, get_or, map, Bool, true, false, cond, length, Option, Some, None, refl, sym, ap, subst, ◌∙◌, IsTrue, arith}
+use Rattle.std.specs.Prelude.{◌==◌, All, Contains}
 use Rattle.std.specs.List.{filter_map}
 use Rattle.std.specs.Option.{option_and_then}
 use Rattle.std.specs.declared.cmp.Ordering.{Ordering}
+use Rattle.std.specs.declared.cmp.Ordering.TheVariants.{Equal}
+use Rattle.std.proofs.lemmas.List.Elements.{Contains-append_right}
+use Rattle.std.proofs.lemmas.Slice.Eq.{bytes_eq-Decides}
+use Rattle.list_laws.proofs.MemberLaws.{Contains-from_map, Contains-head}
 use Rattle.ntfs_def.specs.FileName.{is_name_key}
 use Rattle.ntfs_def.specs.Fixup.{opened_of}
 use Rattle.ntfs_def.specs.IndexTree.{Ascends, Each, Nodes, Walks, spread_items}
 use Rattle.ntfs_def.specs.KeyOrder.{name_order}
-use Rattle.ntfs_def.specs.Node.{Item, Node, are_short, node_in, short_node}
+use Rattle.ntfs_def.specs.Node.{Item, Node, are_short, item_in, node_in, short_node}
 use Rattle.ntfs_def.specs.declared.index.NodeForm.{NodeForm}
 use Rattle.ntfs_def.specs.declared.index.NodeForm.TheVariants.{Names}
 use Rattle.volume_def.specs.CaseClause.{volume_fold}
@@ -18,15 +22,18 @@ use Rattle.index_node.specs.Edit.{item_len}
 use Rattle.index_tree.specs.Edit.{HasSortedIndex, IsAt, IsSortedIndex, short_nodes}
 use Rattle.index_tree.specs.Replace.{IsSwapped, Replaces}
 use Rattle.dir_index.specs.Replaced.{HasSwapped}
-use Rattle.index_tree.specs.Search.{HasRisingIndex, IsFirstFound, IsRisingIndex, Rises, nodes_of}
+use Rattle.index_tree.specs.Search.{HasRisingIndex, IsFirstFound, IsRisingIndex, NoneEqual, Rises, nodes_of}
 use Rattle.index_tree.specs.Walk.{HasWalk, IsWalk, items_in}
 use Rattle.index_tree.proofs.MovedWalks.{walks_moved}
 use Rattle.tree_model.specs.Reading.{directory_links}
 use Rattle.tree_model.specs.Tree.{sought_link}
+use Rattle.tree_model.specs.declared.tree.Link.{Link}
 use Rattle.dir_index.specs.Links.{IsHeldIndex, link_in, link_of_item, names_index}
+use Rattle.dir_index.specs.Refreshed.{FoundExactly, HasUnits, IsItemOf}
 use Rattle.dir_index.specs.Sought.{CanSeek, SeekCosts, Seeks, exact_order, folded_order, is_sought_key}
 use Rattle.dir_index.proofs.DirectoryLinks.{links_are_items}
-use Rattle.dir_index.proofs.FoundLinks.{HasName, entries_say, sought_exact, sought_folded}
+use Rattle.dir_index.proofs.FoundLinks.{HasName, entries_say, exact_tells, sought_exact, sought_folded}
+use Rattle.dir_index.proofs.ShortItems.{IsShortItem, index-short, short-node-items}
 use Rattle.dir_index.proofs.SoughtOrders.{exact_rises, folded_rises}
 use Rattle.std.proofs.lemmas.Bool.{or_right}
 
@@ -61,6 +68,19 @@ each_map : {A : Type 0} (P Q : A → Type 0) (f : (x : A) → P x → Q x) (xs :
 each_map P Q f [] h = tt
 each_map P Q f (x ∷ xs) h = (f x h.0, each_map P Q f xs h.1)
 
+each_both : {A : Type 0} (P Q : A → Type 0) (xs : List A) → Each P xs → Each Q xs → Each (λ x. P x × Q x) xs
+each_both P Q [] h k = tt
+each_both P Q (x ∷ xs) h k = ((h.0, k.0), each_both P Q xs h.1 k.1)
+
+-- an item of a list has what each of it has
+Each-contains : {A : Type 0} (P : A → Type 0) (xs : List A) (x : A) → Each P xs → Contains xs x → P x
+Each-contains {A = A} P xs x h there = by xs h there.0 there.1 there.2
+  where
+    by : (ys : List A) → Each P ys → (i : ℕ) → i < length ys → get_or ys i x ≡ x → P x
+    by [] h i l e = absurd (omega (arith, l))
+    by (y ∷ ys) h zero l e = subst P e h.0
+    by (y ∷ ys) h (suc i) l e = by ys h.1 i (omega (arith, l)) e
+
 module _ (view : VolumeView) (dir : ℕ) (table root : List ℕ) (records : ℕ
     → Option (List ℕ)) (held : IsHeldIndex view dir table root records)
     (has : IsDirectoryIndex view dir) where
@@ -78,6 +98,15 @@ module _ (view : VolumeView) (dir : ℕ) (table root : List ℕ) (records : ℕ
   unfolding index_nodes
   node_says vcn at node e =
       ap (option_and_then (node_in Names)) at ∙ short_said Names (opened_of (stored_index_record view (names_index view dir) vcn)) node e
+
+  -- no item is longer than one may be
+  items-short : Each IsShortItem has.items
+  unfolding index_nodes
+  items-short = subst (Each IsShortItem) (sym has.index.walks.is)
+      (index-short (index_nodes Names view (names_index view dir))
+      (λ vcn said e. short-node-items Names (opened_of (stored_index_record view (names_index view dir) vcn)) said e)
+      has.index.root_node (short-node-items Names has.index.root has.index.root_node has.index.says)
+      has.index.walks.depth has.index.walks.s has.index.walks.holds)
 
   abbrev walk : Walks nodes has.index.root_node has.items
   walk = walks_moved (index_nodes Names view (names_index view dir)) nodes has.index.root_node has.items has.index.walks
@@ -209,6 +238,34 @@ module _ (view : VolumeView) (dir : ℕ) (table root : List ℕ) (records : ℕ
         sym (ap (λ links. sought_link fold links name) (links_are_items view dir has)
         ∙ sought_exact fold name has.items keys entry (among_items exact in_exact_order (Some entry) seeks))
 
+    -- exactly the name: the item of the entry that is found has its units, and where none is found no link has them
+    links-none : (items : List Item) → Each HasName items → NoneEqual (λ key. exact key []) items
+        → (link : Link) → Contains (map link_of_item items) link → link.name ≡ name → ⊥
+    links-none items named none link among is =
+        let from = Contains-from_map link_of_item items link among in
+        let x = from.0 in
+        let at = Each-contains (λ (y : Item). HasName y × (exact y.key [] ≡ Equal → ⊥)) items x
+        (each_both HasName (λ (y : Item). exact y.key [] ≡ Equal → ⊥) items named none) from.1 in
+        at.1 ((exact_tells fold name x at.0).0 ((bytes_eq-Decides (link_of_item x).name name).1 (ap (λ (l : Link). l.name) from.2 ∙ is)))
+
+    pub none_exactly : Seeks exact records root None → HasUnits view dir name → ⊥
+    none_exactly seeks has_units =
+        links-none has.items keys (among_items exact in_exact_order None seeks) has_units.0
+        (subst (λ (links : List Link). Contains links has_units.0) (links_are_items view dir has) has_units.1) has_units.2
+
+    pub some_exactly : (entry : List ℕ) → Seeks exact records root (Some entry) → IsItemOf has.items name (item_in entry)
+    some_exactly entry seeks =
+        let first = among_items exact in_exact_order (Some entry) seeks in
+        let there : Contains has.items (item_in entry) = subst (λ items. Contains items (item_in entry)) (sym first.whole)
+        (Contains-append_right first.front (item_in entry ∷ first.back) (item_in entry) (Contains-head (item_in entry) first.back)) in
+        let named = Each-contains HasName has.items (item_in entry) keys there in
+        record {
+          among = there;
+          units_are = (bytes_eq-Decides (link_of_item (item_in entry)).name name).0 ((exact_tells fold name (item_in entry) named).1 first.equal);
+          key = named;
+          short = Each-contains IsShortItem has.items (item_in entry) items-short there;
+        }
+
     pub finds_folded : (found : Option (List ℕ)) → Seeks exact records root None → Seeks folded records root found
         → option_and_then link_in found ≡ sought_link fold (directory_links view dir) name
     finds_folded found none seeks =
@@ -223,3 +280,11 @@ module _ (view : VolumeView) (dir : ℕ) (table root : List ℕ) (records : ℕ
     pub costs_folded : (most before after : ℕ) → SeekCosts most folded records root before after
         → after ≤ before + most * has.index.walks.depth
     costs_folded = seek_costs folded in_folded_order
+
+-- what is found by exactly the units of a name
+pub found_exactly : (view : VolumeView) (dir : ℕ) (table root : List ℕ) (records : ℕ → Option (List ℕ))
+    → IsHeldIndex view dir table root records → (name : List ℕ) (found : Option (List ℕ))
+    → Seeks (exact_order (volume_fold view) name) records root found → FoundExactly view dir name found
+found_exactly view dir table root records held name None seeks = none_exactly view dir table root records held held.directory name seeks
+found_exactly view dir table root records held name (Some entry) seeks =
+    λ has. some_exactly view dir table root records held has name entry seeks

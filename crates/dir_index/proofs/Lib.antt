@@ -4,7 +4,12 @@ pub mod UnitOrders
 pub mod InOrder
 pub mod DirectoryLinks
 pub mod FoundLinks
+pub mod ShortItems
 pub mod HeldIndex
 pub mod HeldDirectory
 pub mod ReplacedRecords
 pub mod StandardLaws
+pub mod FieldSteps
+pub mod FreshLaws
+pub mod RefreshLaws
+pub mod RootLaws

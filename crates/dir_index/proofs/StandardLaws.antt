@@ -79,7 +79,7 @@ module _ (view : VolumeView) (f : ℕ) (readable : IsReadableVolume view) (is_fi
         },
       )
 
-first-value : (content : Content) (value : List ℕ) → content ≡ Value value → (first_vcn_of content == 0) ≡ true
+pub first-value : (content : Content) (value : List ℕ) → content ≡ Value value → (first_vcn_of content == 0) ≡ true
 first-value (Value other) value is = refl
 first-value (Clusters extent runs) value is = cc
 

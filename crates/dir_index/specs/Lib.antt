@@ -4,3 +4,4 @@ pub mod Sought
 pub mod SoughtLaws
 pub mod Replaced
 pub mod Standard
+pub mod Refreshed

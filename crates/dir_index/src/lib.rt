@@ -1,6 +1,8 @@
 //! The names of a directory, by its index.
 #![tactic(auto)]
 
+mod entry;
+mod fresh;
 mod index;
 mod laws;
 mod link;
@@ -11,6 +13,7 @@ mod standard;
 #[cfg(test)]
 mod tests;
 
+pub use entry::{DuplicatedInformation, refresh_entry};
 pub use laws::{directory_edit_laws, directory_search_laws, directory_walk_laws};
 pub use link::link_of_key;
 pub use replace::replace_in;

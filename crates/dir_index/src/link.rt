@@ -12,9 +12,9 @@ use std::alloc::{AllocError, Global};
 use tree_model::Link;
 use vol_bytes::{Name, u16_at, u64_at};
 
-// The key of an entry.
+/// The key of an entry.
 #[tactic(auto, unfolding(ntfs_def::specs::Node::item_at))]
-fn key_in(entry: &[u8]) -> &[u8]
+pub(crate) fn key_in(entry: &[u8]) -> &[u8]
     requires { IsOwnEntry Names entry.now }
     ensures { result.now ≡ (item_in entry.now).key }
 {

@@ -1,5 +1,5 @@
 //! An entry comes in the place of the one with an equal key in an index of a file that is held.
-ghost use Rattle.std.specs.Prelude.{◌≡◌, ◌≤◌, ℕ, false, IfErr, IsTrue, List, MatchResult, OnOk, length};
+ghost use Rattle.std.specs.Prelude.{◌≡◌, ◌≤◌, ℕ, false, IfErr, IsTrue, List, MatchResult, OnOk, length, take};
 ghost use Rattle.ntfs_def.specs.Node.{item_in, short_node};
 ghost use Rattle.ntfs_def.specs.declared.index.NodeForm.TheVariants.{Names};
 ghost use Rattle.volume_def.specs.Values.{spot_at};
@@ -27,8 +27,8 @@ use vol_disk::Disk;
 
 /// Puts an entry, without a child's number, in place of the one with an equal key in an index of names of a file that is held:
 /// in one of its records, which is staged, or in `root`, a copy of the value of its `$INDEX_ROOT`. Nothing is said where no key
-/// is equal, or where that entry has another length. Of the volume the clusters of the records alone change, and the sectors of
-/// one record at most are staged.
+/// is equal, or where that entry has another length. The fields in front of the root's node stay. Of the volume the clusters of the
+/// records alone change, and the sectors of one record at most are staged.
 ///
 /// # Errors
 ///
@@ -53,6 +53,7 @@ pub fn replace_in<'m, 'd, D: Disk, C: Collation + Drop>(
     ensures replaced { OnOk result (IsTrue (view D.Disk mft.old).told → ReplacesItem (C.order order) (C.valid order) (view D.Disk mft.old)
         (view D.Disk mft.new) (index_held file.now index.entry.name.now) root.old root.new (item_in entry.now)) }
     ensures root { OnOk result (length root.new ≡ length root.old) }
+    ensures front { OnOk result (take 16 root.new ≡ take 16 root.old) }
     ensures changes { OnOk result (IsTrue (view D.Disk mft.old).told → ChangesStream (view D.Disk mft.old) (view D.Disk mft.new)
         (spot_at (index_held file.now index.entry.name.now).records)) }
     ensures held { OnOk result (IsTrue (view D.Disk mft.old).told → IsHeldFile (view D.Disk mft.new) file.now) }

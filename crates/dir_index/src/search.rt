@@ -33,10 +33,10 @@ use vol_bytes::{Name, Octets};
 use vol_disk::Disk;
 
 /// The name of a directory's index, `$I30`.
-const NAMES: &[u8] = b"$\0I\03\00\0";
+pub(crate) const NAMES: &[u8] = b"$\0I\03\00\0";
 
-// A table of case, once more.
-fn share(upcase: &UpCase) -> Result<UpCase, FileNo>
+/// A table of case, once more.
+pub(crate) fn share(upcase: &UpCase) -> Result<UpCase, FileNo>
     ensures table { IfOk result (λ table. table ≡ upcase.now) }
     ensures err { IfErr result (λ no. no ≡ FileNo.Memory) }
 {

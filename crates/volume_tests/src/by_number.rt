@@ -3,9 +3,9 @@
 //! prove of the volume before a call.
 ghost use Rattle.std.specs.Prelude.{◌≡◌, IfOk, false};
 ghost use Rattle.mft_table.specs.MirrorClusters.{IsMirrorInside};
-ghost use Rattle.mft_table.specs.Mft.{mounted_of, view};
+ghost use Rattle.mft_table.specs.Mft.{is_mft_broken, mounted_of, view};
 
-use dir_index::{link_of_key, list, lookup};
+use dir_index::{DuplicatedInformation, link_of_key, list, lookup, refresh_entry};
 use mark_place::{find_flag, find_log};
 use mft_table::Mft;
 use mount_check::mount;
@@ -93,6 +93,7 @@ fn records_on(
 ) -> Result<Mft<'_, Untold<MemDisk>>, test::Fail>
     ensures untold { IfOk result (λ mft. (view ⟦<Untold<MemDisk> as Disk>⟧ mft).told ≡ false) }
     ensures mirror { IfOk result (λ mft. IsMirrorInside (mounted_of ⟦<Untold<MemDisk> as Disk>⟧ mft)) }
+    ensures sound { IfOk result (λ mft. is_mft_broken ⟦<Untold<MemDisk> as Disk>⟧ mft ≡ false) }
 {
     let mounted = mount(alloc, disk)?;
     Ok(Mft::resume(Stage::over(alloc, disk), mounted))
@@ -220,5 +221,87 @@ fn the_mark_and_the_log_lie_where_a_new_volume_has_them(rt: HostRuntime) -> Resu
     for span in &log {
         assert_eq!(rt; (span.first, span.len), (160, 128));
     }
+    Ok(())
+}
+
+// What an entry is to repeat of its file, and the bytes that then stand from 0x08 up to 0x3C of its key: four times, two sizes and
+// the flags, each with its lowest byte first. The flags of the system's own files are 6, of which both bits are shown.
+const TOLD: DuplicatedInformation = DuplicatedInformation {
+    times: [0x0101, 0x0202, 0x0303, 0x0404],
+    allocated: 0x0001_0000,
+    real: 0xABCD,
+    flags: 0x0021,
+};
+
+const REPEATED: [u8; 52] = [
+    1, 1, 0, 0, 0, 0, 0, 0, 2, 2, 0, 0, 0, 0, 0, 0, 3, 3, 0, 0, 0, 0, 0, 0, 4, 4, 0, 0, 0, 0, 0, 0, // times
+    0, 0, 1, 0, 0, 0, 0, 0, 0xCD, 0xAB, 0, 0, 0, 0, 0, 0, 0x21, 0, 0, 0, // sizes and flags
+];
+
+// The entry of a name in a directory tells that, on the disk.
+fn refresh(
+    alloc: Global,
+    disk: &mut Untold<MemDisk>,
+    dir: u64,
+    text: &str,
+) -> Result<(), test::Fail> {
+    let name = name(alloc, text)?;
+    let mut mft = records_on(alloc, disk)?;
+    if dir >= mft.mounted().records.count() {
+        let_go(mft);
+        return Err("no such record")?;
+    }
+    let done = refresh_entry(alloc, &mut mft, dir, name.as_slice(), &TOLD);
+    let written = mft.commit();
+    let_go(mft);
+    done?;
+    written?;
+    Ok(())
+}
+
+// How often a name with that stands in a block, as the value of a `$FILE_NAME`, which begins with a multiple of eight.
+fn told_in(block: &[u8], units: &[u8]) -> usize {
+    let mut times: usize = 0;
+    for place in 0..block.len() / 8 {
+        let key = &block[8 * place..];
+        if key.len() > 0x42
+            && key[0x42..].starts_with(units)
+            && key[0x08..].starts_with(&REPEATED)
+        {
+            times = times.saturating_add(1);
+        }
+    }
+    times
+}
+
+// The names of the root of a new volume stand in a record of its index, `$Bitmap` among the first, and those of `$Extend` in the root
+// of its index, which a record of the table holds: so its layout says.
+#[test]
+fn an_entry_tells_its_file_anew(rt: HostRuntime) -> Result<(), test::Fail> {
+    for (dir, text, mark) in [(5, "$Bitmap", b"INDX"), (11, "$ObjId", b"FILE")] {
+        let mut units = Vec::new(rt.alloc());
+        for byte in text.as_bytes() {
+            units.extend_from_slice(&[*byte, 0])?;
+        }
+        let mut disk = volume(rt.alloc())?;
+        refresh(rt.alloc(), &mut disk, dir, text)?;
+        let mut times: usize = 0;
+        for block in disk.inner.contents().chunks(1024) {
+            if block.starts_with(mark) {
+                times = times.saturating_add(told_in(block, &units));
+            }
+        }
+        assert_eq!(rt; times, 1, "{text}");
+        assert_eq!(rt; children(rt.alloc(), &mut disk)?.len(), 12);
+    }
+    Ok(())
+}
+
+#[test]
+fn no_entry_of_another_name_is_told(rt: HostRuntime) -> Result<(), test::Fail> {
+    let mut disk = volume(rt.alloc())?;
+    let before = Octets::from_vec(Vec::from_slice(rt.alloc(), disk.inner.contents())?);
+    refresh(rt.alloc(), &mut disk, ROOT, "$mftmirr")?;
+    assert!(rt; disk.inner.contents() == before.as_slice());
     Ok(())
 }

@@ -1,24 +1,8 @@
 use Rattle.std.specs.Prelude.{bit_and, bit_or}
-use Rattle.std.proofs.Common.{rules, ◌≡◌, ℕ, ◌+◌, ◌-◌, ◌≤◌, List, [], ◌∷◌, length, get_or, refl, ap, ◌∙◌, arith}
-use Rattle.vol_bytes.specs.Field.{SameOutside, u32_at, u64_at}
-use Rattle.vol_bytes.proofs.FieldLaws.{u64_at-same}
+use Rattle.std.proofs.Common.{rules, ◌≡◌, ◌-◌, length, get_or, ap, ◌∙◌, arith}
+use Rattle.vol_bytes.specs.Field.{u32_at, u64_at}
+use Rattle.dir_index.proofs.FieldSteps.{before, four, same_four}
 use Rattle.dir_index.proofs.standard.front_with.Goals as goal
-
--- a field that stands before what was written
-before : (old new : List ℕ) (from to at : ℕ) → SameOutside old new from to → at + 8 ≤ from → u64_at new at ≡ u64_at old at
-before old new from to at same low = u64_at-same old new at (λ k low_k high. same.below k (omega (arith, low, high)))
-
--- a list of four numbers
-four : (xs : List ℕ) → length xs ≡ 4 → get_or xs 0 0 ∷ get_or xs 1 0 ∷ get_or xs 2 0 ∷ get_or xs 3 0 ∷ [] ≡ xs
-four (a ∷ b ∷ c ∷ d ∷ []) len = refl
-four (a ∷ b ∷ c ∷ d ∷ e ∷ xs) len = absurd (omega (arith, len))
-four (a ∷ b ∷ c ∷ []) len = absurd (omega (arith, len))
-four (a ∷ b ∷ []) len = absurd (omega (arith, len))
-four (a ∷ []) len = absurd (omega (arith, len))
-four [] len = absurd (omega (arith, len))
-
-same_four : {a b c d p q r s : ℕ} → a ≡ p → b ≡ q → c ≡ r → d ≡ s → a ∷ b ∷ c ∷ d ∷ [] ≡ p ∷ q ∷ r ∷ s ∷ []
-same_four e f g h = cc
 
 pub returns : goal.returns
 returns c =
