@@ -69,7 +69,8 @@ fn flag_in<D: Disk>(mft: &Mft<'_, D>, block: &[u8; 1024]) -> Option<Flag>
 /// `Device` alone.
 pub fn find_flag<D: Disk>(mft: &mut Mft<'_, D>) -> Result<Option<Flag>, MftNo>
     requires mirror { IsMirrorInside (mounted_of D.Disk mft.old) }
-    ensures flag { IfOk result (λ found. IfSome found (λ flag. IsTrue (view D.Disk mft.old).told → IsFlagOf (view D.Disk mft.old) flag)) }
+    ensures flag { IfOk result (λ found. IfSome found (λ flag. IsTrue (view D.Disk mft.old).told
+        → IsFlagOf (view D.Disk mft.old) flag)) }
     ensures lies { IfOk result (λ found. IfSome found (LiesAt (D.size (disk_of D.Disk (stage_of D.Disk mft.old))))) }
     ensures some { IfOk result (λ found. IsTrue (view D.Disk mft.old).told → VOLUME < (view D.Disk mft.old).layout.count
         → IsApart (view D.Disk mft.old).layout → MeetsShape (view D.Disk mft.old) VOLUME

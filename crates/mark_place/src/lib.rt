@@ -6,5 +6,5 @@ mod laws;
 mod log;
 
 pub use flag::find_flag;
-pub use laws::log_laws;
+pub use laws::{log_laws, places_apart};
 pub use log::find_log;
