@@ -1,0 +1,4 @@
+pub mod Behind
+pub mod Blank
+pub mod InPlace
+pub mod Unnamed

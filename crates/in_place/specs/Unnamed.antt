@@ -1,0 +1,46 @@
+-- WHAT AN EDIT DOES NOT NAME, and a volume whose clusters lie apart.
+use Rattle.std.specs.Prelude.{◌≡◌, ℕ, ◌<◌, Bool, false, true, List, []}
+use Rattle.volume_def.specs.View.{VolumeView}
+use Rattle.volume_edits.specs.Owners.{HasOwners}
+use Rattle.edit_def.specs.Edited.{is_room_key}
+use Rattle.edit_def.specs.Kept.{Key, key_of}
+use Rattle.session_def.specs.Named.{is_index_kind}
+use Rattle.session_def.specs.Nodes.{edits_stream, flag_of, point_flag}
+use Rattle.tree_model.specs.Bill.{dropped_links}
+use Rattle.tree_model.specs.Effects.{makes_file}
+use Rattle.tree_model.specs.Subjects.{Located}
+use Rattle.tree_model.specs.Tree.{Tree}
+use Rattle.tree_model.specs.declared.command.Command.{Command}
+
+-- no attribute in which room is kept, nor an attribute list
+abbrev pub NamesNoRoom : (Key → Bool) → Type 0
+NamesNoRoom changed = (key : Key) → is_room_key key ≡ true → changed key ≡ false
+
+-- no attribute of file f, and none of this type in it
+abbrev pub NamesNoneOf : (Key → Bool) → ℕ → Type 0
+NamesNoneOf changed f = (kind : ℕ) (name : List ℕ) → changed (key_of f kind name) ≡ false
+
+abbrev pub NamesNoKind : (Key → Bool) → ℕ → ℕ → Type 0
+NamesNoKind changed f kind = (name : List ℕ) → changed (key_of f kind name) ≡ false
+
+-- no index of this name
+abbrev pub NamesNoIndex : (Key → Bool) → List ℕ → Type 0
+NamesNoIndex changed name = (f kind : ℕ) → is_index_kind kind ≡ true → changed (key_of f kind name) ≡ false
+
+-- No cluster has two owners, and the part that holds the table of records has no name.
+pub record LiesApart (view : VolumeView) : Type 0 where
+  pub owners : HasOwners view
+  pub some : 0 < view.layout.cluster_sectors
+  pub unnamed : owners.table.part.name ≡ []
+
+-- The command makes no file, changes no stream, drops no name, and neither sets nor takes a reparse point.
+pub record IsQuiet (before : Tree) (command : Command) (at : Located) : Type 0 where
+  pub makes : makes_file command ≡ false
+  pub streams : edits_stream command ≡ false
+  pub drops : dropped_links before command at ≡ []
+  pub points : (flag : ℕ) → point_flag command flag ≡ flag
+
+-- The DOS flags of file f that say what it has are as they were: 0x200, a sparse stream, and 0x400, a reparse point.
+pub record KeepsMarks (old new : VolumeView) (f : ℕ) : Type 0 where
+  pub sparse : flag_of 0x200 new f ≡ flag_of 0x200 old f
+  pub point : flag_of 0x400 new f ≡ flag_of 0x400 old f
