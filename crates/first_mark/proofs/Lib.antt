@@ -1,0 +1,6 @@
+pub mod LogStays
+pub mod MarkedBlocks
+pub mod VersionLaws
+pub mod MarkedVolume
+pub mod BehindLaws
+pub mod FinishedLaws
