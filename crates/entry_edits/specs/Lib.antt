@@ -1,0 +1,2 @@
+pub mod Refreshable
+pub mod Told
