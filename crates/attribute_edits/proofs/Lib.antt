@@ -1,0 +1,9 @@
+pub mod StandardSet
+pub mod StandardVolume
+pub mod ChainLaws
+pub mod NamedItems
+pub mod ItemLaws
+pub mod IndexDepths
+pub mod EntriesSet
+pub mod StandardFirst
+pub mod AttributesSet

@@ -1,0 +1,67 @@
+-- A file's times and DOS flags set: in its $STANDARD_INFORMATION, and in every entry that repeats them.
+use Rattle.std.specs.Prelude.{◌≡◌, ◌⊎◌, ◌==◌, ◌&&◌, ◌||◌, ◌≢◌, ℕ, Bool, List, [], ◌∷◌, Contains, Some, map}
+use Rattle.std.specs.Str.{bytes_eq}
+use Rattle.ntfs_def.specs.declared.kinds.TheConstants.{INDEX_ALLOCATION, INDEX_ROOT, STANDARD_INFORMATION}
+use Rattle.ntfs_def.specs.declared.records.TheConstants.{VOLUME}
+use Rattle.ntfs_def.specs.FileName.{FileName}
+use Rattle.ntfs_def.specs.Node.{Item}
+use Rattle.volume_def.specs.Files.{records_of}
+use Rattle.volume_def.specs.FileNames.{names_of}
+use Rattle.volume_def.specs.View.{VolumeView}
+use Rattle.volume_def.specs.Sound.{IsSound}
+use Rattle.tree_model.specs.Reading.{node_at}
+use Rattle.tree_model.specs.declared.tree.Node.{Node}
+use Rattle.edit_def.specs.Kept.{Key, either, key_of, same_key}
+use Rattle.session_def.specs.Kept.{file_in}
+use Rattle.session_def.specs.Named.{is_one_of}
+use Rattle.in_place.specs.Unnamed.{LiesApart}
+use Rattle.dir_index.specs.declared.entry.DuplicatedInformation.{DuplicatedInformation}
+use Rattle.dir_index.specs.Refreshed.{RefreshesEntry, RefreshesItem}
+use Rattle.dir_index.specs.Standard.{SetsStandard}
+use Rattle.entry_edits.specs.Refreshable.{index_name}
+use Rattle.entry_edits.specs.Told.{IsToldOf}
+
+-- ONE NAME AFTER ANOTHER was told anew.
+abbrev pub RefreshesNames : DuplicatedInformation → VolumeView → VolumeView → List FileName → Type 0
+RefreshesNames told old new [] = new ≡ old
+RefreshesNames told old new (name ∷ names) =
+    (mid : VolumeView) × RefreshesEntry old mid name.parent.number name.units told × RefreshesNames told mid new names
+
+-- THE FILE HAS THESE TIMES AND FLAGS: in its $STANDARD_INFORMATION, and in the entries of all of its names.
+pub record SetsAttributes (old new : VolumeView) (f : ℕ) (times : List ℕ) (flags : ℕ) : Type 0 where
+  pub mid : VolumeView
+  pub sets : SetsStandard old mid f times flags
+  pub told : DuplicatedInformation
+  pub shows : IsToldOf mid f told
+  pub refreshes : RefreshesNames told mid new (names_of (records_of mid) f)
+
+-- Entry by entry: the same, or one of file f that tells this anew.
+abbrev pub IsAsTold : DuplicatedInformation → ℕ → Item → Item → Type 0
+IsAsTold told f was now = (now ≡ was) ⊎ (RefreshesItem told was now × (file_in now ≡ f))
+
+abbrev pub AreRefreshed : DuplicatedInformation → ℕ → List Item → List Item → Type 0
+AreRefreshed told f [] [] = Unit {0}
+AreRefreshed told f (was ∷ olds) (now ∷ news) = IsAsTold told f was now × AreRefreshed told f olds news
+AreRefreshed told f [] (now ∷ news) = ⊥
+AreRefreshed told f (was ∷ olds) [] = ⊥
+
+-- the index of a directory that is among these: its root and its records
+abbrev pub is_told_key : List ℕ → Key → Bool
+is_told_key dirs key = ((key.kind == INDEX_ROOT) || (key.kind == INDEX_ALLOCATION)) &&
+    (bytes_eq key.name index_name && is_one_of dirs key.file)
+
+abbrev pub dirs_of : List FileName → List ℕ
+dirs_of names = map (λ name. name.parent.number) names
+
+-- WHERE THEY CAN BE SET: on a sound volume whose clusters lie apart, of a file that is shown as this node. Neither the file nor a directory in which
+-- it has a name is that of the volume's version, whose record the mark is written to.
+pub record CanSet (view : VolumeView) (f : ℕ) (node : Node) : Type 0 where
+  pub sound : IsSound view
+  pub apart : LiesApart view
+  pub there : node_at view f ≡ Some node
+  pub other : f ≢ VOLUME
+  pub elsewhere : (name : FileName) → Contains (names_of (records_of view) f) name → name.parent.number ≢ VOLUME
+
+-- the attributes that are rewritten
+abbrev pub is_set_key : VolumeView → ℕ → Key → Bool
+is_set_key view f = either (same_key (key_of f STANDARD_INFORMATION [])) (is_told_key (dirs_of (names_of (records_of view) f)))
