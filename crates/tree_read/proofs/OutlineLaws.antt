@@ -16,8 +16,9 @@ use Rattle.volume_def.specs.View.{VolumeView}
 use Rattle.list_laws.proofs.MemberLaws.{All-from_Contains}
 use Rattle.volume_def.proofs.ReadableLaws.{readable-part}
 use Rattle.file_record.specs.Base.{HasHeader}
-use Rattle.file_record.specs.Held.{attributes_held, parts_held}
+use Rattle.file_record.specs.Held.{AreParts, attributes_held, file_number, parts_held}
 use Rattle.file_record.specs.declared.base.BaseFile.{BaseFile}
+use Rattle.file_record.specs.declared.parts.FileParts.{FileParts}
 use Rattle.attr_view.specs.declared.record_mut.RecordHeader.{RecordHeader}
 use Rattle.attr_store.proofs.FirstLaws.{AreHeld, AreHeld-file}
 use Rattle.tree_model.specs.Reading.{link_for, links_to}
@@ -85,6 +86,16 @@ directory-held : (o : Option Record) (header : RecordHeader) (b : Bool) → b �
 directory-held None header b is h = absurd h
 directory-held (Some r) header b is h = is ∙ ap (λ n. n / 2 % 2 == 1) h.1.flags
 
+-- The parts of a file that are held tell its names.
+pub names-told : (view : VolumeView) (f : ℕ) (file : FileParts) → file_number file ≡ f → AreParts view file → IsSound view
+    → links_held file ≡ links_to view f
+unfolding names_of
+names-told view f file number are sound =
+    let all = are.parts ∙ ap (parts (records_of view)) number in
+    let right = All-from_Contains IsRightPart (parts (records_of view) f) (λ part. readable-part view f part (readable view sound)) in
+    ap (λ n. filter_map (attribute_link n) (attributes_held file)) number
+    ∙ links-held f (attributes_held file) (parts (records_of view) f) (subst (AreHeld (attributes_held file)) all (AreHeld-file file)) right
+
 -- A file that is held tells its names, whether it has a reparse point, and whether it is a directory.
 module _ (view : VolumeView) (f : ℕ) (held : BaseFile) (is : IsFileHeld view f held) where
   all-parts : parts_held held.parts ≡ parts (records_of view) f
@@ -94,11 +105,7 @@ module _ (view : VolumeView) (f : ℕ) (held : BaseFile) (is : IsFileHeld view f
   all-held = subst (AreHeld (attributes_held held.parts)) all-parts (AreHeld-file held.parts)
 
   pub links-told : IsSound view → links_held held.parts ≡ links_to view f
-  unfolding names_of
-  links-told sound =
-      let right = All-from_Contains IsRightPart (parts (records_of view) f) (λ part. readable-part view f part (readable view sound)) in
-      ap (λ n. filter_map (attribute_link n) (attributes_held held.parts)) is.number
-      ∙ links-held f (attributes_held held.parts) (parts (records_of view) f) all-held right
+  links-told = names-told view f held.parts is.number is.parts
 
   pub point-told : has_point_held held.parts ≡ list_any (is_of REPARSE_POINT []) (parts (records_of view) f)
   point-told = points-held (attributes_held held.parts) (parts (records_of view) f) all-held

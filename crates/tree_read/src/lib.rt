@@ -19,6 +19,8 @@ pub use above::Above;
 pub use below::{Below, load_below};
 pub use data::{find_plain, name_or, read_through};
 pub use load::load_file;
+pub use node::{Standard, read_standard};
+pub use outline::links_of;
 pub use room::df;
 pub use shown::{Shown, show_at};
 pub use standing::Standing;

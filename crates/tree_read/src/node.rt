@@ -96,16 +96,20 @@ fn security(value: &[u8]) -> u32
     u32_at(value, standard_information::SECURITY)
 }
 
-// What $STANDARD_INFORMATION tells: the four times, the flags that are shown, and the id of the security descriptor.
+/// What `$STANDARD_INFORMATION` tells.
 #[derive(Clone, Copy)]
-struct Standard {
-    times: [u64; 4],
-    flags: u16,
-    security: u32,
+pub struct Standard {
+    /// The four times: made, changed, record changed, read.
+    pub times: [u64; 4],
+    /// The DOS flags that are shown.
+    pub flags: u16,
+    /// The id of the security descriptor.
+    pub security: u32,
 }
 
+/// What the `$STANDARD_INFORMATION` of a file that is held tells.
 #[tactic(auto, using(std::proofs::lemmas::Nat::and_le_r))]
-fn read_standard(file: &FileParts) -> Standard
+pub fn read_standard(file: &FileParts) -> Standard
     ensures times { result.times ≡ standard_times (standard_of (parts_held file.now)) }
     ensures flags { result.flags ≡ standard_flags (standard_of (parts_held file.now)) }
     ensures security { result.security ≡ standard_security (standard_of (parts_held file.now)) }

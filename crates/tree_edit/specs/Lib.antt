@@ -1,0 +1,3 @@
+pub mod Duplicated
+pub mod Links
+pub mod Staged
