@@ -20,8 +20,8 @@ pub struct PlainMachine {
 }
 
 impl PlainMachine {
-    /// A command of a session: its reply, and the state after it. `None` for `time`, `open`, `hread` and `close`, which this machine
-    /// does not do. What is not built yet is refused, so the state stays.
+    /// A command of a session: its reply, and the state after it. `None` for `time`, `open`, `hread`, `close` and `setattr`, which this
+    /// machine does not do. What is not built yet is refused, so the state stays.
     pub fn step(
         &mut self,
         alloc: Global,
@@ -41,7 +41,7 @@ impl PlainMachine {
                 Err(refused) => Some(Reply::No(refused)),
             };
         }
-        if is_of_opens(command) {
+        if is_left_out(command) {
             return None;
         }
         Some(Reply::No(No::Unbuilt))
@@ -69,11 +69,15 @@ fn is_plain(command: &Command) -> bool
 }
 
 // All others that are built.
-fn is_of_opens(command: &Command) -> bool
+fn is_left_out(command: &Command) -> bool
     ensures { result ≡ (is_built command.now && not (is_plain command.now)) }
 {
     matches!(
         command,
-        Command::Time { .. } | Command::Open { .. } | Command::Hread { .. } | Command::Close { .. }
+        Command::Time { .. }
+            | Command::Open { .. }
+            | Command::Hread { .. }
+            | Command::Close { .. }
+            | Command::Setattr { .. }
     )
 }

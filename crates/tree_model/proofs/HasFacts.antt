@@ -20,7 +20,7 @@ use Rattle.volume_def.specs.Sound.{Indexes, IsSound}
 use Rattle.volume_def.specs.Values.{IsPlain, first_part, value_on}
 use Rattle.volume_def.specs.View.{VolumeView}
 use Rattle.tree_model.specs.Bill.{bill_of}
-use Rattle.tree_model.specs.Facts.{HasDescriptor, TellsDescriptor, TellsFacts, sds_parts}
+use Rattle.tree_model.specs.Facts.{HasDescriptor, TellsDescriptor, TellsFacts, is_whole_table, sds_parts}
 use Rattle.ntfs_def.specs.ViewData.{item_data}
 use Rattle.tree_model.specs.IndexRoom.{Index}
 use Rattle.tree_model.specs.NoRoom.{no_room_for}
@@ -158,6 +158,7 @@ has_facts view sound =
       free = unowned_clusters view;
       records = view.layout.count;
       free_records = unused_records view;
+      whole_table = is_whole_table view;
       in_use = λ n. is_some (record_on view n);
       descriptor = λ id. (descriptors id).0;
       no_room = λ m command at. no_room_for view (bill_of view m.tree command at);
@@ -168,6 +169,7 @@ has_facts view sound =
         free = refl;
         records = refl;
         free_records = refl;
+        whole_table = refl;
         in_use = λ n. refl;
         descriptors = λ id. (descriptors id).1;
         no_room = λ m command at. refl;

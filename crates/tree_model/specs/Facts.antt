@@ -1,6 +1,6 @@
 -- What an image says: its volume, its reading, and what it tells beside the tree.
 -- Layout: Linux-NTFS documentation, file $Secure; Carrier, File System Forensic Analysis, chapters 11 to 13.
-use Rattle.std.specs.Prelude.{◌≡◌, ℕ, ◌+◌, ◌/◌, ◌≤◌, List, Contains, codes, is_some, length}
+use Rattle.std.specs.Prelude.{◌≡◌, ◌==◌, ℕ, ◌+◌, ◌/◌, ◌%◌, ◌≤◌, Bool, List, Contains, codes, is_some, length}
 use Rattle.std.specs.Prelude.{slice_range, take, Option, Some, None}
 use Rattle.vol_bytes.specs.Field.{u32_at}
 use Rattle.vol_disk.specs.Contents.{sector_in}
@@ -8,6 +8,7 @@ use Rattle.ntfs_def.specs.Boot.{boot_sector}
 use Rattle.ntfs_def.specs.Node.{Item}
 use Rattle.ntfs_def.specs.Units.{wide}
 use Rattle.ntfs_def.specs.declared.kinds.TheConstants.{DATA}
+use Rattle.ntfs_def.specs.declared.lengths.TheConstants.{RECORD}
 use Rattle.ntfs_def.specs.declared.records.TheConstants.{SECURE}
 use Rattle.volume_def.specs.Values.{IsPlain}
 use Rattle.volume_def.specs.Files.{parts_at}
@@ -66,12 +67,17 @@ abbrev pub TellsDescriptor : VolumeView → ℕ → Option (List ℕ) → Type 0
 TellsDescriptor view id None = (bytes : List ℕ) → ¬ (HasDescriptor view id bytes)
 TellsDescriptor view id (Some bytes) = HasDescriptor view id bytes
 
+-- Each record of the table was written whole, or not at all.
+abbrev pub is_whole_table : VolumeView → Bool
+is_whole_table view = view.layout.initialized % RECORD == 0
+
 -- What a volume tells beside its tree. The refusal for room comes of the bill of the command.
 pub record TellsFacts (view : VolumeView) (facts : Facts) : Type 0 where
   pub clusters : facts.clusters ≡ view.layout.clusters
   pub free : facts.free ≡ unowned_clusters view
   pub records : facts.records ≡ view.layout.count
   pub free_records : facts.free_records ≡ unused_records view
+  pub whole_table : facts.whole_table ≡ is_whole_table view
   pub in_use : (n : ℕ) → facts.in_use n ≡ is_some (record_on view n)
   pub descriptors : (id : ℕ) → TellsDescriptor view id (facts.descriptor id)
   pub no_room : (m : Machine) (command : Command) (at : Located)

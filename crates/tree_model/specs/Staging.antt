@@ -1,15 +1,16 @@
 -- WHAT IS NOT BUILT YET, told here alone: Unbuilt and Linked. Once all is built this file goes out, with the places that name it:
--- `is_built` and `linked` in `Refusals`, and the two variants of the type `No`.
-use Rattle.std.specs.Prelude.{◌==◌, ◌&&◌, ◌||◌, Bool, true, false}
+-- `is_built`, `cannot_edit` and `linked` in `Refusals`, `whole_table` of `Facts`, and the two variants of the type `No`.
+use Rattle.std.specs.Prelude.{ℕ, ◌==◌, ◌&&◌, ◌||◌, ◌++◌, nat_lt, not, Bool, true, false}
 use Rattle.std.specs.List.{list_any}
 use Rattle.std.specs.Option.{option_map_or}
 use Rattle.ntfs_def.specs.declared.kinds.TheConstants.{OBJECT_ID}
 use Rattle.tree_model.specs.Cases.{has_point}
 use Rattle.tree_model.specs.Drops.{is_last_link}
 use Rattle.tree_model.specs.Subjects.{Located}
-use Rattle.tree_model.specs.Tree.{Tree}
+use Rattle.tree_model.specs.Tree.{Tree, leads_to}
 use Rattle.tree_model.specs.declared.command.Command.{Command}
 use Rattle.tree_model.specs.declared.command.Command.TheVariants as c
+use Rattle.tree_model.specs.declared.tree.Link.{Link}
 
 -- UNBUILT: all commands but these.
 abbrev pub is_built : Command → Bool
@@ -27,8 +28,18 @@ is_built c.Df = true
 is_built (c.Time now) = true
 is_built (c.Open path stream access share) = true
 is_built (c.Hread handle at len) = true
+is_built (c.Setattr path flags) = true
 is_built (c.Close handle) = true
 is_built other = false
+
+-- UNBUILT too: an edit where a part of a record was never written, so that what is written there is not read again; and one of a
+-- file that has a name in a record that `$MFTMirr` copies. (A shown file has none: of the root alone nothing forbids it.)
+abbrev pub stands_in_copied : Link → Bool
+stands_in_copied link = nat_lt link.parent 4
+
+abbrev pub cannot_edit : Bool → Tree → ℕ → Bool
+cannot_edit whole_table tree file =
+    not whole_table || list_any (λ (link : Link). leads_to file link && stands_in_copied link) (tree.links ++ tree.hidden)
 
 -- LINKED: a file would go that has a reparse point or an object id, for which view indexes have keys.
 abbrev pub has_object_id : Located → Bool

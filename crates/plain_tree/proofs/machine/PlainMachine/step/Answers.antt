@@ -9,7 +9,7 @@ pub returns-clause-step : goal.returns-clause-step
 returns-clause-step c all told =
     unbuilt-step all (machine_of c.args.self.now) c.args.session c.args.command.now
     (not-built (is_built c.args.command.now) (is_plain c.args.command.now) (sym c.is_plain.ensures ∙ c.if-is_plain.false)
-    (sym c.is_of_opens.ensures ∙ c.if-is_of_opens.false))
+    (sym c.is_left_out.ensures ∙ c.if-is_left_out.false))
 
 pub returns-in-Ok-clause-step : goal.returns-in-Ok-clause-step
 returns-in-Ok-clause-step c all told =
