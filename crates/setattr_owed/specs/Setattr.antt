@@ -70,6 +70,6 @@ pub record SetsInPlace (before next : State) (at : Located) (staged : VolumeView
   -- the first mark, and the volume that is settled
   pub first : MarksBehind staged next.view
   pub settled : IsSound next.view
-  -- the disk is as long, and few sectors were written: those of the record and its copy, and a node's of each name
+  -- the disk is as long, and few sectors were written: those of the mark, of the record and its copy, and a node's of each name
   pub long : length next.image ≡ length before.image
-  pub wrote : next.written ≤ before.written + first_cost before.view + 4 + 12 * links_of before.machine.tree at.file
+  pub wrote : next.written ≤ before.written + first_cost before.view + 6 + 12 * links_of before.machine.tree at.file
