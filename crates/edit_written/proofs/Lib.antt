@@ -1,0 +1,9 @@
+pub mod KeptRecords
+pub mod SameBytes
+pub mod BootStays
+pub mod FlagStays
+pub mod LogSpansStay
+pub mod BitsKept
+pub mod OnDisk
+pub mod AgreesLaws
+pub mod BehindLaws
