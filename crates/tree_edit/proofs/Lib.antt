@@ -4,3 +4,6 @@ pub mod StagedLaws
 pub mod ChainedLaws
 pub mod NamesLaws
 pub mod SetLaws
+mod WrittenRecords
+mod SettableLaws
+mod FoundLaws

@@ -1,3 +1,4 @@
 pub mod Duplicated
 pub mod Links
+pub mod Settable
 pub mod Staged

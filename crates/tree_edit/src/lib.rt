@@ -4,5 +4,7 @@
 mod attributes;
 mod duplicated;
 mod refresh;
+mod settable;
 
 pub use attributes::set_attributes;
+pub use settable::{Settable, find_settable};
