@@ -1,5 +1,5 @@
--- No command that is built is an edit.
-use Rattle.std.proofs.Common.{◌≡◌, ℕ, Bool, true, false, Ok, Err, refl}
+-- What is no edit that is built is no edit that is done.
+use Rattle.std.proofs.Common.{◌≡◌, ◌≢◌, ◌&&◌, ℕ, Bool, true, false, List, not, Ok, Err, refl}
 use Rattle.tree_model.specs.Refusals.{Facts, is_edit, outcome}
 use Rattle.session_def.specs.Session.{is_done_edit}
 use Rattle.tree_model.specs.Staging.{is_built}
@@ -11,51 +11,71 @@ use Rattle.tree_model.specs.declared.reply.No.TheVariants as no
 use Rattle.tree_model.specs.declared.reply.Reply.{Reply}
 use Rattle.tree_model.specs.declared.reply.Reply.TheVariants as reply
 
-pub built_reads : (command : Command) → is_built command ≡ true → is_edit command ≡ false
-built_reads (c.Ls path) e = refl
-built_reads (c.Stat path) e = refl
-built_reads (c.Links path) e = refl
-built_reads (c.Cat path stream) e = refl
-built_reads (c.Read path stream from len) e = refl
-built_reads (c.Streams path) e = refl
-built_reads (c.Attr path) e = refl
-built_reads (c.Sec path) e = refl
-built_reads (c.Reparse path) e = refl
-built_reads (c.Objid path) e = refl
-built_reads c.Df e = refl
-built_reads (c.Time now) e = refl
-built_reads (c.Create path) e = cc
-built_reads (c.Mkdir path) e = cc
-built_reads (c.Rm path) e = cc
-built_reads (c.Rmdir path) e = cc
-built_reads (c.Ln old new) e = cc
-built_reads (c.Mv old new) e = cc
-built_reads (c.Write path stream from bytes) e = cc
-built_reads (c.Truncate path stream size) e = cc
-built_reads (c.Punch path stream from len) e = cc
-built_reads (c.Rmstream path name) e = cc
-built_reads (c.Setattr path flags) e = cc
-built_reads (c.Setsec path id) e = cc
-built_reads (c.Sd id) e = cc
-built_reads (c.Mkreparse path tag bytes) e = cc
-built_reads (c.Rmreparse path) e = cc
-built_reads (c.Open path stream access share) e = refl
-built_reads (c.Hread handle from len) e = refl
-built_reads (c.Hwrite handle from bytes) e = cc
-built_reads (c.Close handle) e = refl
-
-moved_reads : (facts : Facts) (m : Machine) (session : ℕ) (command : Command) (next : Machine) (built : Bool)
-    → is_built command ≡ built → Moves facts m session command next → is_edit command ≡ false
+-- a command that is done is built
+moved-built : (facts : Facts) (m : Machine) (session : ℕ) (command : Command) (next : Machine)
+    → Moves facts m session command next → is_built command ≡ true
 unfolding outcome
-moved_reads facts m session command next true e x = built_reads command e
-moved_reads facts m session command next false e x =
-    let refused : outcome facts m session command ≡ Err no.Unbuilt = rw e refl in
-    let found = x.found in
-    cc
+moved-built facts m session command next x = by (is_built command) refl
+  where
+    by : (built : Bool) → is_built command ≡ built → is_built command ≡ true
+    by true e = e
+    by false e =
+        let refused : outcome facts m session command ≡ Err no.Unbuilt = rw e refl in
+        let found = x.found in
+        cc
+
+-- so one that is none of the edits that are built is no edit
+not-both : (edit built : Bool) → (edit && built) ≡ false → built ≡ true → edit ≡ false
+not-both false built none e = refl
+not-both true true none e = cc
+not-both true false none e = cc
 
 -- a step is no edit that was done
 pub no_edit : (facts : Facts) (m : Machine) (session : ℕ) (command : Command) (given : Reply) (next : Machine)
+    → (is_edit command && is_built command) ≡ false
     → Step facts m session command given next → is_done_edit (Ok (session, command)) given ≡ false
-no_edit facts m session command (reply.Ok answer) next x = moved_reads facts m session command next (is_built command) refl x.moved
-no_edit facts m session command (reply.No refused) next x = refl
-no_edit facts m session command reply.Device next x = refl
+no_edit facts m session command (reply.Ok answer) next plain x =
+    not-both (is_edit command) (is_built command) plain (moved-built facts m session command next x.moved)
+no_edit facts m session command (reply.No refused) next plain x = refl
+no_edit facts m session command reply.Device next plain x = refl
+
+-- what is built, but edits, and is no edit that is built, is not built
+pub neither : (edit built : Bool) → (built && not edit) ≡ false → (edit && built) ≡ false → built ≡ false
+neither false true reads edits = cc
+neither true true reads edits = cc
+neither edit false reads edits = refl
+
+-- `setattr` is the only edit that is built
+pub other-edit : (command : Command) → ((path : List (List ℕ)) (flags : ℕ) → command ≢ c.Setattr path flags)
+    → (is_edit command && is_built command) ≡ false
+other-edit (c.Ls path) apart = refl
+other-edit (c.Stat path) apart = refl
+other-edit (c.Links path) apart = refl
+other-edit (c.Cat path stream) apart = refl
+other-edit (c.Read path stream from len) apart = refl
+other-edit (c.Create path) apart = refl
+other-edit (c.Mkdir path) apart = refl
+other-edit (c.Rm path) apart = refl
+other-edit (c.Rmdir path) apart = refl
+other-edit (c.Ln path new) apart = refl
+other-edit (c.Mv path new) apart = refl
+other-edit (c.Write path stream from bytes) apart = refl
+other-edit (c.Truncate path stream from) apart = refl
+other-edit (c.Punch path stream from len) apart = refl
+other-edit (c.Streams path) apart = refl
+other-edit (c.Rmstream path from) apart = refl
+other-edit (c.Attr path) apart = refl
+other-edit (c.Sec path) apart = refl
+other-edit (c.Setsec path id) apart = refl
+other-edit (c.Sd id) apart = refl
+other-edit (c.Reparse path) apart = refl
+other-edit (c.Mkreparse path tag bytes) apart = refl
+other-edit (c.Rmreparse path) apart = refl
+other-edit (c.Objid path) apart = refl
+other-edit c.Df apart = refl
+other-edit (c.Open path stream access other) apart = refl
+other-edit (c.Hread other from len) apart = refl
+other-edit (c.Hwrite other from bytes) apart = refl
+other-edit (c.Close other) apart = refl
+other-edit (c.Time from) apart = refl
+other-edit (c.Setattr path flags) apart = absurd (apart path flags refl)

@@ -5,3 +5,12 @@ pub mod VolumeLaws
 pub mod EditLaws
 pub mod UnmarkedLaws
 pub mod EditedVolume
+pub mod StillLaws
+pub mod ImageLaws
+pub mod PlaceLaws
+pub mod SetattrDue
+pub mod SetVolume
+pub mod SetServes
+pub mod ReplyLaws
+pub mod FindLaws
+pub mod EndLaws

@@ -1,5 +1,6 @@
--- A command of none of the variants that are built is not built.
-use Rattle.std.proofs.Common.{◌≡◌, ◌≢◌, ℕ, List, false, Option, refl}
+-- A command of none of the variants that are built and edit nothing is not built, or edits.
+use Rattle.std.proofs.Common.{◌≡◌, ◌≢◌, ◌&&◌, ℕ, List, false, Option, not, refl}
+use Rattle.tree_model.specs.Refusals.{is_edit}
 use Rattle.tree_model.specs.Staging.{is_built}
 use Rattle.tree_model.specs.declared.command.Command.{Command}
 use Rattle.tree_model.specs.declared.opens.Access.{Access}
@@ -13,7 +14,8 @@ pub unbuilt : (command : Command) → command ≢ c.Df → ((path : List (List �
     → ((path : List (List ℕ)) → command ≢ c.Sec path) → ((path : List (List ℕ)) → command ≢ c.Reparse path)
     → ((path : List (List ℕ)) → command ≢ c.Objid path) → ((now : ℕ) → command ≢ c.Time now)
     → ((path : List (List ℕ)) (stream : Option (List ℕ)) (access share : Access) → command ≢ c.Open path stream access share)
-    → ((handle from len : ℕ) → command ≢ c.Hread handle from len) → ((handle : ℕ) → command ≢ c.Close handle) → is_built command ≡ false
+    → ((handle from len : ℕ) → command ≢ c.Hread handle from len) → ((handle : ℕ) → command ≢ c.Close handle)
+    → (is_built command && not (is_edit command)) ≡ false
 unbuilt c.Df df ls stat links cat read_ streams attr sec reparse objid time open_ hread close = absurd (df refl)
 unbuilt (c.Ls one) df ls stat links cat read_ streams attr sec reparse objid time open_ hread close = absurd (ls one refl)
 unbuilt (c.Stat one) df ls stat links cat read_ streams attr sec reparse objid time open_ hread close = absurd (stat one refl)

@@ -1,21 +1,25 @@
 -- A volume behind calls that only read, and one that was just taken into use.
-use Rattle.std.proofs.Common.{◌≡◌, ◌≢◌, ◌||◌, ℕ, Bool, true, false, List, [], Option, Some, None, Result, Ok, Err, refl, sym, ap, subst, ◌∙◌, arith, le_refl}
+use Rattle.std.proofs.Common.{◌≡◌, ◌≢◌, ◌||◌, ℕ, Bool, true, false, List, [], Option, Some, None, Result, Ok, Err, refl, sym, ap, subst}
+use Rattle.std.proofs.Common.{◌∙◌, arith, le_refl}
 use Rattle.std.specs.Prelude.{IfSome, IsTrue, is_some}
 use Rattle.vol_disk.specs.declared.Disk.{Ghosts}
-use Rattle.volume_def.specs.Sound.{HoldBelow, IsSound, Attributes, CaseTable, ClusterBits, Extents, Indexes, Limits, Links, Lists, Mirror, MirrorPlace, Owners, RecordBits, References, Shape, Version}
+use Rattle.volume_def.specs.Sound.{HoldBelow, IsSound, Attributes, CaseTable, ClusterBits, Extents, Indexes, Limits, Links, Lists, Mirror}
+use Rattle.volume_def.specs.Sound.{MirrorPlace, Owners, RecordBits, References, Shape, Version}
 use Rattle.volume_def.specs.View.{VolumeView, view_of}
 use Rattle.mft_table.specs.declared.mft.Mft.{Mft}
 use Rattle.mft_table.specs.declared.mounted.Mounted.{Mounted}
 use Rattle.mft_table.specs.MirrorClusters.{IsMirrorInside}
 use Rattle.mft_table.specs.HeldTables.{HoldsTables, volume_in}
 use Rattle.file_record.proofs.ReadLaws.{view-kept}
-use Rattle.mft_table.specs.Mft.{MftReads, mounted_of, stage_of, view}
+use Rattle.tree_ops.proofs.StillLaws.{still-can, still-told, still-view}
+use Rattle.tree_ops.specs.Edits.{CanEdit, MftStill}
+use Rattle.mft_table.specs.Mft.{MftReads, committed_of, mounted_of, stage_of, view}
 use Rattle.mft_table.specs.Mounted.{mounted_layout}
 use Rattle.vol_disk.specs.Contents.{WhereTold, sector_in}
 use Rattle.vol_stage.specs.declared.stage.Stage.{Stage}
-use Rattle.vol_stage.specs.Staged.{disk_of, image, is_broken, places}
+use Rattle.vol_stage.specs.Staged.{GoesOn, disk_of, image, is_broken, places}
 use Rattle.mft_table.specs.InUse.{IsInUse, IsSoundVolume}
-use Rattle.tree_model.specs.Facts.{TellsFacts}
+use Rattle.tree_model.specs.Facts.{IsVolumeOf, TellsFacts}
 use Rattle.tree_model.specs.Reading.{read}
 use Rattle.tree_model.specs.Refusals.{Facts}
 use Rattle.tree_model.proofs.HasFacts.{has_facts}
@@ -32,28 +36,29 @@ use Rattle.tree_model.specs.declared.reply.Answer.{Answer}
 use Rattle.tree_model.specs.declared.reply.Reply.{Reply}
 use Rattle.tree_model.specs.declared.reply.Reply.TheVariants as reply
 use Rattle.tree_ops.specs.Runs.{Applied, Failed, Ready, machine_under}
-use Rattle.tree_ops.specs.Serves.{HasMark, Serves}
-use Rattle.tree_ops.specs.Volumes.{VolumeReads, VolumeStill, disk_under, mark_of, moment_of, opens_of, view_under}
-use Rattle.tree_ops.proofs.EditLaws.{no_edit}
+use Rattle.tree_ops.specs.Serves.{Serves}
+use Rattle.tree_ops.specs.Volumes.{VolumeGoesOn, VolumeReads, VolumeStill, disk_under, mark_of, moment_of, opens_of, view_under}
+use Rattle.session_def.specs.Session.{is_done_edit}
 use Rattle.tree_read.specs.Standings.{IsStanding}
-use Rattle.tree_read.proofs.GivesLaws.{in-use-kept, told-kept}
 use Rattle.tree_read.specs.declared.stop.Stop.{Stop}
 use Rattle.tree_read.specs.declared.stop.Stop.TheVariants as stop
 use Rattle.tree_ops.specs.Wanted.{Does, machine_on}
 use Rattle.tree_ops.specs.declared.volume.Volume.{Volume}
 
-module _ {D : Type 0} (g : Ghosts D) (old new : Volume D g) (n : ℕ) (reads : MftReads g old.mft new.mft n)
-    (mark : new.mark ≡ old.mark) where
-  pub volume-still : VolumeStill g old new
-  volume-still =
-      let only = reads.stage.only_reads in
-      record {
-        now = only.now;
-        fenced = only.fenced;
-        written = only.written;
-        view = view-kept g old.mft new.mft n reads;
-        mark = mark;
-      }
+pub volume-still : {D : Type 0} (g : Ghosts D) (old new : Volume D g) → MftStill g old.mft new.mft → new.mark ≡ old.mark
+    → VolumeStill g old new
+volume-still g old new still mark = record {
+  now = still.keeps.now;
+  fenced = still.keeps.fenced;
+  written = still.keeps.written;
+  view = still-view g old.mft new.mft still;
+  mark = mark;
+}
+
+pub volume-goes : {D : Type 0} (g : Ghosts D) (old new : Volume D g) → GoesOn g (stage_of g old.mft) (stage_of g new.mft)
+    → VolumeGoesOn g old new
+volume-goes g old new goes =
+    record { same_reference = goes.same_reference; size = goes.size; faults = goes.faults; on_time = goes.on_time }
 
 module _ {D : Type 0} (g : Ghosts D) (old new : Volume D g) (n : ℕ) (reads : MftReads g old.mft new.mft n)
     (mark : new.mark ≡ old.mark) (opens : new.opens ≡ old.opens) (moment : new.moment ≡ old.moment) where
@@ -99,11 +104,11 @@ mark-stays first before m None x = x
 mark-stays first before m (Some flag) x = record { of_first = x.of_first; here = x.here; set = x.set; log = x.log }
 
 pub applied-still : {D : Type 0} (g : Ghosts D) (first : VolumeView) (old new : Volume D g) (before : State) (session : ℕ)
-    (command : Command) (given : Reply) → VolumeStill g old new → Ready g first old before
-    → (IsTrue (view_under g old).told → (facts : Facts) → TellsFacts (view_under g old) facts
+    (command : Command) (given : Reply) → is_done_edit (Ok (session, command)) given ≡ false → VolumeStill g old new
+    → Ready g first old before → (IsTrue (view_under g old).told → (facts : Facts) → TellsFacts (view_under g old) facts
     → Step facts (machine_under g old) session command given (machine_on (view_under g old) (opens_of g new) (moment_of g new)))
     → Applied g first before session command given new
-applied-still g first old new before session command given still r steps =
+applied-still g first old new before session command given none still r steps =
     let f = has_facts before.view r.stands.sound in
     let told : IsTrue (view_under g old).told =
     ap (λ (v : VolumeView). v.told) r.view ∙ ap (λ (v : VolumeView). v.told) r.stands.volume.is in
@@ -122,7 +127,7 @@ applied-still g first old new before session command given still r steps =
         step = step;
         stands = stands;
         same = λ e. record { image = refl; written = refl };
-        edited = λ e. let none = no_edit f.0 before.machine session command given (machine_under g new) step in cc;
+        edited = λ e. cc;
       };
       ready = record {
         now = still.now ∙ r.now;
@@ -135,10 +140,11 @@ applied-still g first old new before session command given still r steps =
     }
 
 pub failed-still : {D : Type 0} (g : Ghosts D) (first : VolumeView) (old new : Volume D g) (before : State) (session : ℕ)
-    (command : Command) → VolumeStill g old new → Ready g first old before → Failed g first before session command new
+    (command : Command) → g.now (disk_under g new) ≡ g.now (disk_under g old) → Ready g first old before
+    → Failed g first before session command new
 failed-still g first old new before session command still r = record {
-  harmed = harmed_at first before (mark_of g old) (g.now (disk_under g new)) r.mark r.stands (still.now ∙ r.now);
-  same = λ facts told none. still.now ∙ r.now;
+  harmed = harmed_at first before (mark_of g old) (g.now (disk_under g new)) r.mark r.stands (still ∙ r.now);
+  same = λ facts told none. still ∙ r.now;
 }
 
 -- THE OPENS behind a command that was done, or refused.
@@ -151,38 +157,25 @@ pub held-behind : {D : Type 0} (g : Ghosts D) (old new : Volume D g) (session : 
 held-behind g old new session command result view in_use held does answered told =
     let before : IsTrue (view_under g old).told = subst (λ (v : VolumeView). IsTrue v.told) view told in
     let f = has_facts (view_under g old) (in_use before).sound in
-    subst (λ v. HoldsOpens (machine_on v (opens_of g new) (moment_of g new))) (sym view) (by f.0 result answered (held before) (does f.0 before f.1))
+    subst (λ v. HoldsOpens (machine_on v (opens_of g new) (moment_of g new))) (sym view)
+    (by f.0 result answered (held before) (does f.0 before f.1))
   where
     by : (facts : Facts) (result : Result Answer Stop) → result ≢ Err stop.Device → HoldsOpens (machine_under g old)
         → Does facts (machine_under g old) session command result (machine_on (view_under g old) (opens_of g new) (moment_of g new))
         → HoldsOpens (machine_on (view_under g old) (opens_of g new) (moment_of g new))
     by facts (Ok answer) answered held does = held-step facts (machine_under g old) session command (reply.Ok answer) _ held does
-    by facts (Err (stop.No refused)) answered held does = held-step facts (machine_under g old) session command (reply.No refused) _ held does
+    by facts (Err (stop.No refused)) answered held does =
+        held-step facts (machine_under g old) session command (reply.No refused) _ held does
     by facts (Err stop.Device) answered held does = absurd (answered refl)
 
--- A volume that serves does so behind a command that only read.
--- the mark stands where it stood, on a disk that holds what it held
-pub marked-kept : {D : Type 0} (g : Ghosts D) (old new : Volume D g) → new.mark ≡ old.mark
-    → g.size (disk_under g new) ≡ g.size (disk_under g old) → g.now (disk_under g new) ≡ g.now (disk_under g old)
-    → IfSome (mark_of g old) (HasMark (g.size (disk_under g old)) (g.now (disk_under g old)))
-    → IfSome (mark_of g new) (HasMark (g.size (disk_under g new)) (g.now (disk_under g new)))
-marked-kept g old new mark size now h =
-    subst (λ o. IfSome o (HasMark (g.size (disk_under g new)) (g.now (disk_under g new)))) (sym mark)
-    (subst (λ n. IfSome old.mark (HasMark n (g.now (disk_under g new)))) (sym size)
-    (subst (λ o. IfSome old.mark (HasMark (g.size (disk_under g old)) o)) (sym now) h))
-
-pub serves-behind : {D : Type 0} (g : Ghosts D) (old new : Volume D g) (n : ℕ) (reads : MftReads g old.mft new.mft n) → new.mark ≡ old.mark
+-- A volume that serves does so behind a command that wrote nothing.
+pub serves-behind : {D : Type 0} (g : Ghosts D) (old new : Volume D g) (still : MftStill g old.mft new.mft) → new.mark ≡ old.mark
     → Serves g old → (IsTrue (view_under g old).told → IfSome new.last (IsStanding (view_under g old)))
     → (IsTrue (view_under g new).told → HoldsOpens (machine_under g new)) → Serves g new
-serves-behind g old new n reads mark s last held = record {
-  in_use = in-use-kept reads s.in_use;
-  last = told-kept (λ v. IfSome new.last (IsStanding v)) reads last;
+serves-behind g old new still mark s last held = record {
+  can = subst (CanEdit g new.mft) (sym mark) (still-can g old.mft new.mft still (mark_of g old) s.can);
+  last = still-told g old.mft new.mft still (λ v. IfSome new.last (IsStanding v)) last;
   held = held;
-  mirror = subst IsMirrorInside (sym reads.mounted) s.mirror;
-  tells = reads.stage.only_reads.image ∙ s.tells ∙ sym reads.stage.only_reads.now;
-  whole = reads.stage.only_reads.broken ∙ s.whole;
-  plain = reads.stage.only_reads.places ∙ s.plain;
-  marked = marked-kept g old new mark reads.stage.goes_on.size reads.stage.only_reads.now s.marked;
 }
 
 -- behind a command that is no edit the volume is marked where it was
@@ -223,20 +216,39 @@ module _ {D : Type 0} (g : Ghosts D) (mft : Mft D g) (mounted : Mounted) (kept :
       (subst (λ (m : Mounted). IsSoundVolume (volume_in all mounted) m) (sym kept)
       (record { sound = all-clauses (volume_in all mounted) tables.clauses; stored = tables.values }))
 
+  bytes-new : (o : Option (List ℕ)) → image g (stage_of g mft) ≡ o → WhereTold o (λ all. HoldsTables 15 all mounted)
+      → WhereTold (image g (stage_of g mft)) (λ all. IsVolumeOf all (view g mft))
+  bytes-new o e holds all is =
+      let here : o ≡ Some all = sym e ∙ is in
+      let tables = holds all here in
+      record {
+        layout = mounted_layout mounted;
+        has = record { boot_clause = tables.table.boot; table_clause = tables.table.clause };
+        is = view-new (Some all) is;
+      }
+
 pub new-serves : {D : Type 0} (g : Ghosts D) (volume : Volume D g) (stage : Stage D g) (mounted : Mounted) (disk : D)
-    → stage_of g volume.mft ≡ stage → mounted_of g volume.mft ≡ mounted → disk_of g stage ≡ disk → image g stage ≡ g.now disk
+    → stage_of g volume.mft ≡ stage → mounted_of g volume.mft ≡ mounted → committed_of g volume.mft ≡ mounted → disk_of g stage ≡ disk
+    → image g stage ≡ g.now disk
     → places g stage ≡ [] → is_broken g stage ≡ false → WhereTold (g.now disk) (λ all. HoldsTables 15 all mounted) → volume.last ≡ None
     → volume.opens ≡ []
     → IsMirrorInside mounted → volume.mark ≡ None → Serves g volume
-new-serves g volume stage mounted disk same kept under shown plain whole holds none empty inside unmarked =
+new-serves g volume stage mounted disk same kept committed under shown plain whole holds none empty inside unmarked =
     let seen : image g (stage_of g volume.mft) ≡ g.now disk = ap (image g) same ∙ shown in
     record {
-      in_use = in_use-new g volume.mft mounted kept (g.now disk) seen holds;
+      can = subst (CanEdit g volume.mft) (sym unmarked) (record {
+        in_use = in_use-new g volume.mft mounted kept (g.now disk) seen holds;
+        bytes = bytes-new g volume.mft mounted kept (g.now disk) seen holds;
+        mirror = subst IsMirrorInside (sym kept) inside;
+        clear = record {
+          tells = seen ∙ sym (ap (λ s. g.now (disk_of g s)) same ∙ ap g.now under);
+          whole = ap (is_broken g) same ∙ whole;
+          plain = ap (places g) same ∙ plain;
+          tables = committed ∙ sym kept;
+        };
+        marked = tt;
+        flag = tt;
+      });
       last = λ told. subst (λ o. IfSome o (IsStanding (view g volume.mft))) (sym none) tt;
       held = λ told. held-none (machine_under g volume) empty;
-      mirror = subst IsMirrorInside (sym kept) inside;
-      tells = seen ∙ sym (ap (λ s. g.now (disk_of g s)) same ∙ ap g.now under);
-      whole = ap (is_broken g) same ∙ whole;
-      plain = ap (places g) same ∙ plain;
-      marked = subst (λ o. IfSome o (HasMark (g.size (disk_under g volume)) (g.now (disk_under g volume)))) (sym unmarked) tt;
     }

@@ -1,4 +1,6 @@
 pub mod Wanted
+pub mod Edits
 pub mod Volumes
 pub mod Runs
 pub mod Serves
+pub mod Replies

@@ -2,7 +2,7 @@
 use Rattle.std.specs.Prelude.{◌≡◌, ◌≤◌, ℕ, List, Option}
 use Rattle.std.specs.Borrow.{GName}
 use Rattle.vol_disk.specs.declared.Disk.{Ghosts}
-use Rattle.vol_stage.specs.Staged.{disk_of, image, reference_of}
+use Rattle.vol_stage.specs.Staged.{disk_of, reference_of}
 use Rattle.volume_def.specs.View.{VolumeView}
 use Rattle.mft_table.specs.Mft.{stage_of, view}
 use Rattle.mark_write.specs.declared.flag.Flag.{Flag}
@@ -59,7 +59,3 @@ pub record VolumeStill {D : Type 0} (g : Ghosts D) (old new : Volume D g) : Type
   pub written : g.written (disk_under g new) ≡ g.written (disk_under g old)
   pub view : view_under g new ≡ view_under g old
   pub mark : mark_of g new ≡ mark_of g old
-
--- What the volume tells is what its disk tells: nothing is staged between commands.
-abbrev pub TellsDisk : {D : Type 0} (g : Ghosts D) → Volume D g → Type 0
-TellsDisk g volume = image g (stage_of g volume.mft) ≡ g.now (disk_under g volume)

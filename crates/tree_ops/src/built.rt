@@ -1,5 +1,5 @@
-//! Which commands are built.
-ghost use Rattle.std.specs.Prelude.{◌≡◌, None, IfSome, false};
+//! Which commands are built that edit nothing.
+ghost use Rattle.std.specs.Prelude.{◌≡◌, ◌&&◌, None, IfSome, false, not};
 ghost use Rattle.tree_model.specs.Refusals.{is_edit};
 ghost use Rattle.tree_model.specs.Staging.{is_built};
 ghost use Rattle.tree_ops.specs.Wanted.{command_by};
@@ -34,10 +34,11 @@ pub enum Built<'c> {
 }
 
 impl<'c> Built<'c> {
-    /// How a command is done, `None` where it is not built. No other place says which are. None of them edits.
+    /// How a command is done that is no edit, `None` where it is not built. `Edit::of` has those that edit; no other place says which are
+    /// built.
     pub fn of(command: &'c Command) -> Option<Built<'c>>
         ensures is { IfSome result (λ built. command.now ≡ command_by built) }
-        ensures none { result ≡ None → is_built command.now ≡ false }
+        ensures none { result ≡ None → (is_built command.now && not (is_edit command.now)) ≡ false }
         ensures reads { IfSome result (λ _. is_edit command.now ≡ false) }
     {
         match command {

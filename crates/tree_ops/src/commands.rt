@@ -1,9 +1,10 @@
 //! A command is done.
-ghost use Rattle.std.specs.Prelude.{◌≡◌, ℕ, IfSome, IsTrue, OnErr, OnOk, false};
+ghost use Rattle.std.specs.Prelude.{◌≡◌, ◌&&◌, ℕ, IfSome, IsTrue, OnErr, OnOk, false};
 ghost use Rattle.mft_table.specs.Mft.{MftReads, faults_of, view};
 ghost use Rattle.share_table.specs.Held.{HoldsOpens};
 ghost use Rattle.tree_model.specs.Facts.{TellsFacts};
 ghost use Rattle.tree_model.specs.Refusals.{Facts, is_edit};
+ghost use Rattle.tree_model.specs.Staging.{is_built};
 ghost use Rattle.tree_read.specs.Answered.{Counts};
 ghost use Rattle.tree_read.specs.Standings.{IsStanding};
 ghost use Rattle.tree_ops.specs.Wanted.{Does, machine_on};
@@ -18,8 +19,8 @@ use tree_model::{Answer, Command, No};
 use tree_read::{Standing, Stop, df, show_at};
 use vol_disk::Disk;
 
-/// The answer to a command of a session, or the refusal that is due, and what it leaves of the opens and of the moment. `last` is the
-/// directory in which the last path ended, before the command and behind it.
+/// The answer to a command of a session that is no edit that is built, or the refusal that is due, and what it leaves of the opens and of
+/// the moment. `last` is the directory in which the last path ended, before the command and behind it.
 pub fn answer<D: Disk>(
     alloc: Global,
     mft: &mut Mft<'_, D>,
@@ -32,6 +33,7 @@ pub fn answer<D: Disk>(
     requires volume { IsInUse D.Disk mft.old }
     requires last { IsTrue (view D.Disk mft.old).told → IfSome last.old (IsStanding (view D.Disk mft.old)) }
     requires held { IsTrue (view D.Disk mft.old).told → HoldsOpens (machine_on (view D.Disk mft.old) opens.old moment.old) }
+    requires plain { (is_edit command.now && is_built command.now) ≡ false }
     ensures reads { (reads : ℕ) × MftReads D.Disk mft.old mft.new reads }
     ensures counts { Counts result (faults_of D.Disk mft.old) (faults_of D.Disk mft.new) }
     ensures does { (facts : Facts) → IsTrue (view D.Disk mft.old).told → TellsFacts (view D.Disk mft.old) facts

@@ -4,7 +4,9 @@
 mod built;
 mod close;
 mod commands;
+mod edit;
 mod handles;
+mod place;
 mod volume;
 
 pub use close::CloseNo;

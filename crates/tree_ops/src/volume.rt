@@ -1,5 +1,5 @@
 //! A volume in use, and what is done with it.
-ghost use Rattle.std.specs.Prelude.{◌≡◌, ◌≢◌, ◌||◌, ◌+◌, ◌<◌, ◌≤◌, IsOk, None, Ok, [], OnErr, OnOk, Some, false, is_some};
+ghost use Rattle.std.specs.Prelude.{◌≡◌, ◌≢◌, ◌&&◌, ◌||◌, ◌+◌, ◌<◌, ◌≤◌, IsOk, None, Ok, [], OnErr, OnOk, Some, bit_and, false, is_some};
 ghost use Rattle.vol_disk.specs.Contents.{WhereTold, settled_more};
 ghost use Rattle.vol_disk.specs.Count.{CountsFault, Rose};
 ghost use Rattle.volume_def.specs.VersionClause.{IsClean};
@@ -12,15 +12,21 @@ ghost use Rattle.mft_table.specs.InUse.{IsInUse};
 ghost use Rattle.session_def.specs.Session.{is_done_edit};
 ghost use Rattle.session_def.specs.State.{State};
 ghost use Rattle.volume_mark.specs.Mark.{IsHarmed};
+ghost use Rattle.tree_model.specs.Refusals.{is_edit};
+ghost use Rattle.tree_model.specs.Staging.{is_built};
+ghost use Rattle.tree_model.specs.declared.command.Command.TheVariants as command_is;
 ghost use Rattle.tree_model.specs.declared.reply.Reply.TheVariants as reply_is;
+ghost use Rattle.tree_model.specs.declared.tree.TheConstants.{SHOWN_FLAGS};
+ghost use Rattle.tree_ops.specs.Edits.{SetsShown, command_of};
 
 use crate::close::CloseNo;
 use crate::commands::answer;
+use crate::edit::{Edit, set_flags};
 use mark_write::Flag;
 use mft_table::{Mft, Mounted};
 use share_table::Opens;
 use std::alloc::Global;
-use tree_model::{Command, Reply};
+use tree_model::{Answer, Command, Path, Reply};
 use tree_read::{Standing, Stop};
 use vol_disk::Disk;
 use vol_stage::Stage;
@@ -30,7 +36,7 @@ pub struct Volume<'d, D: Disk> {
     alloc: Global,
     mft: Mft<'d, D>,
     /// The directory in which the last path ended, where one is remembered: a path in the same directory begins there. A command that
-    /// edits is to forget it first.
+    /// edits forgets it.
     last: Option<Standing>,
     /// The opens of all sessions.
     opens: Opens,
@@ -90,6 +96,60 @@ impl<D: Disk> Volume<'_, D> {
     ghost use Rattle.tree_ops.specs.Volumes.{VolumeGoesOn, VolumeReads, VolumeStill, disk_under, mark_of};
     ghost use Rattle.tree_ops.specs.Serves.{Serves};
     ghost use Rattle.tree_ops.specs.Runs.{Applied, Closed, Failed, Ready};
+    ghost use Rattle.tree_ops.specs.Replies.{Replies};
+
+    // `setattr`
+    fn set(&mut self, session: u8, path: &Path, flags: u16) -> Reply
+        requires serves { Serves D.Disk self.old }
+        requires shown { bit_and flags SHOWN_FLAGS ≡ flags }
+        ensures { Replies D.Disk self.old self.new session (command_is.Setattr path.now flags) result }
+    {
+        match set_flags(
+            self.alloc,
+            &mut self.mft,
+            &mut self.last,
+            &mut self.mark,
+            self.moment,
+            path,
+            flags,
+        ) {
+            Ok(()) => Reply::Ok(Answer::Done),
+            Err(Stop::No(refused)) => Reply::No(refused),
+            Err(Stop::Device) => Reply::Device,
+        }
+    }
+
+    // An edit is done.
+    fn edit(&mut self, session: u8, edit: Edit<'_>) -> Reply
+        requires serves { Serves D.Disk self.old }
+        requires shown { SetsShown (command_of edit) }
+        ensures { Replies D.Disk self.old self.new session (command_of edit.entry) result }
+    {
+        match edit {
+            Edit::Setattr { path, flags } => self.set(session, path, flags),
+        }
+    }
+
+    // Any other command is done, or refused.
+    fn other(&mut self, session: u8, command: &Command) -> Reply
+        requires serves { Serves D.Disk self.old }
+        requires plain { (is_edit command.now && is_built command.now) ≡ false }
+        ensures { Replies D.Disk self.old self.new session command.now result }
+    {
+        match answer(
+            self.alloc,
+            &mut self.mft,
+            &mut self.last,
+            &mut self.opens,
+            &mut self.moment,
+            session,
+            command,
+        ) {
+            Ok(shown) => Reply::Ok(shown),
+            Err(Stop::No(refused)) => Reply::No(refused),
+            Err(Stop::Device) => Reply::Device,
+        }
+    }
 
     /// Does a command of a session and gives its reply, `Device` where the disk failed. It does not settle the disk.
     ///
@@ -98,6 +158,7 @@ impl<D: Disk> Volume<'_, D> {
     /// marked, or whole (`failed`).
     pub fn apply(&mut self, session: u8, command: &Command) -> Reply
         requires serves { Serves D.Disk self.old }
+        requires shown { SetsShown command.now }
         ensures serves { result ≢ reply_is.Device → Serves D.Disk self.new }
         ensures goes_on { VolumeGoesOn D.Disk self.old self.new }
         ensures settled { D.settled (disk_under D.Disk self.new) ≡ D.settled (disk_under D.Disk self.old) }
@@ -113,18 +174,9 @@ impl<D: Disk> Volume<'_, D> {
         ensures device { result ≡ reply_is.Device
             → Rose (D.faults (disk_under D.Disk self.old)) (D.faults (disk_under D.Disk self.new)) }
     {
-        match answer(
-            self.alloc,
-            &mut self.mft,
-            &mut self.last,
-            &mut self.opens,
-            &mut self.moment,
-            session,
-            command,
-        ) {
-            Ok(shown) => Reply::Ok(shown),
-            Err(Stop::No(refused)) => Reply::No(refused),
-            Err(Stop::Device) => Reply::Device,
+        match Edit::of(command) {
+            Some(edit) => self.edit(session, edit),
+            None => self.other(session, command),
         }
     }
 

@@ -1,18 +1,21 @@
 use Rattle.std.proofs.Common.{subst, sym, ap, ◌∙◌}
 use Rattle.mft_table.specs.Mft.{mounted_of, view}
+use Rattle.tree_model.specs.Refusals.{is_edit}
+use Rattle.tree_model.specs.Staging.{is_built}
 use Rattle.tree_model.specs.Step.{Step}
 use Rattle.tree_model.specs.declared.reply.Answer.TheVariants as a
 use Rattle.tree_model.specs.declared.reply.Reply.TheVariants as reply
 use Rattle.tree_model.proofs.MachineLaws.{unbuilt-step}
 use Rattle.tree_read.proofs.RoomLaws.{df-answer}
 use Rattle.tree_ops.specs.Wanted.{Does, command_by, machine_on}
+use Rattle.tree_ops.proofs.EditLaws.{neither}
 use Rattle.tree_ops.proofs.SessionLaws.{close-does, df-does, hread-does, open-does, shown-does, time-step}
 use Rattle.tree_ops.proofs.commands.answer.Goals as goal
 
 pub returns-in-None-clause-does : goal.returns-in-None-clause-does
 returns-in-None-clause-does g c facts told tells =
     unbuilt-step facts (machine_on (view g.D.Disk c.args.mft.now) c.args.opens.now c.args.moment.now) c.args.session c.args.command.now
-    (c.of.ensures.none c.in-None.is)
+    (neither (is_edit c.args.command.now) (is_built c.args.command.now) (c.of.ensures.none c.in-None.is) c.requires.plain)
 
 pub returns-in-Some-Df-clause-does : goal.returns-in-Some-Df-clause-does
 returns-in-Some-Df-clause-does g c facts told tells =

@@ -1,0 +1,185 @@
+-- WHERE THE MARK AND THE LOG LIE of a volume that can be edited, and what is staged apart from them.
+use Rattle.std.proofs.Common.{◌≡◌, ◌≢◌, ◌⊎◌, ◌≤◌, ◌+◌, ℕ, true, List, [], Option, Some, None, refl, sym, ap}
+use Rattle.std.proofs.Common.{subst, ◌∙◌, inl, inr, arith}
+use Rattle.std.specs.Prelude.{◌*◌, All, Contains, IsTrue, codes, is_some}
+use Rattle.vol_disk.specs.Contents.{IsTold, sector_in}
+use Rattle.vol_disk.specs.declared.Disk.{Ghosts}
+use Rattle.vol_stage.specs.Staged.{disk_of, image, places}
+use Rattle.ntfs_def.specs.FileName.{FileName}
+use Rattle.ntfs_def.specs.Units.{wide}
+use Rattle.ntfs_def.specs.declared.kinds.TheConstants.{DATA, INDEX_ALLOCATION}
+use Rattle.ntfs_def.specs.declared.lengths.TheConstants.{INDEX_RECORD}
+use Rattle.ntfs_def.specs.declared.records.TheConstants.{VOLUME}
+use Rattle.volume_def.specs.FileNames.{names_of}
+use Rattle.volume_def.specs.Files.{records_of}
+use Rattle.volume_def.specs.Sound.{IsSound}
+use Rattle.volume_def.specs.Table.{cluster_bytes}
+use Rattle.volume_def.specs.View.{VolumeView}
+use Rattle.list_laws.proofs.MemberLaws.{Contains-nil}
+use Rattle.mark_write.specs.Finish.{CanFinish}
+use Rattle.mark_write.specs.Flags.{IsCopySet, IsSet, LiesAt}
+use Rattle.mark_write.specs.Logs.{IsOutside}
+use Rattle.mark_write.specs.declared.flag.Flag.{Flag}
+use Rattle.mark_write.specs.declared.log.Span.{Span}
+use Rattle.mft_table.specs.declared.mft.Mft.{Mft}
+use Rattle.mft_table.specs.Mft.{stage_of, view}
+use Rattle.index_store.specs.IndexBlocksMut.{KeepsDisk}
+use Rattle.mark_place.specs.Beside.{IsBesideFlag}
+use Rattle.mark_place.specs.LogSpans.{AreLogSpans}
+use Rattle.mark_place.proofs.PlacesApart as apart
+use Rattle.volume_mark.specs.Mark.{IsFlagOf}
+use Rattle.in_place.specs.Unnamed.{LiesApart}
+use Rattle.edit_written.specs.Finished.{IsPlaceOf}
+use Rattle.tree_edit.specs.Settable.{IsSettable}
+use Rattle.tree_edit.specs.Staged.{IsOfDirectory, IsOfFile, IsOfNames, StagesAttributes}
+use Rattle.tree_edit.specs.declared.settable.Settable.{Settable}
+use Rattle.tree_ops.specs.Edits.{CanEdit, HasMark, IsPlaceBy, IsPlaced}
+use Rattle.tree_ops.specs.declared.place.MarkPlace.{MarkPlace}
+
+-- the records of an index are no $DATA
+no-data : INDEX_ALLOCATION ≢ DATA
+no-data e = absurd (omega (arith, e))
+
+-- no span has a sector
+pub outside-none : (spans : List Span) (n : ℕ) → spans ≡ [] → IsOutside spans n
+outside-none spans n none = subst (λ s. IsOutside s n) (sym none) (λ i below. absurd (omega (arith, below)))
+
+-- THE PLACE, on a disk that tells its contents.
+module _ {D : Type 0} (g : Ghosts D) (old : Mft D g) (place : MarkPlace) (told : IsTrue (view g old).told) where
+  pub place-flag : (mark : Option Flag) → CanEdit g old mark → IsPlaceBy g old mark place → IsFlagOf (view g old) place.flag
+  place-flag None can by = by.flag told
+  place-flag (Some flag) can by = subst (IsFlagOf (view g old)) (sym by.same) (can.flag told).there
+
+  place-spans : (mark : Option Flag) → IsPlaceBy g old mark place
+      → (place.spans.items ≡ []) ⊎ AreLogSpans (view g old) place.spans.items
+  place-spans None by = inr (by.log told)
+  place-spans (Some flag) by = inl by.none
+
+  -- it is that of which the laws of edits speak
+  pub place-of : (mark : Option Flag) (before : List ℕ) → g.now (disk_of g (stage_of g old)) ≡ Some before → CanEdit g old mark
+      → IsPlaceBy g old mark place → IsPlaceOf (view g old) before place.flag place.marked place.spans.items
+  place-of None before is can by = record {
+    flag_is = by.flag told;
+    spans_are = λ e. by.log told;
+    none = λ e. let f = by.unmarked in cc;
+    set = λ e. let f = by.unmarked in cc;
+    log = λ e. let f = by.unmarked in cc;
+  }
+  place-of (Some flag) before is can by = record {
+    flag_is = place-flag (Some flag) can by;
+    spans_are = λ e. let t = by.marked in cc;
+    none = λ e. by.none;
+    set = λ e.
+        let has : IsTold (g.now (disk_of g (stage_of g old))) = ap is_some is in
+        subst (λ (f : Flag). IsSet f (sector_in (Some before))) (sym by.same)
+        (subst (λ (o : Option (List ℕ)). IsSet flag (sector_in o)) is (can.marked.set has));
+    log = λ e. (can.flag told).log;
+  }
+
+-- .. and whatever it tells: where the volume was marked, the mark stands there.
+pub place-mark : {D : Type 0} (g : Ghosts D) (old : Mft D g) (place : MarkPlace) (mark : Option Flag) → CanEdit g old mark
+    → IsPlaceBy g old mark place → place.marked ≡ true
+    → HasMark (g.size (disk_of g (stage_of g old))) (g.now (disk_of g (stage_of g old))) place.flag
+place-mark g old place None can by e = let f = by.unmarked in cc
+place-mark g old place (Some flag) can by e =
+    subst (HasMark (g.size (disk_of g (stage_of g old))) (g.now (disk_of g (stage_of g old)))) (sym by.same) can.marked
+
+-- WHAT IS STAGED of a file that can be edited lies apart from the mark, and from the log.
+module _ (view : VolumeView) (sound : IsSound view) (lies : LiesApart view) (flag : Flag) (there : IsFlagOf view flag) where
+  record IsApartFrom (spans : List Span) (sector : ℕ) : Type 0 where
+    beside : IsBesideFlag flag sector
+    outside : IsOutside spans sector
+
+  module _ (spans : List Span) (are : (spans ≡ []) ⊎ AreLogSpans view spans) where
+    -- outside of the spans, where the log has it not
+    out : (sector : ℕ) → (AreLogSpans view spans → IsOutside spans sector) → IsOutside spans sector
+    out sector by = elim are [
+      | inl none ↦ outside-none spans sector none
+      | inr log ↦ by log
+    ]
+
+    flag-outside : IsOutside spans flag.home × IsOutside spans flag.copy
+    flag-outside = (
+      out flag.home (λ log. (apart.flag-log view lies.owners lies.some sound flag there spans log).0),
+      out flag.copy (λ log. (apart.flag-log view lies.owners lies.some sound flag there spans log).1),
+    )
+
+    file-apart : (f sector : ℕ) → f ≢ VOLUME → IsOfFile view f sector → IsApartFrom spans sector
+    file-apart f sector other is = record {
+      beside = apart.record-beside view lies.owners lies.some sound flag there f is.0 sector is.1 other is.2;
+      outside = out sector (λ log. apart.record-log view lies.owners lies.some spans is.0 sector log is.2);
+    }
+
+    directory-apart : (dir sector : ℕ) → dir ≢ VOLUME → IsOfDirectory view dir sector → IsApartFrom spans sector
+    directory-apart dir sector other (inl record_) = file-apart dir sector other record_
+    directory-apart dir sector other (inr index) = record {
+      beside = apart.stream-beside view lies.owners lies.some sound flag there dir INDEX_ALLOCATION (wide (codes "$I30"))
+          no-data (index.0 * cluster_bytes view.layout) INDEX_RECORD sector index.1;
+      outside = out sector (λ log. apart.stream-log view lies.owners lies.some dir INDEX_ALLOCATION (wide (codes "$I30")) no-data
+          (index.0 * cluster_bytes view.layout) INDEX_RECORD sector index.1 spans log);
+    }
+
+    names-apart : (names : List FileName) (sector : ℕ)
+        → ((name : FileName) → Contains names name → name.parent.number ≢ VOLUME) → IsOfNames view names sector
+        → IsApartFrom spans sector
+    names-apart names sector other is = directory-apart is.0.parent.number sector (other is.0 is.1) is.2
+
+-- THE EDIT CAN BE WRITTEN.
+module _ {D : Type 0} (g : Ghosts D) (old staged : Mft D g) (mark : Option Flag) (can : CanEdit g old mark) (found : Settable)
+    (settable : IsTrue (view g old).told → IsSettable (view g old) found) (place : MarkPlace) (placed : IsPlaced g old mark place)
+    (keeps : KeepsDisk g old staged) (stages : IsTrue (view g old).told
+    → StagesAttributes g found.number (names_of (records_of (view g old)) found.number) old staged) where
+  abbrev v : VolumeView
+  v = view g old
+
+  abbrev spans : List Span
+  spans = place.spans.items
+
+  was-told : IsTold (image g (stage_of g staged)) → IsTrue v.told
+  was-told t = sym keeps.goes_on.told_image ∙ t
+
+  module _ (told : IsTrue v.told) where
+    abbrev set : IsSettable v found
+    set = settable told
+
+    sound : IsSound v
+    sound = set.can.can.sound
+
+    lies : LiesApart v
+    lies = set.can.can.apart
+
+    there : IsFlagOf v place.flag
+    there = place-flag g old place told mark can placed.by_mark
+
+    are : (spans ≡ []) ⊎ AreLogSpans v spans
+    are = place-spans g old place told mark placed.by_mark
+
+    staged-apart : (sector : ℕ) → Contains (places g (stage_of g staged)) sector
+        → IsApartFrom v sound lies place.flag there spans sector
+    staged-apart sector has = elim ((stages told).only sector has) [
+      | inl before ↦ absurd (Contains-nil sector (subst (λ xs. Contains xs sector) can.clear.plain before))
+      | inr (inl file) ↦ file-apart v sound lies place.flag there spans are found.number sector set.can.can.other file
+      | inr (inr names) ↦
+          names-apart v sound lies place.flag there spans are (names_of (records_of v) found.number) sector set.can.can.elsewhere names
+    ]
+
+  pub can-finish : CanFinish g place.flag place.marked spans (stage_of g staged)
+  can-finish = record {
+    place = subst (λ n. LiesAt n place.flag) (sym keeps.goes_on.size) placed.lies;
+    spans = subst (λ n. All (λ (span : Span). span.first + span.len ≤ n) spans) (sym keeps.goes_on.size) placed.spans;
+    sound = keeps.broken ∙ can.clear.whole;
+    home = λ t has. (staged-apart (was-told t) place.flag.home has).beside.home refl;
+    copy = λ t has. (staged-apart (was-told t) place.flag.copy has).beside.copy refl;
+    plain = λ t n has. (staged-apart (was-told t) n has).outside;
+    apart = λ t. (flag-outside v (sound (was-told t)) (lies (was-told t)) place.flag (there (was-told t)) spans (are (was-told t))).0;
+    apart_copy = λ t. (flag-outside v (sound (was-told t)) (lies (was-told t)) place.flag (there (was-told t)) spans (are (was-told t))).1;
+    marked = λ e t.
+        let m = place-mark g old place mark can placed.by_mark e in
+        subst (λ (o : Option (List ℕ)). IsSet place.flag (sector_in o)) (sym keeps.now) (m.set (now-told (was-told t)));
+    copied = λ e t.
+        let m = place-mark g old place mark can placed.by_mark e in
+        subst (λ (o : Option (List ℕ)). IsCopySet place.flag (sector_in o)) (sym keeps.now) (m.copied (now-told (was-told t)));
+  }
+    where
+      now-told : IsTrue v.told → IsTold (g.now (disk_of g (stage_of g old)))
+      now-told told = ap is_some (sym can.clear.tells) ∙ told

@@ -1,0 +1,283 @@
+-- A VOLUME ON WHICH `setattr` WAS DONE: what it leaves in bytes, and where a run then stands.
+use Rattle.std.proofs.Common.{◌≡◌, ◌≤◌, ◌+◌, ◌*◌, ◌/◌, ◌==◌, ℕ, false, List, length, Option, Some, None, refl, sym}
+use Rattle.std.proofs.Common.{ap, subst, ◌∙◌, arith}
+use Rattle.std.specs.Prelude.{IfSome, IsTrue, bit_and, if◌then◌else◌, is_some, slice_set}
+use Rattle.std.specs.Option.{option_map_or}
+use Rattle.vol_disk.specs.Contents.{IsTold, sector_in}
+use Rattle.vol_disk.specs.declared.Disk.{Ghosts}
+use Rattle.vol_stage.specs.Staged.{disk_of, image}
+use Rattle.volume_def.specs.FileNames.{names_of}
+use Rattle.volume_def.specs.Files.{records_of}
+use Rattle.volume_def.specs.Sound.{IsSound, told_view}
+use Rattle.volume_def.specs.VersionClause.{IsClean}
+use Rattle.volume_def.specs.View.{VolumeView}
+use Rattle.mft_table.specs.declared.mounted.Mounted.{Mounted}
+use Rattle.mft_table.specs.InUse.{IsInUse, IsSoundVolume}
+use Rattle.mft_table.specs.Mft.{mounted_of, stage_of, view}
+use Rattle.mft_table.specs.Mounted.{mounted_layout}
+use Rattle.tree_model.specs.Effects.{opens_after}
+use Rattle.tree_model.specs.Facts.{IsVolumeOf, TellsFacts}
+use Rattle.tree_model.specs.Reading.{read}
+use Rattle.tree_model.specs.Refusals.{Facts}
+use Rattle.tree_model.specs.Step.{Step}
+use Rattle.tree_model.specs.Subjects.{Machine}
+use Rattle.tree_model.specs.declared.command.Command.{Command}
+use Rattle.tree_model.specs.declared.command.Command.TheVariants as c
+use Rattle.tree_model.specs.declared.reply.Answer.TheVariants as a
+use Rattle.tree_model.specs.declared.reply.Reply.TheVariants as reply
+use Rattle.tree_model.specs.declared.tree.TheConstants.{SHOWN_FLAGS}
+use Rattle.session_def.specs.Cost.{log_bytes}
+use Rattle.session_def.specs.Done.{HasEmptyLog, first_cost}
+use Rattle.session_def.specs.State.{Stands, State}
+use Rattle.session_def.proofs.CleanLaws.{clean-flag}
+use Rattle.mark_write.specs.Flags.{IsCopySet, IsSet, cleared_sector}
+use Rattle.mark_write.specs.Logs.{IsEmptied, span_sectors}
+use Rattle.mark_write.specs.declared.flag.Flag.{Flag}
+use Rattle.mark_write.specs.declared.log.Span.{Span}
+use Rattle.mark_place.specs.LogSpans.{log_sectors}
+use Rattle.volume_mark.specs.Closing.{MarkStands}
+use Rattle.volume_mark.specs.Mark.{IsFlagOf}
+use Rattle.volume_mark.specs.SameVolume.{IsSameVolume}
+use Rattle.volume_mark.proofs.MarkLaws.{mark-law}
+use Rattle.edit_written.specs.Finished.{IsFinished, IsPlaceOf}
+use Rattle.setattr_done.specs.Written.{FindsFile, LeavesSet, StagesSet, machine_behind, most_written}
+use Rattle.setattr_done.proofs.Leaves.{leaves}
+use Rattle.attribute_edits.specs.Attributes.{SetsAttributes}
+use Rattle.tree_edit.specs.Settable.{IsSettable}
+use Rattle.tree_ops.specs.Edits.{CanEdit, IsMarkOf, IsPlaceBy, SetsFlags}
+use Rattle.tree_ops.specs.Runs.{Applied, Ready, machine_under}
+use Rattle.tree_ops.specs.Volumes.{disk_under, mark_of, moment_of, opens_of, view_under}
+use Rattle.tree_ops.specs.declared.volume.Volume.{Volume}
+use Rattle.tree_ops.proofs.ImageLaws.{image-long, some-bytes, view-told}
+use Rattle.tree_ops.proofs.EditedVolume.{applied-edit}
+use Rattle.tree_ops.proofs.PlaceLaws.{place-of}
+use Rattle.tree_ops.proofs.SetattrDue.{LeadsToFile, setattr-found, setattr-step}
+
+-- what the first edit of a run writes beside its own, on a volume that is clean
+clean-cost : (view : VolumeView) → IsClean view → first_cost view ≡ 2 + log_sectors view
+clean-cost view clean =
+    ap (λ o. if option_map_or (λ bit. bit == 1) o false then 0 else 2 + (log_bytes view + 511) / 512) ((clean-flag view).0 clean)
+
+-- where a run stands on a volume that holds these bytes
+abbrev pub state_on : {D : Type 0} (g : Ghosts D) → Volume D g → List ℕ → State
+state_on g volume bytes = record {
+  image = bytes;
+  view = view_under g volume;
+  machine = machine_under g volume;
+  written = g.written (disk_under g volume);
+}
+
+module _ {D : Type 0} (g : Ghosts D) (sized : (disk : D) → IfSome (g.now disk) (λ all. length all ≡ 512 * g.size disk))
+    (old new : Volume D g)
+    (session : ℕ) (path : List (List ℕ)) (flags : ℕ) (shown : bit_and flags SHOWN_FLAGS ≡ flags) (can : CanEdit g old.mft (mark_of g old))
+    (s : SetsFlags g old.mft new.mft (mark_of g old) path flags (moment_of g old)) (facts : Facts)
+    (before : List ℕ) (was : g.now (disk_under g old) ≡ Some before) (tells : TellsFacts (view_under g old) facts) where
+  abbrev v : VolumeView
+  v = view_under g old
+
+  abbrev state : State
+  state = state_on g old before
+
+  abbrev command : Command
+  command = c.Setattr path flags
+
+  abbrev flag : Flag
+  flag = s.place.flag
+
+  pub told : IsTrue v.told
+  told = ap (λ (o : Option (List ℕ)). is_some o) (can.clear.tells ∙ was)
+
+  pub stands : Stands state
+  stands = record { volume = can.bytes before (can.clear.tells ∙ was); sound = (can.in_use told).sound; reading = refl }
+
+  abbrev set : IsSettable v s.found
+  set = s.can told
+
+  -- THE FILE
+  pub leads : LeadsToFile facts v (opens_of g old) (moment_of g old) session path flags tells s.found.number
+  leads = setattr-found facts v (opens_of g old) (moment_of g old) session path flags tells s.found.number (s.leads told)
+
+  pub finds : FindsFile facts state session path flags s.found.number set.can.node
+  finds = record {
+    stands = stands;
+    told = tells;
+    at = leads.at;
+    found = leads.is;
+    file = leads.file_is;
+    can = set.can.can;
+    shown = shown;
+    high = set.high;
+  }
+
+  -- so the machine's step is this
+  pub stepped : Step facts (machine_under g old) session command (reply.Ok a.Done) (machine_behind state session command finds.at)
+  unfolding finds leads
+  stepped = setattr-step facts v (opens_of g old) (moment_of g old) session path flags tells s.found.number leads
+
+  -- THE BYTES that were staged, and written
+  pub staged-some : (bytes : List ℕ) × (image g (stage_of g s.staged) ≡ Some bytes)
+  staged-some = some-bytes (image g (stage_of g s.staged)) (s.keeps.goes_on.told_image ∙ told)
+
+  abbrev staged : List ℕ
+  staged = staged-some.0
+
+  pub written-some : (bytes : List ℕ) × (g.now (disk_under g new) ≡ Some bytes)
+  written-some = some-bytes (g.now (disk_under g new))
+      (s.goes_on.told ∙ s.keeps.goes_on.told ∙ ap (λ (o : Option (List ℕ)). is_some o) was)
+
+  abbrev written : List ℕ
+  written = written-some.0
+
+  pub before-long : length before ≡ 512 * g.size (disk_under g old)
+  before-long = subst (λ o. IfSome o (λ (all : List ℕ). length all ≡ 512 * g.size (disk_under g old))) was (sized (disk_under g old))
+
+  pub staged-long : length staged ≡ length before
+  staged-long =
+      subst (λ o. IfSome o (λ (all : List ℕ). length all ≡ 512 * g.size (disk_of g (stage_of g s.staged)))) staged-some.1
+      (image-long g (stage_of g s.staged) (sized (disk_of g (stage_of g s.staged))))
+      ∙ ap (λ n. 512 * n) s.keeps.goes_on.size ∙ sym before-long
+
+  pub written-long : length written ≡ length staged
+  written-long =
+      subst (λ o. IfSome o (λ (all : List ℕ). length all ≡ 512 * g.size (disk_under g new))) written-some.1 (sized (disk_under g new))
+      ∙ ap (λ n. 512 * n) (s.goes_on.size ∙ s.keeps.goes_on.size) ∙ sym before-long ∙ sym staged-long
+
+  pub staged-view : view g s.staged ≡ told_view (sector_in (Some staged)) v.layout
+  staged-view = view-told g s.staged staged staged-some.1 ∙ ap (λ (m : Mounted). told_view (sector_in (Some staged)) (mounted_layout m))
+      s.keeps.mounted
+
+  pub stages : StagesSet state s.found.number flags set.can.node staged
+  stages = record {
+    long = staged-long;
+    sets =
+        subst (λ times. SetsAttributes v (told_view (sector_in (Some staged)) v.layout) s.found.number
+        (slice_set times 2 (moment_of g old)) flags)
+        set.times
+        (subst (λ w. SetsAttributes v w s.found.number (slice_set s.found.times 2 (moment_of g old)) flags) staged-view (s.sets told));
+  }
+
+  pub place : IsPlaceOf v before flag s.place.marked s.place.spans.items
+  place = place-of g old.mft s.place told (mark_of g old) before was can s.placed.by_mark
+
+  pub staged-told : IsTold (image g (stage_of g s.staged))
+  staged-told = s.keeps.goes_on.told_image ∙ told
+
+  pub finished : IsFinished flag s.place.marked s.place.spans.items staged written
+  finished = record {
+    long = written-long;
+    same = λ n out.
+        ap (λ o. cleared_sector flag (sector_in o) n) (sym written-some.1)
+        ∙ s.finishes.written staged-told n out
+        ∙ ap (λ o. cleared_sector flag (sector_in o) n) staged-some.1;
+    set = subst (λ o. IsSet flag (sector_in o)) written-some.1 (s.finishes.marked staged-told);
+    copied = subst (λ o. IsCopySet flag (sector_in o)) written-some.1 (s.finishes.copied staged-told);
+    emptied = λ e. subst (λ o. IsEmptied s.place.spans.items (sector_in o)) written-some.1 (s.finishes.emptied e staged-told);
+  }
+
+  -- WHAT IS LEFT
+  pub left : LeavesSet facts state session command finds.at flag staged written
+  left = leaves facts state session path flags s.found.number set.can.node flag s.place.marked s.place.spans.items staged written finds
+      stages place finished
+
+  pub same : IsSameVolume left.new flag written
+  same = mark-law left.new flag staged left.volume left.sound left.flag_there written left.agrees
+
+  abbrev now : VolumeView
+  now = told_view (sector_in (Some written)) v.layout
+
+  pub other-is : same.other ≡ now
+  other-is =
+      same.volume.is
+      ∙ ap (told_view (sector_in (Some written)))
+      (sym (ap (λ (w : VolumeView). w.layout) same.volume.is) ∙ same.layout ∙ ap (λ (w : VolumeView). w.layout) left.is)
+
+  -- the volume behind it is that of the bytes that were written
+  pub new-view : view_under g new ≡ now
+  new-view =
+      view-told g new.mft written (s.finishes.image ∙ written-some.1)
+      ∙ ap (λ (m : Mounted). told_view (sector_in (Some written)) (mounted_layout m)) s.mounted
+
+  pub now-volume : IsVolumeOf written now
+  now-volume = subst (IsVolumeOf written) other-is same.volume
+
+  pub now-sound : IsSound now
+  now-sound = subst IsSound other-is same.sound
+
+  pub now-reads : read now ≡ (machine_behind state session command finds.at).tree
+  now-reads = ap read (sym other-is) ∙ same.reading ∙ left.reading
+
+  abbrev next : Machine
+  next = machine_behind state session command finds.at
+
+  -- the machine behind it is that to which the step leads
+  pub new-machine : opens_of g new ≡ opens_of g old → moment_of g new ≡ moment_of g old → machine_under g new ≡ next
+  unfolding opens_after
+  new-machine opens moment =
+      ap (λ tree. record { tree = tree; opens = opens_of g new; now = moment_of g new }) (ap read new-view ∙ now-reads)
+      ∙ ap (λ o. record { tree = next.tree; opens = o; now = moment_of g new }) opens
+      ∙ ap (λ t. record { tree = next.tree; opens = opens_of g old; now = t }) moment
+
+  -- its log is empty, and its flag lies where it lay
+  abbrev next_state : ℕ → State
+  next_state count = record { image = written; view = now; machine = next; written = count }
+
+  pub now-log : HasEmptyLog now
+  now-log = (left.done (next_state (g.written (disk_under g old))) refl now-volume refl (omega arith)).1
+
+  pub now-mark : IsMarkOf now flag
+  now-mark = record { there = subst (λ w. IsFlagOf w flag) other-is same.flag_there; log = now-log }
+
+  pub now-in_use : IsInUse g new.mft
+  now-in_use t =
+      subst (λ w. IsSoundVolume w (mounted_of g new.mft)) (sym new-view)
+      (subst (λ (m : Mounted). IsSoundVolume now m) (sym s.mounted) (record {
+        sound = now-sound;
+        stored = left.stored (mounted_of g old.mft).clusters (mounted_of g old.mft).records (mounted_of g old.mft).upcase
+            (can.in_use told).stored;
+      }))
+
+  pub now-bytes : (all : List ℕ) → image g (stage_of g new.mft) ≡ Some all → IsVolumeOf all (view_under g new)
+  now-bytes all is =
+      let same : written ≡ all = let e = sym written-some.1 ∙ sym s.finishes.image ∙ is in cc in
+      subst (IsVolumeOf all) (sym new-view) (subst (λ bytes. IsVolumeOf bytes now) same now-volume)
+
+  -- HOW MANY SECTORS were written
+  pub names : ℕ
+  names = length (names_of (records_of v) s.found.number)
+
+  pub most-by : (mark : Option Flag) → (first : VolumeView) → MarkStands first state mark → IsPlaceBy g old.mft mark s.place
+      → 2 + span_sectors s.place.spans.items ≤ first_cost v + 2
+  most-by None first m by =
+      let few = by.few told in
+      let cost = clean-cost v m.1 in
+      omega (arith, few, cost)
+  most-by (Some flag) first m by =
+      let none = ap (λ (xs : List Span). span_sectors xs) by.none in
+      omega (arith, none)
+
+  pub most : (first : VolumeView) → MarkStands first state (mark_of g old)
+      → g.written (disk_under g new) ≤ g.written (disk_under g old) + most_written state finds.at.file
+  most first m =
+      let wrote = s.written in
+      let few = s.few told in
+      let by = most-by (mark_of g old) first m s.placed.by_mark in
+      let same = ap (λ n. length (names_of (records_of v) n)) finds.file in
+      omega (arith, wrote, few, by, same)
+
+  -- WHAT EVERY COMMAND PROMISES is promised.
+  pub flag-first : (mark : Option Flag) → (first : VolumeView) → MarkStands first state mark → IsPlaceBy g old.mft mark s.place
+      → IsFlagOf first flag
+  flag-first None first m by = subst (λ w. IsFlagOf w flag) m.0 (by.flag told)
+  flag-first (Some f) first m by = subst (IsFlagOf first) (sym by.same) m.of_first
+
+  module _ (opens : opens_of g new ≡ opens_of g old) (moment : moment_of g new ≡ moment_of g old) (mark : mark_of g new ≡ Some flag) where
+    pub applied-set : (first : VolumeView) → Ready g first old state → Applied g first state session command (reply.Ok a.Done) new
+    applied-set first r =
+        applied-edit g first new state session command a.Done flag staged written left.new next facts (g.written (disk_under g new))
+        tells stepped refl
+        left.volume left.sound left.reading left.flag_there (flag-first (mark_of g old) first r.mark s.placed.by_mark)
+        left.agrees finished.set written-some.1
+        (new-view ∙ ap (λ (w : VolumeView). told_view (sector_in (Some written)) w.layout) (sym left.is))
+        (new-machine opens moment) mark refl
+        (λ after image machine count volume. left.done after image volume machine
+        (subst (λ n. n ≤ g.written (disk_under g old) + most_written state finds.at.file) (sym count) (most first r.mark)))

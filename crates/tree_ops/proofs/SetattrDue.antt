@@ -1,0 +1,128 @@
+-- WHAT IS DUE FOR `setattr`: where its path leads to a file that can be edited it is done, and else refused so.
+use Rattle.std.proofs.Common.{◌≡◌, ℕ, Bool, true, false, List, Option, Some, None, Result, Ok, Err, inl, refl, sym, ap, ◌∙◌}
+use Rattle.std.specs.Prelude.{if◌then◌else◌}
+use Rattle.std.specs.Option.{option_map_or}
+use Rattle.volume_def.specs.View.{VolumeView}
+use Rattle.tree_model.specs.Answers.{answer_of, node_answer}
+use Rattle.tree_model.specs.Effects.{after}
+use Rattle.tree_model.specs.Facts.{TellsFacts, is_whole_table}
+use Rattle.tree_model.specs.Paths.{and_then, found_file, resolve}
+use Rattle.tree_model.specs.Reading.{read}
+use Rattle.tree_model.specs.Refusals.{Facts, outcome}
+use Rattle.tree_model.specs.Staging.{cannot_edit}
+use Rattle.tree_model.specs.Step.{Step, answered, due, reply_of}
+use Rattle.tree_model.specs.Subjects.{Located, Machine, at_found, locate}
+use Rattle.tree_model.specs.declared.command.Command.{Command}
+use Rattle.tree_model.specs.declared.command.Command.TheVariants as c
+use Rattle.tree_model.specs.declared.opens.OpenEntry.{OpenEntry}
+use Rattle.tree_model.specs.declared.reply.Answer.TheVariants as a
+use Rattle.tree_model.specs.declared.reply.No.{No}
+use Rattle.tree_model.specs.declared.reply.No.TheVariants as no
+use Rattle.tree_model.specs.declared.reply.Reply.TheVariants as reply
+use Rattle.tree_model.specs.declared.tree.Found.{Found}
+use Rattle.tree_model.specs.declared.tree.Node.{Node}
+use Rattle.tree_model.proofs.LookLaws.{find-never}
+use Rattle.session_def.specs.Session.{is_due_edit}
+use Rattle.setattr_owed.proofs.CallsOwed.{has-room}
+use Rattle.tree_edit.specs.Settable.{settable}
+use Rattle.tree_ops.specs.Wanted.{machine_on}
+
+module _ (facts : Facts) (view : VolumeView) (opens : List OpenEntry) (now session : ℕ) (path : List (List ℕ)) (flags : ℕ)
+    (tells : TellsFacts view facts) where
+  abbrev m : Machine
+  m = machine_on view opens now
+
+  abbrev command : Command
+  command = c.Setattr path flags
+
+  -- the file can be edited, or it cannot
+  abbrev edits : Bool → Found → Result ℕ No
+  edits cannot found = if cannot then Err no.Unbuilt else Ok (found_file found)
+
+  abbrev cannot_at : Found → Bool
+  cannot_at found = cannot_edit (is_whole_table view) (read view) (found_file found)
+
+  -- the words lead to this file
+  pub record LeadsToFile (file : ℕ) : Type 0 where
+    pub at : Located
+    pub is : outcome facts m session command ≡ Ok at
+    pub file_is : at.file ≡ file
+
+  -- there is room for it
+  room : (found : Found) → facts.no_room m command (at_found (read view) found) ≡ None
+  room found = tells.no_room m command (at_found (read view) found) ∙ has-room view (read view) path flags (at_found (read view) found) refl
+
+  found-at : (found : Found) → resolve (read view) path ≡ Ok found → cannot_at found ≡ false
+      → outcome facts m session command ≡ Ok (at_found (read view) found)
+  unfolding outcome locate
+  found-at found e can =
+      let n = find-never opens (found_file found) in
+      let w = tells.whole_table in
+      let r = room found in
+      rw (e, n, w, can, r) refl
+
+  refused-at : (found : Found) → resolve (read view) path ≡ Ok found → cannot_at found ≡ true
+      → outcome facts m session command ≡ Err no.Unbuilt
+  unfolding outcome locate
+  refused-at found e can =
+      let n = find-never opens (found_file found) in
+      let w = tells.whole_table in
+      rw (e, n, w, can) refl
+
+  path-refused : (why : No) → resolve (read view) path ≡ Err why → outcome facts m session command ≡ Err why
+  unfolding outcome locate
+  path-refused why e = rw e refl
+
+  pub setattr-found : (file : ℕ) → settable (is_whole_table view) (read view) path ≡ Ok file → LeadsToFile file
+  setattr-found file is = by (resolve (read view) path) refl is
+    where
+      by_edit : (found : Found) → resolve (read view) path ≡ Ok found → (b : Bool) → cannot_at found ≡ b → edits b found ≡ Ok file
+          → LeadsToFile file
+      by_edit found e true can is = cc
+      by_edit found e false can is =
+          let same : found_file found ≡ file = cc in
+          record { at = at_found (read view) found; is = found-at found e can; file_is = same }
+
+      by : (r : Result Found No) → resolve (read view) path ≡ r → and_then r (λ found. edits (cannot_at found) found) ≡ Ok file
+          → LeadsToFile file
+      by (Err refused) e is = cc
+      by (Ok found) e is = by_edit found e _ refl is
+
+  pub setattr-refused : (refused : No) → settable (is_whole_table view) (read view) path ≡ Err refused
+      → due facts m session command ≡ Err refused
+  unfolding due
+  setattr-refused refused is = ap (answered facts m session command) (by (resolve (read view) path) refl is)
+    where
+      by_edit : (found : Found) → resolve (read view) path ≡ Ok found → (b : Bool) → cannot_at found ≡ b → edits b found ≡ Err refused
+          → outcome facts m session command ≡ Err refused
+      by_edit found e true can is = let same : no.Unbuilt ≡ refused = cc in refused-at found e can ∙ ap Err same
+      by_edit found e false can is = cc
+
+      by : (r : Result Found No) → resolve (read view) path ≡ r → and_then r (λ found. edits (cannot_at found) found) ≡ Err refused
+          → outcome facts m session command ≡ Err refused
+      by (Err why) e is = let same : why ≡ refused = cc in path-refused why e ∙ ap Err same
+      by (Ok found) e is = by_edit found e _ refl is
+
+  -- it answers that it is done
+  answer-done : (at : Located) → answer_of facts m session command at ≡ a.Done
+  unfolding answer_of
+  answer-done at = by at.node
+    where
+      by : (o : Option Node) → option_map_or (node_answer m.tree command at.file) o a.Done ≡ a.Done
+      by None = refl
+      by (Some node) = refl
+
+  pub setattr-due : (file : ℕ) → LeadsToFile file → due facts m session command ≡ Ok a.Done
+  unfolding due
+  setattr-due file x = ap (answered facts m session command) x.is ∙ ap Ok (answer-done x.at)
+
+  pub setattr-step : (file : ℕ) → (x : LeadsToFile file)
+      → Step facts m session command (reply.Ok a.Done) (after m session command x.at 0)
+  setattr-step file x = record {
+    replied = inl (sym (ap reply_of (setattr-due file x)));
+    moved = record { at = x.at; found = x.is; file = 0; fresh = λ e. cc; moved = refl };
+  }
+
+  -- so what is due is an edit that is done
+  pub setattr-due-edit : (file : ℕ) → LeadsToFile file → is_due_edit facts m (Ok (session, command)) ≡ true
+  setattr-due-edit file x = let d = setattr-due file x in rw d refl
