@@ -4,3 +4,4 @@ pub mod LineLaws
 pub mod CloseLaws
 pub mod BeginLaws
 pub mod RanLaws
+pub mod ShownLaws

@@ -1,6 +1,12 @@
+use Rattle.cmd_lang.proofs.SayableLaws.{line-sayable}
+use Rattle.script_run.proofs.ShownLaws.{sayable-shown}
 use Rattle.script_run.proofs.ReplyLaws.{failed_command, of_command, of_fault}
 use Rattle.script_run.proofs.TurnLaws.{goes_none}
 use Rattle.script_run.proofs.turn.reply_to.Goals as goal
+
+pub apply-requires-clause-shown : goal.apply-requires-clause-shown
+apply-requires-clause-shown g c =
+    sayable-shown c.in-Ok.command (line-sayable c.args.line.now c.in-Ok.session c.in-Ok.command c.in-Ok.ensures)
 
 pub returns-in-Ok-clause-replied : goal.returns-in-Ok-clause-replied
 returns-in-Ok-clause-replied g c answered first before ready =
