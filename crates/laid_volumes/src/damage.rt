@@ -1,4 +1,5 @@
-//! Damage to the volume that `format 2048 4096 1 DATA` makes, one clause of the volume definition at a time. Where things
+//! Damage to the volume that `format 2048 4096 1 DATA` makes, one clause of the volume definition at a time, and what is told of
+//! one that was edited. Where things
 //! lie was computed by hand from the table of items that `format` lays. No edit here touches the last two bytes of a
 //! sector, but where it says so, so the update sequences of the records stay right.
 ghost use Rattle.std.specs.Prelude.{◌≡◌, ◌<◌, ◌^◌, length};
@@ -15,6 +16,8 @@ const MIRROR: usize = 19 * 4096;
 pub const CLUSTER_BITS: usize = 36 * 4096;
 
 // Types of attributes.
+const STANDARD_INFORMATION: u8 = 0x10;
+
 const FILE_NAME: u8 = 0x30;
 
 const VOLUME_INFORMATION: u8 = 0x70;
@@ -255,6 +258,39 @@ pub fn mark_dirty(image: &mut [u8], both: bool)
     if both {
         put(image, at.saturating_add(MIRROR - TABLE), &[flags]);
     }
+}
+
+/// The four bytes of DOS flags that `$STANDARD_INFORMATION` of record n tells.
+pub fn dos_flags(image: &[u8], n: u8) -> [u8; 4] {
+    let at = value(image, n, STANDARD_INFORMATION).saturating_add(0x20);
+    let mut flags = [0; 4];
+    for (i, flag) in flags.iter_mut().enumerate() {
+        *flag = byte(image, at.saturating_add(i));
+    }
+    flags
+}
+
+/// Whether record 3 says that the volume was not closed.
+pub fn is_marked(image: &[u8]) -> bool {
+    byte(
+        image,
+        value(image, 3, VOLUME_INFORMATION).saturating_add(0x0A),
+    ) & 1
+        == 1
+}
+
+/// Has the table of 64 records end its written part in the middle of the last one, in record 0 and in its copy.
+pub fn cut_table(image: &mut [u8])
+    ensures { length image.new ≡ length image.old }
+{
+    let at = attribute(image, 0, DATA).saturating_add(0x38);
+    let written: u32 = 64 * 1024 - 512;
+    put(image, at, &written.to_le_bytes());
+    put(
+        image,
+        at.saturating_add(MIRROR - TABLE),
+        &written.to_le_bytes(),
+    );
 }
 
 // A sparse stream named `a` of one hole of 268,435,457 clusters, one byte longer than 2^40.

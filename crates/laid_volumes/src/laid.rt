@@ -298,6 +298,23 @@ pub fn lay_in_root(alloc: Global, image: &mut [u8], names: &[LaidName]) -> Resul
     Ok(())
 }
 
+/// Where the key begins of entry k, from 0, that a directory has of a file, among the entries between two places.
+pub fn key_in(image: &[u8], from: usize, to: usize, dir: u8, file: u8, k: usize) -> Option<usize> {
+    let entry = (from..to)
+        .filter(|at| {
+            byte(image, *at) == file
+                && byte(image, at.saturating_add(6)) == 1
+                && byte(image, at.saturating_add(16)) == dir
+        })
+        .nth(k)?;
+    Some(entry.saturating_add(16))
+}
+
+/// The same of the root, whose entries stand in one record of its index.
+pub fn key_in_root(image: &[u8], file: u8, k: usize) -> Option<usize> {
+    key_in(image, ROOT, ROOT + 4096, ROOT_RECORD, file, k)
+}
+
 /// Marks clusters as owned.
 pub fn own(image: &mut [u8], clusters: &[u8]) {
     for cluster in clusters {

@@ -5,6 +5,8 @@
 #[cfg(test)]
 mod deep;
 #[cfg(test)]
+mod edits;
+#[cfg(test)]
 mod lists;
 #[cfg(test)]
 mod opens;

@@ -33,8 +33,8 @@ pub fn replies(
     })
 }
 
-// The script of some lines.
-fn script_of(alloc: Global, rows: &[Row]) -> Result<Vec<u8>, test::Fail> {
+/// The script of some lines.
+pub fn script_of(alloc: Global, rows: &[Row]) -> Result<Vec<u8>, test::Fail> {
     let mut script = Vec::new(alloc);
     for (line, _) in rows {
         script.extend_from_slice(line.as_bytes())?;
@@ -54,14 +54,23 @@ pub fn wrong_row(
     let Some(out) = replies(alloc, sectors, image, &script)? else {
         return Ok(Some("the end"));
     };
+    first_wrong(alloc, out.bytes(), rows)
+}
+
+/// The first of some lines whose reply does not come next in a text.
+pub fn first_wrong(
+    alloc: Global,
+    printed: &[u8],
+    rows: &[Row],
+) -> Result<Option<&'static str>, test::Fail> {
     let mut text = Vec::new(alloc);
     for (line, reply) in rows {
         text.extend_from_slice(reply.as_bytes())?;
-        if !out.bytes().starts_with(&text) {
+        if !printed.starts_with(&text) {
             return Ok(Some(*line));
         }
     }
-    Ok(if out.bytes().len() == text.len() {
+    Ok(if printed.len() == text.len() {
         None
     } else {
         Some("behind the last")

@@ -1,0 +1,277 @@
+//! The commands that edit, in whole runs: what they print, what stands on the disk behind them, and writes, barriers and settles of the
+//! disk failing. The expected text is that of the tables of commands and of refusals, the places of bytes are those of the
+//! layouts of `$FILE_NAME` and `$STANDARD_INFORMATION`.
+use super::reading::{Row, first_wrong, is_sound, script_of, wrong_row};
+use super::script::{run_on, source_of};
+use laid_volumes::damage::{byte, cut_table, dos_flags, is_marked, put, record};
+use laid_volumes::given::sink_of;
+use laid_volumes::laid::{key_in, key_in_root};
+use laid_volumes::laid_files::{SECTORS, volume_with_all, volume_with_f};
+use laid_volumes::made::disk_on;
+use std::alloc::Global;
+use std::test;
+use vol_disk::{CallKind, Disk, Fail, FailDisk, MemDisk};
+
+// More than any text here is long.
+const ROOM: usize = 4096;
+
+// A disk with these contents, and room for all that is written here.
+fn writable(alloc: Global, sectors: u16, image: &[u8]) -> Result<MemDisk, test::Fail> {
+    let mut disk = disk_on(alloc, sectors, image)?;
+    disk.reserve(2000)?;
+    Ok(disk)
+}
+
+// The status of a script on a disk, and the first of its lines that is not answered as its row says.
+fn run_rows<D: Disk>(
+    alloc: Global,
+    disk: &mut D,
+    rows: &[Row],
+) -> Result<(u8, Option<&'static str>), test::Fail> {
+    let mut source = source_of(alloc, &script_of(alloc, rows)?, 0)?;
+    let mut out = sink_of(alloc, ROOM, 0)?;
+    let status = run_on(alloc, disk, &mut source, &mut out)?;
+    Ok((status, first_wrong(alloc, out.bytes(), rows)?))
+}
+
+// What an entry tells of its file: the time of record change, as far as that is one byte, and four bytes of flags.
+fn told_at(image: &[u8], key: Option<usize>) -> Option<(u8, [u8; 4])> {
+    let at = key?;
+    let mut flags = [0; 4];
+    for (i, flag) in flags.iter_mut().enumerate() {
+        *flag = byte(image, at.saturating_add(0x38).saturating_add(i));
+    }
+    Some((byte(image, at.saturating_add(0x18)), flags))
+}
+
+// Lines on the volume with one empty file.
+const ROWS: [Row; 19] = [
+    ("time 5", "ok\n"),
+    ("setattr /f 0001", "ok\n"),
+    ("stat /f", "stat file 1 0 0001 256 0 0 5 0\nok\n"),
+    ("setattr /f 8000", "no 1 Syntax\n"),
+    ("setattr /g 0001", "no 4 NotFound\n"),
+    ("setattr /f/x 0001", "no 5 NotDir\n"),
+    ("setattr /$MFT 0001", "no 7 Hidden\n"),
+    ("setattr /. 0001", "no 7 Hidden\n"),
+    ("rm /f", "no 28 Unbuilt\n"),
+    ("@3 attr /F", "attr 0001\nok\n"),
+    ("time 18446744073709551615", "ok\n"),
+    ("@15 setattr /F 3127", "ok\n"),
+    (
+        "stat /f",
+        "stat file 1 0 3127 256 0 0 18446744073709551615 0\nok\n",
+    ),
+    ("time 7", "ok\n"),
+    ("setattr /f 0000", "ok\n"),
+    ("stat /f", "stat file 1 0 0000 256 0 0 7 0\nok\n"),
+    ("setattr / 0002", "ok\n"),
+    ("stat /", "stat dir 0 0 0002 256 0 0 7 0\nok\n"),
+    ("ls /", "file f\nok\n"),
+];
+
+#[test]
+fn flags_of_a_file_are_set(rt: HostRuntime) -> Result<(), test::Fail> {
+    let alloc = rt.alloc();
+    let mut disk = writable(alloc, SECTORS, &volume_with_f(alloc)?)?;
+    assert_eq!(rt; run_rows(alloc, &mut disk, &ROWS)?, (0, None));
+    let left = disk.contents();
+    assert!(rt; is_sound(alloc, SECTORS, left)?);
+    assert_eq!(rt; told_at(left, key_in_root(left, 26, 0)), Some((7, [0; 4])));
+    assert_eq!(rt; disk.settles().len(), ROWS.len() + 1);
+    Ok(())
+}
+
+// Lines on the volume with a file of each kind: a file of two names, one with a DOS name, one with a hole, and a directory with a
+// reparse point.
+const KINDS: [Row; 13] = [
+    ("time 9", "ok\n"),
+    ("setattr /d/b 0002", "ok\n"),
+    ("stat /a", "stat file 2 5 0002 256 1 2 9 4\nok\n"),
+    ("setattr /LONGFI~1.TXT 0004", "ok\n"),
+    ("attr /longfilename.txt", "attr 0004\nok\n"),
+    ("setattr /r 0001", "ok\n"),
+    ("reparse /r", "reparse a0000003 abcd\nok\n"),
+    ("setattr /h 0020", "ok\n"),
+    ("stat /h", "stat file 1 73000 0020 256 0 0 9 0\nok\n"),
+    ("setattr /r/x 0001", "no 6 Reparse\n"),
+    ("setattr /d 0001", "ok\n"),
+    ("stat /d", "stat dir 1 0 0001 256 0 0 9 0\nok\n"),
+    ("cat /d/b", "data 68656c6c6f\nok\n"),
+];
+
+// Flags that are not shown stay: of a file 0x800 of a packed stream, 0x400 of a reparse point, 0x200 of a stream with a hole; of an
+// entry that of a directory, and 0x400 where it told that. A second name and a DOS name are told anew too.
+#[test]
+fn flags_of_files_of_each_kind_are_set(rt: HostRuntime) -> Result<(), test::Fail> {
+    let alloc = rt.alloc();
+    let mut image = volume_with_all(alloc)?;
+    let Some(point) = key_in_root(&image, 30, 0) else {
+        return Err("an entry is missing")?;
+    };
+    put(&mut image, point.saturating_add(0x39), &[4]);
+    let mut disk = writable(alloc, 2048, &image)?;
+    assert_eq!(rt; run_rows(alloc, &mut disk, &KINDS)?, (0, None));
+    let left = disk.contents();
+    assert!(rt; is_sound(alloc, 2048, left)?);
+    for (file, flags, told) in [
+        (26, [1, 0, 0, 0], [1, 0, 0, 0x10]),
+        (27, [2, 0, 0, 0], [2, 0, 0, 0]),
+        (28, [4, 8, 0, 0], [4, 0, 0, 0]),
+        (29, [0x20, 2, 0, 0], [0x20, 0, 0, 0]),
+        (30, [1, 4, 0, 0], [1, 4, 0, 0x10]),
+    ] {
+        assert_eq!(rt; dos_flags(left, file), flags, "{file}");
+        assert_eq!(rt;
+            told_at(left, key_in_root(left, file, 0)),
+            Some((9, told)),
+            "{file}"
+        );
+    }
+    assert_eq!(rt;
+        told_at(left, key_in_root(left, 28, 1)),
+        Some((9, [4, 0, 0, 0]))
+    );
+    let second = key_in(left, record(26), record(26) + 1024, 26, 27, 0);
+    assert_eq!(rt; told_at(left, second), Some((9, [2, 0, 0, 0])));
+    Ok(())
+}
+
+// On a volume whose table was written in part of a record nothing is edited.
+#[test]
+fn a_table_written_in_part_is_not_edited(rt: HostRuntime) -> Result<(), test::Fail> {
+    let alloc = rt.alloc();
+    let mut image = volume_with_all(alloc)?;
+    cut_table(&mut image);
+    assert!(rt; is_sound(alloc, 2048, &image)?);
+    let rows = [
+        ("setattr /a 0001", "no 28 Unbuilt\n"),
+        ("setattr /nothing 0001", "no 4 NotFound\n"),
+        ("attr /a", "attr 0021\nok\n"),
+    ];
+    assert_eq!(rt; wrong_row(alloc, 2048, &image, &rows)?, None);
+    Ok(())
+}
+
+// Two edits: of a file of two names, and of the directory that one of these stands in.
+const EDITS: [Row; 3] = [
+    ("time 5", "ok\n"),
+    ("setattr /a 0001", "ok\n"),
+    ("setattr /d 0002", "ok\n"),
+];
+
+// The sectors in which the flag stands, in record 3 and in its copy, and one of the log.
+const FLAG: u64 = 22;
+
+const FLAG_COPY: u64 = 158;
+
+const LOG: u64 = 179;
+
+// The mark is set in two sectors, the log emptied where it is not, then come two sectors of record 27, two of record 26, whose root has
+// `b`, and eight of the record of the root's index; for the second edit two and eight of these; and the mark is cleared in two.
+#[test]
+fn the_mark_comes_first_and_goes_last(rt: HostRuntime) -> Result<(), test::Fail> {
+    let alloc = rt.alloc();
+    let mut image = volume_with_all(alloc)?;
+    put(&mut image, LOG as usize * 512 + 7, &[0]);
+    let mut disk = writable(alloc, 2048, &image)?;
+    assert_eq!(rt; run_rows(alloc, &mut disk, &EDITS)?, (0, None));
+    let writes = disk.writes();
+    for (i, sector) in [
+        (0, FLAG),
+        (1, FLAG_COPY),
+        (2, LOG),
+        (25, FLAG_COPY),
+        (26, FLAG),
+    ] {
+        assert_eq!(rt;
+            writes.get(i).map(|write| write.sector),
+            Some(sector),
+            "{i}"
+        );
+    }
+    assert_eq!(rt; writes.len(), 27);
+    assert_eq!(rt; byte(disk.contents(), LOG as usize * 512 + 7), 0xFF);
+    assert!(rt; is_sound(alloc, 2048, disk.contents())?);
+    Ok(())
+}
+
+// What `attr` shows of the two files before the edits, and behind them.
+const BEFORE: [Row; 2] = [
+    ("attr /a", "attr 0021\nok\n"),
+    ("attr /d", "attr 0000\nok\n"),
+];
+
+const BEHIND: [Row; 2] = [
+    ("attr /a", "attr 0001\nok\n"),
+    ("attr /d", "attr 0002\nok\n"),
+];
+
+// Whether a volume is marked, or whole: sound, and as before the edits, or as behind them, when only the closing failed.
+fn is_safe(alloc: Global, image: &[u8]) -> Result<bool, test::Fail> {
+    if is_marked(image) {
+        return Ok(true);
+    }
+    Ok(
+        is_sound(alloc, 2048, image)?
+            && (wrong_row(alloc, 2048, image, &BEFORE)?.is_none()
+                || wrong_row(alloc, 2048, image, &BEHIND)?.is_none()),
+    )
+}
+
+// The status of the edits where one call of the disk fails, and whether what is left is safe.
+fn failing_edits(alloc: Global, image: &[u8], fail: Fail) -> Result<(u8, bool), test::Fail> {
+    let mut disk = FailDisk::new(writable(alloc, 2048, image)?, vec![in alloc; fail]?);
+    let (status, _) = run_rows(alloc, &mut disk, &EDITS)?;
+    Ok((status, is_safe(alloc, disk.inner().contents())?))
+}
+
+// Calls of a kind fail, one in each run, and leave a volume that is safe; there are so many of them, and none behind.
+fn fails_safely(
+    alloc: Global,
+    kind: CallKind,
+    lands: bool,
+    numbers: &[u64],
+    calls: u64,
+) -> Result<bool, test::Fail> {
+    let image = volume_with_all(alloc)?;
+    for number in numbers {
+        let fail = Fail {
+            kind,
+            number: *number,
+            lands,
+        };
+        if failing_edits(alloc, &image, fail)? != (6, true) {
+            return Ok(false);
+        }
+    }
+    let past = Fail {
+        kind,
+        number: calls.saturating_add(1),
+        lands,
+    };
+    Ok(failing_edits(alloc, &image, past)? == (0, true))
+}
+
+// The mark, writes of both edits, and the mark again.
+const WRITES: [u64; 8] = [1, 2, 3, 6, 14, 15, 25, 26];
+
+#[test]
+fn writes_fail_safely(rt: HostRuntime) -> Result<(), test::Fail> {
+    assert!(rt; fails_safely(rt.alloc(), CallKind::Write, false, &WRITES, 26)?);
+    Ok(())
+}
+
+#[test]
+fn writes_that_land_fail_safely(rt: HostRuntime) -> Result<(), test::Fail> {
+    assert!(rt; fails_safely(rt.alloc(), CallKind::Write, true, &WRITES, 26)?);
+    Ok(())
+}
+
+// Writes are put in order before the first edit is written, and before the mark is cleared; each line is settled, and the end.
+#[test]
+fn barriers_and_settles_fail_safely(rt: HostRuntime) -> Result<(), test::Fail> {
+    assert!(rt; fails_safely(rt.alloc(), CallKind::Barrier, false, &[1, 2], 2)?);
+    assert!(rt; fails_safely(rt.alloc(), CallKind::Settle, false, &[1, 2, 3, 4], 4)?);
+    Ok(())
+}
