@@ -48,11 +48,13 @@ fn sentence_on_running(status: u8) -> Option<&'static str> {
              answered",
         ),
         SINK_FAILED => Some(
-            "standard output failed, so the replies are not whole, and the script ended there",
+            "standard output failed, so the replies are not whole, and the script ended there; the line \
+             whose reply was cut off was done",
         ),
         DEVICE_FAILED => Some(
             "IMAGE failed, so the script ended there; a line without a reply may have been done or \
-             not, so ask check of IMAGE",
+             not, so ask check of IMAGE: where it says sound, the volume is whole; where it refuses, \
+             an edit or the closing was cut off, and a tool that repairs is wanted",
         ),
         OUT_OF_MEMORY => Some("out of memory, so the script ended there"),
         TOO_MUCH => Some(

@@ -20,9 +20,12 @@ A word that is not built yet:
 
 run takes each line of standard input in order, settles IMAGE and prints the reply:
 some lines and ok, or no with a number and a name, as no 4 NotFound. An empty line
-and one that begins with # have none. The commands that are built read: ls, stat,
-links, cat, read, streams, attr, sec, reparse, objid, df, open, hread and close;
-time sets the moment that edits will write; all others are no 28 Unbuilt.
+and one that begins with # have none. These commands read: ls, stat, links, cat,
+read, streams, attr, sec, reparse, objid, df, open, hread and close; time sets the
+moment that edits write, and setattr PATH FLAGS the DOS flags of a file, in four
+hexadecimal digits, and its time of record change; all others are no 28 Unbuilt.
+The first edit of a run marks the volume as not closed until the run ends, and
+empties its log; a hibernated system is not recognised, so shut it down before.
 A volume that check refuses is refused in the same words.
 
 check prints sound, or the first clause that fails and a number N, as refused S7 N:
