@@ -1,0 +1,4 @@
+pub mod HeldViewIndex
+pub mod IdLaws
+pub mod PlaceLaws
+pub mod SoundLaws
