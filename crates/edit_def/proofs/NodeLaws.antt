@@ -241,7 +241,7 @@ module _ (v : VolumeView) (f : ℕ) (readable : IsReadableVolume v) (file : IsFi
           ∙ sym (there (first_part (parts_at v f kind [])) refl some)
 
   -- the reparse point
-  point-first : point_of v all
+  pub point-first : point_of v all
       ≡ option_map (λ (t : Told). point_by (shown_content v (parts_at v f REPARSE_POINT []))) (option_map told_by (first_part
       (parts_at v f REPARSE_POINT [])))
   unfolding point_of
@@ -318,7 +318,7 @@ security-of v f node at = by (is_hidden (records_of v) f) (numbers_at (records_o
         security_in None = 0
         security_in (Some n) = n.security
 
-number-file : (v : VolumeView) (f : ℕ) (n : Numbers) → numbers_at (records_of v) f ≡ Some n → IsFile v f
+pub number-file : (v : VolumeView) (f : ℕ) (n : Numbers) → numbers_at (records_of v) f ≡ Some n → IsFile v f
 number-file v f n e = by (record_on v f) e
   where
     last : (r : Record) (b : Bool) → is_base r ≡ b → (if b then Some (numbers_in r) else None) ≡ Some n → is_base r ≡ true
@@ -369,7 +369,7 @@ module _ (changed : Key → Bool) (old new : VolumeView) (f : ℕ) (kept : Keeps
       ∙ ap (λ content. option_map (λ (t : Told). point_by content) (option_map told_by (first_part (parts_at old f REPARSE_POINT [])))) content
       ∙ sym (point-first old f readable file) in
       let streams = streams-kept changed old new f kept size one unseen fold in
-      let others = others-kept changed old new f kept size one unseen fold in
+      let others = others-kept changed old new f kept size one (λ kind name seen other times. unseen kind name seen times) fold in
       λ i. record {
         dir = dir;
         times = standard_times (standard_of (parts (records_of new) f));

@@ -69,7 +69,7 @@ placed_same fold a b e =
     let p = then_same _ _ e in
     λ i. (nat_cmp-IsAntisymmetric a.0 b.0 p.0 i, units_same fold a.1 b.1 p.1 i)
 
-units_order : (fold : ℕ → ℕ) → IsOrder (λ x y. is_gt (compare_units fold x y))
+pub units_order : (fold : ℕ → ℕ) → IsOrder (λ x y. is_gt (compare_units fold x y))
 units_order fold = order (compare_units fold) (units_total fold) (units_same fold)
 
 placed_order : (fold : ℕ → ℕ) → IsOrder (λ x y. is_gt (compare_placed fold x y))
@@ -206,7 +206,9 @@ module _ (changed : Key → Bool) (old new : VolumeView) (f : ℕ) (kept : Keeps
         (λ a b s t x y. (eqb-true a.kind DATA s ∙ sym (eqb-true b.kind DATA t), o.same (units_in a.name) (units_in b.name) x y))
         ∙ sym (streams-told old)
 
-    -- ALL OTHER ATTRIBUTES.
+  -- ALL OTHER ATTRIBUTES, where none of them is named; streams may be.
+  module _ (unseen : (kind : ℕ) (name : List ℕ) → is_seen kind name ≡ true → kind ≢ DATA → kind ≢ STANDARD_INFORMATION
+      → changed (key_of f kind name) ≡ false) (fold : volume_fold new ≡ volume_fold old) where
     abbrev is_shown_elsewhere : Told → Bool
     is_shown_elsewhere told =
         (told.kind == STANDARD_INFORMATION) || (told.kind == ATTRIBUTE_LIST) || (told.kind == FILE_NAME) || (told.kind == DATA)
@@ -249,7 +251,8 @@ module _ (changed : Key → Bool) (old new : VolumeView) (f : ℕ) (kept : Keeps
     and-either false false true false e = refl
     and-either false false false n e = refl
 
-    seen-other : (t : Told) → is_other_told t ≡ true → (is_seen t.kind t.name ≡ true) × (t.kind ≢ STANDARD_INFORMATION) × (t.kind ≢ FILE_NAME)
+    seen-other : (t : Told) → is_other_told t ≡ true
+        → (is_seen t.kind t.name ≡ true) × (t.kind ≢ DATA) × (t.kind ≢ STANDARD_INFORMATION) × (t.kind ≢ FILE_NAME)
     seen-other t e =
         let x = or-false _ (tells INDEX_ROOT (wide (codes "$I30")) t || tells INDEX_ALLOCATION (wide (codes "$I30")) t || tells BITMAP (wide
         (codes "$I30")) t) e in
@@ -259,6 +262,7 @@ module _ (changed : Key → Bool) (old new : VolumeView) (f : ℕ) (kept : Keeps
         let l = or-false (t.kind == STANDARD_INFORMATION) (t.kind == ATTRIBUTE_LIST) n.0 in
         let i = and-either (t.kind == INDEX_ROOT) (t.kind == INDEX_ALLOCATION) (t.kind == BITMAP) (bytes_eq t.name (wide (codes "$I30"))) x.1 in (
           or-both _ _ (or-both (t.kind == ATTRIBUTE_LIST) (t.kind == FILE_NAME) l.1 n.1) i,
+          λ same. let a = eq-eqb t.kind DATA same in let b = sym (ap not a) ∙ d.1 in cc,
           λ same. let a = eq-eqb t.kind STANDARD_INFORMATION same in let b = sym (ap not a) ∙ l.0 in cc,
           λ same. let a = eq-eqb t.kind FILE_NAME same in let b = sym (ap not a) ∙ n.1 in cc,
         )
@@ -270,9 +274,9 @@ module _ (changed : Key → Bool) (old new : VolumeView) (f : ℕ) (kept : Keeps
         others-told new
         ∙ ap (λ fold. in_order (other_above fold) (map (λ (t : Told). other_told new t.kind t.name) (filter is_other_told (told_of new f)))) fold
         ∙ shown-kept is_other_told other_told (other_above (volume_fold old))
-        (λ t e. let s = seen-other t e in (unseen t.kind t.name s.0 s.1, s.2))
+        (λ t e. let s = seen-other t e in (unseen t.kind t.name s.0 s.1 s.2, s.3))
         (λ t e. let s = seen-other t e in ap (λ content. record { kind = t.kind; name = units_in t.name; value = content })
-        (same-content t.kind t.name s.0 s.1 s.2))
+        (content-kept changed old new f t.kind t.name kept (unseen t.kind t.name s.0 s.1 s.2) (one t.kind t.name s.3) size))
         (λ x y e. o.one_way (x.kind, x.name) (y.kind, y.name) e)
         (λ x y z a b. o.between (x.kind, x.name) (y.kind, y.name) (z.kind, z.name) a b)
         (λ a b s t x y. let e = o.same (a.kind, units_in a.name) (b.kind, units_in b.name) x y in

@@ -1,21 +1,9 @@
 -- RECORDS THAT ARE NOT IN USE, and the headers of those that come into use, stay or go.
-use Rattle.std.specs.Prelude.{◌≡◌, ◌⊎◌, ℕ, ◌+◌, ◌<◌, ◌≤◌, ◌==◌, All, List, codes, nat_eq, Some, None, is_some, true, if◌then◌else◌}
-use Rattle.std.specs.List.{starts_with}
-use Rattle.ntfs_def.specs.Fixup.{opened_of}
-use Rattle.ntfs_def.specs.Record.{Header, sequence_of}
+use Rattle.std.specs.Prelude.{◌≡◌, ◌⊎◌, ℕ, ◌<◌, ◌≤◌, All, Some, None, is_some, true}
+use Rattle.ntfs_def.specs.Record.{Header}
 use Rattle.volume_def.specs.Files.{Record, file_of, record_on}
+use Rattle.volume_def.specs.Freed.{sequence_after, sequence_at_first, stored_sequence}
 use Rattle.volume_def.specs.View.{VolumeView}
-
--- The sequence number of a block in which a record is, or was; 0 where none ever was.
-abbrev pub stored_sequence : List ℕ → ℕ
-stored_sequence block = if starts_with nat_eq block (codes "FILE") then sequence_of (opened_of block) else 0
-
--- it counts up where the record is freed, and passes over 0
-abbrev pub sequence_after : ℕ → ℕ
-sequence_after sequence = if sequence == 0xFFFF then 1 else sequence + 1
-
-abbrev pub sequence_at_first : ℕ → ℕ
-sequence_at_first sequence = if sequence == 0 then 1 else sequence
 
 -- the next attribute id is above all that are taken, or the greatest
 abbrev pub IsPastIds : Record → Type 0

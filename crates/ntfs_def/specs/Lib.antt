@@ -5,6 +5,7 @@ pub mod Record
 pub mod Flags
 pub mod Attribute
 pub mod AttributeList
+pub mod ListOrder
 pub mod Moved
 pub mod Shape
 pub mod Splice

@@ -27,3 +27,4 @@ pub mod StreamSize
 pub mod KeptList
 pub mod Looked
 pub mod Room
+pub mod Freed

@@ -66,7 +66,7 @@ zero-unused [] z = refl
 zero-unused (b ∷ bytes) z = let first = z 0 in rw first refl
 
 -- a record that is there lies at least in part in what was written
-record-written : (disk : ℕ → List ℕ) (layout : TableLayout) (n : ℕ) (r : Record) → record_on (told_view disk layout) n ≡ Some r
+pub record-written : (disk : ℕ → List ℕ) (layout : TableLayout) (n : ℕ) (r : Record) → record_on (told_view disk layout) n ≡ Some r
     → 1024 * n < layout.initialized
 unfolding record_in
 record-written disk layout n r there = elim (cases_lt (1024 * n) layout.initialized) [
