@@ -6,7 +6,7 @@ use Rattle.ntfs_def.specs.Units.{units_in}
 use Rattle.attr_list.specs.declared.Entry.{Entry}
 use Rattle.attr_list.specs.declared.EntryView.{EntryView}
 use Rattle.attr_list.specs.declared.ListNo.{ListNo}
-use Rattle.attr_list.specs.declared.ListNo.TheVariants.{Memory, Shape}
+use Rattle.attr_list.specs.declared.ListNo.TheVariants.{Long, Memory, Shape}
 use Rattle.attr_list.specs.declared.ListView.{ListView}
 
 -- the bytes of the list
@@ -42,7 +42,8 @@ pub record IsEntryOf (listed : ListEntry) (entry : Entry) : Type 0 where
   pub holder : reference_in entry.holder ≡ listed.holder
   pub id : entry.id ≡ listed.id
 
--- The value is refused so. Memory is no reason to refuse one.
+-- The value is refused so. Memory is no reason to refuse one, nor is its length.
 abbrev pub Refuses : List ℕ → ListNo → Type 0
 Refuses value (Shape at) = IsFirstBadEntry value at
+Refuses value Long = ⊥
 Refuses value Memory = ⊥

@@ -1,9 +1,11 @@
 //! Laws with nothing to run.
 ghost use Rattle.std.specs.Prelude.{◌≡◌, ◌<◌, ◌⊎◌, ℕ, List, Some, length, slice_get};
 ghost use Rattle.ntfs_def.specs.AttributeList.{HasListShape, list_entries, list_entry_at, list_entry_place};
+ghost use Rattle.ntfs_def.specs.ListOrder.{AreInOrder};
+ghost use Rattle.attr_list.specs.Edit.{Inserts, Removes};
 ghost use Rattle.attr_list.specs.View.{Refuses};
 
-use crate::ListNo;
+use crate::{Entry, ListNo};
 
 /// A value has one answer. Either it is a list, with one number of entries, and its list has as many, each at
 /// the place that the layout gives it; or one refusal says which entry is the first bad one.
@@ -17,4 +19,12 @@ pub fn one_answer()
         HasListShape value (length (list_entries value)) ⊎ ((refusal : ListNo) × Refuses value refusal) }
     ensures never_both { (value : List ℕ) (count : ℕ) (refusal : ListNo) →
         HasListShape value count → Refuses value refusal → ⊥ }
+{}
+
+/// A list in order stays in order where an entry is put in at its place, and where one is taken out.
+pub fn order_laws()
+    ensures inserted { (fold : ℕ → ℕ) (entry : Entry) (old new : List ℕ) → Inserts fold entry old new
+        → AreInOrder fold (list_entries old) → AreInOrder fold (list_entries new) }
+    ensures removed { (fold : ℕ → ℕ) (i : ℕ) (old new : List ℕ) → i < length (list_entries old) → Removes i old new
+        → AreInOrder fold (list_entries old) → AreInOrder fold (list_entries new) }
 {}

@@ -1,29 +1,35 @@
-//! A view of the value of an `$ATTRIBUTE_LIST`: which record holds each attribute of a file that is kept in
-//! several records. It lends the value's bytes.
+//! The value of an `$ATTRIBUTE_LIST`: which record holds each attribute of a file that is kept in several records.
+//! A view lends the value's bytes, and an edit puts an entry in or takes one out where the value stands.
 #![tactic(auto)]
 
 ghost use Rattle.std.specs.Prelude.{◌≡◌, ◌≤◌};
 ghost use Rattle.ntfs_def.specs.AttributeList.{HasListShape, list_entry_place};
 ghost use Rattle.attr_list.specs.declared.ListNo.TheVariants.{Memory};
 
+mod edit;
 mod iter;
 mod laws;
 mod list;
 mod listed;
+mod new_entry;
 mod shape;
 
-pub use laws::one_answer;
+pub use edit::{insert, remove};
+pub use laws::{one_answer, order_laws};
 use std::alloc::AllocError;
 use thiserror::Error;
 use vol_bytes::Name;
 
-/// Why a value is refused, or an entry is not given.
+/// Why a value is refused, or an entry is not given or not put in.
 #[derive(Clone, Copy, Debug, PartialEq, Eq, Error)]
 pub enum ListNo {
     /// The value is no list: `at` is the place in it of the first entry that breaks the layout.
     #[error("the attribute list has a wrong entry at byte {at}")]
     Shape { at: usize },
-    /// There was no memory for the name.
+    /// More than 40,960 bytes would stand in the list.
+    #[error("the attribute list would be longer than 40960 bytes")]
+    Long,
+    /// There was no memory for the name, or for the longer list.
     #[error("out of memory")]
     Memory,
 }

@@ -1,9 +1,9 @@
 //! The list: how many entries it has, and each of them.
-ghost use Rattle.std.specs.Prelude.{◌≡◌, ◌<◌, ◌≤◌, IfOk, IfErr, IfSome, length, slice_get};
-ghost use Rattle.ntfs_def.specs.AttributeList.{HasListShape, IsListEntry, list_entries, list_entry_at, list_entry_place};
+ghost use Rattle.std.specs.Prelude.{◌≡◌, ◌<◌, IfOk, IfErr, IfSome, length, slice_get};
+ghost use Rattle.ntfs_def.specs.AttributeList.{HasListShape, IsListEntry, list_entries, list_entry_at};
 ghost use Rattle.attr_list.specs.View.{Refuses, IsEntryOf, entries_of, value_of};
 
-use crate::shape::count_of;
+use crate::shape::{count_of, entry_place};
 use crate::{Entry, ListNo, ListView};
 use ntfs_def::{list_entry, read_units};
 use std::alloc::{AllocError, Global};
@@ -47,18 +47,6 @@ impl<'r> ListView<'r> {
         self.count
     }
 
-    // Where an entry stands.
-    fn place(&self, i: usize) -> usize
-        requires { i ≤ self.now.count }
-        ensures { result ≡ list_entry_place self.now.bytes.now i }
-    {
-        let mut at = 0;
-        for k in 0..i {
-            at += u16_at(self.bytes, at + list_entry::LEN) as usize;
-        }
-        at
-    }
-
     /// An entry, by its place in the order of the list.
     ///
     /// # Errors
@@ -69,7 +57,7 @@ impl<'r> ListView<'r> {
         ensures entry { IfOk result (λ entry. IfSome (slice_get (entries_of self.now) i) (λ listed. IsEntryOf listed entry)) }
         ensures memory { IfErr result (λ no. no ≡ ListNo.Memory) }
     {
-        let entry = entry_at(alloc, self.bytes, self.place(i))?;
+        let entry = entry_at(alloc, self.bytes, entry_place(self.bytes, i))?;
         Ok(entry)
     }
 }

@@ -8,8 +8,8 @@ use crate::{Entries, EntryView, ListView};
 use ntfs_def::list_entry;
 use vol_bytes::{u16_at, u32_at, u64_at};
 
-// The entry at a place.
-fn entry_view(bytes: &[u8], at: usize) -> EntryView<'_>
+/// The entry at a place.
+pub fn entry_view(bytes: &[u8], at: usize) -> EntryView<'_>
     requires { IsListEntry bytes.now at }
     ensures { entry_shown result ≡ list_entry_at bytes.now at }
 {

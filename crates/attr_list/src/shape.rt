@@ -1,7 +1,7 @@
 //! The tests of the layout of a list.
 
-ghost use Rattle.std.specs.Prelude.{◌≤◌, ◌↔◌, IsTrue, IfOk, IfErr, length};
-ghost use Rattle.ntfs_def.specs.AttributeList.{HasListShape, IsListEntry};
+ghost use Rattle.std.specs.Prelude.{◌≡◌, ◌≤◌, ◌↔◌, IsTrue, IfOk, IfErr, length};
+ghost use Rattle.ntfs_def.specs.AttributeList.{HasListEntries, HasListShape, IsListEntry, list_entry_place};
 ghost use Rattle.attr_list.specs.View.{Refuses};
 
 use crate::ListNo;
@@ -40,4 +40,16 @@ pub fn count_of(bytes: &[u8]) -> Result<usize, ListNo>
         count += 1;
     }
     Ok(count)
+}
+
+/// Where entry i stands, behind i others.
+pub fn entry_place(bytes: &[u8], i: usize) -> usize
+    requires { HasListEntries bytes.now i }
+    ensures { result ≡ list_entry_place bytes.now i }
+{
+    let mut at = 0;
+    for k in 0..i {
+        at += u16_at(bytes, at + list_entry::LEN) as usize;
+    }
+    at
 }

@@ -3,6 +3,8 @@
 use super::*;
 use std::alloc::Global;
 use std::test::Fail;
+use upcase::UpCase;
+use vol_bytes::Name;
 
 const LIST: [u8; 102] = [
     // $STANDARD_INFORMATION, id 0, in record 42 with sequence number 3
@@ -145,7 +147,139 @@ fn refusal_texts(rt: HostRuntime) -> Result<(), Fail> {
         text.as_str(),
         "the attribute list has a wrong entry at byte 32"
     );
+    let text = format!(in rt.alloc(); "{}", ListNo::Long)?;
+    assert_eq!(rt;
+        text.as_str(),
+        "the attribute list would be longer than 40960 bytes"
+    );
     let text = format!(in rt.alloc(); "{}", ListNo::Memory)?;
     assert_eq!(rt; text.as_str(), "out of memory");
+    Ok(())
+}
+
+// A table of case that knows the letters of ASCII.
+fn case(alloc: Global) -> Result<UpCase, Fail> {
+    let mut bytes = Vec::new(alloc);
+    for unit in 0..=u16::MAX {
+        let folded = match unit {
+            0x61..=0x7A => unit - 0x20,
+            _ => unit,
+        };
+        bytes.extend_from_slice(&folded.to_le_bytes())?;
+    }
+    Ok(UpCase::load(alloc, &bytes)?)
+}
+
+fn entry(alloc: Global, kind: u32, name: &[u16], first: u64, id: u16) -> Result<Entry, Fail> {
+    Ok(Entry {
+        kind,
+        name: Name::from_vec(Vec::from_slice(alloc, name)?),
+        first,
+        holder: 0x0003_0000_0000_002A,
+        id,
+    })
+}
+
+// `insert` into what is a list, of a name that fits.
+fn put(list: &mut Vec<u8>, entry: &Entry, case: &UpCase) -> Result<(), ListNo> {
+    ListView::new(list)?;
+    if entry.name.as_slice().len() > 255 {
+        return Err(ListNo::Memory);
+    }
+    insert(list, entry, case)
+}
+
+// `remove` of an entry that is there.
+fn cut(list: &mut Vec<u8>, i: usize) -> Result<(), ListNo> {
+    if i < ListView::new(list)?.count() {
+        remove(list, i);
+    }
+    Ok(())
+}
+
+// $STANDARD_INFORMATION, and $DATA without a name and with the name "B". What stands behind the names is not zero.
+const FIRST: [u8; 32] = [
+    0x10, 0x00, 0x00, 0x00, 0x20, 0x00, 0x00, 0x1A, 0x00, 0x00, 0x00, 0x00, 0x00, 0x00, 0x00, 0x00,
+    0x2A, 0x00, 0x00, 0x00, 0x00, 0x00, 0x03, 0x00, 0x00, 0x00, 0xEE, 0xEE, 0xEE, 0xEE, 0xEE, 0xEE,
+];
+
+const SECOND: [u8; 32] = [
+    0x80, 0x00, 0x00, 0x00, 0x20, 0x00, 0x00, 0x1A, 0x00, 0x00, 0x00, 0x00, 0x00, 0x00, 0x00, 0x00,
+    0x2A, 0x00, 0x00, 0x00, 0x00, 0x00, 0x03, 0x00, 0x01, 0x00, 0xEE, 0xEE, 0xEE, 0xEE, 0xEE, 0xEE,
+];
+
+const THIRD: [u8; 28] = [
+    0x80, 0x00, 0x00, 0x00, 0x1C, 0x00, 0x01, 0x1A, 0x00, 0x00, 0x00, 0x00, 0x00, 0x00, 0x00, 0x00,
+    0x2A, 0x00, 0x00, 0x00, 0x00, 0x00, 0x03, 0x00, 0x02, 0x00, 0x42, 0x00,
+];
+
+// $DATA with the name "ab" from cluster 0x0908070605040302 on, id 0x0102: 30 bytes, rounded up to 32.
+const NAMED: [u8; 32] = [
+    0x80, 0x00, 0x00, 0x00, 0x20, 0x00, 0x02, 0x1A, 0x02, 0x03, 0x04, 0x05, 0x06, 0x07, 0x08, 0x09,
+    0x2A, 0x00, 0x00, 0x00, 0x00, 0x00, 0x03, 0x00, 0x02, 0x01, 0x61, 0x00, 0x62, 0x00, 0x00, 0x00,
+];
+
+#[test]
+fn one_entry_more_and_less(rt: HostRuntime) -> Result<(), Fail> {
+    let case = case(rt.alloc())?;
+    let mut list = [&FIRST[..], &SECOND[..], &THIRD[..]].concat(rt.alloc())?;
+    let named = entry(
+        rt.alloc(),
+        0x80,
+        &[0x61, 0x62],
+        0x0908_0706_0504_0302,
+        0x0102,
+    )?;
+    put(&mut list, &named, &case)?;
+    let more = [&FIRST[..], &SECOND[..], &NAMED[..], &THIRD[..]].concat(rt.alloc())?;
+    assert_eq!(rt; list.as_slice(), more.as_slice());
+    cut(&mut list, 1)?;
+    let less = [&FIRST[..], &NAMED[..], &THIRD[..]].concat(rt.alloc())?;
+    assert_eq!(rt; list.as_slice(), less.as_slice());
+    Ok(())
+}
+
+// The ids tell the order: by type, then by name, upper case first, then by the first cluster; behind an equal one.
+#[test]
+fn order_of_entries(rt: HostRuntime) -> Result<(), Fail> {
+    let case = case(rt.alloc())?;
+    let mut list = Vec::new(rt.alloc());
+    let rows: [(u32, &[u16], u64, u16); 8] = [
+        (0x80, &[0x62], 0, 6),
+        (0x80, &[0x61], 0, 5),
+        (0x80, &[0x41], 0, 4),
+        (0x80, &[], 8, 2),
+        (0x80, &[], 0, 1),
+        (0x90, &[], 0, 7),
+        (0x80, &[], 8, 3),
+        (0x10, &[], 0, 0),
+    ];
+    for (kind, name, first, id) in rows {
+        put(&mut list, &entry(rt.alloc(), kind, name, first, id)?, &case)?;
+    }
+    let mut ids = Vec::new(rt.alloc());
+    for entry in ListView::new(&list)?.entries() {
+        ids.push(entry.id)?;
+    }
+    assert_eq!(rt; ids.as_slice(), &[0, 1, 2, 3, 4, 5, 6, 7][..]);
+    Ok(())
+}
+
+#[test]
+fn longest_list(rt: HostRuntime) -> Result<(), Fail> {
+    let case = case(rt.alloc())?;
+    let mut list = Vec::new(rt.alloc());
+    for _ in 0..1_279 {
+        list.extend_from_slice(&SECOND)?;
+    }
+    let last = entry(rt.alloc(), 0x80, &[], 1, 7)?;
+    put(&mut list, &last, &case)?;
+    assert_eq!(rt; list.len(), 40_960);
+    assert_eq!(rt; ListView::new(&list)?.count(), 1_280);
+    cut(&mut list, 0)?;
+    // eight bytes more than those that went
+    let named = entry(rt.alloc(), 0x80, &[0x61, 0x62, 0x63, 0x64], 0, 0)?;
+    assert_eq!(rt; put(&mut list, &named, &case), Err(ListNo::Long));
+    assert_eq!(rt; list.len(), 40_928);
     Ok(())
 }

@@ -8,4 +8,5 @@ mod RefitLaws
 mod RangeWrites
 mod ValueLaws
 mod ResizedBytes
+pub mod SizeLaws
 mod ListedLaws

@@ -14,7 +14,7 @@ use Rattle.ntfs_def.proofs.PlaceLaws.{attribute_place-bounded}
 use Rattle.ntfs_def.proofs.SameLaws.{is_in_use-front}
 use Rattle.ntfs_def.proofs.ShapeLaws.{header_failing-length, header_failing-used}
 use Rattle.ntfs_def.proofs.SpliceLaws.{HasShape-spliced, attributes-spliced, place-before}
-use Rattle.attr_view.specs.Values.{ChangesValue, attribute_in}
+use Rattle.attr_view.specs.Values.{ChangesBody, attribute_in}
 use Rattle.attr_view.proofs.HeadLaws.{header_of-kept}
 
 -- What is resident.
@@ -220,8 +220,8 @@ module _ (old new : List ℕ) (count i len n from start : ℕ) (shape : HasShape
       ∙ ap (λ (p : ℕ). take i (attributes old) ++ (attribute_at new p ∷ [] ++ drop (i + 1) (attributes old))) (sym stays)
       ∙ rw add-one (sym (set_split (attributes old) i (attribute_in new i) (omega (arith, length-attributes old count shape, lt))))
 
-  pub ChangesValue-refit : ChangesValue old new i
-  ChangesValue-refit = record {
+  pub ChangesBody-refit : ChangesBody old new i
+  ChangesBody-refit = record {
     shape = subst (HasShape new) (sym (length-attributes new _ new-shape)) new-shape;
     as_many = omega (arith, length-attributes new _ new-shape, length-attributes old count shape, lt);
     header = header_of-kept old new front (λ k f t. before k f (omega (arith, t, low)));

@@ -13,9 +13,9 @@ use Rattle.ntfs_def.specs.Shape.{HasShape, IsAttribute}
 use Rattle.ntfs_def.proofs.AttributeLaws.{length-attributes, slice_get-attributes}
 use Rattle.ntfs_def.proofs.PlaceLaws.{attribute_place-bounded}
 use Rattle.ntfs_def.proofs.ShapeLaws.{header_failing-length, header_failing-used}
-use Rattle.attr_view.specs.Values.{ChangesValue, IsResizedAt, PutsBytes, Resizes, WritesValue, attribute_in, len_with, name_begin, overwritten, value_begin, with_length}
+use Rattle.attr_view.specs.Values.{ChangesBody, IsResizedAt, PutsBytes, Resizes, WritesValue, attribute_in, len_with, name_begin, overwritten, value_begin, with_length}
 use Rattle.attr_view.proofs.RangeWrites.{range-resized, range-written}
-use Rattle.attr_view.proofs.RefitLaws.{ChangesValue-refit, IsRefit, end-resident, header-resident, offset-resident, value-changed, value-resident}
+use Rattle.attr_view.proofs.RefitLaws.{ChangesBody-refit, IsRefit, end-resident, header-resident, offset-resident, value-changed, value-resident}
 
 -- an attribute with a value is resident
 pub resident-of : (block : List ℕ) (at : ℕ) (P : List ℕ → Type 0) → IsSomeAnd (value_of (attribute_at block at).body) P
@@ -69,8 +69,8 @@ module _ (old : List ℕ) (count i : ℕ) (shape : HasShape old count) (lt : i <
   name-order some = let order = there.whole.name_order some in omega (arith, order.1, offset-resident old place resident)
 
 -- Nothing changed.
-ChangesValue-same : (old : List ℕ) (count i : ℕ) → HasShape old count → i < count → ChangesValue old old i
-ChangesValue-same old count i shape lt =
+ChangesBody-same : (old : List ℕ) (count i : ℕ) → HasShape old count → i < count → ChangesBody old old i
+ChangesBody-same old count i shape lt =
     let here = get_or_from_slice_get (attributes old) i _ (attribute_in old i) (slice_get-attributes old count i shape lt) in
     record {
       shape = subst (HasShape old) (sym (length-attributes old count shape)) shape;
@@ -195,8 +195,8 @@ module _ (old new from : List ℕ) (count i at : ℕ) (shape : HasShape old coun
         let is : j ≡ k = omega (arith, e) in
         ap (λ (q : ℕ). get_or new q 0) is ∙ x.rest.above k (omega (arith, f, whole-fits, within))
 
-    pub changes-some : ChangesValue old new i
-    changes-some = ChangesValue-refit old new count i (attribute_len old p) had v (name_offset old p) shape lt resident refit
+    pub changes-some : ChangesBody old new i
+    changes-some = ChangesBody-refit old new count i (attribute_len old p) had v (name_offset old p) shape lt resident refit
         front before used (omega (arith, used-limit)) behind
 
     pub value-some : value_of (attribute_in new i).body ≡ Some (slice_range new (p + v) (p + v + had))
@@ -212,10 +212,10 @@ module _ (old new from : List ℕ) (count i at : ℕ) (shape : HasShape old coun
     | inr high ↦ x.rest.above k (omega (arith, high, none))
   ])
 
-  changes : ChangesValue old new i
+  changes : ChangesBody old new i
   changes = elim (cases_lt 0 (length from)) [
     | inl some ↦ changes-some some
-    | inr none ↦ subst (λ b. ChangesValue old b i) (sym (same-bytes (omega (arith, none)))) (ChangesValue-same old count i shape lt)
+    | inr none ↦ subst (λ b. ChangesBody old b i) (sym (same-bytes (omega (arith, none)))) (ChangesBody-same old count i shape lt)
   ]
 
   value : value_of (attribute_in new i).body ≡ Some (slice_range new (p + v) (p + v + had))
@@ -291,8 +291,8 @@ module _ (old new : List ℕ) (count i n : ℕ) (shape : HasShape old count) (lt
         (start-named some, omega (arith, name-order old count i shape lt resident some, past-old));
   }
 
-  changes-resized : ChangesValue old new i
-  changes-resized = ChangesValue-refit old new count i size n begin (name_begin old q) shape lt resident refit-resized
+  changes-resized : ChangesBody old new i
+  changes-resized = ChangesBody-refit old new count i size n begin (name_begin old q) shape lt resident refit-resized
       x.front (λ k f t. x.before k f (omega (arith, t))) x.used fits x.behind
 
   range-now : slice_range new (q + begin) (q + begin + n)

@@ -14,9 +14,9 @@ use Rattle.ntfs_def.specs.Shape.{HasShape}
 abbrev pub attribute_in : List ℕ → ℕ → Attribute
 attribute_in block i = attribute_at block (attribute_place block i)
 
--- Attribute i has another value, or the same. Its type, name, id and flags stay, and so do the header and every other
--- attribute, each with all its bytes.
-pub record ChangesValue (old new : List ℕ) (i : ℕ) : Type 0 where
+-- Attribute i has another value or other numbers, or the same. Its type, name, id and flags stay, and so do the header and every
+-- other attribute, each with all its bytes.
+pub record ChangesBody (old new : List ℕ) (i : ℕ) : Type 0 where
   pub shape : HasShape new (length (attributes new))
   pub as_many : length (attributes new) ≡ length (attributes old)
   pub header : header_of new ≡ header_of old
@@ -42,7 +42,7 @@ pub record PutsBytes (old new from : List ℕ) (at : ℕ) : Type 0 where
 -- Bytes were written into the value of attribute i, from its byte `at` on.
 pub record WritesValue (old new from : List ℕ) (i at : ℕ) : Type 0 where
   pub bytes : PutsBytes old new from (attribute_place old i + (value_offset old (attribute_place old i) + at))
-  pub changes : ChangesValue old new i
+  pub changes : ChangesBody old new i
   pub value : value_of (attribute_in new i).body ≡ option_map (λ value. overwritten value at from) (value_of (attribute_in old i).body)
 
 -- Another length.
@@ -89,5 +89,5 @@ len_with block i n = resized_len (value_begin block (attribute_place block i)) n
 -- The value of attribute i has n bytes.
 pub record Resizes (old new : List ℕ) (i n : ℕ) : Type 0 where
   pub bytes : IsResizedAt old new (attribute_place old i) (len_with old i n) n
-  pub changes : ChangesValue old new i
+  pub changes : ChangesBody old new i
   pub value : value_of (attribute_in new i).body ≡ option_map (with_length n) (value_of (attribute_in old i).body)

@@ -2,6 +2,7 @@
 ghost use Rattle.std.specs.Prelude.{◌≡◌, ◌<◌, ◌≤◌, ◌+◌, ℕ, length, slice_index};
 ghost use Rattle.ntfs_def.specs.Record.{used_size};
 ghost use Rattle.attr_view.specs.Edit.{IsInsertedAt, IsRemovedAt, PutsFields, next_id_after};
+ghost use Rattle.attr_view.specs.Sizes.{PutsSizes};
 ghost use Rattle.attr_view.specs.Values.{PutsBytes};
 
 use crate::RecordHeader;
@@ -83,4 +84,13 @@ pub fn put_header(block: &mut [u8], header: RecordHeader)
     put_u16(block, record_header::LINKS, header.links);
     put_u16(block, record_header::FLAGS, header.flags);
     put_u64(block, record_header::BASE, header.base);
+}
+
+// Puts the real and the initialized size of the non-resident attribute at `at`.
+pub fn put_sizes(block: &mut [u8], at: usize, real: u64, initialized: u64)
+    requires { at + 64 ≤ length block.old }
+    ensures { PutsSizes block.old block.new at real initialized }
+{
+    put_u64(block, at + attribute_header::REAL, real);
+    put_u64(block, at + attribute_header::INITIALIZED, initialized);
 }

@@ -1,13 +1,14 @@
 //! A record that is edited in its block.
 ghost use Rattle.std.specs.Prelude.{◌≡◌, ◌<◌, ◌≤◌, ◌+◌, ◌-◌, ◌↔◌, IfErr, IfOk, IsOk, IsSome, IsSomeAnd, OnErr, OnOk, length};
-ghost use Rattle.ntfs_def.specs.Attribute.{attribute_len, attribute_place, attributes, value_of};
+ghost use Rattle.ntfs_def.specs.Attribute.{attribute_len, attribute_place, attributes, run_text_of, value_of};
 ghost use Rattle.ntfs_def.specs.Record.{used_size};
 ghost use Rattle.ntfs_def.specs.Shape.{HasShape, IsOneAttribute};
 ghost use Rattle.attr_view.specs.Edit.{Inserts, LacksRoom, Removes, SetsHeader};
+ghost use Rattle.attr_view.specs.Sizes.{SetsSizes};
 ghost use Rattle.attr_view.specs.Values.{Resizes, WritesValue, attribute_in, len_with};
 ghost use Rattle.attr_view.specs.View.{Refuses, viewed_block};
 
-use crate::edit::{insert_bytes, put_bytes, put_header, remove_bytes};
+use crate::edit::{insert_bytes, put_bytes, put_header, put_sizes, remove_bytes};
 use crate::shape::place_in;
 use crate::value::{resize_bytes, resized_len, value_begin};
 use crate::{RecordView, ViewNo};
@@ -101,6 +102,17 @@ fn resize_in(block: &mut [u8; 1024], i: usize, n: usize) -> Result<(), ViewNo>
     }
     resize_bytes(block, at, len, n);
     Ok(())
+}
+
+// Sets the real and the initialized size of attribute i.
+fn set_sizes_in(block: &mut [u8; 1024], i: usize, real: u64, initialized: u64)
+    requires shape { HasShape block.old (length (attributes block.old)) }
+    requires within { i < length (attributes block.old) }
+    requires extent { IsSome (run_text_of (attribute_in block.old i).body) }
+    ensures { SetsSizes block.old block.new i real initialized }
+{
+    let place = place_in(block, i);
+    put_sizes(block, place, real, initialized);
 }
 
 // Sets fields of a record's header.
@@ -199,6 +211,17 @@ impl<'r> RecordMut<'r> {
         ensures kept { OnErr result (edited_block self.new ≡ edited_block self.old) }
     {
         resize_in(self.block, i, n)
+    }
+
+    /// Sets the real and the initialized size of attribute `i`, a non-resident one: those of a stream in the header of its first
+    /// extent. All other bytes stay.
+    pub fn set_sizes(&mut self, i: usize, real: u64, initialized: u64)
+        requires within { i < length (attributes (edited_block self.old)) }
+        requires extent { IsSome (run_text_of (attribute_in (edited_block self.old) i).body) }
+        ensures same_reference { reference_of self.new ≡ reference_of self.old }
+        ensures set { SetsSizes (edited_block self.old) (edited_block self.new) i real initialized }
+    {
+        set_sizes_in(self.block, i, real, initialized);
     }
 
     /// Sets these fields of the record's header. All other bytes stay.

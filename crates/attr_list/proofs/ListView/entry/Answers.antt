@@ -4,16 +4,16 @@ use Rattle.attr_list.proofs.ListEntryLaws.{length-list_entries, slice_get-list_e
 use Rattle.attr_list.specs.View.{IsEntryOf}
 use Rattle.attr_list.proofs.ListView.entry.Goals as goal
 
-pub place-requires : goal.place-requires
-place-requires c =
+pub entry_place-requires : goal.entry_place-requires
+entry_place-requires c =
     let view = c.args.self.now in
-    omega (arith, c.requires, length-list_entries view.bytes.now view.count view.shape)
+    let all = length-list_entries view.bytes.now view.count view.shape in λ k lt. view.shape.each k (omega (arith, c.requires))
 
 pub entry_at-requires : goal.entry_at-requires
 entry_at-requires c =
     let view = c.args.self.now in
     let all = length-list_entries view.bytes.now view.count view.shape in
-    subst (IsListEntry view.bytes.now) (sym c.place.ensures) (view.shape.each c.args.i (omega (arith, c.requires)))
+    subst (IsListEntry view.bytes.now) (sym c.entry_place.ensures) (view.shape.each c.args.i (omega (arith, c.requires)))
 
 pub returns-clause-entry : goal.returns-clause-entry
 returns-clause-entry c =
@@ -21,5 +21,5 @@ returns-clause-entry c =
     let all = length-list_entries view.bytes.now view.count view.shape in
     let here =
     slice_get-list_entries view.bytes.now view.count c.args.i view.shape (omega (arith, c.requires))
-    ∙ ap (λ at. Some (list_entry_at view.bytes.now at)) (sym c.place.ensures) in
+    ∙ ap (λ at. Some (list_entry_at view.bytes.now at)) (sym c.entry_place.ensures) in
     subst (λ (found : Option ListEntry). IfSome found (λ listed. IsEntryOf listed c.in_ok-entry.entry)) (sym here) c.in_ok-entry.ensures

@@ -2,14 +2,16 @@ use Rattle.std.proofs.Common.{◌≡◌, ◌⊎◌, inl, inr, ℕ, List, length,
 use Rattle.ntfs_def.specs.AttributeList.{HasListShape, list_entries}
 use Rattle.attr_list.proofs.ListEntryLaws.{length-list_entries, slice_get-list_entries, HasListShape-exact, IsFirstBadEntry-exact, HasListShape-IsFirstBadEntry, list_or_bad}
 use Rattle.attr_list.specs.declared.ListNo.{ListNo}
-use Rattle.attr_list.specs.declared.ListNo.TheVariants.{Memory, Shape}
+use Rattle.attr_list.specs.declared.ListNo.TheVariants.{Long, Memory, Shape}
 use Rattle.attr_list.specs.View.{Refuses}
 use Rattle.attr_list.proofs.laws.one_answer.Goals as goal
 
 one_refusal : (value : List ℕ) (one other : ListNo) → Refuses value one → Refuses value other → one ≡ other
 one_refusal value (Shape a) (Shape b) fails also = ap (λ at. Shape at) (IsFirstBadEntry-exact value a b fails also)
 one_refusal value (Shape a) Memory fails also = elim also [ ]
+one_refusal value (Shape a) Long fails also = elim also [ ]
 one_refusal value Memory other fails also = elim fails [ ]
+one_refusal value Long other fails also = elim fails [ ]
 
 pub returns-clause-count : goal.returns-clause-count
 returns-clause-count c = HasListShape-exact
@@ -26,6 +28,7 @@ returns-clause-refusal c = one_refusal
 refused : (value : List ℕ) (count : ℕ) (refusal : ListNo) → HasListShape value count → Refuses value refusal → ⊥
 refused value count (Shape at) shape fails = HasListShape-IsFirstBadEntry value count at shape fails
 refused value count Memory shape fails = elim fails [ ]
+refused value count Long shape fails = elim fails [ ]
 
 pub returns-clause-never_both : goal.returns-clause-never_both
 returns-clause-never_both c = refused

@@ -1,6 +1,6 @@
 use Rattle.std.proofs.Common.{◌≡◌}
 use Rattle.ntfs_def.specs.AttributeList.{list_entry_place}
-use Rattle.attr_list.proofs.ListView.place.Given as goal
+use Rattle.attr_list.proofs.shape.entry_place.Given as goal
 
 abbrev pub invariant-loop-k : goal.invariant-loop-k
-invariant-loop-k l = l.at ≡ list_entry_place l.self.bytes.now l.k
+invariant-loop-k l = l.at ≡ list_entry_place l.bytes l.k
