@@ -8,10 +8,12 @@ use Rattle.cluster_bitmap.specs.Flags.{IsFree, IsTaken, with_given, with_taken}
 use Rattle.cluster_bitmap.proofs.FlagLaws.{length-with_all, with_all}
 use Rattle.cluster_bitmap.proofs.TakenLaws.{put-inside, put-same}
 use Rattle.mft_table.specs.declared.changes.Change.{Change}
-use Rattle.mft_table.specs.declared.changes.Change.TheVariants.{Gave, Took}
+use Rattle.mft_table.specs.declared.changes.Change.TheVariants.{Gave, GaveRecord, Took, TookRecord}
 use Rattle.mft_table.specs.declared.mounted.Mounted.{Mounted}
-use Rattle.mft_table.specs.Changes.{ShowAll, Shows, before, before_all, with_clusters_given, with_clusters_taken}
+use Rattle.mft_table.specs.Changes.{ShowAll, Shows, before, before_all, with_clusters_given, with_clusters_taken, with_record_given, with_record_taken}
 use Rattle.mft_table.specs.Mounted.{StandsOn}
+use Rattle.mft_table.specs.Tables.{layout_on}
+use Rattle.volume_def.specs.Table.{LiesOn}
 
 -- the flags of a range are there, and each is so
 abbrev AreAll : Bool → List Bool → ℕ → ℕ → Type 0
@@ -90,6 +92,45 @@ pub given-shown : (mounted : Mounted) (at len : ℕ) → IsTaken mounted.cluster
     → IsFree (with_given mounted.clusters at len) at len
 given-shown mounted at len taken = put-all true false mounted.clusters at len taken
 
+-- The same of the flag of a record.
+
+with_records : Mounted → List Bool → Mounted
+with_records mounted records = record mounted { records = records }
+
+pub record_taken-length : (mounted : Mounted) (number : ℕ) → IsFree mounted.records number 1
+    → length (with_taken mounted.records number 1) ≡ length mounted.records
+record_taken-length mounted number free = put-length false true mounted.records number 1 free
+
+pub record_given-length : (mounted : Mounted) (number : ℕ) → IsTaken mounted.records number 1
+    → length (with_given mounted.records number 1) ≡ length mounted.records
+record_given-length mounted number taken = put-length true false mounted.records number 1 taken
+
+pub record_taken-back : (mounted : Mounted) (number : ℕ) → IsFree mounted.records number 1
+    → with_record_given (with_record_taken mounted number) number ≡ mounted
+unfolding with_records
+record_taken-back mounted number free = ap (with_records mounted) (put-back false true mounted.records number 1 free)
+
+pub record_given-back : (mounted : Mounted) (number : ℕ) → IsTaken mounted.records number 1
+    → with_record_taken (with_record_given mounted number) number ≡ mounted
+unfolding with_records
+record_given-back mounted number taken = ap (with_records mounted) (put-back true false mounted.records number 1 taken)
+
+pub record_taken-shown : (mounted : Mounted) (number : ℕ) → IsFree mounted.records number 1
+    → IsTaken (with_taken mounted.records number 1) number 1
+record_taken-shown mounted number free = put-all false true mounted.records number 1 free
+
+pub record_given-shown : (mounted : Mounted) (number : ℕ) → IsTaken mounted.records number 1
+    → IsFree (with_given mounted.records number 1) number 1
+record_given-shown mounted number taken = put-all true false mounted.records number 1 taken
+
+-- a flag that is clear stays so
+pub record_given-free : (mounted : Mounted) (number : ℕ) → IsFree mounted.records number 1
+    → with_record_given mounted number ≡ mounted
+unfolding with_records
+record_given-free mounted number free =
+    ap (with_records mounted)
+    (put-same false mounted.records number 1 (range-inside false mounted.records number 1 (omega arith) free) free)
+
 -- One more change.
 
 pub before_all-push : (changes : List Change) (change : Change) (mounted : Mounted)
@@ -134,10 +175,29 @@ pub StandsOn-given : (size : ℕ) (mounted : Mounted) (at len : ℕ) → IsTaken
     → StandsOn size (with_clusters_given mounted at len)
 StandsOn-given size mounted at len taken = StandsOn-clusters size mounted _ (given-length mounted at len taken)
 
+StandsOn-records : (size : ℕ) (mounted : Mounted) (records : List Bool) → length records ≡ length mounted.records
+    → StandsOn size mounted → StandsOn size (record mounted { records = records })
+StandsOn-records size mounted records long stands = record {
+  whole = stands.whole;
+  size = stands.size;
+  clusters = stands.clusters;
+  table = subst (λ count. LiesOn size (layout_on mounted.geometry mounted.table mounted.initialized count)) (sym long) stands.table;
+}
+
+pub StandsOn-record_taken : (size : ℕ) (mounted : Mounted) (number : ℕ) → IsFree mounted.records number 1 → StandsOn size mounted
+    → StandsOn size (with_record_taken mounted number)
+StandsOn-record_taken size mounted number free = StandsOn-records size mounted _ (record_taken-length mounted number free)
+
+pub StandsOn-record_given : (size : ℕ) (mounted : Mounted) (number : ℕ) → IsTaken mounted.records number 1 → StandsOn size mounted
+    → StandsOn size (with_record_given mounted number)
+StandsOn-record_given size mounted number taken = StandsOn-records size mounted _ (record_given-length mounted number taken)
+
 StandsOn-before : (size : ℕ) (change : Change) (mounted : Mounted) → Shows mounted change → StandsOn size mounted
     → StandsOn size (before change mounted)
 StandsOn-before size (Took at len) mounted shown stands = StandsOn-given size mounted at len shown stands
 StandsOn-before size (Gave at len) mounted shown stands = StandsOn-taken size mounted at len shown stands
+StandsOn-before size (TookRecord number) mounted shown stands = StandsOn-record_given size mounted number shown stands
+StandsOn-before size (GaveRecord number) mounted shown stands = StandsOn-record_taken size mounted number shown stands
 
 pub StandsOn-before_all : (size : ℕ) (changes : List Change) (mounted : Mounted) → ShowAll mounted changes → StandsOn size mounted
     → StandsOn size (before_all changes mounted)

@@ -14,3 +14,6 @@ pub mod ClusterBytes
 pub mod StreamBytes
 pub mod StreamRuns
 pub mod StreamReads
+pub mod FreedLaws
+pub mod FreeStaged
+pub mod TakenStaged

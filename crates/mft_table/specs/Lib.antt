@@ -11,3 +11,4 @@ pub mod Streams
 pub mod MountNos
 pub mod HeldTables
 pub mod InUse
+pub mod FreeRecords

@@ -14,6 +14,14 @@ RefusesRead view n no.NoRoom = ⊥
 RefusesRead view n no.MftFull = ⊥
 RefusesRead view n no.Memory = ⊥
 
+-- Record n of this volume is not freed: it is not read, or there was no memory to stage it.
+abbrev pub RefusesFree : VolumeView → ℕ → MftNo → Type 0
+RefusesFree view n no.Device = Unit {0}
+RefusesFree view n (no.Torn number) = (number ≡ n) × (IsTrue view.told → ¬ (IsSealed (view.block n)))
+RefusesFree view n no.NoRoom = ⊥
+RefusesFree view n no.MftFull = ⊥
+RefusesFree view n no.Memory = Unit {0}
+
 -- what the disk's count of faults did
 abbrev pub CountsNo : ℕ → ℕ → MftNo → Type 0
 CountsNo before after no.Device = Rose before after

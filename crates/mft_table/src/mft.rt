@@ -9,6 +9,7 @@ ghost use Rattle.mft_table.specs.Mounted.{StandsOn};
 mod bits;
 mod clusters;
 mod commit;
+mod free_records;
 mod mark;
 mod records;
 mod sectors;

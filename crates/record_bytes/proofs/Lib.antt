@@ -1,3 +1,4 @@
 pub mod ResidentLaws
 pub mod ExtentLaws
 pub mod NewRecordLaws
+pub mod EmptyRecordLaws

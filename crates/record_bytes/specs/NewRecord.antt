@@ -1,10 +1,11 @@
 -- The opened block of a record that is made.
 -- Layout: as in `Record` of ntfs_def.
-use Rattle.std.specs.Prelude.{◌≡◌, ℕ, ◌+◌, ◌%◌, true, List, [], ◌∷◌, ◌++◌, length, replicate, All, Option, Some, None, option_map}
+use Rattle.std.specs.Prelude.{◌≡◌, ℕ, ◌+◌, ◌%◌, ◌==◌, true, List, [], ◌∷◌, ◌++◌, length, replicate, All, Option, Some, None, option_map}
 use Rattle.attr_view.specs.Edit.{with_next_id}
+use Rattle.attr_view.specs.declared.record_mut.RecordHeader.{RecordHeader}
 use Rattle.ntfs_def.specs.Attribute.{Attribute, attributes, value_offset}
 use Rattle.ntfs_def.specs.Fixup.{sequence_number}
-use Rattle.ntfs_def.specs.Record.{is_in_use, next_attribute_id}
+use Rattle.ntfs_def.specs.Record.{base_in, header_of, is_in_use, next_attribute_id, used_size}
 use Rattle.ntfs_def.specs.Shape.{HasShape}
 use Rattle.volume_def.specs.Files.{Content, Record, record_of}
 use Rattle.record_bytes.specs.AttributeBytes.{part}
@@ -53,3 +54,19 @@ abbrev pub AddsPart : List ℕ → List ℕ → ℕ → List ℕ → Content →
 AddsPart old new kind name content =
     (n : ℕ) (planned : Option Record) → IsNewRecord n planned old
     → IsNewRecord n (option_map (with_part n kind name content) planned) new
+
+-- The block is a record without attributes, of this number, under a header of these fields. It was never stored.
+pub record IsEmptyRecord (number : ℕ) (fields : RecordHeader) (block : List ℕ) : Type 0 where
+  pub shape : HasShape block 0
+  pub empty : attributes block ≡ []
+  pub unstored : sequence_number block ≡ 0
+  pub used : used_size block ≡ 0x40
+  pub header : header_of block ≡ record {
+    sequence = fields.sequence;
+    links = fields.links;
+    flags = fields.flags;
+    base = base_in fields.base;
+    next_id = 0;
+    number = number;
+  }
+  pub in_use : is_in_use block ≡ (fields.flags % 2 == 1)

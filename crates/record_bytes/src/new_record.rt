@@ -1,6 +1,6 @@
 //! A record that is made, attribute by attribute.
 ghost use Rattle.std.specs.Prelude.{◌≡◌, ◌≢◌, ◌≤◌, ◌<◌, ◌+◌, ◌*◌, ◌^◌, ◌%◌, ◌++◌, Some, drop, IfOk, OnErr, OnOk, length};
-ghost use Rattle.attr_view.specs.Edit.{Inserts};
+ghost use Rattle.attr_view.specs.Edit.{Inserts, SetsHeader};
 ghost use Rattle.ntfs_def.specs.declared.kinds.TheConstants.{END};
 ghost use Rattle.ntfs_def.specs.Attribute.{attributes};
 ghost use Rattle.ntfs_def.specs.Record.{used_size};
@@ -9,14 +9,14 @@ ghost use Rattle.ntfs_def.specs.Shape.{HasShape, IsOneAttribute};
 ghost use Rattle.ntfs_def.specs.Units.{wide};
 ghost use Rattle.volume_def.specs.Files.{Value};
 ghost use Rattle.record_bytes.specs.AttributeBytes.{one_run, resident_len, runs_at};
-ghost use Rattle.record_bytes.specs.NewRecord.{AddsPart, IsNewRecord, blank_block, blank_record};
+ghost use Rattle.record_bytes.specs.NewRecord.{AddsPart, IsEmptyRecord, IsNewRecord, blank_block, blank_record};
 
 use crate::attribute::{non_resident, push_wide, resident};
-use attr_view::RecordMut;
-use ntfs_def::record_header::NEXT_ID;
+use attr_view::{RecordHeader, RecordMut};
+use ntfs_def::record_header::{IN_USE, NEXT_ID, NUMBER};
 use ntfs_def::{Run, Sizes};
 use std::alloc::{AllocError, Global};
-use vol_bytes::u16_at;
+use vol_bytes::{put_u32, u16_at};
 
 /// Puts a header of 64 bytes over the first bytes of a block.
 pub fn put_front(block: &mut [u8], header: &[u8; 64])
@@ -40,6 +40,26 @@ pub fn blank(block: &mut [u8; 1024], number: u8, sequence: u8, flags: u8)
     ];
     *block = [0; 1024];
     put_front(block, &header);
+}
+
+// Sets the fields of a record's header that an owner chooses.
+fn set_fields(block: &mut [u8; 1024], header: RecordHeader)
+    requires { HasShape block.old (length (attributes block.old)) }
+    ensures { SetsHeader block.old block.new header }
+{
+    match RecordMut::new(block) {
+        Ok(mut record) => record.set_header(header),
+        Err(_) => unreachable!(),
+    }
+}
+
+/// A record without attributes, of this number and header. Its update sequence number is 0.
+pub fn lay_record(block: &mut [u8; 1024], number: u32, header: RecordHeader)
+    ensures { IsEmptyRecord number header block.new }
+{
+    blank(block, 0, 0, IN_USE as u8);
+    put_u32(block, NUMBER, number);
+    set_fields(block, header);
 }
 
 // Puts an attribute behind all others.

@@ -58,7 +58,7 @@ impl<D: Disk> Mft<'_, D> {
     }
 
     // Seals a record and stages it, with its copy where the mirror has one, in room that was reserved.
-    fn stage_record(&mut self, number: u64, block: &[u8; 1024])
+    pub(crate) fn stage_record(&mut self, number: u64, block: &[u8; 1024])
         requires number { number < length (mounted_of D.Disk self.old).records }
         requires array { HasArray block.now }
         requires mirror { IsMirrorInside (mounted_of D.Disk self.old) }
