@@ -62,3 +62,10 @@ record-inside held k left i inside place = elim (cases_lt k (length held)) [
   | inl lt ↦ lt
   | inr past ↦ absurd (let whole = ap (λ xs. length (flat_map attributes_in xs)) (take_all k held past) in omega arith)
 ]
+
+-- an attribute of a record that is held
+pub within-held : (held : List Held) (k left : ℕ) (one : Held) → one ≡ get_or held k one → ((d : Held) → left < (get_or held k d).count)
+    → left < length (attributes one.block)
+within-held held k left one is few =
+    let here = ap (λ (h : Held). h.count) is in
+    omega (arith, few one, here, length-attributes one.block one.count one.shape)

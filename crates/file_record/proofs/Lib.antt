@@ -14,4 +14,14 @@ pub mod ReadLaws
 mod SealedRecords
 mod HeldParts
 mod OverwriteLaws
+mod SizeLaws
+mod EditLaws
 mod WriteLaws
+mod LinkLaws
+mod FreshRecords
+mod HeldInserts
+mod HeldRemovals
+mod ExtensionLaws
+mod CreateLaws
+mod AttributeLaws
+mod RecordEdits

@@ -12,7 +12,7 @@ use Rattle.ntfs_def.proofs.ShapeLaws.{IsAttribute-long, header_failing-length, h
 use Rattle.attr_view.specs.Values.{PutsBytes, WritesValue, attribute_in}
 
 -- the bytes of the attribute at a place
-bytes-at : (block : List ℕ) (p : ℕ) → (attribute_at block p).bytes ≡ slice_range block p (p + attribute_len block p)
+pub bytes-at : (block : List ℕ) (p : ℕ) → (attribute_at block p).bytes ≡ slice_range block p (p + attribute_len block p)
 unfolding attribute_at
 bytes-at block p = ap (λ q. slice_range block q (p + attribute_len block p)) (let e : p + 0 ≡ p = omega arith in e)
 
@@ -28,7 +28,7 @@ with-value block p P = by (is_resident block p)
     by false none = absurd none
 
 -- a field of a piece of a block
-u16-piece : (xs : List ℕ) (at len k : ℕ) → k + 1 < len → u16_at (slice_range xs at (at + len)) k ≡ u16_at xs (at + k)
+pub u16-piece : (xs : List ℕ) (at len k : ℕ) → k + 1 < len → u16_at (slice_range xs at (at + len)) k ≡ u16_at xs (at + k)
 u16-piece xs at len k h =
     let a = index_within xs at len k (omega (arith, h)) in
     let b = index_within xs at len (k + 1) h in
@@ -36,7 +36,7 @@ u16-piece xs at len k h =
     omega (arith, a, b, c)
 
 -- two pieces as long are the same where their bytes are
-same-at : (old new : List ℕ) (p len k : ℕ) → p + len ≤ length old → length new ≡ length old → get_or new (p + k) 0 ≡ get_or old (p + k) 0
+pub same-at : (old new : List ℕ) (p len k : ℕ) → p + len ≤ length old → length new ≡ length old → get_or new (p + k) 0 ≡ get_or old (p + k) 0
     → get_or (slice_range new p (p + len)) k 0 ≡ get_or (slice_range old p (p + len)) k 0
 same-at old new p len k inside long same = elim (cases_lt k len) [
   | inl lt ↦ index_within new p len k lt ∙ same ∙ sym (index_within old p len k lt)

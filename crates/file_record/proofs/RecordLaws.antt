@@ -1,13 +1,17 @@
 -- Records of the table that belong to a file.
-use Rattle.std.proofs.Common.{◌≡◌, ◌<◌, ℕ, cond, ltb, List, Option, Some, None, IsSomeAnd, IfSome, IfNone, IsTrue, refl, sym, ap, subst, inl, inr, ◌∙◌, arith}
+use Rattle.std.proofs.Common.{◌≡◌, ◌<◌, ℕ, cond, length, ltb, List, Option, Some, None, IsSomeAnd, IfSome, IfNone, IsTrue, refl, sym, ap, subst, inl, inr, ◌∙◌, arith}
 use Rattle.std.proofs.lemmas.Bool.{cases_Bool, lt-ltb, ltb-true}
 use Rattle.std.specs.Prelude.{is_none, unwrap_or}
 use Rattle.std.specs.Option.{option_map}
+use Rattle.ntfs_def.specs.Attribute.{attributes}
 use Rattle.ntfs_def.specs.Fixup.{IsSealed, opened_of}
 use Rattle.ntfs_def.specs.Record.{Reference, is_in_use}
 use Rattle.ntfs_def.specs.Shape.{HasShape}
 use Rattle.ntfs_def.proofs.FixupLaws.{length-opened_of}
-use Rattle.ntfs_def.proofs.ShapeLaws.{header_failing-length}
+use Rattle.ntfs_def.proofs.ShapeLaws.{HasShape-FailsAt, header_failing-length}
+use Rattle.attr_view.specs.View.{Refuses}
+use Rattle.attr_view.specs.declared.ViewNo.{ViewNo}
+use Rattle.attr_view.specs.declared.ViewNo.TheVariants.{Full, Shape}
 use Rattle.volume_def.specs.Files.{Record, file_of, is_base, record_on, record_in, record_of}
 use Rattle.volume_def.proofs.PartLaws.{record_at-block}
 use Rattle.volume_def.specs.Readable.{IsFile, IsReadableVolume}
@@ -15,6 +19,11 @@ use Rattle.volume_def.specs.View.{VolumeView}
 use Rattle.file_record.proofs.OpenedRecords.{is_in_use-opened_of}
 use Rattle.file_record.specs.Records.{IsBlockOf, IsRecordOf}
 use Rattle.list_laws.proofs.OptionLaws.{some-value}
+
+-- a block that has the shape is not refused
+pub shape-refused : (block : List ℕ) (no : ViewNo) → Refuses block no → HasShape block (length (attributes block)) → ⊥
+shape-refused block (Shape at) fails shape = HasShape-FailsAt block _ at shape fails
+shape-refused block (Full need free) fails shape = absurd fails
 
 -- a block of a record's shape is in use where the opened one is
 in_use-opened : (stored : List ℕ) (count : ℕ) → HasShape (opened_of stored) count → is_in_use (opened_of stored) ≡ is_in_use stored
@@ -94,7 +103,7 @@ module _ (view : VolumeView) (f n : ℕ) (block : List ℕ) (inside : n < view.l
   found-other None other = λ own. other (subst (IsBlockOf f n) (sym is) (IsBlockOf-record view f n own))
   found-other (Some count) other = tt
 
-base-file : (f : ℕ) (r : Record) → IsTrue (is_base r) → file_of f r ≡ f
+pub base-file : (f : ℕ) (r : Record) → IsTrue (is_base r) → file_of f r ≡ f
 base-file f r base = none-number r.header.base base where
   none-number : (base : Option Reference) → IsTrue (is_none base) → unwrap_or (option_map (λ b. b.number) base) f ≡ f
   none-number None is = refl

@@ -10,7 +10,7 @@ use Rattle.ntfs_def.proofs.BareRecords.{SameOutside-bare_of}
 use Rattle.ntfs_def.proofs.SameLaws.{HasShape-same}
 use Rattle.ntfs_def.proofs.ShapeLaws.{header_failing-length}
 
-place-shape : (block : List ℕ) → header_failing block ≡ None → array_place block ≡ 0x30
+pub place-shape : (block : List ℕ) → header_failing block ≡ None → array_place block ≡ 0x30
 place-shape block right = search rules
 
 numbers-shape : (block : List ℕ) → header_failing block ≡ None → array_count block ≡ 3

@@ -1,5 +1,5 @@
 -- What is held of a file, and when it is what the volume tells of it.
-use Rattle.std.specs.Prelude.{◌≡◌, ◌<◌, ℕ, List, map, All}
+use Rattle.std.specs.Prelude.{◌≡◌, ◌<◌, ℕ, List, map, All, IsSomeAnd, slice_get}
 use Rattle.std.specs.List.{AllPairs, flat_map}
 use Rattle.ntfs_def.specs.Attribute.{Attribute, attributes}
 use Rattle.ntfs_def.specs.Fixup.{bare_of, opened_of}
@@ -11,6 +11,10 @@ use Rattle.file_record.specs.declared.parts.FileParts.{FileParts}
 -- the records that are held, by rising number
 abbrev pub held_of : FileParts → List Held
 held_of file = file.held.items
+
+-- record `place` of those that are held: `P` holds of it
+abbrev pub RecordHeld : FileParts → ℕ → (Held → Type 0) → Type 0
+RecordHeld file place P = IsSomeAnd (slice_get (held_of file) place) P
 
 abbrev pub file_number : FileParts → ℕ
 file_number file = file.number

@@ -6,3 +6,7 @@ pub mod Numbers
 pub mod Holds
 pub mod FileNos
 pub mod Written
+pub mod Links
+pub mod Sizes
+pub mod Attributes
+pub mod Extensions

@@ -15,9 +15,11 @@ pub struct FileParts {
 
 /// Where a part of a file is held: in which of the records, and which attribute of it.
 #[derive(Clone, Copy, Debug)]
-pub(crate) struct PartPlace {
-    pub(crate) record: usize,
-    pub(crate) attribute: usize,
+pub struct PartPlace {
+    /// Which of the records that are held.
+    pub record: usize,
+    /// Which attribute in it.
+    pub attribute: usize,
 }
 
 impl FileParts {
@@ -64,7 +66,7 @@ impl FileParts {
     }
 
     /// Where a part is held.
-    pub(crate) fn place_of(&self, i: usize) -> PartPlace
+    pub fn place_of(&self, i: usize) -> PartPlace
         requires { i < length (parts_held self.now) }
         ensures record { result.record < length (held_of self.now) }
         ensures place { i ≡ length (flat_map attributes_in (take result.record (held_of self.now))) + result.attribute }

@@ -8,6 +8,7 @@ ghost use Rattle.mft_table.specs.Mft.{MftReserves, MftStages, is_mft_broken, mou
 ghost use Rattle.mft_table.specs.MirrorClusters.{IsMirrorInside};
 ghost use Rattle.mft_table.specs.Staging.{record_places};
 ghost use Rattle.file_record.specs.Held.{parts_held};
+ghost use Rattle.file_record.specs.Links.{HoldsSame};
 ghost use Rattle.file_record.specs.Written.{HoldsBytes, IsWholeFile, PartHeld, StagesHeld, WritesBytes};
 
 use crate::{FileNo, FileParts, Held};
@@ -41,7 +42,7 @@ impl Held {
     }
 
     // Seals the record and stages it. One past the table is none of a volume that is told.
-    fn stage<D: Disk>(&self, mft: &mut Mft<'_, D>) -> Result<(), FileNo>
+    pub(crate) fn stage<D: Disk>(&self, mft: &mut Mft<'_, D>) -> Result<(), FileNo>
         requires mirror { IsMirrorInside (mounted_of D.Disk mft.old) }
         requires sound { is_mft_broken D.Disk mft.old ≡ false }
         ensures staged { OnOk result (StagesHeld (view D.Disk mft.old) (view D.Disk mft.new) self.now.number self.now.block) }
@@ -65,7 +66,7 @@ impl FileParts {
     ///
     /// # Errors
     ///
-    /// `Memory` where there is none for four more staged sectors. Nothing is staged, and what is held is not told.
+    /// `Memory` where there is none for four more staged sectors. Nothing is staged, and of what is held only the numbers are told.
     pub fn write_bytes<D: Disk>(
         &mut self,
         mft: &mut Mft<'_, D>,
@@ -85,6 +86,7 @@ impl FileParts {
             → IsWholeFile (view D.Disk mft.old) self.old
             → PartHeld self.old i (λ part. 1024 * part.holder + 1024 ≤ (view D.Disk mft.old).layout.initialized)
             → IsWholeFile (view D.Disk mft.new) self.new) }
+        ensures same { HoldsSame self.old self.new }
         ensures stages { OnOk result (PartHeld self.old i (λ part.
             MftStages D.Disk (record_places (view D.Disk mft.old).layout part.holder) 4 mft.old mft.new)) }
         ensures kept { OnErr result (MftReserves D.Disk mft.old mft.new) }

@@ -1,23 +1,15 @@
-use Rattle.std.proofs.Common.{◌≡◌, ◌+◌, ◌*◌, ◌<◌, ◌≤◌, ℕ, List, length, get_or, ap, refl, sym, subst, arith}
+use Rattle.std.proofs.Common.{◌+◌, ◌*◌, ◌≤◌, length, refl, sym, subst, arith}
 use Rattle.std.specs.Prelude.{IsSomeAnd, IsTrue}
 use Rattle.std.proofs.lemmas.Result.{on_ok_weaker}
-use Rattle.ntfs_def.specs.Attribute.{attributes}
-use Rattle.ntfs_def.proofs.AttributeLaws.{length-attributes}
 use Rattle.volume_def.specs.Coverage.{IsApart}
 use Rattle.volume_def.specs.View.{ReplacesBlock}
 use Rattle.mft_table.specs.Mft.{MftStages, view}
 use Rattle.mft_table.specs.Staging.{record_places}
-use Rattle.file_record.specs.declared.held.Held.{Held}
 use Rattle.file_record.specs.Written.{IsWholeFile, PartHeld, StagesHeld, WritesBytes}
-use Rattle.file_record.proofs.WriteLaws.{bytes-written, holds-there, number-inside, part-held, whole-now}
+use Rattle.file_record.proofs.EditLaws.{number-inside, same-held, whole-now}
+use Rattle.file_record.proofs.HeldLaws.{within-held}
+use Rattle.file_record.proofs.WriteLaws.{EditsHeld-changed, bytes-written, holds-there, part-held}
 use Rattle.file_record.proofs.parts.FileParts.write_bytes.Goals as goal
-
--- an attribute of a record that is held
-within-held : (held : List Held) (k left : ℕ) (one : Held) → one ≡ get_or held k one → ((d : Held) → left < (get_or held k d).count)
-    → left < length (attributes one.block)
-within-held held k left one is few =
-    let here = ap (λ (h : Held). h.count) is in
-    omega (arith, few one, here, length-attributes one.block one.count one.shape)
 
 pub write_value-requires-clause-within : goal.write_value-requires-clause-within
 write_value-requires-clause-within g c =
@@ -50,9 +42,9 @@ returns-clause-written g c =
     let small = number-inside view' c.args.self.now place.record one whole c.index_mut-held.ensures.value c.place_of-place.ensures.record in
     let number = c.write_value.ensures.number in
     let w = staged (omega (arith, small, number)) apart (omega (arith, low, number)) in
-    bytes-written view' (view g.D.Disk c.stage.new.mft) c.args.self.now place.record place.attribute c.args.at one now c.args.from.now w.0
-    told whole c.index_mut-held.ensures.value c.place_of-place.ensures.record number within c.write_value.ensures.written w.1
-    (subst (λ n. ReplacesBlock view' (view g.D.Disk c.stage.new.mft) n w.0) number w.2)
+    bytes-written view' (view g.D.Disk c.stage.new.mft) c.args.self.now place.record place.attribute one now w.0
+    told whole c.index_mut-held.ensures.value c.place_of-place.ensures.record number within w.1
+    (subst (λ n. ReplacesBlock view' (view g.D.Disk c.stage.new.mft) n w.0) number w.2) c.args.at c.args.from.now c.write_value.ensures.written
     (holds-there c.args.self.now.held.items place.record place.attribute c.args.i one c.index_mut-held.ensures.value
     c.place_of-place.ensures.record c.place_of-place.ensures.place within c.args.at (length c.args.from.now) c.requires.inside)) in
     on_ok_weaker _ weaker c.stage.ensures.staged
@@ -73,8 +65,9 @@ returns-clause-held g c =
     let small = number-inside view' c.args.self.now place.record one whole c.index_mut-held.ensures.value c.place_of-place.ensures.record in
     let number = c.write_value.ensures.number in
     let w = staged (omega (arith, small, number)) apart (omega (arith, low, number)) in
-    whole-now view' (view g.D.Disk c.stage.new.mft) c.args.self.now place.record place.attribute c.args.at one now c.args.from.now w.0
-    told whole c.index_mut-held.ensures.value c.place_of-place.ensures.record number within c.write_value.ensures.written w.1
+    whole-now view' (view g.D.Disk c.stage.new.mft) c.args.self.now place.record one now w.0
+    told whole c.index_mut-held.ensures.value c.place_of-place.ensures.record number
+    (EditsHeld-changed one.block now.block place.attribute c.write_value.ensures.written.changes) w.1
     (subst (λ n. ReplacesBlock view' (view g.D.Disk c.stage.new.mft) n w.0) number w.2) _ refl refl in
     on_ok_weaker _ weaker c.stage.ensures.staged
 
@@ -91,3 +84,8 @@ returns-clause-stages g c =
     subst (λ o. IsSomeAnd o (λ part. MftStages g.D.Disk (record_places layout part.holder) 4 c.args.mft.now c.stage.new.mft)) (sym read)
     (subst (λ n. MftStages g.D.Disk (record_places layout n) 4 c.args.mft.now c.stage.new.mft) c.write_value.ensures.number stages) in
     on_ok_weaker _ weaker c.stage.ensures.stages
+
+pub returns-clause-same : goal.returns-clause-same
+returns-clause-same g c =
+    same-held c.args.self.now _ c.place_of-place.result.record c.index_mut-held.result.now c.write_value.new.self
+    c.index_mut-held.ensures.value c.write_value.ensures.number refl refl

@@ -1,0 +1,70 @@
+-- What a volume is after an attribute came into a record of a file that is held, went, was put in another's place, or was given another
+-- length.
+use Rattle.std.specs.Prelude.{◌≡◌, ◌+◌, ℕ, List, [], ◌∷◌, Some, length, slice_get, slice_set}
+use Rattle.std.specs.List.{insert, remove}
+use Rattle.std.specs.Option.{option_map}
+use Rattle.ntfs_def.specs.Attribute.{Attribute, attribute_at, attribute_id, attribute_len, attribute_place, attributes, value_of}
+use Rattle.ntfs_def.specs.Fixup.{opened_of}
+use Rattle.ntfs_def.specs.Record.{Header, header_of, is_in_use, used_size}
+use Rattle.ntfs_def.specs.Shape.{HasShape}
+use Rattle.attr_view.specs.Edit.{next_id_after, with_next_id}
+use Rattle.attr_view.specs.Values.{with_length}
+use Rattle.volume_def.specs.View.{VolumeView}
+use Rattle.volume_edits.specs.Rewritten.{EditsBlock, RewritesRecord}
+
+-- the header of a record into which an attribute of this id was put
+abbrev pub header_after : Header → ℕ → Header
+header_after header id = with_next_id header (next_id_after header.next_id id)
+
+-- The opened record has this attribute in the place of its attribute i, and every other one as before.
+pub record PutsInstead (old new attr : List ℕ) (i : ℕ) : Type 0 where
+  pub shape : HasShape new (length (attributes new))
+  pub as_many : length (attributes new) ≡ length (attributes old)
+  pub header : header_of new ≡ header_after (header_of old) (attribute_id attr 0)
+  pub in_use : is_in_use new ≡ is_in_use old
+  pub used : used_size new + attribute_len old (attribute_place old i) ≡ used_size old + length attr
+  pub attributes : attributes new ≡ slice_set (attributes old) i (attribute_at attr 0)
+
+-- the opened record n of a volume
+abbrev pub opened_record : VolumeView → ℕ → List ℕ
+opened_record view n = opened_of (view.block n)
+
+-- AN ATTRIBUTE CAME into record n, before its attribute i or behind all. Nothing else of the volume changed.
+pub record InsertsAttribute (old new : VolumeView) (n i : ℕ) (attr : List ℕ) : Type 0 where
+  pub stored : List ℕ
+  pub edits : EditsBlock old new n stored [] (attribute_at attr 0 ∷ [])
+  pub header_is : header_of (opened_of stored) ≡ header_after (header_of (opened_record old n)) (attribute_id attr 0)
+  pub attributes_are : attributes (opened_of stored) ≡ insert (attributes (opened_record old n)) i (attribute_at attr 0)
+
+-- ATTRIBUTE i OF RECORD n WENT. Nothing else of the volume changed.
+pub record RemovesAttribute (old new : VolumeView) (n i : ℕ) : Type 0 where
+  pub stored : List ℕ
+  pub was : Attribute
+  pub there : slice_get (attributes (opened_record old n)) i ≡ Some was
+  pub edits : EditsBlock old new n stored (was ∷ []) []
+  pub header_is : header_of (opened_of stored) ≡ header_of (opened_record old n)
+  pub attributes_are : attributes (opened_of stored) ≡ remove (attributes (opened_record old n)) i
+
+-- ANOTHER CAME IN THE PLACE OF ATTRIBUTE i of record n. Nothing else of the volume changed.
+pub record ReplacesAttribute (old new : VolumeView) (n i : ℕ) (attr : List ℕ) : Type 0 where
+  pub stored : List ℕ
+  pub was : Attribute
+  pub there : slice_get (attributes (opened_record old n)) i ≡ Some was
+  pub edits : RewritesRecord old new n stored was (attribute_at attr 0)
+  pub header_is : header_of (opened_of stored) ≡ header_after (header_of (opened_record old n)) (attribute_id attr 0)
+  pub attributes_are : attributes (opened_of stored) ≡ slice_set (attributes (opened_record old n)) i (attribute_at attr 0)
+
+-- THE VALUE OF ATTRIBUTE i OF RECORD n HAS ANOTHER LENGTH, all else of the attribute stays, and nothing else of the volume changed.
+pub record ResizesAttribute (old new : VolumeView) (n i len : ℕ) : Type 0 where
+  pub stored : List ℕ
+  pub was : Attribute
+  pub now : Attribute
+  pub there : slice_get (attributes (opened_record old n)) i ≡ Some was
+  pub edits : RewritesRecord old new n stored was now
+  pub header_is : header_of (opened_of stored) ≡ header_of (opened_record old n)
+  pub attributes_are : attributes (opened_of stored) ≡ slice_set (attributes (opened_record old n)) i now
+  pub kind : now.kind ≡ was.kind
+  pub name : now.name ≡ was.name
+  pub id : now.id ≡ was.id
+  pub flags : now.flags ≡ was.flags
+  pub value : value_of now.body ≡ option_map (with_length len) (value_of was.body)
