@@ -14,7 +14,8 @@ use Rattle.session_def.specs.FirstMark.{is_first_key}
 use Rattle.mft_table.specs.HeldTables.{AreStored}
 use Rattle.in_place.specs.Behind.{MarksBehind}
 use Rattle.in_place.specs.InPlace.{Rewrites}
-use Rattle.in_place.specs.Unnamed.{LiesApart, NamesNoRoom}
+use Rattle.in_place.specs.Unnamed.{LiesApart}
+use Rattle.record_edits.specs.InPlace.{NamesNoRoom}
 use Rattle.in_place.proofs.KeptInPlace.{kept}
 use Rattle.in_place.proofs.PlacesSame.{value-other}
 

@@ -14,7 +14,8 @@ ghost use Rattle.volume_mark.specs.Mark.{IsFlagOf};
 ghost use Rattle.volume_mark.specs.SameVolume.{AgreesButMark};
 ghost use Rattle.in_place.specs.Behind.{MarksBehind};
 ghost use Rattle.in_place.specs.InPlace.{Rewrites};
-ghost use Rattle.in_place.specs.Unnamed.{LiesApart, NamesNoRoom, NamesNoneOf};
+ghost use Rattle.in_place.specs.Unnamed.{LiesApart, NamesNoneOf};
+ghost use Rattle.record_edits.specs.InPlace.{NamesNoRoom};
 ghost use Rattle.edit_written.specs.Finished.{IsFinished, IsPlaceOf};
 
 /// Bytes as long as those of a sound volume, of which values were rewritten, none of `$MFT` and not the boot sectors, are the volume that

@@ -35,7 +35,8 @@ use Rattle.volume_mark.specs.SameVolume.{AgreesButMark}
 use Rattle.volume_mark.proofs.DiskLaws as disks
 use Rattle.volume_mark.proofs.FlagEdit as edit
 use Rattle.in_place.specs.Blank.{Outline, blank_body, outline_of}
-use Rattle.in_place.specs.InPlace.{IsUnnamed, KeepsBlock, Rewrites, RewritesBlock}
+use Rattle.in_place.specs.InPlace.{KeepsBlock, Rewrites, RewritesBlock}
+use Rattle.record_edits.specs.InPlace.{IsUnnamed}
 use Rattle.in_place.proofs.CallLaws.{attributes-written}
 use Rattle.first_mark.specs.Written.{IsBesideLog, DiffersByMark}
 

@@ -28,7 +28,8 @@ use Rattle.volume_mark.specs.Mark.{IsFlagOf}
 use Rattle.volume_mark.proofs.DiskLaws as disks
 use Rattle.volume_mark.proofs.FlagEdit as edit
 use Rattle.in_place.specs.InPlace.{Rewrites}
-use Rattle.in_place.specs.Unnamed.{LiesApart, NamesNoRoom}
+use Rattle.in_place.specs.Unnamed.{LiesApart}
+use Rattle.record_edits.specs.InPlace.{NamesNoRoom}
 use Rattle.in_place.proofs.FormSame.{forms-kept}
 use Rattle.in_place.proofs.KeptInPlace as keeps
 use Rattle.in_place.proofs.PlacesSame as places

@@ -22,7 +22,7 @@ use Rattle.in_place.proofs.OtherClusters.{clusters-kept, part-free}
 use Rattle.in_place.proofs.OtherParts.{told-other}
 use Rattle.in_place.proofs.RewriteLaws.{Rewrites-more, second-less}
 use Rattle.in_place.proofs.SameRecords.{spots-same}
-use Rattle.in_place.proofs.TableOwners.{other-outside}
+use Rattle.record_edits.proofs.TableOwners.{other-outside}
 
 or-false : (x y : Bool) → (x || y) ≡ false → (x ≡ false) × (y ≡ false)
 or-false true y e = cc

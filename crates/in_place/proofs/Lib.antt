@@ -3,7 +3,6 @@ pub mod SameRecords
 pub mod RewriteLaws
 pub mod OtherParts
 pub mod OtherClusters
-pub mod TableOwners
 pub mod KeptInPlace
 pub mod RoomSame
 pub mod FormSame

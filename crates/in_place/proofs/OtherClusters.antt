@@ -16,34 +16,15 @@ use Rattle.list_laws.proofs.MemberLaws.{Contains-from_filter}
 use Rattle.volume_edits.specs.Owners.{HasOwners}
 use Rattle.volume_edits.proofs.OwnerLaws.{files-apart, lies-outside, no-shared}
 use Rattle.edit_def.specs.Kept.{Key, key_of}
-use Rattle.in_place.specs.InPlace.{IsUnnamed, Rewrites}
+use Rattle.in_place.specs.InPlace.{Rewrites}
+use Rattle.record_edits.specs.InPlace.{IsUnnamed}
+use Rattle.record_edits.proofs.PlaceEdits.{part-unnamed}
 
 module _ (changed : Key → Bool) (old new : VolumeView) (w : Rewrites changed old new) (o : HasOwners old) where
   -- what a part has that is not named, no named attribute has
   pub part-free : (g : ℕ) (part : Part) (c : ℕ) → Contains (parts (records_of old) g) part → changed (key_of g part.kind part.name) ≡ false
       → 1 ≤ times_covered (part_runs part) c → IsUnnamed changed old c
-  part-free g part c among free covered f kind name named vcn at =
-      let owned = spot_at-owned (parts_at old f kind name) vcn c at in
-      let its = Contains-from_filter (is_of kind name) (parts (records_of old) f) owned.0 owned.1 in
-      no-shared old o g f part owned.0 c among its.0 (differ f kind name named owned.0 its.0 its.1) covered owned.2
-    where
-      never : {b : Bool} → b ≡ true → b ≡ false → ⊥
-      never x y = cc
-
-      differ : (f kind : ℕ) (name : List ℕ) → changed (key_of f kind name) ≡ true → (other : Part)
-          → Contains (parts (records_of old) f) other
-          → is_of kind name other ≡ true → part ≢ other
-      differ f kind name named other there is same = elim (cases_eq g f) [
-        | inl e ↦
-            let p = and_parts (other.kind == kind) (bytes_eq other.name name) is in
-            let k = ap (λ (p : Part). p.kind) same ∙ eqb-true other.kind kind p.0 in
-            let n = ap (λ (p : Part). p.name) same ∙ (bytes_eq-Decides other.name name).0 p.1 in
-            let key : changed (key_of g part.kind part.name) ≡ changed (key_of f kind name) =
-            ap (λ g. changed (key_of g part.kind part.name)) e ∙ ap (λ kind. changed (key_of f kind part.name)) k
-            ∙ ap (λ name. changed (key_of f kind name)) n in
-            never (key ∙ named) free
-        | inr ne ↦ files-apart old g f part other ne among there same
-      ]
+  part-free = part-unnamed changed old o
 
   -- outside the table and its mirror
   pub part-kept : 0 < old.layout.cluster_sectors → (g : ℕ) (part : Part) (c : ℕ) → Contains (parts (records_of old) g) part

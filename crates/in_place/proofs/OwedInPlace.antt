@@ -32,7 +32,8 @@ use Rattle.tree_model.specs.StreamRoom.{is_cluster, parts_named}
 use Rattle.tree_model.specs.declared.tree.Link.{Link}
 use Rattle.edit_def.specs.Edited.{is_room_key}
 use Rattle.edit_def.specs.Kept.{KeepsBut, Key, either, is_name_told, key_of}
-use Rattle.edit_def.specs.ListOrder.{AreInOrder, KeepsListOrder, entries_of}
+use Rattle.edit_def.specs.ListOrder.{KeepsListOrder, entries_of}
+use Rattle.ntfs_def.specs.ListOrder.{AreInOrder}
 use Rattle.volume_def.specs.CaseClause.{volume_fold}
 use Rattle.edit_def.specs.Names.{HasRightBases, Numbers, numbers_at}
 use Rattle.edit_def.proofs.IndexLaws.{index-same}

@@ -33,7 +33,7 @@ use Rattle.in_place.proofs.OtherClusters.{clusters-kept, part-free}
 use Rattle.in_place.proofs.OtherParts.{at-other, passed-same, told-other}
 use Rattle.in_place.proofs.RoomSame.{numbers-same, times-same, used-same}
 use Rattle.in_place.proofs.SameRecords.{spots-same}
-use Rattle.in_place.proofs.TableOwners.{mirror-outside}
+use Rattle.record_edits.proofs.TableOwners.{mirror-outside}
 
 module _ (changed : Key → Bool) (old new : VolumeView) (w : Rewrites changed old new) where
   -- what is told of attributes that are not named

@@ -10,7 +10,8 @@ use Rattle.volume_def.specs.View.{VolumeView}
 use Rattle.list_laws.proofs.FilterLaws.{filter-passed, filter-swap}
 use Rattle.edit_def.specs.Kept.{Key, either, key_of}
 use Rattle.edit_def.proofs.KeptLaws.{filter-twice}
-use Rattle.in_place.specs.InPlace.{IsUnnamed, KeepsBlock, Rewrites, RewritesAttributes, RewritesBlock, file_in, is_other}
+use Rattle.in_place.specs.InPlace.{KeepsBlock, Rewrites, RewritesAttributes, RewritesBlock, file_in, is_other}
+use Rattle.record_edits.specs.InPlace.{IsUnnamed}
 use Rattle.in_place.proofs.SameRecords.{spots-same}
 
 pub Rewrites-same : (changed : Key → Bool) (view : VolumeView) → Rewrites changed view view

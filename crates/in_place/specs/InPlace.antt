@@ -10,6 +10,7 @@ use Rattle.volume_def.specs.Files.{file_of, parts_at, record_of}
 use Rattle.volume_def.specs.Values.{spot_at}
 use Rattle.volume_def.specs.View.{VolumeView}
 use Rattle.edit_def.specs.Kept.{Key, key_of}
+use Rattle.record_edits.specs.InPlace.{IsUnnamed}
 use Rattle.in_place.specs.Blank.{outline_of}
 
 -- an attribute of file f that is not named
@@ -39,11 +40,6 @@ pub record RewritesBlock (changed : Key → Bool) (n : ℕ) (was now : List ℕ)
 pub record KeepsBlock (old new : VolumeView) (n : ℕ) : Type 0 where
   pub block : new.block n ≡ old.block n
   pub copy : n < 4 → new.copy n ≡ old.copy n
-
--- the cluster is none of a named attribute
-abbrev pub IsUnnamed : (Key → Bool) → VolumeView → ℕ → Type 0
-IsUnnamed changed view c = (f kind : ℕ) (name : List ℕ) → changed (key_of f kind name) ≡ true → (vcn : ℕ)
-    → spot_at (parts_at view f kind name) vcn ≢ At c
 
 -- VALUES WERE REWRITTEN, of the attributes that `changed` names; all else of the volume is as it was.
 pub record Rewrites (changed : Key → Bool) (old new : VolumeView) : Type 0 where

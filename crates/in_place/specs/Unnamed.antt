@@ -2,7 +2,6 @@
 use Rattle.std.specs.Prelude.{◌≡◌, ℕ, ◌<◌, Bool, false, true, List, []}
 use Rattle.volume_def.specs.View.{VolumeView}
 use Rattle.volume_edits.specs.Owners.{HasOwners}
-use Rattle.edit_def.specs.Edited.{is_room_key}
 use Rattle.edit_def.specs.Kept.{Key, key_of}
 use Rattle.session_def.specs.Named.{is_index_kind}
 use Rattle.session_def.specs.Nodes.{edits_stream, flag_of, point_flag}
@@ -11,10 +10,6 @@ use Rattle.tree_model.specs.Effects.{makes_file}
 use Rattle.tree_model.specs.Subjects.{Located}
 use Rattle.tree_model.specs.Tree.{Tree}
 use Rattle.tree_model.specs.declared.command.Command.{Command}
-
--- no attribute in which room is kept, nor an attribute list
-abbrev pub NamesNoRoom : (Key → Bool) → Type 0
-NamesNoRoom changed = (key : Key) → is_room_key key ≡ true → changed key ≡ false
 
 -- no attribute of file f, and none of this type in it
 abbrev pub NamesNoneOf : (Key → Bool) → ℕ → Type 0

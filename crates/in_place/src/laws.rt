@@ -17,7 +17,8 @@ ghost use Rattle.edit_def.specs.Places.{StaysInPlace};
 ghost use Rattle.edit_def.specs.Purses.{in_use, room_of};
 ghost use Rattle.in_place.specs.Blank.{blanked};
 ghost use Rattle.in_place.specs.InPlace.{Rewrites};
-ghost use Rattle.in_place.specs.Unnamed.{LiesApart, NamesNoKind, NamesNoRoom};
+ghost use Rattle.in_place.specs.Unnamed.{LiesApart, NamesNoKind};
+ghost use Rattle.record_edits.specs.InPlace.{NamesNoRoom};
 
 /// Where nothing was written no value was rewritten, whatever is named (`same`). Two rewrites one after the other are one, which names
 /// what either names (`both`). One that names less names more (`more`).

@@ -12,7 +12,7 @@ use Rattle.tree_model.specs.declared.command.Command.TheVariants as c
 use Rattle.edit_def.specs.Edited.{is_list_key, is_room_file}
 use Rattle.edit_def.specs.Kept.{Key, key_of}
 use Rattle.session_def.specs.Named.{has_entry_of, is_changed_key, is_directory_key, is_times_key, new_directory, timed}
-use Rattle.in_place.specs.Unnamed.{NamesNoRoom}
+use Rattle.record_edits.specs.InPlace.{NamesNoRoom}
 use Rattle.setattr_owed.specs.Setattr.{is_entries_key, is_set_key}
 
 -- ROOM: told by the type

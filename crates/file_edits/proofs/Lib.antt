@@ -1,0 +1,17 @@
+pub mod RoomSteps
+pub mod ListRoom
+pub mod StepLaws
+pub mod TwoRecords
+pub mod MoveKeeps
+pub mod Frame
+pub mod RecordSteps
+pub mod RecordGone
+pub mod MoveSteps
+pub mod StepFiles
+pub mod StepLists
+pub mod LinkEdits
+pub mod FileBeside
+pub mod FileKeeps
+pub mod FileComes
+pub mod FileGoes
+pub mod FileNames
