@@ -1,0 +1,3 @@
+pub mod Commands
+pub mod Dropped
+pub mod Renamed

@@ -1,0 +1,5 @@
+pub mod LinksRead
+pub mod NodesRead
+pub mod CallsRead
+pub mod EffectSteps
+pub mod NewNodes
