@@ -1,0 +1,11 @@
+pub mod LinkCalls
+pub mod Values
+pub mod EditCalls
+pub mod RightRecords
+pub mod Rows
+pub mod RecordCalls
+pub mod ValueAlone
+pub mod ValueEdits
+pub mod ValueBytes
+pub mod WholeCalls
+pub mod StepCalls

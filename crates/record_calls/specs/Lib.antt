@@ -1,0 +1,4 @@
+pub mod Marks
+pub mod Edits
+pub mod Rising
+pub mod Calls
