@@ -4,6 +4,5 @@ pub mod StagedLaws
 pub mod ChainedLaws
 pub mod NamesLaws
 pub mod SetLaws
-mod WrittenRecords
 mod SettableLaws
 mod FoundLaws

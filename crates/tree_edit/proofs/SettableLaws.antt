@@ -21,7 +21,7 @@ use Rattle.volume_def.specs.Files.{Record, Records, record_on, records_of}
 use Rattle.volume_def.specs.Sound.{HasLayout, IsSound, told_view}
 use Rattle.volume_def.specs.Table.{TableLayout}
 use Rattle.volume_def.specs.View.{VolumeView}
-use Rattle.tree_edit.proofs.WrittenRecords.{record-written}
+use Rattle.volume_edits.proofs.TableParts.{record-written}
 use Rattle.volume_mark.proofs.OutsideLaws.{apart-sound}
 use Rattle.volume_mark.proofs.SectorBytes.{length-sector_in}
 use Rattle.in_place.specs.Unnamed.{LiesApart}

@@ -14,6 +14,7 @@ ghost use Rattle.tree_edit.specs.Settable.{IsSettable, is_editable, settable};
 
 use file_record::FileParts;
 use mft_table::{Mft, Mounted};
+use ntfs_def::lengths::RECORD;
 use std::alloc::{AllocError, Global};
 use tree_model::{Link, No, Path};
 use tree_read::{Standing, Stop, links_of, read_standard, resolve};
@@ -37,9 +38,6 @@ impl Settable {
     }
 }
 
-// How many bytes a record has.
-const RECORD: u64 = 1024;
-
 // The records below this one have copies.
 const COPIED: u64 = 4;
 
@@ -60,7 +58,7 @@ fn any_in_copied(links: &[Link]) -> bool
 fn can_edit(alloc: Global, mounted: &Mounted, file: &FileParts) -> Result<bool, AllocError>
     ensures { IfOk result (λ can. can ≡ is_editable mounted.now file.now) }
 {
-    if mounted.initialized % RECORD != 0 || file.number() >= mounted.records.count() {
+    if mounted.initialized % RECORD as u64 != 0 || file.number() >= mounted.records.count() {
         return Ok(false);
     }
     let links = links_of(alloc, file)?;

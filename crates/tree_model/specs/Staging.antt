@@ -29,6 +29,7 @@ is_built (c.Time now) = true
 is_built (c.Open path stream access share) = true
 is_built (c.Hread handle at len) = true
 is_built (c.Setattr path flags) = true
+is_built (c.Sd id) = true
 is_built (c.Close handle) = true
 is_built other = false
 

@@ -153,7 +153,7 @@ pub enum No {
     /// There was no memory.
     #[error("out of memory")]
     Memory,
-    /// The command is not built yet.
+    /// The command is not built yet, or not for such a volume, or such a file.
     #[error("not built")]
     Unbuilt,
     /// The node to be removed has an object id or a reparse point, and its keys in a view index may not be dropped yet.

@@ -25,6 +25,7 @@ use Rattle.volume_mark.specs.SameVolume.{AgreesButMark, IsSameVolume}
 use Rattle.volume_mark.proofs.ClearedLaws.{harmed-safe}
 use Rattle.volume_mark.proofs.EditedLaws.{edited-marked, edited-stands, edited-state}
 use Rattle.volume_mark.proofs.MarkLaws.{closes-sound, mark-law}
+use Rattle.tree_ops.proofs.ImageLaws.{some-bytes}
 use Rattle.tree_ops.specs.declared.volume.Volume.{Volume}
 use Rattle.tree_ops.specs.Runs.{Applied, Closed, Ready, machine_under}
 use Rattle.tree_ops.specs.Volumes.{disk_under, mark_of, view_under}
@@ -111,10 +112,6 @@ module _ {D : Type 0} (g : Ghosts D) (first : VolumeView) (state : State) (old n
     (size : g.size (disk_under g new) ≡ g.size (disk_under g old))
     (long_old : IfSome (g.now (disk_under g old)) (λ all. length all ≡ 512 * g.size (disk_under g old)))
     (long_new : IfSome (g.now (disk_under g new)) (λ all. length all ≡ 512 * g.size (disk_under g new))) where
-  some-bytes : (o : Option (List ℕ)) → is_some o ≡ true → (bytes : List ℕ) × (o ≡ Some bytes)
-  some-bytes None e = cc
-  some-bytes (Some bytes) e = (bytes, refl)
-
   its : (bytes : List ℕ) × (g.now (disk_under g new) ≡ Some bytes)
   its = some-bytes (g.now (disk_under g new)) (told ∙ ap is_some r.now)
 

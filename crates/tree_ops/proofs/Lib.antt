@@ -12,5 +12,6 @@ pub mod SetattrDue
 pub mod SetVolume
 pub mod SetServes
 pub mod ReplyLaws
+pub mod DescriptorLaws
 pub mod FindLaws
 pub mod EndLaws

@@ -30,6 +30,7 @@ use Rattle.mark_place.proofs.PlacesApart as apart
 use Rattle.volume_mark.specs.Mark.{IsFlagOf}
 use Rattle.in_place.specs.Unnamed.{LiesApart}
 use Rattle.edit_written.specs.Finished.{IsPlaceOf}
+use Rattle.edit_written.proofs.AgreesLaws.{none-within}
 use Rattle.tree_edit.specs.Settable.{IsSettable}
 use Rattle.tree_edit.specs.Staged.{IsOfDirectory, IsOfFile, IsOfNames, StagesAttributes}
 use Rattle.tree_edit.specs.declared.settable.Settable.{Settable}
@@ -39,10 +40,6 @@ use Rattle.tree_ops.specs.declared.place.MarkPlace.{MarkPlace}
 -- the records of an index are no $DATA
 no-data : INDEX_ALLOCATION ≢ DATA
 no-data e = absurd (omega (arith, e))
-
--- no span has a sector
-pub outside-none : (spans : List Span) (n : ℕ) → spans ≡ [] → IsOutside spans n
-outside-none spans n none = subst (λ s. IsOutside s n) (sym none) (λ i below. absurd (omega (arith, below)))
 
 -- THE PLACE, on a disk that tells its contents.
 module _ {D : Type 0} (g : Ghosts D) (old : Mft D g) (place : MarkPlace) (told : IsTrue (view g old).told) where
@@ -94,7 +91,7 @@ module _ (view : VolumeView) (sound : IsSound view) (lies : LiesApart view) (fla
     -- outside of the spans, where the log has it not
     out : (sector : ℕ) → (AreLogSpans view spans → IsOutside spans sector) → IsOutside spans sector
     out sector by = elim are [
-      | inl none ↦ outside-none spans sector none
+      | inl none ↦ none-within spans none sector
       | inr log ↦ by log
     ]
 

@@ -1,6 +1,6 @@
 -- The steps of commands on opens and on the moment, and of those that show something.
 use Rattle.std.proofs.Common.{◌≡◌, ◌⊎◌, ◌==◌, ◌&&◌, ℕ, Bool, true, false, List, Option, Some, None, Result, Ok, Err, count_by, filter, find, length, nat_le, not, inl, inr, refl, sym, ap, subst, ◌∙◌, arith}
-use Rattle.std.specs.Prelude.{IsTrue, OnErr, OnOk, is_some, if◌then◌else◌}
+use Rattle.std.specs.Prelude.{[], IsTrue, OnErr, OnOk, is_some, if◌then◌else◌, unwrap_or}
 use Rattle.std.proofs.lemmas.Bool.Decides.{leb_tells}
 use Rattle.list_laws.specs.Ordered.{put_in_order}
 use Rattle.share_table.specs.Adding.{MayAdd, opened}
@@ -37,7 +37,7 @@ use Rattle.tree_read.specs.Shown.{df_shown, of_path, plain_file, shown_by}
 use Rattle.tree_read.specs.declared.shown.Shown.{Shown}
 use Rattle.tree_read.specs.declared.stop.Stop.{Stop}
 use Rattle.tree_read.specs.declared.stop.Stop.TheVariants as stop
-use Rattle.tree_ops.specs.Wanted.{Does, IsOpened, as_stop, close_wanted, hread_wanted, machine_on, open_wanted, shown_command}
+use Rattle.tree_ops.specs.Wanted.{Does, IsOpened, as_stop, close_wanted, hread_wanted, machine_on, open_wanted, sd_wanted, shown_command}
 use Rattle.tree_ops.specs.declared.built.Opening.{Opening}
 use Rattle.tree_ops.proofs.WantedLaws.{df-wanted, shown-reads, shown-wanted}
 
@@ -278,6 +278,22 @@ module _ (facts : Facts) (view : VolumeView) (opens : List OpenEntry) (now sessi
       → Does facts m session (c.Hread handle from len) result m
   hread-does handle from len result says =
       reads-does facts m session (c.Hread handle from len) result refl (subst (λ wanted. Says wanted result) (sym (hread-due handle from len)) says)
+
+  -- sd
+  sd-due : (id : ℕ) → due facts m session (c.Sd id) ≡ sd_wanted (facts.descriptor id)
+  unfolding due outcome locate answer_of
+  sd-due id = by (facts.descriptor id) refl
+    where
+      shown : Option (List ℕ) → Result Answer No
+      shown o = Ok (a.Sd (unwrap_or o []))
+
+      by : (o : Option (List ℕ)) → facts.descriptor id ≡ o → due facts m session (c.Sd id) ≡ sd_wanted (facts.descriptor id)
+      by None e = rw e refl
+      by (Some bytes) e = let n = find-never opens 0 in rw (e, n) (ap shown e)
+
+  pub sd-does : (id : ℕ) (result : Result Answer Stop) → Says (sd_wanted (facts.descriptor id)) result → Does facts m session (c.Sd id) result m
+  sd-does id result says =
+      reads-does facts m session (c.Sd id) result refl (subst (λ wanted. Says wanted result) (sym (sd-due id)) says)
 
   pub df-does : (answer : Answer) → df_shown facts ≡ Ok answer → Step facts m session c.Df (reply.Ok answer) m
   df-does answer is = shown-step facts m session c.Df (Ok answer) refl (df-wanted facts opens now session view ∙ is)

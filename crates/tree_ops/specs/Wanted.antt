@@ -1,5 +1,5 @@
 -- What a session's command asks for, of a machine that stands on a volume's reading, and what comes of it.
-use Rattle.std.specs.Prelude.{◌≡◌, ℕ, ◌==◌, ◌&&◌, IsTrue, nat_le, List, Option, Result, Ok, Err, count_by, find, is_some, if◌then◌else◌}
+use Rattle.std.specs.Prelude.{◌≡◌, ℕ, ◌==◌, ◌&&◌, IsTrue, nat_le, List, Option, Some, None, Result, Ok, Err, count_by, find, is_some, if◌then◌else◌}
 use Rattle.std.specs.Option.{option_map_or}
 use Rattle.volume_def.specs.View.{VolumeView}
 use Rattle.tree_model.specs.Cases.{AsksFor, conflicts}
@@ -54,6 +54,7 @@ command_by (b.Time now) = c.Time now
 command_by (b.Open opening) = c.Open opening.path.now opening.stream.now opening.access opening.share
 command_by (b.Hread handle at len) = c.Hread handle at len
 command_by (b.Close handle) = c.Close handle
+command_by (b.Sd id) = c.Sd id
 
 -- open: a stream that may be opened, by a session that has a handle left, of a file of which no open conflicts
 abbrev pub shared_with : Option OpenEntry → ℕ → Result Answer No
@@ -84,6 +85,11 @@ hread_wanted tree opens session handle from len =
 -- close: a handle of the session
 abbrev pub close_wanted : List OpenEntry → ℕ → ℕ → Result Answer No
 close_wanted opens session handle = if is_some (find (is_handle session handle) opens) then Ok a.Done else Err no.NoHandle
+
+-- sd: what a volume tells of an id
+abbrev pub sd_wanted : Option (List ℕ) → Result Answer No
+sd_wanted None = Err no.NoSecurity
+sd_wanted (Some bytes) = Ok (a.Sd bytes)
 
 -- why a command stops, where it is refused
 abbrev pub as_stop : {A : Type 0} → Result A No → Result A Stop

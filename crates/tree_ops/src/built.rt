@@ -31,6 +31,8 @@ pub enum Built<'c> {
     Hread { handle: u32, at: u64, len: u64 },
     /// A handle is given back.
     Close(u32),
+    /// The security descriptor of an id is shown.
+    Sd(u32),
 }
 
 impl<'c> Built<'c> {
@@ -86,6 +88,7 @@ impl<'c> Built<'c> {
                 len: *len,
             }),
             Command::Close { handle } => Some(Built::Close(*handle)),
+            Command::Sd { id } => Some(Built::Sd(*id)),
             _ => None,
         }
     }

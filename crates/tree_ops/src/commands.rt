@@ -12,6 +12,7 @@ ghost use Rattle.mft_table.specs.InUse.{IsInUse};
 
 use crate::built::Built;
 use crate::handles::{close, hread, open};
+use crate::security::sd;
 use mft_table::Mft;
 use share_table::Opens;
 use std::alloc::Global;
@@ -57,5 +58,6 @@ pub fn answer<D: Disk>(
             hread(alloc, mft, opens, session, handle, at, len)
         }
         Some(Built::Close(handle)) => close(opens, session, handle),
+        Some(Built::Sd(id)) => sd(alloc, mft, id),
     }
 }

@@ -7,6 +7,7 @@ mod commands;
 mod edit;
 mod handles;
 mod place;
+mod security;
 mod volume;
 
 pub use close::CloseNo;

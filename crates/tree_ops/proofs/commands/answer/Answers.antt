@@ -9,7 +9,7 @@ use Rattle.tree_model.proofs.MachineLaws.{unbuilt-step}
 use Rattle.tree_read.proofs.RoomLaws.{df-answer}
 use Rattle.tree_ops.specs.Wanted.{Does, command_by, machine_on}
 use Rattle.tree_ops.proofs.EditLaws.{neither}
-use Rattle.tree_ops.proofs.SessionLaws.{close-does, df-does, hread-does, open-does, shown-does, time-step}
+use Rattle.tree_ops.proofs.SessionLaws.{close-does, df-does, hread-does, open-does, sd-does, shown-does, time-step}
 use Rattle.tree_ops.proofs.commands.answer.Goals as goal
 
 pub returns-in-None-clause-does : goal.returns-in-None-clause-does
@@ -70,3 +70,13 @@ returns-in-Some-Close-clause-does g c facts told tells =
     (sym (c.in-Some-Close.ensures.is ∙ ap command_by c.in-Some-Close.field-0-is))
     (close-does facts v c.args.opens.now c.args.moment.now c.args.session c.in-Some-Close.handle c.close.result c.close.new.opens
     c.close.ensures.wanted c.close.ensures.closed c.close.ensures.kept)
+
+pub returns-in-Some-Sd-clause-does : goal.returns-in-Some-Sd-clause-does
+returns-in-Some-Sd-clause-does g c facts told tells =
+    let v = view g.D.Disk c.args.mft.now in
+    let m = machine_on v c.args.opens.now c.args.moment.now in
+    let id = c.in-Some-Sd.id in
+    subst (λ command. Does facts m c.args.session command c.sd.result m)
+    (sym (c.in-Some-Sd.ensures.is ∙ ap command_by c.in-Some-Sd.field-0-is))
+    (sd-does facts v c.args.opens.now c.args.moment.now c.args.session id c.sd.result
+    (c.sd.ensures.told.is told (facts.descriptor id) (tells.descriptors id)))
