@@ -65,6 +65,11 @@ df_text clusters free records free_records =
     codes "df" ++ and_word (decimal clusters) ++ and_word (decimal free) ++ and_word (decimal records) ++ and_word
     (decimal free_records) ++ codes "\n"
 
+-- what a run of generated lines comes to: how many there were, how many of them were done, and how many refused
+abbrev pub made_text : ℕ → ℕ → ℕ → List ℕ
+made_text count oks nos =
+    codes "made" ++ and_word (decimal count) ++ and_word (decimal oks) ++ and_word (decimal nos) ++ codes "\n"
+
 -- a name and a number, a name and flags, a name and bytes
 abbrev pub number_text : List ℕ → ℕ → List ℕ
 number_text name number = name ++ and_word (decimal number) ++ codes "\n"

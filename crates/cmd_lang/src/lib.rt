@@ -18,5 +18,5 @@ mod words;
 
 pub use laws::line_laws;
 pub use parse::{LineFault, parse_line};
-pub use print::print_reply;
+pub use print::{print_made, print_reply};
 pub use script::{ScriptNo, make_script, next_draw};

@@ -1,7 +1,7 @@
 //! Short texts, laid out without memory.
 ghost use Rattle.std.specs.Prelude.{◌≡◌, ◌+◌, ◌≤◌, ◌++◌, IsTrue, decimal, length, slice_index};
 ghost use Rattle.arrayvec.specs.ArrayVec.{array_vec_len};
-ghost use Rattle.cmd_lang.specs.Printed.{and_word, answer_text, df_text, flags_text, is_short, kind_text, no_text, number_text, refusal_name, refusal_numbers, stat_text, stream_word, tag_text};
+ghost use Rattle.cmd_lang.specs.Printed.{and_word, answer_text, df_text, flags_text, is_short, kind_text, made_text, no_text, number_text, refusal_name, refusal_numbers, stat_text, stream_word, tag_text};
 
 use crate::digits::{flags_digits, tag_digits};
 use arrayvec::ArrayVec;
@@ -87,6 +87,20 @@ fn df_line(clusters: u64, free: u64, records: u64, free_records: u64) -> Line
     add_number(&mut line, free);
     add_number(&mut line, records);
     add_number(&mut line, free_records);
+    add(&mut line, b"\n");
+    line
+}
+
+/// The line of a run of generated lines: how many there were, how many of them were done, and how many refused.
+pub fn made_line(count: u64, oks: u64, nos: u64) -> Line
+    ensures text { result.items ≡ made_text count oks nos }
+    ensures short { length result.items ≤ 256 }
+{
+    let mut line = Line::new();
+    add(&mut line, b"made");
+    add_number(&mut line, count);
+    add_number(&mut line, oks);
+    add_number(&mut line, nos);
     add(&mut line, b"\n");
     line
 }

@@ -1,13 +1,15 @@
 //! Replies, printed.
-ghost use Rattle.std.specs.Prelude.{◌≢◌, ◌≤◌, flat_map, length, OnErr, OnOk};
+ghost use Rattle.std.specs.Prelude.{◌≢◌, ◌+◌, ◌++◌, ◌<◌, ◌≤◌, ◌^◌, flat_map, length, OnErr, OnOk};
 ghost use Rattle.vol_disk.specs.Count.{CountsFault};
 ghost use Rattle.vol_disk.specs.Stream.{IsAppended, IsAppendedPart};
 ghost use Rattle.cmd_lang.specs.Output.{output, Prints};
-ghost use Rattle.cmd_lang.specs.Printed.{data_text, answer_text, link_text, listed_text, name_word, stream_text, text_of};
+ghost use Rattle.cmd_lang.specs.Printed.{data_text, answer_text, link_text, listed_text, made_text, name_word, stream_text, text_of};
 ghost use Rattle.tree_model.specs.declared.reply.Reply.TheVariants as reply_is;
 
 use crate::held::{Held, flush, put};
-use crate::line::{kind_text, number_front, refusal_line, short_line, stream_word, tag_front};
+use crate::line::{
+    kind_text, made_line, number_front, refusal_line, short_line, stream_word, tag_front,
+};
 use crate::pieces::{put_bytes, put_name, put_path};
 use tree_model::{Answer, Listed, Reply, ShownLink, ShownStream};
 use vol_disk::{Failed, Sink};
@@ -147,5 +149,38 @@ pub fn print_reply<K: Sink>(reply: &Reply, out: &mut K) -> Result<(), Failed>
 {
     let mut held = Held::new();
     put_reply(out, &mut held, reply)?;
+    flush(out, &mut held)
+}
+
+// The text of a run of generated lines.
+fn put_made<K: Sink>(
+    out: &mut K,
+    held: &mut Held,
+    oks: u64,
+    nos: u64,
+    answer: &Answer,
+) -> Result<(), Failed>
+    requires { oks + nos < 2 ^ 64 }
+    ensures { Prints (output K.Sink out.old held.old.items) (output K.Sink out.new held.new.items)
+        (made_text (oks + nos) oks nos ++ answer_text answer.now) result }
+{
+    put(out, held, made_line(oks + nos, oks, nos).as_slice())?;
+    put_answer(out, held, answer)
+}
+
+/// Prints what a run of generated lines comes to: how many there were, how many of them were done and how many refused, and the
+/// lines of an answer, without `ok`. It takes no memory.
+///
+/// # Errors
+///
+/// Where the sink failed; it then took a part of the text from its front.
+pub fn print_made<K: Sink>(oks: u64, nos: u64, answer: &Answer, out: &mut K) -> Result<(), Failed>
+    requires { oks + nos < 2 ^ 64 }
+    ensures text { OnOk result (IsAppended (K.got out.old) (made_text (oks + nos) oks nos ++ answer_text answer.now) (K.got out.new)) }
+    ensures part { OnErr result (IsAppendedPart (K.got out.old) (made_text (oks + nos) oks nos ++ answer_text answer.now) (K.got out.new)) }
+    ensures faults { CountsFault result (K.faults out.old) (K.faults out.new) }
+{
+    let mut held = Held::new();
+    put_made(out, &mut held, oks, nos, answer)?;
     flush(out, &mut held)
 }

@@ -15,8 +15,9 @@ use Rattle.tree_ops.specs.declared.volume.Volume.{Volume}
 use Rattle.tree_ops.specs.Volumes.{disk_under, mark_of}
 use Rattle.script_run.specs.declared.end.ScriptEnd.{ScriptEnd}
 use Rattle.script_run.specs.declared.end.ScriptEnd.TheVariants as end
+use Rattle.script_run.specs.Drawn.{TellsAll, TellsPart}
 use Rattle.script_run.specs.Ran.{BlamesEnd, BrokeInLine, IsCutOff, IsPrinted, Ran, is_broken}
-use Rattle.script_run.specs.Says.{printed_of}
+use Rattle.script_run.specs.Says.{Origin, of_script, of_seed, printed_of}
 use Rattle.script_run.specs.SoFar.{BlamesLines, PrintsAt, RanLines}
 use Rattle.script_run.specs.World.{World}
 
@@ -26,31 +27,53 @@ none_behind : (turns : List Turn) (past : Option (List (List ℕ)))
 none_behind turns None = refl
 none_behind turns (Some images) = ap (λ (xs : List (List ℕ)). Some xs) (sym (append-nil (images ++ images_of turns)))
 
-printed_at : (given : ScriptEnd) (turns : List Turn) (old new : World) → is_broken given ≡ false → PrintsAt given old.got turns new.got
-    → IsPrinted given turns old new
-printed_at end.Done turns old new b p = p
-printed_at end.Source turns old new b p = p
-printed_at end.Sink turns old new b p = p
-printed_at end.Device turns old new b p = cc
-printed_at end.Memory turns old new b p = p
-printed_at end.TooMuch turns old new b p = p
+printed_at : (from : Origin) (given : ScriptEnd) (first : State) (turns : List Turn) (old new : World) → is_broken given ≡ false
+    → PrintsAt from given first old.got turns new.got → IsPrinted from given first turns old new
+printed_at (of_script text) end.Done first turns old new b p = p
+printed_at (of_script text) end.Source first turns old new b p = p
+printed_at (of_script text) end.Sink first turns old new b p = p
+printed_at (of_script text) end.Device first turns old new b p = cc
+printed_at (of_script text) end.Memory first turns old new b p = p
+printed_at (of_script text) end.TooMuch first turns old new b p = p
+printed_at (of_seed seed count) end.Done first turns old new b p = p
+printed_at (of_seed seed count) end.Source first turns old new b p = p
+printed_at (of_seed seed count) end.Sink first turns old new b p = p
+printed_at (of_seed seed count) end.Device first turns old new b p = cc
+printed_at (of_seed seed count) end.Memory first turns old new b p = p
+printed_at (of_seed seed count) end.TooMuch first turns old new b p = p
 
 -- the printed text, where the disk failed behind this end
-printed_behind : (given : ScriptEnd) (turns : List Turn) (old new : World) → BlamesLines given old new
-    → PrintsAt given old.got turns new.got → IsPrinted end.Device turns old new
-printed_behind end.Done turns old new b p = inl (b.sink, p)
-printed_behind end.Source turns old new b p = inl (b.2, p)
-printed_behind end.Sink turns old new b p = inr (b.2, p)
-printed_behind end.Device turns old new b p = inl (b.2, p)
-printed_behind end.Memory turns old new b p = inl (b.sink, p)
-printed_behind end.TooMuch turns old new b p = inl (b.sink, p)
+printed_behind : (from : Origin) (given : ScriptEnd) (first : State) (turns : List Turn) (old new : World) → BlamesLines given old new
+    → PrintsAt from given first old.got turns new.got → IsPrinted from end.Device first turns old new
+printed_behind (of_script text) end.Done first turns old new b p = inl (b.sink, p)
+printed_behind (of_script text) end.Source first turns old new b p = inl (b.2, p)
+printed_behind (of_script text) end.Sink first turns old new b p = inr (b.2, p)
+printed_behind (of_script text) end.Device first turns old new b p = inl (b.2, p)
+printed_behind (of_script text) end.Memory first turns old new b p = inl (b.sink, p)
+printed_behind (of_script text) end.TooMuch first turns old new b p = inl (b.sink, p)
+printed_behind (of_seed seed count) end.Done first turns old new b p = inl (b.sink, inr p)
+printed_behind (of_seed seed count) end.Source first turns old new b p = absurd p
+printed_behind (of_seed seed count) end.Sink first turns old new b p = inr (b.2, p)
+printed_behind (of_seed seed count) end.Device first turns old new b p = inl (b.2, inl p)
+printed_behind (of_seed seed count) end.Memory first turns old new b p = inl (b.sink, inl p)
+printed_behind (of_seed seed count) end.TooMuch first turns old new b p = absurd p
 
-printed_past : (turns : List Turn) (old middle new : World) → middle.got ≡ new.got → middle.sink_faults ≡ new.sink_faults
-    → IsPrinted end.Device turns old middle → IsPrinted end.Device turns old new
-printed_past turns old middle new got sink (inl all) =
+printed_past : (from : Origin) (first : State) (turns : List Turn) (old middle new : World) → middle.got ≡ new.got
+    → middle.sink_faults ≡ new.sink_faults → IsPrinted from end.Device first turns old middle → IsPrinted from end.Device first turns old new
+printed_past (of_script text) first turns old middle new got sink (inl all) =
     inl (subst (λ count. count ≡ old.sink_faults) sink all.0, subst (IsAppended old.got (printed_of turns)) got all.1)
-printed_past turns old middle new got sink (inr part) =
+printed_past (of_script text) first turns old middle new got sink (inr part) =
     inr (subst (Rose old.sink_faults) sink part.0, subst (IsCutOff turns old.got) got part.1)
+printed_past (of_seed seed n) first turns old middle new got sink (inl all) =
+    inl (
+      subst (λ count. count ≡ old.sink_faults) sink all.0,
+      elim all.1 [
+        | inl none ↦ inl (sym got ∙ none)
+        | inr whole ↦ inr (subst (TellsAll n (last_of first turns) turns old.got) got whole)
+      ],
+    )
+printed_past (of_seed seed n) first turns old middle new got sink (inr part) =
+    inr (subst (Rose old.sink_faults) sink part.0, subst (TellsPart n (last_of first turns) turns old.got) got part.1)
 
 -- the lines' ending is one of a run
 pub blames_end : (given : ScriptEnd) (old new : World) → BlamesLines given old new → BlamesEnd given old new
@@ -93,14 +116,14 @@ quiet_lines end.Memory old new b n = n.disk
 quiet_lines end.TooMuch old new b n = n.disk
 
 -- the disk failed among the lines
-pub ran_broken : {D : Type 0} (g : disk.Ghosts D) (first : State) (text : List ℕ) (given : ScriptEnd) (lined : Volume D g)
+pub ran_broken : {D : Type 0} (g : disk.Ghosts D) (first : State) (from : Origin) (given : ScriptEnd) (lined : Volume D g)
     (old new : World) → Begins first → old.written ≡ first.written → is_broken given ≡ true
-    → RanLines g first text old.got old.settled given lined new.left new.got → BlamesLines given old new
+    → RanLines g first from old.got old.settled given lined new.left new.got → BlamesLines given old new
     → new.now ≡ g.now (disk_under g lined) → new.settled ≡ g.settled (disk_under g lined)
-    → Ran first.image text given old new
-ran_broken g first text given lined old new begins count b r blames now settled =
+    → Ran first.image from given old new
+ran_broken g first from given lined old new begins count b r blames now settled =
     let stands : IsHarmed first.view (last_of first r.turns).machine.tree (g.now (disk_under g lined))
-    × BrokeInLine text first r.turns (g.now (disk_under g lined)) = rw b at r.stands in
+    × BrokeInLine from first r.turns (g.now (disk_under g lined)) = rw b at r.stands in
     record {
       first = first;
       on_image = refl;
@@ -109,24 +132,30 @@ ran_broken g first text given lined old new begins count b r blames now settled 
       turns = r.turns;
       session = r.session;
       lines = r.lines;
-      printed = by given b blames r.printed;
+      printed = by from given b blames r.printed;
       finals = [];
       settled = settled ∙ r.settled ∙ none_behind r.turns old.settled;
       leaves = rw b (record {
         none = refl;
         harmed = subst (IsHarmed first.view (last_of first r.turns).machine.tree) (sym now) stands.0;
-        came = inr (inl (subst (BrokeInLine text first r.turns) (sym now) stands.1));
+        came = inr (inl (subst (BrokeInLine from first r.turns) (sym now) stands.1));
       });
     }
   where
-    by : (given : ScriptEnd) → is_broken given ≡ true → BlamesLines given old new → PrintsAt given old.got r.turns new.got
-        → IsPrinted given r.turns old new
-    by end.Done e b p = cc
-    by end.Source e b p = cc
-    by end.Sink e b p = cc
-    by end.Device e b p = inl (b.2, p)
-    by end.Memory e b p = cc
-    by end.TooMuch e b p = cc
+    by : (from : Origin) (given : ScriptEnd) → is_broken given ≡ true → BlamesLines given old new → PrintsAt from given first old.got r.turns new.got
+        → IsPrinted from given first r.turns old new
+    by (of_script text) end.Done e b p = cc
+    by (of_script text) end.Source e b p = cc
+    by (of_script text) end.Sink e b p = cc
+    by (of_script text) end.Device e b p = inl (b.2, p)
+    by (of_script text) end.Memory e b p = cc
+    by (of_script text) end.TooMuch e b p = cc
+    by (of_seed seed count) end.Done e b p = cc
+    by (of_seed seed count) end.Source e b p = cc
+    by (of_seed seed count) end.Sink e b p = cc
+    by (of_seed seed count) end.Device e b p = inl (b.2, inl p)
+    by (of_seed seed count) end.Memory e b p = cc
+    by (of_seed seed count) end.TooMuch e b p = cc
 
 -- what was settled behind the images of the lines
 behind_lines : (turns : List Turn) (finals : List (List ℕ)) (past : Option (List (List ℕ)))
@@ -136,14 +165,14 @@ behind_lines turns finals None = refl
 behind_lines turns finals (Some images) = refl
 
 -- the volume was closed
-pub ran_closed : {D : Type 0} (g : disk.Ghosts D) (first : State) (text : List ℕ) (given : ScriptEnd) (lined closed : Volume D g)
+pub ran_closed : {D : Type 0} (g : disk.Ghosts D) (first : State) (from : Origin) (given : ScriptEnd) (lined closed : Volume D g)
     (old new : World) → Begins first → old.written ≡ first.written → is_broken given ≡ false
-    → RanLines g first text old.got old.settled given lined new.left new.got
+    → RanLines g first from old.got old.settled given lined new.left new.got
     → ((state : State) → Ready g first.view lined state → Closed g first.view state lined closed)
     → new.written ≡ g.written (disk_under g closed)
     → new.now ≡ g.now (disk_under g closed) → new.settled ≡ g.settled (disk_under g closed)
-    → Ran first.image text given old new
-ran_closed g first text given lined closed old new begins count b r closes w now settled =
+    → Ran first.image from given old new
+ran_closed g first from given lined closed old new begins count b r closes w now settled =
     let last : Ready g first.view lined (last_of first r.turns) = rw b at r.stands in
     let c = closes (last_of first r.turns) last in
     let marked = r.marked b in
@@ -155,7 +184,7 @@ ran_closed g first text given lined closed old new begins count b r closes w now
       turns = r.turns;
       session = r.session;
       lines = r.lines;
-      printed = printed_at given r.turns old new b r.printed;
+      printed = printed_at from given first r.turns old new b r.printed;
       finals = c.finals;
       settled = settled ∙ c.settled ∙ ap (map_told (λ past. past ++ c.finals)) r.settled ∙ behind_lines r.turns c.finals old.settled;
       leaves = rw b (record {
@@ -168,16 +197,16 @@ ran_closed g first text given lined closed old new begins count b r closes w now
     }
 
 -- the disk failed while the volume was closed, which was marked
-pub ran_unclosed : {D : Type 0} (g : disk.Ghosts D) (first : State) (text : List ℕ) (given : ScriptEnd) (lined closed : Volume D g)
+pub ran_unclosed : {D : Type 0} (g : disk.Ghosts D) (first : State) (from : Origin) (given : ScriptEnd) (lined closed : Volume D g)
     (old new : World) → Begins first → old.written ≡ first.written → is_broken given ≡ false
-    → RanLines g first text old.got old.settled given lined new.left new.got
+    → RanLines g first from old.got old.settled given lined new.left new.got
     → ((state : State) → Ready g first.view lined state → IsHarmed first.view state.machine.tree (g.now (disk_under g closed)))
     → is_some (mark_of g lined) ≡ true
     → (middle : World) → BlamesLines given old middle
     → middle.got ≡ new.got → middle.sink_faults ≡ new.sink_faults
     → new.now ≡ g.now (disk_under g closed) → new.settled ≡ g.settled (disk_under g lined)
-    → Ran first.image text end.Device old new
-ran_unclosed g first text given lined closed old new begins count b r harms marked middle blames got sink now settled =
+    → Ran first.image from end.Device old new
+ran_unclosed g first from given lined closed old new begins count b r harms marked middle blames got sink now settled =
     let last : Ready g first.view lined (last_of first r.turns) = rw b at r.stands in
     record {
       first = first;
@@ -187,8 +216,8 @@ ran_unclosed g first text given lined closed old new begins count b r harms mark
       turns = r.turns;
       session = r.session;
       lines = r.first_lines;
-      printed = printed_past r.turns old middle new got sink
-          (printed_behind given r.turns old middle blames (subst (PrintsAt given old.got r.turns) (sym got) r.printed));
+      printed = printed_past from first r.turns old middle new got sink
+          (printed_behind from given first r.turns old middle blames (subst (PrintsAt from given first old.got r.turns) (sym got) r.printed));
       finals = [];
       settled = settled ∙ r.settled ∙ none_behind r.turns old.settled;
       leaves = record {

@@ -5,3 +5,6 @@ pub mod CloseLaws
 pub mod BeginLaws
 pub mod RanLaws
 pub mod ShownLaws
+mod DrawLaws
+mod TellLaws
+mod EndLaws

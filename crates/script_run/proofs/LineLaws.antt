@@ -29,7 +29,7 @@ use Rattle.volume_def.specs.View.{VolumeView}
 use Rattle.session_def.specs.Session.{has_edit}
 use Rattle.mark_write.specs.declared.flag.Flag.{Flag}
 use Rattle.script_run.specs.declared.end.ScriptEnd.TheVariants as end
-use Rattle.script_run.specs.Says.{SaysLine, lines_of, printed_of}
+use Rattle.script_run.specs.Says.{SaysLine, lines_of, of_script, printed_of}
 use Rattle.script_run.specs.SoFar.{RanLines, SoFar}
 use Rattle.script_run.specs.Turns.{Broke, Replied, Turned}
 
@@ -43,16 +43,16 @@ says_kept line (Err no.Syntax) h =
 says_kept line (Err other) h = absurd h
 
 -- a session goes on by one turn
-session_more : (state : State) (turns : List Turn) (turn : Turn) → Session SaysLine state turns → Took SaysLine (last_of state turns) turn
-    → Session SaysLine state (turns ++ turn ∷ [])
-session_more state [] turn h k = (k, tt)
-session_more state (t ∷ turns) turn h k = (h.0, session_more t.next turns turn h.1 k)
+session_more : (Says : List ℕ → Said → Type 0) (state : State) (turns : List Turn) (turn : Turn) → Session Says state turns
+    → Took Says (last_of state turns) turn → Session Says state (turns ++ turn ∷ [])
+session_more Says state [] turn h k = (k, tt)
+session_more Says state (t ∷ turns) turn h k = (h.0, session_more Says t.next turns turn h.1 k)
 
 last_more : (state : State) (turns : List Turn) (turn : Turn) → last_of state (turns ++ turn ∷ []) ≡ turn.next
 last_more state [] turn = refl
 last_more state (t ∷ turns) turn = last_more t.next turns turn
 
-settled_again : (turns : List Turn) (turn : Turn) (past : Option (List (List ℕ)))
+pub settled_again : (turns : List Turn) (turn : Turn) (past : Option (List (List ℕ)))
     → settled_more (map_told (λ images. images ++ images_of turns) past) (Some turn.next.image)
     ≡ map_told (λ images. images ++ images_of (turns ++ turn ∷ [])) past
 settled_again turns turn None = refl
@@ -112,7 +112,7 @@ at_start g s first text volume script got reader fresh ready none left = record 
 pub ended_done : {D S : Type 0} (g : disk.Ghosts D) (s : source.Ghosts S) (first : State) (text : List ℕ) (before : Option (List ℕ))
     (past : Option (List (List ℕ))) (volume : Volume D g) (script : S) (got : Option (List ℕ)) (reader : LineReader) (left : Option (List ℕ))
     → (f : SoFar g s first text before past volume script got reader) → AreAllLines text (lines_of f.turns) left
-    → RanLines g first text before past end.Done volume left got
+    → RanLines g first (of_script text) before past end.Done volume left got
 ended_done g s first text before past volume script got reader left f lines = record {
   turns = f.turns;
   session = f.session;
@@ -127,7 +127,7 @@ ended_done g s first text before past volume script got reader left f lines = re
 pub ended_source : {D S : Type 0} (g : disk.Ghosts D) (s : source.Ghosts S) (first : State) (text : List ℕ) (before : Option (List ℕ))
     (past : Option (List (List ℕ))) (volume : Volume D g) (script : S) (got : Option (List ℕ)) (reader : LineReader) (left : Option (List ℕ))
     → (f : SoFar g s first text before past volume script got reader) → AreEndedLines text (lines_of f.turns) left
-    → RanLines g first text before past end.Source volume left got
+    → RanLines g first (of_script text) before past end.Source volume left got
 ended_source g s first text before past volume script got reader left f lines = record {
   turns = f.turns;
   session = f.session;
@@ -142,7 +142,7 @@ ended_source g s first text before past volume script got reader left f lines = 
 pub ended_much : {D S : Type 0} (g : disk.Ghosts D) (s : source.Ghosts S) (first : State) (text : List ℕ) (before : Option (List ℕ))
     (past : Option (List (List ℕ))) (volume : Volume D g) (script : S) (got : Option (List ℕ)) (reader : LineReader) (left : Option (List ℕ))
     → (f : SoFar g s first text before past volume script got reader) → AreMostLines text (lines_of f.turns) left
-    → RanLines g first text before past end.TooMuch volume left got
+    → RanLines g first (of_script text) before past end.TooMuch volume left got
 ended_much g s first text before past volume script got reader left f lines = record {
   turns = f.turns;
   session = f.session;
@@ -157,7 +157,7 @@ ended_much g s first text before past volume script got reader left f lines = re
 pub ended_memory : {D S : Type 0} (g : disk.Ghosts D) (s : source.Ghosts S) (first : State) (text : List ℕ) (before : Option (List ℕ))
     (past : Option (List (List ℕ))) (volume : Volume D g) (script : S) (got : Option (List ℕ)) (reader : LineReader) (left : Option (List ℕ))
     → (f : SoFar g s first text before past volume script got reader)
-    → RanLines g first text before past end.Memory volume left got
+    → RanLines g first (of_script text) before past end.Memory volume left got
 ended_memory g s first text before past volume script got reader left f = record {
   turns = f.turns;
   session = f.session;
@@ -170,26 +170,31 @@ ended_memory g s first text before past volume script got reader left f = record
 }
 
 -- a session, a turn longer
-pub record Longer {D : Type 0} (g : disk.Ghosts D) (first : State) (turns : List Turn) (turn : Turn) (volume : Volume D g) : Type 0 where
-  pub session : Session SaysLine first (turns ++ turn ∷ [])
+pub record Longer {D : Type 0} (Says : List ℕ → Said → Type 0) (g : disk.Ghosts D) (first : State) (turns : List Turn) (turn : Turn)
+    (volume : Volume D g) : Type 0 where
+  pub session : Session Says first (turns ++ turn ∷ [])
   pub marked : is_some (mark_of g volume) ≡ has_edit (turns ++ turn ∷ [])
   pub ready : Ready g first.view volume (last_of first (turns ++ turn ∷ []))
 
-longer : {D : Type 0} (g : disk.Ghosts D) (first : State) (turns : List Turn) (line seen : List ℕ) (given : Reply)
-    (old volume : Volume D g) → Session SaysLine first turns → is_some (mark_of g old) ≡ has_edit turns
-    → seen ≡ kept line
-    → (r : Replied g first.view (last_of first turns) old seen given volume)
-    → Longer g first turns (record { line = line; said = r.said; answer = given; next = r.next }) volume
-longer g first turns line seen given old volume session marked shown r =
+-- the line of the turn says what was seen of it
+pub longer : {D : Type 0} (Says : List ℕ → Said → Type 0) (g : disk.Ghosts D) (first : State) (turns : List Turn) (line seen : List ℕ)
+    (given : Reply) (old volume : Volume D g) → Session Says first turns → is_some (mark_of g old) ≡ has_edit turns
+    → (r : Replied Says g first.view (last_of first turns) old seen given volume) → (Says line r.said ⊎ (given ≡ reply.No no.Memory))
+    → Longer Says g first turns (record { line = line; said = r.said; answer = given; next = r.next }) volume
+longer Says g first turns line seen given old volume session marked r says =
     let turn : Turn = record { line = line; said = r.said; answer = given; next = r.next } in
-    let says : SaysLine line r.said ⊎ (given ≡ reply.No no.Memory) =
-    elim r.says [ inl h ↦ inl (says_kept line r.said (subst (λ l. SaysLine l r.said) shown h)) | inr m ↦ inr m ] in
     record {
-      session = session_more first turns turn session (says, r.takes);
+      session = session_more Says first turns turn session (says, r.takes);
       marked = r.marks ∙ ap (λ b. b || is_done_edit r.said given) marked ∙ or_nothing (has_edit turns) (is_done_edit r.said given)
           ∙ sym (edits_more turns turn);
       ready = subst (λ state. Ready g first.view volume state) (sym (last_more first turns turn)) r.ready;
     }
+
+-- what a line says of which a part was seen
+says_seen : (line seen : List ℕ) (said : Said) (given : Reply) → seen ≡ kept line → (SaysLine seen said ⊎ (given ≡ reply.No no.Memory))
+    → (SaysLine line said ⊎ (given ≡ reply.No no.Memory))
+says_seen line seen said given shown (inl h) = inl (says_kept line said (subst (λ l. SaysLine l said) shown h))
+says_seen line seen said given shown (inr m) = inr m
 
 lines_more : {S : Type 0} (s : source.Ghosts S) (text seen : List ℕ) (turns : List Turn) (turn : Turn) (reader : LineReader) (script : S)
     → (o : OneMore s text (lines_of turns) seen reader script) → turn.line ≡ o.line
@@ -215,7 +220,8 @@ pub went_on : {D S K : Type 0} (g : disk.Ghosts D) (s : source.Ghosts S) (k : si
     → SoFar g s first text before past new script' (k.got out') reader'
 went_on g s k first text before past old script script' out reader reader' new out' seen f o t =
     let turn : Turn = record { line = o.line; said = t.replied.said; answer = t.given; next = t.replied.next } in
-    let l = longer g first f.turns o.line seen t.given old new f.session f.marked o.shown t.replied in
+    let l = longer SaysLine g first f.turns o.line seen t.given old new f.session f.marked t.replied
+    (says_seen o.line seen t.replied.said t.given o.shown t.replied.says) in
     record {
       turns = f.turns ++ turn ∷ [];
       session = l.session;
@@ -233,10 +239,11 @@ pub went_unprinted : {D S K : Type 0} (g : disk.Ghosts D) (s : source.Ghosts S) 
     (reader reader' : LineReader) (new : Volume D g) (out' : K) (seen : List ℕ)
     → (f : SoFar g s first text before past old script (k.got out) reader) → OneMore s text (lines_of f.turns) seen reader' script'
     → Turned g k IsAppendedPart first.view (last_of first f.turns) old seen out new out'
-    → RanLines g first text before past end.Sink new (s.left script') (k.got out')
+    → RanLines g first (of_script text) before past end.Sink new (s.left script') (k.got out')
 went_unprinted g s k first text before past old script script' out reader reader' new out' seen f o t =
     let turn : Turn = record { line = o.line; said = t.replied.said; answer = t.given; next = t.replied.next } in
-    let l = longer g first f.turns o.line seen t.given old new f.session f.marked o.shown t.replied in
+    let l = longer SaysLine g first f.turns o.line seen t.given old new f.session f.marked t.replied
+    (says_seen o.line seen t.replied.said t.given o.shown t.replied.says) in
     let first_ones : AreFirstLines text (lines_of (f.turns ++ turn ∷ [])) =
     first_lines text _ reader'.ended reader'.consumed (coming s reader' script') (s.left script')
     (lines_more s text seen f.turns turn reader' script' o refl) in
@@ -264,7 +271,7 @@ pub went_broken : {D S K : Type 0} (g : disk.Ghosts D) (s : source.Ghosts S) (k 
     (reader reader' : LineReader) (new : Volume D g) (out' : K) (seen : List ℕ) (left : Option (List ℕ))
     → (f : SoFar g s first text before past old script (k.got out) reader) → OneMore s text (lines_of f.turns) seen reader' script'
     → Broke g k first.view (last_of first f.turns) old seen out new out'
-    → RanLines g first text before past end.Device new left (k.got out')
+    → RanLines g first (of_script text) before past end.Device new left (k.got out')
 went_broken g s k first text before past old script script' out reader reader' new out' seen left f o b =
     let cut = b.failed.cut in
     record {

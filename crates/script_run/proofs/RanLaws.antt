@@ -7,7 +7,7 @@ use Rattle.session_def.specs.State.{State}
 use Rattle.session_def.proofs.SessionLaws.{run-costs, untouched}
 use Rattle.volume_mark.specs.Closing.{CountsClosing}
 use Rattle.script_run.specs.Ran.{Breaks, Ends, Ran, is_broken}
-use Rattle.script_run.specs.Says.{SaysLine}
+use Rattle.script_run.specs.Says.{Origin, Says}
 use Rattle.script_run.specs.World.{World}
 use Rattle.script_run.specs.declared.end.ScriptEnd.{ScriptEnd}
 
@@ -23,16 +23,16 @@ closed-most : (marked : Bool) (last now : ℕ) → CountsClosing marked last now
 closed-most true last now c = c
 closed-most false last now c = omega (arith, c)
 
-pub unwritten : (image text : List ℕ) (given : ScriptEnd) (old new : World) (r : Ran image text given old new) → is_broken given ≡ false
+pub unwritten : (image : List ℕ) (from : Origin) (given : ScriptEnd) (old new : World) (r : Ran image from given old new) → is_broken given ≡ false
     → has_edit r.turns ≡ false → new.written ≡ old.written
-unwritten image text given old new r whole none =
-    let ends = ended (is_broken given) (Breaks text r.first r.turns r.finals new) (Ends r.first r.turns r.finals new) whole r.leaves in
+unwritten image from given old new r whole none =
+    let ends = ended (is_broken given) (Breaks from r.first r.turns r.finals new) (Ends r.first r.turns r.finals new) whole r.leaves in
     closed-same (has_edit r.turns) (last_of r.first r.turns).written new.written none ends.count
-    ∙ (untouched SaysLine r.first r.turns r.session none).written ∙ r.from_count
+    ∙ (untouched (Says from) r.first r.turns r.session none).written ∙ r.from_count
 
-pub written-most : (image text : List ℕ) (given : ScriptEnd) (old new : World) (r : Ran image text given old new) → is_broken given ≡ false
+pub written-most : (image : List ℕ) (from : Origin) (given : ScriptEnd) (old new : World) (r : Ran image from given old new) → is_broken given ≡ false
     → (n : ℕ) × RunCosts r.first r.turns n × (new.written ≤ old.written + n + mark_cost (has_edit r.turns) r.first + cond (has_edit r.turns) 2 0)
-written-most image text given old new r whole =
-    let ends = ended (is_broken given) (Breaks text r.first r.turns r.finals new) (Ends r.first r.turns r.finals new) whole r.leaves in
-    let costs = run-costs SaysLine r.first r.turns r.begins.stands r.session in
+written-most image from given old new r whole =
+    let ends = ended (is_broken given) (Breaks from r.first r.turns r.finals new) (Ends r.first r.turns r.finals new) whole r.leaves in
+    let costs = run-costs (Says from) r.first r.turns r.begins.stands r.session in
     (costs.0, costs.1, omega (arith, costs.2, closed-most (has_edit r.turns) (last_of r.first r.turns).written new.written ends.count, r.from_count))

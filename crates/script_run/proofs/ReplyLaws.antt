@@ -8,7 +8,7 @@ use Rattle.cmd_lang.specs.declared.parse.LineFault.{LineFault}
 use Rattle.cmd_lang.specs.declared.parse.LineFault.TheVariants as fault
 use Rattle.tree_model.specs.Reading.{read}
 use Rattle.session_def.specs.State.{State}
-use Rattle.session_def.specs.Session.{is_done_edit}
+use Rattle.session_def.specs.Session.{Said, is_done_edit}
 use Rattle.tree_model.specs.declared.command.Command.{Command}
 use Rattle.tree_model.specs.declared.opens.OpenEntry.{OpenEntry}
 use Rattle.tree_model.specs.declared.reply.No.TheVariants as no
@@ -41,11 +41,11 @@ reads_on g first old new state r reads = record {
 }
 
 -- a line that is a command
-pub of_command : {D : Type 0} (g : disk.Ghosts D) (first : VolumeView) (old new : Volume D g) (before : State) (line : List ℕ)
-    (session : ℕ) (command : Command) (given : Reply) → Means line (Ok (session, command))
+pub of_command : {D : Type 0} (Says : List ℕ → Said → Type 0) (g : disk.Ghosts D) (first : VolumeView) (old new : Volume D g) (before : State) (line : List ℕ)
+    (session : ℕ) (command : Command) (given : Reply) → Says line (Ok (session, command))
     → (is_some (mark_of g new) ≡ (is_some (mark_of g old) || is_done_edit (Ok (session, command)) given))
-    → Applied g first before session command given new → Replied g first before old line given new
-of_command g first old new before line session command given means marks applied = record {
+    → Applied g first before session command given new → Replied Says g first before old line given new
+of_command Says g first old new before line session command given means marks applied = record {
   said = Ok (session, command);
   says = inl means;
   next = applied.next;
@@ -55,10 +55,10 @@ of_command g first old new before line session command given means marks applied
 }
 
 -- the disk failed in one
-pub failed_command : {D : Type 0} (g : disk.Ghosts D) (first : VolumeView) (new : Volume D g) (before : State) (line : List ℕ)
-    (session : ℕ) (command : Command) → Means line (Ok (session, command)) → Failed g first before session command new
-    → LineFailed g first before line new
-failed_command g first new before line session command means failed = record {
+pub failed_command : {D : Type 0} (Says : List ℕ → Said → Type 0) (g : disk.Ghosts D) (first : VolumeView) (new : Volume D g) (before : State) (line : List ℕ)
+    (session : ℕ) (command : Command) → Says line (Ok (session, command)) → Failed g first before session command new
+    → LineFailed Says g first before line new
+failed_command Says g first new before line session command means failed = record {
   harmed = failed.harmed;
   cut = record { said = Ok (session, command); says = inl means; same = failed.same };
 }
@@ -76,7 +76,7 @@ says_fault line fault.Memory means = inr refl
 -- a line that is none
 pub of_fault : {D : Type 0} (g : disk.Ghosts D) (first : VolumeView) (volume : Volume D g) (before : State) (line : List ℕ)
     (given : LineFault) → Means line (Err given) → Ready g first volume before
-    → Replied g first before volume line (reply.No (refusal_of given)) volume
+    → Replied SaysLine g first before volume line (reply.No (refusal_of given)) volume
 of_fault g first volume before line given means r =
     let f = has_facts before.view r.stands.sound in
     record {

@@ -21,7 +21,8 @@ use Rattle.tree_model.specs.declared.reply.Reply.TheVariants as reply
 use Rattle.tree_ops.specs.declared.volume.Volume.{Volume}
 use Rattle.tree_ops.specs.Volumes.{VolumeGoesOn, VolumeReads, disk_under, mark_of}
 use Rattle.script_run.specs.declared.turn.Went.{Went}
-use Rattle.script_run.specs.Turns.{Broke, CountsReply, CountsTurn, Replied, Turned}
+use Rattle.script_run.specs.Says.{SaysLine}
+use Rattle.script_run.specs.Turns.{Broke, CountsReply, CountsTurn, LineFailed, Replied, Turned}
 use Rattle.script_run.proofs.ReplyLaws.{reads_on}
 
 pub goes_none : {D : Type 0} (g : disk.Ghosts D) (volume : Volume D g) → VolumeGoesOn g volume volume
@@ -64,24 +65,39 @@ or_true : (a b : Bool) → b ≡ true → (a || b) ≡ true
 or_true true b e = refl
 or_true false b e = e
 
+-- a reply stays that of its line where the volume is only read
+abbrev pub replied_on : {D : Type 0} (Says : List ℕ → Said → Type 0) (g : disk.Ghosts D) (first : VolumeView) (before : State)
+    (from : Volume D g) (line : List ℕ) (given : Reply) (old new : Volume D g) → Replied Says g first before from line given old
+    → VolumeReads g old new → Replied Says g first before from line given new
+replied_on Says g first before from line given old new r reads = record {
+  said = r.said;
+  says = r.says;
+  next = r.next;
+  takes = r.takes;
+  ready = reads_on g first old new r.next r.ready reads;
+  marks = ap (λ (m : Option Flag). is_some m) reads.mark ∙ r.marks;
+}
+
+-- what a settle adds to the images that were settled
+pub settled_behind : {D : Type 0} (Says : List ℕ → Said → Type 0) (g : disk.Ghosts D) (first : VolumeView) (before : State)
+    (from : Volume D g) (line : List ℕ) (given : Reply) (old new : Volume D g) → (r : Replied Says g first before from line given old)
+    → g.settled (disk_under g old) ≡ g.settled (disk_under g from)
+    → g.settled (disk_under g new) ≡ settled_more (g.settled (disk_under g old)) (g.now (disk_under g old))
+    → g.settled (disk_under g new) ≡ settled_more (g.settled (disk_under g from)) (Some r.next.image)
+settled_behind Says g first before from line given old new r same more =
+    more ∙ ap (settled_more (g.settled (disk_under g old))) r.ready.now ∙ ap (λ past. settled_more past (Some r.next.image)) same
+
 pub turned : {D K : Type 0} (g : disk.Ghosts D) (k : sink.Ghosts K) (Prints : Option (List ℕ) → List ℕ → Option (List ℕ) → Type 0)
     (first : VolumeView) (before : State) (from : Volume D g) (line : List ℕ) (given : Reply) (old new : Volume D g) (out out' : K)
-    → (r : Replied g first before from line given old) → VolumeReads g old new
+    → (r : Replied SaysLine g first before from line given old) → VolumeReads g old new
     → g.settled (disk_under g old) ≡ g.settled (disk_under g from)
     → g.settled (disk_under g new) ≡ settled_more (g.settled (disk_under g old)) (g.now (disk_under g old))
     → Prints (k.got out) (text_of given) (k.got out')
     → Turned g k Prints first before from line out new out'
 turned g k Prints first before from line given old new out out' r reads same more printed = record {
   given = given;
-  replied = record {
-    said = r.said;
-    says = r.says;
-    next = r.next;
-    takes = r.takes;
-    ready = reads_on g first old new r.next r.ready reads;
-    marks = ap (λ (m : Option Flag). is_some m) reads.mark ∙ r.marks;
-  };
-  more = more ∙ ap (settled_more (g.settled (disk_under g old))) r.ready.now ∙ ap (λ past. settled_more past (Some r.next.image)) same;
+  replied = replied_on SaysLine g first before from line given old new r reads;
+  more = settled_behind SaysLine g first before from line given old new r same more;
   printed = printed;
 }
 
@@ -101,22 +117,16 @@ not-done (Err fault) given e = refl
 not-done (Ok said) given e = ap (λ (r : Reply). is_done_edit (Ok said) r) e
 
 -- A settle that fails leaves what the line left: where that was an edit the volume is marked, and else it is as it was before.
-pub broke : {D K : Type 0} (g : disk.Ghosts D) (k : sink.Ghosts K) (first : VolumeView) (before : State) (from : Volume D g)
-    (line : List ℕ) (given : Reply) (old new : Volume D g) (out : K) → Ready g first from before
-    → (r : Replied g first before from line given old) → VolumeReads g old new
-    → g.settled (disk_under g old) ≡ g.settled (disk_under g from)
-    → g.settled (disk_under g new) ≡ g.settled (disk_under g old) → Broke g k first before from line out new out
-broke g k first before from line given old new out ready r reads past same = record {
-  failed = record {
-    harmed = by (is_done_edit r.said given) refl;
-    cut = record {
-      said = r.said;
-      says = elim r.says [ inl says ↦ inl says | inr memory ↦ inr (kept (not-done r.said given memory)) ];
-      same = λ facts told none. kept (not-due facts before r.said given r.next told r.takes none);
-    };
+pub unsettled : {D : Type 0} (Says : List ℕ → Said → Type 0) (g : disk.Ghosts D) (first : VolumeView) (before : State) (from : Volume D g)
+    (line : List ℕ) (given : Reply) (old new : Volume D g) → Ready g first from before
+    → (r : Replied Says g first before from line given old) → VolumeReads g old new → LineFailed Says g first before line new
+unsettled Says g first before from line given old new ready r reads = record {
+  harmed = by (is_done_edit r.said given) refl;
+  cut = record {
+    said = r.said;
+    says = elim r.says [ inl says ↦ inl says | inr memory ↦ inr (kept (not-done r.said given memory)) ];
+    same = λ facts told none. kept (not-due facts before r.said given r.next told r.takes none);
   };
-  same = same ∙ past;
-  unprinted = refl;
 }
   where
     kept : is_done_edit r.said given ≡ false → g.now (disk_under g new) ≡ Some before.image
@@ -127,3 +137,14 @@ broke g k first before from line given old new out ready r reads past same = rec
         (r.marks ∙ or_true (is_some (mark_of g from)) (is_done_edit r.said given) e) (reads.now ∙ r.ready.now)
     by false e = harmed_at first before (mark_of g from) (g.now (disk_under g new)) ready.mark ready.stands
         (reads.now ∙ r.ready.now ∙ ap (λ (bytes : List ℕ). Some bytes) (r.takes.same e).image)
+
+pub broke : {D K : Type 0} (g : disk.Ghosts D) (k : sink.Ghosts K) (first : VolumeView) (before : State) (from : Volume D g)
+    (line : List ℕ) (given : Reply) (old new : Volume D g) (out : K) → Ready g first from before
+    → (r : Replied SaysLine g first before from line given old) → VolumeReads g old new
+    → g.settled (disk_under g old) ≡ g.settled (disk_under g from)
+    → g.settled (disk_under g new) ≡ g.settled (disk_under g old) → Broke g k first before from line out new out
+broke g k first before from line given old new out ready r reads past same = record {
+  failed = unsettled SaysLine g first before from line given old new ready r reads;
+  same = same ∙ past;
+  unprinted = refl;
+}

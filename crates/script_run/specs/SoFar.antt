@@ -6,7 +6,7 @@ use Rattle.vol_disk.specs.declared.Source as source
 use Rattle.vol_disk.specs.Contents.{map_told}
 use Rattle.vol_disk.specs.Stream.{IsAppended}
 use Rattle.script_lines.specs.declared.reader.LineReader.{LineReader}
-use Rattle.script_lines.specs.Reading.{AreFirstLines, HasRead}
+use Rattle.script_lines.specs.Reading.{HasRead}
 use Rattle.session_def.specs.State.{State}
 use Rattle.session_def.specs.Session.{Session, Turn, images_of, last_of}
 use Rattle.tree_ops.specs.declared.volume.Volume.{Volume}
@@ -16,8 +16,9 @@ use Rattle.script_run.specs.declared.end.ScriptEnd.{ScriptEnd}
 use Rattle.script_run.specs.declared.end.ScriptEnd.TheVariants as end
 use Rattle.session_def.specs.Session.{has_edit}
 use Rattle.volume_mark.specs.Mark.{IsHarmed}
+use Rattle.script_run.specs.Drawn.{SummaryAt}
 use Rattle.script_run.specs.Ran.{AreLines, BlamesEnd, BrokeInLine, IsCutOff, is_broken}
-use Rattle.script_run.specs.Says.{SaysLine, lines_of, printed_of}
+use Rattle.script_run.specs.Says.{Origin, Says, SaysLine, lines_of, of_script, of_seed, printed_of}
 use Rattle.script_run.specs.World.{World}
 
 -- Between two lines.
@@ -42,29 +43,33 @@ BlamesLines end.Memory old new = BlamesEnd end.Memory old new
 BlamesLines end.TooMuch old new = BlamesEnd end.TooMuch old new
 
 -- what was printed at the end of the lines
-abbrev pub PrintsAt : ScriptEnd → Option (List ℕ) → List Turn → Option (List ℕ) → Type 0
-PrintsAt end.Sink before turns got = IsCutOff turns before got
-PrintsAt end.Done before turns got = IsAppended before (printed_of turns) got
-PrintsAt end.Source before turns got = IsAppended before (printed_of turns) got
-PrintsAt end.Device before turns got = IsAppended before (printed_of turns) got
-PrintsAt end.Memory before turns got = IsAppended before (printed_of turns) got
-PrintsAt end.TooMuch before turns got = IsAppended before (printed_of turns) got
+abbrev pub RepliesAt : ScriptEnd → Option (List ℕ) → List Turn → Option (List ℕ) → Type 0
+RepliesAt end.Sink before turns got = IsCutOff turns before got
+RepliesAt end.Done before turns got = IsAppended before (printed_of turns) got
+RepliesAt end.Source before turns got = IsAppended before (printed_of turns) got
+RepliesAt end.Device before turns got = IsAppended before (printed_of turns) got
+RepliesAt end.Memory before turns got = IsAppended before (printed_of turns) got
+RepliesAt end.TooMuch before turns got = IsAppended before (printed_of turns) got
+
+abbrev pub PrintsAt : Origin → ScriptEnd → State → Option (List ℕ) → List Turn → Option (List ℕ) → Type 0
+PrintsAt (of_script text) given first before turns got = RepliesAt given before turns got
+PrintsAt (of_seed seed count) given first before turns got = SummaryAt given count (last_of first turns) turns before got
 
 -- how the volume stands there, behind these turns
-abbrev pub StandsAt : {D : Type 0} (g : disk.Ghosts D) → ScriptEnd → List ℕ → State → Volume D g → List Turn → Type 0
-StandsAt g given text first volume turns = MatchBool (is_broken given)
+abbrev pub StandsAt : {D : Type 0} (g : disk.Ghosts D) → Origin → ScriptEnd → State → Volume D g → List Turn → Type 0
+StandsAt g from given first volume turns = MatchBool (is_broken given)
     (IsHarmed first.view (last_of first turns).machine.tree (g.now (disk_under g volume))
-    × BrokeInLine text first turns (g.now (disk_under g volume)))
+    × BrokeInLine from first turns (g.now (disk_under g volume)))
     (Ready g first.view volume (last_of first turns))
 
--- The lines have ended, and the volume is not closed.
-pub record RanLines {D : Type 0} (g : disk.Ghosts D) (first : State) (text : List ℕ) (before : Option (List ℕ))
+-- The lines have ended, and the volume is not closed. Those that had a turn are some from the first, whatever the disk does in the closing.
+pub record RanLines {D : Type 0} (g : disk.Ghosts D) (first : State) (from : Origin) (before : Option (List ℕ))
     (past : Option (List (List ℕ))) (given : ScriptEnd) (volume : Volume D g) (left got : Option (List ℕ)) : Type 0 where
   pub turns : List Turn
-  pub session : Session SaysLine first turns
+  pub session : Session (Says from) first turns
   pub marked : is_broken given ≡ false → is_some (mark_of g volume) ≡ has_edit turns
-  pub lines : AreLines given text (lines_of turns) left
-  pub first_lines : AreFirstLines text (lines_of turns)
+  pub lines : AreLines from given (lines_of turns) left
+  pub first_lines : AreLines from end.Device (lines_of turns) left
   pub settled : g.settled (disk_under g volume) ≡ map_told (λ images. images ++ images_of turns) past
-  pub printed : PrintsAt given before turns got
-  pub stands : StandsAt g given text first volume turns
+  pub printed : PrintsAt from given first before turns got
+  pub stands : StandsAt g from given first volume turns

@@ -21,10 +21,10 @@ use Rattle.volume_mark.specs.Mark.{IsHarmed}
 use Rattle.script_run.specs.Says.{SaysLine}
 
 -- A line has this reply, which is not settled yet. Behind the first edit that was done the volume is marked.
-pub record Replied {D : Type 0} (g : disk.Ghosts D) (first : VolumeView) (before : State) (old : Volume D g) (line : List ℕ)
-    (given : Reply) (volume : Volume D g) : Type 0 where
+pub record Replied {D : Type 0} (Says : List ℕ → Said → Type 0) (g : disk.Ghosts D) (first : VolumeView) (before : State) (old : Volume D g)
+    (line : List ℕ) (given : Reply) (volume : Volume D g) : Type 0 where
   pub said : Said
-  pub says : SaysLine line said ⊎ (given ≡ reply.No no.Memory)
+  pub says : Says line said ⊎ (given ≡ reply.No no.Memory)
   pub next : State
   pub takes : Takes before said given next
   pub ready : Ready g first volume next
@@ -34,20 +34,20 @@ pub record Replied {D : Type 0} (g : disk.Ghosts D) (first : VolumeView) (before
 pub record Turned {D K : Type 0} (g : disk.Ghosts D) (k : sink.Ghosts K) (Prints : Option (List ℕ) → List ℕ → Option (List ℕ) → Type 0)
     (first : VolumeView) (before : State) (old : Volume D g) (line : List ℕ) (out : K) (volume : Volume D g) (out' : K) : Type 0 where
   pub given : Reply
-  pub replied : Replied g first before old line given volume
+  pub replied : Replied SaysLine g first before old line given volume
   pub more : g.settled (disk_under g volume) ≡ settled_more (g.settled (disk_under g old)) (Some replied.next.image)
   pub printed : Prints (k.got out) (text_of given) (k.got out')
 
 -- THE DISK FAILED in a line: it leaves the volume marked, or whole, and what the line leaves that it cut short.
-pub record LineFailed {D : Type 0} (g : disk.Ghosts D) (first : VolumeView) (before : State) (line : List ℕ) (volume : Volume D g)
-    : Type 0 where
+pub record LineFailed {D : Type 0} (Says : List ℕ → Said → Type 0) (g : disk.Ghosts D) (first : VolumeView) (before : State)
+    (line : List ℕ) (volume : Volume D g) : Type 0 where
   pub harmed : IsHarmed first before.machine.tree (g.now (disk_under g volume))
-  pub cut : IsCutShort SaysLine before line (g.now (disk_under g volume))
+  pub cut : IsCutShort Says before line (g.now (disk_under g volume))
 
 -- That was before the reply was settled, and nothing was printed.
 pub record Broke {D K : Type 0} (g : disk.Ghosts D) (k : sink.Ghosts K) (first : VolumeView) (before : State) (old : Volume D g)
     (line : List ℕ) (out : K) (volume : Volume D g) (out' : K) : Type 0 where
-  pub failed : LineFailed g first before line volume
+  pub failed : LineFailed SaysLine g first before line volume
   pub same : g.settled (disk_under g volume) ≡ g.settled (disk_under g old)
   pub unprinted : k.got out' ≡ k.got out
 

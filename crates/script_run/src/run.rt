@@ -6,6 +6,7 @@ ghost use Rattle.tree_ops.specs.Serves.{Serves};
 ghost use Rattle.tree_ops.specs.Runs.{Ready};
 ghost use Rattle.tree_ops.specs.Volumes.{VolumeGoesOn, disk_under, mark_of};
 ghost use Rattle.script_run.specs.Ran.{BlamesEnd, Ran};
+ghost use Rattle.script_run.specs.Says.{of_script};
 ghost use Rattle.script_run.specs.SoFar.{BlamesLines, RanLines, SoFar};
 ghost use Rattle.script_run.specs.World.{NoFaults, world};
 
@@ -36,7 +37,7 @@ fn run_line<D: Disk, S: Source, K: Sink>(
         → SoFar D.Disk S.Source first text before past volume.old script.old (K.got out.old) reader.old
         → MatchOption result
         (SoFar D.Disk S.Source first text before past volume.new script.new (K.got out.new) reader.new)
-        (λ end. RanLines D.Disk first text before past end volume.new (S.left script.new) (K.got out.new)) }
+        (λ end. RanLines D.Disk first (of_script text) before past end volume.new (S.left script.new) (K.got out.new)) }
 {
     match reader.next_command(script, line) {
         Next::Line => {}
@@ -66,7 +67,7 @@ fn run_lines<D: Disk, S: Source, K: Sink>(
         (world D.Disk S.Source K.Sink (disk_under D.Disk volume.new) script.new out.new) }
     ensures ran { (first : State) (text : List ℕ) → Ready D.Disk first.view volume.old first → mark_of D.Disk volume.old ≡ None
         → S.left script.old ≡ Some text
-        → RanLines D.Disk first text (K.got out.old) (D.settled (disk_under D.Disk volume.old)) result volume.new
+        → RanLines D.Disk first (of_script text) (K.got out.old) (D.settled (disk_under D.Disk volume.old)) result volume.new
         (S.left script.new) (K.got out.new) }
 {
     let mut reader = LineReader::new();
@@ -91,7 +92,7 @@ pub fn run_script<D: Disk, S: Source, K: Sink>(
         (world D.Disk S.Source K.Sink (disk_under D.Disk volume.new) script.new out.new) }
     ensures ran { (first : State) (text : List ℕ) → Ready D.Disk first.view volume.old first → Begins first
         → mark_of D.Disk volume.old ≡ None → S.left script.old ≡ Some text
-        → Ran first.image text result (world D.Disk S.Source K.Sink (disk_under D.Disk volume.old) script.old out.old)
+        → Ran first.image (of_script text) result (world D.Disk S.Source K.Sink (disk_under D.Disk volume.old) script.old out.old)
         (world D.Disk S.Source K.Sink (disk_under D.Disk volume.new) script.new out.new) }
 {
     let end = run_lines(alloc, volume, script, out);

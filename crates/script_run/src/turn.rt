@@ -6,7 +6,7 @@ ghost use Rattle.tree_ops.specs.Runs.{Ready};
 ghost use Rattle.tree_ops.specs.declared.volume.Volume.{Volume};
 ghost use Rattle.tree_ops.specs.Serves.{Serves};
 ghost use Rattle.tree_ops.specs.Volumes.{VolumeGoesOn, disk_under};
-ghost use Rattle.script_run.specs.Says.{refusal_of};
+ghost use Rattle.script_run.specs.Says.{SaysLine, refusal_of};
 ghost use Rattle.script_run.specs.Turns.{CountsReply, CountsTurn, LineFailed, Replied, TurnDid};
 
 use cmd_lang::{LineFault, parse_line, print_reply};
@@ -45,9 +45,9 @@ fn reply_to<D: Disk>(alloc: Global, volume: &mut Volume<'_, D>, line: &[u8]) -> 
     ensures settled { D.settled (disk_under D.Disk volume.new) ≡ D.settled (disk_under D.Disk volume.old) }
     ensures faults { CountsReply result (D.faults (disk_under D.Disk volume.old)) (D.faults (disk_under D.Disk volume.new)) }
     ensures replied { result ≢ Reply.Device → (first : VolumeView) (before : State) → Ready D.Disk first volume.old before
-        → Replied D.Disk first before volume.old line.now result volume.new }
+        → Replied SaysLine D.Disk first before volume.old line.now result volume.new }
     ensures failed { result ≡ Reply.Device → (first : VolumeView) (before : State) → Ready D.Disk first volume.old before
-        → LineFailed D.Disk first before line.now volume.new }
+        → LineFailed SaysLine D.Disk first before line.now volume.new }
 {
     match parse_line(alloc, line) {
         Ok((session, command)) => volume.apply(session, &command),
@@ -68,7 +68,7 @@ fn settle_and_print<D: Disk, K: Sink>(
     ensures faults { CountsTurn result (D.faults (disk_under D.Disk volume.old)) (D.faults (disk_under D.Disk volume.new))
         (K.faults out.old) (K.faults out.new) }
     ensures did { (first : VolumeView) (before : State) (from : Volume D D.Disk) (line : List ℕ) → Ready D.Disk first from before
-        → Replied D.Disk first before from line reply.now volume.old
+        → Replied SaysLine D.Disk first before from line reply.now volume.old
         → D.settled (disk_under D.Disk volume.old) ≡ D.settled (disk_under D.Disk from)
         → TurnDid D.Disk K.Sink result first before from line out.old volume.new out.new }
 {

@@ -1,5 +1,5 @@
--- The word run, by what became of the mount.
-use Rattle.std.proofs.Common.{◌≡◌, ◌⊎◌, ◌/◌, ℕ, List, [], Option, Some, None, length, refl, sym, ap, ◌∙◌, subst, inl, inr}
+-- The words run and make, by what became of the mount.
+use Rattle.std.proofs.Common.{◌≡◌, ◌≢◌, ◌⊎◌, ◌/◌, ℕ, List, [], Option, Some, None, length, refl, sym, ap, ◌∙◌, subst, inl, inr}
 use Rattle.vol_disk.specs.Count.{Rose}
 use Rattle.vol_disk.specs.Contents.{sector_in}
 use Rattle.vol_disk.specs.declared.Disk as disk
@@ -26,18 +26,21 @@ use Rattle.clause_order.proofs.OrderLaws.{rank-most}
 use Rattle.mount_check.proofs.AnswerLaws.{IsAccepted-clean, IsAccepted-tables, IsAccepted-whole}
 use Rattle.tree_model.specs.Reading.{read}
 use Rattle.tree_model.specs.declared.opens.OpenEntry.{OpenEntry}
-use Rattle.session_def.specs.Session.{Turn}
+use Rattle.session_def.specs.Session.{Turn, last_of}
 use Rattle.session_def.specs.State.{Begins, State}
 use Rattle.script_run.specs.declared.end.ScriptEnd.{ScriptEnd}
 use Rattle.script_run.specs.declared.end.ScriptEnd.TheVariants as script
+use Rattle.script_run.specs.Drawn.{TellsAll, TellsPart}
 use Rattle.script_run.specs.Ran.{BlamesEnd, IsCutOff, IsPrinted, Ran}
-use Rattle.script_run.specs.Says.{printed_of}
+use Rattle.script_run.specs.Says.{Origin, of_script, of_seed, printed_of}
 use Rattle.script_run.proofs.BeginLaws.{IsUntouched, ran_device, ran_memory}
 use Rattle.shell.specs.declared.ending.Ending.{Ending}
 use Rattle.shell.specs.declared.ending.Ending.TheVariants as ending
 use Rattle.shell.specs.Check.{AcceptsImage, CheckReports}
+use Rattle.shell.specs.Printing.{EndsPrinting}
 use Rattle.shell.specs.Report.{ReportEnds, refuses, unclosed}
-use Rattle.shell.specs.Run.{RunEnds, RunsScript, ending_of_script}
+use Rattle.shell.specs.Make.{MakeEnds}
+use Rattle.shell.specs.Run.{AreLeft, RunEnds, RunsLines, ending_of_script}
 use Rattle.shell.specs.RunSteps.{Refuses}
 use Rattle.shell.specs.World.{Blames, KeepsContents, OnlyReads, World, world}
 use Rattle.shell.proofs.Reports.{ends_shown}
@@ -109,13 +112,13 @@ accepted_begins image written a =
     }
 
 -- the same run, on the disk that was lent
-pub ran_over : {D S K : Type 0} (d : disk.Ghosts D) (s : source.Ghosts S) (k : sink.Ghosts K) (image text : List ℕ) (end : ScriptEnd)
+pub ran_over : {D S K : Type 0} (d : disk.Ghosts D) (s : source.Ghosts S) (k : sink.Ghosts K) (image : List ℕ) (from : Origin) (end : ScriptEnd)
     (lent before after back : D) (script script' : S) (out out' : K) → before ≡ lent → back ≡ after
-    → Ran image text end (world d s k before script out) (world d s k after script' out')
-    → Ran image text end (world d s k lent script out) (world d s k back script' out')
-ran_over d s k image text end lent before after back script script' out out' e f r =
-    subst (λ x. Ran image text end (world d s k x script out) (world d s k back script' out')) e
-    (subst (λ x. Ran image text end (world d s k before script out) (world d s k x script' out')) (sym f) r)
+    → Ran image from end (world d s k before script out) (world d s k after script' out')
+    → Ran image from end (world d s k lent script out) (world d s k back script' out')
+ran_over d s k image from end lent before after back script script' out out' e f r =
+    subst (λ x. Ran image from end (world d s k x script out) (world d s k back script' out')) e
+    (subst (λ x. Ran image from end (world d s k before script out) (world d s k x script' out')) (sym f) r)
 
 pub blames_script : (end : ScriptEnd) (old new : World) → BlamesEnd end old new → Blames (ending_of_script end) old new
 blames_script script.Done old new b = b
@@ -143,21 +146,38 @@ blames_since script.Device old middle new l b =
 blames_since script.Memory old middle new l b = record { disk = b.disk ∙ l.disk; source = b.source ∙ l.source; sink = b.sink ∙ l.sink }
 blames_since script.TooMuch old middle new l b = record { disk = b.disk ∙ l.disk; source = b.source ∙ l.source; sink = b.sink ∙ l.sink }
 
-printed_since : (end : ScriptEnd) (turns : List Turn) (old middle new : World) → LeavesRun old middle → IsPrinted end turns middle new
-    → IsPrinted end turns old new
-printed_since script.Done turns old middle new l p = subst (λ got. IsAppended got (printed_of turns) new.got) l.got p
-printed_since script.Source turns old middle new l p = subst (λ got. IsAppended got (printed_of turns) new.got) l.got p
-printed_since script.Sink turns old middle new l p = subst (λ got. IsCutOff turns got new.got) l.got p
-printed_since script.Device turns old middle new l (inl p) =
+printed_since : (from : Origin) (end : ScriptEnd) (first : State) (turns : List Turn) (old middle new : World) → LeavesRun old middle
+    → IsPrinted from end first turns middle new → IsPrinted from end first turns old new
+printed_since (of_script text) script.Done first turns old middle new l p = subst (λ got. IsAppended got (printed_of turns) new.got) l.got p
+printed_since (of_script text) script.Source first turns old middle new l p = subst (λ got. IsAppended got (printed_of turns) new.got) l.got p
+printed_since (of_script text) script.Sink first turns old middle new l p = subst (λ got. IsCutOff turns got new.got) l.got p
+printed_since (of_script text) script.Device first turns old middle new l (inl p) =
     inl (p.0 ∙ l.sink, subst (λ got. IsAppended got (printed_of turns) new.got) l.got p.1)
-printed_since script.Device turns old middle new l (inr p) =
+printed_since (of_script text) script.Device first turns old middle new l (inr p) =
     inr (subst (λ n. Rose n new.sink_faults) l.sink p.0, subst (λ got. IsCutOff turns got new.got) l.got p.1)
-printed_since script.Memory turns old middle new l p = subst (λ got. IsAppended got (printed_of turns) new.got) l.got p
-printed_since script.TooMuch turns old middle new l p = subst (λ got. IsAppended got (printed_of turns) new.got) l.got p
+printed_since (of_script text) script.Memory first turns old middle new l p = subst (λ got. IsAppended got (printed_of turns) new.got) l.got p
+printed_since (of_script text) script.TooMuch first turns old middle new l p = subst (λ got. IsAppended got (printed_of turns) new.got) l.got p
+printed_since (of_seed seed n) script.Done first turns old middle new l p =
+    subst (λ got. TellsAll n (last_of first turns) turns got new.got) l.got p
+printed_since (of_seed seed n) script.Source first turns old middle new l p = absurd p
+printed_since (of_seed seed n) script.Sink first turns old middle new l p =
+    subst (λ got. TellsPart n (last_of first turns) turns got new.got) l.got p
+printed_since (of_seed seed n) script.Device first turns old middle new l (inl p) =
+    inl (
+      p.0 ∙ l.sink,
+      elim p.1 [
+        | inl none ↦ inl (none ∙ l.got)
+        | inr whole ↦ inr (subst (λ got. TellsAll n (last_of first turns) turns got new.got) l.got whole)
+      ],
+    )
+printed_since (of_seed seed n) script.Device first turns old middle new l (inr p) =
+    inr (subst (λ count. Rose count new.sink_faults) l.sink p.0, subst (λ got. TellsPart n (last_of first turns) turns got new.got) l.got p.1)
+printed_since (of_seed seed n) script.Memory first turns old middle new l p = p ∙ l.got
+printed_since (of_seed seed n) script.TooMuch first turns old middle new l p = absurd p
 
-ran_since : (image text : List ℕ) (end : ScriptEnd) (old middle new : World) → LeavesRun old middle → Ran image text end middle new
-    → Ran image text end old new
-ran_since image text end old middle new l r = record {
+ran_since : (image : List ℕ) (from : Origin) (end : ScriptEnd) (old middle new : World) → LeavesRun old middle
+    → Ran image from end middle new → Ran image from end old new
+ran_since image from end old middle new l r = record {
   first = r.first;
   on_image = r.on_image;
   from_count = r.from_count ∙ l.contents.written;
@@ -165,39 +185,47 @@ ran_since image text end old middle new l r = record {
   turns = r.turns;
   session = r.session;
   lines = r.lines;
-  printed = printed_since end r.turns old middle new l r.printed;
+  printed = printed_since from end r.first r.turns old middle new l r.printed;
   finals = r.finals;
   settled = rw (← l.contents.settled) r.settled;
   leaves = r.leaves;
 }
 
+-- the lines of a script are those that its source has left
+pub script_ran : (left : Option (List ℕ)) (end : ScriptEnd) (middle new : World)
+    → ((image text : List ℕ) → middle.now ≡ Some image → left ≡ Some text → Ran image (of_script text) end middle new)
+    → (image : List ℕ) (from : Origin) → middle.now ≡ Some image → AreLeft left from → Ran image from end middle new
+script_ran left end middle new ran image (of_script text) now are = ran image text now are
+script_ran left end middle new ran image (of_seed seed count) now are = absurd are
+
 -- a volume that was accepted
-pub ends_mounted : (given : Ending) (end : ScriptEnd) (old middle new : World) (mounted : Mounted) → given ≡ ending_of_script end
-    → LeavesRun old middle → ((image : List ℕ) → old.now ≡ Some image → HoldsTables 15 image mounted × IsClean (volume_in image mounted))
+pub ends_mounted : (Are : Origin → Type 0) (given : Ending) (end : ScriptEnd) (old middle new : World) (mounted : Mounted)
+    → given ≡ ending_of_script end → LeavesRun old middle
+    → ((image : List ℕ) → old.now ≡ Some image → HoldsTables 15 image mounted × IsClean (volume_in image mounted))
     → BlamesEnd end middle new → (middle.disk_faults ≡ 0 → new.late ≡ middle.late) → new.sectors ≡ middle.sectors
-    → ((image text : List ℕ) → middle.now ≡ Some image → middle.left ≡ Some text → Ran image text end middle new)
-    → RunEnds given old new
-ends_mounted given end old middle new mounted is l holds blames on_time sectors ran = record {
+    → ((image : List ℕ) (from : Origin) → middle.now ≡ Some image → Are from → Ran image from end middle new)
+    → RunEnds Are given old new
+ends_mounted Are given end old middle new mounted is l holds blames on_time sectors ran = record {
   causes = rw is (blames_script end old new (blames_since end old middle new l blames));
   on_time = λ none. on_time (l.disk ∙ none) ∙ l.contents.late;
   sectors = sectors ∙ l.contents.sectors;
-  ran = λ image text now left accepted. record {
+  ran = λ image from now are accepted. record {
     ended = end;
     is = is;
-    ran = ran_since image text end old middle new l (ran image text (l.contents.now ∙ now) (l.left ∙ left));
+    ran = ran_since image from end old middle new l (ran image from (l.contents.now ∙ now) are);
   };
   refused = λ image now refused.
       let told = holds image now in absurd (refused (IsAccepted-tables image mounted told.0 told.1));
 }
 
 -- a report that refuses it, or a part of one
-ends_reported : (given : Ending) (old new : World) → OnlyReads old new → ReportEnds CheckReports given old new
-    → ((image : List ℕ) → old.now ≡ Some image → AcceptsImage image → ⊥) → RunEnds given old new
-ends_reported given old new only report none = record {
+ends_reported : (Are : Origin → Type 0) (given : Ending) (old new : World) → OnlyReads old new → ReportEnds CheckReports given old new
+    → ((image : List ℕ) → old.now ≡ Some image → AcceptsImage image → ⊥) → RunEnds Are given old new
+ends_reported Are given old new only report none = record {
   causes = report.causes;
   on_time = λ _. only.contents.late;
   sectors = only.contents.sectors;
-  ran = λ image text now left accepted. absurd (none image now accepted);
+  ran = λ image from now are accepted. absurd (none image now accepted);
   refused = λ image now refused. report;
 }
 
@@ -205,24 +233,24 @@ untouched : (old new : World) → OnlyReads old new → new.got ≡ old.got → 
 untouched old new o got = record { now = o.contents.now; settled = o.contents.settled; written = o.contents.written; got = got }
 
 -- a disk that was not taken into use
-pub ends_unmounted : (why : MountNo) (given : Ending) (old new : World) → Refuses why given old.got new.got old.sink_faults new.sink_faults
-    → OnlyReads old new → CountsMount old.disk_faults new.disk_faults why → IsMountNo old.now why → RunEnds given old new
-ends_unmounted (no.Refused k n) given old new shown only quiet is = ends_reported given old new only
+pub ends_unmounted : (Are : Origin → Type 0) (why : MountNo) (given : Ending) (old new : World) → Refuses why given old.got new.got old.sink_faults new.sink_faults
+    → OnlyReads old new → CountsMount old.disk_faults new.disk_faults why → IsMountNo old.now why → RunEnds Are given old new
+ends_unmounted Are (no.Refused k n) given old new shown only quiet is = ends_reported Are given old new only
     (ends_shown CheckReports (refuses (record { clause = k; number = n })) given old new shown only quiet is)
     (λ image now accepted. IsAccepted-whole image k n accepted (subst (λ told. IsMountNo told (no.Refused k n)) now is))
-ends_unmounted no.Dirty given old new shown only quiet is = ends_reported given old new only
+ends_unmounted Are no.Dirty given old new shown only quiet is = ends_reported Are given old new only
     (ends_shown CheckReports unclosed given old new shown only quiet is)
     (λ image now accepted. IsAccepted-clean image accepted (subst (λ told. IsMountNo told no.Dirty) now is))
-ends_unmounted no.Device given old new shown only rose is = rw shown.ends (record {
+ends_unmounted Are no.Device given old new shown only rose is = rw shown.ends (record {
   causes = (rose, inl only.source_faults);
   on_time = λ _. only.contents.late;
   sectors = only.contents.sectors;
-  ran = λ image text now left accepted.
+  ran = λ image from now are accepted.
       let b = accepted_begins image old.written accepted in
       record {
         ended = script.Device;
         is = refl;
-        ran = subst (λ bytes. Ran bytes text script.Device old new) b.on_image (ran_device b.first text old new b.begins b.count
+        ran = subst (λ bytes. Ran bytes from script.Device old new) b.on_image (ran_device b.first from old new b.begins b.count
             (now ∙ ap (λ (bytes : List ℕ). Some bytes) (sym b.on_image)) (untouched old new only shown.untouched) shown.quiet);
       };
   refused = λ image now refused. record {
@@ -231,16 +259,16 @@ ends_unmounted no.Device given old new shown only rose is = rw shown.ends (recor
     reported = record { got = shown.untouched; sink_faults = shown.quiet };
   };
 })
-ends_unmounted no.Memory given old new shown only quiet is = rw shown.ends (record {
+ends_unmounted Are no.Memory given old new shown only quiet is = rw shown.ends (record {
   causes = record { disk = quiet; source = only.source_faults; sink = shown.quiet };
   on_time = λ _. only.contents.late;
   sectors = only.contents.sectors;
-  ran = λ image text now left accepted.
+  ran = λ image from now are accepted.
       let b = accepted_begins image old.written accepted in
       record {
         ended = script.Memory;
         is = refl;
-        ran = subst (λ bytes. Ran bytes text script.Memory old new) b.on_image (ran_memory b.first text old new b.begins b.count
+        ran = subst (λ bytes. Ran bytes from script.Memory old new) b.on_image (ran_memory b.first from old new b.begins b.count
             (now ∙ ap (λ (bytes : List ℕ). Some bytes) (sym b.on_image)) (untouched old new only shown.untouched));
       };
   refused = λ image now refused. record {
@@ -249,3 +277,46 @@ ends_unmounted no.Memory given old new shown only quiet is = rw shown.ends (reco
     reported = record { got = shown.untouched; sink_faults = shown.quiet };
   };
 })
+
+-- what a run of a seed is told to be
+pub seed_ran : (seed count : ℕ) (end : ScriptEnd) (middle new : World)
+    → ((image : List ℕ) → middle.now ≡ Some image → Ran image (of_seed seed count) end middle new)
+    → (image : List ℕ) (from : Origin) → middle.now ≡ Some image → from ≡ of_seed seed count → Ran image from end middle new
+seed_ran seed count end middle new ran image from now are = subst (λ f. Ran image f end middle new) (sym are) (ran image now)
+
+-- how the word make ends
+pub makes : (seed count : ℕ) (given : Ending) (old new : World) → RunEnds (λ from. from ≡ of_seed seed count) given old new
+    → new.left ≡ old.left → new.source_faults ≡ old.source_faults → given ≢ ending.Source → given ≢ ending.TooMuch
+    → MakeEnds seed count given old new
+makes seed count given old new ends left faults unread within =
+    record { ends = ends; left = left; source_faults = faults; unread = unread; within = within }
+
+pub not-source : (end : ScriptEnd) → end ≢ script.Source → ending_of_script end ≢ ending.Source
+not-source script.Done n e = cc
+not-source script.Source n e = n refl
+not-source script.Sink n e = cc
+not-source script.Device n e = cc
+not-source script.Memory n e = cc
+not-source script.TooMuch n e = cc
+
+pub not-much : (end : ScriptEnd) → end ≢ script.TooMuch → ending_of_script end ≢ ending.TooMuch
+not-much script.Done n e = cc
+not-much script.Source n e = cc
+not-much script.Sink n e = cc
+not-much script.Device n e = cc
+not-much script.Memory n e = cc
+not-much script.TooMuch n e = n refl
+
+ends-not : (whole given : Ending) (text : List ℕ) (got got' : Option (List ℕ)) (faults faults' : ℕ) → whole ≢ ending.Source
+    → whole ≢ ending.TooMuch → EndsPrinting text whole given got got' faults faults' → (given ≢ ending.Source) × (given ≢ ending.TooMuch)
+ends-not whole given text got got' faults faults' a b (inl p) = rw p.ends (a, b)
+ends-not whole given text got got' faults faults' a b (inr p) = rw p.ends ((λ e. cc), (λ e. cc))
+
+-- a refusal is no end of lines
+pub refuses-not : (why : MountNo) (given : Ending) (got got' : Option (List ℕ)) (faults faults' : ℕ)
+    → Refuses why given got got' faults faults' → (given ≢ ending.Source) × (given ≢ ending.TooMuch)
+refuses-not (no.Refused k n) given got got' faults faults' shown =
+    ends-not ending.Refused given _ got got' faults faults' (λ e. cc) (λ e. cc) shown
+refuses-not no.Dirty given got got' faults faults' shown = ends-not ending.Refused given _ got got' faults faults' (λ e. cc) (λ e. cc) shown
+refuses-not no.Device given got got' faults faults' shown = rw shown.ends ((λ e. cc), (λ e. cc))
+refuses-not no.Memory given got got' faults faults' shown = rw shown.ends ((λ e. cc), (λ e. cc))

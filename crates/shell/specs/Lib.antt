@@ -7,6 +7,7 @@ pub mod Format
 pub mod Fronts
 pub mod Label
 pub mod LabelSteps
+pub mod Make
 pub mod Refusals
 pub mod Report
 pub mod Run

@@ -34,15 +34,17 @@ AskToFormat words = (o : Options) × AreFormatWords words o
 abbrev pub AskToRun : List (List ℕ) → Type 0
 AskToRun words = AreWords words (codes "run")
 
--- the word of the program that is not built yet
-abbrev pub IsUnbuilt : List ℕ → Type 0
-IsUnbuilt word = word ≡ codes "make"
+-- These words ask for so many lines drawn behind a seed: `make` and two decimal numbers without a sign or a leading zero. The lines are at
+-- most 1,000,000.
+pub record AreMakeWords (words : List (List ℕ)) (count seed : ℕ) : Type 0 where
+  pub form : words ≡ codes "make" ∷ decimal count ∷ decimal seed ∷ []
+  pub most : count ≤ 1000000
+  pub fits : seed < 2 ^ 64
 
--- the first word is not built yet, whatever follows
-abbrev pub AskUnbuilt : List (List ℕ) → Type 0
-AskUnbuilt [] = ⊥
-AskUnbuilt (word ∷ words) = IsUnbuilt word
+-- the words ask for drawn lines
+abbrev pub AskToMake : List (List ℕ) → Type 0
+AskToMake words = (count : ℕ) × (seed : ℕ) × AreMakeWords words count seed
 
 -- the words ask for something that the program knows
 abbrev pub AreKnown : List (List ℕ) → Type 0
-AreKnown words = AskToRead words ⊎ AskToFormat words ⊎ AskToRun words ⊎ AskUnbuilt words
+AreKnown words = AskToRead words ⊎ AskToFormat words ⊎ AskToRun words ⊎ AskToMake words

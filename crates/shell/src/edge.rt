@@ -7,7 +7,7 @@ use crate::help::{HELP, VERSION};
 use crate::image::{Access, hold_streams, open_image};
 use crate::refused::sentence_on_refusal;
 use crate::shell::run_shell;
-use crate::watched::WatchedDisk;
+use crate::watched::{Watch, WatchedDisk};
 use crate::words::access_of;
 use std::fs::File;
 use std::io;
@@ -56,6 +56,17 @@ fn complain_of_argument<R: Env + Eprint>(rt: &R) {
     }
 }
 
+// What a person is told while the words are done, where that can be shown.
+fn watch_of(watched: bool, access: Access) -> Watch {
+    if !watched {
+        return Watch::Nothing;
+    }
+    match access {
+        Access::Makes => Watch::Lines,
+        _ => Watch::Reads,
+    }
+}
+
 fn run_request<R>(rt: &R, request: &Request<'_>, watched: bool) -> u8
 where
     R: Files<File = File> + AllocGlobal + Input + Print + Eprint,
@@ -70,7 +81,7 @@ where
     };
     let access = access_of(request.words);
     let mut disk = match open_image(rt, image, access) {
-        Ok(disk) => WatchedDisk::new(rt, disk, watched),
+        Ok(disk) => WatchedDisk::new(rt, disk, watch_of(watched, access)),
         Err(fault) => {
             let _ = rt.eprintln(format_args!("ntfs_shell: IMAGE {image:?} {fault}"));
             return DEVICE_FAILED;

@@ -29,9 +29,6 @@ pub const OUT_OF_MEMORY: u8 = 7;
 /// The script was too long.
 pub const TOO_MUCH: u8 = 8;
 
-/// A word that is not built yet.
-pub const NOT_BUILT: u8 = 9;
-
 /// How a run of one of the program's words ends.
 #[derive(Clone, Copy, Debug, PartialEq, Eq)]
 pub enum Ending {

@@ -1,7 +1,7 @@
 //! What a person is told on standard error beside a status: what failed, and what can be done. What is told beside a refusal
 //! is in `refused`.
 use crate::ending::{
-    DEVICE_FAILED, NOT_BUILT, OUT_OF_MEMORY, SINK_FAILED, SOURCE_FAILED, TOO_MUCH, UNKNOWN_WORDS,
+    DEVICE_FAILED, OUT_OF_MEMORY, SINK_FAILED, SOURCE_FAILED, TOO_MUCH, UNKNOWN_WORDS,
 };
 use crate::image::Access;
 
@@ -23,7 +23,7 @@ fn sentence_on_reading(status: u8) -> Option<&'static str> {
 }
 
 // The sentence on a failure of the word that makes a volume.
-fn sentence_on_making(status: u8) -> Option<&'static str> {
+fn sentence_on_formatting(status: u8) -> Option<&'static str> {
     match status {
         SINK_FAILED => Some(
             "standard output failed, so the answer is not whole; the volume was made if the options \
@@ -48,8 +48,8 @@ fn sentence_on_running(status: u8) -> Option<&'static str> {
              answered",
         ),
         SINK_FAILED => Some(
-            "standard output failed, so the replies are not whole, and the script ended there; the line \
-             whose reply was cut off was done",
+            "standard output failed, so what was printed is not whole, and a script ended there; the \
+             line whose reply was cut off had its turn",
         ),
         DEVICE_FAILED => Some(
             "IMAGE failed, so the script ended there; a line without a reply may have been done or \
@@ -65,16 +65,34 @@ fn sentence_on_running(status: u8) -> Option<&'static str> {
     }
 }
 
+// The sentence on a failure of the word that runs drawn lines.
+fn sentence_on_making(status: u8) -> Option<&'static str> {
+    match status {
+        SINK_FAILED => Some(
+            "standard output failed, so the answer is not whole; where IMAGE was accepted, all lines \
+             had their turn, and the volume was closed",
+        ),
+        DEVICE_FAILED => Some(
+            "IMAGE failed, so the lines ended there, or the volume was not closed behind them; ask check \
+             of IMAGE: where it says sound, the volume is whole; where it refuses, an edit or the \
+             closing was cut off, and a tool that repairs is wanted",
+        ),
+        OUT_OF_MEMORY => Some(
+            "out of memory, so nothing was printed; the lines before it had their turn, and the volume \
+             was closed",
+        ),
+        _ => None,
+    }
+}
+
 /// The sentence on a status that is neither done nor a refusal, where the words ask this of IMAGE.
 pub fn sentence_on(status: u8, access: Access) -> Option<&'static str> {
     match (status, access) {
         (UNKNOWN_WORDS, _) => Some("these words are not known; see ntfs_shell --help"),
-        (NOT_BUILT, _) => {
-            Some("this word is not built yet, so nothing was done; see ntfs_shell --help")
-        }
         (_, Access::Reads) => sentence_on_reading(status),
-        (_, Access::Makes) => sentence_on_making(status),
+        (_, Access::Formats) => sentence_on_formatting(status),
         (_, Access::Runs) => sentence_on_running(status),
+        (_, Access::Makes) => sentence_on_making(status),
     }
 }
 

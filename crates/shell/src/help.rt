@@ -14,19 +14,21 @@ Words:
   check                                prints whether the volume is sound
   format SECTORS CLUSTER SERIAL LABEL  makes a new volume; what IMAGE held is lost
   run                                  answers the script on standard input
-
-A word that is not built yet:
-  make N SEED                          runs N commands made from SEED
+  make N SEED                          runs N commands drawn from SEED
 
 run takes each line of standard input in order, settles IMAGE and prints the reply:
 some lines and ok, or no with a number and a name, as no 4 NotFound. An empty line
 and one that begins with # have none. These commands read: ls, stat, links, cat,
-read, streams, attr, sec, reparse, objid, df, open, hread and close; time sets the
-moment that edits write, and setattr PATH FLAGS the DOS flags of a file, in four
+read, streams, attr, sec, sd, reparse, objid, df, open, hread and close; time sets
+the moment that edits write, and setattr PATH FLAGS the DOS flags of a file, in four
 hexadecimal digits, and its time of record change; all others are no 28 Unbuilt.
 The first edit of a run marks the volume as not closed until the run ends, and
 empties its log; a hibernated system is not recognised, so shut it down before.
 A volume that check refuses is refused in the same words.
+
+make runs N commands, 1000000 at most, that SEED tells, each as run does a line,
+and prints made N OKS NOS, how many were done and how many refused, and the line
+of df. Standard input is not read.
 
 check prints sound, or the first clause that fails and a number N, as refused S7 N:
   S1   the boot sector is right; N counts its seven tests
@@ -58,8 +60,7 @@ An answer goes to standard output, and a line on what went wrong to standard
 error. The status is 0 where all was done, 2 where the words are not known, 3
 where the volume or an option is refused, 4 where standard input failed, 5 where
 standard output failed, 6 where IMAGE cannot be opened or failed, 7 where memory
-ran out, 8 where the script has more than 1073741824 bytes, and 9 for a word that
-is not built yet.
+ran out, and 8 where the script has more than 1073741824 bytes.
 
   ntfs_shell --help       prints this text
   ntfs_shell --version    prints the version

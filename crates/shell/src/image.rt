@@ -15,9 +15,11 @@ pub enum Access {
     /// Nothing but to be read.
     Reads,
     /// To be written anew.
-    Makes,
+    Formats,
     /// What a script asks of it.
     Runs,
+    /// What drawn lines ask of it.
+    Makes,
 }
 
 /// Why there is no disk over the image.

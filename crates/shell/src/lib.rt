@@ -15,6 +15,7 @@ mod image;
 mod label;
 mod label_option;
 mod laws;
+mod make;
 mod refusal;
 mod refused;
 mod run;

@@ -6,8 +6,9 @@ ghost use Rattle.mft_table.specs.HeldTables.{HoldsTables, volume_in};
 ghost use Rattle.mft_table.specs.MirrorClusters.{IsMirrorInside};
 ghost use Rattle.mft_table.specs.Mounted.{StandsOn};
 ghost use Rattle.script_run.specs.Ran.{BlamesEnd, Ran};
+ghost use Rattle.script_run.specs.Says.{of_script};
 ghost use Rattle.script_run.specs.World.{world};
-ghost use Rattle.shell.specs.Run.{RunEnds};
+ghost use Rattle.shell.specs.Run.{AreLeft, RunEnds};
 ghost use Rattle.shell.specs.RunSteps.{Refuses};
 
 use crate::answer::show;
@@ -37,7 +38,7 @@ fn run_mounted<D: Disk, S: Source, K: Sink>(
     ensures on_time { D.faults disk.old ≡ 0 → D.late disk.new ≡ D.late disk.old }
     ensures sectors { D.size disk.new ≡ D.size disk.old }
     ensures ran { (image text : List ℕ) → D.now disk.old ≡ Some image → S.left script.old ≡ Some text
-        → Ran image text result (world D.Disk S.Source K.Sink disk.old script.old out.old)
+        → Ran image (of_script text) result (world D.Disk S.Source K.Sink disk.old script.old out.old)
         (world D.Disk S.Source K.Sink disk.new script.new out.new) }
 {
     let mut volume = Volume::new(alloc, disk, mounted);
@@ -46,8 +47,8 @@ fn run_mounted<D: Disk, S: Source, K: Sink>(
     end
 }
 
-// Prints why a disk is not taken into use.
-fn refuse<K: Sink>(out: &mut K, no: MountNo) -> Ending
+/// Prints why a disk is not taken into use.
+pub fn refuse<K: Sink>(out: &mut K, no: MountNo) -> Ending
     ensures { Refuses no result (K.got out.old) (K.got out.new) (K.faults out.old) (K.faults out.new) }
 {
     match report_no_mount(no) {
@@ -65,7 +66,7 @@ pub fn run<D: Disk, S: Source, K: Sink>(
     script: &mut S,
     out: &mut K,
 ) -> Ending
-    ensures ends { RunEnds result (world D.Disk S.Source K.Sink disk.old script.old out.old)
+    ensures ends { RunEnds (AreLeft (S.left script.old)) result (world D.Disk S.Source K.Sink disk.old script.old out.old)
         (world D.Disk S.Source K.Sink disk.new script.new out.new) }
 {
     match mount(alloc, disk) {

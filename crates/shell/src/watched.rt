@@ -1,4 +1,4 @@
-//! A disk that tells on standard error how far a long reading has come.
+//! A disk that tells on standard error how far a long reading, or a run of drawn lines, has come.
 ghost use Rattle.std.specs.Prelude.{◌≡◌};
 
 use vol_disk::{Disk, Failed};
@@ -6,27 +6,43 @@ use vol_disk::{Disk, Failed};
 /// The reads from one line to the next: 128 MiB.
 const STEP: u64 = 262_144;
 
-/// A disk over another that tells, where that is wanted, how much was read of it.
+/// The drawn lines from one line to the next.
+const LINES: u64 = 10_000;
+
+/// What a person is told of a disk.
+#[derive(Clone, Copy, Debug, PartialEq, Eq)]
+pub enum Watch {
+    /// Nothing.
+    Nothing,
+    /// How much was read of it.
+    Reads,
+    /// That, and how many lines were done: each was settled once.
+    Lines,
+}
+
+/// A disk over another that tells, where that is wanted, how much was read of it, and how often it was settled.
 #[derive(Drop)]
 pub struct WatchedDisk<'a, R: Eprint, D: Disk + Drop> {
     inner: D,
     rt: &'a R,
-    shown: bool,
+    watch: Watch,
     reads: u64,
+    lines: u64,
 }
 
 impl<'a, R: Eprint, D: Disk + Drop> WatchedDisk<'a, R, D> {
     ghost use Rattle.shell.specs.Watched.{inner_of};
 
-    /// All goes to `inner`; `shown` says whether a person is told of it.
-    pub fn new(rt: &'a R, inner: D, shown: bool) -> WatchedDisk<'a, R, D>
+    /// All goes to `inner`; `watch` says what a person is told of it.
+    pub fn new(rt: &'a R, inner: D, watch: Watch) -> WatchedDisk<'a, R, D>
         ensures { inner_of result ≡ inner }
     {
         WatchedDisk {
             inner,
             rt,
-            shown,
+            watch,
             reads: 0,
+            lines: 0,
         }
     }
 
@@ -35,10 +51,22 @@ impl<'a, R: Eprint, D: Disk + Drop> WatchedDisk<'a, R, D> {
         ensures { inner_of self.new ≡ inner_of self.old }
     {
         self.reads = self.reads.saturating_add(1);
-        if self.shown && self.reads % STEP == 0 {
+        if self.watch != Watch::Nothing && self.reads % STEP == 0 {
             let _ = self
                 .rt
                 .eprintln(format_args!("ntfs_shell: {} MiB read", self.reads / 2048));
+        }
+    }
+
+    // Counts a line that was done, and tells of the last of each step.
+    fn count_line(&mut self)
+        ensures { inner_of self.new ≡ inner_of self.old }
+    {
+        self.lines = self.lines.saturating_add(1);
+        if self.watch == Watch::Lines && self.lines % LINES == 0 {
+            let _ = self
+                .rt
+                .eprintln(format_args!("ntfs_shell: {} lines done", self.lines));
         }
     }
 }
@@ -82,6 +110,8 @@ impl<R: Eprint, D: Disk + Drop> Disk for WatchedDisk<'_, R, D> {
     }
 
     fn settle(&mut self) -> Result<(), Failed> {
-        self.inner.settle()
+        self.inner.settle()?;
+        self.count_line();
+        Ok(())
     }
 }

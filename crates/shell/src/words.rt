@@ -1,12 +1,22 @@
 //! The words of the command line.
-ghost use Rattle.std.specs.Prelude.{◌≡◌, ◌<◌, ◌^◌, ◌↔◌, ℕ, ◌∷◌, [], Ok, Some, IfOk, IfSome, IsErr, IsTrue, codes, decimal, map, string_bytes};
+ghost use Rattle.std.specs.Prelude.{◌≡◌, ◌<◌, ◌≤◌, ◌^◌, ◌↔◌, ℕ, ◌∷◌, [], Ok, Some, IfOk, IfSome, IsErr, IsTrue, codes, decimal, map, string_bytes};
 ghost use Rattle.volume_format.specs.Options.{Options};
-ghost use Rattle.shell.specs.Words.{AreFormatWords, AreKnown, AreWords, AskToFormat, AskToRead, AskToRun, AskUnbuilt, IsUnbuilt};
+ghost use Rattle.shell.specs.Words.{AreFormatWords, AreKnown, AreMakeWords, AreWords, AskToFormat, AskToMake, AskToRead, AskToRun};
 
 use crate::image::Access;
 use crate::label_option::read_label;
 use std::alloc::{AllocError, Global};
 use volume_format::FormatOptions;
+
+/// The most lines that are drawn.
+const MOST_LINES: u64 = 1_000_000;
+
+/// How many lines are drawn, and behind which seed.
+#[derive(Clone, Copy, Debug, PartialEq, Eq)]
+pub struct Draws {
+    pub count: u64,
+    pub seed: u64,
+}
 
 /// What the words ask for.
 #[derive(Debug, Drop)]
@@ -21,8 +31,8 @@ pub enum Asked {
     Format(FormatOptions),
     /// A script to be run.
     Run,
-    /// A word of the program that is not built yet.
-    Unbuilt,
+    /// Drawn lines to be run.
+    Make(Draws),
     /// Nothing that the program knows.
     Unknown,
 }
@@ -43,40 +53,10 @@ fn are_words(words: &[String], text: &str) -> bool
     }
 }
 
-fn is_unbuilt(word: &str) -> bool
-    ensures { IsTrue result ↔ IsUnbuilt word.now }
-{
-    word == "make"
-}
-
-fn ask_unbuilt(words: &[String]) -> bool
-    ensures { IsTrue result ↔ AskUnbuilt (map string_bytes words.now) }
-{
-    match words {
-        [word, ..] => is_unbuilt(word),
-        [] => false,
-    }
-}
-
 fn ask_to_read(words: &[String]) -> bool
     ensures { IsTrue result ↔ AskToRead (map string_bytes words.now) }
 {
     are_words(words, "boot") || are_words(words, "label") || are_words(words, "check")
-}
-
-/// What the words ask of the image.
-pub fn access_of(words: &[String]) -> Access
-    ensures reads { (result ≡ Access.Reads) ↔ AskToRead (map string_bytes words.now) }
-    ensures runs { (result ≡ Access.Runs) ↔ AskToRun (map string_bytes words.now) }
-{
-    if are_words(words, "run") {
-        return Access::Runs;
-    }
-    if ask_to_read(words) {
-        Access::Reads
-    } else {
-        Access::Makes
-    }
 }
 
 // The number that a word writes in decimal, without a sign or a leading zero.
@@ -102,6 +82,52 @@ fn read_size(word: &str) -> Option<u32>
     ensures exact { (number : ℕ) → number < 2 ^ 32 → word.now ≡ decimal number → result ≡ Some number }
 {
     u32::try_from(read_number(word)?).ok()
+}
+
+// The numbers in the words behind `make`.
+fn read_draws(count: &str, seed: &str) -> Option<Draws>
+    ensures some { let words = codes "make" ∷ count.now ∷ seed.now ∷ [] in
+        IfSome result (λ draws. AreMakeWords words draws.count draws.seed) }
+    ensures exact { let words = codes "make" ∷ count.now ∷ seed.now ∷ [] in
+        (count seed : ℕ) → AreMakeWords words count seed → result ≡ Some (record { count = count; seed = seed }) }
+{
+    let count = read_number(count)?;
+    let seed = read_number(seed)?;
+    if count > MOST_LINES {
+        return None;
+    }
+    Some(Draws { count, seed })
+}
+
+// How many lines are drawn, and behind which seed, where the words ask for that.
+fn draws_of(words: &[String]) -> Option<Draws>
+    ensures some { IfSome result (λ draws. AreMakeWords (map string_bytes words.now) draws.count draws.seed) }
+    ensures exact { (count seed : ℕ) → AreMakeWords (map string_bytes words.now) count seed
+        → result ≡ Some (record { count = count; seed = seed }) }
+{
+    match words {
+        [word, count, seed] if is_word(word, "make") => read_draws(count, seed),
+        _ => None,
+    }
+}
+
+/// What the words ask of the image.
+pub fn access_of(words: &[String]) -> Access
+    ensures reads { (result ≡ Access.Reads) ↔ AskToRead (map string_bytes words.now) }
+    ensures runs { (result ≡ Access.Runs) ↔ AskToRun (map string_bytes words.now) }
+    ensures makes { (result ≡ Access.Makes) ↔ AskToMake (map string_bytes words.now) }
+{
+    if are_words(words, "run") {
+        return Access::Runs;
+    }
+    if let Some(_draws) = draws_of(words) {
+        return Access::Makes;
+    }
+    if ask_to_read(words) {
+        Access::Reads
+    } else {
+        Access::Formats
+    }
 }
 
 // The options in the words behind `format`, where they have the form.
@@ -166,7 +192,8 @@ pub fn read_words(alloc: Global, words: &[String]) -> Result<Asked, AllocError>
     ensures format { (options : Options) → AreFormatWords (map string_bytes words.now) options
         → IfOk result (λ asked. asked ≡ Asked.Format options) }
     ensures run { (result ≡ Ok Asked.Run) ↔ AskToRun (map string_bytes words.now) }
-    ensures unbuilt { (result ≡ Ok Asked.Unbuilt) ↔ AskUnbuilt (map string_bytes words.now) }
+    ensures make { (count seed : ℕ) → AreMakeWords (map string_bytes words.now) count seed
+        → result ≡ Ok (Asked.Make (record { count = count; seed = seed })) }
     ensures unknown { (result ≡ Ok Asked.Unknown) ↔ ¬ (AreKnown (map string_bytes words.now)) }
 {
     if are_words(words, "boot") {
@@ -181,8 +208,8 @@ pub fn read_words(alloc: Global, words: &[String]) -> Result<Asked, AllocError>
     if are_words(words, "run") {
         return Ok(Asked::Run);
     }
-    if ask_unbuilt(words) {
-        return Ok(Asked::Unbuilt);
+    if let Some(draws) = draws_of(words) {
+        return Ok(Asked::Make(draws));
     }
     match format_options(alloc, words)? {
         Some(options) => Ok(Asked::Format(options)),

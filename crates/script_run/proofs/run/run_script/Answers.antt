@@ -1,6 +1,7 @@
 use Rattle.std.proofs.Common.{refl, sym, ap, ◌∙◌}
 use Rattle.std.specs.Prelude.{is_ok}
 use Rattle.tree_ops.specs.Volumes.{disk_under, mark_of}
+use Rattle.script_run.specs.Says.{of_script}
 use Rattle.script_run.specs.World.{world}
 use Rattle.script_run.proofs.CloseLaws.{blames_behind, blames_end, blames_same, is-marked, quiet_lines, ran_broken, ran_closed, ran_unclosed}
 use Rattle.script_run.proofs.TurnLaws.{goes_twice}
@@ -8,7 +9,7 @@ use Rattle.script_run.proofs.run.run_script.Goals as goal
 
 pub returns-then-is_broken-clause-ran : goal.returns-then-is_broken-clause-ran
 returns-then-is_broken-clause-ran g c first text ready begins none left =
-    ran_broken g.D.Disk first text c.run_lines-end.result c.run_lines-end.new.volume
+    ran_broken g.D.Disk first (of_script text) c.run_lines-end.result c.run_lines-end.new.volume
     (world g.D.Disk g.S.Source g.K.Sink (disk_under g.D.Disk c.args.volume.now) c.args.script.now c.args.out.now)
     (world g.D.Disk g.S.Source g.K.Sink (disk_under g.D.Disk c.run_lines-end.new.volume) c.run_lines-end.new.script
     c.run_lines-end.new.out)
@@ -17,7 +18,7 @@ returns-then-is_broken-clause-ran g c first text ready begins none left =
 
 pub returns-in-Ok-clause-ran : goal.returns-in-Ok-clause-ran
 returns-in-Ok-clause-ran g c first text ready begins none left =
-    ran_closed g.D.Disk first text c.run_lines-end.result c.run_lines-end.new.volume c.close.new.self
+    ran_closed g.D.Disk first (of_script text) c.run_lines-end.result c.run_lines-end.new.volume c.close.new.self
     (world g.D.Disk g.S.Source g.K.Sink (disk_under g.D.Disk c.args.volume.now) c.args.script.now c.args.out.now)
     (world g.D.Disk g.S.Source g.K.Sink (disk_under g.D.Disk c.close.new.self) c.run_lines-end.new.script
     c.run_lines-end.new.out)
@@ -26,7 +27,7 @@ returns-in-Ok-clause-ran g c first text ready begins none left =
 
 pub returns-in-Err-clause-ran : goal.returns-in-Err-clause-ran
 returns-in-Err-clause-ran g c first text ready begins none left =
-    ran_unclosed g.D.Disk first text c.run_lines-end.result c.run_lines-end.new.volume c.close.new.self
+    ran_unclosed g.D.Disk first (of_script text) c.run_lines-end.result c.run_lines-end.new.volume c.close.new.self
     (world g.D.Disk g.S.Source g.K.Sink (disk_under g.D.Disk c.args.volume.now) c.args.script.now c.args.out.now)
     (world g.D.Disk g.S.Source g.K.Sink (disk_under g.D.Disk c.close.new.self) c.run_lines-end.new.script
     c.run_lines-end.new.out)

@@ -1,11 +1,12 @@
 use Rattle.std.proofs.Common.{rules, refl, sym, ap, ◌∙◌}
 use Rattle.tree_ops.specs.Volumes.{disk_under}
+use Rattle.script_run.specs.Says.{of_script}
 use Rattle.shell.proofs.RunLaws.{begins_on, ran_over, ready-new, state_on}
 use Rattle.shell.proofs.run.run_mounted.Goals as goal
 
 pub returns-clause-ran : goal.returns-clause-ran
 returns-clause-ran g c image text now left =
-    ran_over g.D.Disk g.S.Source g.K.Sink image text c.run_script-end.result c.args.disk.now (disk_under g.D.Disk c.new-volume.result)
+    ran_over g.D.Disk g.S.Source g.K.Sink image (of_script text) c.run_script-end.result c.args.disk.now (disk_under g.D.Disk c.new-volume.result)
     (disk_under g.D.Disk c.run_script-end.new.volume) _ c.args.script.now c.run_script-end.new.script c.args.out.now
     c.run_script-end.new.out c.new-volume.ensures.disk
     (search (rules, c.run_script-end.ensures.keeps.same_reference, c.new-volume.ensures.same_reference, c.finish.ensures.same_reference, c.finish.ensures.disk))

@@ -1,4 +1,7 @@
-use Rattle.std.proofs.Common.{◌≡◌, refl}
+use Rattle.std.proofs.Common.{◌≡◌, refl, subst}
+use Rattle.shell.specs.declared.words.Draws.{Draws}
+use Rattle.shell.specs.Make.{MakeEnds}
+use Rattle.shell.specs.World.{world}
 use Rattle.shell.specs.declared.ending.Ending.TheVariants as ending
 use Rattle.shell.proofs.Formats.{ends-same}
 use Rattle.shell.proofs.shell.run_shell.Goals as goal
@@ -34,3 +37,21 @@ returns-in-Err-clause-format g c options are = (
     source_faults = refl;
   },
 )
+
+pub returns-in-Ok-Make-clause-make : goal.returns-in-Ok-Make-clause-make
+returns-in-Ok-Make-clause-make g c count seed are =
+    let found = c.in-Ok-Make.ensures.make count seed are in
+    let whole = c.in-Ok-Make.field-0-is in
+    let same : c.in-Ok-Make.draws ≡ record { count = count; seed = seed } = cc in (
+      c.make.result,
+      c.status-in-Ok-Make.ensures.status,
+      subst (λ (d : Draws). MakeEnds d.seed d.count c.make.result
+          (world g.D.Disk g.S.Source g.K.Sink c.args.disk.now c.args.script.now c.args.out.now)
+          (world g.D.Disk g.S.Source g.K.Sink c.make.new.disk c.args.script.now c.make.new.out)) same c.make.ensures.ends,
+    )
+
+pub returns-in-Ok-Make-clause-format : goal.returns-in-Ok-Make-clause-format
+returns-in-Ok-Make-clause-format g c options are =
+    let found = c.in-Ok-Make.ensures.format options are in
+    let whole = c.in-Ok-Make.field-0-is in
+    cc

@@ -11,8 +11,15 @@ none-of a b c d e f (inr (inr (inr is))) = f is
 
 pub returns-in-Some-clause-format : goal.returns-in-Some-clause-format
 returns-in-Some-clause-format c options are =
+    let make = c.in-Some.ensures.some in
+    let one = make.form in
+    let two = are.form in
+    absurd (cc)
+
+pub returns-in-Some-2-clause-format : goal.returns-in-Some-2-clause-format
+returns-in-Some-2-clause-format c options are =
     let found = c.in_ok-options.ensures.exact options are in
-    let is = c.in-Some.is in
+    let is = c.in-Some-2.is in
     cc
 
 pub returns-in-None-clause-format : goal.returns-in-None-clause-format
@@ -29,6 +36,6 @@ returns-in-None-clause-unknown c = (
       (λ check. let yes = c.are_words-3.ensures.1 check in let no = c.if-are_words-3.false in absurd (cc))
       (λ ask. let found = c.in_ok-options.ensures.exact ask.0 ask.1 in let is = c.in-None.is in absurd (cc))
       (λ run. let yes = c.are_words-4.ensures.1 run in let no = c.if-are_words-4.false in absurd (cc))
-      (λ unbuilt. let yes = c.ask_unbuilt.ensures.1 unbuilt in let no = c.if-ask_unbuilt.false in absurd (cc)),
+      (λ ask. let found = c.draws_of.ensures.exact ask.0 ask.1 ask.2 in let is = c.in_default.is in absurd (cc)),
   λ _. refl,
 )
