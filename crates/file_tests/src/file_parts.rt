@@ -8,6 +8,8 @@ ghost use Rattle.mft_table.specs.Mounted.{StandsOn};
 ghost use Rattle.file_record.specs.Held.{parts_held};
 ghost use Rattle.file_record.specs.Written.{HoldsBytes, PartHeld};
 
+mod edited;
+
 use crate::laid::{has_mirror, mount, put};
 use file_record::{BaseFile, FileNo, FileParts, load_base};
 use mft_table::{Mft, Mounted, find_table};

@@ -1,5 +1,5 @@
 //! What tests of whole runs stand on: a disk, a sink and words; volumes that `format` makes, and files and damage laid into them by
-//! hand. They stand in a library, so that several crates of tests share them.
+//! hand. They stand in a library, so that several crates of tests share them; it hands on the calls of `shell` that these make.
 #![tactic(auto)]
 
 pub mod damage;
@@ -7,3 +7,5 @@ pub mod given;
 pub mod laid;
 pub mod laid_files;
 pub mod made;
+
+pub use shell::{FrontSink, run_shell, sentence_on_refusal, start};

@@ -86,7 +86,7 @@ pub fn is_sound(alloc: Global, sectors: u16, image: &[u8]) -> Result<bool, test:
 }
 
 // Lines on a new volume.
-const NEW_VOLUME: [Row; 16] = [
+const NEW_VOLUME: [Row; 19] = [
     ("ls /", "ok\n"),
     ("stat /", "stat dir 0 0 0006 256 0 0 0 0\nok\n"),
     ("df", "df 2048 1913 64 38\nok\n"),
@@ -103,6 +103,12 @@ const NEW_VOLUME: [Row; 16] = [
     ("objid /", "objid -\nok\n"),
     ("reparse /", "no 12 NoReparse\n"),
     ("ls /f", "no 4 NotFound\n"),
+    (
+        "sd 256",
+        "sd 0100008000000000000000000000000000000000\nok\n",
+    ),
+    ("sd 257", "no 18 NoSecurity\n"),
+    ("sd 4294967295", "no 18 NoSecurity\n"),
 ];
 
 #[test]

@@ -3,7 +3,7 @@
 use laid_volumes::damage::{mark_dirty, tear};
 use laid_volumes::given::sink_of;
 use laid_volumes::made::{disk_of, volume};
-use shell::run_shell;
+use laid_volumes::run_shell;
 use std::alloc::{AllocError, Global};
 use std::test;
 use vol_disk::{CallKind, Disk, Fail, FailDisk, Failed, MemDisk, MemSink, MemSource, Sink, Source};

@@ -1,6 +1,6 @@
 //! The word `boot`, words that print nothing, and a sink that fails.
+use laid_volumes::FrontSink;
 use laid_volumes::given::{AMPLE, GEOMETRY, Pieces, boot_sector, disk_of, run, sink_of};
-use shell::FrontSink;
 use std::test;
 use vol_disk::Sink;
 
@@ -66,7 +66,7 @@ fn other_words_print_nothing(rt: HostRuntime) -> Result<(), test::Fail> {
         ("boot x", 2),
         ("bo", 2),
         ("run x", 2),
-        ("make", 9),
+        ("make", 2),
         ("check x", 2),
     ] {
         let mut disk = disk_of(rt.alloc(), 16, &boot_sector(0x44, 0xF4))?;

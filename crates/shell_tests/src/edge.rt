@@ -1,6 +1,6 @@
 //! The edge of the program, over a runtime that notes what is opened, printed and said.
 use laid_volumes::given::{GEOMETRY, boot_sector};
-use shell::start;
+use laid_volumes::start;
 use std::alloc::{Allocator, Global};
 use std::cell::RefCell;
 use std::env::FillError;
@@ -241,7 +241,7 @@ struct End {
     said: &'static str,
 }
 
-const ENDS: [End; 20] = [
+const ENDS: [End; 21] = [
     End {
         line: b"ntfs_shell",
         status: 2,
@@ -310,9 +310,15 @@ const ENDS: [End; 20] = [
     },
     End {
         line: b"ntfs_shell ntfs_shell_whole make 1 1",
-        status: 9,
-        printed: "",
-        said: "not built",
+        status: 3,
+        printed: "refused S2 0\n",
+        said: "S2 0: record 0 does not open",
+    },
+    End {
+        line: b"ntfs_shell ntfs_shell_blank make 1 0",
+        status: 0,
+        printed: "made 1 0 1\ndf 2048 1913 64 38\n",
+        said: "",
     },
     End {
         line: b"ntfs_shell ntfs_shell_whole run",

@@ -15,4 +15,6 @@ mod format;
 #[cfg(test)]
 mod label;
 #[cfg(test)]
+mod make;
+#[cfg(test)]
 mod sentences;

@@ -1,5 +1,5 @@
 //! The sentence on standard error beside a line that refuses: each clause has its own, about the number of the line.
-use shell::sentence_on_refusal;
+use laid_volumes::sentence_on_refusal;
 use std::test;
 
 // A line, and how the sentence on it begins.

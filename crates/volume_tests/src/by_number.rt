@@ -1,6 +1,6 @@
 //! The calls that take a file by its number, on a new volume of 4,096 sectors: a name of a directory, all its names, and
-//! bytes of a stream; and where its mark and its log lie. The disk tells nothing of what it holds, so there is nothing to
-//! prove of the volume before a call.
+//! bytes of a stream; where its mark and its log lie; and the security descriptor of an id. The disk tells nothing of what it
+//! holds, so there is nothing to prove of the volume before a call.
 ghost use Rattle.std.specs.Prelude.{◌≡◌, IfOk, false};
 ghost use Rattle.mft_table.specs.MirrorClusters.{IsMirrorInside};
 ghost use Rattle.mft_table.specs.Mft.{is_mft_broken, mounted_of, view};
@@ -12,6 +12,7 @@ use mount_check::mount;
 use sparse_io::read_at;
 use std::alloc::{AllocError, Global};
 use std::test;
+use view_index::{descriptor, find_security};
 use vol_bytes::{Name, Octets, units_of_text};
 use vol_disk::{Disk, Failed, MemDisk};
 use vol_stage::Stage;
@@ -142,6 +143,36 @@ fn case(
     let bytes = read_at(alloc, &mut mft, 10, &unnamed, at, len);
     let_go(mft);
     Ok(bytes?)
+}
+
+// Whether the volume has a security descriptor of an id, and that descriptor.
+fn security(
+    alloc: Global,
+    disk: &mut Untold<MemDisk>,
+    id: u32,
+) -> Result<(bool, Option<Octets>), test::Fail> {
+    let mut mft = records_on(alloc, disk)?;
+    let there = find_security(alloc, &mut mft, id);
+    let bytes = descriptor(alloc, &mut mft, id);
+    let_go(mft);
+    Ok((there?, bytes?))
+}
+
+// A new volume has the descriptor of the id 256, of a revision 1 and the control word 0x8000, and no other.
+#[test]
+fn a_security_descriptor_is_found(rt: HostRuntime) -> Result<(), test::Fail> {
+    let mut disk = volume(rt.alloc())?;
+    let (there, bytes) = security(rt.alloc(), &mut disk, 256)?;
+    assert!(rt; there);
+    let mut wanted = [0; 20];
+    wanted[0] = 1;
+    wanted[3] = 0x80;
+    assert_eq!(rt; bytes.as_ref().map(Octets::as_slice), Some(&wanted[..]));
+    for id in [0, 255, 257, u32::MAX] {
+        let (there, bytes) = security(rt.alloc(), &mut disk, id)?;
+        assert!(rt; !there && bytes.is_none(), "{id}");
+    }
+    Ok(())
 }
 
 #[test]
