@@ -1,5 +1,5 @@
 -- A COMMAND THAT IS DONE: what its words lead to, and that the case of no refusal holds.
-use Rattle.std.specs.Prelude.{◌≡◌, ◌&&◌, ℕ, true, false, None, Ok, if◌then◌else◌}
+use Rattle.std.specs.Prelude.{◌≡◌, ◌&&◌, ◌||◌, ℕ, not, true, false, None, Ok, if◌then◌else◌}
 use Rattle.tree_model.specs.Cases.{bad_tag, directory_for_file, dos_name, exists, loops, names_badly, no_reparse, no_security, no_stream}
 use Rattle.tree_model.specs.Cases.{not_empty, packed, shared, too_big, too_many_handles, too_many_links}
 use Rattle.tree_model.specs.Refusals.{Facts, is_edit}
@@ -26,5 +26,5 @@ pub record IsAllowed (facts : Facts) (m : Machine) (session : ℕ) (command : Co
   pub handles : too_many_handles m.opens session command ≡ false
   pub opens : shared m command at ≡ None
   pub keys : linked m.tree command at ≡ false
-  pub whole : (is_edit command && cannot_edit facts.whole_table m.tree at.file) ≡ false
+  pub whole : (is_edit command && (cannot_edit facts.whole_table m.tree at.file || not (facts.over m command at))) ≡ false
   pub room : (if is_edit command then facts.no_room m command at else None) ≡ None

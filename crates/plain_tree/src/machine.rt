@@ -20,8 +20,8 @@ pub struct PlainMachine {
 }
 
 impl PlainMachine {
-    /// A command of a session: its reply, and the state after it. `None` for `time`, `open`, `hread`, `close`, `sd` and `setattr`, which
-    /// this machine does not do. What is not built yet is refused, so the state stays.
+    /// A command of a session: its reply, and the state after it. `None` for `time`, `open`, `hread`, `close`, `sd`, and for `setattr`,
+    /// `write` and `hwrite`, which this machine does not do. What is not built yet is refused, so the state stays.
     pub fn step(
         &mut self,
         alloc: Global,
@@ -79,6 +79,8 @@ fn is_left_out(command: &Command) -> bool
             | Command::Hread { .. }
             | Command::Close { .. }
             | Command::Setattr { .. }
+            | Command::Write { .. }
+            | Command::Hwrite { .. }
             | Command::Sd { .. }
     )
 }

@@ -132,6 +132,7 @@ one_facts view one other x y = λ i. record {
   records = (x.records ∙ sym y.records) i;
   free_records = (x.free_records ∙ sym y.free_records) i;
   whole_table = (x.whole_table ∙ sym y.whole_table) i;
+  over = λ m command at. (x.over m command at ∙ sym (y.over m command at)) i;
   in_use = λ n. (x.in_use n ∙ sym (y.in_use n)) i;
   descriptor = λ id. one_told view id (one.descriptor id) (other.descriptor id) (x.descriptors id) (y.descriptors id) i;
   no_room = λ m command at. (x.no_room m command at ∙ sym (y.no_room m command at)) i;

@@ -18,9 +18,9 @@ use Rattle.tree_model.specs.Need.{Bill, Counted, Touched}
 use Rattle.ntfs_def.specs.Rounded.{clusters_for}
 use Rattle.tree_model.specs.Reading.{link_by, standard_of}
 use Rattle.volume_def.specs.Room.{list_len_of, longest_name}
-use Rattle.tree_model.specs.StreamRoom.{is_in_place, new_clusters, parts_named, stream_value}
+use Rattle.tree_model.specs.StreamRoom.{is_in_place, new_clusters, stream_parts, stream_value}
 use Rattle.tree_model.specs.Subjects.{Located, NameIn, NewName}
-use Rattle.tree_model.specs.Tree.{Tree, is_in, sought_stream}
+use Rattle.tree_model.specs.Tree.{Tree, is_in}
 use Rattle.tree_model.specs.declared.command.Command.{Command}
 use Rattle.tree_model.specs.declared.command.Command.TheVariants as c
 use Rattle.tree_model.specs.declared.tree.Content.{Content}
@@ -118,12 +118,6 @@ counted_of view tree command at =
     filter (λ counted. nat_lt 0 counted.entries) (map (counted_in view) (changes_of view tree command at))
 
 -- THE CLUSTERS that a stream, or a reparse point, may come to own.
-
--- the parts of the stream that a command names, as it is spelt in its file; none where it is not there
-abbrev pub stream_parts : VolumeView → Tree → Located → List Part
-stream_parts view tree at =
-    option_map_or (λ stream. parts_named view at.file stream.name)
-    (option_and_then (λ node. sought_stream tree.fold node.streams at.stream) at.node) []
 
 -- A stream grows by `truncate` where it is shorter, or missing.
 abbrev pub grows : ℕ → Option Content → Bool

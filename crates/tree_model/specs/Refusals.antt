@@ -1,5 +1,5 @@
 -- The refusals of a command in their order, told here alone.
-use Rattle.std.specs.Prelude.{ℕ, ◌&&◌, not, Bool, true, false, List, [], ◌∷◌, Option, Some, None, Result, Ok, Err, if◌then◌else◌}
+use Rattle.std.specs.Prelude.{ℕ, ◌&&◌, ◌||◌, not, Bool, true, false, List, [], ◌∷◌, Option, Some, None, Result, Ok, Err, if◌then◌else◌}
 use Rattle.std.specs.Option.{option_or}
 use Rattle.tree_model.specs.Cases.{bad_tag, directory_for_file, dos_name, exists, loops, names_badly, no_reparse, no_security, no_stream}
 use Rattle.tree_model.specs.Cases.{not_empty, packed, shared, too_big, too_many_handles, too_many_links}
@@ -20,6 +20,8 @@ pub record Facts : Type 0 where
   pub free_records : ℕ
   -- whether each record of the table was written whole, or not at all
   pub whole_table : Bool
+  -- whether a write goes over bytes that were written before
+  pub over : Machine → Command → Located → Bool
   -- whether a record is in use
   pub in_use : ℕ → Bool
   -- the security descriptor of an id
@@ -79,7 +81,7 @@ refusal_cases facts m session command subject at =
     when (too_many_handles m.opens session command) no.TooManyHandles ∷
     shared m command at ∷
     when (linked m.tree command at) no.Linked ∷
-    when (is_edit command && cannot_edit facts.whole_table m.tree at.file) no.Unbuilt ∷
+    when (is_edit command && (cannot_edit facts.whole_table m.tree at.file || not (facts.over m command at))) no.Unbuilt ∷
     (if is_edit command then facts.no_room m command at else None) ∷ []
 
 -- the first whose case holds

@@ -1,11 +1,15 @@
 -- WHAT IS NOT BUILT YET, told here alone: Unbuilt and Linked. Once all is built this file goes out, with the places that name it:
--- `is_built`, `cannot_edit` and `linked` in `Refusals`, `whole_table` of `Facts`, and the two variants of the type `No`.
-use Rattle.std.specs.Prelude.{ℕ, ◌==◌, ◌&&◌, ◌||◌, ◌++◌, nat_lt, not, Bool, true, false}
+-- `is_built`, `cannot_edit`, `goes_over_bytes` and `linked` in `Refusals`, `whole_table` and `over` of `Facts`, and the two variants of the
+-- type `No`.
+use Rattle.std.specs.Prelude.{ℕ, ◌==◌, ◌&&◌, ◌||◌, ◌++◌, nat_lt, not, Bool, true, false, length}
 use Rattle.std.specs.List.{list_any}
 use Rattle.std.specs.Option.{option_map_or}
 use Rattle.ntfs_def.specs.declared.kinds.TheConstants.{OBJECT_ID}
+use Rattle.volume_def.specs.Table.{cluster_bytes}
+use Rattle.volume_def.specs.View.{VolumeView}
 use Rattle.tree_model.specs.Cases.{has_point}
 use Rattle.tree_model.specs.Drops.{is_last_link}
+use Rattle.tree_model.specs.StreamRoom.{goes_over, stream_parts}
 use Rattle.tree_model.specs.Subjects.{Located}
 use Rattle.tree_model.specs.Tree.{Tree, leads_to}
 use Rattle.tree_model.specs.declared.command.Command.{Command}
@@ -28,6 +32,8 @@ is_built c.Df = true
 is_built (c.Time now) = true
 is_built (c.Open path stream access share) = true
 is_built (c.Hread handle at len) = true
+is_built (c.Write path stream at bytes) = true
+is_built (c.Hwrite handle at bytes) = true
 is_built (c.Setattr path flags) = true
 is_built (c.Sd id) = true
 is_built (c.Close handle) = true
@@ -41,6 +47,14 @@ stands_in_copied link = nat_lt link.parent 4
 abbrev pub cannot_edit : Bool → Tree → ℕ → Bool
 cannot_edit whole_table tree file =
     not whole_table || list_any (λ (link : Link). leads_to file link && stands_in_copied link) (tree.links ++ tree.hidden)
+
+-- UNBUILT too: a write that does not go over bytes in clusters that were written before.
+abbrev pub goes_over_bytes : VolumeView → Tree → Command → Located → Bool
+goes_over_bytes view tree (c.Write path stream from bytes) at =
+    goes_over (cluster_bytes view.layout) (stream_parts view tree at) from (length bytes)
+goes_over_bytes view tree (c.Hwrite handle from bytes) at =
+    goes_over (cluster_bytes view.layout) (stream_parts view tree at) from (length bytes)
+goes_over_bytes view tree other at = true
 
 -- LINKED: a file would go that has a reparse point or an object id, for which view indexes have keys.
 abbrev pub has_object_id : Located → Bool
