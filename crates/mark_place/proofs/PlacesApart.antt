@@ -1,4 +1,5 @@
--- WHAT LIES APART FROM THE MARK AND THE LOG: the sectors of a record and of its copy, and those of an attribute that is no $DATA.
+-- WHAT LIES APART FROM THE MARK AND THE LOG: the sectors of a record and of its copy, and those of an attribute that is no $DATA, or one of a
+-- file that is neither `$MFT`, its mirror, nor the log.
 use Rattle.std.proofs.Common.{◌≡◌, ◌≢◌, ◌+◌, ◌*◌, ◌/◌, ◌%◌, ◌<◌, ◌≤◌, ℕ, Bool, true, false, cond, List, [], ◌∷◌, ◌++◌, length, Option, Some, None}
 use Rattle.std.proofs.Common.{refl, sym, ap, subst, inl, inr, ◌∙◌, arith}
 use Rattle.std.specs.Prelude.{◌⊎◌, Contains, IfSome, IsSomeAnd, IsTrue, filter, is_none, nat_lt, option_to_list, unwrap_or}
@@ -37,7 +38,7 @@ use Rattle.volume_mark.specs.Mark.{IsFlagOf}
 use Rattle.volume_mark.specs.SameVolume.{IsOfLog}
 use Rattle.volume_mark.proofs.DiskLaws.{covered-by}
 use Rattle.volume_mark.proofs.FlagEdit.{byte-far}
-use Rattle.mark_place.specs.Beside.{IsBesideFlag}
+use Rattle.mark_place.specs.Beside.{IsBesideFlag, IsElsewhere}
 use Rattle.mark_place.specs.LogSpans.{AreLogSpans}
 use Rattle.mark_place.proofs.EmptyLaws.{outside-log}
 
@@ -183,10 +184,10 @@ module _ (view : VolumeView) (o : HasOwners view) (some : 0 < view.layout.cluste
       by (inl t) = table-log t.k sector t.is
       by (inr m) = mirror-log m.k sector m.few m.is
 
-  -- AN ATTRIBUTE that is no $DATA
-  module _ (f kind : ℕ) (name : List ℕ) (no_data : kind ≢ DATA) (at len sector : ℕ)
+  -- AN ATTRIBUTE that is neither of the table nor of its mirror, nor the log
+  module _ (f kind : ℕ) (name : List ℕ) (elsewhere : IsElsewhere f kind) (at len sector : ℕ)
       (there : Contains (stream_sectors layout (spot_at (parts_at view f kind name)) at len) sector) where
-    own-part : (part : Part) × Contains (parts (records_of view) f) part × (part.kind ≢ DATA)
+    own-part : (part : Part) × Contains (parts (records_of view) f) part × (part.kind ≡ kind)
         × (1 ≤ times_covered (part_runs part) (sector / per))
     own-part =
         let spot = spot_at (parts_at view f kind name) in
@@ -196,16 +197,21 @@ module _ (view : VolumeView) (o : HasOwners view) (some : 0 < view.layout.cluste
         let owned = spot_at-owned (parts_at view f kind name) (found.0 / per) (sector / per)
         (stream-cluster layout found.0 sector (spot (found.0 / per)) some place) in
         let among = Contains-from_filter (is_of kind name) (parts (records_of view) f) owned.0 owned.1 in
-        (owned.0, among.0, (λ e. no_data (sym (eqb-true _ kind (and_parts _ _ among.1).0) ∙ e)), owned.2)
+        (owned.0, among.0, eqb-true _ kind (and_parts _ _ among.1).0, owned.2)
 
     stream-outside : IsOutsideTable layout (sector / per)
-    stream-outside = lies-outside view o some f own-part.0 (sector / per) own-part.1 own-part.3 (inl own-part.2)
+    stream-outside = lies-outside view o some f own-part.0 (sector / per) own-part.1 own-part.3 (elim elsewhere [
+      | inl no_data ↦ inl (λ e. no_data (sym own-part.2 ∙ e))
+      | inr away ↦ inr (away.0, away.1.0)
+    ])
 
     pub stream-log : (spans : List Span) → AreLogSpans view spans → IsOutside spans sector
     stream-log spans are = outside-log view spans some are sector (λ l.
         let m = log-part sector l in
-        no-shared view o f LOG_FILE own-part.0 m.part (sector / per) own-part.1 m.among
-        (λ same. own-part.2 (ap (λ (p : Part). p.kind) same ∙ m.data_is)) own-part.3 m.covered)
+        no-shared view o f LOG_FILE own-part.0 m.part (sector / per) own-part.1 m.among (elim elsewhere [
+          | inl no_data ↦ (λ same. no_data (sym own-part.2 ∙ ap (λ (p : Part). p.kind) same ∙ m.data_is))
+          | inr away ↦ files-apart view f LOG_FILE own-part.0 m.part away.1.1 own-part.1 m.among
+        ]) own-part.3 m.covered)
 
   -- THE FLAG
   module _ (sound : IsSound view) (flag : Flag) (is : IsFlagOf view flag) where
@@ -231,10 +237,10 @@ module _ (view : VolumeView) (o : HasOwners view) (some : 0 < view.layout.cluste
       outside-log view spans some are flag.copy (mirror-log half flag.copy half-small copy-is),
     )
 
-    pub stream-beside : (f kind : ℕ) (name : List ℕ) → kind ≢ DATA → (at len sector : ℕ)
+    pub stream-beside : (f kind : ℕ) (name : List ℕ) → IsElsewhere f kind → (at len sector : ℕ)
         → Contains (stream_sectors layout (spot_at (parts_at view f kind name)) at len) sector → IsBesideFlag flag sector
-    stream-beside f kind name no_data at len sector there =
-        let out = stream-outside f kind name no_data at len sector there in
+    stream-beside f kind name elsewhere at len sector there =
+        let out = stream-outside f kind name elsewhere at len sector there in
         record {
           home = λ same. let covers = home-covered sector same in let none = out.table in omega (arith, covers, none);
           copy = λ same. out.mirror half half-small (copy-at sector same);

@@ -1,6 +1,5 @@
 //! What the spans of the log are to the volume.
 ghost use Rattle.std.specs.Prelude.{◌≡◌, ◌≢◌, ◌*◌, ◌+◌, ◌<◌, Bool, Contains, ℕ, List, length};
-ghost use Rattle.ntfs_def.specs.declared.kinds.TheConstants.{DATA};
 ghost use Rattle.ntfs_def.specs.declared.records.TheConstants.{VOLUME};
 ghost use Rattle.ntfs_def.specs.declared.run_text.Spot.TheVariants.{At};
 ghost use Rattle.volume_def.specs.Files.{parts_at};
@@ -20,7 +19,7 @@ ghost use Rattle.session_def.specs.Done.{HasEmptyLog};
 ghost use Rattle.session_def.specs.Room.{KeepsLogEnd};
 ghost use Rattle.volume_mark.specs.Mark.{IsFlagOf};
 ghost use Rattle.volume_mark.specs.SameVolume.{IsOfLog};
-ghost use Rattle.mark_place.specs.Beside.{IsBesideFlag};
+ghost use Rattle.mark_place.specs.Beside.{IsBesideFlag, IsElsewhere};
 ghost use Rattle.mark_place.specs.LogSpans.{AreLogSpans};
 
 /// A sector that is none of the log's clusters lies in none of its spans (`outside`). Where the sectors of the spans are
@@ -48,8 +47,8 @@ pub fn log_laws()
 
 /// What an edit writes lies apart from the mark and from the log, where no cluster has two owners: the sectors of a record, and
 /// those of its copy where it has one, are none of the flag's on a sound volume unless the record is one of `$Volume`
-/// (`records`), and lie in no span of the log (`records_log`). So are those of an attribute that is no `$DATA`, such as the
-/// records of an index (`streams`, `streams_log`). The sectors of the flag lie in no span of the log either (`flag_log`).
+/// (`records`), and lie in no span of the log (`records_log`). So are those of an attribute that is no `$DATA`, as the
+/// records of an index, and of a stream of another file than the table, its mirror and the log (`streams`, `streams_log`). The sectors of the flag lie in no span of the log either (`flag_log`).
 pub fn places_apart()
     ensures records { (view : VolumeView) (flag : Flag) (g n sector : ℕ) → IsSound view → HasOwners view
         → 0 < view.layout.cluster_sectors
@@ -59,10 +58,10 @@ pub fn places_apart()
         → AreLogSpans view spans → Contains (record_places view.layout n) sector → IsOutside spans sector }
     ensures streams { (view : VolumeView) (flag : Flag) (f kind : ℕ) (name : List ℕ) (at len sector : ℕ) → IsSound view
         → HasOwners view
-        → 0 < view.layout.cluster_sectors → IsFlagOf view flag → kind ≢ DATA
+        → 0 < view.layout.cluster_sectors → IsFlagOf view flag → IsElsewhere f kind
         → Contains (stream_sectors view.layout (spot_at (parts_at view f kind name)) at len) sector → IsBesideFlag flag sector }
     ensures streams_log { (view : VolumeView) (spans : List Span) (f kind : ℕ) (name : List ℕ) (at len sector : ℕ) → HasOwners view
-        → 0 < view.layout.cluster_sectors → AreLogSpans view spans → kind ≢ DATA
+        → 0 < view.layout.cluster_sectors → AreLogSpans view spans → IsElsewhere f kind
         → Contains (stream_sectors view.layout (spot_at (parts_at view f kind name)) at len) sector → IsOutside spans sector }
     ensures flag_log { (view : VolumeView) (flag : Flag) (spans : List Span) → IsSound view → HasOwners view
         → 0 < view.layout.cluster_sectors → IsFlagOf view flag → AreLogSpans view spans
