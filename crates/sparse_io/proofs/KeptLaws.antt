@@ -126,7 +126,7 @@ module _ (view : VolumeView) (table : List ℕ) (file : FileParts) (h : IsHeldWi
   abbrev all : List Part
   all = parts_held file
 
-  begins-both : (part : Part) → begins_stream part ≡ true → (part.kind ≡ DATA) × (is_first part ≡ true)
+  pub begins-both : (part : Part) → begins_stream part ≡ true → (part.kind ≡ DATA) × (is_first part ≡ true)
   begins-both part begins = by (part.kind == DATA) (is_first part) refl refl begins
     where
       by : (b c : Bool) → (part.kind == DATA) ≡ b → is_first part ≡ c → (b && c) ≡ true → (part.kind ≡ DATA) × (is_first part ≡ true)
@@ -134,7 +134,7 @@ module _ (view : VolumeView) (table : List ℕ) (file : FileParts) (h : IsHeldWi
       by true false b c e = cc
       by false c' b c e = cc
 
-  tells-first : (part : Part) → Contains all part → begins_stream part ≡ true → first_part (parts_like part all) ≡ Some part
+  pub tells-first : (part : Part) → Contains all part → begins_stream part ≡ true → first_part (parts_like part all) ≡ Some part
   tells-first part among begins =
       let both = begins-both part begins in
       let there = subst (λ (ps : List Part). Contains ps part) h.parts.parts among in
@@ -163,7 +163,7 @@ module _ (view : VolumeView) (table : List ℕ) (file : FileParts) (h : IsHeldWi
       by true = refl
       by false = refl
 
-  kept-size : (part : Part) → first_part (parts_like part all) ≡ Some part → real_size part.content ≡ size_of (content_at view all part)
+  pub kept-size : (part : Part) → first_part (parts_like part all) ≡ Some part → real_size part.content ≡ size_of (content_at view all part)
   kept-size part first = by (is_packed_part part) ∙ sym (ap size_of (shown-by part first))
     where
       by : (b : Bool) → real_size part.content ≡ size_of (cond b (Packed (real_size part.content)) (Plain (value_on view (parts_like part all))))
@@ -179,7 +179,7 @@ module _ (view : VolumeView) (table : List ℕ) (file : FileParts) (h : IsHeldWi
       let n : suc k + 1 ≡ suc (k + 1) = omega arith in
       (r.0, ap (λ m. drop m (y ∷ ys)) n ∙ r.1)
 
-  get-among : {A : Type 0} (k : ℕ) (xs : List A) (x : A) → slice_get xs k ≡ Some x → Contains xs x
+  pub get-among : {A : Type 0} (k : ℕ) (xs : List A) (x : A) → slice_get xs k ≡ Some x → Contains xs x
   get-among k [] x e = cc
   get-among zero (y ∷ ys) x e = (0, omega arith, cc)
   get-among (suc k) (y ∷ ys) x e = let r = get-among k ys x e in (suc r.0, omega (arith, r.1), r.2)

@@ -1,1 +1,5 @@
 pub mod KeptLaws
+pub mod NamesApart
+pub mod OverLaws
+pub mod PatchLaws
+pub mod OverwriteLaws

@@ -3,7 +3,11 @@
 
 mod find;
 mod held;
+mod over;
 mod read;
+mod write;
 
 pub use find::{FoundStream, find_stream, list_streams};
+pub use over::{goes_over, look_at_names};
 pub use read::{read_at, read_stream};
+pub use write::overwrite;
