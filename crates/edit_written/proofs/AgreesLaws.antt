@@ -16,7 +16,7 @@ use Rattle.volume_mark.proofs.AgreeLaws.{agrees-written}
 use Rattle.in_place.specs.InPlace.{Rewrites}
 use Rattle.in_place.specs.Unnamed.{LiesApart, NamesNoneOf}
 use Rattle.in_place.proofs.StillApart.{apart-still}
-use Rattle.setattr_owed.proofs.CallsOwed.{apart-of}
+use Rattle.in_place_owed.proofs.CallsOwed.{apart-of}
 use Rattle.edit_written.specs.Finished.{IsFinished, IsPlaceOf}
 use Rattle.edit_written.proofs.LogSpansStay.{spans-stay}
 

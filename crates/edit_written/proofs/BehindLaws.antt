@@ -22,7 +22,7 @@ use Rattle.in_place.specs.Behind.{MarksBehind}
 use Rattle.in_place.specs.InPlace.{Rewrites}
 use Rattle.in_place.specs.Unnamed.{NamesNoneOf}
 use Rattle.first_mark.proofs.FinishedLaws.{finished}
-use Rattle.setattr_owed.proofs.LaterLaws.{later}
+use Rattle.in_place_owed.proofs.LaterLaws.{later}
 use Rattle.edit_written.specs.Finished.{IsFinished, IsPlaceOf}
 use Rattle.edit_written.proofs.AgreesLaws.{apart-staged, none-within}
 use Rattle.edit_written.proofs.FlagStays.{staged-flag}

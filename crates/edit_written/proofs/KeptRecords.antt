@@ -12,7 +12,7 @@ use Rattle.edit_def.specs.Kept.{Key, key_of}
 use Rattle.in_place.specs.InPlace.{KeepsBlock, Rewrites, RewritesBlock}
 use Rattle.in_place.specs.Unnamed.{NamesNoneOf}
 use Rattle.in_place.proofs.SameRecords.{in-use}
-use Rattle.setattr_owed.proofs.RecordsOwed.{first-own}
+use Rattle.in_place_owed.proofs.RecordsOwed.{first-own}
 
 -- the root directory has a record, so the table has the first ones
 pub root-inside : (view : VolumeView) → IsSound view → ROOT < view.layout.count

@@ -15,4 +15,5 @@ pub mod CallLaws
 pub mod BehindLaws
 pub mod StillApart
 pub mod IndexesOwed
+pub mod StreamSame
 pub mod NodesOwed

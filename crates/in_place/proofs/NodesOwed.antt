@@ -1,10 +1,10 @@
--- NODES after a rewrite, of a command that makes no file, changes no stream, and drops no name.
-use Rattle.std.proofs.Common.{◌≡◌, ◌==◌, not, ℕ, Bool, true, false, List, Option, Some, refl, sym, ap, subst, inl, ◌∙◌, if◌then◌else◌}
-use Rattle.std.proofs.lemmas.Bool.{and_from, and_parts, eq-eqb, eqb-true}
+-- NODES after a rewrite, of a command that makes no file and drops no name.
+use Rattle.std.proofs.Common.{◌≡◌, ◌==◌, not, ℕ, Bool, true, false, List, [], Option, Some, refl, sym, ap, subst, inl, ◌∙◌, if◌then◌else◌}
+use Rattle.std.proofs.lemmas.Bool.{and_from, eq-eqb, eqb-true}
 use Rattle.std.proofs.lemmas.Slice.Eq.{bytes_eq-Decides}
 use Rattle.std.specs.List.{Contains, list_any}
 use Rattle.std.specs.Prelude.{is_some}
-use Rattle.ntfs_def.specs.declared.kinds.TheConstants.{FILE_NAME}
+use Rattle.ntfs_def.specs.declared.kinds.TheConstants.{DATA, FILE_NAME}
 use Rattle.volume_def.specs.Files.{records_of}
 use Rattle.volume_def.specs.View.{VolumeView}
 use Rattle.list_laws.proofs.FindLaws.{any-found}
@@ -17,13 +17,14 @@ use Rattle.tree_model.specs.declared.tree.Link.{Link}
 use Rattle.edit_def.specs.Kept.{Key, is_name_told, key_of, told_names}
 use Rattle.edit_def.specs.Names.{Numbers, numbers_at}
 use Rattle.session_def.specs.Kept.{link_told}
-use Rattle.session_def.specs.Named.{main_file}
-use Rattle.session_def.specs.Nodes.{ComesRightly, HasPoint, KeepsDosFlags, KeepsMain, KeepsNodes, edits_stream, edits_unnamed, flag_of}
+use Rattle.session_def.specs.Named.{main_file, spelt}
+use Rattle.session_def.specs.Nodes.{ComesRightly, HasPoint, KeepsDosFlags, KeepsMain, KeepsNodes, flag_of}
 use Rattle.session_def.specs.Nodes.{has_link_told}
 use Rattle.in_place.specs.InPlace.{Rewrites}
 use Rattle.in_place.specs.Unnamed.{IsQuiet, KeepsMarks}
 use Rattle.in_place.proofs.PlacesSame.{told-passed}
 use Rattle.in_place.proofs.RoomSame.{numbers-same}
+use Rattle.in_place.proofs.StreamSame.{holes-same, stream-kept}
 
 never : {b : Bool} → b ≡ true → b ≡ false → ⊥
 never x y = cc
@@ -40,16 +41,13 @@ same-flag false x y e = e
 module _ (changed : Key → Bool) (old new : VolumeView) (w : Rewrites changed old new) (before next : Tree) (command : Command)
     (at : Located) (made : ℕ)
     (quiet : IsQuiet before command at) where
-  no-stream : (f : ℕ) → edits_unnamed before command at f ≡ true → ⊥
-  no-stream f e = never (and_parts (edits_stream command) _ (and_parts (f == at.file) _ e).1).0 quiet.streams
-
   flags-kept : (f : ℕ) → KeepsMarks old new f → KeepsDosFlags old new before command at made f
   flags-kept f marks = record {
     point = subst (λ n. flag_of 0x400 new f ≡ (if main_file command at made == f then n else flag_of 0x400 old f))
         (sym (quiet.points (flag_of 0x400 old f)))
         (same-flag (main_file command at made == f) (flag_of 0x400 new f) (flag_of 0x400 old f) marks.point);
     sparse = inl marks.sparse;
-    holed = λ unnamed. absurd (no-stream f unnamed);
+    holed = λ unnamed hole none. absurd (never hole (holes-same changed old new w f DATA [] ∙ none));
   }
 
   main-kept : (f : ℕ) (was now : Numbers) → numbers_at (records_of old) f ≡ Some was → numbers_at (records_of new) f ≡ Some now
@@ -83,6 +81,6 @@ module _ (changed : Key → Bool) (old new : VolumeView) (w : Rewrites changed o
     main = main-kept (main_file command at made);
     fresh = λ makes. absurd (never makes quiet.makes);
     named = names-come (main_file command at made) _ free;
-    sized = λ edits. absurd (never edits quiet.streams);
+    sized = λ edits there. stream-kept changed old new w at.file (spelt before at);
     point = point;
   }

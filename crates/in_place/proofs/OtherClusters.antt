@@ -1,7 +1,7 @@
 -- THE CLUSTERS OF ATTRIBUTES THAT ARE NOT NAMED, where no cluster has two owners: they hold what they held.
-use Rattle.std.proofs.Common.{◌≡◌, ◌≢◌, ◌⊎◌, ◌<◌, ◌≤◌, ◌==◌, ℕ, Bool, true, false, List}
+use Rattle.std.proofs.Common.{◌≡◌, ◌≢◌, ◌⊎◌, ◌<◌, ◌≤◌, ◌==◌, ℕ, Bool, false, List}
 use Rattle.std.proofs.Common.{sym, ap, inl, inr, ◌∙◌}
-use Rattle.std.proofs.lemmas.Bool.{and_parts, cases_eq, eqb-true}
+use Rattle.std.proofs.lemmas.Bool.{and_parts, eqb-true}
 use Rattle.std.proofs.lemmas.Slice.Eq.{bytes_eq-Decides}
 use Rattle.std.specs.List.{Contains}
 use Rattle.std.specs.Str.{bytes_eq}
@@ -14,7 +14,7 @@ use Rattle.volume_def.specs.View.{VolumeView}
 use Rattle.volume_def.proofs.ValueLaws.{spot_at-owned}
 use Rattle.list_laws.proofs.MemberLaws.{Contains-from_filter}
 use Rattle.volume_edits.specs.Owners.{HasOwners}
-use Rattle.volume_edits.proofs.OwnerLaws.{files-apart, lies-outside, no-shared}
+use Rattle.volume_edits.proofs.OwnerLaws.{lies-outside}
 use Rattle.edit_def.specs.Kept.{Key, key_of}
 use Rattle.in_place.specs.InPlace.{Rewrites}
 use Rattle.record_edits.specs.InPlace.{IsUnnamed}

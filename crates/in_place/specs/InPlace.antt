@@ -1,13 +1,11 @@
 -- VALUES REWRITTEN WHERE THEY STAND: the bytes of a value in its record, or of clusters of an attribute. Nothing else changes, neither
 -- names nor sizes, runs, headers or bits.
-use Rattle.std.specs.Prelude.{◌≡◌, ◌≢◌, ◌⊎◌, ℕ, ◌<◌, not, Bool, true, IsTrue, List, filter, map}
+use Rattle.std.specs.Prelude.{◌≡◌, ◌⊎◌, ℕ, ◌<◌, not, Bool, true, IsTrue, List, filter, map}
 use Rattle.ntfs_def.specs.Attribute.{Attribute, attributes}
 use Rattle.ntfs_def.specs.Fixup.{opened_of}
 use Rattle.ntfs_def.specs.Record.{header_of, is_in_use}
-use Rattle.ntfs_def.specs.declared.run_text.Spot.TheVariants.{At}
 use Rattle.volume_def.specs.Coverage.{IsOutsideTable}
-use Rattle.volume_def.specs.Files.{file_of, parts_at, record_of}
-use Rattle.volume_def.specs.Values.{spot_at}
+use Rattle.volume_def.specs.Files.{file_of, record_of}
 use Rattle.volume_def.specs.View.{VolumeView}
 use Rattle.edit_def.specs.Kept.{Key, key_of}
 use Rattle.record_edits.specs.InPlace.{IsUnnamed}

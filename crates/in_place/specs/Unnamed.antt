@@ -4,7 +4,7 @@ use Rattle.volume_def.specs.View.{VolumeView}
 use Rattle.volume_edits.specs.Owners.{HasOwners}
 use Rattle.edit_def.specs.Kept.{Key, key_of}
 use Rattle.session_def.specs.Named.{is_index_kind}
-use Rattle.session_def.specs.Nodes.{edits_stream, flag_of, point_flag}
+use Rattle.session_def.specs.Nodes.{flag_of, point_flag}
 use Rattle.tree_model.specs.Bill.{dropped_links}
 use Rattle.tree_model.specs.Effects.{makes_file}
 use Rattle.tree_model.specs.Subjects.{Located}
@@ -28,10 +28,9 @@ pub record LiesApart (view : VolumeView) : Type 0 where
   pub some : 0 < view.layout.cluster_sectors
   pub unnamed : owners.table.part.name ≡ []
 
--- The command makes no file, changes no stream, drops no name, and neither sets nor takes a reparse point.
+-- The command makes no file, drops no name, and neither sets nor takes a reparse point.
 pub record IsQuiet (before : Tree) (command : Command) (at : Located) : Type 0 where
   pub makes : makes_file command ≡ false
-  pub streams : edits_stream command ≡ false
   pub drops : dropped_links before command at ≡ []
   pub points : (flag : ℕ) → point_flag command flag ≡ flag
 

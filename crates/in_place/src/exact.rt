@@ -16,11 +16,13 @@ ghost use Rattle.session_def.specs.Nodes.{HasPoint, KeepsNodes};
 ghost use Rattle.in_place.specs.InPlace.{Rewrites};
 ghost use Rattle.in_place.specs.Unnamed.{IsQuiet, KeepsMarks, LiesApart, NamesNoKind};
 
-/// A rewrite by a command that makes no file, changes no stream, drops no name and sets no point leaves of nodes what it is to leave, where
-/// the flags that tell of a sparse stream and of a point stay, and no name of its file is named.
+/// A rewrite by a command that makes no file, drops no name and sets no point leaves of nodes what it is to leave, where the flags that
+/// tell of a sparse stream and of a point stay, and no name of its file is named. A stream keeps its flags, its sizes and its clusters, also
+/// the one that the command is about.
 pub fn nodes_owed()
     ensures { (changed : Key → Bool) (old new : VolumeView) → Rewrites changed old new
-        → (before next : Tree) (command : Command) (at : Located) (made : ℕ) → IsQuiet before command at → NamesNoKind changed (main_file command at made) FILE_NAME
+        → (before next : Tree) (command : Command) (at : Located) (made : ℕ) → IsQuiet before command at
+        → NamesNoKind changed (main_file command at made) FILE_NAME
         → ((f : ℕ) → is_some (node_of before f) ≡ true → is_some (node_of next f) ≡ true → KeepsMarks old new f)
         → HasPoint new command (main_file command at made) → KeepsNodes old new before next command at made }
 {}

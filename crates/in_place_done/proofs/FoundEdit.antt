@@ -1,0 +1,93 @@
+-- A COMMAND THAT IS DONE IN PLACE, whose words led to a file that can be edited.
+use Rattle.std.proofs.Common.{◌≡◌, ◌&&◌, ◌||◌, not, ◌≤◌, ℕ, Bool, true, false, Some, Ok, length, refl, sym, ap, subst, ◌∙◌}
+use Rattle.std.proofs.lemmas.Bool.{or_parts}
+use Rattle.std.specs.List.{Contains}
+use Rattle.ntfs_def.specs.FileName.{FileName}
+use Rattle.volume_def.specs.FileNames.{names_of}
+use Rattle.volume_def.specs.Files.{records_of}
+use Rattle.volume_def.specs.Table.{cluster_bytes}
+use Rattle.volume_def.specs.View.{VolumeView}
+use Rattle.tree_model.specs.Cases.{packed}
+use Rattle.tree_model.specs.Refusals.{Facts, is_edit}
+use Rattle.tree_model.specs.Staging.{cannot_edit, goes_over_bytes}
+use Rattle.tree_model.specs.Subjects.{Located, Machine, locate, subject_of}
+use Rattle.tree_model.specs.declared.command.Command.{Command}
+use Rattle.tree_model.specs.declared.command.Command.TheVariants as c
+use Rattle.tree_model.specs.declared.tree.Node.{Node}
+use Rattle.session_def.specs.Nodes.{edits_stream}
+use Rattle.session_def.specs.State.{State}
+use Rattle.command_edits.specs.Allowed.{IsAllowed}
+use Rattle.command_edits.proofs.AllowedCommands.{allowed}
+use Rattle.attribute_edits.specs.Attributes.{CanSet}
+use Rattle.in_place_owed.specs.SetsInPlace.{edits_in_place}
+use Rattle.in_place_done.specs.Written.{FindsFile}
+use Rattle.in_place_done.proofs.FoundFile.{has-content, leads-there}
+use Rattle.in_place_done.proofs.HeldStream.{HoldsStream, stream-held}
+use Rattle.in_place_done.proofs.StagedVolume.{CanBeEdited}
+use Rattle.in_place_done.proofs.TreeBehind.{node-there}
+
+not-false : (b : Bool) → not b ≡ false → b ≡ true
+not-false true e = refl
+not-false false e = cc
+
+is-edit : (command : Command) → edits_in_place command ≡ true → is_edit command ≡ true
+is-edit (c.Setattr path flags) is = refl
+is-edit (c.Write path stream from bytes) is = refl
+is-edit (c.Hwrite handle from bytes) is = refl
+is-edit other is = cc
+
+-- the stream that a write names
+stream-of : (view : VolumeView) (m : Machine) (session : ℕ) (command : Command) (at : Located) (node : Node) → at.node ≡ Some node
+    → edits_in_place command ≡ true → edits_stream command ≡ true → locate m session (subject_of command) ≡ Ok at
+    → packed (subject_of command) at ≡ false → goes_over_bytes view m.tree command at ≡ true → HoldsStream m.tree at node
+stream-of view m session (c.Setattr path flags) at node there is edits found plain over = cc
+stream-of view m session (c.Write path stream from bytes) at node there is edits found plain over =
+    stream-held view m.tree at node (cluster_bytes view.layout) from (length bytes) there
+    (has-content m session (c.Write path stream from bytes) at refl refl found) plain over
+stream-of view m session (c.Hwrite handle from bytes) at node there is edits found plain over =
+    stream-held view m.tree at node (cluster_bytes view.layout) from (length bytes) there
+    (has-content m session (c.Hwrite handle from bytes) at refl refl found) plain over
+stream-of view m session other at node there is edits found plain over = cc
+
+module _ (facts : Facts) (before : State) (session : ℕ) (command : Command) (f : ℕ) (node : Node)
+    (finds : FindsFile facts before session command f node) where
+  abbrev at : Located
+  at = finds.at
+
+  allows : IsAllowed facts before.machine session command at
+  allows = allowed facts before.machine session command at finds.found
+
+  can : CanSet before.view at.file node
+  can = subst (λ g. CanSet before.view g node) (sym finds.file) finds.can
+
+  -- its bytes go over bytes
+  over : goes_over_bytes before.view before.machine.tree command at ≡ true
+  over =
+      let whole =
+      sym (ap (λ b. b && (cannot_edit facts.whole_table before.machine.tree at.file || not (facts.over before.machine command at)))
+      (is-edit command finds.edits)) ∙ allows.whole in
+      let test = or_parts (cannot_edit facts.whole_table before.machine.tree at.file) (not (facts.over before.machine command at)) whole in
+      sym (finds.told.over before.machine command at) ∙ not-false (facts.over before.machine command at) test.1
+
+  there : at.node ≡ Some node
+  there = (leads-there before.machine session command at finds.edits allows.located).node
+      ∙ node-there before finds.stands at.file node can.there
+
+  -- the stream of a write
+  stream : edits_stream command ≡ true → HoldsStream before.machine.tree at node
+  stream edits =
+      stream-of before.view before.machine session command at node there finds.edits edits allows.located allows.plain over
+
+  pub can-be-edited : CanBeEdited before command at node
+  can-be-edited = record {
+    stands = finds.stands;
+    edits = finds.edits;
+    none = (leads-there before.machine session command at finds.edits allows.located).new;
+    over = over;
+    can = can;
+    shown = finds.shown;
+    high =
+        subst (λ g. (name : FileName) → Contains (names_of (records_of before.view) g) name → 4 ≤ name.parent.number) (sym finds.file)
+        finds.high;
+    stream = stream;
+  }

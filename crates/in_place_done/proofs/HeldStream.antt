@@ -1,0 +1,67 @@
+-- THE STREAM that the words of a write lead to, where the bytes go over bytes: it is there, plain, and holds these bytes.
+use Rattle.std.proofs.Common.{◌≡◌, ℕ, true, false, List, [], Option, Some, None, refl, sym, ap, ◌∙◌}
+use Rattle.std.proofs.lemmas.Bool.{and_parts}
+use Rattle.std.specs.Option.{option_map_or}
+use Rattle.std.specs.Prelude.{is_some, option_and_then, option_map}
+use Rattle.volume_def.specs.Values.{first_part}
+use Rattle.volume_def.specs.View.{VolumeView}
+use Rattle.tree_model.specs.Answers.{bytes_at, bytes_of}
+use Rattle.tree_model.specs.Cases.{is_packed}
+use Rattle.tree_model.specs.StreamRoom.{goes_over, parts_named, stream_parts}
+use Rattle.tree_model.specs.Subjects.{Located}
+use Rattle.tree_model.specs.Tree.{Tree, sought_stream}
+use Rattle.tree_model.specs.declared.tree.Content.{Content}
+use Rattle.tree_model.specs.declared.tree.Content.TheVariants.{Packed, Plain}
+use Rattle.tree_model.specs.declared.tree.Node.{Node}
+use Rattle.tree_model.specs.declared.tree.Stream.{Stream}
+use Rattle.session_def.specs.Named.{spelt}
+use Rattle.in_place_done.proofs.FoundFile.{HasContent}
+
+pub record HoldsStream (tree : Tree) (at : Located) (node : Node) : Type 0 where
+  pub stream : Stream
+  pub sought : sought_stream tree.fold node.streams at.stream ≡ Some stream
+  pub held : List ℕ
+  pub content : stream.content ≡ Plain held
+  pub holds : bytes_at at ≡ held
+  pub spelt_is : spelt tree at ≡ stream.name
+
+-- what is sought in a node
+abbrev sought_in : Tree → Located → Option Node → Option Stream
+sought_in tree at n = option_and_then (λ (node : Node). sought_stream tree.fold node.streams at.stream) n
+
+module _ (view : VolumeView) (tree : Tree) (at : Located) (node : Node) (size from len : ℕ) (there : at.node ≡ Some node)
+    (has : HasContent tree at) (plain : option_map_or is_packed at.content false ≡ false)
+    (over : goes_over size (stream_parts view tree at) from len ≡ true) where
+  some : is_some (first_part (stream_parts view tree at)) ≡ true
+  some = (and_parts (is_some (first_part (stream_parts view tree at))) _ over).0
+
+  module _ (stream : Stream) (e : sought_stream tree.fold node.streams at.stream ≡ Some stream) where
+    found : sought_in tree at at.node ≡ Some stream
+    found = ap (sought_in tree at) there ∙ e
+
+    content : at.content ≡ Some stream.content
+    content = has ∙ ap (option_map (λ (s : Stream). s.content)) found
+
+    inner : (content_is : Content) → stream.content ≡ content_is → HoldsStream tree at node
+    inner (Packed size) is =
+        let never : true ≡ false = sym (ap (λ o. option_map_or is_packed o false) (content ∙ ap Some is)) ∙ plain in
+        cc
+    inner (Plain bytes) is = record {
+      stream = stream;
+      sought = e;
+      held = bytes;
+      content = is;
+      holds = ap (λ o. option_map_or bytes_of o []) (content ∙ ap Some is);
+      spelt_is = ap (λ (o : Option Stream). option_map_or (λ (stream : Stream). stream.name) o at.stream) found;
+    }
+
+  pub stream-held : HoldsStream tree at node
+  stream-held = by (sought_stream tree.fold node.streams at.stream) refl
+    where
+      by : (o : Option Stream) → sought_stream tree.fold node.streams at.stream ≡ o → HoldsStream tree at node
+      by None e =
+          let parts : stream_parts view tree at ≡ [] =
+          ap (λ o. option_map_or (λ (stream : Stream). parts_named view at.file stream.name) o []) (ap (sought_in tree at) there ∙ e) in
+          let never : false ≡ true = sym (ap (λ xs. is_some (first_part xs)) parts) ∙ some in
+          cc
+      by (Some stream) e = inner stream e stream.content refl

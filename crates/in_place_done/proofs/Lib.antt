@@ -1,0 +1,13 @@
+pub mod FirstRecords
+pub mod NameCount
+pub mod FoundFile
+pub mod HeldStream
+pub mod TreeBehind
+pub mod NamedKeys
+pub mod StagedVolume
+pub mod SetStaged
+pub mod WriteStaged
+pub mod CommandsStaged
+pub mod FoundEdit
+pub mod WrittenBytes
+pub mod Leaves

@@ -1,0 +1,17 @@
+pub mod MarksLaws
+pub mod TabledLaws
+pub mod InPlaceCommands
+pub mod EmptyBill
+pub mod SetKeys
+pub mod CallsOwed
+pub mod BothRewrites
+pub mod StandardOwed
+pub mod EntriesOwed
+pub mod NamedOwed
+pub mod RecordsOwed
+pub mod IndexesSet
+pub mod CostLaws
+pub mod ApartLaws
+pub mod EntryThere
+pub mod LaterLaws
+pub mod Owes
