@@ -4,5 +4,9 @@ pub mod StagedLaws
 pub mod ChainedLaws
 pub mod NamesLaws
 pub mod SetLaws
-mod SettableLaws
+pub mod SettableLaws
 mod FoundLaws
+mod StreamToWrite
+pub mod OverLaws
+mod FoundOver
+mod WriteOverLaws

@@ -154,7 +154,7 @@ lies-apart bytes view volume =
     (λ n. let l = length-sector_in bytes n in omega (arith, l)) sound)
 
 -- a file that is shown is not that of the volume's version
-not-system : (records : Records) (steps f : ℕ) → leads_to_system records steps f ≡ false → is_system f ≡ false
+pub not-system : (records : Records) (steps f : ℕ) → leads_to_system records steps f ≡ false → is_system f ≡ false
 not-system records zero f e = e
 not-system records (suc steps) f e = by (is_system f) refl e
   where

@@ -1,10 +1,13 @@
 -- WHERE SECTORS ARE STAGED when the attributes of a file are set.
-use Rattle.std.specs.Prelude.{◌⊎◌, ◌+◌, ◌*◌, ◌≤◌, ℕ, List, Contains, length}
+use Rattle.std.specs.Prelude.{◌⊎◌, ◌+◌, ◌*◌, ◌/◌, ◌≤◌, ℕ, List, Contains, length}
 use Rattle.vol_disk.specs.declared.Disk.{Ghosts}
 use Rattle.vol_stage.specs.Staged.{places}
 use Rattle.ntfs_def.specs.FileName.{FileName}
+use Rattle.ntfs_def.specs.declared.kinds.TheConstants.{DATA}
+use Rattle.volume_def.specs.Files.{parts_at}
 use Rattle.volume_def.specs.Values.{spot_at}
 use Rattle.volume_def.specs.View.{VolumeView}
+use Rattle.volume_edits.specs.Clusters.{stream_sectors}
 use Rattle.tree_model.specs.declared.tree.Link.{Link}
 use Rattle.mft_table.specs.declared.mft.Mft.{Mft}
 use Rattle.mft_table.specs.Mft.{stage_of, view}
@@ -45,3 +48,14 @@ StagesNames g names old new = StagesFew g (12 * length names) (IsOfNames (view g
 
 abbrev pub StagesAttributes : {D : Type 0} (g : Ghosts D) → ℕ → List FileName → Mft D g → Mft D g → Type 0
 StagesAttributes g f names old new = StagesFew g (4 + 12 * length names) (λ sector. IsOfFile (view g old) f sector ⊎ IsOfNames (view g old) names sector) old new
+
+-- BYTES OVER THOSE OF A STREAM, and the attributes of its file: a sector for each 512 bytes, and two, of the stream, too.
+abbrev pub IsOfStreams : VolumeView → ℕ → ℕ → Type 0
+IsOfStreams view f sector = (name : List ℕ) × (at : ℕ) × (len : ℕ)
+    × Contains (stream_sectors view.layout (spot_at (parts_at view f DATA name)) at len) sector
+
+abbrev pub IsOfEdit : VolumeView → ℕ → List FileName → ℕ → Type 0
+IsOfEdit view f names sector = IsOfStreams view f sector ⊎ (IsOfFile view f sector ⊎ IsOfNames view names sector)
+
+abbrev pub StagesWrite : {D : Type 0} (g : Ghosts D) → ℕ → List FileName → ℕ → Mft D g → Mft D g → Type 0
+StagesWrite g f names len old new = StagesFew g (6 + len / 512 + 12 * length names) (IsOfEdit (view g old) f names) old new

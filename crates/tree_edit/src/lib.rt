@@ -3,8 +3,12 @@
 
 mod attributes;
 mod duplicated;
+mod over;
 mod refresh;
 mod settable;
+mod writable;
 
 pub use attributes::set_attributes;
+pub use over::write_over;
 pub use settable::{Settable, find_settable};
+pub use writable::{Writable, find_writable, find_writable_through};

@@ -53,9 +53,9 @@ fn any_in_copied(links: &[Link]) -> bool
     false
 }
 
-// Whether a file can be edited: it is one of the table, of which each record was written whole or not at all, and no name of it
-// stands in a record that has a copy.
-fn can_edit(alloc: Global, mounted: &Mounted, file: &FileParts) -> Result<bool, AllocError>
+/// Whether a file can be edited: it is one of the table, of which each record was written whole or not at all, and no name of it
+/// stands in a record that has a copy.
+pub fn can_edit(alloc: Global, mounted: &Mounted, file: &FileParts) -> Result<bool, AllocError>
     ensures { IfOk result (λ can. can ≡ is_editable mounted.now file.now) }
 {
     if mounted.initialized % RECORD as u64 != 0 || file.number() >= mounted.records.count() {

@@ -61,15 +61,19 @@ const GUID: u64 = 16;
 // The bytes that a reparse point can have: 24 before its data, whose length has two bytes.
 const POINT: usize = 24 + 65_535;
 
-// Whether the name is that of the unnamed stream, and the file a directory.
-fn is_of_directory(held: &BaseFile, name: &Name) -> bool
+/// Whether the name is that of the unnamed stream, and the file a directory.
+pub fn is_of_directory(held: &BaseFile, name: &Name) -> bool
     ensures { result ≡ ((length name.now == 0) && (held.now.header.flags / 2 % 2 == 1)) }
 {
     name.as_slice().is_empty() && is_directory(held)
 }
 
-// The stream of a name, where its bytes are shown: of a file, or a named one of a directory.
-fn plain_content(
+/// The stream of a name that is not packed, whatever its file is.
+///
+/// # Errors
+///
+/// `NoStream`, `Packed` and `Memory`.
+pub fn plain_content(
     alloc: Global,
     held: &BaseFile,
     upcase: &UpCase,

@@ -1,0 +1,157 @@
+-- WHAT IS WANTED OF A WRITE, by what is found of the file that is held: the refusals in their order.
+use Rattle.std.proofs.Common.{◌≡◌, ◌⊎◌, ◌&&◌, ℕ, not, Bool, true, false, List, [], Option, Some, None, Result, Ok, Err}
+use Rattle.std.proofs.Common.{refl, sym, ap, inl, inr, ◌∙◌}
+use Rattle.std.specs.Prelude.{IsErrAnd, IsTrue, length, if◌then◌else◌, is_some, option_and_then}
+use Rattle.std.specs.Option.{option_map_or}
+use Rattle.vol_disk.specs.Contents.{WhereTold}
+use Rattle.vol_disk.specs.declared.Disk.{Ghosts}
+use Rattle.vol_stage.specs.Staged.{image}
+use Rattle.volume_def.specs.CaseClause.{volume_fold}
+use Rattle.volume_def.specs.Table.{cluster_bytes}
+use Rattle.volume_def.specs.Files.{Part}
+use Rattle.volume_def.specs.View.{VolumeView}
+use Rattle.mft_table.specs.declared.mft.Mft.{Mft}
+use Rattle.mft_table.specs.declared.mounted.Mounted.{Mounted}
+use Rattle.mft_table.specs.InUse.{IsInUse}
+use Rattle.mft_table.specs.Mft.{MftReads, mounted_of, stage_of, view}
+use Rattle.file_record.specs.declared.base.BaseFile.{BaseFile}
+use Rattle.sparse_io.specs.declared.find.FoundStream.{FoundStream}
+use Rattle.tree_model.specs.Cases.{is_wide}
+use Rattle.tree_model.specs.Facts.{IsVolumeOf, is_whole_table}
+use Rattle.tree_model.specs.Paths.{and_then}
+use Rattle.tree_model.specs.Reading.{node_by, read}
+use Rattle.tree_model.specs.Staging.{cannot_edit}
+use Rattle.tree_model.specs.StreamRoom.{goes_over, parts_named, stream_parts}
+use Rattle.tree_model.specs.Tree.{node_of, sought_stream}
+use Rattle.tree_model.specs.declared.opens.OpenEntry.{OpenEntry}
+use Rattle.tree_model.specs.declared.reply.No.{No}
+use Rattle.tree_model.specs.declared.reply.No.TheVariants as no
+use Rattle.tree_model.specs.declared.tree.Node.{Node}
+use Rattle.tree_model.specs.declared.tree.Stream.{Stream}
+use Rattle.tree_read.specs.Nodes.{IsNodeHeld, number_of, parts_in}
+use Rattle.tree_read.specs.Parts.{FindsPlain, content_here}
+use Rattle.file_record.proofs.ReadLaws.{view-kept}
+use Rattle.tree_edit.specs.Writable.{FindsToWrite, IsMountedAs, can_write_over, hwrite_in, hwrite_ranged, if_over}
+use Rattle.tree_edit.specs.Writable.{kept_from_writing, named_in, stream_to_write, write_in, write_ranged}
+use Rattle.tree_edit.proofs.StreamToWrite.{sought-none}
+
+module _ (view : VolumeView) (held : BaseFile) (n : IsNodeHeld view held) (name : List ℕ) (at len : ℕ) where
+  abbrev number : ℕ
+  number = number_of held
+
+  abbrev sought_to_write : Result (Option (List ℕ)) No
+  sought_to_write = stream_to_write (read view) name (node_of (read view) number)
+
+  -- THE STREAM is missing
+  none-there : sought_stream (volume_fold view) (node_by view n.base (parts_in held)).streams name ≡ None
+      → stream_parts view (read view) (named_in (read view) name number) ≡ []
+  unfolding read
+  none-there none =
+      ap (λ o. option_map_or (λ (stream : Stream). parts_named view number stream.name)
+      (option_and_then (λ (node : Node). sought_stream (volume_fold view) node.streams name) o) []) n.node
+      ∙ ap (λ o. option_map_or (λ (stream : Stream). parts_named view number stream.name) o []) none
+
+  over-missing : sought_to_write ≡ Ok None → can_write_over view name at len number ≡ false
+  unfolding node_by
+  over-missing e =
+      let cannot = cannot_edit (is_whole_table view) (read view) number in
+      ap (λ (ps : List Part). not cannot && goes_over (cluster_bytes view.layout) ps at len) (none-there (sought-none view held n name e))
+      ∙ never (not cannot)
+    where
+      never : (b : Bool) → (b && false) ≡ false
+      never true = refl
+      never false = refl
+
+  module _ (opens : List OpenEntry) where
+    abbrev wanted : Result ℕ No
+    wanted = write_in view opens name at len number
+
+    ranged : (bytes : Option (List ℕ)) → sought_to_write ≡ Ok bytes → wanted ≡ write_ranged view opens name at len number
+    ranged bytes e = ap (λ r. and_then r (λ (b : Option (List ℕ)). write_ranged view opens name at len number)) e
+
+    found-ok : (o : Option FoundStream) → FindsToWrite sought_to_write view held name (Ok o)
+        → (bytes : Option (List ℕ)) × (sought_to_write ≡ Ok bytes)
+    found-ok None e = (None, e)
+    found-ok (Some found) x = (Some x.0.bytes, x.1)
+
+    in-range : is_wide at len ≡ false
+        → write_ranged view opens name at len number ≡ option_map_or Err (kept_from_writing opens number) (if_over view name at len number)
+    in-range narrow =
+        ap (λ b. if b then Err no.TooBig else option_map_or Err (kept_from_writing opens number) (if_over view name at len number)) narrow
+
+    pub stream-refused : (refused : No) → FindsToWrite sought_to_write view held name (Err refused)
+        → (wanted ≡ Err refused) ⊎ (refused ≡ no.Memory)
+    stream-refused refused (inl e) =
+        inl (ap (λ r. and_then r (λ (b : Option (List ℕ)). write_ranged view opens name at len number)) e)
+    stream-refused refused (inr memory) = inr memory
+
+    pub range-refused : (o : Option FoundStream) → FindsToWrite sought_to_write view held name (Ok o) → is_wide at len ≡ true
+        → wanted ≡ Err no.TooBig
+    range-refused o x wide =
+        let f = found-ok o x in
+        ranged f.0 f.1
+        ∙ ap (λ b. if b then Err no.TooBig else option_map_or Err (kept_from_writing opens number) (if_over view name at len number)) wide
+
+    pub open-refused : (o : Option FoundStream) (refused : No) → FindsToWrite sought_to_write view held name (Ok o)
+        → is_wide at len ≡ false → kept_from_writing opens number ≡ Some refused → wanted ≡ Err refused
+    open-refused o refused x narrow kept =
+        let f = found-ok o x in
+        ranged f.0 f.1 ∙ in-range narrow ∙ ap (λ k. option_map_or Err k (if_over view name at len number)) kept
+
+    pub as-over : (o : Option FoundStream) → FindsToWrite sought_to_write view held name (Ok o) → is_wide at len ≡ false
+        → kept_from_writing opens number ≡ None → wanted ≡ if_over view name at len number
+    as-over o x narrow kept =
+        let f = found-ok o x in
+        ranged f.0 f.1 ∙ in-range narrow ∙ ap (λ k. option_map_or Err k (if_over view name at len number)) kept
+
+    pub missing-refused : FindsToWrite sought_to_write view held name (Ok None) → is_wide at len ≡ false
+        → kept_from_writing opens number ≡ None → wanted ≡ Err no.Unbuilt
+    missing-refused x narrow kept = as-over None x narrow kept ∙ ap (λ b. if b then Ok number else Err no.Unbuilt) (over-missing x)
+
+  -- .. and through an open
+  abbrev wanted_through : Result ℕ No
+  wanted_through = hwrite_in view name at len number
+
+  pub through-refused : (refused : No) → FindsPlain (content_here view held name) view held name (Err refused)
+      → (wanted_through ≡ Err refused) ⊎ (refused ≡ no.Memory)
+  through-refused refused (inl e) = inl (ap (λ r. and_then r (λ (b : List ℕ). hwrite_ranged view name at len number)) e)
+  through-refused refused (inr memory) = inr memory
+
+  pub through-range : (found : FoundStream) → FindsPlain (content_here view held name) view held name (Ok found) → is_wide at len ≡ true
+      → wanted_through ≡ Err no.TooBig
+  through-range found x wide =
+      ap (λ r. and_then r (λ (b : List ℕ). hwrite_ranged view name at len number)) x.1
+      ∙ ap (λ b. if b then Err no.TooBig else if_over view name at len number) wide
+
+  pub through-over : (found : FoundStream) → FindsPlain (content_here view held name) view held name (Ok found) → is_wide at len ≡ false
+      → wanted_through ≡ if_over view name at len number
+  through-over found x narrow =
+      ap (λ r. and_then r (λ (b : List ℕ). hwrite_ranged view name at len number)) x.1
+      ∙ ap (λ b. if b then Err no.TooBig else if_over view name at len number) narrow
+
+-- What `?` hands on.
+pub handed-on-no : {A : Type 0} (result : Result A No) (why : No) → IsErrAnd result (λ e. e ≡ why) → result ≡ Err why
+handed-on-no (Ok x) why is = absurd is
+handed-on-no (Err e) why is = ap Err is
+
+-- The volume as calls leave it that only read.
+module _ {D : Type 0} (g : Ghosts D) (old new : Mft D g) (volume : IsInUse g old) (mounted : Mounted) (mounts : mounted ≡ mounted_of g new)
+    (size : ℕ) (is : size ≡ cluster_bytes (view g new).layout) (reads : ℕ) (only : MftReads g old new reads) where
+  pub mounted-as : IsTrue (view g old).told → IsMountedAs (view g old) mounted size
+  mounted-as told =
+      let same : mounted ≡ mounted_of g old = mounts ∙ only.mounted in
+      record {
+        case = ap (λ (m : Mounted). m.upcase) same ∙ (volume told).stored.upcase_is;
+        whole = sym (ap (λ (m : Mounted). m.initialized) same);
+        count = sym (ap (λ (m : Mounted). length m.records) same);
+        size_is = is ∙ ap (λ (v : VolumeView). cluster_bytes v.layout) (view-kept g old new reads only);
+      }
+
+-- THE VOLUME'S IMAGE, where its contents are told
+pub image-of : {D : Type 0} (g : Ghosts D) (old : Mft D g) → WhereTold (image g (stage_of g old)) (λ bytes. IsVolumeOf bytes (view g old))
+    → IsTrue (view g old).told → (bytes : List ℕ) × IsVolumeOf bytes (view g old)
+image-of g old of_image told = by (image g (stage_of g old)) refl told
+  where
+    by : (o : Option (List ℕ)) → image g (stage_of g old) ≡ o → IsTrue (is_some o) → (bytes : List ℕ) × IsVolumeOf bytes (view g old)
+    by None e t = cc
+    by (Some bytes) e t = (bytes, of_image bytes e)
