@@ -1,5 +1,5 @@
 -- WHAT `sd` SAYS of an id, by what was read.
-use Rattle.std.proofs.Common.{◌≡◌, ℕ, List, Option, Some, None, Ok, Err, inl, inr, refl, ap}
+use Rattle.std.proofs.Common.{ℕ, List, Option, Some, None, Ok, Err, inl, inr, ap}
 use Rattle.volume_def.specs.View.{VolumeView}
 use Rattle.tree_model.specs.Facts.{TellsDescriptor}
 use Rattle.tree_model.specs.declared.reply.Answer.{Answer}

@@ -1,5 +1,5 @@
 -- What is no edit that is built is no edit that is done.
-use Rattle.std.proofs.Common.{◌≡◌, ◌≢◌, ◌&&◌, ℕ, Bool, true, false, List, not, Ok, Err, refl}
+use Rattle.std.proofs.Common.{◌≡◌, ◌≢◌, ◌&&◌, ℕ, Bool, true, false, List, Option, not, Ok, Err, refl}
 use Rattle.tree_model.specs.Refusals.{Facts, is_edit, outcome}
 use Rattle.session_def.specs.Session.{is_done_edit}
 use Rattle.tree_model.specs.Staging.{is_built}
@@ -45,37 +45,39 @@ neither false true reads edits = cc
 neither true true reads edits = cc
 neither edit false reads edits = refl
 
--- `setattr` is the only edit that is built
+-- no other edit is built
 pub other-edit : (command : Command) → ((path : List (List ℕ)) (flags : ℕ) → command ≢ c.Setattr path flags)
+    → ((path : List (List ℕ)) (stream : Option (List ℕ)) (at : ℕ) (bytes : List ℕ) → command ≢ c.Write path stream at bytes)
+    → ((handle at : ℕ) (bytes : List ℕ) → command ≢ c.Hwrite handle at bytes)
     → (is_edit command && is_built command) ≡ false
-other-edit (c.Ls path) apart = refl
-other-edit (c.Stat path) apart = refl
-other-edit (c.Links path) apart = refl
-other-edit (c.Cat path stream) apart = refl
-other-edit (c.Read path stream from len) apart = refl
-other-edit (c.Create path) apart = refl
-other-edit (c.Mkdir path) apart = refl
-other-edit (c.Rm path) apart = refl
-other-edit (c.Rmdir path) apart = refl
-other-edit (c.Ln path new) apart = refl
-other-edit (c.Mv path new) apart = refl
-other-edit (c.Write path stream from bytes) apart = refl
-other-edit (c.Truncate path stream from) apart = refl
-other-edit (c.Punch path stream from len) apart = refl
-other-edit (c.Streams path) apart = refl
-other-edit (c.Rmstream path from) apart = refl
-other-edit (c.Attr path) apart = refl
-other-edit (c.Sec path) apart = refl
-other-edit (c.Setsec path id) apart = refl
-other-edit (c.Sd id) apart = refl
-other-edit (c.Reparse path) apart = refl
-other-edit (c.Mkreparse path tag bytes) apart = refl
-other-edit (c.Rmreparse path) apart = refl
-other-edit (c.Objid path) apart = refl
-other-edit c.Df apart = refl
-other-edit (c.Open path stream access other) apart = refl
-other-edit (c.Hread other from len) apart = refl
-other-edit (c.Hwrite other from bytes) apart = refl
-other-edit (c.Close other) apart = refl
-other-edit (c.Time from) apart = refl
-other-edit (c.Setattr path flags) apart = absurd (apart path flags refl)
+other-edit (c.Ls path) apart write hwrite = refl
+other-edit (c.Stat path) apart write hwrite = refl
+other-edit (c.Links path) apart write hwrite = refl
+other-edit (c.Cat path stream) apart write hwrite = refl
+other-edit (c.Read path stream from len) apart write hwrite = refl
+other-edit (c.Create path) apart write hwrite = refl
+other-edit (c.Mkdir path) apart write hwrite = refl
+other-edit (c.Rm path) apart write hwrite = refl
+other-edit (c.Rmdir path) apart write hwrite = refl
+other-edit (c.Ln path new) apart write hwrite = refl
+other-edit (c.Mv path new) apart write hwrite = refl
+other-edit (c.Truncate path stream from) apart write hwrite = refl
+other-edit (c.Punch path stream from len) apart write hwrite = refl
+other-edit (c.Streams path) apart write hwrite = refl
+other-edit (c.Rmstream path from) apart write hwrite = refl
+other-edit (c.Attr path) apart write hwrite = refl
+other-edit (c.Sec path) apart write hwrite = refl
+other-edit (c.Setsec path id) apart write hwrite = refl
+other-edit (c.Sd id) apart write hwrite = refl
+other-edit (c.Reparse path) apart write hwrite = refl
+other-edit (c.Mkreparse path tag bytes) apart write hwrite = refl
+other-edit (c.Rmreparse path) apart write hwrite = refl
+other-edit (c.Objid path) apart write hwrite = refl
+other-edit c.Df apart write hwrite = refl
+other-edit (c.Open path stream access other) apart write hwrite = refl
+other-edit (c.Hread other from len) apart write hwrite = refl
+other-edit (c.Close other) apart write hwrite = refl
+other-edit (c.Time from) apart write hwrite = refl
+other-edit (c.Setattr path flags) apart write hwrite = absurd (apart path flags refl)
+other-edit (c.Write path stream from bytes) apart write hwrite = absurd (write path stream from bytes refl)
+other-edit (c.Hwrite handle from bytes) apart write hwrite = absurd (hwrite handle from bytes refl)

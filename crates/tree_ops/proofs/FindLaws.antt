@@ -27,7 +27,7 @@ use Rattle.file_record.proofs.ReadLaws.{view-kept}
 use Rattle.mark_place.specs.LogSpans.{AreLogSpans, log_sectors}
 use Rattle.volume_mark.specs.Mark.{IsFlagOf}
 use Rattle.volume_mark.proofs.OutsideLaws as outside
-use Rattle.setattr_owed.proofs.CallsOwed.{apart-of}
+use Rattle.in_place_owed.proofs.CallsOwed.{apart-of}
 use Rattle.tree_model.specs.Facts.{IsVolumeOf}
 use Rattle.tree_read.proofs.NodeLaws.{sound-readable}
 use Rattle.tree_ops.specs.Edits.{CanEdit, IsPlaced}

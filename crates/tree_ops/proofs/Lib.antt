@@ -8,10 +8,14 @@ pub mod EditedVolume
 pub mod StillLaws
 pub mod ImageLaws
 pub mod PlaceLaws
-pub mod SetattrDue
-pub mod SetVolume
-pub mod SetServes
+pub mod EditBy
+pub mod SetattrBy
+pub mod WriteBy
+pub mod HwriteBy
+pub mod EditVolume
+pub mod EditServes
 pub mod ReplyLaws
 pub mod DescriptorLaws
 pub mod FindLaws
 pub mod EndLaws
+pub mod StagedEdits

@@ -1,7 +1,7 @@
 -- WHERE THE MARK AND THE LOG LIE of a volume that can be edited, and what is staged apart from them.
-use Rattle.std.proofs.Common.{◌≡◌, ◌≢◌, ◌⊎◌, ◌≤◌, ◌+◌, ℕ, true, List, [], Option, Some, None, refl, sym, ap}
+use Rattle.std.proofs.Common.{◌≡◌, ◌≢◌, ◌⊎◌, ◌≤◌, ◌+◌, ◌*◌, ℕ, true, length, List, [], Option, Some, None, refl, sym, ap}
 use Rattle.std.proofs.Common.{subst, ◌∙◌, inl, inr, arith}
-use Rattle.std.specs.Prelude.{◌*◌, All, Contains, IsTrue, codes, is_some}
+use Rattle.std.specs.Prelude.{All, Contains, IsTrue, codes, is_some}
 use Rattle.vol_disk.specs.Contents.{IsTold, sector_in}
 use Rattle.vol_disk.specs.declared.Disk.{Ghosts}
 use Rattle.vol_stage.specs.Staged.{disk_of, image, places}
@@ -9,7 +9,7 @@ use Rattle.ntfs_def.specs.FileName.{FileName}
 use Rattle.ntfs_def.specs.Units.{wide}
 use Rattle.ntfs_def.specs.declared.kinds.TheConstants.{DATA, INDEX_ALLOCATION}
 use Rattle.ntfs_def.specs.declared.lengths.TheConstants.{INDEX_RECORD}
-use Rattle.ntfs_def.specs.declared.records.TheConstants.{VOLUME}
+use Rattle.ntfs_def.specs.declared.records.TheConstants.{LOG_FILE, MFT, MFT_MIRROR, VOLUME}
 use Rattle.volume_def.specs.FileNames.{names_of}
 use Rattle.volume_def.specs.Files.{records_of}
 use Rattle.volume_def.specs.Sound.{IsSound}
@@ -31,9 +31,13 @@ use Rattle.volume_mark.specs.Mark.{IsFlagOf}
 use Rattle.in_place.specs.Unnamed.{LiesApart}
 use Rattle.edit_written.specs.Finished.{IsPlaceOf}
 use Rattle.edit_written.proofs.AgreesLaws.{none-within}
-use Rattle.tree_edit.specs.Settable.{IsSettable}
-use Rattle.tree_edit.specs.Staged.{IsOfDirectory, IsOfFile, IsOfNames, StagesAttributes}
-use Rattle.tree_edit.specs.declared.settable.Settable.{Settable}
+use Rattle.tree_model.proofs.NamesLaws.{is_shown}
+use Rattle.tree_model.specs.Hidden.{is_hidden, is_system}
+use Rattle.tree_model.specs.Reading.{node_at}
+use Rattle.tree_model.specs.declared.tree.Node.{Node}
+use Rattle.attribute_edits.specs.Attributes.{CanSet}
+use Rattle.tree_edit.specs.Staged.{IsOfDirectory, IsOfEdit, IsOfFile, IsOfNames, IsOfStreams, StagesFew}
+use Rattle.tree_edit.proofs.SettableLaws.{not-system}
 use Rattle.tree_ops.specs.Edits.{CanEdit, HasMark, IsPlaceBy, IsPlaced}
 use Rattle.tree_ops.specs.declared.place.MarkPlace.{MarkPlace}
 
@@ -111,8 +115,8 @@ module _ (view : VolumeView) (sound : IsSound view) (lies : LiesApart view) (fla
     directory-apart dir sector other (inl record_) = file-apart dir sector other record_
     directory-apart dir sector other (inr index) = record {
       beside = apart.stream-beside view lies.owners lies.some sound flag there dir INDEX_ALLOCATION (wide (codes "$I30"))
-          no-data (index.0 * cluster_bytes view.layout) INDEX_RECORD sector index.1;
-      outside = out sector (λ log. apart.stream-log view lies.owners lies.some dir INDEX_ALLOCATION (wide (codes "$I30")) no-data
+          (inl no-data) (index.0 * cluster_bytes view.layout) INDEX_RECORD sector index.1;
+      outside = out sector (λ log. apart.stream-log view lies.owners lies.some dir INDEX_ALLOCATION (wide (codes "$I30")) (inl no-data)
           (index.0 * cluster_bytes view.layout) INDEX_RECORD sector index.1 spans log);
     }
 
@@ -121,11 +125,28 @@ module _ (view : VolumeView) (sound : IsSound view) (lies : LiesApart view) (fla
         → IsApartFrom spans sector
     names-apart names sector other is = directory-apart is.0.parent.number sector (other is.0 is.1) is.2
 
+    stream-apart : (f sector : ℕ) → f ≢ MFT → f ≢ MFT_MIRROR → f ≢ LOG_FILE → IsOfStreams view f sector → IsApartFrom spans sector
+    stream-apart f sector table mirror log_file is = record {
+      beside = apart.stream-beside view lies.owners lies.some sound flag there f DATA is.0 (inr (table, (mirror, log_file))) is.1 is.2 sector
+          is.3;
+      outside = out sector (λ log. apart.stream-log view lies.owners lies.some f DATA is.0 (inr (table, (mirror, log_file))) is.1 is.2 sector
+          is.3 spans log);
+    }
+
+-- a file that is shown is the root or an ordinary one
+shown-other : (v : VolumeView) (f n : ℕ) (node : Node) → node_at v f ≡ Some node → is_system n ≡ true → f ≢ n
+unfolding is_hidden
+shown-other v f n node at system same =
+    let not_so = not-system (records_of v) (records_of v).count f (is_shown v f node at).shown in
+    let is = subst (λ k. is_system k ≡ true) (sym same) system in
+    cc
+
 -- THE EDIT CAN BE WRITTEN.
-module _ {D : Type 0} (g : Ghosts D) (old staged : Mft D g) (mark : Option Flag) (can : CanEdit g old mark) (found : Settable)
-    (settable : IsTrue (view g old).told → IsSettable (view g old) found) (place : MarkPlace) (placed : IsPlaced g old mark place)
+module _ {D : Type 0} (g : Ghosts D) (old staged : Mft D g) (mark : Option Flag) (can : CanEdit g old mark) (most file : ℕ)
+    (settable : IsTrue (view g old).told → (node : Node) × CanSet (view g old) file node) (place : MarkPlace) (placed : IsPlaced g old mark place)
     (keeps : KeepsDisk g old staged) (stages : IsTrue (view g old).told
-    → StagesAttributes g found.number (names_of (records_of (view g old)) found.number) old staged) where
+    → StagesFew g (most + 12 * length (names_of (records_of (view g old)) file))
+    (IsOfEdit (view g old) file (names_of (records_of (view g old)) file)) old staged) where
   abbrev v : VolumeView
   v = view g old
 
@@ -136,14 +157,14 @@ module _ {D : Type 0} (g : Ghosts D) (old staged : Mft D g) (mark : Option Flag)
   was-told t = sym keeps.goes_on.told_image ∙ t
 
   module _ (told : IsTrue v.told) where
-    abbrev set : IsSettable v found
-    set = settable told
+    abbrev set : CanSet v file (settable told).0
+    set = (settable told).1
 
     sound : IsSound v
-    sound = set.can.can.sound
+    sound = set.sound
 
     lies : LiesApart v
-    lies = set.can.can.apart
+    lies = set.apart
 
     there : IsFlagOf v place.flag
     there = place-flag g old place told mark can placed.by_mark
@@ -155,9 +176,12 @@ module _ {D : Type 0} (g : Ghosts D) (old staged : Mft D g) (mark : Option Flag)
         → IsApartFrom v sound lies place.flag there spans sector
     staged-apart sector has = elim ((stages told).only sector has) [
       | inl before ↦ absurd (Contains-nil sector (subst (λ xs. Contains xs sector) can.clear.plain before))
-      | inr (inl file) ↦ file-apart v sound lies place.flag there spans are found.number sector set.can.can.other file
-      | inr (inr names) ↦
-          names-apart v sound lies place.flag there spans are (names_of (records_of v) found.number) sector set.can.can.elsewhere names
+      | inr (inl stream) ↦ stream-apart v sound lies place.flag there spans are file sector
+          (shown-other v file MFT (settable told).0 set.there refl) (shown-other v file MFT_MIRROR (settable told).0 set.there refl)
+          (shown-other v file LOG_FILE (settable told).0 set.there refl) stream
+      | inr (inr (inl of_file)) ↦ file-apart v sound lies place.flag there spans are file sector set.other of_file
+      | inr (inr (inr names)) ↦
+          names-apart v sound lies place.flag there spans are (names_of (records_of v) file) sector set.elsewhere names
     ]
 
   pub can-finish : CanFinish g place.flag place.marked spans (stage_of g staged)

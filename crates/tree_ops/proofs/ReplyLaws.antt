@@ -1,7 +1,7 @@
--- WHAT A COMMAND LEAVES, by what its calls give: where nothing was written, where `setattr` was done, and where the disk failed.
-use Rattle.std.proofs.Common.{◌≡◌, ◌≢◌, ◌⊎◌, ◌||◌, ◌*◌, ℕ, Bool, true, false, List, length, Option, Some, None, Ok, inl, inr, refl}
+-- WHAT A COMMAND LEAVES, by what its calls give: where nothing was written, where an edit was done, and where the disk failed.
+use Rattle.std.proofs.Common.{◌≡◌, ◌≢◌, ◌⊎◌, ◌||◌, ◌*◌, ℕ, Bool, true, false, List, length, Option, Some, None, Result, Ok, Err, inl, inr, refl}
 use Rattle.std.proofs.Common.{sym, ap, subst, ◌∙◌}
-use Rattle.std.specs.Prelude.{IfSome, IsTrue, bit_and, is_some}
+use Rattle.std.specs.Prelude.{IfSome, IsTrue, OnErr, OnOk, is_some}
 use Rattle.vol_disk.specs.Contents.{sector_in}
 use Rattle.vol_disk.specs.Count.{Rose}
 use Rattle.vol_disk.specs.declared.Disk.{Ghosts}
@@ -9,18 +9,16 @@ use Rattle.vol_stage.specs.Staged.{GoesOn}
 use Rattle.volume_def.specs.View.{VolumeView}
 use Rattle.mft_table.specs.Mft.{stage_of}
 use Rattle.tree_model.specs.Facts.{TellsFacts}
-use Rattle.tree_model.specs.Refusals.{Facts}
+use Rattle.tree_model.specs.Refusals.{Facts, is_edit}
 use Rattle.tree_model.specs.Step.{Step}
 use Rattle.tree_model.specs.Subjects.{Machine}
 use Rattle.tree_model.specs.Tree.{Tree}
 use Rattle.tree_model.specs.declared.command.Command.{Command}
-use Rattle.tree_model.specs.declared.command.Command.TheVariants as c
 use Rattle.tree_model.specs.declared.opens.OpenEntry.{OpenEntry}
 use Rattle.tree_model.specs.declared.reply.Answer.TheVariants as a
 use Rattle.tree_model.specs.declared.reply.No.{No}
 use Rattle.tree_model.specs.declared.reply.Reply.{Reply}
 use Rattle.tree_model.specs.declared.reply.Reply.TheVariants as reply
-use Rattle.tree_model.specs.declared.tree.TheConstants.{SHOWN_FLAGS}
 use Rattle.tree_model.specs.Reading.{read}
 use Rattle.tree_model.proofs.HasFacts.{has_facts}
 use Rattle.session_def.specs.Session.{is_done_edit, is_due_edit}
@@ -31,8 +29,12 @@ use Rattle.share_table.specs.Held.{HoldsOpens}
 use Rattle.volume_mark.specs.Closing.{MarkStands}
 use Rattle.volume_mark.specs.Mark.{IsFlagOf}
 use Rattle.tree_read.specs.Standings.{IsStanding}
-use Rattle.tree_ops.specs.Edits.{FailsWriting, IsPlaceBy, IsRefusedAs, MftStill, SetsFlags}
-use Rattle.tree_ops.specs.Replies.{Replies}
+use Rattle.tree_read.specs.Answered.{Counts}
+use Rattle.tree_read.specs.declared.stop.Stop.{Stop}
+use Rattle.tree_read.specs.declared.stop.Stop.TheVariants as stop
+use Rattle.in_place_done.specs.Written.{SetsShown}
+use Rattle.tree_ops.specs.Edits.{EditOf, EditsFile, EndsAs, FailsWriting, IsPlaceBy, IsRefusedAs, MftStill}
+use Rattle.tree_ops.specs.Replies.{Replies, edit_reply}
 use Rattle.tree_ops.specs.declared.place.MarkPlace.{MarkPlace}
 use Rattle.tree_ops.specs.Runs.{Applied, Failed, Ready, machine_under}
 use Rattle.tree_ops.specs.Serves.{Serves}
@@ -43,9 +45,9 @@ use Rattle.tree_ops.proofs.EditedVolume.{harmed-edit}
 use Rattle.tree_ops.proofs.ImageLaws.{some-bytes}
 use Rattle.tree_ops.proofs.PlaceLaws.{place-flag}
 use Rattle.tree_ops.proofs.SessionLaws.{refused-step}
-use Rattle.tree_ops.proofs.SetServes.{serves-set}
-use Rattle.tree_ops.proofs.SetVolume.{applied-set, state_on}
-use Rattle.tree_ops.proofs.SetattrDue.{setattr-due-edit, setattr-found, setattr-refused}
+use Rattle.tree_ops.proofs.EditBy.{IsEditBy, found-due-edit}
+use Rattle.tree_ops.proofs.EditServes.{serves-done}
+use Rattle.tree_ops.proofs.EditVolume.{applied-done, state_on}
 use Rattle.tree_ops.proofs.StillLaws.{still-view}
 use Rattle.tree_ops.proofs.VolumeLaws.{applied-still, failed-still, marks-same, serves-behind, volume-goes, volume-still}
 
@@ -118,13 +120,13 @@ state-is g first old before r =
     ∙ ap (λ m. state_by before.image (view_under g old) m before.written) r.machine
     ∙ ap (λ n. state_by before.image (view_under g old) (machine_under g old) n) (sym r.written)
 
--- `setattr`
+-- AN EDIT
 module _ {D : Type 0} (g : Ghosts D) (sized : (disk : D) → IfSome (g.now disk) (λ all. length all ≡ 512 * g.size disk))
-    (old new : Volume D g)
-    (session : ℕ) (path : List (List ℕ)) (flags : ℕ) (shown : bit_and flags SHOWN_FLAGS ≡ flags) (serves : Serves g old)
+    (old new : Volume D g) (session : ℕ) (command : Command) (edit : EditOf) (shown : SetsShown command)
+    (is_by : (v : VolumeView) → IsEditBy v (opens_of g old) (moment_of g old) session command edit) (serves : Serves g old)
     (opens : opens_of g new ≡ opens_of g old) (moment : moment_of g new ≡ moment_of g old) where
-  abbrev command : Command
-  command = c.Setattr path flags
+  abbrev by : IsEditBy (view_under g old) (opens_of g old) (moment_of g old) session command edit
+  by = is_by (view_under g old)
 
   facts-told : (first : VolumeView) (before : State) → Ready g first old before → (facts : Facts) × TellsFacts (view_under g old) facts
   facts-told first before r =
@@ -132,33 +134,32 @@ module _ {D : Type 0} (g : Ghosts D) (sized : (disk : D) → IfSome (g.now disk)
       (f.0, subst (λ v. TellsFacts v f.0) (sym r.view) f.1)
 
   -- was done
-  pub replies-done : (s : SetsFlags g old.mft new.mft (mark_of g old) path flags (moment_of g old)) → mark_of g new ≡ Some s.place.flag
+  replies-done : (s : EditsFile g old.mft new.mft (mark_of g old) edit) → mark_of g new ≡ Some s.place.flag
       → new.last ≡ None → GoesOn g (stage_of g old.mft) (stage_of g new.mft) → g.settled (disk_under g new) ≡ g.settled (disk_under g old)
       → g.faults (disk_under g new) ≡ g.faults (disk_under g old) → Replies g old new session command (reply.Ok a.Done)
   replies-done s mark last goes settled quiet = record {
-    serves = λ answered. serves-set g sized old new session path flags shown serves.can s serves opens moment mark last;
+    serves = λ answered. serves-done g sized old new session command edit shown is_by serves.can s serves opens moment mark last;
     goes_on = volume-goes g old new goes;
     settled = settled;
-    still = λ answered e. cc;
-    marks = λ answered. ap (λ (o : Option Flag). is_some o) mark ∙ marked (is_some (mark_of g old));
+    still = λ answered e. let t = by.is in cc;
+    marks = λ answered. ap (λ (o : Option Flag). is_some o) mark ∙ marked (is_some (mark_of g old)) (is_edit command) by.is;
     applied = λ answered first before r.
         let f = facts-told first before r in
         let same = state-is g first old before r in
         subst (λ b. Applied g first b session command (reply.Ok a.Done) new) (sym same)
-        (applied-set g sized old new session path flags shown serves.can s f.0 before.image r.now f.1 opens moment mark first
+        (applied-done g sized old new session command edit shown is_by serves.can s f.0 before.image r.now f.1 opens moment mark first
         (subst (λ b. Ready g first old b) same r));
     failed = λ e. cc;
     quiet = λ answered. quiet;
     device = λ e. cc;
   }
     where
-      marked : (b : Bool) → true ≡ (b || true)
-      marked true = refl
-      marked false = refl
+      marked : (b is : Bool) → is ≡ true → true ≡ (b || is)
+      marked true is e = refl
+      marked false is e = sym e
 
   -- was refused
-  pub replies-refused : (refused : No) → MftStill g old.mft new.mft → new.mark ≡ old.mark
-      → IsRefusedAs g old.mft path refused
+  replies-refused : (refused : No) → MftStill g old.mft new.mft → new.mark ≡ old.mark → IsRefusedAs g old.mft edit refused
       → (IsTrue (view_under g old).told → IfSome new.last (IsStanding (view_under g old)))
       → g.faults (disk_under g new) ≡ g.faults (disk_under g old) → Replies g old new session command (reply.No refused)
   replies-refused refused still mark why last quiet =
@@ -171,8 +172,7 @@ module _ {D : Type 0} (g : Ghosts D) (sized : (disk : D) → IfSome (g.now disk)
       (subst (λ n. Step facts (machine_under g old) session command (reply.No refused)
       (machine_on (view_under g old) (opens_of g old) n)) (sym moment)
       (refused-step facts (machine_under g old) session command refused (elim (why t) [
-        | inl leads ↦ inl (setattr-refused facts (view_under g old) (opens_of g old) (moment_of g old) session path flags tells refused
-            leads)
+        | inl due_so ↦ inl (by.refused facts tells refused due_so)
         | inr memory ↦ inr memory
       ]))))
       quiet
@@ -184,7 +184,7 @@ module _ {D : Type 0} (g : Ghosts D) (sized : (disk : D) → IfSome (g.now disk)
   flag-first place None first before t view m by = subst (λ w. IsFlagOf w place.flag) (view ∙ m.0) (by.flag t)
   flag-first place (Some f) first before t view m by = subst (IsFlagOf first) (sym by.same) m.of_first
 
-  fails-writing : FailsWriting g old.mft new.mft (mark_of g old) path → GoesOn g (stage_of g old.mft) (stage_of g new.mft)
+  fails-writing : FailsWriting g old.mft new.mft (mark_of g old) edit → GoesOn g (stage_of g old.mft) (stage_of g new.mft)
       → (first : VolumeView) (before : State) → Ready g first old before → Failed g first before session command new
   fails-writing fails goes first before r =
       let told : IsTrue (view_under g old).told = ap (λ (o : Option (List ℕ)). is_some o) (serves.can.clear.tells ∙ r.now) in
@@ -205,15 +205,14 @@ module _ {D : Type 0} (g : Ghosts D) (sized : (disk : D) → IfSome (g.now disk)
         same = λ facts tells none.
             let here : TellsFacts (view_under g old) facts = subst (λ v. TellsFacts v facts) (sym r.view) tells in
             let due : is_due_edit facts (machine_under g old) (Ok (session, command)) ≡ true =
-            setattr-due-edit facts (view_under g old) (opens_of g old) (moment_of g old) session path flags here fails.file
-            (setattr-found facts (view_under g old) (opens_of g old) (moment_of g old) session path flags here fails.file
-            (fails.leads told)) in
+            found-due-edit (view_under g old) (opens_of g old) (moment_of g old) session command edit by facts here fails.file
+            (by.found facts here fails.file (fails.leads told)) in
             let wrong : is_due_edit facts (machine_under g old) (Ok (session, command)) ≡ false =
             subst (λ m. is_due_edit facts m (Ok (session, command)) ≡ false) r.machine none in
             cc;
       }
 
-  pub replies-device : (g.now (disk_under g new) ≡ g.now (disk_under g old)) ⊎ FailsWriting g old.mft new.mft (mark_of g old) path
+  replies-device : (g.now (disk_under g new) ≡ g.now (disk_under g old)) ⊎ FailsWriting g old.mft new.mft (mark_of g old) edit
       → GoesOn g (stage_of g old.mft) (stage_of g new.mft) → g.settled (disk_under g new) ≡ g.settled (disk_under g old)
       → Rose (g.faults (disk_under g old)) (g.faults (disk_under g new)) → Replies g old new session command reply.Device
   replies-device how goes settled rose =
@@ -221,3 +220,14 @@ module _ {D : Type 0} (g : Ghosts D) (sized : (disk : D) → IfSome (g.now disk)
         | inl same ↦ failed-still g first old new before session command same r
         | inr fails ↦ fails-writing fails goes first before r
       ])
+
+  -- HOWEVER IT ENDED
+  pub replies-edit : {A : Type 0} (result : Result A Stop) → EndsAs g old.mft new.mft (mark_of g old) (mark_of g new) edit result
+      → OnErr result (IsTrue (view_under g old).told → IfSome new.last (IsStanding (view_under g old))) → OnOk result (new.last ≡ None)
+      → GoesOn g (stage_of g old.mft) (stage_of g new.mft) → g.settled (disk_under g new) ≡ g.settled (disk_under g old)
+      → Counts result (g.faults (disk_under g old)) (g.faults (disk_under g new))
+      → Replies g old new session command (edit_reply result)
+  replies-edit (Ok done) ends last forgets goes settled counts = replies-done ends.0 ends.1 forgets goes settled counts
+  replies-edit (Err (stop.No refused)) ends last forgets goes settled counts =
+      replies-refused refused ends.0 ends.1 ends.2 last counts
+  replies-edit (Err stop.Device) ends last forgets goes settled counts = replies-device ends goes settled counts

@@ -1,7 +1,7 @@
 -- WHICH EDITS ARE BUILT, when one can be done on a volume, and what it leaves of the table of records and of its disk.
-use Rattle.std.specs.Prelude.{◌≡◌, ◌⊎◌, ◌+◌, ◌*◌, ◌≤◌, ℕ, true, false, All, IfSome, IsTrue, List, [], Option, None, Some, Result}
+use Rattle.std.specs.Prelude.{◌≡◌, ◌⊎◌, ◌+◌, ◌*◌, ◌/◌, ◌≤◌, ◌&&◌, ℕ, true, false, find, All, IfSome, IsTrue, List, [], Option, None, Some, Result}
 use Rattle.std.specs.Prelude.{Ok, Err}
-use Rattle.std.specs.Prelude.{bit_and, length, slice_set}
+use Rattle.std.specs.Prelude.{length, slice_set}
 use Rattle.vol_disk.specs.Contents.{IsTold, WhereTold, sector_in}
 use Rattle.vol_disk.specs.declared.Disk.{Ghosts}
 use Rattle.vol_stage.specs.Staged.{GoesOn, disk_of, image, places}
@@ -19,19 +19,24 @@ use Rattle.mft_table.specs.Mft.{committed_of, is_mft_broken, mounted_of, stage_o
 use Rattle.index_store.specs.IndexBlocksMut.{KeepsDisk}
 use Rattle.mark_place.specs.LogSpans.{AreLogSpans, log_sectors}
 use Rattle.tree_model.specs.Facts.{IsVolumeOf, is_whole_table}
+use Rattle.tree_model.specs.Opens.{contains, is_handle, to_write}
 use Rattle.tree_model.specs.Reading.{read}
 use Rattle.tree_model.specs.declared.command.Command.{Command}
 use Rattle.tree_model.specs.declared.command.Command.TheVariants as c
+use Rattle.tree_model.specs.declared.opens.OpenEntry.{OpenEntry}
 use Rattle.tree_model.specs.declared.reply.No.{No}
 use Rattle.tree_model.specs.declared.reply.No.TheVariants as no
-use Rattle.tree_model.specs.declared.tree.TheConstants.{SHOWN_FLAGS}
 use Rattle.session_def.specs.Done.{HasEmptyLog}
 use Rattle.volume_mark.specs.Mark.{IsFlagOf}
 use Rattle.attribute_edits.specs.Attributes.{SetsAttributes}
+use Rattle.stream_overwrites.specs.Overwritten.{WritesOver}
 use Rattle.tree_read.specs.declared.stop.Stop.{Stop}
 use Rattle.tree_read.specs.declared.stop.Stop.TheVariants as stop
 use Rattle.tree_edit.specs.Settable.{IsSettable, settable}
+use Rattle.tree_edit.specs.Writable.{IsWritable, hwrite_wanted, write_wanted}
 use Rattle.tree_edit.specs.declared.settable.Settable.{Settable}
+use Rattle.tree_edit.specs.declared.writable.Writable.{Writable}
+use Rattle.tree_read.specs.Nodes.{number_of}
 use Rattle.tree_ops.specs.declared.edit.Edit.{Edit}
 use Rattle.tree_ops.specs.declared.edit.Edit.TheVariants as e
 use Rattle.tree_ops.specs.declared.place.MarkPlace.{MarkPlace}
@@ -39,11 +44,8 @@ use Rattle.tree_ops.specs.declared.place.MarkPlace.{MarkPlace}
 -- the command that is done so
 abbrev pub command_of : Edit → Command
 command_of (e.Setattr path flags) = c.Setattr path.now flags
-
--- A command sets no flags but those that are shown: of others no line says one.
-abbrev pub SetsShown : Command → Type 0
-SetsShown (c.Setattr path flags) = bit_and flags SHOWN_FLAGS ≡ flags
-SetsShown other = Unit {0}
+command_of (e.Write path stream at bytes) = c.Write path.now stream.now at bytes.now
+command_of (e.Hwrite handle at bytes) = c.Hwrite handle at bytes.now
 
 -- THE MARK stands in two sectors of a disk of this size, which holds these bytes, and is set in both.
 pub record HasMark (size : ℕ) (now : Option (List ℕ)) (flag : Flag) : Type 0 where
@@ -102,28 +104,83 @@ pub record MftStill {D : Type 0} (g : Ghosts D) (old new : Mft D g) : Type 0 whe
   pub image : image g (stage_of g new) ≡ image g (stage_of g old)
   pub places : places g (stage_of g new) ≡ places g (stage_of g old)
 
--- the file that can be edited, as the path leads to it
-abbrev pub LeadsTo : {D : Type 0} (g : Ghosts D) → Mft D g → List (List ℕ) → Result ℕ No → Type 0
-LeadsTo g mft path result = IsTrue (view g mft).told → settable (is_whole_table (view g mft)) (read (view g mft)) path ≡ result
+-- WHAT IS STAGED WAS WRITTEN behind the mark, and the tables are as of then.
+pub record IsWritten {D : Type 0} (g : Ghosts D) (place : MarkPlace) (old new : Mft D g) : Type 0 where
+  pub finishes : Finishes g place.flag place.marked place.spans.items (stage_of g old) (stage_of g new)
+  pub committed : committed_of g new ≡ mounted_of g old
+
+-- WHAT AN EDIT IS of a volume: the number of the file that it finds, or the refusal; what it does to that file; and how many sectors it
+-- stages at most, beside twelve for each name of the file.
+pub record EditOf : Type 1 where
+  pub wanted : VolumeView → Result ℕ No
+  pub Does : VolumeView → VolumeView → ℕ → Type 0
+  pub most : ℕ
+
+-- `setattr`: the flags of the file were set, and the moment as the time at which its record was changed
+pub record SetsFound (old new : VolumeView) (file flags moment : ℕ) : Type 0 where
+  pub found : Settable
+  pub file_is : found.number ≡ file
+  pub can : IsSettable old found
+  pub sets : SetsAttributes old new file (slice_set found.times 2 moment) flags
+
+abbrev pub setattr_edit : List (List ℕ) → ℕ → ℕ → EditOf
+setattr_edit path flags moment = record {
+  wanted = λ view. settable (is_whole_table view) (read view) path;
+  Does = λ old new file. SetsFound old new file flags moment;
+  most = 4;
+}
+
+-- `write`: bytes went over bytes of the stream of this name, and the file has the moment as the time at which it was modified, and its record
+-- changed
+pub record WritesFound (old new : VolumeView) (file : ℕ) (name : List ℕ) (at : ℕ) (bytes : List ℕ) (moment : ℕ) : Type 0 where
+  pub found : Writable
+  pub file_is : number_of found.held ≡ file
+  pub can : IsWritable old found name at (length bytes)
+  pub writes : WritesOver old new file can.stream.is.part.name at bytes (slice_set (slice_set found.times 1 moment) 2 moment) found.flags
+
+abbrev pub most_for : List ℕ → ℕ
+most_for bytes = 6 + length bytes / 512
+
+abbrev pub write_edit : List OpenEntry → List (List ℕ) → List ℕ → ℕ → List ℕ → ℕ → EditOf
+write_edit opens path name at bytes moment = record {
+  wanted = λ view. write_wanted view opens path name at (length bytes);
+  Does = λ old new file. WritesFound old new file name at bytes moment;
+  most = most_for bytes;
+}
+
+-- `hwrite`: the same of the stream of an open
+pub record WritesThrough (opens : List OpenEntry) (session handle : ℕ) (old new : VolumeView) (file at : ℕ) (bytes : List ℕ) (moment : ℕ)
+    : Type 0 where
+  pub entry : OpenEntry
+  pub opened : find (λ (entry : OpenEntry). is_handle session handle entry && contains entry.access to_write) opens ≡ Some entry
+  pub writes : WritesFound old new file entry.stream at bytes moment
+
+abbrev pub hwrite_edit : List OpenEntry → ℕ → ℕ → ℕ → List ℕ → ℕ → EditOf
+hwrite_edit opens session handle at bytes moment = record {
+  wanted = λ view. hwrite_wanted view opens session handle at (length bytes);
+  Does = λ old new file. WritesThrough opens session handle old new file at bytes moment;
+  most = most_for bytes;
+}
+
+-- what is wanted of the volume is this
+abbrev pub LeadsTo : {D : Type 0} (g : Ghosts D) → Mft D g → EditOf → Result ℕ No → Type 0
+LeadsTo g mft edit result = IsTrue (view g mft).told → edit.wanted (view g mft) ≡ result
 
 -- the refusal is the one that is due, or memory ran out
-abbrev pub IsRefusedAs : {D : Type 0} (g : Ghosts D) → Mft D g → List (List ℕ) → No → Type 0
-IsRefusedAs g mft path refused = IsTrue (view g mft).told
-    → (settable (is_whole_table (view g mft)) (read (view g mft)) path ≡ Err refused) ⊎ (refused ≡ no.Memory)
+abbrev pub IsRefusedAs : {D : Type 0} (g : Ghosts D) → Mft D g → EditOf → No → Type 0
+IsRefusedAs g mft edit refused = IsTrue (view g mft).told → (edit.wanted (view g mft) ≡ Err refused) ⊎ (refused ≡ no.Memory)
 
--- THE FLAGS OF A FILE WERE SET: it was found, its flags and the moment were staged, and that was written behind the mark.
-pub record SetsFlags {D : Type 0} (g : Ghosts D) (old new : Mft D g) (mark : Option Flag) (path : List (List ℕ)) (flags moment : ℕ)
-    : Type 0 where
-  pub found : Settable
-  pub leads : LeadsTo g old path (Ok found.number)
-  pub can : IsTrue (view g old).told → IsSettable (view g old) found
+-- THE FILE WAS EDITED: it was found, what is done to it was staged, and that was written behind the mark.
+pub record EditsFile {D : Type 0} (g : Ghosts D) (old new : Mft D g) (mark : Option Flag) (edit : EditOf) : Type 0 where
+  pub file : ℕ
+  pub leads : LeadsTo g old edit (Ok file)
   pub place : MarkPlace
   pub placed : IsPlaced g old mark place
   pub staged : Mft D g
   pub keeps : KeepsDisk g old staged
-  pub sets : IsTrue (view g old).told → SetsAttributes (view g old) (view g staged) found.number (slice_set found.times 2 moment) flags
+  pub does : IsTrue (view g old).told → edit.Does (view g old) (view g staged) file
   pub few : IsTrue (view g old).told
-      → length (places g (stage_of g staged)) ≤ 4 + 12 * length (names_of (records_of (view g old)) found.number)
+      → length (places g (stage_of g staged)) ≤ edit.most + 12 * length (names_of (records_of (view g old)) file)
   pub finishes : Finishes g place.flag place.marked place.spans.items (stage_of g staged) (stage_of g new)
   pub goes_on : GoesOn g (stage_of g staged) (stage_of g new)
   pub written : g.written (disk_of g (stage_of g new))
@@ -132,20 +189,19 @@ pub record SetsFlags {D : Type 0} (g : Ghosts D) (old new : Mft D g) (mark : Opt
   pub committed : committed_of g new ≡ mounted_of g old
 
 -- The disk failed in the writing: the volume is marked, or as it was but for the mark. The edit was one that is due.
-pub record FailsWriting {D : Type 0} (g : Ghosts D) (old new : Mft D g) (mark : Option Flag) (path : List (List ℕ)) : Type 0 where
+pub record FailsWriting {D : Type 0} (g : Ghosts D) (old new : Mft D g) (mark : Option Flag) (edit : EditOf) : Type 0 where
   pub file : ℕ
-  pub leads : LeadsTo g old path (Ok file)
+  pub leads : LeadsTo g old edit (Ok file)
   pub place : MarkPlace
   pub placed : IsPlaced g old mark place
   pub safe : IsTrue (view g old).told
       → IsSafe place.flag (sector_in (g.now (disk_of g (stage_of g old)))) (sector_in (g.now (disk_of g (stage_of g new))))
 
 -- HOW AN EDIT ENDS: it was done; it was refused, and nothing was written; or the disk failed, before anything was written or within that.
-abbrev pub EndsAs : {D A : Type 0} (g : Ghosts D) → Mft D g → Mft D g → Option Flag → Option Flag → List (List ℕ) → ℕ → ℕ
-    → Result A Stop → Type 0
-EndsAs g old new mark mark' path flags moment (Ok done) =
-    (sets : SetsFlags g old new mark path flags moment) × (mark' ≡ Some sets.place.flag)
-EndsAs g old new mark mark' path flags moment (Err (stop.No refused)) =
-    MftStill g old new × (mark' ≡ mark) × IsRefusedAs g old path refused
-EndsAs g old new mark mark' path flags moment (Err stop.Device) =
-    (g.now (disk_of g (stage_of g new)) ≡ g.now (disk_of g (stage_of g old))) ⊎ FailsWriting g old new mark path
+abbrev pub EndsAs : {D A : Type 0} (g : Ghosts D) → Mft D g → Mft D g → Option Flag → Option Flag → EditOf → Result A Stop → Type 0
+EndsAs g old new mark mark' edit (Ok done) =
+    (edits : EditsFile g old new mark edit) × (mark' ≡ Some edits.place.flag)
+EndsAs g old new mark mark' edit (Err (stop.No refused)) =
+    MftStill g old new × (mark' ≡ mark) × IsRefusedAs g old edit refused
+EndsAs g old new mark mark' edit (Err stop.Device) =
+    (g.now (disk_of g (stage_of g new)) ≡ g.now (disk_of g (stage_of g old))) ⊎ FailsWriting g old new mark edit

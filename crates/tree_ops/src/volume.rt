@@ -1,5 +1,5 @@
 //! A volume in use, and what is done with it.
-ghost use Rattle.std.specs.Prelude.{◌≡◌, ◌≢◌, ◌&&◌, ◌||◌, ◌+◌, ◌<◌, ◌≤◌, IsOk, None, Ok, [], OnErr, OnOk, Some, bit_and, false, is_some};
+ghost use Rattle.std.specs.Prelude.{◌≡◌, ◌≢◌, ◌&&◌, ◌||◌, ◌+◌, ◌<◌, ◌≤◌, IsOk, None, Ok, [], OnErr, OnOk, Some, false, is_some};
 ghost use Rattle.vol_disk.specs.Contents.{WhereTold, settled_more};
 ghost use Rattle.vol_disk.specs.Count.{CountsFault, Rose};
 ghost use Rattle.volume_def.specs.VersionClause.{IsClean};
@@ -16,18 +16,20 @@ ghost use Rattle.tree_model.specs.Refusals.{is_edit};
 ghost use Rattle.tree_model.specs.Staging.{is_built};
 ghost use Rattle.tree_model.specs.declared.command.Command.TheVariants as command_is;
 ghost use Rattle.tree_model.specs.declared.reply.Reply.TheVariants as reply_is;
-ghost use Rattle.tree_model.specs.declared.tree.TheConstants.{SHOWN_FLAGS};
-ghost use Rattle.tree_ops.specs.Edits.{SetsShown, command_of};
+ghost use Rattle.in_place_done.specs.Written.{SetsShown};
+ghost use Rattle.tree_ops.specs.Edits.{command_of};
+ghost use Rattle.tree_ops.specs.Replies.{edit_reply};
 
 use crate::close::CloseNo;
 use crate::commands::answer;
-use crate::edit::{Edit, set_flags};
+use crate::edit::{Edit, hwrite, set_flags, write};
 use mark_write::Flag;
 use mft_table::{Mft, Mounted};
 use share_table::Opens;
 use std::alloc::Global;
 use tree_model::{Answer, Command, Path, Reply};
 use tree_read::{Standing, Stop};
+use vol_bytes::{Name, Octets};
 use vol_disk::Disk;
 use vol_stage::Stage;
 
@@ -92,6 +94,17 @@ impl<'d, D: Disk> Volume<'d, D> {
     }
 }
 
+// The reply to an edit.
+fn reply_to(ended: Result<(), Stop>) -> Reply
+    ensures { result ≡ edit_reply ended }
+{
+    match ended {
+        Ok(()) => Reply::Ok(Answer::Done),
+        Err(Stop::No(refused)) => Reply::No(refused),
+        Err(Stop::Device) => Reply::Device,
+    }
+}
+
 impl<D: Disk> Volume<'_, D> {
     ghost use Rattle.tree_ops.specs.Volumes.{VolumeGoesOn, VolumeReads, VolumeStill, disk_under, mark_of};
     ghost use Rattle.tree_ops.specs.Serves.{Serves};
@@ -101,10 +114,10 @@ impl<D: Disk> Volume<'_, D> {
     // `setattr`
     fn set(&mut self, session: u8, path: &Path, flags: u16) -> Reply
         requires serves { Serves D.Disk self.old }
-        requires shown { bit_and flags SHOWN_FLAGS ≡ flags }
+        requires shown { SetsShown (command_is.Setattr path.now flags) }
         ensures { Replies D.Disk self.old self.new session (command_is.Setattr path.now flags) result }
     {
-        match set_flags(
+        let ended = set_flags(
             self.alloc,
             &mut self.mft,
             &mut self.last,
@@ -112,11 +125,55 @@ impl<D: Disk> Volume<'_, D> {
             self.moment,
             path,
             flags,
-        ) {
-            Ok(()) => Reply::Ok(Answer::Done),
-            Err(Stop::No(refused)) => Reply::No(refused),
-            Err(Stop::Device) => Reply::Device,
-        }
+        );
+        reply_to(ended)
+    }
+
+    // `write`
+    fn write(
+        &mut self,
+        session: u8,
+        path: &Path,
+        stream: &Option<Name>,
+        at: u64,
+        bytes: &Octets,
+    ) -> Reply
+        requires serves { Serves D.Disk self.old }
+        ensures { Replies D.Disk self.old self.new session (command_is.Write path.now stream.now at bytes.now) result }
+    {
+        let ended = write(
+            self.alloc,
+            &mut self.mft,
+            &mut self.last,
+            &mut self.mark,
+            &self.opens,
+            self.moment,
+            path,
+            stream,
+            at,
+            bytes,
+        );
+        reply_to(ended)
+    }
+
+    // `hwrite`
+    fn hwrite(&mut self, session: u8, handle: u32, at: u64, bytes: &Octets) -> Reply
+        requires serves { Serves D.Disk self.old }
+        ensures { Replies D.Disk self.old self.new session (command_is.Hwrite handle at bytes.now) result }
+    {
+        let ended = hwrite(
+            self.alloc,
+            &mut self.mft,
+            &mut self.last,
+            &mut self.mark,
+            &self.opens,
+            self.moment,
+            session,
+            handle,
+            at,
+            bytes,
+        );
+        reply_to(ended)
     }
 
     // An edit is done.
@@ -127,6 +184,13 @@ impl<D: Disk> Volume<'_, D> {
     {
         match edit {
             Edit::Setattr { path, flags } => self.set(session, path, flags),
+            Edit::Write {
+                path,
+                stream,
+                at,
+                bytes,
+            } => self.write(session, path, stream, at, bytes),
+            Edit::Hwrite { handle, at, bytes } => self.hwrite(session, handle, at, bytes),
         }
     }
 

@@ -1,29 +1,21 @@
-use Rattle.std.proofs.Common.{refl}
+use Rattle.std.proofs.Common.{refl, subst, sym}
+use Rattle.tree_model.specs.declared.command.Command.TheVariants as command_is
+use Rattle.tree_ops.specs.Edits.{setattr_edit}
+use Rattle.tree_ops.specs.Replies.{Replies}
+use Rattle.tree_ops.specs.Volumes.{opens_of}
 use Rattle.tree_ops.specs.declared.volume.Volume.{Volume}
-use Rattle.tree_ops.proofs.ReplyLaws.{replies-device, replies-done, replies-refused}
+use Rattle.tree_ops.proofs.SetattrBy.{setattr-by}
+use Rattle.tree_ops.proofs.ReplyLaws.{replies-edit}
 use Rattle.tree_ops.proofs.volume.Volume.set.Goals as goal
 
-pub returns-in-Ok : goal.returns-in-Ok
-returns-in-Ok g c =
+pub returns : goal.returns
+returns g c =
+    let ended = c.set_flags-ended in
     let new : Volume g.row.D.Denot g.D.Disk =
-    record c.args.self.now { mft = c.set_flags.new.mft; last = c.set_flags.new.last; mark = c.set_flags.new.mark } in
-    replies-done g.D.Disk g.met.D.Disk.told_length c.args.self.now new c.args.session c.args.path.now c.args.flags c.requires.shown
-    c.requires.serves refl refl c.in-Ok.ensures.ends.0 c.in-Ok.ensures.ends.1 c.in-Ok.ensures.forgets c.in-Ok.ensures.goes_on
-    c.in-Ok.ensures.settled c.in-Ok.ensures.counts
-
-pub returns-in-Err-No : goal.returns-in-Err-No
-returns-in-Err-No g c =
-    let new : Volume g.row.D.Denot g.D.Disk =
-    record c.args.self.now { mft = c.set_flags.new.mft; last = c.set_flags.new.last; mark = c.set_flags.new.mark } in
-    let ends = rw c.in-Err-No.field-0-is at c.in-Err-No.ensures.ends in
-    replies-refused g.D.Disk g.met.D.Disk.told_length c.args.self.now new c.args.session c.args.path.now c.args.flags c.requires.shown
-    c.requires.serves refl refl c.in-Err-No.refused ends.0 ends.1 ends.2 c.in-Err-No.ensures.last
-    (rw c.in-Err-No.field-0-is at c.in-Err-No.ensures.counts)
-
-pub returns-in-Err-Device : goal.returns-in-Err-Device
-returns-in-Err-Device g c =
-    let new : Volume g.row.D.Denot g.D.Disk =
-    record c.args.self.now { mft = c.set_flags.new.mft; last = c.set_flags.new.last; mark = c.set_flags.new.mark } in
-    replies-device g.D.Disk g.met.D.Disk.told_length c.args.self.now new c.args.session c.args.path.now c.args.flags c.requires.shown
-    c.requires.serves refl refl (rw c.in-Err-Device.field-0-is at c.in-Err-Device.ensures.ends) c.in-Err-Device.ensures.goes_on
-    c.in-Err-Device.ensures.settled (rw c.in-Err-Device.field-0-is at c.in-Err-Device.ensures.counts)
+    record c.args.self.now { mft = ended.new.mft; last = ended.new.last; mark = ended.new.mark } in
+    subst (Replies g.D.Disk c.args.self.now new c.args.session (command_is.Setattr c.args.path.now c.args.flags)) (sym c.reply_to.ensures)
+    (replies-edit g.D.Disk g.met.D.Disk.told_length c.args.self.now new c.args.session (command_is.Setattr c.args.path.now c.args.flags)
+    (setattr_edit c.args.path.now c.args.flags c.args.self.now.moment) c.requires.shown
+    (λ v. setattr-by (opens_of g.D.Disk c.args.self.now) c.args.self.now.moment c.args.session c.args.path.now c.args.flags v)
+    c.requires.serves refl refl ended.result ended.ensures.ends ended.ensures.last ended.ensures.forgets ended.ensures.goes_on
+    ended.ensures.settled ended.ensures.counts)

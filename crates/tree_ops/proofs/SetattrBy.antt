@@ -1,16 +1,19 @@
 -- WHAT IS DUE FOR `setattr`: where its path leads to a file that can be edited it is done, and else refused so.
-use Rattle.std.proofs.Common.{◌≡◌, ℕ, Bool, true, false, List, Option, Some, None, Result, Ok, Err, inl, refl, sym, ap, ◌∙◌}
-use Rattle.std.specs.Prelude.{if◌then◌else◌}
+use Rattle.std.proofs.Common.{◌≡◌, ◌≤◌, ℕ, Bool, true, false, List, Option, Some, None, Result, Ok, Err, refl, ap, subst, ◌∙◌, arith}
+use Rattle.std.specs.Prelude.{Contains, if◌then◌else◌, slice_set}
 use Rattle.std.specs.Option.{option_map_or}
+use Rattle.ntfs_def.specs.FileName.{FileName}
+use Rattle.volume_def.specs.FileNames.{names_of}
+use Rattle.volume_def.specs.Files.{records_of}
 use Rattle.volume_def.specs.View.{VolumeView}
 use Rattle.tree_model.specs.Answers.{answer_of, node_answer}
-use Rattle.tree_model.specs.Effects.{after}
+use Rattle.tree_model.specs.Effects.{opens_after}
 use Rattle.tree_model.specs.Facts.{TellsFacts, is_whole_table}
 use Rattle.tree_model.specs.Paths.{and_then, found_file, resolve}
 use Rattle.tree_model.specs.Reading.{read}
 use Rattle.tree_model.specs.Refusals.{Facts, outcome}
 use Rattle.tree_model.specs.Staging.{cannot_edit}
-use Rattle.tree_model.specs.Step.{Step, answered, due, reply_of}
+use Rattle.tree_model.specs.Step.{answered, due}
 use Rattle.tree_model.specs.Subjects.{Located, Machine, at_found, locate}
 use Rattle.tree_model.specs.declared.command.Command.{Command}
 use Rattle.tree_model.specs.declared.command.Command.TheVariants as c
@@ -18,14 +21,15 @@ use Rattle.tree_model.specs.declared.opens.OpenEntry.{OpenEntry}
 use Rattle.tree_model.specs.declared.reply.Answer.TheVariants as a
 use Rattle.tree_model.specs.declared.reply.No.{No}
 use Rattle.tree_model.specs.declared.reply.No.TheVariants as no
-use Rattle.tree_model.specs.declared.reply.Reply.TheVariants as reply
 use Rattle.tree_model.specs.declared.tree.Found.{Found}
 use Rattle.tree_model.specs.declared.tree.Node.{Node}
 use Rattle.tree_model.proofs.LookLaws.{find-never}
-use Rattle.session_def.specs.Session.{is_due_edit}
-use Rattle.setattr_owed.proofs.CallsOwed.{has-room}
+use Rattle.in_place_owed.proofs.EmptyBill.{has-room}
 use Rattle.tree_edit.specs.Settable.{settable}
+use Rattle.attribute_edits.specs.Attributes.{CanSet, SetsAttributes}
+use Rattle.tree_ops.specs.Edits.{setattr_edit}
 use Rattle.tree_ops.specs.Wanted.{machine_on}
+use Rattle.tree_ops.proofs.EditBy.{IsEditBy, LeadsToFile}
 
 module _ (facts : Facts) (view : VolumeView) (opens : List OpenEntry) (now session : ℕ) (path : List (List ℕ)) (flags : ℕ)
     (tells : TellsFacts view facts) where
@@ -42,15 +46,9 @@ module _ (facts : Facts) (view : VolumeView) (opens : List OpenEntry) (now sessi
   abbrev cannot_at : Found → Bool
   cannot_at found = cannot_edit (is_whole_table view) (read view) (found_file found)
 
-  -- the words lead to this file
-  pub record LeadsToFile (file : ℕ) : Type 0 where
-    pub at : Located
-    pub is : outcome facts m session command ≡ Ok at
-    pub file_is : at.file ≡ file
-
   -- there is room for it
   room : (found : Found) → facts.no_room m command (at_found (read view) found) ≡ None
-  room found = tells.no_room m command (at_found (read view) found) ∙ has-room view (read view) path flags (at_found (read view) found) refl
+  room found = tells.no_room m command (at_found (read view) found) ∙ has-room view (read view) command (at_found (read view) found) refl refl refl
 
   found-at : (found : Found) → resolve (read view) path ≡ Ok found → cannot_at found ≡ false
       → outcome facts m session command ≡ Ok (at_found (read view) found)
@@ -58,8 +56,9 @@ module _ (facts : Facts) (view : VolumeView) (opens : List OpenEntry) (now sessi
   found-at found e can =
       let n = find-never opens (found_file found) in
       let w = tells.whole_table in
+      let o = tells.over m command (at_found (read view) found) in
       let r = room found in
-      rw (e, n, w, can, r) refl
+      rw (e, n, w, can, o, r) refl
 
   refused-at : (found : Found) → resolve (read view) path ≡ Ok found → cannot_at found ≡ true
       → outcome facts m session command ≡ Err no.Unbuilt
@@ -73,18 +72,18 @@ module _ (facts : Facts) (view : VolumeView) (opens : List OpenEntry) (now sessi
   unfolding outcome locate
   path-refused why e = rw e refl
 
-  pub setattr-found : (file : ℕ) → settable (is_whole_table view) (read view) path ≡ Ok file → LeadsToFile file
+  pub setattr-found : (file : ℕ) → settable (is_whole_table view) (read view) path ≡ Ok file → LeadsToFile facts m session command file
   setattr-found file is = by (resolve (read view) path) refl is
     where
       by_edit : (found : Found) → resolve (read view) path ≡ Ok found → (b : Bool) → cannot_at found ≡ b → edits b found ≡ Ok file
-          → LeadsToFile file
+          → LeadsToFile facts m session command file
       by_edit found e true can is = cc
       by_edit found e false can is =
           let same : found_file found ≡ file = cc in
           record { at = at_found (read view) found; is = found-at found e can; file_is = same }
 
       by : (r : Result Found No) → resolve (read view) path ≡ r → and_then r (λ found. edits (cannot_at found) found) ≡ Ok file
-          → LeadsToFile file
+          → LeadsToFile facts m session command file
       by (Err refused) e is = cc
       by (Ok found) e is = by_edit found e _ refl is
 
@@ -104,7 +103,7 @@ module _ (facts : Facts) (view : VolumeView) (opens : List OpenEntry) (now sessi
       by (Ok found) e is = by_edit found e _ refl is
 
   -- it answers that it is done
-  answer-done : (at : Located) → answer_of facts m session command at ≡ a.Done
+  pub answer-done : (at : Located) → answer_of facts m session command at ≡ a.Done
   unfolding answer_of
   answer-done at = by at.node
     where
@@ -112,17 +111,27 @@ module _ (facts : Facts) (view : VolumeView) (opens : List OpenEntry) (now sessi
       by None = refl
       by (Some node) = refl
 
-  pub setattr-due : (file : ℕ) → LeadsToFile file → due facts m session command ≡ Ok a.Done
-  unfolding due
-  setattr-due file x = ap (answered facts m session command) x.is ∙ ap Ok (answer-done x.at)
-
-  pub setattr-step : (file : ℕ) → (x : LeadsToFile file)
-      → Step facts m session command (reply.Ok a.Done) (after m session command x.at 0)
-  setattr-step file x = record {
-    replied = inl (sym (ap reply_of (setattr-due file x)));
-    moved = record { at = x.at; found = x.is; file = 0; fresh = λ e. cc; moved = refl };
-  }
-
-  -- so what is due is an edit that is done
-  pub setattr-due-edit : (file : ℕ) → LeadsToFile file → is_due_edit facts m (Ok (session, command)) ≡ true
-  setattr-due-edit file x = let d = setattr-due file x in rw d refl
+-- IT IS THAT OF THE COMMAND
+pub setattr-by : (opens : List OpenEntry) (now session : ℕ) (path : List (List ℕ)) (flags : ℕ) (view : VolumeView)
+    → IsEditBy view opens now session (c.Setattr path flags) (setattr_edit path flags now)
+unfolding opens_after
+setattr-by opens now session path flags view = record {
+  edits = refl;
+  is = refl;
+  makes = refl;
+  found = λ facts tells file is. setattr-found facts view opens now session path flags tells file is;
+  refused = λ facts tells why is. setattr-refused facts view opens now session path flags tells why is;
+  answer = λ facts tells at. answer-done facts view opens now session path flags tells at;
+  stages = λ facts tells file is new does.
+      let can = subst (λ f. CanSet view f does.can.can.node) does.file_is does.can.can.can in
+      record {
+        node = does.can.can.node;
+        can = can;
+        high = subst (λ f. (name : FileName) → Contains (names_of (records_of view) f) name → 4 ≤ name.parent.number) does.file_is
+            does.can.high;
+        stages = λ image written. subst (λ times. SetsAttributes view new file (slice_set times 2 now) flags) does.can.times does.sets;
+      };
+  opens_stay = λ at. refl;
+  moment_stays = λ at. refl;
+  few = omega arith;
+}

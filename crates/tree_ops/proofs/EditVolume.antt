@@ -1,7 +1,7 @@
--- A VOLUME ON WHICH `setattr` WAS DONE: what it leaves in bytes, and where a run then stands.
+-- A VOLUME ON WHICH AN EDIT WAS DONE: what it leaves in bytes, and where a run then stands.
 use Rattle.std.proofs.Common.{◌≡◌, ◌≤◌, ◌+◌, ◌*◌, ◌/◌, ◌==◌, ℕ, false, List, length, Option, Some, None, refl, sym}
 use Rattle.std.proofs.Common.{ap, subst, ◌∙◌, arith}
-use Rattle.std.specs.Prelude.{IfSome, IsTrue, bit_and, if◌then◌else◌, is_some, slice_set}
+use Rattle.std.specs.Prelude.{IfSome, IsTrue, if◌then◌else◌, is_some}
 use Rattle.std.specs.Option.{option_map_or}
 use Rattle.vol_disk.specs.Contents.{IsTold, sector_in}
 use Rattle.vol_disk.specs.declared.Disk.{Ghosts}
@@ -15,17 +15,14 @@ use Rattle.mft_table.specs.declared.mounted.Mounted.{Mounted}
 use Rattle.mft_table.specs.InUse.{IsInUse, IsSoundVolume}
 use Rattle.mft_table.specs.Mft.{mounted_of, stage_of, view}
 use Rattle.mft_table.specs.Mounted.{mounted_layout}
-use Rattle.tree_model.specs.Effects.{opens_after}
 use Rattle.tree_model.specs.Facts.{IsVolumeOf, TellsFacts}
 use Rattle.tree_model.specs.Reading.{read}
 use Rattle.tree_model.specs.Refusals.{Facts}
 use Rattle.tree_model.specs.Step.{Step}
 use Rattle.tree_model.specs.Subjects.{Machine}
 use Rattle.tree_model.specs.declared.command.Command.{Command}
-use Rattle.tree_model.specs.declared.command.Command.TheVariants as c
 use Rattle.tree_model.specs.declared.reply.Answer.TheVariants as a
 use Rattle.tree_model.specs.declared.reply.Reply.TheVariants as reply
-use Rattle.tree_model.specs.declared.tree.TheConstants.{SHOWN_FLAGS}
 use Rattle.session_def.specs.Cost.{log_bytes}
 use Rattle.session_def.specs.Done.{HasEmptyLog, first_cost}
 use Rattle.session_def.specs.State.{Stands, State}
@@ -40,18 +37,16 @@ use Rattle.volume_mark.specs.Mark.{IsFlagOf}
 use Rattle.volume_mark.specs.SameVolume.{IsSameVolume}
 use Rattle.volume_mark.proofs.MarkLaws.{mark-law}
 use Rattle.edit_written.specs.Finished.{IsFinished, IsPlaceOf}
-use Rattle.setattr_done.specs.Written.{FindsFile, LeavesSet, StagesSet, machine_behind, most_written}
-use Rattle.setattr_done.proofs.Leaves.{leaves}
-use Rattle.attribute_edits.specs.Attributes.{SetsAttributes}
-use Rattle.tree_edit.specs.Settable.{IsSettable}
-use Rattle.tree_ops.specs.Edits.{CanEdit, IsMarkOf, IsPlaceBy, SetsFlags}
+use Rattle.in_place_done.specs.Written.{FindsFile, LeavesEdit, SetsShown, Stages, StagesEdit, machine_behind, most_written}
+use Rattle.in_place_done.proofs.Leaves.{leaves}
+use Rattle.tree_ops.specs.Edits.{CanEdit, EditOf, EditsFile, IsMarkOf, IsPlaceBy}
 use Rattle.tree_ops.specs.Runs.{Applied, Ready, machine_under}
 use Rattle.tree_ops.specs.Volumes.{disk_under, mark_of, moment_of, opens_of, view_under}
 use Rattle.tree_ops.specs.declared.volume.Volume.{Volume}
 use Rattle.tree_ops.proofs.ImageLaws.{image-long, some-bytes, view-told}
 use Rattle.tree_ops.proofs.EditedVolume.{applied-edit}
 use Rattle.tree_ops.proofs.PlaceLaws.{place-of}
-use Rattle.tree_ops.proofs.SetattrDue.{LeadsToFile, setattr-found, setattr-step}
+use Rattle.tree_ops.proofs.EditBy.{IsEditBy, LeadsToFile, StagesFile, found-step}
 
 -- what the first edit of a run writes beside its own, on a volume that is clean
 clean-cost : (view : VolumeView) → IsClean view → first_cost view ≡ 2 + log_sectors view
@@ -68,18 +63,18 @@ state_on g volume bytes = record {
 }
 
 module _ {D : Type 0} (g : Ghosts D) (sized : (disk : D) → IfSome (g.now disk) (λ all. length all ≡ 512 * g.size disk))
-    (old new : Volume D g)
-    (session : ℕ) (path : List (List ℕ)) (flags : ℕ) (shown : bit_and flags SHOWN_FLAGS ≡ flags) (can : CanEdit g old.mft (mark_of g old))
-    (s : SetsFlags g old.mft new.mft (mark_of g old) path flags (moment_of g old)) (facts : Facts)
+    (old new : Volume D g) (session : ℕ) (command : Command) (edit : EditOf) (shown : SetsShown command)
+    (is_by : (v : VolumeView) → IsEditBy v (opens_of g old) (moment_of g old) session command edit) (can : CanEdit g old.mft (mark_of g old))
+    (s : EditsFile g old.mft new.mft (mark_of g old) edit) (facts : Facts)
     (before : List ℕ) (was : g.now (disk_under g old) ≡ Some before) (tells : TellsFacts (view_under g old) facts) where
   abbrev v : VolumeView
   v = view_under g old
 
+  abbrev by : IsEditBy v (opens_of g old) (moment_of g old) session command edit
+  by = is_by v
+
   abbrev state : State
   state = state_on g old before
-
-  abbrev command : Command
-  command = c.Setattr path flags
 
   abbrev flag : Flag
   flag = s.place.flag
@@ -90,29 +85,31 @@ module _ {D : Type 0} (g : Ghosts D) (sized : (disk : D) → IfSome (g.now disk)
   pub stands : Stands state
   stands = record { volume = can.bytes before (can.clear.tells ∙ was); sound = (can.in_use told).sound; reading = refl }
 
-  abbrev set : IsSettable v s.found
-  set = s.can told
-
   -- THE FILE
-  pub leads : LeadsToFile facts v (opens_of g old) (moment_of g old) session path flags tells s.found.number
-  leads = setattr-found facts v (opens_of g old) (moment_of g old) session path flags tells s.found.number (s.leads told)
+  pub leads : LeadsToFile facts (machine_under g old) session command s.file
+  leads = by.found facts tells s.file (s.leads told)
 
-  pub finds : FindsFile facts state session path flags s.found.number set.can.node
+  pub staged-by : StagesFile v (opens_of g old) (moment_of g old) command leads.at s.file (view g s.staged)
+  unfolding leads
+  staged-by = by.stages facts tells s.file (s.leads told) (view g s.staged) (s.does told)
+
+  pub finds : FindsFile facts state session command s.file staged-by.node
   finds = record {
     stands = stands;
     told = tells;
+    edits = by.edits;
     at = leads.at;
     found = leads.is;
     file = leads.file_is;
-    can = set.can.can;
+    can = staged-by.can;
     shown = shown;
-    high = set.high;
+    high = staged-by.high;
   }
 
   -- so the machine's step is this
   pub stepped : Step facts (machine_under g old) session command (reply.Ok a.Done) (machine_behind state session command finds.at)
   unfolding finds leads
-  stepped = setattr-step facts v (opens_of g old) (moment_of g old) session path flags tells s.found.number leads
+  stepped = found-step v (opens_of g old) (moment_of g old) session command edit by facts tells s.file leads
 
   -- THE BYTES that were staged, and written
   pub staged-some : (bytes : List ℕ) × (image g (stage_of g s.staged) ≡ Some bytes)
@@ -146,14 +143,12 @@ module _ {D : Type 0} (g : Ghosts D) (sized : (disk : D) → IfSome (g.now disk)
   staged-view = view-told g s.staged staged staged-some.1 ∙ ap (λ (m : Mounted). told_view (sector_in (Some staged)) (mounted_layout m))
       s.keeps.mounted
 
-  pub stages : StagesSet state s.found.number flags set.can.node staged
+  pub stages : StagesEdit state command finds.at s.file staged-by.node staged
+  unfolding finds
   stages = record {
     long = staged-long;
-    sets =
-        subst (λ times. SetsAttributes v (told_view (sector_in (Some staged)) v.layout) s.found.number
-        (slice_set times 2 (moment_of g old)) flags)
-        set.times
-        (subst (λ w. SetsAttributes v w s.found.number (slice_set s.found.times 2 (moment_of g old)) flags) staged-view (s.sets told));
+    stages = subst (λ w. Stages state command leads.at s.file staged-by.node w) staged-view
+        (staged-by.stages before (g.written (disk_under g old)));
   }
 
   pub place : IsPlaceOf v before flag s.place.marked s.place.spans.items
@@ -175,9 +170,9 @@ module _ {D : Type 0} (g : Ghosts D) (sized : (disk : D) → IfSome (g.now disk)
   }
 
   -- WHAT IS LEFT
-  pub left : LeavesSet facts state session command finds.at flag staged written
-  left = leaves facts state session path flags s.found.number set.can.node flag s.place.marked s.place.spans.items staged written finds
-      stages place finished
+  pub left : LeavesEdit facts state session command finds.at flag staged written
+  left = leaves facts state session command s.file staged-by.node flag s.place.marked s.place.spans.items staged written finds stages place
+      finished
 
   pub same : IsSameVolume left.new flag written
   same = mark-law left.new flag staged left.volume left.sound left.flag_there written left.agrees
@@ -211,11 +206,15 @@ module _ {D : Type 0} (g : Ghosts D) (sized : (disk : D) → IfSome (g.now disk)
 
   -- the machine behind it is that to which the step leads
   pub new-machine : opens_of g new ≡ opens_of g old → moment_of g new ≡ moment_of g old → machine_under g new ≡ next
-  unfolding opens_after
   new-machine opens moment =
-      ap (λ tree. record { tree = tree; opens = opens_of g new; now = moment_of g new }) (ap read new-view ∙ now-reads)
-      ∙ ap (λ o. record { tree = next.tree; opens = o; now = moment_of g new }) opens
-      ∙ ap (λ t. record { tree = next.tree; opens = opens_of g old; now = t }) moment
+      machine-by (ap read new-view ∙ now-reads) (opens ∙ sym (by.opens_stay finds.at)) (moment ∙ sym (by.moment_stays finds.at))
+    where
+      machine-by : read (view_under g new) ≡ next.tree → opens_of g new ≡ next.opens → moment_of g new ≡ next.now
+          → machine_under g new ≡ next
+      machine-by tree same now_is =
+          ap (λ t. record { tree = t; opens = opens_of g new; now = moment_of g new }) tree
+          ∙ ap (λ o. record { tree = next.tree; opens = o; now = moment_of g new }) same
+          ∙ ap (λ t. record { tree = next.tree; opens = next.opens; now = t }) now_is
 
   -- its log is empty, and its flag lies where it lay
   abbrev next_state : ℕ → State
@@ -243,7 +242,7 @@ module _ {D : Type 0} (g : Ghosts D) (sized : (disk : D) → IfSome (g.now disk)
 
   -- HOW MANY SECTORS were written
   pub names : ℕ
-  names = length (names_of (records_of v) s.found.number)
+  names = length (names_of (records_of v) s.file)
 
   pub most-by : (mark : Option Flag) → (first : VolumeView) → MarkStands first state mark → IsPlaceBy g old.mft mark s.place
       → 2 + span_sectors s.place.spans.items ≤ first_cost v + 2
@@ -256,13 +255,14 @@ module _ {D : Type 0} (g : Ghosts D) (sized : (disk : D) → IfSome (g.now disk)
       omega (arith, none)
 
   pub most : (first : VolumeView) → MarkStands first state (mark_of g old)
-      → g.written (disk_under g new) ≤ g.written (disk_under g old) + most_written state finds.at.file
+      → g.written (disk_under g new) ≤ g.written (disk_under g old) + most_written state command finds.at.file
   most first m =
       let wrote = s.written in
       let few = s.few told in
-      let by = most-by (mark_of g old) first m s.placed.by_mark in
+      let cost = most-by (mark_of g old) first m s.placed.by_mark in
       let same = ap (λ n. length (names_of (records_of v) n)) finds.file in
-      omega (arith, wrote, few, by, same)
+      let fits = by.few in
+      omega (arith, wrote, few, cost, same, fits)
 
   -- WHAT EVERY COMMAND PROMISES is promised.
   pub flag-first : (mark : Option Flag) → (first : VolumeView) → MarkStands first state mark → IsPlaceBy g old.mft mark s.place
@@ -271,13 +271,13 @@ module _ {D : Type 0} (g : Ghosts D) (sized : (disk : D) → IfSome (g.now disk)
   flag-first (Some f) first m by = subst (IsFlagOf first) (sym by.same) m.of_first
 
   module _ (opens : opens_of g new ≡ opens_of g old) (moment : moment_of g new ≡ moment_of g old) (mark : mark_of g new ≡ Some flag) where
-    pub applied-set : (first : VolumeView) → Ready g first old state → Applied g first state session command (reply.Ok a.Done) new
-    applied-set first r =
+    pub applied-done : (first : VolumeView) → Ready g first old state → Applied g first state session command (reply.Ok a.Done) new
+    applied-done first r =
         applied-edit g first new state session command a.Done flag staged written left.new next facts (g.written (disk_under g new))
-        tells stepped refl
+        tells stepped by.is
         left.volume left.sound left.reading left.flag_there (flag-first (mark_of g old) first r.mark s.placed.by_mark)
         left.agrees finished.set written-some.1
         (new-view ∙ ap (λ (w : VolumeView). told_view (sector_in (Some written)) w.layout) (sym left.is))
         (new-machine opens moment) mark refl
         (λ after image machine count volume. left.done after image volume machine
-        (subst (λ n. n ≤ g.written (disk_under g old) + most_written state finds.at.file) (sym count) (most first r.mark)))
+        (subst (λ n. n ≤ g.written (disk_under g old) + most_written state command finds.at.file) (sym count) (most first r.mark)))

@@ -1,0 +1,29 @@
+-- WHAT AN EDIT STAGES, as a file that can be edited allows it.
+use Rattle.std.proofs.Common.{◌+◌, ◌*◌, ℕ, List, length, inl, inr, arith}
+use Rattle.vol_disk.specs.declared.Disk.{Ghosts}
+use Rattle.ntfs_def.specs.FileName.{FileName}
+use Rattle.volume_def.specs.Values.{pieces_touched}
+use Rattle.mft_table.specs.declared.mft.Mft.{Mft}
+use Rattle.mft_table.specs.Mft.{view}
+use Rattle.tree_edit.specs.Over.{StagesOver}
+use Rattle.tree_edit.specs.Staged.{IsOfEdit, StagesAttributes, StagesFew, StagesWrite}
+
+module _ {D : Type 0} (g : Ghosts D) (f : ℕ) (names : List FileName) (old new : Mft D g) where
+  -- the attributes of the file
+  pub attributes-staged : StagesAttributes g f names old new
+      → StagesFew g (4 + 12 * length names) (IsOfEdit (view g old) f names) old new
+  attributes-staged x = record {
+    few = x.few;
+    only = λ sector has. elim (x.only sector has) [ inl before ↦ inl before | inr is ↦ inr (inr is) ];
+  }
+
+  -- bytes of a stream, and the attributes of its file
+  pub over-staged : (name : List ℕ) (at len : ℕ) → StagesOver g f name at len names old new → StagesWrite g f names len old new
+  over-staged name at len x = record {
+    few = let few = x.few in omega (arith, few);
+    only = λ sector has. elim (x.only sector has) [
+      | inl before ↦ inl before
+      | inr (inl stream) ↦ inr (inl (name, at, 512 * pieces_touched at len, stream))
+      | inr (inr is) ↦ inr (inr is)
+    ];
+  }
