@@ -8,4 +8,5 @@ pub mod laid;
 pub mod laid_files;
 pub mod made;
 
-pub use shell::{FrontSink, run_shell, sentence_on_refusal, start};
+pub use edge::{FrontSink, sentence_on_refusal, start};
+pub use shell::run_shell;

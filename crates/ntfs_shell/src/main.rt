@@ -1,7 +1,7 @@
 //! `ntfs_shell`: commands on the image of an NTFS 3.1 volume.
 #![tactic(auto)]
 
-use shell::start;
+use edge::start;
 use std::io::IsTerminal;
 use std::process::ExitCode;
 

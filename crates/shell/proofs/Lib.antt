@@ -2,7 +2,6 @@ pub mod Boots
 pub mod CheckLaws
 pub mod Checks
 pub mod Formats
-pub mod FrontLaws
 pub mod LabelLaws
 pub mod LabelTexts
 pub mod OneLabel

@@ -4,7 +4,6 @@ pub mod Check
 pub mod CheckSteps
 pub mod Ending
 pub mod Format
-pub mod Fronts
 pub mod Label
 pub mod LabelSteps
 pub mod Make
@@ -15,6 +14,5 @@ pub mod RunSteps
 pub mod Printing
 pub mod Stops
 pub mod Text
-pub mod Watched
 pub mod Words
 pub mod World

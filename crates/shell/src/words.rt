@@ -3,13 +3,25 @@ ghost use Rattle.std.specs.Prelude.{◌≡◌, ◌<◌, ◌≤◌, ◌^◌, ◌�
 ghost use Rattle.volume_format.specs.Options.{Options};
 ghost use Rattle.shell.specs.Words.{AreFormatWords, AreKnown, AreMakeWords, AreWords, AskToFormat, AskToMake, AskToRead, AskToRun};
 
-use crate::image::Access;
 use crate::label_option::read_label;
 use std::alloc::{AllocError, Global};
 use volume_format::FormatOptions;
 
 /// The most lines that are drawn.
 const MOST_LINES: u64 = 1_000_000;
+
+/// What the words ask of the image.
+#[derive(Clone, Copy, Debug, PartialEq, Eq)]
+pub enum Access {
+    /// Nothing but to be read.
+    Reads,
+    /// To be written anew.
+    Formats,
+    /// What a script asks of it.
+    Runs,
+    /// What drawn lines ask of it.
+    Makes,
+}
 
 /// How many lines are drawn, and behind which seed.
 #[derive(Clone, Copy, Debug, PartialEq, Eq)]

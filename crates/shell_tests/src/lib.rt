@@ -9,12 +9,12 @@ mod check;
 #[cfg(test)]
 mod check_word;
 #[cfg(test)]
-mod edge;
-#[cfg(test)]
 mod format;
 #[cfg(test)]
 mod label;
 #[cfg(test)]
 mod make;
+#[cfg(test)]
+mod program;
 #[cfg(test)]
 mod sentences;

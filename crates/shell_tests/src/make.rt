@@ -9,7 +9,7 @@ const NONE: &str = "made 0 0 0\ndf 2048 1913 64 38\n";
 // The first number behind the seed 0 tells `mv`, and there is nothing to be moved.
 const ONE: &str = "made 1 0 1\ndf 2048 1913 64 38\n";
 
-// No command that a drawn line may be is built.
+// Of what a drawn line may be writes alone are built, and a new volume has none of their files.
 const MANY: &str = "made 300 0 300\ndf 2048 1913 64 38\n";
 
 // A disk with a new volume of 2,048 clusters of 4,096 bytes, with room for many writes.

@@ -1,14 +1,13 @@
 //! The edge of the program: its arguments, the image's file and the standard streams.
 use crate::arguments::{Request, odd_argument, read_arguments, request_of};
-use crate::ending::{DEVICE_FAILED, DONE, OUT_OF_MEMORY, REFUSED, SINK_FAILED, UNKNOWN_WORDS};
 use crate::explain::{first_line, sentence_on};
 use crate::front::FrontSink;
 use crate::help::{HELP, VERSION};
-use crate::image::{Access, hold_streams, open_image};
+use crate::image::{hold_streams, open_image};
 use crate::refused::sentence_on_refusal;
-use crate::shell::run_shell;
 use crate::watched::{Watch, WatchedDisk};
-use crate::words::access_of;
+use shell::ending::{DEVICE_FAILED, DONE, OUT_OF_MEMORY, REFUSED, SINK_FAILED, UNKNOWN_WORDS};
+use shell::{Access, access_of, run_shell};
 use std::fs::File;
 use std::io;
 use std::io::ErrorKind;

@@ -1,6 +1,6 @@
 -- What a sink that remembers how its text began has kept.
 use Rattle.std.specs.Prelude.{ℕ, List}
-use Rattle.shell.specs.declared.front.FrontSink.{FrontSink}
+use Rattle.edge.specs.declared.front.FrontSink.{FrontSink}
 
 -- the first bytes that it took
 abbrev pub front_of : {K : Type 0} → FrontSink K → List ℕ

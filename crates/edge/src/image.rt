@@ -1,6 +1,7 @@
 //! The image as a disk, and the standard streams beside it.
 ghost use Rattle.std.specs.Prelude.{◌≡◌, ◌/◌, ◌^◌, ◌<◌};
 
+use shell::Access;
 use std::fs::{File, OpenOptions};
 use std::io::{ErrorKind, Seek, SeekFrom};
 use std::os::unix::fs::FileTypeExt;
@@ -8,19 +9,6 @@ use std::rt::Files;
 use std::{fs, io};
 use thiserror::Error;
 use vol_disk::{FileDisk, SECTOR};
-
-/// What the words ask of the image.
-#[derive(Clone, Copy, Debug, PartialEq, Eq)]
-pub enum Access {
-    /// Nothing but to be read.
-    Reads,
-    /// To be written anew.
-    Formats,
-    /// What a script asks of it.
-    Runs,
-    /// What drawn lines ask of it.
-    Makes,
-}
 
 /// Why there is no disk over the image.
 #[derive(Debug, Drop, Error)]

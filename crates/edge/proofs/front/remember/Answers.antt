@@ -1,6 +1,6 @@
 use Rattle.std.proofs.Common.{sym, ◌∙◌, ap, take, ◌++◌}
-use Rattle.shell.proofs.FrontLaws.{front-more}
-use Rattle.shell.proofs.front.remember.Goals as goal
+use Rattle.edge.proofs.FrontLaws.{front-more}
+use Rattle.edge.proofs.front.remember.Goals as goal
 
 pub returns : goal.returns
 returns c =

@@ -20,8 +20,10 @@ run takes each line of standard input in order, settles IMAGE and prints the rep
 some lines and ok, or no with a number and a name, as no 4 NotFound. An empty line
 and one that begins with # have none. These commands read: ls, stat, links, cat,
 read, streams, attr, sec, sd, reparse, objid, df, open, hread and close; time sets
-the moment that edits write, and setattr PATH FLAGS the DOS flags of a file, in four
-hexadecimal digits, and its time of record change; all others are no 28 Unbuilt.
+the moment that edits write, setattr PATH FLAGS the DOS flags of a file, in four
+hexadecimal digits, and its time of record change, and write TARGET AT HEX and
+hwrite H AT HEX put bytes over bytes of a stream that stand in clusters; other
+writes, and all other commands, are no 28 Unbuilt.
 The first edit of a run marks the volume as not closed until the run ends, and
 empties its log; a hibernated system is not recognised, so shut it down before.
 A volume that check refuses is refused in the same words.

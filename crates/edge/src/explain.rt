@@ -1,9 +1,9 @@
 //! What a person is told on standard error beside a status: what failed, and what can be done. What is told beside a refusal
 //! is in `refused`.
-use crate::ending::{
+use shell::Access;
+use shell::ending::{
     DEVICE_FAILED, OUT_OF_MEMORY, SINK_FAILED, SOURCE_FAILED, TOO_MUCH, UNKNOWN_WORDS,
 };
-use crate::image::Access;
 
 // The sentence on a failure of a word that only reads IMAGE.
 fn sentence_on_reading(status: u8) -> Option<&'static str> {

@@ -31,7 +31,7 @@ pub struct WatchedDisk<'a, R: Eprint, D: Disk + Drop> {
 }
 
 impl<'a, R: Eprint, D: Disk + Drop> WatchedDisk<'a, R, D> {
-    ghost use Rattle.shell.specs.Watched.{inner_of};
+    ghost use Rattle.edge.specs.Watched.{inner_of};
 
     /// All goes to `inner`; `watch` says what a person is told of it.
     pub fn new(rt: &'a R, inner: D, watch: Watch) -> WatchedDisk<'a, R, D>

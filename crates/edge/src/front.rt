@@ -28,7 +28,7 @@ fn remember(front: &mut Front, bytes: &[u8])
 }
 
 impl<K: Sink + Drop> FrontSink<K> {
-    ghost use Rattle.shell.specs.Fronts.{front_of, inner_of};
+    ghost use Rattle.edge.specs.Fronts.{front_of, inner_of};
 
     /// All goes to `inner`.
     pub fn new(inner: K) -> FrontSink<K>
@@ -50,7 +50,7 @@ impl<K: Sink + Drop> FrontSink<K> {
 }
 
 impl<K: Sink + Drop> Sink for FrontSink<K> {
-    ghost use Rattle.shell.specs.Fronts.{front_of, inner_of};
+    ghost use Rattle.edge.specs.Fronts.{front_of, inner_of};
 
     ghost got = { λ sink. K.Sink.got sink.inner };
 
