@@ -12,18 +12,18 @@ use std::alloc::Global;
 use std::test;
 use vol_disk::{CallKind, Disk, Fail, FailDisk, MemDisk};
 
-// More than any text here is long.
-const ROOM: usize = 4096;
+/// More than any text here is long.
+pub const ROOM: usize = 4096;
 
-// A disk with these contents, and room for all that is written here.
-fn writable(alloc: Global, sectors: u16, image: &[u8]) -> Result<MemDisk, test::Fail> {
+/// A disk with these contents, and room for all that is written here.
+pub fn writable(alloc: Global, sectors: u16, image: &[u8]) -> Result<MemDisk, test::Fail> {
     let mut disk = disk_on(alloc, sectors, image)?;
     disk.reserve(2000)?;
     Ok(disk)
 }
 
-// The status of a script on a disk, and the first of its lines that is not answered as its row says.
-fn run_rows<D: Disk>(
+/// The status of a script on a disk, and the first of its lines that is not answered as its row says.
+pub fn run_rows<D: Disk>(
     alloc: Global,
     disk: &mut D,
     rows: &[Row],
@@ -34,8 +34,8 @@ fn run_rows<D: Disk>(
     Ok((status, first_wrong(alloc, out.bytes(), rows)?))
 }
 
-// What an entry tells of its file: the time of record change, as far as that is one byte, and four bytes of flags.
-fn told_at(image: &[u8], key: Option<usize>) -> Option<(u8, [u8; 4])> {
+/// What an entry tells of its file: the time of record change, as far as that is one byte, and four bytes of flags.
+pub fn told_at(image: &[u8], key: Option<usize>) -> Option<(u8, [u8; 4])> {
     let at = key?;
     let mut flags = [0; 4];
     for (i, flag) in flags.iter_mut().enumerate() {

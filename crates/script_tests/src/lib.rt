@@ -14,3 +14,5 @@ mod opens;
 mod reading;
 #[cfg(test)]
 mod script;
+#[cfg(test)]
+mod writes;
