@@ -19,6 +19,7 @@ use Rattle.file_record.specs.declared.parts.FileParts.{FileParts}
 use Rattle.file_record.specs.Attributes.{InsertsAttribute, PutsInstead, RemovesAttribute, ReplacesAttribute, ResizesAttribute, header_after}
 use Rattle.file_record.specs.Held.{held_of}
 use Rattle.file_record.specs.Written.{IsWholeFile}
+use Rattle.file_record.proofs.OverwriteLaws.{resized-indexed}
 use Rattle.file_record.proofs.EditLaws.{EditsHeld, header-is, header-stays, header-was, list-is, list-was, part-edited}
 use Rattle.file_record.proofs.WriteLaws.{EditsHeld-changed, Replaces-changed, Replaces-set, same-header}
 
@@ -163,5 +164,6 @@ module _ (old new : VolumeView) (file : FileParts) (k i : ℕ) (one now : Held) 
         name = resizes.changes.name;
         id = resizes.changes.id;
         flags = resizes.changes.flags;
+        indexed = resized-indexed one.block now.block (length (attributes one.block)) i len one-shape lt resizes;
         value = resizes.value;
       }

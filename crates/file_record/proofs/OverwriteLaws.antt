@@ -1,5 +1,5 @@
 -- An attribute into whose value bytes were written: all its bytes.
-use Rattle.std.proofs.Common.{◌≡◌, ℕ, ◌+◌, ◌-◌, ◌<◌, ◌≤◌, Bool, true, false, List, cond, drop, length, get_or, inl, inr, ap, subst, sym, refl, ◌∙◌, arith}
+use Rattle.std.proofs.Common.{◌≡◌, ℕ, ◌+◌, ◌-◌, ◌<◌, ◌≤◌, Bool, true, false, List, cond, drop, length, get_or, max, inl, inr, ap, subst, sym, refl, ◌∙◌, arith}
 use Rattle.std.specs.Prelude.{◌⊎◌, IsSomeAnd, slice_index, slice_range}
 use Rattle.std.proofs.lemmas.Bool.{cases_lt}
 use Rattle.std.proofs.lemmas.List.{get_or_past, length-take}
@@ -9,7 +9,7 @@ use Rattle.vol_bytes.proofs.FieldLaws.{u32_at-same}
 use Rattle.ntfs_def.specs.Attribute.{NonResident, Resident, attribute_at, attribute_len, attribute_place, content_bytes, content_end, content_offset, extent_at, has_compressed_len, header_len, is_resident, runs_offset, value_of, value_offset}
 use Rattle.ntfs_def.specs.Shape.{HasShape, IsWhole}
 use Rattle.ntfs_def.proofs.ShapeLaws.{IsAttribute-long, header_failing-length, header_failing-used}
-use Rattle.attr_view.specs.Values.{PutsBytes, WritesValue, attribute_in}
+use Rattle.attr_view.specs.Values.{PutsBytes, Resizes, WritesValue, attribute_in, len_with, resized_len, value_begin}
 
 -- the bytes of the attribute at a place
 pub bytes-at : (block : List ℕ) (p : ℕ) → (attribute_at block p).bytes ≡ slice_range block p (p + attribute_len block p)
@@ -144,3 +144,24 @@ module _ (old new from : List ℕ) (count i at : ℕ) (shape : HasShape old coun
       ap (λ bytes. slice_index bytes 0x16) now-bytes
       ∙ same-at old new p len 0x16 inside writes.bytes.rest.len (front (p + 0x16) (omega arith))
       ∙ sym (ap (λ bytes. slice_index bytes 0x16) was-bytes)
+
+-- AN ATTRIBUTE WHOSE VALUE HAS ANOTHER LENGTH: whether it is a key of an index stays.
+pub resized-indexed : (old new : List ℕ) (count i n : ℕ) → HasShape old count → i < count → Resizes old new i n
+    → slice_index (attribute_in new i).bytes 0x16 ≡ slice_index (attribute_in old i).bytes 0x16
+resized-indexed old new count i n shape lt resizes =
+    let p = attribute_place old i in
+    let long = IsAttribute-long old p (shape.each i lt) in
+    let len : attribute_len new p ≡ len_with old i n = resizes.bytes.size in
+    let least : 24 ≤ len_with old i n = least-len (value_begin old p) n (least-begin (value_offset old p)) in
+    ap (λ bytes. slice_index bytes 0x16) (bytes-at new (attribute_place new i))
+    ∙ ap (λ q. slice_index (slice_range new q (q + attribute_len new q)) 0x16) resizes.changes.place
+    ∙ index_within new p (attribute_len new p) 0x16 (omega (arith, len, least))
+    ∙ resizes.bytes.kept (p + 0x16) (omega arith) (let begin = least-begin (value_offset old p) in omega (arith, begin))
+    ∙ sym (index_within old p (attribute_len old p) 0x16 (omega (arith, long)))
+    ∙ sym (ap (λ bytes. slice_index bytes 0x16) (bytes-at old p))
+  where
+    least-begin : (offset : ℕ) → 24 ≤ max 24 offset
+    least-begin offset = omega arith
+
+    least-len : (begin n : ℕ) → 24 ≤ begin → 24 ≤ resized_len begin n
+    least-len begin n some = omega (arith, some)

@@ -1,6 +1,6 @@
 -- What a volume is after an attribute came into a record of a file that is held, went, was put in another's place, or was given another
 -- length.
-use Rattle.std.specs.Prelude.{◌≡◌, ◌+◌, ℕ, List, [], ◌∷◌, Some, length, slice_get, slice_set}
+use Rattle.std.specs.Prelude.{◌≡◌, ◌+◌, ℕ, List, [], ◌∷◌, Some, length, slice_get, slice_index, slice_set}
 use Rattle.std.specs.List.{insert, remove}
 use Rattle.std.specs.Option.{option_map}
 use Rattle.ntfs_def.specs.Attribute.{Attribute, attribute_at, attribute_id, attribute_len, attribute_place, attributes, value_of}
@@ -67,4 +67,6 @@ pub record ResizesAttribute (old new : VolumeView) (n i len : ℕ) : Type 0 wher
   pub name : now.name ≡ was.name
   pub id : now.id ≡ was.id
   pub flags : now.flags ≡ was.flags
+  -- whether the value is a key of an index
+  pub indexed : slice_index now.bytes 0x16 ≡ slice_index was.bytes 0x16
   pub value : value_of now.body ≡ option_map (with_length len) (value_of was.body)
