@@ -26,5 +26,5 @@ pub record IsAllowed (facts : Facts) (m : Machine) (session : ℕ) (command : Co
   pub handles : too_many_handles m.opens session command ≡ false
   pub opens : shared m command at ≡ None
   pub keys : linked m.tree command at ≡ false
-  pub whole : (is_edit command && (cannot_edit facts.whole_table m.tree at.file || not (facts.over m command at))) ≡ false
+  pub whole : (is_edit command && (cannot_edit facts.whole_table m.tree at.file || not (facts.built_for m command at))) ≡ false
   pub room : (if is_edit command then facts.no_room m command at else None) ≡ None

@@ -79,8 +79,12 @@ fn is_left_out(command: &Command) -> bool
             | Command::Hread { .. }
             | Command::Close { .. }
             | Command::Setattr { .. }
+            | Command::Setsec { .. }
             | Command::Write { .. }
             | Command::Hwrite { .. }
+            | Command::Truncate { .. }
+            | Command::Punch { .. }
+            | Command::Rmstream { .. }
             | Command::Sd { .. }
     )
 }

@@ -25,7 +25,7 @@ use Rattle.ntfs_def.specs.ViewData.{item_data}
 use Rattle.tree_model.specs.IndexRoom.{Index}
 use Rattle.tree_model.specs.NoRoom.{no_room_for}
 use Rattle.tree_model.specs.Refusals.{Facts}
-use Rattle.tree_model.specs.Staging.{goes_over_bytes}
+use Rattle.tree_model.specs.Staging.{is_built_for}
 use Rattle.volume_def.specs.Room.{unowned_clusters, unused_records}
 use Rattle.tree_model.proofs.IndexRoomLaws.{entry-walk}
 
@@ -160,7 +160,7 @@ has_facts view sound =
       records = view.layout.count;
       free_records = unused_records view;
       whole_table = is_whole_table view;
-      over = λ m command at. goes_over_bytes view m.tree command at;
+      built_for = λ m command at. is_built_for view m.tree command at;
       in_use = λ n. is_some (record_on view n);
       descriptor = λ id. (descriptors id).0;
       no_room = λ m command at. no_room_for view (bill_of view m.tree command at);
@@ -172,7 +172,7 @@ has_facts view sound =
         records = refl;
         free_records = refl;
         whole_table = refl;
-        over = λ m command at. refl;
+        built_for = λ m command at. refl;
         in_use = λ n. refl;
         descriptors = λ id. (descriptors id).1;
         no_room = λ m command at. refl;

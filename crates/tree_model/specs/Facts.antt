@@ -22,7 +22,7 @@ use Rattle.tree_model.specs.Bill.{bill_of}
 use Rattle.tree_model.specs.NoRoom.{no_room_for}
 use Rattle.tree_model.specs.Reading.{read}
 use Rattle.tree_model.specs.Refusals.{Facts}
-use Rattle.tree_model.specs.Staging.{goes_over_bytes}
+use Rattle.tree_model.specs.Staging.{is_built_for}
 use Rattle.volume_def.specs.Room.{unowned_clusters, unused_records}
 use Rattle.tree_model.specs.Subjects.{Located, Machine}
 use Rattle.tree_model.specs.Tree.{Tree}
@@ -79,7 +79,7 @@ pub record TellsFacts (view : VolumeView) (facts : Facts) : Type 0 where
   pub records : facts.records ≡ view.layout.count
   pub free_records : facts.free_records ≡ unused_records view
   pub whole_table : facts.whole_table ≡ is_whole_table view
-  pub over : (m : Machine) (command : Command) (at : Located) → facts.over m command at ≡ goes_over_bytes view m.tree command at
+  pub built_for : (m : Machine) (command : Command) (at : Located) → facts.built_for m command at ≡ is_built_for view m.tree command at
   pub in_use : (n : ℕ) → facts.in_use n ≡ is_some (record_on view n)
   pub descriptors : (id : ℕ) → TellsDescriptor view id (facts.descriptor id)
   pub no_room : (m : Machine) (command : Command) (at : Located)

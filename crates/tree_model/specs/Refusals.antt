@@ -20,8 +20,8 @@ pub record Facts : Type 0 where
   pub free_records : ℕ
   -- whether each record of the table was written whole, or not at all
   pub whole_table : Bool
-  -- whether a write goes over bytes that were written before
-  pub over : Machine → Command → Located → Bool
+  -- whether the command is built for what its words lead to
+  pub built_for : Machine → Command → Located → Bool
   -- whether a record is in use
   pub in_use : ℕ → Bool
   -- the security descriptor of an id
@@ -81,7 +81,7 @@ refusal_cases facts m session command subject at =
     when (too_many_handles m.opens session command) no.TooManyHandles ∷
     shared m command at ∷
     when (linked m.tree command at) no.Linked ∷
-    when (is_edit command && (cannot_edit facts.whole_table m.tree at.file || not (facts.over m command at))) no.Unbuilt ∷
+    when (is_edit command && (cannot_edit facts.whole_table m.tree at.file || not (facts.built_for m command at))) no.Unbuilt ∷
     (if is_edit command then facts.no_room m command at else None) ∷ []
 
 -- the first whose case holds

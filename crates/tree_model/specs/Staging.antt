@@ -1,19 +1,23 @@
 -- WHAT IS NOT BUILT YET, told here alone: Unbuilt and Linked. Once all is built this file goes out, with the places that name it:
--- `is_built`, `cannot_edit`, `goes_over_bytes` and `linked` in `Refusals`, `whole_table` and `over` of `Facts`, and the two variants of the
--- type `No`.
-use Rattle.std.specs.Prelude.{ℕ, ◌==◌, ◌&&◌, ◌||◌, ◌++◌, nat_lt, not, Bool, true, false, length}
+-- `is_built`, `cannot_edit`, `is_built_for` and `linked` in `Refusals`, `whole_table` and `built_for` of `Facts`, and the two variants of
+-- the type `No`.
+use Rattle.std.specs.Prelude.{ℕ, ◌==◌, ◌&&◌, ◌||◌, ◌++◌, nat_le, nat_lt, not, Bool, true, false, Option, is_some, length}
 use Rattle.std.specs.List.{list_any}
 use Rattle.std.specs.Option.{option_map_or}
 use Rattle.ntfs_def.specs.declared.kinds.TheConstants.{OBJECT_ID}
+use Rattle.volume_def.specs.Files.{parts, records_of}
+use Rattle.volume_def.specs.ListsClause.{is_list}
 use Rattle.volume_def.specs.Table.{cluster_bytes}
 use Rattle.volume_def.specs.View.{VolumeView}
-use Rattle.tree_model.specs.Cases.{has_point}
+use Rattle.tree_model.specs.Cases.{has_point, size_of}
 use Rattle.tree_model.specs.Drops.{is_last_link}
-use Rattle.tree_model.specs.StreamRoom.{goes_over, stream_parts}
+use Rattle.tree_model.specs.Reading.{standard_of}
+use Rattle.tree_model.specs.StreamRoom.{goes_over, stream_parts, stream_value}
 use Rattle.tree_model.specs.Subjects.{Located}
 use Rattle.tree_model.specs.Tree.{Tree, leads_to}
 use Rattle.tree_model.specs.declared.command.Command.{Command}
 use Rattle.tree_model.specs.declared.command.Command.TheVariants as c
+use Rattle.tree_model.specs.declared.tree.Content.{Content}
 use Rattle.tree_model.specs.declared.tree.Link.{Link}
 
 -- UNBUILT: all commands but these.
@@ -33,8 +37,12 @@ is_built (c.Time now) = true
 is_built (c.Open path stream access share) = true
 is_built (c.Hread handle at len) = true
 is_built (c.Write path stream at bytes) = true
+is_built (c.Truncate path stream size) = true
+is_built (c.Punch path stream at len) = true
+is_built (c.Rmstream path name) = true
 is_built (c.Hwrite handle at bytes) = true
 is_built (c.Setattr path flags) = true
+is_built (c.Setsec path id) = true
 is_built (c.Sd id) = true
 is_built (c.Close handle) = true
 is_built other = false
@@ -48,13 +56,30 @@ abbrev pub cannot_edit : Bool → Tree → ℕ → Bool
 cannot_edit whole_table tree file =
     not whole_table || list_any (λ (link : Link). leads_to file link && stands_in_copied link) (tree.links ++ tree.hidden)
 
--- UNBUILT too: a write that does not go over bytes in clusters that were written before.
-abbrev pub goes_over_bytes : VolumeView → Tree → Command → Located → Bool
-goes_over_bytes view tree (c.Write path stream from bytes) at =
+-- UNBUILT too: an edit that takes or gives room. A write goes over bytes in clusters that were written before; what is punched is a value, and
+-- so is a stream that is cut or goes, of a file without an attribute list; and a security id has its place.
+abbrev pub has_place_for_id : VolumeView → ℕ → Bool
+has_place_for_id view f = nat_le 72 (length (standard_of (parts (records_of view) f)))
+
+abbrev pub has_no_list : VolumeView → ℕ → Bool
+has_no_list view f = not (list_any is_list (parts (records_of view) f))
+
+abbrev pub is_value_alone : VolumeView → Tree → Located → Bool
+is_value_alone view tree at = is_some (stream_value (stream_parts view tree at)) && has_no_list view at.file
+
+abbrev pub gets_no_longer : ℕ → Option Content → Bool
+gets_no_longer size content = option_map_or (λ content. nat_le size (size_of content)) content false
+
+abbrev pub is_built_for : VolumeView → Tree → Command → Located → Bool
+is_built_for view tree (c.Write path stream from bytes) at =
     goes_over (cluster_bytes view.layout) (stream_parts view tree at) from (length bytes)
-goes_over_bytes view tree (c.Hwrite handle from bytes) at =
+is_built_for view tree (c.Hwrite handle from bytes) at =
     goes_over (cluster_bytes view.layout) (stream_parts view tree at) from (length bytes)
-goes_over_bytes view tree other at = true
+is_built_for view tree (c.Truncate path stream size) at = is_value_alone view tree at && gets_no_longer size at.content
+is_built_for view tree (c.Punch path stream from len) at = is_some (stream_value (stream_parts view tree at))
+is_built_for view tree (c.Rmstream path name) at = is_value_alone view tree at
+is_built_for view tree (c.Setsec path id) at = has_place_for_id view at.file
+is_built_for view tree other at = true
 
 -- LINKED: a file would go that has a reparse point or an object id, for which view indexes have keys.
 abbrev pub has_object_id : Located → Bool
