@@ -1,3 +1,5 @@
+pub mod OverwrittenValue
+pub mod StandardWritten
 pub mod StandardSet
 pub mod StandardVolume
 pub mod ChainLaws
@@ -7,3 +9,4 @@ pub mod IndexDepths
 pub mod EntriesSet
 pub mod StandardFirst
 pub mod AttributesSet
+pub mod SecuredVolume

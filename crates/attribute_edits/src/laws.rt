@@ -1,5 +1,5 @@
 //! Laws with nothing to run: what a volume is where the attributes of a file were set.
-ghost use Rattle.std.specs.Prelude.{◌≡◌, ◌≢◌, ◌∷◌, ℕ, List, [], Some, bit_and, false, take, unwrap_or};
+ghost use Rattle.std.specs.Prelude.{◌≡◌, ◌≢◌, ◌∷◌, ◌<◌, ◌^◌, ℕ, List, [], Some, bit_and, false, take, unwrap_or};
 ghost use Rattle.std.specs.FinMap as finmap;
 ghost use Rattle.ntfs_def.specs.declared.kinds.TheConstants.{INDEX_ROOT, STANDARD_INFORMATION};
 ghost use Rattle.ntfs_def.specs.declared.records.TheConstants.{VOLUME};
@@ -24,7 +24,7 @@ ghost use Rattle.in_place.specs.InPlace.{Rewrites};
 ghost use Rattle.in_place.specs.Unnamed.{LiesApart};
 ghost use Rattle.dir_index.specs.Standard.{SetsStandard, hidden_flags};
 ghost use Rattle.entry_edits.specs.Refreshable.{index_name};
-ghost use Rattle.attribute_edits.specs.Attributes.{CanSet, SetsAttributes, is_set_key};
+ghost use Rattle.attribute_edits.specs.Attributes.{CanSet, IsSecured, SecuresStandard, SetsAttributes, is_set_key};
 
 /// Where the times and the DOS flags of a file were set in its standard information a sound volume stays sound (`sound`), and
 /// its node has them; nothing else that the volume reads as changed (`reads`). What the tree does not show of that attribute
@@ -99,4 +99,11 @@ pub fn set_indexes_laws()
         → SetsAttributes old new f times flags
         → CanSet old f node → bit_and flags SHOWN_FLAGS ≡ flags → (changes : List Change) (dir : ℕ)
         → KeepsIndexIfThere old new changes (directory_index dir) }
+{}
+
+/// Where the security id of a file that is shown was set, in a `$STANDARD_INFORMATION` that has a place for it, a sound volume stays sound,
+/// and reads as before but for the id.
+pub fn secured()
+    ensures { (old new : VolumeView) (f id : ℕ) (node : Node) → id < 2 ^ 32 → CanSet old f node → SecuresStandard old new f id
+        → IsSecured old new f id node }
 {}

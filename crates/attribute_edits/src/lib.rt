@@ -3,4 +3,4 @@
 
 mod laws;
 
-pub use laws::{set_attributes_laws, set_entries_laws, set_indexes_laws, set_node_laws};
+pub use laws::{secured, set_attributes_laws, set_entries_laws, set_indexes_laws, set_node_laws};
