@@ -3,6 +3,9 @@ pub mod StreamParts
 pub mod FoundStream
 pub mod OverVolume
 pub mod OverBytes
+pub mod QuietSound
+pub mod ValueVolume
+pub mod RewrittenReading
 pub mod OverReading
 pub mod OverInPlace
 pub mod TellableNames

@@ -24,7 +24,7 @@ use Rattle.stream_overwrites.proofs.ShownFile.{file, not-bad}
 use Rattle.stream_overwrites.proofs.StreamParts as stream
 
 -- Within a list, bytes that are written leave no gap before them.
-written-within : (at : ℕ) (bytes held : List ℕ) → at ≤ length held → written at bytes held ≡ with_bytes held at bytes
+pub written-within : (at : ℕ) (bytes held : List ℕ) → at ≤ length held → written at bytes held ≡ with_bytes held at bytes
 written-within at bytes held inside =
     let none : at - length held ≡ 0 = omega (arith, inside) in
     let rest = drop (at + length bytes) held in

@@ -26,8 +26,9 @@ use Rattle.tree_model.specs.StreamRoom.{goes_over, initialized_in, initialized_s
 use Rattle.tree_model.specs.StreamRoom.{stream_value_len, touches}
 use Rattle.tree_model.specs.declared.tree.Node.{Node}
 use Rattle.attribute_edits.specs.Attributes.{CanSet}
+use Rattle.attribute_edits.proofs.StandardVolume.{readable-sound}
 use Rattle.stream_overwrites.specs.Overwritten.{FindsPlain}
-use Rattle.stream_overwrites.proofs.ShownFile.{file, not-mirror, not-table, readable-sound}
+use Rattle.stream_overwrites.proofs.ShownFile.{file, not-mirror, not-table}
 use Rattle.stream_overwrites.proofs.StreamParts as stream
 
 -- the place is a cluster

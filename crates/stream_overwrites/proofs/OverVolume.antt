@@ -1,29 +1,25 @@
 -- THE VOLUME in which bytes went over bytes of a stream: its records are the same, and so are the clusters of all other attributes. So it
 -- is sound still.
-use Rattle.std.proofs.Common.{◌≡◌, ◌≢◌, ◌/◌, ◌==◌, ◌&&◌, ℕ, Bool, false, List, suc, sym, ap, subst, inl, inr, ◌∙◌}
-use Rattle.std.specs.Option.{option_map_or}
+use Rattle.std.proofs.Common.{◌≡◌, ◌≢◌, ◌/◌, ◌==◌, ◌&&◌, ℕ, Bool, false, List, sym, ap, subst, inl, inr, ◌∙◌}
 use Rattle.std.specs.Str.{bytes_eq}
 use Rattle.std.proofs.lemmas.Bool.{and_left, and_right, ne_eqb}
-use Rattle.ntfs_def.specs.IndexTree.{most_depth}
 use Rattle.ntfs_def.specs.declared.kinds.TheConstants.{DATA}
 use Rattle.ntfs_def.specs.declared.records.TheConstants.{CLUSTER_BITMAP, UPCASE}
 use Rattle.volume_def.specs.Files.{Part, parts_at, records_of}
 use Rattle.volume_def.specs.Looked.{IsLookedAt, IsLookedInto, with_clusters}
 use Rattle.volume_def.specs.Sound.{IsSound}
-use Rattle.volume_def.specs.Table.{TableLayout, cluster_bytes}
+use Rattle.volume_def.specs.Table.{cluster_bytes}
 use Rattle.volume_def.specs.Values.{spot_at}
 use Rattle.volume_def.specs.View.{VolumeView}
 use Rattle.volume_def.proofs.LookedLaws as looked
 use Rattle.volume_edits.specs.Clusters.{WritesStream}
 use Rattle.volume_edits.proofs.OwnerLaws.{lies-looked}
 use Rattle.index_store.specs.RecordWrites.{ChangesStream}
-use Rattle.tree_model.specs.IndexRoom.{Index, index_depth, levels_below, root_of}
 use Rattle.edit_def.specs.Kept.{Key, key_of, same_key}
 use Rattle.in_place.specs.InPlace.{Rewrites}
 use Rattle.in_place.specs.Unnamed.{LiesApart}
 use Rattle.in_place.proofs.CallLaws.{streamed}
 use Rattle.in_place.proofs.OtherClusters.{part-free}
-use Rattle.in_place.proofs.StillApart as still
 
 module _ (old new : VolumeView) (f : ℕ) (name : List ℕ) (at : ℕ) (bytes : List ℕ)
     (w : WritesStream old new (spot_at (parts_at old f DATA name)) at bytes) where
@@ -60,9 +56,6 @@ module _ (old new : VolumeView) (f : ℕ) (name : List ℕ) (at : ℕ) (bytes : 
   pub records-same : records_of new ≡ records_of old
   records-same = ap records_of is
 
-  pub size-same : cluster_bytes new.layout ≡ cluster_bytes old.layout
-  size-same = ap (λ (l : TableLayout). cluster_bytes l) w.layout
-
   module _ (apart : LiesApart old) (no_bitmap : f ≢ CLUSTER_BITMAP) (no_case : f ≢ UPCASE) where
     other-file : (g : ℕ) (n : List ℕ) → f ≢ g → ((f == g) && bytes_eq name n) ≡ false
     other-file g n ne = and_left (f == g) (bytes_eq name n) (ne_eqb f g ne)
@@ -85,16 +78,3 @@ module _ (old new : VolumeView) (f : ℕ) (name : List ℕ) (at : ℕ) (bytes : 
     pub sound : IsSound old → IsSound new
     sound was = subst IsSound (sym is) (λ clause m.
         looked.clause-kept old new.copy new.cluster new.rest w.copies looked-kept clause m (was clause m))
-
-    -- each index is as deep
-    depth-other : (index : Index) → index_depth other index ≡ index_depth old index
-    unfolding index_depth
-    depth-other index =
-        ap (λ nodes. option_map_or (λ root. suc (levels_below most_depth nodes root.last)) (root_of old index) 0)
-        (sym (looked.nodes-same old new.copy new.cluster new.rest w.copies looked-kept index.file index.name index.form))
-
-    pub depth : (index : Index) → index_depth new index ≡ index_depth old index
-    depth index = ap (λ (v : VolumeView). index_depth v index) is ∙ depth-other index
-
-    pub apart-still : LiesApart new
-    apart-still = still.apart-still named old new rewrites apart

@@ -1,14 +1,14 @@
 -- WHAT IS KNOWN OF A FILE THAT IS SHOWN: which it is not, that it is there, and its streams.
 use Rattle.std.proofs.Common.{◌≡◌, ◌≢◌, ◌<◌, ◌==◌, ◌&&◌, ◌||◌, ℕ, Bool, true, false, List, [], length, Option, Some, None, sym, ap, subst}
-use Rattle.std.proofs.Common.{◌∙◌, arith, if◌then◌else◌, true≢false}
+use Rattle.std.proofs.Common.{refl, inl, inr, ◌∙◌, arith, if◌then◌else◌, true≢false}
 use Rattle.std.specs.Prelude.{IsSomeAnd, IsTrue, option_map}
-use Rattle.std.proofs.lemmas.Bool.{and_right, ne_eqb, not-true, or_from}
+use Rattle.std.proofs.lemmas.Bool.{and_right, cases_eq, cases_lt, ne_eqb, not-true, or_from}
 use Rattle.list_laws.proofs.BoolLaws.{not-either}
 use Rattle.ntfs_def.specs.declared.kinds.TheConstants.{ATTRIBUTE_LIST, BITMAP, DATA, FILE_NAME}
-use Rattle.ntfs_def.specs.declared.records.TheConstants.{BAD_CLUSTERS, CLUSTER_BITMAP, FIRST_ORDINARY, MFT, MFT_MIRROR, ROOT, UPCASE}
+use Rattle.ntfs_def.specs.declared.records.TheConstants.{BAD_CLUSTERS, CLUSTER_BITMAP, FIRST_ORDINARY, MFT, MFT_MIRROR, ROOT, SECURE}
+use Rattle.ntfs_def.specs.declared.records.TheConstants.{UPCASE}
 use Rattle.volume_def.specs.Files.{Record, Records, is_base, parts, records_of}
-use Rattle.volume_def.specs.Readable.{IsFile, IsReadableVolume}
-use Rattle.volume_def.specs.Sound.{Attributes, Extents, IsSound, Lists, Shape}
+use Rattle.volume_def.specs.Readable.{IsFile}
 use Rattle.volume_def.specs.View.{VolumeView}
 use Rattle.tree_model.specs.Hidden.{is_hidden}
 use Rattle.tree_model.specs.Reading.{node_at, streams_of}
@@ -20,10 +20,7 @@ use Rattle.edit_def.specs.Edited.{is_room_file, is_room_key}
 use Rattle.edit_def.specs.Kept.{is_seen, key_of}
 use Rattle.edit_def.specs.Names.{Numbers, numbers_at}
 use Rattle.edit_def.proofs.NodeLaws.{node-numbers, node_with}
-
--- what is read of a sound volume
-pub readable-sound : (view : VolumeView) → IsSound view → IsReadableVolume view
-readable-sound view sound = record { shape = sound Shape; attributes = sound Attributes; lists = sound Lists; extents = sound Extents }
+use Rattle.record_edits.specs.Between.{MayBeEdited}
 
 -- No file of the system is shown but the root.
 pub not-system : (records : Records) (f n : ℕ) → is_hidden records f ≡ false → n < FIRST_ORDINARY → n ≢ ROOT → f ≢ n
@@ -53,6 +50,16 @@ module _ (view : VolumeView) (f : ℕ) (node : Node) (there : node_at view f ≡
 
   pub not-bad : f ≢ BAD_CLUSTERS
   not-bad = not-system (records_of view) f BAD_CLUSTERS shown (omega arith) (λ e. absurd (omega (arith, e)))
+
+  -- so its attributes may be edited
+  pub may-edit : MayBeEdited f
+  may-edit = elim (cases_eq f ROOT) [
+    | inl root ↦ inl root
+    | inr other ↦ elim (cases_lt f SECURE) [
+      | inl low ↦ absurd (not-system (records_of view) f f shown (omega (arith, low)) other refl)
+      | inr le ↦ inr le
+    ]
+  ]
 
   -- THE STREAMS of its node are those that are read of its parts.
   pub node-streams : node.streams ≡ streams_of view (parts (records_of view) f)

@@ -1,8 +1,9 @@
 -- WHAT A VOLUME IS where bytes went over bytes of a stream of a file that is shown.
-use Rattle.std.specs.Prelude.{◌≡◌, ℕ, List, Some}
+use Rattle.std.specs.Prelude.{◌≡◌, ◌+◌, ◌-◌, ℕ, List, Contains, Some, length, min, replicate, true}
 use Rattle.ntfs_def.specs.Units.{units_in}
 use Rattle.ntfs_def.specs.declared.kinds.TheConstants.{DATA}
 use Rattle.volume_def.specs.CaseClause.{volume_fold}
+use Rattle.volume_def.specs.Files.{Part, content_value, is_of, parts, records_of}
 use Rattle.volume_def.specs.Sound.{IsSound}
 use Rattle.volume_def.specs.View.{VolumeView}
 use Rattle.tree_model.specs.IndexRoom.{Index, index_depth}
@@ -12,6 +13,7 @@ use Rattle.tree_model.specs.Tree.{sought_stream}
 use Rattle.tree_model.specs.declared.tree.Content.TheVariants.{Plain}
 use Rattle.tree_model.specs.declared.tree.Node.{Node}
 use Rattle.tree_model.specs.declared.tree.Stream.{Stream}
+use Rattle.file_record.specs.Written.{HoldsBytes, WritesBytes}
 use Rattle.sparse_io.specs.Overwritten.{OverwritesStream}
 use Rattle.edit_def.specs.Items.{KeepsItems}
 use Rattle.edit_def.specs.Kept.{AreTellable, key_of, same_key, told_of}
@@ -49,4 +51,24 @@ pub record IsOverwritten (old new : VolumeView) (f : ℕ) (node : Node) (asked n
 pub record WritesOver (old new : VolumeView) (f : ℕ) (name : List ℕ) (at : ℕ) (bytes times : List ℕ) (flags : ℕ) : Type 0 where
   pub mid : VolumeView
   pub over : OverwritesStream old mid f name at bytes
+  pub sets : SetsAttributes mid new f times flags
+
+-- BYTES WENT OVER BYTES of a stream of file f that is a value, which stands in this part.
+pub record GoesOverValue (old new : VolumeView) (f : ℕ) (name : List ℕ) (at : ℕ) (bytes : List ℕ) : Type 0 where
+  pub part : Part
+  pub among : Contains (parts (records_of old) f) part
+  pub stream : is_of DATA name part ≡ true
+  pub holds : HoldsBytes at (length bytes) part
+  pub writes : WritesBytes old new part at bytes
+
+-- A PUNCH of such a stream, which had these bytes: zeros went over those of the range, as far as it lies below the size, and then the
+-- file has these times and flags.
+abbrev pub zeros_in : ℕ → ℕ → List ℕ → List ℕ
+zeros_in from len value = replicate (min (from + len) (length value) - min from (length value)) 0
+
+pub record PunchesValue (old new : VolumeView) (f : ℕ) (name : List ℕ) (from len : ℕ) (times : List ℕ) (flags : ℕ) : Type 0 where
+  pub mid : VolumeView
+  pub value : List ℕ
+  pub over : GoesOverValue old mid f name (min from (length value)) (zeros_in from len value)
+  pub value_is : content_value over.part.content ≡ Some value
   pub sets : SetsAttributes mid new f times flags

@@ -11,13 +11,20 @@ ghost use Rattle.tree_model.specs.declared.tree.Node.{Node};
 ghost use Rattle.edit_def.specs.Kept.{AreTellable, told_of};
 ghost use Rattle.sparse_io.specs.Overwritten.{OverwritesStream};
 ghost use Rattle.attribute_edits.specs.Attributes.{CanSet};
-ghost use Rattle.stream_overwrites.specs.Overwritten.{FindsPlain, IsOverwritten};
+ghost use Rattle.stream_overwrites.specs.Overwritten.{FindsPlain, GoesOverValue, IsOverwritten};
 
 /// Where bytes went over bytes of a stream of a file that is shown, on a sound volume whose contents are told and whose clusters lie apart,
 /// it is sound still, and reads as before but for those bytes.
 pub fn overwritten()
     ensures { (old new : VolumeView) (f : ℕ) (node : Node) (asked name : List ℕ) (at : ℕ) (bytes held : List ℕ) → IsTrue old.told
         → CanSet old f node → FindsPlain old f node asked name held → OverwritesStream old new f name at bytes
+        → IsOverwritten old new f node asked name at bytes held }
+{}
+
+/// The same where the stream is a value.
+pub fn value_overwritten()
+    ensures { (old new : VolumeView) (f : ℕ) (node : Node) (asked name : List ℕ) (at : ℕ) (bytes held : List ℕ) → IsTrue old.told
+        → CanSet old f node → FindsPlain old f node asked name held → GoesOverValue old new f name at bytes
         → IsOverwritten old new f node asked name at bytes held }
 {}
 

@@ -3,4 +3,4 @@
 
 mod laws;
 
-pub use laws::{over_in_place, overwritten, tellable_names};
+pub use laws::{over_in_place, overwritten, tellable_names, value_overwritten};
