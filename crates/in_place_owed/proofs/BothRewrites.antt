@@ -23,7 +23,6 @@ use Rattle.in_place.specs.Unnamed.{LiesApart}
 use Rattle.in_place.proofs.RewriteLaws.{Rewrites-then}
 use Rattle.in_place.proofs.StillApart.{apart-still}
 use Rattle.in_place_owed.specs.SetsInPlace.{SetsInPlace, edits_in_place, is_node_kind, is_set_key}
-use Rattle.in_place_owed.proofs.CallsOwed.{apart-of}
 use Rattle.in_place_owed.proofs.InPlaceCommands.{own-kind}
 use Rattle.in_place_owed.proofs.SetKeys.{kind-free}
 
@@ -73,7 +72,7 @@ module _ (before next : State) (command : Command) (at : Located) (staged : Volu
     both = Rewrites-then (is_set_key before.machine.tree command at) is_first_key before.view staged next.view s.rewrites s.first.rewrites
 
     pub apart : LiesApart before.view
-    apart = apart-of before.image before.view s.stands.volume s.stands.sound
+    apart = s.stands.apart
 
     pub apart-staged : LiesApart staged
     apart-staged = apart-still (is_set_key before.machine.tree command at) before.view staged s.rewrites apart

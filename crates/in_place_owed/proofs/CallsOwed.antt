@@ -20,11 +20,11 @@ use Rattle.edit_def.specs.OneFile.{IsTabled}
 use Rattle.edit_def.specs.Purses.{room_of}
 use Rattle.edit_def.proofs.NeedLaws.{IsPlanned-by}
 use Rattle.session_def.specs.Owed.{CallsOf, goes_by}
-use Rattle.session_def.specs.State.{State}
+use Rattle.session_def.specs.State.{Stands, State}
 use Rattle.in_place.specs.Unnamed.{LiesApart}
 use Rattle.in_place.proofs.EditedInPlace.{editable-sound, edited}
 use Rattle.in_place.proofs.StillApart.{apart-sound}
-use Rattle.in_place_owed.specs.SetsInPlace.{SetsInPlace, is_set_key}
+use Rattle.in_place_owed.specs.SetsInPlace.{SetsInPlace, StandsAlone, is_set_key}
 use Rattle.in_place_owed.proofs.EmptyBill.{bill-empty}
 use Rattle.in_place_owed.proofs.MarksLaws.{marks-right, right_marks}
 use Rattle.in_place_owed.proofs.SetKeys.{set-inside, set-no_room}
@@ -48,6 +48,14 @@ tabled-of image view volume sound =
     (tabled (sector_in (Some image)) (boot_sector image) volume.layout volume.has.table_clause
     (subst LiesApart volume.is (apart-of image view volume sound)))
 
+pub stands-alone : (before : State) → Stands before → StandsAlone before
+stands-alone before stands = record {
+  apart = apart-of before.image before.view stands.volume stands.sound;
+  tabled = tabled-of before.image before.view stands.volume stands.sound;
+  sound = stands.sound;
+  reading = stands.reading;
+}
+
 -- the plan of a bill that touches no file
 abbrev pub empty_plan : VolumeView → Plan
 empty_plan view = record { size = cluster_bytes view.layout; files = []; name = λ f. longest_name (parts (records_of view) f) }
@@ -57,10 +65,10 @@ pub calls : (before next : State) (command : Command) (at : Located) (made : ℕ
 calls before next command at made staged s =
     let view = before.view in
     let tree = before.machine.tree in
-    let apart = apart-of before.image view s.stands.volume s.stands.sound in
+    let apart = s.stands.apart in
     let plan = empty_plan view in
     let bill = bill_of view tree command at in
-    let empty = bill-empty view tree command at s.edits s.new s.over in
+    let empty = bill-empty view tree command at s.edits s.new s.built in
     let some = apart.some in
     let few : records_wanted bill ≡ 0 = ap records_wanted empty in
     let right = marks-right view in
@@ -79,7 +87,7 @@ calls before next command at made staged s =
           (λ f. omega arith) (λ f goes. refl);
       touched = subst (λ (b : Bill). AreTouched plan (room_of view plan) [] b.touched) (sym empty) tt;
       few = omega (arith, few);
-      tabled = tabled-of before.image view s.stands.volume s.stands.sound;
+      tabled = s.stands.tabled;
       was = right_marks view;
       now = right_marks view;
       start = editable-sound view (right_marks view) s.stands.sound right;

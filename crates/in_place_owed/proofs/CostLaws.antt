@@ -19,7 +19,7 @@ use Rattle.volume_def.specs.View.{VolumeView}
 use Rattle.tree_model.specs.Drops.{is_link}
 use Rattle.tree_model.specs.IndexRoom.{directory_index, index_depth}
 use Rattle.tree_model.specs.Reading.{all_links, is_hidden_link, read}
-use Rattle.tree_model.specs.Subjects.{Located, NoName}
+use Rattle.tree_model.specs.Subjects.{Located}
 use Rattle.tree_model.specs.Tree.{Tree, leads_to, link_above}
 use Rattle.tree_model.specs.declared.command.Command.{Command}
 use Rattle.tree_model.specs.declared.tree.Link.{Link}
@@ -31,8 +31,8 @@ use Rattle.session_def.specs.Cost.{bytes_in, cost_of, depths, is_refreshed, refr
 use Rattle.session_def.specs.Done.{first_cost}
 use Rattle.session_def.specs.Named.{every_link, leads_among, timed}
 use Rattle.session_def.specs.State.{State}
-use Rattle.in_place_owed.specs.SetsInPlace.{SetsInPlace, edits_in_place, links_of}
-use Rattle.in_place_owed.proofs.InPlaceCommands.{does-little, timed-one}
+use Rattle.in_place_owed.specs.SetsInPlace.{SetsInPlace, links_of}
+use Rattle.in_place_owed.proofs.InPlaceCommands.{DoesLittle, does-little, timed-one}
 
 -- A LINK is a name of the volume.
 pub link-among : (view : VolumeView) (link : Link) → Contains (every_link (read view)) link → Contains (all_links view) link
@@ -84,27 +84,28 @@ at-least f (x ∷ xs) each =
     omega (arith, here, rest, all)
 
 -- the entries that are told anew are those of the file's names
-all-refreshed : (tree : Tree) (command : Command) (at : Located) (made : ℕ) → edits_in_place command ≡ true → at.new ≡ NoName
+all-refreshed : (tree : Tree) (command : Command) (at : Located) (made : ℕ) → DoesLittle tree command at
+    → timed command at made ≡ at.file ∷ []
     → is_refreshed tree command at made ≡ leads_to at.file
-all-refreshed tree command at made is new = fun_ext (λ link.
-    ap (λ gone. leads_among (timed command at made) link && not (list_any (is_link link) gone)) (does-little tree command at is).drops
-    ∙ ap (λ files. leads_among files link && true) (timed-one command at made is new) ∙ plain (leads_to at.file link))
+all-refreshed tree command at made little one = fun_ext (λ link.
+    ap (λ gone. leads_among (timed command at made) link && not (list_any (is_link link) gone)) little.drops
+    ∙ ap (λ files. leads_among files link && true) one ∙ plain (leads_to at.file link))
   where
     plain : (b : Bool) → ((b || false) && true) ≡ b
     plain true = refl
     plain false = refl
 
-names-depth : (view : VolumeView) → IsSound view → (command : Command) (at : Located) (made : ℕ) → edits_in_place command ≡ true
-    → at.new ≡ NoName → links_of (read view) at.file ≤ depths view (read view) command at made
+names-depth : (view : VolumeView) → IsSound view → (command : Command) (at : Located) (made : ℕ) → DoesLittle (read view) command at
+    → timed command at made ≡ at.file ∷ [] → links_of (read view) at.file ≤ depths view (read view) command at made
 unfolding depths
-names-depth view sound command at made is new =
+names-depth view sound command at made little one =
     let links = every_link (read view) in
     let mine = filter (leads_to at.file) links in
     let enough = at-least (refreshed_depth view) mine (λ link there. link-depth view sound link
     (Contains-from_filter (leads_to at.file) links link there).0) in
     let same : sum_by (refreshed_depth view) (filter (is_refreshed (read view) command at made) links)
     ≡ sum_by (refreshed_depth view) mine =
-    ap (λ (p : Link → Bool). sum_by (refreshed_depth view) (filter p links)) (all-refreshed (read view) command at made is new) in
+    ap (λ (p : Link → Bool). sum_by (refreshed_depth view) (filter p links)) (all-refreshed (read view) command at made little one) in
     omega (arith, enough, same)
 
 cost-least : (old new : VolumeView) (before next : Tree) (command : Command) (at : Located) (made : ℕ)
@@ -112,15 +113,25 @@ cost-least : (old new : VolumeView) (before next : Tree) (command : Command) (at
 unfolding cost_of
 cost-least old new before next command at made = omega arith
 
+-- So a command that does little, and of one file sets the times, may write twelve sectors for each of its names, and more.
+pub cost-enough : (before next : State) (command : Command) (at : Located) (made : ℕ) → IsSound before.view
+    → read before.view ≡ before.machine.tree → DoesLittle before.machine.tree command at → timed command at made ≡ at.file ∷ []
+    → 12 * links_of before.machine.tree at.file + bytes_in command / 512 + 96
+    ≤ cost_of before.view next.view before.machine.tree next.machine.tree command at made
+cost-enough before next command at made sound reading little one =
+    let tree = before.machine.tree in
+    let deep : links_of tree at.file ≤ depths before.view tree command at made =
+    subst (λ t. DoesLittle t command at → links_of t at.file ≤ depths before.view t command at made) reading
+    (λ little. names-depth before.view sound command at made little one) little in
+    let cost = cost-least before.view next.view tree next.machine.tree command at made in
+    omega (arith, deep, cost)
+
 pub wrote-owed : (before next : State) (command : Command) (at : Located) (made : ℕ) (staged : VolumeView)
     → SetsInPlace before next command at staged
     → next.written ≤ before.written + first_cost before.view
     + cost_of before.view next.view before.machine.tree next.machine.tree command at made
 wrote-owed before next command at made staged s =
-    let tree = before.machine.tree in
-    let deep : links_of tree at.file ≤ depths before.view tree command at made =
-    subst (λ t. links_of t at.file ≤ depths before.view t command at made) s.stands.reading
-    (names-depth before.view s.stands.sound command at made s.edits s.new) in
-    let cost = cost-least before.view next.view tree next.machine.tree command at made in
+    let cost = cost-enough before next command at made s.stands.sound s.stands.reading (does-little before.machine.tree command at s.edits)
+    (timed-one command at made s.edits s.new) in
     let wrote = s.wrote in
-    omega (arith, deep, cost, wrote)
+    omega (arith, cost, wrote)

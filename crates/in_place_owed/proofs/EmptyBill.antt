@@ -12,7 +12,7 @@ use Rattle.volume_def.specs.View.{VolumeView}
 use Rattle.tree_model.specs.Bill.{bill_of, bill_with, clusters_of, is_touched, new_files, touched_file, touched_files, touches_file}
 use Rattle.tree_model.specs.Need.{Touched, empty_bill}
 use Rattle.tree_model.specs.NoRoom.{no_room_for}
-use Rattle.tree_model.specs.Staging.{goes_over_bytes}
+use Rattle.tree_model.specs.Staging.{is_built_for}
 use Rattle.tree_model.specs.StreamRoom.{goes_over, initialized_size, is_in_place, new_clusters, stream_parts}
 use Rattle.tree_model.specs.Subjects.{Located, NoName}
 use Rattle.tree_model.specs.Tree.{Tree}
@@ -20,7 +20,7 @@ use Rattle.tree_model.specs.declared.command.Command.{Command}
 use Rattle.tree_model.specs.declared.command.Command.TheVariants as c
 use Rattle.tree_model.proofs.BillLaws as bills
 use Rattle.in_place_owed.specs.SetsInPlace.{edits_in_place}
-use Rattle.in_place_owed.proofs.InPlaceCommands.{does-little}
+use Rattle.in_place_owed.proofs.InPlaceCommands.{DoesLittle, does-little, long-standard}
 
 -- BYTES THAT GO OVER BYTES come to own no cluster, and go in place.
 over-parts : (size : ℕ) (extents : List Part) (from len : ℕ) → goes_over size extents from len ≡ true
@@ -36,9 +36,15 @@ touched-none : (file : ℕ) (files : List ℕ) → filter (is_touched false file
 touched-none file [] = refl
 touched-none file (f ∷ files) = touched-none file files
 
+-- a command that does little, and names nothing new, changes no index
+pub little-quiet : (tree : Tree) (command : Command) (at : Located) → DoesLittle tree command at → at.new ≡ NoName
+    → bills.IsQuiet tree command at
+little-quiet tree command at little new =
+    record { new = new; links = little.drops; stays = little.stays; added = little.added; dropped = little.dropped }
+
 -- a command that changes no index, makes no file, and touches none, with no cluster for its stream
-bill-none : (view : VolumeView) (tree : Tree) (command : Command) (at : Located) → bills.IsQuiet tree command at → new_files command ≡ []
-    → clusters_of (cluster_bytes view.layout) view tree command at ≡ 0
+pub bill-none : (view : VolumeView) (tree : Tree) (command : Command) (at : Located) → bills.IsQuiet tree command at
+    → new_files command ≡ [] → clusters_of (cluster_bytes view.layout) view tree command at ≡ 0
     → touches_file (cluster_bytes view.layout) view tree command at ≡ false
     → bill_of view tree command at ≡ empty_bill
 unfolding bill_of
@@ -62,27 +68,29 @@ bill-none view tree command at quiet makes clusters touches =
     (touched-none at.file (range_with_len 0 view.layout.count))
 
 pub bill-empty : (view : VolumeView) (tree : Tree) (command : Command) (at : Located) → edits_in_place command ≡ true → at.new ≡ NoName
-    → goes_over_bytes view tree command at ≡ true → bill_of view tree command at ≡ empty_bill
+    → is_built_for view tree command at ≡ true → bill_of view tree command at ≡ empty_bill
 unfolding clusters_of touches_file
-bill-empty view tree command at is new over = by command is over
+bill-empty view tree command at is new built = by command is built
   where
     quiet : (command : Command) → edits_in_place command ≡ true → bills.IsQuiet tree command at
-    quiet command is =
-        let little = does-little tree command at is in
-        record { new = new; links = little.drops; stays = little.stays; added = little.added; dropped = little.dropped }
+    quiet command is = little-quiet tree command at (does-little tree command at is) new
 
-    by : (command : Command) → edits_in_place command ≡ true → goes_over_bytes view tree command at ≡ true
+    by : (command : Command) → edits_in_place command ≡ true → is_built_for view tree command at ≡ true
         → bill_of view tree command at ≡ empty_bill
-    by (c.Setattr path flags) is over = bill-none view tree (c.Setattr path flags) at (quiet (c.Setattr path flags) refl) refl refl refl
-    by (c.Write path stream from bytes) is over =
-        let parts = over-parts (cluster_bytes view.layout) (stream_parts view tree at) from (length bytes) over in
+    by (c.Setattr path flags) is built = bill-none view tree (c.Setattr path flags) at (quiet (c.Setattr path flags) refl) refl refl refl
+    by (c.Write path stream from bytes) is built =
+        let parts = over-parts (cluster_bytes view.layout) (stream_parts view tree at) from (length bytes) built in
         bill-none view tree (c.Write path stream from bytes) at (quiet (c.Write path stream from bytes) refl) refl parts.0 (ap not parts.1)
-    by (c.Hwrite handle from bytes) is over =
-        let parts = over-parts (cluster_bytes view.layout) (stream_parts view tree at) from (length bytes) over in
+    by (c.Hwrite handle from bytes) is built =
+        let parts = over-parts (cluster_bytes view.layout) (stream_parts view tree at) from (length bytes) built in
         bill-none view tree (c.Hwrite handle from bytes) at (quiet (c.Hwrite handle from bytes) refl) refl parts.0 (ap not parts.1)
-    by other is over = cc
+    by (c.Punch path stream from len) is built =
+        bill-none view tree (c.Punch path stream from len) at (quiet (c.Punch path stream from len) refl) refl refl (ap not built)
+    by (c.Setsec path id) is built =
+        bill-none view tree (c.Setsec path id) at (quiet (c.Setsec path id) refl) refl refl (long-standard view at.file built)
+    by other is built = cc
 
 -- so it is never refused for room
 pub has-room : (view : VolumeView) (tree : Tree) (command : Command) (at : Located) → edits_in_place command ≡ true → at.new ≡ NoName
-    → goes_over_bytes view tree command at ≡ true → no_room_for view (bill_of view tree command at) ≡ None
-has-room view tree command at is new over = ap (no_room_for view) (bill-empty view tree command at is new over) ∙ bills.none-refused view
+    → is_built_for view tree command at ≡ true → no_room_for view (bill_of view tree command at) ≡ None
+has-room view tree command at is new built = ap (no_room_for view) (bill-empty view tree command at is new built) ∙ bills.none-refused view

@@ -15,6 +15,7 @@ use Rattle.volume_def.specs.View.{VolumeView}
 use Rattle.list_laws.proofs.SameItemsLaws.{SameItems-sym}
 use Rattle.tree_model.specs.Reading.{standard_flags, standard_of}
 use Rattle.tree_model.specs.Subjects.{Located}
+use Rattle.tree_model.specs.Tree.{Tree}
 use Rattle.tree_model.specs.declared.command.Command.{Command}
 use Rattle.edit_def.specs.Edited.{is_room_key}
 use Rattle.edit_def.specs.Items.{HasItems, IsCurrent, KeepsItems, stream_sizes}
@@ -53,7 +54,7 @@ module _ (before next : State) (command : Command) (at : Located) (staged : Volu
           clusters = λ kind name free vcn c there. sym (k.clusters kind name free vcn c (sym (k.spots kind name free vcn) ∙ there));
         }
 
-    items-back : (dir : ℕ) → KeepsItems new staged dir
+    pub items-back : (dir : ℕ) → KeepsItems new staged dir
     items-back dir =
         items-kept (either is_room_key is_first_key) new staged back (ap cluster_bytes (sym s.first.rewrites.layout))
         (bases-of (records_of new) (s.settled clauses.References)) (readable-sound new s.settled)
@@ -90,17 +91,21 @@ module _ (before next : State) (command : Command) (at : Located) (staged : Volu
           | inr e ↦ cc
         ]
 
+    -- from any tree on
+    pub entries-first : (tree : Tree) (was now : List Item) → KeepsEntries staged tree next.machine.tree (at.file ∷ []) [] was now
+        → KeepsEntries new tree next.machine.tree (at.file ∷ []) [] was now
+    entries-first tree was now kept = record {
+      others = kept.others;
+      own = λ item there its. elim (kept.own item there its) [
+        | inl current ↦ inl (current-first (file_in item) item.key (no-log (file_in item) its) current)
+        | inr same ↦ inr same
+      ];
+    }
+
     pub entries-owed : (dir : ℕ) (was now : List Item) → IsDirectory before.view dir → HasItems before.view dir was → HasItems new dir now
         → KeepsEntries new before.machine.tree next.machine.tree (at.file ∷ []) [] was now
     entries-owed dir was now is has becomes =
-        let kept = s.entries dir was now is has (items-back dir now becomes) in
-        record {
-          others = kept.others;
-          own = λ item there its. elim (kept.own item there its) [
-            | inl current ↦ inl (current-first (file_in item) item.key (no-log (file_in item) its) current)
-            | inr same ↦ inr same
-          ];
-        }
+        entries-first before.machine.tree was now (s.entries dir was now is has (items-back dir now becomes))
 
     -- WHAT THE TREE DOES NOT SHOW
     rest-first : (f : ℕ) (was now : List ℕ) → KeepsRest staged f was now → KeepsRest new f was now

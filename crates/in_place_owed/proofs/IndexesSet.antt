@@ -29,7 +29,7 @@ use Rattle.in_place_owed.proofs.BothRewrites.{apart, apart-staged, both, either-
 use Rattle.in_place_owed.proofs.InPlaceCommands.{does-little, own-kind, timed-one}
 
 -- the name of an index in $Extend
-index-named : (view : VolumeView) (units name : List ℕ) (index : Index) → extend_index view units name ≡ Some index
+pub index-named : (view : VolumeView) (units name : List ℕ) (index : Index) → extend_index view units name ≡ Some index
     → index.name ≡ wide name
 index-named view units name index e = by (extend_file view units) e
   where
@@ -97,14 +97,14 @@ module _ (before next : State) (command : Command) (at : Located) (staged : Volu
         index-other (is_either_key tree command at) old new (both before next command at staged s) (apart before next command at staged s)
         changes (directory_index dir) (node-free dir INDEX_ROOT refl none) (node-free dir INDEX_ALLOCATION refl none) (bits-free dir)
 
-    directory-owed : (changes : List Change) (dir : ℕ) → KeepsIndexIfThere old new changes (directory_index dir)
+    pub directory-owed : (changes : List Change) (dir : ℕ) → KeepsIndexIfThere old new changes (directory_index dir)
     directory-owed changes dir = elim (cases_Bool (has_entry_of tree (at.file ∷ []) dir)) [
       | inl has ↦ index-set changes dir has
       | inr none ↦ index-unset changes dir none
     ]
 
     -- of one that is told by its name in $Extend
-    extend-owed : (changes : List Change) (units name : List ℕ) → (length (wide name) == 0) ≡ false
+    pub extend-owed : (changes : List Change) (units name : List ℕ) → (length (wide name) == 0) ≡ false
         → bytes_eq (wide name) (wide (codes "$I30")) ≡ false → (index : Index) → extend_index new units name ≡ Some index
         → KeepsIndexIfThere old new changes index
     extend-owed changes units name long other index found =

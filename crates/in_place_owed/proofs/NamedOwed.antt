@@ -18,7 +18,7 @@ use Rattle.in_place.proofs.RoomSame.{numbers-same}
 use Rattle.in_place_owed.specs.SetsInPlace.{SetsInPlace}
 use Rattle.in_place_owed.proofs.BothRewrites.{apart, bases, both, either-kind, either-no_index, is_either_key, readable-sound}
 use Rattle.in_place_owed.proofs.EntriesOwed.{entries-owed}
-use Rattle.in_place_owed.proofs.InPlaceCommands.{does-little, timed-one}
+use Rattle.in_place_owed.proofs.InPlaceCommands.{does-little, lengthens-none, timed-one}
 use Rattle.in_place_owed.proofs.StandardOwed.{standard-owed}
 
 pub named-owed : (before next : State) (command : Command) (at : Located) (made : ℕ) (staged : VolumeView)
@@ -41,7 +41,7 @@ named-owed before next command at made staged s =
     record {
       standard = λ f stays.
           subst (λ b. KeepsStandard b (parts_at old f STANDARD_INFORMATION []) (parts_at new f STANDARD_INFORMATION []))
-          (sym (little.lengthens old f)) (standard-owed before next command at staged s f);
+          (sym (lengthens-none old tree command at s.edits s.built f)) (standard-owed before next command at staged s f);
       names = λ f stays. owed.names-but named old new w (dropped_links tree command at) f (no_name f);
       numbers = λ f other. numbers-same named old new w f;
       sequence = owed.sequence-same named old new w;
@@ -59,9 +59,10 @@ named-owed before next command at made staged s =
           (λ f. no_index (codes "$O") refl refl f INDEX_ROOT refl) kept right readable readable_new
           (no_index (codes "$O") refl refl) refl);
       entries = λ dir was now is has becomes.
-          subst (λ files. KeepsEntries new tree next.machine.tree files (added_links at.new (main_file command at made)) was now)
+          let main = main_file command at made in
+          subst (λ files. KeepsEntries new tree next.machine.tree files (added_links at.new main) was now)
           (sym (timed-one command at made s.edits s.new))
-          (subst (λ (n : NewName). KeepsEntries new tree next.machine.tree (at.file ∷ []) (added_links n (main_file command at made)) was now)
+          (subst (λ (n : NewName). KeepsEntries new tree next.machine.tree (at.file ∷ []) (added_links n main) was now)
           (sym s.new)
           (entries-owed before next command at staged s dir was now is has becomes));
     }

@@ -22,7 +22,7 @@ use Rattle.in_place_owed.specs.SetsInPlace.{SetsInPlace, is_node_kind, is_set_ke
 use Rattle.in_place_owed.proofs.BothRewrites.{apart, both, either-kind, is_either_key}
 use Rattle.in_place_owed.proofs.CallsOwed.{calls}
 use Rattle.in_place_owed.proofs.CostLaws.{wrote-owed}
-use Rattle.in_place_owed.proofs.InPlaceCommands.{does-little}
+use Rattle.in_place_owed.proofs.InPlaceCommands.{does-little, owns-all}
 use Rattle.in_place_owed.proofs.IndexesSet.{indexes-owed}
 use Rattle.in_place_owed.proofs.NamedOwed.{named-owed}
 use Rattle.in_place_owed.proofs.RecordsOwed.{blocks-owed, copies-owed}
@@ -47,7 +47,9 @@ owes before next command at made staged s =
       clusters = record {
         ends = λ f kind name plain vcn gained. absurd (none-gained named old new w f kind name vcn gained);
         gains = λ vcn gained. absurd (none-gained_named named old new w at.file _ vcn gained);
-        owned = λ vcn is. little.owns _ _ vcn;
+        owned = λ vcn is.
+            owns-all command s.edits _ _ vcn
+            (λ punches. none-gained_named named old new w at.file _ vcn (is, s.nowhere punches vcn));
       };
       nodes = nodes-kept named old new w tree next.machine.tree command at made
           (record { makes = little.makes; drops = little.drops; points = little.points })

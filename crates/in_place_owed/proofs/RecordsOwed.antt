@@ -27,7 +27,6 @@ use Rattle.in_place.specs.Unnamed.{NamesNoneOf}
 use Rattle.in_place.proofs.BehindLaws.{blocks-behind, copies-behind}
 use Rattle.in_place.specs.Behind.{MarksBehind}
 use Rattle.in_place_owed.specs.SetsInPlace.{SetsInPlace, edits_in_place, is_node_kind, is_set_key}
-use Rattle.in_place_owed.proofs.CallsOwed.{tabled-of}
 use Rattle.in_place_owed.proofs.InPlaceCommands.{own-elsewhere, timed-one}
 
 never : {b : Bool} → b ≡ true → b ≡ false → ⊥
@@ -106,7 +105,7 @@ blocks-owed before next command at made staged s =
 pub copies-owed : (before next : State) (command : Command) (at : Located) (staged : VolumeView) → SetsInPlace before next command at staged
     → KeepsCopies before.view next.view
 copies-owed before next command at staged s =
-    let many = (tabled-of before.image before.view s.stands.volume s.stands.sound).least in
+    let many = s.stands.tabled.least in
     copies-behind (is_set_key before.machine.tree command at) before.view staged next.view s.rewrites (omega (arith, many))
     (λ n r few there. subst (NamesNoneOf (is_set_key before.machine.tree command at))
     (sym (first-own before.view s.stands.sound n r few there)) (s.firsts n few))

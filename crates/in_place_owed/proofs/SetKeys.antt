@@ -118,18 +118,26 @@ less false true b true false k e = refl
 less false true b false h k e = refl
 less false false b n h k e = refl
 
+-- the times and the entries of a file, where these are the only times that the command sets
+pub times-inside : (view : VolumeView) (before next : Tree) (command : Command) (at : Located) (made : ℕ)
+    → timed command at made ≡ at.file ∷ []
+    → (key : Key) → is_changed_key view before next command at made key ≡ false
+    → (is_times_key (at.file ∷ []) key || is_entries_key before (at.file ∷ []) key) ≡ false
+times-inside view before next command at made one key free =
+    let files = timed command at made in
+    let own = or_parts (is_own_key before command at made key) _ free in
+    let outer = or_parts (is_times_key files key) _ own.1 in
+    let inner = or_parts (is_directory_key before next files key) _ outer.1 in
+    or_from (is_times_key (at.file ∷ []) key) (is_entries_key before (at.file ∷ []) key)
+    (subst (λ xs. is_times_key xs key ≡ false) one outer.0)
+    (subst (λ xs. is_entries_key before xs key ≡ false) one
+    (less (key.kind == INDEX_ROOT) (key.kind == INDEX_ALLOCATION) (key.kind == BITMAP) (bytes_eq key.name (wide (codes "$I30")))
+    (has_entry_of before files key.file) (has_entry_of next files key.file) inner.0))
+
 pub set-inside : (view : VolumeView) (before next : Tree) (command : Command) (at : Located) (made : ℕ) → edits_in_place command ≡ true
     → at.new ≡ NoName
     → (key : Key) → is_changed_key view before next command at made key ≡ false → is_set_key before command at key ≡ false
 set-inside view before next command at made is new key free =
-    let files = timed command at made in
-    let one = timed-one command at made is new in
     let own = or_parts (is_own_key before command at made key) _ free in
-    let outer = or_parts (is_times_key files key) _ own.1 in
-    let inner = or_parts (is_directory_key before next files key) _ outer.1 in
     or_from (is_own_key before command at 0 key) _ (sym (own-same before command at made key is) ∙ own.0)
-    (or_from (is_times_key (at.file ∷ []) key) (is_entries_key before (at.file ∷ []) key)
-    (subst (λ xs. is_times_key xs key ≡ false) one outer.0)
-    (subst (λ xs. is_entries_key before xs key ≡ false) one
-    (less (key.kind == INDEX_ROOT) (key.kind == INDEX_ALLOCATION) (key.kind == BITMAP) (bytes_eq key.name (wide (codes "$I30")))
-    (has_entry_of before files key.file) (has_entry_of next files key.file) inner.0)))
+    (times-inside view before next command at made (timed-one command at made is new) key free)

@@ -22,7 +22,7 @@ use Rattle.in_place_owed.specs.SetsInPlace.{SetsInPlace}
 use Rattle.in_place_owed.proofs.BothRewrites.{both, is_either_key}
 use Rattle.in_place_owed.proofs.InPlaceCommands.{own-kind}
 
-standard-itself : (was now : List Part) → now ≡ was → KeepsStandard false was now
+pub standard-itself : (was now : List Part) → now ≡ was → KeepsStandard false was now
 standard-itself was now e =
     subst (KeepsStandard false was) (sym e)
     (record { flags = refl; value = record { long = inl refl; others = λ k shown. refl; flags = refl } })
@@ -66,7 +66,8 @@ module _ (before next : State) (command : Command) (at : Located) (staged : Volu
           (eqb-true at.file f is)
           (subst (KeepsStandard false (parts_at before.view at.file STANDARD_INFORMATION [])) (sym main-same) s.standard)
       | inr other ↦
-          standard-itself (parts_at before.view f STANDARD_INFORMATION []) (parts_at next.view f STANDARD_INFORMATION []) (other-same f other)
+          standard-itself (parts_at before.view f STANDARD_INFORMATION []) (parts_at next.view f STANDARD_INFORMATION [])
+          (other-same f other)
     ]
 
     pub marks-owed : (f : ℕ) → KeepsMarks before.view next.view f
