@@ -1,0 +1,6 @@
+pub mod EditedRecord
+pub mod BitsStill
+pub mod SoundEdited
+pub mod StreamPut
+pub mod ValueShown
+pub mod ValueCalls

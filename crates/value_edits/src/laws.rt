@@ -1,0 +1,28 @@
+//! Laws with nothing to run: what a volume is where one value of a file was edited.
+ghost use Rattle.std.specs.Prelude.{ℕ, IsTrue, List, Option};
+ghost use Rattle.ntfs_def.specs.declared.kinds.TheConstants.{DATA};
+ghost use Rattle.volume_def.specs.Sound.{IsSound};
+ghost use Rattle.volume_def.specs.View.{VolumeView};
+ghost use Rattle.tree_model.specs.declared.tree.Node.{Node};
+ghost use Rattle.edit_def.specs.Account.{nothing};
+ghost use Rattle.edit_def.specs.Edited.{Edited};
+ghost use Rattle.edit_def.specs.Kept.{Key, key_of, same_key};
+ghost use Rattle.edit_def.specs.Marks.{AreRight, Marks};
+ghost use Rattle.in_place.specs.Unnamed.{LiesApart};
+ghost use Rattle.stream_overwrites.specs.Overwritten.{FindsPlain};
+ghost use Rattle.attribute_edits.specs.Attributes.{CanSet};
+ghost use Rattle.value_edits.specs.ValueEdits.{EditsValue, IsEdited, PutsValue, node_with};
+
+/// Where one value of a file was edited, on a sound volume whose contents are told and whose clusters lie apart, this is a call that names
+/// that attribute and costs nothing.
+pub fn edited_value()
+    ensures { (key : Key) (old new : VolumeView) (marks : Marks) → IsTrue old.told → IsSound old → LiesApart old → AreRight old marks
+        → EditsValue key old new → Edited (same_key key) nothing old new marks marks }
+{}
+
+/// Where a stream of a file that is shown has other bytes then, or went, the volume is sound, and reads as before but for the stream.
+pub fn stream_put()
+    ensures { (old new : VolumeView) (f : ℕ) (node : Node) (asked name held : List ℕ) (bytes : Option (List ℕ)) → IsTrue old.told
+        → CanSet old f node → FindsPlain old f node asked name held → PutsValue old new f name bytes
+        → IsEdited (key_of f DATA name) old new (node_with old asked bytes node) }
+{}
