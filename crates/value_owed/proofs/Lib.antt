@@ -1,0 +1,9 @@
+pub mod ValueSame
+pub mod ValueParts
+pub mod ValueStream
+pub mod RecordsBack
+pub mod IndexesBack
+pub mod ValueCommands
+pub mod ValueCalls
+pub mod NodesBack
+pub mod ValueOwes

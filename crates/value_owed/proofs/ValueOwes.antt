@@ -1,0 +1,188 @@
+-- WHAT THE COMMAND OWES, each part of it carried back over the edit of the value; and so what it leaves.
+use Rattle.std.proofs.Common.{◌≡◌, ◌+◌, ◌*◌, ◌≤◌, ◌==◌, ◌&&◌, ◌||◌, ℕ, Bool, true, false, [], ◌∷◌, codes, refl, sym, ap, subst, ◌∙◌, arith}
+use Rattle.std.proofs.lemmas.Bool.{eq-eqb, or_from, or_parts}
+use Rattle.ntfs_def.specs.declared.kinds.TheConstants.{DATA}
+use Rattle.ntfs_def.specs.declared.records.TheConstants.{CLUSTER_BITMAP, MFT, VOLUME}
+use Rattle.volume_def.specs.Files.{file_of}
+use Rattle.volume_def.specs.Values.{spot_at}
+use Rattle.volume_def.specs.View.{VolumeView}
+use Rattle.tree_model.specs.Bill.{changes_of, dropped_links}
+use Rattle.tree_model.specs.IndexRoom.{directory_index, object_id_index, point_index}
+use Rattle.tree_model.specs.Reading.{read}
+use Rattle.tree_model.specs.StreamRoom.{is_cluster, parts_named}
+use Rattle.tree_model.specs.Subjects.{Located}
+use Rattle.tree_model.specs.Tree.{Tree}
+use Rattle.tree_model.specs.declared.command.Command.{Command}
+use Rattle.tree_model.specs.declared.command.Command.TheVariants as c
+use Rattle.edit_def.specs.Kept.{Key, key_of}
+use Rattle.session_def.specs.Cost.{cost_of, is_changed_file, is_file_of}
+use Rattle.session_def.specs.Done.{GainsRightly, LeavesDone, first_cost, stream_in}
+use Rattle.session_def.specs.Indexes.{KeepsIndexes, KeepsRests}
+use Rattle.session_def.specs.Named.{changes_ids, changes_points, has_entry_of, is_one_of, timed}
+use Rattle.session_def.specs.Owed.{Owes}
+use Rattle.session_def.specs.Room.{KeepsBlocks, is_written_file}
+use Rattle.session_def.specs.State.{State}
+use Rattle.session_def.proofs.OwedLaws.{leaves-done}
+use Rattle.in_place_owed.specs.SetsInPlace.{links_of}
+use Rattle.in_place_owed.proofs.CostLaws.{cost-enough}
+use Rattle.in_place_owed.proofs.EntriesOwed.{rests-owed}
+use Rattle.in_place_owed.proofs.InPlaceCommands.{timed-one}
+use Rattle.in_place_owed.proofs.IndexesSet.{directory-owed, extend-owed}
+use Rattle.in_place_owed.proofs.Owes as setting
+use Rattle.value_owed.specs.ValueOwed.{SetsBehindValue, between}
+use Rattle.value_owed.proofs.IndexesBack as indexes
+use Rattle.value_owed.proofs.NodesBack as nodes
+use Rattle.value_owed.proofs.RecordsBack as back
+use Rattle.value_owed.proofs.ValueCalls as calls
+use Rattle.value_owed.proofs.ValueCommands.{value-little, value-timed}
+use Rattle.value_owed.proofs.ValueSame as same
+use Rattle.value_owed.proofs.ValueSame.{never}
+use Rattle.value_owed.proofs.ValueStream as stream
+
+-- a file whose records are not written by one is not by the other, if less is changed
+written-less : (more less : ℕ → Bool) (f : ℕ) → (more f ≡ false → less f ≡ false) → is_written_file more f ≡ false
+    → is_written_file less f ≡ false
+written-less more less f give free =
+    let a = or_parts (f == MFT) _ free in
+    let b = or_parts (f == VOLUME) _ a.1 in
+    let d = or_parts (f == CLUSTER_BITMAP) (more f) b.1 in
+    or_from (f == MFT) _ a.0 (or_from (f == VOLUME) _ b.0 (or_from (f == CLUSTER_BITMAP) (less f) d.0 (give d.1)))
+
+module _ (before next : State) (command : Command) (at : Located) (mid staged : VolumeView)
+    (s : SetsBehindValue before next command at mid staged) where
+  abbrev old : VolumeView
+  old = before.view
+
+  abbrev new : VolumeView
+  new = next.view
+
+  abbrev tree : Tree
+  tree = before.machine.tree
+
+  abbrev key : Key
+  key = key_of at.file DATA s.name
+
+  abbrev half : State
+  half = between before mid
+
+  abbrev setter : Command
+  setter = c.Setattr [] 0
+
+  -- THE FILES of which records may change
+  abbrev files : ℕ → ℕ → Bool
+  files made = is_changed_file old tree next.machine.tree command at made
+
+  itself : (made : ℕ) → files made at.file ≡ true
+  itself made =
+      let own : is_one_of (timed command at made) at.file ≡ true =
+      ap (λ xs. is_one_of xs at.file) (value-timed command at made s.edits s.new) ∙ ap (λ b. b || false) (eq-eqb at.file at.file refl) in
+      ap (λ b. b || has_entry_of tree (timed command at made) at.file || has_entry_of next.machine.tree (timed command at made) at.file
+      || (changes_points tree command at && is_file_of (point_index old) at.file)
+      || (changes_ids tree command at && is_file_of (object_id_index old) at.file)) own
+
+  set-less : (made f : ℕ) → files made f ≡ false → is_changed_file mid (read mid) next.machine.tree setter at made f ≡ false
+  set-less made f free =
+      let all = timed command at made in
+      let one = value-timed command at made s.edits s.new in
+      let set : timed setter at made ≡ at.file ∷ [] = timed-one setter at made refl s.new in
+      let front = is_one_of all f || has_entry_of tree all f in
+      let a = or_parts (front || has_entry_of next.machine.tree all f || (changes_points tree command at && is_file_of (point_index old) f))
+      (changes_ids tree command at && is_file_of (object_id_index old) f) free in
+      let b = or_parts (front || has_entry_of next.machine.tree all f)
+      (changes_points tree command at && is_file_of (point_index old) f) a.0 in
+      let d = or_parts front (has_entry_of next.machine.tree all f) b.0 in
+      let k = or_parts (is_one_of all f) (has_entry_of tree all f) d.0 in
+      let was : has_entry_of (read mid) (at.file ∷ []) f ≡ false =
+      calls.entries-same before next command at mid staged s (at.file ∷ []) f ∙ subst (λ xs. has_entry_of tree xs f ≡ false) one k.1 in
+      let own : is_one_of (at.file ∷ []) f ≡ false = subst (λ xs. is_one_of xs f ≡ false) one k.0 in
+      let now : has_entry_of next.machine.tree (at.file ∷ []) f ≡ false =
+      subst (λ xs. has_entry_of next.machine.tree xs f ≡ false) one d.1 in
+      subst (λ xs. ((((is_one_of xs f || has_entry_of (read mid) xs f) || has_entry_of next.machine.tree xs f) || false) || false) ≡ false)
+      (sym set)
+      (or_from _ false (or_from _ false (or_from _ _ (or_from (is_one_of (at.file ∷ []) f) _ own was) now) refl) refl)
+
+  blocks : (made : ℕ) → KeepsBlocks (files made) old new
+  blocks made =
+      let set = (setting.owes half next setter at made staged s.behind).blocks in
+      back.blocks-back key old mid s.stands.sound (calls.apart before next command at mid staged s) s.edited.edits new (files made)
+      (itself made)
+      (λ n r there other. set n r there (written-less (files made) (is_changed_file mid (read mid) next.machine.tree setter at made)
+      (file_of n r) (set-less made (file_of n r)) other))
+
+  -- CLUSTERS: no stream gained one, and the command's has none.
+  none-owned : (vcn : ℕ) → is_cluster (spot_at (stream_in new tree at) vcn) ≡ false
+  none-owned vcn =
+      subst (λ units. is_cluster (spot_at (parts_named new at.file units) vcn) ≡ false) s.spelt_so
+      (stream.spots-none at.file s.name old mid s.stands.sound (calls.apart before next command at mid staged s) s.edited.edits s.alone
+      (nodes.named before next command at mid staged s) new (nodes.behind before next command at mid staged s) vcn)
+
+  clusters : GainsRightly before next command at
+  clusters = record {
+    ends = λ f kind name plain vcn gained.
+        absurd (stream.none-gained at.file s.name old mid s.stands.sound (calls.apart before next command at mid staged s) s.edited.edits
+        s.alone (nodes.named before next command at mid staged s) new (nodes.behind before next command at mid staged s) f kind name vcn
+        gained.0 gained.1);
+    gains = λ vcn gained. absurd (never gained.0 (none-owned vcn));
+    owned = λ vcn is. absurd (never is (none-owned vcn));
+  }
+
+  -- INDEXES
+  indexes-kept : (made : ℕ) → KeepsIndexes old new tree next.machine.tree command at made
+  indexes-kept made =
+      let lies = calls.apart before next command at mid staged s in
+      let no_case = calls.no_case before next command at mid staged s in
+      let changes = changes_of old tree command at in
+      record {
+        keys = λ dir was now is has becomes.
+            subst (λ all. KeepsRests new all (dropped_links tree command at) was now) (sym (value-timed command at made s.edits s.new))
+            (subst (λ gone. KeepsRests new (at.file ∷ []) gone was now) (sym (value-little tree command at s.edits).drops)
+            (rests-owed half next setter at staged s.behind dir was now
+            (back.directory-still key old mid s.stands.sound lies s.edited.edits new dir is)
+            (indexes.items-still key old mid s.stands.sound lies s.edited.edits no_case s.edited.can.sound dir was has) becomes));
+        directories = λ dir.
+            indexes.index-back key old mid s.stands.sound lies s.edited.edits no_case s.edited.can.sound new changes (directory_index dir)
+            (directory-owed half next setter at staged s.behind [] dir);
+        points = λ index found.
+            indexes.index-back key old mid s.stands.sound lies s.edited.edits no_case s.edited.can.sound new changes index
+            (extend-owed half next setter at staged s.behind [] (codes "$Reparse") (codes "$R") refl refl index found);
+        object_ids = λ index found.
+            indexes.index-back key old mid s.stands.sound lies s.edited.edits no_case s.edited.can.sound new changes index
+            (extend-owed half next setter at staged s.behind [] (codes "$ObjId") (codes "$O") refl refl index found);
+      }
+
+  -- THE COST
+  links-same : links_of (read mid) at.file ≡ links_of tree at.file
+  links-same = ap (λ (t : Tree). links_of t at.file) s.edited.reads ∙ ap (λ (t : Tree). links_of t at.file) s.stands.reading
+
+  wrote : (made : ℕ) → next.written ≤ before.written + first_cost old + cost_of old new tree next.machine.tree command at made
+  wrote made =
+      let cost = cost-enough before next command at made s.stands.sound s.stands.reading (value-little tree command at s.edits)
+      (value-timed command at made s.edits s.new) in
+      let set : next.written ≤ before.written + first_cost mid + 12 + 12 * links_of (read mid) at.file + 0 = s.behind.wrote in
+      let first = same.first_cost-same key old mid s.stands.sound (calls.apart before next command at mid staged s) s.edited.edits in
+      let links = links-same in
+      omega (arith, cost, set, first, links)
+
+  pub owes : (made : ℕ) → Owes before next command at made
+  owes made =
+      let lies = calls.apart before next command at mid staged s in
+      let no_case = calls.no_case before next command at mid staged s in
+      let set = setting.owes half next setter at made staged s.behind in
+      record {
+        long = s.behind.long;
+        named = nodes.of-named before next command at mid staged s made;
+        clusters = clusters;
+        nodes = nodes.nodes before next command at mid staged s made;
+        indexes = indexes-kept made;
+        blocks = blocks made;
+        unused = back.unused-back key old mid s.stands.sound lies s.edited.edits new set.unused;
+        copies = back.copies-back key old mid s.stands.sound lies s.edited.edits new set.copies;
+        made_forms = λ f. back.forms-back key old mid s.stands.sound lies s.edited.edits new f (set.made_forms f);
+        lists = λ f. back.order-back key old mid s.stands.sound lies s.edited.edits new
+            (indexes.fold-same key old mid s.stands.sound lies s.edited.edits no_case s.edited.can.sound) f (set.lists f);
+        log_end = back.log_end-back key old mid s.stands.sound lies s.edited.edits new set.log_end;
+        wrote = wrote made;
+      }
+
+  pub leaves : (made : ℕ) → LeavesDone before next command at made
+  leaves made = leaves-done before next command at made (calls.calls before next command at mid staged s made) (owes made)

@@ -1,0 +1,209 @@
+-- WHAT THE EDIT OF ONE VALUE KEEPS, exactly: all parts but those of the stream, all blocks but one, and the values of all other attributes.
+use Rattle.std.proofs.Common.{◌≡◌, ◌≢◌, ◌+◌, ◌/◌, ◌<◌, ◌≤◌, ◌==◌, ◌&&◌, not, ℕ, Bool, true, false, List, [], filter}
+use Rattle.std.proofs.Common.{map, sym, ap, subst, inl, inr, ◌∙◌, arith, if◌then◌else◌}
+use mathlib.Core.Path.{fun_ext}
+use Rattle.std.specs.Option.{option_map, option_map_or}
+use Rattle.std.specs.Prelude.{filter_map, is_some}
+use Rattle.std.specs.Str.{bytes_eq}
+use Rattle.std.proofs.lemmas.Bool.{and_left, and_parts, and_right, cases_eq, eqb-true, false_from_ne_true, ne_eqb}
+use Rattle.std.proofs.lemmas.Slice.Eq.{bytes_eq-Decides}
+use Rattle.list_laws.proofs.MemberLaws.{Contains-from_filter, Contains-from_map}
+use Rattle.list_laws.proofs.ReplacesLaws.{Replaces-filter, Replaces-itself, Replaces-map}
+use Rattle.ntfs_def.specs.AttributeList.{list_entries}
+use Rattle.ntfs_def.specs.Attribute.{attributes, first_value}
+use Rattle.ntfs_def.specs.FileName.{name_in}
+use Rattle.ntfs_def.specs.Fixup.{opened_of}
+use Rattle.ntfs_def.specs.VolumeInformation.{dirty_bit}
+use Rattle.ntfs_def.specs.declared.kinds.TheConstants.{ATTRIBUTE_LIST, DATA, FILE_NAME, VOLUME_INFORMATION}
+use Rattle.ntfs_def.specs.declared.records.TheConstants.{LOG_FILE, VOLUME}
+use Rattle.ntfs_def.specs.declared.run_text.Spot.TheVariants.{At}
+use Rattle.volume_def.specs.FileNames.{is_file_name, names_of}
+use Rattle.volume_def.specs.Edits.{EditsAt}
+use Rattle.volume_def.specs.Files.{Part, content_extent, content_value, file_of, is_of, parts, parts_at, record_on, records_of}
+use Rattle.volume_def.specs.ListsClause.{is_list}
+use Rattle.volume_def.specs.Sound.{IsSound}
+use Rattle.volume_def.specs.Table.{cluster_bytes}
+use Rattle.volume_def.specs.Values.{KeepsClusters, first_part, is_first, spot_at, value_of_parts, value_on}
+use Rattle.volume_def.specs.View.{VolumeView}
+use Rattle.volume_def.proofs.RecordLaws.{parts-other, parts-own_at}
+use Rattle.volume_def.proofs.ValueLaws.{spot_at-owned, value-frame}
+use Rattle.edit_def.specs.Edited.{is_table_key}
+use Rattle.edit_def.specs.Kept.{Key, Told, is_name_told, key_of, same_key, told_by, told_names, told_of}
+use Rattle.edit_def.specs.Marks.{Marks}
+use Rattle.edit_def.specs.ListOrder.{entries_of}
+use Rattle.edit_def.specs.Names.{numbers_at}
+use Rattle.ntfs_def.specs.Flags.{is_packed}
+use Rattle.record_edits.specs.RecordEdit.{EditsPart, parts_made}
+use Rattle.record_edits.proofs.BlockEdits.{attribute-stays, part-stays}
+use Rattle.record_edits.proofs.ClauseEdits as clauses
+use Rattle.record_edits.proofs.FileEdits as files
+use Rattle.record_edits.proofs.PartEdits.{AreNamed, filter-nil}
+use Rattle.record_edits.proofs.RoomEdits.{used-kept}
+use Rattle.session_def.specs.Cost.{log_bytes, log_parts, log_size}
+use Rattle.session_def.specs.Done.{first_cost}
+use Rattle.session_def.specs.State.{dirty_flag}
+use Rattle.in_place.specs.Unnamed.{LiesApart}
+use Rattle.in_place_owed.proofs.MarksLaws.{marks-right, right_marks}
+use Rattle.value_edits.specs.ValueEdits.{EditsValue}
+use Rattle.value_edits.proofs.EditedRecord as value
+
+pub never : {b : Bool} → b ≡ true → b ≡ false → ⊥
+never x y = cc
+
+module _ (key : Key) (old mid : VolumeView) (sound : IsSound old) (apart : LiesApart old) (e : EditsValue key old mid) where
+  pub part : EditsPart key old mid (right_marks old) (right_marks old)
+  part = value.part key old mid (right_marks old) sound apart (marks-right old) e
+
+  pub layout : mid.layout ≡ old.layout
+  layout = e.block.replaces.layout
+
+  pub size : cluster_bytes mid.layout ≡ cluster_bytes old.layout
+  size = ap cluster_bytes layout
+
+  -- THE ATTRIBUTE is a stream of the file
+  pub other-kind : (g kind : ℕ) (name : List ℕ) → kind ≢ DATA → same_key key (key_of g kind name) ≡ false
+  other-kind g kind name ne = and_left (key.kind == kind) _ (ne_eqb key.kind kind (λ same. ne (sym same ∙ e.kind)))
+
+  pub other-file : (g kind : ℕ) (name : List ℕ) → key.file ≢ g → same_key key (key_of g kind name) ≡ false
+  other-file g kind name ne =
+      and_right (key.kind == kind) ((key.file == g) && bytes_eq key.name name)
+      (and_left (key.file == g) (bytes_eq key.name name) (ne_eqb key.file g ne))
+
+  abbrev m : Marks
+  m = right_marks old
+
+  abbrev pub edit : EditsAt (records_of old) (records_of mid) part.n (parts_made part.n part.was) (parts_made part.n part.now)
+  edit = clauses.edit key old mid m m part
+
+  -- PARTS: all those of a file that are none of the stream
+  none-kept : (g : ℕ) (p : Part → Bool) → ((x : Part) → p x ≡ true → same_key key (key_of g x.kind x.name) ≡ false) → key.file ≡ g
+      → (xs : List Part) → AreNamed (same_key key) (file_of part.n edit.was_record) xs → filter p xs ≡ []
+  none-kept g p free own xs named = filter-nil p xs (λ x c. false_from_ne_true (p x) (λ is.
+      never (subst (λ h. same_key key (key_of h x.kind x.name) ≡ true) (part.file ∙ own) (named x c)) (free x is)))
+
+  pub passed : (g : ℕ) (p : Part → Bool) → ((x : Part) → p x ≡ true → same_key key (key_of g x.kind x.name) ≡ false)
+      → filter p (parts (records_of mid) g) ≡ filter p (parts (records_of old) g)
+  passed g p free = elim (cases_eq key.file g) [
+    | inl own ↦ Replaces-itself _ _ _ _
+        (none-kept g p free own (parts_made part.n part.was) (clauses.was-named key old mid m m part)
+        ∙ sym (none-kept g p free own (parts_made part.n part.now) (clauses.now-named key old mid m m part)))
+        (Replaces-filter p _ _ _ _ (parts-own_at (records_of old) (records_of mid) part.n g _ _ edit (part.file ∙ own)))
+    | inr ne ↦ ap (filter p) (parts-other (records_of old) (records_of mid) part.n g _ _ edit (λ same. ne (sym part.file ∙ same)))
+  ]
+
+  -- .. of another type
+  pub passed-kind : (g : ℕ) (p : Part → Bool) → ((x : Part) → p x ≡ true → x.kind ≢ DATA)
+      → filter p (parts (records_of mid) g) ≡ filter p (parts (records_of old) g)
+  passed-kind g p other = passed g p (λ x is. other-kind g x.kind x.name (other x is))
+
+  pub at-same : (g kind : ℕ) (name : List ℕ) → same_key key (key_of g kind name) ≡ false
+      → parts_at mid g kind name ≡ parts_at old g kind name
+  at-same g kind name free = passed g (is_of kind name) (λ x is.
+      let both = and_parts (x.kind == kind) (bytes_eq x.name name) is in
+      ap (λ k. same_key key (key_of g k x.name)) (eqb-true x.kind kind both.0)
+      ∙ ap (λ n. same_key key (key_of g kind n)) ((bytes_eq-Decides x.name name).0 both.1) ∙ free)
+
+  pub at-kind : (g kind : ℕ) (name : List ℕ) → kind ≢ DATA → parts_at mid g kind name ≡ parts_at old g kind name
+  at-kind g kind name other = at-same g kind name (other-kind g kind name other)
+
+  -- WHAT PARTS TELL
+  none-told : (g : ℕ) (q : Told → Bool) → ((t : Told) → q t ≡ true → t.kind ≢ DATA) → key.file ≡ g → (xs : List Part)
+      → AreNamed (same_key key) (file_of part.n edit.was_record) xs → filter q (map told_by (filter is_first xs)) ≡ []
+  none-told g q other own xs named = filter-nil q (map told_by (filter is_first xs)) (λ t c.
+      let from = Contains-from_map told_by (filter is_first xs) t c in
+      let among = Contains-from_filter is_first xs from.0 from.1 in
+      false_from_ne_true (q t) (λ is.
+      never (subst (λ h. same_key key (key_of h from.0.kind from.0.name) ≡ true) (part.file ∙ own) (named from.0 among.0))
+      (other-kind g from.0.kind from.0.name (subst (λ (u : Told). u.kind ≢ DATA) (sym from.2) (other t is)))))
+
+  pub told-kept : (g : ℕ) (q : Told → Bool) → ((t : Told) → q t ≡ true → t.kind ≢ DATA)
+      → filter q (told_of mid g) ≡ filter q (told_of old g)
+  told-kept g q other = elim (cases_eq key.file g) [
+    | inl own ↦ Replaces-itself _ _ _ _
+        (none-told g q other own (parts_made part.n part.was) (clauses.was-named key old mid m m part)
+        ∙ sym (none-told g q other own (parts_made part.n part.now) (clauses.now-named key old mid m m part)))
+        (Replaces-filter q _ _ _ _ (Replaces-map told_by _ _ _ _ (Replaces-filter is_first _ _ _ _
+        (parts-own_at (records_of old) (records_of mid) part.n g _ _ edit (part.file ∙ own)))))
+    | inr ne ↦ ap (λ all. filter q (map told_by (filter is_first all)))
+        (parts-other (records_of old) (records_of mid) part.n g _ _ edit (λ same. ne (sym part.file ∙ same)))
+  ]
+
+  pub told_names-same : (g : ℕ) → told_names mid g ≡ told_names old g
+  told_names-same g = told-kept g is_name_told (λ t is stream. absurd (omega (arith, eqb-true t.kind FILE_NAME is, stream)))
+
+  pub names-same : (g : ℕ) → names_of (records_of mid) g ≡ names_of (records_of old) g
+  unfolding names_of
+  names-same g =
+      ap (filter_map (λ (x : Part). option_map name_in (content_value x.content)))
+      (passed-kind g is_file_name (λ x is stream. absurd (omega (arith, eqb-true x.kind FILE_NAME is, stream))))
+
+  -- NUMBERS, and records in use
+  pub numbers-same : (g : ℕ) → numbers_at (records_of mid) g ≡ numbers_at (records_of old) g
+  numbers-same = files.numbers-kept key old mid m m part
+
+  pub used-same : (n : ℕ) → is_some (record_on mid n) ≡ is_some (record_on old n)
+  used-same = used-kept (records_of old) (records_of mid) part.n _ _ edit
+
+  -- BLOCKS
+  pub high : 4 ≤ key.file
+  high = elim e.one.may [
+    | inl root ↦ omega (arith, root)
+    | inr above ↦ omega (arith, above)
+  ]
+
+  pub block-same : (n : ℕ) → n ≢ key.file → mid.block n ≡ old.block n
+  block-same = e.block.replaces.blocks
+
+  pub first-block : (n : ℕ) → n < 4 → mid.block n ≡ old.block n
+  first-block n few = block-same n (λ same. let h = high in absurd (omega (arith, same, few, h)))
+
+  pub first-copy : (n : ℕ) → n < 4 → mid.copy n ≡ old.copy n
+  first-copy n few = e.block.replaces.copies n few (λ same. let h = high in absurd (omega (arith, same, few, h)))
+
+  -- VALUES, but of the stream, and of the table and its mirror
+  pub clusters-same : (g kind : ℕ) (name : List ℕ) → is_table_key (key_of g kind name) ≡ false
+      → KeepsClusters old mid (parts_at old g kind name)
+  clusters-same = attribute-stays old mid e.block.replaces.clusters apart.owners apart.some apart.unnamed
+
+  pub value-same : (g kind : ℕ) (name : List ℕ) → same_key key (key_of g kind name) ≡ false → is_table_key (key_of g kind name) ≡ false
+      → value_on mid (parts_at mid g kind name) ≡ value_on old (parts_at old g kind name)
+  value-same g kind name free table =
+      ap (λ s. value_of_parts mid.cluster s (parts_at mid g kind name)) size
+      ∙ ap (value_of_parts mid.cluster (cluster_bytes old.layout)) (at-same g kind name free)
+      ∙ value-frame old.cluster mid.cluster (cluster_bytes old.layout) (parts_at old g kind name) (clusters-same g kind name table)
+
+  -- LISTS
+  list-clusters : (g vcn c : ℕ) → spot_at (filter is_list (parts (records_of old) g)) vcn ≡ At c → mid.cluster c ≡ old.cluster c
+  list-clusters g vcn c at =
+      let owned = spot_at-owned (filter is_list (parts (records_of old) g)) vcn c at in
+      let its = Contains-from_filter is_list (parts (records_of old) g) owned.0 owned.1 in
+      let kind = eqb-true owned.0.kind ATTRIBUTE_LIST its.1 in
+      part-stays old mid e.block.replaces.clusters apart.owners apart.some apart.unnamed g owned.0 c its.0
+      (ap (λ k. (k == DATA) && bytes_eq owned.0.name []) kind) owned.2
+
+  pub entries-same : (g : ℕ) → entries_of mid g ≡ entries_of old g
+  entries-same g =
+      ap list_entries
+      (ap (λ s. value_of_parts mid.cluster s (filter is_list (parts (records_of mid) g))) size
+      ∙ ap (value_of_parts mid.cluster (cluster_bytes old.layout))
+      (passed-kind g is_list (λ x is stream. absurd (omega (arith, eqb-true x.kind ATTRIBUTE_LIST is, stream))))
+      ∙ value-frame old.cluster mid.cluster (cluster_bytes old.layout) (filter is_list (parts (records_of old) g)) (list-clusters g))
+
+  -- THE LOG AND THE MARK
+  pub log-same : log_parts mid ≡ log_parts old
+  log-same = at-same LOG_FILE DATA [] (other-file LOG_FILE DATA [] (λ same. let h = high in absurd (omega (arith, same, h))))
+
+  pub log_bytes-same : log_bytes mid ≡ log_bytes old
+  unfolding log_bytes
+  log_bytes-same =
+      ap (λ xs. option_map_or (log_size mid) (first_part xs) 0) log-same
+      ∙ ap (λ g. option_map_or g (first_part (log_parts old)) 0) (fun_ext (λ (x : Part).
+      ap (λ b. if b && (is_some (content_extent x.content) && not (is_packed x.kind x.flags))
+      then option_map_or (λ extent. extent.sizes.initialized) (content_extent x.content) 0 else 0)
+      (used-same LOG_FILE)))
+
+  pub first_cost-same : first_cost mid ≡ first_cost old
+  first_cost-same =
+      ap (λ block. if option_map_or (λ bit. bit == 1) (option_map dirty_bit (first_value VOLUME_INFORMATION (attributes
+      (opened_of block)))) false then 0 else 2 + (log_bytes mid + 511) / 512) (first-block VOLUME (omega arith))
+      ∙ ap (λ (n : ℕ). if option_map_or (λ bit. bit == 1) (dirty_flag old) false then 0 else 2 + (n + 511) / 512) log_bytes-same

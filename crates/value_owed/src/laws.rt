@@ -1,0 +1,33 @@
+//! What a command leaves of a volume that edits one value of a stream and then sets its file, with nothing to run.
+ghost use Rattle.std.specs.Prelude.{◌≡◌, ℕ, None, true};
+ghost use Rattle.volume_def.specs.View.{VolumeView};
+ghost use Rattle.tree_model.specs.Bill.{bill_of};
+ghost use Rattle.tree_model.specs.Need.{empty_bill};
+ghost use Rattle.tree_model.specs.NoRoom.{no_room_for};
+ghost use Rattle.tree_model.specs.Staging.{is_built_for};
+ghost use Rattle.tree_model.specs.Subjects.{Located, NoName};
+ghost use Rattle.tree_model.specs.Tree.{Tree};
+ghost use Rattle.tree_model.specs.declared.command.Command.{Command};
+ghost use Rattle.session_def.specs.Done.{LeavesDone};
+ghost use Rattle.session_def.specs.Owed.{CallsOf, Owes};
+ghost use Rattle.session_def.specs.State.{State};
+ghost use Rattle.value_owed.specs.ValueOwed.{SetsBehindValue, edits_value};
+
+/// Where it is built for the volume its bill is the empty one (`bill`), so it is never refused for room (`room`).
+pub fn value_has_room()
+    ensures bill { (view : VolumeView) (tree : Tree) (command : Command) (at : Located) → edits_value command ≡ true → at.new ≡ NoName
+        → is_built_for view tree command at ≡ true → bill_of view tree command at ≡ empty_bill }
+    ensures room { (view : VolumeView) (tree : Tree) (command : Command) (at : Located) → edits_value command ≡ true → at.new ≡ NoName
+        → is_built_for view tree command at ≡ true → no_room_for view (bill_of view tree command at) ≡ None }
+{}
+
+/// Its calls together keep the promise of a call within its bill, which is empty, and name no more than it may change (`calls`). It shows
+/// of itself all that it owes beside (`owes`). So it leaves all that an edit that was done leaves (`leaves`).
+pub fn value_leaves()
+    ensures calls { (before next : State) (command : Command) (at : Located) (made : ℕ) (mid staged : VolumeView)
+        → SetsBehindValue before next command at mid staged → CallsOf before next command at made }
+    ensures owes { (before next : State) (command : Command) (at : Located) (made : ℕ) (mid staged : VolumeView)
+        → SetsBehindValue before next command at mid staged → Owes before next command at made }
+    ensures leaves { (before next : State) (command : Command) (at : Located) (made : ℕ) (mid staged : VolumeView)
+        → SetsBehindValue before next command at mid staged → LeavesDone before next command at made }
+{}
