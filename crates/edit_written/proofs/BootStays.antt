@@ -1,33 +1,21 @@
--- AN EDIT IN PLACE STAGED, in bytes: the boot sector and the first record are as they were, so the bytes are a volume with the same layout.
-use Rattle.std.proofs.Common.{◌≡◌, ◌+◌, ◌*◌, ◌/◌, ◌<◌, ◌≤◌, ◌==◌, ℕ, zero, suc, Bool, false, List, [], ◌∷◌, ◌++◌, length, Some, None}
-use Rattle.std.proofs.Common.{inr, refl, sym, ap, subst, ◌∙◌, arith}
+-- AN EDIT STAGED, in bytes: the boot sector and the first record are as they were, so the bytes are a volume with the same layout.
+use Rattle.std.proofs.Common.{◌≡◌, ◌+◌, ◌*◌, ◌/◌, ◌<◌, ◌≤◌, ℕ, zero, suc, List, [], ◌∷◌, ◌++◌, length, Some, None}
+use Rattle.std.proofs.Common.{refl, sym, ap, subst, ◌∙◌, arith}
 use Rattle.std.specs.List.{flat_map, range_with_len}
-use Rattle.std.specs.Str.{bytes_eq}
-use Rattle.std.proofs.lemmas.Bool.{and_parts, eqb-true}
-use Rattle.std.proofs.lemmas.Slice.Eq.{bytes_eq-Decides}
 use Rattle.vol_disk.specs.Contents.{sector_in}
 use Rattle.ntfs_def.specs.Boot.{boot_failing, boot_sector, cluster_sectors, mft_cluster}
 use Rattle.ntfs_def.specs.Fixup.{opened_of}
-use Rattle.ntfs_def.specs.declared.kinds.TheConstants.{DATA}
-use Rattle.ntfs_def.specs.declared.records.TheConstants.{BOOT, MFT}
-use Rattle.list_laws.proofs.MemberLaws.{Contains-from_filter}
 use Rattle.volume_def.specs.Blocks.{block_of, cluster_of}
-use Rattle.volume_def.specs.Files.{is_of, parts, parts_at, records_of}
 use Rattle.volume_def.specs.Sound.{HasLayout, IsSound, told_view}
-use Rattle.volume_def.specs.Sound.{Owners}
 use Rattle.volume_def.specs.Table.{IsRecord, TableLayout, TellsTable, first_record, two_sectors}
 use Rattle.volume_def.specs.View.{VolumeView}
 use Rattle.volume_def.proofs.BlockLaws.{block_of-whole}
 use Rattle.volume_edits.proofs.TableParts.{first-place, root-written}
 use Rattle.tree_model.specs.Facts.{IsVolumeOf}
-use Rattle.edit_def.specs.Kept.{Key, key_of}
-use Rattle.volume_mark.proofs.DiskLaws.{covered-by}
 use Rattle.volume_mark.proofs.SectorBytes.{length-sector_in}
-use Rattle.in_place.specs.InPlace.{Rewrites}
-use Rattle.in_place.specs.Unnamed.{LiesApart, NamesNoneOf}
-use Rattle.in_place.proofs.OtherClusters.{part-kept}
+use Rattle.in_place.specs.Unnamed.{LiesApart}
 use Rattle.in_place.proofs.StillApart.{apart-sound}
-use Rattle.edit_written.proofs.KeptRecords.{first-kept}
+use Rattle.edit_written.specs.LeavesAlone.{LeavesAlone}
 use Rattle.edit_written.proofs.SameBytes.{sector-long}
 
 -- the first pieces of two lists are the same where they are as long
@@ -67,8 +55,8 @@ boot-same (x ∷ old) [] long same = absurd (omega (arith, long))
 boot-same (x ∷ old) (y ∷ new) long same = same
 
 module _ (old : List ℕ) (layout : TableLayout) (has : HasLayout (sector_in (Some old)) (boot_sector old) (length old / 512) layout)
-    (sound : IsSound (told_view (sector_in (Some old)) layout)) (new : List ℕ) (long : length new ≡ length old) (changed : Key → Bool)
-    (w : Rewrites changed (told_view (sector_in (Some old)) layout) (told_view (sector_in (Some new)) layout)) where
+    (sound : IsSound (told_view (sector_in (Some old)) layout)) (new : List ℕ) (long : length new ≡ length old)
+    (alone : LeavesAlone (told_view (sector_in (Some old)) layout) (told_view (sector_in (Some new)) layout)) where
   abbrev disk : ℕ → List ℕ
   disk = sector_in (Some old)
 
@@ -93,20 +81,8 @@ module _ (old : List ℕ) (layout : TableLayout) (has : HasLayout (sector_in (So
   apart : LiesApart view
   apart = apart-sound disk (boot_sector old) layout has.table_clause short sound
 
-  -- cluster 0 belongs to $Boot
-  cluster-boot : changed (key_of BOOT DATA []) ≡ false → cluster_of disk' layout 0 ≡ cluster_of disk layout 0
-  cluster-boot free =
-      let c = covered-by (parts_at view BOOT DATA []) 0 ((sound Owners 0).boot refl) in
-      let its = Contains-from_filter (is_of DATA []) (parts (records_of view) BOOT) c.0 c.1 in
-      let p = and_parts (c.0.kind == DATA) (bytes_eq c.0.name []) its.1 in
-      let kind = eqb-true c.0.kind DATA p.0 in
-      let name = (bytes_eq-Decides c.0.name []).0 p.1 in
-      part-kept changed view next w apart.owners apart.some BOOT c.0 0 its.0
-      (ap (λ k. changed (key_of BOOT k c.0.name)) kind ∙ ap (λ n. changed (key_of BOOT DATA n)) name ∙ free) c.2
-      (inr ((λ q. omega (arith, q)), (λ q. omega (arith, q))))
-
-  boot-is : changed (key_of BOOT DATA []) ≡ false → boot_sector new ≡ boot_sector old
-  boot-is free = boot-same old new long (first-sector disk disk' layout apart.some (long-sector 0) (cluster-boot free))
+  boot-is : boot_sector new ≡ boot_sector old
+  boot-is = boot-same old new long (first-sector disk disk' layout apart.some (long-sector 0) alone.boot)
 
   -- block 0 is the first record
   block-is : (d : ℕ → List ℕ) → ((n : ℕ) → length (d n) ≡ length (disk n)) → block_of d layout 0 ≡ first_record d (boot_sector old)
@@ -121,35 +97,30 @@ module _ (old : List ℕ) (layout : TableLayout) (has : HasLayout (sector_in (So
       (omega (arith, written)) (small at) (small (at + 1))
       ∙ ap (λ p. two_sectors d (mft_cluster (boot_sector old) * p)) per_is
 
-  first-same : NamesNoneOf changed MFT → first_record disk' (boot_sector old) ≡ first_record disk (boot_sector old)
-  first-same free =
-      sym (block-is disk' long-sector) ∙ (first-kept changed view next w sound MFT (omega arith) free).block
-      ∙ block-is disk (λ n. refl)
+  first-same : first_record disk' (boot_sector old) ≡ first_record disk (boot_sector old)
+  first-same = sym (block-is disk' long-sector) ∙ alone.table ∙ block-is disk (λ n. refl)
 
-  pub has-layout : NamesNoneOf changed MFT → changed (key_of BOOT DATA []) ≡ false
-      → HasLayout disk' (boot_sector new) (length new / 512) layout
-  has-layout no_table no_boot =
+  pub has-layout : HasLayout disk' (boot_sector new) (length new / 512) layout
+  has-layout =
       let m = has.table_clause in
-      let first = first-same no_table in
       let at-old : HasLayout disk' (boot_sector old) (length new / 512) layout = record {
         boot_clause = subst (λ n. boot_failing (boot_sector old) (n / 512) ≡ None) (sym long) has.boot_clause;
         table_clause = record {
           volume = m.volume;
-          readable = subst IsRecord (sym first) m.readable;
-          table = subst (λ b. TellsTable (mft_cluster (boot_sector old)) (opened_of b) layout) (sym first) m.table;
+          readable = subst IsRecord (sym first-same) m.readable;
+          table = subst (λ b. TellsTable (mft_cluster (boot_sector old)) (opened_of b) layout) (sym first-same) m.table;
         };
       } in
-      subst (λ b. HasLayout disk' b (length new / 512) layout) (sym (boot-is no_boot)) at-old
+      subst (λ b. HasLayout disk' b (length new / 512) layout) (sym boot-is) at-old
 
-pub staged-volume : (changed : Key → Bool) (old : VolumeView) (before staged : List ℕ) → IsVolumeOf before old → IsSound old
-    → length staged ≡ length before → Rewrites changed old (told_view (sector_in (Some staged)) old.layout)
-    → NamesNoneOf changed MFT → changed (key_of BOOT DATA []) ≡ false
+pub staged-volume : (old : VolumeView) (before staged : List ℕ) → IsVolumeOf before old → IsSound old → length staged ≡ length before
+    → LeavesAlone old (told_view (sector_in (Some staged)) old.layout)
     → IsVolumeOf staged (told_view (sector_in (Some staged)) old.layout)
-staged-volume changed old before staged volume sound long w no_table no_boot =
-    let P : VolumeView → Type 0 = λ x. IsSound x → Rewrites changed x (told_view (sector_in (Some staged)) x.layout)
+staged-volume old before staged volume sound long alone =
+    let P : VolumeView → Type 0 = λ x. IsSound x → LeavesAlone x (told_view (sector_in (Some staged)) x.layout)
     → IsVolumeOf staged (told_view (sector_in (Some staged)) x.layout) in
-    subst P (sym volume.is) (λ s r. record {
+    subst P (sym volume.is) (λ s a. record {
       layout = volume.layout;
-      has = has-layout before volume.layout volume.has s staged long changed r no_table no_boot;
+      has = has-layout before volume.layout volume.has s staged long a;
       is = refl;
-    }) sound w
+    }) sound alone

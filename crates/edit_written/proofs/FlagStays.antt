@@ -1,19 +1,15 @@
--- THE FLAG of the volume lies where it lay, where no attribute of its record's file is named.
-use Rattle.std.proofs.Common.{◌≡◌, ◌+◌, ◌*◌, ◌/◌, ◌<◌, Bool, length, sym, ap, subst, ◌∙◌, arith}
+-- THE FLAG of the volume lies where it lay, where its record is left alone.
+use Rattle.std.proofs.Common.{◌≡◌, ◌+◌, ◌*◌, ◌/◌, ◌<◌, length, sym, ap, subst, ◌∙◌}
 use Rattle.ntfs_def.specs.Attribute.{attribute_place, attributes, value_offset}
 use Rattle.ntfs_def.specs.Fixup.{opened_of}
 use Rattle.ntfs_def.specs.declared.records.TheConstants.{VOLUME}
 use Rattle.volume_def.specs.Blocks.{mirror_sector, table_place}
-use Rattle.volume_def.specs.Sound.{IsSound}
 use Rattle.volume_def.specs.Table.{TableLayout}
 use Rattle.volume_def.specs.VersionClause.{IsVersionAt}
 use Rattle.volume_def.specs.View.{VolumeView}
-use Rattle.edit_def.specs.Kept.{Key}
 use Rattle.mark_write.specs.declared.flag.Flag.{Flag}
 use Rattle.volume_mark.specs.Mark.{IsFlagOf}
-use Rattle.in_place.specs.InPlace.{Rewrites}
-use Rattle.in_place.specs.Unnamed.{NamesNoneOf}
-use Rattle.edit_written.proofs.KeptRecords.{first-kept}
+use Rattle.edit_written.specs.LeavesAlone.{LeavesAlone}
 
 -- where record 3 and the layout are the same
 flag-there : (old new : VolumeView) (flag : Flag) → new.block VOLUME ≡ old.block VOLUME → new.layout ≡ old.layout → IsFlagOf old flag
@@ -31,7 +27,5 @@ flag-there old new flag block layout f = record {
   at = f.at;
 }
 
-pub staged-flag : (changed : Key → Bool) (old new : VolumeView) (flag : Flag) → Rewrites changed old new → IsSound old
-    → NamesNoneOf changed VOLUME → IsFlagOf old flag → IsFlagOf new flag
-staged-flag changed old new flag w sound free f =
-    flag-there old new flag (first-kept changed old new w sound VOLUME (omega arith) free).block w.layout f
+pub staged-flag : (old new : VolumeView) (flag : Flag) → LeavesAlone old new → IsFlagOf old flag → IsFlagOf new flag
+staged-flag old new flag alone = flag-there old new flag alone.volume alone.layout

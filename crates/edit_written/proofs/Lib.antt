@@ -1,4 +1,6 @@
 pub mod KeptRecords
+pub mod LeftAlone
+pub mod ValueLeftAlone
 pub mod SameBytes
 pub mod BootStays
 pub mod FlagStays

@@ -1,5 +1,5 @@
-//! Laws with nothing to run: the bytes of an edit in place, staged and written.
-ghost use Rattle.std.specs.Prelude.{◌≡◌, ℕ, Bool, List, Some, [], false, length};
+//! Laws with nothing to run: the bytes of an edit, staged and written.
+ghost use Rattle.std.specs.Prelude.{◌≡◌, ◌≢◌, ℕ, Bool, List, Some, [], false, length};
 ghost use Rattle.vol_disk.specs.Contents.{sector_in};
 ghost use Rattle.ntfs_def.specs.declared.kinds.TheConstants.{DATA};
 ghost use Rattle.ntfs_def.specs.declared.records.TheConstants.{BOOT, LOG_FILE, MFT, UPCASE, VOLUME};
@@ -16,32 +16,42 @@ ghost use Rattle.in_place.specs.Behind.{MarksBehind};
 ghost use Rattle.in_place.specs.InPlace.{Rewrites};
 ghost use Rattle.in_place.specs.Unnamed.{LiesApart, NamesNoneOf};
 ghost use Rattle.record_edits.specs.InPlace.{NamesNoRoom};
+ghost use Rattle.value_edits.specs.ValueEdits.{EditsValue};
 ghost use Rattle.edit_written.specs.Finished.{IsFinished, IsPlaceOf};
+ghost use Rattle.edit_written.specs.LeavesAlone.{LeavesAlone};
 
-/// Bytes as long as those of a sound volume, of which values were rewritten, none of `$MFT` and not the boot sectors, are the volume that
-/// they tell with its layout (`volume`). Where none of `$Volume` was, its flag lies where it lay (`flag`).
-pub fn staged_laws()
-    ensures volume { (changed : Key → Bool) (old : VolumeView) (before staged : List ℕ) → IsVolumeOf before old → IsSound old
-        → length staged ≡ length before → Rewrites changed old (told_view (sector_in (Some staged)) old.layout)
-        → NamesNoneOf changed MFT → changed (key_of BOOT DATA []) ≡ false
-        → IsVolumeOf staged (told_view (sector_in (Some staged)) old.layout) }
-    ensures flag { (changed : Key → Bool) (old new : VolumeView) (flag : Flag) → Rewrites changed old new → IsSound old
-        → NamesNoneOf changed VOLUME → IsFlagOf old flag → IsFlagOf new flag }
+/// What tells where a volume lies, its flag, its log, its bits and its table of case are left alone: by a rewrite of values that names none
+/// of them (`rewritten`), by the edit of one value of a file that is not the table of case (`value_edited`), and by two such edits, one
+/// after the other (`both`).
+pub fn left_alone()
+    ensures rewritten { (changed : Key → Bool) (old new : VolumeView) → Rewrites changed old new → IsSound old → LiesApart old
+        → NamesNoneOf changed MFT → NamesNoneOf changed VOLUME → changed (key_of BOOT DATA []) ≡ false
+        → changed (key_of LOG_FILE DATA []) ≡ false → NamesNoRoom changed → changed (key_of UPCASE DATA []) ≡ false
+        → LeavesAlone old new }
+    ensures both { (old mid new : VolumeView) → LeavesAlone old mid → LeavesAlone mid new → LeavesAlone old new }
+    ensures value_edited { (key : Key) (old new : VolumeView) → LiesApart old → EditsValue key old new → key.file ≢ UPCASE
+        → LeavesAlone old new }
 {}
 
-/// What was written of such an edit, which rewrites nothing of `$Volume` and nothing of the log, is what was staged, but for the mark and
-/// the log (`agrees`), and what comes behind an edit: the first mark, or nothing (`behind`). The bits and the table of case that are stored are
-/// as they were (`stored`).
+/// Bytes as long as those of a sound volume, of which an edit leaves alone what tells where it lies, are the volume that they tell with its
+/// layout (`volume`), and its flag lies where it lay (`flag`).
+pub fn staged_laws()
+    ensures volume { (old : VolumeView) (before staged : List ℕ) → IsVolumeOf before old → IsSound old → length staged ≡ length before
+        → LeavesAlone old (told_view (sector_in (Some staged)) old.layout)
+        → IsVolumeOf staged (told_view (sector_in (Some staged)) old.layout) }
+    ensures flag { (old new : VolumeView) (flag : Flag) → LeavesAlone old new → IsFlagOf old flag → IsFlagOf new flag }
+{}
+
+/// What was written of such an edit is what was staged, but for the mark and the log (`agrees`), and what comes behind an edit: the first
+/// mark, or nothing (`behind`). The bits and the table of case that are stored are as they were (`stored`).
 pub fn written_laws()
-    ensures agrees { (changed : Key → Bool) (old new : VolumeView) (before staged written : List ℕ) (flag : Flag) (marked : Bool)
-        (spans : List Span) → IsVolumeOf before old → IsSound old → Rewrites changed old new → NamesNoneOf changed VOLUME
-        → changed (key_of LOG_FILE DATA []) ≡ false → IsVolumeOf staged new → IsSound new → IsPlaceOf old before flag marked spans
+    ensures agrees { (old new : VolumeView) (before staged written : List ℕ) (flag : Flag) (marked : Bool) (spans : List Span)
+        → LeavesAlone old new → IsVolumeOf staged new → IsSound new → IsPlaceOf old before flag marked spans
         → IsFinished flag marked spans staged written → AgreesButMark new flag staged written }
-    ensures behind { (changed : Key → Bool) (old new : VolumeView) (before staged written : List ℕ) (flag : Flag) (marked : Bool)
-        (spans : List Span) → IsVolumeOf before old → IsSound old → Rewrites changed old new → NamesNoneOf changed VOLUME
-        → changed (key_of LOG_FILE DATA []) ≡ false → IsVolumeOf staged new → IsSound new → IsPlaceOf old before flag marked spans
-        → IsFinished flag marked spans staged written → MarksBehind new (told_view (sector_in (Some written)) new.layout) }
-    ensures stored { (changed : Key → Bool) (old new next : VolumeView) (clusters records : List Bool) (upcase : List ℕ)
-        → Rewrites changed old new → LiesApart old → NamesNoRoom changed → changed (key_of UPCASE DATA []) ≡ false
+    ensures behind { (old new : VolumeView) (before staged written : List ℕ) (flag : Flag) (marked : Bool) (spans : List Span)
+        → IsVolumeOf before old → IsSound old → LeavesAlone old new → IsVolumeOf staged new → IsSound new
+        → IsPlaceOf old before flag marked spans → IsFinished flag marked spans staged written
+        → MarksBehind new (told_view (sector_in (Some written)) new.layout) }
+    ensures stored { (old new next : VolumeView) (clusters records : List Bool) (upcase : List ℕ) → LeavesAlone old new
         → MarksBehind new next → AreStored old clusters records upcase → AreStored next clusters records upcase }
 {}

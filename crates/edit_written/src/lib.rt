@@ -1,6 +1,6 @@
-//! An edit in place that was staged and written: from its bytes to what is said of the volume. Laws with nothing to run.
+//! An edit that was staged and written: from its bytes to what is said of the volume. Laws with nothing to run.
 #![tactic(auto)]
 
 mod laws;
 
-pub use laws::{staged_laws, written_laws};
+pub use laws::{left_alone, staged_laws, written_laws};

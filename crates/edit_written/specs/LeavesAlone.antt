@@ -1,0 +1,23 @@
+-- WHAT AN EDIT LEAVES ALONE, whatever it writes beside: where the volume and its table lie, its flag, its log, and the bits and the table
+-- of case that are stored. It is all that is to be known of an edit whose bytes are staged and written behind the mark.
+use Rattle.std.specs.Prelude.{◌≡◌}
+use Rattle.ntfs_def.specs.declared.records.TheConstants.{MFT, VOLUME}
+use Rattle.volume_def.specs.BitmapClauses.{cluster_bits, record_bits}
+use Rattle.volume_def.specs.CaseClause.{case_parts}
+use Rattle.volume_def.specs.Values.{KeepsClusters, value_on}
+use Rattle.volume_def.specs.View.{VolumeView}
+use Rattle.session_def.specs.Cost.{log_bytes, log_parts}
+
+-- The first record tells where the table lies, the record of `$Volume` has the flag, and cluster 0 begins with the boot sector. Of the log
+-- its parts stay, as many bytes of it are emptied, and its clusters hold what they held.
+pub record LeavesAlone (old new : VolumeView) : Type 0 where
+  pub layout : new.layout ≡ old.layout
+  pub table : new.block MFT ≡ old.block MFT
+  pub volume : new.block VOLUME ≡ old.block VOLUME
+  pub boot : new.cluster 0 ≡ old.cluster 0
+  pub log : log_parts new ≡ log_parts old
+  pub emptied : log_bytes new ≡ log_bytes old
+  pub log_clusters : KeepsClusters old new (log_parts old)
+  pub cluster_value : value_on new (cluster_bits new) ≡ value_on old (cluster_bits old)
+  pub record_value : value_on new (record_bits new) ≡ value_on old (record_bits old)
+  pub case_value : value_on new (case_parts new) ≡ value_on old (case_parts old)
