@@ -11,7 +11,7 @@ use Rattle.volume_def.specs.View.{VolumeView}
 use Rattle.list_laws.proofs.FindLaws.{passing, some-counted}
 use Rattle.tree_model.specs.Reading.{node_at, read}
 use Rattle.tree_model.specs.Subjects.{Located}
-use Rattle.tree_model.specs.Tree.{is_in}
+use Rattle.tree_model.specs.Tree.{Tree, is_in}
 use Rattle.tree_model.specs.declared.command.Command.{Command}
 use Rattle.tree_model.specs.declared.tree.Node.{Node}
 use Rattle.tree_model.specs.declared.tree.Link.{Link}
@@ -19,7 +19,6 @@ use Rattle.tree_model.proofs.HiddenLaws.{hidden-system}
 use Rattle.tree_model.proofs.NamesLaws.{is_shown}
 use Rattle.tree_model.proofs.ShownLaws.{link-named}
 use Rattle.session_def.specs.Named.{every_link, has_entry_of, leads_among}
-use Rattle.session_def.specs.State.{Stands, State}
 use Rattle.in_place.specs.Unnamed.{NamesNoneOf}
 use Rattle.in_place_owed.specs.SetsInPlace.{edits_in_place, is_set_key}
 use Rattle.in_place_owed.proofs.CostLaws.{link-among}
@@ -55,14 +54,14 @@ entry-high view f high n has =
     only true e = e
     only false e = e
 
-pub firsts-free : (before : State) → Stands before → (command : Command) (at : Located) → edits_in_place command ≡ true → (node : Node)
-    → node_at before.view at.file ≡ Some node
-    → ((name : FileName) → Contains (names_of (records_of before.view) at.file) name → 4 ≤ name.parent.number)
-    → (n : ℕ) → n < 4 → NamesNoneOf (is_set_key before.machine.tree command at) n
-firsts-free before stands command at is node there high n few =
+pub firsts-free : (view : VolumeView) (tree : Tree) → read view ≡ tree → (command : Command) (at : Located)
+    → edits_in_place command ≡ true → (node : Node) → node_at view at.file ≡ Some node
+    → ((name : FileName) → Contains (names_of (records_of view) at.file) name → 4 ≤ name.parent.number)
+    → (n : ℕ) → n < 4 → NamesNoneOf (is_set_key tree command at) n
+firsts-free view tree reading command at is node there high n few =
     let f = at.file in
-    let above = file-high before.view f node there in
-    let none : has_entry_of (read before.view) (f ∷ []) n ≡ false = false_from_ne_true (has_entry_of (read before.view) (f ∷ []) n)
-    (λ has. let least = entry-high before.view f high n has in omega (arith, least, few)) in
-    none-of before.machine.tree command at n is (rw (ne_eqb f n (λ e. omega (arith, above, few, e))) refl)
-    (subst (λ tree. has_entry_of tree (f ∷ []) n ≡ false) stands.reading none)
+    let above = file-high view f node there in
+    let none : has_entry_of (read view) (f ∷ []) n ≡ false = false_from_ne_true (has_entry_of (read view) (f ∷ []) n)
+    (λ has. let least = entry-high view f high n has in omega (arith, least, few)) in
+    none-of tree command at n is (rw (ne_eqb f n (λ e. omega (arith, above, few, e))) refl)
+    (subst (λ tree. has_entry_of tree (f ∷ []) n ≡ false) reading none)

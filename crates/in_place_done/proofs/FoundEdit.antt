@@ -1,16 +1,21 @@
--- A COMMAND THAT IS DONE IN PLACE, whose words led to a file that can be edited.
+-- A COMMAND THAT IS DONE, whose words led to a file that can be edited.
 use Rattle.std.proofs.Common.{◌≡◌, ◌&&◌, ◌||◌, not, ◌≤◌, ℕ, Bool, true, false, Some, Ok, length, refl, sym, ap, subst, ◌∙◌}
-use Rattle.std.proofs.lemmas.Bool.{or_parts}
+use Rattle.std.proofs.lemmas.Bool.{and_parts, or_parts}
 use Rattle.std.specs.List.{Contains}
+use Rattle.std.specs.Prelude.{is_some}
 use Rattle.ntfs_def.specs.FileName.{FileName}
 use Rattle.volume_def.specs.FileNames.{names_of}
 use Rattle.volume_def.specs.Files.{records_of}
 use Rattle.volume_def.specs.Table.{cluster_bytes}
+use Rattle.volume_def.specs.Values.{first_part}
 use Rattle.volume_def.specs.View.{VolumeView}
 use Rattle.tree_model.specs.Cases.{packed}
+use Rattle.tree_model.specs.Effects.{makes_file}
 use Rattle.tree_model.specs.Refusals.{Facts, is_edit}
-use Rattle.tree_model.specs.Staging.{cannot_edit, goes_over_bytes}
+use Rattle.tree_model.specs.Staging.{cannot_edit, gets_no_longer, has_no_list, is_built_for, is_value_alone}
+use Rattle.tree_model.specs.StreamRoom.{stream_parts, stream_value}
 use Rattle.tree_model.specs.Subjects.{Located, Machine, locate, subject_of}
+use Rattle.tree_model.specs.Tree.{Tree}
 use Rattle.tree_model.specs.declared.command.Command.{Command}
 use Rattle.tree_model.specs.declared.command.Command.TheVariants as c
 use Rattle.tree_model.specs.declared.tree.Node.{Node}
@@ -19,10 +24,9 @@ use Rattle.session_def.specs.State.{State}
 use Rattle.command_edits.specs.Allowed.{IsAllowed}
 use Rattle.command_edits.proofs.AllowedCommands.{allowed}
 use Rattle.attribute_edits.specs.Attributes.{CanSet}
-use Rattle.in_place_owed.specs.SetsInPlace.{edits_in_place}
-use Rattle.in_place_done.specs.Written.{FindsFile}
+use Rattle.in_place_done.specs.Written.{FindsFile, is_done}
 use Rattle.in_place_done.proofs.FoundFile.{has-content, leads-there}
-use Rattle.in_place_done.proofs.HeldStream.{HoldsStream, stream-held}
+use Rattle.in_place_done.proofs.HeldStream.{HoldsStream, over-some, stream-held, value-some}
 use Rattle.in_place_done.proofs.StagedVolume.{CanBeEdited}
 use Rattle.in_place_done.proofs.TreeBehind.{node-there}
 
@@ -30,24 +34,51 @@ not-false : (b : Bool) → not b ≡ false → b ≡ true
 not-false true e = refl
 not-false false e = cc
 
-is-edit : (command : Command) → edits_in_place command ≡ true → is_edit command ≡ true
+is-edit : (command : Command) → is_done command ≡ true → is_edit command ≡ true
 is-edit (c.Setattr path flags) is = refl
 is-edit (c.Write path stream from bytes) is = refl
 is-edit (c.Hwrite handle from bytes) is = refl
+is-edit (c.Punch path stream from len) is = refl
+is-edit (c.Truncate path stream size) is = refl
+is-edit (c.Rmstream path name) is = refl
+is-edit (c.Setsec path id) is = refl
 is-edit other is = cc
 
--- the stream that a write names
+-- what makes no file
+pub makes-none : (command : Command) → is_done command ≡ true → makes_file command ≡ true → ⊥
+makes-none (c.Create path) is makes = cc
+makes-none (c.Mkdir path) is makes = cc
+makes-none other is makes = cc
+
+-- a stream that is cut or goes is a value
+alone-some : (view : VolumeView) (tree : Tree) (at : Located) → is_value_alone view tree at ≡ true
+    → is_some (first_part (stream_parts view tree at)) ≡ true
+alone-some view tree at built =
+    value-some (stream_parts view tree at)
+    (and_parts (is_some (stream_value (stream_parts view tree at))) (has_no_list view at.file) built).0
+
+-- the stream that a command names
 stream-of : (view : VolumeView) (m : Machine) (session : ℕ) (command : Command) (at : Located) (node : Node) → at.node ≡ Some node
-    → edits_in_place command ≡ true → edits_stream command ≡ true → locate m session (subject_of command) ≡ Ok at
-    → packed (subject_of command) at ≡ false → goes_over_bytes view m.tree command at ≡ true → HoldsStream m.tree at node
-stream-of view m session (c.Setattr path flags) at node there is edits found plain over = cc
-stream-of view m session (c.Write path stream from bytes) at node there is edits found plain over =
-    stream-held view m.tree at node (cluster_bytes view.layout) from (length bytes) there
-    (has-content m session (c.Write path stream from bytes) at refl refl found) plain over
-stream-of view m session (c.Hwrite handle from bytes) at node there is edits found plain over =
-    stream-held view m.tree at node (cluster_bytes view.layout) from (length bytes) there
-    (has-content m session (c.Hwrite handle from bytes) at refl refl found) plain over
-stream-of view m session other at node there is edits found plain over = cc
+    → is_done command ≡ true → edits_stream command ≡ true → locate m session (subject_of command) ≡ Ok at
+    → packed (subject_of command) at ≡ false → is_built_for view m.tree command at ≡ true → HoldsStream m.tree at node
+stream-of view m session (c.Setattr path flags) at node there is edits found plain built = cc
+stream-of view m session (c.Write path stream from bytes) at node there is edits found plain built =
+    stream-held view m.tree at node there (has-content m session (c.Write path stream from bytes) at refl refl found) plain
+    (over-some (cluster_bytes view.layout) (stream_parts view m.tree at) from (length bytes) built)
+stream-of view m session (c.Hwrite handle from bytes) at node there is edits found plain built =
+    stream-held view m.tree at node there (has-content m session (c.Hwrite handle from bytes) at refl refl found) plain
+    (over-some (cluster_bytes view.layout) (stream_parts view m.tree at) from (length bytes) built)
+stream-of view m session (c.Punch path stream from len) at node there is edits found plain built =
+    stream-held view m.tree at node there (has-content m session (c.Punch path stream from len) at refl refl found) plain
+    (value-some (stream_parts view m.tree at) built)
+stream-of view m session (c.Truncate path stream size) at node there is edits found plain built =
+    stream-held view m.tree at node there (has-content m session (c.Truncate path stream size) at refl refl found) plain
+    (alone-some view m.tree at (and_parts (is_value_alone view m.tree at) (gets_no_longer size at.content) built).0)
+stream-of view m session (c.Rmstream path name) at node there is edits found plain built =
+    stream-held view m.tree at node there (has-content m session (c.Rmstream path name) at refl refl found) plain
+    (alone-some view m.tree at built)
+stream-of view m session (c.Setsec path id) at node there is edits found plain built = cc
+stream-of view m session other at node there is edits found plain built = cc
 
 module _ (facts : Facts) (before : State) (session : ℕ) (command : Command) (f : ℕ) (node : Node)
     (finds : FindsFile facts before session command f node) where
@@ -60,30 +91,29 @@ module _ (facts : Facts) (before : State) (session : ℕ) (command : Command) (f
   can : CanSet before.view at.file node
   can = subst (λ g. CanSet before.view g node) (sym finds.file) finds.can
 
-  -- its bytes go over bytes
-  over : goes_over_bytes before.view before.machine.tree command at ≡ true
-  over =
-      let whole =
-      sym (ap (λ b. b && (cannot_edit facts.whole_table before.machine.tree at.file || not (facts.over before.machine command at)))
-      (is-edit command finds.edits)) ∙ allows.whole in
-      let test = or_parts (cannot_edit facts.whole_table before.machine.tree at.file) (not (facts.over before.machine command at)) whole in
-      sym (finds.told.over before.machine command at) ∙ not-false (facts.over before.machine command at) test.1
+  -- it is built for the volume: its bytes go over bytes, what is punched, cut or goes is a value, and an id has its place
+  built : is_built_for before.view before.machine.tree command at ≡ true
+  built =
+      let cannot = cannot_edit facts.whole_table before.machine.tree at.file in
+      let is_for = facts.built_for before.machine command at in
+      let whole = sym (ap (λ b. b && (cannot || not is_for)) (is-edit command finds.edits)) ∙ allows.whole in
+      sym (finds.told.built_for before.machine command at) ∙ not-false is_for (or_parts cannot (not is_for) whole).1
 
   there : at.node ≡ Some node
   there = (leads-there before.machine session command at finds.edits allows.located).node
       ∙ node-there before finds.stands at.file node can.there
 
-  -- the stream of a write
+  -- its stream, where it names one
   stream : edits_stream command ≡ true → HoldsStream before.machine.tree at node
   stream edits =
-      stream-of before.view before.machine session command at node there finds.edits edits allows.located allows.plain over
+      stream-of before.view before.machine session command at node there finds.edits edits allows.located allows.plain built
 
   pub can-be-edited : CanBeEdited before command at node
   can-be-edited = record {
     stands = finds.stands;
     edits = finds.edits;
     none = (leads-there before.machine session command at finds.edits allows.located).new;
-    over = over;
+    built = built;
     can = can;
     shown = finds.shown;
     high =

@@ -1,4 +1,4 @@
--- WHAT THE WORDS OF A COMMAND LEAD TO that is done in place: a file that is there, and nothing new.
+-- WHAT THE WORDS OF A COMMAND LEAD TO that is done: a file that is there, and nothing new.
 use Rattle.std.proofs.Common.{◌≡◌, ℕ, true, List, Option, Some, None, Result, Ok, Err, refl, subst}
 use Rattle.tree_model.specs.Paths.{and_then, resolve}
 use Rattle.tree_model.specs.Subjects.{Located, Machine, NoName, at_file, at_found, at_open, content_named, locate, locate_path, stream_name}
@@ -10,7 +10,7 @@ use Rattle.tree_model.specs.declared.opens.OpenEntry.{OpenEntry}
 use Rattle.tree_model.specs.declared.reply.No.{No}
 use Rattle.tree_model.specs.declared.tree.Found.{Found}
 use Rattle.session_def.specs.Nodes.{edits_stream}
-use Rattle.in_place_owed.specs.SetsInPlace.{edits_in_place}
+use Rattle.in_place_done.specs.Written.{is_done}
 
 -- they name nothing new, and the node is the file's
 pub record LeadsThere (tree : Tree) (at : Located) : Type 0 where
@@ -47,20 +47,34 @@ open-there tree (Some entry) at e =
     subst (λ (b : Located). LeadsThere tree b × HasContent tree b)
     (ok-same (with_stream tree entry.stream (at_file tree None entry.file)) at e) (record { new = refl; node = refl }, refl)
 
-pub leads-there : (m : Machine) (session : ℕ) (command : Command) (at : Located) → edits_in_place command ≡ true
+pub leads-there : (m : Machine) (session : ℕ) (command : Command) (at : Located) → is_done command ≡ true
     → locate m session (subject_of command) ≡ Ok at → LeadsThere m.tree at
 unfolding locate
 leads-there m session (c.Setattr path flags) at is e = path-there m.tree path at e
 leads-there m session (c.Write path stream from bytes) at is e =
     (stream-there m.tree (stream_name stream) (locate_path m.tree path) at (path-there m.tree path) e).0
 leads-there m session (c.Hwrite handle from bytes) at is e = (open-there m.tree _ at e).0
+leads-there m session (c.Punch path stream from len) at is e =
+    (stream-there m.tree (stream_name stream) (locate_path m.tree path) at (path-there m.tree path) e).0
+leads-there m session (c.Truncate path stream size) at is e =
+    (stream-there m.tree (stream_name stream) (locate_path m.tree path) at (path-there m.tree path) e).0
+leads-there m session (c.Rmstream path name) at is e =
+    (stream-there m.tree name (locate_path m.tree path) at (path-there m.tree path) e).0
+leads-there m session (c.Setsec path id) at is e = path-there m.tree path at e
 leads-there m session other at is e = cc
 
-pub has-content : (m : Machine) (session : ℕ) (command : Command) (at : Located) → edits_in_place command ≡ true
+pub has-content : (m : Machine) (session : ℕ) (command : Command) (at : Located) → is_done command ≡ true
     → edits_stream command ≡ true → locate m session (subject_of command) ≡ Ok at → HasContent m.tree at
 unfolding locate
 has-content m session (c.Setattr path flags) at is edits e = cc
 has-content m session (c.Write path stream from bytes) at is edits e =
     (stream-there m.tree (stream_name stream) (locate_path m.tree path) at (path-there m.tree path) e).1
 has-content m session (c.Hwrite handle from bytes) at is edits e = (open-there m.tree _ at e).1
+has-content m session (c.Punch path stream from len) at is edits e =
+    (stream-there m.tree (stream_name stream) (locate_path m.tree path) at (path-there m.tree path) e).1
+has-content m session (c.Truncate path stream size) at is edits e =
+    (stream-there m.tree (stream_name stream) (locate_path m.tree path) at (path-there m.tree path) e).1
+has-content m session (c.Rmstream path name) at is edits e =
+    (stream-there m.tree name (locate_path m.tree path) at (path-there m.tree path) e).1
+has-content m session (c.Setsec path id) at is edits e = cc
 has-content m session other at is edits e = cc

@@ -1,9 +1,9 @@
--- WHAT A COMMAND DONE IN PLACE LEAVES that was staged and written.
-use Rattle.std.proofs.Common.{◌≡◌, ◌≤◌, ◌+◌, ℕ, Bool, true, List, Some, length, refl, sym, ap, subst, ◌∙◌}
+-- WHAT A COMMAND THAT WAS DONE LEAVES, staged and written.
+use Rattle.std.proofs.Common.{◌≡◌, ◌≤◌, ◌+◌, ℕ, Bool, List, Some, inl, inr, length, refl, sym, ap, subst, ◌∙◌}
+use Rattle.std.proofs.lemmas.Bool.{or_cases}
 use Rattle.vol_disk.specs.Contents.{sector_in}
 use Rattle.volume_def.specs.Sound.{IsSound, told_view}
 use Rattle.volume_def.specs.View.{VolumeView}
-use Rattle.tree_model.specs.Effects.{makes_file}
 use Rattle.tree_model.specs.Facts.{IsVolumeOf}
 use Rattle.tree_model.specs.Refusals.{Facts}
 use Rattle.tree_model.specs.Subjects.{Located}
@@ -17,27 +17,25 @@ use Rattle.mark_write.specs.declared.log.Span.{Span}
 use Rattle.volume_mark.specs.SameVolume.{IsSameVolume}
 use Rattle.volume_mark.proofs.MarkLaws.{mark-law}
 use Rattle.in_place.specs.Behind.{MarksBehind}
-use Rattle.in_place_owed.proofs.InPlaceCommands.{does-little}
-use Rattle.in_place_owed.proofs.Owes as owed
+use Rattle.in_place_owed.specs.SetsInPlace.{edits_in_place}
+use Rattle.value_owed.specs.ValueOwed.{edits_value}
 use Rattle.edit_written.specs.Finished.{IsFinished, IsPlaceOf}
 use Rattle.in_place_done.specs.Written.{FindsFile, LeavesEdit, Stages, StagesEdit, machine_behind, most_written}
-use Rattle.in_place_done.proofs.CommandsStaged.{is-staged, set-in-place}
-use Rattle.in_place_done.proofs.FoundEdit.{can-be-edited}
-use Rattle.in_place_done.proofs.StagedVolume.{CanBeEdited, IsStaged, staged_view}
+use Rattle.in_place_done.proofs.CommandsStaged.{place-written}
+use Rattle.in_place_done.proofs.FoundEdit.{can-be-edited, makes-none}
+use Rattle.in_place_done.proofs.StagedVolume.{CanBeEdited, CanBeWritten, staged_view}
+use Rattle.in_place_done.proofs.ValueWritten.{value-written}
 use Rattle.in_place_done.proofs.WrittenBytes.{IsWritten, is-written}
 
 module _ (facts : Facts) (before : State) (session : ℕ) (command : Command) (f : ℕ) (node : Node)
     (finds : FindsFile facts before session command f node) (flag : Flag) (staged written : List ℕ)
-    (long : length staged ≡ length before.image) (s : IsStaged before command finds.at (staged_view before staged))
+    (long : length staged ≡ length before.image) (s : CanBeWritten before command finds.at (staged_view before staged))
     (w : IsWritten before flag staged written) where
   abbrev at : Located
   at = finds.at
 
   abbrev new : VolumeView
   new = staged_view before staged
-
-  can : CanBeEdited before command at node
-  can = can-be-edited facts before session command f node finds
 
   -- the bytes that were written are the same volume
   same : IsSameVolume new flag written
@@ -67,14 +65,17 @@ module _ (facts : Facts) (before : State) (session : ℕ) (command : Command) (f
       → next.written ≤ before.written + most_written before command at.file
       → EditDone facts before session command next × HasEmptyLog next.view
   done next image volume moved wrote =
-      let leaves = owed.leaves before next command at 0 new (set-in-place before command at node new can s next
-      (first next image volume) (settled next image volume) (as-long next image volume) wrote) in (
-        record { at = at; found = finds.found; made = 0; fresh = λ makes. absurd (makes-none makes); moved = moved; leaves = leaves },
+      let leaves = s.leaves next (first next image volume) (settled next image volume) (as-long next image volume) wrote in (
+        record {
+          at = at;
+          found = finds.found;
+          made = 0;
+          fresh = λ makes. absurd (makes-none command finds.edits makes);
+          moved = moved;
+          leaves = leaves;
+        },
         leaves.log,
       )
-    where
-      makes-none : makes_file command ≡ true → ⊥
-      makes-none makes = let none = (does-little before.machine.tree command at can.edits).makes in cc
 
   -- ALL OF IT
   pub leaves-written : LeavesEdit facts before session command at flag staged written
@@ -90,6 +91,14 @@ module _ (facts : Facts) (before : State) (session : ℕ) (command : Command) (f
     done = done;
   }
 
+-- WHAT WAS STAGED can be written, whichever way the command is done.
+can-be-written : (before : State) (command : Command) (at : Located) (node : Node) (new : VolumeView) → CanBeEdited before command at node
+    → Stages before command at at.file node new → CanBeWritten before command at new
+can-be-written before command at node new is stages = elim (or_cases (edits_in_place command) (edits_value command) is.edits) [
+  | inl place ↦ place-written before command at node new place is stages
+  | inr value ↦ value-written before command at node new value is stages
+]
+
 -- where it was written behind the mark
 pub leaves : (facts : Facts) (before : State) (session : ℕ) (command : Command) (f : ℕ) (node : Node) (flag : Flag)
     (marked : Bool) (spans : List Span) (staged written : List ℕ)
@@ -99,6 +108,6 @@ pub leaves : (facts : Facts) (before : State) (session : ℕ) (command : Command
 leaves facts before session command f node flag marked spans staged written finds s place finished =
     let can = can-be-edited facts before session command f node finds in
     let stages = subst (λ g. Stages before command finds.at g node (staged_view before staged)) (sym finds.file) s.stages in
-    let is = is-staged before command finds.at node (staged_view before staged) can stages in
+    let is = can-be-written before command finds.at node (staged_view before staged) can stages in
     leaves-written facts before session command f node finds flag staged written s.long is
-    (is-written before command finds.at node staged can is s.long flag marked spans written place finished)
+    (is-written before staged finds.stands is.sound is.alone s.long flag marked spans written place finished)

@@ -1,6 +1,6 @@
 -- WHAT IS NAMED by the names of the file is named by the entries of the tree too.
-use Rattle.std.proofs.Common.{◌≡◌, ◌==◌, ◌&&◌, ◌||◌, ℕ, Bool, true, false, List, [], ◌∷◌, codes, length, inl, inr, sym, ap, subst, ◌∙◌}
-use Rattle.std.proofs.lemmas.Bool.{and_from, and_parts, eq-eqb, eqb-true, false_from_ne_true, or_cases, or_left, or_right}
+use Rattle.std.proofs.Common.{◌≡◌, ◌==◌, ◌&&◌, ◌||◌, ℕ, true, false, List, [], ◌∷◌, codes, length, inl, inr, sym, ap, subst, ◌∙◌}
+use Rattle.std.proofs.lemmas.Bool.{and_from, and_parts, eq-eqb, eqb-true, or_cases, or_left, or_right}
 use Rattle.std.proofs.lemmas.Slice.Eq.{bytes_eq-Decides}
 use Rattle.std.specs.List.{Contains}
 use Rattle.std.specs.Str.{bytes_eq}
@@ -10,7 +10,6 @@ use Rattle.ntfs_def.specs.declared.kinds.TheConstants.{STANDARD_INFORMATION}
 use Rattle.volume_def.specs.FileNames.{names_of}
 use Rattle.volume_def.specs.Files.{records_of}
 use Rattle.volume_def.specs.Readable.{IsFile}
-use Rattle.volume_def.specs.View.{VolumeView}
 use Rattle.list_laws.proofs.FindLaws.{passing, some-counted}
 use Rattle.list_laws.proofs.MemberLaws.{Contains-from_map}
 use Rattle.tree_model.specs.Subjects.{Located}
@@ -18,8 +17,6 @@ use Rattle.tree_model.specs.declared.command.Command.{Command}
 use Rattle.edit_def.specs.Kept.{Key, key_of, same_key}
 use Rattle.session_def.specs.Named.{has_entry_of, is_one_of, is_own_key, is_times_key}
 use Rattle.session_def.specs.State.{Stands, State}
-use Rattle.in_place.specs.InPlace.{Rewrites}
-use Rattle.in_place.proofs.RewriteLaws.{Rewrites-more}
 use Rattle.attribute_edits.specs.Attributes as edits
 use Rattle.in_place_owed.specs.SetsInPlace.{is_entries_key, is_node_kind, is_set_key}
 use Rattle.in_place_owed.proofs.EntryThere.{entry-there}
@@ -33,7 +30,7 @@ dir-named names dir e =
     (w.0, w.1, w.2 ∙ eqb-true x.0 dir x.2)
 
 -- $STANDARD_INFORMATION of the file is that of which its time is told
-times-named : (f : ℕ) (key : Key) → same_key (key_of f STANDARD_INFORMATION []) key ≡ true → is_times_key (f ∷ []) key ≡ true
+pub times-named : (f : ℕ) (key : Key) → same_key (key_of f STANDARD_INFORMATION []) key ≡ true → is_times_key (f ∷ []) key ≡ true
 times-named f key e =
     let a = and_parts (STANDARD_INFORMATION == key.kind) ((f == key.file) && bytes_eq [] key.name) e in
     let b = and_parts (f == key.file) (bytes_eq [] key.name) a.1 in
@@ -69,18 +66,8 @@ told-named before stands f file key named = elim (or_cases (same_key (key_of f S
           (entries-named before stands f file key told)
     ]
 
-named-more : (before : State) → Stands before → (command : Command) (at : Located) → IsFile before.view at.file → (key : Key)
-    → is_set_key before.machine.tree command at key ≡ false → edits.is_set_key before.view at.file key ≡ false
-named-more before stands command at file key free = false_from_ne_true (edits.is_set_key before.view at.file key) (λ named.
-    never (or_right (is_own_key before.machine.tree command at 0 key) _ (told-named before stands at.file file key named)) free)
-  where
-    never : {b : Bool} → b ≡ true → b ≡ false → ⊥
-    never x y = cc
-
--- A REWRITE of the one is a rewrite of the other, whatever else the command names.
-pub rewrites-more : (before : State) → Stands before → (command : Command) (at : Located) → IsFile before.view at.file
-    → (staged : VolumeView) → Rewrites (edits.is_set_key before.view at.file) before.view staged
-    → Rewrites (is_set_key before.machine.tree command at) before.view staged
-rewrites-more before stands command at file staged w =
-    Rewrites-more (edits.is_set_key before.view at.file) (is_set_key before.machine.tree command at) before.view staged
-    (named-more before stands command at file) w
+-- .. whatever else the command names
+pub set-named : (before : State) → Stands before → (command : Command) (at : Located) → IsFile before.view at.file → (key : Key)
+    → edits.is_set_key before.view at.file key ≡ true → is_set_key before.machine.tree command at key ≡ true
+set-named before stands command at file key named =
+    or_right (is_own_key before.machine.tree command at 0 key) _ (told-named before stands at.file file key named)

@@ -1,4 +1,5 @@
--- THE TREE BEHIND THE COMMAND: the file's node has its flags, or the bytes of its stream, and the moment as times.
+-- THE TREE BEHIND THE COMMAND: the file's node has its flags, its security id, the bytes of its stream, or it no more, and the moment as
+-- times.
 use Rattle.std.proofs.Common.{◌≡◌, ◌&&◌, not, ℕ, Bool, true, false, cond, List, Option, Some, None, refl, sym, ap, ◌∙◌, if◌then◌else◌}
 use Rattle.std.proofs.lemmas.Nat.{and_assoc}
 use Rattle.std.specs.Cmp.{nat_cmp_total}
@@ -9,10 +10,10 @@ use Rattle.ntfs_def.specs.StandardInformation.{dos_flags}
 use Rattle.volume_def.specs.CaseClause.{volume_fold}
 use Rattle.volume_def.specs.Files.{Record, is_base, parts, record_on, records_of}
 use Rattle.volume_def.specs.View.{VolumeView}
-use Rattle.tree_model.specs.Effects.{changed_node, put_stream, stamped, touched, tree_after}
+use Rattle.tree_model.specs.Effects.{changed, changed_node, drop_stream, put_stream, stamped, touched, tree_after}
 use Rattle.tree_model.specs.Hidden.{is_hidden}
 use Rattle.tree_model.specs.Reading.{node_at, node_by, node_on, read, standard_of, tree_nodes}
-use Rattle.tree_model.specs.Streams.{with_bytes}
+use Rattle.tree_model.specs.Streams.{with_bytes, without_stream}
 use Rattle.tree_model.specs.Subjects.{Located, Machine}
 use Rattle.tree_model.specs.Tree.{Tree, node_of}
 use Rattle.tree_model.specs.declared.command.Command.TheVariants as c
@@ -20,6 +21,7 @@ use Rattle.tree_model.specs.declared.tree.Node.{Node}
 use Rattle.tree_model.specs.declared.tree.TheConstants.{SHOWN_FLAGS}
 use Rattle.tree_model.proofs.ReadingLaws.{node_of-read}
 use Rattle.session_def.specs.State.{Stands, State}
+use Rattle.reading_edits.specs.Steps.{with_node}
 
 pub nodes-read : (view : VolumeView) → (read view).nodes ≡ tree_nodes view
 unfolding read
@@ -28,6 +30,9 @@ nodes-read view = refl
 pub fold-read : (view : VolumeView) → (read view).fold ≡ volume_fold view
 unfolding read
 fold-read view = refl
+
+pub fold-same : (before : State) → Stands before → volume_fold before.view ≡ before.machine.tree.fold
+fold-same before stands = sym (fold-read before.view) ∙ ap (λ (tree : Tree). tree.fold) stands.reading
 
 -- A NODE has no flags but those that are shown.
 pub node-shown : (view : VolumeView) (f : ℕ) (node : Node) → node_at view f ≡ Some node → bit_and node.flags SHOWN_FLAGS ≡ node.flags
@@ -61,6 +66,17 @@ insert-again nodes f a b = finmap.same_map nat_cmp_total finmap.nat_cmp-IsAntisy
     twice : (test : Bool) (o : Option Node) → cond test (Some b) (cond test (Some a) o) ≡ cond test (Some b) o
     twice true o = refl
     twice false o = refl
+
+-- so two steps that each put in the file are one
+pub reads-twice : (old mid new : VolumeView) (f : ℕ) (first last : Node) → read mid ≡ with_node f first (read old)
+    → read new ≡ record (read mid) { nodes = finmap.insert (tree_nodes mid) f last }
+    → read new ≡ record (read old) { nodes = finmap.insert (tree_nodes old) f last }
+reads-twice old mid new f first last once again =
+    again
+    ∙ ap (λ nodes. record (read mid) { nodes = finmap.insert nodes f last }) (sym (nodes-read mid))
+    ∙ ap (λ (tree : Tree). record tree { nodes = finmap.insert tree.nodes f last }) once
+    ∙ ap (λ nodes. record (read old) { nodes = nodes }) (insert-again (read old).nodes f first last)
+    ∙ ap (λ nodes. record (read old) { nodes = finmap.insert nodes f last }) (nodes-read old)
 
 -- the node is that of the machine's tree
 pub node-there : (before : State) → Stands before → (f : ℕ) (node : Node) → node_at before.view f ≡ Some node
@@ -97,14 +113,43 @@ reads-set before stands path flags at node there new reads =
     reads ∙ with-node before stands at.file (set_node before.machine flags node)
     ∙ sym (after-set before.machine path flags at node (node-there before stands at.file node there))
 
+-- THE SECURITY ID of a file that has it now, at this moment
+abbrev pub secured_node : Machine → ℕ → Node → Node
+secured_node m id node = record node { times = slice_set node.times 2 m.now; security = id }
+
+after-secured : (m : Machine) (path : List (List ℕ)) (id : ℕ) (at : Located) (node : Node) → node_of m.tree at.file ≡ Some node
+    → tree_after m (c.Setsec path id) at 0
+    ≡ record m.tree { nodes = finmap.insert m.tree.nodes at.file (secured_node m id node) }
+unfolding tree_after
+after-secured m path id at node there =
+    ap (changed_node m.tree at.file (λ (n : Node). stamped m.now (record n { security = id }))) there
+
+pub reads-secured : (before : State) → Stands before → (path : List (List ℕ)) (id : ℕ) (at : Located) (node : Node)
+    → node_at before.view at.file ≡ Some node → (new : VolumeView)
+    → read new ≡ record (read before.view) {
+      nodes = finmap.insert (tree_nodes before.view) at.file (secured_node before.machine id node);
+    }
+    → read new ≡ tree_after before.machine (c.Setsec path id) at 0
+reads-secured before stands path id at node there new reads =
+    reads ∙ with-node before stands at.file (secured_node before.machine id node)
+    ∙ sym (after-secured before.machine path id at node (node-there before stands at.file node there))
+
+-- ANY CHANGE of the file
+pub reads-changed : (before : State) → Stands before → (f : ℕ) (change : Node → Node) (node : Node) → node_at before.view f ≡ Some node
+    → (new : VolumeView)
+    → read new ≡ record (read before.view) { nodes = finmap.insert (tree_nodes before.view) f (change node) }
+    → read new ≡ changed f change before.machine.tree
+reads-changed before stands f change node there new reads =
+    reads ∙ with-node before stands f (change node)
+    ∙ sym (ap (changed_node before.machine.tree f change) (node-there before stands f node there))
+
 -- BYTES of the stream, and the moment
 abbrev pub put_node : Machine → Located → List ℕ → Node → Node
 put_node m at bytes node = touched m.now (with_bytes m.tree.fold at.stream bytes node)
 
-after-put : (m : Machine) (at : Located) (bytes : List ℕ) (node : Node) → node_of m.tree at.file ≡ Some node
-    → put_stream m.now at bytes m.tree ≡ record m.tree { nodes = finmap.insert m.tree.nodes at.file (put_node m at bytes node) }
-after-put m at bytes node there =
-    ap (changed_node m.tree at.file (λ (n : Node). touched m.now (with_bytes m.tree.fold at.stream bytes n))) there
+-- .. and the stream gone
+abbrev pub dropped_node : Machine → Located → Node → Node
+dropped_node m at node = touched m.now (without_stream m.tree.fold at.stream node)
 
 pub reads-put : (before : State) → Stands before → (at : Located) (bytes : List ℕ) (node : Node)
     → node_at before.view at.file ≡ Some node → (new : VolumeView)
@@ -113,5 +158,13 @@ pub reads-put : (before : State) → Stands before → (at : Located) (bytes : L
     }
     → read new ≡ put_stream before.machine.now at bytes before.machine.tree
 reads-put before stands at bytes node there new reads =
-    reads ∙ with-node before stands at.file (put_node before.machine at bytes node)
-    ∙ sym (after-put before.machine at bytes node (node-there before stands at.file node there))
+    reads-changed before stands at.file (put_node before.machine at bytes) node there new reads
+
+pub reads-dropped : (before : State) → Stands before → (at : Located) (node : Node)
+    → node_at before.view at.file ≡ Some node → (new : VolumeView)
+    → read new ≡ record (read before.view) {
+      nodes = finmap.insert (tree_nodes before.view) at.file (dropped_node before.machine at node);
+    }
+    → read new ≡ drop_stream before.machine.now at before.machine.tree
+reads-dropped before stands at node there new reads =
+    reads-changed before stands at.file (dropped_node before.machine at) node there new reads

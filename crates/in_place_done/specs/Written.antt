@@ -1,5 +1,7 @@
--- AN EDIT IN PLACE THAT WAS STAGED, AND WRITTEN: bytes of a stream that went over bytes, and times and flags of a file that were set.
-use Rattle.std.specs.Prelude.{◌≡◌, ◌+◌, ◌*◌, ◌/◌, ◌≤◌, ℕ, Bool, List, Contains, Ok, Some, bit_and, length, slice_set, true}
+-- AN EDIT THAT WAS STAGED, AND WRITTEN. One in place: bytes of a stream that went over bytes, a range of a value that was made zero, and
+-- times, flags and the security id of a file that were set. Or one of a value: a stream that was cut, or went.
+use Rattle.std.specs.Prelude.{◌≡◌, ◌||◌, ◌+◌, ◌*◌, ◌/◌, ◌^◌, ◌<◌, ◌≤◌, ℕ, Bool, List, Contains, Ok, Option, None, Some, bit_and, length}
+use Rattle.std.specs.Prelude.{slice_set, true}
 use Rattle.vol_disk.specs.Contents.{sector_in}
 use Rattle.ntfs_def.specs.FileName.{FileName}
 use Rattle.ntfs_def.specs.Units.{units_in}
@@ -9,10 +11,12 @@ use Rattle.volume_def.specs.Files.{records_of}
 use Rattle.volume_def.specs.Sound.{IsSound, told_view}
 use Rattle.volume_def.specs.View.{VolumeView}
 use Rattle.mft_table.specs.HeldTables.{AreStored}
+use Rattle.tree_model.specs.Answers.{bytes_at}
 use Rattle.tree_model.specs.Effects.{after, touched}
 use Rattle.tree_model.specs.Facts.{IsVolumeOf, TellsFacts}
 use Rattle.tree_model.specs.Reading.{read}
 use Rattle.tree_model.specs.Refusals.{Facts, outcome}
+use Rattle.tree_model.specs.Streams.{resized}
 use Rattle.tree_model.specs.Subjects.{Located, Machine}
 use Rattle.tree_model.specs.declared.command.Command.{Command}
 use Rattle.tree_model.specs.declared.command.Command.TheVariants as c
@@ -27,20 +31,27 @@ use Rattle.mark_write.specs.declared.flag.Flag.{Flag}
 use Rattle.stream_edits.specs.Streams.{IsThere}
 use Rattle.volume_mark.specs.Mark.{IsFlagOf}
 use Rattle.volume_mark.specs.SameVolume.{AgreesButMark}
-use Rattle.attribute_edits.specs.Attributes.{CanSet, SetsAttributes}
-use Rattle.stream_overwrites.specs.Overwritten.{WritesOver}
+use Rattle.attribute_edits.specs.Attributes.{CanSet, SetsAttributes, SetsSecurity}
+use Rattle.stream_overwrites.specs.Overwritten.{PunchesValue, WritesOver}
 use Rattle.in_place_owed.specs.SetsInPlace.{edits_in_place}
+use Rattle.value_edits.specs.ValueEdits.{PutsStream}
+use Rattle.value_owed.specs.ValueOwed.{edits_value}
 
--- a command sets no flags but those that are shown
+-- a command sets no flags but those that are shown, and a security id of four bytes
 abbrev pub SetsShown : Command → Type 0
 SetsShown (c.Setattr path flags) = bit_and flags SHOWN_FLAGS ≡ flags
+SetsShown (c.Setsec path id) = id < 2 ^ 32
 SetsShown other = Unit {0}
 
--- The command, one that is done in place, found file f, which is this node.
+-- THE COMMANDS: those that are done in place, and those that edit one value
+abbrev pub is_done : Command → Bool
+is_done command = edits_in_place command || edits_value command
+
+-- The command, one of these, found file f, which is this node.
 pub record FindsFile (facts : Facts) (before : State) (session : ℕ) (command : Command) (f : ℕ) (node : Node) : Type 0 where
   pub stands : Stands before
   pub told : TellsFacts before.view facts
-  pub edits : edits_in_place command ≡ true
+  pub edits : is_done command ≡ true
   pub at : Located
   pub found : outcome facts before.machine session command ≡ Ok at
   pub file : at.file ≡ f
@@ -58,11 +69,33 @@ pub record WritesStream (before : State) (at : Located) (f : ℕ) (node : Node) 
   pub tellable : AreTellable (told_of before.view f)
   pub writes : WritesOver before.view new f name from bytes (touched before.machine.now node).times node.flags
 
--- WHAT THE COMMAND STAGES: the bytes of a write; of `setattr` the flags, and the moment as the time at which the file's record changed.
+-- A RANGE OF THE STREAM WAS MADE ZERO, which is a value, as far as it lies below the size. Then the moment was set as those times too.
+pub record PunchesStream (before : State) (at : Located) (f : ℕ) (node : Node) (from len : ℕ) (new : VolumeView) : Type 0 where
+  pub name : List ℕ
+  pub spelt_so : units_in name ≡ spelt before.machine.tree at
+  pub there : IsThere before.view (key_of f DATA name)
+  pub tellable : AreTellable (told_of before.view f)
+  pub punches : PunchesValue before.view new f name from len (touched before.machine.now node).times node.flags
+
+-- THE STREAM, which is a value, HAS THESE BYTES, or goes. Then the moment was set as those times too.
+pub record EditsStream (before : State) (at : Located) (f : ℕ) (node : Node) (bytes : Option (List ℕ)) (new : VolumeView) : Type 0 where
+  pub name : List ℕ
+  pub spelt_so : units_in name ≡ spelt before.machine.tree at
+  pub there : IsThere before.view (key_of f DATA name)
+  pub tellable : AreTellable (told_of before.view f)
+  pub puts : PutsStream before.view new f name bytes (touched before.machine.now node).times node.flags
+
+-- WHAT THE COMMAND STAGES: the bytes of a write, the zeros of a punch, the stream cut by `truncate` or gone by `rmstream`; of `setattr` the
+-- flags, and of `setsec` the id, with the moment as the time at which the file's record changed.
 abbrev pub Stages : State → Command → Located → ℕ → Node → VolumeView → Type 0
 Stages before (c.Setattr path flags) at f node new = SetsAttributes before.view new f (slice_set node.times 2 before.machine.now) flags
 Stages before (c.Write path stream from bytes) at f node new = WritesStream before at f node from bytes new
 Stages before (c.Hwrite handle from bytes) at f node new = WritesStream before at f node from bytes new
+Stages before (c.Punch path stream from len) at f node new = PunchesStream before at f node from len new
+Stages before (c.Truncate path stream size) at f node new = EditsStream before at f node (Some (resized size (bytes_at at))) new
+Stages before (c.Rmstream path name) at f node new = EditsStream before at f node None new
+Stages before (c.Setsec path id) at f node new =
+    SetsSecurity before.view new f id (slice_set node.times 2 before.machine.now) node.flags
 Stages before other at f node new = ⊥
 
 -- These bytes were staged: the volume that they tell is what the command stages.
@@ -74,11 +107,11 @@ pub record StagesEdit (before : State) (command : Command) (at : Located) (f : �
 abbrev pub machine_behind : State → ℕ → Command → Located → Machine
 machine_behind before session command at = after before.machine session command at 0
 
--- how many sectors the edit may write at most: the mark, the log, those that its bytes touch, a record with its copy, and twelve for each
--- name
+-- how many sectors the edit may write at most: the mark, the log, those that its bytes touch, records with their copies, and twelve for
+-- each name
 abbrev pub most_written : State → Command → ℕ → ℕ
 most_written before command f =
-    first_cost before.view + 8 + 12 * length (names_of (records_of before.view) f) + bytes_in command / 512
+    first_cost before.view + 12 + 12 * length (names_of (records_of before.view) f) + bytes_in command / 512
 
 -- WHAT IT LEAVES: a sound volume was staged that reads as the machine's tree, and what was written of it is all that an edit that was done
 -- leaves.
