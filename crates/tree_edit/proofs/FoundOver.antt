@@ -147,6 +147,15 @@ module _ {D : Type 0} (g : Ghosts D) (old new : Mft D g) (volume : IsInUse g old
         size_is = is ∙ ap (λ (v : VolumeView). cluster_bytes v.layout) (view-kept g old new reads only);
       }
 
+-- .. and its clusters have as many bytes as they have
+pub mounted-own : {D : Type 0} (g : Ghosts D) (old new : Mft D g) (volume : IsInUse g old) (mounted : Mounted)
+    (mounts : mounted ≡ mounted_of g new)
+    (reads : ℕ) (only : MftReads g old new reads) → IsTrue (view g old).told
+    → IsMountedAs (view g old) mounted (cluster_bytes (view g old).layout)
+mounted-own g old new volume mounted mounts reads only told =
+    let its = mounted-as g old new volume mounted mounts (cluster_bytes (view g new).layout) refl reads only told in
+    record { case = its.case; whole = its.whole; count = its.count; size_is = refl }
+
 -- THE VOLUME'S IMAGE, where its contents are told
 pub image-of : {D : Type 0} (g : Ghosts D) (old : Mft D g) → WhereTold (image g (stage_of g old)) (λ bytes. IsVolumeOf bytes (view g old))
     → IsTrue (view g old).told → (bytes : List ℕ) × IsVolumeOf bytes (view g old)

@@ -7,6 +7,19 @@ pub mod SetLaws
 pub mod SettableLaws
 mod FoundLaws
 mod StreamToWrite
+mod EditableLaws
 pub mod OverLaws
 mod FoundOver
+mod FoundPunch
+mod StoredLaws
 mod WriteOverLaws
+mod ValueLaws
+mod PutLaws
+pub mod PunchLaws
+mod SecureFound
+mod SecureLaws
+mod EditKept
+mod AloneFound
+mod ShorterValue
+mod CutPart
+pub mod CutLaws

@@ -63,7 +63,7 @@ module _ (view : VolumeView) (held : BaseFile) (n : IsNodeHeld view held) (name 
 
   -- it is there
   module _ (found : FoundStream) (is : IsStream view held.parts name found) where
-    content-is : content ≡ Some is.stream.content
+    pub content-is : content ≡ Some is.stream.content
     content-is = content-held view held n name ∙ ap (λ o. option_map (λ (s : Stream). s.content) o) is.sought
 
     pub there-directory : is_of_directory ≡ true → wanted ≡ Err no.IsDir

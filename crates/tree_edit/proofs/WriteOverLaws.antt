@@ -1,19 +1,14 @@
 -- BYTES WENT OVER BYTES of a stream, and then the attributes of its file are set.
-use Rattle.std.proofs.Common.{◌≡◌, ◌≢◌, ◌+◌, ◌*◌, ◌/◌, ◌%◌, ◌<◌, ◌≤◌, ◌==◌, ◌&&◌, ℕ, Bool, false, List, [], length, refl, sym, ap, subst, inl, inr, ◌∙◌, arith}
+use Rattle.std.proofs.Common.{◌≡◌, ◌+◌, ◌*◌, ◌/◌, ◌%◌, ◌<◌, ◌≤◌, ℕ, false, List, length, refl, sym, ap, subst, inl, inr, ◌∙◌, arith}
 use Rattle.std.specs.Prelude.{◌⊎◌, Contains, IsSome, IsTrue, filter, is_some, slice_index}
-use Rattle.std.specs.Str.{bytes_eq}
-use Rattle.std.proofs.lemmas.Bool.{and_left, and_right, ne_eqb}
-use Rattle.list_laws.specs.Bits.{flags_in}
 use Rattle.vol_disk.specs.declared.Disk.{Ghosts}
 use Rattle.vol_stage.specs.Staged.{StagesOnly, places}
-use Rattle.ntfs_def.specs.declared.kinds.TheConstants.{BITMAP, DATA}
-use Rattle.ntfs_def.specs.declared.records.TheConstants.{CLUSTER_BITMAP, MFT, MFT_MIRROR, UPCASE}
-use Rattle.volume_def.specs.BitmapClauses.{cluster_bits, record_bits}
+use Rattle.ntfs_def.specs.declared.kinds.TheConstants.{DATA}
+use Rattle.ntfs_def.specs.declared.records.TheConstants.{CLUSTER_BITMAP, UPCASE}
 use Rattle.volume_def.specs.CaseClause.{volume_fold}
 use Rattle.volume_def.specs.FileNames.{names_of}
 use Rattle.volume_def.specs.Files.{Part, Records, is_of, parts, parts_at, records_of}
-use Rattle.volume_def.specs.Table.{TableLayout}
-use Rattle.volume_def.specs.Values.{first_part, spot_at, value_on}
+use Rattle.volume_def.specs.Values.{first_part, spot_at}
 use Rattle.volume_def.specs.View.{VolumeView}
 use Rattle.volume_edits.specs.Clusters.{IsWritable}
 use Rattle.tree_model.specs.Cases.{is_packed}
@@ -25,16 +20,11 @@ use Rattle.tree_model.specs.declared.tree.Node.{Node}
 use Rattle.tree_model.specs.declared.tree.Stream.{Stream}
 use Rattle.edit_def.specs.Kept.{key_of, same_key}
 use Rattle.mft_table.specs.declared.mft.Mft.{Mft}
-use Rattle.mft_table.specs.HeldTables.{AreStored}
 use Rattle.mft_table.specs.InUse.{IsInUse, IsSoundVolume}
 use Rattle.mft_table.specs.Mft.{mounted_of, stage_of, view}
 use Rattle.file_record.specs.declared.parts.FileParts.{FileParts}
 use Rattle.file_record.specs.Held.{file_number, parts_held}
 use Rattle.index_store.specs.IndexBlocksMut.{KeepsDisk}
-use Rattle.in_place.specs.InPlace.{Rewrites}
-use Rattle.in_place.specs.Unnamed.{LiesApart}
-use Rattle.in_place.proofs.OtherClusters.{clusters-kept}
-use Rattle.in_place.proofs.PlacesSame.{value-other}
 use Rattle.attribute_edits.specs.Attributes.{SetsAttributes}
 use Rattle.attribute_edits.proofs.StandardVolume.{readable-sound}
 use Rattle.sparse_io.specs.declared.find.FoundStream.{FoundStream}
@@ -52,35 +42,7 @@ use Rattle.tree_edit.specs.Over.{CanWriteOver, IsOfStream, IsOverOf, StagesOver}
 use Rattle.tree_edit.specs.Staged.{IsOfFile, IsOfNames, StagesAttributes, StagesFew}
 use Rattle.tree_edit.proofs.StagedLaws.{directory-back, few-more, few-then, file-back}
 use Rattle.tree_edit.proofs.StepLaws.{write-still}
-
--- THE STORED BITS AND THE TABLE OF CASE stay, where a stream was rewritten that is none of theirs.
-module _ (old new : VolumeView) (f : ℕ) (name : List ℕ) (w : Rewrites (same_key (key_of f DATA name)) old new) (apart : LiesApart old)
-    (no_bitmap : f ≢ CLUSTER_BITMAP) (no_case : f ≢ UPCASE) where
-  other-file : (g : ℕ) → f ≢ g → same_key (key_of f DATA name) (key_of g DATA []) ≡ false
-  other-file g ne = and_right (DATA == DATA) ((f == g) && bytes_eq name []) (and_left (f == g) (bytes_eq name []) (ne_eqb f g ne))
-
-  same-value : (g kind : ℕ) → same_key (key_of f DATA name) (key_of g kind []) ≡ false → (kind ≢ DATA) ⊎ ((g ≢ MFT) × (g ≢ MFT_MIRROR))
-      → value_on new (parts_at new g kind []) ≡ value_on old (parts_at old g kind [])
-  same-value g kind free which =
-      value-other (same_key (key_of f DATA name)) old new w g kind [] free
-      (clusters-kept (same_key (key_of f DATA name)) old new w apart.owners apart.some g kind [] free which)
-
-  pub stored-still : (clusters records : List Bool) (upcase : List ℕ) → AreStored old clusters records upcase → AreStored new clusters records upcase
-  stored-still clusters records upcase stored =
-      let bits : value_on new (cluster_bits new) ≡ value_on old (cluster_bits old) =
-      same-value CLUSTER_BITMAP DATA (other-file CLUSTER_BITMAP no_bitmap) (inr ((λ e. absurd (omega (arith, e))), (λ e. absurd (omega (arith, e))))) in
-      let used : value_on new (record_bits new) ≡ value_on old (record_bits old) =
-      same-value MFT BITMAP refl (inl (λ e. absurd (omega (arith, e)))) in
-      record {
-        clusters_are = stored.clusters_are
-            ∙ sym (ap (flags_in (value_on new (cluster_bits new))) (ap (λ (l : TableLayout). l.clusters) w.layout)
-            ∙ ap (λ value. flags_in value old.layout.clusters) bits);
-        records_are = stored.records_are
-            ∙ sym (ap (flags_in (value_on new (record_bits new))) (ap (λ (l : TableLayout). l.count) w.layout)
-            ∙ ap (λ value. flags_in value old.layout.count) used);
-        upcase_is = stored.upcase_is
-            ∙ sym (same-value UPCASE DATA (other-file UPCASE no_case) (inr ((λ e. absurd (omega (arith, e))), (λ e. absurd (omega (arith, e))))));
-      }
+use Rattle.tree_edit.proofs.StoredLaws.{other-file, stored-still}
 
 plain-bytes : (content : Content) → is_packed content ≡ false → (bytes : List ℕ) × (content ≡ Plain bytes)
 plain-bytes (Plain bytes) e = (bytes, refl)
@@ -175,8 +137,9 @@ module _ {D : Type 0} (g : Ghosts D) (file : FileParts) (found : FoundStream) (f
         let before = told-a t in
         let may = can before in
         let done = after before may in
-        let stored = stored-still (view g a) (view g m) f may.is.part.name done.rewrites may.can.can.apart
-        (not-bitmap (view g a) f may.can.node may.can.can.there) (not-case (view g a) f may.can.node may.can.can.there)
+        let stored = stored-still (same_key (key_of f DATA may.is.part.name)) (view g a) (view g m) done.rewrites may.can.can.apart
+        (other-file f may.is.part.name CLUSTER_BITMAP (not-bitmap (view g a) f may.can.node may.can.can.there)) refl
+        (other-file f may.is.part.name UPCASE (not-case (view g a) f may.can.node may.can.can.there))
         (mounted_of g a).clusters (mounted_of g a).records (mounted_of g a).upcase (volume before).stored in
         subst (IsSoundVolume (view g m)) (sym disk.mounted) (record { sound = done.sound; stored = stored })
 

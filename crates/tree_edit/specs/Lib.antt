@@ -1,6 +1,11 @@
+pub mod Alone
+pub mod Cut
 pub mod Duplicated
 pub mod Links
 pub mod Over
+pub mod Punchable
+pub mod Securable
 pub mod Settable
 pub mod Staged
+pub mod Values
 pub mod Writable

@@ -123,19 +123,27 @@ pub record GivesBack (found : Writable) (held : BaseFile) (stream : FoundStream)
   pub flags : found.flags ≡ standard_flags (standard_of (parts_in held))
   pub names : AreNames (parts_in held)
 
--- THE BYTES CAN GO OVER those of the stream that was found, which is there: its file can be edited, is held, and these are its times and
--- flags; the names of its attributes can be told apart by their units.
-pub record IsWritable (view : VolumeView) (found : Writable) (name : List ℕ) (from len : ℕ) : Type 0 where
+-- THE STREAM THAT WAS FOUND CAN BE EDITED, where this says so of its file: it is there, its file can be edited, is held, and these are its
+-- times and flags; the names of its attributes can be told apart by their units.
+pub record IsFoundToEdit (view : VolumeView) (found : Writable) (name : List ℕ) (can : ℕ → Bool) : Type 0 where
   pub settable : IsSettable view (record { number = number_of found.held; times = found.times })
   pub held : IsNodeHeld view found.held
   pub stream : IsPlainStream view found.held name found.stream
   pub there : IsThere view (key_of (number_of found.held) DATA stream.is.part.name)
   pub flags : found.flags ≡ settable.can.node.flags
-  pub over : can_write_over view name from len (number_of found.held) ≡ true
+  pub over : can (number_of found.held) ≡ true
   pub tellable : AreTellable (told_of view (number_of found.held))
 
--- What is wanted of a file that is held: it can be written over on each image that tells this volume, or the refusal is due; memory may want.
+-- THE BYTES CAN GO OVER those of the stream that was found.
+abbrev pub IsWritable : VolumeView → Writable → List ℕ → ℕ → ℕ → Type 0
+IsWritable view found name from len = IsFoundToEdit view found name (λ file. can_write_over view name from len file)
+
+-- What is wanted of a file that is held: it can be edited so on each image that tells this volume, or the refusal is due; memory may want.
+abbrev pub DecidesEdit : (ℕ → Bool) → Result ℕ No → VolumeView → BaseFile → List ℕ → Result Writable No → Type 0
+DecidesEdit can wanted view held name (Ok found) =
+    (wanted ≡ Ok (number_of held)) × (found.held ≡ held) × ((bytes : List ℕ) → IsVolumeOf bytes view → IsFoundToEdit view found name can)
+DecidesEdit can wanted view held name (Err refused) = (wanted ≡ Err refused) ⊎ (refused ≡ no.Memory)
+
 abbrev pub DecidesWrite : Result ℕ No → VolumeView → BaseFile → List ℕ → ℕ → ℕ → Result Writable No → Type 0
-DecidesWrite wanted view held name from len (Ok found) =
-    (wanted ≡ Ok (number_of held)) × (found.held ≡ held) × ((bytes : List ℕ) → IsVolumeOf bytes view → IsWritable view found name from len)
-DecidesWrite wanted view held name from len (Err refused) = (wanted ≡ Err refused) ⊎ (refused ≡ no.Memory)
+DecidesWrite wanted view held name from len result = DecidesEdit
+    (λ file. can_write_over view name from len file) wanted view held name result

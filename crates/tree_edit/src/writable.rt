@@ -125,8 +125,8 @@ fn plain(held: &BaseFile, name: &Name, found: FoundStream) -> Result<Option<Foun
     Ok(Some(found))
 }
 
-// The stream of a name that is to be written, none where it would be made.
-fn stream_to_write(
+/// The stream of a name that is to be written, none where it would be made.
+pub fn stream_to_write(
     alloc: Global,
     held: &BaseFile,
     upcase: &UpCase,
@@ -143,8 +143,8 @@ fn stream_to_write(
     }
 }
 
-// Why a file is not written: an open of it that does not share writing.
-fn kept_from_writing(opens: &Opens, file: u64) -> Option<No>
+/// Why a file is not written: an open of it that does not share writing.
+pub fn kept_from_writing(opens: &Opens, file: u64) -> Option<No>
     ensures { result ≡ kept_from_writing opens.now file }
 {
     match opens.conflict(file, TO_WRITE, ALL_ACCESS) {
@@ -177,6 +177,21 @@ fn is_over(
     goes_over(alloc, &held.parts, stream, cluster_bytes, at, len)
 }
 
+/// The stream that was found in a file that is held, with the file's times and flags.
+pub fn given(held: BaseFile, stream: FoundStream) -> Writable
+    ensures { GivesBack result held stream }
+{
+    look_at_names(&held.parts);
+    let standard = read_standard(&held.parts);
+    let times = standard.times;
+    Writable {
+        held,
+        stream,
+        times,
+        flags: standard.flags,
+    }
+}
+
 // The stream that was found, where the bytes go over bytes of it.
 fn give_back(
     alloc: Global,
@@ -197,17 +212,7 @@ fn give_back(
     ensures inside { IfOk result (λ found. number_of found.held < length mounted.now.records) }
 {
     match is_over(alloc, mounted, cluster_bytes, &held, &stream, at, len) {
-        Ok(true) => {
-            look_at_names(&held.parts);
-            let standard = read_standard(&held.parts);
-            let times = standard.times;
-            Ok(Writable {
-                held,
-                stream,
-                times,
-                flags: standard.flags,
-            })
-        }
+        Ok(true) => Ok(given(held, stream)),
         Ok(false) => Err(No::Unbuilt),
         Err(_) => Err(No::Memory),
     }

@@ -1,0 +1,49 @@
+-- THE STORED BITS AND THE TABLE OF CASE stay, where attributes were rewritten that are none of theirs.
+use Rattle.std.proofs.Common.{◌≡◌, ◌≢◌, ◌==◌, ◌&&◌, ℕ, Bool, false, List, [], sym, ap, inl, inr, refl, ◌∙◌, arith}
+use Rattle.std.specs.Prelude.{◌⊎◌}
+use Rattle.std.specs.Str.{bytes_eq}
+use Rattle.std.proofs.lemmas.Bool.{and_left, and_right, ne_eqb}
+use Rattle.list_laws.specs.Bits.{flags_in}
+use Rattle.ntfs_def.specs.declared.kinds.TheConstants.{BITMAP, DATA}
+use Rattle.ntfs_def.specs.declared.records.TheConstants.{CLUSTER_BITMAP, MFT, MFT_MIRROR, UPCASE}
+use Rattle.volume_def.specs.BitmapClauses.{cluster_bits, record_bits}
+use Rattle.volume_def.specs.Files.{parts_at}
+use Rattle.volume_def.specs.Table.{TableLayout}
+use Rattle.volume_def.specs.Values.{value_on}
+use Rattle.volume_def.specs.View.{VolumeView}
+use Rattle.edit_def.specs.Kept.{Key, key_of, same_key}
+use Rattle.mft_table.specs.HeldTables.{AreStored}
+use Rattle.in_place.specs.InPlace.{Rewrites}
+use Rattle.in_place.specs.Unnamed.{LiesApart}
+use Rattle.in_place.proofs.OtherClusters.{clusters-kept}
+use Rattle.in_place.proofs.PlacesSame.{value-other}
+
+-- a stream of one file is none of another
+pub other-file : (f : ℕ) (name : List ℕ) (g : ℕ) → f ≢ g → same_key (key_of f DATA name) (key_of g DATA []) ≡ false
+other-file f name g ne = and_right (DATA == DATA) ((f == g) && bytes_eq name []) (and_left (f == g) (bytes_eq name []) (ne_eqb f g ne))
+
+module _ (changed : Key → Bool) (old new : VolumeView) (w : Rewrites changed old new) (apart : LiesApart old)
+    (bits_free : changed (key_of CLUSTER_BITMAP DATA []) ≡ false) (records_free : changed (key_of MFT BITMAP []) ≡ false)
+    (case_free : changed (key_of UPCASE DATA []) ≡ false) where
+  same-value : (g kind : ℕ) → changed (key_of g kind []) ≡ false → (kind ≢ DATA) ⊎ ((g ≢ MFT) × (g ≢ MFT_MIRROR))
+      → value_on new (parts_at new g kind []) ≡ value_on old (parts_at old g kind [])
+  same-value g kind free which =
+      value-other changed old new w g kind [] free (clusters-kept changed old new w apart.owners apart.some g kind [] free which)
+
+  pub stored-still : (clusters records : List Bool) (upcase : List ℕ) → AreStored old clusters records upcase
+      → AreStored new clusters records upcase
+  stored-still clusters records upcase stored =
+      let bits : value_on new (cluster_bits new) ≡ value_on old (cluster_bits old) =
+      same-value CLUSTER_BITMAP DATA bits_free (inr ((λ e. absurd (omega (arith, e))), (λ e. absurd (omega (arith, e))))) in
+      let used : value_on new (record_bits new) ≡ value_on old (record_bits old) =
+      same-value MFT BITMAP records_free (inl (λ e. absurd (omega (arith, e)))) in
+      record {
+        clusters_are = stored.clusters_are
+            ∙ sym (ap (flags_in (value_on new (cluster_bits new))) (ap (λ (l : TableLayout). l.clusters) w.layout)
+            ∙ ap (λ value. flags_in value old.layout.clusters) bits);
+        records_are = stored.records_are
+            ∙ sym (ap (flags_in (value_on new (record_bits new))) (ap (λ (l : TableLayout). l.count) w.layout)
+            ∙ ap (λ value. flags_in value old.layout.count) used);
+        upcase_is = stored.upcase_is
+            ∙ sym (same-value UPCASE DATA case_free (inr ((λ e. absurd (omega (arith, e))), (λ e. absurd (omega (arith, e))))));
+      }
