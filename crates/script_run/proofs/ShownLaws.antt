@@ -1,4 +1,4 @@
--- A LINE SETS NO FLAGS but those that are shown.
+-- A LINE SETS NO FLAGS but those that are shown, and an id of four bytes.
 use Rattle.tree_model.specs.declared.command.Command.{Command}
 use Rattle.tree_model.specs.declared.command.Command.TheVariants as c
 use Rattle.cmd_lang.specs.Sayable.{IsSayable}
@@ -24,7 +24,7 @@ sayable-shown (c.Streams path) says = tt
 sayable-shown (c.Rmstream path from) says = tt
 sayable-shown (c.Attr path) says = tt
 sayable-shown (c.Sec path) says = tt
-sayable-shown (c.Setsec path id) says = tt
+sayable-shown (c.Setsec path id) says = says.1
 sayable-shown (c.Sd id) says = tt
 sayable-shown (c.Reparse path) says = tt
 sayable-shown (c.Mkreparse path tag bytes) says = tt

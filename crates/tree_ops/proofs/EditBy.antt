@@ -1,6 +1,6 @@
 -- AN EDIT IS THAT OF A COMMAND: what it finds or refuses is what is due, and what it does is what the command stages.
 use Rattle.std.proofs.Common.{◌≡◌, ◌≤◌, ◌+◌, ◌/◌, ℕ, true, false, List, Ok, Err, inl, refl, sym, ap, ◌∙◌}
-use Rattle.std.specs.Prelude.{Contains}
+use Rattle.std.specs.Prelude.{Contains, IsTrue}
 use Rattle.ntfs_def.specs.FileName.{FileName}
 use Rattle.volume_def.specs.FileNames.{names_of}
 use Rattle.volume_def.specs.Files.{records_of}
@@ -21,8 +21,7 @@ use Rattle.session_def.specs.Cost.{bytes_in}
 use Rattle.session_def.specs.Session.{is_due_edit}
 use Rattle.session_def.specs.State.{State}
 use Rattle.attribute_edits.specs.Attributes.{CanSet}
-use Rattle.in_place_owed.specs.SetsInPlace.{edits_in_place}
-use Rattle.in_place_done.specs.Written.{Stages}
+use Rattle.in_place_done.specs.Written.{Stages, is_done}
 use Rattle.tree_ops.specs.Edits.{EditOf}
 use Rattle.tree_ops.specs.Wanted.{machine_on}
 
@@ -45,19 +44,19 @@ pub record StagesFile (v : VolumeView) (opens : List OpenEntry) (now : ℕ) (com
   pub stages : (image : List ℕ) (written : ℕ) → Stages (state_with image v opens now written) command at file node new
 
 pub record IsEditBy (v : VolumeView) (opens : List OpenEntry) (now session : ℕ) (command : Command) (edit : EditOf) : Type 0 where
-  pub edits : edits_in_place command ≡ true
+  pub edits : is_done command ≡ true
   pub is : is_edit command ≡ true
   pub makes : makes_file command ≡ false
-  pub found : (facts : Facts) → TellsFacts v facts → (file : ℕ) → edit.wanted v ≡ Ok file
+  pub found : IsTrue v.told → (facts : Facts) → TellsFacts v facts → (file : ℕ) → edit.wanted v ≡ Ok file
       → LeadsToFile facts (machine_on v opens now) session command file
-  pub refused : (facts : Facts) → TellsFacts v facts → (why : No) → edit.wanted v ≡ Err why
+  pub refused : IsTrue v.told → (facts : Facts) → TellsFacts v facts → (why : No) → edit.wanted v ≡ Err why
       → due facts (machine_on v opens now) session command ≡ Err why
   pub answer : (facts : Facts) → TellsFacts v facts → (at : Located) → answer_of facts (machine_on v opens now) session command at ≡ a.Done
-  pub stages : (facts : Facts) → (tells : TellsFacts v facts) → (file : ℕ) → (is : edit.wanted v ≡ Ok file) → (new : VolumeView)
-      → edit.Does v new file → StagesFile v opens now command (found facts tells file is).at file new
+  pub stages : (told : IsTrue v.told) → (facts : Facts) → (tells : TellsFacts v facts) → (file : ℕ) → (is : edit.wanted v ≡ Ok file)
+      → (new : VolumeView) → edit.Does v new file → StagesFile v opens now command (found told facts tells file is).at file new
   pub opens_stay : (at : Located) → (after (machine_on v opens now) session command at 0).opens ≡ opens
   pub moment_stays : (at : Located) → (after (machine_on v opens now) session command at 0).now ≡ now
-  pub few : edit.most + 2 ≤ 8 + bytes_in command / 512
+  pub few : edit.most + 2 ≤ 12 + bytes_in command / 512
 
 -- WHAT IS DUE is that it is done, where a file was found.
 module _ (v : VolumeView) (opens : List OpenEntry) (now session : ℕ) (command : Command) (edit : EditOf)

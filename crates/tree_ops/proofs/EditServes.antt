@@ -1,7 +1,6 @@
 -- A volume on which an edit was done serves still.
 use Rattle.std.proofs.Common.{◌≡◌, ◌*◌, ℕ, List, length, Option, Some, None, sym, ap, subst, ◌∙◌}
 use Rattle.std.specs.Prelude.{IfSome, IsTrue, is_some}
-use Rattle.volume_def.specs.View.{VolumeView}
 use Rattle.vol_disk.specs.Contents.{IsTold, WhereTold}
 use Rattle.vol_disk.specs.declared.Disk.{Ghosts}
 use Rattle.vol_stage.specs.Staged.{image}
@@ -30,7 +29,7 @@ use Rattle.tree_ops.proofs.EditVolume as edited
 
 module _ {D : Type 0} (g : Ghosts D) (sized : (disk : D) → IfSome (g.now disk) (λ all. length all ≡ 512 * g.size disk))
     (old new : Volume D g) (session : ℕ) (command : Command) (edit : EditOf) (shown : SetsShown command)
-    (is_by : (v : VolumeView) → IsEditBy v (opens_of g old) (moment_of g old) session command edit) (can : CanEdit g old.mft (mark_of g old))
+    (by : IsEditBy (view_under g old) (opens_of g old) (moment_of g old) session command edit) (can : CanEdit g old.mft (mark_of g old))
     (s : EditsFile g old.mft new.mft (mark_of g old) edit) where
   -- where the disk tells its contents now it did so before
   record WasTold : Type 0 where
@@ -49,19 +48,19 @@ module _ {D : Type 0} (g : Ghosts D) (sized : (disk : D) → IfSome (g.now disk)
   now-in_use : IsInUse g new.mft
   now-in_use t =
       let w = was-told t in
-      edited.now-in_use g sized old new session command edit shown is_by can s w.facts w.before w.was w.tells t
+      edited.now-in_use g sized old new session command edit shown by can s w.facts w.before w.was w.tells t
 
   now-bytes : WhereTold (image g (stage_of g new.mft)) (λ all. IsVolumeOf all (view g new.mft))
   now-bytes all is =
       let w = was-told (ap (λ (o : Option (List ℕ)). is_some o) is) in
-      edited.now-bytes g sized old new session command edit shown is_by can s w.facts w.before w.was w.tells all is
+      edited.now-bytes g sized old new session command edit shown by can s w.facts w.before w.was w.tells all is
 
   now-mark : IsTrue (view_under g new).told → IsMarkOf (view_under g new) s.place.flag
   now-mark t =
       let w = was-told t in
-      subst (λ v. IsMarkOf v s.place.flag) (sym (edited.new-view g sized old new session command edit shown is_by can s w.facts w.before w.was
+      subst (λ v. IsMarkOf v s.place.flag) (sym (edited.new-view g sized old new session command edit shown by can s w.facts w.before w.was
       w.tells))
-      (edited.now-mark g sized old new session command edit shown is_by can s w.facts w.before w.was w.tells)
+      (edited.now-mark g sized old new session command edit shown by can s w.facts w.before w.was w.tells)
 
   now-clear : IsClear g new.mft
   now-clear = record {
@@ -96,9 +95,10 @@ module _ {D : Type 0} (g : Ghosts D) (sized : (disk : D) → IfSome (g.now disk)
   held-still held opens moment t =
       let w = was-told t in
       let told : IsTrue (view_under g old).told = sym (s.goes_on.told_image ∙ s.keeps.goes_on.told_image) ∙ t in
-      subst HoldsOpens (sym (edited.new-machine g sized old new session command edit shown is_by can s w.facts w.before w.was w.tells opens moment))
+      subst HoldsOpens (sym
+      (edited.new-machine g sized old new session command edit shown by can s w.facts w.before w.was w.tells opens moment))
       (held-step w.facts (machine_under g old) session command (reply.Ok a.Done) _ (held told)
-      (edited.stepped g sized old new session command edit shown is_by can s w.facts w.before w.was w.tells))
+      (edited.stepped g sized old new session command edit shown by can s w.facts w.before w.was w.tells))
 
   pub serves-done : Serves g old → opens_of g new ≡ opens_of g old → moment_of g new ≡ moment_of g old
       → mark_of g new ≡ Some s.place.flag → new.last ≡ None → Serves g new

@@ -64,14 +64,11 @@ state_on g volume bytes = record {
 
 module _ {D : Type 0} (g : Ghosts D) (sized : (disk : D) → IfSome (g.now disk) (λ all. length all ≡ 512 * g.size disk))
     (old new : Volume D g) (session : ℕ) (command : Command) (edit : EditOf) (shown : SetsShown command)
-    (is_by : (v : VolumeView) → IsEditBy v (opens_of g old) (moment_of g old) session command edit) (can : CanEdit g old.mft (mark_of g old))
+    (by : IsEditBy (view_under g old) (opens_of g old) (moment_of g old) session command edit) (can : CanEdit g old.mft (mark_of g old))
     (s : EditsFile g old.mft new.mft (mark_of g old) edit) (facts : Facts)
     (before : List ℕ) (was : g.now (disk_under g old) ≡ Some before) (tells : TellsFacts (view_under g old) facts) where
   abbrev v : VolumeView
   v = view_under g old
-
-  abbrev by : IsEditBy v (opens_of g old) (moment_of g old) session command edit
-  by = is_by v
 
   abbrev state : State
   state = state_on g old before
@@ -87,11 +84,11 @@ module _ {D : Type 0} (g : Ghosts D) (sized : (disk : D) → IfSome (g.now disk)
 
   -- THE FILE
   pub leads : LeadsToFile facts (machine_under g old) session command s.file
-  leads = by.found facts tells s.file (s.leads told)
+  leads = by.found told facts tells s.file (s.leads told)
 
   pub staged-by : StagesFile v (opens_of g old) (moment_of g old) command leads.at s.file (view g s.staged)
   unfolding leads
-  staged-by = by.stages facts tells s.file (s.leads told) (view g s.staged) (s.does told)
+  staged-by = by.stages told facts tells s.file (s.leads told) (view g s.staged) (s.does told)
 
   pub finds : FindsFile facts state session command s.file staged-by.node
   finds = record {

@@ -13,7 +13,7 @@ use Rattle.tree_model.specs.Paths.{and_then}
 use Rattle.tree_model.specs.Reading.{read}
 use Rattle.tree_model.specs.Refusals.{Facts, first_some, outcome, refusal, unless, when}
 use Rattle.tree_model.specs.Shown.{plain_bytes}
-use Rattle.tree_model.specs.Staging.{cannot_edit, goes_over_bytes}
+use Rattle.tree_model.specs.Staging.{cannot_edit, is_built_for}
 use Rattle.tree_model.specs.Step.{answered, due}
 use Rattle.tree_model.specs.Subjects.{Located, Machine, at_file, at_open, locate, subject_of, with_stream}
 use Rattle.tree_model.specs.Tree.{node_of}
@@ -76,7 +76,7 @@ module _ (facts : Facts) (view : VolumeView) (opens : List OpenEntry) (now sessi
   cannot entry = cannot_edit (is_whole_table view) (read view) entry.file
 
   abbrev over : OpenEntry → Bool
-  over entry = goes_over_bytes view (read view) command (at entry)
+  over entry = is_built_for view (read view) command (at entry)
 
   abbrev can : OpenEntry → Bool
   can entry = not (cannot entry) && over entry
@@ -91,9 +91,9 @@ module _ (facts : Facts) (view : VolumeView) (opens : List OpenEntry) (now sessi
   refusal-is entry =
       let n = find-never opens entry.file in
       let w = tells.whole_table in
-      let o = tells.over m command (at entry) in
-      let both : (cannot_edit facts.whole_table (read view) entry.file || not (facts.over m command (at entry))) ≡ not (can entry) =
-      ap (λ b. cannot_edit b (read view) entry.file || not (facts.over m command (at entry))) w
+      let o = tells.built_for m command (at entry) in
+      let both : (cannot_edit facts.whole_table (read view) entry.file || not (facts.built_for m command (at entry))) ≡ not (can entry) =
+      ap (λ b. cannot_edit b (read view) entry.file || not (facts.built_for m command (at entry))) w
       ∙ ap (λ b. cannot entry || not b) o ∙ not-both (cannot entry) (over entry) in
       rw (n, both) refl
 
@@ -174,10 +174,10 @@ hwrite-by opens now session handle from bytes view = record {
   edits = refl;
   is = refl;
   makes = refl;
-  found = λ facts tells file is. (hwrite-found facts view opens now session handle from bytes tells file is).leads;
-  refused = λ facts tells why is. hwrite-refused facts view opens now session handle from bytes tells why is;
+  found = λ told facts tells file is. (hwrite-found facts view opens now session handle from bytes tells file is).leads;
+  refused = λ told facts tells why is. hwrite-refused facts view opens now session handle from bytes tells why is;
   answer = λ facts tells at. hwrite-answer facts view opens now session handle from bytes tells at;
-  stages = λ facts tells file is new w.
+  stages = λ told facts tells file is new w.
       let x = hwrite-found facts view opens now session handle from bytes tells file is in
       let same : w.entry ≡ x.entry = let e = sym w.opened ∙ x.open_is in cc in
       let both = found-staged view file new w.entry.stream from bytes now w.writes in

@@ -10,8 +10,15 @@ pub mod ImageLaws
 pub mod PlaceLaws
 pub mod EditBy
 pub mod SetattrBy
+pub mod StreamFound
 pub mod WriteBy
 pub mod HwriteBy
+pub mod StreamBy
+pub mod StreamPut
+pub mod TruncateBy
+pub mod PunchBy
+pub mod RmstreamBy
+pub mod SetsecBy
 pub mod EditVolume
 pub mod EditServes
 pub mod ReplyLaws

@@ -123,11 +123,8 @@ state-is g first old before r =
 -- AN EDIT
 module _ {D : Type 0} (g : Ghosts D) (sized : (disk : D) → IfSome (g.now disk) (λ all. length all ≡ 512 * g.size disk))
     (old new : Volume D g) (session : ℕ) (command : Command) (edit : EditOf) (shown : SetsShown command)
-    (is_by : (v : VolumeView) → IsEditBy v (opens_of g old) (moment_of g old) session command edit) (serves : Serves g old)
+    (by : IsEditBy (view_under g old) (opens_of g old) (moment_of g old) session command edit) (serves : Serves g old)
     (opens : opens_of g new ≡ opens_of g old) (moment : moment_of g new ≡ moment_of g old) where
-  abbrev by : IsEditBy (view_under g old) (opens_of g old) (moment_of g old) session command edit
-  by = is_by (view_under g old)
-
   facts-told : (first : VolumeView) (before : State) → Ready g first old before → (facts : Facts) × TellsFacts (view_under g old) facts
   facts-told first before r =
       let f = has_facts before.view r.stands.sound in
@@ -138,7 +135,7 @@ module _ {D : Type 0} (g : Ghosts D) (sized : (disk : D) → IfSome (g.now disk)
       → new.last ≡ None → GoesOn g (stage_of g old.mft) (stage_of g new.mft) → g.settled (disk_under g new) ≡ g.settled (disk_under g old)
       → g.faults (disk_under g new) ≡ g.faults (disk_under g old) → Replies g old new session command (reply.Ok a.Done)
   replies-done s mark last goes settled quiet = record {
-    serves = λ answered. serves-done g sized old new session command edit shown is_by serves.can s serves opens moment mark last;
+    serves = λ answered. serves-done g sized old new session command edit shown by serves.can s serves opens moment mark last;
     goes_on = volume-goes g old new goes;
     settled = settled;
     still = λ answered e. let t = by.is in cc;
@@ -147,7 +144,7 @@ module _ {D : Type 0} (g : Ghosts D) (sized : (disk : D) → IfSome (g.now disk)
         let f = facts-told first before r in
         let same = state-is g first old before r in
         subst (λ b. Applied g first b session command (reply.Ok a.Done) new) (sym same)
-        (applied-done g sized old new session command edit shown is_by serves.can s f.0 before.image r.now f.1 opens moment mark first
+        (applied-done g sized old new session command edit shown by serves.can s f.0 before.image r.now f.1 opens moment mark first
         (subst (λ b. Ready g first old b) same r));
     failed = λ e. cc;
     quiet = λ answered. quiet;
@@ -172,7 +169,7 @@ module _ {D : Type 0} (g : Ghosts D) (sized : (disk : D) → IfSome (g.now disk)
       (subst (λ n. Step facts (machine_under g old) session command (reply.No refused)
       (machine_on (view_under g old) (opens_of g old) n)) (sym moment)
       (refused-step facts (machine_under g old) session command refused (elim (why t) [
-        | inl due_so ↦ inl (by.refused facts tells refused due_so)
+        | inl due_so ↦ inl (by.refused t facts tells refused due_so)
         | inr memory ↦ inr memory
       ]))))
       quiet
@@ -206,7 +203,7 @@ module _ {D : Type 0} (g : Ghosts D) (sized : (disk : D) → IfSome (g.now disk)
             let here : TellsFacts (view_under g old) facts = subst (λ v. TellsFacts v facts) (sym r.view) tells in
             let due : is_due_edit facts (machine_under g old) (Ok (session, command)) ≡ true =
             found-due-edit (view_under g old) (opens_of g old) (moment_of g old) session command edit by facts here fails.file
-            (by.found facts here fails.file (fails.leads told)) in
+            (by.found told facts here fails.file (fails.leads told)) in
             let wrong : is_due_edit facts (machine_under g old) (Ok (session, command)) ≡ false =
             subst (λ m. is_due_edit facts m (Ok (session, command)) ≡ false) r.machine none in
             cc;

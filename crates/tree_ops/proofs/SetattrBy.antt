@@ -56,7 +56,7 @@ module _ (facts : Facts) (view : VolumeView) (opens : List OpenEntry) (now sessi
   found-at found e can =
       let n = find-never opens (found_file found) in
       let w = tells.whole_table in
-      let o = tells.over m command (at_found (read view) found) in
+      let o = tells.built_for m command (at_found (read view) found) in
       let r = room found in
       rw (e, n, w, can, o, r) refl
 
@@ -119,10 +119,10 @@ setattr-by opens now session path flags view = record {
   edits = refl;
   is = refl;
   makes = refl;
-  found = λ facts tells file is. setattr-found facts view opens now session path flags tells file is;
-  refused = λ facts tells why is. setattr-refused facts view opens now session path flags tells why is;
+  found = λ told facts tells file is. setattr-found facts view opens now session path flags tells file is;
+  refused = λ told facts tells why is. setattr-refused facts view opens now session path flags tells why is;
   answer = λ facts tells at. answer-done facts view opens now session path flags tells at;
-  stages = λ facts tells file is new does.
+  stages = λ told facts tells file is new does.
       let can = subst (λ f. CanSet view f does.can.can.node) does.file_is does.can.can.can in
       record {
         node = does.can.can.node;

@@ -7,15 +7,25 @@ use Rattle.mft_table.specs.declared.mft.Mft.{Mft}
 use Rattle.mft_table.specs.Mft.{view}
 use Rattle.tree_edit.specs.Over.{StagesOver}
 use Rattle.tree_edit.specs.Staged.{IsOfEdit, StagesAttributes, StagesFew, StagesWrite}
+use Rattle.tree_edit.specs.Values.{IsOfValue, StagesValue}
 
 module _ {D : Type 0} (g : Ghosts D) (f : ℕ) (names : List FileName) (old new : Mft D g) where
-  -- the attributes of the file
-  pub attributes-staged : StagesAttributes g f names old new
-      → StagesFew g (4 + 12 * length names) (IsOfEdit (view g old) f names) old new
-  attributes-staged x = record {
+  -- sectors of records of the file, and of its entries
+  file-staged : (most : ℕ) → StagesFew g most (IsOfValue (view g old) f names) old new
+      → StagesFew g most (IsOfEdit (view g old) f names) old new
+  file-staged most x = record {
     few = x.few;
     only = λ sector has. elim (x.only sector has) [ inl before ↦ inl before | inr is ↦ inr (inr is) ];
   }
+
+  -- the attributes of the file
+  pub attributes-staged : StagesAttributes g f names old new
+      → StagesFew g (4 + 12 * length names) (IsOfEdit (view g old) f names) old new
+  attributes-staged x = file-staged (4 + 12 * length names) x
+
+  -- bytes of a value too
+  pub value-staged : StagesValue g f names old new → StagesFew g (8 + 12 * length names) (IsOfEdit (view g old) f names) old new
+  value-staged x = file-staged (8 + 12 * length names) x
 
   -- bytes of a stream, and the attributes of its file
   pub over-staged : (name : List ℕ) (at len : ℕ) → StagesOver g f name at len names old new → StagesWrite g f names len old new

@@ -1,11 +1,9 @@
 -- WHAT IS DUE FOR `write`: where its bytes go over bytes of a stream that its path leads to it is done, and else refused so.
 use Rattle.std.proofs.Common.{◌≡◌, ◌≤◌, ◌==◌, ◌&&◌, ◌||◌, ℕ, Bool, true, false, List, [], ◌∷◌, not, length, Option, Some, None, Result, Ok, Err}
-use Rattle.std.proofs.Common.{refl, sym, ap, subst, ◌∙◌, arith}
-use Rattle.std.specs.Prelude.{Contains, if◌then◌else◌, is_some, option_and_then, slice_set}
+use Rattle.std.proofs.Common.{refl, ap, subst, ◌∙◌, arith}
+use Rattle.std.specs.Prelude.{Contains, if◌then◌else◌, is_some, slice_set}
 use Rattle.std.specs.Option.{option_map_or}
 use Rattle.ntfs_def.specs.FileName.{FileName}
-use Rattle.ntfs_def.specs.declared.kinds.TheConstants.{DATA}
-use Rattle.volume_def.specs.CaseClause.{volume_fold}
 use Rattle.volume_def.specs.FileNames.{names_of}
 use Rattle.volume_def.specs.Files.{records_of}
 use Rattle.volume_def.specs.View.{VolumeView}
@@ -14,12 +12,12 @@ use Rattle.tree_model.specs.Cases.{is_bad_stream_name, is_packed, is_wide, share
 use Rattle.tree_model.specs.Effects.{opens_after, touched}
 use Rattle.tree_model.specs.Facts.{TellsFacts, is_whole_table}
 use Rattle.tree_model.specs.Paths.{and_then, found_file, resolve}
-use Rattle.tree_model.specs.Reading.{node_by, read}
+use Rattle.tree_model.specs.Reading.{read}
 use Rattle.tree_model.specs.Refusals.{Facts, first_some, outcome, refusal, unless, when}
-use Rattle.tree_model.specs.Staging.{cannot_edit, goes_over_bytes}
+use Rattle.tree_model.specs.Staging.{cannot_edit, is_built_for}
 use Rattle.tree_model.specs.Step.{answered, due}
 use Rattle.tree_model.specs.Subjects.{Located, Machine, at_found, is_directory, locate, stream_name, subject_of, with_stream}
-use Rattle.tree_model.specs.Tree.{node_of, sought_stream}
+use Rattle.tree_model.specs.Tree.{node_of}
 use Rattle.tree_model.specs.declared.command.Command.{Command}
 use Rattle.tree_model.specs.declared.command.Command.TheVariants as c
 use Rattle.tree_model.specs.declared.opens.OpenEntry.{OpenEntry}
@@ -30,22 +28,18 @@ use Rattle.tree_model.specs.declared.tree.Content.{Content}
 use Rattle.tree_model.specs.declared.tree.Content.TheVariants.{Packed, Plain}
 use Rattle.tree_model.specs.declared.tree.Found.{Found}
 use Rattle.tree_model.specs.declared.tree.Node.{Node}
-use Rattle.tree_model.specs.declared.tree.Stream.{Stream}
-use Rattle.edit_def.specs.Kept.{AreTellable, key_of, told_of}
-use Rattle.session_def.specs.Named.{spelt}
-use Rattle.stream_edits.specs.Streams.{IsThere}
 use Rattle.attribute_edits.specs.Attributes.{CanSet}
 use Rattle.stream_overwrites.specs.Overwritten.{WritesOver}
 use Rattle.in_place_owed.proofs.EmptyBill.{has-room}
 use Rattle.in_place_done.specs.Written.{WritesStream}
-use Rattle.tree_read.specs.Nodes.{parts_in}
-use Rattle.tree_edit.specs.Writable.{content_to_write, write_in, write_wanted}
+use Rattle.tree_edit.specs.Writable.{can_write_over, content_to_write, write_in, write_wanted}
 use Rattle.tree_ops.specs.Edits.{WritesFound, write_edit}
 use Rattle.tree_ops.specs.Wanted.{machine_on}
 use Rattle.tree_ops.proofs.EditBy.{IsEditBy, LeadsToFile, state_with}
+use Rattle.tree_ops.proofs.StreamFound.{can-so, high-so, spelt-so, tellable-so, there-so}
 
 -- THE REFUSALS of a write in their order, and what is wanted, by what each case asks
-abbrev judge : Option Content → Bool → Bool → Bool → Option No → Bool → Option No → Option No
+abbrev pub judge : Option Content → Bool → Bool → Bool → Option No → Bool → Option No → Option No
 judge content bad dir wide apart unbuilt room = first_some (
     when (not (is_some content) && bad) no.BadName ∷
     when dir no.IsDir ∷
@@ -63,7 +57,7 @@ abbrev ranged : Bool → Option No → Bool → ℕ → Result ℕ No
 ranged wide apart can file =
     if wide then Err no.TooBig else option_map_or Err apart (if can then Ok file else Err no.Unbuilt)
 
-abbrev wanted_by : Option Content → Bool → Bool → Bool → Option No → Bool → ℕ → Result ℕ No
+abbrev pub wanted_by : Option Content → Bool → Bool → Bool → Option No → Bool → ℕ → Result ℕ No
 wanted_by content bad dir wide apart can file = and_then (found_content content bad dir) (λ bytes. ranged wide apart can file)
 
 -- what the words lead to, where a file is wanted
@@ -71,7 +65,7 @@ abbrev pub with_at : Located → Result ℕ No → Result Located No
 with_at at (Ok file) = Ok at
 with_at at (Err why) = Err why
 
-judged : (at : Located) (file : ℕ) (content : Option Content) (bad dir wide : Bool) (apart : Option No) (can : Bool) (room : Option No)
+pub judged : (at : Located) (file : ℕ) (content : Option Content) (bad dir wide : Bool) (apart : Option No) (can : Bool) (room : Option No)
     → (can ≡ true → room ≡ None)
     → unless (judge content bad dir wide apart (not can) room) at ≡ with_at at (wanted_by content bad dir wide apart can file)
 judged at file None true dir wide apart can room has = refl
@@ -89,6 +83,23 @@ judged at file (Some (Plain bytes)) bad false false (Some w) can room has = refl
 judged at file (Some (Plain bytes)) bad false false None false room has = refl
 judged at file (Some (Plain bytes)) bad false false None true room has =
     ap (λ o. unless (judge (Some (Plain bytes)) bad false false None false o) at) (has refl)
+
+-- it is this file that is wanted, or none
+pub same-file : (content : Option Content) (bad dir wide : Bool) (apart : Option No) (can : Bool) (file other : ℕ)
+    → wanted_by content bad dir wide apart can file ≡ Ok other → file ≡ other
+same-file None true dir wide apart can file other e = cc
+same-file None false true wide apart can file other e = cc
+same-file None false false true apart can file other e = cc
+same-file None false false false (Some w) can file other e = cc
+same-file None false false false None false file other e = cc
+same-file None false false false None true file other e = cc
+same-file (Some (Packed size)) bad true wide apart can file other e = cc
+same-file (Some (Packed size)) bad false wide apart can file other e = cc
+same-file (Some (Plain bytes)) bad true wide apart can file other e = cc
+same-file (Some (Plain bytes)) bad false true apart can file other e = cc
+same-file (Some (Plain bytes)) bad false false (Some w) can file other e = cc
+same-file (Some (Plain bytes)) bad false false None false file other e = cc
+same-file (Some (Plain bytes)) bad false false None true file other e = cc
 
 pub not-both : (cannot over : Bool) → (cannot || not over) ≡ not (not cannot && over)
 not-both true over = refl
@@ -120,7 +131,7 @@ module _ (facts : Facts) (view : VolumeView) (opens : List OpenEntry) (now sessi
   cannot found = cannot_edit (is_whole_table view) (read view) (found_file found)
 
   abbrev over : Found → Bool
-  over found = goes_over_bytes view (read view) command (at found)
+  over found = is_built_for view (read view) command (at found)
 
   abbrev can : Found → Bool
   can found = not (cannot found) && over found
@@ -135,9 +146,9 @@ module _ (facts : Facts) (view : VolumeView) (opens : List OpenEntry) (now sessi
       (shared m command (at found)) (not (can found)) (facts.no_room m command (at found))
   refusal-is found =
       let w = tells.whole_table in
-      let o = tells.over m command (at found) in
-      let both : (cannot_edit facts.whole_table (read view) (found_file found) || not (facts.over m command (at found))) ≡ not (can found) =
-      ap (λ b. cannot_edit b (read view) (found_file found) || not (facts.over m command (at found))) w
+      let o = tells.built_for m command (at found) in
+      let both : (cannot_edit facts.whole_table (read view) (found_file found) || not (facts.built_for m command (at found))) ≡ not (can found) =
+      ap (λ b. cannot_edit b (read view) (found_file found) || not (facts.built_for m command (at found))) w
       ∙ ap (λ b. cannot found || not b) o ∙ not-both (cannot found) (over found) in
       ap (λ b. judge (at found).content (is_bad_stream_name name) ((length name == 0) && is_directory (at found).node) (is_wide from len)
       (shared m command (at found)) b (facts.no_room m command (at found))) both
@@ -165,24 +176,8 @@ module _ (facts : Facts) (view : VolumeView) (opens : List OpenEntry) (now sessi
 
   ok-file : (found : Found) (file : ℕ) → write_in view opens name from len (found_file found) ≡ Ok file → found_file found ≡ file
   ok-file found file is =
-      by (at found).content (is_bad_stream_name name) ((length name == 0) && is_directory (at found).node) (is_wide from len)
-      (shared m command (at found)) (can found) is
-    where
-      by : (content : Option Content) (bad dir wide : Bool) (apart : Option No) (can : Bool)
-          → wanted_by content bad dir wide apart can (found_file found) ≡ Ok file → found_file found ≡ file
-      by None true dir wide apart can e = cc
-      by None false true wide apart can e = cc
-      by None false false true apart can e = cc
-      by None false false false (Some w) can e = cc
-      by None false false false None false e = cc
-      by None false false false None true e = cc
-      by (Some (Packed size)) bad true wide apart can e = cc
-      by (Some (Packed size)) bad false wide apart can e = cc
-      by (Some (Plain bytes)) bad true wide apart can e = cc
-      by (Some (Plain bytes)) bad false true apart can e = cc
-      by (Some (Plain bytes)) bad false false (Some w) can e = cc
-      by (Some (Plain bytes)) bad false false None false e = cc
-      by (Some (Plain bytes)) bad false false None true e = cc
+      same-file (at found).content (is_bad_stream_name name) ((length name == 0) && is_directory (at found).node) (is_wide from len)
+      (shared m command (at found)) (can found) (found_file found) file is
 
   pub write-found : (file : ℕ) → write_wanted view opens path name from len ≡ Ok file → FindsStream file
   write-found file is = by (resolve (read view) path) refl is
@@ -225,34 +220,24 @@ pub writes-stream : (view new : VolumeView) (file : ℕ) (name : List ℕ) (from
     (opens : List OpenEntry) (image : List ℕ) (written : ℕ) → at.stream ≡ name → at.node ≡ node_of (read view) file
     → (w : WritesFound view new file name from bytes now)
     → WritesStream (state_with image view opens now written) at file w.can.settable.can.node from bytes new
-unfolding node_by read
 writes-stream view new file asked from bytes now located opens image written stream node w = record {
   name = w.can.stream.is.part.name;
-  spelt_so = sym (ap (λ (s : Stream). s.name) w.can.stream.is.is) ∙ sym spelt-here;
-  there = subst (λ f. IsThere view (key_of f DATA w.can.stream.is.part.name)) w.file_is w.can.there;
-  tellable = subst (λ f. AreTellable (told_of view f)) w.file_is w.can.tellable;
+  spelt_so = spelt-so view w.found asked (λ f. can_write_over view asked from (length bytes) f) w.can file w.file_is located stream node;
+  there = there-so view w.found asked (λ f. can_write_over view asked from (length bytes) f) w.can file w.file_is;
+  tellable = tellable-so view w.found asked (λ f. can_write_over view asked from (length bytes) f) w.can file w.file_is;
   writes =
       subst (λ flags. WritesOver view new file w.can.stream.is.part.name from bytes (touched now w.can.settable.can.node).times flags) w.can.flags
       (subst (λ times. WritesOver view new file w.can.stream.is.part.name from bytes (slice_set (slice_set times 1 now) 2 now) w.found.flags)
       w.can.settable.times w.writes);
 }
-  where
-    here : located.node ≡ Some (node_by view w.can.held.base (parts_in w.found.held))
-    here = node ∙ ap (node_of (read view)) (sym w.file_is) ∙ w.can.held.node
-
-    spelt-here : spelt (read view) located ≡ w.can.stream.is.stream.name
-    spelt-here =
-        ap (λ n. option_map_or (λ (s : Stream). s.name) (option_and_then (λ (node : Node). sought_stream (volume_fold view) node.streams n) located.node) n) stream
-        ∙ ap (λ o. option_map_or (λ (s : Stream). s.name) (option_and_then (λ (node : Node). sought_stream (volume_fold view) node.streams asked) o) asked) here
-        ∙ ap (λ o. option_map_or (λ (s : Stream). s.name) o asked) w.can.stream.is.sought
 
 pub found-staged : (view : VolumeView) (file : ℕ) (new : VolumeView) (name : List ℕ) (from : ℕ) (bytes : List ℕ) (now : ℕ)
     → (w : WritesFound view new file name from bytes now)
     → CanSet view file w.can.settable.can.node
     × ((name : FileName) → Contains (names_of (records_of view) file) name → 4 ≤ name.parent.number)
 found-staged view file new asked from bytes now w = (
-  subst (λ f. CanSet view f w.can.settable.can.node) w.file_is w.can.settable.can.can,
-  subst (λ f. (name : FileName) → Contains (names_of (records_of view) f) name → 4 ≤ name.parent.number) w.file_is w.can.settable.high,
+  can-so view w.found asked (λ f. can_write_over view asked from (length bytes) f) w.can file w.file_is,
+  high-so view w.found asked (λ f. can_write_over view asked from (length bytes) f) w.can file w.file_is,
 )
 
 -- IT IS THAT OF THE COMMAND
@@ -264,10 +249,10 @@ write-by opens now session path stream from bytes view = record {
   edits = refl;
   is = refl;
   makes = refl;
-  found = λ facts tells file is. (write-found facts view opens now session path stream from bytes tells file is).leads;
-  refused = λ facts tells why is. write-refused facts view opens now session path stream from bytes tells why is;
+  found = λ told facts tells file is. (write-found facts view opens now session path stream from bytes tells file is).leads;
+  refused = λ told facts tells why is. write-refused facts view opens now session path stream from bytes tells why is;
   answer = λ facts tells at. write-answer facts view opens now session path stream from bytes tells at;
-  stages = λ facts tells file is new w.
+  stages = λ told facts tells file is new w.
       let x = write-found facts view opens now session path stream from bytes tells file is in
       let both = found-staged view file new (stream_name stream) from bytes now w in
       record {

@@ -1,5 +1,6 @@
 -- WHICH EDITS ARE BUILT, when one can be done on a volume, and what it leaves of the table of records and of its disk.
-use Rattle.std.specs.Prelude.{◌≡◌, ◌⊎◌, ◌+◌, ◌*◌, ◌/◌, ◌≤◌, ◌&&◌, ℕ, true, false, find, All, IfSome, IsTrue, List, [], Option, None, Some, Result}
+use Rattle.std.specs.Prelude.{◌≡◌, ◌⊎◌, ◌+◌, ◌*◌, ◌/◌, ◌^◌, ◌≤◌, ◌&&◌, ℕ, true, false, find, All, Bool, IfSome, IsTrue, List, []}
+use Rattle.std.specs.Prelude.{Option, None, Some, Result}
 use Rattle.std.specs.Prelude.{Ok, Err}
 use Rattle.std.specs.Prelude.{length, slice_set}
 use Rattle.vol_disk.specs.Contents.{IsTold, WhereTold, sector_in}
@@ -21,6 +22,7 @@ use Rattle.mark_place.specs.LogSpans.{AreLogSpans, log_sectors}
 use Rattle.tree_model.specs.Facts.{IsVolumeOf, is_whole_table}
 use Rattle.tree_model.specs.Opens.{contains, is_handle, to_write}
 use Rattle.tree_model.specs.Reading.{read}
+use Rattle.tree_model.specs.Streams.{resized}
 use Rattle.tree_model.specs.declared.command.Command.{Command}
 use Rattle.tree_model.specs.declared.command.Command.TheVariants as c
 use Rattle.tree_model.specs.declared.opens.OpenEntry.{OpenEntry}
@@ -28,17 +30,24 @@ use Rattle.tree_model.specs.declared.reply.No.{No}
 use Rattle.tree_model.specs.declared.reply.No.TheVariants as no
 use Rattle.session_def.specs.Done.{HasEmptyLog}
 use Rattle.volume_mark.specs.Mark.{IsFlagOf}
-use Rattle.attribute_edits.specs.Attributes.{SetsAttributes}
-use Rattle.stream_overwrites.specs.Overwritten.{WritesOver}
+use Rattle.attribute_edits.specs.Attributes.{SetsAttributes, SetsSecurity}
+use Rattle.stream_overwrites.specs.Overwritten.{PunchesValue, WritesOver}
+use Rattle.value_edits.specs.ValueEdits.{PutsStream}
 use Rattle.tree_read.specs.declared.stop.Stop.{Stop}
 use Rattle.tree_read.specs.declared.stop.Stop.TheVariants as stop
+use Rattle.tree_edit.specs.Alone.{can_cut, can_drop, cut_wanted, drop_wanted}
+use Rattle.tree_edit.specs.Punchable.{can_punch, punch_wanted}
+use Rattle.tree_edit.specs.Securable.{IsSecurable, secure_wanted}
 use Rattle.tree_edit.specs.Settable.{IsSettable, settable}
-use Rattle.tree_edit.specs.Writable.{IsWritable, hwrite_wanted, write_wanted}
+use Rattle.tree_edit.specs.Writable.{IsFoundToEdit, IsWritable, hwrite_wanted, write_wanted}
+use Rattle.tree_edit.specs.declared.securable.Securable.{Securable}
 use Rattle.tree_edit.specs.declared.settable.Settable.{Settable}
 use Rattle.tree_edit.specs.declared.writable.Writable.{Writable}
 use Rattle.tree_read.specs.Nodes.{number_of}
 use Rattle.tree_ops.specs.declared.edit.Edit.{Edit}
 use Rattle.tree_ops.specs.declared.edit.Edit.TheVariants as e
+use Rattle.tree_ops.specs.declared.edit_values.StreamEdit.{StreamEdit}
+use Rattle.tree_ops.specs.declared.edit_values.StreamEdit.TheVariants as s
 use Rattle.tree_ops.specs.declared.place.MarkPlace.{MarkPlace}
 
 -- the command that is done so
@@ -46,6 +55,10 @@ abbrev pub command_of : Edit → Command
 command_of (e.Setattr path flags) = c.Setattr path.now flags
 command_of (e.Write path stream at bytes) = c.Write path.now stream.now at bytes.now
 command_of (e.Hwrite handle at bytes) = c.Hwrite handle at bytes.now
+command_of (e.Truncate path stream size) = c.Truncate path.now stream.now size
+command_of (e.Punch path stream at len) = c.Punch path.now stream.now at len
+command_of (e.Rmstream path name) = c.Rmstream path.now name.now
+command_of (e.Setsec path id) = c.Setsec path.now id
 
 -- THE MARK stands in two sectors of a disk of this size, which holds these bytes, and is set in both.
 pub record HasMark (size : ℕ) (now : Option (List ℕ)) (flag : Flag) : Type 0 where
@@ -160,6 +173,69 @@ hwrite_edit opens session handle at bytes moment = record {
   wanted = λ view. hwrite_wanted view opens session handle at (length bytes);
   Does = λ old new file. WritesThrough opens session handle old new file at bytes moment;
   most = most_for bytes;
+}
+
+-- `punch`, `truncate` and `rmstream`: AN EDIT OF A STREAM that is a value. Whether that of this name of a file can be edited so, and what
+-- is wanted of the file that a path leads to
+abbrev pub can_edit_so : StreamEdit → VolumeView → List ℕ → ℕ → Bool
+can_edit_so (s.Punch from len) view name file = can_punch view name file
+can_edit_so (s.Cut size) view name file = can_cut view name size file
+can_edit_so s.Remove view name file = can_drop view name file
+
+abbrev pub stream_wanted : StreamEdit → VolumeView → List OpenEntry → List (List ℕ) → List ℕ → Result ℕ No
+stream_wanted (s.Punch from len) view opens path name = punch_wanted view opens path name from len
+stream_wanted (s.Cut size) view opens path name = cut_wanted view opens path name size
+stream_wanted s.Remove view opens path name = drop_wanted view opens path name
+
+-- it fits a stream of so many bytes: a punch ends where a stream may end, and a stream is cut to no more than it has
+abbrev pub FitsSize : StreamEdit → ℕ → Type 0
+FitsSize (s.Punch from len) size = from + len ≤ 2 ^ 40
+FitsSize (s.Cut to) size = to ≤ size
+FitsSize s.Remove size = Unit {0}
+
+-- The stream that was found can be edited so.
+abbrev pub IsEditable : StreamEdit → VolumeView → Writable → List ℕ → Type 0
+IsEditable what view found name = IsFoundToEdit view found name (λ file. can_edit_so what view name file)
+
+-- It was edited so, where it had these bytes before: zeros went over those in the range, or it was cut, or it is gone; the file has these
+-- times and flags.
+abbrev pub EditsValueSo : StreamEdit → VolumeView → VolumeView → ℕ → List ℕ → List ℕ → List ℕ → ℕ → Type 0
+EditsValueSo (s.Punch from len) old new file name was times flags = PunchesValue old new file name from len times flags
+EditsValueSo (s.Cut size) old new file name was times flags = PutsStream old new file name (Some (resized size was)) times flags
+EditsValueSo s.Remove old new file name was times flags = PutsStream old new file name None times flags
+
+-- The stream of this name was edited so; the times are those of a write.
+pub record EditsFound (what : StreamEdit) (old new : VolumeView) (file : ℕ) (name : List ℕ) (moment : ℕ) : Type 0 where
+  pub found : Writable
+  pub file_is : number_of found.held ≡ file
+  pub can : IsEditable what old found name
+  pub edits : EditsValueSo what old new file can.stream.is.part.name can.stream.bytes (slice_set (slice_set found.times 1 moment) 2 moment)
+      found.flags
+
+-- how many sectors are staged of the records of a file of which a value is written
+abbrev pub most_of_value : ℕ
+most_of_value = 8
+
+abbrev pub stream_edit : StreamEdit → List OpenEntry → List (List ℕ) → List ℕ → ℕ → EditOf
+stream_edit what opens path name moment = record {
+  wanted = λ view. stream_wanted what view opens path name;
+  Does = λ old new file. EditsFound what old new file name moment;
+  most = most_of_value;
+}
+
+-- `setsec`: the security id of the file was set, and the moment as the time at which its record was changed
+pub record SecuresFound (old new : VolumeView) (file id moment : ℕ) : Type 0 where
+  pub found : Securable
+  pub file_is : found.number ≡ file
+  pub can : IsSecurable old found
+  pub sets : SetsSecurity old new file id (slice_set found.times 2 moment) found.flags
+
+-- `described` says whether the volume has a descriptor of the id
+abbrev pub setsec_edit : List (List ℕ) → ℕ → Bool → ℕ → EditOf
+setsec_edit path id described moment = record {
+  wanted = λ view. secure_wanted view described path;
+  Does = λ old new file. SecuresFound old new file id moment;
+  most = most_of_value;
 }
 
 -- what is wanted of the volume is this

@@ -67,6 +67,29 @@ pub enum Edit<'c> {
         at: u64,
         bytes: &'c Octets,
     },
+    /// A stream that is a value is cut to so many bytes.
+    Truncate {
+        path: &'c Path,
+        stream: &'c Option<Name>,
+        size: u64,
+    },
+    /// Bytes of a stream that is a value become zeros.
+    Punch {
+        path: &'c Path,
+        stream: &'c Option<Name>,
+        at: u64,
+        len: u64,
+    },
+    /// A stream that is a value goes.
+    Rmstream {
+        path: &'c Path,
+        name: &'c Name,
+    },
+    /// The security id of a file is set.
+    Setsec {
+        path: &'c Path,
+        id: u32,
+    },
 }
 
 impl<'c> Edit<'c> {
@@ -96,6 +119,24 @@ impl<'c> Edit<'c> {
                 at: *at,
                 bytes,
             }),
+            Command::Truncate { path, stream, size } => Some(Edit::Truncate {
+                path,
+                stream,
+                size: *size,
+            }),
+            Command::Punch {
+                path,
+                stream,
+                at,
+                len,
+            } => Some(Edit::Punch {
+                path,
+                stream,
+                at: *at,
+                len: *len,
+            }),
+            Command::Rmstream { path, name } => Some(Edit::Rmstream { path, name }),
+            Command::Setsec { path, id } => Some(Edit::Setsec { path, id: *id }),
             _ => None,
         }
     }
@@ -181,9 +222,13 @@ fn stage_over<D: Disk>(
     }
 }
 
-// Writes what is staged: the volume is marked, where it is not, its log is emptied, and behind that comes the rest. `mark` is then where the
-// mark lies, and no directory is remembered.
-fn finish<D: Disk>(
+/// Writes what is staged: the volume is marked, where it is not, its log is emptied, and behind that comes the rest. `mark` is then where
+/// the mark lies, and no directory is remembered.
+///
+/// # Errors
+///
+/// `Device`.
+pub fn finish<D: Disk>(
     mft: &mut Mft<'_, D>,
     last: &mut Option<Standing>,
     mark: &mut Option<Flag>,

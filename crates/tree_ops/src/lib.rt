@@ -5,6 +5,7 @@ mod built;
 mod close;
 mod commands;
 mod edit;
+mod edit_values;
 mod handles;
 mod place;
 mod security;

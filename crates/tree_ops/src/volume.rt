@@ -23,12 +23,13 @@ ghost use Rattle.tree_ops.specs.Replies.{edit_reply};
 use crate::close::CloseNo;
 use crate::commands::answer;
 use crate::edit::{Edit, hwrite, set_flags, write};
+use crate::edit_values::{StreamEdit, edit_stream, set_security};
 use mark_write::Flag;
 use mft_table::{Mft, Mounted};
 use share_table::Opens;
 use std::alloc::Global;
 use tree_model::{Answer, Command, Path, Reply};
-use tree_read::{Standing, Stop};
+use tree_read::{Standing, Stop, name_or};
 use vol_bytes::{Name, Octets};
 use vol_disk::Disk;
 use vol_stage::Stage;
@@ -176,6 +177,85 @@ impl<D: Disk> Volume<'_, D> {
         reply_to(ended)
     }
 
+    // `truncate`
+    fn truncate(&mut self, session: u8, path: &Path, stream: &Option<Name>, size: u64) -> Reply
+        requires serves { Serves D.Disk self.old }
+        ensures { Replies D.Disk self.old self.new session (command_is.Truncate path.now stream.now size) result }
+    {
+        let unnamed = Name::from_vec(Vec::new(self.alloc));
+        let name = name_or(stream, &unnamed);
+        let ended = edit_stream(
+            self.alloc,
+            &mut self.mft,
+            &mut self.last,
+            &mut self.mark,
+            &self.opens,
+            self.moment,
+            path,
+            name,
+            StreamEdit::Cut { size },
+        );
+        reply_to(ended)
+    }
+
+    // `punch`
+    fn punch(&mut self, session: u8, path: &Path, stream: &Option<Name>, at: u64, len: u64) -> Reply
+        requires serves { Serves D.Disk self.old }
+        ensures { Replies D.Disk self.old self.new session (command_is.Punch path.now stream.now at len) result }
+    {
+        let unnamed = Name::from_vec(Vec::new(self.alloc));
+        let name = name_or(stream, &unnamed);
+        let ended = edit_stream(
+            self.alloc,
+            &mut self.mft,
+            &mut self.last,
+            &mut self.mark,
+            &self.opens,
+            self.moment,
+            path,
+            name,
+            StreamEdit::Punch { from: at, len },
+        );
+        reply_to(ended)
+    }
+
+    // `rmstream`
+    fn remove_stream(&mut self, session: u8, path: &Path, name: &Name) -> Reply
+        requires serves { Serves D.Disk self.old }
+        ensures { Replies D.Disk self.old self.new session (command_is.Rmstream path.now name.now) result }
+    {
+        let ended = edit_stream(
+            self.alloc,
+            &mut self.mft,
+            &mut self.last,
+            &mut self.mark,
+            &self.opens,
+            self.moment,
+            path,
+            name,
+            StreamEdit::Remove,
+        );
+        reply_to(ended)
+    }
+
+    // `setsec`
+    fn secure(&mut self, session: u8, path: &Path, id: u32) -> Reply
+        requires serves { Serves D.Disk self.old }
+        requires shown { SetsShown (command_is.Setsec path.now id) }
+        ensures { Replies D.Disk self.old self.new session (command_is.Setsec path.now id) result }
+    {
+        let ended = set_security(
+            self.alloc,
+            &mut self.mft,
+            &mut self.last,
+            &mut self.mark,
+            self.moment,
+            path,
+            id,
+        );
+        reply_to(ended)
+    }
+
     // An edit is done.
     fn edit(&mut self, session: u8, edit: Edit<'_>) -> Reply
         requires serves { Serves D.Disk self.old }
@@ -191,6 +271,15 @@ impl<D: Disk> Volume<'_, D> {
                 bytes,
             } => self.write(session, path, stream, at, bytes),
             Edit::Hwrite { handle, at, bytes } => self.hwrite(session, handle, at, bytes),
+            Edit::Truncate { path, stream, size } => self.truncate(session, path, stream, size),
+            Edit::Punch {
+                path,
+                stream,
+                at,
+                len,
+            } => self.punch(session, path, stream, at, len),
+            Edit::Rmstream { path, name } => self.remove_stream(session, path, name),
+            Edit::Setsec { path, id } => self.secure(session, path, id),
         }
     }
 

@@ -3,7 +3,7 @@ use Rattle.tree_model.specs.Subjects.{stream_name}
 use Rattle.tree_model.specs.declared.command.Command.TheVariants as command_is
 use Rattle.tree_ops.specs.Edits.{write_edit}
 use Rattle.tree_ops.specs.Replies.{Replies}
-use Rattle.tree_ops.specs.Volumes.{opens_of}
+use Rattle.tree_ops.specs.Volumes.{opens_of, view_under}
 use Rattle.tree_ops.specs.declared.volume.Volume.{Volume}
 use Rattle.tree_ops.proofs.WriteBy.{write-by}
 use Rattle.tree_ops.proofs.ReplyLaws.{replies-edit}
@@ -20,7 +20,7 @@ returns g c =
     c.args.stream.now c.args.at c.args.bytes.now)
     (write_edit (opens_of g.D.Disk c.args.self.now) c.args.path.now (stream_name c.args.stream.now) c.args.at c.args.bytes.now
     c.args.self.now.moment) tt
-    (λ v. write-by (opens_of g.D.Disk c.args.self.now) c.args.self.now.moment c.args.session c.args.path.now c.args.stream.now c.args.at
-    c.args.bytes.now v)
+    (write-by (opens_of g.D.Disk c.args.self.now) c.args.self.now.moment c.args.session c.args.path.now c.args.stream.now c.args.at
+    c.args.bytes.now (view_under g.D.Disk c.args.self.now))
     c.requires.serves refl refl ended.result ended.ensures.ends ended.ensures.last ended.ensures.forgets ended.ensures.goes_on
     ended.ensures.settled ended.ensures.counts)
