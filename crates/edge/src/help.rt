@@ -21,9 +21,12 @@ some lines and ok, or no with a number and a name, as no 4 NotFound. An empty li
 and one that begins with # have none. These commands read: ls, stat, links, cat,
 read, streams, attr, sec, sd, reparse, objid, df, open, hread and close; time sets
 the moment that edits write, setattr PATH FLAGS the DOS flags of a file, in four
-hexadecimal digits, and its time of record change, and write TARGET AT HEX and
-hwrite H AT HEX put bytes over bytes of a stream that stand in clusters; other
-writes, and all other commands, are no 28 Unbuilt.
+hexadecimal digits, setsec PATH ID its security id where it has a place for one,
+each with its time of record change; write TARGET AT HEX and hwrite H AT HEX put
+bytes over bytes of a stream that stand in clusters. Of a stream that stands in a
+record of its file punch TARGET AT LEN puts zeros over bytes, and where that is the
+only record of the file truncate TARGET SIZE cuts it, and rmstream PATH:NAME
+removes it. All other writes, and all other commands, are no 28 Unbuilt.
 The first edit of a run marks the volume as not closed until the run ends, and
 empties its log; a hibernated system is not recognised, so shut it down before.
 A volume that check refuses is refused in the same words.

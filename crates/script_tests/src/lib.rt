@@ -15,4 +15,6 @@ mod reading;
 #[cfg(test)]
 mod script;
 #[cfg(test)]
+mod values;
+#[cfg(test)]
 mod writes;
