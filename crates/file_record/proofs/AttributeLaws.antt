@@ -1,22 +1,24 @@
 -- A record that is held into which an attribute came, from which one went, or of which one was replaced or resized: what the volume has.
 use Rattle.std.proofs.Common.{◌≡◌, ◌<◌, ℕ, zero, suc, List, [], ◌∷◌, Some, get_or, insert, remove, length, set}
 use Rattle.std.proofs.Common.{slice_get, refl, sym, ap, subst, ◌∙◌, arith}
-use Rattle.std.specs.Prelude.{IsTrue}
+use Rattle.std.specs.Prelude.{IsTrue, slice_index}
+use Rattle.std.specs.Option.{option_map}
 use Rattle.list_laws.proofs.OptionLaws.{some_same}
 use Rattle.list_laws.proofs.ReplacesLaws.{Replaces-insert}
 use Rattle.list_laws.specs.Replaces.{Replaces}
-use Rattle.ntfs_def.specs.Attribute.{Attribute, attribute_at, attribute_id, attributes}
+use Rattle.ntfs_def.specs.Attribute.{Attribute, attribute_at, attribute_id, attributes, value_of}
 use Rattle.ntfs_def.specs.Fixup.{Seals, opened_of}
 use Rattle.ntfs_def.specs.Record.{Header, header_of, next_attribute_id}
 use Rattle.ntfs_def.specs.Shape.{HasShape}
 use Rattle.ntfs_def.proofs.AttributeLaws.{length-attributes, slice_get-attributes}
 use Rattle.attr_view.specs.Edit.{Inserts, Removes, next_id_after, with_next_id}
-use Rattle.attr_view.specs.Values.{Resizes, attribute_in}
+use Rattle.attr_view.specs.Values.{ChangesBody, Resizes, attribute_in, with_length}
 use Rattle.volume_def.specs.Edits.{KeepsRecordHeader}
 use Rattle.volume_def.specs.View.{ReplacesBlock, VolumeView}
 use Rattle.file_record.specs.declared.held.Held.{Held}
 use Rattle.file_record.specs.declared.parts.FileParts.{FileParts}
-use Rattle.file_record.specs.Attributes.{InsertsAttribute, PutsInstead, RemovesAttribute, ReplacesAttribute, ResizesAttribute, header_after}
+use Rattle.file_record.specs.Attributes.{ChangesValue, InsertsAttribute, PutsIn, PutsInValue, PutsInstead, RemovesAttribute, ReplacesAttribute}
+use Rattle.file_record.specs.Attributes.{ResizesAttribute, header_after, with_bytes_at}
 use Rattle.file_record.specs.Held.{held_of}
 use Rattle.file_record.specs.Written.{IsWholeFile}
 use Rattle.file_record.proofs.OverwriteLaws.{resized-indexed}
@@ -145,25 +147,37 @@ module _ (old new : VolumeView) (file : FileParts) (k i : ℕ) (one now : Held) 
             (list-was old new file k one now stored told whole is inside same edits seals replaces);
       }
 
-  pub attribute-resized : (len : ℕ) → i < length (attributes one.block) → Resizes one.block now.block i len
-      → ResizesAttribute old new one.number i len
-  attribute-resized len lt resizes =
-      let edits = EditsHeld-changed one.block now.block i resizes.changes in
+  changed-value : (change : List ℕ → List ℕ) → i < length (attributes one.block) → ChangesBody one.block now.block i
+      → slice_index (attribute_in now.block i).bytes 0x16 ≡ slice_index (attribute_in one.block i).bytes 0x16
+      → value_of (attribute_in now.block i).body ≡ option_map change (value_of (attribute_in one.block i).body)
+      → ChangesValue old new one.number i change
+  changed-value change lt changes indexed value =
+      let edits = EditsHeld-changed one.block now.block i changes in
       record {
         stored = stored;
         was = a;
         now = attribute_in now.block i;
         there = there-was edits lt;
         edits = part-edited old new file k one now stored told whole is inside same edits seals replaces _ _
-            (same-header _ _ resizes.changes.header) (Replaces-changed one.block now.block i one-shape lt resizes.changes);
-        header_is = header-stays old new file k one now stored told whole is inside same edits seals replaces resizes.changes.header;
-        attributes_are = list-is old new file k one now stored told whole is inside same edits seals replaces ∙ resizes.changes.attributes
+            (same-header _ _ changes.header) (Replaces-changed one.block now.block i one-shape lt changes);
+        header_is = header-stays old new file k one now stored told whole is inside same edits seals replaces changes.header;
+        attributes_are = list-is old new file k one now stored told whole is inside same edits seals replaces ∙ changes.attributes
             ∙ ap (λ xs. set xs i (attribute_in now.block i))
             (list-was old new file k one now stored told whole is inside same edits seals replaces);
-        kind = resizes.changes.kind;
-        name = resizes.changes.name;
-        id = resizes.changes.id;
-        flags = resizes.changes.flags;
-        indexed = resized-indexed one.block now.block (length (attributes one.block)) i len one-shape lt resizes;
-        value = resizes.value;
+        kind = changes.kind;
+        name = changes.name;
+        id = changes.id;
+        flags = changes.flags;
+        indexed = indexed;
+        value = value;
       }
+
+  pub attribute-resized : (len : ℕ) → i < length (attributes one.block) → Resizes one.block now.block i len
+      → ResizesAttribute old new one.number i len
+  attribute-resized len lt resizes =
+      changed-value (with_length len) lt resizes.changes
+      (resized-indexed one.block now.block (length (attributes one.block)) i len one-shape lt resizes) resizes.value
+
+  pub attribute-put : (at : ℕ) (from : List ℕ) → i < length (attributes one.block) → PutsIn one.block now.block i at from
+      → PutsInValue old new one.number i at from
+  attribute-put at from lt puts = changed-value (with_bytes_at at from) lt puts.changes puts.indexed puts.value

@@ -23,5 +23,6 @@ mod HeldInserts
 mod HeldRemovals
 mod ExtensionLaws
 mod CreateLaws
+mod PutLaws
 mod AttributeLaws
 mod RecordEdits

@@ -7,7 +7,9 @@ use Rattle.list_laws.proofs.PieceLaws.{index_within, length_within}
 use Rattle.vol_bytes.specs.Field.{u16_at}
 use Rattle.vol_bytes.proofs.FieldLaws.{u32_at-same}
 use Rattle.ntfs_def.specs.Attribute.{NonResident, Resident, attribute_at, attribute_len, attribute_place, content_bytes, content_end, content_offset, extent_at, has_compressed_len, header_len, is_resident, runs_offset, value_of, value_offset}
+use Rattle.ntfs_def.specs.Record.{used_size}
 use Rattle.ntfs_def.specs.Shape.{HasShape, IsWhole}
+use Rattle.ntfs_def.proofs.PlaceLaws.{attribute_place-bounded}
 use Rattle.ntfs_def.proofs.ShapeLaws.{IsAttribute-long, header_failing-length, header_failing-used}
 use Rattle.attr_view.specs.Values.{PutsBytes, Resizes, WritesValue, attribute_in, len_with, resized_len, value_begin}
 
@@ -17,7 +19,7 @@ unfolding attribute_at
 bytes-at block p = ap (λ q. slice_range block q (p + attribute_len block p)) (let e : p + 0 ≡ p = omega arith in e)
 
 -- an attribute with a value has it in its content
-with-value : (block : List ℕ) (p : ℕ) (P : List ℕ → Type 0) → IsSomeAnd (value_of (attribute_at block p).body) P
+pub with-value : (block : List ℕ) (p : ℕ) (P : List ℕ → Type 0) → IsSomeAnd (value_of (attribute_at block p).body) P
     → (is_resident block p ≡ true) × P (content_bytes block p)
 unfolding attribute_at
 with-value block p P = by (is_resident block p)
@@ -144,6 +146,12 @@ module _ (old new from : List ℕ) (count i at : ℕ) (shape : HasShape old coun
       ap (λ bytes. slice_index bytes 0x16) now-bytes
       ∙ same-at old new p len 0x16 inside writes.bytes.rest.len (front (p + 0x16) (omega arith))
       ∙ sym (ap (λ bytes. slice_index bytes 0x16) was-bytes)
+
+  -- and so does the used size
+  pub attribute-used : used_size new ≡ used_size old
+  attribute-used =
+      let low = (attribute_place-bounded old count i shape (omega (arith, lt))).low in
+      u32_at-same old new 0x18 (λ k f t. front k (omega (arith, t, low)))
 
 -- AN ATTRIBUTE WHOSE VALUE HAS ANOTHER LENGTH: whether it is a key of an index stays.
 pub resized-indexed : (old new : List ℕ) (count i n : ℕ) → HasShape old count → i < count → Resizes old new i n

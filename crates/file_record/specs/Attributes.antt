@@ -1,6 +1,5 @@
--- What a volume is after an attribute came into a record of a file that is held, went, was put in another's place, or was given another
--- length.
-use Rattle.std.specs.Prelude.{◌≡◌, ◌+◌, ℕ, List, [], ◌∷◌, Some, length, slice_get, slice_index, slice_set}
+-- What a volume is after an attribute came into a record of a file that is held, went, was put in another's place, or has another value.
+use Rattle.std.specs.Prelude.{◌≡◌, ◌+◌, ◌≤◌, ℕ, List, [], ◌∷◌, Some, IsSomeAnd, length, max, slice_get, slice_index, slice_set}
 use Rattle.std.specs.List.{insert, remove}
 use Rattle.std.specs.Option.{option_map}
 use Rattle.ntfs_def.specs.Attribute.{Attribute, attribute_at, attribute_id, attribute_len, attribute_place, attributes, value_of}
@@ -8,7 +7,7 @@ use Rattle.ntfs_def.specs.Fixup.{opened_of}
 use Rattle.ntfs_def.specs.Record.{Header, header_of, is_in_use, used_size}
 use Rattle.ntfs_def.specs.Shape.{HasShape}
 use Rattle.attr_view.specs.Edit.{next_id_after, with_next_id}
-use Rattle.attr_view.specs.Values.{with_length}
+use Rattle.attr_view.specs.Values.{ChangesBody, attribute_in, len_with, overwritten, with_length}
 use Rattle.volume_def.specs.View.{VolumeView}
 use Rattle.volume_edits.specs.Rewritten.{EditsBlock, RewritesRecord}
 
@@ -54,8 +53,8 @@ pub record ReplacesAttribute (old new : VolumeView) (n i : ℕ) (attr : List ℕ
   pub header_is : header_of (opened_of stored) ≡ header_after (header_of (opened_record old n)) (attribute_id attr 0)
   pub attributes_are : attributes (opened_of stored) ≡ slice_set (attributes (opened_record old n)) i (attribute_at attr 0)
 
--- THE VALUE OF ATTRIBUTE i OF RECORD n HAS ANOTHER LENGTH, all else of the attribute stays, and nothing else of the volume changed.
-pub record ResizesAttribute (old new : VolumeView) (n i len : ℕ) : Type 0 where
+-- THE VALUE OF ATTRIBUTE i OF RECORD n WAS CHANGED so, all else of the attribute stays, and nothing else of the volume changed.
+pub record ChangesValue (old new : VolumeView) (n i : ℕ) (change : List ℕ → List ℕ) : Type 0 where
   pub stored : List ℕ
   pub was : Attribute
   pub now : Attribute
@@ -69,4 +68,32 @@ pub record ResizesAttribute (old new : VolumeView) (n i len : ℕ) : Type 0 wher
   pub flags : now.flags ≡ was.flags
   -- whether the value is a key of an index
   pub indexed : slice_index now.bytes 0x16 ≡ slice_index was.bytes 0x16
-  pub value : value_of now.body ≡ option_map (with_length len) (value_of was.body)
+  pub value : value_of now.body ≡ option_map change (value_of was.body)
+
+-- It has another length.
+abbrev pub ResizesAttribute : VolumeView → VolumeView → ℕ → ℕ → ℕ → Type 0
+ResizesAttribute old new n i len = ChangesValue old new n i (with_length len)
+
+-- These bytes stand in it from `at` on, and it is as long as they need, with zeros before them where it was shorter.
+abbrev pub with_bytes_at : ℕ → List ℕ → List ℕ → List ℕ
+with_bytes_at at from value = overwritten (with_length (max (at + length from) (length value)) value) at from
+
+abbrev pub PutsInValue : VolumeView → VolumeView → ℕ → ℕ → ℕ → List ℕ → Type 0
+PutsInValue old new n i at from = ChangesValue old new n i (with_bytes_at at from)
+
+-- In an opened record: attribute i is a value, and the record has room for it where n bytes are put into it from `at` on.
+abbrev pub HasRoomToPut : List ℕ → ℕ → ℕ → ℕ → Type 0
+HasRoomToPut block i at n = IsSomeAnd (value_of (attribute_in block i).body) (λ value.
+    used_size block + len_with block i (max (at + n) (length value)) ≤ 1024 + attribute_len block (attribute_place block i))
+
+-- the bytes that are used then
+abbrev pub IsRoomAfterPut : List ℕ → List ℕ → ℕ → ℕ → ℕ → Type 0
+IsRoomAfterPut old new i at n = IsSomeAnd (value_of (attribute_in old i).body) (λ value.
+    used_size new + attribute_len old (attribute_place old i) ≡ used_size old + len_with old i (max (at + n) (length value)))
+
+-- The opened record has these bytes in the value of its attribute i, from `at` on.
+pub record PutsIn (old new : List ℕ) (i at : ℕ) (from : List ℕ) : Type 0 where
+  pub changes : ChangesBody old new i
+  pub used : IsRoomAfterPut old new i at (length from)
+  pub indexed : slice_index (attribute_in new i).bytes 0x16 ≡ slice_index (attribute_in old i).bytes 0x16
+  pub value : value_of (attribute_in new i).body ≡ option_map (with_bytes_at at from) (value_of (attribute_in old i).body)

@@ -1,5 +1,5 @@
-//! Attributes of one record of a file: one that comes, goes, is put in another's place, or is given another length.
-ghost use Rattle.std.specs.Prelude.{◌≡◌, ◌+◌, ◌*◌, ◌<◌, ◌≤◌, IfErr, IsSome, IsTrue, OnErr, OnOk, false, length};
+//! Attributes of one record of a file: one that comes, goes, is put in another's place, or has another value.
+ghost use Rattle.std.specs.Prelude.{◌≡◌, ◌+◌, ◌*◌, ◌<◌, ◌≤◌, IfErr, IsSome, IsSomeAnd, IsTrue, OnErr, OnOk, false, length};
 ghost use Rattle.ntfs_def.specs.Attribute.{attribute_len, attribute_place, attributes, value_of};
 ghost use Rattle.ntfs_def.specs.Record.{header_of, used_size};
 ghost use Rattle.ntfs_def.specs.Shape.{HasShape, IsOneAttribute};
@@ -9,12 +9,13 @@ ghost use Rattle.volume_def.specs.Coverage.{IsApart};
 ghost use Rattle.mft_table.specs.Mft.{MftReserves, MftStages, is_mft_broken, mounted_of, view};
 ghost use Rattle.mft_table.specs.MirrorClusters.{IsMirrorInside};
 ghost use Rattle.mft_table.specs.Staging.{record_places};
-ghost use Rattle.file_record.specs.Attributes.{InsertsAttribute, PutsInstead, RemovesAttribute};
-ghost use Rattle.file_record.specs.Attributes.{ReplacesAttribute, ResizesAttribute};
+ghost use Rattle.file_record.specs.Attributes.{HasRoomToPut, InsertsAttribute, IsRoomAfterPut, PutsIn, PutsInValue, PutsInstead};
+ghost use Rattle.file_record.specs.Attributes.{RemovesAttribute, ReplacesAttribute, ResizesAttribute};
 ghost use Rattle.file_record.specs.Held.{RecordHeld, held_of};
 ghost use Rattle.file_record.specs.Links.{HoldsSame};
 ghost use Rattle.file_record.specs.Written.{IsWholeFile};
 
+use crate::write::write_value_in;
 use crate::{FileNo, FileParts, Held};
 use attr_view::RecordMut;
 use mft_table::Mft;
@@ -82,9 +83,24 @@ fn resize_in(block: &mut [u8; 1024], i: usize, len: usize)
     }
 }
 
+// Puts bytes into the value of attribute i, of `len` bytes, from its byte `at` on. The record has room for it then.
+fn put_in(block: &mut [u8; 1024], i: usize, len: usize, at: usize, from: &[u8])
+    requires shape { HasShape block.old (length (attributes block.old)) }
+    requires within { i < length (attributes block.old) }
+    requires value { IsSomeAnd (value_of (attribute_in block.old i).body) (λ value. len ≡ length value) }
+    requires few { len ≤ 1024 }
+    requires most { at + length from.now ≤ 65536 }
+    requires fits { HasRoomToPut block.old i at (length from.now) }
+    ensures { PutsIn block.old block.new i at from.now }
+{
+    let end = at + from.len();
+    resize_in(block, i, end.max(len));
+    write_value_in(block, i, at, from);
+}
+
 impl Held {
-    // How many bytes no attribute takes.
-    fn free_bytes(&self) -> usize
+    /// How many bytes no attribute takes.
+    pub fn free_bytes(&self) -> usize
         ensures { result + used_size self.now.block ≡ 1024 }
     {
         RECORD - u32_at(&self.block, record_header::USED_SIZE) as usize
@@ -143,6 +159,31 @@ impl Held {
         ensures edited { Resizes self.old.block self.new.block i len }
     {
         resize_in(&mut self.block, i, len);
+    }
+
+    // How long the value of attribute i is, a resident one.
+    fn value_len(&self, i: usize) -> usize
+        requires within { i < length (attributes self.now.block) }
+        requires resident { IsSome (value_of (attribute_in self.now.block i).body) }
+        ensures len { IsSomeAnd (value_of (attribute_in self.now.block i).body) (λ value. result ≡ length value) }
+        ensures few { result ≤ 1024 }
+    {
+        match self.view().attr(i).value() {
+            Some(value) => value.len(),
+            None => unreachable!(),
+        }
+    }
+
+    // Puts bytes into the value of attribute i, from its byte `at` on.
+    fn put_in_value(&mut self, i: usize, at: usize, from: &[u8])
+        requires within { i < length (attributes self.old.block) }
+        requires most { at + length from.now ≤ 65536 }
+        requires fits { HasRoomToPut self.old.block i at (length from.now) }
+        ensures number { self.new.number ≡ self.old.number }
+        ensures edited { PutsIn self.old.block self.new.block i at from.now }
+    {
+        let len = self.value_len(i);
+        put_in(&mut self.block, i, len, at, from);
     }
 }
 
@@ -320,6 +361,47 @@ impl FileParts {
     {
         let held = &mut self.held[place];
         held.resize_attribute(i, len);
+        held.stage(mft)
+    }
+
+    /// Puts bytes into the value of attribute `i` of the record that is held at `place`, a resident one, from its byte `at` on, and stages
+    /// the record once, with its copy where the mirror has one. The value is as long as they need, at most 65,536 bytes, with zeros before
+    /// them where it was shorter, and it never gets shorter. All else stays, and the parts are those of the image then.
+    ///
+    /// # Errors
+    ///
+    /// `Memory` where there is none for four more staged sectors. Nothing is staged, and of what is held only the numbers are told.
+    pub fn put_in_value<D: Disk>(
+        &mut self,
+        mft: &mut Mft<'_, D>,
+        place: usize,
+        i: usize,
+        at: usize,
+        from: &[u8],
+    ) -> Result<(), FileNo>
+        requires place { RecordHeld self.old place (λ held. i < length (attributes held.block)) }
+        requires most { at + length from.now ≤ 65536 }
+        requires fits { RecordHeld self.old place (λ held. HasRoomToPut held.block i at (length from.now)) }
+        requires mirror { IsMirrorInside (mounted_of D.Disk mft.old) }
+        requires sound { is_mft_broken D.Disk mft.old ≡ false }
+        ensures put { OnOk result (IsTrue (view D.Disk mft.old).told → IsApart (view D.Disk mft.old).layout
+            → IsWholeFile (view D.Disk mft.old) self.old
+            → RecordHeld self.old place (λ held. 1024 * held.number + 1024 ≤ (view D.Disk mft.old).layout.initialized
+            → PutsInValue (view D.Disk mft.old) (view D.Disk mft.new) held.number i at from.now)) }
+        ensures held { OnOk result (IsTrue (view D.Disk mft.old).told → IsApart (view D.Disk mft.old).layout
+            → IsWholeFile (view D.Disk mft.old) self.old
+            → RecordHeld self.old place (λ held. 1024 * held.number + 1024 ≤ (view D.Disk mft.old).layout.initialized)
+            → IsWholeFile (view D.Disk mft.new) self.new) }
+        ensures same { HoldsSame self.old self.new }
+        ensures room { OnOk result (RecordHeld self.old place (λ was. RecordHeld self.new place (λ held.
+            IsRoomAfterPut was.block held.block i at (length from.now)))) }
+        ensures stages { OnOk result (RecordHeld self.old place (λ held.
+            MftStages D.Disk (record_places (view D.Disk mft.old).layout held.number) 4 mft.old mft.new)) }
+        ensures kept { OnErr result (MftReserves D.Disk mft.old mft.new) }
+        ensures memory { IfErr result (λ no. no ≡ FileNo.Memory) }
+    {
+        let held = &mut self.held[place];
+        held.put_in_value(i, at, from);
         held.stage(mft)
     }
 }

@@ -17,7 +17,7 @@ use mft_table::Mft;
 use vol_disk::Disk;
 
 // Writes bytes into the value of attribute i of a record, from its byte `at` on.
-fn write_value_in(block: &mut [u8; 1024], i: usize, at: usize, from: &[u8])
+pub(crate) fn write_value_in(block: &mut [u8; 1024], i: usize, at: usize, from: &[u8])
     requires shape { HasShape block.old (length (attributes block.old)) }
     requires within { i < length (attributes block.old) }
     requires inside { IsSomeAnd (value_of (attribute_in block.old i).body) (λ value. at + length from.now ≤ length value) }

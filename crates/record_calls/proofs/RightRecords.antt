@@ -24,7 +24,7 @@ use Rattle.volume_def.specs.Edits.{KeepsRecordHeader}
 use Rattle.volume_def.specs.Files.{Part, Record, content_of, content_value, is_base, part_of, record_of}
 use Rattle.volume_def.specs.View.{VolumeView}
 use Rattle.volume_edits.specs.Rewritten.{EditsBlock, RewritesRecord}
-use Rattle.file_record.specs.Attributes.{InsertsAttribute, ResizesAttribute, opened_record}
+use Rattle.file_record.specs.Attributes.{ChangesValue, InsertsAttribute, ResizesAttribute, opened_record}
 use Rattle.record_calls.specs.Edits.{record_there}
 use Rattle.record_calls.specs.Rising.{RisesAt}
 use Rattle.record_calls.proofs.Values.{body-value, value-mapped}
@@ -185,29 +185,30 @@ module _ (old new : VolumeView) (n : ℕ) where
 length-with : (len : ℕ) (value : List ℕ) → length (with_length len value) ≡ len
 length-with len value = simp (length-append, length-take, length-replicate) (omega arith)
 
-resized-long : (was now : Body) (len : ℕ) → value_of now ≡ option_map (with_length len) (value_of was)
-    → IsSomeAnd (content_value (content_of was)) (λ value. (length value ≡ 48) ⊎ (length value ≡ 72)) → (len ≡ 48) ⊎ (len ≡ 72)
+changed-long : (was now : Body) (change : List ℕ → List ℕ) → value_of now ≡ option_map change (value_of was)
+    → IsSomeAnd (content_value (content_of was)) (λ value. (length value ≡ 48) ⊎ (length value ≡ 72))
+    → ((value : List ℕ) → (length (change value) ≡ 48) ⊎ (length (change value) ≡ 72))
     → IsSomeAnd (content_value (content_of now)) (λ value. (length value ≡ 48) ⊎ (length value ≡ 72))
-resized-long (Resident value) now len e is which =
-    subst (λ o. IsSomeAnd o (λ value. (length value ≡ 48) ⊎ (length value ≡ 72))) (sym (body-value now ∙ e))
-    (elim which [ inl a ↦ inl (length-with len value ∙ a) | inr b ↦ inr (length-with len value ∙ b) ])
-resized-long (NonResident extent text) now len e is which = absurd is
+changed-long (Resident value) now change e is which =
+    subst (λ o. IsSomeAnd o (λ value. (length value ≡ 48) ⊎ (length value ≡ 72))) (sym (body-value now ∙ e)) (which value)
+changed-long (NonResident extent text) now change e is which = absurd is
 
--- A VALUE has another length
-pub right-resize : (old new : VolumeView) (n i len : ℕ) → (e : ResizesAttribute old new n i len) → IsRightRecord n (record_there old n)
-    → e.was.kind ≢ FILE_NAME
-    → (IsTrue (is_base (record_there old n)) → e.was.kind ≡ STANDARD_INFORMATION → (len ≡ 48) ⊎ (len ≡ 72))
+-- A VALUE was changed: no name of a file, and a $STANDARD_INFORMATION so that it has one of its two lengths
+pub right-change : (old new : VolumeView) (n i : ℕ) (change : List ℕ → List ℕ) → (e : ChangesValue old new n i change)
+    → IsRightRecord n (record_there old n) → e.was.kind ≢ FILE_NAME
+    → (IsTrue (is_base (record_there old n)) → e.was.kind ≡ STANDARD_INFORMATION
+    → (value : List ℕ) → (length (change value) ≡ 48) ⊎ (length (change value) ≡ 72))
     → IsRightRecord n (record_of n (opened_of e.stored))
-right-resize old new n i len e right other long =
+right-change old new n i change e right other long =
     right-put old new n e.stored e.was e.now e.edits right e.kind (inl e.id) (record {
       resident = λ kept. subst IsSome (sym (body-value e.now.body))
-          (value-mapped e.was.body e.now.body (with_length len) e.value (subst IsSome (body-value e.was.body)
+          (value-mapped e.was.body e.now.body change e.value (subst IsSome (body-value e.was.body)
           (was_right.resident (ap is_kept_resident (sym e.kind) ∙ kept))));
       name = λ k. absurd (other (sym e.kind ∙ k));
     }) (λ b k.
     let standard : IsStandard (part_of n e.was) = All-contains (λ (part : Part). part.kind ≡ STANDARD_INFORMATION → IsStandard part)
     (record_there old n).parts (part_of n e.was) (right.standard b) stood (sym e.kind ∙ k) in
-    (e.name ∙ standard.0, resized-long e.was.body e.now.body len e.value standard.1 (long b (sym e.kind ∙ k))))
+    (e.name ∙ standard.0, changed-long e.was.body e.now.body change e.value standard.1 (long b (sym e.kind ∙ k))))
   where
     stood : Contains (record_there old n).parts (part_of n e.was)
     stood = Replaces-stood _ _ _ _ (part_of n e.was)
@@ -215,3 +216,14 @@ right-resize old new n i len e right other long =
 
     was_right : IsRightPart (part_of n e.was)
     was_right = All-contains IsRightPart (record_there old n).parts (part_of n e.was) right.each stood
+
+-- .. as where it has another length
+pub right-resize : (old new : VolumeView) (n i len : ℕ) → (e : ResizesAttribute old new n i len) → IsRightRecord n (record_there old n)
+    → e.was.kind ≢ FILE_NAME
+    → (IsTrue (is_base (record_there old n)) → e.was.kind ≡ STANDARD_INFORMATION → (len ≡ 48) ⊎ (len ≡ 72))
+    → IsRightRecord n (record_of n (opened_of e.stored))
+right-resize old new n i len e right other long =
+    right-change old new n i (with_length len) e right other (λ b k value. elim (long b k) [
+      | inl a ↦ inl (length-with len value ∙ a)
+      | inr b ↦ inr (length-with len value ∙ b)
+    ])
