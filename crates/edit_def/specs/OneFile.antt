@@ -1,19 +1,27 @@
 -- The bills of commands that change one file, and of the calls that they make.
-use Rattle.std.specs.Prelude.{◌≡◌, ℕ, ◌+◌, ◌*◌, ◌/◌, ◌≤◌, true, false, [], ◌∷◌, filter, is_some, sum_by}
+use Rattle.std.specs.Prelude.{◌≡◌, ℕ, ◌+◌, ◌*◌, ◌/◌, ◌≤◌, true, false, [], ◌∷◌, filter, Option, Some, is_some, sum_by}
 use Rattle.ntfs_def.specs.declared.kinds.TheConstants.{DATA}
 use Rattle.ntfs_def.specs.declared.records.TheConstants.{MFT}
 use Rattle.volume_def.specs.Files.{is_of, parts, records_of}
 use Rattle.volume_def.specs.Table.{cluster_bytes}
 use Rattle.volume_def.specs.View.{VolumeView}
-use Rattle.tree_model.specs.NoRoom.{need_on}
+use Rattle.tree_model.specs.NoRoom.{need_on, no_room_for}
+use Rattle.tree_model.specs.declared.reply.No.{No}
 use Rattle.edit_def.specs.Purses.{list_len_in, part_size}
 use Rattle.tree_model.specs.Need.{Bill, Touched, list_growth}
 use Rattle.edit_def.specs.Account.{Wants, at_file}
-use Rattle.volume_def.specs.Room.{longest_name, unowned_clusters}
+use Rattle.volume_def.specs.Room.{list_len_of, longest_name, unowned_clusters}
 
 -- the bill of a command that touches one file, and counts no entry of an index
 abbrev pub one_file : ℕ → Touched → Bill
 one_file k touched = record { new_files = 0; clusters = k; touched = touched ∷ []; counted = [] }
+
+-- the file as the bill of a command has it that makes no attribute with a longer name, and the refusal for room that is due for that bill
+abbrev pub touched_alone : VolumeView → ℕ → Touched
+touched_alone view f = record { file = Some f; list_len = list_len_of view f; name_units = longest_name (parts (records_of view) f) }
+
+abbrev pub no_room_alone : VolumeView → ℕ → ℕ → Option No
+no_room_alone view f k = no_room_for view (one_file k (touched_alone view f))
 
 -- of `put_runs`: clusters newly named, and runs more than before
 abbrev pub runs_wants : ℕ → ℕ → ℕ → Wants
