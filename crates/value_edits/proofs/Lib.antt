@@ -4,3 +4,4 @@ pub mod SoundEdited
 pub mod StreamPut
 pub mod ValueShown
 pub mod ValueCalls
+pub mod WrittenBytes

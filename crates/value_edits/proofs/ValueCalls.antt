@@ -1,11 +1,10 @@
--- THE CALLS that edit a value of a stream: it has another length, or it goes.
+-- THE CALLS that edit a value of a stream: it has other bytes, or it goes.
 use Rattle.std.proofs.Common.{◌≡◌, ◌≢◌, ℕ, List, [], ◌∷◌, None, Option, Some, false, refl, sym, ap, subst, ◌∙◌, arith}
 use Rattle.std.specs.Prelude.{IfSome, IsSome, IsSomeAnd}
 use Rattle.std.specs.Option.{option_map}
 use Rattle.ntfs_def.specs.Attribute.{Attribute, value_of}
 use Rattle.ntfs_def.specs.Flags.{is_packed}
 use Rattle.ntfs_def.specs.declared.kinds.TheConstants.{DATA, FILE_NAME, STANDARD_INFORMATION}
-use Rattle.attr_view.specs.Values.{with_length}
 use Rattle.volume_def.specs.AttributesClause.{IsRightRecord}
 use Rattle.volume_def.specs.Files.{Part, part_of, parts_at}
 use Rattle.volume_def.specs.Readable.{IsReadableVolume}
@@ -13,14 +12,13 @@ use Rattle.volume_def.specs.Sound as clauses
 use Rattle.volume_def.specs.Values.{first_part}
 use Rattle.volume_def.specs.View.{VolumeView}
 use Rattle.volume_edits.specs.Rewritten.{EditsBlock}
-use Rattle.tree_model.specs.Streams.{resized}
 use Rattle.tree_model.specs.declared.tree.Node.{Node}
 use Rattle.edit_def.specs.Kept.{Key, key_of}
 use Rattle.record_edits.proofs.BlockEdits.{was-at}
-use Rattle.file_record.specs.Attributes.{RemovesAttribute, ResizesAttribute}
+use Rattle.file_record.specs.Attributes.{ChangesValue, RemovesAttribute}
 use Rattle.record_calls.specs.Calls.{IsInOneRecord}
 use Rattle.record_calls.specs.Edits.{record_there}
-use Rattle.record_calls.proofs.RightRecords.{right-go, right-resize}
+use Rattle.record_calls.proofs.RightRecords.{right-change, right-go}
 use Rattle.record_calls.proofs.Values.{value-mapped}
 use Rattle.stream_edits.specs.Streams.{ShowsBytes}
 use Rattle.in_place_owed.proofs.MarksLaws.{marks-right, right_marks}
@@ -73,14 +71,14 @@ module _ (old new : VolumeView) (f : ℕ) (node : Node) (asked name held : List 
         let shows = alone-shown old key (part_of f e.was) bytes alone (value-content e.was.body bytes is) plain in
         sym shows.value ∙ found.value old f node asked name held readable (file old f node can.there) can.there finds
 
--- ANOTHER LENGTH
-module _ (old new : VolumeView) (f i len : ℕ) (e : ResizesAttribute old new f i len) (name : List ℕ) (is : IsStreamValue name e.was)
-    (one : IsInOneRecord old f) (sound : clauses.IsSound old) where
+-- OTHER BYTES
+module _ (old new : VolumeView) (f i : ℕ) (change : List ℕ → List ℕ) (e : ChangesValue old new f i change) (name : List ℕ)
+    (is : IsStreamValue name e.was) (one : IsInOneRecord old f) (sound : clauses.IsSound old) where
   now-value : IsSome (value_of e.now.body)
-  now-value = value-mapped e.was.body e.now.body (with_length len) e.value is.value
+  now-value = value-mapped e.was.body e.now.body change e.value is.value
 
-  resized-edit : EditsValue (key_of f DATA name) old new
-  resized-edit = record {
+  changed-edit : EditsValue (key_of f DATA name) old new
+  changed-edit = record {
     one = one;
     kind = refl;
     stored = e.stored;
@@ -98,26 +96,26 @@ module _ (old new : VolumeView) (f i len : ℕ) (e : ResizesAttribute old new f 
       form = form-same e.was e.now is.value now-value e.kind e.name e.indexed;
       value = now-value;
     };
-    right = right-resize old new f i len e (was-right f old new e.stored (e.was ∷ []) (e.now ∷ []) e.edits sound)
+    right = right-change old new f i change e (was-right f old new e.stored (e.was ∷ []) (e.now ∷ []) e.edits sound)
         (no-name e.was is.kind) (λ base standard. absurd (no-standard e.was is.kind standard));
   }
 
-pub resized-put : (old new : VolumeView) (f i len : ℕ) (node : Node) (asked name held : List ℕ) → (e : ResizesAttribute old new f i len)
-    → CanSet old f node → FindsPlain old f node asked name held → IsInOneRecord old f → IsStreamValue name e.was
-    → PutsValue old new f name (Some (resized len held))
-unfolding resized-edit
-resized-put old new f i len node asked name held e can finds one is =
-    let edit = resized-edit old new f i len e name is one can.sound in
+pub changed-put : (old new : VolumeView) (f i : ℕ) (change : List ℕ → List ℕ) (node : Node) (asked name held : List ℕ)
+    → (e : ChangesValue old new f i change) → CanSet old f node → FindsPlain old f node asked name held → IsInOneRecord old f
+    → IsStreamValue name e.was → PutsValue old new f name (Some (change held))
+unfolding changed-edit
+changed-put old new f i change node asked name held e can finds one is =
+    let edit = changed-edit old new f i change e name is one can.sound in
     let key : Key = key_of f DATA name in
     let was = value-there e.was.body is.value in
     let free = plain old new f node asked name held can finds edit was.0 was.1 in
     let same : was.0 ≡ held = shown old new f node asked name held can finds edit was.0 was.1 in
-    let content = value-content e.now.body (with_length len was.0) (e.value ∙ ap (option_map (with_length len)) was.1) in
+    let content = value-content e.now.body (change was.0) (e.value ∙ ap (option_map change) was.1) in
     let alone = value.stands key old new (right_marks old) can.sound can.apart (marks-right old) edit in
     record {
       edits = edit;
-      shows = subst (λ (value : List ℕ). ShowsBytes new key (with_length len value)) same
-          (alone-shown new key (part_of f e.now) (with_length len was.0) alone content (ap (is_packed DATA) e.flags ∙ free));
+      shows = subst (λ (value : List ℕ). ShowsBytes new key (change value)) same
+          (alone-shown new key (part_of f e.now) (change was.0) alone content (ap (is_packed DATA) e.flags ∙ free));
     }
 
 -- IT GOES.
