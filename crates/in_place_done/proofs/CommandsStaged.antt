@@ -5,6 +5,7 @@ use Rattle.volume_def.specs.Values.{spot_at}
 use Rattle.volume_def.specs.View.{VolumeView}
 use Rattle.tree_model.specs.Answers.{bytes_at}
 use Rattle.tree_model.specs.Effects.{put_stream, tree_after}
+use Rattle.tree_model.specs.Staging.{is_done_in_place}
 use Rattle.tree_model.specs.StreamRoom.{is_cluster, parts_named}
 use Rattle.tree_model.specs.Streams.{punched, written}
 use Rattle.tree_model.specs.Subjects.{Located}
@@ -17,15 +18,16 @@ use Rattle.session_def.specs.State.{Stands, State}
 use Rattle.attribute_edits.proofs.SecuredVolume.{secured}
 use Rattle.stream_overwrites.specs.Overwritten.{zeros_in}
 use Rattle.stream_overwrites.proofs.OverReading.{overwritten, value-overwritten}
-use Rattle.in_place_owed.specs.SetsInPlace.{edits_in_place, punches_stream}
+use Rattle.in_place_owed.specs.SetsInPlace.{punches_stream}
 use Rattle.in_place_owed.proofs.Owes as in_place
-use Rattle.in_place_done.specs.Written.{PunchesStream, Stages, WritesStream}
+use Rattle.in_place_done.specs.Written.{PunchesStream, PutsInStream, Stages, WritesStream}
 use Rattle.in_place_done.proofs.HeldStream.{HoldsStream, finds-plain}
 use Rattle.in_place_done.proofs.PunchedStream.{nowhere, punched-written, value-held}
 use Rattle.in_place_done.proofs.SecureStaged.{secure-staged}
 use Rattle.in_place_done.proofs.SetStaged.{set-staged}
 use Rattle.in_place_done.proofs.SetOwed.{set-alone, set-in-place}
 use Rattle.in_place_done.proofs.StagedVolume.{CanBeEdited, CanBeWritten, IsStaged, can-be-set}
+use Rattle.in_place_done.proofs.Ways.{InPlace}
 use Rattle.in_place_done.proofs.WriteStaged.{write-staged}
 
 -- the volume of an image is told
@@ -33,13 +35,13 @@ tells : (before : State) → Stands before → IsTrue before.view.told
 tells before stands = ap (λ (v : VolumeView). v.told) stands.volume.is
 
 -- what writes do to the tree
-write-effect : (before : State) (path : List (List ℕ)) (stream : Option (List ℕ)) (from : ℕ) (bytes : List ℕ) (at : Located)
+pub write-effect : (before : State) (path : List (List ℕ)) (stream : Option (List ℕ)) (from : ℕ) (bytes : List ℕ) (at : Located)
     → tree_after before.machine (c.Write path stream from bytes) at 0
     ≡ put_stream before.machine.now at (written from bytes (bytes_at at)) before.machine.tree
 unfolding tree_after
 write-effect before path stream from bytes at = refl
 
-hwrite-effect : (before : State) (handle from : ℕ) (bytes : List ℕ) (at : Located)
+pub hwrite-effect : (before : State) (handle from : ℕ) (bytes : List ℕ) (at : Located)
     → tree_after before.machine (c.Hwrite handle from bytes) at 0
     ≡ put_stream before.machine.now at (written from bytes (bytes_at at)) before.machine.tree
 unfolding tree_after
@@ -85,15 +87,18 @@ punch-staged before path stream from len at node new is s =
     (nowhere before.view p.mid at.file node at.stream s.name start bytes h.held is.can finds p.over vcn))
 
 -- WHAT A COMMAND STAGES that is done in place is as it is to be.
-pub is-staged : (before : State) (command : Command) (at : Located) (node : Node) (new : VolumeView) → edits_in_place command ≡ true
+pub is-staged : (before : State) (command : Command) (at : Located) (node : Node) (new : VolumeView)
+    → is_done_in_place before.view before.machine.tree command at ≡ true
     → CanBeEdited before command at node → Stages before command at at.file node new → IsStaged before command at new
 is-staged before (c.Setattr path flags) at node new place is stages =
     set-staged before is.stands path flags is.shown at node is.can new stages
 is-staged before (c.Write path stream from bytes) at node new place is stages =
-    over-staged before (c.Write path stream from bytes) at node new from bytes is (is.stream refl) stages (λ key. refl)
+    over-staged before (c.Write path stream from bytes) at node new from bytes is (is.stream refl)
+    (subst (λ b. PutsInStream b before at at.file node from bytes new) place stages) (λ key. refl)
     (write-effect before path stream from bytes at) (λ punches. cc)
 is-staged before (c.Hwrite handle from bytes) at node new place is stages =
-    over-staged before (c.Hwrite handle from bytes) at node new from bytes is (is.stream refl) stages (λ key. refl)
+    over-staged before (c.Hwrite handle from bytes) at node new from bytes is (is.stream refl)
+    (subst (λ b. PutsInStream b before at at.file node from bytes new) place stages) (λ key. refl)
     (hwrite-effect before handle from bytes at) (λ punches. cc)
 is-staged before (c.Punch path stream from len) at node new place is stages =
     punch-staged before path stream from len at node new is stages
@@ -103,10 +108,11 @@ is-staged before (c.Setsec path id) at node new place is stages =
 is-staged before other at node new place is stages = cc
 
 -- SO IT CAN BE WRITTEN.
-pub place-written : (before : State) (command : Command) (at : Located) (node : Node) (new : VolumeView) → edits_in_place command ≡ true
+pub place-written : (before : State) (command : Command) (at : Located) (node : Node) (new : VolumeView)
+    → InPlace before.view before.machine.tree command at
     → CanBeEdited before command at node → Stages before command at at.file node new → CanBeWritten before command at new
 place-written before command at node new place is stages =
-    let s = is-staged before command at node new place is stages in
+    let s = is-staged before command at node new place.is is stages in
     let can = can-be-set before command at node place is in
     record {
       sound = s.set.sound;

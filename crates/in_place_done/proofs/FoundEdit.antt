@@ -1,21 +1,16 @@
 -- A COMMAND THAT IS DONE, whose words led to a file that can be edited.
-use Rattle.std.proofs.Common.{◌≡◌, ◌&&◌, ◌||◌, not, ◌≤◌, ℕ, Bool, true, false, Some, Ok, length, refl, sym, ap, subst, ◌∙◌}
-use Rattle.std.proofs.lemmas.Bool.{and_parts, or_parts}
+use Rattle.std.proofs.Common.{◌≡◌, ◌&&◌, ◌||◌, not, ◌≤◌, ℕ, Bool, true, false, Some, Ok, refl, sym, ap, subst, ◌∙◌}
+use Rattle.std.proofs.lemmas.Bool.{or_parts}
 use Rattle.std.specs.List.{Contains}
-use Rattle.std.specs.Prelude.{is_some}
 use Rattle.ntfs_def.specs.FileName.{FileName}
 use Rattle.volume_def.specs.FileNames.{names_of}
 use Rattle.volume_def.specs.Files.{records_of}
-use Rattle.volume_def.specs.Table.{cluster_bytes}
-use Rattle.volume_def.specs.Values.{first_part}
 use Rattle.volume_def.specs.View.{VolumeView}
 use Rattle.tree_model.specs.Cases.{packed}
 use Rattle.tree_model.specs.Effects.{makes_file}
 use Rattle.tree_model.specs.Refusals.{Facts, is_edit}
-use Rattle.tree_model.specs.Staging.{cannot_edit, gets_no_longer, has_no_list, is_built_for, is_value_alone}
-use Rattle.tree_model.specs.StreamRoom.{stream_parts, stream_value}
+use Rattle.tree_model.specs.Staging.{cannot_edit, is_built_for}
 use Rattle.tree_model.specs.Subjects.{Located, Machine, locate, subject_of}
-use Rattle.tree_model.specs.Tree.{Tree}
 use Rattle.tree_model.specs.declared.command.Command.{Command}
 use Rattle.tree_model.specs.declared.command.Command.TheVariants as c
 use Rattle.tree_model.specs.declared.tree.Node.{Node}
@@ -26,9 +21,10 @@ use Rattle.command_edits.proofs.AllowedCommands.{allowed}
 use Rattle.attribute_edits.specs.Attributes.{CanSet}
 use Rattle.in_place_done.specs.Written.{FindsFile, is_done}
 use Rattle.in_place_done.proofs.FoundFile.{has-content, leads-there}
-use Rattle.in_place_done.proofs.HeldStream.{HoldsStream, over-some, stream-held, value-some}
+use Rattle.in_place_done.proofs.HeldStream.{HoldsStream, stream-held}
 use Rattle.in_place_done.proofs.StagedVolume.{CanBeEdited}
 use Rattle.in_place_done.proofs.TreeBehind.{node-there}
+use Rattle.in_place_done.proofs.Ways.{stream-some}
 
 not-false : (b : Bool) → not b ≡ false → b ≡ true
 not-false true e = refl
@@ -50,33 +46,26 @@ makes-none (c.Create path) is makes = cc
 makes-none (c.Mkdir path) is makes = cc
 makes-none other is makes = cc
 
--- a stream that is cut or goes is a value
-alone-some : (view : VolumeView) (tree : Tree) (at : Located) → is_value_alone view tree at ≡ true
-    → is_some (first_part (stream_parts view tree at)) ≡ true
-alone-some view tree at built =
-    value-some (stream_parts view tree at)
-    (and_parts (is_some (stream_value (stream_parts view tree at))) (has_no_list view at.file) built).0
-
 -- the stream that a command names
 stream-of : (view : VolumeView) (m : Machine) (session : ℕ) (command : Command) (at : Located) (node : Node) → at.node ≡ Some node
     → is_done command ≡ true → edits_stream command ≡ true → locate m session (subject_of command) ≡ Ok at
     → packed (subject_of command) at ≡ false → is_built_for view m.tree command at ≡ true → HoldsStream m.tree at node
-stream-of view m session (c.Setattr path flags) at node there is edits found plain built = cc
 stream-of view m session (c.Write path stream from bytes) at node there is edits found plain built =
     stream-held view m.tree at node there (has-content m session (c.Write path stream from bytes) at refl refl found) plain
-    (over-some (cluster_bytes view.layout) (stream_parts view m.tree at) from (length bytes) built)
+    (stream-some view m.tree (c.Write path stream from bytes) at refl built)
 stream-of view m session (c.Hwrite handle from bytes) at node there is edits found plain built =
     stream-held view m.tree at node there (has-content m session (c.Hwrite handle from bytes) at refl refl found) plain
-    (over-some (cluster_bytes view.layout) (stream_parts view m.tree at) from (length bytes) built)
+    (stream-some view m.tree (c.Hwrite handle from bytes) at refl built)
 stream-of view m session (c.Punch path stream from len) at node there is edits found plain built =
     stream-held view m.tree at node there (has-content m session (c.Punch path stream from len) at refl refl found) plain
-    (value-some (stream_parts view m.tree at) built)
+    (stream-some view m.tree (c.Punch path stream from len) at refl built)
 stream-of view m session (c.Truncate path stream size) at node there is edits found plain built =
     stream-held view m.tree at node there (has-content m session (c.Truncate path stream size) at refl refl found) plain
-    (alone-some view m.tree at (and_parts (is_value_alone view m.tree at) (gets_no_longer size at.content) built).0)
+    (stream-some view m.tree (c.Truncate path stream size) at refl built)
 stream-of view m session (c.Rmstream path name) at node there is edits found plain built =
     stream-held view m.tree at node there (has-content m session (c.Rmstream path name) at refl refl found) plain
-    (alone-some view m.tree at built)
+    (stream-some view m.tree (c.Rmstream path name) at refl built)
+stream-of view m session (c.Setattr path flags) at node there is edits found plain built = cc
 stream-of view m session (c.Setsec path id) at node there is edits found plain built = cc
 stream-of view m session other at node there is edits found plain built = cc
 
@@ -91,7 +80,7 @@ module _ (facts : Facts) (before : State) (session : ℕ) (command : Command) (f
   can : CanSet before.view at.file node
   can = subst (λ g. CanSet before.view g node) (sym finds.file) finds.can
 
-  -- it is built for the volume: its bytes go over bytes, what is punched, cut or goes is a value, and an id has its place
+  -- it is built for the volume: done in place there, or in a record
   built : is_built_for before.view before.machine.tree command at ≡ true
   built =
       let cannot = cannot_edit facts.whole_table before.machine.tree at.file in

@@ -30,8 +30,10 @@ pub record HoldsStream (tree : Tree) (at : Located) (node : Node) : Type 0 where
   pub sought : sought_stream tree.fold node.streams at.stream ≡ Some stream
   pub held : List ℕ
   pub content : stream.content ≡ Plain held
+  pub told : at.content ≡ Some (Plain held)
   pub holds : bytes_at at ≡ held
   pub spelt_is : spelt tree at ≡ stream.name
+  pub found_as : (view : VolumeView) → stream_parts view tree at ≡ parts_named view at.file stream.name
 
 -- what is sought in a node
 abbrev sought_in : Tree → Located → Option Node → Option Stream
@@ -68,8 +70,11 @@ module _ (view : VolumeView) (tree : Tree) (at : Located) (node : Node) (there :
       sought = e;
       held = bytes;
       content = is;
+      told = content ∙ ap Some is;
       holds = ap (λ o. option_map_or bytes_of o []) (content ∙ ap Some is);
       spelt_is = ap (λ (o : Option Stream). option_map_or (λ (stream : Stream). stream.name) o at.stream) found;
+      found_as = λ view.
+          ap (λ (o : Option Stream). option_map_or (λ (stream : Stream). parts_named view at.file stream.name) o []) found;
     }
 
   pub stream-held : HoldsStream tree at node

@@ -1,6 +1,5 @@
 -- WHAT A COMMAND THAT WAS DONE LEAVES, staged and written.
 use Rattle.std.proofs.Common.{◌≡◌, ◌≤◌, ◌+◌, ℕ, Bool, List, Some, inl, inr, length, refl, sym, ap, subst, ◌∙◌}
-use Rattle.std.proofs.lemmas.Bool.{or_cases}
 use Rattle.vol_disk.specs.Contents.{sector_in}
 use Rattle.volume_def.specs.Sound.{IsSound, told_view}
 use Rattle.volume_def.specs.View.{VolumeView}
@@ -17,14 +16,13 @@ use Rattle.mark_write.specs.declared.log.Span.{Span}
 use Rattle.volume_mark.specs.SameVolume.{IsSameVolume}
 use Rattle.volume_mark.proofs.MarkLaws.{mark-law}
 use Rattle.in_place.specs.Behind.{MarksBehind}
-use Rattle.in_place_owed.specs.SetsInPlace.{edits_in_place}
-use Rattle.value_owed.specs.ValueOwed.{edits_value}
 use Rattle.edit_written.specs.Finished.{IsFinished, IsPlaceOf}
 use Rattle.in_place_done.specs.Written.{FindsFile, LeavesEdit, Stages, StagesEdit, machine_behind, most_written}
 use Rattle.in_place_done.proofs.CommandsStaged.{place-written}
 use Rattle.in_place_done.proofs.FoundEdit.{can-be-edited, makes-none}
 use Rattle.in_place_done.proofs.StagedVolume.{CanBeEdited, CanBeWritten, staged_view}
 use Rattle.in_place_done.proofs.ValueWritten.{value-written}
+use Rattle.in_place_done.proofs.Ways.{way-of}
 use Rattle.in_place_done.proofs.WrittenBytes.{IsWritten, is-written}
 
 module _ (facts : Facts) (before : State) (session : ℕ) (command : Command) (f : ℕ) (node : Node)
@@ -94,7 +92,7 @@ module _ (facts : Facts) (before : State) (session : ℕ) (command : Command) (f
 -- WHAT WAS STAGED can be written, whichever way the command is done.
 can-be-written : (before : State) (command : Command) (at : Located) (node : Node) (new : VolumeView) → CanBeEdited before command at node
     → Stages before command at at.file node new → CanBeWritten before command at new
-can-be-written before command at node new is stages = elim (or_cases (edits_in_place command) (edits_value command) is.edits) [
+can-be-written before command at node new is stages = elim (way-of before.view before.machine.tree command at is.built) [
   | inl place ↦ place-written before command at node new place is stages
   | inr value ↦ value-written before command at node new value is stages
 ]

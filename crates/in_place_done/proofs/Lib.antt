@@ -3,6 +3,7 @@ pub mod NameCount
 pub mod FoundFile
 pub mod TreeBehind
 pub mod HeldStream
+pub mod Ways
 pub mod NamedKeys
 pub mod StagedVolume
 pub mod FileSet

@@ -59,7 +59,7 @@ module _ (before : State) (command : Command) (at : Located) (node : Node) (new 
     edits = is.edits;
     new = is.none;
     shown = λ edits. shown;
-    built = is.built;
+    in_place = is.in_place;
     nowhere = s.nowhere;
     rewrites = s.rewrites;
     sound = s.sound;

@@ -13,7 +13,7 @@ use Rattle.volume_def.specs.Values.{spot_at}
 use Rattle.volume_def.specs.View.{VolumeView}
 use Rattle.tree_model.specs.Effects.{tree_after}
 use Rattle.tree_model.specs.Reading.{read}
-use Rattle.tree_model.specs.Staging.{is_built_for}
+use Rattle.tree_model.specs.Staging.{is_built_for, is_done_in_place}
 use Rattle.tree_model.specs.StreamRoom.{is_cluster}
 use Rattle.tree_model.specs.Subjects.{Located, NoName}
 use Rattle.tree_model.specs.Tree.{Tree}
@@ -34,6 +34,7 @@ use Rattle.in_place_owed.proofs.CallsOwed.{stands-alone}
 use Rattle.edit_written.specs.LeavesAlone.{LeavesAlone}
 use Rattle.in_place_done.specs.Written.{SetsShown, is_done, most_written}
 use Rattle.in_place_done.proofs.HeldStream.{HoldsStream}
+use Rattle.in_place_done.proofs.Ways.{InPlace}
 
 -- the volume that the staged bytes are
 abbrev pub staged_view : State → List ℕ → VolumeView
@@ -55,17 +56,17 @@ pub record CanBeSet (before : State) (command : Command) (at : Located) (node : 
   pub stands : StandsAlone before
   pub edits : edits_in_place command ≡ true
   pub none : at.new ≡ NoName
-  pub built : is_built_for before.view before.machine.tree command at ≡ true
+  pub in_place : is_done_in_place before.view before.machine.tree command at ≡ true
   pub can : CanSet before.view at.file node
   pub high : (name : FileName) → Contains (names_of (records_of before.view) at.file) name → 4 ≤ name.parent.number
 
-pub can-be-set : (before : State) (command : Command) (at : Located) (node : Node) → edits_in_place command ≡ true
-    → CanBeEdited before command at node → CanBeSet before command at node
+pub can-be-set : (before : State) (command : Command) (at : Located) (node : Node)
+    → InPlace before.view before.machine.tree command at → CanBeEdited before command at node → CanBeSet before command at node
 can-be-set before command at node place is = record {
   stands = stands-alone before is.stands;
-  edits = place;
+  edits = place.edits;
   none = is.none;
-  built = is.built;
+  in_place = place.is;
   can = is.can;
   high = is.high;
 }

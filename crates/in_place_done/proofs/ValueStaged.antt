@@ -1,4 +1,4 @@
--- A STREAM THAT IS A VALUE, which was cut or went, and the times that were set then, staged: what the volume is between and behind.
+-- A STREAM THAT IS A VALUE, which has other bytes or went, and the times that were set then, staged: what the volume is between and behind.
 use Rattle.std.proofs.Common.{◌≡◌, ◌≤◌, ◌*◌, ◌&&◌, ◌||◌, ℕ, Bool, true, List, [], ◌∷◌, Option, Some, None, codes}
 use Rattle.std.proofs.Common.{refl, sym, ap, subst, ◌∙◌}
 use Rattle.std.proofs.lemmas.Bool.{or_right}
@@ -50,7 +50,7 @@ abbrev pub stream_after : State → Located → Option (List ℕ) → Tree
 stream_after before at None = drop_stream before.machine.now at before.machine.tree
 stream_after before at (Some bytes) = put_stream before.machine.now at bytes before.machine.tree
 
--- `old` is the volume before, `mid` with the stream cut or gone, and `new` with the times too.
+-- `old` is the volume before, `mid` with the stream changed or gone, and `new` with the times too.
 module _ (before : State) (command : Command) (at : Located) (node : Node) (is : CanBeEdited before command at node)
     (h : HoldsStream before.machine.tree at node) (bytes : Option (List ℕ)) (new : VolumeView)
     (s : EditsStream before at at.file node bytes new) where
@@ -72,7 +72,7 @@ module _ (before : State) (command : Command) (at : Located) (node : Node) (is :
   abbrev pub over : Node
   over = node_with old at.stream bytes node
 
-  finds : FindsPlain old f node at.stream s.name h.held
+  pub finds : FindsPlain old f node at.stream s.name h.held
   finds = finds-plain before is.stands at node h s.name s.spelt_so s.there s.tellable
 
   pub edited : IsEdited key old mid over
@@ -108,11 +108,11 @@ module _ (before : State) (command : Command) (at : Located) (node : Node) (is :
             (subst (λ (xs : List Part). 1024 * old.layout.count ≤ sum_by part_size xs * cluster_bytes old.layout) (sym table) was.covered);
       }
 
-  stands : StandsAlone (between before mid)
+  stands : StandsAlone (between before command mid)
   stands = record { apart = edited.can.apart; tabled = tabled; sound = edited.can.sound; reading = refl }
 
-  pub can-set : CanBeSet (between before mid) (c.Setattr [] 0) at over
-  can-set = record { stands = stands; edits = refl; none = is.none; built = refl; can = edited.can; high = high }
+  pub can-set : CanBeSet (between before command mid) (c.Setattr [] 0) at over
+  can-set = record { stands = stands; edits = refl; none = is.none; in_place = refl; can = edited.can; high = high }
 
   abbrev times_key : Key → Bool
   times_key = same_key (key_of f STANDARD_INFORMATION [])
@@ -126,10 +126,12 @@ module _ (before : State) (command : Command) (at : Located) (node : Node) (is :
       (subst (λ b. (is_times_key (f ∷ []) k || (is_node_kind k.kind && (bytes_eq k.name (wide (codes "$I30")) && b))) ≡ true)
       (sym (entry-same k.file)) told)
 
-  pub set : IsSet (between before mid) (c.Setattr [] 0) at new
-  set = file-set (between before mid) at over edited.can times node.flags shown new s.puts.sets (c.Setattr [] 0) named (λ punches. cc)
+  pub set : IsSet (between before command mid) (c.Setattr [] 0) at new
+  set =
+      file-set (between before command mid) at over edited.can times node.flags shown new s.puts.sets (c.Setattr [] 0) named
+      (λ punches. cc)
 
-  -- THE TREE: the node with its stream cut or gone, and the times
+  -- THE TREE: the node with its stream changed or gone, and the times
   abbrev last : Node
   last = record over { times = times; flags = node.flags }
 

@@ -1,7 +1,7 @@
 -- AN EDIT THAT WAS STAGED, AND WRITTEN. One in place: bytes of a stream that went over bytes, a range of a value that was made zero, and
--- times, flags and the security id of a file that were set. Or one of a value: a stream that was cut, or went.
+-- times, flags and the security id of a file that were set. Or one of a value: a stream that has other bytes, or went.
 use Rattle.std.specs.Prelude.{◌≡◌, ◌||◌, ◌+◌, ◌*◌, ◌/◌, ◌^◌, ◌<◌, ◌≤◌, ℕ, Bool, List, Contains, Ok, Option, None, Some, bit_and, length}
-use Rattle.std.specs.Prelude.{slice_set, true}
+use Rattle.std.specs.Prelude.{false, slice_set, true}
 use Rattle.vol_disk.specs.Contents.{sector_in}
 use Rattle.ntfs_def.specs.FileName.{FileName}
 use Rattle.ntfs_def.specs.Units.{units_in}
@@ -16,7 +16,8 @@ use Rattle.tree_model.specs.Effects.{after, touched}
 use Rattle.tree_model.specs.Facts.{IsVolumeOf, TellsFacts}
 use Rattle.tree_model.specs.Reading.{read}
 use Rattle.tree_model.specs.Refusals.{Facts, outcome}
-use Rattle.tree_model.specs.Streams.{resized}
+use Rattle.tree_model.specs.Staging.{is_done_in_place}
+use Rattle.tree_model.specs.Streams.{resized, written}
 use Rattle.tree_model.specs.Subjects.{Located, Machine}
 use Rattle.tree_model.specs.declared.command.Command.{Command}
 use Rattle.tree_model.specs.declared.command.Command.TheVariants as c
@@ -43,7 +44,7 @@ SetsShown (c.Setattr path flags) = bit_and flags SHOWN_FLAGS ≡ flags
 SetsShown (c.Setsec path id) = id < 2 ^ 32
 SetsShown other = Unit {0}
 
--- THE COMMANDS: those that are done in place, and those that edit one value
+-- THE COMMANDS: those that are done in place, and those that edit one value; a write is the one or the other
 abbrev pub is_done : Command → Bool
 is_done command = edits_in_place command || edits_value command
 
@@ -85,12 +86,19 @@ pub record EditsStream (before : State) (at : Located) (f : ℕ) (node : Node) (
   pub tellable : AreTellable (told_of before.view f)
   pub puts : PutsStream before.view new f name bytes (touched before.machine.now node).times node.flags
 
--- WHAT THE COMMAND STAGES: the bytes of a write, the zeros of a punch, the stream cut by `truncate` or gone by `rmstream`; of `setattr` the
--- flags, and of `setsec` the id, with the moment as the time at which the file's record changed.
+-- A WRITE: its bytes went over bytes where it is done in place, and else the stream has them then.
+abbrev pub PutsInStream : Bool → State → Located → ℕ → Node → ℕ → List ℕ → VolumeView → Type 0
+PutsInStream true before at f node from bytes new = WritesStream before at f node from bytes new
+PutsInStream false before at f node from bytes new = EditsStream before at f node (Some (written from bytes (bytes_at at))) new
+
+-- WHAT THE COMMAND STAGES: the bytes of a write, the zeros of a punch, the stream as long as `truncate` makes it or gone by `rmstream`; of
+-- `setattr` the flags, and of `setsec` the id, with the moment as the time at which the file's record changed.
 abbrev pub Stages : State → Command → Located → ℕ → Node → VolumeView → Type 0
 Stages before (c.Setattr path flags) at f node new = SetsAttributes before.view new f (slice_set node.times 2 before.machine.now) flags
-Stages before (c.Write path stream from bytes) at f node new = WritesStream before at f node from bytes new
-Stages before (c.Hwrite handle from bytes) at f node new = WritesStream before at f node from bytes new
+Stages before (c.Write path stream from bytes) at f node new =
+    PutsInStream (is_done_in_place before.view before.machine.tree (c.Write path stream from bytes) at) before at f node from bytes new
+Stages before (c.Hwrite handle from bytes) at f node new =
+    PutsInStream (is_done_in_place before.view before.machine.tree (c.Hwrite handle from bytes) at) before at f node from bytes new
 Stages before (c.Punch path stream from len) at f node new = PunchesStream before at f node from len new
 Stages before (c.Truncate path stream size) at f node new = EditsStream before at f node (Some (resized size (bytes_at at))) new
 Stages before (c.Rmstream path name) at f node new = EditsStream before at f node None new

@@ -12,7 +12,7 @@ use Rattle.volume_def.specs.View.{VolumeView}
 use Rattle.tree_model.specs.Bill.{bill_of, bill_with, clusters_of, is_touched, new_files, touched_file, touched_files, touches_file}
 use Rattle.tree_model.specs.Need.{Touched, empty_bill}
 use Rattle.tree_model.specs.NoRoom.{no_room_for}
-use Rattle.tree_model.specs.Staging.{is_built_for}
+use Rattle.tree_model.specs.Staging.{is_done_in_place}
 use Rattle.tree_model.specs.StreamRoom.{goes_over, initialized_size, is_in_place, new_clusters, stream_parts}
 use Rattle.tree_model.specs.Subjects.{Located, NoName}
 use Rattle.tree_model.specs.Tree.{Tree}
@@ -68,29 +68,29 @@ bill-none view tree command at quiet makes clusters touches =
     (touched-none at.file (range_with_len 0 view.layout.count))
 
 pub bill-empty : (view : VolumeView) (tree : Tree) (command : Command) (at : Located) → edits_in_place command ≡ true → at.new ≡ NoName
-    → is_built_for view tree command at ≡ true → bill_of view tree command at ≡ empty_bill
+    → is_done_in_place view tree command at ≡ true → bill_of view tree command at ≡ empty_bill
 unfolding clusters_of touches_file
-bill-empty view tree command at is new built = by command is built
+bill-empty view tree command at is new done = by command is done
   where
     quiet : (command : Command) → edits_in_place command ≡ true → bills.IsQuiet tree command at
     quiet command is = little-quiet tree command at (does-little tree command at is) new
 
-    by : (command : Command) → edits_in_place command ≡ true → is_built_for view tree command at ≡ true
+    by : (command : Command) → edits_in_place command ≡ true → is_done_in_place view tree command at ≡ true
         → bill_of view tree command at ≡ empty_bill
-    by (c.Setattr path flags) is built = bill-none view tree (c.Setattr path flags) at (quiet (c.Setattr path flags) refl) refl refl refl
-    by (c.Write path stream from bytes) is built =
-        let parts = over-parts (cluster_bytes view.layout) (stream_parts view tree at) from (length bytes) built in
+    by (c.Setattr path flags) is done = bill-none view tree (c.Setattr path flags) at (quiet (c.Setattr path flags) refl) refl refl refl
+    by (c.Write path stream from bytes) is done =
+        let parts = over-parts (cluster_bytes view.layout) (stream_parts view tree at) from (length bytes) done in
         bill-none view tree (c.Write path stream from bytes) at (quiet (c.Write path stream from bytes) refl) refl parts.0 (ap not parts.1)
-    by (c.Hwrite handle from bytes) is built =
-        let parts = over-parts (cluster_bytes view.layout) (stream_parts view tree at) from (length bytes) built in
+    by (c.Hwrite handle from bytes) is done =
+        let parts = over-parts (cluster_bytes view.layout) (stream_parts view tree at) from (length bytes) done in
         bill-none view tree (c.Hwrite handle from bytes) at (quiet (c.Hwrite handle from bytes) refl) refl parts.0 (ap not parts.1)
-    by (c.Punch path stream from len) is built =
-        bill-none view tree (c.Punch path stream from len) at (quiet (c.Punch path stream from len) refl) refl refl (ap not built)
-    by (c.Setsec path id) is built =
-        bill-none view tree (c.Setsec path id) at (quiet (c.Setsec path id) refl) refl refl (long-standard view at.file built)
-    by other is built = cc
+    by (c.Punch path stream from len) is done =
+        bill-none view tree (c.Punch path stream from len) at (quiet (c.Punch path stream from len) refl) refl refl (ap not done)
+    by (c.Setsec path id) is done =
+        bill-none view tree (c.Setsec path id) at (quiet (c.Setsec path id) refl) refl refl (long-standard view at.file done)
+    by other is done = cc
 
 -- so it is never refused for room
 pub has-room : (view : VolumeView) (tree : Tree) (command : Command) (at : Located) → edits_in_place command ≡ true → at.new ≡ NoName
-    → is_built_for view tree command at ≡ true → no_room_for view (bill_of view tree command at) ≡ None
-has-room view tree command at is new built = ap (no_room_for view) (bill-empty view tree command at is new built) ∙ bills.none-refused view
+    → is_done_in_place view tree command at ≡ true → no_room_for view (bill_of view tree command at) ≡ None
+has-room view tree command at is new done = ap (no_room_for view) (bill-empty view tree command at is new done) ∙ bills.none-refused view

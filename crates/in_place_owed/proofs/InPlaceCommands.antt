@@ -9,7 +9,7 @@ use Rattle.volume_def.specs.View.{VolumeView}
 use Rattle.tree_model.specs.Bill.{dropped_links, has_short_standard, ids_dropped, removes_file, tags_added, tags_dropped}
 use Rattle.tree_model.specs.Effects.{makes_file}
 use Rattle.tree_model.specs.Reading.{standard_of}
-use Rattle.tree_model.specs.Staging.{has_place_for_id, is_built_for}
+use Rattle.tree_model.specs.Staging.{has_place_for_id, is_done_in_place}
 use Rattle.tree_model.specs.Subjects.{Located, NewName, NoName}
 use Rattle.tree_model.specs.Tree.{Tree}
 use Rattle.tree_model.specs.declared.command.Command.{Command}
@@ -159,18 +159,18 @@ long-standard view f place =
     le-ltb long 72 (leb-true 72 long place)
 
 pub lengthens-none : (view : VolumeView) (tree : Tree) (command : Command) (at : Located) → edits_in_place command ≡ true
-    → is_built_for view tree command at ≡ true → (f : ℕ) → lengthens view command at f ≡ false
-lengthens-none view tree (c.Setattr path flags) at is built f = refl
-lengthens-none view tree (c.Write path stream from bytes) at is built f = refl
-lengthens-none view tree (c.Hwrite handle from bytes) at is built f = refl
-lengthens-none view tree (c.Punch path stream from len) at is built f = refl
-lengthens-none view tree (c.Setsec path id) at is built f = elim (cases_Bool (f == at.file)) [
+    → is_done_in_place view tree command at ≡ true → (f : ℕ) → lengthens view command at f ≡ false
+lengthens-none view tree (c.Setattr path flags) at is done f = refl
+lengthens-none view tree (c.Write path stream from bytes) at is done f = refl
+lengthens-none view tree (c.Hwrite handle from bytes) at is done f = refl
+lengthens-none view tree (c.Punch path stream from len) at is done f = refl
+lengthens-none view tree (c.Setsec path id) at is done f = elim (cases_Bool (f == at.file)) [
   | inl same ↦
       and_right (f == at.file) (has_short_standard view f)
-      (subst (λ g. has_short_standard view g ≡ false) (sym (eqb-true f at.file same)) (long-standard view at.file built))
+      (subst (λ g. has_short_standard view g ≡ false) (sym (eqb-true f at.file same)) (long-standard view at.file done))
   | inr other ↦ ap (λ b. b && has_short_standard view f) other
 ]
-lengthens-none view tree other at is built f = cc
+lengthens-none view tree other at is done f = cc
 
 -- IT MAY OWN all clusters of its stream, but where it makes zeros of a range.
 pub owns-all : (command : Command) → edits_in_place command ≡ true → (size real vcn : ℕ) → (punches_stream command ≡ true → ⊥)

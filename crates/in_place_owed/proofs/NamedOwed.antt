@@ -41,7 +41,7 @@ named-owed before next command at made staged s =
     record {
       standard = λ f stays.
           subst (λ b. KeepsStandard b (parts_at old f STANDARD_INFORMATION []) (parts_at new f STANDARD_INFORMATION []))
-          (sym (lengthens-none old tree command at s.edits s.built f)) (standard-owed before next command at staged s f);
+          (sym (lengthens-none old tree command at s.edits s.in_place f)) (standard-owed before next command at staged s f);
       names = λ f stays. owed.names-but named old new w (dropped_links tree command at) f (no_name f);
       numbers = λ f other. numbers-same named old new w f;
       sequence = owed.sequence-same named old new w;

@@ -14,7 +14,7 @@ use Rattle.volume_def.specs.View.{VolumeView}
 use Rattle.tree_model.specs.Hidden.{is_hidden}
 use Rattle.tree_model.specs.IndexRoom.{directory_index, index_depth}
 use Rattle.tree_model.specs.Reading.{read}
-use Rattle.tree_model.specs.Staging.{is_built_for}
+use Rattle.tree_model.specs.Staging.{is_done_in_place}
 use Rattle.tree_model.specs.StreamRoom.{is_cluster}
 use Rattle.tree_model.specs.Subjects.{Located, NoName}
 use Rattle.tree_model.specs.Tree.{Tree, leads_to}
@@ -84,13 +84,13 @@ pub record StandsAlone (before : State) : Type 0 where
 -- THE COMMAND WAS DONE IN PLACE: the bytes of its stream were written, or the security id of its file, and the times and flags of that file
 -- set, and told anew in the entries of the file's names.
 pub record SetsInPlace (before next : State) (command : Command) (at : Located) (staged : VolumeView) : Type 0 where
-  -- the volume before; the command is one of these, its words name nothing new, the file of a stream is shown, and the command is built for
-  -- this volume: bytes go over bytes, what is punched is a value, which lies in no cluster, and the id has a place
+  -- the volume before; the command is one of these, its words name nothing new, the file of a stream is shown, and on this volume it is
+  -- done so: bytes go over bytes, what is punched is a value, which lies in no cluster, and the id has a place
   pub stands : StandsAlone before
   pub edits : edits_in_place command ≡ true
   pub new : at.new ≡ NoName
   pub shown : edits_stream command ≡ true → is_hidden (records_of before.view) at.file ≡ false
-  pub built : is_built_for before.view before.machine.tree command at ≡ true
+  pub in_place : is_done_in_place before.view before.machine.tree command at ≡ true
   pub nowhere : punches_stream command ≡ true → (vcn : ℕ)
       → is_cluster (spot_at (stream_in before.view before.machine.tree at) vcn) ≡ false
   -- the calls: what they rewrote, and that the volume is sound behind them; none of it belongs to a record that has a copy

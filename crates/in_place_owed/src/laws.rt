@@ -12,7 +12,7 @@ ghost use Rattle.tree_model.specs.Bill.{bill_of};
 ghost use Rattle.tree_model.specs.Hidden.{is_hidden};
 ghost use Rattle.tree_model.specs.Need.{empty_bill};
 ghost use Rattle.tree_model.specs.NoRoom.{no_room_for};
-ghost use Rattle.tree_model.specs.Staging.{is_built_for};
+ghost use Rattle.tree_model.specs.Staging.{is_done_in_place};
 ghost use Rattle.tree_model.specs.Subjects.{Located, NoName};
 ghost use Rattle.tree_model.specs.Tree.{Tree};
 ghost use Rattle.tree_model.specs.declared.command.Command.{Command};
@@ -25,12 +25,12 @@ ghost use Rattle.in_place.specs.Unnamed.{NamesNoneOf};
 ghost use Rattle.in_place.specs.Behind.{MarksBehind};
 ghost use Rattle.in_place_owed.specs.SetsInPlace.{SetsInPlace, edits_in_place, is_set_key};
 
-/// Where it is built for the volume its bill is the empty one (`bill`), so it is never refused for room (`room`).
+/// Where it is done in place its bill is the empty one (`bill`), so it is never refused for room (`room`).
 pub fn in_place_has_room()
     ensures bill { (view : VolumeView) (tree : Tree) (command : Command) (at : Located) → edits_in_place command ≡ true → at.new ≡ NoName
-        → is_built_for view tree command at ≡ true → bill_of view tree command at ≡ empty_bill }
+        → is_done_in_place view tree command at ≡ true → bill_of view tree command at ≡ empty_bill }
     ensures room { (view : VolumeView) (tree : Tree) (command : Command) (at : Located) → edits_in_place command ≡ true → at.new ≡ NoName
-        → is_built_for view tree command at ≡ true → no_room_for view (bill_of view tree command at) ≡ None }
+        → is_done_in_place view tree command at ≡ true → no_room_for view (bill_of view tree command at) ≡ None }
 {}
 
 /// Its calls together keep the promise of a call within its bill, which is empty, and name no more than it may change (`calls`). It shows

@@ -43,7 +43,7 @@ use Rattle.mark_place.specs.LogSpans.{AreLogSpans}
 use Rattle.mark_place.proofs.EmptyLaws.{outside-log}
 
 -- A SOUND VOLUME has a record 3: the table of case is that of file 10.
-counted : (view : VolumeView) (f : ℕ) → IsFile view f → f < view.layout.count
+pub counted : (view : VolumeView) (f : ℕ) → IsFile view f → f < view.layout.count
 counted view f is = by (nat_lt f view.layout.count) refl is
   where
     by : (b : Bool) → nat_lt f view.layout.count ≡ b → IsSomeAnd (cond b (record_in f (view.block f)) None) (λ r. IsTrue (is_base r))

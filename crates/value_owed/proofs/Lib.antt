@@ -3,7 +3,9 @@ pub mod ValueParts
 pub mod ValueStream
 pub mod RecordsBack
 pub mod IndexesBack
+pub mod OneBill
 pub mod ValueCommands
+pub mod FewClusters
 pub mod ValueCalls
 pub mod NodesBack
 pub mod ValueOwes

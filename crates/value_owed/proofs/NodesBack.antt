@@ -67,7 +67,7 @@ module _ (before next : State) (command : Command) (at : Located) (mid staged : 
   key = key_of at.file DATA s.name
 
   abbrev half : State
-  half = between before mid
+  half = between before command mid
 
   abbrev setter : Command
   setter = c.Setattr [] 0
@@ -117,6 +117,8 @@ module _ (before next : State) (command : Command) (at : Located) (mid staged : 
   -- NAMES: none comes
   right-name : (command : Command) → edits_value command ≡ true → (f : ℕ) (directory : Bool) (name : Told)
       → IsRightName mid setter at f directory name → IsRightName old command at f directory name
+  right-name (c.Write path stream from bytes) is f directory name right = right
+  right-name (c.Hwrite handle from bytes) is f directory name right = right
   right-name (c.Truncate path stream size) is f directory name right = right
   right-name (c.Rmstream path other) is f directory name right = right
   right-name other is f directory name right = cc

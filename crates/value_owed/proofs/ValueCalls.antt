@@ -1,21 +1,25 @@
 -- ALL CALLS of the command together: the edit of the value, what set the file behind it, and the first mark.
-use Rattle.std.proofs.Common.{◌≡◌, ◌≢◌, ◌<◌, ◌==◌, ◌||◌, ℕ, Bool, false, List, [], ◌∷◌, refl, sym, ap, subst, ◌∙◌, arith}
+use Rattle.std.proofs.Common.{◌≡◌, ◌≢◌, ◌<◌, ◌≤◌, ◌==◌, ◌||◌, ℕ, Bool, false, List, [], ◌∷◌, Option, Some, None, refl, sym, ap, subst, ◌∙◌}
+use Rattle.std.proofs.Common.{arith}
+use Rattle.std.specs.Prelude.{IfSome}
 use Rattle.std.specs.Str.{bytes_eq}
-use Rattle.std.proofs.lemmas.Bool.{and_from, and_parts, eq-eqb, eqb-true, false_from_ne_true, or_from, or_parts}
+use Rattle.std.proofs.lemmas.Bool.{and_from, and_parts, and_right, eq-eqb, eqb-true, false_from_ne_true, or_from, or_parts}
 use Rattle.std.proofs.lemmas.Slice.Eq.{bytes_eq-Decides}
 use Rattle.ntfs_def.specs.Units.{units_in}
 use Rattle.ntfs_def.specs.declared.kinds.TheConstants.{DATA, VOLUME_INFORMATION}
 use Rattle.ntfs_def.specs.declared.records.TheConstants.{LOG_FILE, UPCASE, VOLUME}
-use Rattle.volume_def.specs.Files.{records_of}
+use Rattle.volume_def.specs.Files.{parts, records_of}
+use Rattle.volume_def.specs.Room.{list_len_of, longest_name}
+use Rattle.volume_def.specs.Table.{cluster_bytes}
 use Rattle.volume_def.specs.View.{VolumeView}
-use Rattle.tree_model.specs.Bill.{bill_of}
+use Rattle.tree_model.specs.Bill.{bill_of, removes_file}
 use Rattle.tree_model.specs.Need.{Bill, records_wanted}
 use Rattle.tree_model.specs.Reading.{read}
 use Rattle.tree_model.specs.Subjects.{Located}
 use Rattle.tree_model.specs.Tree.{Tree}
 use Rattle.tree_model.specs.declared.command.Command.{Command}
 use Rattle.tree_model.specs.declared.command.Command.TheVariants as c
-use Rattle.edit_def.specs.Account.{AreTouched, Wants, Within, also, nothing, wants_of}
+use Rattle.edit_def.specs.Account.{AreDistinct, AreTouched, Plan, Wants, Within, also, nothing, wants_of}
 use Rattle.edit_def.specs.Edited.{Edited}
 use Rattle.edit_def.specs.Kept.{Key, either, key_of, same_key}
 use Rattle.edit_def.specs.Purses.{room_of}
@@ -28,14 +32,15 @@ use Rattle.in_place.specs.Unnamed.{LiesApart}
 use Rattle.in_place.proofs.EditedInPlace as rewrite
 use Rattle.in_place.proofs.EditedInPlace.{editable-sound}
 use Rattle.in_place_owed.specs.SetsInPlace.{is_entries_key, is_set_key}
-use Rattle.in_place_owed.proofs.CallsOwed.{apart-of, empty_plan, tabled-of}
+use Rattle.in_place_owed.proofs.CallsOwed.{apart-of, tabled-of}
 use Rattle.in_place_owed.proofs.MarksLaws.{marks-right, right_marks}
 use Rattle.in_place_owed.proofs.SetKeys.{set-no_room, times-inside}
 use Rattle.stream_overwrites.proofs.ShownFile.{not-case}
 use Rattle.value_edits.specs.ValueEdits.{EditsValue}
 use Rattle.value_edits.proofs.EditedRecord as value
-use Rattle.value_owed.specs.ValueOwed.{SetsBehindValue}
-use Rattle.value_owed.proofs.ValueCommands.{bill-value, value-own, value-timed}
+use Rattle.value_owed.specs.ValueOwed.{SetsBehindValue, bill_asked, clusters_asked}
+use Rattle.value_owed.proofs.FewClusters.{few-asked, stream-short}
+use Rattle.value_owed.proofs.ValueCommands.{bill-value, value-little, value-own, value-timed}
 use Rattle.value_owed.proofs.ValueSame as same
 use Rattle.value_owed.proofs.ValueSame.{never}
 
@@ -48,6 +53,32 @@ nothing-twice wants = record {
   goes = λ f e. cc;
   records = omega arith;
 }
+
+-- THE PLAN of the bill: the file alone, where it is on it
+abbrev files_asked : ℕ → Option ℕ → List ℕ
+files_asked f None = []
+files_asked f (Some k) = f ∷ []
+
+abbrev plan_asked : VolumeView → ℕ → Option ℕ → Plan
+plan_asked view f o = record {
+  size = cluster_bytes view.layout;
+  files = files_asked f o;
+  name = λ g. longest_name (parts (records_of view) g);
+}
+
+once : (f : ℕ) (o : Option ℕ) → AreDistinct (files_asked f o)
+once f None = tt
+once f (Some k) = (refl, tt)
+
+touched-asked : (view : VolumeView) (f : ℕ) (o : Option ℕ)
+    → AreTouched (plan_asked view f o) (room_of view (plan_asked view f o)) (files_asked f o) (bill_asked view f o).touched
+unfolding list_len_of
+touched-asked view f None = tt
+touched-asked view f (Some k) = (omega arith, omega arith, tt)
+
+few-records : (view : VolumeView) (f : ℕ) (o : Option ℕ) → IfSome o (λ k. k ≤ 4088) → records_wanted (bill_asked view f o) ≤ 4096
+few-records view f None few = omega arith
+few-records view f (Some k) few = omega (arith, few)
 
 module _ (before next : State) (command : Command) (at : Located) (mid staged : VolumeView)
     (s : SetsBehindValue before next command at mid staged) where
@@ -120,13 +151,24 @@ module _ (before next : State) (command : Command) (at : Located) (mid staged : 
       (λ is. let h = same.high key old mid s.stands.sound apart e in absurd (omega (arith, is, few, h))))
       (s.behind.firsts f few kind [])
 
+  -- THE BILL has few records
+  short : IfSome (clusters_asked old tree command at) (λ k. k ≤ 4088)
+  short =
+      few-asked old tree command at s.edits s.in_record (tabled-of before.image old s.stands.volume s.stands.sound).size s.size_is
+      (stream-short tree at s.name old mid s.stands.sound apart e s.spelt_so s.alone)
+
+  bill-is : bill_of old tree command at ≡ bill_asked old at.file (clusters_asked old tree command at)
+  bill-is = bill-value old tree command at s.edits s.new e.block.inside s.there s.in_record
+
+  stays : (f : ℕ) → goes_by tree command at f ≡ false
+  stays f = and_right (f == at.file) (removes_file tree command at) (value-little tree command at s.edits).stays
+
   pub calls : (made : ℕ) → CallsOf before next command at made
   calls made =
-      let plan = empty_plan old in
+      let asked = clusters_asked old tree command at in
+      let plan = plan_asked old at.file asked in
       let bill = bill_of old tree command at in
-      let empty = bill-value old tree command at s.edits s.new s.built in
       let some = apart.some in
-      let few : records_wanted bill ≡ 0 = ap records_wanted empty in
       record {
         changed = changed;
         inside = inside made;
@@ -136,11 +178,12 @@ module _ (before next : State) (command : Command) (at : Located) (mid staged : 
         units = λ f. 0;
         size = refl;
         large = omega (arith, some);
-        apart = tt;
+        apart = once at.file asked;
         planned = IsPlanned-by plan (room_of old plan) bill (goes_by tree command at) (λ f. 0) refl
-            (λ f. omega arith) (λ f goes. refl);
-        touched = subst (λ (b : Bill). AreTouched plan (room_of old plan) [] b.touched) (sym empty) tt;
-        few = omega (arith, few);
+            (λ f. omega arith) (λ f goes. absurd (never goes (stays f)));
+        touched = subst (λ (b : Bill). AreTouched plan (room_of old plan) plan.files b.touched) (sym bill-is)
+            (touched-asked old at.file asked);
+        few = subst (λ (b : Bill). records_wanted b ≤ 4096) (sym bill-is) (few-records old at.file asked short);
         tabled = tabled-of before.image old s.stands.volume s.stands.sound;
         was = right_marks old;
         now = right_marks old;

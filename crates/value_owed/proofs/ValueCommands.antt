@@ -1,28 +1,35 @@
--- THE COMMANDS that edit a value: what they do not do, what they name of their own, and that their bill is the empty one.
-use Rattle.std.proofs.Common.{◌≡◌, ℕ, true, false, [], ◌∷◌, Option, Some, None, refl, ap, ◌∙◌, if◌then◌else◌}
-use Rattle.std.proofs.lemmas.Bool.{and_parts, le-ltb, leb-true}
+-- THE COMMANDS that edit a value: what they do not do, what they name of their own, and what their bill has.
+use Rattle.std.proofs.Common.{◌≡◌, ◌<◌, ◌+◌, ◌==◌, ◌&&◌, ◌||◌, not, ℕ, Bool, true, false, List, [], ◌∷◌, length, Option, Some, None, refl}
+use Rattle.std.proofs.Common.{sym, ap, ◌∙◌, if◌then◌else◌}
+use Rattle.std.proofs.lemmas.Bool.{and_from, and_parts, false_from_ne_true}
+use Rattle.std.specs.Option.{option_map_or}
+use Rattle.std.specs.Prelude.{is_some, nat_le, option_and_then}
+use Rattle.volume_def.specs.Files.{Clusters, Content, Part, Value, content_extent, content_value}
+use Rattle.volume_def.specs.StreamSize.{real_size, told_size}
 use Rattle.volume_def.specs.Table.{cluster_bytes}
+use Rattle.volume_def.specs.Values.{first_part}
 use Rattle.volume_def.specs.View.{VolumeView}
 use Rattle.tree_model.specs.Bill.{bill_of, clusters_of, grows, touches_file}
-use Rattle.tree_model.specs.Cases.{size_of}
-use Rattle.tree_model.specs.Need.{empty_bill}
 use Rattle.tree_model.specs.NoRoom.{no_room_for}
-use Rattle.tree_model.specs.Staging.{gets_no_longer, is_built_for, is_value_alone}
-use Rattle.tree_model.specs.StreamRoom.{new_clusters, stream_parts}
+use Rattle.tree_model.specs.Staging.{fits_in_record, gets_no_longer, has_no_list, is_done_in_record, is_value_alone, stays_value}
+use Rattle.tree_model.specs.StreamRoom.{goes_over, initialized_in, initialized_size, is_in_place, new_clusters, stream_parts, stream_value}
 use Rattle.tree_model.specs.Subjects.{Located, NewName, NoName}
 use Rattle.tree_model.specs.Tree.{Tree}
 use Rattle.tree_model.specs.declared.command.Command.{Command}
 use Rattle.tree_model.specs.declared.command.Command.TheVariants as c
-use Rattle.tree_model.specs.declared.tree.Content.{Content}
 use Rattle.tree_model.proofs.BillLaws as bills
 use Rattle.edit_def.specs.Kept.{Key}
+use Rattle.edit_def.specs.OneFile.{no_room_alone}
 use Rattle.session_def.specs.Done.{lengthens}
 use Rattle.session_def.specs.Named.{is_own_key, is_stream_key, new_directory, timed}
 use Rattle.in_place_owed.proofs.EmptyBill.{bill-none, little-quiet}
-use Rattle.in_place_owed.proofs.InPlaceCommands.{DoesLittle}
-use Rattle.value_owed.specs.ValueOwed.{edits_value}
+use Rattle.in_place_owed.proofs.InPlaceCommands.{DoesLittle, does-little}
+use Rattle.value_owed.specs.ValueOwed.{bill_asked, clusters_asked, edits_value}
+use Rattle.value_owed.proofs.OneBill.{bill-one}
 
 pub value-little : (tree : Tree) (command : Command) (at : Located) → edits_value command ≡ true → DoesLittle tree command at
+value-little tree (c.Write path stream from bytes) at is = does-little tree (c.Write path stream from bytes) at refl
+value-little tree (c.Hwrite handle from bytes) at is = does-little tree (c.Hwrite handle from bytes) at refl
 value-little tree (c.Truncate path stream size) at is = record {
   makes = refl;
   drops = refl;
@@ -50,6 +57,8 @@ value-little tree other at is = cc
 -- THE NODES of which a time is set are one
 pub value-timed : (command : Command) (at : Located) (made : ℕ) → edits_value command ≡ true → at.new ≡ NoName
     → timed command at made ≡ at.file ∷ []
+value-timed (c.Write path stream from bytes) at made is new = ap (λ (n : NewName). at.file ∷ new_directory n) new
+value-timed (c.Hwrite handle from bytes) at made is new = ap (λ (n : NewName). at.file ∷ new_directory n) new
 value-timed (c.Truncate path stream size) at made is new = ap (λ (n : NewName). at.file ∷ new_directory n) new
 value-timed (c.Rmstream path name) at made is new = ap (λ (n : NewName). at.file ∷ new_directory n) new
 value-timed other at made is new = cc
@@ -57,6 +66,8 @@ value-timed other at made is new = cc
 -- THE ATTRIBUTE OF ITS OWN is the stream.
 pub value-own : (tree : Tree) (command : Command) (at : Located) (made : ℕ) (key : Key) → edits_value command ≡ true
     → is_own_key tree command at made key ≡ is_stream_key tree at key
+value-own tree (c.Write path stream from bytes) at made key is = refl
+value-own tree (c.Hwrite handle from bytes) at made key is = refl
 value-own tree (c.Truncate path stream size) at made key is = refl
 value-own tree (c.Rmstream path name) at made key is = refl
 value-own tree other at made key is = cc
@@ -64,34 +75,131 @@ value-own tree other at made key is = cc
 -- it lengthens no $STANDARD_INFORMATION
 pub value-lengthens : (view : VolumeView) (command : Command) (at : Located) (f : ℕ) → edits_value command ≡ true
     → lengthens view command at f ≡ false
+value-lengthens view (c.Write path stream from bytes) at f is = refl
+value-lengthens view (c.Hwrite handle from bytes) at f is = refl
 value-lengthens view (c.Truncate path stream size) at f is = refl
 value-lengthens view (c.Rmstream path name) at f is = refl
 value-lengthens view other at f is = cc
 
--- NO ROOM IS TAKEN where it is built for the volume: a stream gets no longer.
-no-growth : (size : ℕ) (content : Option Content) → gets_no_longer size content ≡ true → grows size content ≡ false
-no-growth size None is = cc
-no-growth size (Some content) is = le-ltb (size_of content) size (leb-true size (size_of content) is)
+-- THE FILE IS TOUCHED by a write that does not go over bytes: of a stream that is a value all was written.
+value-first : (o : Option Part) → is_some (option_and_then (λ (part : Part). content_value part.content) o) ≡ true → is_some o ≡ true
+value-first None is = is
+value-first (Some part) is = refl
+
+value-written : (o : Option Part) → is_some (option_and_then (λ (part : Part). content_value part.content) o) ≡ true
+    → option_map_or initialized_in o 0 ≡ told_size o
+value-written None is = refl
+value-written (Some part) is = by part.content is
+  where
+    by : (content : Content) → is_some (content_value content) ≡ true
+        → option_map_or (λ extent. extent.sizes.initialized) (content_extent content) (real_size content) ≡ real_size content
+    by (Value bytes) is = refl
+    by (Clusters extent runs) is = cc
+
+not-over : (size : ℕ) (extents : List Part) (from len : ℕ) → is_some (stream_value extents) ≡ true → goes_over size extents from len ≡ false
+    → is_in_place size extents from len ≡ false
+not-over size extents from len value none =
+    false_from_ne_true (is_in_place size extents from len) (λ place. never (over place) none)
+  where
+    never : {b : Bool} → b ≡ true → b ≡ false → ⊥
+    never x y = cc
+
+    over : is_in_place size extents from len ≡ true → goes_over size extents from len ≡ true
+    over place =
+        let front = (new_clusters size extents from len == 0) && nat_le from (initialized_size extents) in
+        let told = (and_parts front (nat_le (from + len) (told_size (first_part extents))) place).1 in
+        and_from (is_some (first_part extents)) _ (value-first (first_part extents) value)
+        (and_from (is_in_place size extents from len) _ place
+        (ap (nat_le (from + len)) (value-written (first_part extents) value) ∙ told))
+
+not-true : (b : Bool) → not b ≡ true → b ≡ false
+not-true true e = cc
+not-true false e = refl
+
+write-touches : (view : VolumeView) (tree : Tree) (at : Located) (from len : ℕ)
+    → (not (goes_over (cluster_bytes view.layout) (stream_parts view tree at) from len) && stays_value view tree at (from + len)) ≡ true
+    → not (is_in_place (cluster_bytes view.layout) (stream_parts view tree at) from len) ≡ true
+write-touches view tree at from len is =
+    let size = cluster_bytes view.layout in
+    let extents = stream_parts view tree at in
+    let both = and_parts (not (goes_over size extents from len)) (stays_value view tree at (from + len)) is in
+    let room = gets_no_longer (from + len) at.content || fits_in_record view at.file extents (from + len) in
+    let alone = (and_parts (is_value_alone view tree at) room both.1).0 in
+    let value = (and_parts (is_some (stream_value extents)) (has_no_list view at.file) alone).0 in
+    ap not (not-over size extents from len value (not-true (goes_over size extents from len) both.0))
+
+-- THE BILL: of a stream that gets longer or other bytes that file alone, with the clusters that it may come to own; else the empty one.
+write-bill : (view : VolumeView) (tree : Tree) (path : List (List ℕ)) (stream : Option (List ℕ)) (from : ℕ) (bytes : List ℕ) (at : Located)
+    → at.new ≡ NoName → at.file < view.layout.count → is_some at.content ≡ true
+    → is_done_in_record view tree (c.Write path stream from bytes) at ≡ true
+    → bill_of view tree (c.Write path stream from bytes) at
+    ≡ bill_asked view at.file (clusters_asked view tree (c.Write path stream from bytes) at)
+unfolding clusters_of touches_file
+write-bill view tree path stream from bytes at new inside there is =
+    bill-one view tree (c.Write path stream from bytes) at
+    (little-quiet tree (c.Write path stream from bytes) at (value-little tree (c.Write path stream from bytes) at refl) new) refl
+    (new_clusters (cluster_bytes view.layout) (stream_parts view tree at) from (length bytes)) refl
+    (write-touches view tree at from (length bytes) is) there inside
+
+hwrite-bill : (view : VolumeView) (tree : Tree) (handle from : ℕ) (bytes : List ℕ) (at : Located)
+    → at.new ≡ NoName → at.file < view.layout.count → is_some at.content ≡ true
+    → is_done_in_record view tree (c.Hwrite handle from bytes) at ≡ true
+    → bill_of view tree (c.Hwrite handle from bytes) at
+    ≡ bill_asked view at.file (clusters_asked view tree (c.Hwrite handle from bytes) at)
+unfolding clusters_of touches_file
+hwrite-bill view tree handle from bytes at new inside there is =
+    bill-one view tree (c.Hwrite handle from bytes) at
+    (little-quiet tree (c.Hwrite handle from bytes) at (value-little tree (c.Hwrite handle from bytes) at refl) new) refl
+    (new_clusters (cluster_bytes view.layout) (stream_parts view tree at) from (length bytes)) refl
+    (write-touches view tree at from (length bytes) is) there inside
+
+truncate-bill : (view : VolumeView) (tree : Tree) (path : List (List ℕ)) (stream : Option (List ℕ)) (size : ℕ) (at : Located)
+    → at.new ≡ NoName → at.file < view.layout.count → is_some at.content ≡ true → (b : Bool) → grows size at.content ≡ b
+    → bill_of view tree (c.Truncate path stream size) at
+    ≡ bill_asked view at.file (clusters_asked view tree (c.Truncate path stream size) at)
+unfolding clusters_of touches_file
+truncate-bill view tree path stream size at new inside there true more =
+    let count = new_clusters (cluster_bytes view.layout) (stream_parts view tree at) 0 0 in
+    bill-one view tree (c.Truncate path stream size) at
+    (little-quiet tree (c.Truncate path stream size) at (value-little tree (c.Truncate path stream size) at refl) new) refl
+    count (ap (λ b. if b then count else 0) more) more there inside
+    ∙ ap (λ b. bill_asked view at.file (if b then Some count else None)) (sym more)
+truncate-bill view tree path stream size at new inside there false none =
+    let count = new_clusters (cluster_bytes view.layout) (stream_parts view tree at) 0 0 in
+    bill-none view tree (c.Truncate path stream size) at
+    (little-quiet tree (c.Truncate path stream size) at (value-little tree (c.Truncate path stream size) at refl) new) refl
+    (ap (λ b. if b then count else 0) none) none
+    ∙ ap (λ b. bill_asked view at.file (if b then Some count else None)) (sym none)
+
+rmstream-bill : (view : VolumeView) (tree : Tree) (path : List (List ℕ)) (name : List ℕ) (at : Located) → at.new ≡ NoName
+    → bill_of view tree (c.Rmstream path name) at
+    ≡ bill_asked view at.file (clusters_asked view tree (c.Rmstream path name) at)
+unfolding clusters_of touches_file
+rmstream-bill view tree path name at new =
+    bill-none view tree (c.Rmstream path name) at
+    (little-quiet tree (c.Rmstream path name) at (value-little tree (c.Rmstream path name) at refl) new) refl refl refl
 
 pub bill-value : (view : VolumeView) (tree : Tree) (command : Command) (at : Located) → edits_value command ≡ true → at.new ≡ NoName
-    → is_built_for view tree command at ≡ true → bill_of view tree command at ≡ empty_bill
-unfolding clusters_of touches_file
-bill-value view tree command at is new built = by command is built
-  where
-    by : (command : Command) → edits_value command ≡ true → is_built_for view tree command at ≡ true
-        → bill_of view tree command at ≡ empty_bill
-    by (c.Truncate path stream size) is built =
-        let none = no-growth size at.content (and_parts (is_value_alone view tree at) (gets_no_longer size at.content) built).1 in
-        bill-none view tree (c.Truncate path stream size) at
-        (little-quiet tree (c.Truncate path stream size) at (value-little tree (c.Truncate path stream size) at refl) new) refl
-        (ap (λ b. if b then new_clusters (cluster_bytes view.layout) (stream_parts view tree at) 0 0 else 0) none) none
-    by (c.Rmstream path name) is built =
-        bill-none view tree (c.Rmstream path name) at
-        (little-quiet tree (c.Rmstream path name) at (value-little tree (c.Rmstream path name) at refl) new) refl refl refl
-    by other is built = cc
+    → at.file < view.layout.count → is_some at.content ≡ true → is_done_in_record view tree command at ≡ true
+    → bill_of view tree command at ≡ bill_asked view at.file (clusters_asked view tree command at)
+bill-value view tree (c.Write path stream from bytes) at is new inside there record_is =
+    write-bill view tree path stream from bytes at new inside there record_is
+bill-value view tree (c.Hwrite handle from bytes) at is new inside there record_is =
+    hwrite-bill view tree handle from bytes at new inside there record_is
+bill-value view tree (c.Truncate path stream size) at is new inside there record_is =
+    truncate-bill view tree path stream size at new inside there (grows size at.content) refl
+bill-value view tree (c.Rmstream path name) at is new inside there record_is = rmstream-bill view tree path name at new
+bill-value view tree other at is new inside there record_is = cc
 
--- so it is never refused for room
+-- so it is refused for room where that is
+asked-room : (view : VolumeView) (f : ℕ) (o : Option ℕ)
+    → no_room_for view (bill_asked view f o) ≡ option_and_then (no_room_alone view f) o
+asked-room view f None = bills.none-refused view
+asked-room view f (Some k) = refl
+
 pub value-room : (view : VolumeView) (tree : Tree) (command : Command) (at : Located) → edits_value command ≡ true → at.new ≡ NoName
-    → is_built_for view tree command at ≡ true → no_room_for view (bill_of view tree command at) ≡ None
-value-room view tree command at is new built =
-    ap (no_room_for view) (bill-value view tree command at is new built) ∙ bills.none-refused view
+    → at.file < view.layout.count → is_some at.content ≡ true → is_done_in_record view tree command at ≡ true
+    → no_room_for view (bill_of view tree command at) ≡ option_and_then (no_room_alone view at.file) (clusters_asked view tree command at)
+value-room view tree command at is new inside there record_is =
+    ap (no_room_for view) (bill-value view tree command at is new inside there record_is)
+    ∙ asked-room view at.file (clusters_asked view tree command at)

@@ -1,5 +1,6 @@
 -- WHAT THE COMMAND OWES, each part of it carried back over the edit of the value; and so what it leaves.
-use Rattle.std.proofs.Common.{◌≡◌, ◌+◌, ◌*◌, ◌≤◌, ◌==◌, ◌&&◌, ◌||◌, ℕ, Bool, true, false, [], ◌∷◌, codes, refl, sym, ap, subst, ◌∙◌, arith}
+use Rattle.std.proofs.Common.{◌≡◌, ◌+◌, ◌*◌, ◌/◌, ◌≤◌, ◌==◌, ◌&&◌, ◌||◌, ℕ, Bool, true, false, [], ◌∷◌, codes, refl, sym, ap, subst, ◌∙◌}
+use Rattle.std.proofs.Common.{arith}
 use Rattle.std.proofs.lemmas.Bool.{eq-eqb, or_from, or_parts}
 use Rattle.ntfs_def.specs.declared.kinds.TheConstants.{DATA}
 use Rattle.ntfs_def.specs.declared.records.TheConstants.{CLUSTER_BITMAP, MFT, VOLUME}
@@ -15,7 +16,7 @@ use Rattle.tree_model.specs.Tree.{Tree}
 use Rattle.tree_model.specs.declared.command.Command.{Command}
 use Rattle.tree_model.specs.declared.command.Command.TheVariants as c
 use Rattle.edit_def.specs.Kept.{Key, key_of}
-use Rattle.session_def.specs.Cost.{cost_of, is_changed_file, is_file_of}
+use Rattle.session_def.specs.Cost.{bytes_in, cost_of, is_changed_file, is_file_of}
 use Rattle.session_def.specs.Done.{GainsRightly, LeavesDone, first_cost, stream_in}
 use Rattle.session_def.specs.Indexes.{KeepsIndexes, KeepsRests}
 use Rattle.session_def.specs.Named.{changes_ids, changes_points, has_entry_of, is_one_of, timed}
@@ -63,7 +64,7 @@ module _ (before next : State) (command : Command) (at : Located) (mid staged : 
   key = key_of at.file DATA s.name
 
   abbrev half : State
-  half = between before mid
+  half = between before command mid
 
   abbrev setter : Command
   setter = c.Setattr [] 0
@@ -158,7 +159,8 @@ module _ (before next : State) (command : Command) (at : Located) (mid staged : 
   wrote made =
       let cost = cost-enough before next command at made s.stands.sound s.stands.reading (value-little tree command at s.edits)
       (value-timed command at made s.edits s.new) in
-      let set : next.written ≤ before.written + first_cost mid + 12 + 12 * links_of (read mid) at.file + 0 = s.behind.wrote in
+      let set : next.written ≤ before.written + bytes_in command / 512 + first_cost mid + 12 + 12 * links_of (read mid) at.file + 0 =
+      s.behind.wrote in
       let first = same.first_cost-same key old mid s.stands.sound (calls.apart before next command at mid staged s) s.edited.edits in
       let links = links-same in
       omega (arith, cost, set, first, links)

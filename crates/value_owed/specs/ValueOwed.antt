@@ -1,21 +1,29 @@
--- AN EDIT OF A VALUE, and then times and flags: a stream that is a value was given another length, or went, and the file was set as
--- `setattr` does it. What the calls of such a command give, and the first mark behind them.
-use Rattle.std.specs.Prelude.{◌≡◌, ℕ, Bool, false, true, List, [], ◌∷◌}
+-- AN EDIT OF A VALUE, and then times and flags: a stream that is a value has other bytes, or went, and the file was set as `setattr` does
+-- it. What the calls of such a command give, and the first mark behind them.
+use Rattle.std.specs.Prelude.{◌≡◌, ◌+◌, ◌/◌, ℕ, Bool, false, true, List, [], ◌∷◌, length, Option, Some, None, is_some, if◌then◌else◌}
+use Rattle.std.specs.Option.{option_map_or}
 use Rattle.ntfs_def.specs.Node.{Item}
 use Rattle.ntfs_def.specs.Units.{units_in}
 use Rattle.ntfs_def.specs.declared.kinds.TheConstants.{DATA}
 use Rattle.volume_def.specs.Files.{parts_at}
 use Rattle.volume_def.specs.Readable.{IsDirectory}
+use Rattle.volume_def.specs.Table.{cluster_bytes}
 use Rattle.volume_def.specs.View.{VolumeView}
+use Rattle.tree_model.specs.Bill.{grows}
+use Rattle.tree_model.specs.Cases.{size_of}
+use Rattle.tree_model.specs.Need.{Bill, empty_bill}
 use Rattle.tree_model.specs.Reading.{read}
-use Rattle.tree_model.specs.Staging.{is_built_for}
-use Rattle.tree_model.specs.StreamRoom.{parts_named}
+use Rattle.tree_model.specs.Staging.{is_done_in_record}
+use Rattle.tree_model.specs.StreamRoom.{new_clusters, parts_named, stream_parts, stream_value_len}
 use Rattle.tree_model.specs.Subjects.{Located, NoName}
 use Rattle.tree_model.specs.declared.command.Command.{Command}
 use Rattle.tree_model.specs.declared.command.Command.TheVariants as c
+use Rattle.tree_model.specs.Tree.{Tree}
 use Rattle.tree_model.specs.declared.tree.Node.{Node}
 use Rattle.edit_def.specs.Items.{HasItems}
 use Rattle.edit_def.specs.Kept.{key_of}
+use Rattle.edit_def.specs.OneFile.{one_file, touched_alone}
+use Rattle.session_def.specs.Cost.{bytes_in}
 use Rattle.session_def.specs.Kept.{KeepsEntries}
 use Rattle.session_def.specs.Named.{spelt}
 use Rattle.session_def.specs.State.{Stands, State}
@@ -24,21 +32,46 @@ use Rattle.value_edits.specs.ValueEdits.{IsEdited}
 
 -- THE COMMANDS that are done so
 abbrev pub edits_value : Command → Bool
+edits_value (c.Write path stream from bytes) = true
+edits_value (c.Hwrite handle from bytes) = true
 edits_value (c.Truncate path stream size) = true
 edits_value (c.Rmstream path name) = true
 edits_value other = false
 
--- BETWEEN the two: the volume as the edit of the value left it, and the tree that it reads as.
-abbrev pub between : State → VolumeView → State
-between before mid = record before { view = mid; machine = record before.machine { tree = read mid } }
+-- THE CLUSTERS ON ITS BILL, which has that file alone: a stream that gets longer, or other bytes, may not stay in its record. One that gets
+-- no longer, or goes, has the empty bill.
+abbrev pub clusters_asked : VolumeView → Tree → Command → Located → Option ℕ
+clusters_asked view tree (c.Write path stream from bytes) at =
+    Some (new_clusters (cluster_bytes view.layout) (stream_parts view tree at) from (length bytes))
+clusters_asked view tree (c.Hwrite handle from bytes) at =
+    Some (new_clusters (cluster_bytes view.layout) (stream_parts view tree at) from (length bytes))
+clusters_asked view tree (c.Truncate path stream size) at =
+    if grows size at.content then Some (new_clusters (cluster_bytes view.layout) (stream_parts view tree at) 0 0) else None
+clusters_asked view tree other at = None
+
+abbrev pub bill_asked : VolumeView → ℕ → Option ℕ → Bill
+bill_asked view f None = empty_bill
+bill_asked view f (Some k) = one_file k (touched_alone view f)
+
+-- BETWEEN the two: the volume as the edit of the value left it, and the tree that it reads as. The sectors that the bytes of the command
+-- fill were written then.
+abbrev pub between : State → Command → VolumeView → State
+between before command mid = record before {
+  view = mid;
+  machine = record before.machine { tree = read mid };
+  written = before.written + bytes_in command / 512;
+}
 
 -- THE VALUE WAS EDITED, and then the times and flags of the file were set, and told anew in the entries of the file's names.
 pub record SetsBehindValue (before next : State) (command : Command) (at : Located) (mid staged : VolumeView) : Type 0 where
-  -- the volume before; the command is one of these, its words name nothing new, and it is built for this volume
+  -- the volume before; the command is one of these, its words name nothing new and a stream that is there, as long as its value, and on
+  -- this volume it is done so
   pub stands : Stands before
   pub edits : edits_value command ≡ true
   pub new : at.new ≡ NoName
-  pub built : is_built_for before.view before.machine.tree command at ≡ true
+  pub there : is_some at.content ≡ true
+  pub size_is : option_map_or size_of at.content 0 ≡ stream_value_len (stream_parts before.view before.machine.tree at)
+  pub in_record : is_done_in_record before.view before.machine.tree command at ≡ true
   -- the stream by its name, and all parts of the file that are found by the units of that name are its own
   pub name : List ℕ
   pub spelt_so : units_in name ≡ spelt before.machine.tree at
@@ -47,6 +80,6 @@ pub record SetsBehindValue (before next : State) (command : Command) (at : Locat
   pub node : Node
   pub edited : IsEdited (key_of at.file DATA name) before.view mid node
   -- what came behind it, as if the file had been set on the volume between; its entries are right from the tree before on
-  pub behind : SetsInPlace (between before mid) next (c.Setattr [] 0) at staged
+  pub behind : SetsInPlace (between before command mid) next (c.Setattr [] 0) at staged
   pub entries : (dir : ℕ) (was now : List Item) → IsDirectory mid dir → HasItems mid dir was → HasItems staged dir now
       → KeepsEntries staged before.machine.tree next.machine.tree (at.file ∷ []) [] was now
