@@ -21,7 +21,7 @@ pub use data::{find_plain, is_of_directory, name_or, plain_content, read_through
 pub use load::{load_file, load_node};
 pub use node::{Standard, find_part, read_standard};
 pub use outline::links_of;
-pub use room::df;
+pub use room::{df, free_records};
 pub use shown::{Shown, show_at};
 pub use standing::Standing;
 pub use stop::Stop;

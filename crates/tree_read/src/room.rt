@@ -8,8 +8,8 @@ use mft_table::Mounted;
 use ntfs_def::records::FIRST_ORDINARY;
 use tree_model::Answer;
 
-// The flags that are free from record 24 on.
-fn free_records(records: &Bits) -> u64
+/// The flags that are free from record 24 on.
+pub fn free_records(records: &Bits) -> u64
     ensures { result ≡ count_by not (drop FIRST_ORDINARY records.now) }
 {
     let mut free = records.count_free();

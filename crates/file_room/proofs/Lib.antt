@@ -1,0 +1,3 @@
+mod ListLaws
+mod AskLaws
+mod ValueLaws

@@ -1,0 +1,11 @@
+//! The room that an edit of one file asks for, decided from what is kept of the volume.
+#![tactic(auto)]
+
+mod ask;
+mod free;
+mod list;
+mod need;
+mod value;
+
+pub use ask::ask_for_room;
+pub use value::clusters_of_value;
