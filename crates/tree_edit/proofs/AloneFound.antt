@@ -1,26 +1,33 @@
--- WHAT IS WANTED OF A STREAM that is to be cut or to go, by what is found of the file that is held: the refusals in their order; and
--- whether it is a value of a file without an attribute list.
-use Rattle.std.proofs.Common.{◌≡◌, ◌⊎◌, ◌&&◌, ◌==◌, ◌/◌, ◌%◌, ◌<◌, ◌≤◌, ℕ, Bool, true, false, List, Option, Some, None, Result, Ok, Err}
-use Rattle.std.proofs.Common.{refl, sym, ap, inl, inr, ◌∙◌}
-use Rattle.std.proofs.lemmas.Bool.{le-leb, lt-leb}
-use Rattle.std.specs.Prelude.{IfOk, if◌then◌else◌, is_some, length, nat_le}
+-- WHAT IS WANTED OF A STREAM that is to have another length or to go, before room is asked for, by what is found of the file that is held:
+-- the refusals in their order; and whether it is a value of a file without an attribute list, and has room.
+use Rattle.std.proofs.Common.{◌≡◌, ◌⊎◌, ◌&&◌, ◌||◌, ◌==◌, ◌+◌, ◌/◌, ◌%◌, ℕ, Bool, true, false, List, Option, Some, None, Result, Ok, Err}
+use Rattle.std.proofs.Common.{refl, sym, ap, subst, inl, inr, ◌∙◌}
+use Rattle.std.proofs.lemmas.Bool.{and_parts, not-true}
+use Rattle.std.specs.Prelude.{IfOk, IsSomeAnd, if◌then◌else◌, is_some, length, nat_le, slice_get}
 use Rattle.std.specs.List.{list_any}
 use Rattle.std.specs.Option.{option_map_or}
-use Rattle.list_laws.proofs.BoolLaws.{and-none, and-swap}
-use Rattle.volume_def.specs.Files.{Part, parts, records_of}
+use Rattle.list_laws.proofs.FindLaws.{none-counted}
+use Rattle.list_laws.proofs.OptionLaws.{some-is}
+use Rattle.ntfs_def.specs.Attribute.{Attribute, value_of}
+use Rattle.volume_def.specs.CaseClause.{case_parts}
+use Rattle.volume_def.specs.Files.{Part, content_value, part_of, parts, records_of}
 use Rattle.volume_def.specs.ListsClause.{is_list}
+use Rattle.volume_def.specs.Room.{free_bytes}
 use Rattle.volume_def.specs.Sound.{IsSound}
 use Rattle.volume_def.specs.Table.{cluster_bytes}
+use Rattle.volume_def.specs.Values.{value_on}
 use Rattle.volume_def.specs.View.{VolumeView}
 use Rattle.mft_table.specs.declared.mounted.Mounted.{Mounted}
 use Rattle.file_record.specs.declared.base.BaseFile.{BaseFile}
-use Rattle.sparse_io.specs.Held.{IsStream}
+use Rattle.attr_store.proofs.FirstLaws.{body-value}
+use Rattle.dir_index.proofs.StandardLaws.{at-among}
+use Rattle.sparse_io.specs.Held.{IsHeldWith, IsStream}
 use Rattle.sparse_io.specs.declared.find.FoundStream.{FoundStream}
 use Rattle.tree_model.specs.Cases.{is_far}
 use Rattle.tree_model.specs.Paths.{and_then}
 use Rattle.tree_model.specs.Reading.{read}
-use Rattle.tree_model.specs.Staging.{gets_no_longer, has_no_list}
-use Rattle.tree_model.specs.StreamRoom.{parts_named, stream_value}
+use Rattle.tree_model.specs.Staging.{fits_in_record, gets_no_longer, has_no_list}
+use Rattle.tree_model.specs.StreamRoom.{parts_named, stream_parts, stream_value}
 use Rattle.tree_model.specs.Subjects.{content_named}
 use Rattle.tree_model.specs.Tree.{node_of}
 use Rattle.tree_model.specs.declared.opens.OpenEntry.{OpenEntry}
@@ -29,15 +36,27 @@ use Rattle.tree_model.specs.declared.reply.No.TheVariants as no
 use Rattle.tree_model.specs.declared.tree.Content.{Content}
 use Rattle.tree_read.specs.Nodes.{IsNodeHeld, number_of, parts_in}
 use Rattle.tree_read.specs.Parts.{FindsPlain, IsPlainStream, content_here}
+use Rattle.tree_read.proofs.NodeLaws.{held-file, held-with}
 use Rattle.tree_read.proofs.StreamLaws.{other-stream, refused-directory}
-use Rattle.tree_edit.specs.Alone.{can_cut, can_drop, cut_in, cut_ranged, drop_in, drop_shared, if_cut, if_dropped}
+use Rattle.tree_edit.specs.Alone.{can_drop, can_resize, drop_in, drop_shared, if_dropped}
+use Rattle.tree_edit.specs.Change.{TellsFit, has_room_for}
+use Rattle.tree_edit.specs.Decided.{if_can, resize_decided, resize_ranged_to}
 use Rattle.tree_edit.specs.Settable.{is_editable}
-use Rattle.tree_edit.specs.Writable.{DecidesEdit, DecidesOver, FindsToWrite, GivesBack, IsMountedAs, kept_from_writing, stream_to_write}
+use Rattle.tree_edit.specs.Writable.{AreNames, DecidesEdit, DecidesOver, FindsToWrite, GivesBack, IsMountedAs, kept_from_writing, named_in}
+use Rattle.tree_edit.specs.Writable.{stream_to_write}
+use Rattle.tree_edit.specs.declared.writable.Way.TheVariants as way
 use Rattle.tree_edit.specs.declared.writable.Writable.{Writable}
-use Rattle.tree_edit.proofs.EditableLaws.{edit-decided, edit-is}
-use Rattle.tree_edit.proofs.StreamToWrite.{content-is, missing-of}
+use Rattle.tree_edit.proofs.EditableLaws.{edit-decided, edit-is, parts-are}
+use Rattle.tree_edit.proofs.FoundOver.{drop-missing}
+use Rattle.tree_edit.proofs.RoomFound.{attribute-of, fits-tells, found-size, value-there}
+use Rattle.tree_edit.proofs.StreamToWrite.{content-is}
 
--- WHETHER THE STREAM THAT WAS FOUND can go, or be cut.
+-- a stream gets no longer, or its record has room for it
+abbrev pub room_in : VolumeView → List ℕ → ℕ → ℕ → Bool
+room_in view name size file =
+    gets_no_longer size (content_named (read view) name (node_of (read view) file))
+    || fits_in_record view file (stream_parts view (read view) (named_in (read view) name file)) size
+
 module _ (view : VolumeView) (held : BaseFile) (n : IsNodeHeld view held) where
   abbrev f : ℕ
   f = number_of held
@@ -45,54 +64,45 @@ module _ (view : VolumeView) (held : BaseFile) (n : IsNodeHeld view held) where
   pub list-held : list_any is_list (parts_in held) ≡ list_any is_list (parts (records_of view) f)
   list-held = ap (list_any is_list) n.parts.parts
 
-  module _ (name : List ℕ) (found : FoundStream) (is : IsStream view held.parts name found) (size : ℕ) where
-    cut-is : (b : Bool) → nat_le size found.size ≡ b → can_cut view name size f ≡ (can_drop view name f && b)
-    cut-is b short =
-        ap (λ (o : Option Content). can_drop view name f && gets_no_longer size o) (content-is view held n name found is)
-        ∙ ap (λ k. can_drop view name f && nat_le size k) (sym is.size) ∙ ap (λ x. can_drop view name f && x) short
-
-    pub longer : found.size < size → can_cut view name size f ≡ false
-    longer long = cut-is false (lt-leb size found.size long) ∙ and-none (can_drop view name f)
-
-    pub no-longer : size ≤ found.size → can_cut view name size f ≡ can_drop view name f
-    no-longer short = cut-is true (le-leb size found.size short) ∙ and-swap (can_drop view name f) true
-
-  -- WHAT IS WANTED, of a stream that is to be cut
+  -- WHAT IS WANTED, of a stream that is to have another length
   module _ (name : List ℕ) (size : ℕ) (opens : List OpenEntry) where
     abbrev sought : Result (Option (List ℕ)) No
     sought = stream_to_write (read view) name (node_of (read view) f)
 
     abbrev wanted : Result ℕ No
-    wanted = cut_in view opens name size f
+    wanted = resize_decided view opens name size f
+
+    abbrev last : Result ℕ No
+    last = if_can (can_resize view name size f) f
+
+    abbrev then_ranged : Result (Option (List ℕ)) No → Result ℕ No
+    then_ranged r = and_then r (λ (b : Option (List ℕ)). resize_ranged_to last opens size f)
 
     found-ok : (o : Option FoundStream) → FindsToWrite sought view held name (Ok o) → (bytes : Option (List ℕ)) × (sought ≡ Ok bytes)
     found-ok None e = (None, e)
     found-ok (Some found) x = (Some x.0.bytes, x.1)
 
-    ranged : (o : Option FoundStream) → FindsToWrite sought view held name (Ok o) → wanted ≡ cut_ranged view opens name size f
-    ranged o x = ap (λ r. and_then r (λ (b : Option (List ℕ)). cut_ranged view opens name size f)) (found-ok o x).1
+    ranged : (o : Option FoundStream) → FindsToWrite sought view held name (Ok o) → wanted ≡ resize_ranged_to last opens size f
+    ranged o x = ap then_ranged (found-ok o x).1
 
-    pub cut-refused : (refused : No) → FindsToWrite sought view held name (Err refused) → (wanted ≡ Err refused) ⊎ (refused ≡ no.Memory)
-    cut-refused refused (inl e) = inl (ap (λ r. and_then r (λ (b : Option (List ℕ)). cut_ranged view opens name size f)) e)
-    cut-refused refused (inr memory) = inr memory
+    pub resize-refused : (refused : No) → FindsToWrite sought view held name (Err refused) → (wanted ≡ Err refused) ⊎ (refused ≡ no.Memory)
+    resize-refused refused (inl e) = inl (ap then_ranged e)
+    resize-refused refused (inr memory) = inr memory
 
-    pub cut-far : (o : Option FoundStream) → FindsToWrite sought view held name (Ok o) → is_far size ≡ true → wanted ≡ Err no.TooBig
-    cut-far o x far =
-        ranged o x ∙ ap (λ b. if b then Err no.TooBig else option_map_or Err (kept_from_writing opens f) (if_cut view name size f)) far
+    pub resize-far : (o : Option FoundStream) → FindsToWrite sought view held name (Ok o) → is_far size ≡ true → wanted ≡ Err no.TooBig
+    resize-far o x far = ranged o x ∙ ap (λ b. if b then Err no.TooBig else option_map_or Err (kept_from_writing opens f) last) far
 
-    pub cut-shared : (o : Option FoundStream) → FindsToWrite sought view held name (Ok o) → is_far size ≡ false → (k : Option No)
-        → kept_from_writing opens f ≡ k → wanted ≡ option_map_or Err k (if_cut view name size f)
-    cut-shared o x near k kept =
-        ranged o x ∙ ap (λ b. if b then Err no.TooBig else option_map_or Err (kept_from_writing opens f) (if_cut view name size f)) near
-        ∙ ap (λ k. option_map_or Err k (if_cut view name size f)) kept
+    pub resize-shared : (o : Option FoundStream) → FindsToWrite sought view held name (Ok o) → is_far size ≡ false → (k : Option No)
+        → kept_from_writing opens f ≡ k → wanted ≡ option_map_or Err k last
+    resize-shared o x near k kept =
+        ranged o x ∙ ap (λ b. if b then Err no.TooBig else option_map_or Err (kept_from_writing opens f) last) near
+        ∙ ap (λ k. option_map_or Err k last) kept
 
-    pub cut-missing : FindsToWrite sought view held name (Ok None) → is_far size ≡ false → kept_from_writing opens f ≡ None
+    pub resize-missing : FindsToWrite sought view held name (Ok None) → is_far size ≡ false → kept_from_writing opens f ≡ None
         → wanted ≡ Err no.Unbuilt
-    cut-missing none near kept =
-        cut-shared None none near None kept
-        ∙ ap (λ b. if b then Ok f else Err no.Unbuilt)
-        (ap (λ (o : Option Content). can_drop view name f && gets_no_longer size o) (missing-of view held n name none)
-        ∙ and-none (can_drop view name f))
+    resize-missing none near kept =
+        resize-shared None none near None kept
+        ∙ ap (λ b. if_can b f) (ap (λ b. b && room_in view name size f) (drop-missing view held n name 0 0 none))
 
   -- .. and of one that is to go
   module _ (name : List ℕ) (opens : List OpenEntry) where
@@ -136,21 +146,83 @@ module _ (view : VolumeView) (mounted : Mounted) (held : BaseFile) (mounts : IsM
       ∙ and-more (is_editable mounted held.parts) is_value (has_no_list view number)
 
   pub drop-decided : (wanted : Result ℕ No) (result : Result Writable No) → DecidesOver (can_drop view name number) result
-      → IfOk result (λ given. GivesBack given held found) → IsPlainStream view held name found
-      → wanted ≡ if_dropped view name number → DecidesEdit (λ file. can_drop view name file) wanted view held name result
+      → IfOk result (λ given. GivesBack given held found way.InRecord) → IsPlainStream view held name found
+      → wanted ≡ if_dropped view name number → DecidesEdit (λ any file. can_drop view name file) wanted view held name result
   drop-decided wanted result over back plain e =
       edit-decided view mounted (cluster_bytes view.layout) held mounts sound n name found is (λ file. can_drop view name file)
-      (is_value && has_no_list view number) drop-is wanted result over back plain e
+      (is_value && has_no_list view number) drop-is way.InRecord wanted result over back plain e
 
   module _ (size : ℕ) where
-    abbrev no_longer : Bool
-    no_longer = gets_no_longer size (content_named (read view) name (node_of (read view) number))
+    resize-is : can_resize view name size number
+        ≡ (is_editable mounted held.parts && ((is_value && has_no_list view number) && room_in view name size number))
+    resize-is =
+        ap (λ b. b && room_in view name size number) drop-is
+        ∙ and-more (is_editable mounted held.parts) (is_value && has_no_list view number) (room_in view name size number)
 
-    pub cut-decided : (wanted : Result ℕ No) (result : Result Writable No) → DecidesOver (can_cut view name size number) result
-        → IfOk result (λ given. GivesBack given held found) → IsPlainStream view held name found
-        → wanted ≡ if_cut view name size number → DecidesEdit (λ file. can_cut view name size file) wanted view held name result
-    cut-decided wanted result over back plain e =
-        edit-decided view mounted (cluster_bytes view.layout) held mounts sound n name found is (λ file. can_cut view name size file)
-        ((is_value && has_no_list view number) && no_longer)
-        (ap (λ b. b && no_longer) drop-is ∙ and-more (is_editable mounted held.parts) (is_value && has_no_list view number) no_longer)
-        wanted result over back plain e
+    pub resize-decided : (wanted : Result ℕ No) (result : Result Writable No) → DecidesOver (can_resize view name size number) result
+        → IfOk result (λ given. GivesBack given held found way.InRecord) → IsPlainStream view held name found
+        → wanted ≡ if_can (can_resize view name size number) number
+        → DecidesEdit (λ any file. can_resize view name size file) wanted view held name result
+    resize-decided wanted result over back plain e =
+        edit-decided view mounted (cluster_bytes view.layout) held mounts sound n name found is (λ file. can_resize view name size file)
+        ((is_value && has_no_list view number) && room_in view name size number) resize-is way.InRecord wanted result over back plain e
+
+    -- what can have another length can be edited
+    pub resize-editable : can_resize view name size number ≡ true → is_editable mounted held.parts ≡ true
+    resize-editable can = (and_parts (is_editable mounted held.parts) _ (sym resize-is ∙ can)).0
+
+    -- WHETHER IT CAN HAVE SO MANY BYTES, by the room of the record that holds it
+    pub resize-not : false ≡ can_drop view name number → false ≡ can_resize view name size number
+    resize-not no_value = ap (λ b. b && room_in view name size number) no_value
+
+    module _ (dropped : true ≡ can_drop view name number) (names : AreNames (parts_in held)) (fits : Bool)
+        (t : TellsFit held.parts found.part size fits) where
+      abbrev attribute : (a : Attribute) × (is.part ≡ part_of is.part.holder a)
+      attribute = attribute-of held.parts is.part (at-among (parts_in held) found.part is.part is.at)
+
+      abbrev a : Attribute
+      a = attribute.0
+
+      at : IsSomeAnd (slice_get (parts_in held) found.part) (λ part. part ≡ part_of part.holder a)
+      at = subst (λ (o : Option Part). IsSomeAnd o (λ part. part ≡ part_of part.holder a)) (sym is.at) attribute.1
+
+      abbrev table : List ℕ
+      table = value_on view (case_parts view)
+
+      h : IsHeldWith view table held.parts
+      h = held-with view held n table refl
+
+      there : stream_value (parts_named view number is.stream.name) ≡ value_of a.body
+      there = value-there view table name held.parts found h is a at names
+
+      value : (v : List ℕ) × (value_of a.body ≡ Some v)
+      value =
+          some-is (value_of a.body) (ap (λ (o : Option (List ℕ)). is_some o) (sym there)
+          ∙ (and_parts is_value (has_no_list view number)
+          (and_parts (is_editable mounted held.parts) (is_value && has_no_list view number) (sym drop-is ∙ sym dropped)).1).0)
+
+      no_list : has_no_list view number ≡ true
+      no_list = (and_parts is_value (has_no_list view number)
+          (and_parts (is_editable mounted held.parts) (is_value && has_no_list view number) (sym drop-is ∙ sym dropped)).1).1
+
+      same : t.part ≡ is.part
+      same = let x = t.there in let y = is.at in cc
+
+      fits-so : fits ≡ has_room_for view number (length value.0) size
+      fits-so =
+          fits-tells view held.parts n.parts n.readable (held-file view held n)
+          (none-counted is_list (parts (records_of view) number) (not-true (list_any is_list (parts (records_of view) number)) no_list))
+          found.part size fits t value.0
+          (ap (λ (p : Part). content_value p.content) (same ∙ attribute.1) ∙ body-value a.body ∙ value.1)
+
+      pub resize-so : fits ≡ can_resize view name size number
+      resize-so =
+          fits-so
+          ∙ sym (ap (λ b. b && room_in view name size number) (sym dropped)
+          ∙ ap (λ (o : Option Content). gets_no_longer size o || fits_in_record view number (stream_parts view (read view)
+          (named_in (read view) name number)) size) (content-is view held n name found is)
+          ∙ ap (λ k. nat_le size k || fits_in_record view number (stream_parts view (read view) (named_in (read view) name number)) size)
+          (sym is.size ∙ found-size view table name held.parts found h is a at names value.0 value.1)
+          ∙ ap (λ (ps : List Part). nat_le size (length value.0) || fits_in_record view number ps size) (parts-are view held n name found is)
+          ∙ ap (λ (o : Option (List ℕ)). nat_le size (length value.0)
+          || nat_le (size + 7) (option_map_or length o 0 + free_bytes view number)) (there ∙ value.1))

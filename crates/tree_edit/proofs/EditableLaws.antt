@@ -30,6 +30,7 @@ use Rattle.tree_read.proofs.NodeLaws.{held-with}
 use Rattle.tree_edit.specs.Settable.{IsSettable, is_editable}
 use Rattle.stream_overwrites.proofs.TellableNames.{tellable}
 use Rattle.tree_edit.specs.Writable.{AreNames, DecidesEdit, DecidesOver, GivesBack, IsFoundToEdit, IsMountedAs, named_in}
+use Rattle.tree_edit.specs.declared.writable.Way.{Way}
 use Rattle.tree_edit.specs.declared.writable.Writable.{Writable}
 use Rattle.tree_edit.proofs.SettableLaws.{can-settable, cannot-is}
 
@@ -71,18 +72,18 @@ module _ (view : VolumeView) (mounted : Mounted) (size : ℕ) (held : BaseFile) 
     editable-so b e same = same ∙ sym (can-is ∙ ap (λ x. x && passes) e)
 
     -- WHAT WAS FOUND is a stream that can be edited so
-    pub found-editable : (bytes : List ℕ) → IsVolumeOf bytes view → (result : Writable) → GivesBack result held found
+    pub found-editable : (bytes : List ℕ) → IsVolumeOf bytes view → (result : Writable) (way : Way) → GivesBack result held found way
         → IsPlainStream view held name found → can number ≡ true → IsFoundToEdit view result name can
     unfolding node_by
-    found-editable bytes volume result back plain so =
+    found-editable bytes volume result way back plain so =
         let parts = and_parts (is_editable mounted held.parts) passes (sym can-is ∙ so) in
         let set : IsSettable view (record { number = number; times = result.times }) =
         can-settable view mounted held n sound mounts.whole mounts.count bytes result.times volume parts.0 back.times in
         let node : set.can.node ≡ node_by view n.base (parts_in held) =
         let a = set.can.can.there in let b = sym (node_of-read view number) ∙ n.node in cc in
         subst (λ (w : Writable). IsFoundToEdit view w name can)
-        (ap (λ (h : BaseFile). record { held = h; stream = found; times = result.times; flags = result.flags }) (sym back.held_is)
-        ∙ ap (λ (s : FoundStream). record { held = result.held; stream = s; times = result.times; flags = result.flags })
+        (ap (λ (h : BaseFile). record { held = h; stream = found; way = result.way; times = result.times; flags = result.flags }) (sym back.held_is)
+        ∙ ap (λ (s : FoundStream). record { held = result.held; stream = s; way = result.way; times = result.times; flags = result.flags })
         (sym back.stream_is))
         (record {
           settable = set;
@@ -99,15 +100,31 @@ module _ (view : VolumeView) (mounted : Mounted) (size : ℕ) (held : BaseFile) 
         })
 
     -- WHAT WAS DECIDED, where it is whether that passes the test
-    pub edit-decided : (wanted : Result ℕ No) (result : Result Writable No) → DecidesOver (can number) result
-        → IfOk result (λ given. GivesBack given held found) → IsPlainStream view held name found
-        → wanted ≡ (if can number then Ok number else Err no.Unbuilt) → DecidesEdit can wanted view held name result
-    edit-decided wanted (Ok given) over back plain e = (
+    pub edit-decided : (way : Way) (wanted : Result ℕ No) (result : Result Writable No) → DecidesOver (can number) result
+        → IfOk result (λ given. GivesBack given held found way) → IsPlainStream view held name found
+        → wanted ≡ (if can number then Ok number else Err no.Unbuilt) → DecidesEdit (λ any. can) wanted view held name result
+    edit-decided way wanted (Ok given) over back plain e = (
       e ∙ ap (λ b. if b then Ok number else Err no.Unbuilt) over,
       back.held_is,
-      λ bytes volume. found-editable bytes volume given back plain over,
+      λ bytes volume. found-editable bytes volume given way back plain over,
     )
-    edit-decided wanted (Err refused) over back plain e = elim over [
+    edit-decided way wanted (Err refused) over back plain e = elim over [
       | inl (no_so, same) ↦ inl (e ∙ ap (λ b. if b then Ok number else Err no.Unbuilt) no_so ∙ ap Err (sym same))
       | inr memory ↦ inr memory
     ]
+
+  -- .. where either way will do, and what is given back passes the test of its own
+  pub ways-decided : (can : Way → ℕ → Bool) (some : Bool) → ((way : Way) → can way number ≡ true → is_editable mounted held.parts ≡ true)
+      → (wanted : Result ℕ No) (result : Result Writable No) → DecidesOver some result
+      → IfOk result (λ given. GivesBack given held found given.way) → IfOk result (λ given. can given.way number ≡ true)
+      → IsPlainStream view held name found → wanted ≡ (if some then Ok number else Err no.Unbuilt) → DecidesEdit can wanted view held name result
+  ways-decided can some editable wanted (Ok given) over back so plain e = (
+    e ∙ ap (λ b. if b then Ok number else Err no.Unbuilt) over,
+    back.held_is,
+    λ bytes volume. found-editable (can given.way) (can given.way number)
+        (sym (ap (λ b. b && can given.way number) (editable given.way so))) bytes volume given given.way back plain so,
+  )
+  ways-decided can some editable wanted (Err refused) over back so plain e = elim over [
+    | inl (no_so, same) ↦ inl (e ∙ ap (λ b. if b then Ok number else Err no.Unbuilt) no_so ∙ ap Err (sym same))
+    | inr memory ↦ inr memory
+  ]

@@ -1,5 +1,5 @@
--- WHAT IS WANTED OF A WRITE, by what is found of the file that is held: the refusals in their order.
-use Rattle.std.proofs.Common.{◌≡◌, ◌⊎◌, ◌&&◌, ℕ, not, Bool, true, false, List, [], Option, Some, None, Result, Ok, Err}
+-- WHAT IS WANTED OF A WRITE before room is asked for, by what is found of the file that is held: the refusals in their order.
+use Rattle.std.proofs.Common.{◌≡◌, ◌⊎◌, ◌&&◌, ◌||◌, ◌+◌, ℕ, not, Bool, true, false, List, [], Option, Some, None, Result, Ok, Err}
 use Rattle.std.proofs.Common.{refl, sym, ap, inl, inr, ◌∙◌}
 use Rattle.std.specs.Prelude.{IsErrAnd, IsTrue, length, if◌then◌else◌, is_some, option_and_then}
 use Rattle.std.specs.Option.{option_map_or}
@@ -20,8 +20,9 @@ use Rattle.tree_model.specs.Cases.{is_wide}
 use Rattle.tree_model.specs.Facts.{IsVolumeOf, is_whole_table}
 use Rattle.tree_model.specs.Paths.{and_then}
 use Rattle.tree_model.specs.Reading.{node_by, read}
-use Rattle.tree_model.specs.Staging.{cannot_edit}
-use Rattle.tree_model.specs.StreamRoom.{goes_over, parts_named, stream_parts}
+use Rattle.tree_model.specs.Staging.{cannot_edit, fits_in_record, gets_no_longer, has_no_list}
+use Rattle.tree_model.specs.StreamRoom.{goes_over, parts_named, stream_parts, stream_value}
+use Rattle.tree_model.specs.Subjects.{content_named}
 use Rattle.tree_model.specs.Tree.{node_of, sought_stream}
 use Rattle.tree_model.specs.declared.opens.OpenEntry.{OpenEntry}
 use Rattle.tree_model.specs.declared.reply.No.{No}
@@ -31,8 +32,9 @@ use Rattle.tree_model.specs.declared.tree.Stream.{Stream}
 use Rattle.tree_read.specs.Nodes.{IsNodeHeld, number_of, parts_in}
 use Rattle.tree_read.specs.Parts.{FindsPlain, content_here}
 use Rattle.file_record.proofs.ReadLaws.{view-kept}
-use Rattle.tree_edit.specs.Writable.{FindsToWrite, IsMountedAs, can_write_over, hwrite_in, hwrite_ranged, if_over}
-use Rattle.tree_edit.specs.Writable.{kept_from_writing, named_in, stream_to_write, write_in, write_ranged}
+use Rattle.tree_edit.specs.Alone.{can_drop, can_resize}
+use Rattle.tree_edit.specs.Decided.{can_write_so, hwrite_decided, hwrite_ranged_to, if_can, write_decided, write_ranged_to}
+use Rattle.tree_edit.specs.Writable.{FindsToWrite, IsMountedAs, can_write_over, kept_from_writing, named_in, stream_to_write}
 use Rattle.tree_edit.proofs.StreamToWrite.{sought-none}
 
 module _ (view : VolumeView) (held : BaseFile) (n : IsNodeHeld view held) (name : List ℕ) (at len : ℕ) where
@@ -62,72 +64,92 @@ module _ (view : VolumeView) (held : BaseFile) (n : IsNodeHeld view held) (name 
       never true = refl
       never false = refl
 
+  -- .. so it can neither be written over nor go
+  pub drop-missing : sought_to_write ≡ Ok None → can_drop view name number ≡ false
+  unfolding node_by
+  drop-missing e =
+      let cannot = cannot_edit (is_whole_table view) (read view) number in
+      ap (λ (ps : List Part). (not cannot && is_some (stream_value ps)) && has_no_list view number)
+      (none-there (sought-none view held n name e))
+      ∙ ap (λ b. b && has_no_list view number) (never (not cannot))
+    where
+      never : (b : Bool) → (b && false) ≡ false
+      never true = refl
+      never false = refl
+
+  so-missing : sought_to_write ≡ Ok None → can_write_so view name at len number ≡ false
+  so-missing e =
+      ap (λ b. b || can_resize view name (at + len) number) (over-missing e)
+      ∙ ap (λ b. b && (gets_no_longer (at + len) (content_named (read view) name (node_of (read view) number))
+      || fits_in_record view number (stream_parts view (read view) (named_in (read view) name number)) (at + len))) (drop-missing e)
+
+  abbrev last : Result ℕ No
+  last = if_can (can_write_so view name at len number) number
+
   module _ (opens : List OpenEntry) where
     abbrev wanted : Result ℕ No
-    wanted = write_in view opens name at len number
+    wanted = write_decided view opens name at len number
 
-    ranged : (bytes : Option (List ℕ)) → sought_to_write ≡ Ok bytes → wanted ≡ write_ranged view opens name at len number
-    ranged bytes e = ap (λ r. and_then r (λ (b : Option (List ℕ)). write_ranged view opens name at len number)) e
+    abbrev then_ranged : Result (Option (List ℕ)) No → Result ℕ No
+    then_ranged r = and_then r (λ (b : Option (List ℕ)). write_ranged_to last opens at len number)
+
+    ranged : (bytes : Option (List ℕ)) → sought_to_write ≡ Ok bytes → wanted ≡ write_ranged_to last opens at len number
+    ranged bytes e = ap then_ranged e
 
     found-ok : (o : Option FoundStream) → FindsToWrite sought_to_write view held name (Ok o)
         → (bytes : Option (List ℕ)) × (sought_to_write ≡ Ok bytes)
     found-ok None e = (None, e)
     found-ok (Some found) x = (Some x.0.bytes, x.1)
 
-    in-range : is_wide at len ≡ false
-        → write_ranged view opens name at len number ≡ option_map_or Err (kept_from_writing opens number) (if_over view name at len number)
-    in-range narrow =
-        ap (λ b. if b then Err no.TooBig else option_map_or Err (kept_from_writing opens number) (if_over view name at len number)) narrow
+    in-range : is_wide at len ≡ false → write_ranged_to last opens at len number ≡ option_map_or Err (kept_from_writing opens number) last
+    in-range narrow = ap (λ b. if b then Err no.TooBig else option_map_or Err (kept_from_writing opens number) last) narrow
 
     pub stream-refused : (refused : No) → FindsToWrite sought_to_write view held name (Err refused)
         → (wanted ≡ Err refused) ⊎ (refused ≡ no.Memory)
-    stream-refused refused (inl e) =
-        inl (ap (λ r. and_then r (λ (b : Option (List ℕ)). write_ranged view opens name at len number)) e)
+    stream-refused refused (inl e) = inl (ap then_ranged e)
     stream-refused refused (inr memory) = inr memory
 
     pub range-refused : (o : Option FoundStream) → FindsToWrite sought_to_write view held name (Ok o) → is_wide at len ≡ true
         → wanted ≡ Err no.TooBig
     range-refused o x wide =
         let f = found-ok o x in
-        ranged f.0 f.1
-        ∙ ap (λ b. if b then Err no.TooBig else option_map_or Err (kept_from_writing opens number) (if_over view name at len number)) wide
+        ranged f.0 f.1 ∙ ap (λ b. if b then Err no.TooBig else option_map_or Err (kept_from_writing opens number) last) wide
 
     pub open-refused : (o : Option FoundStream) (refused : No) → FindsToWrite sought_to_write view held name (Ok o)
         → is_wide at len ≡ false → kept_from_writing opens number ≡ Some refused → wanted ≡ Err refused
     open-refused o refused x narrow kept =
         let f = found-ok o x in
-        ranged f.0 f.1 ∙ in-range narrow ∙ ap (λ k. option_map_or Err k (if_over view name at len number)) kept
+        ranged f.0 f.1 ∙ in-range narrow ∙ ap (λ k. option_map_or Err k last) kept
 
-    pub as-over : (o : Option FoundStream) → FindsToWrite sought_to_write view held name (Ok o) → is_wide at len ≡ false
-        → kept_from_writing opens number ≡ None → wanted ≡ if_over view name at len number
-    as-over o x narrow kept =
+    pub as-so : (o : Option FoundStream) → FindsToWrite sought_to_write view held name (Ok o) → is_wide at len ≡ false
+        → kept_from_writing opens number ≡ None → wanted ≡ last
+    as-so o x narrow kept =
         let f = found-ok o x in
-        ranged f.0 f.1 ∙ in-range narrow ∙ ap (λ k. option_map_or Err k (if_over view name at len number)) kept
+        ranged f.0 f.1 ∙ in-range narrow ∙ ap (λ k. option_map_or Err k last) kept
 
     pub missing-refused : FindsToWrite sought_to_write view held name (Ok None) → is_wide at len ≡ false
         → kept_from_writing opens number ≡ None → wanted ≡ Err no.Unbuilt
-    missing-refused x narrow kept = as-over None x narrow kept ∙ ap (λ b. if b then Ok number else Err no.Unbuilt) (over-missing x)
+    missing-refused x narrow kept = as-so None x narrow kept ∙ ap (λ b. if_can b number) (so-missing x)
 
   -- .. and through an open
   abbrev wanted_through : Result ℕ No
-  wanted_through = hwrite_in view name at len number
+  wanted_through = hwrite_decided view name at len number
+
+  abbrev then_through : Result (List ℕ) No → Result ℕ No
+  then_through r = and_then r (λ (b : List ℕ). hwrite_ranged_to last at len)
 
   pub through-refused : (refused : No) → FindsPlain (content_here view held name) view held name (Err refused)
       → (wanted_through ≡ Err refused) ⊎ (refused ≡ no.Memory)
-  through-refused refused (inl e) = inl (ap (λ r. and_then r (λ (b : List ℕ). hwrite_ranged view name at len number)) e)
+  through-refused refused (inl e) = inl (ap then_through e)
   through-refused refused (inr memory) = inr memory
 
   pub through-range : (found : FoundStream) → FindsPlain (content_here view held name) view held name (Ok found) → is_wide at len ≡ true
       → wanted_through ≡ Err no.TooBig
-  through-range found x wide =
-      ap (λ r. and_then r (λ (b : List ℕ). hwrite_ranged view name at len number)) x.1
-      ∙ ap (λ b. if b then Err no.TooBig else if_over view name at len number) wide
+  through-range found x wide = ap then_through x.1 ∙ ap (λ b. if b then Err no.TooBig else last) wide
 
-  pub through-over : (found : FoundStream) → FindsPlain (content_here view held name) view held name (Ok found) → is_wide at len ≡ false
-      → wanted_through ≡ if_over view name at len number
-  through-over found x narrow =
-      ap (λ r. and_then r (λ (b : List ℕ). hwrite_ranged view name at len number)) x.1
-      ∙ ap (λ b. if b then Err no.TooBig else if_over view name at len number) narrow
+  pub through-so : (found : FoundStream) → FindsPlain (content_here view held name) view held name (Ok found) → is_wide at len ≡ false
+      → wanted_through ≡ last
+  through-so found x narrow = ap then_through x.1 ∙ ap (λ b. if b then Err no.TooBig else last) narrow
 
 -- What `?` hands on.
 pub handed-on-no : {A : Type 0} (result : Result A No) (why : No) → IsErrAnd result (λ e. e ≡ why) → result ≡ Err why

@@ -1,37 +1,34 @@
 -- WHAT IS WANTED OF A PUNCH, by what is found of the file that is held: the refusals in their order; and whether the stream is a value.
 use Rattle.std.proofs.Common.{◌≡◌, ◌⊎◌, ◌&&◌, ◌==◌, ◌/◌, ◌%◌, ℕ, Bool, true, false, List, Option, Some, None, Result, Ok, Err}
 use Rattle.std.proofs.Common.{refl, sym, ap, subst, inl, inr, ◌∙◌}
-use Rattle.std.specs.Prelude.{Contains, IfOk, IsSomeAnd, if◌then◌else◌, is_some, length, option_and_then, slice_get, slice_index}
+use Rattle.std.specs.Prelude.{IfOk, IsSomeAnd, if◌then◌else◌, is_some, length, option_and_then, slice_get}
 use Rattle.std.specs.Option.{option_map_or}
 use Rattle.ntfs_def.specs.Attribute.{Attribute, Body, NonResident, Resident, value_of}
 use Rattle.volume_def.specs.CaseClause.{case_parts}
 use Rattle.volume_def.specs.Files.{Part, content_of, content_value, part_of}
 use Rattle.volume_def.specs.Sound.{IsSound}
 use Rattle.volume_def.specs.Table.{cluster_bytes}
-use Rattle.volume_def.specs.Values.{first_part, value_on}
+use Rattle.volume_def.specs.Values.{value_on}
 use Rattle.volume_def.specs.View.{VolumeView}
 use Rattle.mft_table.specs.declared.mounted.Mounted.{Mounted}
 use Rattle.file_record.specs.declared.base.BaseFile.{BaseFile}
-use Rattle.attr_store.specs.Sought.{parts_held_like}
 use Rattle.sparse_io.specs.Held.{IsStream}
 use Rattle.sparse_io.specs.declared.find.FoundStream.{FoundStream}
 use Rattle.sparse_io.proofs.OverLaws.{first-like, named-like}
 use Rattle.tree_model.specs.Cases.{is_wide}
 use Rattle.tree_model.specs.Paths.{and_then}
-use Rattle.tree_model.specs.Reading.{read}
-use Rattle.tree_model.specs.Shown.{stream_of}
 use Rattle.tree_model.specs.StreamRoom.{parts_named, stream_value}
-use Rattle.tree_model.specs.Tree.{node_of}
 use Rattle.tree_model.specs.declared.opens.OpenEntry.{OpenEntry}
 use Rattle.tree_model.specs.declared.reply.No.{No}
 use Rattle.tree_model.specs.declared.reply.No.TheVariants as no
 use Rattle.tree_read.specs.Nodes.{IsNodeHeld, number_of, parts_in}
-use Rattle.tree_read.specs.Parts.{FindsPlain, IsPlainStream, content_here, stream_here}
+use Rattle.tree_read.specs.Parts.{FindsPlain, IsPlainStream, content_here}
 use Rattle.tree_read.proofs.NodeLaws.{held-with}
 use Rattle.tree_read.proofs.StreamLaws.{other-stream, refused-directory}
 use Rattle.tree_edit.specs.Punchable.{can_punch, if_value, punch_in, punch_ranged}
 use Rattle.tree_edit.specs.Settable.{is_editable}
 use Rattle.tree_edit.specs.Writable.{AreNames, DecidesEdit, DecidesOver, GivesBack, IsMountedAs, kept_from_writing}
+use Rattle.tree_edit.specs.declared.writable.Way.TheVariants as way
 use Rattle.tree_edit.specs.declared.writable.Writable.{Writable}
 use Rattle.tree_edit.proofs.EditableLaws.{edit-decided, edit-is, editable-not, editable-so}
 
@@ -122,9 +119,9 @@ module _ (view : VolumeView) (mounted : Mounted) (held : BaseFile) (mounts : IsM
       (same ∙ value-is a at names)
 
   pub punch-decided : (wanted : Result ℕ No) (result : Result Writable No) → DecidesOver (can_punch view name f) result
-      → IfOk result (λ given. GivesBack given held found) → IsPlainStream view held name found
-      → wanted ≡ if_value view name f → DecidesEdit (λ file. can_punch view name file) wanted view held name result
+      → IfOk result (λ given. GivesBack given held found way.InPlace) → IsPlainStream view held name found
+      → wanted ≡ if_value view name f → DecidesEdit (λ any file. can_punch view name file) wanted view held name result
   punch-decided wanted result over back plain e =
       edit-decided view mounted (cluster_bytes view.layout) held mounts sound n name found is
-      (λ file. can_punch view name file) is_value can-is wanted
+      (λ file. can_punch view name file) is_value can-is way.InPlace wanted
       result over back plain e

@@ -19,7 +19,11 @@ pub mod PunchLaws
 mod SecureFound
 mod SecureLaws
 mod EditKept
+mod RoomFound
 mod AloneFound
-mod ShorterValue
-mod CutPart
-pub mod CutLaws
+pub mod WriteFound
+mod AskedLaws
+mod ValueRoom
+mod ChangePart
+pub mod ChangeLaws
+pub mod ResizableRoom

@@ -1,7 +1,6 @@
--- WHETHER BYTES GO OVER those of a stream that was found, and what was found then.
-use Rattle.std.proofs.Common.{◌≡◌, ◌&&◌, ℕ, Bool, true, false, not, List, Result, refl, sym, ap, ◌∙◌}
+-- WHETHER BYTES GO OVER those of a stream that was found.
+use Rattle.std.proofs.Common.{◌≡◌, ◌&&◌, ℕ, Bool, true, false, not, List, refl, sym, ap, ◌∙◌}
 use Rattle.std.proofs.lemmas.Bool.{and_parts}
-use Rattle.std.specs.Prelude.{IfOk}
 use Rattle.volume_def.specs.Sound.{IsSound}
 use Rattle.volume_def.specs.Table.{cluster_bytes}
 use Rattle.volume_def.specs.View.{VolumeView}
@@ -14,15 +13,13 @@ use Rattle.tree_model.specs.Facts.{is_whole_table}
 use Rattle.tree_model.specs.Reading.{read}
 use Rattle.tree_model.specs.Staging.{cannot_edit}
 use Rattle.tree_model.specs.StreamRoom.{goes_over, parts_named}
-use Rattle.tree_model.specs.declared.reply.No.{No}
 use Rattle.tree_read.specs.Nodes.{IsCaseOf, IsNodeHeld, number_of}
-use Rattle.tree_read.specs.Parts.{IsPlainStream}
 use Rattle.tree_read.proofs.NodeLaws.{held-with}
 use Rattle.tree_edit.specs.Over.{CanWriteOver}
 use Rattle.tree_edit.specs.Settable.{is_editable}
-use Rattle.tree_edit.specs.Writable.{DecidesOver, DecidesWrite, GivesBack, IsMountedAs, IsWritable, can_write_over, if_over}
+use Rattle.tree_edit.specs.Writable.{IsFoundToEdit, IsMountedAs, can_write_over}
 use Rattle.tree_edit.specs.declared.writable.Writable.{Writable}
-use Rattle.tree_edit.proofs.EditableLaws.{edit-decided, edit-is, editable-not, editable-so, parts-are}
+use Rattle.tree_edit.proofs.EditableLaws.{edit-is, editable-not, editable-so, parts-are}
 
 module _ (view : VolumeView) (mounted : Mounted) (size : ℕ) (held : BaseFile) (mounts : IsMountedAs view mounted size) (sound : IsSound view)
     (n : IsNodeHeld view held) (name : List ℕ) (found : FoundStream) (is : IsStream view held.parts name found) (at len : ℕ) where
@@ -45,19 +42,14 @@ module _ (view : VolumeView) (mounted : Mounted) (size : ℕ) (held : BaseFile) 
   over-so over e same =
       editable-so view mounted size held mounts sound n name found is (λ f. can_write_over view name at len f) goes can-is over e same
 
-  -- WHAT WAS DECIDED, where it is whether the bytes go over those that stand there
-  pub decided : (wanted : Result ℕ No) (result : Result Writable No) → DecidesOver (can_write_over view name at len number) result
-      → IfOk result (λ given. GivesBack given held found) → IsPlainStream view held name found
-      → wanted ≡ if_over view name at len number → DecidesWrite wanted view held name at len result
-  decided wanted result over back plain e =
-      edit-decided view mounted size held mounts sound n name found is
-      (λ f. can_write_over view name at len f) goes can-is wanted result over back
-      plain e
+  pub over-editable : can_write_over view name at len number ≡ true → is_editable mounted held.parts ≡ true
+  over-editable over = (and_parts (is_editable mounted held.parts) goes (sym can-is ∙ over)).0
 
 -- WHAT CAN BE WRITTEN OVER can be staged.
-abbrev pub writable-over : (view : VolumeView) (found : Writable) (name table : List ℕ) (at len : ℕ) → IsWritable view found name at len
-    → IsCaseOf view table → CanWriteOver view table found.held.parts found.stream (number_of found.held) at len
-writable-over view found name table at len is case =
+abbrev pub found-over : (view : VolumeView) (found : Writable) (name table : List ℕ) (at len : ℕ)
+    → IsFoundToEdit view found name (λ file. can_write_over view name at len file) → IsCaseOf view table
+    → CanWriteOver view table found.held.parts found.stream (number_of found.held) at len
+found-over view found name table at len is case =
     let cannot = cannot_edit (is_whole_table view) (read view) (number_of found.held) in
     record {
       can = is.settable.can;

@@ -1,19 +1,19 @@
 -- A STREAM THAT IS A VALUE CAN BE PUNCHED: zeros are bytes that can be put over those of the value, and what is found for it is such a
 -- value.
-use Rattle.std.proofs.Common.{◌≡◌, ◌+◌, ◌-◌, ◌*◌, ◌≤◌, ◌<◌, ◌==◌, ◌&&◌, ℕ, Bool, true, false, not, List, [], length, min, Option, Some}
-use Rattle.std.proofs.Common.{None, refl, sym, ap, subst, ◌∙◌, arith}
+use Rattle.std.proofs.Common.{◌≡◌, ◌+◌, ◌-◌, ◌≤◌, ℕ, true, not, List, length, min, Option, Some}
+use Rattle.std.proofs.Common.{refl, sym, ap, subst, ◌∙◌, arith}
 use Rattle.std.proofs.lemmas.Bool.{and_parts}
 use Rattle.std.proofs.lemmas.List.{length-replicate}
-use Rattle.std.specs.Prelude.{Contains, IsSomeAnd, filter, is_some, option_and_then, replicate, slice_get}
+use Rattle.std.specs.Prelude.{IsSomeAnd, filter, is_some, option_and_then, replicate, slice_get}
 use Rattle.list_laws.proofs.FindLaws.{find-found}
 use Rattle.list_laws.proofs.MemberLaws.{Contains-from_filter}
 use Rattle.list_laws.proofs.OptionLaws.{some-is}
-use Rattle.ntfs_def.specs.declared.kinds.TheConstants.{DATA, FILE_NAME}
+use Rattle.ntfs_def.specs.declared.kinds.TheConstants.{DATA}
 use Rattle.ntfs_def.specs.declared.records.TheConstants.{CLUSTER_BITMAP, UPCASE}
 use Rattle.volume_def.specs.CaseClause.{case_parts, volume_fold}
 use Rattle.volume_def.specs.Files.{Content, Clusters, Part, Value, content_value, is_of, parts, records_of}
 use Rattle.volume_def.specs.StreamSize.{real_size}
-use Rattle.volume_def.specs.Values.{first_part, is_first, value_on}
+use Rattle.volume_def.specs.Values.{is_first, value_on}
 use Rattle.volume_def.specs.View.{VolumeView}
 use Rattle.tree_model.specs.Reading.{streams_of}
 use Rattle.tree_model.specs.Facts.{is_whole_table}
@@ -21,17 +21,15 @@ use Rattle.tree_model.specs.Reading.{read}
 use Rattle.tree_model.specs.Staging.{cannot_edit}
 use Rattle.tree_model.specs.StreamRoom.{parts_named, stream_value}
 use Rattle.tree_model.specs.Tree.{sought_stream}
-use Rattle.tree_model.specs.declared.tree.Node.{Node}
 use Rattle.tree_model.specs.declared.tree.Stream.{Stream}
 use Rattle.edit_def.specs.Kept.{key_of, same_key}
-use Rattle.file_record.specs.Held.{parts_held}
 use Rattle.file_record.specs.Written.{HoldsBytes, WritesBytes}
 use Rattle.sparse_io.specs.declared.find.FoundStream.{FoundStream}
 use Rattle.sparse_io.proofs.OverwriteLaws.{found-first, found-parts, found-stored}
 use Rattle.dir_index.proofs.StandardLaws.{at-among}
 use Rattle.tree_read.specs.Nodes.{number_of, parts_in}
 use Rattle.tree_read.proofs.NodeLaws.{held-with}
-use Rattle.stream_overwrites.specs.Overwritten.{FindsPlain, GoesOverValue, PunchesValue, node_over, zeros_in}
+use Rattle.stream_overwrites.specs.Overwritten.{GoesOverValue, PunchesValue, node_over, zeros_in}
 use Rattle.stream_overwrites.proofs.StreamParts.{named-same}
 use Rattle.stream_overwrites.proofs.OverReading.{value-overwritten}
 use Rattle.stream_overwrites.proofs.ShownFile.{node-streams, not-bitmap, not-case}

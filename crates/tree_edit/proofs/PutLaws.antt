@@ -1,5 +1,5 @@
 -- BYTES WENT OVER THOSE OF A VALUE, and then the attributes of its file are set: over what the calls leave of the table in use.
-use Rattle.std.proofs.Common.{◌≡◌, ◌+◌, ◌*◌, ◌<◌, ◌≤◌, ℕ, List, length, sym, subst, inl, inr, ◌∙◌, arith}
+use Rattle.std.proofs.Common.{◌≡◌, ◌+◌, ◌*◌, ℕ, List, length, sym, subst, inl, inr, ◌∙◌, arith}
 use Rattle.std.specs.Prelude.{◌⊎◌, IsTrue, Some, slice_get}
 use Rattle.vol_disk.specs.declared.Disk.{Ghosts}
 use Rattle.ntfs_def.specs.FileName.{FileName}

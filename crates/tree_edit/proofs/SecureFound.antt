@@ -1,9 +1,9 @@
 -- WHAT IS FOUND OF A FILE whose security id is to be set, and the refusals in their order.
-use Rattle.std.proofs.Common.{◌≡◌, ◌⊎◌, ◌&&◌, ◌≤◌, ◌<◌, ◌+◌, le_refl, ℕ, Bool, true, false, not, List, [], Option, Some, None, Result, Ok}
+use Rattle.std.proofs.Common.{◌≡◌, ◌&&◌, ◌<◌, ◌+◌, le_refl, ℕ, Bool, true, false, not, List, [], Result, Ok}
 use Rattle.std.proofs.Common.{Err}
 use Rattle.std.proofs.Common.{refl, sym, ap, subst, inl, inr, ◌∙◌, arith}
 use Rattle.std.proofs.lemmas.Bool.{and_from, cases_Bool, le-leb, leb-true}
-use Rattle.std.specs.Prelude.{IsTrue, find, if◌then◌else◌, length, nat_le, option_and_then, slice_get, unwrap_or}
+use Rattle.std.specs.Prelude.{IsTrue, if◌then◌else◌, length, nat_le, option_and_then, slice_get, unwrap_or}
 use Rattle.vol_disk.specs.declared.Disk.{Ghosts}
 use Rattle.ntfs_def.specs.StandardInformation.{standard_times}
 use Rattle.ntfs_def.specs.declared.kinds.TheConstants.{STANDARD_INFORMATION}
@@ -18,11 +18,10 @@ use Rattle.mft_table.specs.InUse.{IsInUse}
 use Rattle.mft_table.specs.Mft.{MftReads, mounted_of, view}
 use Rattle.mft_table.proofs.StreamReads.{MftReads-then}
 use Rattle.file_record.specs.declared.base.BaseFile.{BaseFile}
-use Rattle.file_record.specs.Held.{parts_held}
-use Rattle.tree_model.specs.Facts.{HasDescriptor, IsVolumeOf, is_whole_table}
-use Rattle.tree_model.specs.Paths.{and_then, found_file, resolve}
+use Rattle.tree_model.specs.Facts.{IsVolumeOf}
+use Rattle.tree_model.specs.Paths.{found_file, resolve}
 use Rattle.tree_model.specs.Reading.{node_by, read, standard_flags, standard_of}
-use Rattle.tree_model.specs.Staging.{cannot_edit, has_place_for_id}
+use Rattle.tree_model.specs.Staging.{has_place_for_id}
 use Rattle.tree_model.proofs.ReadingLaws.{node_of-read}
 use Rattle.tree_model.specs.declared.reply.No.{No}
 use Rattle.tree_model.specs.declared.reply.No.TheVariants as no

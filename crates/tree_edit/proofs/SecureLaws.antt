@@ -1,5 +1,5 @@
 -- A SECURITY ID CAN BE SET: its bytes can be put into the place that $STANDARD_INFORMATION has for it.
-use Rattle.std.proofs.Common.{◌≡◌, ◌+◌, ◌≤◌, ◌<◌, ◌^◌, ℕ, List, [], length, Option, refl, sym, subst, arith}
+use Rattle.std.proofs.Common.{◌+◌, ◌≤◌, ◌<◌, ◌^◌, ℕ, List, [], length, Option, refl, sym, subst, arith}
 use Rattle.std.specs.Prelude.{IsSomeAnd}
 use Rattle.byteorder.specs.Endian.{little_bytes}
 use Rattle.ntfs_def.specs.declared.kinds.TheConstants.{STANDARD_INFORMATION}

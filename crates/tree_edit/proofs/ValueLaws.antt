@@ -1,5 +1,5 @@
 -- BYTES OVER THOSE OF A VALUE of a file that was loaded for that: the part at its place is the one of the volume.
-use Rattle.std.proofs.Common.{◌≡◌, ◌+◌, ◌*◌, ◌<◌, ◌≤◌, ℕ, false, List, [], ◌∷◌, length, Option, Some, Ok, Err, inl, inr, sym, ap, subst}
+use Rattle.std.proofs.Common.{◌≡◌, ◌+◌, ◌*◌, ◌≤◌, ℕ, false, List, [], ◌∷◌, length, Option, Some, Ok, Err, inl, inr, sym, ap, subst}
 use Rattle.std.proofs.Common.{◌∙◌, arith}
 use Rattle.std.specs.Prelude.{◌⊎◌, All, Contains, IsSomeAnd, IsTrue, OnErr, OnOk, Result, slice_get}
 use Rattle.std.proofs.lemmas.Option.{slice_get_within}

@@ -1,49 +1,66 @@
--- A STREAM THAT IS A VALUE of a file without an attribute list, which is to be cut or to go, as a path leads to it, and the refusals in
--- their order.
-use Rattle.std.specs.Prelude.{◌&&◌, ℕ, Bool, List, Result, Ok, Err, if◌then◌else◌}
+-- A STREAM THAT IS A VALUE of a file without an attribute list, which is to have another length, or to go, as a path leads to it, and the
+-- refusals in their order.
+use Rattle.std.specs.Prelude.{◌&&◌, ◌||◌, ℕ, Bool, List, Option, None, Result, Ok, Err, if◌then◌else◌}
 use Rattle.std.specs.Option.{option_map_or}
+use Rattle.volume_def.specs.Table.{cluster_bytes}
 use Rattle.volume_def.specs.View.{VolumeView}
+use Rattle.edit_def.specs.OneFile.{no_room_alone}
+use Rattle.tree_model.specs.Bill.{grows}
 use Rattle.tree_model.specs.Cases.{is_far}
 use Rattle.tree_model.specs.Paths.{and_then, found_file, resolve}
 use Rattle.tree_model.specs.Reading.{read}
 use Rattle.tree_model.specs.Shown.{stream_of}
-use Rattle.tree_model.specs.Staging.{gets_no_longer, has_no_list}
+use Rattle.tree_model.specs.Staging.{fits_in_record, gets_no_longer, has_no_list}
+use Rattle.tree_model.specs.StreamRoom.{new_clusters, stream_parts}
 use Rattle.tree_model.specs.Subjects.{content_named}
 use Rattle.tree_model.specs.Tree.{node_of}
 use Rattle.tree_model.specs.declared.opens.OpenEntry.{OpenEntry}
 use Rattle.tree_model.specs.declared.reply.No.{No}
 use Rattle.tree_model.specs.declared.reply.No.TheVariants as no
 use Rattle.tree_edit.specs.Punchable.{can_punch}
-use Rattle.tree_edit.specs.Writable.{IsFoundToEdit, kept_from_writing, stream_to_write}
+use Rattle.tree_edit.specs.Writable.{IsFoundToEdit, kept_from_writing, named_in, stream_to_write}
 use Rattle.tree_edit.specs.declared.writable.Writable.{Writable}
 
 -- The file can be edited and has no attribute list, and its stream is a value ..
 abbrev pub can_drop : VolumeView → List ℕ → ℕ → Bool
 can_drop view name file = can_punch view name file && has_no_list view file
 
--- .. of so many bytes at least.
-abbrev pub can_cut : VolumeView → List ℕ → ℕ → ℕ → Bool
-can_cut view name size file =
-    can_drop view name file && gets_no_longer size (content_named (read view) name (node_of (read view) file))
+-- .. that can have so many bytes: no more than it has, or its record has room for them.
+abbrev pub can_resize : VolumeView → List ℕ → ℕ → ℕ → Bool
+can_resize view name size file =
+    can_drop view name file
+    && (gets_no_longer size (content_named (read view) name (node_of (read view) file))
+    || fits_in_record view file (stream_parts view (read view) (named_in (read view) name file)) size)
+
+-- The room that is asked for where it gets longer: the stream may not stay in its record.
+abbrev pub room_to_resize : VolumeView → List ℕ → ℕ → ℕ → Option No
+room_to_resize view name size file =
+    if grows size (content_named (read view) name (node_of (read view) file))
+    then no_room_alone view file (new_clusters (cluster_bytes view.layout) (stream_parts view (read view) (named_in (read view) name file)) 0 0)
+    else None
+
+abbrev pub if_room : Option No → ℕ → Result ℕ No
+if_room refused file = option_map_or Err refused (Ok file)
 
 abbrev pub if_dropped : VolumeView → List ℕ → ℕ → Result ℕ No
 if_dropped view name file = if can_drop view name file then Ok file else Err no.Unbuilt
 
-abbrev pub if_cut : VolumeView → List ℕ → ℕ → ℕ → Result ℕ No
-if_cut view name size file = if can_cut view name size file then Ok file else Err no.Unbuilt
+abbrev pub if_resized : VolumeView → List ℕ → ℕ → ℕ → Result ℕ No
+if_resized view name size file =
+    if can_resize view name size file then if_room (room_to_resize view name size file) file else Err no.Unbuilt
 
--- `truncate`: THE NUMBER OF THE FILE that the path leads to, where its stream can be cut to so many bytes
-abbrev pub cut_ranged : VolumeView → List OpenEntry → List ℕ → ℕ → ℕ → Result ℕ No
-cut_ranged view opens name size file =
-    if is_far size then Err no.TooBig else option_map_or Err (kept_from_writing opens file) (if_cut view name size file)
+-- `truncate`: THE NUMBER OF THE FILE that the path leads to, where its stream can have so many bytes
+abbrev pub resize_ranged : VolumeView → List OpenEntry → List ℕ → ℕ → ℕ → Result ℕ No
+resize_ranged view opens name size file =
+    if is_far size then Err no.TooBig else option_map_or Err (kept_from_writing opens file) (if_resized view name size file)
 
-abbrev pub cut_in : VolumeView → List OpenEntry → List ℕ → ℕ → ℕ → Result ℕ No
-cut_in view opens name size file =
-    and_then (stream_to_write (read view) name (node_of (read view) file)) (λ bytes. cut_ranged view opens name size file)
+abbrev pub resize_in : VolumeView → List OpenEntry → List ℕ → ℕ → ℕ → Result ℕ No
+resize_in view opens name size file =
+    and_then (stream_to_write (read view) name (node_of (read view) file)) (λ bytes. resize_ranged view opens name size file)
 
-abbrev pub cut_wanted : VolumeView → List OpenEntry → List (List ℕ) → List ℕ → ℕ → Result ℕ No
-cut_wanted view opens path name size =
-    and_then (resolve (read view) path) (λ found. cut_in view opens name size (found_file found))
+abbrev pub resize_wanted : VolumeView → List OpenEntry → List (List ℕ) → List ℕ → ℕ → Result ℕ No
+resize_wanted view opens path name size =
+    and_then (resolve (read view) path) (λ found. resize_in view opens name size (found_file found))
 
 -- `rmstream`: the same, where its stream can go
 abbrev pub drop_shared : VolumeView → List OpenEntry → List ℕ → ℕ → Result ℕ No
@@ -60,5 +77,5 @@ drop_wanted view opens path name = and_then (resolve (read view) path) (λ found
 abbrev pub IsDroppable : VolumeView → Writable → List ℕ → Type 0
 IsDroppable view found name = IsFoundToEdit view found name (λ file. can_drop view name file)
 
-abbrev pub IsCuttable : VolumeView → Writable → List ℕ → ℕ → Type 0
-IsCuttable view found name size = IsFoundToEdit view found name (λ file. can_cut view name size file)
+abbrev pub IsResizable : VolumeView → Writable → List ℕ → ℕ → Type 0
+IsResizable view found name size = IsFoundToEdit view found name (λ file. can_resize view name size file)

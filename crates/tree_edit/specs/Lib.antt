@@ -1,5 +1,6 @@
 pub mod Alone
-pub mod Cut
+pub mod Change
+pub mod Decided
 pub mod Duplicated
 pub mod Links
 pub mod Over
@@ -9,3 +10,4 @@ pub mod Settable
 pub mod Staged
 pub mod Values
 pub mod Writable
+pub mod Write

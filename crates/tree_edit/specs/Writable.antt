@@ -1,23 +1,20 @@
--- A STREAM OVER WHOSE BYTES others are to be written, as a path leads to it, or an open, and the refusals in their order.
+-- A STREAM THAT IS TO BE EDITED, found in a file that is held.
 use Rattle.std.specs.Prelude.{◌≡◌, ◌⊎◌, ◌%◌, ◌<◌, ◌==◌, ◌&&◌, ◌||◌, ℕ, codes, not, Bool, true, false, List, Option, Some, None, Result, Ok, Err, find, is_some, length, option_map, slice_index, Contains}
 use Rattle.std.specs.Prelude.{if◌then◌else◌}
-use Rattle.std.specs.Option.{option_map_or}
 use Rattle.ntfs_def.specs.StandardInformation.{standard_times}
 use Rattle.ntfs_def.specs.declared.kinds.TheConstants.{DATA}
 use Rattle.volume_def.specs.Files.{Part}
 use Rattle.volume_def.specs.Table.{cluster_bytes}
 use Rattle.volume_def.specs.View.{VolumeView}
 use Rattle.edit_def.specs.Kept.{AreTellable, key_of, told_of}
-use Rattle.tree_model.specs.Cases.{AsksFor, conflicts, is_among, is_bad_stream_name, is_wide}
+use Rattle.tree_model.specs.Cases.{AsksFor, conflicts, is_among, is_bad_stream_name}
 use Rattle.tree_model.specs.Facts.{IsVolumeOf, is_whole_table}
-use Rattle.tree_model.specs.Opens.{all_access, contains, is_handle, to_write}
-use Rattle.tree_model.specs.Paths.{and_then, found_file, resolve}
+use Rattle.tree_model.specs.Opens.{all_access, to_write}
 use Rattle.tree_model.specs.Reading.{read, standard_flags, standard_of}
-use Rattle.tree_model.specs.Shown.{plain_bytes}
 use Rattle.tree_model.specs.Staging.{cannot_edit}
 use Rattle.tree_model.specs.StreamRoom.{goes_over, stream_parts}
 use Rattle.tree_model.specs.Subjects.{Located, at_file, content_named, is_directory, with_stream}
-use Rattle.tree_model.specs.Tree.{Tree, node_of}
+use Rattle.tree_model.specs.Tree.{Tree}
 use Rattle.tree_model.specs.declared.opens.OpenEntry.{OpenEntry}
 use Rattle.tree_model.specs.declared.reply.No.{No}
 use Rattle.tree_model.specs.declared.reply.No.TheVariants as no
@@ -31,6 +28,7 @@ use Rattle.stream_edits.specs.Streams.{IsThere}
 use Rattle.tree_read.specs.Nodes.{IsCaseOf, IsNodeHeld, number_of, parts_in}
 use Rattle.tree_read.specs.Parts.{IsPlainStream}
 use Rattle.tree_edit.specs.Settable.{IsSettable}
+use Rattle.tree_edit.specs.declared.writable.Way.{Way}
 use Rattle.tree_edit.specs.declared.writable.Writable.{Writable}
 
 -- The bytes of a stream that a write finds by its name; none where it is missing, and a write would make it.
@@ -64,35 +62,6 @@ can_write_over view name from len file =
     not (cannot_edit (is_whole_table view) (read view) file)
     && goes_over (cluster_bytes view.layout) (stream_parts view (read view) (named_in (read view) name file)) from len
 
-abbrev pub if_over : VolumeView → List ℕ → ℕ → ℕ → ℕ → Result ℕ No
-if_over view name from len file = if can_write_over view name from len file then Ok file else Err no.Unbuilt
-
--- `write`: THE NUMBER OF THE FILE that the path leads to, where the bytes go over bytes of its stream
-abbrev pub write_ranged : VolumeView → List OpenEntry → List ℕ → ℕ → ℕ → ℕ → Result ℕ No
-write_ranged view opens name from len file =
-    if is_wide from len then Err no.TooBig else option_map_or Err (kept_from_writing opens file) (if_over view name from len file)
-
-abbrev pub write_in : VolumeView → List OpenEntry → List ℕ → ℕ → ℕ → ℕ → Result ℕ No
-write_in view opens name from len file =
-    and_then (stream_to_write (read view) name (node_of (read view) file)) (λ bytes. write_ranged view opens name from len file)
-
-abbrev pub write_wanted : VolumeView → List OpenEntry → List (List ℕ) → List ℕ → ℕ → ℕ → Result ℕ No
-write_wanted view opens path name from len =
-    and_then (resolve (read view) path) (λ found. write_in view opens name from len (found_file found))
-
--- `hwrite`: the same of the file of an open
-abbrev pub hwrite_ranged : VolumeView → List ℕ → ℕ → ℕ → ℕ → Result ℕ No
-hwrite_ranged view name from len file = if is_wide from len then Err no.TooBig else if_over view name from len file
-
-abbrev pub hwrite_in : VolumeView → List ℕ → ℕ → ℕ → ℕ → Result ℕ No
-hwrite_in view name from len file =
-    and_then (plain_bytes (content_named (read view) name (node_of (read view) file))) (λ bytes. hwrite_ranged view name from len file)
-
-abbrev pub hwrite_wanted : VolumeView → List OpenEntry → ℕ → ℕ → ℕ → ℕ → Result ℕ No
-hwrite_wanted view opens session handle from len =
-    option_map_or (λ (entry : OpenEntry). hwrite_in view entry.stream from len entry.file)
-    (find (λ (entry : OpenEntry). is_handle session handle entry && contains entry.access to_write) opens) (Err no.NoHandle)
-
 -- The stream was found, or is missing, or the refusal is the one that is due; memory may want.
 abbrev pub FindsToWrite : Result (Option (List ℕ)) No → VolumeView → BaseFile → List ℕ → Result (Option FoundStream) No → Type 0
 FindsToWrite wanted view held name (Ok None) = wanted ≡ Ok None
@@ -115,10 +84,11 @@ DecidesOver over (Err refused) = ((over ≡ false) × (refused ≡ no.Unbuilt)) 
 abbrev pub AreNames : List Part → Type 0
 AreNames all = (part : Part) → Contains all part → (length part.name % 2 ≡ 0) × ((k : ℕ) → slice_index part.name k < 256)
 
--- What was found is given back, with the times and flags of the file.
-pub record GivesBack (found : Writable) (held : BaseFile) (stream : FoundStream) : Type 0 where
+-- What was found is given back, to be edited this way, with the times and flags of the file.
+pub record GivesBack (found : Writable) (held : BaseFile) (stream : FoundStream) (way : Way) : Type 0 where
   pub held_is : found.held ≡ held
   pub stream_is : found.stream ≡ stream
+  pub way_is : found.way ≡ way
   pub times : found.times ≡ standard_times (standard_of (parts_in held))
   pub flags : found.flags ≡ standard_flags (standard_of (parts_in held))
   pub names : AreNames (parts_in held)
@@ -134,16 +104,9 @@ pub record IsFoundToEdit (view : VolumeView) (found : Writable) (name : List ℕ
   pub over : can (number_of found.held) ≡ true
   pub tellable : AreTellable (told_of view (number_of found.held))
 
--- THE BYTES CAN GO OVER those of the stream that was found.
-abbrev pub IsWritable : VolumeView → Writable → List ℕ → ℕ → ℕ → Type 0
-IsWritable view found name from len = IsFoundToEdit view found name (λ file. can_write_over view name from len file)
-
 -- What is wanted of a file that is held: it can be edited so on each image that tells this volume, or the refusal is due; memory may want.
-abbrev pub DecidesEdit : (ℕ → Bool) → Result ℕ No → VolumeView → BaseFile → List ℕ → Result Writable No → Type 0
+abbrev pub DecidesEdit : (Way → ℕ → Bool) → Result ℕ No → VolumeView → BaseFile → List ℕ → Result Writable No → Type 0
 DecidesEdit can wanted view held name (Ok found) =
-    (wanted ≡ Ok (number_of held)) × (found.held ≡ held) × ((bytes : List ℕ) → IsVolumeOf bytes view → IsFoundToEdit view found name can)
+    (wanted ≡ Ok (number_of held)) × (found.held ≡ held)
+    × ((bytes : List ℕ) → IsVolumeOf bytes view → IsFoundToEdit view found name (can found.way))
 DecidesEdit can wanted view held name (Err refused) = (wanted ≡ Err refused) ⊎ (refused ≡ no.Memory)
-
-abbrev pub DecidesWrite : Result ℕ No → VolumeView → BaseFile → List ℕ → ℕ → ℕ → Result Writable No → Type 0
-DecidesWrite wanted view held name from len result = DecidesEdit
-    (λ file. can_write_over view name from len file) wanted view held name result

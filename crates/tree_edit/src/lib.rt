@@ -3,25 +3,28 @@
 
 mod alone;
 mod attributes;
-mod cut;
+mod change;
 mod duplicated;
 mod over;
 mod punch;
 mod punchable;
 mod refresh;
+mod room;
 mod securable;
 mod secure;
 mod settable;
 mod value;
 mod writable;
+mod write;
 
-pub use alone::{find_to_cut, find_to_drop};
+pub use alone::{find_to_drop, find_to_resize};
 pub use attributes::set_attributes;
-pub use cut::{cut_value, drop_value};
+pub use change::{drop_value, resize_value, write_value};
 pub use over::write_over;
 pub use punch::punch_value;
 pub use punchable::find_punchable;
 pub use securable::{Securable, find_securable};
 pub use secure::set_security;
 pub use settable::{Settable, find_settable};
-pub use writable::{Writable, find_writable, find_writable_through};
+pub use writable::{Way, Writable};
+pub use write::{find_writable, find_writable_through};

@@ -14,9 +14,10 @@ ghost use Rattle.tree_read.specs.Nodes.{IsNodeHeld, number_of, parts_in};
 ghost use Rattle.tree_read.specs.Standings.{IsStanding};
 ghost use Rattle.tree_edit.specs.Punchable.{IsPunchable, can_punch, punch_in, punch_wanted};
 ghost use Rattle.tree_edit.specs.Writable.{DecidesEdit, DecidesOver, GivesBack, IsMountedAs};
+ghost use Rattle.tree_edit.specs.declared.writable.Way.TheVariants as way;
 
 use crate::settable::can_edit;
-use crate::writable::{Writable, given, kept_from_writing};
+use crate::writable::{Way, Writable, given, kept_from_writing};
 use file_record::BaseFile;
 use mft_table::{Mft, Mounted};
 use share_table::Opens;
@@ -58,11 +59,11 @@ fn give_value(
     requires part { stream.part < length (parts_in held) }
     ensures decides { (view : VolumeView) → IsMountedAs view mounted.now (cluster_bytes view.layout) → IsSound view → IsNodeHeld view held
         → (name : List ℕ) → IsStream view held.parts name stream → DecidesOver (can_punch view name (number_of held)) result }
-    ensures gives { IfOk result (λ found. GivesBack found held stream) }
+    ensures gives { IfOk result (λ found. GivesBack found held stream way.InPlace) }
     ensures inside { IfOk result (λ found. number_of found.held < length mounted.now.records) }
 {
     match is_value(alloc, mounted, &held, &stream) {
-        Ok(true) => Ok(given(held, stream)),
+        Ok(true) => Ok(given(held, stream, Way::InPlace)),
         Ok(false) => Err(No::Unbuilt),
         Err(_) => Err(No::Memory),
     }
@@ -79,7 +80,7 @@ fn punchable_in(
     len: u64,
 ) -> Result<Writable, No>
     ensures decides { (view : VolumeView) → IsMountedAs view mounted.now (cluster_bytes view.layout) → IsSound view → IsNodeHeld view held
-        → DecidesEdit (λ file. can_punch view name.now file) (punch_in view opens.now name.now from len (number_of held)) view held
+        → DecidesEdit (λ way file. can_punch view name.now file) (punch_in view opens.now name.now from len (number_of held)) view held
         name.now result }
     ensures place { IfOk result (λ found. found.stream.part < length (parts_in found.held)) }
     ensures near { IfOk result (λ found. from + len ≤ 2 ^ 40) }

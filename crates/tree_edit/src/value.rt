@@ -1,5 +1,7 @@
-//! Bytes go over those of a value of a file, in the record that holds it, and what the file shows of itself is told anew.
-ghost use Rattle.std.specs.Prelude.{◌≡◌, ◌≤◌, ◌<◌, ◌+◌, false, IfErr, IsSomeAnd, IsTrue, MatchBool, MatchResult, OnErr, OnOk, Some, length, slice_get};
+//! Whether a value holds bytes, or can have so many; and bytes that go over those of a value of a file, in the record that holds it, and
+//! what the file shows of itself is told anew.
+ghost use Rattle.std.specs.Prelude.{◌≡◌, ◌≤◌, ◌<◌, ◌+◌, ◌^◌, false, IfErr, IsSomeAnd, IsTrue, MatchBool, MatchResult, OnErr, OnOk, Some, length, slice_get};
+ghost use Rattle.ntfs_def.specs.Attribute.{attributes};
 ghost use Rattle.volume_def.specs.Coverage.{IsApart};
 ghost use Rattle.volume_def.specs.FileNames.{names_of};
 ghost use Rattle.volume_def.specs.Files.{Part, parts, records_of};
@@ -8,14 +10,15 @@ ghost use Rattle.mft_table.specs.InUse.{IsInUse};
 ghost use Rattle.mft_table.specs.Mft.{faults_of, is_mft_broken, mounted_of, view};
 ghost use Rattle.mft_table.specs.MirrorClusters.{IsMirrorInside};
 ghost use Rattle.file_record.specs.FileNos.{CountsNo, IsReadNo};
-ghost use Rattle.file_record.specs.Held.{parts_held};
+ghost use Rattle.file_record.specs.Held.{RecordHeld, parts_held};
 ghost use Rattle.file_record.specs.Written.{HoldsBytes, PartHeld, WritesBytes};
 ghost use Rattle.index_store.specs.IndexBlocksMut.{KeepsDisk};
 ghost use Rattle.dir_index.specs.Standard.{IsInitialized, StagesNothing, StagesRecordOf};
+ghost use Rattle.tree_edit.specs.Change.{TellsFit, fits_in, has_room};
 ghost use Rattle.tree_edit.specs.Values.{CanPut, PutsBytes, StagesValue};
 
 use crate::attributes::set_attributes;
-use file_record::{FileNo, FileParts};
+use file_record::{FileNo, FileParts, PartPlace};
 use mft_table::Mft;
 use std::alloc::Global;
 use vol_disk::Disk;
@@ -30,6 +33,36 @@ pub fn holds_bytes(file: &FileParts, i: usize, at: usize, len: usize) -> bool
         return false;
     };
     at <= value.len() && len <= value.len() - at
+}
+
+// Whether a value of `had` bytes can have so many, in a record of which so many are free.
+fn has_room(free: usize, had: usize, size: u64) -> bool
+    requires { had + free < 2 ^ 64 }
+    ensures { result ≡ has_room free had size }
+{
+    let most = (had + free) as u64;
+    size <= had as u64 || (most >= 7 && size <= most - 7)
+}
+
+/// Whether an attribute of a file that is held is a value that can have so many bytes in its record: no more than it has, or the record has
+/// room for them.
+pub fn fits_at(file: &FileParts, place: PartPlace, size: u64) -> bool
+    requires { RecordHeld file.now place.record (λ held. place.attribute < length (attributes held.block)) }
+    ensures { RecordHeld file.now place.record (λ held. result ≡ fits_in held.block place.attribute size) }
+{
+    let held = &file.records()[place.record];
+    match held.view().attr(place.attribute).value() {
+        Some(value) => has_room(held.free_bytes(), value.len(), size),
+        None => false,
+    }
+}
+
+/// Whether part `i` of a file that is held is such a value.
+pub fn fits_value(file: &FileParts, i: usize, size: u64) -> bool
+    requires { i < length (parts_held file.now) }
+    ensures { TellsFit file.now i size result }
+{
+    fits_at(file, file.place_of(i), size)
 }
 
 // Writes bytes over those of part `i` of a file, from byte `at` of its value on, and stages the record that holds it. Where the part holds

@@ -1,0 +1,211 @@
+-- ROOM IS ASKED FOR behind what was decided: for a stream that gets longer, and for bytes that go into a value.
+use Rattle.std.proofs.Common.{◌≡◌, ◌||◌, ◌+◌, ◌<◌, ◌≤◌, ℕ, Bool, true, false, not, List, Option, Some, None, Result, Ok, Err, inl, inr, refl, sym, ap, subst, ◌∙◌}
+use Rattle.std.proofs.lemmas.Bool.{and_parts, le-ltb, lt-ltb}
+use Rattle.std.specs.Prelude.{IsTrue, if◌then◌else◌, is_some, nat_lt}
+use Rattle.std.specs.Option.{option_map_or}
+use Rattle.vol_disk.specs.declared.Disk.{Ghosts}
+use Rattle.volume_def.specs.CaseClause.{case_parts}
+use Rattle.volume_def.specs.Files.{Part}
+use Rattle.volume_def.specs.Table.{cluster_bytes}
+use Rattle.volume_def.specs.Values.{value_on}
+use Rattle.volume_def.specs.View.{VolumeView}
+use Rattle.edit_def.specs.OneFile.{no_room_alone}
+use Rattle.mft_table.specs.declared.mft.Mft.{Mft}
+use Rattle.mft_table.specs.Mft.{view}
+use Rattle.file_record.specs.Held.{file_number}
+use Rattle.file_room.specs.Asked.{has_room}
+use Rattle.sparse_io.specs.Held.{IsHeldWith, IsStream}
+use Rattle.tree_model.specs.Bill.{grows}
+use Rattle.tree_model.specs.Cases.{is_far, is_wide}
+use Rattle.tree_model.specs.Facts.{is_whole_table}
+use Rattle.tree_model.specs.Paths.{and_then, found_file, resolve}
+use Rattle.tree_model.specs.Reading.{read}
+use Rattle.tree_model.specs.Shown.{plain_bytes}
+use Rattle.tree_model.specs.Staging.{cannot_edit, has_no_list}
+use Rattle.tree_model.specs.StreamRoom.{new_clusters, parts_named, stream_parts, stream_value}
+use Rattle.tree_model.specs.Subjects.{content_named}
+use Rattle.tree_model.specs.Tree.{node_of}
+use Rattle.tree_model.specs.declared.opens.OpenEntry.{OpenEntry}
+use Rattle.tree_model.specs.declared.reply.No.{No}
+use Rattle.tree_model.specs.declared.reply.No.TheVariants as no
+use Rattle.tree_read.specs.Answered.{Answered, Gives, Says}
+use Rattle.tree_read.specs.Nodes.{number_of}
+use Rattle.tree_read.specs.declared.stop.Stop.{Stop}
+use Rattle.tree_read.specs.declared.stop.Stop.TheVariants as stop
+use Rattle.tree_read.proofs.GivesLaws.{both, tells}
+use Rattle.tree_read.proofs.NodeLaws.{held-with}
+use Rattle.tree_edit.specs.Alone.{IsResizable, can_drop, can_resize, if_room, resize_in, resize_wanted, room_to_resize}
+use Rattle.tree_edit.specs.Decided.{hwrite_decided, if_can, resize_decided, resize_found, room_written, write_decided, write_found}
+use Rattle.tree_edit.specs.Punchable.{can_punch}
+use Rattle.tree_edit.specs.Writable.{can_write_over, kept_from_writing, named_in, stream_to_write}
+use Rattle.tree_edit.specs.Write.{IsWritable, hwrite_in, room_to_write, write_in, write_wanted}
+use Rattle.tree_edit.specs.declared.writable.Way.TheVariants as way
+use Rattle.tree_edit.specs.declared.writable.Writable.{Writable}
+use Rattle.tree_edit.proofs.EditableLaws.{parts-are}
+use Rattle.tree_edit.proofs.StreamToWrite.{content-is}
+use Rattle.tree_edit.proofs.WriteFound.{writable-not_over, writable-over}
+
+-- THE REFUSAL FOR ROOM comes behind all others.
+module _ (file : ℕ) (far : Bool) (kept : Option No) where
+  abbrev shared : Result ℕ No → Result ℕ No
+  shared last = if far then Err no.TooBig else option_map_or Err kept last
+
+  resized-last : {A : Type 0} (r : Result A No) (can : Bool) (room : ℕ → Option No)
+      → and_then r (λ x. shared (if can then if_room (room file) file else Err no.Unbuilt))
+      ≡ and_then (and_then r (λ x. shared (if_can can file))) (λ f. if_room (room f) f)
+  resized-last (Err refused) can room = refl
+  resized-last (Ok x) can room = by far kept can
+    where
+      by : (far : Bool) (kept : Option No) (can : Bool)
+          → (if far then Err no.TooBig else option_map_or Err kept (if can then if_room (room file) file else Err no.Unbuilt))
+          ≡ and_then (if far then Err no.TooBig else option_map_or Err kept (if_can can file)) (λ f. if_room (room f) f)
+      by true kept can = refl
+      by false (Some refused) can = refl
+      by false None true = refl
+      by false None false = refl
+
+  written-last : {A : Type 0} (r : Result A No) (over can : Bool) (room asked : ℕ → Option No) → asked file ≡ (if over then None else room file)
+      → and_then r (λ x. shared (if over then Ok file else if can then if_room (room file) file else Err no.Unbuilt))
+      ≡ and_then (and_then r (λ x. shared (if_can (over || can) file))) (λ f. if_room (asked f) f)
+  written-last (Err refused) over can room asked e = refl
+  written-last (Ok x) over can room asked e = by far kept over can e
+    where
+      by : (far : Bool) (kept : Option No) (over can : Bool) → asked file ≡ (if over then None else room file)
+          → (if far then Err no.TooBig else option_map_or Err kept
+          (if over then Ok file else if can then if_room (room file) file else Err no.Unbuilt))
+          ≡ and_then (if far then Err no.TooBig else option_map_or Err kept (if_can (over || can) file)) (λ f. if_room (asked f) f)
+      by true kept over can e = refl
+      by false (Some refused) over can e = refl
+      by false None true can e = sym (ap (λ (o : Option No). if_room o file) e)
+      by false None false true e = sym (ap (λ (o : Option No). if_room o file) e)
+      by false None false false e = refl
+
+module _ (view : VolumeView) (name : List ℕ) where
+  pub resize-last : (opens : List OpenEntry) (path : List (List ℕ)) (size : ℕ) → resize_wanted view opens path name size
+      ≡ and_then (resize_found view opens path name size) (λ f. if_room (room_to_resize view name size f) f)
+  resize-last opens path size = by (resolve (read view) path)
+    where
+      by : (r : _) → and_then r (λ found. resize_in view opens name size (found_file found))
+          ≡ and_then (and_then r (λ found. resize_decided view opens name size (found_file found)))
+          (λ f. if_room (room_to_resize view name size f) f)
+      by (Err refused) = refl
+      by (Ok found) =
+          let file = found_file found in
+          resized-last file (is_far size) (kept_from_writing opens file) (stream_to_write (read view) name (node_of (read view) file))
+          (can_resize view name size file) (λ f. room_to_resize view name size f)
+
+  module _ (from len : ℕ) where
+    pub write-last : (opens : List OpenEntry) (path : List (List ℕ)) → write_wanted view opens path name from len
+        ≡ and_then (write_found view opens path name from len) (λ f. if_room (room_written view name from len f) f)
+    write-last opens path = by (resolve (read view) path)
+      where
+        by : (r : _) → and_then r (λ found. write_in view opens name from len (found_file found))
+            ≡ and_then (and_then r (λ found. write_decided view opens name from len (found_file found)))
+            (λ f. if_room (room_written view name from len f) f)
+        by (Err refused) = refl
+        by (Ok found) =
+            let file = found_file found in
+            written-last file (is_wide from len) (kept_from_writing opens file)
+            (stream_to_write (read view) name (node_of (read view) file)) (can_write_over view name from len file)
+            (can_resize view name (from + len) file) (λ f. room_to_write view name from len f) (λ f. room_written view name from len f) refl
+
+    pub hwrite-last : (file : ℕ) → hwrite_in view name from len file
+        ≡ and_then (hwrite_decided view name from len file) (λ f. if_room (room_written view name from len f) f)
+    hwrite-last file =
+        written-last file (is_wide from len) None (plain_bytes (content_named (read view) name (node_of (read view) file)))
+        (can_write_over view name from len file) (can_resize view name (from + len) file) (λ f. room_to_write view name from len f)
+        (λ f. room_written view name from len f) refl
+
+-- BEHIND WHAT WAS DECIDED, room is asked for.
+refused-so : (f : ℕ) (o : Option No) (why : Stop) → Says (has_room o) (Err why) → Says (if_room o f) (Err why)
+refused-so f None stop.Device says = tt
+refused-so f None (stop.No refused) (inl e) = cc
+refused-so f None (stop.No refused) (inr memory) = inr memory
+refused-so f (Some no_) stop.Device says = tt
+refused-so f (Some no_) (stop.No refused) (inl e) = let same : no_ ≡ refused = cc in inl (ap Err same)
+refused-so f (Some no_) (stop.No refused) (inr memory) = inr memory
+
+enough-so : (f : ℕ) (o : Option No) → has_room o ≡ Ok tt → if_room o f ≡ Ok f
+enough-so f None e = refl
+enough-so f (Some refused) e = cc
+
+module _ {D : Type 0} (g : Ghosts D) (wanted first : VolumeView → Result ℕ No) (room : VolumeView → ℕ → Option No)
+    (behind : (volume : VolumeView) → wanted volume ≡ and_then (first volume) (λ f. if_room (room volume f) f)) where
+  then-is : (volume : VolumeView) (f : ℕ) → first volume ≡ Ok f → wanted volume ≡ if_room (room volume f) f
+  then-is volume f e = behind volume ∙ ap (λ (r : Result ℕ No). and_then r (λ k. if_room (room volume k) k)) e
+
+  pub asked-stop : {old middle new : Mft D g} (f : ℕ) (Known : VolumeView → Type 0) → Answered g old middle first (Ok f)
+      → (IsTrue (view g old).told → Known (view g old)) → (why : Stop)
+      → Gives g middle new (λ volume given. Known volume → Says (has_room (room volume f)) given) (Err why)
+      → Answered g old new wanted (Err why)
+  asked-stop {old = old} f Known decided known why asked = tells (both decided asked) refl (λ told says.
+      subst (λ (r : Result ℕ No). Says r (Err why)) (sym (then-is (view g old) f says.0))
+      (refused-so f (room (view g old) f) why (says.1 (known told))))
+
+  pub asked-on : {old middle new : Mft D g} (f : ℕ) (Known : VolumeView → Type 0) → Answered g old middle first (Ok f)
+      → (IsTrue (view g old).told → Known (view g old))
+      → Gives g middle new (λ volume given. Known volume → Says (has_room (room volume f)) given) (Ok tt)
+      → Answered g old new wanted (Ok f)
+  asked-on {old = old} f Known decided known asked = tells (both decided asked) refl (λ told says.
+      then-is (view g old) f says.0 ∙ enough-so f (room (view g old) f) (says.1 (known told)))
+
+-- THE CLUSTERS that are asked for.
+module _ (view : VolumeView) (found : Writable) (name : List ℕ) (size : ℕ) (is : IsResizable view found name size) where
+  abbrev f_ : ℕ
+  f_ = number_of found.held
+
+  abbrev stream : IsStream view found.held.parts name found.stream
+  stream = is.stream.is
+
+  abbrev table : List ℕ
+  table = value_on view (case_parts view)
+
+  -- the stream is a value
+  found-value : is_some (stream_value (parts_named view f_ stream.stream.name)) ≡ true
+  found-value =
+      let dropped = (and_parts (can_drop view name f_) _ is.over).0 in
+      let punched = (and_parts (can_punch view name f_) (has_no_list view f_) dropped).0 in
+      sym (ap (λ (ps : List Part). is_some (stream_value ps)) (parts-are view found.held is.held name found.stream stream))
+      ∙ (and_parts (not (cannot_edit (is_whole_table view) (read view) f_)) _ punched).1
+
+  module _ (bytes from len clusters : ℕ) (of_volume : bytes ≡ cluster_bytes view.layout)
+      (counted : (view : VolumeView) (table name : List ℕ) → IsHeldWith view table found.held.parts
+      → (s : IsStream view found.held.parts name found.stream)
+      → is_some (stream_value (parts_named view (file_number found.held.parts) s.stream.name)) ≡ true
+      → clusters ≡ new_clusters bytes (parts_named view (file_number found.held.parts) s.stream.name) from len) where
+    pub room-clusters : no_room_alone view f_ clusters
+        ≡ no_room_alone view f_ (new_clusters (cluster_bytes view.layout) (stream_parts view (read view) (named_in (read view) name f_)) from len)
+    room-clusters =
+        ap (no_room_alone view f_) (counted view table name (held-with view found.held is.held table refl) stream found-value
+        ∙ ap (λ b. new_clusters b (parts_named view f_ stream.stream.name) from len) of_volume
+        ∙ ap (λ (ps : List Part). new_clusters (cluster_bytes view.layout) ps from len)
+        (sym (parts-are view found.held is.held name found.stream stream)))
+
+  -- of a stream that gets longer
+  grows-is : (b : Bool) → nat_lt found.stream.size size ≡ b → grows size (content_named (read view) name (node_of (read view) f_)) ≡ b
+  grows-is b longer =
+      ap (grows size) (content-is view found.held is.held name found.stream stream) ∙ ap (λ k. nat_lt k size) (sym stream.size) ∙ longer
+
+  abbrev room_by : Bool → Option No
+  room_by longer =
+      if longer then no_room_alone view f_ (new_clusters (cluster_bytes view.layout)
+      (stream_parts view (read view) (named_in (read view) name f_)) 0 0)
+      else None
+
+  pub room-shorter : size ≤ found.stream.size → room_to_resize view name size f_ ≡ None
+  room-shorter short = ap room_by (grows-is false (le-ltb found.stream.size size short))
+
+  pub room-longer : found.stream.size < size → room_to_resize view name size f_
+      ≡ no_room_alone view f_ (new_clusters (cluster_bytes view.layout) (stream_parts view (read view) (named_in (read view) name f_)) 0 0)
+  room-longer long = ap room_by (grows-is true (lt-ltb found.stream.size size long))
+
+-- .. and of bytes
+module _ (view : VolumeView) (found : Writable) (name : List ℕ) (at len : ℕ) (is : IsWritable view found name at len) where
+  pub room-over : found.way ≡ way.InPlace → room_written view name at len (number_of found.held) ≡ None
+  room-over same =
+      ap (λ b. if b then None else room_to_write view name at len (number_of found.held)) (writable-over view found name at len is same).over
+
+  pub room-value : found.way ≡ way.InRecord
+      → room_written view name at len (number_of found.held) ≡ room_to_write view name at len (number_of found.held)
+  room-value same =
+      ap (λ b. if b then None else room_to_write view name at len (number_of found.held)) (writable-not_over view found name at len is same)

@@ -1,0 +1,104 @@
+-- WHAT IS FOUND for a write: how the bytes are written, by what is found of the file that is held, and what that is good for.
+use Rattle.std.proofs.Common.{◌≡◌, ◌+◌, ℕ, Bool, true, false, not, List, Some, None, Result, refl, sym, ap, subst, ◌∙◌}
+use Rattle.std.proofs.lemmas.Bool.{and_from, and_parts, not-true, or_from, or_left, or_right}
+use Rattle.std.specs.Prelude.{IfOk}
+use Rattle.volume_def.specs.Sound.{IsSound}
+use Rattle.volume_def.specs.Table.{cluster_bytes}
+use Rattle.volume_def.specs.View.{VolumeView}
+use Rattle.mft_table.specs.declared.mounted.Mounted.{Mounted}
+use Rattle.file_record.specs.declared.base.BaseFile.{BaseFile}
+use Rattle.sparse_io.specs.Held.{IsStream}
+use Rattle.sparse_io.specs.declared.find.FoundStream.{FoundStream}
+use Rattle.tree_model.specs.declared.reply.No.{No}
+use Rattle.tree_read.specs.Nodes.{IsNodeHeld, number_of}
+use Rattle.tree_read.specs.Parts.{IsPlainStream}
+use Rattle.tree_edit.specs.Alone.{IsResizable, can_resize}
+use Rattle.tree_edit.specs.Decided.{WritesSo, can_write_so, if_can}
+use Rattle.tree_edit.specs.Settable.{is_editable}
+use Rattle.tree_edit.specs.Writable.{DecidesEdit, DecidesOver, GivesBack, IsFoundToEdit, IsMountedAs, can_write_over}
+use Rattle.tree_edit.specs.Write.{IsWritable, can_write}
+use Rattle.tree_edit.specs.declared.writable.Way.{Way}
+use Rattle.tree_edit.specs.declared.writable.Way.TheVariants as way
+use Rattle.tree_edit.specs.declared.writable.Writable.{Writable}
+use Rattle.tree_edit.proofs.AloneFound.{resize-editable}
+use Rattle.tree_edit.proofs.EditableLaws.{ways-decided}
+use Rattle.tree_edit.proofs.OverLaws.{over-editable}
+
+-- the same table, whose clusters have as many bytes as they have
+pub mounts-own : (view : VolumeView) (mounted : Mounted) (size : ℕ) → IsMountedAs view mounted size
+    → IsMountedAs view mounted (cluster_bytes view.layout)
+mounts-own view mounted size mounts = record { case = mounts.case; whole = mounts.whole; count = mounts.count; size_is = refl }
+
+module _ (view : VolumeView) (name : List ℕ) (from len file : ℕ) where
+  -- the bytes can be written one way or the other
+  pub way-so : (way : Way) → can_write view name from len way file ≡ true → can_write_so view name from len file ≡ true
+  way-so way.InPlace can = or_left (can_write_over view name from len file) (can_resize view name (from + len) file) can
+  way-so way.InRecord can =
+      or_right (can_write_over view name from len file) (can_resize view name (from + len) file)
+      (and_parts (not (can_write_over view name from len file)) (can_resize view name (from + len) file) can).1
+
+  module _ (over resizable : Bool) (o : over ≡ can_write_over view name from len file)
+      (r : resizable ≡ can_resize view name (from + len) file) where
+    pub writes-over : over ≡ true → WritesSo view name from len file (Some way.InPlace)
+    writes-over so = sym o ∙ so
+
+    pub writes-value : over ≡ false → resizable ≡ true → WritesSo view name from len file (Some way.InRecord)
+    writes-value not_over so =
+        and_from (not (can_write_over view name from len file)) (can_resize view name (from + len) file) (ap not (sym o ∙ not_over)) (sym r ∙ so)
+
+    pub writes-not : over ≡ false → resizable ≡ false → WritesSo view name from len file None
+    writes-not not_over not_value =
+        or_from (can_write_over view name from len file) (can_resize view name (from + len) file) (sym o ∙ not_over) (sym r ∙ not_value)
+
+-- WHAT WAS DECIDED
+module _ (view : VolumeView) (mounted : Mounted) (size : ℕ) (held : BaseFile) (mounts : IsMountedAs view mounted size) (sound : IsSound view)
+    (n : IsNodeHeld view held) (name : List ℕ) (found : FoundStream) (is : IsStream view held.parts name found) (at len : ℕ) where
+  abbrev number : ℕ
+  number = number_of held
+
+  way-editable : (way : Way) → can_write view name at len way number ≡ true → is_editable mounted held.parts ≡ true
+  way-editable way.InPlace can = over-editable view mounted size held mounts sound n name found is at len can
+  way-editable way.InRecord can =
+      resize-editable view mounted held (mounts-own view mounted size mounts) sound n name found is (at + len)
+      (and_parts (not (can_write_over view name at len number)) (can_resize view name (at + len) number) can).1
+
+  pub write-decided : (wanted : Result ℕ No) (result : Result Writable No) → DecidesOver (can_write_so view name at len number) result
+      → IfOk result (λ given. GivesBack given held found given.way) → IfOk result (λ given. can_write view name at len given.way number ≡ true)
+      → IsPlainStream view held name found → wanted ≡ if_can (can_write_so view name at len number) number
+      → DecidesEdit (λ way file. can_write view name at len way file) wanted view held name result
+  write-decided =
+      ways-decided view mounted size held mounts sound n name found is (λ way file. can_write view name at len way file)
+      (can_write_so view name at len number) way-editable
+
+-- WHAT CAN BE WRITTEN, by the way that it is written.
+module _ (view : VolumeView) (found : Writable) (name : List ℕ) (at len : ℕ) (is : IsWritable view found name at len) where
+  abbrev f : ℕ
+  f = number_of found.held
+
+  so-way : (way : Way) → found.way ≡ way → can_write view name at len way f ≡ true
+  so-way way same = subst (λ (w : Way). can_write view name at len w f ≡ true) same is.over
+
+  found-for : (can : ℕ → Bool) → can f ≡ true → IsFoundToEdit view found name can
+  found-for can so = record {
+    settable = is.settable;
+    held = is.held;
+    stream = is.stream;
+    there = is.there;
+    flags = is.flags;
+    over = so;
+    tellable = is.tellable;
+  }
+
+  pub writable-over : found.way ≡ way.InPlace → IsFoundToEdit view found name (λ file. can_write_over view name at len file)
+  writable-over same = found-for (λ file. can_write_over view name at len file) (so-way way.InPlace same)
+
+  -- a value that can be as long as the bytes need, over which they do not go in place
+  pub writable-not_over : found.way ≡ way.InRecord → can_write_over view name at len f ≡ false
+  writable-not_over same =
+      not-true (can_write_over view name at len f)
+      (and_parts (not (can_write_over view name at len f)) (can_resize view name (at + len) f) (so-way way.InRecord same)).0
+
+  pub writable-value : found.way ≡ way.InRecord → IsResizable view found name (at + len)
+  writable-value same =
+      found-for (λ file. can_resize view name (at + len) file)
+      (and_parts (not (can_write_over view name at len f)) (can_resize view name (at + len) f) (so-way way.InRecord same)).1

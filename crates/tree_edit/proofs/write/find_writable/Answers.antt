@@ -1,0 +1,41 @@
+use Rattle.std.proofs.Common.{sym}
+use Rattle.tree_read.specs.Nodes.{number_of}
+use Rattle.tree_read.proofs.AnsweredLaws.{same_wanted, stops}
+use Rattle.tree_read.proofs.GivesLaws.{handed-on}
+use Rattle.tree_edit.specs.Alone.{if_room}
+use Rattle.tree_edit.specs.Decided.{room_written, write_found}
+use Rattle.tree_edit.specs.Write.{IsWritable, write_wanted}
+use Rattle.tree_edit.proofs.AskedLaws.{asked-on, asked-stop, write-last}
+use Rattle.tree_edit.proofs.write.find_writable.Goals as goal
+
+pub returns-in_err-found-clause-answered : goal.returns-in_err-found-clause-answered
+returns-in_err-found-clause-answered g c =
+    let a = c.args in
+    let name = a.name.now in
+    let why = c.in_err-found.field-0.0 in
+    rw (handed-on c.from_residual.result why c.from_residual.ensures.1)
+    (same_wanted g.D.Disk _ (λ v. write_wanted v a.opens.now a.path.now name a.at a.len) _
+    (λ v. sym (write-last v name a.at a.len a.opens.now a.path.now))
+    (stops g.D.Disk (λ v. write_found v a.opens.now a.path.now name a.at a.len) (λ v f. if_room (room_written v name a.at a.len f) f) why
+    c.in_err-found.ensures.answered))
+
+pub returns-in_err-ask_to_write-clause-answered : goal.returns-in_err-ask_to_write-clause-answered
+returns-in_err-ask_to_write-clause-answered g c =
+    let a = c.args in
+    let name = a.name.now in
+    let found = c.in_ok-found.found in
+    let why = c.in_err-ask_to_write.field-0.0 in
+    rw (handed-on c.from_residual-in_err-ask_to_write.result why c.from_residual-in_err-ask_to_write.ensures.1)
+    (asked-stop g.D.Disk (λ v. write_wanted v a.opens.now a.path.now name a.at a.len) (λ v. write_found v a.opens.now a.path.now name a.at a.len)
+    (λ v f. room_written v name a.at a.len f) (λ v. write-last v name a.at a.len a.opens.now a.path.now) (number_of found.held)
+    (λ v. IsWritable v found name a.at a.len) c.in_ok-found.ensures.answered c.in_ok-found.ensures.can why
+    (c.in_err-ask_to_write.ensures.asked name))
+
+pub returns-clause-answered : goal.returns-clause-answered
+returns-clause-answered g c =
+    let a = c.args in
+    let name = a.name.now in
+    let found = c.in_ok-found.found in
+    asked-on g.D.Disk (λ v. write_wanted v a.opens.now a.path.now name a.at a.len) (λ v. write_found v a.opens.now a.path.now name a.at a.len)
+    (λ v f. room_written v name a.at a.len f) (λ v. write-last v name a.at a.len a.opens.now a.path.now) (number_of found.held)
+    (λ v. IsWritable v found name a.at a.len) c.in_ok-found.ensures.answered c.in_ok-found.ensures.can (c.in_ok-ask_to_write.ensures.asked name)

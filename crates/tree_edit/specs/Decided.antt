@@ -1,0 +1,67 @@
+-- WHAT IS DECIDED OF A STREAM before room is asked for, from the file that is held; and the room that is asked for then.
+use Rattle.std.specs.Prelude.{◌≡◌, ◌+◌, ◌||◌, ℕ, Bool, false, true, List, Option, None, Some, Result, Ok, Err, if◌then◌else◌}
+use Rattle.std.specs.Option.{option_map_or}
+use Rattle.volume_def.specs.View.{VolumeView}
+use Rattle.tree_model.specs.Cases.{is_far, is_wide}
+use Rattle.tree_model.specs.Paths.{and_then, found_file, resolve}
+use Rattle.tree_model.specs.Reading.{read}
+use Rattle.tree_model.specs.Shown.{plain_bytes}
+use Rattle.tree_model.specs.Subjects.{content_named}
+use Rattle.tree_model.specs.Tree.{node_of}
+use Rattle.tree_model.specs.declared.opens.OpenEntry.{OpenEntry}
+use Rattle.tree_model.specs.declared.reply.No.{No}
+use Rattle.tree_model.specs.declared.reply.No.TheVariants as no
+use Rattle.tree_edit.specs.Alone.{can_resize}
+use Rattle.tree_edit.specs.Writable.{can_write_over, kept_from_writing, stream_to_write}
+use Rattle.tree_edit.specs.Write.{can_write, room_to_write}
+use Rattle.tree_edit.specs.declared.writable.Way.{Way}
+
+abbrev pub if_can : Bool → ℕ → Result ℕ No
+if_can can file = if can then Ok file else Err no.Unbuilt
+
+-- `truncate`: all refusals but that for room
+abbrev pub resize_ranged_to : Result ℕ No → List OpenEntry → ℕ → ℕ → Result ℕ No
+resize_ranged_to last opens size file = if is_far size then Err no.TooBig else option_map_or Err (kept_from_writing opens file) last
+
+abbrev pub resize_decided : VolumeView → List OpenEntry → List ℕ → ℕ → ℕ → Result ℕ No
+resize_decided view opens name size file =
+    and_then (stream_to_write (read view) name (node_of (read view) file))
+    (λ bytes. resize_ranged_to (if_can (can_resize view name size file) file) opens size file)
+
+abbrev pub resize_found : VolumeView → List OpenEntry → List (List ℕ) → List ℕ → ℕ → Result ℕ No
+resize_found view opens path name size = and_then (resolve (read view) path) (λ found. resize_decided view opens name size (found_file found))
+
+-- writes: the bytes go over bytes, or into a value
+abbrev pub can_write_so : VolumeView → List ℕ → ℕ → ℕ → ℕ → Bool
+can_write_so view name from len file = can_write_over view name from len file || can_resize view name (from + len) file
+
+abbrev pub room_written : VolumeView → List ℕ → ℕ → ℕ → ℕ → Option No
+room_written view name from len file = if can_write_over view name from len file then None else room_to_write view name from len file
+
+-- `write`
+abbrev pub write_ranged_to : Result ℕ No → List OpenEntry → ℕ → ℕ → ℕ → Result ℕ No
+write_ranged_to last opens from len file =
+    if is_wide from len then Err no.TooBig else option_map_or Err (kept_from_writing opens file) last
+
+abbrev pub write_decided : VolumeView → List OpenEntry → List ℕ → ℕ → ℕ → ℕ → Result ℕ No
+write_decided view opens name from len file =
+    and_then (stream_to_write (read view) name (node_of (read view) file))
+    (λ bytes. write_ranged_to (if_can (can_write_so view name from len file) file) opens from len file)
+
+abbrev pub write_found : VolumeView → List OpenEntry → List (List ℕ) → List ℕ → ℕ → ℕ → Result ℕ No
+write_found view opens path name from len =
+    and_then (resolve (read view) path) (λ found. write_decided view opens name from len (found_file found))
+
+-- `hwrite`
+abbrev pub hwrite_ranged_to : Result ℕ No → ℕ → ℕ → Result ℕ No
+hwrite_ranged_to last from len = if is_wide from len then Err no.TooBig else last
+
+abbrev pub hwrite_decided : VolumeView → List ℕ → ℕ → ℕ → ℕ → Result ℕ No
+hwrite_decided view name from len file =
+    and_then (plain_bytes (content_named (read view) name (node_of (read view) file)))
+    (λ bytes. hwrite_ranged_to (if_can (can_write_so view name from len file) file) from len)
+
+-- How the bytes are written, or that they cannot be.
+abbrev pub WritesSo : VolumeView → List ℕ → ℕ → ℕ → ℕ → Option Way → Type 0
+WritesSo view name from len file None = can_write_so view name from len file ≡ false
+WritesSo view name from len file (Some way) = can_write view name from len way file ≡ true
