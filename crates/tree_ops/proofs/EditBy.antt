@@ -1,18 +1,21 @@
 -- AN EDIT IS THAT OF A COMMAND: what it finds or refuses is what is due, and what it does is what the command stages.
-use Rattle.std.proofs.Common.{◌≡◌, ◌≤◌, ◌+◌, ◌/◌, ℕ, true, false, List, Ok, Err, inl, refl, sym, ap, ◌∙◌}
+use Rattle.std.proofs.Common.{◌≡◌, ◌≤◌, ◌+◌, ◌/◌, ℕ, true, false, List, Option, Some, None, Ok, Err, inl, refl, sym, ap, ◌∙◌}
 use Rattle.std.specs.Prelude.{Contains, IsTrue}
+use Rattle.std.specs.Option.{option_map_or}
 use Rattle.ntfs_def.specs.FileName.{FileName}
 use Rattle.volume_def.specs.FileNames.{names_of}
 use Rattle.volume_def.specs.Files.{records_of}
 use Rattle.volume_def.specs.View.{VolumeView}
-use Rattle.tree_model.specs.Answers.{answer_of}
+use Rattle.tree_model.specs.Answers.{answer_of, node_answer}
 use Rattle.tree_model.specs.Effects.{after, makes_file}
 use Rattle.tree_model.specs.Facts.{TellsFacts}
 use Rattle.tree_model.specs.Refusals.{Facts, is_edit, outcome}
 use Rattle.tree_model.specs.Step.{Step, answered, due, reply_of}
 use Rattle.tree_model.specs.Subjects.{Located, Machine}
 use Rattle.tree_model.specs.declared.command.Command.{Command}
+use Rattle.tree_model.specs.declared.command.Command.TheVariants as c
 use Rattle.tree_model.specs.declared.opens.OpenEntry.{OpenEntry}
+use Rattle.tree_model.specs.declared.reply.Answer.{Answer}
 use Rattle.tree_model.specs.declared.reply.Answer.TheVariants as a
 use Rattle.tree_model.specs.declared.reply.No.{No}
 use Rattle.tree_model.specs.declared.reply.Reply.TheVariants as reply
@@ -51,12 +54,31 @@ pub record IsEditBy (v : VolumeView) (opens : List OpenEntry) (now session : ℕ
       → LeadsToFile facts (machine_on v opens now) session command file
   pub refused : IsTrue v.told → (facts : Facts) → TellsFacts v facts → (why : No) → edit.wanted v ≡ Err why
       → due facts (machine_on v opens now) session command ≡ Err why
-  pub answer : (facts : Facts) → TellsFacts v facts → (at : Located) → answer_of facts (machine_on v opens now) session command at ≡ a.Done
   pub stages : (told : IsTrue v.told) → (facts : Facts) → (tells : TellsFacts v facts) → (file : ℕ) → (is : edit.wanted v ≡ Ok file)
       → (new : VolumeView) → edit.Does v new file → StagesFile v opens now command (found told facts tells file is).at file new
   pub opens_stay : (at : Located) → (after (machine_on v opens now) session command at 0).opens ≡ opens
   pub moment_stays : (at : Located) → (after (machine_on v opens now) session command at 0).now ≡ now
   pub few : edit.most + 2 ≤ 12 + bytes_in command / 512
+
+-- IT ANSWERS that it is done.
+answers-done : (facts : Facts) (m : Machine) (session : ℕ) (command : Command) (at : Located) → is_done command ≡ true
+    → answer_of facts m session command at ≡ a.Done
+unfolding answer_of
+answers-done facts m session command at is = by command is
+  where
+    alike : (f : Node → Answer) → ((node : Node) → f node ≡ a.Done) → (o : Option Node) → option_map_or f o a.Done ≡ a.Done
+    alike f done None = refl
+    alike f done (Some node) = done node
+
+    by : (command : Command) → is_done command ≡ true → answer_of facts m session command at ≡ a.Done
+    by (c.Setattr path flags) is = alike (node_answer m.tree (c.Setattr path flags) at.file) (λ node. refl) at.node
+    by (c.Write path stream from bytes) is = alike (node_answer m.tree (c.Write path stream from bytes) at.file) (λ node. refl) at.node
+    by (c.Hwrite handle from bytes) is = alike (node_answer m.tree (c.Hwrite handle from bytes) at.file) (λ node. refl) at.node
+    by (c.Truncate path stream size) is = alike (node_answer m.tree (c.Truncate path stream size) at.file) (λ node. refl) at.node
+    by (c.Punch path stream from len) is = alike (node_answer m.tree (c.Punch path stream from len) at.file) (λ node. refl) at.node
+    by (c.Rmstream path name) is = alike (node_answer m.tree (c.Rmstream path name) at.file) (λ node. refl) at.node
+    by (c.Setsec path id) is = alike (node_answer m.tree (c.Setsec path id) at.file) (λ node. refl) at.node
+    by other is = cc
 
 -- WHAT IS DUE is that it is done, where a file was found.
 module _ (v : VolumeView) (opens : List OpenEntry) (now session : ℕ) (command : Command) (edit : EditOf)
@@ -66,7 +88,7 @@ module _ (v : VolumeView) (opens : List OpenEntry) (now session : ℕ) (command 
 
   pub found-due : (file : ℕ) → LeadsToFile facts m session command file → due facts m session command ≡ Ok a.Done
   unfolding due
-  found-due file x = ap (answered facts m session command) x.is ∙ ap Ok (by.answer facts tells x.at)
+  found-due file x = ap (answered facts m session command) x.is ∙ ap Ok (answers-done facts m session command x.at by.edits)
 
   pub found-step : (file : ℕ) → (x : LeadsToFile facts m session command file)
       → Step facts m session command (reply.Ok a.Done) (after m session command x.at 0)

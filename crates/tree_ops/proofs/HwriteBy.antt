@@ -1,10 +1,13 @@
--- WHAT IS DUE FOR `hwrite`: where its bytes go over bytes of the stream of a handle that may write it is done, and else refused so.
-use Rattle.std.proofs.Common.{◌≡◌, ◌&&◌, ◌||◌, ℕ, Bool, true, false, List, ◌∷◌, [], not, length, Option, Some, None, Result, Ok, Err}
-use Rattle.std.proofs.Common.{refl, sym, ap, ◌∙◌, arith}
-use Rattle.std.specs.Prelude.{find, if◌then◌else◌, is_some}
+-- WHAT IS DUE FOR `hwrite`: where its bytes can be written into the stream of a handle that may write it it is done, unless there is no room
+-- for what it asks, and else refused so.
+use Rattle.std.proofs.Common.{◌≡◌, ◌&&◌, ◌||◌, ◌+◌, ℕ, Bool, true, false, List, ◌∷◌, [], not, length, Option, Some, None, Result, Ok, Err}
+use Rattle.std.proofs.Common.{refl, sym, ap, ◌∙◌, arith, if◌then◌else◌}
+use Rattle.std.specs.Borrow.{Bor}
+use Rattle.std.specs.Prelude.{find, is_some}
 use Rattle.std.specs.Option.{option_map_or}
+use Rattle.std.proofs.lemmas.Bool.{and_parts}
+use Rattle.volume_def.specs.Table.{cluster_bytes}
 use Rattle.volume_def.specs.View.{VolumeView}
-use Rattle.tree_model.specs.Answers.{answer_of, node_answer}
 use Rattle.tree_model.specs.Cases.{is_packed, is_wide}
 use Rattle.tree_model.specs.Effects.{opens_after}
 use Rattle.tree_model.specs.Facts.{TellsFacts, is_whole_table}
@@ -13,26 +16,32 @@ use Rattle.tree_model.specs.Paths.{and_then}
 use Rattle.tree_model.specs.Reading.{read}
 use Rattle.tree_model.specs.Refusals.{Facts, first_some, outcome, refusal, unless, when}
 use Rattle.tree_model.specs.Shown.{plain_bytes}
-use Rattle.tree_model.specs.Staging.{cannot_edit, is_built_for}
+use Rattle.tree_model.specs.Staging.{cannot_edit, fits_in_record, gets_no_longer, has_no_list}
 use Rattle.tree_model.specs.Step.{answered, due}
-use Rattle.tree_model.specs.Subjects.{Located, Machine, at_file, at_open, locate, subject_of, with_stream}
+use Rattle.tree_model.specs.StreamRoom.{goes_over, stream_parts, stream_value}
+use Rattle.tree_model.specs.Subjects.{Located, Machine, at_file, at_open, content_named, locate, subject_of, with_stream}
 use Rattle.tree_model.specs.Tree.{node_of}
 use Rattle.tree_model.specs.declared.command.Command.{Command}
 use Rattle.tree_model.specs.declared.command.Command.TheVariants as c
 use Rattle.tree_model.specs.declared.opens.OpenEntry.{OpenEntry}
-use Rattle.tree_model.specs.declared.reply.Answer.TheVariants as a
 use Rattle.tree_model.specs.declared.reply.No.{No}
 use Rattle.tree_model.specs.declared.reply.No.TheVariants as no
 use Rattle.tree_model.specs.declared.tree.Content.{Content}
 use Rattle.tree_model.specs.declared.tree.Content.TheVariants.{Packed, Plain}
-use Rattle.tree_model.specs.declared.tree.Node.{Node}
 use Rattle.tree_model.proofs.LookLaws.{find-never}
 use Rattle.in_place_owed.proofs.EmptyBill.{has-room}
-use Rattle.tree_edit.specs.Writable.{hwrite_in, hwrite_wanted}
+use Rattle.value_owed.proofs.ValueCommands.{value-room}
+use Rattle.tree_edit.specs.Alone.{can_resize}
+use Rattle.tree_edit.specs.Write.{hwrite_in, hwrite_wanted, room_to_write}
+use Rattle.tree_edit.specs.Writable.{can_write_over}
 use Rattle.tree_ops.specs.Edits.{hwrite_edit}
 use Rattle.tree_ops.specs.Wanted.{machine_on}
+use Rattle.tree_ops.specs.declared.streams.StreamEdit.TheVariants as s
 use Rattle.tree_ops.proofs.EditBy.{IsEditBy, LeadsToFile}
-use Rattle.tree_ops.proofs.WriteBy.{found-staged, not-both, over-of, with_at, writes-stream}
+use Rattle.tree_ops.proofs.Judged.{can-of, if_asked, last-written, last_two, with_at, written-file}
+use Rattle.tree_ops.proofs.RoomAsked.{file-counted, value-there}
+use Rattle.tree_ops.proofs.StreamBy.{edited-file}
+use Rattle.tree_ops.proofs.WriteBy.{parted, puts-in, record-so}
 
 -- THE REFUSALS in their order, and what is wanted, by what each case asks
 abbrev judge : Option Content → Bool → Bool → Option No → Option No
@@ -43,17 +52,24 @@ judge content wide unbuilt room = first_some (
     when unbuilt no.Unbuilt ∷
     room ∷ [])
 
-abbrev wanted_by : Option Content → Bool → Bool → ℕ → Result ℕ No
-wanted_by content wide can file =
-    and_then (plain_bytes content) (λ bytes. if wide then Err no.TooBig else if can then Ok file else Err no.Unbuilt)
+abbrev wanted_by : Option Content → Bool → Result ℕ No → Result ℕ No
+wanted_by content wide decided = and_then (plain_bytes content) (λ bytes. if wide then Err no.TooBig else decided)
 
-judged : (at : Located) (file : ℕ) (content : Option Content) (wide can : Bool) (room : Option No) → (can ≡ true → room ≡ None)
-    → unless (judge content wide (not can) room) at ≡ with_at at (wanted_by content wide can file)
-judged at file None wide can room has = refl
-judged at file (Some (Packed size)) wide can room has = refl
-judged at file (Some (Plain bytes)) true can room has = refl
-judged at file (Some (Plain bytes)) false false room has = refl
-judged at file (Some (Plain bytes)) false true room has = ap (λ o. unless (judge (Some (Plain bytes)) false false o) at) (has refl)
+judged : (at : Located) (content : Option Content) (wide unbuilt : Bool) (room : Option No) (decided : Result ℕ No)
+    → unless (last_two unbuilt room) at ≡ with_at at decided
+    → unless (judge content wide unbuilt room) at ≡ with_at at (wanted_by content wide decided)
+judged at None wide unbuilt room decided last = refl
+judged at (Some (Packed size)) wide unbuilt room decided last = refl
+judged at (Some (Plain bytes)) true unbuilt room decided last = refl
+judged at (Some (Plain bytes)) false unbuilt room decided last = last
+
+-- it is this file that is wanted, or none
+same-file : (content : Option Content) (wide : Bool) (decided : Result ℕ No) (file other : ℕ) → (decided ≡ Ok other → file ≡ other)
+    → wanted_by content wide decided ≡ Ok other → file ≡ other
+same-file None wide decided file other same e = cc
+same-file (Some (Packed size)) wide decided file other same e = cc
+same-file (Some (Plain bytes)) true decided file other same e = cc
+same-file (Some (Plain bytes)) false decided file other same e = same e
 
 module _ (facts : Facts) (view : VolumeView) (opens : List OpenEntry) (now session handle from : ℕ) (bytes : List ℕ)
     (tells : TellsFacts view facts) where
@@ -75,26 +91,57 @@ module _ (facts : Facts) (view : VolumeView) (opens : List OpenEntry) (now sessi
   abbrev cannot : OpenEntry → Bool
   cannot entry = cannot_edit (is_whole_table view) (read view) entry.file
 
+  -- whether the bytes go over bytes; or else it is a value, of a file without a list, and can be as long
+  abbrev goes : OpenEntry → Bool
+  goes entry = goes_over (cluster_bytes view.layout) (stream_parts view (read view) (at entry)) from len
+
+  abbrev value : OpenEntry → Bool
+  value entry = is_some (stream_value (stream_parts view (read view) (at entry)))
+
+  abbrev alone : OpenEntry → Bool
+  alone entry = has_no_list view entry.file
+
+  abbrev fits : OpenEntry → Bool
+  fits entry =
+      gets_no_longer (from + len) (at entry).content
+      || fits_in_record view entry.file (stream_parts view (read view) (at entry)) (from + len)
+
   abbrev over : OpenEntry → Bool
-  over entry = is_built_for view (read view) command (at entry)
+  over entry = can_write_over view entry.stream from len entry.file
 
   abbrev can : OpenEntry → Bool
-  can entry = not (cannot entry) && over entry
+  can entry = can_resize view entry.stream (from + len) entry.file
 
-  room : (entry : OpenEntry) → can entry ≡ true → facts.no_room m command (at entry) ≡ None
-  room entry is =
-      tells.no_room m command (at entry) ∙ has-room view (read view) command (at entry) refl refl (over-of (cannot entry) (over entry) is)
+  abbrev asked : OpenEntry → Option No
+  asked entry = room_to_write view entry.stream from len entry.file
+
+  abbrev decided : OpenEntry → Result ℕ No
+  decided entry = if over entry then Ok entry.file else if_asked (can entry) (asked entry) entry.file
+
+  no-room : (entry : OpenEntry) → over entry ≡ true → facts.no_room m command (at entry) ≡ None
+  no-room entry is =
+      tells.no_room m command (at entry) ∙ has-room view (read view) command (at entry) refl refl (can-of (cannot entry) (goes entry) is)
+
+  room : (entry : OpenEntry) → over entry ≡ false → can entry ≡ true → facts.no_room m command (at entry) ≡ asked entry
+  room entry other is =
+      let built = record-so (cannot entry) (goes entry) (value entry) (alone entry) (fits entry) other is in
+      let stays = (and_parts (not (goes entry)) ((value entry && alone entry) && fits entry) built).1 in
+      let both = (and_parts (value entry && alone entry) (fits entry) stays).0 in
+      let there = value-there view (read view) (at entry) (and_parts (value entry) (alone entry) both).0 in
+      tells.no_room m command (at entry)
+      ∙ value-room view (read view) command (at entry) refl refl (file-counted view (read view) (at entry) refl there) there built
 
   -- the refusal that is due; opens are not asked
   refusal-is : (entry : OpenEntry) → refusal facts m session command (subject_of command) (at entry)
-      ≡ judge (at entry).content (is_wide from len) (not (can entry)) (facts.no_room m command (at entry))
+      ≡ judge (at entry).content (is_wide from len) (not (over entry || can entry)) (facts.no_room m command (at entry))
   refusal-is entry =
       let n = find-never opens entry.file in
       let w = tells.whole_table in
       let o = tells.built_for m command (at entry) in
-      let both : (cannot_edit facts.whole_table (read view) entry.file || not (facts.built_for m command (at entry))) ≡ not (can entry) =
+      let both : (cannot_edit facts.whole_table (read view) entry.file || not (facts.built_for m command (at entry)))
+      ≡ not (over entry || can entry) =
       ap (λ b. cannot_edit b (read view) entry.file || not (facts.built_for m command (at entry))) w
-      ∙ ap (λ b. cannot entry || not b) o ∙ not-both (cannot entry) (over entry) in
+      ∙ ap (λ b. cannot entry || not b) o ∙ parted (cannot entry) (goes entry) (value entry) (alone entry) (fits entry) in
       rw (n, both) refl
 
   outcome-is : (entry : OpenEntry) → found_open ≡ Some entry
@@ -103,7 +150,10 @@ module _ (facts : Facts) (view : VolumeView) (opens : List OpenEntry) (now sessi
   outcome-is entry e =
       ap (λ o. and_then (at_open (read view) o) (λ x. unless (refusal facts m session command (subject_of command) x) x)) e
       ∙ ap (λ o. unless o (at entry)) (refusal-is entry)
-      ∙ judged (at entry) entry.file (at entry).content (is_wide from len) (can entry) (facts.no_room m command (at entry)) (room entry)
+      ∙ judged (at entry) (at entry).content (is_wide from len) (not (over entry || can entry)) (facts.no_room m command (at entry))
+      (decided entry)
+      (last-written (at entry) entry.file (over entry) (can entry) (facts.no_room m command (at entry)) (asked entry) (no-room entry)
+      (room entry))
 
   no-handle : found_open ≡ None → outcome facts m session command ≡ Err no.NoHandle
   unfolding outcome locate
@@ -116,16 +166,12 @@ module _ (facts : Facts) (view : VolumeView) (opens : List OpenEntry) (now sessi
     pub open_is : found_open ≡ Some entry
     pub stream_is : leads.at.stream ≡ entry.stream
     pub node_is : leads.at.node ≡ node_of (read view) file
+    pub content_is : leads.at.content ≡ content_named (read view) entry.stream (node_of (read view) file)
 
   ok-file : (entry : OpenEntry) (file : ℕ) → hwrite_in view entry.stream from len entry.file ≡ Ok file → entry.file ≡ file
-  ok-file entry file is = by (at entry).content (is_wide from len) (can entry) is
-    where
-      by : (content : Option Content) (wide can : Bool) → wanted_by content wide can entry.file ≡ Ok file → entry.file ≡ file
-      by None wide can e = cc
-      by (Some (Packed size)) wide can e = cc
-      by (Some (Plain bytes)) true can e = cc
-      by (Some (Plain bytes)) false false e = cc
-      by (Some (Plain bytes)) false true e = cc
+  ok-file entry file is =
+      same-file (at entry).content (is_wide from len) (decided entry) entry.file file
+      (written-file (over entry) (can entry) (asked entry) entry.file file) is
 
   pub hwrite-found : (file : ℕ) → hwrite_wanted view opens session handle from len ≡ Ok file → FindsOpen file
   hwrite-found file is = by found_open refl is
@@ -144,6 +190,7 @@ module _ (facts : Facts) (view : VolumeView) (opens : List OpenEntry) (now sessi
         open_is = e;
         stream_is = refl;
         node_is = ap (node_of (read view)) (ok-file entry file is);
+        content_is = ap (λ f. content_named (read view) entry.stream (node_of (read view) f)) (ok-file entry file is);
       }
 
   pub hwrite-refused : (refused : No) → hwrite_wanted view opens session handle from len ≡ Err refused
@@ -157,38 +204,23 @@ module _ (facts : Facts) (view : VolumeView) (opens : List OpenEntry) (now sessi
       by None e is = let same : no.NoHandle ≡ refused = cc in no-handle e ∙ ap Err same
       by (Some entry) e is = outcome-is entry e ∙ ap (with_at (at entry)) is
 
-  -- it answers that it is done
-  pub hwrite-answer : (at : Located) → answer_of facts m session command at ≡ a.Done
-  unfolding answer_of
-  hwrite-answer at = by at.node
-    where
-      by : (o : Option Node) → option_map_or (node_answer m.tree command at.file) o a.Done ≡ a.Done
-      by None = refl
-      by (Some node) = refl
-
 -- IT IS THAT OF THE COMMAND
-pub hwrite-by : (opens : List OpenEntry) (now session handle from : ℕ) (bytes : List ℕ) (view : VolumeView)
-    → IsEditBy view opens now session (c.Hwrite handle from bytes) (hwrite_edit opens session handle from bytes now)
+pub hwrite-by : (opens : List OpenEntry) (now session handle from : ℕ) (bytes : Bor (List ℕ)) (view : VolumeView)
+    → IsEditBy view opens now session (c.Hwrite handle from bytes.now) (hwrite_edit (s.Write from bytes) opens session handle now)
 unfolding opens_after
 hwrite-by opens now session handle from bytes view = record {
   edits = refl;
   is = refl;
   makes = refl;
-  found = λ told facts tells file is. (hwrite-found facts view opens now session handle from bytes tells file is).leads;
-  refused = λ told facts tells why is. hwrite-refused facts view opens now session handle from bytes tells why is;
-  answer = λ facts tells at. hwrite-answer facts view opens now session handle from bytes tells at;
-  stages = λ told facts tells file is new w.
-      let x = hwrite-found facts view opens now session handle from bytes tells file is in
-      let same : w.entry ≡ x.entry = let e = sym w.opened ∙ x.open_is in cc in
-      let both = found-staged view file new w.entry.stream from bytes now w.writes in
-      let stream = x.stream_is ∙ sym (ap (λ (entry : OpenEntry). entry.stream) same) in
-      record {
-        node = w.writes.can.settable.can.node;
-        can = both.0;
-        high = both.1;
-        stages = λ image written.
-            writes-stream view new file w.entry.stream from bytes now x.leads.at opens image written stream x.node_is w.writes;
-      };
+  found = λ told facts tells file is. (hwrite-found facts view opens now session handle from bytes.now tells file is).leads;
+  refused = λ told facts tells why is. hwrite-refused facts view opens now session handle from bytes.now tells why is;
+  stages = λ told facts tells file is new p.
+      let x = hwrite-found facts view opens now session handle from bytes.now tells file is in
+      let same : p.entry ≡ x.entry = let e = sym p.opened ∙ x.open_is in cc in
+      let stream = ap (λ (entry : OpenEntry). entry.stream) (sym same) in
+      edited-file (s.Write from bytes) view new file p.entry.stream now p.edits opens (c.Hwrite handle from bytes.now) x.leads.at
+      (puts-in view new file p.entry.stream from bytes now p.edits x.leads.at x.leads.file_is (x.stream_is ∙ stream) x.node_is
+      (x.content_is ∙ ap (λ n. content_named (read view) n (node_of (read view) file)) stream) opens);
   opens_stay = λ at. refl;
   moment_stays = λ at. refl;
   few = omega arith;

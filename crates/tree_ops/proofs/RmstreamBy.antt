@@ -1,11 +1,10 @@
 -- WHAT IS DUE FOR `rmstream`: where the stream that its path leads to is a value of a file without an attribute list it is done, and else
 -- refused so.
-use Rattle.std.proofs.Common.{◌≡◌, ◌==◌, ◌&&◌, ◌||◌, ℕ, Bool, true, false, List, not, length, Option, Some, None, Ok, Err}
+use Rattle.std.proofs.Common.{◌≡◌, ◌==◌, ◌&&◌, ◌||◌, ℕ, Bool, true, false, List, not, length, None, Ok, Err}
 use Rattle.std.proofs.Common.{refl, ap, ◌∙◌, arith}
 use Rattle.std.specs.Prelude.{is_some}
-use Rattle.std.specs.Option.{option_map_or}
+use Rattle.std.proofs.lemmas.Bool.{and_parts}
 use Rattle.volume_def.specs.View.{VolumeView}
-use Rattle.tree_model.specs.Answers.{answer_of, node_answer}
 use Rattle.tree_model.specs.Cases.{shared}
 use Rattle.tree_model.specs.Effects.{opens_after}
 use Rattle.tree_model.specs.Facts.{TellsFacts, is_whole_table}
@@ -19,19 +18,18 @@ use Rattle.tree_model.specs.Subjects.{Located, Machine, at_found, is_directory, 
 use Rattle.tree_model.specs.declared.command.Command.{Command}
 use Rattle.tree_model.specs.declared.command.Command.TheVariants as c
 use Rattle.tree_model.specs.declared.opens.OpenEntry.{OpenEntry}
-use Rattle.tree_model.specs.declared.reply.Answer.TheVariants as a
 use Rattle.tree_model.specs.declared.reply.No.{No}
 use Rattle.tree_model.specs.declared.tree.Found.{Found}
-use Rattle.tree_model.specs.declared.tree.Node.{Node}
 use Rattle.value_owed.proofs.ValueCommands.{value-room}
 use Rattle.tree_edit.specs.Alone.{can_drop, drop_in, drop_wanted}
 use Rattle.tree_ops.specs.Edits.{EditsFound, stream_edit}
 use Rattle.tree_ops.specs.Wanted.{machine_on}
-use Rattle.tree_ops.specs.declared.edit_values.StreamEdit.TheVariants as s
+use Rattle.tree_ops.specs.declared.streams.StreamEdit.TheVariants as s
 use Rattle.tree_ops.proofs.EditBy.{IsEditBy, StagesFile}
 use Rattle.tree_ops.proofs.StreamBy.{FindsStream, edited-file, edited-so, edited-stream, stream-found, stream-refused, stream_of_found}
-use Rattle.tree_ops.proofs.PunchBy.{judge, judged, same-file}
-use Rattle.tree_ops.proofs.WriteBy.{with_at}
+use Rattle.tree_ops.proofs.Judged.{can-file, if_can, last-can, with_at}
+use Rattle.tree_ops.proofs.JudgedThere.{judge, judged, same-file}
+use Rattle.tree_ops.proofs.RoomAsked.{file-counted, value-there}
 
 -- It is not built unless all of it holds.
 parted : (cannot value alone : Bool) → (cannot || not (value && alone)) ≡ not ((not cannot && value) && alone)
@@ -71,8 +69,10 @@ module _ (facts : Facts) (view : VolumeView) (opens : List OpenEntry) (now sessi
 
   room : (found : Found) → can found ≡ true → facts.no_room m command (at found) ≡ None
   room found is =
+      let built = built-so (cannot found) (value found) (alone found) is in
+      let there = value-there view (read view) (at found) (and_parts (value found) (alone found) built).0 in
       tells.no_room m command (at found)
-      ∙ value-room view (read view) command (at found) refl refl (built-so (cannot found) (value found) (alone found) is)
+      ∙ value-room view (read view) command (at found) refl refl (file-counted view (read view) (at found) refl there) there built
 
   -- the refusal that is due; nothing is too big
   refusal-is : (found : Found) → refusal facts m session command (subject_of command) (at found)
@@ -93,8 +93,9 @@ module _ (facts : Facts) (view : VolumeView) (opens : List OpenEntry) (now sessi
       ap (λ r. and_then (and_then (and_then r (λ f. Ok (at_found (read view) f))) (λ x. Ok (with_stream (read view) name x)))
       (λ x. unless (refusal facts m session command (subject_of command) x) x)) e
       ∙ ap (λ o. unless o (at found)) (refusal-is found)
-      ∙ judged (at found) (found_file found) (at found).content (dir found) false (shared m command (at found)) (can found)
-      (facts.no_room m command (at found)) (room found)
+      ∙ judged (at found) (at found).content (dir found) false (shared m command (at found)) (not (can found))
+      (facts.no_room m command (at found)) (if_can (can found) (found_file found))
+      (last-can (at found) (found_file found) (can found) (facts.no_room m command (at found)) (room found))
 
   path-refused : (why : No) → resolve (read view) path ≡ Err why → outcome facts m session command ≡ Err why
   unfolding outcome locate
@@ -102,7 +103,8 @@ module _ (facts : Facts) (view : VolumeView) (opens : List OpenEntry) (now sessi
 
   same : (found : Found) (file : ℕ) → drop_in view opens name (found_file found) ≡ Ok file → found_file found ≡ file
   same found file is =
-      same-file (at found).content (dir found) false (shared m command (at found)) (can found) (found_file found) file is
+      same-file (at found).content (dir found) false (shared m command (at found)) (if_can (can found) (found_file found))
+      (found_file found) file (can-file (can found) (found_file found) file) is
 
   pub drop-found : (file : ℕ) → drop_wanted view opens path name ≡ Ok file → FindsStream facts view m session command name file
   drop-found file is =
@@ -113,15 +115,6 @@ module _ (facts : Facts) (view : VolumeView) (opens : List OpenEntry) (now sessi
   drop-refused refused is =
       stream-refused facts view opens now session command path name (λ file. drop_in view opens name file) same outcome-is path-refused
       refused is
-
-  -- it answers that it is done
-  pub drop-answer : (at : Located) → answer_of facts m session command at ≡ a.Done
-  unfolding answer_of
-  drop-answer at = by at.node
-    where
-      by : (o : Option Node) → option_map_or (node_answer m.tree command at.file) o a.Done ≡ a.Done
-      by None = refl
-      by (Some node) = refl
 
 -- WHAT IS GONE is what the command stages, by the stream that was found.
 drop-staged : (facts : Facts) (view new : VolumeView) (opens : List OpenEntry) (now session : ℕ) (path : List (List ℕ)) (name : List ℕ)
@@ -144,7 +137,6 @@ rmstream-by opens now session path name view = record {
   makes = refl;
   found = λ told facts tells file is. (drop-found facts view opens now session path name tells file is).leads;
   refused = λ told facts tells why is. drop-refused facts view opens now session path name tells why is;
-  answer = λ facts tells at. drop-answer facts view opens now session path name tells at;
   stages = λ told facts tells file is new p.
       drop-staged facts view new opens now session path name file p (drop-found facts view opens now session path name tells file is);
   opens_stay = λ at. refl;

@@ -1,12 +1,10 @@
 -- WHAT IS DUE FOR `setattr`: where its path leads to a file that can be edited it is done, and else refused so.
-use Rattle.std.proofs.Common.{◌≡◌, ◌≤◌, ℕ, Bool, true, false, List, Option, Some, None, Result, Ok, Err, refl, ap, subst, ◌∙◌, arith}
+use Rattle.std.proofs.Common.{◌≡◌, ◌≤◌, ℕ, Bool, true, false, List, None, Result, Ok, Err, refl, ap, subst, ◌∙◌, arith}
 use Rattle.std.specs.Prelude.{Contains, if◌then◌else◌, slice_set}
-use Rattle.std.specs.Option.{option_map_or}
 use Rattle.ntfs_def.specs.FileName.{FileName}
 use Rattle.volume_def.specs.FileNames.{names_of}
 use Rattle.volume_def.specs.Files.{records_of}
 use Rattle.volume_def.specs.View.{VolumeView}
-use Rattle.tree_model.specs.Answers.{answer_of, node_answer}
 use Rattle.tree_model.specs.Effects.{opens_after}
 use Rattle.tree_model.specs.Facts.{TellsFacts, is_whole_table}
 use Rattle.tree_model.specs.Paths.{and_then, found_file, resolve}
@@ -14,15 +12,13 @@ use Rattle.tree_model.specs.Reading.{read}
 use Rattle.tree_model.specs.Refusals.{Facts, outcome}
 use Rattle.tree_model.specs.Staging.{cannot_edit}
 use Rattle.tree_model.specs.Step.{answered, due}
-use Rattle.tree_model.specs.Subjects.{Located, Machine, at_found, locate}
+use Rattle.tree_model.specs.Subjects.{Machine, at_found, locate}
 use Rattle.tree_model.specs.declared.command.Command.{Command}
 use Rattle.tree_model.specs.declared.command.Command.TheVariants as c
 use Rattle.tree_model.specs.declared.opens.OpenEntry.{OpenEntry}
-use Rattle.tree_model.specs.declared.reply.Answer.TheVariants as a
 use Rattle.tree_model.specs.declared.reply.No.{No}
 use Rattle.tree_model.specs.declared.reply.No.TheVariants as no
 use Rattle.tree_model.specs.declared.tree.Found.{Found}
-use Rattle.tree_model.specs.declared.tree.Node.{Node}
 use Rattle.tree_model.proofs.LookLaws.{find-never}
 use Rattle.in_place_owed.proofs.EmptyBill.{has-room}
 use Rattle.tree_edit.specs.Settable.{settable}
@@ -102,15 +98,6 @@ module _ (facts : Facts) (view : VolumeView) (opens : List OpenEntry) (now sessi
       by (Err why) e is = let same : why ≡ refused = cc in path-refused why e ∙ ap Err same
       by (Ok found) e is = by_edit found e _ refl is
 
-  -- it answers that it is done
-  pub answer-done : (at : Located) → answer_of facts m session command at ≡ a.Done
-  unfolding answer_of
-  answer-done at = by at.node
-    where
-      by : (o : Option Node) → option_map_or (node_answer m.tree command at.file) o a.Done ≡ a.Done
-      by None = refl
-      by (Some node) = refl
-
 -- IT IS THAT OF THE COMMAND
 pub setattr-by : (opens : List OpenEntry) (now session : ℕ) (path : List (List ℕ)) (flags : ℕ) (view : VolumeView)
     → IsEditBy view opens now session (c.Setattr path flags) (setattr_edit path flags now)
@@ -121,7 +108,6 @@ setattr-by opens now session path flags view = record {
   makes = refl;
   found = λ told facts tells file is. setattr-found facts view opens now session path flags tells file is;
   refused = λ told facts tells why is. setattr-refused facts view opens now session path flags tells why is;
-  answer = λ facts tells at. answer-done facts view opens now session path flags tells at;
   stages = λ told facts tells file is new does.
       let can = subst (λ f. CanSet view f does.can.can.node) does.file_is does.can.can.can in
       record {

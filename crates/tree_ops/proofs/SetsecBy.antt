@@ -3,13 +3,11 @@
 use Rattle.std.proofs.Common.{◌≡◌, ◌≤◌, ◌&&◌, ◌||◌, ℕ, Bool, true, false, List, [], ◌∷◌, not, Option, Some, None, Result, Ok, Err}
 use Rattle.std.proofs.Common.{refl, ap, subst, ◌∙◌, arith}
 use Rattle.std.specs.Prelude.{Contains, IsTrue, if◌then◌else◌, is_some, option_map, slice_set}
-use Rattle.std.specs.Option.{option_map_or}
 use Rattle.ntfs_def.specs.FileName.{FileName}
 use Rattle.volume_def.specs.FileNames.{names_of}
 use Rattle.volume_def.specs.Files.{records_of}
 use Rattle.volume_def.specs.Sound.{IsSound}
 use Rattle.volume_def.specs.View.{VolumeView}
-use Rattle.tree_model.specs.Answers.{answer_of, node_answer}
 use Rattle.tree_model.specs.Effects.{opens_after}
 use Rattle.tree_model.specs.Facts.{TellsDescriptor, TellsFacts, is_whole_table}
 use Rattle.tree_model.specs.Paths.{and_then, found_file, resolve}
@@ -21,13 +19,12 @@ use Rattle.tree_model.specs.Subjects.{Located, Machine, at_found, locate, subjec
 use Rattle.tree_model.specs.declared.command.Command.{Command}
 use Rattle.tree_model.specs.declared.command.Command.TheVariants as c
 use Rattle.tree_model.specs.declared.opens.OpenEntry.{OpenEntry}
-use Rattle.tree_model.specs.declared.reply.Answer.TheVariants as a
 use Rattle.tree_model.specs.declared.reply.No.{No}
 use Rattle.tree_model.specs.declared.reply.No.TheVariants as no
 use Rattle.tree_model.specs.declared.tree.Found.{Found}
-use Rattle.tree_model.specs.declared.tree.Node.{Node}
 use Rattle.tree_model.proofs.FactsLaws.{one_told}
 use Rattle.tree_model.proofs.HasFacts.{has_facts}
+use Rattle.list_laws.proofs.BoolLaws.{or-false}
 use Rattle.tree_model.proofs.LookLaws.{find-never}
 use Rattle.view_index.specs.Security.{TellsWhether}
 use Rattle.in_place_owed.proofs.EmptyBill.{has-room}
@@ -36,7 +33,7 @@ use Rattle.attribute_edits.specs.Attributes.{CanSet, SetsSecurity}
 use Rattle.tree_ops.specs.Edits.{setsec_edit}
 use Rattle.tree_ops.specs.Wanted.{machine_on}
 use Rattle.tree_ops.proofs.EditBy.{IsEditBy, LeadsToFile}
-use Rattle.tree_ops.proofs.WriteBy.{not-both, over-of, with_at}
+use Rattle.tree_ops.proofs.Judged.{can-of, not-both, with_at}
 
 -- WHETHER THE ID HAS A DESCRIPTOR, as what is told beside the tree says it, where the contents are told.
 pub record IsDescribed (v : VolumeView) (id : ℕ) (described : Bool) : Type 0 where
@@ -102,14 +99,14 @@ module _ (facts : Facts) (view : VolumeView) (opens : List OpenEntry) (now sessi
 
   room : (found : Found) → can found ≡ true → facts.no_room m command (at found) ≡ None
   room found is =
-      tells.no_room m command (at found) ∙ has-room view (read view) command (at found) refl refl (over-of (cannot found) (place found) is)
+      tells.no_room m command (at found) ∙ has-room view (read view) command (at found) refl refl (can-of (cannot found) (place found) is)
 
   -- the refusal that is due
   refusal-is : (found : Found) → refusal facts m session command (subject_of command) (at found)
       ≡ judge described None (not (can found)) (facts.no_room m command (at found))
   refusal-is found =
       let w = tells.whole_table in
-      let o = tells.built_for m command (at found) in
+      let o = tells.built_for m command (at found) ∙ or-false (place found) in
       let both : (cannot_edit facts.whole_table (read view) (found_file found) || not (facts.built_for m command (at found))) ≡ not
       (can found) =
       ap (λ b. cannot_edit b (read view) (found_file found) || not (facts.built_for m command (at found))) w
@@ -162,16 +159,6 @@ module _ (facts : Facts) (view : VolumeView) (opens : List OpenEntry) (now sessi
       by (Err why) e is = let same : why ≡ refused = cc in path-refused why e ∙ ap Err same
       by (Ok found) e is = outcome-is found e ∙ ap (with_at (at found)) is
 
--- it answers that it is done
-setsec-answer : (facts : Facts) (m : Machine) (session : ℕ) (path : List (List ℕ)) (id : ℕ) (at : Located)
-    → answer_of facts m session (c.Setsec path id) at ≡ a.Done
-unfolding answer_of
-setsec-answer facts m session path id at = by at.node
-  where
-    by : (o : Option Node) → option_map_or (node_answer m.tree (c.Setsec path id) at.file) o a.Done ≡ a.Done
-    by None = refl
-    by (Some node) = refl
-
 -- IT IS THAT OF THE COMMAND
 pub setsec-by : (opens : List OpenEntry) (now session : ℕ) (path : List (List ℕ)) (id : ℕ) (described : Bool) (view : VolumeView)
     → IsDescribed view id described
@@ -185,7 +172,6 @@ setsec-by opens now session path id described view is_so = record {
       setsec-found facts view opens now session path id described (is_so.facts_so told facts tells) tells file is;
   refused = λ told facts tells why is.
       setsec-refused facts view opens now session path id described (is_so.facts_so told facts tells) tells why is;
-  answer = λ facts tells at. setsec-answer facts (machine_on view opens now) session path id at;
   stages = λ told facts tells file is new does.
       let set = does.can.settable in
       record {

@@ -16,12 +16,12 @@ use Rattle.tree_model.specs.declared.reply.No.{No}
 use Rattle.tree_model.specs.declared.tree.Found.{Found}
 use Rattle.value_edits.specs.ValueEdits.{PutsStream}
 use Rattle.in_place_done.specs.Written.{EditsStream, Stages}
-use Rattle.tree_ops.specs.Edits.{EditsFound, EditsValueSo, can_edit_so}
+use Rattle.tree_ops.specs.Edits.{EditsFound, EditsSo, can_edit_so}
 use Rattle.tree_ops.specs.Wanted.{machine_on}
-use Rattle.tree_ops.specs.declared.edit_values.StreamEdit.{StreamEdit}
+use Rattle.tree_ops.specs.declared.streams.StreamEdit.{StreamEdit}
 use Rattle.tree_ops.proofs.EditBy.{LeadsToFile, StagesFile, state_with}
 use Rattle.tree_ops.proofs.StreamFound.{can-so, high-so, spelt-so, tellable-so, there-so}
-use Rattle.tree_ops.proofs.WriteBy.{with_at}
+use Rattle.tree_ops.proofs.Judged.{with_at}
 
 -- THE FILE was found, and its stream is that of this name.
 pub record FindsStream (facts : Facts) (view : VolumeView) (m : Machine) (session : ℕ) (command : Command) (name : List ℕ) (file : ℕ)
@@ -77,16 +77,16 @@ module _ (facts : Facts) (view : VolumeView) (opens : List OpenEntry) (now sessi
 module _ (what : StreamEdit) (view new : VolumeView) (file : ℕ) (asked : List ℕ) (now : ℕ)
     (p : EditsFound what view new file asked now) where
   abbrev can_so : ℕ → Bool
-  can_so f = can_edit_so what view asked f
+  can_so f = can_edit_so what view asked p.found.way f
 
   -- the times are the file's, but those of the edit, and so are the flags
-  pub edited-so : EditsValueSo what view new file p.can.stream.is.part.name p.can.stream.bytes (touched now p.can.settable.can.node).times
+  pub edited-so : EditsSo what p.found.way view new file p.can.stream.is.part.name p.can.stream.bytes (touched now p.can.settable.can.node).times
       p.can.settable.can.node.flags
   edited-so =
-      subst (λ flags. EditsValueSo what view new file p.can.stream.is.part.name p.can.stream.bytes
+      subst (λ flags. EditsSo what p.found.way view new file p.can.stream.is.part.name p.can.stream.bytes
       (touched now p.can.settable.can.node).times flags)
       p.can.flags
-      (subst (λ times. EditsValueSo what view new file p.can.stream.is.part.name p.can.stream.bytes
+      (subst (λ times. EditsSo what p.found.way view new file p.can.stream.is.part.name p.can.stream.bytes
       (slice_set (slice_set times 1 now) 2 now) p.found.flags) p.can.settable.times p.edits)
 
   pub edited-file : (opens : List OpenEntry) (command : Command) (at : Located)

@@ -1,39 +1,78 @@
 -- AN EDIT OF A STREAM is what the call does that makes it, with the stream that was found.
-use Rattle.std.proofs.Common.{◌≡◌, ℕ, List, Some, None, sym, subst}
+use Rattle.std.proofs.Common.{◌≡◌, ◌+◌, not, ℕ, List, Some, None, length, true, sym, subst}
+use Rattle.std.proofs.lemmas.Bool.{and_parts}
 use Rattle.std.specs.Prelude.{IsTrue}
 use Rattle.volume_def.specs.View.{VolumeView}
-use Rattle.tree_model.specs.Streams.{resized}
-use Rattle.stream_overwrites.specs.Overwritten.{PunchesValue}
+use Rattle.tree_model.specs.Streams.{resized, written}
+use Rattle.stream_overwrites.specs.Overwritten.{PunchesValue, WritesOver}
 use Rattle.value_edits.specs.ValueEdits.{PutsStream}
-use Rattle.tree_read.specs.Nodes.{number_of}
-use Rattle.tree_edit.specs.Cut.{CanCut}
+use Rattle.tree_read.specs.Nodes.{IsCaseOf, number_of}
+use Rattle.tree_edit.specs.Change.{CanChange, has_room_for}
+use Rattle.tree_edit.specs.Over.{CanWriteOver}
 use Rattle.tree_edit.specs.Punchable.{CanPunch}
+use Rattle.tree_edit.specs.Alone.{IsResizable, can_resize}
+use Rattle.tree_edit.specs.Writable.{IsFoundToEdit, can_write_over}
+use Rattle.tree_edit.specs.Write.{IsWritable, can_write}
+use Rattle.tree_edit.specs.declared.writable.Way.{Way}
+use Rattle.tree_edit.specs.declared.writable.Way.TheVariants as way
 use Rattle.tree_edit.specs.declared.writable.Writable.{Writable}
-use Rattle.tree_edit.proofs.CutLaws.{cuttable-can, droppable-can}
+use Rattle.tree_edit.proofs.ChangeLaws.{droppable-can, resizable-can}
+use Rattle.tree_edit.proofs.OverLaws.{found-over}
 use Rattle.tree_edit.proofs.PunchLaws.{punchable-can}
-use Rattle.tree_ops.specs.Edits.{EditsValueSo, IsEditable}
-use Rattle.tree_ops.specs.declared.edit_values.StreamEdit.{StreamEdit}
-use Rattle.tree_ops.specs.declared.edit_values.StreamEdit.TheVariants as s
+use Rattle.tree_edit.proofs.ResizableRoom.{resizable-room}
+use Rattle.tree_ops.specs.Edits.{EditsSo, IsFoundFor, WritesSo}
+use Rattle.tree_ops.specs.declared.streams.StreamEdit.{StreamEdit}
+use Rattle.tree_ops.specs.declared.streams.StreamEdit.TheVariants as s
+
+-- A STREAM THAT IS FOUND FOR A WRITE, by the way that it is written
+module _ (v : VolumeView) (found : Writable) (name : List ℕ) (from len : ℕ) (w : IsWritable v found name from len) where
+  abbrev f : ℕ
+  f = number_of found.held
+
+  so-way : (by : Way) → found.way ≡ by → can_write v name from len by f ≡ true
+  so-way by so = subst (λ (x : Way). can_write v name from len x f ≡ true) so w.over
+
+  over-found : found.way ≡ way.InPlace → IsFoundToEdit v found name (λ file. can_write_over v name from len file)
+  over-found so = record {
+    settable = w.settable;
+    held = w.held;
+    stream = w.stream;
+    there = w.there;
+    flags = w.flags;
+    over = so-way way.InPlace so;
+    tellable = w.tellable;
+  }
+
+  value-found : found.way ≡ way.InRecord → IsResizable v found name (from + len)
+  value-found so = record {
+    settable = w.settable;
+    held = w.held;
+    stream = w.stream;
+    there = w.there;
+    flags = w.flags;
+    over = (and_parts (not (can_write_over v name from len f)) (can_resize v name (from + len) f) (so-way way.InRecord so)).1;
+    tellable = w.tellable;
+  }
 
 module _ (v new : VolumeView) (found : Writable) (number : ℕ) (is : number ≡ number_of found.held) where
   -- where it is told, the stream of some name can be edited so
   abbrev pub CanEditSo : StreamEdit → Type 0
-  CanEditSo what = IsTrue v.told → (name : List ℕ) × IsEditable what v found name
+  CanEditSo what = IsTrue v.told → (name : List ℕ) × IsFoundFor what v found name
 
   pub punch-can : (from len : ℕ) → CanEditSo (s.Punch from len) → IsTrue v.told → CanPunch v found.stream number
   punch-can from len can told = let w = can told in subst (λ k. CanPunch v found.stream k) (sym is) (punchable-can v found w.0 w.1)
 
-  pub cut-can : (size : ℕ) → CanEditSo (s.Cut size) → IsTrue v.told → CanCut v found.stream number
-  cut-can size can told = let w = can told in subst (λ k. CanCut v found.stream k) (sym is) (cuttable-can v found w.0 size w.1)
+  pub resize-can : (size : ℕ) → CanEditSo (s.Resize size) → IsTrue v.told → CanChange v found.stream number
+  resize-can size can told = let w = can told in subst (λ k. CanChange v found.stream k) (sym is) (resizable-can v found w.0 size w.1)
 
-  pub remove-can : CanEditSo s.Remove → IsTrue v.told → CanCut v found.stream number
-  remove-can can told = let w = can told in subst (λ k. CanCut v found.stream k) (sym is) (droppable-can v found w.0 w.1)
+  pub remove-can : CanEditSo s.Remove → IsTrue v.told → CanChange v found.stream number
+  remove-can can told = let w = can told in subst (λ k. CanChange v found.stream k) (sym is) (droppable-can v found w.0 w.1)
 
   module _ (times : List ℕ) where
     -- .. and was
     abbrev pub WasEditedSo : StreamEdit → Type 0
-    WasEditedSo what = IsTrue v.told → (name : List ℕ) → (can : IsEditable what v found name)
-        → EditsValueSo what v new (number_of found.held) can.stream.is.part.name can.stream.bytes times found.flags
+    WasEditedSo what = IsTrue v.told → (name : List ℕ) → (can : IsFoundFor what v found name)
+        → EditsSo what found.way v new (number_of found.held) can.stream.is.part.name can.stream.bytes times found.flags
 
     pub punch-edits : (from len : ℕ) → (IsTrue v.told → (can : CanPunch v found.stream number)
         → PunchesValue v new number can.name from len times found.flags) → WasEditedSo (s.Punch from len)
@@ -42,17 +81,61 @@ module _ (v new : VolumeView) (found : Writable) (number : ℕ) (is : number ≡
         subst (λ k. (can : CanPunch v found.stream k) → PunchesValue v new k can.name from len times found.flags) is (does told)
         (punchable-can v found name can)
 
-    pub cut-edits : (size : ℕ) → (IsTrue v.told → (can : CanCut v found.stream number)
-        → PutsStream v new number can.value.name (Some (resized size can.value.held)) times found.flags) → WasEditedSo (s.Cut size)
-    unfolding punchable-can droppable-can cuttable-can
-    cut-edits size does told name can =
-        subst (λ k. (can : CanCut v found.stream k)
+    pub resize-edits : (size : ℕ) → (IsTrue v.told → (can : CanChange v found.stream number)
+        → has_room_for v number found.stream.size size ≡ true
+        → PutsStream v new number can.value.name (Some (resized size can.value.held)) times found.flags) → WasEditedSo (s.Resize size)
+    unfolding punchable-can droppable-can resizable-can
+    resize-edits size does told name can =
+        subst (λ k. (can : CanChange v found.stream k) → has_room_for v k found.stream.size size ≡ true
         → PutsStream v new k can.value.name (Some (resized size can.value.held)) times found.flags) is (does told)
-        (cuttable-can v found name size can)
+        (resizable-can v found name size can) (resizable-room v found name size can)
 
-    pub remove-edits : (IsTrue v.told → (can : CanCut v found.stream number)
+    pub remove-edits : (IsTrue v.told → (can : CanChange v found.stream number)
         → PutsStream v new number can.value.name None times found.flags) → WasEditedSo s.Remove
     unfolding punchable-can droppable-can
     remove-edits does told name can =
-        subst (λ k. (can : CanCut v found.stream k) → PutsStream v new k can.value.name None times found.flags) is (does told)
+        subst (λ k. (can : CanChange v found.stream k) → PutsStream v new k can.value.name None times found.flags) is (does told)
         (droppable-can v found name can)
+
+  -- A WRITE, over bytes in place, or into a value
+  module _ (from : ℕ) (bytes : List ℕ) where
+    abbrev pub CanWrite : Type 0
+    CanWrite = IsTrue v.told → (name : List ℕ) × IsWritable v found name from (length bytes)
+
+    pub over-can : (case : List ℕ) → IsCaseOf v case → found.way ≡ way.InPlace → (name : List ℕ)
+        → IsWritable v found name from (length bytes) → CanWriteOver v case found.held.parts found.stream number from (length bytes)
+    over-can case of_volume so name w =
+        subst (λ k. CanWriteOver v case found.held.parts found.stream k from (length bytes)) (sym is)
+        (found-over v found name case from (length bytes) (over-found v found name from (length bytes) w so) of_volume)
+
+    pub value-can : found.way ≡ way.InRecord → CanWrite → IsTrue v.told → CanChange v found.stream number
+    value-can so can told =
+        let w = can told in
+        subst (λ k. CanChange v found.stream k) (sym is)
+        (resizable-can v found w.0 (from + length bytes) (value-found v found w.0 from (length bytes) w.1 so))
+
+    module _ (times : List ℕ) where
+      abbrev pub WasWritten : Type 0
+      WasWritten = IsTrue v.told → (name : List ℕ) → (can : IsWritable v found name from (length bytes))
+          → WritesSo found.way from bytes v new (number_of found.held) can.stream.is.part.name can.stream.bytes times found.flags
+
+      pub over-writes : (case : List ℕ) → (IsTrue v.told → IsCaseOf v case) → found.way ≡ way.InPlace
+          → (IsTrue v.told → (can : CanWriteOver v case found.held.parts found.stream number from (length bytes))
+          → WritesOver v new number can.is.part.name from bytes times found.flags) → WasWritten
+      unfolding over-found
+      over-writes case of_volume so does told name can =
+          subst (λ w. WritesSo w from bytes v new (number_of found.held) can.stream.is.part.name can.stream.bytes times found.flags) (sym so)
+          (subst (λ k. (can : CanWriteOver v case found.held.parts found.stream k from (length bytes))
+          → WritesOver v new k can.is.part.name from bytes times found.flags) is (does told)
+          (found-over v found name case from (length bytes) (over-found v found name from (length bytes) can so) (of_volume told)))
+
+      pub value-writes : found.way ≡ way.InRecord → (IsTrue v.told → (can : CanChange v found.stream number)
+          → has_room_for v number found.stream.size (from + length bytes) ≡ true
+          → PutsStream v new number can.value.name (Some (written from bytes can.value.held)) times found.flags) → WasWritten
+      unfolding punchable-can droppable-can resizable-can value-found
+      value-writes so does told name can =
+          let value = value-found v found name from (length bytes) can so in
+          subst (λ w. WritesSo w from bytes v new (number_of found.held) can.stream.is.part.name can.stream.bytes times found.flags) (sym so)
+          (subst (λ k. (can : CanChange v found.stream k) → has_room_for v k found.stream.size (from + length bytes) ≡ true
+          → PutsStream v new k can.value.name (Some (written from bytes can.value.held)) times found.flags) is (does told)
+          (resizable-can v found name (from + length bytes) value) (resizable-room v found name (from + length bytes) value))

@@ -1,114 +1,70 @@
--- WHAT IS DUE FOR `write`: where its bytes go over bytes of a stream that its path leads to it is done, and else refused so.
-use Rattle.std.proofs.Common.{◌≡◌, ◌≤◌, ◌==◌, ◌&&◌, ◌||◌, ℕ, Bool, true, false, List, [], ◌∷◌, not, length, Option, Some, None, Result, Ok, Err}
-use Rattle.std.proofs.Common.{refl, ap, subst, ◌∙◌, arith}
-use Rattle.std.specs.Prelude.{Contains, if◌then◌else◌, is_some, slice_set}
-use Rattle.std.specs.Option.{option_map_or}
-use Rattle.ntfs_def.specs.FileName.{FileName}
-use Rattle.volume_def.specs.FileNames.{names_of}
-use Rattle.volume_def.specs.Files.{records_of}
+-- WHAT IS DUE FOR `write`: where its bytes go over bytes of the stream that its path leads to, or that is a value which can be as long as they
+-- need, it is done, unless there is no room for what it asks, and else refused so.
+use Rattle.std.proofs.Common.{◌≡◌, ◌==◌, ◌&&◌, ◌||◌, ◌+◌, ℕ, Bool, true, false, List, not, length, Option, Some, None, Ok, Err}
+use Rattle.std.proofs.Common.{refl, sym, ap, subst, ◌∙◌, arith, if◌then◌else◌}
+use Rattle.std.specs.Borrow.{Bor}
+use Rattle.std.specs.Prelude.{is_some}
+use Rattle.std.proofs.lemmas.Bool.{and_parts}
+use Rattle.volume_def.specs.Table.{cluster_bytes}
+use Rattle.volume_def.specs.Files.{Part}
 use Rattle.volume_def.specs.View.{VolumeView}
-use Rattle.tree_model.specs.Answers.{answer_of, node_answer}
-use Rattle.tree_model.specs.Cases.{is_bad_stream_name, is_packed, is_wide, shared}
+use Rattle.tree_model.specs.Answers.{bytes_at}
+use Rattle.tree_model.specs.Cases.{is_bad_stream_name, is_wide, shared}
 use Rattle.tree_model.specs.Effects.{opens_after, touched}
 use Rattle.tree_model.specs.Facts.{TellsFacts, is_whole_table}
 use Rattle.tree_model.specs.Paths.{and_then, found_file, resolve}
 use Rattle.tree_model.specs.Reading.{read}
-use Rattle.tree_model.specs.Refusals.{Facts, first_some, outcome, refusal, unless, when}
-use Rattle.tree_model.specs.Staging.{cannot_edit, is_built_for}
-use Rattle.tree_model.specs.Step.{answered, due}
-use Rattle.tree_model.specs.Subjects.{Located, Machine, at_found, is_directory, locate, stream_name, subject_of, with_stream}
+use Rattle.tree_model.specs.Refusals.{Facts, outcome, refusal, unless}
+use Rattle.tree_model.specs.Staging.{cannot_edit, fits_in_record, gets_no_longer, has_no_list}
+use Rattle.tree_model.specs.Step.{due}
+use Rattle.tree_model.specs.StreamRoom.{goes_over, stream_parts, stream_value}
+use Rattle.tree_model.specs.Streams.{written}
+use Rattle.tree_model.specs.Subjects.{Located, Machine, at_found, content_named, is_directory, locate, stream_name, subject_of, with_stream}
 use Rattle.tree_model.specs.Tree.{node_of}
 use Rattle.tree_model.specs.declared.command.Command.{Command}
 use Rattle.tree_model.specs.declared.command.Command.TheVariants as c
 use Rattle.tree_model.specs.declared.opens.OpenEntry.{OpenEntry}
-use Rattle.tree_model.specs.declared.reply.Answer.TheVariants as a
 use Rattle.tree_model.specs.declared.reply.No.{No}
-use Rattle.tree_model.specs.declared.reply.No.TheVariants as no
-use Rattle.tree_model.specs.declared.tree.Content.{Content}
-use Rattle.tree_model.specs.declared.tree.Content.TheVariants.{Packed, Plain}
 use Rattle.tree_model.specs.declared.tree.Found.{Found}
-use Rattle.tree_model.specs.declared.tree.Node.{Node}
-use Rattle.attribute_edits.specs.Attributes.{CanSet}
-use Rattle.stream_overwrites.specs.Overwritten.{WritesOver}
+use Rattle.value_edits.specs.ValueEdits.{PutsStream}
 use Rattle.in_place_owed.proofs.EmptyBill.{has-room}
-use Rattle.in_place_done.specs.Written.{WritesStream}
-use Rattle.tree_edit.specs.Writable.{can_write_over, content_to_write, write_in, write_wanted}
-use Rattle.tree_ops.specs.Edits.{WritesFound, write_edit}
+use Rattle.in_place_done.specs.Written.{PutsInStream}
+use Rattle.value_owed.proofs.ValueCommands.{value-room}
+use Rattle.tree_edit.specs.Alone.{can_resize}
+use Rattle.tree_edit.specs.Write.{can_write, room_to_write, write_in, write_wanted}
+use Rattle.tree_edit.specs.Writable.{can_write_over, named_in}
+use Rattle.tree_edit.specs.declared.writable.Way.{Way}
+use Rattle.tree_edit.specs.declared.writable.Way.TheVariants as way
+use Rattle.tree_read.specs.Nodes.{number_of}
+use Rattle.tree_ops.specs.Edits.{EditsFound, WritesSo, can_edit_so, stream_edit}
 use Rattle.tree_ops.specs.Wanted.{machine_on}
-use Rattle.tree_ops.proofs.EditBy.{IsEditBy, LeadsToFile, state_with}
-use Rattle.tree_ops.proofs.StreamFound.{can-so, high-so, spelt-so, tellable-so, there-so}
+use Rattle.tree_ops.specs.declared.streams.StreamEdit.TheVariants as s
+use Rattle.tree_ops.proofs.EditBy.{IsEditBy, state_with}
+use Rattle.tree_ops.proofs.Judged.{can-of, if_asked, judge, judged, last-written, same-file, with_at, written-file}
+use Rattle.tree_ops.proofs.RoomAsked.{file-counted, parts-at, value-there}
+use Rattle.tree_ops.proofs.StreamBy.{FindsStream, edited-file, edited-so, edited-stream, stream-found, stream-refused, stream_of_found}
+use Rattle.tree_ops.proofs.StreamFound.{bytes-so, spelt-so, tellable-so, there-so}
 
--- THE REFUSALS of a write in their order, and what is wanted, by what each case asks
-abbrev pub judge : Option Content → Bool → Bool → Bool → Option No → Bool → Option No → Option No
-judge content bad dir wide apart unbuilt room = first_some (
-    when (not (is_some content) && bad) no.BadName ∷
-    when dir no.IsDir ∷
-    when (option_map_or is_packed content false) no.Packed ∷
-    when wide no.TooBig ∷
-    apart ∷
-    when unbuilt no.Unbuilt ∷
-    room ∷ [])
+-- It is not built unless it is done in one of both ways.
+pub parted : (cannot over value alone fits : Bool)
+    → (cannot || not (over || (not over && ((value && alone) && fits))))
+    ≡ not ((not cannot && over) || (((not cannot && value) && alone) && fits))
+parted true over value alone fits = refl
+parted false true value alone fits = refl
+parted false false value alone fits = refl
 
-abbrev found_content : Option Content → Bool → Bool → Result (Option (List ℕ)) No
-found_content content bad dir =
-    if not (is_some content) && bad then Err no.BadName else if dir then Err no.IsDir else content_to_write content
+pub record-so : (cannot over value alone fits : Bool) → (not cannot && over) ≡ false → (((not cannot && value) && alone) && fits) ≡ true
+    → (not over && ((value && alone) && fits)) ≡ true
+record-so true over value alone fits other is = cc
+record-so false true value alone fits other is = cc
+record-so false false value alone fits other is = is
 
-abbrev ranged : Bool → Option No → Bool → ℕ → Result ℕ No
-ranged wide apart can file =
-    if wide then Err no.TooBig else option_map_or Err apart (if can then Ok file else Err no.Unbuilt)
-
-abbrev pub wanted_by : Option Content → Bool → Bool → Bool → Option No → Bool → ℕ → Result ℕ No
-wanted_by content bad dir wide apart can file = and_then (found_content content bad dir) (λ bytes. ranged wide apart can file)
-
--- what the words lead to, where a file is wanted
-abbrev pub with_at : Located → Result ℕ No → Result Located No
-with_at at (Ok file) = Ok at
-with_at at (Err why) = Err why
-
-pub judged : (at : Located) (file : ℕ) (content : Option Content) (bad dir wide : Bool) (apart : Option No) (can : Bool) (room : Option No)
-    → (can ≡ true → room ≡ None)
-    → unless (judge content bad dir wide apart (not can) room) at ≡ with_at at (wanted_by content bad dir wide apart can file)
-judged at file None true dir wide apart can room has = refl
-judged at file None false true wide apart can room has = refl
-judged at file None false false true apart can room has = refl
-judged at file None false false false (Some w) can room has = refl
-judged at file None false false false None false room has = refl
-judged at file None false false false None true room has =
-    ap (λ o. unless (judge None false false false None false o) at) (has refl)
-judged at file (Some (Packed size)) bad true wide apart can room has = refl
-judged at file (Some (Packed size)) bad false wide apart can room has = refl
-judged at file (Some (Plain bytes)) bad true wide apart can room has = refl
-judged at file (Some (Plain bytes)) bad false true apart can room has = refl
-judged at file (Some (Plain bytes)) bad false false (Some w) can room has = refl
-judged at file (Some (Plain bytes)) bad false false None false room has = refl
-judged at file (Some (Plain bytes)) bad false false None true room has =
-    ap (λ o. unless (judge (Some (Plain bytes)) bad false false None false o) at) (has refl)
-
--- it is this file that is wanted, or none
-pub same-file : (content : Option Content) (bad dir wide : Bool) (apart : Option No) (can : Bool) (file other : ℕ)
-    → wanted_by content bad dir wide apart can file ≡ Ok other → file ≡ other
-same-file None true dir wide apart can file other e = cc
-same-file None false true wide apart can file other e = cc
-same-file None false false true apart can file other e = cc
-same-file None false false false (Some w) can file other e = cc
-same-file None false false false None false file other e = cc
-same-file None false false false None true file other e = cc
-same-file (Some (Packed size)) bad true wide apart can file other e = cc
-same-file (Some (Packed size)) bad false wide apart can file other e = cc
-same-file (Some (Plain bytes)) bad true wide apart can file other e = cc
-same-file (Some (Plain bytes)) bad false true apart can file other e = cc
-same-file (Some (Plain bytes)) bad false false (Some w) can file other e = cc
-same-file (Some (Plain bytes)) bad false false None false file other e = cc
-same-file (Some (Plain bytes)) bad false false None true file other e = cc
-
-pub not-both : (cannot over : Bool) → (cannot || not over) ≡ not (not cannot && over)
-not-both true over = refl
-not-both false true = refl
-not-both false false = refl
-
-pub over-of : (cannot over : Bool) → (not cannot && over) ≡ true → over ≡ true
-over-of true over e = cc
-over-of false over e = e
+-- what can be edited, and is not gone over, has other bytes there
+none-over : (cannot over value alone fits : Bool) → (not (not cannot && over) && (((not cannot && value) && alone) && fits)) ≡ true
+    → over ≡ false
+none-over true over value alone fits e = cc
+none-over false true value alone fits e = cc
+none-over false false value alone fits e = refl
 
 module _ (facts : Facts) (view : VolumeView) (opens : List OpenEntry) (now session : ℕ) (path : List (List ℕ)) (stream : Option (List ℕ))
     (from : ℕ) (bytes : List ℕ) (tells : TellsFacts view facts) where
@@ -125,33 +81,64 @@ module _ (facts : Facts) (view : VolumeView) (opens : List OpenEntry) (now sessi
   len = length bytes
 
   abbrev at : Found → Located
-  at found = with_stream (read view) name (at_found (read view) found)
+  at found = stream_of_found view name found
 
   abbrev cannot : Found → Bool
   cannot found = cannot_edit (is_whole_table view) (read view) (found_file found)
 
+  abbrev dir : Found → Bool
+  dir found = (length name == 0) && is_directory (at found).node
+
+  -- whether the bytes go over bytes; or else it is a value, of a file without a list, and can be as long
+  abbrev goes : Found → Bool
+  goes found = goes_over (cluster_bytes view.layout) (stream_parts view (read view) (at found)) from len
+
+  abbrev value : Found → Bool
+  value found = is_some (stream_value (stream_parts view (read view) (at found)))
+
+  abbrev alone : Found → Bool
+  alone found = has_no_list view (found_file found)
+
+  abbrev fits : Found → Bool
+  fits found =
+      gets_no_longer (from + len) (at found).content
+      || fits_in_record view (found_file found) (stream_parts view (read view) (at found)) (from + len)
+
   abbrev over : Found → Bool
-  over found = is_built_for view (read view) command (at found)
+  over found = can_write_over view name from len (found_file found)
 
   abbrev can : Found → Bool
-  can found = not (cannot found) && over found
+  can found = can_resize view name (from + len) (found_file found)
 
-  room : (found : Found) → can found ≡ true → facts.no_room m command (at found) ≡ None
-  room found is =
-      tells.no_room m command (at found) ∙ has-room view (read view) command (at found) refl refl (over-of (cannot found) (over found) is)
+  abbrev asked : Found → Option No
+  asked found = room_to_write view name from len (found_file found)
+
+  no-room : (found : Found) → over found ≡ true → facts.no_room m command (at found) ≡ None
+  no-room found is =
+      tells.no_room m command (at found) ∙ has-room view (read view) command (at found) refl refl (can-of (cannot found) (goes found) is)
+
+  room : (found : Found) → over found ≡ false → can found ≡ true → facts.no_room m command (at found) ≡ asked found
+  room found other is =
+      let built = record-so (cannot found) (goes found) (value found) (alone found) (fits found) other is in
+      let stays = (and_parts (not (goes found)) ((value found && alone found) && fits found) built).1 in
+      let both = (and_parts (value found && alone found) (fits found) stays).0 in
+      let there = value-there view (read view) (at found) (and_parts (value found) (alone found) both).0 in
+      tells.no_room m command (at found)
+      ∙ value-room view (read view) command (at found) refl refl (file-counted view (read view) (at found) refl there) there built
 
   -- the refusal that is due
   refusal-is : (found : Found) → refusal facts m session command (subject_of command) (at found)
-      ≡ judge (at found).content (is_bad_stream_name name) ((length name == 0) && is_directory (at found).node) (is_wide from len)
-      (shared m command (at found)) (not (can found)) (facts.no_room m command (at found))
+      ≡ judge (at found).content (is_bad_stream_name name) (dir found) (is_wide from len) (shared m command (at found))
+      (not (over found || can found)) (facts.no_room m command (at found))
   refusal-is found =
       let w = tells.whole_table in
       let o = tells.built_for m command (at found) in
-      let both : (cannot_edit facts.whole_table (read view) (found_file found) || not (facts.built_for m command (at found))) ≡ not (can found) =
+      let both : (cannot_edit facts.whole_table (read view) (found_file found) || not (facts.built_for m command (at found)))
+      ≡ not (over found || can found) =
       ap (λ b. cannot_edit b (read view) (found_file found) || not (facts.built_for m command (at found))) w
-      ∙ ap (λ b. cannot found || not b) o ∙ not-both (cannot found) (over found) in
-      ap (λ b. judge (at found).content (is_bad_stream_name name) ((length name == 0) && is_directory (at found).node) (is_wide from len)
-      (shared m command (at found)) b (facts.no_room m command (at found))) both
+      ∙ ap (λ b. cannot found || not b) o ∙ parted (cannot found) (goes found) (value found) (alone found) (fits found) in
+      ap (λ b. judge (at found).content (is_bad_stream_name name) (dir found) (is_wide from len) (shared m command (at found)) b
+      (facts.no_room m command (at found))) both
 
   outcome-is : (found : Found) → resolve (read view) path ≡ Ok found
       → outcome facts m session command ≡ with_at (at found) (write_in view opens name from len (found_file found))
@@ -160,108 +147,113 @@ module _ (facts : Facts) (view : VolumeView) (opens : List OpenEntry) (now sessi
       ap (λ r. and_then (and_then (and_then r (λ f. Ok (at_found (read view) f))) (λ x. Ok (with_stream (read view) name x)))
       (λ x. unless (refusal facts m session command (subject_of command) x) x)) e
       ∙ ap (λ o. unless o (at found)) (refusal-is found)
-      ∙ judged (at found) (found_file found) (at found).content (is_bad_stream_name name)
-      ((length name == 0) && is_directory (at found).node) (is_wide from len) (shared m command (at found)) (can found)
-      (facts.no_room m command (at found)) (room found)
+      ∙ judged (at found) (at found).content (is_bad_stream_name name) (dir found) (is_wide from len) (shared m command (at found))
+      (not (over found || can found)) (facts.no_room m command (at found))
+      (if over found then Ok (found_file found) else if_asked (can found) (asked found) (found_file found))
+      (last-written (at found) (found_file found) (over found) (can found) (facts.no_room m command (at found)) (asked found) (no-room found)
+      (room found))
 
   path-refused : (why : No) → resolve (read view) path ≡ Err why → outcome facts m session command ≡ Err why
   unfolding outcome locate
   path-refused why e = rw e refl
 
-  -- THE FILE was found, and its stream is that of this name
-  pub record FindsStream (file : ℕ) : Type 0 where
-    pub leads : LeadsToFile facts m session command file
-    pub stream_is : leads.at.stream ≡ name
-    pub node_is : leads.at.node ≡ node_of (read view) file
+  same : (found : Found) (file : ℕ) → write_in view opens name from len (found_file found) ≡ Ok file → found_file found ≡ file
+  same found file is =
+      same-file (at found).content (is_bad_stream_name name) (dir found) (is_wide from len) (shared m command (at found))
+      (if over found then Ok (found_file found) else if_asked (can found) (asked found) (found_file found)) (found_file found) file
+      (written-file (over found) (can found) (asked found) (found_file found) file) is
 
-  ok-file : (found : Found) (file : ℕ) → write_in view opens name from len (found_file found) ≡ Ok file → found_file found ≡ file
-  ok-file found file is =
-      same-file (at found).content (is_bad_stream_name name) ((length name == 0) && is_directory (at found).node) (is_wide from len)
-      (shared m command (at found)) (can found) (found_file found) file is
-
-  pub write-found : (file : ℕ) → write_wanted view opens path name from len ≡ Ok file → FindsStream file
-  write-found file is = by (resolve (read view) path) refl is
-    where
-      by : (r : Result Found No) → resolve (read view) path ≡ r
-          → and_then r (λ found. write_in view opens name from len (found_file found)) ≡ Ok file → FindsStream file
-      by (Err why) e is = cc
-      by (Ok found) e is = record {
-        leads = record {
-          at = at found;
-          is = outcome-is found e ∙ ap (with_at (at found)) is;
-          file_is = ok-file found file is;
-        };
-        stream_is = refl;
-        node_is = ap (node_of (read view)) (ok-file found file is);
-      }
+  pub write-found : (file : ℕ) → write_wanted view opens path name from len ≡ Ok file → FindsStream facts view m session command name file
+  write-found file is =
+      stream-found facts view opens now session command path name (λ file. write_in view opens name from len file) same outcome-is
+      path-refused file is
 
   pub write-refused : (refused : No) → write_wanted view opens path name from len ≡ Err refused
       → due facts m session command ≡ Err refused
-  unfolding due
-  write-refused refused is = ap (answered facts m session command) (by (resolve (read view) path) refl is)
-    where
-      by : (r : Result Found No) → resolve (read view) path ≡ r
-          → and_then r (λ found. write_in view opens name from len (found_file found)) ≡ Err refused
-          → outcome facts m session command ≡ Err refused
-      by (Err why) e is = let same : why ≡ refused = cc in path-refused why e ∙ ap Err same
-      by (Ok found) e is = outcome-is found e ∙ ap (with_at (at found)) is
+  write-refused refused is =
+      stream-refused facts view opens now session command path name (λ file. write_in view opens name from len file) same outcome-is
+      path-refused refused is
 
-  -- it answers that it is done
-  pub write-answer : (at : Located) → answer_of facts m session command at ≡ a.Done
-  unfolding answer_of
-  write-answer at = by at.node
-    where
-      by : (o : Option Node) → option_map_or (node_answer m.tree command at.file) o a.Done ≡ a.Done
-      by None = refl
-      by (Some node) = refl
+-- WHAT WAS WRITTEN is what a write of these bytes stages, by the stream that was found: over bytes in place, or into the value.
+module _ (view new : VolumeView) (file : ℕ) (asked : List ℕ) (from : ℕ) (bytes : Bor (List ℕ)) (now : ℕ)
+    (p : EditsFound (s.Write from bytes) view new file asked now) (at : Located) (at_file : at.file ≡ file) (at_stream : at.stream ≡ asked)
+    (at_node : at.node ≡ node_of (read view) file) (at_content : at.content ≡ content_named (read view) asked (node_of (read view) file))
+  where
+    abbrev can_so : ℕ → Bool
+    can_so f = can_edit_so (s.Write from bytes) view asked p.found.way f
 
--- WHAT WAS WRITTEN is what the command stages, by the stream that was found.
-pub writes-stream : (view new : VolumeView) (file : ℕ) (name : List ℕ) (from : ℕ) (bytes : List ℕ) (now : ℕ) (at : Located)
-    (opens : List OpenEntry) (image : List ℕ) (written : ℕ) → at.stream ≡ name → at.node ≡ node_of (read view) file
-    → (w : WritesFound view new file name from bytes now)
-    → WritesStream (state_with image view opens now written) at file w.can.settable.can.node from bytes new
-writes-stream view new file asked from bytes now located opens image written stream node w = record {
-  name = w.can.stream.is.part.name;
-  spelt_so = spelt-so view w.found asked (λ f. can_write_over view asked from (length bytes) f) w.can file w.file_is located stream node;
-  there = there-so view w.found asked (λ f. can_write_over view asked from (length bytes) f) w.can file w.file_is;
-  tellable = tellable-so view w.found asked (λ f. can_write_over view asked from (length bytes) f) w.can file w.file_is;
-  writes =
-      subst (λ flags. WritesOver view new file w.can.stream.is.part.name from bytes (touched now w.can.settable.can.node).times flags) w.can.flags
-      (subst (λ times. WritesOver view new file w.can.stream.is.part.name from bytes (slice_set (slice_set times 1 now) 2 now) w.found.flags)
-      w.can.settable.times w.writes);
-}
+    abbrev parts : List Part
+    parts = stream_parts view (read view) at
 
-pub found-staged : (view : VolumeView) (file : ℕ) (new : VolumeView) (name : List ℕ) (from : ℕ) (bytes : List ℕ) (now : ℕ)
-    → (w : WritesFound view new file name from bytes now)
-    → CanSet view file w.can.settable.can.node
-    × ((name : FileName) → Contains (names_of (records_of view) file) name → 4 ≤ name.parent.number)
-found-staged view file new asked from bytes now w = (
-  can-so view w.found asked (λ f. can_write_over view asked from (length bytes) f) w.can file w.file_is,
-  high-so view w.found asked (λ f. can_write_over view asked from (length bytes) f) w.can file w.file_is,
-)
+    abbrev over_by : List Part → Bool
+    over_by ps = goes_over (cluster_bytes view.layout) ps from (length bytes.now)
+
+    abbrev number : ℕ
+    number = number_of p.found.held
+
+    abbrev cannot_so : Bool
+    cannot_so = cannot_edit (is_whole_table view) (read view) number
+
+    abbrev there : List Part
+    there = stream_parts view (read view) (named_in (read view) asked number)
+
+    parts-same : parts ≡ there
+    parts-same = parts-at view asked number at (at_file ∙ sym p.file_is) at_stream (at_node ∙ ap (node_of (read view)) (sym p.file_is))
+
+    abbrev WritesBy : Way → Type 0
+    WritesBy w = WritesSo w from bytes.now view new file p.can.stream.is.part.name p.can.stream.bytes
+        (touched now p.can.settable.can.node).times p.can.settable.can.node.flags
+
+    pub puts-in : (opens : List OpenEntry) (image : List ℕ) (written : ℕ)
+        → PutsInStream (over_by parts) (state_with image view opens now written) at file p.can.settable.can.node from bytes.now new
+    puts-in opens image done = by p.found.way refl p.can.over (edited-so (s.Write from bytes) view new file asked now p)
+      where
+        in_place : (b : Bool) → b ≡ true → WritesBy way.InPlace
+            → PutsInStream b (state_with image view opens now done) at file p.can.settable.can.node from bytes.now new
+        in_place true e writes = record {
+          name = p.can.stream.is.part.name;
+          spelt_so = spelt-so view p.found asked can_so p.can file p.file_is at at_stream at_node;
+          there = there-so view p.found asked can_so p.can file p.file_is;
+          tellable = tellable-so view p.found asked can_so p.can file p.file_is;
+          writes = writes;
+        }
+        in_place false e writes = cc
+
+        in_record : (b : Bool) → b ≡ false → WritesBy way.InRecord
+            → PutsInStream b (state_with image view opens now done) at file p.can.settable.can.node from bytes.now new
+        in_record true e puts = cc
+        in_record false e puts =
+            edited-stream (s.Write from bytes) view new file asked now p (Some (written from bytes.now (bytes_at at))) at opens image done
+            at_stream at_node
+            (subst (λ held. PutsStream view new file p.can.stream.is.part.name (Some (written from bytes.now held))
+            (touched now p.can.settable.can.node).times p.can.settable.can.node.flags)
+            (sym (bytes-so view p.found asked can_so p.can file p.file_is at at_content)) puts)
+
+        by : (w : Way) → p.found.way ≡ w → can_write view asked from (length bytes.now) w number ≡ true → WritesBy w
+            → PutsInStream (over_by parts) (state_with image view opens now done) at file p.can.settable.can.node from bytes.now new
+        by way.InPlace e can writes = in_place (over_by parts) (ap over_by parts-same ∙ can-of cannot_so (over_by there) can) writes
+        by way.InRecord e can puts =
+            in_record (over_by parts)
+            (ap over_by parts-same ∙ none-over cannot_so (over_by there) (is_some (stream_value there)) (has_no_list view number)
+            (gets_no_longer (from + length bytes.now) (content_named (read view) asked (node_of (read view) number))
+            || fits_in_record view number there (from + length bytes.now)) can) puts
 
 -- IT IS THAT OF THE COMMAND
-pub write-by : (opens : List OpenEntry) (now session : ℕ) (path : List (List ℕ)) (stream : Option (List ℕ)) (from : ℕ) (bytes : List ℕ)
-    (view : VolumeView)
-    → IsEditBy view opens now session (c.Write path stream from bytes) (write_edit opens path (stream_name stream) from bytes now)
+pub write-by : (opens : List OpenEntry) (now session : ℕ) (path : List (List ℕ)) (stream : Option (List ℕ)) (from : ℕ)
+    (bytes : Bor (List ℕ)) (view : VolumeView)
+    → IsEditBy view opens now session (c.Write path stream from bytes.now)
+    (stream_edit (s.Write from bytes) opens path (stream_name stream) now)
 unfolding opens_after
 write-by opens now session path stream from bytes view = record {
   edits = refl;
   is = refl;
   makes = refl;
-  found = λ told facts tells file is. (write-found facts view opens now session path stream from bytes tells file is).leads;
-  refused = λ told facts tells why is. write-refused facts view opens now session path stream from bytes tells why is;
-  answer = λ facts tells at. write-answer facts view opens now session path stream from bytes tells at;
-  stages = λ told facts tells file is new w.
-      let x = write-found facts view opens now session path stream from bytes tells file is in
-      let both = found-staged view file new (stream_name stream) from bytes now w in
-      record {
-        node = w.can.settable.can.node;
-        can = both.0;
-        high = both.1;
-        stages = λ image written.
-            writes-stream view new file (stream_name stream) from bytes now x.leads.at opens image written x.stream_is x.node_is w;
-      };
+  found = λ told facts tells file is. (write-found facts view opens now session path stream from bytes.now tells file is).leads;
+  refused = λ told facts tells why is. write-refused facts view opens now session path stream from bytes.now tells why is;
+  stages = λ told facts tells file is new p.
+      let x = write-found facts view opens now session path stream from bytes.now tells file is in
+      edited-file (s.Write from bytes) view new file (stream_name stream) now p opens (c.Write path stream from bytes.now) x.leads.at
+      (puts-in view new file (stream_name stream) from bytes now p x.leads.at x.leads.file_is x.stream_is x.node_is x.content_is opens);
   opens_stay = λ at. refl;
   moment_stays = λ at. refl;
   few = omega arith;

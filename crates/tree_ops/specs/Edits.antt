@@ -6,6 +6,7 @@ use Rattle.std.specs.Prelude.{length, slice_set}
 use Rattle.vol_disk.specs.Contents.{IsTold, WhereTold, sector_in}
 use Rattle.vol_disk.specs.declared.Disk.{Ghosts}
 use Rattle.vol_stage.specs.Staged.{GoesOn, disk_of, image, places}
+use Rattle.ntfs_def.specs.FileName.{FileName}
 use Rattle.volume_def.specs.FileNames.{names_of}
 use Rattle.volume_def.specs.Files.{records_of}
 use Rattle.volume_def.specs.View.{VolumeView}
@@ -22,7 +23,8 @@ use Rattle.mark_place.specs.LogSpans.{AreLogSpans, log_sectors}
 use Rattle.tree_model.specs.Facts.{IsVolumeOf, is_whole_table}
 use Rattle.tree_model.specs.Opens.{contains, is_handle, to_write}
 use Rattle.tree_model.specs.Reading.{read}
-use Rattle.tree_model.specs.Streams.{resized}
+use Rattle.tree_model.specs.Streams.{resized, written}
+use Rattle.tree_model.specs.Subjects.{stream_name}
 use Rattle.tree_model.specs.declared.command.Command.{Command}
 use Rattle.tree_model.specs.declared.command.Command.TheVariants as c
 use Rattle.tree_model.specs.declared.opens.OpenEntry.{OpenEntry}
@@ -35,19 +37,23 @@ use Rattle.stream_overwrites.specs.Overwritten.{PunchesValue, WritesOver}
 use Rattle.value_edits.specs.ValueEdits.{PutsStream}
 use Rattle.tree_read.specs.declared.stop.Stop.{Stop}
 use Rattle.tree_read.specs.declared.stop.Stop.TheVariants as stop
-use Rattle.tree_edit.specs.Alone.{can_cut, can_drop, cut_wanted, drop_wanted}
+use Rattle.tree_edit.specs.Alone.{can_drop, can_resize, drop_wanted, resize_wanted}
 use Rattle.tree_edit.specs.Punchable.{can_punch, punch_wanted}
 use Rattle.tree_edit.specs.Securable.{IsSecurable, secure_wanted}
 use Rattle.tree_edit.specs.Settable.{IsSettable, settable}
-use Rattle.tree_edit.specs.Writable.{IsFoundToEdit, IsWritable, hwrite_wanted, write_wanted}
+use Rattle.tree_edit.specs.Staged.{IsOfEdit, StagesFew}
+use Rattle.tree_edit.specs.Writable.{IsFoundToEdit}
+use Rattle.tree_edit.specs.Write.{can_write, hwrite_wanted, write_wanted}
 use Rattle.tree_edit.specs.declared.securable.Securable.{Securable}
 use Rattle.tree_edit.specs.declared.settable.Settable.{Settable}
+use Rattle.tree_edit.specs.declared.writable.Way.{Way}
+use Rattle.tree_edit.specs.declared.writable.Way.TheVariants as way
 use Rattle.tree_edit.specs.declared.writable.Writable.{Writable}
 use Rattle.tree_read.specs.Nodes.{number_of}
 use Rattle.tree_ops.specs.declared.edit.Edit.{Edit}
 use Rattle.tree_ops.specs.declared.edit.Edit.TheVariants as e
-use Rattle.tree_ops.specs.declared.edit_values.StreamEdit.{StreamEdit}
-use Rattle.tree_ops.specs.declared.edit_values.StreamEdit.TheVariants as s
+use Rattle.tree_ops.specs.declared.streams.StreamEdit.{StreamEdit}
+use Rattle.tree_ops.specs.declared.streams.StreamEdit.TheVariants as s
 use Rattle.tree_ops.specs.declared.place.MarkPlace.{MarkPlace}
 
 -- the command that is done so
@@ -143,84 +149,91 @@ setattr_edit path flags moment = record {
   most = 4;
 }
 
--- `write`: bytes went over bytes of the stream of this name, and the file has the moment as the time at which it was modified, and its record
--- changed
-pub record WritesFound (old new : VolumeView) (file : ℕ) (name : List ℕ) (at : ℕ) (bytes : List ℕ) (moment : ℕ) : Type 0 where
-  pub found : Writable
-  pub file_is : number_of found.held ≡ file
-  pub can : IsWritable old found name at (length bytes)
-  pub writes : WritesOver old new file can.stream.is.part.name at bytes (slice_set (slice_set found.times 1 moment) 2 moment) found.flags
+-- `write`, `punch`, `truncate` and `rmstream`: AN EDIT OF A STREAM. The command that it is by a path and a stream, ..
+abbrev pub stream_command : StreamEdit → List (List ℕ) → Option (List ℕ) → Command
+stream_command (s.Write from bytes) path stream = c.Write path stream from bytes.now
+stream_command (s.Punch from len) path stream = c.Punch path stream from len
+stream_command (s.Resize size) path stream = c.Truncate path stream size
+stream_command s.Remove path stream = c.Rmstream path (stream_name stream)
 
-abbrev pub most_for : List ℕ → ℕ
-most_for bytes = 6 + length bytes / 512
-
-abbrev pub write_edit : List OpenEntry → List (List ℕ) → List ℕ → ℕ → List ℕ → ℕ → EditOf
-write_edit opens path name at bytes moment = record {
-  wanted = λ view. write_wanted view opens path name at (length bytes);
-  Does = λ old new file. WritesFound old new file name at bytes moment;
-  most = most_for bytes;
-}
-
--- `hwrite`: the same of the stream of an open
-pub record WritesThrough (opens : List OpenEntry) (session handle : ℕ) (old new : VolumeView) (file at : ℕ) (bytes : List ℕ) (moment : ℕ)
-    : Type 0 where
-  pub entry : OpenEntry
-  pub opened : find (λ (entry : OpenEntry). is_handle session handle entry && contains entry.access to_write) opens ≡ Some entry
-  pub writes : WritesFound old new file entry.stream at bytes moment
-
-abbrev pub hwrite_edit : List OpenEntry → ℕ → ℕ → ℕ → List ℕ → ℕ → EditOf
-hwrite_edit opens session handle at bytes moment = record {
-  wanted = λ view. hwrite_wanted view opens session handle at (length bytes);
-  Does = λ old new file. WritesThrough opens session handle old new file at bytes moment;
-  most = most_for bytes;
-}
-
--- `punch`, `truncate` and `rmstream`: AN EDIT OF A STREAM that is a value. Whether that of this name of a file can be edited so, and what
--- is wanted of the file that a path leads to
-abbrev pub can_edit_so : StreamEdit → VolumeView → List ℕ → ℕ → Bool
-can_edit_so (s.Punch from len) view name file = can_punch view name file
-can_edit_so (s.Cut size) view name file = can_cut view name size file
-can_edit_so s.Remove view name file = can_drop view name file
+-- .. whether the stream of this name of a file can be edited so, this way, and what is wanted of the file that the path leads to
+abbrev pub can_edit_so : StreamEdit → VolumeView → List ℕ → Way → ℕ → Bool
+can_edit_so (s.Write from bytes) view name way file = can_write view name from (length bytes.now) way file
+can_edit_so (s.Punch from len) view name way file = can_punch view name file
+can_edit_so (s.Resize size) view name way file = can_resize view name size file
+can_edit_so s.Remove view name way file = can_drop view name file
 
 abbrev pub stream_wanted : StreamEdit → VolumeView → List OpenEntry → List (List ℕ) → List ℕ → Result ℕ No
+stream_wanted (s.Write from bytes) view opens path name = write_wanted view opens path name from (length bytes.now)
 stream_wanted (s.Punch from len) view opens path name = punch_wanted view opens path name from len
-stream_wanted (s.Cut size) view opens path name = cut_wanted view opens path name size
+stream_wanted (s.Resize size) view opens path name = resize_wanted view opens path name size
 stream_wanted s.Remove view opens path name = drop_wanted view opens path name
 
--- it fits a stream of so many bytes: a punch ends where a stream may end, and a stream is cut to no more than it has
-abbrev pub FitsSize : StreamEdit → ℕ → Type 0
-FitsSize (s.Punch from len) size = from + len ≤ 2 ^ 40
-FitsSize (s.Cut to) size = to ≤ size
-FitsSize s.Remove size = Unit {0}
+-- it ends where a stream may end
+abbrev pub IsNear : StreamEdit → Type 0
+IsNear (s.Write from bytes) = from + length bytes.now ≤ 2 ^ 40
+IsNear (s.Punch from len) = from + len ≤ 2 ^ 40
+IsNear (s.Resize size) = size ≤ 2 ^ 40
+IsNear s.Remove = Unit {0}
 
 -- The stream that was found can be edited so.
-abbrev pub IsEditable : StreamEdit → VolumeView → Writable → List ℕ → Type 0
-IsEditable what view found name = IsFoundToEdit view found name (λ file. can_edit_so what view name file)
+abbrev pub IsFoundFor : StreamEdit → VolumeView → Writable → List ℕ → Type 0
+IsFoundFor what view found name = IsFoundToEdit view found name (λ file. can_edit_so what view name found.way file)
 
--- It was edited so, where it had these bytes before: zeros went over those in the range, or it was cut, or it is gone; the file has these
--- times and flags.
-abbrev pub EditsValueSo : StreamEdit → VolumeView → VolumeView → ℕ → List ℕ → List ℕ → List ℕ → ℕ → Type 0
-EditsValueSo (s.Punch from len) old new file name was times flags = PunchesValue old new file name from len times flags
-EditsValueSo (s.Cut size) old new file name was times flags = PutsStream old new file name (Some (resized size was)) times flags
-EditsValueSo s.Remove old new file name was times flags = PutsStream old new file name None times flags
+-- It was edited so, where it had these bytes before; the file has these times and flags. A write went over bytes that lie in place, or the
+-- stream, a value, has other bytes; zeros went over those in the range; it has another length; or it is gone.
+abbrev pub WritesSo : Way → ℕ → List ℕ → VolumeView → VolumeView → ℕ → List ℕ → List ℕ → List ℕ → ℕ → Type 0
+WritesSo way.InPlace from bytes old new file name was times flags = WritesOver old new file name from bytes times flags
+WritesSo way.InRecord from bytes old new file name was times flags = PutsStream old new file name (Some (written from bytes was)) times flags
+
+abbrev pub EditsSo : StreamEdit → Way → VolumeView → VolumeView → ℕ → List ℕ → List ℕ → List ℕ → ℕ → Type 0
+EditsSo (s.Write from bytes) way old new file name was times flags = WritesSo way from bytes.now old new file name was times flags
+EditsSo (s.Punch from len) way old new file name was times flags = PunchesValue old new file name from len times flags
+EditsSo (s.Resize size) way old new file name was times flags = PutsStream old new file name (Some (resized size was)) times flags
+EditsSo s.Remove way old new file name was times flags = PutsStream old new file name None times flags
 
 -- The stream of this name was edited so; the times are those of a write.
 pub record EditsFound (what : StreamEdit) (old new : VolumeView) (file : ℕ) (name : List ℕ) (moment : ℕ) : Type 0 where
   pub found : Writable
   pub file_is : number_of found.held ≡ file
-  pub can : IsEditable what old found name
-  pub edits : EditsValueSo what old new file can.stream.is.part.name can.stream.bytes (slice_set (slice_set found.times 1 moment) 2 moment)
+  pub can : IsFoundFor what old found name
+  pub edits : EditsSo what found.way old new file can.stream.is.part.name can.stream.bytes (slice_set (slice_set found.times 1 moment) 2 moment)
       found.flags
 
--- how many sectors are staged of the records of a file of which a value is written
+-- how many sectors are staged of the records of a file of which a value is written, and of the bytes of a write
 abbrev pub most_of_value : ℕ
 most_of_value = 8
+
+abbrev pub most_for : StreamEdit → ℕ
+most_for (s.Write from bytes) = most_of_value + length bytes.now / 512
+most_for other = most_of_value
+
+abbrev pub StagesSo : {D : Type 0} (g : Ghosts D) → StreamEdit → ℕ → List FileName → Mft D g → Mft D g → Type 0
+StagesSo g what f names old new = StagesFew g (most_for what + 12 * length names) (IsOfEdit (view g old) f names) old new
 
 abbrev pub stream_edit : StreamEdit → List OpenEntry → List (List ℕ) → List ℕ → ℕ → EditOf
 stream_edit what opens path name moment = record {
   wanted = λ view. stream_wanted what view opens path name;
   Does = λ old new file. EditsFound what old new file name moment;
-  most = most_of_value;
+  most = most_for what;
+}
+
+-- `hwrite`: a write into the stream of an open
+abbrev pub through_wanted : StreamEdit → VolumeView → List OpenEntry → ℕ → ℕ → Result ℕ No
+through_wanted (s.Write from bytes) view opens session handle = hwrite_wanted view opens session handle from (length bytes.now)
+through_wanted other view opens session handle = Err no.Unbuilt
+
+pub record EditsThrough (what : StreamEdit) (opens : List OpenEntry) (session handle : ℕ) (old new : VolumeView) (file moment : ℕ)
+    : Type 0 where
+  pub entry : OpenEntry
+  pub opened : find (λ (entry : OpenEntry). is_handle session handle entry && contains entry.access to_write) opens ≡ Some entry
+  pub edits : EditsFound what old new file entry.stream moment
+
+abbrev pub hwrite_edit : StreamEdit → List OpenEntry → ℕ → ℕ → ℕ → EditOf
+hwrite_edit what opens session handle moment = record {
+  wanted = λ view. through_wanted what view opens session handle;
+  Does = λ old new file. EditsThrough what opens session handle old new file moment;
+  most = most_for what;
 }
 
 -- `setsec`: the security id of the file was set, and the moment as the time at which its record was changed

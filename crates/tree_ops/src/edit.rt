@@ -1,5 +1,5 @@
 //! Which edits are built, and how they are done: what is found, what is staged, and what is written behind the mark.
-ghost use Rattle.std.specs.Prelude.{◌≡◌, ◌&&◌, ◌+◌, ◌<◌, ◌≤◌, ◌^◌, ℕ, All, IsSome, List, None, Some, IfErr, IfSome, IsTrue, OnErr, OnOk, false, length, slice_set};
+ghost use Rattle.std.specs.Prelude.{◌≡◌, ◌&&◌, ◌+◌, ◌≤◌, ◌<◌, None, Some, IfErr, IfSome, IsTrue, OnErr, OnOk, false, length, slice_set};
 ghost use Rattle.vol_stage.specs.Staged.{GoesOn, disk_of, places};
 ghost use Rattle.volume_def.specs.FileNames.{names_of};
 ghost use Rattle.volume_def.specs.Files.{records_of};
@@ -9,42 +9,25 @@ ghost use Rattle.mft_table.specs.InUse.{IsInUse};
 ghost use Rattle.mft_table.specs.Mft.{faults_of, mounted_of, stage_of, view};
 ghost use Rattle.mft_table.specs.MirrorClusters.{IsMirrorInside};
 ghost use Rattle.index_store.specs.IndexBlocksMut.{KeepsDisk};
-ghost use Rattle.tree_model.specs.Reading.{read};
 ghost use Rattle.tree_model.specs.Refusals.{is_edit};
 ghost use Rattle.tree_model.specs.Staging.{is_built};
-ghost use Rattle.tree_model.specs.Subjects.{stream_name};
-ghost use Rattle.tree_model.specs.Tree.{node_of};
 ghost use Rattle.attribute_edits.specs.Attributes.{SetsAttributes};
 ghost use Rattle.tree_read.specs.Answered.{Counts, IsFailed};
-ghost use Rattle.tree_read.specs.Nodes.{number_of, parts_in};
 ghost use Rattle.tree_read.specs.Standings.{IsStanding};
 ghost use Rattle.tree_read.specs.declared.stop.Stop.TheVariants as stop;
 ghost use Rattle.tree_edit.specs.Settable.{IsSettable};
-ghost use Rattle.tree_edit.specs.Staged.{StagesAttributes, StagesWrite};
-ghost use Rattle.tree_edit.specs.Writable.{IsWritable};
-ghost use Rattle.tree_ops.specs.Edits.{CanEdit, EndsAs, IsClear, IsWritten, MftStill, WritesFound};
-ghost use Rattle.tree_ops.specs.Edits.{command_of, hwrite_edit, setattr_edit, write_edit};
+ghost use Rattle.tree_edit.specs.Staged.{StagesAttributes};
+ghost use Rattle.tree_ops.specs.Edits.{CanEdit, EndsAs, IsClear, IsWritten, MftStill, command_of, setattr_edit};
 
 use crate::place::{MarkPlace, mark_place};
 use mark_write::Flag;
 use mft_table::Mft;
-use share_table::Opens;
 use std::alloc::Global;
-use tree_edit::{
-    Settable, Writable, find_settable, find_writable, find_writable_through, set_attributes,
-    write_over,
-};
-use tree_model::{Access, Command, No, Path};
-use tree_read::{Standing, Stop, name_or};
+use tree_edit::{Settable, find_settable, set_attributes};
+use tree_model::{Command, Path};
+use tree_read::{Standing, Stop};
 use vol_bytes::{Name, Octets};
 use vol_disk::Disk;
-
-// What `hwrite` does with a file.
-const TO_WRITE: Access = Access {
-    r: false,
-    w: true,
-    d: false,
-};
 
 /// An edit that is built, by how it is done.
 #[derive(Clone, Copy)]
@@ -54,20 +37,20 @@ pub enum Edit<'c> {
         path: &'c Path,
         flags: u16,
     },
-    /// Bytes go over those of a stream, of the unnamed one where none is named.
+    /// Bytes are written into a stream, into the unnamed one where none is named.
     Write {
         path: &'c Path,
         stream: &'c Option<Name>,
         at: u64,
         bytes: &'c Octets,
     },
-    /// Bytes go over those of the stream of a handle.
+    /// Bytes are written into the stream of a handle.
     Hwrite {
         handle: u32,
         at: u64,
         bytes: &'c Octets,
     },
-    /// A stream that is a value is cut to so many bytes.
+    /// A stream that is a value gets so many bytes.
     Truncate {
         path: &'c Path,
         stream: &'c Option<Name>,
@@ -175,53 +158,6 @@ fn stage<D: Disk>(
     }
 }
 
-// Stages bytes that go over those of the stream that was found, and the moment as the time at which its file was modified, and its record
-// changed. Where it fails nothing is staged.
-fn stage_over<D: Disk>(
-    alloc: Global,
-    mft: &mut Mft<'_, D>,
-    found: &Writable,
-    moment: u64,
-    at: u64,
-    bytes: &[u8],
-) -> Result<(), Stop>
-    requires volume { IsInUse D.Disk mft.old }
-    requires mirror { IsMirrorInside (mounted_of D.Disk mft.old) }
-    requires clear { IsClear D.Disk mft.old }
-    requires inside { number_of found.now.held < length (mounted_of D.Disk mft.old).records }
-    requires part { found.now.stream.part < length (parts_in found.now.held) }
-    requires near { at + length bytes.now ≤ 2 ^ 40 }
-    requires can { IsTrue (view D.Disk mft.old).told → (name : List ℕ) × IsWritable (view D.Disk mft.old) found.now name at (length bytes.now) }
-    ensures writes { OnOk result (IsTrue (view D.Disk mft.old).told → (name : List ℕ)
-        → IsWritable (view D.Disk mft.old) found.now name at (length bytes.now)
-        → WritesFound (view D.Disk mft.old) (view D.Disk mft.new) (number_of found.now.held) name at bytes.now moment) }
-    ensures places { OnOk result (IsTrue (view D.Disk mft.old).told → StagesWrite D.Disk (number_of found.now.held)
-        (names_of (records_of (view D.Disk mft.old)) (number_of found.now.held)) (length bytes.now) mft.old mft.new) }
-    ensures disk { OnOk result (KeepsDisk D.Disk mft.old mft.new) }
-    ensures still { OnErr result (MftStill D.Disk mft.old mft.new) }
-    ensures counts { Counts result (faults_of D.Disk mft.old) (faults_of D.Disk mft.new) }
-    ensures failed { IfErr result IsFailed }
-{
-    let touched = found.times_at(moment);
-    match write_over(
-        alloc,
-        mft,
-        &found.held.parts,
-        &found.stream,
-        found.held.parts.number(),
-        &touched,
-        found.flags,
-        at,
-        bytes,
-    ) {
-        Ok(()) => Ok(()),
-        Err(no) => {
-            mft.discard();
-            Err(Stop::from(no))
-        }
-    }
-}
-
 /// Writes what is staged: the volume is marked, where it is not, its log is emptied, and behind that comes the rest. `mark` is then where
 /// the mark lies, and no directory is remembered.
 ///
@@ -286,82 +222,5 @@ pub fn set_flags<D: Disk>(
     let found = find_settable(alloc, mft, last, path)?;
     let place = mark_place(alloc, mft, *mark)?;
     stage(alloc, mft, &found, moment, flags)?;
-    finish(mft, last, mark, &place)
-}
-
-/// Writes bytes over those of a stream of the file that a path leads to, and the moment as the time at which that was modified, and its
-/// record changed, as `set_flags` does.
-///
-/// # Errors
-///
-/// The refusal that is due, and `Memory`: nothing is staged then, and nothing was written. `Device` where the disk failed.
-pub fn write<D: Disk>(
-    alloc: Global,
-    mft: &mut Mft<'_, D>,
-    last: &mut Option<Standing>,
-    mark: &mut Option<Flag>,
-    opens: &Opens,
-    moment: u64,
-    path: &Path,
-    stream: &Option<Name>,
-    at: u64,
-    bytes: &Octets,
-) -> Result<(), Stop>
-    requires can { CanEdit D.Disk mft.old mark.old }
-    requires last { IsTrue (view D.Disk mft.old).told → IfSome last.old (IsStanding (view D.Disk mft.old)) }
-    ensures ends { EndsAs D.Disk mft.old mft.new mark.old mark.new
-        (write_edit opens.now path.now (stream_name stream.now) at bytes.now moment) result }
-    ensures last { OnErr result (IsTrue (view D.Disk mft.old).told → IfSome last.new (IsStanding (view D.Disk mft.old))) }
-    ensures forgets { OnOk result (last.new ≡ None) }
-    ensures goes_on { GoesOn D.Disk (stage_of D.Disk mft.old) (stage_of D.Disk mft.new) }
-    ensures settled { D.settled (disk_of D.Disk (stage_of D.Disk mft.new)) ≡ D.settled (disk_of D.Disk (stage_of D.Disk mft.old)) }
-    ensures counts { Counts result (faults_of D.Disk mft.old) (faults_of D.Disk mft.new) }
-{
-    let unnamed = Name::from_vec(Vec::new(alloc));
-    let name = name_or(stream, &unnamed);
-    let bytes = bytes.as_slice();
-    let found = find_writable(alloc, mft, last, opens, path, name, at, bytes.len())?;
-    let place = mark_place(alloc, mft, *mark)?;
-    stage_over(alloc, mft, &found, moment, at, bytes)?;
-    finish(mft, last, mark, &place)
-}
-
-/// The same of the stream of a handle.
-/// Condition: the files of all opens are there.
-///
-/// # Errors
-///
-/// `NoHandle`, where the session has none that may write, the refusal that is due, and `Memory`: nothing is staged then, and nothing was
-/// written. `Device` where the disk failed.
-pub fn hwrite<D: Disk>(
-    alloc: Global,
-    mft: &mut Mft<'_, D>,
-    last: &mut Option<Standing>,
-    mark: &mut Option<Flag>,
-    opens: &Opens,
-    moment: u64,
-    session: u8,
-    handle: u32,
-    at: u64,
-    bytes: &Octets,
-) -> Result<(), Stop>
-    requires can { CanEdit D.Disk mft.old mark.old }
-    requires last { IsTrue (view D.Disk mft.old).told → IfSome last.old (IsStanding (view D.Disk mft.old)) }
-    requires files { IsTrue (view D.Disk mft.old).told
-        → All (λ entry. IsSome (node_of (read (view D.Disk mft.old)) entry.file)) opens.now }
-    ensures ends { EndsAs D.Disk mft.old mft.new mark.old mark.new (hwrite_edit opens.now session handle at bytes.now moment) result }
-    ensures last { OnErr result (IsTrue (view D.Disk mft.old).told → IfSome last.new (IsStanding (view D.Disk mft.old))) }
-    ensures forgets { OnOk result (last.new ≡ None) }
-    ensures goes_on { GoesOn D.Disk (stage_of D.Disk mft.old) (stage_of D.Disk mft.new) }
-    ensures settled { D.settled (disk_of D.Disk (stage_of D.Disk mft.new)) ≡ D.settled (disk_of D.Disk (stage_of D.Disk mft.old)) }
-    ensures counts { Counts result (faults_of D.Disk mft.old) (faults_of D.Disk mft.new) }
-{
-    let Some(entry) = opens.through(session, handle, TO_WRITE) else {
-        return Err(Stop::No(No::NoHandle));
-    };
-    let bytes = bytes.as_slice();
-    let found = find_writable_through(alloc, mft, entry, at, bytes.len())?;
-    let place = mark_place(alloc, mft, *mark)?;
-    stage_over(alloc, mft, &found, moment, at, bytes)?;
     finish(mft, last, mark, &place)
 }

@@ -5,10 +5,11 @@ mod built;
 mod close;
 mod commands;
 mod edit;
-mod edit_values;
 mod handles;
 mod place;
+mod secure;
 mod security;
+mod streams;
 mod volume;
 
 pub use close::CloseNo;

@@ -1,5 +1,5 @@
 //! A volume in use, and what is done with it.
-ghost use Rattle.std.specs.Prelude.{◌≡◌, ◌≢◌, ◌&&◌, ◌||◌, ◌+◌, ◌<◌, ◌≤◌, IsOk, None, Ok, [], OnErr, OnOk, Some, false, is_some};
+ghost use Rattle.std.specs.Prelude.{◌≡◌, ◌≢◌, ◌&&◌, ◌||◌, ◌+◌, ◌<◌, ◌≤◌, ℕ, IsOk, List, None, Option, Ok, [], OnErr, OnOk, Some, false, is_some};
 ghost use Rattle.vol_disk.specs.Contents.{WhereTold, settled_more};
 ghost use Rattle.vol_disk.specs.Count.{CountsFault, Rose};
 ghost use Rattle.volume_def.specs.VersionClause.{IsClean};
@@ -17,13 +17,15 @@ ghost use Rattle.tree_model.specs.Staging.{is_built};
 ghost use Rattle.tree_model.specs.declared.command.Command.TheVariants as command_is;
 ghost use Rattle.tree_model.specs.declared.reply.Reply.TheVariants as reply_is;
 ghost use Rattle.in_place_done.specs.Written.{SetsShown};
-ghost use Rattle.tree_ops.specs.Edits.{command_of};
+ghost use Rattle.tree_model.specs.Subjects.{stream_name};
+ghost use Rattle.tree_ops.specs.Edits.{command_of, stream_command};
 ghost use Rattle.tree_ops.specs.Replies.{edit_reply};
 
 use crate::close::CloseNo;
 use crate::commands::answer;
-use crate::edit::{Edit, hwrite, set_flags, write};
-use crate::edit_values::{StreamEdit, edit_stream, set_security};
+use crate::edit::{Edit, set_flags};
+use crate::secure::set_security;
+use crate::streams::{StreamEdit, edit_stream, hwrite};
 use mark_write::Flag;
 use mft_table::{Mft, Mounted};
 use share_table::Opens;
@@ -130,19 +132,13 @@ impl<D: Disk> Volume<'_, D> {
         reply_to(ended)
     }
 
-    // `write`
-    fn write(
-        &mut self,
-        session: u8,
-        path: &Path,
-        stream: &Option<Name>,
-        at: u64,
-        bytes: &Octets,
-    ) -> Reply
+    // `write`, `punch` and `truncate`: an edit of the stream of this name.
+    fn edit_stream(&mut self, session: u8, path: &Path, name: &Name, what: StreamEdit<'_>) -> Reply
         requires serves { Serves D.Disk self.old }
-        ensures { Replies D.Disk self.old self.new session (command_is.Write path.now stream.now at bytes.now) result }
+        ensures { (stream : Option (List ℕ)) → stream_name stream ≡ name.now
+            → Replies D.Disk self.old self.new session (stream_command what.entry path.now stream) result }
     {
-        let ended = write(
+        let ended = edit_stream(
             self.alloc,
             &mut self.mft,
             &mut self.last,
@@ -150,9 +146,27 @@ impl<D: Disk> Volume<'_, D> {
             &self.opens,
             self.moment,
             path,
-            stream,
-            at,
-            bytes,
+            name,
+            what,
+        );
+        reply_to(ended)
+    }
+
+    // `rmstream`
+    fn remove_stream(&mut self, session: u8, path: &Path, name: &Name) -> Reply
+        requires serves { Serves D.Disk self.old }
+        ensures { Replies D.Disk self.old self.new session (command_is.Rmstream path.now name.now) result }
+    {
+        let ended = edit_stream(
+            self.alloc,
+            &mut self.mft,
+            &mut self.last,
+            &mut self.mark,
+            &self.opens,
+            self.moment,
+            path,
+            name,
+            StreamEdit::Remove,
         );
         reply_to(ended)
     }
@@ -173,67 +187,6 @@ impl<D: Disk> Volume<'_, D> {
             handle,
             at,
             bytes,
-        );
-        reply_to(ended)
-    }
-
-    // `truncate`
-    fn truncate(&mut self, session: u8, path: &Path, stream: &Option<Name>, size: u64) -> Reply
-        requires serves { Serves D.Disk self.old }
-        ensures { Replies D.Disk self.old self.new session (command_is.Truncate path.now stream.now size) result }
-    {
-        let unnamed = Name::from_vec(Vec::new(self.alloc));
-        let name = name_or(stream, &unnamed);
-        let ended = edit_stream(
-            self.alloc,
-            &mut self.mft,
-            &mut self.last,
-            &mut self.mark,
-            &self.opens,
-            self.moment,
-            path,
-            name,
-            StreamEdit::Cut { size },
-        );
-        reply_to(ended)
-    }
-
-    // `punch`
-    fn punch(&mut self, session: u8, path: &Path, stream: &Option<Name>, at: u64, len: u64) -> Reply
-        requires serves { Serves D.Disk self.old }
-        ensures { Replies D.Disk self.old self.new session (command_is.Punch path.now stream.now at len) result }
-    {
-        let unnamed = Name::from_vec(Vec::new(self.alloc));
-        let name = name_or(stream, &unnamed);
-        let ended = edit_stream(
-            self.alloc,
-            &mut self.mft,
-            &mut self.last,
-            &mut self.mark,
-            &self.opens,
-            self.moment,
-            path,
-            name,
-            StreamEdit::Punch { from: at, len },
-        );
-        reply_to(ended)
-    }
-
-    // `rmstream`
-    fn remove_stream(&mut self, session: u8, path: &Path, name: &Name) -> Reply
-        requires serves { Serves D.Disk self.old }
-        ensures { Replies D.Disk self.old self.new session (command_is.Rmstream path.now name.now) result }
-    {
-        let ended = edit_stream(
-            self.alloc,
-            &mut self.mft,
-            &mut self.last,
-            &mut self.mark,
-            &self.opens,
-            self.moment,
-            path,
-            name,
-            StreamEdit::Remove,
         );
         reply_to(ended)
     }
@@ -262,6 +215,7 @@ impl<D: Disk> Volume<'_, D> {
         requires shown { SetsShown (command_of edit) }
         ensures { Replies D.Disk self.old self.new session (command_of edit.entry) result }
     {
+        let unnamed = Name::from_vec(Vec::new(self.alloc));
         match edit {
             Edit::Setattr { path, flags } => self.set(session, path, flags),
             Edit::Write {
@@ -269,15 +223,24 @@ impl<D: Disk> Volume<'_, D> {
                 stream,
                 at,
                 bytes,
-            } => self.write(session, path, stream, at, bytes),
+            } => {
+                let what = StreamEdit::Write { from: at, bytes };
+                self.edit_stream(session, path, name_or(stream, &unnamed), what)
+            }
             Edit::Hwrite { handle, at, bytes } => self.hwrite(session, handle, at, bytes),
-            Edit::Truncate { path, stream, size } => self.truncate(session, path, stream, size),
+            Edit::Truncate { path, stream, size } => {
+                let what = StreamEdit::Resize { size };
+                self.edit_stream(session, path, name_or(stream, &unnamed), what)
+            }
             Edit::Punch {
                 path,
                 stream,
                 at,
                 len,
-            } => self.punch(session, path, stream, at, len),
+            } => {
+                let what = StreamEdit::Punch { from: at, len };
+                self.edit_stream(session, path, name_or(stream, &unnamed), what)
+            }
             Edit::Rmstream { path, name } => self.remove_stream(session, path, name),
             Edit::Setsec { path, id } => self.secure(session, path, id),
         }

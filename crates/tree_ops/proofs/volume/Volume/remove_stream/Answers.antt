@@ -3,7 +3,7 @@ use Rattle.tree_model.specs.declared.command.Command.TheVariants as command_is
 use Rattle.tree_ops.specs.Edits.{stream_edit}
 use Rattle.tree_ops.specs.Replies.{Replies}
 use Rattle.tree_ops.specs.Volumes.{opens_of, view_under}
-use Rattle.tree_ops.specs.declared.edit_values.StreamEdit.TheVariants as s
+use Rattle.tree_ops.specs.declared.streams.StreamEdit.TheVariants as s
 use Rattle.tree_ops.specs.declared.volume.Volume.{Volume}
 use Rattle.tree_ops.proofs.ReplyLaws.{replies-edit}
 use Rattle.tree_ops.proofs.RmstreamBy.{rmstream-by}

@@ -15,7 +15,7 @@ use Rattle.tree_ops.proofs.EndLaws.{all-keeps, ended, placed-back, stages-back}
 use Rattle.tree_ops.proofs.PlaceLaws.{can-finish}
 use Rattle.tree_ops.proofs.StagedEdits.{value-staged}
 use Rattle.tree_ops.proofs.StillLaws.{reads-still, still-can, still-then, still-told}
-use Rattle.tree_ops.proofs.edit_values.set_security.Goals as goal
+use Rattle.tree_ops.proofs.secure.set_security.Goals as goal
 
 pub mark_place-requires : goal.mark_place-requires
 mark_place-requires g c = record {

@@ -1,13 +1,9 @@
-use Rattle.volume_def.specs.FileNames.{names_of}
-use Rattle.volume_def.specs.Files.{records_of}
-use Rattle.mft_table.specs.Mft.{view}
 use Rattle.tree_read.specs.Nodes.{number_of}
-use Rattle.tree_ops.specs.Edits.{IsEditable, most_of_value, stream_edit}
+use Rattle.tree_ops.specs.Edits.{IsFoundFor, most_for, stream_edit}
 use Rattle.tree_ops.proofs.EndLaws.{all-keeps, ended, placed-back, stages-back}
 use Rattle.tree_ops.proofs.PlaceLaws.{can-finish}
-use Rattle.tree_ops.proofs.StagedEdits.{value-staged}
 use Rattle.tree_ops.proofs.StillLaws.{reads-still, still-can, still-then, still-told}
-use Rattle.tree_ops.proofs.edit_values.edit_stream.Goals as goal
+use Rattle.tree_ops.proofs.streams.edit_stream.Goals as goal
 
 pub mark_place-requires : goal.mark_place-requires
 mark_place-requires g c = record {
@@ -24,7 +20,7 @@ stage_stream-requires-clause-can g c =
     λ told. (
       c.args.name.now,
       still-told g.D.Disk old c.mark_place.new.mft (still-then g.D.Disk old c.find_stream.new.mft c.mark_place.new.mft one two)
-          (λ v. IsEditable c.args.what v c.in_ok-found.found c.args.name.now) c.in_ok-found.ensures.can told,
+          (λ v. IsFoundFor c.args.what v c.in_ok-found.found c.args.name.now) c.in_ok-found.ensures.can told,
     )
 
 pub finish-requires : goal.finish-requires
@@ -37,13 +33,12 @@ finish-requires g c =
     let both = still-then g.D.Disk old c.find_stream.new.mft mid one two in
     record {
       can =
-          can-finish g.D.Disk old c.stage_stream.new.mft c.args.mark.now c.requires.can most_of_value (number_of found.held)
+          can-finish g.D.Disk old c.stage_stream.new.mft c.args.mark.now c.requires.can (most_for c.args.what) (number_of found.held)
           (λ told. let set = (c.in_ok-found.ensures.can told).settable in (set.can.node, set.can.can)) c.in_ok-place.place
           (placed-back g.D.Disk old c.find_stream.new.mft one c.args.mark.now c.in_ok-place.place c.in_ok-place.ensures.placed)
           (all-keeps g.D.Disk old mid both c.stage_stream.new.mft c.in_ok-stage_stream.ensures.disk)
-          (stages-back g.D.Disk old mid both most_of_value (number_of found.held) c.stage_stream.new.mft
-          (λ told. value-staged g.D.Disk (number_of found.held) (names_of (records_of (view g.D.Disk mid)) (number_of found.held)) mid
-          c.stage_stream.new.mft (c.in_ok-stage_stream.ensures.places told)));
+          (stages-back g.D.Disk old mid both (most_for c.args.what) (number_of found.held) c.stage_stream.new.mft
+          c.in_ok-stage_stream.ensures.places);
     }
 
 pub returns-clause-ends : goal.returns-clause-ends
@@ -57,10 +52,8 @@ returns-clause-ends g c =
     ended g.D.Disk old mid both (stream_edit c.args.what c.args.opens.now c.args.path.now c.args.name.now c.args.moment)
     (number_of found.held) c.stage_stream.new.mft c.in_ok-stage_stream.ensures.disk
     (λ told. c.in_ok-stage_stream.ensures.edits told c.args.name.now
-    (still-told g.D.Disk old mid both (λ v. IsEditable c.args.what v found c.args.name.now) c.in_ok-found.ensures.can told))
-    (λ told. value-staged g.D.Disk (number_of found.held) (names_of (records_of (view g.D.Disk mid)) (number_of found.held)) mid
-    c.stage_stream.new.mft (c.in_ok-stage_stream.ensures.places told))
-    c.args.mark.now c.in_ok-found.ensures.answered.is c.requires.can.clear.plain c.in_ok-place.place
+    (still-told g.D.Disk old mid both (λ v. IsFoundFor c.args.what v found c.args.name.now) c.in_ok-found.ensures.can told))
+    c.in_ok-stage_stream.ensures.places c.args.mark.now c.in_ok-found.ensures.answered.is c.requires.can.clear.plain c.in_ok-place.place
     (placed-back g.D.Disk old c.find_stream.new.mft one c.args.mark.now c.in_ok-place.place c.in_ok-place.ensures.placed)
     c.finish.new.mft c.finish.ensures.mounted c.finish.ensures.goes_on c.finish.new.mark c.finish.result c.finish.ensures.done
     c.finish.ensures.fails c.finish.ensures.mark c.finish.ensures.device c.finish.ensures.most

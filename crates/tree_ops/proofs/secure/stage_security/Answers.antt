@@ -1,7 +1,7 @@
 use Rattle.std.proofs.Common.{refl, subst}
 use Rattle.mft_table.specs.Mft.{view}
 use Rattle.attribute_edits.specs.Attributes.{SetsSecurity}
-use Rattle.tree_ops.proofs.edit_values.stage_security.Goals as goal
+use Rattle.tree_ops.proofs.secure.stage_security.Goals as goal
 
 pub set_security-requires-clause-can : goal.set_security-requires-clause-can
 set_security-requires-clause-can g c = λ told. (c.requires.can told).secure
