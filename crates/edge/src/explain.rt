@@ -1,9 +1,7 @@
 //! What a person is told on standard error beside a status: what failed, and what can be done. What is told beside a refusal
 //! is in `refused`.
 use shell::Access;
-use shell::ending::{
-    DEVICE_FAILED, OUT_OF_MEMORY, SINK_FAILED, SOURCE_FAILED, TOO_MUCH, UNKNOWN_WORDS,
-};
+use shell::ending::{DEVICE_FAILED, OUT_OF_MEMORY, SINK_FAILED, SOURCE_FAILED, TOO_MUCH};
 
 // The sentence on a failure of a word that only reads IMAGE.
 fn sentence_on_reading(status: u8) -> Option<&'static str> {
@@ -85,14 +83,24 @@ fn sentence_on_making(status: u8) -> Option<&'static str> {
     }
 }
 
-/// The sentence on a status that is neither done nor a refusal, where the words ask this of IMAGE.
+/// The sentence on a failure of an IMAGE that could only be read, by whether a write failed, where lines were run.
+pub fn sentence_on_read_only(has_failed_to_write: bool) -> &'static str {
+    if has_failed_to_write {
+        "IMAGE can only be read, so the first line that writes failed, and the run ended there; IMAGE is as \
+         it was"
+    } else {
+        "a sector of IMAGE could not be read, so the run ended there; IMAGE was only read, so copy what can \
+         be read of it, and run the copy"
+    }
+}
+
+/// The sentence on a status that is neither done nor a refusal, nor of unknown words, where the words ask this of IMAGE.
 pub fn sentence_on(status: u8, access: Access) -> Option<&'static str> {
-    match (status, access) {
-        (UNKNOWN_WORDS, _) => Some("these words are not known; see ntfs_shell --help"),
-        (_, Access::Reads) => sentence_on_reading(status),
-        (_, Access::Formats) => sentence_on_formatting(status),
-        (_, Access::Runs) => sentence_on_running(status),
-        (_, Access::Makes) => sentence_on_making(status),
+    match access {
+        Access::Reads => sentence_on_reading(status),
+        Access::Formats => sentence_on_formatting(status),
+        Access::Runs => sentence_on_running(status),
+        Access::Makes => sentence_on_making(status),
     }
 }
 

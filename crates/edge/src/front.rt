@@ -10,7 +10,7 @@ use vol_disk::{Failed, Sink};
 const FRONT: usize = 40;
 
 /// The first bytes of a text.
-type Front = ArrayVec<u8, FRONT>;
+pub type Front = ArrayVec<u8, FRONT>;
 
 /// A sink over another that remembers the first bytes that it took.
 #[derive(Drop)]
@@ -19,8 +19,8 @@ pub struct FrontSink<K: Sink + Drop> {
     front: Front,
 }
 
-// As many of the bytes as there is room for.
-fn remember(front: &mut Front, bytes: &[u8])
+/// Keeps as many of the bytes as there is room for.
+pub fn remember(front: &mut Front, bytes: &[u8])
     ensures { front.new.items ≡ take FRONT (front.old.items ++ bytes.now) }
 {
     let room = front.remaining_capacity().min(bytes.len());

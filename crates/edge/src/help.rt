@@ -5,8 +5,8 @@ pub const HELP: &str = "\
 usage: ntfs_shell IMAGE WORDS
 
 Works on the NTFS 3.1 volume in the file or block device IMAGE, which is opened
-for reading and writing. Where boot, label or check is asked and IMAGE may only
-be read, it is opened for reading alone.
+for reading and writing. Where IMAGE may only be read, and no format is asked, it
+is opened for reading alone, and an edit fails as a failure of IMAGE.
 
 Words:
   boot                                 prints the geometry of the volume
@@ -25,7 +25,8 @@ hexadecimal digits, setsec PATH ID its security id where it has a place for one,
 each with its time of record change; write TARGET AT HEX and hwrite H AT HEX put
 bytes over bytes of a stream that stand in clusters. Of a stream that stands in a
 record of its file punch TARGET AT LEN puts zeros over bytes, and where that is the
-only record of the file truncate TARGET SIZE cuts it, and rmstream PATH:NAME
+only record of the file write and hwrite put bytes into it, truncate TARGET SIZE
+cuts or lengthens it, as far as that record has room, and rmstream PATH:NAME
 removes it. All other writes, and all other commands, are no 28 Unbuilt.
 The first edit of a run marks the volume as not closed until the run ends, and
 empties its log; a hibernated system is not recognised, so shut it down before.
@@ -62,10 +63,11 @@ its log is small; it creates nothing in it, as may be expected of a driver that
 needs $AttrDef, which is empty. Nothing is claimed of Windows.
 
 An answer goes to standard output, and a line on what went wrong to standard
-error. The status is 0 where all was done, 2 where the words are not known, 3
-where the volume or an option is refused, 4 where standard input failed, 5 where
-standard output failed, 6 where IMAGE cannot be opened or failed, 7 where memory
-ran out, and 8 where the script has more than 1073741824 bytes.
+error, also behind a run where a line was no 1 Syntax. The status is 0 where all
+was done, 2 where the words are not known, 3 where the volume or an option is
+refused, 4 where standard input failed, 5 where standard output failed, 6 where
+IMAGE cannot be opened or failed, 7 where memory ran out, and 8 where the script
+has more than 1073741824 bytes.
 
   ntfs_shell --help       prints this text
   ntfs_shell --version    prints the version

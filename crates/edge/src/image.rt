@@ -21,6 +21,14 @@ pub enum ImageFault {
     Endless(io::Error),
 }
 
+/// The image as a disk.
+#[derive(Drop)]
+pub struct Image {
+    pub disk: FileDisk,
+    /// Whether it was opened for writing too.
+    pub is_writable: bool,
+}
+
 /// Takes the descriptors of standard streams that were closed, so that the image gets none of them. As
 /// long as the files live, a read of such a stream is at its end, and a write fails.
 ///
@@ -51,20 +59,23 @@ fn has_end<R: Files>(rt: &R, image: &str) -> bool {
     }
 }
 
-// Opens the image for reading and writing, and for reading alone where no more is asked and only
-// writing is refused.
+// Opens the image for reading and writing, and for reading alone where only writing is refused and no
+// volume is to be made. Tells whether it may be written.
 fn open_file<R: Files<File = File>>(
     rt: &R,
     image: &str,
     access: Access,
-) -> Result<File, ImageFault> {
+) -> Result<(File, bool), ImageFault> {
     match OpenOptions::new().read(true).write(true).open(rt, image) {
-        Ok(file) => Ok(file),
-        Err(error) if access != Access::Reads || !is_write_refused(error.kind()) => {
+        Ok(file) => Ok((file, true)),
+        Err(error) if access == Access::Formats || !is_write_refused(error.kind()) => {
             Err(ImageFault::Unwritable(error))
         }
         Err(error) if !has_end(rt, image) => Err(ImageFault::Unwritable(error)),
-        Err(_) => File::open(rt, image).map_err(ImageFault::Unreadable),
+        Err(_) => match File::open(rt, image) {
+            Ok(file) => Ok((file, false)),
+            Err(error) => Err(ImageFault::Unreadable(error)),
+        },
     }
 }
 
@@ -86,10 +97,13 @@ pub fn open_image<R: Files<File = File>>(
     rt: &R,
     image: &str,
     access: Access,
-) -> Result<FileDisk, ImageFault> {
-    let mut file = open_file(rt, image, access)?;
+) -> Result<Image, ImageFault> {
+    let (mut file, is_writable) = open_file(rt, image, access)?;
     match file.seek(SeekFrom::End(0)) {
-        Ok(length) => Ok(FileDisk::new(file, sectors_in(length))),
+        Ok(length) => Ok(Image {
+            disk: FileDisk::new(file, sectors_in(length)),
+            is_writable,
+        }),
         Err(error) => Err(ImageFault::Endless(error)),
     }
 }

@@ -7,9 +7,14 @@ mod explain;
 mod front;
 mod help;
 mod image;
+mod noted;
 mod refused;
+mod script_line;
+mod verbs;
 mod watched;
+mod words;
 
 pub use edge::start;
 pub use front::FrontSink;
+pub use noted::{NotedSink, NotedSource, ScriptNotes};
 pub use refused::sentence_on_refusal;

@@ -1,5 +1,4 @@
-//! What a person is told on standard error beside the line that refuses a volume, or the options of a new one: what is asked,
-//! and of which record or cluster.
+//! What a person is told on standard error beside the line that refuses a volume: what is asked, and of which record or cluster.
 use std::fmt;
 
 /// A sentence in which a number of the refusing line may stand.
@@ -145,13 +144,9 @@ fn sentence_on_clause<'a>(clause: &str, number: &'a str, sectors: u64) -> Senten
     }
 }
 
-/// The sentence on the line that refuses an image of so many sectors, or the options of a volume.
+/// The sentence on the line that refuses an image of so many sectors.
 pub fn sentence_on_refusal(line: &str, sectors: u64) -> Sentence<'_> {
     match line.strip_prefix("refused ").unwrap_or("") {
-        "options" => plain(
-            "SECTORS is from 2048 to the whole sectors of IMAGE, CLUSTER is 512, 1024, 2048 or 4096, and \
-             the volume has at most 67108864 clusters; nothing was written",
-        ),
         "dirty" => plain(
             "the volume is sound, but was not closed; let the system that used it last, or its own \
              check, close it",

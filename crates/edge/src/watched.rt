@@ -28,6 +28,7 @@ pub struct WatchedDisk<'a, R: Eprint, D: Disk + Drop> {
     watch: Watch,
     reads: u64,
     lines: u64,
+    has_failed_to_write: bool,
 }
 
 impl<'a, R: Eprint, D: Disk + Drop> WatchedDisk<'a, R, D> {
@@ -43,7 +44,13 @@ impl<'a, R: Eprint, D: Disk + Drop> WatchedDisk<'a, R, D> {
             watch,
             reads: 0,
             lines: 0,
+            has_failed_to_write: false,
         }
+    }
+
+    /// Whether a write of it failed.
+    pub fn has_failed_to_write(&self) -> bool {
+        self.has_failed_to_write
     }
 
     // Counts a read, and tells of the last of each step.
@@ -102,7 +109,13 @@ impl<R: Eprint, D: Disk + Drop> Disk for WatchedDisk<'_, R, D> {
     }
 
     fn write(&mut self, sector: u64, from: &[u8; 512]) -> Result<(), Failed> {
-        self.inner.write(sector, from)
+        match self.inner.write(sector, from) {
+            Ok(()) => Ok(()),
+            Err(failed) => {
+                self.has_failed_to_write = true;
+                Err(failed)
+            }
+        }
     }
 
     fn barrier(&mut self) -> Result<(), Failed> {

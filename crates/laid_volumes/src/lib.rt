@@ -8,5 +8,5 @@ pub mod laid;
 pub mod laid_files;
 pub mod made;
 
-pub use edge::{FrontSink, sentence_on_refusal, start};
+pub use edge::{FrontSink, NotedSink, NotedSource, ScriptNotes, sentence_on_refusal, start};
 pub use shell::run_shell;

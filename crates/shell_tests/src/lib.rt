@@ -18,3 +18,5 @@ mod make;
 mod program;
 #[cfg(test)]
 mod sentences;
+#[cfg(test)]
+mod slips;

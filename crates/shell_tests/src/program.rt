@@ -2,7 +2,7 @@
 use laid_volumes::given::{GEOMETRY, boot_sector};
 use laid_volumes::start;
 use std::alloc::{Allocator, Global};
-use std::cell::RefCell;
+use std::cell::{Cell, RefCell};
 use std::env::FillError;
 use std::fmt::Display;
 use std::fs::{File, Metadata, OpenOptions};
@@ -13,12 +13,14 @@ use std::rt::{Env, Files};
 use std::{env, fs, io};
 
 // The system with other arguments, the words of a line. A path without a slash leads to the folder for
-// temporary files. Standard output and error are kept.
+// temporary files. Standard output and error are kept. Of an image with `kept_` before its
+// name only reading is allowed.
 #[derive(Drop)]
 struct Noted<'a> {
     rt: HostRuntime,
     line: &'a [u8],
     opened: RefCell<Vec<i32>>,
+    is_denied: Cell<bool>,
     printed: RefCell<Vec<u8>>,
     said: RefCell<Vec<u8>>,
 }
@@ -59,6 +61,7 @@ fn path_of(rt: &HostRuntime, name: &str) -> io::Result<PathBuf> {
     if name.contains('/') {
         return Ok(PathBuf::from_str(rt.alloc(), name)?);
     }
+    let name = name.strip_prefix("kept_").unwrap_or(name);
     Ok(env::temp_dir(rt)?.join(rt.alloc(), name)?)
 }
 
@@ -96,7 +99,11 @@ impl Files for Noted<'_> {
 
     type Dir = File;
 
+    // The image is opened for reading and writing first, and then for reading alone.
     fn open_file(&self, how: &OpenOptions, path: &str) -> io::Result<File> {
+        if path.starts_with("kept_") && !self.is_denied.replace(true) {
+            return Err(io::Error::from(ErrorKind::PermissionDenied));
+        }
         let path = path_of(&self.rt, path)?;
         let file = self.rt.open_file(how, path.as_str())?;
         let mut opened = self.opened.try_borrow_mut().map_err(|_| busy())?;
@@ -213,6 +220,7 @@ fn ends(rt: HostRuntime, end: &End) -> io::Result<bool> {
         rt,
         line: end.line,
         opened: RefCell::new(Vec::new(rt.alloc())),
+        is_denied: Cell::new(false),
         printed: RefCell::new(Vec::new(rt.alloc())),
         said: RefCell::new(Vec::new(rt.alloc())),
     };
@@ -241,7 +249,7 @@ struct End {
     said: &'static str,
 }
 
-const ENDS: [End; 21] = [
+const ENDS: [End; 33] = [
     End {
         line: b"ntfs_shell",
         status: 2,
@@ -294,7 +302,7 @@ const ENDS: [End; 21] = [
         line: b"ntfs_shell ntfs_shell_whole bot",
         status: 2,
         printed: "",
-        said: "--help",
+        said: "\"bot\" is no word of the program; see ntfs_shell --help",
     },
     End {
         line: b"ntfs_shell ntfs_shell_blank check",
@@ -364,6 +372,78 @@ const ENDS: [End; 21] = [
     },
     End {
         line: b"ntfs_shell /dev boot",
+        status: 6,
+        printed: "",
+        said: "cannot be opened for reading and writing",
+    },
+    End {
+        line: b"ntfs_shell check ntfs_shell_whole",
+        status: 6,
+        printed: "",
+        said: "; IMAGE stands first, and check behind it",
+    },
+    End {
+        line: b"ntfs_shell ntfs_shell_whole boot now",
+        status: 2,
+        printed: "",
+        said: "boot takes no word behind it; see",
+    },
+    End {
+        line: b"ntfs_shell ntfs_shell_whole format 2048 4096 1",
+        status: 2,
+        printed: "",
+        said: "format takes SECTORS, CLUSTER, SERIAL and LABEL behind it",
+    },
+    End {
+        line: b"ntfs_shell ntfs_shell_whole format 2048 4096 0x1 X",
+        status: 2,
+        printed: "",
+        said: "known: SERIAL is a decimal number",
+    },
+    End {
+        line: b"ntfs_shell ntfs_shell_whole format 2048 4096 1 a:b",
+        status: 2,
+        printed: "",
+        said: "known: LABEL has 1 to 32 units",
+    },
+    End {
+        line: b"ntfs_shell ntfs_shell_whole format 2048 4k 1 X",
+        status: 2,
+        printed: "",
+        said: "known: CLUSTER is 512",
+    },
+    End {
+        line: b"ntfs_shell ntfs_shell_whole format 2048 513 1 X",
+        status: 3,
+        printed: "refused options\n",
+        said: "options: CLUSTER is 512",
+    },
+    End {
+        line: b"ntfs_shell ntfs_shell_whole make 1000001 1",
+        status: 2,
+        printed: "",
+        said: "known: N is a decimal number of at most 1000000",
+    },
+    End {
+        line: b"ntfs_shell ntfs_shell_whole make 1 01",
+        status: 2,
+        printed: "",
+        said: "known: SEED is a decimal number",
+    },
+    End {
+        line: b"ntfs_shell kept_ntfs_shell_blank check",
+        status: 0,
+        printed: "sound\n",
+        said: "",
+    },
+    End {
+        line: b"ntfs_shell kept_ntfs_shell_blank run",
+        status: 0,
+        printed: "",
+        said: "can only be read, so an edit will fail as a device fault",
+    },
+    End {
+        line: b"ntfs_shell kept_ntfs_shell_blank format 16384 4096 1 X",
         status: 6,
         printed: "",
         said: "cannot be opened for reading and writing",
