@@ -7,6 +7,8 @@ mod deep;
 #[cfg(test)]
 mod edits;
 #[cfg(test)]
+mod growth;
+#[cfg(test)]
 mod lists;
 #[cfg(test)]
 mod opens;

@@ -41,7 +41,7 @@ const TURNS: [Row; 48] = [
     ("cat /a:t", "no 11 NoStream\n"),
     ("stat /a", "stat file 2 5 0021 256 1 2 3 4\nok\n"),
     ("@4 hread 0 0 1", "no 3 NoHandle\n"),
-    ("@4 hwrite 0 0 00", "no 28 Unbuilt\n"),
+    ("@4 hwrite 0 4096 00", "no 28 Unbuilt\n"),
     ("open / r r", "no 10 IsDir\n"),
     ("open /d r r", "no 10 IsDir\n"),
     ("open /d:s r r", "no 11 NoStream\n"),

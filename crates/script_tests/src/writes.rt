@@ -36,7 +36,7 @@ const ROWS: [Row; 33] = [
     ("write /d 0 41", "no 10 IsDir\n"),
     ("write /longfilename.txt 0 41", "no 16 Packed\n"),
     ("write /nothing 0 41", "no 4 NotFound\n"),
-    ("write /a 0 41", "no 28 Unbuilt\n"),
+    ("write /a 4096 41", "no 28 Unbuilt\n"),
     ("@2 close 0", "ok\n"),
     ("@2 open /h r r", "no 22 Shared 1 0\n"),
     ("@1 close 0", "ok\n"),
