@@ -4,3 +4,4 @@ pub mod Whole
 pub mod RecordEdit
 pub mod Pending
 pub mod InPlace
+pub mod Given

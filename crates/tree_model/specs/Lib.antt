@@ -9,6 +9,7 @@ pub mod IndexRoom
 pub mod StreamRoom
 pub mod Bill
 pub mod NoRoom
+pub mod Ways
 pub mod Staging
 pub mod Refusals
 pub mod Answers
