@@ -1,0 +1,4 @@
+pub mod Cut
+pub mod Texts
+pub mod Numbers
+pub mod Bytes

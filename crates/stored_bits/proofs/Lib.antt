@@ -1,0 +1,13 @@
+mod FlagBits
+mod BitsStream
+mod WrittenBits
+mod BitsStill
+mod RunTimes
+mod GivenBack
+mod StoredStill
+mod StreamFound
+mod HoldsFound
+mod HeldWrites
+mod DeviceKept
+mod HeldStill
+mod GivenRuns
