@@ -1,4 +1,4 @@
--- THE STORED BITS AND THE TABLE OF CASE are those of the volume before, where these are left alone, and so behind the first mark.
+-- THE STORED BITS AND THE TABLE OF CASE are those that were staged, behind the first mark too.
 use Rattle.std.proofs.Common.{◌≡◌, ℕ, Bool, false, List, [], refl, sym, ap, ◌∙◌}
 use Rattle.list_laws.specs.Bits.{flags_in}
 use Rattle.ntfs_def.specs.declared.kinds.TheConstants.{BITMAP, DATA}
@@ -13,7 +13,6 @@ use Rattle.edit_def.specs.Kept.{key_of}
 use Rattle.session_def.specs.FirstMark.{is_first_key}
 use Rattle.mft_table.specs.HeldTables.{AreStored}
 use Rattle.in_place.specs.Behind.{MarksBehind}
-use Rattle.edit_written.specs.LeavesAlone.{LeavesAlone}
 use Rattle.edit_written.proofs.LeftAlone.{value-kept}
 
 -- what the first mark does not name has the value that it had
@@ -22,20 +21,16 @@ value-marked : (new next : VolumeView) → MarksBehind new next → (f kind : �
     → value_on next (parts_at next f kind name) ≡ value_on new (parts_at new f kind name)
 value-marked new next marks = value-kept is_first_key new next marks.rewrites marks.marked.kept
 
-pub bits-stored : (old new next : VolumeView) (clusters records : List Bool) (upcase : List ℕ) → LeavesAlone old new
-    → MarksBehind new next → AreStored old clusters records upcase → AreStored next clusters records upcase
-bits-stored old new next clusters records upcase alone marks stored =
-    let layout : next.layout ≡ old.layout = marks.rewrites.layout ∙ alone.layout in
-    let bits : value_on next (cluster_bits next) ≡ value_on old (cluster_bits old) =
-    value-marked new next marks CLUSTER_BITMAP DATA [] refl refl ∙ alone.cluster_value in
-    let used : value_on next (record_bits next) ≡ value_on old (record_bits old) =
-    value-marked new next marks MFT BITMAP [] refl refl ∙ alone.record_value in
+pub bits-stored : (new next : VolumeView) (clusters records : List Bool) (upcase : List ℕ) → MarksBehind new next
+    → AreStored new clusters records upcase → AreStored next clusters records upcase
+bits-stored new next clusters records upcase marks stored =
+    let layout : next.layout ≡ new.layout = marks.rewrites.layout in
     record {
       clusters_are = stored.clusters_are
           ∙ sym (ap (flags_in (value_on next (cluster_bits next))) (ap (λ (l : TableLayout). l.clusters) layout)
-          ∙ ap (λ value. flags_in value old.layout.clusters) bits);
+          ∙ ap (λ value. flags_in value new.layout.clusters) (value-marked new next marks CLUSTER_BITMAP DATA [] refl refl));
       records_are = stored.records_are
           ∙ sym (ap (flags_in (value_on next (record_bits next))) (ap (λ (l : TableLayout). l.count) layout)
-          ∙ ap (λ value. flags_in value old.layout.count) used);
-      upcase_is = stored.upcase_is ∙ sym (value-marked new next marks UPCASE DATA [] refl refl ∙ alone.case_value);
+          ∙ ap (λ value. flags_in value new.layout.count) (value-marked new next marks MFT BITMAP [] refl refl));
+      upcase_is = stored.upcase_is ∙ sym (value-marked new next marks UPCASE DATA [] refl refl);
     }

@@ -2,8 +2,8 @@
 use Rattle.std.proofs.Common.{◌≡◌, ◌≢◌, ◌≤◌, ◌||◌, ℕ, Bool, false, List, []}
 use Rattle.std.proofs.Common.{inr, refl, ap, ◌∙◌, arith}
 use Rattle.std.specs.List.{Contains}
-use Rattle.ntfs_def.specs.declared.kinds.TheConstants.{BITMAP, DATA}
-use Rattle.ntfs_def.specs.declared.records.TheConstants.{BOOT, CLUSTER_BITMAP, LOG_FILE, MFT, MFT_MIRROR, UPCASE, VOLUME}
+use Rattle.ntfs_def.specs.declared.kinds.TheConstants.{DATA}
+use Rattle.ntfs_def.specs.declared.records.TheConstants.{BOOT, LOG_FILE, MFT, MFT_MIRROR, VOLUME}
 use Rattle.volume_def.specs.Coverage.{times_covered}
 use Rattle.volume_def.specs.Files.{Part, part_runs, parts, parts_at, records_of}
 use Rattle.volume_def.specs.Sound.{IsSound}
@@ -11,7 +11,6 @@ use Rattle.volume_def.specs.Values.{spot_at, value_on}
 use Rattle.volume_def.specs.View.{VolumeView}
 use Rattle.edit_def.specs.Edited.{is_table_key}
 use Rattle.edit_def.specs.Kept.{KeepsBut, Key, either, key_of}
-use Rattle.record_edits.specs.InPlace.{NamesNoRoom}
 use Rattle.record_edits.proofs.BlockEdits.{part-at}
 use Rattle.volume_mark.proofs.DiskLaws.{covered-by}
 use Rattle.in_place.specs.InPlace.{Rewrites}
@@ -65,8 +64,8 @@ module _ (changed : Key → Bool) (old new : VolumeView) (w : Rewrites changed o
       (inr boot-other)
 
   pub rewritten : NamesNoneOf changed MFT → NamesNoneOf changed VOLUME → changed (key_of BOOT DATA []) ≡ false
-      → changed (key_of LOG_FILE DATA []) ≡ false → NamesNoRoom changed → changed (key_of UPCASE DATA []) ≡ false → LeavesAlone old new
-  rewritten no_table no_volume no_boot no_log room no_case = record {
+      → changed (key_of LOG_FILE DATA []) ≡ false → LeavesAlone old new
+  rewritten no_table no_volume no_boot no_log = record {
     layout = w.layout;
     table = (first-kept changed old new w sound MFT (omega arith) no_table).block;
     volume = (first-kept changed old new w sound VOLUME (omega arith) no_volume).block;
@@ -75,9 +74,6 @@ module _ (changed : Key → Bool) (old new : VolumeView) (w : Rewrites changed o
     emptied = log-bytes changed old new new w no_log;
     log_clusters = clusters-kept changed old new w apart.owners apart.some LOG_FILE DATA [] no_log
         (inr ((λ q. omega (arith, q)), (λ q. omega (arith, q))));
-    cluster_value = value-kept changed old new w keeps CLUSTER_BITMAP DATA [] refl (room (key_of CLUSTER_BITMAP DATA []) refl);
-    record_value = value-kept changed old new w keeps MFT BITMAP [] refl (room (key_of MFT BITMAP []) refl);
-    case_value = value-kept changed old new w keeps UPCASE DATA [] refl no_case;
   }
 
 -- ONE EDIT AFTER ANOTHER
@@ -91,7 +87,4 @@ both old mid new a b = record {
   emptied = b.emptied ∙ a.emptied;
   log_clusters = λ vcn c at.
       b.log_clusters vcn c (ap (λ xs. spot_at xs vcn) a.log ∙ at) ∙ a.log_clusters vcn c at;
-  cluster_value = b.cluster_value ∙ a.cluster_value;
-  record_value = b.record_value ∙ a.record_value;
-  case_value = b.case_value ∙ a.case_value;
 }

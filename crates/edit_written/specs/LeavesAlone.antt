@@ -1,10 +1,8 @@
--- WHAT AN EDIT LEAVES ALONE, whatever it writes beside: where the volume and its table lie, its flag, its log, and the bits and the table
--- of case that are stored. It is all that is to be known of an edit whose bytes are staged and written behind the mark.
+-- WHAT AN EDIT LEAVES ALONE, whatever it writes beside: where the volume and its table lie, its flag, and its log. It is all that is to be
+-- known of an edit whose bytes are staged and written behind the mark.
 use Rattle.std.specs.Prelude.{◌≡◌}
 use Rattle.ntfs_def.specs.declared.records.TheConstants.{MFT, VOLUME}
-use Rattle.volume_def.specs.BitmapClauses.{cluster_bits, record_bits}
-use Rattle.volume_def.specs.CaseClause.{case_parts}
-use Rattle.volume_def.specs.Values.{KeepsClusters, value_on}
+use Rattle.volume_def.specs.Values.{KeepsClusters}
 use Rattle.volume_def.specs.View.{VolumeView}
 use Rattle.session_def.specs.Cost.{log_bytes, log_parts}
 
@@ -18,6 +16,3 @@ pub record LeavesAlone (old new : VolumeView) : Type 0 where
   pub log : log_parts new ≡ log_parts old
   pub emptied : log_bytes new ≡ log_bytes old
   pub log_clusters : KeepsClusters old new (log_parts old)
-  pub cluster_value : value_on new (cluster_bits new) ≡ value_on old (cluster_bits old)
-  pub record_value : value_on new (record_bits new) ≡ value_on old (record_bits old)
-  pub case_value : value_on new (case_parts new) ≡ value_on old (case_parts old)

@@ -1,8 +1,8 @@
 //! Laws with nothing to run: the bytes of an edit, staged and written.
-ghost use Rattle.std.specs.Prelude.{◌≡◌, ◌≢◌, ℕ, Bool, List, Some, [], false, length};
+ghost use Rattle.std.specs.Prelude.{◌≡◌, ℕ, Bool, List, Some, [], false, length};
 ghost use Rattle.vol_disk.specs.Contents.{sector_in};
 ghost use Rattle.ntfs_def.specs.declared.kinds.TheConstants.{DATA};
-ghost use Rattle.ntfs_def.specs.declared.records.TheConstants.{BOOT, LOG_FILE, MFT, UPCASE, VOLUME};
+ghost use Rattle.ntfs_def.specs.declared.records.TheConstants.{BOOT, LOG_FILE, MFT, VOLUME};
 ghost use Rattle.volume_def.specs.Sound.{IsSound, told_view};
 ghost use Rattle.volume_def.specs.View.{VolumeView};
 ghost use Rattle.mft_table.specs.HeldTables.{AreStored};
@@ -15,21 +15,18 @@ ghost use Rattle.volume_mark.specs.SameVolume.{AgreesButMark};
 ghost use Rattle.in_place.specs.Behind.{MarksBehind};
 ghost use Rattle.in_place.specs.InPlace.{Rewrites};
 ghost use Rattle.in_place.specs.Unnamed.{LiesApart, NamesNoneOf};
-ghost use Rattle.record_edits.specs.InPlace.{NamesNoRoom};
-ghost use Rattle.value_edits.specs.ValueEdits.{EditsValue};
+ghost use Rattle.value_edits.specs.ValueEdits.{EditsAlone};
 ghost use Rattle.edit_written.specs.Finished.{IsFinished, IsPlaceOf};
 ghost use Rattle.edit_written.specs.LeavesAlone.{LeavesAlone};
 
-/// What tells where a volume lies, its flag, its log, its bits and its table of case are left alone: by a rewrite of values that names none
-/// of them (`rewritten`), by the edit of one value of a file that is not the table of case (`value_edited`), and by two such edits, one
-/// after the other (`both`).
+/// What tells where a volume lies, its flag and its log are left alone: by a rewrite of values that names none of them (`rewritten`), by the
+/// edit of one stream alone (`stream_edited`), and by two such edits, one after the other (`both`).
 pub fn left_alone()
     ensures rewritten { (changed : Key → Bool) (old new : VolumeView) → Rewrites changed old new → IsSound old → LiesApart old
         → NamesNoneOf changed MFT → NamesNoneOf changed VOLUME → changed (key_of BOOT DATA []) ≡ false
-        → changed (key_of LOG_FILE DATA []) ≡ false → NamesNoRoom changed → changed (key_of UPCASE DATA []) ≡ false
-        → LeavesAlone old new }
+        → changed (key_of LOG_FILE DATA []) ≡ false → LeavesAlone old new }
     ensures both { (old mid new : VolumeView) → LeavesAlone old mid → LeavesAlone mid new → LeavesAlone old new }
-    ensures value_edited { (key : Key) (old new : VolumeView) → LiesApart old → EditsValue key old new → key.file ≢ UPCASE
+    ensures stream_edited { (key : Key) (old new : VolumeView) → IsSound old → LiesApart old → EditsAlone key old new
         → LeavesAlone old new }
 {}
 
@@ -43,7 +40,7 @@ pub fn staged_laws()
 {}
 
 /// What was written of such an edit is what was staged, but for the mark and the log (`agrees`), and what comes behind an edit: the first
-/// mark, or nothing (`behind`). The bits and the table of case that are stored are as they were (`stored`).
+/// mark, or nothing (`behind`). The bits and the table of case that are stored are those that were staged (`stored`).
 pub fn written_laws()
     ensures agrees { (old new : VolumeView) (before staged written : List ℕ) (flag : Flag) (marked : Bool) (spans : List Span)
         → LeavesAlone old new → IsVolumeOf staged new → IsSound new → IsPlaceOf old before flag marked spans
@@ -52,6 +49,6 @@ pub fn written_laws()
         → IsVolumeOf before old → IsSound old → LeavesAlone old new → IsVolumeOf staged new → IsSound new
         → IsPlaceOf old before flag marked spans → IsFinished flag marked spans staged written
         → MarksBehind new (told_view (sector_in (Some written)) new.layout) }
-    ensures stored { (old new next : VolumeView) (clusters records : List Bool) (upcase : List ℕ) → LeavesAlone old new
-        → MarksBehind new next → AreStored old clusters records upcase → AreStored next clusters records upcase }
+    ensures stored { (new next : VolumeView) (clusters records : List Bool) (upcase : List ℕ) → MarksBehind new next
+        → AreStored new clusters records upcase → AreStored next clusters records upcase }
 {}

@@ -1,11 +1,11 @@
 -- THE STAGED VOLUME of each command that is done in place, and that it can be written.
-use Rattle.std.proofs.Common.{◌≡◌, min, ℕ, true, false, List, Option, length, refl, sym, ap, subst, ◌∙◌}
+use Rattle.std.proofs.Common.{◌≡◌, min, ℕ, true, false, List, Option, length, refl, sym, ap, subst, ◌∙◌, arith}
 use Rattle.std.specs.Prelude.{IsTrue}
 use Rattle.volume_def.specs.Values.{spot_at}
 use Rattle.volume_def.specs.View.{VolumeView}
 use Rattle.tree_model.specs.Answers.{bytes_at}
 use Rattle.tree_model.specs.Effects.{put_stream, tree_after}
-use Rattle.tree_model.specs.Staging.{is_done_in_place}
+use Rattle.tree_model.specs.Ways.{is_done_in_place}
 use Rattle.tree_model.specs.StreamRoom.{is_cluster, parts_named}
 use Rattle.tree_model.specs.Streams.{punched, written}
 use Rattle.tree_model.specs.Subjects.{Located}
@@ -18,13 +18,14 @@ use Rattle.session_def.specs.State.{Stands, State}
 use Rattle.attribute_edits.proofs.SecuredVolume.{secured}
 use Rattle.stream_overwrites.specs.Overwritten.{zeros_in}
 use Rattle.stream_overwrites.proofs.OverReading.{overwritten, value-overwritten}
-use Rattle.in_place_owed.specs.SetsInPlace.{punches_stream}
+use Rattle.in_place_owed.specs.SetsInPlace.{is_set_key, punches_stream}
 use Rattle.in_place_owed.proofs.Owes as in_place
 use Rattle.in_place_done.specs.Written.{PunchesStream, PutsInStream, Stages, WritesStream}
 use Rattle.in_place_done.proofs.HeldStream.{HoldsStream, finds-plain}
 use Rattle.in_place_done.proofs.PunchedStream.{nowhere, punched-written, value-held}
 use Rattle.in_place_done.proofs.SecureStaged.{secure-staged}
 use Rattle.in_place_done.proofs.SetStaged.{set-staged}
+use Rattle.in_place_done.proofs.NoneGiven.{none-given}
 use Rattle.in_place_done.proofs.SetOwed.{set-alone, set-in-place}
 use Rattle.in_place_done.proofs.StagedVolume.{CanBeEdited, CanBeWritten, IsStaged, can-be-set}
 use Rattle.in_place_done.proofs.Ways.{InPlace}
@@ -119,5 +120,7 @@ place-written before command at node new place is stages =
       reads = s.reads;
       alone = set-alone before command at node new can s.set;
       leaves = λ next first settled long wrote.
-          in_place.leaves before next command at 0 new (set-in-place before command at node new can s.set next first settled long wrote);
+          let none = none-given (is_set_key before.machine.tree command at) before.view new s.set.rewrites in
+          in_place.leaves before next command at 0 new
+          (set-in-place before command at node new can s.set next first settled long (omega (arith, wrote, none)));
     }

@@ -60,7 +60,7 @@ module _ (facts : Facts) (before : State) (session : ℕ) (command : Command) (f
 
   done : (next : State) → next.image ≡ written → IsVolumeOf written next.view
       → next.machine ≡ machine_behind before session command at
-      → next.written ≤ before.written + most_written before command at.file
+      → next.written ≤ before.written + most_written before command at.file new
       → EditDone facts before session command next × HasEmptyLog next.view
   done next image volume moved wrote =
       let leaves = s.leaves next (first next image volume) (settled next image volume) (as-long next image volume) wrote in (

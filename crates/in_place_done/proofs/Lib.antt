@@ -12,6 +12,7 @@ pub mod StepsStaged
 pub mod WriteStaged
 pub mod SecureStaged
 pub mod PunchedStream
+pub mod NoneGiven
 pub mod SetOwed
 pub mod CommandsStaged
 pub mod ValueStaged
@@ -19,3 +20,4 @@ pub mod ValueWritten
 pub mod FoundEdit
 pub mod WrittenBytes
 pub mod Leaves
+pub mod Below

@@ -2,7 +2,7 @@
 -- lies.
 use Rattle.std.proofs.Common.{◌≡◌, ◌≢◌, ◌<◌, ◌≤◌, ◌+◌, ℕ, Bool, false, [], length, refl, subst, arith}
 use Rattle.ntfs_def.specs.declared.kinds.TheConstants.{DATA}
-use Rattle.ntfs_def.specs.declared.records.TheConstants.{BOOT, FIRST_ORDINARY, LOG_FILE, MFT, ROOT, UPCASE, VOLUME}
+use Rattle.ntfs_def.specs.declared.records.TheConstants.{BOOT, FIRST_ORDINARY, LOG_FILE, MFT, ROOT, VOLUME}
 use Rattle.volume_def.specs.FileNames.{names_of}
 use Rattle.volume_def.specs.Files.{records_of}
 use Rattle.volume_def.specs.Sound.{IsSound}
@@ -17,10 +17,10 @@ use Rattle.session_def.specs.State.{State}
 use Rattle.in_place.specs.Behind.{MarksBehind}
 use Rattle.in_place.specs.Unnamed.{NamesNoneOf}
 use Rattle.in_place_owed.specs.SetsInPlace.{SetsInPlace, is_set_key, links_of}
-use Rattle.in_place_owed.proofs.SetKeys.{data-free, low-other, set-no_room, shown-ordinary}
+use Rattle.in_place_owed.proofs.SetKeys.{data-free, low-other, shown-ordinary}
 use Rattle.edit_written.specs.LeavesAlone.{LeavesAlone}
 use Rattle.edit_written.proofs.LeftAlone.{rewritten}
-use Rattle.in_place_done.specs.Written.{most_written}
+use Rattle.in_place_done.specs.Written.{most_set}
 use Rattle.in_place_done.proofs.FirstRecords.{firsts-free}
 use Rattle.in_place_done.proofs.NameCount.{links-count}
 use Rattle.in_place_done.proofs.StagedVolume.{CanBeSet, IsSet}
@@ -49,11 +49,9 @@ module _ (before : State) (command : Command) (at : Located) (node : Node) (new 
   set-alone =
       rewritten changed old new s.rewrites is.can.sound is.can.apart (firsts MFT (omega arith)) (firsts VOLUME (omega arith))
       (no-stream BOOT (omega arith) (λ e. omega (arith, e))) (firsts LOG_FILE (omega arith) DATA [])
-      (set-no_room before.machine.tree command at (records_of old) is.edits (λ edits. shown))
-      (no-stream UPCASE (omega arith) (λ e. omega (arith, e)))
 
   pub set-in-place : (next : State) → MarksBehind new next.view → IsSound next.view → length next.image ≡ length before.image
-      → next.written ≤ before.written + most_written before command at.file → SetsInPlace before next command at new
+      → next.written ≤ before.written + most_set before command at.file → SetsInPlace before next command at new
   set-in-place next first settled long wrote = record {
     stands = is.stands;
     edits = is.edits;

@@ -13,7 +13,8 @@ use Rattle.volume_def.specs.Values.{spot_at}
 use Rattle.volume_def.specs.View.{VolumeView}
 use Rattle.tree_model.specs.Effects.{tree_after}
 use Rattle.tree_model.specs.Reading.{read}
-use Rattle.tree_model.specs.Staging.{is_built_for, is_done_in_place}
+use Rattle.tree_model.specs.Staging.{is_built_for}
+use Rattle.tree_model.specs.Ways.{is_done_in_place}
 use Rattle.tree_model.specs.StreamRoom.{is_cluster}
 use Rattle.tree_model.specs.Subjects.{Located, NoName}
 use Rattle.tree_model.specs.Tree.{Tree}
@@ -98,4 +99,4 @@ pub record CanBeWritten (before : State) (command : Command) (at : Located) (new
   pub reads : read new ≡ tree_after before.machine command at 0
   pub alone : LeavesAlone before.view new
   pub leaves : (next : State) → MarksBehind new next.view → IsSound next.view → length next.image ≡ length before.image
-      → next.written ≤ before.written + most_written before command at.file → LeavesDone before next command at 0
+      → next.written ≤ before.written + most_written before command at.file new → LeavesDone before next command at 0

@@ -1,12 +1,15 @@
--- THE TWO WAYS in which a command is done that is built for a volume: in place, or in a record. A write takes the one or the other.
-use Rattle.std.proofs.Common.{◌≡◌, ◌⊎◌, ◌+◌, ◌||◌, not, ℕ, true, length, inl, inr, refl}
+-- THE WAYS in which a command is done that is built for a volume: in place, or of one stream alone, in a record or in clusters. A write
+-- takes the one or the other.
+use Rattle.std.proofs.Common.{◌≡◌, ◌⊎◌, ◌+◌, ◌||◌, not, ℕ, true, length, Option, Some, None, inl, inr, refl}
 use Rattle.std.proofs.lemmas.Bool.{and_parts, or_cases}
 use Rattle.std.specs.Prelude.{is_some}
+use Rattle.volume_def.specs.Files.{Part}
 use Rattle.volume_def.specs.Table.{cluster_bytes}
 use Rattle.volume_def.specs.Values.{first_part}
 use Rattle.volume_def.specs.View.{VolumeView}
-use Rattle.tree_model.specs.Staging.{fits_in_record, gets_no_longer, has_no_list, is_built_for, is_done_in_place, is_done_in_record}
-use Rattle.tree_model.specs.Staging.{is_value_alone, stays_value}
+use Rattle.tree_model.specs.Staging.{is_built_for}
+use Rattle.tree_model.specs.Ways.{fits_in_record, gets_no_longer, has_no_list, in_extent, is_done_in_clusters, is_done_in_place}
+use Rattle.tree_model.specs.Ways.{is_done_in_record, is_extent_alone, is_value_alone, stays_value}
 use Rattle.tree_model.specs.StreamRoom.{goes_over, stream_parts, stream_value}
 use Rattle.tree_model.specs.Subjects.{Located}
 use Rattle.tree_model.specs.Tree.{Tree}
@@ -14,7 +17,7 @@ use Rattle.tree_model.specs.declared.command.Command.{Command}
 use Rattle.tree_model.specs.declared.command.Command.TheVariants as c
 use Rattle.session_def.specs.Nodes.{edits_stream}
 use Rattle.in_place_owed.specs.SetsInPlace.{edits_in_place}
-use Rattle.value_owed.specs.ValueOwed.{edits_value}
+use Rattle.value_owed.specs.ValueOwed.{IsDoneAlone, edits_value}
 use Rattle.in_place_done.proofs.HeldStream.{over-some, value-some}
 
 place-of : (view : VolumeView) (tree : Tree) (command : Command) (at : Located) → is_done_in_place view tree command at ≡ true
@@ -34,21 +37,31 @@ record-of view tree (c.Truncate path stream size) at is = refl
 record-of view tree (c.Rmstream path name) at is = refl
 record-of view tree other at is = cc
 
+clusters-of : (view : VolumeView) (tree : Tree) (command : Command) (at : Located) → is_done_in_clusters view tree command at ≡ true
+    → edits_value command ≡ true
+clusters-of view tree (c.Truncate path stream size) at is = refl
+clusters-of view tree (c.Rmstream path name) at is = refl
+clusters-of view tree other at is = cc
+
 -- what is known of the command and the volume, by each way
 pub record InPlace (view : VolumeView) (tree : Tree) (command : Command) (at : Located) : Type 0 where
   pub edits : edits_in_place command ≡ true
   pub is : is_done_in_place view tree command at ≡ true
 
-pub record InRecord (view : VolumeView) (tree : Tree) (command : Command) (at : Located) : Type 0 where
+pub record Alone (view : VolumeView) (tree : Tree) (command : Command) (at : Located) : Type 0 where
   pub edits : edits_value command ≡ true
-  pub is : is_done_in_record view tree command at ≡ true
+  pub is : IsDoneAlone view tree command at
 
 pub way-of : (view : VolumeView) (tree : Tree) (command : Command) (at : Located) → is_built_for view tree command at ≡ true
-    → InPlace view tree command at ⊎ InRecord view tree command at
+    → InPlace view tree command at ⊎ Alone view tree command at
 way-of view tree command at built =
-    elim (or_cases (is_done_in_place view tree command at) (is_done_in_record view tree command at) built) [
+    elim (or_cases (is_done_in_place view tree command at)
+    (is_done_in_record view tree command at || is_done_in_clusters view tree command at) built) [
       | inl is ↦ inl (record { edits = place-of view tree command at is; is = is })
-      | inr is ↦ inr (record { edits = record-of view tree command at is; is = is })
+      | inr alone ↦ inr (elim (or_cases (is_done_in_record view tree command at) (is_done_in_clusters view tree command at) alone) [
+        | inl is ↦ record { edits = record-of view tree command at is; is = inl is }
+        | inr is ↦ record { edits = clusters-of view tree command at is; is = inr is }
+      ])
     ]
 
 -- THE STREAM of a command that is done has a part, either way.
@@ -70,7 +83,7 @@ stays-alone view tree at size stays =
     (and_parts (is_value_alone view tree at)
     (gets_no_longer size at.content || fits_in_record view at.file (stream_parts view tree at) size) stays).0
 
-record-alone : (view : VolumeView) (tree : Tree) (command : Command) (at : Located) → is_done_in_record view tree command at ≡ true
+pub record-alone : (view : VolumeView) (tree : Tree) (command : Command) (at : Located) → is_done_in_record view tree command at ≡ true
     → is_value_alone view tree at ≡ true
 record-alone view tree (c.Write path stream from bytes) at is =
     let over = not (goes_over (cluster_bytes view.layout) (stream_parts view tree at) from (length bytes)) in
@@ -82,12 +95,31 @@ record-alone view tree (c.Truncate path stream size) at is = stays-alone view tr
 record-alone view tree (c.Rmstream path name) at is = is
 record-alone view tree other at is = cc
 
+-- .. and so has one in clusters
+extent-some : (o : Option Part) → in_extent o ≡ true → is_some o ≡ true
+extent-some None is = is
+extent-some (Some part) is = refl
+
+clusters-alone : (view : VolumeView) (tree : Tree) (command : Command) (at : Located) → is_done_in_clusters view tree command at ≡ true
+    → is_extent_alone view tree at ≡ true
+clusters-alone view tree (c.Truncate path stream size) at is =
+    (and_parts (is_extent_alone view tree at) (gets_no_longer size at.content) is).0
+clusters-alone view tree (c.Rmstream path name) at is = is
+clusters-alone view tree other at is = cc
+
+alone-some : (view : VolumeView) (tree : Tree) (command : Command) (at : Located) → IsDoneAlone view tree command at
+    → is_some (first_part (stream_parts view tree at)) ≡ true
+alone-some view tree command at (inl is) =
+    value-some (stream_parts view tree at)
+    (and_parts (is_some (stream_value (stream_parts view tree at))) (has_no_list view at.file)
+    (record-alone view tree command at is)).0
+alone-some view tree command at (inr is) =
+    extent-some (first_part (stream_parts view tree at))
+    (and_parts (in_extent (first_part (stream_parts view tree at))) _ (clusters-alone view tree command at is)).0
+
 pub stream-some : (view : VolumeView) (tree : Tree) (command : Command) (at : Located) → edits_stream command ≡ true
     → is_built_for view tree command at ≡ true → is_some (first_part (stream_parts view tree at)) ≡ true
 stream-some view tree command at edits built = elim (way-of view tree command at built) [
   | inl place ↦ place-some view tree command at edits place.is
-  | inr value ↦
-      value-some (stream_parts view tree at)
-      (and_parts (is_some (stream_value (stream_parts view tree at))) (has_no_list view at.file)
-      (record-alone view tree command at value.is)).0
+  | inr alone ↦ alone-some view tree command at alone.is
 ]

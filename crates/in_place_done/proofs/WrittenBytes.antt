@@ -25,7 +25,7 @@ pub record IsWritten (before : State) (flag : Flag) (staged written : List ℕ) 
   pub flag_there : IsFlagOf (staged_view before staged) flag
   pub agrees : AgreesButMark (staged_view before staged) flag staged written
   pub behind : MarksBehind (staged_view before staged) (staged_view before written)
-  pub stored : (clusters records : List Bool) (upcase : List ℕ) → AreStored before.view clusters records upcase
+  pub stored : (clusters records : List Bool) (upcase : List ℕ) → AreStored (staged_view before staged) clusters records upcase
       → AreStored (staged_view before written) clusters records upcase
 
 module _ (before : State) (staged : List ℕ) (stands : Stands before) (sound : IsSound (staged_view before staged))
@@ -50,5 +50,5 @@ module _ (before : State) (staged : List ℕ) (stands : Stands before) (sound : 
     flag_there = staged-flag old new flag alone place.flag_is;
     agrees = agrees old new before.image staged written flag marked spans alone volume sound place finished;
     behind = behind;
-    stored = λ clusters records upcase. bits-stored old new (staged_view before written) clusters records upcase alone behind;
+    stored = λ clusters records upcase. bits-stored new (staged_view before written) clusters records upcase behind;
   }

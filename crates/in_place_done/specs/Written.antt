@@ -1,5 +1,5 @@
 -- AN EDIT THAT WAS STAGED, AND WRITTEN. One in place: bytes of a stream that went over bytes, a range of a value that was made zero, and
--- times, flags and the security id of a file that were set. Or one of a value: a stream that has other bytes, or went.
+-- times, flags and the security id of a file that were set. Or one of a stream alone, a value or in clusters: it has other bytes, or went.
 use Rattle.std.specs.Prelude.{◌≡◌, ◌||◌, ◌+◌, ◌*◌, ◌/◌, ◌^◌, ◌<◌, ◌≤◌, ℕ, Bool, List, Contains, Ok, Option, None, Some, bit_and, length}
 use Rattle.std.specs.Prelude.{false, slice_set, true}
 use Rattle.vol_disk.specs.Contents.{sector_in}
@@ -16,7 +16,7 @@ use Rattle.tree_model.specs.Effects.{after, touched}
 use Rattle.tree_model.specs.Facts.{IsVolumeOf, TellsFacts}
 use Rattle.tree_model.specs.Reading.{read}
 use Rattle.tree_model.specs.Refusals.{Facts, outcome}
-use Rattle.tree_model.specs.Staging.{is_done_in_place}
+use Rattle.tree_model.specs.Ways.{is_done_in_place}
 use Rattle.tree_model.specs.Streams.{resized, written}
 use Rattle.tree_model.specs.Subjects.{Located, Machine}
 use Rattle.tree_model.specs.declared.command.Command.{Command}
@@ -24,7 +24,7 @@ use Rattle.tree_model.specs.declared.command.Command.TheVariants as c
 use Rattle.tree_model.specs.declared.tree.Node.{Node}
 use Rattle.tree_model.specs.declared.tree.TheConstants.{SHOWN_FLAGS}
 use Rattle.edit_def.specs.Kept.{AreTellable, key_of, told_of}
-use Rattle.session_def.specs.Cost.{bytes_in}
+use Rattle.session_def.specs.Cost.{bytes_in, given_back}
 use Rattle.session_def.specs.Done.{EditDone, HasEmptyLog, first_cost}
 use Rattle.session_def.specs.Named.{spelt}
 use Rattle.session_def.specs.State.{Stands, State}
@@ -44,7 +44,7 @@ SetsShown (c.Setattr path flags) = bit_and flags SHOWN_FLAGS ≡ flags
 SetsShown (c.Setsec path id) = id < 2 ^ 32
 SetsShown other = Unit {0}
 
--- THE COMMANDS: those that are done in place, and those that edit one value; a write is the one or the other
+-- THE COMMANDS: those that are done in place, and those that edit one stream alone; a write is the one or the other
 abbrev pub is_done : Command → Bool
 is_done command = edits_in_place command || edits_value command
 
@@ -78,7 +78,7 @@ pub record PunchesStream (before : State) (at : Located) (f : ℕ) (node : Node)
   pub tellable : AreTellable (told_of before.view f)
   pub punches : PunchesValue before.view new f name from len (touched before.machine.now node).times node.flags
 
--- THE STREAM, which is a value, HAS THESE BYTES, or goes. Then the moment was set as those times too.
+-- THE STREAM HAS THESE BYTES, or goes. Then the moment was set as those times too.
 pub record EditsStream (before : State) (at : Located) (f : ℕ) (node : Node) (bytes : Option (List ℕ)) (new : VolumeView) : Type 0 where
   pub name : List ℕ
   pub spelt_so : units_in name ≡ spelt before.machine.tree at
@@ -116,10 +116,13 @@ abbrev pub machine_behind : State → ℕ → Command → Located → Machine
 machine_behind before session command at = after before.machine session command at 0
 
 -- how many sectors the edit may write at most: the mark, the log, those that its bytes touch, records with their copies, and twelve for
--- each name
-abbrev pub most_written : State → Command → ℕ → ℕ
-most_written before command f =
+-- each name; and two for each cluster that is given back
+abbrev pub most_set : State → Command → ℕ → ℕ
+most_set before command f =
     first_cost before.view + 12 + 12 * length (names_of (records_of before.view) f) + bytes_in command / 512
+
+abbrev pub most_written : State → Command → ℕ → VolumeView → ℕ
+most_written before command f new = most_set before command f + 2 * given_back before.view new
 
 -- WHAT IT LEAVES: a sound volume was staged that reads as the machine's tree, and what was written of it is all that an edit that was done
 -- leaves.
@@ -132,8 +135,8 @@ pub record LeavesEdit (facts : Facts) (before : State) (session : ℕ) (command 
   pub reading : read new ≡ (machine_behind before session command at).tree
   pub flag_there : IsFlagOf new flag
   pub agrees : AgreesButMark new flag staged written
-  pub stored : (clusters records : List Bool) (upcase : List ℕ) → AreStored before.view clusters records upcase
+  pub stored : (clusters records : List Bool) (upcase : List ℕ) → AreStored new clusters records upcase
       → AreStored (told_view (sector_in (Some written)) before.view.layout) clusters records upcase
   pub done : (next : State) → next.image ≡ written → IsVolumeOf written next.view
-      → next.machine ≡ machine_behind before session command at → next.written ≤ before.written + most_written before command at.file
+      → next.machine ≡ machine_behind before session command at → next.written ≤ before.written + most_written before command at.file new
       → EditDone facts before session command next × HasEmptyLog next.view

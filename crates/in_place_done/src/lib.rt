@@ -1,4 +1,4 @@
-//! What an edit leaves that was staged and written: one in place, or of one value. Laws with nothing to run.
+//! What an edit leaves that was staged and written: one in place, or of one stream alone. Laws with nothing to run.
 #![tactic(auto)]
 
 mod laws;

@@ -1,11 +1,11 @@
--- THE STORED BITS ARE RIGHT STILL where the bitmaps have the values that they had, and the bits in memory are right before and after.
-use Rattle.std.proofs.Common.{◌≡◌, ◌<◌, ◌≤◌, ℕ, List, sym, ap, subst, ◌∙◌, arith}
-use Rattle.std.specs.Prelude.{is_some, nat_le}
-use Rattle.std.proofs.lemmas.Bool.{le-leb, leb-true}
+-- THE STORED BITS ARE RIGHT where one stream was edited: the flags of its clusters that it has no more are clear, and of no other did the
+-- owner change.
+use Rattle.std.proofs.Common.{◌≡◌, ◌<◌, ◌≤◌, ◌+◌, ◌↔◌, ℕ, List, inl, inr, sym, ap, subst, ◌∙◌, arith}
+use Rattle.std.specs.Prelude.{is_some}
+use Rattle.std.proofs.lemmas.Bool.{cases_eq}
 use Rattle.list_laws.specs.Bits.{bit_in}
-use Rattle.list_laws.proofs.OptionLaws.{some_same}
-use Rattle.ntfs_def.specs.declared.records.TheConstants.{FIRST_ORDINARY}
 use Rattle.volume_def.specs.BitmapClauses.{cluster_bits, record_bits}
+use Rattle.volume_def.specs.Coverage.{times_covered}
 use Rattle.volume_def.specs.Files.{record_on, records_of}
 use Rattle.volume_def.specs.OwnersClause.{times_owned}
 use Rattle.volume_def.specs.Sound.{IsSound}
@@ -14,43 +14,64 @@ use Rattle.volume_def.specs.Table.{TableLayout}
 use Rattle.volume_def.specs.Values.{value_on}
 use Rattle.volume_def.specs.View.{VolumeView}
 use Rattle.edit_def.specs.Edited.{StoresBits}
-use Rattle.edit_def.specs.Marks.{AreRight, IsEditable, Marks}
+use Rattle.edit_def.specs.Marks.{IsEditable, Marks}
+use Rattle.record_edits.specs.Given.{GivesBack}
+use Rattle.ntfs_def.specs.declared.run_text.Run.{Run}
 
-module _ (old new : VolumeView) (marks : Marks) (was : AreRight old marks) (now : IsEditable new marks)
-    (layout : new.layout ≡ old.layout) where
-  owned-same : (c : ℕ) → c < new.layout.clusters
-      → nat_le 1 (times_owned (records_of new) c) ≡ nat_le 1 (times_owned (records_of old) c)
-  owned-same c inside =
-      some_same (sym (now.right.taken c inside) ∙ was.taken c (subst (λ (l : TableLayout). c < l.clusters) layout inside))
+module _ (old mid new : VolumeView) (marks : Marks) (now : IsEditable new marks) (layout : new.layout ≡ old.layout) (given : List Run)
+    (gives : GivesBack old mid given)
+    (times : (c : ℕ) → times_owned (records_of new) c + times_covered given c ≡ times_owned (records_of old) c)
+    (used : (n : ℕ) → is_some (record_on new n) ≡ is_some (record_on old n))
+    (flags : value_on new (cluster_bits new) ≡ value_on mid (cluster_bits mid))
+    (rows : value_on new (record_bits new) ≡ value_on mid (record_bits mid)) (sound : IsSound old) where
+  clusters : new.layout.clusters ≡ old.layout.clusters
+  clusters = ap (λ (l : TableLayout). l.clusters) layout
 
-  used-same : (n : ℕ) → FIRST_ORDINARY ≤ n → n < new.layout.count → is_some (record_on new n) ≡ is_some (record_on old n)
-  used-same n low inside =
-      some_same (sym (now.right.used n low inside) ∙ was.used n low (subst (λ (l : TableLayout). n < l.count) layout inside))
+  flag-now : (c : ℕ) → bit_in (value_on new (cluster_bits new)) c ≡ bit_in (value_on mid (cluster_bits mid)) c
+  flag-now c = ap (λ (value : List ℕ). bit_in value c) flags
 
-  pub bits-still : IsSound old → value_on new (cluster_bits new) ≡ value_on old (cluster_bits old)
-      → value_on new (record_bits new) ≡ value_on old (record_bits old) → StoresBits new
-  bits-still sound flags rows = record {
+  -- the flag of a cluster that was given back, and of another
+  given-right : (c : ℕ) → 1 ≤ times_covered given c
+      → (bit_in (value_on new (cluster_bits new)) c ≡ 1) ↔ (1 ≤ times_owned (records_of new) c)
+  given-right c gone =
+      let clear = flag-now c ∙ gives.given c gone in
+      let once = (sound clauses.Owners c).once in
+      (λ set. absurd (omega (arith, clear, set)), λ owned. absurd (omega (arith, owned, times c, once, gone)))
+
+  kept-right : (c : ℕ) → c < old.layout.clusters → times_covered given c ≡ 0
+      → (bit_in (value_on new (cluster_bits new)) c ≡ 1) ↔ (1 ≤ times_owned (records_of new) c)
+  kept-right c inside none =
+      let same = flag-now c ∙ gives.others c none in
+      let bit = (sound clauses.ClusterBits c).bit inside in (
+        λ set. let owned = bit.0 (sym same ∙ set) in omega (arith, owned, times c, none),
+        λ owned. same ∙ bit.1 (omega (arith, owned, times c, none)),
+      )
+
+  flag-right : (c : ℕ) → c < old.layout.clusters
+      → (bit_in (value_on new (cluster_bits new)) c ≡ 1) ↔ (1 ≤ times_owned (records_of new) c)
+  flag-right c inside = elim (cases_eq (times_covered given c) 0) [
+    | inl none ↦ kept-right c inside none
+    | inr some ↦ given-right c (omega (arith, some))
+  ]
+
+  row-now : (n : ℕ) → bit_in (value_on new (record_bits new)) n ≡ bit_in (value_on old (record_bits old)) n
+  row-now n = ap (λ (value : List ℕ). bit_in value n) (rows ∙ gives.records)
+
+  pub bits-still : StoresBits new
+  bits-still = record {
     clusters = λ n. record {
       plain = now.bitmaps.plain;
       placed = now.bitmaps.placed;
       long = λ h. omega (arith, now.bitmaps.long);
       written = λ h. omega (arith, now.bitmaps.written);
-      bit = λ h.
-          let b = (sound clauses.ClusterBits n).bit (subst (λ (l : TableLayout). n < l.clusters) layout h) in
-          let same = owned-same n h in
-          let value = ap (λ (v : List ℕ). bit_in v n) flags in (
-            λ set. leb-true 1 _ (same ∙ le-leb 1 _ (b.0 (sym value ∙ set))),
-            λ owned. value ∙ b.1 (leb-true 1 _ (sym same ∙ le-leb 1 _ owned)),
-          );
+      bit = λ h. flag-right n (omega (arith, h, clusters));
     };
     records = λ n. record {
       bits = λ is. now.bitmaps.records;
       bit = λ low h.
-          let b = (sound clauses.RecordBits n).bit low (subst (λ (l : TableLayout). n < l.count) layout h) in
-          let same = used-same n low h in
-          let value = ap (λ (v : List ℕ). bit_in v n) rows in (
-            λ set. same ∙ b.0 (sym value ∙ set),
-            λ used. value ∙ b.1 (sym same ∙ used),
+          let b = (sound clauses.RecordBits n).bit low (subst (λ (l : TableLayout). n < l.count) layout h) in (
+            λ set. used n ∙ b.0 (sym (row-now n) ∙ set),
+            λ is. row-now n ∙ b.1 (sym (used n) ∙ is),
           );
     };
   }

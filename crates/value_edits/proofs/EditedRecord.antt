@@ -1,39 +1,64 @@
--- ONE VALUE EDITED is a call that names its attribute and costs nothing, on a sound volume whose clusters lie apart.
-use Rattle.std.proofs.Common.{◌≡◌, ◌≢◌, ℕ, List, [], ◌∷◌, Option, Some, None, refl, subst, inl, inr, ◌∙◌, arith}
+-- ONE STREAM EDITED is a call that names its attribute and costs nothing, on a sound volume whose clusters lie apart. The bits in memory
+-- are those that are right (`right_marks`), before and after, so none are parameters; `edited-any` has the call for any that are right.
+use Rattle.std.proofs.Common.{◌≡◌, ◌≢◌, ◌⊎◌, ◌+◌, ◌≤◌, ◌<◌, ℕ, Bool, false, List, [], ◌∷◌, Option, Some, None, refl, sym, ap, subst}
+use Rattle.std.proofs.Common.{inl, inr, filter, length, map, ◌∙◌, arith}
+use mathlib.Core.Path.{fun_ext}
+use Rattle.std.specs.List.{range_with_len}
 use Rattle.std.specs.Option.{option_to_list}
-use Rattle.std.specs.Prelude.{IfSome, IsSome}
-use Rattle.ntfs_def.specs.Attribute.{Attribute, value_of}
+use Rattle.std.specs.Prelude.{All, IfSome, IsTrue, count_by, is_none, is_some, nat_le, slice_get}
+use Rattle.std.proofs.lemmas.Bool.{cases_lt}
+use Rattle.std.proofs.lemmas.Option.{slice_get_past}
+use Rattle.ntfs_def.specs.Attribute.{Attribute, attributes}
 use Rattle.ntfs_def.specs.Fixup.{opened_of}
-use Rattle.ntfs_def.specs.declared.kinds.TheConstants.{ATTRIBUTE_LIST, DATA, FILE_NAME, STANDARD_INFORMATION}
-use Rattle.ntfs_def.specs.declared.records.TheConstants.{MFT_MIRROR}
-use Rattle.list_laws.proofs.MemberLaws.{Contains-head}
+use Rattle.ntfs_def.specs.declared.kinds.TheConstants.{ATTRIBUTE_LIST}
+use Rattle.ntfs_def.specs.declared.records.TheConstants.{MFT, MFT_MIRROR}
+use Rattle.list_laws.proofs.MemberLaws.{Contains-only}
 use Rattle.list_laws.proofs.PieceLaws.{All-one}
-use Rattle.volume_def.specs.AttributesClause.{IsRightRecord}
-use Rattle.volume_def.specs.Files.{part_of, parts_at, record_of, records_of}
+use Rattle.volume_def.specs.AttributesClause.{is_standard}
+use Rattle.volume_def.specs.Coverage.{times_covered}
+use Rattle.volume_def.specs.Edits.{EditsAt}
+use Rattle.volume_def.specs.ExtentsClause.{AreAttribute}
+use Rattle.volume_def.specs.Files.{Part, Records, file_of, is_base, is_of, part_of, parts, parts_at, record_of, record_on, records_of}
+use Rattle.volume_def.specs.LimitsClause.{IsInLimits}
+use Rattle.volume_def.specs.ListsClause.{is_list}
+use Rattle.volume_def.specs.OwnersClause.{MeetsOwners, times_owned}
 use Rattle.volume_def.specs.Sound.{IsSound}
 use Rattle.volume_def.specs.Sound as clauses
+use Rattle.volume_def.specs.Table.{TableLayout, cluster_bytes}
 use Rattle.volume_def.specs.View.{VolumeView}
 use Rattle.volume_edits.specs.Rewritten.{EditsBlock}
 use Rattle.edit_def.specs.Account.{nothing}
 use Rattle.edit_def.specs.Edited.{Edited}
-use Rattle.edit_def.specs.Kept.{Key, key_of, same_key}
+use Rattle.edit_def.specs.Kept.{Key, same_key}
 use Rattle.edit_def.specs.Marks.{AreRight, Marks}
+use Rattle.edit_def.specs.Purses.{Costs}
+use Rattle.edit_def.proofs.EditedLaws.{Edited-then}
 use Rattle.edit_def.proofs.NamesLaws.{bases-of}
 use Rattle.record_edits.specs.Between.{IsReady}
+use Rattle.record_edits.specs.Owners.{FollowsRuns, NamesRightly, times_in}
 use Rattle.record_edits.specs.RecordEdit.{AllHave, EditsPart, EditsRecord, HasKey, parts_made}
+use Rattle.record_edits.specs.Whole.{IsWhole}
+use Rattle.record_edits.proofs.BlockEdits.{apart-from, edit-of}
+use Rattle.record_edits.proofs.CostLaws.{costs-drop, costs-put}
+use Rattle.record_edits.proofs.FileEdits.{list-missing}
+use Rattle.record_edits.proofs.FillLaws.{follows-gone, held, names-gone}
+use Rattle.record_edits.proofs.OwnerEdits.{times-edit}
 use Rattle.record_edits.proofs.RecordEdits as call
+use Rattle.record_edits.proofs.RoomEdits.{used-kept}
 use Rattle.record_edits.proofs.WholeEdits as whole
-use Rattle.record_calls.specs.Calls.{IsInOneRecord, MayEditIn}
-use Rattle.record_calls.proofs.ValueAlone.{value-alone}
-use Rattle.record_calls.proofs.ValueEdits.{go-costs, has-key, has-none, put-costs, value-content}
-use Rattle.record_calls.proofs.Values.{no-value, one-value}
+use Rattle.record_calls.specs.Calls.{IsInOneRecord}
+use Rattle.record_calls.specs.Edits.{record_there}
+use Rattle.record_calls.proofs.ValueEdits.{has-none}
 use Rattle.record_calls.proofs.WholeCalls as calls
+use Rattle.command_edits.proofs.CallKeys.{within-nothing}
 use Rattle.in_place.specs.Unnamed.{LiesApart}
 use Rattle.in_place.proofs.EditedInPlace.{editable-sound}
-use Rattle.value_edits.specs.ValueEdits.{EditsValue, KeepsHead}
+use Rattle.in_place_owed.proofs.MarksLaws.{marks-right, right_marks}
+use Rattle.value_edits.specs.ValueEdits.{ComesInPlace, EditsAlone}
+use Rattle.value_edits.proofs.GivenBack as given
 
 -- Such a volume is ready for a call, and one that is ready lies apart.
-ready-sound : (view : VolumeView) (marks : Marks) → IsSound view → LiesApart view → AreRight view marks → IsReady view marks
+pub ready-sound : (view : VolumeView) (marks : Marks) → IsSound view → LiesApart view → AreRight view marks → IsReady view marks
 ready-sound view marks sound apart right = record {
   editable = editable-sound view marks sound right;
   limits = sound clauses.Limits;
@@ -52,78 +77,246 @@ apart-ready view marks ready = record {
   unnamed = ready.table.unnamed;
 }
 
--- A VALUE of a stream, in whose place another stands, or none
-module _ (f : ℕ) (old new : VolumeView) (marks : Marks) (ready : IsReady old marks) (one : IsInOneRecord old f) (stored : List ℕ)
-    (was : Attribute) (kind : was.kind ≡ DATA) (value : IsSome (value_of was.body))
-    (right : IsRightRecord f (record_of f (opened_of stored))) where
-  no-name : was.kind ≢ FILE_NAME
-  no-name e = absurd (omega (arith, e, kind))
+module _ (key : Key) (old new : VolumeView) (sound : IsSound old) (apart : LiesApart old) (e : EditsAlone key old new) where
+  abbrev mid : VolumeView
+  mid = e.mid
 
-  no-list : was.kind ≢ ATTRIBUTE_LIST
-  no-list e = absurd (omega (arith, e, kind))
+  abbrev f : ℕ
+  f = key.file
 
-  no-standard : was.kind ≢ STANDARD_INFORMATION
-  no-standard e = absurd (omega (arith, e, kind))
+  abbrev was : List Attribute
+  was = e.was ∷ []
 
-  -- it is alone
-  alone : (now : List Attribute) → EditsBlock old new f stored (was ∷ []) now
-      → parts_at old f was.kind was.name ≡ parts_made f (was ∷ [])
-  alone now block =
-      value-alone old f (part_of f was) (ready.editable.readable.extents f)
-      (calls.is-file f old new marks ready one stored (was ∷ []) now block)
-      (calls.stood f old new marks ready one stored (was ∷ []) now block was (Contains-head was [])) (value-content f was value) no-name
+  abbrev now : List Attribute
+  now = option_to_list e.now
 
-  may : (now : List Attribute) → EditsBlock old new f stored (was ∷ []) now → MayEditIn old f f
-  may now block = calls.may-edit f old new marks ready one stored (was ∷ []) now block
+  abbrev before : Marks
+  before = right_marks old
 
-  edits-one : (now : Option Attribute) → EditsBlock old new f stored (was ∷ []) (option_to_list now) → IfSome now (KeepsHead was)
-      → EditsRecord (key_of f was.kind was.name) nothing old new marks marks
-  edits-one None block keeps =
-      calls.edits f old new marks ready one stored (was ∷ []) [] block was.kind was.name (one-value was value) no-value right
-      (has-key f was was refl refl) (has-none (key_of f was.kind was.name)) no-list (λ other. alone [] block) (inl refl) nothing
-      (go-costs f f old new (may [] block) stored was block
-      (record { value = value; no_list = no-list; no_standard = no-standard }))
-  edits-one (Some now) block keeps =
-      calls.edits f old new marks ready one stored (was ∷ []) (now ∷ []) block was.kind was.name (one-value was value)
-      (one-value now keeps.value) right (has-key f was was refl refl) (has-key f was now keeps.kind keeps.name) no-list
-      (λ other. alone (now ∷ []) block)
-      (inr (λ size. whole.one-value size f (part_of f now) (value-content f now keeps.value))) nothing
-      (put-costs f f old new (may (now ∷ []) block) stored was now block no-list keeps.kind keeps.name value keeps.value)
+  abbrev after : Marks
+  after = right_marks new
 
--- THE CALL
-module _ (key : Key) (old new : VolumeView) (marks : Marks) (sound : IsSound old) (apart : LiesApart old) (are : AreRight old marks)
-    (e : EditsValue key old new) where
-  ready : IsReady old marks
-  ready = ready-sound old marks sound apart are
+  ready-old : IsReady old before
+  ready-old = ready-sound old before sound apart (marks-right old)
 
-  same-key : key_of key.file e.was.kind e.was.name ≡ key
-  same-key = λ i. record { file = key.file; kind = e.was_of.kind i; name = e.was_of.name i }
+  -- CLUSTERS ARE GIVEN BACK: records, and what they own, are as they were.
+  pub records-mid : records_of mid ≡ records_of old
+  records-mid = given.records-same old mid e.given e.gives
 
-  record-edit : EditsRecord key nothing old new marks marks
-  record-edit = subst (λ (k : Key). EditsRecord k nothing old new marks marks) same-key
-      (edits-one key.file old new marks ready e.one e.stored e.was (e.was_of.kind ∙ e.kind) e.was_value e.right e.now e.block e.now_kept)
+  layout-mid : mid.layout ≡ old.layout
+  layout-mid = e.gives.writes.layout
 
-  pub part : EditsPart key old new marks marks
-  part = record-edit.part
+  abbrev edit : EditsAt (records_of mid) (records_of new) f (parts_made f was) (parts_made f now)
+  edit = edit-of mid new f e.stored was now e.block
 
-  pub edited : Edited (same_key key) nothing old new marks marks
-  edited = call.edited key nothing old new marks marks record-edit ready
+  -- each was a cluster of the stream
+  owned : (c : ℕ) → times_covered e.given c ≤ times_owned (records_of old) c
+  owned c =
+      let named = held (records_of mid) (records_of new) f (parts_made f was) (parts_made f now) edit c in
+      let same = ap (λ (r : Records). times_owned r c) records-mid in
+      omega (arith, named, same, e.balance c)
 
-  pub apart-now : LiesApart new
-  apart-now = apart-ready new marks (call.ready key nothing old new marks marks record-edit ready)
+  edited-mid : Edited (λ key. false) nothing old mid before before
+  edited-mid = given.edited old mid e.given e.gives before ready-old owned
+
+  pub ready-mid : IsReady mid before
+  ready-mid = given.ready-back old mid e.given e.gives before ready-old owned
+
+  pub apart-mid : LiesApart mid
+  apart-mid = apart-ready mid before ready-mid
+
+  pub one-mid : IsInOneRecord mid f
+  one-mid = record {
+    base = subst (λ (block : List ℕ). IsTrue (is_base (record_of f (opened_of block)))) (sym (e.gives.writes.blocks f)) e.one.base;
+    may = e.one.may;
+    no_list = subst (λ (r : Records). count_by is_list (parts r f) ≡ 0) (sym records-mid) e.one.no_list;
+  }
+
+  -- THE RECORD THEN: the clusters that go had an owner each, and the bits follow.
+  own-file : file_of f (record_there mid f) ≡ f
+  own-file = calls.own-file f mid new before ready-mid one-mid e.stored was now e.block
+
+  owners : (c : ℕ) → MeetsOwners (records_of mid) mid.layout.clusters c
+  owners = ready-mid.editable.owners
+
+  times : (c : ℕ) → times_in (parts_made f was) c ≡ times_in (parts_made f now) c + times_covered e.given c
+  times c = sym (e.balance c)
+
+  -- how often a cluster is owned then
+  pub owned-now : (c : ℕ) → times_owned (records_of new) c + times_covered e.given c ≡ times_owned (records_of mid) c
+  owned-now c =
+      let all = times-edit (records_of mid) (records_of new) f (parts_made f was) (parts_made f now) c edit in
+      omega (arith, all, times c)
+
+  pub layout : new.layout ≡ old.layout
+  layout = e.block.replaces.layout ∙ e.gives.writes.layout
+
+  clusters : new.layout.clusters ≡ old.layout.clusters
+  clusters = ap (λ (l : TableLayout). l.clusters) layout
+
+  named : NamesRightly (records_of mid) mid.layout.clusters (parts_made f was) (parts_made f now)
+  named = names-gone (records_of mid) (records_of new) mid.layout.clusters f (parts_made f was) (parts_made f now)
+      (λ c. times_covered e.given c) edit (λ c. (owners c).once) times
+
+  none-now : (c : ℕ) → 1 ≤ times_covered e.given c → times_owned (records_of new) c ≡ 0
+  none-now c gone = omega (arith, gone, owned-now c, (owners c).once)
+
+  clear : (c : ℕ) → c < length before.clusters → 1 ≤ times_covered e.given c → slice_get after.clusters c ≡ Some false
+  clear c inside gone =
+      let long = (marks-right old).count in
+      (marks-right new).taken c (omega (arith, inside, long, clusters))
+      ∙ ap (λ (times : ℕ). Some (nat_le 1 times)) (none-now c gone)
+
+  still : (c : ℕ) → times_covered e.given c ≡ 0 → times_owned (records_of new) c ≡ times_owned (records_of old) c
+  still c none =
+      let same = ap (λ (r : Records). times_owned r c) records-mid in
+      omega (arith, none, same, owned-now c)
+
+  flags-still : (c : ℕ) → times_covered e.given c ≡ 0 → slice_get after.clusters c ≡ slice_get before.clusters c
+  flags-still c none = elim (cases_lt c old.layout.clusters) [
+    | inl inside ↦
+        (marks-right new).taken c (omega (arith, inside, clusters)) ∙ ap (λ (times : ℕ). Some (nat_le 1 times)) (still c none)
+        ∙ sym ((marks-right old).taken c inside)
+    | inr past ↦
+        slice_get_past after.clusters c (omega (arith, past, clusters, (marks-right new).count))
+        ∙ sym (slice_get_past before.clusters c (omega (arith, past, (marks-right old).count)))
+  ]
+
+  follows : FollowsRuns before.clusters after.clusters (parts_made f was) (parts_made f now)
+  follows = follows-gone before.clusters after.clusters (parts_made f was) (parts_made f now) (λ c. times_covered e.given c)
+      (omega (arith, clusters, (marks-right new).count, (marks-right old).count)) times clear flags-still
+
+  pub used-still : (n : ℕ) → is_some (record_on new n) ≡ is_some (record_on old n)
+  used-still n =
+      used-kept (records_of mid) (records_of new) f (parts_made f was) (parts_made f now) edit n
+      ∙ ap (λ (r : Records). is_some (r.record_at n)) records-mid
+
+  rows : after.records ≡ before.records
+  rows =
+      ap (λ (test : ℕ → Bool). map test (range_with_len 0 new.layout.count)) (fun_ext used-still)
+      ∙ ap (λ (l : TableLayout). map (λ n. is_some (record_on old n)) (range_with_len 0 l.count)) layout
+
+  -- WHAT COMES is of the attribute, in limits, and whole.
+  has-now : (next : Option Attribute) → IfSome next (ComesInPlace old f e.was) → AllHave key (option_to_list next)
+  has-now None comes = has-none key
+  has-now (Some a) comes =
+      All-one (HasKey key) a (record { kind = comes.kind ∙ e.was_of.kind; name = comes.name ∙ e.was_of.name })
+
+  limits-now : (next : Option Attribute) → IfSome next (ComesInPlace old f e.was) → All (IsInLimits f) (parts_made f (option_to_list next))
+  limits-now None comes = λ k d lt. absurd (omega (arith, lt))
+  limits-now (Some a) comes = All-one (IsInLimits f) (part_of f a) comes.limits
+
+  whole-now : (next : Option Attribute) → IfSome next (ComesInPlace old f e.was) → (parts_made f (option_to_list next) ≡ [])
+      ⊎ AreAttribute (cluster_bytes old.layout) f (parts_made f (option_to_list next))
+  whole-now None comes = inl refl
+  whole-now (Some a) comes = inr comes.whole
+
+  not-table : f ≢ MFT
+  not-table = apart-from f MFT e.one.may (omega arith) (λ z. absurd (omega (arith, z)))
+
+  no-list : e.was.kind ≢ ATTRIBUTE_LIST
+  no-list is = let kind = e.was_of.kind in let stream = e.kind in absurd (omega (arith, is, kind, stream))
+
+  costs-now : (comes : Option Attribute) → EditsBlock mid new f e.stored was (option_to_list comes)
+      → IfSome comes (ComesInPlace old f e.was)
+      → Costs (records_of mid) (records_of new) f f (parts_made f was) (parts_made f (option_to_list comes)) nothing
+  costs-now None block place =
+      costs-drop (records_of mid) (records_of new) f f (parts_made f was) nothing (edit-of mid new f e.stored was [] block) not-table
+      (λ part c. subst (λ (p : Part). p.kind ≢ ATTRIBUTE_LIST) (Contains-only (part_of f e.was) part c) no-list)
+  costs-now (Some a) block place =
+      costs-put (records_of mid) (records_of new) f f (part_of f e.was) (part_of f a) nothing
+      (edit-of mid new f e.stored was (a ∷ []) block) own-file not-table no-list place.kind place.name (omega (arith, place.size))
+
+  -- THE CALL
+  pub part : EditsPart key mid new before after
+  part = record {
+    n = f;
+    stored = e.stored;
+    was = was;
+    now = now;
+    block = e.block;
+    file = own-file;
+    is_file = calls.is-file f mid new before ready-mid one-mid e.stored was now e.block;
+    may = e.one.may;
+    was_of = All-one (HasKey key) e.was e.was_of;
+    now_of = has-now e.now e.comes;
+    right = e.right;
+    limits = limits-now e.now e.comes;
+    names = named;
+    follows = follows;
+    rows = rows;
+  }
+
+  still-base : IsTrue (is_base (record_of f (opened_of e.stored)))
+  still-base = ap is_none e.block.header.base ∙ one-mid.base
+
+  not-bare : attributes (opened_of e.stored) ≢ []
+  not-bare none =
+      let count = e.right.one_standard still-base in
+      let zero_of : count_by is_standard (parts_made f (attributes (opened_of e.stored))) ≡ 0 =
+      ap (λ xs. count_by is_standard (parts_made f xs)) none in
+      absurd (omega (arith, count, zero_of))
 
   -- WHERE IT STANDS: alone, and what came in its place too
-  pub stood : parts_at old key.file key.kind key.name ≡ parts_made key.file (e.was ∷ [])
-  stood = subst (λ (k : Key). parts_at old k.file k.kind k.name ≡ parts_made key.file (e.was ∷ [])) same-key
-      (alone key.file old new marks ready e.one e.stored e.was (e.was_of.kind ∙ e.kind) e.was_value e.right (option_to_list e.now) e.block)
+  pub stood : parts_at old f key.kind key.name ≡ parts_made f was
+  stood = e.stood
 
-  now-has : (now : Option Attribute) → IfSome now (KeepsHead e.was) → AllHave key (option_to_list now)
-  now-has None keeps = has-none key
-  now-has (Some now) keeps =
-      All-one (HasKey key) now (record { kind = keeps.kind ∙ e.was_of.kind; name = keeps.name ∙ e.was_of.name })
+  stood-mid : parts_at mid f key.kind key.name ≡ parts_made f was
+  stood-mid = ap (λ (r : Records). filter (is_of key.kind key.name) (parts r f)) records-mid ∙ e.stood
 
-  pub stands : parts_at new key.file key.kind key.name ≡ parts_made key.file (option_to_list e.now)
+  pub stands : parts_at new f key.kind key.name ≡ parts_made f now
   stands =
-      whole.whole old new key.file e.stored (e.was ∷ []) (option_to_list e.now) e.block key
-      (calls.own-file key.file old new marks ready e.one e.stored (e.was ∷ []) (option_to_list e.now) e.block)
-      (All-one (HasKey key) e.was e.was_of) (now-has e.now e.now_kept) stood
+      whole.whole mid new f e.stored was now e.block key own-file (All-one (HasKey key) e.was e.was_of) (has-now e.now e.comes) stood-mid
+
+  whole-then : IsWhole new key
+  whole-then other = elim (whole-now e.now e.comes) [
+    | inl none ↦ inl (stands ∙ none)
+    | inr are ↦ inr (subst (AreAttribute (cluster_bytes new.layout) f) (sym stands)
+        (subst (λ (l : TableLayout). AreAttribute (cluster_bytes l) f (parts_made f now)) (sym layout) are))
+  ]
+
+  record-edit : EditsRecord key nothing mid new before after
+  unfolding part
+  record-edit = record {
+    part = part;
+    held = not-bare;
+    stream = whole-then;
+    list = list-missing key mid new before after part ready-mid (λ z. no-list (e.was_of.kind ∙ z)) one-mid.no_list;
+    costs = costs-now e.now e.block e.comes;
+  }
+
+  pub ready-new : IsReady new after
+  ready-new = call.ready key nothing mid new before after record-edit ready-mid
+
+  -- BOTH STEPS are one call.
+  pub edited : Edited (same_key key) nothing old new before after
+  edited = Edited-then (λ key. false) (same_key key) nothing nothing nothing old mid new before before after (within-nothing nothing)
+      edited-mid (call.edited key nothing mid new before after record-edit ready-mid)
+
+  pub apart-now : LiesApart new
+  apart-now = apart-ready new after ready-new
+
+  -- .. whatever bits in memory are right then
+  pub edited-any : (was_marks now_marks : Marks) → AreRight new now_marks → Edited (same_key key) nothing old new was_marks now_marks
+  edited-any was_marks now_marks are = record {
+    told = edited.told;
+    volume = edited.volume;
+    rest = edited.rest;
+    kept = edited.kept;
+    forms = edited.forms;
+    places = edited.places;
+    spent = edited.spent;
+    editable = record {
+      readable = edited.editable.readable;
+      owners = edited.editable.owners;
+      version = edited.editable.version;
+      mirror_place = edited.editable.mirror_place;
+      mirror = edited.editable.mirror;
+      bitmaps = edited.editable.bitmaps;
+      right = are;
+    };
+    limits = edited.limits;
+    bases = edited.bases;
+    system = edited.system;
+    held = edited.held;
+  }

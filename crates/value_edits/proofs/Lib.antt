@@ -1,7 +1,16 @@
+pub mod GivenBack
 pub mod EditedRecord
 pub mod BitsStill
 pub mod SoundEdited
 pub mod StreamPut
 pub mod ValueShown
+pub mod RunHoles
+pub mod OnePart
+pub mod AloneSteps
 pub mod ValueCalls
 pub mod WrittenBytes
+pub mod ExtentCalls
+pub mod CutExtent
+pub mod SparseSizes
+pub mod CutCalls
+pub mod GivenCount

@@ -1,10 +1,12 @@
--- THE VOLUME IS SOUND where one value of a stream was edited, of a file that is not the table of case.
-use Rattle.std.proofs.Common.{◌≡◌, ◌≢◌, ◌<◌, ◌==◌, ◌&&◌, ℕ, false, [], refl, ap, ◌∙◌, arith}
+-- THE VOLUME IS SOUND where one stream was edited, of a file that is not the table of case.
+use Rattle.std.proofs.Common.{◌≡◌, ◌≢◌, ◌<◌, ◌+◌, ◌==◌, ◌&&◌, ℕ, false, [], refl, ap, subst, ◌∙◌, arith}
 use Rattle.std.specs.Str.{bytes_eq}
 use Rattle.std.proofs.lemmas.Bool.{and_left, and_right, ne_eqb}
 use Rattle.ntfs_def.specs.declared.kinds.TheConstants.{BITMAP, DATA, FILE_NAME, INDEX_ALLOCATION, INDEX_ROOT}
 use Rattle.ntfs_def.specs.declared.records.TheConstants.{CLUSTER_BITMAP, MFT, ROOT, SECURE, UPCASE}
-use Rattle.volume_def.specs.Files.{parts_at, records_of}
+use Rattle.volume_def.specs.Coverage.{times_covered}
+use Rattle.volume_def.specs.Files.{Records, parts_at, records_of}
+use Rattle.volume_def.specs.OwnersClause.{times_owned}
 use Rattle.volume_def.specs.Sound.{IsSound}
 use Rattle.volume_def.specs.Sound as clauses
 use Rattle.volume_def.specs.Table.{TableLayout, cluster_bytes}
@@ -14,10 +16,11 @@ use Rattle.volume_def.proofs.ValueLaws.{value-frame}
 use Rattle.edit_def.specs.Account.{nothing}
 use Rattle.edit_def.specs.Edited.{StoresBits, is_table_key}
 use Rattle.edit_def.specs.Kept.{key_of, Key, same_key}
-use Rattle.edit_def.specs.Marks.{AreRight, Marks}
+use Rattle.edit_def.specs.Marks.{Marks}
 use Rattle.edit_def.specs.Names.{KeepsNames}
 use Rattle.edit_def.proofs.NamesLaws.{stand-of}
 use Rattle.name_edits.proofs.LinksAfter.{links-same}
+use Rattle.record_edits.specs.RecordEdit.{EditsPart}
 use Rattle.record_edits.proofs.BlockEdits.{attribute-stays}
 use Rattle.record_edits.proofs.ClauseEdits as edit
 use Rattle.record_edits.proofs.FileEdits as files
@@ -26,21 +29,36 @@ use Rattle.command_edits.specs.Keys.{NamesNoIndex}
 use Rattle.command_edits.proofs.QuietCalls.{between-quiet}
 use Rattle.command_edits.proofs.SoundBetween.{between-references, between-sound, sound-by, sound-stored, sound-whole}
 use Rattle.in_place.specs.Unnamed.{LiesApart}
-use Rattle.value_edits.specs.ValueEdits.{EditsValue}
+use Rattle.in_place_owed.proofs.MarksLaws.{right_marks}
+use Rattle.value_edits.specs.ValueEdits.{EditsAlone}
 use Rattle.value_edits.proofs.BitsStill.{bits-still}
 use Rattle.value_edits.proofs.EditedRecord as value
 
-module _ (key : Key) (old new : VolumeView) (marks : Marks) (sound : IsSound old) (apart : LiesApart old) (are : AreRight old marks)
-    (e : EditsValue key old new) where
-  layout : new.layout ≡ old.layout
-  layout = edit.layout key old new marks marks (value.part key old new marks sound apart are e)
+module _ (key : Key) (old new : VolumeView) (sound : IsSound old) (apart : LiesApart old) (e : EditsAlone key old new) where
+  abbrev mid : VolumeView
+  mid = e.mid
+
+  abbrev before : Marks
+  before = right_marks old
+
+  abbrev after : Marks
+  after = right_marks new
+
+  part : EditsPart key mid new before after
+  part = value.part key old new sound apart e
+
+  records-mid : records_of mid ≡ records_of old
+  records-mid = value.records-mid key old new sound apart e
+
+  apart-mid : LiesApart mid
+  apart-mid = value.apart-mid key old new sound apart e
 
   no-name : key.kind ≢ FILE_NAME
   no-name is = let stream = e.kind in absurd (omega (arith, is, stream))
 
   -- no name changed
   pub names : (g : ℕ) → KeepsNames (records_of old) (records_of new) g
-  names = files.names-kept key old new marks marks (value.part key old new marks sound apart are e) no-name
+  names g = subst (λ (r : Records). KeepsNames r (records_of new) g) records-mid (files.names-kept key mid new before after part no-name g)
 
   -- nor an index
   no-index : NamesNoIndex (same_key key)
@@ -50,20 +68,23 @@ module _ (key : Key) (old new : VolumeView) (marks : Marks) (sound : IsSound old
     bits = λ n name. ap (λ k. (k == BITMAP) && ((key.file == n) && bytes_eq key.name name)) e.kind;
   }
 
-  -- The bitmaps have the values that they had.
+  -- The bitmaps have the values that they had since the clusters were given back.
   pub value-still : (m kind : ℕ) → m < SECURE → m ≢ ROOT → is_table_key (key_of m kind []) ≡ false
-      → value_on new (parts_at new m kind []) ≡ value_on old (parts_at old m kind [])
+      → value_on new (parts_at new m kind []) ≡ value_on mid (parts_at mid m kind [])
   value-still m kind low other free =
-      let part = value.part key old new marks sound apart are e in
-      ap (λ (l : TableLayout). value_of_parts new.cluster (cluster_bytes l) (parts_at new m kind [])) layout
-      ∙ ap (value_of_parts new.cluster (cluster_bytes old.layout)) (edit.system-at key old new marks marks part m kind [] low other)
-      ∙ value-frame old.cluster new.cluster (cluster_bytes old.layout) (parts_at old m kind [])
-      (attribute-stays old new e.block.replaces.clusters apart.owners apart.some apart.unnamed m kind [] free)
+      ap (λ (l : TableLayout). value_of_parts new.cluster (cluster_bytes l) (parts_at new m kind [])) e.block.replaces.layout
+      ∙ ap (value_of_parts new.cluster (cluster_bytes mid.layout)) (edit.system-at key mid new before after part m kind [] low other)
+      ∙ value-frame mid.cluster new.cluster (cluster_bytes mid.layout) (parts_at mid m kind [])
+      (attribute-stays mid new e.block.replaces.clusters apart-mid.owners apart-mid.some apart-mid.unnamed m kind [] free)
+
+  times : (c : ℕ) → times_owned (records_of new) c + times_covered e.given c ≡ times_owned (records_of old) c
+  times c = value.owned-now key old new sound apart e c ∙ ap (λ (r : Records). times_owned r c) records-mid
 
   bits : StoresBits new
-  bits = bits-still old new marks are (value.edited key old new marks sound apart are e).editable layout sound
+  bits = bits-still old mid new after (value.edited key old new sound apart e).editable (value.layout key old new sound apart e) e.given
+      e.gives times (value.used-still key old new sound apart e)
       (value-still CLUSTER_BITMAP DATA (omega arith) (λ z. absurd (omega (arith, z))) refl)
-      (value-still MFT BITMAP (omega arith) (λ z. absurd (omega (arith, z))) refl)
+      (value-still MFT BITMAP (omega arith) (λ z. absurd (omega (arith, z))) refl) sound
 
   module _ (no_case : key.file ≢ UPCASE) where
     pub case-unnamed : same_key key (key_of UPCASE DATA []) ≡ false
@@ -71,7 +92,7 @@ module _ (key : Key) (old new : VolumeView) (marks : Marks) (sound : IsSound old
         (and_left (key.file == UPCASE) (bytes_eq key.name []) (ne_eqb key.file UPCASE no_case))
 
     between : IsBetween new
-    between = between-quiet (same_key key) nothing old new marks marks (value.edited key old new marks sound apart are e) names case-unnamed
+    between = between-quiet (same_key key) nothing old new before after (value.edited key old new sound apart e) names case-unnamed
         no-index (between-sound old (sound-whole old sound))
 
     pub sound-now : IsSound new

@@ -1,4 +1,4 @@
--- WHAT THE VOLUME IS AND READS AS where a stream of a file that is shown, a value, has other bytes, or went.
+-- WHAT THE VOLUME IS AND READS AS where a stream of a file that is shown has other bytes, or went.
 use Rattle.std.proofs.Common.{◌≡◌, ◌≢◌, ◌==◌, ◌&&◌, ℕ, Bool, false, List, Option, Some, None, sym, ap, ◌∙◌}
 use Rattle.std.specs.List.{Contains}
 use Rattle.std.specs.Option.{option_map}
@@ -22,7 +22,7 @@ use Rattle.tree_model.specs.declared.tree.Node.{Node}
 use Rattle.edit_def.specs.Account.{nothing}
 use Rattle.edit_def.specs.Edited.{Edited, is_room_file, is_room_key}
 use Rattle.edit_def.specs.Kept.{Key, either, key_of, same_key}
-use Rattle.edit_def.specs.Marks.{AreRight, Marks}
+use Rattle.edit_def.specs.Marks.{Marks}
 use Rattle.edit_def.specs.Names.{HasRightBases, KeepsNames}
 use Rattle.edit_def.proofs.NamesLaws.{bases-of}
 use Rattle.name_edits.proofs.HiddenFiles.{hides-kept}
@@ -32,26 +32,26 @@ use Rattle.stream_edits.specs.Names.{EditsStream, IsUnseenButStreams}
 use Rattle.stream_edits.proofs.EditedReading.{read-gone, read-put}
 use Rattle.stream_edits.proofs.EditedStreams.{edited-stream, unseen-but-streams}
 use Rattle.stream_edits.proofs.NodeStreams.{node-changed}
-use Rattle.in_place_owed.proofs.MarksLaws.{marks-right, right_marks}
+use Rattle.in_place_owed.proofs.MarksLaws.{right_marks}
 use Rattle.attribute_edits.specs.Attributes.{CanSet}
 use Rattle.stream_overwrites.specs.Overwritten.{FindsPlain}
 use Rattle.stream_overwrites.proofs.FoundStream as found
 use Rattle.in_place_owed.proofs.BothRewrites.{readable-sound}
 use Rattle.stream_overwrites.proofs.ShownFile.{file, no-room-file, not-case, shown}
-use Rattle.value_edits.specs.ValueEdits.{EditsValue, IsEdited, PutsValue, ShowsNow, node_with}
+use Rattle.value_edits.specs.ValueEdits.{EditsAlone, IsEdited, PutsValue, ShowsNow, node_with}
 use Rattle.value_edits.proofs.EditedRecord as value
 use Rattle.value_edits.proofs.SoundEdited as edit
 
 module _ (old new : VolumeView) (f : ℕ) (node : Node) (asked name held : List ℕ) (can : CanSet old f node)
-    (finds : FindsPlain old f node asked name held) (e : EditsValue (key_of f DATA name) old new) where
+    (finds : FindsPlain old f node asked name held) (e : EditsAlone (key_of f DATA name) old new) where
   abbrev key : Key
   key = key_of f DATA name
 
-  abbrev marks : Marks
-  marks = right_marks old
+  abbrev before : Marks
+  before = right_marks old
 
-  are : AreRight old marks
-  are = marks-right old
+  abbrev after : Marks
+  after = right_marks new
 
   no_case : f ≢ UPCASE
   no_case = not-case old f node can.there
@@ -62,11 +62,11 @@ module _ (old new : VolumeView) (f : ℕ) (node : Node) (asked name held : List 
   bases : HasRightBases (records_of old)
   bases = bases-of (records_of old) (can.sound clauses.References)
 
-  edited : Edited (same_key key) nothing old new marks marks
-  edited = value.edited key old new marks can.sound can.apart are e
+  edited : Edited (same_key key) nothing old new before after
+  edited = value.edited key old new can.sound can.apart e
 
   names : (g : ℕ) → KeepsNames (records_of old) (records_of new) g
-  names = edit.names key old new marks can.sound can.apart are e
+  names = edit.names key old new can.sound can.apart e
 
   hides : (g : ℕ) → is_hidden (records_of new) g ≡ is_hidden (records_of old) g
   hides = hides-kept old new bases edited.volume.count (λ g. (names g).names)
@@ -79,7 +79,7 @@ module _ (old new : VolumeView) (f : ℕ) (node : Node) (asked name held : List 
   whole = either is_room_key (same_key key)
 
   stream : EditsStream whole old new f name
-  stream = edited-stream f name no_room (same_key key) (λ other free. free) nothing old new marks marks edited readable bases
+  stream = edited-stream f name no_room (same_key key) (λ other free. free) nothing old new before after edited readable bases
       finds.tellable no_case
 
   unseen : IsUnseenButStreams whole f
@@ -120,14 +120,14 @@ module _ (old new : VolumeView) (f : ℕ) (node : Node) (asked name held : List 
   is-edited bytes shows = record {
     edits = e;
     can = record {
-      sound = edit.sound-now key old new marks can.sound can.apart are e no_case;
-      apart = value.apart-now key old new marks can.sound can.apart are e;
+      sound = edit.sound-now key old new can.sound can.apart e no_case;
+      apart = value.apart-now key old new can.sound can.apart e;
       there = node-now bytes shows;
       other = can.other;
       elsewhere = elsewhere;
     };
-    reads = read-sets (same_key key) nothing old new marks marks edited readable bases
-        (edit.case-unnamed key old new marks can.sound can.apart are e no_case)
+    reads = read-sets (same_key key) nothing old new before after edited readable bases
+        (edit.case-unnamed key old new can.sound can.apart e no_case)
         f (node_with old asked bytes node) others names (node-now bytes shows);
   }
 

@@ -1,18 +1,28 @@
 -- Bytes that are put into a value are those that the machine writes into a stream.
-use Rattle.std.proofs.Common.{◌≡◌, ℕ, ◌+◌, ◌-◌, ◌≤◌, ◌++◌, List, [], drop, inl, inr, length, max, replicate, take, take_all, ap, sym, ◌∙◌, arith}
+use Rattle.std.proofs.Common.{◌≡◌, ℕ, ◌+◌, ◌-◌, ◌≤◌, ◌++◌, List, [], drop, inl, inr, length, max, replicate, take, take_all, ap}
+use Rattle.std.proofs.Common.{sym, ◌∙◌, arith}
 use Rattle.std.proofs.lemmas.Bool.{cases_lt}
-use Rattle.std.proofs.lemmas.List.{append-nil, append_assoc, drop-replicate, drop_all, take-append-le, take-replicate}
+use Rattle.std.proofs.lemmas.List.{append-nil, append_assoc, drop-replicate, drop_all, length-append, length-replicate, length-take, take-append-le, take-replicate}
 use Rattle.std.proofs.Math.Seq.{drop-append-add, take-append-add}
 use Rattle.attr_view.specs.Values.{with_length}
 use Rattle.file_record.specs.Attributes.{with_bytes_at}
-use Rattle.tree_model.specs.Streams.{written}
+use Rattle.tree_model.specs.Streams.{resized, written}
+
+-- bytes that were given another length have that
+pub resized-long : (size : ℕ) (old : List ℕ) → length (resized size old) ≡ size
+resized-long size old =
+    let whole = length-append (take size old) (replicate (size - length old) 0) in
+    let front = length-take size old in
+    let behind = length-replicate {A = ℕ} (size - length old) 0 in
+    omega (arith, whole, front, behind)
 
 -- a value that is made longer is followed by zeros
 longer : (n : ℕ) (held : List ℕ) → length held ≤ n → with_length n held ≡ held ++ replicate (n - length held) 0
 longer n held le = ap (λ xs. xs ++ replicate (n - length held) 0) (take_all n held le)
 
 -- what stands in front of the bytes then
-front : (at n : ℕ) (held : List ℕ) → at ≤ n → length held ≤ n → take at (with_length n held) ≡ take at held ++ replicate (at - length held) 0
+front : (at n : ℕ) (held : List ℕ) → at ≤ n → length held ≤ n
+    → take at (with_length n held) ≡ take at held ++ replicate (at - length held) 0
 front at n held fits le = ap (take at) (longer n held le) ∙ elim (cases_lt (length held) at) [
   | inl short ↦
       let more : at ≡ length held + (at - length held) = omega (arith, short) in
@@ -30,7 +40,8 @@ front at n held fits le = ap (take at) (longer n held le) ∙ elim (cases_lt (le
 past : (end k : ℕ) (held : List ℕ) → end ≡ length held + k → drop end (held ++ replicate k 0) ≡ []
 past end k held more =
     let none : k - k ≡ 0 = omega arith in
-    ap (λ e. drop e (held ++ replicate k 0)) more ∙ drop-append-add held (replicate k 0) k ∙ drop-replicate k k 0 ∙ ap (λ n. replicate n 0) none
+    ap (λ e. drop e (held ++ replicate k 0)) more ∙ drop-append-add held (replicate k 0) k ∙ drop-replicate k k 0
+    ∙ ap (λ n. replicate n 0) none
 
 within : (end k : ℕ) (held : List ℕ) → k ≡ 0 → drop end (held ++ replicate k 0) ≡ drop end held
 within end k held none = ap (λ n. drop end (held ++ replicate n 0)) none ∙ ap (drop end) (append-nil held)

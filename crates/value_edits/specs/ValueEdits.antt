@@ -1,48 +1,73 @@
--- ONE VALUE EDITED of a file that has no attribute list, in its base record: it has another length, or the attribute was taken out. Nothing
--- else of the volume changes.
-use Rattle.std.specs.Prelude.{◌≡◌, ℕ, [], ◌∷◌, List, Option, Some, None, IfSome, IsSome}
-use Rattle.std.specs.Option.{option_to_list}
+-- ONE STREAM EDITED of a file that has no attribute list, in its base record, where it is one attribute: another stands in its place, or
+-- none. Clusters that it loses are given back in the bitmap of clusters first. Nothing else of the volume changes.
+use Rattle.std.specs.Prelude.{◌≡◌, ◌+◌, ◌*◌, ◌<◌, ◌≤◌, ℕ, true, length, [], ◌∷◌, List, Option, Some, None, IfSome, IsSome}
+use Rattle.std.specs.Option.{option_map_or, option_to_list}
 use Rattle.ntfs_def.specs.Attribute.{Attribute, value_of}
 use Rattle.ntfs_def.specs.Fixup.{opened_of}
 use Rattle.ntfs_def.specs.Record.{header_of}
 use Rattle.ntfs_def.specs.declared.kinds.TheConstants.{DATA}
+use Rattle.ntfs_def.specs.declared.run_text.Run.{Run}
 use Rattle.volume_def.specs.AttributesClause.{IsRightRecord}
 use Rattle.volume_def.specs.CaseClause.{volume_fold}
-use Rattle.volume_def.specs.Files.{record_of}
+use Rattle.volume_def.specs.Coverage.{times_covered}
+use Rattle.volume_def.specs.ExtentsClause.{AreAttribute}
+use Rattle.volume_def.specs.Files.{part_of, parts_at, record_of}
+use Rattle.volume_def.specs.LimitsClause.{IsInLimits}
+use Rattle.volume_def.specs.Table.{cluster_bytes}
+use Rattle.volume_def.specs.Values.{spot_at}
 use Rattle.volume_def.specs.View.{VolumeView}
 use Rattle.volume_edits.specs.Rewritten.{EditsBlock}
 use Rattle.tree_model.specs.Reading.{read}
+use Rattle.tree_model.specs.StreamRoom.{is_cluster}
 use Rattle.tree_model.specs.Streams.{with_bytes, without_stream}
 use Rattle.tree_model.specs.declared.tree.Node.{Node}
 use Rattle.edit_def.specs.Forms.{form_of}
 use Rattle.edit_def.specs.Kept.{Key, key_of}
-use Rattle.record_edits.specs.RecordEdit.{HasKey}
+use Rattle.edit_def.specs.Purses.{part_size}
+use Rattle.session_def.specs.Nodes.{KeepsStream, has_hole}
+use Rattle.record_edits.specs.Given.{GivesBack}
+use Rattle.record_edits.specs.Owners.{times_in}
+use Rattle.record_edits.specs.RecordEdit.{HasKey, parts_made}
 use Rattle.record_calls.specs.Calls.{IsInOneRecord}
+use Rattle.extent_edits.specs.Cut.{KeepsRecord}
 use Rattle.reading_edits.specs.Steps.{with_node}
 use Rattle.stream_edits.specs.Streams.{IsMissing, ShowsBytes}
 use Rattle.attribute_edits.specs.Attributes.{CanSet, SetsAttributes}
 
--- what of an attribute stays whose value changes
-pub record KeepsHead (was now : Attribute) : Type 0 where
+-- WHAT COMES in the place of an attribute of file f has its type, name and form, is a stream by itself, within the limits, and lies in no
+-- cluster in which that did not lie. It has a hole only where that had one, keeps its flags, and its sizes tell its clusters, or are as
+-- they were.
+pub record ComesInPlace (view : VolumeView) (f : ℕ) (was now : Attribute) : Type 0 where
   pub kind : now.kind ≡ was.kind
   pub name : now.name ≡ was.name
-  pub id : now.id ≡ was.id
-  pub flags : now.flags ≡ was.flags
   pub form : form_of now ≡ form_of was
-  pub value : IsSome (value_of now.body)
+  pub limits : IsInLimits f (part_of f now)
+  pub whole : AreAttribute (cluster_bytes view.layout) f (parts_made f (now ∷ []))
+  pub size : part_size (part_of f now) ≤ part_size (part_of f was)
+  pub spots : (vcn : ℕ) → is_cluster (spot_at (parts_made f (now ∷ [])) vcn) ≡ true
+      → is_cluster (spot_at (parts_made f (was ∷ [])) vcn) ≡ true
+  pub holes : has_hole (parts_made f (now ∷ [])) ≡ true → has_hole (parts_made f (was ∷ [])) ≡ true
+  pub keeps : KeepsStream view (parts_made f (was ∷ [])) (parts_made f (now ∷ []))
 
--- THE VALUE WAS EDITED, of a stream: another attribute stands in its place, or none.
-pub record EditsValue (key : Key) (old new : VolumeView) : Type 0 where
+-- THE STREAM WAS EDITED: clusters of it were given back, and then another attribute stands in its place, or none.
+pub record EditsAlone (key : Key) (old new : VolumeView) : Type 0 where
   pub one : IsInOneRecord old key.file
   pub kind : key.kind ≡ DATA
-  pub stored : List ℕ
   pub was : Attribute
   pub now : Option Attribute
-  pub block : EditsBlock old new key.file stored (was ∷ []) (option_to_list now)
-  pub header : header_of (opened_of stored) ≡ header_of (opened_of (old.block key.file))
   pub was_of : HasKey key was
-  pub was_value : IsSome (value_of was.body)
-  pub now_kept : IfSome now (KeepsHead was)
+  pub stood : parts_at old key.file key.kind key.name ≡ parts_made key.file (was ∷ [])
+  pub comes : IfSome now (ComesInPlace old key.file was)
+  -- its clusters that it has no more, each as often as it had it
+  pub given : List Run
+  pub mid : VolumeView
+  pub gives : GivesBack old mid given
+  pub balance : (c : ℕ) → times_in (parts_made key.file (option_to_list now)) c + times_covered given c
+      ≡ times_in (parts_made key.file (was ∷ [])) c
+  -- its record
+  pub stored : List ℕ
+  pub block : EditsBlock mid new key.file stored (was ∷ []) (option_to_list now)
+  pub header : KeepsRecord (header_of (opened_of (old.block key.file))) (header_of (opened_of stored))
   pub right : IsRightRecord key.file (record_of key.file (opened_of stored))
 
 -- the stream is gone, or shows these bytes
@@ -50,12 +75,24 @@ abbrev pub ShowsNow : VolumeView → Key → Option (List ℕ) → Type 0
 ShowsNow view key None = IsMissing view key
 ShowsNow view key (Some bytes) = ShowsBytes view key bytes
 
--- A STREAM of file f, a value, that has these bytes then, or goes.
+-- A STREAM of file f that has these bytes then, or goes.
 pub record PutsValue (old new : VolumeView) (f : ℕ) (name : List ℕ) (bytes : Option (List ℕ)) : Type 0 where
-  pub edits : EditsValue (key_of f DATA name) old new
+  pub edits : EditsAlone (key_of f DATA name) old new
   pub shows : ShowsNow new (key_of f DATA name) bytes
+  -- each of its clusters holds some of them
+  pub ends : (vcn : ℕ) → is_cluster (spot_at (parts_at new f DATA name) vcn) ≡ true
+      → vcn * cluster_bytes old.layout < option_map_or length bytes 0
 
--- The attribute is a stream of this name, and a value.
+-- .. where the clusters of these runs were given back.
+abbrev pub PutsGiving : VolumeView → VolumeView → ℕ → List ℕ → Option (List ℕ) → List Run → Type 0
+PutsGiving old new f name bytes runs = (puts : PutsValue old new f name bytes) × (puts.edits.given ≡ runs)
+
+-- The attribute is a stream of this name ..
+pub record IsStreamOf (name : List ℕ) (attribute : Attribute) : Type 0 where
+  pub kind : attribute.kind ≡ DATA
+  pub name_is : attribute.name ≡ name
+
+-- .. and a value.
 pub record IsStreamValue (name : List ℕ) (attribute : Attribute) : Type 0 where
   pub kind : attribute.kind ≡ DATA
   pub name_is : attribute.name ≡ name
@@ -68,11 +105,11 @@ node_with view asked (Some bytes) node = with_bytes (volume_fold view) asked byt
 
 -- WHAT THE VOLUME IS THEN: sound, and it reads as before but that the file is this node.
 pub record IsEdited (key : Key) (old new : VolumeView) (next : Node) : Type 0 where
-  pub edits : EditsValue key old new
+  pub edits : EditsAlone key old new
   pub can : CanSet new key.file next
   pub reads : read new ≡ with_node key.file next (read old)
 
--- THE WHOLE EDIT of a command: the value, and then the times and flags of the file, in its $STANDARD_INFORMATION and in the entries of all
+-- THE WHOLE EDIT of a command: the stream, and then the times and flags of the file, in its $STANDARD_INFORMATION and in the entries of all
 -- of its names.
 pub record PutsStream (old new : VolumeView) (f : ℕ) (name : List ℕ) (bytes : Option (List ℕ)) (times : List ℕ) (flags : ℕ) : Type 0 where
   pub mid : VolumeView

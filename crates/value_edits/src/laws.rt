@@ -1,4 +1,4 @@
-//! Laws with nothing to run: what a volume is where one value of a file was edited.
+//! Laws with nothing to run: what a volume is where one stream of a file was edited.
 ghost use Rattle.std.specs.Prelude.{ℕ, IsTrue, List, Option};
 ghost use Rattle.ntfs_def.specs.declared.kinds.TheConstants.{DATA};
 ghost use Rattle.volume_def.specs.Sound.{IsSound};
@@ -11,13 +11,13 @@ ghost use Rattle.edit_def.specs.Marks.{AreRight, Marks};
 ghost use Rattle.in_place.specs.Unnamed.{LiesApart};
 ghost use Rattle.stream_overwrites.specs.Overwritten.{FindsPlain};
 ghost use Rattle.attribute_edits.specs.Attributes.{CanSet};
-ghost use Rattle.value_edits.specs.ValueEdits.{EditsValue, IsEdited, PutsValue, node_with};
+ghost use Rattle.value_edits.specs.ValueEdits.{EditsAlone, IsEdited, PutsValue, node_with};
 
-/// Where one value of a file was edited, on a sound volume whose contents are told and whose clusters lie apart, this is a call that names
-/// that attribute and costs nothing.
-pub fn edited_value()
-    ensures { (key : Key) (old new : VolumeView) (marks : Marks) → IsTrue old.told → IsSound old → LiesApart old → AreRight old marks
-        → EditsValue key old new → Edited (same_key key) nothing old new marks marks }
+/// Where one stream of a file was edited alone, on a sound volume whose contents are told and whose clusters lie apart, this is a call that
+/// names that attribute and costs nothing, with the bits in memory that are right then.
+pub fn edited_alone()
+    ensures { (key : Key) (old new : VolumeView) (before after : Marks) → IsTrue old.told → IsSound old → LiesApart old
+        → AreRight new after → EditsAlone key old new → Edited (same_key key) nothing old new before after }
 {}
 
 /// Where a stream of a file that is shown has other bytes then, or went, the volume is sound, and reads as before but for the stream.

@@ -1,7 +1,8 @@
--- FEW CLUSTERS are on the bill: a value has no more bytes than its record, and so a stream that stays in one ends soon.
+-- FEW CLUSTERS are on the bill: a value has no more bytes than its record, and so a stream that stays in one ends soon. One in clusters that
+-- gets no longer has none on it.
 use Rattle.std.proofs.Common.{◌≡◌, ◌≤◌, ◌+◌, ◌==◌, ◌||◌, not, ℕ, zero, suc, Bool, true, false, cond, List, [], ◌∷◌, length, max}
-use Rattle.std.proofs.Common.{Option, Some, None, inl, inr, sym, ap, subst, ◌∙◌, arith, if◌then◌else◌}
-use Rattle.std.proofs.lemmas.Bool.{and_parts, cases_Bool, leb-true, or_cases}
+use Rattle.std.proofs.Common.{Option, Some, None, inl, inr, refl, sym, ap, subst, ◌∙◌, arith, if◌then◌else◌}
+use Rattle.std.proofs.lemmas.Bool.{and_parts, cases_Bool, le-ltb, leb-true, or_cases}
 use Rattle.std.proofs.lemmas.List.FromFn.{length-range_with_len}
 use Rattle.std.proofs.lemmas.List.Sums.{count_by-le-length}
 use Rattle.std.specs.List.{Contains, range_with_len}
@@ -11,8 +12,8 @@ use Rattle.list_laws.proofs.MemberLaws.{Contains-cases, Contains-head, Contains-
 use Rattle.list_laws.proofs.OptionLaws.{some_same}
 use Rattle.list_laws.proofs.PieceLaws.{slice_range-short}
 use Rattle.list_laws.proofs.ReplacesLaws.{Replaces-stood}
-use Rattle.ntfs_def.specs.Attribute.{Attribute, NonResident, Resident, attribute_at, attribute_kind, attribute_len, attributes}
-use Rattle.ntfs_def.specs.Attribute.{attributes_from, content_bytes, content_end, content_offset, extent_at, is_resident, value_of}
+use Rattle.ntfs_def.specs.Attribute.{Attribute, Body, ExtentHeader, NonResident, Resident, attribute_at, attribute_kind, attribute_len}
+use Rattle.ntfs_def.specs.Attribute.{attributes, attributes_from, content_bytes, content_end, content_offset, extent_at, is_resident, value_of}
 use Rattle.ntfs_def.specs.Fixup.{opened_of}
 use Rattle.ntfs_def.specs.Record.{first_place}
 use Rattle.ntfs_def.specs.Rounded.{clusters_for}
@@ -27,7 +28,8 @@ use Rattle.volume_def.specs.Table.{cluster_bytes}
 use Rattle.volume_def.specs.View.{VolumeView}
 use Rattle.tree_model.specs.Bill.{grows}
 use Rattle.tree_model.specs.Cases.{size_of}
-use Rattle.tree_model.specs.Staging.{fits_in_record, gets_no_longer, is_done_in_record, is_value_alone, stays_value}
+use Rattle.tree_model.specs.Ways.{fits_in_record, gets_no_longer, is_done_in_clusters, is_done_in_record, is_extent_alone, is_value_alone}
+use Rattle.tree_model.specs.Ways.{stays_value}
 use Rattle.tree_model.specs.StreamRoom.{goes_over, new_clusters, parts_named, stream_parts, stream_value_len}
 use Rattle.tree_model.specs.Subjects.{Located}
 use Rattle.tree_model.specs.Tree.{Tree, sought_stream}
@@ -40,11 +42,10 @@ use Rattle.edit_def.proofs.Sums.{clusters_for-least}
 use Rattle.record_edits.specs.RecordEdit.{parts_made}
 use Rattle.session_def.specs.Named.{spelt}
 use Rattle.in_place.specs.Unnamed.{LiesApart}
-use Rattle.in_place_owed.proofs.MarksLaws.{marks-right, right_marks}
-use Rattle.value_edits.specs.ValueEdits.{EditsValue}
-use Rattle.value_edits.proofs.EditedRecord as value
-use Rattle.value_edits.proofs.ValueShown.{alone-first, value-content, value-there}
+use Rattle.value_edits.specs.ValueEdits.{EditsAlone}
+use Rattle.value_edits.proofs.ValueShown.{alone-first, value-content}
 use Rattle.value_owed.specs.ValueOwed.{clusters_asked, edits_value}
+use Rattle.value_owed.proofs.ValueSame as same
 
 -- A VALUE of a record has no more bytes than the record.
 held-short : (block : List ℕ) (at : ℕ) (value : List ℕ) → value_of (attribute_at block at).body ≡ Some value
@@ -84,25 +85,46 @@ value-len f a value is =
     (alone-first (part_of f a) value content)
     ∙ ap (λ content. option_map_or length (content_value content) 0) content
 
--- THE VALUE that was edited
-module _ (key : Key) (old mid : VolumeView) (sound : IsSound old) (apart : LiesApart old) (e : EditsValue key old mid) where
+-- .. and of an extent there is none
+extent-len : (f : ℕ) (a : Attribute) → value_of a.body ≡ None → stream_value_len (parts_made f (a ∷ [])) ≡ 0
+extent-len f a = by a.body
+  where
+    first : (b : Bool) (extent : ExtentHeader) (text : List ℕ) → ◌≡◌ {A = ℕ}
+        (option_map_or length (option_and_then (λ (part : Part). content_value part.content)
+        (cond b (Some (part_of f (record a { body = NonResident extent text }))) None)) 0) 0
+    first true extent text = refl
+    first false extent text = refl
+
+    by : (body : Body) → value_of body ≡ None → stream_value_len (parts_made f (record a { body = body } ∷ [])) ≡ 0
+    by (Resident bytes) e = cc
+    by (NonResident extent text) e = first (extent.sizes.first == 0) extent text
+
+-- THE ATTRIBUTE that was edited
+module _ (key : Key) (old mid : VolumeView) (sound : IsSound old) (apart : LiesApart old) (e : EditsAlone key old mid) where
   value-short : (value : List ℕ) → value_of e.was.body ≡ Some value → length value ≤ 1024
   unfolding attributes
   value-short value is =
       let block = opened_of (old.block key.file) in
       let there = Replaces-stood _ _ _ _ e.was e.block.attributes_are (Contains-head e.was []) in
-      let short = value-within (length block) block (first_place block) e.was value there is in
-      let shape = (sound clauses.Shape key.file e.block.inside e.block.used).shape in
+      let stood = subst (λ bytes. Contains (attributes (opened_of bytes)) e.was) (same.block-cleared key old mid sound apart e key.file)
+      there in
+      let short = value-within (length block) block (first_place block) e.was value stood is in
+      let shape =
+      (sound clauses.Shape key.file (same.inside key old mid sound apart e) (same.used key old mid sound apart e)).shape in
       let long = header_failing-length block shape.header in
       omega (arith, short, long)
 
   stood-short : stream_value_len (parts_at old key.file key.kind key.name) ≤ 1024
-  stood-short =
-      let held = value-there e.was.body e.was_value in
-      let stood = value.stood key old mid (right_marks old) sound apart (marks-right old) e in
-      let len = ap stream_value_len stood ∙ value-len key.file e.was held.0 held.1 in
-      let short = value-short held.0 held.1 in
-      omega (arith, len, short)
+  stood-short = by (value_of e.was.body) refl
+    where
+      by : (o : Option (List ℕ)) → value_of e.was.body ≡ o → stream_value_len (parts_at old key.file key.kind key.name) ≤ 1024
+      by None none =
+          let len = ap stream_value_len e.stood ∙ extent-len key.file e.was none in
+          omega (arith, len)
+      by (Some value) held =
+          let len = ap stream_value_len e.stood ∙ value-len key.file e.was value held in
+          let short = value-short value held in
+          omega (arith, len, short)
 
 -- .. as it is found
 found-short : (view : VolumeView) (f : ℕ) (o : Option Stream) (other : List ℕ)
@@ -112,7 +134,7 @@ found-short view f None other = omega arith
 found-short view f (Some stream) other = omega arith
 
 pub stream-short : (tree : Tree) (at : Located) (name : List ℕ) (old mid : VolumeView) → IsSound old → LiesApart old
-    → EditsValue (key_of at.file DATA name) old mid → units_in name ≡ spelt tree at
+    → EditsAlone (key_of at.file DATA name) old mid → units_in name ≡ spelt tree at
     → parts_named old at.file (units_in name) ≡ parts_at old at.file DATA name
     → stream_value_len (stream_parts old tree at) ≤ 1024
 stream-short tree at name old mid sound apart e spelt_so alone =
@@ -176,3 +198,18 @@ few-asked view tree (c.Truncate path stream size) at is record_is large size_is 
     (few-new (cluster_bytes view.layout) (stream_parts view tree at) 0 0 large (omega arith) short)
 few-asked view tree (c.Rmstream path name) at is record_is large size_is short = tt
 few-asked view tree other at is record_is large size_is short = cc
+
+-- IN CLUSTERS the stream gets no longer, or goes.
+grows-none : (size : ℕ) (content : Option Content) → gets_no_longer size content ≡ true → grows size content ≡ false
+grows-none size None is = cc
+grows-none size (Some content) is = le-ltb (size_of content) size (leb-true size (size_of content) is)
+
+pub asked-none : (view : VolumeView) (tree : Tree) (command : Command) (at : Located) → edits_value command ≡ true
+    → is_done_in_clusters view tree command at ≡ true → clusters_asked view tree command at ≡ None
+asked-none view tree (c.Write path stream from bytes) at is clusters = cc
+asked-none view tree (c.Hwrite handle from bytes) at is clusters = cc
+asked-none view tree (c.Truncate path stream size) at is clusters =
+    ap (λ b. if b then Some (new_clusters (cluster_bytes view.layout) (stream_parts view tree at) 0 0) else None)
+    (grows-none size at.content (and_parts (is_extent_alone view tree at) (gets_no_longer size at.content) clusters).1)
+asked-none view tree (c.Rmstream path name) at is clusters = refl
+asked-none view tree other at is clusters = cc

@@ -1,4 +1,4 @@
--- BACK OVER THE EDIT OF THE VALUE: directories have the items that they had, indexes their headers, depths, records and bits, and the
+-- BACK OVER THE EDIT OF THE STREAM: directories have the items that they had, indexes their headers, depths, records and bits, and the
 -- indexes in $Extend their keys.
 use Rattle.std.proofs.Common.{◌≡◌, ◌≢◌, ◌+◌, ◌*◌, ◌/◌, ◌≤◌, ◌==◌, ◌&&◌, ◌||◌, ℕ, suc, Bool, false, List, [], codes, length}
 use Rattle.std.proofs.Common.{Some, None, refl, sym, ap, subst, ◌∙◌, arith, if◌then◌else◌}
@@ -38,9 +38,7 @@ use Rattle.session_def.specs.Kept.{KeepsKeys}
 use Rattle.in_place.specs.Unnamed.{LiesApart}
 use Rattle.in_place_owed.proofs.BothRewrites.{readable-sound}
 use Rattle.in_place_owed.proofs.IndexesSet.{index-named}
-use Rattle.in_place_owed.proofs.MarksLaws.{marks-right, right_marks}
-use Rattle.value_edits.specs.ValueEdits.{EditsValue}
-use Rattle.value_edits.proofs.EditedRecord as value
+use Rattle.value_edits.specs.ValueEdits.{EditsAlone}
 use Rattle.value_owed.proofs.ValueSame as same
 
 root-no-data : INDEX_ROOT ≢ DATA
@@ -52,7 +50,7 @@ bits-no-data q = omega (arith, q)
 records-no-data : INDEX_ALLOCATION ≢ DATA
 records-no-data q = omega (arith, q)
 
-module _ (key : Key) (old mid : VolumeView) (sound : IsSound old) (apart : LiesApart old) (e : EditsValue key old mid)
+module _ (key : Key) (old mid : VolumeView) (sound : IsSound old) (apart : LiesApart old) (e : EditsAlone key old mid)
     (no_case : key.file ≢ UPCASE) (sound_mid : IsSound mid) where
   abbrev changed : Key → Bool
   changed = either is_room_key (same_key key)
@@ -62,7 +60,7 @@ module _ (key : Key) (old mid : VolumeView) (sound : IsSound old) (apart : LiesA
   case-free = same.other-file key old mid sound apart e UPCASE DATA [] no_case
 
   pub fold-same : volume_fold mid ≡ volume_fold old
-  fold-same = ap fold_of (same.value-same key old mid sound apart e UPCASE DATA [] case-free refl)
+  fold-same = ap fold_of (same.value-same key old mid sound apart e UPCASE DATA [] case-free refl refl)
 
   free : (g kind : ℕ) (name : List ℕ) → kind ≢ DATA → same_key key (key_of g kind name) ≡ false
   free = same.other-kind key old mid sound apart e
@@ -70,7 +68,7 @@ module _ (key : Key) (old mid : VolumeView) (sound : IsSound old) (apart : LiesA
   -- ITEMS of directories
   pub items-still : (dir : ℕ) → KeepsItems old mid dir
   items-still dir =
-      items-kept changed old mid (value.edited key old mid (right_marks old) sound apart (marks-right old) e).kept
+      items-kept changed old mid (same.edited key old mid sound apart e).kept
       (same.size key old mid sound apart e) (bases-of (records_of old) (sound clauses.References)) (readable-sound old sound)
       (readable-sound mid sound_mid) case-free dir
       (free dir INDEX_ROOT (wide (codes "$I30")) root-no-data) (free dir INDEX_ALLOCATION (wide (codes "$I30")) records-no-data)
@@ -86,7 +84,7 @@ module _ (key : Key) (old mid : VolumeView) (sound : IsSound old) (apart : LiesA
       ap {B = Nodes} (λ value vcn. short_node index.form (opened_of (slice_range value (vcn * cluster_bytes mid.layout)
       (vcn * cluster_bytes mid.layout + INDEX_RECORD))))
       (same.value-same key old mid sound apart e index.file INDEX_ALLOCATION index.name
-      (free index.file INDEX_ALLOCATION index.name records-no-data) refl)
+      (free index.file INDEX_ALLOCATION index.name records-no-data) refl refl)
       ∙ ap {B = Nodes} (λ s vcn. short_node index.form (opened_of (slice_range
       (value_on old (index_parts old index.file index.name).records) (vcn * s) (vcn * s + INDEX_RECORD))))
       (same.size key old mid sound apart e)
@@ -100,9 +98,11 @@ module _ (key : Key) (old mid : VolumeView) (sound : IsSound old) (apart : LiesA
       ∙ ap (λ (nodes : Nodes). option_map_or (λ (root : Node). suc (levels_below most_depth nodes root.last)) (root_of old index) 0)
       (nodes-same index)
 
-  bits-same : (index : Index) → index_bits mid index ≡ index_bits old index
-  bits-same index =
+  -- .. of an index that has a name, as each has; what has none is the bitmap of records
+  bits-same : (index : Index) → (length index.name == 0) ≡ false → index_bits mid index ≡ index_bits old index
+  bits-same index long =
       same.value-same key old mid sound apart e index.file BITMAP index.name (free index.file BITMAP index.name bits-no-data) refl
+      (ap (λ b. (b && (index.file == MFT)) || false) long)
 
   records-same : (index : Index) → index_records mid index ≡ index_records old index
   records-same index = ap (λ xs. told_size (first_part xs) / INDEX_RECORD) (at index INDEX_ALLOCATION records-no-data)
@@ -114,16 +114,16 @@ module _ (key : Key) (old mid : VolumeView) (sound : IsSound old) (apart : LiesA
       (at index kind other) rest
 
   -- what was kept behind the edit with no change of an index, both keep, whatever changes
-  pub index-back : (next : VolumeView) (changes : List Change) (index : Index) → KeepsIndexIfThere mid next [] index
-      → KeepsIndexIfThere old next changes index
-  index-back next changes index rest was now was_at now_at =
+  pub index-back : (next : VolumeView) (changes : List Change) (index : Index) → (length index.name == 0) ≡ false
+      → KeepsIndexIfThere mid next [] index → KeepsIndexIfThere old next changes index
+  index-back next changes index long rest was now was_at now_at =
       let kept = rest was now (ap first_part (at index INDEX_ROOT root-no-data) ∙ was_at) now_at in
       let depth = depth-same index in
       let records = records-same index in
-      let bits = bits-same index in
+      let bits = bits-same index long in
       let set : bits_set (index_bits mid index) ≡ bits_set (index_bits old index) = ap bits_set bits in
       let deep : index_depth next index ≤ index_depth mid index + 0 = kept.depth in
-      let long : index_records next index ≤ index_records mid index + 0 = kept.records in
+      let many : index_records next index ≤ index_records mid index + 0 = kept.records in
       let count : bits_set (index_bits next index) ≤ bits_set (index_bits mid index) + 0 = kept.set in
       record {
         head = kept.head;
@@ -131,7 +131,7 @@ module _ (key : Key) (old mid : VolumeView) (sound : IsSound old) (apart : LiesA
         record_flags = flags-back next INDEX_ALLOCATION index records-no-data kept.record_flags;
         bit_flags = flags-back next BITMAP index bits-no-data kept.bit_flags;
         depth = omega (arith, deep, depth);
-        records = omega (arith, long, records);
+        records = omega (arith, many, records);
         same = λ none. kept.same refl ∙ bits;
         set = omega (arith, count, set);
       }
@@ -168,7 +168,7 @@ module _ (key : Key) (old mid : VolumeView) (sound : IsSound old) (apart : LiesA
           at = has.at;
           there = index-found ∙ has.there;
           has = subst (λ n. HasIndex View word_rule mid (index_parts mid has.at.file n) was) (sym called)
-              (index-same changed old mid (value.edited key old mid (right_marks old) sound apart (marks-right old) e).kept
+              (index-same changed old mid (same.edited key old mid sound apart e).kept
               (same.size key old mid sound apart e) (bases-of (records_of old) (sound clauses.References)) (readable-sound old sound)
               (readable-sound mid sound_mid) has.at.file (wide name)
               (free has.at.file INDEX_ROOT (wide name) root-no-data) (free has.at.file INDEX_ALLOCATION (wide name) records-no-data)

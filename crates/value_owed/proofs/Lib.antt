@@ -1,5 +1,6 @@
+pub mod ClustersGiven
 pub mod ValueSame
-pub mod ValueParts
+pub mod SaysSame
 pub mod ValueStream
 pub mod RecordsBack
 pub mod IndexesBack

@@ -75,7 +75,7 @@ module _ (before next : State) (command : Command) (at : Located) (mid staged : 
   abbrev pub named : Key → Bool
   named = is_either_key (read mid) setter at
 
-  -- what came behind the edit of the value, as one rewrite
+  -- what came behind the edit of the stream, as one rewrite
   pub behind : Rewrites named mid new
   behind = both half next setter at staged s.behind
 

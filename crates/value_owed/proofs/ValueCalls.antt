@@ -1,6 +1,6 @@
--- ALL CALLS of the command together: the edit of the value, what set the file behind it, and the first mark.
+-- ALL CALLS of the command together: the edit of the stream, what set the file behind it, and the first mark.
 use Rattle.std.proofs.Common.{◌≡◌, ◌≢◌, ◌<◌, ◌≤◌, ◌==◌, ◌||◌, ℕ, Bool, false, List, [], ◌∷◌, Option, Some, None, refl, sym, ap, subst, ◌∙◌}
-use Rattle.std.proofs.Common.{arith}
+use Rattle.std.proofs.Common.{arith, inl, inr}
 use Rattle.std.specs.Prelude.{IfSome}
 use Rattle.std.specs.Str.{bytes_eq}
 use Rattle.std.proofs.lemmas.Bool.{and_from, and_parts, and_right, eq-eqb, eqb-true, false_from_ne_true, or_from, or_parts}
@@ -36,10 +36,9 @@ use Rattle.in_place_owed.proofs.CallsOwed.{apart-of, tabled-of}
 use Rattle.in_place_owed.proofs.MarksLaws.{marks-right, right_marks}
 use Rattle.in_place_owed.proofs.SetKeys.{set-no_room, times-inside}
 use Rattle.stream_overwrites.proofs.ShownFile.{not-case}
-use Rattle.value_edits.specs.ValueEdits.{EditsValue}
-use Rattle.value_edits.proofs.EditedRecord as value
+use Rattle.value_edits.specs.ValueEdits.{EditsAlone}
 use Rattle.value_owed.specs.ValueOwed.{SetsBehindValue, bill_asked, clusters_asked}
-use Rattle.value_owed.proofs.FewClusters.{few-asked, stream-short}
+use Rattle.value_owed.proofs.FewClusters.{asked-none, few-asked, stream-short}
 use Rattle.value_owed.proofs.ValueCommands.{bill-value, value-little, value-own, value-timed}
 use Rattle.value_owed.proofs.ValueSame as same
 use Rattle.value_owed.proofs.ValueSame.{never}
@@ -97,7 +96,7 @@ module _ (before next : State) (command : Command) (at : Located) (mid staged : 
   pub apart : LiesApart old
   apart = apart-of before.image old s.stands.volume s.stands.sound
 
-  abbrev pub e : EditsValue key old mid
+  abbrev pub e : EditsAlone key old mid
   e = s.edited.edits
 
   -- the file is not the table of case
@@ -135,13 +134,13 @@ module _ (before next : State) (command : Command) (at : Located) (mid staged : 
       (set-same k ∙ times-inside old tree next.machine.tree command at made (value-timed command at made s.edits s.new) k free)
 
   -- BOTH CALLS as one
-  both : (wants : Wants) → Edited changed wants old staged (right_marks old) (right_marks old)
+  both : (wants : Wants) → Edited changed wants old staged (right_marks old) (right_marks mid)
   both wants =
-      let first = value.edited key old mid (right_marks old) s.stands.sound apart (marks-right old) e in
+      let first = same.edited key old mid s.stands.sound apart e in
       let lies = s.behind.stands.apart in
-      Edited-then (same_key key) (is_set_key (read mid) setter at) nothing nothing wants old mid staged (right_marks old) (right_marks old)
-      (right_marks old) (nothing-twice wants) first
-      (rewrite.edited (is_set_key (read mid) setter at) nothing mid staged (right_marks old) s.behind.rewrites lies.owners lies.some
+      Edited-then (same_key key) (is_set_key (read mid) setter at) nothing nothing wants old mid staged (right_marks old) (right_marks mid)
+      (right_marks mid) (nothing-twice wants) first
+      (rewrite.edited (is_set_key (read mid) setter at) nothing mid staged (right_marks mid) s.behind.rewrites lies.owners lies.some
       lies.unnamed (set-no_room (read mid) setter at (records_of mid) refl s.behind.shown) first.editable.right s.behind.sound)
 
   free-low : (f : ℕ) → f < 4 → (kind : ℕ) → changed (key_of f kind []) ≡ false
@@ -153,12 +152,15 @@ module _ (before next : State) (command : Command) (at : Located) (mid staged : 
 
   -- THE BILL has few records
   short : IfSome (clusters_asked old tree command at) (λ k. k ≤ 4088)
-  short =
-      few-asked old tree command at s.edits s.in_record (tabled-of before.image old s.stands.volume s.stands.sound).size s.size_is
-      (stream-short tree at s.name old mid s.stands.sound apart e s.spelt_so s.alone)
+  short = elim s.way [
+    | inl record_is ↦
+        few-asked old tree command at s.edits record_is (tabled-of before.image old s.stands.volume s.stands.sound).size (s.size_is record_is)
+        (stream-short tree at s.name old mid s.stands.sound apart e s.spelt_so s.alone)
+    | inr clusters ↦ subst (λ o. IfSome o (λ k. k ≤ 4088)) (sym (asked-none old tree command at s.edits clusters)) tt
+  ]
 
   bill-is : bill_of old tree command at ≡ bill_asked old at.file (clusters_asked old tree command at)
-  bill-is = bill-value old tree command at s.edits s.new e.block.inside s.there s.in_record
+  bill-is = bill-value old tree command at s.edits s.new (same.inside key old mid s.stands.sound apart e) s.there s.way
 
   stays : (f : ℕ) → goes_by tree command at f ≡ false
   stays f = and_right (f == at.file) (removes_file tree command at) (value-little tree command at s.edits).stays
@@ -186,7 +188,7 @@ module _ (before next : State) (command : Command) (at : Located) (mid staged : 
         few = subst (λ (b : Bill). records_wanted b ≤ 4096) (sym bill-is) (few-records old at.file asked short);
         tabled = tabled-of before.image old s.stands.volume s.stands.sound;
         was = right_marks old;
-        now = right_marks old;
+        now = right_marks mid;
         start = editable-sound old (right_marks old) s.stands.sound (marks-right old);
         staged = staged;
         edited = both (wants_of plan bill (goes_by tree command at) (λ f. 0));

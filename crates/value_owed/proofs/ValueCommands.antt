@@ -1,6 +1,6 @@
--- THE COMMANDS that edit a value: what they do not do, what they name of their own, and what their bill has.
+-- THE COMMANDS that edit a stream alone: what they do not do, what they name of their own, and what their bill has.
 use Rattle.std.proofs.Common.{◌≡◌, ◌<◌, ◌+◌, ◌==◌, ◌&&◌, ◌||◌, not, ℕ, Bool, true, false, List, [], ◌∷◌, length, Option, Some, None, refl}
-use Rattle.std.proofs.Common.{sym, ap, ◌∙◌, if◌then◌else◌}
+use Rattle.std.proofs.Common.{inl, inr, sym, ap, ◌∙◌, if◌then◌else◌}
 use Rattle.std.proofs.lemmas.Bool.{and_from, and_parts, false_from_ne_true}
 use Rattle.std.specs.Option.{option_map_or}
 use Rattle.std.specs.Prelude.{is_some, nat_le, option_and_then}
@@ -11,7 +11,7 @@ use Rattle.volume_def.specs.Values.{first_part}
 use Rattle.volume_def.specs.View.{VolumeView}
 use Rattle.tree_model.specs.Bill.{bill_of, clusters_of, grows, touches_file}
 use Rattle.tree_model.specs.NoRoom.{no_room_for}
-use Rattle.tree_model.specs.Staging.{fits_in_record, gets_no_longer, has_no_list, is_done_in_record, is_value_alone, stays_value}
+use Rattle.tree_model.specs.Ways.{fits_in_record, gets_no_longer, has_no_list, is_done_in_record, is_value_alone, stays_value}
 use Rattle.tree_model.specs.StreamRoom.{goes_over, initialized_in, initialized_size, is_in_place, new_clusters, stream_parts, stream_value}
 use Rattle.tree_model.specs.Subjects.{Located, NewName, NoName}
 use Rattle.tree_model.specs.Tree.{Tree}
@@ -24,7 +24,7 @@ use Rattle.session_def.specs.Done.{lengthens}
 use Rattle.session_def.specs.Named.{is_own_key, is_stream_key, new_directory, timed}
 use Rattle.in_place_owed.proofs.EmptyBill.{bill-none, little-quiet}
 use Rattle.in_place_owed.proofs.InPlaceCommands.{DoesLittle, does-little}
-use Rattle.value_owed.specs.ValueOwed.{bill_asked, clusters_asked, edits_value}
+use Rattle.value_owed.specs.ValueOwed.{IsDoneAlone, bill_asked, clusters_asked, edits_value}
 use Rattle.value_owed.proofs.OneBill.{bill-one}
 
 pub value-little : (tree : Tree) (command : Command) (at : Located) → edits_value command ≡ true → DoesLittle tree command at
@@ -180,16 +180,18 @@ rmstream-bill view tree path name at new =
     (little-quiet tree (c.Rmstream path name) at (value-little tree (c.Rmstream path name) at refl) new) refl refl refl
 
 pub bill-value : (view : VolumeView) (tree : Tree) (command : Command) (at : Located) → edits_value command ≡ true → at.new ≡ NoName
-    → at.file < view.layout.count → is_some at.content ≡ true → is_done_in_record view tree command at ≡ true
+    → at.file < view.layout.count → is_some at.content ≡ true → IsDoneAlone view tree command at
     → bill_of view tree command at ≡ bill_asked view at.file (clusters_asked view tree command at)
-bill-value view tree (c.Write path stream from bytes) at is new inside there record_is =
+bill-value view tree (c.Write path stream from bytes) at is new inside there (inl record_is) =
     write-bill view tree path stream from bytes at new inside there record_is
-bill-value view tree (c.Hwrite handle from bytes) at is new inside there record_is =
+bill-value view tree (c.Write path stream from bytes) at is new inside there (inr clusters) = cc
+bill-value view tree (c.Hwrite handle from bytes) at is new inside there (inl record_is) =
     hwrite-bill view tree handle from bytes at new inside there record_is
-bill-value view tree (c.Truncate path stream size) at is new inside there record_is =
+bill-value view tree (c.Hwrite handle from bytes) at is new inside there (inr clusters) = cc
+bill-value view tree (c.Truncate path stream size) at is new inside there way =
     truncate-bill view tree path stream size at new inside there (grows size at.content) refl
-bill-value view tree (c.Rmstream path name) at is new inside there record_is = rmstream-bill view tree path name at new
-bill-value view tree other at is new inside there record_is = cc
+bill-value view tree (c.Rmstream path name) at is new inside there way = rmstream-bill view tree path name at new
+bill-value view tree other at is new inside there way = cc
 
 -- so it is refused for room where that is
 asked-room : (view : VolumeView) (f : ℕ) (o : Option ℕ)
@@ -198,8 +200,8 @@ asked-room view f None = bills.none-refused view
 asked-room view f (Some k) = refl
 
 pub value-room : (view : VolumeView) (tree : Tree) (command : Command) (at : Located) → edits_value command ≡ true → at.new ≡ NoName
-    → at.file < view.layout.count → is_some at.content ≡ true → is_done_in_record view tree command at ≡ true
+    → at.file < view.layout.count → is_some at.content ≡ true → IsDoneAlone view tree command at
     → no_room_for view (bill_of view tree command at) ≡ option_and_then (no_room_alone view at.file) (clusters_asked view tree command at)
-value-room view tree command at is new inside there record_is =
-    ap (no_room_for view) (bill-value view tree command at is new inside there record_is)
+value-room view tree command at is new inside there way =
+    ap (no_room_for view) (bill-value view tree command at is new inside there way)
     ∙ asked-room view at.file (clusters_asked view tree command at)

@@ -1,11 +1,17 @@
--- WHAT THE COMMAND OWES, each part of it carried back over the edit of the value; and so what it leaves.
+-- WHAT THE COMMAND OWES, each part of it carried back over the edit of the stream; and so what it leaves.
 use Rattle.std.proofs.Common.{◌≡◌, ◌+◌, ◌*◌, ◌/◌, ◌≤◌, ◌==◌, ◌&&◌, ◌||◌, ℕ, Bool, true, false, [], ◌∷◌, codes, refl, sym, ap, subst, ◌∙◌}
-use Rattle.std.proofs.Common.{arith}
+use Rattle.std.proofs.Common.{arith, length, not}
+use mathlib.Core.Path.{fun_ext}
+use Rattle.std.specs.List.{range_with_len}
+use Rattle.std.specs.Prelude.{count_by, nat_le}
 use Rattle.std.proofs.lemmas.Bool.{eq-eqb, or_from, or_parts}
+use Rattle.ntfs_def.specs.Units.{units_in}
 use Rattle.ntfs_def.specs.declared.kinds.TheConstants.{DATA}
 use Rattle.ntfs_def.specs.declared.records.TheConstants.{CLUSTER_BITMAP, MFT, VOLUME}
 use Rattle.volume_def.specs.Files.{file_of}
-use Rattle.volume_def.specs.Values.{spot_at}
+use Rattle.volume_def.specs.StreamSize.{told_size}
+use Rattle.volume_def.specs.Table.{cluster_bytes}
+use Rattle.volume_def.specs.Values.{first_part, spot_at}
 use Rattle.volume_def.specs.View.{VolumeView}
 use Rattle.tree_model.specs.Bill.{changes_of, dropped_links}
 use Rattle.tree_model.specs.IndexRoom.{directory_index, object_id_index, point_index}
@@ -16,19 +22,20 @@ use Rattle.tree_model.specs.Tree.{Tree}
 use Rattle.tree_model.specs.declared.command.Command.{Command}
 use Rattle.tree_model.specs.declared.command.Command.TheVariants as c
 use Rattle.edit_def.specs.Kept.{Key, key_of}
-use Rattle.session_def.specs.Cost.{bytes_in, cost_of, is_changed_file, is_file_of}
-use Rattle.session_def.specs.Done.{GainsRightly, LeavesDone, first_cost, stream_in}
+use Rattle.session_def.specs.Cost.{bytes_in, cost_of, given_back, is_changed_file, is_file_of, is_owned}
+use Rattle.session_def.specs.Done.{GainsRightly, LeavesDone, first_cost, may_own, stream_in}
 use Rattle.session_def.specs.Indexes.{KeepsIndexes, KeepsRests}
 use Rattle.session_def.specs.Named.{changes_ids, changes_points, has_entry_of, is_one_of, timed}
 use Rattle.session_def.specs.Owed.{Owes}
 use Rattle.session_def.specs.Room.{KeepsBlocks, is_written_file}
 use Rattle.session_def.specs.State.{State}
 use Rattle.session_def.proofs.OwedLaws.{leaves-done}
+use Rattle.in_place.proofs.RoomSame as room
 use Rattle.in_place_owed.specs.SetsInPlace.{links_of}
 use Rattle.in_place_owed.proofs.CostLaws.{cost-enough}
 use Rattle.in_place_owed.proofs.EntriesOwed.{rests-owed}
 use Rattle.in_place_owed.proofs.InPlaceCommands.{timed-one}
-use Rattle.in_place_owed.proofs.IndexesSet.{directory-owed, extend-owed}
+use Rattle.in_place_owed.proofs.IndexesSet.{directory-owed, extend-owed, index-named}
 use Rattle.in_place_owed.proofs.Owes as setting
 use Rattle.value_owed.specs.ValueOwed.{SetsBehindValue, between}
 use Rattle.value_owed.proofs.IndexesBack as indexes
@@ -110,12 +117,17 @@ module _ (before next : State) (command : Command) (at : Located) (mid staged : 
       (λ n r there other. set n r there (written-less (files made) (is_changed_file mid (read mid) next.machine.tree setter at made)
       (file_of n r) (set-less made (file_of n r)) other))
 
-  -- CLUSTERS: no stream gained one, and the command's has none.
-  none-owned : (vcn : ℕ) → is_cluster (spot_at (stream_in new tree at) vcn) ≡ false
-  none-owned vcn =
-      subst (λ units. is_cluster (spot_at (parts_named new at.file units) vcn) ≡ false) s.spelt_so
-      (stream.spots-none at.file s.name old mid s.stands.sound (calls.apart before next command at mid staged s) s.edited.edits s.alone
-      (nodes.named before next command at mid staged s) new (nodes.behind before next command at mid staged s) vcn)
+  -- CLUSTERS: no stream gained one, and the command's has those that it had between.
+  stream-spelt : (view : VolumeView) → parts_named view at.file (units_in s.name) ≡ stream_in view tree at
+  stream-spelt view = ap (parts_named view at.file) s.spelt_so
+
+  none-gained : (vcn : ℕ) → is_cluster (spot_at (stream_in new tree at) vcn) ≡ true
+      → is_cluster (spot_at (stream_in old tree at) vcn) ≡ true
+  none-gained vcn is =
+      sym (ap (λ xs. is_cluster (spot_at xs vcn)) (stream-spelt old))
+      ∙ stream.spots-behind at.file s.name old mid s.stands.sound (calls.apart before next command at mid staged s) s.edited.edits s.alone
+      (nodes.named before next command at mid staged s) new (nodes.behind before next command at mid staged s) vcn
+      (ap (λ xs. is_cluster (spot_at xs vcn)) (stream-spelt new) ∙ is)
 
   clusters : GainsRightly before next command at
   clusters = record {
@@ -123,8 +135,12 @@ module _ (before next : State) (command : Command) (at : Located) (mid staged : 
         absurd (stream.none-gained at.file s.name old mid s.stands.sound (calls.apart before next command at mid staged s) s.edited.edits
         s.alone (nodes.named before next command at mid staged s) new (nodes.behind before next command at mid staged s) f kind name vcn
         gained.0 gained.1);
-    gains = λ vcn gained. absurd (never gained.0 (none-owned vcn));
-    owned = λ vcn is. absurd (never is (none-owned vcn));
+    gains = λ vcn gained. absurd (never (none-gained vcn gained.0) gained.1);
+    owned = λ vcn.
+        subst (λ xs. is_cluster (spot_at xs vcn) ≡ true → may_own (cluster_bytes new.layout) command (told_size (first_part xs)) vcn ≡ true)
+        (stream-spelt new)
+        (stream.owned-behind at.file s.name old mid s.stands.sound (calls.apart before next command at mid staged s) s.edited.edits s.alone
+        (nodes.named before next command at mid staged s) new (nodes.behind before next command at mid staged s) command s.owned vcn);
   }
 
   -- INDEXES
@@ -142,12 +158,14 @@ module _ (before next : State) (command : Command) (at : Located) (mid staged : 
             (indexes.items-still key old mid s.stands.sound lies s.edited.edits no_case s.edited.can.sound dir was has) becomes));
         directories = λ dir.
             indexes.index-back key old mid s.stands.sound lies s.edited.edits no_case s.edited.can.sound new changes (directory_index dir)
-            (directory-owed half next setter at staged s.behind [] dir);
+            refl (directory-owed half next setter at staged s.behind [] dir);
         points = λ index found.
             indexes.index-back key old mid s.stands.sound lies s.edited.edits no_case s.edited.can.sound new changes index
+            (ap (λ n. length n == 0) (index-named new (codes "$Reparse") (codes "$R") index found))
             (extend-owed half next setter at staged s.behind [] (codes "$Reparse") (codes "$R") refl refl index found);
         object_ids = λ index found.
             indexes.index-back key old mid s.stands.sound lies s.edited.edits no_case s.edited.can.sound new changes index
+            (ap (λ n. length n == 0) (index-named new (codes "$ObjId") (codes "$O") index found))
             (extend-owed half next setter at staged s.behind [] (codes "$ObjId") (codes "$O") refl refl index found);
       }
 
@@ -155,15 +173,25 @@ module _ (before next : State) (command : Command) (at : Located) (mid staged : 
   links-same : links_of (read mid) at.file ≡ links_of tree at.file
   links-same = ap (λ (t : Tree). links_of t at.file) s.edited.reads ∙ ap (λ (t : Tree). links_of t at.file) s.stands.reading
 
+  -- the clusters that were given back have no owner behind it either
+  given-same : given_back old new ≡ given_back old mid
+  unfolding given_back
+  given-same =
+      ap (λ p. count_by p (range_with_len 0 old.layout.clusters)) (fun_ext (λ cluster.
+      ap (λ n. is_owned old cluster && not (nat_le 1 n))
+      (room.times-same (nodes.named before next command at mid staged s) mid new (nodes.behind before next command at mid staged s) cluster)))
+
   wrote : (made : ℕ) → next.written ≤ before.written + first_cost old + cost_of old new tree next.machine.tree command at made
   wrote made =
       let cost = cost-enough before next command at made s.stands.sound s.stands.reading (value-little tree command at s.edits)
       (value-timed command at made s.edits s.new) in
-      let set : next.written ≤ before.written + bytes_in command / 512 + first_cost mid + 12 + 12 * links_of (read mid) at.file + 0 =
+      let set : next.written ≤ before.written + bytes_in command / 512 + 2 * given_back old mid + first_cost mid + 12
+      + 12 * links_of (read mid) at.file + 0 =
       s.behind.wrote in
       let first = same.first_cost-same key old mid s.stands.sound (calls.apart before next command at mid staged s) s.edited.edits in
       let links = links-same in
-      omega (arith, cost, set, first, links)
+      let back = given-same in
+      omega (arith, cost, set, first, links, back)
 
   pub owes : (made : ℕ) → Owes before next command at made
   owes made =

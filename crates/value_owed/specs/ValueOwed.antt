@@ -1,20 +1,22 @@
--- AN EDIT OF A VALUE, and then times and flags: a stream that is a value has other bytes, or went, and the file was set as `setattr` does
--- it. What the calls of such a command give, and the first mark behind them.
-use Rattle.std.specs.Prelude.{◌≡◌, ◌+◌, ◌/◌, ℕ, Bool, false, true, List, [], ◌∷◌, length, Option, Some, None, is_some, if◌then◌else◌}
+-- AN EDIT OF ONE STREAM, and then times and flags: a stream has other bytes, or went, in the record of its file or in clusters, and the file
+-- was set as `setattr` does it. What the calls of such a command give, and the first mark behind them.
+use Rattle.std.specs.Prelude.{◌≡◌, ◌⊎◌, ◌+◌, ◌*◌, ◌/◌, ℕ, Bool, false, true, List, [], ◌∷◌, length, Option, Some, None, is_some, if◌then◌else◌}
 use Rattle.std.specs.Option.{option_map_or}
 use Rattle.ntfs_def.specs.Node.{Item}
 use Rattle.ntfs_def.specs.Units.{units_in}
 use Rattle.ntfs_def.specs.declared.kinds.TheConstants.{DATA}
 use Rattle.volume_def.specs.Files.{parts_at}
 use Rattle.volume_def.specs.Readable.{IsDirectory}
+use Rattle.volume_def.specs.StreamSize.{told_size}
 use Rattle.volume_def.specs.Table.{cluster_bytes}
+use Rattle.volume_def.specs.Values.{first_part, spot_at}
 use Rattle.volume_def.specs.View.{VolumeView}
 use Rattle.tree_model.specs.Bill.{grows}
 use Rattle.tree_model.specs.Cases.{size_of}
 use Rattle.tree_model.specs.Need.{Bill, empty_bill}
 use Rattle.tree_model.specs.Reading.{read}
-use Rattle.tree_model.specs.Staging.{is_done_in_record}
-use Rattle.tree_model.specs.StreamRoom.{new_clusters, parts_named, stream_parts, stream_value_len}
+use Rattle.tree_model.specs.Ways.{is_done_in_clusters, is_done_in_record}
+use Rattle.tree_model.specs.StreamRoom.{is_cluster, new_clusters, parts_named, stream_parts, stream_value_len}
 use Rattle.tree_model.specs.Subjects.{Located, NoName}
 use Rattle.tree_model.specs.declared.command.Command.{Command}
 use Rattle.tree_model.specs.declared.command.Command.TheVariants as c
@@ -23,7 +25,8 @@ use Rattle.tree_model.specs.declared.tree.Node.{Node}
 use Rattle.edit_def.specs.Items.{HasItems}
 use Rattle.edit_def.specs.Kept.{key_of}
 use Rattle.edit_def.specs.OneFile.{one_file, touched_alone}
-use Rattle.session_def.specs.Cost.{bytes_in}
+use Rattle.session_def.specs.Cost.{bytes_in, given_back}
+use Rattle.session_def.specs.Done.{may_own}
 use Rattle.session_def.specs.Kept.{KeepsEntries}
 use Rattle.session_def.specs.Named.{spelt}
 use Rattle.session_def.specs.State.{Stands, State}
@@ -53,32 +56,39 @@ abbrev pub bill_asked : VolumeView → ℕ → Option ℕ → Bill
 bill_asked view f None = empty_bill
 bill_asked view f (Some k) = one_file k (touched_alone view f)
 
--- BETWEEN the two: the volume as the edit of the value left it, and the tree that it reads as. The sectors that the bytes of the command
--- fill were written then.
+-- BETWEEN the two: the volume as the edit of the stream left it, and the tree that it reads as. The sectors that the bytes of the command
+-- fill were written then, and two for each cluster that was given back.
 abbrev pub between : State → Command → VolumeView → State
 between before command mid = record before {
   view = mid;
   machine = record before.machine { tree = read mid };
-  written = before.written + bytes_in command / 512;
+  written = before.written + bytes_in command / 512 + 2 * given_back before.view mid;
 }
 
--- THE VALUE WAS EDITED, and then the times and flags of the file were set, and told anew in the entries of the file's names.
+-- on this volume it is done in the record of the stream, or in clusters
+abbrev pub IsDoneAlone : VolumeView → Tree → Command → Located → Type 0
+IsDoneAlone view tree command at = (is_done_in_record view tree command at ≡ true) ⊎ (is_done_in_clusters view tree command at ≡ true)
+
+-- THE STREAM WAS EDITED, and then the times and flags of the file were set, and told anew in the entries of the file's names.
 pub record SetsBehindValue (before next : State) (command : Command) (at : Located) (mid staged : VolumeView) : Type 0 where
-  -- the volume before; the command is one of these, its words name nothing new and a stream that is there, as long as its value, and on
-  -- this volume it is done so
+  -- the volume before; the command is one of these, its words name nothing new and a stream that is there, and on this volume it is
+  -- done so; where that is in the record, the stream is as long as its value
   pub stands : Stands before
   pub edits : edits_value command ≡ true
   pub new : at.new ≡ NoName
   pub there : is_some at.content ≡ true
-  pub size_is : option_map_or size_of at.content 0 ≡ stream_value_len (stream_parts before.view before.machine.tree at)
-  pub in_record : is_done_in_record before.view before.machine.tree command at ≡ true
+  pub way : IsDoneAlone before.view before.machine.tree command at
+  pub size_is : is_done_in_record before.view before.machine.tree command at ≡ true
+      → option_map_or size_of at.content 0 ≡ stream_value_len (stream_parts before.view before.machine.tree at)
   -- the stream by its name, and all parts of the file that are found by the units of that name are its own
   pub name : List ℕ
   pub spelt_so : units_in name ≡ spelt before.machine.tree at
   pub alone : parts_named before.view at.file (units_in name) ≡ parts_at before.view at.file DATA name
-  -- the edit of the value
+  -- the edit of the stream, which then owns no cluster that it may not
   pub node : Node
   pub edited : IsEdited (key_of at.file DATA name) before.view mid node
+  pub owned : (vcn : ℕ) → is_cluster (spot_at (parts_at mid at.file DATA name) vcn) ≡ true
+      → may_own (cluster_bytes before.view.layout) command (told_size (first_part (parts_at mid at.file DATA name))) vcn ≡ true
   -- what came behind it, as if the file had been set on the volume between; its entries are right from the tree before on
   pub behind : SetsInPlace (between before command mid) next (c.Setattr [] 0) at staged
   pub entries : (dir : ℕ) (was now : List Item) → IsDirectory mid dir → HasItems mid dir was → HasItems staged dir now

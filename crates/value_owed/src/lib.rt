@@ -1,4 +1,4 @@
-//! What a command owes that edits one value of a stream, put together. Laws with nothing to run.
+//! What a command owes that edits one stream alone, put together. Laws with nothing to run.
 #![tactic(auto)]
 
 mod laws;
