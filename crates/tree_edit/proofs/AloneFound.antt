@@ -1,9 +1,10 @@
--- WHAT IS WANTED OF A STREAM that is to have another length or to go, before room is asked for, by what is found of the file that is held:
--- the refusals in their order; and whether it is a value of a file without an attribute list, and has room.
-use Rattle.std.proofs.Common.{◌≡◌, ◌⊎◌, ◌&&◌, ◌||◌, ◌==◌, ◌+◌, ◌/◌, ◌%◌, ℕ, Bool, true, false, List, Option, Some, None, Result, Ok, Err}
+-- WHAT IS WANTED OF A STREAM that is to have another length or to go, before room or bits are asked for, by what is found of the file that
+-- is held: the refusals in their order; the way in which it can; and whether it is a value of a file without an attribute list, and has
+-- room.
+use Rattle.std.proofs.Common.{◌≡◌, ◌⊎◌, ◌<◌, ◌≤◌, ◌&&◌, ◌||◌, ◌==◌, ◌+◌, ◌/◌, ◌%◌, ℕ, Bool, true, false, List, Option, Some, None, Result, Ok, Err}
 use Rattle.std.proofs.Common.{refl, sym, ap, subst, inl, inr, ◌∙◌}
-use Rattle.std.proofs.lemmas.Bool.{and_parts, not-true}
-use Rattle.std.specs.Prelude.{IfOk, IsSomeAnd, if◌then◌else◌, is_some, length, nat_le, slice_get}
+use Rattle.std.proofs.lemmas.Bool.{and_parts, le-leb, lt-leb, not-true, or_left, or_right}
+use Rattle.std.specs.Prelude.{IfOk, IfSome, IsSomeAnd, MatchResult, if◌then◌else◌, is_some, length, nat_le, slice_get}
 use Rattle.std.specs.List.{list_any}
 use Rattle.std.specs.Option.{option_map_or}
 use Rattle.list_laws.proofs.FindLaws.{none-counted}
@@ -26,7 +27,7 @@ use Rattle.sparse_io.specs.declared.find.FoundStream.{FoundStream}
 use Rattle.tree_model.specs.Cases.{is_far}
 use Rattle.tree_model.specs.Paths.{and_then}
 use Rattle.tree_model.specs.Reading.{read}
-use Rattle.tree_model.specs.Staging.{fits_in_record, gets_no_longer, has_no_list}
+use Rattle.tree_model.specs.Ways.{fits_in_record, gets_no_longer, has_no_list}
 use Rattle.tree_model.specs.StreamRoom.{parts_named, stream_parts, stream_value}
 use Rattle.tree_model.specs.Subjects.{content_named}
 use Rattle.tree_model.specs.Tree.{node_of}
@@ -38,16 +39,18 @@ use Rattle.tree_read.specs.Nodes.{IsNodeHeld, number_of, parts_in}
 use Rattle.tree_read.specs.Parts.{FindsPlain, IsPlainStream, content_here}
 use Rattle.tree_read.proofs.NodeLaws.{held-file, held-with}
 use Rattle.tree_read.proofs.StreamLaws.{other-stream, refused-directory}
-use Rattle.tree_edit.specs.Alone.{can_drop, can_resize, drop_in, drop_shared, if_dropped}
+use Rattle.tree_edit.specs.Alone.{can_cut, can_drop, can_give, can_resize}
 use Rattle.tree_edit.specs.Change.{TellsFit, has_room_for}
-use Rattle.tree_edit.specs.Decided.{if_can, resize_decided, resize_ranged_to}
+use Rattle.tree_edit.specs.Decided.{EditsSo, can_drop_by, can_drop_so, can_resize_by, can_resize_so, drop_decided, drop_shared_to, if_can, resize_decided, resize_ranged_to}
 use Rattle.tree_edit.specs.Settable.{is_editable}
 use Rattle.tree_edit.specs.Writable.{AreNames, DecidesEdit, DecidesOver, FindsToWrite, GivesBack, IsMountedAs, kept_from_writing, named_in}
 use Rattle.tree_edit.specs.Writable.{stream_to_write}
+use Rattle.tree_edit.specs.declared.writable.Way.{Way}
 use Rattle.tree_edit.specs.declared.writable.Way.TheVariants as way
 use Rattle.tree_edit.specs.declared.writable.Writable.{Writable}
-use Rattle.tree_edit.proofs.EditableLaws.{edit-decided, edit-is, parts-are}
-use Rattle.tree_edit.proofs.FoundOver.{drop-missing}
+use Rattle.tree_edit.proofs.EditableLaws.{edit-is, parts-are, ways-decided}
+use Rattle.tree_edit.proofs.ExtentFound.{give-editable}
+use Rattle.tree_edit.proofs.FoundOver.{drop-missing, give-missing}
 use Rattle.tree_edit.proofs.RoomFound.{attribute-of, fits-tells, found-size, value-there}
 use Rattle.tree_edit.proofs.StreamToWrite.{content-is}
 
@@ -61,9 +64,6 @@ module _ (view : VolumeView) (held : BaseFile) (n : IsNodeHeld view held) where
   abbrev f : ℕ
   f = number_of held
 
-  pub list-held : list_any is_list (parts_in held) ≡ list_any is_list (parts (records_of view) f)
-  list-held = ap (list_any is_list) n.parts.parts
-
   -- WHAT IS WANTED, of a stream that is to have another length
   module _ (name : List ℕ) (size : ℕ) (opens : List OpenEntry) where
     abbrev sought : Result (Option (List ℕ)) No
@@ -73,7 +73,7 @@ module _ (view : VolumeView) (held : BaseFile) (n : IsNodeHeld view held) where
     wanted = resize_decided view opens name size f
 
     abbrev last : Result ℕ No
-    last = if_can (can_resize view name size f) f
+    last = if_can (can_resize_so view name size f) f
 
     abbrev then_ranged : Result (Option (List ℕ)) No → Result ℕ No
     then_ranged r = and_then r (λ (b : Option (List ℕ)). resize_ranged_to last opens size f)
@@ -102,15 +102,19 @@ module _ (view : VolumeView) (held : BaseFile) (n : IsNodeHeld view held) where
         → wanted ≡ Err no.Unbuilt
     resize-missing none near kept =
         resize-shared None none near None kept
-        ∙ ap (λ b. if_can b f) (ap (λ b. b && room_in view name size f) (drop-missing view held n name 0 0 none))
+        ∙ ap (λ b. if_can b f) (ap (λ b. (b && room_in view name size f) || can_cut view name size f) (drop-missing view held n name 0 0 none)
+        ∙ ap (λ b. b && gets_no_longer size (content_named (read view) name (node_of (read view) f))) (give-missing view held n name 0 0 none))
 
   -- .. and of one that is to go
   module _ (name : List ℕ) (opens : List OpenEntry) where
     abbrev wanted_gone : Result ℕ No
-    wanted_gone = drop_in view opens name f
+    wanted_gone = drop_decided view opens name f
+
+    abbrev last_gone : Result ℕ No
+    last_gone = if_can (can_drop_so view name f) f
 
     abbrev then_shared : Result (List ℕ) No → Result ℕ No
-    then_shared r = and_then r (λ bytes. drop_shared view opens name f)
+    then_shared r = and_then r (λ (b : List ℕ). drop_shared_to last_gone opens f)
 
     pub directory-kept : ((length name == 0) && (held.header.flags / 2 % 2 == 1)) ≡ true → wanted_gone ≡ Err no.IsDir
     directory-kept dir = ap then_shared (refused-directory view held n name dir)
@@ -122,9 +126,38 @@ module _ (view : VolumeView) (held : BaseFile) (n : IsNodeHeld view held) where
       drop-refused refused (inr memory) = inr memory
 
       pub drop-shared : (found : FoundStream) → FindsPlain (content_here view held name) view held name (Ok found) → (k : Option No)
-          → kept_from_writing opens f ≡ k → wanted_gone ≡ option_map_or Err k (if_dropped view name f)
+          → kept_from_writing opens f ≡ k → wanted_gone ≡ option_map_or Err k last_gone
       drop-shared found x k kept =
-          ap then_shared (other-stream view held n name other ∙ x.1) ∙ ap (λ k. option_map_or Err k (if_dropped view name f)) kept
+          ap then_shared (other-stream view held n name other ∙ x.1) ∙ ap (λ k. option_map_or Err k last_gone) kept
+
+-- THE WAY that was found, and what is given back by it.
+module _ {E : Type 0} (way : Result (Option Way) E) (result : Result Writable No)
+    (given : MatchResult result (λ found. way ≡ Ok (Some found.way)) (λ refused. ((way ≡ Ok None) × (refused ≡ no.Unbuilt))
+    ⊎ (refused ≡ no.Memory))) where
+  pub given-over : (can : Way → ℕ → Bool) (some : Bool) (file : ℕ) → ((way : Way) → can way file ≡ true → some ≡ true)
+      → IfOk way (EditsSo can some file) → DecidesOver some result × IfOk result (λ found. can found.way file ≡ true)
+  given-over can some file any so = by result given
+    where
+      by : (r : Result Writable No) → MatchResult r (λ found. way ≡ Ok (Some found.way)) (λ refused. ((way ≡ Ok None)
+          × (refused ≡ no.Unbuilt)) ⊎ (refused ≡ no.Memory)) → DecidesOver some r × IfOk r (λ found. can found.way file ≡ true)
+      by (Ok found) e =
+          let can_so = subst (λ (w : Result (Option Way) E). IfOk w (EditsSo can some file)) e so in
+          (any found.way can_so, can_so)
+      by (Err refused) (inl (e, same)) =
+          (inl (subst (λ (w : Result (Option Way) E). IfOk w (EditsSo can some file)) e so, same), tt)
+      by (Err refused) (inr memory) = (inr memory, tt)
+
+  pub given-inside : (held : BaseFile) (stream : FoundStream) (limit : ℕ) → IfOk way (λ way. IfSome way (λ some. number_of held < limit))
+      → IfOk result (λ found. GivesBack found held stream found.way) → IfOk result (λ found. number_of found.held < limit)
+  given-inside held stream limit inside back = by result given back
+    where
+      by : (r : Result Writable No) → MatchResult r (λ found. way ≡ Ok (Some found.way)) (λ refused. ((way ≡ Ok None)
+          × (refused ≡ no.Unbuilt)) ⊎ (refused ≡ no.Memory)) → IfOk r (λ found. GivesBack found held stream found.way)
+          → IfOk r (λ found. number_of found.held < limit)
+      by (Ok found) e b =
+          subst (λ (it : BaseFile). number_of it < limit) (sym b.held_is)
+          (subst (λ (w : Result (Option Way) E). IfOk w (λ way. IfSome way (λ some. number_of held < limit))) e inside)
+      by (Err refused) e b = tt
 
 -- WHAT WAS DECIDED
 module _ (view : VolumeView) (mounted : Mounted) (held : BaseFile) (mounts : IsMountedAs view mounted (cluster_bytes view.layout))
@@ -145,12 +178,28 @@ module _ (view : VolumeView) (mounted : Mounted) (held : BaseFile) (mounts : IsM
       (edit-is view mounted (cluster_bytes view.layout) held mounts sound n name found is (λ (ps : List Part). is_some (stream_value ps)))
       ∙ and-more (is_editable mounted held.parts) is_value (has_no_list view number)
 
-  pub drop-decided : (wanted : Result ℕ No) (result : Result Writable No) → DecidesOver (can_drop view name number) result
-      → IfOk result (λ given. GivesBack given held found way.InRecord) → IsPlainStream view held name found
-      → wanted ≡ if_dropped view name number → DecidesEdit (λ any file. can_drop view name file) wanted view held name result
-  drop-decided wanted result over back plain e =
-      edit-decided view mounted (cluster_bytes view.layout) held mounts sound n name found is (λ file. can_drop view name file)
-      (is_value && has_no_list view number) drop-is way.InRecord wanted result over back plain e
+  drop-editable : can_drop view name number ≡ true → is_editable mounted held.parts ≡ true
+  drop-editable can = (and_parts (is_editable mounted held.parts) _ (sym drop-is ∙ can)).0
+
+  drop-way : (way : Way) → can_drop_by view name way number ≡ true → is_editable mounted held.parts ≡ true
+  drop-way way.InPlace can = absurd (cc)
+  drop-way way.InRecord can = drop-editable can
+  drop-way way.InClusters can = give-editable view mounted held mounts sound n name found is can
+
+  drop-some : (way : Way) → can_drop_by view name way number ≡ true → can_drop_so view name number ≡ true
+  drop-some way.InPlace can = absurd (cc)
+  drop-some way.InRecord can = or_left (can_drop view name number) (can_give view name number) can
+  drop-some way.InClusters can = or_right (can_drop view name number) (can_give view name number) can
+
+  pub drop-decided : {E : Type 0} (way : Result (Option Way) E) (wanted : Result ℕ No) (result : Result Writable No)
+      → IfOk way (EditsSo (can_drop_by view name) (can_drop_so view name number) number)
+      → MatchResult result (λ found. way ≡ Ok (Some found.way)) (λ refused. ((way ≡ Ok None) × (refused ≡ no.Unbuilt)) ⊎ (refused ≡ no.Memory))
+      → IfOk result (λ given. GivesBack given held found given.way) → IsPlainStream view held name found
+      → wanted ≡ if_can (can_drop_so view name number) number → DecidesEdit (can_drop_by view name) wanted view held name result
+  drop-decided way wanted result so given back plain e =
+      let over = given-over way result given (can_drop_by view name) (can_drop_so view name number) number drop-some so in
+      ways-decided view mounted (cluster_bytes view.layout) held mounts sound n name found is (can_drop_by view name)
+      (can_drop_so view name number) drop-way wanted result over.0 back over.1 plain e
 
   module _ (size : ℕ) where
     resize-is : can_resize view name size number
@@ -159,17 +208,50 @@ module _ (view : VolumeView) (mounted : Mounted) (held : BaseFile) (mounts : IsM
         ap (λ b. b && room_in view name size number) drop-is
         ∙ and-more (is_editable mounted held.parts) (is_value && has_no_list view number) (room_in view name size number)
 
-    pub resize-decided : (wanted : Result ℕ No) (result : Result Writable No) → DecidesOver (can_resize view name size number) result
-        → IfOk result (λ given. GivesBack given held found way.InRecord) → IsPlainStream view held name found
-        → wanted ≡ if_can (can_resize view name size number) number
-        → DecidesEdit (λ any file. can_resize view name size file) wanted view held name result
-    resize-decided wanted result over back plain e =
-        edit-decided view mounted (cluster_bytes view.layout) held mounts sound n name found is (λ file. can_resize view name size file)
-        ((is_value && has_no_list view number) && room_in view name size number) resize-is way.InRecord wanted result over back plain e
-
     -- what can have another length can be edited
     pub resize-editable : can_resize view name size number ≡ true → is_editable mounted held.parts ≡ true
     resize-editable can = (and_parts (is_editable mounted held.parts) _ (sym resize-is ∙ can)).0
+
+    resize-way : (way : Way) → can_resize_by view name size way number ≡ true → is_editable mounted held.parts ≡ true
+    resize-way way.InPlace can = absurd (cc)
+    resize-way way.InRecord can = resize-editable can
+    resize-way way.InClusters can =
+        give-editable view mounted held mounts sound n name found is (and_parts (can_give view name number) _ can).0
+
+    resize-some : (way : Way) → can_resize_by view name size way number ≡ true → can_resize_so view name size number ≡ true
+    resize-some way.InPlace can = absurd (cc)
+    resize-some way.InRecord can = or_left (can_resize view name size number) (can_cut view name size number) can
+    resize-some way.InClusters can = or_right (can_resize view name size number) (can_cut view name size number) can
+
+    pub resize-decided : {E : Type 0} (way : Result (Option Way) E) (wanted : Result ℕ No) (result : Result Writable No)
+        → IfOk way (EditsSo (can_resize_by view name size) (can_resize_so view name size number) number)
+        → MatchResult result (λ found. way ≡ Ok (Some found.way)) (λ refused. ((way ≡ Ok None) × (refused ≡ no.Unbuilt))
+        ⊎ (refused ≡ no.Memory)) → IfOk result (λ given. GivesBack given held found given.way) → IsPlainStream view held name found
+        → wanted ≡ if_can (can_resize_so view name size number) number → DecidesEdit (can_resize_by view name size) wanted view held name result
+    resize-decided way wanted result so given back plain e =
+        let over = given-over way result given (can_resize_by view name size) (can_resize_so view name size number) number resize-some so in
+        ways-decided view mounted (cluster_bytes view.layout) held mounts sound n name found is (can_resize_by view name size)
+        (can_resize_so view name size number) resize-way wanted result over.0 back over.1 plain e
+
+    -- whether a stream gets no longer, by the size that was found
+    pub longer-is : gets_no_longer size (content_named (read view) name (node_of (read view) number)) ≡ nat_le size found.size
+    longer-is = ap (gets_no_longer size) (content-is view held n name found is) ∙ ap (λ k. nat_le size k) (sym is.size)
+
+    pub cut-short : size ≤ found.size → can_cut view name size number ≡ can_give view name number
+    cut-short short =
+        ap (λ b. can_give view name number && b) (longer-is ∙ le-leb size found.size short) ∙ and-true (can_give view name number)
+      where
+        and-true : (b : Bool) → (b && true) ≡ b
+        and-true true = refl
+        and-true false = refl
+
+    pub cut-long : found.size < size → can_cut view name size number ≡ false
+    cut-long long =
+        ap (λ b. can_give view name number && b) (longer-is ∙ lt-leb size found.size long) ∙ and-false (can_give view name number)
+      where
+        and-false : (b : Bool) → (b && false) ≡ false
+        and-false true = refl
+        and-false false = refl
 
     -- WHETHER IT CAN HAVE SO MANY BYTES, by the room of the record that holds it
     pub resize-not : false ≡ can_drop view name number → false ≡ can_resize view name size number

@@ -1,5 +1,5 @@
 -- ROOM IS ASKED FOR behind what was decided: for a stream that gets longer, and for bytes that go into a value.
-use Rattle.std.proofs.Common.{◌≡◌, ◌||◌, ◌+◌, ◌<◌, ◌≤◌, ℕ, Bool, true, false, not, List, Option, Some, None, Result, Ok, Err, inl, inr, refl, sym, ap, subst, ◌∙◌}
+use Rattle.std.proofs.Common.{◌≡◌, ◌&&◌, ◌||◌, ◌+◌, ◌<◌, ◌≤◌, ℕ, Bool, true, false, not, List, Option, Some, None, Result, Ok, Err, inl, inr, refl, sym, ap, subst, ◌∙◌}
 use Rattle.std.proofs.lemmas.Bool.{and_parts, le-ltb, lt-ltb}
 use Rattle.std.specs.Prelude.{IsTrue, if◌then◌else◌, is_some, nat_lt}
 use Rattle.std.specs.Option.{option_map_or}
@@ -20,8 +20,9 @@ use Rattle.tree_model.specs.Cases.{is_far, is_wide}
 use Rattle.tree_model.specs.Facts.{is_whole_table}
 use Rattle.tree_model.specs.Paths.{and_then, found_file, resolve}
 use Rattle.tree_model.specs.Reading.{read}
-use Rattle.tree_model.specs.Shown.{plain_bytes}
-use Rattle.tree_model.specs.Staging.{cannot_edit, has_no_list}
+use Rattle.tree_model.specs.Shown.{plain_bytes, stream_of}
+use Rattle.tree_model.specs.Staging.{cannot_edit}
+use Rattle.tree_model.specs.Ways.{has_no_list, has_placed_bits}
 use Rattle.tree_model.specs.StreamRoom.{new_clusters, parts_named, stream_parts, stream_value}
 use Rattle.tree_model.specs.Subjects.{content_named}
 use Rattle.tree_model.specs.Tree.{node_of}
@@ -34,8 +35,8 @@ use Rattle.tree_read.specs.declared.stop.Stop.{Stop}
 use Rattle.tree_read.specs.declared.stop.Stop.TheVariants as stop
 use Rattle.tree_read.proofs.GivesLaws.{both, tells}
 use Rattle.tree_read.proofs.NodeLaws.{held-with}
-use Rattle.tree_edit.specs.Alone.{IsResizable, can_drop, can_resize, if_room, resize_in, resize_wanted, room_to_resize}
-use Rattle.tree_edit.specs.Decided.{hwrite_decided, if_can, resize_decided, resize_found, room_written, write_decided, write_found}
+use Rattle.tree_edit.specs.Alone.{IsResizable, asked_to_drop, asked_to_resize, can_cut, can_drop, can_give, can_resize, drop_in, drop_wanted, if_room, resize_in, resize_wanted, room_to_resize}
+use Rattle.tree_edit.specs.Decided.{drop_decided, drop_found, hwrite_decided, if_can, resize_decided, resize_found, room_written, write_decided, write_found}
 use Rattle.tree_edit.specs.Punchable.{can_punch}
 use Rattle.tree_edit.specs.Writable.{can_write_over, kept_from_writing, named_in, stream_to_write}
 use Rattle.tree_edit.specs.Write.{IsWritable, hwrite_in, room_to_write, write_in, write_wanted}
@@ -50,19 +51,40 @@ module _ (file : ℕ) (far : Bool) (kept : Option No) where
   abbrev shared : Result ℕ No → Result ℕ No
   shared last = if far then Err no.TooBig else option_map_or Err kept last
 
-  resized-last : {A : Type 0} (r : Result A No) (can : Bool) (room : ℕ → Option No)
-      → and_then r (λ x. shared (if can then if_room (room file) file else Err no.Unbuilt))
-      ≡ and_then (and_then r (λ x. shared (if_can can file))) (λ f. if_room (room f) f)
-  resized-last (Err refused) can room = refl
-  resized-last (Ok x) can room = by far kept can
+  resized-last : {A : Type 0} (r : Result A No) (can cut bits : Bool) (room asked : ℕ → Option No)
+      → asked file ≡ (if can then room file else if bits then None else Some no.Unbuilt)
+      → and_then r (λ x. shared (if can then if_room (room file) file else if cut && bits then Ok file else Err no.Unbuilt))
+      ≡ and_then (and_then r (λ x. shared (if_can (can || cut) file))) (λ f. if_room (asked f) f)
+  resized-last (Err refused) can cut bits room asked e = refl
+  resized-last (Ok x) can cut bits room asked e = by far kept can cut bits e
     where
-      by : (far : Bool) (kept : Option No) (can : Bool)
-          → (if far then Err no.TooBig else option_map_or Err kept (if can then if_room (room file) file else Err no.Unbuilt))
-          ≡ and_then (if far then Err no.TooBig else option_map_or Err kept (if_can can file)) (λ f. if_room (room f) f)
-      by true kept can = refl
-      by false (Some refused) can = refl
-      by false None true = refl
-      by false None false = refl
+      by : (far : Bool) (kept : Option No) (can cut bits : Bool)
+          → asked file ≡ (if can then room file else if bits then None else Some no.Unbuilt)
+          → (if far then Err no.TooBig else option_map_or Err kept
+          (if can then if_room (room file) file else if cut && bits then Ok file else Err no.Unbuilt))
+          ≡ and_then (if far then Err no.TooBig else option_map_or Err kept (if_can (can || cut) file)) (λ f. if_room (asked f) f)
+      by true kept can cut bits e = refl
+      by false (Some refused) can cut bits e = refl
+      by false None true cut bits e = sym (ap (λ (o : Option No). if_room o file) e)
+      by false None false false bits e = refl
+      by false None false true true e = sym (ap (λ (o : Option No). if_room o file) e)
+      by false None false true false e = sym (ap (λ (o : Option No). if_room o file) e)
+
+  dropped-last : {A : Type 0} (r : Result A No) (can give bits : Bool) (asked : ℕ → Option No)
+      → asked file ≡ (if can then None else if bits then None else Some no.Unbuilt)
+      → and_then r (λ x. option_map_or Err kept (if can || (give && bits) then Ok file else Err no.Unbuilt))
+      ≡ and_then (and_then r (λ x. option_map_or Err kept (if_can (can || give) file))) (λ f. if_room (asked f) f)
+  dropped-last (Err refused) can give bits asked e = refl
+  dropped-last (Ok x) can give bits asked e = by kept can give bits e
+    where
+      by : (kept : Option No) (can give bits : Bool) → asked file ≡ (if can then None else if bits then None else Some no.Unbuilt)
+          → option_map_or Err kept (if can || (give && bits) then Ok file else Err no.Unbuilt)
+          ≡ and_then (option_map_or Err kept (if_can (can || give) file)) (λ f. if_room (asked f) f)
+      by (Some refused) can give bits e = refl
+      by None true give bits e = sym (ap (λ (o : Option No). if_room o file) e)
+      by None false false bits e = refl
+      by None false true true e = sym (ap (λ (o : Option No). if_room o file) e)
+      by None false true false e = sym (ap (λ (o : Option No). if_room o file) e)
 
   written-last : {A : Type 0} (r : Result A No) (over can : Bool) (room asked : ℕ → Option No) → asked file ≡ (if over then None else room file)
       → and_then r (λ x. shared (if over then Ok file else if can then if_room (room file) file else Err no.Unbuilt))
@@ -82,17 +104,30 @@ module _ (file : ℕ) (far : Bool) (kept : Option No) where
 
 module _ (view : VolumeView) (name : List ℕ) where
   pub resize-last : (opens : List OpenEntry) (path : List (List ℕ)) (size : ℕ) → resize_wanted view opens path name size
-      ≡ and_then (resize_found view opens path name size) (λ f. if_room (room_to_resize view name size f) f)
+      ≡ and_then (resize_found view opens path name size) (λ f. if_room (asked_to_resize view name size f) f)
   resize-last opens path size = by (resolve (read view) path)
     where
       by : (r : _) → and_then r (λ found. resize_in view opens name size (found_file found))
           ≡ and_then (and_then r (λ found. resize_decided view opens name size (found_file found)))
-          (λ f. if_room (room_to_resize view name size f) f)
+          (λ f. if_room (asked_to_resize view name size f) f)
       by (Err refused) = refl
       by (Ok found) =
           let file = found_file found in
           resized-last file (is_far size) (kept_from_writing opens file) (stream_to_write (read view) name (node_of (read view) file))
-          (can_resize view name size file) (λ f. room_to_resize view name size f)
+          (can_resize view name size file) (can_cut view name size file) (has_placed_bits view) (λ f. room_to_resize view name size f)
+          (λ f. asked_to_resize view name size f) refl
+
+  pub drop-last : (opens : List OpenEntry) (path : List (List ℕ)) → drop_wanted view opens path name
+      ≡ and_then (drop_found view opens path name) (λ f. if_room (asked_to_drop view name f) f)
+  drop-last opens path = by (resolve (read view) path)
+    where
+      by : (r : _) → and_then r (λ found. drop_in view opens name (found_file found))
+          ≡ and_then (and_then r (λ found. drop_decided view opens name (found_file found))) (λ f. if_room (asked_to_drop view name f) f)
+      by (Err refused) = refl
+      by (Ok found) =
+          let file = found_file found in
+          dropped-last file false (kept_from_writing opens file) (stream_of (read view) name (node_of (read view) file))
+          (can_drop view name file) (can_give view name file) (has_placed_bits view) (λ f. asked_to_drop view name f) refl
 
   module _ (from len : ℕ) where
     pub write-last : (opens : List OpenEntry) (path : List (List ℕ)) → write_wanted view opens path name from len
@@ -148,6 +183,18 @@ module _ {D : Type 0} (g : Ghosts D) (wanted first : VolumeView → Result ℕ N
       → Answered g old new wanted (Ok f)
   asked-on {old = old} f Known decided known asked = tells (both decided asked) refl (λ told says.
       then-is (view g old) f says.0 ∙ enough-so f (room (view g old) f) (says.1 (known told)))
+
+-- .. and none is refused, where the call went on.
+asked-none : (o : Option No) → has_room o ≡ Ok tt → o ≡ None
+asked-none None e = refl
+asked-none (Some refused) e = cc
+
+pub asked-known : {D : Type 0} (g : Ghosts D) (first : VolumeView → Result ℕ No) (room : VolumeView → ℕ → Option No) {old middle new : Mft D g}
+    (f : ℕ) (Known : VolumeView → Type 0) → Answered g old middle first (Ok f)
+    → Gives g middle new (λ volume given. Known volume → Says (has_room (room volume f)) given) (Ok tt)
+    → IsTrue (view g old).told → Known (view g old) → room (view g old) f ≡ None
+asked-known g first room {old = old} f Known decided asked told known =
+    asked-none (room (view g old) f) (((both decided asked).is told).1 known)
 
 -- THE CLUSTERS that are asked for.
 module _ (view : VolumeView) (found : Writable) (name : List ℕ) (size : ℕ) (is : IsResizable view found name size) where

@@ -80,7 +80,7 @@ module _ (file : FileParts) (k left i : ℕ) (inside : k < length (held_of file)
   abbrev here : (one : Held) × (slice_get (held_of file) k ≡ Some one)
   here = one-at (held_of file) k inside
 
-  abbrev one : Held
+  abbrev pub one : Held
   one = here.0
 
   is : get_or (held_of file) k one ≡ one
@@ -111,10 +111,10 @@ module _ (file : FileParts) (k left i : ℕ) (inside : k < length (held_of file)
       part-at (held_of file) k left i one a inside place (ap (λ (h : Held). slice_get (attributes h.block) left) is ∙ at)
       ∙ ap (λ (h : Held). Some (part_of h.number a)) is
 
-  abbrev its : Attribute
+  abbrev pub its : Attribute
   its = attribute_in one.block left
 
-  read : slice_get (attributes one.block) left ≡ Some its
+  pub read : slice_get (attributes one.block) left ≡ Some its
   read = slice_get-attributes one.block (length (attributes one.block)) left shape within
 
   pub part-is : slice_get (parts_held file) i ≡ Some (part_of one.number its)
@@ -196,11 +196,11 @@ module _ (file : FileParts) (k left i : ℕ) (inside : k < length (held_of file)
           let lt = slice_get_within (parts_held file) i part part-held in
           omega (arith, past, lt)
 
-      record-own : IsRecordOf old f one.number
+      pub record-own : IsRecordOf old f one.number
       record-own = All-contains (λ (one : Held). IsRecordOf old f one.number) (held_of file) one (own told) among
 
       -- the record has the attributes on the volume that are held of it
-      current : attributes one.block ≡ attributes (opened_record old one.number)
+      pub current : attributes one.block ≡ attributes (opened_record old one.number)
       current =
           let bare : bare_of one.block ≡ bare_of (opened_of (old.block one.number)) =
           All-contains (IsCurrentRecord old) (held_of file) one (parts_are told readable is_file).current among in
@@ -240,31 +240,34 @@ module _ (file : FileParts) (k left i : ℕ) (inside : k < length (held_of file)
           let wrong = of-record (λ held. false ≡ fits_in held.block left size) not in
           cc
 
-      is-part : (was : Attribute) → slice_get (attributes (opened_record old one.number)) left ≡ Some was → part_of one.number was ≡ part
+      pub is-part : (was : Attribute) → slice_get (attributes (opened_record old one.number)) left ≡ Some was → part_of one.number was ≡ part
       is-part was at =
           some_same (sym (part-of was (ap (λ (xs : List Attribute). slice_get xs left) current ∙ at)) ∙ part-held)
+
+      -- what a call tells of that record
+      pub in-each : (Told : VolumeView → ℕ → Type 0) → IsApart (view g a).layout → IsInitialized (view g a) f
+          → (IsTrue (view g b).told → IsApart (view g b).layout → IsWholeFile (view g b) file
+          → RecordHeld file k (λ held. 1024 * held.number + 1024 ≤ (view g b).layout.initialized → Told (view g b) held.number))
+          → Told (view g a) one.number
+      in-each Told apart initialized tells =
+          let all = subst (λ (v : VolumeView). IsTrue v.told → IsApart v.layout → IsWholeFile v file
+          → RecordHeld file k (λ held. 1024 * held.number + 1024 ≤ v.layout.initialized → Told v held.number)) same tells told apart whole in
+          of-record (λ held. 1024 * held.number + 1024 ≤ old.layout.initialized → Told old held.number) all
+          (initialized one.number record-own)
 
       module _ (c : Mft D g) (apart : IsApart (view g a).layout) (initialized : IsInitialized (view g a) f) where
         pub part-changed : (change : List ℕ → List ℕ) → (IsTrue (view g b).told → IsApart (view g b).layout → IsWholeFile (view g b) file
             → RecordHeld file k (λ held. 1024 * held.number + 1024 ≤ (view g b).layout.initialized
             → ChangesValue (view g b) (view g c) held.number left change)) → ChangesPart (view g a) (view g c) f part change
         part-changed change changed =
-            let all = subst (λ (v : VolumeView). IsTrue v.told → IsApart v.layout → IsWholeFile v file
-            → RecordHeld file k (λ held. 1024 * held.number + 1024 ≤ v.layout.initialized
-            → ChangesValue v (view g c) held.number left change)) same changed told apart whole in
-            let r = of-record (λ held. 1024 * held.number + 1024 ≤ old.layout.initialized
-            → ChangesValue old (view g c) held.number left change) all (initialized one.number record-own) in
+            let r = in-each (λ v n. ChangesValue v (view g c) n left change) apart initialized changed in
             record { n = one.number; own = record-own; i = left; changes = r; is = is-part r.was r.there }
 
         pub part-removed : (IsTrue (view g b).told → IsApart (view g b).layout → IsWholeFile (view g b) file
             → RecordHeld file k (λ held. 1024 * held.number + 1024 ≤ (view g b).layout.initialized
             → RemovesAttribute (view g b) (view g c) held.number left)) → RemovesPart (view g a) (view g c) f part
         part-removed removed =
-            let all = subst (λ (v : VolumeView). IsTrue v.told → IsApart v.layout → IsWholeFile v file
-            → RecordHeld file k (λ held. 1024 * held.number + 1024 ≤ v.layout.initialized
-            → RemovesAttribute v (view g c) held.number left)) same removed told apart whole in
-            let r = of-record (λ held. 1024 * held.number + 1024 ≤ old.layout.initialized
-            → RemovesAttribute old (view g c) held.number left) all (initialized one.number record-own) in
+            let r = in-each (λ v n. RemovesAttribute v (view g c) n left) apart initialized removed in
             record { n = one.number; own = record-own; i = left; removes = r; is = is-part r.was r.there }
 
     -- WHAT IS STAGED: that record

@@ -44,6 +44,19 @@ parts-are view held n name found is =
     (option_and_then (λ (node : Node). sought_stream (volume_fold view) node.streams name) o) []) n.node
     ∙ ap (λ o. option_map_or (λ (stream : Stream). parts_named view (number_of held) stream.name) o []) is.sought
 
+-- What was found to be edited can be edited otherwise too, where its file passes that test.
+pub found-for : (view : VolumeView) (found : Writable) (name : List ℕ) (can other : ℕ → Bool) → IsFoundToEdit view found name can
+    → other (number_of found.held) ≡ true → IsFoundToEdit view found name other
+found-for view found name can other is so = record {
+  settable = is.settable;
+  held = is.held;
+  stream = is.stream;
+  there = is.there;
+  flags = is.flags;
+  over = so;
+  tellable = is.tellable;
+}
+
 module _ (view : VolumeView) (mounted : Mounted) (size : ℕ) (held : BaseFile) (mounts : IsMountedAs view mounted size)
     (sound : IsSound view)
     (n : IsNodeHeld view held) (name : List ℕ) (found : FoundStream) (is : IsStream view held.parts name found) where

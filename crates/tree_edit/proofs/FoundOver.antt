@@ -1,5 +1,5 @@
 -- WHAT IS WANTED OF A WRITE before room is asked for, by what is found of the file that is held: the refusals in their order.
-use Rattle.std.proofs.Common.{◌≡◌, ◌⊎◌, ◌&&◌, ◌||◌, ◌+◌, ℕ, not, Bool, true, false, List, [], Option, Some, None, Result, Ok, Err}
+use Rattle.std.proofs.Common.{◌≡◌, ◌⊎◌, ◌&&◌, ◌||◌, ◌==◌, ◌+◌, ℕ, not, Bool, true, false, List, [], Option, Some, None, Result, Ok, Err}
 use Rattle.std.proofs.Common.{refl, sym, ap, inl, inr, ◌∙◌}
 use Rattle.std.specs.Prelude.{IsErrAnd, IsTrue, length, if◌then◌else◌, is_some, option_and_then}
 use Rattle.std.specs.Option.{option_map_or}
@@ -9,6 +9,7 @@ use Rattle.vol_stage.specs.Staged.{image}
 use Rattle.volume_def.specs.CaseClause.{volume_fold}
 use Rattle.volume_def.specs.Table.{cluster_bytes}
 use Rattle.volume_def.specs.Files.{Part}
+use Rattle.volume_def.specs.Values.{first_part}
 use Rattle.volume_def.specs.View.{VolumeView}
 use Rattle.mft_table.specs.declared.mft.Mft.{Mft}
 use Rattle.mft_table.specs.declared.mounted.Mounted.{Mounted}
@@ -20,7 +21,8 @@ use Rattle.tree_model.specs.Cases.{is_wide}
 use Rattle.tree_model.specs.Facts.{IsVolumeOf, is_whole_table}
 use Rattle.tree_model.specs.Paths.{and_then}
 use Rattle.tree_model.specs.Reading.{node_by, read}
-use Rattle.tree_model.specs.Staging.{cannot_edit, fits_in_record, gets_no_longer, has_no_list}
+use Rattle.tree_model.specs.Staging.{cannot_edit}
+use Rattle.tree_model.specs.Ways.{fits_in_record, gets_no_longer, has_no_list, in_extent}
 use Rattle.tree_model.specs.StreamRoom.{goes_over, parts_named, stream_parts, stream_value}
 use Rattle.tree_model.specs.Subjects.{content_named}
 use Rattle.tree_model.specs.Tree.{node_of, sought_stream}
@@ -32,7 +34,7 @@ use Rattle.tree_model.specs.declared.tree.Stream.{Stream}
 use Rattle.tree_read.specs.Nodes.{IsNodeHeld, number_of, parts_in}
 use Rattle.tree_read.specs.Parts.{FindsPlain, content_here}
 use Rattle.file_record.proofs.ReadLaws.{view-kept}
-use Rattle.tree_edit.specs.Alone.{can_drop, can_resize}
+use Rattle.tree_edit.specs.Alone.{can_drop, can_give, can_resize}
 use Rattle.tree_edit.specs.Decided.{can_write_so, hwrite_decided, hwrite_ranged_to, if_can, write_decided, write_ranged_to}
 use Rattle.tree_edit.specs.Writable.{FindsToWrite, IsMountedAs, can_write_over, kept_from_writing, named_in, stream_to_write}
 use Rattle.tree_edit.proofs.StreamToWrite.{sought-none}
@@ -72,6 +74,19 @@ module _ (view : VolumeView) (held : BaseFile) (n : IsNodeHeld view held) (name 
       ap (λ (ps : List Part). (not cannot && is_some (stream_value ps)) && has_no_list view number)
       (none-there (sought-none view held n name e))
       ∙ ap (λ b. b && has_no_list view number) (never (not cannot))
+    where
+      never : (b : Bool) → (b && false) ≡ false
+      never true = refl
+      never false = refl
+
+  -- .. nor in clusters
+  pub give-missing : sought_to_write ≡ Ok None → can_give view name number ≡ false
+  unfolding node_by
+  give-missing e =
+      let cannot = cannot_edit (is_whole_table view) (read view) number in
+      ap (λ (ps : List Part). not cannot && (in_extent (first_part ps) && ((length ps == 1) && has_no_list view number)))
+      (none-there (sought-none view held n name e))
+      ∙ never (not cannot)
     where
       never : (b : Bool) → (b && false) ≡ false
       never true = refl

@@ -6,8 +6,8 @@ pub mod NamesLaws
 pub mod SetLaws
 pub mod SettableLaws
 mod FoundLaws
-mod StreamToWrite
-mod EditableLaws
+pub mod StreamToWrite
+pub mod EditableLaws
 pub mod OverLaws
 mod FoundOver
 mod FoundPunch
@@ -18,12 +18,11 @@ mod PutLaws
 pub mod PunchLaws
 mod SecureFound
 mod SecureLaws
-mod EditKept
 mod RoomFound
+mod ExtentFound
 mod AloneFound
 pub mod WriteFound
 mod AskedLaws
+pub mod WayLaws
 mod ValueRoom
-mod ChangePart
-pub mod ChangeLaws
-pub mod ResizableRoom
+pub mod ChangePart

@@ -21,7 +21,7 @@ use Rattle.file_record.specs.declared.base.BaseFile.{BaseFile}
 use Rattle.tree_model.specs.Facts.{IsVolumeOf}
 use Rattle.tree_model.specs.Paths.{found_file, resolve}
 use Rattle.tree_model.specs.Reading.{node_by, read, standard_flags, standard_of}
-use Rattle.tree_model.specs.Staging.{has_place_for_id}
+use Rattle.tree_model.specs.Ways.{has_place_for_id}
 use Rattle.tree_model.proofs.ReadingLaws.{node_of-read}
 use Rattle.tree_model.specs.declared.reply.No.{No}
 use Rattle.tree_model.specs.declared.reply.No.TheVariants as no

@@ -15,6 +15,7 @@ use Rattle.tree_model.specs.declared.tree.Link.{Link}
 use Rattle.edit_def.specs.Kept.{key_of, same_key}
 use Rattle.mft_table.specs.declared.mft.Mft.{Mft}
 use Rattle.mft_table.specs.declared.mounted.Mounted.{Mounted}
+use Rattle.mft_table.specs.HeldTables.{AreStored}
 use Rattle.mft_table.specs.InUse.{IsInUse}
 use Rattle.mft_table.specs.Mft.{MftReads, mounted_of, view}
 use Rattle.file_record.specs.declared.parts.FileParts.{FileParts}
@@ -30,11 +31,12 @@ use Rattle.attribute_edits.proofs.StandardVolume.{readable-sound}
 use Rattle.tree_read.specs.FileLinks.{links_held}
 use Rattle.tree_edit.specs.Duplicated.{IsToldBy}
 use Rattle.tree_edit.specs.Links.{CanTellAll, CanTellFile, CanWriteFile, RefreshesLinks, TellsNames}
-use Rattle.tree_edit.specs.Staged.{IsOfFile, IsOfLinks, IsOfNames, StagesAttributes, StagesFew, StagesLinks, StagesNames}
+use Rattle.tree_edit.specs.Staged.{IsOfFile, IsOfLinks, IsOfNames, StagesAttributes, StagesFew, StagesLinks, StagesNames, TellsStored}
 use Rattle.tree_edit.proofs.LinkLaws.{initialized}
 use Rattle.tree_edit.proofs.NamesLaws.{can-all, links-are, tells}
 use Rattle.tree_edit.proofs.StagedLaws.{directory-back, few-none, few-standard, few-then, names-of-links}
 use Rattle.tree_edit.proofs.StepLaws.{file-then, sets-all}
+use Rattle.tree_edit.proofs.StoredLaws.{stored-set}
 
 -- THE FILE WAS LOADED, and then its names are told anew.
 module _ {D : Type 0} (g : Ghosts D) (f : ℕ) (a b : Mft D g) (k : ℕ) (file : FileParts) (links : List Link) (reads : MftReads g a b k)
@@ -96,6 +98,14 @@ module _ {D : Type 0} (g : Ghosts D) (f : ℕ) (times : List ℕ) (flags : ℕ) 
   pub sets-then : (b : Mft D g) → (IsTrue (view g m).told → TellsNames (view g m) (view g b) f) → IsTrue (view g a).told
       → SetsAttributes (view g a) (view g b) f times flags
   sets-then b did t = sets-all (view g a) (view g m) (view g b) f times flags (sets t) (did (told-m t))
+
+  -- the tables that are kept are those that are stored still
+  pub tables-then : (b : Mft D g) → KeepsDisk g m b → (IsTrue (view g m).told → TellsNames (view g m) (view g b) f) → TellsStored g b
+  tables-then b later did t =
+      let before : IsTrue (view g a).told = told-old (sym later.goes_on.told_image ∙ t) in
+      subst (λ (x : Mounted). AreStored (view g b) x.clusters x.records x.upcase) (sym (later.mounted ∙ disk.mounted))
+      (stored-set (view g a) (view g b) f times flags (sets-then b did before) (can before).can.apart (mounted_of g a).clusters
+      (mounted_of g a).records (mounted_of g a).upcase (volume before).stored)
 
   pub staged-then : (b : Mft D g) → StagesRecordOf g f a m → (IsTrue (view g m).told → StagesNames g (names_of (records_of (view g m)) f) m b)
       → IsTrue (view g a).told → StagesAttributes g f (names_of (records_of (view g a)) f) a b

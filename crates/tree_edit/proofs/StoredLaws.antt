@@ -1,22 +1,27 @@
 -- THE STORED BITS AND THE TABLE OF CASE stay, where attributes were rewritten that are none of theirs.
-use Rattle.std.proofs.Common.{◌≡◌, ◌≢◌, ◌==◌, ◌&&◌, ℕ, Bool, false, List, [], sym, ap, inl, inr, ◌∙◌, arith}
+use Rattle.std.proofs.Common.{◌≡◌, ◌≢◌, ◌==◌, ◌&&◌, ℕ, Bool, false, List, [], refl, sym, ap, inl, inr, ◌∙◌, arith}
 use Rattle.std.specs.Prelude.{◌⊎◌}
 use Rattle.std.specs.Str.{bytes_eq}
 use Rattle.std.proofs.lemmas.Bool.{and_left, and_right, ne_eqb}
 use Rattle.list_laws.specs.Bits.{flags_in}
-use Rattle.ntfs_def.specs.declared.kinds.TheConstants.{BITMAP, DATA}
+use Rattle.ntfs_def.specs.declared.kinds.TheConstants.{BITMAP, DATA, STANDARD_INFORMATION}
 use Rattle.ntfs_def.specs.declared.records.TheConstants.{CLUSTER_BITMAP, MFT, MFT_MIRROR, UPCASE}
 use Rattle.volume_def.specs.BitmapClauses.{cluster_bits, record_bits}
-use Rattle.volume_def.specs.Files.{parts_at}
+use Rattle.volume_def.specs.FileNames.{names_of}
+use Rattle.volume_def.specs.Files.{parts_at, records_of}
 use Rattle.volume_def.specs.Table.{TableLayout}
 use Rattle.volume_def.specs.Values.{value_on}
 use Rattle.volume_def.specs.View.{VolumeView}
-use Rattle.edit_def.specs.Kept.{Key, key_of, same_key}
+use Rattle.edit_def.specs.Kept.{Key, either, key_of, same_key}
 use Rattle.mft_table.specs.HeldTables.{AreStored}
 use Rattle.in_place.specs.InPlace.{Rewrites}
 use Rattle.in_place.specs.Unnamed.{LiesApart}
 use Rattle.in_place.proofs.OtherClusters.{clusters-kept}
+use Rattle.in_place.proofs.RewriteLaws.{Rewrites-then}
 use Rattle.in_place.proofs.PlacesSame.{value-other}
+use Rattle.attribute_edits.specs.Attributes.{SetsAttributes, dirs_of, is_told_key}
+use Rattle.attribute_edits.proofs.ChainLaws.{chain-rewrites}
+use Rattle.attribute_edits.proofs.StandardFirst.{set-rewrites}
 
 -- a stream of one file is none of another
 pub other-file : (f : ℕ) (name : List ℕ) (g : ℕ) → f ≢ g → same_key (key_of f DATA name) (key_of g DATA []) ≡ false
@@ -47,3 +52,13 @@ module _ (changed : Key → Bool) (old new : VolumeView) (w : Rewrites changed o
         upcase_is = stored.upcase_is
             ∙ sym (same-value UPCASE DATA case_free (inr ((λ e. absurd (omega (arith, e))), (λ e. absurd (omega (arith, e))))));
       }
+
+-- .. as where the attributes of a file were set
+pub stored-set : (old new : VolumeView) (f : ℕ) (times : List ℕ) (flags : ℕ) → SetsAttributes old new f times flags → LiesApart old
+    → (clusters records : List Bool) (upcase : List ℕ) → AreStored old clusters records upcase → AreStored new clusters records upcase
+stored-set old new f times flags s apart =
+    let first : Key → Bool = same_key (key_of f STANDARD_INFORMATION []) in
+    let names = names_of (records_of s.mid) f in
+    stored-still (either first (is_told_key (dirs_of names))) old new
+    (Rewrites-then first (is_told_key (dirs_of names)) old s.mid new (set-rewrites old s.mid f times flags s.sets)
+    (chain-rewrites s.told names s.mid new s.refreshes)) apart refl refl refl

@@ -21,7 +21,7 @@ use Rattle.tree_edit.specs.declared.writable.Way.{Way}
 use Rattle.tree_edit.specs.declared.writable.Way.TheVariants as way
 use Rattle.tree_edit.specs.declared.writable.Writable.{Writable}
 use Rattle.tree_edit.proofs.AloneFound.{resize-editable}
-use Rattle.tree_edit.proofs.EditableLaws.{ways-decided}
+use Rattle.tree_edit.proofs.EditableLaws.{found-for, ways-decided}
 use Rattle.tree_edit.proofs.OverLaws.{over-editable}
 
 -- the same table, whose clusters have as many bytes as they have
@@ -36,6 +36,7 @@ module _ (view : VolumeView) (name : List ℕ) (from len file : ℕ) where
   way-so way.InRecord can =
       or_right (can_write_over view name from len file) (can_resize view name (from + len) file)
       (and_parts (not (can_write_over view name from len file)) (can_resize view name (from + len) file) can).1
+  way-so way.InClusters can = absurd (cc)
 
   module _ (over resizable : Bool) (o : over ≡ can_write_over view name from len file)
       (r : resizable ≡ can_resize view name (from + len) file) where
@@ -61,6 +62,7 @@ module _ (view : VolumeView) (mounted : Mounted) (size : ℕ) (held : BaseFile) 
   way-editable way.InRecord can =
       resize-editable view mounted held (mounts-own view mounted size mounts) sound n name found is (at + len)
       (and_parts (not (can_write_over view name at len number)) (can_resize view name (at + len) number) can).1
+  way-editable way.InClusters can = absurd (cc)
 
   pub write-decided : (wanted : Result ℕ No) (result : Result Writable No) → DecidesOver (can_write_so view name at len number) result
       → IfOk result (λ given. GivesBack given held found given.way) → IfOk result (λ given. can_write view name at len given.way number ≡ true)
@@ -78,19 +80,15 @@ module _ (view : VolumeView) (found : Writable) (name : List ℕ) (at len : ℕ)
   so-way : (way : Way) → found.way ≡ way → can_write view name at len way f ≡ true
   so-way way same = subst (λ (w : Way). can_write view name at len w f ≡ true) same is.over
 
-  found-for : (can : ℕ → Bool) → can f ≡ true → IsFoundToEdit view found name can
-  found-for can so = record {
-    settable = is.settable;
-    held = is.held;
-    stream = is.stream;
-    there = is.there;
-    flags = is.flags;
-    over = so;
-    tellable = is.tellable;
-  }
+  found-to : (can : ℕ → Bool) → can f ≡ true → IsFoundToEdit view found name can
+  found-to can so = found-for view found name (λ file. can_write view name at len found.way file) can is so
+
+  -- they are not written in clusters of their own
+  pub writable-here : found.way ≡ way.InClusters → ⊥
+  writable-here same = let never : false ≡ true = so-way way.InClusters same in cc
 
   pub writable-over : found.way ≡ way.InPlace → IsFoundToEdit view found name (λ file. can_write_over view name at len file)
-  writable-over same = found-for (λ file. can_write_over view name at len file) (so-way way.InPlace same)
+  writable-over same = found-to (λ file. can_write_over view name at len file) (so-way way.InPlace same)
 
   -- a value that can be as long as the bytes need, over which they do not go in place
   pub writable-not_over : found.way ≡ way.InRecord → can_write_over view name at len f ≡ false
@@ -100,5 +98,5 @@ module _ (view : VolumeView) (found : Writable) (name : List ℕ) (at len : ℕ)
 
   pub writable-value : found.way ≡ way.InRecord → IsResizable view found name (at + len)
   writable-value same =
-      found-for (λ file. can_resize view name (at + len) file)
+      found-to (λ file. can_resize view name (at + len) file)
       (and_parts (not (can_write_over view name at len f)) (can_resize view name (at + len) f) (so-way way.InRecord same)).1

@@ -11,7 +11,8 @@ use Rattle.file_record.specs.Held.{parts_held}
 use Rattle.tree_model.specs.Facts.{IsVolumeOf, is_whole_table}
 use Rattle.tree_model.specs.Paths.{and_then, found_file, resolve}
 use Rattle.tree_model.specs.Reading.{read, standard_of}
-use Rattle.tree_model.specs.Staging.{cannot_edit, has_place_for_id}
+use Rattle.tree_model.specs.Staging.{cannot_edit}
+use Rattle.tree_model.specs.Ways.{has_place_for_id}
 use Rattle.tree_model.specs.declared.reply.No.{No}
 use Rattle.tree_model.specs.declared.reply.No.TheVariants as no
 use Rattle.tree_read.specs.Nodes.{number_of}

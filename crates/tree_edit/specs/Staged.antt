@@ -1,5 +1,5 @@
--- WHERE SECTORS ARE STAGED when the attributes of a file are set.
-use Rattle.std.specs.Prelude.{◌⊎◌, ◌+◌, ◌*◌, ◌/◌, ◌≤◌, ℕ, List, Contains, length}
+-- WHERE SECTORS ARE STAGED when the attributes of a file are set, and what the tables are then that are kept in memory.
+use Rattle.std.specs.Prelude.{◌⊎◌, ◌+◌, ◌*◌, ◌/◌, ◌≤◌, ℕ, List, Contains, IsTrue, length}
 use Rattle.vol_disk.specs.declared.Disk.{Ghosts}
 use Rattle.vol_stage.specs.Staged.{places}
 use Rattle.ntfs_def.specs.FileName.{FileName}
@@ -10,7 +10,8 @@ use Rattle.volume_def.specs.View.{VolumeView}
 use Rattle.volume_edits.specs.Clusters.{stream_sectors}
 use Rattle.tree_model.specs.declared.tree.Link.{Link}
 use Rattle.mft_table.specs.declared.mft.Mft.{Mft}
-use Rattle.mft_table.specs.Mft.{stage_of, view}
+use Rattle.mft_table.specs.HeldTables.{AreStored}
+use Rattle.mft_table.specs.Mft.{mounted_of, stage_of, view}
 use Rattle.mft_table.specs.Staging.{record_places}
 use Rattle.file_record.specs.Records.{IsRecordOf}
 use Rattle.index_store.specs.RecordWrites.{record_sectors}
@@ -59,3 +60,8 @@ IsOfEdit view f names sector = IsOfStreams view f sector ⊎ (IsOfFile view f se
 
 abbrev pub StagesWrite : {D : Type 0} (g : Ghosts D) → ℕ → List FileName → ℕ → Mft D g → Mft D g → Type 0
 StagesWrite g f names len old new = StagesFew g (6 + len / 512 + 12 * length names) (IsOfEdit (view g old) f names) old new
+
+-- THE TABLES THAT ARE KEPT are those that the volume stores, where its contents are told.
+abbrev pub TellsStored : {D : Type 0} (g : Ghosts D) → Mft D g → Type 0
+TellsStored g mft = IsTrue (view g mft).told
+    → AreStored (view g mft) (mounted_of g mft).clusters (mounted_of g mft).records (mounted_of g mft).upcase

@@ -1,6 +1,6 @@
 -- BYTES WRITTEN INTO A STREAM, over those in its clusters or into its value, as a path leads to it, or an open, and the refusals in their
 -- order.
-use Rattle.std.specs.Prelude.{◌+◌, ◌&&◌, ℕ, not, Bool, List, Option, Result, Ok, Err, find, if◌then◌else◌}
+use Rattle.std.specs.Prelude.{◌+◌, ◌&&◌, ℕ, not, Bool, false, List, Option, Result, Ok, Err, find, if◌then◌else◌}
 use Rattle.std.specs.Option.{option_map_or}
 use Rattle.volume_def.specs.Table.{cluster_bytes}
 use Rattle.volume_def.specs.View.{VolumeView}
@@ -26,6 +26,7 @@ use Rattle.tree_edit.specs.declared.writable.Writable.{Writable}
 abbrev pub can_write : VolumeView → List ℕ → ℕ → ℕ → Way → ℕ → Bool
 can_write view name from len way.InPlace file = can_write_over view name from len file
 can_write view name from len way.InRecord file = not (can_write_over view name from len file) && can_resize view name (from + len) file
+can_write view name from len way.InClusters file = false
 
 -- The room that is asked for then: the stream may not stay in its record.
 abbrev pub room_to_write : VolumeView → List ℕ → ℕ → ℕ → ℕ → Option No

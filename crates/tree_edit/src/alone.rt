@@ -1,35 +1,34 @@
-//! A stream that is a value of a file without an attribute list, which is to have another length or to go, found by the path of its file.
-ghost use Rattle.std.specs.Prelude.{◌≡◌, ◌≤◌, ◌<◌, ◌^◌, ℕ, IfOk, IfSome, IsTrue, List, length, true};
-ghost use Rattle.std.specs.List.{list_any};
+//! A stream of a file without an attribute list, a value or in clusters in one part, which is to have another length or to go, found by the
+//! path of its file.
+ghost use Rattle.std.specs.Prelude.{◌≡◌, ◌⊎◌, ◌≤◌, ◌<◌, ◌^◌, ℕ, IfOk, IfSome, IsTrue, List, MatchResult, None, Ok, Some, length, true};
 ghost use Rattle.vol_disk.specs.Contents.{WhereTold};
 ghost use Rattle.vol_stage.specs.Staged.{image};
-ghost use Rattle.volume_def.specs.ListsClause.{is_list};
 ghost use Rattle.volume_def.specs.Sound.{IsSound};
 ghost use Rattle.volume_def.specs.Table.{cluster_bytes};
 ghost use Rattle.volume_def.specs.View.{VolumeView};
 ghost use Rattle.mft_table.specs.InUse.{IsInUse};
 ghost use Rattle.mft_table.specs.Mft.{mounted_of, stage_of, view};
-ghost use Rattle.file_record.specs.Held.{parts_held};
 ghost use Rattle.file_room.specs.Asked.{has_room};
 ghost use Rattle.sparse_io.specs.Held.{IsStream};
 ghost use Rattle.tree_model.specs.Cases.{is_far};
 ghost use Rattle.tree_model.specs.Facts.{IsVolumeOf};
+ghost use Rattle.tree_model.specs.declared.reply.No.TheVariants as no;
 ghost use Rattle.tree_read.specs.Answered.{Answered, Gives, Says, with_ok};
 ghost use Rattle.tree_read.specs.Nodes.{IsNodeHeld, number_of, parts_in};
 ghost use Rattle.tree_read.specs.Standings.{IsStanding};
-ghost use Rattle.tree_edit.specs.Alone.{IsDroppable, IsResizable, can_drop, can_resize, drop_in, drop_wanted, resize_wanted, room_to_resize};
-ghost use Rattle.tree_edit.specs.Decided.{resize_decided, resize_found};
-ghost use Rattle.tree_edit.specs.Writable.{DecidesEdit, DecidesOver, GivesBack, IsMountedAs};
-ghost use Rattle.tree_edit.specs.declared.writable.Way.TheVariants as way;
+ghost use Rattle.tree_edit.specs.Alone.{IsToDrop, IsToResize, asked_to_drop, asked_to_resize, can_drop, can_resize, drop_wanted, resize_wanted};
+ghost use Rattle.tree_edit.specs.Decided.{EditsSo, IsDroppableSo, IsResizableSo, can_drop_by, can_drop_so, can_resize_by, can_resize_so};
+ghost use Rattle.tree_edit.specs.Decided.{drop_decided, drop_found, resize_decided, resize_found};
+ghost use Rattle.tree_edit.specs.Writable.{DecidesEdit, GivesBack, IsMountedAs};
 
+use crate::extent::{ask_for_bits, has_list, is_extent};
 use crate::punchable::is_value;
 use crate::room::clusters_for_bytes;
 use crate::value::fits_value;
 use crate::writable::{Way, Writable, given, kept_from_writing, stream_to_write};
-use file_record::{BaseFile, FileParts};
+use file_record::BaseFile;
 use file_room::ask_for_room;
 use mft_table::{Mft, Mounted};
-use ntfs_def::kinds::ATTRIBUTE_LIST;
 use share_table::Opens;
 use sparse_io::{FoundStream, look_at_names};
 use std::alloc::{AllocError, Global};
@@ -46,22 +45,6 @@ fn is_far(end: u64) -> bool
     ensures { result ≡ is_far end }
 {
     end > FARTHEST_END
-}
-
-// Whether a file that is held has an attribute list.
-fn has_list(file: &FileParts) -> bool
-    ensures { result ≡ list_any is_list (parts_held file.now) }
-{
-    let mut attributes = file.attributes();
-    for index in 0..file.count() {
-        let Some(attribute) = attributes.next() else {
-            return false;
-        };
-        if attribute.kind() == ATTRIBUTE_LIST {
-            return true;
-        }
-    }
-    false
 }
 
 // Whether the file can be edited and has no attribute list, and its stream is a value.
@@ -104,43 +87,67 @@ pub fn is_resizable(
     Ok(fits_value(&held.parts, stream.part, size))
 }
 
-// The stream that was found, where it can go.
-fn give_alone(
+// How the stream that was found can go, `None` where it cannot.
+fn way_to_drop(
     alloc: Global,
     mounted: &Mounted,
-    held: BaseFile,
-    stream: FoundStream,
-) -> Result<Writable, No>
-    requires part { stream.part < length (parts_in held) }
-    ensures decides { (view : VolumeView) → IsMountedAs view mounted.now (cluster_bytes view.layout) → IsSound view → IsNodeHeld view held
-        → (name : List ℕ) → IsStream view held.parts name stream → DecidesOver (can_drop view name (number_of held)) result }
-    ensures gives { IfOk result (λ found. GivesBack found held stream way.InRecord) }
-    ensures inside { IfOk result (λ found. number_of found.held < length mounted.now.records) }
+    held: &BaseFile,
+    stream: &FoundStream,
+) -> Result<Option<Way>, AllocError>
+    requires part { stream.now.part < length (parts_in held.now) }
+    ensures way { IfOk result (λ way. (view : VolumeView) → IsMountedAs view mounted.now (cluster_bytes view.layout) → IsSound view
+        → IsNodeHeld view held.now → (name : List ℕ) → IsStream view held.now.parts name stream.now
+        → EditsSo (can_drop_by view name) (can_drop_so view name (number_of held.now)) (number_of held.now) way) }
+    ensures inside { IfOk result (λ way. IfSome way (λ _. number_of held.now < length mounted.now.records)) }
 {
-    match is_alone(alloc, mounted, &held, &stream) {
-        Ok(true) => Ok(given(held, stream, Way::InRecord)),
-        Ok(false) => Err(No::Unbuilt),
-        Err(_) => Err(No::Memory),
+    if is_alone(alloc, mounted, held, stream)? {
+        return Ok(Some(Way::InRecord));
     }
+    if is_extent(alloc, mounted, held, stream)? {
+        return Ok(Some(Way::InClusters));
+    }
+    Ok(None)
 }
 
-// The stream that was found, where it can have so many bytes.
-fn give_resized(
+// How it can have so many bytes, `None` where it cannot.
+fn way_to_resize(
     alloc: Global,
     mounted: &Mounted,
+    held: &BaseFile,
+    stream: &FoundStream,
+    size: u64,
+) -> Result<Option<Way>, AllocError>
+    requires part { stream.now.part < length (parts_in held.now) }
+    ensures way { IfOk result (λ way. (view : VolumeView) → IsMountedAs view mounted.now (cluster_bytes view.layout) → IsSound view
+        → IsNodeHeld view held.now → (name : List ℕ) → IsStream view held.now.parts name stream.now
+        → EditsSo (can_resize_by view name size) (can_resize_so view name size (number_of held.now)) (number_of held.now) way) }
+    ensures inside { IfOk result (λ way. IfSome way (λ _. number_of held.now < length mounted.now.records)) }
+{
+    if is_resizable(alloc, mounted, held, stream, size)? {
+        return Ok(Some(Way::InRecord));
+    }
+    if size > stream.size {
+        return Ok(None);
+    }
+    if is_extent(alloc, mounted, held, stream)? {
+        return Ok(Some(Way::InClusters));
+    }
+    Ok(None)
+}
+
+// The stream that was found, to be edited this way, where there is one.
+fn give_by(
     held: BaseFile,
     stream: FoundStream,
-    size: u64,
+    way: Result<Option<Way>, AllocError>,
 ) -> Result<Writable, No>
-    requires part { stream.part < length (parts_in held) }
-    ensures decides { (view : VolumeView) → IsMountedAs view mounted.now (cluster_bytes view.layout) → IsSound view → IsNodeHeld view held
-        → (name : List ℕ) → IsStream view held.parts name stream → DecidesOver (can_resize view name size (number_of held)) result }
-    ensures gives { IfOk result (λ found. GivesBack found held stream way.InRecord) }
-    ensures inside { IfOk result (λ found. number_of found.held < length mounted.now.records) }
+    ensures gives { IfOk result (λ found. GivesBack found held stream found.way) }
+    ensures way { MatchResult result (λ found. way ≡ Ok (Some found.way)) (λ refused. ((way ≡ Ok None) × (refused ≡ no.Unbuilt))
+        ⊎ (refused ≡ no.Memory)) }
 {
-    match is_resizable(alloc, mounted, &held, &stream, size) {
-        Ok(true) => Ok(given(held, stream, Way::InRecord)),
-        Ok(false) => Err(No::Unbuilt),
+    match way {
+        Ok(Some(way)) => Ok(given(held, stream, way)),
+        Ok(None) => Err(No::Unbuilt),
         Err(_) => Err(No::Memory),
     }
 }
@@ -155,8 +162,8 @@ fn resizable_in(
     size: u64,
 ) -> Result<Writable, No>
     ensures decides { (view : VolumeView) → IsMountedAs view mounted.now (cluster_bytes view.layout) → IsSound view → IsNodeHeld view held
-        → DecidesEdit (λ way file. can_resize view name.now size file) (resize_decided view opens.now name.now size (number_of held)) view
-        held name.now result }
+        → DecidesEdit (can_resize_by view name.now size) (resize_decided view opens.now name.now size (number_of held)) view held name.now
+        result }
     ensures place { IfOk result (λ found. found.stream.part < length (parts_in found.held)) }
     ensures near { IfOk result (λ found. size ≤ 2 ^ 40) }
     ensures inside { IfOk result (λ found. number_of found.held < length mounted.now.records) }
@@ -169,7 +176,10 @@ fn resizable_in(
         return Err(refused);
     }
     match found {
-        Some(stream) => give_resized(alloc, mounted, held, stream, size),
+        Some(stream) => {
+            let way = way_to_resize(alloc, mounted, &held, &stream, size);
+            give_by(held, stream, way)
+        }
         None => Err(No::Unbuilt),
     }
 }
@@ -183,7 +193,7 @@ fn droppable_in(
     name: &Name,
 ) -> Result<Writable, No>
     ensures decides { (view : VolumeView) → IsMountedAs view mounted.now (cluster_bytes view.layout) → IsSound view → IsNodeHeld view held
-        → DecidesEdit (λ way file. can_drop view name.now file) (drop_in view opens.now name.now (number_of held)) view held name.now result }
+        → DecidesEdit (can_drop_by view name.now) (drop_decided view opens.now name.now (number_of held)) view held name.now result }
     ensures place { IfOk result (λ found. found.stream.part < length (parts_in found.held)) }
     ensures inside { IfOk result (λ found. number_of found.held < length mounted.now.records) }
 {
@@ -194,10 +204,11 @@ fn droppable_in(
     if let Some(refused) = kept_from_writing(opens, held.parts.number()) {
         return Err(refused);
     }
-    give_alone(alloc, mounted, held, stream)
+    let way = way_to_drop(alloc, mounted, &held, &stream);
+    give_by(held, stream, way)
 }
 
-// The stream of the file that a path leads to, where it is a value that can have so many bytes, and no open keeps it from that.
+// The stream of the file that a path leads to, where it can have so many bytes, and no open keeps it from that.
 fn find_resizable<D: Disk>(
     alloc: Global,
     mft: &mut Mft<'_, D>,
@@ -212,7 +223,7 @@ fn find_resizable<D: Disk>(
     requires last { IsTrue (view D.Disk mft.old).told → IfSome last.old (IsStanding (view D.Disk mft.old)) }
     ensures answered { Answered D.Disk mft.old mft.new (λ volume. resize_found volume opens.now path.now name.now size)
         (with_ok (λ found. number_of found.held) result) }
-    ensures can { IfOk result (λ found. IsTrue (view D.Disk mft.old).told → IsResizable (view D.Disk mft.old) found name.now size) }
+    ensures can { IfOk result (λ found. IsTrue (view D.Disk mft.old).told → IsResizableSo (view D.Disk mft.old) found name.now size) }
     ensures part { IfOk result (λ found. found.stream.part < length (parts_in found.held)) }
     ensures near { IfOk result (λ found. size ≤ 2 ^ 40) }
     ensures inside { IfOk result (λ found. number_of found.held < length (mounted_of D.Disk mft.old).records) }
@@ -225,30 +236,42 @@ fn find_resizable<D: Disk>(
     }
 }
 
-// Asks for the room of a value that gets longer: it may not stay in its record. One that gets no longer asks for none.
-fn ask_to_resize<D: Disk>(mft: &mut Mft<'_, D>, found: &Writable, size: u64) -> Result<(), Stop>
+// Asks for what a stream needs that is to have so many bytes: room where it is a value that gets longer, which may not stay in its record;
+// and the bits of its clusters.
+fn ask_to_resize<D: Disk>(
+    alloc: Global,
+    mft: &mut Mft<'_, D>,
+    found: &Writable,
+    size: u64,
+) -> Result<(), Stop>
     requires volume { IsInUse D.Disk mft.old }
     requires part { found.now.stream.part < length (parts_in found.now.held) }
-    ensures asked { (name : List ℕ) → Gives D.Disk mft.old mft.new (λ volume given. IsResizable volume found.now name size
-        → Says (has_room (room_to_resize volume name size (number_of found.now.held))) given) result }
+    ensures asked { (name : List ℕ) → Gives D.Disk mft.old mft.new (λ volume given. IsResizableSo volume found.now name size
+        → Says (has_room (asked_to_resize volume name size (number_of found.now.held))) given) result }
 {
-    if size <= found.stream.size {
-        return Ok(());
+    match found.way {
+        Way::InPlace => Ok(()),
+        Way::InClusters => ask_for_bits(alloc, mft),
+        Way::InRecord => {
+            if size <= found.stream.size {
+                return Ok(());
+            }
+            let bytes = mft.cluster_bytes();
+            let clusters = clusters_for_bytes(&found.held.parts, &found.stream, bytes, 0, 0);
+            ask_for_room(mft, &found.held.parts, clusters)
+        }
     }
-    let bytes = mft.cluster_bytes();
-    let clusters = clusters_for_bytes(&found.held.parts, &found.stream, bytes, 0, 0);
-    ask_for_room(mft, &found.held.parts, clusters)
 }
 
-/// The stream of the file that a path leads to, where it is a value that can have so many bytes. `last` is the directory in which the last
-/// path ended, before the call and behind it.
+/// The stream of the file that a path leads to, where it can have so many bytes, as a value or in clusters in one part. `last` is the
+/// directory in which the last path ended, before the call and behind it.
 ///
 /// # Errors
 ///
 /// The refusal of the first component that is bad; `BadName`, `IsDir`, `Packed` and `TooBig`; `Shared`, where an open of the file does not
-/// share writing; `Unbuilt`, where the file cannot be edited or has an attribute list, the stream is missing or is no value, or it gets
-/// longer and its record has no room for that; of one that gets longer `TooManyParts`, `MftFull` and `NoRoom`; `Memory`, and `Device` where
-/// the disk failed.
+/// share writing; `Unbuilt`, where the file cannot be edited or has an attribute list, the stream is missing, or it is a value that gets
+/// longer and whose record has no room for that, or it lies in clusters and gets longer, or in more parts than one, or the bitmap of clusters
+/// is a value; of one that gets longer `TooManyParts`, `MftFull` and `NoRoom`; `Memory`, and `Device` where the disk failed.
 pub fn find_to_resize<D: Disk>(
     alloc: Global,
     mft: &mut Mft<'_, D>,
@@ -263,25 +286,64 @@ pub fn find_to_resize<D: Disk>(
     requires last { IsTrue (view D.Disk mft.old).told → IfSome last.old (IsStanding (view D.Disk mft.old)) }
     ensures answered { Answered D.Disk mft.old mft.new (λ volume. resize_wanted volume opens.now path.now name.now size)
         (with_ok (λ found. number_of found.held) result) }
-    ensures can { IfOk result (λ found. IsTrue (view D.Disk mft.old).told → IsResizable (view D.Disk mft.old) found name.now size) }
+    ensures can { IfOk result (λ found. IsTrue (view D.Disk mft.old).told → IsToResize (view D.Disk mft.old) found name.now size) }
     ensures part { IfOk result (λ found. found.stream.part < length (parts_in found.held)) }
     ensures near { IfOk result (λ found. size ≤ 2 ^ 40) }
     ensures inside { IfOk result (λ found. number_of found.held < length (mounted_of D.Disk mft.old).records) }
     ensures last { IsTrue (view D.Disk mft.old).told → IfSome last.new (IsStanding (view D.Disk mft.old)) }
 {
     let found = find_resizable(alloc, mft, last, opens, path, name, size)?;
-    ask_to_resize(mft, &found, size)?;
+    ask_to_resize(alloc, mft, &found, size)?;
     Ok(found)
 }
 
-/// The stream of the file that a path leads to, where it is a value that can go. `last` is the directory in which the last path ended,
-/// before the call and behind it.
+// The stream of the file that a path leads to, where it can go, and no open keeps it from that.
+fn find_droppable<D: Disk>(
+    alloc: Global,
+    mft: &mut Mft<'_, D>,
+    last: &mut Option<Standing>,
+    opens: &Opens,
+    path: &Path,
+    name: &Name,
+) -> Result<Writable, Stop>
+    requires volume { IsInUse D.Disk mft.old }
+    requires image { WhereTold (image D.Disk (stage_of D.Disk mft.old)) (λ bytes. IsVolumeOf bytes (view D.Disk mft.old)) }
+    requires last { IsTrue (view D.Disk mft.old).told → IfSome last.old (IsStanding (view D.Disk mft.old)) }
+    ensures answered { Answered D.Disk mft.old mft.new (λ volume. drop_found volume opens.now path.now name.now)
+        (with_ok (λ found. number_of found.held) result) }
+    ensures can { IfOk result (λ found. IsTrue (view D.Disk mft.old).told → IsDroppableSo (view D.Disk mft.old) found name.now) }
+    ensures part { IfOk result (λ found. found.stream.part < length (parts_in found.held)) }
+    ensures inside { IfOk result (λ found. number_of found.held < length (mounted_of D.Disk mft.old).records) }
+    ensures last { IsTrue (view D.Disk mft.old).told → IfSome last.new (IsStanding (view D.Disk mft.old)) }
+{
+    let reached = resolve(alloc, mft, last, path)?;
+    match droppable_in(alloc, mft.mounted(), opens, reached.held, name) {
+        Ok(found) => Ok(found),
+        Err(refused) => Err(Stop::No(refused)),
+    }
+}
+
+// Asks for the bits of the clusters of a stream that is to go.
+fn ask_to_drop<D: Disk>(alloc: Global, mft: &mut Mft<'_, D>, found: &Writable) -> Result<(), Stop>
+    requires volume { IsInUse D.Disk mft.old }
+    ensures asked { (name : List ℕ) → Gives D.Disk mft.old mft.new (λ volume given. IsDroppableSo volume found.now name
+        → Says (has_room (asked_to_drop volume name (number_of found.now.held))) given) result }
+{
+    match found.way {
+        Way::InPlace => Ok(()),
+        Way::InRecord => Ok(()),
+        Way::InClusters => ask_for_bits(alloc, mft),
+    }
+}
+
+/// The stream of the file that a path leads to, where it can go, as a value or in clusters in one part. `last` is the directory in which the
+/// last path ended, before the call and behind it.
 ///
 /// # Errors
 ///
 /// The refusal of the first component that is bad; `IsDir`, `NoStream` and `Packed`; `Shared`, where an open of the file does not share
-/// writing; `Unbuilt`, where the file cannot be edited or has an attribute list, or the stream is no value; `Memory`, and `Device` where
-/// the disk failed.
+/// writing; `Unbuilt`, where the file cannot be edited or has an attribute list, or the stream lies in clusters in more parts than one, or
+/// where the bitmap of clusters is a value; `Memory`, and `Device` where the disk failed.
 pub fn find_to_drop<D: Disk>(
     alloc: Global,
     mft: &mut Mft<'_, D>,
@@ -295,14 +357,12 @@ pub fn find_to_drop<D: Disk>(
     requires last { IsTrue (view D.Disk mft.old).told → IfSome last.old (IsStanding (view D.Disk mft.old)) }
     ensures answered { Answered D.Disk mft.old mft.new (λ volume. drop_wanted volume opens.now path.now name.now)
         (with_ok (λ found. number_of found.held) result) }
-    ensures can { IfOk result (λ found. IsTrue (view D.Disk mft.old).told → IsDroppable (view D.Disk mft.old) found name.now) }
+    ensures can { IfOk result (λ found. IsTrue (view D.Disk mft.old).told → IsToDrop (view D.Disk mft.old) found name.now) }
     ensures part { IfOk result (λ found. found.stream.part < length (parts_in found.held)) }
     ensures inside { IfOk result (λ found. number_of found.held < length (mounted_of D.Disk mft.old).records) }
     ensures last { IsTrue (view D.Disk mft.old).told → IfSome last.new (IsStanding (view D.Disk mft.old)) }
 {
-    let reached = resolve(alloc, mft, last, path)?;
-    match droppable_in(alloc, mft.mounted(), opens, reached.held, name) {
-        Ok(found) => Ok(found),
-        Err(refused) => Err(Stop::No(refused)),
-    }
+    let found = find_droppable(alloc, mft, last, opens, path, name)?;
+    ask_to_drop(alloc, mft, &found)?;
+    Ok(found)
 }

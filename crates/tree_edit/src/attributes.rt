@@ -9,7 +9,7 @@ ghost use Rattle.file_record.specs.FileNos.{CountsNo, IsReadNo};
 ghost use Rattle.index_store.specs.IndexBlocksMut.{KeepsDisk};
 ghost use Rattle.attribute_edits.specs.Attributes.{SetsAttributes};
 ghost use Rattle.tree_edit.specs.Links.{CanTellFile, CanWriteFile, TellsNames};
-ghost use Rattle.tree_edit.specs.Staged.{StagesAttributes, StagesNames};
+ghost use Rattle.tree_edit.specs.Staged.{StagesAttributes, StagesNames, TellsStored};
 
 use crate::duplicated::duplicated;
 use crate::refresh::refresh_links;
@@ -61,6 +61,7 @@ pub fn set_attributes<D: Disk>(
         → SetsAttributes (view D.Disk mft.old) (view D.Disk mft.new) number times.now flags) }
     ensures places { IsTrue (view D.Disk mft.old).told
         → StagesAttributes D.Disk number (names_of (records_of (view D.Disk mft.old)) number) mft.old mft.new }
+    ensures tables { OnOk result (TellsStored D.Disk mft.new) }
     ensures disk { KeepsDisk D.Disk mft.old mft.new }
     ensures err { IfErr result IsReadNo }
     ensures faults { MatchResult result (λ _. faults_of D.Disk mft.new ≡ faults_of D.Disk mft.old)

@@ -3,8 +3,8 @@
 
 mod alone;
 mod attributes;
-mod change;
 mod duplicated;
+mod extent;
 mod over;
 mod punch;
 mod punchable;
@@ -19,12 +19,12 @@ mod write;
 
 pub use alone::{find_to_drop, find_to_resize};
 pub use attributes::set_attributes;
-pub use change::{drop_value, resize_value, write_value};
 pub use over::write_over;
 pub use punch::punch_value;
 pub use punchable::find_punchable;
 pub use securable::{Securable, find_securable};
 pub use secure::set_security;
 pub use settable::{Settable, find_settable};
+pub use value::fits_at;
 pub use writable::{Way, Writable};
 pub use write::{find_writable, find_writable_through};

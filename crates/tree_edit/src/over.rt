@@ -10,6 +10,7 @@ ghost use Rattle.file_record.specs.Held.{parts_held};
 ghost use Rattle.index_store.specs.IndexBlocksMut.{KeepsDisk};
 ghost use Rattle.stream_overwrites.specs.Overwritten.{WritesOver};
 ghost use Rattle.tree_edit.specs.Over.{CanWriteOver, StagesOver};
+ghost use Rattle.tree_edit.specs.Staged.{TellsStored};
 
 use crate::attributes::set_attributes;
 use file_record::{FileNo, FileParts};
@@ -50,6 +51,7 @@ pub fn write_over<D: Disk>(
     ensures places { IsTrue (view D.Disk mft.old).told → (can : CanWriteOver (view D.Disk mft.old) (mounted_of D.Disk mft.old).upcase file.now
         found.now number at (length bytes.now))
         → StagesOver D.Disk number can.is.part.name at (length bytes.now) (names_of (records_of (view D.Disk mft.old)) number) mft.old mft.new }
+    ensures tables { OnOk result (TellsStored D.Disk mft.new) }
     ensures disk { KeepsDisk D.Disk mft.old mft.new }
     ensures err { IfErr result IsReadNo }
     ensures faults { MatchResult result (λ _. faults_of D.Disk mft.new ≡ faults_of D.Disk mft.old)

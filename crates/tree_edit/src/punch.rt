@@ -10,6 +10,7 @@ ghost use Rattle.index_store.specs.IndexBlocksMut.{KeepsDisk};
 ghost use Rattle.stream_overwrites.specs.Overwritten.{PunchesValue};
 ghost use Rattle.tree_edit.specs.Punchable.{CanPunch};
 ghost use Rattle.tree_edit.specs.Values.{StagesValue};
+ghost use Rattle.tree_edit.specs.Staged.{TellsStored};
 
 use crate::value::put_bytes;
 use file_record::FileNo;
@@ -44,6 +45,7 @@ pub fn punch_value<D: Disk>(
         → PunchesValue (view D.Disk mft.old) (view D.Disk mft.new) number can.name from len times.now flags) }
     ensures places { IsTrue (view D.Disk mft.old).told
         → StagesValue D.Disk number (names_of (records_of (view D.Disk mft.old)) number) mft.old mft.new }
+    ensures tables { OnOk result (TellsStored D.Disk mft.new) }
     ensures disk { KeepsDisk D.Disk mft.old mft.new }
     ensures err { IfErr result IsReadNo }
     ensures faults { MatchResult result (λ _. faults_of D.Disk mft.new ≡ faults_of D.Disk mft.old)

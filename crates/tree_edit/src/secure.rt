@@ -10,6 +10,7 @@ ghost use Rattle.index_store.specs.IndexBlocksMut.{KeepsDisk};
 ghost use Rattle.attribute_edits.specs.Attributes.{SetsSecurity};
 ghost use Rattle.tree_edit.specs.Securable.{CanSecure};
 ghost use Rattle.tree_edit.specs.Values.{StagesValue};
+ghost use Rattle.tree_edit.specs.Staged.{TellsStored};
 
 use crate::value::put_bytes;
 use file_record::FileNo;
@@ -42,6 +43,7 @@ pub fn set_security<D: Disk>(
         → SetsSecurity (view D.Disk mft.old) (view D.Disk mft.new) number id times.now flags) }
     ensures places { IsTrue (view D.Disk mft.old).told
         → StagesValue D.Disk number (names_of (records_of (view D.Disk mft.old)) number) mft.old mft.new }
+    ensures tables { OnOk result (TellsStored D.Disk mft.new) }
     ensures disk { KeepsDisk D.Disk mft.old mft.new }
     ensures err { IfErr result IsReadNo }
     ensures faults { MatchResult result (λ _. faults_of D.Disk mft.new ≡ faults_of D.Disk mft.old)

@@ -16,6 +16,7 @@ ghost use Rattle.index_store.specs.IndexBlocksMut.{KeepsDisk};
 ghost use Rattle.dir_index.specs.Standard.{IsInitialized, StagesNothing, StagesRecordOf};
 ghost use Rattle.tree_edit.specs.Change.{TellsFit, fits_in, has_room};
 ghost use Rattle.tree_edit.specs.Values.{CanPut, PutsBytes, StagesValue};
+ghost use Rattle.tree_edit.specs.Staged.{TellsStored};
 
 use crate::attributes::set_attributes;
 use file_record::{FileNo, FileParts, PartPlace};
@@ -124,6 +125,7 @@ pub fn put_bytes<D: Disk>(
         → PutsBytes (view D.Disk mft.old) (view D.Disk mft.new) number can.part at bytes.now times.now flags) }
     ensures places { IsTrue (view D.Disk mft.old).told
         → StagesValue D.Disk number (names_of (records_of (view D.Disk mft.old)) number) mft.old mft.new }
+    ensures tables { OnOk result (TellsStored D.Disk mft.new) }
     ensures disk { KeepsDisk D.Disk mft.old mft.new }
     ensures err { IfErr result IsReadNo }
     ensures faults { MatchResult result (λ _. faults_of D.Disk mft.new ≡ faults_of D.Disk mft.old)

@@ -41,6 +41,8 @@ pub enum Way {
     InPlace,
     /// In the record of its file, as a value that may get another length or go.
     InRecord,
+    /// In clusters of its own, which are given back where it loses them.
+    InClusters,
 }
 
 /// A stream that is to be edited, with what its file shows of itself.

@@ -186,7 +186,8 @@ fn ask_to_write<D: Disk>(
         → Says (has_room (room_written volume name at len (number_of found.now.held))) given) result }
 {
     match found.way {
-        Way::InPlace => Ok(()),
+        // No bytes are written in clusters of their own.
+        Way::InPlace | Way::InClusters => Ok(()),
         Way::InRecord => {
             let file = &found.held.parts;
             let size = mft.cluster_bytes();

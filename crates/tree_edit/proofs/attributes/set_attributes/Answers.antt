@@ -9,7 +9,7 @@ use Rattle.mft_table.specs.MirrorClusters.{IsMirrorInside}
 use Rattle.file_record.specs.FileNos.{CountsNo}
 use Rattle.tree_edit.specs.Staged.{IsOfFile, IsOfNames}
 use Rattle.tree_edit.proofs.ChainedLaws.{goes-then}
-use Rattle.tree_edit.proofs.SetLaws.{can-names, sets-then, staged-then}
+use Rattle.tree_edit.proofs.SetLaws.{can-names, sets-then, staged-then, tables-then}
 use Rattle.tree_edit.proofs.StagedLaws.{few-none}
 use Rattle.tree_edit.proofs.attributes.set_attributes.Goals as goal
 
@@ -44,6 +44,12 @@ pub returns-clause-places : goal.returns-clause-places
 returns-clause-places g c =
     staged-then g.D.Disk c.args.number c.args.times.now c.args.flags c.args.mft.now c.set_node.new.mft c.requires.volume c.requires.can
     c.set_node.ensures.disk c.in_ok-set_node.ensures.set c.refresh_names.new.mft c.set_node.ensures.places c.refresh_names.ensures.places
+
+pub returns-clause-tables : goal.returns-clause-tables
+returns-clause-tables g c =
+    on_ok_weaker c.refresh_names.result (tables-then g.D.Disk c.args.number c.args.times.now c.args.flags c.args.mft.now c.set_node.new.mft
+    c.requires.volume c.requires.can c.set_node.ensures.disk c.in_ok-set_node.ensures.set c.refresh_names.new.mft
+    c.refresh_names.ensures.disk) c.refresh_names.ensures.told
 
 pub returns-clause-disk : goal.returns-clause-disk
 returns-clause-disk g c =

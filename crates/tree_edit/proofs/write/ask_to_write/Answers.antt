@@ -1,17 +1,20 @@
-use Rattle.std.proofs.Common.{◌+◌, ◌∙◌, refl, sym, ap, subst}
+use Rattle.std.proofs.Common.{◌+◌, ◌∙◌, inl, inr, refl, sym, ap, subst}
 use Rattle.mft_table.specs.Mft.{view}
 use Rattle.file_room.specs.Asked.{has_room}
 use Rattle.tree_read.specs.Answered.{Says}
 use Rattle.tree_read.proofs.GivesLaws.{at_once, tells}
 use Rattle.tree_edit.proofs.AskedLaws.{room-clusters, room-over, room-value}
-use Rattle.tree_edit.proofs.WriteFound.{writable-value}
+use Rattle.tree_edit.proofs.WriteFound.{writable-here, writable-value}
 use Rattle.tree_edit.proofs.write.ask_to_write.Goals as goal
 
 pub returns-in-InPlace : goal.returns-in-InPlace
 returns-in-InPlace g c = record {
   asked = λ name. at_once refl (λ told is.
       let a = c.args in
-      ap has_room (room-over (view g.D.Disk a.mft.now) a.found.now name a.at a.len is c.in-InPlace.is));
+      let v = view g.D.Disk a.mft.now in elim c.in-InPlace.is [
+        | inl over ↦ ap has_room (room-over v a.found.now name a.at a.len is over)
+        | inr clusters ↦ absurd (writable-here v a.found.now name a.at a.len is clusters)
+      ]);
 }
 
 pub returns-in-InRecord : goal.returns-in-InRecord

@@ -1,0 +1,128 @@
+-- A STREAM OF A FILE WAS EDITED in its record, where clusters of it had been given back: the volume is in use still, and the attributes of the
+-- file can be set. Then the stream is put, and no cluster is free for nothing.
+use Rattle.std.proofs.Common.{◌≡◌, ◌⊎◌, ◌+◌, ◌*◌, ◌≤◌, ℕ, Bool, List, [], length, Option, sym, ap, subst, inl, inr, ◌∙◌, arith}
+use Rattle.std.specs.Prelude.{IsTrue, sum_by}
+use Rattle.vol_disk.specs.declared.Disk.{Ghosts}
+use Rattle.ntfs_def.specs.declared.kinds.TheConstants.{DATA, STANDARD_INFORMATION}
+use Rattle.ntfs_def.specs.declared.run_text.Run.{Run}
+use Rattle.volume_def.specs.Coverage.{times_covered}
+use Rattle.volume_def.specs.FileNames.{names_of}
+use Rattle.volume_def.specs.Files.{Records, records_of}
+use Rattle.volume_def.specs.OwnersClause.{times_owned}
+use Rattle.volume_def.specs.Sound as clauses
+use Rattle.volume_def.specs.View.{VolumeView}
+use Rattle.mft_table.specs.declared.mft.Mft.{Mft}
+use Rattle.mft_table.specs.InUse.{IsInUse, IsSoundVolume}
+use Rattle.mft_table.specs.Mft.{mounted_of, view}
+use Rattle.edit_def.specs.Kept.{Key, either, key_of, same_key}
+use Rattle.edit_def.specs.Purses.{run_size}
+use Rattle.record_edits.specs.Given.{GivesBack}
+use Rattle.session_def.specs.Cost.{given_back}
+use Rattle.in_place.proofs.RewriteLaws.{Rewrites-then}
+use Rattle.in_place.proofs.RoomSame.{times-same}
+use Rattle.attribute_edits.specs.Attributes.{SetsAttributes, dirs_of, is_told_key}
+use Rattle.attribute_edits.proofs.ChainLaws.{chain-rewrites}
+use Rattle.attribute_edits.proofs.StandardFirst.{set-rewrites}
+use Rattle.value_edits.specs.ValueEdits.{EditsAlone, IsEdited, PutsGiving, PutsStream, node_with}
+use Rattle.value_edits.proofs.EditedRecord as value
+use Rattle.value_edits.proofs.GivenCount.{few-given}
+use Rattle.value_edits.proofs.StreamPut.{stream-put}
+use Rattle.tree_edit.specs.Links.{CanWriteFile}
+use Rattle.tree_edit.specs.Staged.{IsOfFile, IsOfNames, StagesAttributes, StagesFew, TellsStored}
+use Rattle.tree_edit.proofs.StagedLaws.{few-then}
+use Rattle.stream_changes.specs.Streams.{FindsNamed}
+use Rattle.stream_changes.proofs.EditKept as kept
+
+-- attributes that are set own what they owned
+set-times : (old new : VolumeView) (f : ℕ) (times : List ℕ) (flags : ℕ) → SetsAttributes old new f times flags
+    → (c : ℕ) → times_owned (records_of new) c ≡ times_owned (records_of old) c
+set-times old new f times flags s =
+    let first : Key → Bool = same_key (key_of f STANDARD_INFORMATION []) in
+    let names = names_of (records_of s.mid) f in
+    times-same (either first (is_told_key (dirs_of names))) old new
+    (Rewrites-then first (is_told_key (dirs_of names)) old s.mid new (set-rewrites old s.mid f times flags s.sets)
+    (chain-rewrites s.told names s.mid new s.refreshes))
+
+module _ {D : Type 0} (g : Ghosts D) (f : ℕ) (a back m : Mft D g) (named : IsTrue (view g a).told → FindsNamed (view g a) f)
+    (bytes : List ℕ → Option (List ℕ)) (runs : IsTrue (view g a).told → List Run)
+    (gives : (t : IsTrue (view g a).told) → GivesBack (view g a) (view g back) (runs t)) (stored : TellsStored g back)
+    (mounted : mounted_of g m ≡ mounted_of g back) (same : (view g m).told ≡ (view g a).told)
+    (puts : (t : IsTrue (view g a).told)
+    → PutsGiving (view g a) (view g m) f (named t).name (bytes (named t).held) (runs t)) where
+  abbrev old : VolumeView
+  old = view g a
+
+  abbrev new : VolumeView
+  new = view g m
+
+  told-a : IsTrue (view g m).told → IsTrue (view g a).told
+  told-a t = sym same ∙ t
+
+  edits : (t : IsTrue (view g a).told) → EditsAlone (key_of f DATA (named t).name) old new
+  edits t = (puts t).0.edits
+
+  is-edited : (t : IsTrue (view g a).told) → IsEdited (key_of f DATA (named t).name) old new
+      (node_with old (named t).asked (bytes (named t).held) (named t).can.node)
+  is-edited t =
+      let n = named t in
+      stream-put old new f n.can.node n.asked n.name n.held (bytes n.held) n.can.can n.finds (puts t).0
+
+  pub in-use : IsInUse g m
+  unfolding edits told-a
+  in-use t =
+      let before = told-a t in
+      let n = named before in
+      let at_back : IsTrue (view g back).told = (gives before).writes.told ∙ before in
+      let kept-so = kept.stored-kept old new f n.name n.can.node n.can.can (edits before) (view g back) (runs before) (gives before)
+      (λ c. ap (λ (rs : List Run). times_covered rs c) (puts before).1)
+      (mounted_of g back).clusters (mounted_of g back).records (mounted_of g back).upcase (stored at_back) in
+      subst (IsSoundVolume new) (sym mounted) (record { sound = (is-edited before).can.sound; stored = kept-so })
+
+  pub can-write : IsTrue (view g m).told → CanWriteFile (view g m) f
+  can-write t =
+      let before = told-a t in
+      let n = named before in
+      record {
+        node = node_with old n.asked (bytes n.held) n.can.node;
+        can = (is-edited before).can;
+        write = kept.write-kept old new f n.name n.can.node n.can.can (edits before) n.can.write;
+      }
+
+  -- THEN THE ATTRIBUTES ARE SET.
+  module _ (b : Mft D g) (times : List ℕ) (flags : ℕ) (sets : IsTrue (view g m).told → SetsAttributes (view g m) (view g b) f times flags) where
+    pub put-then : (t : IsTrue (view g a).told) → PutsStream (view g a) (view g b) f (named t).name (bytes (named t).held) times flags
+    put-then t = record { mid = new; puts = (puts t).0; sets = sets (same ∙ t) }
+
+    -- the clusters of these runs are free then that had an owner
+    pub freed : (t : IsTrue (view g a).told) → sum_by run_size (runs t) ≤ given_back (view g a) (view g b)
+    unfolding edits
+    freed t =
+        let n = named t in
+        let e = edits t in
+        let sound = n.can.can.sound in
+        few-given old (view g b) (runs t)
+        (λ c. let gone = value.owned-now (key_of f DATA n.name) old new sound n.can.can.apart e c in
+        let owned : times_owned (records_of e.mid) c ≡ times_owned (records_of old) c =
+        ap (λ (r : Records). times_owned r c) (value.records-mid (key_of f DATA n.name) old new sound n.can.can.apart e) in
+        let is : times_covered e.given c ≡ times_covered (runs t) c = ap (λ (rs : List Run). times_covered rs c) (puts t).1 in
+        let set = set-times new (view g b) f times flags (sets (same ∙ t)) c in
+        omega (arith, gone, owned, is, set))
+        (λ c. (sound clauses.Owners c).once) (λ c past. (sound clauses.Owners c).inside past)
+
+  pub staged-then : (b : Mft D g) (most : ℕ) (is : ℕ → Type 0) → StagesFew g most is a m
+      → (IsTrue (view g m).told → StagesAttributes g f (names_of (records_of (view g m)) f) m b) → IsTrue (view g a).told
+      → StagesFew g (most + (4 + 12 * length (names_of (records_of (view g a)) f)))
+      (λ s. is s ⊎ (IsOfFile (view g a) f s ⊎ IsOfNames (view g a) (names_of (records_of (view g a)) f) s)) a b
+  staged-then b most is first later t =
+      let n = named t in
+      let e = edits t in
+      let all = names_of (records_of old) f in
+      let now = names_of (records_of new) f in
+      let many : length now ≡ length all = kept.names-many old new f n.name n.can.node n.can.can e in
+      few-then g most (4 + 12 * length now) (most + (4 + 12 * length all))
+      (λ s. is s ⊎ (IsOfFile old f s ⊎ IsOfNames old all s)) is (λ s. IsOfFile new f s ⊎ IsOfNames new now s) a m b first
+      (later (same ∙ t)) (omega (arith, many)) (λ s of. inl of)
+      (λ s of. elim of [
+        | inl own ↦ inr (inl (kept.file-before old new f n.name n.can.node n.can.can e f s own))
+        | inr other ↦ inr (inr (kept.names-before old new f n.name n.can.node n.can.can e s other))
+      ])

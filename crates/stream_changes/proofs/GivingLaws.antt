@@ -1,0 +1,30 @@
+-- WHERE SECTORS ARE STAGED by an edit that gives nothing back.
+use Rattle.std.proofs.Common.{◌+◌, ◌*◌, ℕ, inl, inr, length, arith}
+use Rattle.vol_disk.specs.declared.Disk.{Ghosts}
+use Rattle.volume_def.specs.FileNames.{names_of}
+use Rattle.volume_def.specs.Files.{records_of}
+use Rattle.volume_def.specs.View.{VolumeView}
+use Rattle.mft_table.specs.declared.mft.Mft.{Mft}
+use Rattle.mft_table.specs.Mft.{view}
+use Rattle.tree_edit.specs.Staged.{IsOfEdit, StagesFew}
+use Rattle.tree_edit.specs.Values.{StagesValue}
+use Rattle.stream_changes.specs.Staged.{StagesGiving}
+
+pub gives-none : {D : Type 0} (g : Ghosts D) (most f : ℕ) (before : VolumeView) (old new : Mft D g)
+    → StagesFew g (most + 12 * length (names_of (records_of before) f)) (IsOfEdit before f (names_of (records_of before) f)) old new
+    → StagesGiving g most f before old new
+gives-none g most f before old new x = record {
+  given = 0;
+  freed = omega arith;
+  stages = record {
+    few = let few = x.few in omega (arith, few);
+    only = λ sector has. elim (x.only sector has) [ inl was ↦ inl was | inr is ↦ inr (inr is) ];
+  };
+}
+
+-- as one of a value
+pub gives-value : {D : Type 0} (g : Ghosts D) (f : ℕ) (old new : Mft D g) → StagesValue g f (names_of (records_of (view g old)) f) old new
+    → StagesGiving g 8 f (view g old) old new
+gives-value g f old new x =
+    gives-none g 8 f (view g old) old new
+    (record { few = x.few; only = λ sector has. elim (x.only sector has) [ inl was ↦ inl was | inr is ↦ inr (inr is) ] })

@@ -1,0 +1,107 @@
+use Rattle.std.proofs.Common.{◌≡◌, ℕ, sym, subst, ◌∙◌}
+use Rattle.std.proofs.lemmas.Result.{on_ok_weaker}
+use Rattle.volume_def.specs.Files.{parts, records_of}
+use Rattle.mft_table.specs.Mft.{view}
+use Rattle.tree_read.specs.Nodes.{parts_in}
+use Rattle.tree_edit.specs.Staged.{TellsStored}
+use Rattle.stream_changes.specs.Staged.{StagesGiving}
+use Rattle.stream_changes.proofs.DeviceLaws.{device-of, device-still}
+use Rattle.stream_changes.proofs.GivingLaws.{gives-value}
+use Rattle.stream_changes.proofs.WaysDone.{get-extent-can, get-extent-long, get-extent-puts, get-value-can, get-value-puts, get-value-room, gets-not_over}
+use Rattle.stream_changes.proofs.streams.resize_stream.Goals as goal
+
+-- no stream goes so
+pub returns-in-InPlace-clause-resized : goal.returns-in-InPlace-clause-resized
+returns-in-InPlace-clause-resized g c = λ told name can.
+    let v = view g.D.Disk c.args.mft.now in
+    absurd (gets-not_over v v c.args.found.now c.number-number.result c.number-number.ensures c.args.size c.in-InPlace.is name can)
+
+pub returns-in-InPlace-clause-places : goal.returns-in-InPlace-clause-places
+returns-in-InPlace-clause-places g c = λ told.
+    let v = view g.D.Disk c.args.mft.now in
+    let w = c.requires.can told in
+    absurd (gets-not_over v v c.args.found.now c.number-number.result c.number-number.ensures c.args.size c.in-InPlace.is w.0 w.1)
+
+pub returns-in-InPlace-clause-tables : goal.returns-in-InPlace-clause-tables
+returns-in-InPlace-clause-tables g c = λ told.
+    let v = view g.D.Disk c.args.mft.now in
+    let w = c.requires.can told in
+    absurd (gets-not_over v v c.args.found.now c.number-number.result c.number-number.ensures c.args.size c.in-InPlace.is w.0 w.1)
+
+pub returns-in-InPlace-clause-device : goal.returns-in-InPlace-clause-device
+returns-in-InPlace-clause-device g c = device-still g.D.Disk c.args.mft.now
+
+-- a value
+pub resize_value-requires-clause-can : goal.resize_value-requires-clause-can
+resize_value-requires-clause-can g c = λ told.
+    let v = view g.D.Disk c.args.mft.now in
+    let w = c.requires.can told in
+    get-value-can v v c.args.found.now c.number-number.result c.number-number.ensures c.args.size c.in-InRecord.is w.0 w.1
+
+pub returns-in-InRecord-clause-resized : goal.returns-in-InRecord-clause-resized
+returns-in-InRecord-clause-resized g c =
+    let v = view g.D.Disk c.args.mft.now in
+    let new = view g.D.Disk c.resize_value.new.mft in
+    on_ok_weaker c.resize_value.result (λ does told name can.
+    get-value-puts v new c.args.found.now c.number-number.result c.number-number.ensures c.args.size c.args.times.now c.in-InRecord.is name can (does told))
+    c.resize_value.ensures.resized
+
+pub returns-in-InRecord-clause-places : goal.returns-in-InRecord-clause-places
+returns-in-InRecord-clause-places g c =
+    on_ok_weaker c.resize_value.result (λ any told.
+    subst (λ k. StagesGiving g.D.Disk 8 k (view g.D.Disk c.args.mft.now) c.args.mft.now c.resize_value.new.mft) c.number-number.ensures
+    (gives-value g.D.Disk c.number-number.result c.args.mft.now c.resize_value.new.mft (c.resize_value.ensures.places told)))
+    c.resize_value.ensures.tables
+
+pub returns-in-InRecord-clause-device : goal.returns-in-InRecord-clause-device
+returns-in-InRecord-clause-device g c = device-of g.D.Disk c.args.mft.now c.resize_value.new.mft c.resize_value.ensures.disk
+
+-- clusters
+pub shorten_extent-requires-clause-held : goal.shorten_extent-requires-clause-held
+shorten_extent-requires-clause-held g c = λ told.
+    subst (λ (k : ℕ). parts_in c.args.found.now.held ≡ parts (records_of (view g.D.Disk c.args.mft.now)) k) (sym c.number-number.ensures)
+    (c.requires.can told).1.held.parts.parts
+
+pub shorten_extent-requires-clause-can : goal.shorten_extent-requires-clause-can
+shorten_extent-requires-clause-can g c = λ told.
+    let v = view g.D.Disk c.args.mft.now in
+    let w = c.requires.can told in
+    get-extent-can v v c.args.found.now c.number-number.result c.number-number.ensures c.args.size c.in-InClusters.is w.0 w.1
+
+pub returns-in-InClusters-clause-resized : goal.returns-in-InClusters-clause-resized
+returns-in-InClusters-clause-resized g c =
+    let v = view g.D.Disk c.args.mft.now in
+    let new = view g.D.Disk c.shorten_extent.new.mft in
+    on_ok_weaker c.shorten_extent.result (λ does told name can.
+    get-extent-puts v new c.args.found.now c.number-number.result c.number-number.ensures c.args.size c.args.times.now c.in-InClusters.is name can
+    (does told)) c.shorten_extent.ensures.resized
+
+pub returns-in-InClusters-clause-places : goal.returns-in-InClusters-clause-places
+returns-in-InClusters-clause-places g c =
+    let v = view g.D.Disk c.args.mft.now in
+    on_ok_weaker c.shorten_extent.result (λ stages told.
+    let w = c.requires.can told in
+    subst (λ k. StagesGiving g.D.Disk 8 k v c.args.mft.now c.shorten_extent.new.mft) c.number-number.ensures
+    (get-extent-long v v c.args.found.now c.number-number.result c.number-number.ensures c.args.size c.in-InClusters.is w.0 w.1 (stages told)))
+    c.shorten_extent.ensures.places
+
+pub returns-in-InClusters-clause-tables : goal.returns-in-InClusters-clause-tables
+returns-in-InClusters-clause-tables g c =
+    let v = view g.D.Disk c.args.mft.now in
+    on_ok_weaker c.shorten_extent.result (λ tells t.
+    let told = sym c.shorten_extent.ensures.device.goes_on.told_image ∙ t in
+    let w = c.requires.can told in
+    get-extent-long v v c.args.found.now c.number-number.result c.number-number.ensures c.args.size c.in-InClusters.is w.0 w.1
+    {P = TellsStored g.D.Disk c.shorten_extent.new.mft} (tells told) t)
+    c.shorten_extent.ensures.tables
+
+pub returns-in-InRecord-clause-tables : goal.returns-in-InRecord-clause-tables
+returns-in-InRecord-clause-tables g c =
+    let v = view g.D.Disk c.args.mft.now in
+    on_ok_weaker c.resize_value.result (λ tells t.
+    let told = sym c.resize_value.ensures.disk.goes_on.told_image ∙ t in
+    let w = c.requires.can told in
+    tells told
+    (get-value-can v v c.args.found.now c.number-number.result c.number-number.ensures c.args.size c.in-InRecord.is w.0 w.1)
+    (get-value-room v v c.args.found.now c.number-number.result c.number-number.ensures c.args.size c.in-InRecord.is w.0 w.1) t)
+    c.resize_value.ensures.tables
