@@ -2,7 +2,7 @@
 use Rattle.tree_model.specs.declared.command.Command.{Command}
 use Rattle.tree_model.specs.declared.command.Command.TheVariants as c
 use Rattle.cmd_lang.specs.Sayable.{IsSayable}
-use Rattle.in_place_done.specs.Written.{SetsShown}
+use Rattle.tree_ops.specs.Below.{SetsShown}
 
 pub sayable-shown : (said : Command) → IsSayable said → SetsShown said
 sayable-shown (c.Setattr path flags) says = says.1.1

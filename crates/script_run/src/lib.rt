@@ -13,3 +13,4 @@ pub use end::ScriptEnd;
 pub use laws::written_laws;
 pub use made::run_made;
 pub use run::run_script;
+pub use tree_ops::Volume;

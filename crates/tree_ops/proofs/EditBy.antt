@@ -23,7 +23,7 @@ use Rattle.tree_model.specs.declared.tree.Node.{Node}
 use Rattle.session_def.specs.Cost.{bytes_in}
 use Rattle.session_def.specs.Session.{is_due_edit}
 use Rattle.session_def.specs.State.{State}
-use Rattle.attribute_edits.specs.Attributes.{CanSet}
+use Rattle.in_place_done.specs.Below.{CanSet}
 use Rattle.in_place_done.specs.Written.{Stages, is_done}
 use Rattle.tree_ops.specs.Edits.{EditOf}
 use Rattle.tree_ops.specs.Wanted.{machine_on}

@@ -84,7 +84,7 @@ module _ {D : Type 0} (g : Ghosts D) (sized : (disk : D) → IfSome (g.now disk)
   can-still = record {
     in_use = now-in_use;
     bytes = now-bytes;
-    mirror = subst IsMirrorInside (sym s.mounted) can.mirror;
+    mirror = subst IsMirrorInside (sym (s.mounted ∙ s.keeps.mounted)) can.mirror;
     clear = now-clear;
     marked = now-has;
     flag = now-mark;

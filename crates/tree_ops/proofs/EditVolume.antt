@@ -12,6 +12,7 @@ use Rattle.volume_def.specs.Sound.{IsSound, told_view}
 use Rattle.volume_def.specs.VersionClause.{IsClean}
 use Rattle.volume_def.specs.View.{VolumeView}
 use Rattle.mft_table.specs.declared.mounted.Mounted.{Mounted}
+use Rattle.mft_table.specs.HeldTables.{AreStored}
 use Rattle.mft_table.specs.InUse.{IsInUse, IsSoundVolume}
 use Rattle.mft_table.specs.Mft.{mounted_of, stage_of, view}
 use Rattle.mft_table.specs.Mounted.{mounted_layout}
@@ -23,7 +24,7 @@ use Rattle.tree_model.specs.Subjects.{Machine}
 use Rattle.tree_model.specs.declared.command.Command.{Command}
 use Rattle.tree_model.specs.declared.reply.Answer.TheVariants as a
 use Rattle.tree_model.specs.declared.reply.Reply.TheVariants as reply
-use Rattle.session_def.specs.Cost.{log_bytes}
+use Rattle.session_def.specs.Cost.{given_back, log_bytes}
 use Rattle.session_def.specs.Done.{HasEmptyLog, first_cost}
 use Rattle.session_def.specs.State.{Stands, State}
 use Rattle.session_def.proofs.CleanLaws.{clean-flag}
@@ -36,7 +37,7 @@ use Rattle.volume_mark.specs.Closing.{MarkStands}
 use Rattle.volume_mark.specs.Mark.{IsFlagOf}
 use Rattle.volume_mark.specs.SameVolume.{IsSameVolume}
 use Rattle.volume_mark.proofs.MarkLaws.{mark-law}
-use Rattle.edit_written.specs.Finished.{IsFinished, IsPlaceOf}
+use Rattle.in_place_done.specs.Below.{IsFinished, IsPlaceOf}
 use Rattle.in_place_done.specs.Written.{FindsFile, LeavesEdit, SetsShown, Stages, StagesEdit, machine_behind, most_written}
 use Rattle.in_place_done.proofs.Leaves.{leaves}
 use Rattle.tree_ops.specs.Edits.{CanEdit, EditOf, EditsFile, IsMarkOf, IsPlaceBy}
@@ -171,6 +172,9 @@ module _ {D : Type 0} (g : Ghosts D) (sized : (disk : D) → IfSome (g.now disk)
   left = leaves facts state session command s.file staged-by.node flag s.place.marked s.place.spans.items staged written finds stages place
       finished
 
+  staged-is : view g s.staged ≡ left.new
+  staged-is = staged-view ∙ sym left.is
+
   pub same : IsSameVolume left.new flag written
   same = mark-law left.new flag staged left.volume left.sound left.flag_there written left.agrees
 
@@ -187,7 +191,7 @@ module _ {D : Type 0} (g : Ghosts D) (sized : (disk : D) → IfSome (g.now disk)
   pub new-view : view_under g new ≡ now
   new-view =
       view-told g new.mft written (s.finishes.image ∙ written-some.1)
-      ∙ ap (λ (m : Mounted). told_view (sector_in (Some written)) (mounted_layout m)) s.mounted
+      ∙ ap (λ (m : Mounted). told_view (sector_in (Some written)) (mounted_layout m)) (s.mounted ∙ s.keeps.mounted)
 
   pub now-volume : IsVolumeOf written now
   now-volume = subst (IsVolumeOf written) other-is same.volume
@@ -228,8 +232,9 @@ module _ {D : Type 0} (g : Ghosts D) (sized : (disk : D) → IfSome (g.now disk)
       subst (λ w. IsSoundVolume w (mounted_of g new.mft)) (sym new-view)
       (subst (λ (m : Mounted). IsSoundVolume now m) (sym s.mounted) (record {
         sound = now-sound;
-        stored = left.stored (mounted_of g old.mft).clusters (mounted_of g old.mft).records (mounted_of g old.mft).upcase
-            (can.in_use told).stored;
+        stored = left.stored (mounted_of g s.staged).clusters (mounted_of g s.staged).records (mounted_of g s.staged).upcase
+            (subst (λ w. AreStored w (mounted_of g s.staged).clusters (mounted_of g s.staged).records (mounted_of g s.staged).upcase)
+            staged-is (s.tables (s.keeps.goes_on.told_image ∙ told)));
       }))
 
   pub now-bytes : (all : List ℕ) → image g (stage_of g new.mft) ≡ Some all → IsVolumeOf all (view_under g new)
@@ -252,14 +257,17 @@ module _ {D : Type 0} (g : Ghosts D) (sized : (disk : D) → IfSome (g.now disk)
       omega (arith, none)
 
   pub most : (first : VolumeView) → MarkStands first state (mark_of g old)
-      → g.written (disk_under g new) ≤ g.written (disk_under g old) + most_written state command finds.at.file
+      → g.written (disk_under g new) ≤ g.written (disk_under g old) + most_written state command finds.at.file left.new
   most first m =
       let wrote = s.written in
-      let few = s.few told in
+      let all = s.few told in
+      let few = all.stages.few in
+      let plain = ap (λ (sectors : List ℕ). length sectors) can.clear.plain in
+      let freed = subst (λ w. all.given ≤ given_back v w) staged-is all.freed in
       let cost = most-by (mark_of g old) first m s.placed.by_mark in
       let same = ap (λ n. length (names_of (records_of v) n)) finds.file in
       let fits = by.few in
-      omega (arith, wrote, few, cost, same, fits)
+      omega (arith, wrote, few, plain, freed, cost, same, fits)
 
   -- WHAT EVERY COMMAND PROMISES is promised.
   pub flag-first : (mark : Option Flag) → (first : VolumeView) → MarkStands first state mark → IsPlaceBy g old.mft mark s.place
@@ -277,4 +285,4 @@ module _ {D : Type 0} (g : Ghosts D) (sized : (disk : D) → IfSome (g.now disk)
         (new-view ∙ ap (λ (w : VolumeView). told_view (sector_in (Some written)) w.layout) (sym left.is))
         (new-machine opens moment) mark refl
         (λ after image machine count volume. left.done after image volume machine
-        (subst (λ n. n ≤ g.written (disk_under g old) + most_written state command finds.at.file) (sym count) (most first r.mark)))
+        (subst (λ n. n ≤ g.written (disk_under g old) + most_written state command finds.at.file left.new) (sym count) (most first r.mark)))

@@ -1,6 +1,6 @@
 -- HOW AN EDIT ENDS on the table of records: from what its calls give, one behind another.
 use Rattle.std.proofs.Common.{◌≡◌, ◌⊎◌, ◌≤◌, ◌+◌, ◌*◌, ℕ, List, [], length, Option, Some, None, Result, Ok, Err}
-use Rattle.std.proofs.Common.{sym, ap, subst, inr, ◌∙◌, arith}
+use Rattle.std.proofs.Common.{sym, subst, inr, ◌∙◌, arith}
 use Rattle.std.specs.Prelude.{All, Contains, IfErr, IsTrue, OnErr, OnOk}
 use Rattle.vol_disk.specs.Contents.{sector_in}
 use Rattle.vol_disk.specs.declared.Disk.{Ghosts}
@@ -15,11 +15,12 @@ use Rattle.mark_write.specs.declared.flag.Flag.{Flag}
 use Rattle.mark_write.specs.declared.log.Span.{Span}
 use Rattle.mft_table.specs.declared.mft.Mft.{Mft}
 use Rattle.mft_table.specs.Mft.{mounted_of, stage_of, view}
-use Rattle.index_store.specs.IndexBlocksMut.{KeepsDisk}
+use Rattle.stored_bits.specs.Given.{IsOfBits, KeepsDevice}
 use Rattle.mark_place.specs.LogSpans.{AreLogSpans, log_sectors}
 use Rattle.volume_mark.specs.Mark.{IsFlagOf}
-use Rattle.tree_edit.specs.Staged.{IsOfEdit, StagesFew}
-use Rattle.tree_edit.proofs.ChainedLaws.{goes-then}
+use Rattle.tree_edit.specs.Staged.{IsOfEdit, TellsStored}
+use Rattle.stream_changes.specs.Staged.{StagesGiving}
+use Rattle.stream_changes.proofs.DeviceLaws.{device-then}
 use Rattle.tree_read.specs.declared.stop.Stop.{Stop}
 use Rattle.tree_read.specs.declared.stop.Stop.TheVariants as stop
 use Rattle.tree_ops.specs.Edits.{EditOf, EditsFile, EndsAs, FailsWriting, IsPlaceBy, IsPlaced, IsWritten, LeadsTo, MftStill}
@@ -50,40 +51,38 @@ module _ {D : Type 0} (g : Ghosts D) (old mid : Mft D g) (still : MftStill g old
   }
 
   -- and what was staged on it was staged on that
-  pub all-keeps : (staged : Mft D g) → KeepsDisk g mid staged → KeepsDisk g old staged
-  all-keeps staged keeps = goes-then g old mid staged still.keeps keeps
+  pub all-keeps : (staged : Mft D g) → KeepsDevice g mid staged → KeepsDevice g old staged
+  all-keeps staged keeps = device-then g old mid staged still.keeps keeps
 
   -- what is staged apart from that before, of the volume before
   abbrev StagesOn : ℕ → ℕ → Mft D g → VolumeView → Mft D g → Type 0
-  StagesOn most f from v staged = StagesFew g (most + 12 * length (names_of (records_of v) f))
-      (IsOfEdit v f (names_of (records_of v) f)) from staged
+  StagesOn most f from v staged = StagesGiving g most f v from staged
 
   stages-from : (most f : ℕ) (v : VolumeView) (staged : Mft D g) → StagesOn most f mid v staged → StagesOn most f old v staged
-  stages-from most f v staged x = record {
-    few = subst (λ xs. length (places g (stage_of g staged)) ≤ length xs + (most + 12 * length (names_of (records_of v) f))) still.places
-        x.few;
-    only = λ sector has.
-        subst (λ xs. Contains xs sector ⊎ IsOfEdit v f (names_of (records_of v) f) sector) still.places (x.only sector has);
-  }
+  stages-from most f v staged x =
+      let all = names_of (records_of v) f in
+      record {
+        given = x.given;
+        freed = x.freed;
+        stages = record {
+          few = subst (λ xs. length (places g (stage_of g staged)) ≤ length xs + (most + 12 * length all + 2 * x.given)) still.places
+              x.stages.few;
+          only = λ sector has.
+              subst (λ xs. Contains xs sector ⊎ (IsOfBits v sector ⊎ IsOfEdit v f all sector)) still.places (x.stages.only sector has);
+        };
+      }
 
   pub stages-back : (most f : ℕ) (staged : Mft D g) → (IsTrue (view g mid).told → StagesOn most f mid (view g mid) staged)
       → IsTrue (view g old).told → StagesOn most f old (view g old) staged
   stages-back most f staged stages told =
       stages-from most f (view g old) staged (back (λ v. StagesOn most f mid v staged) stages told)
 
-  module _ (edit : EditOf) (file : ℕ) (staged : Mft D g) (keeps : KeepsDisk g mid staged)
+  module _ (edit : EditOf) (file : ℕ) (staged : Mft D g) (keeps : KeepsDevice g mid staged) (tables : TellsStored g staged)
       (does : IsTrue (view g mid).told → edit.Does (view g mid) (view g staged) file)
       (stages : IsTrue (view g mid).told → StagesOn edit.most file mid (view g mid) staged)
       (mark : Option Flag) (leads : LeadsTo g old edit (Ok file)) (plain : places g (stage_of g old) ≡ [])
       (place : MarkPlace) (placed : IsPlaced g old mark place) (new : Mft D g)
       (mounted : mounted_of g new ≡ mounted_of g staged) (goes : GoesOn g (stage_of g staged) (stage_of g new)) where
-    few-staged : IsTrue (view g old).told
-        → length (places g (stage_of g staged)) ≤ edit.most + 12 * length (names_of (records_of (view g old)) file)
-    few-staged told =
-        let few = (stages-back edit.most file staged stages told).few in
-        let none = ap (λ (xs : List ℕ). length xs) plain in
-        omega (arith, few, none)
-
     -- it was done
     ended-done : IsWritten g place staged new
         → g.written (disk_of g (stage_of g new)) ≤ g.written (disk_of g (stage_of g staged)) + 2 + span_sectors place.spans.items
@@ -96,12 +95,13 @@ module _ {D : Type 0} (g : Ghosts D) (old mid : Mft D g) (still : MftStill g old
       staged = staged;
       keeps = all-keeps staged keeps;
       does = back (λ v. edit.Does v (view g staged) file) does;
-      few = few-staged;
+      few = stages-back edit.most file staged stages;
+      tables = tables;
       finishes = written.finishes;
       goes_on = goes;
       written = let same = (all-keeps staged keeps).written in omega (arith, same, wrote);
-      mounted = mounted ∙ (all-keeps staged keeps).mounted;
-      committed = written.committed ∙ (all-keeps staged keeps).mounted;
+      mounted = mounted;
+      committed = written.committed;
     }
 
     -- .. or the disk failed in it

@@ -1,7 +1,7 @@
 -- WHAT IS DUE FOR `hwrite`: where its bytes can be written into the stream of a handle that may write it it is done, unless there is no room
 -- for what it asks, and else refused so.
 use Rattle.std.proofs.Common.{◌≡◌, ◌&&◌, ◌||◌, ◌+◌, ℕ, Bool, true, false, List, ◌∷◌, [], not, length, Option, Some, None, Result, Ok, Err}
-use Rattle.std.proofs.Common.{refl, sym, ap, ◌∙◌, arith, if◌then◌else◌}
+use Rattle.std.proofs.Common.{inl, refl, sym, ap, ◌∙◌, arith, if◌then◌else◌}
 use Rattle.std.specs.Borrow.{Bor}
 use Rattle.std.specs.Prelude.{find, is_some}
 use Rattle.std.specs.Option.{option_map_or}
@@ -16,7 +16,8 @@ use Rattle.tree_model.specs.Paths.{and_then}
 use Rattle.tree_model.specs.Reading.{read}
 use Rattle.tree_model.specs.Refusals.{Facts, first_some, outcome, refusal, unless, when}
 use Rattle.tree_model.specs.Shown.{plain_bytes}
-use Rattle.tree_model.specs.Staging.{cannot_edit, fits_in_record, gets_no_longer, has_no_list}
+use Rattle.tree_model.specs.Staging.{cannot_edit}
+use Rattle.tree_model.specs.Ways.{fits_in_record, gets_no_longer, has_no_list}
 use Rattle.tree_model.specs.Step.{answered, due}
 use Rattle.tree_model.specs.StreamRoom.{goes_over, stream_parts, stream_value}
 use Rattle.tree_model.specs.Subjects.{Located, Machine, at_file, at_open, content_named, locate, subject_of, with_stream}
@@ -30,7 +31,7 @@ use Rattle.tree_model.specs.declared.tree.Content.{Content}
 use Rattle.tree_model.specs.declared.tree.Content.TheVariants.{Packed, Plain}
 use Rattle.tree_model.proofs.LookLaws.{find-never}
 use Rattle.in_place_owed.proofs.EmptyBill.{has-room}
-use Rattle.value_owed.proofs.ValueCommands.{value-room}
+use Rattle.in_place_done.proofs.Below.{value-room}
 use Rattle.tree_edit.specs.Alone.{can_resize}
 use Rattle.tree_edit.specs.Write.{hwrite_in, hwrite_wanted, room_to_write}
 use Rattle.tree_edit.specs.Writable.{can_write_over}
@@ -129,7 +130,7 @@ module _ (facts : Facts) (view : VolumeView) (opens : List OpenEntry) (now sessi
       let both = (and_parts (value entry && alone entry) (fits entry) stays).0 in
       let there = value-there view (read view) (at entry) (and_parts (value entry) (alone entry) both).0 in
       tells.no_room m command (at entry)
-      ∙ value-room view (read view) command (at entry) refl refl (file-counted view (read view) (at entry) refl there) there built
+      ∙ value-room view (read view) command (at entry) refl refl (file-counted view (read view) (at entry) refl there) there (inl built)
 
   -- the refusal that is due; opens are not asked
   refusal-is : (entry : OpenEntry) → refusal facts m session command (subject_of command) (at entry)

@@ -64,6 +64,16 @@ last-written at file true can room asked none same = ap (λ o. unless (last_two 
 last-written at file false false room asked none same = refl
 last-written at file false true room asked none same = room-left at file room asked (same refl refl)
 
+-- .. or a stream in clusters that ends earlier, which asks for none
+abbrev pub if_cut : Bool → Bool → Option No → ℕ → Result ℕ No
+if_cut can cut asked file = if can then if_room asked file else if cut then Ok file else Err no.Unbuilt
+
+pub last-cut : (at : Located) (file : ℕ) (can cut : Bool) (room asked : Option No) → (can ≡ true → room ≡ asked)
+    → (cut ≡ true → room ≡ None) → unless (last_two (not (can || cut)) room) at ≡ with_at at (if_cut can cut asked file)
+last-cut at file true cut room asked same none = room-left at file room asked (same refl)
+last-cut at file false true room asked same none = ap (λ o. unless (last_two false o) at) (none refl)
+last-cut at file false false room asked same none = refl
+
 -- it is this file that is wanted then, or none
 room-file : (asked : Option No) (file other : ℕ) → if_room asked file ≡ Ok other → file ≡ other
 room-file None file other e = cc
@@ -76,6 +86,11 @@ can-file false file other e = cc
 pub asked-file : (can : Bool) (asked : Option No) (file other : ℕ) → if_asked can asked file ≡ Ok other → file ≡ other
 asked-file true asked file other e = room-file asked file other e
 asked-file false asked file other e = cc
+
+pub cut-file : (can cut : Bool) (asked : Option No) (file other : ℕ) → if_cut can cut asked file ≡ Ok other → file ≡ other
+cut-file true cut asked file other e = room-file asked file other e
+cut-file false true asked file other e = cc
+cut-file false false asked file other e = cc
 
 pub written-file : (over can : Bool) (asked : Option No) (file other : ℕ)
     → (if over then Ok file else if_asked can asked file) ≡ Ok other → file ≡ other

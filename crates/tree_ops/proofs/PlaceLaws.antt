@@ -1,5 +1,5 @@
 -- WHERE THE MARK AND THE LOG LIE of a volume that can be edited, and what is staged apart from them.
-use Rattle.std.proofs.Common.{◌≡◌, ◌≢◌, ◌⊎◌, ◌≤◌, ◌+◌, ◌*◌, ℕ, true, length, List, [], Option, Some, None, refl, sym, ap}
+use Rattle.std.proofs.Common.{◌≡◌, ◌≢◌, ◌⊎◌, ◌≤◌, ◌+◌, ◌*◌, ℕ, true, List, [], Option, Some, None, refl, sym, ap}
 use Rattle.std.proofs.Common.{subst, ◌∙◌, inl, inr, arith}
 use Rattle.std.specs.Prelude.{All, Contains, IsTrue, codes, is_some}
 use Rattle.vol_disk.specs.Contents.{IsTold, sector_in}
@@ -9,7 +9,7 @@ use Rattle.ntfs_def.specs.FileName.{FileName}
 use Rattle.ntfs_def.specs.Units.{wide}
 use Rattle.ntfs_def.specs.declared.kinds.TheConstants.{DATA, INDEX_ALLOCATION}
 use Rattle.ntfs_def.specs.declared.lengths.TheConstants.{INDEX_RECORD}
-use Rattle.ntfs_def.specs.declared.records.TheConstants.{LOG_FILE, MFT, MFT_MIRROR, VOLUME}
+use Rattle.ntfs_def.specs.declared.records.TheConstants.{CLUSTER_BITMAP, LOG_FILE, MFT, MFT_MIRROR, VOLUME}
 use Rattle.volume_def.specs.FileNames.{names_of}
 use Rattle.volume_def.specs.Files.{records_of}
 use Rattle.volume_def.specs.Sound.{IsSound}
@@ -23,20 +23,20 @@ use Rattle.mark_write.specs.declared.flag.Flag.{Flag}
 use Rattle.mark_write.specs.declared.log.Span.{Span}
 use Rattle.mft_table.specs.declared.mft.Mft.{Mft}
 use Rattle.mft_table.specs.Mft.{stage_of, view}
-use Rattle.index_store.specs.IndexBlocksMut.{KeepsDisk}
+use Rattle.stored_bits.specs.Given.{KeepsDevice}
 use Rattle.mark_place.specs.Beside.{IsBesideFlag}
 use Rattle.mark_place.specs.LogSpans.{AreLogSpans}
 use Rattle.mark_place.proofs.PlacesApart as apart
 use Rattle.volume_mark.specs.Mark.{IsFlagOf}
 use Rattle.in_place.specs.Unnamed.{LiesApart}
-use Rattle.edit_written.specs.Finished.{IsPlaceOf}
-use Rattle.edit_written.proofs.AgreesLaws.{none-within}
+use Rattle.in_place_done.specs.Below.{CanSet, IsPlaceOf}
+use Rattle.in_place_done.proofs.Below.{none-within}
 use Rattle.tree_model.proofs.NamesLaws.{is_shown}
 use Rattle.tree_model.specs.Hidden.{is_hidden, is_system}
 use Rattle.tree_model.specs.Reading.{node_at}
 use Rattle.tree_model.specs.declared.tree.Node.{Node}
-use Rattle.attribute_edits.specs.Attributes.{CanSet}
-use Rattle.tree_edit.specs.Staged.{IsOfDirectory, IsOfEdit, IsOfFile, IsOfNames, IsOfStreams, StagesFew}
+use Rattle.tree_edit.specs.Staged.{IsOfDirectory, IsOfFile, IsOfNames, IsOfStreams}
+use Rattle.stream_changes.specs.Staged.{StagesGiving}
 use Rattle.tree_edit.proofs.SettableLaws.{not-system}
 use Rattle.tree_ops.specs.Edits.{CanEdit, HasMark, IsPlaceBy, IsPlaced}
 use Rattle.tree_ops.specs.declared.place.MarkPlace.{MarkPlace}
@@ -144,9 +144,7 @@ shown-other v f n node at system same =
 -- THE EDIT CAN BE WRITTEN.
 module _ {D : Type 0} (g : Ghosts D) (old staged : Mft D g) (mark : Option Flag) (can : CanEdit g old mark) (most file : ℕ)
     (settable : IsTrue (view g old).told → (node : Node) × CanSet (view g old) file node) (place : MarkPlace) (placed : IsPlaced g old mark place)
-    (keeps : KeepsDisk g old staged) (stages : IsTrue (view g old).told
-    → StagesFew g (most + 12 * length (names_of (records_of (view g old)) file))
-    (IsOfEdit (view g old) file (names_of (records_of (view g old)) file)) old staged) where
+    (keeps : KeepsDevice g old staged) (stages : IsTrue (view g old).told → StagesGiving g most file (view g old) old staged) where
   abbrev v : VolumeView
   v = view g old
 
@@ -174,13 +172,15 @@ module _ {D : Type 0} (g : Ghosts D) (old staged : Mft D g) (mark : Option Flag)
 
     staged-apart : (sector : ℕ) → Contains (places g (stage_of g staged)) sector
         → IsApartFrom v sound lies place.flag there spans sector
-    staged-apart sector has = elim ((stages told).only sector has) [
+    staged-apart sector has = elim ((stages told).stages.only sector has) [
       | inl before ↦ absurd (Contains-nil sector (subst (λ xs. Contains xs sector) can.clear.plain before))
-      | inr (inl stream) ↦ stream-apart v sound lies place.flag there spans are file sector
+      | inr (inl bits) ↦ stream-apart v sound lies place.flag there spans are CLUSTER_BITMAP sector (λ e. omega (arith, e))
+          (λ e. omega (arith, e)) (λ e. omega (arith, e)) ([], bits.0, bits.1, bits.2)
+      | inr (inr (inl stream)) ↦ stream-apart v sound lies place.flag there spans are file sector
           (shown-other v file MFT (settable told).0 set.there refl) (shown-other v file MFT_MIRROR (settable told).0 set.there refl)
           (shown-other v file LOG_FILE (settable told).0 set.there refl) stream
-      | inr (inr (inl of_file)) ↦ file-apart v sound lies place.flag there spans are file sector set.other of_file
-      | inr (inr (inr names)) ↦
+      | inr (inr (inr (inl of_file))) ↦ file-apart v sound lies place.flag there spans are file sector set.other of_file
+      | inr (inr (inr (inr names))) ↦
           names-apart v sound lies place.flag there spans are (names_of (records_of v) file) sector set.elsewhere names
     ]
 

@@ -10,7 +10,8 @@ use Rattle.tree_model.specs.Facts.{TellsFacts, is_whole_table}
 use Rattle.tree_model.specs.Paths.{and_then, found_file, resolve}
 use Rattle.tree_model.specs.Reading.{read}
 use Rattle.tree_model.specs.Refusals.{Facts, outcome, refusal, unless}
-use Rattle.tree_model.specs.Staging.{cannot_edit, is_done_in_place}
+use Rattle.tree_model.specs.Staging.{cannot_edit}
+use Rattle.tree_model.specs.Ways.{is_done_in_place}
 use Rattle.tree_model.specs.Step.{due}
 use Rattle.tree_model.specs.Subjects.{Located, Machine, at_found, is_directory, locate, stream_name, subject_of, with_stream}
 use Rattle.tree_model.specs.declared.command.Command.{Command}

@@ -1,9 +1,10 @@
--- WHAT IS DUE FOR `rmstream`: where the stream that its path leads to is a value of a file without an attribute list it is done, and else
--- refused so.
+-- WHAT IS DUE FOR `rmstream`: where the stream that its path leads to is a value of a file without an attribute list, or lies in clusters in
+-- one part, it is done, and else refused so.
 use Rattle.std.proofs.Common.{◌≡◌, ◌==◌, ◌&&◌, ◌||◌, ℕ, Bool, true, false, List, not, length, None, Ok, Err}
-use Rattle.std.proofs.Common.{refl, ap, ◌∙◌, arith}
+use Rattle.std.proofs.Common.{inl, inr, refl, ap, ◌∙◌, arith}
 use Rattle.std.specs.Prelude.{is_some}
-use Rattle.std.proofs.lemmas.Bool.{and_parts}
+use Rattle.std.proofs.lemmas.Bool.{and_parts, or_cases}
+use Rattle.volume_def.specs.Values.{first_part}
 use Rattle.volume_def.specs.View.{VolumeView}
 use Rattle.tree_model.specs.Cases.{shared}
 use Rattle.tree_model.specs.Effects.{opens_after}
@@ -11,7 +12,8 @@ use Rattle.tree_model.specs.Facts.{TellsFacts, is_whole_table}
 use Rattle.tree_model.specs.Paths.{and_then, found_file, resolve}
 use Rattle.tree_model.specs.Reading.{read}
 use Rattle.tree_model.specs.Refusals.{Facts, outcome, refusal, unless}
-use Rattle.tree_model.specs.Staging.{cannot_edit, has_no_list}
+use Rattle.tree_model.specs.Staging.{cannot_edit}
+use Rattle.tree_model.specs.Ways.{has_no_list, has_placed_bits, in_extent}
 use Rattle.tree_model.specs.Step.{due}
 use Rattle.tree_model.specs.StreamRoom.{stream_parts, stream_value}
 use Rattle.tree_model.specs.Subjects.{Located, Machine, at_found, is_directory, locate, subject_of, with_stream}
@@ -20,8 +22,8 @@ use Rattle.tree_model.specs.declared.command.Command.TheVariants as c
 use Rattle.tree_model.specs.declared.opens.OpenEntry.{OpenEntry}
 use Rattle.tree_model.specs.declared.reply.No.{No}
 use Rattle.tree_model.specs.declared.tree.Found.{Found}
-use Rattle.value_owed.proofs.ValueCommands.{value-room}
-use Rattle.tree_edit.specs.Alone.{can_drop, drop_in, drop_wanted}
+use Rattle.in_place_done.proofs.Below.{value-room}
+use Rattle.tree_edit.specs.Alone.{can_drop, can_give, drop_in, drop_wanted}
 use Rattle.tree_ops.specs.Edits.{EditsFound, stream_edit}
 use Rattle.tree_ops.specs.Wanted.{machine_on}
 use Rattle.tree_ops.specs.declared.streams.StreamEdit.TheVariants as s
@@ -29,16 +31,27 @@ use Rattle.tree_ops.proofs.EditBy.{IsEditBy, StagesFile}
 use Rattle.tree_ops.proofs.StreamBy.{FindsStream, edited-file, edited-so, edited-stream, stream-found, stream-refused, stream_of_found}
 use Rattle.tree_ops.proofs.Judged.{can-file, if_can, last-can, with_at}
 use Rattle.tree_ops.proofs.JudgedThere.{judge, judged, same-file}
-use Rattle.tree_ops.proofs.RoomAsked.{file-counted, value-there}
+use Rattle.tree_ops.proofs.RoomAsked.{extent-there, file-counted, value-there}
 
--- It is not built unless all of it holds.
-parted : (cannot value alone : Bool) → (cannot || not (value && alone)) ≡ not ((not cannot && value) && alone)
-parted true value alone = refl
-parted false value alone = refl
+-- It is not built unless it is done in one of both ways.
+parted : (cannot value alone extent one placed : Bool)
+    → (cannot || not ((value && alone) || (extent && (one && (alone && placed)))))
+    ≡ not (((not cannot && value) && alone) || ((not cannot && (extent && (one && alone))) && placed))
+parted true value alone extent one placed = refl
+parted false value alone false one placed = refl
+parted false value alone true false placed = refl
+parted false value alone true true placed = refl
 
 built-so : (cannot value alone : Bool) → ((not cannot && value) && alone) ≡ true → (value && alone) ≡ true
 built-so true value alone e = cc
 built-so false value alone e = e
+
+extent-so : (cannot extent one alone placed : Bool) → ((not cannot && (extent && (one && alone))) && placed) ≡ true
+    → (extent && (one && (alone && placed))) ≡ true
+extent-so true extent one alone placed e = cc
+extent-so false false one alone placed e = cc
+extent-so false true false alone placed e = cc
+extent-so false true true alone placed e = e
 
 module _ (facts : Facts) (view : VolumeView) (opens : List OpenEntry) (now session : ℕ) (path : List (List ℕ)) (name : List ℕ)
     (tells : TellsFacts view facts) where
@@ -54,8 +67,14 @@ module _ (facts : Facts) (view : VolumeView) (opens : List OpenEntry) (now sessi
   abbrev cannot : Found → Bool
   cannot found = cannot_edit (is_whole_table view) (read view) (found_file found)
 
+  abbrev goes : Found → Bool
+  goes found = can_drop view name (found_file found)
+
+  abbrev gives : Found → Bool
+  gives found = can_give view name (found_file found) && has_placed_bits view
+
   abbrev can : Found → Bool
-  can found = can_drop view name (found_file found)
+  can found = goes found || gives found
 
   abbrev dir : Found → Bool
   dir found = (length name == 0) && is_directory (at found).node
@@ -67,12 +86,26 @@ module _ (facts : Facts) (view : VolumeView) (opens : List OpenEntry) (now sessi
   abbrev alone : Found → Bool
   alone found = has_no_list view (found_file found)
 
+  -- .. or lies in clusters, in one part
+  abbrev extent : Found → Bool
+  extent found = in_extent (first_part (stream_parts view (read view) (at found)))
+
+  abbrev one : Found → Bool
+  one found = length (stream_parts view (read view) (at found)) == 1
+
   room : (found : Found) → can found ≡ true → facts.no_room m command (at found) ≡ None
-  room found is =
-      let built = built-so (cannot found) (value found) (alone found) is in
-      let there = value-there view (read view) (at found) (and_parts (value found) (alone found) built).0 in
-      tells.no_room m command (at found)
-      ∙ value-room view (read view) command (at found) refl refl (file-counted view (read view) (at found) refl there) there built
+  room found is = elim (or_cases (goes found) (gives found) is) [
+    | inl goes ↦
+        let built = built-so (cannot found) (value found) (alone found) goes in
+        let there = value-there view (read view) (at found) (and_parts (value found) (alone found) built).0 in
+        tells.no_room m command (at found)
+        ∙ value-room view (read view) command (at found) refl refl (file-counted view (read view) (at found) refl there) there (inl built)
+    | inr gives ↦
+        let built = extent-so (cannot found) (extent found) (one found) (alone found) (has_placed_bits view) gives in
+        let there = extent-there view (read view) (at found) (and_parts (extent found) _ built).0 in
+        tells.no_room m command (at found)
+        ∙ value-room view (read view) command (at found) refl refl (file-counted view (read view) (at found) refl there) there (inr built)
+  ]
 
   -- the refusal that is due; nothing is too big
   refusal-is : (found : Found) → refusal facts m session command (subject_of command) (at found)
@@ -83,7 +116,7 @@ module _ (facts : Facts) (view : VolumeView) (opens : List OpenEntry) (now sessi
       let both : (cannot_edit facts.whole_table (read view) (found_file found) || not (facts.built_for m command (at found)))
       ≡ not (can found) =
       ap (λ b. cannot_edit b (read view) (found_file found) || not (facts.built_for m command (at found))) w
-      ∙ ap (λ b. cannot found || not b) o ∙ parted (cannot found) (value found) (alone found) in
+      ∙ ap (λ b. cannot found || not b) o ∙ parted (cannot found) (value found) (alone found) (extent found) (one found) (has_placed_bits view) in
       ap (λ b. judge (at found).content (dir found) false (shared m command (at found)) b (facts.no_room m command (at found))) both
 
   outcome-is : (found : Found) → resolve (read view) path ≡ Ok found

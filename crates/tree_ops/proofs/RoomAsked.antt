@@ -2,11 +2,13 @@
 use Rattle.std.proofs.Common.{◌≡◌, ◌<◌, ℕ, Bool, true, false, List, [], Option, Some, None, refl, subst}
 use Rattle.std.specs.Prelude.{IsSome, if◌then◌else◌, is_some, option_and_then, option_map}
 use Rattle.std.specs.Option.{option_map_or}
+use Rattle.volume_def.specs.Values.{first_part}
 use Rattle.volume_def.specs.View.{VolumeView}
 use Rattle.tree_model.specs.Reading.{read}
 use Rattle.tree_model.specs.StreamRoom.{parts_named, stream_parts, stream_value}
 use Rattle.tree_model.specs.Subjects.{Located, content_named}
 use Rattle.tree_model.specs.Tree.{Tree, node_of, sought_stream}
+use Rattle.tree_model.specs.Ways.{in_extent}
 use Rattle.tree_model.specs.declared.reply.No.{No}
 use Rattle.tree_model.specs.declared.tree.Node.{Node}
 use Rattle.tree_model.specs.declared.tree.Stream.{Stream}
@@ -20,6 +22,16 @@ module _ (view : VolumeView) (tree : Tree) (at : Located) where
     where
       by : (o : Option Stream)
           → is_some (stream_value (option_map_or (λ (stream : Stream). parts_named view at.file stream.name) o [])) ≡ true
+          → is_some (option_map (λ (stream : Stream). stream.content) o) ≡ true
+      by None e = cc
+      by (Some stream) e = refl
+
+  -- .. and so is one that lies in clusters
+  pub extent-there : in_extent (first_part (stream_parts view tree at)) ≡ true → is_some (content_named tree at.stream at.node) ≡ true
+  extent-there is = by (option_and_then (λ (node : Node). sought_stream tree.fold node.streams at.stream) at.node) is
+    where
+      by : (o : Option Stream)
+          → in_extent (first_part (option_map_or (λ (stream : Stream). parts_named view at.file stream.name) o [])) ≡ true
           → is_some (option_map (λ (stream : Stream). stream.content) o) ≡ true
       by None e = cc
       by (Some stream) e = refl

@@ -22,7 +22,7 @@ use Rattle.tree_model.specs.declared.tree.Found.{Found}
 use Rattle.tree_model.proofs.LookLaws.{find-never}
 use Rattle.in_place_owed.proofs.EmptyBill.{has-room}
 use Rattle.tree_edit.specs.Settable.{settable}
-use Rattle.attribute_edits.specs.Attributes.{CanSet, SetsAttributes}
+use Rattle.in_place_done.specs.Below.{CanSet, SetsAttributes}
 use Rattle.tree_ops.specs.Edits.{setattr_edit}
 use Rattle.tree_ops.specs.Wanted.{machine_on}
 use Rattle.tree_ops.proofs.EditBy.{IsEditBy, LeadsToFile}

@@ -13,7 +13,8 @@ use Rattle.tree_model.specs.Facts.{TellsDescriptor, TellsFacts, is_whole_table}
 use Rattle.tree_model.specs.Paths.{and_then, found_file, resolve}
 use Rattle.tree_model.specs.Reading.{read}
 use Rattle.tree_model.specs.Refusals.{Facts, first_some, outcome, refusal, unless, when}
-use Rattle.tree_model.specs.Staging.{cannot_edit, has_place_for_id}
+use Rattle.tree_model.specs.Staging.{cannot_edit}
+use Rattle.tree_model.specs.Ways.{has_place_for_id}
 use Rattle.tree_model.specs.Step.{answered, due}
 use Rattle.tree_model.specs.Subjects.{Located, Machine, at_found, locate, subject_of}
 use Rattle.tree_model.specs.declared.command.Command.{Command}
@@ -29,7 +30,7 @@ use Rattle.tree_model.proofs.LookLaws.{find-never}
 use Rattle.view_index.specs.Security.{TellsWhether}
 use Rattle.in_place_owed.proofs.EmptyBill.{has-room}
 use Rattle.tree_edit.specs.Securable.{secure_in, secure_wanted}
-use Rattle.attribute_edits.specs.Attributes.{CanSet, SetsSecurity}
+use Rattle.in_place_done.specs.Below.{CanSet, SetsSecurity}
 use Rattle.tree_ops.specs.Edits.{setsec_edit}
 use Rattle.tree_ops.specs.Wanted.{machine_on}
 use Rattle.tree_ops.proofs.EditBy.{IsEditBy, LeadsToFile}

@@ -14,6 +14,8 @@ use Rattle.mft_table.specs.MirrorClusters.{IsMirrorInside}
 use Rattle.mft_table.specs.Mft.{MftReads, committed_of, is_mft_broken, mounted_of, stage_of, view}
 use Rattle.mft_table.specs.Mounted.{mounted_layout}
 use Rattle.index_store.specs.IndexBlocksMut.{KeepsDisk}
+use Rattle.stored_bits.specs.Given.{KeepsDevice}
+use Rattle.stream_changes.proofs.DeviceLaws.{device-of}
 use Rattle.tree_model.specs.Facts.{IsVolumeOf}
 use Rattle.tree_edit.proofs.ChainedLaws.{goes-reads, goes-then}
 use Rattle.tree_ops.specs.Edits.{CanEdit, HasMark, IsClear, IsMarkOf, MftStill}
@@ -55,7 +57,7 @@ still-then g a b c x y = record {
 }
 
 -- What was staged and discarded again, over a volume of which nothing was staged, leaves it so.
-module _ {D : Type 0} (g : Ghosts D) (old staged new : Mft D g) (clear : IsClear g old) (keeps : KeepsDisk g old staged)
+module _ {D : Type 0} (g : Ghosts D) (old staged new : Mft D g) (clear : IsClear g old) (keeps : KeepsDevice g old staged)
     (goes : GoesOn g (stage_of g staged) (stage_of g new)) (same : disk_of g (stage_of g new) ≡ disk_of g (stage_of g staged)) where
   discarded-goes : GoesOn g (stage_of g old) (stage_of g new)
   discarded-goes = record {
@@ -86,6 +88,14 @@ module _ {D : Type 0} (g : Ghosts D) (old staged new : Mft D g) (clear : IsClear
     image = shown ∙ keeps.now ∙ sym clear.tells;
     places = none ∙ sym clear.plain;
   }
+
+-- .. also where the tables were kept
+pub discarded-disk : {D : Type 0} (g : Ghosts D) (old staged new : Mft D g) → IsClear g old → KeepsDisk g old staged
+    → GoesOn g (stage_of g staged) (stage_of g new) → disk_of g (stage_of g new) ≡ disk_of g (stage_of g staged)
+    → image g (stage_of g new) ≡ g.now (disk_of g (stage_of g staged)) → places g (stage_of g new) ≡ []
+    → mounted_of g new ≡ committed_of g staged → committed_of g new ≡ committed_of g staged → is_mft_broken g new ≡ false
+    → MftStill g old new
+discarded-disk g old staged new clear keeps goes same = discarded-still g old staged new clear (device-of g old staged keeps) goes same
 
 module _ {D : Type 0} (g : Ghosts D) (old new : Mft D g) (still : MftStill g old new) where
   pub still-view : view g new ≡ view g old

@@ -14,7 +14,7 @@ use Rattle.tree_model.specs.declared.command.Command.{Command}
 use Rattle.tree_model.specs.declared.opens.OpenEntry.{OpenEntry}
 use Rattle.tree_model.specs.declared.reply.No.{No}
 use Rattle.tree_model.specs.declared.tree.Found.{Found}
-use Rattle.value_edits.specs.ValueEdits.{PutsStream}
+use Rattle.in_place_done.specs.Below.{PutsStream}
 use Rattle.in_place_done.specs.Written.{EditsStream, Stages}
 use Rattle.tree_ops.specs.Edits.{EditsFound, EditsSo, can_edit_so}
 use Rattle.tree_ops.specs.Wanted.{machine_on}

@@ -19,7 +19,7 @@ use Rattle.tree_model.specs.declared.tree.Stream.{Stream}
 use Rattle.edit_def.specs.Kept.{AreTellable, key_of, told_of}
 use Rattle.session_def.specs.Named.{spelt}
 use Rattle.stream_edits.specs.Streams.{IsThere}
-use Rattle.attribute_edits.specs.Attributes.{CanSet}
+use Rattle.in_place_done.specs.Below.{CanSet}
 use Rattle.tree_read.specs.Nodes.{number_of, parts_in}
 use Rattle.tree_edit.specs.Writable.{IsFoundToEdit}
 use Rattle.tree_edit.specs.declared.writable.Writable.{Writable}

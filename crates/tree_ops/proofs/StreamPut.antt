@@ -1,11 +1,10 @@
 -- AN EDIT OF A STREAM is what the call does that makes it, with the stream that was found.
-use Rattle.std.proofs.Common.{◌≡◌, ◌+◌, not, ℕ, List, Some, None, length, true, sym, subst}
+use Rattle.std.proofs.Common.{◌≡◌, ◌+◌, not, ℕ, List, Some, length, true, sym, subst}
 use Rattle.std.proofs.lemmas.Bool.{and_parts}
 use Rattle.std.specs.Prelude.{IsTrue}
 use Rattle.volume_def.specs.View.{VolumeView}
-use Rattle.tree_model.specs.Streams.{resized, written}
-use Rattle.stream_overwrites.specs.Overwritten.{PunchesValue, WritesOver}
-use Rattle.value_edits.specs.ValueEdits.{PutsStream}
+use Rattle.tree_model.specs.Streams.{written}
+use Rattle.in_place_done.specs.Below.{PunchesValue, PutsStream, WritesOver}
 use Rattle.tree_read.specs.Nodes.{IsCaseOf, number_of}
 use Rattle.tree_edit.specs.Change.{CanChange, has_room_for}
 use Rattle.tree_edit.specs.Over.{CanWriteOver}
@@ -16,10 +15,10 @@ use Rattle.tree_edit.specs.Write.{IsWritable, can_write}
 use Rattle.tree_edit.specs.declared.writable.Way.{Way}
 use Rattle.tree_edit.specs.declared.writable.Way.TheVariants as way
 use Rattle.tree_edit.specs.declared.writable.Writable.{Writable}
-use Rattle.tree_edit.proofs.ChangeLaws.{droppable-can, resizable-can}
 use Rattle.tree_edit.proofs.OverLaws.{found-over}
 use Rattle.tree_edit.proofs.PunchLaws.{punchable-can}
-use Rattle.tree_edit.proofs.ResizableRoom.{resizable-room}
+use Rattle.stream_changes.proofs.ResizableRoom.{resizable-room}
+use Rattle.stream_changes.proofs.ValueChanged.{droppable-can, resizable-can}
 use Rattle.tree_ops.specs.Edits.{EditsSo, IsFoundFor, WritesSo}
 use Rattle.tree_ops.specs.declared.streams.StreamEdit.{StreamEdit}
 use Rattle.tree_ops.specs.declared.streams.StreamEdit.TheVariants as s
@@ -43,6 +42,9 @@ module _ (v : VolumeView) (found : Writable) (name : List ℕ) (from len : ℕ) 
     tellable = w.tellable;
   }
 
+  pub not-extent : found.way ≡ way.InClusters → ⊥
+  not-extent so = let never = so-way way.InClusters so in cc
+
   value-found : found.way ≡ way.InRecord → IsResizable v found name (from + len)
   value-found so = record {
     settable = w.settable;
@@ -62,12 +64,6 @@ module _ (v new : VolumeView) (found : Writable) (number : ℕ) (is : number ≡
   pub punch-can : (from len : ℕ) → CanEditSo (s.Punch from len) → IsTrue v.told → CanPunch v found.stream number
   punch-can from len can told = let w = can told in subst (λ k. CanPunch v found.stream k) (sym is) (punchable-can v found w.0 w.1)
 
-  pub resize-can : (size : ℕ) → CanEditSo (s.Resize size) → IsTrue v.told → CanChange v found.stream number
-  resize-can size can told = let w = can told in subst (λ k. CanChange v found.stream k) (sym is) (resizable-can v found w.0 size w.1)
-
-  pub remove-can : CanEditSo s.Remove → IsTrue v.told → CanChange v found.stream number
-  remove-can can told = let w = can told in subst (λ k. CanChange v found.stream k) (sym is) (droppable-can v found w.0 w.1)
-
   module _ (times : List ℕ) where
     -- .. and was
     abbrev pub WasEditedSo : StreamEdit → Type 0
@@ -80,22 +76,6 @@ module _ (v new : VolumeView) (found : Writable) (number : ℕ) (is : number ≡
     punch-edits from len does told name can =
         subst (λ k. (can : CanPunch v found.stream k) → PunchesValue v new k can.name from len times found.flags) is (does told)
         (punchable-can v found name can)
-
-    pub resize-edits : (size : ℕ) → (IsTrue v.told → (can : CanChange v found.stream number)
-        → has_room_for v number found.stream.size size ≡ true
-        → PutsStream v new number can.value.name (Some (resized size can.value.held)) times found.flags) → WasEditedSo (s.Resize size)
-    unfolding punchable-can droppable-can resizable-can
-    resize-edits size does told name can =
-        subst (λ k. (can : CanChange v found.stream k) → has_room_for v k found.stream.size size ≡ true
-        → PutsStream v new k can.value.name (Some (resized size can.value.held)) times found.flags) is (does told)
-        (resizable-can v found name size can) (resizable-room v found name size can)
-
-    pub remove-edits : (IsTrue v.told → (can : CanChange v found.stream number)
-        → PutsStream v new number can.value.name None times found.flags) → WasEditedSo s.Remove
-    unfolding punchable-can droppable-can
-    remove-edits does told name can =
-        subst (λ k. (can : CanChange v found.stream k) → PutsStream v new k can.value.name None times found.flags) is (does told)
-        (droppable-can v found name can)
 
   -- A WRITE, over bytes in place, or into a value
   module _ (from : ℕ) (bytes : List ℕ) where
@@ -113,6 +93,18 @@ module _ (v new : VolumeView) (found : Writable) (number : ℕ) (is : number ≡
         let w = can told in
         subst (λ k. CanChange v found.stream k) (sym is)
         (resizable-can v found w.0 (from + length bytes) (value-found v found w.0 from (length bytes) w.1 so))
+
+    -- none is written so into a stream in clusters
+    pub never-extent : {P : Type 0} → found.way ≡ way.InClusters → CanWrite → IsTrue v.told → P
+    never-extent so can told = let w = can told in absurd (not-extent v found w.0 from (length bytes) w.1 so)
+
+    -- there is room for what goes into a value
+    pub value-room : found.way ≡ way.InRecord → (can : CanWrite) → IsTrue v.told
+        → has_room_for v number found.stream.size (from + length bytes) ≡ true
+    value-room so can told =
+        let w = can told in
+        subst (λ k. has_room_for v k found.stream.size (from + length bytes) ≡ true) (sym is)
+        (resizable-room v found w.0 (from + length bytes) (value-found v found w.0 from (length bytes) w.1 so))
 
     module _ (times : List ℕ) where
       abbrev pub WasWritten : Type 0

@@ -1,7 +1,7 @@
 -- WHAT IS DUE FOR `write`: where its bytes go over bytes of the stream that its path leads to, or that is a value which can be as long as they
 -- need, it is done, unless there is no room for what it asks, and else refused so.
 use Rattle.std.proofs.Common.{◌≡◌, ◌==◌, ◌&&◌, ◌||◌, ◌+◌, ℕ, Bool, true, false, List, not, length, Option, Some, None, Ok, Err}
-use Rattle.std.proofs.Common.{refl, sym, ap, subst, ◌∙◌, arith, if◌then◌else◌}
+use Rattle.std.proofs.Common.{inl, refl, sym, ap, subst, ◌∙◌, arith, if◌then◌else◌}
 use Rattle.std.specs.Borrow.{Bor}
 use Rattle.std.specs.Prelude.{is_some}
 use Rattle.std.proofs.lemmas.Bool.{and_parts}
@@ -15,7 +15,8 @@ use Rattle.tree_model.specs.Facts.{TellsFacts, is_whole_table}
 use Rattle.tree_model.specs.Paths.{and_then, found_file, resolve}
 use Rattle.tree_model.specs.Reading.{read}
 use Rattle.tree_model.specs.Refusals.{Facts, outcome, refusal, unless}
-use Rattle.tree_model.specs.Staging.{cannot_edit, fits_in_record, gets_no_longer, has_no_list}
+use Rattle.tree_model.specs.Staging.{cannot_edit}
+use Rattle.tree_model.specs.Ways.{fits_in_record, gets_no_longer, has_no_list}
 use Rattle.tree_model.specs.Step.{due}
 use Rattle.tree_model.specs.StreamRoom.{goes_over, stream_parts, stream_value}
 use Rattle.tree_model.specs.Streams.{written}
@@ -26,10 +27,10 @@ use Rattle.tree_model.specs.declared.command.Command.TheVariants as c
 use Rattle.tree_model.specs.declared.opens.OpenEntry.{OpenEntry}
 use Rattle.tree_model.specs.declared.reply.No.{No}
 use Rattle.tree_model.specs.declared.tree.Found.{Found}
-use Rattle.value_edits.specs.ValueEdits.{PutsStream}
+use Rattle.in_place_done.specs.Below.{PutsStream}
 use Rattle.in_place_owed.proofs.EmptyBill.{has-room}
 use Rattle.in_place_done.specs.Written.{PutsInStream}
-use Rattle.value_owed.proofs.ValueCommands.{value-room}
+use Rattle.in_place_done.proofs.Below.{value-room}
 use Rattle.tree_edit.specs.Alone.{can_resize}
 use Rattle.tree_edit.specs.Write.{can_write, room_to_write, write_in, write_wanted}
 use Rattle.tree_edit.specs.Writable.{can_write_over, named_in}
@@ -46,12 +47,16 @@ use Rattle.tree_ops.proofs.StreamBy.{FindsStream, edited-file, edited-so, edited
 use Rattle.tree_ops.proofs.StreamFound.{bytes-so, spelt-so, tellable-so, there-so}
 
 -- It is not built unless it is done in one of both ways.
+or-none : (b : Bool) → (b || false) ≡ b
+or-none true = refl
+or-none false = refl
+
 pub parted : (cannot over value alone fits : Bool)
-    → (cannot || not (over || (not over && ((value && alone) && fits))))
+    → (cannot || not (over || ((not over && ((value && alone) && fits)) || false)))
     ≡ not ((not cannot && over) || (((not cannot && value) && alone) && fits))
 parted true over value alone fits = refl
 parted false true value alone fits = refl
-parted false false value alone fits = refl
+parted false false value alone fits = ap not (or-none ((value && alone) && fits))
 
 pub record-so : (cannot over value alone fits : Bool) → (not cannot && over) ≡ false → (((not cannot && value) && alone) && fits) ≡ true
     → (not over && ((value && alone) && fits)) ≡ true
@@ -124,7 +129,7 @@ module _ (facts : Facts) (view : VolumeView) (opens : List OpenEntry) (now sessi
       let both = (and_parts (value found && alone found) (fits found) stays).0 in
       let there = value-there view (read view) (at found) (and_parts (value found) (alone found) both).0 in
       tells.no_room m command (at found)
-      ∙ value-room view (read view) command (at found) refl refl (file-counted view (read view) (at found) refl there) there built
+      ∙ value-room view (read view) command (at found) refl refl (file-counted view (read view) (at found) refl there) there (inl built)
 
   -- the refusal that is due
   refusal-is : (found : Found) → refusal facts m session command (subject_of command) (at found)
@@ -237,6 +242,7 @@ module _ (view new : VolumeView) (file : ℕ) (asked : List ℕ) (from : ℕ) (b
             (ap over_by parts-same ∙ none-over cannot_so (over_by there) (is_some (stream_value there)) (has_no_list view number)
             (gets_no_longer (from + length bytes.now) (content_named (read view) asked (node_of (read view) number))
             || fits_in_record view number there (from + length bytes.now)) can) puts
+        by way.InClusters e can puts = cc
 
 -- IT IS THAT OF THE COMMAND
 pub write-by : (opens : List OpenEntry) (now session : ℕ) (path : List (List ℕ)) (stream : Option (List ℕ)) (from : ℕ)

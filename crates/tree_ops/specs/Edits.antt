@@ -1,14 +1,11 @@
 -- WHICH EDITS ARE BUILT, when one can be done on a volume, and what it leaves of the table of records and of its disk.
-use Rattle.std.specs.Prelude.{◌≡◌, ◌⊎◌, ◌+◌, ◌*◌, ◌/◌, ◌^◌, ◌≤◌, ◌&&◌, ℕ, true, false, find, All, Bool, IfSome, IsTrue, List, []}
+use Rattle.std.specs.Prelude.{◌≡◌, ◌⊎◌, ◌+◌, ◌/◌, ◌^◌, ◌≤◌, ◌&&◌, ℕ, true, false, find, All, Bool, IfSome, IsTrue, List, []}
 use Rattle.std.specs.Prelude.{Option, None, Some, Result}
 use Rattle.std.specs.Prelude.{Ok, Err}
 use Rattle.std.specs.Prelude.{length, slice_set}
 use Rattle.vol_disk.specs.Contents.{IsTold, WhereTold, sector_in}
 use Rattle.vol_disk.specs.declared.Disk.{Ghosts}
 use Rattle.vol_stage.specs.Staged.{GoesOn, disk_of, image, places}
-use Rattle.ntfs_def.specs.FileName.{FileName}
-use Rattle.volume_def.specs.FileNames.{names_of}
-use Rattle.volume_def.specs.Files.{records_of}
 use Rattle.volume_def.specs.View.{VolumeView}
 use Rattle.mark_write.specs.Finish.{Finishes}
 use Rattle.mark_write.specs.Flags.{IsCopySet, IsSafe, IsSet, LiesAt}
@@ -19,6 +16,7 @@ use Rattle.mft_table.specs.InUse.{IsInUse}
 use Rattle.mft_table.specs.MirrorClusters.{IsMirrorInside}
 use Rattle.mft_table.specs.Mft.{committed_of, is_mft_broken, mounted_of, stage_of, view}
 use Rattle.index_store.specs.IndexBlocksMut.{KeepsDisk}
+use Rattle.stored_bits.specs.Given.{KeepsDevice}
 use Rattle.mark_place.specs.LogSpans.{AreLogSpans, log_sectors}
 use Rattle.tree_model.specs.Facts.{IsVolumeOf, is_whole_table}
 use Rattle.tree_model.specs.Opens.{contains, is_handle, to_write}
@@ -32,16 +30,15 @@ use Rattle.tree_model.specs.declared.reply.No.{No}
 use Rattle.tree_model.specs.declared.reply.No.TheVariants as no
 use Rattle.session_def.specs.Done.{HasEmptyLog}
 use Rattle.volume_mark.specs.Mark.{IsFlagOf}
-use Rattle.attribute_edits.specs.Attributes.{SetsAttributes, SetsSecurity}
-use Rattle.stream_overwrites.specs.Overwritten.{PunchesValue, WritesOver}
-use Rattle.value_edits.specs.ValueEdits.{PutsStream}
+use Rattle.in_place_done.specs.Below.{PunchesValue, PutsStream, SetsAttributes, SetsSecurity, WritesOver}
 use Rattle.tree_read.specs.declared.stop.Stop.{Stop}
 use Rattle.tree_read.specs.declared.stop.Stop.TheVariants as stop
-use Rattle.tree_edit.specs.Alone.{can_drop, can_resize, drop_wanted, resize_wanted}
+use Rattle.tree_edit.specs.Alone.{can_get, can_go, drop_wanted, resize_wanted}
 use Rattle.tree_edit.specs.Punchable.{can_punch, punch_wanted}
 use Rattle.tree_edit.specs.Securable.{IsSecurable, secure_wanted}
 use Rattle.tree_edit.specs.Settable.{IsSettable, settable}
-use Rattle.tree_edit.specs.Staged.{IsOfEdit, StagesFew}
+use Rattle.tree_edit.specs.Staged.{TellsStored}
+use Rattle.stream_changes.specs.Staged.{StagesGiving}
 use Rattle.tree_edit.specs.Writable.{IsFoundToEdit}
 use Rattle.tree_edit.specs.Write.{can_write, hwrite_wanted, write_wanted}
 use Rattle.tree_edit.specs.declared.securable.Securable.{Securable}
@@ -129,7 +126,7 @@ pub record IsWritten {D : Type 0} (g : Ghosts D) (place : MarkPlace) (old new : 
   pub committed : committed_of g new ≡ mounted_of g old
 
 -- WHAT AN EDIT IS of a volume: the number of the file that it finds, or the refusal; what it does to that file; and how many sectors it
--- stages at most, beside twelve for each name of the file.
+-- stages at most, beside twelve for each name of the file and two for each cluster that is given back.
 pub record EditOf : Type 1 where
   pub wanted : VolumeView → Result ℕ No
   pub Does : VolumeView → VolumeView → ℕ → Type 0
@@ -160,8 +157,8 @@ stream_command s.Remove path stream = c.Rmstream path (stream_name stream)
 abbrev pub can_edit_so : StreamEdit → VolumeView → List ℕ → Way → ℕ → Bool
 can_edit_so (s.Write from bytes) view name way file = can_write view name from (length bytes.now) way file
 can_edit_so (s.Punch from len) view name way file = can_punch view name file
-can_edit_so (s.Resize size) view name way file = can_resize view name size file
-can_edit_so s.Remove view name way file = can_drop view name file
+can_edit_so (s.Resize size) view name way file = can_get view name size way file
+can_edit_so s.Remove view name way file = can_go view name way file
 
 abbrev pub stream_wanted : StreamEdit → VolumeView → List OpenEntry → List (List ℕ) → List ℕ → Result ℕ No
 stream_wanted (s.Write from bytes) view opens path name = write_wanted view opens path name from (length bytes.now)
@@ -184,7 +181,7 @@ IsFoundFor what view found name = IsFoundToEdit view found name (λ file. can_ed
 -- stream, a value, has other bytes; zeros went over those in the range; it has another length; or it is gone.
 abbrev pub WritesSo : Way → ℕ → List ℕ → VolumeView → VolumeView → ℕ → List ℕ → List ℕ → List ℕ → ℕ → Type 0
 WritesSo way.InPlace from bytes old new file name was times flags = WritesOver old new file name from bytes times flags
-WritesSo way.InRecord from bytes old new file name was times flags = PutsStream old new file name (Some (written from bytes was)) times flags
+WritesSo other from bytes old new file name was times flags = PutsStream old new file name (Some (written from bytes was)) times flags
 
 abbrev pub EditsSo : StreamEdit → Way → VolumeView → VolumeView → ℕ → List ℕ → List ℕ → List ℕ → ℕ → Type 0
 EditsSo (s.Write from bytes) way old new file name was times flags = WritesSo way from bytes.now old new file name was times flags
@@ -208,8 +205,8 @@ abbrev pub most_for : StreamEdit → ℕ
 most_for (s.Write from bytes) = most_of_value + length bytes.now / 512
 most_for other = most_of_value
 
-abbrev pub StagesSo : {D : Type 0} (g : Ghosts D) → StreamEdit → ℕ → List FileName → Mft D g → Mft D g → Type 0
-StagesSo g what f names old new = StagesFew g (most_for what + 12 * length names) (IsOfEdit (view g old) f names) old new
+abbrev pub StagesSo : {D : Type 0} (g : Ghosts D) → StreamEdit → ℕ → Mft D g → Mft D g → Type 0
+StagesSo g what f old new = StagesGiving g (most_for what) f (view g old) old new
 
 abbrev pub stream_edit : StreamEdit → List OpenEntry → List (List ℕ) → List ℕ → ℕ → EditOf
 stream_edit what opens path name moment = record {
@@ -266,16 +263,16 @@ pub record EditsFile {D : Type 0} (g : Ghosts D) (old new : Mft D g) (mark : Opt
   pub place : MarkPlace
   pub placed : IsPlaced g old mark place
   pub staged : Mft D g
-  pub keeps : KeepsDisk g old staged
+  pub keeps : KeepsDevice g old staged
+  pub tables : TellsStored g staged
   pub does : IsTrue (view g old).told → edit.Does (view g old) (view g staged) file
-  pub few : IsTrue (view g old).told
-      → length (places g (stage_of g staged)) ≤ edit.most + 12 * length (names_of (records_of (view g old)) file)
+  pub few : IsTrue (view g old).told → StagesGiving g edit.most file (view g old) old staged
   pub finishes : Finishes g place.flag place.marked place.spans.items (stage_of g staged) (stage_of g new)
   pub goes_on : GoesOn g (stage_of g staged) (stage_of g new)
   pub written : g.written (disk_of g (stage_of g new))
       ≤ g.written (disk_of g (stage_of g old)) + 2 + span_sectors place.spans.items + length (places g (stage_of g staged))
-  pub mounted : mounted_of g new ≡ mounted_of g old
-  pub committed : committed_of g new ≡ mounted_of g old
+  pub mounted : mounted_of g new ≡ mounted_of g staged
+  pub committed : committed_of g new ≡ mounted_of g staged
 
 -- The disk failed in the writing: the volume is marked, or as it was but for the mark. The edit was one that is due.
 pub record FailsWriting {D : Type 0} (g : Ghosts D) (old new : Mft D g) (mark : Option Flag) (edit : EditOf) : Type 0 where

@@ -4,3 +4,4 @@ pub mod Volumes
 pub mod Runs
 pub mod Serves
 pub mod Replies
+pub mod Below

@@ -11,12 +11,12 @@ ghost use Rattle.mft_table.specs.MirrorClusters.{IsMirrorInside};
 ghost use Rattle.index_store.specs.IndexBlocksMut.{KeepsDisk};
 ghost use Rattle.tree_model.specs.Refusals.{is_edit};
 ghost use Rattle.tree_model.specs.Staging.{is_built};
-ghost use Rattle.attribute_edits.specs.Attributes.{SetsAttributes};
+ghost use Rattle.in_place_done.specs.Below.{SetsAttributes};
 ghost use Rattle.tree_read.specs.Answered.{Counts, IsFailed};
 ghost use Rattle.tree_read.specs.Standings.{IsStanding};
 ghost use Rattle.tree_read.specs.declared.stop.Stop.TheVariants as stop;
 ghost use Rattle.tree_edit.specs.Settable.{IsSettable};
-ghost use Rattle.tree_edit.specs.Staged.{StagesAttributes};
+ghost use Rattle.tree_edit.specs.Staged.{StagesAttributes, TellsStored};
 ghost use Rattle.tree_ops.specs.Edits.{CanEdit, EndsAs, IsClear, IsWritten, MftStill, command_of, setattr_edit};
 
 use crate::place::{MarkPlace, mark_place};
@@ -50,7 +50,7 @@ pub enum Edit<'c> {
         at: u64,
         bytes: &'c Octets,
     },
-    /// A stream that is a value gets so many bytes.
+    /// A stream gets so many bytes.
     Truncate {
         path: &'c Path,
         stream: &'c Option<Name>,
@@ -63,7 +63,7 @@ pub enum Edit<'c> {
         at: u64,
         len: u64,
     },
-    /// A stream that is a value goes.
+    /// A stream goes.
     Rmstream {
         path: &'c Path,
         name: &'c Name,
@@ -143,6 +143,7 @@ fn stage<D: Disk>(
         found.now.number (slice_set found.now.times 2 moment) flags) }
     ensures places { OnOk result (IsTrue (view D.Disk mft.old).told → StagesAttributes D.Disk found.now.number
         (names_of (records_of (view D.Disk mft.old)) found.now.number) mft.old mft.new) }
+    ensures tables { OnOk result (TellsStored D.Disk mft.new) }
     ensures disk { OnOk result (KeepsDisk D.Disk mft.old mft.new) }
     ensures still { OnErr result (MftStill D.Disk mft.old mft.new) }
     ensures counts { Counts result (faults_of D.Disk mft.old) (faults_of D.Disk mft.new) }

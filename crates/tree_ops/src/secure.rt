@@ -10,6 +10,7 @@ ghost use Rattle.index_store.specs.IndexBlocksMut.{KeepsDisk};
 ghost use Rattle.tree_read.specs.Answered.{Counts, IsFailed};
 ghost use Rattle.tree_read.specs.Standings.{IsStanding};
 ghost use Rattle.tree_edit.specs.Securable.{IsSecurable};
+ghost use Rattle.tree_edit.specs.Staged.{TellsStored};
 ghost use Rattle.tree_edit.specs.Values.{StagesValue};
 ghost use Rattle.view_index.specs.Security.{TellsWhether};
 ghost use Rattle.tree_ops.specs.Edits.{CanEdit, EndsAs, IsClear, MftStill, SecuresFound, setsec_edit};
@@ -42,6 +43,7 @@ fn stage_security<D: Disk>(
         → SecuresFound (view D.Disk mft.old) (view D.Disk mft.new) found.now.number id moment) }
     ensures places { OnOk result (IsTrue (view D.Disk mft.old).told → StagesValue D.Disk found.now.number
         (names_of (records_of (view D.Disk mft.old)) found.now.number) mft.old mft.new) }
+    ensures tables { OnOk result (TellsStored D.Disk mft.new) }
     ensures disk { OnOk result (KeepsDisk D.Disk mft.old mft.new) }
     ensures still { OnErr result (MftStill D.Disk mft.old mft.new) }
     ensures counts { Counts result (faults_of D.Disk mft.old) (faults_of D.Disk mft.new) }

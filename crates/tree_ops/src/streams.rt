@@ -8,14 +8,14 @@ ghost use Rattle.mft_table.specs.InUse.{IsInUse};
 ghost use Rattle.mft_table.specs.Mft.{faults_of, is_mft_broken, mounted_of, stage_of, view};
 ghost use Rattle.mft_table.specs.MirrorClusters.{IsMirrorInside};
 ghost use Rattle.file_record.specs.FileNos.{CountsNo, IsReadNo};
-ghost use Rattle.index_store.specs.IndexBlocksMut.{KeepsDisk};
+ghost use Rattle.stored_bits.specs.Given.{KeepsDevice};
 ghost use Rattle.tree_model.specs.Facts.{IsVolumeOf};
 ghost use Rattle.tree_model.specs.Reading.{read};
 ghost use Rattle.tree_model.specs.Tree.{node_of};
 ghost use Rattle.tree_read.specs.Answered.{Answered, Counts, IsFailed, with_ok};
 ghost use Rattle.tree_read.specs.Nodes.{number_of, parts_in};
 ghost use Rattle.tree_read.specs.Standings.{IsStanding};
-ghost use Rattle.tree_edit.specs.Staged.{IsOfEdit, StagesFew};
+ghost use Rattle.tree_edit.specs.Staged.{IsOfEdit, StagesFew, TellsStored};
 ghost use Rattle.tree_edit.specs.Write.{IsWritable};
 ghost use Rattle.tree_ops.specs.Edits.{CanEdit, EditsFound, EditsSo, EndsAs, IsClear, IsFoundFor, IsNear, MftStill, StagesSo, WritesSo};
 ghost use Rattle.tree_ops.specs.Edits.{hwrite_edit, stream_edit, stream_wanted};
@@ -28,9 +28,10 @@ use mark_write::Flag;
 use mft_table::Mft;
 use share_table::Opens;
 use std::alloc::Global;
+use stream_changes::{remove_stream, resize_stream, write_value};
 use tree_edit::{
-    Way, Writable, drop_value, find_punchable, find_to_drop, find_to_resize, find_writable,
-    find_writable_through, punch_value, resize_value, write_over, write_value,
+    Way, Writable, find_punchable, find_to_drop, find_to_resize, find_writable,
+    find_writable_through, punch_value, write_over,
 };
 use tree_model::{Access, No, Path};
 use tree_read::{Standing, Stop};
@@ -117,7 +118,8 @@ fn write_stream<D: Disk>(
         (8 + length bytes.now / 512 + 12 * length (names_of (records_of (view D.Disk mft.old)) (number_of found.now.held)))
         (IsOfEdit (view D.Disk mft.old) (number_of found.now.held)
         (names_of (records_of (view D.Disk mft.old)) (number_of found.now.held))) mft.old mft.new }
-    ensures disk { KeepsDisk D.Disk mft.old mft.new }
+    ensures tables { OnOk result (TellsStored D.Disk mft.new) }
+    ensures device { KeepsDevice D.Disk mft.old mft.new }
     ensures err { IfErr result IsReadNo }
     ensures faults { MatchResult result (λ _. faults_of D.Disk mft.new ≡ faults_of D.Disk mft.old)
         (CountsNo (faults_of D.Disk mft.old) (faults_of D.Disk mft.new)) }
@@ -137,6 +139,8 @@ fn write_stream<D: Disk>(
             bytes,
         ),
         Way::InRecord => write_value(alloc, mft, stream, number, from, bytes, times, found.flags),
+        // No bytes are written so yet.
+        Way::InClusters => Ok(()),
     }
 }
 
@@ -159,9 +163,10 @@ fn put_stream<D: Disk>(
         → (can : IsFoundFor what.entry (view D.Disk mft.old) found.now name)
         → EditsSo what.entry found.now.way (view D.Disk mft.old) (view D.Disk mft.new) (number_of found.now.held) can.stream.is.part.name
         can.stream.bytes times.now found.now.flags) }
-    ensures places { IsTrue (view D.Disk mft.old).told → StagesSo D.Disk what.entry (number_of found.now.held)
-        (names_of (records_of (view D.Disk mft.old)) (number_of found.now.held)) mft.old mft.new }
-    ensures disk { KeepsDisk D.Disk mft.old mft.new }
+    ensures places { OnOk result (IsTrue (view D.Disk mft.old).told → StagesSo D.Disk what.entry (number_of found.now.held) mft.old
+        mft.new) }
+    ensures tables { OnOk result (TellsStored D.Disk mft.new) }
+    ensures device { KeepsDevice D.Disk mft.old mft.new }
     ensures err { IfErr result IsReadNo }
     ensures faults { MatchResult result (λ _. faults_of D.Disk mft.new ≡ faults_of D.Disk mft.old)
         (CountsNo (faults_of D.Disk mft.old) (faults_of D.Disk mft.new)) }
@@ -175,10 +180,8 @@ fn put_stream<D: Disk>(
         StreamEdit::Punch { from, len } => {
             punch_value(alloc, mft, stream, number, times, found.flags, from, len)
         }
-        StreamEdit::Resize { size } => {
-            resize_value(alloc, mft, stream, number, size, times, found.flags)
-        }
-        StreamEdit::Remove => drop_value(alloc, mft, stream, number, times, found.flags),
+        StreamEdit::Resize { size } => resize_stream(alloc, mft, found, size, times),
+        StreamEdit::Remove => remove_stream(alloc, mft, found, times),
     }
 }
 
@@ -201,9 +204,10 @@ fn stage_stream<D: Disk>(
     ensures edits { OnOk result (IsTrue (view D.Disk mft.old).told → (name : List ℕ)
         → IsFoundFor what.entry (view D.Disk mft.old) found.now name
         → EditsFound what.entry (view D.Disk mft.old) (view D.Disk mft.new) (number_of found.now.held) name moment) }
-    ensures places { OnOk result (IsTrue (view D.Disk mft.old).told → StagesSo D.Disk what.entry (number_of found.now.held)
-        (names_of (records_of (view D.Disk mft.old)) (number_of found.now.held)) mft.old mft.new) }
-    ensures disk { OnOk result (KeepsDisk D.Disk mft.old mft.new) }
+    ensures places { OnOk result (IsTrue (view D.Disk mft.old).told → StagesSo D.Disk what.entry (number_of found.now.held) mft.old
+        mft.new) }
+    ensures tables { OnOk result (TellsStored D.Disk mft.new) }
+    ensures device { OnOk result (KeepsDevice D.Disk mft.old mft.new) }
     ensures still { OnErr result (MftStill D.Disk mft.old mft.new) }
     ensures counts { Counts result (faults_of D.Disk mft.old) (faults_of D.Disk mft.new) }
     ensures failed { IfErr result IsFailed }

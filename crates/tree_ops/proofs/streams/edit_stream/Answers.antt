@@ -36,7 +36,7 @@ finish-requires g c =
           can-finish g.D.Disk old c.stage_stream.new.mft c.args.mark.now c.requires.can (most_for c.args.what) (number_of found.held)
           (λ told. let set = (c.in_ok-found.ensures.can told).settable in (set.can.node, set.can.can)) c.in_ok-place.place
           (placed-back g.D.Disk old c.find_stream.new.mft one c.args.mark.now c.in_ok-place.place c.in_ok-place.ensures.placed)
-          (all-keeps g.D.Disk old mid both c.stage_stream.new.mft c.in_ok-stage_stream.ensures.disk)
+          (all-keeps g.D.Disk old mid both c.stage_stream.new.mft c.in_ok-stage_stream.ensures.device)
           (stages-back g.D.Disk old mid both (most_for c.args.what) (number_of found.held) c.stage_stream.new.mft
           c.in_ok-stage_stream.ensures.places);
     }
@@ -50,7 +50,7 @@ returns-clause-ends g c =
     let two = reads-still g.D.Disk c.find_stream.new.mft mid c.mark_place.ensures.reads.0 c.mark_place.ensures.reads.1 in
     let both = still-then g.D.Disk old c.find_stream.new.mft mid one two in
     ended g.D.Disk old mid both (stream_edit c.args.what c.args.opens.now c.args.path.now c.args.name.now c.args.moment)
-    (number_of found.held) c.stage_stream.new.mft c.in_ok-stage_stream.ensures.disk
+    (number_of found.held) c.stage_stream.new.mft c.in_ok-stage_stream.ensures.device c.in_ok-stage_stream.ensures.tables
     (λ told. c.in_ok-stage_stream.ensures.edits told c.args.name.now
     (still-told g.D.Disk old mid both (λ v. IsFoundFor c.args.what v found c.args.name.now) c.in_ok-found.ensures.can told))
     c.in_ok-stage_stream.ensures.places c.args.mark.now c.in_ok-found.ensures.answered.is c.requires.can.clear.plain c.in_ok-place.place

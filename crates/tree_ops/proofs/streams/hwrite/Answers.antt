@@ -65,7 +65,7 @@ finish-requires g c =
           can-finish g.D.Disk old c.stage_stream.new.mft c.args.mark.now c.requires.can most (number_of found.held)
           (λ told. let set = (c.in_ok-found.ensures.can told).settable in (set.can.node, set.can.can)) c.in_ok-place.place
           (placed-back g.D.Disk old c.find_writable_through.new.mft one c.args.mark.now c.in_ok-place.place c.in_ok-place.ensures.placed)
-          (all-keeps g.D.Disk old mid both c.stage_stream.new.mft c.in_ok-stage_stream.ensures.disk)
+          (all-keeps g.D.Disk old mid both c.stage_stream.new.mft c.in_ok-stage_stream.ensures.device)
           (stages-back g.D.Disk old mid both most (number_of found.held) c.stage_stream.new.mft c.in_ok-stage_stream.ensures.places);
     }
 
@@ -82,7 +82,7 @@ returns-clause-ends g c =
     let both = still-then g.D.Disk old c.find_writable_through.new.mft mid one two in
     ended g.D.Disk old mid both
     (hwrite_edit (s.Write c.args.from c.args.bytes) c.args.opens.now c.args.session c.args.handle c.args.moment) (number_of found.held)
-    c.stage_stream.new.mft c.in_ok-stage_stream.ensures.disk
+    c.stage_stream.new.mft c.in_ok-stage_stream.ensures.device c.in_ok-stage_stream.ensures.tables
     (λ told. record {
       entry = c.in-Some.entry.now;
       opened = sym c.in-Some.ensures;

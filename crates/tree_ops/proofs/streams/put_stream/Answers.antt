@@ -1,15 +1,22 @@
-use Rattle.std.proofs.Common.{ℕ, List, sym, subst}
+use Rattle.std.proofs.Common.{◌+◌, ◌*◌, ◌/◌, ℕ, List, length, refl, sym, subst}
 use Rattle.std.proofs.lemmas.Result.{on_ok_weaker}
-use Rattle.std.specs.Prelude.{OnOk}
+use Rattle.std.specs.Prelude.{IsTrue, OnOk, Result, Ok, Err}
 use Rattle.volume_def.specs.FileNames.{names_of}
 use Rattle.volume_def.specs.Files.{records_of}
 use Rattle.mft_table.specs.Mft.{view}
 use Rattle.tree_read.specs.Nodes.{number_of}
+use Rattle.tree_edit.specs.Staged.{IsOfEdit, StagesFew}
 use Rattle.tree_edit.specs.Values.{StagesValue}
+use Rattle.stream_changes.proofs.DeviceLaws.{device-of}
+use Rattle.stream_changes.proofs.GivingLaws.{gives-none}
 use Rattle.tree_ops.specs.Edits.{StagesSo}
 use Rattle.tree_ops.proofs.StagedEdits.{value-staged}
-use Rattle.tree_ops.proofs.StreamPut.{CanEditSo, CanWrite, WasEditedSo, WasWritten, punch-can, punch-edits, remove-can, remove-edits, resize-can, resize-edits}
+use Rattle.tree_ops.proofs.StreamPut.{CanEditSo, CanWrite, WasEditedSo, WasWritten, punch-can, punch-edits}
 use Rattle.tree_ops.proofs.streams.put_stream.Goals as goal
+
+on_ok_always : {T E : Type 0} {P : Type 0} (r : Result T E) → P → OnOk r P
+on_ok_always (Ok done) p = p
+on_ok_always (Err why) p = tt
 
 pub write_stream-requires-clause-can : goal.write_stream-requires-clause-can
 write_stream-requires-clause-can g c =
@@ -39,22 +46,6 @@ punch_value-requires-clause-can g c =
     punch-can v v found number.result number.ensures c.in-Punch.from c.in-Punch.len
     (subst (CanEditSo v v found number.result number.ensures) c.in-Punch.is c.requires.can)
 
-pub resize_value-requires-clause-can : goal.resize_value-requires-clause-can
-resize_value-requires-clause-can g c =
-    let v = view g.D.Disk c.args.mft.now in
-    let found = c.args.found.now in
-    let number = c.number-number in
-    resize-can v v found number.result number.ensures c.in-Resize.size
-    (subst (CanEditSo v v found number.result number.ensures) c.in-Resize.is c.requires.can)
-
-pub drop_value-requires-clause-can : goal.drop_value-requires-clause-can
-drop_value-requires-clause-can g c =
-    let v = view g.D.Disk c.args.mft.now in
-    let found = c.args.found.now in
-    let number = c.number-number in
-    remove-can v v found number.result number.ensures
-    (subst (CanEditSo v v found number.result number.ensures) c.in-Remove.is c.requires.can)
-
 pub returns-in-Punch-clause-edits : goal.returns-in-Punch-clause-edits
 returns-in-Punch-clause-edits g c =
     let v = view g.D.Disk c.args.mft.now in
@@ -70,50 +61,60 @@ returns-in-Punch-clause-edits g c =
 pub returns-in-Resize-clause-edits : goal.returns-in-Resize-clause-edits
 returns-in-Resize-clause-edits g c =
     let v = view g.D.Disk c.args.mft.now in
-    let new = view g.D.Disk c.resize_value.new.mft in
+    let new = view g.D.Disk c.resize_stream.new.mft in
     let found = c.args.found.now in
-    let number = c.number-number in
-    subst (λ what. OnOk c.resize_value.result (WasEditedSo v new found number.result number.ensures c.args.times.now what))
-    (sym c.in-Resize.is)
-    (on_ok_weaker c.resize_value.result (resize-edits v new found number.result number.ensures c.args.times.now c.in-Resize.size)
-    c.resize_value.ensures.resized)
+    subst (λ what. OnOk c.resize_stream.result (WasEditedSo v new found (number_of found.held) refl c.args.times.now what))
+    (sym c.in-Resize.is) c.resize_stream.ensures.resized
+
+pub resize_stream-requires-clause-can : goal.resize_stream-requires-clause-can
+resize_stream-requires-clause-can g c =
+    let v = view g.D.Disk c.args.mft.now in
+    subst (CanEditSo v v c.args.found.now (number_of c.args.found.now.held) refl) c.in-Resize.is c.requires.can
+
+pub remove_stream-requires-clause-can : goal.remove_stream-requires-clause-can
+remove_stream-requires-clause-can g c =
+    let v = view g.D.Disk c.args.mft.now in
+    subst (CanEditSo v v c.args.found.now (number_of c.args.found.now.held) refl) c.in-Remove.is c.requires.can
 
 pub returns-in-Remove-clause-edits : goal.returns-in-Remove-clause-edits
 returns-in-Remove-clause-edits g c =
     let v = view g.D.Disk c.args.mft.now in
-    let new = view g.D.Disk c.drop_value.new.mft in
+    let new = view g.D.Disk c.remove_stream.new.mft in
     let found = c.args.found.now in
-    let number = c.number-number in
-    subst (λ what. OnOk c.drop_value.result (WasEditedSo v new found number.result number.ensures c.args.times.now what))
-    (sym c.in-Remove.is)
-    (on_ok_weaker c.drop_value.result (remove-edits v new found number.result number.ensures c.args.times.now) c.drop_value.ensures.dropped)
+    subst (λ what. OnOk c.remove_stream.result (WasEditedSo v new found (number_of found.held) refl c.args.times.now what))
+    (sym c.in-Remove.is) c.remove_stream.ensures.removed
+
+pub returns-in-Write-clause-places : goal.returns-in-Write-clause-places
+returns-in-Write-clause-places g c = on_ok_always c.write_stream.result (λ told.
+    let f = number_of c.args.found.now.held in
+    subst (λ what. StagesSo g.D.Disk what f c.args.mft.now c.write_stream.new.mft) (sym c.in-Write.is)
+    (gives-none g.D.Disk (8 + length c.in-Write.bytes.now / 512) f (view g.D.Disk c.args.mft.now) c.args.mft.now c.write_stream.new.mft
+    (subst (λ (all : List ℕ). StagesFew g.D.Disk
+    (8 + length all / 512 + 12 * length (names_of (records_of (view g.D.Disk c.args.mft.now)) f))
+    (IsOfEdit (view g.D.Disk c.args.mft.now) f (names_of (records_of (view g.D.Disk c.args.mft.now)) f)) c.args.mft.now
+    c.write_stream.new.mft) c.as_slice.ensures (c.write_stream.ensures.places told))))
 
 pub returns-in-Punch-clause-places : goal.returns-in-Punch-clause-places
-returns-in-Punch-clause-places g c = λ told.
+returns-in-Punch-clause-places g c = on_ok_always c.punch_value.result (λ told.
     let v = view g.D.Disk c.args.mft.now in
-    let found = c.args.found.now in
-    subst (λ what. StagesSo g.D.Disk what (number_of found.held) (names_of (records_of v) (number_of found.held)) c.args.mft.now
-    c.punch_value.new.mft) (sym c.in-Punch.is)
-    (value-staged g.D.Disk (number_of found.held) (names_of (records_of v) (number_of found.held)) c.args.mft.now c.punch_value.new.mft
+    let f = number_of c.args.found.now.held in
+    subst (λ what. StagesSo g.D.Disk what f c.args.mft.now c.punch_value.new.mft) (sym c.in-Punch.is)
+    (gives-none g.D.Disk 8 f v c.args.mft.now c.punch_value.new.mft
+    (value-staged g.D.Disk f (names_of (records_of v) f) c.args.mft.now c.punch_value.new.mft
     (subst (λ k. StagesValue g.D.Disk k (names_of (records_of v) k) c.args.mft.now c.punch_value.new.mft) c.number-number.ensures
-    (c.punch_value.ensures.places told)))
+    (c.punch_value.ensures.places told)))))
 
 pub returns-in-Resize-clause-places : goal.returns-in-Resize-clause-places
-returns-in-Resize-clause-places g c = λ told.
-    let v = view g.D.Disk c.args.mft.now in
-    let found = c.args.found.now in
-    subst (λ what. StagesSo g.D.Disk what (number_of found.held) (names_of (records_of v) (number_of found.held)) c.args.mft.now
-    c.resize_value.new.mft) (sym c.in-Resize.is)
-    (value-staged g.D.Disk (number_of found.held) (names_of (records_of v) (number_of found.held)) c.args.mft.now c.resize_value.new.mft
-    (subst (λ k. StagesValue g.D.Disk k (names_of (records_of v) k) c.args.mft.now c.resize_value.new.mft) c.number-number.ensures
-    (c.resize_value.ensures.places told)))
+returns-in-Resize-clause-places g c =
+    let f = number_of c.args.found.now.held in
+    subst (λ what. OnOk c.resize_stream.result (IsTrue (view g.D.Disk c.args.mft.now).told
+    → StagesSo g.D.Disk what f c.args.mft.now c.resize_stream.new.mft)) (sym c.in-Resize.is) c.resize_stream.ensures.places
 
 pub returns-in-Remove-clause-places : goal.returns-in-Remove-clause-places
-returns-in-Remove-clause-places g c = λ told.
-    let v = view g.D.Disk c.args.mft.now in
-    let found = c.args.found.now in
-    subst (λ what. StagesSo g.D.Disk what (number_of found.held) (names_of (records_of v) (number_of found.held)) c.args.mft.now
-    c.drop_value.new.mft) (sym c.in-Remove.is)
-    (value-staged g.D.Disk (number_of found.held) (names_of (records_of v) (number_of found.held)) c.args.mft.now c.drop_value.new.mft
-    (subst (λ k. StagesValue g.D.Disk k (names_of (records_of v) k) c.args.mft.now c.drop_value.new.mft) c.number-number.ensures
-    (c.drop_value.ensures.places told)))
+returns-in-Remove-clause-places g c =
+    let f = number_of c.args.found.now.held in
+    subst (λ what. OnOk c.remove_stream.result (IsTrue (view g.D.Disk c.args.mft.now).told
+    → StagesSo g.D.Disk what f c.args.mft.now c.remove_stream.new.mft)) (sym c.in-Remove.is) c.remove_stream.ensures.places
+
+pub returns-in-Punch-clause-device : goal.returns-in-Punch-clause-device
+returns-in-Punch-clause-device g c = device-of g.D.Disk c.args.mft.now c.punch_value.new.mft c.punch_value.ensures.disk

@@ -1,4 +1,4 @@
-use Rattle.std.proofs.Common.{subst}
+use Rattle.std.proofs.Common.{subst, sym, ◌∙◌}
 use Rattle.std.proofs.lemmas.Result.{on_ok_weaker}
 use Rattle.std.specs.Prelude.{length}
 use Rattle.volume_def.specs.FileNames.{names_of}
@@ -8,7 +8,9 @@ use Rattle.tree_read.specs.Nodes.{number_of}
 use Rattle.tree_edit.specs.Over.{StagesOver}
 use Rattle.tree_edit.specs.Values.{StagesValue}
 use Rattle.tree_ops.proofs.StagedEdits.{over-few, value-few}
-use Rattle.tree_ops.proofs.StreamPut.{over-can, over-writes, value-can, value-writes}
+use Rattle.tree_edit.proofs.ChainedLaws.{goes-same}
+use Rattle.stream_changes.proofs.DeviceLaws.{device-of}
+use Rattle.tree_ops.proofs.StreamPut.{never-extent, not-extent, over-can, over-writes, value-can, value-room, value-writes}
 use Rattle.tree_ops.proofs.streams.write_stream.Goals as goal
 
 pub write_over-requires-clause-can : goal.write_over-requires-clause-can
@@ -64,3 +66,40 @@ returns-in-InRecord-clause-places g c = λ told.
     (length c.args.bytes.now)
     (subst (λ k. StagesValue g.D.Disk k (names_of (records_of v) k) c.args.mft.now c.write_value.new.mft) c.number-number.ensures
     (c.write_value.ensures.places told))
+
+pub returns-in-InRecord-clause-tables : goal.returns-in-InRecord-clause-tables
+returns-in-InRecord-clause-tables g c =
+    let v = view g.D.Disk c.args.mft.now in
+    on_ok_weaker c.write_value.result (λ tells t.
+    let told = sym c.write_value.ensures.disk.goes_on.told_image ∙ t in
+    tells told
+    (value-can v v c.args.found.now c.number-number.result c.number-number.ensures c.args.from c.args.bytes.now c.in-InRecord.is
+    c.requires.can told)
+    (value-room v v c.args.found.now c.number-number.result c.number-number.ensures c.args.from c.args.bytes.now c.in-InRecord.is
+    c.requires.can told) t) c.write_value.ensures.tables
+
+pub returns-in-InPlace-clause-device : goal.returns-in-InPlace-clause-device
+returns-in-InPlace-clause-device g c = device-of g.D.Disk c.args.mft.now c.write_over.new.mft c.write_over.ensures.disk
+
+pub returns-in-InRecord-clause-device : goal.returns-in-InRecord-clause-device
+returns-in-InRecord-clause-device g c = device-of g.D.Disk c.args.mft.now c.write_value.new.mft c.write_value.ensures.disk
+
+-- no bytes are written so yet
+pub returns-in-InClusters-clause-writes : goal.returns-in-InClusters-clause-writes
+returns-in-InClusters-clause-writes g c = λ told name w.
+    absurd (not-extent (view g.D.Disk c.args.mft.now) c.args.found.now name c.args.from (length c.args.bytes.now) w c.in-InClusters.is)
+
+pub returns-in-InClusters-clause-places : goal.returns-in-InClusters-clause-places
+returns-in-InClusters-clause-places g c = λ told.
+    let v = view g.D.Disk c.args.mft.now in
+    never-extent v v c.args.found.now c.number-number.result c.number-number.ensures c.args.from c.args.bytes.now c.in-InClusters.is
+    c.requires.can told
+
+pub returns-in-InClusters-clause-tables : goal.returns-in-InClusters-clause-tables
+returns-in-InClusters-clause-tables g c = λ told.
+    let v = view g.D.Disk c.args.mft.now in
+    never-extent v v c.args.found.now c.number-number.result c.number-number.ensures c.args.from c.args.bytes.now c.in-InClusters.is
+    c.requires.can told
+
+pub returns-in-InClusters-clause-device : goal.returns-in-InClusters-clause-device
+returns-in-InClusters-clause-device g c = device-of g.D.Disk c.args.mft.now c.args.mft.now (goes-same g.D.Disk c.args.mft.now)
