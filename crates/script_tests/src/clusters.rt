@@ -1,0 +1,174 @@
+//! Streams in clusters, in whole runs: they are cut and removed, and their clusters are free then. The stream of `h` has a cluster, a hole of
+//! 16 clusters, and a cluster of which 8 bytes were written.
+use super::edits::{run_rows, told_at, writable};
+use super::reading::{Row, is_sound};
+use laid_volumes::damage::{CLUSTER_BITS, byte, is_marked, put, set_bit};
+use laid_volumes::laid::{
+    Extent, LaidName, ROOT_RECORD, Value, begin_file, end_file, key_in_root, lay_extent,
+    lay_in_root, lay_name, lay_standard, lay_value,
+};
+use laid_volumes::laid_files::volume_with_all;
+use laid_volumes::made::volume;
+use std::alloc::Global;
+use std::test;
+use vol_disk::{CallKind, Fail, FailDisk};
+
+const SECTORS: u16 = 2048;
+
+// Its two clusters are 202 and 203. `df` tells the clusters, those that are free, the records, and those that are free.
+const CUTS: [Row; 27] = [
+    ("time 9", "ok\n"),
+    ("df", "df 256 117 64 32\nok\n"),
+    ("truncate /h 69634", "ok\n"),
+    ("stat /h", "stat file 1 69634 0020 256 0 9 9 0\nok\n"),
+    ("read /h 69630 12", "data 00003031\nok\n"),
+    ("df", "df 256 117 64 32\nok\n"),
+    ("truncate /h 69632", "ok\n"),
+    ("df", "df 256 118 64 32\nok\n"),
+    ("read /h 69630 12", "data 0000\nok\n"),
+    ("truncate /h 69633", "no 28 Unbuilt\n"),
+    ("@1 open /h w rwd", "handle 0\nok\n"),
+    ("@1 hwrite 0 4094 7a7a", "ok\n"),
+    ("@1 close 0", "ok\n"),
+    ("time 10", "ok\n"),
+    ("truncate /H 4095", "ok\n"),
+    ("read /h 4090 12", "data 000000007a\nok\n"),
+    ("df", "df 256 118 64 32\nok\n"),
+    ("@2 open /h r r", "handle 0\nok\n"),
+    ("truncate /h 0", "no 22 Shared 2 0\n"),
+    ("@2 close 0", "ok\n"),
+    ("truncate /h 0", "ok\n"),
+    ("cat /h", "data -\nok\n"),
+    ("df", "df 256 119 64 32\nok\n"),
+    ("truncate /h 0", "ok\n"),
+    ("truncate /h 1", "no 28 Unbuilt\n"),
+    ("stat /h", "stat file 1 0 0020 256 0 10 10 0\nok\n"),
+    ("cat /a", "data 68656c6c6f\nok\n"),
+];
+
+// The allocated size and the real one that an entry tells of its file, as far as each is two bytes.
+fn sizes_at(image: &[u8], key: Option<usize>) -> Option<[u8; 4]> {
+    let at = key?.saturating_add(0x28);
+    Some([0, 1, 8, 9].map(|k| byte(image, at.saturating_add(k))))
+}
+
+#[test]
+fn streams_in_clusters_are_cut(rt: HostRuntime) -> Result<(), test::Fail> {
+    let alloc = rt.alloc();
+    let image = volume_with_all(alloc)?;
+    let mut disk = writable(alloc, SECTORS, &image)?;
+    assert_eq!(rt; run_rows(alloc, &mut disk, &CUTS)?, (0, None));
+    let left = disk.contents();
+    assert!(rt; is_sound(alloc, SECTORS, left)?);
+    // Of the clusters 200 to 207 the first four were taken; two of them are those of the packed stream, and stay so.
+    assert_eq!(rt; byte(&image, CLUSTER_BITS + 25), 0x0F);
+    assert_eq!(rt; byte(left, CLUSTER_BITS + 25), 0x03);
+    let key = key_in_root(left, 29, 0);
+    assert_eq!(rt; told_at(left, key), Some((10, [0x20, 0, 0, 0])));
+    assert_eq!(rt; sizes_at(left, key), Some([0, 0, 0, 0]));
+    Ok(())
+}
+
+const K: LaidName = LaidName {
+    file: 26,
+    parent: (ROOT_RECORD, ROOT_RECORD),
+    space: 0,
+    letters: "k",
+    is_dir: false,
+};
+
+// Lays a stream `s` of 5,000 bytes in the clusters 207 and 208.
+fn lay_named(image: &mut [u8], at: usize) -> usize {
+    let two = Extent {
+        id: 3,
+        flags: 0,
+        covered: 2,
+        owned: 2,
+        real: 5000,
+        initialized: 5000,
+        runs: &[b's', 0, 0, 0, 0, 0, 0, 0, 0x21, 2, 207, 0, 0],
+    };
+    let end = lay_extent(image, at, two);
+    put(image, at.saturating_add(9), &[1]);
+    put(image, at.saturating_add(0x20), &[80]);
+    end
+}
+
+// A new volume leaves 121 clusters, and has here a small file `k` with that stream beside its own bytes.
+fn volume_with_named(alloc: Global) -> Result<Vec<u8>, test::Fail> {
+    let mut image = volume(alloc)?;
+    let at = begin_file(&mut image, 26, 1, false);
+    let at = lay_standard(&mut image, at, [0; 4], 0x20);
+    let at = lay_name(alloc, &mut image, at, 1, &K)?;
+    let hello = Value {
+        kind: 0x80,
+        id: 2,
+        name: "",
+        value: b"hello",
+    };
+    let at = lay_value(&mut image, at, hello);
+    let at = lay_named(&mut image, at);
+    end_file(&mut image, 26, at);
+    set_bit(&mut image, CLUSTER_BITS, 207);
+    set_bit(&mut image, CLUSTER_BITS, 208);
+    lay_in_root(alloc, &mut image, &[K])?;
+    Ok(image)
+}
+
+const REMOVED: [Row; 10] = [
+    ("time 9", "ok\n"),
+    ("streams /k", "stream 5\nstream 5000 s\nok\n"),
+    ("df", "df 256 119 64 37\nok\n"),
+    ("rmstream /k:t", "no 11 NoStream\n"),
+    ("rmstream /k:S", "ok\n"),
+    ("streams /k", "stream 5\nok\n"),
+    ("cat /k:s", "no 11 NoStream\n"),
+    ("df", "df 256 121 64 37\nok\n"),
+    ("stat /k", "stat file 1 5 0020 256 0 9 9 0\nok\n"),
+    ("cat /k", "data 68656c6c6f\nok\n"),
+];
+
+#[test]
+fn streams_in_clusters_are_removed(rt: HostRuntime) -> Result<(), test::Fail> {
+    let alloc = rt.alloc();
+    let image = volume_with_named(alloc)?;
+    assert!(rt; is_sound(alloc, SECTORS, &image)?);
+    let mut disk = writable(alloc, SECTORS, &image)?;
+    assert_eq!(rt; run_rows(alloc, &mut disk, &REMOVED)?, (0, None));
+    let left = disk.contents();
+    assert!(rt; is_sound(alloc, SECTORS, left)?);
+    assert_eq!(rt; byte(&image, CLUSTER_BITS + 25), 0x80);
+    assert_eq!(rt; byte(&image, CLUSTER_BITS + 26), 1);
+    assert_eq!(rt; byte(left, CLUSTER_BITS + 25), 0);
+    assert_eq!(rt; byte(left, CLUSTER_BITS + 26), 0);
+    Ok(())
+}
+
+// The last cluster goes.
+const CUT: [Row; 2] = [("time 5", "ok\n"), ("truncate /h 4096", "ok\n")];
+
+// The status of it where one write of the disk fails, and whether the volume is then marked, or sound.
+fn failing_cut(alloc: Global, image: &[u8], number: u64) -> Result<(u8, bool), test::Fail> {
+    let fail = Fail {
+        kind: CallKind::Write,
+        number,
+        lands: false,
+    };
+    let mut disk = FailDisk::new(writable(alloc, SECTORS, image)?, vec![in alloc; fail]?);
+    let (status, _) = run_rows(alloc, &mut disk, &CUT)?;
+    let left = disk.inner().contents();
+    Ok((status, is_marked(left) || is_sound(alloc, SECTORS, left)?))
+}
+
+// The mark in two sectors, one of the bitmap of clusters, two of record 29, eight of the root's index, and the mark again: fifteen, and none
+// behind.
+#[test]
+fn a_cut_fails_safely(rt: HostRuntime) -> Result<(), test::Fail> {
+    let alloc = rt.alloc();
+    let image = volume_with_all(alloc)?;
+    for number in [1, 3, 4, 6, 15] {
+        assert_eq!(rt; failing_cut(alloc, &image, number)?, (6, true), "{number}");
+    }
+    assert_eq!(rt; failing_cut(alloc, &image, 16)?, (0, true));
+    Ok(())
+}
