@@ -27,7 +27,7 @@ use Rattle.tree_model.proofs.IndexRoomLaws.{depth-walk}
 use Rattle.tree_model.proofs.ShownLaws.{link-named}
 use Rattle.edit_def.specs.Names.{is_directory_in}
 use Rattle.edit_def.proofs.NamesLaws.{in-directory, stand-of}
-use Rattle.session_def.specs.Cost.{bytes_in, cost_of, depths, is_refreshed, refreshed_depth}
+use Rattle.session_def.specs.Cost.{bytes_in, cost_of, depths, given_back, is_refreshed, refreshed_depth}
 use Rattle.session_def.specs.Done.{first_cost}
 use Rattle.session_def.specs.Named.{every_link, leads_among, timed}
 use Rattle.session_def.specs.State.{State}
@@ -109,14 +109,16 @@ names-depth view sound command at made little one =
     omega (arith, enough, same)
 
 cost-least : (old new : VolumeView) (before next : Tree) (command : Command) (at : Located) (made : ℕ)
-    → 24 * (depths old before command at made + 4) + bytes_in command / 512 ≤ cost_of old new before next command at made
+    → 24 * (depths old before command at made + 4) + bytes_in command / 512 + 2 * given_back old new
+    ≤ cost_of old new before next command at made
 unfolding cost_of
 cost-least old new before next command at made = omega arith
 
--- So a command that does little, and of one file sets the times, may write twelve sectors for each of its names, and more.
+-- So a command that does little, and of one file sets the times, may write twelve sectors for each of its names, and more, and two for each
+-- cluster that it gives back.
 pub cost-enough : (before next : State) (command : Command) (at : Located) (made : ℕ) → IsSound before.view
     → read before.view ≡ before.machine.tree → DoesLittle before.machine.tree command at → timed command at made ≡ at.file ∷ []
-    → 12 * links_of before.machine.tree at.file + bytes_in command / 512 + 96
+    → 12 * links_of before.machine.tree at.file + bytes_in command / 512 + 96 + 2 * given_back before.view next.view
     ≤ cost_of before.view next.view before.machine.tree next.machine.tree command at made
 cost-enough before next command at made sound reading little one =
     let tree = before.machine.tree in

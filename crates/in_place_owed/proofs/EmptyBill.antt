@@ -12,7 +12,7 @@ use Rattle.volume_def.specs.View.{VolumeView}
 use Rattle.tree_model.specs.Bill.{bill_of, bill_with, clusters_of, is_touched, new_files, touched_file, touched_files, touches_file}
 use Rattle.tree_model.specs.Need.{Touched, empty_bill}
 use Rattle.tree_model.specs.NoRoom.{no_room_for}
-use Rattle.tree_model.specs.Staging.{is_done_in_place}
+use Rattle.tree_model.specs.Ways.{is_done_in_place}
 use Rattle.tree_model.specs.StreamRoom.{goes_over, initialized_size, is_in_place, new_clusters, stream_parts}
 use Rattle.tree_model.specs.Subjects.{Located, NoName}
 use Rattle.tree_model.specs.Tree.{Tree}

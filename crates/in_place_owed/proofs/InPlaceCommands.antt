@@ -9,7 +9,7 @@ use Rattle.volume_def.specs.View.{VolumeView}
 use Rattle.tree_model.specs.Bill.{dropped_links, has_short_standard, ids_dropped, removes_file, tags_added, tags_dropped}
 use Rattle.tree_model.specs.Effects.{makes_file}
 use Rattle.tree_model.specs.Reading.{standard_of}
-use Rattle.tree_model.specs.Staging.{has_place_for_id, is_done_in_place}
+use Rattle.tree_model.specs.Ways.{has_place_for_id, is_done_in_place}
 use Rattle.tree_model.specs.Subjects.{Located, NewName, NoName}
 use Rattle.tree_model.specs.Tree.{Tree}
 use Rattle.tree_model.specs.declared.command.Command.{Command}

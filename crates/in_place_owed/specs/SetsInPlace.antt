@@ -14,7 +14,7 @@ use Rattle.volume_def.specs.View.{VolumeView}
 use Rattle.tree_model.specs.Hidden.{is_hidden}
 use Rattle.tree_model.specs.IndexRoom.{directory_index, index_depth}
 use Rattle.tree_model.specs.Reading.{read}
-use Rattle.tree_model.specs.Staging.{is_done_in_place}
+use Rattle.tree_model.specs.Ways.{is_done_in_place}
 use Rattle.tree_model.specs.StreamRoom.{is_cluster}
 use Rattle.tree_model.specs.Subjects.{Located, NoName}
 use Rattle.tree_model.specs.Tree.{Tree, leads_to}

@@ -12,7 +12,7 @@ ghost use Rattle.tree_model.specs.Bill.{bill_of};
 ghost use Rattle.tree_model.specs.Hidden.{is_hidden};
 ghost use Rattle.tree_model.specs.Need.{empty_bill};
 ghost use Rattle.tree_model.specs.NoRoom.{no_room_for};
-ghost use Rattle.tree_model.specs.Staging.{is_done_in_place};
+ghost use Rattle.tree_model.specs.Ways.{is_done_in_place};
 ghost use Rattle.tree_model.specs.Subjects.{Located, NoName};
 ghost use Rattle.tree_model.specs.Tree.{Tree};
 ghost use Rattle.tree_model.specs.declared.command.Command.{Command};
