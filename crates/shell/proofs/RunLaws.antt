@@ -10,10 +10,10 @@ use Rattle.ntfs_def.specs.Boot.{boot_sector}
 use Rattle.volume_def.specs.Sound.{IsAccepted, told_view}
 use Rattle.volume_def.specs.VersionClause.{IsClean}
 use Rattle.volume_def.specs.View.{VolumeView}
-use Rattle.tree_ops.specs.Runs.{Ready}
-use Rattle.tree_ops.specs.Volumes.{disk_under, mark_of, moment_of, opens_of, view_under}
-use Rattle.tree_ops.specs.Wanted.{machine_on}
-use Rattle.tree_ops.specs.declared.volume.Volume.{Volume}
+use Rattle.script_run.specs.Below.{Ready}
+use Rattle.script_run.specs.Below.{disk_under, mark_of, moment_of, opens_of, view_under}
+use Rattle.script_run.specs.Below.{machine_on}
+use Rattle.script_run.specs.Below.{Volume}
 use Rattle.volume_mark.specs.Closing.{MarkStands}
 use Rattle.mft_table.specs.declared.mount.MountNo.{MountNo}
 use Rattle.mft_table.specs.declared.mount.MountNo.TheVariants as no

@@ -15,9 +15,8 @@ use crate::run::refuse;
 use crate::words::Draws;
 use mft_table::Mounted;
 use mount_check::mount;
-use script_run::{ScriptEnd, run_made};
+use script_run::{ScriptEnd, Volume, run_made};
 use std::alloc::Global;
-use tree_ops::Volume;
 use vol_disk::{Disk, Sink, Source};
 
 // Runs the drawn lines on a volume that was accepted.

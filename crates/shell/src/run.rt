@@ -17,9 +17,8 @@ use crate::ending::Ending;
 use crate::stop::Stop;
 use mft_table::{MountNo, Mounted};
 use mount_check::mount;
-use script_run::{ScriptEnd, run_script};
+use script_run::{ScriptEnd, Volume, run_script};
 use std::alloc::Global;
-use tree_ops::Volume;
 use vol_disk::{Disk, Sink, Source};
 
 // Runs the script on a volume that was accepted.

@@ -1,5 +1,5 @@
 use Rattle.std.proofs.Common.{rules}
-use Rattle.tree_ops.specs.Volumes.{disk_under}
+use Rattle.script_run.specs.Below.{disk_under}
 use Rattle.script_run.specs.Says.{of_seed}
 use Rattle.shell.proofs.RunLaws.{begins_on, ran_over, ready-new, state_on}
 use Rattle.shell.proofs.make.make_mounted.Goals as goal

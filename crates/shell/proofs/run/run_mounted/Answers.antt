@@ -1,5 +1,5 @@
 use Rattle.std.proofs.Common.{rules, refl, sym, ap, ◌∙◌}
-use Rattle.tree_ops.specs.Volumes.{disk_under}
+use Rattle.script_run.specs.Below.{disk_under}
 use Rattle.script_run.specs.Says.{of_script}
 use Rattle.shell.proofs.RunLaws.{begins_on, ran_over, ready-new, state_on}
 use Rattle.shell.proofs.run.run_mounted.Goals as goal
