@@ -11,9 +11,8 @@ use Rattle.volume_def.specs.Values.{first_part, spot_at, value_of_parts, value_o
 use Rattle.volume_def.specs.View.{VolumeView}
 use Rattle.volume_def.proofs.ValueLaws.{value-frame}
 use Rattle.volume_edits.proofs.StreamClusters.{HasOwners-written, records-written}
-use Rattle.index_store.specs.RecordWrites.{ChangesStream}
-use Rattle.index_store.proofs.KeptFiles.{clusters-kept, readable-kept}
-use Rattle.index_store.proofs.RecordWriteLaws.{ChangesStream-written}
+use Rattle.volume_edits.specs.Clusters.{ChangesStream}
+use Rattle.volume_edits.proofs.ChangedStream.{ChangesStream-written, clusters-kept, readable-kept}
 use Rattle.record_edits.specs.InPlace.{WritesInPlace, is_bits_key}
 use Rattle.stored_bits.specs.Cleared.{ClearsFlags, HasOwnBits}
 

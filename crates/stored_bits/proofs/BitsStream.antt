@@ -34,9 +34,9 @@ use Rattle.volume_def.proofs.Codes.{part_code}
 use Rattle.volume_def.proofs.ExtentLaws.{spot_at-exact}
 use Rattle.volume_def.proofs.ReadableLaws.{readable-stream}
 use Rattle.volume_def.proofs.RunPieces.{total-cons}
+use Rattle.volume_def.proofs.PartLaws.{named}
 use Rattle.volume_edits.specs.Clusters.{IsOwnStream, IsWritable}
 use Rattle.volume_edits.proofs.StreamClusters.{stream-own}
-use Rattle.attr_store.proofs.StoredLaws.{named}
 use Rattle.stored_bits.specs.Cleared.{HasOwnBits}
 
 -- RUNS WITHOUT A HOLE: each of their clusters lies somewhere.

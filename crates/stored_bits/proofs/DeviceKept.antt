@@ -4,10 +4,9 @@ use Rattle.std.proofs.Math.Nat.{le_trans}
 use Rattle.vol_disk.specs.declared.Disk.{Ghosts}
 use Rattle.mft_table.specs.declared.mft.Mft.{Mft}
 use Rattle.mft_table.specs.declared.mounted.Mounted.{Mounted}
-use Rattle.mft_table.specs.Mft.{mounted_of}
+use Rattle.mft_table.specs.Mft.{KeepsDisk, mounted_of}
 use Rattle.mft_table.proofs.StreamReads.{MftReads-none}
-use Rattle.index_store.specs.IndexBlocksMut.{KeepsDisk}
-use Rattle.index_store.specs.IndexBlocksMutLaws.{KeepsDisk-reads}
+use Rattle.mft_table.proofs.DiskKept.{KeepsDisk-reads}
 use Rattle.stored_bits.specs.Given.{KeepsDevice}
 
 pub device-disk : {D : Type 0} (g : Ghosts D) (a b : Mft D g) → KeepsDisk g a b → KeepsDevice g a b

@@ -4,7 +4,7 @@ use Rattle.ntfs_def.specs.declared.kinds.TheConstants.{ATTRIBUTE_LIST, DATA}
 use Rattle.ntfs_def.specs.declared.records.TheConstants.{CLUSTER_BITMAP, UPCASE}
 use Rattle.volume_def.specs.View.{VolumeView}
 use Rattle.file_record.specs.declared.parts.FileParts.{FileParts}
-use Rattle.index_store.proofs.KeptFiles.{held-kept}
+use Rattle.file_record.proofs.HeldKept.{held-kept}
 use Rattle.sparse_io.specs.declared.find.FoundStream.{FoundStream}
 use Rattle.stored_bits.specs.Cleared.{ClearsFlags}
 use Rattle.stored_bits.specs.HeldBits.{HoldsBits, StaysHeld}

@@ -11,7 +11,7 @@ use Rattle.volume_def.specs.Files.{parts_at}
 use Rattle.volume_def.specs.Readable.{IsFile, IsReadableVolume}
 use Rattle.volume_def.specs.Values.{pieces_touched, spot_at, value_on}
 use Rattle.volume_def.specs.View.{VolumeView}
-use Rattle.volume_edits.specs.Clusters.{IsWritable, WritesStream}
+use Rattle.volume_edits.specs.Clusters.{IsWritable, OverwritesStream, WritesStream}
 use Rattle.mft_table.specs.declared.mft.Mft.{Mft}
 use Rattle.mft_table.specs.Mft.{MftReads, stage_of, view}
 use Rattle.file_record.specs.declared.parts.FileParts.{FileParts}
@@ -19,11 +19,11 @@ use Rattle.file_record.specs.Held.{AreParts, file_number}
 use Rattle.attr_store.specs.First.{IsStored, attribute_held}
 use Rattle.sparse_io.specs.declared.find.FoundStream.{FoundStream}
 use Rattle.sparse_io.specs.Held.{IsHeldWith, IsStream}
-use Rattle.sparse_io.specs.Overwritten.{OverwritesStream, touched_sectors}
+use Rattle.sparse_io.specs.Overwritten.{touched_sectors}
 use Rattle.stored_bits.specs.Cleared.{ClearsFlags}
 use Rattle.stored_bits.specs.Given.{IsOfBits}
 use Rattle.stored_bits.specs.HeldBits.{HoldsBits}
-use Rattle.stored_bits.proofs.BitsStream.{bits-writable, within, real-is}
+use Rattle.stored_bits.proofs.BitsStream.{bits-writable, real-is, within}
 use Rattle.stored_bits.proofs.StreamFound.{held-bits, held-stored, held-stream, held-with}
 use Rattle.stored_bits.proofs.WrittenBits.{flags-cleared}
 

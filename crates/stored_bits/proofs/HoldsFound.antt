@@ -1,31 +1,36 @@
 -- THE BITMAP OF A SOUND VOLUME, as it is loaded: it is held, where it lies in clusters.
-use Rattle.std.proofs.Common.{◌≡◌, ◌*◌, ◌≤◌, ◌-◌, ℕ, true, false, List, [], Option, Some, None, refl, sym, ap, subst, inl, inr, ◌∙◌, arith}
+use Rattle.std.proofs.Common.{◌≡◌, ◌*◌, ◌<◌, ◌≤◌, ◌-◌, ℕ, length, true, false, List, [], Option, Some, None, refl, sym, ap, subst, inl, inr, ◌∙◌, arith}
 use Rattle.std.specs.Prelude.{IsSomeAnd, filter, is_some}
 use Rattle.std.proofs.lemmas.Bool.{cases_lt}
 use Rattle.ntfs_def.specs.Attribute.{ExtentHeader}
 use Rattle.ntfs_def.specs.Flags.{is_packed}
 use Rattle.ntfs_def.specs.declared.kinds.TheConstants.{DATA}
 use Rattle.ntfs_def.specs.declared.records.TheConstants.{CLUSTER_BITMAP}
+use Rattle.list_laws.proofs.BitLaws.{length-flags}
 use Rattle.list_laws.proofs.FindLaws.{find-found}
 use Rattle.list_laws.proofs.MemberLaws.{Contains-from_filter}
 use Rattle.list_laws.proofs.OptionLaws.{none_other, some_same}
-use Rattle.volume_def.specs.BitmapClauses.{cluster_bits, written_by, written_in}
+use Rattle.volume_def.specs.BitmapClauses.{cluster_bits, record_bits, written_by, written_in}
 use Rattle.volume_def.specs.CaseClause.{case_parts}
 use Rattle.volume_def.specs.Files.{Clusters, Content, Part, Value, content_extent, is_of, parts, records_of}
-use Rattle.volume_def.specs.Readable.{IsFile, IsReadableVolume}
-use Rattle.volume_def.specs.Sound.{Attributes, ClusterBits, Extents, IsSound, Lists, References, Shape}
+use Rattle.volume_def.specs.Readable.{IsFile}
+use Rattle.volume_def.specs.Sound.{ClusterBits, IsSound, References}
 use Rattle.volume_def.specs.Table.{LiesOn}
 use Rattle.volume_def.specs.Values.{first_part, is_first, value_on}
 use Rattle.volume_def.specs.View.{VolumeView}
-use Rattle.volume_def.proofs.FileLaws.{file-held}
+use Rattle.volume_def.proofs.FileLaws.{file-counted, file-held}
 use Rattle.volume_def.proofs.PartLaws.{HoldsPart-Contains}
+use Rattle.volume_def.proofs.SoundLaws.{readable-sound}
 use Rattle.volume_edits.specs.Owners.{HasOwners}
 use Rattle.volume_edits.proofs.OwnerLaws.{layout-lies_apart}
+use Rattle.mft_table.specs.declared.mounted.Mounted.{Mounted}
+use Rattle.mft_table.specs.InUse.{IsSoundVolume}
 use Rattle.file_record.specs.declared.parts.FileParts.{FileParts}
 use Rattle.file_record.specs.Held.{AreParts, file_number}
 use Rattle.attr_store.specs.declared.first.FirstPart.{FirstPart}
 use Rattle.attr_store.specs.First.{TellsSizes, attribute_held}
 use Rattle.tree_model.specs.Ways.{has_placed_bits, in_extent}
+use Rattle.sparse_io.specs.declared.find.FoundStream.{FoundStream}
 use Rattle.stored_bits.specs.Cleared.{HasOwnBits}
 use Rattle.stored_bits.specs.HeldBits.{HoldsBits}
 
@@ -33,14 +38,6 @@ plain-there : (o : Option Part) → IsSomeAnd o (λ part. is_packed part.kind pa
     → (part : Part) × (o ≡ Some part) × (is_packed part.kind part.flags ≡ false)
 plain-there None h = absurd h
 plain-there (Some part) h = (part, refl, h)
-
-pub sound-readable : (view : VolumeView) → IsSound view → IsReadableVolume view
-sound-readable view sound = record {
-  shape = sound Shape;
-  attributes = sound Attributes;
-  lists = sound Lists;
-  extents = sound Extents;
-}
 
 -- The file is there.
 pub bits-file : (view : VolumeView) → IsSound view → IsFile view CLUSTER_BITMAP
@@ -50,6 +47,12 @@ bits-file view sound =
     (find-found is_first (cluster_bits view) its.0 its.1).0 in
     let w = HoldsPart-Contains (records_of view) CLUSTER_BITMAP its.0 among.0 in
     file-held view CLUSTER_BITMAP w.0 w.1.record_there (sound References w.0) w.1.held w.1.file
+
+-- so the table has a record of its number
+pub bits-inside : (view : VolumeView) (mounted : Mounted) → IsSoundVolume view mounted → CLUSTER_BITMAP < length mounted.records
+bits-inside view mounted is =
+    let long = ap length is.stored.records_are ∙ length-flags (value_on view (record_bits view)) view.layout.count in
+    omega (arith, long, file-counted view CLUSTER_BITMAP (bits-file view is.sound))
 
 -- what is held of it
 pub bits-held : (view : VolumeView) (file : FileParts) → AreParts view file → file_number file ≡ CLUSTER_BITMAP
@@ -95,7 +98,7 @@ module _ (view : VolumeView) (sectors : ℕ) (table : List ℕ) (file : FilePart
 
   own : HasOwnBits view
   own = record {
-    readable = sound-readable view sound;
+    readable = readable-sound view sound;
     is_file = bits-file view sound;
     owners = owners;
     apart = layout-lies_apart view owners lies.some lies.on_volume;
@@ -119,3 +122,8 @@ module _ (view : VolumeView) (sectors : ℕ) (table : List ℕ) (file : FilePart
     packed = tells.packed;
     size = tells.len;
   }
+
+-- what is held so lies in clusters
+pub holds-placed : (view : VolumeView) (table : List ℕ) (file : FileParts) (found : FoundStream) → HoldsBits view table file found
+    → has_placed_bits view ≡ true
+holds-placed view table file found h = ap in_extent h.can.first ∙ ap is_some h.can.told

@@ -1,15 +1,13 @@
 //! Clusters given back.
 ghost use Rattle.std.specs.Prelude.{◌≡◌, ◌⊎◌, ◌∷◌, [], ◌+◌, ◌-◌, ◌*◌, ◌/◌, ◌<◌, ◌≤◌, ◌^◌, ℕ, Contains, IfErr, IsTrue, List, MatchResult, OnOk, Some, false, length, sum_by, true};
-ghost use Rattle.ntfs_def.specs.declared.records.TheConstants.{CLUSTER_BITMAP};
 ghost use Rattle.vol_stage.specs.Staged.{places};
 ghost use Rattle.volume_edits.specs.Owners.{HasOwners};
 ghost use Rattle.cluster_bitmap.specs.Flags.{IsTaken};
 ghost use Rattle.mft_table.specs.HeldTables.{AreStored};
 ghost use Rattle.mft_table.specs.InUse.{IsInUse};
-ghost use Rattle.mft_table.specs.Mft.{faults_of, is_mft_broken, mounted_of, stage_of, view};
+ghost use Rattle.mft_table.specs.Mft.{KeepsDisk, MftReads, faults_of, is_mft_broken, mounted_of, stage_of, view};
 ghost use Rattle.file_record.specs.FileNos.{CountsNo, IsReadNo};
 ghost use Rattle.file_record.specs.Held.{parts_held};
-ghost use Rattle.index_store.specs.IndexBlocksMut.{KeepsDisk};
 ghost use Rattle.tree_model.specs.Ways.{has_placed_bits};
 ghost use Rattle.edit_def.specs.Purses.{run_size};
 ghost use Rattle.record_edits.specs.Given.{AreOwned, GivesBack};
@@ -205,7 +203,6 @@ fn give_runs<D: Disk>(
 ///
 /// `Device` where the disk failed, and `Memory`. Some of it may then be done: whoever called discards.
 pub fn give_back<D: Disk>(alloc: Global, mft: &mut Mft<'_, D>, runs: &[Run]) -> Result<(), FileNo>
-    requires inside { CLUSTER_BITMAP < length (mounted_of D.Disk mft.old).records }
     requires sound { is_mft_broken D.Disk mft.old ≡ false }
     requires owners { IsTrue (view D.Disk mft.old).told → HasOwners (view D.Disk mft.old) }
     requires volume { IsInUse D.Disk mft.old }
@@ -214,6 +211,8 @@ pub fn give_back<D: Disk>(alloc: Global, mft: &mut Mft<'_, D>, runs: &[Run]) -> 
     ensures stored { OnOk result (IsTrue (view D.Disk mft.old).told → has_placed_bits (view D.Disk mft.old) ≡ true
         → AreOwned (view D.Disk mft.old) runs.now → AreStored (view D.Disk mft.new) (mounted_of D.Disk mft.new).clusters
         (mounted_of D.Disk mft.new).records (mounted_of D.Disk mft.new).upcase) }
+    ensures none { OnOk result (IsTrue (view D.Disk mft.old).told → has_placed_bits (view D.Disk mft.old) ≡ false
+        → MftReads D.Disk mft.old mft.new 20678) }
     ensures places { IsTrue (view D.Disk mft.old).told → (sector : ℕ) → Contains (places D.Disk (stage_of D.Disk mft.new)) sector
         → Contains (places D.Disk (stage_of D.Disk mft.old)) sector ⊎ IsOfBits (view D.Disk mft.old) sector }
     ensures few { length (places D.Disk (stage_of D.Disk mft.new))

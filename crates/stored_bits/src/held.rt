@@ -1,5 +1,5 @@
 //! The bitmap of clusters, as it is held while flags in it are cleared.
-ghost use Rattle.std.specs.Prelude.{◌≡◌, ◌<◌, [], IfErr, IfNone, IfOk, IfSome, IsTrue, List, MatchResult, ℕ, false, is_some, length};
+ghost use Rattle.std.specs.Prelude.{◌≡◌, ◌<◌, [], IfErr, IfNone, IfOk, IfSome, IsTrue, MatchResult, ℕ, false, is_some, length};
 ghost use Rattle.ntfs_def.specs.declared.kinds.TheConstants.{DATA};
 ghost use Rattle.ntfs_def.specs.declared.records.TheConstants.{CLUSTER_BITMAP};
 ghost use Rattle.volume_def.specs.Values.{first_part};
@@ -46,7 +46,6 @@ fn placed_part(file: &FileParts) -> Option<FirstPart>
 ///
 /// `Device` where the disk failed, and `Memory`.
 pub fn bits_are_placed<D: Disk>(alloc: Global, mft: &mut Mft<'_, D>) -> Result<bool, FileNo>
-    requires inside { CLUSTER_BITMAP < length (mounted_of D.Disk mft.old).records }
     requires volume { IsInUse D.Disk mft.old }
     ensures placed { IfOk result (λ is. IsTrue (view D.Disk mft.old).told → is ≡ has_placed_bits (view D.Disk mft.old)) }
     ensures err { IfErr result IsReadNo }
@@ -54,6 +53,10 @@ pub fn bits_are_placed<D: Disk>(alloc: Global, mft: &mut Mft<'_, D>) -> Result<b
         (CountsNo (faults_of D.Disk mft.old) (faults_of D.Disk mft.new)) }
     ensures reads { MftReads D.Disk mft.old mft.new 20678 }
 {
+    if CLUSTER_BITMAP >= mft.mounted().records.count() {
+        // No sound volume is so.
+        return Ok(false);
+    }
     let file = FileParts::load(alloc, mft, CLUSTER_BITMAP)?;
     Ok(placed_part(&file).is_some())
 }
@@ -64,7 +67,6 @@ pub fn bits_are_placed<D: Disk>(alloc: Global, mft: &mut Mft<'_, D>) -> Result<b
 ///
 /// `Device` where the disk failed, and `Memory`.
 pub fn hold_bits<D: Disk>(alloc: Global, mft: &mut Mft<'_, D>) -> Result<Option<HeldBits>, FileNo>
-    requires inside { CLUSTER_BITMAP < length (mounted_of D.Disk mft.old).records }
     requires owners { IsTrue (view D.Disk mft.old).told → HasOwners (view D.Disk mft.old) }
     requires volume { IsInUse D.Disk mft.old }
     ensures part { IfOk result (λ held. IfSome held (λ bits. bits.found.part < length (parts_held bits.file))) }
@@ -76,6 +78,10 @@ pub fn hold_bits<D: Disk>(alloc: Global, mft: &mut Mft<'_, D>) -> Result<Option<
         (CountsNo (faults_of D.Disk mft.old) (faults_of D.Disk mft.new)) }
     ensures reads { MftReads D.Disk mft.old mft.new 20678 }
 {
+    if CLUSTER_BITMAP >= mft.mounted().records.count() {
+        // No sound volume is so.
+        return Ok(None);
+    }
     let file = FileParts::load(alloc, mft, CLUSTER_BITMAP)?;
     let Some(first) = placed_part(&file) else {
         return Ok(None);

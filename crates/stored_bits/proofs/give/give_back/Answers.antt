@@ -1,4 +1,5 @@
-use Rattle.std.proofs.Common.{sym, subst, inl, inr}
+use Rattle.std.proofs.Common.{sym, subst, inl, inr, ◌∙◌}
+use Rattle.std.proofs.lemmas.Bool.{false≢true}
 use Rattle.std.specs.Prelude.{Contains, IfSome, IsTrue}
 use Rattle.std.proofs.lemmas.Result.{on_ok_weaker}
 use Rattle.volume_def.specs.View.{VolumeView}
@@ -8,6 +9,7 @@ use Rattle.file_record.proofs.ReadLaws.{view-kept}
 use Rattle.record_edits.specs.Given.{AreOwned, GivesBack}
 use Rattle.stored_bits.specs.HeldBits.{HoldsBits, ShowsStored, StagesBits}
 use Rattle.stored_bits.specs.declared.held.HeldBits.{HeldBits}
+use Rattle.stored_bits.proofs.HoldsFound.{holds-placed}
 use Rattle.stored_bits.proofs.give.give_back.Goals as goal
 
 pub give_runs-requires-clause-holds : goal.give_runs-requires-clause-holds
@@ -40,6 +42,17 @@ returns-clause-stored g c = on_ok_weaker c.give_runs.result (λ given told place
     let mounted = mounted_of g.D.Disk c.give_runs.new.mft in
     let same = view-kept g.D.Disk c.args.mft.now c.hold_bits.new.mft _ c.hold_bits.ensures.reads in
     (subst (λ (v : VolumeView). IsTrue v.told → AreOwned v runs → GivesBack v new runs × ShowsStored new mounted) same given told owned).1)
+    c.give_runs.ensures.given
+
+pub returns-clause-none : goal.returns-clause-none
+returns-clause-none g c = on_ok_weaker c.give_runs.result (λ given told none.
+    let old = view g.D.Disk c.args.mft.now in
+    let mounted = mounted_of g.D.Disk c.args.mft.now in
+    let bits = c.in-Some.bits in
+    let holds = subst (λ o. IfSome o (λ (bits : HeldBits). IsTrue old.told
+    → HoldsBits old mounted.upcase bits.file bits.found)) c.in-Some.is
+    c.in_ok-bits.ensures.holds in
+    absurd (false≢true (sym none ∙ holds-placed old mounted.upcase bits.file bits.found (holds told))))
     c.give_runs.ensures.given
 
 pub returns-clause-places : goal.returns-clause-places
