@@ -1,5 +1,4 @@
 pub mod Filled
-pub mod FewerReads
 pub mod Found
 pub mod Spanned
 pub mod StoredLaws

@@ -1,12 +1,9 @@
 -- An attribute of a file by the part that tells its sizes: where its clusters lie, and its value.
 use Rattle.std.proofs.Common.{◌≡◌, ◌≢◌, ◌+◌, ◌-◌, ◌<◌, ◌≤◌, ℕ, true, List, [], length, Some, None, refl, sym, ap, subst, ◌∙◌, arith}
-use Rattle.std.specs.Prelude.{◌==◌, IfSome, IsSomeAnd, filter, find, slice_get, slice_range, unwrap_or}
+use Rattle.std.specs.Prelude.{IfSome, IsSomeAnd, filter, find, slice_get, slice_range, unwrap_or}
 use Rattle.std.specs.List.{Contains}
-use Rattle.std.specs.Str.{bytes_eq}
-use Rattle.std.proofs.lemmas.Bool.{eqb-true, and_parts}
 use Rattle.std.proofs.lemmas.List.FromFn.{length-map-range_with_len}
 use Rattle.std.proofs.lemmas.Option.{slice_get_within}
-use Rattle.std.proofs.lemmas.Slice.Eq.{bytes_eq-Decides}
 use Rattle.ntfs_def.specs.declared.kinds.TheConstants.{FILE_NAME}
 use Rattle.ntfs_def.specs.declared.run_text.Spot.TheVariants.{Outside}
 use Rattle.ntfs_def.specs.Attribute.{Attribute, ExtentHeader, NonResident}
@@ -21,6 +18,7 @@ use Rattle.volume_def.specs.Values.{attribute_value, first_part, first_vcn_of, i
 use Rattle.volume_def.specs.View.{VolumeView}
 use Rattle.list_laws.proofs.FindLaws.{find-found}
 use Rattle.list_laws.proofs.MemberLaws.{Contains-from_filter}
+use Rattle.volume_def.proofs.PartLaws.{named}
 use Rattle.volume_def.proofs.ReadableLaws.{readable-stream}
 use Rattle.volume_def.proofs.SpanLaws.{spot-spans}
 use Rattle.file_record.specs.declared.parts.FileParts.{FileParts}
@@ -42,13 +40,6 @@ found-spot size f n extents a vcn extent text s body among spans =
 pub unheld-spot : (size f : ℕ) (extents : List Part) (vcn : ℕ) → AreAttribute size f extents → find (spans_vcn vcn) extents ≡ None
     → Outside ≡ spot_at extents vcn
 unheld-spot size f extents vcn s none = sym (ap (λ o. spot_by o vcn) none) ∙ spot-spans size f extents vcn s
-
--- The part is of the type and name.
-
-pub named : (kind : ℕ) (name : List ℕ) (part : Part) → is_of kind name part ≡ true → (part.kind ≡ kind) × (part.name ≡ name)
-named kind name part is =
-    let both = and_parts (part.kind == kind) (bytes_eq part.name name) is in
-    (eqb-true part.kind kind both.0, (bytes_eq-Decides part.name name).0 both.1)
 
 module _ (file : FileParts) (kind : ℕ) (name : List ℕ) (stored : Stored) (s : IsStored file kind name stored) where
   first-among : Contains (parts_held file) s.first × (is_of kind name s.first ≡ true)

@@ -29,7 +29,7 @@ use Rattle.index_tree.specs.Walk.{items_in}
 use Rattle.attr_view.specs.declared.record_mut.RecordHeader.{RecordHeader}
 use Rattle.file_record.specs.Base.{HasBaseRecord, HasHeader}
 use Rattle.file_record.specs.declared.parts.FileParts.{FileParts}
-use Rattle.file_record.specs.Held.{AreParts, attributes_held, file_number, parts_held}
+use Rattle.file_record.specs.Held.{AreParts, IsHeldFile, attributes_held, file_number, parts_held}
 use Rattle.list_laws.proofs.OptionLaws.{some-value}
 use Rattle.index_store.specs.Index.{HasParts, index_held}
 use Rattle.attr_store.specs.First.{attribute_held}
@@ -43,7 +43,6 @@ use Rattle.check_dirs.specs.Directory.{TellsNames}
 use Rattle.check_dirs.specs.Notes.{AreNotes, notes_in}
 use Rattle.check_dirs.specs.OrderedIndex.{TellsIndex}
 use Rattle.check_dirs.specs.Records.{short_nodes}
-use Rattle.index_store.specs.IndexBlocks.{IsHeldFile}
 use Rattle.check_dirs.proofs.NoteLaws.{value-held}
 use Rattle.check_dirs.proofs.VolumeLaws.{index_from_ordered, ordered_from_index}
 use Rattle.list_laws.proofs.FindLaws.{none-counted, some-counted}

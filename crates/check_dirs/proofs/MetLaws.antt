@@ -17,7 +17,7 @@ use Rattle.ntfs_def.specs.IndexTree.{one_if}
 use Rattle.check_dirs.specs.Gathered.{AreFew, AreMet, Meets, met_times}
 use Rattle.check_dirs.specs.Records.{Records}
 use Rattle.list_laws.proofs.BoolLaws.{or_swap, or_twice}
-use Rattle.list_laws.proofs.OrderLaws.{equal_numbers}
+use Rattle.ntfs_def.proofs.KeyOrderLaws.{equal_numbers}
 
 abbrev pub is_met : List ℕ → ℕ → Bool
 is_met met place = list_any (λ vcn. vcn == place) met

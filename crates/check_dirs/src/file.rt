@@ -11,9 +11,8 @@ ghost use Rattle.volume_def.specs.IndexesClause.{MeetsIndexes, MeetsViewIndex, S
 ghost use Rattle.attr_view.specs.View.{attribute_of};
 ghost use Rattle.mft_table.specs.Mft.{MftReads, faults_of, view};
 ghost use Rattle.file_record.specs.Base.{HasBaseRecord};
-ghost use Rattle.file_record.specs.Held.{file_number, parts_held};
+ghost use Rattle.file_record.specs.Held.{IsHeldFile, file_number, parts_held};
 ghost use Rattle.attr_store.specs.First.{attribute_held};
-ghost use Rattle.index_store.specs.IndexBlocks.{IsHeldFile};
 ghost use Rattle.check_dirs.specs.Files.{MeetsExtended, MeetsNames, MeetsSecured};
 ghost use Rattle.check_dirs.specs.Notes.{AreNotes};
 ghost use Rattle.check_dirs.specs.OrderedIndex.{key_rule};

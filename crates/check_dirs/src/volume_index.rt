@@ -3,8 +3,8 @@ ghost use Rattle.std.specs.Prelude.{◌≡◌, ℕ, IfOk, IfSome, IsTrue, MatchR
 ghost use Rattle.std.specs.Option.{option_map};
 ghost use Rattle.index_tree.specs.Walk.{items_in};
 ghost use Rattle.mft_table.specs.Mft.{MftReads, faults_of, view};
+ghost use Rattle.file_record.specs.Held.{IsHeldFile};
 ghost use Rattle.index_store.specs.Index.{IsFound, index_held};
-ghost use Rattle.index_store.specs.IndexBlocks.{IsHeldFile};
 ghost use Rattle.index_store.specs.IndexRecords.{index_record_on};
 ghost use Rattle.check_dirs.specs.Entries.{AreOrdered, AreWhole};
 ghost use Rattle.check_dirs.specs.OrderedIndex.{TellsIndex, key_rule};

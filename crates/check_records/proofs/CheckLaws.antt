@@ -6,8 +6,7 @@ use Rattle.vol_stage.specs.declared.stage.Stage.{Stage}
 use Rattle.vol_stage.specs.Staged.{StageReads, disk_of}
 use Rattle.mft_table.specs.declared.mft.Mft.{Mft}
 use Rattle.mft_table.specs.Mft.{MftReads, stage_of, view}
-use Rattle.mft_table.proofs.StreamReads.{MftReads-none, StageReads-then}
-use Rattle.attr_store.proofs.FewerReads.{MftReads-less}
+use Rattle.mft_table.proofs.StreamReads.{MftReads-less, MftReads-none, StageReads-then}
 use Rattle.volume_def.specs.Files.{records_of}
 use Rattle.volume_def.specs.Sound.{HoldBelow}
 use Rattle.volume_def.specs.View.{VolumeView}

@@ -14,7 +14,7 @@ use Rattle.ntfs_def.specs.Units.{wide}
 use Rattle.volume_def.specs.CaseClause.{volume_fold}
 use Rattle.volume_def.specs.Files.{Record, content_value, is_base, is_directory, record_on}
 use Rattle.volume_def.specs.IndexesClause.{IndexParts, IsDirectoryIndex, IsIndexRecordAt, stored_index_record}
-use Rattle.volume_def.specs.Readable.{IsFile, WhereReadable, IsDirectory}
+use Rattle.volume_def.specs.Readable.{IsDirectory, IsFile, WhereReadable}
 use Rattle.volume_def.specs.Sound.{Attributes, Extents, Indexes, Lists, Shape}
 use Rattle.volume_def.specs.Table.{cluster_bytes}
 use Rattle.volume_def.specs.View.{VolumeView}
@@ -33,20 +33,12 @@ use Rattle.index_store.specs.declared.index.FoundIndex.{FoundIndex}
 use Rattle.index_store.specs.Index.{HasParts, IsFound, index_held}
 use Rattle.index_store.proofs.HeldIndexLaws.{index-held}
 use Rattle.index_store.proofs.IndexRecordLaws.{record-there}
-use Rattle.dir_index.specs.Held.{IsHeldDirectory, IsReadableDirectory, fetched_of, nodes_found, records_found, root_found}
+use Rattle.index_store.specs.IndexBlocks.{records_found}
+use Rattle.dir_index.specs.Held.{IsHeldDirectory, IsReadableDirectory, nodes_found, root_found}
 use Rattle.dir_index.specs.Links.{IsHeldIndex, link_in, names_index}
 use Rattle.dir_index.specs.Refreshed.{FoundExactly}
 use Rattle.dir_index.specs.Sought.{CanSeek, SeekCosts, Seeks, exact_order, folded_order}
 use Rattle.dir_index.proofs.HeldIndex.{can_seek_both, costs_exact, costs_folded, finds_exact, finds_folded, found_exactly, has_sorted, has_walk, walked}
-
--- A call that only reads, with a bound on the sectors that it asked for.
-pub reads-within : {D : Type 0} (g : Ghosts D) (a b : Mft D g) (m k : ℕ) → MftReads g a b m → fetched_of g b ≤ fetched_of g a + k
-    → MftReads g a b k
-reads-within g a b m k reads fits = record {
-  stage = record { goes_on = reads.stage.goes_on; only_reads = reads.stage.only_reads; fetched = fits };
-  mounted = reads.mounted;
-  committed = reads.committed;
-}
 
 -- A directory that can be read is held once it is loaded.
 pub is-loaded : {D : Type 0} (g : Ghosts D) (old new : Mft D g) (reads dir : ℕ) (file : FileParts) → MftReads g old new reads

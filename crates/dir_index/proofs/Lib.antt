@@ -13,3 +13,4 @@ pub mod FieldSteps
 pub mod FreshLaws
 pub mod RefreshLaws
 pub mod RootLaws
+pub mod Below

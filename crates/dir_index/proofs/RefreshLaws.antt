@@ -13,6 +13,8 @@ use Rattle.volume_def.specs.IndexesClause.{IsDirectoryIndex}
 use Rattle.volume_def.specs.Table.{IsWellFormed, TableLayout, cluster_bytes}
 use Rattle.volume_def.specs.Values.{spot_at}
 use Rattle.volume_def.specs.View.{VolumeView}
+use Rattle.volume_edits.specs.Clusters.{ChangesStream, record_sectors}
+use Rattle.volume_edits.proofs.ChangedStream.{records-kept}
 use Rattle.mft_table.specs.declared.mft.Mft.{Mft}
 use Rattle.mft_table.specs.declared.mounted.Mounted.{Mounted}
 use Rattle.mft_table.specs.Mft.{mounted_of, stage_of, view}
@@ -20,14 +22,11 @@ use Rattle.mft_table.specs.Mounted.{mounted_layout}
 use Rattle.mft_table.specs.Staging.{record_places}
 use Rattle.file_record.specs.declared.held.Held.{Held}
 use Rattle.file_record.specs.declared.parts.FileParts.{FileParts}
-use Rattle.file_record.specs.Held.{file_number, held_of}
+use Rattle.file_record.specs.Held.{IsHeldFile, file_number, held_of}
 use Rattle.file_record.specs.Records.{IsRecordOf}
 use Rattle.file_record.specs.Written.{IsWholeFile}
-use Rattle.index_store.specs.IndexBlocks.{IsHeldFile}
 use Rattle.index_store.specs.IndexRecords.{index_record_on}
-use Rattle.index_store.specs.RecordWrites.{ChangesStream, record_sectors}
 use Rattle.index_store.proofs.IndexRecordLaws.{record-there}
-use Rattle.index_store.proofs.KeptFiles.{records-kept}
 use Rattle.tree_model.specs.declared.tree.Link.{Link}
 use Rattle.dir_index.proofs.DirectoryLinks.{links_are_items}
 use Rattle.dir_index.specs.declared.entry.DuplicatedInformation.{DuplicatedInformation}

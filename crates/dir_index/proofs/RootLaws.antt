@@ -12,8 +12,7 @@ use Rattle.mft_table.specs.Mft.{MftReserves, MftStages, view}
 use Rattle.mft_table.specs.Staging.{record_places}
 use Rattle.file_record.specs.declared.parts.FileParts.{FileParts}
 use Rattle.file_record.specs.Records.{IsRecordOf}
-use Rattle.attr_store.specs.declared.first.FirstPart.{FirstPart}
-use Rattle.attr_store.specs.First.{TellsSizes, attribute_held}
+use Rattle.index_store.specs.Below.{FirstPart, TellsSizes, attribute_held}
 use Rattle.dir_index.specs.Standard.{StagesRecordOf}
 use Rattle.dir_index.proofs.StandardLaws.{first-value}
 

@@ -15,14 +15,13 @@ use Rattle.volume_def.specs.Table.{cluster_bytes}
 use Rattle.volume_def.specs.Values.{first_part, first_vcn_of, is_first}
 use Rattle.volume_def.specs.View.{VolumeView}
 use Rattle.volume_def.proofs.ExtentLaws.{stream-first}
-use Rattle.volume_def.proofs.PartLaws.{Contains-HoldsPart, IsPart-Contains, NameHolders-view}
+use Rattle.volume_def.proofs.PartLaws.{Contains-HoldsPart, IsPart-Contains, NameHolders-view, named}
 use Rattle.volume_def.proofs.ReadableLaws.{readable-stream}
 use Rattle.volume_def.specs.ExtentsClause.{AreAttribute}
 use Rattle.vol_disk.specs.declared.Disk.{Ghosts}
 use Rattle.mft_table.specs.declared.mft.Mft.{Mft}
 use Rattle.mft_table.specs.Mft.{MftReads, view}
 use Rattle.dir_index.specs.Standard.{StagesRecordOf}
-use Rattle.attr_store.proofs.StoredLaws.{named}
 use Rattle.file_record.specs.declared.parts.FileParts.{FileParts}
 use Rattle.ntfs_def.specs.Attribute.{attributes}
 use Rattle.volume_def.specs.Files.{part_of}
@@ -30,8 +29,7 @@ use Rattle.file_record.specs.declared.held.Held.{Held}
 use Rattle.file_record.specs.Held.{AreParts, file_number, held_of, parts_held, parts_of}
 use Rattle.file_record.specs.Records.{IsRecordOf}
 use Rattle.file_record.proofs.RecordLaws.{IsRecordOf-file}
-use Rattle.attr_store.specs.declared.first.FirstPart.{FirstPart}
-use Rattle.attr_store.specs.First.{TellsSizes, attribute_held}
+use Rattle.index_store.specs.Below.{FirstPart, TellsSizes, attribute_held}
 
 -- the value of the attribute, as a part of its file
 pub record IsStandardOf (view : VolumeView) (f : ℕ) (part : Part) : Type 0 where

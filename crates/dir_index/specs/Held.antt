@@ -1,8 +1,6 @@
 -- A directory that can be read, and one that is held while its index is read.
 use Rattle.std.specs.Prelude.{◌≡◌, ℕ, List, [], Option}
 use Rattle.std.specs.declared.cmp.Ordering.{Ordering}
-use Rattle.vol_disk.specs.declared.Disk.{Ghosts}
-use Rattle.vol_stage.specs.Staged.{disk_of}
 use Rattle.ntfs_def.specs.IndexTree.{Nodes}
 use Rattle.ntfs_def.specs.Node.{Node, node_in}
 use Rattle.ntfs_def.specs.declared.index.NodeForm.TheVariants.{Names}
@@ -14,16 +12,10 @@ use Rattle.volume_def.specs.View.{VolumeView}
 use Rattle.index_tree.specs.Search.{nodes_of}
 use Rattle.index_tree.specs.declared.IndexNo.{IndexNo}
 use Rattle.index_tree.specs.declared.IndexNo.TheVariants as index_no
-use Rattle.mft_table.specs.declared.mft.Mft.{Mft}
-use Rattle.mft_table.specs.Mft.{stage_of}
-use Rattle.file_record.specs.declared.error.FileNo.{FileNo}
-use Rattle.file_record.specs.declared.error.FileNo.TheVariants.{Device, Memory, NoRoom}
 use Rattle.file_record.specs.declared.parts.FileParts.{FileParts}
-use Rattle.file_record.specs.Held.{file_number}
+use Rattle.file_record.specs.Held.{IsHeldFile, file_number}
 use Rattle.index_store.specs.declared.index.FoundIndex.{FoundIndex}
-use Rattle.index_store.specs.Index.{index_held}
-use Rattle.index_store.specs.IndexBlocks.{IsHeldFile}
-use Rattle.index_store.specs.IndexRecords.{index_record_on}
+use Rattle.index_store.specs.IndexBlocks.{records_found}
 
 -- The volume's files can be read, this is the number of one, the index of that directory is right, and this is the volume's table
 -- of case.
@@ -39,10 +31,7 @@ pub record IsHeldDirectory (view : VolumeView) (file : FileParts) (table : List 
   pub directory : IsDirectoryIndex view (file_number file)
   pub case : table ≡ value_on view (case_parts view)
 
--- the records of an index that was found in a file, the nodes that they say, and the node that its root says
-abbrev pub records_found : VolumeView → FileParts → FoundIndex → ℕ → Option (List ℕ)
-records_found view file index = index_record_on view (index_held file index.name.now)
-
+-- the nodes that the records of an index say that was found in a file, and the node that its root says
 abbrev pub nodes_found : VolumeView → FileParts → FoundIndex → Nodes
 nodes_found view file index = nodes_of Names (records_found view file index)
 
@@ -52,13 +41,3 @@ root_found index = node_in Names index.root.now
 -- on which side of the empty key, which stands for what is sought, a key is
 abbrev pub side_of : (List ℕ → List ℕ → Ordering) → List ℕ → Ordering
 side_of order key = order key []
-
--- the sectors that were asked for
-abbrev pub fetched_of : {D : Type 0} (g : Ghosts D) → Mft D g → ℕ
-fetched_of g mft = g.fetched (disk_of g (stage_of g mft))
-
--- why a directory was not searched, by why its index was not
-abbrev pub file_no_of : IndexNo → FileNo
-file_no_of index_no.Device = Device
-file_no_of index_no.NoRoom = NoRoom
-file_no_of index_no.Memory = Memory

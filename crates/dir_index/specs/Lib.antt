@@ -5,3 +5,4 @@ pub mod SoughtLaws
 pub mod Replaced
 pub mod Standard
 pub mod Refreshed
+pub mod Below

@@ -16,6 +16,7 @@ use Rattle.volume_def.specs.IndexesClause.{IsDirectoryIndex}
 use Rattle.volume_def.specs.Values.{spot_at}
 use Rattle.volume_def.specs.View.{VolumeView}
 use Rattle.volume_edits.specs.Owners.{HasOwners}
+use Rattle.volume_edits.specs.Clusters.{ChangesStream, record_sectors}
 use Rattle.index_node.specs.Edit.{IsShortEntry, item_len}
 use Rattle.tree_model.specs.Reading.{directory_links}
 use Rattle.tree_model.specs.declared.tree.Link.{Link}
@@ -27,7 +28,6 @@ use Rattle.file_record.specs.Held.{file_number}
 use Rattle.file_record.specs.Records.{IsRecordOf}
 use Rattle.file_record.specs.Written.{IsWholeFile, WritesBytes}
 use Rattle.index_store.specs.IndexRecords.{index_record_on}
-use Rattle.index_store.specs.RecordWrites.{ChangesStream, record_sectors}
 use Rattle.dir_index.specs.declared.entry.DuplicatedInformation.{DuplicatedInformation}
 use Rattle.dir_index.specs.Held.{IsHeldDirectory, IsReadableDirectory}
 use Rattle.dir_index.specs.Links.{IsHeldIndex, names_index}

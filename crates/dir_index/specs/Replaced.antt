@@ -15,9 +15,9 @@ use Rattle.index_tree.specs.Edit.{short_nodes}
 use Rattle.index_tree.specs.Replace.{IsSwapped, Replaces}
 use Rattle.index_store.specs.IndexRecords.{index_record_on}
 use Rattle.volume_def.specs.Values.{spot_at}
+use Rattle.volume_edits.specs.Clusters.{record_sectors}
 use Rattle.mft_table.specs.declared.mft.Mft.{Mft}
 use Rattle.mft_table.specs.Mft.{stage_of, view}
-use Rattle.index_store.specs.RecordWrites.{record_sectors}
 
 -- THE ITEM CAME IN THE PLACE of the one with an equal key, where there is one which is as long: of the index of names that stands in the
 -- records under this root, and that now stands in the records under the other.

@@ -5,11 +5,12 @@ ghost use Rattle.ntfs_def.specs.Node.{IsOwnEntry};
 ghost use Rattle.ntfs_def.specs.declared.index.NodeForm.TheVariants.{Names};
 ghost use Rattle.index_tree.specs.Search.{Costs, Finds, HasRisingIndex, IsKeyed};
 ghost use Rattle.index_tree.specs.Walk.{HasWalk, IsWalk};
-ghost use Rattle.mft_table.specs.Mft.{MftReads, faults_of, view};
+ghost use Rattle.mft_table.specs.Mft.{MftReads, faults_of, fetched_of, view};
 ghost use Rattle.file_record.specs.FileNos.{CountsNo, IsReadNo};
+ghost use Rattle.file_record.specs.Held.{IsHeldFile};
 ghost use Rattle.index_store.specs.Index.{IsFound};
-ghost use Rattle.index_store.specs.IndexBlocks.{IsHeldFile};
-ghost use Rattle.dir_index.specs.Held.{fetched_of, file_no_of, nodes_found, root_found, side_of};
+ghost use Rattle.index_store.specs.IndexBlocks.{file_no_of};
+ghost use Rattle.dir_index.specs.Held.{nodes_found, root_found, side_of};
 
 use collation::{Collation, FileNameOrder};
 use file_record::{FileNo, FileParts};

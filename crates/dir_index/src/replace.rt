@@ -1,18 +1,17 @@
 //! An entry comes in the place of the one with an equal key in an index of a file that is held.
-ghost use Rattle.std.specs.Prelude.{◌≡◌, ◌≤◌, ℕ, false, IfErr, IsTrue, List, MatchResult, OnOk, length, take};
+ghost use Rattle.std.specs.Prelude.{◌≡◌, ◌≤◌, ℕ, false, IfErr, IsTrue, MatchResult, OnOk, length, take};
 ghost use Rattle.ntfs_def.specs.Node.{item_in, short_node};
 ghost use Rattle.ntfs_def.specs.declared.index.NodeForm.TheVariants.{Names};
 ghost use Rattle.volume_def.specs.Values.{spot_at};
 ghost use Rattle.volume_edits.specs.Owners.{HasOwners};
+ghost use Rattle.volume_edits.specs.Clusters.{ChangesStream};
 ghost use Rattle.index_node.specs.Edit.{IsShortEntry};
 ghost use Rattle.index_tree.specs.Edit.{HasSortedIndex, short_nodes};
-ghost use Rattle.mft_table.specs.Mft.{faults_of, is_mft_broken, view};
+ghost use Rattle.mft_table.specs.Mft.{KeepsDisk, faults_of, is_mft_broken, view};
 ghost use Rattle.file_record.specs.FileNos.{CountsNo, IsReadNo};
+ghost use Rattle.file_record.specs.Held.{IsHeldFile};
 ghost use Rattle.index_store.specs.Index.{IsFound, index_held};
-ghost use Rattle.index_store.specs.IndexBlocks.{IsHeldFile};
-ghost use Rattle.index_store.specs.IndexBlocksMut.{KeepsDisk};
-ghost use Rattle.index_store.specs.RecordWrites.{ChangesStream};
-ghost use Rattle.dir_index.specs.Held.{records_found};
+ghost use Rattle.index_store.specs.IndexBlocks.{records_found};
 ghost use Rattle.dir_index.specs.Replaced.{ReplacesItem, StagesRecords};
 
 use crate::index::{ROOT_LIMIT, file_no};

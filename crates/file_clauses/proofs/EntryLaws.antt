@@ -8,14 +8,14 @@ use Rattle.std.proofs.lemmas.Cmp.{nat_cmp_total, nat_list_cmp_total, on_total, t
 use Rattle.std.proofs.lemmas.List.{length-map, get_or-map}
 use Rattle.std.proofs.lemmas.List.Sorted.{IsPermutation-map, ranks_by, sorted_far}
 use Rattle.ntfs_def.specs.AttributeList.{ListEntry}
-use Rattle.ntfs_def.proofs.KeyOrderLaws.{numbers_is_eq}
+use Rattle.ntfs_def.proofs.KeyOrderLaws.{equal_numbers, numbers_is_eq}
 use Rattle.list_laws.specs.SameItems.{SameItems}
 use Rattle.volume_def.proofs.Codes.{entry_code}
 use Rattle.list_laws.proofs.SameItemsLaws.{SameItems-permutation, SameItems-sym, SameItems-trans}
 use Rattle.attr_list.specs.declared.EntryView.{EntryView}
 use Rattle.attr_list.specs.View.{entry_shown}
 use Rattle.file_clauses.specs.Lists.{entry_order}
-use Rattle.list_laws.proofs.OrderLaws.{equal_numbers, then_first, then_second}
+use Rattle.list_laws.proofs.OrderLaws.{then_first, then_second}
 use Rattle.list_laws.proofs.SortedLaws.{InOrder, same-ordered}
 
 -- The order.

@@ -10,11 +10,11 @@ use Rattle.std.proofs.lemmas.List.{get_or-drop, get_or-take, length-drop, length
 use Rattle.std.proofs.lemmas.List.Elements.{All-from_get_or}
 use Rattle.std.proofs.lemmas.Slice.Eq.{bytes_eq-Decides}
 use Rattle.ntfs_def.specs.KeyOrder.{by_numbers}
-use Rattle.ntfs_def.proofs.KeyOrderLaws.{numbers_is_eq}
+use Rattle.ntfs_def.proofs.KeyOrderLaws.{equal_numbers, numbers_is_eq}
 use Rattle.file_clauses.specs.Extents.{Outline, first_vcn, group_order, is_like, outline_order}
 use Rattle.file_clauses.specs.Groups.{AreSorted, IsGroup}
 use Rattle.list_laws.proofs.SortedLaws.{Rises}
-use Rattle.list_laws.proofs.OrderLaws.{equal_numbers, neither, numbers_upto, reversed, then_first, then_lt, then_second, then_tied}
+use Rattle.list_laws.proofs.OrderLaws.{neither, numbers_upto, reversed, then_first, then_lt, then_second, then_tied}
 
 -- One type and name.
 

@@ -11,6 +11,7 @@ pub mod NumbersLaws
 pub mod BaseLaws
 pub mod HoldLaws
 pub mod ReadLaws
+pub mod HeldKept
 mod SealedRecords
 mod HeldParts
 mod OverwriteLaws

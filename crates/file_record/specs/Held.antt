@@ -4,6 +4,7 @@ use Rattle.std.specs.List.{AllPairs, flat_map}
 use Rattle.ntfs_def.specs.Attribute.{Attribute, attributes}
 use Rattle.ntfs_def.specs.Fixup.{bare_of, opened_of}
 use Rattle.volume_def.specs.Files.{Part, part_of, parts, records_of}
+use Rattle.volume_def.specs.Readable.{IsFile, IsReadableVolume}
 use Rattle.volume_def.specs.View.{VolumeView}
 use Rattle.file_record.specs.declared.held.Held.{Held}
 use Rattle.file_record.specs.declared.parts.FileParts.{FileParts}
@@ -44,6 +45,12 @@ IsCurrent view file = All (IsCurrentRecord view) (held_of file)
 pub record AreParts (view : VolumeView) (file : FileParts) : Type 0 where
   pub current : IsCurrent view file
   pub parts : parts_held file ≡ parts (records_of view) (file_number file)
+
+-- What is held is a file of a volume whose files can be read, as the volume has it.
+pub record IsHeldFile (view : VolumeView) (file : FileParts) : Type 0 where
+  pub readable : IsReadableVolume view
+  pub parts : AreParts view file
+  pub is_file : IsFile view (file_number file)
 
 -- Each record is of a lower number than those behind it: so none is held twice.
 abbrev pub AreRising : List Held → Type 0

@@ -1,31 +1,15 @@
 -- Records of an index, read and written one call behind the other.
-use Rattle.std.proofs.Common.{◌≡◌, ℕ, ◌+◌, ◌-◌, ◌^◌, ◌≤◌, false, List, [], ◌∷◌, sym, ap, subst, ◌∙◌, append-nil}
+use Rattle.std.proofs.Common.{◌≡◌, ℕ, ◌+◌, ◌-◌, ◌^◌, ◌≤◌, false, List, [], ◌∷◌, sym, subst, ◌∙◌, append-nil}
 use Rattle.std.specs.Prelude.{◌⊎◌, IsTrue}
 use Rattle.vol_disk.specs.declared.Disk.{Ghosts}
 use Rattle.vol_stage.specs.Staged.{StagesOnly, places}
 use Rattle.attr_store.specs.Written.{StagesAtMost}
 use Rattle.volume_def.specs.Values.{spot_at}
-use Rattle.mft_table.specs.declared.mft.Mft.{Mft}
-use Rattle.mft_table.specs.Mft.{MftStages, is_mft_broken, stage_of}
+use Rattle.volume_edits.specs.Clusters.{ChangesStream, record_sectors}
+use Rattle.mft_table.specs.Mft.{is_mft_broken, stage_of}
+use Rattle.mft_table.proofs.DiskKept.{KeepsDisk-stages}
 use Rattle.index_store.specs.declared.index_blocks_mut.IndexBlocksMut.{IndexBlocksMut}
-use Rattle.index_store.specs.IndexBlocksMut.{EditsRecords, KeepsDisk, parts_under, volume_under}
-use Rattle.index_store.specs.RecordWrites.{ChangesStream, record_sectors}
-
--- what stages leaves the disk below
-pub KeepsDisk-stages : {D : Type 0} (g : Ghosts D) (a b : Mft D g) (named : List ℕ) (n : ℕ) → is_mft_broken g a ≡ false
-    → MftStages g named n a b
-    → KeepsDisk g a b
-KeepsDisk-stages g a b named n sound h = record {
-  goes_on = h.goes_on;
-  now = ap g.now h.disk;
-  settled = ap g.settled h.disk;
-  fenced = ap g.fenced h.disk;
-  written = ap g.written h.disk;
-  late = ap g.late h.disk;
-  broken = h.sound ∙ sym sound;
-  mounted = h.mounted;
-  committed = h.committed;
-}
+use Rattle.index_store.specs.IndexBlocksMut.{EditsRecords, parts_under, volume_under}
 
 -- ONE RECORD WRITTEN, or not
 pub EditsRecords-writes : {D : Type 0} (g : Ghosts D) (a b : IndexBlocksMut D g) (vcn : ℕ) → is_mft_broken g a.mft.now ≡ false

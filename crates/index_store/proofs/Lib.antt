@@ -6,6 +6,5 @@ pub mod UsedRecord
 pub mod PartsMetLaws
 pub mod PlacedRecords
 pub mod WrittenRecords
-pub mod KeptFiles
 pub mod EditedBlocks
 pub mod RecordWriteLaws

@@ -9,7 +9,7 @@ use Rattle.std.proofs.Math.Nat.{add-mul, le-div_iff_mul-le}
 use Rattle.ntfs_def.specs.declared.kinds.TheConstants.{DATA, END, INDEX_ALLOCATION}
 use Rattle.ntfs_def.specs.declared.run_text.Run.{Run}
 use Rattle.ntfs_def.specs.declared.run_text.Spot.{Spot}
-use Rattle.ntfs_def.specs.declared.run_text.Spot.TheVariants.{Outside, Hole, At}
+use Rattle.ntfs_def.specs.declared.run_text.Spot.TheVariants.{At, Hole, Outside}
 use Rattle.ntfs_def.specs.Attribute.{Attribute, Body, ExtentHeader, NonResident, Resident, attribute_at, attribute_kind, attribute_len, attributes, attributes_from, content_bytes, content_end, content_offset, extent_at, is_resident, value_of}
 use Rattle.ntfs_def.specs.Flags.{is_packed}
 use Rattle.ntfs_def.specs.Record.{first_place}
@@ -23,7 +23,7 @@ use Rattle.list_laws.proofs.MemberLaws.{Contains-cases, Contains-from_filter, Co
 use Rattle.list_laws.proofs.OptionLaws.{none_other, some_same}
 use Rattle.list_laws.proofs.PieceLaws.{slice_range-short}
 use Rattle.volume_def.specs.BitmapClauses.{written_by, written_in}
-use Rattle.volume_def.specs.ExtentsClause.{AreAttribute, FitExtents, has_sizes, is_bad_stream, bad_name}
+use Rattle.volume_def.specs.ExtentsClause.{AreAttribute, FitExtents, bad_name, has_sizes, is_bad_stream}
 use Rattle.volume_def.specs.Files.{Clusters, Content, Part, Value, all_covered, content_extent, content_of, is_of, joined_runs, part_clusters, part_of, part_runs}
 use Rattle.volume_def.specs.IndexesClause.{IsIndexRecordAt}
 use Rattle.volume_def.specs.Readable.{IsFile, IsReadableVolume}
@@ -34,12 +34,13 @@ use Rattle.volume_def.specs.View.{VolumeView}
 use Rattle.volume_def.proofs.Codes.{part_code}
 use Rattle.volume_def.proofs.ExtentLaws.{spot_at-exact}
 use Rattle.volume_def.proofs.RunPieces.{total-cons}
+use Rattle.volume_def.proofs.PartLaws.{named}
 use Rattle.volume_edits.specs.Clusters.{IsPlaced}
 use Rattle.file_record.specs.declared.parts.FileParts.{FileParts}
 use Rattle.file_record.specs.Held.{AreParts, file_number, held_of, parts_held, parts_of}
 use Rattle.attr_store.specs.declared.stored.Stored.{Stored}
 use Rattle.attr_store.specs.First.{IsStored, attribute_held}
-use Rattle.attr_store.proofs.StoredLaws.{named, stored-length, stored-stream}
+use Rattle.attr_store.proofs.StoredLaws.{stored-length, stored-stream}
 use Rattle.index_store.specs.Index.{HasParts, index_held}
 
 -- A value that stands in a record is no longer than one.

@@ -2,7 +2,6 @@
 use Rattle.std.proofs.Common.{◌≡◌, ◌≢◌, ℕ, ◌+◌, ◌*◌, ◌/◌, ◌<◌, ◌≤◌, true, List, length, inl, inr, sym, ap, subst, ◌∙◌, arith}
 use Rattle.std.specs.Prelude.{IsSome, IsTrue, filter}
 use Rattle.ntfs_def.specs.declared.kinds.TheConstants.{BITMAP, INDEX_ALLOCATION}
-use Rattle.ntfs_def.specs.declared.run_text.Spot.{Spot}
 use Rattle.ntfs_def.specs.Fixup.{Seals, opened_of}
 use Rattle.ntfs_def.proofs.FixupLaws.{length-opened_of}
 use Rattle.volume_def.specs.Files.{Part, is_of, parts_at}
@@ -12,40 +11,30 @@ use Rattle.volume_def.specs.Table.{LiesOn, TableLayout, cluster_bytes}
 use Rattle.volume_def.specs.Values.{KeepsClusters, spot_at, value_of_parts, value_on}
 use Rattle.volume_def.specs.View.{VolumeView}
 use Rattle.volume_def.proofs.ValueLaws.{value-frame}
-use Rattle.volume_edits.specs.Clusters.{IsOwnStream, IsPlaced, IsWritable, WritesStream}
+use Rattle.volume_def.proofs.PartLaws.{named}
+use Rattle.volume_edits.specs.Clusters.{ChangesStream, IsOwnStream, IsPlaced, IsWritable, WritesStream}
 use Rattle.volume_edits.specs.Owners.{HasOwners}
 use Rattle.volume_edits.proofs.OwnerLaws.{layout-lies_apart}
 use Rattle.volume_edits.proofs.StreamClusters.{HasOwners-written, stream-own}
+use Rattle.volume_edits.proofs.ChangedStream.{ChangesStream-written, clusters-kept}
 use Rattle.index_node.specs.Edit.{IsOpened}
 use Rattle.index_node.specs.EditBlocks.{Edits, Writes}
 use Rattle.index_node.specs.Sealed.{HasArrayApart}
 use Rattle.index_node.proofs.SealedLaws.{own_vcn-same}
 use Rattle.file_record.specs.declared.parts.FileParts.{FileParts}
-use Rattle.file_record.specs.Held.{AreParts, file_number}
+use Rattle.file_record.specs.Held.{AreParts, IsHeldFile, file_number}
+use Rattle.file_record.proofs.HeldKept.{held-kept}
 use Rattle.attr_store.specs.declared.stored.Stored.{Stored}
 use Rattle.attr_store.specs.First.{IsStored, attribute_held}
-use Rattle.attr_store.proofs.StoredLaws.{named, stored-length}
+use Rattle.attr_store.proofs.StoredLaws.{stored-length}
 use Rattle.index_store.specs.Index.{HasParts, index_held}
-use Rattle.index_store.specs.IndexBlocks.{IsHeldFile, told_records}
+use Rattle.index_store.specs.IndexBlocks.{told_records}
 use Rattle.index_store.specs.IndexRecords.{index_record_on}
-use Rattle.index_store.specs.RecordWrites.{ChangesStream, WritesRecord}
-use Rattle.index_store.proofs.KeptFiles.{clusters-kept, held-kept}
+use Rattle.index_store.specs.RecordWrites.{WritesRecord}
 use Rattle.index_store.proofs.PlacedRecords.{record-placed, records-below, records-extent, records-first, records-real, records-stream, records-written}
 use Rattle.index_store.proofs.ToldLaws.{records-told, told-records}
 use Rattle.index_store.proofs.UsedRecord.{used-there}
 use Rattle.index_store.proofs.WrittenRecords.{record-now, record-other}
-
--- bytes written into a stream change its clusters alone
-pub ChangesStream-written : (old new : VolumeView) (spot : ℕ → Spot) (at : ℕ) (bytes : List ℕ) → WritesStream old new spot at bytes
-    → ChangesStream old new spot
-ChangesStream-written old new spot at bytes w = record {
-  told = w.told;
-  layout = w.layout;
-  blocks = w.blocks;
-  copies = w.copies;
-  rest = w.rest;
-  clusters = λ c out. w.clusters c (λ i inside. out (i / cluster_bytes old.layout));
-}
 
 -- parts of two types are two
 pub types-apart : (k kind : ℕ) (n name : List ℕ) → k ≢ kind → (part : Part) → is_of k n part ≡ true → is_of kind name part ≡ true → ⊥

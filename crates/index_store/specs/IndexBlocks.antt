@@ -3,28 +3,28 @@ use Rattle.std.specs.Prelude.{◌≡◌, ℕ, List, Option, Some, None, IsTrue, 
 use Rattle.vol_disk.specs.declared.Disk.{Ghosts}
 use Rattle.vol_stage.specs.Staged.{disk_of}
 use Rattle.volume_def.specs.IndexesClause.{IndexParts}
-use Rattle.volume_def.specs.Readable.{IsFile, IsReadableVolume}
 use Rattle.volume_def.specs.View.{VolumeView}
 use Rattle.index_node.specs.declared.blocks.BlockNo.{BlockNo}
 use Rattle.index_node.specs.declared.blocks.BlockNo.TheVariants.{Device as BlockDevice, Memory as BlockMemory}
+use Rattle.index_tree.specs.declared.IndexNo.{IndexNo}
+use Rattle.index_tree.specs.declared.IndexNo.TheVariants as index_no
 use Rattle.mft_table.specs.Mft.{MftReads, stage_of, view}
 use Rattle.file_record.specs.declared.error.FileNo.{FileNo}
-use Rattle.file_record.specs.declared.error.FileNo.TheVariants.{Device}
+use Rattle.file_record.specs.declared.error.FileNo.TheVariants.{Device, Memory, NoRoom}
 use Rattle.file_record.specs.declared.parts.FileParts.{FileParts}
-use Rattle.file_record.specs.Held.{AreParts, file_number}
+use Rattle.file_record.specs.Held.{IsHeldFile}
+use Rattle.index_store.specs.declared.index.FoundIndex.{FoundIndex}
 use Rattle.index_store.specs.Index.{IsFound, index_held}
 use Rattle.index_store.specs.IndexRecords.{index_record_on}
 use Rattle.index_store.specs.declared.index_blocks.IndexBlocks.{IndexBlocks}
 
--- What is held is a file of a volume whose files can be read, as the volume has it.
-pub record IsHeldFile (view : VolumeView) (file : FileParts) : Type 0 where
-  pub readable : IsReadableVolume view
-  pub parts : AreParts view file
-  pub is_file : IsFile view (file_number file)
-
 -- The opened record of an index at each number, none where there is none, where the contents are told.
 abbrev pub told_records : VolumeView → IndexParts → Option (ℕ → Option (List ℕ))
 told_records view index = if view.told then Some (index_record_on view index) else None
+
+-- the records of an index that was found in a file
+abbrev pub records_found : VolumeView → FileParts → FoundIndex → ℕ → Option (List ℕ)
+records_found view file index = index_record_on view (index_held file index.name.now)
 
 -- Of an index that is read: its volume, its parts, its records, and the sectors that were asked for.
 abbrev pub view_under : {D : Type 0} (g : Ghosts D) → IndexBlocks D g → VolumeView
@@ -56,3 +56,9 @@ pub record OnlyReads {D : Type 0} (g : Ghosts D) (old new : IndexBlocks D g) : T
 abbrev pub block_no_of : FileNo → BlockNo
 block_no_of Device = BlockDevice
 block_no_of _ = BlockMemory
+
+-- why an index was not searched, as its file's calls tell it
+abbrev pub file_no_of : IndexNo → FileNo
+file_no_of index_no.Device = Device
+file_no_of index_no.NoRoom = NoRoom
+file_no_of index_no.Memory = Memory

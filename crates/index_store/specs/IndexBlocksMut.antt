@@ -2,16 +2,15 @@
 use Rattle.std.specs.Prelude.{◌≡◌, ◌⊎◌, ℕ, ◌+◌, ◌-◌, ◌^◌, ◌≤◌, false, IsTrue, List, length}
 use Rattle.std.specs.List.{flat_map}
 use Rattle.vol_disk.specs.declared.Disk.{Ghosts}
-use Rattle.vol_stage.specs.Staged.{GoesOn, StagesOnly, disk_of}
+use Rattle.vol_stage.specs.Staged.{StagesOnly, disk_of}
 use Rattle.volume_def.specs.IndexesClause.{IndexParts}
 use Rattle.volume_def.specs.Values.{spot_at}
 use Rattle.volume_def.specs.View.{VolumeView}
 use Rattle.volume_edits.specs.Owners.{HasOwners}
-use Rattle.mft_table.specs.declared.mft.Mft.{Mft}
-use Rattle.mft_table.specs.Mft.{MftReads, committed_of, is_mft_broken, mounted_of, stage_of, view}
+use Rattle.volume_edits.specs.Clusters.{ChangesStream, record_sectors}
+use Rattle.mft_table.specs.Mft.{KeepsDisk, MftReads, is_mft_broken, stage_of, view}
+use Rattle.file_record.specs.Held.{IsHeldFile}
 use Rattle.index_store.specs.Index.{IsFound, index_held}
-use Rattle.index_store.specs.IndexBlocks.{IsHeldFile}
-use Rattle.index_store.specs.RecordWrites.{ChangesStream, record_sectors}
 use Rattle.index_store.specs.declared.index_blocks_mut.IndexBlocksMut.{IndexBlocksMut}
 
 -- Of an index that is read and written: its volume, its parts, and the sectors that were asked for.
@@ -42,18 +41,6 @@ pub record OnlyReadsMut {D : Type 0} (g : Ghosts D) (old new : IndexBlocksMut D 
   pub only : MftReads g old.mft.now new.mft.now reads
   pub written : new.written ≡ old.written
   pub failed : new.failed ≡ old.failed
-
--- What a call keeps that reads and stages: the disk stays as it is, and so do the tables.
-pub record KeepsDisk {D : Type 0} (g : Ghosts D) (old new : Mft D g) : Type 0 where
-  pub goes_on : GoesOn g (stage_of g old) (stage_of g new)
-  pub now : g.now (disk_of g (stage_of g new)) ≡ g.now (disk_of g (stage_of g old))
-  pub settled : g.settled (disk_of g (stage_of g new)) ≡ g.settled (disk_of g (stage_of g old))
-  pub fenced : g.fenced (disk_of g (stage_of g new)) ≡ g.fenced (disk_of g (stage_of g old))
-  pub written : g.written (disk_of g (stage_of g new)) ≡ g.written (disk_of g (stage_of g old))
-  pub late : g.late (disk_of g (stage_of g new)) ≡ g.late (disk_of g (stage_of g old))
-  pub broken : is_mft_broken g new ≡ is_mft_broken g old
-  pub mounted : mounted_of g new ≡ mounted_of g old
-  pub committed : committed_of g new ≡ committed_of g old
 
 -- the sectors of the disk in which the records of these numbers lie
 abbrev pub sectors_of : {D : Type 0} (g : Ghosts D) → IndexBlocksMut D g → List ℕ → List ℕ

@@ -19,9 +19,11 @@ use Rattle.volume_def.specs.IndexesClause.{IndexParts, stored_index_record}
 use Rattle.volume_def.specs.Table.{TableLayout, cluster_bytes}
 use Rattle.volume_def.specs.Values.{spot_at, value_on}
 use Rattle.volume_def.specs.View.{VolumeView}
+use Rattle.volume_edits.specs.Clusters.{ChangesStream, record_sectors}
+use Rattle.volume_edits.proofs.ChangedStream.{ChangesStream-none, ChangesStream-then}
 use Rattle.index_node.specs.Edit.{IsOpened}
-use Rattle.mft_table.specs.declared.mft.Mft.{Mft}
-use Rattle.mft_table.specs.Mft.{MftReads, stage_of}
+use Rattle.mft_table.specs.Mft.{stage_of}
+use Rattle.mft_table.proofs.DiskKept.{KeepsDisk-reads, KeepsDisk-then}
 use Rattle.mft_table.specs.Mounted.{mounted_layout}
 use Rattle.file_record.specs.declared.parts.FileParts.{FileParts}
 use Rattle.file_record.proofs.ReadLaws.{view-kept}
@@ -30,9 +32,8 @@ use Rattle.index_store.specs.declared.index_blocks_mut.IndexBlocksMut.{IndexBloc
 use Rattle.index_store.specs.Index.{index_held}
 use Rattle.index_store.specs.IndexBlocks.{told_records}
 use Rattle.mft_table.proofs.StreamReads.{MftReads-none, MftReads-then}
-use Rattle.index_store.specs.IndexBlocksMut.{EditsRecords, KeepsDisk, OnlyReadsMut, parts_under, sectors_of, volume_under}
+use Rattle.index_store.specs.IndexBlocksMut.{EditsRecords, OnlyReadsMut, parts_under, sectors_of, volume_under}
 use Rattle.index_store.specs.IndexRecords.{index_record_on, is_index_record_at, is_sealed}
-use Rattle.index_store.specs.RecordWrites.{ChangesStream, record_sectors}
 
 pub OnlyReadsMut-none : {D : Type 0} (g : Ghosts D) (it : IndexBlocksMut D g) → OnlyReadsMut g it it
 OnlyReadsMut-none g it = record {
@@ -61,28 +62,6 @@ OnlyReadsMut-then g a b c first second = record {
 pub written-read : {D : Type 0} (g : Ghosts D) (a b : IndexBlocksMut D g) → OnlyReadsMut g a b → b.written ≡ a.written
 written-read g a b h = h.written
 
--- Changes of a stream.
-
-pub ChangesStream-none : (view : VolumeView) (spot : ℕ → Spot) → ChangesStream view view spot
-ChangesStream-none view spot = record {
-  told = refl;
-  layout = refl;
-  blocks = λ n. refl;
-  copies = λ m few. refl;
-  rest = λ k. refl;
-  clusters = λ c out. refl;
-}
-
-pub ChangesStream-then : (a b c : VolumeView) (spot : ℕ → Spot) → ChangesStream a b spot → ChangesStream b c spot → ChangesStream a c spot
-ChangesStream-then a b c spot first second = record {
-  told = second.told ∙ first.told;
-  layout = second.layout ∙ first.layout;
-  blocks = λ n. second.blocks n ∙ first.blocks n;
-  copies = λ m few. second.copies m few ∙ first.copies m few;
-  rest = λ k. second.rest k ∙ first.rest k;
-  clusters = λ c out. second.clusters c out ∙ first.clusters c out;
-}
-
 -- Of these sectors alone.
 
 pub Stages-then : {D : Type 0} (g : Ghosts D) (one two : List ℕ) (a b c : Stage D g) → StagesOnly g one a b → StagesOnly g two b c
@@ -95,42 +74,6 @@ Stages-then g one two a b c first second = record {
     ]
     | inr new ↦ inr (Contains-append_right one two s new)
   ];
-}
-
--- The disk stays as it is.
-
-pub KeepsDisk-reads : {D : Type 0} (g : Ghosts D) (a b : Mft D g) (n : ℕ) → MftReads g a b n → KeepsDisk g a b
-KeepsDisk-reads g a b n h = record {
-  goes_on = h.stage.goes_on;
-  now = h.stage.only_reads.now;
-  settled = h.stage.only_reads.settled;
-  fenced = h.stage.only_reads.fenced;
-  written = h.stage.only_reads.written;
-  late = h.stage.only_reads.late;
-  broken = h.stage.only_reads.broken;
-  mounted = h.mounted;
-  committed = h.committed;
-}
-
-pub KeepsDisk-then : {D : Type 0} (g : Ghosts D) (a b c : Mft D g) → KeepsDisk g a b → KeepsDisk g b c → KeepsDisk g a c
-KeepsDisk-then g a b c first second = record {
-  goes_on = record {
-    same_reference = second.goes_on.same_reference ∙ first.goes_on.same_reference;
-    size = second.goes_on.size ∙ first.goes_on.size;
-    told = second.goes_on.told ∙ first.goes_on.told;
-    told_image = second.goes_on.told_image ∙ first.goes_on.told_image;
-    one = second.goes_on.one;
-    faults = le_trans first.goes_on.faults second.goes_on.faults;
-    on_time = λ none. second.late ∙ first.late;
-  };
-  now = second.now ∙ first.now;
-  settled = second.settled ∙ first.settled;
-  fenced = second.fenced ∙ first.fenced;
-  written = second.written ∙ first.written;
-  late = second.late ∙ first.late;
-  broken = second.broken ∙ first.broken;
-  mounted = second.mounted ∙ first.mounted;
-  committed = second.committed ∙ first.committed;
 }
 
 -- ONLY READ

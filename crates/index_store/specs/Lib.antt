@@ -6,3 +6,4 @@ pub mod IndexBlocksLaws
 pub mod RecordWrites
 pub mod IndexBlocksMut
 pub mod IndexBlocksMutLaws
+pub mod Below

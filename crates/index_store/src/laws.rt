@@ -7,11 +7,10 @@ ghost use Rattle.volume_def.specs.Table.{cluster_bytes};
 ghost use Rattle.volume_def.specs.Values.{KeepsClusters, spot_at};
 ghost use Rattle.volume_def.specs.View.{VolumeView};
 ghost use Rattle.volume_edits.specs.Owners.{HasOwners};
-ghost use Rattle.file_record.specs.Held.{AreParts, file_number};
+ghost use Rattle.volume_edits.specs.Clusters.{ChangesStream};
+ghost use Rattle.file_record.specs.Held.{AreParts, IsHeldFile, file_number};
 ghost use Rattle.index_store.specs.Index.{index_held};
-ghost use Rattle.index_store.specs.IndexBlocks.{IsHeldFile};
 ghost use Rattle.index_store.specs.IndexRecords.{AreRecordsOf, index_record_on};
-ghost use Rattle.index_store.specs.RecordWrites.{ChangesStream};
 
 use file_record::FileParts;
 

@@ -9,6 +9,8 @@ mod laws;
 mod parts_met;
 mod record_write;
 
+// What tells an attribute by its first part, for the crate above.
+pub use attr_store::find_first;
 pub use index::{FoundIndex, find_index};
 pub use index_blocks::IndexBlocks;
 pub use index_blocks_mut::IndexBlocksMut;

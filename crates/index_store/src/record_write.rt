@@ -4,6 +4,7 @@ ghost use Rattle.ntfs_def.specs.Fixup.{HasArray};
 ghost use Rattle.volume_def.specs.Readable.{IsFile, WhereReadable};
 ghost use Rattle.volume_def.specs.Values.{spot_at};
 ghost use Rattle.volume_edits.specs.Owners.{HasOwners};
+ghost use Rattle.volume_edits.specs.Clusters.{record_sectors};
 ghost use Rattle.index_node.specs.Edit.{IsOpened};
 ghost use Rattle.index_node.specs.Sealed.{HasArrayApart};
 ghost use Rattle.vol_stage.specs.Staged.{StagesOnly};
@@ -13,7 +14,7 @@ ghost use Rattle.file_record.specs.Held.{AreParts, file_number};
 ghost use Rattle.attr_store.specs.Written.{StagesAtMost};
 ghost use Rattle.index_store.specs.Index.{IsFound, index_held};
 ghost use Rattle.index_store.specs.IndexRecords.{index_record_on};
-ghost use Rattle.index_store.specs.RecordWrites.{WritesRecord, record_sectors};
+ghost use Rattle.index_store.specs.RecordWrites.{WritesRecord};
 
 use crate::index::FoundIndex;
 use crate::index_record::record_place;

@@ -11,32 +11,6 @@ use Rattle.std.proofs.lemmas.Bool.{eq-eqb, le-ltb, cases_lt, ne_eqb, lt-ltb, cas
 pub less_equal : Less ≡ Equal → ⊥
 less_equal e = cc
 
-pub equal_numbers : (x y : ℕ) → nat_cmp x y ≡ Equal → x ≡ y
-equal_numbers x y e = by_ranked (x < y) (x ≡ y) (y < x) (nat_cmp x y) (ranked x y (nat_cmp x y) refl)
-    (λ f h. absurd (less_equal (sym f ∙ e))) (λ f h. h) (λ f h. absurd (greater_equal (sym f ∙ e)))
-  where
-    less_equal : Less ≡ Equal → ⊥
-    less_equal g = cc
-
-    greater_equal : Greater ≡ Equal → ⊥
-    greater_equal g = cc
-
-pub then_both : (a b : Ordering) → ordering_then a b ≡ Equal → (a ≡ Equal) × (b ≡ Equal)
-then_both Less b e = let f : Less ≡ Equal = e in absurd (not f)
-  where
-    not : Less ≡ Equal → ⊥
-    not g = cc
-then_both Equal b e = (refl, e)
-then_both Greater b e = let f : Greater ≡ Equal = e in absurd (not f)
-  where
-    not : Greater ≡ Equal → ⊥
-    not g = cc
-
-pub then_less : (a b : Ordering) → ordering_then a b ≡ Less → a ≢ Greater
-then_less Less b e f = let g : Less ≡ Greater = f in cc
-then_less Equal b e f = let g : Equal ≡ Greater = f in cc
-then_less Greater b e f = let g : Greater ≡ Less = e in cc
-
 pub then_first : (a b : Ordering) → ordering_then a b ≡ Equal → a ≡ Equal
 then_first Less b e = let f : Less ≡ Equal = e in absurd (cc)
 then_first Equal b e = refl

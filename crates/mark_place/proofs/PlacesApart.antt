@@ -13,18 +13,17 @@ use Rattle.ntfs_def.specs.declared.kinds.TheConstants.{DATA}
 use Rattle.ntfs_def.specs.declared.records.TheConstants.{LOG_FILE, MFT, MFT_MIRROR, UPCASE, VOLUME}
 use Rattle.ntfs_def.specs.declared.run_text.Spot.{Spot}
 use Rattle.ntfs_def.specs.declared.run_text.Spot.TheVariants.{At, Hole, Outside}
-use Rattle.list_laws.proofs.MemberLaws.{Contains-from_filter, Contains-from_flat_map, Contains-cases, Contains-nil, Contains-only}
+use Rattle.list_laws.proofs.MemberLaws.{Contains-cases, Contains-from_filter, Contains-from_flat_map, Contains-nil, Contains-only}
 use Rattle.volume_def.specs.AttributesClause.{IsRightRecord}
 use Rattle.volume_def.specs.Blocks.{mirror_sector, place_at, table_place}
 use Rattle.volume_def.specs.Coverage.{AreApart, IsOutsideTable, mirror_at, times_covered}
-use Rattle.volume_def.specs.Files.{Part, Record, file_of, is_base, is_of, part_runs, parts, parts_at, record_in, record_on, records_of}
-use Rattle.volume_def.specs.Readable.{IsFile}
+use Rattle.volume_def.specs.Files.{Part, Record, file_of, is_of, part_runs, parts, parts_at, record_on, records_of}
 use Rattle.volume_def.specs.Sound.{Attributes, CaseTable, IsSound, References}
 use Rattle.volume_def.specs.Table.{TableLayout}
 use Rattle.volume_def.specs.Values.{spot_at, value_of_parts, value_on}
 use Rattle.volume_def.specs.View.{VolumeView}
 use Rattle.volume_def.proofs.BlockLaws.{table_place-once, table_place-times}
-use Rattle.volume_def.proofs.FileLaws.{file-or-not, no-parts}
+use Rattle.volume_def.proofs.FileLaws.{file-counted, file-or-not, no-parts}
 use Rattle.volume_def.proofs.ValueLaws.{spot_at-owned}
 use Rattle.volume_edits.specs.Clusters.{stream_place, stream_sectors}
 use Rattle.volume_edits.specs.Owners.{HasOwners, IsOwnPart}
@@ -43,18 +42,10 @@ use Rattle.mark_place.specs.LogSpans.{AreLogSpans}
 use Rattle.mark_place.proofs.EmptyLaws.{outside-log}
 
 -- A SOUND VOLUME has a record 3: the table of case is that of file 10.
-pub counted : (view : VolumeView) (f : ℕ) → IsFile view f → f < view.layout.count
-counted view f is = by (nat_lt f view.layout.count) refl is
-  where
-    by : (b : Bool) → nat_lt f view.layout.count ≡ b → IsSomeAnd (cond b (record_in f (view.block f)) None) (λ r. IsTrue (is_base r))
-        → f < view.layout.count
-    by true e h = ltb-true f view.layout.count e
-    by false e h = absurd h
-
 many : (view : VolumeView) → IsSound view → 3 < view.layout.count
 unfolding value_of_parts
 many view sound = elim (file-or-not view UPCASE) [
-  | inl is ↦ let l = counted view UPCASE is in omega (arith, l)
+  | inl is ↦ let l = file-counted view UPCASE is in omega (arith, l)
   | inr none ↦
       let long = (sound CaseTable UPCASE refl).whole in
       let short = ap (λ ps. length (value_on view (filter (is_of DATA []) ps))) (no-parts view UPCASE (sound References) none) in

@@ -14,6 +14,7 @@ pub mod ClusterBytes
 pub mod StreamBytes
 pub mod StreamRuns
 pub mod StreamReads
+pub mod DiskKept
 pub mod FreedLaws
 pub mod FreeStaged
 pub mod TakenStaged

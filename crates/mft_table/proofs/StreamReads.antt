@@ -7,7 +7,7 @@ use Rattle.vol_stage.specs.declared.stage.Stage.{Stage}
 use Rattle.vol_stage.specs.Staged.{GoesOn, OnlyReads, StageReads}
 use Rattle.volume_def.specs.Values.{pieces_touched}
 use Rattle.mft_table.specs.declared.mft.Mft.{Mft}
-use Rattle.mft_table.specs.Mft.{MftReads, stage_of}
+use Rattle.mft_table.specs.Mft.{MftReads, fetched_of, stage_of}
 use Rattle.mft_table.specs.Streams.{IsSeam}
 
 GoesOn-then : {D : Type 0} (g : Ghosts D) (a b c : Stage D g) → GoesOn g a b → OnlyReads g a b → GoesOn g b c → OnlyReads g b c → GoesOn g a c
@@ -108,3 +108,15 @@ seam-next at done b n left len seam e rest lt some = elim seam [
   | inr (inl all) ↦ inr (inl (omega arith))
   | inr (inr whole) ↦ inr (inr (omega arith))
 ]
+
+-- a larger bound on the sectors that were asked for, and another that holds
+pub MftReads-less : {D : Type 0} (g : Ghosts D) (a b : Mft D g) (m k : ℕ) → MftReads g a b m → m ≤ k → MftReads g a b k
+MftReads-less g a b m k reads le = MftReads-then g a a b 0 m k (MftReads-none g a) reads (omega (arith, le))
+
+pub MftReads-within : {D : Type 0} (g : Ghosts D) (a b : Mft D g) (m k : ℕ) → MftReads g a b m → fetched_of g b ≤ fetched_of g a + k
+    → MftReads g a b k
+MftReads-within g a b m k reads fits = record {
+  stage = record { goes_on = reads.stage.goes_on; only_reads = reads.stage.only_reads; fetched = fits };
+  mounted = reads.mounted;
+  committed = reads.committed;
+}

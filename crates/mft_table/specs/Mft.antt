@@ -65,6 +65,22 @@ pub record MftStages {D : Type 0} (g : Ghosts D) (named : List ℕ) (most : ℕ)
   pub mounted : mounted_of g new ≡ mounted_of g old
   pub committed : committed_of g new ≡ committed_of g old
 
+-- the sectors that were asked for
+abbrev pub fetched_of : {D : Type 0} (g : Ghosts D) → Mft D g → ℕ
+fetched_of g mft = g.fetched (disk_of g (stage_of g mft))
+
+-- What a call keeps that reads and stages: the disk stays as it is, and so do the tables.
+pub record KeepsDisk {D : Type 0} (g : Ghosts D) (old new : Mft D g) : Type 0 where
+  pub goes_on : GoesOn g (stage_of g old) (stage_of g new)
+  pub now : g.now (disk_of g (stage_of g new)) ≡ g.now (disk_of g (stage_of g old))
+  pub settled : g.settled (disk_of g (stage_of g new)) ≡ g.settled (disk_of g (stage_of g old))
+  pub fenced : g.fenced (disk_of g (stage_of g new)) ≡ g.fenced (disk_of g (stage_of g old))
+  pub written : g.written (disk_of g (stage_of g new)) ≡ g.written (disk_of g (stage_of g old))
+  pub late : g.late (disk_of g (stage_of g new)) ≡ g.late (disk_of g (stage_of g old))
+  pub broken : is_mft_broken g new ≡ is_mft_broken g old
+  pub mounted : mounted_of g new ≡ mounted_of g old
+  pub committed : committed_of g new ≡ committed_of g old
+
 -- What a call keeps that writes so many sectors at most, and leaves what is staged.
 pub record MftWrites {D : Type 0} (g : Ghosts D) (old new : Mft D g) (most : ℕ) : Type 0 where
   pub stage : StageWrites g (stage_of g old) (stage_of g new) most

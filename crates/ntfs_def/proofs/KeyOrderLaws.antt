@@ -1,12 +1,38 @@
 -- Each order of keys is a total order, on all bytes, and ties exactly where the compared numbers are equal.
-use Rattle.std.proofs.Common.{◌≡◌, ◌≢◌, ◌↔◌, ℕ, List, [], ◌∷◌, map, refl, ap, ◌∙◌, Ordering, IsTrue, true, false}
+use Rattle.std.proofs.Common.{◌≡◌, ◌≢◌, ◌↔◌, ◌<◌, ℕ, List, [], ◌∷◌, map, refl, sym, ap, ◌∙◌, Ordering, IsTrue, true, false}
 use Rattle.std.specs.declared.cmp.Ordering.TheVariants.{Less, Equal, Greater}
-use Rattle.std.specs.Ordering.{nat_cmp, is_eq, on}
+use Rattle.std.specs.Ordering.{nat_cmp, is_eq, on, ordering_then}
 use Rattle.std.specs.Cmp.{IsTotalOrder}
-use Rattle.std.proofs.lemmas.Cmp.{on_total, then_total, nat_list_cmp_total, tied_itself}
+use Rattle.std.proofs.lemmas.Cmp.{by_ranked, on_total, ranked, then_total, nat_list_cmp_total, tied_itself}
 use Rattle.ntfs_def.specs.FileName.{key_units}
-use Rattle.ntfs_def.specs.KeyOrder.{by_numbers, compare_units, name_order, fold_order, id_order, id_parts, hash_order, hash_parts, word_order, word_parts}
-use Rattle.list_laws.proofs.OrderLaws.{equal_numbers, then_both, then_less}
+use Rattle.ntfs_def.specs.KeyOrder.{by_numbers, compare_units, fold_order, hash_order, hash_parts, id_order, id_parts, name_order, word_order, word_parts}
+
+-- numbers that tie are one, and what two orders say, one behind the other
+pub equal_numbers : (x y : ℕ) → nat_cmp x y ≡ Equal → x ≡ y
+equal_numbers x y e = by_ranked (x < y) (x ≡ y) (y < x) (nat_cmp x y) (ranked x y (nat_cmp x y) refl)
+    (λ f h. absurd (less_equal (sym f ∙ e))) (λ f h. h) (λ f h. absurd (greater_equal (sym f ∙ e)))
+  where
+    less_equal : Less ≡ Equal → ⊥
+    less_equal g = cc
+
+    greater_equal : Greater ≡ Equal → ⊥
+    greater_equal g = cc
+
+pub then_both : (a b : Ordering) → ordering_then a b ≡ Equal → (a ≡ Equal) × (b ≡ Equal)
+then_both Less b e = let f : Less ≡ Equal = e in absurd (not f)
+  where
+    not : Less ≡ Equal → ⊥
+    not g = cc
+then_both Equal b e = (refl, e)
+then_both Greater b e = let f : Greater ≡ Equal = e in absurd (not f)
+  where
+    not : Greater ≡ Equal → ⊥
+    not g = cc
+
+pub then_less : (a b : Ordering) → ordering_then a b ≡ Less → a ≢ Greater
+then_less Less b e f = let g : Less ≡ Greater = f in cc
+then_less Equal b e f = let g : Equal ≡ Greater = f in cc
+then_less Greater b e f = let g : Greater ≡ Less = e in cc
 
 pub units_total : (fold : ℕ → ℕ) → IsTotalOrder (compare_units fold)
 units_total fold = then_total (on_total (map fold) nat_list_cmp_total) nat_list_cmp_total

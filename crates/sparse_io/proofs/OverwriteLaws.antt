@@ -17,9 +17,7 @@ use Rattle.volume_edits.specs.Clusters.{IsOwnStream, IsPlaced, IsWritable, Write
 use Rattle.volume_edits.proofs.ClusterWrites.{WritesStream-then}
 use Rattle.vol_stage.specs.Staged.{StagesOnly}
 use Rattle.vol_stage.specs.declared.stage.Stage.{Stage}
-use Rattle.mft_table.specs.declared.mft.Mft.{Mft}
-use Rattle.mft_table.specs.Mft.{MftReads}
-use Rattle.mft_table.proofs.StreamReads.{MftReads-none, touched}
+use Rattle.mft_table.proofs.StreamReads.{touched}
 use Rattle.file_record.specs.declared.parts.FileParts.{FileParts}
 use Rattle.file_record.specs.Held.{file_number, parts_held}
 use Rattle.attr_store.specs.declared.stored.Stored.{Stored}
@@ -27,7 +25,6 @@ use Rattle.attr_store.specs.First.{IsStored, attribute_held}
 use Rattle.attr_store.specs.Sought.{parts_held_like}
 use Rattle.attr_store.proofs.StageLaws.{StagesOnly-then}
 use Rattle.attr_store.proofs.StoredLaws.{stored-like, stored-stream}
-use Rattle.index_store.specs.IndexBlocksMut.{KeepsDisk}
 use Rattle.tree_model.specs.Cases.{size_of}
 use Rattle.tree_model.specs.declared.tree.Stream.{Stream}
 use Rattle.sparse_io.specs.declared.find.FoundStream.{FoundStream}
@@ -184,42 +181,3 @@ staged-piece g layout mid like extents f at len from n a b c low high same are a
     (second f (subst (λ (l : TableLayout). AreAttribute (cluster_bytes l) f like) (sym same) attribute))) in
     StagesOnly-then g (touched_sectors layout (spot_at extents) at len) (touched_sectors layout (spot_at extents) from n) a b c
     (λ s there. touched-part layout (spot_at extents) at len from n s low high there) first next
-
-module _ {D : Type 0} (g : Ghosts D) where
-  -- THE DISK stays through calls that only read, and through one after another.
-  pub keeps-then : (a b c : Mft D g) → KeepsDisk g a b → KeepsDisk g b c → KeepsDisk g a c
-  keeps-then a b c x y = record {
-    goes_on = record {
-      same_reference = y.goes_on.same_reference ∙ x.goes_on.same_reference;
-      size = y.goes_on.size ∙ x.goes_on.size;
-      told = y.goes_on.told ∙ x.goes_on.told;
-      told_image = y.goes_on.told_image ∙ x.goes_on.told_image;
-      one = y.goes_on.one;
-      faults = omega (arith, x.goes_on.faults, y.goes_on.faults);
-      on_time = λ none. y.late ∙ x.late;
-    };
-    now = y.now ∙ x.now;
-    settled = y.settled ∙ x.settled;
-    fenced = y.fenced ∙ x.fenced;
-    written = y.written ∙ x.written;
-    late = y.late ∙ x.late;
-    broken = y.broken ∙ x.broken;
-    mounted = y.mounted ∙ x.mounted;
-    committed = y.committed ∙ x.committed;
-  }
-
-  pub keeps-reads : (a b : Mft D g) (reads : ℕ) → MftReads g a b reads → KeepsDisk g a b
-  keeps-reads a b reads r = record {
-    goes_on = r.stage.goes_on;
-    now = r.stage.only_reads.now;
-    settled = r.stage.only_reads.settled;
-    fenced = r.stage.only_reads.fenced;
-    written = r.stage.only_reads.written;
-    late = r.stage.only_reads.late;
-    broken = r.stage.only_reads.broken;
-    mounted = r.mounted;
-    committed = r.committed;
-  }
-
-  pub keeps-same : (a : Mft D g) → KeepsDisk g a a
-  keeps-same a = keeps-reads a a 0 (MftReads-none g a)

@@ -1,18 +1,9 @@
 -- BYTES THAT GO OVER BYTES of a stream, in clusters that were written before.
 use Rattle.std.specs.Prelude.{◌≡◌, ◌⊎◌, ℕ, ◌+◌, ◌-◌, ◌*◌, ◌%◌, ◌<◌, ◌≤◌, List, length, slice_index}
-use Rattle.ntfs_def.specs.declared.kinds.TheConstants.{DATA}
 use Rattle.ntfs_def.specs.declared.run_text.Spot.{Spot}
-use Rattle.volume_def.specs.Files.{parts_at}
 use Rattle.volume_def.specs.Table.{TableLayout}
-use Rattle.volume_def.specs.Values.{pieces_touched, spot_at}
-use Rattle.volume_def.specs.View.{VolumeView}
-use Rattle.volume_edits.specs.Clusters.{IsWritable, WritesStream, stream_sectors}
-
--- THE BYTES STAND IN THE CLUSTERS of the stream of this name, in bytes, from its byte `at` on, where they may be written in place. Nothing
--- else of the volume changed: no size of the stream, no record, no bit.
-pub record OverwritesStream (old new : VolumeView) (f : ℕ) (name : List ℕ) (at : ℕ) (bytes : List ℕ) : Type 0 where
-  pub can : IsWritable old (parts_at old f DATA name) at (length bytes)
-  pub writes : WritesStream old new (spot_at (parts_at old f DATA name)) at bytes
+use Rattle.volume_def.specs.Values.{pieces_touched}
+use Rattle.volume_edits.specs.Clusters.{stream_sectors}
 
 -- the sectors of the disk in which a byte of the stream lies, of so many from byte `at` on
 abbrev pub touched_sectors : TableLayout → (ℕ → Spot) → ℕ → ℕ → List ℕ

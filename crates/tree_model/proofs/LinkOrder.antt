@@ -7,9 +7,9 @@ use Rattle.std.specs.Cmp.{IsTotalOrder, nat_cmp_total, on_total, then_total}
 use Rattle.std.specs.Cmp.Lexicographic.{lists_total}
 use Rattle.std.specs.FinMap.{IsAntisymmetric, nat_cmp-IsAntisymmetric, slice_cmp-IsAntisymmetric}
 use Rattle.list_laws.specs.Ordered.{IsOrder}
+use Rattle.ntfs_def.proofs.KeyOrderLaws.{then_both}
 use Rattle.tree_model.specs.declared.tree.Link.{Link}
 use Rattle.tree_model.specs.Tree.{compare_links, link_above}
-use Rattle.list_laws.proofs.OrderLaws.{then_both}
 
 -- a total order in which only equal items tie
 pub order : {A : Type 0} (cmp : A → A → Ordering) → IsTotalOrder cmp → IsAntisymmetric cmp → IsOrder (λ x y. is_gt (cmp x y))

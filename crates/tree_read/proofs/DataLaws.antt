@@ -26,7 +26,7 @@ use Rattle.list_laws.proofs.MemberLaws.{Contains-from_flat_map, Contains-from_ma
 use Rattle.attr_store.specs.declared.first.FirstPart.{FirstPart}
 use Rattle.attr_store.specs.First.{TellsSizes, attribute_held}
 use Rattle.attr_store.proofs.FirstLaws.{is_sought, sought-first}
-use Rattle.attr_store.proofs.StoredLaws.{named, no-value}
+use Rattle.attr_store.proofs.StoredLaws.{no-value}
 use Rattle.file_record.specs.declared.parts.FileParts.{FileParts}
 use Rattle.file_record.specs.declared.base.BaseFile.{BaseFile}
 use Rattle.file_record.specs.Held.{held_of, parts_held, parts_of}
@@ -46,6 +46,7 @@ use Rattle.tree_read.specs.Shown.{objid_shown, reparse_shown}
 use Rattle.tree_read.specs.declared.stop.Stop.{Stop}
 use Rattle.list_laws.proofs.PieceLaws.{take-drop-take}
 use Rattle.list_laws.proofs.BoolLaws.{and-none, and-swap}
+use Rattle.volume_def.proofs.PartLaws.{named}
 
 -- What an attribute holds, by the part that tells its sizes.
 

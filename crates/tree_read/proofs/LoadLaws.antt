@@ -12,6 +12,7 @@ use Rattle.mft_table.specs.declared.mft.Mft.{Mft}
 use Rattle.mft_table.specs.declared.mounted.Mounted.{Mounted}
 use Rattle.mft_table.specs.Mft.{MftReads, faults_of, view}
 use Rattle.vol_disk.specs.declared.Disk.{Ghosts}
+use Rattle.volume_def.proofs.SoundLaws.{readable-sound}
 use Rattle.file_record.specs.Base.{HasBaseRecord}
 use Rattle.attr_store.proofs.StoredLaws.{stored-length, stored-read}
 use Rattle.file_record.specs.Held.{AreParts, file_number, parts_held}
@@ -23,7 +24,7 @@ use Rattle.tree_read.specs.Answered.{Finds, IsFound}
 use Rattle.tree_read.specs.declared.stop.Stop.{Stop}
 use Rattle.tree_read.specs.Nodes.{IsCaseOf, IsFileHeld, IsNodeHeld, begin_of}
 use Rattle.tree_read.proofs.DataLaws.{content-none, content-plain, first-read, no_first}
-use Rattle.tree_read.proofs.NodeLaws.{held-file, node-held, sound-readable}
+use Rattle.tree_read.proofs.NodeLaws.{held-file, node-held}
 use Rattle.tree_read.proofs.GivesLaws.{tells}
 
 -- none is there
@@ -61,7 +62,7 @@ file-found g old new f found held is in_use only quiet number header are = recor
     number = subst (λ o. IfSome o (λ (file : BaseFile). file_number file.parts ≡ f)) is number;
     base = subst (λ o. IfSome o (λ (file : BaseFile). HasBaseRecord (view g old) f file.header)) is (header told);
     parts = subst (λ o. IfSome o (λ (file : BaseFile). AreParts (view g old) file.parts)) is
-        (are told (sound-readable (view g old) (in_use told).sound));
+        (are told (readable-sound (view g old) (in_use told).sound));
   };
 }
 
@@ -73,7 +74,7 @@ node-found g old new f result in_use shown call = tells call refl (λ told. by r
   where
     by : (result : Result BaseFile Stop) → IsTrue (view g old).told → IsFound (IsFileHeld (view g old) f) result
         → IsFound (IsNodeHeld (view g old)) result
-    by (Ok held) told is = node-held (view g old) f held (sound-readable (view g old) (in_use told).sound) (shown told) is
+    by (Ok held) told is = node-held (view g old) f held (readable-sound (view g old) (in_use told).sound) (shown told) is
     by (Err why) told failed = failed
 
 -- the table of case that is kept

@@ -3,8 +3,7 @@ use Rattle.std.proofs.Common.{◌≡◌, ◌&&◌, ◌==◌, ◌/◌, ◌%◌, n
 use Rattle.std.specs.Prelude.{IsSome, IsSomeAnd, IsTrue, if◌then◌else◌, option_and_then, option_map, slice_index}
 use Rattle.volume_def.specs.CaseClause.{volume_fold}
 use Rattle.volume_def.specs.Files.{Part, Record, is_base, is_directory, parts, record_on, records_of}
-use Rattle.volume_def.specs.Readable.{IsFile, IsReadableVolume, IsDirectory}
-use Rattle.volume_def.specs.Sound.{Attributes, Extents, IsSound, Lists, Shape}
+use Rattle.volume_def.specs.Readable.{IsDirectory, IsFile, IsReadableVolume}
 use Rattle.volume_def.specs.View.{VolumeView}
 use Rattle.mft_table.specs.Mft.{view}
 use Rattle.file_record.specs.Base.{HasHeader}
@@ -24,9 +23,6 @@ use Rattle.tree_model.proofs.ReadingLaws.{node_of-read}
 use Rattle.tree_read.specs.Nodes.{IsCaseOf, IsFileHeld, IsNodeHeld, number_of, parts_in}
 use Rattle.tree_read.specs.Parts.{unnamed_size}
 use Rattle.tree_read.specs.Shown.{attr_shown, sec_shown, stat_shown, streams_shown, told_by}
-
-pub sound-readable : (view : VolumeView) → IsSound view → IsReadableVolume view
-sound-readable view sound = record { shape = sound Shape; attributes = sound Attributes; lists = sound Lists; extents = sound Extents }
 
 -- The node of a number is that of its base record.
 

@@ -10,11 +10,11 @@ use Rattle.ntfs_def.specs.declared.kinds.TheConstants.{FILE_NAME, REPARSE_POINT}
 use Rattle.volume_def.specs.AttributesClause.{IsRightPart}
 use Rattle.volume_def.specs.FileNames.{names_among, names_of}
 use Rattle.volume_def.specs.Files.{Part, Record, content_of, content_value, is_base, is_directory, is_of, part_of, parts, record_on, records_of}
-use Rattle.volume_def.specs.Readable.{IsReadableVolume}
-use Rattle.volume_def.specs.Sound.{IsSound, Attributes, Extents, Lists, Shape}
+use Rattle.volume_def.specs.Sound.{IsSound}
 use Rattle.volume_def.specs.View.{VolumeView}
 use Rattle.list_laws.proofs.MemberLaws.{All-from_Contains}
 use Rattle.volume_def.proofs.ReadableLaws.{readable-part}
+use Rattle.volume_def.proofs.SoundLaws.{readable-sound}
 use Rattle.file_record.specs.Base.{HasHeader}
 use Rattle.file_record.specs.Held.{AreParts, attributes_held, file_number, parts_held}
 use Rattle.file_record.specs.declared.base.BaseFile.{BaseFile}
@@ -25,15 +25,6 @@ use Rattle.tree_model.specs.Reading.{link_for, links_to}
 use Rattle.tree_model.specs.declared.tree.Link.{Link}
 use Rattle.tree_read.specs.FileLinks.{attribute_link, has_point_held, links_held}
 use Rattle.tree_read.specs.Nodes.{IsFileHeld}
-
--- the files of a sound volume can be read
-pub readable : (view : VolumeView) → IsSound view → IsReadableVolume view
-readable view sound = record {
-  shape = sound Shape;
-  attributes = sound Attributes;
-  lists = sound Lists;
-  extents = sound Extents;
-}
 
 value-held : (body : Body) → content_value (content_of body) ≡ value_of body
 value-held (Resident value) = refl
@@ -92,7 +83,7 @@ pub names-told : (view : VolumeView) (f : ℕ) (file : FileParts) → file_numbe
 unfolding names_of
 names-told view f file number are sound =
     let all = are.parts ∙ ap (parts (records_of view)) number in
-    let right = All-from_Contains IsRightPart (parts (records_of view) f) (λ part. readable-part view f part (readable view sound)) in
+    let right = All-from_Contains IsRightPart (parts (records_of view) f) (λ part. readable-part view f part (readable-sound view sound)) in
     ap (λ n. filter_map (attribute_link n) (attributes_held file)) number
     ∙ links-held f (attributes_held file) (parts (records_of view) f) (subst (AreHeld (attributes_held file)) all (AreHeld-file file)) right
 

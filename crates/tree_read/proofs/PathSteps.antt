@@ -3,6 +3,7 @@ use Rattle.std.proofs.Common.{◌≡◌, ◌++◌, ◌∷◌, [], ℕ, List, Res
 use Rattle.ntfs_def.specs.declared.records.TheConstants.{ROOT}
 use Rattle.vol_disk.specs.declared.Disk.{Ghosts}
 use Rattle.volume_def.specs.View.{VolumeView}
+use Rattle.volume_def.proofs.SoundLaws.{readable-sound}
 use Rattle.mft_table.specs.declared.mft.Mft.{Mft}
 use Rattle.mft_table.specs.Mft.{view}
 use Rattle.mft_table.specs.InUse.{IsInUse}
@@ -20,7 +21,7 @@ use Rattle.tree_read.specs.declared.walk.Reached.{Reached}
 use Rattle.tree_read.specs.declared.stop.Stop.{Stop}
 use Rattle.tree_read.proofs.AnsweredLaws.{follows, same_wanted, stops}
 use Rattle.tree_read.proofs.GivesLaws.{both, tells, told-back}
-use Rattle.tree_read.proofs.NodeLaws.{node-held, sound-readable}
+use Rattle.tree_read.proofs.NodeLaws.{node-held}
 use Rattle.tree_read.proofs.WalkLaws.{ended, passed-shown, reached-node, resolve-place, root-shown}
 
 -- THE LAST NAME of a path stands in the directory that the names before it lead to ..
@@ -140,7 +141,7 @@ module _ {D : Type 0} (g : Ghosts D) (old : Mft D g) (path names : List (List �
       → IfOk result (λ to. IsTrue (view g mft).told → IsFileHeld (view g mft) (found_file to.found) to.held)
       → IfOk result (λ to. IsTrue (view g old).told → IsNodeHeld (view g old) to.held)
   path-node mft new dir (Ok to) used first call held = λ told.
-      node-held (view g old) (found_file to.found) to.held (sound-readable (view g old) (used told).sound)
+      node-held (view g old) (found_file to.found) to.held (readable-sound (view g old) (used told).sound)
       (reached-node (read (view g old)) (lookup (read (view g old)) dir name) to.found
       ((both first call).is told).1)
       (told-back (λ v. IsFileHeld v (found_file to.found) to.held) first.only held told)

@@ -22,7 +22,7 @@ use Rattle.index_store.specs.Index.{HasParts, IsFound, index_held}
 use Rattle.index_store.specs.declared.index.FoundIndex.{FoundIndex}
 use Rattle.index_store.proofs.HeldIndexLaws.{index-held}
 use Rattle.index_store.proofs.IndexRecordLaws.{record-there}
-use Rattle.dir_index.specs.Held.{records_found}
+use Rattle.index_store.specs.IndexBlocks.{records_found}
 use Rattle.view_index.specs.Held.{nodes_found, root_found}
 
 one_same : {X : Type 0} {a b : X} → Some a ∷ [] ≡ Some b ∷ [] → a ≡ b

@@ -6,17 +6,18 @@ use Rattle.ntfs_def.specs.declared.kinds.TheConstants.{DATA}
 use Rattle.ntfs_def.specs.declared.records.TheConstants.{SECURE}
 use Rattle.volume_def.specs.Files.{is_of}
 use Rattle.volume_def.specs.Sound.{IsSound}
-use Rattle.volume_def.specs.Sound.Clause.{Attributes, Extents, Indexes, Lists, References, Shape}
+use Rattle.volume_def.specs.Sound.Clause.{Indexes, References}
 use Rattle.volume_def.specs.Readable.{IsFile}
 use Rattle.volume_def.specs.Values.{IsPlain}
 use Rattle.volume_def.specs.View.{VolumeView}
 use Rattle.tree_model.specs.Facts.{HasDescriptor}
 use Rattle.volume_def.proofs.FileLaws.{no-parts}
+use Rattle.volume_def.proofs.SoundLaws.{readable-sound}
 use Rattle.view_index.specs.Security.{IsReadableSecurity}
 
 pub sound-readable : (view : VolumeView) → IsSound view → IsReadableSecurity view
 sound-readable view sound = record {
-  readable = record { shape = sound Shape; attributes = sound Attributes; lists = sound Lists; extents = sound Extents };
+  readable = readable-sound view sound;
   ids = (sound Indexes SECURE).security_ids refl;
   own = λ none kind name. ap (filter (is_of kind name)) (no-parts view SECURE (sound References) none);
 }

@@ -7,7 +7,7 @@ use Rattle.volume_def.specs.View.{VolumeView}
 use Rattle.index_tree.specs.Search.{nodes_of}
 use Rattle.file_record.specs.declared.parts.FileParts.{FileParts}
 use Rattle.index_store.specs.declared.index.FoundIndex.{FoundIndex}
-use Rattle.dir_index.specs.Held.{records_found}
+use Rattle.index_store.specs.IndexBlocks.{records_found}
 
 -- the nodes that the records of an index say that was found in a file, and the node that its root says
 abbrev pub nodes_found : VolumeView → FileParts → FoundIndex → Nodes

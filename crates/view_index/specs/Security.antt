@@ -10,8 +10,7 @@ use Rattle.volume_def.specs.Readable.{IsFile, IsReadableVolume}
 use Rattle.volume_def.specs.View.{VolumeView}
 use Rattle.tree_model.specs.Facts.{HasDescriptor}
 use Rattle.file_record.specs.declared.parts.FileParts.{FileParts}
-use Rattle.file_record.specs.Held.{file_number}
-use Rattle.index_store.specs.IndexBlocks.{IsHeldFile}
+use Rattle.file_record.specs.Held.{IsHeldFile, file_number}
 
 -- THE CONDITION: the volume's files can be read, the index of ids is right where it is there, and where there is no such file none of
 -- its parts are there.

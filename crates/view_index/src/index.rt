@@ -1,12 +1,12 @@
 //! A key is sought in a view index of a file that is held.
 ghost use Rattle.std.specs.Prelude.{◌≡◌, ℕ, IfErr, IfOk, IfSome, IsTrue, MatchResult};
 ghost use Rattle.ntfs_def.specs.declared.index.NodeForm.TheVariants.{View};
-ghost use Rattle.mft_table.specs.Mft.{MftReads, faults_of, view};
+ghost use Rattle.mft_table.specs.Mft.{MftReads, faults_of, fetched_of, view};
 ghost use Rattle.file_record.specs.FileNos.{CountsNo, IsReadNo};
+ghost use Rattle.file_record.specs.Held.{IsHeldFile};
 ghost use Rattle.index_tree.specs.Search.{Costs, Finds, HasRisingIndex, IsKeyed};
 ghost use Rattle.index_store.specs.Index.{IsFound};
-ghost use Rattle.index_store.specs.IndexBlocks.{IsHeldFile};
-ghost use Rattle.dir_index.specs.Held.{fetched_of, file_no_of};
+ghost use Rattle.index_store.specs.IndexBlocks.{file_no_of};
 ghost use Rattle.view_index.specs.Held.{nodes_found, root_found};
 
 use collation::Collation;

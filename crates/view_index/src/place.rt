@@ -8,9 +8,8 @@ ghost use Rattle.volume_def.specs.Values.{IsPlain, value_on};
 ghost use Rattle.mft_table.specs.Mft.{MftReads, faults_of, view};
 ghost use Rattle.tree_model.specs.Facts.{HasDescriptor};
 ghost use Rattle.file_record.specs.FileNos.{CountsNo, IsReadNo};
-ghost use Rattle.file_record.specs.Held.{parts_held};
+ghost use Rattle.file_record.specs.Held.{IsHeldFile, parts_held};
 ghost use Rattle.attr_store.specs.First.{IsStored, attribute_held};
-ghost use Rattle.index_store.specs.IndexBlocks.{IsHeldFile};
 ghost use Rattle.view_index.specs.Places.{HasPlace, TellsPlaceIfThere};
 ghost use Rattle.view_index.specs.Security.{IsHeldSecurity};
 

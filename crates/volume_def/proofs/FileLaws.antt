@@ -1,9 +1,9 @@
 -- Where references are right a record in use belongs to a file, so what is no file has no parts.
-use Rattle.std.proofs.Common.{◌≡◌, ◌⊎◌, [], ℕ, Option, Some, None, inl, inr, refl, sym, ap, subst, ◌∙◌}
-use Rattle.std.specs.Prelude.{IfSome, IsSomeAnd, IsTrue, is_none, option_map, unwrap_or}
-use Rattle.std.proofs.lemmas.Bool.{cases_Bool, false≢true}
+use Rattle.std.proofs.Common.{◌≡◌, ◌⊎◌, ◌<◌, Bool, true, false, cond, [], ℕ, Option, Some, None, inl, inr, refl, sym, ap, subst, ◌∙◌}
+use Rattle.std.specs.Prelude.{IfSome, IsSomeAnd, IsTrue, is_none, nat_lt, option_map, unwrap_or}
+use Rattle.std.proofs.lemmas.Bool.{cases_Bool, false≢true, ltb-true}
 use Rattle.ntfs_def.specs.Record.{Reference}
-use Rattle.volume_def.specs.Files.{Record, file_of, is_base, parts, record_on, records_of}
+use Rattle.volume_def.specs.Files.{Record, file_of, is_base, parts, record_in, record_on, records_of}
 use Rattle.volume_def.specs.Readable.{IsFile}
 use Rattle.volume_def.specs.ReferencesClause.{HasRightReferences, MeetsReferences, NamesBase}
 use Rattle.volume_def.specs.View.{VolumeView}
@@ -40,3 +40,12 @@ pub no-parts : (view : VolumeView) (f : ℕ) → ((n : ℕ) → MeetsReferences 
 no-parts view f meets none = nil-from_Contains (parts (records_of view) f) (λ part h.
     let w = HoldsPart-Contains (records_of view) f part h in
     none (file-held view f w.0 w.1.record_there (meets w.0) w.1.held w.1.file))
+
+-- A FILE has a record of its number
+pub file-counted : (view : VolumeView) (f : ℕ) → IsFile view f → f < view.layout.count
+file-counted view f is = by (nat_lt f view.layout.count) refl is
+  where
+    by : (b : Bool) → nat_lt f view.layout.count ≡ b → IsSomeAnd (cond b (record_in f (view.block f)) None) (λ r. IsTrue (is_base r))
+        → f < view.layout.count
+    by true e h = ltb-true f view.layout.count e
+    by false e h = absurd h

@@ -1,13 +1,16 @@
 -- The parts of a file are what the records of the file hold.
-use Rattle.std.proofs.Common.{◌≡◌, ◌<◌, ℕ, cond, List, Option, Some, None, ltb, refl, sym, ap, subst, inl, inr, ◌∙◌, arith}
-use Rattle.std.proofs.lemmas.Bool.{cases_Bool, cases_eq}
+use Rattle.std.proofs.Common.{◌≡◌, ◌<◌, ℕ, true, cond, List, Option, Some, None, ltb, refl, sym, ap, subst, inl, inr, ◌∙◌, arith}
+use Rattle.std.specs.Prelude.{◌==◌}
+use Rattle.std.specs.Str.{bytes_eq}
+use Rattle.std.proofs.lemmas.Bool.{and_parts, cases_Bool, cases_eq, eqb-true}
 use Rattle.std.proofs.lemmas.List.Elements.{All-contains, All-map}
+use Rattle.std.proofs.lemmas.Slice.Eq.{bytes_eq-Decides}
 use Rattle.std.specs.List.{All, Contains, range_with_len}
 use Rattle.ntfs_def.specs.Attribute.{attributes}
 use Rattle.ntfs_def.specs.Fixup.{opened_of}
 use Rattle.ntfs_def.specs.Record.{is_in_use}
 use Rattle.volume_def.specs.Members.{HoldsPart, IsPart, NameHolders}
-use Rattle.volume_def.specs.Files.{Part, Record, Records, file_of, part_of, parts, parts_in, record_on, record_in, record_of, records_of}
+use Rattle.volume_def.specs.Files.{Part, Record, Records, file_of, is_of, part_of, parts, parts_in, record_in, record_of, record_on, records_of}
 use Rattle.volume_def.specs.View.{VolumeView}
 use Rattle.list_laws.proofs.MemberLaws.{Contains-flat_map, Contains-from_flat_map, Contains-from_range, Contains-nil, Contains-range}
 use Rattle.volume_def.proofs.RecordLaws.{parts_in-other, parts_in-own}
@@ -69,3 +72,9 @@ NameHolders-view view n r e =
     let same : record_of n (opened_of (view.block n)) ≡ r = record_at-block view n r e in
     subst (λ (x : Record). All (λ (part : Part). part.holder ≡ n) x.parts) same
     (All-map (λ (part : Part). part.holder ≡ n) (part_of n) (attributes (opened_of (view.block n))) (λ k d lt. refl))
+
+-- a part that is of a type and name has them
+pub named : (kind : ℕ) (name : List ℕ) (part : Part) → is_of kind name part ≡ true → (part.kind ≡ kind) × (part.name ≡ name)
+named kind name part is =
+    let both = and_parts (part.kind == kind) (bytes_eq part.name name) is in
+    (eqb-true part.kind kind both.0, (bytes_eq-Decides part.name name).0 both.1)

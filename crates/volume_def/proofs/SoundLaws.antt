@@ -4,7 +4,8 @@ use Rattle.std.proofs.lemmas.Bool.{cases_order}
 use Rattle.std.proofs.lemmas.Option.{none-some}
 use Rattle.ntfs_def.specs.Boot.{boot_failing}
 use Rattle.volume_def.specs.Sound.{Attributes, CaseTable, Clause, ClusterBits, Extents, Indexes, Limits, Links, Lists, Mirror, MirrorPlace, Owners, RecordBits, References, Shape, Version}
-use Rattle.volume_def.specs.Sound.{FailsLater, FirstBroken, IsAccepted, IsRefused, Meets, clause_number, rank_of, told_view}
+use Rattle.volume_def.specs.Readable.{IsReadableVolume}
+use Rattle.volume_def.specs.Sound.{FailsLater, FirstBroken, IsAccepted, IsRefused, IsSound, Meets, clause_number, rank_of, told_view}
 use Rattle.volume_def.specs.Table.{TableLayout}
 use Rattle.volume_def.specs.View.{VolumeView}
 use Rattle.volume_def.proofs.OneTable.{layout-exact}
@@ -96,3 +97,7 @@ IsAccepted-only disk boot sectors k n x (inr (inr y)) =
     let meets : Meets y.clause (told_view disk y.layout) n =
     subst (λ (w : TableLayout). Meets y.clause (told_view disk w) n) layouts (x.sound y.clause n) in
     y.first.broken meets
+
+-- the files of a sound volume can be read
+pub readable-sound : (view : VolumeView) → IsSound view → IsReadableVolume view
+readable-sound view sound = record { shape = sound Shape; attributes = sound Attributes; lists = sound Lists; extents = sound Extents }

@@ -7,4 +7,5 @@ pub mod PokeLaws
 pub mod StoredPoke
 pub mod ClusterWrites
 pub mod StreamClusters
+pub mod ChangedStream
 pub mod WithBytes

@@ -1,12 +1,14 @@
 -- Bytes written into the clusters of a stream.
-use Rattle.std.specs.Prelude.{◌≡◌, ◌≢◌, ◌⊎◌, ℕ, ◌+◌, ◌-◌, ◌/◌, ◌<◌, ◌≤◌, List, ◌++◌, take, drop, length, slice_index, IsTrue, Option, option_to_list}
+use Rattle.std.specs.Prelude.{◌≡◌, ◌≢◌, ◌⊎◌, ℕ, ◌+◌, ◌-◌, ◌*◌, ◌/◌, ◌<◌, ◌≤◌, List, ◌++◌, take, drop, length, slice_index, IsTrue, Option, option_to_list}
 use Rattle.std.specs.List.{flat_map, range_with_len}
+use Rattle.ntfs_def.specs.declared.kinds.TheConstants.{DATA}
+use Rattle.ntfs_def.specs.declared.lengths.TheConstants.{INDEX_RECORD}
 use Rattle.ntfs_def.specs.declared.run_text.Spot.{Spot}
 use Rattle.ntfs_def.specs.declared.run_text.Spot.TheVariants.{At}
 use Rattle.volume_def.specs.Blocks.{place_at}
 use Rattle.volume_def.specs.BitmapClauses.{written_by}
 use Rattle.volume_def.specs.Coverage.{IsApart, IsOutsideTable}
-use Rattle.volume_def.specs.Files.{Part}
+use Rattle.volume_def.specs.Files.{Part, parts_at}
 use Rattle.volume_def.specs.Table.{TableLayout, cluster_bytes}
 use Rattle.volume_def.specs.Values.{first_part, spot_at, stored_byte}
 use Rattle.volume_def.specs.View.{VolumeView}
@@ -34,6 +36,10 @@ stream_place layout spot k = place_at layout k (spot (k / layout.cluster_sectors
 abbrev pub stream_sectors : TableLayout → (ℕ → Spot) → ℕ → ℕ → List ℕ
 stream_sectors layout spot at len = flat_map (λ k. option_to_list (stream_place layout spot k)) (range_with_len (at / 512) (len / 512))
 
+-- the sectors of the disk in which the index record of a number lies, where the clusters of the index lie so
+abbrev pub record_sectors : TableLayout → (ℕ → Spot) → ℕ → List ℕ
+record_sectors layout spot vcn = stream_sectors layout spot (vcn * cluster_bytes layout) INDEX_RECORD
+
 -- these bytes in place of those from `at` on
 abbrev pub with_bytes : List ℕ → ℕ → List ℕ → List ℕ
 with_bytes old at bytes = take at old ++ (bytes ++ drop (at + length bytes) old)
@@ -53,6 +59,15 @@ pub record WritesStream (old new : VolumeView) (spot : ℕ → Spot) (at : ℕ) 
   pub others : IsTrue old.told → (i : ℕ) → (i < at) ⊎ (at + length bytes ≤ i)
       → stored_byte new.cluster (cluster_bytes old.layout) spot i ≡ stored_byte old.cluster (cluster_bytes old.layout) spot i
 
+-- The clusters of a stream that lies so may hold other bytes; all else of the volume is as it was.
+pub record ChangesStream (old new : VolumeView) (spot : ℕ → Spot) : Type 0 where
+  pub told : new.told ≡ old.told
+  pub layout : new.layout ≡ old.layout
+  pub blocks : (n : ℕ) → new.block n ≡ old.block n
+  pub copies : (m : ℕ) → m < 4 → new.copy m ≡ old.copy m
+  pub rest : (k : ℕ) → new.rest k ≡ old.rest k
+  pub clusters : (c : ℕ) → ((vcn : ℕ) → spot vcn ≢ At c) → new.cluster c ≡ old.cluster c
+
 -- So many bytes of an attribute with these parts may be written in place, from byte `at` on: no cluster of the table is another of
 -- it or one of the mirror, the stream has its clusters for itself, and the range lies in them, below the initialized size.
 pub record IsWritable (view : VolumeView) (extents : List Part) (at len : ℕ) : Type 0 where
@@ -60,3 +75,9 @@ pub record IsWritable (view : VolumeView) (extents : List Part) (at len : ℕ) :
   pub own : IsOwnStream view.layout (spot_at extents)
   pub placed : IsPlaced (cluster_bytes view.layout) (spot_at extents) at len
   pub below : at + len ≤ written_by (first_part extents)
+
+-- THE BYTES STAND IN THE CLUSTERS of the stream of this name, in bytes, from its byte `at` on, where they may be written in place. Nothing
+-- else of the volume changed: no size of the stream, no record, no bit.
+pub record OverwritesStream (old new : VolumeView) (f : ℕ) (name : List ℕ) (at : ℕ) (bytes : List ℕ) : Type 0 where
+  pub can : IsWritable old (parts_at old f DATA name) at (length bytes)
+  pub writes : WritesStream old new (spot_at (parts_at old f DATA name)) at bytes

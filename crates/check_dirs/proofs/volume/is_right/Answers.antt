@@ -8,11 +8,10 @@ use Rattle.mft_table.specs.Mft.{view}
 use Rattle.mft_table.proofs.StreamReads.{MftReads-then}
 use Rattle.file_record.specs.declared.base.BaseFile.{BaseFile}
 use Rattle.file_record.specs.Base.{HasBaseRecord}
-use Rattle.file_record.specs.Held.{AreParts, file_number}
+use Rattle.file_record.specs.Held.{AreParts, IsHeldFile, file_number}
 use Rattle.file_record.proofs.BaseLaws.{is-file}
 use Rattle.file_record.proofs.ReadLaws.{view-kept}
 use Rattle.check_dirs.specs.Notes.{AreNotes}
-use Rattle.index_store.specs.IndexBlocks.{IsHeldFile}
 use Rattle.check_dirs.proofs.WantedLaws.{readable}
 use Rattle.check_dirs.proofs.volume.is_right.Goals as goal
 

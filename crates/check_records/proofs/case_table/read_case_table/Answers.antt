@@ -6,7 +6,6 @@ use Rattle.volume_def.specs.CaseClause.{case_parts}
 use Rattle.volume_def.specs.Sound.Clause.{CaseTable}
 use Rattle.volume_def.specs.Values.{pieces_touched, value_on}
 use Rattle.mft_table.specs.Mft.{view}
-use Rattle.attr_store.proofs.FewerReads.{MftReads-less}
 use Rattle.clause_order.specs.Refusals.{IsRefusalIf}
 use Rattle.check_records.specs.Streams.{IsPlainOf, table_len}
 use Rattle.check_records.specs.Views.{HasComeWith}
@@ -14,6 +13,7 @@ use Rattle.check_records.proofs.BelowLaws.{HasCaseTable-of, IsPlainOf-case, leng
 use Rattle.clause_order.proofs.OrderLaws.{HoldBelow-more, IsFirstBroken-of}
 use Rattle.list_laws.proofs.OptionLaws.{ok-always, ok-weaker}
 use Rattle.list_laws.proofs.BitLaws.{whole-piece}
+use Rattle.mft_table.proofs.StreamReads.{MftReads-less}
 use Rattle.check_records.proofs.case_table.read_case_table.Goals as goal
 
 pub returns-then-not-right-clause-err : goal.returns-then-not-right-clause-err

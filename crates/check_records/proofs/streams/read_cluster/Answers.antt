@@ -4,7 +4,7 @@ use Rattle.std.proofs.lemmas.Result.{err_from_is_err_and}
 use Rattle.volume_def.specs.Table.{cluster_bytes}
 use Rattle.volume_def.specs.Values.{pieces_touched}
 use Rattle.mft_table.specs.Mft.{view}
-use Rattle.attr_store.proofs.FewerReads.{MftReads-less}
+use Rattle.mft_table.proofs.StreamReads.{MftReads-less}
 use Rattle.attr_store.proofs.Spanned.{seam-cluster, span-some, touched-le}
 use Rattle.record_notes.specs.Streams.{spot_noted}
 use Rattle.check_records.proofs.StreamLaws.{cluster-nowhere, cluster-placed, no-cluster, touched-inside}

@@ -6,11 +6,11 @@ use Rattle.ntfs_def.specs.declared.index.NodeForm.TheVariants.{Names}
 use Rattle.volume_def.specs.IndexesClause.{IndexParts}
 use Rattle.volume_def.specs.Table.{cluster_bytes}
 use Rattle.volume_def.specs.Values.{spot_at}
+use Rattle.volume_edits.specs.Clusters.{ChangesStream}
 use Rattle.mft_table.specs.Mft.{view}
 use Rattle.index_tree.specs.Edit.{HasSortedIndex, short_nodes}
-use Rattle.index_store.specs.RecordWrites.{ChangesStream}
 use Rattle.file_record.specs.Held.{file_number}
-use Rattle.dir_index.specs.Held.{records_found}
+use Rattle.index_store.specs.IndexBlocks.{records_found}
 use Rattle.dir_index.specs.Links.{names_index}
 use Rattle.dir_index.specs.Replaced.{ReplacesItem}
 use Rattle.dir_index.proofs.HeldDirectory.{can-replace, has-index, held-index, same-index}

@@ -7,7 +7,7 @@ use Rattle.index_tree.specs.Walk.{HasWalk, IsWalk}
 use Rattle.mft_table.specs.Mft.{view}
 use Rattle.index_store.specs.Index.{index_held}
 use Rattle.index_store.proofs.ToldLaws.{records-told, told-records}
-use Rattle.dir_index.specs.Held.{records_found}
+use Rattle.index_store.specs.IndexBlocks.{records_found}
 use Rattle.dir_index.proofs.index.walk_all.Goals as goal
 
 pub walk-requires-clause-index : goal.walk-requires-clause-index

@@ -2,14 +2,14 @@ use Rattle.std.proofs.Common.{◌+◌, ◌*◌, ◌<◌, sym, subst, arith, rule
 use Rattle.std.specs.Prelude.{IsTrue}
 use Rattle.volume_def.specs.Table.{cluster_bytes}
 use Rattle.volume_def.specs.View.{VolumeView}
-use Rattle.mft_table.specs.Mft.{view}
-use Rattle.mft_table.proofs.StreamReads.{MftReads-then}
+use Rattle.mft_table.specs.Mft.{fetched_of, view}
+use Rattle.mft_table.proofs.StreamReads.{MftReads-then, MftReads-within}
 use Rattle.file_record.proofs.ReadLaws.{view-kept}
 use Rattle.list_laws.proofs.OptionLaws.{ok-weaker}
 use Rattle.ntfs_def.specs.KeyOrder.{fold_of}
-use Rattle.dir_index.specs.Held.{fetched_of, records_found}
+use Rattle.index_store.specs.IndexBlocks.{records_found}
 use Rattle.dir_index.specs.Sought.{CanSeek, SeekCosts, Seeks, folded_order}
-use Rattle.dir_index.proofs.HeldDirectory.{can-seek, exact-costs, first-said, folded-costs, reads-within, second-said}
+use Rattle.dir_index.proofs.HeldDirectory.{can-seek, exact-costs, first-said, folded-costs, second-said}
 use Rattle.dir_index.proofs.search.find_entry.Goals as goal
 
 pub find_first-requires-clause-rising : goal.find_first-requires-clause-rising
@@ -24,7 +24,7 @@ returns-in_err-exact-clause-fetched g c told has =
     let some : 0 < cluster_bytes volume.layout = omega (arith, c.args.mft.now.stands.table.some) in
     let costs = exact-costs volume c.args.file.now c.args.upcase.now (c.requires.held told) some c.args.index c.requires.found c.requires.name
     c.args.name.now has (fetched_of g.D.Disk c.args.mft.now) (fetched_of g.D.Disk c.find_first.new.mft) (c.find_first.ensures.fetched told) in
-    reads-within g.D.Disk c.args.mft.now c.find_first.new.mft _ _ c.find_first.ensures.reads.1 (omega (arith, costs))
+    MftReads-within g.D.Disk c.args.mft.now c.find_first.new.mft _ _ c.find_first.ensures.reads.1 (omega (arith, costs))
 
 pub returns-then-is_some-clause-found : goal.returns-then-is_some-clause-found
 returns-then-is_some-clause-found g c told =
@@ -39,7 +39,7 @@ returns-then-is_some-clause-fetched g c told has =
     let some : 0 < cluster_bytes volume.layout = omega (arith, c.args.mft.now.stands.table.some) in
     let costs = exact-costs volume c.args.file.now c.args.upcase.now (c.requires.held told) some c.args.index c.requires.found c.requires.name
     c.args.name.now has (fetched_of g.D.Disk c.args.mft.now) (fetched_of g.D.Disk c.find_first.new.mft) (c.find_first.ensures.fetched told) in
-    reads-within g.D.Disk c.args.mft.now c.find_first.new.mft _ _ c.find_first.ensures.reads.1 (omega (arith, costs))
+    MftReads-within g.D.Disk c.args.mft.now c.find_first.new.mft _ _ c.find_first.ensures.reads.1 (omega (arith, costs))
 
 pub find_first-requires-2-clause-rising : goal.find_first-requires-2-clause-rising
 find_first-requires-2-clause-rising g c =
@@ -94,6 +94,6 @@ returns-clause-fetched g c told has =
     → SeekCosts 8 (folded_order (fold_of table) name) (records_found v file index) index.root.now between after)
     kept c.find_first-2.ensures.fetched told) in
     MftReads-then g.D.Disk c.args.mft.now c.find_first.new.mft c.find_first-2.new.mft (8 * has.index.walks.depth) (8 * has.index.walks.depth) _
-    (reads-within g.D.Disk c.args.mft.now c.find_first.new.mft _ _ c.find_first.ensures.reads.1 one)
-    (reads-within g.D.Disk c.find_first.new.mft c.find_first-2.new.mft _ _ c.find_first-2.ensures.reads.1 two)
+    (MftReads-within g.D.Disk c.args.mft.now c.find_first.new.mft _ _ c.find_first.ensures.reads.1 one)
+    (MftReads-within g.D.Disk c.find_first.new.mft c.find_first-2.new.mft _ _ c.find_first-2.ensures.reads.1 two)
     (omega arith)

@@ -1,4 +1,5 @@
-use Rattle.index_store.proofs.KeptFiles.{clusters-kept, held-kept}
+use Rattle.volume_edits.proofs.ChangedStream.{clusters-kept}
+use Rattle.file_record.proofs.HeldKept.{held-kept}
 use Rattle.index_store.proofs.laws.changed_laws.Goals as goal
 
 pub returns-clause-held : goal.returns-clause-held

@@ -6,10 +6,10 @@ use Rattle.attr_view.specs.View.{attribute_of}
 use Rattle.volume_def.specs.Table.{cluster_bytes}
 use Rattle.volume_def.specs.Values.{spot_at}
 use Rattle.mft_table.specs.Mft.{stage_of, view}
+use Rattle.mft_table.proofs.DiskKept.{KeepsDisk-same}
 use Rattle.attr_store.specs.Sought.{parts_held_like}
 use Rattle.attr_store.proofs.StageLaws.{StagesOnly-none}
 use Rattle.sparse_io.specs.Overwritten.{touched_sectors}
-use Rattle.sparse_io.proofs.OverwriteLaws.{keeps-same}
 use Rattle.sparse_io.proofs.write.overwrite_piece.Goals as goal
 
 pub returns-in-At-clause-written : goal.returns-in-At-clause-written
@@ -49,7 +49,7 @@ returns-in-Hole g c =
           ]);
       places = λ f s. StagesOnly-none g.D.Disk (touched_sectors layout spot at (length c.args.piece.now)) (stage_of g.D.Disk c.args.mft.now);
       few = omega arith;
-      disk = keeps-same g.D.Disk c.args.mft.now;
+      disk = KeepsDisk-same g.D.Disk c.args.mft.now;
       err = tt;
       faults = refl;
     }

@@ -1,11 +1,12 @@
 use Rattle.std.proofs.Common.{refl, sym, ◌∙◌}
 use Rattle.ntfs_def.specs.declared.records.TheConstants.{ROOT}
+use Rattle.volume_def.proofs.SoundLaws.{readable-sound}
 use Rattle.mft_table.specs.Mft.{view}
 use Rattle.tree_model.proofs.ResolveLaws.{resolve-root}
 use Rattle.tree_model.specs.Reading.{read}
 use Rattle.tree_read.proofs.GivesLaws.{handed-on, tells}
 use Rattle.tree_read.proofs.KindLaws.{directory-file}
-use Rattle.tree_read.proofs.NodeLaws.{node-held, sound-readable}
+use Rattle.tree_read.proofs.NodeLaws.{node-held}
 use Rattle.tree_read.proofs.PathSteps.{path-node, path-reached, path-unentered}
 use Rattle.tree_read.proofs.WalkLaws.{root-shown, shown-node}
 use Rattle.tree_read.specs.Standings.{number_within}
@@ -25,7 +26,7 @@ pub returns-in_default-clause-held : goal.returns-in_default-clause-held
 returns-in_default-clause-held g c = λ told.
     let volume = view g.D.Disk c.args.mft.now in
     let sound = (c.requires.volume told).sound in
-    node-held volume ROOT c.in_ok-load_file.field-0 (sound-readable volume sound) (shown-node volume ROOT (root-shown volume sound))
+    node-held volume ROOT c.in_ok-load_file.field-0 (readable-sound volume sound) (shown-node volume ROOT (root-shown volume sound))
     (c.in_ok-load_file.ensures.found.is told)
 
 pub returns-in_err-standing-clause-answered : goal.returns-in_err-standing-clause-answered

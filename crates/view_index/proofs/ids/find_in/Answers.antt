@@ -1,9 +1,8 @@
 use Rattle.std.proofs.Common.{◌<◌, arith}
 use Rattle.volume_def.specs.Table.{cluster_bytes}
 use Rattle.list_laws.proofs.OptionLaws.{ok-weaker}
-use Rattle.mft_table.specs.Mft.{view}
-use Rattle.dir_index.specs.Held.{fetched_of}
-use Rattle.dir_index.proofs.HeldDirectory.{reads-within}
+use Rattle.mft_table.specs.Mft.{fetched_of, view}
+use Rattle.mft_table.proofs.StreamReads.{MftReads-within}
 use Rattle.view_index.proofs.IdLaws.{can-find-id, entry-said, id-costs}
 use Rattle.view_index.proofs.ids.find_in.Goals as goal
 
@@ -28,4 +27,4 @@ returns-clause-fetched g c told =
     let some : 0 < cluster_bytes volume.layout = omega (arith, c.args.mft.now.stands.table.some) in
     let costs = id-costs volume c.args.file.now (c.requires.held told) some c.args.index c.requires.found c.requires.name _
     (fetched_of g.D.Disk c.args.mft.now) (fetched_of g.D.Disk c.find_key.new.mft) (c.find_key.ensures.fetched told) in
-    reads-within g.D.Disk c.args.mft.now c.find_key.new.mft _ _ c.find_key.ensures.reads.1 costs
+    MftReads-within g.D.Disk c.args.mft.now c.find_key.new.mft _ _ c.find_key.ensures.reads.1 costs

@@ -4,10 +4,10 @@ use Rattle.ntfs_def.specs.Node.{node_in}
 use Rattle.ntfs_def.specs.declared.index.NodeForm.{NodeForm}
 use Rattle.ntfs_def.specs.declared.index.NodeForm.TheVariants.{View}
 use Rattle.index_tree.specs.Search.{Costs, Finds, HasRisingIndex, nodes_of}
-use Rattle.mft_table.specs.Mft.{view}
+use Rattle.mft_table.specs.Mft.{fetched_of, view}
 use Rattle.index_store.specs.Index.{index_held}
 use Rattle.index_store.proofs.ToldLaws.{records-told, told-records}
-use Rattle.dir_index.specs.Held.{fetched_of, records_found}
+use Rattle.index_store.specs.IndexBlocks.{records_found}
 use Rattle.view_index.proofs.index.find_key.Goals as goal
 
 pub find-requires-clause-index : goal.find-requires-clause-index

@@ -2,11 +2,11 @@ use Rattle.std.proofs.Common.{◌≡◌, ℕ, ◌+◌, ◌-◌, ◌^◌, ◌≤�
 use Rattle.std.specs.Prelude.{◌⊎◌, IsTrue, min}
 use Rattle.std.proofs.lemmas.Bool.{cases_lt}
 use Rattle.volume_edits.specs.Owners.{HasOwners}
+use Rattle.volume_edits.specs.Clusters.{ChangesStream}
 use Rattle.mft_table.specs.Mft.{view}
+use Rattle.file_record.specs.Held.{IsHeldFile}
 use Rattle.index_store.specs.Index.{index_held}
-use Rattle.index_store.specs.IndexBlocks.{IsHeldFile}
 use Rattle.index_store.specs.IndexRecords.{index_record_on}
-use Rattle.index_store.specs.RecordWrites.{ChangesStream}
 use Rattle.index_store.proofs.EditedBlocks.{EditsRecords-writes}
 use Rattle.index_store.proofs.RecordWriteLaws.{record-left, records-edited}
 use Rattle.index_store.proofs.ToldLaws.{records-told}

@@ -1,11 +1,11 @@
--- A volume on which no cluster has two owners, where the clusters of one attribute changed, which is no list: its files are as they were.
-use Rattle.std.proofs.Common.{◌≡◌, ◌≢◌, ℕ, ◌<◌, ◌≤◌, true, cond, List, [], ◌∷◌, None, inl, inr, sym, ap, subst, ◌∙◌, ltb}
+-- The clusters of one stream changed: one change behind the other, and, on a volume on which no cluster has two owners, all else that its
+-- files hold, as long as the stream is no attribute list.
+use Rattle.std.proofs.Common.{◌≡◌, ◌≢◌, ℕ, ◌/◌, ◌<◌, ◌≤◌, true, cond, List, [], ◌∷◌, None, inl, inr, refl, sym, ap, subst, ◌∙◌, ltb}
 use mathlib.Core.Path.{fun_ext}
-use Rattle.std.specs.Prelude.{◌⊎◌, Contains, IfSome, IsSomeAnd, IsTrue}
+use Rattle.std.specs.Prelude.{◌⊎◌, Contains, IfSome, IsTrue}
 use Rattle.std.proofs.lemmas.Bool.{eqb-true}
-use Rattle.std.proofs.lemmas.List.Elements.{All-contains}
 use Rattle.ntfs_def.specs.declared.kinds.TheConstants.{ATTRIBUTE_LIST}
-use Rattle.ntfs_def.specs.Fixup.{bare_of, opened_of}
+use Rattle.ntfs_def.specs.declared.run_text.Spot.{Spot}
 use Rattle.ntfs_def.specs.Record.{is_in_use}
 use Rattle.list_laws.proofs.MemberLaws.{All-from_Contains, Contains-from_filter, Contains-only}
 use Rattle.list_laws.proofs.OptionLaws.{IfSome-weaker}
@@ -21,13 +21,42 @@ use Rattle.volume_def.specs.Values.{KeepsClusters, spot_at}
 use Rattle.volume_def.specs.View.{VolumeView}
 use Rattle.volume_def.proofs.OtherListLaws.{HasRightList-kept}
 use Rattle.volume_def.proofs.ValueLaws.{spot_at-owned}
+use Rattle.volume_def.proofs.PartLaws.{named}
+use Rattle.volume_edits.specs.Clusters.{ChangesStream, WritesStream}
 use Rattle.volume_edits.specs.Owners.{HasOwners}
 use Rattle.volume_edits.proofs.OwnerLaws.{files-apart, no-shared}
-use Rattle.file_record.specs.declared.parts.FileParts.{FileParts}
-use Rattle.file_record.specs.Held.{IsCurrentRecord, file_number, held_of}
-use Rattle.attr_store.proofs.StoredLaws.{named}
-use Rattle.index_store.specs.IndexBlocks.{IsHeldFile}
-use Rattle.index_store.specs.RecordWrites.{ChangesStream}
+
+pub ChangesStream-none : (view : VolumeView) (spot : ℕ → Spot) → ChangesStream view view spot
+ChangesStream-none view spot = record {
+  told = refl;
+  layout = refl;
+  blocks = λ n. refl;
+  copies = λ m few. refl;
+  rest = λ k. refl;
+  clusters = λ c out. refl;
+}
+
+pub ChangesStream-then : (a b c : VolumeView) (spot : ℕ → Spot) → ChangesStream a b spot → ChangesStream b c spot → ChangesStream a c spot
+ChangesStream-then a b c spot first second = record {
+  told = second.told ∙ first.told;
+  layout = second.layout ∙ first.layout;
+  blocks = λ n. second.blocks n ∙ first.blocks n;
+  copies = λ m few. second.copies m few ∙ first.copies m few;
+  rest = λ k. second.rest k ∙ first.rest k;
+  clusters = λ c out. second.clusters c out ∙ first.clusters c out;
+}
+
+-- bytes written into a stream change its clusters alone
+pub ChangesStream-written : (old new : VolumeView) (spot : ℕ → Spot) (at : ℕ) (bytes : List ℕ) → WritesStream old new spot at bytes
+    → ChangesStream old new spot
+ChangesStream-written old new spot at bytes w = record {
+  told = w.told;
+  layout = w.layout;
+  blocks = w.blocks;
+  copies = w.copies;
+  rest = w.rest;
+  clusters = λ c out. w.clusters c (λ i inside. out (i / cluster_bytes old.layout));
+}
 
 module _ (old new : VolumeView) (f kind : ℕ) (name : List ℕ) (o : HasOwners old)
     (w : ChangesStream old new (spot_at (parts_at old f kind name))) where
@@ -96,18 +125,4 @@ module _ (old new : VolumeView) (f kind : ℕ) (name : List ℕ) (o : HasOwners 
           (λ r right base. right-kept n (right base)) (r.lists n));
       extents = λ n. subst (λ (l : TableLayout). MeetsExtents (records_of new) (cluster_bytes l) n) (sym w.layout)
           (subst (λ rs. MeetsExtents rs (cluster_bytes old.layout) n) (sym records-kept) (r.extents n));
-    }
-
-    -- A FILE THAT IS HELD is so still
-    pub held-kept : (file : FileParts) → IsHeldFile old file → IsHeldFile new file
-    held-kept file h = record {
-      readable = readable-kept h.readable;
-      parts = record {
-        current = All-from_Contains (IsCurrentRecord new) (held_of file) (λ held c.
-            All-contains (IsCurrentRecord old) (held_of file) held h.parts.current c
-            ∙ ap (λ b. bare_of (opened_of b)) (sym (w.blocks held.number)));
-        parts = h.parts.parts ∙ ap (λ rs. parts rs (file_number file)) (sym records-kept);
-      };
-      is_file = subst (λ (rs : Records). IsSomeAnd (rs.record_at (file_number file)) (λ r. IsTrue (is_base r)))
-          (sym records-kept) h.is_file;
     }
