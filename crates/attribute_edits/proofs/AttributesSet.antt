@@ -16,6 +16,7 @@ use Rattle.volume_def.specs.Sound.{References}
 use Rattle.volume_def.specs.Table.{TableLayout, cluster_bytes}
 use Rattle.volume_def.specs.Values.{first_part}
 use Rattle.volume_def.specs.View.{VolumeView}
+use Rattle.volume_def.proofs.SoundLaws.{readable-sound}
 use Rattle.tree_model.specs.Bill.{Change}
 use Rattle.tree_model.specs.IndexRoom.{directory_index, index_depth}
 use Rattle.tree_model.specs.Hidden.{is_hidden}
@@ -40,10 +41,11 @@ use Rattle.in_place.proofs.OtherParts.{at-other}
 use Rattle.in_place.proofs.PlacesSame as places
 use Rattle.in_place.proofs.RewriteLaws.{Rewrites-then}
 use Rattle.in_place.proofs.RoomSame as room
-use Rattle.dir_index.specs.Standard.{hidden_flags}
+use Rattle.entry_edits.specs.Below.{hidden_flags}
 use Rattle.entry_edits.specs.Refreshable.{index_name}
 use Rattle.volume_mark.proofs.ReadingKept.{find-passing}
-use Rattle.attribute_edits.specs.Attributes.{AreRefreshed, SetsAttributes, dirs_of, is_told_key}
+use Rattle.entry_edits.specs.Attributes.{SetsAttributes}
+use Rattle.attribute_edits.specs.Attributes.{AreRefreshed, dirs_of, is_told_key}
 use Rattle.attribute_edits.proofs.ChainLaws.{StandElsewhere, chain-read, chain-rewrites, chain-sound, looks-outside}
 use Rattle.attribute_edits.proofs.EntriesSet as lists
 use Rattle.attribute_edits.proofs.IndexDepths.{SameIndex, chain-same, head-bytes, same-then, unnamed-same}
@@ -181,8 +183,8 @@ module _ (old new : VolumeView) (f : ℕ) (times : List ℕ) (flags : ℕ) (s : 
     mid-items = items-kept (either is_room_key standard-key) old s.mid
         (keeps.kept-room standard-key old s.mid set-rewrites apart.owners apart.some apart.unnamed) (ap (λ
         (l : TableLayout). cluster_bytes l) set-rewrites.layout)
-        (bases-of (records_of old) (sound References)) (standard.readable-sound old sound)
-        (standard.readable-sound s.mid mid-sound) refl dir refl refl refl was h
+        (bases-of (records_of old) (sound References)) (readable-sound old sound)
+        (readable-sound s.mid mid-sound) refl dir refl refl refl was h
 
     refreshed : AreRefreshed s.told f was now
     refreshed =

@@ -11,6 +11,7 @@ use Rattle.list_laws.proofs.MemberLaws.{Contains-from_filter, Contains-head, Con
 use Rattle.volume_def.specs.Files.{Part, content_value, is_of, parts, parts_at, records_of}
 use Rattle.volume_def.specs.Sound.{IsSound}
 use Rattle.volume_def.specs.View.{VolumeView}
+use Rattle.volume_def.proofs.PartLaws.{named}
 use Rattle.volume_edits.specs.Owners.{HasOwners}
 use Rattle.volume_edits.proofs.OwnerLaws.{lies-looked, lies-outside}
 use Rattle.edit_def.specs.Kept.{Key, either, key_of, same_key}
@@ -24,14 +25,12 @@ use Rattle.in_place.specs.Unnamed.{LiesApart}
 use Rattle.in_place.proofs.CallLaws as calls
 use Rattle.in_place.proofs.RewriteLaws.{Rewrites-more, Rewrites-same, Rewrites-then}
 use Rattle.in_place.proofs.StillApart as still
-use Rattle.dir_index.specs.declared.entry.DuplicatedInformation.{DuplicatedInformation}
-use Rattle.dir_index.specs.Links.{names_index}
-use Rattle.dir_index.specs.Refreshed.{RefreshesEntry}
+use Rattle.entry_edits.specs.Below.{DuplicatedInformation, RefreshesEntry, names_index}
 use Rattle.entry_edits.specs.Refreshable.{IsRefreshable, index_name}
-use Rattle.entry_edits.proofs.ChangedRecords.{of-key}
 use Rattle.entry_edits.proofs.RefreshedIndexes.{can-refresh, clause-kept}
 use Rattle.entry_edits.proofs.RefreshedReading.{read-same}
-use Rattle.attribute_edits.specs.Attributes.{RefreshesNames, dirs_of, is_told_key}
+use Rattle.entry_edits.specs.Attributes.{RefreshesNames}
+use Rattle.attribute_edits.specs.Attributes.{dirs_of, is_told_key}
 
 -- What a clause or the reading looks at lies outside the table, where no cluster has two owners.
 pub looks-outside : (view : VolumeView) → HasOwners view → 0 < view.layout.cluster_sectors → LooksOutside view
@@ -103,7 +102,7 @@ module _ (old new : VolumeView) (dir : ℕ) (units : List ℕ) (told : Duplicate
   pub in-root : (part : Part) → Contains (names_index old dir).root part → WritesBytes r.mid new part 0 r.root'
       → Rewrites (same_key (key_of dir INDEX_ROOT index_name)) r.mid new
   in-root part among w =
-      let its = of-key INDEX_ROOT index_name part (Contains-from_filter (is_of INDEX_ROOT index_name) (parts
+      let its = named INDEX_ROOT index_name part (Contains-from_filter (is_of INDEX_ROOT index_name) (parts
       (records_of old) dir) part among).1 in
       subst (λ k. Rewrites (same_key (key_of dir k index_name)) r.mid new) its.0
       (subst (λ m. Rewrites (same_key (key_of dir part.kind m)) r.mid new) its.1

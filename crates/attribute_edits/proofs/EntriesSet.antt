@@ -22,7 +22,7 @@ use Rattle.tree_model.specs.declared.tree.TheConstants.{SHOWN_FLAGS}
 use Rattle.session_def.specs.Indexes.{KeepsRest, KeepsRests, is_same_entry, stays_in}
 use Rattle.session_def.specs.Kept.{KeepsEntries, file_in, link_in}
 use Rattle.session_def.specs.Named.{is_one_of}
-use Rattle.dir_index.specs.declared.entry.DuplicatedInformation.{DuplicatedInformation}
+use Rattle.entry_edits.specs.Below.{DuplicatedInformation}
 use Rattle.entry_edits.proofs.RefreshedKeys.{rest-kept}
 use Rattle.entry_edits.proofs.SwappedItems.{one-of-key}
 use Rattle.attribute_edits.specs.Attributes.{AreRefreshed, IsAsTold}

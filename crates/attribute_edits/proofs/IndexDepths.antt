@@ -29,21 +29,19 @@ use Rattle.index_tree.specs.Edit.{IsAt, IsSortedIndex, short_nodes}
 use Rattle.index_tree.specs.Replace as tree
 use Rattle.index_tree.proofs.IndexTreeLaws.{one_depth}
 use Rattle.index_tree.proofs.MovedWalks.{SaysAt, spread_moved, walks_moved}
-use Rattle.index_store.specs.IndexRecords.{index_record_on, is_index_record_at}
+use Rattle.entry_edits.specs.Below.{DuplicatedInformation, RefreshesEntry, index_record_on, is_index_record_at, names_index}
 use Rattle.in_place.specs.InPlace.{Rewrites}
 use Rattle.in_place.specs.Unnamed.{LiesApart}
 use Rattle.in_place.proofs.IndexesOwed.{depth-same, nodes-same}
 use Rattle.in_place.proofs.OtherParts.{at-other}
 use Rattle.in_place.proofs.StillApart as still
-use Rattle.dir_index.specs.declared.entry.DuplicatedInformation.{DuplicatedInformation}
-use Rattle.dir_index.specs.Links.{names_index}
-use Rattle.dir_index.specs.Refreshed.{RefreshesEntry}
 use Rattle.entry_edits.specs.Refreshable.{IsRefreshable, index_name}
 use Rattle.entry_edits.proofs.RefreshedIndexes.{clause-kept}
 use Rattle.entry_edits.proofs.RefreshedItems as items
 use Rattle.entry_edits.proofs.RefreshedVolume as volume
 use Rattle.entry_edits.proofs.SwappedItems.{item-at}
-use Rattle.attribute_edits.specs.Attributes.{RefreshesNames, is_told_key}
+use Rattle.entry_edits.specs.Attributes.{RefreshesNames}
+use Rattle.attribute_edits.specs.Attributes.{is_told_key}
 use Rattle.attribute_edits.proofs.ChainLaws.{StandElsewhere, can-tell, in-records, in-root, step-rewrites}
 
 -- the first 16 bytes of the root of an index of names

@@ -30,16 +30,15 @@ use Rattle.session_def.specs.Kept.{file_in}
 use Rattle.in_place.specs.Unnamed.{LiesApart}
 use Rattle.in_place.proofs.RoomSame as room
 use Rattle.in_place.proofs.StillApart as still
-use Rattle.dir_index.specs.declared.entry.DuplicatedInformation.{DuplicatedInformation}
-use Rattle.dir_index.specs.Refreshed.{RefreshesEntry, RefreshesItem}
-use Rattle.dir_index.specs.Standard.{hidden_flags}
+use Rattle.entry_edits.specs.Below.{DuplicatedInformation, RefreshesEntry, RefreshesItem, hidden_flags}
 use Rattle.entry_edits.specs.Refreshable.{IsRefreshable}
 use Rattle.entry_edits.specs.Told.{IsToldOf}
 use Rattle.entry_edits.proofs.RefreshedIndexes.{clause-kept, items-changed, other-items}
 use Rattle.entry_edits.proofs.RefreshedKeys.{current-now, current-stays, first-same, others-kept, standard-same}
 use Rattle.entry_edits.proofs.RefreshedVolume as volume
 use Rattle.entry_edits.proofs.SwappedItems.{one-of-key}
-use Rattle.attribute_edits.specs.Attributes.{AreRefreshed, IsAsTold, RefreshesNames, is_told_key}
+use Rattle.entry_edits.specs.Attributes.{RefreshesNames}
+use Rattle.attribute_edits.specs.Attributes.{AreRefreshed, IsAsTold, is_told_key}
 use Rattle.attribute_edits.proofs.ChainLaws.{StandElsewhere, can-tell, step-rewrites}
 use Rattle.attribute_edits.proofs.NamedItems.{index-of, unit-item}
 

@@ -19,6 +19,7 @@ use Rattle.volume_def.specs.Sound.{IsSound}
 use Rattle.volume_def.specs.Sound.{References}
 use Rattle.volume_def.specs.Table.{TableLayout, cluster_bytes}
 use Rattle.volume_def.specs.View.{VolumeView}
+use Rattle.volume_def.proofs.SoundLaws.{readable-sound}
 use Rattle.tree_model.specs.Reading.{node_at, read, tree_nodes}
 use Rattle.tree_model.specs.Tree.{Tree, node_of}
 use Rattle.tree_model.specs.declared.tree.Node.{Node}
@@ -35,10 +36,11 @@ use Rattle.volume_mark.specs.Standard.{with_standard}
 use Rattle.volume_mark.specs.Written.{LooksOutside}
 use Rattle.in_place.specs.InPlace.{Rewrites}
 use Rattle.in_place.proofs.IndexesOwed.{depth-same}
+use Rattle.in_place.specs.Unnamed.{CanSet}
 use Rattle.in_place.proofs.KeptInPlace as keeps
 use Rattle.in_place.proofs.PlacesSame as places
 use Rattle.in_place.proofs.StillApart as still
-use Rattle.attribute_edits.specs.Attributes.{CanSet, IsSecured, SecuresStandard}
+use Rattle.attribute_edits.specs.Attributes.{IsSecured, SecuresStandard}
 use Rattle.attribute_edits.proofs.ChainLaws.{looks-outside}
 use Rattle.attribute_edits.proofs.OverwrittenValue as bytes
 use Rattle.attribute_edits.proofs.StandardWritten as standard
@@ -177,7 +179,7 @@ module _ (old new : VolumeView) (f id : ℕ) (node : Node) (small : id < 2 ^ 32)
   items dir = items-kept (either is_room_key (standard_key f)) old new
       (keeps.kept-room (standard_key f) old new rewrites can.apart.owners can.apart.some can.apart.unnamed)
       (ap (λ (l : TableLayout). cluster_bytes l) rewrites.layout) (bases-of (records_of old) (can.sound References))
-      (standard.readable-sound old can.sound) (standard.readable-sound new sound-now) refl dir refl refl refl
+      (readable-sound old can.sound) (readable-sound new sound-now) refl dir refl refl refl
 
   -- THE WHOLE
   pub secured : IsSecured old new f id node

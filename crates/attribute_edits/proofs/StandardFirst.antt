@@ -12,7 +12,7 @@ use Rattle.in_place.specs.Unnamed.{LiesApart}
 use Rattle.in_place.proofs.PlacesSame as places
 use Rattle.in_place.proofs.RoomSame as room
 use Rattle.in_place.proofs.StillApart as still
-use Rattle.dir_index.specs.Standard.{SetsStandard}
+use Rattle.entry_edits.specs.Below.{SetsStandard}
 use Rattle.attribute_edits.proofs.ChainLaws.{StandElsewhere, looks-outside}
 use Rattle.attribute_edits.proofs.ItemLaws.{StandsFor, file-still}
 use Rattle.attribute_edits.proofs.StandardSet.{front-written}

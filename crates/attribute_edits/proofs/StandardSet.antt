@@ -9,7 +9,7 @@ use Rattle.list_laws.proofs.OptionLaws.{some-value}
 use Rattle.volume_def.specs.Files.{content_value}
 use Rattle.volume_def.specs.View.{VolumeView}
 use Rattle.volume_edits.proofs.WithBytes.{length-with_bytes}
-use Rattle.dir_index.specs.Standard.{SetsStandard, TellsNode, hidden_flags}
+use Rattle.entry_edits.specs.Below.{SetsStandard, TellsNode, hidden_flags}
 use Rattle.attribute_edits.proofs.OverwrittenValue.{byte-behind, byte-in}
 use Rattle.attribute_edits.proofs.StandardWritten.{WritesStandard}
 

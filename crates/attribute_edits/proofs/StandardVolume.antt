@@ -16,12 +16,11 @@ use Rattle.session_def.specs.Kept.{KeepsStandard, is_shown_byte, other_flags}
 use Rattle.session_def.specs.Nodes.{flag_of}
 use Rattle.volume_mark.specs.Standard.{with_standard}
 use Rattle.volume_mark.specs.Written.{LooksOutside}
-use Rattle.dir_index.specs.Standard.{SetsStandard, hidden_flags}
+use Rattle.entry_edits.specs.Below.{SetsStandard, hidden_flags}
 use Rattle.entry_edits.proofs.RefreshedKeys.{others-kept, shown-told}
 use Rattle.attribute_edits.proofs.StandardSet as set
 use Rattle.attribute_edits.proofs.StandardWritten as standard
 use Rattle.attribute_edits.proofs.StandardWritten.{WritesStandard}
-pub use Rattle.attribute_edits.proofs.StandardWritten.{readable-sound}
 
 module _ (old new : VolumeView) (f : ℕ) (times : List ℕ) (flags : ℕ) (s : SetsStandard old new f times flags) (sound : IsSound old)
     (outside : LooksOutside old) (apart : f ≢ VOLUME) where

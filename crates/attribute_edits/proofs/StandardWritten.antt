@@ -12,13 +12,12 @@ use Rattle.ntfs_def.specs.declared.kinds.TheConstants.{STANDARD_INFORMATION}
 use Rattle.ntfs_def.specs.declared.records.TheConstants.{VOLUME}
 use Rattle.volume_def.specs.Files.{Part, Record, Value, content_value, file_of, is_base, is_of, part_of, parts, parts_at, record_of}
 use Rattle.volume_def.specs.Files.{record_on, records_of}
-use Rattle.volume_def.specs.Readable.{IsReadableVolume}
 use Rattle.volume_def.specs.Sound.{IsSound}
-use Rattle.volume_def.specs.Sound.{Attributes, Extents, Lists, Shape}
 use Rattle.volume_def.specs.Values.{first_part, first_vcn_of}
 use Rattle.volume_def.specs.VersionClause.{HasVersion}
 use Rattle.volume_def.specs.View.{VolumeView}
-use Rattle.volume_def.proofs.PartLaws.{IsPart-Contains, NameHolders-view}
+use Rattle.volume_def.proofs.PartLaws.{IsPart-Contains, NameHolders-view, named}
+use Rattle.volume_def.proofs.SoundLaws.{readable-sound}
 use Rattle.volume_edits.specs.Quiet.{EditsQuietly, RewritesValue, with_blocks}
 use Rattle.volume_edits.proofs.RecordEdits as written
 use Rattle.volume_edits.proofs.WithBytes.{length-with_bytes}
@@ -34,12 +33,7 @@ use Rattle.volume_mark.proofs.WrittenLaws as volumes
 use Rattle.file_record.specs.Written.{WritesBytes}
 use Rattle.in_place.specs.InPlace.{Rewrites}
 use Rattle.in_place.proofs.CallLaws as calls
-use Rattle.entry_edits.proofs.ChangedRecords.{of-key}
 use Rattle.entry_edits.proofs.RewrittenRoot.{body-value, held-apart, value-content}
-
--- what is read of a sound volume
-pub readable-sound : (view : VolumeView) → IsSound view → IsReadableVolume view
-readable-sound view sound = record { shape = sound Shape; attributes = sound Attributes; lists = sound Lists; extents = sound Extents }
 
 -- The bytes lie in the value of that attribute, from its byte `at` on, and nothing else of the volume changed.
 pub record WritesStandard (old new : VolumeView) (f at : ℕ) (from : List ℕ) : Type 0 where
@@ -74,7 +68,7 @@ module _ (old new : VolumeView) (f at : ℕ) (from : List ℕ) (s : WritesStanda
   next-long = length-with_bytes s.value at from s.fits
 
   was-key : (was.kind ≡ STANDARD_INFORMATION) × (was.name ≡ [])
-  was-key = of-key STANDARD_INFORMATION [] was (ap (is_of STANDARD_INFORMATION []) w.is ∙ s.standard)
+  was-key = named STANDARD_INFORMATION [] was (ap (is_of STANDARD_INFORMATION []) w.is ∙ s.standard)
 
   now-key : (now.kind ≡ STANDARD_INFORMATION) × (now.name ≡ [])
   now-key = (w.overwrites.kind ∙ was-key.0, w.overwrites.name ∙ was-key.1)
@@ -103,7 +97,7 @@ module _ (old new : VolumeView) (f at : ℕ) (from : List ℕ) (s : WritesStanda
   -- THE ATTRIBUTE was rewritten.
   pub one-rewritten : Rewrites (standard_key f) old new
   one-rewritten =
-      let k = of-key STANDARD_INFORMATION [] s.part s.standard in
+      let k = named STANDARD_INFORMATION [] s.part s.standard in
       subst (λ kind. Rewrites (same_key (key_of f kind [])) old new) k.0
       (subst (λ name. Rewrites (same_key (key_of f s.part.kind name)) old new) k.1
       (calls.written old new s.part at from f w s.among

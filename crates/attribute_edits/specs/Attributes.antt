@@ -1,5 +1,5 @@
--- A file's times and DOS flags set: in its $STANDARD_INFORMATION, and in every entry that repeats them.
-use Rattle.std.specs.Prelude.{◌≡◌, ◌⊎◌, ◌==◌, ◌&&◌, ◌||◌, ◌≢◌, ◌≤◌, ℕ, Bool, List, [], ◌∷◌, Contains, IsSomeAnd, Some, false, length, map, true}
+-- What changes where a file's times and DOS flags are set, and a file whose security id is set: in its $STANDARD_INFORMATION, and then its times.
+use Rattle.std.specs.Prelude.{◌≡◌, ◌⊎◌, ◌==◌, ◌&&◌, ◌||◌, ◌≢◌, ◌≤◌, ℕ, Bool, List, [], ◌∷◌, Contains, IsSomeAnd, false, length, map, true}
 use Rattle.std.specs.FinMap as finmap
 use Rattle.std.specs.Str.{bytes_eq}
 use Rattle.byteorder.specs.Endian.{little_bytes}
@@ -10,36 +10,19 @@ use Rattle.ntfs_def.specs.Node.{Item}
 use Rattle.volume_def.specs.Files.{Part, content_value, is_of, parts, parts_at, records_of}
 use Rattle.volume_def.specs.FileNames.{names_of}
 use Rattle.volume_def.specs.View.{VolumeView}
-use Rattle.volume_def.specs.Sound.{IsSound}
 use Rattle.tree_model.specs.IndexRoom.{Index, index_depth}
-use Rattle.tree_model.specs.Reading.{node_at, read, tree_nodes}
+use Rattle.tree_model.specs.Reading.{read, tree_nodes}
 use Rattle.tree_model.specs.declared.tree.Node.{Node}
 use Rattle.edit_def.specs.Items.{KeepsItems}
 use Rattle.edit_def.specs.Kept.{Key, either, key_of, same_key}
 use Rattle.session_def.specs.Kept.{KeepsStandard, file_in}
 use Rattle.session_def.specs.Named.{is_one_of}
 use Rattle.in_place.specs.InPlace.{Rewrites}
-use Rattle.in_place.specs.Unnamed.{KeepsMarks, LiesApart}
 use Rattle.file_record.specs.Written.{WritesBytes}
-use Rattle.dir_index.specs.declared.entry.DuplicatedInformation.{DuplicatedInformation}
-use Rattle.dir_index.specs.Refreshed.{RefreshesEntry, RefreshesItem}
-use Rattle.dir_index.specs.Standard.{SetsStandard}
+use Rattle.entry_edits.specs.Below.{DuplicatedInformation, RefreshesItem}
 use Rattle.entry_edits.specs.Refreshable.{index_name}
-use Rattle.entry_edits.specs.Told.{IsToldOf}
-
--- ONE NAME AFTER ANOTHER was told anew.
-abbrev pub RefreshesNames : DuplicatedInformation → VolumeView → VolumeView → List FileName → Type 0
-RefreshesNames told old new [] = new ≡ old
-RefreshesNames told old new (name ∷ names) =
-    (mid : VolumeView) × RefreshesEntry old mid name.parent.number name.units told × RefreshesNames told mid new names
-
--- THE FILE HAS THESE TIMES AND FLAGS: in its $STANDARD_INFORMATION, and in the entries of all of its names.
-pub record SetsAttributes (old new : VolumeView) (f : ℕ) (times : List ℕ) (flags : ℕ) : Type 0 where
-  pub mid : VolumeView
-  pub sets : SetsStandard old mid f times flags
-  pub told : DuplicatedInformation
-  pub shows : IsToldOf mid f told
-  pub refreshes : RefreshesNames told mid new (names_of (records_of mid) f)
+use Rattle.entry_edits.specs.Attributes.{SetsAttributes}
+use Rattle.in_place.specs.Unnamed.{CanSet, KeepsMarks}
 
 -- THE FILE HAS THIS SECURITY ID: it was written into its $STANDARD_INFORMATION, which has a place for it, and nothing else of the volume
 -- changed.
@@ -73,15 +56,6 @@ is_told_key dirs key = ((key.kind == INDEX_ROOT) || (key.kind == INDEX_ALLOCATIO
 
 abbrev pub dirs_of : List FileName → List ℕ
 dirs_of names = map (λ name. name.parent.number) names
-
--- WHERE THEY CAN BE SET: on a sound volume whose clusters lie apart, of a file that is shown as this node. Neither the file nor a directory in which
--- it has a name is that of the volume's version, whose record the mark is written to.
-pub record CanSet (view : VolumeView) (f : ℕ) (node : Node) : Type 0 where
-  pub sound : IsSound view
-  pub apart : LiesApart view
-  pub there : node_at view f ≡ Some node
-  pub other : f ≢ VOLUME
-  pub elsewhere : (name : FileName) → Contains (names_of (records_of view) f) name → name.parent.number ≢ VOLUME
 
 -- the attributes that are rewritten
 abbrev pub is_set_key : VolumeView → ℕ → Key → Bool

@@ -21,10 +21,11 @@ ghost use Rattle.session_def.specs.Kept.{KeepsEntries, KeepsStandard};
 ghost use Rattle.session_def.specs.Nodes.{flag_of};
 ghost use Rattle.volume_mark.specs.Written.{LooksOutside};
 ghost use Rattle.in_place.specs.InPlace.{Rewrites};
-ghost use Rattle.in_place.specs.Unnamed.{LiesApart};
-ghost use Rattle.dir_index.specs.Standard.{SetsStandard, hidden_flags};
+ghost use Rattle.in_place.specs.Unnamed.{CanSet, LiesApart};
+ghost use Rattle.entry_edits.specs.Below.{SetsStandard, hidden_flags};
 ghost use Rattle.entry_edits.specs.Refreshable.{index_name};
-ghost use Rattle.attribute_edits.specs.Attributes.{CanSet, IsSecured, SecuresStandard, SetsAttributes, is_set_key};
+ghost use Rattle.entry_edits.specs.Attributes.{SetsAttributes};
+ghost use Rattle.attribute_edits.specs.Attributes.{IsSecured, SecuresStandard, is_set_key};
 
 /// Where the times and the DOS flags of a file were set in its standard information a sound volume stays sound (`sound`), and
 /// its node has them; nothing else that the volume reads as changed (`reads`). What the tree does not show of that attribute

@@ -7,7 +7,7 @@ use Rattle.tree_model.specs.Facts.{IsVolumeOf}
 use Rattle.mark_write.specs.Logs.{IsOutside}
 use Rattle.mark_write.specs.declared.flag.Flag.{Flag}
 use Rattle.mark_write.specs.declared.log.Span.{Span}
-use Rattle.mark_place.proofs.EmptyLaws.{outside-log}
+use Rattle.first_mark.proofs.Below.{outside-log}
 use Rattle.volume_mark.specs.SameVolume.{AgreesButMark, IsOfLog}
 use Rattle.volume_mark.proofs.AgreeLaws.{agrees-written}
 use Rattle.in_place.specs.Unnamed.{LiesApart}

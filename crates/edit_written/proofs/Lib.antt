@@ -9,3 +9,4 @@ pub mod BitsKept
 pub mod OnDisk
 pub mod AgreesLaws
 pub mod BehindLaws
+pub mod Below

@@ -5,7 +5,7 @@ use Rattle.volume_def.specs.Values.{spot_at}
 use Rattle.volume_def.specs.View.{VolumeView}
 use Rattle.session_def.specs.Cost.{log_parts}
 use Rattle.mark_write.specs.declared.log.Span.{Span}
-use Rattle.mark_place.specs.LogSpans.{AreLogSpans, AreSpansOf, log_sectors}
+use Rattle.first_mark.specs.Below.{AreLogSpans, AreSpansOf, log_sectors}
 use Rattle.edit_written.specs.LeavesAlone.{LeavesAlone}
 
 pub spans-stay : (old new : VolumeView) → LeavesAlone old new → (spans : List Span) → AreLogSpans old spans → AreLogSpans new spans

@@ -22,9 +22,8 @@ use Rattle.record_edits.proofs.BlockEdits.{apart-from, attribute-stays, base-fil
 use Rattle.record_edits.proofs.PlaceEdits.{clusters-kept, part-unnamed}
 use Rattle.session_def.specs.Cost.{log_bytes, log_parts, log_size}
 use Rattle.in_place.specs.Unnamed.{LiesApart}
-use Rattle.value_edits.specs.ValueEdits.{EditsAlone}
-use Rattle.value_edits.proofs.EditedRecord as value
-use Rattle.value_edits.proofs.GivenBack as given
+use Rattle.value_owed.specs.Below.{EditsAlone}
+use Rattle.value_owed.proofs.Below as below
 use Rattle.edit_written.specs.LeavesAlone.{LeavesAlone}
 use Rattle.edit_written.proofs.LeftAlone.{boot-other, both, has-boot}
 
@@ -43,7 +42,7 @@ given-alone : (old new : VolumeView) → LiesApart old → (runs : List Run) →
 given-alone old new apart runs gives =
     let w = gives.writes in
     let b = has-boot old apart in
-    let records = given.records-same old new runs gives in
+    let records = below.records-same old new runs gives in
     let log : log_parts new ≡ log_parts old = ap (λ (r : Records). filter (is_of DATA []) (parts r LOG_FILE)) records in
     record {
       layout = w.layout;
@@ -64,7 +63,7 @@ module _ (key : Key) (old new : VolumeView) (sound : IsSound old) (apart : LiesA
   mid = e.mid
 
   apart-mid : LiesApart mid
-  apart-mid = value.apart-mid key old new sound apart e
+  apart-mid = below.apart-mid key old new sound apart e
 
   abbrev edit : EditsAt (records_of mid) (records_of new) key.file (parts_made key.file (e.was ∷ []))
       (parts_made key.file (option_to_list e.now))
@@ -82,7 +81,7 @@ module _ (key : Key) (old new : VolumeView) (sound : IsSound old) (apart : LiesA
       ap (filter (is_of DATA []))
       (parts-other (records_of mid) (records_of new) key.file LOG_FILE (parts_made key.file (e.was ∷ []))
       (parts_made key.file (option_to_list e.now)) edit
-      (λ same. log-file (sym same ∙ base-file key.file edit.was_record (value.one-mid key old new sound apart e).base)))
+      (λ same. log-file (sym same ∙ base-file key.file edit.was_record (below.one-mid key old new sound apart e).base)))
 
   record-alone : LeavesAlone mid new
   record-alone =

@@ -8,7 +8,7 @@ use Rattle.mark_write.specs.Flags.{IsCopySet, IsSet, cleared_sector}
 use Rattle.mark_write.specs.Logs.{IsEmptied, IsOutside}
 use Rattle.mark_write.specs.declared.flag.Flag.{Flag}
 use Rattle.mark_write.specs.declared.log.Span.{Span}
-use Rattle.mark_place.specs.LogSpans.{AreLogSpans}
+use Rattle.first_mark.specs.Below.{AreLogSpans}
 use Rattle.volume_mark.specs.Mark.{IsFlagOf}
 
 -- WHERE THE MARK AND THE LOG LIE of the volume before, whose bytes are `before`. One that was marked has an empty log, of which nothing is

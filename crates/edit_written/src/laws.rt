@@ -15,7 +15,7 @@ ghost use Rattle.volume_mark.specs.SameVolume.{AgreesButMark};
 ghost use Rattle.in_place.specs.Behind.{MarksBehind};
 ghost use Rattle.in_place.specs.InPlace.{Rewrites};
 ghost use Rattle.in_place.specs.Unnamed.{LiesApart, NamesNoneOf};
-ghost use Rattle.value_edits.specs.ValueEdits.{EditsAlone};
+ghost use Rattle.value_owed.specs.Below.{EditsAlone};
 ghost use Rattle.edit_written.specs.Finished.{IsFinished, IsPlaceOf};
 ghost use Rattle.edit_written.specs.LeavesAlone.{LeavesAlone};
 

@@ -2,9 +2,8 @@
 -- holds still.
 use Rattle.std.proofs.Common.{◌≡◌, ◌≢◌, ◌*◌, ◌<◌, ◌≤◌, ◌==◌, ℕ, true, false, List, [], length, refl, sym, ap, subst, inl, inr, ◌∙◌, filter, map, arith, true≢false}
 use Rattle.std.specs.Prelude.{◌↔◌, ◌⊎◌, IsSome}
-use Rattle.std.specs.Str.{bytes_eq}
 use Rattle.std.proofs.Math.Path.{fun_ext}
-use Rattle.std.proofs.lemmas.Bool.{and_from, and_parts, cases_eq, eq-eqb, eqb-true}
+use Rattle.std.proofs.lemmas.Bool.{and_from, cases_eq, eq-eqb}
 use Rattle.std.proofs.lemmas.Slice.Eq.{bytes_eq-Decides}
 use Rattle.ntfs_def.specs.declared.kinds.TheConstants.{BITMAP, DATA, INDEX_ALLOCATION}
 use Rattle.ntfs_def.specs.declared.records.TheConstants.{CLUSTER_BITMAP, MFT, UPCASE}
@@ -24,18 +23,13 @@ use Rattle.volume_def.specs.Table.{cluster_bytes}
 use Rattle.volume_def.specs.Values.{KeepsClusters, is_first, spot_at, value_on}
 use Rattle.volume_def.specs.VersionClause.{MeetsMirror, MeetsMirrorPlace, Mirrors}
 use Rattle.volume_def.specs.View.{VolumeView}
+use Rattle.volume_def.proofs.PartLaws.{named}
 use Rattle.volume_def.proofs.ValueLaws.{value-frame}
 use Rattle.volume_edits.specs.Owners.{HasOwners}
+use Rattle.volume_edits.specs.Clusters.{ChangesStream}
+use Rattle.volume_edits.proofs.ChangedStream.{clusters-kept, readable-kept, records-kept}
 use Rattle.edit_def.specs.Kept.{KeepsBut, is_kept, key_of, told_by}
-use Rattle.index_store.specs.RecordWrites.{ChangesStream}
-use Rattle.index_store.proofs.KeptFiles.{clusters-kept, readable-kept, records-kept}
 use Rattle.entry_edits.specs.Refreshable.{index_name, is_part_key}
-
--- a name is of a part by what it says
-pub of-key : (kind : ℕ) (name : List ℕ) (part : Part) → is_of kind name part ≡ true → (part.kind ≡ kind) × (part.name ≡ name)
-of-key kind name part is =
-    let both = and_parts (part.kind == kind) (bytes_eq part.name name) is in
-    (eqb-true part.kind kind both.0, (bytes_eq-Decides part.name name).0 both.1)
 
 -- an attribute that is not of this type of the directory's index is one of another file, or no part is of both
 pub key-apart : (kind dir g k : ℕ) (name : List ℕ) → is_part_key kind dir (key_of g k name) ≡ false
@@ -43,8 +37,8 @@ pub key-apart : (kind dir g k : ℕ) (name : List ℕ) → is_part_key kind dir 
 key-apart kind dir g k name free = elim (cases_eq g dir) [
   | inr ne ↦ inl ne
   | inl same ↦ inr (λ part is its.
-      let a = of-key k name part is in
-      let b = of-key kind index_name part its in
+      let a = named k name part is in
+      let b = named kind index_name part its in
       true≢false (sym (and_from _ _ (eq-eqb k kind (sym a.0 ∙ b.0))
       (and_from _ _ ((bytes_eq-Decides name index_name).1 (sym a.1 ∙ b.1)) (eq-eqb g dir same))) ∙ free))
 ]
@@ -82,7 +76,7 @@ module _ (old new : VolumeView) (f : ℕ) (name : List ℕ) (o : HasOwners old)
   other-clusters : (g k : ℕ) (n : List ℕ) → k ≢ INDEX_ALLOCATION → KeepsClusters old new (parts_at old g k n)
   other-clusters g k n ne =
       clusters-kept old new f INDEX_ALLOCATION name o w g k n
-      (inr (λ part its here. ne (sym (of-key k n part its).0 ∙ (of-key INDEX_ALLOCATION name part here).0)))
+      (inr (λ part its here. ne (sym (named k n part its).0 ∙ (named INDEX_ALLOCATION name part here).0)))
 
   other-value : (g k : ℕ) (n : List ℕ) → k ≢ INDEX_ALLOCATION → value_on old (parts_at old g k n) ≡ value_on all (parts_at old g k n)
   other-value g k n ne = sym (value-frame old.cluster new.cluster (cluster_bytes old.layout) (parts_at old g k n) (other-clusters g k n ne))

@@ -29,8 +29,8 @@ use Rattle.volume_edits.specs.Quiet.{with_blocks}
 use Rattle.index_tree.specs.Edit.{short_nodes}
 use Rattle.index_tree.specs.Replace as tree
 use Rattle.index_tree.proofs.MovedWalks.{SaysAt, spread_there, walks_moved}
-use Rattle.index_store.specs.IndexRecords.{index_record_on, is_index_record_at}
-use Rattle.index_store.proofs.IndexRecordLaws.{records-of}
+use Rattle.dir_index.specs.Below.{index_record_on, is_index_record_at}
+use Rattle.dir_index.proofs.Below.{records-of}
 use Rattle.dir_index.specs.Links.{names_index}
 use Rattle.dir_index.specs.Refreshed.{RefreshesEntry}
 use Rattle.dir_index.specs.Replaced.{HasSwapped}

@@ -25,13 +25,13 @@ use Rattle.volume_def.specs.View.{VolumeView}
 use Rattle.volume_def.proofs.LookedLaws as looked
 use Rattle.volume_edits.specs.Owners.{HasOwners}
 use Rattle.volume_edits.specs.Quiet.{with_blocks}
+use Rattle.volume_edits.proofs.ChangedStream.{readable-kept}
 use Rattle.volume_edits.proofs.QuietParts as quiet
 use Rattle.edit_def.specs.Items.{HasItems}
 use Rattle.edit_def.specs.Kept.{KeepsBut, key_of}
 use Rattle.edit_def.specs.Names.{numbers_at}
 use Rattle.edit_def.proofs.IndexLaws.{fold-kept}
 use Rattle.edit_def.proofs.KeptLaws.{KeepsBut-then, KeepsFile-more}
-use Rattle.index_store.proofs.KeptFiles.{readable-kept}
 use Rattle.file_record.specs.Written.{WritesBytes}
 use Rattle.dir_index.specs.Links.{names_index}
 use Rattle.dir_index.specs.Refreshed.{RefreshesEntry}

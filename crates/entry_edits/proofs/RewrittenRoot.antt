@@ -21,7 +21,7 @@ use Rattle.volume_def.specs.Sound.{Clause, Holds, Indexes, rank_of}
 use Rattle.volume_def.specs.Values.{is_first, spot_at}
 use Rattle.volume_def.specs.VersionClause.{HasVersion}
 use Rattle.volume_def.specs.View.{VolumeView}
-use Rattle.volume_def.proofs.PartLaws.{IsPart-Contains, NameHolders-view}
+use Rattle.volume_def.proofs.PartLaws.{IsPart-Contains, NameHolders-view, named}
 use Rattle.volume_def.proofs.RecordLaws.{parts-other, parts-own_at}
 use Rattle.volume_def.proofs.ValueLaws.{spot_at-owned}
 use Rattle.volume_edits.specs.Owners.{HasOwners}
@@ -33,7 +33,6 @@ use Rattle.edit_def.specs.Kept.{KeepsBut, KeepsFile, Key, is_kept, kept_told, ke
 use Rattle.edit_def.specs.Names.{numbers_at, numbers_by}
 use Rattle.file_record.specs.Written.{WritesBytes}
 use Rattle.entry_edits.specs.Refreshable.{index_name, is_part_key, is_root_key, is_table_data}
-use Rattle.entry_edits.proofs.ChangedRecords.{of-key}
 
 -- one item of a list of one
 pub one-replaced : {A : Type 0} (old new : List A) (a b : A) → Replaces old new (a ∷ []) (b ∷ []) → length old ≡ 1 → new ≡ b ∷ []
@@ -90,7 +89,7 @@ module _ (old new : VolumeView) (dir : ℕ) (part : Part) (root root' : List ℕ
   now = part_of part.holder w.now
 
   was-root : (was.kind ≡ INDEX_ROOT) × (was.name ≡ index_name)
-  was-root = of-key INDEX_ROOT index_name was (ap (is_of INDEX_ROOT index_name) w.is ∙ its.1)
+  was-root = named INDEX_ROOT index_name was (ap (is_of INDEX_ROOT index_name) w.is ∙ its.1)
 
   now-root : (now.kind ≡ INDEX_ROOT) × (now.name ≡ index_name)
   now-root = (w.overwrites.kind ∙ was-root.0, w.overwrites.name ∙ was-root.1)
@@ -165,7 +164,7 @@ module _ (old new : VolumeView) (dir : ℕ) (part : Part) (root root' : List ℕ
       none part root same = elim (cases_Bool (is_of kind name part)) [
         | inr fails ↦ fails
         | inl its_own ↦
-            let a = of-key kind name part its_own in
+            let a = named kind name part its_own in
             absurd (true≢false (sym (and_from _ _ (eq-eqb kind INDEX_ROOT (sym a.0 ∙ root.0))
             (and_from _ _ ((bytes_eq-Decides name index_name).1 (sym a.1 ∙ root.1)) (eq-eqb g dir same))) ∙ free))
       ]
@@ -221,7 +220,7 @@ module _ (old new : VolumeView) (dir : ℕ) (part : Part) (root root' : List ℕ
     outside g kind name free part its = elim (cases_eq part.kind DATA) [
       | inr ne ↦ inl ne
       | inl data_is ↦
-          let k = eq-eqb kind DATA (sym (of-key kind name part its).0 ∙ data_is) in
+          let k = eq-eqb kind DATA (sym (named kind name part its).0 ∙ data_is) in
           let never : ((g == MFT) || (g == MFT_MIRROR)) ≡ false = sym (ap (λ b. b && ((g == MFT) || (g == MFT_MIRROR))) k) ∙ free in
           inr (
             (λ e. true≢false (sym (ap (λ b. b || (g == MFT_MIRROR)) (eq-eqb g MFT e)) ∙ never)),

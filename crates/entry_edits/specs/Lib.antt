@@ -1,2 +1,4 @@
 pub mod Refreshable
 pub mod Told
+pub mod Attributes
+pub mod Below

@@ -4,3 +4,4 @@ pub mod VersionLaws
 pub mod MarkedVolume
 pub mod BehindLaws
 pub mod FinishedLaws
+pub mod Below

@@ -36,11 +36,11 @@ records-no-data : INDEX_ALLOCATION ≢ DATA
 records-no-data q = omega (arith, q)
 
 -- flags and sizes are told without the bytes of a value
-flags-blank : (o : Option Part) → flags_of (option_map blank_part o) ≡ flags_of o
+pub flags-blank : (o : Option Part) → flags_of (option_map blank_part o) ≡ flags_of o
 flags-blank None = refl
 flags-blank (Some part) = refl
 
-size-blank : (o : Option Part) → told_size (option_map blank_part o) ≡ told_size o
+pub size-blank : (o : Option Part) → told_size (option_map blank_part o) ≡ told_size o
 size-blank None = refl
 size-blank (Some part) = by part.content
   where

@@ -26,7 +26,7 @@ never : {b : Bool} → b ≡ true → b ≡ false → ⊥
 never x y = cc
 
 -- WHAT THE BYTES OF VALUES DO NOT TELL of the parts of a stream
-hole-blank : (xs : List Part) → has_hole (map blank_part xs) ≡ has_hole xs
+pub hole-blank : (xs : List Part) → has_hole (map blank_part xs) ≡ has_hole xs
 hole-blank [] = refl
 hole-blank (x ∷ xs) = λ i. list_any (λ (run : Run). is_none run.lcn) (blank-runs x i) || hole-blank xs i
 

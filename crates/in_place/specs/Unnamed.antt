@@ -1,5 +1,10 @@
--- WHAT AN EDIT DOES NOT NAME, and a volume whose clusters lie apart.
-use Rattle.std.specs.Prelude.{◌≡◌, ℕ, ◌<◌, Bool, false, true, List, []}
+-- WHAT AN EDIT DOES NOT NAME, a volume whose clusters lie apart, and the files of it whose attributes can be set.
+use Rattle.std.specs.Prelude.{◌≡◌, ◌≢◌, ℕ, ◌<◌, Bool, false, true, List, [], Contains, Some}
+use Rattle.ntfs_def.specs.declared.records.TheConstants.{VOLUME}
+use Rattle.ntfs_def.specs.FileName.{FileName}
+use Rattle.volume_def.specs.FileNames.{names_of}
+use Rattle.volume_def.specs.Files.{records_of}
+use Rattle.volume_def.specs.Sound.{IsSound}
 use Rattle.volume_def.specs.View.{VolumeView}
 use Rattle.volume_edits.specs.Owners.{HasOwners}
 use Rattle.edit_def.specs.Kept.{Key, key_of}
@@ -7,9 +12,11 @@ use Rattle.session_def.specs.Named.{is_index_kind}
 use Rattle.session_def.specs.Nodes.{flag_of, point_flag}
 use Rattle.tree_model.specs.Bill.{dropped_links}
 use Rattle.tree_model.specs.Effects.{makes_file}
+use Rattle.tree_model.specs.Reading.{node_at}
 use Rattle.tree_model.specs.Subjects.{Located}
 use Rattle.tree_model.specs.Tree.{Tree}
 use Rattle.tree_model.specs.declared.command.Command.{Command}
+use Rattle.tree_model.specs.declared.tree.Node.{Node}
 
 -- no attribute of file f, and none of this type in it
 abbrev pub NamesNoneOf : (Key → Bool) → ℕ → Type 0
@@ -27,6 +34,15 @@ pub record LiesApart (view : VolumeView) : Type 0 where
   pub owners : HasOwners view
   pub some : 0 < view.layout.cluster_sectors
   pub unnamed : owners.table.part.name ≡ []
+
+-- WHERE A FILE'S ATTRIBUTES CAN BE SET: on a sound volume whose clusters lie apart, of a file that is shown as this node. Neither the file nor
+-- a directory in which it has a name is that of the volume's version, whose record the mark is written to.
+pub record CanSet (view : VolumeView) (f : ℕ) (node : Node) : Type 0 where
+  pub sound : IsSound view
+  pub apart : LiesApart view
+  pub there : node_at view f ≡ Some node
+  pub other : f ≢ VOLUME
+  pub elsewhere : (name : FileName) → Contains (names_of (records_of view) f) name → name.parent.number ≢ VOLUME
 
 -- The command makes no file, drops no name, and neither sets nor takes a reparse point.
 pub record IsQuiet (before : Tree) (command : Command) (at : Located) : Type 0 where

@@ -3,8 +3,8 @@ ghost use Rattle.std.specs.Prelude.{ℕ, Contains, List, length};
 ghost use Rattle.volume_def.specs.Files.{Part, parts, parts_at, records_of};
 ghost use Rattle.volume_def.specs.Values.{spot_at};
 ghost use Rattle.volume_def.specs.View.{VolumeView};
+ghost use Rattle.volume_edits.specs.Clusters.{ChangesStream};
 ghost use Rattle.file_record.specs.Written.{HoldsBytes, WritesBytes};
-ghost use Rattle.index_store.specs.RecordWrites.{ChangesStream};
 ghost use Rattle.edit_def.specs.Kept.{key_of, same_key};
 ghost use Rattle.in_place.specs.InPlace.{Rewrites};
 

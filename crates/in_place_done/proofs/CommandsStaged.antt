@@ -16,8 +16,8 @@ use Rattle.edit_def.specs.Kept.{Key}
 use Rattle.session_def.specs.Named.{is_own_key, is_stream_key}
 use Rattle.session_def.specs.State.{Stands, State}
 use Rattle.attribute_edits.proofs.SecuredVolume.{secured}
-use Rattle.stream_overwrites.specs.Overwritten.{zeros_in}
-use Rattle.stream_overwrites.proofs.OverReading.{overwritten, value-overwritten}
+use Rattle.edit_written.specs.Below.{zeros_in}
+use Rattle.edit_written.proofs.Below.{overwritten, value-overwritten}
 use Rattle.in_place_owed.specs.SetsInPlace.{is_set_key, punches_stream}
 use Rattle.in_place_owed.proofs.Owes as in_place
 use Rattle.in_place_done.specs.Written.{PunchesStream, PutsInStream, Stages, WritesStream}

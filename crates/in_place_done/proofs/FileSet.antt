@@ -9,9 +9,10 @@ use Rattle.tree_model.specs.declared.tree.Node.{Node}
 use Rattle.tree_model.specs.declared.tree.TheConstants.{SHOWN_FLAGS}
 use Rattle.edit_def.specs.Kept.{Key}
 use Rattle.session_def.specs.State.{State}
+use Rattle.attribute_edits.specs.Below.{SetsAttributes}
 use Rattle.in_place.proofs.RewriteLaws.{Rewrites-more}
+use Rattle.in_place.specs.Unnamed.{CanSet}
 use Rattle.attribute_edits.specs.Attributes as attributes
-use Rattle.attribute_edits.specs.Attributes.{CanSet, SetsAttributes}
 use Rattle.attribute_edits.proofs.AttributesSet as edits
 use Rattle.in_place_owed.specs.SetsInPlace.{is_set_key, punches_stream}
 use Rattle.in_place_done.proofs.StagedVolume.{IsSet}

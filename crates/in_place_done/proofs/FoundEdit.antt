@@ -18,7 +18,7 @@ use Rattle.session_def.specs.Nodes.{edits_stream}
 use Rattle.session_def.specs.State.{State}
 use Rattle.command_edits.specs.Allowed.{IsAllowed}
 use Rattle.command_edits.proofs.AllowedCommands.{allowed}
-use Rattle.attribute_edits.specs.Attributes.{CanSet}
+use Rattle.in_place.specs.Unnamed.{CanSet}
 use Rattle.in_place_done.specs.Written.{FindsFile, is_done}
 use Rattle.in_place_done.proofs.FoundFile.{has-content, leads-there}
 use Rattle.in_place_done.proofs.HeldStream.{HoldsStream, stream-held}

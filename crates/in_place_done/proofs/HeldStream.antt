@@ -21,7 +21,7 @@ use Rattle.edit_def.specs.Kept.{AreTellable, key_of, told_of}
 use Rattle.session_def.specs.Named.{spelt}
 use Rattle.session_def.specs.State.{Stands, State}
 use Rattle.stream_edits.specs.Streams.{IsThere}
-use Rattle.stream_overwrites.specs.Overwritten.{FindsPlain}
+use Rattle.edit_written.specs.Below.{FindsPlain}
 use Rattle.in_place_done.proofs.FoundFile.{HasContent}
 use Rattle.in_place_done.proofs.TreeBehind.{fold-same}
 

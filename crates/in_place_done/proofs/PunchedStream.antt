@@ -9,17 +9,14 @@ use Rattle.list_laws.proofs.OptionLaws.{some_same}
 use Rattle.volume_def.specs.Files.{Part, content_value}
 use Rattle.volume_def.specs.Values.{spot_at, spot_by}
 use Rattle.volume_def.specs.View.{VolumeView}
+use Rattle.volume_def.proofs.SoundLaws.{readable-sound}
 use Rattle.tree_model.specs.StreamRoom.{is_cluster, parts_named}
 use Rattle.tree_model.specs.Streams.{punched, written}
 use Rattle.tree_model.specs.declared.tree.Node.{Node}
-use Rattle.attribute_edits.specs.Attributes.{CanSet}
-use Rattle.stream_overwrites.specs.Overwritten.{FindsPlain, GoesOverValue, zeros_in}
-use Rattle.stream_overwrites.proofs.OverReading as reading
-use Rattle.stream_overwrites.proofs.ShownFile.{file}
-use Rattle.stream_overwrites.proofs.StreamParts.{named-same}
-use Rattle.stream_overwrites.proofs.ValueVolume as one
-use Rattle.stream_overwrites.proofs.ValueVolume.{with_value}
-use Rattle.in_place_owed.proofs.BothRewrites.{readable-sound}
+use Rattle.in_place.specs.Unnamed.{CanSet}
+use Rattle.edit_written.specs.Below.{FindsPlain, GoesOverValue, zeros_in}
+use Rattle.edit_written.proofs.Below as below
+use Rattle.edit_written.proofs.Below.{file, named-same, with_value}
 
 -- ZEROS that are written over the bytes of a range, as far as it lies below the size, are a punch.
 abbrev zeros : ℕ → List ℕ
@@ -52,13 +49,13 @@ module _ (old new : VolumeView) (f : ℕ) (node : Node) (asked name : List ℕ) 
   -- the value of the part is what the stream held
   pub value-held : (value : List ℕ) → content_value over.part.content ≡ Some value → value ≡ held
   value-held value is =
-      some_same (sym is ∙ (one.held old new f name from bytes over).1)
-      ∙ reading.value-is old new f node asked name from bytes held can finds over
+      some_same (sym is ∙ (below.held old new f name from bytes over).1)
+      ∙ below.value-is old new f node asked name from bytes held can finds over
 
   -- and that lies in no cluster
   pub nowhere : (vcn : ℕ) → is_cluster (spot_at (parts_named old f (units_in name)) vcn) ≡ false
   nowhere vcn =
       subst (λ (xs : List Part). is_cluster (spot_at xs vcn) ≡ false)
       (sym (named-same old f name (readable-sound old can.sound) (file old f node can.there) finds.there finds.tellable
-      ∙ reading.was old new f node asked name from bytes held can finds over))
-      (one-nowhere over.part (reading.value old new f node asked name from bytes held can finds over) vcn)
+      ∙ below.was old new f node asked name from bytes held can finds over))
+      (one-nowhere over.part (below.value old new f node asked name from bytes held can finds over) vcn)

@@ -13,9 +13,11 @@ use Rattle.tree_model.specs.declared.tree.Node.{Node}
 use Rattle.edit_def.specs.Kept.{Key, key_of, same_key}
 use Rattle.session_def.specs.Named.{is_own_key, is_times_key}
 use Rattle.session_def.specs.State.{Stands, State}
+use Rattle.attribute_edits.specs.Below.{SetsAttributes}
 use Rattle.in_place.proofs.OtherParts.{at-other}
 use Rattle.in_place.proofs.PlacesSame.{names-same}
-use Rattle.attribute_edits.specs.Attributes.{CanSet, IsSecured, SetsAttributes}
+use Rattle.in_place.specs.Unnamed.{CanSet}
+use Rattle.attribute_edits.specs.Attributes.{IsSecured}
 use Rattle.in_place_owed.specs.SetsInPlace.{is_entries_key, is_set_key}
 use Rattle.in_place_done.proofs.NamedKeys.{times-named}
 use Rattle.in_place_done.proofs.StagedVolume.{IsStaged}

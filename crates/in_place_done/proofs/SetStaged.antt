@@ -7,7 +7,8 @@ use Rattle.tree_model.specs.declared.command.Command.TheVariants as c
 use Rattle.tree_model.specs.declared.tree.Node.{Node}
 use Rattle.tree_model.specs.declared.tree.TheConstants.{SHOWN_FLAGS}
 use Rattle.session_def.specs.State.{Stands, State}
-use Rattle.attribute_edits.specs.Attributes.{CanSet, SetsAttributes}
+use Rattle.attribute_edits.specs.Below.{SetsAttributes}
+use Rattle.in_place.specs.Unnamed.{CanSet}
 use Rattle.attribute_edits.proofs.AttributesSet as edits
 use Rattle.in_place_done.proofs.FileSet.{file-set}
 use Rattle.in_place_done.proofs.NamedKeys.{set-named}

@@ -28,8 +28,7 @@ use Rattle.session_def.specs.Nodes.{edits_stream}
 use Rattle.session_def.specs.State.{Stands, State}
 use Rattle.in_place.specs.Behind.{MarksBehind}
 use Rattle.in_place.specs.InPlace.{Rewrites}
-use Rattle.in_place.specs.Unnamed.{KeepsMarks}
-use Rattle.attribute_edits.specs.Attributes.{CanSet}
+use Rattle.in_place.specs.Unnamed.{CanSet, KeepsMarks}
 use Rattle.in_place_owed.specs.SetsInPlace.{KeepsRoot, StandsAlone, edits_in_place, is_set_key, punches_stream}
 use Rattle.in_place_owed.proofs.CallsOwed.{stands-alone}
 use Rattle.edit_written.specs.LeavesAlone.{LeavesAlone}

@@ -32,12 +32,12 @@ use Rattle.session_def.specs.Named.{is_own_key}
 use Rattle.session_def.specs.State.{Stands, State}
 use Rattle.in_place.specs.Blank.{blank_record}
 use Rattle.in_place.specs.InPlace.{Rewrites}
-use Rattle.in_place.specs.Unnamed.{KeepsMarks}
+use Rattle.in_place.specs.Unnamed.{CanSet, KeepsMarks}
 use Rattle.in_place.proofs.RewriteLaws.{Rewrites-more, Rewrites-then}
 use Rattle.in_place.proofs.SameRecords.{on-same}
 use Rattle.reading_edits.specs.Steps.{with_node}
+use Rattle.attribute_edits.specs.Below.{SetsAttributes}
 use Rattle.attribute_edits.specs.Attributes as attributes
-use Rattle.attribute_edits.specs.Attributes.{CanSet, SetsAttributes}
 use Rattle.attribute_edits.proofs.AttributesSet as edits
 use Rattle.in_place_owed.specs.SetsInPlace.{KeepsRoot, is_set_key, punches_stream}
 use Rattle.in_place_done.proofs.NamedKeys.{told-named}

@@ -30,14 +30,11 @@ use Rattle.session_def.specs.Named.{has_entry_of, is_own_key, is_times_key}
 use Rattle.session_def.specs.State.{State}
 use Rattle.attribute_edits.specs.Attributes as attributes
 use Rattle.attribute_edits.proofs.AttributesSet as edits
-use Rattle.stream_overwrites.specs.Overwritten.{FindsPlain}
-use Rattle.stream_overwrites.proofs.ShownFile.{not-table}
+use Rattle.edit_written.specs.Below.{FindsPlain, IsEdited, between, node_with}
+use Rattle.edit_written.proofs.Below.{not-table, stream-put}
 use Rattle.in_place_owed.specs.SetsInPlace.{StandsAlone, is_node_kind, is_set_key}
 use Rattle.in_place_owed.proofs.CallsOwed.{stands-alone}
-use Rattle.value_edits.specs.ValueEdits.{IsEdited, node_with}
-use Rattle.value_edits.proofs.StreamPut.{stream-put}
-use Rattle.value_owed.specs.ValueOwed.{between}
-use Rattle.value_owed.proofs.ValueSame as same
+use Rattle.edit_written.proofs.Below as below
 use Rattle.in_place_done.specs.Written.{EditsStream}
 use Rattle.in_place_done.proofs.FileSet.{file-set}
 use Rattle.in_place_done.proofs.HeldStream.{HoldsStream, finds-plain}
@@ -83,7 +80,7 @@ module _ (before : State) (command : Command) (at : Located) (node : Node) (is :
 
   -- THE FILE has the names that it had, and its directories the entries.
   pub names : names_of (records_of mid) f ≡ names_of (records_of old) f
-  names = same.names-same key old mid is.can.sound is.can.apart edited.edits f
+  names = below.names-same key old mid is.can.sound is.can.apart edited.edits f
 
   entry-same : (dir : ℕ) → has_entry_of (read mid) (f ∷ []) dir ≡ has_entry_of before.machine.tree (f ∷ []) dir
   entry-same dir =
@@ -97,9 +94,9 @@ module _ (before : State) (command : Command) (at : Located) (node : Node) (is :
   tabled : IsTabled mid
   tabled =
       let was = (stands-alone before is.stands).tabled in
-      let layout = same.layout key old mid is.can.sound is.can.apart edited.edits in
-      let table = same.at-same key old mid is.can.sound is.can.apart edited.edits MFT DATA []
-      (same.other-file key old mid is.can.sound is.can.apart edited.edits MFT DATA [] (not-table old f node is.can.there)) in
+      let layout = below.layout key old mid is.can.sound is.can.apart edited.edits in
+      let table = below.at-same key old mid is.can.sound is.can.apart edited.edits MFT DATA []
+      (below.other-file key old mid is.can.sound is.can.apart edited.edits MFT DATA [] (not-table old f node is.can.there)) in
       record {
         size = subst (λ (l : TableLayout). 512 ≤ cluster_bytes l) (sym layout) was.size;
         least = subst (λ (l : TableLayout). 24 ≤ l.count) (sym layout) was.least;

@@ -11,6 +11,7 @@ use Rattle.volume_def.specs.Files.{Part, content_value, part_of, parts_at}
 use Rattle.volume_def.specs.Sound.{IsSound}
 use Rattle.volume_def.specs.Table.{cluster_bytes}
 use Rattle.volume_def.specs.View.{VolumeView}
+use Rattle.volume_def.proofs.SoundLaws.{readable-sound}
 use Rattle.tree_model.specs.Answers.{bytes_at}
 use Rattle.tree_model.specs.Cases.{size_of}
 use Rattle.tree_model.specs.Effects.{tree_after}
@@ -26,19 +27,13 @@ use Rattle.session_def.specs.Cost.{bytes_in, given_back}
 use Rattle.session_def.specs.Done.{may_own}
 use Rattle.session_def.specs.State.{State}
 use Rattle.in_place.specs.Behind.{MarksBehind}
-use Rattle.stream_overwrites.proofs.ShownFile.{file}
-use Rattle.stream_overwrites.proofs.StreamParts.{named-same}
+use Rattle.edit_written.proofs.Below.{file, named-same, resized-long, shown, value-len}
 use Rattle.in_place_owed.specs.SetsInPlace.{SetsInPlace, is_set_key}
-use Rattle.in_place_owed.proofs.BothRewrites.{readable-sound}
-use Rattle.value_edits.proofs.ValueCalls.{shown}
-use Rattle.value_edits.proofs.WrittenBytes.{resized-long}
 use Rattle.edit_written.specs.LeavesAlone.{LeavesAlone}
 use Rattle.edit_written.proofs.LeftAlone.{both}
 use Rattle.edit_written.proofs.ValueLeftAlone.{value-edited}
-use Rattle.value_owed.specs.ValueOwed.{SetsBehindValue, between, edits_value}
-use Rattle.value_owed.proofs.FewClusters.{value-len}
-use Rattle.value_owed.proofs.ValueSame as same
-use Rattle.value_owed.proofs.ValueOwes as value
+use Rattle.edit_written.specs.Below.{SetsBehindValue, between, edits_value}
+use Rattle.edit_written.proofs.Below as below
 use Rattle.in_place_done.specs.Written.{EditsStream, PutsInStream, Stages, most_set, most_written}
 use Rattle.in_place_done.proofs.CommandsStaged.{hwrite-effect, write-effect}
 use Rattle.in_place_done.proofs.HeldStream.{HoldsStream}
@@ -121,7 +116,7 @@ module _ (before : State) (command : Command) (at : Located) (node : Node)
     few =
         let e = staged.edited before command at node is h bytes new s in
         let k = staged.key before command at node is h bytes new s in
-        let cost = same.first_cost-same k old mid is.can.sound is.can.apart e.edits in
+        let cost = below.first_cost-same k old mid is.can.sound is.can.apart e.edits in
         let count = ap length (staged.names before command at node is h bytes new s) in
         let given = given-then (is_set_key (read mid) (c.Setattr [] 0) at) old mid new
         (staged.set before command at node is h bytes new s).rewrites in
@@ -161,7 +156,7 @@ module _ (before : State) (command : Command) (at : Located) (node : Node)
         sound = set.sound;
         reads = value-reads before command at node is h bytes new s ∙ sym effect;
         alone = alone;
-        leaves = λ next first settled long wrote. value.leaves before next command at mid new (sets owns next first settled long wrote) 0;
+        leaves = λ next first settled long wrote. below.leaves before next command at mid new (sets owns next first settled long wrote) 0;
       }
 
 -- what they do to the tree

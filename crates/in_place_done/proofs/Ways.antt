@@ -17,7 +17,7 @@ use Rattle.tree_model.specs.declared.command.Command.{Command}
 use Rattle.tree_model.specs.declared.command.Command.TheVariants as c
 use Rattle.session_def.specs.Nodes.{edits_stream}
 use Rattle.in_place_owed.specs.SetsInPlace.{edits_in_place}
-use Rattle.value_owed.specs.ValueOwed.{IsDoneAlone, edits_value}
+use Rattle.edit_written.specs.Below.{IsDoneAlone, edits_value}
 use Rattle.in_place_done.proofs.HeldStream.{over-some, value-some}
 
 place-of : (view : VolumeView) (tree : Tree) (command : Command) (at : Located) → is_done_in_place view tree command at ≡ true

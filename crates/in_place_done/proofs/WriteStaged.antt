@@ -22,10 +22,11 @@ use Rattle.edit_def.specs.Kept.{Key, key_of, same_key}
 use Rattle.session_def.specs.Done.{stream_in}
 use Rattle.session_def.specs.Named.{is_own_key, is_stream_key, spelt}
 use Rattle.session_def.specs.State.{Stands, State}
+use Rattle.attribute_edits.specs.Below.{SetsAttributes}
 use Rattle.in_place.proofs.OtherParts.{at-other}
 use Rattle.in_place.proofs.PlacesSame.{names-same}
-use Rattle.attribute_edits.specs.Attributes.{CanSet, SetsAttributes}
-use Rattle.stream_overwrites.specs.Overwritten.{IsOverwritten, node_over}
+use Rattle.in_place.specs.Unnamed.{CanSet}
+use Rattle.edit_written.specs.Below.{IsOverwritten, node_over}
 use Rattle.in_place_owed.specs.SetsInPlace.{punches_stream}
 use Rattle.in_place_owed.proofs.StandardOwed.{flag-same, standard-itself}
 use Rattle.in_place_done.proofs.StagedVolume.{IsStaged}

@@ -32,11 +32,11 @@ use Rattle.mark_write.specs.declared.flag.Flag.{Flag}
 use Rattle.stream_edits.specs.Streams.{IsThere}
 use Rattle.volume_mark.specs.Mark.{IsFlagOf}
 use Rattle.volume_mark.specs.SameVolume.{AgreesButMark}
-use Rattle.attribute_edits.specs.Attributes.{CanSet, SetsAttributes, SetsSecurity}
-use Rattle.stream_overwrites.specs.Overwritten.{PunchesValue, WritesOver}
+use Rattle.attribute_edits.specs.Below.{SetsAttributes}
+use Rattle.in_place.specs.Unnamed.{CanSet}
+use Rattle.attribute_edits.specs.Attributes.{SetsSecurity}
+use Rattle.edit_written.specs.Below.{PunchesValue, PutsStream, WritesOver, edits_value}
 use Rattle.in_place_owed.specs.SetsInPlace.{edits_in_place}
-use Rattle.value_edits.specs.ValueEdits.{PutsStream}
-use Rattle.value_owed.specs.ValueOwed.{edits_value}
 
 -- a command sets no flags but those that are shown, and a security id of four bytes
 abbrev pub SetsShown : Command → Type 0

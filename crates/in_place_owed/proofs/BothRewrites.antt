@@ -5,9 +5,7 @@ use Rattle.std.specs.Str.{bytes_eq}
 use Rattle.ntfs_def.specs.Units.{wide}
 use Rattle.ntfs_def.specs.declared.kinds.TheConstants.{BITMAP, DATA, INDEX_ALLOCATION, INDEX_ROOT, STANDARD_INFORMATION, VOLUME_INFORMATION}
 use Rattle.volume_def.specs.Files.{records_of}
-use Rattle.volume_def.specs.Readable.{IsReadableVolume}
 use Rattle.volume_def.specs.Sound as clauses
-use Rattle.volume_def.specs.Sound.{IsSound}
 use Rattle.volume_def.specs.View.{VolumeView}
 use Rattle.tree_model.specs.Subjects.{Located}
 use Rattle.tree_model.specs.Tree.{Tree}
@@ -28,14 +26,6 @@ use Rattle.in_place_owed.proofs.SetKeys.{kind-free}
 
 abbrev pub is_either_key : Tree → Command → Located → Key → Bool
 is_either_key tree command at = either (is_set_key tree command at) is_first_key
-
-pub readable-sound : (view : VolumeView) → IsSound view → IsReadableVolume view
-readable-sound view sound = record {
-  shape = sound clauses.Shape;
-  attributes = sound clauses.Attributes;
-  lists = sound clauses.Lists;
-  extents = sound clauses.Extents;
-}
 
 -- an index is no stream
 pub index-kind : (kind : ℕ) → is_index_kind kind ≡ true → (kind == DATA) ≡ false

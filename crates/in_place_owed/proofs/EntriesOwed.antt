@@ -13,6 +13,7 @@ use Rattle.volume_def.specs.Table.{cluster_bytes}
 use Rattle.volume_def.specs.Values.{first_part}
 use Rattle.volume_def.specs.View.{VolumeView}
 use Rattle.list_laws.proofs.SameItemsLaws.{SameItems-sym}
+use Rattle.volume_def.proofs.SoundLaws.{readable-sound}
 use Rattle.tree_model.specs.Reading.{standard_flags, standard_of}
 use Rattle.tree_model.specs.Subjects.{Located}
 use Rattle.tree_model.specs.Tree.{Tree}
@@ -32,7 +33,7 @@ use Rattle.in_place.proofs.OtherParts.{at-other, told-other}
 use Rattle.in_place.proofs.PlacesSame.{told-passed}
 use Rattle.in_place.proofs.RewriteLaws.{Rewrites-more, second-less}
 use Rattle.in_place_owed.specs.SetsInPlace.{SetsInPlace}
-use Rattle.in_place_owed.proofs.BothRewrites.{apart-staged, readable-sound}
+use Rattle.in_place_owed.proofs.BothRewrites.{apart-staged}
 use Rattle.in_place_owed.proofs.StandardOwed.{flag-same, standard-among}
 
 module _ (before next : State) (command : Command) (at : Located) (staged : VolumeView) (s : SetsInPlace before next command at staged)

@@ -15,3 +15,4 @@ pub mod ApartLaws
 pub mod EntryThere
 pub mod LaterLaws
 pub mod Owes
+pub mod Below

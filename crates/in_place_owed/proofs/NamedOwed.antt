@@ -3,6 +3,7 @@ use Rattle.std.proofs.Common.{◌≡◌, ℕ, false, List, [], ◌∷◌, None, 
 use Rattle.ntfs_def.specs.declared.kinds.TheConstants.{FILE_NAME, INDEX_ROOT, STANDARD_INFORMATION}
 use Rattle.volume_def.specs.Files.{parts_at}
 use Rattle.volume_def.specs.View.{VolumeView}
+use Rattle.volume_def.proofs.SoundLaws.{readable-sound}
 use Rattle.tree_model.specs.Bill.{dropped_links}
 use Rattle.tree_model.specs.IndexRoom.{is_object_id_item, is_point_item, object_id_index, point_index}
 use Rattle.tree_model.specs.Subjects.{Located, NewName}
@@ -16,7 +17,7 @@ use Rattle.in_place.proofs.KeptInPlace as keeps
 use Rattle.in_place.proofs.OwedInPlace as owed
 use Rattle.in_place.proofs.RoomSame.{numbers-same}
 use Rattle.in_place_owed.specs.SetsInPlace.{SetsInPlace}
-use Rattle.in_place_owed.proofs.BothRewrites.{apart, bases, both, either-kind, either-no_index, is_either_key, readable-sound}
+use Rattle.in_place_owed.proofs.BothRewrites.{apart, bases, both, either-kind, either-no_index, is_either_key}
 use Rattle.in_place_owed.proofs.EntriesOwed.{entries-owed}
 use Rattle.in_place_owed.proofs.InPlaceCommands.{does-little, lengthens-none, timed-one}
 use Rattle.in_place_owed.proofs.StandardOwed.{standard-owed}

@@ -1,1 +1,2 @@
 pub mod SetsInPlace
+pub mod Below

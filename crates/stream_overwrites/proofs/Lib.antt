@@ -9,3 +9,4 @@ pub mod RewrittenReading
 pub mod OverReading
 pub mod OverInPlace
 pub mod TellableNames
+pub mod Below

@@ -12,12 +12,11 @@ use Rattle.volume_def.specs.Table.{cluster_bytes}
 use Rattle.volume_def.specs.Values.{first_part, value_by, value_of_parts, value_on, value_over}
 use Rattle.volume_def.specs.View.{VolumeView}
 use Rattle.volume_def.proofs.StoredLaws.{value-length_told}
-use Rattle.volume_edits.specs.Clusters.{with_bytes}
+use Rattle.volume_edits.specs.Clusters.{OverwritesStream, with_bytes}
 use Rattle.volume_edits.proofs.StreamClusters.{value-written}
 use Rattle.tree_model.specs.Reading.{node_at}
 use Rattle.tree_model.specs.Streams.{written}
 use Rattle.tree_model.specs.declared.tree.Node.{Node}
-use Rattle.sparse_io.specs.Overwritten.{OverwritesStream}
 use Rattle.stream_overwrites.specs.Overwritten.{FindsPlain}
 use Rattle.stream_overwrites.proofs.FoundStream as found
 use Rattle.stream_overwrites.proofs.ShownFile.{file, not-bad}

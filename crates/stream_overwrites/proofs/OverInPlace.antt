@@ -20,13 +20,13 @@ use Rattle.volume_def.specs.StreamSize.{told_size}
 use Rattle.volume_def.specs.Table.{cluster_bytes}
 use Rattle.volume_def.specs.Values.{first_part, spot_at}
 use Rattle.volume_def.specs.View.{VolumeView}
+use Rattle.volume_def.proofs.SoundLaws.{readable-sound}
 use Rattle.volume_edits.specs.Clusters.{IsInRange, IsWritable}
 use Rattle.volume_edits.proofs.StreamClusters.{stream-own}
 use Rattle.tree_model.specs.StreamRoom.{goes_over, initialized_in, initialized_size, is_cluster, is_in_place, new_clusters, parts_named}
 use Rattle.tree_model.specs.StreamRoom.{stream_value_len, touches}
 use Rattle.tree_model.specs.declared.tree.Node.{Node}
-use Rattle.attribute_edits.specs.Attributes.{CanSet}
-use Rattle.attribute_edits.proofs.StandardVolume.{readable-sound}
+use Rattle.in_place.specs.Unnamed.{CanSet}
 use Rattle.stream_overwrites.specs.Overwritten.{FindsPlain}
 use Rattle.stream_overwrites.proofs.ShownFile.{file, not-mirror, not-table}
 use Rattle.stream_overwrites.proofs.StreamParts as stream

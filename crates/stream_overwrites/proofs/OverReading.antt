@@ -5,14 +5,13 @@ use Rattle.ntfs_def.specs.declared.kinds.TheConstants.{DATA}
 use Rattle.volume_def.specs.Files.{Part, Records, is_of, parts, parts_at, records_of}
 use Rattle.volume_def.specs.Values.{IsPlain, value_of_parts, value_on}
 use Rattle.volume_def.specs.View.{VolumeView}
-use Rattle.volume_edits.specs.Clusters.{with_bytes}
+use Rattle.volume_def.proofs.SoundLaws.{readable-sound}
+use Rattle.volume_edits.specs.Clusters.{OverwritesStream, with_bytes}
 use Rattle.tree_model.specs.Streams.{written}
 use Rattle.tree_model.specs.declared.tree.Node.{Node}
 use Rattle.edit_def.specs.Kept.{key_of}
 use Rattle.stream_edits.specs.Streams.{ShowsBytes}
-use Rattle.sparse_io.specs.Overwritten.{OverwritesStream}
-use Rattle.attribute_edits.specs.Attributes.{CanSet}
-use Rattle.attribute_edits.proofs.StandardVolume.{readable-sound}
+use Rattle.in_place.specs.Unnamed.{CanSet}
 use Rattle.stream_overwrites.specs.Overwritten.{FindsPlain, GoesOverValue, IsOverwritten}
 use Rattle.stream_overwrites.proofs.FoundStream as found
 use Rattle.stream_overwrites.proofs.OverBytes.{value-over, written-within}

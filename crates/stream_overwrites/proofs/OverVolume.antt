@@ -12,9 +12,8 @@ use Rattle.volume_def.specs.Table.{cluster_bytes}
 use Rattle.volume_def.specs.Values.{spot_at}
 use Rattle.volume_def.specs.View.{VolumeView}
 use Rattle.volume_def.proofs.LookedLaws as looked
-use Rattle.volume_edits.specs.Clusters.{WritesStream}
+use Rattle.volume_edits.specs.Clusters.{ChangesStream, WritesStream}
 use Rattle.volume_edits.proofs.OwnerLaws.{lies-looked}
-use Rattle.index_store.specs.RecordWrites.{ChangesStream}
 use Rattle.edit_def.specs.Kept.{Key, key_of, same_key}
 use Rattle.in_place.specs.InPlace.{Rewrites}
 use Rattle.in_place.specs.Unnamed.{LiesApart}

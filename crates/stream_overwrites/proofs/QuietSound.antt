@@ -1,14 +1,15 @@
 -- A SOUND VOLUME STAYS SOUND behind a call that names neither names, indexes nor the table of case, and leaves the bits in memory and the
 -- stored ones.
-use Rattle.std.proofs.Common.{◌≡◌, ◌≤◌, ◌<◌, ◌==◌, ℕ, Bool, false, List, [], length, Some, sym, ap, ◌∙◌, arith}
+use Rattle.std.proofs.Common.{◌≡◌, ◌≤◌, ◌<◌, ◌==◌, ℕ, Bool, false, List, [], Some, sym, ap, ◌∙◌, arith}
 use Rattle.std.specs.Prelude.{is_some, nat_le, slice_get}
 use Rattle.std.proofs.lemmas.Bool.{eq-eqb, eqb-true, le-leb, leb-true}
-use Rattle.std.proofs.lemmas.List.FromFn.{get_or-map-range_with_len, length-map-range_with_len}
+use Rattle.std.proofs.lemmas.List.FromFn.{get_or-map-range_with_len}
 use Rattle.std.proofs.lemmas.Option.{slice_get-get_or}
 use Rattle.ntfs_def.specs.declared.kinds.TheConstants.{DATA}
 use Rattle.ntfs_def.specs.declared.records.TheConstants.{FIRST_ORDINARY, UPCASE}
 use Rattle.list_laws.specs.Bits.{bit_in, flags_in}
 use Rattle.list_laws.proofs.BoolLaws.{same-test}
+use Rattle.list_laws.proofs.BitLaws.{length-flags}
 use Rattle.volume_def.specs.BitmapClauses.{cluster_bits, record_bits}
 use Rattle.volume_def.specs.Files.{record_on, records_of}
 use Rattle.volume_def.specs.OwnersClause.{times_owned}
@@ -35,23 +36,19 @@ stored_marks view = record {
   records = flags_in (value_on view (record_bits view)) view.layout.count;
 }
 
-flags-long : (bytes : List ℕ) (count : ℕ) → length (flags_in bytes count) ≡ count
-unfolding flags_in
-flags-long bytes count = length-map-range_with_len (λ k. bit_in bytes k == 1) 0 count
-
 flag-at : (bytes : List ℕ) (count n : ℕ) → n < count → slice_get (flags_in bytes count) n ≡ Some (bit_in bytes n == 1)
 unfolding flags_in
 flag-at bytes count n inside =
-    slice_get-get_or (flags_in bytes count) n false (omega (arith, flags-long bytes count, inside))
+    slice_get-get_or (flags_in bytes count) n false (omega (arith, length-flags bytes count, inside))
     ∙ ap (λ (b : Bool). Some b) (get_or-map-range_with_len (λ k. bit_in bytes k == 1) 0 count n n false inside (omega arith))
 
 pub stored-right : (view : VolumeView) → IsSound view → AreRight view (stored_marks view)
 stored-right view sound = record {
-  count = flags-long (value_on view (cluster_bits view)) view.layout.clusters;
+  count = length-flags (value_on view (cluster_bits view)) view.layout.clusters;
   taken = λ c inside.
       let bits = value_on view (cluster_bits view) in
       flag-at bits view.layout.clusters c inside ∙ ap (λ (b : Bool). Some b) (taken c inside);
-  rows = flags-long (value_on view (record_bits view)) view.layout.count;
+  rows = length-flags (value_on view (record_bits view)) view.layout.count;
   used = λ n low inside.
       let bits = value_on view (record_bits view) in
       flag-at bits view.layout.count n inside ∙ ap (λ (b : Bool). Some b) (used n low inside);

@@ -15,6 +15,7 @@ use Rattle.volume_def.specs.Sound.{IsSound}
 use Rattle.volume_def.specs.Sound.{References}
 use Rattle.volume_def.specs.Table.{TableLayout, cluster_bytes}
 use Rattle.volume_def.specs.View.{VolumeView}
+use Rattle.volume_def.proofs.SoundLaws.{readable-sound}
 use Rattle.tree_model.specs.Hidden.{is_hidden}
 use Rattle.tree_model.specs.Reading.{node_at, read, streams_of}
 use Rattle.tree_model.specs.Streams.{put_bytes, with_bytes, written}
@@ -41,8 +42,7 @@ use Rattle.stream_edits.specs.Streams.{ShowsBytes}
 use Rattle.stream_edits.proofs.EditedReading.{read-put}
 use Rattle.stream_edits.proofs.EditedStreams.{names-stream, unseen-but-streams}
 use Rattle.stream_edits.proofs.NodeStreams.{node-changed}
-use Rattle.attribute_edits.specs.Attributes.{CanSet}
-use Rattle.attribute_edits.proofs.StandardVolume.{readable-sound}
+use Rattle.in_place.specs.Unnamed.{CanSet}
 use Rattle.stream_overwrites.specs.Overwritten.{FindsPlain, IsOverwritten, node_over}
 use Rattle.stream_overwrites.proofs.FoundStream as found
 use Rattle.stream_overwrites.proofs.ShownFile.{file, no-room-file, not-case, room-unseen, shown}

@@ -22,6 +22,7 @@ use Rattle.volume_def.specs.Sound.{Extents, IsSound, Limits, References}
 use Rattle.volume_def.specs.Table.{cluster_bytes}
 use Rattle.volume_def.specs.View.{VolumeView}
 use Rattle.volume_def.proofs.PartLaws.{IsPart-Contains, NameHolders-view, record_at-block}
+use Rattle.volume_def.proofs.SoundLaws.{readable-sound}
 use Rattle.tree_model.specs.Reading.{node_at}
 use Rattle.tree_model.specs.declared.tree.Node.{Node}
 use Rattle.file_record.specs.Written.{WritesBytes}
@@ -50,7 +51,6 @@ use Rattle.in_place.proofs.CallLaws as calls
 use Rattle.in_place.proofs.EditedInPlace.{editable-sound}
 use Rattle.in_place.proofs.OtherClusters.{clusters-kept}
 use Rattle.in_place.proofs.PlacesSame.{names-kept, value-other}
-use Rattle.attribute_edits.proofs.StandardVolume.{readable-sound}
 use Rattle.stream_overwrites.specs.Overwritten.{GoesOverValue}
 use Rattle.stream_overwrites.proofs.QuietSound.{sound-behind, stored-right, stored-still, stored_marks}
 use Rattle.stream_overwrites.proofs.ShownFile.{file, may-edit, not-bitmap, not-case}

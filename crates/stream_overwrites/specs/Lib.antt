@@ -1,1 +1,2 @@
 pub mod Overwritten
+pub mod Below

@@ -6,6 +6,7 @@ use Rattle.volume_def.specs.CaseClause.{volume_fold}
 use Rattle.volume_def.specs.Files.{Part, content_value, is_of, parts, records_of}
 use Rattle.volume_def.specs.Sound.{IsSound}
 use Rattle.volume_def.specs.View.{VolumeView}
+use Rattle.volume_edits.specs.Clusters.{OverwritesStream}
 use Rattle.tree_model.specs.IndexRoom.{Index, index_depth}
 use Rattle.tree_model.specs.Reading.{read}
 use Rattle.tree_model.specs.Streams.{with_bytes, written}
@@ -14,13 +15,13 @@ use Rattle.tree_model.specs.declared.tree.Content.TheVariants.{Plain}
 use Rattle.tree_model.specs.declared.tree.Node.{Node}
 use Rattle.tree_model.specs.declared.tree.Stream.{Stream}
 use Rattle.file_record.specs.Written.{HoldsBytes, WritesBytes}
-use Rattle.sparse_io.specs.Overwritten.{OverwritesStream}
 use Rattle.edit_def.specs.Items.{KeepsItems}
 use Rattle.edit_def.specs.Kept.{AreTellable, key_of, same_key, told_of}
 use Rattle.in_place.specs.InPlace.{Rewrites}
 use Rattle.reading_edits.specs.Steps.{with_node}
 use Rattle.stream_edits.specs.Streams.{IsThere}
-use Rattle.attribute_edits.specs.Attributes.{CanSet, SetsAttributes}
+use Rattle.entry_edits.specs.Attributes.{SetsAttributes}
+use Rattle.in_place.specs.Unnamed.{CanSet}
 
 -- The stream of file f, which is shown as this node, that is asked for by these units, in whichever case, stands in the file under this
 -- name, in bytes, and holds these bytes. The names of the file's attributes can be told apart by their units.

@@ -5,12 +5,11 @@ ghost use Rattle.volume_def.specs.Coverage.{IsApart};
 ghost use Rattle.volume_def.specs.Files.{Part, parts, parts_at, records_of};
 ghost use Rattle.volume_def.specs.Table.{cluster_bytes};
 ghost use Rattle.volume_def.specs.View.{VolumeView};
-ghost use Rattle.volume_edits.specs.Clusters.{IsWritable};
+ghost use Rattle.volume_edits.specs.Clusters.{IsWritable, OverwritesStream};
 ghost use Rattle.tree_model.specs.StreamRoom.{goes_over, parts_named};
 ghost use Rattle.tree_model.specs.declared.tree.Node.{Node};
 ghost use Rattle.edit_def.specs.Kept.{AreTellable, told_of};
-ghost use Rattle.sparse_io.specs.Overwritten.{OverwritesStream};
-ghost use Rattle.attribute_edits.specs.Attributes.{CanSet};
+ghost use Rattle.in_place.specs.Unnamed.{CanSet};
 ghost use Rattle.stream_overwrites.specs.Overwritten.{FindsPlain, GoesOverValue, IsOverwritten};
 
 /// Where bytes went over bytes of a stream of a file that is shown, on a sound volume whose contents are told and whose clusters lie apart,

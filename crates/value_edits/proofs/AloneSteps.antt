@@ -22,8 +22,7 @@ use Rattle.session_def.specs.Nodes.{IsSpreadRight, IsSpreadSame, Spread, has_hol
 use Rattle.record_edits.specs.Given.{GivesBack}
 use Rattle.record_edits.specs.RecordEdit.{parts_made}
 use Rattle.record_edits.proofs.WholeEdits as whole
-use Rattle.record_calls.proofs.ValueEdits.{value-content, value-size}
-use Rattle.record_calls.proofs.Values.{body-none}
+use Rattle.stream_overwrites.proofs.Below.{body-none, value-content, value-size}
 use Rattle.extent_edits.specs.Cut.{KeepsRecord}
 use Rattle.value_edits.specs.ValueEdits.{ComesInPlace}
 use Rattle.value_edits.proofs.OnePart.{flags-one, holed-one, spot-one, spread-one, spread_in}

@@ -26,6 +26,7 @@ use Rattle.volume_def.specs.Sound as clauses
 use Rattle.volume_def.specs.Table.{cluster_bytes}
 use Rattle.volume_def.specs.Values.{first_part, spot_at}
 use Rattle.volume_def.specs.View.{VolumeView}
+use Rattle.volume_def.proofs.SoundLaws.{readable-sound}
 use Rattle.tree_model.specs.StreamRoom.{is_cluster}
 use Rattle.tree_model.specs.Streams.{resized}
 use Rattle.tree_model.specs.declared.tree.Node.{Node}
@@ -40,15 +41,13 @@ use Rattle.record_edits.proofs.BlockEdits.{attribute-stays}
 use Rattle.record_edits.proofs.FillLaws.{times-cut}
 use Rattle.record_edits.proofs.PlaceEdits.{clusters-kept, same}
 use Rattle.record_edits.proofs.RunTimes.{times-clusters}
-use Rattle.record_calls.specs.Calls.{IsInOneRecord}
-use Rattle.record_calls.proofs.RightRecords.{right-put}
+use Rattle.stream_overwrites.specs.Below.{IsInOneRecord}
+use Rattle.stream_overwrites.proofs.Below.{right-put}
 use Rattle.stream_edits.specs.Steps.{Cuts}
 use Rattle.stream_edits.specs.Streams.{ClusterStream, HasStream, ShowsList, extents_at, stream_of}
 use Rattle.stream_edits.proofs.ShownLists.{list-cut, list-held, list-shown}
-use Rattle.in_place.specs.Unnamed.{LiesApart}
-use Rattle.in_place_owed.proofs.BothRewrites.{readable-sound}
+use Rattle.in_place_owed.specs.Below.{CanSet, LiesApart}
 use Rattle.extent_edits.specs.Cut.{CutsExtent}
-use Rattle.attribute_edits.specs.Attributes.{CanSet}
 use Rattle.stream_overwrites.specs.Overwritten.{FindsPlain}
 use Rattle.stream_overwrites.proofs.FoundStream as found
 use Rattle.stream_overwrites.proofs.ShownFile.{file, not-bad, not-bitmap, not-mirror, not-table}

@@ -46,13 +46,11 @@ use Rattle.record_edits.proofs.OwnerEdits.{times-edit}
 use Rattle.record_edits.proofs.RecordEdits as call
 use Rattle.record_edits.proofs.RoomEdits.{used-kept}
 use Rattle.record_edits.proofs.WholeEdits as whole
-use Rattle.record_calls.specs.Calls.{IsInOneRecord}
-use Rattle.record_calls.specs.Edits.{record_there}
-use Rattle.record_calls.proofs.ValueEdits.{has-none}
-use Rattle.record_calls.proofs.WholeCalls as calls
-use Rattle.command_edits.proofs.CallKeys.{within-nothing}
-use Rattle.in_place.specs.Unnamed.{LiesApart}
-use Rattle.in_place.proofs.EditedInPlace.{editable-sound}
+use Rattle.stream_overwrites.specs.Below.{IsInOneRecord, record_there}
+use Rattle.stream_overwrites.proofs.Below.{has-none, within-nothing}
+use Rattle.stream_overwrites.proofs.Below as below
+use Rattle.in_place_owed.specs.Below.{LiesApart}
+use Rattle.in_place_owed.proofs.Below.{editable-sound}
 use Rattle.in_place_owed.proofs.MarksLaws.{marks-right, right_marks}
 use Rattle.value_edits.specs.ValueEdits.{ComesInPlace, EditsAlone}
 use Rattle.value_edits.proofs.GivenBack as given
@@ -134,7 +132,7 @@ module _ (key : Key) (old new : VolumeView) (sound : IsSound old) (apart : LiesA
 
   -- THE RECORD THEN: the clusters that go had an owner each, and the bits follow.
   own-file : file_of f (record_there mid f) ≡ f
-  own-file = calls.own-file f mid new before ready-mid one-mid e.stored was now e.block
+  own-file = below.own-file f mid new before ready-mid one-mid e.stored was now e.block
 
   owners : (c : ℕ) → MeetsOwners (records_of mid) mid.layout.clusters c
   owners = ready-mid.editable.owners
@@ -236,7 +234,7 @@ module _ (key : Key) (old new : VolumeView) (sound : IsSound old) (apart : LiesA
     now = now;
     block = e.block;
     file = own-file;
-    is_file = calls.is-file f mid new before ready-mid one-mid e.stored was now e.block;
+    is_file = below.is-file f mid new before ready-mid one-mid e.stored was now e.block;
     may = e.one.may;
     was_of = All-one (HasKey key) e.was e.was_of;
     now_of = has-now e.now e.comes;

@@ -23,11 +23,10 @@ use Rattle.record_edits.specs.Owners.{times_in}
 use Rattle.record_edits.proofs.BlockEdits.{was-at}
 use Rattle.record_edits.proofs.PlaceEdits.{same}
 use Rattle.file_record.specs.Attributes.{RemovesAttribute}
-use Rattle.record_calls.specs.Calls.{IsInOneRecord}
-use Rattle.record_calls.specs.Edits.{record_there}
-use Rattle.record_calls.proofs.RightRecords.{right-go}
+use Rattle.stream_overwrites.specs.Below.{IsInOneRecord, record_there}
+use Rattle.stream_overwrites.proofs.Below.{right-go}
 use Rattle.extent_edits.specs.Cut.{KeepsRecord}
-use Rattle.attribute_edits.specs.Attributes.{CanSet}
+use Rattle.in_place_owed.specs.Below.{CanSet}
 use Rattle.value_edits.specs.ValueEdits.{EditsAlone, IsStreamOf, PutsGiving, PutsValue}
 use Rattle.value_edits.proofs.AloneSteps.{header-same}
 use Rattle.value_edits.proofs.EditedRecord as value

@@ -14,3 +14,4 @@ pub mod CutExtent
 pub mod SparseSizes
 pub mod CutCalls
 pub mod GivenCount
+pub mod Below

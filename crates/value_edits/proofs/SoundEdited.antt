@@ -15,20 +15,17 @@ use Rattle.volume_def.specs.View.{VolumeView}
 use Rattle.volume_def.proofs.ValueLaws.{value-frame}
 use Rattle.edit_def.specs.Account.{nothing}
 use Rattle.edit_def.specs.Edited.{StoresBits, is_table_key}
-use Rattle.edit_def.specs.Kept.{key_of, Key, same_key}
+use Rattle.edit_def.specs.Kept.{Key, key_of, same_key}
 use Rattle.edit_def.specs.Marks.{Marks}
 use Rattle.edit_def.specs.Names.{KeepsNames}
 use Rattle.edit_def.proofs.NamesLaws.{stand-of}
-use Rattle.name_edits.proofs.LinksAfter.{links-same}
 use Rattle.record_edits.specs.RecordEdit.{EditsPart}
 use Rattle.record_edits.proofs.BlockEdits.{attribute-stays}
 use Rattle.record_edits.proofs.ClauseEdits as edit
 use Rattle.record_edits.proofs.FileEdits as files
-use Rattle.command_edits.specs.Between.{IsBetween}
-use Rattle.command_edits.specs.Keys.{NamesNoIndex}
-use Rattle.command_edits.proofs.QuietCalls.{between-quiet}
-use Rattle.command_edits.proofs.SoundBetween.{between-references, between-sound, sound-by, sound-stored, sound-whole}
-use Rattle.in_place.specs.Unnamed.{LiesApart}
+use Rattle.stream_overwrites.specs.Below.{IsBetween, NamesNoIndex}
+use Rattle.stream_overwrites.proofs.Below.{between-quiet, between-references, between-sound, links-same, sound-by, sound-stored, sound-whole}
+use Rattle.in_place_owed.specs.Below.{LiesApart}
 use Rattle.in_place_owed.proofs.MarksLaws.{right_marks}
 use Rattle.value_edits.specs.ValueEdits.{EditsAlone}
 use Rattle.value_edits.proofs.BitsStill.{bits-still}

@@ -14,6 +14,7 @@ use Rattle.volume_def.specs.Files.{parts, records_of}
 use Rattle.volume_def.specs.Readable.{IsReadableVolume}
 use Rattle.volume_def.specs.Sound as clauses
 use Rattle.volume_def.specs.View.{VolumeView}
+use Rattle.volume_def.proofs.SoundLaws.{readable-sound}
 use Rattle.tree_model.specs.Hidden.{is_hidden}
 use Rattle.tree_model.specs.Reading.{node_at, streams_of}
 use Rattle.tree_model.specs.Streams.{dropped, put_bytes, with_bytes, without_stream}
@@ -25,18 +26,16 @@ use Rattle.edit_def.specs.Kept.{Key, either, key_of, same_key}
 use Rattle.edit_def.specs.Marks.{Marks}
 use Rattle.edit_def.specs.Names.{HasRightBases, KeepsNames}
 use Rattle.edit_def.proofs.NamesLaws.{bases-of}
-use Rattle.name_edits.proofs.HiddenFiles.{hides-kept}
-use Rattle.reading_edits.specs.Steps.{LeavesOthers}
-use Rattle.reading_edits.proofs.CallsRead.{read-sets}
+use Rattle.stream_overwrites.specs.Below.{LeavesOthers}
+use Rattle.stream_overwrites.proofs.Below.{hides-kept, read-sets}
 use Rattle.stream_edits.specs.Names.{EditsStream, IsUnseenButStreams}
 use Rattle.stream_edits.proofs.EditedReading.{read-gone, read-put}
 use Rattle.stream_edits.proofs.EditedStreams.{edited-stream, unseen-but-streams}
 use Rattle.stream_edits.proofs.NodeStreams.{node-changed}
+use Rattle.in_place_owed.specs.Below.{CanSet}
 use Rattle.in_place_owed.proofs.MarksLaws.{right_marks}
-use Rattle.attribute_edits.specs.Attributes.{CanSet}
 use Rattle.stream_overwrites.specs.Overwritten.{FindsPlain}
 use Rattle.stream_overwrites.proofs.FoundStream as found
-use Rattle.in_place_owed.proofs.BothRewrites.{readable-sound}
 use Rattle.stream_overwrites.proofs.ShownFile.{file, no-room-file, not-case, shown}
 use Rattle.value_edits.specs.ValueEdits.{EditsAlone, IsEdited, PutsValue, ShowsNow, node_with}
 use Rattle.value_edits.proofs.EditedRecord as value

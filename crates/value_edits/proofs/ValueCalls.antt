@@ -15,6 +15,7 @@ use Rattle.volume_def.specs.Sound as clauses
 use Rattle.volume_def.specs.Values.{first_part, spot_at}
 use Rattle.volume_def.specs.View.{VolumeView}
 use Rattle.volume_def.proofs.RecordLaws.{parts-own_at}
+use Rattle.volume_def.proofs.SoundLaws.{readable-sound}
 use Rattle.volume_edits.specs.Rewritten.{EditsBlock}
 use Rattle.tree_model.specs.StreamRoom.{is_cluster}
 use Rattle.tree_model.specs.declared.tree.Node.{Node}
@@ -23,17 +24,13 @@ use Rattle.record_edits.specs.Owners.{times_in}
 use Rattle.record_edits.specs.RecordEdit.{parts_made}
 use Rattle.record_edits.proofs.BlockEdits.{base-file, edit-of, was-at}
 use Rattle.file_record.specs.Attributes.{ChangesValue, RemovesAttribute}
-use Rattle.record_calls.specs.Calls.{IsInOneRecord}
-use Rattle.record_calls.specs.Edits.{record_there}
-use Rattle.record_calls.proofs.RightRecords.{right-change, right-go}
-use Rattle.record_calls.proofs.ValueAlone.{value-alone}
-use Rattle.record_calls.proofs.ValueEdits as calls
-use Rattle.record_calls.proofs.Values.{AreValues, no-times, no-value, one-value, value-mapped}
+use Rattle.stream_overwrites.specs.Below.{IsInOneRecord, record_there}
+use Rattle.stream_overwrites.proofs.Below.{AreValues, no-times, no-value, one-value, right-change, right-go, value-alone, value-mapped}
+use Rattle.stream_overwrites.proofs.Below as below
 use Rattle.stream_edits.specs.Streams.{ShowsBytes}
-use Rattle.attribute_edits.specs.Attributes.{CanSet}
+use Rattle.in_place_owed.specs.Below.{CanSet}
 use Rattle.stream_overwrites.specs.Overwritten.{FindsPlain}
 use Rattle.stream_overwrites.proofs.FoundStream as found
-use Rattle.in_place_owed.proofs.BothRewrites.{readable-sound}
 use Rattle.stream_overwrites.proofs.ShownFile.{file}
 use Rattle.value_edits.specs.ValueEdits.{EditsAlone, IsStreamValue, PutsGiving, PutsValue}
 use Rattle.value_edits.proofs.AloneSteps.{header-same, nothing-given, outside, value-comes}
@@ -88,7 +85,7 @@ stood-alone f old new node stored was now block can one kind is =
     (parts-own_at (records_of old) (records_of new) f f (parts_made f (was ∷ [])) (parts_made f now)
     (edit-of old new f stored (was ∷ []) now block) (base-file f (record_there old f) one.base)) (Contains-head (part_of f was) []) in
     value-alone old f (part_of f was) ((readable-sound old can.sound).extents f) (file old f node can.there) there
-    (calls.value-content f was is) (no-name was kind)
+    (below.value-content f was is) (no-name was kind)
 
 stood-named : (f : ℕ) (old : VolumeView) (was : Attribute) (name : List ℕ) → IsStreamValue name was
     → parts_at old f was.kind was.name ≡ part_of f was ∷ [] → parts_at old f DATA name ≡ part_of f was ∷ []

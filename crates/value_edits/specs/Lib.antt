@@ -1,1 +1,2 @@
 pub mod ValueEdits
+pub mod Below

@@ -28,11 +28,10 @@ use Rattle.session_def.specs.Nodes.{KeepsStream, has_hole}
 use Rattle.record_edits.specs.Given.{GivesBack}
 use Rattle.record_edits.specs.Owners.{times_in}
 use Rattle.record_edits.specs.RecordEdit.{HasKey, parts_made}
-use Rattle.record_calls.specs.Calls.{IsInOneRecord}
 use Rattle.extent_edits.specs.Cut.{KeepsRecord}
-use Rattle.reading_edits.specs.Steps.{with_node}
 use Rattle.stream_edits.specs.Streams.{IsMissing, ShowsBytes}
-use Rattle.attribute_edits.specs.Attributes.{CanSet, SetsAttributes}
+use Rattle.stream_overwrites.specs.Below.{IsInOneRecord, SetsAttributes, with_node}
+use Rattle.in_place_owed.specs.Below.{CanSet}
 
 -- WHAT COMES in the place of an attribute of file f has its type, name and form, is a stream by itself, within the limits, and lies in no
 -- cluster in which that did not lie. It has a hole only where that had one, keeps its flags, and its sizes tell its clusters, or are as

@@ -13,10 +13,10 @@ ghost use Rattle.tree_model.specs.Streams.{resized, written};
 ghost use Rattle.tree_model.specs.declared.tree.Node.{Node};
 ghost use Rattle.file_record.specs.Attributes.{ChangesValue, RemovesAttribute, with_bytes_at};
 ghost use Rattle.record_edits.specs.Given.{GivesBack};
-ghost use Rattle.record_calls.specs.Calls.{IsInOneRecord};
+ghost use Rattle.stream_overwrites.specs.Below.{IsInOneRecord};
 ghost use Rattle.extent_edits.specs.Cut.{CutsExtent};
+ghost use Rattle.in_place_owed.specs.Below.{CanSet};
 ghost use Rattle.stream_overwrites.specs.Overwritten.{FindsPlain};
-ghost use Rattle.attribute_edits.specs.Attributes.{CanSet};
 ghost use Rattle.value_edits.specs.ValueEdits.{IsStreamOf, IsStreamValue, PutsGiving};
 
 /// Of a file that is shown and has no attribute list, a stream that is a value has other bytes where it was changed so (`changed`): those

@@ -8,9 +8,8 @@ ghost use Rattle.edit_def.specs.Account.{nothing};
 ghost use Rattle.edit_def.specs.Edited.{Edited};
 ghost use Rattle.edit_def.specs.Kept.{Key, key_of, same_key};
 ghost use Rattle.edit_def.specs.Marks.{AreRight, Marks};
-ghost use Rattle.in_place.specs.Unnamed.{LiesApart};
+ghost use Rattle.in_place_owed.specs.Below.{CanSet, LiesApart};
 ghost use Rattle.stream_overwrites.specs.Overwritten.{FindsPlain};
-ghost use Rattle.attribute_edits.specs.Attributes.{CanSet};
 ghost use Rattle.value_edits.specs.ValueEdits.{EditsAlone, IsEdited, PutsValue, node_with};
 
 /// Where one stream of a file was edited alone, on a sound volume whose contents are told and whose clusters lie apart, this is a call that

@@ -25,6 +25,7 @@ use Rattle.volume_def.specs.StreamSize.{told_size}
 use Rattle.volume_def.specs.Table.{TableLayout, cluster_bytes}
 use Rattle.volume_def.specs.Values.{first_part, value_on}
 use Rattle.volume_def.specs.View.{VolumeView}
+use Rattle.volume_def.proofs.SoundLaws.{readable-sound}
 use Rattle.tree_model.specs.Bill.{Change}
 use Rattle.tree_model.specs.IndexRoom.{Index, extend_file, extend_index, if_there, index_depth, levels_below, other_nodes, root_of}
 use Rattle.edit_def.specs.Edited.{is_room_key}
@@ -36,7 +37,6 @@ use Rattle.edit_def.proofs.NamesLaws.{bases-of}
 use Rattle.session_def.specs.Indexes.{KeepsFlagsOf, KeepsIndexIfThere, bits_set, index_bits, index_records}
 use Rattle.session_def.specs.Kept.{KeepsKeys}
 use Rattle.in_place.specs.Unnamed.{LiesApart}
-use Rattle.in_place_owed.proofs.BothRewrites.{readable-sound}
 use Rattle.in_place_owed.proofs.IndexesSet.{index-named}
 use Rattle.value_edits.specs.ValueEdits.{EditsAlone}
 use Rattle.value_owed.proofs.ValueSame as same

@@ -10,3 +10,4 @@ pub mod FewClusters
 pub mod ValueCalls
 pub mod NodesBack
 pub mod ValueOwes
+pub mod Below

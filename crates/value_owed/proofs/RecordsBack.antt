@@ -36,8 +36,7 @@ use Rattle.edit_def.specs.Unused.{KeepsHeader, KeepsUnused}
 use Rattle.record_edits.proofs.BlockEdits.{base-file, now-at, was-at}
 use Rattle.record_edits.proofs.FormEdits.{forms-come}
 use Rattle.record_edits.proofs.WholeLaws.{whole-from}
-use Rattle.extent_edits.specs.Cut.{KeepsRecord}
-use Rattle.record_calls.specs.Edits.{record_there}
+use Rattle.value_edits.specs.Below.{KeepsRecord, record_there}
 use Rattle.session_def.specs.Cost.{log_parts}
 use Rattle.session_def.specs.Room.{KeepsBlocks, KeepsCopies, KeepsLogEnd}
 use Rattle.in_place.specs.Unnamed.{LiesApart}

@@ -1,33 +1,29 @@
 -- PARTS THAT SAY THE SAME but for the bytes of values: a stream that has them is kept as the one was that had those.
 use Rattle.std.proofs.Common.{◌≡◌, ◌⊎◌, ◌*◌, ◌||◌, ℕ, Bool, false, List, [], ◌∷◌, map, Option, Some, None, inl, inr, refl}
-use Rattle.std.proofs.Common.{length, sym, ap, subst, ◌∙◌}
+use Rattle.std.proofs.Common.{sym, ap, subst, ◌∙◌}
 use mathlib.Core.Path.{fun_ext}
-use Rattle.std.specs.List.{list_any, range_with_len}
+use Rattle.std.specs.List.{range_with_len}
 use Rattle.std.specs.Option.{option_map, option_map_or}
-use Rattle.std.specs.Prelude.{IfSome, count_by, is_none, is_some, option_and_then}
-use Rattle.std.proofs.lemmas.List.{length-replicate}
+use Rattle.std.specs.Prelude.{IfSome, count_by, is_some, option_and_then}
 use Rattle.ntfs_def.specs.Flags.{is_sparse}
-use Rattle.ntfs_def.specs.declared.run_text.Run.{Run}
 use Rattle.ntfs_def.specs.Runs.{total_clusters}
 use Rattle.volume_def.specs.Files.{Clusters, Content, Part, Value, all_covered, content_extent, part_clusters}
-use Rattle.volume_def.specs.StreamSize.{real_size, told_size}
+use Rattle.volume_def.specs.StreamSize.{told_size}
 use Rattle.volume_def.specs.Table.{cluster_bytes}
 use Rattle.volume_def.specs.Values.{first_part, spot_at}
 use Rattle.volume_def.specs.View.{VolumeView}
 use Rattle.tree_model.specs.StreamRoom.{is_cluster}
 use Rattle.edit_def.specs.Places.{flags_of}
 use Rattle.session_def.specs.Nodes.{IsSpreadRight, IsSpreadSame, KeepsStream, Spread, has_hole, is_sparse_stream, owned_by, spread_of}
-use Rattle.in_place.specs.Blank.{blank_content, blank_part}
+use Rattle.in_place.specs.Blank.{blank_part}
 use Rattle.in_place.proofs.BlankLaws.{blank-runs, blank-spot, first-blank, sum-map}
+use Rattle.in_place.proofs.IndexesOwed.{flags-blank, size-blank}
+use Rattle.in_place.proofs.StreamSame.{hole-blank}
 
 -- WHAT THE BYTES OF VALUES DO NOT TELL: of the first part that is there ..
 there-blank : (o : Option Part) → is_some (option_map blank_part o) ≡ is_some o
 there-blank None = refl
 there-blank (Some part) = refl
-
-flags-blank : (o : Option Part) → flags_of (option_map blank_part o) ≡ flags_of o
-flags-blank None = refl
-flags-blank (Some part) = refl
 
 abbrev sparse_by : Option Part → Bool
 sparse_by o = option_map_or (λ (part : Part). is_sparse part.flags) o false
@@ -35,14 +31,6 @@ sparse_by o = option_map_or (λ (part : Part). is_sparse part.flags) o false
 sparse-blank : (o : Option Part) → sparse_by (option_map blank_part o) ≡ sparse_by o
 sparse-blank None = refl
 sparse-blank (Some part) = refl
-
-size-blank : (o : Option Part) → told_size (option_map blank_part o) ≡ told_size o
-size-blank None = refl
-size-blank (Some part) = by part.content
-  where
-    by : (content : Content) → real_size (blank_content content) ≡ real_size content
-    by (Value value) = length-replicate (length value) 0
-    by (Clusters extent runs) = refl
 
 abbrev spread_by : Option Part → Option Spread
 spread_by o = option_map (λ extent. record { allocated = extent.sizes.allocated; compressed = extent.compressed })
@@ -58,10 +46,6 @@ spread-blank (Some part) = by part.content
     by (Clusters extent runs) = refl
 
 -- .. and of all
-hole-blank : (xs : List Part) → has_hole (map blank_part xs) ≡ has_hole xs
-hole-blank [] = refl
-hole-blank (x ∷ xs) = λ i. list_any (λ (run : Run). is_none run.lcn) (blank-runs x i) || hole-blank xs i
-
 covered-blank : (xs : List Part) → all_covered (map blank_part xs) ≡ all_covered xs
 covered-blank = sum-map blank_part part_clusters (λ part. ap total_clusters (blank-runs part))
 

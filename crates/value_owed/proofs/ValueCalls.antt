@@ -35,7 +35,7 @@ use Rattle.in_place_owed.specs.SetsInPlace.{is_entries_key, is_set_key}
 use Rattle.in_place_owed.proofs.CallsOwed.{apart-of, tabled-of}
 use Rattle.in_place_owed.proofs.MarksLaws.{marks-right, right_marks}
 use Rattle.in_place_owed.proofs.SetKeys.{set-no_room, times-inside}
-use Rattle.stream_overwrites.proofs.ShownFile.{not-case}
+use Rattle.value_edits.proofs.Below.{not-case}
 use Rattle.value_edits.specs.ValueEdits.{EditsAlone}
 use Rattle.value_owed.specs.ValueOwed.{SetsBehindValue, bill_asked, clusters_asked}
 use Rattle.value_owed.proofs.FewClusters.{asked-none, few-asked, stream-short}

@@ -1,1 +1,2 @@
 pub mod ValueOwed
+pub mod Below
