@@ -18,11 +18,9 @@ use Rattle.edit_def.specs.Kept.{Key, either, key_of, same_key}
 use Rattle.edit_def.specs.Purses.{run_size}
 use Rattle.record_edits.specs.Given.{GivesBack}
 use Rattle.session_def.specs.Cost.{given_back}
-use Rattle.in_place.proofs.RewriteLaws.{Rewrites-then}
-use Rattle.in_place.proofs.RoomSame.{times-same}
-use Rattle.attribute_edits.specs.Attributes.{SetsAttributes, dirs_of, is_told_key}
-use Rattle.attribute_edits.proofs.ChainLaws.{chain-rewrites}
-use Rattle.attribute_edits.proofs.StandardFirst.{set-rewrites}
+use Rattle.value_edits.proofs.Below.{Rewrites-then, times-same}
+use Rattle.tree_edit.specs.Below.{SetsAttributes, dirs_of, is_told_key}
+use Rattle.tree_edit.proofs.Below.{chain-rewrites, set-rewrites}
 use Rattle.value_edits.specs.ValueEdits.{EditsAlone, IsEdited, PutsGiving, PutsStream, node_with}
 use Rattle.value_edits.proofs.EditedRecord as value
 use Rattle.value_edits.proofs.GivenCount.{few-given}

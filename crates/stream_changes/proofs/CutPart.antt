@@ -16,7 +16,7 @@ use Rattle.file_record.specs.Records.{IsRecordOf}
 use Rattle.file_record.specs.Written.{IsWholeFile}
 use Rattle.file_record.specs.declared.held.Held.{Held}
 use Rattle.file_record.specs.declared.parts.FileParts.{FileParts}
-use Rattle.dir_index.specs.Standard.{IsInitialized}
+use Rattle.tree_edit.specs.Below.{IsInitialized}
 use Rattle.extent_edits.specs.Cut.{CanBeCut, CutsExtent, CutsWhereItCan}
 use Rattle.tree_edit.proofs.ChangePart as part
 use Rattle.stream_changes.specs.Streams.{CutsPartWhereItCan}

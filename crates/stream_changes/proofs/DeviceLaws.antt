@@ -3,10 +3,9 @@ use Rattle.std.proofs.Common.{ap, ◌∙◌, arith}
 use Rattle.vol_disk.specs.declared.Disk.{Ghosts}
 use Rattle.mft_table.specs.declared.mft.Mft.{Mft}
 use Rattle.mft_table.specs.declared.mounted.Mounted.{Mounted}
-use Rattle.mft_table.specs.Mft.{mounted_of}
-use Rattle.index_store.specs.IndexBlocksMut.{KeepsDisk}
+use Rattle.mft_table.specs.Mft.{KeepsDisk, mounted_of}
+use Rattle.mft_table.proofs.DiskKept.{KeepsDisk-same}
 use Rattle.stored_bits.specs.Given.{KeepsDevice}
-use Rattle.tree_edit.proofs.ChainedLaws.{goes-same}
 
 module _ {D : Type 0} (g : Ghosts D) where
   -- what keeps the tables keeps the device
@@ -51,4 +50,4 @@ module _ {D : Type 0} (g : Ghosts D) where
 
   -- as where nothing was done
   pub device-still : (a : Mft D g) → KeepsDevice g a a
-  device-still a = device-of a a (goes-same g a)
+  device-still a = device-of a a (KeepsDisk-same g a)

@@ -28,6 +28,8 @@ use Rattle.volume_def.specs.Values.{spot_at, value_of_parts, value_on}
 use Rattle.volume_def.specs.View.{VolumeView}
 use Rattle.volume_def.proofs.RecordLaws.{file_of-kept}
 use Rattle.volume_def.proofs.ValueLaws.{value-frame}
+use Rattle.volume_def.proofs.SoundLaws.{readable-sound}
+use Rattle.volume_edits.specs.Clusters.{record_sectors}
 use Rattle.edit_def.specs.Account.{nothing}
 use Rattle.edit_def.specs.Edited.{Edited, is_room_key}
 use Rattle.edit_def.specs.Kept.{Key, either, key_of, same_key}
@@ -42,14 +44,10 @@ use Rattle.record_edits.specs.InPlace.{is_bits_key}
 use Rattle.record_edits.specs.RecordEdit.{parts_made}
 use Rattle.record_edits.proofs.BlockEdits.{edit-of}
 use Rattle.record_edits.proofs.PlaceEdits.{clusters-kept}
-use Rattle.index_store.specs.RecordWrites.{record_sectors}
-use Rattle.dir_index.specs.Links.{names_index}
-use Rattle.entry_edits.specs.Refreshable.{index_name}
-use Rattle.in_place_owed.proofs.MarksLaws.{right_marks}
+use Rattle.tree_edit.specs.Below.{index_name, names_index}
 use Rattle.tree_model.specs.declared.tree.Node.{Node}
-use Rattle.attribute_edits.specs.Attributes.{CanSet}
-use Rattle.attribute_edits.proofs.StandardVolume.{readable-sound}
-use Rattle.stream_overwrites.proofs.ShownFile.{not-case}
+use Rattle.value_edits.specs.Below.{CanSet}
+use Rattle.value_edits.proofs.Below.{not-case, right_marks}
 use Rattle.value_edits.specs.ValueEdits.{EditsAlone}
 use Rattle.value_edits.proofs.GivenBack as given
 use Rattle.value_edits.proofs.EditedRecord as value

@@ -10,14 +10,12 @@ use Rattle.volume_def.specs.Table.{TableLayout}
 use Rattle.volume_def.specs.View.{VolumeView}
 use Rattle.mft_table.specs.declared.mft.Mft.{Mft}
 use Rattle.mft_table.specs.InUse.{IsInUse}
-use Rattle.mft_table.specs.Mft.{view}
+use Rattle.mft_table.specs.Mft.{KeepsDisk, view}
 use Rattle.mft_table.specs.Staging.{record_places}
 use Rattle.edit_def.specs.Purses.{run_size}
 use Rattle.record_edits.specs.Given.{AreOwned, GivesBack}
-use Rattle.index_store.specs.IndexBlocksMut.{KeepsDisk}
 use Rattle.sparse_io.specs.declared.find.FoundStream.{FoundStream}
-use Rattle.dir_index.specs.Standard.{StagesRecordOf}
-use Rattle.attribute_edits.specs.Attributes.{SetsAttributes}
+use Rattle.tree_edit.specs.Below.{SetsAttributes, StagesRecordOf}
 use Rattle.value_edits.specs.ValueEdits.{PutsGiving, PutsStream}
 use Rattle.stored_bits.specs.Given.{IsOfBits, KeepsDevice}
 use Rattle.tree_edit.specs.Links.{CanWriteFile}

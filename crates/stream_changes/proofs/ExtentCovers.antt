@@ -21,12 +21,12 @@ use Rattle.volume_def.specs.Files.{Content, Part, all_covered, content_extent, i
 use Rattle.volume_def.specs.Table.{cluster_bytes}
 use Rattle.volume_def.specs.Values.{first_vcn_of, is_first}
 use Rattle.volume_def.specs.View.{VolumeView}
+use Rattle.volume_def.proofs.SoundLaws.{readable-sound}
 use Rattle.edit_def.proofs.Sums.{clusters_for-least}
 use Rattle.extent_edits.specs.Cut.{CanBeCut}
 use Rattle.sparse_io.specs.declared.find.FoundStream.{FoundStream}
-use Rattle.attribute_edits.proofs.StandardVolume.{readable-sound}
-use Rattle.stream_overwrites.proofs.ShownFile.{file, not-bad}
-use Rattle.stream_overwrites.proofs.StreamParts as stream
+use Rattle.value_edits.proofs.Below.{file, not-bad}
+use Rattle.value_edits.proofs.Below as below
 use Rattle.value_edits.proofs.ValueCalls.{plain-one}
 use Rattle.stream_changes.specs.Streams.{CanGive}
 use Rattle.stream_changes.proofs.ExtentLaws.{part-kind, part-runs}
@@ -51,7 +51,7 @@ module _ (old : VolumeView) (found : FoundStream) (f : ℕ) (can : CanGive old f
 
   attribute : AreAttribute size f (can.part ∷ [])
   attribute = subst (AreAttribute size f) can.alone
-      (stream.attribute old f can.named.name (readable-sound old can.named.can.can.sound)
+      (below.attribute old f can.named.name (readable-sound old can.named.can.can.sound)
       (file old f can.named.can.node can.named.can.can.there) can.named.finds.there)
 
   ordered : attribute.ordered ≡ can.part ∷ []

@@ -22,7 +22,7 @@ use Rattle.edit_def.specs.Purses.{run_size}
 use Rattle.record_edits.specs.Given.{AreOwned, GivesBack}
 use Rattle.extent_edits.specs.Cut.{CanBeCut}
 use Rattle.sparse_io.specs.declared.find.FoundStream.{FoundStream}
-use Rattle.dir_index.specs.Standard.{IsInitialized}
+use Rattle.tree_edit.specs.Below.{IsInitialized}
 use Rattle.tree_model.specs.Streams.{resized}
 use Rattle.tree_model.specs.Ways.{has_placed_bits}
 use Rattle.value_edits.specs.ValueEdits.{PutsGiving}

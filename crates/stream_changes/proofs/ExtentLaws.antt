@@ -29,13 +29,12 @@ use Rattle.file_record.specs.Records.{IsRecordOf}
 use Rattle.record_edits.specs.Given.{AreOwned, GivesBack}
 use Rattle.record_edits.specs.Owners.{is_at}
 use Rattle.record_edits.proofs.RunTimes.{times-clusters}
-use Rattle.in_place_owed.proofs.MarksLaws.{marks-right, right_marks}
+use Rattle.value_edits.proofs.Below.{marks-right, right_marks}
 use Rattle.extent_edits.specs.Cut.{CutsExtent}
 use Rattle.sparse_io.specs.declared.find.FoundStream.{FoundStream}
-use Rattle.dir_index.specs.Standard.{IsInitialized}
-use Rattle.dir_index.proofs.StandardLaws.{at-among}
+use Rattle.tree_edit.specs.Below.{IsInitialized}
 use Rattle.tree_model.specs.Streams.{resized}
-use Rattle.attribute_edits.proofs.AttributesSet.{node-file}
+use Rattle.tree_edit.proofs.Below.{at-among, node-file}
 use Rattle.value_edits.specs.ValueEdits.{IsStreamOf, PutsGiving}
 use Rattle.value_edits.proofs.EditedRecord.{ready-sound}
 use Rattle.value_edits.proofs.CutCalls.{cut-given}

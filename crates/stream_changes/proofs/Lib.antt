@@ -11,3 +11,4 @@ mod ExtentDone
 mod WaysFound
 mod WaysDone
 mod ExtentChanged
+pub mod Below

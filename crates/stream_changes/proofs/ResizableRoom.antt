@@ -20,9 +20,9 @@ use Rattle.tree_model.specs.declared.tree.Content.{Content}
 use Rattle.tree_model.specs.declared.tree.Stream.{Stream}
 use Rattle.sparse_io.specs.Held.{IsHeldWith, IsStream}
 use Rattle.sparse_io.proofs.OverwriteLaws.{found-first, found-parts, found-stored}
-use Rattle.stream_overwrites.proofs.StreamParts.{named-same}
-use Rattle.tree_read.specs.Nodes.{number_of, parts_in}
-use Rattle.tree_read.proofs.NodeLaws.{held-with}
+use Rattle.value_edits.proofs.Below.{named-same}
+use Rattle.tree_edit.specs.Below.{number_of, parts_in}
+use Rattle.tree_edit.proofs.Below.{held-with}
 use Rattle.tree_edit.specs.Alone.{IsResizable, can_drop}
 use Rattle.tree_edit.specs.Change.{has_room_for}
 use Rattle.tree_edit.specs.Punchable.{can_punch}

@@ -18,24 +18,20 @@ use Rattle.volume_def.specs.Readable.{IsFile, WhereReadable}
 use Rattle.volume_def.specs.Sound as clauses
 use Rattle.volume_def.specs.View.{VolumeView}
 use Rattle.volume_def.proofs.PartLaws.{record_at-block}
+use Rattle.volume_def.proofs.SoundLaws.{readable-sound}
 use Rattle.mft_table.specs.declared.mft.Mft.{Mft}
 use Rattle.mft_table.specs.InUse.{IsInUse}
-use Rattle.mft_table.specs.Mft.{view}
+use Rattle.mft_table.specs.Mft.{KeepsDisk, view}
 use Rattle.file_record.specs.Attributes.{ChangesValue, RemovesAttribute}
 use Rattle.file_record.specs.Records.{IsRecordOf}
-use Rattle.record_calls.proofs.Values.{body-value}
 use Rattle.record_edits.specs.Given.{GivesBack}
-use Rattle.index_store.specs.IndexBlocksMut.{KeepsDisk}
-use Rattle.dir_index.specs.Standard.{IsInitialized, StagesRecordOf}
+use Rattle.tree_edit.specs.Below.{IsInitialized, SetsAttributes, StagesRecordOf, number_of}
 use Rattle.tree_model.specs.Ways.{has_no_list}
-use Rattle.attribute_edits.specs.Attributes.{SetsAttributes}
-use Rattle.attribute_edits.proofs.AttributesSet.{node-file}
-use Rattle.attribute_edits.proofs.StandardVolume.{readable-sound}
+use Rattle.tree_edit.proofs.Below.{node-file}
 use Rattle.sparse_io.specs.declared.find.FoundStream.{FoundStream}
-use Rattle.stream_overwrites.proofs.ShownFile.{may-edit}
+use Rattle.value_edits.proofs.Below.{body-value, may-edit}
 use Rattle.value_edits.specs.ValueEdits.{IsStreamValue, PutsGiving, PutsStream}
 use Rattle.value_edits.proofs.ValueCalls as calls
-use Rattle.tree_read.specs.Nodes.{number_of}
 use Rattle.tree_edit.specs.Alone.{IsDroppable, IsResizable, can_drop}
 use Rattle.tree_edit.specs.Change.{CanChange, ChangesPart, ChangesWhereFits, FitsPart, RemovesPart, has_room_for}
 use Rattle.tree_edit.specs.Links.{CanWriteFile}

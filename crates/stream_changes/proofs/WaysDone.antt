@@ -9,7 +9,7 @@ use Rattle.tree_model.specs.Subjects.{content_named}
 use Rattle.tree_model.specs.Tree.{node_of}
 use Rattle.tree_model.specs.Ways.{gets_no_longer, has_placed_bits}
 use Rattle.value_edits.specs.ValueEdits.{PutsStream}
-use Rattle.tree_read.specs.Nodes.{number_of}
+use Rattle.tree_edit.specs.Below.{number_of}
 use Rattle.tree_edit.specs.Alone.{IsDroppable, IsResizable, IsToDrop, IsToResize, can_cut, can_get, can_give, can_go}
 use Rattle.tree_edit.specs.Change.{CanChange, has_room_for}
 use Rattle.tree_edit.specs.declared.writable.Way.{Way}

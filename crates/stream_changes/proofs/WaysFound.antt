@@ -18,6 +18,7 @@ use Rattle.volume_def.specs.Table.{cluster_bytes}
 use Rattle.volume_def.specs.Values.{first_part, first_vcn_of, is_first, value_on}
 use Rattle.volume_def.specs.View.{VolumeView}
 use Rattle.volume_def.proofs.PartLaws.{record_at-block}
+use Rattle.volume_def.proofs.SoundLaws.{readable-sound}
 use Rattle.tree_model.specs.Facts.{is_whole_table}
 use Rattle.tree_model.specs.Reading.{read, streams_of}
 use Rattle.tree_model.specs.Staging.{cannot_edit}
@@ -27,12 +28,10 @@ use Rattle.tree_model.specs.Ways.{has_no_list, has_placed_bits, in_extent}
 use Rattle.tree_model.specs.declared.tree.Stream.{Stream}
 use Rattle.sparse_io.specs.Held.{IsHeldWith, IsStream}
 use Rattle.sparse_io.proofs.OverwriteLaws.{found-first, found-parts, found-stored}
-use Rattle.attribute_edits.proofs.StandardVolume.{readable-sound}
-use Rattle.stream_overwrites.proofs.ShownFile.{file, may-edit, node-streams}
-use Rattle.stream_overwrites.proofs.StreamParts.{named-same}
-use Rattle.stream_overwrites.proofs.StreamParts as stream
-use Rattle.tree_read.specs.Nodes.{number_of}
-use Rattle.tree_read.proofs.NodeLaws.{held-with}
+use Rattle.value_edits.proofs.Below.{file, may-edit, named-same, node-streams}
+use Rattle.value_edits.proofs.Below as below
+use Rattle.tree_edit.specs.Below.{number_of}
+use Rattle.tree_edit.proofs.Below.{held-with}
 use Rattle.tree_edit.specs.Alone.{can_give}
 use Rattle.tree_edit.specs.Writable.{IsFoundToEdit, named_in}
 use Rattle.tree_edit.specs.declared.writable.Writable.{Writable}
@@ -106,7 +105,7 @@ module _ (v : VolumeView) (found : Writable) (name : List ℕ) (can : ℕ → Bo
 
   attribute : AreAttribute (cluster_bytes v.layout) f (s.part ∷ [])
   attribute = subst (AreAttribute (cluster_bytes v.layout) f) alone
-      (stream.attribute v f s.part.name (readable-sound v is.settable.can.can.sound)
+      (below.attribute v f s.part.name (readable-sound v is.settable.can.can.sound)
       (file v f is.settable.can.node is.settable.can.can.there) is.there)
 
   ordered : attribute.ordered ≡ s.part ∷ []

@@ -14,10 +14,9 @@ use Rattle.mft_table.specs.Mft.{mounted_of, view}
 use Rattle.file_record.specs.Records.{IsRecordOf}
 use Rattle.edit_def.specs.Purses.{run_size}
 use Rattle.record_edits.specs.Given.{GivesBack}
-use Rattle.record_calls.specs.Calls.{IsInOneRecord}
 use Rattle.extent_edits.specs.Cut.{CanBeCut, CutsExtent}
 use Rattle.sparse_io.specs.declared.find.FoundStream.{FoundStream}
-use Rattle.stream_overwrites.specs.Overwritten.{FindsPlain}
+use Rattle.value_edits.specs.Below.{FindsPlain, IsInOneRecord}
 use Rattle.tree_model.specs.Ways.{has_placed_bits}
 use Rattle.stored_bits.specs.Given.{IsOfBits}
 use Rattle.tree_edit.specs.Links.{CanWriteFile}

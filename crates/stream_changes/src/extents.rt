@@ -1,20 +1,18 @@
 //! A stream in clusters, in one part of a file without an attribute list, ends earlier, or goes: its clusters are given back first, then its
 //! record is edited, and what the file shows of itself is told anew.
 ghost use Rattle.std.specs.Prelude.{◌≡◌, ◌≤◌, ◌<◌, ◌^◌, ℕ, List, None, Some, IfErr, IfOk, IsTrue, MatchResult, OnOk, false, length, slice_get, true};
-ghost use Rattle.ntfs_def.specs.declared.records.TheConstants.{CLUSTER_BITMAP};
 ghost use Rattle.ntfs_def.specs.declared.run_text.Run.{Run};
 ghost use Rattle.volume_def.specs.Coverage.{IsApart};
 ghost use Rattle.volume_def.specs.Files.{Part, content_runs, parts, records_of};
 ghost use Rattle.volume_def.specs.Readable.{IsFile, WhereReadable};
 ghost use Rattle.volume_edits.specs.Owners.{HasOwners};
 ghost use Rattle.mft_table.specs.InUse.{IsInUse};
-ghost use Rattle.mft_table.specs.Mft.{faults_of, is_mft_broken, mounted_of, view};
+ghost use Rattle.mft_table.specs.Mft.{KeepsDisk, faults_of, is_mft_broken, mounted_of, view};
 ghost use Rattle.mft_table.specs.MirrorClusters.{IsMirrorInside};
 ghost use Rattle.file_record.specs.FileNos.{CountsNo, IsReadNo};
 ghost use Rattle.file_record.specs.Held.{parts_held};
 ghost use Rattle.file_record.specs.Written.{PartHeld};
-ghost use Rattle.index_store.specs.IndexBlocksMut.{KeepsDisk};
-ghost use Rattle.dir_index.specs.Standard.{IsInitialized, StagesRecordOf};
+ghost use Rattle.tree_edit.specs.Below.{IsInitialized, StagesRecordOf};
 ghost use Rattle.tree_model.specs.Streams.{resized};
 ghost use Rattle.tree_model.specs.Ways.{has_placed_bits};
 ghost use Rattle.record_edits.specs.Given.{AreOwned};
@@ -28,7 +26,6 @@ use crate::values::drop_part;
 use extent_edits::{clusters_for, cut_extent, runs_behind, runs_of_part};
 use file_record::{FileNo, FileParts};
 use mft_table::Mft;
-use ntfs_def::records::CLUSTER_BITMAP;
 use sparse_io::FoundStream;
 use std::alloc::Global;
 use stored_bits::give_back;
@@ -56,10 +53,6 @@ fn give_behind<D: Disk>(
     ensures faults { MatchResult result (λ _. faults_of D.Disk mft.new ≡ faults_of D.Disk mft.old)
         (CountsNo (faults_of D.Disk mft.old) (faults_of D.Disk mft.new)) }
 {
-    if mft.mounted().records.count() <= CLUSTER_BITMAP {
-        // Where the volume tells its contents, it has more.
-        return Err(FileNo::Memory);
-    }
     let Some(runs) = runs_of_part(alloc, held, i)? else {
         return Ok(());
     };

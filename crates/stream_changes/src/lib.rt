@@ -6,4 +6,10 @@ mod streams;
 mod values;
 
 pub use streams::{remove_stream, resize_stream};
+// What finds, sets and stages all else of a file, for the crate above, which so names this crate alone.
+pub use tree_edit::{
+    Securable, Settable, Way, Writable, find_punchable, find_securable, find_settable,
+    find_to_drop, find_to_resize, find_writable, find_writable_through, punch_value,
+    set_attributes, set_security, write_over,
+};
 pub use values::write_value;

@@ -7,7 +7,7 @@ ghost use Rattle.file_record.specs.FileNos.{CountsNo, IsReadNo};
 ghost use Rattle.tree_model.specs.Streams.{resized};
 ghost use Rattle.value_edits.specs.ValueEdits.{PutsStream};
 ghost use Rattle.stored_bits.specs.Given.{KeepsDevice};
-ghost use Rattle.tree_read.specs.Nodes.{number_of, parts_in};
+ghost use Rattle.tree_edit.specs.Below.{number_of, parts_in};
 ghost use Rattle.tree_edit.specs.Alone.{IsToDrop, IsToResize};
 ghost use Rattle.tree_edit.specs.Staged.{TellsStored};
 ghost use Rattle.stream_changes.specs.Staged.{StagesGiving};

@@ -5,60 +5,20 @@ use Rattle.std.proofs.Math.Seq.{drop-cons}
 use Rattle.std.specs.Prelude.{Contains, IsTrue}
 use Rattle.vol_disk.specs.declared.Disk.{Ghosts}
 use Rattle.volume_def.specs.View.{VolumeView}
+use Rattle.volume_def.proofs.SoundLaws.{readable-sound}
 use Rattle.tree_model.specs.declared.tree.Link.{Link}
 use Rattle.mft_table.specs.declared.mft.Mft.{Mft}
 use Rattle.mft_table.specs.declared.mounted.Mounted.{Mounted}
-use Rattle.mft_table.proofs.StreamReads.{MftReads-none}
-use Rattle.mft_table.specs.Mft.{MftReads, faults_of, mounted_of, view}
-use Rattle.index_store.specs.IndexBlocksMut.{KeepsDisk}
+use Rattle.mft_table.specs.Mft.{KeepsDisk, faults_of, mounted_of, view}
+use Rattle.mft_table.proofs.DiskKept.{KeepsDisk-same, KeepsDisk-then}
 use Rattle.dir_index.specs.declared.entry.DuplicatedInformation.{DuplicatedInformation}
 use Rattle.dir_index.specs.Refreshed.{RefreshesEntry}
 use Rattle.attribute_edits.specs.Attributes.{is_told_key}
 use Rattle.attribute_edits.proofs.ChainLaws.{step-rewrites}
-use Rattle.attribute_edits.proofs.StandardVolume.{readable-sound}
 use Rattle.tree_edit.specs.Links.{CanTell, CanTellAll, RefreshesLinks}
 use Rattle.tree_edit.specs.Staged.{IsOfDirectory, IsOfLinks, StagesFew}
 use Rattle.tree_edit.proofs.StagedLaws.{directory-back, few-none, few-then}
 use Rattle.tree_edit.proofs.StepLaws.{can-first, can-rest}
-
-module _ {D : Type 0} (g : Ghosts D) where
-  -- THE DISK stays through calls that only read, and through one after another.
-  pub goes-then : (a b c : Mft D g) → KeepsDisk g a b → KeepsDisk g b c → KeepsDisk g a c
-  goes-then a b c x y = record {
-    goes_on = record {
-      same_reference = y.goes_on.same_reference ∙ x.goes_on.same_reference;
-      size = y.goes_on.size ∙ x.goes_on.size;
-      told = y.goes_on.told ∙ x.goes_on.told;
-      told_image = y.goes_on.told_image ∙ x.goes_on.told_image;
-      one = y.goes_on.one;
-      faults = omega (arith, x.goes_on.faults, y.goes_on.faults);
-      on_time = λ none. y.late ∙ x.late;
-    };
-    now = y.now ∙ x.now;
-    settled = y.settled ∙ x.settled;
-    fenced = y.fenced ∙ x.fenced;
-    written = y.written ∙ x.written;
-    late = y.late ∙ x.late;
-    broken = y.broken ∙ x.broken;
-    mounted = y.mounted ∙ x.mounted;
-    committed = y.committed ∙ x.committed;
-  }
-
-  pub goes-reads : (a b : Mft D g) (reads : ℕ) → MftReads g a b reads → KeepsDisk g a b
-  goes-reads a b reads r = record {
-    goes_on = r.stage.goes_on;
-    now = r.stage.only_reads.now;
-    settled = r.stage.only_reads.settled;
-    fenced = r.stage.only_reads.fenced;
-    written = r.stage.only_reads.written;
-    late = r.stage.only_reads.late;
-    broken = r.stage.only_reads.broken;
-    mounted = r.mounted;
-    committed = r.committed;
-  }
-
-  pub goes-same : (a : Mft D g) → KeepsDisk g a a
-  goes-same a = goes-reads a a 0 (MftReads-none g a)
 
 -- AFTER SO MANY NAMES: what is left can be told still, and will complete what was begun.
 pub record Goes {D : Type 0} (g : Ghosts D) (told : DuplicatedInformation) (links : List Link) (at : ℕ) (old now : Mft D g) : Type 0 where
@@ -75,7 +35,7 @@ module _ {D : Type 0} (g : Ghosts D) (told : DuplicatedInformation) (links : Lis
   pub goes-none : (a : Mft D g) → (IsTrue (view g a).told → CanTellAll (view g a) (mounted_of g a).upcase links)
       → Goes g told links 0 a a
   goes-none a can = record {
-    disk = goes-same g a;
+    disk = KeepsDisk-same g a;
     faults = refl;
     can = can;
     goes = λ t last chain. chain;
@@ -123,7 +83,7 @@ module _ {D : Type 0} (g : Ghosts D) (told : DuplicatedInformation) (links : Lis
           subst (λ (m : Mounted). CanTellAll (view g new) m.upcase rest) (sym disk.mounted)
           (can-rest told (view g now) (view g new) (mounted_of g now).upcase link rest (all t) (entry t)) in
           record {
-            disk = goes-then g old now new r.disk disk;
+            disk = KeepsDisk-then g old now new r.disk disk;
             faults = faults ∙ r.faults;
             can = λ t. subst (λ k. CanTellAll (view g new) (mounted_of g new).upcase (drop k links)) next (can t);
             goes = λ t last chain. r.goes t last (subst (RefreshesLinks told (view g now) last) (sym first)

@@ -28,9 +28,10 @@ use Rattle.volume_def.specs.Room.{free_bytes}
 use Rattle.volume_def.specs.View.{VolumeView}
 use Rattle.mft_table.specs.declared.mft.Mft.{Mft}
 use Rattle.mft_table.specs.declared.mounted.Mounted.{Mounted}
-use Rattle.mft_table.specs.Mft.{MftReads, MftReserves, MftStages, is_mft_broken, stage_of, view}
+use Rattle.mft_table.specs.Mft.{KeepsDisk, MftReads, MftReserves, MftStages, is_mft_broken, stage_of, view}
 use Rattle.mft_table.specs.Mounted.{mounted_layout}
 use Rattle.mft_table.specs.Staging.{record_places}
+use Rattle.mft_table.proofs.DiskKept.{KeepsDisk-reads, KeepsDisk-stages, KeepsDisk-then}
 use Rattle.file_record.specs.Attributes.{ChangesValue, HasRoomToPut, RemovesAttribute, opened_record}
 use Rattle.file_record.specs.declared.held.Held.{Held}
 use Rattle.file_record.specs.declared.parts.FileParts.{FileParts}
@@ -39,13 +40,10 @@ use Rattle.file_record.specs.Records.{IsRecordOf}
 use Rattle.file_record.specs.Written.{IsWholeFile}
 use Rattle.file_record.proofs.HeldLaws.{part-at, within-held}
 use Rattle.file_record.proofs.ReadLaws.{view-kept}
-use Rattle.record_calls.proofs.Values.{body-value}
-use Rattle.index_store.specs.IndexBlocksMut.{KeepsDisk}
-use Rattle.index_store.proofs.EditedBlocks.{KeepsDisk-stages}
+use Rattle.stream_overwrites.proofs.Below.{body-value}
 use Rattle.dir_index.specs.Standard.{IsInitialized, StagesRecordOf}
 use Rattle.dir_index.proofs.StandardLaws.{at-among}
 use Rattle.tree_edit.specs.Change.{ChangesPart, FitsPart, RemovesPart, TellsFit, fits_in, has_room, has_room_for}
-use Rattle.tree_edit.proofs.ChainedLaws.{goes-reads, goes-then}
 use Rattle.tree_edit.proofs.ValueRoom as room
 use Rattle.tree_edit.proofs.ValueRoom.{room-max}
 use Rattle.tree_edit.proofs.ValueLaws.{either}
@@ -302,7 +300,7 @@ module _ (file : FileParts) (k left i : ℕ) (inside : k < length (held_of file)
         → OnOk result (RecordHeld file k (λ held. MftStages g (record_places (view g b).layout held.number) 4 b c))
         → OnErr result (MftReserves g b c) → KeepsDisk g a c
     part-disk c result sound stages kept =
-        goes-then g a b c (goes-reads g a b reads_n reads) (elim (either result stages kept) [
+        KeepsDisk-then g a b c (KeepsDisk-reads g a b reads_n reads) (elim (either result stages kept) [
           | inl held ↦
               KeepsDisk-stages g b c (record_places (view g b).layout one.number) 4 (reads.stage.only_reads.broken ∙ sound)
               (of-record (λ held. MftStages g (record_places (view g b).layout held.number) 4 b c) held)

@@ -26,3 +26,4 @@ mod AskedLaws
 pub mod WayLaws
 mod ValueRoom
 pub mod ChangePart
+pub mod Below

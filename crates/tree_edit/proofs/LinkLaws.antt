@@ -12,6 +12,7 @@ use Rattle.volume_def.specs.Files.{Record, file_of, is_base, is_directory, recor
 use Rattle.volume_def.specs.Readable.{IsDirectory, IsFile}
 use Rattle.volume_def.specs.Sound.{IsSound}
 use Rattle.volume_def.specs.View.{VolumeView}
+use Rattle.volume_def.proofs.SoundLaws.{readable-sound}
 use Rattle.tree_model.specs.Reading.{link_for}
 use Rattle.tree_model.specs.declared.tree.Link as tree
 use Rattle.dir_index.specs.Links.{link_of_item}
@@ -20,7 +21,6 @@ use Rattle.dir_index.specs.Standard.{IsInitialized}
 use Rattle.dir_index.proofs.DirectoryLinks.{links_are_items}
 use Rattle.attribute_edits.proofs.ItemLaws.{StandsFor, parent-directory}
 use Rattle.attribute_edits.proofs.NamedItems.{index-of, named-link}
-use Rattle.attribute_edits.proofs.StandardVolume.{readable-sound}
 use Rattle.tree_edit.specs.Links.{CanTell, CanTellNames, CanWrite}
 
 -- a directory is a record of the table

@@ -4,12 +4,12 @@ use Rattle.volume_def.specs.FileNames.{names_of}
 use Rattle.volume_def.specs.Files.{parts, records_of}
 use Rattle.volume_def.specs.Readable.{IsFile, IsReadableVolume}
 use Rattle.volume_def.specs.View.{VolumeView}
+use Rattle.volume_def.proofs.SoundLaws.{readable-sound}
 use Rattle.tree_model.specs.Reading.{links_to}
 use Rattle.tree_model.specs.declared.tree.Link.{Link}
 use Rattle.file_record.specs.declared.parts.FileParts.{FileParts}
 use Rattle.file_record.specs.Held.{AreParts, file_number, parts_held}
 use Rattle.dir_index.specs.declared.entry.DuplicatedInformation.{DuplicatedInformation}
-use Rattle.attribute_edits.proofs.StandardVolume.{readable-sound}
 use Rattle.tree_read.specs.FileLinks.{links_held}
 use Rattle.tree_read.proofs.OutlineLaws as held
 use Rattle.tree_edit.specs.Duplicated.{IsToldBy}

@@ -7,16 +7,15 @@ use Rattle.volume_def.specs.Coverage.{IsApart}
 use Rattle.volume_def.specs.FileNames.{names_of}
 use Rattle.volume_def.specs.Files.{Part, parts, records_of}
 use Rattle.volume_def.specs.Readable.{IsFile, WhereReadable}
+use Rattle.volume_def.proofs.SoundLaws.{readable-sound}
 use Rattle.mft_table.specs.declared.mft.Mft.{Mft}
 use Rattle.mft_table.specs.InUse.{IsInUse, IsSoundVolume}
-use Rattle.mft_table.specs.Mft.{mounted_of, view}
+use Rattle.mft_table.specs.Mft.{KeepsDisk, mounted_of, view}
 use Rattle.file_record.specs.Written.{HoldsBytes, WritesBytes}
-use Rattle.index_store.specs.IndexBlocksMut.{KeepsDisk}
-use Rattle.in_place.proofs.PlacesSame.{names-same}
+use Rattle.stream_overwrites.proofs.Below.{names-same}
 use Rattle.dir_index.specs.Standard.{IsInitialized, StagesRecordOf}
-use Rattle.attribute_edits.specs.Attributes.{SetsAttributes}
+use Rattle.attribute_edits.specs.Below.{SetsAttributes}
 use Rattle.attribute_edits.proofs.AttributesSet.{node-file}
-use Rattle.attribute_edits.proofs.StandardVolume.{readable-sound}
 use Rattle.tree_edit.specs.Links.{CanWriteFile}
 use Rattle.tree_edit.specs.Staged.{IsOfFile, IsOfNames, StagesAttributes}
 use Rattle.tree_edit.specs.Values.{CanPut, IsOfValue, LeavesFile, PutsBytes, StagesValue}

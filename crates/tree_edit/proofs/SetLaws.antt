@@ -10,6 +10,7 @@ use Rattle.volume_def.specs.FileNames.{names_of}
 use Rattle.volume_def.specs.Files.{records_of}
 use Rattle.volume_def.specs.Readable.{IsFile, WhereReadable}
 use Rattle.volume_def.specs.View.{VolumeView}
+use Rattle.volume_def.proofs.SoundLaws.{readable-sound}
 use Rattle.tree_model.specs.Reading.{link_for}
 use Rattle.tree_model.specs.declared.tree.Link.{Link}
 use Rattle.edit_def.specs.Kept.{key_of, same_key}
@@ -17,17 +18,15 @@ use Rattle.mft_table.specs.declared.mft.Mft.{Mft}
 use Rattle.mft_table.specs.declared.mounted.Mounted.{Mounted}
 use Rattle.mft_table.specs.HeldTables.{AreStored}
 use Rattle.mft_table.specs.InUse.{IsInUse}
-use Rattle.mft_table.specs.Mft.{MftReads, mounted_of, view}
+use Rattle.mft_table.specs.Mft.{KeepsDisk, MftReads, mounted_of, view}
 use Rattle.file_record.specs.declared.parts.FileParts.{FileParts}
 use Rattle.file_record.specs.Held.{AreParts, file_number, parts_held}
 use Rattle.file_record.proofs.ReadLaws.{view-kept}
-use Rattle.index_store.specs.IndexBlocksMut.{KeepsDisk}
 use Rattle.dir_index.specs.declared.entry.DuplicatedInformation.{DuplicatedInformation}
 use Rattle.dir_index.specs.Standard.{IsInitialized, SetsStandard, StagesRecordOf}
-use Rattle.attribute_edits.specs.Attributes.{SetsAttributes}
+use Rattle.attribute_edits.specs.Below.{SetsAttributes}
 use Rattle.attribute_edits.proofs.AttributesSet.{node-file}
 use Rattle.attribute_edits.proofs.StandardFirst.{names-first, set-rewrites}
-use Rattle.attribute_edits.proofs.StandardVolume.{readable-sound}
 use Rattle.tree_read.specs.FileLinks.{links_held}
 use Rattle.tree_edit.specs.Duplicated.{IsToldBy}
 use Rattle.tree_edit.specs.Links.{CanTellAll, CanTellFile, CanWriteFile, RefreshesLinks, TellsNames}

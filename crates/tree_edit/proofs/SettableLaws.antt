@@ -24,8 +24,8 @@ use Rattle.volume_def.specs.View.{VolumeView}
 use Rattle.volume_edits.proofs.TableParts.{record-written}
 use Rattle.volume_mark.proofs.OutsideLaws.{apart-sound}
 use Rattle.volume_mark.proofs.SectorBytes.{length-sector_in}
-use Rattle.in_place.specs.Unnamed.{LiesApart}
-use Rattle.in_place.proofs.StillApart as owned
+use Rattle.stream_overwrites.specs.Below.{LiesApart}
+use Rattle.stream_overwrites.proofs.Below as below
 use Rattle.tree_model.specs.Facts.{IsVolumeOf, is_whole_table}
 use Rattle.tree_model.specs.Hidden.{is_hidden, is_system, leads_to_system}
 use Rattle.tree_model.specs.Reading.{all_links, is_hidden_link, link_for, links_to, node_at, node_by, read, standard_of}
@@ -150,7 +150,7 @@ can-write bytes view volume =
 pub lies-apart : (bytes : List ℕ) (view : VolumeView) → IsVolumeOf bytes view → IsSound view → LiesApart view
 lies-apart bytes view volume =
     subst (λ (v : VolumeView). IsSound v → LiesApart v) (sym volume.is)
-    (λ sound. owned.apart-sound (sector_in (Some bytes)) (boot_sector bytes) volume.layout volume.has.table_clause
+    (λ sound. below.apart-sound (sector_in (Some bytes)) (boot_sector bytes) volume.layout volume.has.table_clause
     (λ n. let l = length-sector_in bytes n in omega (arith, l)) sound)
 
 -- a file that is shown is not that of the volume's version

@@ -18,7 +18,7 @@ use Rattle.volume_def.specs.Blocks.{mirror_sector, table_place}
 use Rattle.volume_def.specs.Files.{Record, file_of, record_in, record_of, record_on}
 use Rattle.volume_def.specs.Readable.{IsReadableVolume}
 use Rattle.volume_def.specs.Table.{IsWellFormed, TableLayout, cluster_bytes}
-use Rattle.volume_edits.specs.Clusters.{stream_place}
+use Rattle.volume_edits.specs.Clusters.{record_sectors, stream_place}
 use Rattle.volume_def.specs.Values.{spot_at}
 use Rattle.volume_def.specs.View.{VolumeView}
 use Rattle.edit_def.specs.Kept.{Key}
@@ -31,14 +31,12 @@ use Rattle.file_record.specs.Records.{IsRecordOf}
 use Rattle.vol_stage.specs.declared.stage.Stage.{Stage}
 use Rattle.vol_stage.proofs.Conversions.{rising-at}
 use Rattle.vol_stage.proofs.FewLaws.{few-named}
-use Rattle.index_store.specs.RecordWrites.{record_sectors}
-use Rattle.in_place.specs.Blank.{blank_record}
-use Rattle.in_place.specs.InPlace.{Rewrites}
-use Rattle.in_place.proofs.SameRecords.{on-same, spots-same}
+use Rattle.stream_overwrites.specs.Below.{Rewrites, blank_record}
+use Rattle.stream_overwrites.proofs.Below.{on-same, spots-same}
 use Rattle.dir_index.specs.Links.{names_index}
 use Rattle.dir_index.specs.Refreshed.{StagesEntry}
 use Rattle.dir_index.specs.Standard.{StagesRecordOf}
-use Rattle.entry_edits.specs.Refreshable.{index_name}
+use Rattle.attribute_edits.specs.Below.{index_name}
 use Rattle.tree_edit.specs.Staged.{IsOfDirectory, IsOfFile, IsOfIndex, IsOfLinks, IsOfNames, StagesFew}
 
 -- COUNTS

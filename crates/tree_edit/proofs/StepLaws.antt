@@ -14,26 +14,24 @@ use Rattle.volume_def.specs.Sound.{References}
 use Rattle.volume_def.specs.Table.{TableLayout, cluster_bytes}
 use Rattle.volume_def.specs.Values.{value_on}
 use Rattle.volume_def.specs.View.{VolumeView}
+use Rattle.volume_def.proofs.SoundLaws.{readable-sound}
 use Rattle.edit_def.specs.Edited.{is_room_key}
 use Rattle.edit_def.specs.Kept.{Key, either, key_of}
 use Rattle.edit_def.proofs.NamesLaws.{bases-of}
 use Rattle.edit_def.proofs.ToldLaws.{one-first, value-kept}
 use Rattle.tree_model.specs.Reading.{link_for}
 use Rattle.tree_model.specs.declared.tree.Link.{Link}
-use Rattle.in_place.specs.InPlace.{Rewrites}
-use Rattle.in_place.specs.Unnamed.{LiesApart}
-use Rattle.in_place.proofs.KeptInPlace as keeps
-use Rattle.in_place.proofs.RoomSame as room
+use Rattle.stream_overwrites.specs.Below.{LiesApart, Rewrites}
+use Rattle.stream_overwrites.proofs.Below as below
 use Rattle.dir_index.specs.declared.entry.DuplicatedInformation.{DuplicatedInformation}
 use Rattle.dir_index.specs.Refreshed.{RefreshesEntry}
 use Rattle.dir_index.specs.Standard.{SetsStandard}
-use Rattle.entry_edits.specs.Told.{IsToldOf}
-use Rattle.attribute_edits.specs.Attributes.{RefreshesNames, SetsAttributes, is_told_key}
+use Rattle.attribute_edits.specs.Below.{IsToldOf, RefreshesNames, SetsAttributes}
+use Rattle.attribute_edits.specs.Attributes.{is_told_key}
 use Rattle.attribute_edits.proofs.AttributesSet.{node-file}
 use Rattle.attribute_edits.proofs.ChainLaws.{step-rewrites}
 use Rattle.attribute_edits.proofs.ItemLaws.{StandsFor, stands-then}
 use Rattle.attribute_edits.proofs.StandardFirst.{set-rewrites, stands-first}
-use Rattle.attribute_edits.proofs.StandardVolume.{readable-sound}
 use Rattle.tree_edit.specs.Duplicated.{IsToldBy}
 use Rattle.tree_edit.specs.Links.{CanTell, CanTellAll, CanTellFile, CanTellNames, CanWrite, CanWriteFile, RefreshesLinks, TellsNames}
 use Rattle.tree_edit.proofs.LinkLaws.{can-name, stands}
@@ -44,7 +42,7 @@ module _ (changed : Key → Bool) (old new : VolumeView) (w : Rewrites changed o
   write-still can = record {
     apart = subst IsApart (sym w.layout) can.apart;
     written = λ n used. subst (λ (l : TableLayout). 1024 * n + 1024 ≤ l.initialized) (sym w.layout)
-        (can.written n (sym (room.used-same changed old new w n) ∙ used));
+        (can.written n (sym (below.used-same changed old new w n) ∙ used));
   }
 
   pub case-still : IsSound old → LiesApart old → either is_room_key changed (key_of UPCASE DATA []) ≡ false
@@ -52,7 +50,7 @@ module _ (changed : Key → Bool) (old new : VolumeView) (w : Rewrites changed o
   case-still sound apart free =
       let readable = readable-sound old sound in
       value-kept (either is_room_key changed) old new UPCASE DATA []
-      (keeps.kept-room changed old new w apart.owners apart.some apart.unnamed UPCASE) free
+      (below.kept-room changed old new w apart.owners apart.some apart.unnamed UPCASE) free
       (one-first old UPCASE DATA [] (bases-of (records_of old) (sound References)) readable.extents (λ e. cc))
       (ap (λ (l : TableLayout). cluster_bytes l) w.layout)
 

@@ -14,12 +14,10 @@ use Rattle.volume_def.specs.Values.{value_on}
 use Rattle.volume_def.specs.View.{VolumeView}
 use Rattle.edit_def.specs.Kept.{Key, either, key_of, same_key}
 use Rattle.mft_table.specs.HeldTables.{AreStored}
-use Rattle.in_place.specs.InPlace.{Rewrites}
-use Rattle.in_place.specs.Unnamed.{LiesApart}
-use Rattle.in_place.proofs.OtherClusters.{clusters-kept}
-use Rattle.in_place.proofs.RewriteLaws.{Rewrites-then}
-use Rattle.in_place.proofs.PlacesSame.{value-other}
-use Rattle.attribute_edits.specs.Attributes.{SetsAttributes, dirs_of, is_told_key}
+use Rattle.attribute_edits.specs.Below.{SetsAttributes}
+use Rattle.stream_overwrites.specs.Below.{LiesApart, Rewrites}
+use Rattle.stream_overwrites.proofs.Below.{Rewrites-then, clusters-kept, value-other}
+use Rattle.attribute_edits.specs.Attributes.{dirs_of, is_told_key}
 use Rattle.attribute_edits.proofs.ChainLaws.{chain-rewrites}
 use Rattle.attribute_edits.proofs.StandardFirst.{set-rewrites}
 

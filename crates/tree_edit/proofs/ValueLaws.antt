@@ -14,18 +14,17 @@ use Rattle.volume_def.specs.Readable.{IsFile, IsReadableVolume, WhereReadable}
 use Rattle.volume_def.specs.View.{VolumeView}
 use Rattle.mft_table.specs.declared.mft.Mft.{Mft}
 use Rattle.mft_table.specs.declared.mounted.Mounted.{Mounted}
-use Rattle.mft_table.specs.Mft.{MftReads, MftReserves, MftStages, committed_of, is_mft_broken, mounted_of, stage_of, view}
+use Rattle.mft_table.specs.Mft.{KeepsDisk, MftReads, MftReserves, MftStages, committed_of, is_mft_broken, mounted_of, stage_of, view}
 use Rattle.mft_table.specs.Mounted.{mounted_layout}
 use Rattle.mft_table.specs.Staging.{record_places}
+use Rattle.mft_table.proofs.DiskKept.{KeepsDisk-reads, KeepsDisk-then}
 use Rattle.file_record.specs.declared.parts.FileParts.{FileParts}
 use Rattle.file_record.specs.Held.{AreParts, AreRising, file_number, held_of, parts_held}
 use Rattle.file_record.specs.Records.{IsRecordOf}
 use Rattle.file_record.specs.Written.{HoldsBytes, IsWholeFile, PartHeld, WritesBytes}
 use Rattle.file_record.proofs.ReadLaws.{view-kept}
-use Rattle.index_store.specs.IndexBlocksMut.{KeepsDisk}
 use Rattle.dir_index.specs.Standard.{IsInitialized, StagesRecordOf}
 use Rattle.dir_index.proofs.StandardLaws.{at-among, holder-own}
-use Rattle.tree_edit.proofs.ChainedLaws.{goes-reads, goes-then}
 
 -- what is told of both answers
 pub either : {T E A B : Type 0} (result : Result T E) → OnOk result A → OnErr result B → A ⊎ B
@@ -126,7 +125,7 @@ module _ {D : Type 0} (g : Ghosts D) (f i at : ℕ) (bytes : List ℕ) (a b : Mf
       → OnErr result (MftReserves g b c) → KeepsDisk g a c
   value-disk c result sound holds stages kept =
       let its = some-value (slice_get (parts_held file) i) (HoldsBytes at (length bytes)) holds in
-      goes-then g a b c (goes-reads g a b reads_n reads) (elim (either result stages kept) [
+      KeepsDisk-then g a b c (KeepsDisk-reads g a b reads_n reads) (elim (either result stages kept) [
         | inl held ↦
             let one = subst (λ (o : Option Part). IsSomeAnd o (λ part. MftStages g (record_places
             (view g b).layout part.holder) 4 b c)) its.1

@@ -10,7 +10,8 @@ use Rattle.volume_def.specs.FileNames.{names_of}
 use Rattle.volume_def.specs.Files.{Part, Records, is_of, parts, parts_at, records_of}
 use Rattle.volume_def.specs.Values.{first_part, spot_at}
 use Rattle.volume_def.specs.View.{VolumeView}
-use Rattle.volume_edits.specs.Clusters.{IsWritable}
+use Rattle.volume_def.proofs.SoundLaws.{readable-sound}
+use Rattle.volume_edits.specs.Clusters.{IsWritable, OverwritesStream}
 use Rattle.tree_model.specs.Cases.{is_packed}
 use Rattle.tree_model.specs.Reading.{streams_of}
 use Rattle.tree_model.specs.Tree.{sought_stream}
@@ -21,15 +22,13 @@ use Rattle.tree_model.specs.declared.tree.Stream.{Stream}
 use Rattle.edit_def.specs.Kept.{key_of, same_key}
 use Rattle.mft_table.specs.declared.mft.Mft.{Mft}
 use Rattle.mft_table.specs.InUse.{IsInUse, IsSoundVolume}
-use Rattle.mft_table.specs.Mft.{mounted_of, stage_of, view}
+use Rattle.mft_table.specs.Mft.{KeepsDisk, mounted_of, stage_of, view}
 use Rattle.file_record.specs.declared.parts.FileParts.{FileParts}
 use Rattle.file_record.specs.Held.{file_number, parts_held}
-use Rattle.index_store.specs.IndexBlocksMut.{KeepsDisk}
-use Rattle.attribute_edits.specs.Attributes.{SetsAttributes}
-use Rattle.attribute_edits.proofs.StandardVolume.{readable-sound}
+use Rattle.attribute_edits.specs.Below.{SetsAttributes}
 use Rattle.sparse_io.specs.declared.find.FoundStream.{FoundStream}
 use Rattle.sparse_io.specs.Held.{IsHeldWith, IsStream}
-use Rattle.sparse_io.specs.Overwritten.{OverwritesStream, touched_sectors}
+use Rattle.sparse_io.specs.Overwritten.{touched_sectors}
 use Rattle.sparse_io.proofs.OverwriteLaws.{found-first}
 use Rattle.stream_overwrites.specs.Overwritten.{FindsPlain, IsOverwritten, WritesOver, node_over}
 use Rattle.stream_overwrites.proofs.OverInPlace.{over-in-place}

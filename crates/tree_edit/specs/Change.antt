@@ -13,7 +13,7 @@ use Rattle.file_record.specs.Held.{held_of, parts_held}
 use Rattle.file_record.specs.Records.{IsRecordOf}
 use Rattle.file_record.specs.declared.held.Held.{Held}
 use Rattle.file_record.specs.declared.parts.FileParts.{FileParts}
-use Rattle.record_calls.specs.Calls.{IsInOneRecord}
+use Rattle.stream_overwrites.specs.Below.{IsInOneRecord}
 use Rattle.sparse_io.specs.declared.find.FoundStream.{FoundStream}
 use Rattle.tree_edit.specs.Punchable.{CanPunch}
 

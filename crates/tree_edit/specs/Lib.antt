@@ -11,3 +11,4 @@ pub mod Staged
 pub mod Values
 pub mod Writable
 pub mod Write
+pub mod Below

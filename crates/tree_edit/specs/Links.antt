@@ -13,11 +13,10 @@ use Rattle.volume_def.specs.View.{VolumeView}
 use Rattle.tree_model.specs.Reading.{link_for}
 use Rattle.tree_model.specs.declared.tree.Link.{Link}
 use Rattle.tree_model.specs.declared.tree.Node.{Node}
-use Rattle.in_place.specs.Unnamed.{LiesApart}
+use Rattle.stream_overwrites.specs.Below.{CanSet, LiesApart}
 use Rattle.dir_index.specs.declared.entry.DuplicatedInformation.{DuplicatedInformation}
 use Rattle.dir_index.specs.Refreshed.{CanRefresh, HasUnits, RefreshesEntry}
-use Rattle.entry_edits.specs.Told.{IsToldOf}
-use Rattle.attribute_edits.specs.Attributes.{CanSet, RefreshesNames}
+use Rattle.attribute_edits.specs.Below.{IsToldOf, RefreshesNames}
 
 -- Records can be written: the table lies apart from its mirror, and every record in use lies whole in what was written of the table.
 pub record CanWrite (view : VolumeView) : Type 0 where

@@ -7,14 +7,13 @@ use Rattle.ntfs_def.specs.declared.kinds.TheConstants.{DATA}
 use Rattle.volume_def.specs.Files.{parts_at}
 use Rattle.volume_def.specs.Values.{spot_at}
 use Rattle.volume_def.specs.View.{VolumeView}
-use Rattle.volume_edits.specs.Clusters.{stream_sectors}
+use Rattle.volume_edits.specs.Clusters.{record_sectors, stream_sectors}
 use Rattle.tree_model.specs.declared.tree.Link.{Link}
 use Rattle.mft_table.specs.declared.mft.Mft.{Mft}
 use Rattle.mft_table.specs.HeldTables.{AreStored}
 use Rattle.mft_table.specs.Mft.{mounted_of, stage_of, view}
 use Rattle.mft_table.specs.Staging.{record_places}
 use Rattle.file_record.specs.Records.{IsRecordOf}
-use Rattle.index_store.specs.RecordWrites.{record_sectors}
 use Rattle.dir_index.specs.Links.{names_index}
 
 -- the sector is one of a record of the file, or of the copy of that record ..

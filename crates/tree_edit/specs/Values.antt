@@ -8,12 +8,12 @@ use Rattle.ntfs_def.specs.declared.records.TheConstants.{CLUSTER_BITMAP, MFT, UP
 use Rattle.volume_def.specs.Files.{Part, parts, records_of}
 use Rattle.volume_def.specs.View.{VolumeView}
 use Rattle.edit_def.specs.Kept.{Key, key_of}
-use Rattle.in_place.specs.InPlace.{Rewrites}
+use Rattle.stream_overwrites.specs.Below.{CanSet, Rewrites}
 use Rattle.mft_table.specs.declared.mft.Mft.{Mft}
 use Rattle.mft_table.specs.Mft.{view}
 use Rattle.file_record.specs.Written.{HoldsBytes, WritesBytes}
 use Rattle.tree_model.specs.declared.tree.Node.{Node}
-use Rattle.attribute_edits.specs.Attributes.{CanSet, SetsAttributes}
+use Rattle.attribute_edits.specs.Below.{SetsAttributes}
 use Rattle.tree_edit.specs.Links.{CanWriteFile}
 use Rattle.tree_edit.specs.Staged.{IsOfFile, IsOfNames, StagesFew}
 

@@ -24,7 +24,7 @@ use Rattle.tree_model.specs.declared.tree.Node.{Node}
 use Rattle.mft_table.specs.declared.mounted.Mounted.{Mounted}
 use Rattle.file_record.specs.declared.base.BaseFile.{BaseFile}
 use Rattle.sparse_io.specs.declared.find.FoundStream.{FoundStream}
-use Rattle.stream_edits.specs.Streams.{IsThere}
+use Rattle.stream_overwrites.specs.Below.{IsThere}
 use Rattle.tree_read.specs.Nodes.{IsCaseOf, IsNodeHeld, number_of, parts_in}
 use Rattle.tree_read.specs.Parts.{IsPlainStream}
 use Rattle.tree_edit.specs.Settable.{IsSettable}

@@ -21,7 +21,6 @@ use attr_store::is_of;
 use file_record::{BaseFile, FileParts};
 use mft_table::{Mft, Mounted};
 use ntfs_def::kinds::ATTRIBUTE_LIST;
-use ntfs_def::records::CLUSTER_BITMAP;
 use sparse_io::{FoundStream, look_at_names};
 use std::alloc::{AllocError, Global};
 use stored_bits::bits_are_placed;
@@ -107,10 +106,6 @@ pub fn ask_for_bits<D: Disk>(alloc: Global, mft: &mut Mft<'_, D>) -> Result<(), 
     requires volume { IsInUse D.Disk mft.old }
     ensures asked { Gives D.Disk mft.old mft.new (λ volume given. Says (has_room (bits_asked volume)) given) result }
 {
-    if mft.mounted().records.count() <= CLUSTER_BITMAP {
-        // Where the volume tells its contents, it has more.
-        return Err(Stop::No(No::Memory));
-    }
     match bits_are_placed(alloc, mft) {
         Ok(true) => Ok(()),
         Ok(false) => Err(Stop::No(No::Unbuilt)),

@@ -1,9 +1,8 @@
 //! The entries of the names of a file tell anew what they repeat of it.
 ghost use Rattle.std.specs.Prelude.{◌≡◌, false, IfErr, IsTrue, MatchResult, OnOk};
-ghost use Rattle.mft_table.specs.Mft.{faults_of, is_mft_broken, mounted_of, view};
+ghost use Rattle.mft_table.specs.Mft.{KeepsDisk, faults_of, is_mft_broken, mounted_of, view};
 ghost use Rattle.mft_table.specs.MirrorClusters.{IsMirrorInside};
 ghost use Rattle.file_record.specs.FileNos.{CountsNo, IsReadNo};
-ghost use Rattle.index_store.specs.IndexBlocksMut.{KeepsDisk};
 ghost use Rattle.dir_index.specs.Refreshed.{RefreshesEntry};
 ghost use Rattle.tree_edit.specs.Links.{CanTell, CanTellAll, RefreshesLinks};
 ghost use Rattle.tree_edit.specs.Staged.{IsOfDirectory, StagesFew, StagesLinks};

@@ -3,10 +3,9 @@ ghost use Rattle.std.specs.Prelude.{◌≡◌, ◌<◌, false, IfErr, IsTrue, Ma
 ghost use Rattle.volume_def.specs.FileNames.{names_of};
 ghost use Rattle.volume_def.specs.Files.{records_of};
 ghost use Rattle.mft_table.specs.InUse.{IsInUse};
-ghost use Rattle.mft_table.specs.Mft.{faults_of, is_mft_broken, mounted_of, view};
+ghost use Rattle.mft_table.specs.Mft.{KeepsDisk, faults_of, is_mft_broken, mounted_of, view};
 ghost use Rattle.mft_table.specs.MirrorClusters.{IsMirrorInside};
 ghost use Rattle.file_record.specs.FileNos.{CountsNo, IsReadNo};
-ghost use Rattle.index_store.specs.IndexBlocksMut.{KeepsDisk};
 ghost use Rattle.attribute_edits.specs.Attributes.{SetsSecurity};
 ghost use Rattle.tree_edit.specs.Securable.{CanSecure};
 ghost use Rattle.tree_edit.specs.Values.{StagesValue};

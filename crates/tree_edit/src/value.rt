@@ -1,18 +1,17 @@
 //! Whether a value holds bytes, or can have so many; and bytes that go over those of a value of a file, in the record that holds it, and
 //! what the file shows of itself is told anew.
-ghost use Rattle.std.specs.Prelude.{◌≡◌, ◌≤◌, ◌<◌, ◌+◌, ◌^◌, false, IfErr, IsSomeAnd, IsTrue, MatchBool, MatchResult, OnErr, OnOk, Some, length, slice_get};
+ghost use Rattle.std.specs.Prelude.{◌≡◌, ◌≤◌, ◌<◌, ◌+◌, ◌^◌, false, IfErr, IsTrue, MatchBool, MatchResult, OnErr, OnOk, Some, length, slice_get};
 ghost use Rattle.ntfs_def.specs.Attribute.{attributes};
 ghost use Rattle.volume_def.specs.Coverage.{IsApart};
 ghost use Rattle.volume_def.specs.FileNames.{names_of};
 ghost use Rattle.volume_def.specs.Files.{Part, parts, records_of};
 ghost use Rattle.volume_def.specs.Readable.{IsFile, WhereReadable};
 ghost use Rattle.mft_table.specs.InUse.{IsInUse};
-ghost use Rattle.mft_table.specs.Mft.{faults_of, is_mft_broken, mounted_of, view};
+ghost use Rattle.mft_table.specs.Mft.{KeepsDisk, faults_of, is_mft_broken, mounted_of, view};
 ghost use Rattle.mft_table.specs.MirrorClusters.{IsMirrorInside};
 ghost use Rattle.file_record.specs.FileNos.{CountsNo, IsReadNo};
 ghost use Rattle.file_record.specs.Held.{RecordHeld, parts_held};
 ghost use Rattle.file_record.specs.Written.{HoldsBytes, PartHeld, WritesBytes};
-ghost use Rattle.index_store.specs.IndexBlocksMut.{KeepsDisk};
 ghost use Rattle.dir_index.specs.Standard.{IsInitialized, StagesNothing, StagesRecordOf};
 ghost use Rattle.tree_edit.specs.Change.{TellsFit, fits_in, has_room};
 ghost use Rattle.tree_edit.specs.Values.{CanPut, PutsBytes, StagesValue};

@@ -18,7 +18,7 @@ use Rattle.mft_table.specs.Mft.{mounted_of, stage_of, view}
 use Rattle.stored_bits.specs.Given.{IsOfBits, KeepsDevice}
 use Rattle.mark_place.specs.LogSpans.{AreLogSpans, log_sectors}
 use Rattle.volume_mark.specs.Mark.{IsFlagOf}
-use Rattle.tree_edit.specs.Staged.{IsOfEdit, TellsStored}
+use Rattle.stream_changes.specs.Below.{IsOfEdit, TellsStored}
 use Rattle.stream_changes.specs.Staged.{StagesGiving}
 use Rattle.stream_changes.proofs.DeviceLaws.{device-then}
 use Rattle.tree_read.specs.declared.stop.Stop.{Stop}

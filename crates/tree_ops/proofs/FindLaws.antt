@@ -16,6 +16,7 @@ use Rattle.volume_def.specs.ShapeClause.{MeetsShape}
 use Rattle.volume_def.specs.Sound.{IsSound, References, Shape, Version}
 use Rattle.volume_def.specs.VersionClause.{HasVersion}
 use Rattle.volume_def.specs.View.{VolumeView}
+use Rattle.volume_def.proofs.SoundLaws.{readable-sound}
 use Rattle.volume_edits.specs.Owners.{HasOwners}
 use Rattle.mark_write.specs.Flags.{LiesAt}
 use Rattle.mark_write.specs.Logs.{span_sectors}
@@ -27,9 +28,8 @@ use Rattle.file_record.proofs.ReadLaws.{view-kept}
 use Rattle.mark_place.specs.LogSpans.{AreLogSpans, log_sectors}
 use Rattle.volume_mark.specs.Mark.{IsFlagOf}
 use Rattle.volume_mark.proofs.OutsideLaws as outside
-use Rattle.in_place_owed.proofs.CallsOwed.{apart-of}
+use Rattle.in_place_done.proofs.Below.{apart-of}
 use Rattle.tree_model.specs.Facts.{IsVolumeOf}
-use Rattle.tree_read.proofs.NodeLaws.{sound-readable}
 use Rattle.tree_ops.specs.Edits.{CanEdit, IsPlaced}
 use Rattle.tree_ops.specs.declared.place.MarkPlace.{MarkPlace}
 use Rattle.tree_ops.proofs.ImageLaws.{some-bytes}
@@ -99,7 +99,7 @@ module _ {D : Type 0} (g : Ghosts D) (old : Mft D g) (mark : Option Flag) (can :
         let lies = apart-of b.0 (view g old) b.1 sound in
         subst (λ v. WhereReadable v (HasOwners v → ((n : ℕ) → MeetsReferences (records_of v) n)
         → AreLogSpans v spans × (span_sectors spans ≤ log_sectors v))) same log
-        told (sound-readable (view g old) sound) lies.owners (sound References)
+        told (readable-sound (view g old) sound) lies.owners (sound References)
 
     pub found-placed : (place : MarkPlace) → mark ≡ None → place.marked ≡ false
         → (IsTrue (view g old).told → IsFlagOf (view g old) place.flag) → LiesAt (g.size (disk_of g (stage_of g old))) place.flag

@@ -30,11 +30,8 @@ use Rattle.tree_model.specs.declared.reply.No.TheVariants as no
 use Rattle.tree_model.specs.declared.tree.Content.{Content}
 use Rattle.tree_model.specs.declared.tree.Content.TheVariants.{Packed, Plain}
 use Rattle.tree_model.proofs.LookLaws.{find-never}
-use Rattle.in_place_owed.proofs.EmptyBill.{has-room}
-use Rattle.in_place_done.proofs.Below.{value-room}
-use Rattle.tree_edit.specs.Alone.{can_resize}
-use Rattle.tree_edit.specs.Write.{hwrite_in, hwrite_wanted, room_to_write}
-use Rattle.tree_edit.specs.Writable.{can_write_over}
+use Rattle.in_place_done.proofs.Below.{has-room, value-room}
+use Rattle.stream_changes.specs.Below.{can_resize, can_write_over, hwrite_in, hwrite_wanted, room_to_write}
 use Rattle.tree_ops.specs.Edits.{hwrite_edit}
 use Rattle.tree_ops.specs.Wanted.{machine_on}
 use Rattle.tree_ops.specs.declared.streams.StreamEdit.TheVariants as s

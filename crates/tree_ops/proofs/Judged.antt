@@ -10,8 +10,7 @@ use Rattle.tree_model.specs.declared.reply.No.{No}
 use Rattle.tree_model.specs.declared.reply.No.TheVariants as no
 use Rattle.tree_model.specs.declared.tree.Content.{Content}
 use Rattle.tree_model.specs.declared.tree.Content.TheVariants.{Packed, Plain}
-use Rattle.tree_edit.specs.Alone.{if_room}
-use Rattle.tree_edit.specs.Writable.{content_to_write}
+use Rattle.stream_changes.specs.Below.{content_to_write, if_room}
 
 -- what the words lead to, where a file is wanted
 abbrev pub with_at : Located → Result ℕ No → Result Located No

@@ -28,16 +28,15 @@ use Rattle.mark_place.specs.Beside.{IsBesideFlag}
 use Rattle.mark_place.specs.LogSpans.{AreLogSpans}
 use Rattle.mark_place.proofs.PlacesApart as apart
 use Rattle.volume_mark.specs.Mark.{IsFlagOf}
-use Rattle.in_place.specs.Unnamed.{LiesApart}
-use Rattle.in_place_done.specs.Below.{CanSet, IsPlaceOf}
+use Rattle.in_place_done.specs.Below.{CanSet, IsPlaceOf, LiesApart}
 use Rattle.in_place_done.proofs.Below.{none-within}
 use Rattle.tree_model.proofs.NamesLaws.{is_shown}
 use Rattle.tree_model.specs.Hidden.{is_hidden, is_system}
 use Rattle.tree_model.specs.Reading.{node_at}
 use Rattle.tree_model.specs.declared.tree.Node.{Node}
-use Rattle.tree_edit.specs.Staged.{IsOfDirectory, IsOfFile, IsOfNames, IsOfStreams}
+use Rattle.stream_changes.specs.Below.{IsOfDirectory, IsOfFile, IsOfNames, IsOfStreams}
 use Rattle.stream_changes.specs.Staged.{StagesGiving}
-use Rattle.tree_edit.proofs.SettableLaws.{not-system}
+use Rattle.stream_changes.proofs.Below.{not-system}
 use Rattle.tree_ops.specs.Edits.{CanEdit, HasMark, IsPlaceBy, IsPlaced}
 use Rattle.tree_ops.specs.declared.place.MarkPlace.{MarkPlace}
 

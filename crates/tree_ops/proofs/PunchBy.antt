@@ -19,8 +19,8 @@ use Rattle.tree_model.specs.declared.command.Command.TheVariants as c
 use Rattle.tree_model.specs.declared.opens.OpenEntry.{OpenEntry}
 use Rattle.tree_model.specs.declared.reply.No.{No}
 use Rattle.tree_model.specs.declared.tree.Found.{Found}
-use Rattle.in_place_owed.proofs.EmptyBill.{has-room}
-use Rattle.tree_edit.specs.Punchable.{can_punch, punch_in, punch_wanted}
+use Rattle.in_place_done.proofs.Below.{has-room}
+use Rattle.stream_changes.specs.Below.{can_punch, punch_in, punch_wanted}
 use Rattle.tree_ops.specs.Edits.{EditsFound, stream_edit}
 use Rattle.tree_ops.specs.Wanted.{machine_on}
 use Rattle.tree_ops.specs.declared.streams.StreamEdit.TheVariants as s

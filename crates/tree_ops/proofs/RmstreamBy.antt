@@ -23,7 +23,7 @@ use Rattle.tree_model.specs.declared.opens.OpenEntry.{OpenEntry}
 use Rattle.tree_model.specs.declared.reply.No.{No}
 use Rattle.tree_model.specs.declared.tree.Found.{Found}
 use Rattle.in_place_done.proofs.Below.{value-room}
-use Rattle.tree_edit.specs.Alone.{can_drop, can_give, drop_in, drop_wanted}
+use Rattle.stream_changes.specs.Below.{can_drop, can_give, drop_in, drop_wanted}
 use Rattle.tree_ops.specs.Edits.{EditsFound, stream_edit}
 use Rattle.tree_ops.specs.Wanted.{machine_on}
 use Rattle.tree_ops.specs.declared.streams.StreamEdit.TheVariants as s

@@ -4,6 +4,7 @@ use Rattle.std.specs.Prelude.{IsSome, if◌then◌else◌, is_some, option_and_t
 use Rattle.std.specs.Option.{option_map_or}
 use Rattle.volume_def.specs.Values.{first_part}
 use Rattle.volume_def.specs.View.{VolumeView}
+use Rattle.volume_def.proofs.FileLaws.{file-counted as counted}
 use Rattle.tree_model.specs.Reading.{read}
 use Rattle.tree_model.specs.StreamRoom.{parts_named, stream_parts, stream_value}
 use Rattle.tree_model.specs.Subjects.{Located, content_named}
@@ -12,9 +13,8 @@ use Rattle.tree_model.specs.Ways.{in_extent}
 use Rattle.tree_model.specs.declared.reply.No.{No}
 use Rattle.tree_model.specs.declared.tree.Node.{Node}
 use Rattle.tree_model.specs.declared.tree.Stream.{Stream}
-use Rattle.mark_place.proofs.PlacesApart.{counted}
 use Rattle.tree_read.proofs.NodeLaws.{shown-file}
-use Rattle.tree_edit.specs.Writable.{named_in}
+use Rattle.stream_changes.specs.Below.{named_in}
 
 module _ (view : VolumeView) (tree : Tree) (at : Located) where
   pub value-there : is_some (stream_value (stream_parts view tree at)) ≡ true → is_some (content_named tree at.stream at.node) ≡ true

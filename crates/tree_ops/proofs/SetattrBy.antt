@@ -20,8 +20,8 @@ use Rattle.tree_model.specs.declared.reply.No.{No}
 use Rattle.tree_model.specs.declared.reply.No.TheVariants as no
 use Rattle.tree_model.specs.declared.tree.Found.{Found}
 use Rattle.tree_model.proofs.LookLaws.{find-never}
-use Rattle.in_place_owed.proofs.EmptyBill.{has-room}
-use Rattle.tree_edit.specs.Settable.{settable}
+use Rattle.in_place_done.proofs.Below.{has-room}
+use Rattle.stream_changes.specs.Below.{settable}
 use Rattle.in_place_done.specs.Below.{CanSet, SetsAttributes}
 use Rattle.tree_ops.specs.Edits.{setattr_edit}
 use Rattle.tree_ops.specs.Wanted.{machine_on}

@@ -28,8 +28,8 @@ use Rattle.tree_model.proofs.HasFacts.{has_facts}
 use Rattle.list_laws.proofs.BoolLaws.{or-false}
 use Rattle.tree_model.proofs.LookLaws.{find-never}
 use Rattle.view_index.specs.Security.{TellsWhether}
-use Rattle.in_place_owed.proofs.EmptyBill.{has-room}
-use Rattle.tree_edit.specs.Securable.{secure_in, secure_wanted}
+use Rattle.in_place_done.proofs.Below.{has-room}
+use Rattle.stream_changes.specs.Below.{secure_in, secure_wanted}
 use Rattle.in_place_done.specs.Below.{CanSet, SetsSecurity}
 use Rattle.tree_ops.specs.Edits.{setsec_edit}
 use Rattle.tree_ops.specs.Wanted.{machine_on}

@@ -5,9 +5,7 @@ use Rattle.ntfs_def.specs.FileName.{FileName}
 use Rattle.volume_def.specs.Values.{pieces_touched}
 use Rattle.mft_table.specs.declared.mft.Mft.{Mft}
 use Rattle.mft_table.specs.Mft.{view}
-use Rattle.tree_edit.specs.Over.{StagesOver}
-use Rattle.tree_edit.specs.Staged.{IsOfEdit, StagesAttributes, StagesFew}
-use Rattle.tree_edit.specs.Values.{IsOfValue, StagesValue}
+use Rattle.stream_changes.specs.Below.{IsOfEdit, IsOfValue, StagesAttributes, StagesFew, StagesOver, StagesValue}
 
 module _ {D : Type 0} (g : Ghosts D) (f : ℕ) (names : List FileName) (old new : Mft D g) where
   -- sectors of records of the file, and of its entries

@@ -11,13 +11,12 @@ use Rattle.mft_table.specs.declared.mft.Mft.{Mft}
 use Rattle.mft_table.specs.declared.mounted.Mounted.{Mounted}
 use Rattle.mft_table.specs.InUse.{IsInUse, IsSoundVolume}
 use Rattle.mft_table.specs.MirrorClusters.{IsMirrorInside}
-use Rattle.mft_table.specs.Mft.{MftReads, committed_of, is_mft_broken, mounted_of, stage_of, view}
+use Rattle.mft_table.specs.Mft.{KeepsDisk, MftReads, committed_of, is_mft_broken, mounted_of, stage_of, view}
 use Rattle.mft_table.specs.Mounted.{mounted_layout}
-use Rattle.index_store.specs.IndexBlocksMut.{KeepsDisk}
+use Rattle.mft_table.proofs.DiskKept.{KeepsDisk-reads, KeepsDisk-then}
 use Rattle.stored_bits.specs.Given.{KeepsDevice}
 use Rattle.stream_changes.proofs.DeviceLaws.{device-of}
 use Rattle.tree_model.specs.Facts.{IsVolumeOf}
-use Rattle.tree_edit.proofs.ChainedLaws.{goes-reads, goes-then}
 use Rattle.tree_ops.specs.Edits.{CanEdit, HasMark, IsClear, IsMarkOf, MftStill}
 
 -- the view, by the image and the tables
@@ -30,7 +29,7 @@ view-by g old new i m =
 -- calls that read leave it so
 pub reads-still : {D : Type 0} (g : Ghosts D) (old new : Mft D g) (n : ℕ) → MftReads g old new n → MftStill g old new
 reads-still g old new n r = record {
-  keeps = goes-reads g old new n r;
+  keeps = KeepsDisk-reads g old new n r;
   image = r.stage.only_reads.image;
   places = r.stage.only_reads.places;
 }
@@ -51,7 +50,7 @@ stages-then g a b c quiet x y = record {
 -- .. and two that wrote nothing
 pub still-then : {D : Type 0} (g : Ghosts D) (a b c : Mft D g) → MftStill g a b → MftStill g b c → MftStill g a c
 still-then g a b c x y = record {
-  keeps = goes-then g a b c x.keeps y.keeps;
+  keeps = KeepsDisk-then g a b c x.keeps y.keeps;
   image = y.image ∙ x.image;
   places = y.places ∙ x.places;
 }

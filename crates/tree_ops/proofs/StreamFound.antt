@@ -18,11 +18,9 @@ use Rattle.tree_model.specs.declared.tree.Node.{Node}
 use Rattle.tree_model.specs.declared.tree.Stream.{Stream}
 use Rattle.edit_def.specs.Kept.{AreTellable, key_of, told_of}
 use Rattle.session_def.specs.Named.{spelt}
-use Rattle.stream_edits.specs.Streams.{IsThere}
-use Rattle.in_place_done.specs.Below.{CanSet}
+use Rattle.in_place_done.specs.Below.{CanSet, IsThere}
 use Rattle.tree_read.specs.Nodes.{number_of, parts_in}
-use Rattle.tree_edit.specs.Writable.{IsFoundToEdit}
-use Rattle.tree_edit.specs.declared.writable.Writable.{Writable}
+use Rattle.stream_changes.specs.Below.{IsFoundToEdit, Writable}
 
 module _ (view : VolumeView) (found : Writable) (asked : List ℕ) (can : ℕ → Bool) (is : IsFoundToEdit view found asked can) (file : ℕ)
     (file_is : number_of found.held ≡ file) where

@@ -31,7 +31,7 @@ use Rattle.tree_model.specs.declared.tree.Found.{Found}
 use Rattle.in_place_done.specs.Below.{PutsStream}
 use Rattle.in_place_done.proofs.Below.{value-room}
 use Rattle.edit_def.specs.OneFile.{no_room_alone}
-use Rattle.tree_edit.specs.Alone.{can_cut, can_resize, resize_in, resize_wanted, room_to_resize}
+use Rattle.stream_changes.specs.Below.{can_cut, can_resize, resize_in, resize_wanted, room_to_resize}
 use Rattle.tree_ops.specs.Edits.{EditsFound, can_edit_so, stream_edit}
 use Rattle.tree_ops.specs.Wanted.{machine_on}
 use Rattle.tree_ops.specs.declared.streams.StreamEdit.TheVariants as s

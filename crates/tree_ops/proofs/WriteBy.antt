@@ -28,14 +28,10 @@ use Rattle.tree_model.specs.declared.opens.OpenEntry.{OpenEntry}
 use Rattle.tree_model.specs.declared.reply.No.{No}
 use Rattle.tree_model.specs.declared.tree.Found.{Found}
 use Rattle.in_place_done.specs.Below.{PutsStream}
-use Rattle.in_place_owed.proofs.EmptyBill.{has-room}
 use Rattle.in_place_done.specs.Written.{PutsInStream}
-use Rattle.in_place_done.proofs.Below.{value-room}
-use Rattle.tree_edit.specs.Alone.{can_resize}
-use Rattle.tree_edit.specs.Write.{can_write, room_to_write, write_in, write_wanted}
-use Rattle.tree_edit.specs.Writable.{can_write_over, named_in}
-use Rattle.tree_edit.specs.declared.writable.Way.{Way}
-use Rattle.tree_edit.specs.declared.writable.Way.TheVariants as way
+use Rattle.in_place_done.proofs.Below.{has-room, value-room}
+use Rattle.stream_changes.specs.Below.{Way, can_resize, can_write, can_write_over, named_in, room_to_write, write_in, write_wanted}
+use Rattle.stream_changes.specs.Below as below
 use Rattle.tree_read.specs.Nodes.{number_of}
 use Rattle.tree_ops.specs.Edits.{EditsFound, WritesSo, can_edit_so, stream_edit}
 use Rattle.tree_ops.specs.Wanted.{machine_on}
@@ -213,7 +209,7 @@ module _ (view new : VolumeView) (file : ℕ) (asked : List ℕ) (from : ℕ) (b
         → PutsInStream (over_by parts) (state_with image view opens now written) at file p.can.settable.can.node from bytes.now new
     puts-in opens image done = by p.found.way refl p.can.over (edited-so (s.Write from bytes) view new file asked now p)
       where
-        in_place : (b : Bool) → b ≡ true → WritesBy way.InPlace
+        in_place : (b : Bool) → b ≡ true → WritesBy below.InPlace
             → PutsInStream b (state_with image view opens now done) at file p.can.settable.can.node from bytes.now new
         in_place true e writes = record {
           name = p.can.stream.is.part.name;
@@ -224,7 +220,7 @@ module _ (view new : VolumeView) (file : ℕ) (asked : List ℕ) (from : ℕ) (b
         }
         in_place false e writes = cc
 
-        in_record : (b : Bool) → b ≡ false → WritesBy way.InRecord
+        in_record : (b : Bool) → b ≡ false → WritesBy below.InRecord
             → PutsInStream b (state_with image view opens now done) at file p.can.settable.can.node from bytes.now new
         in_record true e puts = cc
         in_record false e puts =
@@ -236,13 +232,13 @@ module _ (view new : VolumeView) (file : ℕ) (asked : List ℕ) (from : ℕ) (b
 
         by : (w : Way) → p.found.way ≡ w → can_write view asked from (length bytes.now) w number ≡ true → WritesBy w
             → PutsInStream (over_by parts) (state_with image view opens now done) at file p.can.settable.can.node from bytes.now new
-        by way.InPlace e can writes = in_place (over_by parts) (ap over_by parts-same ∙ can-of cannot_so (over_by there) can) writes
-        by way.InRecord e can puts =
+        by below.InPlace e can writes = in_place (over_by parts) (ap over_by parts-same ∙ can-of cannot_so (over_by there) can) writes
+        by below.InRecord e can puts =
             in_record (over_by parts)
             (ap over_by parts-same ∙ none-over cannot_so (over_by there) (is_some (stream_value there)) (has_no_list view number)
             (gets_no_longer (from + length bytes.now) (content_named (read view) asked (node_of (read view) number))
             || fits_in_record view number there (from + length bytes.now)) can) puts
-        by way.InClusters e can puts = cc
+        by below.InClusters e can puts = cc
 
 -- IT IS THAT OF THE COMMAND
 pub write-by : (opens : List OpenEntry) (now session : ℕ) (path : List (List ℕ)) (stream : Option (List ℕ)) (from : ℕ)

@@ -14,8 +14,7 @@ use Rattle.mark_write.specs.declared.flag.Flag.{Flag}
 use Rattle.mft_table.specs.declared.mft.Mft.{Mft}
 use Rattle.mft_table.specs.InUse.{IsInUse}
 use Rattle.mft_table.specs.MirrorClusters.{IsMirrorInside}
-use Rattle.mft_table.specs.Mft.{committed_of, is_mft_broken, mounted_of, stage_of, view}
-use Rattle.index_store.specs.IndexBlocksMut.{KeepsDisk}
+use Rattle.mft_table.specs.Mft.{KeepsDisk, committed_of, is_mft_broken, mounted_of, stage_of, view}
 use Rattle.stored_bits.specs.Given.{KeepsDevice}
 use Rattle.mark_place.specs.LogSpans.{AreLogSpans, log_sectors}
 use Rattle.tree_model.specs.Facts.{IsVolumeOf, is_whole_table}
@@ -33,19 +32,9 @@ use Rattle.volume_mark.specs.Mark.{IsFlagOf}
 use Rattle.in_place_done.specs.Below.{PunchesValue, PutsStream, SetsAttributes, SetsSecurity, WritesOver}
 use Rattle.tree_read.specs.declared.stop.Stop.{Stop}
 use Rattle.tree_read.specs.declared.stop.Stop.TheVariants as stop
-use Rattle.tree_edit.specs.Alone.{can_get, can_go, drop_wanted, resize_wanted}
-use Rattle.tree_edit.specs.Punchable.{can_punch, punch_wanted}
-use Rattle.tree_edit.specs.Securable.{IsSecurable, secure_wanted}
-use Rattle.tree_edit.specs.Settable.{IsSettable, settable}
-use Rattle.tree_edit.specs.Staged.{TellsStored}
+use Rattle.stream_changes.specs.Below.{IsFoundToEdit, IsSecurable, IsSettable, Securable, Settable, TellsStored, Way, Writable, can_get, can_go, can_punch, can_write, drop_wanted, hwrite_wanted, punch_wanted, resize_wanted, secure_wanted, settable, write_wanted}
 use Rattle.stream_changes.specs.Staged.{StagesGiving}
-use Rattle.tree_edit.specs.Writable.{IsFoundToEdit}
-use Rattle.tree_edit.specs.Write.{can_write, hwrite_wanted, write_wanted}
-use Rattle.tree_edit.specs.declared.securable.Securable.{Securable}
-use Rattle.tree_edit.specs.declared.settable.Settable.{Settable}
-use Rattle.tree_edit.specs.declared.writable.Way.{Way}
-use Rattle.tree_edit.specs.declared.writable.Way.TheVariants as way
-use Rattle.tree_edit.specs.declared.writable.Writable.{Writable}
+use Rattle.stream_changes.specs.Below as below
 use Rattle.tree_read.specs.Nodes.{number_of}
 use Rattle.tree_ops.specs.declared.edit.Edit.{Edit}
 use Rattle.tree_ops.specs.declared.edit.Edit.TheVariants as e
@@ -180,7 +169,7 @@ IsFoundFor what view found name = IsFoundToEdit view found name (λ file. can_ed
 -- It was edited so, where it had these bytes before; the file has these times and flags. A write went over bytes that lie in place, or the
 -- stream, a value, has other bytes; zeros went over those in the range; it has another length; or it is gone.
 abbrev pub WritesSo : Way → ℕ → List ℕ → VolumeView → VolumeView → ℕ → List ℕ → List ℕ → List ℕ → ℕ → Type 0
-WritesSo way.InPlace from bytes old new file name was times flags = WritesOver old new file name from bytes times flags
+WritesSo below.InPlace from bytes old new file name was times flags = WritesOver old new file name from bytes times flags
 WritesSo other from bytes old new file name was times flags = PutsStream old new file name (Some (written from bytes was)) times flags
 
 abbrev pub EditsSo : StreamEdit → Way → VolumeView → VolumeView → ℕ → List ℕ → List ℕ → List ℕ → ℕ → Type 0

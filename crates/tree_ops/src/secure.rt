@@ -4,14 +4,11 @@ ghost use Rattle.vol_stage.specs.Staged.{GoesOn, disk_of};
 ghost use Rattle.volume_def.specs.FileNames.{names_of};
 ghost use Rattle.volume_def.specs.Files.{records_of};
 ghost use Rattle.mft_table.specs.InUse.{IsInUse};
-ghost use Rattle.mft_table.specs.Mft.{faults_of, mounted_of, stage_of, view};
+ghost use Rattle.mft_table.specs.Mft.{KeepsDisk, faults_of, mounted_of, stage_of, view};
 ghost use Rattle.mft_table.specs.MirrorClusters.{IsMirrorInside};
-ghost use Rattle.index_store.specs.IndexBlocksMut.{KeepsDisk};
 ghost use Rattle.tree_read.specs.Answered.{Counts, IsFailed};
 ghost use Rattle.tree_read.specs.Standings.{IsStanding};
-ghost use Rattle.tree_edit.specs.Securable.{IsSecurable};
-ghost use Rattle.tree_edit.specs.Staged.{TellsStored};
-ghost use Rattle.tree_edit.specs.Values.{StagesValue};
+ghost use Rattle.stream_changes.specs.Below.{IsSecurable, StagesValue, TellsStored};
 ghost use Rattle.view_index.specs.Security.{TellsWhether};
 ghost use Rattle.tree_ops.specs.Edits.{CanEdit, EndsAs, IsClear, MftStill, SecuresFound, setsec_edit};
 
@@ -20,7 +17,7 @@ use crate::place::mark_place;
 use mark_write::Flag;
 use mft_table::Mft;
 use std::alloc::Global;
-use tree_edit::{Securable, find_securable};
+use stream_changes::{Securable, find_securable};
 use tree_model::Path;
 use tree_read::{Standing, Stop};
 use vol_disk::Disk;
@@ -50,7 +47,7 @@ fn stage_security<D: Disk>(
     ensures failed { IfErr result IsFailed }
 {
     let times = found.times_at(moment);
-    match tree_edit::set_security(
+    match stream_changes::set_security(
         alloc,
         mft,
         found.number,

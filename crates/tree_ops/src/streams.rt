@@ -15,8 +15,7 @@ ghost use Rattle.tree_model.specs.Tree.{node_of};
 ghost use Rattle.tree_read.specs.Answered.{Answered, Counts, IsFailed, with_ok};
 ghost use Rattle.tree_read.specs.Nodes.{number_of, parts_in};
 ghost use Rattle.tree_read.specs.Standings.{IsStanding};
-ghost use Rattle.tree_edit.specs.Staged.{IsOfEdit, StagesFew, TellsStored};
-ghost use Rattle.tree_edit.specs.Write.{IsWritable};
+ghost use Rattle.stream_changes.specs.Below.{IsOfEdit, IsWritable, StagesFew, TellsStored};
 ghost use Rattle.tree_ops.specs.Edits.{CanEdit, EditsFound, EditsSo, EndsAs, IsClear, IsFoundFor, IsNear, MftStill, StagesSo, WritesSo};
 ghost use Rattle.tree_ops.specs.Edits.{hwrite_edit, stream_edit, stream_wanted};
 ghost use Rattle.tree_ops.specs.declared.streams.StreamEdit.TheVariants as s;
@@ -28,10 +27,9 @@ use mark_write::Flag;
 use mft_table::Mft;
 use share_table::Opens;
 use std::alloc::Global;
-use stream_changes::{remove_stream, resize_stream, write_value};
-use tree_edit::{
+use stream_changes::{
     Way, Writable, find_punchable, find_to_drop, find_to_resize, find_writable,
-    find_writable_through, punch_value, write_over,
+    find_writable_through, punch_value, remove_stream, resize_stream, write_over, write_value,
 };
 use tree_model::{Access, No, Path};
 use tree_read::{Standing, Stop};

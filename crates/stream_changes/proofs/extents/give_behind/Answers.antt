@@ -7,9 +7,6 @@ use Rattle.stream_changes.proofs.DeviceLaws.{device-still}
 use Rattle.stream_changes.proofs.ExtentDone.{given-behind}
 use Rattle.stream_changes.proofs.extents.give_behind.Goals as goal
 
-pub returns-then-count-le-CLUSTER_BITMAP-clause-device : goal.returns-then-count-le-CLUSTER_BITMAP-clause-device
-returns-then-count-le-CLUSTER_BITMAP-clause-device g c = device-still g.D.Disk c.args.mft.now
-
 pub returns-in_err-runs-clause-device : goal.returns-in_err-runs-clause-device
 returns-in_err-runs-clause-device g c = device-still g.D.Disk c.args.mft.now
 

@@ -2,7 +2,7 @@ use Rattle.std.proofs.Common.{◌≡◌, ℕ, sym, subst, ◌∙◌}
 use Rattle.std.proofs.lemmas.Result.{on_ok_weaker}
 use Rattle.volume_def.specs.Files.{parts, records_of}
 use Rattle.mft_table.specs.Mft.{view}
-use Rattle.tree_read.specs.Nodes.{parts_in}
+use Rattle.tree_edit.specs.Below.{parts_in}
 use Rattle.tree_edit.specs.Staged.{TellsStored}
 use Rattle.stream_changes.specs.Staged.{StagesGiving}
 use Rattle.stream_changes.proofs.DeviceLaws.{device-of, device-still}

@@ -1,5 +1,5 @@
 use Rattle.attr_view.specs.Values.{with_length}
-use Rattle.dir_index.proofs.StandardLaws.{reads-stage}
+use Rattle.tree_edit.proofs.Below.{reads-stage}
 use Rattle.tree_edit.proofs.ChangePart.{fits, fits-not, in-record, most, part-changed, part-disk, part-staged, resident}
 use Rattle.stream_changes.proofs.values.resize_part.Goals as goal
 

@@ -1,6 +1,6 @@
 use Rattle.std.proofs.Common.{◌+◌, length}
 use Rattle.file_record.specs.Attributes.{with_bytes_at}
-use Rattle.dir_index.proofs.StandardLaws.{reads-stage}
+use Rattle.tree_edit.proofs.Below.{reads-stage}
 use Rattle.tree_edit.proofs.ChangePart.{fits-not, in-record, most, part-changed, part-disk, part-staged, room-to-put}
 use Rattle.stream_changes.proofs.values.write_part.Goals as goal
 

@@ -6,9 +6,9 @@ use Rattle.volume_def.specs.Files.{records_of}
 use Rattle.mft_table.specs.declared.mounted.Mounted.{Mounted}
 use Rattle.mft_table.specs.Mft.{faults_of, view}
 use Rattle.mft_table.specs.MirrorClusters.{IsMirrorInside}
+use Rattle.mft_table.proofs.DiskKept.{KeepsDisk-reads, KeepsDisk-then}
 use Rattle.file_record.specs.FileNos.{CountsNo}
 use Rattle.tree_edit.specs.Staged.{IsOfNames}
-use Rattle.tree_edit.proofs.ChainedLaws.{goes-reads, goes-then}
 use Rattle.tree_edit.proofs.SetLaws.{can-links, staged-names, tells-then}
 use Rattle.tree_edit.proofs.StagedLaws.{few-none}
 use Rattle.tree_edit.proofs.attributes.refresh_names.Goals as goal
@@ -19,7 +19,7 @@ returns-in_err-file-clause-places g c told =
     few-none g.D.Disk (12 * length names) (IsOfNames (view g.D.Disk c.args.mft.now) names) c.args.mft.now c.load.new.mft c.load.ensures.reads.stage.only_reads.places
 
 pub returns-in_err-file-clause-disk : goal.returns-in_err-file-clause-disk
-returns-in_err-file-clause-disk g c = goes-reads g.D.Disk c.args.mft.now c.load.new.mft 20678 c.load.ensures.reads
+returns-in_err-file-clause-disk g c = KeepsDisk-reads g.D.Disk c.args.mft.now c.load.new.mft 20678 c.load.ensures.reads
 
 pub returns-in_err-links-clause-places : goal.returns-in_err-links-clause-places
 returns-in_err-links-clause-places g c told =
@@ -27,7 +27,7 @@ returns-in_err-links-clause-places g c told =
     few-none g.D.Disk (12 * length names) (IsOfNames (view g.D.Disk c.args.mft.now) names) c.args.mft.now c.load.new.mft c.in_ok-file.ensures.reads.stage.only_reads.places
 
 pub returns-in_err-links-clause-disk : goal.returns-in_err-links-clause-disk
-returns-in_err-links-clause-disk g c = goes-reads g.D.Disk c.args.mft.now c.load.new.mft 20678 c.in_ok-file.ensures.reads
+returns-in_err-links-clause-disk g c = KeepsDisk-reads g.D.Disk c.args.mft.now c.load.new.mft 20678 c.in_ok-file.ensures.reads
 
 pub refresh_links-requires-clause-mirror : goal.refresh_links-requires-clause-mirror
 refresh_links-requires-clause-mirror g c = subst (λ (m : Mounted). IsMirrorInside m) (sym c.in_ok-file.ensures.reads.mounted) c.requires.mirror
@@ -54,7 +54,7 @@ returns-clause-places g c =
 
 pub returns-clause-disk : goal.returns-clause-disk
 returns-clause-disk g c =
-    goes-then g.D.Disk c.args.mft.now c.load.new.mft c.refresh_links.new.mft (goes-reads g.D.Disk c.args.mft.now c.load.new.mft 20678 c.in_ok-file.ensures.reads)
+    KeepsDisk-then g.D.Disk c.args.mft.now c.load.new.mft c.refresh_links.new.mft (KeepsDisk-reads g.D.Disk c.args.mft.now c.load.new.mft 20678 c.in_ok-file.ensures.reads)
     c.refresh_links.ensures.disk
 
 pub returns-clause-faults : goal.returns-clause-faults

@@ -6,9 +6,9 @@ use Rattle.volume_def.specs.Files.{records_of}
 use Rattle.mft_table.specs.declared.mounted.Mounted.{Mounted}
 use Rattle.mft_table.specs.Mft.{faults_of, view}
 use Rattle.mft_table.specs.MirrorClusters.{IsMirrorInside}
+use Rattle.mft_table.proofs.DiskKept.{KeepsDisk-then}
 use Rattle.file_record.specs.FileNos.{CountsNo}
 use Rattle.tree_edit.specs.Staged.{IsOfFile, IsOfNames}
-use Rattle.tree_edit.proofs.ChainedLaws.{goes-then}
 use Rattle.tree_edit.proofs.SetLaws.{can-names, sets-then, staged-then, tables-then}
 use Rattle.tree_edit.proofs.StagedLaws.{few-none}
 use Rattle.tree_edit.proofs.attributes.set_attributes.Goals as goal
@@ -53,7 +53,7 @@ returns-clause-tables g c =
 
 pub returns-clause-disk : goal.returns-clause-disk
 returns-clause-disk g c =
-    goes-then g.D.Disk c.args.mft.now c.set_node.new.mft c.refresh_names.new.mft c.set_node.ensures.disk c.refresh_names.ensures.disk
+    KeepsDisk-then g.D.Disk c.args.mft.now c.set_node.new.mft c.refresh_names.new.mft c.set_node.ensures.disk c.refresh_names.ensures.disk
 
 pub returns-clause-faults : goal.returns-clause-faults
 returns-clause-faults g c =

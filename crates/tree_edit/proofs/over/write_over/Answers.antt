@@ -4,8 +4,8 @@ use Rattle.std.proofs.lemmas.Result.{on_ok_weaker}
 use Rattle.mft_table.specs.declared.mounted.Mounted.{Mounted}
 use Rattle.mft_table.specs.Mft.{faults_of}
 use Rattle.mft_table.specs.MirrorClusters.{IsMirrorInside}
+use Rattle.mft_table.proofs.DiskKept.{KeepsDisk-then}
 use Rattle.file_record.specs.FileNos.{CountsNo}
-use Rattle.tree_edit.proofs.ChainedLaws.{goes-then}
 use Rattle.tree_edit.proofs.WriteOverLaws.{can-write, in-use, over-then, staged-first, staged-then}
 use Rattle.tree_edit.proofs.over.write_over.Goals as goal
 
@@ -48,7 +48,7 @@ returns-clause-places g c =
 
 pub returns-clause-disk : goal.returns-clause-disk
 returns-clause-disk g c =
-    goes-then g.D.Disk c.args.mft.now c.overwrite.new.mft c.set_attributes.new.mft c.overwrite.ensures.disk c.set_attributes.ensures.disk
+    KeepsDisk-then g.D.Disk c.args.mft.now c.overwrite.new.mft c.set_attributes.new.mft c.overwrite.ensures.disk c.set_attributes.ensures.disk
 
 pub returns-clause-faults : goal.returns-clause-faults
 returns-clause-faults g c =

@@ -2,8 +2,9 @@ use Rattle.std.proofs.Common.{◌*◌, ◌<◌, ◌+◌, length, sym, subst, ◌
 use Rattle.mft_table.specs.declared.mounted.Mounted.{Mounted}
 use Rattle.mft_table.specs.MirrorClusters.{IsMirrorInside}
 use Rattle.mft_table.specs.Mft.{view}
+use Rattle.mft_table.proofs.DiskKept.{KeepsDisk-then}
 use Rattle.tree_edit.specs.Staged.{IsOfLinks}
-use Rattle.tree_edit.proofs.ChainedLaws.{can-step, goes-all, goes-none, goes-step, goes-then, staged-step}
+use Rattle.tree_edit.proofs.ChainedLaws.{can-step, goes-all, goes-none, goes-step, staged-step}
 use Rattle.tree_edit.proofs.StagedLaws.{few-more}
 use Rattle.tree_edit.proofs.refresh.refresh_links.Goals as goal
 
@@ -33,7 +34,7 @@ returns-in_err-refresh_link-clause-places g c told =
 
 pub returns-in_err-refresh_link-clause-disk : goal.returns-in_err-refresh_link-clause-disk
 returns-in_err-refresh_link-clause-disk g c =
-    goes-then g.D.Disk c.args.mft.now c.loop-link.mft c.refresh_link.new.mft c.loop-link.invariant.disk c.refresh_link.ensures.disk
+    KeepsDisk-then g.D.Disk c.args.mft.now c.loop-link.mft c.refresh_link.new.mft c.loop-link.invariant.disk c.refresh_link.ensures.disk
 
 pub loop-link-preserved : goal.loop-link-preserved
 loop-link-preserved g c =

@@ -2,7 +2,7 @@ use Rattle.std.proofs.Common.{refl}
 use Rattle.volume_def.specs.FileNames.{names_of}
 use Rattle.volume_def.specs.Files.{records_of}
 use Rattle.mft_table.specs.Mft.{view}
-use Rattle.tree_edit.specs.Settable.{IsSettable}
+use Rattle.stream_changes.specs.Below.{IsSettable}
 use Rattle.tree_ops.specs.Edits.{setattr_edit}
 use Rattle.stream_changes.proofs.DeviceLaws.{device-of}
 use Rattle.stream_changes.proofs.GivingLaws.{gives-none}

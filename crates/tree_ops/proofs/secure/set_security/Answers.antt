@@ -7,7 +7,7 @@ use Rattle.tree_read.specs.Answered.{Counts}
 use Rattle.tree_read.specs.declared.stop.Stop.{Stop}
 use Rattle.tree_read.specs.declared.stop.Stop.TheVariants as stop
 use Rattle.tree_read.proofs.GivesLaws.{handed-on}
-use Rattle.tree_edit.specs.Securable.{IsSecurable}
+use Rattle.stream_changes.specs.Below.{IsSecurable}
 use Rattle.tree_ops.specs.Edits.{most_of_value, setsec_edit}
 use Rattle.tree_ops.specs.declared.place.MarkPlace.{MarkPlace}
 use Rattle.tree_ops.proofs.SetsecBy.{described-by}

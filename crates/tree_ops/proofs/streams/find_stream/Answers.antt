@@ -1,8 +1,7 @@
 use Rattle.std.proofs.Common.{ℕ, List, length, sym, subst}
 use Rattle.std.specs.Prelude.{IfOk, IsTrue}
 use Rattle.mft_table.specs.Mft.{view}
-use Rattle.tree_edit.specs.Write.{IsWritable}
-use Rattle.tree_edit.specs.declared.writable.Writable.{Writable}
+use Rattle.stream_changes.specs.Below.{IsWritable, Writable}
 use Rattle.tree_ops.specs.Edits.{IsFoundFor}
 use Rattle.tree_ops.proofs.streams.find_stream.Goals as goal
 

@@ -10,7 +10,7 @@ use Rattle.tree_model.specs.Tree.{node_of}
 use Rattle.tree_model.specs.declared.opens.OpenEntry.{OpenEntry}
 use Rattle.tree_model.specs.declared.reply.No.TheVariants as no
 use Rattle.tree_read.specs.Nodes.{number_of}
-use Rattle.tree_edit.specs.Write.{IsWritable, hwrite_in}
+use Rattle.stream_changes.specs.Below.{IsWritable, hwrite_in}
 use Rattle.tree_ops.specs.Edits.{hwrite_edit, most_for}
 use Rattle.tree_ops.specs.declared.streams.StreamEdit.TheVariants as s
 use Rattle.tree_ops.proofs.EndLaws.{all-keeps, ended, placed-back, stages-back}

@@ -5,8 +5,7 @@ use Rattle.volume_def.specs.FileNames.{names_of}
 use Rattle.volume_def.specs.Files.{records_of}
 use Rattle.mft_table.specs.Mft.{view}
 use Rattle.tree_read.specs.Nodes.{number_of}
-use Rattle.tree_edit.specs.Staged.{IsOfEdit, StagesFew}
-use Rattle.tree_edit.specs.Values.{StagesValue}
+use Rattle.stream_changes.specs.Below.{IsOfEdit, StagesFew, StagesValue}
 use Rattle.stream_changes.proofs.DeviceLaws.{device-of}
 use Rattle.stream_changes.proofs.GivingLaws.{gives-none}
 use Rattle.tree_ops.specs.Edits.{StagesSo}

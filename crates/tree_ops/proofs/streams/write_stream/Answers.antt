@@ -4,11 +4,10 @@ use Rattle.std.specs.Prelude.{length}
 use Rattle.volume_def.specs.FileNames.{names_of}
 use Rattle.volume_def.specs.Files.{records_of}
 use Rattle.mft_table.specs.Mft.{mounted_of, view}
+use Rattle.mft_table.proofs.DiskKept.{KeepsDisk-same}
 use Rattle.tree_read.specs.Nodes.{number_of}
-use Rattle.tree_edit.specs.Over.{StagesOver}
-use Rattle.tree_edit.specs.Values.{StagesValue}
+use Rattle.stream_changes.specs.Below.{StagesOver, StagesValue}
 use Rattle.tree_ops.proofs.StagedEdits.{over-few, value-few}
-use Rattle.tree_edit.proofs.ChainedLaws.{goes-same}
 use Rattle.stream_changes.proofs.DeviceLaws.{device-of}
 use Rattle.tree_ops.proofs.StreamPut.{never-extent, not-extent, over-can, over-writes, value-can, value-room, value-writes}
 use Rattle.tree_ops.proofs.streams.write_stream.Goals as goal
@@ -102,4 +101,4 @@ returns-in-InClusters-clause-tables g c = λ told.
     c.requires.can told
 
 pub returns-in-InClusters-clause-device : goal.returns-in-InClusters-clause-device
-returns-in-InClusters-clause-device g c = device-of g.D.Disk c.args.mft.now c.args.mft.now (goes-same g.D.Disk c.args.mft.now)
+returns-in-InClusters-clause-device g c = device-of g.D.Disk c.args.mft.now c.args.mft.now (KeepsDisk-same g.D.Disk c.args.mft.now)
