@@ -18,3 +18,5 @@ pub use edge::start;
 pub use front::FrontSink;
 pub use noted::{NotedSink, NotedSource, ScriptNotes};
 pub use refused::sentence_on_refusal;
+// The shell itself, for the tests of whole runs.
+pub use shell::run_shell;

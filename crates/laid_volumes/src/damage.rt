@@ -348,3 +348,13 @@ pub fn break_once(image: &mut [u8], clause: u8)
         _ => lengthen(image, 4),
     }
 }
+
+/// What an entry tells of its file: the time of record change, as far as that is one byte, and four bytes of flags.
+pub fn told_at(image: &[u8], key: Option<usize>) -> Option<(u8, [u8; 4])> {
+    let at = key?;
+    let mut flags = [0; 4];
+    for (i, flag) in flags.iter_mut().enumerate() {
+        *flag = byte(image, at.saturating_add(0x38).saturating_add(i));
+    }
+    Some((byte(image, at.saturating_add(0x18)), flags))
+}

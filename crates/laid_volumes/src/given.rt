@@ -2,7 +2,7 @@
 ghost use Rattle.std.specs.Prelude.{◌≡◌, ◌%◌, vec_len};
 
 use byteorder::{ByteOrder, LittleEndian};
-use shell::run_shell;
+use edge::run_shell;
 use std::alloc::{AllocError, Global};
 use std::test;
 use vol_disk::{Disk, Failed, MemDisk, MemSink, MemSource, Sink};

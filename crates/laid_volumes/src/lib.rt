@@ -7,6 +7,8 @@ pub mod given;
 pub mod laid;
 pub mod laid_files;
 pub mod made;
+pub mod scripts;
 
-pub use edge::{FrontSink, NotedSink, NotedSource, ScriptNotes, sentence_on_refusal, start};
-pub use shell::run_shell;
+pub use edge::{
+    FrontSink, NotedSink, NotedSource, ScriptNotes, run_shell, sentence_on_refusal, start,
+};

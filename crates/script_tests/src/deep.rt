@@ -3,14 +3,13 @@
 //!
 //! Layout: Linux-NTFS documentation, "Index Header", "Index Record" and attributes $INDEX_ROOT and $INDEX_ALLOCATION; Carrier,
 //! File System Forensic Analysis, chapter 13.
-use super::reading::is_sound;
-use super::script::failing;
 use laid_volumes::damage::{CLUSTER_BITS, put, set_bit};
 use laid_volumes::laid::{
     LaidName, ROOT_RECORD, Value, begin_file, end_file, lay_in_root, lay_name, lay_standard,
     lay_value, seal,
 };
 use laid_volumes::made::volume;
+use laid_volumes::scripts::{failing, is_sound};
 use std::alloc::Global;
 use std::test;
 use vol_disk::CallKind;

@@ -3,13 +3,7 @@
 #![tactic(auto)]
 
 #[cfg(test)]
-mod clusters;
-#[cfg(test)]
 mod deep;
-#[cfg(test)]
-mod edits;
-#[cfg(test)]
-mod growth;
 #[cfg(test)]
 mod lists;
 #[cfg(test)]
@@ -18,7 +12,3 @@ mod opens;
 mod reading;
 #[cfg(test)]
 mod script;
-#[cfg(test)]
-mod values;
-#[cfg(test)]
-mod writes;

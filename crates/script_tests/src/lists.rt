@@ -4,10 +4,10 @@
 //!
 //! Layout: Linux-NTFS documentation, "File Record", "Attribute Headers" and attribute $ATTRIBUTE_LIST; Carrier, File System
 //! Forensic Analysis, chapter 13.
-use super::reading::{Row, is_sound, wrong_row};
 use laid_volumes::damage::{CLUSTER_BITS, RECORD_BITS, put, record, set_bit};
 use laid_volumes::laid::{LaidName, ROOT_RECORD, begin, lay_in_root};
 use laid_volumes::made::{refusal, volume};
+use laid_volumes::scripts::{Row, is_sound, wrong_row};
 use mft_table::MountNo;
 use std::alloc::Global;
 use std::test;

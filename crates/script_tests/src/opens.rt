@@ -1,7 +1,7 @@
 //! Handles of several sessions on one volume: what they share, what they read, and how they are numbered. The expected text is that of
 //! the table of commands and of that of refusals.
-use super::reading::{Row, replies, wrong_row};
 use laid_volumes::laid_files::{SECTORS, volume_with_all, volume_with_f};
+use laid_volumes::scripts::{Row, replies, wrong_row};
 use std::test;
 
 // Sessions by turns. The file `/a` is `/d/b` too, and has the streams `hello` and, by the name `s`, `ab`.

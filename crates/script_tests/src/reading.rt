@@ -1,89 +1,11 @@
 //! The reading commands of a script, on volumes that `format` makes and on which files were laid. What a script prints, by the
 //! table of commands and that of refusals; a reply is its lines and `ok`, or the refusal.
-use super::script::{failing, run_on, source_of};
-use laid_volumes::given::{AMPLE, run, sink_of};
 use laid_volumes::laid_files::{FORMAT, SECTORS, volume_with_all, volume_with_f};
-use laid_volumes::made::{disk_on, made_on};
+use laid_volumes::made::made_on;
+use laid_volumes::scripts::{Row, failing, is_sound, replies, wrong_row};
 use std::alloc::Global;
 use std::test;
 use vol_disk::{CallKind, MemSink};
-
-// More than any text here is long.
-const ROOM: usize = 70_000;
-
-/// A line of a script, and its reply.
-pub type Row = (&'static str, &'static str);
-
-/// What a script prints, if it ends well and writes nothing.
-pub fn replies(
-    alloc: Global,
-    sectors: u16,
-    image: &[u8],
-    script: &[u8],
-) -> Result<Option<MemSink>, test::Fail> {
-    let mut disk = disk_on(alloc, sectors, image)?;
-    disk.reserve(100)?;
-    let mut source = source_of(alloc, script, 0)?;
-    let mut out = sink_of(alloc, ROOM, 0)?;
-    let status = run_on(alloc, &mut disk, &mut source, &mut out)?;
-    Ok(if status == 0 && disk.writes().is_empty() {
-        Some(out)
-    } else {
-        None
-    })
-}
-
-/// The script of some lines.
-pub fn script_of(alloc: Global, rows: &[Row]) -> Result<Vec<u8>, test::Fail> {
-    let mut script = Vec::new(alloc);
-    for (line, _) in rows {
-        script.extend_from_slice(line.as_bytes())?;
-        script.push(b'\n')?;
-    }
-    Ok(script)
-}
-
-/// The first of some lines, run as one script, that is not answered as its row says.
-pub fn wrong_row(
-    alloc: Global,
-    sectors: u16,
-    image: &[u8],
-    rows: &[Row],
-) -> Result<Option<&'static str>, test::Fail> {
-    let script = script_of(alloc, rows)?;
-    let Some(out) = replies(alloc, sectors, image, &script)? else {
-        return Ok(Some("the end"));
-    };
-    first_wrong(alloc, out.bytes(), rows)
-}
-
-/// The first of some lines whose reply does not come next in a text.
-pub fn first_wrong(
-    alloc: Global,
-    printed: &[u8],
-    rows: &[Row],
-) -> Result<Option<&'static str>, test::Fail> {
-    let mut text = Vec::new(alloc);
-    for (line, reply) in rows {
-        text.extend_from_slice(reply.as_bytes())?;
-        if !printed.starts_with(&text) {
-            return Ok(Some(*line));
-        }
-    }
-    Ok(if printed.len() == text.len() {
-        None
-    } else {
-        Some("behind the last")
-    })
-}
-
-/// Whether `check` prints that a volume is sound.
-pub fn is_sound(alloc: Global, sectors: u16, image: &[u8]) -> Result<bool, test::Fail> {
-    let mut disk = disk_on(alloc, sectors, image)?;
-    let mut out = sink_of(alloc, AMPLE, 0)?;
-    let status = run(alloc, "check", &mut disk, &mut out)?;
-    Ok(status == 0 && out.bytes() == b"sound\n".as_slice())
-}
 
 // Lines on a new volume.
 const NEW_VOLUME: [Row; 19] = [

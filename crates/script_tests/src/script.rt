@@ -2,14 +2,11 @@
 //! how a script is read, settled, printed and ended.
 use laid_volumes::damage::{mark_dirty, tear};
 use laid_volumes::given::sink_of;
-use laid_volumes::made::{disk_of, volume};
-use laid_volumes::run_shell;
-use std::alloc::{AllocError, Global};
+use laid_volumes::made::volume;
+use laid_volumes::scripts::{TEXT_ROOM, failing, run_on, settling, source_of};
+use std::alloc::Global;
 use std::test;
-use vol_disk::{CallKind, Disk, Fail, FailDisk, Failed, MemDisk, MemSink, MemSource, Sink, Source};
-
-// More than any text here is long.
-const AMPLE: usize = 4096;
+use vol_disk::{CallKind, Failed, Source};
 
 // Two lines that are refused, and what is printed of them; the rest has no reply.
 const SHORT: &[u8] = b"zzz\n# a comment\n\nrm /f";
@@ -33,29 +30,6 @@ impl<S: Source> Source for Slowly<S> {
     }
 }
 
-/// A source of these bytes, whose call of this number fails; 0 is none.
-pub fn source_of(alloc: Global, text: &[u8], fails: u64) -> Result<MemSource, AllocError> {
-    Ok(MemSource::new(text.to_vec(alloc)?, vec![in alloc; fails]?))
-}
-
-/// The status of `run`.
-pub fn run_on<D: Disk, S: Source, K: Sink>(
-    alloc: Global,
-    disk: &mut D,
-    script: &mut S,
-    out: &mut K,
-) -> Result<u8, AllocError> {
-    let words = vec![in alloc; "run".to_string(alloc)?]?;
-    Ok(run_shell(alloc, &words, disk, script, out))
-}
-
-// A disk with these contents, and room for its settles.
-fn settling(alloc: Global, image: &[u8]) -> Result<MemDisk, test::Fail> {
-    let mut disk = disk_of(alloc, image)?;
-    disk.reserve(64)?;
-    Ok(disk)
-}
-
 // Whether a script ends so, with this text and so many settles, and writes nothing.
 fn ends_so(
     alloc: Global,
@@ -67,7 +41,7 @@ fn ends_so(
 ) -> Result<bool, test::Fail> {
     let mut disk = settling(alloc, image)?;
     let mut source = source_of(alloc, script, 0)?;
-    let mut out = sink_of(alloc, AMPLE, 0)?;
+    let mut out = sink_of(alloc, TEXT_ROOM, 0)?;
     let got = run_on(alloc, &mut disk, &mut source, &mut out)?;
     Ok(
         got == status
@@ -102,7 +76,7 @@ fn a_script_comes_in_any_pieces(rt: HostRuntime) -> Result<(), test::Fail> {
     let mut source = Slowly {
         whole: source_of(rt.alloc(), SHORT, 0)?,
     };
-    let mut out = sink_of(rt.alloc(), AMPLE, 0)?;
+    let mut out = sink_of(rt.alloc(), TEXT_ROOM, 0)?;
     assert_eq!(rt; run_on(rt.alloc(), &mut disk, &mut source, &mut out)?, 0);
     assert!(rt; out.bytes() == SHORT_REPLIES.as_bytes());
     Ok(())
@@ -146,7 +120,7 @@ fn each_failing_call_of_the_source_is_told(rt: HostRuntime) -> Result<(), test::
     for (fails, status, text) in [(1, 4, ""), (2, 4, "no 1 Syntax\n"), (3, 0, SHORT_REPLIES)] {
         let mut disk = settling(rt.alloc(), &image)?;
         let mut source = source_of(rt.alloc(), SHORT, fails)?;
-        let mut out = sink_of(rt.alloc(), AMPLE, 0)?;
+        let mut out = sink_of(rt.alloc(), TEXT_ROOM, 0)?;
         let got = run_on(rt.alloc(), &mut disk, &mut source, &mut out)?;
         assert_eq!(rt; got, status, "call {fails}");
         assert!(rt; out.bytes() == text.as_bytes(), "call {fails}");
@@ -159,9 +133,9 @@ fn each_failing_call_of_the_source_is_told(rt: HostRuntime) -> Result<(), test::
 fn each_failing_call_of_the_sink_is_told(rt: HostRuntime) -> Result<(), test::Fail> {
     let image = volume(rt.alloc())?;
     for (room, fails, status, len, settles) in [
-        (AMPLE, 1, 5, 0, 1),
-        (AMPLE, 2, 5, 12, 2),
-        (AMPLE, 3, 0, 26, 2),
+        (TEXT_ROOM, 1, 5, 0, 1),
+        (TEXT_ROOM, 2, 5, 12, 2),
+        (TEXT_ROOM, 3, 0, 26, 2),
         (15, 0, 5, 15, 2),
     ] {
         let mut disk = settling(rt.alloc(), &image)?;
@@ -176,26 +150,6 @@ fn each_failing_call_of_the_sink_is_told(rt: HostRuntime) -> Result<(), test::Fa
         assert_eq!(rt; disk.settles().len(), settles, "room {room}, call {fails}");
     }
     Ok(())
-}
-
-/// The status of a script on a disk of which one call fails, and what is printed.
-pub fn failing(
-    alloc: Global,
-    image: &[u8],
-    script: &[u8],
-    kind: CallKind,
-    number: u64,
-) -> Result<(u8, MemSink), test::Fail> {
-    let fail = Fail {
-        kind,
-        number,
-        lands: false,
-    };
-    let mut disk = FailDisk::new(settling(alloc, image)?, vec![in alloc; fail]?);
-    let mut source = source_of(alloc, script, 0)?;
-    let mut out = sink_of(alloc, AMPLE, 0)?;
-    let status = run_on(alloc, &mut disk, &mut source, &mut out)?;
-    Ok((status, out))
 }
 
 // A line whose settle fails has no reply.

@@ -1,14 +1,13 @@
 //! Values that get longer in their records, in whole runs: bytes written into them and behind them, lengths that are set, and the room that
 //! such an edit asks for.
-use super::edits::{run_rows, told_at, writable};
-use super::reading::{Row, is_sound};
-use laid_volumes::damage::{CLUSTER_BITS, byte, is_marked, set_bit};
+use laid_volumes::damage::{CLUSTER_BITS, byte, is_marked, set_bit, told_at};
 use laid_volumes::laid::{
     Extent, LaidName, ROOT_RECORD, Value, begin_file, end_file, key_in_root, lay_extent,
     lay_in_root, lay_name, lay_standard, lay_value,
 };
 use laid_volumes::laid_files::volume_with_all;
 use laid_volumes::made::volume;
+use laid_volumes::scripts::{Row, is_sound, run_rows, writable};
 use std::alloc::Global;
 use std::test;
 use vol_disk::{CallKind, Fail, FailDisk};

@@ -1,48 +1,18 @@
 //! The commands that edit, in whole runs: what they print, what stands on the disk behind them, and writes, barriers and settles of the
 //! disk failing. The expected text is that of the tables of commands and of refusals, the places of bytes are those of the
 //! layouts of `$FILE_NAME` and `$STANDARD_INFORMATION`.
-use super::reading::{Row, first_wrong, is_sound, script_of, wrong_row};
-use super::script::{run_on, source_of};
-use laid_volumes::damage::{byte, cut_table, dos_flags, is_marked, put, record};
+use laid_volumes::damage::{byte, cut_table, dos_flags, is_marked, put, record, told_at};
 use laid_volumes::given::sink_of;
 use laid_volumes::laid::{key_in, key_in_root};
 use laid_volumes::laid_files::{SECTORS, volume_with_all, volume_with_f};
 use laid_volumes::made::disk_on;
+use laid_volumes::scripts::{
+    Row, TEXT_ROOM, first_wrong, is_sound, run_on, run_rows, script_of, source_of, writable,
+    wrong_row,
+};
 use std::alloc::Global;
 use std::test;
 use vol_disk::{CallKind, Disk, Fail, FailDisk, MemDisk};
-
-/// More than any text here is long.
-pub const ROOM: usize = 4096;
-
-/// A disk with these contents, and room for all that is written here.
-pub fn writable(alloc: Global, sectors: u16, image: &[u8]) -> Result<MemDisk, test::Fail> {
-    let mut disk = disk_on(alloc, sectors, image)?;
-    disk.reserve(2000)?;
-    Ok(disk)
-}
-
-/// The status of a script on a disk, and the first of its lines that is not answered as its row says.
-pub fn run_rows<D: Disk>(
-    alloc: Global,
-    disk: &mut D,
-    rows: &[Row],
-) -> Result<(u8, Option<&'static str>), test::Fail> {
-    let mut source = source_of(alloc, &script_of(alloc, rows)?, 0)?;
-    let mut out = sink_of(alloc, ROOM, 0)?;
-    let status = run_on(alloc, disk, &mut source, &mut out)?;
-    Ok((status, first_wrong(alloc, out.bytes(), rows)?))
-}
-
-/// What an entry tells of its file: the time of record change, as far as that is one byte, and four bytes of flags.
-pub fn told_at(image: &[u8], key: Option<usize>) -> Option<(u8, [u8; 4])> {
-    let at = key?;
-    let mut flags = [0; 4];
-    for (i, flag) in flags.iter_mut().enumerate() {
-        *flag = byte(image, at.saturating_add(0x38).saturating_add(i));
-    }
-    Some((byte(image, at.saturating_add(0x18)), flags))
-}
 
 // Lines on the volume with one empty file.
 const ROWS: [Row; 19] = [

@@ -1,14 +1,13 @@
 //! Edits of values in their records, in whole runs: streams that are punched, cut and removed, and security ids that are set. `a` has five
 //! bytes in its record, two more in its stream `s`, and another name in `d`.
-use super::edits::{run_rows, told_at, writable};
-use super::reading::{Row, is_sound, wrong_row};
-use laid_volumes::damage::{byte, is_marked, put, record};
+use laid_volumes::damage::{byte, is_marked, put, record, told_at};
 use laid_volumes::laid::{
     LaidName, ROOT_RECORD, Value, begin_file, end_file, key_in_root, lay_in_root, lay_name,
     lay_value,
 };
 use laid_volumes::laid_files::volume_with_all;
 use laid_volumes::made::volume;
+use laid_volumes::scripts::{Row, is_sound, run_rows, writable, wrong_row};
 use std::alloc::Global;
 use std::test;
 use vol_disk::{CallKind, Fail, FailDisk};

@@ -1,14 +1,13 @@
 //! Streams in clusters, in whole runs: they are cut and removed, and their clusters are free then. The stream of `h` has a cluster, a hole of
 //! 16 clusters, and a cluster of which 8 bytes were written.
-use super::edits::{run_rows, told_at, writable};
-use super::reading::{Row, is_sound};
-use laid_volumes::damage::{CLUSTER_BITS, byte, is_marked, put, set_bit};
+use laid_volumes::damage::{CLUSTER_BITS, byte, is_marked, put, set_bit, told_at};
 use laid_volumes::laid::{
     Extent, LaidName, ROOT_RECORD, Value, begin_file, end_file, key_in_root, lay_extent,
     lay_in_root, lay_name, lay_standard, lay_value,
 };
 use laid_volumes::laid_files::volume_with_all;
 use laid_volumes::made::volume;
+use laid_volumes::scripts::{Row, is_sound, run_rows, writable};
 use std::alloc::Global;
 use std::test;
 use vol_disk::{CallKind, Fail, FailDisk};
@@ -141,6 +140,65 @@ fn streams_in_clusters_are_removed(rt: HostRuntime) -> Result<(), test::Fail> {
     assert_eq!(rt; byte(&image, CLUSTER_BITS + 26), 1);
     assert_eq!(rt; byte(left, CLUSTER_BITS + 25), 0);
     assert_eq!(rt; byte(left, CLUSTER_BITS + 26), 0);
+    Ok(())
+}
+
+// A new volume with a file `k` whose stream lies in 50 clusters from 140 on, and behind these in 30 from 220 on.
+fn volume_with_long(alloc: Global) -> Result<Vec<u8>, test::Fail> {
+    let mut image = volume(alloc)?;
+    let at = begin_file(&mut image, 26, 1, false);
+    let at = lay_standard(&mut image, at, [0; 4], 0x20);
+    let at = lay_name(alloc, &mut image, at, 1, &K)?;
+    let long = Extent {
+        id: 2,
+        flags: 0,
+        covered: 80,
+        owned: 80,
+        real: 327_680,
+        initialized: 327_680,
+        runs: &[0x21, 50, 140, 0, 0x11, 30, 80, 0],
+    };
+    let at = lay_extent(&mut image, at, long);
+    end_file(&mut image, 26, at);
+    for cluster in 140..190 {
+        set_bit(&mut image, CLUSTER_BITS, cluster);
+    }
+    for cluster in 220..250 {
+        set_bit(&mut image, CLUSTER_BITS, cluster);
+    }
+    lay_in_root(alloc, &mut image, &[K])?;
+    Ok(image)
+}
+
+// A cut at the seam of the runs, one in the midst of a byte of the bitmap, and all.
+const LONG_CUTS: [Row; 9] = [
+    ("time 9", "ok\n"),
+    ("df", "df 256 41 64 37\nok\n"),
+    ("truncate /k 204800", "ok\n"),
+    ("df", "df 256 71 64 37\nok\n"),
+    ("truncate /k 20481", "ok\n"),
+    ("df", "df 256 115 64 37\nok\n"),
+    ("truncate /k 0", "ok\n"),
+    ("df", "df 256 121 64 37\nok\n"),
+    ("cat /k", "data -\nok\n"),
+];
+
+#[test]
+fn a_long_stream_is_cut(rt: HostRuntime) -> Result<(), test::Fail> {
+    let alloc = rt.alloc();
+    let image = volume_with_long(alloc)?;
+    assert!(rt; is_sound(alloc, SECTORS, &image)?);
+    let mut disk = writable(alloc, SECTORS, &image)?;
+    assert_eq!(rt; run_rows(alloc, &mut disk, &LONG_CUTS[..5])?, (0, None));
+    // The clusters 140 to 145 are those that it has still.
+    assert_eq!(rt; byte(disk.contents(), CLUSTER_BITS + 17), 0xF0);
+    assert_eq!(rt; byte(disk.contents(), CLUSTER_BITS + 18), 0x03);
+    assert_eq!(rt; run_rows(alloc, &mut disk, &LONG_CUTS[5..])?, (0, None));
+    let left = disk.contents();
+    assert!(rt; is_sound(alloc, SECTORS, left)?);
+    for at in 17..32 {
+        assert_eq!(rt; byte(left, CLUSTER_BITS + at), 0, "{at}");
+    }
     Ok(())
 }
 

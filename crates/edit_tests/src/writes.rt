@@ -1,12 +1,10 @@
 //! Writes over bytes that are there, in whole runs: what they print, where their bytes, times and entries stand, and which sectors are
 //! written. The stream of `h` has a cluster, a hole of 16 clusters, and a cluster of which 8 bytes were written.
-use super::edits::{ROOM, run_rows, told_at, writable};
-use super::reading::{Row, is_sound};
-use super::script::{run_on, source_of};
-use laid_volumes::damage::{byte, is_marked};
+use laid_volumes::damage::{byte, is_marked, told_at};
 use laid_volumes::given::sink_of;
 use laid_volumes::laid::key_in_root;
 use laid_volumes::laid_files::volume_with_all;
+use laid_volumes::scripts::{Row, TEXT_ROOM, is_sound, run_on, run_rows, source_of, writable};
 use std::alloc::Global;
 use std::test;
 use vol_disk::{CallKind, Fail, FailDisk};
@@ -90,7 +88,7 @@ fn each_sector_is_written_once(rt: HostRuntime) -> Result<(), test::Fail> {
     let alloc = rt.alloc();
     let mut disk = writable(alloc, SECTORS, &volume_with_all(alloc)?)?;
     let mut source = source_of(alloc, &long_write(alloc)?, 0)?;
-    let mut out = sink_of(alloc, ROOM, 0)?;
+    let mut out = sink_of(alloc, TEXT_ROOM, 0)?;
     assert_eq!(rt; run_on(alloc, &mut disk, &mut source, &mut out)?, 0);
     assert_eq!(rt;
         out.bytes(),

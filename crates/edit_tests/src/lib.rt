@@ -1,0 +1,14 @@
+//! Whole runs of scripts that edit, over a disk, a script and a sink in memory. They stand here, in a crate above `shell`, so that it
+//! is proved once.
+#![tactic(auto)]
+
+#[cfg(test)]
+mod clusters;
+#[cfg(test)]
+mod edits;
+#[cfg(test)]
+mod growth;
+#[cfg(test)]
+mod values;
+#[cfg(test)]
+mod writes;
