@@ -2,17 +2,12 @@
 //! disk failing. The expected text is that of the tables of commands and of refusals, the places of bytes are those of the
 //! layouts of `$FILE_NAME` and `$STANDARD_INFORMATION`.
 use laid_volumes::damage::{byte, cut_table, dos_flags, is_marked, put, record, told_at};
-use laid_volumes::given::sink_of;
 use laid_volumes::laid::{key_in, key_in_root};
 use laid_volumes::laid_files::{SECTORS, volume_with_all, volume_with_f};
-use laid_volumes::made::disk_on;
-use laid_volumes::scripts::{
-    Row, TEXT_ROOM, first_wrong, is_sound, run_on, run_rows, script_of, source_of, writable,
-    wrong_row,
-};
+use laid_volumes::scripts::{Row, is_sound, run_rows, writable, wrong_row};
 use std::alloc::Global;
 use std::test;
-use vol_disk::{CallKind, Disk, Fail, FailDisk, MemDisk};
+use vol_disk::{CallKind, Fail, FailDisk};
 
 // Lines on the volume with one empty file.
 const ROWS: [Row; 19] = [

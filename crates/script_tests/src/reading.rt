@@ -2,10 +2,10 @@
 //! table of commands and that of refusals; a reply is its lines and `ok`, or the refusal.
 use laid_volumes::laid_files::{FORMAT, SECTORS, volume_with_all, volume_with_f};
 use laid_volumes::made::made_on;
-use laid_volumes::scripts::{Row, failing, is_sound, replies, wrong_row};
+use laid_volumes::scripts::{Row, failing, is_sound, replies, script_of, wrong_row};
 use std::alloc::Global;
 use std::test;
-use vol_disk::{CallKind, MemSink};
+use vol_disk::CallKind;
 
 // Lines on a new volume.
 const NEW_VOLUME: [Row; 19] = [
