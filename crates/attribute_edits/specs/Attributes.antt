@@ -1,10 +1,9 @@
 -- What changes where a file's times and DOS flags are set, and a file whose security id is set: in its $STANDARD_INFORMATION, and then its times.
-use Rattle.std.specs.Prelude.{◌≡◌, ◌⊎◌, ◌==◌, ◌&&◌, ◌||◌, ◌≢◌, ◌≤◌, ℕ, Bool, List, [], ◌∷◌, Contains, IsSomeAnd, false, length, map, true}
+use Rattle.std.specs.Prelude.{◌≡◌, ◌⊎◌, ◌==◌, ◌&&◌, ◌||◌, ◌≤◌, ℕ, Bool, List, [], ◌∷◌, Contains, IsSomeAnd, false, length, map, true}
 use Rattle.std.specs.FinMap as finmap
 use Rattle.std.specs.Str.{bytes_eq}
 use Rattle.byteorder.specs.Endian.{little_bytes}
 use Rattle.ntfs_def.specs.declared.kinds.TheConstants.{INDEX_ALLOCATION, INDEX_ROOT, STANDARD_INFORMATION}
-use Rattle.ntfs_def.specs.declared.records.TheConstants.{VOLUME}
 use Rattle.ntfs_def.specs.FileName.{FileName}
 use Rattle.ntfs_def.specs.Node.{Item}
 use Rattle.volume_def.specs.Files.{Part, content_value, is_of, parts, parts_at, records_of}

@@ -15,9 +15,10 @@ use Rattle.volume_def.specs.CaseClause.{volume_fold}
 use Rattle.volume_def.specs.Files.{Record, content_value, is_base, is_directory, record_on}
 use Rattle.volume_def.specs.IndexesClause.{IndexParts, IsDirectoryIndex, IsIndexRecordAt, stored_index_record}
 use Rattle.volume_def.specs.Readable.{IsDirectory, IsFile, WhereReadable}
-use Rattle.volume_def.specs.Sound.{Attributes, Extents, Indexes, Lists, Shape}
+use Rattle.volume_def.specs.Sound.{Indexes}
 use Rattle.volume_def.specs.Table.{cluster_bytes}
 use Rattle.volume_def.specs.View.{VolumeView}
+use Rattle.volume_def.proofs.SoundLaws.{readable-sound}
 use Rattle.index_tree.specs.Edit.{HasSortedIndex, short_nodes}
 use Rattle.index_tree.specs.Walk.{HasWalk, IsWalk}
 use Rattle.tree_model.specs.Reading.{directory_links}
@@ -76,12 +77,7 @@ module _ (view : VolumeView) (mounted : Mounted) (file : FileParts) (volume : Is
   pub is-held : IsHeldDirectory view file mounted.upcase
   is-held = record {
     held = record {
-      readable = record {
-        shape = volume.sound Shape;
-        attributes = volume.sound Attributes;
-        lists = volume.sound Lists;
-        extents = volume.sound Extents;
-      };
+      readable = readable-sound view volume.sound;
       parts = parts;
       is_file = there.0;
     };

@@ -1,6 +1,6 @@
 -- THE RECORDS OF AN INDEX CHANGED, where no cluster has two owners: what is beside them is as it was, and each clause but that on indexes
 -- holds still.
-use Rattle.std.proofs.Common.{◌≡◌, ◌≢◌, ◌*◌, ◌<◌, ◌≤◌, ◌==◌, ℕ, true, false, List, [], length, refl, sym, ap, subst, inl, inr, ◌∙◌, filter, map, arith, true≢false}
+use Rattle.std.proofs.Common.{◌≡◌, ◌≢◌, ◌*◌, ◌<◌, ◌≤◌, ℕ, true, false, List, [], length, refl, sym, ap, subst, inl, inr, ◌∙◌, filter, map, arith, true≢false}
 use Rattle.std.specs.Prelude.{◌↔◌, ◌⊎◌, IsSome}
 use Rattle.std.proofs.Math.Path.{fun_ext}
 use Rattle.std.proofs.lemmas.Bool.{and_from, cases_eq, eq-eqb}

@@ -15,6 +15,7 @@ use Rattle.volume_def.specs.Files.{Record, is_base, is_directory, record_on, rec
 use Rattle.volume_def.specs.IndexesClause.{IsDirectoryIndex, KeyRule, MeetsIndexes, MeetsViewIndex, StandsInExtend, hash_rule, id_rule, index_nodes, is_in_extend, word_rule}
 use Rattle.volume_def.specs.Sound.{Attributes, CaseTable, Clause, ClusterBits, Extents, Holds, Indexes, IsSound, Limits, Links, Lists, Mirror, MirrorPlace, Owners, RecordBits, References, Shape, Version}
 use Rattle.volume_def.specs.View.{VolumeView}
+use Rattle.volume_def.proofs.SoundLaws.{readable-sound}
 use Rattle.volume_edits.specs.Owners.{HasTablePart}
 use Rattle.volume_edits.proofs.OwnerLaws.{HasOwners-sound}
 use Rattle.ntfs_def.specs.declared.records.TheConstants.{VOLUME}
@@ -166,12 +167,7 @@ module _ (old new : VolumeView) (dir : ℕ) (units : List ℕ) (told : Duplicate
 pub can-refresh : (view : VolumeView) (dir : ℕ) → IsSound view → HasTablePart view → 0 < view.layout.cluster_sectors → dir ≢ VOLUME
     → IsRefreshable view dir
 can-refresh view dir sound table some apart = record {
-  readable = record {
-    shape = sound Shape;
-    attributes = sound Attributes;
-    lists = sound Lists;
-    extents = sound Extents;
-  };
+  readable = readable-sound view sound;
   owners = HasOwners-sound view sound table;
   bases = bases-of (records_of view) (sound References);
   some = some;

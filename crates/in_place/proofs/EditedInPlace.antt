@@ -16,6 +16,7 @@ use Rattle.edit_def.specs.Kept.{Key, either}
 use Rattle.edit_def.specs.Marks.{AreRight, HasBitmaps, IsEditable, Marks}
 use Rattle.edit_def.proofs.NamesLaws.{bases-of}
 use Rattle.volume_def.specs.Files.{records_of}
+use Rattle.volume_def.proofs.SoundLaws.{readable-sound}
 use Rattle.in_place.specs.InPlace.{Rewrites}
 use Rattle.in_place.proofs.FormSame.{forms-kept}
 use Rattle.in_place.proofs.KeptInPlace.{kept-room}
@@ -41,12 +42,7 @@ bitmaps-sound view sound = record {
 -- A SOUND VOLUME, with the bits in memory right, stands as between two calls.
 pub editable-sound : (view : VolumeView) (marks : Marks) → IsSound view → AreRight view marks → IsEditable view marks
 editable-sound view marks sound right = record {
-  readable = record {
-    shape = sound clauses.Shape;
-    attributes = sound clauses.Attributes;
-    lists = sound clauses.Lists;
-    extents = sound clauses.Extents;
-  };
+  readable = readable-sound view sound;
   owners = sound clauses.Owners;
   version = sound clauses.Version;
   mirror_place = sound clauses.MirrorPlace;

@@ -1,5 +1,5 @@
--- A record of an index that is written: where it lies, what it becomes, and what of the volume stays.
-use Rattle.std.specs.Prelude.{◌≡◌, ◌≢◌, ℕ, ◌*◌, ◌<◌, List}
+-- A record of an index that was written: what stands in its place then.
+use Rattle.std.specs.Prelude.{ℕ, ◌*◌, List}
 use Rattle.ntfs_def.specs.Fixup.{Seals}
 use Rattle.volume_def.specs.IndexesClause.{IndexParts}
 use Rattle.volume_def.specs.Table.{cluster_bytes}

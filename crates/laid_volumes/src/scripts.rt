@@ -101,8 +101,8 @@ pub fn wrong_row(
     first_wrong(alloc, out.bytes(), rows)
 }
 
-/// The first of some lines whose reply does not come next in a text.
-pub fn first_wrong(
+// The first of some lines whose reply does not come next in a text.
+fn first_wrong(
     alloc: Global,
     printed: &[u8],
     rows: &[Row],

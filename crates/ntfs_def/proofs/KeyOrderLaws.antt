@@ -1,4 +1,4 @@
--- Each order of keys is a total order, on all bytes, and ties exactly where the compared numbers are equal.
+-- Numbers that tie, and one order after another. Each order of keys is a total order, on all bytes, and ties exactly where the compared numbers are equal.
 use Rattle.std.proofs.Common.{◌≡◌, ◌≢◌, ◌↔◌, ◌<◌, ℕ, List, [], ◌∷◌, map, refl, sym, ap, ◌∙◌, Ordering, IsTrue, true, false}
 use Rattle.std.specs.declared.cmp.Ordering.TheVariants.{Less, Equal, Greater}
 use Rattle.std.specs.Ordering.{nat_cmp, is_eq, on, ordering_then}
@@ -29,7 +29,7 @@ then_both Greater b e = let f : Greater ≡ Equal = e in absurd (not f)
     not : Greater ≡ Equal → ⊥
     not g = cc
 
-pub then_less : (a b : Ordering) → ordering_then a b ≡ Less → a ≢ Greater
+then_less : (a b : Ordering) → ordering_then a b ≡ Less → a ≢ Greater
 then_less Less b e f = let g : Less ≡ Greater = f in cc
 then_less Equal b e f = let g : Equal ≡ Greater = f in cc
 then_less Greater b e f = let g : Greater ≡ Less = e in cc

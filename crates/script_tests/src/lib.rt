@@ -1,4 +1,4 @@
-//! Whole runs of scripts, over a disk, a script and a sink in memory. They stand here, in a crate above `shell`, so that it is
+//! Whole runs of scripts that read, over a disk, a script and a sink in memory. They stand here, in a crate above `shell`, so that it is
 //! proved once.
 #![tactic(auto)]
 

@@ -5,8 +5,7 @@ use Rattle.vol_disk.specs.declared.Disk.{Ghosts}
 use Rattle.mft_table.specs.declared.mft.Mft.{Mft}
 use Rattle.mft_table.specs.declared.mounted.Mounted.{Mounted}
 use Rattle.mft_table.specs.Mft.{KeepsDisk, mounted_of}
-use Rattle.mft_table.proofs.StreamReads.{MftReads-none}
-use Rattle.mft_table.proofs.DiskKept.{KeepsDisk-reads}
+use Rattle.mft_table.proofs.DiskKept.{KeepsDisk-same}
 use Rattle.stored_bits.specs.Given.{KeepsDevice}
 
 pub device-disk : {D : Type 0} (g : Ghosts D) (a b : Mft D g) → KeepsDisk g a b → KeepsDevice g a b
@@ -24,7 +23,7 @@ device-disk g a b d = record {
 }
 
 pub device-same : {D : Type 0} (g : Ghosts D) (a : Mft D g) → KeepsDevice g a a
-device-same g a = device-disk g a a (KeepsDisk-reads g a a 0 (MftReads-none g a))
+device-same g a = device-disk g a a (KeepsDisk-same g a)
 
 pub device-then : {D : Type 0} (g : Ghosts D) (a b c : Mft D g) → KeepsDevice g a b → KeepsDevice g b c → KeepsDevice g a c
 device-then g a b c first second = record {

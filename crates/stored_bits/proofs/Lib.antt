@@ -8,6 +8,6 @@ mod StoredStill
 mod StreamFound
 mod HoldsFound
 mod HeldWrites
-mod DeviceKept
+pub mod DeviceKept
 mod HeldStill
 mod GivenRuns

@@ -1,7 +1,6 @@
 //! The bitmap of clusters, as it is held while flags in it are cleared.
 ghost use Rattle.std.specs.Prelude.{◌≡◌, ◌<◌, [], IfErr, IfNone, IfOk, IfSome, IsTrue, MatchResult, ℕ, false, is_some, length};
 ghost use Rattle.ntfs_def.specs.declared.kinds.TheConstants.{DATA};
-ghost use Rattle.ntfs_def.specs.declared.records.TheConstants.{CLUSTER_BITMAP};
 ghost use Rattle.volume_def.specs.Values.{first_part};
 ghost use Rattle.volume_edits.specs.Owners.{HasOwners};
 ghost use Rattle.mft_table.specs.InUse.{IsInUse};

@@ -6,7 +6,7 @@ mod streams;
 mod values;
 
 pub use streams::{remove_stream, resize_stream};
-// What finds, sets and stages all else of a file, for the crate above, which so names this crate alone.
+// What finds, sets and stages all else of a file, for the crate above, which so need not name `tree_edit`.
 pub use tree_edit::{
     Securable, Settable, Way, Writable, find_punchable, find_securable, find_settable,
     find_to_drop, find_to_resize, find_writable, find_writable_through, punch_value,

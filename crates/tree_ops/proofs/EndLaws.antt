@@ -20,7 +20,7 @@ use Rattle.mark_place.specs.LogSpans.{AreLogSpans, log_sectors}
 use Rattle.volume_mark.specs.Mark.{IsFlagOf}
 use Rattle.stream_changes.specs.Below.{IsOfEdit, TellsStored}
 use Rattle.stream_changes.specs.Staged.{StagesGiving}
-use Rattle.stream_changes.proofs.DeviceLaws.{device-then}
+use Rattle.stream_changes.proofs.DeviceLaws.{device-behind}
 use Rattle.tree_read.specs.declared.stop.Stop.{Stop}
 use Rattle.tree_read.specs.declared.stop.Stop.TheVariants as stop
 use Rattle.tree_ops.specs.Edits.{EditOf, EditsFile, EndsAs, FailsWriting, IsPlaceBy, IsPlaced, IsWritten, LeadsTo, MftStill}
@@ -52,7 +52,7 @@ module _ {D : Type 0} (g : Ghosts D) (old mid : Mft D g) (still : MftStill g old
 
   -- and what was staged on it was staged on that
   pub all-keeps : (staged : Mft D g) → KeepsDevice g mid staged → KeepsDevice g old staged
-  all-keeps staged keeps = device-then g old mid staged still.keeps keeps
+  all-keeps staged keeps = device-behind g old mid staged still.keeps keeps
 
   -- what is staged apart from that before, of the volume before
   abbrev StagesOn : ℕ → ℕ → Mft D g → VolumeView → Mft D g → Type 0

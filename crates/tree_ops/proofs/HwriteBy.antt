@@ -37,7 +37,7 @@ use Rattle.tree_ops.specs.Wanted.{machine_on}
 use Rattle.tree_ops.specs.declared.streams.StreamEdit.TheVariants as s
 use Rattle.tree_ops.proofs.EditBy.{IsEditBy, LeadsToFile}
 use Rattle.tree_ops.proofs.Judged.{can-of, if_asked, last-written, last_two, with_at, written-file}
-use Rattle.tree_ops.proofs.RoomAsked.{file-counted, value-there}
+use Rattle.tree_ops.proofs.RoomAsked.{located-counted, value-there}
 use Rattle.tree_ops.proofs.StreamBy.{edited-file}
 use Rattle.tree_ops.proofs.WriteBy.{parted, puts-in, record-so}
 
@@ -127,7 +127,7 @@ module _ (facts : Facts) (view : VolumeView) (opens : List OpenEntry) (now sessi
       let both = (and_parts (value entry && alone entry) (fits entry) stays).0 in
       let there = value-there view (read view) (at entry) (and_parts (value entry) (alone entry) both).0 in
       tells.no_room m command (at entry)
-      ∙ value-room view (read view) command (at entry) refl refl (file-counted view (read view) (at entry) refl there) there (inl built)
+      ∙ value-room view (read view) command (at entry) refl refl (located-counted view (read view) (at entry) refl there) there (inl built)
 
   -- the refusal that is due; opens are not asked
   refusal-is : (entry : OpenEntry) → refusal facts m session command (subject_of command) (at entry)

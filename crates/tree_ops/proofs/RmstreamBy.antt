@@ -31,7 +31,7 @@ use Rattle.tree_ops.proofs.EditBy.{IsEditBy, StagesFile}
 use Rattle.tree_ops.proofs.StreamBy.{FindsStream, edited-file, edited-so, edited-stream, stream-found, stream-refused, stream_of_found}
 use Rattle.tree_ops.proofs.Judged.{can-file, if_can, last-can, with_at}
 use Rattle.tree_ops.proofs.JudgedThere.{judge, judged, same-file}
-use Rattle.tree_ops.proofs.RoomAsked.{extent-there, file-counted, value-there}
+use Rattle.tree_ops.proofs.RoomAsked.{extent-there, located-counted, value-there}
 
 -- It is not built unless it is done in one of both ways.
 parted : (cannot value alone extent one placed : Bool)
@@ -99,12 +99,12 @@ module _ (facts : Facts) (view : VolumeView) (opens : List OpenEntry) (now sessi
         let built = built-so (cannot found) (value found) (alone found) goes in
         let there = value-there view (read view) (at found) (and_parts (value found) (alone found) built).0 in
         tells.no_room m command (at found)
-        ∙ value-room view (read view) command (at found) refl refl (file-counted view (read view) (at found) refl there) there (inl built)
+        ∙ value-room view (read view) command (at found) refl refl (located-counted view (read view) (at found) refl there) there (inl built)
     | inr gives ↦
         let built = extent-so (cannot found) (extent found) (one found) (alone found) (has_placed_bits view) gives in
         let there = extent-there view (read view) (at found) (and_parts (extent found) _ built).0 in
         tells.no_room m command (at found)
-        ∙ value-room view (read view) command (at found) refl refl (file-counted view (read view) (at found) refl there) there (inr built)
+        ∙ value-room view (read view) command (at found) refl refl (located-counted view (read view) (at found) refl there) there (inr built)
   ]
 
   -- the refusal that is due; nothing is too big

@@ -4,7 +4,7 @@ use Rattle.std.specs.Prelude.{IsSome, if◌then◌else◌, is_some, option_and_t
 use Rattle.std.specs.Option.{option_map_or}
 use Rattle.volume_def.specs.Values.{first_part}
 use Rattle.volume_def.specs.View.{VolumeView}
-use Rattle.volume_def.proofs.FileLaws.{file-counted as counted}
+use Rattle.volume_def.proofs.FileLaws.{file-counted}
 use Rattle.tree_model.specs.Reading.{read}
 use Rattle.tree_model.specs.StreamRoom.{parts_named, stream_parts, stream_value}
 use Rattle.tree_model.specs.Subjects.{Located, content_named}
@@ -43,9 +43,9 @@ module _ (view : VolumeView) (tree : Tree) (at : Located) where
       by None e = cc
       by (Some node) e = refl
 
-  pub file-counted : at.node ≡ node_of (read view) at.file → is_some (content_named tree at.stream at.node) ≡ true
+  pub located-counted : at.node ≡ node_of (read view) at.file → is_some (content_named tree at.stream at.node) ≡ true
       → at.file < view.layout.count
-  file-counted node is = counted view at.file (shown-file view at.file (subst (λ o. IsSome o) node (node-there is)))
+  located-counted node is = file-counted view at.file (shown-file view at.file (subst (λ o. IsSome o) node (node-there is)))
 
 -- THE PARTS of a stream are those of the file, by its node and the name
 pub parts-at : (view : VolumeView) (name : List ℕ) (file : ℕ) (at : Located) → at.file ≡ file → at.stream ≡ name

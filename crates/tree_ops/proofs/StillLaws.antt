@@ -15,8 +15,8 @@ use Rattle.mft_table.specs.Mft.{KeepsDisk, MftReads, committed_of, is_mft_broken
 use Rattle.mft_table.specs.Mounted.{mounted_layout}
 use Rattle.mft_table.proofs.DiskKept.{KeepsDisk-reads, KeepsDisk-then}
 use Rattle.stored_bits.specs.Given.{KeepsDevice}
-use Rattle.stream_changes.proofs.DeviceLaws.{device-of}
 use Rattle.tree_model.specs.Facts.{IsVolumeOf}
+use Rattle.stored_bits.proofs.DeviceKept.{device-disk}
 use Rattle.tree_ops.specs.Edits.{CanEdit, HasMark, IsClear, IsMarkOf, MftStill}
 
 -- the view, by the image and the tables
@@ -94,7 +94,7 @@ pub discarded-disk : {D : Type 0} (g : Ghosts D) (old staged new : Mft D g) → 
     → image g (stage_of g new) ≡ g.now (disk_of g (stage_of g staged)) → places g (stage_of g new) ≡ []
     → mounted_of g new ≡ committed_of g staged → committed_of g new ≡ committed_of g staged → is_mft_broken g new ≡ false
     → MftStill g old new
-discarded-disk g old staged new clear keeps goes same = discarded-still g old staged new clear (device-of g old staged keeps) goes same
+discarded-disk g old staged new clear keeps goes same = discarded-still g old staged new clear (device-disk g old staged keeps) goes same
 
 module _ {D : Type 0} (g : Ghosts D) (old new : Mft D g) (still : MftStill g old new) where
   pub still-view : view g new ≡ view g old

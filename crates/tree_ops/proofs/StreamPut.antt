@@ -7,7 +7,7 @@ use Rattle.tree_model.specs.Streams.{written}
 use Rattle.in_place_done.specs.Below.{PunchesValue, PutsStream, WritesOver}
 use Rattle.tree_read.specs.Nodes.{IsCaseOf, number_of}
 use Rattle.stream_changes.specs.Below.{CanChange, CanPunch, CanWriteOver, IsFoundToEdit, IsResizable, IsWritable, Way, Writable, can_resize, can_write, can_write_over, has_room_for}
-use Rattle.stream_changes.specs.Below as below
+use Rattle.stream_changes.specs.Below as way
 use Rattle.stream_changes.proofs.Below.{found-over, punchable-can}
 use Rattle.stream_changes.proofs.ResizableRoom.{resizable-room}
 use Rattle.stream_changes.proofs.ValueChanged.{droppable-can, resizable-can}
@@ -23,28 +23,28 @@ module _ (v : VolumeView) (found : Writable) (name : List ℕ) (from len : ℕ) 
   so-way : (by : Way) → found.way ≡ by → can_write v name from len by f ≡ true
   so-way by so = subst (λ (x : Way). can_write v name from len x f ≡ true) so w.over
 
-  over-found : found.way ≡ below.InPlace → IsFoundToEdit v found name (λ file. can_write_over v name from len file)
+  over-found : found.way ≡ way.InPlace → IsFoundToEdit v found name (λ file. can_write_over v name from len file)
   over-found so = record {
     settable = w.settable;
     held = w.held;
     stream = w.stream;
     there = w.there;
     flags = w.flags;
-    over = so-way below.InPlace so;
+    over = so-way way.InPlace so;
     tellable = w.tellable;
   }
 
-  pub not-extent : found.way ≡ below.InClusters → ⊥
-  not-extent so = let never = so-way below.InClusters so in cc
+  pub not-extent : found.way ≡ way.InClusters → ⊥
+  not-extent so = let never = so-way way.InClusters so in cc
 
-  value-found : found.way ≡ below.InRecord → IsResizable v found name (from + len)
+  value-found : found.way ≡ way.InRecord → IsResizable v found name (from + len)
   value-found so = record {
     settable = w.settable;
     held = w.held;
     stream = w.stream;
     there = w.there;
     flags = w.flags;
-    over = (and_parts (not (can_write_over v name from len f)) (can_resize v name (from + len) f) (so-way below.InRecord so)).1;
+    over = (and_parts (not (can_write_over v name from len f)) (can_resize v name (from + len) f) (so-way way.InRecord so)).1;
     tellable = w.tellable;
   }
 
@@ -74,24 +74,24 @@ module _ (v new : VolumeView) (found : Writable) (number : ℕ) (is : number ≡
     abbrev pub CanWrite : Type 0
     CanWrite = IsTrue v.told → (name : List ℕ) × IsWritable v found name from (length bytes)
 
-    pub over-can : (case : List ℕ) → IsCaseOf v case → found.way ≡ below.InPlace → (name : List ℕ)
+    pub over-can : (case : List ℕ) → IsCaseOf v case → found.way ≡ way.InPlace → (name : List ℕ)
         → IsWritable v found name from (length bytes) → CanWriteOver v case found.held.parts found.stream number from (length bytes)
     over-can case of_volume so name w =
         subst (λ k. CanWriteOver v case found.held.parts found.stream k from (length bytes)) (sym is)
         (found-over v found name case from (length bytes) (over-found v found name from (length bytes) w so) of_volume)
 
-    pub value-can : found.way ≡ below.InRecord → CanWrite → IsTrue v.told → CanChange v found.stream number
+    pub value-can : found.way ≡ way.InRecord → CanWrite → IsTrue v.told → CanChange v found.stream number
     value-can so can told =
         let w = can told in
         subst (λ k. CanChange v found.stream k) (sym is)
         (resizable-can v found w.0 (from + length bytes) (value-found v found w.0 from (length bytes) w.1 so))
 
     -- none is written so into a stream in clusters
-    pub never-extent : {P : Type 0} → found.way ≡ below.InClusters → CanWrite → IsTrue v.told → P
+    pub never-extent : {P : Type 0} → found.way ≡ way.InClusters → CanWrite → IsTrue v.told → P
     never-extent so can told = let w = can told in absurd (not-extent v found w.0 from (length bytes) w.1 so)
 
     -- there is room for what goes into a value
-    pub value-room : found.way ≡ below.InRecord → (can : CanWrite) → IsTrue v.told
+    pub value-room : found.way ≡ way.InRecord → (can : CanWrite) → IsTrue v.told
         → has_room_for v number found.stream.size (from + length bytes) ≡ true
     value-room so can told =
         let w = can told in
@@ -103,7 +103,7 @@ module _ (v new : VolumeView) (found : Writable) (number : ℕ) (is : number ≡
       WasWritten = IsTrue v.told → (name : List ℕ) → (can : IsWritable v found name from (length bytes))
           → WritesSo found.way from bytes v new (number_of found.held) can.stream.is.part.name can.stream.bytes times found.flags
 
-      pub over-writes : (case : List ℕ) → (IsTrue v.told → IsCaseOf v case) → found.way ≡ below.InPlace
+      pub over-writes : (case : List ℕ) → (IsTrue v.told → IsCaseOf v case) → found.way ≡ way.InPlace
           → (IsTrue v.told → (can : CanWriteOver v case found.held.parts found.stream number from (length bytes))
           → WritesOver v new number can.is.part.name from bytes times found.flags) → WasWritten
       unfolding over-found
@@ -113,7 +113,7 @@ module _ (v new : VolumeView) (found : Writable) (number : ℕ) (is : number ≡
           → WritesOver v new k can.is.part.name from bytes times found.flags) is (does told)
           (found-over v found name case from (length bytes) (over-found v found name from (length bytes) can so) (of_volume told)))
 
-      pub value-writes : found.way ≡ below.InRecord → (IsTrue v.told → (can : CanChange v found.stream number)
+      pub value-writes : found.way ≡ way.InRecord → (IsTrue v.told → (can : CanChange v found.stream number)
           → has_room_for v number found.stream.size (from + length bytes) ≡ true
           → PutsStream v new number can.value.name (Some (written from bytes can.value.held)) times found.flags) → WasWritten
       unfolding punchable-can droppable-can resizable-can value-found

@@ -39,7 +39,7 @@ use Rattle.tree_ops.proofs.EditBy.{IsEditBy, StagesFile}
 use Rattle.tree_ops.proofs.StreamBy.{FindsStream, edited-file, edited-so, edited-stream, stream-found, stream-refused, stream_of_found}
 use Rattle.tree_ops.proofs.StreamFound.{bytes-so}
 use Rattle.tree_ops.proofs.Judged.{cut-file, if_cut, judge, judged, last-cut, same-file, with_at}
-use Rattle.tree_ops.proofs.RoomAsked.{asked-if, extent-there, file-counted, value-there}
+use Rattle.tree_ops.proofs.RoomAsked.{asked-if, extent-there, located-counted, value-there}
 
 -- It is not built unless it is done in one of both ways.
 parted : (cannot value alone fits extent one placed short : Bool)
@@ -134,7 +134,7 @@ module _ (facts : Facts) (view : VolumeView) (opens : List OpenEntry) (now sessi
       let both = and_parts (extent found && (one found && (alone found && has_placed_bits view))) (short found) built in
       let there = extent-there view (read view) (at found) (and_parts (extent found) _ both.0).0 in
       tells.no_room m command (at found)
-      ∙ value-room view (read view) command (at found) refl refl (file-counted view (read view) (at found) refl there) there (inr built)
+      ∙ value-room view (read view) command (at found) refl refl (located-counted view (read view) (at found) refl there) there (inr built)
       ∙ ap (λ b. option_and_then (no_room_alone view (found_file found))
       (if b then Some (new_clusters (cluster_bytes view.layout) (stream_parts view (read view) (at found)) 0 0) else None))
       (no-growth size (at found).content both.1)
@@ -145,7 +145,7 @@ module _ (facts : Facts) (view : VolumeView) (opens : List OpenEntry) (now sessi
       let both = (and_parts (value found && alone found) (fits found) built).0 in
       let there = value-there view (read view) (at found) (and_parts (value found) (alone found) both).0 in
       tells.no_room m command (at found)
-      ∙ value-room view (read view) command (at found) refl refl (file-counted view (read view) (at found) refl there) there (inl built)
+      ∙ value-room view (read view) command (at found) refl refl (located-counted view (read view) (at found) refl there) there (inl built)
       ∙ asked-if (no_room_alone view (found_file found)) (grows size (at found).content)
       (new_clusters (cluster_bytes view.layout) (stream_parts view (read view) (at found)) 0 0)
 

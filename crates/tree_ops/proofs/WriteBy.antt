@@ -31,14 +31,14 @@ use Rattle.in_place_done.specs.Below.{PutsStream}
 use Rattle.in_place_done.specs.Written.{PutsInStream}
 use Rattle.in_place_done.proofs.Below.{has-room, value-room}
 use Rattle.stream_changes.specs.Below.{Way, can_resize, can_write, can_write_over, named_in, room_to_write, write_in, write_wanted}
-use Rattle.stream_changes.specs.Below as below
+use Rattle.stream_changes.specs.Below as way
 use Rattle.tree_read.specs.Nodes.{number_of}
 use Rattle.tree_ops.specs.Edits.{EditsFound, WritesSo, can_edit_so, stream_edit}
 use Rattle.tree_ops.specs.Wanted.{machine_on}
 use Rattle.tree_ops.specs.declared.streams.StreamEdit.TheVariants as s
 use Rattle.tree_ops.proofs.EditBy.{IsEditBy, state_with}
 use Rattle.tree_ops.proofs.Judged.{can-of, if_asked, judge, judged, last-written, same-file, with_at, written-file}
-use Rattle.tree_ops.proofs.RoomAsked.{file-counted, parts-at, value-there}
+use Rattle.tree_ops.proofs.RoomAsked.{located-counted, parts-at, value-there}
 use Rattle.tree_ops.proofs.StreamBy.{FindsStream, edited-file, edited-so, edited-stream, stream-found, stream-refused, stream_of_found}
 use Rattle.tree_ops.proofs.StreamFound.{bytes-so, spelt-so, tellable-so, there-so}
 
@@ -125,7 +125,7 @@ module _ (facts : Facts) (view : VolumeView) (opens : List OpenEntry) (now sessi
       let both = (and_parts (value found && alone found) (fits found) stays).0 in
       let there = value-there view (read view) (at found) (and_parts (value found) (alone found) both).0 in
       tells.no_room m command (at found)
-      ∙ value-room view (read view) command (at found) refl refl (file-counted view (read view) (at found) refl there) there (inl built)
+      ∙ value-room view (read view) command (at found) refl refl (located-counted view (read view) (at found) refl there) there (inl built)
 
   -- the refusal that is due
   refusal-is : (found : Found) → refusal facts m session command (subject_of command) (at found)
@@ -209,7 +209,7 @@ module _ (view new : VolumeView) (file : ℕ) (asked : List ℕ) (from : ℕ) (b
         → PutsInStream (over_by parts) (state_with image view opens now written) at file p.can.settable.can.node from bytes.now new
     puts-in opens image done = by p.found.way refl p.can.over (edited-so (s.Write from bytes) view new file asked now p)
       where
-        in_place : (b : Bool) → b ≡ true → WritesBy below.InPlace
+        in_place : (b : Bool) → b ≡ true → WritesBy way.InPlace
             → PutsInStream b (state_with image view opens now done) at file p.can.settable.can.node from bytes.now new
         in_place true e writes = record {
           name = p.can.stream.is.part.name;
@@ -220,7 +220,7 @@ module _ (view new : VolumeView) (file : ℕ) (asked : List ℕ) (from : ℕ) (b
         }
         in_place false e writes = cc
 
-        in_record : (b : Bool) → b ≡ false → WritesBy below.InRecord
+        in_record : (b : Bool) → b ≡ false → WritesBy way.InRecord
             → PutsInStream b (state_with image view opens now done) at file p.can.settable.can.node from bytes.now new
         in_record true e puts = cc
         in_record false e puts =
@@ -232,13 +232,13 @@ module _ (view new : VolumeView) (file : ℕ) (asked : List ℕ) (from : ℕ) (b
 
         by : (w : Way) → p.found.way ≡ w → can_write view asked from (length bytes.now) w number ≡ true → WritesBy w
             → PutsInStream (over_by parts) (state_with image view opens now done) at file p.can.settable.can.node from bytes.now new
-        by below.InPlace e can writes = in_place (over_by parts) (ap over_by parts-same ∙ can-of cannot_so (over_by there) can) writes
-        by below.InRecord e can puts =
+        by way.InPlace e can writes = in_place (over_by parts) (ap over_by parts-same ∙ can-of cannot_so (over_by there) can) writes
+        by way.InRecord e can puts =
             in_record (over_by parts)
             (ap over_by parts-same ∙ none-over cannot_so (over_by there) (is_some (stream_value there)) (has_no_list view number)
             (gets_no_longer (from + length bytes.now) (content_named (read view) asked (node_of (read view) number))
             || fits_in_record view number there (from + length bytes.now)) can) puts
-        by below.InClusters e can puts = cc
+        by way.InClusters e can puts = cc
 
 -- IT IS THAT OF THE COMMAND
 pub write-by : (opens : List OpenEntry) (now session : ℕ) (path : List (List ℕ)) (stream : Option (List ℕ)) (from : ℕ)

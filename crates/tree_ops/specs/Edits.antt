@@ -34,7 +34,7 @@ use Rattle.tree_read.specs.declared.stop.Stop.{Stop}
 use Rattle.tree_read.specs.declared.stop.Stop.TheVariants as stop
 use Rattle.stream_changes.specs.Below.{IsFoundToEdit, IsSecurable, IsSettable, Securable, Settable, TellsStored, Way, Writable, can_get, can_go, can_punch, can_write, drop_wanted, hwrite_wanted, punch_wanted, resize_wanted, secure_wanted, settable, write_wanted}
 use Rattle.stream_changes.specs.Staged.{StagesGiving}
-use Rattle.stream_changes.specs.Below as below
+use Rattle.stream_changes.specs.Below as way
 use Rattle.tree_read.specs.Nodes.{number_of}
 use Rattle.tree_ops.specs.declared.edit.Edit.{Edit}
 use Rattle.tree_ops.specs.declared.edit.Edit.TheVariants as e
@@ -169,7 +169,7 @@ IsFoundFor what view found name = IsFoundToEdit view found name (λ file. can_ed
 -- It was edited so, where it had these bytes before; the file has these times and flags. A write went over bytes that lie in place, or the
 -- stream, a value, has other bytes; zeros went over those in the range; it has another length; or it is gone.
 abbrev pub WritesSo : Way → ℕ → List ℕ → VolumeView → VolumeView → ℕ → List ℕ → List ℕ → List ℕ → ℕ → Type 0
-WritesSo below.InPlace from bytes old new file name was times flags = WritesOver old new file name from bytes times flags
+WritesSo way.InPlace from bytes old new file name was times flags = WritesOver old new file name from bytes times flags
 WritesSo other from bytes old new file name was times flags = PutsStream old new file name (Some (written from bytes was)) times flags
 
 abbrev pub EditsSo : StreamEdit → Way → VolumeView → VolumeView → ℕ → List ℕ → List ℕ → List ℕ → ℕ → Type 0

@@ -1,4 +1,4 @@
--- The volume definition gives an image one answer.
+-- The volume definition gives an image one answer; and the files of a sound volume can be read.
 use Rattle.std.proofs.Common.{◌≡◌, ◌<◌, ℕ, List, [], ◌∷◌, Some, None, slice_get, refl, sym, ap, subst, inl, inr, ◌∙◌}
 use Rattle.std.proofs.lemmas.Bool.{cases_order}
 use Rattle.std.proofs.lemmas.Option.{none-some}

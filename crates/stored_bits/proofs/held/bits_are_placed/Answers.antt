@@ -1,12 +1,11 @@
-use Rattle.std.proofs.Common.{◌≤◌, ◌∙◌, ap, arith, length, sym}
-use Rattle.ntfs_def.specs.declared.records.TheConstants.{CLUSTER_BITMAP}
+use Rattle.std.proofs.Common.{◌≤◌, ◌∙◌, ap, arith, length}
 use Rattle.volume_def.proofs.SoundLaws.{readable-sound}
 use Rattle.mft_table.specs.declared.mounted.Mounted.{Mounted}
 use Rattle.mft_table.specs.Mft.{mounted_of, view}
 use Rattle.stored_bits.proofs.HoldsFound.{bits-file, bits-inside, placed-held}
 use Rattle.stored_bits.proofs.held.bits_are_placed.Goals as goal
 
--- so many records has no sound volume
+-- so few records has no sound volume
 pub returns-then-count-le-CLUSTER_BITMAP-clause-placed : goal.returns-then-count-le-CLUSTER_BITMAP-clause-placed
 returns-then-count-le-CLUSTER_BITMAP-clause-placed g c told =
     let inside = bits-inside (view g.D.Disk c.args.mft.now) (mounted_of g.D.Disk c.args.mft.now) (c.requires.volume told) in

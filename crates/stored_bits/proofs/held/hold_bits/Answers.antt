@@ -9,7 +9,7 @@ use Rattle.stored_bits.proofs.HoldsFound.{bits-file, bits-inside, holds-found, p
 use Rattle.volume_def.proofs.SoundLaws.{readable-sound}
 use Rattle.stored_bits.proofs.held.hold_bits.Goals as goal
 
--- so many records has no sound volume
+-- so few records has no sound volume
 pub returns-then-count-le-CLUSTER_BITMAP-clause-none : goal.returns-then-count-le-CLUSTER_BITMAP-clause-none
 returns-then-count-le-CLUSTER_BITMAP-clause-none g c told =
     let inside = bits-inside (view g.D.Disk c.args.mft.now) (mounted_of g.D.Disk c.args.mft.now) (c.requires.volume told) in

@@ -3,18 +3,18 @@ use Rattle.ntfs_def.specs.Runs.{clusters_of}
 use Rattle.ntfs_def.specs.declared.run_text.Run.{Run}
 use Rattle.volume_def.specs.Files.{content_runs}
 use Rattle.file_record.specs.Written.{PartHeld}
-use Rattle.stream_changes.proofs.DeviceLaws.{device-still}
+use Rattle.stored_bits.proofs.DeviceKept.{device-same}
 use Rattle.stream_changes.proofs.ExtentDone.{given-behind}
 use Rattle.stream_changes.proofs.extents.give_behind.Goals as goal
 
 pub returns-in_err-runs-clause-device : goal.returns-in_err-runs-clause-device
-returns-in_err-runs-clause-device g c = device-still g.D.Disk c.args.mft.now
+returns-in_err-runs-clause-device g c = device-same g.D.Disk c.args.mft.now
 
 pub returns-in_default-clause-device : goal.returns-in_default-clause-device
-returns-in_default-clause-device g c = device-still g.D.Disk c.args.mft.now
+returns-in_default-clause-device g c = device-same g.D.Disk c.args.mft.now
 
 pub returns-in_err-behind-clause-device : goal.returns-in_err-behind-clause-device
-returns-in_err-behind-clause-device g c = device-still g.D.Disk c.args.mft.now
+returns-in_err-behind-clause-device g c = device-same g.D.Disk c.args.mft.now
 
 pub returns-clause-gives : goal.returns-clause-gives
 returns-clause-gives g c =

@@ -2,9 +2,9 @@ use Rattle.std.proofs.Common.{◌≡◌, ℕ, sym, subst}
 use Rattle.std.proofs.lemmas.Result.{on_ok_weaker}
 use Rattle.volume_def.specs.Files.{parts, records_of}
 use Rattle.mft_table.specs.Mft.{view}
+use Rattle.stored_bits.proofs.DeviceKept.{device-disk, device-same}
 use Rattle.tree_edit.specs.Below.{parts_in}
 use Rattle.stream_changes.specs.Staged.{StagesGiving}
-use Rattle.stream_changes.proofs.DeviceLaws.{device-of, device-still}
 use Rattle.stream_changes.proofs.GivingLaws.{gives-value}
 use Rattle.stream_changes.proofs.WaysDone.{go-extent-can, go-extent-puts, go-value-can, go-value-puts, goes-not_over}
 use Rattle.stream_changes.proofs.streams.remove_stream.Goals as goal
@@ -28,7 +28,7 @@ returns-in-InPlace-clause-tables g c = λ told.
     absurd (goes-not_over v v c.args.found.now c.number-number.result c.number-number.ensures c.in-InPlace.is w.0 w.1)
 
 pub returns-in-InPlace-clause-device : goal.returns-in-InPlace-clause-device
-returns-in-InPlace-clause-device g c = device-still g.D.Disk c.args.mft.now
+returns-in-InPlace-clause-device g c = device-same g.D.Disk c.args.mft.now
 
 -- a value
 pub drop_value-requires-clause-can : goal.drop_value-requires-clause-can
@@ -53,7 +53,7 @@ returns-in-InRecord-clause-places g c =
     c.drop_value.ensures.tables
 
 pub returns-in-InRecord-clause-device : goal.returns-in-InRecord-clause-device
-returns-in-InRecord-clause-device g c = device-of g.D.Disk c.args.mft.now c.drop_value.new.mft c.drop_value.ensures.disk
+returns-in-InRecord-clause-device g c = device-disk g.D.Disk c.args.mft.now c.drop_value.new.mft c.drop_value.ensures.disk
 
 -- clusters
 pub drop_extent-requires-clause-held : goal.drop_extent-requires-clause-held

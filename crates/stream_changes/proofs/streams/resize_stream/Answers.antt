@@ -2,10 +2,10 @@ use Rattle.std.proofs.Common.{◌≡◌, ℕ, sym, subst, ◌∙◌}
 use Rattle.std.proofs.lemmas.Result.{on_ok_weaker}
 use Rattle.volume_def.specs.Files.{parts, records_of}
 use Rattle.mft_table.specs.Mft.{view}
+use Rattle.stored_bits.proofs.DeviceKept.{device-disk, device-same}
 use Rattle.tree_edit.specs.Below.{parts_in}
 use Rattle.tree_edit.specs.Staged.{TellsStored}
 use Rattle.stream_changes.specs.Staged.{StagesGiving}
-use Rattle.stream_changes.proofs.DeviceLaws.{device-of, device-still}
 use Rattle.stream_changes.proofs.GivingLaws.{gives-value}
 use Rattle.stream_changes.proofs.WaysDone.{get-extent-can, get-extent-long, get-extent-puts, get-value-can, get-value-puts, get-value-room, gets-not_over}
 use Rattle.stream_changes.proofs.streams.resize_stream.Goals as goal
@@ -29,7 +29,7 @@ returns-in-InPlace-clause-tables g c = λ told.
     absurd (gets-not_over v v c.args.found.now c.number-number.result c.number-number.ensures c.args.size c.in-InPlace.is w.0 w.1)
 
 pub returns-in-InPlace-clause-device : goal.returns-in-InPlace-clause-device
-returns-in-InPlace-clause-device g c = device-still g.D.Disk c.args.mft.now
+returns-in-InPlace-clause-device g c = device-same g.D.Disk c.args.mft.now
 
 -- a value
 pub resize_value-requires-clause-can : goal.resize_value-requires-clause-can
@@ -54,7 +54,7 @@ returns-in-InRecord-clause-places g c =
     c.resize_value.ensures.tables
 
 pub returns-in-InRecord-clause-device : goal.returns-in-InRecord-clause-device
-returns-in-InRecord-clause-device g c = device-of g.D.Disk c.args.mft.now c.resize_value.new.mft c.resize_value.ensures.disk
+returns-in-InRecord-clause-device g c = device-disk g.D.Disk c.args.mft.now c.resize_value.new.mft c.resize_value.ensures.disk
 
 -- clusters
 pub shorten_extent-requires-clause-held : goal.shorten_extent-requires-clause-held

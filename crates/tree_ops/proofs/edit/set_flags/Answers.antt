@@ -2,9 +2,9 @@ use Rattle.std.proofs.Common.{refl}
 use Rattle.volume_def.specs.FileNames.{names_of}
 use Rattle.volume_def.specs.Files.{records_of}
 use Rattle.mft_table.specs.Mft.{view}
+use Rattle.stored_bits.proofs.DeviceKept.{device-disk}
 use Rattle.stream_changes.specs.Below.{IsSettable}
 use Rattle.tree_ops.specs.Edits.{setattr_edit}
-use Rattle.stream_changes.proofs.DeviceLaws.{device-of}
 use Rattle.stream_changes.proofs.GivingLaws.{gives-none}
 use Rattle.tree_ops.proofs.EndLaws.{all-keeps, ended, placed-back, stages-back}
 use Rattle.tree_ops.proofs.PlaceLaws.{can-finish}
@@ -35,7 +35,7 @@ finish-requires g c =
           can-finish g.D.Disk old c.stage.new.mft c.args.mark.now c.requires.can 4 found.number
           (λ told. let set = c.in_ok-found.ensures.can told in (set.can.node, set.can.can)) c.in_ok-place.place
           (placed-back g.D.Disk old c.find_settable.new.mft one c.args.mark.now c.in_ok-place.place c.in_ok-place.ensures.placed)
-          (all-keeps g.D.Disk old mid both c.stage.new.mft (device-of g.D.Disk mid c.stage.new.mft c.in_ok-stage.ensures.disk))
+          (all-keeps g.D.Disk old mid both c.stage.new.mft (device-disk g.D.Disk mid c.stage.new.mft c.in_ok-stage.ensures.disk))
           (stages-back g.D.Disk old mid both 4 found.number c.stage.new.mft
           (λ told. gives-none g.D.Disk 4 found.number (view g.D.Disk mid) mid c.stage.new.mft
           (attributes-staged g.D.Disk found.number (names_of (records_of (view g.D.Disk mid)) found.number) mid c.stage.new.mft
@@ -52,7 +52,7 @@ returns-clause-ends g c =
     let two = reads-still g.D.Disk c.find_settable.new.mft mid c.mark_place.ensures.reads.0 c.mark_place.ensures.reads.1 in
     let both = still-then g.D.Disk old c.find_settable.new.mft mid one two in
     ended g.D.Disk old mid both (setattr_edit c.args.path.now c.args.flags c.args.moment) found.number c.stage.new.mft
-    (device-of g.D.Disk mid c.stage.new.mft c.in_ok-stage.ensures.disk) c.in_ok-stage.ensures.tables
+    (device-disk g.D.Disk mid c.stage.new.mft c.in_ok-stage.ensures.disk) c.in_ok-stage.ensures.tables
     (λ told. record {
       found = found;
       file_is = refl;

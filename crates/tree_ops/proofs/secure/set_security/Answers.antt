@@ -3,6 +3,7 @@ use Rattle.volume_def.specs.FileNames.{names_of}
 use Rattle.volume_def.specs.Files.{records_of}
 use Rattle.mft_table.specs.Mft.{faults_of, stage_of, view}
 use Rattle.mft_table.proofs.FreeStaged.{GoesOn-then}
+use Rattle.stored_bits.proofs.DeviceKept.{device-disk}
 use Rattle.tree_read.specs.Answered.{Counts}
 use Rattle.tree_read.specs.declared.stop.Stop.{Stop}
 use Rattle.tree_read.specs.declared.stop.Stop.TheVariants as stop
@@ -11,7 +12,6 @@ use Rattle.stream_changes.specs.Below.{IsSecurable}
 use Rattle.tree_ops.specs.Edits.{most_of_value, setsec_edit}
 use Rattle.tree_ops.specs.declared.place.MarkPlace.{MarkPlace}
 use Rattle.tree_ops.proofs.SetsecBy.{described-by}
-use Rattle.stream_changes.proofs.DeviceLaws.{device-of}
 use Rattle.stream_changes.proofs.GivingLaws.{gives-none}
 use Rattle.tree_ops.proofs.EndLaws.{all-keeps, ended, placed-back, stages-back}
 use Rattle.tree_ops.proofs.PlaceLaws.{can-finish}
@@ -49,7 +49,7 @@ finish-requires g c =
           (λ told. let set = (c.in_ok-found.ensures.can told).settable in (set.can.node, set.can.can)) c.in_ok-place.place
           (placed-back g.D.Disk old c.find_securable.new.mft one c.args.mark.now c.in_ok-place.place c.in_ok-place.ensures.placed)
           (all-keeps g.D.Disk old mid both c.stage_security.new.mft
-          (device-of g.D.Disk mid c.stage_security.new.mft c.in_ok-stage_security.ensures.disk))
+          (device-disk g.D.Disk mid c.stage_security.new.mft c.in_ok-stage_security.ensures.disk))
           (stages-back g.D.Disk old mid both most_of_value found.number c.stage_security.new.mft
           (λ told. gives-none g.D.Disk most_of_value found.number (view g.D.Disk mid) mid c.stage_security.new.mft
           (value-staged g.D.Disk found.number (names_of (records_of (view g.D.Disk mid)) found.number) mid c.stage_security.new.mft
@@ -65,7 +65,7 @@ returns-clause-ends g c = λ described whether.
     let two = reads-still g.D.Disk c.find_securable.new.mft mid c.mark_place.ensures.reads.0 c.mark_place.ensures.reads.1 in
     let both = still-then g.D.Disk old c.find_securable.new.mft mid one two in
     ended g.D.Disk old mid both (setsec_edit c.args.path.now c.args.id described c.args.moment) found.number c.stage_security.new.mft
-    (device-of g.D.Disk mid c.stage_security.new.mft c.in_ok-stage_security.ensures.disk) c.in_ok-stage_security.ensures.tables
+    (device-disk g.D.Disk mid c.stage_security.new.mft c.in_ok-stage_security.ensures.disk) c.in_ok-stage_security.ensures.tables
     c.in_ok-stage_security.ensures.secures
     (λ told. gives-none g.D.Disk most_of_value found.number (view g.D.Disk mid) mid c.stage_security.new.mft
     (value-staged g.D.Disk found.number (names_of (records_of (view g.D.Disk mid)) found.number) mid c.stage_security.new.mft
@@ -115,7 +115,7 @@ returns-clause-goes_on g c =
     let one = reads-still g.D.Disk old c.find_securable.new.mft c.find_securable.ensures.reads.0 c.find_securable.ensures.reads.1 in
     let two = reads-still g.D.Disk c.find_securable.new.mft mid c.mark_place.ensures.reads.0 c.mark_place.ensures.reads.1 in
     let keeps = all-keeps g.D.Disk old mid (still-then g.D.Disk old c.find_securable.new.mft mid one two) c.stage_security.new.mft
-    (device-of g.D.Disk mid c.stage_security.new.mft c.in_ok-stage_security.ensures.disk) in
+    (device-disk g.D.Disk mid c.stage_security.new.mft c.in_ok-stage_security.ensures.disk) in
     GoesOn-then g.D.Disk (stage_of g.D.Disk old) (stage_of g.D.Disk c.stage_security.new.mft) (stage_of g.D.Disk c.finish.new.mft)
     (c.in_ok-stage_security.ensures.counts ∙ c.in_ok-place.ensures.counts ∙ (c.in_ok-found.ensures.answered its.0 its.1.whether).counts)
     keeps.goes_on c.finish.ensures.goes_on

@@ -4,9 +4,9 @@ use Rattle.std.specs.Prelude.{IsTrue, OnOk, Result, Ok, Err}
 use Rattle.volume_def.specs.FileNames.{names_of}
 use Rattle.volume_def.specs.Files.{records_of}
 use Rattle.mft_table.specs.Mft.{view}
+use Rattle.stored_bits.proofs.DeviceKept.{device-disk}
 use Rattle.tree_read.specs.Nodes.{number_of}
 use Rattle.stream_changes.specs.Below.{IsOfEdit, StagesFew, StagesValue}
-use Rattle.stream_changes.proofs.DeviceLaws.{device-of}
 use Rattle.stream_changes.proofs.GivingLaws.{gives-none}
 use Rattle.tree_ops.specs.Edits.{StagesSo}
 use Rattle.tree_ops.proofs.StagedEdits.{value-staged}
@@ -116,4 +116,4 @@ returns-in-Remove-clause-places g c =
     → StagesSo g.D.Disk what f c.args.mft.now c.remove_stream.new.mft)) (sym c.in-Remove.is) c.remove_stream.ensures.places
 
 pub returns-in-Punch-clause-device : goal.returns-in-Punch-clause-device
-returns-in-Punch-clause-device g c = device-of g.D.Disk c.args.mft.now c.punch_value.new.mft c.punch_value.ensures.disk
+returns-in-Punch-clause-device g c = device-disk g.D.Disk c.args.mft.now c.punch_value.new.mft c.punch_value.ensures.disk

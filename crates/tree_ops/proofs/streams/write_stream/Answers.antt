@@ -5,10 +5,10 @@ use Rattle.volume_def.specs.FileNames.{names_of}
 use Rattle.volume_def.specs.Files.{records_of}
 use Rattle.mft_table.specs.Mft.{mounted_of, view}
 use Rattle.mft_table.proofs.DiskKept.{KeepsDisk-same}
+use Rattle.stored_bits.proofs.DeviceKept.{device-disk}
 use Rattle.tree_read.specs.Nodes.{number_of}
 use Rattle.stream_changes.specs.Below.{StagesOver, StagesValue}
 use Rattle.tree_ops.proofs.StagedEdits.{over-few, value-few}
-use Rattle.stream_changes.proofs.DeviceLaws.{device-of}
 use Rattle.tree_ops.proofs.StreamPut.{never-extent, not-extent, over-can, over-writes, value-can, value-room, value-writes}
 use Rattle.tree_ops.proofs.streams.write_stream.Goals as goal
 
@@ -78,10 +78,10 @@ returns-in-InRecord-clause-tables g c =
     c.requires.can told) t) c.write_value.ensures.tables
 
 pub returns-in-InPlace-clause-device : goal.returns-in-InPlace-clause-device
-returns-in-InPlace-clause-device g c = device-of g.D.Disk c.args.mft.now c.write_over.new.mft c.write_over.ensures.disk
+returns-in-InPlace-clause-device g c = device-disk g.D.Disk c.args.mft.now c.write_over.new.mft c.write_over.ensures.disk
 
 pub returns-in-InRecord-clause-device : goal.returns-in-InRecord-clause-device
-returns-in-InRecord-clause-device g c = device-of g.D.Disk c.args.mft.now c.write_value.new.mft c.write_value.ensures.disk
+returns-in-InRecord-clause-device g c = device-disk g.D.Disk c.args.mft.now c.write_value.new.mft c.write_value.ensures.disk
 
 -- no bytes are written so yet
 pub returns-in-InClusters-clause-writes : goal.returns-in-InClusters-clause-writes
@@ -101,4 +101,4 @@ returns-in-InClusters-clause-tables g c = λ told.
     c.requires.can told
 
 pub returns-in-InClusters-clause-device : goal.returns-in-InClusters-clause-device
-returns-in-InClusters-clause-device g c = device-of g.D.Disk c.args.mft.now c.args.mft.now (KeepsDisk-same g.D.Disk c.args.mft.now)
+returns-in-InClusters-clause-device g c = device-disk g.D.Disk c.args.mft.now c.args.mft.now (KeepsDisk-same g.D.Disk c.args.mft.now)
