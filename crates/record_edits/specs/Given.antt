@@ -1,4 +1,4 @@
--- CLUSTERS GIVEN BACK in the stored bitmap of clusters.
+-- CLUSTERS GIVEN BACK in the stored bitmap of clusters, and clusters taken.
 use Rattle.std.specs.Prelude.{◌≡◌, ℕ, ◌≤◌, List}
 use Rattle.ntfs_def.specs.declared.run_text.Run.{Run}
 use Rattle.list_laws.specs.Bits.{bit_in}
@@ -18,5 +18,12 @@ AreOwned view runs = (c : ℕ) → times_covered runs c ≤ times_owned (records
 pub record GivesBack (old new : VolumeView) (runs : List Run) : Type 0 where
   pub writes : WritesInPlace is_bits_key old new
   pub given : (c : ℕ) → 1 ≤ times_covered runs c → bit_in (value_on new (cluster_bits new)) c ≡ 0
+  pub others : (c : ℕ) → times_covered runs c ≡ 0 → bit_in (value_on new (cluster_bits new)) c ≡ bit_in (value_on old (cluster_bits old)) c
+  pub records : value_on new (record_bits new) ≡ value_on old (record_bits old)
+
+-- .. were set in the bitmap, and all other flags are as they were.
+pub record TakesRuns (old new : VolumeView) (runs : List Run) : Type 0 where
+  pub writes : WritesInPlace is_bits_key old new
+  pub taken : (c : ℕ) → 1 ≤ times_covered runs c → bit_in (value_on new (cluster_bits new)) c ≡ 1
   pub others : (c : ℕ) → times_covered runs c ≡ 0 → bit_in (value_on new (cluster_bits new)) c ≡ bit_in (value_on old (cluster_bits old)) c
   pub records : value_on new (record_bits new) ≡ value_on old (record_bits old)

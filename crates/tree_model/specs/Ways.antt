@@ -1,17 +1,20 @@
 -- THE WAYS in which edits are done: in place, in the record of their file, or in clusters.
-use Rattle.std.specs.Prelude.{ℕ, ◌+◌, ◌==◌, ◌&&◌, ◌||◌, nat_le, not, Bool, true, false, List, length, Option, is_some, option_and_then}
-use Rattle.std.specs.List.{list_any}
+use Rattle.std.specs.Prelude.{ℕ, ◌+◌, ◌-◌, ◌==◌, ◌&&◌, ◌||◌, nat_le, nat_lt, not, Bool, true, false, List, length, count_by, Option, is_some}
+use Rattle.std.specs.Prelude.{option_and_then}
+use Rattle.std.specs.List.{list_any, range_with_len}
 use Rattle.std.specs.Option.{option_map_or}
+use Rattle.ntfs_def.specs.Rounded.{clusters_for}
 use Rattle.volume_def.specs.BitmapClauses.{cluster_bits}
-use Rattle.volume_def.specs.Files.{Part, content_extent, parts, records_of}
+use Rattle.volume_def.specs.Files.{Part, all_covered, content_extent, parts, records_of}
 use Rattle.volume_def.specs.ListsClause.{is_list}
-use Rattle.volume_def.specs.Room.{free_bytes}
+use Rattle.volume_def.specs.OwnersClause.{times_owned}
+use Rattle.volume_def.specs.Room.{free_bytes, unowned_clusters}
 use Rattle.volume_def.specs.Table.{cluster_bytes}
 use Rattle.volume_def.specs.Values.{first_part}
 use Rattle.volume_def.specs.View.{VolumeView}
 use Rattle.tree_model.specs.Cases.{size_of}
 use Rattle.tree_model.specs.Reading.{standard_of}
-use Rattle.tree_model.specs.StreamRoom.{goes_over, stream_parts, stream_value, stream_value_len}
+use Rattle.tree_model.specs.StreamRoom.{goes_over, initialized_size, new_clusters, stream_parts, stream_value, stream_value_len}
 use Rattle.tree_model.specs.Subjects.{Located}
 use Rattle.tree_model.specs.Tree.{Tree}
 use Rattle.tree_model.specs.declared.command.Command.{Command}
@@ -61,8 +64,8 @@ is_done_in_record view tree (c.Truncate path stream size) at = stays_value view 
 is_done_in_record view tree (c.Rmstream path name) at = is_value_alone view tree at
 is_done_in_record view tree other at = false
 
--- What is done IN CLUSTERS takes none, and gives some back: a stream in clusters of a file without an attribute list, in one part, goes, or
--- is cut, or stays as long. The bitmap in which they are given back lies in clusters too.
+-- What is done IN CLUSTERS: a stream in clusters of a file without an attribute list, in one part, goes, or is cut, or gets longer. The bitmap
+-- in which clusters are given back, and taken, lies in clusters too.
 abbrev pub in_extent : Option Part → Bool
 in_extent part = is_some (option_and_then (λ part. content_extent part.content) part)
 
@@ -74,7 +77,47 @@ is_extent_alone view tree at =
     in_extent (first_part (stream_parts view tree at))
     && ((length (stream_parts view tree at) == 1) && (has_no_list view at.file && has_placed_bits view))
 
+-- It is cut, or stays as long, or ends in its last cluster still: then no cluster comes or goes.
+abbrev pub ends_in_last : ℕ → List Part → ℕ → Bool
+ends_in_last size extents end = clusters_for end size == all_covered extents
+
+abbrev pub can_end : VolumeView → Tree → Located → ℕ → Bool
+can_end view tree at size =
+    gets_no_longer size at.content || ends_in_last (cluster_bytes view.layout) (stream_parts view tree at) size
+
+-- Bytes go over those that were written, or behind them: into clusters that are there, and into new ones behind the last.
+abbrev pub goes_behind : ℕ → List Part → ℕ → ℕ → Bool
+goes_behind size extents from len =
+    nat_le from (initialized_size extents)
+    && (new_clusters size extents from len == clusters_for (from + len) size - all_covered extents)
+
+-- so many clusters from one on have no owner
+abbrev pub is_free_run : VolumeView → ℕ → ℕ → Bool
+is_free_run view len at =
+    nat_le (at + len) view.layout.clusters
+    && (count_by (λ c. not (times_owned (records_of view) c == 0)) (range_with_len at len) == 0)
+
+abbrev pub has_free_run : VolumeView → ℕ → Bool
+has_free_run view len = list_any (is_free_run view len) (range_with_len 0 view.layout.clusters)
+
+-- The new ones are one run, unless there are fewer free ones in all; the record of the file has the bytes for one run more: 17, up to a
+-- multiple of 8.
+abbrev pub can_take : VolumeView → ℕ → ℕ → Bool
+can_take view f count =
+    (count == 0) || (nat_le 24 (free_bytes view f) && (has_free_run view count || nat_lt (unowned_clusters view) count))
+
+abbrev pub can_reach : VolumeView → ℕ → List Part → ℕ → ℕ → Bool
+can_reach view f extents from len =
+    goes_behind (cluster_bytes view.layout) extents from len
+    && can_take view f (new_clusters (cluster_bytes view.layout) extents from len)
+
 abbrev pub is_done_in_clusters : VolumeView → Tree → Command → Located → Bool
-is_done_in_clusters view tree (c.Truncate path stream size) at = is_extent_alone view tree at && gets_no_longer size at.content
+is_done_in_clusters view tree (c.Write path stream from bytes) at =
+    not (is_done_in_place view tree (c.Write path stream from bytes) at)
+    && (is_extent_alone view tree at && can_reach view at.file (stream_parts view tree at) from (length bytes))
+is_done_in_clusters view tree (c.Hwrite handle from bytes) at =
+    not (is_done_in_place view tree (c.Hwrite handle from bytes) at)
+    && (is_extent_alone view tree at && can_reach view at.file (stream_parts view tree at) from (length bytes))
+is_done_in_clusters view tree (c.Truncate path stream size) at = is_extent_alone view tree at && can_end view tree at size
 is_done_in_clusters view tree (c.Rmstream path name) at = is_extent_alone view tree at
 is_done_in_clusters view tree other at = false
