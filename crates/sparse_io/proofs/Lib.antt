@@ -3,3 +3,5 @@ pub mod NamesApart
 pub mod OverLaws
 pub mod PatchLaws
 pub mod OverwriteLaws
+pub mod BehindLaws
+pub mod RunWrites

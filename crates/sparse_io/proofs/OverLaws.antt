@@ -127,7 +127,7 @@ module _ (extents : List Part) (size at len : ℕ) where
   and-true true c d e x y z = and_from ((true && c) && d) e (and_from (true && c) d x y) z
   and-true false c d e x y z = refl
 
-  extent-count : (extent : ExtentHeader) (runs : Option (List Run))
+  pub extent-count : (extent : ExtentHeader) (runs : Option (List Run))
       → count_by (λ vcn. (touches size at len vcn || touches size 0 0 vcn) && not (is_cluster (spot_at extents vcn)))
       (range_with_len 0 (clusters_for (max (at + len) 0) size)) ≡ unplaced (spot_at extents) size at len
   extent-count extent runs =

@@ -65,8 +65,8 @@ fn are_placed(
     }
 }
 
-// Whether runs place each cluster that so many bytes of a stream from byte `at` on touch.
-fn bytes_placed(
+/// Whether runs place each cluster that so many bytes of a stream from byte `at` on touch.
+pub fn bytes_placed(
     alloc: Global,
     file: &FileParts,
     stream: &AttrView<'_>,

@@ -73,7 +73,7 @@ fn put_over(sector: &mut [u8; 512], from: usize, piece: &[u8])
     sector[from..from + piece.len()].copy_from_slice(piece);
 }
 
-// The sector of a cluster that holds its byte `skip`, with these bytes over its own from there on.
+// The sector of a cluster that holds its byte `skip`, with these bytes over its own from there on. Where they fill it, it is not read.
 fn patched<D: Disk>(
     mft: &mut Mft<'_, D>,
     cluster: u64,
@@ -91,6 +91,10 @@ fn patched<D: Disk>(
 {
     let from = (skip % SECTOR as u64) as usize;
     let mut bytes = [0; SECTOR];
+    if piece.len() == SECTOR {
+        put_over(&mut bytes, 0, piece);
+        return Ok(bytes);
+    }
     read_sector(mft, cluster, skip - from as u64, &mut bytes)?;
     put_over(&mut bytes, from, piece);
     Ok(bytes)
@@ -129,8 +133,12 @@ fn stage_sector<D: Disk>(mft: &mut Mft<'_, D>, sector: u64, from: &[u8; 512]) ->
     }
 }
 
-// Stages bytes over those of a cluster from its byte `skip` on, in one sector. What would lie past the end of the disk is left.
-fn patch_cluster<D: Disk>(
+/// Stages bytes over those of a cluster from its byte `skip` on, in one sector. What would lie past the end of the disk is left.
+///
+/// # Errors
+///
+/// `Device` where the disk failed, and `Memory`.
+pub fn patch_cluster<D: Disk>(
     mft: &mut Mft<'_, D>,
     cluster: u64,
     skip: u64,

@@ -1,0 +1,52 @@
+use Rattle.std.proofs.Common.{◌≡◌, ◌/◌, ◌%◌, ℕ, length, refl, sym, ap, inl, inr, ◌∙◌, arith}
+use Rattle.std.proofs.lemmas.Result.{on_ok_weaker}
+use Rattle.ntfs_def.specs.Runs.{spot_of}
+use Rattle.ntfs_def.specs.declared.run_text.Spot.TheVariants.{At, Hole, Outside}
+use Rattle.mft_table.specs.Mft.{stage_of, view}
+use Rattle.mft_table.proofs.DiskKept.{KeepsDisk-same}
+use Rattle.attr_store.proofs.StageLaws.{StagesOnly-none}
+use Rattle.sparse_io.specs.Overwritten.{touched_sectors}
+use Rattle.sparse_io.proofs.runs.write_piece.Goals as goal
+
+pub returns-in-At-clause-written : goal.returns-in-At-clause-written
+returns-in-At-clause-written g c =
+    let spot = spot_of c.args.runs.now in
+    let at = c.args.at in
+    let size = c.cluster_bytes-size.ensures in
+    on_ok_weaker c.patch_cluster.result (λ w told apart own placed. w told spot at apart own
+    (ap (λ n. spot (at / n)) (sym size) ∙ sym c.spot.ensures ∙ c.in-At.is) (ap (λ n. at % n) (sym size))) c.patch_cluster.ensures.written
+
+pub returns-in-At-clause-places : goal.returns-in-At-clause-places
+returns-in-At-clause-places g c =
+    let spot = spot_of c.args.runs.now in
+    let at = c.args.at in
+    let size = c.cluster_bytes-size.ensures in
+    c.patch_cluster.ensures.places spot at (ap (λ n. spot (at / n)) (sym size) ∙ sym c.spot.ensures ∙ c.in-At.is)
+    (ap (λ n. at % n) (sym size))
+
+pub returns-in-Hole : goal.returns-in-Hole
+returns-in-Hole g c =
+    let layout = (view g.D.Disk c.args.mft.now).layout in
+    let spot = spot_of c.args.runs.now in
+    let at = c.args.at in
+    let size = c.cluster_bytes-size.ensures in
+    record {
+      written = λ told apart own placed.
+          let there = placed at (omega arith, omega (arith, c.requires.some)) in
+          let is : c.spot.result ≡ At there.0 = c.spot.ensures ∙ ap (λ n. spot (at / n)) size ∙ there.1 in
+          absurd (elim c.in-Hole.is [
+            | inl hole ↦ let e : Hole ≡ At there.0 = sym hole ∙ is in nowhere-hole there.0 e
+            | inr out ↦ let e : Outside ≡ At there.0 = sym out ∙ is in nowhere-outside there.0 e
+          ]);
+      places = StagesOnly-none g.D.Disk (touched_sectors layout spot at (length c.args.piece.now)) (stage_of g.D.Disk c.args.mft.now);
+      few = omega arith;
+      disk = KeepsDisk-same g.D.Disk c.args.mft.now;
+      err = tt;
+      faults = refl;
+    }
+  where
+    nowhere-hole : (n : ℕ) → Hole ≡ At n → ⊥
+    nowhere-hole n e = cc
+
+    nowhere-outside : (n : ℕ) → Outside ≡ At n → ⊥
+    nowhere-outside n e = cc
