@@ -1,5 +1,5 @@
--- WHERE FLAGS WERE CLEARED in the bitmap of clusters, the rest of the volume is as it was, and the bitmap can be written in place still.
-use Rattle.std.proofs.Common.{◌≡◌, ◌≢◌, ◌*◌, ◌/◌, ◌≤◌, ℕ, List, [], refl, sym, ap, subst, inl, ◌∙◌}
+-- WHERE FLAGS WERE SET OR CLEARED in the bitmap of clusters, the rest of the volume is as it was, and the bitmap can be written in place still.
+use Rattle.std.proofs.Common.{◌≡◌, ◌≢◌, ◌*◌, ◌/◌, ◌≤◌, ℕ, Bool, List, [], refl, sym, ap, subst, inl, ◌∙◌}
 use Rattle.std.specs.Prelude.{IsSomeAnd, IsTrue, filter}
 use Rattle.ntfs_def.specs.declared.kinds.TheConstants.{ATTRIBUTE_LIST, DATA}
 use Rattle.ntfs_def.specs.declared.records.TheConstants.{CLUSTER_BITMAP}
@@ -14,9 +14,9 @@ use Rattle.volume_edits.proofs.StreamClusters.{HasOwners-written, records-writte
 use Rattle.volume_edits.specs.Clusters.{ChangesStream}
 use Rattle.volume_edits.proofs.ChangedStream.{ChangesStream-written, clusters-kept, readable-kept}
 use Rattle.record_edits.specs.InPlace.{WritesInPlace, is_bits_key}
-use Rattle.stored_bits.specs.Cleared.{ClearsFlags, HasOwnBits}
+use Rattle.stored_bits.specs.PutFlags.{HasOwnBits, PutsFlags}
 
-module _ (old new : VolumeView) (h : HasOwnBits old) (at len : ℕ) (s : ClearsFlags old new at len) where
+module _ (value : Bool) (old new : VolumeView) (h : HasOwnBits old) (at len : ℕ) (s : PutsFlags value old new at len) where
   pub records-same : records_of new ≡ records_of old
   records-same = records-written old new (spot_at (cluster_bits old)) (at / 8) s.bytes s.writes
 

@@ -37,7 +37,7 @@ use Rattle.volume_def.proofs.RunPieces.{total-cons}
 use Rattle.volume_def.proofs.PartLaws.{named}
 use Rattle.volume_edits.specs.Clusters.{IsOwnStream, IsWritable}
 use Rattle.volume_edits.proofs.StreamClusters.{stream-own}
-use Rattle.stored_bits.specs.Cleared.{HasOwnBits}
+use Rattle.stored_bits.specs.PutFlags.{HasOwnBits}
 
 -- RUNS WITHOUT A HOLE: each of their clusters lies somewhere.
 place-there : (lcn : Option ℕ) (k : ℕ) → IsSome lcn → (c : ℕ) × (spot_in (Some (option_map (λ place. place + k) lcn)) ≡ At c)

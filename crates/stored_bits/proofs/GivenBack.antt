@@ -1,5 +1,5 @@
--- CLUSTERS GIVEN BACK in the stored bitmap, run by run.
-use Rattle.std.proofs.Common.{◌≡◌, ◌≤◌, ℕ, Bool, List, [], ◌∷◌, ◌++◌, Some, refl, sym, ap, subst, inl, inr, ◌∙◌, arith}
+-- CLUSTERS GIVEN BACK in the stored bitmap, run by run, and taken.
+use Rattle.std.proofs.Common.{◌≡◌, ◌≤◌, ℕ, Bool, true, false, List, [], ◌∷◌, ◌++◌, Some, refl, sym, ap, subst, inl, inr, ◌∙◌, arith}
 use Rattle.std.specs.Prelude.{filter}
 use Rattle.std.proofs.lemmas.Bool.{cases_lt}
 use Rattle.ntfs_def.specs.declared.records.TheConstants.{MFT}
@@ -12,10 +12,10 @@ use Rattle.volume_def.specs.OwnersClause.{times_owned}
 use Rattle.volume_def.specs.Values.{spot_at}
 use Rattle.volume_def.specs.View.{VolumeView}
 use Rattle.edit_def.specs.Kept.{Key}
-use Rattle.record_edits.specs.Given.{GivesBack}
+use Rattle.record_edits.specs.Given.{GivesBack, TakesRuns}
 use Rattle.record_edits.specs.InPlace.{IsUnnamed, WritesInPlace, is_bits_key}
 use Rattle.record_edits.proofs.PlaceEdits as place
-use Rattle.stored_bits.specs.Cleared.{ClearsFlags, HasOwnBits}
+use Rattle.stored_bits.specs.PutFlags.{HasOwnBits, PutsFlags}
 use Rattle.stored_bits.proofs.BitsStill.{bits-in-place, value-still}
 use Rattle.stored_bits.proofs.RunTimes.{run-beside, run-within}
 
@@ -54,13 +54,23 @@ gives-none view runs none = record {
 }
 
 -- ONE RUN
-pub gives-one : (old new : VolumeView) (h : HasOwnBits old) (at : ℕ) (run : Run) → run.lcn ≡ Some at → ClearsFlags old new at run.len
+pub gives-one : (old new : VolumeView) (h : HasOwnBits old) (at : ℕ) (run : Run) → run.lcn ≡ Some at → PutsFlags false old new at run.len
     → GivesBack old new (run ∷ [])
 gives-one old new h at run is s = record {
-  writes = bits-in-place old new h at run.len s;
-  given = λ c some. let its = run-within run at c is some in s.given c its.0 its.1;
+  writes = bits-in-place false old new h at run.len s;
+  given = λ c some. let its = run-within run at c is some in s.here c its.0 its.1;
   others = λ c none. s.others c (run-beside run at c is none);
-  records = value-still old new h at run.len s MFT BITMAP [] (λ e. absurd (omega (arith, e)));
+  records = value-still false old new h at run.len s MFT BITMAP [] (λ e. absurd (omega (arith, e)));
+}
+
+-- .. taken
+pub takes-one : (old new : VolumeView) (h : HasOwnBits old) (at : ℕ) (run : Run) → run.lcn ≡ Some at → PutsFlags true old new at run.len
+    → TakesRuns old new (run ∷ [])
+takes-one old new h at run is s = record {
+  writes = bits-in-place true old new h at run.len s;
+  taken = λ c some. let its = run-within run at c is some in s.here c its.0 its.1;
+  others = λ c none. s.others c (run-beside run at c is none);
+  records = value-still true old new h at run.len s MFT BITMAP [] (λ e. absurd (omega (arith, e)));
 }
 
 -- FURTHER RUNS

@@ -1,5 +1,5 @@
--- FLAGS CLEARED in the bitmap that is held: what the calls that read it and write over it say of the volume.
-use Rattle.std.proofs.Common.{◌≡◌, ◌⊎◌, ◌+◌, ◌-◌, ◌*◌, ◌/◌, ◌%◌, ◌<◌, ◌≤◌, ℕ, List, [], length, sym, ap, subst, inl, inr, ◌∙◌, arith}
+-- FLAGS SET OR CLEARED in the bitmap that is held: what the calls that read it and write over it say of the volume.
+use Rattle.std.proofs.Common.{◌≡◌, ◌⊎◌, ◌+◌, ◌-◌, ◌*◌, ◌/◌, ◌%◌, ◌<◌, ◌≤◌, ℕ, Bool, List, [], length, sym, ap, subst, inl, inr, ◌∙◌, arith}
 use Rattle.std.specs.Prelude.{Contains, IsTrue, slice_range}
 use Rattle.vol_disk.specs.declared.Disk.{Ghosts}
 use Rattle.vol_stage.specs.Staged.{StagesOnly, places}
@@ -11,6 +11,7 @@ use Rattle.volume_def.specs.Files.{parts_at}
 use Rattle.volume_def.specs.Readable.{IsFile, IsReadableVolume}
 use Rattle.volume_def.specs.Values.{pieces_touched, spot_at, value_on}
 use Rattle.volume_def.specs.View.{VolumeView}
+use Rattle.cluster_bitmap.specs.Words.{bit_for}
 use Rattle.volume_edits.specs.Clusters.{IsWritable, OverwritesStream, WritesStream}
 use Rattle.mft_table.specs.declared.mft.Mft.{Mft}
 use Rattle.mft_table.specs.Mft.{MftReads, stage_of, view}
@@ -20,12 +21,12 @@ use Rattle.attr_store.specs.First.{IsStored, attribute_held}
 use Rattle.sparse_io.specs.declared.find.FoundStream.{FoundStream}
 use Rattle.sparse_io.specs.Held.{IsHeldWith, IsStream}
 use Rattle.sparse_io.specs.Overwritten.{touched_sectors}
-use Rattle.stored_bits.specs.Cleared.{ClearsFlags}
 use Rattle.stored_bits.specs.Given.{IsOfBits}
 use Rattle.stored_bits.specs.HeldBits.{HoldsBits}
+use Rattle.stored_bits.specs.PutFlags.{PutsFlags}
 use Rattle.stored_bits.proofs.BitsStream.{bits-writable, real-is, within}
 use Rattle.stored_bits.proofs.StreamFound.{held-bits, held-stored, held-stream, held-with}
-use Rattle.stored_bits.proofs.WrittenBits.{flags-cleared}
+use Rattle.stored_bits.proofs.WrittenBits.{flags-put}
 
 -- the parts of the stream that is found are those of the bitmap
 found-parts : (view : VolumeView) (table : List ℕ) (file : FileParts) (found : FoundStream) → HoldsBits view table file found
@@ -45,13 +46,13 @@ WritesHeld view new file found from bytes = (table name : List ℕ) → IsHeldWi
     → IsWritable view (parts_at view (file_number file) DATA is.part.name) from (length bytes)
     → OverwritesStream view new (file_number file) is.part.name from bytes
 
-pub held-cleared : (old new : VolumeView) (table : List ℕ) (file : FileParts) (found : FoundStream) → HoldsBits old table file found →
+pub held-put : (value : Bool) (old new : VolumeView) (table : List ℕ) (file : FileParts) (found : FoundStream) → HoldsBits old table file found →
     (at len : ℕ)
     (was bytes : List ℕ) → IsTrue old.told → 0 < len → at + len ≤ old.layout.clusters → length was ≡ (at + (len - 1)) / 8 - at / 8 + 1
-    → length bytes ≡ length was → ((k : ℕ) → at % 8 ≤ k → k < at % 8 + len → bit_in bytes k ≡ 0)
+    → length bytes ≡ length was → ((k : ℕ) → at % 8 ≤ k → k < at % 8 + len → bit_in bytes k ≡ bit_for value)
     → ((k : ℕ) → (k < at % 8) ⊎ (at % 8 + len ≤ k) → bit_in bytes k ≡ bit_in was k)
-    → ReadsHeld old file found (at / 8) was → WritesHeld old new file found (at / 8) bytes → ClearsFlags old new at len
-held-cleared old new table file found h at len was bytes told some inside long same given others reads writes =
+    → ReadsHeld old file found (at / 8) was → WritesHeld old new file found (at / 8) bytes → PutsFlags value old new at len
+held-put value old new table file found h at len was bytes told some inside long same here others reads writes =
     let with_table = held-with old table file found h in
     let written = h.can.written in
     let real = within old h.can in
@@ -63,8 +64,8 @@ held-cleared old new table file found h at len was bytes told some inside long s
     let its = found-parts old table file found h is.0 is.1 in
     let may = subst (λ ps. IsWritable old ps (at / 8) (length bytes)) (sym its) (bits-writable old h.can (at / 8) (length bytes) below) in
     let w = subst (λ ps. WritesStream old new (spot_at ps) (at / 8) bytes) its (writes table [] with_table is.0 may).writes in
-    flags-cleared old new h.can at len was bytes told some inside long
-    (read ∙ ap (λ ps. slice_range (value_on old ps) (at / 8) (at / 8 + length was)) (held-bits old table file found h)) same given others w
+    flags-put value old new h.can at len was bytes told some inside long
+    (read ∙ ap (λ ps. slice_range (value_on old ps) (at / 8) (at / 8 + length was)) (held-bits old table file found h)) same here others w
 
 -- THE SECTORS that are staged
 abbrev pub StagesHeld : {D : Type 0} (g : Ghosts D) → Mft D g → Mft D g → VolumeView → FileParts → FoundStream → ℕ → ℕ → Type 0

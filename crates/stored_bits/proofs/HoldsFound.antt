@@ -31,7 +31,7 @@ use Rattle.attr_store.specs.declared.first.FirstPart.{FirstPart}
 use Rattle.attr_store.specs.First.{TellsSizes, attribute_held}
 use Rattle.tree_model.specs.Ways.{has_placed_bits, in_extent}
 use Rattle.sparse_io.specs.declared.find.FoundStream.{FoundStream}
-use Rattle.stored_bits.specs.Cleared.{HasOwnBits}
+use Rattle.stored_bits.specs.PutFlags.{HasOwnBits}
 use Rattle.stored_bits.specs.HeldBits.{HoldsBits}
 
 plain-there : (o : Option Part) → IsSomeAnd o (λ part. is_packed part.kind part.flags ≡ false)

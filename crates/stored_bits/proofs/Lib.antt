@@ -11,3 +11,5 @@ mod HeldWrites
 pub mod DeviceKept
 mod HeldStill
 mod GivenRuns
+mod TakenHeld
+pub mod FreeRuns

@@ -1,5 +1,5 @@
--- THE FLAGS OF A RANGE CLEARED in the bytes that hold them, and these written over those of the bitmap.
-use Rattle.std.proofs.Common.{◌≡◌, ◌+◌, ◌-◌, ◌*◌, ◌/◌, ◌%◌, ◌<◌, ◌≤◌, ℕ, List, drop, get_or, length, take, refl, sym, ap, inl, inr, ◌++◌}
+-- THE FLAGS OF A RANGE SET OR CLEARED in the bytes that hold them, and these written over those of the bitmap.
+use Rattle.std.proofs.Common.{◌≡◌, ◌+◌, ◌-◌, ◌*◌, ◌/◌, ◌%◌, ◌<◌, ◌≤◌, ℕ, Bool, List, drop, get_or, length, take, refl, sym, ap, inl, inr, ◌++◌}
 use Rattle.std.proofs.Common.{◌∙◌, arith}
 use Rattle.std.specs.Int.{bit_at}
 use Rattle.std.specs.Prelude.{◌⊎◌, [], IsTrue, filter, slice_index, slice_range}
@@ -18,8 +18,9 @@ use Rattle.ntfs_def.specs.declared.kinds.TheConstants.{DATA}
 use Rattle.ntfs_def.specs.declared.records.TheConstants.{CLUSTER_BITMAP}
 use Rattle.volume_def.specs.Files.{is_of, parts}
 use Rattle.volume_edits.specs.Clusters.{WritesStream, with_bytes}
+use Rattle.cluster_bitmap.specs.Words.{bit_for}
 use Rattle.volume_edits.proofs.StreamClusters.{records-written, value-written}
-use Rattle.stored_bits.specs.Cleared.{ClearsFlags, HasOwnBits}
+use Rattle.stored_bits.specs.PutFlags.{HasOwnBits, PutsFlags}
 use Rattle.stored_bits.proofs.BitsStream.{bits-attribute, bits-first, within}
 
 -- Bytes put in place of others of a list
@@ -49,10 +50,10 @@ module _ (value : List ℕ) (from : ℕ) (bytes : List ℕ) (fits : from + lengt
       ∙ get_or-drop (from + length bytes) value (i - from - length bytes) 0
       ∙ ap (slice_index value) back
 
--- THE BITS of a list in which the flags of a range were cleared in the bytes that hold them
-module _ (value was bytes : List ℕ) (at len : ℕ) (some : 0 < len) (long : length was ≡ (at + (len - 1)) / 8 - at / 8 + 1)
+-- THE BITS of a list in which the flags of a range were put to one bit in the bytes that hold them
+module _ (bit : ℕ) (value was bytes : List ℕ) (at len : ℕ) (some : 0 < len) (long : length was ≡ (at + (len - 1)) / 8 - at / 8 + 1)
     (fits : at / 8 + length was ≤ length value) (read : was ≡ slice_range value (at / 8) (at / 8 + length was))
-    (same : length bytes ≡ length was) (given : (k : ℕ) → at % 8 ≤ k → k < at % 8 + len → bit_in bytes k ≡ 0)
+    (same : length bytes ≡ length was) (here : (k : ℕ) → at % 8 ≤ k → k < at % 8 + len → bit_in bytes k ≡ bit)
     (others : (k : ℕ) → (k < at % 8) ⊎ (at % 8 + len ≤ k) → bit_in bytes k ≡ bit_in was k) where
   abbrev put : List ℕ
   put = with_bytes value (at / 8) bytes
@@ -66,10 +67,10 @@ module _ (value was bytes : List ℕ) (at len : ℕ) (some : 0 < len) (long : le
   bit-here : (c : ℕ) → 8 * (at / 8) ≤ c → c < 8 * (at / 8 + length bytes) → bit_in put c ≡ bit_in bytes (c - 8 * (at / 8))
   bit-here c low high = sym (piece-bit put bytes (at / 8) c (put-here value (at / 8) bytes within-value) low high)
 
-  pub bit-given : (c : ℕ) → at ≤ c → c < at + len → bit_in put c ≡ 0
-  bit-given c low high =
+  pub bit-inside : (c : ℕ) → at ≤ c → c < at + len → bit_in put c ≡ bit
+  bit-inside c low high =
       bit-here c (omega (arith, low)) (omega (arith, high, long, same, some))
-      ∙ given (c - 8 * (at / 8)) (omega (arith, low)) (omega (arith, low, high))
+      ∙ here (c - 8 * (at / 8)) (omega (arith, low)) (omega (arith, low, high))
 
   pub bit-other : (c : ℕ) → (c < at) ⊎ (at + len ≤ c) → bit_in put c ≡ bit_in value c
   bit-other c beside = elim (cases_lt c (8 * (at / 8))) [
@@ -93,13 +94,13 @@ module _ (value was bytes : List ℕ) (at len : ℕ) (some : 0 < len) (long : le
       outside c low (inr above) = inr (omega (arith, low, above))
 
 -- AND WRITTEN over those of the bitmap
-pub flags-cleared : (old new : VolumeView) (h : HasOwnBits old) (at len : ℕ) (was bytes : List ℕ) → IsTrue old.told → 0 < len
+pub flags-put : (flag : Bool) (old new : VolumeView) (h : HasOwnBits old) (at len : ℕ) (was bytes : List ℕ) → IsTrue old.told → 0 < len
     → at + len ≤ old.layout.clusters → length was ≡ (at + (len - 1)) / 8 - at / 8 + 1
     → was ≡ slice_range (value_on old (cluster_bits old)) (at / 8) (at / 8 + length was) → length bytes ≡ length was
-    → ((k : ℕ) → at % 8 ≤ k → k < at % 8 + len → bit_in bytes k ≡ 0)
+    → ((k : ℕ) → at % 8 ≤ k → k < at % 8 + len → bit_in bytes k ≡ bit_for flag)
     → ((k : ℕ) → (k < at % 8) ⊎ (at % 8 + len ≤ k) → bit_in bytes k ≡ bit_in was k)
-    → WritesStream old new (spot_at (cluster_bits old)) (at / 8) bytes → ClearsFlags old new at len
-flags-cleared old new h at len was bytes told some inside long read same given others w =
+    → WritesStream old new (spot_at (cluster_bits old)) (at / 8) bytes → PutsFlags flag old new at len
+flags-put flag old new h at len was bytes told some inside long read same here others w =
     let written = h.written in
     let real = within old h in
     let below : at / 8 + length bytes ≤ h.extent.sizes.initialized = omega (arith, written, inside, long, same, some) in
@@ -114,10 +115,10 @@ flags-cleared old new h at len was bytes told some inside long read same given o
     record {
       bytes = bytes;
       writes = w;
-      given = λ c low high.
+      here = λ c low high.
           ap (λ xs. bit_in xs c) value
-          ∙ bit-given (value_on old (cluster_bits old)) was bytes at len some long fits read same given others c low high;
+          ∙ bit-inside (bit_for flag) (value_on old (cluster_bits old)) was bytes at len some long fits read same here others c low high;
       others = λ c beside.
           ap (λ xs. bit_in xs c) value
-          ∙ bit-other (value_on old (cluster_bits old)) was bytes at len some long fits read same given others c beside;
+          ∙ bit-other (bit_for flag) (value_on old (cluster_bits old)) was bytes at len some long fits read same here others c beside;
     }

@@ -1,4 +1,4 @@
--- WHAT IS KEPT where clusters were given back, in memory too.
+-- WHAT IS KEPT where clusters were given back or taken, in memory too.
 use Rattle.std.specs.Prelude.{◌≡◌, ℕ, Bool, List, Contains}
 use Rattle.vol_disk.specs.declared.Disk.{Ghosts}
 use Rattle.vol_stage.specs.Staged.{GoesOn, disk_of}

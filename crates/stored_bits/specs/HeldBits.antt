@@ -1,4 +1,4 @@
--- THE BITMAP OF CLUSTERS AS IT IS HELD, while flags in it are cleared, and what stands meanwhile.
+-- THE BITMAP OF CLUSTERS AS IT IS HELD, while flags in it are set or cleared, and what stands meanwhile.
 use Rattle.std.specs.Prelude.{◌≡◌, ◌⊎◌, ℕ, Contains, List, Some, slice_get}
 use Rattle.vol_disk.specs.declared.Disk.{Ghosts}
 use Rattle.vol_stage.specs.Staged.{places}
@@ -16,7 +16,7 @@ use Rattle.mft_table.specs.Mft.{stage_of, view}
 use Rattle.file_record.specs.declared.parts.FileParts.{FileParts}
 use Rattle.file_record.specs.Held.{AreParts, file_number, parts_held}
 use Rattle.sparse_io.specs.declared.find.FoundStream.{FoundStream}
-use Rattle.stored_bits.specs.Cleared.{HasOwnBits}
+use Rattle.stored_bits.specs.PutFlags.{HasOwnBits}
 use Rattle.stored_bits.specs.Given.{IsOfBits}
 
 -- The file of the bitmap is held as the volume has it, and its stream as it is found; the table of case that is kept is the volume's.

@@ -1,3 +1,4 @@
 pub mod Given
-pub mod Cleared
+pub mod PutFlags
 pub mod HeldBits
+pub mod Taken

@@ -1,133 +1,26 @@
 //! Clusters given back.
-ghost use Rattle.std.specs.Prelude.{◌≡◌, ◌⊎◌, ◌∷◌, [], ◌+◌, ◌-◌, ◌*◌, ◌/◌, ◌<◌, ◌≤◌, ◌^◌, ℕ, Contains, IfErr, IsTrue, List, MatchResult, OnOk, Some, false, length, sum_by, true};
+ghost use Rattle.std.specs.Prelude.{◌≡◌, ◌⊎◌, ◌∷◌, [], ◌+◌, ◌*◌, ◌<◌, ◌≤◌, ℕ, Contains, IfErr, IsTrue, List, MatchResult, OnOk, Some, false, length, sum_by, true};
 ghost use Rattle.vol_stage.specs.Staged.{places};
 ghost use Rattle.volume_edits.specs.Owners.{HasOwners};
 ghost use Rattle.cluster_bitmap.specs.Flags.{IsTaken};
 ghost use Rattle.mft_table.specs.HeldTables.{AreStored};
 ghost use Rattle.mft_table.specs.InUse.{IsInUse};
-ghost use Rattle.mft_table.specs.Mft.{KeepsDisk, MftReads, faults_of, is_mft_broken, mounted_of, stage_of, view};
+ghost use Rattle.mft_table.specs.Mft.{MftReads, faults_of, is_mft_broken, mounted_of, stage_of, view};
 ghost use Rattle.file_record.specs.FileNos.{CountsNo, IsReadNo};
 ghost use Rattle.file_record.specs.Held.{parts_held};
 ghost use Rattle.tree_model.specs.Ways.{has_placed_bits};
 ghost use Rattle.edit_def.specs.Purses.{run_size};
 ghost use Rattle.record_edits.specs.Given.{AreOwned, GivesBack};
-ghost use Rattle.stored_bits.specs.Cleared.{ClearsFlags};
 ghost use Rattle.stored_bits.specs.Given.{IsOfBits, KeepsDevice};
 ghost use Rattle.stored_bits.specs.HeldBits.{HoldsBits, ShowsStored, StagesBits, StaysHeld};
 
-use crate::flags::{are_taken, clear_flags};
 use crate::held::{HeldBits, hold_bits};
-use attr_store::{Stored, read_stored};
+use crate::range::put_range;
 use data_runs::Run;
 use file_record::FileNo;
 use mft_table::Mft;
-use sparse_io::overwrite;
 use std::alloc::Global;
 use vol_disk::Disk;
-
-// Clears the flags of so many clusters from one on in the stored bitmap, of which the sectors that hold them are staged. So many bytes are
-// lent as hold the flags.
-fn clear_in<D: Disk>(
-    alloc: Global,
-    mft: &mut Mft<'_, D>,
-    bits: &HeldBits,
-    at: u64,
-    len: u64,
-    bytes: &mut [u8],
-) -> Result<(), FileNo>
-    requires part { bits.now.found.part < length (parts_held bits.now.file) }
-    requires some { 0 < len }
-    requires fits { at + len < 2 ^ 64 }
-    requires whole { length bytes.old ≡ (at + (len - 1)) / 8 - at / 8 + 1 }
-    requires sound { is_mft_broken D.Disk mft.old ≡ false }
-    ensures cleared { OnOk result (IsTrue (view D.Disk mft.old).told → (table : List ℕ)
-        → HoldsBits (view D.Disk mft.old) table bits.now.file bits.now.found → at + len ≤ (view D.Disk mft.old).layout.clusters
-        → ClearsFlags (view D.Disk mft.old) (view D.Disk mft.new) at len) }
-    ensures places { IsTrue (view D.Disk mft.old).told → (table : List ℕ)
-        → HoldsBits (view D.Disk mft.old) table bits.now.file bits.now.found
-        → (sector : ℕ) → Contains (places D.Disk (stage_of D.Disk mft.new)) sector
-        → Contains (places D.Disk (stage_of D.Disk mft.old)) sector ⊎ IsOfBits (view D.Disk mft.old) sector }
-    ensures few { length (places D.Disk (stage_of D.Disk mft.new)) ≤ length (places D.Disk (stage_of D.Disk mft.old)) + 2 * len }
-    ensures disk { KeepsDisk D.Disk mft.old mft.new }
-    ensures err { IfErr result IsReadNo }
-    ensures faults { MatchResult result (λ _. faults_of D.Disk mft.new ≡ faults_of D.Disk mft.old)
-        (CountsNo (faults_of D.Disk mft.old) (faults_of D.Disk mft.new)) }
-{
-    let stored = Stored {
-        part: bits.found.part,
-        len: bits.found.size,
-    };
-    read_stored(alloc, mft, &bits.file, &stored, at / 8, bytes)?;
-    clear_flags(bytes, (at % 8) as usize, len as usize);
-    overwrite(alloc, mft, &bits.file, &bits.found, at / 8, bytes)
-}
-
-// The same, where no bytes are lent.
-fn clear_stored<D: Disk>(
-    alloc: Global,
-    mft: &mut Mft<'_, D>,
-    bits: &HeldBits,
-    at: u64,
-    len: u64,
-) -> Result<(), FileNo>
-    requires part { bits.now.found.part < length (parts_held bits.now.file) }
-    requires some { 0 < len }
-    requires fits { at + len < 2 ^ 64 }
-    requires sound { is_mft_broken D.Disk mft.old ≡ false }
-    ensures cleared { OnOk result (IsTrue (view D.Disk mft.old).told → (table : List ℕ)
-        → HoldsBits (view D.Disk mft.old) table bits.now.file bits.now.found → at + len ≤ (view D.Disk mft.old).layout.clusters
-        → ClearsFlags (view D.Disk mft.old) (view D.Disk mft.new) at len) }
-    ensures places { IsTrue (view D.Disk mft.old).told → (table : List ℕ)
-        → HoldsBits (view D.Disk mft.old) table bits.now.file bits.now.found
-        → (sector : ℕ) → Contains (places D.Disk (stage_of D.Disk mft.new)) sector
-        → Contains (places D.Disk (stage_of D.Disk mft.old)) sector ⊎ IsOfBits (view D.Disk mft.old) sector }
-    ensures few { length (places D.Disk (stage_of D.Disk mft.new)) ≤ length (places D.Disk (stage_of D.Disk mft.old)) + 2 * len }
-    ensures disk { KeepsDisk D.Disk mft.old mft.new }
-    ensures err { IfErr result IsReadNo }
-    ensures faults { MatchResult result (λ _. faults_of D.Disk mft.new ≡ faults_of D.Disk mft.old)
-        (CountsNo (faults_of D.Disk mft.old) (faults_of D.Disk mft.new)) }
-{
-    let count = (at + (len - 1)) / 8 - at / 8 + 1;
-    let mut bytes = vec![in alloc; 0; count as usize]?;
-    clear_in(alloc, mft, bits, at, len, &mut bytes)
-}
-
-// Gives the clusters of a range back, in memory and in the stored bitmap; where the flags in memory tell that one of them is not
-// taken, nothing is done.
-fn give_range<D: Disk>(
-    alloc: Global,
-    mft: &mut Mft<'_, D>,
-    bits: &HeldBits,
-    at: u64,
-    len: u64,
-) -> Result<(), FileNo>
-    requires part { bits.now.found.part < length (parts_held bits.now.file) }
-    requires some { 0 < len }
-    requires sound { is_mft_broken D.Disk mft.old ≡ false }
-    ensures given { OnOk result (IsTrue (view D.Disk mft.old).told
-        → HoldsBits (view D.Disk mft.old) (mounted_of D.Disk mft.old).upcase bits.now.file bits.now.found
-        → ShowsStored (view D.Disk mft.old) (mounted_of D.Disk mft.old) → IsTaken (mounted_of D.Disk mft.old).clusters at len
-        → ClearsFlags (view D.Disk mft.old) (view D.Disk mft.new) at len × ShowsStored (view D.Disk mft.new) (mounted_of D.Disk mft.new)) }
-    ensures stays { OnOk result (IsTrue (view D.Disk mft.old).told
-        → HoldsBits (view D.Disk mft.old) (mounted_of D.Disk mft.old).upcase bits.now.file bits.now.found
-        → StaysHeld (view D.Disk mft.old) (view D.Disk mft.new) (mounted_of D.Disk mft.new).upcase bits.now.file bits.now.found) }
-    ensures places { IsTrue (view D.Disk mft.old).told → (table : List ℕ)
-        → HoldsBits (view D.Disk mft.old) table bits.now.file bits.now.found → StagesBits D.Disk (view D.Disk mft.old) mft.old mft.new }
-    ensures few { length (places D.Disk (stage_of D.Disk mft.new)) ≤ length (places D.Disk (stage_of D.Disk mft.old)) + 2 * len }
-    ensures device { KeepsDevice D.Disk mft.old mft.new }
-    ensures err { IfErr result IsReadNo }
-    ensures faults { MatchResult result (λ _. faults_of D.Disk mft.new ≡ faults_of D.Disk mft.old)
-        (CountsNo (faults_of D.Disk mft.old) (faults_of D.Disk mft.new)) }
-{
-    if !are_taken(&mft.mounted().clusters, at, len) {
-        return Ok(());
-    }
-    clear_stored(alloc, mft, bits, at, len)?;
-    match mft.give_clusters(at, len) {
-        Ok(()) => Ok(()),
-        Err(_) => Err(FileNo::Memory),
-    }
-}
 
 // Gives the clusters of a run back, as far as it has any.
 fn give_run<D: Disk>(
@@ -162,7 +55,7 @@ fn give_run<D: Disk>(
     if run.len == 0 {
         return Ok(());
     }
-    give_range(alloc, mft, bits, at, run.len)
+    put_range(alloc, mft, bits, at, run.len, false)
 }
 
 // Gives the clusters of runs back, one run behind the other.

@@ -11,8 +11,8 @@ pub returns-then-run-eq0-clause-device : goal.returns-then-run-eq0-clause-device
 returns-then-run-eq0-clause-device g c = device-same g.D.Disk c.args.mft.now
 
 pub returns-clause-given : goal.returns-clause-given
-returns-clause-given g c = on_ok_weaker c.give_range.result (λ given told h stored taken.
+returns-clause-given g c = on_ok_weaker c.put_range.result (λ given told h stored taken.
     let its = given told h stored (taken c.in-Some.at c.in-Some.is) in (
-      gives-one (view g.D.Disk c.args.mft.now) (view g.D.Disk c.give_range.new.mft) h.can c.in-Some.at c.args.run c.in-Some.is its.0,
+      gives-one (view g.D.Disk c.args.mft.now) (view g.D.Disk c.put_range.new.mft) h.can c.in-Some.at c.args.run c.in-Some.is its.0,
       its.1,
-    )) c.give_range.ensures.given
+    )) c.put_range.ensures.put

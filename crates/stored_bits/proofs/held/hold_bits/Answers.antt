@@ -1,4 +1,4 @@
-use Rattle.std.proofs.Common.{◌≤◌, arith, length, sym, ap, ◌∙◌}
+use Rattle.std.proofs.Common.{arith, length, sym, ap, ◌∙◌}
 use Rattle.std.specs.Prelude.{is_some}
 use Rattle.std.proofs.lemmas.Option.{slice_get_within}
 use Rattle.vol_stage.specs.Staged.{disk_of}
