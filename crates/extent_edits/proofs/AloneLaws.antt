@@ -37,6 +37,10 @@ module _ (block : List ℕ) (at : ℕ) (whole : IsWhole block at) (inside : at +
   unfolding attribute_at
   bytes-at = refl
 
+  -- it has as many bytes as it says
+  pub length-attribute : length (attribute_at block at).bytes ≡ len
+  length-attribute = ap length bytes-at ∙ length-alone
+
   -- it is one
   pub one-alone : IsOneAttribute (attribute_at block at).bytes
   one-alone = subst IsOneAttribute (sym bytes-at) (record {

@@ -31,7 +31,7 @@ text-inside old runs one extent means =
     let order = one.whole.content_order (omega (arith, inside, begins, ends, one.len)) in
     (omega (arith, order, begins, header-extent old 0 extent), inside)
 
-header-some : (more : Bool) → 64 ≤ extent_header_len more
+pub header-some : (more : Bool) → 64 ≤ extent_header_len more
 header-some true = omega arith
 header-some false = omega arith
 
@@ -46,7 +46,7 @@ stored-few runs count all cut =
     size-few run = grind (arith, common_steps)
 
 -- lists that are alike from one place on
-drop-same : (a b : List ℕ) (from : ℕ) → length b ≡ length a → ((k : ℕ) → from ≤ k → slice_index b k ≡ slice_index a k)
+pub drop-same : (a b : List ℕ) (from : ℕ) → length b ≡ length a → ((k : ℕ) → from ≤ k → slice_index b k ≡ slice_index a k)
     → drop from b ≡ drop from a
 drop-same a b from long same =
     same_number_lists (drop from b) (drop from a) (omega (arith, long, length-drop from a, length-drop from b))

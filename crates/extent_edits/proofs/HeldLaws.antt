@@ -1,5 +1,5 @@
 -- A record that is held, and attribute i of it that was cut: what the volume has.
-use Rattle.std.proofs.Common.{◌≡◌, ◌+◌, ◌-◌, ◌*◌, ◌^◌, ◌<◌, ◌≤◌, ℕ, true, false, List, Option, Some, None, drop, get_or, length, slice_get, refl, sym, ap, subst, ◌∙◌, arith, length-take, length-drop}
+use Rattle.std.proofs.Common.{◌≡◌, ◌+◌, ◌*◌, ◌^◌, ◌<◌, ◌≤◌, ℕ, true, false, List, Option, Some, None, get_or, length, slice_get, refl, sym, ap, subst, ◌∙◌, arith}
 use Rattle.std.specs.Prelude.{IfNone, IsSomeAnd}
 use Rattle.std.proofs.lemmas.Grind.{common_steps}
 use Rattle.std.proofs.lemmas.Option.{slice_get-get_or, slice_get_read, slice_get_within}
@@ -28,6 +28,7 @@ use Rattle.file_record.specs.Records.{IsRecordOf}
 use Rattle.file_record.specs.Written.{IsWholeFile}
 use Rattle.extent_edits.specs.Bytes.{CutsAttribute}
 use Rattle.extent_edits.specs.Cut.{CanBeCut, CutsExtent, CutsWhereItCan}
+use Rattle.extent_edits.proofs.AloneLaws.{length-attribute}
 
 -- what is none tells less
 pub none-weaker : {A P Q : Type 0} (o : Option A) → (P → Q) → IfNone o P → IfNone o Q
@@ -58,26 +59,21 @@ pub held-attribute : (one : Held) (i : ℕ) → i < length (attributes one.block
 held-attribute one i lt =
     slice_get-attributes one.block one.count i one.shape (omega (arith, lt, length-attributes one.block one.count one.shape))
 
--- it is as long as its bytes
+-- it has as many bytes as it says
+pub held-length : (one : Held) (i : ℕ) → i < length (attributes one.block)
+    → length (attribute_in one.block i).bytes ≡ attribute_len one.block (attribute_place one.block i)
+held-length one i lt =
+    let attribute = one.shape.each i (omega (arith, lt, length-attributes one.block one.count one.shape)) in
+    let used = header_failing-used one.block one.shape.header in
+    length-attribute one.block (attribute_place one.block i) attribute.whole
+    (omega (arith, attribute.below_used, used, header_failing-length one.block one.shape.header))
+
+-- one that is as long fits
 pub held-fits : (one : Held) (i bytes size : ℕ) (new : List ℕ) → i < length (attributes one.block)
     → CutsAttribute bytes size (attribute_in one.block i) new
     → used_size one.block + length new ≤ 1024 + attribute_len one.block (attribute_place one.block i)
-unfolding attribute_at
 held-fits one i bytes size new lt cuts =
-    let at = attribute_place one.block i in
-    let inside = (one.shape.each i (omega (arith, lt, length-attributes one.block one.count one.shape))).below_used in
-    let used = header_failing-used one.block one.shape.header in
-    let all = header_failing-length one.block one.shape.header in
-    omega (
-      arith,
-      cuts.len,
-      used,
-      all,
-      inside,
-      length-take
-          (at + attribute_len one.block at - (at + 0)) (drop (at + 0) one.block),
-      length-drop (at + 0) one.block,
-    )
+    omega (arith, cuts.len, held-length one i lt, header_failing-used one.block one.shape.header)
 
 -- THE VOLUME has the record that is held.
 module _ (old : VolumeView) (file : FileParts) (place i : ℕ) (one : Held) (is : slice_get (held_of file) place ≡ Some one)
@@ -88,10 +84,10 @@ module _ (old : VolumeView) (file : FileParts) (place i : ℕ) (one : Held) (is 
   one-is : get_or (held_of file) place one ≡ one
   one-is = some_same (sym (slice_get-get_or (held_of file) place one inside) ∙ is)
 
-  current : IsCurrentRecord old one
+  pub current : IsCurrentRecord old one
   current = subst (IsCurrentRecord old) one-is (whole.parts.current place one inside)
 
-  own : IsRecordOf old (file_number file) one.number
+  pub own : IsRecordOf old (file_number file) one.number
   own = subst (λ held. IsRecordOf old (file_number file) held.number) one-is (whole.own place one inside)
 
   list : attributes one.block ≡ attributes (opened_record old one.number)
@@ -119,13 +115,13 @@ module _ (old : VolumeView) (file : FileParts) (place i : ℕ) (one : Held) (is 
         header = record {
           next = next_id_after (header_of (opened_record old one.number)).next_id (attribute_id bytes 0);
           is = replaces.header_is;
-          rises = rises (header_of (opened_record old one.number)).next_id (attribute_id bytes 0) cuts.small;
+          rises = rises (header_of (opened_record old one.number)).next_id (attribute_id bytes 0) cuts.keeps.small;
         };
-        kind = cuts'.kind;
-        name = cuts'.name;
-        id = cuts'.id;
-        flags = cuts'.flags;
-        form = cuts'.form;
+        kind = cuts'.keeps.kind;
+        name = cuts'.keeps.name;
+        id = cuts'.keeps.id;
+        flags = cuts'.keeps.flags;
+        form = cuts'.keeps.form;
         cut = cuts'.cut;
       }
 

@@ -6,3 +6,6 @@ pub mod EditLaws
 pub mod AloneLaws
 pub mod BytesLaws
 pub mod HeldLaws
+pub mod LongerText
+pub mod LongerBytes
+pub mod LongerHeld

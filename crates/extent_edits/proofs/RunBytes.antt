@@ -1,9 +1,9 @@
 -- The first run of a text by its bytes: a text with the same first byte and the same offset begins with the same run, or with fewer
 -- clusters of it.
-use Rattle.std.proofs.Common.{◌≡◌, ℕ, zero, suc, ◌+◌, ◌/◌, ◌%◌, ◌^◌, ◌<◌, ◌≤◌, ◌==◌, true, List, ◌++◌, length, take, drop, Option, Some, None, ℤ, pos, ◌+ℤ◌, cond, refl, sym, ap, ◌∙◌, arith, append_assoc, get_or-drop, get_or-take}
+use Rattle.std.proofs.Common.{◌≡◌, ℕ, zero, suc, ◌+◌, ◌/◌, ◌%◌, ◌^◌, ◌<◌, ◌≤◌, ◌==◌, nat_lt, true, false, List, ◌++◌, length, take, drop, Option, Some, None, ℤ, pos, ◌+ℤ◌, cond, refl, sym, ap, ◌∙◌, arith, append_assoc, get_or-drop, get_or-take}
 use Rattle.std.specs.Prelude.{slice_index}
 use Rattle.std.specs.Option.{option_map}
-use Rattle.std.proofs.lemmas.Bool.{le-leb, leb-true}
+use Rattle.std.proofs.lemmas.Bool.{and_right, le-leb, leb-true, lt-ltb}
 use Rattle.std.proofs.lemmas.List.{drop-drop, drop_at, length-take-le}
 use Rattle.std.proofs.lemmas.Slice.{take-put_mid_below}
 use borrow.Rule.Slice.PartMut.{post_of, put_mid}
@@ -60,7 +60,7 @@ unfolding rule_broken
 rule_broken-kept text last total narrow short whole some above in_reach bounded = grind (arith, common_steps)
 
 -- THE RUN WITH FEWER CLUSTERS, or with all of them
-pub BeginsWith-fewer : (text new : List ℕ) (last total n : ℕ) (run : Run) → BeginsWith text last total run → length new ≡ length text
+pub BeginsWith-fewer : (text new : List ℕ) (last total n : ℕ) (run : Run) → BeginsWith text last total run → length text ≤ length new
     → slice_index new 0 ≡ slice_index text 0 → run_length new ≡ n → 0 < n → n ≤ run.len
     → ((k : ℕ) → 1 + length_width text ≤ k → k < run_width text → slice_index new k ≡ slice_index text k)
     → BeginsWith new last total (record { len = n; lcn = run.lcn })
@@ -77,8 +77,10 @@ BeginsWith-fewer text new last total n run first long head number some fewer off
     let whole = keeps.whole in
     let bounded = keeps.bounded in
     let len = first.len in
+    let some_bytes : nat_lt 0 (length text) ≡ true = lt-ltb 0 (length text) (omega arith) in
+    let no_end : (slice_index text 0 == 0) ≡ false = rw some_bytes at first.goes_on in
     record {
-      goes_on = rw (long, head) first.goes_on;
+      goes_on = and_right (nat_lt 0 (length new)) (slice_index new 0 == 0) (ap (λ (h : ℕ). h == 0) head ∙ no_end);
       good = rule_broken-kept new last total (omega arith) (omega arith) (omega arith) (omega arith)
           (ap is_not_below_zero is ∙ keeps.not_below_zero) fits (omega arith);
       len = sym number;
@@ -86,7 +88,7 @@ BeginsWith-fewer text new last total n run first long head number some fewer off
     }
 
 -- a text with the bytes of a run begins with it
-pub BeginsWith-same : (text new : List ℕ) (last total : ℕ) (run : Run) → BeginsWith text last total run → length new ≡ length text
+pub BeginsWith-same : (text new : List ℕ) (last total : ℕ) (run : Run) → BeginsWith text last total run → length text ≤ length new
     → ((k : ℕ) → k < run_width text → slice_index new k ≡ slice_index text k)
     → BeginsWith new last total run
 BeginsWith-same text new last total run first long same =

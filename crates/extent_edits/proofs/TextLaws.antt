@@ -3,13 +3,14 @@ use Rattle.std.proofs.Common.{◌≡◌, ℕ, ◌+◌, ◌/◌, ◌%◌, ◌<◌
 use Rattle.std.specs.Prelude.{slice_index}
 use Rattle.std.proofs.lemmas.Grind.{common_steps}
 use Rattle.std.proofs.lemmas.List.{append-nil, drop-drop, drop_more, take_more}
+use Rattle.std.proofs.lemmas.List.Sums.{sum_by_push}
 use Rattle.byteorder.specs.Endian.{little_number}
 use Rattle.vol_bytes.specs.Field.{SameOutside}
 use Rattle.ntfs_def.specs.declared.run_text.Run.{Run}
-use Rattle.ntfs_def.specs.Runs.{BeginsWith, MeansFrom, MeansRuns, clusters_of, is_ended, length_width, place_after, run_length, run_width}
+use Rattle.ntfs_def.specs.Runs.{BeginsWith, MeansFrom, MeansRuns, clusters_of, is_ended, length_width, place_after, run_length, run_width, total_clusters}
 use Rattle.ntfs_def.proofs.RunLaws.{rule_broken-none}
 use Rattle.data_runs.proofs.SplitLaws.{cut-whole, cut-within}
-use Rattle.extent_edits.specs.Texts.{ClearsFrom, CutsText, SpellsFirst}
+use Rattle.extent_edits.specs.Texts.{ClearsFrom, CutsText, SpellsFirst, last_of}
 use Rattle.extent_edits.proofs.RunBytes.{BeginsWith-fewer, BeginsWith-same, little_number-same}
 
 -- a text that means runs is not empty
@@ -24,11 +25,18 @@ ended-zero : (text : List ℕ) → 0 < length text → slice_index text 0 ≡ 0 
 ended-zero [] some zero = absurd (omega arith)
 ended-zero (b ∷ text) some zero = grind (arith, common_steps)
 
+-- the last place behind a run more
+last_of-push : (last : ℕ) (runs : List Run) (run : Run) → last_of last (runs ++ run ∷ []) ≡ place_after (last_of last runs) run
+last_of-push last [] run = refl
+last_of-push last (x ∷ xs) run = last_of-push (place_after last x) xs run
+
 -- no run is spelled by no byte
 pub SpellsFirst-none : (text : List ℕ) (runs : List Run) → MeansRuns text runs → SpellsFirst text runs 0 0
 SpellsFirst-none text runs means = record {
   last = 0;
   total = 0;
+  place = refl;
+  clusters = refl;
   inside = omega arith;
   rest = means;
   front = λ new more long same rest. rest;
@@ -62,10 +70,10 @@ module _ (text : List ℕ) (runs : List Run) (at whole : ℕ) (d : Run) (s : Spe
   index-at : (new : List ℕ) (k : ℕ) → slice_index (drop at new) k ≡ slice_index new (at + k)
   index-at new k = get_or-drop at new k 0
 
-  long-at : (new : List ℕ) → length new ≡ length text → length (drop at new) ≡ length (drop at text)
+  long-at : (new : List ℕ) → length text ≤ length new → length (drop at text) ≤ length (drop at new)
   long-at new long = omega (arith, long, length-drop at new, length-drop at text)
 
-  front-next : (new : List ℕ) (more : List Run) → length new ≡ length text
+  front-next : (new : List ℕ) (more : List Run) → length text ≤ length new
       → ((k : ℕ) → k < at + width → slice_index new k ≡ slice_index text k)
       → MeansFrom (drop (at + width) new) (place_after s.last run) (s.total + run.len) more
       → MeansRuns new (take (whole + 1) runs ++ more)
@@ -84,6 +92,12 @@ module _ (text : List ℕ) (runs : List Run) (at whole : ℕ) (d : Run) (s : Spe
   SpellsFirst-next = record {
     last = place_after s.last run;
     total = s.total + run.len;
+    place =
+        ap (λ (l : ℕ). place_after l run) s.place
+        ∙ sym (ap (last_of 0) (take_more runs whole d lt) ∙ last_of-push 0 (take whole runs) run);
+    clusters =
+        ap (λ (n : ℕ). n + run.len) s.clusters
+        ∙ sym (ap total_clusters (take_more runs whole d lt) ∙ sum_by_push (λ (r : Run). r.len) (take whole runs) run);
     inside = omega (arith, next-inside);
     rest = next-rest;
     front = front-next;
@@ -118,8 +132,8 @@ module _ (text : List ℕ) (runs : List Run) (at whole : ℕ) (d : Run) (s : Spe
       ∙ sym (index-at text k) in
       let fields : run_length (drop at new) ≡ run_length (drop at mid) =
       length-same mid new (index-at mid 0 ∙ outside.below (at + 0) (omega arith) ∙ sym (index-at text 0)) clears.before in
-      let begins = BeginsWith-fewer (drop at text) (drop at new) s.last s.total left run next-begins (long-at new long) head
-      (fields ∙ number) some (omega (arith, less)) offset in
+      let begins = BeginsWith-fewer (drop at text) (drop at new) s.last s.total left run next-begins (long-at new (omega (arith, long)))
+      head (fields ∙ number) some (omega (arith, less)) offset in
       let some_left : 0 < length (drop (at + width) new) = omega (arith, inside, long, length-drop (at + width) new) in
       let zero : slice_index (drop (at + width) new) 0 ≡ 0 = get_or-drop (at + width) new 0 0
       ∙ clears.zeros (at + width + 0) (omega arith) in
@@ -128,7 +142,7 @@ module _ (text : List ℕ) (runs : List Run) (at whole : ℕ) (d : Run) (s : Spe
       record {
         kept = take whole runs ++ one ∷ [];
         len = long;
-        means = s.front new (one ∷ []) long (λ k low. below k (omega (arith, low))) (begins, ended);
+        means = s.front new (one ∷ []) (omega (arith, long)) (λ k low. below k (omega (arith, low))) (begins, ended);
         clusters = cut-within runs whole left count d lt less cut;
       }
 
@@ -140,7 +154,8 @@ CutsText-whole text new runs count at whole s cut clears =
     let some = MeansFrom-some (drop at text) s.last s.total (drop whole runs) s.rest in
     let some_left : 0 < length (drop at new) = omega (arith, some, clears.len, length-drop at text, length-drop at new) in
     let zero : slice_index (drop at new) 0 ≡ 0 = get_or-drop at new 0 0 ∙ clears.zeros (at + 0) (omega arith) in
-    let means : MeansRuns new (take whole runs ++ []) = s.front new [] clears.len clears.before (ended-zero (drop at new) some_left zero) in
+    let means : MeansRuns new (take whole runs ++ []) =
+    s.front new [] (omega (arith, clears.len)) clears.before (ended-zero (drop at new) some_left zero) in
     record {
       kept = take whole runs;
       len = clears.len;

@@ -1,4 +1,5 @@
 pub mod Cut
+pub mod Extended
 pub mod Texts
 pub mod Numbers
 pub mod Bytes

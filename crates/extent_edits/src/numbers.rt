@@ -1,16 +1,16 @@
-//! The numbers of an extent that is cut, and its header with them.
-ghost use Rattle.std.specs.Prelude.{◌≡◌, ◌+◌, ◌<◌, ◌≤◌, ◌^◌, IfNone, IfSome, OnOk, false, length, sum_by};
+//! The numbers of an extent that is cut, or goes on, and its header with them.
+ghost use Rattle.std.specs.Prelude.{◌≡◌, ◌+◌, ◌*◌, ◌<◌, ◌≤◌, ◌^◌, IfNone, IfSome, OnOk, false, length, sum_by};
 ghost use Rattle.ntfs_def.specs.Attribute.{has_compressed_len, is_compressed_or_sparse};
 ghost use Rattle.ntfs_def.specs.Rounded.{clusters_for};
 ghost use Rattle.ntfs_def.specs.Runs.{IsRunList, total_clusters};
 ghost use Rattle.volume_def.specs.ExtentsClause.{last_vcn_of};
 ghost use Rattle.edit_def.specs.Purses.{run_size};
-ghost use Rattle.extent_edits.specs.Numbers.{CanEnd, PutsNumbers, extent_header_len, sizes_at_end};
+ghost use Rattle.extent_edits.specs.Numbers.{CanEnd, CanHave, PutsHeader, PutsNumbers, extent_header_len, sizes_at_end, sizes_over};
 
 use attr_view::Sizes;
 use data_runs::Run;
 use ntfs_def::{SPARSE, attribute_header};
-use vol_bytes::{put_u64, u16_at, u64_at};
+use vol_bytes::{put_u32, put_u64, u16_at, u64_at};
 
 /// Where the first extent of a compressed or sparse stream has one number more: the bytes of the clusters that are no hole.
 const COMPRESSED: usize = 0x40;
@@ -53,6 +53,32 @@ pub fn sizes_at_end(sizes: &Sizes, total: u64, cluster: u64, size: u64) -> Optio
         initialized: sizes.initialized.min(size),
         first: 0,
         last: last_vcn_of(clusters),
+    })
+}
+
+/// The numbers of an extent of so many clusters, where a cluster has `cluster` bytes, with these two sizes. `None` exactly where it begins
+/// behind cluster 0, or its clusters have 2^64 bytes or more.
+pub fn sizes_over(
+    sizes: &Sizes,
+    total: u64,
+    cluster: u64,
+    real: u64,
+    initialized: u64,
+) -> Option<Sizes>
+    ensures some { IfSome result (λ now. now ≡ sizes_over total cluster real initialized) }
+    ensures can { IfSome result (λ now. CanHave sizes.now total cluster) }
+    ensures none { IfNone result (¬ (CanHave sizes.now total cluster)) }
+{
+    if sizes.first != 0 {
+        return None;
+    }
+    let allocated = total.checked_mul(cluster)?;
+    Some(Sizes {
+        allocated,
+        real,
+        initialized,
+        first: 0,
+        last: last_vcn_of(total),
     })
 }
 
@@ -106,4 +132,15 @@ pub fn put_numbers(bytes: &mut [u8], sizes: &Sizes, more: bool, stored: u64)
     if more {
         put_u64(bytes, COMPRESSED, stored);
     }
+}
+
+/// Writes the length of an extent and its numbers into its header, as `put_numbers` does.
+pub fn put_header(bytes: &mut [u8], sizes: &Sizes, more: bool, stored: u64)
+    requires inside { extent_header_len more ≤ length bytes.old }
+    requires few { length bytes.old < 2 ^ 32 }
+    ensures { PutsHeader bytes.old bytes.new sizes.now more stored }
+{
+    let len = bytes.len() as u32;
+    put_u32(bytes, attribute_header::LEN, len);
+    put_numbers(bytes, sizes, more, stored);
 }

@@ -15,8 +15,8 @@ fn length_width(text: &[u8], at: usize) -> usize
     (text[at] % 16) as usize
 }
 
-// The bytes of the run at `at`.
-fn run_width(text: &[u8], at: usize) -> usize
+/// The bytes of the run at `at`.
+pub fn run_width(text: &[u8], at: usize) -> usize
     requires { at < length text.now }
     ensures { result ≡ run_width (drop at text.now) }
 {
