@@ -1,12 +1,11 @@
--- WHAT IS LEFT ALONE where one stream was edited, in the base record of a file that is not the table of case: first clusters of it are given
--- back, and then its record is edited.
-use Rattle.std.proofs.Common.{◌≡◌, ◌≢◌, ◌<◌, ◌&&◌, not, is_some, if◌then◌else◌, ℕ, [], ◌∷◌, List}
+-- WHAT IS LEFT ALONE where one stream was edited, in the base record of a file that is not the table of case: first clusters are given back
+-- and taken, then bytes are put into its clusters, and then its record is edited.
+use Rattle.std.proofs.Common.{◌≡◌, ◌≢◌, ◌<◌, ◌&&◌, not, is_some, if◌then◌else◌, ℕ, Bool, false, [], ◌∷◌}
 use Rattle.std.proofs.Common.{inr, filter, refl, sym, ap, ◌∙◌, arith}
 use Rattle.std.specs.Option.{option_map_or, option_to_list}
 use Rattle.ntfs_def.specs.Flags.{is_packed}
 use Rattle.ntfs_def.specs.declared.kinds.TheConstants.{DATA}
 use Rattle.ntfs_def.specs.declared.records.TheConstants.{BOOT, LOG_FILE, MFT, ROOT, SECURE, VOLUME}
-use Rattle.ntfs_def.specs.declared.run_text.Run.{Run}
 use Rattle.volume_def.specs.Edits.{EditsAt}
 use Rattle.volume_def.specs.Files.{Part, Records, content_extent, is_of, parts, record_on, records_of}
 use Rattle.volume_def.specs.Sound.{IsSound}
@@ -14,16 +13,16 @@ use Rattle.volume_def.specs.Values.{first_part}
 use Rattle.volume_def.specs.View.{VolumeView}
 use Rattle.volume_def.proofs.RecordLaws.{parts-other}
 use Rattle.volume_edits.proofs.OwnerLaws.{lies-outside, owned-once}
-use Rattle.edit_def.specs.Kept.{Key, key_of}
-use Rattle.record_edits.specs.Given.{GivesBack}
-use Rattle.record_edits.specs.InPlace.{is_bits_key}
+use Rattle.edit_def.specs.Kept.{Key, key_of, same_key}
+use Rattle.record_edits.specs.InPlace.{WritesInPlace, is_bits_key}
 use Rattle.record_edits.specs.RecordEdit.{parts_made}
 use Rattle.record_edits.proofs.BlockEdits.{apart-from, attribute-stays, base-file, edit-of}
-use Rattle.record_edits.proofs.PlaceEdits.{clusters-kept, part-unnamed}
+use Rattle.record_edits.proofs.PlaceEdits.{clusters-kept, part-unnamed, same}
 use Rattle.session_def.specs.Cost.{log_bytes, log_parts, log_size}
 use Rattle.in_place.specs.Unnamed.{LiesApart}
 use Rattle.value_owed.specs.Below.{EditsAlone}
 use Rattle.value_owed.proofs.Below as below
+use Rattle.value_owed.proofs.ValueSame.{other-file}
 use Rattle.edit_written.specs.LeavesAlone.{LeavesAlone}
 use Rattle.edit_written.proofs.LeftAlone.{boot-other, both, has-boot}
 
@@ -37,12 +36,12 @@ log-same old new there same =
     if is_some r && (is_some (content_extent part.content) && not (is_packed part.kind part.flags))
     then option_map_or (λ extent. extent.sizes.initialized) (content_extent part.content) 0 else 0) (first_part (log_parts old)) 0) there
 
--- CLUSTERS THAT ARE GIVEN BACK change no record, and no cluster but those of the bitmap.
-given-alone : (old new : VolumeView) → LiesApart old → (runs : List Run) → GivesBack old new runs → LeavesAlone old new
-given-alone old new apart runs gives =
-    let w = gives.writes in
+-- BYTES IN CLUSTERS change no record, and no cluster but those of the attributes that are named.
+in-place-alone : (changed : Key → Bool) (old new : VolumeView) → LiesApart old → WritesInPlace changed old new
+    → changed (key_of BOOT DATA []) ≡ false → changed (key_of LOG_FILE DATA []) ≡ false → LeavesAlone old new
+in-place-alone changed old new apart w no_boot no_log =
     let b = has-boot old apart in
-    let records = below.records-same old new runs gives in
+    let records = same changed old new w in
     let log : log_parts new ≡ log_parts old = ap (λ (r : Records). filter (is_of DATA []) (parts r LOG_FILE)) records in
     record {
       layout = w.layout;
@@ -50,15 +49,16 @@ given-alone old new apart runs gives =
       volume = w.blocks VOLUME;
       boot = w.clusters 0
           (let owned = owned-once old BOOT b.part 0 b.among in let covered = b.covered in omega (arith, owned, covered))
-          (part-unnamed is_bits_key old apart.owners BOOT b.part 0 b.among
-          (ap (λ k. is_bits_key (key_of BOOT k b.part.name)) b.kind ∙ ap (λ n. is_bits_key (key_of BOOT DATA n)) b.name) b.covered);
+          (part-unnamed changed old apart.owners BOOT b.part 0 b.among
+          (ap (λ k. changed (key_of BOOT k b.part.name)) b.kind ∙ ap (λ n. changed (key_of BOOT DATA n)) b.name ∙ no_boot) b.covered);
       log = log;
       emptied = log-same old new (ap (λ (r : Records). r.record_at LOG_FILE) records) log;
-      log_clusters = clusters-kept is_bits_key old new w apart.owners LOG_FILE DATA [] refl;
+      log_clusters = clusters-kept changed old new w apart.owners LOG_FILE DATA [] no_log;
     }
 
 -- THE RECORD THEN
-module _ (key : Key) (old new : VolumeView) (sound : IsSound old) (apart : LiesApart old) (e : EditsAlone key old new) where
+module _ (key : Key) (old new : VolumeView) (sound : IsSound old) (apart : LiesApart old) {gains : ℕ → Bool}
+    (e : EditsAlone key gains old new) where
   abbrev mid : VolumeView
   mid = e.mid
 
@@ -98,6 +98,19 @@ module _ (key : Key) (old new : VolumeView) (sound : IsSound old) (apart : LiesA
             refl;
       }
 
+  -- BEFORE IT
+  free : (m : ℕ) → m < SECURE → m ≢ ROOT → same_key key (key_of m DATA []) ≡ false
+  free m low other = other-file key old new sound apart e m DATA [] (λ same. system m low other (sym same))
+
+  prepared-alone : LeavesAlone old mid
+  prepared-alone =
+      let p = e.prepares in
+      both old p.flagged mid
+      (both old p.freed p.flagged (in-place-alone is_bits_key old p.freed apart p.gives.writes refl refl)
+      (in-place-alone is_bits_key p.freed p.flagged (below.apart-freed key old new sound apart e) p.takes.writes refl refl))
+      (in-place-alone (same_key key) p.flagged mid (below.apart-flagged key old new sound apart e) p.fills
+      (free BOOT (omega arith) (λ z. omega (arith, z))) (free LOG_FILE (omega arith) (λ z. omega (arith, z))))
+
   -- BOTH
   pub value-edited : LeavesAlone old new
-  value-edited = both old mid new (given-alone old mid apart e.given e.gives) record-alone
+  value-edited = both old mid new prepared-alone record-alone

@@ -19,15 +19,15 @@ ghost use Rattle.value_owed.specs.Below.{EditsAlone};
 ghost use Rattle.edit_written.specs.Finished.{IsFinished, IsPlaceOf};
 ghost use Rattle.edit_written.specs.LeavesAlone.{LeavesAlone};
 
-/// What tells where a volume lies, its flag and its log are left alone: by a rewrite of values that names none of them (`rewritten`), by the
-/// edit of one stream alone (`stream_edited`), and by two such edits, one after the other (`both`).
+/// What tells where a volume lies, its flag and its log are left alone: by a rewrite of values that names none of them (`rewritten`), by
+/// the edit of one stream alone (`stream_edited`), and by two such edits, one after the other (`both`).
 pub fn left_alone()
     ensures rewritten { (changed : Key → Bool) (old new : VolumeView) → Rewrites changed old new → IsSound old → LiesApart old
         → NamesNoneOf changed MFT → NamesNoneOf changed VOLUME → changed (key_of BOOT DATA []) ≡ false
         → changed (key_of LOG_FILE DATA []) ≡ false → LeavesAlone old new }
     ensures both { (old mid new : VolumeView) → LeavesAlone old mid → LeavesAlone mid new → LeavesAlone old new }
-    ensures stream_edited { (key : Key) (old new : VolumeView) → IsSound old → LiesApart old → EditsAlone key old new
-        → LeavesAlone old new }
+    ensures stream_edited { (key : Key) (gains : ℕ → Bool) (old new : VolumeView) → IsSound old → LiesApart old
+        → EditsAlone key gains old new → LeavesAlone old new }
 {}
 
 /// Bytes as long as those of a sound volume, of which an edit leaves alone what tells where it lies, are the volume that they tell with its

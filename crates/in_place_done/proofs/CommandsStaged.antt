@@ -25,7 +25,7 @@ use Rattle.in_place_done.proofs.HeldStream.{HoldsStream, finds-plain}
 use Rattle.in_place_done.proofs.PunchedStream.{nowhere, punched-written, value-held}
 use Rattle.in_place_done.proofs.SecureStaged.{secure-staged}
 use Rattle.in_place_done.proofs.SetStaged.{set-staged}
-use Rattle.in_place_done.proofs.NoneGiven.{none-given}
+use Rattle.in_place_done.proofs.NoneGiven.{none-given, none-taken}
 use Rattle.in_place_done.proofs.SetOwed.{set-alone, set-in-place}
 use Rattle.in_place_done.proofs.StagedVolume.{CanBeEdited, CanBeWritten, IsStaged, can-be-set}
 use Rattle.in_place_done.proofs.Ways.{InPlace}
@@ -121,6 +121,7 @@ place-written before command at node new place is stages =
       alone = set-alone before command at node new can s.set;
       leaves = λ next first settled long wrote.
           let none = none-given (is_set_key before.machine.tree command at) before.view new s.set.rewrites in
+          let still = none-taken (is_set_key before.machine.tree command at) before.view new s.set.rewrites in
           in_place.leaves before next command at 0 new
-          (set-in-place before command at node new can s.set next first settled long (omega (arith, wrote, none)));
+          (set-in-place before command at node new can s.set next first settled long (omega (arith, wrote, none, still)));
     }

@@ -1,12 +1,13 @@
 -- A COMMAND THAT IS DONE, whose words led to a file that can be edited.
-use Rattle.std.proofs.Common.{◌≡◌, ◌&&◌, ◌||◌, not, ◌≤◌, ℕ, Bool, true, false, Some, Ok, refl, sym, ap, subst, ◌∙◌}
-use Rattle.std.proofs.lemmas.Bool.{or_parts}
+use Rattle.std.proofs.Common.{◌≡◌, ◌&&◌, ◌||◌, not, ◌≤◌, ◌+◌, ℕ, Bool, true, false, length, Some, Ok, refl, sym, ap, subst, ◌∙◌, arith}
+use Rattle.std.proofs.lemmas.Bool.{ltb-false, or_parts}
 use Rattle.std.specs.List.{Contains}
+use Rattle.std.specs.Prelude.{nat_lt}
 use Rattle.ntfs_def.specs.FileName.{FileName}
 use Rattle.volume_def.specs.FileNames.{names_of}
 use Rattle.volume_def.specs.Files.{records_of}
 use Rattle.volume_def.specs.View.{VolumeView}
-use Rattle.tree_model.specs.Cases.{packed}
+use Rattle.tree_model.specs.Cases.{is_far, is_wide, packed, too_big}
 use Rattle.tree_model.specs.Effects.{makes_file}
 use Rattle.tree_model.specs.Refusals.{Facts, is_edit}
 use Rattle.tree_model.specs.Staging.{cannot_edit, is_built_for}
@@ -14,6 +15,7 @@ use Rattle.tree_model.specs.Subjects.{Located, Machine, locate, subject_of}
 use Rattle.tree_model.specs.declared.command.Command.{Command}
 use Rattle.tree_model.specs.declared.command.Command.TheVariants as c
 use Rattle.tree_model.specs.declared.tree.Node.{Node}
+use Rattle.session_def.specs.Cost.{bytes_in}
 use Rattle.session_def.specs.Nodes.{edits_stream}
 use Rattle.session_def.specs.State.{State}
 use Rattle.command_edits.specs.Allowed.{IsAllowed}
@@ -45,6 +47,20 @@ pub makes-none : (command : Command) → is_done command ≡ true → makes_file
 makes-none (c.Create path) is makes = cc
 makes-none (c.Mkdir path) is makes = cc
 makes-none other is makes = cc
+
+-- what is not too big has few bytes
+few-range : (from len : ℕ) → is_wide from len ≡ false → len ≤ 32768
+few-range from len narrow = ltb-false 32768 len (or_parts (is_far (from + len)) (nat_lt 32768 len) narrow).1
+
+few-bytes : (command : Command) (at : Located) → is_done command ≡ true → too_big command at ≡ false → bytes_in command ≤ 32768
+few-bytes (c.Setattr path flags) at is fits = omega arith
+few-bytes (c.Write path stream from bytes) at is fits = few-range from (length bytes) fits
+few-bytes (c.Hwrite handle from bytes) at is fits = few-range from (length bytes) fits
+few-bytes (c.Punch path stream from len) at is fits = omega arith
+few-bytes (c.Truncate path stream size) at is fits = omega arith
+few-bytes (c.Rmstream path name) at is fits = omega arith
+few-bytes (c.Setsec path id) at is fits = omega arith
+few-bytes other at is fits = cc
 
 -- the stream that a command names
 stream-of : (view : VolumeView) (m : Machine) (session : ℕ) (command : Command) (at : Located) (node : Node) → at.node ≡ Some node
@@ -80,7 +96,7 @@ module _ (facts : Facts) (before : State) (session : ℕ) (command : Command) (f
   can : CanSet before.view at.file node
   can = subst (λ g. CanSet before.view g node) (sym finds.file) finds.can
 
-  -- it is built for the volume: done in place there, or in a record
+  -- it is built for the volume: done in place there, in a record or in clusters
   built : is_built_for before.view before.machine.tree command at ≡ true
   built =
       let cannot = cannot_edit facts.whole_table before.machine.tree at.file in
@@ -105,6 +121,7 @@ module _ (facts : Facts) (before : State) (session : ℕ) (command : Command) (f
     built = built;
     can = can;
     shown = finds.shown;
+    few = few-bytes command at finds.edits allows.size;
     high =
         subst (λ g. (name : FileName) → Contains (names_of (records_of before.view) g) name → 4 ≤ name.parent.number) (sym finds.file)
         finds.high;

@@ -21,6 +21,7 @@ use Rattle.tree_model.specs.Tree.{Tree}
 use Rattle.tree_model.specs.declared.command.Command.{Command}
 use Rattle.tree_model.specs.declared.tree.Node.{Node}
 use Rattle.edit_def.specs.Items.{HasItems}
+use Rattle.session_def.specs.Cost.{bytes_in}
 use Rattle.session_def.specs.Done.{LeavesDone, stream_in}
 use Rattle.session_def.specs.Indexes.{KeepsRests}
 use Rattle.session_def.specs.Kept.{KeepsEntries, KeepsStandard}
@@ -40,7 +41,8 @@ use Rattle.in_place_done.proofs.Ways.{InPlace}
 abbrev pub staged_view : State → List ℕ → VolumeView
 staged_view before staged = told_view (sector_in (Some staged)) before.view.layout
 
--- A FILE THAT CAN BE EDITED, to which the words of the command lead, and its stream. No name of it stands in a record that has a copy.
+-- A FILE THAT CAN BE EDITED, to which the words of the command lead, and its stream. No name of it stands in a record that has a copy. The
+-- command has no more bytes than it may.
 pub record CanBeEdited (before : State) (command : Command) (at : Located) (node : Node) : Type 0 where
   pub stands : Stands before
   pub edits : is_done command ≡ true
@@ -48,6 +50,7 @@ pub record CanBeEdited (before : State) (command : Command) (at : Located) (node
   pub built : is_built_for before.view before.machine.tree command at ≡ true
   pub can : CanSet before.view at.file node
   pub shown : SetsShown command
+  pub few : bytes_in command ≤ 32768
   pub high : (name : FileName) → Contains (names_of (records_of before.view) at.file) name → 4 ≤ name.parent.number
   pub stream : edits_stream command ≡ true → HoldsStream before.machine.tree at node
 

@@ -1,4 +1,4 @@
--- A STREAM THAT IS A VALUE, which has other bytes or went, and the times that were set then, staged: what the volume is between and behind.
+-- A STREAM, which has other bytes or went, and the times that were set then, staged: what the volume is between and behind.
 use Rattle.std.proofs.Common.{◌≡◌, ◌≤◌, ◌*◌, ◌&&◌, ◌||◌, ℕ, Bool, true, List, [], ◌∷◌, Option, Some, None, codes}
 use Rattle.std.proofs.Common.{refl, sym, ap, subst, ◌∙◌}
 use Rattle.std.proofs.lemmas.Bool.{or_right}
@@ -30,7 +30,7 @@ use Rattle.session_def.specs.Named.{has_entry_of, is_own_key, is_times_key}
 use Rattle.session_def.specs.State.{State}
 use Rattle.attribute_edits.specs.Attributes as attributes
 use Rattle.attribute_edits.proofs.AttributesSet as edits
-use Rattle.edit_written.specs.Below.{FindsPlain, IsEdited, between, node_with}
+use Rattle.edit_written.specs.Below.{FindsPlain, IsEdited, PutsStream, between, node_with}
 use Rattle.edit_written.proofs.Below.{not-table, stream-put}
 use Rattle.in_place_owed.specs.SetsInPlace.{StandsAlone, is_node_kind, is_set_key}
 use Rattle.in_place_owed.proofs.CallsOwed.{stands-alone}
@@ -47,10 +47,15 @@ abbrev pub stream_after : State → Located → Option (List ℕ) → Tree
 stream_after before at None = drop_stream before.machine.now at before.machine.tree
 stream_after before at (Some bytes) = put_stream before.machine.now at bytes before.machine.tree
 
+-- THE STREAM IS EDITED so, and gains these clusters alone, so many at most.
+abbrev pub PutsInto : State → Located → Node → Option (List ℕ) → (ℕ → Bool) → (List ℕ → ℕ) → VolumeView → Type 0
+PutsInto before at node bytes gains count new = EditsStream before at at.file (λ name.
+    PutsStream before.view new at.file name bytes gains (count name) (touched before.machine.now node).times node.flags)
+
 -- `old` is the volume before, `mid` with the stream changed or gone, and `new` with the times too.
 module _ (before : State) (command : Command) (at : Located) (node : Node) (is : CanBeEdited before command at node)
-    (h : HoldsStream before.machine.tree at node) (bytes : Option (List ℕ)) (new : VolumeView)
-    (s : EditsStream before at at.file node bytes new) where
+    (h : HoldsStream before.machine.tree at node) (bytes : Option (List ℕ)) (gains : ℕ → Bool) (count : List ℕ → ℕ) (new : VolumeView)
+    (s : PutsInto before at node bytes gains count new) where
   abbrev old : VolumeView
   old = before.view
 
@@ -58,7 +63,7 @@ module _ (before : State) (command : Command) (at : Located) (node : Node) (is :
   f = at.file
 
   abbrev mid : VolumeView
-  mid = s.puts.mid
+  mid = s.edits.mid
 
   abbrev pub key : Key
   key = key_of f DATA s.name
@@ -72,8 +77,11 @@ module _ (before : State) (command : Command) (at : Located) (node : Node) (is :
   pub finds : FindsPlain old f node at.stream s.name h.held
   finds = finds-plain before is.stands at node h s.name s.spelt_so s.there s.tellable
 
-  pub edited : IsEdited key old mid over
-  edited = stream-put old mid f node at.stream s.name h.held bytes is.can finds s.puts.puts
+  pub put : IsEdited key gains old mid over
+  put = stream-put old mid f node at.stream s.name h.held bytes gains is.can finds s.edits.puts
+
+  abbrev pub edited : IsEdited key gains old mid over
+  edited = record { edits = s.edits.puts.edits; can = put.can; reads = put.reads }
 
   shown : bit_and node.flags SHOWN_FLAGS ≡ node.flags
   shown = node-shown old f node is.can.there
@@ -125,7 +133,7 @@ module _ (before : State) (command : Command) (at : Located) (node : Node) (is :
 
   pub set : IsSet (between before command mid) (c.Setattr [] 0) at new
   set =
-      file-set (between before command mid) at over edited.can times node.flags shown new s.puts.sets (c.Setattr [] 0) named
+      file-set (between before command mid) at over edited.can times node.flags shown new s.edits.sets (c.Setattr [] 0) named
       (λ punches. cc)
 
   -- THE TREE: the node with its stream changed or gone, and the times
@@ -136,20 +144,20 @@ module _ (before : State) (command : Command) (at : Located) (node : Node) (is :
   reads-new =
       let can = edited.can in
       reads-twice old mid new f over last edited.reads
-      (edits.reads mid new f times node.flags s.puts.sets can.sound can.apart can.other can.elsewhere shown over can.there)
+      (edits.reads mid new f times node.flags s.edits.sets can.sound can.apart can.other can.elsewhere shown over can.there)
 
   insert-last : (n : Node) → last ≡ n → read new ≡ record (read old) { nodes = finmap.insert (tree_nodes old) f n }
   insert-last n e = reads-new ∙ ap (λ (n : Node). record (read old) { nodes = finmap.insert (tree_nodes old) f n }) e
 
 -- SO IT READS as the tree behind the edit.
 pub value-reads : (before : State) (command : Command) (at : Located) (node : Node) (is : CanBeEdited before command at node)
-    (h : HoldsStream before.machine.tree at node) (bytes : Option (List ℕ)) (new : VolumeView)
-    → EditsStream before at at.file node bytes new → read new ≡ stream_after before at bytes
-value-reads before command at node is h None new s =
+    (h : HoldsStream before.machine.tree at node) (bytes : Option (List ℕ)) (gains : ℕ → Bool) (count : List ℕ → ℕ) (new : VolumeView)
+    → PutsInto before at node bytes gains count new → read new ≡ stream_after before at bytes
+value-reads before command at node is h None gains count new s =
     reads-dropped before is.stands at node is.can.there new
-    (insert-last before command at node is h None new s _
+    (insert-last before command at node is h None gains count new s _
     (ap (λ (fold : ℕ → ℕ). touched before.machine.now (without_stream fold at.stream node)) (fold-same before is.stands)))
-value-reads before command at node is h (Some bytes) new s =
+value-reads before command at node is h (Some bytes) gains count new s =
     reads-put before is.stands at bytes node is.can.there new
-    (insert-last before command at node is h (Some bytes) new s _
+    (insert-last before command at node is h (Some bytes) gains count new s _
     (ap (λ (fold : ℕ → ℕ). touched before.machine.now (with_bytes fold at.stream bytes node)) (fold-same before is.stands)))

@@ -1,48 +1,54 @@
 -- A STREAM THAT HAS OTHER BYTES OR WENT, staged: it can be written.
-use Rattle.std.proofs.Common.{◌≡◌, ◌⊎◌, ◌≤◌, ◌+◌, ◌*◌, ◌/◌, ◌&&◌, not, inl, inr, ◌==◌, if◌then◌else◌, ℕ, Bool, List, [], ◌∷◌, Option, Some, None, length, true, false, refl, sym, ap}
-use Rattle.std.proofs.Common.{subst, ◌∙◌, arith}
-use Rattle.std.proofs.lemmas.Bool.{and_parts, lt-ltb}
+use Rattle.std.proofs.Common.{◌≡◌, ◌≤◌, ◌<◌, ◌+◌, ◌-◌, ◌*◌, ◌/◌, ◌&&◌, ◌||◌, ◌==◌, if◌then◌else◌, ℕ, Bool, List, [], ◌∷◌, Option}
+use Rattle.std.proofs.Common.{Some, None, drop, length, take, true, false, refl, sym, ap, subst, ◌∙◌, arith}
+use Rattle.std.proofs.lemmas.Bool.{and_parts, eqb-true, lt-ltb, ltb-true, or_left}
+use Rattle.std.proofs.lemmas.List.{length-append, length-replicate, length-take}
 use Rattle.std.specs.Option.{option_map_or}
-use Rattle.std.specs.Prelude.{is_some, nat_lt, option_and_then}
+use Rattle.std.specs.Prelude.{is_some, nat_le, nat_lt, option_and_then, unwrap_or}
 use Rattle.ntfs_def.specs.Attribute.{Attribute, Body, NonResident, Resident, value_of}
 use Rattle.ntfs_def.specs.Units.{units_in}
 use Rattle.ntfs_def.specs.declared.kinds.TheConstants.{DATA}
 use Rattle.volume_def.specs.Files.{Part, content_value, part_of, parts_at}
 use Rattle.volume_def.specs.Sound.{IsSound}
-use Rattle.volume_def.specs.Table.{cluster_bytes}
+use Rattle.volume_def.specs.StreamSize.{told_size}
+use Rattle.volume_def.specs.Table.{TableLayout, cluster_bytes}
+use Rattle.volume_def.specs.Values.{first_part, spot_at}
 use Rattle.volume_def.specs.View.{VolumeView}
 use Rattle.volume_def.proofs.SoundLaws.{readable-sound}
+use Rattle.volume_def.proofs.ValueLaws.{value-length}
 use Rattle.tree_model.specs.Answers.{bytes_at}
 use Rattle.tree_model.specs.Cases.{size_of}
-use Rattle.tree_model.specs.Effects.{tree_after}
-use Rattle.tree_model.specs.Ways.{has_no_list, is_done_in_place, is_done_in_record, stays_value}
-use Rattle.tree_model.specs.StreamRoom.{parts_named, stream_parts, stream_value, stream_value_len}
+use Rattle.tree_model.specs.Effects.{put_stream, tree_after}
 use Rattle.tree_model.specs.Reading.{read}
+use Rattle.tree_model.specs.StreamRoom.{initialized_size, is_cluster, is_in_place, new_clusters, parts_named, stream_parts, stream_value}
+use Rattle.tree_model.specs.StreamRoom.{stream_value_len, touches}
 use Rattle.tree_model.specs.Streams.{resized, written}
 use Rattle.tree_model.specs.Subjects.{Located}
+use Rattle.tree_model.specs.Ways.{has_no_list, is_done_in_record}
 use Rattle.tree_model.specs.declared.command.Command.{Command}
 use Rattle.tree_model.specs.declared.command.Command.TheVariants as c
 use Rattle.tree_model.specs.declared.tree.Node.{Node}
+use Rattle.edit_def.specs.Kept.{key_of}
 use Rattle.session_def.specs.Cost.{bytes_in, given_back}
-use Rattle.session_def.specs.Done.{may_own}
+use Rattle.session_def.specs.Done.{counts_vcn, may_own, stream_in}
 use Rattle.session_def.specs.State.{State}
 use Rattle.in_place.specs.Behind.{MarksBehind}
-use Rattle.edit_written.proofs.Below.{file, named-same, resized-long, shown, value-len}
 use Rattle.in_place_owed.specs.SetsInPlace.{SetsInPlace, is_set_key}
+use Rattle.edit_written.specs.Below.{PutsStream, SetsBehindValue, between, clusters_asked, clusters_to_write, edits_value, no_gain}
 use Rattle.edit_written.specs.LeavesAlone.{LeavesAlone}
+use Rattle.edit_written.proofs.Below as below
+use Rattle.edit_written.proofs.Below.{file, named-same, shown, value-len}
 use Rattle.edit_written.proofs.LeftAlone.{both}
 use Rattle.edit_written.proofs.ValueLeftAlone.{value-edited}
-use Rattle.edit_written.specs.Below.{SetsBehindValue, between, edits_value}
-use Rattle.edit_written.proofs.Below as below
-use Rattle.in_place_done.specs.Written.{EditsStream, PutsInStream, Stages, most_set, most_written}
+use Rattle.in_place_done.specs.Written.{PutsInStream, Stages, most_set, most_written}
 use Rattle.in_place_done.proofs.CommandsStaged.{hwrite-effect, write-effect}
 use Rattle.in_place_done.proofs.HeldStream.{HoldsStream}
+use Rattle.in_place_done.proofs.NoneGiven.{given-then, taken-then}
 use Rattle.in_place_done.proofs.SetOwed.{set-alone, set-in-place}
 use Rattle.in_place_done.proofs.StagedVolume.{CanBeEdited, CanBeWritten}
 use Rattle.in_place_done.proofs.ValueStaged as staged
-use Rattle.in_place_done.proofs.ValueStaged.{stream_after, value-reads}
-use Rattle.in_place_done.proofs.NoneGiven.{given-then}
-use Rattle.in_place_done.proofs.Ways.{Alone, record-alone}
+use Rattle.in_place_done.proofs.ValueStaged.{PutsInto, stream_after, value-reads}
+use Rattle.in_place_done.proofs.Ways.{Alone, hwrite-alone, record-alone, write-alone}
 
 -- a value, by what it shows of a stream
 value-of : (f : ℕ) (a : Attribute) → is_some (stream_value (part_of f a ∷ [])) ≡ true → (value : List ℕ) × (value_of a.body ≡ Some value)
@@ -58,79 +64,101 @@ value-of f a is = by a.body is
         never true e = cc
         never false e = cc
 
--- what lies in front of the end of these bytes the command may own
-abbrev Owns : Command → Option (List ℕ) → Type 0
-Owns command bytes = (size real vcn : ℕ) → nat_lt (vcn * size) (option_map_or length bytes 0) ≡ true
-    → may_own size command real vcn ≡ true
+-- what is written into a stream ends within it then
+written-within : (from : ℕ) (bytes old : List ℕ) → from + length bytes ≤ length (written from bytes old)
+written-within from bytes old =
+    let long : length (written from bytes old)
+    ≡ length (take from old) + (from - length old) + length bytes + length (drop (from + length bytes) old) =
+    simp (length-append, length-replicate) in
+    let front = length-take from old in
+    omega (arith, long, front)
+
+-- a stream is as long as its bytes, and one that is gone has none
+told-long : (old new : VolumeView) (f : ℕ) (name : List ℕ) (bytes : Option (List ℕ)) (gains : ℕ → Bool) (count : ℕ) (times : List ℕ)
+    (flags : ℕ) → (puts : PutsStream old new f name bytes gains count times flags)
+    → told_size (first_part (parts_at puts.mid f DATA name)) ≡ option_map_or length bytes 0
+told-long old new f name None gains count times flags puts = ap (λ xs. told_size (first_part xs)) puts.puts.shows
+told-long old new f name (Some bytes) gains count times flags puts =
+    sym (value-length puts.mid.cluster (cluster_bytes puts.mid.layout) (parts_at puts.mid f DATA name)) ∙ ap length puts.puts.shows.value
+
+-- WHAT THE COMMAND MAY DO: it counts the clusters that the stream gains, and these lie below its end; its bill has as many as it may take;
+-- and the stream has none then that it may not have.
+record MayEdit (before : State) (command : Command) (at : Located) (bytes : Option (List ℕ)) (gains : ℕ → Bool) (count : ℕ)
+    (mid : VolumeView) (name : List ℕ) : Type 0 where
+  pub counted : (vcn : ℕ) → gains vcn ≡ true
+      → counts_vcn (cluster_bytes before.view.layout) command at (stream_in before.view before.machine.tree at) vcn ≡ true
+  pub below : (vcn : ℕ) → gains vcn ≡ true → vcn * cluster_bytes before.view.layout < option_map_or length bytes 0
+  pub asked : count ≤ unwrap_or (clusters_asked before.view before.machine.tree command at) 0
+  pub owned : (real vcn : ℕ) → is_cluster (spot_at (parts_at mid at.file DATA name) vcn) ≡ true
+      → may_own (cluster_bytes before.view.layout) command real vcn ≡ true
 
 module _ (before : State) (command : Command) (at : Located) (node : Node)
     (way : Alone before.view before.machine.tree command at) (is : CanBeEdited before command at node)
-    (h : HoldsStream before.machine.tree at node) (bytes : Option (List ℕ)) (new : VolumeView)
-    (s : EditsStream before at at.file node bytes new) where
+    (h : HoldsStream before.machine.tree at node) (bytes : Option (List ℕ)) (gains : ℕ → Bool) (count : List ℕ → ℕ) (new : VolumeView)
+    (s : PutsInto before at node bytes gains count new) where
   abbrev old : VolumeView
   old = before.view
 
   abbrev mid : VolumeView
-  mid = s.puts.mid
+  mid = s.edits.mid
 
   -- all parts that are found by the units of its name are those of the stream
   parts-same : parts_named old at.file (units_in s.name) ≡ parts_at old at.file DATA s.name
   parts-same = named-same old at.file s.name (readable-sound old is.can.sound) (file old at.file node is.can.there) s.there s.tellable
 
+  stream-same : stream_parts old before.machine.tree at ≡ parts_at old at.file DATA s.name
+  stream-same = h.found_as old ∙ ap (parts_named old at.file) (sym h.spelt_is ∙ sym s.spelt_so) ∙ parts-same
+
   -- .. and those are one attribute
-  parts-are : stream_parts old before.machine.tree at
-      ≡ part_of at.file (staged.edited before command at node is h bytes new s).edits.was ∷ []
-  parts-are =
-      h.found_as old ∙ ap (parts_named old at.file) (sym h.spelt_is ∙ sym s.spelt_so) ∙ parts-same
-      ∙ (staged.edited before command at node is h bytes new s).edits.stood
+  parts-are : stream_parts old before.machine.tree at ≡ part_of at.file s.edits.puts.edits.was ∷ []
+  parts-are = stream-same ∙ s.edits.puts.edits.stood
 
   -- a stream that is a value is told as long as that is
   size_is : is_done_in_record old before.machine.tree command at ≡ true
       → option_map_or size_of at.content 0 ≡ stream_value_len (stream_parts old before.machine.tree at)
   size_is record_is =
-      let e = (staged.edited before command at node is h bytes new s).edits in
-      let value : is_some (stream_value (part_of at.file e.was ∷ [])) ≡ true =
+      let value : is_some (stream_value (part_of at.file s.edits.puts.edits.was ∷ [])) ≡ true =
       ap (λ (xs : List Part). is_some (stream_value xs)) (sym parts-are)
       ∙ (and_parts (is_some (stream_value (stream_parts old before.machine.tree at))) (has_no_list old at.file)
       (record-alone old before.machine.tree command at record_is)).0 in
-      let was = value-of at.file e.was value in
+      let was = value-of at.file s.edits.puts.edits.was value in
       let held : was.0 ≡ h.held =
-      shown old at.file node at.stream s.name h.held is.can (staged.finds before command at node is h bytes new s) e.was e.was_of.kind e.stood
-      was.0 was.1 in
+      shown old at.file node at.stream s.name h.held is.can (staged.finds before command at node is h bytes gains count new s)
+      s.edits.puts.edits.was s.edits.puts.edits.was_of.kind s.edits.puts.edits.stood was.0 was.1 in
       ap (λ o. option_map_or size_of o 0) h.told ∙ ap length (sym held)
-      ∙ sym (ap stream_value_len parts-are ∙ value-len at.file e.was was.0 was.1)
+      ∙ sym (ap stream_value_len parts-are ∙ value-len at.file s.edits.puts.edits.was was.0 was.1)
 
   -- the edit and the times, one after the other
   alone : LeavesAlone old new
   alone =
-      let e = staged.edited before command at node is h bytes new s in
       both old mid new
-      (value-edited (staged.key before command at node is h bytes new s) old mid is.can.sound is.can.apart e.edits)
-      (set-alone (between before command mid) (c.Setattr [] 0) at (staged.over before command at node is h bytes new s) new
-      (staged.can-set before command at node is h bytes new s) (staged.set before command at node is h bytes new s))
+      (value-edited (key_of at.file DATA s.name) old mid is.can.sound is.can.apart s.edits.puts.edits)
+      (set-alone (between before command mid) (c.Setattr [] 0) at (staged.over before command at node is h bytes gains count new s) new
+      (staged.can-set before command at node is h bytes gains count new s) (staged.set before command at node is h bytes gains count new s))
 
-  module _ (owns : Owns command bytes) (next : State) (first : MarksBehind new next.view) (settled : IsSound next.view)
-      (long : length next.image ≡ length before.image) (wrote : next.written ≤ before.written + most_written before command at.file new) where
-    few : next.written ≤ before.written + bytes_in command / 512 + 2 * given_back old mid
+  module _ (may : MayEdit before command at bytes gains (count s.name) mid s.name) (next : State) (first : MarksBehind new next.view)
+      (settled : IsSound next.view) (long : length next.image ≡ length before.image)
+      (wrote : next.written ≤ before.written + most_written before command at.file new) where
+    few : next.written ≤ before.written + bytes_in command / 512 + 2 * given_back old mid + 2 * given_back mid old
         + most_set (between before command mid) (c.Setattr [] 0) at.file
     few =
-        let e = staged.edited before command at node is h bytes new s in
-        let k = staged.key before command at node is h bytes new s in
-        let cost = below.first_cost-same k old mid is.can.sound is.can.apart e.edits in
-        let count = ap length (staged.names before command at node is h bytes new s) in
-        let given = given-then (is_set_key (read mid) (c.Setattr [] 0) at) old mid new
-        (staged.set before command at node is h bytes new s).rewrites in
-        omega (arith, wrote, cost, count, given)
+        let cost = below.first_cost-same (key_of at.file DATA s.name) old mid is.can.sound is.can.apart s.edits.puts.edits in
+        let names = ap length (staged.names before command at node is h bytes gains count new s) in
+        let set = (staged.set before command at node is h bytes gains count new s).rewrites in
+        let given = given-then (is_set_key (read mid) (c.Setattr [] 0) at) old mid new set in
+        let taken = taken-then (is_set_key (read mid) (c.Setattr [] 0) at) old mid new set in
+        omega (arith, wrote, cost, names, given, taken)
 
     behind : SetsInPlace (between before command mid) next (c.Setattr [] 0) at new
     behind =
-        set-in-place (between before command mid) (c.Setattr [] 0) at (staged.over before command at node is h bytes new s) new
-        (staged.can-set before command at node is h bytes new s) (staged.set before command at node is h bytes new s)
-        next first settled long few
+        set-in-place (between before command mid) (c.Setattr [] 0) at (staged.over before command at node is h bytes gains count new s) new
+        (staged.can-set before command at node is h bytes gains count new s)
+        (staged.set before command at node is h bytes gains count new s) next first settled long few
 
     sets : SetsBehindValue before next command at mid new
     sets =
-        let set = staged.set before command at node is h bytes new s in
+        let set = staged.set before command at node is h bytes gains count new s in
+        let told = told-long old new at.file s.name bytes gains (count s.name) _ _ s.edits in
         record {
           stands = is.stands;
           edits = way.edits;
@@ -141,22 +169,27 @@ module _ (before : State) (command : Command) (at : Located) (node : Node)
           name = s.name;
           spelt_so = s.spelt_so;
           alone = parts-same;
-          node = staged.over before command at node is h bytes new s;
-          edited = staged.edited before command at node is h bytes new s;
-          owned = λ vcn is_one. owns (cluster_bytes old.layout) _ vcn (lt-ltb _ _ (s.puts.puts.ends vcn is_one));
+          few = is.few;
+          gains = gains;
+          counted = may.counted;
+          below = λ vcn gained. let low = may.below vcn gained in omega (arith, low, told);
+          node = staged.over before command at node is h bytes gains count new s;
+          edited = staged.edited before command at node is h bytes gains count new s;
+          takes = let all = s.edits.takes in let asked = may.asked in omega (arith, all, asked);
+          owned = may.owned (told_size (first_part (parts_at mid at.file DATA s.name)));
           behind = behind;
           entries = λ dir was now index has still. set.entries dir was now index has still before.machine.tree next.machine.tree;
         }
 
-  written-by : Owns command bytes → tree_after before.machine command at 0 ≡ stream_after before at bytes
-      → CanBeWritten before command at new
-  written-by owns effect =
-      let set = staged.set before command at node is h bytes new s in
+  written-by : MayEdit before command at bytes gains (count s.name) mid s.name
+      → tree_after before.machine command at 0 ≡ stream_after before at bytes → CanBeWritten before command at new
+  written-by may effect =
+      let set = staged.set before command at node is h bytes gains count new s in
       record {
         sound = set.sound;
-        reads = value-reads before command at node is h bytes new s ∙ sym effect;
+        reads = value-reads before command at node is h bytes gains count new s ∙ sym effect;
         alone = alone;
-        leaves = λ next first settled long wrote. below.leaves before next command at mid new (sets owns next first settled long wrote) 0;
+        leaves = λ next first settled long wrote. below.leaves before next command at mid new (sets may next first settled long wrote) 0;
       }
 
 -- what they do to the tree
@@ -170,53 +203,132 @@ rmstream-effect : (before : State) (path : List (List ℕ)) (name : List ℕ) (a
 unfolding tree_after
 rmstream-effect before path name at = refl
 
--- EACH COMMAND that is done so. A write is not done in place then.
-not-place : (b rest : Bool) → (not b && rest) ≡ true → b ≡ false
-not-place true rest e = cc
-not-place false rest e = refl
+-- EACH COMMAND that is done so. A write, which is not done in place then, touches all clusters that it gains.
+touched-below : (size from : ℕ) (bytes old : List ℕ) (vcn : ℕ) → touches size from (length bytes) vcn ≡ true
+    → vcn * size < length (written from bytes old)
+touched-below size from bytes old vcn touched =
+    let front =
+    (and_parts (nat_lt 0 (length bytes) && nat_lt (vcn * size) (from + length bytes)) (nat_lt from (vcn * size + size)) touched).0 in
+    let low = ltb-true (vcn * size) (from + length bytes)
+    (and_parts (nat_lt 0 (length bytes)) (nat_lt (vcn * size) (from + length bytes)) front).1 in
+    let within = written-within from bytes old in
+    omega (arith, low, within)
 
--- .. and in a record, since none is in clusters
-write-record : {b : Bool} → (b ≡ true) ⊎ (false ≡ true) → b ≡ true
-write-record (inl is) = is
-write-record (inr never) = cc
+-- .. as many as are on its bill, which has none where none comes
+clusters-billed : (size : ℕ) (extents : List Part) (from len : ℕ)
+    → new_clusters size extents from len ≤ unwrap_or (clusters_to_write size extents from len) 0
+clusters-billed size extents from len = by (is_in_place size extents from len) refl
+  where
+    by : (b : Bool) → is_in_place size extents from len ≡ b
+        → new_clusters size extents from len ≤ unwrap_or (if b then None else Some (new_clusters size extents from len)) 0
+    by false e = omega arith
+    by true e =
+        let front = (and_parts ((new_clusters size extents from len == 0) && nat_le from (initialized_size extents)) _ e).0 in
+        let none = eqb-true (new_clusters size extents from len) 0
+        (and_parts (new_clusters size extents from len == 0) (nat_le from (initialized_size extents)) front).0 in
+        omega (arith, none)
+
+-- what a write stages into one stream alone
+abbrev gained : State → ℕ → List ℕ → ℕ → Bool
+gained before from bytes vcn = touches (cluster_bytes before.view.layout) from (length bytes) vcn
+
+abbrev gained_most : State → Located → ℕ → List ℕ → List ℕ → ℕ
+gained_most before at from bytes name =
+    new_clusters (cluster_bytes before.view.layout) (parts_at before.view at.file DATA name) from (length bytes)
+
+bytes-written : (before : State) (command : Command) (at : Located) (node : Node) (from : ℕ) (bytes : List ℕ) (new : VolumeView)
+    → Alone before.view before.machine.tree command at → CanBeEdited before command at node → HoldsStream before.machine.tree at node
+    → PutsInStream false before at at.file node from bytes new
+    → ((parts : List Part) (vcn : ℕ) → counts_vcn (cluster_bytes before.view.layout) command at parts vcn
+    ≡ (gained before from bytes vcn || touches (cluster_bytes before.view.layout) 0 (stream_value_len parts) vcn))
+    → clusters_asked before.view before.machine.tree command at
+    ≡ clusters_to_write (cluster_bytes before.view.layout) (stream_parts before.view before.machine.tree at) from (length bytes)
+    → ((real vcn : ℕ) → may_own (cluster_bytes before.view.layout) command real vcn ≡ true)
+    → tree_after before.machine command at 0 ≡ put_stream before.machine.now at (written from bytes (bytes_at at)) before.machine.tree
+    → CanBeWritten before command at new
+bytes-written before command at node from bytes new way is h s counts asks owns =
+    let size = cluster_bytes before.view.layout in
+    let parts = stream_parts before.view before.machine.tree at in
+    let now = Some (written from bytes (bytes_at at)) in
+    let most = gained_most before at from bytes in
+    written-by before command at node way is h now (gained before from bytes) most new s
+    (record {
+      counted = λ vcn touched.
+          let was = stream_in before.view before.machine.tree at in
+          counts was vcn ∙ or_left (gained before from bytes vcn) (touches size 0 (stream_value_len was) vcn) touched;
+      below = λ vcn touched. touched-below size from bytes (bytes_at at) vcn touched;
+      asked =
+          subst (λ xs. new_clusters size xs from (length bytes) ≤ unwrap_or (clusters_asked before.view before.machine.tree command at) 0)
+          (stream-same before command at node way is h now (gained before from bytes) most new s)
+          (subst (λ o. new_clusters size parts from (length bytes) ≤ unwrap_or o 0) (sym asks)
+          (clusters-billed size parts from (length bytes)));
+      owned = λ real vcn is_one. owns real vcn;
+    })
 
 write-value : (before : State) (path : List (List ℕ)) (stream : Option (List ℕ)) (from : ℕ) (bytes : List ℕ) (at : Located) (node : Node)
     (new : VolumeView) → Alone before.view before.machine.tree (c.Write path stream from bytes) at
     → CanBeEdited before (c.Write path stream from bytes) at node → Stages before (c.Write path stream from bytes) at at.file node new
     → CanBeWritten before (c.Write path stream from bytes) at new
 write-value before path stream from bytes at node new way is stages =
-    written-by before (c.Write path stream from bytes) at node way is (is.stream refl) (Some (written from bytes (bytes_at at))) new
+    bytes-written before (c.Write path stream from bytes) at node from bytes new way is (is.stream refl)
     (subst (λ b. PutsInStream b before at at.file node from bytes new)
-    (not-place (is_done_in_place before.view before.machine.tree (c.Write path stream from bytes) at)
-    (stays_value before.view before.machine.tree at (from + length bytes)) (write-record way.is)) stages)
-    (λ size real vcn low. refl) (write-effect before path stream from bytes at)
+    (write-alone before.view before.machine.tree path stream from bytes at way.is) stages)
+    (λ parts vcn. refl) refl (λ real vcn. refl) (write-effect before path stream from bytes at)
 
 hwrite-value : (before : State) (handle from : ℕ) (bytes : List ℕ) (at : Located) (node : Node) (new : VolumeView)
     → Alone before.view before.machine.tree (c.Hwrite handle from bytes) at
     → CanBeEdited before (c.Hwrite handle from bytes) at node → Stages before (c.Hwrite handle from bytes) at at.file node new
     → CanBeWritten before (c.Hwrite handle from bytes) at new
 hwrite-value before handle from bytes at node new way is stages =
-    written-by before (c.Hwrite handle from bytes) at node way is (is.stream refl) (Some (written from bytes (bytes_at at))) new
+    bytes-written before (c.Hwrite handle from bytes) at node from bytes new way is (is.stream refl)
     (subst (λ b. PutsInStream b before at at.file node from bytes new)
-    (not-place (is_done_in_place before.view before.machine.tree (c.Hwrite handle from bytes) at)
-    (stays_value before.view before.machine.tree at (from + length bytes)) (write-record way.is)) stages)
-    (λ size real vcn low. refl) (hwrite-effect before handle from bytes at)
+    (hwrite-alone before.view before.machine.tree handle from bytes at way.is) stages)
+    (λ parts vcn. refl) refl (λ real vcn. refl) (hwrite-effect before handle from bytes at)
+
+-- The others gain none.
+never-gains : {A : Type 0} → false ≡ true → A
+never-gains e = cc
 
 truncate-value : (before : State) (path : List (List ℕ)) (stream : Option (List ℕ)) (size : ℕ) (at : Located) (node : Node)
     (new : VolumeView) → Alone before.view before.machine.tree (c.Truncate path stream size) at
     → CanBeEdited before (c.Truncate path stream size) at node → Stages before (c.Truncate path stream size) at at.file node new
     → CanBeWritten before (c.Truncate path stream size) at new
 truncate-value before path stream size at node new way is stages =
-    written-by before (c.Truncate path stream size) at node way is (is.stream refl) (Some (resized size (bytes_at at))) new stages
-    (λ bytes real vcn low. sym (ap (nat_lt (vcn * bytes)) (resized-long size (bytes_at at))) ∙ low)
+    let command = c.Truncate path stream size in
+    let now = Some (resized size (bytes_at at)) in
+    let s : PutsInto before at node now no_gain (λ name. 0) new =
+    record {
+      name = stages.name;
+      spelt_so = stages.spelt_so;
+      there = stages.there;
+      tellable = stages.tellable;
+      edits = stages.edits.puts;
+    } in
+    let same =
+    below.layout (key_of at.file DATA s.name) before.view s.edits.mid is.can.sound is.can.apart s.edits.puts.edits in
+    written-by before command at node way is (is.stream refl) now no_gain (λ name. 0) new s
+    (record {
+      counted = λ vcn never. never-gains never;
+      below = λ vcn never. never-gains never;
+      asked = omega arith;
+      owned = λ real vcn is_one.
+          lt-ltb (vcn * cluster_bytes before.view.layout) size
+          (subst (λ (l : TableLayout). vcn * cluster_bytes l < size) same (stages.edits.ends vcn is_one));
+    })
     (truncate-effect before path stream size at)
 
 rmstream-value : (before : State) (path : List (List ℕ)) (name : List ℕ) (at : Located) (node : Node) (new : VolumeView)
     → Alone before.view before.machine.tree (c.Rmstream path name) at → CanBeEdited before (c.Rmstream path name) at node
     → Stages before (c.Rmstream path name) at at.file node new → CanBeWritten before (c.Rmstream path name) at new
 rmstream-value before path name at node new way is stages =
-    written-by before (c.Rmstream path name) at node way is (is.stream refl) None new stages
-    (λ size real vcn low. refl) (rmstream-effect before path name at)
+    written-by before (c.Rmstream path name) at node way is (is.stream refl) None no_gain (λ name. 0) new stages
+    (record {
+      counted = λ vcn never. refl;
+      below = λ vcn never. never-gains never;
+      asked = omega arith;
+      owned = λ real vcn is_one. refl;
+    })
+    (rmstream-effect before path name at)
 
 -- one of the four
 by-value : (P : Command → Type 0)

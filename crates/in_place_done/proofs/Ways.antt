@@ -1,6 +1,6 @@
 -- THE WAYS in which a command is done that is built for a volume: in place, or of one stream alone, in a record or in clusters. A write
 -- takes the one or the other.
-use Rattle.std.proofs.Common.{◌≡◌, ◌⊎◌, ◌+◌, ◌||◌, not, ℕ, true, length, Option, Some, None, inl, inr, refl}
+use Rattle.std.proofs.Common.{◌≡◌, ◌⊎◌, ◌+◌, ◌&&◌, ◌||◌, not, ℕ, Bool, true, false, List, length, Option, Some, None, inl, inr, refl}
 use Rattle.std.proofs.lemmas.Bool.{and_parts, or_cases}
 use Rattle.std.specs.Prelude.{is_some}
 use Rattle.volume_def.specs.Files.{Part}
@@ -8,8 +8,8 @@ use Rattle.volume_def.specs.Table.{cluster_bytes}
 use Rattle.volume_def.specs.Values.{first_part}
 use Rattle.volume_def.specs.View.{VolumeView}
 use Rattle.tree_model.specs.Staging.{is_built_for}
-use Rattle.tree_model.specs.Ways.{fits_in_record, gets_no_longer, has_no_list, in_extent, is_done_in_clusters, is_done_in_place}
-use Rattle.tree_model.specs.Ways.{is_done_in_record, is_extent_alone, is_value_alone, stays_value}
+use Rattle.tree_model.specs.Ways.{can_end, can_reach, fits_in_record, gets_no_longer, has_no_list, in_extent, is_done_in_clusters}
+use Rattle.tree_model.specs.Ways.{is_done_in_place, is_done_in_record, is_extent_alone, is_value_alone, stays_value}
 use Rattle.tree_model.specs.StreamRoom.{goes_over, stream_parts, stream_value}
 use Rattle.tree_model.specs.Subjects.{Located}
 use Rattle.tree_model.specs.Tree.{Tree}
@@ -39,6 +39,8 @@ record-of view tree other at is = cc
 
 clusters-of : (view : VolumeView) (tree : Tree) (command : Command) (at : Located) → is_done_in_clusters view tree command at ≡ true
     → edits_value command ≡ true
+clusters-of view tree (c.Write path stream from bytes) at is = refl
+clusters-of view tree (c.Hwrite handle from bytes) at is = refl
 clusters-of view tree (c.Truncate path stream size) at is = refl
 clusters-of view tree (c.Rmstream path name) at is = refl
 clusters-of view tree other at is = cc
@@ -63,6 +65,22 @@ way-of view tree command at built =
         | inr is ↦ record { edits = clusters-of view tree command at is; is = inr is }
       ])
     ]
+
+-- A WRITE of one stream alone is not done in place.
+not-place : (b rest : Bool) → (not b && rest) ≡ true → b ≡ false
+not-place true rest e = cc
+not-place false rest e = refl
+
+pub write-alone : (view : VolumeView) (tree : Tree) (path : List (List ℕ)) (stream : Option (List ℕ)) (from : ℕ) (bytes : List ℕ)
+    (at : Located) → IsDoneAlone view tree (c.Write path stream from bytes) at
+    → is_done_in_place view tree (c.Write path stream from bytes) at ≡ false
+write-alone view tree path stream from bytes at (inl is) = not-place (is_done_in_place view tree (c.Write path stream from bytes) at) _ is
+write-alone view tree path stream from bytes at (inr is) = not-place (is_done_in_place view tree (c.Write path stream from bytes) at) _ is
+
+pub hwrite-alone : (view : VolumeView) (tree : Tree) (handle from : ℕ) (bytes : List ℕ) (at : Located)
+    → IsDoneAlone view tree (c.Hwrite handle from bytes) at → is_done_in_place view tree (c.Hwrite handle from bytes) at ≡ false
+hwrite-alone view tree handle from bytes at (inl is) = not-place (is_done_in_place view tree (c.Hwrite handle from bytes) at) _ is
+hwrite-alone view tree handle from bytes at (inr is) = not-place (is_done_in_place view tree (c.Hwrite handle from bytes) at) _ is
 
 -- THE STREAM of a command that is done has a part, either way.
 place-some : (view : VolumeView) (tree : Tree) (command : Command) (at : Located) → edits_stream command ≡ true
@@ -102,8 +120,13 @@ extent-some (Some part) is = refl
 
 clusters-alone : (view : VolumeView) (tree : Tree) (command : Command) (at : Located) → is_done_in_clusters view tree command at ≡ true
     → is_extent_alone view tree at ≡ true
-clusters-alone view tree (c.Truncate path stream size) at is =
-    (and_parts (is_extent_alone view tree at) (gets_no_longer size at.content) is).0
+clusters-alone view tree (c.Write path stream from bytes) at is =
+    (and_parts (is_extent_alone view tree at) (can_reach view at.file (stream_parts view tree at) from (length bytes))
+    (and_parts (not (is_done_in_place view tree (c.Write path stream from bytes) at)) _ is).1).0
+clusters-alone view tree (c.Hwrite handle from bytes) at is =
+    (and_parts (is_extent_alone view tree at) (can_reach view at.file (stream_parts view tree at) from (length bytes))
+    (and_parts (not (is_done_in_place view tree (c.Hwrite handle from bytes) at)) _ is).1).0
+clusters-alone view tree (c.Truncate path stream size) at is = (and_parts (is_extent_alone view tree at) (can_end view tree at size) is).0
 clusters-alone view tree (c.Rmstream path name) at is = is
 clusters-alone view tree other at is = cc
 

@@ -4,4 +4,4 @@ pub use Rattle.in_place.specs.Unnamed.{CanSet, LiesApart}
 pub use Rattle.attribute_edits.specs.Attributes.{SetsSecurity}
 pub use Rattle.attribute_edits.specs.Below.{SetsAttributes}
 pub use Rattle.edit_written.specs.Finished.{IsFinished, IsPlaceOf}
-pub use Rattle.edit_written.specs.Below.{PunchesValue, PutsStream, WritesOver}
+pub use Rattle.edit_written.specs.Below.{PunchesValue, PutsBytes, PutsStream, ResizesStream, WritesOver, no_gain}

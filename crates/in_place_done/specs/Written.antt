@@ -1,6 +1,6 @@
 -- AN EDIT THAT WAS STAGED, AND WRITTEN. One in place: bytes of a stream that went over bytes, a range of a value that was made zero, and
 -- times, flags and the security id of a file that were set. Or one of a stream alone, a value or in clusters: it has other bytes, or went.
-use Rattle.std.specs.Prelude.{◌≡◌, ◌||◌, ◌+◌, ◌*◌, ◌/◌, ◌^◌, ◌<◌, ◌≤◌, ℕ, Bool, List, Contains, Ok, Option, None, Some, bit_and, length}
+use Rattle.std.specs.Prelude.{◌≡◌, ◌||◌, ◌+◌, ◌*◌, ◌/◌, ◌^◌, ◌<◌, ◌≤◌, ℕ, Bool, List, Contains, Ok, None, Some, bit_and, length}
 use Rattle.std.specs.Prelude.{false, slice_set, true}
 use Rattle.vol_disk.specs.Contents.{sector_in}
 use Rattle.ntfs_def.specs.FileName.{FileName}
@@ -17,7 +17,6 @@ use Rattle.tree_model.specs.Facts.{IsVolumeOf, TellsFacts}
 use Rattle.tree_model.specs.Reading.{read}
 use Rattle.tree_model.specs.Refusals.{Facts, outcome}
 use Rattle.tree_model.specs.Ways.{is_done_in_place}
-use Rattle.tree_model.specs.Streams.{resized, written}
 use Rattle.tree_model.specs.Subjects.{Located, Machine}
 use Rattle.tree_model.specs.declared.command.Command.{Command}
 use Rattle.tree_model.specs.declared.command.Command.TheVariants as c
@@ -35,7 +34,8 @@ use Rattle.volume_mark.specs.SameVolume.{AgreesButMark}
 use Rattle.attribute_edits.specs.Below.{SetsAttributes}
 use Rattle.in_place.specs.Unnamed.{CanSet}
 use Rattle.attribute_edits.specs.Attributes.{SetsSecurity}
-use Rattle.edit_written.specs.Below.{PunchesValue, PutsStream, WritesOver, edits_value}
+use Rattle.edit_written.specs.Below.{PunchesValue, PutsStream, ResizesStream, WritesOver, edits_value, no_gain}
+use Rattle.edit_written.specs.Below as edits
 use Rattle.in_place_owed.specs.SetsInPlace.{edits_in_place}
 
 -- a command sets no flags but those that are shown, and a security id of four bytes
@@ -78,18 +78,19 @@ pub record PunchesStream (before : State) (at : Located) (f : ℕ) (node : Node)
   pub tellable : AreTellable (told_of before.view f)
   pub punches : PunchesValue before.view new f name from len (touched before.machine.now node).times node.flags
 
--- THE STREAM HAS THESE BYTES, or goes. Then the moment was set as those times too.
-pub record EditsStream (before : State) (at : Located) (f : ℕ) (node : Node) (bytes : Option (List ℕ)) (new : VolumeView) : Type 0 where
+-- THE STREAM IS EDITED ALONE, by the name that it has. Then the moment was set as those times too.
+pub record EditsStream (before : State) (at : Located) (f : ℕ) (Edits : List ℕ → Type 0) : Type 0 where
   pub name : List ℕ
   pub spelt_so : units_in name ≡ spelt before.machine.tree at
   pub there : IsThere before.view (key_of f DATA name)
   pub tellable : AreTellable (told_of before.view f)
-  pub puts : PutsStream before.view new f name bytes (touched before.machine.now node).times node.flags
+  pub edits : Edits name
 
 -- A WRITE: its bytes went over bytes where it is done in place, and else the stream has them then.
 abbrev pub PutsInStream : Bool → State → Located → ℕ → Node → ℕ → List ℕ → VolumeView → Type 0
 PutsInStream true before at f node from bytes new = WritesStream before at f node from bytes new
-PutsInStream false before at f node from bytes new = EditsStream before at f node (Some (written from bytes (bytes_at at))) new
+PutsInStream false before at f node from bytes new = EditsStream before at f (λ name.
+    edits.PutsBytes before.view new f name from bytes (bytes_at at) (touched before.machine.now node).times node.flags)
 
 -- WHAT THE COMMAND STAGES: the bytes of a write, the zeros of a punch, the stream as long as `truncate` makes it or gone by `rmstream`; of
 -- `setattr` the flags, and of `setsec` the id, with the moment as the time at which the file's record changed.
@@ -100,8 +101,10 @@ Stages before (c.Write path stream from bytes) at f node new =
 Stages before (c.Hwrite handle from bytes) at f node new =
     PutsInStream (is_done_in_place before.view before.machine.tree (c.Hwrite handle from bytes) at) before at f node from bytes new
 Stages before (c.Punch path stream from len) at f node new = PunchesStream before at f node from len new
-Stages before (c.Truncate path stream size) at f node new = EditsStream before at f node (Some (resized size (bytes_at at))) new
-Stages before (c.Rmstream path name) at f node new = EditsStream before at f node None new
+Stages before (c.Truncate path stream size) at f node new = EditsStream before at f (λ name.
+    ResizesStream before.view new f name size (bytes_at at) (touched before.machine.now node).times node.flags)
+Stages before (c.Rmstream path name) at f node new = EditsStream before at f (λ name.
+    PutsStream before.view new f name None no_gain 0 (touched before.machine.now node).times node.flags)
 Stages before (c.Setsec path id) at f node new =
     SetsSecurity before.view new f id (slice_set node.times 2 before.machine.now) node.flags
 Stages before other at f node new = ⊥
@@ -116,13 +119,13 @@ abbrev pub machine_behind : State → ℕ → Command → Located → Machine
 machine_behind before session command at = after before.machine session command at 0
 
 -- how many sectors the edit may write at most: the mark, the log, those that its bytes touch, records with their copies, and twelve for
--- each name; and two for each cluster that is given back
+-- each name; and two for each cluster that is given back, or taken
 abbrev pub most_set : State → Command → ℕ → ℕ
 most_set before command f =
     first_cost before.view + 12 + 12 * length (names_of (records_of before.view) f) + bytes_in command / 512
 
 abbrev pub most_written : State → Command → ℕ → VolumeView → ℕ
-most_written before command f new = most_set before command f + 2 * given_back before.view new
+most_written before command f new = most_set before command f + 2 * given_back before.view new + 2 * given_back new before.view
 
 -- WHAT IT LEAVES: a sound volume was staged that reads as the machine's tree, and what was written of it is all that an edit that was done
 -- leaves.

@@ -9,8 +9,8 @@ ghost use Rattle.mark_write.specs.declared.log.Span.{Span};
 ghost use Rattle.edit_written.specs.Finished.{IsFinished, IsPlaceOf};
 ghost use Rattle.in_place_done.specs.Written.{FindsFile, LeavesEdit, StagesEdit};
 
-/// Where `setattr`, `setsec`, a write over bytes, a punch of a value, a write into one, or a `truncate` or a `rmstream` of one or of a stream in
-/// clusters found its file, what it does was staged, and that was written behind the mark, all is left that is due (`leaves`).
+/// Where `setattr`, `setsec`, a write over bytes, a punch of a value, or a write into a value or a stream in clusters, or a `truncate` or
+/// `rmstream` of either found its file, what it does was staged, and that was written behind the mark, all is left that is due (`leaves`).
 pub fn in_place_done_laws()
     ensures leaves { (facts : Facts) (before : State) (session : ℕ) (command : Command) (f : ℕ) (node : Node) (flag : Flag)
         (marked : Bool) (spans : List Span) (staged written : List ℕ)

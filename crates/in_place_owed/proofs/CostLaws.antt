@@ -95,7 +95,7 @@ all-refreshed tree command at made little one = fun_ext (λ link.
     plain true = refl
     plain false = refl
 
-names-depth : (view : VolumeView) → IsSound view → (command : Command) (at : Located) (made : ℕ) → DoesLittle (read view) command at
+pub names-depth : (view : VolumeView) → IsSound view → (command : Command) (at : Located) (made : ℕ) → DoesLittle (read view) command at
     → timed command at made ≡ at.file ∷ [] → links_of (read view) at.file ≤ depths view (read view) command at made
 unfolding depths
 names-depth view sound command at made little one =

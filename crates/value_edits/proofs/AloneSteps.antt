@@ -1,5 +1,4 @@
--- WHAT THE STEPS OF A CALL ARE on one stream: nothing was given back, the header of the record stays, and a value stands in the place of
--- a value.
+-- WHAT THE STEPS OF A CALL ARE on one stream: the header of the record stays, and a value stands in the place of a value.
 use Rattle.std.proofs.Common.{◌≡◌, ◌≤◌, ◌^◌, ℕ, true, false, List, [], ◌∷◌, Option, None}
 use Rattle.std.proofs.Common.{refl, sym, ap, subst, inl, ◌∙◌, arith}
 use Rattle.std.specs.Option.{option_map}
@@ -10,7 +9,6 @@ use Rattle.ntfs_def.specs.declared.run_text.Run.{Run}
 use Rattle.ntfs_def.specs.declared.run_text.Spot.TheVariants.{Outside}
 use Rattle.ntfs_def.specs.Runs.{spot_of}
 use Rattle.ntfs_def.proofs.SpotLaws.{spot_of-none}
-use Rattle.volume_def.specs.Coverage.{times_covered}
 use Rattle.volume_def.specs.Files.{Part, content_extent, content_of, part_of, part_runs}
 use Rattle.volume_def.specs.LimitsClause.{IsInLimits}
 use Rattle.volume_def.specs.Table.{cluster_bytes}
@@ -19,30 +17,13 @@ use Rattle.volume_def.specs.View.{VolumeView}
 use Rattle.tree_model.specs.StreamRoom.{is_cluster}
 use Rattle.edit_def.specs.Forms.{form_of}
 use Rattle.session_def.specs.Nodes.{IsSpreadRight, IsSpreadSame, Spread, has_hole, spread_of}
-use Rattle.record_edits.specs.Given.{GivesBack}
 use Rattle.record_edits.specs.RecordEdit.{parts_made}
 use Rattle.record_edits.proofs.WholeEdits as whole
 use Rattle.stream_overwrites.proofs.Below.{body-none, value-content, value-size}
 use Rattle.extent_edits.specs.Cut.{KeepsRecord}
-use Rattle.value_edits.specs.ValueEdits.{ComesInPlace}
+use Rattle.value_edits.specs.ValueEdits.{ComesInPlace, no_gain}
 use Rattle.value_edits.proofs.OnePart.{flags-one, holed-one, spot-one, spread-one, spread_in}
 use Rattle.value_edits.proofs.RunHoles.{has_hole_in}
-
--- NOTHING was given back.
-pub nothing-given : (view : VolumeView) → GivesBack view view []
-nothing-given view = record {
-  writes = record {
-    told = refl;
-    layout = refl;
-    blocks = λ n. refl;
-    copies = λ m low. refl;
-    rest = λ k. refl;
-    clusters = λ c owned free. refl;
-  };
-  given = λ c some. let none : times_covered [] c ≡ 0 = refl in absurd (omega (arith, some, none));
-  others = λ c none. refl;
-  records = refl;
-}
 
 -- a header that stays
 pub header-same : (was now : Header) → now ≡ was → KeepsRecord was now
@@ -89,7 +70,8 @@ module _ (f : ℕ) (a : Attribute) (is : IsSome (value_of a.body)) where
 
 -- .. in the place of a value
 pub value-comes : (view : VolumeView) (f : ℕ) (was now : Attribute) → IsSome (value_of was.body) → IsSome (value_of now.body)
-    → now.kind ≡ was.kind → now.name ≡ was.name → now.flags ≡ was.flags → form_of now ≡ form_of was → ComesInPlace view f was now
+    → now.kind ≡ was.kind → now.name ≡ was.name → now.flags ≡ was.flags → form_of now ≡ form_of was
+    → ComesInPlace view f no_gain 0 was now
 value-comes view f was now was_is now_is kind name flags form = record {
   kind = kind;
   name = name;

@@ -1,28 +1,25 @@
 -- A STREAM IN CLUSTERS THAT IS CUT, after its clusters behind the new end were given back: it has the bytes up to there.
-use Rattle.std.proofs.Common.{◌≡◌, ◌⊎◌, ◌+◌, ◌*◌, ◌-◌, ◌≤◌, ◌<◌, ◌^◌, ◌==◌, ℕ, true, false, List, [], ◌∷◌, drop, length}
-use Rattle.std.proofs.Common.{Some, None, Option, filter, refl, sym, ap, subst, inl, inr, ◌∙◌, arith}
-use Rattle.std.specs.Prelude.{Contains, IfSome, IsFalse, IsSome, IsSomeAnd, IsTrue, count_by, min, nat_lt}
-use Rattle.std.proofs.lemmas.Bool.{and_left, and_right, both_ways, cases_lt, le-ltb, lt-ltb, ne_eqb, or_from}
-use Rattle.std.proofs.lemmas.List.Elements.{All-contains}
+use Rattle.std.proofs.Common.{◌≡◌, ◌⊎◌, ◌+◌, ◌*◌, ◌-◌, ◌≤◌, ◌<◌, ◌^◌, ℕ, true, false, List, [], ◌∷◌, drop}
+use Rattle.std.proofs.Common.{Some, filter, refl, sym, ap, subst, inl, inr, ◌∙◌, arith}
+use Rattle.std.specs.Prelude.{IfSome, IsSome, count_by, min, nat_lt}
+use Rattle.std.proofs.lemmas.Bool.{both_ways, cases_lt, le-ltb, lt-ltb}
 use Rattle.std.proofs.lemmas.Nat.{le-div}
-use Rattle.list_laws.proofs.MemberLaws.{Contains-from_filter, Contains-head}
+use Rattle.list_laws.proofs.MemberLaws.{Contains-head}
 use Rattle.list_laws.proofs.ReplacesLaws.{Replaces-stood}
 use Rattle.ntfs_def.specs.Fixup.{opened_of}
 use Rattle.ntfs_def.specs.Flags.{is_packed, is_sparse}
 use Rattle.ntfs_def.specs.Rounded.{clusters_for}
 use Rattle.ntfs_def.specs.Runs.{IsRunListFrom, clusters_of}
 use Rattle.ntfs_def.specs.declared.kinds.TheConstants.{DATA}
-use Rattle.ntfs_def.specs.declared.records.TheConstants.{BAD_CLUSTERS, CLUSTER_BITMAP, MFT, MFT_MIRROR}
 use Rattle.ntfs_def.specs.declared.run_text.Run.{Run}
 use Rattle.ntfs_def.specs.declared.run_text.Spot.TheVariants.{At}
 use Rattle.ntfs_def.specs.declared.sizes.Sizes.{Sizes}
 use Rattle.volume_def.specs.AttributesClause.{is_kept_resident}
 use Rattle.volume_def.specs.Coverage.{times_covered}
-use Rattle.volume_def.specs.ExtentsClause.{AreAttribute, is_bad_stream}
-use Rattle.volume_def.specs.Files.{Content, Part, Record, Records, content_extent, is_base, is_of, part_of, part_runs, parts}
-use Rattle.volume_def.specs.Files.{parts_at, record_on, records_of}
+use Rattle.volume_def.specs.ExtentsClause.{AreAttribute}
+use Rattle.volume_def.specs.Files.{Content, Part, Records, content_extent, is_of, part_of, part_runs, parts}
+use Rattle.volume_def.specs.Files.{parts_at}
 use Rattle.volume_def.specs.LimitsClause.{IsInLimits}
-use Rattle.volume_def.specs.Sound as clauses
 use Rattle.volume_def.specs.Table.{cluster_bytes}
 use Rattle.volume_def.specs.Values.{first_part, spot_at}
 use Rattle.volume_def.specs.View.{VolumeView}
@@ -30,7 +27,6 @@ use Rattle.volume_def.proofs.SoundLaws.{readable-sound}
 use Rattle.tree_model.specs.StreamRoom.{is_cluster}
 use Rattle.tree_model.specs.Streams.{resized}
 use Rattle.tree_model.specs.declared.tree.Node.{Node}
-use Rattle.edit_def.specs.Edited.{is_table_key}
 use Rattle.edit_def.specs.Kept.{Key, key_of}
 use Rattle.edit_def.proofs.Sums.{clusters_for-least}
 use Rattle.session_def.specs.Nodes.{IsSpreadRight, IsSpreadSame, Spread, has_hole, spread_of}
@@ -50,15 +46,15 @@ use Rattle.in_place_owed.specs.Below.{CanSet, LiesApart}
 use Rattle.extent_edits.specs.Cut.{CutsExtent}
 use Rattle.stream_overwrites.specs.Overwritten.{FindsPlain}
 use Rattle.stream_overwrites.proofs.FoundStream as found
-use Rattle.stream_overwrites.proofs.ShownFile.{file, not-bad, not-bitmap, not-mirror, not-table}
-use Rattle.value_edits.specs.ValueEdits.{ComesInPlace, EditsAlone, IsStreamOf, PutsGiving, PutsValue}
+use Rattle.stream_overwrites.proofs.ShownFile.{file}
+use Rattle.value_edits.specs.ValueEdits.{ComesInPlace, EditsAlone, EndsBy, IsStreamOf, PutsGiving, PutsValue, no_gain}
 use Rattle.value_edits.proofs.CutExtent as shorter
 use Rattle.value_edits.proofs.EditedRecord as value
-use Rattle.value_edits.proofs.ExtentCalls.{header-kept, right-mid}
+use Rattle.value_edits.proofs.ExtentCalls.{header-kept, near, no-bits, no-table, right-mid}
 use Rattle.value_edits.proofs.OnePart.{first-one}
+use Rattle.value_edits.proofs.Prepared.{given-prepared}
 use Rattle.value_edits.proofs.RunHoles.{text-list}
 use Rattle.value_edits.proofs.SparseSizes.{sparse-told}
-use Rattle.value_edits.proofs.WrittenBytes.{resized-long}
 use Rattle.value_edits.proofs.ValueCalls.{no-name, no-standard, plain-one}
 
 -- so many clusters reach the byte
@@ -74,10 +70,6 @@ below-least i a size inside = elim (cases_lt i a) [
   | inl below ↦ lt-ltb i (min a size) (omega (arith, below, inside)) ∙ sym (lt-ltb i a below)
   | inr past ↦ le-ltb i (min a size) (omega (arith, past)) ∙ sym (le-ltb i a past)
 ]
-
-if-base : (P : Type 0) (o : Option Record) → IsSomeAnd o (λ r. IsTrue (is_base r)) → IfSome o (λ r. IsTrue (is_base r) → P) → P
-if-base P None is each = absurd is
-if-base P (Some r) is each = each is
 
 module _ (old mid new : VolumeView) (f i size : ℕ) (node : Node) (name : List ℕ) (given : List Run) (gives : GivesBack old mid given)
     (e : CutsExtent mid new f i size) (can : CanSet old f node) (one : IsInOneRecord old f) (is : IsStreamOf name e.was)
@@ -108,23 +100,12 @@ module _ (old mid new : VolumeView) (f i size : ℕ) (node : Node) (name : List 
   kind-now = e.kind ∙ is.kind
 
   -- IN LIMITS, as the longer one was
-  limits-was : IsInLimits f was
-  limits-was =
-      let all = if-base _ (record_on old f) (file old f node can.there) (can.sound clauses.Limits f) in
-      let among = Contains-from_filter (is_of DATA name) (parts (records_of old) f) was
-      (subst (λ xs. Contains xs was) (sym stood) (Contains-head was [])) in
-      All-contains (IsInLimits f) (parts (records_of old) f) was all among.0
-
-  good-was : IsFalse (is_bad_stream f was)
-  good-was = and_left (f == BAD_CLUSTERS) _ (ne_eqb f BAD_CLUSTERS (not-bad old f node can.there))
-
   limits-now : IsInLimits f now
   limits-now kind good =
       let real = ap (λ (s : Sizes). s.real) e.cut.sizes in
-      let most = subst (λ (content : Content). IfSome (content_extent content) (λ extent.
-      extent.sizes.first ≡ 0 → extent.sizes.real ≤ 2 ^ 40)) e.cut.can.is (limits-was is.kind good-was) in
+      let most = near old f node name can was e.cut.can.extent e.cut.can.runs is.kind stood e.cut.can.is e.cut.can.first in
       subst (λ (content : Content). IfSome (content_extent content) (λ extent. extent.sizes.first ≡ 0 → extent.sizes.real ≤ 2 ^ 40))
-      (sym e.cut.is) (λ zero. omega (arith, real, most e.cut.can.first, e.cut.can.long))
+      (sym e.cut.is) (λ zero. omega (arith, real, most, e.cut.can.long))
 
   -- A SPARSE ONE tells the bytes of its clusters that are no hole.
   sparse-number : is_sparse e.now.flags ≡ true → IsSome e.cut.can.extent.compressed
@@ -140,15 +121,15 @@ module _ (old mid new : VolumeView) (f i size : ℕ) (node : Node) (name : List 
       (text-list e.now.body e.cut.extent e.cut.runs e.cut.is))
 
   -- WHAT COMES
-  comes : ComesInPlace old f e.was e.now
+  comes : ComesInPlace old f no_gain 0 e.was e.now
   comes = record {
     kind = e.kind;
     name = e.name;
     form = e.form;
     limits = limits-now;
     whole = subst (λ b. AreAttribute b f (now ∷ [])) bytes-same (shorter.whole bytes size some was now e.cut f);
-    size = shorter.size-less bytes size some was now e.cut;
-    spots = shorter.spots bytes size some was now e.cut;
+    size = let less = shorter.size-less bytes size some was now e.cut in omega (arith, less);
+    spots = λ vcn lies. inl (shorter.spots bytes size some was now e.cut vcn lies);
     holes = holes-now;
     keeps = record {
       flags = inl (shorter.flags-kept bytes size some was now e.cut e.flags);
@@ -158,16 +139,17 @@ module _ (old mid new : VolumeView) (f i size : ℕ) (node : Node) (name : List 
     };
   }
 
-  balance : (c : ℕ) → times_in (now ∷ []) c + times_covered given c ≡ times_in (was ∷ []) c
+  balance : (c : ℕ) → times_in (now ∷ []) c + times_covered given c ≡ times_in (was ∷ []) c + times_covered [] c
   balance c =
       let less = times-cut was now many (shorter.clusters-now bytes size some was now e.cut) c in
       let its : clusters_of given ≡ drop many (clusters_of (part_runs was)) =
       behind ∙ ap (λ b. drop (clusters_for size b) (clusters_of e.cut.can.runs)) (sym bytes-same)
       ∙ ap (λ (runs : List Run). drop many (clusters_of runs)) (sym (shorter.runs-was bytes size some was now e.cut)) in
       let counted = times-clusters given c ∙ ap (count_by (is_at c)) its in
-      omega (arith, less, counted)
+      let none : times_covered [] c ≡ 0 = refl in
+      omega (arith, less, counted, none)
 
-  cut-edit : EditsAlone key old new
+  cut-edit : EditsAlone key no_gain old new
   cut-edit = record {
     one = one;
     kind = refl;
@@ -175,16 +157,18 @@ module _ (old mid new : VolumeView) (f i size : ℕ) (node : Node) (name : List 
     now = Some e.now;
     was_of = record { kind = is.kind; name = is.name_is };
     stood = stood;
-    comes = comes;
     given = given;
+    taken = [];
     mid = mid;
-    gives = gives;
+    prepares = given-prepared key old mid given gives;
+    comes = comes;
     balance = balance;
     stored = e.stored;
     block = e.edits;
-    header = header-kept old mid f given gives e.stored e.header;
+    header = header-kept old mid f (gives.writes.blocks f) (same is_bits_key old mid gives.writes) e.stored e.header;
     right = right-put mid new f e.stored e.was e.now e.edits
-        (right-mid old mid f given gives new e.stored (e.was ∷ []) (e.now ∷ []) e.edits can.sound) e.kind (inl e.id) (record {
+        (right-mid old mid f (gives.writes.blocks f) (same is_bits_key old mid gives.writes) new e.stored (e.was ∷ []) (e.now ∷ []) e.edits
+        can.sound) e.kind (inl e.id) (record {
           resident = λ kept. let never = sym (ap is_kept_resident kind-now) ∙ kept in cc;
           name = λ named. absurd (no-name e.now kind-now named);
         })
@@ -205,18 +189,12 @@ module _ (old mid new : VolumeView) (f i size : ℕ) (node : Node) (name : List 
       ap (λ xs. spot_at xs vcn) stands ∙ shorter.spot-inside bytes size some was now e.cut vcn inside
       ∙ sym (ap (λ xs. spot_at xs vcn) stood)
 
-  no-bits : is_bits_key key ≡ false
-  no-bits = and_right (length name == 0) _ (ne_eqb f CLUSTER_BITMAP (not-bitmap old f node can.there))
-
-  no-table : is_table_key key ≡ false
-  no-table = and_right (length name == 0) _
-      (or_from (f == MFT) _ (ne_eqb f MFT (not-table old f node can.there)) (ne_eqb f MFT_MIRROR (not-mirror old f node can.there)))
-
   holds-still : (vcn c : ℕ) → spot_at (extents_at old key) vcn ≡ At c → new.cluster c ≡ old.cluster c
   holds-still vcn c at =
       let at_mid = ap (λ (r : Records). spot_at (filter (is_of DATA name) (parts r f)) vcn) (same is_bits_key old mid gives.writes) ∙ at in
-      attribute-stays mid new e.edits.replaces.clusters apart-mid.owners apart-mid.some apart-mid.unnamed f DATA name no-table vcn c at_mid
-      ∙ clusters-kept is_bits_key old mid gives.writes can.apart.owners f DATA name no-bits vcn c at
+      attribute-stays mid new e.edits.replaces.clusters apart-mid.owners apart-mid.some apart-mid.unnamed f DATA name
+      (no-table old f node name can) vcn c at_mid
+      ∙ clusters-kept is_bits_key old mid gives.writes can.apart.owners f DATA name (no-bits old f node name can) vcn c at
 
   kept : (vcn c : ℕ) → spot_at (extents_at new key) vcn ≡ At c → new.cluster c ≡ old.cluster c
   kept vcn c at = elim (cases_lt vcn many) [
@@ -284,30 +262,33 @@ module _ (old mid new : VolumeView) (f i size : ℕ) (node : Node) (name : List 
     plain-now = ap (is_packed DATA) e.flags
         ∙ plain-one old f node asked name held can finds was stood (first-one was (shorter.first-was bytes size some was now e.cut)) is.kind
 
-    -- its last cluster holds some of its bytes
-    ends : (vcn : ℕ) → is_cluster (spot_at (extents_at new key) vcn) ≡ true → vcn * cluster_bytes old.layout < length (resized size held)
-    ends vcn lies = elim (cases_lt (vcn * bytes) size) [
-      | inl below ↦
-          let long = resized-long size held in
-          subst (λ b. vcn * b < length (resized size held)) bytes-same (omega (arith, below, long))
-      | inr past ↦
-          let never = sym (ap (λ xs. is_cluster (spot_at xs vcn)) stands
-          ∙ ap is_cluster (shorter.spot-past bytes size some was now e.cut vcn (clusters_for-least vcn size bytes some past))) ∙ lies in
-          cc
-    ]
-
-    cut-put : PutsValue old new f name (Some (resized size held))
+    cut-put : PutsValue old new f name (Some (resized size held)) no_gain
     cut-put = record {
-      ends = ends;
       edits = cut-edit;
       shows = list-held new key e.now.flags after (resized size held) has-new (list-cut before after held size cuts held-old) plain-now;
     }
+
+  -- its last cluster holds some of its bytes
+  cut-ends : EndsBy new f name size
+  cut-ends vcn lies = elim (cases_lt (vcn * bytes) size) [
+    | inl below ↦ subst (λ b. vcn * b < size) (bytes-same ∙ sym bytes-now) below
+    | inr past ↦
+        let never = sym (ap (λ xs. is_cluster (spot_at xs vcn)) stands
+        ∙ ap is_cluster (shorter.spot-past bytes size some was now e.cut vcn (clusters_for-least vcn size bytes some past))) ∙ lies in
+        cc
+  ]
 
 pub cut-given : (old mid new : VolumeView) (f i size : ℕ) (node : Node) (asked name held : List ℕ) (given : List Run)
     → GivesBack old mid given → (e : CutsExtent mid new f i size) → CanSet old f node → FindsPlain old f node asked name held
     → IsInOneRecord old f → IsStreamOf name e.was → parts_at old f DATA name ≡ part_of f e.was ∷ []
     → clusters_of given ≡ drop (clusters_for size (cluster_bytes old.layout)) (clusters_of e.cut.can.runs)
-    → PutsGiving old new f name (Some (resized size held)) given
+    → PutsGiving old new f name (Some (resized size held)) no_gain given [] × EndsBy new f name size
 unfolding cut-put cut-edit
-cut-given old mid new f i size node asked name held given gives e can finds one is stood behind =
-    (cut-put old mid new f i size node name given gives e can one is stood behind asked held finds, refl)
+cut-given old mid new f i size node asked name held given gives e can finds one is stood behind = (
+  record {
+    puts = cut-put old mid new f i size node name given gives e can one is stood behind asked held finds;
+    given_are = refl;
+    taken_are = refl;
+  },
+  cut-ends old mid new f i size node name given gives e can one is stood behind,
+)

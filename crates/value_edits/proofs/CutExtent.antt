@@ -1,36 +1,34 @@
 -- AN EXTENT THAT WAS CUT, part by part: it is an attribute by itself, lies where the longer one lay, has a hole only where that had one,
 -- and its sizes tell its clusters.
-use Rattle.std.proofs.Common.{◌≡◌, ◌⊎◌, ◌≤◌, ◌<◌, ◌+◌, ◌-◌, ◌*◌, ◌||◌, ℕ, Bool, true, false, List, [], ◌∷◌, Option, Some, None, length}
-use Rattle.std.proofs.Common.{take, refl, sym, ap, subst, inl, inr, ◌∙◌, arith, drop, length-drop, length-take}
-use Rattle.std.specs.List.{range_with_len}
-use Rattle.std.specs.Option.{option_map, option_map_or}
-use Rattle.std.specs.Prelude.{IfSome, IsSome, IsSomeAnd, count_by, is_some, sum_by, unwrap_or}
+use Rattle.std.proofs.Common.{◌≡◌, ◌⊎◌, ◌≤◌, ◌<◌, ◌+◌, ◌-◌, ◌*◌, ◌||◌, ℕ, Bool, true, false, List, [], ◌∷◌, length}
+use Rattle.std.proofs.Common.{take, sym, ap, inl, inr, ◌∙◌, arith, drop, length-drop, length-take, refl}
+use Rattle.std.specs.Prelude.{IfSome, IsSome, is_some, sum_by}
 use Rattle.std.proofs.lemmas.Bool.{cases_lt}
 use Rattle.std.proofs.lemmas.List.Sums.{count_by-le-length}
 use Rattle.std.proofs.lemmas.Nat.{div-add-mod', mod_below}
-use mathlib.Core.Path.{fun_ext}
 use Rattle.ntfs_def.specs.Flags.{is_sparse}
 use Rattle.ntfs_def.specs.Rounded.{clusters_for}
-use Rattle.ntfs_def.specs.Runs.{IsRunListFrom, clusters_of, spot_of, total_clusters}
+use Rattle.ntfs_def.specs.Runs.{IsRunListFrom, clusters_of, total_clusters}
 use Rattle.ntfs_def.specs.declared.run_text.Run.{Run}
 use Rattle.ntfs_def.specs.declared.run_text.Spot.TheVariants.{Outside}
 use Rattle.ntfs_def.specs.declared.sizes.Sizes.{Sizes}
-use Rattle.volume_def.specs.ExtentsClause.{AreAttribute, BeginsAt, FitExtents, last_vcn_of}
-use Rattle.volume_def.specs.Files.{Content, Part, all_covered, content_extent, content_runs, part_clusters, part_runs}
+use Rattle.volume_def.specs.ExtentsClause.{AreAttribute, FitExtents, last_vcn_of}
+use Rattle.volume_def.specs.Files.{Part, part_clusters, part_runs}
 use Rattle.volume_def.specs.Values.{first_part, first_vcn_of, spot_at}
 use Rattle.data_runs.proofs.PieceLaws.{total-is}
 use Rattle.tree_model.specs.StreamRoom.{is_cluster}
 use Rattle.edit_def.specs.Places.{flags_of}
 use Rattle.edit_def.specs.Purses.{part_size, run_size}
-use Rattle.session_def.specs.Nodes.{IsSpreadRight, IsSpreadSame, Spread, has_hole, is_sparse_stream, owned_by, spread_of}
+use Rattle.session_def.specs.Nodes.{IsSpreadRight, IsSpreadSame, Spread, has_hole, spread_of}
 use Rattle.record_edits.proofs.RunTimes.{cut-inside, cut-past, size-cut}
-use Rattle.record_edits.proofs.WholeEdits.{one-extent}
 use Rattle.extent_edits.specs.Cut.{IsCut}
-use Rattle.value_edits.proofs.OnePart.{covered-one, first-one, flags-one, holed-one, spot-one, spread-one, spread_in}
-use Rattle.value_edits.proofs.RunHoles.{has_hole_in, holed-fewer, owned-count, placed-all}
+use Rattle.value_edits.proofs.OneExtent as one
+use Rattle.value_edits.proofs.OneExtent.{told-anew}
+use Rattle.value_edits.proofs.OnePart.{flags-one, holed-one, spot-one}
+use Rattle.value_edits.proofs.RunHoles.{has_hole_in, holed-fewer, placed-all}
 
 -- so many clusters have room for the bytes
-room-for : (size bytes : ℕ) → 0 < bytes → size ≤ clusters_for size bytes * bytes
+pub room-for : (size bytes : ℕ) → 0 < bytes → size ≤ clusters_for size bytes * bytes
 room-for size bytes some =
     let whole = div-add-mod' (size + (bytes - 1)) bytes in
     let less = mod_below (size + (bytes - 1)) bytes some in
@@ -42,19 +40,22 @@ module _ (bytes size : ℕ) (some : 0 < bytes) (was now : Part) (cut : IsCut byt
   many = clusters_for size bytes
 
   pub runs-was : part_runs was ≡ cut.can.runs
-  runs-was = ap (λ (content : Content). unwrap_or (content_runs content) []) cut.can.is
+  runs-was = one.runs-are bytes was cut.can.extent cut.can.runs cut.can.is cut.can.first
+
+  first-is : cut.extent.sizes.first ≡ 0
+  first-is = ap (λ (s : Sizes). s.first) cut.sizes
 
   pub runs-now : part_runs now ≡ cut.runs
-  runs-now = ap (λ (content : Content). unwrap_or (content_runs content) []) cut.is
+  runs-now = one.runs-are bytes now cut.extent cut.runs cut.is first-is
 
   pub clusters-now : clusters_of (part_runs now) ≡ take many (clusters_of (part_runs was))
   clusters-now = ap clusters_of runs-now ∙ cut.clusters ∙ ap (λ (runs : List Run). take many (clusters_of runs)) (sym runs-was)
 
   pub first-was : first_vcn_of was.content ≡ 0
-  first-was = ap first_vcn_of cut.can.is ∙ cut.can.first
+  first-was = one.from-first bytes was cut.can.extent cut.can.runs cut.can.is cut.can.first
 
   pub first-now : first_vcn_of now.content ≡ 0
-  first-now = ap first_vcn_of cut.is ∙ ap (λ (s : Sizes). s.first) cut.sizes
+  first-now = one.from-first bytes now cut.extent cut.runs cut.is first-is
 
   covered : part_clusters now ≡ many
   covered =
@@ -62,21 +63,15 @@ module _ (bytes size : ℕ) (some : 0 < bytes) (was now : Part) (cut : IsCut byt
       let long = sym (total-is (part_runs now)) ∙ ap length clusters-now ∙ length-take many (clusters_of (part_runs was)) in
       omega (arith, all, long, total-is (part_runs was), cut.can.covers)
 
-  -- IT IS AN ATTRIBUTE
-  begins : BeginsAt 0 now
-  begins = record {
-    runs = subst (λ (content : Content). IsSome (content_runs content)) (sym cut.is) refl;
-    first = subst (λ (content : Content). IsSomeAnd (content_extent content) (λ extent. extent.sizes.first ≡ 0)) (sym cut.is)
-        (ap (λ (s : Sizes). s.first) cut.sizes);
-    last = subst (λ (content : Content). IsSomeAnd (content_extent content) (λ extent.
-        extent.sizes.last ≡ last_vcn_of (0 + part_clusters now))) (sym cut.is) (ap (λ (s : Sizes). s.last) cut.sizes ∙ ap last_vcn_of (omega (arith, covered)));
-  }
+  many-are : total_clusters cut.runs ≡ many
+  many-are = sym (one.clusters-are bytes now cut.extent cut.runs cut.is first-is) ∙ covered
 
-  fits : FitExtents (part_clusters now * bytes) now.flags cut.extent.sizes
+  -- IT IS AN ATTRIBUTE
+  fits : FitExtents (total_clusters cut.runs * bytes) now.flags cut.extent.sizes
   fits =
       let initialized = ap (λ (s : Sizes). s.initialized) cut.sizes in
       let real = ap (λ (s : Sizes). s.real) cut.sizes in
-      let all : part_clusters now * bytes ≡ many * bytes = ap (λ n. n * bytes) covered in
+      let all : total_clusters cut.runs * bytes ≡ many * bytes = ap (λ n. n * bytes) many-are in
       record {
         initialized = omega (arith, initialized, real);
         real = omega (arith, real, all, room-for size bytes some);
@@ -84,8 +79,9 @@ module _ (bytes size : ℕ) (some : 0 < bytes) (was now : Part) (cut : IsCut byt
       }
 
   pub whole : (f : ℕ) → AreAttribute bytes f (now ∷ [])
-  whole f = one-extent bytes f now begins (λ judged. subst (λ (content : Content). IfSome (content_extent content) (λ extent.
-      extent.sizes.first ≡ 0 → FitExtents (part_clusters now * bytes) now.flags extent.sizes)) (sym cut.is) (λ zero. fits))
+  whole f =
+      one.whole-one bytes now cut.extent cut.runs cut.is first-is f
+      (ap (λ (s : Sizes). s.last) cut.sizes ∙ ap last_vcn_of (sym many-are)) fits
 
   -- IT LIES where the longer one lay.
   pub size-less : part_size now ≤ part_size was
@@ -122,38 +118,12 @@ module _ (bytes size : ℕ) (some : 0 < bytes) (was now : Part) (cut : IsCut byt
           absurd (omega (arith, owns, all, fewer, most, long, room, covered, total-is (part_runs was), cut.can.covers))
 
   -- ITS SIZES tell its clusters.
-  owned : owned_by (now ∷ []) ≡ sum_by run_size (part_runs now)
-  owned =
-      ap (λ (lies : ℕ → Bool). count_by lies (range_with_len 0 (all_covered (now ∷ []))))
-      (fun_ext (λ vcn. ap is_cluster (spot-one now vcn first-now)))
-      ∙ ap (λ n. count_by (λ vcn. is_cluster (spot_of (part_runs now) vcn)) (range_with_len 0 n)) (covered-one now)
-      ∙ owned-count (part_runs now)
-
-  told : spread_of (now ∷ []) ≡ Some (spread_in cut.extent)
-  told = spread-one now first-now ∙ ap (λ (content : Content). option_map spread_in (content_extent content)) cut.is
-
-  module _ (compressed : is_sparse now.flags ≡ true → IsSome cut.can.extent.compressed) where
-    sparse-now : is_sparse_stream (now ∷ []) ≡ true → is_sparse now.flags ≡ true
-    sparse-now sparse =
-        sym (ap (λ (o : Option Part). option_map_or (λ (part : Part). is_sparse part.flags) o false) (first-one now first-now)) ∙ sparse
-
-    counted : (o : Option ℕ) → IsSome o
-        → option_map (λ (old : ℕ). sum_by run_size cut.runs * bytes) o ≡ Some (sum_by run_size cut.runs * bytes)
-    counted (Some n) is = refl
-    counted None is = cc
-
-    spread : IsSpreadRight bytes (now ∷ []) (spread_in cut.extent)
-    spread = record {
-      allocated = ap (λ (s : Sizes). s.allocated) cut.sizes ∙ ap (λ n. n * bytes) (sym covered ∙ sym (covered-one now));
-      compressed = λ sparse.
-          cut.compressed ∙ counted cut.can.extent.compressed (compressed (sparse-now sparse))
-          ∙ ap (λ (n : ℕ). Some (n * bytes)) (ap (sum_by run_size) (sym runs-now) ∙ sym owned);
-    }
-
-    pub sizes-told : IfSome (spread_of (now ∷ [])) (λ (s : Spread). IsSpreadSame (was ∷ []) (now ∷ []) ⊎ IsSpreadRight bytes (now ∷ []) s)
-    sizes-told =
-        subst (λ (o : Option Spread). IfSome o (λ (s : Spread). IsSpreadSame (was ∷ []) (now ∷ []) ⊎ IsSpreadRight bytes (now ∷ []) s))
-        (sym told) (inr spread)
+  pub sizes-told : (is_sparse now.flags ≡ true → IsSome cut.can.extent.compressed)
+      → IfSome (spread_of (now ∷ [])) (λ (s : Spread). IsSpreadSame (was ∷ []) (now ∷ []) ⊎ IsSpreadRight bytes (now ∷ []) s)
+  sizes-told compressed =
+      one.sizes-told bytes now cut.extent cut.runs cut.is first-is (was ∷ [])
+      (ap (λ (s : Sizes). s.allocated) cut.sizes ∙ ap (λ n. n * bytes) (sym many-are))
+      (λ sparse. cut.compressed ∙ told-anew (sum_by run_size cut.runs * bytes) cut.can.extent.compressed (compressed sparse))
 
   pub flags-kept : now.flags ≡ was.flags → flags_of (first_part (now ∷ [])) ≡ flags_of (first_part (was ∷ []))
   flags-kept same = flags-one now first-now ∙ same ∙ sym (flags-one was first-was)

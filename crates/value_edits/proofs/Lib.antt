@@ -1,4 +1,5 @@
 pub mod GivenBack
+pub mod Prepared
 pub mod EditedRecord
 pub mod BitsStill
 pub mod SoundEdited
@@ -6,6 +7,7 @@ pub mod StreamPut
 pub mod ValueShown
 pub mod RunHoles
 pub mod OnePart
+pub mod OneExtent
 pub mod AloneSteps
 pub mod ValueCalls
 pub mod WrittenBytes
@@ -13,5 +15,8 @@ pub mod ExtentCalls
 pub mod CutExtent
 pub mod SparseSizes
 pub mod CutCalls
+pub mod ExtendedExtent
+pub mod ExtendCalls
+pub mod LongerStreams
 pub mod GivenCount
 pub mod Below

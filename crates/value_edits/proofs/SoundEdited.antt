@@ -1,19 +1,16 @@
 -- THE VOLUME IS SOUND where one stream was edited, of a file that is not the table of case.
-use Rattle.std.proofs.Common.{◌≡◌, ◌≢◌, ◌<◌, ◌+◌, ◌==◌, ◌&&◌, ℕ, false, [], refl, ap, subst, ◌∙◌, arith}
+use Rattle.std.proofs.Common.{◌≡◌, ◌≢◌, ◌<◌, ◌==◌, ◌&&◌, ℕ, Bool, false, [], refl, ap, subst, ◌∙◌, arith}
 use Rattle.std.specs.Str.{bytes_eq}
 use Rattle.std.proofs.lemmas.Bool.{and_left, and_right, ne_eqb}
 use Rattle.ntfs_def.specs.declared.kinds.TheConstants.{BITMAP, DATA, FILE_NAME, INDEX_ALLOCATION, INDEX_ROOT}
 use Rattle.ntfs_def.specs.declared.records.TheConstants.{CLUSTER_BITMAP, MFT, ROOT, SECURE, UPCASE}
-use Rattle.volume_def.specs.Coverage.{times_covered}
 use Rattle.volume_def.specs.Files.{Records, parts_at, records_of}
-use Rattle.volume_def.specs.OwnersClause.{times_owned}
 use Rattle.volume_def.specs.Sound.{IsSound}
 use Rattle.volume_def.specs.Sound as clauses
 use Rattle.volume_def.specs.Table.{TableLayout, cluster_bytes}
 use Rattle.volume_def.specs.Values.{value_of_parts, value_on}
 use Rattle.volume_def.specs.View.{VolumeView}
 use Rattle.volume_def.proofs.ValueLaws.{value-frame}
-use Rattle.edit_def.specs.Account.{nothing}
 use Rattle.edit_def.specs.Edited.{StoresBits, is_table_key}
 use Rattle.edit_def.specs.Kept.{Key, key_of, same_key}
 use Rattle.edit_def.specs.Marks.{Marks}
@@ -24,14 +21,16 @@ use Rattle.record_edits.proofs.BlockEdits.{attribute-stays}
 use Rattle.record_edits.proofs.ClauseEdits as edit
 use Rattle.record_edits.proofs.FileEdits as files
 use Rattle.stream_overwrites.specs.Below.{IsBetween, NamesNoIndex}
-use Rattle.stream_overwrites.proofs.Below.{between-quiet, between-references, between-sound, links-same, sound-by, sound-stored, sound-whole}
+use Rattle.stream_overwrites.proofs.Below.{between-quiet, between-references, between-sound, links-same, sound-by, sound-stored}
+use Rattle.stream_overwrites.proofs.Below.{sound-whole}
 use Rattle.in_place_owed.specs.Below.{LiesApart}
 use Rattle.in_place_owed.proofs.MarksLaws.{right_marks}
 use Rattle.value_edits.specs.ValueEdits.{EditsAlone}
 use Rattle.value_edits.proofs.BitsStill.{bits-still}
 use Rattle.value_edits.proofs.EditedRecord as value
 
-module _ (key : Key) (old new : VolumeView) (sound : IsSound old) (apart : LiesApart old) (e : EditsAlone key old new) where
+module _ (key : Key) (old new : VolumeView) (sound : IsSound old) (apart : LiesApart old) {gains : ℕ → Bool}
+    (e : EditsAlone key gains old new) where
   abbrev mid : VolumeView
   mid = e.mid
 
@@ -65,7 +64,7 @@ module _ (key : Key) (old new : VolumeView) (sound : IsSound old) (apart : LiesA
     bits = λ n name. ap (λ k. (k == BITMAP) && ((key.file == n) && bytes_eq key.name name)) e.kind;
   }
 
-  -- The bitmaps have the values that they had since the clusters were given back.
+  -- The bitmaps have the values that they had before the record was written.
   pub value-still : (m kind : ℕ) → m < SECURE → m ≢ ROOT → is_table_key (key_of m kind []) ≡ false
       → value_on new (parts_at new m kind []) ≡ value_on mid (parts_at mid m kind [])
   value-still m kind low other free =
@@ -74,14 +73,12 @@ module _ (key : Key) (old new : VolumeView) (sound : IsSound old) (apart : LiesA
       ∙ value-frame mid.cluster new.cluster (cluster_bytes mid.layout) (parts_at mid m kind [])
       (attribute-stays mid new e.block.replaces.clusters apart-mid.owners apart-mid.some apart-mid.unnamed m kind [] free)
 
-  times : (c : ℕ) → times_owned (records_of new) c + times_covered e.given c ≡ times_owned (records_of old) c
-  times c = value.owned-now key old new sound apart e c ∙ ap (λ (r : Records). times_owned r c) records-mid
-
   bits : StoresBits new
-  bits = bits-still old mid new after (value.edited key old new sound apart e).editable (value.layout key old new sound apart e) e.given
-      e.gives times (value.used-still key old new sound apart e)
-      (value-still CLUSTER_BITMAP DATA (omega arith) (λ z. absurd (omega (arith, z))) refl)
-      (value-still MFT BITMAP (omega arith) (λ z. absurd (omega (arith, z))) refl) sound
+  bits = bits-still old e.prepares.freed e.prepares.flagged new after (value.edited key old new sound apart e).editable
+      (value.layout key old new sound apart e) e.given e.taken e.prepares.gives e.prepares.takes e.prepares.differ
+      (value.owned-now key old new sound apart e) (value.used-still key old new sound apart e)
+      (value-still CLUSTER_BITMAP DATA (omega arith) (λ z. absurd (omega (arith, z))) refl ∙ value.flags-mid key old new sound apart e)
+      (value-still MFT BITMAP (omega arith) (λ z. absurd (omega (arith, z))) refl ∙ value.rows-mid key old new sound apart e) sound
 
   module _ (no_case : key.file ≢ UPCASE) where
     pub case-unnamed : same_key key (key_of UPCASE DATA []) ≡ false
@@ -89,8 +86,8 @@ module _ (key : Key) (old new : VolumeView) (sound : IsSound old) (apart : LiesA
         (and_left (key.file == UPCASE) (bytes_eq key.name []) (ne_eqb key.file UPCASE no_case))
 
     between : IsBetween new
-    between = between-quiet (same_key key) nothing old new before after (value.edited key old new sound apart e) names case-unnamed
-        no-index (between-sound old (sound-whole old sound))
+    between = between-quiet (same_key key) (value.wants key old new sound apart e) old new before after
+        (value.edited key old new sound apart e) names case-unnamed no-index (between-sound old (sound-whole old sound))
 
     pub sound-now : IsSound new
     sound-now = sound-stored new

@@ -20,7 +20,7 @@ use Rattle.tree_model.specs.Reading.{node_at, streams_of}
 use Rattle.tree_model.specs.Streams.{dropped, put_bytes, with_bytes, without_stream}
 use Rattle.tree_model.specs.Tree.{sought_stream}
 use Rattle.tree_model.specs.declared.tree.Node.{Node}
-use Rattle.edit_def.specs.Account.{nothing}
+use Rattle.edit_def.specs.Account.{Wants}
 use Rattle.edit_def.specs.Edited.{Edited, is_room_file, is_room_key}
 use Rattle.edit_def.specs.Kept.{Key, either, key_of, same_key}
 use Rattle.edit_def.specs.Marks.{Marks}
@@ -42,7 +42,7 @@ use Rattle.value_edits.proofs.EditedRecord as value
 use Rattle.value_edits.proofs.SoundEdited as edit
 
 module _ (old new : VolumeView) (f : ℕ) (node : Node) (asked name held : List ℕ) (can : CanSet old f node)
-    (finds : FindsPlain old f node asked name held) (e : EditsAlone (key_of f DATA name) old new) where
+    (finds : FindsPlain old f node asked name held) {gains : ℕ → Bool} (e : EditsAlone (key_of f DATA name) gains old new) where
   abbrev key : Key
   key = key_of f DATA name
 
@@ -61,7 +61,10 @@ module _ (old new : VolumeView) (f : ℕ) (node : Node) (asked name held : List 
   bases : HasRightBases (records_of old)
   bases = bases-of (records_of old) (can.sound clauses.References)
 
-  edited : Edited (same_key key) nothing old new before after
+  abbrev wants : Wants
+  wants = value.wants key old new can.sound can.apart e
+
+  edited : Edited (same_key key) wants old new before after
   edited = value.edited key old new can.sound can.apart e
 
   names : (g : ℕ) → KeepsNames (records_of old) (records_of new) g
@@ -78,7 +81,7 @@ module _ (old new : VolumeView) (f : ℕ) (node : Node) (asked name held : List 
   whole = either is_room_key (same_key key)
 
   stream : EditsStream whole old new f name
-  stream = edited-stream f name no_room (same_key key) (λ other free. free) nothing old new before after edited readable bases
+  stream = edited-stream f name no_room (same_key key) (λ other free. free) wants old new before after edited readable bases
       finds.tellable no_case
 
   unseen : IsUnseenButStreams whole f
@@ -115,7 +118,7 @@ module _ (old new : VolumeView) (f : ℕ) (node : Node) (asked name held : List 
       can.elsewhere was.0 was.1 (eqb-true was.0.parent.number VOLUME was.2)
 
   -- THE WHOLE
-  is-edited : (bytes : Option (List ℕ)) → ShowsNow new key bytes → IsEdited key old new (node_with old asked bytes node)
+  is-edited : (bytes : Option (List ℕ)) → ShowsNow new key bytes → IsEdited key gains old new (node_with old asked bytes node)
   is-edited bytes shows = record {
     edits = e;
     can = record {
@@ -125,13 +128,13 @@ module _ (old new : VolumeView) (f : ℕ) (node : Node) (asked name held : List 
       other = can.other;
       elsewhere = elsewhere;
     };
-    reads = read-sets (same_key key) nothing old new before after edited readable bases
+    reads = read-sets (same_key key) wants old new before after edited readable bases
         (edit.case-unnamed key old new can.sound can.apart e no_case)
         f (node_with old asked bytes node) others names (node-now bytes shows);
   }
 
-pub stream-put : (old new : VolumeView) (f : ℕ) (node : Node) (asked name held : List ℕ) (bytes : Option (List ℕ)) → CanSet old f node
-    → FindsPlain old f node asked name held → PutsValue old new f name bytes
-    → IsEdited (key_of f DATA name) old new (node_with old asked bytes node)
-stream-put old new f node asked name held bytes can finds puts =
+pub stream-put : (old new : VolumeView) (f : ℕ) (node : Node) (asked name held : List ℕ) (bytes : Option (List ℕ)) (gains : ℕ → Bool)
+    → CanSet old f node → FindsPlain old f node asked name held → PutsValue old new f name bytes gains
+    → IsEdited (key_of f DATA name) gains old new (node_with old asked bytes node)
+stream-put old new f node asked name held bytes gains can finds puts =
     is-edited old new f node asked name held can finds puts.edits bytes puts.shows

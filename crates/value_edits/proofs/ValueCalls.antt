@@ -32,9 +32,10 @@ use Rattle.in_place_owed.specs.Below.{CanSet}
 use Rattle.stream_overwrites.specs.Overwritten.{FindsPlain}
 use Rattle.stream_overwrites.proofs.FoundStream as found
 use Rattle.stream_overwrites.proofs.ShownFile.{file}
-use Rattle.value_edits.specs.ValueEdits.{EditsAlone, IsStreamValue, PutsGiving, PutsValue}
-use Rattle.value_edits.proofs.AloneSteps.{header-same, nothing-given, outside, value-comes}
+use Rattle.value_edits.specs.ValueEdits.{EditsAlone, EndsBy, IsStreamValue, PutsGiving, no_gain}
+use Rattle.value_edits.proofs.AloneSteps.{header-same, outside, value-comes}
 use Rattle.value_edits.proofs.EditedRecord as value
+use Rattle.value_edits.proofs.Prepared.{nothing-prepared}
 use Rattle.value_edits.proofs.ValueShown.{alone-first, alone-shown, form-same, value-content, value-there}
 
 -- a stream is no name of a file, and no $STANDARD_INFORMATION
@@ -94,7 +95,7 @@ stood-named f old was name is alone =
 
 -- values have no cluster that they could lose
 value-balance : (f : ℕ) (was now : List Attribute) → AreValues was → AreValues now → (c : ℕ)
-    → times_in (parts_made f now) c + times_covered [] c ≡ times_in (parts_made f was) c
+    → times_in (parts_made f now) c + times_covered [] c ≡ times_in (parts_made f was) c + times_covered [] c
 value-balance f was now was_is now_is c =
     let none : times_covered [] c ≡ 0 = refl in
     omega (arith, no-times f was was_is c, no-times f now now_is c, none)
@@ -108,7 +109,7 @@ module _ (old new : VolumeView) (f i : ℕ) (change : List ℕ → List ℕ) (no
   stood : parts_at old f DATA name ≡ part_of f e.was ∷ []
   stood = stood-named f old e.was name is (stood-alone f old new node e.stored e.was (e.now ∷ []) e.edits can one is.kind is.value)
 
-  changed-edit : EditsAlone (key_of f DATA name) old new
+  changed-edit : EditsAlone (key_of f DATA name) no_gain old new
   changed-edit = record {
     one = one;
     kind = refl;
@@ -116,11 +117,12 @@ module _ (old new : VolumeView) (f i : ℕ) (change : List ℕ → List ℕ) (no
     now = Some e.now;
     was_of = record { kind = is.kind; name = is.name_is };
     stood = stood;
+    given = [];
+    taken = [];
+    mid = old;
+    prepares = nothing-prepared (key_of f DATA name) old;
     comes = value-comes old f e.was e.now is.value now-value e.kind e.name e.flags
         (form-same e.was e.now is.value now-value e.kind e.name e.indexed);
-    given = [];
-    mid = old;
-    gives = nothing-given old;
     balance = value-balance f (e.was ∷ []) (e.now ∷ []) (one-value e.was is.value) (one-value e.now now-value);
     stored = e.stored;
     block = e.edits;
@@ -129,9 +131,17 @@ module _ (old new : VolumeView) (f i : ℕ) (change : List ℕ → List ℕ) (no
         (no-name e.was is.kind) (λ base standard. absurd (no-standard e.was is.kind standard));
   }
 
+  -- a value lies in no cluster
+  changed-ends : (size : ℕ) → EndsBy new f name size
+  unfolding changed-edit
+  changed-ends size vcn lies =
+      let stands = value.stands (key_of f DATA name) old new can.sound can.apart changed-edit in
+      let never = sym (ap (λ xs. is_cluster (spot_at xs vcn)) stands ∙ ap is_cluster (outside f e.now now-value vcn)) ∙ lies in
+      cc
+
 pub changed-put : (old new : VolumeView) (f i : ℕ) (change : List ℕ → List ℕ) (node : Node) (asked name held : List ℕ)
     → (e : ChangesValue old new f i change) → CanSet old f node → FindsPlain old f node asked name held → IsInOneRecord old f
-    → IsStreamValue name e.was → PutsGiving old new f name (Some (change held)) []
+    → IsStreamValue name e.was → PutsGiving old new f name (Some (change held)) no_gain [] []
 unfolding changed-edit
 changed-put old new f i change node asked name held e can finds one is =
     let edit = changed-edit old new f i change node e name is one can in
@@ -142,33 +152,38 @@ changed-put old new f i change node asked name held e can finds one is =
     let same : was.0 ≡ held = shown old f node asked name held can finds e.was is.kind alone was.0 was.1 in
     let content = value-content e.now.body (change was.0) (e.value ∙ ap (option_map change) was.1) in
     let stands = value.stands key old new can.sound can.apart edit in
-    let puts : PutsValue old new f name (Some (change held)) = record {
-      edits = edit;
-      shows = subst (λ (value : List ℕ). ShowsBytes new key (change value)) same
-          (alone-shown new key (part_of f e.now) (change was.0) stands content (ap (is_packed DATA) e.flags ∙ free));
-      ends = λ vcn lies.
-          let never = sym (ap (λ xs. is_cluster (spot_at xs vcn)) stands
-          ∙ ap is_cluster (outside f e.now (value-mapped e.was.body e.now.body change e.value is.value) vcn)) ∙ lies in
-          cc;
-    } in
-    (puts, refl)
+    record {
+      puts = record {
+        edits = edit;
+        shows = subst (λ (value : List ℕ). ShowsBytes new key (change value)) same
+            (alone-shown new key (part_of f e.now) (change was.0) stands content (ap (is_packed DATA) e.flags ∙ free));
+      };
+      given_are = refl;
+      taken_are = refl;
+    }
+
+pub changed-nowhere : (old new : VolumeView) (f i : ℕ) (change : List ℕ → List ℕ) (node : Node) (name : List ℕ) (size : ℕ)
+    → (e : ChangesValue old new f i change) → CanSet old f node → IsInOneRecord old f → IsStreamValue name e.was
+    → EndsBy new f name size
+changed-nowhere old new f i change node name size e can one is = changed-ends old new f i change node e name is one can size
 
 -- IT GOES.
 pub removed-put : (old new : VolumeView) (f i : ℕ) (node : Node) (name : List ℕ) → (e : RemovesAttribute old new f i) → CanSet old f node
-    → IsInOneRecord old f → IsStreamValue name e.was → PutsGiving old new f name None []
+    → IsInOneRecord old f → IsStreamValue name e.was → PutsGiving old new f name None no_gain [] []
 removed-put old new f i node name e can one is =
     let stood = stood-named f old e.was name is (stood-alone f old new node e.stored e.was [] e.edits can one is.kind is.value) in
-    let edit : EditsAlone (key_of f DATA name) old new = record {
+    let edit : EditsAlone (key_of f DATA name) no_gain old new = record {
       one = one;
       kind = refl;
       was = e.was;
       now = None;
       was_of = record { kind = is.kind; name = is.name_is };
       stood = stood;
-      comes = tt;
       given = [];
+      taken = [];
       mid = old;
-      gives = nothing-given old;
+      prepares = nothing-prepared (key_of f DATA name) old;
+      comes = tt;
       balance = value-balance f (e.was ∷ []) [] (one-value e.was is.value) no-value;
       stored = e.stored;
       block = e.edits;
@@ -176,10 +191,8 @@ removed-put old new f i node name e can one is =
       right = right-go old new f e.stored e.was e.edits (was-right f old new e.stored (e.was ∷ []) [] e.edits can.sound)
           (λ base. no-standard e.was is.kind);
     } in
-    let stands = value.stands (key_of f DATA name) old new can.sound can.apart edit in
-    let puts : PutsValue old new f name None = record {
-      edits = edit;
-      shows = stands;
-      ends = λ vcn lies. let never = sym (ap (λ xs. is_cluster (spot_at xs vcn)) stands) ∙ lies in cc;
-    } in
-    (puts, refl)
+    record {
+      puts = record { edits = edit; shows = value.stands (key_of f DATA name) old new can.sound can.apart edit };
+      given_are = refl;
+      taken_are = refl;
+    }

@@ -50,8 +50,8 @@ bits-no-data q = omega (arith, q)
 records-no-data : INDEX_ALLOCATION ≢ DATA
 records-no-data q = omega (arith, q)
 
-module _ (key : Key) (old mid : VolumeView) (sound : IsSound old) (apart : LiesApart old) (e : EditsAlone key old mid)
-    (no_case : key.file ≢ UPCASE) (sound_mid : IsSound mid) where
+module _ (key : Key) (old mid : VolumeView) (sound : IsSound old) (apart : LiesApart old) {gains : ℕ → Bool}
+    (e : EditsAlone key gains old mid) (no_case : key.file ≢ UPCASE) (sound_mid : IsSound mid) where
   abbrev changed : Key → Bool
   changed = either is_room_key (same_key key)
 

@@ -8,6 +8,7 @@ pub mod OneBill
 pub mod ValueCommands
 pub mod FewClusters
 pub mod ValueCalls
+pub mod ValueCost
 pub mod NodesBack
 pub mod ValueOwes
 pub mod Below

@@ -4,7 +4,7 @@ use Rattle.std.proofs.Common.{Option, Some, None, arith, codes, length, nat_eq, 
 use Rattle.std.specs.List.{Contains}
 use Rattle.std.specs.Option.{option_to_list}
 use Rattle.std.specs.List.{starts_with}
-use Rattle.std.specs.Prelude.{All, IfSome, IsSomeAnd, IsTrue, is_some, slice_index}
+use Rattle.std.specs.Prelude.{All, IfSome, IsSomeAnd, IsTrue, is_some, slice_index, sum_by}
 use Rattle.std.proofs.lemmas.Bool.{and_parts, cases_eq, eq-eqb, or_parts}
 use Rattle.std.proofs.lemmas.List.Elements.{All-contains}
 use Rattle.list_laws.proofs.MemberLaws.{All-from_Contains, Contains-filter, Contains-head, Contains-map, Contains-nil, Contains-only}
@@ -30,9 +30,11 @@ use Rattle.volume_def.specs.View.{VolumeView}
 use Rattle.volume_def.proofs.Codes.{part_code}
 use Rattle.volume_def.proofs.ViewLaws.{ChangesAt-block}
 use Rattle.edit_def.specs.Forms.{ComeRightly, IsNewForm, begins, form_of, forms_of}
-use Rattle.edit_def.specs.Kept.{Key}
+use Rattle.edit_def.specs.Kept.{Key, same_key}
 use Rattle.edit_def.specs.ListOrder.{KeepsListOrder, entries_of}
+use Rattle.edit_def.specs.Purses.{run_size}
 use Rattle.edit_def.specs.Unused.{KeepsHeader, KeepsUnused}
+use Rattle.record_edits.specs.InPlace.{is_bits_key}
 use Rattle.record_edits.proofs.BlockEdits.{base-file, now-at, was-at}
 use Rattle.record_edits.proofs.FormEdits.{forms-come}
 use Rattle.record_edits.proofs.WholeLaws.{whole-from}
@@ -69,8 +71,8 @@ whole-begins n a = by a.body
     by (NonResident extent text) (inl value) = cc
     by (NonResident extent text) (inr first) = eq-eqb extent.sizes.first 0 first.first
 
-module _ (key : Key) (old mid : VolumeView) (sound : IsSound old) (apart : LiesApart old) (e : EditsAlone key old mid)
-    (next : VolumeView) where
+module _ (key : Key) (old mid : VolumeView) (sound : IsSound old) (apart : LiesApart old) {gains : ℕ → Bool}
+    (e : EditsAlone key gains old mid) (next : VolumeView) where
   was-there : record_on old key.file ≡ Some (record_there old key.file)
   was-there =
       sym (same.on-cleared key old mid sound apart e key.file)
@@ -219,8 +221,8 @@ module _ (key : Key) (old mid : VolumeView) (sound : IsSound old) (apart : LiesA
         (subst AreWhole (only-item (part_of key.file e.was) its.ordered its.order) its.whole)
   ]
 
-  came : (now : Option Attribute) → IfSome now (ComesInPlace old key.file e.was) → (a : Attribute) → Contains (option_to_list now) a
-      → form_of a ≡ form_of e.was
+  came : (now : Option Attribute) → IfSome now (ComesInPlace old key.file gains (sum_by run_size e.taken) e.was) → (a : Attribute)
+      → Contains (option_to_list now) a → form_of a ≡ form_of e.was
   came None comes a c = absurd (Contains-nil a c)
   came (Some now) comes a c = subst (λ (x : Attribute). form_of x ≡ form_of e.was) (Contains-only now a c) comes.form
 
@@ -230,10 +232,16 @@ module _ (key : Key) (old mid : VolumeView) (sound : IsSound old) (apart : LiesA
       (Contains-map form_of (filter begins (e.was ∷ [])) e.was
       (Contains-filter begins (e.was ∷ []) e.was (Contains-head e.was []) was-begins))))
 
+  forms-prepared : (f : ℕ) → forms_of e.mid f ≡ forms_of old f
+  forms-prepared f =
+      given.forms-same (same_key key) e.prepares.flagged e.mid e.prepares.fills f
+      ∙ given.forms-same is_bits_key e.prepares.freed e.prepares.flagged e.prepares.takes.writes f
+      ∙ given.forms-same is_bits_key old e.prepares.freed e.prepares.gives.writes f
+
   forms-value : (f : ℕ) → ComeRightly old mid f
   forms-value f =
       subst (λ forms. All (λ form. Contains forms form ⊎ IsNewForm form) (forms_of mid f))
-      (given.forms-same old e.mid e.gives.writes f) (forms-cleared f)
+      (forms-prepared f) (forms-cleared f)
 
   pub forms-back : (f : ℕ) → ComeRightly mid next f → ComeRightly old next f
   forms-back f rest = All-from_Contains (λ form. Contains (forms_of old f) form ⊎ IsNewForm form) (forms_of next f) (λ form c.
@@ -258,4 +266,5 @@ module _ (key : Key) (old mid : VolumeView) (sound : IsSound old) (apart : LiesA
       ∙ ap (λ xs. spot_at xs (i / cluster_bytes old.layout)) (same.log-same key old mid sound apart e) ∙ at in
       subst (λ s. slice_index (next.cluster cluster) (i % s) ≡ slice_index (mid.cluster cluster) (i % s)) size (rest i cluster past there)
       ∙ ap (λ bytes. slice_index bytes (i % cluster_bytes old.layout))
-      (same.clusters-same key old mid sound apart e LOG_FILE DATA [] refl refl (i / cluster_bytes old.layout) cluster at)
+      (same.clusters-same key old mid sound apart e LOG_FILE DATA [] (same.no-log key old mid sound apart e) refl refl
+      (i / cluster_bytes old.layout) cluster at)

@@ -1,7 +1,7 @@
 -- ALL CALLS of the command together: the edit of the stream, what set the file behind it, and the first mark.
 use Rattle.std.proofs.Common.{◌≡◌, ◌≢◌, ◌<◌, ◌≤◌, ◌==◌, ◌||◌, ℕ, Bool, false, List, [], ◌∷◌, Option, Some, None, refl, sym, ap, subst, ◌∙◌}
-use Rattle.std.proofs.Common.{arith, inl, inr}
-use Rattle.std.specs.Prelude.{IfSome}
+use Rattle.std.proofs.Common.{arith}
+use Rattle.std.specs.Prelude.{IfSome, sum_by, unwrap_or}
 use Rattle.std.specs.Str.{bytes_eq}
 use Rattle.std.proofs.lemmas.Bool.{and_from, and_parts, and_right, eq-eqb, eqb-true, false_from_ne_true, or_from, or_parts}
 use Rattle.std.proofs.lemmas.Slice.Eq.{bytes_eq-Decides}
@@ -22,7 +22,7 @@ use Rattle.tree_model.specs.declared.command.Command.TheVariants as c
 use Rattle.edit_def.specs.Account.{AreDistinct, AreTouched, Plan, Wants, Within, also, nothing, wants_of}
 use Rattle.edit_def.specs.Edited.{Edited}
 use Rattle.edit_def.specs.Kept.{Key, either, key_of, same_key}
-use Rattle.edit_def.specs.Purses.{room_of}
+use Rattle.edit_def.specs.Purses.{room_of, run_size}
 use Rattle.edit_def.proofs.EditedLaws.{Edited-then}
 use Rattle.edit_def.proofs.NeedLaws.{IsPlanned-by}
 use Rattle.session_def.specs.Named.{has_entry_of, is_changed_key, is_own_key, is_stream_key, is_times_key, spelt}
@@ -36,17 +36,17 @@ use Rattle.in_place_owed.proofs.CallsOwed.{apart-of, tabled-of}
 use Rattle.in_place_owed.proofs.MarksLaws.{marks-right, right_marks}
 use Rattle.in_place_owed.proofs.SetKeys.{set-no_room, times-inside}
 use Rattle.value_edits.proofs.Below.{not-case}
-use Rattle.value_edits.specs.ValueEdits.{EditsAlone}
+use Rattle.value_edits.specs.ValueEdits.{EditsAlone, only_clusters}
 use Rattle.value_owed.specs.ValueOwed.{SetsBehindValue, bill_asked, clusters_asked}
-use Rattle.value_owed.proofs.FewClusters.{asked-none, few-asked, stream-short}
+use Rattle.value_owed.proofs.FewClusters.{few-asked, stream-short}
 use Rattle.value_owed.proofs.ValueCommands.{bill-value, value-little, value-own, value-timed}
 use Rattle.value_owed.proofs.ValueSame as same
 use Rattle.value_owed.proofs.ValueSame.{never}
 
--- two calls that take nothing take no more than is wanted
-nothing-twice : (wants : Wants) → Within (also nothing nothing) wants
-nothing-twice wants = record {
-  clusters = omega arith;
+-- a call that takes so many clusters, and one that takes nothing, take no more than is wanted
+clusters-then : (n : ℕ) (wants : Wants) → n ≤ wants.clusters → Within (also (only_clusters n) nothing) wants
+clusters-then n wants few = record {
+  clusters = omega (arith, few);
   parts = λ f. omega arith;
   units = λ f. omega arith;
   goes = λ f e. cc;
@@ -96,7 +96,7 @@ module _ (before next : State) (command : Command) (at : Located) (mid staged : 
   pub apart : LiesApart old
   apart = apart-of before.image old s.stands.volume s.stands.sound
 
-  abbrev pub e : EditsAlone key old mid
+  abbrev pub e : EditsAlone key s.gains old mid
   e = s.edited.edits
 
   -- the file is not the table of case
@@ -134,12 +134,13 @@ module _ (before next : State) (command : Command) (at : Located) (mid staged : 
       (set-same k ∙ times-inside old tree next.machine.tree command at made (value-timed command at made s.edits s.new) k free)
 
   -- BOTH CALLS as one
-  both : (wants : Wants) → Edited changed wants old staged (right_marks old) (right_marks mid)
-  both wants =
+  both : (wants : Wants) → sum_by run_size e.taken ≤ wants.clusters
+      → Edited changed wants old staged (right_marks old) (right_marks mid)
+  both wants few =
       let first = same.edited key old mid s.stands.sound apart e in
       let lies = s.behind.stands.apart in
-      Edited-then (same_key key) (is_set_key (read mid) setter at) nothing nothing wants old mid staged (right_marks old) (right_marks mid)
-      (right_marks mid) (nothing-twice wants) first
+      Edited-then (same_key key) (is_set_key (read mid) setter at) (only_clusters (sum_by run_size e.taken)) nothing wants old mid staged
+      (right_marks old) (right_marks mid) (right_marks mid) (clusters-then (sum_by run_size e.taken) wants few) first
       (rewrite.edited (is_set_key (read mid) setter at) nothing mid staged (right_marks mid) s.behind.rewrites lies.owners lies.some
       lies.unnamed (set-no_room (read mid) setter at (records_of mid) refl s.behind.shown) first.editable.right s.behind.sound)
 
@@ -152,15 +153,23 @@ module _ (before next : State) (command : Command) (at : Located) (mid staged : 
 
   -- THE BILL has few records
   short : IfSome (clusters_asked old tree command at) (λ k. k ≤ 4088)
-  short = elim s.way [
-    | inl record_is ↦
-        few-asked old tree command at s.edits record_is (tabled-of before.image old s.stands.volume s.stands.sound).size (s.size_is record_is)
-        (stream-short tree at s.name old mid s.stands.sound apart e s.spelt_so s.alone)
-    | inr clusters ↦ subst (λ o. IfSome o (λ k. k ≤ 4088)) (sym (asked-none old tree command at s.edits clusters)) tt
-  ]
+  short = few-asked old tree command at s.few (tabled-of before.image old s.stands.volume s.stands.sound).size
+      (stream-short tree at s.name old mid s.gains s.stands.sound apart e s.spelt_so s.alone)
 
   bill-is : bill_of old tree command at ≡ bill_asked old at.file (clusters_asked old tree command at)
   bill-is = bill-value old tree command at s.edits s.new (same.inside key old mid s.stands.sound apart e) s.there s.way
+
+  -- and the clusters that the stream got
+  asked-clusters : (o : Option ℕ) → (bill_asked old at.file o).clusters ≡ unwrap_or o 0
+  asked-clusters None = refl
+  asked-clusters (Some k) = refl
+
+  pub billed : sum_by run_size e.taken ≤ (bill_of old tree command at).clusters
+  billed =
+      let asked = asked-clusters (clusters_asked old tree command at) in
+      let its = ap (λ (b : Bill). b.clusters) bill-is in
+      let few = s.takes in
+      omega (arith, asked, its, few)
 
   stays : (f : ℕ) → goes_by tree command at f ≡ false
   stays f = and_right (f == at.file) (removes_file tree command at) (value-little tree command at s.edits).stays
@@ -191,6 +200,6 @@ module _ (before next : State) (command : Command) (at : Located) (mid staged : 
         now = right_marks mid;
         start = editable-sound old (right_marks old) s.stands.sound (marks-right old);
         staged = staged;
-        edited = both (wants_of plan bill (goes_by tree command at) (λ f. 0));
+        edited = both (wants_of plan bill (goes_by tree command at) (λ f. 0)) (let few = billed in omega (arith, few));
         marked = s.behind.first.marked;
       }

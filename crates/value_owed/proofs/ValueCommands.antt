@@ -1,18 +1,16 @@
 -- THE COMMANDS that edit a stream alone: what they do not do, what they name of their own, and what their bill has.
-use Rattle.std.proofs.Common.{◌≡◌, ◌<◌, ◌+◌, ◌==◌, ◌&&◌, ◌||◌, not, ℕ, Bool, true, false, List, [], ◌∷◌, length, Option, Some, None, refl}
-use Rattle.std.proofs.Common.{inl, inr, sym, ap, ◌∙◌, if◌then◌else◌}
-use Rattle.std.proofs.lemmas.Bool.{and_from, and_parts, false_from_ne_true}
-use Rattle.std.specs.Option.{option_map_or}
+use Rattle.std.proofs.Common.{◌≡◌, ◌<◌, ◌+◌, ◌==◌, ◌&&◌, not, ℕ, Bool, true, false, List, [], ◌∷◌, length, Option, Some, None, refl}
+use Rattle.std.proofs.Common.{sym, ap, ◌∙◌, if◌then◌else◌}
+use Rattle.std.proofs.lemmas.Bool.{and_parts, eqb-true}
 use Rattle.std.specs.Prelude.{is_some, nat_le, option_and_then}
-use Rattle.volume_def.specs.Files.{Clusters, Content, Part, Value, content_extent, content_value}
-use Rattle.volume_def.specs.StreamSize.{real_size, told_size}
+use Rattle.volume_def.specs.Files.{Part}
+use Rattle.volume_def.specs.StreamSize.{told_size}
 use Rattle.volume_def.specs.Table.{cluster_bytes}
 use Rattle.volume_def.specs.Values.{first_part}
 use Rattle.volume_def.specs.View.{VolumeView}
 use Rattle.tree_model.specs.Bill.{bill_of, clusters_of, grows, touches_file}
 use Rattle.tree_model.specs.NoRoom.{no_room_for}
-use Rattle.tree_model.specs.Ways.{fits_in_record, gets_no_longer, has_no_list, is_done_in_record, is_value_alone, stays_value}
-use Rattle.tree_model.specs.StreamRoom.{goes_over, initialized_in, initialized_size, is_in_place, new_clusters, stream_parts, stream_value}
+use Rattle.tree_model.specs.StreamRoom.{initialized_size, is_in_place, new_clusters, stream_parts}
 use Rattle.tree_model.specs.Subjects.{Located, NewName, NoName}
 use Rattle.tree_model.specs.Tree.{Tree}
 use Rattle.tree_model.specs.declared.command.Command.{Command}
@@ -81,77 +79,56 @@ value-lengthens view (c.Truncate path stream size) at f is = refl
 value-lengthens view (c.Rmstream path name) at f is = refl
 value-lengthens view other at f is = cc
 
--- THE FILE IS TOUCHED by a write that does not go over bytes: of a stream that is a value all was written.
-value-first : (o : Option Part) → is_some (option_and_then (λ (part : Part). content_value part.content) o) ≡ true → is_some o ≡ true
-value-first None is = is
-value-first (Some part) is = refl
-
-value-written : (o : Option Part) → is_some (option_and_then (λ (part : Part). content_value part.content) o) ≡ true
-    → option_map_or initialized_in o 0 ≡ told_size o
-value-written None is = refl
-value-written (Some part) is = by part.content is
-  where
-    by : (content : Content) → is_some (content_value content) ≡ true
-        → option_map_or (λ extent. extent.sizes.initialized) (content_extent content) (real_size content) ≡ real_size content
-    by (Value bytes) is = refl
-    by (Clusters extent runs) is = cc
-
-not-over : (size : ℕ) (extents : List Part) (from len : ℕ) → is_some (stream_value extents) ≡ true → goes_over size extents from len ≡ false
-    → is_in_place size extents from len ≡ false
-not-over size extents from len value none =
-    false_from_ne_true (is_in_place size extents from len) (λ place. never (over place) none)
-  where
-    never : {b : Bool} → b ≡ true → b ≡ false → ⊥
-    never x y = cc
-
-    over : is_in_place size extents from len ≡ true → goes_over size extents from len ≡ true
-    over place =
-        let front = (new_clusters size extents from len == 0) && nat_le from (initialized_size extents) in
-        let told = (and_parts front (nat_le (from + len) (told_size (first_part extents))) place).1 in
-        and_from (is_some (first_part extents)) _ (value-first (first_part extents) value)
-        (and_from (is_in_place size extents from len) _ place
-        (ap (nat_le (from + len)) (value-written (first_part extents) value) ∙ told))
-
-not-true : (b : Bool) → not b ≡ true → b ≡ false
-not-true true e = cc
-not-true false e = refl
-
-write-touches : (view : VolumeView) (tree : Tree) (at : Located) (from len : ℕ)
-    → (not (goes_over (cluster_bytes view.layout) (stream_parts view tree at) from len) && stays_value view tree at (from + len)) ≡ true
-    → not (is_in_place (cluster_bytes view.layout) (stream_parts view tree at) from len) ≡ true
-write-touches view tree at from len is =
-    let size = cluster_bytes view.layout in
-    let extents = stream_parts view tree at in
-    let both = and_parts (not (goes_over size extents from len)) (stays_value view tree at (from + len)) is in
-    let room = gets_no_longer (from + len) at.content || fits_in_record view at.file extents (from + len) in
-    let alone = (and_parts (is_value_alone view tree at) room both.1).0 in
-    let value = (and_parts (is_some (stream_value extents)) (has_no_list view at.file) alone).0 in
-    ap not (not-over size extents from len value (not-true (goes_over size extents from len) both.0))
+-- A WRITE IN PLACE asks for no cluster.
+placed-none : (size : ℕ) (extents : List Part) (from len : ℕ) → is_in_place size extents from len ≡ true
+    → new_clusters size extents from len ≡ 0
+placed-none size extents from len place =
+    let none = new_clusters size extents from len == 0 in
+    let front = and_parts (none && nat_le from (initialized_size extents)) (nat_le (from + len) (told_size (first_part extents))) place in
+    eqb-true (new_clusters size extents from len) 0 (and_parts none (nat_le from (initialized_size extents)) front.0).0
 
 -- THE BILL: of a stream that gets longer or other bytes that file alone, with the clusters that it may come to own; else the empty one.
 write-bill : (view : VolumeView) (tree : Tree) (path : List (List ℕ)) (stream : Option (List ℕ)) (from : ℕ) (bytes : List ℕ) (at : Located)
-    → at.new ≡ NoName → at.file < view.layout.count → is_some at.content ≡ true
-    → is_done_in_record view tree (c.Write path stream from bytes) at ≡ true
+    → at.new ≡ NoName → at.file < view.layout.count → is_some at.content ≡ true → (b : Bool)
+    → is_in_place (cluster_bytes view.layout) (stream_parts view tree at) from (length bytes) ≡ b
     → bill_of view tree (c.Write path stream from bytes) at
     ≡ bill_asked view at.file (clusters_asked view tree (c.Write path stream from bytes) at)
 unfolding clusters_of touches_file
-write-bill view tree path stream from bytes at new inside there is =
+write-bill view tree path stream from bytes at new inside there true place =
+    let size = cluster_bytes view.layout in
+    let count = new_clusters size (stream_parts view tree at) from (length bytes) in
+    bill-none view tree (c.Write path stream from bytes) at
+    (little-quiet tree (c.Write path stream from bytes) at (value-little tree (c.Write path stream from bytes) at refl) new) refl
+    (placed-none size (stream_parts view tree at) from (length bytes) place) (ap not place)
+    ∙ ap (λ b. bill_asked view at.file (if b then None else Some count)) (sym place)
+write-bill view tree path stream from bytes at new inside there false elsewhere =
+    let size = cluster_bytes view.layout in
+    let count = new_clusters size (stream_parts view tree at) from (length bytes) in
     bill-one view tree (c.Write path stream from bytes) at
     (little-quiet tree (c.Write path stream from bytes) at (value-little tree (c.Write path stream from bytes) at refl) new) refl
-    (new_clusters (cluster_bytes view.layout) (stream_parts view tree at) from (length bytes)) refl
-    (write-touches view tree at from (length bytes) is) there inside
+    count refl (ap not elsewhere) there inside
+    ∙ ap (λ b. bill_asked view at.file (if b then None else Some count)) (sym elsewhere)
 
 hwrite-bill : (view : VolumeView) (tree : Tree) (handle from : ℕ) (bytes : List ℕ) (at : Located)
-    → at.new ≡ NoName → at.file < view.layout.count → is_some at.content ≡ true
-    → is_done_in_record view tree (c.Hwrite handle from bytes) at ≡ true
+    → at.new ≡ NoName → at.file < view.layout.count → is_some at.content ≡ true → (b : Bool)
+    → is_in_place (cluster_bytes view.layout) (stream_parts view tree at) from (length bytes) ≡ b
     → bill_of view tree (c.Hwrite handle from bytes) at
     ≡ bill_asked view at.file (clusters_asked view tree (c.Hwrite handle from bytes) at)
 unfolding clusters_of touches_file
-hwrite-bill view tree handle from bytes at new inside there is =
+hwrite-bill view tree handle from bytes at new inside there true place =
+    let size = cluster_bytes view.layout in
+    let count = new_clusters size (stream_parts view tree at) from (length bytes) in
+    bill-none view tree (c.Hwrite handle from bytes) at
+    (little-quiet tree (c.Hwrite handle from bytes) at (value-little tree (c.Hwrite handle from bytes) at refl) new) refl
+    (placed-none size (stream_parts view tree at) from (length bytes) place) (ap not place)
+    ∙ ap (λ b. bill_asked view at.file (if b then None else Some count)) (sym place)
+hwrite-bill view tree handle from bytes at new inside there false elsewhere =
+    let size = cluster_bytes view.layout in
+    let count = new_clusters size (stream_parts view tree at) from (length bytes) in
     bill-one view tree (c.Hwrite handle from bytes) at
     (little-quiet tree (c.Hwrite handle from bytes) at (value-little tree (c.Hwrite handle from bytes) at refl) new) refl
-    (new_clusters (cluster_bytes view.layout) (stream_parts view tree at) from (length bytes)) refl
-    (write-touches view tree at from (length bytes) is) there inside
+    count refl (ap not elsewhere) there inside
+    ∙ ap (λ b. bill_asked view at.file (if b then None else Some count)) (sym elsewhere)
 
 truncate-bill : (view : VolumeView) (tree : Tree) (path : List (List ℕ)) (stream : Option (List ℕ)) (size : ℕ) (at : Located)
     → at.new ≡ NoName → at.file < view.layout.count → is_some at.content ≡ true → (b : Bool) → grows size at.content ≡ b
@@ -182,12 +159,10 @@ rmstream-bill view tree path name at new =
 pub bill-value : (view : VolumeView) (tree : Tree) (command : Command) (at : Located) → edits_value command ≡ true → at.new ≡ NoName
     → at.file < view.layout.count → is_some at.content ≡ true → IsDoneAlone view tree command at
     → bill_of view tree command at ≡ bill_asked view at.file (clusters_asked view tree command at)
-bill-value view tree (c.Write path stream from bytes) at is new inside there (inl record_is) =
-    write-bill view tree path stream from bytes at new inside there record_is
-bill-value view tree (c.Write path stream from bytes) at is new inside there (inr clusters) = cc
-bill-value view tree (c.Hwrite handle from bytes) at is new inside there (inl record_is) =
-    hwrite-bill view tree handle from bytes at new inside there record_is
-bill-value view tree (c.Hwrite handle from bytes) at is new inside there (inr clusters) = cc
+bill-value view tree (c.Write path stream from bytes) at is new inside there way =
+    write-bill view tree path stream from bytes at new inside there _ refl
+bill-value view tree (c.Hwrite handle from bytes) at is new inside there way =
+    hwrite-bill view tree handle from bytes at new inside there _ refl
 bill-value view tree (c.Truncate path stream size) at is new inside there way =
     truncate-bill view tree path stream size at new inside there (grows size at.content) refl
 bill-value view tree (c.Rmstream path name) at is new inside there way = rmstream-bill view tree path name at new

@@ -1,6 +1,7 @@
 -- WHAT THE COMMAND OWES, each part of it carried back over the edit of the stream; and so what it leaves.
-use Rattle.std.proofs.Common.{◌≡◌, ◌+◌, ◌*◌, ◌/◌, ◌≤◌, ◌==◌, ◌&&◌, ◌||◌, ℕ, Bool, true, false, [], ◌∷◌, codes, refl, sym, ap, subst, ◌∙◌}
-use Rattle.std.proofs.Common.{arith, length, not}
+use Rattle.std.proofs.Common.{◌≡◌, ◌⊎◌, ◌+◌, ◌*◌, ◌/◌, ◌<◌, ◌≤◌, ◌==◌, ◌&&◌, ◌||◌, ℕ, Bool, true, false, [], ◌∷◌, codes, refl, sym, ap}
+use Rattle.std.proofs.Common.{subst}
+use Rattle.std.proofs.Common.{◌∙◌, arith, inl, inr, length, not}
 use mathlib.Core.Path.{fun_ext}
 use Rattle.std.specs.List.{range_with_len}
 use Rattle.std.specs.Prelude.{count_by, nat_le}
@@ -8,12 +9,13 @@ use Rattle.std.proofs.lemmas.Bool.{eq-eqb, or_from, or_parts}
 use Rattle.ntfs_def.specs.Units.{units_in}
 use Rattle.ntfs_def.specs.declared.kinds.TheConstants.{DATA}
 use Rattle.ntfs_def.specs.declared.records.TheConstants.{CLUSTER_BITMAP, MFT, VOLUME}
-use Rattle.volume_def.specs.Files.{file_of}
+use Rattle.volume_def.specs.Files.{file_of, parts_at}
+use Rattle.volume_def.specs.Room.{unused_records}
 use Rattle.volume_def.specs.StreamSize.{told_size}
 use Rattle.volume_def.specs.Table.{cluster_bytes}
 use Rattle.volume_def.specs.Values.{first_part, spot_at}
 use Rattle.volume_def.specs.View.{VolumeView}
-use Rattle.tree_model.specs.Bill.{changes_of, dropped_links}
+use Rattle.tree_model.specs.Bill.{bill_of, changes_of, dropped_links}
 use Rattle.tree_model.specs.IndexRoom.{directory_index, object_id_index, point_index}
 use Rattle.tree_model.specs.Reading.{read}
 use Rattle.tree_model.specs.StreamRoom.{is_cluster, parts_named}
@@ -22,7 +24,7 @@ use Rattle.tree_model.specs.Tree.{Tree}
 use Rattle.tree_model.specs.declared.command.Command.{Command}
 use Rattle.tree_model.specs.declared.command.Command.TheVariants as c
 use Rattle.edit_def.specs.Kept.{Key, key_of}
-use Rattle.session_def.specs.Cost.{bytes_in, cost_of, given_back, is_changed_file, is_file_of, is_owned}
+use Rattle.session_def.specs.Cost.{bytes_in, cost_of, given_back, is_changed_file, is_file_of, is_owned, need_for}
 use Rattle.session_def.specs.Done.{GainsRightly, LeavesDone, first_cost, may_own, stream_in}
 use Rattle.session_def.specs.Indexes.{KeepsIndexes, KeepsRests}
 use Rattle.session_def.specs.Named.{changes_ids, changes_points, has_entry_of, is_one_of, timed}
@@ -32,17 +34,19 @@ use Rattle.session_def.specs.State.{State}
 use Rattle.session_def.proofs.OwedLaws.{leaves-done}
 use Rattle.in_place.proofs.RoomSame as room
 use Rattle.in_place_owed.specs.SetsInPlace.{links_of}
-use Rattle.in_place_owed.proofs.CostLaws.{cost-enough}
 use Rattle.in_place_owed.proofs.EntriesOwed.{rests-owed}
 use Rattle.in_place_owed.proofs.InPlaceCommands.{timed-one}
 use Rattle.in_place_owed.proofs.IndexesSet.{directory-owed, extend-owed, index-named}
 use Rattle.in_place_owed.proofs.Owes as setting
-use Rattle.value_owed.specs.ValueOwed.{SetsBehindValue, between}
+use Rattle.value_edits.proofs.EditedRecord as value
+use Rattle.value_edits.proofs.GivenCount.{most-taken}
+use Rattle.value_owed.specs.ValueOwed.{SetsBehindValue, between, taken_in}
 use Rattle.value_owed.proofs.IndexesBack as indexes
 use Rattle.value_owed.proofs.NodesBack as nodes
 use Rattle.value_owed.proofs.RecordsBack as back
 use Rattle.value_owed.proofs.ValueCalls as calls
 use Rattle.value_owed.proofs.ValueCommands.{value-little, value-timed}
+use Rattle.value_owed.proofs.ValueCost.{cost-taking, need-least}
 use Rattle.value_owed.proofs.ValueSame as same
 use Rattle.value_owed.proofs.ValueSame.{never}
 use Rattle.value_owed.proofs.ValueStream as stream
@@ -117,25 +121,37 @@ module _ (before next : State) (command : Command) (at : Located) (mid staged : 
       (λ n r there other. set n r there (written-less (files made) (is_changed_file mid (read mid) next.machine.tree setter at made)
       (file_of n r) (set-less made (file_of n r)) other))
 
-  -- CLUSTERS: no stream gained one, and the command's has those that it had between.
+  -- CLUSTERS: no stream gained one but the command's, which has those that it had between.
   stream-spelt : (view : VolumeView) → parts_named view at.file (units_in s.name) ≡ stream_in view tree at
   stream-spelt view = ap (parts_named view at.file) s.spelt_so
 
-  none-gained : (vcn : ℕ) → is_cluster (spot_at (stream_in new tree at) vcn) ≡ true
-      → is_cluster (spot_at (stream_in old tree at) vcn) ≡ true
-  none-gained vcn is =
-      sym (ap (λ xs. is_cluster (spot_at xs vcn)) (stream-spelt old))
-      ∙ stream.spots-behind at.file s.name old mid s.stands.sound (calls.apart before next command at mid staged s) s.edited.edits s.alone
-      (nodes.named before next command at mid staged s) new (nodes.behind before next command at mid staged s) vcn
-      (ap (λ xs. is_cluster (spot_at xs vcn)) (stream-spelt new) ∙ is)
+  gained-spots : (vcn : ℕ) → is_cluster (spot_at (stream_in new tree at) vcn) ≡ true
+      → (is_cluster (spot_at (stream_in old tree at) vcn) ≡ true) ⊎ (s.gains vcn ≡ true)
+  gained-spots vcn is =
+      elim (stream.spots-behind at.file s.name old mid s.stands.sound (calls.apart before next command at mid staged s) s.edited.edits
+      s.alone (nodes.named before next command at mid staged s) new (nodes.behind before next command at mid staged s) vcn
+      (ap (λ xs. is_cluster (spot_at xs vcn)) (stream-spelt new) ∙ is)) [
+        | inl had ↦ inl (sym (ap (λ xs. is_cluster (spot_at xs vcn)) (stream-spelt old)) ∙ had)
+        | inr got ↦ inr got
+      ]
+
+  size-next : cluster_bytes new.layout ≡ cluster_bytes old.layout
+  size-next =
+      stream.size-next at.file s.name old mid s.stands.sound (calls.apart before next command at mid staged s) s.edited.edits s.alone
+      (nodes.named before next command at mid staged s) new (nodes.behind before next command at mid staged s)
 
   clusters : GainsRightly before next command at
   clusters = record {
     ends = λ f kind name plain vcn gained.
-        absurd (stream.none-gained at.file s.name old mid s.stands.sound (calls.apart before next command at mid staged s) s.edited.edits
-        s.alone (nodes.named before next command at mid staged s) new (nodes.behind before next command at mid staged s) f kind name vcn
-        gained.0 gained.1);
-    gains = λ vcn gained. absurd (never (none-gained vcn gained.0) gained.1);
+        let its = stream.gained-behind at.file s.name old mid s.stands.sound (calls.apart before next command at mid staged s)
+        s.edited.edits s.alone (nodes.named before next command at mid staged s) new (nodes.behind before next command at mid staged s) f
+        kind name vcn gained.0 gained.1 in
+        subst (λ n. vcn * n < told_size (first_part (parts_at new f kind name))) (sym size-next)
+        (subst (λ n. vcn * cluster_bytes old.layout < n) (sym its.1) (s.below vcn its.0));
+    gains = λ vcn gained. elim (gained-spots vcn gained.0) [
+      | inl had ↦ absurd (never had gained.1)
+      | inr got ↦ s.counted vcn got
+    ];
     owned = λ vcn.
         subst (λ xs. is_cluster (spot_at xs vcn) ≡ true → may_own (cluster_bytes new.layout) command (told_size (first_part xs)) vcn ≡ true)
         (stream-spelt new)
@@ -179,19 +195,31 @@ module _ (before next : State) (command : Command) (at : Located) (mid staged : 
   given-same =
       ap (λ p. count_by p (range_with_len 0 old.layout.clusters)) (fun_ext (λ cluster.
       ap (λ n. is_owned old cluster && not (nat_le 1 n))
-      (room.times-same (nodes.named before next command at mid staged s) mid new (nodes.behind before next command at mid staged s) cluster)))
+      (room.times-same (nodes.named before next command at mid staged s) mid new (nodes.behind before next command at mid staged s)
+      cluster)))
+
+  -- those that were taken are on the bill
+  few-taken : taken_in old mid ≤ need_for old tree command at
+  few-taken =
+      let edits = s.edited.edits in
+      let most = most-taken old mid edits.given edits.taken
+      (value.owned-now key old mid s.stands.sound (calls.apart before next command at mid staged s) edits) in
+      let billed = calls.billed before next command at mid staged s in
+      let need = need-least (cluster_bytes old.layout) (unused_records old) (bill_of old tree command at) in
+      omega (arith, most, billed, need)
 
   wrote : (made : ℕ) → next.written ≤ before.written + first_cost old + cost_of old new tree next.machine.tree command at made
   wrote made =
-      let cost = cost-enough before next command at made s.stands.sound s.stands.reading (value-little tree command at s.edits)
+      let cost = cost-taking before next command at made s.stands.sound s.stands.reading (value-little tree command at s.edits)
       (value-timed command at made s.edits s.new) in
-      let set : next.written ≤ before.written + bytes_in command / 512 + 2 * given_back old mid + first_cost mid + 12
+      let set : next.written ≤ before.written + bytes_in command / 512 + 2 * given_back old mid + 2 * taken_in old mid + first_cost mid + 12
       + 12 * links_of (read mid) at.file + 0 =
       s.behind.wrote in
       let first = same.first_cost-same key old mid s.stands.sound (calls.apart before next command at mid staged s) s.edited.edits in
       let links = links-same in
       let back = given-same in
-      omega (arith, cost, set, first, links, back)
+      let taken = few-taken in
+      omega (arith, cost, set, first, links, back, taken)
 
   pub owes : (made : ℕ) → Owes before next command at made
   owes made =

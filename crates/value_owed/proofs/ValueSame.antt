@@ -5,7 +5,7 @@ use Rattle.std.proofs.Common.{map, sym, ap, subst, inl, inr, ◌∙◌, arith, i
 use mathlib.Core.Path.{fun_ext}
 use Rattle.std.specs.List.{Contains}
 use Rattle.std.specs.Option.{option_map, option_map_or, option_to_list}
-use Rattle.std.specs.Prelude.{IsTrue, filter_map, is_some}
+use Rattle.std.specs.Prelude.{IsTrue, filter_map, is_some, sum_by}
 use Rattle.std.specs.Str.{bytes_eq}
 use Rattle.std.proofs.lemmas.Bool.{and_left, and_parts, and_right, cases_eq, eqb-true, false_from_ne_true, ne_eqb}
 use Rattle.std.proofs.lemmas.Slice.Eq.{bytes_eq-Decides}
@@ -30,12 +30,13 @@ use Rattle.volume_def.specs.Values.{KeepsClusters, first_part, is_first, spot_at
 use Rattle.volume_def.specs.View.{VolumeView}
 use Rattle.volume_def.proofs.RecordLaws.{parts-other, parts-own_at}
 use Rattle.volume_def.proofs.ValueLaws.{spot_at-owned, value-frame}
-use Rattle.edit_def.specs.Account.{nothing}
+use Rattle.edit_def.specs.Account.{Wants}
 use Rattle.edit_def.specs.Edited.{Edited, is_table_key}
 use Rattle.edit_def.specs.Kept.{Key, Told, is_name_told, key_of, same_key, told_by, told_names, told_of}
 use Rattle.edit_def.specs.Marks.{Marks}
 use Rattle.edit_def.specs.ListOrder.{entries_of}
 use Rattle.edit_def.specs.Names.{numbers_at}
+use Rattle.edit_def.specs.Purses.{run_size}
 use Rattle.ntfs_def.specs.Flags.{is_packed}
 use Rattle.record_edits.specs.InPlace.{is_bits_key}
 use Rattle.record_edits.specs.RecordEdit.{EditsPart, parts_made}
@@ -43,21 +44,22 @@ use Rattle.record_edits.proofs.BlockEdits.{attribute-stays, part-stays}
 use Rattle.record_edits.proofs.ClauseEdits as clauses
 use Rattle.record_edits.proofs.FileEdits as files
 use Rattle.record_edits.proofs.PartEdits.{AreNamed, filter-nil}
-use Rattle.record_edits.proofs.PlaceEdits.{clusters-kept}
 use Rattle.session_def.specs.Cost.{log_bytes, log_parts, log_size}
 use Rattle.session_def.specs.Done.{first_cost}
 use Rattle.session_def.specs.State.{dirty_flag}
 use Rattle.in_place.specs.Unnamed.{LiesApart}
 use Rattle.in_place_owed.proofs.MarksLaws.{right_marks}
-use Rattle.value_edits.specs.ValueEdits.{EditsAlone}
+use Rattle.value_edits.specs.ValueEdits.{EditsAlone, only_clusters}
 use Rattle.value_edits.proofs.EditedRecord as value
+use Rattle.value_edits.proofs.Prepared as before
 use Rattle.value_owed.proofs.ClustersGiven as given
 
 pub never : {b : Bool} → b ≡ true → b ≡ false → ⊥
 never x y = cc
 
-module _ (key : Key) (old mid : VolumeView) (sound : IsSound old) (apart : LiesApart old) (e : EditsAlone key old mid) where
-  -- THE EDIT of the record is one of the volume where clusters were given back, which has the records of the one before.
+module _ (key : Key) (old mid : VolumeView) (sound : IsSound old) (apart : LiesApart old) {gains : ℕ → Bool}
+    (e : EditsAlone key gains old mid) where
+  -- THE EDIT of the record is one of the volume that was prepared, which has the records of the one before.
   abbrev pub cleared : VolumeView
   cleared = e.mid
 
@@ -68,7 +70,7 @@ module _ (key : Key) (old mid : VolumeView) (sound : IsSound old) (apart : LiesA
   on-cleared n = ap (λ (r : Records). r.record_at n) records-cleared
 
   pub block-cleared : (n : ℕ) → cleared.block n ≡ old.block n
-  block-cleared = e.gives.writes.blocks
+  block-cleared = before.blocks-mid key old cleared e.given e.taken e.prepares
 
   abbrev was_marks : Marks
   was_marks = right_marks old
@@ -79,7 +81,11 @@ module _ (key : Key) (old mid : VolumeView) (sound : IsSound old) (apart : LiesA
   pub part : EditsPart key cleared mid was_marks now_marks
   part = value.part key old mid sound apart e
 
-  pub edited : Edited (same_key key) nothing old mid was_marks now_marks
+  -- what it takes
+  abbrev pub wants : Wants
+  wants = only_clusters (sum_by run_size e.taken)
+
+  pub edited : Edited (same_key key) wants old mid was_marks now_marks
   edited = value.edited key old mid sound apart e
 
   pub stands : parts_at mid key.file key.kind key.name ≡ parts_made key.file (option_to_list e.now)
@@ -93,7 +99,7 @@ module _ (key : Key) (old mid : VolumeView) (sound : IsSound old) (apart : LiesA
 
   -- its record was in use
   pub inside : key.file < old.layout.count
-  inside = subst (λ (l : TableLayout). key.file < l.count) e.gives.writes.layout e.block.inside
+  inside = subst (λ (l : TableLayout). key.file < l.count) (value.layout-mid key old mid sound apart e) e.block.inside
 
   pub used : IsTrue (is_in_use (old.block key.file))
   used = subst (λ block. IsTrue (is_in_use block)) (block-cleared key.file) e.block.used
@@ -216,7 +222,8 @@ module _ (key : Key) (old mid : VolumeView) (sound : IsSound old) (apart : LiesA
 
   pub first-copy : (n : ℕ) → n < 4 → mid.copy n ≡ old.copy n
   first-copy n few =
-      e.block.replaces.copies n few (λ same. let h = high in absurd (omega (arith, same, few, h))) ∙ e.gives.writes.copies n few
+      e.block.replaces.copies n few (λ same. let h = high in absurd (omega (arith, same, few, h)))
+      ∙ before.copies-mid key old cleared e.given e.taken e.prepares n few
 
   -- VALUES, but of the stream, of the table and its mirror, and of the bitmaps
   apart-cleared : LiesApart cleared
@@ -225,20 +232,21 @@ module _ (key : Key) (old mid : VolumeView) (sound : IsSound old) (apart : LiesA
   at-cleared : (g kind : ℕ) (name : List ℕ) → parts_at cleared g kind name ≡ parts_at old g kind name
   at-cleared g kind name = ap (λ (r : Records). filter (is_of kind name) (parts r g)) records-cleared
 
-  pub clusters-same : (g kind : ℕ) (name : List ℕ) → is_table_key (key_of g kind name) ≡ false → is_bits_key (key_of g kind name) ≡ false
-      → KeepsClusters old mid (parts_at old g kind name)
-  clusters-same g kind name table bits vcn c at =
+  pub clusters-same : (g kind : ℕ) (name : List ℕ) → same_key key (key_of g kind name) ≡ false → is_table_key (key_of g kind name) ≡ false
+      → is_bits_key (key_of g kind name) ≡ false → KeepsClusters old mid (parts_at old g kind name)
+  clusters-same g kind name free table bits vcn c at =
       let lies = apart-cleared in
       attribute-stays cleared mid e.block.replaces.clusters lies.owners lies.some lies.unnamed g kind name table vcn c
       (ap (λ xs. spot_at xs vcn) (at-cleared g kind name) ∙ at)
-      ∙ clusters-kept is_bits_key old cleared e.gives.writes apart.owners g kind name bits vcn c at
+      ∙ value.clusters-mid key old mid sound apart e g kind name free bits vcn c at
 
   pub value-same : (g kind : ℕ) (name : List ℕ) → same_key key (key_of g kind name) ≡ false → is_table_key (key_of g kind name) ≡ false
       → is_bits_key (key_of g kind name) ≡ false → value_on mid (parts_at mid g kind name) ≡ value_on old (parts_at old g kind name)
   value-same g kind name free table bits =
       ap (λ s. value_of_parts mid.cluster s (parts_at mid g kind name)) size
       ∙ ap (value_of_parts mid.cluster (cluster_bytes old.layout)) (at-same g kind name free)
-      ∙ value-frame old.cluster mid.cluster (cluster_bytes old.layout) (parts_at old g kind name) (clusters-same g kind name table bits)
+      ∙ value-frame old.cluster mid.cluster (cluster_bytes old.layout) (parts_at old g kind name)
+      (clusters-same g kind name free table bits)
 
   -- LISTS
   list-clusters : (g vcn c : ℕ) → spot_at (filter is_list (parts (records_of old) g)) vcn ≡ At c → mid.cluster c ≡ old.cluster c
@@ -247,11 +255,20 @@ module _ (key : Key) (old mid : VolumeView) (sound : IsSound old) (apart : LiesA
       let its = Contains-from_filter is_list (parts (records_of old) g) owned.0 owned.1 in
       let kind = eqb-true owned.0.kind ATTRIBUTE_LIST its.1 in
       let lies = apart-cleared in
+      let wrote = e.prepares in
+      let bits : is_bits_key (key_of g owned.0.kind owned.0.name) ≡ false = ap (λ k. is_bits_key (key_of g k owned.0.name)) kind in
+      let free : same_key key (key_of g owned.0.kind owned.0.name) ≡ false =
+      other-kind g owned.0.kind owned.0.name (λ stream. absurd (omega (arith, kind, stream))) in
       part-stays cleared mid e.block.replaces.clusters lies.owners lies.some lies.unnamed g owned.0 c
       (subst (λ (r : Records). Contains (parts r g) owned.0) (sym records-cleared) its.0)
       (ap (λ k. (k == DATA) && bytes_eq owned.0.name []) kind) owned.2
-      ∙ given.part-kept old cleared e.gives.writes apart g owned.0 c its.0
-      (ap (λ k. is_bits_key (key_of g k owned.0.name)) kind) owned.2
+      ∙ given.part-kept (same_key key) wrote.flagged cleared wrote.fills (value.apart-flagged key old mid sound apart e) g owned.0 c
+      (subst (λ (r : Records). Contains (parts r g) owned.0) (sym (before.records-flagged key old cleared e.given e.taken wrote)) its.0)
+      free owned.2
+      ∙ given.part-kept is_bits_key wrote.freed wrote.flagged wrote.takes.writes (value.apart-freed key old mid sound apart e) g owned.0 c
+      (subst (λ (r : Records). Contains (parts r g) owned.0) (sym (before.records-freed key old cleared e.given e.taken wrote)) its.0)
+      bits owned.2
+      ∙ given.part-kept is_bits_key old wrote.freed wrote.gives.writes apart g owned.0 c its.0 bits owned.2
 
   pub entries-same : (g : ℕ) → entries_of mid g ≡ entries_of old g
   entries-same g =
@@ -262,8 +279,11 @@ module _ (key : Key) (old mid : VolumeView) (sound : IsSound old) (apart : LiesA
       ∙ value-frame old.cluster mid.cluster (cluster_bytes old.layout) (filter is_list (parts (records_of old) g)) (list-clusters g))
 
   -- THE LOG AND THE MARK
+  pub no-log : same_key key (key_of LOG_FILE DATA []) ≡ false
+  no-log = other-file LOG_FILE DATA [] (λ same. let h = high in absurd (omega (arith, same, h)))
+
   pub log-same : log_parts mid ≡ log_parts old
-  log-same = at-same LOG_FILE DATA [] (other-file LOG_FILE DATA [] (λ same. let h = high in absurd (omega (arith, same, h))))
+  log-same = at-same LOG_FILE DATA [] no-log
 
   pub log_bytes-same : log_bytes mid ≡ log_bytes old
   unfolding log_bytes

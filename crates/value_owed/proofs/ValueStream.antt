@@ -1,10 +1,10 @@
--- THE STREAM before and behind its edit: one part, then one or none, which lies in no cluster that it did not have, and keeps its flags and
--- sizes as it is to; and so behind the rewrite that came then.
-use Rattle.std.proofs.Common.{◌≡◌, ◌==◌, ◌&&◌, ℕ, Bool, true, false, List, [], ◌∷◌, filter, map, Option, Some, None, inl, inr}
+-- THE STREAM before and behind its edit: one part, then one or none, which lies in no cluster that it did not have but those that it may
+-- gain, and keeps its flags and sizes as it is to; and so behind the rewrite that came then.
+use Rattle.std.proofs.Common.{◌≡◌, ◌⊎◌, ◌==◌, ◌&&◌, ℕ, Bool, true, false, List, [], ◌∷◌, filter, map, Option, Some, None, inl, inr}
 use Rattle.std.proofs.Common.{sym, ap, subst, ◌∙◌}
 use Rattle.std.specs.List.{Contains}
 use Rattle.std.specs.Option.{option_to_list}
-use Rattle.std.specs.Prelude.{IfSome, is_some}
+use Rattle.std.specs.Prelude.{IfSome, is_some, sum_by}
 use Rattle.std.specs.Str.{bytes_eq}
 use Rattle.std.proofs.lemmas.Bool.{and_from, and_parts, cases_Bool, eqb-true}
 use Rattle.std.proofs.lemmas.Slice.Eq.{bytes_eq-Decides}
@@ -24,6 +24,7 @@ use Rattle.volume_def.proofs.RecordLaws.{parts-own_at}
 use Rattle.tree_model.specs.StreamRoom.{is_cluster, parts_named}
 use Rattle.tree_model.specs.declared.command.Command.{Command}
 use Rattle.edit_def.specs.Kept.{Key, key_of, same_key}
+use Rattle.edit_def.specs.Purses.{run_size}
 use Rattle.record_edits.specs.RecordEdit.{parts_made}
 use Rattle.session_def.specs.Done.{may_own}
 use Rattle.session_def.specs.Nodes.{KeepsStream, has_hole}
@@ -38,29 +39,33 @@ use Rattle.value_owed.proofs.ValueSame as same
 use Rattle.value_owed.proofs.ValueSame.{never}
 
 module _ (f : ℕ) (name : List ℕ) (old mid : VolumeView) (sound : IsSound old) (apart : LiesApart old)
-    (e : EditsAlone (key_of f DATA name) old mid) (alone : parts_named old f (units_in name) ≡ parts_at old f DATA name) where
+    {gains : ℕ → Bool} (e : EditsAlone (key_of f DATA name) gains old mid)
+    (alone : parts_named old f (units_in name) ≡ parts_at old f DATA name) where
   abbrev pub key : Key
   key = key_of f DATA name
 
   stands : parts_at mid f DATA name ≡ parts_made f (option_to_list e.now)
   stands = same.stands key old mid sound apart e
 
-  -- IT GAINS no cluster, and no hole that it had not
-  spots-less : (now : Option Attribute) → IfSome now (ComesInPlace old f e.was) → (vcn : ℕ)
-      → is_cluster (spot_at (parts_made f (option_to_list now)) vcn) ≡ true → is_cluster (spot_at (parts_made f (e.was ∷ [])) vcn) ≡ true
-  spots-less None comes vcn is = cc
-  spots-less (Some now) comes vcn is = comes.spots vcn is
+  -- IT GAINS no cluster but those that it may, and no hole that it had not
+  spots-more : (now : Option Attribute) → IfSome now (ComesInPlace old f gains (sum_by run_size e.taken) e.was) → (vcn : ℕ)
+      → is_cluster (spot_at (parts_made f (option_to_list now)) vcn) ≡ true
+      → (is_cluster (spot_at (parts_made f (e.was ∷ [])) vcn) ≡ true) ⊎ (gains vcn ≡ true)
+  spots-more None comes vcn is = cc
+  spots-more (Some now) comes vcn is = comes.spots vcn is
 
-  holes-less : (now : Option Attribute) → IfSome now (ComesInPlace old f e.was)
+  holes-less : (now : Option Attribute) → IfSome now (ComesInPlace old f gains (sum_by run_size e.taken) e.was)
       → has_hole (parts_made f (option_to_list now)) ≡ true → has_hole (parts_made f (e.was ∷ [])) ≡ true
   holes-less None comes is = cc
   holes-less (Some now) comes is = comes.holes is
 
   pub spots-stood : (vcn : ℕ) → is_cluster (spot_at (parts_at mid f DATA name) vcn) ≡ true
-      → is_cluster (spot_at (parts_at old f DATA name) vcn) ≡ true
+      → (is_cluster (spot_at (parts_at old f DATA name) vcn) ≡ true) ⊎ (gains vcn ≡ true)
   spots-stood vcn is =
-      ap (λ xs. is_cluster (spot_at xs vcn)) e.stood
-      ∙ spots-less e.now e.comes vcn (sym (ap (λ xs. is_cluster (spot_at xs vcn)) stands) ∙ is)
+      elim (spots-more e.now e.comes vcn (sym (ap (λ xs. is_cluster (spot_at xs vcn)) stands) ∙ is)) [
+        | inl had ↦ inl (ap (λ xs. is_cluster (spot_at xs vcn)) e.stood ∙ had)
+        | inr got ↦ inr got
+      ]
 
   holes-stood : has_hole (parts_at mid f DATA name) ≡ true → has_hole (parts_at old f DATA name) ≡ true
   holes-stood is = ap has_hole e.stood ∙ holes-less e.now e.comes (sym (ap has_hole stands) ∙ is)
@@ -123,13 +128,15 @@ module _ (f : ℕ) (name : List ℕ) (old mid : VolumeView) (sound : IsSound old
     says : SaysSame (parts_at mid f DATA name) now
     says = says-same (parts_at mid f DATA name) now (named-blank ∙ ap (map blank_part) alone-still)
 
-    size-next : cluster_bytes next.layout ≡ cluster_bytes old.layout
+    pub size-next : cluster_bytes next.layout ≡ cluster_bytes old.layout
     size-next = ap cluster_bytes w.layout ∙ same.size key old mid sound apart e
 
-    -- the stream has gained no cluster ..
-    pub spots-behind : (vcn : ℕ) → is_cluster (spot_at now vcn) ≡ true → is_cluster (spot_at was vcn) ≡ true
-    spots-behind vcn is =
-        ap (λ xs. is_cluster (spot_at xs vcn)) alone ∙ spots-stood vcn (sym (ap is_cluster (says.spots vcn)) ∙ is)
+    -- the stream has gained no other cluster ..
+    pub spots-behind : (vcn : ℕ) → is_cluster (spot_at now vcn) ≡ true → (is_cluster (spot_at was vcn) ≡ true) ⊎ (gains vcn ≡ true)
+    spots-behind vcn is = elim (spots-stood vcn (sym (ap is_cluster (says.spots vcn)) ∙ is)) [
+      | inl had ↦ inl (ap (λ xs. is_cluster (spot_at xs vcn)) alone ∙ had)
+      | inr got ↦ inr got
+    ]
 
     -- .. and owns those that it owned
     pub owned-behind : (command : Command)
@@ -142,17 +149,24 @@ module _ (f : ℕ) (name : List ℕ) (old mid : VolumeView) (sound : IsSound old
         ∙ ap (λ n. may_own (cluster_bytes old.layout) command n vcn) says.size
         ∙ owned vcn (sym (ap is_cluster (says.spots vcn)) ∙ is)
 
-    -- no stream has gained one
-    pub none-gained : (g kind : ℕ) (other : List ℕ) (vcn : ℕ) → is_cluster (spot_at (parts_at next g kind other) vcn) ≡ true
-        → is_cluster (spot_at (parts_at old g kind other) vcn) ≡ false → ⊥
-    none-gained g kind other vcn is none = elim (cases_Bool (same_key key (key_of g kind other))) [
-      | inr free ↦
-          never (sym (ap (λ xs. is_cluster (spot_at xs vcn)) (same.at-same key old mid sound apart e g kind other free))
-          ∙ sym (ap is_cluster (records.spots-same changed mid next w g kind other vcn)) ∙ is) none
+    -- none but this stream has gained one, and it has the size that it had between
+    pub gained-behind : (g kind : ℕ) (other : List ℕ) (vcn : ℕ) → is_cluster (spot_at (parts_at next g kind other) vcn) ≡ true
+        → is_cluster (spot_at (parts_at old g kind other) vcn) ≡ false
+        → (gains vcn ≡ true)
+        × (told_size (first_part (parts_at next g kind other)) ≡ told_size (first_part (parts_at mid f DATA name)))
+    gained-behind g kind other vcn is none = elim (cases_Bool (same_key key (key_of g kind other))) [
+      | inr free ↦ absurd (never (sym (ap (λ xs. is_cluster (spot_at xs vcn)) (same.at-same key old mid sound apart e g kind other free))
+          ∙ sym (ap is_cluster (records.spots-same changed mid next w g kind other vcn)) ∙ is) none)
       | inl its ↦
-          never (ap (λ xs. is_cluster (spot_at xs vcn)) (its-at old g kind other its)
-          ∙ spots-stood vcn (sym (ap (λ xs. is_cluster (spot_at xs vcn)) (its-at mid g kind other its))
-          ∙ sym (ap is_cluster (records.spots-same changed mid next w g kind other vcn)) ∙ is)) none
+          let lies = sym (ap (λ xs. is_cluster (spot_at xs vcn)) (its-at mid g kind other its))
+          ∙ sym (ap is_cluster (records.spots-same changed mid next w g kind other vcn)) ∙ is in
+          let told = (says-same (parts_at mid g kind other) (parts_at next g kind other)
+          (records.at-same changed mid next w g kind other)).size
+          ∙ ap (λ xs. told_size (first_part xs)) (its-at mid g kind other its) in
+          elim (spots-stood vcn lies) [
+            | inl had ↦ absurd (never (ap (λ xs. is_cluster (spot_at xs vcn)) (its-at old g kind other its) ∙ had) none)
+            | inr got ↦ (got, told)
+          ]
     ]
 
     -- none has a hole that had none
@@ -168,7 +182,7 @@ module _ (f : ℕ) (name : List ℕ) (old mid : VolumeView) (sound : IsSound old
     ]
 
     -- it is kept, where it is there still
-    keeps-made : (after : Option Attribute) → IfSome after (ComesInPlace old f e.was)
+    keeps-made : (after : Option Attribute) → IfSome after (ComesInPlace old f gains (sum_by run_size e.taken) e.was)
         → is_some (first_part (parts_made f (option_to_list after))) ≡ true
         → KeepsStream old (parts_made f (e.was ∷ [])) (parts_made f (option_to_list after))
     keeps-made None comes there = cc

@@ -12,8 +12,8 @@ ghost use Rattle.session_def.specs.Owed.{CallsOf, Owes};
 ghost use Rattle.session_def.specs.State.{State};
 ghost use Rattle.value_owed.specs.ValueOwed.{IsDoneAlone, SetsBehindValue, bill_asked, clusters_asked, edits_value};
 
-/// Where it is done in the record, or in clusters, its bill is the empty one, or has the file alone, with the clusters of the stream (`bill`);
-/// so it is refused for room exactly where that is (`room`).
+/// Where it is done in the record, or in clusters, its bill is the empty one, or has the file alone, with the clusters of the stream
+/// (`bill`); so it is refused for room exactly where that is (`room`).
 pub fn value_has_room()
     ensures bill { (view : VolumeView) (tree : Tree) (command : Command) (at : Located) → edits_value command ≡ true → at.new ≡ NoName
         → at.file < view.layout.count → is_some at.content ≡ true → IsDoneAlone view tree command at
