@@ -1,5 +1,5 @@
--- WHAT LIES APART FROM THE MARK AND THE LOG: the sectors of a record and of its copy, and those of an attribute that is no $DATA, or one of a
--- file that is neither `$MFT`, its mirror, nor the log.
+-- WHAT LIES APART FROM THE MARK AND THE LOG: the sectors of a record and of its copy, those of an attribute that is no $DATA, or one of a
+-- file that is neither `$MFT`, its mirror, nor the log, and those of a cluster without an owner.
 use Rattle.std.proofs.Common.{◌≡◌, ◌≢◌, ◌+◌, ◌*◌, ◌/◌, ◌%◌, ◌<◌, ◌≤◌, ℕ, Bool, true, false, cond, List, [], ◌∷◌, ◌++◌, length, Option, Some, None}
 use Rattle.std.proofs.Common.{refl, sym, ap, subst, inl, inr, ◌∙◌, arith}
 use Rattle.std.specs.Prelude.{◌⊎◌, Contains, IfSome, IsSomeAnd, IsTrue, filter, is_none, nat_lt, option_to_list, unwrap_or}
@@ -18,6 +18,7 @@ use Rattle.volume_def.specs.AttributesClause.{IsRightRecord}
 use Rattle.volume_def.specs.Blocks.{mirror_sector, place_at, table_place}
 use Rattle.volume_def.specs.Coverage.{AreApart, IsOutsideTable, mirror_at, times_covered}
 use Rattle.volume_def.specs.Files.{Part, Record, file_of, is_of, part_runs, parts, parts_at, record_on, records_of}
+use Rattle.volume_def.specs.OwnersClause.{times_owned}
 use Rattle.volume_def.specs.Sound.{Attributes, CaseTable, IsSound, References}
 use Rattle.volume_def.specs.Table.{TableLayout}
 use Rattle.volume_def.specs.Values.{spot_at, value_of_parts, value_on}
@@ -204,6 +205,29 @@ module _ (view : VolumeView) (o : HasOwners view) (some : 0 < view.layout.cluste
           | inr away ↦ files-apart view f LOG_FILE own-part.0 m.part away.1.1 own-part.1 m.among
         ]) own-part.3 m.covered)
 
+  -- A CLUSTER WITHOUT AN OWNER
+  module _ (sector : ℕ) (free : times_owned (records_of view) (sector / per) ≡ 0) where
+    free-outside : IsOutsideTable layout (sector / per)
+    free-outside = record {
+      table =
+          let owned = owned-once view MFT o.table.part (sector / per) o.table.among in
+          let runs : times_covered (part_runs o.table.part) (sector / per) ≡ times_covered layout.runs (sector / per) =
+          ap (λ xs. times_covered xs (sector / per)) o.table.runs in
+          omega (arith, owned, runs, free);
+      mirror = λ s few at.
+          let m = mirror-holds view o s few some in
+          let owned = owned-once view MFT_MIRROR m.part (sector / per) m.among in
+          let covers = subst (λ k. 1 ≤ times_covered (part_runs m.part) k) at m.covered in
+          absurd (omega (arith, owned, covers, free));
+    }
+
+    pub free-log : (spans : List Span) → AreLogSpans view spans → IsOutside spans sector
+    free-log spans are = outside-log view spans some are sector (λ l.
+        let m = log-part sector l in
+        let owned = owned-once view LOG_FILE m.part (sector / per) m.among in
+        let covers = m.covered in
+        absurd (omega (arith, owned, covers, free)))
+
   -- THE FLAG
   module _ (sound : IsSound view) (flag : Flag) (is : IsFlagOf view flag) where
     abbrev half : ℕ
@@ -232,6 +256,14 @@ module _ (view : VolumeView) (o : HasOwners view) (some : 0 < view.layout.cluste
         → Contains (stream_sectors layout (spot_at (parts_at view f kind name)) at len) sector → IsBesideFlag flag sector
     stream-beside f kind name elsewhere at len sector there =
         let out = stream-outside f kind name elsewhere at len sector there in
+        record {
+          home = λ same. let covers = home-covered sector same in let none = out.table in omega (arith, covers, none);
+          copy = λ same. out.mirror half half-small (copy-at sector same);
+        }
+
+    pub free-beside : (sector : ℕ) → times_owned (records_of view) (sector / per) ≡ 0 → IsBesideFlag flag sector
+    free-beside sector free =
+        let out = free-outside sector free in
         record {
           home = λ same. let covers = home-covered sector same in let none = out.table in omega (arith, covers, none);
           copy = λ same. out.mirror half half-small (copy-at sector same);
