@@ -27,7 +27,7 @@ use Rattle.sparse_io.specs.declared.find.FoundStream.{FoundStream}
 use Rattle.tree_model.specs.Cases.{is_far}
 use Rattle.tree_model.specs.Paths.{and_then}
 use Rattle.tree_model.specs.Reading.{read}
-use Rattle.tree_model.specs.Ways.{fits_in_record, gets_no_longer, has_no_list}
+use Rattle.tree_model.specs.Ways.{ends_in_last, fits_in_record, gets_no_longer, has_no_list}
 use Rattle.tree_model.specs.StreamRoom.{parts_named, stream_parts, stream_value}
 use Rattle.tree_model.specs.Subjects.{content_named}
 use Rattle.tree_model.specs.Tree.{node_of}
@@ -39,7 +39,7 @@ use Rattle.tree_read.specs.Nodes.{IsNodeHeld, number_of, parts_in}
 use Rattle.tree_read.specs.Parts.{FindsPlain, IsPlainStream, content_here}
 use Rattle.tree_read.proofs.NodeLaws.{held-file, held-with}
 use Rattle.tree_read.proofs.StreamLaws.{other-stream, refused-directory}
-use Rattle.tree_edit.specs.Alone.{can_cut, can_drop, can_give, can_resize}
+use Rattle.tree_edit.specs.Alone.{can_drop, can_end, can_give, can_resize}
 use Rattle.tree_edit.specs.Change.{TellsFit, has_room_for}
 use Rattle.tree_edit.specs.Decided.{EditsSo, can_drop_by, can_drop_so, can_resize_by, can_resize_so, drop_decided, drop_shared_to, if_can, resize_decided, resize_ranged_to}
 use Rattle.tree_edit.specs.Settable.{is_editable}
@@ -102,8 +102,10 @@ module _ (view : VolumeView) (held : BaseFile) (n : IsNodeHeld view held) where
         → wanted ≡ Err no.Unbuilt
     resize-missing none near kept =
         resize-shared None none near None kept
-        ∙ ap (λ b. if_can b f) (ap (λ b. (b && room_in view name size f) || can_cut view name size f) (drop-missing view held n name 0 0 none)
-        ∙ ap (λ b. b && gets_no_longer size (content_named (read view) name (node_of (read view) f))) (give-missing view held n name 0 0 none))
+        ∙ ap (λ b. if_can b f) (ap (λ b. (b && room_in view name size f) || can_end view name size f) (drop-missing view held n name 0 0 none)
+        ∙ ap (λ b. b && (gets_no_longer size (content_named (read view) name (node_of (read view) f))
+        || ends_in_last (cluster_bytes view.layout) (stream_parts view (read view) (named_in (read view) name f)) size))
+        (give-missing view held n name 0 0 none))
 
   -- .. and of one that is to go
   module _ (name : List ℕ) (opens : List OpenEntry) where
@@ -220,8 +222,8 @@ module _ (view : VolumeView) (mounted : Mounted) (held : BaseFile) (mounts : IsM
 
     resize-some : (way : Way) → can_resize_by view name size way number ≡ true → can_resize_so view name size number ≡ true
     resize-some way.InPlace can = absurd (cc)
-    resize-some way.InRecord can = or_left (can_resize view name size number) (can_cut view name size number) can
-    resize-some way.InClusters can = or_right (can_resize view name size number) (can_cut view name size number) can
+    resize-some way.InRecord can = or_left (can_resize view name size number) (can_end view name size number) can
+    resize-some way.InClusters can = or_right (can_resize view name size number) (can_end view name size number) can
 
     pub resize-decided : {E : Type 0} (way : Result (Option Way) E) (wanted : Result ℕ No) (result : Result Writable No)
         → IfOk way (EditsSo (can_resize_by view name size) (can_resize_so view name size number) number)
@@ -237,21 +239,26 @@ module _ (view : VolumeView) (mounted : Mounted) (held : BaseFile) (mounts : IsM
     pub longer-is : gets_no_longer size (content_named (read view) name (node_of (read view) number)) ≡ nat_le size found.size
     longer-is = ap (gets_no_longer size) (content-is view held n name found is) ∙ ap (λ k. nat_le size k) (sym is.size)
 
-    pub cut-short : size ≤ found.size → can_cut view name size number ≡ can_give view name number
-    cut-short short =
-        ap (λ b. can_give view name number && b) (longer-is ∙ le-leb size found.size short) ∙ and-true (can_give view name number)
-      where
-        and-true : (b : Bool) → (b && true) ≡ b
-        and-true true = refl
-        and-true false = refl
+    abbrev last_of : List Part → Bool
+    last_of ps = ends_in_last (cluster_bytes view.layout) ps size
 
-    pub cut-long : found.size < size → can_cut view name size number ≡ false
-    cut-long long =
-        ap (λ b. can_give view name number && b) (longer-is ∙ lt-leb size found.size long) ∙ and-false (can_give view name number)
-      where
-        and-false : (b : Bool) → (b && false) ≡ false
-        and-false true = refl
-        and-false false = refl
+    abbrev there_now : List Part
+    there_now = stream_parts view (read view) (named_in (read view) name number)
+
+    pub end-not : false ≡ can_give view name number → false ≡ can_end view name size number
+    end-not no_extent =
+        ap (λ b. b && (gets_no_longer size (content_named (read view) name (node_of (read view) number)) || last_of there_now)) no_extent
+
+    pub end-short : true ≡ can_give view name number → size ≤ found.size → true ≡ can_end view name size number
+    end-short extent short =
+        ap (λ b. true && (b || last_of there_now)) (sym (longer-is ∙ le-leb size found.size short))
+        ∙ ap (λ b. b && (gets_no_longer size (content_named (read view) name (node_of (read view) number)) || last_of there_now)) extent
+
+    pub end-long : true ≡ can_give view name number → found.size < size → (ends : Bool) → ends ≡ last_of there_now
+        → ends ≡ can_end view name size number
+    end-long extent long ends is_last =
+        is_last ∙ ap (λ b. true && (b || last_of there_now)) (sym (longer-is ∙ lt-leb size found.size long))
+        ∙ ap (λ b. b && (gets_no_longer size (content_named (read view) name (node_of (read view) number)) || last_of there_now)) extent
 
     -- WHETHER IT CAN HAVE SO MANY BYTES, by the room of the record that holds it
     pub resize-not : false ≡ can_drop view name number → false ≡ can_resize view name size number

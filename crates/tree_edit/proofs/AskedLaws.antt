@@ -1,13 +1,16 @@
 -- ROOM IS ASKED FOR behind what was decided: for a stream that gets longer, and for bytes that go into a value.
-use Rattle.std.proofs.Common.{◌≡◌, ◌&&◌, ◌||◌, ◌+◌, ◌<◌, ◌≤◌, ℕ, Bool, true, false, not, List, Option, Some, None, Result, Ok, Err, inl, inr, refl, sym, ap, subst, ◌∙◌}
+use Rattle.std.proofs.Common.{◌≡◌, ◌&&◌, ◌||◌, ◌+◌, ◌<◌, ◌≤◌, ℕ, Bool, true, false, not, List, Option, Some, None, Result, Ok, Err, inl, inr, length, max, refl, sym, ap, subst, ◌∙◌}
 use Rattle.std.proofs.lemmas.Bool.{and_parts, le-ltb, lt-ltb}
-use Rattle.std.specs.Prelude.{IsTrue, if◌then◌else◌, is_some, nat_lt}
-use Rattle.std.specs.Option.{option_map_or}
+use Rattle.std.specs.List.{range_with_len}
+use Rattle.std.specs.Prelude.{IsTrue, if◌then◌else◌, is_some, nat_lt, option_and_then}
+use Rattle.list_laws.proofs.FindLaws.{count-none}
+use Rattle.std.specs.Option.{option_map_or, option_or}
 use Rattle.vol_disk.specs.declared.Disk.{Ghosts}
 use Rattle.volume_def.specs.CaseClause.{case_parts}
-use Rattle.volume_def.specs.Files.{Part}
+use Rattle.ntfs_def.specs.Rounded.{clusters_for}
+use Rattle.volume_def.specs.Files.{Clusters, Content, Part, Value, content_extent, content_value}
 use Rattle.volume_def.specs.Table.{cluster_bytes}
-use Rattle.volume_def.specs.Values.{value_on}
+use Rattle.volume_def.specs.Values.{first_part, spot_at, value_on}
 use Rattle.volume_def.specs.View.{VolumeView}
 use Rattle.edit_def.specs.OneFile.{no_room_alone}
 use Rattle.mft_table.specs.declared.mft.Mft.{Mft}
@@ -22,8 +25,8 @@ use Rattle.tree_model.specs.Paths.{and_then, found_file, resolve}
 use Rattle.tree_model.specs.Reading.{read}
 use Rattle.tree_model.specs.Shown.{plain_bytes, stream_of}
 use Rattle.tree_model.specs.Staging.{cannot_edit}
-use Rattle.tree_model.specs.Ways.{has_no_list, has_placed_bits}
-use Rattle.tree_model.specs.StreamRoom.{new_clusters, parts_named, stream_parts, stream_value}
+use Rattle.tree_model.specs.Ways.{has_no_list, has_placed_bits, in_extent}
+use Rattle.tree_model.specs.StreamRoom.{is_cluster, new_clusters, parts_named, stream_parts, stream_value, stream_value_len, touches}
 use Rattle.tree_model.specs.Subjects.{content_named}
 use Rattle.tree_model.specs.Tree.{node_of}
 use Rattle.tree_model.specs.declared.opens.OpenEntry.{OpenEntry}
@@ -35,16 +38,17 @@ use Rattle.tree_read.specs.declared.stop.Stop.{Stop}
 use Rattle.tree_read.specs.declared.stop.Stop.TheVariants as stop
 use Rattle.tree_read.proofs.GivesLaws.{both, tells}
 use Rattle.tree_read.proofs.NodeLaws.{held-with}
-use Rattle.tree_edit.specs.Alone.{IsResizable, asked_to_drop, asked_to_resize, can_cut, can_drop, can_give, can_resize, drop_in, drop_wanted, if_room, resize_in, resize_wanted, room_to_resize}
-use Rattle.tree_edit.specs.Decided.{drop_decided, drop_found, hwrite_decided, if_can, resize_decided, resize_found, room_written, write_decided, write_found}
+use Rattle.tree_edit.specs.Alone.{IsResizable, asked_to_drop, asked_to_resize, bits_asked, can_drop, can_end, can_give, can_resize, drop_in, drop_wanted, if_room, resize_in, resize_wanted, room_to_resize}
+use Rattle.tree_edit.specs.Decided.{IsWritableSo, asked_to_write, drop_decided, drop_found, hwrite_decided, if_can, resize_decided, resize_found, write_decided, write_found}
 use Rattle.tree_edit.specs.Punchable.{can_punch}
-use Rattle.tree_edit.specs.Writable.{can_write_over, kept_from_writing, named_in, stream_to_write}
-use Rattle.tree_edit.specs.Write.{IsWritable, hwrite_in, room_to_write, write_in, write_wanted}
+use Rattle.tree_edit.specs.Writable.{IsFoundToEdit, can_write_over, kept_from_writing, named_in, stream_to_write}
+use Rattle.tree_edit.specs.Write.{can_reach_there, hwrite_in, room_to_reach, room_to_write, write_in, write_wanted}
 use Rattle.tree_edit.specs.declared.writable.Way.TheVariants as way
 use Rattle.tree_edit.specs.declared.writable.Writable.{Writable}
 use Rattle.tree_edit.proofs.EditableLaws.{parts-are}
+use Rattle.tree_edit.proofs.WayLaws.{give-no_resize}
+use Rattle.tree_edit.proofs.WriteFound.{writable-behind, writable-not_over, writable-over, writable-value}
 use Rattle.tree_edit.proofs.StreamToWrite.{content-is}
-use Rattle.tree_edit.proofs.WriteFound.{writable-not_over, writable-over}
 
 -- THE REFUSAL FOR ROOM comes behind all others.
 module _ (file : ℕ) (far : Bool) (kept : Option No) where
@@ -52,16 +56,16 @@ module _ (file : ℕ) (far : Bool) (kept : Option No) where
   shared last = if far then Err no.TooBig else option_map_or Err kept last
 
   resized-last : {A : Type 0} (r : Result A No) (can cut bits : Bool) (room asked : ℕ → Option No)
-      → asked file ≡ (if can then room file else if bits then None else Some no.Unbuilt)
-      → and_then r (λ x. shared (if can then if_room (room file) file else if cut && bits then Ok file else Err no.Unbuilt))
+      → asked file ≡ (if can then room file else option_or (if bits then None else Some no.Unbuilt) (room file))
+      → and_then r (λ x. shared (if can || (cut && bits) then if_room (room file) file else Err no.Unbuilt))
       ≡ and_then (and_then r (λ x. shared (if_can (can || cut) file))) (λ f. if_room (asked f) f)
   resized-last (Err refused) can cut bits room asked e = refl
   resized-last (Ok x) can cut bits room asked e = by far kept can cut bits e
     where
       by : (far : Bool) (kept : Option No) (can cut bits : Bool)
-          → asked file ≡ (if can then room file else if bits then None else Some no.Unbuilt)
+          → asked file ≡ (if can then room file else option_or (if bits then None else Some no.Unbuilt) (room file))
           → (if far then Err no.TooBig else option_map_or Err kept
-          (if can then if_room (room file) file else if cut && bits then Ok file else Err no.Unbuilt))
+          (if can || (cut && bits) then if_room (room file) file else Err no.Unbuilt))
           ≡ and_then (if far then Err no.TooBig else option_map_or Err kept (if_can (can || cut) file)) (λ f. if_room (asked f) f)
       by true kept can cut bits e = refl
       by false (Some refused) can cut bits e = refl
@@ -86,21 +90,28 @@ module _ (file : ℕ) (far : Bool) (kept : Option No) where
       by None false true true e = sym (ap (λ (o : Option No). if_room o file) e)
       by None false true false e = sym (ap (λ (o : Option No). if_room o file) e)
 
-  written-last : {A : Type 0} (r : Result A No) (over can : Bool) (room asked : ℕ → Option No) → asked file ≡ (if over then None else room file)
-      → and_then r (λ x. shared (if over then Ok file else if can then if_room (room file) file else Err no.Unbuilt))
-      ≡ and_then (and_then r (λ x. shared (if_can (over || can) file))) (λ f. if_room (asked f) f)
-  written-last (Err refused) over can room asked e = refl
-  written-last (Ok x) over can room asked e = by far kept over can e
+  written-last : {A : Type 0} (r : Result A No) (over can reach bits : Bool) (room behind asked : ℕ → Option No)
+      → asked file ≡ (if over then None else if can then room file else option_or (if bits then None else Some no.Unbuilt) (behind file))
+      → and_then r (λ x. shared (if over then Ok file else if can then if_room (room file) file
+      else if reach && bits then if_room (behind file) file else Err no.Unbuilt))
+      ≡ and_then (and_then r (λ x. shared (if_can (over || (can || reach)) file))) (λ f. if_room (asked f) f)
+  written-last (Err refused) over can reach bits room behind asked e = refl
+  written-last (Ok x) over can reach bits room behind asked e = by far kept over can reach bits e
     where
-      by : (far : Bool) (kept : Option No) (over can : Bool) → asked file ≡ (if over then None else room file)
+      by : (far : Bool) (kept : Option No) (over can reach bits : Bool)
+          → asked file ≡ (if over then None else if can then room file else option_or (if bits then None else Some no.Unbuilt) (behind file))
           → (if far then Err no.TooBig else option_map_or Err kept
-          (if over then Ok file else if can then if_room (room file) file else Err no.Unbuilt))
-          ≡ and_then (if far then Err no.TooBig else option_map_or Err kept (if_can (over || can) file)) (λ f. if_room (asked f) f)
-      by true kept over can e = refl
-      by false (Some refused) over can e = refl
-      by false None true can e = sym (ap (λ (o : Option No). if_room o file) e)
-      by false None false true e = sym (ap (λ (o : Option No). if_room o file) e)
-      by false None false false e = refl
+          (if over then Ok file else if can then if_room (room file) file
+          else if reach && bits then if_room (behind file) file else Err no.Unbuilt))
+          ≡ and_then (if far then Err no.TooBig else option_map_or Err kept (if_can (over || (can || reach)) file))
+          (λ f. if_room (asked f) f)
+      by true kept over can reach bits e = refl
+      by false (Some refused) over can reach bits e = refl
+      by false None true can reach bits e = sym (ap (λ (o : Option No). if_room o file) e)
+      by false None false true reach bits e = sym (ap (λ (o : Option No). if_room o file) e)
+      by false None false false false bits e = refl
+      by false None false false true true e = sym (ap (λ (o : Option No). if_room o file) e)
+      by false None false false true false e = sym (ap (λ (o : Option No). if_room o file) e)
 
 module _ (view : VolumeView) (name : List ℕ) where
   pub resize-last : (opens : List OpenEntry) (path : List (List ℕ)) (size : ℕ) → resize_wanted view opens path name size
@@ -114,7 +125,7 @@ module _ (view : VolumeView) (name : List ℕ) where
       by (Ok found) =
           let file = found_file found in
           resized-last file (is_far size) (kept_from_writing opens file) (stream_to_write (read view) name (node_of (read view) file))
-          (can_resize view name size file) (can_cut view name size file) (has_placed_bits view) (λ f. room_to_resize view name size f)
+          (can_resize view name size file) (can_end view name size file) (has_placed_bits view) (λ f. room_to_resize view name size f)
           (λ f. asked_to_resize view name size f) refl
 
   pub drop-last : (opens : List OpenEntry) (path : List (List ℕ)) → drop_wanted view opens path name
@@ -131,25 +142,28 @@ module _ (view : VolumeView) (name : List ℕ) where
 
   module _ (from len : ℕ) where
     pub write-last : (opens : List OpenEntry) (path : List (List ℕ)) → write_wanted view opens path name from len
-        ≡ and_then (write_found view opens path name from len) (λ f. if_room (room_written view name from len f) f)
+        ≡ and_then (write_found view opens path name from len) (λ f. if_room (asked_to_write view name from len f) f)
     write-last opens path = by (resolve (read view) path)
       where
         by : (r : _) → and_then r (λ found. write_in view opens name from len (found_file found))
             ≡ and_then (and_then r (λ found. write_decided view opens name from len (found_file found)))
-            (λ f. if_room (room_written view name from len f) f)
+            (λ f. if_room (asked_to_write view name from len f) f)
         by (Err refused) = refl
         by (Ok found) =
             let file = found_file found in
             written-last file (is_wide from len) (kept_from_writing opens file)
             (stream_to_write (read view) name (node_of (read view) file)) (can_write_over view name from len file)
-            (can_resize view name (from + len) file) (λ f. room_to_write view name from len f) (λ f. room_written view name from len f) refl
+            (can_resize view name (from + len) file) (can_reach_there view name from len file) (has_placed_bits view)
+            (λ f. room_to_write view name from len f) (λ f. room_to_reach view name from len f)
+            (λ f. asked_to_write view name from len f) refl
 
     pub hwrite-last : (file : ℕ) → hwrite_in view name from len file
-        ≡ and_then (hwrite_decided view name from len file) (λ f. if_room (room_written view name from len f) f)
+        ≡ and_then (hwrite_decided view name from len file) (λ f. if_room (asked_to_write view name from len f) f)
     hwrite-last file =
         written-last file (is_wide from len) None (plain_bytes (content_named (read view) name (node_of (read view) file)))
-        (can_write_over view name from len file) (can_resize view name (from + len) file) (λ f. room_to_write view name from len f)
-        (λ f. room_written view name from len f) refl
+        (can_write_over view name from len file) (can_resize view name (from + len) file) (can_reach_there view name from len file)
+        (has_placed_bits view) (λ f. room_to_write view name from len f) (λ f. room_to_reach view name from len f)
+        (λ f. asked_to_write view name from len f) refl
 
 -- BEHIND WHAT WAS DECIDED, room is asked for.
 refused-so : (f : ℕ) (o : Option No) (why : Stop) → Says (has_room o) (Err why) → Says (if_room o f) (Err why)
@@ -185,7 +199,7 @@ module _ {D : Type 0} (g : Ghosts D) (wanted first : VolumeView → Result ℕ N
       then-is (view g old) f says.0 ∙ enough-so f (room (view g old) f) (says.1 (known told)))
 
 -- .. and none is refused, where the call went on.
-asked-none : (o : Option No) → has_room o ≡ Ok tt → o ≡ None
+pub asked-none : (o : Option No) → has_room o ≡ Ok tt → o ≡ None
 asked-none None e = refl
 asked-none (Some refused) e = cc
 
@@ -228,31 +242,81 @@ module _ (view : VolumeView) (found : Writable) (name : List ℕ) (size : ℕ) (
         ∙ ap (λ (ps : List Part). new_clusters (cluster_bytes view.layout) ps from len)
         (sym (parts-are view found.held is.held name found.stream stream)))
 
-  -- of a stream that gets longer
-  grows-is : (b : Bool) → nat_lt found.stream.size size ≡ b → grows size (content_named (read view) name (node_of (read view) f_)) ≡ b
-  grows-is b longer =
-      ap (grows size) (content-is view found.held is.held name found.stream stream) ∙ ap (λ k. nat_lt k size) (sym stream.size) ∙ longer
+-- of a stream that gets longer
+module _ (view : VolumeView) (found : Writable) (name : List ℕ) (can : ℕ → Bool) (is : IsFoundToEdit view found name can) (size : ℕ) where
+  abbrev number : ℕ
+  number = number_of found.held
 
-  abbrev room_by : Bool → Option No
-  room_by longer =
-      if longer then no_room_alone view f_ (new_clusters (cluster_bytes view.layout)
-      (stream_parts view (read view) (named_in (read view) name f_)) 0 0)
+  abbrev its : IsStream view found.held.parts name found.stream
+  its = is.stream.is
+
+  grows-is : (b : Bool) → nat_lt found.stream.size size ≡ b → grows size (content_named (read view) name (node_of (read view) number)) ≡ b
+  grows-is b longer =
+      ap (grows size) (content-is view found.held is.held name found.stream its) ∙ ap (λ k. nat_lt k size) (sym its.size) ∙ longer
+
+  abbrev room_of : Bool → Option No
+  room_of longer =
+      if longer then no_room_alone view number (new_clusters (cluster_bytes view.layout)
+      (stream_parts view (read view) (named_in (read view) name number)) 0 0)
       else None
 
-  pub room-shorter : size ≤ found.stream.size → room_to_resize view name size f_ ≡ None
-  room-shorter short = ap room_by (grows-is false (le-ltb found.stream.size size short))
+  pub room-shorter : size ≤ found.stream.size → room_to_resize view name size number ≡ None
+  room-shorter short = ap room_of (grows-is false (le-ltb found.stream.size size short))
 
-  pub room-longer : found.stream.size < size → room_to_resize view name size f_
-      ≡ no_room_alone view f_ (new_clusters (cluster_bytes view.layout) (stream_parts view (read view) (named_in (read view) name f_)) 0 0)
-  room-longer long = ap room_by (grows-is true (lt-ltb found.stream.size size long))
+  pub room-longer : found.stream.size < size → room_to_resize view name size number
+      ≡ no_room_alone view number
+      (new_clusters (cluster_bytes view.layout) (stream_parts view (read view) (named_in (read view) name number)) 0 0)
+  room-longer long = ap room_of (grows-is true (lt-ltb found.stream.size size long))
+
+-- a stream in clusters needs none for what it has
+pub extent-none : (size : ℕ) (extents : List Part) → in_extent (first_part extents) ≡ true → new_clusters size extents 0 0 ≡ 0
+extent-none size extents lies =
+    count-none (λ vcn. (touches size 0 0 vcn || touches size 0 (stream_value_len extents) vcn) && not (is_cluster (spot_at extents vcn)))
+    (range_with_len 0 (clusters_for (max (0 + 0) (stream_value_len extents)) size))
+    (λ vcn c. ap (λ n. (touches size 0 0 vcn || touches size 0 n vcn) && not (is_cluster (spot_at extents vcn)))
+    (value-none (first_part extents) lies))
+  where
+    value-none : (o : Option Part) → in_extent o ≡ true
+        → option_map_or length (option_and_then (λ (part : Part). content_value part.content) o) 0 ≡ 0
+    value-none None e = refl
+    value-none (Some part) e = by part.content e
+      where
+        by : (content : Content) → is_some (content_extent content) ≡ true → option_map_or length (content_value content) 0 ≡ 0
+        by (Value value) e = let never : false ≡ true = e in cc
+        by (Clusters extent runs) e = refl
 
 -- .. and of bytes
-module _ (view : VolumeView) (found : Writable) (name : List ℕ) (at len : ℕ) (is : IsWritable view found name at len) where
-  pub room-over : found.way ≡ way.InPlace → room_written view name at len (number_of found.held) ≡ None
+module _ (view : VolumeView) (found : Writable) (name : List ℕ) (at len : ℕ) (is : IsWritableSo view found name at len) where
+  abbrev asked_by : Bool → Bool → Option No
+  asked_by over can =
+      if over then None else if can then room_to_write view name at len (number_of found.held)
+      else option_or (bits_asked view) (room_to_reach view name at len (number_of found.held))
+
+  pub room-over : found.way ≡ way.InPlace → asked_to_write view name at len (number_of found.held) ≡ None
   room-over same =
-      ap (λ b. if b then None else room_to_write view name at len (number_of found.held)) (writable-over view found name at len is same).over
+      ap (λ b. asked_by b (can_resize view name (at + len) (number_of found.held))) (writable-over view found name at len is same).over
 
   pub room-value : found.way ≡ way.InRecord
-      → room_written view name at len (number_of found.held) ≡ room_to_write view name at len (number_of found.held)
+      → asked_to_write view name at len (number_of found.held) ≡ room_to_write view name at len (number_of found.held)
   room-value same =
-      ap (λ b. if b then None else room_to_write view name at len (number_of found.held)) (writable-not_over view found name at len is same)
+      ap (λ b. asked_by b (can_resize view name (at + len) (number_of found.held))) (writable-not_over view found name at len is same)
+      ∙ ap (asked_by false) (writable-value view found name at len is same).over
+
+  pub room-reached : found.way ≡ way.InClusters → asked_to_write view name at len (number_of found.held)
+      ≡ option_or (bits_asked view) (room_to_reach view name at len (number_of found.held))
+  room-reached same =
+      let both = writable-behind view found name at len is same in
+      ap (λ b. asked_by b (can_resize view name (at + len) (number_of found.held))) both.0
+      ∙ ap (asked_by false) (give-no_resize view name (number_of found.held) (at + len)
+      (and_parts (can_give view name (number_of found.held)) _ both.1).0)
+
+-- TWO ARE ASKED FOR, one behind the other.
+pub asks-both : (first second : Option No) → first ≡ None → option_or first second ≡ second
+asks-both None second e = refl
+asks-both (Some no_) second e = cc
+
+pub refuses-first : (first second : Option No) (why : Stop) → Says (has_room first) (Err why) → Says (has_room (option_or first second)) (Err why)
+refuses-first None second stop.Device says = tt
+refuses-first None second (stop.No refused) (inl e) = cc
+refuses-first None second (stop.No refused) (inr memory) = inr memory
+refuses-first (Some no_) second why says = says

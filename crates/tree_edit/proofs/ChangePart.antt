@@ -43,7 +43,7 @@ use Rattle.file_record.proofs.ReadLaws.{view-kept}
 use Rattle.stream_overwrites.proofs.Below.{body-value}
 use Rattle.dir_index.specs.Standard.{IsInitialized, StagesRecordOf}
 use Rattle.dir_index.proofs.StandardLaws.{at-among}
-use Rattle.tree_edit.specs.Change.{ChangesPart, FitsPart, RemovesPart, TellsFit, fits_in, has_room, has_room_for}
+use Rattle.tree_edit.specs.Change.{ChangesPart, FitsPart, RemovesPart, TellsFit, TellsFree, fits_in, has_room, has_room_for}
 use Rattle.tree_edit.proofs.ValueRoom as room
 use Rattle.tree_edit.proofs.ValueRoom.{room-max}
 use Rattle.tree_edit.proofs.ValueLaws.{either}
@@ -129,6 +129,16 @@ module _ (file : FileParts) (k left i : ℕ) (inside : k < length (held_of file)
     fits_is = of-record (λ held. fit ≡ fits_in held.block left size) h
         ∙ ap (λ (o : Option (List ℕ)).
         option_map_or (λ (value : List ℕ). has_room (1024 - used_size one.block) (length value) size) o false) (sym (body-value its.body));
+  }
+
+  pub tells-free : (free : ℕ) → RecordHeld file k (λ held. free + used_size held.block ≡ 1024) → TellsFree file i free
+  tells-free free h = record {
+    one = one;
+    among = among;
+    part = part_of one.number its;
+    there = part-is;
+    holder = refl;
+    free_is = let all = of-record (λ held. free + used_size held.block ≡ 1024) h in omega (arith, all);
   }
 
   -- WHERE IT IS A VALUE that can have so many bytes

@@ -1,6 +1,6 @@
 -- WHAT IS WANTED OF A WRITE before room is asked for, by what is found of the file that is held: the refusals in their order.
 use Rattle.std.proofs.Common.{◌≡◌, ◌⊎◌, ◌&&◌, ◌||◌, ◌==◌, ◌+◌, ℕ, not, Bool, true, false, List, [], Option, Some, None, Result, Ok, Err}
-use Rattle.std.proofs.Common.{refl, sym, ap, inl, inr, ◌∙◌}
+use Rattle.std.proofs.Common.{refl, sym, ap, subst, inl, inr, ◌∙◌}
 use Rattle.std.specs.Prelude.{IsErrAnd, IsTrue, length, if◌then◌else◌, is_some, option_and_then}
 use Rattle.std.specs.Option.{option_map_or}
 use Rattle.vol_disk.specs.Contents.{WhereTold}
@@ -13,7 +13,7 @@ use Rattle.volume_def.specs.Values.{first_part}
 use Rattle.volume_def.specs.View.{VolumeView}
 use Rattle.mft_table.specs.declared.mft.Mft.{Mft}
 use Rattle.mft_table.specs.declared.mounted.Mounted.{Mounted}
-use Rattle.mft_table.specs.InUse.{IsInUse}
+use Rattle.mft_table.specs.InUse.{IsInUse, IsSoundVolume}
 use Rattle.mft_table.specs.Mft.{MftReads, mounted_of, stage_of, view}
 use Rattle.file_record.specs.declared.base.BaseFile.{BaseFile}
 use Rattle.sparse_io.specs.declared.find.FoundStream.{FoundStream}
@@ -22,7 +22,7 @@ use Rattle.tree_model.specs.Facts.{IsVolumeOf, is_whole_table}
 use Rattle.tree_model.specs.Paths.{and_then}
 use Rattle.tree_model.specs.Reading.{node_by, read}
 use Rattle.tree_model.specs.Staging.{cannot_edit}
-use Rattle.tree_model.specs.Ways.{fits_in_record, gets_no_longer, has_no_list, in_extent}
+use Rattle.tree_model.specs.Ways.{can_reach, fits_in_record, gets_no_longer, has_no_list, in_extent}
 use Rattle.tree_model.specs.StreamRoom.{goes_over, parts_named, stream_parts, stream_value}
 use Rattle.tree_model.specs.Subjects.{content_named}
 use Rattle.tree_model.specs.Tree.{node_of, sought_stream}
@@ -37,6 +37,7 @@ use Rattle.file_record.proofs.ReadLaws.{view-kept}
 use Rattle.tree_edit.specs.Alone.{can_drop, can_give, can_resize}
 use Rattle.tree_edit.specs.Decided.{can_write_so, hwrite_decided, hwrite_ranged_to, if_can, write_decided, write_ranged_to}
 use Rattle.tree_edit.specs.Writable.{FindsToWrite, IsMountedAs, can_write_over, kept_from_writing, named_in, stream_to_write}
+use Rattle.tree_edit.specs.Write.{can_reach_there}
 use Rattle.tree_edit.proofs.StreamToWrite.{sought-none}
 
 module _ (view : VolumeView) (held : BaseFile) (n : IsNodeHeld view held) (name : List ℕ) (at len : ℕ) where
@@ -94,9 +95,11 @@ module _ (view : VolumeView) (held : BaseFile) (n : IsNodeHeld view held) (name 
 
   so-missing : sought_to_write ≡ Ok None → can_write_so view name at len number ≡ false
   so-missing e =
-      ap (λ b. b || can_resize view name (at + len) number) (over-missing e)
-      ∙ ap (λ b. b && (gets_no_longer (at + len) (content_named (read view) name (node_of (read view) number))
-      || fits_in_record view number (stream_parts view (read view) (named_in (read view) name number)) (at + len))) (drop-missing e)
+      ap (λ b. b || (can_resize view name (at + len) number || can_reach_there view name at len number)) (over-missing e)
+      ∙ ap (λ b. (b && (gets_no_longer (at + len) (content_named (read view) name (node_of (read view) number))
+      || fits_in_record view number (stream_parts view (read view) (named_in (read view) name number)) (at + len)))
+      || can_reach_there view name at len number) (drop-missing e)
+      ∙ ap (λ b. b && can_reach view number (stream_parts view (read view) (named_in (read view) name number)) at len) (give-missing e)
 
   abbrev last : Result ℕ No
   last = if_can (can_write_so view name at len number) number
@@ -178,6 +181,7 @@ module _ {D : Type 0} (g : Ghosts D) (old new : Mft D g) (volume : IsInUse g old
   mounted-as told =
       let same : mounted ≡ mounted_of g old = mounts ∙ only.mounted in
       record {
+        bits = subst (λ (m : Mounted). IsSoundVolume (view g old) m) (sym same) (volume told);
         case = ap (λ (m : Mounted). m.upcase) same ∙ (volume told).stored.upcase_is;
         whole = sym (ap (λ (m : Mounted). m.initialized) same);
         count = sym (ap (λ (m : Mounted). length m.records) same);
@@ -191,7 +195,7 @@ pub mounted-own : {D : Type 0} (g : Ghosts D) (old new : Mft D g) (volume : IsIn
     → IsMountedAs (view g old) mounted (cluster_bytes (view g old).layout)
 mounted-own g old new volume mounted mounts reads only told =
     let its = mounted-as g old new volume mounted mounts (cluster_bytes (view g new).layout) refl reads only told in
-    record { case = its.case; whole = its.whole; count = its.count; size_is = refl }
+    record { bits = its.bits; case = its.case; whole = its.whole; count = its.count; size_is = refl }
 
 -- THE VOLUME'S IMAGE, where its contents are told
 pub image-of : {D : Type 0} (g : Ghosts D) (old : Mft D g) → WhereTold (image g (stage_of g old)) (λ bytes. IsVolumeOf bytes (view g old))

@@ -27,3 +27,5 @@ pub mod WayLaws
 mod ValueRoom
 pub mod ChangePart
 pub mod Below
+pub mod RoomThere
+pub mod ReachFound

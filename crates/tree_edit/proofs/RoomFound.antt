@@ -35,7 +35,8 @@ use Rattle.sparse_io.specs.declared.find.FoundStream.{FoundStream}
 use Rattle.sparse_io.proofs.OverLaws.{attribute-like, first-like, named-like, value-nowhere}
 use Rattle.sparse_io.proofs.OverwriteLaws.{found-stored}
 use Rattle.tree_model.specs.StreamRoom.{is_cluster, parts_named, stream_value}
-use Rattle.tree_edit.specs.Change.{TellsFit, has_room, has_room_for}
+use Rattle.volume_def.specs.Room.{free_bytes}
+use Rattle.tree_edit.specs.Change.{TellsFit, TellsFree, has_room, has_room_for}
 use Rattle.tree_edit.proofs.PunchLaws.{size-value}
 
 -- a part of a list is no longer than the list
@@ -120,7 +121,7 @@ module _ (view : VolumeView) (file : FileParts) (are : AreParts view file) (read
       subst (λ (o : Option Record). IfSome o (λ r. file_of part.holder r ≡ f → part.holder ≡ f)) is.held
       ((readable-list view f readable is_file).alone none part.holder) is.file
 
-  module _ (i size : ℕ) (fits : Bool) (t : TellsFit file i size fits) where
+  module _ (i free : ℕ) (t : TellsFree file i free) where
     own : t.one.number ≡ f
     own = sym t.holder ∙ holder-own t.part (at-among (parts_held file) i t.part t.there)
 
@@ -133,12 +134,20 @@ module _ (view : VolumeView) (file : FileParts) (are : AreParts view file) (read
         sym (used-bare t.one.block t.one.count t.one.shape) ∙ ap used_size current ∙ used-bare now (length (attributes now)) shape
         ∙ ap (λ n. used_size (opened_of (view.block n))) own
 
+    -- so many bytes are free in it
+    pub free-tells : free ≡ free_bytes view f
+    free-tells = t.free_is ∙ ap (λ n. 1024 - n) used
+
+  module _ (i size : ℕ) (fits : Bool) (t : TellsFit file i size fits) where
+    abbrev beside : TellsFree file i (1024 - used_size t.one.block)
+    beside = record { one = t.one; among = t.among; part = t.part; there = t.there; holder = t.holder; free_is = refl }
+
     -- so it tells of the room that the volume has
     pub fits-tells : (value : List ℕ) → content_value t.part.content ≡ Some value → fits ≡ has_room_for view f (length value) size
     fits-tells value is =
         t.fits_is
         ∙ ap (λ (o : Option (List ℕ)). option_map_or (λ (v : List ℕ). has_room (1024 - used_size t.one.block) (length v) size) o false) is
-        ∙ ap (λ n. has_room (1024 - n) (length value) size) used
+        ∙ ap (λ n. has_room (1024 - n) (length value) size) (used i (1024 - used_size t.one.block) beside)
 
 -- A value is no longer than its record.
 pub value-short : (a : AttrView) (value : List ℕ) → value_of (attribute_of a).body ≡ Some value → length value ≤ 1024

@@ -1,6 +1,7 @@
 -- BY THE WAY in which a stream goes or has another length: what is asked for, and what it can where that is there.
 use Rattle.std.proofs.Common.{◌≡◌, ◌&&◌, ◌||◌, ℕ, Bool, true, false, not, List, Option, Some, None, refl, sym, ap, subst, ◌∙◌}
 use Rattle.std.proofs.lemmas.Bool.{and_from, and_parts}
+use Rattle.std.specs.Option.{option_or}
 use Rattle.std.specs.Prelude.{if◌then◌else◌, is_some, option_and_then}
 use Rattle.volume_def.specs.Files.{Clusters, Content, Part, Value, content_extent, content_value}
 use Rattle.volume_def.specs.Values.{first_part}
@@ -15,7 +16,7 @@ use Rattle.tree_model.specs.Ways.{fits_in_record, gets_no_longer, has_no_list, h
 use Rattle.tree_model.specs.declared.reply.No.{No}
 use Rattle.tree_model.specs.declared.reply.No.TheVariants as no
 use Rattle.tree_read.specs.Nodes.{number_of}
-use Rattle.tree_edit.specs.Alone.{IsDroppable, IsResizable, IsToDrop, IsToResize, asked_to_drop, asked_to_resize, bits_asked, can_cut, can_drop, can_get, can_give, can_go, can_resize, room_to_resize}
+use Rattle.tree_edit.specs.Alone.{IsDroppable, IsResizable, IsToDrop, IsToResize, asked_to_drop, asked_to_resize, bits_asked, can_drop, can_end, can_get, can_give, can_go, can_resize, room_to_resize}
 use Rattle.tree_edit.specs.Decided.{IsDroppableSo, IsResizableSo, can_drop_by, can_resize_by}
 use Rattle.tree_edit.specs.Writable.{IsFoundToEdit, named_in}
 use Rattle.tree_edit.specs.declared.writable.Way.{Way}
@@ -33,9 +34,18 @@ no-value (Some part) e = by part.content e
     by (Clusters extent runs) e = refl
 
 -- the bits are asked for, and are there
-placed : (b : Bool) → (if b then None else Some no.Unbuilt) ≡ None → b ≡ true
+pub placed : (b : Bool) → (if b then None else Some no.Unbuilt) ≡ None → b ≡ true
 placed true e = refl
 placed false e = absurd (cc)
+
+-- .. before what is asked for behind them
+pub first-none : (first second : Option No) → option_or first second ≡ None → first ≡ None
+first-none None second e = refl
+first-none (Some no_) second e = cc
+
+pub second-none : (first second : Option No) → option_or first second ≡ None → second ≡ None
+second-none None second e = e
+second-none (Some no_) second e = cc
 
 module _ (view : VolumeView) (name : List ℕ) (file : ℕ) where
   abbrev there : List Part
@@ -69,18 +79,22 @@ module _ (view : VolumeView) (name : List ℕ) (file : ℕ) where
 
   -- .. and one that has another length
   module _ (size : ℕ) where
-    pub cut-no_value : can_cut view name size file ≡ true → can_resize view name size file ≡ false
-    cut-no_value cut =
+    pub give-no_resize : can_give view name file ≡ true → can_resize view name size file ≡ false
+    give-no_resize give =
         ap (λ b. b && (gets_no_longer size (content_named (read view) name (node_of (read view) file)) || fits_in_record view file there size))
-        (give-no_value (and_parts (can_give view name file) _ cut).0)
+        (give-no_value give)
+
+    pub cut-no_value : can_end view name size file ≡ true → can_resize view name size file ≡ false
+    cut-no_value cut = give-no_resize (and_parts (can_give view name file) _ cut).0
 
     abbrev asked : Bool → Option No
-    asked b = if b then room_to_resize view name size file else bits_asked view
+    asked b = if b then room_to_resize view name size file else option_or (bits_asked view) (room_to_resize view name size file)
 
     pub asked-resize_value : can_resize view name size file ≡ true → asked_to_resize view name size file ≡ room_to_resize view name size file
     asked-resize_value so = ap asked so
 
-    pub asked-resize_bits : can_cut view name size file ≡ true → asked_to_resize view name size file ≡ bits_asked view
+    pub asked-resize_bits : can_end view name size file ≡ true
+        → asked_to_resize view name size file ≡ option_or (bits_asked view) (room_to_resize view name size file)
     asked-resize_bits cut = ap asked (cut-no_value cut)
 
     pub can-get : (way : Way) → can_resize_by view name size way file ≡ true → asked_to_resize view name size file ≡ None
@@ -88,7 +102,8 @@ module _ (view : VolumeView) (name : List ℕ) (file : ℕ) where
     can-get way.InPlace so none = so
     can-get way.InRecord so none = so
     can-get way.InClusters so none =
-        and_from (can_cut view name size file) (has_placed_bits view) so (placed (has_placed_bits view) (sym (asked-resize_bits so) ∙ none))
+        and_from (can_end view name size file) (has_placed_bits view) so
+        (placed (has_placed_bits view) (first-none (bits_asked view) (room_to_resize view name size file) (sym (asked-resize_bits so) ∙ none)))
 
 -- WHAT WAS FOUND
 module _ (view : VolumeView) (found : Writable) (name : List ℕ) where
@@ -124,8 +139,14 @@ module _ (view : VolumeView) (found : Writable) (name : List ℕ) where
     pub resizable-none : found.way ≡ way.InPlace → asked_to_resize view name size f ≡ None
     resizable-none same = let never : false ≡ true = resize-by way.InPlace same in absurd (cc)
 
-    pub resizable-bits : found.way ≡ way.InClusters → asked_to_resize view name size f ≡ bits_asked view
+    pub resizable-bits : found.way ≡ way.InClusters
+        → asked_to_resize view name size f ≡ option_or (bits_asked view) (room_to_resize view name size f)
     resizable-bits same = asked-resize_bits view name f size (resize-by way.InClusters same)
+
+    pub resizable-extent : found.way ≡ way.InClusters → in_extent (first_part (there view name f)) ≡ true
+    resizable-extent same =
+        let give = (and_parts (can_give view name f) _ (resize-by way.InClusters same)).0 in
+        (and_parts (in_extent (first_part (there view name f))) _ (and_parts (can view name f) _ give).1).0
 
     pub resizable-asked : found.way ≡ way.InRecord → asked_to_resize view name size f ≡ room_to_resize view name size f
     resizable-asked same = asked-resize_value view name f size (resize-by way.InRecord same)
@@ -169,10 +190,10 @@ module _ (view : VolumeView) (found : Writable) (name : List ℕ) where
         (get-by way.InRecord same)
 
     pub resizes-extent : found.way ≡ way.InClusters
-        → IsFoundToEdit view found name (λ file. can_cut view name size file) × (has_placed_bits view ≡ true)
+        → IsFoundToEdit view found name (λ file. can_end view name size file) × (has_placed_bits view ≡ true)
     resizes-extent same =
-        let both = and_parts (can_cut view name size number) (has_placed_bits view) (get-by way.InClusters same) in (
-          found-for view found name (λ file. can_get view name size found.way file) (λ file. can_cut view name size file) is both.0,
+        let both = and_parts (can_end view name size number) (has_placed_bits view) (get-by way.InClusters same) in (
+          found-for view found name (λ file. can_get view name size found.way file) (λ file. can_end view name size file) is both.0,
           both.1,
         )
 

@@ -1,7 +1,7 @@
 -- A STREAM of a file without an attribute list, a value or in clusters in one part, which is to have another length, or to go, as a path
 -- leads to it, and the refusals in their order.
 use Rattle.std.specs.Prelude.{◌&&◌, ◌||◌, ◌==◌, ℕ, not, Bool, false, List, length, Option, Some, None, Result, Ok, Err, if◌then◌else◌}
-use Rattle.std.specs.Option.{option_map_or}
+use Rattle.std.specs.Option.{option_map_or, option_or}
 use Rattle.volume_def.specs.Table.{cluster_bytes}
 use Rattle.volume_def.specs.Values.{first_part}
 use Rattle.volume_def.specs.View.{VolumeView}
@@ -13,7 +13,7 @@ use Rattle.tree_model.specs.Paths.{and_then, found_file, resolve}
 use Rattle.tree_model.specs.Reading.{read}
 use Rattle.tree_model.specs.Shown.{stream_of}
 use Rattle.tree_model.specs.Staging.{cannot_edit}
-use Rattle.tree_model.specs.Ways.{fits_in_record, gets_no_longer, has_no_list, has_placed_bits, in_extent}
+use Rattle.tree_model.specs.Ways.{ends_in_last, fits_in_record, gets_no_longer, has_no_list, has_placed_bits, in_extent}
 use Rattle.tree_model.specs.StreamRoom.{new_clusters, stream_parts}
 use Rattle.tree_model.specs.Subjects.{content_named}
 use Rattle.tree_model.specs.Tree.{node_of}
@@ -44,9 +44,12 @@ can_give view name file =
     && (in_extent (first_part (stream_parts view (read view) (named_in (read view) name file)))
     && ((length (stream_parts view (read view) (named_in (read view) name file)) == 1) && has_no_list view file))
 
--- .. and gets no longer.
-abbrev pub can_cut : VolumeView → List ℕ → ℕ → ℕ → Bool
-can_cut view name size file = can_give view name file && gets_no_longer size (content_named (read view) name (node_of (read view) file))
+-- .. and gets no longer, or ends in its last cluster still.
+abbrev pub can_end : VolumeView → List ℕ → ℕ → ℕ → Bool
+can_end view name size file =
+    can_give view name file
+    && (gets_no_longer size (content_named (read view) name (node_of (read view) file))
+    || ends_in_last (cluster_bytes view.layout) (stream_parts view (read view) (named_in (read view) name file)) size)
 
 -- THIS WAY it can go, in clusters where the bitmap of clusters lies in clusters too ..
 abbrev pub can_go : VolumeView → List ℕ → Way → ℕ → Bool
@@ -58,9 +61,9 @@ can_go view name way.InClusters file = can_give view name file && has_placed_bit
 abbrev pub can_get : VolumeView → List ℕ → ℕ → Way → ℕ → Bool
 can_get view name size way.InPlace file = false
 can_get view name size way.InRecord file = can_resize view name size file
-can_get view name size way.InClusters file = can_cut view name size file && has_placed_bits view
+can_get view name size way.InClusters file = can_end view name size file && has_placed_bits view
 
--- The room that is asked for where it gets longer: the stream may not stay in its record.
+-- The room that is asked for where it gets longer: the stream may not stay in its record, nor its run list.
 abbrev pub room_to_resize : VolumeView → List ℕ → ℕ → ℕ → Option No
 room_to_resize view name size file =
     if grows size (content_named (read view) name (node_of (read view) file))
@@ -70,7 +73,7 @@ room_to_resize view name size file =
 abbrev pub if_room : Option No → ℕ → Result ℕ No
 if_room refused file = option_map_or Err refused (Ok file)
 
--- What is asked for behind the other refusals: room of a value that gets longer, and of a stream in clusters where its bits lie.
+-- What is asked for behind the other refusals: of a stream in clusters where its bits lie, and room of one that gets longer.
 abbrev pub bits_asked : VolumeView → Option No
 bits_asked view = if has_placed_bits view then None else Some no.Unbuilt
 
@@ -78,7 +81,9 @@ abbrev pub asked_to_drop : VolumeView → List ℕ → ℕ → Option No
 asked_to_drop view name file = if can_drop view name file then None else bits_asked view
 
 abbrev pub asked_to_resize : VolumeView → List ℕ → ℕ → ℕ → Option No
-asked_to_resize view name size file = if can_resize view name size file then room_to_resize view name size file else bits_asked view
+asked_to_resize view name size file =
+    if can_resize view name size file then room_to_resize view name size file
+    else option_or (bits_asked view) (room_to_resize view name size file)
 
 abbrev pub if_dropped : VolumeView → List ℕ → ℕ → Result ℕ No
 if_dropped view name file =
@@ -86,8 +91,8 @@ if_dropped view name file =
 
 abbrev pub if_resized : VolumeView → List ℕ → ℕ → ℕ → Result ℕ No
 if_resized view name size file =
-    if can_resize view name size file then if_room (room_to_resize view name size file) file
-    else if can_cut view name size file && has_placed_bits view then Ok file else Err no.Unbuilt
+    if can_resize view name size file || (can_end view name size file && has_placed_bits view)
+    then if_room (room_to_resize view name size file) file else Err no.Unbuilt
 
 -- `truncate`: THE NUMBER OF THE FILE that the path leads to, where its stream can have so many bytes
 abbrev pub resize_ranged : VolumeView → List OpenEntry → List ℕ → ℕ → ℕ → Result ℕ No

@@ -40,7 +40,16 @@ fits_in block i size =
     option_map_or (λ (value : List ℕ). has_room (1024 - used_size block) (length value) size)
     (value_of (attribute_in block i).body) false
 
--- PART i OF A FILE THAT IS HELD stands in this record, and this tells whether it is a value that can have so many bytes there.
+-- PART i OF A FILE THAT IS HELD stands in this record, and so many bytes of that are free.
+pub record TellsFree (file : FileParts) (i free : ℕ) : Type 0 where
+  pub one : Held
+  pub among : Contains (held_of file) one
+  pub part : Part
+  pub there : slice_get (parts_held file) i ≡ Some part
+  pub holder : part.holder ≡ one.number
+  pub free_is : free ≡ 1024 - used_size one.block
+
+-- .. and this tells whether it is a value that can have so many bytes there.
 pub record TellsFit (file : FileParts) (i size : ℕ) (fits : Bool) : Type 0 where
   pub one : Held
   pub among : Contains (held_of file) one

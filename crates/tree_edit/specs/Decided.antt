@@ -1,7 +1,7 @@
 -- WHAT IS DECIDED OF A STREAM before room is asked for, or where its bits lie, from the file that is held; and the room that is asked for
 -- then.
-use Rattle.std.specs.Prelude.{◌≡◌, ◌+◌, ◌||◌, ℕ, Bool, false, true, List, Option, None, Some, Result, Ok, Err, if◌then◌else◌}
-use Rattle.std.specs.Option.{option_map_or}
+use Rattle.std.specs.Prelude.{◌≡◌, ◌+◌, ◌&&◌, ◌||◌, not, ℕ, Bool, false, true, List, Option, None, Some, Result, Ok, Err, if◌then◌else◌}
+use Rattle.std.specs.Option.{option_map_or, option_or}
 use Rattle.volume_def.specs.View.{VolumeView}
 use Rattle.tree_model.specs.Cases.{is_far, is_wide}
 use Rattle.tree_model.specs.Paths.{and_then, found_file, resolve}
@@ -12,9 +12,9 @@ use Rattle.tree_model.specs.Tree.{node_of}
 use Rattle.tree_model.specs.declared.opens.OpenEntry.{OpenEntry}
 use Rattle.tree_model.specs.declared.reply.No.{No}
 use Rattle.tree_model.specs.declared.reply.No.TheVariants as no
-use Rattle.tree_edit.specs.Alone.{can_cut, can_drop, can_give, can_resize}
+use Rattle.tree_edit.specs.Alone.{bits_asked, can_drop, can_end, can_give, can_resize}
 use Rattle.tree_edit.specs.Writable.{IsFoundToEdit, can_write_over, kept_from_writing, stream_to_write}
-use Rattle.tree_edit.specs.Write.{can_write, room_to_write}
+use Rattle.tree_edit.specs.Write.{can_reach_there, room_to_reach, room_to_write}
 use Rattle.tree_edit.specs.declared.writable.Way.{Way}
 use Rattle.tree_edit.specs.declared.writable.Way.TheVariants as way
 use Rattle.tree_edit.specs.declared.writable.Writable.{Writable}
@@ -31,10 +31,10 @@ EditsSo can some file (Some way) = can way file ≡ true
 abbrev pub can_resize_by : VolumeView → List ℕ → ℕ → Way → ℕ → Bool
 can_resize_by view name size way.InPlace file = false
 can_resize_by view name size way.InRecord file = can_resize view name size file
-can_resize_by view name size way.InClusters file = can_cut view name size file
+can_resize_by view name size way.InClusters file = can_end view name size file
 
 abbrev pub can_resize_so : VolumeView → List ℕ → ℕ → ℕ → Bool
-can_resize_so view name size file = can_resize view name size file || can_cut view name size file
+can_resize_so view name size file = can_resize view name size file || can_end view name size file
 
 abbrev pub IsResizableSo : VolumeView → Writable → List ℕ → ℕ → Type 0
 IsResizableSo view found name size = IsFoundToEdit view found name (λ file. can_resize_by view name size found.way file)
@@ -75,12 +75,26 @@ drop_decided view opens name file =
 abbrev pub drop_found : VolumeView → List OpenEntry → List (List ℕ) → List ℕ → Result ℕ No
 drop_found view opens path name = and_then (resolve (read view) path) (λ found. drop_decided view opens name (found_file found))
 
--- writes: the bytes go over bytes, or into a value
-abbrev pub can_write_so : VolumeView → List ℕ → ℕ → ℕ → ℕ → Bool
-can_write_so view name from len file = can_write_over view name from len file || can_resize view name (from + len) file
+-- writes: this way the bytes are written, if the bits of its clusters lie in clusters, and there is room; and there is such a way
+abbrev pub can_write_by : VolumeView → List ℕ → ℕ → ℕ → Way → ℕ → Bool
+can_write_by view name from len way.InPlace file = can_write_over view name from len file
+can_write_by view name from len way.InRecord file = not (can_write_over view name from len file) && can_resize view name (from + len) file
+can_write_by view name from len way.InClusters file =
+    not (can_write_over view name from len file) && can_reach_there view name from len file
 
-abbrev pub room_written : VolumeView → List ℕ → ℕ → ℕ → ℕ → Option No
-room_written view name from len file = if can_write_over view name from len file then None else room_to_write view name from len file
+abbrev pub can_write_so : VolumeView → List ℕ → ℕ → ℕ → ℕ → Bool
+can_write_so view name from len file =
+    can_write_over view name from len file || (can_resize view name (from + len) file || can_reach_there view name from len file)
+
+abbrev pub IsWritableSo : VolumeView → Writable → List ℕ → ℕ → ℕ → Type 0
+IsWritableSo view found name from len = IsFoundToEdit view found name (λ file. can_write_by view name from len found.way file)
+
+-- what is asked for then: of a stream in clusters where its bits lie, and room
+abbrev pub asked_to_write : VolumeView → List ℕ → ℕ → ℕ → ℕ → Option No
+asked_to_write view name from len file =
+    if can_write_over view name from len file then None
+    else if can_resize view name (from + len) file then room_to_write view name from len file
+    else option_or (bits_asked view) (room_to_reach view name from len file)
 
 -- `write`
 abbrev pub write_ranged_to : Result ℕ No → List OpenEntry → ℕ → ℕ → ℕ → Result ℕ No
@@ -104,8 +118,3 @@ abbrev pub hwrite_decided : VolumeView → List ℕ → ℕ → ℕ → ℕ → 
 hwrite_decided view name from len file =
     and_then (plain_bytes (content_named (read view) name (node_of (read view) file)))
     (λ bytes. hwrite_ranged_to (if_can (can_write_so view name from len file) file) from len)
-
--- How the bytes are written, or that they cannot be.
-abbrev pub WritesSo : VolumeView → List ℕ → ℕ → ℕ → ℕ → Option Way → Type 0
-WritesSo view name from len file None = can_write_so view name from len file ≡ false
-WritesSo view name from len file (Some way) = can_write view name from len way file ≡ true

@@ -22,6 +22,7 @@ use Rattle.tree_model.specs.declared.tree.Content.{Content}
 use Rattle.tree_model.specs.declared.tree.Content.TheVariants.{Packed, Plain}
 use Rattle.tree_model.specs.declared.tree.Node.{Node}
 use Rattle.mft_table.specs.declared.mounted.Mounted.{Mounted}
+use Rattle.mft_table.specs.InUse.{IsSoundVolume}
 use Rattle.file_record.specs.declared.base.BaseFile.{BaseFile}
 use Rattle.sparse_io.specs.declared.find.FoundStream.{FoundStream}
 use Rattle.stream_overwrites.specs.Below.{IsThere}
@@ -68,8 +69,9 @@ FindsToWrite wanted view held name (Ok None) = wanted ≡ Ok None
 FindsToWrite wanted view held name (Ok (Some found)) = (is : IsPlainStream view held name found) × (wanted ≡ Ok (Some is.bytes))
 FindsToWrite wanted view held name (Err refused) = (wanted ≡ Err refused) ⊎ (refused ≡ no.Memory)
 
--- The tables that are kept are those of the volume, and its table of case, and its clusters have so many bytes.
+-- The tables that are kept are those of the volume, and its bits and table of case, and its clusters have so many bytes.
 pub record IsMountedAs (view : VolumeView) (mounted : Mounted) (size : ℕ) : Type 0 where
+  pub bits : IsSoundVolume view mounted
   pub case : IsCaseOf view mounted.upcase
   pub whole : view.layout.initialized ≡ mounted.initialized
   pub count : view.layout.count ≡ length mounted.records

@@ -1,7 +1,9 @@
 -- BYTES WRITTEN INTO A STREAM, over those in its clusters or into its value, as a path leads to it, or an open, and the refusals in their
 -- order.
-use Rattle.std.specs.Prelude.{◌+◌, ◌&&◌, ℕ, not, Bool, false, List, Option, Result, Ok, Err, find, if◌then◌else◌}
+use Rattle.std.specs.Prelude.{◌+◌, ◌&&◌, ◌||◌, ◌==◌, ℕ, nat_le, nat_lt, not, Bool, List, Option, None, Result, Ok, Err, find, if◌then◌else◌}
 use Rattle.std.specs.Option.{option_map_or}
+use Rattle.volume_def.specs.Files.{Part}
+use Rattle.volume_def.specs.Room.{free_bytes, unowned_clusters}
 use Rattle.volume_def.specs.Table.{cluster_bytes}
 use Rattle.volume_def.specs.View.{VolumeView}
 use Rattle.edit_def.specs.OneFile.{no_room_alone}
@@ -10,35 +12,76 @@ use Rattle.tree_model.specs.Opens.{contains, is_handle, to_write}
 use Rattle.tree_model.specs.Paths.{and_then, found_file, resolve}
 use Rattle.tree_model.specs.Reading.{read}
 use Rattle.tree_model.specs.Shown.{plain_bytes}
-use Rattle.tree_model.specs.StreamRoom.{new_clusters, stream_parts}
+use Rattle.tree_model.specs.StreamRoom.{is_in_place, new_clusters, stream_parts}
 use Rattle.tree_model.specs.Subjects.{content_named}
 use Rattle.tree_model.specs.Tree.{node_of}
+use Rattle.tree_model.specs.Ways.{can_reach, goes_behind, has_free_run, has_placed_bits}
 use Rattle.tree_model.specs.declared.opens.OpenEntry.{OpenEntry}
 use Rattle.tree_model.specs.declared.reply.No.{No}
 use Rattle.tree_model.specs.declared.reply.No.TheVariants as no
-use Rattle.tree_edit.specs.Alone.{can_resize, if_room}
+use Rattle.tree_edit.specs.Alone.{can_give, can_resize, if_room}
 use Rattle.tree_edit.specs.Writable.{IsFoundToEdit, can_write_over, kept_from_writing, named_in, stream_to_write}
 use Rattle.tree_edit.specs.declared.writable.Way.{Way}
 use Rattle.tree_edit.specs.declared.writable.Way.TheVariants as way
 use Rattle.tree_edit.specs.declared.writable.Writable.{Writable}
 
--- The bytes go over bytes in place, or else into a value that can be as long as they need.
+-- The stream lies in clusters, in one part, and the bytes go over those that were written, or right behind them, where it can take the
+-- clusters that it needs, ..
+abbrev pub can_reach_there : VolumeView → List ℕ → ℕ → ℕ → ℕ → Bool
+can_reach_there view name from len file =
+    can_give view name file && can_reach view file (stream_parts view (read view) (named_in (read view) name file)) from len
+
+-- where its record has so many free bytes
+abbrev pub can_take_by : VolumeView → ℕ → ℕ → Bool
+can_take_by view free count =
+    (count == 0) || (nat_le 24 free && (has_free_run view count || nat_lt (unowned_clusters view) count))
+
+-- .. and there are as many that are free, one behind the other.
+abbrev pub has_run_for : VolumeView → ℕ → ℕ → Bool
+has_run_for view f count = (count == 0) || (nat_le 24 (free_bytes view f) && has_free_run view count)
+
+abbrev pub can_go_behind : VolumeView → ℕ → List Part → ℕ → ℕ → Bool
+can_go_behind view f extents from len =
+    goes_behind (cluster_bytes view.layout) extents from len
+    && has_run_for view f (new_clusters (cluster_bytes view.layout) extents from len)
+
+abbrev pub can_write_behind : VolumeView → List ℕ → ℕ → ℕ → ℕ → Bool
+can_write_behind view name from len file =
+    can_give view name file
+    && (has_placed_bits view && can_go_behind view file (stream_parts view (read view) (named_in (read view) name file)) from len)
+
+-- The bytes go over bytes in place, or else into a value that can be as long as they need, or over and behind those of a stream in clusters.
 abbrev pub can_write : VolumeView → List ℕ → ℕ → ℕ → Way → ℕ → Bool
 can_write view name from len way.InPlace file = can_write_over view name from len file
 can_write view name from len way.InRecord file = not (can_write_over view name from len file) && can_resize view name (from + len) file
-can_write view name from len way.InClusters file = false
+can_write view name from len way.InClusters file =
+    not (can_write_over view name from len file) && can_write_behind view name from len file
 
--- The room that is asked for then: the stream may not stay in its record.
+-- The room that is asked for then. A value may not stay in its record ..
 abbrev pub room_to_write : VolumeView → List ℕ → ℕ → ℕ → ℕ → Option No
 room_to_write view name from len file =
     no_room_alone view file
     (new_clusters (cluster_bytes view.layout) (stream_parts view (read view) (named_in (read view) name file)) from len)
 
+-- .. nor may a run list; but bytes that end within a stream in clusters ask for none.
+abbrev pub room_behind : VolumeView → ℕ → List Part → ℕ → ℕ → Option No
+room_behind view file extents from len =
+    if is_in_place (cluster_bytes view.layout) extents from len then None
+    else no_room_alone view file (new_clusters (cluster_bytes view.layout) extents from len)
+
+abbrev pub room_to_reach : VolumeView → List ℕ → ℕ → ℕ → ℕ → Option No
+room_to_reach view name from len file = room_behind view file (stream_parts view (read view) (named_in (read view) name file)) from len
+
+abbrev pub if_reached : VolumeView → List ℕ → ℕ → ℕ → ℕ → Result ℕ No
+if_reached view name from len file =
+    if can_reach_there view name from len file && has_placed_bits view then if_room (room_to_reach view name from len file) file
+    else Err no.Unbuilt
+
 abbrev pub if_written : VolumeView → List ℕ → ℕ → ℕ → ℕ → Result ℕ No
 if_written view name from len file =
     if can_write_over view name from len file then Ok file
     else if can_resize view name (from + len) file then if_room (room_to_write view name from len file) file
-    else Err no.Unbuilt
+    else if_reached view name from len file
 
 -- `write`: THE NUMBER OF THE FILE that the path leads to, where the bytes can be written
 abbrev pub write_ranged : VolumeView → List OpenEntry → List ℕ → ℕ → ℕ → ℕ → Result ℕ No

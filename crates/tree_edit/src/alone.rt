@@ -1,6 +1,8 @@
 //! A stream of a file without an attribute list, a value or in clusters in one part, which is to have another length or to go, found by the
 //! path of its file.
-ghost use Rattle.std.specs.Prelude.{◌≡◌, ◌⊎◌, ◌≤◌, ◌<◌, ◌^◌, ℕ, IfOk, IfSome, IsTrue, List, MatchResult, None, Ok, Some, length, true};
+ghost use Rattle.std.specs.Prelude.{◌≡◌, ◌⊎◌, ◌≤◌, ◌<◌, ◌^◌, ◌==◌, ℕ, IfOk, IfSome, IsSomeAnd, IsTrue, List, MatchResult, None, Ok, Some, length, slice_get, true};
+ghost use Rattle.ntfs_def.specs.Rounded.{clusters_for};
+ghost use Rattle.volume_def.specs.Files.{part_clusters};
 ghost use Rattle.vol_disk.specs.Contents.{WhereTold};
 ghost use Rattle.vol_stage.specs.Staged.{image};
 ghost use Rattle.volume_def.specs.Sound.{IsSound};
@@ -16,7 +18,7 @@ ghost use Rattle.tree_model.specs.declared.reply.No.TheVariants as no;
 ghost use Rattle.tree_read.specs.Answered.{Answered, Gives, Says, with_ok};
 ghost use Rattle.tree_read.specs.Nodes.{IsNodeHeld, number_of, parts_in};
 ghost use Rattle.tree_read.specs.Standings.{IsStanding};
-ghost use Rattle.tree_edit.specs.Alone.{IsToDrop, IsToResize, asked_to_drop, asked_to_resize, can_drop, can_resize, drop_wanted, resize_wanted};
+ghost use Rattle.tree_edit.specs.Alone.{IsToDrop, IsToResize, asked_to_drop, asked_to_resize, can_drop, can_end, can_resize, drop_wanted, resize_wanted};
 ghost use Rattle.tree_edit.specs.Decided.{EditsSo, IsDroppableSo, IsResizableSo, can_drop_by, can_drop_so, can_resize_by, can_resize_so};
 ghost use Rattle.tree_edit.specs.Decided.{drop_decided, drop_found, resize_decided, resize_found};
 ghost use Rattle.tree_edit.specs.Writable.{DecidesEdit, GivesBack, IsMountedAs};
@@ -30,7 +32,7 @@ use file_record::BaseFile;
 use file_room::ask_for_room;
 use mft_table::{Mft, Mounted};
 use share_table::Opens;
-use sparse_io::{FoundStream, look_at_names};
+use sparse_io::{FoundStream, clusters_covered, look_at_names};
 use std::alloc::{AllocError, Global};
 use tree_model::{No, Path};
 use tree_read::{Standing, Stop, is_of_directory, plain_content, resolve};
@@ -109,16 +111,71 @@ fn way_to_drop(
     Ok(None)
 }
 
+// The clusters of `size` bytes that so many bytes fill.
+fn clusters_for(bytes: u64, size: u64) -> u64
+    requires { 0 < size }
+    ensures { result ≡ clusters_for bytes size }
+{
+    bytes.div_ceil(size)
+}
+
+// Whether so many bytes of the stream that was found, which lies in clusters of `cluster_bytes`, end in its last one.
+fn ends_in_last(
+    alloc: Global,
+    held: &BaseFile,
+    stream: &FoundStream,
+    cluster_bytes: u64,
+    size: u64,
+) -> Result<bool, AllocError>
+    requires part { stream.now.part < length (parts_in held.now) }
+    requires some { 0 < cluster_bytes }
+    ensures ends { IfOk result (λ ends. IsSomeAnd (slice_get (parts_in held.now) stream.now.part)
+        (λ part. ends ≡ (clusters_for size cluster_bytes == part_clusters part))) }
+{
+    let attribute = held.parts.attr(stream.part);
+    let total = clusters_covered(alloc, &attribute)?;
+    Ok(clusters_for(size, cluster_bytes) == total)
+}
+
+// Whether it lies in clusters, in one part of a file that can be edited and has no attribute list, and gets no longer with so many bytes, or
+// ends in its last cluster still.
+fn can_end(
+    alloc: Global,
+    mounted: &Mounted,
+    held: &BaseFile,
+    stream: &FoundStream,
+    cluster_bytes: u64,
+    size: u64,
+) -> Result<bool, AllocError>
+    requires part { stream.now.part < length (parts_in held.now) }
+    requires some { 0 < cluster_bytes }
+    ensures is { IfOk result (λ is. (view : VolumeView) → IsMountedAs view mounted.now cluster_bytes → IsSound view
+        → IsNodeHeld view held.now → (name : List ℕ) → IsStream view held.now.parts name stream.now
+        → is ≡ can_end view name size (number_of held.now)) }
+    ensures inside { IfOk result (λ is. is ≡ true → number_of held.now < length mounted.now.records) }
+{
+    if !is_extent(alloc, mounted, held, stream)? {
+        return Ok(false);
+    }
+    if size <= stream.size {
+        return Ok(true);
+    }
+    look_at_names(&held.parts);
+    ends_in_last(alloc, held, stream, cluster_bytes, size)
+}
+
 // How it can have so many bytes, `None` where it cannot.
 fn way_to_resize(
     alloc: Global,
     mounted: &Mounted,
+    cluster_bytes: u64,
     held: &BaseFile,
     stream: &FoundStream,
     size: u64,
 ) -> Result<Option<Way>, AllocError>
     requires part { stream.now.part < length (parts_in held.now) }
-    ensures way { IfOk result (λ way. (view : VolumeView) → IsMountedAs view mounted.now (cluster_bytes view.layout) → IsSound view
+    requires some { 0 < cluster_bytes }
+    ensures way { IfOk result (λ way. (view : VolumeView) → IsMountedAs view mounted.now cluster_bytes → IsSound view
         → IsNodeHeld view held.now → (name : List ℕ) → IsStream view held.now.parts name stream.now
         → EditsSo (can_resize_by view name size) (can_resize_so view name size (number_of held.now)) (number_of held.now) way) }
     ensures inside { IfOk result (λ way. IfSome way (λ _. number_of held.now < length mounted.now.records)) }
@@ -126,10 +183,7 @@ fn way_to_resize(
     if is_resizable(alloc, mounted, held, stream, size)? {
         return Ok(Some(Way::InRecord));
     }
-    if size > stream.size {
-        return Ok(None);
-    }
-    if is_extent(alloc, mounted, held, stream)? {
+    if can_end(alloc, mounted, held, stream, cluster_bytes, size)? {
         return Ok(Some(Way::InClusters));
     }
     Ok(None)
@@ -156,12 +210,14 @@ fn give_by(
 fn resizable_in(
     alloc: Global,
     mounted: &Mounted,
+    cluster_bytes: u64,
     opens: &Opens,
     held: BaseFile,
     name: &Name,
     size: u64,
 ) -> Result<Writable, No>
-    ensures decides { (view : VolumeView) → IsMountedAs view mounted.now (cluster_bytes view.layout) → IsSound view → IsNodeHeld view held
+    requires some { 0 < cluster_bytes }
+    ensures decides { (view : VolumeView) → IsMountedAs view mounted.now cluster_bytes → IsSound view → IsNodeHeld view held
         → DecidesEdit (can_resize_by view name.now size) (resize_decided view opens.now name.now size (number_of held)) view held name.now
         result }
     ensures place { IfOk result (λ found. found.stream.part < length (parts_in found.held)) }
@@ -177,7 +233,7 @@ fn resizable_in(
     }
     match found {
         Some(stream) => {
-            let way = way_to_resize(alloc, mounted, &held, &stream, size);
+            let way = way_to_resize(alloc, mounted, cluster_bytes, &held, &stream, size);
             give_by(held, stream, way)
         }
         None => Err(No::Unbuilt),
@@ -230,14 +286,23 @@ fn find_resizable<D: Disk>(
     ensures last { IsTrue (view D.Disk mft.old).told → IfSome last.new (IsStanding (view D.Disk mft.old)) }
 {
     let reached = resolve(alloc, mft, last, path)?;
-    match resizable_in(alloc, mft.mounted(), opens, reached.held, name, size) {
+    let cluster_bytes = mft.cluster_bytes();
+    match resizable_in(
+        alloc,
+        mft.mounted(),
+        cluster_bytes,
+        opens,
+        reached.held,
+        name,
+        size,
+    ) {
         Ok(found) => Ok(found),
         Err(refused) => Err(Stop::No(refused)),
     }
 }
 
-// Asks for what a stream needs that is to have so many bytes: room where it is a value that gets longer, which may not stay in its record;
-// and the bits of its clusters.
+// Asks for what a stream needs that is to have so many bytes: the bits of its clusters, and room where it gets longer, and so may not stay
+// in its record, or its run list not.
 fn ask_to_resize<D: Disk>(
     alloc: Global,
     mft: &mut Mft<'_, D>,
@@ -251,7 +316,13 @@ fn ask_to_resize<D: Disk>(
 {
     match found.way {
         Way::InPlace => Ok(()),
-        Way::InClusters => ask_for_bits(alloc, mft),
+        Way::InClusters => {
+            ask_for_bits(alloc, mft)?;
+            if size <= found.stream.size {
+                return Ok(());
+            }
+            ask_for_room(mft, &found.held.parts, 0)
+        }
         Way::InRecord => {
             if size <= found.stream.size {
                 return Ok(());
@@ -270,8 +341,8 @@ fn ask_to_resize<D: Disk>(
 ///
 /// The refusal of the first component that is bad; `BadName`, `IsDir`, `Packed` and `TooBig`; `Shared`, where an open of the file does not
 /// share writing; `Unbuilt`, where the file cannot be edited or has an attribute list, the stream is missing, or it is a value that gets
-/// longer and whose record has no room for that, or it lies in clusters and gets longer, or in more parts than one, or the bitmap of clusters
-/// is a value; of one that gets longer `TooManyParts`, `MftFull` and `NoRoom`; `Memory`, and `Device` where the disk failed.
+/// longer and whose record has no room for that, or it lies in clusters and ends behind its last one then, or in more parts than one, or the
+/// bitmap of clusters is a value; of one that gets longer `TooManyParts`, `MftFull` and `NoRoom`; `Memory`, and `Device` where the disk failed.
 pub fn find_to_resize<D: Disk>(
     alloc: Global,
     mft: &mut Mft<'_, D>,

@@ -3,6 +3,7 @@
 
 mod alone;
 mod attributes;
+mod behind;
 mod duplicated;
 mod extent;
 mod over;

@@ -1,5 +1,5 @@
-//! A stream into which bytes are to be written, over those in its clusters or into its value, found by the path of its file, or by an open
-//! of it.
+//! A stream into which bytes are to be written, over those in its clusters, into its value, or behind what was written of it, found by the
+//! path of its file, or by an open of it.
 ghost use Rattle.std.specs.Prelude.{◌≡◌, ◌≤◌, ◌<◌, ◌+◌, ◌^◌, ℕ, IfOk, IfSome, IsSome, IsTrue, List, false, length, true};
 ghost use Rattle.vol_disk.specs.Contents.{WhereTold};
 ghost use Rattle.vol_stage.specs.Staged.{image};
@@ -16,11 +16,13 @@ ghost use Rattle.tree_model.specs.Tree.{node_of};
 ghost use Rattle.tree_read.specs.Answered.{Answered, Gives, Says, with_ok};
 ghost use Rattle.tree_read.specs.Nodes.{IsNodeHeld, number_of, parts_in};
 ghost use Rattle.tree_read.specs.Standings.{IsStanding};
-ghost use Rattle.tree_edit.specs.Decided.{WritesSo, can_write_so, hwrite_decided, room_written, write_decided, write_found};
+ghost use Rattle.tree_edit.specs.Decided.{EditsSo, IsWritableSo, asked_to_write, can_write_by, can_write_so, hwrite_decided, write_decided, write_found};
 ghost use Rattle.tree_edit.specs.Writable.{DecidesEdit, DecidesOver, GivesBack, IsMountedAs, can_write_over};
-ghost use Rattle.tree_edit.specs.Write.{IsWritable, can_write, hwrite_in, write_wanted};
+ghost use Rattle.tree_edit.specs.Write.{IsWritable, hwrite_in, write_wanted};
 
 use crate::alone::is_resizable;
+use crate::behind::{ask_to_reach, is_reachable};
+use crate::extent::ask_for_bits;
 use crate::room::clusters_for_bytes;
 use crate::settable::can_edit;
 use crate::writable::{Way, Writable, given, kept_from_writing, stream_to_write};
@@ -74,7 +76,7 @@ fn way_to_write(
     requires size { 0 < cluster_bytes }
     ensures way { IfOk result (λ way. (view : VolumeView) → IsMountedAs view mounted.now cluster_bytes → IsSound view
         → IsNodeHeld view held.now → (name : List ℕ) → IsStream view held.now.parts name stream.now
-        → WritesSo view name at len (number_of held.now) way) }
+        → EditsSo (can_write_by view name at len) (can_write_so view name at len (number_of held.now)) (number_of held.now) way) }
     ensures inside { IfOk result (λ way. IfSome way (λ _. number_of held.now < length mounted.now.records)) }
 {
     if is_over(alloc, mounted, cluster_bytes, held, stream, at, len)? {
@@ -82,6 +84,9 @@ fn way_to_write(
     }
     if is_resizable(alloc, mounted, held, stream, at + len as u64)? {
         return Ok(Some(Way::InRecord));
+    }
+    if is_reachable(alloc, mounted, cluster_bytes, held, stream, at, len)? {
+        return Ok(Some(Way::InClusters));
     }
     Ok(None)
 }
@@ -104,7 +109,7 @@ fn give_back(
         → DecidesOver (can_write_so view name at len (number_of held)) result }
     ensures way { IfOk result (λ found. (view : VolumeView) → IsMountedAs view mounted.now cluster_bytes → IsSound view
         → IsNodeHeld view held → (name : List ℕ) → IsStream view held.parts name stream
-        → can_write view name at len found.way (number_of held) ≡ true) }
+        → can_write_by view name at len found.way (number_of held) ≡ true) }
     ensures gives { IfOk result (λ found. GivesBack found held stream found.way) }
     ensures inside { IfOk result (λ found. number_of found.held < length mounted.now.records) }
 {
@@ -128,7 +133,7 @@ fn writable_in(
 ) -> Result<Writable, No>
     requires size { 0 < cluster_bytes }
     ensures decides { (view : VolumeView) → IsMountedAs view mounted.now cluster_bytes → IsSound view → IsNodeHeld view held
-        → DecidesEdit (λ way file. can_write view name.now at len way file) (write_decided view opens.now name.now at len (number_of held))
+        → DecidesEdit (can_write_by view name.now at len) (write_decided view opens.now name.now at len (number_of held))
         view held name.now result }
     ensures place { IfOk result (λ found. found.stream.part < length (parts_in found.held)) }
     ensures near { IfOk result (λ found. at + len ≤ 2 ^ 40) }
@@ -159,7 +164,7 @@ fn writable_through(
 ) -> Result<Writable, No>
     requires size { 0 < cluster_bytes }
     ensures decides { (view : VolumeView) → IsMountedAs view mounted.now cluster_bytes → IsSound view → IsNodeHeld view held
-        → DecidesEdit (λ way file. can_write view name.now at len way file) (hwrite_decided view name.now at len (number_of held)) view held
+        → DecidesEdit (can_write_by view name.now at len) (hwrite_decided view name.now at len (number_of held)) view held
         name.now result }
     ensures place { IfOk result (λ found. found.stream.part < length (parts_in found.held)) }
     ensures near { IfOk result (λ found. at + len ≤ 2 ^ 40) }
@@ -172,8 +177,10 @@ fn writable_through(
     give_back(alloc, mounted, cluster_bytes, held, stream, at, len)
 }
 
-// Asks for the room of bytes that go into a value: it may not stay in its record. Bytes that go over bytes ask for none.
+// Asks for what bytes need that go into a stream: room where it is a value, which may not stay in its record; in clusters their bits, and
+// room. Bytes that go over bytes ask for nothing.
 fn ask_to_write<D: Disk>(
+    alloc: Global,
     mft: &mut Mft<'_, D>,
     found: &Writable,
     at: u64,
@@ -182,12 +189,15 @@ fn ask_to_write<D: Disk>(
     requires volume { IsInUse D.Disk mft.old }
     requires part { found.now.stream.part < length (parts_in found.now.held) }
     requires near { at + len ≤ 2 ^ 40 }
-    ensures asked { (name : List ℕ) → Gives D.Disk mft.old mft.new (λ volume given. IsWritable volume found.now name at len
-        → Says (has_room (room_written volume name at len (number_of found.now.held))) given) result }
+    ensures asked { (name : List ℕ) → Gives D.Disk mft.old mft.new (λ volume given. IsWritableSo volume found.now name at len
+        → Says (has_room (asked_to_write volume name at len (number_of found.now.held))) given) result }
 {
     match found.way {
-        // No bytes are written in clusters of their own.
-        Way::InPlace | Way::InClusters => Ok(()),
+        Way::InPlace => Ok(()),
+        Way::InClusters => {
+            ask_for_bits(alloc, mft)?;
+            ask_to_reach(alloc, mft, found, at, len)
+        }
         Way::InRecord => {
             let file = &found.held.parts;
             let size = mft.cluster_bytes();
@@ -197,7 +207,7 @@ fn ask_to_write<D: Disk>(
     }
 }
 
-// The stream of the file that a path leads to, into which the bytes can be written, where there is room for them.
+// The stream of the file that a path leads to, into which the bytes can be written, where there is room for them and their bits.
 fn find_to_write<D: Disk>(
     alloc: Global,
     mft: &mut Mft<'_, D>,
@@ -213,7 +223,7 @@ fn find_to_write<D: Disk>(
     requires last { IsTrue (view D.Disk mft.old).told → IfSome last.old (IsStanding (view D.Disk mft.old)) }
     ensures answered { Answered D.Disk mft.old mft.new (λ volume. write_found volume opens.now path.now name.now at len)
         (with_ok (λ found. number_of found.held) result) }
-    ensures can { IfOk result (λ found. IsTrue (view D.Disk mft.old).told → IsWritable (view D.Disk mft.old) found name.now at len) }
+    ensures can { IfOk result (λ found. IsTrue (view D.Disk mft.old).told → IsWritableSo (view D.Disk mft.old) found name.now at len) }
     ensures part { IfOk result (λ found. found.stream.part < length (parts_in found.held)) }
     ensures near { IfOk result (λ found. at + len ≤ 2 ^ 40) }
     ensures inside { IfOk result (λ found. number_of found.held < length (mounted_of D.Disk mft.old).records) }
@@ -250,7 +260,7 @@ fn find_to_write_through<D: Disk>(
     ensures answered { Answered D.Disk mft.old mft.new (λ volume. hwrite_decided volume entry.now.stream at len entry.now.file)
         (with_ok (λ found. number_of found.held) result) }
     ensures can { IfOk result (λ found. IsTrue (view D.Disk mft.old).told
-        → IsWritable (view D.Disk mft.old) found entry.now.stream at len) }
+        → IsWritableSo (view D.Disk mft.old) found entry.now.stream at len) }
     ensures part { IfOk result (λ found. found.stream.part < length (parts_in found.held)) }
     ensures near { IfOk result (λ found. at + len ≤ 2 ^ 40) }
     ensures inside { IfOk result (λ found. number_of found.held < length (mounted_of D.Disk mft.old).records) }
@@ -263,15 +273,16 @@ fn find_to_write_through<D: Disk>(
     }
 }
 
-/// The stream of the file that a path leads to, into which so many bytes can be written: over bytes in clusters, or into its value. `last`
-/// is the directory in which the last path ended, before the call and behind it.
+/// The stream of the file that a path leads to, into which so many bytes can be written: over bytes in clusters, into its value, or behind
+/// what was written of it in clusters. `last` is the directory in which the last path ended, before the call and behind it.
 ///
 /// # Errors
 ///
 /// The refusal of the first component that is bad; `BadName`, `IsDir`, `Packed` and `TooBig`; `Shared`, where an open of the file does not
 /// share writing; `Unbuilt`, where the file cannot be edited, the stream is missing, or the bytes go neither over bytes in clusters that
-/// were written before nor into a value, of a file without an attribute list, whose record has room for them; of such a value
-/// `TooManyParts`, `MftFull` and `NoRoom`; `Memory`, and `Device` where the disk failed.
+/// were written before, nor, of a file without an attribute list, into a value whose record has room for them, or into a stream in one
+/// part that can take what it needs in one run, from within what was written of it or right behind; of the latter two `TooManyParts`,
+/// `MftFull` and `NoRoom`; `Memory`, and `Device` where the disk failed.
 pub fn find_writable<D: Disk>(
     alloc: Global,
     mft: &mut Mft<'_, D>,
@@ -294,7 +305,7 @@ pub fn find_writable<D: Disk>(
     ensures last { IsTrue (view D.Disk mft.old).told → IfSome last.new (IsStanding (view D.Disk mft.old)) }
 {
     let found = find_to_write(alloc, mft, last, opens, path, name, at, len)?;
-    ask_to_write(mft, &found, at, len)?;
+    ask_to_write(alloc, mft, &found, at, len)?;
     Ok(found)
 }
 
@@ -324,6 +335,6 @@ pub fn find_writable_through<D: Disk>(
     ensures inside { IfOk result (λ found. number_of found.held < length (mounted_of D.Disk mft.old).records) }
 {
     let found = find_to_write_through(alloc, mft, entry, at, len)?;
-    ask_to_write(mft, &found, at, len)?;
+    ask_to_write(alloc, mft, &found, at, len)?;
     Ok(found)
 }

@@ -1,33 +1,23 @@
-use Rattle.std.proofs.Common.{arith, sym, ◌∙◌}
+use Rattle.std.proofs.Common.{sym, ◌∙◌}
 use Rattle.std.proofs.lemmas.Bool.{or_from}
 use Rattle.tree_read.specs.Nodes.{number_of}
-use Rattle.tree_edit.specs.Alone.{can_cut, can_resize}
-use Rattle.tree_edit.proofs.AloneFound.{cut-long, cut-short}
+use Rattle.tree_edit.specs.Alone.{can_end, can_resize}
+use Rattle.tree_edit.proofs.WriteFound.{mounts-own}
 use Rattle.tree_edit.proofs.alone.way_to_resize.Goals as goal
 
 pub returns-then-branch-clause-way : goal.returns-then-branch-clause-way
 returns-then-branch-clause-way c = λ view mounts sound n name is.
-    sym (c.in_ok-is_resizable.ensures.is view mounts sound n name is) ∙ c.if-branch.true
-
-pub returns-then-size-stream-clause-way : goal.returns-then-size-stream-clause-way
-returns-then-size-stream-clause-way c = λ view mounts sound n name is.
-    let a = c.args in
-    let f = number_of a.held.now in
-    or_from (can_resize view name a.size f) (can_cut view name a.size f)
-    (sym (c.in_ok-is_resizable.ensures.is view mounts sound n name is) ∙ c.if-branch.false)
-    (cut-long view a.mounted.now a.held.now mounts sound n name a.stream.now is a.size (omega (arith, c.if-size-stream.true)))
+    sym (c.in_ok-is_resizable.ensures.is view (mounts-own view c.args.mounted.now c.args.cluster_bytes mounts) sound n name is)
+    ∙ c.if-branch.true
 
 pub returns-then-branch-2-clause-way : goal.returns-then-branch-2-clause-way
 returns-then-branch-2-clause-way c = λ view mounts sound n name is.
-    let a = c.args in
-    cut-short view a.mounted.now a.held.now mounts sound n name a.stream.now is a.size (omega (arith, c.if-size-stream.false))
-    ∙ sym (c.in_ok-is_extent.ensures.is view mounts sound n name is) ∙ c.if-branch-2.true
+    sym (c.in_ok-can_end.ensures.is view mounts sound n name is) ∙ c.if-branch-2.true
 
 pub returns-clause-way : goal.returns-clause-way
 returns-clause-way c = λ view mounts sound n name is.
     let a = c.args in
     let f = number_of a.held.now in
-    or_from (can_resize view name a.size f) (can_cut view name a.size f)
-    (sym (c.in_ok-is_resizable.ensures.is view mounts sound n name is) ∙ c.if-branch.false)
-    (cut-short view a.mounted.now a.held.now mounts sound n name a.stream.now is a.size (omega (arith, c.if-size-stream.false))
-    ∙ sym (c.in_ok-is_extent.ensures.is view mounts sound n name is) ∙ c.if-branch-2.false)
+    or_from (can_resize view name a.size f) (can_end view name a.size f)
+    (sym (c.in_ok-is_resizable.ensures.is view (mounts-own view a.mounted.now a.cluster_bytes mounts) sound n name is) ∙ c.if-branch.false)
+    (sym (c.in_ok-can_end.ensures.is view mounts sound n name is) ∙ c.if-branch-2.false)

@@ -1,20 +1,43 @@
-use Rattle.std.proofs.Common.{◌+◌, ◌∙◌, inl, inr, refl, sym, ap, subst}
+use Rattle.std.proofs.Common.{◌+◌, ◌∙◌, Err, refl, sym, ap, subst}
 use Rattle.mft_table.specs.Mft.{view}
 use Rattle.file_room.specs.Asked.{has_room}
 use Rattle.tree_read.specs.Answered.{Says}
-use Rattle.tree_read.proofs.GivesLaws.{at_once, tells}
-use Rattle.tree_edit.proofs.AskedLaws.{room-clusters, room-over, room-value}
-use Rattle.tree_edit.proofs.WriteFound.{writable-here, writable-value}
+use Rattle.tree_read.specs.Nodes.{number_of}
+use Rattle.tree_read.proofs.GivesLaws.{at_once, both, handed-on, tells}
+use Rattle.tree_edit.specs.Alone.{bits_asked}
+use Rattle.tree_edit.specs.Write.{room_to_reach}
+use Rattle.tree_edit.proofs.AskedLaws.{asked-none, asks-both, refuses-first, room-clusters, room-over, room-reached, room-value}
+use Rattle.tree_edit.proofs.WriteFound.{writable-behind, writable-value}
 use Rattle.tree_edit.proofs.write.ask_to_write.Goals as goal
 
 pub returns-in-InPlace : goal.returns-in-InPlace
 returns-in-InPlace g c = record {
   asked = λ name. at_once refl (λ told is.
       let a = c.args in
-      let v = view g.D.Disk a.mft.now in elim c.in-InPlace.is [
-        | inl over ↦ ap has_room (room-over v a.found.now name a.at a.len is over)
-        | inr clusters ↦ absurd (writable-here v a.found.now name a.at a.len is clusters)
-      ]);
+      ap has_room (room-over (view g.D.Disk a.mft.now) a.found.now name a.at a.len is c.in-InPlace.is));
+}
+
+pub returns-in_err-ask_for_bits-in-InClusters : goal.returns-in_err-ask_for_bits-in-InClusters
+returns-in_err-ask_for_bits-in-InClusters g c = record {
+  asked = λ name.
+      let why = c.in_err-ask_for_bits-in-InClusters.field-0.0 in
+      rw (handed-on c.from_residual.result why c.from_residual.ensures.1) (tells c.in_err-ask_for_bits-in-InClusters.ensures.asked refl (λ told says is.
+      let a = c.args in
+      let v = view g.D.Disk a.mft.now in
+      subst (λ o. Says (has_room o) (Err why)) (sym (room-reached v a.found.now name a.at a.len is c.in-InClusters.is))
+      (refuses-first (bits_asked v) (room_to_reach v name a.at a.len (number_of a.found.now.held)) why says)));
+}
+
+pub returns-in_ok-ask_for_bits-in-InClusters : goal.returns-in_ok-ask_for_bits-in-InClusters
+returns-in_ok-ask_for_bits-in-InClusters g c = record {
+  asked = λ name. tells (both c.in_ok-ask_for_bits-in-InClusters.ensures.asked (c.ask_to_reach.ensures.asked name)) refl (λ told says is.
+      let a = c.args in
+      let v = view g.D.Disk a.mft.now in
+      let so = c.in-InClusters.is in
+      subst (λ o. Says (has_room o) c.ask_to_reach.result)
+      (sym (room-reached v a.found.now name a.at a.len is so
+      ∙ asks-both (bits_asked v) (room_to_reach v name a.at a.len (number_of a.found.now.held)) (asked-none (bits_asked v) says.0)))
+      (says.1 is (writable-behind v a.found.now name a.at a.len is so).1));
 }
 
 pub returns-in-InRecord : goal.returns-in-InRecord
