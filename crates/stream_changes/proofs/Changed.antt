@@ -1,27 +1,29 @@
--- A STREAM OF A FILE WAS EDITED in its record, where clusters of it had been given back: the volume is in use still, and the attributes of the
--- file can be set. Then the stream is put, and no cluster is free for nothing.
-use Rattle.std.proofs.Common.{◌≡◌, ◌⊎◌, ◌+◌, ◌*◌, ◌≤◌, ℕ, Bool, List, [], length, Option, sym, ap, subst, inl, inr, ◌∙◌, arith}
+-- A STREAM OF A FILE WAS EDITED in its record, where clusters of it had been given back, and others taken: the volume is in use still, and
+-- the attributes of the file can be set. Then the stream is put, and no cluster is free, or has an owner, for nothing.
+use Rattle.std.proofs.Common.{◌≡◌, ◌⊎◌, ◌+◌, ◌*◌, ◌≤◌, ℕ, Bool, List, [], length, Option, Some, sym, ap, subst, inl, inr, ◌∙◌, arith}
 use Rattle.std.specs.Prelude.{IsTrue, sum_by}
 use Rattle.vol_disk.specs.declared.Disk.{Ghosts}
 use Rattle.ntfs_def.specs.declared.kinds.TheConstants.{DATA, STANDARD_INFORMATION}
 use Rattle.ntfs_def.specs.declared.run_text.Run.{Run}
 use Rattle.volume_def.specs.Coverage.{times_covered}
 use Rattle.volume_def.specs.FileNames.{names_of}
-use Rattle.volume_def.specs.Files.{Records, records_of}
+use Rattle.volume_def.specs.Files.{records_of}
 use Rattle.volume_def.specs.OwnersClause.{times_owned}
 use Rattle.volume_def.specs.Sound as clauses
+use Rattle.volume_def.specs.Table.{TableLayout}
 use Rattle.volume_def.specs.View.{VolumeView}
 use Rattle.mft_table.specs.declared.mft.Mft.{Mft}
 use Rattle.mft_table.specs.InUse.{IsInUse, IsSoundVolume}
 use Rattle.mft_table.specs.Mft.{mounted_of, view}
 use Rattle.edit_def.specs.Kept.{Key, either, key_of, same_key}
 use Rattle.edit_def.specs.Purses.{run_size}
-use Rattle.record_edits.specs.Given.{GivesBack}
+use Rattle.record_edits.specs.Given.{GivesBack, TakesRuns}
 use Rattle.session_def.specs.Cost.{given_back}
+use Rattle.tree_model.specs.Streams.{resized}
 use Rattle.value_edits.proofs.Below.{Rewrites-then, times-same}
 use Rattle.tree_edit.specs.Below.{SetsAttributes, dirs_of, is_told_key}
 use Rattle.tree_edit.proofs.Below.{chain-rewrites, set-rewrites}
-use Rattle.value_edits.specs.ValueEdits.{EditsAlone, IsEdited, PutsGiving, PutsStream, node_with}
+use Rattle.value_edits.specs.ValueEdits.{EditsAlone, EndsBy, IsEdited, PutsGiving, PutsStream, ResizesStream, no_gain, node_with}
 use Rattle.value_edits.proofs.EditedRecord as value
 use Rattle.value_edits.proofs.GivenCount.{few-given}
 use Rattle.value_edits.proofs.StreamPut.{stream-put}
@@ -41,12 +43,43 @@ set-times old new f times flags s =
     (Rewrites-then first (is_told_key (dirs_of names)) old s.mid new (set-rewrites old s.mid f times flags s.sets)
     (chain-rewrites s.told names s.mid new s.refreshes))
 
+-- .. and lie where they lay
+set-layout : (old new : VolumeView) (f : ℕ) (times : List ℕ) (flags : ℕ) → SetsAttributes old new f times flags → new.layout ≡ old.layout
+set-layout old new f times flags s =
+    let first : Key → Bool = same_key (key_of f STANDARD_INFORMATION []) in
+    let names = names_of (records_of s.mid) f in
+    (Rewrites-then first (is_told_key (dirs_of names)) old s.mid new (set-rewrites old s.mid f times flags s.sets)
+    (chain-rewrites s.told names s.mid new s.refreshes)).layout
+
+-- THE WHOLE EDIT, of both steps
+pub put-of : (old mid new : VolumeView) (f : ℕ) (name : List ℕ) (bytes : Option (List ℕ)) (gains : ℕ → Bool) (given taken : List Run)
+    (count : ℕ) (times : List ℕ) (flags : ℕ) → PutsGiving old mid f name bytes gains given taken → sum_by run_size taken ≤ count
+    → SetsAttributes mid new f times flags → PutsStream old new f name bytes gains count times flags
+put-of old mid new f name bytes gains given taken count times flags p few sets = record {
+  mid = mid;
+  puts = p.puts;
+  takes = subst (λ (runs : List Run). sum_by run_size runs ≤ count) (sym p.taken_are) few;
+  sets = sets;
+}
+
+-- .. of one that has so many bytes then
+pub resized-of : (old mid new : VolumeView) (f : ℕ) (name : List ℕ) (size : ℕ) (held : List ℕ) (given : List Run) (times : List ℕ)
+    (flags : ℕ) → PutsGiving old mid f name (Some (resized size held)) no_gain given [] × EndsBy mid f name size
+    → SetsAttributes mid new f times flags → ResizesStream old new f name size held times flags
+unfolding put-of
+resized-of old mid new f name size held given times flags p sets = record {
+  puts = put-of old mid new f name (Some (resized size held)) no_gain given [] 0 times flags p.0 (omega arith) sets;
+  ends = p.1;
+}
+
 module _ {D : Type 0} (g : Ghosts D) (f : ℕ) (a back m : Mft D g) (named : IsTrue (view g a).told → FindsNamed (view g a) f)
-    (bytes : List ℕ → Option (List ℕ)) (runs : IsTrue (view g a).told → List Run)
-    (gives : (t : IsTrue (view g a).told) → GivesBack (view g a) (view g back) (runs t)) (stored : TellsStored g back)
+    (bytes : List ℕ → Option (List ℕ)) (gains : ℕ → Bool) (given taken : IsTrue (view g a).told → List Run)
+    (freed : IsTrue (view g a).told → VolumeView)
+    (gives : (t : IsTrue (view g a).told) → GivesBack (view g a) (freed t) (given t))
+    (takes : (t : IsTrue (view g a).told) → TakesRuns (freed t) (view g back) (taken t)) (stored : TellsStored g back)
     (mounted : mounted_of g m ≡ mounted_of g back) (same : (view g m).told ≡ (view g a).told)
     (puts : (t : IsTrue (view g a).told)
-    → PutsGiving (view g a) (view g m) f (named t).name (bytes (named t).held) (runs t)) where
+    → PutsGiving (view g a) (view g m) f (named t).name (bytes (named t).held) gains (given t) (taken t)) where
   abbrev old : VolumeView
   old = view g a
 
@@ -56,23 +89,29 @@ module _ {D : Type 0} (g : Ghosts D) (f : ℕ) (a back m : Mft D g) (named : IsT
   told-a : IsTrue (view g m).told → IsTrue (view g a).told
   told-a t = sym same ∙ t
 
-  edits : (t : IsTrue (view g a).told) → EditsAlone (key_of f DATA (named t).name) old new
-  edits t = (puts t).0.edits
+  edits : (t : IsTrue (view g a).told) → EditsAlone (key_of f DATA (named t).name) gains old new
+  edits t = (puts t).puts.edits
 
-  is-edited : (t : IsTrue (view g a).told) → IsEdited (key_of f DATA (named t).name) old new
+  is-edited : (t : IsTrue (view g a).told) → IsEdited (key_of f DATA (named t).name) gains old new
       (node_with old (named t).asked (bytes (named t).held) (named t).can.node)
   is-edited t =
       let n = named t in
-      stream-put old new f n.can.node n.asked n.name n.held (bytes n.held) n.can.can n.finds (puts t).0
+      stream-put old new f n.can.node n.asked n.name n.held (bytes n.held) gains n.can.can n.finds (puts t).puts
+
+  given-times : (t : IsTrue (view g a).told) (c : ℕ) → times_covered (puts t).puts.edits.given c ≡ times_covered (given t) c
+  given-times t c = ap (λ (runs : List Run). times_covered runs c) (puts t).given_are
+
+  taken-times : (t : IsTrue (view g a).told) (c : ℕ) → times_covered (puts t).puts.edits.taken c ≡ times_covered (taken t) c
+  taken-times t c = ap (λ (runs : List Run). times_covered runs c) (puts t).taken_are
 
   pub in-use : IsInUse g m
   unfolding edits told-a
   in-use t =
       let before = told-a t in
       let n = named before in
-      let at_back : IsTrue (view g back).told = (gives before).writes.told ∙ before in
-      let kept-so = kept.stored-kept old new f n.name n.can.node n.can.can (edits before) (view g back) (runs before) (gives before)
-      (λ c. ap (λ (rs : List Run). times_covered rs c) (puts before).1)
+      let at_back : IsTrue (view g back).told = (takes before).writes.told ∙ (gives before).writes.told ∙ before in
+      let kept-so = kept.stored-kept old new f n.name n.can.node n.can.can (edits before) (freed before) (view g back) (given before)
+      (taken before) (gives before) (takes before) (given-times before) (taken-times before)
       (mounted_of g back).clusters (mounted_of g back).records (mounted_of g back).upcase (stored at_back) in
       subst (IsSoundVolume new) (sym mounted) (record { sound = (is-edited before).can.sound; stored = kept-so })
 
@@ -87,25 +126,47 @@ module _ {D : Type 0} (g : Ghosts D) (f : ℕ) (a back m : Mft D g) (named : IsT
       }
 
   -- THEN THE ATTRIBUTES ARE SET.
-  module _ (b : Mft D g) (times : List ℕ) (flags : ℕ) (sets : IsTrue (view g m).told → SetsAttributes (view g m) (view g b) f times flags) where
-    pub put-then : (t : IsTrue (view g a).told) → PutsStream (view g a) (view g b) f (named t).name (bytes (named t).held) times flags
-    put-then t = record { mid = new; puts = (puts t).0; sets = sets (same ∙ t) }
+  module _ (b : Mft D g) (times : List ℕ) (flags : ℕ) (sets : IsTrue (view g m).told → SetsAttributes (view g m) (view g b) f times flags)
+    where
+      pub put-then : (count : ℕ) → ((t : IsTrue (view g a).told) → sum_by run_size (taken t) ≤ count) → (t : IsTrue (view g a).told)
+          → PutsStream (view g a) (view g b) f (named t).name (bytes (named t).held) gains count times flags
+      put-then count few t =
+          put-of old new (view g b) f (named t).name (bytes (named t).held) gains (given t) (taken t) count times flags (puts t) (few t)
+          (sets (same ∙ t))
 
-    -- the clusters of these runs are free then that had an owner
-    pub freed : (t : IsTrue (view g a).told) → sum_by run_size (runs t) ≤ given_back (view g a) (view g b)
-    unfolding edits
-    freed t =
-        let n = named t in
-        let e = edits t in
-        let sound = n.can.can.sound in
-        few-given old (view g b) (runs t)
-        (λ c. let gone = value.owned-now (key_of f DATA n.name) old new sound n.can.can.apart e c in
-        let owned : times_owned (records_of e.mid) c ≡ times_owned (records_of old) c =
-        ap (λ (r : Records). times_owned r c) (value.records-mid (key_of f DATA n.name) old new sound n.can.can.apart e) in
-        let is : times_covered e.given c ≡ times_covered (runs t) c = ap (λ (rs : List Run). times_covered rs c) (puts t).1 in
-        let set = set-times new (view g b) f times flags (sets (same ∙ t)) c in
-        omega (arith, gone, owned, is, set))
-        (λ c. (sound clauses.Owners c).once) (λ c past. (sound clauses.Owners c).inside past)
+      -- how often a cluster is owned then
+      times-then : (t : IsTrue (view g a).told) (c : ℕ) → times_owned (records_of (view g b)) c + times_covered (given t) c
+          ≡ times_owned (records_of (view g a)) c + times_covered (taken t) c
+      unfolding edits
+      times-then t c =
+          let n = named t in
+          let all = value.owned-now (key_of f DATA n.name) old new n.can.can.sound n.can.can.apart (edits t) c in
+          let set = set-times new (view g b) f times flags (sets (same ∙ t)) c in
+          omega (arith, all, set, given-times t c, taken-times t c)
+
+      -- where none was taken, the clusters that were given back are free then that had an owner
+      pub freed-then : (t : IsTrue (view g a).told) → taken t ≡ [] → sum_by run_size (given t) ≤ given_back (view g a) (view g b)
+      freed-then t none =
+          let sound = (named t).can.can.sound in
+          few-given old (view g b) (given t)
+          (λ c. let nothing : times_covered (taken t) c ≡ 0 = ap (λ (runs : List Run). times_covered runs c) none in
+          omega (arith, times-then t c, nothing))
+          (λ c. (sound clauses.Owners c).once) (λ c past. (sound clauses.Owners c).inside past)
+
+      -- .. and where none was given back, those that were taken have an owner then that had none
+      pub owned-then : (t : IsTrue (view g a).told) → given t ≡ [] → sum_by run_size (taken t) ≤ given_back (view g b) (view g a)
+      owned-then t none =
+          let sound = (is-edited t).can.sound in
+          let clusters : (view g b).layout.clusters ≡ (view g m).layout.clusters =
+          ap (λ (l : TableLayout). l.clusters) (set-layout new (view g b) f times flags (sets (same ∙ t))) in
+          few-given (view g b) old (taken t)
+          (λ c. let nothing : times_covered (given t) c ≡ 0 = ap (λ (runs : List Run). times_covered runs c) none in
+          omega (arith, times-then t c, nothing))
+          (λ c. let set = set-times new (view g b) f times flags (sets (same ∙ t)) c in
+          let once = (sound clauses.Owners c).once in
+          omega (arith, set, once))
+          (λ c past. set-times new (view g b) f times flags (sets (same ∙ t)) c
+          ∙ (sound clauses.Owners c).inside (omega (arith, past, clusters)))
 
   pub staged-then : (b : Mft D g) (most : ℕ) (is : ℕ → Type 0) → StagesFew g most is a m
       → (IsTrue (view g m).told → StagesAttributes g f (names_of (records_of (view g m)) f) m b) → IsTrue (view g a).told

@@ -1,5 +1,5 @@
 -- ONE STREAM WAS EDITED: records can be written still, records and indexes lie where they lay, and the flags and the table of case that are
--- stored are those that were, where clusters were given back so.
+-- stored are those that were, where clusters were given back, and taken, so.
 use Rattle.std.proofs.Common.{◌≡◌, ◌+◌, ◌*◌, ◌≤◌, ◌<◌, ◌==◌, ℕ, Bool, List, [], ◌∷◌, length, filter, map, Option, refl, sym, ap, subst, inl, inr, ◌∙◌, arith}
 use mathlib.Core.Path.{fun_ext}
 use Rattle.std.specs.List.{range_with_len}
@@ -30,7 +30,7 @@ use Rattle.volume_def.proofs.RecordLaws.{file_of-kept}
 use Rattle.volume_def.proofs.ValueLaws.{value-frame}
 use Rattle.volume_def.proofs.SoundLaws.{readable-sound}
 use Rattle.volume_edits.specs.Clusters.{record_sectors}
-use Rattle.edit_def.specs.Account.{nothing}
+use Rattle.volume_edits.specs.Owners.{HasOwners}
 use Rattle.edit_def.specs.Edited.{Edited, is_room_key}
 use Rattle.edit_def.specs.Kept.{Key, either, key_of, same_key}
 use Rattle.edit_def.specs.Names.{KeepsNames}
@@ -39,29 +39,48 @@ use Rattle.edit_def.proofs.ToldLaws.{one-first, value-kept}
 use Rattle.mft_table.specs.HeldTables.{AreStored}
 use Rattle.mft_table.specs.Staging.{record_places}
 use Rattle.file_record.specs.Records.{IsRecordOf}
-use Rattle.record_edits.specs.Given.{GivesBack}
-use Rattle.record_edits.specs.InPlace.{is_bits_key}
+use Rattle.record_edits.specs.Between.{IsReady}
+use Rattle.record_edits.specs.Given.{AreOwned, GivesBack, TakesRuns}
+use Rattle.record_edits.specs.InPlace.{WritesInPlace, is_bits_key}
 use Rattle.record_edits.specs.RecordEdit.{parts_made}
 use Rattle.record_edits.proofs.BlockEdits.{edit-of}
-use Rattle.record_edits.proofs.PlaceEdits.{clusters-kept}
+use Rattle.record_edits.proofs.PlaceEdits.{clusters-kept, same}
 use Rattle.tree_edit.specs.Below.{index_name, names_index}
 use Rattle.tree_model.specs.declared.tree.Node.{Node}
 use Rattle.value_edits.specs.Below.{CanSet}
-use Rattle.value_edits.proofs.Below.{not-case, right_marks}
+use Rattle.value_edits.proofs.Below.{marks-right, not-case, right_marks}
 use Rattle.value_edits.specs.ValueEdits.{EditsAlone}
-use Rattle.value_edits.proofs.GivenBack as given
+use Rattle.value_edits.proofs.GivenBack as flush
 use Rattle.value_edits.proofs.EditedRecord as value
+use Rattle.value_edits.proofs.Prepared as before
+use Rattle.value_edits.proofs.Prepared.{owners-ready}
 use Rattle.value_edits.proofs.SoundEdited as edit
 use Rattle.tree_edit.specs.Links.{CanWrite}
 use Rattle.tree_edit.specs.Staged.{IsOfDirectory, IsOfFile, IsOfIndex, IsOfNames}
 
+-- A FLUSH OF BITS leaves the table of case.
+case-flush : (old new : VolumeView) → WritesInPlace is_bits_key old new → HasOwners old
+    → value_on new (case_parts new) ≡ value_on old (case_parts old)
+case-flush old new writes owners =
+    ap (λ (l : TableLayout). value_of_parts new.cluster (cluster_bytes l) (parts_at new UPCASE DATA [])) writes.layout
+    ∙ ap (λ (r : Records). value_of_parts new.cluster (cluster_bytes old.layout) (filter (is_of DATA []) (parts r UPCASE)))
+    (same is_bits_key old new writes)
+    ∙ value-frame old.cluster new.cluster (cluster_bytes old.layout) (parts_at old UPCASE DATA [])
+    (clusters-kept is_bits_key old new writes owners UPCASE DATA [] refl)
+
 module _ (old new : VolumeView) (f : ℕ) (name : List ℕ) (node : Node) (can : CanSet old f node)
-    (e : EditsAlone (key_of f DATA name) old new) where
+    {gains : ℕ → Bool} (e : EditsAlone (key_of f DATA name) gains old new) where
   abbrev key : Key
   key = key_of f DATA name
 
   layout : new.layout ≡ old.layout
-  layout = e.block.replaces.layout ∙ e.gives.writes.layout
+  layout = value.layout key old new can.sound can.apart e
+
+  layout-mid : e.mid.layout ≡ old.layout
+  layout-mid = value.layout-mid key old new can.sound can.apart e
+
+  blocks-mid : (n : ℕ) → e.mid.block n ≡ old.block n
+  blocks-mid = before.blocks-mid key old e.mid e.given e.taken e.prepares
 
   records-mid : records_of e.mid ≡ records_of old
   records-mid = value.records-mid key old new can.sound can.apart e
@@ -69,7 +88,7 @@ module _ (old new : VolumeView) (f : ℕ) (name : List ℕ) (node : Node) (can :
   readable : IsReadableVolume old
   readable = readable-sound old can.sound
 
-  edited : Edited (same_key key) nothing old new (right_marks old) (right_marks new)
+  edited : Edited (same_key key) (value.wants key old new can.sound can.apart e) old new (right_marks old) (right_marks new)
   edited = value.edited key old new can.sound can.apart e
 
   at : EditsAt (records_of old) (records_of new) f (parts_made f (e.was ∷ [])) (parts_made f (option_to_list e.now))
@@ -77,8 +96,8 @@ module _ (old new : VolumeView) (f : ℕ) (name : List ℕ) (node : Node) (can :
       (edit-of e.mid new f e.stored (e.was ∷ []) (option_to_list e.now) e.block)
 
   well-formed : IsWellFormed (old.block f)
-  well-formed = readable.shape f (subst (λ (l : TableLayout). f < l.count) e.gives.writes.layout e.block.inside)
-      (subst (λ (block : List ℕ). IsTrue (is_in_use block)) (e.gives.writes.blocks f) e.block.used)
+  well-formed = readable.shape f (subst (λ (l : TableLayout). f < l.count) layout-mid e.block.inside)
+      (subst (λ (block : List ℕ). IsTrue (is_in_use block)) (blocks-mid f) e.block.used)
 
   -- RECORDS in use were so before
   used-before : (n : ℕ) → IsTrue (is_some (record_on new n)) → IsTrue (is_some (record_on old n))
@@ -105,7 +124,7 @@ module _ (old new : VolumeView) (f : ℕ) (name : List ℕ) (node : Node) (can :
     })
     | inr other ↦ record {
       belongs = subst (λ (o : Option Record). IsSomeAnd o (λ r. file_of n r ≡ g)) (at.changes.others n other) is.belongs;
-      well_formed = subst IsWellFormed (e.block.replaces.blocks n other ∙ e.gives.writes.blocks n) is.well_formed;
+      well_formed = subst IsWellFormed (e.block.replaces.blocks n other ∙ blocks-mid n) is.well_formed;
     }
   ]
 
@@ -153,42 +172,72 @@ module _ (old new : VolumeView) (f : ℕ) (name : List ℕ) (node : Node) (can :
       (one-first old UPCASE DATA [] (bases-of (records_of old) (can.sound References)) readable.extents (λ z. cc))
       (ap (λ (l : TableLayout). cluster_bytes l) layout)
 
-  -- .. and the flags are those of a volume on which the same clusters were given back.
-  module _ (mid : VolumeView) (runs : List Run) (gives : GivesBack old mid runs)
-      (times : (c : ℕ) → times_covered e.given c ≡ times_covered runs c) where
-    case-mid : value_on mid (case_parts mid) ≡ value_on old (case_parts old)
-    case-mid =
-        ap (λ (l : TableLayout). value_of_parts mid.cluster (cluster_bytes l) (parts_at mid UPCASE DATA [])) gives.writes.layout
-        ∙ ap (λ (r : Records). value_of_parts mid.cluster (cluster_bytes old.layout) (filter (is_of DATA []) (parts r UPCASE)))
-        (given.records-same old mid runs gives)
-        ∙ value-frame old.cluster mid.cluster (cluster_bytes old.layout) (parts_at old UPCASE DATA [])
-        (clusters-kept is_bits_key old mid gives.writes can.apart.owners UPCASE DATA [] refl)
+  -- .. and the flags are those of a volume on which the same clusters were given back, and taken.
+  module _ (freed back : VolumeView) (given taken : List Run) (gives : GivesBack old freed given) (takes : TakesRuns freed back taken)
+      (times_given : (c : ℕ) → times_covered e.given c ≡ times_covered given c)
+      (times_taken : (c : ℕ) → times_covered e.taken c ≡ times_covered taken c) where
+    ready-old : IsReady old (right_marks old)
+    ready-old = value.ready-sound old (right_marks old) can.sound can.apart (marks-right old)
 
-    flag : (c : ℕ) → bit_in (value_on new (cluster_bits new)) c ≡ bit_in (value_on mid (cluster_bits mid)) c
+    -- each that was given back had an owner
+    owned : AreOwned old given
+    owned c =
+        let all = value.owned-now key old new can.sound can.apart e c in
+        let back = times_given c in
+        elim (cases_eq (times_covered e.taken c) 0) [
+          | inl none ↦ omega (arith, all, back, none)
+          | inr some ↦ let none = e.prepares.differ c (omega (arith, some)) in omega (arith, back, none)
+        ]
+
+    owners-freed : HasOwners freed
+    owners-freed = owners-ready freed (right_marks old) (flush.ready-back old freed given gives (right_marks old) ready-old owned)
+
+    layout-back : back.layout ≡ old.layout
+    layout-back = takes.writes.layout ∙ gives.writes.layout
+
+    case-back : value_on back (case_parts back) ≡ value_on old (case_parts old)
+    case-back = case-flush freed back takes.writes owners-freed ∙ case-flush old freed gives.writes can.apart.owners
+
+    -- a flag by what was done with its cluster
+    others : (c : ℕ) → times_covered taken c ≡ 0
+        → bit_in (value_on e.prepares.freed (cluster_bits e.prepares.freed)) c ≡ bit_in (value_on freed (cluster_bits freed)) c
+    others c none = elim (cases_eq (times_covered given c) 0) [
+      | inl kept ↦ e.prepares.gives.others c (times_given c ∙ kept) ∙ sym (gives.others c kept)
+      | inr some ↦
+          let same = times_given c in e.prepares.gives.given c (omega (arith, same, some)) ∙ sym (gives.given c (omega (arith, some)))
+    ]
+
+    flag-set : (c : ℕ) → bit_in (value_on e.prepares.flagged (cluster_bits e.prepares.flagged)) c
+        ≡ bit_in (value_on back (cluster_bits back)) c
+    flag-set c = elim (cases_eq (times_covered taken c) 0) [
+      | inl none ↦ e.prepares.takes.others c (times_taken c ∙ none) ∙ others c none ∙ sym (takes.others c none)
+      | inr some ↦
+          let same = times_taken c in e.prepares.takes.taken c (omega (arith, same, some)) ∙ sym (takes.taken c (omega (arith, some)))
+    ]
+
+    flag : (c : ℕ) → bit_in (value_on new (cluster_bits new)) c ≡ bit_in (value_on back (cluster_bits back)) c
     flag c =
         let bits : value_on new (cluster_bits new) ≡ value_on e.mid (cluster_bits e.mid) =
         edit.value-still key old new can.sound can.apart e CLUSTER_BITMAP DATA (omega arith) (λ z. absurd (omega (arith, z))) refl in
-        ap (λ (value : List ℕ). bit_in value c) bits ∙ elim (cases_eq (times_covered runs c) 0) [
-          | inl none ↦ e.gives.others c (times c ∙ none) ∙ sym (gives.others c none)
-          | inr some ↦ let same = times c in e.gives.given c (omega (arith, same, some)) ∙ sym (gives.given c (omega (arith, some)))
-        ]
+        ap (λ (value : List ℕ). bit_in value c) (bits ∙ value.flags-mid key old new can.sound can.apart e) ∙ flag-set c
 
-    rows : value_on new (record_bits new) ≡ value_on mid (record_bits mid)
+    rows : value_on new (record_bits new) ≡ value_on back (record_bits back)
     rows = edit.value-still key old new can.sound can.apart e MFT BITMAP (omega arith) (λ z. absurd (omega (arith, z))) refl
-        ∙ e.gives.records ∙ sym gives.records
+        ∙ value.rows-mid key old new can.sound can.apart e ∙ sym gives.records ∙ sym takes.records
 
-    same-layout : new.layout ≡ mid.layout
-    same-layout = layout ∙ sym gives.writes.layout
+    same-layout : new.layout ≡ back.layout
+    same-layout = layout ∙ sym layout-back
 
-    pub stored-kept : (clusters records : List Bool) (upcase : List ℕ) → AreStored mid clusters records upcase
+    pub stored-kept : (clusters records : List Bool) (upcase : List ℕ) → AreStored back clusters records upcase
         → AreStored new clusters records upcase
     unfolding flags_in
     stored-kept clusters records upcase stored = record {
       clusters_are = stored.clusters_are
-          ∙ sym (ap (λ (l : TableLayout). map (λ at. bit_in (value_on new (cluster_bits new)) at == 1) (range_with_len 0 l.clusters)) same-layout
-          ∙ ap (λ (p : ℕ → Bool). map p (range_with_len 0 mid.layout.clusters)) (fun_ext (λ (c : ℕ). ap (λ b. b == 1) (flag c))));
+          ∙ sym (ap (λ (l : TableLayout). map (λ at. bit_in (value_on new (cluster_bits new)) at == 1)
+          (range_with_len 0 l.clusters)) same-layout
+          ∙ ap (λ (p : ℕ → Bool). map p (range_with_len 0 back.layout.clusters)) (fun_ext (λ (c : ℕ). ap (λ b. b == 1) (flag c))));
       records_are = stored.records_are
           ∙ sym (ap (λ (l : TableLayout). flags_in (value_on new (record_bits new)) l.count) same-layout
-          ∙ ap (λ v. flags_in v mid.layout.count) rows);
-      upcase_is = stored.upcase_is ∙ case-mid ∙ sym case-kept;
+          ∙ ap (λ v. flags_in v back.layout.count) rows);
+      upcase_is = stored.upcase_is ∙ case-back ∙ sym case-kept;
     }

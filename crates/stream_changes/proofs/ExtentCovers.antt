@@ -27,6 +27,7 @@ use Rattle.extent_edits.specs.Cut.{CanBeCut}
 use Rattle.sparse_io.specs.declared.find.FoundStream.{FoundStream}
 use Rattle.value_edits.proofs.Below.{file, not-bad}
 use Rattle.value_edits.proofs.Below as below
+use Rattle.value_edits.proofs.OneExtent.{fits-one}
 use Rattle.value_edits.proofs.ValueCalls.{plain-one}
 use Rattle.stream_changes.specs.Streams.{CanGive}
 use Rattle.stream_changes.proofs.ExtentLaws.{part-kind, part-runs}
@@ -70,6 +71,13 @@ module _ (old : VolumeView) (found : FoundStream) (f : ℕ) (can : CanGive old f
       ∙ ap (λ b. not (b && is_of DATA bad_name can.part))
       (ne_eqb f BAD_CLUSTERS (not-bad old f can.named.can.node can.named.can.can.there))
 
+  -- all that its part covers
+  pub covers-one : all_covered (can.part ∷ []) ≡ total_clusters can.runs
+  covers-one = covered-one ∙ ap total_clusters (part-runs old found f can)
+    where
+      covered-one : all_covered (can.part ∷ []) ≡ part_clusters can.part
+      covered-one = let one = sum_by-cons part_clusters can.part [] in omega (arith, one)
+
   -- its clusters have room for its bytes
   covers : can.extent.sizes.real ≤ total_clusters can.runs * size
   covers =
@@ -79,12 +87,8 @@ module _ (old : VolumeView) (found : FoundStream) (f : ℕ) (can : CanGive old f
       (subst (λ (ps : List Part). Contains ps can.part) (sym ordered) (Contains-head can.part [])) sized in
       let fits = subst (λ (content : Content). IfSome (content_extent content) (λ extent.
       extent.sizes.first ≡ 0 → FitExtents (all_covered attribute.ordered * size) can.part.flags extent.sizes)) can.is told can.first in
-      let all : all_covered attribute.ordered ≡ total_clusters can.runs =
-      ap all_covered ordered ∙ covered-one ∙ ap total_clusters (part-runs old found f can) in
+      let all : all_covered attribute.ordered ≡ total_clusters can.runs = ap all_covered ordered ∙ covers-one in
       subst (λ n. can.extent.sizes.real ≤ n * size) all fits.real
-    where
-      covered-one : all_covered (can.part ∷ []) ≡ part_clusters can.part
-      covered-one = let one = sum_by-cons part_clusters can.part [] in omega (arith, one)
 
   -- so it can be cut behind each number of bytes that it has
   pub can-cut : (bytes : ℕ) → bytes ≤ can.extent.sizes.real → bytes ≤ 2 ^ 40 → old.layout.cluster_sectors ≤ 8
@@ -101,3 +105,7 @@ module _ (old : VolumeView) (found : FoundStream) (f : ℕ) (can : CanGive old f
         covers = clusters_for-least (total_clusters can.runs) bytes size (omega (arith, some)) (omega (arith, long, covers));
         told = omega (arith, whole, near, few);
       }
+
+  -- Its numbers fit its clusters.
+  pub extent-fits : FitExtents (total_clusters can.runs * cluster_bytes old.layout) can.part.flags can.extent.sizes
+  extent-fits = fits-one size can.part can.extent can.runs can.is can.first f attribute sized

@@ -1,5 +1,5 @@
 -- WHAT THE CALLS SAY of a stream in clusters that is cut, or goes, one behind another.
-use Rattle.std.proofs.Common.{◌≡◌, ◌⊎◌, ◌+◌, ◌≤◌, ◌^◌, ◌*◌, ℕ, Bool, true, false, List, Option, Some, None, length, sym, ap, subst, ◌∙◌}
+use Rattle.std.proofs.Common.{◌≡◌, ◌⊎◌, ◌+◌, ◌≤◌, ◌^◌, ◌*◌, ℕ, Bool, true, false, List, [], Option, Some, None, length, sym, ap, subst, ◌∙◌}
 use Rattle.std.specs.List.{Contains}
 use Rattle.std.specs.Prelude.{IsSomeAnd, IsTrue, OnOk, Result, Ok, Err, drop, slice_get, sum_by}
 use Rattle.list_laws.proofs.OptionLaws.{none_other, some_same}
@@ -25,7 +25,7 @@ use Rattle.sparse_io.specs.declared.find.FoundStream.{FoundStream}
 use Rattle.tree_edit.specs.Below.{IsInitialized}
 use Rattle.tree_model.specs.Streams.{resized}
 use Rattle.tree_model.specs.Ways.{has_placed_bits}
-use Rattle.value_edits.specs.ValueEdits.{PutsGiving}
+use Rattle.value_edits.specs.ValueEdits.{EndsBy, PutsGiving, no_gain}
 use Rattle.stored_bits.specs.Given.{IsOfBits, KeepsDevice}
 use Rattle.tree_edit.specs.Change.{RemovesPart}
 use Rattle.stream_changes.specs.Streams.{CanGive, CutsPartWhereItCan, GivesBehind}
@@ -108,7 +108,7 @@ module _ {D : Type 0} (g : Ghosts D) (found : FoundStream) (f count : ℕ) (a ba
     pub gone-puts : count ≡ 0 → WhereReadable (view g back) (IsFile (view g back) f → IsApart (view g back).layout
         → IsInitialized (view g back) f → (part : Part) → slice_get (parts (records_of (view g back)) f) found.part ≡ Some part
         → RemovesPart (view g back) (view g m) f part)
-        → (t : IsTrue (view g a).told) → PutsGiving (view g a) (view g m) f (can t).named.name None (gone-behind t).given
+        → (t : IsTrue (view g a).told) → PutsGiving (view g a) (view g m) f (can t).named.name None no_gain (gone-behind t).given []
     gone-puts none tells t =
         let b = gone-behind t in
         extent.extent-gone (view g a) found f (can t) (view g back) (view g m) b.given b.gives (owned t)
@@ -117,15 +117,21 @@ module _ {D : Type 0} (g : Ghosts D) (found : FoundStream) (f count : ℕ) (a ba
     module _ (size : ℕ) (done : Bool) (tells : WhereReadable (view g back) (IsFile (view g back) f → IsApart (view g back).layout
         → IsInitialized (view g back) f → (part : Part) → slice_get (parts (records_of (view g back)) f) found.part ≡ Some part
         → CutsPartWhereItCan done (view g back) (view g m) f part size)) where
-      pub cut-puts : done ≡ true → count ≡ clusters_for size (cluster_bytes (view g a).layout)
+      pub cut-both : done ≡ true → count ≡ clusters_for size (cluster_bytes (view g a).layout)
           → (t : IsTrue (view g a).told)
-          → PutsGiving (view g a) (view g m) f (can t).named.name (Some (resized size (can t).named.held)) (gone-behind t).given
-      cut-puts does many t =
+          → PutsGiving (view g a) (view g m) f (can t).named.name (Some (resized size (can t).named.held)) no_gain (gone-behind t).given []
+          × EndsBy (view g m) f (can t).named.name size
+      cut-both does many t =
           let b = gone-behind t in
           extent.extent-shorter (view g a) found f (can t) (view g back) (view g m) b.given b.gives (owned t) size
           (b.behind ∙ ap (λ k. drop k (clusters_of (can t).runs)) many)
           (subst (λ d. CutsPartWhereItCan d (view g back) (view g m) f (can t).part size) does
           (of-part (λ part. CutsPartWhereItCan done (view g back) (view g m) f part size) tells t))
+
+      pub cut-puts : done ≡ true → count ≡ clusters_for size (cluster_bytes (view g a).layout)
+          → (t : IsTrue (view g a).told)
+          → PutsGiving (view g a) (view g m) f (can t).named.name (Some (resized size (can t).named.held)) no_gain (gone-behind t).given []
+      cut-puts does many t = (cut-both does many t).0
 
       pub cut-not : done ≡ false → (view g a).layout.cluster_sectors ≤ 8 → size ≤ 2 ^ 40 → (t : IsTrue (view g a).told)
           → size ≤ (can t).extent.sizes.real → ⊥

@@ -35,7 +35,7 @@ use Rattle.sparse_io.specs.declared.find.FoundStream.{FoundStream}
 use Rattle.tree_edit.specs.Below.{IsInitialized}
 use Rattle.tree_model.specs.Streams.{resized}
 use Rattle.tree_edit.proofs.Below.{at-among, node-file}
-use Rattle.value_edits.specs.ValueEdits.{IsStreamOf, PutsGiving}
+use Rattle.value_edits.specs.ValueEdits.{EndsBy, IsStreamOf, PutsGiving, no_gain}
 use Rattle.value_edits.proofs.EditedRecord.{ready-sound}
 use Rattle.value_edits.proofs.CutCalls.{cut-given}
 use Rattle.value_edits.proofs.ExtentCalls.{removed-given}
@@ -112,7 +112,7 @@ module _ (old : VolumeView) (found : FoundStream) (f : ℕ) (can : CanGive old f
       (owned-once old f can.part c among)
 
   -- all its parts stand in its base record
-  alone : (n : ℕ) → IsRecordOf old f n → n ≡ f
+  pub alone : (n : ℕ) → IsRecordOf old f n → n ≡ f
   alone n is =
       let own = some-value (record_on old n) (λ r. file_of n r ≡ f) is.belongs in
       let right = listed (record_on old f) (node-file old f can.named.can.node can.named.can.can.there)
@@ -133,7 +133,7 @@ module _ (old : VolumeView) (found : FoundStream) (f : ℕ) (can : CanGive old f
   part-kind = eqb-true can.part.kind DATA (and_parts (can.part.kind == DATA) (bytes_eq can.part.name can.named.name) itself).0
 
   -- a part that is it is a stream of its name
-  is-stream : (n : ℕ) (was : Attribute) → part_of n was ≡ can.part → IsStreamOf can.named.name was
+  pub is-stream : (n : ℕ) (was : Attribute) → part_of n was ≡ can.part → IsStreamOf can.named.name was
   is-stream n was is = record {
     kind = ap (λ (p : Part). p.kind) is ∙ part-kind;
     name_is = ap (λ (p : Part). p.name) is ∙ (bytes_eq-Decides can.part.name can.named.name).0
@@ -143,9 +143,10 @@ module _ (old : VolumeView) (found : FoundStream) (f : ℕ) (can : CanGive old f
   module _ (mid new : VolumeView) (given : List Run) (gives : GivesBack old mid given) (owned : AreOwned old given) where
     -- it went
     pub extent-gone : clusters_of given ≡ clusters_of can.runs → RemovesPart mid new f can.part
-        → PutsGiving old new f can.named.name None given
+        → PutsGiving old new f can.named.name None no_gain given []
     extent-gone all r =
-        subst (λ n. (e : RemovesAttribute mid new n r.i) → part_of n e.was ≡ can.part → PutsGiving old new f can.named.name None given)
+        subst (λ n. (e : RemovesAttribute mid new n r.i) → part_of n e.was ≡ can.part
+        → PutsGiving old new f can.named.name None no_gain given [])
         (sym (alone r.n (own-back old mid f can.named.can given gives owned r.n r.own)))
         (λ e is. removed-given old mid new f r.i can.named.can.node can.named.name given gives e can.named.can.can can.one
         (is-stream f e.was is) (can.alone ∙ ap (λ (p : Part). p ∷ []) (sym is))
@@ -153,12 +154,13 @@ module _ (old : VolumeView) (found : FoundStream) (f : ℕ) (can : CanGive old f
         ∙ ap (λ (runs : List Run). times_covered runs c) (sym (ap part_runs is ∙ part-runs))))
         r.removes r.is
 
-    -- it was cut
+    -- it was cut, and no cluster of it lies behind its end
     pub extent-shorter : (size : ℕ) → clusters_of given ≡ drop (clusters_for size (cluster_bytes old.layout)) (clusters_of can.runs)
-        → CutsPart mid new f can.part size → PutsGiving old new f can.named.name (Some (resized size can.named.held)) given
+        → CutsPart mid new f can.part size
+        → PutsGiving old new f can.named.name (Some (resized size can.named.held)) no_gain given [] × EndsBy new f can.named.name size
     extent-shorter size all r =
         subst (λ n. (e : CutsExtent mid new n r.i size) → part_of n e.was ≡ can.part
-        → PutsGiving old new f can.named.name (Some (resized size can.named.held)) given)
+        → PutsGiving old new f can.named.name (Some (resized size can.named.held)) no_gain given [] × EndsBy new f can.named.name size)
         (sym (alone r.n (own-back old mid f can.named.can given gives owned r.n r.own)))
         (λ e is. cut-given old mid new f r.i size can.named.can.node can.named.asked can.named.name can.named.held given gives e
         can.named.can.can can.named.finds can.one (is-stream f e.was is) (can.alone ∙ ap (λ (p : Part). p ∷ []) (sym is))

@@ -1,11 +1,13 @@
--- WHERE SECTORS ARE STAGED by an edit that gives nothing back.
-use Rattle.std.proofs.Common.{◌+◌, ◌*◌, ℕ, inl, inr, length, arith}
+-- WHERE SECTORS ARE STAGED by an edit that gives nothing back and takes nothing.
+use Rattle.std.proofs.Common.{◌+◌, ◌*◌, ◌/◌, ◌≤◌, ℕ, List, inl, inr, length, arith}
 use Rattle.vol_disk.specs.declared.Disk.{Ghosts}
 use Rattle.volume_def.specs.FileNames.{names_of}
 use Rattle.volume_def.specs.Files.{records_of}
+use Rattle.volume_def.specs.Values.{pieces_touched}
 use Rattle.volume_def.specs.View.{VolumeView}
 use Rattle.mft_table.specs.declared.mft.Mft.{Mft}
 use Rattle.mft_table.specs.Mft.{view}
+use Rattle.tree_edit.specs.Over.{StagesOver}
 use Rattle.tree_edit.specs.Staged.{IsOfEdit, StagesFew}
 use Rattle.tree_edit.specs.Values.{StagesValue}
 use Rattle.stream_changes.specs.Staged.{StagesGiving}
@@ -16,15 +18,32 @@ pub gives-none : {D : Type 0} (g : Ghosts D) (most f : ℕ) (before : VolumeView
 gives-none g most f before old new x = record {
   given = 0;
   freed = omega arith;
+  taken = 0;
+  owned = omega arith;
   stages = record {
     few = let few = x.few in omega (arith, few);
-    only = λ sector has. elim (x.only sector has) [ inl was ↦ inl was | inr is ↦ inr (inr is) ];
+    only = λ sector has. elim (x.only sector has) [ inl was ↦ inl was | inr is ↦ inr (inr (inr is)) ];
   };
 }
 
 -- as one of a value
-pub gives-value : {D : Type 0} (g : Ghosts D) (f : ℕ) (old new : Mft D g) → StagesValue g f (names_of (records_of (view g old)) f) old new
-    → StagesGiving g 8 f (view g old) old new
-gives-value g f old new x =
-    gives-none g 8 f (view g old) old new
-    (record { few = x.few; only = λ sector has. elim (x.only sector has) [ inl was ↦ inl was | inr is ↦ inr (inr is) ] })
+pub gives-value : {D : Type 0} (g : Ghosts D) (most f : ℕ) (old new : Mft D g) → 8 ≤ most
+    → StagesValue g f (names_of (records_of (view g old)) f) old new → StagesGiving g most f (view g old) old new
+gives-value g most f old new room x =
+    gives-none g most f (view g old) old new (record {
+      few = let few = x.few in omega (arith, few, room);
+      only = λ sector has. elim (x.only sector has) [ inl was ↦ inl was | inr is ↦ inr (inr is) ];
+    })
+
+-- .. or of bytes that go over bytes
+pub gives-over : {D : Type 0} (g : Ghosts D) (f : ℕ) (old new : Mft D g) (name : List ℕ) (at len : ℕ)
+    → StagesOver g f name at len (names_of (records_of (view g old)) f) old new → StagesGiving g (10 + len / 512) f (view g old) old new
+gives-over g f old new name at len x =
+    gives-none g (10 + len / 512) f (view g old) old new (record {
+      few = let few = x.few in omega (arith, few);
+      only = λ sector has. elim (x.only sector has) [
+        | inl was ↦ inl was
+        | inr (inl stream) ↦ inr (inl (name, at, 512 * pieces_touched at len, stream))
+        | inr (inr is) ↦ inr (inr is)
+      ];
+    })

@@ -5,10 +5,18 @@ mod Changed
 pub mod ValueChanged
 pub mod ResizableRoom
 mod CutPart
+mod ExtendedPart
 mod ExtentLaws
 mod ExtentCovers
 mod ExtentDone
+mod OwnRuns
+mod ReachLaws
+mod RunsReached
+mod BehindVolume
+mod Lengthened
+mod Reached
 mod WaysFound
 mod WaysDone
+mod WaysWritten
 mod ExtentChanged
 pub mod Below

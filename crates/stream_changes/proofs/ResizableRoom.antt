@@ -64,7 +64,8 @@ module _ (view : VolumeView) (found : Writable) (name : List ℕ) (size : ℕ) (
   value-some =
       let dropped = (and_parts (can_drop view name f) _ is.over).0 in
       let punched = (and_parts (can_punch view name f) (has_no_list view f) dropped).0 in
-      sym (ap (λ (o : Option (List ℕ)). is_some o) value-is) ∙ (and_parts (not (cannot_edit (is_whole_table view) (read view) f)) _ punched).1
+      sym (ap (λ (o : Option (List ℕ)). is_some o) value-is)
+      ∙ (and_parts (not (cannot_edit (is_whole_table view) (read view) f)) _ punched).1
 
   -- .. and has as many bytes as was found
   value-long : stream_value_len there ≡ found.stream.size

@@ -1,6 +1,6 @@
 -- A VALUE THAT IS CHANGED, OR GOES, and then the attributes of its file are set: over what the calls leave of the table in use.
 use Rattle.std.proofs.Common.{◌≡◌, ◌==◌, ◌+◌, ◌*◌, ℕ, Bool, true, false, List, [], length, Option, Some, None, refl, sym, ap, subst, inl, inr, ◌∙◌, arith}
-use Rattle.std.specs.Prelude.{◌⊎◌, IsSome, IsSomeAnd, IsTrue, IfSome, slice_get}
+use Rattle.std.specs.Prelude.{◌⊎◌, IsSome, IsSomeAnd, IsTrue, IfSome, slice_get, sum_by}
 use Rattle.std.specs.List.{list_any}
 use Rattle.std.specs.Str.{bytes_eq}
 use Rattle.std.proofs.lemmas.Bool.{and_parts, eqb-true, not-true}
@@ -10,12 +10,14 @@ use Rattle.list_laws.proofs.OptionLaws.{some-value}
 use Rattle.vol_disk.specs.declared.Disk.{Ghosts}
 use Rattle.ntfs_def.specs.Attribute.{Attribute}
 use Rattle.ntfs_def.specs.declared.kinds.TheConstants.{DATA}
+use Rattle.ntfs_def.specs.declared.run_text.Run.{Run}
 use Rattle.volume_def.specs.Coverage.{IsApart}
 use Rattle.volume_def.specs.FileNames.{names_of}
-use Rattle.volume_def.specs.Files.{Part, Record, content_value, file_of, is_base, part_of, parts, record_on, records_of}
+use Rattle.volume_def.specs.Files.{Part, Record, content_value, file_of, is_base, part_of, parts, parts_at, record_on, records_of}
 use Rattle.volume_def.specs.ListsClause.{HasRightList, is_list}
 use Rattle.volume_def.specs.Readable.{IsFile, WhereReadable}
 use Rattle.volume_def.specs.Sound as clauses
+use Rattle.volume_def.specs.Table.{cluster_bytes}
 use Rattle.volume_def.specs.View.{VolumeView}
 use Rattle.volume_def.proofs.PartLaws.{record_at-block}
 use Rattle.volume_def.proofs.SoundLaws.{readable-sound}
@@ -24,13 +26,16 @@ use Rattle.mft_table.specs.InUse.{IsInUse}
 use Rattle.mft_table.specs.Mft.{KeepsDisk, view}
 use Rattle.file_record.specs.Attributes.{ChangesValue, RemovesAttribute}
 use Rattle.file_record.specs.Records.{IsRecordOf}
-use Rattle.record_edits.specs.Given.{GivesBack}
 use Rattle.tree_edit.specs.Below.{IsInitialized, SetsAttributes, StagesRecordOf, number_of}
+use Rattle.edit_def.specs.Purses.{run_size}
+use Rattle.tree_model.specs.StreamRoom.{new_clusters, touches}
+use Rattle.tree_model.specs.Streams.{resized, written}
 use Rattle.tree_model.specs.Ways.{has_no_list}
 use Rattle.tree_edit.proofs.Below.{node-file}
 use Rattle.sparse_io.specs.declared.find.FoundStream.{FoundStream}
 use Rattle.value_edits.proofs.Below.{body-value, may-edit}
-use Rattle.value_edits.specs.ValueEdits.{IsStreamValue, PutsGiving, PutsStream}
+use Rattle.value_edits.specs.ValueEdits.{ComesInPlace, EndsBy, IsStreamValue, PutsBytes, PutsGiving, PutsStream, ResizesStream, no_gain}
+use Rattle.value_edits.proofs.GivenBack.{nothing-given, nothing-taken}
 use Rattle.value_edits.proofs.ValueCalls as calls
 use Rattle.tree_edit.specs.Alone.{IsDroppable, IsResizable, can_drop}
 use Rattle.tree_edit.specs.Change.{CanChange, ChangesPart, ChangesWhereFits, FitsPart, RemovesPart, has_room_for}
@@ -40,7 +45,7 @@ use Rattle.tree_edit.specs.Staged.{IsOfFile, IsOfNames, StagesAttributes}
 use Rattle.tree_edit.specs.Values.{IsOfValue, StagesValue}
 use Rattle.tree_edit.specs.declared.writable.Writable.{Writable}
 use Rattle.stream_changes.specs.Streams.{FindsNamed}
-use Rattle.stream_changes.proofs.Changed as changed
+use Rattle.stream_changes.proofs.Changed as edited
 use Rattle.tree_edit.proofs.LinkLaws.{initialized}
 use Rattle.tree_edit.proofs.PunchLaws.{punchable-can}
 use Rattle.tree_edit.proofs.StagedLaws.{few-more, few-standard}
@@ -117,31 +122,78 @@ module _ (old : VolumeView) (found : FoundStream) (f : ℕ) (can : CanChange old
       (ap (λ (had : ℕ). has_room_for old f had size) (sym can.value.size) ∙ room))
 
   pub change-puts : (new : VolumeView) (change : List ℕ → List ℕ) → ChangesPart old new f can.value.part change
-      → PutsGiving old new f can.value.name (Some (change can.value.held)) []
+      → PutsGiving old new f can.value.name (Some (change can.value.held)) no_gain [] []
   change-puts new change r =
       let c = can.value in
       subst (λ n. (e : ChangesValue old new n r.i change) → IsStreamValue c.name e.was
-      → PutsGiving old new f c.name (Some (change c.held)) []) (sym (alone r.n r.own))
+      → PutsGiving old new f c.name (Some (change c.held)) no_gain [] []) (sym (alone r.n r.own))
       (λ e is. calls.changed-put old new f r.i change c.can.node c.asked c.name c.held e c.can.can c.finds can.one is)
       r.changes (is-stream r.n r.changes.was r.is)
 
-  pub drop-puts : (new : VolumeView) → RemovesPart old new f can.value.part → PutsGiving old new f can.value.name None []
+  -- it lies in no cluster then
+  pub change-ends : (new : VolumeView) (change : List ℕ → List ℕ) (size : ℕ) → ChangesPart old new f can.value.part change
+      → EndsBy new f can.value.name size
+  change-ends new change size r =
+      let c = can.value in
+      subst (λ n. (e : ChangesValue old new n r.i change) → IsStreamValue c.name e.was → EndsBy new f c.name size) (sym (alone r.n r.own))
+      (λ e is. calls.changed-nowhere old new f r.i change c.can.node c.name size e c.can.can can.one is)
+      r.changes (is-stream r.n r.changes.was r.is)
+
+  pub drop-puts : (new : VolumeView) → RemovesPart old new f can.value.part → PutsGiving old new f can.value.name None no_gain [] []
   drop-puts new r =
       let c = can.value in
-      subst (λ n. (e : RemovesAttribute old new n r.i) → IsStreamValue c.name e.was → PutsGiving old new f c.name None [])
+      subst (λ n. (e : RemovesAttribute old new n r.i) → IsStreamValue c.name e.was → PutsGiving old new f c.name None no_gain [] [])
       (sym (alone r.n r.own))
       (λ e is. calls.removed-put old new f r.i c.can.node c.name e c.can.can can.one is)
       r.removes (is-stream r.n r.removes.was r.is)
 
--- OVER WHAT THE CALLS LEAVE of the table in use: a value lies in no cluster, and none is given back.
-gives-nothing : (view : VolumeView) → GivesBack view view []
-gives-nothing view = record {
-  writes = record { told = refl; layout = refl; blocks = λ n. refl; copies = λ m low. refl; rest = λ k. refl; clusters = λ c owned free. refl };
-  given = λ c some. absurd (omega (arith, some));
-  others = λ c none. refl;
-  records = refl;
+-- IT MAY GAIN any clusters, where it gains none.
+gains-any : (view : VolumeView) (f more : ℕ) (gains : ℕ → Bool) (was : Attribute) (now : Option Attribute)
+    → IfSome now (ComesInPlace view f no_gain more was) → IfSome now (ComesInPlace view f gains more was)
+gains-any view f more gains was None comes = comes
+gains-any view f more gains was (Some a) comes = record {
+  kind = comes.kind;
+  name = comes.name;
+  form = comes.form;
+  limits = comes.limits;
+  whole = comes.whole;
+  size = comes.size;
+  spots = λ vcn is. elim (comes.spots vcn is) [ inl had ↦ inl had | inr never ↦ cc ];
+  holes = comes.holes;
+  keeps = comes.keeps;
 }
 
+pub put-gaining : (old new : VolumeView) (f : ℕ) (name : List ℕ) (bytes : Option (List ℕ)) (gains : ℕ → Bool) (given taken : List Run)
+    → PutsGiving old new f name bytes no_gain given taken → PutsGiving old new f name bytes gains given taken
+put-gaining old new f name bytes gains given taken p =
+    let e = p.puts.edits in
+    record {
+      puts = record {
+        edits = record {
+          one = e.one;
+          kind = e.kind;
+          was = e.was;
+          now = e.now;
+          was_of = e.was_of;
+          stood = e.stood;
+          given = e.given;
+          taken = e.taken;
+          mid = e.mid;
+          prepares = e.prepares;
+          comes = gains-any old f (sum_by run_size e.taken) gains e.was e.now e.comes;
+          balance = e.balance;
+          stored = e.stored;
+          block = e.block;
+          header = e.header;
+          right = e.right;
+        };
+        shows = p.puts.shows;
+      };
+      given_are = p.given_are;
+      taken_are = p.taken_are;
+    }
+
+-- OVER WHAT THE CALLS LEAVE of the table in use: a value lies in no cluster, and none is given back, or taken.
 pub named-value : (view : VolumeView) (found : FoundStream) (f : ℕ) → CanChange view found f → FindsNamed view f
 named-value view found f can = record {
   can = can.value.can;
@@ -154,26 +206,29 @@ named-value view found f can = record {
 module _ {D : Type 0} (g : Ghosts D) (found : FoundStream) (f : ℕ) (bytes : List ℕ → Option (List ℕ)) (a m : Mft D g) (volume : IsInUse g a)
     (disk : KeepsDisk g a m) (can : IsTrue (view g a).told → CanChange (view g a) found f)
     (puts : IsTrue (view g a).told → (c : CanChange (view g a) found f)
-    → PutsGiving (view g a) (view g m) f c.value.name (bytes c.value.held) []) where
+    → PutsGiving (view g a) (view g m) f c.value.name (bytes c.value.held) no_gain [] []) where
   abbrev named : IsTrue (view g a).told → FindsNamed (view g a) f
   named t = named-value (view g a) found f (can t)
 
-  so : (t : IsTrue (view g a).told) → PutsGiving (view g a) (view g m) f (named t).name (bytes (named t).held) []
+  so : (t : IsTrue (view g a).told) → PutsGiving (view g a) (view g m) f (named t).name (bytes (named t).held) no_gain [] []
   unfolding named-value
   so t = puts t (can t)
 
   pub in-use : IsInUse g m
-  in-use = changed.in-use g f a a m named bytes (λ t. []) (λ t. gives-nothing (view g a)) (λ t. (volume t).stored) disk.mounted
-      disk.goes_on.told_image so
+  in-use = edited.in-use g f a a m named bytes no_gain (λ t. []) (λ t. []) (λ t. view g a) (λ t. nothing-given (view g a))
+      (λ t. nothing-taken (view g a)) (λ t. (volume t).stored) disk.mounted disk.goes_on.told_image so
 
   pub can-write : IsTrue (view g m).told → CanWriteFile (view g m) f
-  can-write = changed.can-write g f a a m named bytes (λ t. []) (λ t. gives-nothing (view g a)) (λ t. (volume t).stored) disk.mounted
-      disk.goes_on.told_image so
+  can-write = edited.can-write g f a a m named bytes no_gain (λ t. []) (λ t. []) (λ t. view g a) (λ t. nothing-given (view g a))
+      (λ t. nothing-taken (view g a)) (λ t. (volume t).stored) disk.mounted disk.goes_on.told_image so
 
   pub put-then : (times : List ℕ) (flags : ℕ) (b : Mft D g) → (IsTrue (view g m).told → SetsAttributes (view g m) (view g b) f times flags)
       → IsTrue (view g a).told → (c : CanChange (view g a) found f)
-      → PutsStream (view g a) (view g b) f c.value.name (bytes c.value.held) times flags
-  put-then times flags b sets t c = record { mid = view g m; puts = (puts t c).0; sets = sets (disk.goes_on.told_image ∙ t) }
+      → PutsStream (view g a) (view g b) f c.value.name (bytes c.value.held) no_gain 0 times flags
+  put-then times flags b sets t c =
+      edited.put-of (view g a) (view g m) (view g b) f c.value.name (bytes c.value.held) no_gain [] [] 0 times flags (puts t c)
+      (omega arith)
+      (sets (disk.goes_on.told_image ∙ t))
 
   pub staged-then : (b : Mft D g) → StagesRecordOf g f a m
       → (IsTrue (view g m).told → StagesAttributes g f (names_of (records_of (view g m)) f) m b)
@@ -183,8 +238,9 @@ module _ {D : Type 0} (g : Ghosts D) (found : FoundStream) (f : ℕ) (bytes : Li
       let all = names_of (records_of old) f in
       few-more g (4 + (4 + 12 * length all)) (8 + 12 * length all) (IsOfValue old f all)
       (λ s. IsOfFile old f s ⊎ (IsOfFile old f s ⊎ IsOfNames old all s)) a b
-      (changed.staged-then g f a a m named bytes (λ t. []) (λ t. gives-nothing old) (λ t. (volume t).stored) disk.mounted
-      disk.goes_on.told_image so b 4 (IsOfFile old f) (few-standard g f a m first t) later t) (omega arith)
+      (edited.staged-then g f a a m named bytes no_gain (λ t. []) (λ t. []) (λ t. old) (λ t. nothing-given old) (λ t. nothing-taken old)
+      (λ t. (volume t).stored) disk.mounted disk.goes_on.told_image so b 4 (IsOfFile old f) (few-standard g f a m first t) later t)
+      (omega arith)
       (λ s of. elim of [ inl own ↦ inl own | inr other ↦ other ])
 
 -- what the call on a record stages is within what is due
@@ -209,10 +265,14 @@ module _ {D : Type 0} (g : Ghosts D) (found : FoundStream) (f : ℕ) (a m : Mft 
       (changed : WhereReadable (view g a) (IsFile (view g a) f → IsApart (view g a).layout → IsInitialized (view g a) f
       → (part : Part) → slice_get (parts (records_of (view g a)) f) found.part ≡ Some part
       → ChangesWhereFits fits (view g a) (view g m) f part size change)) where
-    pub change-first : fits ≡ true → PutsGiving (view g a) (view g m) f c.value.name (Some (change c.value.held)) []
-    change-first does =
-        change-puts (view g a) found f c (view g m) change
-        (subst (λ b. ChangesWhereFits b (view g a) (view g m) f c.value.part size change) does (of-part changed))
+    fits-so : fits ≡ true → ChangesPart (view g a) (view g m) f c.value.part change
+    fits-so does = subst (λ b. ChangesWhereFits b (view g a) (view g m) f c.value.part size change) does (of-part changed)
+
+    pub change-first : fits ≡ true → PutsGiving (view g a) (view g m) f c.value.name (Some (change c.value.held)) no_gain [] []
+    change-first does = change-puts (view g a) found f c (view g m) change (fits-so does)
+
+    pub first-ends : fits ≡ true → EndsBy (view g m) f c.value.name size
+    first-ends does = change-ends (view g a) found f c (view g m) change size (fits-so does)
 
     pub change-not : fits ≡ false → has_room_for (view g a) f found.size size ≡ true → ⊥
     change-not not room =
@@ -221,7 +281,7 @@ module _ {D : Type 0} (g : Ghosts D) (found : FoundStream) (f : ℕ) (a m : Mft 
 
   pub drop-first : WhereReadable (view g a) (IsFile (view g a) f → IsApart (view g a).layout → IsInitialized (view g a) f
       → (part : Part) → slice_get (parts (records_of (view g a)) f) found.part ≡ Some part → RemovesPart (view g a) (view g m) f part)
-      → PutsGiving (view g a) (view g m) f c.value.name None []
+      → PutsGiving (view g a) (view g m) f c.value.name None no_gain [] []
   drop-first dropped = drop-puts (view g a) found f c (view g m) (of-part {P = RemovesPart (view g a) (view g m) f} dropped)
 
 -- A CHANGE that was made, and then the attributes are set
@@ -234,7 +294,7 @@ module _ {D : Type 0} (g : Ghosts D) (found : FoundStream) (f size : ℕ) (chang
   by held = Some (change held)
 
   puts : IsTrue (view g a).told → (c : CanChange (view g a) found f)
-      → PutsGiving (view g a) (view g m) f c.value.name (Some (change c.value.held)) []
+      → PutsGiving (view g a) (view g m) f c.value.name (Some (change c.value.held)) no_gain [] []
   puts t c = change-first g found f a m t c fits size change changed does
 
   pub changed-in-use : IsInUse g m
@@ -243,11 +303,30 @@ module _ {D : Type 0} (g : Ghosts D) (found : FoundStream) (f size : ℕ) (chang
   pub changed-can-write : IsTrue (view g m).told → CanWriteFile (view g m) f
   changed-can-write = can-write g found f by a m volume disk can puts
 
-  pub changed-put : (times : List ℕ) (flags : ℕ) (b : Mft D g)
+  -- it has so many bytes then
+  pub changed-resized : (times : List ℕ) (flags : ℕ) (b : Mft D g)
       → (IsTrue (view g m).told → SetsAttributes (view g m) (view g b) f times flags)
-      → IsTrue (view g a).told → (c : CanChange (view g a) found f)
-      → PutsStream (view g a) (view g b) f c.value.name (Some (change c.value.held)) times flags
-  changed-put = put-then g found f by a m volume disk can puts
+      → IsTrue (view g a).told → (c : CanChange (view g a) found f) → change c.value.held ≡ resized size c.value.held
+      → ResizesStream (view g a) (view g b) f c.value.name size c.value.held times flags
+  changed-resized times flags b sets t c is =
+      edited.resized-of (view g a) (view g m) (view g b) f c.value.name size c.value.held [] times flags (
+        subst (λ (bytes : List ℕ). PutsGiving (view g a) (view g m) f c.value.name (Some bytes) no_gain [] []) is (puts t c),
+        first-ends g found f a m t c fits size change changed does,
+      ) (sets (disk.goes_on.told_image ∙ t))
+
+  -- .. or these were written into it
+  pub changed-written : (at : ℕ) (bytes times : List ℕ) (flags : ℕ) (b : Mft D g)
+      → (IsTrue (view g m).told → SetsAttributes (view g m) (view g b) f times flags)
+      → IsTrue (view g a).told → (c : CanChange (view g a) found f) → change c.value.held ≡ written at bytes c.value.held
+      → PutsBytes (view g a) (view g b) f c.value.name at bytes c.value.held times flags
+  changed-written at bytes times flags b sets t c is =
+      let cluster = cluster_bytes (view g a).layout in
+      let gains : ℕ → Bool = touches cluster at (length bytes) in
+      edited.put-of (view g a) (view g m) (view g b) f c.value.name (Some (written at bytes c.value.held)) gains [] []
+      (new_clusters cluster (parts_at (view g a) f DATA c.value.name) at (length bytes)) times flags
+      (put-gaining (view g a) (view g m) f c.value.name (Some (written at bytes c.value.held)) gains [] []
+      (subst (λ (bytes : List ℕ). PutsGiving (view g a) (view g m) f c.value.name (Some bytes) no_gain [] []) is (puts t c)))
+      (omega arith) (sets (disk.goes_on.told_image ∙ t))
 
   pub changed-staged : (b : Mft D g) → StagesRecordOf g f a m
       → (IsTrue (view g m).told → StagesAttributes g f (names_of (records_of (view g m)) f) m b)

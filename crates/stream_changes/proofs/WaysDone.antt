@@ -1,26 +1,32 @@
 -- A STREAM THAT GOES, OR HAS ANOTHER LENGTH, is what the call does by its way, with the stream that was found.
-use Rattle.std.proofs.Common.{◌≡◌, ◌≤◌, ℕ, true, List, Some, None, sym, ap, subst, ◌∙◌}
+use Rattle.std.proofs.Common.{◌≡◌, ◌≤◌, ◌<◌, ◌||◌, ℕ, Bool, false, true, List, None, refl, sym, ap, subst, ◌∙◌, arith}
 use Rattle.std.specs.Prelude.{nat_le}
-use Rattle.std.proofs.lemmas.Bool.{and_parts, leb-true}
+use Rattle.std.proofs.lemmas.Bool.{and_parts, eqb-true, leb-true}
+use Rattle.ntfs_def.specs.Attribute.{ExtentHeader}
+use Rattle.ntfs_def.specs.Rounded.{clusters_for}
+use Rattle.ntfs_def.specs.declared.run_text.Run.{Run}
+use Rattle.volume_def.specs.Files.{Part, all_covered}
+use Rattle.volume_def.specs.Table.{cluster_bytes}
 use Rattle.volume_def.specs.View.{VolumeView}
 use Rattle.tree_model.specs.Reading.{read}
-use Rattle.tree_model.specs.Streams.{resized}
+use Rattle.tree_model.specs.StreamRoom.{stream_parts}
 use Rattle.tree_model.specs.Subjects.{content_named}
 use Rattle.tree_model.specs.Tree.{node_of}
-use Rattle.tree_model.specs.Ways.{gets_no_longer, has_placed_bits}
-use Rattle.value_edits.specs.ValueEdits.{PutsStream}
+use Rattle.tree_model.specs.Ways.{ends_in_last, gets_no_longer, has_placed_bits}
+use Rattle.value_edits.specs.ValueEdits.{PutsStream, ResizesStream, no_gain}
 use Rattle.tree_edit.specs.Below.{number_of}
-use Rattle.tree_edit.specs.Alone.{IsDroppable, IsResizable, IsToDrop, IsToResize, can_cut, can_get, can_give, can_go}
+use Rattle.tree_edit.specs.Alone.{IsDroppable, IsResizable, IsToDrop, IsToResize, can_end, can_get, can_give, can_go}
 use Rattle.tree_edit.specs.Change.{CanChange, has_room_for}
+use Rattle.tree_edit.specs.Writable.{named_in}
 use Rattle.tree_edit.specs.declared.writable.Way.{Way}
 use Rattle.tree_edit.specs.declared.writable.Way.TheVariants as way
 use Rattle.tree_edit.specs.declared.writable.Writable.{Writable}
 use Rattle.tree_edit.proofs.PunchLaws.{punchable-can}
 use Rattle.tree_edit.proofs.StreamToWrite.{content-is}
-use Rattle.stream_changes.specs.Streams.{CanGive}
+use Rattle.stream_changes.specs.Streams.{CanGive, EndsInLast}
 use Rattle.stream_changes.proofs.ResizableRoom.{resizable-room}
 use Rattle.stream_changes.proofs.ValueChanged.{droppable-can, resizable-can}
-use Rattle.stream_changes.proofs.WaysFound.{extent-can, found-size}
+use Rattle.stream_changes.proofs.WaysFound.{covered, extent-can, found-size, give-same}
 
 -- IT GOES
 module _ (v new : VolumeView) (found : Writable) (number : ℕ) (is : number ≡ number_of found.held) where
@@ -59,19 +65,20 @@ module _ (v new : VolumeView) (found : Writable) (number : ℕ) (is : number ≡
 
   module _ (times : List ℕ) where
     pub go-value-puts : found.way ≡ way.InRecord → (name : List ℕ) (can : IsToDrop v found name)
-        → ((c : CanChange v found.stream number) → PutsStream v new number c.value.name None times found.flags)
-        → PutsStream v new (number_of found.held) can.stream.is.part.name None times found.flags
+        → ((c : CanChange v found.stream number) → PutsStream v new number c.value.name None no_gain 0 times found.flags)
+        → PutsStream v new (number_of found.held) can.stream.is.part.name None no_gain 0 times found.flags
     unfolding punchable-can droppable-can goes-value
     go-value-puts so name can does =
-        subst (λ k. (c : CanChange v found.stream k) → PutsStream v new k c.value.name None times found.flags) is does
+        subst (λ k. (c : CanChange v found.stream k) → PutsStream v new k c.value.name None no_gain 0 times found.flags) is does
         (droppable-can v found name (goes-value so name can))
 
     pub go-extent-puts : found.way ≡ way.InClusters → (name : List ℕ) (can : IsToDrop v found name)
-        → ((c : CanGive v found.stream number) → PutsStream v new number c.named.name None times found.flags)
-        → PutsStream v new (number_of found.held) can.stream.is.part.name None times found.flags
+        → ((c : CanGive v found.stream number) → PutsStream v new number c.named.name None no_gain 0 times found.flags)
+        → PutsStream v new (number_of found.held) can.stream.is.part.name None no_gain 0 times found.flags
     unfolding extent-can go-extent
     go-extent-puts so name can does =
-        subst (λ k. (c : CanGive v found.stream k) → PutsStream v new k c.named.name None times found.flags) is does (go-extent so name can)
+        subst (λ k. (c : CanGive v found.stream k) → PutsStream v new k c.named.name None no_gain 0 times found.flags) is does
+        (go-extent so name can)
 
 -- IT HAS ANOTHER LENGTH
 module _ (v new : VolumeView) (found : Writable) (number : ℕ) (is : number ≡ number_of found.held) (size : ℕ) where
@@ -104,53 +111,95 @@ module _ (v new : VolumeView) (found : Writable) (number : ℕ) (is : number ≡
       subst (λ k. has_room_for v k found.stream.size size ≡ true) (sym is) (resizable-room v found name size (gets-value so name can))
 
   module _ (so : found.way ≡ way.InClusters) (name : List ℕ) (can : IsToResize v found name size) where
-    cut-both : (can_cut v name size file ≡ true) × (has_placed_bits v ≡ true)
-    cut-both = and_parts (can_cut v name size file) (has_placed_bits v) (get-by name can way.InClusters so)
+    abbrev there : List Part
+    there = stream_parts v (read v) (named_in (read v) name file)
 
-    give-both : (can_give v name file ≡ true) × (gets_no_longer size (content_named (read v) name (node_of (read v) file)) ≡ true)
-    give-both = and_parts (can_give v name file) _ cut-both.0
+    end-both : (can_end v name size file ≡ true) × (has_placed_bits v ≡ true)
+    end-both = and_parts (can_end v name size file) (has_placed_bits v) (get-by name can way.InClusters so)
+
+    give-both : (can_give v name file ≡ true)
+        × ((gets_no_longer size (content_named (read v) name (node_of (read v) file)) || ends_in_last (cluster_bytes v.layout) there size)
+        ≡ true)
+    give-both = and_parts (can_give v name file) _ end-both.0
 
     get-extent : CanGive v found.stream file
-    get-extent = extent-can v found name (λ k. can_get v name size found.way k) can give-both.0 cut-both.1
+    get-extent = extent-can v found name (λ k. can_get v name size found.way k) can give-both.0 end-both.1
 
     pub get-extent-can : CanGive v found.stream number
     get-extent-can = subst (λ k. CanGive v found.stream k) (sym is) get-extent
 
-    shorter : size ≤ found.stream.size
-    shorter =
-        leb-true size found.stream.size
-        (ap (nat_le size) can.stream.is.size
-        ∙ sym (ap (gets_no_longer size) (content-is v found.held can.held name found.stream can.stream.is)) ∙ give-both.1)
-
-  module _ (so : found.way ≡ way.InClusters) (name : List ℕ) (can : IsToResize v found name size) where
-    get-long : size ≤ (get-extent so name can).extent.sizes.real
+    -- it has as many bytes as was found
+    long : found.stream.size ≡ get-extent.extent.sizes.real
     unfolding extent-can get-extent
-    get-long =
-        subst (λ n. size ≤ n)
-        (found-size v found name (λ k. can_get v name size found.way k) can (give-both so name can).0 (cut-both so name can).1)
-        (shorter so name can)
+    long = found-size v found name (λ k. can_get v name size found.way k) can give-both.0 end-both.1
 
-    pub get-extent-long : {P : Type 0} → ((c : CanGive v found.stream number) → size ≤ c.extent.sizes.real → P) → P
-    get-extent-long {P} does =
-        subst (λ k. (c : CanGive v found.stream k) → size ≤ c.extent.sizes.real → P) is does (get-extent so name can) get-long
+    shorter : size ≤ found.stream.size → size ≤ get-extent.extent.sizes.real
+    shorter less = subst (λ n. size ≤ n) long less
+
+    -- where it gets longer it ends in its last cluster
+    in-last : found.stream.size < size → ends_in_last (cluster_bytes v.layout) there size ≡ true
+    in-last more = by (nat_le size found.stream.size) refl (
+        sym (ap (λ b. b || ends_in_last (cluster_bytes v.layout) there size)
+        (ap (gets_no_longer size) (content-is v found.held can.held name found.stream can.stream.is)
+        ∙ ap (nat_le size) (sym can.stream.is.size))) ∙ give-both.1)
+      where
+        by : (b : Bool) → nat_le size found.stream.size ≡ b → (b || ends_in_last (cluster_bytes v.layout) there size) ≡ true
+            → ends_in_last (cluster_bytes v.layout) there size ≡ true
+        by true e either = let less = leb-true size found.stream.size e in absurd (omega (arith, more, less))
+        by false e either = either
+
+    ends : found.stream.size < size → EndsInLast v size get-extent.extent get-extent.runs
+    unfolding extent-can get-extent
+    ends more = record {
+      more = subst (λ n. n ≤ size) long (omega (arith, more));
+      last = eqb-true (clusters_for size (cluster_bytes v.layout)) (all_covered there) (in-last more)
+          ∙ covered v found name (λ k. can_get v name size found.way k) can give-both.0 end-both.1;
+    }
+
+    -- whichever way it is told that it can give them back
+    pub get-extent-ends : found.stream.size < size → (c : CanGive v found.stream number) → EndsInLast v size c.extent c.runs
+    get-extent-ends more = subst (λ k. (c : CanGive v found.stream k) → EndsInLast v size c.extent c.runs) (sym is) (λ c.
+        let same = give-same v found.stream file get-extent c in
+        subst (λ (e : ExtentHeader). EndsInLast v size e c.runs) same.0
+        (subst (λ (rs : List Run). EndsInLast v size get-extent.extent rs) same.1 (ends more)))
+
+    pub get-extent-short : {P : Type 0} → size ≤ found.stream.size
+        → ((c : CanGive v found.stream number) → size ≤ c.extent.sizes.real → P) → P
+    get-extent-short {P} less does =
+        subst (λ k. (c : CanGive v found.stream k) → size ≤ c.extent.sizes.real → P) is does get-extent (shorter less)
+
+    pub get-extent-long : {P : Type 0} → found.stream.size < size
+        → ((c : CanGive v found.stream number) → EndsInLast v size c.extent c.runs → P) → P
+    get-extent-long {P} more does =
+        subst (λ k. (c : CanGive v found.stream k) → EndsInLast v size c.extent c.runs → P) is does get-extent (ends more)
 
   module _ (times : List ℕ) where
     pub get-value-puts : found.way ≡ way.InRecord → (name : List ℕ) (can : IsToResize v found name size)
         → ((c : CanChange v found.stream number) → has_room_for v number found.stream.size size ≡ true
-        → PutsStream v new number c.value.name (Some (resized size c.value.held)) times found.flags)
-        → PutsStream v new (number_of found.held) can.stream.is.part.name (Some (resized size can.stream.bytes)) times found.flags
+        → ResizesStream v new number c.value.name size c.value.held times found.flags)
+        → ResizesStream v new (number_of found.held) can.stream.is.part.name size can.stream.bytes times found.flags
     unfolding punchable-can droppable-can resizable-can gets-value
     get-value-puts so name can does =
         subst (λ k. (c : CanChange v found.stream k) → has_room_for v k found.stream.size size ≡ true
-        → PutsStream v new k c.value.name (Some (resized size c.value.held)) times found.flags) is does
+        → ResizesStream v new k c.value.name size c.value.held times found.flags) is does
         (resizable-can v found name size (gets-value so name can)) (resizable-room v found name size (gets-value so name can))
 
-    pub get-extent-puts : found.way ≡ way.InClusters → (name : List ℕ) (can : IsToResize v found name size)
+    pub get-extent-puts : found.way ≡ way.InClusters → (name : List ℕ) (can : IsToResize v found name size) → size ≤ found.stream.size
         → ((c : CanGive v found.stream number) → size ≤ c.extent.sizes.real
-        → PutsStream v new number c.named.name (Some (resized size c.named.held)) times found.flags)
-        → PutsStream v new (number_of found.held) can.stream.is.part.name (Some (resized size can.stream.bytes)) times found.flags
+        → ResizesStream v new number c.named.name size c.named.held times found.flags)
+        → ResizesStream v new (number_of found.held) can.stream.is.part.name size can.stream.bytes times found.flags
     unfolding extent-can get-extent
-    get-extent-puts so name can does =
+    get-extent-puts so name can less does =
         subst (λ k. (c : CanGive v found.stream k) → size ≤ c.extent.sizes.real
-        → PutsStream v new k c.named.name (Some (resized size c.named.held)) times found.flags) is does
-        (get-extent so name can) (get-long so name can)
+        → ResizesStream v new k c.named.name size c.named.held times found.flags) is does
+        (get-extent so name can) (shorter so name can less)
+
+    pub get-longer-puts : found.way ≡ way.InClusters → (name : List ℕ) (can : IsToResize v found name size) → found.stream.size < size
+        → ((c : CanGive v found.stream number) → EndsInLast v size c.extent c.runs
+        → ResizesStream v new number c.named.name size c.named.held times found.flags)
+        → ResizesStream v new (number_of found.held) can.stream.is.part.name size can.stream.bytes times found.flags
+    unfolding extent-can get-extent
+    get-longer-puts so name can more does =
+        subst (λ k. (c : CanGive v found.stream k) → EndsInLast v size c.extent c.runs
+        → ResizesStream v new k c.named.name size c.named.held times found.flags) is does
+        (get-extent so name can) (ends so name can more)

@@ -5,12 +5,14 @@ use Rattle.std.specs.List.{list_any}
 use Rattle.std.specs.Prelude.{IsSome, IsTrue, is_some, slice_get}
 use Rattle.std.proofs.lemmas.Bool.{and_parts, eqb-true, not-true}
 use Rattle.list_laws.proofs.FindLaws.{find-found, none-counted}
+use Rattle.list_laws.proofs.OptionLaws.{some_same}
 use Rattle.ntfs_def.specs.Attribute.{ExtentHeader}
+use Rattle.ntfs_def.specs.Runs.{total_clusters}
 use Rattle.ntfs_def.specs.declared.kinds.TheConstants.{DATA}
 use Rattle.ntfs_def.specs.declared.run_text.Run.{Run}
 use Rattle.volume_def.specs.CaseClause.{case_parts, volume_fold}
 use Rattle.volume_def.specs.ExtentsClause.{AreAttribute, AreWhole}
-use Rattle.volume_def.specs.Files.{Clusters, Content, Part, Record, Value, content_extent, content_runs, content_value, is_base, parts}
+use Rattle.volume_def.specs.Files.{Clusters, Content, Part, Record, Value, all_covered, content_extent, content_runs, content_value, is_base, parts}
 use Rattle.volume_def.specs.Files.{parts_at, records_of}
 use Rattle.volume_def.specs.ListsClause.{is_list}
 use Rattle.volume_def.specs.StreamSize.{real_size}
@@ -26,6 +28,7 @@ use Rattle.tree_model.specs.StreamRoom.{parts_named, stream_parts}
 use Rattle.tree_model.specs.Tree.{sought_stream}
 use Rattle.tree_model.specs.Ways.{has_no_list, has_placed_bits, in_extent}
 use Rattle.tree_model.specs.declared.tree.Stream.{Stream}
+use Rattle.sparse_io.specs.declared.find.FoundStream.{FoundStream}
 use Rattle.sparse_io.specs.Held.{IsHeldWith, IsStream}
 use Rattle.sparse_io.proofs.OverwriteLaws.{found-first, found-parts, found-stored}
 use Rattle.value_edits.proofs.Below.{file, may-edit, named-same, node-streams}
@@ -37,7 +40,7 @@ use Rattle.tree_edit.specs.Writable.{IsFoundToEdit, named_in}
 use Rattle.tree_edit.specs.declared.writable.Writable.{Writable}
 use Rattle.tree_edit.proofs.EditableLaws.{parts-are}
 use Rattle.stream_changes.specs.Streams.{CanGive}
-use Rattle.stream_changes.proofs.ExtentCovers.{one-list, ordered-one}
+use Rattle.stream_changes.proofs.ExtentCovers.{covers-one, one-list, ordered-one}
 
 -- an extent, of what is one
 extent-of : (content : Content) → is_some (content_extent content) ≡ true → IsSome (content_runs content)
@@ -56,6 +59,16 @@ whole-runs part (inl value) is = absurd (both part.content value is)
     both (Value value) some is = cc
     both (Clusters extent runs) some is = cc
 whole-runs part (inr begins) is = begins.runs
+
+-- one that can give its clusters back has these runs alone
+pub give-same : (v : VolumeView) (found : FoundStream) (f : ℕ) (a b : CanGive v found f) → (a.extent ≡ b.extent) × (a.runs ≡ b.runs)
+give-same v found f a b =
+    let part : a.part ≡ b.part = some_same (sym a.at ∙ b.at) in
+    let content : Clusters a.extent (Some a.runs) ≡ Clusters b.extent (Some b.runs) =
+    sym a.is ∙ ap (λ (p : Part). p.content) part ∙ b.is in
+    let extent : a.extent ≡ b.extent = cc in
+    let runs : a.runs ≡ b.runs = cc in
+    (extent, runs)
 
 -- A STREAM IN CLUSTERS that was found can give them back.
 module _ (v : VolumeView) (found : Writable) (name : List ℕ) (can : ℕ → Bool) (is : IsFoundToEdit v found name can)
@@ -76,7 +89,7 @@ module _ (v : VolumeView) (found : Writable) (name : List ℕ) (can : ℕ → Bo
   there = stream_parts v (read v) (named_in (read v) name f)
 
   -- the parts that are asked of are those of the stream
-  there-are : there ≡ parts_at v f DATA s.part.name
+  pub there-are : there ≡ parts_at v f DATA s.part.name
   there-are = parts-are v found.held is.held name found.stream s ∙ ap (parts_named v f) (ap (λ (stream : Stream). stream.name) s.is)
       ∙ named-same v f s.part.name is.held.readable h.is_file is.there is.tellable
 
@@ -156,3 +169,8 @@ module _ (v : VolumeView) (found : Writable) (name : List ℕ) (can : ℕ → Bo
       let stored = found-stored v table name found.held.parts found.stream h s in
       let begun : stored.first ≡ s.part = let a = stored.at in let b = s.at in cc in
       stored.len ∙ ap (λ (part : Part). real_size part.content) begun ∙ ap real_size its.2
+
+  -- its clusters are those of its runs
+  pub covered : all_covered there ≡ total_clusters its.1
+  unfolding extent-can
+  covered = ap all_covered (there-are ∙ alone) ∙ covers-one v found.stream f extent-can

@@ -1,3 +1,4 @@
 pub mod Staged
 pub mod Streams
+pub mod Reached
 pub mod Below

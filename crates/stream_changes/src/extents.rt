@@ -1,5 +1,5 @@
-//! A stream in clusters, in one part of a file without an attribute list, ends earlier, or goes: its clusters are given back first, then its
-//! record is edited, and what the file shows of itself is told anew.
+//! A stream in clusters, in one part of a file without an attribute list, ends earlier, or goes: its clusters are given back first, then
+//! its record is edited, and what the file shows of itself is told anew.
 ghost use Rattle.std.specs.Prelude.{◌≡◌, ◌≤◌, ◌<◌, ◌^◌, ℕ, List, None, Some, IfErr, IfOk, IsTrue, MatchResult, OnOk, false, length, slice_get, true};
 ghost use Rattle.ntfs_def.specs.declared.run_text.Run.{Run};
 ghost use Rattle.volume_def.specs.Coverage.{IsApart};
@@ -13,10 +13,9 @@ ghost use Rattle.file_record.specs.FileNos.{CountsNo, IsReadNo};
 ghost use Rattle.file_record.specs.Held.{parts_held};
 ghost use Rattle.file_record.specs.Written.{PartHeld};
 ghost use Rattle.tree_edit.specs.Below.{IsInitialized, StagesRecordOf};
-ghost use Rattle.tree_model.specs.Streams.{resized};
 ghost use Rattle.tree_model.specs.Ways.{has_placed_bits};
 ghost use Rattle.record_edits.specs.Given.{AreOwned};
-ghost use Rattle.value_edits.specs.ValueEdits.{PutsStream};
+ghost use Rattle.value_edits.specs.ValueEdits.{PutsStream, ResizesStream, no_gain};
 ghost use Rattle.stored_bits.specs.Given.{KeepsDevice};
 ghost use Rattle.tree_edit.specs.Staged.{TellsStored};
 ghost use Rattle.stream_changes.specs.Staged.{StagesGiving};
@@ -90,9 +89,9 @@ fn cut_part<D: Disk>(
     cut_extent(alloc, mft, &mut file, place.record, place.attribute, size)
 }
 
-/// Takes a stream out of its file that lies in clusters, in one part, of which `held` are the records: its clusters are given back first. Then
-/// sets the four times of the file, in the order of its `$STANDARD_INFORMATION`, and its DOS flags, as `set_attributes` does. All of it is
-/// staged.
+/// Takes a stream out of its file that lies in clusters, in one part, of which `held` are the records: its clusters are given back first.
+/// Then sets the four times of the file, in the order of its `$STANDARD_INFORMATION`, and its DOS flags, as `set_attributes` does. All of it
+/// is staged.
 ///
 /// # Errors
 ///
@@ -114,7 +113,7 @@ pub fn drop_extent<D: Disk>(
     requires volume { IsInUse D.Disk mft.old }
     requires can { IsTrue (view D.Disk mft.old).told → CanGive (view D.Disk mft.old) found.now number }
     ensures dropped { OnOk result (IsTrue (view D.Disk mft.old).told → (can : CanGive (view D.Disk mft.old) found.now number)
-        → PutsStream (view D.Disk mft.old) (view D.Disk mft.new) number can.named.name None times.now flags) }
+        → PutsStream (view D.Disk mft.old) (view D.Disk mft.new) number can.named.name None no_gain 0 times.now flags) }
     ensures places { OnOk result (IsTrue (view D.Disk mft.old).told → StagesGiving D.Disk 8 number (view D.Disk mft.old) mft.old mft.new) }
     ensures tables { OnOk result (TellsStored D.Disk mft.new) }
     ensures device { KeepsDevice D.Disk mft.old mft.new }
@@ -127,8 +126,8 @@ pub fn drop_extent<D: Disk>(
     set_attributes(alloc, mft, number, times, flags)
 }
 
-/// Gives a stream that lies in clusters, in one part, so many bytes, at most as many as it has, where `held` are the records of its file: the
-/// clusters behind the last that it needs are given back first. Then sets the four times of the file, in the order of its
+/// Gives a stream that lies in clusters, in one part, so many bytes, at most as many as it has, where `held` are the records of its file:
+/// the clusters behind the last that it needs are given back first. Then sets the four times of the file, in the order of its
 /// `$STANDARD_INFORMATION`, and its DOS flags, as `set_attributes` does. All of it is staged.
 ///
 /// # Errors
@@ -154,7 +153,7 @@ pub fn shorten_extent<D: Disk>(
     requires can { IsTrue (view D.Disk mft.old).told → CanGive (view D.Disk mft.old) found.now number }
     ensures resized { OnOk result (IsTrue (view D.Disk mft.old).told → (can : CanGive (view D.Disk mft.old) found.now number)
         → size ≤ can.extent.sizes.real
-        → PutsStream (view D.Disk mft.old) (view D.Disk mft.new) number can.named.name (Some (resized size can.named.held)) times.now flags) }
+        → ResizesStream (view D.Disk mft.old) (view D.Disk mft.new) number can.named.name size can.named.held times.now flags) }
     ensures places { OnOk result (IsTrue (view D.Disk mft.old).told → (can : CanGive (view D.Disk mft.old) found.now number)
         → size ≤ can.extent.sizes.real → StagesGiving D.Disk 8 number (view D.Disk mft.old) mft.old mft.new) }
     ensures tables { OnOk result (IsTrue (view D.Disk mft.old).told → (can : CanGive (view D.Disk mft.old) found.now number)

@@ -1,23 +1,25 @@
-//! A stream that was found has another length, or goes, by the way in which that is done.
-ghost use Rattle.std.specs.Prelude.{◌≡◌, ◌≤◌, ◌<◌, ◌^◌, ℕ, List, None, Some, IfErr, IsTrue, MatchResult, OnOk, false, length};
+//! A stream that was found has another length, other bytes, or goes, by the way in which that is done.
+ghost use Rattle.std.specs.Prelude.{◌≡◌, ◌≤◌, ◌<◌, ◌+◌, ◌/◌, ◌^◌, ℕ, List, None, IfErr, IsTrue, MatchResult, OnOk, false, length};
 ghost use Rattle.mft_table.specs.InUse.{IsInUse};
 ghost use Rattle.mft_table.specs.Mft.{faults_of, is_mft_broken, mounted_of, view};
 ghost use Rattle.mft_table.specs.MirrorClusters.{IsMirrorInside};
 ghost use Rattle.file_record.specs.FileNos.{CountsNo, IsReadNo};
-ghost use Rattle.tree_model.specs.Streams.{resized};
-ghost use Rattle.value_edits.specs.ValueEdits.{PutsStream};
+ghost use Rattle.value_edits.specs.ValueEdits.{PutsStream, ResizesStream, no_gain};
 ghost use Rattle.stored_bits.specs.Given.{KeepsDevice};
 ghost use Rattle.tree_edit.specs.Below.{number_of, parts_in};
 ghost use Rattle.tree_edit.specs.Alone.{IsToDrop, IsToResize};
 ghost use Rattle.tree_edit.specs.Staged.{TellsStored};
+ghost use Rattle.tree_edit.specs.Write.{IsWritable};
 ghost use Rattle.stream_changes.specs.Staged.{StagesGiving};
+ghost use Rattle.stream_changes.specs.Streams.{WritesSo};
 
 use crate::extents::{drop_extent, shorten_extent};
-use crate::values::{drop_value, resize_value};
+use crate::longer::{lengthen_extent, write_behind};
+use crate::values::{drop_value, resize_value, write_value};
 use file_record::FileNo;
 use mft_table::Mft;
 use std::alloc::Global;
-use tree_edit::{Way, Writable};
+use tree_edit::{Way, Writable, write_over};
 use vol_disk::Disk;
 
 /// Gives the stream that was found so many bytes, cut or with zeros behind, and then sets the four times of its file, in the order of its
@@ -42,8 +44,8 @@ pub fn resize_stream<D: Disk>(
     requires can { IsTrue (view D.Disk mft.old).told → (name : List ℕ) × IsToResize (view D.Disk mft.old) found.now name size }
     ensures resized { OnOk result (IsTrue (view D.Disk mft.old).told → (name : List ℕ)
         → (can : IsToResize (view D.Disk mft.old) found.now name size)
-        → PutsStream (view D.Disk mft.old) (view D.Disk mft.new) (number_of found.now.held) can.stream.is.part.name
-        (Some (resized size can.stream.bytes)) times.now found.now.flags) }
+        → ResizesStream (view D.Disk mft.old) (view D.Disk mft.new) (number_of found.now.held) can.stream.is.part.name size
+        can.stream.bytes times.now found.now.flags) }
     ensures places { OnOk result (IsTrue (view D.Disk mft.old).told
         → StagesGiving D.Disk 8 (number_of found.now.held) (view D.Disk mft.old) mft.old mft.new) }
     ensures tables { OnOk result (TellsStored D.Disk mft.new) }
@@ -59,6 +61,9 @@ pub fn resize_stream<D: Disk>(
         // No stream has another length so.
         Way::InPlace => Ok(()),
         Way::InRecord => resize_value(alloc, mft, stream, number, size, times, found.flags),
+        Way::InClusters if size > stream.size => {
+            lengthen_extent(alloc, mft, held, stream, number, size, times, found.flags)
+        }
         Way::InClusters => {
             shorten_extent(alloc, mft, held, stream, number, size, times, found.flags)
         }
@@ -85,8 +90,8 @@ pub fn remove_stream<D: Disk>(
     requires can { IsTrue (view D.Disk mft.old).told → (name : List ℕ) × IsToDrop (view D.Disk mft.old) found.now name }
     ensures removed { OnOk result (IsTrue (view D.Disk mft.old).told → (name : List ℕ)
         → (can : IsToDrop (view D.Disk mft.old) found.now name)
-        → PutsStream (view D.Disk mft.old) (view D.Disk mft.new) (number_of found.now.held) can.stream.is.part.name None times.now
-        found.now.flags) }
+        → PutsStream (view D.Disk mft.old) (view D.Disk mft.new) (number_of found.now.held) can.stream.is.part.name None no_gain 0
+        times.now found.now.flags) }
     ensures places { OnOk result (IsTrue (view D.Disk mft.old).told
         → StagesGiving D.Disk 8 (number_of found.now.held) (view D.Disk mft.old) mft.old mft.new) }
     ensures tables { OnOk result (TellsStored D.Disk mft.new) }
@@ -111,6 +116,54 @@ pub fn remove_stream<D: Disk>(
                 times,
                 found.flags,
             )
+        }
+    }
+}
+
+/// Writes bytes into the stream that was found, from byte `at` on: over bytes where they lie, into its value, or over and behind those in
+/// its clusters, of which it takes as many as it needs. Then sets the four times of its file, in the order of its `$STANDARD_INFORMATION`;
+/// the file shows the flags that it had. All of it is staged.
+///
+/// # Errors
+///
+/// `Device` where the disk failed, and `Memory`. Whoever called gives up what was staged.
+pub fn write_stream<D: Disk>(
+    alloc: Global,
+    mft: &mut Mft<'_, D>,
+    found: &Writable,
+    at: u64,
+    bytes: &[u8],
+    times: &[u64; 4],
+) -> Result<(), FileNo>
+    requires near { at + length bytes.now ≤ 2 ^ 40 }
+    requires part { found.now.stream.part < length (parts_in found.now.held) }
+    requires inside { number_of found.now.held < length (mounted_of D.Disk mft.old).records }
+    requires mirror { IsMirrorInside (mounted_of D.Disk mft.old) }
+    requires sound { is_mft_broken D.Disk mft.old ≡ false }
+    requires volume { IsInUse D.Disk mft.old }
+    requires can { IsTrue (view D.Disk mft.old).told → (name : List ℕ)
+        × IsWritable (view D.Disk mft.old) found.now name at (length bytes.now) }
+    ensures written { OnOk result (IsTrue (view D.Disk mft.old).told → (name : List ℕ)
+        → (can : IsWritable (view D.Disk mft.old) found.now name at (length bytes.now))
+        → WritesSo found.now.way at bytes.now (view D.Disk mft.old) (view D.Disk mft.new) (number_of found.now.held)
+        can.stream.is.part.name can.stream.bytes times.now found.now.flags) }
+    ensures places { OnOk result (IsTrue (view D.Disk mft.old).told → StagesGiving D.Disk (10 + length bytes.now / 512)
+        (number_of found.now.held) (view D.Disk mft.old) mft.old mft.new) }
+    ensures tables { OnOk result (TellsStored D.Disk mft.new) }
+    ensures device { KeepsDevice D.Disk mft.old mft.new }
+    ensures err { IfErr result IsReadNo }
+    ensures faults { MatchResult result (λ _. faults_of D.Disk mft.new ≡ faults_of D.Disk mft.old)
+        (CountsNo (faults_of D.Disk mft.old) (faults_of D.Disk mft.new)) }
+{
+    let stream = &found.stream;
+    let held = &found.held.parts;
+    let number = held.number();
+    let flags = found.flags;
+    match found.way {
+        Way::InPlace => write_over(alloc, mft, held, stream, number, times, flags, at, bytes),
+        Way::InRecord => write_value(alloc, mft, stream, number, at, bytes, times, flags),
+        Way::InClusters => {
+            write_behind(alloc, mft, held, stream, number, at, bytes, times, flags)
         }
     }
 }

@@ -12,8 +12,7 @@ ghost use Rattle.mft_table.specs.MirrorClusters.{IsMirrorInside};
 ghost use Rattle.file_record.specs.Attributes.{with_bytes_at};
 ghost use Rattle.file_record.specs.FileNos.{CountsNo, IsReadNo};
 ghost use Rattle.tree_edit.specs.Below.{IsInitialized, StagesRecordOf};
-ghost use Rattle.tree_model.specs.Streams.{resized, written};
-ghost use Rattle.value_edits.specs.ValueEdits.{PutsStream};
+ghost use Rattle.value_edits.specs.ValueEdits.{PutsBytes, PutsStream, ResizesStream, no_gain};
 ghost use Rattle.tree_edit.specs.Change.{CanChange, ChangesWhereFits, RemovesPart, has_room_for};
 ghost use Rattle.tree_edit.specs.Values.{StagesValue};
 ghost use Rattle.tree_edit.specs.Staged.{TellsStored};
@@ -151,8 +150,7 @@ pub fn resize_value<D: Disk>(
     requires can { IsTrue (view D.Disk mft.old).told → CanChange (view D.Disk mft.old) found.now number }
     ensures resized { OnOk result (IsTrue (view D.Disk mft.old).told → (can : CanChange (view D.Disk mft.old) found.now number)
         → has_room_for (view D.Disk mft.old) number found.now.size size ≡ true
-        → PutsStream (view D.Disk mft.old) (view D.Disk mft.new) number can.value.name (Some (resized size can.value.held)) times.now
-        flags) }
+        → ResizesStream (view D.Disk mft.old) (view D.Disk mft.new) number can.value.name size can.value.held times.now flags) }
     ensures places { IsTrue (view D.Disk mft.old).told
         → StagesValue D.Disk number (names_of (records_of (view D.Disk mft.old)) number) mft.old mft.new }
     ensures tables { OnOk result (IsTrue (view D.Disk mft.old).told → (can : CanChange (view D.Disk mft.old) found.now number)
@@ -193,8 +191,8 @@ pub fn write_value<D: Disk>(
     requires can { IsTrue (view D.Disk mft.old).told → CanChange (view D.Disk mft.old) found.now number }
     ensures written { OnOk result (IsTrue (view D.Disk mft.old).told → (can : CanChange (view D.Disk mft.old) found.now number)
         → has_room_for (view D.Disk mft.old) number found.now.size (at + length bytes.now) ≡ true
-        → PutsStream (view D.Disk mft.old) (view D.Disk mft.new) number can.value.name (Some (written at bytes.now can.value.held))
-        times.now flags) }
+        → PutsBytes (view D.Disk mft.old) (view D.Disk mft.new) number can.value.name at bytes.now can.value.held times.now
+        flags) }
     ensures places { IsTrue (view D.Disk mft.old).told
         → StagesValue D.Disk number (names_of (records_of (view D.Disk mft.old)) number) mft.old mft.new }
     ensures tables { OnOk result (IsTrue (view D.Disk mft.old).told → (can : CanChange (view D.Disk mft.old) found.now number)
@@ -230,7 +228,7 @@ pub fn drop_value<D: Disk>(
     requires volume { IsInUse D.Disk mft.old }
     requires can { IsTrue (view D.Disk mft.old).told → CanChange (view D.Disk mft.old) found.now number }
     ensures dropped { OnOk result (IsTrue (view D.Disk mft.old).told → (can : CanChange (view D.Disk mft.old) found.now number)
-        → PutsStream (view D.Disk mft.old) (view D.Disk mft.new) number can.value.name None times.now flags) }
+        → PutsStream (view D.Disk mft.old) (view D.Disk mft.new) number can.value.name None no_gain 0 times.now flags) }
     ensures places { IsTrue (view D.Disk mft.old).told
         → StagesValue D.Disk number (names_of (records_of (view D.Disk mft.old)) number) mft.old mft.new }
     ensures tables { OnOk result (TellsStored D.Disk mft.new) }

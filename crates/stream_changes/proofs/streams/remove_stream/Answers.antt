@@ -1,4 +1,4 @@
-use Rattle.std.proofs.Common.{◌≡◌, ℕ, sym, subst}
+use Rattle.std.proofs.Common.{◌≡◌, ℕ, sym, subst, arith}
 use Rattle.std.proofs.lemmas.Result.{on_ok_weaker}
 use Rattle.volume_def.specs.Files.{parts, records_of}
 use Rattle.mft_table.specs.Mft.{view}
@@ -42,14 +42,16 @@ returns-in-InRecord-clause-removed g c =
     let v = view g.D.Disk c.args.mft.now in
     let new = view g.D.Disk c.drop_value.new.mft in
     on_ok_weaker c.drop_value.result (λ does told name can.
-    go-value-puts v new c.args.found.now c.number-number.result c.number-number.ensures c.args.times.now c.in-InRecord.is name can (does told))
+    go-value-puts v new c.args.found.now c.number-number.result c.number-number.ensures c.args.times.now c.in-InRecord.is name can
+    (does told))
     c.drop_value.ensures.dropped
 
 pub returns-in-InRecord-clause-places : goal.returns-in-InRecord-clause-places
 returns-in-InRecord-clause-places g c =
     on_ok_weaker c.drop_value.result (λ any told.
     subst (λ k. StagesGiving g.D.Disk 8 k (view g.D.Disk c.args.mft.now) c.args.mft.now c.drop_value.new.mft) c.number-number.ensures
-    (gives-value g.D.Disk c.number-number.result c.args.mft.now c.drop_value.new.mft (c.drop_value.ensures.places told)))
+    (gives-value g.D.Disk 8 c.number-number.result c.args.mft.now c.drop_value.new.mft (omega arith)
+    (c.drop_value.ensures.places told)))
     c.drop_value.ensures.tables
 
 pub returns-in-InRecord-clause-device : goal.returns-in-InRecord-clause-device

@@ -1,6 +1,7 @@
+use Rattle.std.proofs.Common.{refl}
 use Rattle.std.proofs.lemmas.Result.{on_ok_weaker}
 use Rattle.attr_view.specs.Values.{with_length}
-use Rattle.stream_changes.proofs.ValueChanged.{change-not, changed-can-write, changed-in-use, changed-put, changed-staged, record-within}
+use Rattle.stream_changes.proofs.ValueChanged.{change-not, changed-can-write, changed-in-use, changed-resized, changed-staged, record-within}
 use Rattle.stream_changes.proofs.values.resize_value.Goals as goal
 
 pub returns-in_err-resize_part-clause-places : goal.returns-in_err-resize_part-clause-places
@@ -39,10 +40,10 @@ set_attributes-requires-clause-can g c =
 pub returns-clause-resized : goal.returns-clause-resized
 returns-clause-resized g c =
     on_ok_weaker c.set_attributes.result (λ sets told can room.
-    changed-put g.D.Disk c.args.found.now c.args.number c.args.size (with_length c.args.size) c.args.mft.now
+    changed-resized g.D.Disk c.args.found.now c.args.number c.args.size (with_length c.args.size) c.args.mft.now
     c.resize_part.new.mft c.requires.volume c.resize_part.ensures.disk c.requires.can
     c.in_ok-resize_part.field-0 c.if-not-branch.false c.in_ok-resize_part.ensures.resized
-    c.args.times.now c.args.flags c.set_attributes.new.mft sets told can) c.set_attributes.ensures.set
+    c.args.times.now c.args.flags c.set_attributes.new.mft sets told can refl) c.set_attributes.ensures.set
 
 pub returns-clause-places : goal.returns-clause-places
 returns-clause-places g c =

@@ -1,10 +1,8 @@
-use Rattle.std.proofs.Common.{◌+◌, ℕ, List, Some, length, subst}
+use Rattle.std.proofs.Common.{◌+◌, length}
 use Rattle.std.proofs.lemmas.Result.{on_ok_weaker}
-use Rattle.mft_table.specs.Mft.{view}
 use Rattle.file_record.specs.Attributes.{with_bytes_at}
-use Rattle.value_edits.specs.ValueEdits.{PutsStream}
 use Rattle.value_edits.proofs.WrittenBytes.{written-put}
-use Rattle.stream_changes.proofs.ValueChanged.{change-not, changed-can-write, changed-in-use, changed-put, changed-staged, record-within}
+use Rattle.stream_changes.proofs.ValueChanged.{change-not, changed-can-write, changed-in-use, changed-staged, changed-written, record-within}
 use Rattle.stream_changes.proofs.values.write_value.Goals as goal
 
 pub returns-in_err-write_part-clause-places : goal.returns-in_err-write_part-clause-places
@@ -44,12 +42,11 @@ set_attributes-requires-clause-can g c =
 pub returns-clause-written : goal.returns-clause-written
 returns-clause-written g c =
     on_ok_weaker c.set_attributes.result (λ sets told can room.
-    subst (λ (bytes : List ℕ). PutsStream (view g.D.Disk c.args.mft.now) (view g.D.Disk c.set_attributes.new.mft) c.args.number
-    can.value.name (Some bytes) c.args.times.now c.args.flags) (written-put c.args.at c.args.bytes.now can.value.held)
-    (changed-put g.D.Disk c.args.found.now c.args.number (c.args.at + length c.args.bytes.now)
+    changed-written g.D.Disk c.args.found.now c.args.number (c.args.at + length c.args.bytes.now)
     (with_bytes_at c.args.at c.args.bytes.now) c.args.mft.now c.write_part.new.mft c.requires.volume c.write_part.ensures.disk
     c.requires.can c.in_ok-write_part.field-0 c.if-not-branch.false c.in_ok-write_part.ensures.written
-    c.args.times.now c.args.flags c.set_attributes.new.mft sets told can)) c.set_attributes.ensures.set
+    c.args.at c.args.bytes.now c.args.times.now c.args.flags c.set_attributes.new.mft sets told can
+    (written-put c.args.at c.args.bytes.now can.value.held)) c.set_attributes.ensures.set
 
 pub returns-clause-places : goal.returns-clause-places
 returns-clause-places g c =
