@@ -264,10 +264,11 @@ module _ {D : Type 0} (g : Ghosts D) (sized : (disk : D) → IfSome (g.now disk)
       let few = all.stages.few in
       let plain = ap (λ (sectors : List ℕ). length sectors) can.clear.plain in
       let freed = subst (λ w. all.given ≤ given_back v w) staged-is all.freed in
+      let took = subst (λ w. all.taken ≤ given_back w v) staged-is all.owned in
       let cost = most-by (mark_of g old) first m s.placed.by_mark in
       let same = ap (λ n. length (names_of (records_of v) n)) finds.file in
       let fits = by.few in
-      omega (arith, wrote, few, plain, freed, cost, same, fits)
+      omega (arith, wrote, few, plain, freed, took, cost, same, fits)
 
   -- WHAT EVERY COMMAND PROMISES is promised.
   pub flag-first : (mark : Option Flag) → (first : VolumeView) → MarkStands first state mark → IsPlaceBy g old.mft mark s.place

@@ -15,11 +15,11 @@ use Rattle.mark_write.specs.declared.flag.Flag.{Flag}
 use Rattle.mark_write.specs.declared.log.Span.{Span}
 use Rattle.mft_table.specs.declared.mft.Mft.{Mft}
 use Rattle.mft_table.specs.Mft.{mounted_of, stage_of, view}
-use Rattle.stored_bits.specs.Given.{IsOfBits, KeepsDevice}
+use Rattle.stored_bits.specs.Given.{KeepsDevice}
 use Rattle.mark_place.specs.LogSpans.{AreLogSpans, log_sectors}
 use Rattle.volume_mark.specs.Mark.{IsFlagOf}
-use Rattle.stream_changes.specs.Below.{IsOfEdit, TellsStored}
-use Rattle.stream_changes.specs.Staged.{StagesGiving}
+use Rattle.stream_changes.specs.Below.{TellsStored}
+use Rattle.stream_changes.specs.Staged.{IsOfGiving, StagesGiving}
 use Rattle.stream_changes.proofs.DeviceLaws.{device-behind}
 use Rattle.tree_read.specs.declared.stop.Stop.{Stop}
 use Rattle.tree_read.specs.declared.stop.Stop.TheVariants as stop
@@ -64,11 +64,12 @@ module _ {D : Type 0} (g : Ghosts D) (old mid : Mft D g) (still : MftStill g old
       record {
         given = x.given;
         freed = x.freed;
+        taken = x.taken;
+        owned = x.owned;
         stages = record {
-          few = subst (λ xs. length (places g (stage_of g staged)) ≤ length xs + (most + 12 * length all + 2 * x.given)) still.places
-              x.stages.few;
-          only = λ sector has.
-              subst (λ xs. Contains xs sector ⊎ (IsOfBits v sector ⊎ IsOfEdit v f all sector)) still.places (x.stages.only sector has);
+          few = subst (λ xs. length (places g (stage_of g staged)) ≤ length xs
+              + (most + 12 * length all + 2 * x.given + 2 * x.taken)) still.places x.stages.few;
+          only = λ sector has. subst (λ xs. Contains xs sector ⊎ IsOfGiving v f sector) still.places (x.stages.only sector has);
         };
       }
 

@@ -1,12 +1,13 @@
 -- WHAT IS DUE FOR `hwrite`: where its bytes can be written into the stream of a handle that may write it it is done, unless there is no room
 -- for what it asks, and else refused so.
-use Rattle.std.proofs.Common.{◌≡◌, ◌&&◌, ◌||◌, ◌+◌, ℕ, Bool, true, false, List, ◌∷◌, [], not, length, Option, Some, None, Result, Ok, Err}
-use Rattle.std.proofs.Common.{inl, refl, sym, ap, ◌∙◌, arith, if◌then◌else◌}
+use Rattle.std.proofs.Common.{◌≡◌, ◌⊎◌, ◌==◌, ◌&&◌, ◌||◌, ◌+◌, ℕ, Bool, true, false, List, ◌∷◌, [], not, length, Option, Some, None, Result, Ok, Err}
+use Rattle.std.proofs.Common.{inl, inr, refl, sym, ap, ◌∙◌, arith, if◌then◌else◌}
 use Rattle.std.specs.Borrow.{Bor}
 use Rattle.std.specs.Prelude.{find, is_some}
 use Rattle.std.specs.Option.{option_map_or}
-use Rattle.std.proofs.lemmas.Bool.{and_parts}
+use Rattle.std.proofs.lemmas.Bool.{and_parts, not-true}
 use Rattle.volume_def.specs.Table.{cluster_bytes}
+use Rattle.volume_def.specs.Values.{first_part}
 use Rattle.volume_def.specs.View.{VolumeView}
 use Rattle.tree_model.specs.Cases.{is_packed, is_wide}
 use Rattle.tree_model.specs.Effects.{opens_after}
@@ -17,9 +18,9 @@ use Rattle.tree_model.specs.Reading.{read}
 use Rattle.tree_model.specs.Refusals.{Facts, first_some, outcome, refusal, unless, when}
 use Rattle.tree_model.specs.Shown.{plain_bytes}
 use Rattle.tree_model.specs.Staging.{cannot_edit}
-use Rattle.tree_model.specs.Ways.{fits_in_record, gets_no_longer, has_no_list}
+use Rattle.tree_model.specs.Ways.{can_reach, fits_in_record, gets_no_longer, has_no_list, has_placed_bits, in_extent, is_done_in_clusters, is_done_in_record}
 use Rattle.tree_model.specs.Step.{answered, due}
-use Rattle.tree_model.specs.StreamRoom.{goes_over, stream_parts, stream_value}
+use Rattle.tree_model.specs.StreamRoom.{goes_over, is_in_place, new_clusters, stream_parts, stream_value}
 use Rattle.tree_model.specs.Subjects.{Located, Machine, at_file, at_open, content_named, locate, subject_of, with_stream}
 use Rattle.tree_model.specs.Tree.{node_of}
 use Rattle.tree_model.specs.declared.command.Command.{Command}
@@ -31,15 +32,16 @@ use Rattle.tree_model.specs.declared.tree.Content.{Content}
 use Rattle.tree_model.specs.declared.tree.Content.TheVariants.{Packed, Plain}
 use Rattle.tree_model.proofs.LookLaws.{find-never}
 use Rattle.in_place_done.proofs.Below.{has-room, value-room}
-use Rattle.stream_changes.specs.Below.{can_resize, can_write_over, hwrite_in, hwrite_wanted, room_to_write}
+use Rattle.stream_changes.specs.Below.{can_reach_there, can_resize, can_write_over, hwrite_in, hwrite_wanted, room_to_reach, room_to_write}
+use Rattle.edit_def.specs.OneFile.{no_room_alone}
 use Rattle.tree_ops.specs.Edits.{hwrite_edit}
 use Rattle.tree_ops.specs.Wanted.{machine_on}
 use Rattle.tree_ops.specs.declared.streams.StreamEdit.TheVariants as s
 use Rattle.tree_ops.proofs.EditBy.{IsEditBy, LeadsToFile}
-use Rattle.tree_ops.proofs.Judged.{can-of, if_asked, last-written, last_two, with_at, written-file}
-use Rattle.tree_ops.proofs.RoomAsked.{located-counted, value-there}
+use Rattle.tree_ops.proofs.Judged.{can-of, if_written_by, last-written, last_two, with_at, written-file}
+use Rattle.tree_ops.proofs.RoomAsked.{asked-unless, extent-there, located-counted, not-within, value-there}
 use Rattle.tree_ops.proofs.StreamBy.{edited-file}
-use Rattle.tree_ops.proofs.WriteBy.{parted, puts-in, record-so}
+use Rattle.tree_ops.proofs.WriteBy.{clusters-so, parted, puts-in, record-so}
 
 -- THE REFUSALS in their order, and what is wanted, by what each case asks
 abbrev judge : Option Content → Bool → Bool → Option No → Option No
@@ -104,42 +106,84 @@ module _ (facts : Facts) (view : VolumeView) (opens : List OpenEntry) (now sessi
       gets_no_longer (from + len) (at entry).content
       || fits_in_record view entry.file (stream_parts view (read view) (at entry)) (from + len)
 
+  -- .. or lies in clusters, in one part, and can take what they need
+  abbrev extent : OpenEntry → Bool
+  extent entry = in_extent (first_part (stream_parts view (read view) (at entry)))
+
+  abbrev one : OpenEntry → Bool
+  one entry = length (stream_parts view (read view) (at entry)) == 1
+
+  abbrev reaches : OpenEntry → Bool
+  reaches entry = can_reach view entry.file (stream_parts view (read view) (at entry)) from len
+
   abbrev over : OpenEntry → Bool
   over entry = can_write_over view entry.stream from len entry.file
 
   abbrev can : OpenEntry → Bool
   can entry = can_resize view entry.stream (from + len) entry.file
 
+  abbrev reach : OpenEntry → Bool
+  reach entry = can_reach_there view entry.stream from len entry.file && has_placed_bits view
+
   abbrev asked : OpenEntry → Option No
   asked entry = room_to_write view entry.stream from len entry.file
 
-  abbrev decided : OpenEntry → Result ℕ No
-  decided entry = if over entry then Ok entry.file else if_asked (can entry) (asked entry) entry.file
+  abbrev behind : OpenEntry → Option No
+  behind entry = room_to_reach view entry.stream from len entry.file
 
   no-room : (entry : OpenEntry) → over entry ≡ true → facts.no_room m command (at entry) ≡ None
   no-room entry is =
       tells.no_room m command (at entry) ∙ has-room view (read view) command (at entry) refl refl (can-of (cannot entry) (goes entry) is)
 
+  -- the room that is asked for, where the bytes do not end within the stream
+  abbrev within : OpenEntry → Bool
+  within entry = is_in_place (cluster_bytes view.layout) (stream_parts view (read view) (at entry)) from len
+
+  abbrev unless_within : OpenEntry → Bool → Option No
+  unless_within entry inside = if inside then None
+      else no_room_alone view entry.file (new_clusters (cluster_bytes view.layout) (stream_parts view (read view) (at entry)) from len)
+
+  asked-of : (entry : OpenEntry) → is_some (at entry).content ≡ true → (is_done_in_record view (read view) command (at entry) ≡ true)
+      ⊎ (is_done_in_clusters view (read view) command (at entry) ≡ true)
+      → facts.no_room m command (at entry) ≡ unless_within entry (within entry)
+  asked-of entry there way =
+      tells.no_room m command (at entry)
+      ∙ value-room view (read view) command (at entry) refl refl (located-counted view (read view) (at entry) refl there) there way
+      ∙ asked-unless (no_room_alone view entry.file) (within entry)
+      (new_clusters (cluster_bytes view.layout) (stream_parts view (read view) (at entry)) from len)
+
   room : (entry : OpenEntry) → over entry ≡ false → can entry ≡ true → facts.no_room m command (at entry) ≡ asked entry
   room entry other is =
       let built = record-so (cannot entry) (goes entry) (value entry) (alone entry) (fits entry) other is in
-      let stays = (and_parts (not (goes entry)) ((value entry && alone entry) && fits entry) built).1 in
-      let both = (and_parts (value entry && alone entry) (fits entry) stays).0 in
-      let there = value-there view (read view) (at entry) (and_parts (value entry) (alone entry) both).0 in
-      tells.no_room m command (at entry)
-      ∙ value-room view (read view) command (at entry) refl refl (located-counted view (read view) (at entry) refl there) there (inl built)
+      let parts = and_parts (not (goes entry)) ((value entry && alone entry) && fits entry) built in
+      let both = (and_parts (value entry && alone entry) (fits entry) parts.1).0 in
+      let its = (and_parts (value entry) (alone entry) both).0 in
+      asked-of entry (value-there view (read view) (at entry) its) (inl built)
+      ∙ ap (unless_within entry) (not-within (cluster_bytes view.layout) (stream_parts view (read view) (at entry)) from len its
+      (not-true (goes entry) parts.0))
+
+  behind-room : (entry : OpenEntry) → over entry ≡ false → reach entry ≡ true → facts.no_room m command (at entry) ≡ behind entry
+  behind-room entry other is =
+      let built = clusters-so (cannot entry) (goes entry) (extent entry) (one entry) (alone entry) (has_placed_bits view) (reaches entry) other is in
+      let stays = (and_parts (not (goes entry)) _ built).1 in
+      let both = (and_parts (extent entry && (one entry && (alone entry && has_placed_bits view))) (reaches entry) stays).0 in
+      asked-of entry (extent-there view (read view) (at entry) (and_parts (extent entry) _ both).0) (inr built)
+
+  abbrev decided : OpenEntry → Result ℕ No
+  decided entry = if_written_by (over entry) (can entry) (reach entry) (asked entry) (behind entry) entry.file
 
   -- the refusal that is due; opens are not asked
   refusal-is : (entry : OpenEntry) → refusal facts m session command (subject_of command) (at entry)
-      ≡ judge (at entry).content (is_wide from len) (not (over entry || can entry)) (facts.no_room m command (at entry))
+      ≡ judge (at entry).content (is_wide from len) (not (over entry || (can entry || reach entry))) (facts.no_room m command (at entry))
   refusal-is entry =
       let n = find-never opens entry.file in
       let w = tells.whole_table in
       let o = tells.built_for m command (at entry) in
       let both : (cannot_edit facts.whole_table (read view) entry.file || not (facts.built_for m command (at entry)))
-      ≡ not (over entry || can entry) =
+      ≡ not (over entry || (can entry || reach entry)) =
       ap (λ b. cannot_edit b (read view) entry.file || not (facts.built_for m command (at entry))) w
-      ∙ ap (λ b. cannot entry || not b) o ∙ parted (cannot entry) (goes entry) (value entry) (alone entry) (fits entry) in
+      ∙ ap (λ b. cannot entry || not b) o ∙ parted (cannot entry) (goes entry) (value entry) (alone entry) (fits entry)
+      (extent entry) (one entry) (has_placed_bits view) (reaches entry) in
       rw (n, both) refl
 
   outcome-is : (entry : OpenEntry) → found_open ≡ Some entry
@@ -148,10 +192,10 @@ module _ (facts : Facts) (view : VolumeView) (opens : List OpenEntry) (now sessi
   outcome-is entry e =
       ap (λ o. and_then (at_open (read view) o) (λ x. unless (refusal facts m session command (subject_of command) x) x)) e
       ∙ ap (λ o. unless o (at entry)) (refusal-is entry)
-      ∙ judged (at entry) (at entry).content (is_wide from len) (not (over entry || can entry)) (facts.no_room m command (at entry))
+      ∙ judged (at entry) (at entry).content (is_wide from len) (not (over entry || (can entry || reach entry))) (facts.no_room m command (at entry))
       (decided entry)
-      (last-written (at entry) entry.file (over entry) (can entry) (facts.no_room m command (at entry)) (asked entry) (no-room entry)
-      (room entry))
+      (last-written (at entry) entry.file (over entry) (can entry) (reach entry) (facts.no_room m command (at entry)) (asked entry)
+      (behind entry) (no-room entry) (room entry) (behind-room entry))
 
   no-handle : found_open ≡ None → outcome facts m session command ≡ Err no.NoHandle
   unfolding outcome locate
@@ -169,7 +213,7 @@ module _ (facts : Facts) (view : VolumeView) (opens : List OpenEntry) (now sessi
   ok-file : (entry : OpenEntry) (file : ℕ) → hwrite_in view entry.stream from len entry.file ≡ Ok file → entry.file ≡ file
   ok-file entry file is =
       same-file (at entry).content (is_wide from len) (decided entry) entry.file file
-      (written-file (over entry) (can entry) (asked entry) entry.file file) is
+      (written-file (over entry) (can entry) (reach entry) (asked entry) (behind entry) entry.file file) is
 
   pub hwrite-found : (file : ℕ) → hwrite_wanted view opens session handle from len ≡ Ok file → FindsOpen file
   hwrite-found file is = by found_open refl is

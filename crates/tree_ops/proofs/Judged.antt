@@ -56,22 +56,34 @@ pub last-asked : (at : Located) (file : ℕ) (can : Bool) (room asked : Option N
 last-asked at file false room asked same = refl
 last-asked at file true room asked same = room-left at file room asked (same refl)
 
-pub last-written : (at : Located) (file : ℕ) (over can : Bool) (room asked : Option No) → (over ≡ true → room ≡ None)
-    → (over ≡ false → can ≡ true → room ≡ asked)
-    → unless (last_two (not (over || can)) room) at ≡ with_at at (if over then Ok file else if_asked can asked file)
-last-written at file true can room asked none same = ap (λ o. unless (last_two false o) at) (none refl)
-last-written at file false false room asked none same = refl
-last-written at file false true room asked none same = room-left at file room asked (same refl refl)
+-- a write, over bytes in place, or into a value, or over and behind those of a stream in clusters
+abbrev pub if_written_by : Bool → Bool → Bool → Option No → Option No → ℕ → Result ℕ No
+if_written_by over can reach asked behind file =
+    if over then Ok file else if can then if_room asked file else if_asked reach behind file
 
--- .. or a stream in clusters that ends earlier, which asks for none
-abbrev pub if_cut : Bool → Bool → Option No → ℕ → Result ℕ No
-if_cut can cut asked file = if can then if_room asked file else if cut then Ok file else Err no.Unbuilt
+pub last-written : (at : Located) (file : ℕ) (over can reach : Bool) (room asked behind : Option No) → (over ≡ true → room ≡ None)
+    → (over ≡ false → can ≡ true → room ≡ asked) → (over ≡ false → reach ≡ true → room ≡ behind)
+    → unless (last_two (not (over || (can || reach))) room) at ≡ with_at at (if_written_by over can reach asked behind file)
+last-written at file true can reach room asked behind none same far = ap (λ o. unless (last_two false o) at) (none refl)
+last-written at file false true reach room asked behind none same far = room-left at file room asked (same refl refl)
+last-written at file false false false room asked behind none same far = refl
+last-written at file false false true room asked behind none same far = room-left at file room behind (far refl refl)
 
-pub last-cut : (at : Located) (file : ℕ) (can cut : Bool) (room asked : Option No) → (can ≡ true → room ≡ asked)
-    → (cut ≡ true → room ≡ None) → unless (last_two (not (can || cut)) room) at ≡ with_at at (if_cut can cut asked file)
-last-cut at file true cut room asked same none = room-left at file room asked (same refl)
-last-cut at file false true room asked same none = ap (λ o. unless (last_two false o) at) (none refl)
-last-cut at file false false room asked same none = refl
+-- ONE OF BOTH is so.
+pub or-either : {P : Type 0} (a b : Bool) → (a ≡ true → P) → (b ≡ true → P) → (a || b) ≡ true → P
+or-either true b one other is = one refl
+or-either false b one other is = other is
+
+-- An extent alone whose bits lie in clusters, in whichever order that is asked
+pub turned : (extent one alone placed last : Bool)
+    → ((extent && (one && (alone && placed))) && last) ≡ (((extent && (one && alone)) && last) && placed)
+turned false one alone placed last = refl
+turned true false alone placed last = refl
+turned true true false placed last = refl
+turned true true true true true = refl
+turned true true true true false = refl
+turned true true true false true = refl
+turned true true true false false = refl
 
 -- it is this file that is wanted then, or none
 room-file : (asked : Option No) (file other : ℕ) → if_room asked file ≡ Ok other → file ≡ other
@@ -86,15 +98,11 @@ pub asked-file : (can : Bool) (asked : Option No) (file other : ℕ) → if_aske
 asked-file true asked file other e = room-file asked file other e
 asked-file false asked file other e = cc
 
-pub cut-file : (can cut : Bool) (asked : Option No) (file other : ℕ) → if_cut can cut asked file ≡ Ok other → file ≡ other
-cut-file true cut asked file other e = room-file asked file other e
-cut-file false true asked file other e = cc
-cut-file false false asked file other e = cc
-
-pub written-file : (over can : Bool) (asked : Option No) (file other : ℕ)
-    → (if over then Ok file else if_asked can asked file) ≡ Ok other → file ≡ other
-written-file true can asked file other e = cc
-written-file false can asked file other e = asked-file can asked file other e
+pub written-file : (over can reach : Bool) (asked behind : Option No) (file other : ℕ)
+    → if_written_by over can reach asked behind file ≡ Ok other → file ≡ other
+written-file true can reach asked behind file other e = cc
+written-file false true reach asked behind file other e = room-file asked file other e
+written-file false false reach asked behind file other e = asked-file reach behind file other e
 
 -- A STREAM THAT IS WRITTEN, or gets another length: it may be missing.
 abbrev pub judge : Option Content → Bool → Bool → Bool → Option No → Bool → Option No → Option No

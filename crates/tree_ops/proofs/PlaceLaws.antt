@@ -1,6 +1,7 @@
 -- WHERE THE MARK AND THE LOG LIE of a volume that can be edited, and what is staged apart from them.
-use Rattle.std.proofs.Common.{◌≡◌, ◌≢◌, ◌⊎◌, ◌≤◌, ◌+◌, ◌*◌, ℕ, true, List, [], Option, Some, None, refl, sym, ap}
+use Rattle.std.proofs.Common.{◌≡◌, ◌≢◌, ◌⊎◌, ◌≤◌, ◌+◌, ◌-◌, ◌*◌, ◌/◌, ℕ, true, List, [], Option, Some, None, refl, sym, ap}
 use Rattle.std.proofs.Common.{subst, ◌∙◌, inl, inr, arith}
+use Rattle.std.proofs.lemmas.Nat.{div-mul-add}
 use Rattle.std.specs.Prelude.{All, Contains, IsTrue, codes, is_some}
 use Rattle.vol_disk.specs.Contents.{IsTold, sector_in}
 use Rattle.vol_disk.specs.declared.Disk.{Ghosts}
@@ -12,6 +13,7 @@ use Rattle.ntfs_def.specs.declared.lengths.TheConstants.{INDEX_RECORD}
 use Rattle.ntfs_def.specs.declared.records.TheConstants.{CLUSTER_BITMAP, LOG_FILE, MFT, MFT_MIRROR, VOLUME}
 use Rattle.volume_def.specs.FileNames.{names_of}
 use Rattle.volume_def.specs.Files.{records_of}
+use Rattle.volume_def.specs.OwnersClause.{times_owned}
 use Rattle.volume_def.specs.Sound.{IsSound}
 use Rattle.volume_def.specs.Table.{cluster_bytes}
 use Rattle.volume_def.specs.View.{VolumeView}
@@ -35,7 +37,7 @@ use Rattle.tree_model.specs.Hidden.{is_hidden, is_system}
 use Rattle.tree_model.specs.Reading.{node_at}
 use Rattle.tree_model.specs.declared.tree.Node.{Node}
 use Rattle.stream_changes.specs.Below.{IsOfDirectory, IsOfFile, IsOfNames, IsOfStreams}
-use Rattle.stream_changes.specs.Staged.{StagesGiving}
+use Rattle.stream_changes.specs.Staged.{IsOfFree, StagesGiving}
 use Rattle.stream_changes.proofs.Below.{not-system}
 use Rattle.tree_ops.specs.Edits.{CanEdit, HasMark, IsPlaceBy, IsPlaced}
 use Rattle.tree_ops.specs.declared.place.MarkPlace.{MarkPlace}
@@ -132,6 +134,23 @@ module _ (view : VolumeView) (sound : IsSound view) (lies : LiesApart view) (fla
           is.3 spans log);
     }
 
+    free-apart : (sector : ℕ) → IsOfFree view sector → IsApartFrom spans sector
+    free-apart sector is = record {
+      beside = apart.free-beside view lies.owners lies.some sound flag there sector free;
+      outside = out sector (λ log. apart.free-log view lies.owners lies.some sector free spans log);
+    }
+      where
+        there_in : sector / view.layout.cluster_sectors ≡ is.cluster
+        there_in =
+            let per = view.layout.cluster_sectors in
+            let low = is.low in
+            let high = is.high in
+            let split : sector ≡ is.cluster * per + (sector - is.cluster * per) = omega (arith, low) in
+            ap (λ s. s / per) split ∙ div-mul-add is.cluster per (sector - is.cluster * per) (omega (arith, low, high))
+
+        free : times_owned (records_of view) (sector / view.layout.cluster_sectors) ≡ 0
+        free = ap (times_owned (records_of view)) there_in ∙ is.unowned
+
 -- a file that is shown is the root or an ordinary one
 shown-other : (v : VolumeView) (f n : ℕ) (node : Node) → node_at v f ≡ Some node → is_system n ≡ true → f ≢ n
 unfolding is_hidden
@@ -173,13 +192,14 @@ module _ {D : Type 0} (g : Ghosts D) (old staged : Mft D g) (mark : Option Flag)
         → IsApartFrom v sound lies place.flag there spans sector
     staged-apart sector has = elim ((stages told).stages.only sector has) [
       | inl before ↦ absurd (Contains-nil sector (subst (λ xs. Contains xs sector) can.clear.plain before))
-      | inr (inl bits) ↦ stream-apart v sound lies place.flag there spans are CLUSTER_BITMAP sector (λ e. omega (arith, e))
+      | inr (inl free) ↦ free-apart v sound lies place.flag there spans are sector free
+      | inr (inr (inl bits)) ↦ stream-apart v sound lies place.flag there spans are CLUSTER_BITMAP sector (λ e. omega (arith, e))
           (λ e. omega (arith, e)) (λ e. omega (arith, e)) ([], bits.0, bits.1, bits.2)
-      | inr (inr (inl stream)) ↦ stream-apart v sound lies place.flag there spans are file sector
+      | inr (inr (inr (inl stream))) ↦ stream-apart v sound lies place.flag there spans are file sector
           (shown-other v file MFT (settable told).0 set.there refl) (shown-other v file MFT_MIRROR (settable told).0 set.there refl)
           (shown-other v file LOG_FILE (settable told).0 set.there refl) stream
-      | inr (inr (inr (inl of_file))) ↦ file-apart v sound lies place.flag there spans are file sector set.other of_file
-      | inr (inr (inr (inr names))) ↦
+      | inr (inr (inr (inr (inl of_file)))) ↦ file-apart v sound lies place.flag there spans are file sector set.other of_file
+      | inr (inr (inr (inr (inr names)))) ↦
           names-apart v sound lies place.flag there spans are (names_of (records_of v) file) sector set.elsewhere names
     ]
 

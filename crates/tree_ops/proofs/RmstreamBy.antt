@@ -7,7 +7,7 @@ use Rattle.std.proofs.lemmas.Bool.{and_parts, or_cases}
 use Rattle.volume_def.specs.Values.{first_part}
 use Rattle.volume_def.specs.View.{VolumeView}
 use Rattle.tree_model.specs.Cases.{shared}
-use Rattle.tree_model.specs.Effects.{opens_after}
+use Rattle.tree_model.specs.Effects.{opens_after, touched}
 use Rattle.tree_model.specs.Facts.{TellsFacts, is_whole_table}
 use Rattle.tree_model.specs.Paths.{and_then, found_file, resolve}
 use Rattle.tree_model.specs.Reading.{read}
@@ -22,6 +22,7 @@ use Rattle.tree_model.specs.declared.command.Command.TheVariants as c
 use Rattle.tree_model.specs.declared.opens.OpenEntry.{OpenEntry}
 use Rattle.tree_model.specs.declared.reply.No.{No}
 use Rattle.tree_model.specs.declared.tree.Found.{Found}
+use Rattle.in_place_done.specs.Below.{PutsStream, no_gain}
 use Rattle.in_place_done.proofs.Below.{value-room}
 use Rattle.stream_changes.specs.Below.{can_drop, can_give, drop_in, drop_wanted}
 use Rattle.tree_ops.specs.Edits.{EditsFound, stream_edit}
@@ -157,7 +158,8 @@ drop-staged : (facts : Facts) (view new : VolumeView) (opens : List OpenEntry) (
     → StagesFile view opens now (c.Rmstream path name) x.leads.at file new
 drop-staged facts view new opens now session path name file p x =
     edited-file s.Remove view new file name now p opens (c.Rmstream path name) x.leads.at
-    (λ image written. edited-stream s.Remove view new file name now p None x.leads.at opens image written x.stream_is x.node_is
+    (λ image written. edited-stream s.Remove view new file name now p (λ name. PutsStream view new file name None no_gain 0
+    (touched now p.can.settable.can.node).times p.can.settable.can.node.flags) x.leads.at opens image written x.stream_is x.node_is
     (edited-so s.Remove view new file name now p))
 
 -- IT IS THAT OF THE COMMAND

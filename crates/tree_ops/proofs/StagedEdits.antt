@@ -1,11 +1,10 @@
 -- WHAT AN EDIT STAGES, as a file that can be edited allows it.
-use Rattle.std.proofs.Common.{◌+◌, ◌*◌, ◌/◌, ℕ, List, length, inl, inr, arith}
+use Rattle.std.proofs.Common.{◌+◌, ◌*◌, ℕ, List, length, inl, inr}
 use Rattle.vol_disk.specs.declared.Disk.{Ghosts}
 use Rattle.ntfs_def.specs.FileName.{FileName}
-use Rattle.volume_def.specs.Values.{pieces_touched}
 use Rattle.mft_table.specs.declared.mft.Mft.{Mft}
 use Rattle.mft_table.specs.Mft.{view}
-use Rattle.stream_changes.specs.Below.{IsOfEdit, IsOfValue, StagesAttributes, StagesFew, StagesOver, StagesValue}
+use Rattle.stream_changes.specs.Below.{IsOfEdit, IsOfValue, StagesAttributes, StagesFew, StagesValue}
 
 module _ {D : Type 0} (g : Ghosts D) (f : ℕ) (names : List FileName) (old new : Mft D g) where
   -- sectors of records of the file, and of its entries
@@ -24,20 +23,3 @@ module _ {D : Type 0} (g : Ghosts D) (f : ℕ) (names : List FileName) (old new 
   -- bytes of a value too
   pub value-staged : StagesValue g f names old new → StagesFew g (8 + 12 * length names) (IsOfEdit (view g old) f names) old new
   value-staged x = file-staged (8 + 12 * length names) x
-
-  -- .. of a write, of so many bytes
-  pub value-few : (len : ℕ) → StagesValue g f names old new
-      → StagesFew g (8 + len / 512 + 12 * length names) (IsOfEdit (view g old) f names) old new
-  value-few len x = record { few = let few = x.few in omega (arith, few); only = (value-staged x).only }
-
-  -- bytes of a stream, and the attributes of its file
-  pub over-few : (name : List ℕ) (at len : ℕ) → StagesOver g f name at len names old new
-      → StagesFew g (8 + len / 512 + 12 * length names) (IsOfEdit (view g old) f names) old new
-  over-few name at len x = record {
-    few = let few = x.few in omega (arith, few);
-    only = λ sector has. elim (x.only sector has) [
-      | inl before ↦ inl before
-      | inr (inl stream) ↦ inr (inl (name, at, 512 * pieces_touched at len, stream))
-      | inr (inr is) ↦ inr (inr is)
-    ];
-  }

@@ -1,6 +1,6 @@
 -- AN EDIT OF A STREAM by its path: what is due where the path leads to a file is decided by that file, and what was found and edited is
 -- what the command stages.
-use Rattle.std.proofs.Common.{◌≡◌, ℕ, Bool, List, Option, Result, Ok, Err, ap, refl, subst, ◌∙◌}
+use Rattle.std.proofs.Common.{◌≡◌, ℕ, Bool, List, Result, Ok, Err, ap, refl, subst, ◌∙◌}
 use Rattle.std.specs.Prelude.{slice_set}
 use Rattle.volume_def.specs.View.{VolumeView}
 use Rattle.tree_model.specs.Effects.{touched}
@@ -14,7 +14,6 @@ use Rattle.tree_model.specs.declared.command.Command.{Command}
 use Rattle.tree_model.specs.declared.opens.OpenEntry.{OpenEntry}
 use Rattle.tree_model.specs.declared.reply.No.{No}
 use Rattle.tree_model.specs.declared.tree.Found.{Found}
-use Rattle.in_place_done.specs.Below.{PutsStream}
 use Rattle.in_place_done.specs.Written.{EditsStream, Stages}
 use Rattle.tree_ops.specs.Edits.{EditsFound, EditsSo, can_edit_so}
 use Rattle.tree_ops.specs.Wanted.{machine_on}
@@ -99,15 +98,14 @@ module _ (what : StreamEdit) (view new : VolumeView) (file : ℕ) (asked : List 
     stages = stages;
   }
 
-  -- the stream has these bytes, or is gone
-  pub edited-stream : (bytes : Option (List ℕ)) (at : Located) (opens : List OpenEntry) (image : List ℕ) (written : ℕ) → at.stream ≡ asked
-      → at.node ≡ node_of (read view) file
-      → PutsStream view new file p.can.stream.is.part.name bytes (touched now p.can.settable.can.node).times p.can.settable.can.node.flags
-      → EditsStream (state_with image view opens now written) at file p.can.settable.can.node bytes new
-  edited-stream bytes at opens image written stream node puts = record {
+  -- the stream was edited so, by the name that it has
+  pub edited-stream : (Edits : List ℕ → Type 0) (at : Located) (opens : List OpenEntry) (image : List ℕ) (written : ℕ) → at.stream ≡ asked
+      → at.node ≡ node_of (read view) file → Edits p.can.stream.is.part.name
+      → EditsStream (state_with image view opens now written) at file Edits
+  edited-stream Edits at opens image written stream node edits = record {
     name = p.can.stream.is.part.name;
     spelt_so = spelt-so view p.found asked can_so p.can file p.file_is at stream node;
     there = there-so view p.found asked can_so p.can file p.file_is;
     tellable = tellable-so view p.found asked can_so p.can file p.file_is;
-    puts = puts;
+    edits = edits;
   }

@@ -1,44 +1,42 @@
 -- WHAT IS DUE FOR `truncate`: where the stream that its path leads to is a value of a file without an attribute list, and can have so many
--- bytes, it is done, unless there is no room for what it asks; and where it lies in clusters, in one part, and gets no longer. Else it is
--- refused so.
+-- bytes, or lies in clusters, in one part, and gets no longer, or ends in its last cluster still, it is done, unless there is no room for
+-- what it asks. Else it is refused so.
 use Rattle.std.proofs.Common.{◌≡◌, ◌==◌, ◌&&◌, ◌||◌, ℕ, Bool, true, false, List, not, length, Option, Some, None, Ok, Err, inl, inr}
 use Rattle.std.proofs.Common.{refl, sym, ap, subst, ◌∙◌, arith}
 use Rattle.std.specs.Prelude.{if◌then◌else◌, is_some, option_and_then}
-use Rattle.std.proofs.lemmas.Bool.{and_parts, le-ltb, leb-true}
+use Rattle.std.proofs.lemmas.Bool.{and_parts}
 use Rattle.volume_def.specs.Table.{cluster_bytes}
 use Rattle.volume_def.specs.Values.{first_part}
 use Rattle.volume_def.specs.View.{VolumeView}
 use Rattle.tree_model.specs.Answers.{bytes_at}
 use Rattle.tree_model.specs.Bill.{grows}
-use Rattle.tree_model.specs.Cases.{is_bad_stream_name, is_far, shared, size_of}
+use Rattle.tree_model.specs.Cases.{is_bad_stream_name, is_far, shared}
 use Rattle.tree_model.specs.Effects.{opens_after, touched}
 use Rattle.tree_model.specs.Facts.{TellsFacts, is_whole_table}
 use Rattle.tree_model.specs.Paths.{and_then, found_file, resolve}
 use Rattle.tree_model.specs.Reading.{read}
 use Rattle.tree_model.specs.Refusals.{Facts, outcome, refusal, unless}
 use Rattle.tree_model.specs.Staging.{cannot_edit}
-use Rattle.tree_model.specs.Ways.{fits_in_record, gets_no_longer, has_no_list, has_placed_bits, in_extent}
+use Rattle.tree_model.specs.Ways.{ends_in_last, fits_in_record, gets_no_longer, has_no_list, has_placed_bits, in_extent}
 use Rattle.tree_model.specs.Step.{due}
 use Rattle.tree_model.specs.StreamRoom.{new_clusters, stream_parts, stream_value}
-use Rattle.tree_model.specs.Streams.{resized}
 use Rattle.tree_model.specs.Subjects.{Located, Machine, at_found, is_directory, locate, stream_name, subject_of, with_stream}
 use Rattle.tree_model.specs.declared.command.Command.{Command}
 use Rattle.tree_model.specs.declared.command.Command.TheVariants as c
 use Rattle.tree_model.specs.declared.opens.OpenEntry.{OpenEntry}
 use Rattle.tree_model.specs.declared.reply.No.{No}
-use Rattle.tree_model.specs.declared.tree.Content.{Content}
 use Rattle.tree_model.specs.declared.tree.Found.{Found}
-use Rattle.in_place_done.specs.Below.{PutsStream}
+use Rattle.in_place_done.specs.Below.{ResizesStream}
 use Rattle.in_place_done.proofs.Below.{value-room}
 use Rattle.edit_def.specs.OneFile.{no_room_alone}
-use Rattle.stream_changes.specs.Below.{can_cut, can_resize, resize_in, resize_wanted, room_to_resize}
+use Rattle.stream_changes.specs.Below.{can_end, can_resize, resize_in, resize_wanted, room_to_resize}
 use Rattle.tree_ops.specs.Edits.{EditsFound, can_edit_so, stream_edit}
 use Rattle.tree_ops.specs.Wanted.{machine_on}
 use Rattle.tree_ops.specs.declared.streams.StreamEdit.TheVariants as s
 use Rattle.tree_ops.proofs.EditBy.{IsEditBy, StagesFile}
 use Rattle.tree_ops.proofs.StreamBy.{FindsStream, edited-file, edited-so, edited-stream, stream-found, stream-refused, stream_of_found}
 use Rattle.tree_ops.proofs.StreamFound.{bytes-so}
-use Rattle.tree_ops.proofs.Judged.{cut-file, if_cut, judge, judged, last-cut, same-file, with_at}
+use Rattle.tree_ops.proofs.Judged.{asked-file, if_asked, judge, judged, last-asked, or-either, same-file, turned, with_at}
 use Rattle.tree_ops.proofs.RoomAsked.{asked-if, extent-there, located-counted, value-there}
 
 -- It is not built unless it is done in one of both ways.
@@ -48,16 +46,6 @@ parted : (cannot value alone fits extent one placed short : Bool)
 parted true value alone fits extent one placed short = refl
 parted false value alone fits extent one placed short =
     ap (λ b. not (((value && alone) && fits) || b)) (turned extent one alone placed short)
-  where
-    turned : (extent one alone placed short : Bool)
-        → ((extent && (one && (alone && placed))) && short) ≡ (((extent && (one && alone)) && short) && placed)
-    turned false one alone placed short = refl
-    turned true false alone placed short = refl
-    turned true true false placed short = refl
-    turned true true true true true = refl
-    turned true true true true false = refl
-    turned true true true false true = refl
-    turned true true true false false = refl
 
 built-so : (cannot value alone fits : Bool) → (((not cannot && value) && alone) && fits) ≡ true → ((value && alone) && fits) ≡ true
 built-so true value alone fits e = cc
@@ -72,11 +60,6 @@ extent-so false true true false short placed e = cc
 extent-so false true true true true true e = refl
 extent-so false true true true true false e = cc
 extent-so false true true true false placed e = cc
-
--- what gets no longer does not grow
-no-growth : (size : ℕ) (content : Option Content) → gets_no_longer size content ≡ true → grows size content ≡ false
-no-growth size None e = cc
-no-growth size (Some content) e = le-ltb (size_of content) size (leb-true size (size_of content) e)
 
 module _ (facts : Facts) (view : VolumeView) (opens : List OpenEntry) (now session : ℕ) (path : List (List ℕ)) (stream : Option (List ℕ))
     (size : ℕ) (tells : TellsFacts view facts) where
@@ -115,9 +98,9 @@ module _ (facts : Facts) (view : VolumeView) (opens : List OpenEntry) (now sessi
   fits found =
       gets_no_longer size (at found).content || fits_in_record view (found_file found) (stream_parts view (read view) (at found)) size
 
-  -- .. or lies in clusters, in one part, and gets no longer
+  -- .. or lies in clusters, in one part, and gets no longer, or ends in its last cluster still
   abbrev cut : Found → Bool
-  cut found = can_cut view name size (found_file found) && has_placed_bits view
+  cut found = can_end view name size (found_file found) && has_placed_bits view
 
   abbrev extent : Found → Bool
   extent found = in_extent (first_part (stream_parts view (read view) (at found)))
@@ -126,28 +109,41 @@ module _ (facts : Facts) (view : VolumeView) (opens : List OpenEntry) (now sessi
   one found = length (stream_parts view (read view) (at found)) == 1
 
   abbrev short : Found → Bool
-  short found = gets_no_longer size (at found).content
+  short found =
+      gets_no_longer size (at found).content
+      || ends_in_last (cluster_bytes view.layout) (stream_parts view (read view) (at found)) size
 
-  none : (found : Found) → cut found ≡ true → facts.no_room m command (at found) ≡ None
-  none found is =
+  -- the room that is asked for, of a stream that gets longer
+  abbrev asked_of : Found → Option No
+  asked_of found = option_and_then (no_room_alone view (found_file found))
+      (if grows size (at found).content then Some (new_clusters (cluster_bytes view.layout) (stream_parts view (read view) (at found)) 0 0)
+      else None)
+
+  asked-so : (found : Found) → asked_of found ≡ asked found
+  asked-so found =
+      asked-if (no_room_alone view (found_file found)) (grows size (at found).content)
+      (new_clusters (cluster_bytes view.layout) (stream_parts view (read view) (at found)) 0 0)
+
+  extent-room : (found : Found) → cut found ≡ true → facts.no_room m command (at found) ≡ asked found
+  extent-room found is =
       let built = extent-so (cannot found) (extent found) (one found) (alone found) (short found) (has_placed_bits view) is in
       let both = and_parts (extent found && (one found && (alone found && has_placed_bits view))) (short found) built in
       let there = extent-there view (read view) (at found) (and_parts (extent found) _ both.0).0 in
       tells.no_room m command (at found)
       ∙ value-room view (read view) command (at found) refl refl (located-counted view (read view) (at found) refl there) there (inr built)
-      ∙ ap (λ b. option_and_then (no_room_alone view (found_file found))
-      (if b then Some (new_clusters (cluster_bytes view.layout) (stream_parts view (read view) (at found)) 0 0) else None))
-      (no-growth size (at found).content both.1)
+      ∙ asked-so found
 
-  room : (found : Found) → can found ≡ true → facts.no_room m command (at found) ≡ asked found
-  room found is =
+  value-asks : (found : Found) → can found ≡ true → facts.no_room m command (at found) ≡ asked found
+  value-asks found is =
       let built = built-so (cannot found) (value found) (alone found) (fits found) is in
       let both = (and_parts (value found && alone found) (fits found) built).0 in
       let there = value-there view (read view) (at found) (and_parts (value found) (alone found) both).0 in
       tells.no_room m command (at found)
       ∙ value-room view (read view) command (at found) refl refl (located-counted view (read view) (at found) refl there) there (inl built)
-      ∙ asked-if (no_room_alone view (found_file found)) (grows size (at found).content)
-      (new_clusters (cluster_bytes view.layout) (stream_parts view (read view) (at found)) 0 0)
+      ∙ asked-so found
+
+  room : (found : Found) → (can found || cut found) ≡ true → facts.no_room m command (at found) ≡ asked found
+  room found is = or-either (can found) (cut found) (value-asks found) (extent-room found) is
 
   -- the refusal that is due
   refusal-is : (found : Found) → refusal facts m session command (subject_of command) (at found)
@@ -172,9 +168,8 @@ module _ (facts : Facts) (view : VolumeView) (opens : List OpenEntry) (now sessi
       (λ x. unless (refusal facts m session command (subject_of command) x) x)) e
       ∙ ap (λ o. unless o (at found)) (refusal-is found)
       ∙ judged (at found) (at found).content (is_bad_stream_name name) (dir found) (is_far size) (shared m command (at found))
-      (not (can found || cut found)) (facts.no_room m command (at found)) (if_cut (can found) (cut found) (asked found) (found_file found))
-      (last-cut (at found) (found_file found) (can found) (cut found) (facts.no_room m command (at found)) (asked found) (room found)
-      (none found))
+      (not (can found || cut found)) (facts.no_room m command (at found)) (if_asked (can found || cut found) (asked found) (found_file found))
+      (last-asked (at found) (found_file found) (can found || cut found) (facts.no_room m command (at found)) (asked found) (room found))
 
   path-refused : (why : No) → resolve (read view) path ≡ Err why → outcome facts m session command ≡ Err why
   unfolding outcome locate
@@ -183,8 +178,8 @@ module _ (facts : Facts) (view : VolumeView) (opens : List OpenEntry) (now sessi
   same : (found : Found) (file : ℕ) → resize_in view opens name size (found_file found) ≡ Ok file → found_file found ≡ file
   same found file is =
       same-file (at found).content (is_bad_stream_name name) (dir found) (is_far size) (shared m command (at found))
-      (if_cut (can found) (cut found) (asked found) (found_file found)) (found_file found) file
-      (cut-file (can found) (cut found) (asked found) (found_file found) file) is
+      (if_asked (can found || cut found) (asked found) (found_file found)) (found_file found) file
+      (asked-file (can found || cut found) (asked found) (found_file found) file) is
 
   pub resize-found : (file : ℕ) → resize_wanted view opens path name size ≡ Ok file → FindsStream facts view m session command name file
   resize-found file is =
@@ -207,10 +202,10 @@ resize-staged facts view new opens now session path stream size file p x =
     let what = s.Resize size in
     let held = bytes-so view p.found asked (λ f. can_edit_so what view asked p.found.way f) p.can file p.file_is x.leads.at x.content_is in
     edited-file what view new file asked now p opens (c.Truncate path stream size) x.leads.at
-    (λ image written. edited-stream what view new file asked now p (Some (resized size (bytes_at x.leads.at))) x.leads.at opens image
-    written x.stream_is x.node_is
-    (subst (λ bytes. PutsStream view new file p.can.stream.is.part.name (Some (resized size bytes))
-    (touched now p.can.settable.can.node).times p.can.settable.can.node.flags) (sym held) (edited-so what view new file asked now p)))
+    (λ image written. edited-stream what view new file asked now p (λ name. ResizesStream view new file name size (bytes_at x.leads.at)
+    (touched now p.can.settable.can.node).times p.can.settable.can.node.flags) x.leads.at opens image written x.stream_is x.node_is
+    (subst (λ bytes. ResizesStream view new file p.can.stream.is.part.name size bytes (touched now p.can.settable.can.node).times
+    p.can.settable.can.node.flags) (sym held) (edited-so what view new file asked now p)))
 
 -- IT IS THAT OF THE COMMAND
 pub truncate-by : (opens : List OpenEntry) (now session : ℕ) (path : List (List ℕ)) (stream : Option (List ℕ)) (size : ℕ)

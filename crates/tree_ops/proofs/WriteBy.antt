@@ -1,12 +1,13 @@
 -- WHAT IS DUE FOR `write`: where its bytes go over bytes of the stream that its path leads to, or that is a value which can be as long as they
 -- need, it is done, unless there is no room for what it asks, and else refused so.
-use Rattle.std.proofs.Common.{◌≡◌, ◌==◌, ◌&&◌, ◌||◌, ◌+◌, ℕ, Bool, true, false, List, not, length, Option, Some, None, Ok, Err}
-use Rattle.std.proofs.Common.{inl, refl, sym, ap, subst, ◌∙◌, arith, if◌then◌else◌}
+use Rattle.std.proofs.Common.{◌≡◌, ◌⊎◌, ◌==◌, ◌&&◌, ◌||◌, ◌+◌, ℕ, Bool, true, false, List, not, length, Option, None, Ok, Err}
+use Rattle.std.proofs.Common.{inl, inr, refl, sym, ap, subst, ◌∙◌, arith, if◌then◌else◌}
 use Rattle.std.specs.Borrow.{Bor}
 use Rattle.std.specs.Prelude.{is_some}
-use Rattle.std.proofs.lemmas.Bool.{and_parts}
+use Rattle.std.proofs.lemmas.Bool.{and_parts, not-true}
 use Rattle.volume_def.specs.Table.{cluster_bytes}
 use Rattle.volume_def.specs.Files.{Part}
+use Rattle.volume_def.specs.Values.{first_part}
 use Rattle.volume_def.specs.View.{VolumeView}
 use Rattle.tree_model.specs.Answers.{bytes_at}
 use Rattle.tree_model.specs.Cases.{is_bad_stream_name, is_wide, shared}
@@ -16,10 +17,9 @@ use Rattle.tree_model.specs.Paths.{and_then, found_file, resolve}
 use Rattle.tree_model.specs.Reading.{read}
 use Rattle.tree_model.specs.Refusals.{Facts, outcome, refusal, unless}
 use Rattle.tree_model.specs.Staging.{cannot_edit}
-use Rattle.tree_model.specs.Ways.{fits_in_record, gets_no_longer, has_no_list}
+use Rattle.tree_model.specs.Ways.{can_reach, fits_in_record, gets_no_longer, has_no_list, has_placed_bits, in_extent, is_done_in_clusters, is_done_in_record}
 use Rattle.tree_model.specs.Step.{due}
-use Rattle.tree_model.specs.StreamRoom.{goes_over, stream_parts, stream_value}
-use Rattle.tree_model.specs.Streams.{written}
+use Rattle.tree_model.specs.StreamRoom.{goes_over, is_in_place, new_clusters, stream_parts, stream_value}
 use Rattle.tree_model.specs.Subjects.{Located, Machine, at_found, content_named, is_directory, locate, stream_name, subject_of, with_stream}
 use Rattle.tree_model.specs.Tree.{node_of}
 use Rattle.tree_model.specs.declared.command.Command.{Command}
@@ -27,32 +27,33 @@ use Rattle.tree_model.specs.declared.command.Command.TheVariants as c
 use Rattle.tree_model.specs.declared.opens.OpenEntry.{OpenEntry}
 use Rattle.tree_model.specs.declared.reply.No.{No}
 use Rattle.tree_model.specs.declared.tree.Found.{Found}
-use Rattle.in_place_done.specs.Below.{PutsStream}
+use Rattle.in_place_done.specs.Below.{PutsBytes}
 use Rattle.in_place_done.specs.Written.{PutsInStream}
 use Rattle.in_place_done.proofs.Below.{has-room, value-room}
-use Rattle.stream_changes.specs.Below.{Way, can_resize, can_write, can_write_over, named_in, room_to_write, write_in, write_wanted}
+use Rattle.stream_changes.specs.Below.{Way, can_go_behind, can_reach_there, can_resize, can_write, can_write_over, named_in, room_to_reach, room_to_write, write_in, write_wanted}
 use Rattle.stream_changes.specs.Below as way
+use Rattle.stream_changes.specs.Streams.{WritesSo}
+use Rattle.edit_def.specs.OneFile.{no_room_alone}
 use Rattle.tree_read.specs.Nodes.{number_of}
-use Rattle.tree_ops.specs.Edits.{EditsFound, WritesSo, can_edit_so, stream_edit}
+use Rattle.tree_ops.specs.Edits.{EditsFound, can_edit_so, stream_edit}
 use Rattle.tree_ops.specs.Wanted.{machine_on}
 use Rattle.tree_ops.specs.declared.streams.StreamEdit.TheVariants as s
 use Rattle.tree_ops.proofs.EditBy.{IsEditBy, state_with}
-use Rattle.tree_ops.proofs.Judged.{can-of, if_asked, judge, judged, last-written, same-file, with_at, written-file}
-use Rattle.tree_ops.proofs.RoomAsked.{located-counted, parts-at, value-there}
+use Rattle.tree_ops.proofs.Judged.{can-of, if_written_by, judge, judged, last-written, same-file, turned, with_at, written-file}
+use Rattle.tree_ops.proofs.RoomAsked.{asked-unless, extent-there, located-counted, not-within, parts-at, value-there}
 use Rattle.tree_ops.proofs.StreamBy.{FindsStream, edited-file, edited-so, edited-stream, stream-found, stream-refused, stream_of_found}
 use Rattle.tree_ops.proofs.StreamFound.{bytes-so, spelt-so, tellable-so, there-so}
 
--- It is not built unless it is done in one of both ways.
-or-none : (b : Bool) → (b || false) ≡ b
-or-none true = refl
-or-none false = refl
-
-pub parted : (cannot over value alone fits : Bool)
-    → (cannot || not (over || ((not over && ((value && alone) && fits)) || false)))
-    ≡ not ((not cannot && over) || (((not cannot && value) && alone) && fits))
-parted true over value alone fits = refl
-parted false true value alone fits = refl
-parted false false value alone fits = ap not (or-none ((value && alone) && fits))
+-- It is not built unless it is done in one of the three ways.
+pub parted : (cannot over value alone fits extent one placed reaches : Bool)
+    → (cannot || not (over || ((not over && ((value && alone) && fits))
+    || (not over && ((extent && (one && (alone && placed))) && reaches)))))
+    ≡ not ((not cannot && over) || ((((not cannot && value) && alone) && fits)
+    || (((not cannot && (extent && (one && alone))) && reaches) && placed)))
+parted true over value alone fits extent one placed reaches = refl
+parted false true value alone fits extent one placed reaches = refl
+parted false false value alone fits extent one placed reaches =
+    ap (λ b. not (((value && alone) && fits) || b)) (turned extent one alone placed reaches)
 
 pub record-so : (cannot over value alone fits : Bool) → (not cannot && over) ≡ false → (((not cannot && value) && alone) && fits) ≡ true
     → (not over && ((value && alone) && fits)) ≡ true
@@ -60,12 +61,25 @@ record-so true over value alone fits other is = cc
 record-so false true value alone fits other is = cc
 record-so false false value alone fits other is = is
 
+pub clusters-so : (cannot over extent one alone placed reaches : Bool) → (not cannot && over) ≡ false
+    → (((not cannot && (extent && (one && alone))) && reaches) && placed) ≡ true
+    → (not over && ((extent && (one && (alone && placed))) && reaches)) ≡ true
+clusters-so true over extent one alone placed reaches other is = cc
+clusters-so false true extent one alone placed reaches other is = cc
+clusters-so false false extent one alone placed reaches other is = turned extent one alone placed reaches ∙ is
+
 -- what can be edited, and is not gone over, has other bytes there
 none-over : (cannot over value alone fits : Bool) → (not (not cannot && over) && (((not cannot && value) && alone) && fits)) ≡ true
     → over ≡ false
 none-over true over value alone fits e = cc
 none-over false true value alone fits e = cc
 none-over false false value alone fits e = refl
+
+none-over_there : (cannot over extent reaches : Bool) → (not (not cannot && over) && ((not cannot && extent) && reaches)) ≡ true
+    → over ≡ false
+none-over_there true over extent reaches e = cc
+none-over_there false true extent reaches e = cc
+none-over_there false false extent reaches e = refl
 
 module _ (facts : Facts) (view : VolumeView) (opens : List OpenEntry) (now session : ℕ) (path : List (List ℕ)) (stream : Option (List ℕ))
     (from : ℕ) (bytes : List ℕ) (tells : TellsFacts view facts) where
@@ -105,39 +119,81 @@ module _ (facts : Facts) (view : VolumeView) (opens : List OpenEntry) (now sessi
       gets_no_longer (from + len) (at found).content
       || fits_in_record view (found_file found) (stream_parts view (read view) (at found)) (from + len)
 
+  -- .. or lies in clusters, in one part, and can take what they need
+  abbrev extent : Found → Bool
+  extent found = in_extent (first_part (stream_parts view (read view) (at found)))
+
+  abbrev one : Found → Bool
+  one found = length (stream_parts view (read view) (at found)) == 1
+
+  abbrev reaches : Found → Bool
+  reaches found = can_reach view (found_file found) (stream_parts view (read view) (at found)) from len
+
   abbrev over : Found → Bool
   over found = can_write_over view name from len (found_file found)
 
   abbrev can : Found → Bool
   can found = can_resize view name (from + len) (found_file found)
 
+  abbrev reach : Found → Bool
+  reach found = can_reach_there view name from len (found_file found) && has_placed_bits view
+
   abbrev asked : Found → Option No
   asked found = room_to_write view name from len (found_file found)
+
+  abbrev behind : Found → Option No
+  behind found = room_to_reach view name from len (found_file found)
 
   no-room : (found : Found) → over found ≡ true → facts.no_room m command (at found) ≡ None
   no-room found is =
       tells.no_room m command (at found) ∙ has-room view (read view) command (at found) refl refl (can-of (cannot found) (goes found) is)
 
+  -- the room that is asked for, where the bytes do not end within the stream
+  abbrev within : Found → Bool
+  within found = is_in_place (cluster_bytes view.layout) (stream_parts view (read view) (at found)) from len
+
+  abbrev unless_within : Found → Bool → Option No
+  unless_within found inside = if inside then None
+      else no_room_alone view (found_file found) (new_clusters (cluster_bytes view.layout) (stream_parts view (read view) (at found)) from len)
+
+  asked-of : (found : Found) → is_some (at found).content ≡ true → (is_done_in_record view (read view) command (at found) ≡ true)
+      ⊎ (is_done_in_clusters view (read view) command (at found) ≡ true)
+      → facts.no_room m command (at found) ≡ unless_within found (within found)
+  asked-of found there way =
+      tells.no_room m command (at found)
+      ∙ value-room view (read view) command (at found) refl refl (located-counted view (read view) (at found) refl there) there way
+      ∙ asked-unless (no_room_alone view (found_file found)) (within found)
+      (new_clusters (cluster_bytes view.layout) (stream_parts view (read view) (at found)) from len)
+
   room : (found : Found) → over found ≡ false → can found ≡ true → facts.no_room m command (at found) ≡ asked found
   room found other is =
       let built = record-so (cannot found) (goes found) (value found) (alone found) (fits found) other is in
-      let stays = (and_parts (not (goes found)) ((value found && alone found) && fits found) built).1 in
-      let both = (and_parts (value found && alone found) (fits found) stays).0 in
-      let there = value-there view (read view) (at found) (and_parts (value found) (alone found) both).0 in
-      tells.no_room m command (at found)
-      ∙ value-room view (read view) command (at found) refl refl (located-counted view (read view) (at found) refl there) there (inl built)
+      let parts = and_parts (not (goes found)) ((value found && alone found) && fits found) built in
+      let both = (and_parts (value found && alone found) (fits found) parts.1).0 in
+      let its = (and_parts (value found) (alone found) both).0 in
+      asked-of found (value-there view (read view) (at found) its) (inl built)
+      ∙ ap (unless_within found) (not-within (cluster_bytes view.layout) (stream_parts view (read view) (at found)) from len its
+      (not-true (goes found) parts.0))
+
+  behind-room : (found : Found) → over found ≡ false → reach found ≡ true → facts.no_room m command (at found) ≡ behind found
+  behind-room found other is =
+      let built = clusters-so (cannot found) (goes found) (extent found) (one found) (alone found) (has_placed_bits view) (reaches found) other is in
+      let stays = (and_parts (not (goes found)) _ built).1 in
+      let both = (and_parts (extent found && (one found && (alone found && has_placed_bits view))) (reaches found) stays).0 in
+      asked-of found (extent-there view (read view) (at found) (and_parts (extent found) _ both).0) (inr built)
 
   -- the refusal that is due
   refusal-is : (found : Found) → refusal facts m session command (subject_of command) (at found)
       ≡ judge (at found).content (is_bad_stream_name name) (dir found) (is_wide from len) (shared m command (at found))
-      (not (over found || can found)) (facts.no_room m command (at found))
+      (not (over found || (can found || reach found))) (facts.no_room m command (at found))
   refusal-is found =
       let w = tells.whole_table in
       let o = tells.built_for m command (at found) in
       let both : (cannot_edit facts.whole_table (read view) (found_file found) || not (facts.built_for m command (at found)))
-      ≡ not (over found || can found) =
+      ≡ not (over found || (can found || reach found)) =
       ap (λ b. cannot_edit b (read view) (found_file found) || not (facts.built_for m command (at found))) w
-      ∙ ap (λ b. cannot found || not b) o ∙ parted (cannot found) (goes found) (value found) (alone found) (fits found) in
+      ∙ ap (λ b. cannot found || not b) o ∙ parted (cannot found) (goes found) (value found) (alone found) (fits found)
+      (extent found) (one found) (has_placed_bits view) (reaches found) in
       ap (λ b. judge (at found).content (is_bad_stream_name name) (dir found) (is_wide from len) (shared m command (at found)) b
       (facts.no_room m command (at found))) both
 
@@ -149,10 +205,10 @@ module _ (facts : Facts) (view : VolumeView) (opens : List OpenEntry) (now sessi
       (λ x. unless (refusal facts m session command (subject_of command) x) x)) e
       ∙ ap (λ o. unless o (at found)) (refusal-is found)
       ∙ judged (at found) (at found).content (is_bad_stream_name name) (dir found) (is_wide from len) (shared m command (at found))
-      (not (over found || can found)) (facts.no_room m command (at found))
-      (if over found then Ok (found_file found) else if_asked (can found) (asked found) (found_file found))
-      (last-written (at found) (found_file found) (over found) (can found) (facts.no_room m command (at found)) (asked found) (no-room found)
-      (room found))
+      (not (over found || (can found || reach found))) (facts.no_room m command (at found))
+      (if_written_by (over found) (can found) (reach found) (asked found) (behind found) (found_file found))
+      (last-written (at found) (found_file found) (over found) (can found) (reach found) (facts.no_room m command (at found)) (asked found)
+      (behind found) (no-room found) (room found) (behind-room found))
 
   path-refused : (why : No) → resolve (read view) path ≡ Err why → outcome facts m session command ≡ Err why
   unfolding outcome locate
@@ -161,8 +217,8 @@ module _ (facts : Facts) (view : VolumeView) (opens : List OpenEntry) (now sessi
   same : (found : Found) (file : ℕ) → write_in view opens name from len (found_file found) ≡ Ok file → found_file found ≡ file
   same found file is =
       same-file (at found).content (is_bad_stream_name name) (dir found) (is_wide from len) (shared m command (at found))
-      (if over found then Ok (found_file found) else if_asked (can found) (asked found) (found_file found)) (found_file found) file
-      (written-file (over found) (can found) (asked found) (found_file found) file) is
+      (if_written_by (over found) (can found) (reach found) (asked found) (behind found) (found_file found)) (found_file found) file
+      (written-file (over found) (can found) (reach found) (asked found) (behind found) (found_file found) file) is
 
   pub write-found : (file : ℕ) → write_wanted view opens path name from len ≡ Ok file → FindsStream facts view m session command name file
   write-found file is =
@@ -220,13 +276,14 @@ module _ (view new : VolumeView) (file : ℕ) (asked : List ℕ) (from : ℕ) (b
         }
         in_place false e writes = cc
 
-        in_record : (b : Bool) → b ≡ false → WritesBy way.InRecord
+        other_bytes : (b : Bool) → b ≡ false → PutsBytes view new file p.can.stream.is.part.name from bytes.now p.can.stream.bytes
+            (touched now p.can.settable.can.node).times p.can.settable.can.node.flags
             → PutsInStream b (state_with image view opens now done) at file p.can.settable.can.node from bytes.now new
-        in_record true e puts = cc
-        in_record false e puts =
-            edited-stream (s.Write from bytes) view new file asked now p (Some (written from bytes.now (bytes_at at))) at opens image done
-            at_stream at_node
-            (subst (λ held. PutsStream view new file p.can.stream.is.part.name (Some (written from bytes.now held))
+        other_bytes true e puts = cc
+        other_bytes false e puts =
+            edited-stream (s.Write from bytes) view new file asked now p (λ name. PutsBytes view new file name from bytes.now (bytes_at at)
+            (touched now p.can.settable.can.node).times p.can.settable.can.node.flags) at opens image done at_stream at_node
+            (subst (λ held. PutsBytes view new file p.can.stream.is.part.name from bytes.now held
             (touched now p.can.settable.can.node).times p.can.settable.can.node.flags)
             (sym (bytes-so view p.found asked can_so p.can file p.file_is at at_content)) puts)
 
@@ -234,11 +291,15 @@ module _ (view new : VolumeView) (file : ℕ) (asked : List ℕ) (from : ℕ) (b
             → PutsInStream (over_by parts) (state_with image view opens now done) at file p.can.settable.can.node from bytes.now new
         by way.InPlace e can writes = in_place (over_by parts) (ap over_by parts-same ∙ can-of cannot_so (over_by there) can) writes
         by way.InRecord e can puts =
-            in_record (over_by parts)
+            other_bytes (over_by parts)
             (ap over_by parts-same ∙ none-over cannot_so (over_by there) (is_some (stream_value there)) (has_no_list view number)
             (gets_no_longer (from + length bytes.now) (content_named (read view) asked (node_of (read view) number))
             || fits_in_record view number there (from + length bytes.now)) can) puts
-        by way.InClusters e can puts = cc
+        by way.InClusters e can puts =
+            other_bytes (over_by parts)
+            (ap over_by parts-same ∙ none-over_there cannot_so (over_by there)
+            (in_extent (first_part there) && ((length there == 1) && has_no_list view number))
+            (has_placed_bits view && can_go_behind view number there from (length bytes.now)) can) puts
 
 -- IT IS THAT OF THE COMMAND
 pub write-by : (opens : List OpenEntry) (now session : ℕ) (path : List (List ℕ)) (stream : Option (List ℕ)) (from : ℕ)

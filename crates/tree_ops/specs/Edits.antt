@@ -20,7 +20,6 @@ use Rattle.mark_place.specs.LogSpans.{AreLogSpans, log_sectors}
 use Rattle.tree_model.specs.Facts.{IsVolumeOf, is_whole_table}
 use Rattle.tree_model.specs.Opens.{contains, is_handle, to_write}
 use Rattle.tree_model.specs.Reading.{read}
-use Rattle.tree_model.specs.Streams.{resized, written}
 use Rattle.tree_model.specs.Subjects.{stream_name}
 use Rattle.tree_model.specs.declared.command.Command.{Command}
 use Rattle.tree_model.specs.declared.command.Command.TheVariants as c
@@ -29,12 +28,12 @@ use Rattle.tree_model.specs.declared.reply.No.{No}
 use Rattle.tree_model.specs.declared.reply.No.TheVariants as no
 use Rattle.session_def.specs.Done.{HasEmptyLog}
 use Rattle.volume_mark.specs.Mark.{IsFlagOf}
-use Rattle.in_place_done.specs.Below.{PunchesValue, PutsStream, SetsAttributes, SetsSecurity, WritesOver}
+use Rattle.in_place_done.specs.Below.{PunchesValue, PutsStream, ResizesStream, SetsAttributes, SetsSecurity, no_gain}
 use Rattle.tree_read.specs.declared.stop.Stop.{Stop}
 use Rattle.tree_read.specs.declared.stop.Stop.TheVariants as stop
 use Rattle.stream_changes.specs.Below.{IsFoundToEdit, IsSecurable, IsSettable, Securable, Settable, TellsStored, Way, Writable, can_get, can_go, can_punch, can_write, drop_wanted, hwrite_wanted, punch_wanted, resize_wanted, secure_wanted, settable, write_wanted}
 use Rattle.stream_changes.specs.Staged.{StagesGiving}
-use Rattle.stream_changes.specs.Below as way
+use Rattle.stream_changes.specs.Streams.{WritesSo}
 use Rattle.tree_read.specs.Nodes.{number_of}
 use Rattle.tree_ops.specs.declared.edit.Edit.{Edit}
 use Rattle.tree_ops.specs.declared.edit.Edit.TheVariants as e
@@ -115,7 +114,7 @@ pub record IsWritten {D : Type 0} (g : Ghosts D) (place : MarkPlace) (old new : 
   pub committed : committed_of g new ≡ mounted_of g old
 
 -- WHAT AN EDIT IS of a volume: the number of the file that it finds, or the refusal; what it does to that file; and how many sectors it
--- stages at most, beside twelve for each name of the file and two for each cluster that is given back.
+-- stages at most, beside twelve for each name of the file and two for each cluster that is given back, or taken.
 pub record EditOf : Type 1 where
   pub wanted : VolumeView → Result ℕ No
   pub Does : VolumeView → VolumeView → ℕ → Type 0
@@ -167,16 +166,12 @@ abbrev pub IsFoundFor : StreamEdit → VolumeView → Writable → List ℕ → 
 IsFoundFor what view found name = IsFoundToEdit view found name (λ file. can_edit_so what view name found.way file)
 
 -- It was edited so, where it had these bytes before; the file has these times and flags. A write went over bytes that lie in place, or the
--- stream, a value, has other bytes; zeros went over those in the range; it has another length; or it is gone.
-abbrev pub WritesSo : Way → ℕ → List ℕ → VolumeView → VolumeView → ℕ → List ℕ → List ℕ → List ℕ → ℕ → Type 0
-WritesSo way.InPlace from bytes old new file name was times flags = WritesOver old new file name from bytes times flags
-WritesSo other from bytes old new file name was times flags = PutsStream old new file name (Some (written from bytes was)) times flags
-
+-- stream has other bytes; zeros went over those in the range; it has another length; or it is gone.
 abbrev pub EditsSo : StreamEdit → Way → VolumeView → VolumeView → ℕ → List ℕ → List ℕ → List ℕ → ℕ → Type 0
 EditsSo (s.Write from bytes) way old new file name was times flags = WritesSo way from bytes.now old new file name was times flags
 EditsSo (s.Punch from len) way old new file name was times flags = PunchesValue old new file name from len times flags
-EditsSo (s.Resize size) way old new file name was times flags = PutsStream old new file name (Some (resized size was)) times flags
-EditsSo s.Remove way old new file name was times flags = PutsStream old new file name None times flags
+EditsSo (s.Resize size) way old new file name was times flags = ResizesStream old new file name size was times flags
+EditsSo s.Remove way old new file name was times flags = PutsStream old new file name None no_gain 0 times flags
 
 -- The stream of this name was edited so; the times are those of a write.
 pub record EditsFound (what : StreamEdit) (old new : VolumeView) (file : ℕ) (name : List ℕ) (moment : ℕ) : Type 0 where
@@ -186,12 +181,12 @@ pub record EditsFound (what : StreamEdit) (old new : VolumeView) (file : ℕ) (n
   pub edits : EditsSo what found.way old new file can.stream.is.part.name can.stream.bytes (slice_set (slice_set found.times 1 moment) 2 moment)
       found.flags
 
--- how many sectors are staged of the records of a file of which a value is written, and of the bytes of a write
+-- how many sectors are staged of the records of a file of which a stream is edited, and of the bytes of a write
 abbrev pub most_of_value : ℕ
 most_of_value = 8
 
 abbrev pub most_for : StreamEdit → ℕ
-most_for (s.Write from bytes) = most_of_value + length bytes.now / 512
+most_for (s.Write from bytes) = 10 + length bytes.now / 512
 most_for other = most_of_value
 
 abbrev pub StagesSo : {D : Type 0} (g : Ghosts D) → StreamEdit → ℕ → Mft D g → Mft D g → Type 0

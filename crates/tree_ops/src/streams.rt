@@ -2,8 +2,6 @@
 ghost use Rattle.std.specs.Prelude.{◌≡◌, ◌≤◌, ◌<◌, ◌+◌, ◌*◌, ◌/◌, ◌^◌, ℕ, All, List, None, IfErr, IfOk, IfSome, IsSome, IsTrue, MatchResult, OnErr, OnOk, false, length};
 ghost use Rattle.vol_disk.specs.Contents.{WhereTold};
 ghost use Rattle.vol_stage.specs.Staged.{GoesOn, disk_of, image};
-ghost use Rattle.volume_def.specs.FileNames.{names_of};
-ghost use Rattle.volume_def.specs.Files.{records_of};
 ghost use Rattle.mft_table.specs.InUse.{IsInUse};
 ghost use Rattle.mft_table.specs.Mft.{faults_of, is_mft_broken, mounted_of, stage_of, view};
 ghost use Rattle.mft_table.specs.MirrorClusters.{IsMirrorInside};
@@ -15,8 +13,8 @@ ghost use Rattle.tree_model.specs.Tree.{node_of};
 ghost use Rattle.tree_read.specs.Answered.{Answered, Counts, IsFailed, with_ok};
 ghost use Rattle.tree_read.specs.Nodes.{number_of, parts_in};
 ghost use Rattle.tree_read.specs.Standings.{IsStanding};
-ghost use Rattle.stream_changes.specs.Below.{IsOfEdit, IsWritable, StagesFew, TellsStored};
-ghost use Rattle.tree_ops.specs.Edits.{CanEdit, EditsFound, EditsSo, EndsAs, IsClear, IsFoundFor, IsNear, MftStill, StagesSo, WritesSo};
+ghost use Rattle.stream_changes.specs.Below.{TellsStored};
+ghost use Rattle.tree_ops.specs.Edits.{CanEdit, EditsFound, EditsSo, EndsAs, IsClear, IsFoundFor, IsNear, MftStill, StagesSo};
 ghost use Rattle.tree_ops.specs.Edits.{hwrite_edit, stream_edit, stream_wanted};
 ghost use Rattle.tree_ops.specs.declared.streams.StreamEdit.TheVariants as s;
 
@@ -28,8 +26,8 @@ use mft_table::Mft;
 use share_table::Opens;
 use std::alloc::Global;
 use stream_changes::{
-    Way, Writable, find_punchable, find_to_drop, find_to_resize, find_writable,
-    find_writable_through, punch_value, remove_stream, resize_stream, write_over, write_value,
+    Writable, find_punchable, find_to_drop, find_to_resize, find_writable, find_writable_through,
+    punch_value, remove_stream, resize_stream, write_stream,
 };
 use tree_model::{Access, No, Path};
 use tree_read::{Standing, Stop};
@@ -90,58 +88,6 @@ fn find_stream<D: Disk>(
     }
 }
 
-// Writes bytes into the stream that was found, from byte `from` on, over those that lie there or into its value, and then sets the four
-// times of its file, which shows the flags that it had. All of it is staged.
-fn write_stream<D: Disk>(
-    alloc: Global,
-    mft: &mut Mft<'_, D>,
-    found: &Writable,
-    times: &[u64; 4],
-    from: u64,
-    bytes: &[u8],
-) -> Result<(), FileNo>
-    requires volume { IsInUse D.Disk mft.old }
-    requires mirror { IsMirrorInside (mounted_of D.Disk mft.old) }
-    requires sound { is_mft_broken D.Disk mft.old ≡ false }
-    requires inside { number_of found.now.held < length (mounted_of D.Disk mft.old).records }
-    requires near { from + length bytes.now ≤ 2 ^ 40 }
-    requires part { found.now.stream.part < length (parts_in found.now.held) }
-    requires can { IsTrue (view D.Disk mft.old).told → (name : List ℕ)
-        × IsWritable (view D.Disk mft.old) found.now name from (length bytes.now) }
-    ensures writes { OnOk result (IsTrue (view D.Disk mft.old).told → (name : List ℕ)
-        → (can : IsWritable (view D.Disk mft.old) found.now name from (length bytes.now))
-        → WritesSo found.now.way from bytes.now (view D.Disk mft.old) (view D.Disk mft.new) (number_of found.now.held)
-        can.stream.is.part.name can.stream.bytes times.now found.now.flags) }
-    ensures places { IsTrue (view D.Disk mft.old).told → StagesFew D.Disk
-        (8 + length bytes.now / 512 + 12 * length (names_of (records_of (view D.Disk mft.old)) (number_of found.now.held)))
-        (IsOfEdit (view D.Disk mft.old) (number_of found.now.held)
-        (names_of (records_of (view D.Disk mft.old)) (number_of found.now.held))) mft.old mft.new }
-    ensures tables { OnOk result (TellsStored D.Disk mft.new) }
-    ensures device { KeepsDevice D.Disk mft.old mft.new }
-    ensures err { IfErr result IsReadNo }
-    ensures faults { MatchResult result (λ _. faults_of D.Disk mft.new ≡ faults_of D.Disk mft.old)
-        (CountsNo (faults_of D.Disk mft.old) (faults_of D.Disk mft.new)) }
-{
-    let stream = &found.stream;
-    let number = found.held.parts.number();
-    match found.way {
-        Way::InPlace => write_over(
-            alloc,
-            mft,
-            &found.held.parts,
-            stream,
-            number,
-            times,
-            found.flags,
-            from,
-            bytes,
-        ),
-        Way::InRecord => write_value(alloc, mft, stream, number, from, bytes, times, found.flags),
-        // No bytes are written so yet.
-        Way::InClusters => Ok(()),
-    }
-}
-
 // Does it with the stream that was found, and then sets the four times of its file, which shows the flags that it had. All of it is staged.
 fn put_stream<D: Disk>(
     alloc: Global,
@@ -173,7 +119,7 @@ fn put_stream<D: Disk>(
     let number = found.held.parts.number();
     match what {
         StreamEdit::Write { from, bytes } => {
-            write_stream(alloc, mft, found, times, from, bytes.as_slice())
+            write_stream(alloc, mft, found, from, bytes.as_slice(), times)
         }
         StreamEdit::Punch { from, len } => {
             punch_value(alloc, mft, stream, number, times, found.flags, from, len)

@@ -1,4 +1,4 @@
-use Rattle.std.proofs.Common.{◌+◌, ◌*◌, ◌/◌, ℕ, List, length, refl, sym, subst}
+use Rattle.std.proofs.Common.{◌+◌, ◌/◌, ℕ, List, length, refl, sym, subst}
 use Rattle.std.proofs.lemmas.Result.{on_ok_weaker}
 use Rattle.std.specs.Prelude.{IsTrue, OnOk, Result, Ok, Err}
 use Rattle.volume_def.specs.FileNames.{names_of}
@@ -6,7 +6,8 @@ use Rattle.volume_def.specs.Files.{records_of}
 use Rattle.mft_table.specs.Mft.{view}
 use Rattle.stored_bits.proofs.DeviceKept.{device-disk}
 use Rattle.tree_read.specs.Nodes.{number_of}
-use Rattle.stream_changes.specs.Below.{IsOfEdit, StagesFew, StagesValue}
+use Rattle.stream_changes.specs.Below.{StagesValue}
+use Rattle.stream_changes.specs.Staged.{StagesGiving}
 use Rattle.stream_changes.proofs.GivingLaws.{gives-none}
 use Rattle.tree_ops.specs.Edits.{StagesSo}
 use Rattle.tree_ops.proofs.StagedEdits.{value-staged}
@@ -21,21 +22,17 @@ pub write_stream-requires-clause-can : goal.write_stream-requires-clause-can
 write_stream-requires-clause-can g c =
     let v = view g.D.Disk c.args.mft.now in
     let found = c.args.found.now in
-    let number = c.number-number in
-    subst (λ (all : List ℕ). CanWrite v v found number.result number.ensures c.in-Write.from all) (sym c.as_slice.ensures)
-    (subst (CanEditSo v v found number.result number.ensures) c.in-Write.is c.requires.can)
+    subst (λ (all : List ℕ). CanWrite v v found c.in-Write.from all) (sym c.as_slice.ensures)
+    (subst (CanEditSo v v found (number_of found.held) refl) c.in-Write.is c.requires.can)
 
 pub returns-in-Write-clause-edits : goal.returns-in-Write-clause-edits
 returns-in-Write-clause-edits g c =
     let v = view g.D.Disk c.args.mft.now in
     let new = view g.D.Disk c.write_stream.new.mft in
     let found = c.args.found.now in
-    let number = c.number-number in
-    subst (λ what. OnOk c.write_stream.result (WasEditedSo v new found number.result number.ensures c.args.times.now what))
-    (sym c.in-Write.is)
-    (subst (λ (all : List ℕ). OnOk c.write_stream.result
-    (WasWritten v new found number.result number.ensures c.in-Write.from all c.args.times.now)) c.as_slice.ensures
-    c.write_stream.ensures.writes)
+    subst (λ what. OnOk c.write_stream.result (WasEditedSo v new found (number_of found.held) refl c.args.times.now what)) (sym c.in-Write.is)
+    (subst (λ (all : List ℕ). OnOk c.write_stream.result (WasWritten v new found c.in-Write.from all c.args.times.now)) c.as_slice.ensures
+    c.write_stream.ensures.written)
 
 pub punch_value-requires-clause-can : goal.punch_value-requires-clause-can
 punch_value-requires-clause-can g c =
@@ -84,14 +81,14 @@ returns-in-Remove-clause-edits g c =
     (sym c.in-Remove.is) c.remove_stream.ensures.removed
 
 pub returns-in-Write-clause-places : goal.returns-in-Write-clause-places
-returns-in-Write-clause-places g c = on_ok_always c.write_stream.result (λ told.
+returns-in-Write-clause-places g c =
+    let v = view g.D.Disk c.args.mft.now in
     let f = number_of c.args.found.now.held in
-    subst (λ what. StagesSo g.D.Disk what f c.args.mft.now c.write_stream.new.mft) (sym c.in-Write.is)
-    (gives-none g.D.Disk (8 + length c.in-Write.bytes.now / 512) f (view g.D.Disk c.args.mft.now) c.args.mft.now c.write_stream.new.mft
-    (subst (λ (all : List ℕ). StagesFew g.D.Disk
-    (8 + length all / 512 + 12 * length (names_of (records_of (view g.D.Disk c.args.mft.now)) f))
-    (IsOfEdit (view g.D.Disk c.args.mft.now) f (names_of (records_of (view g.D.Disk c.args.mft.now)) f)) c.args.mft.now
-    c.write_stream.new.mft) c.as_slice.ensures (c.write_stream.ensures.places told))))
+    subst (λ what. OnOk c.write_stream.result (IsTrue v.told → StagesSo g.D.Disk what f c.args.mft.now c.write_stream.new.mft))
+    (sym c.in-Write.is)
+    (subst (λ (all : List ℕ). OnOk c.write_stream.result (IsTrue v.told
+    → StagesGiving g.D.Disk (10 + length all / 512) f v c.args.mft.now c.write_stream.new.mft)) c.as_slice.ensures
+    c.write_stream.ensures.places)
 
 pub returns-in-Punch-clause-places : goal.returns-in-Punch-clause-places
 returns-in-Punch-clause-places g c = on_ok_always c.punch_value.result (λ told.
