@@ -27,8 +27,10 @@ bytes over bytes of a stream that stand in clusters. Of a stream that stands in 
 record of its file punch TARGET AT LEN puts zeros over bytes, and where that is the
 only record of the file write and hwrite put bytes into it, truncate TARGET SIZE
 cuts or lengthens it, as far as that record has room, and rmstream PATH:NAME
-removes it. Of a stream of such a file in clusters truncate cuts, and rmstream
-removes it. All other writes, and all other commands, are no 28 Unbuilt.
+removes it. Of a stream of such a file in clusters truncate cuts it, or lengthens
+it within its last cluster, rmstream removes it, and write and hwrite put bytes
+right behind those that were written, into new clusters too, where as many are free
+one behind the other. All other writes, and all other commands, are no 28 Unbuilt.
 The first edit of a run marks the volume as not closed until the run ends, and
 empties its log; a hibernated system is not recognised, so shut it down before.
 A volume that check refuses is refused in the same words.
