@@ -93,8 +93,8 @@ fn lay_named(image: &mut [u8], at: usize) -> usize {
     end
 }
 
-// A new volume leaves 121 clusters, and has here a small file `k` with that stream beside its own bytes.
-fn volume_with_named(alloc: Global) -> Result<Vec<u8>, test::Fail> {
+/// A new volume leaves 121 clusters, and has here a small file `k` with that stream beside its own bytes.
+pub fn volume_with_named(alloc: Global) -> Result<Vec<u8>, test::Fail> {
     let mut image = volume(alloc)?;
     let at = begin_file(&mut image, 26, 1, false);
     let at = lay_standard(&mut image, at, [0; 4], 0x20);

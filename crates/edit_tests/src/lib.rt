@@ -9,6 +9,12 @@ mod edits;
 #[cfg(test)]
 mod growth;
 #[cfg(test)]
+mod longer;
+#[cfg(test)]
+mod longer_kinds;
+#[cfg(test)]
+mod longer_room;
+#[cfg(test)]
 mod values;
 #[cfg(test)]
 mod writes;

@@ -77,7 +77,7 @@ const CUTS: [Row; 29] = [
     ("truncate /a:x\\y 0", "no 9 BadName\n"),
     ("truncate /d 0", "no 10 IsDir\n"),
     ("truncate /longfilename.txt 0", "no 16 Packed\n"),
-    ("truncate /h 73001", "no 28 Unbuilt\n"),
+    ("truncate /h 73729", "no 28 Unbuilt\n"),
     ("truncate /a 1099511627777", "no 19 TooBig\n"),
     ("truncate /a:s 0", "ok\n"),
     ("streams /a", "stream 2\nstream 0 s\nok\n"),
