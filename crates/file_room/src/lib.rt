@@ -7,5 +7,5 @@ mod list;
 mod need;
 mod value;
 
-pub use ask::ask_for_room;
+pub use ask::{ask_for_room, ask_to_make};
 pub use value::clusters_of_value;
