@@ -1,0 +1,2 @@
+mod SpellingLaws
+mod PlaceLaws
