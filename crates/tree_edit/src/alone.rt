@@ -341,7 +341,7 @@ fn ask_to_resize<D: Disk>(
 ///
 /// The refusal of the first component that is bad; `BadName`, `IsDir`, `Packed` and `TooBig`; `Shared`, where an open of the file does not
 /// share writing; `Unbuilt`, where the file cannot be edited or has an attribute list, the stream is missing, or it is a value that gets
-/// longer and whose record has no room for that, or it lies in clusters and ends behind its last one then, or in more parts than one, or the
+/// longer and whose record has no room for that, or it lies in clusters and ends outside its last one then, or in more parts than one, or the
 /// bitmap of clusters is a value; of one that gets longer `TooManyParts`, `MftFull` and `NoRoom`; `Memory`, and `Device` where the disk failed.
 pub fn find_to_resize<D: Disk>(
     alloc: Global,
