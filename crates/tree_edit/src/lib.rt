@@ -25,7 +25,7 @@ pub use punch::punch_value;
 pub use punchable::find_punchable;
 pub use securable::{Securable, find_securable};
 pub use secure::set_security;
-pub use settable::{Settable, find_settable};
+pub use settable::{Settable, can_edit, find_settable};
 pub use value::fits_at;
 pub use writable::{Way, Writable};
 pub use write::{find_writable, find_writable_through};
