@@ -1,7 +1,8 @@
 //! The directory in which a new name would stand.
-ghost use Rattle.std.specs.Prelude.{◌≡◌, IfOk, IfSome, IsTrue};
+ghost use Rattle.std.specs.Prelude.{◌≡◌, Contains, IfOk, IfSome, IsTrue, false};
 ghost use Rattle.mft_table.specs.InUse.{IsInUse};
 ghost use Rattle.mft_table.specs.Mft.{view};
+ghost use Rattle.tree_model.specs.Cases.{is_bad_name};
 ghost use Rattle.tree_model.specs.Reading.{read};
 ghost use Rattle.tree_read.specs.Answered.{Answered, Finds, with_ok};
 ghost use Rattle.tree_read.specs.Nodes.{number_of};
@@ -58,6 +59,8 @@ pub fn find_place<'p, D: Disk>(
     requires last { IsTrue (view D.Disk mft.old).told → IfSome last (IsStanding (view D.Disk mft.old)) }
     ensures answered { Answered D.Disk mft.old mft.new (λ volume. place_wanted (read volume) path.now) (with_ok place_of result) }
     ensures standing { IfOk result (λ place. IsTrue (view D.Disk mft.old).told → IsStanding (view D.Disk mft.old) place.standing) }
+    ensures among { IfOk result (λ place. Contains path.now place.name.now) }
+    ensures good { IfOk result (λ place. is_bad_name place.name.now ≡ false) }
 {
     let Some((name, names)) = path.as_slice().split_last() else {
         return Err(Stop::No(No::Exists));

@@ -1,4 +1,7 @@
-use Rattle.std.proofs.Common.{ap, sym, ◌∙◌}
+use Rattle.std.proofs.Common.{◌∷◌, ℕ, [], List, ap, subst, sym, ◌∙◌}
+use Rattle.std.proofs.lemmas.List.Elements.{Contains-append_right}
+use Rattle.list_laws.proofs.MemberLaws.{Contains-head}
+use Rattle.std.specs.List.{Contains}
 use Rattle.tree_model.specs.Cases.{is_bad_name}
 use Rattle.tree_read.specs.Standings.{number_within}
 use Rattle.tree_read.proofs.GivesLaws.{handed-on}
@@ -50,3 +53,11 @@ returns-clause-answered g c =
     (not-there g.D.Disk c.in-Some.name.now (number_within c.in_ok-standing.standing)
     (ap is_bad_name (sym c.as_slice-2.ensures) ∙ sym c.is_bad_name.ensures ∙ c.if-is_bad_name.false) c.enter.new.mft c.is_there.new.mft
     (let b = c.if-branch.false in rw (sym b) c.in_ok-is_there.ensures))
+
+pub returns-clause-among : goal.returns-clause-among
+returns-clause-among g c =
+    subst (λ (path : List (List ℕ)). Contains path c.in-Some.name.now) (sym (sym c.as_slice.ensures ∙ c.in-Some.ensures.cases.0))
+    (Contains-append_right c.in-Some.names.now (c.in-Some.name.now ∷ []) c.in-Some.name.now (Contains-head c.in-Some.name.now []))
+
+pub returns-clause-good : goal.returns-clause-good
+returns-clause-good g c = ap is_bad_name (sym c.as_slice-2.ensures) ∙ sym c.is_bad_name.ensures ∙ c.if-is_bad_name.false

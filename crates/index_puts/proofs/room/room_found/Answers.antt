@@ -1,0 +1,30 @@
+use Rattle.std.proofs.Common.{rules, arith}
+use Rattle.std.proofs.lemmas.Grind.{common_steps}
+use Rattle.mft_table.specs.Mft.{view}
+use Rattle.index_store.specs.Index.{index_held}
+use Rattle.index_store.specs.IndexBlocks.{records_found}
+use Rattle.index_store.proofs.ToldLaws.{records-told}
+use Rattle.index_puts.proofs.room.room_found.Goals as goal
+
+pub returns-in-Ok-clause-room : goal.returns-in-Ok-clause-room
+returns-in-Ok-clause-room g c = λ told.
+    let volume = view g.D.Disk c.args.mft.now in
+    let index = c.args.index in
+    c.in-Ok.ensures.room (records_found volume c.args.file.now index)
+    (records-told volume (index_held c.args.file.now index.name.now) told)
+
+pub returns-in-Ok-clause-fetched : goal.returns-in-Ok-clause-fetched
+returns-in-Ok-clause-fetched g c = λ told node says depth s sorted.
+    let volume = view g.D.Disk c.args.mft.now in
+    let index = c.args.index in
+    let costs = c.in-Ok.ensures.fetched (records_found volume c.args.file.now index)
+    (records-told volume (index_held c.args.file.now index.name.now) told) node says depth s sorted in
+    search (rules, arith)
+
+pub returns-clause-fetched : goal.returns-clause-fetched
+returns-clause-fetched g c = λ told node says depth s sorted.
+    let volume = view g.D.Disk c.args.mft.now in
+    let index = c.args.index in
+    let costs = c.in-Err.ensures.fetched (records_found volume c.args.file.now index)
+    (records-told volume (index_held c.args.file.now index.name.now) told) node says depth s sorted in
+    grind (arith, common_steps)

@@ -1,0 +1,69 @@
+//! Laws with nothing to run: what a volume is where an item was put into the index of a directory.
+ghost use Rattle.std.specs.Prelude.{◌≡◌, ◌≢◌, ℕ, IfSome, List, [], ◌∷◌, codes};
+ghost use Rattle.ntfs_def.specs.KeyOrder.{name_order};
+ghost use Rattle.ntfs_def.specs.Node.{Item};
+ghost use Rattle.ntfs_def.specs.Units.{wide};
+ghost use Rattle.ntfs_def.specs.declared.kinds.TheConstants.{INDEX_ALLOCATION};
+ghost use Rattle.volume_def.specs.CaseClause.{volume_fold};
+ghost use Rattle.volume_def.specs.Files.{parts, records_of};
+ghost use Rattle.volume_def.specs.Readable.{IsReadableVolume};
+ghost use Rattle.volume_def.specs.Sound.{Clause, Holds, Indexes, rank_of};
+ghost use Rattle.volume_def.specs.Table.{cluster_bytes};
+ghost use Rattle.volume_def.specs.Values.{first_part, value_on};
+ghost use Rattle.volume_def.specs.View.{VolumeView};
+ghost use Rattle.volume_edits.specs.Owners.{HasOwners};
+ghost use Rattle.index_tree.specs.Edit.{IsAbsent};
+ghost use Rattle.tree_model.specs.IndexRoom.{Index, index_depth};
+ghost use Rattle.edit_def.specs.Items.{ChangesItems, HasItems, IsCurrent, KeepsItems};
+ghost use Rattle.edit_def.specs.Kept.{KeepsBut};
+ghost use Rattle.entry_edits.specs.Refreshable.{is_part_key};
+ghost use Rattle.index_puts.specs.Held.{CanPut};
+ghost use Rattle.index_puts.specs.LeafRoom.{has_leaf_room, names_of_directory};
+ghost use Rattle.index_puts.specs.PutsItem.{PutsItem};
+ghost use Rattle.index_puts.specs.RootRoom.{has_root_room};
+
+/// The directory has the item more, where none of its items had this key (`items`), and every other directory has the items that it
+/// had (`others`). An entry of any directory that told what its file does tells it still (`current`). Every other index is as deep
+/// as it was (`depths`).
+pub fn put_items()
+    ensures items { (old new : VolumeView) (dir : ℕ) (item : Item) (was : List Item) → PutsItem old new dir item → HasItems old dir was
+        → IsAbsent (name_order (volume_fold old)) item.key was → ChangesItems old new dir [] (item ∷ []) }
+    ensures others { (old new : VolumeView) (dir : ℕ) (item : Item) → PutsItem old new dir item → CanPut old → (g : ℕ) → g ≢ dir
+        → KeepsItems old new g }
+    ensures current { (old new : VolumeView) (dir : ℕ) (item : Item) → PutsItem old new dir item → HasOwners old
+        → (f : ℕ) (key : List ℕ) → IsCurrent old f key → IsCurrent new f key }
+    ensures depths { (old new : VolumeView) (dir : ℕ) (item : Item) → PutsItem old new dir item → HasOwners old → (index : Index)
+        → ¬ ((index.file ≡ dir) × (index.name ≡ wide (codes "$I30"))) → index_depth new index ≡ index_depth old index }
+{}
+
+/// All records are as they were, and so are all parts of all files and the value of each root (`records`). All attributes are kept but
+/// the records of that index (`kept`), the table of case with them (`case`). Each clause of the volume definition that held holds still
+/// but that on indexes (`beside`): so the volume's files can be read (`readable`), no cluster has two owners (`owners`), and an item
+/// can be put once more (`can`).
+pub fn put_clauses()
+    ensures records { (old new : VolumeView) (dir : ℕ) (item : Item) → PutsItem old new dir item → HasOwners old
+        → records_of new ≡ records_of old }
+    ensures kept { (old new : VolumeView) (dir : ℕ) (item : Item) → PutsItem old new dir item → HasOwners old
+        → KeepsBut (is_part_key INDEX_ALLOCATION dir) old new }
+    ensures case { (old new : VolumeView) (dir : ℕ) (item : Item) → PutsItem old new dir item → HasOwners old
+        → volume_fold new ≡ volume_fold old }
+    ensures beside { (old new : VolumeView) (dir : ℕ) (item : Item) → PutsItem old new dir item → HasOwners old → IsReadableVolume old
+        → (clause : Clause) → rank_of clause ≢ rank_of Indexes → Holds old clause → Holds new clause }
+    ensures readable { (old new : VolumeView) (dir : ℕ) (item : Item) → PutsItem old new dir item → HasOwners old → IsReadableVolume old
+        → IsReadableVolume new }
+    ensures owners { (old new : VolumeView) (dir : ℕ) (item : Item) → PutsItem old new dir item → HasOwners old → HasOwners new }
+    ensures can { (old new : VolumeView) (dir : ℕ) (item : Item) → PutsItem old new dir item → CanPut old → CanPut new }
+{}
+
+/// There is as much room in a leaf as there was where the parts of the directory's index are the same, the bytes of its records, the
+/// size of clusters and the table of case (`leaf`), and beside a root where all parts of the directory are, and the record that holds
+/// the root (`root`).
+pub fn room_laws()
+    ensures leaf { (old new : VolumeView) (dir : ℕ) (key : List ℕ) (len : ℕ) → names_of_directory new dir ≡ names_of_directory old dir
+        → value_on new (names_of_directory old dir).records ≡ value_on old (names_of_directory old dir).records
+        → cluster_bytes new.layout ≡ cluster_bytes old.layout → volume_fold new ≡ volume_fold old
+        → has_leaf_room new dir key len ≡ has_leaf_room old dir key len }
+    ensures root { (old new : VolumeView) (dir len : ℕ) → parts (records_of new) dir ≡ parts (records_of old) dir
+        → IfSome (first_part (names_of_directory old dir).root) (λ part. new.block part.holder ≡ old.block part.holder)
+        → has_root_room new dir len ≡ has_root_room old dir len }
+{}

@@ -1,0 +1,258 @@
+-- ALL THAT IS LEFT ALONE where a file came under a name.
+use Rattle.std.proofs.Common.{◌≡◌, ◌≢◌, ◌≤◌, ◌<◌, ◌+◌, ◌*◌, ◌%◌, ◌==◌, ℕ, suc, true, false, List, [], ◌∷◌, codes, filter, length}
+use Rattle.std.proofs.Common.{None, Some, refl, sym, ap, subst, inl, inr, ◌∙◌, arith}
+use Rattle.std.specs.Prelude.{All, option_and_then, slice_index, slice_range}
+use Rattle.std.specs.List.{Contains}
+use Rattle.std.specs.Option.{option_map_or}
+use Rattle.std.specs.Str.{bytes_eq}
+use Rattle.std.proofs.lemmas.Bool.{and_right, cases_eq, eqb-true, ne_eqb, or_from}
+use Rattle.list_laws.proofs.MemberLaws.{All-from_Contains, Contains-cases, Contains-from_filter, Contains-only}
+use Rattle.list_laws.proofs.OptionLaws.{none_other}
+use Rattle.list_laws.proofs.SameItemsLaws.{SameItems-same}
+use Rattle.ntfs_def.specs.Attribute.{Attribute, attributes}
+use Rattle.ntfs_def.specs.AttributeList.{list_entries}
+use Rattle.ntfs_def.specs.Fixup.{opened_of}
+use Rattle.ntfs_def.specs.IndexTree.{most_depth}
+use Rattle.ntfs_def.specs.ListOrder.{AreInOrder}
+use Rattle.ntfs_def.specs.Node.{Node, short_node}
+use Rattle.ntfs_def.specs.Record.{Header, header_of, is_in_use}
+use Rattle.ntfs_def.specs.Units.{wide}
+use Rattle.ntfs_def.specs.declared.kinds.TheConstants.{ATTRIBUTE_LIST, BITMAP, DATA, FILE_NAME, INDEX_ALLOCATION, INDEX_ROOT}
+use Rattle.ntfs_def.specs.declared.lengths.TheConstants.{INDEX_RECORD}
+use Rattle.ntfs_def.specs.declared.records.TheConstants.{LOG_FILE, UPCASE}
+use Rattle.volume_def.specs.CaseClause.{volume_fold}
+use Rattle.volume_def.specs.Files.{Part, Value, content_value, file_of, is_of, parts, parts_at, record_of, record_on, records_of}
+use Rattle.volume_def.specs.IndexesClause.{index_nodes}
+use Rattle.volume_def.specs.ListsClause.{is_list}
+use Rattle.volume_def.specs.Table.{TableLayout, cluster_bytes}
+use Rattle.volume_def.specs.Values.{KeepsClusters, first_part, value_of_parts, value_on}
+use Rattle.volume_def.specs.View.{VolumeView}
+use Rattle.volume_def.proofs.ValueLaws.{spot_at-owned, value-frame}
+use Rattle.volume_edits.specs.Owners.{HasOwners}
+use Rattle.record_bytes.specs.AttributeBytes.{part}
+use Rattle.reading_edits.specs.NewFiles.{data_part, standard_part}
+use Rattle.mft_table.specs.declared.mounted.Mounted.{Mounted}
+use Rattle.tree_model.specs.IndexRoom.{Index, directory_index, index_depth, levels_below}
+use Rattle.tree_model.specs.declared.tree.Node as nodes
+use Rattle.edit_def.specs.Edited.{is_room_key}
+use Rattle.edit_def.specs.Forms.{ComeRightly, IsNewForm, form_of}
+use Rattle.edit_def.specs.Items.{KeepsItems}
+use Rattle.edit_def.specs.Kept.{either, key_of}
+use Rattle.edit_def.specs.ListOrder.{KeepsListOrder, entries_of}
+use Rattle.edit_def.specs.Marks.{AreRight, Marks}
+use Rattle.edit_def.specs.Names.{KeepsOthers, numbers_by}
+use Rattle.edit_def.specs.Unused.{IsPastIds, KeepsUnused}
+use Rattle.edit_def.proofs.IndexLaws.{items-kept}
+use Rattle.session_def.specs.Named.{is_index_kind}
+use Rattle.session_def.specs.Room.{KeepsLogEnd}
+use Rattle.record_edits.specs.Between.{IsReady}
+use Rattle.record_edits.proofs.BlockEdits.{base-file}
+use Rattle.record_calls.specs.Edits.{record_there}
+use Rattle.record_calls.specs.Marks.{marks_of}
+use Rattle.command_edits.specs.Calls.{IsNewStandard}
+use Rattle.made_edits.specs.Between.{HasNewFile, new_parts}
+use Rattle.made_edits.specs.Comes.{CanMake, ComesNamed, ComesUnder, IsNewKey}
+use Rattle.made_edits.specs.Left.{IsNoTable, Leaves, LeavesRest, is_entry_key, is_row_key}
+use Rattle.made_edits.specs.Made.{is_made_key}
+use Rattle.made_edits.proofs.AloneLaws.{names-of-parts}
+use Rattle.made_edits.proofs.HeaderMade as header
+use Rattle.made_edits.proofs.HeldParts.{HoldsParts}
+use Rattle.made_edits.proofs.LeftLaws.{clusters-kept, part-kept, value-kept}
+use Rattle.made_edits.proofs.MadeCalls as calls
+use Rattle.made_edits.proofs.NamedFile as named
+use Rattle.made_edits.proofs.ReadyLaws.{owners-of}
+use Rattle.made_edits.proofs.RecordsMade as records
+use Rattle.made_edits.proofs.StoredAfter as after_all
+
+-- LISTS of other files, where they are not named
+module _ (dir n : ℕ) (old new : VolumeView) (l : Leaves (is_entry_key dir) n old new) (o : HasOwners old)
+    (some : 0 < old.layout.cluster_sectors) where
+  list-clusters : (f : ℕ) → KeepsClusters old new (filter is_list (parts (records_of old) f))
+  list-clusters f vcn c at =
+      let owned = spot_at-owned (filter is_list (parts (records_of old) f)) vcn c at in
+      let its = Contains-from_filter is_list (parts (records_of old) f) owned.0 owned.1 in
+      let k = eqb-true owned.0.kind ATTRIBUTE_LIST its.1 in
+      part-kept (is_entry_key dir) n old new l o some f owned.0 c its.0
+      (ap (λ kind. is_entry_key dir (key_of f kind owned.0.name)) k) owned.2 (inl (λ e. let q = sym k ∙ e in omega (arith, q)))
+
+  other-list : (f : ℕ) → f ≢ n → KeepsListOrder old new f
+  other-list f ne right = subst (AreInOrder (volume_fold old)) (sym same) right
+    where
+      same : entries_of new f ≡ entries_of old f
+      same =
+          ap list_entries (ap (λ (t : TableLayout). value_of_parts new.cluster (cluster_bytes t) (filter is_list (parts (records_of new) f)))
+          l.layout
+          ∙ ap (λ (xs : List Part). value_of_parts new.cluster (cluster_bytes old.layout) (filter is_list xs)) (l.others f ne)
+          ∙ value-frame old.cluster new.cluster (cluster_bytes old.layout) (filter is_list (parts (records_of old) f)) (list-clusters f))
+
+-- a file without a list
+no-entries : (view : VolumeView) (f : ℕ) → filter is_list (parts (records_of view) f) ≡ [] → entries_of view f ≡ []
+unfolding value_of_parts list_entries
+no-entries view f none = ap (λ (xs : List Part). list_entries (value_on view xs)) none
+
+-- THE DEPTH of an index goes by its parts and its records.
+pub depth-kept : (old new : VolumeView) (index : Index) → new.layout ≡ old.layout
+    → parts (records_of new) index.file ≡ parts (records_of old) index.file
+    → value_on new (parts_at new index.file INDEX_ALLOCATION index.name) ≡ value_on old (parts_at old index.file INDEX_ALLOCATION index.name)
+    → index_depth new index ≡ index_depth old index
+unfolding index_depth index_nodes
+depth-kept old new index layout same value =
+    ap (λ (bytes : List ℕ). by (parts (records_of new) index.file) new.layout bytes) value
+    ∙ ap (λ (l : TableLayout). by (parts (records_of new) index.file) l (value_on old (parts_at old index.file INDEX_ALLOCATION index.name)))
+    layout
+    ∙ ap (λ (xs : List Part). by xs old.layout (value_on old (parts_at old index.file INDEX_ALLOCATION index.name))) same
+  where
+    by : List Part → TableLayout → List ℕ → ℕ
+    by xs l bytes = option_map_or (λ (root : Node). suc (levels_below most_depth (λ vcn. short_node index.form (opened_of
+        (slice_range bytes (vcn * cluster_bytes l) (vcn * cluster_bytes l + INDEX_RECORD)))) root.last))
+        (option_and_then (λ (part : Part). option_and_then (short_node index.form) (content_value part.content))
+        (first_part (filter (is_of INDEX_ROOT index.name) xs))) 0
+
+module _ (old new : VolumeView) (was now : Mounted) (dir n : ℕ) (node : nodes.Node) (units standard key : List ℕ) (moment security : ℕ)
+    (can : CanMake old dir node units) (right : AreRight old (marks_of was)) (is_key : IsNewKey old dir units moment key)
+    (is_standard : IsNewStandard false moment security standard) (long : length standard ≡ 72)
+    (u : ComesUnder old new was now n dir standard key) where
+  abbrev before : Marks
+  before = marks_of was
+
+  abbrev after : Marks
+  after = marks_of now
+
+  abbrev c : ComesNamed old u.counted was now n standard key
+  c = u.comes
+
+  ready : IsReady old before
+  ready = calls.ready old new was now dir n node units standard key moment security can right is_key is_standard long u
+
+  pub short : length key ≤ 900
+  short = calls.short old new was now dir n node units standard key moment security can right is_key is_standard long u
+
+  file : HasNewFile old u.counted after n dir standard key
+  file = calls.file old new was now dir n node units standard key moment security can right is_key is_standard long u
+
+  left : Leaves (is_entry_key dir) n old new
+  left = after_all.left old new was now dir n node units standard key moment security can right is_key is_standard long u
+
+  owners : HasOwners old
+  owners = owners-of old before ready
+
+  pub free : record_on old n ≡ None
+  free = named.unused old u.counted was now n standard key c can.told ready long short is_key.whole
+
+  -- THE RECORD
+  holds : HoldsParts u.counted n (new_parts n standard key)
+  holds = named.holds-counted-file old u.counted was now n standard key c can.told ready long short is_key.whole
+
+  block : new.block n ≡ u.counted.block n
+  block = u.puts.changes.blocks n
+
+  pub there : record_on new n ≡ Some (record_of n (opened_of (new.block n)))
+  there =
+      records.record-still u.counted new n u.puts.changes.layout block ∙ holds.alone.at
+      ∙ ap (λ (stored : List ℕ). Some (record_of n (opened_of stored))) (sym block)
+
+  used : is_in_use (new.block n) ≡ true
+  used = ap is_in_use (block ∙ c.counts.replaces.block c.counts.told) ∙ c.counts.used_still
+
+  own : file_of n (record_of n (opened_of (new.block n))) ≡ n
+  own = subst (λ (stored : List ℕ). file_of n (record_of n (opened_of stored)) ≡ n) (sym block)
+      (base-file n (record_there u.counted n) holds.alone.base)
+
+  pub header-is : header_of (opened_of (new.block n)) ≡ header.made_header old u.counted was now n standard key c can.told short 1 3
+  header-is = ap (λ (stored : List ℕ). header_of (opened_of stored)) block
+      ∙ header.header-new old u.counted was now n standard key c can.told short
+
+  below : (p : Part) → Contains (new_parts n standard key) p → p.id < 3
+  below p among =
+      elim (Contains-cases (standard_part n 0 standard) (part n FILE_NAME [] 2 (Value key) ∷ data_part n 1 ∷ []) p among) [
+        | inl is ↦ let id : 0 ≡ p.id = ap (λ (p : Part). p.id) is in omega (arith, id)
+        | inr later ↦ elim (Contains-cases (part n FILE_NAME [] 2 (Value key)) (data_part n 1 ∷ []) p later) [
+          | inl is ↦ let id : 2 ≡ p.id = ap (λ (p : Part). p.id) is in omega (arith, id)
+          | inr last ↦ let id : 1 ≡ p.id = ap (λ (p : Part). p.id) (Contains-only (data_part n 1) p last) in omega (arith, id)
+        ]
+      ]
+
+  past : IsPastIds (record_of n (opened_of (new.block n)))
+  past = inr (subst (λ (h : Header). All (λ part. part.id < h.next_id) (record_of n (opened_of (new.block n))).parts) (sym header-is)
+      (subst (λ (stored : List ℕ). All (λ part. part.id < 3) (record_of n (opened_of stored)).parts) (sym block)
+      (subst (All (λ part. part.id < 3)) (sym holds.all_are)
+      (All-from_Contains (λ (part : Part). part.id < 3) (new_parts n standard key) below))))
+
+  unused : KeepsUnused old new
+  unused = records.unused-made old new n dir left free there used own ready.bases (ap (λ (h : Header). h.sequence) header-is)
+      (ap (λ (h : Header). h.number) header-is) past
+
+  still : (m : ℕ) → m ≢ n → record_on new m ≡ record_on old m
+  still m ne = records.record-still old new m left.layout (left.blocks m ne)
+
+  forms : (f : ℕ) → ComeRightly old new f
+  forms = records.forms-made old new n dir left free there used own ready.bases
+      (subst (λ (stored : List ℕ). All (λ (a : Attribute). IsNewForm (form_of a)) (attributes (opened_of stored))) (sym block)
+      (header.forms-new old u.counted was now n standard key c can.told short))
+
+  -- FILES
+  others : KeepsOthers (records_of old) (records_of new) n
+  others g ne = record {
+    numbers = ap numbers_by (still g ne);
+    names = SameItems-same _ _ (sym (names-of-parts new g _ (left.others g ne) ∙ sym (names-of-parts old g _ refl)));
+  }
+
+  lists : (f : ℕ) → KeepsListOrder old new f
+  lists f = elim (cases_eq f n) [
+    | inr ne ↦ other-list dir n old new left owners ready.table.some f ne
+    | inl is ↦ λ held. subst (AreInOrder (volume_fold old))
+        (sym (ap (entries_of new) is ∙ no-entries new n (ap (filter is_list)
+        (calls.own-parts-now old new was now dir n node units standard key moment security can right is_key is_standard long u))))
+        (λ i j d lt within. absurd (omega (arith, within)))
+  ]
+
+  -- CLUSTERS, values, and the log
+  clusters : (f kind : ℕ) (name : List ℕ) → is_entry_key dir (key_of f kind name) ≡ false → IsNoTable f kind
+      → KeepsClusters old new (parts_at old f kind name)
+  clusters = clusters-kept (is_entry_key dir) n old new left owners ready.table.some
+
+  log_end : KeepsLogEnd old new
+  log_end i cluster behind at =
+      ap (λ bytes. slice_index bytes (i % cluster_bytes old.layout))
+      (clusters LOG_FILE DATA [] refl (inr ((λ q. omega (arith, q)), (λ q. omega (arith, q)))) _ cluster at)
+
+  -- INDEXES of other directories, and how deep this one is
+  unnamed : (g kind : ℕ) → g ≢ n → g ≢ dir → is_room_key (key_of g kind (wide (codes "$I30"))) ≡ false
+      → either is_room_key (is_made_key n dir) (key_of g kind (wide (codes "$I30"))) ≡ false
+  unnamed g kind ne away room = or_from (is_room_key (key_of g kind (wide (codes "$I30")))) _ room
+      (or_from (g == n) _ (ne_eqb g n ne) (and_right (is_index_kind kind) _
+      (and_right (bytes_eq (wide (codes "$I30")) (wide (codes "$I30"))) (g == dir) (ne_eqb g dir away))))
+
+  items : (g : ℕ) → g ≢ n → g ≢ dir → KeepsItems old new g
+  items g ne away =
+      let edit = calls.edited old new was now dir n node units standard key moment security can right is_key is_standard long u in
+      items-kept (either is_room_key (is_made_key n dir)) old new edit.kept (ap (λ (l : TableLayout). cluster_bytes l) left.layout)
+      ready.bases ready.editable.readable edit.editable.readable
+      (or_from (is_room_key (key_of UPCASE DATA [])) _ refl
+      (or_from (UPCASE == n) _ (ne_eqb UPCASE n (λ is. absurd (omega (arith, is, c.free.0)))) refl))
+      g (unnamed g INDEX_ROOT ne away refl) (unnamed g INDEX_ALLOCATION ne away refl) (unnamed g BITMAP ne away refl)
+
+  depth : index_depth new (directory_index dir) ≤ index_depth old (directory_index dir)
+  depth =
+      let same = depth-kept old u.counted (directory_index dir) file.leaves.layout file.directory
+      (value-kept is_row_key n old u.counted file.leaves owners ready.table.some dir INDEX_ALLOCATION (wide (codes "$I30")) file.other refl
+      (inl (λ is. absurd (omega (arith, is))))) in
+      omega (arith, u.puts.depth, same)
+
+  pub leaves-rest : LeavesRest old new n dir
+  leaves-rest = record {
+    leaves = left;
+    free = free;
+    records = still;
+    others = others;
+    clusters = clusters;
+    values = value-kept (is_entry_key dir) n old new left owners ready.table.some;
+    items = items;
+    depth = depth;
+    blocks = λ files m r at other. left.blocks m (λ is. none_other (sym free ∙ sym (ap (record_on old) is) ∙ at));
+    copies = λ m few same. left.copies m few;
+    unused = unused;
+    forms = forms;
+    lists = lists;
+    log_end = log_end;
+  }

@@ -1,0 +1,286 @@
+-- THE FILE COMES WITH ITS NAME, call by call: what stands between the calls, which attributes each names, and what it takes.
+use Rattle.std.proofs.Common.{◌≡◌, ◌≤◌, ◌<◌, ◌||◌, ℕ, false, List, [], ◌∷◌, length, None, Some, cond, filter, map}
+use Rattle.std.proofs.Common.{refl, sym, ap, subst, inr, ◌∙◌, arith}
+use Rattle.std.specs.Prelude.{IsTrue, option_map}
+use Rattle.std.proofs.lemmas.Bool.{or_from}
+use Rattle.list_laws.proofs.SameItemsLaws.{SameItems-same}
+use Rattle.ntfs_def.specs.Attribute.{attribute_at}
+use Rattle.ntfs_def.specs.FileName.{FileName, is_name_key, name_in}
+use Rattle.ntfs_def.specs.Fixup.{opened_of}
+use Rattle.ntfs_def.specs.Record.{Header}
+use Rattle.ntfs_def.specs.declared.records.TheConstants.{FIRST_ORDINARY}
+use Rattle.volume_def.specs.FileNames.{names_of}
+use Rattle.volume_def.specs.Files.{Part, Record, Records, parts, record_of, record_on, records_of}
+use Rattle.volume_def.specs.Freed.{sequence_at_first, stored_sequence}
+use Rattle.volume_def.specs.Values.{is_first}
+use Rattle.volume_def.specs.View.{VolumeView}
+use Rattle.mft_table.specs.declared.mounted.Mounted.{Mounted}
+use Rattle.edit_def.specs.Account.{nothing}
+use Rattle.edit_def.specs.Edited.{Edited}
+use Rattle.edit_def.specs.Kept.{either, is_name_told, key_of, same_key, told_by, told_names}
+use Rattle.edit_def.specs.Marks.{Marks}
+use Rattle.edit_def.specs.Names.{ComesUnnamed, KeepsOthers, Numbers, numbers_at, numbers_by, numbers_in}
+use Rattle.edit_def.proofs.EditedLaws.{Edited-then}
+use Rattle.record_edits.specs.Between.{IsReady}
+use Rattle.record_edits.proofs.BlockEdits.{edit-of}
+use Rattle.record_edits.proofs.FileEdits.{numbers-edit}
+use Rattle.record_edits.specs.RecordEdit.{parts_made}
+use Rattle.file_edits.specs.Files.{MakesFile, is_file_key}
+use Rattle.file_edits.proofs.LinkEdits as links
+use Rattle.file_edits.specs.Links.{CountsFileLinks}
+use Rattle.name_edits.proofs.NamesInTurn.{KeepsOthers-then}
+use Rattle.reading_edits.specs.NewFiles.{data_part, standard_part}
+use Rattle.record_calls.specs.Marks.{marks_of}
+use Rattle.record_calls.specs.Calls.{IsInOneRecord}
+use Rattle.record_calls.specs.Edits.{record_there}
+use Rattle.record_calls.proofs.LinkCalls.{counts-file}
+use Rattle.record_calls.proofs.RecordCalls as made
+use Rattle.record_calls.proofs.Rows.{free-inside, free-unused}
+use Rattle.record_calls.proofs.WholeCalls.{edited-comes, edited-new, ready-comes, ready-new}
+use Rattle.command_edits.specs.Calls.{AddsName, ComesName, SetsLinks}
+use Rattle.command_edits.specs.Keys.{is_key_of, is_name_key_of}
+use Rattle.command_edits.proofs.CallsMade.{Edited-more, within-same}
+use Rattle.made_edits.specs.Comes.{ComesNamed}
+use Rattle.made_edits.specs.Left.{Leaves, NamesOthers, is_row_key}
+use Rattle.made_edits.specs.Wants.{making_wants, naming_wants, wants_parts}
+use Rattle.made_edits.proofs.AloneLaws.{StandsAlone, names-of-parts, none-made, others-made, parts-made}
+use Rattle.made_edits.proofs.HeldParts.{HoldsParts, holds-counted, holds-made, holds-named, holds-stream, may-name, may-stream}
+use Rattle.made_edits.proofs.HeldParts.{new-name, new-stream, one-record, others-inserted, others-of-counted, parts-held, parts-inserted}
+use Rattle.made_edits.proofs.HeldParts.{parts-of-counted}
+use Rattle.made_edits.proofs.KeyLaws.{own-key, own-name}
+use Rattle.made_edits.proofs.LeftLaws.{Leaves-block, Leaves-more, Leaves-then, row-away}
+use Rattle.made_edits.proofs.NewParts.{name-is, name_bytes, name_part, stream-is, stream_bytes}
+use Rattle.made_edits.proofs.RowStored as row
+use Rattle.made_edits.proofs.WantLaws.{nothing-first, own-parts, parts-within}
+
+-- what the base record of a file that stands alone tells
+alone-numbers : (view : VolumeView) (n : ℕ) (r : Record) → StandsAlone view n r → numbers_at (records_of view) n ≡ Some (numbers_in r)
+alone-numbers view n r alone = ap numbers_by alone.at ∙ ap (λ b. cond b (Some (numbers_in r)) None) alone.base
+
+module _ (old new : VolumeView) (was now : Mounted) (n : ℕ) (standard key : List ℕ) (c : ComesNamed old new was now n standard key)
+    (told : IsTrue old.told) (ready : IsReady old (marks_of was)) (long : length standard ≡ 72) (short : length key ≤ 900)
+    (is_name : IsTrue (is_name_key key)) where
+  abbrev before : Marks
+  before = marks_of was
+
+  abbrev after : Marks
+  after = marks_of now
+
+  pub ordinary : FIRST_ORDINARY ≤ n
+  ordinary = c.free.0
+
+  pub inside : n < old.layout.count
+  inside = free-inside old before n ready.editable.right c.free
+
+  pub unused : record_on old n ≡ None
+  unused = free-unused old before n ready.editable.right c.free
+
+  -- THE FLAG
+  pub ready-flagged : IsReady c.flagged before
+  ready-flagged = row.ready-row old c.flagged n c.stores before ready ordinary inside
+
+  pub records-flagged : records_of c.flagged ≡ records_of old
+  records-flagged = row.records-row old c.flagged n c.stores
+
+  edited-flagged : Edited (λ key. false) nothing old c.flagged before before
+  edited-flagged = row.edited-row old c.flagged n c.stores before ready ordinary inside
+
+  told-flagged : IsTrue c.flagged.told
+  told-flagged = subst IsTrue (sym c.stores.writes.told) told
+
+  -- THE BASE RECORD
+  abbrev makes : MakesFile n c.flagged c.based before after
+  makes = made.made c.flagged c.based was now n false standard told-flagged c.creates long c.taken c.free
+      (free-inside c.flagged before n ready-flagged.editable.right c.free)
+      (free-unused c.flagged before n ready-flagged.editable.right c.free)
+
+  pub ready-based : IsReady c.based after
+  ready-based = ready-new c.flagged c.based was now n false standard told-flagged c.creates long c.taken c.free ready-flagged
+
+  edited-based : Edited (is_file_key n) (wants_parts n 1 1) c.flagged c.based before after
+  edited-based = edited-new c.flagged c.based was now n false standard (wants_parts n 1 1) told-flagged c.creates long c.taken c.free
+      ready-flagged (omega (arith, own-parts n 1)) (omega arith)
+
+  pub holds-based : HoldsParts c.based n (standard_part n 0 standard ∷ [])
+  holds-based = holds-made c.flagged c.based n standard before after c.creates makes ready-flagged
+
+  -- no part of it was there
+  pub no-parts : parts (records_of old) n ≡ []
+  no-parts =
+      ap (λ (r : Records). parts r n) (sym records-flagged)
+      ∙ none-made n c.flagged c.based before after makes ready-flagged
+
+  -- ITS EMPTY STREAM
+  one-based : IsInOneRecord c.based n
+  one-based = one-record c.based n (standard_part n 0 standard ∷ []) holds-based ordinary refl
+
+  pub ready-streamed : IsReady c.streamed after
+  ready-streamed = ready-comes n 1 c.based c.streamed after stream_bytes c.stream ready-based one-based
+      (may-stream c.based c.streamed n standard holds-based c.stream) (new-stream c.based c.streamed n standard holds-based c.stream)
+
+  edited-stream : Edited (same_key (key_of n (attribute_at stream_bytes 0).kind (attribute_at stream_bytes 0).name)) (wants_parts n 1 0)
+      c.based c.streamed after after
+  edited-stream = edited-comes n 1 c.based c.streamed after stream_bytes (wants_parts n 1 0) c.stream ready-based one-based
+      (may-stream c.based c.streamed n standard holds-based c.stream) (new-stream c.based c.streamed n standard holds-based c.stream)
+      (omega (arith, own-parts n 1)) (omega (arith, ap (λ (p : Part). length p.name) (stream-is n)))
+
+  pub holds-streamed : HoldsParts c.streamed n (standard_part n 0 standard ∷ data_part n 1 ∷ [])
+  holds-streamed = holds-stream c.based c.streamed n standard holds-based c.stream
+
+  -- THE FILE WITHOUT A NAME is one call.
+  pub edited-making : Edited (is_key_of n) (making_wants n) old c.streamed before after
+  edited-making =
+      let named = key_of n (attribute_at stream_bytes 0).kind (attribute_at stream_bytes 0).name in
+      Edited-more (either (either (λ key. false) (is_file_key n)) (same_key named)) (is_key_of n) (making_wants n) (making_wants n)
+      old c.streamed before after
+      (λ key e. or_from (false || is_file_key n key) (same_key named key) e (own-key n named.kind named.name key e))
+      (within-same (making_wants n))
+      (Edited-then (either (λ key. false) (is_file_key n)) (same_key named) (wants_parts n 1 1) (wants_parts n 1 0) (making_wants n)
+      old c.based c.streamed before after after (parts-within n 1 1 2 1 0 1 (omega arith) (omega arith))
+      (Edited-then (λ key. false) (is_file_key n) nothing (wants_parts n 1 1) (wants_parts n 1 1) old c.flagged c.based before before
+      after (nothing-first (wants_parts n 1 1)) edited-flagged edited-based)
+      edited-stream)
+
+  -- what its base record tells, and all others
+  numbers-based : numbers_at (records_of c.based) n
+      ≡ Some (record { sequence = sequence_at_first (stored_sequence (c.flagged.block n)); links = 0; directory = false })
+  numbers-based =
+      alone-numbers c.based n (record_there c.based n) holds-based.alone
+      ∙ ap (λ block. Some (numbers_in (record_of n (opened_of block)))) (c.creates.replaces.block told-flagged)
+      ∙ ap (λ (h : Header). Some (numbers_in (record { header = h; parts = (record_of n (opened_of c.creates.stored)).parts })))
+      c.creates.is.header
+
+  abbrev pub made_numbers : Numbers
+  made_numbers = record { sequence = sequence_at_first (stored_sequence (old.block n)); links = 0; directory = false }
+
+  numbers-streamed : numbers_at (records_of c.streamed) n ≡ Some made_numbers
+  numbers-streamed =
+      numbers-edit (records_of c.based) (records_of c.streamed) n [] (parts_made n (attribute_at stream_bytes 0 ∷ []))
+      (edit-of c.based c.streamed n c.stream.stored [] (attribute_at stream_bytes 0 ∷ []) c.stream.edits) n
+      ∙ numbers-based
+      ∙ ap (λ block. Some (record { sequence = sequence_at_first (stored_sequence block); links = 0; directory = false }))
+      (c.stores.writes.blocks n)
+
+  others-based : KeepsOthers (records_of old) (records_of c.based) n
+  others-based = subst (λ r. KeepsOthers r (records_of c.based) n) records-flagged
+      (others-made n c.flagged c.based before after makes ready-flagged)
+
+  names-streamed : names_of (records_of c.streamed) n ≡ []
+  names-streamed =
+      names-of-parts c.streamed n _ (parts-held c.streamed n (standard_part n 0 standard ∷ data_part n 1 ∷ []) holds-streamed)
+
+  pub comes-unnamed : ComesUnnamed (records_of old) (records_of c.streamed) n made_numbers
+  comes-unnamed = record {
+    others = KeepsOthers-then (records_of old) (records_of c.based) (records_of c.streamed) n others-based
+        (others-inserted c.based c.streamed n 1 stream_bytes c.stream holds-based.alone);
+    none = ap numbers_by unused;
+    now_at = numbers-streamed;
+    nowhere = names-of-parts old n [] no-parts;
+    unnamed = names-streamed;
+  }
+
+  -- ITS NAME
+  one-streamed : IsInOneRecord c.streamed n
+  one-streamed = one-record c.streamed n (standard_part n 0 standard ∷ data_part n 1 ∷ []) holds-streamed ordinary refl
+
+  pub ready-named : IsReady c.named after
+  ready-named = ready-comes n 1 c.streamed c.named after (name_bytes key) c.name ready-streamed one-streamed
+      (may-name c.streamed c.named n standard key holds-streamed short is_name c.name)
+      (new-name c.streamed c.named n standard key holds-streamed short is_name c.name)
+
+  pub edited-naming : Edited (is_name_key_of n) (naming_wants n) c.streamed c.named after after
+  edited-naming =
+      let attribute = attribute_at (name_bytes key) 0 in
+      Edited-more (same_key (key_of n attribute.kind attribute.name)) (is_name_key_of n) (naming_wants n) (naming_wants n)
+      c.streamed c.named after after
+      (λ other e. own-name n attribute.kind attribute.name other (ap (λ (p : Part). p.kind) (name-is n key short)) e)
+      (within-same (naming_wants n))
+      (edited-comes n 1 c.streamed c.named after (name_bytes key) (naming_wants n) c.name ready-streamed one-streamed
+      (may-name c.streamed c.named n standard key holds-streamed short is_name c.name)
+      (new-name c.streamed c.named n standard key holds-streamed short is_name c.name)
+      (omega (arith, own-parts n 1)) (omega (arith, ap (λ (p : Part). length p.name) (name-is n key short))))
+
+  abbrev pub all_parts : List Part
+  all_parts = standard_part n 0 standard ∷ name_part n key ∷ data_part n 1 ∷ []
+
+  pub holds-name : HoldsParts c.named n all_parts
+  holds-name = holds-named c.streamed c.named n standard key holds-streamed short is_name c.name
+
+  numbers-kept : numbers_at (records_of c.named) n ≡ numbers_at (records_of c.streamed) n
+  numbers-kept =
+      numbers-edit (records_of c.streamed) (records_of c.named) n [] (parts_made n (attribute_at (name_bytes key) 0 ∷ []))
+      (edit-of c.streamed c.named n c.name.stored [] (attribute_at (name_bytes key) 0 ∷ []) c.name.edits) n
+
+  pub told-streamed : told_names c.streamed n ≡ []
+  told-streamed = ap (λ (ps : List Part). filter is_name_told (map told_by (filter is_first ps)))
+      (parts-held c.streamed n (standard_part n 0 standard ∷ data_part n 1 ∷ []) holds-streamed)
+
+  pub told-named : told_names c.named n ≡ told_by (name_part n key) ∷ []
+  told-named = ap (λ (ps : List Part). filter is_name_told (map told_by (filter is_first ps))) (parts-held c.named n all_parts holds-name)
+
+  module _ (name : FileName) (name_is : name_in key ≡ name) where
+    names-named : names_of (records_of c.named) n ≡ name ∷ []
+    names-named = names-of-parts c.named n all_parts (parts-held c.named n all_parts holds-name) ∙ ap (λ m. m ∷ []) name_is
+
+    comes-name : ComesName c.streamed c.named n name
+    comes-name = record {
+      others = others-inserted c.streamed c.named n 1 (name_bytes key) c.name holds-streamed.alone;
+      numbers = numbers-kept;
+      names = SameItems-same _ _ (ap (λ xs. name ∷ xs) names-streamed ∙ sym names-named);
+      value = told_by (name_part n key);
+      value_name = name_is;
+      values = SameItems-same _ _ (ap (λ xs. told_by (name_part n key) ∷ xs) told-streamed ∙ sym told-named);
+    }
+
+    pub adds-name : AddsName (naming_wants n) c.streamed c.named after after n name
+    adds-name = record { edited = edited-naming; comes = comes-name }
+
+  -- ITS LINKS
+  counts : CountsFileLinks n 1 c.named new
+  counts = counts-file n 1 c.named new c.stored c.counts (inr (omega (arith, ordinary))) holds-name.alone.base
+
+  pub ready-counted : IsReady new after
+  ready-counted = links.ready-links n 1 c.named new counts after ready-named
+
+  pub holds-counted-file : HoldsParts new n all_parts
+  holds-counted-file = holds-counted c.named new n 1 c.stored all_parts holds-name c.counts
+
+  pub sets-links : SetsLinks nothing c.named new after after n 1
+  sets-links = record {
+    edited = links.edited-links n 1 c.named new counts after ready-named;
+    others = others-of-counted c.named new n 1 c.stored all_parts holds-name c.counts;
+    was = made_numbers;
+    was_at = numbers-kept ∙ numbers-streamed;
+    now_at = links.numbers-own n 1 c.named new counts
+        ∙ ap (option_map (λ (k : Numbers). record k { links = 1 })) (numbers-kept ∙ numbers-streamed);
+    names = SameItems-same _ _ (sym (links.names-same n 1 c.named new counts n));
+  }
+
+  -- WHAT IS LEFT ALONE
+  high : 4 ≤ n
+  high = omega (arith, ordinary)
+
+  none-away : NamesOthers (λ key. false) n
+  none-away f kind name named = cc
+
+  left-streamed : Leaves (λ key. false) n c.flagged c.streamed
+  left-streamed = Leaves-then (λ key. false) n c.flagged c.based c.streamed none-away
+      (Leaves-block (λ key. false) n makes.stored c.flagged c.based high makes.replaces
+      (parts-made n c.flagged c.based before after makes ready-flagged))
+      (Leaves-block (λ key. false) n c.stream.stored c.based c.streamed high c.stream.edits.replaces
+      (parts-inserted c.based c.streamed n 1 stream_bytes c.stream holds-based.alone))
+
+  left-counted : Leaves (λ key. false) n c.streamed new
+  left-counted = Leaves-then (λ key. false) n c.streamed c.named new none-away
+      (Leaves-block (λ key. false) n c.name.stored c.streamed c.named high c.name.edits.replaces
+      (parts-inserted c.streamed c.named n 1 (name_bytes key) c.name holds-streamed.alone))
+      (Leaves-block (λ key. false) n c.stored c.named new high c.counts.replaces
+      (parts-of-counted c.named new n 1 c.stored all_parts holds-name c.counts))
+
+  -- behind the flag the clusters of the table alone were written
+  pub left-behind : Leaves (λ key. false) n c.flagged new
+  left-behind = Leaves-then (λ key. false) n c.flagged c.streamed new none-away left-streamed left-counted
+
+  pub left-alone : Leaves is_row_key n old new
+  left-alone = Leaves-then is_row_key n old c.flagged new (row-away n ordinary) (row.leaves-row old c.flagged n c.stores n)
+      (Leaves-more (λ key. false) is_row_key n c.flagged new (λ key e. cc) left-behind)

@@ -1,0 +1,15 @@
+use Rattle.command_edits.proofs.FreshNumber.{fresh-number}
+use Rattle.made_edits.specs.Wants.{making_wants}
+use Rattle.made_edits.proofs.SoundMade as laws
+use Rattle.record_calls.specs.Marks.{marks_of}
+use Rattle.std.proofs.Common.{false}
+use Rattle.tree_model.specs.Effects.{new_node}
+use Rattle.made_edits.proofs.laws.made.Goals as goal
+
+pub returns : goal.returns
+returns c = record {
+  made = laws.made;
+  fresh = λ facts old new was now dir n node units moment security told is.
+      fresh-number facts (making_wants n) old is.calls.mid (marks_of was) (marks_of now) n false (new_node false moment security) told
+      is.calls.makes;
+}

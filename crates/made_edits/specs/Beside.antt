@@ -1,0 +1,64 @@
+-- WHAT ELSE STAYS where a file came in record n under a name of directory `dir`: streams gain no cluster, names their values, indexes their
+-- headers, records and bits, and the keys of $R and $O are those that were there.
+use Rattle.std.specs.Prelude.{◌≡◌, ◌≢◌, ℕ, Bool, List, [], ◌∷◌, None, IsSomeAnd, filter, false, length, slice_index, true}
+use Rattle.std.specs.Str.{bytes_eq}
+use Rattle.volume_def.specs.Files.{Part, Value, parts, record_on, records_of}
+use Rattle.volume_def.specs.Values.{spot_at}
+use Rattle.volume_def.specs.View.{VolumeView}
+use Rattle.ntfs_def.specs.declared.kinds.TheConstants.{FILE_NAME, INDEX_ALLOCATION}
+use Rattle.ntfs_def.specs.StandardInformation.{dos_flags}
+use Rattle.record_bytes.specs.AttributeBytes.{part}
+use Rattle.list_laws.specs.Replaces.{Replaces}
+use Rattle.ntfs_def.specs.FileName.{link_of, name_in}
+use Rattle.ntfs_def.specs.Node.{Item}
+use Rattle.volume_def.specs.Freed.{sequence_at_first, stored_sequence}
+use Rattle.edit_def.specs.Items.{HasItems, IsCurrent}
+use Rattle.command_edits.specs.Calls.{link_with}
+use Rattle.tree_model.specs.Bill.{Change}
+use Rattle.tree_model.specs.IndexRoom.{Index, directory_index, object_id_index, point_index}
+use Rattle.tree_model.specs.StreamRoom.{is_cluster}
+use Rattle.tree_model.specs.declared.tree.Link.{Link}
+use Rattle.edit_def.specs.Kept.{key_of, told_by, told_names}
+use Rattle.session_def.specs.Indexes.{KeepsIndexIfThere}
+use Rattle.session_def.specs.Kept.{KeepsKeys, KeepsNamesBut, is_shown_byte}
+use Rattle.session_def.specs.Nodes.{IsNewFile, IsNewName}
+use Rattle.made_edits.specs.Between.{new_parts}
+use Rattle.made_edits.specs.Left.{is_entry_key}
+
+-- THE DIRECTORY HAS ONE ITEM MORE: its key is the value of the name, it leads to the new file, and it tells what the file does.
+pub record HasNewItem (old new : VolumeView) (n dir : ℕ) (key : List ℕ) : Type 0 where
+  pub item : Item
+  pub key_is : item.key ≡ key
+  pub link : link_of item ≡ link_with n (sequence_at_first (stored_sequence (old.block n))) (name_in key)
+  pub current : IsCurrent new n item.key
+  pub items : (was now : List Item) → HasItems old dir was → HasItems new dir now → Replaces was now [] (item ∷ [])
+
+pub record KeepsRest (old new : VolumeView) (n dir : ℕ) (standard key : List ℕ) : Type 0 where
+  -- the new file: its record is a file's, counted once, and these are its parts
+  pub base : IsSomeAnd (record_on new n) (λ r. (r.header.flags ≡ 1) × (r.header.links ≡ 1))
+  pub own : parts (records_of new) n ≡ new_parts n standard key
+  pub none : parts (records_of old) n ≡ []
+  -- streams, told by any test of their parts: what lies in a cluster lay there
+  pub spots : (f : ℕ) (p : Part → Bool) (vcn : ℕ) → is_cluster (spot_at (filter p (parts (records_of new) f)) vcn) ≡ true
+      → spot_at (filter p (parts (records_of new) f)) vcn ≡ spot_at (filter p (parts (records_of old) f)) vcn
+  -- names of other files
+  pub names : (gone : List Link) (f : ℕ) → f ≢ n → KeepsNamesBut gone old new f
+  -- indexes: of directories, and all others
+  pub directories : (changes : List Change) (g : ℕ) → KeepsIndexIfThere old new changes (directory_index g)
+  pub indexes : (changes : List Change) (index : Index) → bytes_eq [] index.name ≡ false
+      → is_entry_key dir (key_of index.file INDEX_ALLOCATION index.name) ≡ false → KeepsIndexIfThere old new changes index
+  pub entry : HasNewItem old new n dir key
+  pub points : KeepsKeys old (point_index old) new (point_index new) [] None
+  pub object_ids : KeepsKeys old (object_id_index old) new (object_id_index new) [] None
+
+-- THE VALUE OF ITS $STANDARD_INFORMATION has no flag but that of a new file, and zeros where the tree shows nothing.
+pub record IsPlainStandard (standard : List ℕ) : Type 0 where
+  pub long : length standard ≡ 72
+  pub flags : dos_flags standard ≡ 0x20
+  pub zeros : (k : ℕ) → is_shown_byte 72 k ≡ false → slice_index standard k ≡ 0
+
+-- Then the file is a new one as it is to be, and its name too.
+pub record IsFreshFile (view : VolumeView) (n : ℕ) (key : List ℕ) : Type 0 where
+  pub file : IsNewFile view false n
+  pub name : IsNewName false key
+  pub told : told_names view n ≡ told_by (part n FILE_NAME [] 2 (Value key)) ∷ []

@@ -1,0 +1,78 @@
+-- A FILE COMES UNDER ONE NAME, empty, in a free record: what the calls of `create` give, and on which volume.
+-- Layout: Linux-NTFS documentation, attributes $STANDARD_INFORMATION, $FILE_NAME and $DATA, "File Record"; Carrier, File System Forensic
+-- Analysis, chapters 11 to 13.
+use Rattle.std.specs.Prelude.{◌≡◌, ℕ, ◌+◌, ◌*◌, ◌≤◌, ◌<◌, All, IsTrue, List, [], ◌∷◌, false, length, true}
+use Rattle.vol_bytes.specs.Field.{u32_at, u64_at}
+use Rattle.ntfs_def.specs.FileName.{is_name_key, link_of, name_in}
+use Rattle.ntfs_def.specs.Node.{Item}
+use Rattle.ntfs_def.specs.Record.{Reference}
+use Rattle.ntfs_def.specs.declared.kinds.TheConstants.{DATA, FILE_NAME}
+use Rattle.volume_def.specs.CaseClause.{volume_fold}
+use Rattle.volume_def.specs.Freed.{sequence_at_first, stored_sequence}
+use Rattle.volume_def.specs.View.{VolumeView}
+use Rattle.volume_edits.specs.Rewritten.{CountsLinks}
+use Rattle.record_bytes.specs.AttributeBytes.{resident_bytes}
+use Rattle.mft_table.specs.declared.mounted.Mounted.{Mounted}
+use Rattle.mft_table.specs.Changes.{with_record_taken}
+use Rattle.mft_table.specs.FreeRecords.{IsOrdinaryFree}
+use Rattle.tree_model.specs.Reading.{directory_links}
+use Rattle.tree_model.specs.Tree.{are_same}
+use Rattle.tree_model.specs.declared.tree.Node.{Node}
+use Rattle.file_record.specs.Attributes.{InsertsAttribute}
+use Rattle.file_record.specs.Extensions.{CreatesBase, reference_of}
+use Rattle.in_place.specs.Unnamed.{CanSet}
+use Rattle.record_bits.specs.StoredRow.{StoresRow}
+use Rattle.index_puts.specs.PutsItem.{PutsItem}
+
+-- THE VOLUME BEFORE, and a name that may come: in a directory that is shown, whose attributes can be set, and in which no name is the
+-- same, in whichever case.
+pub record CanMake (view : VolumeView) (dir : ℕ) (node : Node) (units : List ℕ) : Type 0 where
+  pub told : IsTrue view.told
+  pub parent : CanSet view dir node
+  pub directory : node.dir ≡ true
+  pub some : 1 ≤ length units
+  pub few : length units ≤ 255
+  pub units_are : All (λ unit. unit < 65536) units
+  pub absent : All (λ other. are_same (volume_fold view) other.name units ≡ false) (directory_links view dir)
+
+-- THE VALUE OF A NEW NAME, which is the key of its entry too: in this directory, of these units, plain; four times this moment, no size,
+-- the flag of a new file, and nothing behind its units.
+pub record IsNewKey (view : VolumeView) (dir : ℕ) (units : List ℕ) (moment : ℕ) (key : List ℕ) : Type 0 where
+  pub whole : IsTrue (is_name_key key)
+  pub name : name_in key ≡ record { parent = reference_of view dir; namespace = 0; units = units }
+  pub long : length key ≡ 0x42 + 2 * length units
+  pub bytes : All (λ byte. byte < 256) key
+  pub times : u64_at key 0x08 ∷ u64_at key 0x10 ∷ u64_at key 0x18 ∷ u64_at key 0x20 ∷ [] ≡ moment ∷ moment ∷ moment ∷ moment ∷ []
+  pub allocated : u64_at key 0x28 ≡ 0
+  pub real : u64_at key 0x30 ≡ 0
+  pub flags : u32_at key 0x38 ≡ 0x20
+  pub last : u32_at key 0x3C ≡ 0
+
+-- THE FILE COMES: the flag of its record is stored, and taken in memory; its base record comes, with its $STANDARD_INFORMATION; then its
+-- empty stream, its name in front of that, and the count of that name.
+pub record ComesNamed (old new : VolumeView) (was now : Mounted) (n : ℕ) (standard key : List ℕ) : Type 0 where
+  pub free : IsOrdinaryFree was.records n
+  pub taken : now ≡ with_record_taken was n
+  pub flagged : VolumeView
+  pub stores : StoresRow old flagged n
+  pub based : VolumeView
+  pub creates : CreatesBase flagged based n false standard
+  pub streamed : VolumeView
+  pub stream : InsertsAttribute based streamed n 1 (resident_bytes DATA [] 1 [])
+  pub named : VolumeView
+  pub name : InsertsAttribute streamed named n 1 (resident_bytes FILE_NAME [] 2 key)
+  pub stored : List ℕ
+  pub counts : CountsLinks named new n stored 1
+
+-- the reference to a file that comes in record n
+abbrev pub new_reference : VolumeView → ℕ → Reference
+new_reference view n = record { number = n; sequence = sequence_at_first (stored_sequence (view.block n)) }
+
+-- .. and its directory gets the entry of that name.
+pub record ComesUnder (old new : VolumeView) (was now : Mounted) (n dir : ℕ) (standard key : List ℕ) : Type 0 where
+  pub counted : VolumeView
+  pub comes : ComesNamed old counted was now n standard key
+  pub item : Item
+  pub key_is : item.key ≡ key
+  pub link : (link_of item).file ≡ new_reference old n
+  pub puts : PutsItem counted new dir item

@@ -1,0 +1,6 @@
+pub mod Between
+pub mod Beside
+pub mod Comes
+pub mod Left
+pub mod Made
+pub mod Wants

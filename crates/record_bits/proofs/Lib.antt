@@ -1,0 +1,4 @@
+mod RowsStream
+mod RowStored
+mod RowsFound
+mod RaisedBit

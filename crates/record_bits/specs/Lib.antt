@@ -1,0 +1,2 @@
+pub mod StoredRow
+pub mod HeldRows
