@@ -1,0 +1,11 @@
+pub mod FieldsKept
+pub mod KeyLaws
+pub mod EntryLaws
+pub mod RecordSteps
+pub mod FreeParts
+pub mod FlaggedLaws
+pub mod UnderLaws
+pub mod RoomKept
+pub mod MadeUnder
+pub mod MakeLaws
+pub mod StandardLaws

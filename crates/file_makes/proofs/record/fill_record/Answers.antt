@@ -1,0 +1,35 @@
+use Rattle.std.proofs.Common.{ap, ◌∙◌}
+use Rattle.std.proofs.lemmas.Result.{on_ok_weaker}
+use Rattle.mft_table.specs.Mft.{stage_of, view}
+use Rattle.mft_table.specs.Mounted.{mounted_layout}
+use Rattle.file_record.specs.Held.{file_number}
+use Rattle.file_makes.proofs.RecordSteps.{record-filled, staged-then}
+use Rattle.file_makes.proofs.record.fill_record.Goals as goal
+
+pub returns-in_err-put_second-2-clause-places : goal.returns-in_err-put_second-2-clause-places
+returns-in_err-put_second-2-clause-places g c =
+    staged-then g.D.Disk (view g.D.Disk c.args.mft.now).layout (view g.D.Disk c.put_second.new.mft).layout (file_number c.args.file.now)
+    (file_number c.put_second.new.file) (stage_of g.D.Disk c.args.mft.now) (stage_of g.D.Disk c.put_second.new.mft)
+    (stage_of g.D.Disk c.put_second-2.new.mft) (ap mounted_layout c.put_second.ensures.disk.mounted) c.put_second.ensures.number
+    c.put_second.ensures.places c.put_second-2.ensures.places
+
+pub returns-clause-fills : goal.returns-clause-fills
+returns-clause-fills g c = on_ok_weaker c.count_one.result (λ third.
+    record-filled (view g.D.Disk c.args.mft.now) (view g.D.Disk c.put_second.new.mft) (view g.D.Disk c.put_second-2.new.mft)
+    (view g.D.Disk c.count_one.new.mft) c.args.file.now c.put_second.new.file c.put_second-2.new.file c.deref.result.now c.deref-2.result.now
+    c.args.key.now c.put_second.ensures.number c.put_second-2.ensures.number (c.deref.ensures.value ∙ c.in_ok-stream.ensures.bytes)
+    (c.deref-2.ensures.value ∙ c.in_ok-name.ensures.bytes) c.in_ok-put_second.ensures.comes c.in_ok-put_second-2.ensures.comes third)
+    c.count_one.ensures.counts
+
+pub returns-clause-places : goal.returns-clause-places
+returns-clause-places g c =
+    let layout = (view g.D.Disk c.args.mft.now).layout in
+    let number = file_number c.args.file.now in
+    staged-then g.D.Disk layout (view g.D.Disk c.put_second-2.new.mft).layout number (file_number c.put_second-2.new.file)
+    (stage_of g.D.Disk c.args.mft.now) (stage_of g.D.Disk c.put_second-2.new.mft) (stage_of g.D.Disk c.count_one.new.mft)
+    (ap mounted_layout (c.put_second-2.ensures.disk.mounted ∙ c.put_second.ensures.disk.mounted))
+    (c.put_second-2.ensures.number ∙ c.put_second.ensures.number)
+    (staged-then g.D.Disk layout (view g.D.Disk c.put_second.new.mft).layout number (file_number c.put_second.new.file)
+    (stage_of g.D.Disk c.args.mft.now) (stage_of g.D.Disk c.put_second.new.mft) (stage_of g.D.Disk c.put_second-2.new.mft)
+    (ap mounted_layout c.put_second.ensures.disk.mounted) c.put_second.ensures.number c.put_second.ensures.places c.put_second-2.ensures.places)
+    c.count_one.ensures.places

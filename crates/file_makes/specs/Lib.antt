@@ -1,0 +1,3 @@
+pub mod NewBytes
+pub mod Steps
+pub mod Under

@@ -1,0 +1,70 @@
+-- THE RECORD OF A NEW FILE: what the calls on it give, one behind the other, and what is kept of the device meanwhile.
+-- Layout: Linux-NTFS documentation, attributes $FILE_NAME and $DATA, "File Record"; Carrier, File System Forensic Analysis, chapter 13.
+use Rattle.std.specs.Prelude.{◌≡◌, ◌⊎◌, ◌+◌, ◌*◌, ◌≤◌, ℕ, Bool, Contains, IsTrue, List, [], false}
+use Rattle.vol_disk.specs.declared.Disk.{Ghosts}
+use Rattle.vol_stage.specs.Staged.{GoesOn, disk_of, places}
+use Rattle.ntfs_def.specs.declared.kinds.TheConstants.{DATA, FILE_NAME}
+use Rattle.volume_def.specs.Coverage.{IsApart}
+use Rattle.volume_def.specs.View.{VolumeView}
+use Rattle.volume_edits.specs.Rewritten.{CountsLinks}
+use Rattle.record_bytes.specs.AttributeBytes.{resident_bytes}
+use Rattle.mft_table.specs.declared.mft.Mft.{Mft}
+use Rattle.mft_table.specs.Mft.{committed_of, is_mft_broken, mounted_of, stage_of}
+use Rattle.mft_table.specs.Staging.{record_places}
+use Rattle.file_record.specs.declared.parts.FileParts.{FileParts}
+use Rattle.file_record.specs.Attributes.{InsertsAttribute}
+use Rattle.file_record.specs.Extensions.{CreatesBase}
+use Rattle.file_record.specs.Held.{file_number}
+use Rattle.file_record.specs.Written.{IsWholeFile}
+use Rattle.record_bits.specs.HeldRows.{IsOfRows}
+use Rattle.record_bits.specs.StoredRow.{StoresRow}
+
+-- A record of the table of an image that is told, in what was written of the table.
+pub record IsWrittenRecord (view : VolumeView) (n : ℕ) : Type 0 where
+  pub told : IsTrue view.told
+  pub apart : IsApart view.layout
+  pub initialized : 1024 * n + 1024 ≤ view.layout.initialized
+
+-- THE RECORD IS FILLED behind its $STANDARD_INFORMATION: an empty stream comes, the name in front of that, and the count of that name.
+pub record FillsRecord (old new : VolumeView) (n : ℕ) (key : List ℕ) : Type 0 where
+  pub streamed : VolumeView
+  pub stream : InsertsAttribute old streamed n 1 (resident_bytes DATA [] 1 [])
+  pub named : VolumeView
+  pub name : InsertsAttribute streamed named n 1 (resident_bytes FILE_NAME [] 2 key)
+  pub stored : List ℕ
+  pub counts : CountsLinks named new n stored 1
+
+-- THE RECORD COMES behind its flag: its base record, which is filled then.
+pub record MakesRecord (old new : VolumeView) (n : ℕ) (standard key : List ℕ) : Type 0 where
+  pub based : VolumeView
+  pub creates : CreatesBase old based n false standard
+  pub fills : FillsRecord based new n key
+
+-- THE FLAG IS STORED, and then the record comes.
+pub record ComesFlagged (old new : VolumeView) (n : ℕ) (standard key : List ℕ) : Type 0 where
+  pub flagged : VolumeView
+  pub stores : StoresRow old flagged n
+  pub makes : MakesRecord flagged new n standard key
+
+-- AN ATTRIBUTE CAME behind the first one of the record of a file that is held whole, and is so still.
+pub record ComesSecond (old new : VolumeView) (was now : FileParts) (attr : List ℕ) : Type 0 where
+  pub inserts : InsertsAttribute old new (file_number was) 1 attr
+  pub whole : IsWholeFile new now
+
+-- The sectors that are staged now were so before, or are of the stored bitmap of records, or those of the record.
+abbrev pub StagesFile : {D : Type 0} (g : Ghosts D) → VolumeView → ℕ → Mft D g → Mft D g → Type 0
+StagesFile g view n old new = (sector : ℕ) → Contains (places g (stage_of g new)) sector
+    → Contains (places g (stage_of g old)) sector ⊎ (IsOfRows view sector ⊎ Contains (record_places view.layout n) sector)
+
+-- Nothing was written or settled, and of the tables that are kept in memory the flags of records alone may have changed.
+pub record KeepsDevice {D : Type 0} (g : Ghosts D) (old new : Mft D g) : Type 0 where
+  pub goes_on : GoesOn g (stage_of g old) (stage_of g new)
+  pub now : g.now (disk_of g (stage_of g new)) ≡ g.now (disk_of g (stage_of g old))
+  pub settled : g.settled (disk_of g (stage_of g new)) ≡ g.settled (disk_of g (stage_of g old))
+  pub fenced : g.fenced (disk_of g (stage_of g new)) ≡ g.fenced (disk_of g (stage_of g old))
+  pub written : g.written (disk_of g (stage_of g new)) ≡ g.written (disk_of g (stage_of g old))
+  pub late : g.late (disk_of g (stage_of g new)) ≡ g.late (disk_of g (stage_of g old))
+  pub broken : is_mft_broken g new ≡ is_mft_broken g old
+  pub committed : committed_of g new ≡ committed_of g old
+  pub records : List Bool
+  pub mounted : mounted_of g new ≡ record (mounted_of g old) { records = records }

@@ -1,0 +1,18 @@
+//! A file that comes under a name: what is written of it, step by step.
+#![tactic(auto)]
+
+mod entry;
+mod flagged;
+mod key;
+mod make;
+mod named;
+mod record;
+mod reference;
+mod standard;
+mod times;
+mod under;
+
+pub use entry::new_entry;
+pub use key::new_key;
+pub use make::make_file;
+pub use standard::new_standard;
