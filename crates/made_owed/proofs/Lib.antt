@@ -1,0 +1,10 @@
+pub mod MadeBill
+pub mod MadeTree
+pub mod MadeBase
+pub mod MadeCalls
+pub mod MadeRecords
+pub mod MadeCost
+pub mod MadeItems
+pub mod MadeIndexes
+pub mod MadeNodes
+pub mod MadeOwes
