@@ -9,7 +9,6 @@ use Rattle.ntfs_def.specs.KeyOrder.{name_order}
 use Rattle.ntfs_def.specs.Node.{Item}
 use Rattle.ntfs_def.specs.Record.{reference_in}
 use Rattle.ntfs_def.specs.Rounded.{up_to_8}
-use Rattle.ntfs_def.specs.StandardInformation.{dos_flags}
 use Rattle.volume_def.specs.CaseClause.{case_parts, volume_fold}
 use Rattle.volume_def.specs.Readable.{IsFile, IsReadableVolume}
 use Rattle.volume_def.specs.Values.{spot_at, value_on}
@@ -17,19 +16,16 @@ use Rattle.volume_def.specs.View.{VolumeView}
 use Rattle.volume_edits.specs.Clusters.{record_sectors}
 use Rattle.volume_edits.specs.Owners.{HasOwners}
 use Rattle.index_tree.specs.Edit.{IsAbsent}
-use Rattle.mft_table.specs.declared.mounted.Mounted.{Mounted}
 use Rattle.mft_table.specs.declared.mft.Mft.{Mft}
 use Rattle.mft_table.specs.Mft.{stage_of}
 use Rattle.mft_table.specs.Staging.{record_places}
 use Rattle.tree_model.specs.declared.tree.Node.{Node}
 use Rattle.edit_def.specs.Items.{HasItems}
-use Rattle.session_def.specs.Kept.{is_shown_byte}
-use Rattle.command_edits.specs.Calls.{IsNewStandard}
 use Rattle.record_bits.specs.HeldRows.{IsOfRows}
 use Rattle.record_bits.specs.StoredRow.{has_row_place}
 use Rattle.index_puts.specs.LeafRoom.{has_leaf_room, names_of_directory}
 use Rattle.index_puts.specs.PutsItem.{PutsItem}
-use Rattle.made_edits.specs.Comes.{CanMake, ComesUnder, IsNewKey}
+use Rattle.made_edits.specs.Comes.{CanMake, IsNewKey}
 
 -- the bytes of the entry of a key
 abbrev pub entry_bytes : List ℕ → ℕ
@@ -62,17 +58,6 @@ pub record HasRowRoom (view : VolumeView) (n : ℕ) : Type 0 where
 -- The directory has room for the entry of a new name, whatever the moment.
 abbrev pub HasNameRoom : VolumeView → ℕ → List ℕ → ℕ → Type 0
 HasNameRoom view dir units moment = (key : List ℕ) → IsNewKey view dir units moment key → has_leaf_room view dir key (entry_bytes key) ≡ true
-
--- THE FILE IS MADE in record n, under this name in a directory, at this moment, with the descriptor of this id.
-pub record MakesFile (old new : VolumeView) (was now : Mounted) (n dir : ℕ) (units : List ℕ) (moment security : ℕ) : Type 0 where
-  pub standard : List ℕ
-  pub new_standard : IsNewStandard false moment security standard
-  pub long : length standard ≡ 72
-  pub flags : dos_flags standard ≡ 0x20
-  pub zeros : (k : ℕ) → is_shown_byte 72 k ≡ false → slice_index standard k ≡ 0
-  pub key : List ℕ
-  pub new_key : IsNewKey old dir units moment key
-  pub comes : ComesUnder old new was now n dir standard key
 
 -- THE VOLUME BEFORE, and the value of a name that may come into this directory, with room for its entry.
 pub record MayMake (view : VolumeView) (dir : ℕ) (key : List ℕ) : Type 0 where

@@ -8,8 +8,9 @@ ghost use Rattle.mft_table.specs.MirrorClusters.{IsMirrorInside};
 ghost use Rattle.file_record.specs.FileNos.{CountsNo, IsReadNo};
 ghost use Rattle.tree_model.specs.declared.tree.Node.{Node};
 ghost use Rattle.made_edits.specs.Comes.{CanMake};
+ghost use Rattle.made_edits.specs.Makes.{MakesFile};
 ghost use Rattle.file_makes.specs.Steps.{KeepsDevice};
-ghost use Rattle.file_makes.specs.Under.{HasNameRoom, HasRowRoom, MakesFile, StagesMade};
+ghost use Rattle.file_makes.specs.Under.{HasNameRoom, HasRowRoom, StagesMade};
 
 use crate::key::new_key;
 use crate::named::make_named;

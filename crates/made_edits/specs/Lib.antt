@@ -4,3 +4,4 @@ pub mod Comes
 pub mod Left
 pub mod Made
 pub mod Wants
+pub mod Makes

@@ -106,9 +106,11 @@ returns-clause-made g c told =
     record {
       standard = c.new_standard-standard.result;
       new_standard = c.new_standard-standard.ensures.standard;
-      long = c.new_standard-standard.ensures.len;
-      flags = c.new_standard-standard.ensures.flags;
-      zeros = c.new_standard-standard.ensures.zeros;
+      plain = record {
+        long = c.new_standard-standard.ensures.len;
+        flags = c.new_standard-standard.ensures.flags;
+        zeros = c.new_standard-standard.ensures.zeros;
+      };
       key = key;
       new_key = plain-new old c.in_ok-parent.parent c.args.dir c.args.name.now c.args.moment key c.in_ok-key.ensures
           (c.in_ok-parent.ensures.reference told);

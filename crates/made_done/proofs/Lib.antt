@@ -1,0 +1,5 @@
+mod LeftAlone
+mod NewLink
+mod FileMade
+mod MadeWritten
+mod Leaves

@@ -1,0 +1,80 @@
+-- A FILE THAT WAS MADE UNDER A NAME, staged and written: what `create` found, what it stages, and what it leaves.
+use Rattle.std.specs.Prelude.{◌≡◌, ◌+◌, ◌*◌, ◌≤◌, ℕ, Bool, List, Contains, Ok, Some, length}
+use Rattle.vol_disk.specs.Contents.{sector_in}
+use Rattle.ntfs_def.specs.FileName.{FileName}
+use Rattle.volume_def.specs.FileNames.{names_of}
+use Rattle.volume_def.specs.Files.{records_of}
+use Rattle.volume_def.specs.Sound.{IsSound, told_view}
+use Rattle.volume_def.specs.View.{VolumeView}
+use Rattle.mft_table.specs.HeldTables.{AreStored}
+use Rattle.mft_table.specs.declared.mounted.Mounted.{Mounted}
+use Rattle.tree_model.specs.Effects.{after, security_of, touched}
+use Rattle.tree_model.specs.Facts.{IsVolumeOf, TellsFacts}
+use Rattle.tree_model.specs.Reading.{read}
+use Rattle.tree_model.specs.Refusals.{Facts, outcome}
+use Rattle.tree_model.specs.Subjects.{Machine}
+use Rattle.tree_model.specs.declared.command.Command.TheVariants as c
+use Rattle.tree_model.specs.declared.tree.Node.{Node}
+use Rattle.edit_def.specs.Marks.{AreRight}
+use Rattle.session_def.specs.Done.{EditDone, HasEmptyLog, first_cost}
+use Rattle.session_def.specs.State.{Stands, State}
+use Rattle.mark_write.specs.declared.flag.Flag.{Flag}
+use Rattle.record_calls.specs.Marks.{marks_of}
+use Rattle.volume_mark.specs.Mark.{IsFlagOf}
+use Rattle.volume_mark.specs.SameVolume.{AgreesButMark}
+use Rattle.attribute_edits.specs.Below.{SetsAttributes}
+use Rattle.made_edits.specs.Comes.{CanMake}
+use Rattle.made_edits.specs.Makes.{MakesFile}
+use Rattle.made_owed.specs.MadeOwed.{at_name, made_sectors}
+
+-- `create` FOUND A DIRECTORY, which is this node, and a name that may come there. No name of the directory stands in a record that has a
+-- copy.
+pub record FindsPlace (facts : Facts) (before : State) (session : ℕ) (path : List (List ℕ)) (dir : ℕ) (units : List ℕ) (node : Node)
+    : Type 0 where
+  pub stands : Stands before
+  pub told : TellsFacts before.view facts
+  pub found : outcome facts before.machine session (c.Create path) ≡ Ok (at_name dir units)
+  pub can : CanMake before.view dir node units
+  pub high : (name : FileName) → Contains (names_of (records_of before.view) dir) name → 4 ≤ name.parent.number
+
+-- THE FILE CAME under that name, in record `made`, with the security id of its directory, where the bits in memory were right and stored.
+-- Then the moment was set as the times at which the directory and its record changed.
+pub record MakesUnder (before : State) (dir : ℕ) (units : List ℕ) (node : Node) (made : ℕ) (new : VolumeView) : Type 0 where
+  pub was : Mounted
+  pub right : AreRight before.view (marks_of was)
+  pub stored : AreStored before.view was.clusters was.records was.upcase
+  pub now : Mounted
+  pub mid : VolumeView
+  pub makes : MakesFile before.view mid was now made dir units before.machine.now (security_of before.machine.tree dir)
+  pub sets : SetsAttributes mid new dir (touched before.machine.now node).times node.flags
+
+-- These bytes were staged: the volume that they tell has the file.
+pub record StagesUnder (before : State) (dir : ℕ) (units : List ℕ) (node : Node) (made : ℕ) (staged : List ℕ) : Type 0 where
+  pub long : length staged ≡ length before.image
+  pub makes : MakesUnder before dir units node made (told_view (sector_in (Some staged)) before.view.layout)
+
+-- the machine behind `create`
+abbrev pub machine_made : State → ℕ → List (List ℕ) → ℕ → List ℕ → ℕ → Machine
+machine_made before session path dir units made = after before.machine session (c.Create path) (at_name dir units) made
+
+-- how many sectors it may write at most: the mark, the log, those of the file, and for the directory records with their copies, and twelve
+-- for each of its names
+abbrev pub most_made : State → ℕ → ℕ
+most_made before dir = first_cost before.view + made_sectors + 12 + 12 * length (names_of (records_of before.view) dir)
+
+-- WHAT IT LEAVES: a sound volume was staged that reads as the machine's tree, and what was written of it is all that an edit that was done
+-- leaves.
+pub record LeavesMade (facts : Facts) (before : State) (session : ℕ) (path : List (List ℕ)) (dir : ℕ) (units : List ℕ) (made : ℕ)
+    (flag : Flag) (staged written : List ℕ) : Type 0 where
+  pub new : VolumeView
+  pub is : new ≡ told_view (sector_in (Some staged)) before.view.layout
+  pub volume : IsVolumeOf staged new
+  pub sound : IsSound new
+  pub reading : read new ≡ (machine_made before session path dir units made).tree
+  pub flag_there : IsFlagOf new flag
+  pub agrees : AgreesButMark new flag staged written
+  pub stored : (clusters records : List Bool) (upcase : List ℕ) → AreStored new clusters records upcase
+      → AreStored (told_view (sector_in (Some written)) before.view.layout) clusters records upcase
+  pub done : (next : State) → next.image ≡ written → IsVolumeOf written next.view
+      → next.machine ≡ machine_made before session path dir units made → next.written ≤ before.written + most_made before dir
+      → EditDone facts before session (c.Create path) next × HasEmptyLog next.view
