@@ -1,0 +1,3 @@
+pub mod GrownRoot
+pub mod CanPut
+pub mod PutsInRoot
