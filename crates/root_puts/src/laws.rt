@@ -25,8 +25,8 @@ ghost use Rattle.index_puts.specs.PutsRoot.{PutsRootItem};
 ghost use Rattle.root_puts.specs.PutsInRoot.{KeepsRootHead, PutsInRoot, WritesRecord, root_key};
 
 /// The directory has the item more, where none of its items had this key (`items`), and that is one call on its index (`entry`). Every
-/// other directory has the items that it had (`others`). An entry of any directory that told what its file does tells it still (`current`). Every other index is as deep
-/// as it was (`depths`).
+/// other directory has the items that it had (`others`). An entry of any directory that told what its file does tells it still
+/// (`current`). Every other index is as deep as it was (`depths`).
 pub fn root_items()
     ensures items { (old new : VolumeView) (dir : ℕ) (item : Item) (was : List Item) → PutsRootItem old new dir item
         → HasItems old dir was → IsAbsent (name_order (volume_fold old)) item.key was → ChangesItems old new dir [] (item ∷ []) }
@@ -43,8 +43,8 @@ pub fn root_items()
 
 /// It is a call that names that root, and costs nothing (`edited`), and leaves what the next one needs (`ready`): no cluster has two owners
 /// (`owners`). The record of the directory alone was written (`writes`). All other attributes have the parts that they had (`parts`), and
-/// the values, but the table and its mirror (`values`); the root has its header still (`root`), all files their numbers and names (`names`),
-/// attributes their headers (`forms`), and names are compared as before (`case`).
+/// the values, but the table and its mirror (`values`); the root has its header still (`root`), all files their numbers and names
+/// (`names`), attributes their headers (`forms`), and names are compared as before (`case`).
 pub fn root_edited()
     ensures edited { (old new : VolumeView) (marks : Marks) (dir : ℕ) (item : Item) → PutsInRoot old new marks dir item
         → Edited (same_key (root_key dir)) nothing old new marks marks }

@@ -50,9 +50,11 @@ returns-in_default-2-clause-put g c = λ told.
     let old = view g.D.Disk c.args.mft.now in
     let marks = marks_of (mounted_of g.D.Disk c.args.mft.now) in
     let table = c.args.upcase in
-    let not = subst (λ (o : Option (List ℕ)). IfNone o (RecordHeld file k (λ held. CanGrowIn is_name_key held.block left (length entry) → ⊥)))
+    let not = subst (λ (o : Option (List ℕ)). IfNone o (RecordHeld file k (λ held. CanGrowIn is_name_key held.block left (length entry) →
+    ⊥)))
     c.in_default-2.is c.in_ok-root.ensures.none in
-    absurd (cannot-fail old file table entry marks (c.requires.held told) (c.requires.can told) c.in-Some.first c.in-Some.ensures k left e.record e.place e.attribute
+    absurd (cannot-fail old file table entry marks (c.requires.held told) (c.requires.can told)
+    c.in-Some.first c.in-Some.ensures k left e.record e.place e.attribute
     (c.requires.room told) not)
 
 pub put_in_value-requires-clause-place : goal.put_in_value-requires-clause-place
@@ -121,9 +123,11 @@ returns-clause-put g c =
     let marks = marks_of (mounted_of g.D.Disk a) in
     let table = c.args.upcase in
     on_ok_weaker c.put_in_value.result (λ w told.
-    let puts = written-of old file table entry marks (c.requires.held told) (c.requires.can told) c.in-Some.first c.in-Some.ensures k left e.record e.place e.attribute
+    let puts = written-of old file table entry marks (c.requires.held told) (c.requires.can told)
+    c.in-Some.first c.in-Some.ensures k left e.record e.place e.attribute
     (λ n. PutsInValue old new n left 0 after) (w told (c.requires.can told).apart (c.requires.can told).whole) in
-    grows-root old file table entry marks (c.requires.held told) (c.requires.can told) c.in-Some.first c.in-Some.ensures k left e.record e.place e.attribute
+    grows-root old file table entry marks (c.requires.held told) (c.requires.can told)
+    c.in-Some.first c.in-Some.ensures k left e.record e.place e.attribute
     (c.requires.room told) c.requires.entry.one c.requires.key after grown new puts) c.put_in_value.ensures.put
 
 pub returns-clause-ready : goal.returns-clause-ready
@@ -151,10 +155,12 @@ returns-clause-ready g c =
     (one-is file k left i e.record e.place e.attribute) c.put_in_value.result c.requires.sound c.put_in_value.ensures.stages
     c.put_in_value.ensures.kept in
     on_ok_weaker c.put_in_value.result (λ w told.
-    let puts = written-of old file table entry marks (c.requires.held told) (c.requires.can told) c.in-Some.first c.in-Some.ensures k left e.record e.place e.attribute
+    let puts = written-of old file table entry marks (c.requires.held told) (c.requires.can told)
+    c.in-Some.first c.in-Some.ensures k left e.record e.place e.attribute
     (λ n. PutsInValue old new n left 0 after) (w told (c.requires.can told).apart (c.requires.can told).whole) in
     subst (λ (m : Mounted). IsReady new (marks_of m)) (sym disk.mounted)
-    (ready-now old file table entry marks (c.requires.held told) (c.requires.can told) c.in-Some.first c.in-Some.ensures k left e.record e.place e.attribute
+    (ready-now old file table entry marks (c.requires.held told) (c.requires.can told)
+    c.in-Some.first c.in-Some.ensures k left e.record e.place e.attribute
     (c.requires.room told) c.requires.entry.one c.requires.key after grown new puts)) c.put_in_value.ensures.put
 
 pub returns-clause-held : goal.returns-clause-held
@@ -179,12 +185,15 @@ returns-clause-held g c =
     let marks = marks_of (mounted_of g.D.Disk a) in
     let table = c.args.upcase in
     ok-both c.put_in_value.result (λ w whole told.
-    let puts = written-of old file table entry marks (c.requires.held told) (c.requires.can told) c.in-Some.first c.in-Some.ensures k left e.record e.place e.attribute
+    let puts = written-of old file table entry marks (c.requires.held told) (c.requires.can told)
+    c.in-Some.first c.in-Some.ensures k left e.record e.place e.attribute
     (λ n. PutsInValue old new n left 0 after) (w told (c.requires.can told).apart (c.requires.can told).whole) in
     let can = c.requires.can told in
-    held-now old file table entry marks (c.requires.held told) (c.requires.can told) c.in-Some.first c.in-Some.ensures k left e.record e.place e.attribute
+    held-now old file table entry marks (c.requires.held told) (c.requires.can told)
+    c.in-Some.first c.in-Some.ensures k left e.record e.place e.attribute
     (c.requires.room told) c.requires.entry.one c.requires.key after grown new puts c.put_in_value.new.self c.put_in_value.ensures.same
-    (whole told can.apart can.whole (inside-written old file table entry marks (c.requires.held told) (c.requires.can told) c.in-Some.first c.in-Some.ensures k left e.record e.place e.attribute)))
+    (whole told can.apart can.whole (inside-written old file table entry marks (c.requires.held told) (c.requires.can told)
+    c.in-Some.first c.in-Some.ensures k left e.record e.place e.attribute)))
     c.put_in_value.ensures.put c.put_in_value.ensures.held
 
 pub returns-clause-whole : goal.returns-clause-whole
@@ -201,7 +210,8 @@ returns-clause-whole g c =
     let table = c.args.upcase in
     on_ok_weaker c.put_in_value.result (λ whole told.
     let can = c.requires.can told in
-    whole told can.apart can.whole (inside-written old file table entry marks (c.requires.held told) (c.requires.can told) c.in-Some.first c.in-Some.ensures k left e.record e.place e.attribute)) c.put_in_value.ensures.held
+    whole told can.apart can.whole (inside-written old file table entry marks (c.requires.held told) (c.requires.can told)
+    c.in-Some.first c.in-Some.ensures k left e.record e.place e.attribute)) c.put_in_value.ensures.held
 
 pub returns-clause-places : goal.returns-clause-places
 returns-clause-places g c =
