@@ -1,5 +1,5 @@
 -- THE RECORD OF A NEW FILE behind its flag, which was stored.
-use Rattle.std.proofs.Common.{◌≡◌, ◌+◌, ◌*◌, ◌/◌, ◌≤◌, ℕ, List, [], sym, ap, subst, ◌∙◌, inl, inr}
+use Rattle.std.proofs.Common.{◌≡◌, ◌+◌, ◌*◌, ◌/◌, ◌≤◌, ℕ, List, [], arith, length, sym, ap, subst, ◌∙◌, inl, inr}
 use Rattle.std.specs.Prelude.{◌⊎◌, Contains, IsTrue}
 use Rattle.vol_disk.specs.declared.Disk.{Ghosts}
 use Rattle.volume_def.specs.BitmapClauses.{record_bits}
@@ -19,6 +19,7 @@ use Rattle.mft_table.specs.InUse.{IsSoundVolume}
 use Rattle.mft_table.specs.Mft.{KeepsDisk, stage_of, view}
 use Rattle.mft_table.specs.Mounted.{mounted_layout}
 use Rattle.mft_table.specs.Staging.{record_places}
+use Rattle.file_makes.proofs.FewStaged.{few-staged, two-alone}
 use Rattle.record_bits.specs.HeldRows.{IsOfRows}
 use Rattle.record_bits.specs.StoredRow.{StoresRow}
 use Rattle.file_makes.specs.Steps.{ComesFlagged, IsWrittenRecord, MakesRecord, StagesFile}
@@ -48,3 +49,12 @@ flagged-places g a b c n kept first second sector there = elim (second.only sect
   | inl before ↦ elim (first sector before) [ inl was ↦ inl was | inr row ↦ inr (inl row) ]
   | inr new ↦ inr (inr (subst (λ (l : TableLayout). Contains (record_places l n) sector) (ap mounted_layout kept.mounted) new))
 ]
+
+-- .. one and two
+pub flagged-few : {D : Type 0} (g : Ghosts D) (layout : TableLayout) (a b c : Mft D g) (n : ℕ) → 24 ≤ n
+    → length (places g (stage_of g b)) ≤ length (places g (stage_of g a)) + 1 → StagesOnly g (record_places layout n) (stage_of g b) (stage_of g c)
+    → length (places g (stage_of g c)) ≤ length (places g (stage_of g a)) + 3
+flagged-few g layout a b c n ordinary first second =
+    let two = two-alone layout n (omega (arith, ordinary)) in
+    let more = few-staged g (record_places layout n) (stage_of g b) (stage_of g c) second in
+    omega (arith, first, two, more)

@@ -9,3 +9,4 @@ pub mod RoomKept
 pub mod MadeUnder
 pub mod MakeLaws
 pub mod StandardLaws
+pub mod FewStaged

@@ -1,8 +1,9 @@
 -- A FILE MADE UNDER ITS NAME: what stands between its record and its entry, and what the steps are together.
-use Rattle.std.proofs.Common.{◌≡◌, ℕ, Bool, List, [], None, codes, cond, inl, inr, length, ltb, sym, ap, subst, ◌∙◌, arith}
+use Rattle.std.proofs.Common.{◌≡◌, ◌+◌, ◌≤◌, ℕ, Bool, List, [], None, codes, cond, inl, inr, length, ltb, sym, ap, subst, ◌∙◌, arith}
 use Rattle.std.specs.Prelude.{Contains, IsSomeAnd, IsTrue, filter}
 use Rattle.std.specs.List.{flat_map}
 use Rattle.vol_disk.specs.declared.Disk.{Ghosts}
+use Rattle.vol_stage.specs.Staged.{places}
 use Rattle.ntfs_def.specs.Units.{wide}
 use Rattle.ntfs_def.specs.declared.kinds.TheConstants.{INDEX_ALLOCATION}
 use Rattle.ntfs_def.specs.FileName.{FileName}
@@ -16,7 +17,7 @@ use Rattle.volume_def.specs.Values.{spot_at}
 use Rattle.volume_def.specs.View.{VolumeView}
 use Rattle.volume_edits.specs.Clusters.{record_sectors}
 use Rattle.mft_table.specs.declared.mft.Mft.{Mft}
-use Rattle.mft_table.specs.Mft.{view}
+use Rattle.mft_table.specs.Mft.{stage_of, view}
 use Rattle.mft_table.specs.declared.mounted.Mounted.{Mounted}
 use Rattle.mft_table.specs.Changes.{with_record_taken}
 use Rattle.mft_table.specs.FreeRecords.{IsOrdinaryFree}
@@ -27,6 +28,7 @@ use Rattle.edit_def.proofs.IndexLaws.{items-of-directory}
 use Rattle.record_calls.specs.Marks.{marks_of}
 use Rattle.stream_overwrites.proofs.QuietSound.{stored-right}
 use Rattle.dir_index.specs.Replaced.{StagesRecords}
+use Rattle.file_makes.proofs.FewStaged.{each-few, few-index, few-staged}
 use Rattle.index_puts.specs.LeafRoom.{names_of_directory}
 use Rattle.made_edits.specs.Between.{HasNewFile}
 use Rattle.made_edits.specs.Comes.{ComesNamed, ComesUnder, new_reference}
@@ -107,10 +109,12 @@ module _ (old new : VolumeView) (was now : Mounted) (n dir : ℕ) (standard key 
   layout-same = file.leaves.layout
 
 -- THE SECTORS: those of the record and of its flag, and then those of a record of the index
-pub made-first : {D : Type 0} (g : Ghosts D) (view : VolumeView) (n dir : ℕ) (a b : Mft D g) → StagesFile g view n a b → StagesMade g view n dir a b
-made-first g view n dir a b stages = record {
+pub made-first : {D : Type 0} (g : Ghosts D) (view : VolumeView) (n dir : ℕ) (a b : Mft D g) → StagesFile g view n a b
+    → length (places g (stage_of g b)) ≤ length (places g (stage_of g a)) + 3 → StagesMade g view n dir a b
+made-first g view n dir a b stages few = record {
   vcns = [];
   few = omega arith;
+  count = omega (arith, few);
   places = λ s there. elim (stages s there) [
     | inl was ↦ inl was
     | inr new ↦ elim new [ inl row ↦ inr (inl row) | inr place ↦ inr (inr (inl place)) ]
@@ -119,10 +123,16 @@ made-first g view n dir a b stages = record {
 
 pub made-both : {D : Type 0} (g : Ghosts D) (old : VolumeView) (n dir : ℕ) (a b c : Mft D g) → IsTrue (view g b).told
     → (names_of_directory (view g b) dir).records ≡ (names_of_directory old dir).records → (view g b).layout ≡ old.layout
-    → StagesFile g old n a b → StagesRecords g 1 (names_of_directory (view g b) dir).records b c → StagesMade g old n dir a c
-made-both g old n dir a b c told parts layout first second = record {
+    → StagesFile g old n a b → length (places g (stage_of g b)) ≤ length (places g (stage_of g a)) + 3
+    → StagesRecords g 1 (names_of_directory (view g b) dir).records b c → StagesMade g old n dir a c
+made-both g old n dir a b c told parts layout first few second = record {
   vcns = second.vcns;
   few = second.few;
+  count =
+      let of = record_sectors (view g b).layout (spot_at (names_of_directory (view g b) dir).records) in
+      let more = few-staged g (flat_map of second.vcns) (stage_of g b) (stage_of g c) (second.places told) in
+      let eight = each-few of 8 second.vcns (few-index (view g b).layout (spot_at (names_of_directory (view g b) dir).records)) in
+      omega (arith, few, more, eight, second.few);
   places = λ s there. elim ((second.places told).only s there) [
     | inr new ↦ inr (inr (inr (subst (λ ps. Contains (flat_map (record_sectors old.layout (spot_at ps)) second.vcns) s) parts
         (subst (λ (l : TableLayout). Contains (flat_map (record_sectors l (spot_at (names_of_directory (view g b) dir).records)) second.vcns) s)

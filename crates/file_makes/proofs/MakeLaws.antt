@@ -77,6 +77,10 @@ module _ {D : Type 0} (g : Ghosts D) (a b c : Mft D g) (m n : ℕ) (one : MftRea
       record {
         vcns = here.vcns;
         few = here.few;
+        count =
+            let same = ap length (two.stage.only_reads.places ∙ one.stage.only_reads.places) in
+            let count = here.count in
+            omega (arith, same, count);
         places = λ s there. elim (here.places s there) [
           | inl was ↦ inl (subst (λ (xs : List ℕ). Contains xs s)
               (two.stage.only_reads.places ∙ one.stage.only_reads.places) was)

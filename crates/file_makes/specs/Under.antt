@@ -69,10 +69,11 @@ pub record MayMake (view : VolumeView) (dir : ℕ) (key : List ℕ) : Type 0 whe
   pub room : has_leaf_room view dir key (entry_bytes key) ≡ true
 
 -- Of the sectors that are staged now each was so before, or is of the stored bitmap of records, of the record, or of one record of the index of
--- the directory.
+-- the directory: one, two and eight of these.
 pub record StagesMade {D : Type 0} (g : Ghosts D) (view : VolumeView) (n dir : ℕ) (old new : Mft D g) : Type 0 where
   pub vcns : List ℕ
   pub few : length vcns ≤ 1
+  pub count : length (places g (stage_of g new)) ≤ length (places g (stage_of g old)) + 11
   pub places : (sector : ℕ) → Contains (places g (stage_of g new)) sector → Contains (places g (stage_of g old)) sector
       ⊎ (IsOfRows view sector ⊎ (Contains (record_places view.layout n) sector
       ⊎ Contains (flat_map (record_sectors view.layout (spot_at (names_of_directory view dir).records)) vcns) sector))

@@ -1,10 +1,11 @@
 //! The record of a new file, behind its flag in the stored bitmap of records.
 ghost use Rattle.std.specs.Prelude.{◌≡◌, ◌+◌, ◌*◌, ◌≤◌, ℕ, IfErr, IfOk, IsTrue, MatchResult, false, length, true};
+ghost use Rattle.vol_stage.specs.Staged.{places};
 ghost use Rattle.volume_edits.specs.Owners.{HasOwners};
 ghost use Rattle.mft_table.specs.Changes.{with_record_taken};
 ghost use Rattle.mft_table.specs.FreeRecords.{IsLeastFree, IsOrdinaryFree};
 ghost use Rattle.mft_table.specs.InUse.{IsInUse};
-ghost use Rattle.mft_table.specs.Mft.{faults_of, is_mft_broken, mounted_of, view};
+ghost use Rattle.mft_table.specs.Mft.{faults_of, is_mft_broken, mounted_of, stage_of, view};
 ghost use Rattle.mft_table.specs.MirrorClusters.{IsMirrorInside};
 ghost use Rattle.file_record.specs.FileNos.{CountsNo, IsReadNo};
 ghost use Rattle.record_bits.specs.StoredRow.{has_row_place};
@@ -42,6 +43,7 @@ pub fn make_flagged<D: Disk>(
         → ComesFlagged (view D.Disk mft.old) (view D.Disk mft.new) n standard.now key.now) }
     ensures places { IsTrue (view D.Disk mft.old).told → (n : ℕ) → IsLeastFree (mounted_of D.Disk mft.old).records n
         → StagesFile D.Disk (view D.Disk mft.old) n mft.old mft.new }
+    ensures few { length (places D.Disk (stage_of D.Disk mft.new)) ≤ length (places D.Disk (stage_of D.Disk mft.old)) + 3 }
     ensures device { KeepsDevice D.Disk mft.old mft.new }
     ensures err { IfErr result IsReadNo }
     ensures faults { MatchResult result (λ _. faults_of D.Disk mft.new ≡ faults_of D.Disk mft.old)

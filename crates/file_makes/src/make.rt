@@ -21,8 +21,8 @@ use mft_table::Mft;
 use std::alloc::Global;
 use vol_disk::Disk;
 
-/// Makes an empty file under a new name in a directory, at this moment, with the security descriptor of this id, in the least free record:
-/// its flag in the stored bitmap of records and in memory, its record, and the entry of its name. All of it is staged, and a discard leaves
+/// Makes an empty file under a new name in a directory, at this moment (in units of 100 ns since 1601), with the security descriptor of
+/// this id, in the least free record, whose number is answered: its flag in the stored bitmap of records and in memory, its record, and the entry of its name. All of it is staged, and a discard leaves
 /// the volume as it was. The times of the directory are the caller's to set.
 ///
 /// By condition, where the contents are told: the directory is shown, and no name of it is the same (`CanMake`); the flag of that record
@@ -31,7 +31,8 @@ use vol_disk::Disk;
 ///
 /// # Errors
 ///
-/// `Device` where the disk failed, and `Memory`. Some of it may then be staged: whoever called discards.
+/// `Device` where the disk failed, and `Memory`, for want of memory or where a record that was just made has no room, as never is so. Some
+/// of it may then be staged: whoever called discards.
 pub fn make_file<D: Disk>(
     alloc: Global,
     mft: &mut Mft<'_, D>,

@@ -4,7 +4,7 @@ use Rattle.mft_table.specs.declared.mounted.Mounted.{Mounted}
 use Rattle.mft_table.specs.FreeRecords.{IsLeastFree}
 use Rattle.mft_table.specs.Mft.{mounted_of, stage_of, view}
 use Rattle.record_bits.specs.StoredRow.{StoresRow, has_row_place}
-use Rattle.file_makes.proofs.FlaggedLaws.{flagged-comes, flagged-places}
+use Rattle.file_makes.proofs.FlaggedLaws.{flagged-comes, flagged-few, flagged-places}
 use Rattle.file_makes.proofs.RecordSteps.{least-once}
 use Rattle.file_makes.proofs.flagged.make_flagged.Goals as goal
 
@@ -40,3 +40,19 @@ pub returns-clause-places : goal.returns-clause-places
 returns-clause-places g c told n least =
     flagged-places g.D.Disk c.args.mft.now c.store_row.new.mft c.make_record.new.mft n c.store_row.ensures.device (c.store_row.ensures.places told)
     (c.make_record.ensures.places n (subst (λ (m : Mounted). IsLeastFree m.records n) (sym c.store_row.ensures.device.mounted) least))
+
+pub returns-in_err-made-clause-few : goal.returns-in_err-made-clause-few
+returns-in_err-made-clause-few g c =
+    let least = c.in-Some.ensures.some in
+    flagged-few g.D.Disk (view g.D.Disk c.store_row.new.mft).layout c.args.mft.now c.store_row.new.mft c.make_record.new.mft c.in-Some.n
+    least.free.0 c.store_row.ensures.few
+    (c.make_record.ensures.places c.in-Some.n
+    (subst (λ (m : Mounted). IsLeastFree m.records c.in-Some.n) (sym c.store_row.ensures.device.mounted) least))
+
+pub returns-clause-few : goal.returns-clause-few
+returns-clause-few g c =
+    let least = c.in-Some.ensures.some in
+    flagged-few g.D.Disk (view g.D.Disk c.store_row.new.mft).layout c.args.mft.now c.store_row.new.mft c.make_record.new.mft c.in-Some.n
+    least.free.0 c.store_row.ensures.few
+    (c.make_record.ensures.places c.in-Some.n
+    (subst (λ (m : Mounted). IsLeastFree m.records c.in-Some.n) (sym c.store_row.ensures.device.mounted) least))

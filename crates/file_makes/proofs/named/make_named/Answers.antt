@@ -8,7 +8,7 @@ use Rattle.file_makes.proofs.named.make_named.Goals as goal
 pub returns-in_err-made-clause-places : goal.returns-in_err-made-clause-places
 returns-in_err-made-clause-places g c told n least =
     made-first g.D.Disk (view g.D.Disk c.args.mft.now) n c.args.dir c.args.mft.now c.make_flagged.new.mft
-    (c.make_flagged.ensures.places told n least)
+    (c.make_flagged.ensures.places told n least) c.make_flagged.ensures.few
 
 pub put_under-requires-clause-may : goal.put_under-requires-clause-may
 put_under-requires-clause-may g c told_then =
@@ -38,7 +38,7 @@ returns-in_err-put_under-clause-places g c told n least =
     (c.requires.may told) c.told-standard comes)
     (layout-same old counted was now c.in_ok-made.made c.args.dir c.args.standard.now c.args.key.now (c.requires.volume told)
     (c.requires.may told) c.told-standard comes)
-    (c.make_flagged.ensures.places told n least) (c.put_under.ensures.places told_then)
+    (c.make_flagged.ensures.places told n least) c.make_flagged.ensures.few (c.put_under.ensures.places told_then)
 
 pub returns-clause-made : goal.returns-clause-made
 returns-clause-made g c told reference =
@@ -69,4 +69,4 @@ returns-clause-places g c told n least =
     (c.requires.may told) c.told-standard comes)
     (layout-same old counted was now c.in_ok-made.made c.args.dir c.args.standard.now c.args.key.now (c.requires.volume told)
     (c.requires.may told) c.told-standard comes)
-    (c.make_flagged.ensures.places told n least) (c.put_under.ensures.places told_then)
+    (c.make_flagged.ensures.places told n least) c.make_flagged.ensures.few (c.put_under.ensures.places told_then)
