@@ -1,0 +1,17 @@
+mod FoundBoth
+mod CopiedLaws
+mod FreeRecords
+mod RecordBitsFile
+mod RoomLaws
+mod PlacedLaws
+mod InsideLaws
+pub mod OutcomeLaws
+-- Laws of the crates below, passed on to those above.
+pub use Rattle.file_makes.proofs.MadeUnder
+pub use Rattle.tree_edit.proofs.StagedLaws
+pub use Rattle.file_makes.proofs.BetweenMade
+pub use Rattle.file_makes.proofs.LeftMade
+pub use Rattle.file_makes.proofs.SoundMade
+pub use Rattle.tree_edit.proofs.ItemLaws
+pub use Rattle.tree_edit.proofs.Rows
+pub use Rattle.tree_edit.proofs.SoundLaws

@@ -1,0 +1,15 @@
+//! Where a file can be made.
+#![tactic(auto)]
+
+mod edits;
+mod find;
+mod laws;
+mod make;
+mod record_free;
+mod under;
+
+pub use file_makes::make_file;
+pub use find::find_to_make;
+pub use laws::make_laws;
+pub use name_places::NewPlace;
+pub use tree_edit::{Standard, descriptor, read_standard, set_attributes};
