@@ -5,6 +5,8 @@
 #[cfg(test)]
 mod clusters;
 #[cfg(test)]
+mod creates;
+#[cfg(test)]
 mod edits;
 #[cfg(test)]
 mod growth;

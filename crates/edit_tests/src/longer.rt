@@ -198,8 +198,8 @@ fn sizes_at(image: &[u8], key: Option<usize>) -> Option<(usize, usize)> {
     Some((allocated, number(image, at.saturating_add(0x30))))
 }
 
-// Fourteen writes behind each other, of as many bytes as a command may have.
-const LARGE: [&str; 14] = [
+/// Fourteen writes behind each other, of as many bytes as a command may have.
+pub const LARGE: [&str; 14] = [
     "write /k 4090 ",
     "write /k 36858 ",
     "write /k 69626 ",

@@ -78,6 +78,7 @@ fn is_left_out(command: &Command) -> bool
             | Command::Open { .. }
             | Command::Hread { .. }
             | Command::Close { .. }
+            | Command::Create { .. }
             | Command::Setattr { .. }
             | Command::Setsec { .. }
             | Command::Write { .. }

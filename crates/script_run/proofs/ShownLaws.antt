@@ -1,7 +1,9 @@
--- A LINE SETS NO FLAGS but those that are shown, and an id of four bytes.
+-- A LINE SETS NO FLAGS but those that are shown, and an id of four bytes; each name of a path has a unit.
+use Rattle.std.proofs.Common.{◌≤◌, length, arith}
+use Rattle.std.proofs.lemmas.List.Elements.{All-weaker}
 use Rattle.tree_model.specs.declared.command.Command.{Command}
 use Rattle.tree_model.specs.declared.command.Command.TheVariants as c
-use Rattle.cmd_lang.specs.Sayable.{IsSayable}
+use Rattle.cmd_lang.specs.Sayable.{IsSayable, IsSayableName}
 use Rattle.tree_ops.specs.Below.{SetsShown}
 
 pub sayable-shown : (said : Command) → IsSayable said → SetsShown said
@@ -11,7 +13,7 @@ sayable-shown (c.Stat path) says = tt
 sayable-shown (c.Links path) says = tt
 sayable-shown (c.Cat path stream) says = tt
 sayable-shown (c.Read path stream from len) says = tt
-sayable-shown (c.Create path) says = tt
+sayable-shown (c.Create path) says = All-weaker IsSayableName (λ name. 1 ≤ length name) (λ name is. let some = is.some in omega (arith, some)) path says.names
 sayable-shown (c.Mkdir path) says = tt
 sayable-shown (c.Rm path) says = tt
 sayable-shown (c.Rmdir path) says = tt

@@ -12,7 +12,7 @@ use Rattle.tree_model.specs.Refusals.{Facts}
 use Rattle.tree_model.specs.declared.command.Command.{Command}
 use Rattle.tree_model.specs.declared.reply.Answer.TheVariants as a
 use Rattle.tree_model.specs.declared.reply.Reply.TheVariants as reply
-use Rattle.in_place_done.specs.Written.{SetsShown}
+use Rattle.made_done.specs.Written.{SetsShown}
 use Rattle.tree_model.proofs.HasFacts.{has_facts}
 use Rattle.mark_write.specs.Flags.{LiesAt}
 use Rattle.share_table.specs.Held.{HoldsOpens}
@@ -24,6 +24,7 @@ use Rattle.tree_ops.specs.Serves.{Serves}
 use Rattle.tree_ops.specs.Volumes.{disk_under, mark_of, moment_of, opens_of, view_under}
 use Rattle.tree_ops.specs.declared.volume.Volume.{Volume}
 use Rattle.tree_ops.proofs.ImageLaws.{some-bytes}
+use Rattle.tree_ops.proofs.TablesKept.{mirror-kept}
 use Rattle.tree_ops.proofs.EditBy.{IsEditBy}
 use Rattle.tree_ops.proofs.EditVolume as edited
 
@@ -84,7 +85,7 @@ module _ {D : Type 0} (g : Ghosts D) (sized : (disk : D) → IfSome (g.now disk)
   can-still = record {
     in_use = now-in_use;
     bytes = now-bytes;
-    mirror = subst IsMirrorInside (sym (s.mounted ∙ s.keeps.mounted)) can.mirror;
+    mirror = subst IsMirrorInside (sym s.mounted) (mirror-kept g old.mft s.staged s.keeps can.mirror);
     clear = now-clear;
     marked = now-has;
     flag = now-mark;

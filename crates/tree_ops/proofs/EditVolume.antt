@@ -6,16 +6,14 @@ use Rattle.std.specs.Option.{option_map_or}
 use Rattle.vol_disk.specs.Contents.{IsTold, sector_in}
 use Rattle.vol_disk.specs.declared.Disk.{Ghosts}
 use Rattle.vol_stage.specs.Staged.{disk_of, image}
-use Rattle.volume_def.specs.FileNames.{names_of}
-use Rattle.volume_def.specs.Files.{records_of}
 use Rattle.volume_def.specs.Sound.{IsSound, told_view}
 use Rattle.volume_def.specs.VersionClause.{IsClean}
 use Rattle.volume_def.specs.View.{VolumeView}
 use Rattle.mft_table.specs.declared.mounted.Mounted.{Mounted}
-use Rattle.mft_table.specs.HeldTables.{AreStored}
 use Rattle.mft_table.specs.InUse.{IsInUse, IsSoundVolume}
 use Rattle.mft_table.specs.Mft.{mounted_of, stage_of, view}
 use Rattle.mft_table.specs.Mounted.{mounted_layout}
+use Rattle.tree_model.specs.Effects.{after}
 use Rattle.tree_model.specs.Facts.{IsVolumeOf, TellsFacts}
 use Rattle.tree_model.specs.Reading.{read}
 use Rattle.tree_model.specs.Refusals.{Facts}
@@ -24,22 +22,21 @@ use Rattle.tree_model.specs.Subjects.{Machine}
 use Rattle.tree_model.specs.declared.command.Command.{Command}
 use Rattle.tree_model.specs.declared.reply.Answer.TheVariants as a
 use Rattle.tree_model.specs.declared.reply.Reply.TheVariants as reply
-use Rattle.session_def.specs.Cost.{given_back, log_bytes}
-use Rattle.session_def.specs.Done.{HasEmptyLog, first_cost}
+use Rattle.session_def.specs.Cost.{log_bytes}
+use Rattle.session_def.specs.Done.{EditDone, HasEmptyLog, first_cost}
 use Rattle.session_def.specs.State.{Stands, State}
 use Rattle.session_def.proofs.CleanLaws.{clean-flag}
 use Rattle.mark_write.specs.Flags.{IsCopySet, IsSet, cleared_sector}
 use Rattle.mark_write.specs.Logs.{IsEmptied, span_sectors}
 use Rattle.mark_write.specs.declared.flag.Flag.{Flag}
 use Rattle.mark_write.specs.declared.log.Span.{Span}
-use Rattle.mark_place.specs.LogSpans.{log_sectors}
+use Rattle.made_done.specs.LogSpans.{log_sectors}
 use Rattle.volume_mark.specs.Closing.{MarkStands}
 use Rattle.volume_mark.specs.Mark.{IsFlagOf}
 use Rattle.volume_mark.specs.SameVolume.{IsSameVolume}
 use Rattle.volume_mark.proofs.MarkLaws.{mark-law}
-use Rattle.in_place_done.specs.Below.{IsFinished, IsPlaceOf}
-use Rattle.in_place_done.specs.Written.{FindsFile, LeavesEdit, SetsShown, Stages, StagesEdit, machine_behind, most_written}
-use Rattle.in_place_done.proofs.Leaves.{leaves}
+use Rattle.made_done.specs.Below.{IsFinished, IsPlaceOf}
+use Rattle.made_done.specs.Written.{SetsShown}
 use Rattle.tree_ops.specs.Edits.{CanEdit, EditOf, EditsFile, IsMarkOf, IsPlaceBy}
 use Rattle.tree_ops.specs.Runs.{Applied, Ready, machine_under}
 use Rattle.tree_ops.specs.Volumes.{disk_under, mark_of, moment_of, opens_of, view_under}
@@ -47,7 +44,8 @@ use Rattle.tree_ops.specs.declared.volume.Volume.{Volume}
 use Rattle.tree_ops.proofs.ImageLaws.{image-long, some-bytes, view-told}
 use Rattle.tree_ops.proofs.EditedVolume.{applied-edit}
 use Rattle.tree_ops.proofs.PlaceLaws.{place-of}
-use Rattle.tree_ops.proofs.EditBy.{IsEditBy, LeadsToFile, StagesFile, found-step}
+use Rattle.tree_ops.proofs.TablesKept.{layout-kept}
+use Rattle.tree_ops.proofs.EditBy.{IsDoneBy, IsEditBy, IsLed, LeavesSo, done-step}
 
 -- what the first edit of a run writes beside its own, on a volume that is clean
 clean-cost : (view : VolumeView) → IsClean view → first_cost view ≡ 2 + log_sectors view
@@ -83,31 +81,9 @@ module _ {D : Type 0} (g : Ghosts D) (sized : (disk : D) → IfSome (g.now disk)
   pub stands : Stands state
   stands = record { volume = can.bytes before (can.clear.tells ∙ was); sound = (can.in_use told).sound; reading = refl }
 
-  -- THE FILE
-  pub leads : LeadsToFile facts (machine_under g old) session command s.file
-  leads = by.found told facts tells s.file (s.leads told)
-
-  pub staged-by : StagesFile v (opens_of g old) (moment_of g old) command leads.at s.file (view g s.staged)
-  unfolding leads
-  staged-by = by.stages told facts tells s.file (s.leads told) (view g s.staged) (s.does told)
-
-  pub finds : FindsFile facts state session command s.file staged-by.node
-  finds = record {
-    stands = stands;
-    told = tells;
-    edits = by.edits;
-    at = leads.at;
-    found = leads.is;
-    file = leads.file_is;
-    can = staged-by.can;
-    shown = shown;
-    high = staged-by.high;
-  }
-
-  -- so the machine's step is this
-  pub stepped : Step facts (machine_under g old) session command (reply.Ok a.Done) (machine_behind state session command finds.at)
-  unfolding finds leads
-  stepped = found-step v (opens_of g old) (moment_of g old) session command edit by facts tells s.file leads
+  -- where its words lead
+  pub leads : IsLed facts (machine_under g old) session command
+  leads = by.found told stands.sound facts tells s.file (s.leads told)
 
   -- THE BYTES that were staged, and written
   pub staged-some : (bytes : List ℕ) × (image g (stage_of g s.staged) ≡ Some bytes)
@@ -138,16 +114,8 @@ module _ {D : Type 0} (g : Ghosts D) (sized : (disk : D) → IfSome (g.now disk)
       ∙ ap (λ n. 512 * n) (s.goes_on.size ∙ s.keeps.goes_on.size) ∙ sym before-long ∙ sym staged-long
 
   pub staged-view : view g s.staged ≡ told_view (sector_in (Some staged)) v.layout
-  staged-view = view-told g s.staged staged staged-some.1 ∙ ap (λ (m : Mounted). told_view (sector_in (Some staged)) (mounted_layout m))
-      s.keeps.mounted
-
-  pub stages : StagesEdit state command finds.at s.file staged-by.node staged
-  unfolding finds
-  stages = record {
-    long = staged-long;
-    stages = subst (λ w. Stages state command leads.at s.file staged-by.node w) staged-view
-        (staged-by.stages before (g.written (disk_under g old)));
-  }
+  staged-view =
+      view-told g s.staged staged staged-some.1 ∙ ap (told_view (sector_in (Some staged))) (layout-kept g old.mft s.staged s.keeps)
 
   pub place : IsPlaceOf v before flag s.place.marked s.place.spans.items
   place = place-of g old.mft s.place told (mark_of g old) before was can s.placed.by_mark
@@ -167,16 +135,24 @@ module _ {D : Type 0} (g : Ghosts D) (sized : (disk : D) → IfSome (g.now disk)
     emptied = λ e. subst (λ o. IsEmptied s.place.spans.items (sector_in o)) written-some.1 (s.finishes.emptied e staged-told);
   }
 
-  -- WHAT IS LEFT
-  pub left : LeavesEdit facts state session command finds.at flag staged written
-  left = leaves facts state session command s.file staged-by.node flag s.place.marked s.place.spans.items staged written finds stages place
-      finished
+  -- WHAT IS LEFT of the volume that was staged
+  abbrev behind : VolumeView
+  behind = view g s.staged
 
-  staged-is : view g s.staged ≡ left.new
-  staged-is = staged-view ∙ sym left.is
+  abbrev most_staged : ℕ
+  most_staged = edit.most v behind s.file
 
-  pub same : IsSameVolume left.new flag written
-  same = mark-law left.new flag staged left.volume left.sound left.flag_there written left.agrees
+  pub done-by : IsDoneBy facts v (opens_of g old) (moment_of g old) session command leads.at most_staged behind
+  unfolding leads
+  done-by = by.does told stands.sound facts tells s.file (s.leads told) behind (s.does told)
+
+  pub left : LeavesSo facts state session command leads.at done-by.made most_staged behind flag staged written
+  left =
+      done-by.leaves before (g.written (disk_under g old)) stands shown flag s.place.marked s.place.spans.items staged written
+      staged-long staged-view place finished
+
+  pub same : IsSameVolume behind flag written
+  same = mark-law behind flag staged left.volume left.sound left.flag_there written left.agrees
 
   abbrev now : VolumeView
   now = told_view (sector_in (Some written)) v.layout
@@ -185,13 +161,14 @@ module _ {D : Type 0} (g : Ghosts D) (sized : (disk : D) → IfSome (g.now disk)
   other-is =
       same.volume.is
       ∙ ap (told_view (sector_in (Some written)))
-      (sym (ap (λ (w : VolumeView). w.layout) same.volume.is) ∙ same.layout ∙ ap (λ (w : VolumeView). w.layout) left.is)
+      (sym (ap (λ (w : VolumeView). w.layout) same.volume.is) ∙ same.layout ∙ ap (λ (w : VolumeView). w.layout) staged-view)
 
   -- the volume behind it is that of the bytes that were written
   pub new-view : view_under g new ≡ now
   new-view =
       view-told g new.mft written (s.finishes.image ∙ written-some.1)
-      ∙ ap (λ (m : Mounted). told_view (sector_in (Some written)) (mounted_layout m)) (s.mounted ∙ s.keeps.mounted)
+      ∙ ap (told_view (sector_in (Some written)))
+      (ap (λ (m : Mounted). mounted_layout m) s.mounted ∙ layout-kept g old.mft s.staged s.keeps)
 
   pub now-volume : IsVolumeOf written now
   now-volume = subst (IsVolumeOf written) other-is same.volume
@@ -199,16 +176,17 @@ module _ {D : Type 0} (g : Ghosts D) (sized : (disk : D) → IfSome (g.now disk)
   pub now-sound : IsSound now
   now-sound = subst IsSound other-is same.sound
 
-  pub now-reads : read now ≡ (machine_behind state session command finds.at).tree
-  now-reads = ap read (sym other-is) ∙ same.reading ∙ left.reading
-
   abbrev next : Machine
-  next = machine_behind state session command finds.at
+  next = after (machine_under g old) session command leads.at done-by.made
+
+  pub now-reads : read now ≡ next.tree
+  now-reads = ap read (sym other-is) ∙ same.reading ∙ left.reading
 
   -- the machine behind it is that to which the step leads
   pub new-machine : opens_of g new ≡ opens_of g old → moment_of g new ≡ moment_of g old → machine_under g new ≡ next
   new-machine opens moment =
-      machine-by (ap read new-view ∙ now-reads) (opens ∙ sym (by.opens_stay finds.at)) (moment ∙ sym (by.moment_stays finds.at))
+      machine-by (ap read new-view ∙ now-reads) (opens ∙ sym (by.opens_stay leads.at done-by.made))
+      (moment ∙ sym (by.moment_stays leads.at done-by.made))
     where
       machine-by : read (view_under g new) ≡ next.tree → opens_of g new ≡ next.opens → moment_of g new ≡ next.now
           → machine_under g new ≡ next
@@ -221,8 +199,19 @@ module _ {D : Type 0} (g : Ghosts D) (sized : (disk : D) → IfSome (g.now disk)
   abbrev next_state : ℕ → State
   next_state count = record { image = written; view = now; machine = next; written = count }
 
+  abbrev still_written : State
+  still_written = next_state (g.written (disk_under g old))
+
+  done-edit : EditDone facts state session command still_written × HasEmptyLog now
+  done-edit = left.done still_written refl now-volume refl (omega arith)
+
   pub now-log : HasEmptyLog now
-  now-log = (left.done (next_state (g.written (disk_under g old))) refl now-volume refl (omega arith)).1
+  now-log = done-edit.1
+
+  -- the machine's step is this
+  pub stepped : Step facts (machine_under g old) session command (reply.Ok a.Done) next
+  stepped = done-step v (opens_of g old) (moment_of g old) session command edit by facts before (g.written (disk_under g old)) still_written
+      leads done-edit.0
 
   pub now-mark : IsMarkOf now flag
   now-mark = record { there = subst (λ w. IsFlagOf w flag) other-is same.flag_there; log = now-log }
@@ -233,8 +222,7 @@ module _ {D : Type 0} (g : Ghosts D) (sized : (disk : D) → IfSome (g.now disk)
       (subst (λ (m : Mounted). IsSoundVolume now m) (sym s.mounted) (record {
         sound = now-sound;
         stored = left.stored (mounted_of g s.staged).clusters (mounted_of g s.staged).records (mounted_of g s.staged).upcase
-            (subst (λ w. AreStored w (mounted_of g s.staged).clusters (mounted_of g s.staged).records (mounted_of g s.staged).upcase)
-            staged-is (s.tables (s.keeps.goes_on.told_image ∙ told)));
+            (s.tables (s.keeps.goes_on.told_image ∙ told));
       }))
 
   pub now-bytes : (all : List ℕ) → image g (stage_of g new.mft) ≡ Some all → IsVolumeOf all (view_under g new)
@@ -243,9 +231,6 @@ module _ {D : Type 0} (g : Ghosts D) (sized : (disk : D) → IfSome (g.now disk)
       subst (IsVolumeOf all) (sym new-view) (subst (λ bytes. IsVolumeOf bytes now) same now-volume)
 
   -- HOW MANY SECTORS were written
-  pub names : ℕ
-  names = length (names_of (records_of v) s.file)
-
   pub most-by : (mark : Option Flag) → (first : VolumeView) → MarkStands first state mark → IsPlaceBy g old.mft mark s.place
       → 2 + span_sectors s.place.spans.items ≤ first_cost v + 2
   most-by None first m by =
@@ -257,18 +242,13 @@ module _ {D : Type 0} (g : Ghosts D) (sized : (disk : D) → IfSome (g.now disk)
       omega (arith, none)
 
   pub most : (first : VolumeView) → MarkStands first state (mark_of g old)
-      → g.written (disk_under g new) ≤ g.written (disk_under g old) + most_written state command finds.at.file left.new
+      → g.written (disk_under g new) ≤ g.written (disk_under g old) + (first_cost v + 2 + most_staged)
   most first m =
       let wrote = s.written in
-      let all = s.few told in
-      let few = all.stages.few in
+      let few = (s.few told).few in
       let plain = ap (λ (sectors : List ℕ). length sectors) can.clear.plain in
-      let freed = subst (λ w. all.given ≤ given_back v w) staged-is all.freed in
-      let took = subst (λ w. all.taken ≤ given_back w v) staged-is all.owned in
       let cost = most-by (mark_of g old) first m s.placed.by_mark in
-      let same = ap (λ n. length (names_of (records_of v) n)) finds.file in
-      let fits = by.few in
-      omega (arith, wrote, few, plain, freed, took, cost, same, fits)
+      omega (arith, wrote, few, plain, cost)
 
   -- WHAT EVERY COMMAND PROMISES is promised.
   pub flag-first : (mark : Option Flag) → (first : VolumeView) → MarkStands first state mark → IsPlaceBy g old.mft mark s.place
@@ -279,11 +259,11 @@ module _ {D : Type 0} (g : Ghosts D) (sized : (disk : D) → IfSome (g.now disk)
   module _ (opens : opens_of g new ≡ opens_of g old) (moment : moment_of g new ≡ moment_of g old) (mark : mark_of g new ≡ Some flag) where
     pub applied-done : (first : VolumeView) → Ready g first old state → Applied g first state session command (reply.Ok a.Done) new
     applied-done first r =
-        applied-edit g first new state session command a.Done flag staged written left.new next facts (g.written (disk_under g new))
+        applied-edit g first new state session command a.Done flag staged written behind next facts (g.written (disk_under g new))
         tells stepped by.is
         left.volume left.sound left.reading left.flag_there (flag-first (mark_of g old) first r.mark s.placed.by_mark)
         left.agrees finished.set written-some.1
-        (new-view ∙ ap (λ (w : VolumeView). told_view (sector_in (Some written)) w.layout) (sym left.is))
+        (new-view ∙ ap (λ (w : VolumeView). told_view (sector_in (Some written)) w.layout) (sym staged-view))
         (new-machine opens moment) mark refl
-        (λ after image machine count volume. left.done after image volume machine
-        (subst (λ n. n ≤ g.written (disk_under g old) + most_written state command finds.at.file left.new) (sym count) (most first r.mark)))
+        (λ after_it image machine count volume. left.done after_it image volume machine
+        (subst (λ n. n ≤ g.written (disk_under g old) + (first_cost v + 2 + most_staged)) (sym count) (most first r.mark)))

@@ -1,12 +1,10 @@
 -- HOW AN EDIT ENDS on the table of records: from what its calls give, one behind another.
-use Rattle.std.proofs.Common.{◌≡◌, ◌⊎◌, ◌≤◌, ◌+◌, ◌*◌, ℕ, List, [], length, Option, Some, None, Result, Ok, Err}
+use Rattle.std.proofs.Common.{◌≡◌, ◌⊎◌, ◌≤◌, ◌+◌, ℕ, List, [], length, Option, Some, None, Result, Ok, Err}
 use Rattle.std.proofs.Common.{sym, subst, inr, ◌∙◌, arith}
 use Rattle.std.specs.Prelude.{All, Contains, IfErr, IsTrue, OnErr, OnOk}
 use Rattle.vol_disk.specs.Contents.{sector_in}
 use Rattle.vol_disk.specs.declared.Disk.{Ghosts}
 use Rattle.vol_stage.specs.Staged.{GoesOn, disk_of, places}
-use Rattle.volume_def.specs.FileNames.{names_of}
-use Rattle.volume_def.specs.Files.{records_of}
 use Rattle.volume_def.specs.View.{VolumeView}
 use Rattle.mark_write.specs.Finish.{FailsSafe}
 use Rattle.mark_write.specs.Flags.{IsSafe, LiesAt}
@@ -15,17 +13,16 @@ use Rattle.mark_write.specs.declared.flag.Flag.{Flag}
 use Rattle.mark_write.specs.declared.log.Span.{Span}
 use Rattle.mft_table.specs.declared.mft.Mft.{Mft}
 use Rattle.mft_table.specs.Mft.{mounted_of, stage_of, view}
-use Rattle.stored_bits.specs.Given.{KeepsDevice}
-use Rattle.mark_place.specs.LogSpans.{AreLogSpans, log_sectors}
+use Rattle.made_done.specs.LogSpans.{AreLogSpans, log_sectors}
 use Rattle.volume_mark.specs.Mark.{IsFlagOf}
 use Rattle.stream_changes.specs.Below.{TellsStored}
-use Rattle.stream_changes.specs.Staged.{IsOfGiving, StagesGiving}
-use Rattle.stream_changes.proofs.DeviceLaws.{device-behind}
 use Rattle.tree_read.specs.declared.stop.Stop.{Stop}
 use Rattle.tree_read.specs.declared.stop.Stop.TheVariants as stop
-use Rattle.tree_ops.specs.Edits.{EditOf, EditsFile, EndsAs, FailsWriting, IsPlaceBy, IsPlaced, IsWritten, LeadsTo, MftStill}
+use Rattle.tree_ops.specs.Edits.{EditOf, EditsFile, EndsAs, FailsWriting, IsPlaceBy, IsPlaced, IsWritten, LeadsTo, MftStill, StagesBy}
+use Rattle.tree_ops.specs.Tables.{KeepsTables}
 use Rattle.tree_ops.specs.declared.place.MarkPlace.{MarkPlace}
 use Rattle.tree_ops.proofs.StillLaws.{still-view}
+use Rattle.tree_ops.proofs.TablesKept.{tables-behind}
 
 -- WHAT WAS FOUND of a volume that calls only read is so of the volume before.
 module _ {D : Type 0} (g : Ghosts D) (old mid : Mft D g) (still : MftStill g old mid) where
@@ -51,36 +48,25 @@ module _ {D : Type 0} (g : Ghosts D) (old mid : Mft D g) (still : MftStill g old
   }
 
   -- and what was staged on it was staged on that
-  pub all-keeps : (staged : Mft D g) → KeepsDevice g mid staged → KeepsDevice g old staged
-  all-keeps staged keeps = device-behind g old mid staged still.keeps keeps
+  pub all-keeps : (staged : Mft D g) → KeepsTables g mid staged → KeepsTables g old staged
+  all-keeps staged keeps = tables-behind g old mid staged still.keeps keeps
 
   -- what is staged apart from that before, of the volume before
-  abbrev StagesOn : ℕ → ℕ → Mft D g → VolumeView → Mft D g → Type 0
-  StagesOn most f from v staged = StagesGiving g most f v from staged
+  stages-from : (edit : EditOf) (f : ℕ) (v : VolumeView) (staged : Mft D g) → StagesBy g edit f v mid staged
+      → StagesBy g edit f v old staged
+  stages-from edit f v staged x = record {
+    few = subst (λ xs. length (places g (stage_of g staged)) ≤ length xs + edit.most v (view g staged) f) still.places x.few;
+    only = λ sector has. subst (λ xs. Contains xs sector ⊎ edit.Of v f sector) still.places (x.only sector has);
+  }
 
-  stages-from : (most f : ℕ) (v : VolumeView) (staged : Mft D g) → StagesOn most f mid v staged → StagesOn most f old v staged
-  stages-from most f v staged x =
-      let all = names_of (records_of v) f in
-      record {
-        given = x.given;
-        freed = x.freed;
-        taken = x.taken;
-        owned = x.owned;
-        stages = record {
-          few = subst (λ xs. length (places g (stage_of g staged)) ≤ length xs
-              + (most + 12 * length all + 2 * x.given + 2 * x.taken)) still.places x.stages.few;
-          only = λ sector has. subst (λ xs. Contains xs sector ⊎ IsOfGiving v f sector) still.places (x.stages.only sector has);
-        };
-      }
+  pub stages-back : (edit : EditOf) (f : ℕ) (staged : Mft D g) → (IsTrue (view g mid).told → StagesBy g edit f (view g mid) mid staged)
+      → IsTrue (view g old).told → StagesBy g edit f (view g old) old staged
+  stages-back edit f staged stages told =
+      stages-from edit f (view g old) staged (back (λ v. StagesBy g edit f v mid staged) stages told)
 
-  pub stages-back : (most f : ℕ) (staged : Mft D g) → (IsTrue (view g mid).told → StagesOn most f mid (view g mid) staged)
-      → IsTrue (view g old).told → StagesOn most f old (view g old) staged
-  stages-back most f staged stages told =
-      stages-from most f (view g old) staged (back (λ v. StagesOn most f mid v staged) stages told)
-
-  module _ (edit : EditOf) (file : ℕ) (staged : Mft D g) (keeps : KeepsDevice g mid staged) (tables : TellsStored g staged)
+  module _ (edit : EditOf) (file : ℕ) (staged : Mft D g) (keeps : KeepsTables g mid staged) (tables : TellsStored g staged)
       (does : IsTrue (view g mid).told → edit.Does (view g mid) (view g staged) file)
-      (stages : IsTrue (view g mid).told → StagesOn edit.most file mid (view g mid) staged)
+      (stages : IsTrue (view g mid).told → StagesBy g edit file (view g mid) mid staged)
       (mark : Option Flag) (leads : LeadsTo g old edit (Ok file)) (plain : places g (stage_of g old) ≡ [])
       (place : MarkPlace) (placed : IsPlaced g old mark place) (new : Mft D g)
       (mounted : mounted_of g new ≡ mounted_of g staged) (goes : GoesOn g (stage_of g staged) (stage_of g new)) where
@@ -96,7 +82,7 @@ module _ {D : Type 0} (g : Ghosts D) (old mid : Mft D g) (still : MftStill g old
       staged = staged;
       keeps = all-keeps staged keeps;
       does = back (λ v. edit.Does v (view g staged) file) does;
-      few = stages-back edit.most file staged stages;
+      few = stages-back edit file staged stages;
       tables = tables;
       finishes = written.finishes;
       goes_on = goes;

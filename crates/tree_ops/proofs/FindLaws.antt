@@ -25,10 +25,10 @@ use Rattle.mark_write.specs.declared.log.Span.{Span}
 use Rattle.mft_table.specs.declared.mft.Mft.{Mft}
 use Rattle.mft_table.specs.Mft.{MftReads, stage_of, view}
 use Rattle.file_record.proofs.ReadLaws.{view-kept}
-use Rattle.mark_place.specs.LogSpans.{AreLogSpans, log_sectors}
+use Rattle.made_done.specs.LogSpans.{AreLogSpans, log_sectors}
 use Rattle.volume_mark.specs.Mark.{IsFlagOf}
 use Rattle.volume_mark.proofs.OutsideLaws as outside
-use Rattle.in_place_done.proofs.Below.{apart-of}
+use Rattle.made_done.proofs.Below.{apart-of}
 use Rattle.tree_model.specs.Facts.{IsVolumeOf}
 use Rattle.tree_ops.specs.Edits.{CanEdit, IsPlaced}
 use Rattle.tree_ops.specs.declared.place.MarkPlace.{MarkPlace}

@@ -31,14 +31,14 @@ use Rattle.tree_model.specs.declared.reply.No.TheVariants as no
 use Rattle.tree_model.specs.declared.tree.Content.{Content}
 use Rattle.tree_model.specs.declared.tree.Content.TheVariants.{Packed, Plain}
 use Rattle.tree_model.proofs.LookLaws.{find-never}
-use Rattle.in_place_done.proofs.Below.{has-room, value-room}
+use Rattle.made_done.proofs.Below.{has-room, value-room}
 use Rattle.stream_changes.specs.Below.{can_reach_there, can_resize, can_write_over, hwrite_in, hwrite_wanted, room_to_reach, room_to_write}
 use Rattle.edit_def.specs.OneFile.{no_room_alone}
 use Rattle.tree_ops.specs.Edits.{hwrite_edit}
 use Rattle.tree_ops.specs.Wanted.{machine_on}
 use Rattle.tree_ops.specs.declared.streams.StreamEdit.TheVariants as s
-use Rattle.tree_ops.proofs.EditBy.{IsEditBy, LeadsToFile}
-use Rattle.tree_ops.proofs.Judged.{can-of, if_written_by, last-written, last_two, with_at, written-file}
+use Rattle.tree_ops.proofs.FileEditBy.{IsFileEditBy, LeadsToFile}
+use Rattle.tree_ops.proofs.Judged.{can-of, if_written_by, last-written, last_two, three-ways, with_at, written-file}
 use Rattle.tree_ops.proofs.RoomAsked.{asked-unless, extent-there, located-counted, not-within, value-there}
 use Rattle.tree_ops.proofs.StreamBy.{edited-file}
 use Rattle.tree_ops.proofs.WriteBy.{clusters-so, parted, puts-in, record-so}
@@ -182,7 +182,8 @@ module _ (facts : Facts) (view : VolumeView) (opens : List OpenEntry) (now sessi
       let both : (cannot_edit facts.whole_table (read view) entry.file || not (facts.built_for m command (at entry)))
       ≡ not (over entry || (can entry || reach entry)) =
       ap (λ b. cannot_edit b (read view) entry.file || not (facts.built_for m command (at entry))) w
-      ∙ ap (λ b. cannot entry || not b) o ∙ parted (cannot entry) (goes entry) (value entry) (alone entry) (fits entry)
+      ∙ ap (λ b. cannot entry || not b) (o ∙ three-ways view (read view) command (at entry) refl)
+      ∙ parted (cannot entry) (goes entry) (value entry) (alone entry) (fits entry)
       (extent entry) (one entry) (has_placed_bits view) (reaches entry) in
       rw (n, both) refl
 
@@ -248,12 +249,11 @@ module _ (facts : Facts) (view : VolumeView) (opens : List OpenEntry) (now sessi
 
 -- IT IS THAT OF THE COMMAND
 pub hwrite-by : (opens : List OpenEntry) (now session handle from : ℕ) (bytes : Bor (List ℕ)) (view : VolumeView)
-    → IsEditBy view opens now session (c.Hwrite handle from bytes.now) (hwrite_edit (s.Write from bytes) opens session handle now)
+    → IsFileEditBy view opens now session (c.Hwrite handle from bytes.now) (hwrite_edit (s.Write from bytes) opens session handle now)
 unfolding opens_after
 hwrite-by opens now session handle from bytes view = record {
   edits = refl;
   is = refl;
-  makes = refl;
   found = λ told facts tells file is. (hwrite-found facts view opens now session handle from bytes.now tells file is).leads;
   refused = λ told facts tells why is. hwrite-refused facts view opens now session handle from bytes.now tells why is;
   stages = λ told facts tells file is new p.
@@ -265,5 +265,5 @@ hwrite-by opens now session handle from bytes view = record {
       (x.content_is ∙ ap (λ n. content_named (read view) n (node_of (read view) file)) stream) opens);
   opens_stay = λ at. refl;
   moment_stays = λ at. refl;
-  few = omega arith;
+  few = λ new file. omega arith;
 }

@@ -2,10 +2,16 @@
 use Rattle.std.proofs.Common.{◌≡◌, ◌&&◌, ◌||◌, ℕ, Bool, true, false, List, [], ◌∷◌, not, Option, Some, None, Result, Ok, Err, refl, ap, ◌∙◌}
 use Rattle.std.specs.Prelude.{if◌then◌else◌, is_some}
 use Rattle.std.specs.Option.{option_map_or}
+use Rattle.list_laws.proofs.BoolLaws.{or-false}
+use Rattle.volume_def.specs.View.{VolumeView}
 use Rattle.tree_model.specs.Cases.{is_packed}
 use Rattle.tree_model.specs.Paths.{and_then}
 use Rattle.tree_model.specs.Refusals.{first_some, unless, when}
+use Rattle.tree_model.specs.Staging.{is_built_for}
 use Rattle.tree_model.specs.Subjects.{Located}
+use Rattle.tree_model.specs.Tree.{Tree}
+use Rattle.tree_model.specs.Ways.{is_done_in_clusters, is_done_in_directory, is_done_in_place, is_done_in_record}
+use Rattle.tree_model.specs.declared.command.Command.{Command}
 use Rattle.tree_model.specs.declared.reply.No.{No}
 use Rattle.tree_model.specs.declared.reply.No.TheVariants as no
 use Rattle.tree_model.specs.declared.tree.Content.{Content}
@@ -26,6 +32,16 @@ not-both false false = refl
 pub can-of : (cannot can : Bool) → (not cannot && can) ≡ true → can ≡ true
 can-of true can e = cc
 can-of false can e = e
+
+-- a stream is edited in one of three ways
+pub three-ways : (view : VolumeView) (tree : Tree) (command : Command) (at : Located) → is_done_in_directory view tree command at ≡ false
+    → is_built_for view tree command at
+    ≡ (is_done_in_place view tree command at || (is_done_in_record view tree command at || is_done_in_clusters view tree command at))
+three-ways view tree command at none =
+    let in_place = is_done_in_place view tree command at in
+    let in_record = is_done_in_record view tree command at in
+    let in_clusters = is_done_in_clusters view tree command at in
+    ap (λ b. in_place || (in_record || (in_clusters || b))) none ∙ ap (λ b. in_place || (in_record || b)) (or-false in_clusters)
 
 -- THE LAST TWO: the command is not built for it, or there is no room.
 abbrev pub last_two : Bool → Option No → Option No

@@ -7,8 +7,10 @@ pub mod UnmarkedLaws
 pub mod EditedVolume
 pub mod StillLaws
 pub mod ImageLaws
+pub mod TablesKept
 pub mod PlaceLaws
 pub mod EditBy
+pub mod FileEditBy
 pub mod SetattrBy
 pub mod StreamFound
 pub mod Judged
@@ -23,6 +25,7 @@ pub mod PunchBy
 pub mod RmstreamBy
 pub mod StreamEdits
 pub mod SetsecBy
+pub mod CreateBy
 pub mod EditVolume
 pub mod EditServes
 pub mod ReplyLaws

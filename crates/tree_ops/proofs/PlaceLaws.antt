@@ -8,7 +8,7 @@ use Rattle.vol_disk.specs.declared.Disk.{Ghosts}
 use Rattle.vol_stage.specs.Staged.{disk_of, image, places}
 use Rattle.ntfs_def.specs.FileName.{FileName}
 use Rattle.ntfs_def.specs.Units.{wide}
-use Rattle.ntfs_def.specs.declared.kinds.TheConstants.{DATA, INDEX_ALLOCATION}
+use Rattle.ntfs_def.specs.declared.kinds.TheConstants.{BITMAP, DATA, INDEX_ALLOCATION}
 use Rattle.ntfs_def.specs.declared.lengths.TheConstants.{INDEX_RECORD}
 use Rattle.ntfs_def.specs.declared.records.TheConstants.{CLUSTER_BITMAP, LOG_FILE, MFT, MFT_MIRROR, VOLUME}
 use Rattle.volume_def.specs.FileNames.{names_of}
@@ -25,26 +25,33 @@ use Rattle.mark_write.specs.declared.flag.Flag.{Flag}
 use Rattle.mark_write.specs.declared.log.Span.{Span}
 use Rattle.mft_table.specs.declared.mft.Mft.{Mft}
 use Rattle.mft_table.specs.Mft.{stage_of, view}
-use Rattle.stored_bits.specs.Given.{KeepsDevice}
-use Rattle.mark_place.specs.Beside.{IsBesideFlag}
-use Rattle.mark_place.specs.LogSpans.{AreLogSpans}
-use Rattle.mark_place.proofs.PlacesApart as apart
+use Rattle.name_changes.specs.HeldRecordBits.{IsOfRecordBits}
+use Rattle.made_done.specs.Beside.{IsBesideFlag}
+use Rattle.made_done.specs.LogSpans.{AreLogSpans}
+use Rattle.made_done.proofs.PlacesApart as apart
 use Rattle.volume_mark.specs.Mark.{IsFlagOf}
-use Rattle.in_place_done.specs.Below.{CanSet, IsPlaceOf, LiesApart}
-use Rattle.in_place_done.proofs.Below.{none-within}
+use Rattle.made_done.specs.Below.{CanSet, IsPlaceOf, LiesApart}
+use Rattle.made_done.proofs.Below.{none-within}
 use Rattle.tree_model.proofs.NamesLaws.{is_shown}
 use Rattle.tree_model.specs.Hidden.{is_hidden, is_system}
 use Rattle.tree_model.specs.Reading.{node_at}
 use Rattle.tree_model.specs.declared.tree.Node.{Node}
+use Rattle.name_changes.specs.TreeEditStaged.{IsOfIndex}
 use Rattle.stream_changes.specs.Below.{IsOfDirectory, IsOfFile, IsOfNames, IsOfStreams}
-use Rattle.stream_changes.specs.Staged.{IsOfFree, StagesGiving}
+use Rattle.stream_changes.specs.Staged.{IsOfFree, IsOfGiving}
 use Rattle.stream_changes.proofs.Below.{not-system}
-use Rattle.tree_ops.specs.Edits.{CanEdit, HasMark, IsPlaceBy, IsPlaced}
+use Rattle.name_changes.specs.Staged.{IsOfMaking, IsOfOrdinaryRecord}
+use Rattle.tree_ops.specs.Edits.{CanEdit, EditOf, HasMark, IsPlaceBy, IsPlaced, StagesBy}
+use Rattle.tree_ops.specs.Tables.{KeepsTables}
 use Rattle.tree_ops.specs.declared.place.MarkPlace.{MarkPlace}
 
 -- the records of an index are no $DATA
 no-data : INDEX_ALLOCATION ≢ DATA
 no-data e = absurd (omega (arith, e))
+
+-- .. nor is a bitmap
+no-bitmap : BITMAP ≢ DATA
+no-bitmap e = absurd (omega (arith, e))
 
 -- THE PLACE, on a disk that tells its contents.
 module _ {D : Type 0} (g : Ghosts D) (old : Mft D g) (place : MarkPlace) (told : IsTrue (view g old).told) where
@@ -112,14 +119,17 @@ module _ (view : VolumeView) (sound : IsSound view) (lies : LiesApart view) (fla
       outside = out sector (λ log. apart.record-log view lies.owners lies.some spans is.0 sector log is.2);
     }
 
+    index-apart : (dir sector : ℕ) → IsOfIndex view dir sector → IsApartFrom spans sector
+    index-apart dir sector is = record {
+      beside = apart.stream-beside view lies.owners lies.some sound flag there dir INDEX_ALLOCATION (wide (codes "$I30"))
+          (inl no-data) (is.0 * cluster_bytes view.layout) INDEX_RECORD sector is.1;
+      outside = out sector (λ log. apart.stream-log view lies.owners lies.some dir INDEX_ALLOCATION (wide (codes "$I30")) (inl no-data)
+          (is.0 * cluster_bytes view.layout) INDEX_RECORD sector is.1 spans log);
+    }
+
     directory-apart : (dir sector : ℕ) → dir ≢ VOLUME → IsOfDirectory view dir sector → IsApartFrom spans sector
     directory-apart dir sector other (inl record_) = file-apart dir sector other record_
-    directory-apart dir sector other (inr index) = record {
-      beside = apart.stream-beside view lies.owners lies.some sound flag there dir INDEX_ALLOCATION (wide (codes "$I30"))
-          (inl no-data) (index.0 * cluster_bytes view.layout) INDEX_RECORD sector index.1;
-      outside = out sector (λ log. apart.stream-log view lies.owners lies.some dir INDEX_ALLOCATION (wide (codes "$I30")) (inl no-data)
-          (index.0 * cluster_bytes view.layout) INDEX_RECORD sector index.1 spans log);
-    }
+    directory-apart dir sector other (inr index) = index-apart dir sector index
 
     names-apart : (names : List FileName) (sector : ℕ)
         → ((name : FileName) → Contains names name → name.parent.number ≢ VOLUME) → IsOfNames view names sector
@@ -132,6 +142,20 @@ module _ (view : VolumeView) (sound : IsSound view) (lies : LiesApart view) (fla
           is.3;
       outside = out sector (λ log. apart.stream-log view lies.owners lies.some f DATA is.0 (inr (table, (mirror, log_file))) is.1 is.2 sector
           is.3 spans log);
+    }
+
+    -- the stored bitmap of records, and a record that is of no file
+    bits-apart : (sector : ℕ) → IsOfRecordBits view sector → IsApartFrom spans sector
+    bits-apart sector is = record {
+      beside = apart.stream-beside view lies.owners lies.some sound flag there MFT BITMAP [] (inl no-bitmap) is.0 is.1 sector is.2;
+      outside = out sector (λ log. apart.stream-log view lies.owners lies.some MFT BITMAP [] (inl no-bitmap) is.0 is.1 sector is.2 spans
+          log);
+    }
+
+    unused-apart : (sector : ℕ) → IsOfOrdinaryRecord view sector → IsApartFrom spans sector
+    unused-apart sector is = record {
+      beside = apart.unused-beside view lies.owners lies.some sound flag there is.0 sector is.1 is.3;
+      outside = out sector (λ log. apart.record-log view lies.owners lies.some spans is.0 sector log is.3);
     }
 
     free-apart : (sector : ℕ) → IsOfFree view sector → IsApartFrom spans sector
@@ -160,9 +184,11 @@ shown-other v f n node at system same =
     cc
 
 -- THE EDIT CAN BE WRITTEN.
-module _ {D : Type 0} (g : Ghosts D) (old staged : Mft D g) (mark : Option Flag) (can : CanEdit g old mark) (most file : ℕ)
-    (settable : IsTrue (view g old).told → (node : Node) × CanSet (view g old) file node) (place : MarkPlace) (placed : IsPlaced g old mark place)
-    (keeps : KeepsDevice g old staged) (stages : IsTrue (view g old).told → StagesGiving g most file (view g old) old staged) where
+module _ {D : Type 0} (g : Ghosts D) (old staged : Mft D g) (mark : Option Flag) (can : CanEdit g old mark) (edit : EditOf) (file : ℕ)
+    (settable : IsTrue (view g old).told → (node : Node) × CanSet (view g old) file node)
+    (of : (sector : ℕ) → edit.Of (view g old) file sector
+    → IsOfGiving (view g old) file sector ⊎ IsOfMaking (view g old) file sector) (place : MarkPlace) (placed : IsPlaced g old mark place)
+    (keeps : KeepsTables g old staged) (stages : IsTrue (view g old).told → StagesBy g edit file (view g old) old staged) where
   abbrev v : VolumeView
   v = view g old
 
@@ -188,19 +214,35 @@ module _ {D : Type 0} (g : Ghosts D) (old staged : Mft D g) (mark : Option Flag)
     are : (spans ≡ []) ⊎ AreLogSpans v spans
     are = place-spans g old place told mark placed.by_mark
 
-    staged-apart : (sector : ℕ) → Contains (places g (stage_of g staged)) sector
-        → IsApartFrom v sound lies place.flag there spans sector
-    staged-apart sector has = elim ((stages told).stages.only sector has) [
-      | inl before ↦ absurd (Contains-nil sector (subst (λ xs. Contains xs sector) can.clear.plain before))
-      | inr (inl free) ↦ free-apart v sound lies place.flag there spans are sector free
-      | inr (inr (inl bits)) ↦ stream-apart v sound lies place.flag there spans are CLUSTER_BITMAP sector (λ e. omega (arith, e))
+    -- a file that is shown, edited or a directory in which a file is made
+    giving-apart : (sector : ℕ) → IsOfGiving v file sector → IsApartFrom v sound lies place.flag there spans sector
+    giving-apart sector is = elim is [
+      | inl free ↦ free-apart v sound lies place.flag there spans are sector free
+      | inr (inl bits) ↦ stream-apart v sound lies place.flag there spans are CLUSTER_BITMAP sector (λ e. omega (arith, e))
           (λ e. omega (arith, e)) (λ e. omega (arith, e)) ([], bits.0, bits.1, bits.2)
-      | inr (inr (inr (inl stream))) ↦ stream-apart v sound lies place.flag there spans are file sector
+      | inr (inr (inl stream)) ↦ stream-apart v sound lies place.flag there spans are file sector
           (shown-other v file MFT (settable told).0 set.there refl) (shown-other v file MFT_MIRROR (settable told).0 set.there refl)
           (shown-other v file LOG_FILE (settable told).0 set.there refl) stream
-      | inr (inr (inr (inr (inl of_file)))) ↦ file-apart v sound lies place.flag there spans are file sector set.other of_file
-      | inr (inr (inr (inr (inr names)))) ↦
+      | inr (inr (inr (inl of_file))) ↦ file-apart v sound lies place.flag there spans are file sector set.other of_file
+      | inr (inr (inr (inr names))) ↦
           names-apart v sound lies place.flag there spans are (names_of (records_of v) file) sector set.elsewhere names
+    ]
+
+    making-apart : (sector : ℕ) → IsOfMaking v file sector → IsApartFrom v sound lies place.flag there spans sector
+    making-apart sector is = elim is [
+      | inl bits ↦ bits-apart v sound lies place.flag there spans are sector bits
+      | inr (inl free) ↦ unused-apart v sound lies place.flag there spans are sector free
+      | inr (inr (inl index)) ↦ index-apart v sound lies place.flag there spans are file sector index
+      | inr (inr (inr (inl of_file))) ↦ file-apart v sound lies place.flag there spans are file sector set.other of_file
+      | inr (inr (inr (inr names))) ↦
+          names-apart v sound lies place.flag there spans are (names_of (records_of v) file) sector set.elsewhere names
+    ]
+
+    staged-apart : (sector : ℕ) → Contains (places g (stage_of g staged)) sector
+        → IsApartFrom v sound lies place.flag there spans sector
+    staged-apart sector has = elim ((stages told).only sector has) [
+      | inl before ↦ absurd (Contains-nil sector (subst (λ xs. Contains xs sector) can.clear.plain before))
+      | inr is ↦ elim (of sector is) [ inl giving ↦ giving-apart sector giving | inr making ↦ making-apart sector making ]
     ]
 
   pub can-finish : CanFinish g place.flag place.marked spans (stage_of g staged)

@@ -19,12 +19,12 @@ use Rattle.tree_model.specs.declared.command.Command.TheVariants as c
 use Rattle.tree_model.specs.declared.opens.OpenEntry.{OpenEntry}
 use Rattle.tree_model.specs.declared.reply.No.{No}
 use Rattle.tree_model.specs.declared.tree.Found.{Found}
-use Rattle.in_place_done.proofs.Below.{has-room}
+use Rattle.made_done.proofs.Below.{has-room}
 use Rattle.stream_changes.specs.Below.{can_punch, punch_in, punch_wanted}
 use Rattle.tree_ops.specs.Edits.{EditsFound, stream_edit}
 use Rattle.tree_ops.specs.Wanted.{machine_on}
 use Rattle.tree_ops.specs.declared.streams.StreamEdit.TheVariants as s
-use Rattle.tree_ops.proofs.EditBy.{IsEditBy, StagesFile}
+use Rattle.tree_ops.proofs.FileEditBy.{IsFileEditBy, StagesFile}
 use Rattle.tree_ops.proofs.StreamBy.{FindsStream, edited-file, edited-so, stream-found, stream-refused, stream_of_found}
 use Rattle.tree_ops.proofs.StreamFound.{spelt-so, tellable-so, there-so}
 use Rattle.tree_ops.proofs.Judged.{can-file, can-of, if_can, last-can, not-both, with_at}
@@ -126,12 +126,12 @@ punch-staged facts view new opens now session path stream from len file p x =
 -- IT IS THAT OF THE COMMAND
 pub punch-by : (opens : List OpenEntry) (now session : ℕ) (path : List (List ℕ)) (stream : Option (List ℕ)) (from len : ℕ)
     (view : VolumeView)
-    → IsEditBy view opens now session (c.Punch path stream from len) (stream_edit (s.Punch from len) opens path (stream_name stream) now)
+    → IsFileEditBy view opens now session (c.Punch path stream from len)
+    (stream_edit (s.Punch from len) opens path (stream_name stream) now)
 unfolding opens_after
 punch-by opens now session path stream from len view = record {
   edits = refl;
   is = refl;
-  makes = refl;
   found = λ told facts tells file is. (punch-found facts view opens now session path stream from len tells file is).leads;
   refused = λ told facts tells why is. punch-refused facts view opens now session path stream from len tells why is;
   stages = λ told facts tells file is new p.
@@ -139,5 +139,5 @@ punch-by opens now session path stream from len view = record {
       (punch-found facts view opens now session path stream from len tells file is);
   opens_stay = λ at. refl;
   moment_stays = λ at. refl;
-  few = omega arith;
+  few = λ new file. omega arith;
 }

@@ -32,7 +32,7 @@ use Rattle.tree_read.specs.Standings.{IsStanding}
 use Rattle.tree_read.specs.Answered.{Counts}
 use Rattle.tree_read.specs.declared.stop.Stop.{Stop}
 use Rattle.tree_read.specs.declared.stop.Stop.TheVariants as stop
-use Rattle.in_place_done.specs.Written.{SetsShown}
+use Rattle.made_done.specs.Written.{SetsShown}
 use Rattle.tree_ops.specs.Edits.{EditOf, EditsFile, EndsAs, FailsWriting, IsPlaceBy, IsRefusedAs, MftStill}
 use Rattle.tree_ops.specs.Replies.{Replies, edit_reply}
 use Rattle.tree_ops.specs.declared.place.MarkPlace.{MarkPlace}
@@ -169,7 +169,7 @@ module _ {D : Type 0} (g : Ghosts D) (sized : (disk : D) → IfSome (g.now disk)
       (subst (λ n. Step facts (machine_under g old) session command (reply.No refused)
       (machine_on (view_under g old) (opens_of g old) n)) (sym moment)
       (refused-step facts (machine_under g old) session command refused (elim (why t) [
-        | inl due_so ↦ inl (by.refused t facts tells refused due_so)
+        | inl due_so ↦ inl (by.refused t (serves.can.in_use t).sound facts tells refused due_so)
         | inr memory ↦ inr memory
       ]))))
       quiet
@@ -202,8 +202,8 @@ module _ {D : Type 0} (g : Ghosts D) (sized : (disk : D) → IfSome (g.now disk)
         same = λ facts tells none.
             let here : TellsFacts (view_under g old) facts = subst (λ v. TellsFacts v facts) (sym r.view) tells in
             let due : is_due_edit facts (machine_under g old) (Ok (session, command)) ≡ true =
-            found-due-edit (view_under g old) (opens_of g old) (moment_of g old) session command edit by facts here fails.file
-            (by.found told facts here fails.file (fails.leads told)) in
+            found-due-edit (view_under g old) (opens_of g old) (moment_of g old) session command edit by facts
+            (by.found told (serves.can.in_use told).sound facts here fails.file (fails.leads told)) in
             let wrong : is_due_edit facts (machine_under g old) (Ok (session, command)) ≡ false =
             subst (λ m. is_due_edit facts m (Ok (session, command)) ≡ false) r.machine none in
             cc;

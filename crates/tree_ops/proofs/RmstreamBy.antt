@@ -22,15 +22,15 @@ use Rattle.tree_model.specs.declared.command.Command.TheVariants as c
 use Rattle.tree_model.specs.declared.opens.OpenEntry.{OpenEntry}
 use Rattle.tree_model.specs.declared.reply.No.{No}
 use Rattle.tree_model.specs.declared.tree.Found.{Found}
-use Rattle.in_place_done.specs.Below.{PutsStream, no_gain}
-use Rattle.in_place_done.proofs.Below.{value-room}
+use Rattle.made_done.specs.Below.{PutsStream, no_gain}
+use Rattle.made_done.proofs.Below.{value-room}
 use Rattle.stream_changes.specs.Below.{can_drop, can_give, drop_in, drop_wanted}
 use Rattle.tree_ops.specs.Edits.{EditsFound, stream_edit}
 use Rattle.tree_ops.specs.Wanted.{machine_on}
 use Rattle.tree_ops.specs.declared.streams.StreamEdit.TheVariants as s
-use Rattle.tree_ops.proofs.EditBy.{IsEditBy, StagesFile}
+use Rattle.tree_ops.proofs.FileEditBy.{IsFileEditBy, StagesFile}
 use Rattle.tree_ops.proofs.StreamBy.{FindsStream, edited-file, edited-so, edited-stream, stream-found, stream-refused, stream_of_found}
-use Rattle.tree_ops.proofs.Judged.{can-file, if_can, last-can, with_at}
+use Rattle.tree_ops.proofs.Judged.{can-file, if_can, last-can, three-ways, with_at}
 use Rattle.tree_ops.proofs.JudgedThere.{judge, judged, same-file}
 use Rattle.tree_ops.proofs.RoomAsked.{extent-there, located-counted, value-there}
 
@@ -117,7 +117,8 @@ module _ (facts : Facts) (view : VolumeView) (opens : List OpenEntry) (now sessi
       let both : (cannot_edit facts.whole_table (read view) (found_file found) || not (facts.built_for m command (at found)))
       ≡ not (can found) =
       ap (λ b. cannot_edit b (read view) (found_file found) || not (facts.built_for m command (at found))) w
-      ∙ ap (λ b. cannot found || not b) o ∙ parted (cannot found) (value found) (alone found) (extent found) (one found) (has_placed_bits view) in
+      ∙ ap (λ b. cannot found || not b) (o ∙ three-ways view (read view) command (at found) refl)
+      ∙ parted (cannot found) (value found) (alone found) (extent found) (one found) (has_placed_bits view) in
       ap (λ b. judge (at found).content (dir found) false (shared m command (at found)) b (facts.no_room m command (at found))) both
 
   outcome-is : (found : Found) → resolve (read view) path ≡ Ok found
@@ -164,17 +165,16 @@ drop-staged facts view new opens now session path name file p x =
 
 -- IT IS THAT OF THE COMMAND
 pub rmstream-by : (opens : List OpenEntry) (now session : ℕ) (path : List (List ℕ)) (name : List ℕ) (view : VolumeView)
-    → IsEditBy view opens now session (c.Rmstream path name) (stream_edit s.Remove opens path name now)
+    → IsFileEditBy view opens now session (c.Rmstream path name) (stream_edit s.Remove opens path name now)
 unfolding opens_after
 rmstream-by opens now session path name view = record {
   edits = refl;
   is = refl;
-  makes = refl;
   found = λ told facts tells file is. (drop-found facts view opens now session path name tells file is).leads;
   refused = λ told facts tells why is. drop-refused facts view opens now session path name tells why is;
   stages = λ told facts tells file is new p.
       drop-staged facts view new opens now session path name file p (drop-found facts view opens now session path name tells file is);
   opens_stay = λ at. refl;
   moment_stays = λ at. refl;
-  few = omega arith;
+  few = λ new file. omega arith;
 }

@@ -20,12 +20,12 @@ use Rattle.tree_model.specs.declared.reply.No.{No}
 use Rattle.tree_model.specs.declared.reply.No.TheVariants as no
 use Rattle.tree_model.specs.declared.tree.Found.{Found}
 use Rattle.tree_model.proofs.LookLaws.{find-never}
-use Rattle.in_place_done.proofs.Below.{has-room}
+use Rattle.made_done.proofs.Below.{has-room}
 use Rattle.stream_changes.specs.Below.{settable}
-use Rattle.in_place_done.specs.Below.{CanSet, SetsAttributes}
+use Rattle.made_done.specs.Below.{CanSet, SetsAttributes}
 use Rattle.tree_ops.specs.Edits.{setattr_edit}
 use Rattle.tree_ops.specs.Wanted.{machine_on}
-use Rattle.tree_ops.proofs.EditBy.{IsEditBy, LeadsToFile}
+use Rattle.tree_ops.proofs.FileEditBy.{IsFileEditBy, LeadsToFile}
 
 module _ (facts : Facts) (view : VolumeView) (opens : List OpenEntry) (now session : ℕ) (path : List (List ℕ)) (flags : ℕ)
     (tells : TellsFacts view facts) where
@@ -100,12 +100,11 @@ module _ (facts : Facts) (view : VolumeView) (opens : List OpenEntry) (now sessi
 
 -- IT IS THAT OF THE COMMAND
 pub setattr-by : (opens : List OpenEntry) (now session : ℕ) (path : List (List ℕ)) (flags : ℕ) (view : VolumeView)
-    → IsEditBy view opens now session (c.Setattr path flags) (setattr_edit path flags now)
+    → IsFileEditBy view opens now session (c.Setattr path flags) (setattr_edit path flags now)
 unfolding opens_after
 setattr-by opens now session path flags view = record {
   edits = refl;
   is = refl;
-  makes = refl;
   found = λ told facts tells file is. setattr-found facts view opens now session path flags tells file is;
   refused = λ told facts tells why is. setattr-refused facts view opens now session path flags tells why is;
   stages = λ told facts tells file is new does.
@@ -119,5 +118,5 @@ setattr-by opens now session path flags view = record {
       };
   opens_stay = λ at. refl;
   moment_stays = λ at. refl;
-  few = omega arith;
+  few = λ new file. omega arith;
 }

@@ -27,13 +27,13 @@ use Rattle.tree_model.proofs.FactsLaws.{one_told}
 use Rattle.tree_model.proofs.HasFacts.{has_facts}
 use Rattle.list_laws.proofs.BoolLaws.{or-false}
 use Rattle.tree_model.proofs.LookLaws.{find-never}
-use Rattle.view_index.specs.Security.{TellsWhether}
-use Rattle.in_place_done.proofs.Below.{has-room}
+use Rattle.name_changes.specs.Security.{TellsWhether}
+use Rattle.made_done.proofs.Below.{has-room}
 use Rattle.stream_changes.specs.Below.{secure_in, secure_wanted}
-use Rattle.in_place_done.specs.Below.{CanSet, SetsSecurity}
+use Rattle.made_done.specs.Below.{CanSet, SetsSecurity}
 use Rattle.tree_ops.specs.Edits.{setsec_edit}
 use Rattle.tree_ops.specs.Wanted.{machine_on}
-use Rattle.tree_ops.proofs.EditBy.{IsEditBy, LeadsToFile}
+use Rattle.tree_ops.proofs.FileEditBy.{IsFileEditBy, LeadsToFile}
 use Rattle.tree_ops.proofs.Judged.{can-of, not-both, with_at}
 
 -- WHETHER THE ID HAS A DESCRIPTOR, as what is told beside the tree says it, where the contents are told.
@@ -163,12 +163,11 @@ module _ (facts : Facts) (view : VolumeView) (opens : List OpenEntry) (now sessi
 -- IT IS THAT OF THE COMMAND
 pub setsec-by : (opens : List OpenEntry) (now session : ℕ) (path : List (List ℕ)) (id : ℕ) (described : Bool) (view : VolumeView)
     → IsDescribed view id described
-    → IsEditBy view opens now session (c.Setsec path id) (setsec_edit path id described now)
+    → IsFileEditBy view opens now session (c.Setsec path id) (setsec_edit path id described now)
 unfolding opens_after
 setsec-by opens now session path id described view is_so = record {
   edits = refl;
   is = refl;
-  makes = refl;
   found = λ told facts tells file is.
       setsec-found facts view opens now session path id described (is_so.facts_so told facts tells) tells file is;
   refused = λ told facts tells why is.
@@ -185,5 +184,5 @@ setsec-by opens now session path id described view is_so = record {
       };
   opens_stay = λ at. refl;
   moment_stays = λ at. refl;
-  few = omega arith;
+  few = λ new file. omega arith;
 }

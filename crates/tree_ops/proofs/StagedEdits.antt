@@ -1,10 +1,13 @@
 -- WHAT AN EDIT STAGES, as a file that can be edited allows it.
-use Rattle.std.proofs.Common.{◌+◌, ◌*◌, ℕ, List, length, inl, inr}
+use Rattle.std.proofs.Common.{◌+◌, ◌*◌, ℕ, List, length, inl, inr, arith}
 use Rattle.vol_disk.specs.declared.Disk.{Ghosts}
 use Rattle.ntfs_def.specs.FileName.{FileName}
 use Rattle.mft_table.specs.declared.mft.Mft.{Mft}
 use Rattle.mft_table.specs.Mft.{view}
+use Rattle.volume_def.specs.View.{VolumeView}
 use Rattle.stream_changes.specs.Below.{IsOfEdit, IsOfValue, StagesAttributes, StagesFew, StagesValue}
+use Rattle.stream_changes.specs.Staged.{IsOfGiving, StagesGiving}
+use Rattle.tree_ops.specs.Edits.{most_giving}
 
 module _ {D : Type 0} (g : Ghosts D) (f : ℕ) (names : List FileName) (old new : Mft D g) where
   -- sectors of records of the file, and of its entries
@@ -23,3 +26,15 @@ module _ {D : Type 0} (g : Ghosts D) (f : ℕ) (names : List FileName) (old new 
   -- bytes of a value too
   pub value-staged : StagesValue g f names old new → StagesFew g (8 + 12 * length names) (IsOfEdit (view g old) f names) old new
   value-staged x = file-staged (8 + 12 * length names) x
+
+-- Clusters that are given back, or taken, are told by the volumes.
+pub giving-staged : {D : Type 0} (g : Ghosts D) (most f : ℕ) (before : VolumeView) (old new : Mft D g)
+    → StagesGiving g most f before old new → StagesFew g (most_giving most before (view g new) f) (IsOfGiving before f) old new
+giving-staged g most f before old new x = record {
+  few =
+      let few = x.stages.few in
+      let freed = x.freed in
+      let owned = x.owned in
+      omega (arith, few, freed, owned);
+  only = x.stages.only;
+}

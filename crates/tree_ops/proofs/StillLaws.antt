@@ -14,9 +14,9 @@ use Rattle.mft_table.specs.MirrorClusters.{IsMirrorInside}
 use Rattle.mft_table.specs.Mft.{KeepsDisk, MftReads, committed_of, is_mft_broken, mounted_of, stage_of, view}
 use Rattle.mft_table.specs.Mounted.{mounted_layout}
 use Rattle.mft_table.proofs.DiskKept.{KeepsDisk-reads, KeepsDisk-then}
-use Rattle.stored_bits.specs.Given.{KeepsDevice}
+use Rattle.stream_changes.specs.Given.{KeepsDevice}
 use Rattle.tree_model.specs.Facts.{IsVolumeOf}
-use Rattle.stored_bits.proofs.DeviceKept.{device-disk}
+use Rattle.stream_changes.proofs.DeviceKept.{device-disk}
 use Rattle.tree_ops.specs.Edits.{CanEdit, HasMark, IsClear, IsMarkOf, MftStill}
 
 -- the view, by the image and the tables

@@ -14,11 +14,12 @@ use Rattle.tree_model.specs.declared.command.Command.{Command}
 use Rattle.tree_model.specs.declared.opens.OpenEntry.{OpenEntry}
 use Rattle.tree_model.specs.declared.reply.No.{No}
 use Rattle.tree_model.specs.declared.tree.Found.{Found}
-use Rattle.in_place_done.specs.Written.{EditsStream, Stages}
+use Rattle.made_done.specs.Written.{EditsStream, Stages}
 use Rattle.tree_ops.specs.Edits.{EditsFound, EditsSo, can_edit_so}
 use Rattle.tree_ops.specs.Wanted.{machine_on}
 use Rattle.tree_ops.specs.declared.streams.StreamEdit.{StreamEdit}
-use Rattle.tree_ops.proofs.EditBy.{LeadsToFile, StagesFile, state_with}
+use Rattle.tree_ops.proofs.EditBy.{state_with}
+use Rattle.tree_ops.proofs.FileEditBy.{LeadsToFile, StagesFile}
 use Rattle.tree_ops.proofs.StreamFound.{can-so, high-so, spelt-so, tellable-so, there-so}
 use Rattle.tree_ops.proofs.Judged.{with_at}
 

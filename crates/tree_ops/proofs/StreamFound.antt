@@ -18,7 +18,7 @@ use Rattle.tree_model.specs.declared.tree.Node.{Node}
 use Rattle.tree_model.specs.declared.tree.Stream.{Stream}
 use Rattle.edit_def.specs.Kept.{AreTellable, key_of, told_of}
 use Rattle.session_def.specs.Named.{spelt}
-use Rattle.in_place_done.specs.Below.{CanSet, IsThere}
+use Rattle.made_done.specs.Below.{CanSet, IsThere}
 use Rattle.tree_read.specs.Nodes.{number_of, parts_in}
 use Rattle.stream_changes.specs.Below.{IsFoundToEdit, Writable}
 

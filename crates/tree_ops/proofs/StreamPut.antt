@@ -2,7 +2,7 @@
 use Rattle.std.proofs.Common.{◌≡◌, ℕ, List, length, sym, subst}
 use Rattle.std.specs.Prelude.{IsTrue}
 use Rattle.volume_def.specs.View.{VolumeView}
-use Rattle.in_place_done.specs.Below.{PunchesValue}
+use Rattle.made_done.specs.Below.{PunchesValue}
 use Rattle.tree_read.specs.Nodes.{number_of}
 use Rattle.stream_changes.specs.Below.{CanPunch, IsWritable, Writable}
 use Rattle.stream_changes.specs.Streams.{WritesSo}

@@ -26,17 +26,17 @@ use Rattle.tree_model.specs.declared.command.Command.TheVariants as c
 use Rattle.tree_model.specs.declared.opens.OpenEntry.{OpenEntry}
 use Rattle.tree_model.specs.declared.reply.No.{No}
 use Rattle.tree_model.specs.declared.tree.Found.{Found}
-use Rattle.in_place_done.specs.Below.{ResizesStream}
-use Rattle.in_place_done.proofs.Below.{value-room}
+use Rattle.made_done.specs.Below.{ResizesStream}
+use Rattle.made_done.proofs.Below.{value-room}
 use Rattle.edit_def.specs.OneFile.{no_room_alone}
 use Rattle.stream_changes.specs.Below.{can_end, can_resize, resize_in, resize_wanted, room_to_resize}
 use Rattle.tree_ops.specs.Edits.{EditsFound, can_edit_so, stream_edit}
 use Rattle.tree_ops.specs.Wanted.{machine_on}
 use Rattle.tree_ops.specs.declared.streams.StreamEdit.TheVariants as s
-use Rattle.tree_ops.proofs.EditBy.{IsEditBy, StagesFile}
+use Rattle.tree_ops.proofs.FileEditBy.{IsFileEditBy, StagesFile}
 use Rattle.tree_ops.proofs.StreamBy.{FindsStream, edited-file, edited-so, edited-stream, stream-found, stream-refused, stream_of_found}
 use Rattle.tree_ops.proofs.StreamFound.{bytes-so}
-use Rattle.tree_ops.proofs.Judged.{asked-file, if_asked, judge, judged, last-asked, or-either, same-file, turned, with_at}
+use Rattle.tree_ops.proofs.Judged.{asked-file, if_asked, judge, judged, last-asked, or-either, same-file, three-ways, turned, with_at}
 use Rattle.tree_ops.proofs.RoomAsked.{asked-if, extent-there, located-counted, value-there}
 
 -- It is not built unless it is done in one of both ways.
@@ -155,7 +155,8 @@ module _ (facts : Facts) (view : VolumeView) (opens : List OpenEntry) (now sessi
       let both : (cannot_edit facts.whole_table (read view) (found_file found) || not (facts.built_for m command (at found)))
       ≡ not (can found || cut found) =
       ap (λ b. cannot_edit b (read view) (found_file found) || not (facts.built_for m command (at found))) w
-      ∙ ap (λ b. cannot found || not b) o ∙ parted (cannot found) (value found) (alone found) (fits found) (extent found) (one found)
+      ∙ ap (λ b. cannot found || not b) (o ∙ three-ways view (read view) command (at found) refl)
+      ∙ parted (cannot found) (value found) (alone found) (fits found) (extent found) (one found)
       (has_placed_bits view) (short found) in
       ap (λ b. judge (at found).content (is_bad_stream_name name) (dir found) (is_far size) (shared m command (at found)) b
       (facts.no_room m command (at found))) both
@@ -210,12 +211,11 @@ resize-staged facts view new opens now session path stream size file p x =
 -- IT IS THAT OF THE COMMAND
 pub truncate-by : (opens : List OpenEntry) (now session : ℕ) (path : List (List ℕ)) (stream : Option (List ℕ)) (size : ℕ)
     (view : VolumeView)
-    → IsEditBy view opens now session (c.Truncate path stream size) (stream_edit (s.Resize size) opens path (stream_name stream) now)
+    → IsFileEditBy view opens now session (c.Truncate path stream size) (stream_edit (s.Resize size) opens path (stream_name stream) now)
 unfolding opens_after
 truncate-by opens now session path stream size view = record {
   edits = refl;
   is = refl;
-  makes = refl;
   found = λ told facts tells file is. (resize-found facts view opens now session path stream size tells file is).leads;
   refused = λ told facts tells why is. resize-refused facts view opens now session path stream size tells why is;
   stages = λ told facts tells file is new p.
@@ -223,5 +223,5 @@ truncate-by opens now session path stream size view = record {
       (resize-found facts view opens now session path stream size tells file is);
   opens_stay = λ at. refl;
   moment_stays = λ at. refl;
-  few = omega arith;
+  few = λ new file. omega arith;
 }

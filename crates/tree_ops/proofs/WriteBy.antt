@@ -27,9 +27,9 @@ use Rattle.tree_model.specs.declared.command.Command.TheVariants as c
 use Rattle.tree_model.specs.declared.opens.OpenEntry.{OpenEntry}
 use Rattle.tree_model.specs.declared.reply.No.{No}
 use Rattle.tree_model.specs.declared.tree.Found.{Found}
-use Rattle.in_place_done.specs.Below.{PutsBytes}
-use Rattle.in_place_done.specs.Written.{PutsInStream}
-use Rattle.in_place_done.proofs.Below.{has-room, value-room}
+use Rattle.made_done.specs.Below.{PutsBytes}
+use Rattle.made_done.specs.Written.{PutsInStream}
+use Rattle.made_done.proofs.Below.{has-room, value-room}
 use Rattle.stream_changes.specs.Below.{Way, can_go_behind, can_reach_there, can_resize, can_write, can_write_over, named_in, room_to_reach, room_to_write, write_in, write_wanted}
 use Rattle.stream_changes.specs.Below as way
 use Rattle.stream_changes.specs.Streams.{WritesSo}
@@ -38,8 +38,9 @@ use Rattle.tree_read.specs.Nodes.{number_of}
 use Rattle.tree_ops.specs.Edits.{EditsFound, can_edit_so, stream_edit}
 use Rattle.tree_ops.specs.Wanted.{machine_on}
 use Rattle.tree_ops.specs.declared.streams.StreamEdit.TheVariants as s
-use Rattle.tree_ops.proofs.EditBy.{IsEditBy, state_with}
-use Rattle.tree_ops.proofs.Judged.{can-of, if_written_by, judge, judged, last-written, same-file, turned, with_at, written-file}
+use Rattle.tree_ops.proofs.EditBy.{state_with}
+use Rattle.tree_ops.proofs.FileEditBy.{IsFileEditBy}
+use Rattle.tree_ops.proofs.Judged.{can-of, if_written_by, judge, judged, last-written, same-file, three-ways, turned, with_at, written-file}
 use Rattle.tree_ops.proofs.RoomAsked.{asked-unless, extent-there, located-counted, not-within, parts-at, value-there}
 use Rattle.tree_ops.proofs.StreamBy.{FindsStream, edited-file, edited-so, edited-stream, stream-found, stream-refused, stream_of_found}
 use Rattle.tree_ops.proofs.StreamFound.{bytes-so, spelt-so, tellable-so, there-so}
@@ -192,7 +193,8 @@ module _ (facts : Facts) (view : VolumeView) (opens : List OpenEntry) (now sessi
       let both : (cannot_edit facts.whole_table (read view) (found_file found) || not (facts.built_for m command (at found)))
       ≡ not (over found || (can found || reach found)) =
       ap (λ b. cannot_edit b (read view) (found_file found) || not (facts.built_for m command (at found))) w
-      ∙ ap (λ b. cannot found || not b) o ∙ parted (cannot found) (goes found) (value found) (alone found) (fits found)
+      ∙ ap (λ b. cannot found || not b) (o ∙ three-ways view (read view) command (at found) refl)
+      ∙ parted (cannot found) (goes found) (value found) (alone found) (fits found)
       (extent found) (one found) (has_placed_bits view) (reaches found) in
       ap (λ b. judge (at found).content (is_bad_stream_name name) (dir found) (is_wide from len) (shared m command (at found)) b
       (facts.no_room m command (at found))) both
@@ -304,13 +306,12 @@ module _ (view new : VolumeView) (file : ℕ) (asked : List ℕ) (from : ℕ) (b
 -- IT IS THAT OF THE COMMAND
 pub write-by : (opens : List OpenEntry) (now session : ℕ) (path : List (List ℕ)) (stream : Option (List ℕ)) (from : ℕ)
     (bytes : Bor (List ℕ)) (view : VolumeView)
-    → IsEditBy view opens now session (c.Write path stream from bytes.now)
+    → IsFileEditBy view opens now session (c.Write path stream from bytes.now)
     (stream_edit (s.Write from bytes) opens path (stream_name stream) now)
 unfolding opens_after
 write-by opens now session path stream from bytes view = record {
   edits = refl;
   is = refl;
-  makes = refl;
   found = λ told facts tells file is. (write-found facts view opens now session path stream from bytes.now tells file is).leads;
   refused = λ told facts tells why is. write-refused facts view opens now session path stream from bytes.now tells why is;
   stages = λ told facts tells file is new p.
@@ -319,5 +320,5 @@ write-by opens now session path stream from bytes view = record {
       (puts-in view new file (stream_name stream) from bytes now p x.leads.at x.leads.file_is x.stream_is x.node_is x.content_is opens);
   opens_stay = λ at. refl;
   moment_stays = λ at. refl;
-  few = omega arith;
+  few = λ new file. omega arith;
 }

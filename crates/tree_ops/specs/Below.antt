@@ -1,2 +1,2 @@
 -- A word of the crates below in which `apply` is told, passed on to those above.
-pub use Rattle.in_place_done.specs.Written.{SetsShown}
+pub use Rattle.made_done.specs.Written.{SetsShown}

@@ -1,11 +1,13 @@
 -- WHICH EDITS ARE BUILT, when one can be done on a volume, and what it leaves of the table of records and of its disk.
-use Rattle.std.specs.Prelude.{◌≡◌, ◌⊎◌, ◌+◌, ◌/◌, ◌^◌, ◌≤◌, ◌&&◌, ℕ, true, false, find, All, Bool, IfSome, IsTrue, List, []}
-use Rattle.std.specs.Prelude.{Option, None, Some, Result}
+use Rattle.std.specs.Prelude.{◌≡◌, ◌⊎◌, ◌+◌, ◌*◌, ◌/◌, ◌^◌, ◌≤◌, ◌&&◌, ℕ, true, false, find, All, Bool, IfSome}
+use Rattle.std.specs.Prelude.{IsTrue, List, [], Option, None, Some, Result}
 use Rattle.std.specs.Prelude.{Ok, Err}
 use Rattle.std.specs.Prelude.{length, slice_set}
 use Rattle.vol_disk.specs.Contents.{IsTold, WhereTold, sector_in}
 use Rattle.vol_disk.specs.declared.Disk.{Ghosts}
 use Rattle.vol_stage.specs.Staged.{GoesOn, disk_of, image, places}
+use Rattle.volume_def.specs.FileNames.{names_of}
+use Rattle.volume_def.specs.Files.{records_of}
 use Rattle.volume_def.specs.View.{VolumeView}
 use Rattle.mark_write.specs.Finish.{Finishes}
 use Rattle.mark_write.specs.Flags.{IsCopySet, IsSafe, IsSet, LiesAt}
@@ -15,8 +17,7 @@ use Rattle.mft_table.specs.declared.mft.Mft.{Mft}
 use Rattle.mft_table.specs.InUse.{IsInUse}
 use Rattle.mft_table.specs.MirrorClusters.{IsMirrorInside}
 use Rattle.mft_table.specs.Mft.{KeepsDisk, committed_of, is_mft_broken, mounted_of, stage_of, view}
-use Rattle.stored_bits.specs.Given.{KeepsDevice}
-use Rattle.mark_place.specs.LogSpans.{AreLogSpans, log_sectors}
+use Rattle.made_done.specs.LogSpans.{AreLogSpans, log_sectors}
 use Rattle.tree_model.specs.Facts.{IsVolumeOf, is_whole_table}
 use Rattle.tree_model.specs.Opens.{contains, is_handle, to_write}
 use Rattle.tree_model.specs.Reading.{read}
@@ -26,15 +27,26 @@ use Rattle.tree_model.specs.declared.command.Command.TheVariants as c
 use Rattle.tree_model.specs.declared.opens.OpenEntry.{OpenEntry}
 use Rattle.tree_model.specs.declared.reply.No.{No}
 use Rattle.tree_model.specs.declared.reply.No.TheVariants as no
+use Rattle.session_def.specs.Cost.{given_back}
 use Rattle.session_def.specs.Done.{HasEmptyLog}
 use Rattle.volume_mark.specs.Mark.{IsFlagOf}
-use Rattle.in_place_done.specs.Below.{PunchesValue, PutsStream, ResizesStream, SetsAttributes, SetsSecurity, no_gain}
+use Rattle.made_done.specs.Below.{PunchesValue, PutsStream, ResizesStream, SetsAttributes, SetsSecurity, no_gain}
 use Rattle.tree_read.specs.declared.stop.Stop.{Stop}
 use Rattle.tree_read.specs.declared.stop.Stop.TheVariants as stop
-use Rattle.stream_changes.specs.Below.{IsFoundToEdit, IsSecurable, IsSettable, Securable, Settable, TellsStored, Way, Writable, can_get, can_go, can_punch, can_write, drop_wanted, hwrite_wanted, punch_wanted, resize_wanted, secure_wanted, settable, write_wanted}
-use Rattle.stream_changes.specs.Staged.{StagesGiving}
+use Rattle.stream_changes.specs.Below.{IsFoundToEdit, IsSecurable, IsSettable, Securable, Settable, StagesFew}
+use Rattle.stream_changes.specs.Below.{TellsStored, Way, Writable, can_get, can_go, can_punch, can_write, drop_wanted}
+use Rattle.stream_changes.specs.Below.{hwrite_wanted, punch_wanted, resize_wanted, secure_wanted, settable, write_wanted}
+use Rattle.stream_changes.specs.Staged.{IsOfGiving, StagesGiving}
 use Rattle.stream_changes.specs.Streams.{WritesSo}
 use Rattle.tree_read.specs.Nodes.{number_of}
+use Rattle.tree_read.specs.Standings.{number_within}
+use Rattle.name_changes.specs.Places.{place_of, place_wanted}
+use Rattle.name_changes.specs.NewPlace.{NewPlace}
+use Rattle.made_done.specs.MadeOwed.{made_sectors}
+use Rattle.name_changes.specs.Makes.{make_wanted}
+use Rattle.name_changes.specs.MakesFound.{MakesFound}
+use Rattle.name_changes.specs.Staged.{IsOfMaking}
+use Rattle.tree_ops.specs.Tables.{KeepsTables}
 use Rattle.tree_ops.specs.declared.edit.Edit.{Edit}
 use Rattle.tree_ops.specs.declared.edit.Edit.TheVariants as e
 use Rattle.tree_ops.specs.declared.streams.StreamEdit.{StreamEdit}
@@ -49,6 +61,7 @@ command_of (e.Hwrite handle at bytes) = c.Hwrite handle at bytes.now
 command_of (e.Truncate path stream size) = c.Truncate path.now stream.now size
 command_of (e.Punch path stream at len) = c.Punch path.now stream.now at len
 command_of (e.Rmstream path name) = c.Rmstream path.now name.now
+command_of (e.Create path) = c.Create path.now
 command_of (e.Setsec path id) = c.Setsec path.now id
 
 -- THE MARK stands in two sectors of a disk of this size, which holds these bytes, and is set in both.
@@ -113,12 +126,19 @@ pub record IsWritten {D : Type 0} (g : Ghosts D) (place : MarkPlace) (old new : 
   pub finishes : Finishes g place.flag place.marked place.spans.items (stage_of g old) (stage_of g new)
   pub committed : committed_of g new ≡ mounted_of g old
 
--- WHAT AN EDIT IS of a volume: the number of the file that it finds, or the refusal; what it does to that file; and how many sectors it
--- stages at most, beside twelve for each name of the file and two for each cluster that is given back, or taken.
+-- WHAT AN EDIT IS of a volume: the number of the file that it finds, or the refusal; what it does to that file, or in that directory; which
+-- sectors it stages, of the volume before; and how many at most, by the volume before, that behind, and the file.
 pub record EditOf : Type 1 where
   pub wanted : VolumeView → Result ℕ No
   pub Does : VolumeView → VolumeView → ℕ → Type 0
-  pub most : ℕ
+  pub Of : VolumeView → ℕ → ℕ → Type 0
+  pub most : VolumeView → VolumeView → ℕ → ℕ
+
+-- Of an edit of a file that is there: so many sectors, twelve for each name of the file, and two for each cluster that is given back, or
+-- taken.
+abbrev pub most_giving : ℕ → VolumeView → VolumeView → ℕ → ℕ
+most_giving most old new file =
+    most + 12 * length (names_of (records_of old) file) + 2 * given_back old new + 2 * given_back new old
 
 -- `setattr`: the flags of the file were set, and the moment as the time at which its record was changed
 pub record SetsFound (old new : VolumeView) (file flags moment : ℕ) : Type 0 where
@@ -131,7 +151,8 @@ abbrev pub setattr_edit : List (List ℕ) → ℕ → ℕ → EditOf
 setattr_edit path flags moment = record {
   wanted = λ view. settable (is_whole_table view) (read view) path;
   Does = λ old new file. SetsFound old new file flags moment;
-  most = 4;
+  Of = IsOfGiving;
+  most = most_giving 4;
 }
 
 -- `write`, `punch`, `truncate` and `rmstream`: AN EDIT OF A STREAM. The command that it is by a path and a stream, ..
@@ -196,7 +217,8 @@ abbrev pub stream_edit : StreamEdit → List OpenEntry → List (List ℕ) → L
 stream_edit what opens path name moment = record {
   wanted = λ view. stream_wanted what view opens path name;
   Does = λ old new file. EditsFound what old new file name moment;
-  most = most_for what;
+  Of = IsOfGiving;
+  most = most_giving (most_for what);
 }
 
 -- `hwrite`: a write into the stream of an open
@@ -214,7 +236,8 @@ abbrev pub hwrite_edit : StreamEdit → List OpenEntry → ℕ → ℕ → ℕ �
 hwrite_edit what opens session handle moment = record {
   wanted = λ view. through_wanted what view opens session handle;
   Does = λ old new file. EditsThrough what opens session handle old new file moment;
-  most = most_for what;
+  Of = IsOfGiving;
+  most = most_giving (most_for what);
 }
 
 -- `setsec`: the security id of the file was set, and the moment as the time at which its record was changed
@@ -229,7 +252,23 @@ abbrev pub setsec_edit : List (List ℕ) → ℕ → Bool → ℕ → EditOf
 setsec_edit path id described moment = record {
   wanted = λ view. secure_wanted view described path;
   Does = λ old new file. SecuresFound old new file id moment;
-  most = most_of_value;
+  Of = IsOfGiving;
+  most = most_giving most_of_value;
+}
+
+-- `create`: a directory was found, and a name that is new in it, and the file was made there
+pub record MakesNamed (old new : VolumeView) (dir : ℕ) (path : List (List ℕ)) (moment : ℕ) : Type 0 where
+  pub found : NewPlace
+  pub directory : number_within found.standing ≡ dir
+  pub place : place_wanted (read old) path ≡ Ok (place_of found)
+  pub makes : MakesFound old new found moment
+
+abbrev pub create_edit : List (List ℕ) → ℕ → EditOf
+create_edit path moment = record {
+  wanted = λ view. make_wanted view path;
+  Does = λ old new dir. MakesNamed old new dir path moment;
+  Of = IsOfMaking;
+  most = λ old new dir. made_sectors + 4 + 12 * length (names_of (records_of old) dir);
 }
 
 -- what is wanted of the volume is this
@@ -240,6 +279,10 @@ LeadsTo g mft edit result = IsTrue (view g mft).told → edit.wanted (view g mft
 abbrev pub IsRefusedAs : {D : Type 0} (g : Ghosts D) → Mft D g → EditOf → No → Type 0
 IsRefusedAs g mft edit refused = IsTrue (view g mft).told → (edit.wanted (view g mft) ≡ Err refused) ⊎ (refused ≡ no.Memory)
 
+-- What was staged are sectors of the edit, of the volume before, and no more of them.
+abbrev pub StagesBy : {D : Type 0} (g : Ghosts D) → EditOf → ℕ → VolumeView → Mft D g → Mft D g → Type 0
+StagesBy g edit file before old new = StagesFew g (edit.most before (view g new) file) (edit.Of before file) old new
+
 -- THE FILE WAS EDITED: it was found, what is done to it was staged, and that was written behind the mark.
 pub record EditsFile {D : Type 0} (g : Ghosts D) (old new : Mft D g) (mark : Option Flag) (edit : EditOf) : Type 0 where
   pub file : ℕ
@@ -247,10 +290,10 @@ pub record EditsFile {D : Type 0} (g : Ghosts D) (old new : Mft D g) (mark : Opt
   pub place : MarkPlace
   pub placed : IsPlaced g old mark place
   pub staged : Mft D g
-  pub keeps : KeepsDevice g old staged
+  pub keeps : KeepsTables g old staged
   pub tables : TellsStored g staged
   pub does : IsTrue (view g old).told → edit.Does (view g old) (view g staged) file
-  pub few : IsTrue (view g old).told → StagesGiving g edit.most file (view g old) old staged
+  pub few : IsTrue (view g old).told → StagesBy g edit file (view g old) old staged
   pub finishes : Finishes g place.flag place.marked place.spans.items (stage_of g staged) (stage_of g new)
   pub goes_on : GoesOn g (stage_of g staged) (stage_of g new)
   pub written : g.written (disk_of g (stage_of g new))

@@ -1,4 +1,5 @@
 pub mod Wanted
+pub mod Tables
 pub mod Edits
 pub mod Volumes
 pub mod Runs

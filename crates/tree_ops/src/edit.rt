@@ -10,7 +10,7 @@ ghost use Rattle.mft_table.specs.Mft.{KeepsDisk, faults_of, mounted_of, stage_of
 ghost use Rattle.mft_table.specs.MirrorClusters.{IsMirrorInside};
 ghost use Rattle.tree_model.specs.Refusals.{is_edit};
 ghost use Rattle.tree_model.specs.Staging.{is_built};
-ghost use Rattle.in_place_done.specs.Below.{SetsAttributes};
+ghost use Rattle.made_done.specs.Below.{SetsAttributes};
 ghost use Rattle.tree_read.specs.Answered.{Counts, IsFailed};
 ghost use Rattle.tree_read.specs.Standings.{IsStanding};
 ghost use Rattle.tree_read.specs.declared.stop.Stop.TheVariants as stop;
@@ -66,6 +66,10 @@ pub enum Edit<'c> {
         path: &'c Path,
         name: &'c Name,
     },
+    /// A new file comes under a name.
+    Create {
+        path: &'c Path,
+    },
     /// The security id of a file is set.
     Setsec {
         path: &'c Path,
@@ -117,6 +121,7 @@ impl<'c> Edit<'c> {
                 len: *len,
             }),
             Command::Rmstream { path, name } => Some(Edit::Rmstream { path, name }),
+            Command::Create { path } => Some(Edit::Create { path }),
             Command::Setsec { path, id } => Some(Edit::Setsec { path, id: *id }),
             _ => None,
         }

@@ -4,6 +4,7 @@
 mod built;
 mod close;
 mod commands;
+mod create;
 mod edit;
 mod handles;
 mod place;

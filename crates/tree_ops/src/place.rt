@@ -4,7 +4,7 @@ ghost use Rattle.mft_table.specs.Mft.{MftReads, faults_of, view};
 ghost use Rattle.tree_read.specs.Answered.{Counts, IsFailed};
 ghost use Rattle.tree_ops.specs.Edits.{CanEdit, IsPlaced};
 
-use mark_place::{find_flag, find_log};
+use made_done::{find_flag, find_log};
 use mark_write::{Flag, Span};
 use mft_table::Mft;
 use std::alloc::Global;

@@ -9,7 +9,7 @@ ghost use Rattle.mft_table.specs.MirrorClusters.{IsMirrorInside};
 ghost use Rattle.tree_read.specs.Answered.{Counts, IsFailed};
 ghost use Rattle.tree_read.specs.Standings.{IsStanding};
 ghost use Rattle.stream_changes.specs.Below.{IsSecurable, StagesValue, TellsStored};
-ghost use Rattle.view_index.specs.Security.{TellsWhether};
+ghost use Rattle.name_changes.specs.Security.{TellsWhether};
 ghost use Rattle.tree_ops.specs.Edits.{CanEdit, EndsAs, IsClear, MftStill, SecuresFound, setsec_edit};
 
 use crate::edit::finish;

@@ -6,10 +6,10 @@ ghost use Rattle.tree_read.specs.Answered.{Gives, Says};
 ghost use Rattle.tree_ops.specs.Wanted.{sd_wanted};
 
 use mft_table::Mft;
+use name_changes::descriptor;
 use std::alloc::Global;
 use tree_model::{Answer, No};
 use tree_read::Stop;
-use view_index::descriptor;
 use vol_disk::Disk;
 
 /// `sd`: the bytes of the security descriptor of an id, as the volume stores them.

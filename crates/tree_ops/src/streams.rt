@@ -6,7 +6,7 @@ ghost use Rattle.mft_table.specs.InUse.{IsInUse};
 ghost use Rattle.mft_table.specs.Mft.{faults_of, is_mft_broken, mounted_of, stage_of, view};
 ghost use Rattle.mft_table.specs.MirrorClusters.{IsMirrorInside};
 ghost use Rattle.file_record.specs.FileNos.{CountsNo, IsReadNo};
-ghost use Rattle.stored_bits.specs.Given.{KeepsDevice};
+ghost use Rattle.stream_changes.specs.Given.{KeepsDevice};
 ghost use Rattle.tree_model.specs.Facts.{IsVolumeOf};
 ghost use Rattle.tree_model.specs.Reading.{read};
 ghost use Rattle.tree_model.specs.Tree.{node_of};

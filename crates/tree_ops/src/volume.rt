@@ -16,13 +16,14 @@ ghost use Rattle.tree_model.specs.Refusals.{is_edit};
 ghost use Rattle.tree_model.specs.Staging.{is_built};
 ghost use Rattle.tree_model.specs.declared.command.Command.TheVariants as command_is;
 ghost use Rattle.tree_model.specs.declared.reply.Reply.TheVariants as reply_is;
-ghost use Rattle.in_place_done.specs.Written.{SetsShown};
+ghost use Rattle.made_done.specs.Written.{SetsShown};
 ghost use Rattle.tree_model.specs.Subjects.{stream_name};
 ghost use Rattle.tree_ops.specs.Edits.{command_of, stream_command};
 ghost use Rattle.tree_ops.specs.Replies.{edit_reply};
 
 use crate::close::CloseNo;
 use crate::commands::answer;
+use crate::create::create;
 use crate::edit::{Edit, set_flags};
 use crate::secure::set_security;
 use crate::streams::{StreamEdit, edit_stream, hwrite};
@@ -209,6 +210,23 @@ impl<D: Disk> Volume<'_, D> {
         reply_to(ended)
     }
 
+    // `create`
+    fn create(&mut self, session: u8, path: &Path) -> Reply
+        requires serves { Serves D.Disk self.old }
+        requires shown { SetsShown (command_is.Create path.now) }
+        ensures { Replies D.Disk self.old self.new session (command_is.Create path.now) result }
+    {
+        let ended = create(
+            self.alloc,
+            &mut self.mft,
+            &mut self.last,
+            &mut self.mark,
+            self.moment,
+            path,
+        );
+        reply_to(ended)
+    }
+
     // An edit is done.
     fn edit(&mut self, session: u8, edit: Edit<'_>) -> Reply
         requires serves { Serves D.Disk self.old }
@@ -242,6 +260,7 @@ impl<D: Disk> Volume<'_, D> {
                 self.edit_stream(session, path, name_or(stream, &unnamed), what)
             }
             Edit::Rmstream { path, name } => self.remove_stream(session, path, name),
+            Edit::Create { path } => self.create(session, path),
             Edit::Setsec { path, id } => self.secure(session, path, id),
         }
     }

@@ -1,9 +1,8 @@
-use Rattle.std.proofs.Common.{◌≡◌, ℕ, Err, subst, ◌∙◌}
+use Rattle.std.proofs.Common.{◌≡◌, ℕ, true, Err, inl, subst, ◌∙◌}
 use Rattle.volume_def.specs.FileNames.{names_of}
 use Rattle.volume_def.specs.Files.{records_of}
 use Rattle.mft_table.specs.Mft.{faults_of, stage_of, view}
 use Rattle.mft_table.proofs.FreeStaged.{GoesOn-then}
-use Rattle.stored_bits.proofs.DeviceKept.{device-disk}
 use Rattle.tree_read.specs.Answered.{Counts}
 use Rattle.tree_read.specs.declared.stop.Stop.{Stop}
 use Rattle.tree_read.specs.declared.stop.Stop.TheVariants as stop
@@ -15,8 +14,9 @@ use Rattle.tree_ops.proofs.SetsecBy.{described-by}
 use Rattle.stream_changes.proofs.GivingLaws.{gives-none}
 use Rattle.tree_ops.proofs.EndLaws.{all-keeps, ended, placed-back, stages-back}
 use Rattle.tree_ops.proofs.PlaceLaws.{can-finish}
-use Rattle.tree_ops.proofs.StagedEdits.{value-staged}
+use Rattle.tree_ops.proofs.StagedEdits.{giving-staged, value-staged}
 use Rattle.tree_ops.proofs.StillLaws.{reads-still, still-can, still-then, still-told}
+use Rattle.tree_ops.proofs.TablesKept.{tables-disk}
 use Rattle.tree_ops.proofs.secure.set_security.Goals as goal
 
 pub mark_place-requires : goal.mark_place-requires
@@ -38,6 +38,7 @@ stage_security-requires-clause-can g c =
 pub finish-requires : goal.finish-requires
 finish-requires g c =
     let old = c.args.mft.now in
+    let edit = setsec_edit c.args.path.now c.args.id true c.args.moment in
     let found = c.in_ok-found.found in
     let mid = c.mark_place.new.mft in
     let one = reads-still g.D.Disk old c.find_securable.new.mft c.find_securable.ensures.reads.0 c.find_securable.ensures.reads.1 in
@@ -45,15 +46,17 @@ finish-requires g c =
     let both = still-then g.D.Disk old c.find_securable.new.mft mid one two in
     record {
       can =
-          can-finish g.D.Disk old c.stage_security.new.mft c.args.mark.now c.requires.can most_of_value found.number
-          (λ told. let set = (c.in_ok-found.ensures.can told).settable in (set.can.node, set.can.can)) c.in_ok-place.place
+          can-finish g.D.Disk old c.stage_security.new.mft c.args.mark.now c.requires.can edit found.number
+          (λ told. let set = (c.in_ok-found.ensures.can told).settable in (set.can.node, set.can.can)) (λ sector is. inl is)
+          c.in_ok-place.place
           (placed-back g.D.Disk old c.find_securable.new.mft one c.args.mark.now c.in_ok-place.place c.in_ok-place.ensures.placed)
           (all-keeps g.D.Disk old mid both c.stage_security.new.mft
-          (device-disk g.D.Disk mid c.stage_security.new.mft c.in_ok-stage_security.ensures.disk))
-          (stages-back g.D.Disk old mid both most_of_value found.number c.stage_security.new.mft
-          (λ told. gives-none g.D.Disk most_of_value found.number (view g.D.Disk mid) mid c.stage_security.new.mft
+          (tables-disk g.D.Disk mid c.stage_security.new.mft c.in_ok-stage_security.ensures.disk))
+          (stages-back g.D.Disk old mid both edit found.number c.stage_security.new.mft
+          (λ told. giving-staged g.D.Disk most_of_value found.number (view g.D.Disk mid) mid c.stage_security.new.mft
+          (gives-none g.D.Disk most_of_value found.number (view g.D.Disk mid) mid c.stage_security.new.mft
           (value-staged g.D.Disk found.number (names_of (records_of (view g.D.Disk mid)) found.number) mid c.stage_security.new.mft
-          (c.in_ok-stage_security.ensures.places told))));
+          (c.in_ok-stage_security.ensures.places told)))));
     }
 
 pub returns-clause-ends : goal.returns-clause-ends
@@ -65,11 +68,12 @@ returns-clause-ends g c = λ described whether.
     let two = reads-still g.D.Disk c.find_securable.new.mft mid c.mark_place.ensures.reads.0 c.mark_place.ensures.reads.1 in
     let both = still-then g.D.Disk old c.find_securable.new.mft mid one two in
     ended g.D.Disk old mid both (setsec_edit c.args.path.now c.args.id described c.args.moment) found.number c.stage_security.new.mft
-    (device-disk g.D.Disk mid c.stage_security.new.mft c.in_ok-stage_security.ensures.disk) c.in_ok-stage_security.ensures.tables
+    (tables-disk g.D.Disk mid c.stage_security.new.mft c.in_ok-stage_security.ensures.disk) c.in_ok-stage_security.ensures.tables
     c.in_ok-stage_security.ensures.secures
-    (λ told. gives-none g.D.Disk most_of_value found.number (view g.D.Disk mid) mid c.stage_security.new.mft
+    (λ told. giving-staged g.D.Disk most_of_value found.number (view g.D.Disk mid) mid c.stage_security.new.mft
+    (gives-none g.D.Disk most_of_value found.number (view g.D.Disk mid) mid c.stage_security.new.mft
     (value-staged g.D.Disk found.number (names_of (records_of (view g.D.Disk mid)) found.number) mid c.stage_security.new.mft
-    (c.in_ok-stage_security.ensures.places told)))
+    (c.in_ok-stage_security.ensures.places told))))
     c.args.mark.now (c.in_ok-found.ensures.answered described whether).is c.requires.can.clear.plain c.in_ok-place.place
     (placed-back g.D.Disk old c.find_securable.new.mft one c.args.mark.now c.in_ok-place.place c.in_ok-place.ensures.placed)
     c.finish.new.mft c.finish.ensures.mounted c.finish.ensures.goes_on c.finish.new.mark c.finish.result c.finish.ensures.done
@@ -115,7 +119,7 @@ returns-clause-goes_on g c =
     let one = reads-still g.D.Disk old c.find_securable.new.mft c.find_securable.ensures.reads.0 c.find_securable.ensures.reads.1 in
     let two = reads-still g.D.Disk c.find_securable.new.mft mid c.mark_place.ensures.reads.0 c.mark_place.ensures.reads.1 in
     let keeps = all-keeps g.D.Disk old mid (still-then g.D.Disk old c.find_securable.new.mft mid one two) c.stage_security.new.mft
-    (device-disk g.D.Disk mid c.stage_security.new.mft c.in_ok-stage_security.ensures.disk) in
+    (tables-disk g.D.Disk mid c.stage_security.new.mft c.in_ok-stage_security.ensures.disk) in
     GoesOn-then g.D.Disk (stage_of g.D.Disk old) (stage_of g.D.Disk c.stage_security.new.mft) (stage_of g.D.Disk c.finish.new.mft)
     (c.in_ok-stage_security.ensures.counts ∙ c.in_ok-place.ensures.counts ∙ (c.in_ok-found.ensures.answered its.0 its.1.whether).counts)
     keeps.goes_on c.finish.ensures.goes_on

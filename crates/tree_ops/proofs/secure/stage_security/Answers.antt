@@ -1,6 +1,6 @@
 use Rattle.std.proofs.Common.{refl, subst}
 use Rattle.mft_table.specs.Mft.{view}
-use Rattle.in_place_done.specs.Below.{SetsSecurity}
+use Rattle.made_done.specs.Below.{SetsSecurity}
 use Rattle.tree_ops.proofs.secure.stage_security.Goals as goal
 
 pub set_security-requires-clause-can : goal.set_security-requires-clause-can

@@ -2,7 +2,7 @@ use Rattle.std.proofs.Common.{subst}
 use Rattle.mft_table.specs.Mft.{view}
 use Rattle.tree_model.specs.Facts.{TellsDescriptor}
 use Rattle.tree_ops.proofs.DescriptorLaws.{shown-says}
-use Rattle.view_index.proofs.SoundLaws.{sound-readable}
+use Rattle.name_changes.proofs.SoundLaws.{sound-readable}
 use Rattle.tree_ops.proofs.security.sd.Goals as goal
 
 pub descriptor-requires : goal.descriptor-requires

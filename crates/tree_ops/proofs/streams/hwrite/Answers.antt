@@ -1,4 +1,4 @@
-use Rattle.std.proofs.Common.{◌≡◌, ◌&&◌, ◌∙◌, ℕ, List, Ok, Err, ap, length, subst, sym}
+use Rattle.std.proofs.Common.{◌≡◌, ◌&&◌, ◌∙◌, ℕ, List, Ok, Err, ap, inl, length, subst, sym}
 use Rattle.std.specs.Prelude.{IsSome}
 use Rattle.std.specs.Option.{option_map_or}
 use Rattle.std.proofs.lemmas.List.Elements.{All-contains}
@@ -15,7 +15,9 @@ use Rattle.tree_ops.specs.Edits.{hwrite_edit, most_for}
 use Rattle.tree_ops.specs.declared.streams.StreamEdit.TheVariants as s
 use Rattle.tree_ops.proofs.EndLaws.{all-keeps, ended, placed-back, stages-back}
 use Rattle.tree_ops.proofs.PlaceLaws.{can-finish}
+use Rattle.tree_ops.proofs.StagedEdits.{giving-staged}
 use Rattle.tree_ops.proofs.StillLaws.{reads-still, still-can, still-then, still-told}
+use Rattle.tree_ops.proofs.TablesKept.{tables-device}
 use Rattle.tree_ops.proofs.streams.hwrite.Goals as goal
 
 pub find_writable_through-requires-clause-file : goal.find_writable_through-requires-clause-file
@@ -56,17 +58,22 @@ finish-requires g c =
     let found = c.in_ok-found.found in
     let mid = c.mark_place.new.mft in
     let most = most_for (s.Write c.args.from c.args.bytes) in
+    let edit = hwrite_edit (s.Write c.args.from c.args.bytes) c.args.opens.now c.args.session c.args.handle c.args.moment in
     let one = reads-still g.D.Disk old c.find_writable_through.new.mft c.find_writable_through.ensures.answered.reads
     c.find_writable_through.ensures.answered.only in
     let two = reads-still g.D.Disk c.find_writable_through.new.mft mid c.mark_place.ensures.reads.0 c.mark_place.ensures.reads.1 in
     let both = still-then g.D.Disk old c.find_writable_through.new.mft mid one two in
     record {
       can =
-          can-finish g.D.Disk old c.stage_stream.new.mft c.args.mark.now c.requires.can most (number_of found.held)
-          (λ told. let set = (c.in_ok-found.ensures.can told).settable in (set.can.node, set.can.can)) c.in_ok-place.place
+          can-finish g.D.Disk old c.stage_stream.new.mft c.args.mark.now c.requires.can edit (number_of found.held)
+          (λ told. let set = (c.in_ok-found.ensures.can told).settable in (set.can.node, set.can.can)) (λ sector is. inl is)
+          c.in_ok-place.place
           (placed-back g.D.Disk old c.find_writable_through.new.mft one c.args.mark.now c.in_ok-place.place c.in_ok-place.ensures.placed)
-          (all-keeps g.D.Disk old mid both c.stage_stream.new.mft c.in_ok-stage_stream.ensures.device)
-          (stages-back g.D.Disk old mid both most (number_of found.held) c.stage_stream.new.mft c.in_ok-stage_stream.ensures.places);
+          (all-keeps g.D.Disk old mid both c.stage_stream.new.mft
+          (tables-device g.D.Disk mid c.stage_stream.new.mft c.in_ok-stage_stream.ensures.device))
+          (stages-back g.D.Disk old mid both edit (number_of found.held) c.stage_stream.new.mft
+          (λ told. giving-staged g.D.Disk most (number_of found.held) (view g.D.Disk mid) mid c.stage_stream.new.mft
+          (c.in_ok-stage_stream.ensures.places told)));
     }
 
 pub returns-clause-ends : goal.returns-clause-ends
@@ -82,7 +89,8 @@ returns-clause-ends g c =
     let both = still-then g.D.Disk old c.find_writable_through.new.mft mid one two in
     ended g.D.Disk old mid both
     (hwrite_edit (s.Write c.args.from c.args.bytes) c.args.opens.now c.args.session c.args.handle c.args.moment) (number_of found.held)
-    c.stage_stream.new.mft c.in_ok-stage_stream.ensures.device c.in_ok-stage_stream.ensures.tables
+    c.stage_stream.new.mft (tables-device g.D.Disk mid c.stage_stream.new.mft c.in_ok-stage_stream.ensures.device)
+    c.in_ok-stage_stream.ensures.tables
     (λ told. record {
       entry = c.in-Some.entry.now;
       opened = sym c.in-Some.ensures;
@@ -91,7 +99,9 @@ returns-clause-ends g c =
           (still-told g.D.Disk old mid both (λ v. IsWritable v found stream c.args.from (length c.as_slice.result.now))
           c.in_ok-found.ensures.can told));
     })
-    c.in_ok-stage_stream.ensures.places c.args.mark.now (λ told.
+    (λ told. giving-staged g.D.Disk (most_for (s.Write c.args.from c.args.bytes)) (number_of found.held) (view g.D.Disk mid) mid
+    c.stage_stream.new.mft (c.in_ok-stage_stream.ensures.places told))
+    c.args.mark.now (λ told.
     ap (λ o. option_map_or (λ (entry : OpenEntry). hwrite_in v entry.stream c.args.from (length c.args.bytes.now) entry.file) o (Err
     no.NoHandle))
     (sym c.in-Some.ensures)

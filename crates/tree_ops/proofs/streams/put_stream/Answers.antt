@@ -4,7 +4,7 @@ use Rattle.std.specs.Prelude.{IsTrue, OnOk, Result, Ok, Err}
 use Rattle.volume_def.specs.FileNames.{names_of}
 use Rattle.volume_def.specs.Files.{records_of}
 use Rattle.mft_table.specs.Mft.{view}
-use Rattle.stored_bits.proofs.DeviceKept.{device-disk}
+use Rattle.stream_changes.proofs.DeviceKept.{device-disk}
 use Rattle.tree_read.specs.Nodes.{number_of}
 use Rattle.stream_changes.specs.Below.{StagesValue}
 use Rattle.stream_changes.specs.Staged.{StagesGiving}

@@ -5,6 +5,7 @@ use Rattle.tree_ops.specs.Replies.{Replies}
 use Rattle.tree_ops.specs.Volumes.{opens_of, view_under}
 use Rattle.tree_ops.specs.declared.streams.StreamEdit.TheVariants as s
 use Rattle.tree_ops.specs.declared.volume.Volume.{Volume}
+use Rattle.tree_ops.proofs.FileEditBy.{file-edit}
 use Rattle.tree_ops.proofs.HwriteBy.{hwrite-by}
 use Rattle.tree_ops.proofs.ReplyLaws.{replies-edit}
 use Rattle.tree_ops.proofs.volume.Volume.hwrite.Goals as goal
@@ -19,7 +20,7 @@ returns g c =
     (replies-edit g.D.Disk g.met.D.Disk.told_length c.args.self.now new c.args.session (command_is.Hwrite c.args.handle c.args.at
     c.args.bytes.now)
     (hwrite_edit (s.Write c.args.at c.args.bytes) (opens_of g.D.Disk c.args.self.now) c.args.session c.args.handle c.args.self.now.moment) tt
-    (hwrite-by (opens_of g.D.Disk c.args.self.now) c.args.self.now.moment c.args.session c.args.handle c.args.at c.args.bytes
-    (view_under g.D.Disk c.args.self.now))
+    (file-edit (hwrite-by (opens_of g.D.Disk c.args.self.now) c.args.self.now.moment c.args.session c.args.handle c.args.at c.args.bytes
+    (view_under g.D.Disk c.args.self.now)))
     c.requires.serves refl refl ended.result ended.ensures.ends ended.ensures.last ended.ensures.forgets ended.ensures.goes_on
     ended.ensures.settled ended.ensures.counts)

@@ -4,6 +4,7 @@ use Rattle.tree_ops.specs.Edits.{setsec_edit}
 use Rattle.tree_ops.specs.Replies.{Replies}
 use Rattle.tree_ops.specs.Volumes.{opens_of, view_under}
 use Rattle.tree_ops.specs.declared.volume.Volume.{Volume}
+use Rattle.tree_ops.proofs.FileEditBy.{file-edit}
 use Rattle.tree_ops.proofs.SetsecBy.{described-by, setsec-by}
 use Rattle.tree_ops.proofs.ReplyLaws.{replies-edit}
 use Rattle.tree_ops.proofs.volume.Volume.secure.Goals as goal
@@ -18,6 +19,7 @@ returns g c =
     subst (Replies g.D.Disk old new c.args.session (command_is.Setsec c.args.path.now c.args.id)) (sym c.reply_to.ensures)
     (replies-edit g.D.Disk g.met.D.Disk.told_length old new c.args.session (command_is.Setsec c.args.path.now c.args.id)
     (setsec_edit c.args.path.now c.args.id its.0 old.moment) c.requires.shown
-    (setsec-by (opens_of g.D.Disk old) old.moment c.args.session c.args.path.now c.args.id its.0 (view_under g.D.Disk old) its.1)
+    (file-edit (setsec-by (opens_of g.D.Disk old) old.moment c.args.session c.args.path.now c.args.id its.0 (view_under g.D.Disk old)
+    its.1))
     c.requires.serves refl refl ended.result (ended.ensures.ends its.0 its.1.whether) ended.ensures.last ended.ensures.forgets
     ended.ensures.goes_on ended.ensures.settled ended.ensures.counts)

@@ -4,6 +4,7 @@ use Rattle.tree_ops.specs.Edits.{setattr_edit}
 use Rattle.tree_ops.specs.Replies.{Replies}
 use Rattle.tree_ops.specs.Volumes.{opens_of, view_under}
 use Rattle.tree_ops.specs.declared.volume.Volume.{Volume}
+use Rattle.tree_ops.proofs.FileEditBy.{file-edit}
 use Rattle.tree_ops.proofs.SetattrBy.{setattr-by}
 use Rattle.tree_ops.proofs.ReplyLaws.{replies-edit}
 use Rattle.tree_ops.proofs.volume.Volume.set.Goals as goal
@@ -16,7 +17,7 @@ returns g c =
     subst (Replies g.D.Disk c.args.self.now new c.args.session (command_is.Setattr c.args.path.now c.args.flags)) (sym c.reply_to.ensures)
     (replies-edit g.D.Disk g.met.D.Disk.told_length c.args.self.now new c.args.session (command_is.Setattr c.args.path.now c.args.flags)
     (setattr_edit c.args.path.now c.args.flags c.args.self.now.moment) c.requires.shown
-    (setattr-by (opens_of g.D.Disk c.args.self.now) c.args.self.now.moment c.args.session c.args.path.now c.args.flags
-    (view_under g.D.Disk c.args.self.now))
+    (file-edit (setattr-by (opens_of g.D.Disk c.args.self.now) c.args.self.now.moment c.args.session c.args.path.now c.args.flags
+    (view_under g.D.Disk c.args.self.now)))
     c.requires.serves refl refl ended.result ended.ensures.ends ended.ensures.last ended.ensures.forgets ended.ensures.goes_on
     ended.ensures.settled ended.ensures.counts)

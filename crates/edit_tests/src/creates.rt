@@ -1,0 +1,376 @@
+//! `create`: empty files that come under new names, where the index of their directory has records, and the one to which the name belongs has
+//! room for it.
+use crate::longer::{LARGE, ONE, add_long, stands, told, volume_with};
+use laid_volumes::damage::{RECORD_BITS, byte, is_marked, number, put, record};
+use laid_volumes::laid::{
+    LaidName, ROOT_RECORD, begin_file, end_file, key_in_root, lay_in_root, lay_index, lay_name,
+    lay_standard,
+};
+use laid_volumes::made::{made_on, volume};
+use laid_volumes::scripts::{Row, is_sound, run_rows, writable, wrong_row};
+use std::alloc::Global;
+use std::test;
+use vol_disk::{CallKind, Fail, FailDisk};
+
+const SECTORS: u16 = 2048;
+
+// On a new volume of 16,384 sectors.
+const NAMES: [Row; 42] = [
+    ("create /_", "ok\n"),
+    ("create /B", "ok\n"),
+    ("create /a", "ok\n"),
+    ("ls /", "file a\nfile B\nfile _\nok\n"),
+    ("df", "df 2048 1913 64 35\nok\n"),
+    ("create /A", "no 13 Exists\n"),
+    ("create /$MFT", "no 13 Exists\n"),
+    ("create /", "no 13 Exists\n"),
+    ("create /a?", "no 9 BadName\n"),
+    ("create /a.", "no 9 BadName\n"),
+    ("create /x/y", "no 4 NotFound\n"),
+    ("create /a/y", "no 5 NotDir\n"),
+    ("create /$Extend/y", "no 7 Hidden\n"),
+    ("create /a%0020b", "ok\n"),
+    ("ls /", "file a\nfile a%0020b\nfile B\nfile _\nok\n"),
+    ("create /\u{E9}", "ok\n"),
+    ("create /\u{C9}", "no 13 Exists\n"),
+    ("time 1000", "ok\n"),
+    ("create /f", "ok\n"),
+    (
+        "stat /f",
+        "stat file 1 0 0020 256 1000 1000 1000 1000\nok\n",
+    ),
+    ("stat /", "stat dir 0 0 0006 256 0 1000 1000 0\nok\n"),
+    ("streams /f", "stream 0\nok\n"),
+    ("links /f", "link 0 /f\nok\n"),
+    ("create /F", "no 13 Exists\n"),
+    ("cat /f/x", "no 5 NotDir\n"),
+    ("cat /f:s", "no 11 NoStream\n"),
+    ("write /f 0 68656c6c6f", "ok\n"),
+    ("cat /f", "data 68656c6c6f\nok\n"),
+    (
+        "stat /f",
+        "stat file 1 5 0020 256 1000 1000 1000 1000\nok\n",
+    ),
+    ("truncate /f 0", "ok\n"),
+    ("cat /f", "data -\nok\n"),
+    ("truncate /f 3", "ok\n"),
+    ("cat /f", "data 000000\nok\n"),
+    ("objid /f", "objid -\nok\n"),
+    ("setattr /f 0001", "ok\n"),
+    ("attr /f", "attr 0001\nok\n"),
+    ("setsec /f 300", "no 18 NoSecurity\n"),
+    ("@1 open /f r r", "handle 0\nok\n"),
+    ("@2 write /f 0 00", "no 22 Shared 1 0\n"),
+    ("@1 close 0", "ok\n"),
+    ("@2 write /f 0 00", "ok\n"),
+    ("@1 hread 0 0 1", "no 3 NoHandle\n"),
+];
+
+#[test]
+fn files_come_under_new_names(rt: HostRuntime) -> Result<(), test::Fail> {
+    let alloc = rt.alloc();
+    let image = made_on(alloc, 16_384, "format 16384 4096 1 DATA")?;
+    let mut disk = writable(alloc, 16_384, &image)?;
+    assert_eq!(rt; run_rows(alloc, &mut disk, &NAMES)?, (0, None));
+    assert!(rt; is_sound(alloc, 16_384, disk.contents())?);
+    Ok(())
+}
+
+const NEW: [Row; 2] = [("time 7", "ok\n"), ("create /n", "ok\n")];
+
+// Where the record of the root's index stands on a new volume.
+const ROOT_INDEX: usize = 134 * 4096;
+
+// The four times of the moment.
+const TIMES: [u8; 32] = [
+    7, 0, 0, 0, 0, 0, 0, 0, 7, 0, 0, 0, 0, 0, 0, 0, 7, 0, 0, 0, 0, 0, 0, 0, 7, 0, 0, 0, 0, 0, 0, 0,
+];
+
+// The value of the name: record 5 with its sequence number, the four times, no bytes and none allocated, the flags, one unit of no
+// namespace, and that unit.
+const PARENT: [u8; 8] = [5, 0, 0, 0, 0, 0, 5, 0];
+
+const REST: [u8; 28] = [
+    0, 0, 0, 0, 0, 0, 0, 0, 0, 0, 0, 0, 0, 0, 0, 0, 0x20, 0, 0, 0, 0, 0, 0, 0, 1, 0, b'n', 0,
+];
+
+fn is_name(image: &[u8], at: usize) -> bool {
+    stands(image, at, &PARENT) && stands(image, at + 8, &TIMES) && stands(image, at + 40, &REST)
+}
+
+// Types of attributes.
+const STANDARD_INFORMATION: usize = 0x10;
+
+const FILE_NAME: usize = 0x30;
+
+const DATA: usize = 0x80;
+
+// Where the values of the first two attributes stand.
+const STANDARD: usize = 0x38 + 0x18;
+
+const NAME_VALUE: usize = STANDARD + 96;
+
+// Record 26 is the first that is free. Its attributes have 96, 96 and 24 bytes, and the end behind them 8.
+#[test]
+fn records_and_entries_tell_the_file(rt: HostRuntime) -> Result<(), test::Fail> {
+    let alloc = rt.alloc();
+    let mut disk = writable(alloc, SECTORS, &volume(alloc)?)?;
+    assert_eq!(rt; run_rows(alloc, &mut disk, &NEW)?, (0, None));
+    let left = disk.contents();
+    assert!(rt; is_sound(alloc, SECTORS, left)?);
+    assert_eq!(rt; byte(left, RECORD_BITS + 3), 0x07);
+    let at = record(26);
+    assert!(rt; stands(left, at, b"FILE"));
+    for (place, wanted) in [
+        (0x12, 1),
+        (0x14, 0x38),
+        (0x16, 1),
+        (0x18, 0x38 + 96 + 96 + 24 + 8),
+        (0x28, 3),
+        (0x38, STANDARD_INFORMATION),
+        (STANDARD + 0x20, 0x20),
+        (STANDARD + 0x34, 256),
+        (0x38 + 96, FILE_NAME),
+        (0x38 + 96 + 96, DATA),
+        (0x38 + 96 + 96 + 0x10, 0),
+    ] {
+        assert_eq!(rt; number(left, at + place), wanted, "{place}");
+    }
+    assert!(rt; stands(left, at + STANDARD, &TIMES));
+    assert!(rt; is_name(left, at + NAME_VALUE));
+    let key = key_in_root(left, 26, 0).unwrap_or(0);
+    assert!(rt; is_name(left, key));
+    // The entry of the root, which is in the root: its second and third time.
+    let root = (ROOT_INDEX..ROOT_INDEX + 4096)
+        .find(|at| stands(left, *at, &PARENT) && stands(left, *at + 16, &PARENT))
+        .unwrap_or(0);
+    let root = root + 16;
+    for (place, wanted) in [(0x08, 0), (0x10, 7), (0x18, 7), (0x20, 0)] {
+        assert_eq!(rt; number(left, root + place), wanted, "{place}");
+    }
+    Ok(())
+}
+
+// What a path shows behind the edit.
+const BEHIND: [Row; 1] = [("attr /n", "attr 0020\nok\n")];
+
+// The status where one write fails, what is left, and whether that is marked.
+fn failing_create(
+    alloc: Global,
+    image: &[u8],
+    number: u64,
+    lands: bool,
+) -> Result<(u8, Vec<u8>, bool), test::Fail> {
+    let fail = Fail {
+        kind: CallKind::Write,
+        number,
+        lands,
+    };
+    let mut disk = FailDisk::new(writable(alloc, SECTORS, image)?, vec![in alloc; fail]?);
+    let (status, _) = run_rows(alloc, &mut disk, &NEW)?;
+    let left = disk.inner().contents();
+    Ok((status, left.to_vec(alloc)?, is_marked(left)))
+}
+
+// The mark is set in two sectors; then come one of the bitmap of records, two of record 26, two of record 5, and eight of the record of the
+// root's index; and the mark is cleared in two, of which record 3 comes last.
+const WRITES: u64 = 17;
+
+#[test]
+fn a_failing_write_leaves_a_volume_marked_or_whole(rt: HostRuntime) -> Result<(), test::Fail> {
+    let alloc = rt.alloc();
+    let image = volume(alloc)?;
+    let (status, left, _) = failing_create(alloc, &image, 1, false)?;
+    assert_eq!(rt; (status, left.as_slice()), (6, image.as_slice()));
+    for number in 2..=WRITES {
+        let (status, _, marked) = failing_create(alloc, &image, number, false)?;
+        assert_eq!(rt; (status, marked), (6, true), "{number}");
+    }
+    for number in 1..WRITES {
+        let (status, _, marked) = failing_create(alloc, &image, number, true)?;
+        assert_eq!(rt; (status, marked), (6, true), "{number}");
+    }
+    for (number, wanted) in [(WRITES, 6), (WRITES + 1, 0)] {
+        let (status, left, marked) = failing_create(alloc, &image, number, true)?;
+        assert_eq!(rt; (status, marked), (wanted, false), "{number}");
+        assert!(rt; is_sound(alloc, SECTORS, &left)?);
+        assert_eq!(rt; wrong_row(alloc, SECTORS, &left, &BEHIND)?, None);
+    }
+    Ok(())
+}
+
+// Thirteen writes of 32,768 bytes leave 16 of 120 free clusters, the next one 9 and the last one 8. The index of the root is two deep, so the
+// new entry has five levels: one index record for each, one cluster for the attribute list of the directory and one for that of the file,
+// and one for each of these two, are 9. None of them is taken.
+const FILLED_TOLD: &[u8] = b"ok\nok\nok\nok\nok\nok\nok\nok\nok\nok\nok\nok\nok\nok\n\
+    df 256 9 64 37\nok\nok\ndf 256 9 64 36\nok\nok\ndf 256 8 64 36\nok\nno 26 NoRoom 9 8\n\
+    df 256 8 64 36\nok\n";
+
+#[test]
+fn room_is_asked_for_to_the_cluster(rt: HostRuntime) -> Result<(), test::Fail> {
+    let alloc = rt.alloc();
+    let mut disk = writable(alloc, SECTORS, &volume_with(alloc, ONE, &[135], b"")?)?;
+    let mut script = Vec::new(alloc);
+    for line in LARGE.iter().take(13) {
+        add_long(&mut script, line, 32_768)?;
+    }
+    add_long(&mut script, LARGE[13], 28_672)?;
+    script.extend_from_slice(b"df\ncreate /n\ndf\n")?;
+    add_long(&mut script, "write /k 458746 ", 4096)?;
+    script.extend_from_slice(b"df\ncreate /o\ndf\n")?;
+    let (status, out) = told(alloc, &mut disk, &script)?;
+    assert_eq!(rt; (status, out.bytes()), (0, FILLED_TOLD));
+    assert!(rt; is_sound(alloc, SECTORS, disk.contents())?);
+    Ok(())
+}
+
+// A directory without names, whose index has no records.
+const D: LaidName = LaidName {
+    file: 26,
+    parent: (ROOT_RECORD, ROOT_RECORD),
+    space: 0,
+    letters: "d",
+    is_dir: true,
+};
+
+fn volume_with_directory(alloc: Global) -> Result<Vec<u8>, test::Fail> {
+    let mut image = volume(alloc)?;
+    let at = begin_file(&mut image, 26, 1, true);
+    let at = lay_standard(&mut image, at, [0; 4], 0);
+    let at = lay_name(alloc, &mut image, at, 1, &D)?;
+    let at = lay_index(alloc, &mut image, at, 2, &[])?;
+    end_file(&mut image, 26, at);
+    lay_in_root(alloc, &mut image, &[D])?;
+    Ok(image)
+}
+
+const SMALL: [Row; 5] = [
+    ("create /d/n", "no 28 Unbuilt\n"),
+    ("create /d/n/n", "no 4 NotFound\n"),
+    ("create /d/n.", "no 9 BadName\n"),
+    ("mkdir /e", "no 28 Unbuilt\n"),
+    ("ls /d", "ok\n"),
+];
+
+#[test]
+fn a_directory_without_index_records_gets_no_name(rt: HostRuntime) -> Result<(), test::Fail> {
+    let alloc = rt.alloc();
+    let image = volume_with_directory(alloc)?;
+    assert!(rt; is_sound(alloc, SECTORS, &image)?);
+    assert_eq!(rt; wrong_row(alloc, SECTORS, &image, &SMALL)?, None);
+    Ok(())
+}
+
+// The node of the record of the root's index begins behind 24 bytes, and tells the bytes up to the end of its entries, and all that it has.
+const NODE: usize = ROOT_INDEX + 0x18;
+
+// A name of 102 letters has an entry of 288 bytes: 16 of its own, 66 and 204 of the name, and 2 up to a multiple of 8.
+const ENTRY: usize = 288;
+
+const NAME: usize = 102;
+
+// A line for each letter, of which so many are done, and what they answer.
+fn crowded(alloc: Global, done: usize) -> Result<(Vec<u8>, Vec<u8>), test::Fail> {
+    let (mut script, mut wanted) = (Vec::new(alloc), Vec::new(alloc));
+    for (i, letter) in b"abcdefghijklmnopqrstuvwxyz".iter().enumerate() {
+        script.extend_from_slice(b"create /")?;
+        for _ in 1..NAME {
+            script.push(b'n')?;
+        }
+        script.push(*letter)?;
+        script.push(b'\n')?;
+        let reply: &[u8] = if i < done {
+            b"ok\n"
+        } else {
+            b"no 28 Unbuilt\n"
+        };
+        wanted.extend_from_slice(reply)?;
+    }
+    Ok((script, wanted))
+}
+
+#[test]
+fn names_come_as_long_as_the_index_record_has_room(rt: HostRuntime) -> Result<(), test::Fail> {
+    let alloc = rt.alloc();
+    let image = volume(alloc)?;
+    let room = number(&image, NODE + 8).saturating_sub(number(&image, NODE + 4));
+    let (script, wanted) = crowded(alloc, room / ENTRY)?;
+    let mut disk = writable(alloc, SECTORS, &image)?;
+    let (status, out) = told(alloc, &mut disk, &script)?;
+    assert_eq!(rt; (status, out.bytes()), (0, wanted.as_slice()));
+    assert!(rt; is_sound(alloc, SECTORS, disk.contents())?);
+    Ok(())
+}
+
+// A name of 255 units comes, and none of 256.
+#[test]
+fn the_longest_name_has_255_units(rt: HostRuntime) -> Result<(), test::Fail> {
+    let alloc = rt.alloc();
+    let mut script = Vec::new(alloc);
+    for units in [256, 255] {
+        script.extend_from_slice(b"create /")?;
+        for _ in 0..units {
+            script.push(b'n')?;
+        }
+        script.push(b'\n')?;
+    }
+    let mut disk = writable(alloc, SECTORS, &volume(alloc)?)?;
+    let (status, out) = told(alloc, &mut disk, &script)?;
+    assert_eq!(rt;
+        (status, out.bytes()),
+        (0, b"no 9 BadName\nok\n".as_slice())
+    );
+    assert!(rt; is_sound(alloc, SECTORS, disk.contents())?);
+    Ok(())
+}
+
+// Record 0 gets an attribute of type 100 behind its others, so that 40 bytes are free, and so does its copy. Its value are the zeros that
+// stood there, with the last two bytes of the first sector, which the update sequence has.
+fn pad_first_record(image: &mut [u8]) {
+    for at in [record(0), MIRROR] {
+        let used = number(image, at + 0x18);
+        let id = byte(image, at + 0x28);
+        let end = (at + used).saturating_sub(8);
+        let len = (1024usize - 40).saturating_sub(used);
+        put(image, end, &[0, 1, 0, 0]);
+        put(image, end + 4, &len.to_le_bytes()[..4]);
+        put(image, end + 8, &[0, 0, 0x18, 0, 0, 0, id, 0]);
+        put(image, end + 16, &len.saturating_sub(24).to_le_bytes()[..4]);
+        put(image, end + 20, &[0x18, 0, 0, 0]);
+        put(image, end + len, &[0xFF, 0xFF, 0xFF, 0xFF, 0, 0, 0, 0]);
+        put(image, at + 0x18, &(used + len).to_le_bytes()[..4]);
+        put(image, at + 0x28, &[id.saturating_add(1)]);
+    }
+}
+
+// Where the copies of the first records begin on a new volume.
+const MIRROR: usize = 19 * 4096;
+
+const FULL: [Row; 2] = [
+    ("df", "df 2048 1913 64 8\nok\n"),
+    ("create /z", "no 25 MftFull 97 40\n"),
+];
+
+// Thirty files leave eight records free, of 27 that a file might need: 7 clusters of the table, and 2, for each of which 9 bytes of record 0
+// are wanted, beside 16.
+#[test]
+fn the_table_has_to_have_room_to_grow(rt: HostRuntime) -> Result<(), test::Fail> {
+    let alloc = rt.alloc();
+    let (mut script, mut wanted) = (Vec::new(alloc), Vec::new(alloc));
+    for tens in b"abc" {
+        for ones in b"0123456789" {
+            script.extend_from_slice(b"create /")?;
+            script.extend_from_slice(&[*tens, *ones, b'\n'])?;
+            wanted.extend_from_slice(b"ok\n")?;
+        }
+    }
+    let image = made_on(alloc, 16_384, "format 16384 4096 1 DATA")?;
+    let mut disk = writable(alloc, 16_384, &image)?;
+    let (status, out) = told(alloc, &mut disk, &script)?;
+    assert_eq!(rt; (status, out.bytes()), (0, wanted.as_slice()));
+    let mut image = disk.contents().to_vec(alloc)?;
+    pad_first_record(&mut image);
+    assert!(rt; is_sound(alloc, 16_384, &image)?);
+    assert_eq!(rt; wrong_row(alloc, 16_384, &image, &FULL)?, None);
+    Ok(())
+}
