@@ -7,3 +7,14 @@ pub mod Values
 pub mod StageLaws
 pub mod RunLaws
 pub mod PutLaws
+pub mod Below
+-- Laws of the crates below, passed on to those above.
+pub use Rattle.file_record.proofs.ReadLaws
+pub use Rattle.file_record.proofs.HeldKept
+pub use Rattle.file_record.proofs.RecordLaws
+pub use Rattle.file_record.proofs.StreamReads
+pub use Rattle.file_record.proofs.DiskKept
+pub use Rattle.file_record.proofs.ChangedStream
+pub use Rattle.file_record.proofs.StreamClusters
+pub use Rattle.file_record.proofs.WithBytes
+pub use Rattle.file_record.proofs.OwnerLaws

@@ -6,10 +6,10 @@ use Rattle.vol_stage.specs.Staged.{disk_of}
 use Rattle.ntfs_def.specs.declared.run_text.Spot.{Spot}
 use Rattle.volume_def.specs.Coverage.{IsApart}
 use Rattle.volume_def.specs.View.{VolumeView}
-use Rattle.volume_edits.specs.Clusters.{IsOwnStream, WritesStream, stream_place}
-use Rattle.volume_edits.proofs.ClusterWrites.{WritesStream-none, WritesStream-then, stream_place-below}
-use Rattle.mft_table.specs.declared.mft.Mft.{Mft}
-use Rattle.mft_table.specs.Mft.{stage_of, view}
+use Rattle.file_record.specs.Clusters.{IsOwnStream, WritesStream, stream_place}
+use Rattle.file_record.proofs.ClusterWrites.{WritesStream-none, WritesStream-then, stream_place-below}
+use Rattle.file_record.specs.MftType.{Mft}
+use Rattle.file_record.specs.Mft.{stage_of, view}
 use Rattle.attr_store.proofs.StageLaws.{clusters-on_disk}
 
 -- So many bytes in front of those that are left were written.

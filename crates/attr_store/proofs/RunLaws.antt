@@ -19,8 +19,8 @@ use Rattle.volume_def.specs.Files.{Part, content_extent, content_of, part_of}
 use Rattle.volume_def.specs.Spans.{is_within, spans_vcn}
 use Rattle.volume_def.specs.Table.{TableLayout}
 use Rattle.volume_def.specs.Values.{spot_at}
-use Rattle.volume_edits.specs.Clusters.{stream_place, stream_sectors}
-use Rattle.mft_table.specs.Streams.{spot_on}
+use Rattle.file_record.specs.Clusters.{stream_place, stream_sectors}
+use Rattle.file_record.specs.Streams.{spot_on}
 use Rattle.attr_store.specs.Written.{run_in_text, run_sectors}
 use Rattle.attr_store.proofs.StoredLaws.{found-spot}
 

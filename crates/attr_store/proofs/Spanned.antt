@@ -22,8 +22,8 @@ use Rattle.volume_def.proofs.ExtentLaws.{spot_at-part}
 use Rattle.list_laws.proofs.MemberLaws.{Contains-nil, Contains-only}
 use Rattle.volume_def.proofs.SpanLaws.{several-cover, spot-spans, whole-spans}
 use Rattle.list_laws.proofs.RangeLaws.{map_ranges, bytes-zero}
-use Rattle.mft_table.proofs.StreamReads.{touched}
-use Rattle.mft_table.specs.Streams.{IsSeam}
+use Rattle.file_record.proofs.StreamReads.{touched}
+use Rattle.file_record.specs.Streams.{IsSeam}
 use Rattle.attr_store.specs.Sought.{spot_in_text}
 
 -- the byte that lies `first` clusters further on in the stream

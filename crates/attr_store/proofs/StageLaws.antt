@@ -12,15 +12,15 @@ use Rattle.vol_stage.proofs.FewLaws.{few-named}
 use Rattle.ntfs_def.specs.declared.run_text.Spot.{Spot}
 use Rattle.volume_def.specs.Coverage.{IsApart}
 use Rattle.volume_def.specs.View.{view_of}
-use Rattle.volume_edits.specs.Clusters.{IsOwnStream, WritesStream, stream_place}
-use Rattle.volume_edits.proofs.ClusterWrites.{WritesStream-sector}
-use Rattle.mft_table.specs.declared.mft.Mft.{Mft}
-use Rattle.mft_table.specs.Mft.{MftReserves, MftStages, is_mft_broken, mounted_of, stage_of, view}
-use Rattle.mft_table.specs.Mounted.{mounted_layout}
-use Rattle.mft_table.proofs.StageTwice.{GoesOn-twice}
-use Rattle.mft_table.proofs.StagedRecord.{MftStages-reserved}
-use Rattle.mft_table.proofs.StreamBytes.{sectors_told}
-use Rattle.mft_table.proofs.StreamReads.{MftReads-none}
+use Rattle.file_record.specs.Clusters.{IsOwnStream, WritesStream, stream_place}
+use Rattle.file_record.proofs.ClusterWrites.{WritesStream-sector}
+use Rattle.file_record.specs.MftType.{Mft}
+use Rattle.file_record.specs.Mft.{MftReserves, MftStages, is_mft_broken, mounted_of, stage_of, view}
+use Rattle.file_record.specs.Mounted.{mounted_layout}
+use Rattle.file_record.proofs.StageTwice.{GoesOn-twice}
+use Rattle.file_record.proofs.StagedRecord.{MftStages-reserved}
+use Rattle.file_record.proofs.StreamBytes.{sectors_told}
+use Rattle.file_record.proofs.StreamReads.{MftReads-none}
 use Rattle.attr_store.specs.Written.{StagesAtMost}
 
 -- nothing was staged

@@ -7,10 +7,10 @@ use Rattle.ntfs_def.specs.declared.run_text.Spot.{Spot}
 use Rattle.ntfs_def.specs.declared.run_text.Spot.TheVariants.{Outside}
 use Rattle.ntfs_def.specs.Runs.{runs_in}
 use Rattle.data_runs.specs.Left.{run_left}
-use Rattle.mft_table.specs.declared.mft.Mft.{Mft}
+use Rattle.file_record.specs.MftType.{Mft}
 use Rattle.vol_stage.specs.Staged.{places}
-use Rattle.mft_table.specs.Mft.{MftStages, stage_of}
-use Rattle.mft_table.specs.Streams.{spot_on}
+use Rattle.file_record.specs.Mft.{MftStages, stage_of}
+use Rattle.file_record.specs.Streams.{spot_on}
 
 -- what the run text of an extent that begins here has left of the run that holds a cluster, from that cluster on
 abbrev pub run_in_text : ℕ → List ℕ → ℕ → Option Run

@@ -8,6 +8,8 @@ mod spot;
 mod stored;
 mod write;
 
+pub use data_runs::Spot;
+pub use file_record::{FileNo, FileParts, Mft, load_base};
 pub use first::{FirstPart, find_first, first_here, is_first, is_of, real_size};
 pub use read::{read_value, spanned_len};
 pub use spot::spot_at;

@@ -8,8 +8,8 @@ ghost use Rattle.volume_def.specs.StreamSize.{IsFirstExtent};
 ghost use Rattle.volume_def.specs.Values.{attribute_value, pieces_touched, spot_at, stored_bytes, value_of_parts};
 ghost use Rattle.volume_def.specs.Table.{cluster_bytes};
 ghost use Rattle.attr_view.specs.View.{attribute_of};
-ghost use Rattle.mft_table.specs.Mft.{MftReads, faults_of, view};
-ghost use Rattle.mft_table.specs.Streams.{IsSeam};
+ghost use Rattle.file_record.specs.Mft.{MftReads, faults_of, view};
+ghost use Rattle.file_record.specs.Streams.{IsSeam};
 ghost use Rattle.file_record.specs.FileNos.{CountsNo, IsReadNo};
 ghost use Rattle.file_record.specs.Held.{AreParts, file_number, parts_held};
 ghost use Rattle.attr_store.specs.Sought.{IsAmong, parts_held_like, spot_in_text};
@@ -17,8 +17,7 @@ ghost use Rattle.attr_store.specs.Sought.{IsAmong, parts_held_like, spot_in_text
 use crate::extents::{extent_sizes, extent_text, find_extent};
 use attr_view::{AttrView, Sizes};
 use data_runs::{RunList, read_runs};
-use file_record::{FileNo, FileParts};
-use mft_table::Mft;
+use file_record::{FileNo, FileParts, Mft};
 use std::alloc::Global;
 use vol_disk::Disk;
 

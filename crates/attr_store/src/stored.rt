@@ -2,15 +2,14 @@
 ghost use Rattle.std.specs.Prelude.{◌≡◌, ◌+◌, ◌<◌, ◌≤◌, ℕ, IfErr, List, MatchResult, OnOk, length, slice_range};
 ghost use Rattle.volume_def.specs.Readable.{IsFile, WhereReadable};
 ghost use Rattle.volume_def.specs.Values.{pieces_touched, value_on};
-ghost use Rattle.mft_table.specs.Mft.{MftReads, faults_of, view};
+ghost use Rattle.file_record.specs.Mft.{MftReads, faults_of, view};
 ghost use Rattle.file_record.specs.FileNos.{CountsNo, IsReadNo};
 ghost use Rattle.file_record.specs.Held.{AreParts, file_number, parts_held};
 ghost use Rattle.attr_store.specs.First.{IsStored, IsStoredIfThere, TellsFirst, attribute_held};
 
 use crate::first::FirstPart;
 use crate::read::read_value;
-use file_record::{FileNo, FileParts};
-use mft_table::Mft;
+use file_record::{FileNo, FileParts, Mft};
 use std::alloc::Global;
 use vol_disk::Disk;
 

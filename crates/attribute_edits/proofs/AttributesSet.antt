@@ -30,9 +30,9 @@ use Rattle.edit_def.specs.Kept.{Key, either, key_of, same_key}
 use Rattle.edit_def.specs.Names.{Numbers, numbers_by}
 use Rattle.edit_def.proofs.IndexLaws.{items-kept}
 use Rattle.edit_def.proofs.NamesLaws.{bases-of}
-use Rattle.session_def.specs.Indexes.{KeepsIndexIfThere, KeepsRests}
-use Rattle.session_def.specs.Kept.{KeepsEntries, KeepsStandard, file_in}
-use Rattle.session_def.specs.Nodes.{flag_of}
+use Rattle.in_place.specs.Indexes.{KeepsIndexIfThere, KeepsRests}
+use Rattle.in_place.specs.Kept.{KeepsEntries, KeepsStandard, file_in}
+use Rattle.in_place.specs.Nodes.{flag_of}
 use Rattle.in_place.specs.InPlace.{Rewrites}
 use Rattle.in_place.specs.Unnamed.{LiesApart}
 use Rattle.in_place.proofs.IndexesOwed.{index-by}
@@ -43,7 +43,7 @@ use Rattle.in_place.proofs.RewriteLaws.{Rewrites-then}
 use Rattle.in_place.proofs.RoomSame as room
 use Rattle.entry_edits.specs.Below.{hidden_flags}
 use Rattle.entry_edits.specs.Refreshable.{index_name}
-use Rattle.volume_mark.proofs.ReadingKept.{find-passing}
+use Rattle.entry_edits.proofs.ReadingKept.{find-passing}
 use Rattle.entry_edits.specs.Attributes.{SetsAttributes}
 use Rattle.attribute_edits.specs.Attributes.{AreRefreshed, dirs_of, is_told_key}
 use Rattle.attribute_edits.proofs.ChainLaws.{StandElsewhere, chain-read, chain-rewrites, chain-sound, looks-outside}

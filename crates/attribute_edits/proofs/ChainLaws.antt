@@ -15,11 +15,11 @@ use Rattle.volume_def.proofs.PartLaws.{named}
 use Rattle.volume_edits.specs.Owners.{HasOwners}
 use Rattle.volume_edits.proofs.OwnerLaws.{lies-looked, lies-outside}
 use Rattle.edit_def.specs.Kept.{Key, either, key_of, same_key}
-use Rattle.session_def.specs.Named.{is_one_of}
+use Rattle.in_place.specs.Named.{is_one_of}
 use Rattle.tree_model.specs.Hidden.{is_system}
 use Rattle.tree_model.specs.Reading.{read}
-use Rattle.volume_mark.specs.Written.{LooksOutside}
-use Rattle.file_record.specs.Written.{HoldsBytes, WritesBytes}
+use Rattle.entry_edits.specs.Written.{LooksOutside}
+use Rattle.in_place.specs.Written.{HoldsBytes, WritesBytes}
 use Rattle.in_place.specs.InPlace.{Rewrites}
 use Rattle.in_place.specs.Unnamed.{LiesApart}
 use Rattle.in_place.proofs.CallLaws as calls

@@ -19,9 +19,9 @@ use Rattle.tree_model.specs.Drops.{is_link}
 use Rattle.tree_model.specs.Reading.{link_for}
 use Rattle.tree_model.specs.Tree.{Tree}
 use Rattle.tree_model.specs.declared.tree.TheConstants.{SHOWN_FLAGS}
-use Rattle.session_def.specs.Indexes.{KeepsRest, KeepsRests, is_same_entry, stays_in}
-use Rattle.session_def.specs.Kept.{KeepsEntries, file_in, link_in}
-use Rattle.session_def.specs.Named.{is_one_of}
+use Rattle.in_place.specs.Indexes.{KeepsRest, KeepsRests, is_same_entry, stays_in}
+use Rattle.in_place.specs.Kept.{KeepsEntries, file_in, link_in}
+use Rattle.in_place.specs.Named.{is_one_of}
 use Rattle.entry_edits.specs.Below.{DuplicatedInformation}
 use Rattle.entry_edits.proofs.RefreshedKeys.{rest-kept}
 use Rattle.entry_edits.proofs.SwappedItems.{one-of-key}

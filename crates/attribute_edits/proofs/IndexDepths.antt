@@ -25,10 +25,10 @@ use Rattle.edit_def.specs.Items.{HasItems}
 use Rattle.edit_def.specs.Kept.{Key, key_of, same_key}
 use Rattle.tree_model.specs.IndexRoom.{directory_index, index_depth, other_nodes}
 use Rattle.tree_model.proofs.IndexRoomLaws.{depth-walk}
-use Rattle.index_tree.specs.Edit.{IsAt, IsSortedIndex, short_nodes}
-use Rattle.index_tree.specs.Replace as tree
-use Rattle.index_tree.proofs.IndexTreeLaws.{one_depth}
-use Rattle.index_tree.proofs.MovedWalks.{SaysAt, spread_moved, walks_moved}
+use Rattle.entry_edits.specs.Edit.{IsAt, IsSortedIndex, short_nodes}
+use Rattle.entry_edits.specs.Replace as tree
+use Rattle.entry_edits.proofs.IndexTreeLaws.{one_depth}
+use Rattle.entry_edits.proofs.MovedWalks.{SaysAt, spread_moved, walks_moved}
 use Rattle.entry_edits.specs.Below.{DuplicatedInformation, RefreshesEntry, index_record_on, is_index_record_at, names_index}
 use Rattle.in_place.specs.InPlace.{Rewrites}
 use Rattle.in_place.specs.Unnamed.{LiesApart}

@@ -26,7 +26,7 @@ use Rattle.edit_def.specs.Names.{is_directory_in, numbers_by}
 use Rattle.edit_def.proofs.NamesLaws.{in-directory, stand-of}
 use Rattle.tree_model.specs.Reading.{standard_flags}
 use Rattle.tree_model.specs.declared.tree.TheConstants.{SHOWN_FLAGS}
-use Rattle.session_def.specs.Kept.{file_in}
+use Rattle.in_place.specs.Kept.{file_in}
 use Rattle.in_place.specs.Unnamed.{LiesApart}
 use Rattle.in_place.proofs.RoomSame as room
 use Rattle.in_place.proofs.StillApart as still

@@ -24,7 +24,7 @@ use Rattle.volume_def.specs.Sound.{IsSound}
 use Rattle.volume_def.specs.Sound.{Indexes}
 use Rattle.volume_def.specs.View.{VolumeView}
 use Rattle.edit_def.specs.Items.{HasItems}
-use Rattle.index_tree.proofs.IndexTreeLaws.{one_list}
+use Rattle.entry_edits.proofs.IndexTreeLaws.{one_list}
 use Rattle.entry_edits.proofs.SwappedItems.{one-of-key}
 
 some-root : {X : Type 0} {a b : X} → Some a ∷ [] ≡ Some b ∷ [] → a ≡ b

@@ -30,10 +30,10 @@ use Rattle.edit_def.specs.Items.{KeepsItems}
 use Rattle.edit_def.specs.Kept.{either}
 use Rattle.edit_def.proofs.IndexLaws.{items-kept}
 use Rattle.edit_def.proofs.NamesLaws.{bases-of}
-use Rattle.session_def.specs.Kept.{is_shown_byte, other_flags}
-use Rattle.session_def.specs.Nodes.{flag_of}
-use Rattle.volume_mark.specs.Standard.{with_standard}
-use Rattle.volume_mark.specs.Written.{LooksOutside}
+use Rattle.in_place.specs.Kept.{is_shown_byte, other_flags}
+use Rattle.in_place.specs.Nodes.{flag_of}
+use Rattle.entry_edits.specs.Standard.{with_standard}
+use Rattle.entry_edits.specs.Written.{LooksOutside}
 use Rattle.in_place.specs.InPlace.{Rewrites}
 use Rattle.in_place.proofs.IndexesOwed.{depth-same}
 use Rattle.in_place.specs.Unnamed.{CanSet}

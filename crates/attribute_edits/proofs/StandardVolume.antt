@@ -12,10 +12,10 @@ use Rattle.volume_def.specs.View.{VolumeView}
 use Rattle.tree_model.specs.Reading.{node_at, read, standard_flags, tree_nodes}
 use Rattle.tree_model.specs.declared.tree.Node.{Node}
 use Rattle.tree_model.specs.declared.tree.TheConstants.{SHOWN_FLAGS}
-use Rattle.session_def.specs.Kept.{KeepsStandard, is_shown_byte, other_flags}
-use Rattle.session_def.specs.Nodes.{flag_of}
-use Rattle.volume_mark.specs.Standard.{with_standard}
-use Rattle.volume_mark.specs.Written.{LooksOutside}
+use Rattle.in_place.specs.Kept.{KeepsStandard, is_shown_byte, other_flags}
+use Rattle.in_place.specs.Nodes.{flag_of}
+use Rattle.entry_edits.specs.Standard.{with_standard}
+use Rattle.entry_edits.specs.Written.{LooksOutside}
 use Rattle.entry_edits.specs.Below.{SetsStandard, hidden_flags}
 use Rattle.entry_edits.proofs.RefreshedKeys.{others-kept, shown-told}
 use Rattle.attribute_edits.proofs.StandardSet as set

@@ -25,12 +25,12 @@ use Rattle.tree_model.specs.Hidden.{is_hidden}
 use Rattle.tree_model.specs.Reading.{node_at, node_by, node_on, read, standard_of, tree_nodes}
 use Rattle.tree_model.specs.declared.tree.Node.{Node}
 use Rattle.edit_def.specs.Kept.{Key, key_of, same_key}
-use Rattle.session_def.specs.Kept.{KeepsStandard, KeepsUnshown}
-use Rattle.volume_mark.specs.Standard.{with_standard}
-use Rattle.volume_mark.specs.Written.{LooksOutside, WritesValue}
-use Rattle.volume_mark.proofs.ReadingKept as reading
-use Rattle.volume_mark.proofs.WrittenLaws as volumes
-use Rattle.file_record.specs.Written.{WritesBytes}
+use Rattle.in_place.specs.Kept.{KeepsStandard, KeepsUnshown}
+use Rattle.entry_edits.specs.Standard.{with_standard}
+use Rattle.entry_edits.specs.Written.{LooksOutside, WritesValue}
+use Rattle.entry_edits.proofs.ReadingKept as reading
+use Rattle.entry_edits.proofs.WrittenLaws as volumes
+use Rattle.in_place.specs.Written.{WritesBytes}
 use Rattle.in_place.specs.InPlace.{Rewrites}
 use Rattle.in_place.proofs.CallLaws as calls
 use Rattle.entry_edits.proofs.RewrittenRoot.{body-value, held-apart, value-content}

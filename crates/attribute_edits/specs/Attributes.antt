@@ -14,10 +14,10 @@ use Rattle.tree_model.specs.Reading.{read, tree_nodes}
 use Rattle.tree_model.specs.declared.tree.Node.{Node}
 use Rattle.edit_def.specs.Items.{KeepsItems}
 use Rattle.edit_def.specs.Kept.{Key, either, key_of, same_key}
-use Rattle.session_def.specs.Kept.{KeepsStandard, file_in}
-use Rattle.session_def.specs.Named.{is_one_of}
+use Rattle.in_place.specs.Kept.{KeepsStandard, file_in}
+use Rattle.in_place.specs.Named.{is_one_of}
 use Rattle.in_place.specs.InPlace.{Rewrites}
-use Rattle.file_record.specs.Written.{WritesBytes}
+use Rattle.in_place.specs.Written.{WritesBytes}
 use Rattle.entry_edits.specs.Below.{DuplicatedInformation, RefreshesItem}
 use Rattle.entry_edits.specs.Refreshable.{index_name}
 use Rattle.entry_edits.specs.Attributes.{SetsAttributes}

@@ -17,7 +17,7 @@ use Rattle.edit_def.specs.Kept.{Key, either, same_key}
 use Rattle.edit_def.specs.Marks.{Marks}
 use Rattle.edit_def.specs.Names.{gone_names}
 use Rattle.edit_def.proofs.EditedLaws.{Edited-then}
-use Rattle.name_edits.proofs.GoneNames.{gone-beside}
+use Rattle.reading_edits.proofs.GoneNames.{gone-beside}
 use Rattle.session_def.specs.Named.{is_index_kind}
 use Rattle.command_edits.specs.Calls.{AddsLink, DropsLink, DropsLinks, RefreshesEntries, SetsNode}
 use Rattle.command_edits.specs.Commands.{TouchesLast}

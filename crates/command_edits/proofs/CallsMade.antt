@@ -22,8 +22,8 @@ use Rattle.edit_def.proofs.AccountLaws.{IsPlanned-less, Spends-less}
 use Rattle.edit_def.proofs.EditedLaws.{Edited-then}
 use Rattle.edit_def.proofs.FormLaws.{KeepsForms-more}
 use Rattle.edit_def.proofs.KeptLaws.{KeepsFile-more}
-use Rattle.name_edits.proofs.CommandSteps.{SameItems-cons, others-back}
-use Rattle.name_edits.proofs.NamesInTurn.{KeepsOthers-then, others-of}
+use Rattle.reading_edits.proofs.CommandSteps.{SameItems-cons, others-back}
+use Rattle.reading_edits.proofs.NamesInTurn.{KeepsOthers-then, others-of}
 use Rattle.command_edits.specs.Calls.{AddsLink, AddsName, ChangesIndex, DropsLink, DropsName, RefreshesEntry, SetsLinks, link_with}
 use Rattle.command_edits.specs.Keys.{is_index_key_of, is_name_key_of, no_key}
 use Rattle.command_edits.proofs.LinksBetween.{link_keys}

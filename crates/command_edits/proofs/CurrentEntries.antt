@@ -28,8 +28,8 @@ use Rattle.edit_def.specs.Names.{HasRightBases}
 use Rattle.edit_def.proofs.CurrentLaws.{current-kept}
 use Rattle.edit_def.proofs.IndexLaws.{cluster-size, items-of-directory}
 use Rattle.edit_def.proofs.LinkLaws.{links-kept}
-use Rattle.name_edits.proofs.HiddenFiles.{hides-kept, name-file}
-use Rattle.name_edits.proofs.OnceNames.{named_item, once-item}
+use Rattle.reading_edits.proofs.HiddenFiles.{hides-kept, name-file}
+use Rattle.reading_edits.proofs.OnceNames.{named_item, once-item}
 use Rattle.command_edits.specs.Between.{IsBetween}
 use Rattle.command_edits.specs.Calls.{RefreshesEntries, RefreshesEntry}
 use Rattle.command_edits.specs.KeptBy.{EntriesCurrent, is_told}

@@ -21,3 +21,11 @@ pub mod FreshNumber
 pub mod QuietCalls
 pub mod NodesMade
 pub mod LinksTold
+-- Laws of the crates below, passed on to those above.
+pub use Rattle.reading_edits.proofs.LinksRead
+pub use Rattle.reading_edits.proofs.CallsRead as ReadingEditsCallsRead
+pub use Rattle.reading_edits.proofs.HiddenFiles
+pub use Rattle.reading_edits.proofs.LinksAfter
+pub use Rattle.reading_edits.proofs.CommandLinks
+pub use Rattle.reading_edits.proofs.NamesInTurn
+pub use Rattle.reading_edits.proofs.SameLink

@@ -18,7 +18,7 @@ use Rattle.edit_def.specs.Names.{Numbers, is_directory_in, numbers_at}
 use Rattle.edit_def.proofs.IndexLaws.{directory-gets, directory-gets-other, directory-loses, directory-loses-other, directory-refreshes}
 use Rattle.edit_def.proofs.IndexLaws.{directory-same}
 use Rattle.edit_def.proofs.LinkLaws.{links-gets, links-kept}
-use Rattle.name_edits.proofs.ReferencesAfter.{references-gets, references-kept, references-loses}
+use Rattle.reading_edits.proofs.ReferencesAfter.{references-gets, references-kept, references-loses}
 use Rattle.command_edits.specs.Between.{IsBetween}
 use Rattle.command_edits.specs.Calls.{AddsLink, DropsLink, RefreshesEntry, link_with}
 use Rattle.command_edits.specs.Keys.{is_index_key_of, is_name_key_of}

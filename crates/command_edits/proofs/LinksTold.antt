@@ -29,10 +29,10 @@ use Rattle.tree_model.proofs.NamesLaws.{is_shown}
 use Rattle.edit_def.specs.Names.{HasRightBases, Numbers, gone_names, is_only_long, numbers_at, numbers_by, numbers_in}
 use Rattle.edit_def.proofs.LinkLaws.{by_file, file-links, links_by, referred}
 use Rattle.edit_def.proofs.NamesLaws.{number-inside}
-use Rattle.name_edits.proofs.HiddenFiles.{name-file}
-use Rattle.name_edits.proofs.ListTests.{in_order-items}
-use Rattle.name_edits.proofs.SameLink.{is_link-exact, is_link-itself}
-use Rattle.name_edits.specs.Dropped.{AreDropped}
+use Rattle.reading_edits.proofs.HiddenFiles.{name-file}
+use Rattle.reading_edits.proofs.ListTests.{in_order-items}
+use Rattle.reading_edits.proofs.SameLink.{is_link-exact, is_link-itself}
+use Rattle.reading_edits.specs.Dropped.{AreDropped}
 use Rattle.session_def.specs.Kept.{KeepsNamesBut, link_told}
 use Rattle.session_def.specs.Named.{every_link, has_entry_of, is_one_of, leads_among}
 use Rattle.command_edits.specs.Between.{IsBetween}

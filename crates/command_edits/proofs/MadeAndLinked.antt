@@ -23,10 +23,10 @@ use Rattle.edit_def.specs.Marks.{Marks}
 use Rattle.edit_def.specs.Names.{KeepsNames, Numbers, is_directory_by, is_directory_in, numbers_at}
 use Rattle.edit_def.proofs.NamesLaws.{directories-comes, stand-of}
 use Rattle.edit_def.proofs.NodeLaws.{no-file-none}
-use Rattle.name_edits.proofs.CommandLinks.{sound-linked, sound-made}
-use Rattle.name_edits.proofs.HiddenFiles.{hides-comes}
-use Rattle.name_edits.proofs.LinksAfter.{links-same}
-use Rattle.name_edits.proofs.NamesInTurn.{KeepsNames-then}
+use Rattle.reading_edits.proofs.CommandLinks.{sound-linked, sound-made}
+use Rattle.reading_edits.proofs.HiddenFiles.{hides-comes}
+use Rattle.reading_edits.proofs.LinksAfter.{links-same}
+use Rattle.reading_edits.proofs.NamesInTurn.{KeepsNames-then}
 use Rattle.reading_edits.specs.Steps.{with_node}
 use Rattle.reading_edits.proofs.EffectSteps.{node-changed, tree-create, tree-ln, tree-mkdir}
 use Rattle.command_edits.specs.Between.{IsBetween, StandsAs}

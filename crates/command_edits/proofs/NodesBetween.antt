@@ -25,7 +25,7 @@ use Rattle.edit_def.specs.Names.{HasNoNames, Numbers, StandRightly, is_directory
 use Rattle.edit_def.proofs.IndexLaws.{directory-of-items, directory-same}
 use Rattle.edit_def.proofs.LinkLaws.{links-comes, links-kept}
 use Rattle.edit_def.proofs.NamesLaws.{names-comes, stand-of}
-use Rattle.name_edits.proofs.ReferencesAfter.{references-comes, references-goes, references-kept}
+use Rattle.reading_edits.proofs.ReferencesAfter.{references-comes, references-goes, references-kept}
 use Rattle.command_edits.specs.Between.{IsBetween}
 use Rattle.command_edits.specs.Calls.{DropsNode, MakesNode, SetsNode, link_with}
 use Rattle.command_edits.specs.Keys.{is_key_of, standard_key}

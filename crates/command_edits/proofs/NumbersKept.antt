@@ -9,8 +9,8 @@ use Rattle.tree_model.specs.Subjects.{Machine}
 use Rattle.edit_def.specs.Account.{Wants}
 use Rattle.edit_def.specs.Marks.{Marks}
 use Rattle.edit_def.specs.Names.{KeepsNames, KeepsOthers, Numbers, gone_names, numbers_at}
-use Rattle.name_edits.proofs.CommandSteps.{others-back}
-use Rattle.name_edits.proofs.NamesInTurn.{KeepsNames-same, KeepsNames-then, KeepsOthers-then, others-of}
+use Rattle.reading_edits.proofs.CommandSteps.{others-back}
+use Rattle.reading_edits.proofs.NamesInTurn.{KeepsNames-same, KeepsNames-then, KeepsOthers-then, others-of}
 use Rattle.command_edits.specs.Calls.{RefreshesEntries}
 use Rattle.command_edits.specs.Commands.{DoesLink, DoesMake, DoesMove, DoesRemove, DoesSet, DoesUnlink}
 use Rattle.command_edits.proofs.EachCall.{EachKeeps, link-keeps, make-keeps, move-keeps, remove-keeps, unlink-keeps}

@@ -17,8 +17,8 @@ use Rattle.edit_def.specs.Names.{KeepsNames}
 use Rattle.edit_def.proofs.IndexLaws.{directory-same}
 use Rattle.edit_def.proofs.LinkLaws.{links-kept}
 use Rattle.edit_def.proofs.NamesLaws.{stand-of}
-use Rattle.name_edits.proofs.LinksAfter.{links-same}
-use Rattle.name_edits.proofs.ReferencesAfter.{references-kept}
+use Rattle.reading_edits.proofs.LinksAfter.{links-same}
+use Rattle.reading_edits.proofs.ReferencesAfter.{references-kept}
 use Rattle.reading_edits.specs.Steps.{LeavesShown}
 use Rattle.reading_edits.proofs.CallsRead.{read-kept}
 use Rattle.command_edits.specs.Between.{IsBetween, StandsAs}

@@ -24,14 +24,14 @@ use Rattle.edit_def.specs.Account.{Wants}
 use Rattle.edit_def.specs.Marks.{Marks}
 use Rattle.edit_def.specs.Names.{HasNoNames, Numbers, gone_names, is_directory_by, is_directory_in, numbers_at}
 use Rattle.edit_def.proofs.NamesLaws.{stand-of}
-use Rattle.name_edits.specs.Dropped.{AreDropped}
-use Rattle.name_edits.proofs.CommandLinks.{sound-moved, sound-removed, sound-unlinked}
-use Rattle.name_edits.proofs.GoneNames.{gone-beside}
-use Rattle.name_edits.proofs.HiddenFiles.{hides-kept}
-use Rattle.name_edits.proofs.NamesInTurn.{KeepsNames-then, directories-lost, file-no-names, no-names-lost}
-use Rattle.name_edits.proofs.NoNames.{empty-names}
-use Rattle.name_edits.proofs.OnceNames.{numbers-shown}
-use Rattle.name_edits.proofs.TreeNames.{shown-dropped, shown-other}
+use Rattle.reading_edits.specs.Dropped.{AreDropped}
+use Rattle.reading_edits.proofs.CommandLinks.{sound-moved, sound-removed, sound-unlinked}
+use Rattle.reading_edits.proofs.GoneNames.{gone-beside}
+use Rattle.reading_edits.proofs.HiddenFiles.{hides-kept}
+use Rattle.reading_edits.proofs.NamesInTurn.{KeepsNames-then, directories-lost, file-no-names, no-names-lost}
+use Rattle.reading_edits.proofs.NoNames.{empty-names}
+use Rattle.reading_edits.proofs.OnceNames.{numbers-shown}
+use Rattle.reading_edits.proofs.TreeNames.{shown-dropped, shown-other}
 use Rattle.reading_edits.specs.Steps.{without_links, without_node}
 use Rattle.reading_edits.proofs.EffectSteps.{tree-mv, tree-rm-last, tree-rm-other, tree-rmdir}
 use Rattle.command_edits.specs.Between.{IsBetween, StandsAs}

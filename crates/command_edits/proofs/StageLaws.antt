@@ -24,8 +24,8 @@ use Rattle.edit_def.specs.Account.{Wants, nothing}
 use Rattle.edit_def.specs.Marks.{Marks}
 use Rattle.edit_def.specs.Names.{KeepsNames, LosesNames, Numbers, numbers_at}
 use Rattle.edit_def.proofs.NodeLaws.{node-numbers, node_with}
-use Rattle.name_edits.proofs.HiddenFiles.{hides-loses}
-use Rattle.name_edits.proofs.NamesInTurn.{KeepsNames-same, KeepsNames-then, loses-more, loses-none}
+use Rattle.reading_edits.proofs.HiddenFiles.{hides-loses}
+use Rattle.reading_edits.proofs.NamesInTurn.{KeepsNames-same, KeepsNames-then, loses-more, loses-none}
 use Rattle.reading_edits.specs.Steps.{with_node, without_link, without_links, without_node}
 use Rattle.reading_edits.proofs.EffectSteps.{node-changed}
 use Rattle.command_edits.specs.Between.{IsBetween}

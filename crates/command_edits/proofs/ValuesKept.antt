@@ -21,7 +21,7 @@ use Rattle.edit_def.specs.Kept.{either, same_key, told_names}
 use Rattle.edit_def.specs.Marks.{Marks}
 use Rattle.edit_def.specs.Names.{gone_names}
 use Rattle.edit_def.proofs.ToldLaws.{same_told, same_told-exact, same_told-itself}
-use Rattle.name_edits.proofs.SameLink.{is_link-itself}
+use Rattle.reading_edits.proofs.SameLink.{is_link-itself}
 use Rattle.session_def.specs.Kept.{KeepsNamesBut, link_told}
 use Rattle.session_def.proofs.UnnamedLaws.{names-unnamed}
 use Rattle.command_edits.specs.Calls.{AddsLink, DropsLink, DropsNode, MakesNode, SetsNode}

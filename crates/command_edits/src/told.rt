@@ -10,7 +10,7 @@ ghost use Rattle.tree_model.specs.Reading.{link_for, node_at, read};
 ghost use Rattle.tree_model.specs.Tree.{Tree};
 ghost use Rattle.tree_model.specs.declared.tree.Node.{Node};
 ghost use Rattle.edit_def.specs.Names.{gone_names};
-ghost use Rattle.name_edits.specs.Dropped.{AreDropped};
+ghost use Rattle.reading_edits.specs.Dropped.{AreDropped};
 ghost use Rattle.session_def.specs.Kept.{KeepsNamesBut};
 ghost use Rattle.session_def.specs.Named.{has_entry_of, is_one_of};
 ghost use Rattle.command_edits.specs.Between.{IsBetween};

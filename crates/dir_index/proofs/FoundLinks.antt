@@ -10,8 +10,8 @@ use Rattle.std.proofs.lemmas.Slice.Eq.{bytes_eq-Decides}
 use Rattle.ntfs_def.specs.FileName.{is_name_key, key_units, name_in}
 use Rattle.ntfs_def.specs.IndexTree.{Each}
 use Rattle.ntfs_def.specs.Node.{Item, item_in}
-use Rattle.index_tree.specs.Search.{IsFirstFound, NoneEqual}
-use Rattle.index_tree.specs.Walk.{items_in}
+use Rattle.index_store.specs.Search.{IsFirstFound, NoneEqual}
+use Rattle.index_store.specs.Walk.{items_in}
 use Rattle.tree_model.specs.Tree.{are_same, sought_link}
 use Rattle.tree_model.specs.declared.tree.Link.{Link}
 use Rattle.dir_index.specs.Links.{link_in, link_of_item}

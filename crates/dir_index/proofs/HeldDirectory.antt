@@ -19,17 +19,17 @@ use Rattle.volume_def.specs.Sound.{Indexes}
 use Rattle.volume_def.specs.Table.{cluster_bytes}
 use Rattle.volume_def.specs.View.{VolumeView}
 use Rattle.volume_def.proofs.SoundLaws.{readable-sound}
-use Rattle.index_tree.specs.Edit.{HasSortedIndex, short_nodes}
-use Rattle.index_tree.specs.Walk.{HasWalk, IsWalk}
+use Rattle.index_store.specs.Edit.{HasSortedIndex, short_nodes}
+use Rattle.index_store.specs.Walk.{HasWalk, IsWalk}
 use Rattle.tree_model.specs.Reading.{directory_links}
 use Rattle.tree_model.specs.Tree.{sought_link}
-use Rattle.mft_table.specs.declared.mft.Mft.{Mft}
-use Rattle.mft_table.specs.declared.mounted.Mounted.{Mounted}
-use Rattle.mft_table.specs.Mft.{MftReads, mounted_of, view}
-use Rattle.mft_table.specs.InUse.{IsSoundVolume}
-use Rattle.file_record.specs.declared.parts.FileParts.{FileParts}
-use Rattle.file_record.specs.Held.{AreParts, file_number}
-use Rattle.file_record.proofs.ReadLaws.{view-kept}
+use Rattle.index_store.specs.MftType.{Mft}
+use Rattle.index_store.specs.MountedType.{Mounted}
+use Rattle.index_store.specs.Mft.{MftReads, mounted_of, view}
+use Rattle.index_store.specs.InUse.{IsSoundVolume}
+use Rattle.index_store.specs.FileParts.{FileParts}
+use Rattle.index_store.specs.Held.{AreParts, file_number}
+use Rattle.index_store.proofs.ReadLaws.{view-kept}
 use Rattle.index_store.specs.declared.index.FoundIndex.{FoundIndex}
 use Rattle.index_store.specs.Index.{HasParts, IsFound, index_held}
 use Rattle.index_store.proofs.HeldIndexLaws.{index-held}

@@ -19,12 +19,12 @@ use Rattle.volume_def.specs.CaseClause.{volume_fold}
 use Rattle.volume_def.specs.IndexesClause.{IsDirectoryIndex, index_nodes, stored_index_record}
 use Rattle.volume_def.specs.View.{VolumeView}
 use Rattle.index_node.specs.Edit.{item_len}
-use Rattle.index_tree.specs.Edit.{HasSortedIndex, IsAt, IsSortedIndex, short_nodes}
-use Rattle.index_tree.specs.Replace.{IsSwapped, Replaces}
+use Rattle.index_store.specs.Edit.{HasSortedIndex, IsAt, IsSortedIndex, short_nodes}
+use Rattle.index_store.specs.Replace.{IsSwapped, Replaces}
 use Rattle.dir_index.specs.Replaced.{HasSwapped}
-use Rattle.index_tree.specs.Search.{HasRisingIndex, IsFirstFound, IsRisingIndex, NoneEqual, Rises, nodes_of}
-use Rattle.index_tree.specs.Walk.{HasWalk, IsWalk, items_in}
-use Rattle.index_tree.proofs.MovedWalks.{walks_moved}
+use Rattle.index_store.specs.Search.{HasRisingIndex, IsFirstFound, IsRisingIndex, NoneEqual, Rises, nodes_of}
+use Rattle.index_store.specs.Walk.{HasWalk, IsWalk, items_in}
+use Rattle.index_store.proofs.MovedWalks.{walks_moved}
 use Rattle.tree_model.specs.Reading.{directory_links}
 use Rattle.tree_model.specs.Tree.{sought_link}
 use Rattle.tree_model.specs.declared.tree.Link.{Link}

@@ -14,3 +14,10 @@ pub mod FreshLaws
 pub mod RefreshLaws
 pub mod RootLaws
 pub mod Below
+pub mod FewStaged
+-- Laws of the crates below, passed on to those above.
+pub use Rattle.index_store.proofs.MovedWalks
+pub use Rattle.index_store.proofs.IndexTreeLaws
+pub use Rattle.index_store.proofs.IndexRecordLaws
+pub use Rattle.index_store.proofs.HeldIndexLaws
+pub use Rattle.index_store.proofs.ToldLaws

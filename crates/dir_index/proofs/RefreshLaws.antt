@@ -13,18 +13,18 @@ use Rattle.volume_def.specs.IndexesClause.{IsDirectoryIndex}
 use Rattle.volume_def.specs.Table.{IsWellFormed, TableLayout, cluster_bytes}
 use Rattle.volume_def.specs.Values.{spot_at}
 use Rattle.volume_def.specs.View.{VolumeView}
-use Rattle.volume_edits.specs.Clusters.{ChangesStream, record_sectors}
-use Rattle.volume_edits.proofs.ChangedStream.{records-kept}
-use Rattle.mft_table.specs.declared.mft.Mft.{Mft}
-use Rattle.mft_table.specs.declared.mounted.Mounted.{Mounted}
-use Rattle.mft_table.specs.Mft.{mounted_of, stage_of, view}
-use Rattle.mft_table.specs.Mounted.{mounted_layout}
-use Rattle.mft_table.specs.Staging.{record_places}
-use Rattle.file_record.specs.declared.held.Held.{Held}
-use Rattle.file_record.specs.declared.parts.FileParts.{FileParts}
-use Rattle.file_record.specs.Held.{IsHeldFile, file_number, held_of}
-use Rattle.file_record.specs.Records.{IsRecordOf}
-use Rattle.file_record.specs.Written.{IsWholeFile}
+use Rattle.index_store.specs.Clusters.{ChangesStream, record_sectors}
+use Rattle.index_store.proofs.ChangedStream.{records-kept}
+use Rattle.index_store.specs.MftType.{Mft}
+use Rattle.index_store.specs.MountedType.{Mounted}
+use Rattle.index_store.specs.Mft.{mounted_of, stage_of, view}
+use Rattle.index_store.specs.Mounted.{mounted_layout}
+use Rattle.index_store.specs.Staging.{record_places}
+use Rattle.index_store.specs.HeldType.{Held}
+use Rattle.index_store.specs.FileParts.{FileParts}
+use Rattle.index_store.specs.Held.{IsHeldFile, file_number, held_of}
+use Rattle.index_store.specs.Records.{IsRecordOf}
+use Rattle.index_store.specs.FileRecordWritten.{IsWholeFile}
 use Rattle.index_store.specs.IndexRecords.{index_record_on}
 use Rattle.index_store.proofs.IndexRecordLaws.{record-there}
 use Rattle.tree_model.specs.declared.tree.Link.{Link}

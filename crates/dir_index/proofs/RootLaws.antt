@@ -7,11 +7,11 @@ use Rattle.list_laws.proofs.PieceLaws.{All-one}
 use Rattle.vol_disk.specs.declared.Disk.{Ghosts}
 use Rattle.volume_def.specs.Files.{Clusters, Content, Part, Value, content_value}
 use Rattle.volume_def.specs.Values.{first_part, is_first}
-use Rattle.mft_table.specs.declared.mft.Mft.{Mft}
-use Rattle.mft_table.specs.Mft.{MftReserves, MftStages, view}
-use Rattle.mft_table.specs.Staging.{record_places}
-use Rattle.file_record.specs.declared.parts.FileParts.{FileParts}
-use Rattle.file_record.specs.Records.{IsRecordOf}
+use Rattle.index_store.specs.MftType.{Mft}
+use Rattle.index_store.specs.Mft.{MftReserves, MftStages, view}
+use Rattle.index_store.specs.Staging.{record_places}
+use Rattle.index_store.specs.FileParts.{FileParts}
+use Rattle.index_store.specs.Records.{IsRecordOf}
 use Rattle.index_store.specs.Below.{FirstPart, TellsSizes, attribute_held}
 use Rattle.dir_index.specs.Standard.{StagesRecordOf}
 use Rattle.dir_index.proofs.StandardLaws.{first-value}

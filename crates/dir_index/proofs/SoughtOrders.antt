@@ -8,8 +8,8 @@ use Rattle.ntfs_def.specs.IndexTree.{Ascends, Each}
 use Rattle.ntfs_def.specs.KeyOrder.{compare_units, fold_order, name_order}
 use Rattle.ntfs_def.specs.Node.{Item}
 use Rattle.ntfs_def.proofs.KeyOrderLaws.{name_fold, units_total}
-use Rattle.index_tree.specs.Search.{IsBefore, Rises}
-use Rattle.index_tree.proofs.RisingOrders.{before_of}
+use Rattle.index_store.specs.Search.{IsBefore, Rises}
+use Rattle.index_store.proofs.RisingOrders.{before_of}
 use Rattle.list_laws.proofs.OrderLaws.{less_not_greater}
 use Rattle.dir_index.specs.Sought.{exact_order, folded_order, sought_units}
 use Rattle.dir_index.specs.SoughtLaws.{by_fold, by_fold_total}

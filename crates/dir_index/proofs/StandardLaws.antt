@@ -19,16 +19,16 @@ use Rattle.volume_def.proofs.PartLaws.{Contains-HoldsPart, IsPart-Contains, Name
 use Rattle.volume_def.proofs.ReadableLaws.{readable-stream}
 use Rattle.volume_def.specs.ExtentsClause.{AreAttribute}
 use Rattle.vol_disk.specs.declared.Disk.{Ghosts}
-use Rattle.mft_table.specs.declared.mft.Mft.{Mft}
-use Rattle.mft_table.specs.Mft.{MftReads, view}
+use Rattle.index_store.specs.MftType.{Mft}
+use Rattle.index_store.specs.Mft.{MftReads, view}
 use Rattle.dir_index.specs.Standard.{StagesRecordOf}
-use Rattle.file_record.specs.declared.parts.FileParts.{FileParts}
+use Rattle.index_store.specs.FileParts.{FileParts}
 use Rattle.ntfs_def.specs.Attribute.{attributes}
 use Rattle.volume_def.specs.Files.{part_of}
-use Rattle.file_record.specs.declared.held.Held.{Held}
-use Rattle.file_record.specs.Held.{AreParts, file_number, held_of, parts_held, parts_of}
-use Rattle.file_record.specs.Records.{IsRecordOf}
-use Rattle.file_record.proofs.RecordLaws.{IsRecordOf-file}
+use Rattle.index_store.specs.HeldType.{Held}
+use Rattle.index_store.specs.Held.{AreParts, file_number, held_of, parts_held, parts_of}
+use Rattle.index_store.specs.Records.{IsRecordOf}
+use Rattle.index_store.proofs.RecordLaws.{IsRecordOf-file}
 use Rattle.index_store.specs.Below.{FirstPart, TellsSizes, attribute_held}
 
 -- the value of the attribute, as a part of its file

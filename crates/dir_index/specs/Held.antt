@@ -9,9 +9,9 @@ use Rattle.volume_def.specs.IndexesClause.{IsDirectoryIndex}
 use Rattle.volume_def.specs.Readable.{IsFile, IsReadableVolume}
 use Rattle.volume_def.specs.Values.{value_on}
 use Rattle.volume_def.specs.View.{VolumeView}
-use Rattle.index_tree.specs.Search.{nodes_of}
-use Rattle.file_record.specs.declared.parts.FileParts.{FileParts}
-use Rattle.file_record.specs.Held.{IsHeldFile, file_number}
+use Rattle.index_store.specs.Search.{nodes_of}
+use Rattle.index_store.specs.FileParts.{FileParts}
+use Rattle.index_store.specs.Held.{IsHeldFile, file_number}
 use Rattle.index_store.specs.declared.index.FoundIndex.{FoundIndex}
 use Rattle.index_store.specs.IndexBlocks.{records_found}
 

@@ -15,18 +15,18 @@ use Rattle.volume_def.specs.Files.{Part, content_value}
 use Rattle.volume_def.specs.IndexesClause.{IsDirectoryIndex}
 use Rattle.volume_def.specs.Values.{spot_at}
 use Rattle.volume_def.specs.View.{VolumeView}
-use Rattle.volume_edits.specs.Owners.{HasOwners}
-use Rattle.volume_edits.specs.Clusters.{ChangesStream, record_sectors}
+use Rattle.index_store.specs.Owners.{HasOwners}
+use Rattle.index_store.specs.Clusters.{ChangesStream, record_sectors}
 use Rattle.index_node.specs.Edit.{IsShortEntry, item_len}
 use Rattle.tree_model.specs.Reading.{directory_links}
 use Rattle.tree_model.specs.declared.tree.Link.{Link}
-use Rattle.mft_table.specs.declared.mft.Mft.{Mft}
-use Rattle.mft_table.specs.Mft.{stage_of, view}
-use Rattle.mft_table.specs.Staging.{record_places}
-use Rattle.file_record.specs.declared.parts.FileParts.{FileParts}
-use Rattle.file_record.specs.Held.{file_number}
-use Rattle.file_record.specs.Records.{IsRecordOf}
-use Rattle.file_record.specs.Written.{IsWholeFile, WritesBytes}
+use Rattle.index_store.specs.MftType.{Mft}
+use Rattle.index_store.specs.Mft.{stage_of, view}
+use Rattle.index_store.specs.Staging.{record_places}
+use Rattle.index_store.specs.FileParts.{FileParts}
+use Rattle.index_store.specs.Held.{file_number}
+use Rattle.index_store.specs.Records.{IsRecordOf}
+use Rattle.index_store.specs.FileRecordWritten.{IsWholeFile, WritesBytes}
 use Rattle.index_store.specs.IndexRecords.{index_record_on}
 use Rattle.dir_index.specs.declared.entry.DuplicatedInformation.{DuplicatedInformation}
 use Rattle.dir_index.specs.Held.{IsHeldDirectory, IsReadableDirectory}

@@ -11,13 +11,13 @@ use Rattle.ntfs_def.specs.declared.index.NodeForm.TheVariants.{Names}
 use Rattle.volume_def.specs.Files.{Part}
 use Rattle.volume_def.specs.IndexesClause.{IndexParts}
 use Rattle.volume_def.specs.View.{VolumeView}
-use Rattle.index_tree.specs.Edit.{short_nodes}
-use Rattle.index_tree.specs.Replace.{IsSwapped, Replaces}
+use Rattle.index_store.specs.Edit.{short_nodes}
+use Rattle.index_store.specs.Replace.{IsSwapped, Replaces}
 use Rattle.index_store.specs.IndexRecords.{index_record_on}
 use Rattle.volume_def.specs.Values.{spot_at}
-use Rattle.volume_edits.specs.Clusters.{record_sectors}
-use Rattle.mft_table.specs.declared.mft.Mft.{Mft}
-use Rattle.mft_table.specs.Mft.{stage_of, view}
+use Rattle.index_store.specs.Clusters.{record_sectors}
+use Rattle.index_store.specs.MftType.{Mft}
+use Rattle.index_store.specs.Mft.{stage_of, view}
 
 -- THE ITEM CAME IN THE PLACE of the one with an equal key, where there is one which is as long: of the index of names that stands in the
 -- records under this root, and that now stands in the records under the other.

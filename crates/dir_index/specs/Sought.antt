@@ -7,7 +7,7 @@ use Rattle.ntfs_def.specs.FileName.{is_name_key, key_units}
 use Rattle.ntfs_def.specs.KeyOrder.{by_numbers, compare_units}
 use Rattle.ntfs_def.specs.Node.{node_in}
 use Rattle.ntfs_def.specs.declared.index.NodeForm.TheVariants.{Names}
-use Rattle.index_tree.specs.Search.{Costs, Finds, HasRisingIndex, nodes_of}
+use Rattle.index_store.specs.Search.{Costs, Finds, HasRisingIndex, nodes_of}
 
 -- the units that a key is compared by
 abbrev pub sought_units : List ℕ → List ℕ → List ℕ

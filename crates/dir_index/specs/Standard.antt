@@ -7,11 +7,11 @@ use Rattle.ntfs_def.specs.StandardInformation.{dos_flags, standard_times}
 use Rattle.ntfs_def.specs.declared.kinds.TheConstants.{STANDARD_INFORMATION}
 use Rattle.volume_def.specs.Files.{Part, content_value, is_of, parts, records_of}
 use Rattle.volume_def.specs.View.{VolumeView}
-use Rattle.mft_table.specs.declared.mft.Mft.{Mft}
-use Rattle.mft_table.specs.Mft.{stage_of, view}
-use Rattle.mft_table.specs.Staging.{record_places}
-use Rattle.file_record.specs.Records.{IsRecordOf}
-use Rattle.file_record.specs.Written.{WritesBytes}
+use Rattle.index_store.specs.MftType.{Mft}
+use Rattle.index_store.specs.Mft.{stage_of, view}
+use Rattle.index_store.specs.Staging.{record_places}
+use Rattle.index_store.specs.Records.{IsRecordOf}
+use Rattle.index_store.specs.FileRecordWritten.{WritesBytes}
 
 -- the DOS flags that are not shown
 abbrev pub hidden_flags : ℕ

@@ -3,20 +3,17 @@ ghost use Rattle.std.specs.Prelude.{◌≡◌, ℕ, [], IfErr, IfOk, IfSome, IsT
 ghost use Rattle.ntfs_def.specs.IndexTree.{Each};
 ghost use Rattle.ntfs_def.specs.Node.{IsOwnEntry};
 ghost use Rattle.ntfs_def.specs.declared.index.NodeForm.TheVariants.{Names};
-ghost use Rattle.index_tree.specs.Search.{Costs, Finds, HasRisingIndex, IsKeyed};
-ghost use Rattle.index_tree.specs.Walk.{HasWalk, IsWalk};
-ghost use Rattle.mft_table.specs.Mft.{MftReads, faults_of, fetched_of, view};
-ghost use Rattle.file_record.specs.FileNos.{CountsNo, IsReadNo};
-ghost use Rattle.file_record.specs.Held.{IsHeldFile};
+ghost use Rattle.index_store.specs.Search.{Costs, Finds, HasRisingIndex, IsKeyed};
+ghost use Rattle.index_store.specs.Walk.{HasWalk, IsWalk};
+ghost use Rattle.index_store.specs.Mft.{MftReads, faults_of, fetched_of, view};
+ghost use Rattle.index_store.specs.FileNos.{CountsNo, IsReadNo};
+ghost use Rattle.index_store.specs.Held.{IsHeldFile};
 ghost use Rattle.index_store.specs.Index.{IsFound};
 ghost use Rattle.index_store.specs.IndexBlocks.{file_no_of};
 ghost use Rattle.dir_index.specs.Held.{nodes_found, root_found, side_of};
 
 use collation::{Collation, FileNameOrder};
-use file_record::{FileNo, FileParts};
-use index_store::{FoundIndex, IndexBlocks};
-use index_tree::{Index, IndexNo};
-use mft_table::Mft;
+use index_store::{FileNo, FileParts, FoundIndex, Index, IndexBlocks, IndexNo, Mft};
 use ntfs_def::NodeForm;
 use std::alloc::Global;
 use upcase::UpCase;

@@ -3,16 +3,14 @@ ghost use Rattle.std.specs.Prelude.{◌≡◌, ◌≤◌, ◌<◌, ℕ, false, I
 ghost use Rattle.ntfs_def.specs.declared.kinds.TheConstants.{STANDARD_INFORMATION};
 ghost use Rattle.volume_def.specs.Coverage.{IsApart};
 ghost use Rattle.volume_def.specs.Readable.{IsFile, WhereReadable};
-ghost use Rattle.mft_table.specs.Mft.{KeepsDisk, faults_of, is_mft_broken, mounted_of, view};
-ghost use Rattle.mft_table.specs.MirrorClusters.{IsMirrorInside};
-ghost use Rattle.file_record.specs.FileNos.{CountsNo, IsReadNo};
-ghost use Rattle.file_record.specs.Held.{parts_held};
-ghost use Rattle.file_record.specs.Written.{PartHeld};
+ghost use Rattle.index_store.specs.Mft.{KeepsDisk, faults_of, is_mft_broken, mounted_of, view};
+ghost use Rattle.index_store.specs.MirrorClusters.{IsMirrorInside};
+ghost use Rattle.index_store.specs.FileNos.{CountsNo, IsReadNo};
+ghost use Rattle.index_store.specs.Held.{parts_held};
+ghost use Rattle.index_store.specs.FileRecordWritten.{PartHeld};
 ghost use Rattle.dir_index.specs.Standard.{IsInitialized, IsTooShort, SetsStandard, StagesNothing, StagesRecordOf, TellsNode, TellsNodeAt};
 
-use file_record::{FileNo, FileParts};
-use index_store::find_first;
-use mft_table::Mft;
+use index_store::{FileNo, FileParts, Mft, find_first};
 use ntfs_def::kinds::STANDARD_INFORMATION;
 use ntfs_def::standard_information::{ACCESSED, CREATED, FLAGS, MODIFIED, RECORD_CHANGED};
 use std::alloc::Global;

@@ -10,8 +10,8 @@ use Rattle.mark_write.specs.declared.log.Span.{Span}
 use Rattle.first_mark.proofs.Below.{outside-log}
 use Rattle.volume_mark.specs.SameVolume.{AgreesButMark, IsOfLog}
 use Rattle.volume_mark.proofs.AgreeLaws.{agrees-written}
-use Rattle.in_place.specs.Unnamed.{LiesApart}
-use Rattle.in_place_owed.proofs.CallsOwed.{apart-of}
+use Rattle.value_owed.specs.Unnamed.{LiesApart}
+use Rattle.value_owed.proofs.CallsOwed.{apart-of}
 use Rattle.edit_written.specs.Finished.{IsFinished, IsPlaceOf}
 use Rattle.edit_written.specs.LeavesAlone.{LeavesAlone}
 use Rattle.edit_written.proofs.LogSpansStay.{spans-stay}

@@ -25,11 +25,11 @@ use Rattle.mark_write.specs.declared.log.Span.{Span}
 use Rattle.volume_mark.specs.Mark.{IsFlagOf}
 use Rattle.volume_mark.proofs.LiesLaws.{flag-copied}
 use Rattle.volume_mark.proofs.MarkLaws.{flag-tells}
-use Rattle.in_place.specs.Behind.{MarksBehind}
-use Rattle.in_place.proofs.RewriteLaws.{Rewrites-same}
+use Rattle.value_owed.specs.Behind.{MarksBehind}
+use Rattle.value_owed.proofs.RewriteLaws.{Rewrites-same}
 use Rattle.first_mark.proofs.FinishedLaws.{finished}
-use Rattle.in_place_owed.proofs.CallsOwed.{apart-of}
-use Rattle.in_place_owed.proofs.LaterLaws.{later}
+use Rattle.value_owed.proofs.CallsOwed.{apart-of}
+use Rattle.value_owed.proofs.LaterLaws.{later}
 use Rattle.edit_written.specs.Finished.{IsFinished, IsPlaceOf}
 use Rattle.edit_written.specs.LeavesAlone.{LeavesAlone}
 use Rattle.edit_written.proofs.AgreesLaws.{none-within}

@@ -12,7 +12,7 @@ use Rattle.edit_def.specs.Edited.{is_table_key}
 use Rattle.edit_def.specs.Kept.{key_of}
 use Rattle.session_def.specs.FirstMark.{is_first_key}
 use Rattle.mft_table.specs.HeldTables.{AreStored}
-use Rattle.in_place.specs.Behind.{MarksBehind}
+use Rattle.value_owed.specs.Behind.{MarksBehind}
 use Rattle.edit_written.proofs.LeftAlone.{value-kept}
 
 -- what the first mark does not name has the value that it had

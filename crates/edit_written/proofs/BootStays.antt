@@ -13,8 +13,8 @@ use Rattle.volume_def.proofs.BlockLaws.{block_of-whole}
 use Rattle.volume_edits.proofs.TableParts.{first-place, root-written}
 use Rattle.tree_model.specs.Facts.{IsVolumeOf}
 use Rattle.volume_mark.proofs.SectorBytes.{length-sector_in}
-use Rattle.in_place.specs.Unnamed.{LiesApart}
-use Rattle.in_place.proofs.StillApart.{apart-sound}
+use Rattle.value_owed.specs.Unnamed.{LiesApart}
+use Rattle.value_owed.proofs.StillApart.{apart-sound}
 use Rattle.edit_written.specs.LeavesAlone.{LeavesAlone}
 use Rattle.edit_written.proofs.SameBytes.{sector-long}
 

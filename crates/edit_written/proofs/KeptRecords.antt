@@ -9,10 +9,10 @@ use Rattle.volume_def.specs.Files.{Record, is_base, is_directory, record_in, rec
 use Rattle.volume_def.specs.Sound.{IsSound, Links}
 use Rattle.volume_def.specs.View.{VolumeView}
 use Rattle.edit_def.specs.Kept.{Key, key_of}
-use Rattle.in_place.specs.InPlace.{KeepsBlock, Rewrites, RewritesBlock}
-use Rattle.in_place.specs.Unnamed.{NamesNoneOf}
-use Rattle.in_place.proofs.SameRecords.{in-use}
-use Rattle.in_place_owed.proofs.RecordsOwed.{first-own}
+use Rattle.value_owed.specs.InPlace.{KeepsBlock, Rewrites, RewritesBlock}
+use Rattle.value_owed.specs.Unnamed.{NamesNoneOf}
+use Rattle.value_owed.proofs.SameRecords.{in-use}
+use Rattle.value_owed.proofs.RecordsOwed.{first-own}
 
 -- the root directory has a record, so the table has the first ones
 pub root-inside : (view : VolumeView) → IsSound view → ROOT < view.layout.count

@@ -13,13 +13,13 @@ use Rattle.edit_def.specs.Edited.{is_table_key}
 use Rattle.edit_def.specs.Kept.{KeepsBut, Key, either, key_of}
 use Rattle.record_edits.proofs.BlockEdits.{part-at}
 use Rattle.volume_mark.proofs.DiskLaws.{covered-by}
-use Rattle.in_place.specs.InPlace.{Rewrites}
-use Rattle.in_place.specs.Unnamed.{LiesApart, NamesNoneOf}
-use Rattle.in_place.proofs.BehindLaws.{log-bytes}
-use Rattle.in_place.proofs.KeptInPlace.{kept}
-use Rattle.in_place.proofs.OtherClusters.{clusters-kept, part-kept}
-use Rattle.in_place.proofs.OtherParts.{at-other}
-use Rattle.in_place.proofs.PlacesSame.{value-other}
+use Rattle.value_owed.specs.InPlace.{Rewrites}
+use Rattle.value_owed.specs.Unnamed.{LiesApart, NamesNoneOf}
+use Rattle.value_owed.proofs.BehindLaws.{log-bytes}
+use Rattle.value_owed.proofs.KeptInPlace.{kept}
+use Rattle.value_owed.proofs.OtherClusters.{clusters-kept, part-kept}
+use Rattle.value_owed.proofs.OtherParts.{at-other}
+use Rattle.value_owed.proofs.PlacesSame.{value-other}
 use Rattle.edit_written.specs.LeavesAlone.{LeavesAlone}
 use Rattle.edit_written.proofs.KeptRecords.{first-kept}
 

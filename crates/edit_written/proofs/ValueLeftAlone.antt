@@ -19,7 +19,7 @@ use Rattle.record_edits.specs.RecordEdit.{parts_made}
 use Rattle.record_edits.proofs.BlockEdits.{apart-from, attribute-stays, base-file, edit-of}
 use Rattle.record_edits.proofs.PlaceEdits.{clusters-kept, part-unnamed, same}
 use Rattle.session_def.specs.Cost.{log_bytes, log_parts, log_size}
-use Rattle.in_place.specs.Unnamed.{LiesApart}
+use Rattle.value_owed.specs.Unnamed.{LiesApart}
 use Rattle.value_owed.specs.Below.{EditsAlone}
 use Rattle.value_owed.proofs.Below as below
 use Rattle.value_owed.proofs.ValueSame.{other-file}

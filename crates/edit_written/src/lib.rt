@@ -3,4 +3,5 @@
 
 mod laws;
 
+pub use first_mark::{find_flag, find_log};
 pub use laws::{left_alone, staged_laws, written_laws};

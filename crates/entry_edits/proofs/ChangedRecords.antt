@@ -28,7 +28,7 @@ use Rattle.volume_def.proofs.ValueLaws.{value-frame}
 use Rattle.volume_edits.specs.Owners.{HasOwners}
 use Rattle.volume_edits.specs.Clusters.{ChangesStream}
 use Rattle.volume_edits.proofs.ChangedStream.{clusters-kept, readable-kept, records-kept}
-use Rattle.edit_def.specs.Kept.{KeepsBut, is_kept, key_of, told_by}
+use Rattle.volume_mark.specs.EditDefKept.{KeepsBut, is_kept, key_of, told_by}
 use Rattle.entry_edits.specs.Refreshable.{index_name, is_part_key}
 
 -- an attribute that is not of this type of the directory's index is one of another file, or no part is of both

@@ -6,3 +6,17 @@ pub mod RefreshedVolume
 pub mod RefreshedIndexes
 pub mod RefreshedReading
 pub mod RefreshedKeys
+-- Laws of the crates below, passed on to those above.
+pub use Rattle.dir_index.proofs.StandardLaws
+pub use Rattle.dir_index.proofs.RootLaws
+pub use Rattle.dir_index.proofs.ReplacedRecords
+pub use Rattle.dir_index.proofs.FewStaged
+pub use Rattle.volume_mark.proofs.ReadingKept
+pub use Rattle.volume_mark.proofs.WrittenLaws
+pub use Rattle.volume_mark.proofs.OutsideLaws
+pub use Rattle.volume_mark.proofs.SectorBytes
+pub use Rattle.dir_index.proofs.IndexTreeLaws
+pub use Rattle.dir_index.proofs.MovedWalks
+pub use Rattle.dir_index.proofs.IndexRecordLaws
+pub use Rattle.dir_index.proofs.HeldIndexLaws
+pub use Rattle.dir_index.proofs.ToldLaws

@@ -19,11 +19,11 @@ use Rattle.volume_def.proofs.SoundLaws.{readable-sound}
 use Rattle.volume_edits.specs.Owners.{HasTablePart}
 use Rattle.volume_edits.proofs.OwnerLaws.{HasOwners-sound}
 use Rattle.ntfs_def.specs.declared.records.TheConstants.{VOLUME}
-use Rattle.edit_def.specs.Items.{ChangesItems, HasItems, KeepsItems}
-use Rattle.edit_def.specs.Names.{Numbers, numbers_by, numbers_in}
-use Rattle.edit_def.proofs.IndexLaws.{directory-refreshes, directory-same, index-same, items-kept, root-there}
-use Rattle.edit_def.proofs.NamesLaws.{bases-of}
-use Rattle.index_tree.proofs.IndexTreeLaws.{one_list}
+use Rattle.volume_mark.specs.Items.{ChangesItems, HasItems, KeepsItems}
+use Rattle.volume_mark.specs.Names.{Numbers, numbers_by, numbers_in}
+use Rattle.volume_mark.proofs.IndexLaws.{directory-refreshes, directory-same, index-same, items-kept, root-there}
+use Rattle.volume_mark.proofs.NamesLaws.{bases-of}
+use Rattle.dir_index.proofs.IndexTreeLaws.{one_list}
 use Rattle.dir_index.specs.Links.{names_index}
 use Rattle.dir_index.specs.Refreshed.{RefreshesEntry}
 use Rattle.dir_index.specs.declared.entry.DuplicatedInformation.{DuplicatedInformation}

@@ -26,9 +26,9 @@ use Rattle.volume_def.specs.IndexesClause.{HasIndex, IndexParts, IsDirectoryInde
 use Rattle.volume_def.specs.Table.{TableLayout, cluster_bytes}
 use Rattle.volume_def.specs.View.{VolumeView}
 use Rattle.volume_edits.specs.Quiet.{with_blocks}
-use Rattle.index_tree.specs.Edit.{short_nodes}
-use Rattle.index_tree.specs.Replace as tree
-use Rattle.index_tree.proofs.MovedWalks.{SaysAt, spread_there, walks_moved}
+use Rattle.dir_index.specs.Edit.{short_nodes}
+use Rattle.dir_index.specs.Replace as tree
+use Rattle.dir_index.proofs.MovedWalks.{SaysAt, spread_there, walks_moved}
 use Rattle.dir_index.specs.Below.{index_record_on, is_index_record_at}
 use Rattle.dir_index.proofs.Below.{records-of}
 use Rattle.dir_index.specs.Links.{names_index}

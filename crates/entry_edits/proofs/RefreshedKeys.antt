@@ -12,11 +12,11 @@ use Rattle.ntfs_def.specs.declared.kinds.TheConstants.{DATA, STANDARD_INFORMATIO
 use Rattle.volume_def.specs.Files.{Part, content_value, is_of, parts, parts_at, records_of}
 use Rattle.volume_def.specs.Values.{first_part}
 use Rattle.volume_def.specs.View.{VolumeView}
-use Rattle.tree_model.specs.Reading.{standard_flags, standard_of}
-use Rattle.tree_model.specs.declared.tree.TheConstants.{SHOWN_FLAGS}
-use Rattle.edit_def.specs.Items.{IsCurrent, stream_sizes}
-use Rattle.session_def.specs.Indexes.{KeepsRest}
-use Rattle.session_def.specs.Kept.{other_flags}
+use Rattle.dir_index.specs.Reading.{standard_flags, standard_of}
+use Rattle.dir_index.specs.tree.TheConstants.{SHOWN_FLAGS}
+use Rattle.volume_mark.specs.Items.{IsCurrent, stream_sizes}
+use Rattle.volume_mark.specs.Indexes.{KeepsRest}
+use Rattle.volume_mark.specs.Kept.{other_flags}
 use Rattle.volume_mark.proofs.ReadingKept.{find-passing}
 use Rattle.dir_index.specs.Refreshed.{RefreshesEntry, TellsFile}
 use Rattle.dir_index.specs.Standard.{hidden_flags}

@@ -15,14 +15,14 @@ use Rattle.volume_def.specs.FileNames.{names_of}
 use Rattle.volume_def.specs.Files.{records_of}
 use Rattle.volume_def.specs.Table.{TableLayout}
 use Rattle.volume_def.specs.View.{VolumeView}
-use Rattle.tree_model.specs.Hidden.{is_hidden, is_system, leads_to_system}
-use Rattle.tree_model.specs.Reading.{all_links, is_hidden_link, link_by, node_at, read, tree_nodes}
-use Rattle.tree_model.specs.Tree.{link_above}
-use Rattle.tree_model.specs.declared.tree.Link.{Link}
-use Rattle.tree_model.specs.declared.tree.Node.{Node}
-use Rattle.edit_def.specs.Kept.{IsUnseen}
-use Rattle.edit_def.specs.Names.{Numbers}
-use Rattle.edit_def.proofs.NodeLaws.{node-kept}
+use Rattle.dir_index.specs.Hidden.{is_hidden, is_system, leads_to_system}
+use Rattle.dir_index.specs.Reading.{all_links, is_hidden_link, link_by, node_at, read, tree_nodes}
+use Rattle.dir_index.specs.Tree.{link_above}
+use Rattle.dir_index.specs.Link.{Link}
+use Rattle.dir_index.specs.Node.{Node}
+use Rattle.volume_mark.specs.EditDefKept.{IsUnseen}
+use Rattle.volume_mark.specs.Names.{Numbers}
+use Rattle.volume_mark.proofs.NodeLaws.{node-kept}
 use Rattle.volume_mark.proofs.HiddenNodes.{hidden-node}
 use Rattle.dir_index.specs.Refreshed.{RefreshesEntry}
 use Rattle.dir_index.specs.declared.entry.DuplicatedInformation.{DuplicatedInformation}

@@ -27,12 +27,12 @@ use Rattle.volume_edits.specs.Owners.{HasOwners}
 use Rattle.volume_edits.specs.Quiet.{with_blocks}
 use Rattle.volume_edits.proofs.ChangedStream.{readable-kept}
 use Rattle.volume_edits.proofs.QuietParts as quiet
-use Rattle.edit_def.specs.Items.{HasItems}
-use Rattle.edit_def.specs.Kept.{KeepsBut, key_of}
-use Rattle.edit_def.specs.Names.{numbers_at}
-use Rattle.edit_def.proofs.IndexLaws.{fold-kept}
-use Rattle.edit_def.proofs.KeptLaws.{KeepsBut-then, KeepsFile-more}
-use Rattle.file_record.specs.Written.{WritesBytes}
+use Rattle.volume_mark.specs.Items.{HasItems}
+use Rattle.volume_mark.specs.EditDefKept.{KeepsBut, key_of}
+use Rattle.volume_mark.specs.Names.{numbers_at}
+use Rattle.volume_mark.proofs.IndexLaws.{fold-kept}
+use Rattle.volume_mark.proofs.KeptLaws.{KeepsBut-then, KeepsFile-more}
+use Rattle.dir_index.specs.FileRecordWritten.{WritesBytes}
 use Rattle.dir_index.specs.Links.{names_index}
 use Rattle.dir_index.specs.Refreshed.{RefreshesEntry}
 use Rattle.dir_index.specs.declared.entry.DuplicatedInformation.{DuplicatedInformation}

@@ -8,7 +8,7 @@ use Rattle.ntfs_def.specs.Attribute.{Body, NonResident, Resident, value_of}
 use Rattle.ntfs_def.specs.Record.{Reference}
 use Rattle.ntfs_def.specs.declared.kinds.TheConstants.{DATA, INDEX_ROOT}
 use Rattle.ntfs_def.specs.declared.records.TheConstants.{MFT, MFT_MIRROR, VOLUME}
-use Rattle.attr_view.specs.Values.{overwritten}
+use Rattle.dir_index.specs.Values.{overwritten}
 use Rattle.list_laws.specs.Replaces.{Replaces}
 use Rattle.list_laws.proofs.MemberLaws.{Contains-from_filter, filter-map}
 use Rattle.list_laws.proofs.ReplacesLaws.{Replaces-filter}
@@ -29,9 +29,9 @@ use Rattle.volume_edits.specs.Quiet.{EditsKind, RewritesKind, with_blocks}
 use Rattle.volume_edits.proofs.OwnerLaws.{lies-outside}
 use Rattle.volume_edits.proofs.QuietParts as quiet
 use Rattle.volume_edits.proofs.RecordEdits as written
-use Rattle.edit_def.specs.Kept.{KeepsBut, KeepsFile, Key, is_kept, kept_told, key_of, told_by}
-use Rattle.edit_def.specs.Names.{numbers_at, numbers_by}
-use Rattle.file_record.specs.Written.{WritesBytes}
+use Rattle.volume_mark.specs.EditDefKept.{KeepsBut, KeepsFile, Key, is_kept, kept_told, key_of, told_by}
+use Rattle.volume_mark.specs.Names.{numbers_at, numbers_by}
+use Rattle.dir_index.specs.FileRecordWritten.{WritesBytes}
 use Rattle.entry_edits.specs.Refreshable.{index_name, is_part_key, is_root_key, is_table_data}
 
 -- one item of a list of one

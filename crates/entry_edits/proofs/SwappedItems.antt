@@ -8,7 +8,7 @@ use Rattle.ntfs_def.specs.IndexTree.{Ascends, Each}
 use Rattle.ntfs_def.specs.KeyOrder.{compare_units, name_order}
 use Rattle.ntfs_def.specs.Node.{Item}
 use Rattle.list_laws.proofs.MemberLaws.{Contains-cases, Contains-nil}
-use Rattle.index_tree.specs.Edit.{IsAt}
+use Rattle.dir_index.specs.Edit.{IsAt}
 
 less-equal : Less ≡ Equal → ⊥
 less-equal e = cc

@@ -8,8 +8,8 @@ use Rattle.volume_def.specs.Files.{records_of}
 use Rattle.volume_def.specs.Readable.{IsReadableVolume}
 use Rattle.volume_def.specs.View.{VolumeView}
 use Rattle.volume_edits.specs.Owners.{HasOwners}
-use Rattle.edit_def.specs.Kept.{Key, either}
-use Rattle.edit_def.specs.Names.{HasRightBases}
+use Rattle.volume_mark.specs.EditDefKept.{Key, either}
+use Rattle.volume_mark.specs.Names.{HasRightBases}
 
 -- the name of a directory's index
 abbrev pub index_name : List ℕ

@@ -5,8 +5,8 @@ use Rattle.ntfs_def.specs.declared.kinds.TheConstants.{DATA}
 use Rattle.volume_def.specs.Files.{parts, parts_at, records_of}
 use Rattle.volume_def.specs.Values.{first_part}
 use Rattle.volume_def.specs.View.{VolumeView}
-use Rattle.tree_model.specs.Reading.{standard_flags, standard_of}
-use Rattle.edit_def.specs.Items.{stream_sizes}
+use Rattle.dir_index.specs.Reading.{standard_flags, standard_of}
+use Rattle.volume_mark.specs.Items.{stream_sizes}
 use Rattle.dir_index.specs.declared.entry.DuplicatedInformation.{DuplicatedInformation}
 
 -- The times and the flags of its $STANDARD_INFORMATION, and the sizes of its unnamed stream.

@@ -3,4 +3,5 @@
 
 mod laws;
 
+pub use dir_index::{FoundIndex, IndexBlocks, IndexBlocksMut, find_first, find_index};
 pub use laws::{refreshed_clauses, refreshed_items, refreshed_keys};

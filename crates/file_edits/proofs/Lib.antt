@@ -15,3 +15,12 @@ pub mod FileKeeps
 pub mod FileComes
 pub mod FileGoes
 pub mod FileNames
+-- Laws of the crates below, passed on to those above.
+pub use Rattle.record_edits.proofs.WholeEdits
+pub use Rattle.record_edits.proofs.BlockEdits
+pub use Rattle.record_edits.proofs.FileEdits
+pub use Rattle.record_edits.proofs.PartEdits
+pub use Rattle.record_edits.proofs.RecordEdits
+pub use Rattle.record_edits.proofs.CostLaws
+pub use Rattle.record_edits.proofs.FlushLaws
+pub use Rattle.record_edits.proofs.FillLaws

@@ -19,15 +19,15 @@ use Rattle.mft_table.specs.InUse.{IsSoundVolume}
 use Rattle.mft_table.specs.Mft.{KeepsDisk, stage_of, view}
 use Rattle.mft_table.specs.Mounted.{mounted_layout}
 use Rattle.mft_table.specs.Staging.{record_places}
-use Rattle.file_makes.proofs.FewStaged.{few-staged, two-alone}
-use Rattle.record_bits.specs.HeldRows.{IsOfRows}
-use Rattle.record_bits.specs.StoredRow.{StoresRow}
+use Rattle.made_edits.proofs.FewStaged.{few-staged, two-alone}
+use Rattle.made_edits.specs.HeldRecordBits.{IsOfRecordBits}
+use Rattle.made_edits.specs.StoredRecordBit.{StoresRecordBit}
 use Rattle.file_makes.specs.Steps.{ComesFlagged, IsWrittenRecord, MakesRecord, StagesFile}
 use Rattle.file_makes.proofs.FreeParts.{parts-free}
 
 pub flagged-comes : (old flagged new : VolumeView) (mounted : Mounted) (sectors n : ℕ) (standard key : List ℕ) → IsTrue old.told
     → IsSoundVolume old mounted → HasOwners old → LiesOn sectors old.layout → IsOrdinaryFree mounted.records n
-    → 1024 * n + 1024 ≤ old.layout.initialized → StoresRow old flagged n
+    → 1024 * n + 1024 ≤ old.layout.initialized → StoresRecordBit old flagged n
     → (IsWrittenRecord flagged n → parts (records_of flagged) n ≡ [] → MakesRecord flagged new n standard key)
     → ComesFlagged old new n standard key
 flagged-comes old flagged new mounted sectors n standard key told is owners lies free low stores makes =
@@ -43,7 +43,7 @@ flagged-comes old flagged new mounted sectors n standard key told is owners lies
 
 -- THE SECTORS: that of the flag, and those of the record
 pub flagged-places : {D : Type 0} (g : Ghosts D) (a b c : Mft D g) (n : ℕ) → KeepsDisk g a b
-    → ((sector : ℕ) → Contains (places g (stage_of g b)) sector → Contains (places g (stage_of g a)) sector ⊎ IsOfRows (view g a) sector)
+    → ((sector : ℕ) → Contains (places g (stage_of g b)) sector → Contains (places g (stage_of g a)) sector ⊎ IsOfRecordBits (view g a) sector)
     → StagesOnly g (record_places (view g b).layout n) (stage_of g b) (stage_of g c) → StagesFile g (view g a) n a c
 flagged-places g a b c n kept first second sector there = elim (second.only sector there) [
   | inl before ↦ elim (first sector before) [ inl was ↦ inl was | inr row ↦ inr (inl row) ]

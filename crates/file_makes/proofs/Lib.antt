@@ -9,4 +9,7 @@ pub mod RoomKept
 pub mod MadeUnder
 pub mod MakeLaws
 pub mod StandardLaws
-pub mod FewStaged
+-- Laws of the crates below, passed on to those above.
+pub use Rattle.made_edits.proofs.BetweenMade
+pub use Rattle.made_edits.proofs.LeftMade
+pub use Rattle.made_edits.proofs.SoundMade

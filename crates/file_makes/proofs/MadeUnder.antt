@@ -1,13 +1,14 @@
 -- A FILE MADE UNDER ITS NAME: what stands between its record and its entry, and what the steps are together.
-use Rattle.std.proofs.Common.{◌≡◌, ◌+◌, ◌≤◌, ℕ, Bool, List, [], None, codes, cond, inl, inr, length, ltb, sym, ap, subst, ◌∙◌, arith}
+use Rattle.std.proofs.Common.{◌≡◌, ◌+◌, ◌≤◌, ℕ, Bool, List, [], None, true, codes, cond, inl, inr, length, ltb, sym, ap, subst, ◌∙◌, arith}
 use Rattle.std.specs.Prelude.{Contains, IsSomeAnd, IsTrue, filter}
 use Rattle.std.specs.List.{flat_map}
 use Rattle.vol_disk.specs.declared.Disk.{Ghosts}
 use Rattle.vol_stage.specs.Staged.{places}
 use Rattle.ntfs_def.specs.Units.{wide}
 use Rattle.ntfs_def.specs.declared.kinds.TheConstants.{INDEX_ALLOCATION}
-use Rattle.ntfs_def.specs.FileName.{FileName}
+use Rattle.ntfs_def.specs.FileName.{FileName, key_units, name_in}
 use Rattle.ntfs_def.specs.Record.{reference_in}
+use Rattle.ntfs_def.specs.Rounded.{up_to_8}
 use Rattle.volume_def.specs.CaseClause.{volume_fold}
 use Rattle.volume_def.specs.Files.{is_base, is_of, record_in, record_on}
 use Rattle.volume_def.specs.IndexesClause.{IsDirectoryIndex}
@@ -25,18 +26,18 @@ use Rattle.mft_table.specs.InUse.{IsSoundVolume}
 use Rattle.tree_model.proofs.NamesLaws.{IsShown, is_shown}
 use Rattle.edit_def.specs.Marks.{AreRight, Marks}
 use Rattle.edit_def.proofs.IndexLaws.{items-of-directory}
-use Rattle.record_calls.specs.Marks.{marks_of}
+use Rattle.made_edits.specs.Marks.{marks_of}
 use Rattle.stream_overwrites.proofs.QuietSound.{stored-right}
-use Rattle.dir_index.specs.Replaced.{StagesRecords}
-use Rattle.file_makes.proofs.FewStaged.{each-few, few-index, few-staged}
-use Rattle.index_puts.specs.LeafRoom.{names_of_directory}
+use Rattle.made_edits.specs.Replaced.{StagesRecords}
+use Rattle.made_edits.proofs.FewStaged.{each-few, few-index, few-staged}
+use Rattle.tree_model.specs.LeafRoom.{has_leaf_room, names_of_directory}
 use Rattle.made_edits.specs.Between.{HasNewFile}
-use Rattle.made_edits.specs.Comes.{ComesNamed, ComesUnder, new_reference}
+use Rattle.made_edits.specs.Comes.{ComesNamed, ComesUnder, IsNewKey, new_reference}
 use Rattle.made_edits.proofs.BetweenMade.{has-new-file}
 use Rattle.made_edits.proofs.IndexPut.{no-equal}
 use Rattle.made_edits.proofs.ShownDirectory.{directory-index}
 use Rattle.file_makes.specs.Steps.{ComesFlagged, StagesFile}
-use Rattle.file_makes.specs.Under.{EntersName, MayEnter, MayMake, StagesMade, entry_bytes}
+use Rattle.file_makes.specs.Under.{EntersName, HasNameRoom, MayEnter, MayMake, StagesMade, entry_bytes}
 use Rattle.file_makes.proofs.RoomKept.{room-kept}
 
 -- the steps of the record, in the words of those above
@@ -62,7 +63,16 @@ same-marks : {a b c d : List Bool} → a ≡ b → c ≡ d
     → (let m : Marks = record { clusters = a; records = c } in m) ≡ record { clusters = b; records = d }
 same-marks e f = cc
 
-right-marks : (view : VolumeView) (mounted : Mounted) → IsSoundVolume view mounted → AreRight view (marks_of mounted)
+-- the room for a new name is that for the entry of its value
+new-room : (view : VolumeView) (dir : ℕ) (units : List ℕ) (moment : ℕ) (key : List ℕ) → IsNewKey view dir units moment key
+    → HasNameRoom view dir units → has_leaf_room view dir (key_units key) (entry_bytes key) ≡ true
+unfolding name_in
+new-room view dir units moment key is room =
+    ap (λ (us : List ℕ). has_leaf_room view dir us (entry_bytes key)) (ap (λ (f : FileName). f.units) is.name)
+    ∙ ap (λ (len : ℕ). has_leaf_room view dir units (up_to_8 (16 + len))) is.long
+    ∙ ap (λ (len : ℕ). has_leaf_room view dir units (up_to_8 len)) (omega arith) ∙ room
+
+pub right-marks : (view : VolumeView) (mounted : Mounted) → IsSoundVolume view mounted → AreRight view (marks_of mounted)
 right-marks view mounted is =
     subst (AreRight view) (sym (same-marks is.stored.clusters_are is.stored.records_are)) (stored-right view is.sound)
 
@@ -97,8 +107,9 @@ module _ (old new : VolumeView) (was now : Mounted) (n dir : ℕ) (standard key 
     has = file.items dir file.other index.items (items-of-directory old dir index);
     case = same ∙ is.stored.upcase_is ∙ sym file.case_table;
     absent = no-equal old dir may.units key index (ap (λ (f : FileName). f.units) may.new_key.name) may.can.absent (volume_fold new);
-    room = room-kept old new (marks_of now) n dir standard key file may.can.parent.apart.owners may.can.parent.apart.some key (entry_bytes key)
-        ∙ may.room;
+    room = room-kept old new (marks_of now) n dir standard key file may.can.parent.apart.owners may.can.parent.apart.some (key_units key)
+        (entry_bytes key)
+        ∙ new-room old dir may.units may.moment key may.new_key may.room;
   }
 
   -- the index of the directory has the parts that it had, and the volume lies where it lay

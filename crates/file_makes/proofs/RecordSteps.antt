@@ -1,6 +1,7 @@
 -- THE RECORD OF A NEW FILE, step by step.
 use Rattle.std.proofs.Common.{◌≡◌, ◌+◌, ◌*◌, ◌≤◌, ℕ, Bool, List, [], Option, Some, None, length, false, inl, inr, refl, sym, ap, subst, ◌∙◌, arith}
-use Rattle.std.specs.Prelude.{Contains, IsSomeAnd, IsTrue, slice_get}
+use Rattle.std.specs.Prelude.{◌∷◌, Contains, IsSomeAnd, IsTrue, map, slice_get}
+use Rattle.list_laws.proofs.MemberLaws.{Contains-map}
 use Rattle.std.proofs.lemmas.Bool.{cases_lt}
 use Rattle.ntfs_def.specs.Attribute.{attributes}
 use Rattle.ntfs_def.specs.Record.{used_size}
@@ -25,9 +26,11 @@ use Rattle.mft_table.proofs.DiskKept.{KeepsDisk-stages}
 use Rattle.file_record.specs.declared.held.Held.{Held}
 use Rattle.file_record.specs.declared.parts.FileParts.{FileParts}
 use Rattle.file_record.specs.Attributes.{InsertsAttribute}
+use Rattle.file_record.specs.Extensions.{HoldsNewBase}
 use Rattle.file_record.specs.Held.{RecordHeld, file_number}
+use Rattle.file_record.specs.Links.{HoldsBase, HoldsSame}
 use Rattle.file_record.specs.Written.{IsWholeFile}
-use Rattle.file_makes.specs.Steps.{ComesSecond, FillsRecord, IsWrittenRecord}
+use Rattle.file_makes.specs.Steps.{ComesSecond, FillsRecord, HasRoomFor, HasUsed, IsWrittenRecord}
 
 -- what is said twice of the record that is held
 both-said : (o : Option Held) (P Q : Held → Type 0) → IsSomeAnd o P → IsSomeAnd o Q → (one : Held) × (o ≡ Some one) × P one × Q one
@@ -41,6 +44,63 @@ said-of o one P is p = subst (λ o. IsSomeAnd o P) (sym is) p
 abbrev pub HasRoom : FileParts → ℕ → Type 0
 HasRoom file len = RecordHeld file 0 (λ held. (1 ≤ length (attributes held.block)) × (used_size held.block + len ≤ 1024)
     × (held.number ≡ file_number file))
+
+-- WHAT IS HELD FIRST, of lists of records.
+abbrev FirstHas : List Held → ℕ → ℕ → Type 0
+FirstHas records n used = IsSomeAnd (slice_get records 0) (λ held. (1 ≤ length (attributes held.block)) × (used_size held.block ≡ used)
+    × (held.number ≡ n))
+
+abbrev FirstGets : List Held → List Held → (Held → Held → Type 0) → Type 0
+FirstGets olds news P = IsSomeAnd (slice_get olds 0) (λ was. IsSomeAnd (slice_get news 0) (P was))
+
+first-room : (records : List Held) (n used len : ℕ) → used + len ≤ 1024 → FirstHas records n used
+    → IsSomeAnd (slice_get records 0) (λ held. (1 ≤ length (attributes held.block)) × (used_size held.block + len ≤ 1024) × (held.number ≡ n))
+first-room [] n used len fits has = absurd has
+first-room (one ∷ rest) n used len fits has = (has.0, (let is = has.1 in omega (arith, fits, is)), has.2)
+
+first-more : (olds news : List Held) (n used len : ℕ) → map (λ (held : Held). held.number) news ≡ map (λ (held : Held). held.number) olds
+    → FirstGets olds news (λ was held. used_size held.block ≡ used_size was.block + len)
+    → FirstGets olds news (λ was held. length (attributes held.block) ≡ length (attributes was.block) + 1)
+    → FirstHas olds n used → FirstHas news n (used + len)
+first-more [] news n used len numbers room count has = absurd has
+first-more (was ∷ olds) [] n used len numbers room count has = absurd room
+first-more (was ∷ olds) (held ∷ news) n used len numbers room count has =
+    ((omega (arith, count)), room ∙ ap (λ k. k + len) has.1, same numbers ∙ has.2)
+  where
+    same : {ones others : List ℕ} → held.number ∷ ones ≡ was.number ∷ others → held.number ≡ was.number
+    same e = cc
+
+first-held : (records : List Held) (n used : ℕ) → FirstHas records n used → Contains (map (λ (held : Held). held.number) records) n
+first-held [] n used has = absurd has
+first-held (one ∷ rest) n used has =
+    subst (Contains (map (λ (held : Held). held.number) (one ∷ rest))) has.2
+    (Contains-map (λ (held : Held). held.number) (one ∷ rest) one (0, omega arith, refl))
+
+-- so many bytes fit, as the one says or the other
+pub has-room : (file : FileParts) (len : ℕ) → HasRoomFor file len → HasRoom file len
+has-room file len room = first-room file.held.items (file_number file) room.used len room.fits room.has
+
+-- where an attribute was put in, so many more bytes are in use
+pub more-used : (was now : FileParts) (len : ℕ) → HoldsSame was now
+    → RecordHeld was 0 (λ old. RecordHeld now 0 (λ held. used_size held.block ≡ used_size old.block + len))
+    → RecordHeld was 0 (λ old. RecordHeld now 0 (λ held. length (attributes held.block) ≡ length (attributes old.block) + 1))
+    → (used : ℕ) → HasUsed was used → HasUsed now (used + len)
+more-used was now len same room count used has =
+    subst (λ n. FirstHas now.held.items n (used + len)) (sym same.file)
+    (first-more was.held.items now.held.items (file_number was) used len same.records room count has)
+
+-- the base record is held
+pub base-held : (file : FileParts) (used : ℕ) → HasUsed file used → HoldsBase file
+base-held file used has = first-held file.held.items (file_number file) used has
+
+-- of a file that was made just now
+pub new-used : (file : FileParts) → HoldsNewBase file → HasUsed file 160
+new-used file new = by file.held.items new
+  where
+    by : (records : List Held) → IsSomeAnd (slice_get records 0) (λ held. (held.number ≡ file_number file)
+        × (length (attributes held.block) ≡ 1) × (used_size held.block ≡ 160)) → FirstHas records (file_number file) 160
+    by [] has = absurd has
+    by (one ∷ rest) has = ((let count = has.1 in omega (arith, count)), has.2, has.0)
 
 module _ (was : FileParts) (len : ℕ) (room : HasRoom was len) where
   pub second-comes : (old new : VolumeView) (now : FileParts) (attr : List ℕ)

@@ -3,9 +3,10 @@ use Rattle.std.proofs.Common.{◌≡◌, ◌*◌, ◌+◌, ◌<◌, ℕ, Bool, f
 use Rattle.std.proofs.Math.Path.{fun_ext}
 use Rattle.std.specs.Prelude.{filter, slice_range}
 use Rattle.std.specs.Option.{option_and_then, option_map_or}
+use Rattle.ntfs_def.specs.FileName.{key_units}
 use Rattle.ntfs_def.specs.Fixup.{opened_of}
 use Rattle.ntfs_def.specs.IndexTree.{Nodes}
-use Rattle.ntfs_def.specs.KeyOrder.{name_order}
+use Rattle.ntfs_def.specs.KeyOrder.{compare_units}
 use Rattle.ntfs_def.specs.Node.{Node, short_node}
 use Rattle.ntfs_def.specs.Units.{wide}
 use Rattle.ntfs_def.specs.declared.index.NodeForm.TheVariants.{Names}
@@ -20,7 +21,7 @@ use Rattle.volume_def.specs.View.{VolumeView}
 use Rattle.volume_edits.specs.Owners.{HasOwners}
 use Rattle.tree_model.specs.IndexRoom.{directory_index, other_nodes, root_of}
 use Rattle.edit_def.specs.Marks.{Marks}
-use Rattle.index_puts.specs.LeafRoom.{has_leaf_room, has_room, leaf_of, names_of_directory}
+use Rattle.tree_model.specs.LeafRoom.{has_leaf_room, has_room, leaf_of, names_of_directory}
 use Rattle.made_edits.specs.Between.{HasNewFile}
 use Rattle.made_edits.specs.Left.{is_row_key}
 use Rattle.made_edits.proofs.LeftLaws.{value-kept}
@@ -54,7 +55,7 @@ module _ (old new : VolumeView) (marks : Marks) (n dir : ℕ) (standard key : Li
   room-kept sought len =
       let here : (ℕ → List ℕ) → ℕ → Bool = λ records vcn. has_room len (opened_of (records vcn)) in
       let room : (ℕ → ℕ) → (ℕ → List ℕ) → Nodes → Option Node → Bool = λ fold records nodes root.
-      option_map_or (here records) (leaf_of (λ other. name_order fold other sought) nodes root) false in
+      option_map_or (here records) (leaf_of (λ key. compare_units fold (key_units key) sought) nodes root) false in
       let records : VolumeView → ℕ → List ℕ = λ view vcn. stored_index_record view (names_of_directory view dir) vcn in
       ap (λ fold. room fold (records new) (other_nodes new (directory_index dir)) (root_of new (directory_index dir))) file.fold
       ∙ ap (λ all. room (volume_fold old) all (other_nodes new (directory_index dir)) (root_of new (directory_index dir))) (fun_ext record-same)

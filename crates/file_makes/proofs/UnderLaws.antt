@@ -20,9 +20,9 @@ use Rattle.file_record.specs.Base.{HasBaseRecord, HasHeader}
 use Rattle.file_record.specs.Extensions.{reference_of}
 use Rattle.file_record.specs.Held.{AreParts, file_number}
 use Rattle.file_record.proofs.ReadLaws.{view-kept}
-use Rattle.index_store.specs.Index.{index_held}
-use Rattle.dir_index.specs.Replaced.{StagesRecords}
-use Rattle.index_puts.specs.LeafRoom.{names_of_directory}
+use Rattle.made_edits.specs.Index.{index_held}
+use Rattle.made_edits.specs.Replaced.{StagesRecords}
+use Rattle.tree_model.specs.LeafRoom.{names_of_directory}
 
 same-reference : {n m s t : ℕ} → n ≡ m → s ≡ t → (let r : Reference = record { number = n; sequence = s } in r) ≡ record { number = m; sequence = t }
 same-reference e f = cc

@@ -1,8 +1,10 @@
 -- THE RECORD OF A NEW FILE: what the calls on it give, one behind the other, and what is kept of the device meanwhile.
 -- Layout: Linux-NTFS documentation, attributes $FILE_NAME and $DATA, "File Record"; Carrier, File System Forensic Analysis, chapter 13.
-use Rattle.std.specs.Prelude.{◌≡◌, ◌⊎◌, ◌+◌, ◌*◌, ◌≤◌, ℕ, Bool, Contains, IsTrue, List, [], false}
+use Rattle.std.specs.Prelude.{◌≡◌, ◌⊎◌, ◌+◌, ◌*◌, ◌≤◌, ℕ, Bool, Contains, IsTrue, List, [], false, length}
 use Rattle.vol_disk.specs.declared.Disk.{Ghosts}
 use Rattle.vol_stage.specs.Staged.{GoesOn, disk_of, places}
+use Rattle.ntfs_def.specs.Attribute.{attributes}
+use Rattle.ntfs_def.specs.Record.{used_size}
 use Rattle.ntfs_def.specs.declared.kinds.TheConstants.{DATA, FILE_NAME}
 use Rattle.volume_def.specs.Coverage.{IsApart}
 use Rattle.volume_def.specs.View.{VolumeView}
@@ -14,16 +16,27 @@ use Rattle.mft_table.specs.Staging.{record_places}
 use Rattle.file_record.specs.declared.parts.FileParts.{FileParts}
 use Rattle.file_record.specs.Attributes.{InsertsAttribute}
 use Rattle.file_record.specs.Extensions.{CreatesBase}
-use Rattle.file_record.specs.Held.{file_number}
+use Rattle.file_record.specs.Held.{RecordHeld, file_number}
 use Rattle.file_record.specs.Written.{IsWholeFile}
-use Rattle.record_bits.specs.HeldRows.{IsOfRows}
-use Rattle.record_bits.specs.StoredRow.{StoresRow}
+use Rattle.made_edits.specs.HeldRecordBits.{IsOfRecordBits}
+use Rattle.made_edits.specs.StoredRecordBit.{StoresRecordBit}
 
 -- A record of the table of an image that is told, in what was written of the table.
 pub record IsWrittenRecord (view : VolumeView) (n : ℕ) : Type 0 where
   pub told : IsTrue view.told
   pub apart : IsApart view.layout
   pub initialized : 1024 * n + 1024 ≤ view.layout.initialized
+
+-- The first record that is held of a file is its base record; it has an attribute at least, and so many bytes in use ..
+abbrev pub HasUsed : FileParts → ℕ → Type 0
+HasUsed file used = RecordHeld file 0 (λ held. (1 ≤ length (attributes held.block)) × (used_size held.block ≡ used)
+    × (held.number ≡ file_number file))
+
+-- .. and room for so many more
+pub record HasRoomFor (file : FileParts) (len : ℕ) : Type 0 where
+  pub used : ℕ
+  pub has : HasUsed file used
+  pub fits : used + len ≤ 1024
 
 -- THE RECORD IS FILLED behind its $STANDARD_INFORMATION: an empty stream comes, the name in front of that, and the count of that name.
 pub record FillsRecord (old new : VolumeView) (n : ℕ) (key : List ℕ) : Type 0 where
@@ -43,7 +56,7 @@ pub record MakesRecord (old new : VolumeView) (n : ℕ) (standard key : List ℕ
 -- THE FLAG IS STORED, and then the record comes.
 pub record ComesFlagged (old new : VolumeView) (n : ℕ) (standard key : List ℕ) : Type 0 where
   pub flagged : VolumeView
-  pub stores : StoresRow old flagged n
+  pub stores : StoresRecordBit old flagged n
   pub makes : MakesRecord flagged new n standard key
 
 -- AN ATTRIBUTE CAME behind the first one of the record of a file that is held whole, and is so still.
@@ -54,7 +67,7 @@ pub record ComesSecond (old new : VolumeView) (was now : FileParts) (attr : List
 -- The sectors that are staged now were so before, or are of the stored bitmap of records, or those of the record.
 abbrev pub StagesFile : {D : Type 0} (g : Ghosts D) → VolumeView → ℕ → Mft D g → Mft D g → Type 0
 StagesFile g view n old new = (sector : ℕ) → Contains (places g (stage_of g new)) sector
-    → Contains (places g (stage_of g old)) sector ⊎ (IsOfRows view sector ⊎ Contains (record_places view.layout n) sector)
+    → Contains (places g (stage_of g old)) sector ⊎ (IsOfRecordBits view sector ⊎ Contains (record_places view.layout n) sector)
 
 -- Nothing was written or settled, and of the tables that are kept in memory the flags of records alone may have changed.
 pub record KeepsDevice {D : Type 0} (g : Ghosts D) (old new : Mft D g) : Type 0 where

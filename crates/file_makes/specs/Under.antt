@@ -4,7 +4,7 @@ use Rattle.std.specs.Prelude.{◌≡◌, ◌⊎◌, ◌+◌, ◌*◌, ◌≤◌,
 use Rattle.std.specs.List.{flat_map}
 use Rattle.vol_disk.specs.declared.Disk.{Ghosts}
 use Rattle.vol_stage.specs.Staged.{places}
-use Rattle.ntfs_def.specs.FileName.{link_of}
+use Rattle.ntfs_def.specs.FileName.{key_units, link_of}
 use Rattle.ntfs_def.specs.KeyOrder.{name_order}
 use Rattle.ntfs_def.specs.Node.{Item}
 use Rattle.ntfs_def.specs.Record.{reference_in}
@@ -21,10 +21,10 @@ use Rattle.mft_table.specs.Mft.{stage_of}
 use Rattle.mft_table.specs.Staging.{record_places}
 use Rattle.tree_model.specs.declared.tree.Node.{Node}
 use Rattle.edit_def.specs.Items.{HasItems}
-use Rattle.record_bits.specs.HeldRows.{IsOfRows}
-use Rattle.record_bits.specs.StoredRow.{has_row_place}
-use Rattle.index_puts.specs.LeafRoom.{has_leaf_room, names_of_directory}
-use Rattle.index_puts.specs.PutsItem.{PutsItem}
+use Rattle.made_edits.specs.HeldRecordBits.{IsOfRecordBits}
+use Rattle.tree_model.specs.LeafRoom.{has_leaf_room, names_of_directory}
+use Rattle.tree_model.specs.Ways.{entry_len, has_record_bit}
+use Rattle.made_edits.specs.PutsItem.{PutsItem}
 use Rattle.made_edits.specs.Comes.{CanMake, IsNewKey}
 
 -- the bytes of the entry of a key
@@ -41,7 +41,7 @@ pub record MayEnter (view : VolumeView) (dir : ℕ) (table key : List ℕ) : Typ
   pub has : HasItems view dir items
   pub case : table ≡ value_on view (case_parts view)
   pub absent : IsAbsent (name_order (volume_fold view)) key items
-  pub room : has_leaf_room view dir key (entry_bytes key) ≡ true
+  pub room : has_leaf_room view dir (key_units key) (entry_bytes key) ≡ true
 
 -- THE ENTRY CAME, of this key and for the file of this reference.
 pub record EntersName (old new : VolumeView) (dir file : ℕ) (key : List ℕ) : Type 0 where
@@ -51,13 +51,13 @@ pub record EntersName (old new : VolumeView) (dir file : ℕ) (key : List ℕ) :
   pub puts : PutsItem old new dir item
 
 -- A record whose flag has a place in the stored bitmap, and whose block lies in what was written of the table.
-pub record HasRowRoom (view : VolumeView) (n : ℕ) : Type 0 where
-  pub flag : has_row_place view n ≡ true
+pub record HasRecordRoom (view : VolumeView) (n : ℕ) : Type 0 where
+  pub flag : has_record_bit view n ≡ true
   pub block : 1024 * n + 1024 ≤ view.layout.initialized
 
--- The directory has room for the entry of a new name, whatever the moment.
-abbrev pub HasNameRoom : VolumeView → ℕ → List ℕ → ℕ → Type 0
-HasNameRoom view dir units moment = (key : List ℕ) → IsNewKey view dir units moment key → has_leaf_room view dir key (entry_bytes key) ≡ true
+-- The directory has room for the entry of a new name.
+abbrev pub HasNameRoom : VolumeView → ℕ → List ℕ → Type 0
+HasNameRoom view dir units = has_leaf_room view dir units (entry_len units) ≡ true
 
 -- THE VOLUME BEFORE, and the value of a name that may come into this directory, with room for its entry.
 pub record MayMake (view : VolumeView) (dir : ℕ) (key : List ℕ) : Type 0 where
@@ -66,7 +66,7 @@ pub record MayMake (view : VolumeView) (dir : ℕ) (key : List ℕ) : Type 0 whe
   pub can : CanMake view dir node units
   pub moment : ℕ
   pub new_key : IsNewKey view dir units moment key
-  pub room : has_leaf_room view dir key (entry_bytes key) ≡ true
+  pub room : HasNameRoom view dir units
 
 -- Of the sectors that are staged now each was so before, or is of the stored bitmap of records, of the record, or of one record of the index of
 -- the directory: one, two and eight of these.
@@ -75,5 +75,5 @@ pub record StagesMade {D : Type 0} (g : Ghosts D) (view : VolumeView) (n dir : �
   pub few : length vcns ≤ 1
   pub count : length (places g (stage_of g new)) ≤ length (places g (stage_of g old)) + 11
   pub places : (sector : ℕ) → Contains (places g (stage_of g new)) sector → Contains (places g (stage_of g old)) sector
-      ⊎ (IsOfRows view sector ⊎ (Contains (record_places view.layout n) sector
+      ⊎ (IsOfRecordBits view sector ⊎ (Contains (record_places view.layout n) sector
       ⊎ Contains (flat_map (record_sectors view.layout (spot_at (names_of_directory view dir).records)) vcns) sector))

@@ -8,13 +8,13 @@ ghost use Rattle.mft_table.specs.InUse.{IsInUse};
 ghost use Rattle.mft_table.specs.Mft.{faults_of, is_mft_broken, mounted_of, stage_of, view};
 ghost use Rattle.mft_table.specs.MirrorClusters.{IsMirrorInside};
 ghost use Rattle.file_record.specs.FileNos.{CountsNo, IsReadNo};
-ghost use Rattle.record_bits.specs.StoredRow.{has_row_place};
+ghost use Rattle.tree_model.specs.Ways.{has_record_bit};
 ghost use Rattle.file_makes.specs.Steps.{ComesFlagged, KeepsDevice, StagesFile};
 
 use crate::record::make_record;
 use file_record::FileNo;
+use made_edits::store_record_bit;
 use mft_table::Mft;
-use record_bits::store_row;
 use std::alloc::Global;
 use vol_disk::Disk;
 
@@ -38,7 +38,7 @@ pub fn make_flagged<D: Disk>(
     requires volume { IsInUse D.Disk mft.old }
     ensures least { IfOk result (IsLeastFree (mounted_of D.Disk mft.old).records) }
     ensures bits { IfOk result (λ n. mounted_of D.Disk mft.new ≡ with_record_taken (mounted_of D.Disk mft.old) n) }
-    ensures comes { IfOk result (λ n. IsTrue (view D.Disk mft.old).told → has_row_place (view D.Disk mft.old) n ≡ true
+    ensures comes { IfOk result (λ n. IsTrue (view D.Disk mft.old).told → has_record_bit (view D.Disk mft.old) n ≡ true
         → 1024 * n + 1024 ≤ (view D.Disk mft.old).layout.initialized
         → ComesFlagged (view D.Disk mft.old) (view D.Disk mft.new) n standard.now key.now) }
     ensures places { IsTrue (view D.Disk mft.old).told → (n : ℕ) → IsLeastFree (mounted_of D.Disk mft.old).records n
@@ -53,7 +53,7 @@ pub fn make_flagged<D: Disk>(
         Some(n) => n,
         None => unreachable!(),
     };
-    store_row(alloc, mft, n)?;
+    store_record_bit(alloc, mft, n)?;
     let made = make_record(alloc, mft, standard, key)?;
     Ok(made)
 }

@@ -14,5 +14,6 @@ mod under;
 
 pub use entry::new_entry;
 pub use key::new_key;
+pub use made_edits::{can_store_record_bit, has_leaf_room, index_depth};
 pub use make::make_file;
 pub use standard::new_standard;

@@ -10,7 +10,7 @@ ghost use Rattle.tree_model.specs.declared.tree.Node.{Node};
 ghost use Rattle.made_edits.specs.Comes.{CanMake};
 ghost use Rattle.made_edits.specs.Makes.{MakesFile};
 ghost use Rattle.file_makes.specs.Steps.{KeepsDevice};
-ghost use Rattle.file_makes.specs.Under.{HasNameRoom, HasRowRoom, StagesMade};
+ghost use Rattle.file_makes.specs.Under.{HasNameRoom, HasRecordRoom, StagesMade};
 
 use crate::key::new_key;
 use crate::named::make_named;
@@ -22,17 +22,16 @@ use std::alloc::Global;
 use vol_disk::Disk;
 
 /// Makes an empty file under a new name in a directory, at this moment (in units of 100 ns since 1601), with the security descriptor of
-/// this id, in the least free record, whose number is answered: its flag in the stored bitmap of records and in memory, its record, and the entry of its name. All of it is staged, and a discard leaves
-/// the volume as it was. The times of the directory are the caller's to set.
+/// this id, in the least free record, whose number is answered: its flag in the stored bitmap of records and in memory, its record, and the
+/// entry of its name. All of it is staged, and a discard leaves the volume as it was. The times of the directory are the caller's to set.
 ///
 /// By condition, where the contents are told: the directory is shown, and no name of it is the same (`CanMake`); the flag of that record
-/// has a place in the stored bitmap, and its block was written (`HasRowRoom`); and the directory's index has room for the entry in the
+/// has a place in the stored bitmap, and its block was written (`HasRecordRoom`); and the directory's index has room for the entry in the
 /// record in which the search for the name ends (`HasNameRoom`).
 ///
 /// # Errors
 ///
-/// `Device` where the disk failed, and `Memory`, for want of memory or where a record that was just made has no room, as never is so. Some
-/// of it may then be staged: whoever called discards.
+/// `Device` where the disk failed, and `Memory`. Some of it may then be staged: whoever called discards.
 pub fn make_file<D: Disk>(
     alloc: Global,
     mft: &mut Mft<'_, D>,
@@ -49,9 +48,9 @@ pub fn make_file<D: Disk>(
     requires sound { is_mft_broken D.Disk mft.old ≡ false }
     requires volume { IsInUse D.Disk mft.old }
     requires can { IsTrue (view D.Disk mft.old).told → (node : Node) × CanMake (view D.Disk mft.old) dir node name.now }
-    requires row { IsTrue (view D.Disk mft.old).told → (n : ℕ) → IsLeastFree (mounted_of D.Disk mft.old).records n
-        → HasRowRoom (view D.Disk mft.old) n }
-    requires room { IsTrue (view D.Disk mft.old).told → HasNameRoom (view D.Disk mft.old) dir name.now moment }
+    requires record_bit { IsTrue (view D.Disk mft.old).told → (n : ℕ) → IsLeastFree (mounted_of D.Disk mft.old).records n
+        → HasRecordRoom (view D.Disk mft.old) n }
+    requires room { IsTrue (view D.Disk mft.old).told → HasNameRoom (view D.Disk mft.old) dir name.now }
     ensures least { IfOk result (IsLeastFree (mounted_of D.Disk mft.old).records) }
     ensures bits { IfOk result (λ n. mounted_of D.Disk mft.new ≡ with_record_taken (mounted_of D.Disk mft.old) n) }
     ensures made { IfOk result (λ n. IsTrue (view D.Disk mft.old).told → MakesFile (view D.Disk mft.old) (view D.Disk mft.new)

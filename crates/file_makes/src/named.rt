@@ -10,7 +10,7 @@ ghost use Rattle.mft_table.specs.MirrorClusters.{IsMirrorInside};
 ghost use Rattle.file_record.specs.FileNos.{CountsNo, IsReadNo};
 ghost use Rattle.made_edits.specs.Comes.{ComesUnder, new_reference};
 ghost use Rattle.file_makes.specs.Steps.{KeepsDevice};
-ghost use Rattle.file_makes.specs.Under.{HasRowRoom, MayMake, StagesMade};
+ghost use Rattle.file_makes.specs.Under.{HasRecordRoom, MayMake, StagesMade};
 
 use crate::flagged::make_flagged;
 use crate::under::put_under;
@@ -41,8 +41,8 @@ pub fn make_named<D: Disk>(
     requires sound { is_mft_broken D.Disk mft.old ≡ false }
     requires volume { IsInUse D.Disk mft.old }
     requires may { IsTrue (view D.Disk mft.old).told → MayMake (view D.Disk mft.old) dir key.now }
-    requires row { IsTrue (view D.Disk mft.old).told → (n : ℕ) → IsLeastFree (mounted_of D.Disk mft.old).records n
-        → HasRowRoom (view D.Disk mft.old) n }
+    requires record_bit { IsTrue (view D.Disk mft.old).told → (n : ℕ) → IsLeastFree (mounted_of D.Disk mft.old).records n
+        → HasRecordRoom (view D.Disk mft.old) n }
     ensures least { IfOk result (IsLeastFree (mounted_of D.Disk mft.old).records) }
     ensures bits { IfOk result (λ n. mounted_of D.Disk mft.new ≡ with_record_taken (mounted_of D.Disk mft.old) n) }
     ensures made { IfOk result (λ n. IsTrue (view D.Disk mft.old).told → reference_in file ≡ new_reference (view D.Disk mft.old) n

@@ -1,7 +1,5 @@
 //! The record of a new file: what comes into it, step by step.
 ghost use Rattle.std.specs.Prelude.{◌≡◌, ◌+◌, ◌≤◌, ℕ, IfErr, IfOk, IsTrue, List, MatchResult, OnOk, [], false, length};
-ghost use Rattle.ntfs_def.specs.Attribute.{attributes};
-ghost use Rattle.ntfs_def.specs.Record.{used_size};
 ghost use Rattle.ntfs_def.specs.Shape.{IsOneAttribute};
 ghost use Rattle.ntfs_def.specs.declared.kinds.TheConstants.{DATA, FILE_NAME};
 ghost use Rattle.volume_def.specs.Files.{parts, records_of};
@@ -15,9 +13,11 @@ ghost use Rattle.mft_table.specs.MirrorClusters.{IsMirrorInside};
 ghost use Rattle.mft_table.specs.Staging.{record_places};
 ghost use Rattle.file_record.specs.declared.error.FileNo.TheVariants.{Memory};
 ghost use Rattle.file_record.specs.FileNos.{CountsNo, IsReadNo};
-ghost use Rattle.file_record.specs.Held.{RecordHeld, file_number};
+ghost use Rattle.file_record.specs.Extensions.{HoldsNewBase};
+ghost use Rattle.file_record.specs.Held.{file_number};
+ghost use Rattle.file_record.specs.Links.{HoldsBase};
 ghost use Rattle.file_record.specs.Written.{IsWholeFile};
-ghost use Rattle.file_makes.specs.Steps.{ComesSecond, FillsRecord, IsWrittenRecord, KeepsDevice, MakesRecord};
+ghost use Rattle.file_makes.specs.Steps.{ComesSecond, FillsRecord, HasRoomFor, HasUsed, IsWrittenRecord, KeepsDevice, MakesRecord};
 
 use file_record::{FileNo, FileParts};
 use mft_table::Mft;
@@ -26,19 +26,6 @@ use record_bytes::resident;
 use std::alloc::Global;
 use vol_disk::Disk;
 
-// Whether the first record that is held of a file is its base record, and has an attribute, and room for so many bytes. It is so of a file
-// that was made just now, whose record has 160 bytes in use.
-fn has_room(file: &FileParts, len: usize) -> bool
-    ensures place { IsTrue result → RecordHeld file.now 0 (λ held. (1 ≤ length (attributes held.block)) × (used_size held.block + len ≤ 1024)
-        × (held.number ≡ file_number file.now)) }
-{
-    let records = file.records();
-    if records.is_empty() {
-        return false;
-    }
-    records[0].number() == file.number() && records[0].count() >= 1 && len <= file.free_bytes(0)
-}
-
 // Puts an attribute behind the first one of the base record of a file, and stages the record.
 fn put_second<D: Disk>(
     mft: &mut Mft<'_, D>,
@@ -46,10 +33,12 @@ fn put_second<D: Disk>(
     attr: &[u8],
 ) -> Result<(), FileNo>
     requires one { IsOneAttribute attr.now }
+    requires room { HasRoomFor file.old (length attr.now) }
     requires mirror { IsMirrorInside (mounted_of D.Disk mft.old) }
     requires sound { is_mft_broken D.Disk mft.old ≡ false }
     ensures comes { OnOk result (IsWrittenRecord (view D.Disk mft.old) (file_number file.old) → IsWholeFile (view D.Disk mft.old) file.old
         → ComesSecond (view D.Disk mft.old) (view D.Disk mft.new) file.old file.new attr.now) }
+    ensures used { OnOk result ((used : ℕ) → HasUsed file.old used → HasUsed file.new (used + length attr.now)) }
     ensures number { file_number file.new ≡ file_number file.old }
     ensures places { StagesOnly D.Disk (record_places (view D.Disk mft.old).layout (file_number file.old)) (stage_of D.Disk mft.old)
         (stage_of D.Disk mft.new) }
@@ -57,15 +46,13 @@ fn put_second<D: Disk>(
     ensures memory { IfErr result (λ no. no ≡ Memory) }
     ensures faults { faults_of D.Disk mft.new ≡ faults_of D.Disk mft.old }
 {
-    if !has_room(file, attr.len()) {
-        return Err(FileNo::Memory);
-    }
     file.insert_attribute(mft, 0, 1, attr)?;
     Ok(())
 }
 
 // Counts one link in the base record of a file, and stages the record.
 fn count_one<D: Disk>(mft: &mut Mft<'_, D>, file: &mut FileParts) -> Result<(), FileNo>
+    requires base { HoldsBase file.old }
     requires mirror { IsMirrorInside (mounted_of D.Disk mft.old) }
     requires sound { is_mft_broken D.Disk mft.old ≡ false }
     ensures counts { OnOk result (IsWrittenRecord (view D.Disk mft.old) (file_number file.old) → IsWholeFile (view D.Disk mft.old) file.old
@@ -77,9 +64,6 @@ fn count_one<D: Disk>(mft: &mut Mft<'_, D>, file: &mut FileParts) -> Result<(), 
     ensures memory { IfErr result (λ no. no ≡ Memory) }
     ensures faults { faults_of D.Disk mft.new ≡ faults_of D.Disk mft.old }
 {
-    if !file.holds_base() {
-        return Err(FileNo::Memory);
-    }
     file.set_links(mft, 1)?;
     Ok(())
 }
@@ -92,6 +76,7 @@ fn fill_record<D: Disk>(
     key: &[u8],
 ) -> Result<(), FileNo>
     requires key { length key.now ≤ 576 }
+    requires new { HoldsNewBase file.old }
     requires mirror { IsMirrorInside (mounted_of D.Disk mft.old) }
     requires sound { is_mft_broken D.Disk mft.old ≡ false }
     ensures fills { OnOk result (IsWrittenRecord (view D.Disk mft.old) (file_number file.old) → IsWholeFile (view D.Disk mft.old) file.old

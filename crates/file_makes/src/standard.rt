@@ -2,7 +2,7 @@
 ghost use Rattle.std.specs.Prelude.{◌≡◌, ℕ, false, length, slice_index};
 ghost use Rattle.ntfs_def.specs.StandardInformation.{dos_flags};
 ghost use Rattle.session_def.specs.Kept.{is_shown_byte};
-ghost use Rattle.command_edits.specs.Calls.{IsNewStandard};
+ghost use Rattle.made_edits.specs.Calls.{IsNewStandard};
 
 use crate::times::put_moment;
 use ntfs_def::standard_information::{CREATED, FLAGS, LEN, SECURITY};

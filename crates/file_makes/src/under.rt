@@ -4,13 +4,13 @@ ghost use Rattle.ntfs_def.specs.FileName.{is_name_key};
 ghost use Rattle.mft_table.specs.Mft.{KeepsDisk, faults_of, is_mft_broken, mounted_of, view};
 ghost use Rattle.file_record.specs.declared.error.FileNo.TheVariants.{Memory};
 ghost use Rattle.file_record.specs.FileNos.{CountsNo, IsReadNo};
-ghost use Rattle.dir_index.specs.Replaced.{StagesRecords};
-ghost use Rattle.index_puts.specs.LeafRoom.{names_of_directory};
+ghost use Rattle.made_edits.specs.Replaced.{StagesRecords};
+ghost use Rattle.tree_model.specs.LeafRoom.{names_of_directory};
 ghost use Rattle.file_makes.specs.Under.{EntersName, MayEnter};
 
 use crate::entry::new_entry;
 use file_record::{FileNo, FileParts};
-use index_puts::put_item;
+use made_edits::put_item;
 use mft_table::Mft;
 use std::alloc::Global;
 use upcase::UpCase;

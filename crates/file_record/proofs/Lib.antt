@@ -27,3 +27,15 @@ mod CreateLaws
 mod PutLaws
 mod AttributeLaws
 mod RecordEdits
+pub mod Below
+-- Laws of the crates below, passed on to those above.
+pub use Rattle.mft_table.proofs.StageTwice
+pub use Rattle.mft_table.proofs.StagedRecord
+pub use Rattle.mft_table.proofs.StreamBytes
+pub use Rattle.mft_table.proofs.StreamReads
+pub use Rattle.mft_table.proofs.DiskKept
+pub use Rattle.volume_edits.proofs.ClusterWrites
+pub use Rattle.volume_edits.proofs.ChangedStream
+pub use Rattle.volume_edits.proofs.StreamClusters
+pub use Rattle.volume_edits.proofs.WithBytes
+pub use Rattle.volume_edits.proofs.OwnerLaws

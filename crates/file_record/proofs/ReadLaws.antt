@@ -5,7 +5,7 @@ use Rattle.std.specs.List.{count_by}
 use Rattle.std.proofs.lemmas.List.{take-append-drop, take_more}
 use Rattle.vol_disk.specs.Contents.{sector_in}
 use Rattle.vol_disk.specs.declared.Disk.{Ghosts}
-use Rattle.vol_stage.specs.Staged.{image}
+use Rattle.mft_table.specs.Staged.{image}
 use Rattle.volume_def.specs.View.{view_of}
 use Rattle.list_laws.proofs.FindLaws.{count-cons}
 use Rattle.list_laws.proofs.SameItemsLaws.{count-append}

@@ -2,7 +2,7 @@
 use Rattle.std.specs.Prelude.{◌≡◌, ℕ, ◌+◌, ◌*◌, ◌<◌, ◌≤◌, ◌^◌, ◌%◌, Bool, false, List, [], ◌∷◌, IsTrue, None, Some, get_or, length, map, if◌then◌else◌}
 use Rattle.ntfs_def.specs.Attribute.{attributes}
 use Rattle.ntfs_def.specs.Fixup.{array_place, opened_of}
-use Rattle.ntfs_def.specs.Record.{Reference, header_of, is_in_use, sequence_of}
+use Rattle.ntfs_def.specs.Record.{Reference, header_of, is_in_use, sequence_of, used_size}
 use Rattle.ntfs_def.specs.Shape.{HasShape}
 use Rattle.ntfs_def.specs.declared.kinds.TheConstants.{STANDARD_INFORMATION}
 use Rattle.volume_def.specs.Files.{Value, file_of, is_base, record_of}
@@ -12,7 +12,7 @@ use Rattle.volume_def.specs.View.{ReplacesBlock, VolumeView}
 use Rattle.record_bytes.specs.AttributeBytes.{part, resident_bytes}
 use Rattle.file_record.specs.declared.held.Held.{Held}
 use Rattle.file_record.specs.declared.parts.FileParts.{FileParts}
-use Rattle.file_record.specs.Held.{file_number, held_of}
+use Rattle.file_record.specs.Held.{RecordHeld, file_number, held_of}
 
 -- the reference to a record of the volume, with the sequence number that it has
 abbrev pub reference_of : VolumeView → ℕ → Reference
@@ -65,6 +65,11 @@ pub record IsNewBase (number sequence : ℕ) (dir : Bool) (standard block : List
   }
   pub parts : (record_of number block).parts ≡ part number STANDARD_INFORMATION [] 0 (Value standard) ∷ []
   pub bytes : map (λ attribute. attribute.bytes) (attributes block) ≡ resident_bytes STANDARD_INFORMATION [] 0 standard ∷ []
+
+-- What is held of a file that was made just now: its base record, which has one attribute and so many bytes in use.
+abbrev pub HoldsNewBase : FileParts → Type 0
+HoldsNewBase file = RecordHeld file 0 (λ held. (held.number ≡ file_number file) × (length (attributes held.block) ≡ 1)
+    × (used_size held.block ≡ 160))
 
 -- A FILE COMES: such a record stands in block n. Nothing else of the volume changed but the block's copy, where it has one.
 pub record CreatesBase (old new : VolumeView) (n : ℕ) (dir : Bool) (standard : List ℕ) : Type 0 where

@@ -234,6 +234,8 @@ impl FileParts {
         ensures same { HoldsSame self.old self.new }
         ensures room { OnOk result (RecordHeld self.old place (λ was. RecordHeld self.new place (λ held.
             used_size held.block ≡ used_size was.block + length attr.now))) }
+        ensures count { OnOk result (RecordHeld self.old place (λ was. RecordHeld self.new place (λ held.
+            length (attributes held.block) ≡ length (attributes was.block) + 1))) }
         ensures stages { OnOk result (RecordHeld self.old place (λ held.
             MftStages D.Disk (record_places (view D.Disk mft.old).layout held.number) 4 mft.old mft.new)) }
         ensures kept { OnErr result (MftReserves D.Disk mft.old mft.new) }

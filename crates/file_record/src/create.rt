@@ -11,7 +11,7 @@ ghost use Rattle.mft_table.specs.FreeRecords.{IsLeastFree, IsOrdinaryFree, Reads
 ghost use Rattle.mft_table.specs.Mft.{faults_of, is_mft_broken, mounted_of, view};
 ghost use Rattle.mft_table.specs.MirrorClusters.{IsMirrorInside};
 ghost use Rattle.mft_table.specs.Staging.{record_places};
-ghost use Rattle.file_record.specs.Extensions.{CreatesBase, IsNewBase, flags_of};
+ghost use Rattle.file_record.specs.Extensions.{CreatesBase, HoldsNewBase, IsNewBase, flags_of};
 ghost use Rattle.file_record.specs.FileNos.{CountsNo, IsReadNo};
 ghost use Rattle.file_record.specs.Held.{file_number, held_of};
 ghost use Rattle.file_record.specs.Written.{IsWholeFile};
@@ -61,6 +61,7 @@ impl Held {
         requires { free.number < 2 ^ 32 }
         ensures number { IfOk result (λ held. held.number ≡ free.number) }
         ensures made { IfOk result (λ held. IsNewBase free.number free.sequence dir standard.now held.block) }
+        ensures used { IfOk result (λ held. used_size held.block ≡ 160) }
     {
         let mut block = [0; 1024];
         let header = RecordHeader {
@@ -105,6 +106,7 @@ impl FileParts {
         ensures held { IfOk result (λ file. IsTrue (view D.Disk mft.old).told → IsApart (view D.Disk mft.old).layout
             → 1024 * file_number file + 1024 ≤ (view D.Disk mft.old).layout.initialized
             → parts (records_of (view D.Disk mft.old)) (file_number file) ≡ [] → IsWholeFile (view D.Disk mft.new) file) }
+        ensures new { IfOk result HoldsNewBase }
         ensures stages { IfOk result (λ file.
             ReadsAndStages D.Disk (record_places (view D.Disk mft.old).layout (file_number file)) 4 2 mft.old mft.new) }
         ensures kept { OnErr result (ReadsAndReserves D.Disk 2 mft.old mft.new) }

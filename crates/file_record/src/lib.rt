@@ -25,4 +25,5 @@ pub use held::Held;
 pub use iter::FileAttributes;
 pub use laws::base_law;
 pub use list::{list_of, read_list};
+pub use mft_table::Mft;
 pub use parts::{FileParts, PartPlace};

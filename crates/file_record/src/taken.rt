@@ -1,6 +1,6 @@
 //! Free records, which a file takes.
 ghost use Rattle.std.specs.Prelude.{◌≡◌, ◌<◌, ◌≤◌, ◌+◌, ◌*◌, ◌^◌, ℕ, IfErr, IfOk, IsTrue, List, MatchResult, OnErr, OnOk, false, length};
-ghost use Rattle.cluster_bitmap.specs.Flags.{IsFree};
+ghost use Rattle.mft_table.specs.Flags.{IsFree};
 ghost use Rattle.ntfs_def.specs.Fixup.{Seals};
 ghost use Rattle.volume_def.specs.Coverage.{IsApart};
 ghost use Rattle.volume_def.specs.Freed.{sequence_at_first, stored_sequence};

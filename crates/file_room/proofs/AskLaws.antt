@@ -12,8 +12,8 @@ use Rattle.tree_model.specs.Refusals.{when}
 use Rattle.tree_model.specs.declared.reply.No.{No}
 use Rattle.tree_model.specs.declared.reply.No.TheVariants as no
 use Rattle.edit_def.specs.OneFile.{no_room_alone, one_file, touched_alone}
-use Rattle.file_record.specs.declared.parts.FileParts.{FileParts}
-use Rattle.file_record.specs.Held.{AreParts, file_number, parts_held}
+use Rattle.tree_read.specs.FileParts.{FileParts}
+use Rattle.tree_read.specs.Held.{AreParts, file_number, parts_held}
 use Rattle.tree_read.specs.Answered.{Says}
 use Rattle.tree_read.specs.declared.stop.Stop.{Stop}
 use Rattle.tree_read.specs.declared.stop.Stop.TheVariants as stop

@@ -11,10 +11,10 @@ use Rattle.volume_def.specs.ListsClause.{is_list, listed_parts}
 use Rattle.volume_def.specs.Room.{list_entry_len}
 use Rattle.attr_view.specs.declared.AttrView.{AttrView}
 use Rattle.attr_view.specs.View.{attribute_of}
-use Rattle.file_record.specs.declared.held.Held.{Held}
-use Rattle.file_record.specs.declared.parts.FileParts.{FileParts}
-use Rattle.file_record.specs.Held.{held_of, parts_held, parts_of}
-use Rattle.file_record.proofs.HeldLaws.{Held-few}
+use Rattle.tree_read.specs.HeldType.{Held}
+use Rattle.tree_read.specs.FileParts.{FileParts}
+use Rattle.tree_read.specs.Held.{held_of, parts_held, parts_of}
+use Rattle.tree_read.proofs.HeldLaws.{Held-few}
 use Rattle.file_room.specs.Asked.{list_len_by}
 
 -- a part of a list is no longer than the list

@@ -8,7 +8,7 @@ ghost use Rattle.tree_model.specs.NoRoom.{no_room_for};
 ghost use Rattle.edit_def.specs.OneFile.{no_room_alone};
 ghost use Rattle.mft_table.specs.InUse.{IsInUse};
 ghost use Rattle.mft_table.specs.Mft.{MftReads, view};
-ghost use Rattle.file_record.specs.Held.{AreParts, file_number};
+ghost use Rattle.tree_read.specs.Held.{AreParts, file_number};
 ghost use Rattle.tree_read.specs.Answered.{Gives, Says};
 ghost use Rattle.file_room.specs.Asked.{HasFew, IsFreeOn, IsWanted, has_room, lacks_free, lacks_records, lists_of};
 ghost use Rattle.file_room.specs.Made.{made_bill};
@@ -16,10 +16,9 @@ ghost use Rattle.file_room.specs.Made.{made_bill};
 use crate::free::{FreeRoom, free_for_runs, free_room};
 use crate::list::{ListRoom, list_room};
 use crate::need::{Wanted, list_clusters, list_growth, need_of, table_growth};
-use file_record::FileParts;
 use mft_table::Mft;
 use tree_model::No;
-use tree_read::Stop;
+use tree_read::{FileParts, Stop};
 use vol_disk::Disk;
 
 // The bytes that an attribute list may have.

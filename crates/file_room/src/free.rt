@@ -7,12 +7,11 @@ ghost use Rattle.tree_read.specs.Answered.{Finds};
 ghost use Rattle.file_room.specs.Asked.{IsFreeOn, free_for_runs};
 
 use crate::need::clusters_for;
-use file_record::Held;
 use mft_table::{Mft, Mounted};
 use ntfs_def::lengths::RECORD;
 use ntfs_def::records::MFT;
 use tree_model::No;
-use tree_read::{Stop, free_records};
+use tree_read::{Held, Stop, free_records};
 use vol_disk::Disk;
 
 // The records that the table has at most.

@@ -8,4 +8,8 @@ mod need;
 mod value;
 
 pub use ask::{ask_for_room, ask_to_make};
+pub use tree_read::{
+    Standard, Standing, Stop, find_part, is_of_directory, links_of, load_file, load_node,
+    plain_content, read_standard, resolve,
+};
 pub use value::clusters_of_value;

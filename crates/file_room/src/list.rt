@@ -5,12 +5,12 @@ ghost use Rattle.volume_def.specs.Files.{part_of};
 ghost use Rattle.volume_def.specs.ListsClause.{is_list};
 ghost use Rattle.volume_def.specs.Room.{list_entry_len, longest_name};
 ghost use Rattle.attr_view.specs.View.{attribute_of};
-ghost use Rattle.file_record.specs.Held.{parts_held};
+ghost use Rattle.tree_read.specs.Held.{parts_held};
 ghost use Rattle.file_room.specs.Asked.{list_len_by};
 
 use attr_view::AttrView;
-use file_record::FileParts;
 use ntfs_def::kinds::ATTRIBUTE_LIST;
+use tree_read::FileParts;
 
 /// What such a list would take.
 #[derive(Clone, Copy, Debug)]

@@ -5,3 +5,5 @@ pub mod MarkedVolume
 pub mod BehindLaws
 pub mod FinishedLaws
 pub mod Below
+-- Laws of the crates below, passed on to those above.
+pub use Rattle.mark_place.proofs.PlacesApart

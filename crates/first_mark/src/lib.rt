@@ -4,3 +4,4 @@
 mod laws;
 
 pub use laws::first_mark_laws;
+pub use mark_place::{find_flag, find_log};

@@ -6,8 +6,8 @@ use Rattle.ntfs_def.specs.Record.{Reference}
 use Rattle.volume_def.specs.Files.{Record, Records, is_base, records_of}
 use Rattle.volume_def.specs.ReferencesClause.{NamesBase}
 use Rattle.volume_def.specs.View.{VolumeView}
-use Rattle.edit_def.specs.Kept.{Key}
-use Rattle.edit_def.specs.Names.{HasRightBases}
+use Rattle.session_def.specs.EditDefKept.{Key}
+use Rattle.session_def.specs.Names.{HasRightBases}
 use Rattle.in_place.specs.Blank.{blank_record, blanked}
 use Rattle.in_place.specs.InPlace.{Rewrites}
 use Rattle.in_place.proofs.SameRecords.{records-same}

@@ -12,7 +12,7 @@ use Rattle.volume_def.specs.Table.{TableLayout, cluster_bytes}
 use Rattle.volume_def.specs.Values.{first_part, spot_at}
 use Rattle.volume_def.specs.View.{VolumeView}
 use Rattle.volume_edits.specs.Owners.{HasOwners}
-use Rattle.edit_def.specs.Kept.{Key, key_of}
+use Rattle.session_def.specs.EditDefKept.{Key, key_of}
 use Rattle.session_def.specs.Cost.{log_bytes, log_parts, log_size}
 use Rattle.session_def.specs.Room.{KeepsBlocks, KeepsCopies, KeepsLogEnd, is_written_file}
 use Rattle.in_place.specs.InPlace.{KeepsBlock, Rewrites}

@@ -16,10 +16,10 @@ use Rattle.volume_def.proofs.PartLaws.{IsPart-Contains, NameHolders-view, record
 use Rattle.list_laws.specs.Replaces.{Replaces}
 use Rattle.list_laws.proofs.ReplacesLaws.{Replaces-filter, Replaces-itself, Replaces-map}
 use Rattle.volume_edits.specs.Clusters.{ChangesStream}
-use Rattle.attr_view.specs.Values.{overwritten}
+use Rattle.file_record.specs.Values.{overwritten}
 use Rattle.file_record.specs.Written.{HoldsBytes, OverwritesValue, WritesBytes}
-use Rattle.edit_def.specs.Forms.{indexed_in, unit_in}
-use Rattle.edit_def.specs.Kept.{Key, key_of, same_key}
+use Rattle.session_def.specs.Forms.{indexed_in, unit_in}
+use Rattle.session_def.specs.EditDefKept.{Key, key_of, same_key}
 use Rattle.in_place.specs.Blank.{blank_body, outline_of}
 use Rattle.in_place.specs.InPlace.{Rewrites, RewritesAttributes, RewritesBlock, file_in, is_other}
 

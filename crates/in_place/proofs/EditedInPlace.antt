@@ -10,11 +10,11 @@ use Rattle.volume_def.specs.Sound as clauses
 use Rattle.volume_def.specs.Values.{first_part, value_on}
 use Rattle.volume_def.specs.View.{VolumeView}
 use Rattle.volume_edits.specs.Owners.{HasOwners}
-use Rattle.edit_def.specs.Account.{Wants}
-use Rattle.edit_def.specs.Edited.{Edited, is_list_key, is_room_key}
-use Rattle.edit_def.specs.Kept.{Key, either}
-use Rattle.edit_def.specs.Marks.{AreRight, HasBitmaps, IsEditable, Marks}
-use Rattle.edit_def.proofs.NamesLaws.{bases-of}
+use Rattle.session_def.specs.Account.{Wants}
+use Rattle.session_def.specs.Edited.{Edited, is_list_key, is_room_key}
+use Rattle.session_def.specs.EditDefKept.{Key, either}
+use Rattle.session_def.specs.Marks.{AreRight, HasBitmaps, IsEditable, Marks}
+use Rattle.session_def.proofs.NamesLaws.{bases-of}
 use Rattle.volume_def.specs.Files.{records_of}
 use Rattle.volume_def.proofs.SoundLaws.{readable-sound}
 use Rattle.in_place.specs.InPlace.{Rewrites}

@@ -11,8 +11,8 @@ use Rattle.volume_def.specs.Table.{TableLayout}
 use Rattle.volume_def.specs.View.{VolumeView}
 use Rattle.list_laws.proofs.MemberLaws.{All-from_Contains, filter-map}
 use Rattle.list_laws.proofs.SameItemsLaws.{SameItems-same}
-use Rattle.edit_def.specs.Forms.{ComeRightly, IsNewForm, KeepsForms, attributes_on, begins, form_of, forms_of, is_form_kept}
-use Rattle.edit_def.specs.Kept.{Key}
+use Rattle.session_def.specs.Forms.{ComeRightly, IsNewForm, KeepsForms, attributes_on, begins, form_of, forms_of, is_form_kept}
+use Rattle.session_def.specs.EditDefKept.{Key}
 use Rattle.in_place.specs.Blank.{Outline, outline_of}
 use Rattle.in_place.specs.InPlace.{KeepsBlock, Rewrites, RewritesBlock, file_in}
 use Rattle.in_place.proofs.BlankLaws.{map-flat_map}

@@ -15,10 +15,10 @@ use Rattle.volume_def.specs.StreamSize.{real_size, told_size}
 use Rattle.volume_def.specs.Table.{TableLayout, cluster_bytes}
 use Rattle.volume_def.specs.Values.{first_part, value_on}
 use Rattle.volume_def.specs.View.{VolumeView}
-use Rattle.tree_model.specs.Bill.{Change}
-use Rattle.tree_model.specs.IndexRoom.{Index, index_depth, levels_below, other_nodes, root_of}
-use Rattle.edit_def.specs.Kept.{Key, key_of}
-use Rattle.edit_def.specs.Places.{flags_of}
+use Rattle.session_def.specs.Bill.{Change}
+use Rattle.session_def.specs.IndexRoom.{Index, index_depth, levels_below, other_nodes, root_of}
+use Rattle.session_def.specs.EditDefKept.{Key, key_of}
+use Rattle.session_def.specs.Places.{flags_of}
 use Rattle.session_def.specs.Indexes.{KeepsFlagsOf, KeepsIndexIfThere, bits_set, index_bits, index_records, keys_changed}
 use Rattle.in_place.specs.Blank.{blank_content, blank_part}
 use Rattle.in_place.specs.InPlace.{Rewrites}

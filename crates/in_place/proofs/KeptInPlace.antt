@@ -13,10 +13,10 @@ use Rattle.volume_def.proofs.ValueLaws.{spot_at-owned}
 use Rattle.list_laws.proofs.MemberLaws.{Contains-from_filter}
 use Rattle.list_laws.proofs.SameItemsLaws.{SameItems-same}
 use Rattle.volume_edits.specs.Owners.{HasOwners}
-use Rattle.edit_def.specs.Edited.{is_room_key, is_table_key}
-use Rattle.edit_def.proofs.EditedLaws.{table-room}
-use Rattle.edit_def.proofs.KeptLaws.{KeepsFile-more}
-use Rattle.edit_def.specs.Kept.{KeepsBut, Key, either, kept_told, key_of}
+use Rattle.session_def.specs.Edited.{is_room_key, is_table_key}
+use Rattle.session_def.proofs.EditedLaws.{table-room}
+use Rattle.session_def.proofs.KeptLaws.{KeepsFile-more}
+use Rattle.session_def.specs.EditDefKept.{KeepsBut, Key, either, kept_told, key_of}
 use Rattle.in_place.specs.InPlace.{Rewrites}
 use Rattle.in_place.proofs.OtherClusters.{clusters-kept, part-free}
 use Rattle.in_place.proofs.OtherParts.{told-other}

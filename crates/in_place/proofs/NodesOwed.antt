@@ -8,14 +8,14 @@ use Rattle.ntfs_def.specs.declared.kinds.TheConstants.{DATA, FILE_NAME}
 use Rattle.volume_def.specs.Files.{records_of}
 use Rattle.volume_def.specs.View.{VolumeView}
 use Rattle.list_laws.proofs.FindLaws.{any-found}
-use Rattle.tree_model.specs.Bill.{dropped_links}
-use Rattle.tree_model.specs.Drops.{is_link}
-use Rattle.tree_model.specs.Subjects.{Located}
-use Rattle.tree_model.specs.Tree.{Tree, node_of}
-use Rattle.tree_model.specs.declared.command.Command.{Command}
-use Rattle.tree_model.specs.declared.tree.Link.{Link}
-use Rattle.edit_def.specs.Kept.{Key, is_name_told, key_of, told_names}
-use Rattle.edit_def.specs.Names.{Numbers, numbers_at}
+use Rattle.session_def.specs.Bill.{dropped_links}
+use Rattle.session_def.specs.Drops.{is_link}
+use Rattle.session_def.specs.Subjects.{Located}
+use Rattle.session_def.specs.Tree.{Tree, node_of}
+use Rattle.session_def.specs.Command.{Command}
+use Rattle.session_def.specs.Link.{Link}
+use Rattle.session_def.specs.EditDefKept.{Key, is_name_told, key_of, told_names}
+use Rattle.session_def.specs.Names.{Numbers, numbers_at}
 use Rattle.session_def.specs.Kept.{link_told}
 use Rattle.session_def.specs.Named.{main_file, spelt}
 use Rattle.session_def.specs.Nodes.{ComesRightly, HasPoint, KeepsDosFlags, KeepsMain, KeepsNodes, flag_of}

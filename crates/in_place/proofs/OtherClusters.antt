@@ -15,7 +15,7 @@ use Rattle.volume_def.proofs.ValueLaws.{spot_at-owned}
 use Rattle.list_laws.proofs.MemberLaws.{Contains-from_filter}
 use Rattle.volume_edits.specs.Owners.{HasOwners}
 use Rattle.volume_edits.proofs.OwnerLaws.{lies-outside}
-use Rattle.edit_def.specs.Kept.{Key, key_of}
+use Rattle.session_def.specs.EditDefKept.{Key, key_of}
 use Rattle.in_place.specs.InPlace.{Rewrites}
 use Rattle.record_edits.specs.InPlace.{IsUnnamed}
 use Rattle.record_edits.proofs.PlaceEdits.{part-unnamed}

@@ -14,7 +14,7 @@ use Rattle.volume_def.specs.Values.{is_first}
 use Rattle.volume_def.specs.View.{VolumeView}
 use Rattle.list_laws.proofs.FilterLaws.{filter-passed, filter-swap}
 use Rattle.list_laws.proofs.MemberLaws.{filter-map}
-use Rattle.edit_def.specs.Kept.{Key, is_kept, kept_told, key_of, told_by}
+use Rattle.session_def.specs.EditDefKept.{Key, is_kept, kept_told, key_of, told_by}
 use Rattle.in_place.specs.InPlace.{KeepsBlock, Rewrites, RewritesBlock, file_in, is_other}
 use Rattle.in_place.proofs.BlankLaws.{filter-flat_map}
 use Rattle.in_place.proofs.SameRecords.{in-use}

@@ -27,16 +27,16 @@ use Rattle.list_laws.proofs.FilterLaws.{filter-all}
 use Rattle.list_laws.proofs.MemberLaws.{Contains-from_filter, filter-map}
 use Rattle.list_laws.proofs.SameItemsLaws.{SameItems-same}
 use Rattle.volume_edits.specs.Owners.{HasOwners}
-use Rattle.tree_model.specs.IndexRoom.{Index, extend_file, extend_index, if_there, root_of}
-use Rattle.tree_model.specs.StreamRoom.{is_cluster, parts_named}
-use Rattle.tree_model.specs.declared.tree.Link.{Link}
-use Rattle.edit_def.specs.Edited.{is_room_key}
-use Rattle.edit_def.specs.Kept.{KeepsBut, Key, either, is_name_told, key_of}
-use Rattle.edit_def.specs.ListOrder.{KeepsListOrder, entries_of}
+use Rattle.session_def.specs.IndexRoom.{Index, extend_file, extend_index, if_there, root_of}
+use Rattle.session_def.specs.StreamRoom.{is_cluster, parts_named}
+use Rattle.session_def.specs.Link.{Link}
+use Rattle.session_def.specs.Edited.{is_room_key}
+use Rattle.session_def.specs.EditDefKept.{KeepsBut, Key, either, is_name_told, key_of}
+use Rattle.session_def.specs.ListOrder.{KeepsListOrder, entries_of}
 use Rattle.ntfs_def.specs.ListOrder.{AreInOrder}
 use Rattle.volume_def.specs.CaseClause.{volume_fold}
-use Rattle.edit_def.specs.Names.{HasRightBases, Numbers, numbers_at}
-use Rattle.edit_def.proofs.IndexLaws.{index-same}
+use Rattle.session_def.specs.Names.{HasRightBases, Numbers, numbers_at}
+use Rattle.session_def.proofs.IndexLaws.{index-same}
 use Rattle.session_def.specs.Done.{IsGained}
 use Rattle.session_def.specs.Kept.{KeepsKeys, KeepsNamesBut, is_any, with_data}
 use Rattle.session_def.specs.Room.{KeepsLogEnd}

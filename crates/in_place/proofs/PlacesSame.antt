@@ -22,12 +22,12 @@ use Rattle.list_laws.proofs.FilterLaws.{filter-passed}
 use Rattle.list_laws.proofs.MemberLaws.{Contains-from_filter}
 use Rattle.list_laws.proofs.SameItemsLaws.{SameItems-same}
 use Rattle.volume_edits.specs.Owners.{HasOwners}
-use Rattle.edit_def.specs.Edited.{SameVolume, is_room_key}
-use Rattle.edit_def.specs.Kept.{Key, Told, is_kept, key_of, told_of}
-use Rattle.edit_def.specs.Marks.{AreRight, Marks}
-use Rattle.edit_def.specs.Names.{KeepsNames}
-use Rattle.edit_def.specs.Places.{KeepsPlaces, StaysInPlace, StaysPlaced, blank, is_stream}
-use Rattle.edit_def.proofs.PlaceLaws.{no-name}
+use Rattle.session_def.specs.Edited.{SameVolume, is_room_key}
+use Rattle.session_def.specs.EditDefKept.{Key, Told, is_kept, key_of, told_of}
+use Rattle.session_def.specs.Marks.{AreRight, Marks}
+use Rattle.session_def.specs.Names.{KeepsNames}
+use Rattle.session_def.specs.Places.{KeepsPlaces, StaysInPlace, StaysPlaced, blank, is_stream}
+use Rattle.session_def.proofs.PlaceLaws.{no-name}
 use Rattle.in_place.specs.InPlace.{Rewrites}
 use Rattle.in_place.proofs.OtherClusters.{clusters-kept, part-free}
 use Rattle.in_place.proofs.OtherParts.{at-other, passed-same, told-other}

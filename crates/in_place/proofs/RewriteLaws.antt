@@ -8,8 +8,8 @@ use Rattle.ntfs_def.specs.Record.{Header, header_of}
 use Rattle.volume_def.specs.Coverage.{IsOutsideTable}
 use Rattle.volume_def.specs.View.{VolumeView}
 use Rattle.list_laws.proofs.FilterLaws.{filter-passed, filter-swap}
-use Rattle.edit_def.specs.Kept.{Key, either, key_of}
-use Rattle.edit_def.proofs.KeptLaws.{filter-twice}
+use Rattle.session_def.specs.EditDefKept.{Key, either, key_of}
+use Rattle.session_def.proofs.KeptLaws.{filter-twice}
 use Rattle.in_place.specs.InPlace.{KeepsBlock, Rewrites, RewritesAttributes, RewritesBlock, file_in, is_other}
 use Rattle.record_edits.specs.InPlace.{IsUnnamed}
 use Rattle.in_place.proofs.SameRecords.{spots-same}

@@ -15,15 +15,15 @@ use Rattle.volume_def.specs.Room.{list_entry_len, longest_name, unowned_clusters
 use Rattle.volume_def.specs.Table.{TableLayout, cluster_bytes}
 use Rattle.volume_def.specs.View.{VolumeView}
 use Rattle.list_laws.proofs.MemberLaws.{filter-map}
-use Rattle.edit_def.specs.Account.{Keeps, Plan, Room, Spends, Wants, Within, nothing, rows}
-use Rattle.edit_def.specs.Edited.{is_bare}
-use Rattle.edit_def.specs.Kept.{Key}
-use Rattle.edit_def.specs.Names.{numbers_at, numbers_by}
-use Rattle.edit_def.specs.Purses.{all_chosen, can_leave, chosen, in_use, is_emptied, is_list_of, is_table_bits, is_table_data, is_value}
-use Rattle.edit_def.specs.Purses.{list_len_in, one_if}
-use Rattle.edit_def.specs.Purses.{part_size, room_in, room_of, run_size}
-use Rattle.edit_def.proofs.AccountLaws.{Spends-less}
-use Rattle.edit_def.proofs.Sums.{rows-cases}
+use Rattle.session_def.specs.Account.{Keeps, Plan, Room, Spends, Wants, Within, nothing, rows}
+use Rattle.session_def.specs.Edited.{is_bare}
+use Rattle.session_def.specs.EditDefKept.{Key}
+use Rattle.session_def.specs.Names.{numbers_at, numbers_by}
+use Rattle.session_def.specs.Purses.{all_chosen, can_leave, chosen, in_use, is_emptied, is_list_of, is_table_bits, is_table_data, is_value}
+use Rattle.session_def.specs.Purses.{list_len_in, one_if}
+use Rattle.session_def.specs.Purses.{part_size, room_in, room_of, run_size}
+use Rattle.session_def.proofs.AccountLaws.{Spends-less}
+use Rattle.session_def.proofs.Sums.{rows-cases}
 use Rattle.in_place.specs.Blank.{blank_part, blank_record, blanked}
 use Rattle.in_place.specs.InPlace.{Rewrites}
 use Rattle.in_place.proofs.BlankLaws.{blank-parts, blank-runs, blank-times, map-flat_map, sum-map}

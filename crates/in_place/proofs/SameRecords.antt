@@ -11,7 +11,7 @@ use Rattle.volume_def.specs.Table.{TableLayout}
 use Rattle.volume_def.specs.Values.{spot_at}
 use Rattle.volume_def.specs.View.{VolumeView}
 use Rattle.list_laws.proofs.MemberLaws.{filter-map}
-use Rattle.edit_def.specs.Kept.{Key}
+use Rattle.session_def.specs.EditDefKept.{Key}
 use Rattle.in_place.specs.Blank.{Outline, blank_body, blank_content, blank_part, blank_record, blanked, outline_of}
 use Rattle.in_place.specs.InPlace.{KeepsBlock, Rewrites, RewritesBlock}
 use Rattle.in_place.proofs.BlankLaws.{blank-parts, blank-spot}

@@ -18,7 +18,7 @@ use Rattle.volume_def.specs.VersionClause.{IsMirror}
 use Rattle.volume_def.specs.View.{VolumeView}
 use Rattle.list_laws.proofs.MemberLaws.{Contains-from_map, Contains-map}
 use Rattle.volume_edits.proofs.TableParts.{some-sectors, table-part, table-unnamed}
-use Rattle.edit_def.specs.Kept.{Key}
+use Rattle.session_def.specs.EditDefKept.{Key}
 use Rattle.in_place.specs.Blank.{blank_content, blank_part}
 use Rattle.in_place.specs.InPlace.{Rewrites}
 use Rattle.in_place.specs.Unnamed.{LiesApart}

@@ -13,9 +13,9 @@ use Rattle.volume_def.specs.Files.{Clusters, Content, Part, Value, content_exten
 use Rattle.volume_def.specs.Values.{first_part, spot_at}
 use Rattle.volume_def.specs.View.{VolumeView}
 use Rattle.list_laws.proofs.MemberLaws.{filter-map}
-use Rattle.tree_model.specs.StreamRoom.{parts_named}
-use Rattle.edit_def.specs.Kept.{Key}
-use Rattle.edit_def.specs.Places.{flags_of}
+use Rattle.session_def.specs.StreamRoom.{parts_named}
+use Rattle.session_def.specs.EditDefKept.{Key}
+use Rattle.session_def.specs.Places.{flags_of}
 use Rattle.session_def.specs.Nodes.{KeepsStream, Spread, has_hole, spread_of}
 use Rattle.in_place.specs.Blank.{blank_part}
 use Rattle.in_place.specs.InPlace.{Rewrites}

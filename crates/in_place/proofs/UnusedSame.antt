@@ -10,9 +10,9 @@ use Rattle.ntfs_def.specs.Record.{Header, header_of, is_in_use, record_flags, se
 use Rattle.volume_def.specs.Files.{Record, file_of, record_in, record_of, record_on}
 use Rattle.volume_def.specs.View.{VolumeView}
 use Rattle.volume_def.proofs.PartLaws.{record_at-block}
-use Rattle.edit_def.specs.Kept.{Key, key_of}
+use Rattle.session_def.specs.EditDefKept.{Key, key_of}
 use Rattle.volume_def.specs.Freed.{stored_sequence}
-use Rattle.edit_def.specs.Unused.{KeepsHeader, KeepsUnused}
+use Rattle.session_def.specs.Unused.{KeepsHeader, KeepsUnused}
 use Rattle.session_def.specs.Room.{KeepsBlocks, KeepsCopies, is_written_file}
 use Rattle.in_place.specs.Blank.{blank_record}
 use Rattle.in_place.specs.InPlace.{KeepsBlock, Rewrites, RewritesBlock, file_in}

@@ -3,7 +3,7 @@ use Rattle.std.specs.Prelude.{ℕ, length, map, replicate}
 use Rattle.std.specs.Option.{option_map}
 use Rattle.ntfs_def.specs.Attribute.{Attribute, Body, NonResident, Resident}
 use Rattle.volume_def.specs.Files.{Clusters, Content, Part, Record, Records, Value}
-use Rattle.edit_def.specs.Forms.{Form, form_of}
+use Rattle.session_def.specs.Forms.{Form, form_of}
 
 -- a value of zeros, as long
 abbrev pub blank_body : Body → Body

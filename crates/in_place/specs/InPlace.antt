@@ -7,7 +7,7 @@ use Rattle.ntfs_def.specs.Record.{header_of, is_in_use}
 use Rattle.volume_def.specs.Coverage.{IsOutsideTable}
 use Rattle.volume_def.specs.Files.{file_of, record_of}
 use Rattle.volume_def.specs.View.{VolumeView}
-use Rattle.edit_def.specs.Kept.{Key, key_of}
+use Rattle.session_def.specs.EditDefKept.{Key, key_of}
 use Rattle.record_edits.specs.InPlace.{IsUnnamed}
 use Rattle.in_place.specs.Blank.{outline_of}
 

@@ -7,16 +7,16 @@ use Rattle.volume_def.specs.Files.{records_of}
 use Rattle.volume_def.specs.Sound.{IsSound}
 use Rattle.volume_def.specs.View.{VolumeView}
 use Rattle.volume_edits.specs.Owners.{HasOwners}
-use Rattle.edit_def.specs.Kept.{Key, key_of}
+use Rattle.session_def.specs.EditDefKept.{Key, key_of}
 use Rattle.session_def.specs.Named.{is_index_kind}
 use Rattle.session_def.specs.Nodes.{flag_of, point_flag}
-use Rattle.tree_model.specs.Bill.{dropped_links}
-use Rattle.tree_model.specs.Effects.{makes_file}
-use Rattle.tree_model.specs.Reading.{node_at}
-use Rattle.tree_model.specs.Subjects.{Located}
-use Rattle.tree_model.specs.Tree.{Tree}
-use Rattle.tree_model.specs.declared.command.Command.{Command}
-use Rattle.tree_model.specs.declared.tree.Node.{Node}
+use Rattle.session_def.specs.Bill.{dropped_links}
+use Rattle.session_def.specs.Effects.{makes_file}
+use Rattle.session_def.specs.Reading.{node_at}
+use Rattle.session_def.specs.Subjects.{Located}
+use Rattle.session_def.specs.Tree.{Tree}
+use Rattle.session_def.specs.Command.{Command}
+use Rattle.session_def.specs.Node.{Node}
 
 -- no attribute of file f, and none of this type in it
 abbrev pub NamesNoneOf : (Key → Bool) → ℕ → Type 0

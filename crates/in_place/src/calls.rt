@@ -5,7 +5,7 @@ ghost use Rattle.volume_def.specs.Values.{spot_at};
 ghost use Rattle.volume_def.specs.View.{VolumeView};
 ghost use Rattle.volume_edits.specs.Clusters.{ChangesStream};
 ghost use Rattle.file_record.specs.Written.{HoldsBytes, WritesBytes};
-ghost use Rattle.edit_def.specs.Kept.{key_of, same_key};
+ghost use Rattle.session_def.specs.EditDefKept.{key_of, same_key};
 ghost use Rattle.in_place.specs.InPlace.{Rewrites};
 
 /// Bytes that are written into a value of a file rewrite that attribute (`written`), and so do bytes that are written into the clusters of

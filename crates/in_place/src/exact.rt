@@ -4,12 +4,12 @@ ghost use Rattle.ntfs_def.specs.declared.kinds.TheConstants.{BITMAP, FILE_NAME, 
 ghost use Rattle.volume_def.specs.Files.{Part, content_value, parts_at};
 ghost use Rattle.volume_def.specs.Values.{first_part};
 ghost use Rattle.volume_def.specs.View.{VolumeView};
-ghost use Rattle.tree_model.specs.Bill.{Change};
-ghost use Rattle.tree_model.specs.IndexRoom.{Index, index_depth};
-ghost use Rattle.tree_model.specs.Subjects.{Located};
-ghost use Rattle.tree_model.specs.Tree.{Tree, node_of};
-ghost use Rattle.tree_model.specs.declared.command.Command.{Command};
-ghost use Rattle.edit_def.specs.Kept.{Key, key_of};
+ghost use Rattle.session_def.specs.Bill.{Change};
+ghost use Rattle.session_def.specs.IndexRoom.{Index, index_depth};
+ghost use Rattle.session_def.specs.Subjects.{Located};
+ghost use Rattle.session_def.specs.Tree.{Tree, node_of};
+ghost use Rattle.session_def.specs.Command.{Command};
+ghost use Rattle.session_def.specs.EditDefKept.{Key, key_of};
 ghost use Rattle.session_def.specs.Indexes.{KeepsIndexIfThere, keys_changed};
 ghost use Rattle.session_def.specs.Named.{main_file};
 ghost use Rattle.session_def.specs.Nodes.{HasPoint, KeepsNodes};

@@ -18,8 +18,8 @@ use Rattle.tree_model.specs.declared.tree.Node.{Node}
 use Rattle.session_def.specs.Cost.{bytes_in}
 use Rattle.session_def.specs.Nodes.{edits_stream}
 use Rattle.session_def.specs.State.{State}
-use Rattle.command_edits.specs.Allowed.{IsAllowed}
-use Rattle.command_edits.proofs.AllowedCommands.{allowed}
+use Rattle.edit_written.specs.Allowed.{IsAllowed}
+use Rattle.edit_written.proofs.AllowedCommands.{allowed}
 use Rattle.in_place.specs.Unnamed.{CanSet}
 use Rattle.in_place_done.specs.Written.{FindsFile, is_done}
 use Rattle.in_place_done.proofs.FoundFile.{has-content, leads-there}
@@ -68,19 +68,19 @@ stream-of : (view : VolumeView) (m : Machine) (session : ℕ) (command : Command
     → packed (subject_of command) at ≡ false → is_built_for view m.tree command at ≡ true → HoldsStream m.tree at node
 stream-of view m session (c.Write path stream from bytes) at node there is edits found plain built =
     stream-held view m.tree at node there (has-content m session (c.Write path stream from bytes) at refl refl found) plain
-    (stream-some view m.tree (c.Write path stream from bytes) at refl built)
+    (stream-some view m.tree (c.Write path stream from bytes) at refl refl built)
 stream-of view m session (c.Hwrite handle from bytes) at node there is edits found plain built =
     stream-held view m.tree at node there (has-content m session (c.Hwrite handle from bytes) at refl refl found) plain
-    (stream-some view m.tree (c.Hwrite handle from bytes) at refl built)
+    (stream-some view m.tree (c.Hwrite handle from bytes) at refl refl built)
 stream-of view m session (c.Punch path stream from len) at node there is edits found plain built =
     stream-held view m.tree at node there (has-content m session (c.Punch path stream from len) at refl refl found) plain
-    (stream-some view m.tree (c.Punch path stream from len) at refl built)
+    (stream-some view m.tree (c.Punch path stream from len) at refl refl built)
 stream-of view m session (c.Truncate path stream size) at node there is edits found plain built =
     stream-held view m.tree at node there (has-content m session (c.Truncate path stream size) at refl refl found) plain
-    (stream-some view m.tree (c.Truncate path stream size) at refl built)
+    (stream-some view m.tree (c.Truncate path stream size) at refl refl built)
 stream-of view m session (c.Rmstream path name) at node there is edits found plain built =
     stream-held view m.tree at node there (has-content m session (c.Rmstream path name) at refl refl found) plain
-    (stream-some view m.tree (c.Rmstream path name) at refl built)
+    (stream-some view m.tree (c.Rmstream path name) at refl refl built)
 stream-of view m session (c.Setattr path flags) at node there is edits found plain built = cc
 stream-of view m session (c.Setsec path id) at node there is edits found plain built = cc
 stream-of view m session other at node there is edits found plain built = cc

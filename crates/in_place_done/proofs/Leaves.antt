@@ -92,7 +92,7 @@ module _ (facts : Facts) (before : State) (session : ℕ) (command : Command) (f
 -- WHAT WAS STAGED can be written, whichever way the command is done.
 can-be-written : (before : State) (command : Command) (at : Located) (node : Node) (new : VolumeView) → CanBeEdited before command at node
     → Stages before command at at.file node new → CanBeWritten before command at new
-can-be-written before command at node new is stages = elim (way-of before.view before.machine.tree command at is.built) [
+can-be-written before command at node new is stages = elim (way-of before.view before.machine.tree command at is.edits is.built) [
   | inl place ↦ place-written before command at node new place is stages
   | inr value ↦ value-written before command at node new value is stages
 ]

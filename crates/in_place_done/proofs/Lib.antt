@@ -21,3 +21,8 @@ pub mod FoundEdit
 pub mod WrittenBytes
 pub mod Leaves
 pub mod Below
+-- Laws of the crates below, passed on to those above.
+pub use Rattle.edit_written.proofs.LeftAlone
+pub use Rattle.in_place_owed.proofs.CallsOwed
+pub use Rattle.edit_written.proofs.FreshNumber
+pub use Rattle.edit_written.proofs.PlacesApart

@@ -35,7 +35,7 @@ use Rattle.in_place.specs.InPlace.{Rewrites}
 use Rattle.in_place.specs.Unnamed.{CanSet, KeepsMarks}
 use Rattle.in_place.proofs.RewriteLaws.{Rewrites-more, Rewrites-then}
 use Rattle.in_place.proofs.SameRecords.{on-same}
-use Rattle.reading_edits.specs.Steps.{with_node}
+use Rattle.edit_written.specs.Steps.{with_node}
 use Rattle.attribute_edits.specs.Below.{SetsAttributes}
 use Rattle.attribute_edits.specs.Attributes as attributes
 use Rattle.attribute_edits.proofs.AttributesSet as edits

@@ -21,7 +21,7 @@ use Rattle.tree_model.specs.declared.tree.Node.{Node}
 use Rattle.tree_model.specs.declared.tree.TheConstants.{SHOWN_FLAGS}
 use Rattle.tree_model.proofs.ReadingLaws.{node_of-read}
 use Rattle.session_def.specs.State.{Stands, State}
-use Rattle.reading_edits.specs.Steps.{with_node}
+use Rattle.edit_written.specs.Steps.{with_node}
 
 pub nodes-read : (view : VolumeView) → (read view).nodes ≡ tree_nodes view
 unfolding read

@@ -9,7 +9,7 @@ use Rattle.volume_def.specs.Values.{first_part}
 use Rattle.volume_def.specs.View.{VolumeView}
 use Rattle.tree_model.specs.Staging.{is_built_for}
 use Rattle.tree_model.specs.Ways.{can_end, can_reach, fits_in_record, gets_no_longer, has_no_list, in_extent, is_done_in_clusters}
-use Rattle.tree_model.specs.Ways.{is_done_in_place, is_done_in_record, is_extent_alone, is_value_alone, stays_value}
+use Rattle.tree_model.specs.Ways.{is_done_in_directory, is_done_in_place, is_done_in_record, is_extent_alone, is_value_alone, stays_value}
 use Rattle.tree_model.specs.StreamRoom.{goes_over, stream_parts, stream_value}
 use Rattle.tree_model.specs.Subjects.{Located}
 use Rattle.tree_model.specs.Tree.{Tree}
@@ -18,6 +18,7 @@ use Rattle.tree_model.specs.declared.command.Command.TheVariants as c
 use Rattle.session_def.specs.Nodes.{edits_stream}
 use Rattle.in_place_owed.specs.SetsInPlace.{edits_in_place}
 use Rattle.edit_written.specs.Below.{IsDoneAlone, edits_value}
+use Rattle.in_place_done.specs.Written.{is_done}
 use Rattle.in_place_done.proofs.HeldStream.{over-some, value-some}
 
 place-of : (view : VolumeView) (tree : Tree) (command : Command) (at : Located) → is_done_in_place view tree command at ≡ true
@@ -54,15 +55,26 @@ pub record Alone (view : VolumeView) (tree : Tree) (command : Command) (at : Loc
   pub edits : edits_value command ≡ true
   pub is : IsDoneAlone view tree command at
 
-pub way-of : (view : VolumeView) (tree : Tree) (command : Command) (at : Located) → is_built_for view tree command at ≡ true
-    → InPlace view tree command at ⊎ Alone view tree command at
-way-of view tree command at built =
+-- none of these is done in a directory
+pub none-there : (view : VolumeView) (tree : Tree) (command : Command) (at : Located) → is_done command ≡ true
+    → is_done_in_directory view tree command at ≡ true → ⊥
+none-there view tree (c.Create path) at done is = cc
+none-there view tree other at done is = cc
+
+pub way-of : (view : VolumeView) (tree : Tree) (command : Command) (at : Located) → is_done command ≡ true
+    → is_built_for view tree command at ≡ true → InPlace view tree command at ⊎ Alone view tree command at
+way-of view tree command at done built =
+    let in_clusters = is_done_in_clusters view tree command at in
+    let in_directory = is_done_in_directory view tree command at in
     elim (or_cases (is_done_in_place view tree command at)
-    (is_done_in_record view tree command at || is_done_in_clusters view tree command at) built) [
+    (is_done_in_record view tree command at || (in_clusters || in_directory)) built) [
       | inl is ↦ inl (record { edits = place-of view tree command at is; is = is })
-      | inr alone ↦ inr (elim (or_cases (is_done_in_record view tree command at) (is_done_in_clusters view tree command at) alone) [
+      | inr alone ↦ inr (elim (or_cases (is_done_in_record view tree command at) (in_clusters || in_directory) alone) [
         | inl is ↦ record { edits = record-of view tree command at is; is = inl is }
-        | inr is ↦ record { edits = clusters-of view tree command at is; is = inr is }
+        | inr rest ↦ elim (or_cases in_clusters in_directory rest) [
+          | inl is ↦ record { edits = clusters-of view tree command at is; is = inr is }
+          | inr is ↦ absurd (none-there view tree command at done is)
+        ]
       ])
     ]
 
@@ -140,9 +152,9 @@ alone-some view tree command at (inr is) =
     extent-some (first_part (stream_parts view tree at))
     (and_parts (in_extent (first_part (stream_parts view tree at))) _ (clusters-alone view tree command at is)).0
 
-pub stream-some : (view : VolumeView) (tree : Tree) (command : Command) (at : Located) → edits_stream command ≡ true
-    → is_built_for view tree command at ≡ true → is_some (first_part (stream_parts view tree at)) ≡ true
-stream-some view tree command at edits built = elim (way-of view tree command at built) [
+pub stream-some : (view : VolumeView) (tree : Tree) (command : Command) (at : Located) → is_done command ≡ true
+    → edits_stream command ≡ true → is_built_for view tree command at ≡ true → is_some (first_part (stream_parts view tree at)) ≡ true
+stream-some view tree command at done edits built = elim (way-of view tree command at done built) [
   | inl place ↦ place-some view tree command at edits place.is
   | inr alone ↦ alone-some view tree command at alone.is
 ]

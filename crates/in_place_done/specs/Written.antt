@@ -1,6 +1,6 @@
 -- AN EDIT THAT WAS STAGED, AND WRITTEN. One in place: bytes of a stream that went over bytes, a range of a value that was made zero, and
 -- times, flags and the security id of a file that were set. Or one of a stream alone, a value or in clusters: it has other bytes, or went.
-use Rattle.std.specs.Prelude.{◌≡◌, ◌||◌, ◌+◌, ◌*◌, ◌/◌, ◌^◌, ◌<◌, ◌≤◌, ℕ, Bool, List, Contains, Ok, None, Some, bit_and, length}
+use Rattle.std.specs.Prelude.{◌≡◌, ◌||◌, ◌+◌, ◌*◌, ◌/◌, ◌^◌, ◌<◌, ◌≤◌, ℕ, All, Bool, List, Contains, Ok, None, Some, bit_and, length}
 use Rattle.std.specs.Prelude.{false, slice_set, true}
 use Rattle.vol_disk.specs.Contents.{sector_in}
 use Rattle.ntfs_def.specs.FileName.{FileName}
@@ -38,9 +38,10 @@ use Rattle.edit_written.specs.Below.{PunchesValue, PutsStream, ResizesStream, Wr
 use Rattle.edit_written.specs.Below as edits
 use Rattle.in_place_owed.specs.SetsInPlace.{edits_in_place}
 
--- a command sets no flags but those that are shown, and a security id of four bytes
+-- a command sets no flags but those that are shown, and a security id of four bytes; each name of the path to a new file has a unit
 abbrev pub SetsShown : Command → Type 0
 SetsShown (c.Setattr path flags) = bit_and flags SHOWN_FLAGS ≡ flags
+SetsShown (c.Create path) = All (λ (name : List ℕ). 1 ≤ length name) path
 SetsShown (c.Setsec path id) = id < 2 ^ 32
 SetsShown other = Unit {0}
 

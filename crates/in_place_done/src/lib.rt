@@ -3,4 +3,5 @@
 
 mod laws;
 
+pub use edit_written::{find_flag, find_log};
 pub use laws::in_place_done_laws;

@@ -17,7 +17,7 @@ use Rattle.edit_def.specs.Edited.{is_list_key, is_room_file}
 use Rattle.edit_def.specs.Kept.{Key}
 use Rattle.session_def.specs.Named.{has_entry_of, is_changed_key, is_directory_key, is_own_key, is_times_key, timed}
 use Rattle.session_def.specs.Nodes.{edits_stream}
-use Rattle.record_edits.specs.InPlace.{NamesNoRoom}
+use Rattle.in_place.specs.RecordEditsInPlace.{NamesNoRoom}
 use Rattle.in_place_owed.specs.SetsInPlace.{edits_in_place, is_entries_key, is_node_kind, is_set_key}
 use Rattle.in_place_owed.proofs.InPlaceCommands.{own-elsewhere, own-kind, own-none, own-same, timed-one}
 

@@ -12,7 +12,7 @@ use Rattle.index_node.proofs.FoundLaws.{has_first}
 use Rattle.index_node.proofs.NodeLaws.{entry_place-next, entry_whole, place_whole}
 use Rattle.index_node.proofs.SpanLaws.{count_said, place_low}
 use Rattle.index_node.proofs.SpliceLaws.{ends}
-use Rattle.index_puts.specs.LeafRoom.{node_room}
+use Rattle.tree_model.specs.LeafRoom.{node_room}
 
 pub header-is : (block : List ℕ) → length block ≡ 4096 → node_header block ≡ 0x18
 unfolding node_header

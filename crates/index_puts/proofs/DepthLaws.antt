@@ -13,9 +13,9 @@ use Rattle.index_tree.specs.Edit.{short_nodes}
 use Rattle.index_tree.proofs.EditMemory.{short_in}
 use Rattle.file_record.specs.declared.parts.FileParts.{FileParts}
 use Rattle.file_record.specs.Held.{file_number}
-use Rattle.index_store.specs.Index.{IsFound}
-use Rattle.index_store.specs.IndexBlocks.{records_found}
-use Rattle.index_store.specs.declared.index.FoundIndex.{FoundIndex}
+use Rattle.entry_edits.specs.Index.{IsFound}
+use Rattle.entry_edits.specs.IndexBlocks.{records_found}
+use Rattle.entry_edits.specs.FoundIndex.{FoundIndex}
 use Rattle.ntfs_def.specs.Node.{Item}
 use Rattle.ntfs_def.specs.Units.{wide}
 use Rattle.tree_model.specs.IndexRoom.{directory_index, index_depth}

@@ -6,7 +6,7 @@ use Rattle.std.specs.Option.{option_and_then, option_map_or}
 use Rattle.std.specs.declared.cmp.Ordering.{Ordering}
 use Rattle.std.proofs.lemmas.Bool.{cases_Bool}
 use Rattle.list_laws.proofs.OptionLaws.{none_other}
-use Rattle.ntfs_def.specs.FileName.{is_name_key}
+use Rattle.ntfs_def.specs.FileName.{is_name_key, key_units}
 use Rattle.ntfs_def.specs.Fixup.{opened_of}
 use Rattle.ntfs_def.specs.IndexTree.{Ascends, Each, Walks}
 use Rattle.ntfs_def.specs.KeyOrder.{fold_of, name_order}
@@ -23,16 +23,16 @@ use Rattle.index_tree.specs.Edit.{HasSortedIndex, IsSortedIndex, short_nodes}
 use Rattle.index_tree.proofs.MovedWalks.{walks_moved}
 use Rattle.file_record.specs.declared.parts.FileParts.{FileParts}
 use Rattle.file_record.specs.Held.{file_number}
-use Rattle.index_store.specs.declared.index.FoundIndex.{FoundIndex}
-use Rattle.index_store.specs.Index.{HasParts, IsFound, index_held}
-use Rattle.index_store.specs.IndexBlocks.{records_found}
-use Rattle.index_store.specs.IndexRecords.{index_record_on, is_index_record_at}
-use Rattle.index_store.proofs.HeldIndexLaws.{index-held}
-use Rattle.index_store.proofs.IndexRecordLaws.{record-there}
+use Rattle.entry_edits.specs.FoundIndex.{FoundIndex}
+use Rattle.entry_edits.specs.Index.{HasParts, IsFound, index_held}
+use Rattle.entry_edits.specs.IndexBlocks.{records_found}
+use Rattle.entry_edits.specs.IndexRecords.{index_record_on, is_index_record_at}
+use Rattle.entry_edits.proofs.HeldIndexLaws.{index-held}
+use Rattle.entry_edits.proofs.IndexRecordLaws.{record-there}
 use Rattle.tree_model.specs.IndexRoom.{directory_index, root_of}
 use Rattle.index_puts.specs.Held.{IsHeldWith}
 use Rattle.index_puts.specs.Leaf.{room_under}
-use Rattle.index_puts.specs.LeafRoom.{has_leaf_room, has_room, leaf_for, leaf_of, name_side, names_of_directory, record_at}
+use Rattle.tree_model.specs.LeafRoom.{has_leaf_room, has_room, leaf_for, leaf_of, names_of_directory, record_at}
 use Rattle.index_puts.proofs.LeafLaws.{leaf_of-said, leaf_same}
 
 pub one-root : {X : Type 0} {a b : X} → Some a ∷ [] ≡ Some b ∷ [] → a ≡ b
@@ -153,13 +153,14 @@ module _ (view : VolumeView) (file : FileParts) (table : List ℕ) (items : List
 
     module _ (key : List ℕ) where
       abbrev side : List ℕ → Ordering
-      side = name_side view key
+      side other = name_order (volume_fold view) other key
 
       root-is : root_of view (directory_index (file_number file)) ≡ Some has.root_node
       root-is = root-value (short_node Names) parts.root has.root has.is_root ∙ has.says
 
       -- THE LEAF that is found is that of the volume
-      pub same-leaf : leaf_of side (short_nodes Names records) (short_node Names index.root.now) ≡ leaf_for view (file_number file) key
+      pub same-leaf : leaf_of side (short_nodes Names records) (short_node Names index.root.now) ≡ leaf_for view (file_number file) (key_units key)
+      unfolding name_order
       same-leaf =
           ap (leaf_of side (short_nodes Names records)) (root-says ∙ ap (λ (n : Node). Some n) (sym has.walks.holds.node))
           ∙ leaf_same side (short_nodes Names records) (index_nodes Names view parts) has.walks.depth has.walks.s has.walks.small
@@ -180,7 +181,7 @@ module _ (view : VolumeView) (file : FileParts) (table : List ℕ) (items : List
           ap (λ o. option_map_or (has_room len) o false) at
 
       pub same-room : (len : ℕ)
-          → room_under side records (short_node Names index.root.now) len ≡ has_leaf_room view (file_number file) key len
+          → room_under side records (short_node Names index.root.now) len ≡ has_leaf_room view (file_number file) (key_units key) len
       unfolding has_leaf_room
       same-room len =
           room-by len (leaf_of side (short_nodes Names records) (short_node Names index.root.now)) refl

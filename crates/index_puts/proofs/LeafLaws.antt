@@ -7,7 +7,7 @@ use Rattle.list_laws.proofs.OptionLaws.{none_other, some_same}
 use Rattle.ntfs_def.specs.IndexTree.{AreStored, Branch, EachBelow, IsStored, Nodes, Spread, Tree, child_of, entry_of, most_depth, node_of}
 use Rattle.ntfs_def.specs.Node.{Entry, Node, child_from}
 use Rattle.index_node.specs.Seek.{IsPlace, StartsAt}
-use Rattle.index_puts.specs.LeafRoom.{child_beside, child_on, leaf_of, leaf_under}
+use Rattle.tree_model.specs.LeafRoom.{child_beside, child_on, leaf_of, leaf_under}
 
 -- Where a search ends in a node.
 

@@ -11,7 +11,7 @@ use Rattle.index_tree.proofs.EditMemory.{short_in}
 use Rattle.index_tree.proofs.EditSearch.{index_below, index_keys}
 use Rattle.index_tree.proofs.EditSteps as steps
 use Rattle.index_tree.proofs.OrderLaws.{IsOrder}
-use Rattle.index_puts.specs.LeafRoom.{leaf_of, leaf_under}
+use Rattle.tree_model.specs.LeafRoom.{leaf_of, leaf_under}
 use Rattle.index_puts.proofs.LeafLaws.{child_on-at, leaf_from}
 
 module _ (order : List ℕ → List ℕ → Ordering) (valid : List ℕ → Bool) (laws : IsOrder order) (r : ℕ → Option (List ℕ)) where

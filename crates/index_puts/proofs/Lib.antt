@@ -13,3 +13,7 @@ pub mod RootLaws
 pub mod RootPut
 pub mod RoomStays
 mod DepthLaws
+-- Laws of the crates below, passed on to those above.
+pub use Rattle.entry_edits.proofs.FewStaged
+pub use Rattle.file_record.proofs.RecordLaws as FileRecordRecordLaws
+pub use Rattle.index_tree.proofs.IndexTreeLaws

@@ -28,13 +28,13 @@ use Rattle.volume_edits.specs.Owners.{HasOwners}
 use Rattle.volume_edits.proofs.ChangedStream.{clusters-kept, records-kept}
 use Rattle.index_tree.specs.Edit.{IsPut, short_nodes}
 use Rattle.index_tree.proofs.MovedWalks.{SaysAt, spread_there, walks_moved}
-use Rattle.index_store.specs.IndexRecords.{index_record_on, is_index_record_at}
-use Rattle.index_store.proofs.IndexRecordLaws.{records-of}
+use Rattle.entry_edits.specs.IndexRecords.{index_record_on, is_index_record_at}
+use Rattle.entry_edits.proofs.IndexRecordLaws.{records-of}
 use Rattle.tree_model.specs.IndexRoom.{directory_index, index_depth}
 use Rattle.tree_model.proofs.IndexRoomLaws.{depth-walk}
 use Rattle.edit_def.specs.Items.{HasItems}
 use Rattle.index_puts.specs.Leaf.{PutUnder}
-use Rattle.index_puts.specs.LeafRoom.{names_of_directory}
+use Rattle.tree_model.specs.LeafRoom.{names_of_directory}
 use Rattle.index_puts.proofs.HeldLaws.{bytes-there}
 
 abbrev names : List ℕ

@@ -16,7 +16,7 @@ use Rattle.index_tree.proofs.EditRoot.{root_index, root_put}
 use Rattle.index_tree.proofs.EditSearch.{index_below}
 use Rattle.index_tree.proofs.EditSteps.{level_more, node_there}
 use Rattle.index_puts.specs.Leaf.{PutUnder}
-use Rattle.index_puts.specs.LeafRoom.{child_on, leaf_of, leaf_under}
+use Rattle.tree_model.specs.LeafRoom.{child_on, leaf_of, leaf_under}
 use Rattle.index_puts.proofs.LeafLaws.{child_on-at, leaf_step, some_place}
 
 abbrev alone : Item → Entry

@@ -14,7 +14,7 @@ use Rattle.index_tree.proofs.EditSteps.{alone}
 use Rattle.index_tree.proofs.OrderLaws.{IsOrder}
 use Rattle.index_puts.specs.declared.leaf.Leaf.{Leaf}
 use Rattle.index_puts.specs.Leaf.{EndsIn, PutsUnder, ReadsLeaf}
-use Rattle.index_puts.specs.LeafRoom.{leaf_of}
+use Rattle.tree_model.specs.LeafRoom.{leaf_of}
 use Rattle.index_puts.proofs.PutLaws.{put_under}
 use Rattle.index_puts.proofs.RoomLaws.{leaf_node}
 

@@ -37,7 +37,7 @@ use Rattle.edit_def.proofs.IndexLaws.{items-kept}
 use Rattle.entry_edits.specs.Refreshable.{is_part_key}
 use Rattle.entry_edits.proofs.ChangedRecords.{beside-changed, kept-changed, owners-kept}
 use Rattle.index_puts.specs.Held.{CanPut}
-use Rattle.index_puts.specs.LeafRoom.{names_of_directory}
+use Rattle.tree_model.specs.LeafRoom.{names_of_directory}
 use Rattle.index_puts.specs.PutsItem.{PutsItem}
 use Rattle.index_puts.proofs.PutItems as index
 

@@ -17,13 +17,13 @@ use Rattle.volume_edits.specs.Owners.{HasOwners}
 use Rattle.index_tree.specs.Edit.{IsAbsent, short_nodes}
 use Rattle.file_record.specs.declared.parts.FileParts.{FileParts}
 use Rattle.file_record.specs.Held.{file_number}
-use Rattle.index_store.specs.declared.index.FoundIndex.{FoundIndex}
-use Rattle.index_store.specs.Index.{IsFound, index_held}
-use Rattle.index_store.specs.IndexRecords.{index_record_on}
+use Rattle.entry_edits.specs.FoundIndex.{FoundIndex}
+use Rattle.entry_edits.specs.Index.{IsFound, index_held}
+use Rattle.entry_edits.specs.IndexRecords.{index_record_on}
 use Rattle.edit_def.specs.Items.{HasItems}
 use Rattle.index_puts.specs.Held.{IsHeldWith, LacksKey}
 use Rattle.index_puts.specs.Leaf.{PutUnder, PutsInto}
-use Rattle.index_puts.specs.LeafRoom.{names_of_directory}
+use Rattle.tree_model.specs.LeafRoom.{names_of_directory}
 use Rattle.index_puts.specs.PutsItem.{PutsItem}
 use Rattle.index_puts.proofs.HeldLaws.{fold-is, is-sorted, root-says, same-index}
 use Rattle.index_puts.proofs.PutItems.{depth-now, items-now, now, put-now}
@@ -71,6 +71,5 @@ module _ (old new : VolumeView) (file : FileParts) (table : List ℕ) (item : It
     changes = changes;
     depth =
         let put = put-of lacks.items lacks.held.has lacks.absent in
-        let deep = depth-now old new dir owners changes some lacks.items lacks.held.has item put in
-        omega (arith, deep);
+        depth-now old new dir owners changes some lacks.items lacks.held.has item put;
   }

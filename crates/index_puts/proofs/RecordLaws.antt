@@ -23,8 +23,8 @@ use Rattle.file_record.specs.declared.held.Held.{Held}
 use Rattle.file_record.specs.declared.parts.FileParts.{FileParts}
 use Rattle.file_record.specs.Held.{IsCurrentRecord, IsHeldFile, RecordHeld, attributes_in, file_number, held_of, parts_held}
 use Rattle.file_record.proofs.HeldLaws.{part-at, within-held}
-use Rattle.dir_index.proofs.StandardLaws.{at-among}
-use Rattle.index_puts.specs.RootRoom.{TellsFree}
+use Rattle.entry_edits.proofs.StandardLaws.{at-among}
+use Rattle.index_puts.specs.RecordRoom.{TellsFree}
 
 -- the bytes in use do not lie in the update sequence array
 used-bare : (block : List ℕ) (count : ℕ) → HasShape block count → used_size (bare_of block) ≡ used_size block

@@ -11,7 +11,7 @@ use Rattle.index_tree.specs.Edit.{short_nodes}
 use Rattle.index_tree.proofs.EditMemory.{short_in}
 use Rattle.index_puts.specs.declared.leaf.Leaf.{Leaf}
 use Rattle.index_puts.specs.Leaf.{ReadsLeaf, room_under}
-use Rattle.index_puts.specs.LeafRoom.{has_room, leaf_of, node_room}
+use Rattle.tree_model.specs.LeafRoom.{has_room, leaf_of, node_room}
 use Rattle.index_puts.proofs.BytesLaws.{room_fits}
 use Rattle.index_puts.proofs.LeafLaws.{leaf_of-said}
 

@@ -2,8 +2,9 @@
 use Rattle.std.proofs.Common.{◌≡◌, ◌+◌, ◌-◌, ◌*◌, ℕ, Bool, false, List, [], Option, Some, None, filter, slice_range, refl, sym, ap, ◌∙◌}
 use Rattle.std.specs.Prelude.{◌&&◌, IfSome, codes, is_some, nat_le, not}
 use Rattle.std.specs.Option.{option_and_then, option_map_or}
+use Rattle.ntfs_def.specs.FileName.{key_units}
 use Rattle.ntfs_def.specs.Fixup.{opened_of}
-use Rattle.ntfs_def.specs.KeyOrder.{name_order}
+use Rattle.ntfs_def.specs.KeyOrder.{compare_units}
 use Rattle.ntfs_def.specs.Node.{Node, short_node}
 use Rattle.ntfs_def.specs.Record.{used_size}
 use Rattle.ntfs_def.specs.Units.{wide}
@@ -17,8 +18,8 @@ use Rattle.volume_def.specs.Room.{free_bytes}
 use Rattle.volume_def.specs.Table.{cluster_bytes}
 use Rattle.volume_def.specs.Values.{first_part, value_on}
 use Rattle.volume_def.specs.View.{VolumeView}
-use Rattle.index_puts.specs.LeafRoom.{has_leaf_room, has_room, leaf_of, names_of_directory}
-use Rattle.index_puts.specs.RootRoom.{has_root_room}
+use Rattle.tree_model.specs.LeafRoom.{has_leaf_room, has_room, leaf_of, names_of_directory}
+use Rattle.tree_model.specs.RootRoom.{has_root_room}
 
 -- the record at a number, from the value of all
 abbrev record-in : ℕ → List ℕ → ℕ → List ℕ
@@ -28,28 +29,28 @@ abbrev root-in : List Part → Option Node
 root-in roots = option_and_then (λ part. option_and_then (short_node Names) (content_value part.content)) (first_part roots)
 
 abbrev room-in : IndexParts → List ℕ → ℕ → (ℕ → ℕ) → List ℕ → ℕ → Bool
-room-in index value size fold key len =
+room-in index value size fold units len =
     option_map_or (λ vcn. has_room len (record-in size value vcn))
-    (leaf_of (λ other. name_order fold other key) (λ vcn. short_node Names (record-in size value vcn)) (root-in index.root)) false
+    (leaf_of (λ key. compare_units fold (key_units key) units) (λ vcn. short_node Names (record-in size value vcn)) (root-in index.root)) false
 
-room-is : (view : VolumeView) (dir : ℕ) (key : List ℕ) (len : ℕ) → has_leaf_room view dir key len
+room-is : (view : VolumeView) (dir : ℕ) (units : List ℕ) (len : ℕ) → has_leaf_room view dir units len
     ≡ room-in (names_of_directory view dir) (value_on view (names_of_directory view dir).records) (cluster_bytes view.layout) (volume_fold view)
-    key len
+    units len
 unfolding has_leaf_room index_nodes
-room-is view dir key len = refl
+room-is view dir units len = refl
 
-pub leaf-stays : (old new : VolumeView) (dir : ℕ) (key : List ℕ) (len : ℕ) → names_of_directory new dir ≡ names_of_directory old dir
+pub leaf-stays : (old new : VolumeView) (dir : ℕ) (units : List ℕ) (len : ℕ) → names_of_directory new dir ≡ names_of_directory old dir
     → value_on new (names_of_directory old dir).records ≡ value_on old (names_of_directory old dir).records
     → cluster_bytes new.layout ≡ cluster_bytes old.layout → volume_fold new ≡ volume_fold old
-    → has_leaf_room new dir key len ≡ has_leaf_room old dir key len
-leaf-stays old new dir key len same value size fold =
+    → has_leaf_room new dir units len ≡ has_leaf_room old dir units len
+leaf-stays old new dir units len same value size fold =
     let index = names_of_directory old dir in
-    room-is new dir key len
-    ∙ ap (λ (i : IndexParts). room-in i (value_on new i.records) (cluster_bytes new.layout) (volume_fold new) key len) same
-    ∙ ap (λ v. room-in index v (cluster_bytes new.layout) (volume_fold new) key len) value
-    ∙ ap (λ n. room-in index (value_on old index.records) n (volume_fold new) key len) size
-    ∙ ap (λ f. room-in index (value_on old index.records) (cluster_bytes old.layout) f key len) fold
-    ∙ sym (room-is old dir key len)
+    room-is new dir units len
+    ∙ ap (λ (i : IndexParts). room-in i (value_on new i.records) (cluster_bytes new.layout) (volume_fold new) units len) same
+    ∙ ap (λ v. room-in index v (cluster_bytes new.layout) (volume_fold new) units len) value
+    ∙ ap (λ n. room-in index (value_on old index.records) n (volume_fold new) units len) size
+    ∙ ap (λ f. room-in index (value_on old index.records) (cluster_bytes old.layout) f units len) fold
+    ∙ sym (room-is old dir units len)
 
 -- the same of the root
 beside-in : (old new : VolumeView) (len : ℕ) (part : Option Part) → IfSome part (λ p. new.block p.holder ≡ old.block p.holder)

@@ -15,15 +15,16 @@ use Rattle.volume_def.specs.View.{VolumeView}
 use Rattle.index_tree.proofs.EditMemory.{short_in}
 use Rattle.file_record.specs.declared.parts.FileParts.{FileParts}
 use Rattle.file_record.specs.Held.{IsHeldFile, file_number, parts_held}
-use Rattle.attr_store.specs.First.{TellsFirst, TellsSizes, attribute_held}
-use Rattle.attr_store.specs.declared.first.FirstPart.{FirstPart}
-use Rattle.index_store.specs.declared.index.FoundIndex.{FoundIndex}
-use Rattle.index_store.specs.Index.{HasParts, IsFound, index_held}
-use Rattle.index_store.proofs.HeldIndexLaws.{index-held}
-use Rattle.dir_index.proofs.RootLaws.{root-found}
+use Rattle.entry_edits.specs.First.{TellsFirst, TellsSizes, attribute_held}
+use Rattle.entry_edits.specs.FirstPart.{FirstPart}
+use Rattle.entry_edits.specs.FoundIndex.{FoundIndex}
+use Rattle.entry_edits.specs.Index.{HasParts, IsFound, index_held}
+use Rattle.entry_edits.proofs.HeldIndexLaws.{index-held}
+use Rattle.entry_edits.proofs.RootLaws.{root-found}
 use Rattle.tree_model.specs.IndexRoom.{directory_index, root_of}
 use Rattle.edit_def.specs.Items.{HasItems}
-use Rattle.index_puts.specs.RootRoom.{TellsFree, has_list, has_root_room, is_free_beside_root, is_root_leaf}
+use Rattle.index_puts.specs.RecordRoom.{TellsFree}
+use Rattle.tree_model.specs.RootRoom.{has_list, has_root_room, is_free_beside_root, is_root_leaf}
 use Rattle.index_puts.proofs.HeldLaws.{one-root, root-value}
 use Rattle.index_puts.proofs.RecordLaws.{free-tells}
 

@@ -12,9 +12,9 @@ use Rattle.index_node.specs.declared.blocks.BlockNo.TheVariants as block_no
 use Rattle.index_tree.specs.Edit.{IsAbsent, IsPut, IsSortedIndex, SeeksNode, short_nodes}
 use Rattle.file_record.specs.declared.error.FileNo.{FileNo}
 use Rattle.file_record.specs.declared.error.FileNo.TheVariants as file_no
-use Rattle.index_store.specs.IndexRecords.{index_record_on}
+use Rattle.entry_edits.specs.IndexRecords.{index_record_on}
 use Rattle.index_puts.specs.declared.leaf.Leaf.{Leaf}
-use Rattle.index_puts.specs.LeafRoom.{has_room, leaf_of}
+use Rattle.tree_model.specs.LeafRoom.{has_room, leaf_of}
 
 -- The leaf is the record of this number, and these are its bytes; or there is none.
 pub record ReadsLeaf (records : ℕ → Option (List ℕ)) (number : Option ℕ) (leaf : Option Leaf) (block : List ℕ) : Type 0 where

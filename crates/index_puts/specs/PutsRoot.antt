@@ -13,7 +13,7 @@ use Rattle.index_node.specs.Edit.{EditsShort, entry_in, with_entry_at}
 use Rattle.index_tree.specs.Edit.{IsAbsent, IsPut}
 use Rattle.tree_model.specs.IndexRoom.{directory_index, index_depth}
 use Rattle.edit_def.specs.Items.{HasItems}
-use Rattle.index_puts.specs.LeafRoom.{names_of_directory}
+use Rattle.tree_model.specs.LeafRoom.{names_of_directory}
 
 -- The value of a root has an entry more, before entry i or behind all: it grew by it, and its first sixteen bytes are as they were.
 pub record GrowsRoot (old new : List ℕ) (i : ℕ) (entry : List ℕ) : Type 0 where

@@ -3,7 +3,7 @@ ghost use Rattle.std.specs.Prelude.{◌≡◌, IsSome, Some, suc};
 ghost use Rattle.ntfs_def.specs.Node.{Node, entry_place, first_entry, node_in};
 ghost use Rattle.ntfs_def.specs.declared.index.NodeForm.TheVariants.{Names};
 ghost use Rattle.index_node.specs.Edit.{HasPlace};
-ghost use Rattle.index_puts.specs.LeafRoom.{node_room};
+ghost use Rattle.tree_model.specs.LeafRoom.{node_room};
 
 use index_node::NodeView;
 use ntfs_def::{NodeForm, index_record};

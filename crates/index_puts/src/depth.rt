@@ -6,8 +6,8 @@ ghost use Rattle.ntfs_def.specs.declared.index.NodeForm.TheVariants.{Names};
 ghost use Rattle.index_node.specs.Blocks.{CountsNo as CountsBlockNo};
 ghost use Rattle.file_record.specs.FileNos.{CountsNo, IsReadNo};
 ghost use Rattle.file_record.specs.Held.{IsHeldFile, file_number};
-ghost use Rattle.index_store.specs.Index.{IsFound};
-ghost use Rattle.index_store.specs.IndexBlocks.{records_found};
+ghost use Rattle.entry_edits.specs.Index.{IsFound};
+ghost use Rattle.entry_edits.specs.IndexBlocks.{records_found};
 ghost use Rattle.index_tree.specs.Edit.{short_nodes};
 ghost use Rattle.mft_table.specs.Mft.{MftReads, faults_of, mounted_of, view};
 ghost use Rattle.tree_model.specs.IndexRoom.{directory_index, index_depth};
@@ -15,9 +15,9 @@ ghost use Rattle.index_puts.specs.Held.{HoldsItems};
 ghost use Rattle.index_puts.specs.Depth.{HasLevels, HasTree, HasTreeUnder};
 
 use crate::room::{NAMES, file_no};
+use entry_edits::{FoundIndex, IndexBlocks, find_index};
 use file_record::{FileNo, FileParts};
 use index_node::{BlockNo, Blocks, NodeView};
-use index_store::{FoundIndex, IndexBlocks, find_index};
 use mft_table::Mft;
 use ntfs_def::NodeForm;
 use std::alloc::Global;
@@ -117,8 +117,8 @@ fn depth_found<'m, 'd, D: Disk>(
     }
 }
 
-/// How deep the index of a directory is that is held: the nodes on the way from its root to a leaf, both counted. One record a level is
-/// read. By condition, where the contents are told: the directory is held as the volume has it, and its index is right.
+/// How deep the index of a directory is that is held: the nodes on the way from its root to a leaf, both counted.
+/// By condition, where the contents are told: the directory is held as the volume has it, and its index is right.
 ///
 /// # Errors
 ///

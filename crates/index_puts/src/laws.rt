@@ -18,9 +18,9 @@ ghost use Rattle.edit_def.specs.Items.{ChangesItems, HasItems, IsCurrent, KeepsI
 ghost use Rattle.edit_def.specs.Kept.{KeepsBut};
 ghost use Rattle.entry_edits.specs.Refreshable.{is_part_key};
 ghost use Rattle.index_puts.specs.Held.{CanPut};
-ghost use Rattle.index_puts.specs.LeafRoom.{has_leaf_room, names_of_directory};
+ghost use Rattle.tree_model.specs.LeafRoom.{has_leaf_room, names_of_directory};
 ghost use Rattle.index_puts.specs.PutsItem.{PutsItem};
-ghost use Rattle.index_puts.specs.RootRoom.{has_root_room};
+ghost use Rattle.tree_model.specs.RootRoom.{has_root_room};
 
 /// The directory has the item more, where none of its items had this key (`items`), and every other directory has the items that it
 /// had (`others`). An entry of any directory that told what its file does tells it still (`current`). Every other index is as deep
@@ -59,10 +59,10 @@ pub fn put_clauses()
 /// size of clusters and the table of case (`leaf`), and beside a root where all parts of the directory are, and the record that holds
 /// the root (`root`).
 pub fn room_laws()
-    ensures leaf { (old new : VolumeView) (dir : ℕ) (key : List ℕ) (len : ℕ) → names_of_directory new dir ≡ names_of_directory old dir
+    ensures leaf { (old new : VolumeView) (dir : ℕ) (units : List ℕ) (len : ℕ) → names_of_directory new dir ≡ names_of_directory old dir
         → value_on new (names_of_directory old dir).records ≡ value_on old (names_of_directory old dir).records
         → cluster_bytes new.layout ≡ cluster_bytes old.layout → volume_fold new ≡ volume_fold old
-        → has_leaf_room new dir key len ≡ has_leaf_room old dir key len }
+        → has_leaf_room new dir units len ≡ has_leaf_room old dir units len }
     ensures root { (old new : VolumeView) (dir len : ℕ) → parts (records_of new) dir ≡ parts (records_of old) dir
         → IfSome (first_part (names_of_directory old dir).root) (λ part. new.block part.holder ≡ old.block part.holder)
         → has_root_room new dir len ≡ has_root_room old dir len }

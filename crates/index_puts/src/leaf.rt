@@ -6,7 +6,7 @@ ghost use Rattle.ntfs_def.specs.declared.index.NodeForm.TheVariants.{Names};
 ghost use Rattle.index_node.specs.Blocks.{CountsNo};
 ghost use Rattle.index_tree.specs.Edit.{EditCostsBelow, EditReads, HasSorted, HasSortedIndex, short_nodes};
 ghost use Rattle.index_puts.specs.Leaf.{EndsIn, ReadsLeaf};
-ghost use Rattle.index_puts.specs.LeafRoom.{leaf_of, leaf_under};
+ghost use Rattle.tree_model.specs.LeafRoom.{leaf_of, leaf_under};
 
 use crate::seek::seek_block;
 use collation::Collation;

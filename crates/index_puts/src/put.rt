@@ -1,7 +1,7 @@
 //! An entry comes into the leaf of its key.
 ghost use Rattle.std.specs.Prelude.{◌≡◌, ◌+◌, ◌≤◌, false, IfErr, IsTrue, MatchResult, OnOk, length, true};
 ghost use Rattle.vol_disk.specs.Contents.{WhereTold};
-ghost use Rattle.ntfs_def.specs.FileName.{is_name_key};
+ghost use Rattle.ntfs_def.specs.FileName.{is_name_key, key_units};
 ghost use Rattle.ntfs_def.specs.KeyOrder.{fold_of, name_order};
 ghost use Rattle.ntfs_def.specs.Node.{item_in, short_node};
 ghost use Rattle.ntfs_def.specs.Units.{wide};
@@ -16,22 +16,22 @@ ghost use Rattle.index_tree.specs.Edit.{HasSortedIndex, short_nodes};
 ghost use Rattle.mft_table.specs.Mft.{KeepsDisk, faults_of, is_mft_broken, view};
 ghost use Rattle.file_record.specs.FileNos.{CountsNo, IsReadNo};
 ghost use Rattle.file_record.specs.Held.{IsHeldFile, file_number};
-ghost use Rattle.index_store.specs.Index.{IsFound, index_held};
-ghost use Rattle.index_store.specs.IndexBlocks.{records_found};
-ghost use Rattle.dir_index.specs.Replaced.{StagesRecords};
+ghost use Rattle.entry_edits.specs.Index.{IsFound, index_held};
+ghost use Rattle.entry_edits.specs.IndexBlocks.{records_found};
+ghost use Rattle.entry_edits.specs.Replaced.{StagesRecords};
 ghost use Rattle.std.specs.Prelude.{codes};
 ghost use Rattle.index_puts.specs.Held.{LacksKey};
 ghost use Rattle.index_puts.specs.Leaf.{PutsInto, PutsUnder, room_under};
-ghost use Rattle.index_puts.specs.LeafRoom.{has_leaf_room};
+ghost use Rattle.tree_model.specs.LeafRoom.{has_leaf_room};
 ghost use Rattle.index_puts.specs.PutsItem.{PutsItem};
 
 use crate::leaf::find_leaf;
 use crate::room::{NAMES, file_no};
 use crate::seek::key_of;
 use collation::{Collation, FileNameOrder};
+use entry_edits::{FoundIndex, IndexBlocksMut, find_index};
 use file_record::{FileNo, FileParts};
 use index_node::{BlockNo, WriteBlocks, insert_at, sealed_nodes};
-use index_store::{FoundIndex, IndexBlocksMut, find_index};
 use mft_table::Mft;
 use ntfs_def::NodeForm;
 use std::alloc::Global;
@@ -140,7 +140,7 @@ pub fn put_item<D: Disk>(
     requires owners { IsTrue (view D.Disk mft.old).told → HasOwners (view D.Disk mft.old) }
     requires sound { is_mft_broken D.Disk mft.old ≡ false }
     requires room { IsTrue (view D.Disk mft.old).told
-        → has_leaf_room (view D.Disk mft.old) (file_number dir.now) (item_in entry.now).key (length entry.now) ≡ true }
+        → has_leaf_room (view D.Disk mft.old) (file_number dir.now) (key_units (item_in entry.now).key) (length entry.now) ≡ true }
     requires entry { IsShortEntry Names false entry.now }
     requires key { IsTrue (is_name_key (item_in entry.now).key) }
     ensures put { OnOk result (IsTrue (view D.Disk mft.old).told

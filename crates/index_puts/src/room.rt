@@ -1,7 +1,7 @@
 //! Whether the leaf of a key has room for an entry.
 ghost use Rattle.std.specs.Prelude.{◌≡◌, ◌*◌, ℕ, IfErr, IfOk, IsTrue, List, MatchResult};
 ghost use Rattle.vol_disk.specs.Contents.{WhereTold};
-ghost use Rattle.ntfs_def.specs.FileName.{is_name_key};
+ghost use Rattle.ntfs_def.specs.FileName.{is_name_key, key_units};
 ghost use Rattle.ntfs_def.specs.KeyOrder.{fold_of, name_order};
 ghost use Rattle.ntfs_def.specs.Node.{Item, short_node};
 ghost use Rattle.ntfs_def.specs.declared.index.NodeForm.TheVariants.{Names};
@@ -10,19 +10,19 @@ ghost use Rattle.index_tree.specs.Edit.{EditReads, HasSortedIndex, short_nodes};
 ghost use Rattle.mft_table.specs.Mft.{MftReads, faults_of, fetched_of, view};
 ghost use Rattle.file_record.specs.FileNos.{CountsNo, IsReadNo};
 ghost use Rattle.file_record.specs.Held.{IsHeldFile, file_number};
-ghost use Rattle.index_store.specs.Index.{IsFound};
-ghost use Rattle.index_store.specs.IndexBlocks.{records_found};
+ghost use Rattle.entry_edits.specs.Index.{IsFound};
+ghost use Rattle.entry_edits.specs.IndexBlocks.{records_found};
 ghost use Rattle.edit_def.specs.Items.{HasItems};
 ghost use Rattle.index_puts.specs.Held.{HoldsItems};
 ghost use Rattle.index_puts.specs.Leaf.{file_no_of, room_under};
-ghost use Rattle.index_puts.specs.LeafRoom.{has_leaf_room};
+ghost use Rattle.tree_model.specs.LeafRoom.{has_leaf_room};
 
 use crate::bytes::room_behind;
 use crate::leaf::find_leaf;
 use collation::{Collation, FileNameOrder};
+use entry_edits::{FoundIndex, IndexBlocks, find_index};
 use file_record::{FileNo, FileParts};
 use index_node::{BlockNo, Blocks};
-use index_store::{FoundIndex, IndexBlocks, find_index};
 use mft_table::Mft;
 use std::alloc::Global;
 use upcase::UpCase;
@@ -126,7 +126,7 @@ pub fn has_leaf_room<D: Disk>(
     requires held { IsTrue (view D.Disk mft.old).told → HoldsItems (view D.Disk mft.old) dir.now upcase }
     requires key { IsTrue (is_name_key key.now) }
     ensures room { IfOk result (λ room. IsTrue (view D.Disk mft.old).told
-        → room ≡ has_leaf_room (view D.Disk mft.old) (file_number dir.now) key.now len) }
+        → room ≡ has_leaf_room (view D.Disk mft.old) (file_number dir.now) (key_units key.now) len) }
     ensures err { IfErr result IsReadNo }
     ensures faults { MatchResult result (λ _. faults_of D.Disk mft.new ≡ faults_of D.Disk mft.old)
         (CountsNo (faults_of D.Disk mft.old) (faults_of D.Disk mft.new)) }

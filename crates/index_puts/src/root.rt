@@ -6,14 +6,15 @@ ghost use Rattle.ntfs_def.specs.declared.kinds.TheConstants.{ATTRIBUTE_LIST};
 ghost use Rattle.volume_def.specs.Values.{first_part};
 ghost use Rattle.volume_def.specs.View.{VolumeView};
 ghost use Rattle.file_record.specs.Held.{IsHeldFile, file_number, parts_held};
-ghost use Rattle.index_store.specs.Below.{attribute_held};
+ghost use Rattle.entry_edits.specs.IndexStoreBelow.{attribute_held};
 ghost use Rattle.edit_def.specs.Items.{HasItems};
-ghost use Rattle.index_puts.specs.RootRoom.{TellsFree, has_root_room};
+ghost use Rattle.index_puts.specs.RecordRoom.{TellsFree};
+ghost use Rattle.tree_model.specs.RootRoom.{has_root_room};
 
 use crate::room::NAMES;
+use entry_edits::{find_first, find_index};
 use file_record::FileParts;
 use index_node::NodeView;
-use index_store::{find_first, find_index};
 use ntfs_def::NodeForm;
 use ntfs_def::kinds::{ATTRIBUTE_LIST, INDEX_ROOT};
 

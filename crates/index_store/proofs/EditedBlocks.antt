@@ -5,9 +5,9 @@ use Rattle.vol_disk.specs.declared.Disk.{Ghosts}
 use Rattle.vol_stage.specs.Staged.{StagesOnly, places}
 use Rattle.attr_store.specs.Written.{StagesAtMost}
 use Rattle.volume_def.specs.Values.{spot_at}
-use Rattle.volume_edits.specs.Clusters.{ChangesStream, record_sectors}
-use Rattle.mft_table.specs.Mft.{is_mft_broken, stage_of}
-use Rattle.mft_table.proofs.DiskKept.{KeepsDisk-stages}
+use Rattle.attr_store.specs.Clusters.{ChangesStream, record_sectors}
+use Rattle.attr_store.specs.Mft.{is_mft_broken, stage_of}
+use Rattle.attr_store.proofs.DiskKept.{KeepsDisk-stages}
 use Rattle.index_store.specs.declared.index_blocks_mut.IndexBlocksMut.{IndexBlocksMut}
 use Rattle.index_store.specs.IndexBlocksMut.{EditsRecords, parts_under, volume_under}
 

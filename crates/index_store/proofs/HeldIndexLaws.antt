@@ -5,8 +5,8 @@ use Rattle.ntfs_def.specs.declared.kinds.TheConstants.{BITMAP, INDEX_ALLOCATION,
 use Rattle.volume_def.specs.Files.{Part, is_of}
 use Rattle.volume_def.specs.IndexesClause.{IndexParts, index_parts}
 use Rattle.volume_def.specs.View.{VolumeView}
-use Rattle.file_record.specs.declared.parts.FileParts.{FileParts}
-use Rattle.file_record.specs.Held.{AreParts, file_number}
+use Rattle.attr_store.specs.FileParts.{FileParts}
+use Rattle.attr_store.specs.Held.{AreParts, file_number}
 use Rattle.index_store.specs.Index.{index_held}
 
 pub index-held : (view : VolumeView) (file : FileParts) (name : List ℕ) → AreParts view file

@@ -8,3 +8,13 @@ pub mod PlacedRecords
 pub mod WrittenRecords
 pub mod EditedBlocks
 pub mod RecordWriteLaws
+-- Laws of the crates below, passed on to those above.
+pub use Rattle.attr_store.proofs.RecordLaws
+pub use Rattle.attr_store.proofs.ReadLaws
+pub use Rattle.attr_store.proofs.StoredLaws
+pub use Rattle.index_tree.proofs.RisingOrders
+pub use Rattle.index_tree.proofs.MovedWalks
+pub use Rattle.index_tree.proofs.IndexTreeLaws
+pub use Rattle.index_tree.proofs.OwnEntries
+pub use Rattle.attr_store.proofs.StreamReads
+pub use Rattle.attr_store.proofs.ChangedStream

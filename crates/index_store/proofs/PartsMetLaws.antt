@@ -3,7 +3,7 @@ use Rattle.std.proofs.Common.{◌≡◌, ℕ, Bool, true, false, cond, List, [],
 use Rattle.std.specs.Prelude.{filter}
 use Rattle.ntfs_def.specs.declared.kinds.TheConstants.{INDEX_ROOT}
 use Rattle.volume_def.specs.Files.{Part, content_value, is_of}
-use Rattle.file_record.specs.declared.parts.FileParts.{FileParts}
+use Rattle.attr_store.specs.FileParts.{FileParts}
 use Rattle.attr_store.specs.First.{TellsFirst, attribute_held, FirstMet}
 use Rattle.attr_store.specs.declared.first.FirstPart.{FirstPart}
 use Rattle.index_store.specs.PartsMet.{RootMet, values_of}

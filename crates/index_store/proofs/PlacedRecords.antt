@@ -35,9 +35,9 @@ use Rattle.volume_def.proofs.Codes.{part_code}
 use Rattle.volume_def.proofs.ExtentLaws.{spot_at-exact}
 use Rattle.volume_def.proofs.RunPieces.{total-cons}
 use Rattle.volume_def.proofs.PartLaws.{named}
-use Rattle.volume_edits.specs.Clusters.{IsPlaced}
-use Rattle.file_record.specs.declared.parts.FileParts.{FileParts}
-use Rattle.file_record.specs.Held.{AreParts, file_number, held_of, parts_held, parts_of}
+use Rattle.attr_store.specs.Clusters.{IsPlaced}
+use Rattle.attr_store.specs.FileParts.{FileParts}
+use Rattle.attr_store.specs.Held.{AreParts, file_number, held_of, parts_held, parts_of}
 use Rattle.attr_store.specs.declared.stored.Stored.{Stored}
 use Rattle.attr_store.specs.First.{IsStored, attribute_held}
 use Rattle.attr_store.proofs.StoredLaws.{stored-length, stored-stream}

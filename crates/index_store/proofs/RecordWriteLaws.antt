@@ -12,18 +12,18 @@ use Rattle.volume_def.specs.Values.{KeepsClusters, spot_at, value_of_parts, valu
 use Rattle.volume_def.specs.View.{VolumeView}
 use Rattle.volume_def.proofs.ValueLaws.{value-frame}
 use Rattle.volume_def.proofs.PartLaws.{named}
-use Rattle.volume_edits.specs.Clusters.{ChangesStream, IsOwnStream, IsPlaced, IsWritable, WritesStream}
-use Rattle.volume_edits.specs.Owners.{HasOwners}
-use Rattle.volume_edits.proofs.OwnerLaws.{layout-lies_apart}
-use Rattle.volume_edits.proofs.StreamClusters.{HasOwners-written, stream-own}
-use Rattle.volume_edits.proofs.ChangedStream.{ChangesStream-written, clusters-kept}
-use Rattle.index_node.specs.Edit.{IsOpened}
-use Rattle.index_node.specs.EditBlocks.{Edits, Writes}
-use Rattle.index_node.specs.Sealed.{HasArrayApart}
-use Rattle.index_node.proofs.SealedLaws.{own_vcn-same}
-use Rattle.file_record.specs.declared.parts.FileParts.{FileParts}
-use Rattle.file_record.specs.Held.{AreParts, IsHeldFile, file_number}
-use Rattle.file_record.proofs.HeldKept.{held-kept}
+use Rattle.attr_store.specs.Clusters.{ChangesStream, IsOwnStream, IsPlaced, IsWritable, WritesStream}
+use Rattle.attr_store.specs.Owners.{HasOwners}
+use Rattle.attr_store.proofs.OwnerLaws.{layout-lies_apart}
+use Rattle.attr_store.proofs.StreamClusters.{HasOwners-written, stream-own}
+use Rattle.attr_store.proofs.ChangedStream.{ChangesStream-written, clusters-kept}
+use Rattle.index_tree.specs.IndexNodeEdit.{IsOpened}
+use Rattle.index_tree.specs.EditBlocks.{Edits, Writes}
+use Rattle.index_tree.specs.Sealed.{HasArrayApart}
+use Rattle.index_tree.proofs.SealedLaws.{own_vcn-same}
+use Rattle.attr_store.specs.FileParts.{FileParts}
+use Rattle.attr_store.specs.Held.{AreParts, IsHeldFile, file_number}
+use Rattle.attr_store.proofs.HeldKept.{held-kept}
 use Rattle.attr_store.specs.declared.stored.Stored.{Stored}
 use Rattle.attr_store.specs.First.{IsStored, attribute_held}
 use Rattle.attr_store.proofs.StoredLaws.{stored-length}

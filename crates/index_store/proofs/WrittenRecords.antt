@@ -14,9 +14,9 @@ use Rattle.volume_def.specs.StreamSize.{IsFirstExtent}
 use Rattle.volume_def.specs.Table.{TableLayout, cluster_bytes}
 use Rattle.volume_def.specs.Values.{spot_at, value_on}
 use Rattle.volume_def.specs.View.{VolumeView}
-use Rattle.volume_edits.specs.Clusters.{WritesStream, with_bytes}
-use Rattle.volume_edits.proofs.StreamClusters.{value-written}
-use Rattle.volume_edits.proofs.WithBytes.{length-with_bytes, range-before, range-behind, range-written}
+use Rattle.attr_store.specs.Clusters.{WritesStream, with_bytes}
+use Rattle.attr_store.proofs.StreamClusters.{value-written}
+use Rattle.attr_store.proofs.WithBytes.{length-with_bytes, range-before, range-behind, range-written}
 use Rattle.index_store.specs.IndexRecords.{are_placed, index_record_on, is_index_record_at, is_sealed, record_clusters}
 use Rattle.index_store.proofs.IndexRecordLaws.{record-there}
 

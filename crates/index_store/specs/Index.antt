@@ -4,7 +4,7 @@ use Rattle.ntfs_def.specs.declared.kinds.TheConstants.{BITMAP, INDEX_ALLOCATION,
 use Rattle.volume_def.specs.Files.{content_extent, content_value}
 use Rattle.volume_def.specs.IndexesClause.{IndexParts}
 use Rattle.volume_def.specs.Values.{IsPlainIfThere, first_part}
-use Rattle.file_record.specs.declared.parts.FileParts.{FileParts}
+use Rattle.attr_store.specs.FileParts.{FileParts}
 use Rattle.attr_store.specs.First.{IsStoredIfThere, attribute_held}
 use Rattle.index_store.specs.declared.index.FoundIndex.{FoundIndex}
 

@@ -4,15 +4,15 @@ use Rattle.vol_disk.specs.declared.Disk.{Ghosts}
 use Rattle.vol_stage.specs.Staged.{disk_of}
 use Rattle.volume_def.specs.IndexesClause.{IndexParts}
 use Rattle.volume_def.specs.View.{VolumeView}
-use Rattle.index_node.specs.declared.blocks.BlockNo.{BlockNo}
-use Rattle.index_node.specs.declared.blocks.BlockNo.TheVariants.{Device as BlockDevice, Memory as BlockMemory}
+use Rattle.index_tree.specs.BlockNo.{BlockNo}
+use Rattle.index_tree.specs.BlockNo.TheVariants.{Device as BlockDevice, Memory as BlockMemory}
 use Rattle.index_tree.specs.declared.IndexNo.{IndexNo}
 use Rattle.index_tree.specs.declared.IndexNo.TheVariants as index_no
-use Rattle.mft_table.specs.Mft.{MftReads, stage_of, view}
-use Rattle.file_record.specs.declared.error.FileNo.{FileNo}
-use Rattle.file_record.specs.declared.error.FileNo.TheVariants.{Device, Memory, NoRoom}
-use Rattle.file_record.specs.declared.parts.FileParts.{FileParts}
-use Rattle.file_record.specs.Held.{IsHeldFile}
+use Rattle.attr_store.specs.Mft.{MftReads, stage_of, view}
+use Rattle.attr_store.specs.FileNo.{FileNo}
+use Rattle.attr_store.specs.FileNo.TheVariants.{Device, Memory, NoRoom}
+use Rattle.attr_store.specs.FileParts.{FileParts}
+use Rattle.attr_store.specs.Held.{IsHeldFile}
 use Rattle.index_store.specs.declared.index.FoundIndex.{FoundIndex}
 use Rattle.index_store.specs.Index.{IsFound, index_held}
 use Rattle.index_store.specs.IndexRecords.{index_record_on}

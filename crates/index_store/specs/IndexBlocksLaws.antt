@@ -1,7 +1,7 @@
 -- Calls that only read the records of an index, one behind the other.
 use Rattle.std.proofs.Common.{◌+◌, refl, ◌∙◌, le_refl}
 use Rattle.vol_disk.specs.declared.Disk.{Ghosts}
-use Rattle.mft_table.proofs.StreamReads.{MftReads-none, MftReads-then}
+use Rattle.attr_store.proofs.Below.{MftReads-none, MftReads-then}
 use Rattle.index_store.specs.declared.index_blocks.IndexBlocks.{IndexBlocks}
 use Rattle.index_store.specs.IndexBlocks.{OnlyReads}
 

@@ -6,10 +6,10 @@ use Rattle.vol_stage.specs.Staged.{StagesOnly, disk_of}
 use Rattle.volume_def.specs.IndexesClause.{IndexParts}
 use Rattle.volume_def.specs.Values.{spot_at}
 use Rattle.volume_def.specs.View.{VolumeView}
-use Rattle.volume_edits.specs.Owners.{HasOwners}
-use Rattle.volume_edits.specs.Clusters.{ChangesStream, record_sectors}
-use Rattle.mft_table.specs.Mft.{KeepsDisk, MftReads, is_mft_broken, stage_of, view}
-use Rattle.file_record.specs.Held.{IsHeldFile}
+use Rattle.attr_store.specs.Owners.{HasOwners}
+use Rattle.attr_store.specs.Clusters.{ChangesStream, record_sectors}
+use Rattle.attr_store.specs.Mft.{KeepsDisk, MftReads, is_mft_broken, stage_of, view}
+use Rattle.attr_store.specs.Held.{IsHeldFile}
 use Rattle.index_store.specs.Index.{IsFound, index_held}
 use Rattle.index_store.specs.declared.index_blocks_mut.IndexBlocksMut.{IndexBlocksMut}
 

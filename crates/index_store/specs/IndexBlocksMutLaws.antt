@@ -19,19 +19,16 @@ use Rattle.volume_def.specs.IndexesClause.{IndexParts, stored_index_record}
 use Rattle.volume_def.specs.Table.{TableLayout, cluster_bytes}
 use Rattle.volume_def.specs.Values.{spot_at, value_on}
 use Rattle.volume_def.specs.View.{VolumeView}
-use Rattle.volume_edits.specs.Clusters.{ChangesStream, record_sectors}
-use Rattle.volume_edits.proofs.ChangedStream.{ChangesStream-none, ChangesStream-then}
-use Rattle.index_node.specs.Edit.{IsOpened}
-use Rattle.mft_table.specs.Mft.{stage_of}
-use Rattle.mft_table.proofs.DiskKept.{KeepsDisk-reads, KeepsDisk-then}
-use Rattle.mft_table.specs.Mounted.{mounted_layout}
-use Rattle.file_record.specs.declared.parts.FileParts.{FileParts}
-use Rattle.file_record.proofs.ReadLaws.{view-kept}
+use Rattle.attr_store.specs.Clusters.{ChangesStream, record_sectors}
+use Rattle.attr_store.proofs.Below.{ChangesStream-none, ChangesStream-then, KeepsDisk-reads, KeepsDisk-then, MftReads-none, MftReads-then, view-kept}
+use Rattle.index_tree.specs.IndexNodeEdit.{IsOpened}
+use Rattle.attr_store.specs.Mft.{stage_of}
+use Rattle.attr_store.specs.Mounted.{mounted_layout}
+use Rattle.attr_store.specs.FileParts.{FileParts}
 use Rattle.index_store.specs.declared.index.FoundIndex.{FoundIndex}
 use Rattle.index_store.specs.declared.index_blocks_mut.IndexBlocksMut.{IndexBlocksMut}
 use Rattle.index_store.specs.Index.{index_held}
 use Rattle.index_store.specs.IndexBlocks.{told_records}
-use Rattle.mft_table.proofs.StreamReads.{MftReads-none, MftReads-then}
 use Rattle.index_store.specs.IndexBlocksMut.{EditsRecords, OnlyReadsMut, parts_under, sectors_of, volume_under}
 use Rattle.index_store.specs.IndexRecords.{index_record_on, is_index_record_at, is_sealed}
 

@@ -2,7 +2,7 @@
 use Rattle.std.specs.Prelude.{◌≡◌, ℕ, List, [], ◌∷◌, filter, map, Option, Some}
 use Rattle.ntfs_def.specs.declared.kinds.TheConstants.{BITMAP, INDEX_ALLOCATION, INDEX_ROOT}
 use Rattle.volume_def.specs.Files.{Part, content_value, is_of}
-use Rattle.file_record.specs.declared.parts.FileParts.{FileParts}
+use Rattle.attr_store.specs.FileParts.{FileParts}
 use Rattle.attr_store.specs.First.{FirstMet, attribute_held}
 use Rattle.index_store.specs.declared.parts_met.Root.{Root}
 use Rattle.index_store.specs.declared.parts_met.Root.TheVariants.{Missing, Only, Refused}

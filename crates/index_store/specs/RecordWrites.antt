@@ -5,8 +5,8 @@ use Rattle.volume_def.specs.IndexesClause.{IndexParts}
 use Rattle.volume_def.specs.Table.{cluster_bytes}
 use Rattle.volume_def.specs.Values.{spot_at}
 use Rattle.volume_def.specs.View.{VolumeView}
-use Rattle.volume_edits.specs.Clusters.{WritesStream}
-use Rattle.index_node.specs.EditBlocks.{Writes}
+use Rattle.attr_store.specs.Clusters.{WritesStream}
+use Rattle.index_tree.specs.EditBlocks.{Writes}
 use Rattle.index_store.specs.IndexRecords.{index_record_on}
 
 -- THE RECORD OF A NUMBER WAS WRITTEN: sealed anew, these bytes stand in the clusters of the index, and so in its record; no other record of

@@ -6,8 +6,7 @@ ghost use Rattle.attr_store.specs.First.{IsStoredIfThere, TellsFirst, attribute_
 ghost use Rattle.index_store.specs.Index.{HasParts, IsFound, index_held};
 
 use crate::parts_met::{Root, seek_index};
-use attr_store::{FirstPart, Stored, stored_of};
-use file_record::FileParts;
+use attr_store::{FileParts, FirstPart, Stored, stored_of};
 
 /// One index of a file, and what has to be known of it so that its records are read.
 #[derive(Clone, Copy)]

@@ -1,13 +1,12 @@
 //! The records of an index of a file, as the tree of the index reads them.
 ghost use Rattle.std.specs.Prelude.{◌≡◌};
-ghost use Rattle.mft_table.specs.Mft.{faults_of};
+ghost use Rattle.attr_store.specs.Mft.{faults_of};
 ghost use Rattle.index_store.specs.IndexBlocks.{block_no_of};
 
 use crate::index::FoundIndex;
 use crate::index_record::read_used_record;
-use file_record::{FileNo, FileParts};
-use index_node::{BlockNo, Blocks};
-use mft_table::Mft;
+use attr_store::{FileNo, FileParts, Mft};
+use index_tree::{BlockNo, Blocks};
 use std::alloc::Global;
 use vol_disk::Disk;
 

@@ -3,9 +3,8 @@ use crate::index::FoundIndex;
 use crate::index_blocks::block_no;
 use crate::index_record::read_used_record;
 use crate::record_write::write_used_record;
-use file_record::FileParts;
-use index_node::{BlockNo, Blocks, WriteBlocks};
-use mft_table::Mft;
+use attr_store::{FileParts, Mft};
+use index_tree::{BlockNo, Blocks, WriteBlocks};
 use std::alloc::Global;
 use vol_disk::Disk;
 
@@ -30,7 +29,7 @@ impl<D: Disk> Blocks for IndexBlocksMut<'_, '_, D> {
     ghost use Rattle.index_store.specs.IndexBlocks.{told_records};
     ghost use Rattle.index_store.specs.IndexBlocksMut.{IsWriteReady, OnlyReadsMut, fetched_under, parts_under, volume_under};
     ghost use Rattle.index_store.specs.IndexBlocksMutLaws.{OnlyReadsMut-none, OnlyReadsMut-then};
-    ghost use Rattle.mft_table.specs.Mft.{faults_of};
+    ghost use Rattle.attr_store.specs.Mft.{faults_of};
 
     ghost records = { λ it. told_records (volume_under D.Disk it) (parts_under D.Disk it) };
 

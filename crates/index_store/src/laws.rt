@@ -6,13 +6,13 @@ ghost use Rattle.volume_def.specs.IndexesClause.{IndexParts, index_parts};
 ghost use Rattle.volume_def.specs.Table.{cluster_bytes};
 ghost use Rattle.volume_def.specs.Values.{KeepsClusters, spot_at};
 ghost use Rattle.volume_def.specs.View.{VolumeView};
-ghost use Rattle.volume_edits.specs.Owners.{HasOwners};
-ghost use Rattle.volume_edits.specs.Clusters.{ChangesStream};
-ghost use Rattle.file_record.specs.Held.{AreParts, IsHeldFile, file_number};
+ghost use Rattle.attr_store.specs.Owners.{HasOwners};
+ghost use Rattle.attr_store.specs.Clusters.{ChangesStream};
+ghost use Rattle.attr_store.specs.Held.{AreParts, IsHeldFile, file_number};
 ghost use Rattle.index_store.specs.Index.{index_held};
 ghost use Rattle.index_store.specs.IndexRecords.{AreRecordsOf, index_record_on};
 
-use file_record::FileParts;
+use attr_store::FileParts;
 
 /// An index that is held of a file is that of the volume, and the records that are told of an index are its records.
 pub fn index_laws()

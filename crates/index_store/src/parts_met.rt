@@ -2,13 +2,12 @@
 ghost use Rattle.std.specs.Prelude.{◌≡◌, ◌∷◌, [], ℕ, List, Some, slice_get};
 ghost use Rattle.volume_def.specs.Files.{Part, part_of};
 ghost use Rattle.attr_view.specs.View.{attribute_of};
-ghost use Rattle.file_record.specs.Held.{parts_held};
+ghost use Rattle.attr_store.specs.Held.{parts_held};
 ghost use Rattle.attr_store.specs.First.{FirstMet};
 ghost use Rattle.index_store.specs.PartsMet.{ArePartsMet, RootMet};
 
-use attr_store::{FirstPart, first_here, is_of};
+use attr_store::{FileParts, FirstPart, first_here, is_of};
 use attr_view::AttrView;
-use file_record::FileParts;
 use ntfs_def::kinds::{BITMAP, INDEX_ALLOCATION, INDEX_ROOT};
 
 /// The root of an index, as far as it was met.

@@ -27,3 +27,5 @@ pub mod FrontLaws
 pub mod ReplaceTrees
 pub mod ReplaceSteps
 pub mod KeyedLaws
+-- Laws of the crates below, passed on to those above.
+pub use Rattle.index_node.proofs.SealedLaws

@@ -11,7 +11,7 @@ mod replacement;
 mod seek;
 mod walk;
 
-use index_node::BlockNo;
+pub use index_node::{BlockNo, Blocks, WriteBlocks};
 pub use laws::{one_walk, ordered_walks};
 use ntfs_def::NodeForm;
 use std::alloc::{AllocError, AllocFailed};

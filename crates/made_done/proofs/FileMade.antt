@@ -28,23 +28,23 @@ use Rattle.edit_def.specs.OneFile.{IsTabled}
 use Rattle.edit_def.specs.Purses.{part_size}
 use Rattle.session_def.specs.Named.{has_entry_of, is_own_key, is_times_key}
 use Rattle.session_def.specs.State.{Stands, State}
-use Rattle.reading_edits.specs.Steps.{with_node}
-use Rattle.attribute_edits.specs.Attributes as attributes
-use Rattle.attribute_edits.proofs.AttributesSet as edits
-use Rattle.in_place_owed.specs.SetsInPlace.{StandsAlone, is_node_kind, is_set_key}
-use Rattle.in_place_owed.proofs.CallsOwed.{stands-alone}
-use Rattle.made_edits.specs.Comes.{CanMake}
-use Rattle.made_edits.specs.Left.{LeavesRest}
-use Rattle.made_edits.specs.Made.{IsMade}
-use Rattle.made_edits.proofs.BetweenMade as stand
-use Rattle.made_edits.proofs.LeftMade.{leaves-rest}
-use Rattle.made_edits.proofs.SoundMade as laws
+use Rattle.in_place_done.specs.Steps.{with_node}
+use Rattle.made_owed.specs.Attributes as attributes
+use Rattle.made_owed.proofs.AttributesSet as edits
+use Rattle.in_place_done.specs.SetsInPlace.{StandsAlone, is_node_kind, is_set_key}
+use Rattle.in_place_done.proofs.CallsOwed.{stands-alone}
+use Rattle.made_owed.specs.Comes.{CanMake}
+use Rattle.made_owed.specs.Left.{LeavesRest}
+use Rattle.made_owed.specs.Made.{IsMade}
+use Rattle.made_owed.proofs.BetweenMade as stand
+use Rattle.made_owed.proofs.LeftMade.{leaves-rest}
+use Rattle.made_owed.proofs.SoundMade as laws
 use Rattle.made_owed.specs.MadeOwed.{between}
 use Rattle.in_place_done.proofs.FileSet.{file-set}
 use Rattle.in_place_done.proofs.NamedKeys.{told-named}
 use Rattle.in_place_done.proofs.StagedVolume.{CanBeSet, IsSet}
 use Rattle.in_place_done.proofs.TreeBehind.{node-shown, nodes-read}
-use Rattle.made_done.specs.MadeDone.{MakesUnder}
+use Rattle.made_owed.specs.Makes.{MakesUnder}
 use Rattle.made_done.proofs.NewLink.{entries-same}
 
 -- how many clusters the table has, by the parts of its file
@@ -54,7 +54,7 @@ held all = sum_by part_size (filter (is_of DATA []) all)
 -- `old` is the volume before, `mid` with the file, and `new` with the directory's times too.
 module _ (before : State) (stands : Stands before) (dir : ℕ) (units : List ℕ) (node : Node) (can : CanMake before.view dir node units)
     (high_names : (name : FileName) → Contains (names_of (records_of before.view) dir) name → 4 ≤ name.parent.number) (made : ℕ)
-    (new : VolumeView) (s : MakesUnder before dir units node made new) where
+    (new : VolumeView) (s : MakesUnder before.view new before.machine.tree before.machine.now dir units node made) where
   abbrev old : VolumeView
   old = before.view
 

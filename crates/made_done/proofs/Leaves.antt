@@ -16,14 +16,14 @@ use Rattle.session_def.specs.Done.{EditDone, HasEmptyLog}
 use Rattle.session_def.specs.State.{State}
 use Rattle.mark_write.specs.declared.flag.Flag.{Flag}
 use Rattle.mark_write.specs.declared.log.Span.{Span}
-use Rattle.record_calls.specs.Marks.{marks_of}
-use Rattle.command_edits.proofs.FreshNumber.{fresh-number}
+use Rattle.in_place_done.specs.Marks.{marks_of}
+use Rattle.in_place_done.proofs.FreshNumber.{fresh-number}
 use Rattle.volume_mark.specs.SameVolume.{IsSameVolume}
 use Rattle.volume_mark.proofs.MarkLaws.{mark-law}
-use Rattle.in_place.specs.Behind.{MarksBehind}
-use Rattle.made_edits.specs.Wants.{making_wants}
+use Rattle.in_place_done.specs.Behind.{MarksBehind}
+use Rattle.made_owed.specs.Wants.{making_wants}
 use Rattle.made_owed.specs.MadeOwed.{at_name}
-use Rattle.edit_written.specs.Finished.{IsFinished, IsPlaceOf}
+use Rattle.in_place_done.specs.Finished.{IsFinished, IsPlaceOf}
 use Rattle.in_place_done.proofs.StagedVolume.{staged_view}
 use Rattle.in_place_done.proofs.WrittenBytes.{IsWritten, is-written}
 use Rattle.made_done.specs.MadeDone.{FindsPlace, LeavesMade, StagesUnder, machine_made, most_made}

@@ -19,10 +19,10 @@ use Rattle.record_edits.proofs.PlaceEdits.{part-unnamed}
 use Rattle.session_def.specs.Cost.{log_bytes, log_parts, log_size}
 use Rattle.session_def.specs.Done.{first_cost}
 use Rattle.session_def.specs.State.{dirty_flag}
-use Rattle.in_place.specs.Unnamed.{LiesApart}
-use Rattle.edit_written.specs.LeavesAlone.{LeavesAlone}
-use Rattle.edit_written.proofs.LeftAlone.{boot-other, has-boot}
-use Rattle.made_edits.specs.Left.{LeavesRest, is_entry_key}
+use Rattle.in_place_done.specs.Unnamed.{LiesApart}
+use Rattle.in_place_done.specs.LeavesAlone.{LeavesAlone}
+use Rattle.in_place_done.proofs.LeftAlone.{boot-other, has-boot}
+use Rattle.made_owed.specs.Left.{LeavesRest, is_entry_key}
 
 module _ (old new : VolumeView) (made dir : ℕ) (ordinary : 24 ≤ made) (left : LeavesRest old new made dir) (apart : LiesApart old) where
   low-other : (n : ℕ) → n < 24 → n ≢ made

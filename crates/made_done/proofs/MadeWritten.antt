@@ -14,16 +14,17 @@ use Rattle.tree_model.specs.declared.command.Command.TheVariants as c
 use Rattle.tree_model.specs.declared.tree.Node.{Node}
 use Rattle.session_def.specs.Done.{LeavesDone}
 use Rattle.session_def.specs.State.{Stands, State}
-use Rattle.in_place.specs.Behind.{MarksBehind}
-use Rattle.in_place_owed.specs.SetsInPlace.{SetsInPlace}
-use Rattle.edit_written.specs.LeavesAlone.{LeavesAlone}
-use Rattle.edit_written.proofs.LeftAlone.{both}
-use Rattle.made_edits.specs.Comes.{CanMake}
+use Rattle.in_place_done.specs.Behind.{MarksBehind}
+use Rattle.in_place_done.specs.SetsInPlace.{SetsInPlace}
+use Rattle.in_place_done.specs.LeavesAlone.{LeavesAlone}
+use Rattle.in_place_done.proofs.LeftAlone.{both}
+use Rattle.made_owed.specs.Comes.{CanMake}
 use Rattle.made_owed.specs.MadeOwed.{SetsBehindMade, at_name, between}
 use Rattle.made_owed.proofs.MadeOwes as owed
 use Rattle.in_place_done.specs.Written.{most_set}
 use Rattle.in_place_done.proofs.SetOwed.{set-alone, set-in-place}
-use Rattle.made_done.specs.MadeDone.{MakesUnder, most_made}
+use Rattle.made_owed.specs.Makes.{MakesUnder}
+use Rattle.made_done.specs.MadeDone.{most_made}
 use Rattle.made_done.proofs.FileMade as file
 use Rattle.made_done.proofs.LeftAlone.{alone-cost, made-alone}
 
@@ -45,7 +46,7 @@ pub record CanBeLeft (before : State) (path : List (List ℕ)) (dir : ℕ) (unit
 
 module _ (before : State) (stands : Stands before) (dir : ℕ) (units : List ℕ) (node : Node) (can : CanMake before.view dir node units)
     (high : (name : FileName) → Contains (names_of (records_of before.view) dir) name → 4 ≤ name.parent.number) (made : ℕ)
-    (new : VolumeView) (s : MakesUnder before dir units node made new) where
+    (new : VolumeView) (s : MakesUnder before.view new before.machine.tree before.machine.now dir units node made) where
   abbrev old : VolumeView
   old = before.view
 

@@ -9,7 +9,7 @@ use Rattle.tree_model.specs.Tree.{Tree, is_in, link_above}
 use Rattle.tree_model.specs.declared.tree.Link.{Link}
 use Rattle.tree_model.specs.declared.tree.Node.{Node}
 use Rattle.session_def.specs.Named.{has_entry_of, leads_among}
-use Rattle.reading_edits.specs.Steps.{with_node}
+use Rattle.in_place_done.specs.Steps.{with_node}
 
 -- a test that an item does not meet is met by as many others
 any-put : {A : Type 0} (p : A → Bool) (above : A → A → Bool) (x : A) (ys : List A) → p x ≡ false

@@ -7,24 +7,20 @@ use Rattle.volume_def.specs.Files.{records_of}
 use Rattle.volume_def.specs.Sound.{IsSound, told_view}
 use Rattle.volume_def.specs.View.{VolumeView}
 use Rattle.mft_table.specs.HeldTables.{AreStored}
-use Rattle.mft_table.specs.declared.mounted.Mounted.{Mounted}
-use Rattle.tree_model.specs.Effects.{after, security_of, touched}
+use Rattle.tree_model.specs.Effects.{after}
 use Rattle.tree_model.specs.Facts.{IsVolumeOf, TellsFacts}
 use Rattle.tree_model.specs.Reading.{read}
 use Rattle.tree_model.specs.Refusals.{Facts, outcome}
 use Rattle.tree_model.specs.Subjects.{Machine}
 use Rattle.tree_model.specs.declared.command.Command.TheVariants as c
 use Rattle.tree_model.specs.declared.tree.Node.{Node}
-use Rattle.edit_def.specs.Marks.{AreRight}
 use Rattle.session_def.specs.Done.{EditDone, HasEmptyLog, first_cost}
 use Rattle.session_def.specs.State.{Stands, State}
 use Rattle.mark_write.specs.declared.flag.Flag.{Flag}
-use Rattle.record_calls.specs.Marks.{marks_of}
 use Rattle.volume_mark.specs.Mark.{IsFlagOf}
 use Rattle.volume_mark.specs.SameVolume.{AgreesButMark}
-use Rattle.attribute_edits.specs.Below.{SetsAttributes}
-use Rattle.made_edits.specs.Comes.{CanMake}
-use Rattle.made_edits.specs.Makes.{MakesFile}
+use Rattle.made_owed.specs.Comes.{CanMake}
+use Rattle.made_owed.specs.Makes.{MakesUnder}
 use Rattle.made_owed.specs.MadeOwed.{at_name, made_sectors}
 
 -- `create` FOUND A DIRECTORY, which is this node, and a name that may come there. No name of the directory stands in a record that has a
@@ -37,21 +33,11 @@ pub record FindsPlace (facts : Facts) (before : State) (session : ℕ) (path : L
   pub can : CanMake before.view dir node units
   pub high : (name : FileName) → Contains (names_of (records_of before.view) dir) name → 4 ≤ name.parent.number
 
--- THE FILE CAME under that name, in record `made`, with the security id of its directory, where the bits in memory were right and stored.
--- Then the moment was set as the times at which the directory and its record changed.
-pub record MakesUnder (before : State) (dir : ℕ) (units : List ℕ) (node : Node) (made : ℕ) (new : VolumeView) : Type 0 where
-  pub was : Mounted
-  pub right : AreRight before.view (marks_of was)
-  pub stored : AreStored before.view was.clusters was.records was.upcase
-  pub now : Mounted
-  pub mid : VolumeView
-  pub makes : MakesFile before.view mid was now made dir units before.machine.now (security_of before.machine.tree dir)
-  pub sets : SetsAttributes mid new dir (touched before.machine.now node).times node.flags
-
 -- These bytes were staged: the volume that they tell has the file.
 pub record StagesUnder (before : State) (dir : ℕ) (units : List ℕ) (node : Node) (made : ℕ) (staged : List ℕ) : Type 0 where
   pub long : length staged ≡ length before.image
-  pub makes : MakesUnder before dir units node made (told_view (sector_in (Some staged)) before.view.layout)
+  pub makes : MakesUnder before.view (told_view (sector_in (Some staged)) before.view.layout) before.machine.tree before.machine.now dir
+      units node made
 
 -- the machine behind `create`
 abbrev pub machine_made : State → ℕ → List (List ℕ) → ℕ → List ℕ → ℕ → Machine

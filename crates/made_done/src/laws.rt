@@ -5,7 +5,7 @@ ghost use Rattle.tree_model.specs.declared.tree.Node.{Node};
 ghost use Rattle.session_def.specs.State.{State};
 ghost use Rattle.mark_write.specs.declared.flag.Flag.{Flag};
 ghost use Rattle.mark_write.specs.declared.log.Span.{Span};
-ghost use Rattle.edit_written.specs.Finished.{IsFinished, IsPlaceOf};
+ghost use Rattle.in_place_done.specs.Finished.{IsFinished, IsPlaceOf};
 ghost use Rattle.made_done.specs.MadeDone.{FindsPlace, LeavesMade, StagesUnder};
 
 /// Where `create` found a directory and a name that may come there, the file that it makes was staged, and that was written behind the

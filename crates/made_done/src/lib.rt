@@ -3,4 +3,5 @@
 
 mod laws;
 
+pub use in_place_done::{find_flag, find_log};
 pub use laws::made_done_laws;

@@ -40,10 +40,10 @@ use Rattle.edit_def.specs.Kept.{KeepsBut, either, is_name_told, key_of, same_key
 use Rattle.edit_def.specs.Names.{HasRightBases}
 use Rattle.edit_def.specs.Places.{flags_of}
 use Rattle.edit_def.proofs.IndexLaws.{index-same}
-use Rattle.reading_edits.specs.NewFiles.{data_part, standard_part}
-use Rattle.session_def.specs.Indexes.{KeepsFlagsOf, KeepsIndexIfThere, bits_set, index_bits, index_records}
-use Rattle.session_def.specs.Kept.{KeepsKeys, KeepsNamesBut, is_any, with_data}
-use Rattle.session_def.specs.Named.{is_index_kind}
+use Rattle.command_edits.specs.NewFiles.{data_part, standard_part}
+use Rattle.in_place.specs.Indexes.{KeepsFlagsOf, KeepsIndexIfThere, bits_set, index_bits, index_records}
+use Rattle.in_place.specs.Kept.{KeepsKeys, KeepsNamesBut, is_any, with_data}
+use Rattle.in_place.specs.Named.{is_index_kind}
 use Rattle.made_edits.specs.Between.{new_parts}
 use Rattle.made_edits.specs.Left.{LeavesRest, is_entry_key, is_row_key}
 use Rattle.made_edits.specs.Made.{is_made_key}

@@ -25,7 +25,7 @@ use Rattle.edit_def.proofs.EditedLaws.{Edited-then}
 use Rattle.edit_def.proofs.IndexLaws.{items-kept}
 use Rattle.edit_def.proofs.NodeLaws.{no-file-none}
 use Rattle.record_edits.specs.Between.{IsReady}
-use Rattle.record_bits.specs.StoredRow.{StoresRow}
+use Rattle.record_bits.specs.StoredRecordBit.{StoresRecordBit}
 use Rattle.record_calls.specs.Marks.{marks_of}
 use Rattle.record_calls.proofs.Rows.{free-inside, free-unused}
 use Rattle.command_edits.specs.Keys.{is_key_of, is_name_key_of, no_key}
@@ -45,7 +45,7 @@ use Rattle.made_edits.proofs.WantLaws.{parts-within}
 
 -- THE FLAG STORED
 pub flagged : (old new : VolumeView) (was : Mounted) (dir n : ℕ) (node : Node) (units : List ℕ) → CanMake old dir node units
-    → AreRight old (marks_of was) → IsOrdinaryFree was.records n → StoresRow old new n → IsFlagged old new (marks_of was) n
+    → AreRight old (marks_of was) → IsOrdinaryFree was.records n → StoresRecordBit old new n → IsFlagged old new (marks_of was) n
 flagged old new was dir n node units can right free stores =
     let before : Marks = marks_of was in
     let ready = ready-sound old before can.parent.sound can.parent.apart right in

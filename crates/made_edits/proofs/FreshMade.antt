@@ -12,8 +12,8 @@ use Rattle.volume_def.specs.Values.{is_first}
 use Rattle.volume_def.specs.View.{VolumeView}
 use Rattle.tree_model.specs.Reading.{standard_of}
 use Rattle.edit_def.specs.Kept.{is_name_told, told_by}
-use Rattle.session_def.specs.Kept.{other_flags}
-use Rattle.session_def.specs.Nodes.{shape_of}
+use Rattle.in_place.specs.Kept.{other_flags}
+use Rattle.in_place.specs.Nodes.{shape_of}
 use Rattle.made_edits.specs.Beside.{IsFreshFile, IsPlainStandard, KeepsRest}
 use Rattle.made_edits.specs.Comes.{IsNewKey}
 

@@ -14,10 +14,10 @@ use Rattle.volume_edits.specs.Rewritten.{CountsLinks}
 use Rattle.edit_def.specs.Marks.{Marks}
 use Rattle.edit_def.specs.Names.{KeepsOthers}
 use Rattle.record_edits.specs.Between.{IsReady}
-use Rattle.file_edits.specs.Files.{MakesFile}
-use Rattle.file_record.specs.Attributes.{InsertsAttribute, opened_record}
-use Rattle.file_record.specs.Extensions.{CreatesBase}
-use Rattle.reading_edits.specs.NewFiles.{data_part, standard_part}
+use Rattle.record_calls.specs.Files.{MakesFile}
+use Rattle.index_puts.specs.FileRecordAttributes.{InsertsAttribute, opened_record}
+use Rattle.index_puts.specs.Extensions.{CreatesBase}
+use Rattle.command_edits.specs.NewFiles.{data_part, standard_part}
 use Rattle.record_calls.specs.Calls.{IsInOneRecord, IsNewName, MayCome}
 use Rattle.record_calls.specs.Edits.{record_there}
 use Rattle.made_edits.proofs.AloneLaws.{StandsAlone, alone-counted, alone-edited, alone-made, others-counted, others-edited}

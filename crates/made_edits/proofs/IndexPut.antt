@@ -24,8 +24,8 @@ use Rattle.volume_def.specs.FileNames.{is_in_directory, links}
 use Rattle.volume_def.specs.Files.{Records, records_of}
 use Rattle.volume_def.specs.IndexesClause.{IsDirectoryIndex, index_nodes, index_parts}
 use Rattle.volume_def.specs.View.{VolumeView}
-use Rattle.index_tree.specs.Edit.{IsAbsent}
-use Rattle.index_tree.proofs.IndexTreeLaws.{one_list}
+use Rattle.index_puts.specs.Edit.{IsAbsent}
+use Rattle.index_puts.proofs.IndexTreeLaws.{one_list}
 use Rattle.tree_model.specs.Reading.{all_links, directory_links, link_by}
 use Rattle.tree_model.specs.Tree.{are_same, is_in, link_above}
 use Rattle.tree_model.specs.declared.tree.Link.{Link}
@@ -37,7 +37,7 @@ use Rattle.edit_def.specs.Names.{KeepsNames}
 use Rattle.record_edits.specs.Between.{IsReady}
 use Rattle.record_edits.specs.InPlace.{WritesInPlace}
 use Rattle.record_edits.proofs.PlaceCalls.{edited-place, ready-place}
-use Rattle.name_edits.proofs.NamesInTurn.{KeepsNames-same}
+use Rattle.command_edits.proofs.NamesInTurn.{KeepsNames-same}
 use Rattle.command_edits.specs.Calls.{ChangesIndex}
 use Rattle.command_edits.specs.Keys.{is_index_key_of}
 use Rattle.command_edits.proofs.CallsMade.{Edited-more, within-same}

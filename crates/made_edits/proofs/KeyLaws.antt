@@ -7,7 +7,7 @@ use Rattle.ntfs_def.specs.Units.{wide}
 use Rattle.ntfs_def.specs.declared.kinds.TheConstants.{FILE_NAME, INDEX_ALLOCATION}
 use Rattle.edit_def.specs.Edited.{is_room_key}
 use Rattle.edit_def.specs.Kept.{Key, either, key_of, same_key}
-use Rattle.session_def.specs.Named.{is_index_kind}
+use Rattle.in_place.specs.Named.{is_index_kind}
 use Rattle.record_edits.specs.InPlace.{NamesNoRoom}
 use Rattle.command_edits.specs.Keys.{is_index_key_of, is_key_of, is_name_key_of}
 

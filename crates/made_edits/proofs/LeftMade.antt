@@ -30,7 +30,7 @@ use Rattle.volume_def.specs.View.{VolumeView}
 use Rattle.volume_def.proofs.ValueLaws.{spot_at-owned, value-frame}
 use Rattle.volume_edits.specs.Owners.{HasOwners}
 use Rattle.record_bytes.specs.AttributeBytes.{part}
-use Rattle.reading_edits.specs.NewFiles.{data_part, standard_part}
+use Rattle.command_edits.specs.NewFiles.{data_part, standard_part}
 use Rattle.mft_table.specs.declared.mounted.Mounted.{Mounted}
 use Rattle.tree_model.specs.IndexRoom.{Index, directory_index, index_depth, levels_below}
 use Rattle.tree_model.specs.declared.tree.Node as nodes
@@ -43,8 +43,8 @@ use Rattle.edit_def.specs.Marks.{AreRight, Marks}
 use Rattle.edit_def.specs.Names.{KeepsOthers, numbers_by}
 use Rattle.edit_def.specs.Unused.{IsPastIds, KeepsUnused}
 use Rattle.edit_def.proofs.IndexLaws.{items-kept}
-use Rattle.session_def.specs.Named.{is_index_kind}
-use Rattle.session_def.specs.Room.{KeepsLogEnd}
+use Rattle.in_place.specs.Named.{is_index_kind}
+use Rattle.in_place.specs.Room.{KeepsLogEnd}
 use Rattle.record_edits.specs.Between.{IsReady}
 use Rattle.record_edits.proofs.BlockEdits.{base-file}
 use Rattle.record_calls.specs.Edits.{record_there}

@@ -19,3 +19,14 @@ pub mod LeftMade
 pub mod BesideMade
 pub mod RestMade
 pub mod FreshMade
+-- Laws of the crates below, passed on to those above.
+pub use Rattle.command_edits.proofs.StageLaws
+pub use Rattle.index_puts.proofs.FewStaged
+pub use Rattle.in_place.proofs.OtherParts
+pub use Rattle.in_place.proofs.PlacesSame
+pub use Rattle.in_place.proofs.EditedInPlace
+pub use Rattle.in_place.proofs.RoomSame
+pub use Rattle.in_place.proofs.SameRecords
+pub use Rattle.in_place.proofs.BlankLaws
+pub use Rattle.index_puts.proofs.FileRecordRecordLaws
+pub use Rattle.command_edits.proofs.SameLink

@@ -15,7 +15,7 @@ use Rattle.volume_def.specs.Freed.{sequence_at_first, stored_sequence}
 use Rattle.volume_def.specs.IndexesClause.{IsDirectoryIndex}
 use Rattle.volume_def.specs.Values.{first_part}
 use Rattle.volume_def.specs.View.{VolumeView}
-use Rattle.index_tree.specs.Edit.{IsAbsent}
+use Rattle.index_puts.specs.Edit.{IsAbsent}
 use Rattle.ntfs_def.specs.KeyOrder.{name_order}
 use Rattle.mft_table.specs.declared.mounted.Mounted.{Mounted}
 use Rattle.tree_model.specs.Effects.{new_node}

@@ -25,11 +25,11 @@ use Rattle.record_edits.specs.Between.{IsReady}
 use Rattle.record_edits.proofs.BlockEdits.{edit-of}
 use Rattle.record_edits.proofs.FileEdits.{numbers-edit}
 use Rattle.record_edits.specs.RecordEdit.{parts_made}
-use Rattle.file_edits.specs.Files.{MakesFile, is_file_key}
-use Rattle.file_edits.proofs.LinkEdits as links
-use Rattle.file_edits.specs.Links.{CountsFileLinks}
-use Rattle.name_edits.proofs.NamesInTurn.{KeepsOthers-then}
-use Rattle.reading_edits.specs.NewFiles.{data_part, standard_part}
+use Rattle.record_calls.specs.Files.{MakesFile, is_file_key}
+use Rattle.record_calls.proofs.LinkEdits as links
+use Rattle.record_calls.specs.Links.{CountsFileLinks}
+use Rattle.command_edits.proofs.NamesInTurn.{KeepsOthers-then}
+use Rattle.command_edits.specs.NewFiles.{data_part, standard_part}
 use Rattle.record_calls.specs.Marks.{marks_of}
 use Rattle.record_calls.specs.Calls.{IsInOneRecord}
 use Rattle.record_calls.specs.Edits.{record_there}

@@ -17,12 +17,12 @@ use Rattle.record_edits.specs.Between.{IsReady}
 use Rattle.record_edits.specs.InPlace.{WritesInPlace, is_bits_key}
 use Rattle.record_edits.proofs.FlushLaws.{edited-flush, ready-flush}
 use Rattle.record_edits.proofs.PlaceEdits.{same}
-use Rattle.record_bits.specs.StoredRow.{StoresRow}
+use Rattle.record_bits.specs.StoredRecordBit.{StoresRecordBit}
 use Rattle.made_edits.specs.Left.{Leaves, is_row_key}
 use Rattle.made_edits.proofs.LeftLaws.{Leaves-stream, value-kept}
 use Rattle.made_edits.proofs.ReadyLaws.{owners-of}
 
-module _ (old new : VolumeView) (n : ℕ) (s : StoresRow old new n) where
+module _ (old new : VolumeView) (n : ℕ) (s : StoresRecordBit old new n) where
   changes-row : ChangesStream old new (spot_at (record_bits old))
   changes-row = record {
     told = s.writes.told;

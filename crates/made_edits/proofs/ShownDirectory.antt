@@ -10,7 +10,7 @@ use Rattle.volume_def.specs.Sound.{IsSound}
 use Rattle.volume_def.specs.Sound as clauses
 use Rattle.volume_def.specs.View.{VolumeView}
 use Rattle.volume_def.proofs.PartLaws.{record_at-block}
-use Rattle.file_record.specs.Extensions.{reference_of}
+use Rattle.index_puts.specs.Extensions.{reference_of}
 use Rattle.tree_model.specs.Reading.{node_at}
 use Rattle.tree_model.specs.declared.tree.Node.{Node}
 use Rattle.tree_model.proofs.NamesLaws.{IsShown, is_shown}

@@ -20,10 +20,10 @@ use Rattle.tree_model.proofs.NamesLaws.{is_shown}
 use Rattle.edit_def.specs.Marks.{AreRight, Marks}
 use Rattle.edit_def.specs.Names.{is_directory_in}
 use Rattle.edit_def.proofs.NamesLaws.{directories-comes}
-use Rattle.name_edits.proofs.CommandLinks.{sound-made}
-use Rattle.name_edits.proofs.HiddenFiles.{hides-comes}
-use Rattle.name_edits.proofs.NamesInTurn.{KeepsNames-same}
-use Rattle.reading_edits.specs.Steps.{with_node}
+use Rattle.command_edits.proofs.CommandLinks.{sound-made}
+use Rattle.command_edits.proofs.HiddenFiles.{hides-comes}
+use Rattle.command_edits.proofs.NamesInTurn.{KeepsNames-same}
+use Rattle.command_edits.specs.Steps.{with_node}
 use Rattle.record_calls.specs.Marks.{marks_of}
 use Rattle.command_edits.specs.Between.{IsBetween}
 use Rattle.command_edits.specs.Calls.{AddsLink, IsNewStandard, MakesNode}

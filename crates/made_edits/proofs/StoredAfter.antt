@@ -26,7 +26,7 @@ use Rattle.edit_def.specs.Kept.{key_of, same_key}
 use Rattle.edit_def.specs.Marks.{AreRight, Marks}
 use Rattle.record_edits.specs.Between.{IsReady}
 use Rattle.record_edits.proofs.FlushLaws.{bits-stored}
-use Rattle.file_edits.specs.Steps.{SetsRow}
+use Rattle.record_calls.specs.Steps.{SetsRow}
 use Rattle.record_calls.specs.Marks.{marks_of}
 use Rattle.record_calls.proofs.Rows.{free-within, row-taken}
 use Rattle.command_edits.specs.Calls.{IsNewStandard}

@@ -19,9 +19,9 @@ use Rattle.tree_model.specs.IndexRoom.{Index, directory_index, object_id_index, 
 use Rattle.tree_model.specs.StreamRoom.{is_cluster}
 use Rattle.tree_model.specs.declared.tree.Link.{Link}
 use Rattle.edit_def.specs.Kept.{key_of, told_by, told_names}
-use Rattle.session_def.specs.Indexes.{KeepsIndexIfThere}
-use Rattle.session_def.specs.Kept.{KeepsKeys, KeepsNamesBut, is_shown_byte}
-use Rattle.session_def.specs.Nodes.{IsNewFile, IsNewName}
+use Rattle.in_place.specs.Indexes.{KeepsIndexIfThere}
+use Rattle.in_place.specs.Kept.{KeepsKeys, KeepsNamesBut, is_shown_byte}
+use Rattle.in_place.specs.Nodes.{IsNewFile, IsNewName}
 use Rattle.made_edits.specs.Between.{new_parts}
 use Rattle.made_edits.specs.Left.{is_entry_key}
 

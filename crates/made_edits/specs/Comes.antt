@@ -18,10 +18,10 @@ use Rattle.mft_table.specs.FreeRecords.{IsOrdinaryFree}
 use Rattle.tree_model.specs.Reading.{directory_links}
 use Rattle.tree_model.specs.Tree.{are_same}
 use Rattle.tree_model.specs.declared.tree.Node.{Node}
-use Rattle.file_record.specs.Attributes.{InsertsAttribute}
-use Rattle.file_record.specs.Extensions.{CreatesBase, reference_of}
+use Rattle.index_puts.specs.FileRecordAttributes.{InsertsAttribute}
+use Rattle.index_puts.specs.Extensions.{CreatesBase, reference_of}
 use Rattle.in_place.specs.Unnamed.{CanSet}
-use Rattle.record_bits.specs.StoredRow.{StoresRow}
+use Rattle.record_bits.specs.StoredRecordBit.{StoresRecordBit}
 use Rattle.index_puts.specs.PutsItem.{PutsItem}
 
 -- THE VOLUME BEFORE, and a name that may come: in a directory that is shown, whose attributes can be set, and in which no name is the
@@ -54,7 +54,7 @@ pub record ComesNamed (old new : VolumeView) (was now : Mounted) (n : ℕ) (stan
   pub free : IsOrdinaryFree was.records n
   pub taken : now ≡ with_record_taken was n
   pub flagged : VolumeView
-  pub stores : StoresRow old flagged n
+  pub stores : StoresRecordBit old flagged n
   pub based : VolumeView
   pub creates : CreatesBase flagged based n false standard
   pub streamed : VolumeView

@@ -14,7 +14,7 @@ use Rattle.edit_def.specs.Kept.{Key, key_of, same_key}
 use Rattle.edit_def.specs.ListOrder.{KeepsListOrder}
 use Rattle.edit_def.specs.Names.{KeepsOthers}
 use Rattle.edit_def.specs.Unused.{KeepsUnused}
-use Rattle.session_def.specs.Room.{KeepsBlocks, KeepsCopies, KeepsLogEnd}
+use Rattle.in_place.specs.Room.{KeepsBlocks, KeepsCopies, KeepsLogEnd}
 use Rattle.record_edits.specs.InPlace.{IsUnnamed}
 
 -- the bitmap of records

@@ -5,7 +5,7 @@ use Rattle.volume_def.specs.Sound.{IsSound}
 use Rattle.volume_def.specs.View.{VolumeView}
 use Rattle.mft_table.specs.declared.mounted.Mounted.{Mounted}
 use Rattle.mft_table.specs.HeldTables.{AreStored}
-use Rattle.file_record.specs.Extensions.{reference_of}
+use Rattle.index_puts.specs.Extensions.{reference_of}
 use Rattle.tree_model.specs.Effects.{add_link, link_to, new_node}
 use Rattle.tree_model.specs.Reading.{read}
 use Rattle.tree_model.specs.declared.tree.Node.{Node}
@@ -13,7 +13,7 @@ use Rattle.edit_def.specs.Edited.{Edited}
 use Rattle.edit_def.specs.Kept.{Key}
 use Rattle.edit_def.specs.Marks.{AreRight, Marks}
 use Rattle.in_place.specs.Unnamed.{CanSet}
-use Rattle.reading_edits.specs.Steps.{with_node}
+use Rattle.command_edits.specs.Steps.{with_node}
 use Rattle.record_calls.specs.Marks.{marks_of}
 use Rattle.command_edits.specs.Calls.{AddsLink, MakesNode}
 use Rattle.command_edits.specs.Keys.{is_index_key_of, is_key_of}

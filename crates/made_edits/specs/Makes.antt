@@ -1,8 +1,15 @@
--- A FILE IS MADE under one name, empty, in a free record, of one moment: what the calls of `create` give, but for the times of the directory.
+-- A FILE IS MADE under one name, empty, in a free record, of one moment, and then its directory is set: what the calls of `create` give.
 -- Layout: Linux-NTFS documentation, attributes $STANDARD_INFORMATION, $FILE_NAME and $DATA; Carrier, File System Forensic Analysis, chapter 13.
 use Rattle.std.specs.Prelude.{ℕ, List, false}
 use Rattle.volume_def.specs.View.{VolumeView}
+use Rattle.mft_table.specs.HeldTables.{AreStored}
 use Rattle.mft_table.specs.declared.mounted.Mounted.{Mounted}
+use Rattle.tree_model.specs.Effects.{security_of, touched}
+use Rattle.tree_model.specs.Tree.{Tree}
+use Rattle.tree_model.specs.declared.tree.Node.{Node}
+use Rattle.edit_def.specs.Marks.{AreRight}
+use Rattle.record_calls.specs.Marks.{marks_of}
+use Rattle.index_puts.specs.Attributes.{SetsAttributes}
 use Rattle.command_edits.specs.Calls.{IsNewStandard}
 use Rattle.made_edits.specs.Beside.{IsPlainStandard}
 use Rattle.made_edits.specs.Comes.{ComesUnder, IsNewKey}
@@ -15,3 +22,14 @@ pub record MakesFile (old new : VolumeView) (was now : Mounted) (n dir : ℕ) (u
   pub key : List ℕ
   pub new_key : IsNewKey old dir units moment key
   pub comes : ComesUnder old new was now n dir standard key
+
+-- THE FILE CAME under that name, in record `made`, with the security id of its directory, where the bits in memory were right and stored.
+-- Then the moment was set as the times at which the directory, which was this node, and its record changed. The tree is that of the volume.
+pub record MakesUnder (old new : VolumeView) (tree : Tree) (moment dir : ℕ) (units : List ℕ) (node : Node) (made : ℕ) : Type 0 where
+  pub was : Mounted
+  pub right : AreRight old (marks_of was)
+  pub stored : AreStored old was.clusters was.records was.upcase
+  pub now : Mounted
+  pub mid : VolumeView
+  pub makes : MakesFile old mid was now made dir units moment (security_of tree dir)
+  pub sets : SetsAttributes mid new dir (touched moment node).times node.flags

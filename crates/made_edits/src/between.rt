@@ -6,7 +6,7 @@ ghost use Rattle.mft_table.specs.FreeRecords.{IsOrdinaryFree};
 ghost use Rattle.tree_model.specs.declared.tree.Node.{Node};
 ghost use Rattle.edit_def.specs.Marks.{AreRight};
 ghost use Rattle.record_calls.specs.Marks.{marks_of};
-ghost use Rattle.record_bits.specs.StoredRow.{StoresRow};
+ghost use Rattle.record_bits.specs.StoredRecordBit.{StoresRecordBit};
 ghost use Rattle.made_edits.specs.Between.{HasNewFile, IsFlagged};
 ghost use Rattle.made_edits.specs.Comes.{CanMake, ComesNamed, IsNewKey};
 
@@ -14,7 +14,7 @@ ghost use Rattle.made_edits.specs.Comes.{CanMake, ComesNamed, IsNewKey};
 /// (`flagged`), and where the file came with its name (`named`).
 pub fn between_made()
     ensures flagged { (old new : VolumeView) (was : Mounted) (dir n : ℕ) (node : Node) (units : List ℕ) → CanMake old dir node units
-        → AreRight old (marks_of was) → IsOrdinaryFree was.records n → StoresRow old new n → IsFlagged old new (marks_of was) n }
+        → AreRight old (marks_of was) → IsOrdinaryFree was.records n → StoresRecordBit old new n → IsFlagged old new (marks_of was) n }
     ensures named { (old new : VolumeView) (was now : Mounted) (dir n : ℕ) (node : Node) (units standard key : List ℕ) (moment : ℕ)
         → CanMake old dir node units → AreRight old (marks_of was) → IsNewKey old dir units moment key → length standard ≡ 72
         → ComesNamed old new was now n standard key → HasNewFile old new (marks_of now) n dir standard key }

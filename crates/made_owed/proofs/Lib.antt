@@ -8,3 +8,8 @@ pub mod MadeItems
 pub mod MadeIndexes
 pub mod MadeNodes
 pub mod MadeOwes
+-- Laws of the crates below, passed on to those above.
+pub use Rattle.made_edits.proofs.BetweenMade
+pub use Rattle.made_edits.proofs.LeftMade
+pub use Rattle.made_edits.proofs.SoundMade
+pub use Rattle.attribute_edits.proofs.AttributesSet

@@ -14,10 +14,10 @@ use Rattle.tree_model.specs.declared.command.Command.TheVariants as c
 use Rattle.edit_def.specs.Kept.{Key, key_of}
 use Rattle.session_def.specs.State.{State}
 use Rattle.tree_model.proofs.NamesLaws.{is_shown}
-use Rattle.file_record.proofs.RecordLaws.{record_at-inside}
-use Rattle.in_place.specs.InPlace.{Rewrites}
+use Rattle.made_edits.proofs.FileRecordRecordLaws.{record_at-inside}
+use Rattle.made_edits.specs.InPlace.{Rewrites}
 use Rattle.in_place_owed.proofs.BothRewrites.{both, either-kind, is_either_key}
-use Rattle.reading_edits.specs.Steps.{with_node}
+use Rattle.made_edits.specs.Steps.{with_node}
 use Rattle.made_edits.specs.Beside.{IsFreshFile, KeepsRest}
 use Rattle.made_edits.specs.Left.{LeavesRest}
 use Rattle.made_edits.specs.Made.{IsMade}

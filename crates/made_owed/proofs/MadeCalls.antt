@@ -33,10 +33,10 @@ use Rattle.edit_def.proofs.NeedLaws.{IsPlanned-by}
 use Rattle.session_def.specs.Named.{has_entry_of, is_changed_key, is_directory_key, is_index_kind, is_times_key}
 use Rattle.session_def.specs.Owed.{CallsOf, goes_by}
 use Rattle.session_def.specs.State.{State}
-use Rattle.record_calls.specs.Marks.{marks_of}
-use Rattle.command_edits.specs.Keys.{is_index_key_of}
-use Rattle.in_place.proofs.EditedInPlace as rewrite
-use Rattle.in_place.proofs.EditedInPlace.{editable-sound}
+use Rattle.made_edits.specs.Marks.{marks_of}
+use Rattle.made_edits.specs.Keys.{is_index_key_of}
+use Rattle.made_edits.proofs.EditedInPlace as rewrite
+use Rattle.made_edits.proofs.EditedInPlace.{editable-sound}
 use Rattle.in_place_owed.specs.SetsInPlace.{is_entries_key, is_set_key}
 use Rattle.in_place_owed.proofs.CallsOwed.{tabled-of}
 use Rattle.in_place_owed.proofs.SetKeys.{set-no_room}

@@ -20,10 +20,10 @@ use Rattle.edit_def.specs.Kept.{Key, key_of}
 use Rattle.session_def.specs.Indexes.{KeepsFlagsOf, KeepsIndex, KeepsIndexIfThere, KeepsIndexes, bits_set, index_bits, index_records}
 use Rattle.session_def.specs.Indexes.{keys_changed, most_split}
 use Rattle.session_def.specs.State.{State}
-use Rattle.in_place.specs.Blank.{blank_part}
-use Rattle.in_place.specs.InPlace.{Rewrites}
-use Rattle.in_place.proofs.BlankLaws.{first-blank}
-use Rattle.in_place.proofs.SameRecords.{at-same}
+use Rattle.made_edits.specs.Blank.{blank_part}
+use Rattle.made_edits.specs.InPlace.{Rewrites}
+use Rattle.made_edits.proofs.BlankLaws.{first-blank}
+use Rattle.made_edits.proofs.SameRecords.{at-same}
 use Rattle.in_place_owed.proofs.IndexesSet.{directory-owed, extend-owed, index-named}
 use Rattle.made_edits.specs.Beside.{KeepsRest}
 use Rattle.made_edits.specs.Left.{is_entry_key}

@@ -36,10 +36,10 @@ use Rattle.session_def.specs.Indexes.{KeepsRest, KeepsRests, is_same_entry, stay
 use Rattle.session_def.specs.Kept.{IsRight, KeepsEntries, file_in, link_in}
 use Rattle.session_def.specs.Named.{is_one_of}
 use Rattle.session_def.specs.State.{State}
-use Rattle.name_edits.proofs.SameLink.{is_link-exact}
-use Rattle.in_place.specs.InPlace.{Rewrites}
-use Rattle.in_place.proofs.OtherParts.{at-other}
-use Rattle.in_place.proofs.PlacesSame.{told-passed}
+use Rattle.made_edits.proofs.SameLink.{is_link-exact}
+use Rattle.made_edits.specs.InPlace.{Rewrites}
+use Rattle.made_edits.proofs.OtherParts.{at-other}
+use Rattle.made_edits.proofs.PlacesSame.{told-passed}
 use Rattle.attribute_edits.proofs.NamedItems.{index-of, item-named, items-of, one-items}
 use Rattle.in_place_owed.proofs.EntriesOwed.{entries-first, items-back, rests-owed}
 use Rattle.in_place_owed.proofs.StandardOwed.{standard-among}

@@ -29,10 +29,10 @@ use Rattle.session_def.specs.Kept.{ChangesKeys, KeepsKeys, KeepsStandard, is_any
 use Rattle.session_def.specs.Nodes.{ComesRightly, IsNewFile, IsNewName, KeepsDosFlags, KeepsNodes, flag_of, shape_of, shapes_due}
 use Rattle.session_def.specs.Owed.{Owes}
 use Rattle.session_def.specs.State.{State}
-use Rattle.in_place.specs.Blank.{blank_part, blank_record}
-use Rattle.in_place.specs.InPlace.{Rewrites}
-use Rattle.in_place.proofs.RoomSame.{numbers-same}
-use Rattle.in_place.proofs.SameRecords.{on-same, parts-same}
+use Rattle.made_edits.specs.Blank.{blank_part, blank_record}
+use Rattle.made_edits.specs.InPlace.{Rewrites}
+use Rattle.made_edits.proofs.RoomSame.{numbers-same}
+use Rattle.made_edits.proofs.SameRecords.{on-same, parts-same}
 use Rattle.in_place_owed.proofs.Owes as setting
 use Rattle.in_place_owed.proofs.StandardOwed.{marks-owed, standard-owed}
 use Rattle.made_edits.specs.Beside.{IsFreshFile}

@@ -10,8 +10,8 @@ use Rattle.session_def.specs.Done.{GainsRightly, IsGained, LeavesDone}
 use Rattle.session_def.specs.Owed.{Owes}
 use Rattle.session_def.specs.State.{State}
 use Rattle.session_def.proofs.OwedLaws.{leaves-done}
-use Rattle.in_place.specs.InPlace.{Rewrites}
-use Rattle.in_place.proofs.SameRecords.{spots-same}
+use Rattle.made_edits.specs.InPlace.{Rewrites}
+use Rattle.made_edits.proofs.SameRecords.{spots-same}
 use Rattle.made_owed.specs.MadeOwed.{SetsBehindMade, at_name}
 use Rattle.made_owed.proofs.MadeBase as base
 use Rattle.made_owed.proofs.MadeCalls as calls

@@ -38,10 +38,10 @@ use Rattle.session_def.specs.Named.{has_entry_of, is_one_of}
 use Rattle.session_def.specs.Owed.{Owes}
 use Rattle.session_def.specs.Room.{KeepsBlocks, KeepsCopies, KeepsLogEnd, is_written_file}
 use Rattle.session_def.specs.State.{State, dirty_flag}
-use Rattle.in_place.specs.Blank.{blank_part, blank_record}
-use Rattle.in_place.specs.InPlace.{Rewrites}
-use Rattle.in_place.proofs.RoomSame.{used-same}
-use Rattle.in_place.proofs.SameRecords.{on-same}
+use Rattle.made_edits.specs.Blank.{blank_part, blank_record}
+use Rattle.made_edits.specs.InPlace.{Rewrites}
+use Rattle.made_edits.proofs.RoomSame.{used-same}
+use Rattle.made_edits.proofs.SameRecords.{on-same}
 use Rattle.in_place_owed.proofs.Owes as setting
 use Rattle.made_edits.specs.Left.{LeavesRest}
 use Rattle.made_owed.specs.MadeOwed.{SetsBehindMade, at_name, between}

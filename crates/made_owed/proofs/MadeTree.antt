@@ -20,8 +20,8 @@ use Rattle.tree_model.specs.declared.tree.Link.{Link}
 use Rattle.tree_model.specs.declared.tree.Node.{Node}
 use Rattle.session_def.specs.Named.{every_link, has_entry_of, leads_among}
 use Rattle.session_def.specs.Nodes.{is_directory_node}
-use Rattle.reading_edits.specs.Steps.{with_node}
-use Rattle.command_edits.proofs.StageLaws.{get-other}
+use Rattle.made_edits.specs.Steps.{with_node}
+use Rattle.made_edits.proofs.StageLaws.{get-other}
 use Rattle.in_place_owed.specs.SetsInPlace.{links_of}
 
 never : {b : Bool} → b ≡ true → b ≡ false → ⊥

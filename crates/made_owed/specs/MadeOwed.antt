@@ -3,8 +3,8 @@ use Rattle.std.specs.Prelude.{◌≡◌, ℕ, ◌+◌, ◌∷◌, [], List, leng
 use Rattle.ntfs_def.specs.Node.{Item}
 use Rattle.volume_def.specs.Readable.{IsDirectory}
 use Rattle.volume_def.specs.View.{VolumeView}
-use Rattle.mft_table.specs.declared.mounted.Mounted.{Mounted}
-use Rattle.mft_table.specs.HeldTables.{AreStored}
+use Rattle.made_edits.specs.Mounted.{Mounted}
+use Rattle.made_edits.specs.HeldTables.{AreStored}
 use Rattle.tree_model.specs.Effects.{make, security_of}
 use Rattle.tree_model.specs.Reading.{read}
 use Rattle.tree_model.specs.Subjects.{Located, NameIn, at_file, nothing}
@@ -14,8 +14,8 @@ use Rattle.edit_def.specs.Items.{HasItems}
 use Rattle.edit_def.specs.Marks.{AreRight}
 use Rattle.session_def.specs.Kept.{KeepsEntries}
 use Rattle.session_def.specs.State.{Stands, State}
-use Rattle.command_edits.specs.Calls.{IsNewStandard}
-use Rattle.record_calls.specs.Marks.{marks_of}
+use Rattle.made_edits.specs.Calls.{IsNewStandard}
+use Rattle.made_edits.specs.Marks.{marks_of}
 use Rattle.in_place_owed.specs.SetsInPlace.{SetsInPlace}
 use Rattle.made_edits.specs.Beside.{IsPlainStandard}
 use Rattle.made_edits.specs.Comes.{CanMake, ComesUnder, IsNewKey}

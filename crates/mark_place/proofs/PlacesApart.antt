@@ -10,7 +10,7 @@ use Rattle.std.proofs.lemmas.List.Elements.{Contains-append_cases}
 use Rattle.std.proofs.lemmas.Nat.{div-mul-add, mod_below}
 use Rattle.ntfs_def.specs.Record.{Reference}
 use Rattle.ntfs_def.specs.declared.kinds.TheConstants.{DATA}
-use Rattle.ntfs_def.specs.declared.records.TheConstants.{LOG_FILE, MFT, MFT_MIRROR, UPCASE, VOLUME}
+use Rattle.ntfs_def.specs.declared.records.TheConstants.{FIRST_ORDINARY, LOG_FILE, MFT, MFT_MIRROR, UPCASE, VOLUME}
 use Rattle.ntfs_def.specs.declared.run_text.Spot.{Spot}
 use Rattle.ntfs_def.specs.declared.run_text.Spot.TheVariants.{At, Hole, Outside}
 use Rattle.list_laws.proofs.MemberLaws.{Contains-cases, Contains-from_filter, Contains-from_flat_map, Contains-nil, Contains-only}
@@ -269,14 +269,14 @@ module _ (view : VolumeView) (o : HasOwners view) (some : 0 < view.layout.cluste
           copy = λ same. out.mirror half half-small (copy-at sector same);
         }
 
-    pub record-beside : (g n sector : ℕ) → IsRecordOf view g n → g ≢ VOLUME → Contains (record_places layout n) sector
-        → IsBesideFlag flag sector
-    record-beside g n sector belongs other there = by (record-sector layout n sector there)
+    -- a record that is not that of the version
+    other-beside : (n sector : ℕ) → n ≢ VOLUME → Contains (record_places layout n) sector → IsBesideFlag flag sector
+    other-beside n sector other there = by (record-sector layout n sector there)
       where
         apart : (k : ℕ) → 2 * n ≤ k → k < 2 * n + 2 → k ≢ half
         apart k low high same =
             let few = half-small in
-            other-record view g n sound belongs other (omega (arith, low, high, same, few))
+            other (omega (arith, low, high, same, few))
 
         by : IsTableSector layout n sector ⊎ IsMirrorSector layout n sector → IsBesideFlag flag sector
         by (inl t) = record {
@@ -288,3 +288,11 @@ module _ (view : VolumeView) (o : HasOwners view) (some : 0 < view.layout.cluste
           home = λ same. mirror-clear m.k (sector / per) m.few (ap (λ x. x / per) (sym m.is)) (home-covered sector same);
           copy = λ same. apart m.k m.low m.high (let a = m.is in let b = copy-is in omega (arith, a, b, same));
         }
+
+    pub record-beside : (g n sector : ℕ) → IsRecordOf view g n → g ≢ VOLUME → Contains (record_places layout n) sector
+        → IsBesideFlag flag sector
+    record-beside g n sector belongs other there = other-beside n sector (other-record view g n sound belongs other) there
+
+    -- .. and one that is of no file yet
+    pub unused-beside : (n sector : ℕ) → FIRST_ORDINARY ≤ n → Contains (record_places layout n) sector → IsBesideFlag flag sector
+    unused-beside n sector ordinary there = other-beside n sector (λ same. omega (arith, ordinary, same)) there

@@ -12,3 +12,6 @@ pub mod MountNos
 pub mod HeldTables
 pub mod InUse
 pub mod FreeRecords
+-- Words of the crates below, passed on to those above.
+pub use Rattle.cluster_bitmap.specs.Flags
+pub use Rattle.vol_stage.specs.Staged

@@ -10,6 +10,7 @@ mod mount;
 mod mounted;
 
 pub use blocks::{BlockReader, read_two_sectors};
+pub use data_runs::{RunList, read_runs};
 pub use error::{MftNo, TableNo};
 pub use find::{Table, find_table, open_record, read_boot_sector};
 pub use mft::Mft;

@@ -11,12 +11,10 @@ ghost use Rattle.tree_read.specs.Walks.{IsDirectoryHeld};
 ghost use Rattle.name_places.specs.Places.{has_same, place_of, place_wanted};
 
 use crate::spelling::is_bad_name;
-use dir_index::lookup_in;
-use file_record::BaseFile;
 use mft_table::Mft;
 use std::alloc::Global;
 use tree_model::{No, Path};
-use tree_read::{Standing, Stop, enter};
+use tree_read::{BaseFile, Standing, Stop, enter, lookup_in};
 use vol_bytes::Name;
 use vol_disk::Disk;
 

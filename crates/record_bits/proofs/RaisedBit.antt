@@ -12,7 +12,7 @@ use Rattle.volume_def.specs.View.{VolumeView}
 use Rattle.volume_edits.specs.Clusters.{WritesStream}
 use Rattle.sparse_io.specs.Overwritten.{IsPatched}
 use Rattle.sparse_io.proofs.PatchLaws.{patched-written}
-use Rattle.record_bits.specs.HeldRows.{RaisesBit}
+use Rattle.record_bits.specs.HeldRecordBits.{RaisesBit}
 
 -- The sector `was` of a cluster is read, and put back as `now`, in which one flag was set.
 module _ (old new : VolumeView) (spot : ℕ → Spot) (at cluster skip bit : ℕ) (was now : List ℕ) (per : 0 < old.layout.cluster_sectors)

@@ -17,10 +17,10 @@ use Rattle.volume_def.specs.View.{VolumeView}
 use Rattle.volume_def.proofs.StoredLaws.{value-bytes, value-length_told}
 use Rattle.volume_edits.specs.Clusters.{with_bytes}
 use Rattle.volume_edits.proofs.StreamClusters.{records-written, value-written}
-use Rattle.file_record.specs.declared.parts.FileParts.{FileParts}
-use Rattle.attr_store.specs.declared.first.FirstPart.{FirstPart}
-use Rattle.record_bits.specs.HeldRows.{HoldsRows, RaisesBit}
-use Rattle.record_bits.specs.StoredRow.{StoresRow}
+use Rattle.sparse_io.specs.FileParts.{FileParts}
+use Rattle.sparse_io.specs.FirstPart.{FirstPart}
+use Rattle.record_bits.specs.HeldRecordBits.{HoldsRecordBits, RaisesBit}
+use Rattle.record_bits.specs.StoredRecordBit.{StoresRecordBit}
 use Rattle.record_bits.proofs.RowsStream.{rows-attribute, rows-first, rows-within, rows-written}
 
 -- ONE BYTE in place of another of a list
@@ -67,7 +67,7 @@ module _ (value : List ℕ) (n byte : ℕ) (fits : n / 8 < length value) (here :
     | inr other ↦ ap (λ b. bit_at b (k % 8)) (put-other value (n / 8) byte fits (k / 8) other)
   ]
 
-module _ (old new : VolumeView) (file : FileParts) (its : FirstPart) (h : HoldsRows old file its) (n : ℕ) (told : IsTrue old.told)
+module _ (old new : VolumeView) (file : FileParts) (its : FirstPart) (h : HoldsRecordBits old file its) (n : ℕ) (told : IsTrue old.told)
     (written : n < 8 * its.written) where
   abbrev at : ℕ
   at = n / 8
@@ -95,7 +95,7 @@ module _ (old new : VolumeView) (file : FileParts) (its : FirstPart) (h : HoldsR
       ∙ ap (λ b. cond b (stored_byte old.cluster size spot at) 0) (lt-ltb at h.extent.sizes.initialized below)
 
   -- THE LAW
-  pub row-stored : RaisesBit old new (spot_at (record_bits old)) at (n % 8) → StoresRow old new n
+  pub row-stored : RaisesBit old new (spot_at (record_bits old)) at (n % 8) → StoresRecordBit old new n
   row-stored r =
       let value : value_on new (record_bits new) ≡ with_bytes (value_on old (record_bits old)) at (r.byte ∷ []) =
       ap (λ rs. value_on new (filter (is_of BITMAP []) (parts rs MFT))) (records-written old new (spot_at (record_bits old))

@@ -23,11 +23,11 @@ use Rattle.volume_edits.specs.Owners.{HasOwners}
 use Rattle.volume_edits.proofs.OwnerLaws.{layout-lies_apart}
 use Rattle.mft_table.specs.declared.mounted.Mounted.{Mounted}
 use Rattle.mft_table.specs.InUse.{IsSoundVolume}
-use Rattle.file_record.specs.declared.parts.FileParts.{FileParts}
-use Rattle.file_record.specs.Held.{AreParts, file_number}
-use Rattle.attr_store.specs.declared.first.FirstPart.{FirstPart}
-use Rattle.attr_store.specs.First.{TellsSizes}
-use Rattle.record_bits.specs.HeldRows.{HoldsRows}
+use Rattle.sparse_io.specs.FileParts.{FileParts}
+use Rattle.sparse_io.specs.FileRecordHeld.{AreParts, file_number}
+use Rattle.sparse_io.specs.FirstPart.{FirstPart}
+use Rattle.sparse_io.specs.First.{TellsSizes}
+use Rattle.record_bits.specs.HeldRecordBits.{HoldsRecordBits}
 use Rattle.record_bits.proofs.RowsStream.{rows-held}
 
 plain-there : (o : Option Part) → IsSomeAnd o (λ part. is_packed part.kind part.flags ≡ false)
@@ -76,7 +76,7 @@ module _ (view : VolumeView) (sectors : ℕ) (file : FileParts) (first : FirstPa
       (All-contains (λ part. IsSome (content_extent part.content)) (record_bits view) tells.part (rows-clause view sound).extents
       (find-found is_first (record_bits view) tells.part first-rows).0)
 
-  pub holds-rows : HoldsRows view file first
+  pub holds-rows : HoldsRecordBits view file first
   holds-rows = record {
     readable = readable-sound view sound;
     is_file = rows-file view sound;

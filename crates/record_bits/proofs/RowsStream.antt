@@ -37,13 +37,13 @@ use Rattle.volume_def.proofs.RunPieces.{total-cons}
 use Rattle.volume_def.proofs.PartLaws.{named}
 use Rattle.volume_edits.specs.Clusters.{IsOwnStream}
 use Rattle.volume_edits.proofs.StreamClusters.{stream-own}
-use Rattle.file_record.specs.declared.parts.FileParts.{FileParts}
-use Rattle.file_record.specs.Held.{AreParts, file_number, parts_held}
-use Rattle.attr_store.specs.declared.first.FirstPart.{FirstPart}
-use Rattle.attr_store.specs.First.{attribute_held}
-use Rattle.attr_store.specs.Sought.{parts_held_like}
-use Rattle.attr_store.proofs.StoredLaws.{stored-like}
-use Rattle.record_bits.specs.HeldRows.{HoldsRows}
+use Rattle.sparse_io.specs.FileParts.{FileParts}
+use Rattle.sparse_io.specs.FileRecordHeld.{AreParts, file_number, parts_held}
+use Rattle.sparse_io.specs.FirstPart.{FirstPart}
+use Rattle.sparse_io.specs.First.{attribute_held}
+use Rattle.sparse_io.specs.Sought.{parts_held_like}
+use Rattle.sparse_io.proofs.StoredLaws.{stored-like}
+use Rattle.record_bits.specs.HeldRecordBits.{HoldsRecordBits}
 
 -- RUNS WITHOUT A HOLE: each of their clusters lies somewhere.
 place-there : (lcn : Option ℕ) (k : ℕ) → IsSome lcn → (c : ℕ) × (spot_in (Some (option_map (λ place. place + k) lcn)) ≡ At c)
@@ -75,7 +75,7 @@ pub rows-held : (view : VolumeView) (file : FileParts) → AreParts view file �
     → attribute_held file BITMAP [] ≡ record_bits view
 rows-held view file are number = ap (λ ps. filter (is_of BITMAP []) ps) (are.parts ∙ ap (parts (records_of view)) number)
 
-module _ (view : VolumeView) (file : FileParts) (its : FirstPart) (h : HoldsRows view file its) where
+module _ (view : VolumeView) (file : FileParts) (its : FirstPart) (h : HoldsRecordBits view file its) where
   abbrev size : ℕ
   size = cluster_bytes view.layout
 

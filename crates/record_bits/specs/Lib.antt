@@ -1,2 +1,2 @@
-pub mod StoredRow
-pub mod HeldRows
+pub mod StoredRecordBit
+pub mod HeldRecordBits

@@ -2,7 +2,7 @@
 #![tactic(auto)]
 
 mod raise;
-mod row;
+mod record_bit;
 mod sector;
 
-pub use row::{can_store_row, store_row};
+pub use record_bit::{can_store_record_bit, store_record_bit};

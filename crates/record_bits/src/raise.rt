@@ -8,13 +8,13 @@ ghost use Rattle.volume_def.specs.Table.{cluster_bytes};
 ghost use Rattle.volume_edits.specs.Clusters.{IsOwnStream};
 ghost use Rattle.vol_stage.specs.Staged.{StagesOnly, places};
 ghost use Rattle.mft_table.specs.Mft.{KeepsDisk, faults_of, is_mft_broken, stage_of, view};
-ghost use Rattle.file_record.specs.FileNos.{CountsNo, IsReadNo};
+ghost use Rattle.sparse_io.specs.FileNos.{CountsNo, IsReadNo};
 ghost use Rattle.sparse_io.specs.Overwritten.{touched_sectors};
-ghost use Rattle.record_bits.specs.HeldRows.{RaisesBit};
+ghost use Rattle.record_bits.specs.HeldRecordBits.{RaisesBit};
 
 use crate::sector::{read_sector, stage_sector};
-use file_record::FileNo;
 use mft_table::Mft;
+use sparse_io::FileNo;
 use vol_disk::{Disk, SECTOR};
 
 // Sets one flag in a sector, of the lowest bit of a byte first. All others stay.

@@ -6,12 +6,12 @@ ghost use Rattle.volume_def.specs.Table.{cluster_bytes};
 ghost use Rattle.volume_edits.specs.Clusters.{IsOwnStream, WritesStream, stream_place};
 ghost use Rattle.vol_stage.specs.Staged.{StagesOnly, spare};
 ghost use Rattle.mft_table.specs.Mft.{MftReads, MftStages, faults_of, is_mft_broken, stage_of, view};
-ghost use Rattle.file_record.specs.declared.error.FileNo.TheVariants.{Memory};
-ghost use Rattle.file_record.specs.FileNos.{CountsNo, IsReadNo};
-ghost use Rattle.attr_store.specs.Written.{StagesAtMost};
+ghost use Rattle.sparse_io.specs.FileNo.TheVariants.{Memory};
+ghost use Rattle.sparse_io.specs.FileNos.{CountsNo, IsReadNo};
+ghost use Rattle.sparse_io.specs.Written.{StagesAtMost};
 
-use file_record::FileNo;
 use mft_table::Mft;
+use sparse_io::FileNo;
 use vol_disk::Disk;
 
 /// Reads a sector of a cluster, from its byte `skip` on.

@@ -9,10 +9,10 @@ use Rattle.volume_def.specs.View.{VolumeView}
 use Rattle.volume_edits.specs.Rewritten.{EditsBlock}
 use Rattle.edit_def.specs.Kept.{Key}
 use Rattle.edit_def.specs.Marks.{Marks}
-use Rattle.record_edits.specs.Owners.{times_in}
-use Rattle.record_edits.specs.RecordEdit.{parts_made}
-use Rattle.record_edits.proofs.BlockEdits.{edit-of}
-use Rattle.record_edits.proofs.FillLaws.{follows-came, names-came}
+use Rattle.file_edits.specs.Owners.{times_in}
+use Rattle.file_edits.specs.RecordEdit.{parts_made}
+use Rattle.file_edits.proofs.BlockEdits.{edit-of}
+use Rattle.file_edits.proofs.FillLaws.{follows-came, names-came}
 use Rattle.file_record.specs.Attributes.{InsertsAttribute, RemovesAttribute, ReplacesAttribute, ResizesAttribute}
 use Rattle.file_record.specs.Sizes.{WritesSizes}
 use Rattle.file_record.specs.Written.{WritesBytes}

@@ -9,3 +9,12 @@ pub mod ValueEdits
 pub mod ValueBytes
 pub mod WholeCalls
 pub mod StepCalls
+-- Laws of the crates below, passed on to those above.
+pub use Rattle.file_edits.proofs.FileBeside
+pub use Rattle.file_edits.proofs.FileComes
+pub use Rattle.file_edits.proofs.LinkEdits
+pub use Rattle.file_edits.proofs.BlockEdits
+pub use Rattle.file_edits.proofs.FileEdits
+pub use Rattle.file_edits.proofs.RecordEdits
+pub use Rattle.file_edits.proofs.WholeEdits
+pub use Rattle.file_edits.proofs.FlushLaws

@@ -5,7 +5,7 @@ use Rattle.ntfs_def.specs.Fixup.{opened_of}
 use Rattle.volume_def.specs.Files.{is_base, record_of}
 use Rattle.volume_def.specs.View.{VolumeView}
 use Rattle.volume_edits.specs.Rewritten.{CountsLinks}
-use Rattle.record_edits.specs.Between.{MayBeEdited}
+use Rattle.file_edits.specs.Between.{MayBeEdited}
 use Rattle.file_edits.specs.Links.{CountsFileLinks}
 
 pub counts-file : (f links : ℕ) (old new : VolumeView) (stored : List ℕ) → CountsLinks old new f stored links → MayBeEdited f

@@ -8,7 +8,7 @@ use Rattle.ntfs_def.specs.Record.{Header, Reference, header_of, is_in_use, seque
 use Rattle.ntfs_def.specs.declared.kinds.TheConstants.{FILE_NAME, STANDARD_INFORMATION}
 use Rattle.ntfs_def.specs.declared.records.TheConstants.{FIRST_ORDINARY}
 use Rattle.list_laws.proofs.PieceLaws.{All-one}
-use Rattle.record_bytes.specs.AttributeBytes.{part}
+use Rattle.file_record.specs.AttributeBytes.{part}
 use Rattle.volume_def.specs.AttributesClause.{AscendsFrom, IsRightPart, IsRightRecord, IsStandard, is_standard, times_id}
 use Rattle.volume_def.specs.ExtentsClause.{AreAttribute}
 use Rattle.volume_def.specs.Files.{Part, Value, is_base, parts_like, record_in, record_of, record_on, records_of}
@@ -16,12 +16,12 @@ use Rattle.volume_def.specs.Readable.{IsFile}
 use Rattle.volume_def.specs.ReferencesClause.{NamesBase}
 use Rattle.volume_def.specs.Table.{cluster_bytes}
 use Rattle.volume_def.specs.View.{VolumeView}
-use Rattle.mft_table.specs.declared.mounted.Mounted.{Mounted}
-use Rattle.mft_table.specs.Changes.{with_record_given, with_record_taken}
-use Rattle.mft_table.specs.FreeRecords.{FreesBlock, IsOrdinaryFree}
+use Rattle.file_record.specs.MountedType.{Mounted}
+use Rattle.file_record.specs.Changes.{with_record_given, with_record_taken}
+use Rattle.file_record.specs.FreeRecords.{FreesBlock, IsOrdinaryFree}
 use Rattle.edit_def.specs.Account.{Wants}
 use Rattle.edit_def.specs.Marks.{Marks}
-use Rattle.record_edits.proofs.WholeEdits.{one-value}
+use Rattle.file_edits.proofs.WholeEdits.{one-value}
 use Rattle.file_record.specs.Extensions.{ComesEmpty, CreatesBase, IsBareExtension, IsNewBase, reference_of}
 use Rattle.file_edits.specs.Files.{CostsFile, IsPlainFile, IsPlainValue, MakesFile}
 use Rattle.file_edits.specs.Steps.{FreesExtension, SetsRow, TakesExtension}

@@ -9,9 +9,9 @@ use Rattle.cluster_bitmap.proofs.FlagLaws.{length-with_all}
 use Rattle.cluster_bitmap.proofs.TakenLaws.{put-inside, put-outside}
 use Rattle.volume_def.specs.Files.{record_on}
 use Rattle.volume_def.specs.View.{VolumeView}
-use Rattle.mft_table.specs.declared.mounted.Mounted.{Mounted}
-use Rattle.mft_table.specs.Changes.{with_record_given, with_record_taken}
-use Rattle.mft_table.specs.FreeRecords.{IsOrdinaryFree}
+use Rattle.file_record.specs.MountedType.{Mounted}
+use Rattle.file_record.specs.Changes.{with_record_given, with_record_taken}
+use Rattle.file_record.specs.FreeRecords.{IsOrdinaryFree}
 use Rattle.edit_def.specs.Marks.{AreRight, Marks}
 use Rattle.file_edits.specs.Steps.{SetsRow}
 use Rattle.record_calls.specs.Marks.{marks_of}

@@ -13,9 +13,9 @@ use Rattle.edit_def.specs.Account.{Wants, nothing}
 use Rattle.edit_def.specs.Kept.{Key, either, key_of, same_key}
 use Rattle.edit_def.specs.Marks.{Marks}
 use Rattle.edit_def.specs.Purses.{Costs, is_emptied}
-use Rattle.record_edits.specs.Pending.{IsPending, Stepped}
-use Rattle.record_edits.specs.RecordEdit.{AllHave, parts_made}
-use Rattle.record_edits.proofs.BlockEdits.{was-at}
+use Rattle.file_edits.specs.Pending.{IsPending, Stepped}
+use Rattle.file_edits.specs.RecordEdit.{AllHave, parts_made}
+use Rattle.file_edits.proofs.BlockEdits.{was-at}
 use Rattle.file_edits.proofs.StepLaws.{step-edit}
 use Rattle.file_record.specs.Attributes.{InsertsAttribute, RemovesAttribute, ResizesAttribute}
 use Rattle.record_calls.specs.Calls.{IsOtherValue, MayCome, MayEditIn, MayReplace, MayResize}

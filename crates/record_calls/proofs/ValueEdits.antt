@@ -17,10 +17,10 @@ use Rattle.volume_edits.specs.Rewritten.{EditsBlock, RewritesRecord}
 use Rattle.edit_def.specs.Account.{Wants, nothing}
 use Rattle.edit_def.specs.Kept.{Key, key_of}
 use Rattle.edit_def.specs.Purses.{Costs, is_emptied, part_size, run_size}
-use Rattle.record_edits.specs.Between.{MayBeEdited}
-use Rattle.record_edits.specs.RecordEdit.{AllHave, HasKey, parts_made}
-use Rattle.record_edits.proofs.BlockEdits.{apart-from, edit-of}
-use Rattle.record_edits.proofs.CostLaws.{costs-add, costs-drop, costs-put}
+use Rattle.file_edits.specs.Between.{MayBeEdited}
+use Rattle.file_edits.specs.RecordEdit.{AllHave, HasKey, parts_made}
+use Rattle.file_edits.proofs.BlockEdits.{apart-from, edit-of}
+use Rattle.file_edits.proofs.CostLaws.{costs-add, costs-drop, costs-put}
 use Rattle.file_record.specs.Attributes.{InsertsAttribute}
 use Rattle.record_calls.specs.Calls.{IsOtherValue, MayCome, MayEditIn, MayReplace}
 use Rattle.record_calls.specs.Edits.{IsRightEdit, record_there}

@@ -11,8 +11,8 @@ use Rattle.list_laws.proofs.OptionLaws.{map-some}
 use Rattle.list_laws.proofs.PieceLaws.{All-one}
 use Rattle.volume_def.specs.Coverage.{times_covered}
 use Rattle.volume_def.specs.Files.{Part, content_of, content_runs, content_value, joined_runs, part_of, part_runs}
-use Rattle.record_edits.specs.Owners.{times_in}
-use Rattle.record_edits.specs.RecordEdit.{parts_made}
+use Rattle.file_edits.specs.Owners.{times_in}
+use Rattle.file_edits.specs.RecordEdit.{parts_made}
 
 pub body-value : (body : Body) → content_value (content_of body) ≡ value_of body
 body-value (Resident value) = refl

@@ -21,21 +21,21 @@ use Rattle.volume_def.specs.View.{VolumeView}
 use Rattle.volume_def.proofs.PartLaws.{Contains-HoldsPart}
 use Rattle.volume_def.proofs.RecordLaws.{parts-own_at}
 use Rattle.volume_edits.specs.Rewritten.{EditsBlock, RewritesRecord}
-use Rattle.mft_table.specs.declared.mounted.Mounted.{Mounted}
-use Rattle.mft_table.specs.Changes.{with_record_taken}
-use Rattle.mft_table.specs.FreeRecords.{IsOrdinaryFree}
+use Rattle.file_record.specs.MountedType.{Mounted}
+use Rattle.file_record.specs.Changes.{with_record_taken}
+use Rattle.file_record.specs.FreeRecords.{IsOrdinaryFree}
 use Rattle.edit_def.specs.Account.{Wants, nothing}
 use Rattle.edit_def.specs.Edited.{Edited}
 use Rattle.edit_def.specs.Kept.{Key, key_of, same_key}
 use Rattle.edit_def.specs.Marks.{Marks}
 use Rattle.edit_def.specs.Purses.{Costs, is_emptied}
-use Rattle.record_edits.specs.Between.{IsReady}
-use Rattle.record_edits.specs.RecordEdit.{AllHave, EditsPart, EditsRecord, parts_made}
-use Rattle.record_edits.proofs.BlockEdits.{base-file, edit-of, was-at}
-use Rattle.record_edits.proofs.FileEdits.{list-missing}
-use Rattle.record_edits.proofs.PartEdits.{filter-nil}
-use Rattle.record_edits.proofs.RecordEdits as call
-use Rattle.record_edits.proofs.WholeEdits as whole
+use Rattle.file_edits.specs.Between.{IsReady}
+use Rattle.file_edits.specs.RecordEdit.{AllHave, EditsPart, EditsRecord, parts_made}
+use Rattle.file_edits.proofs.BlockEdits.{base-file, edit-of, was-at}
+use Rattle.file_edits.proofs.FileEdits.{list-missing}
+use Rattle.file_edits.proofs.PartEdits.{filter-nil}
+use Rattle.file_edits.proofs.RecordEdits as call
+use Rattle.file_edits.proofs.WholeEdits as whole
 use Rattle.file_edits.specs.Files.{MakesFile, is_file_key}
 use Rattle.file_edits.proofs.FileComes as file
 use Rattle.file_record.specs.Attributes.{InsertsAttribute, RemovesAttribute, ResizesAttribute}

@@ -7,7 +7,7 @@ use Rattle.volume_def.specs.Files.{file_of, is_base, part_of, parts, parts_at, r
 use Rattle.volume_def.specs.ListsClause.{is_list}
 use Rattle.volume_def.specs.Readable.{IsFile}
 use Rattle.volume_def.specs.View.{VolumeView}
-use Rattle.record_edits.specs.Between.{MayBeEdited}
+use Rattle.file_edits.specs.Between.{MayBeEdited}
 use Rattle.file_record.specs.Attributes.{opened_record}
 use Rattle.record_calls.specs.Edits.{record_there}
 use Rattle.record_calls.specs.Rising.{RisesAt}

@@ -9,9 +9,9 @@ use Rattle.volume_def.specs.Readable.{IsFile}
 use Rattle.volume_def.specs.View.{VolumeView}
 use Rattle.edit_def.specs.Kept.{Key}
 use Rattle.edit_def.specs.Marks.{Marks}
-use Rattle.record_edits.specs.Between.{MayBeEdited}
-use Rattle.record_edits.specs.Owners.{FollowsRuns, NamesRightly}
-use Rattle.record_edits.specs.RecordEdit.{AllHave, EditsPart, parts_made}
+use Rattle.file_edits.specs.Between.{MayBeEdited}
+use Rattle.file_edits.specs.Owners.{FollowsRuns, NamesRightly}
+use Rattle.file_edits.specs.RecordEdit.{AllHave, EditsPart, parts_made}
 
 -- what block n of the table means, opened
 abbrev pub record_there : VolumeView → ℕ → Record

@@ -3,14 +3,14 @@ ghost use Rattle.std.specs.Prelude.{◌≡◌, ◌/◌, ◌≤◌, ℕ, Bool, Is
 ghost use Rattle.ntfs_def.specs.Attribute.{Attribute, attribute_at};
 ghost use Rattle.volume_def.specs.View.{VolumeView};
 ghost use Rattle.volume_edits.specs.Rewritten.{RewritesRecord};
-ghost use Rattle.mft_table.specs.declared.mounted.Mounted.{Mounted};
-ghost use Rattle.mft_table.specs.Changes.{with_record_taken};
-ghost use Rattle.mft_table.specs.FreeRecords.{IsOrdinaryFree};
+ghost use Rattle.file_record.specs.MountedType.{Mounted};
+ghost use Rattle.file_record.specs.Changes.{with_record_taken};
+ghost use Rattle.file_record.specs.FreeRecords.{IsOrdinaryFree};
 ghost use Rattle.edit_def.specs.Account.{Wants, nothing};
 ghost use Rattle.edit_def.specs.Edited.{Edited};
 ghost use Rattle.edit_def.specs.Kept.{key_of, same_key};
 ghost use Rattle.edit_def.specs.Marks.{Marks};
-ghost use Rattle.record_edits.specs.Between.{IsReady};
+ghost use Rattle.file_edits.specs.Between.{IsReady};
 ghost use Rattle.file_record.specs.Attributes.{InsertsAttribute, RemovesAttribute, ResizesAttribute};
 ghost use Rattle.file_record.specs.Extensions.{CreatesBase};
 ghost use Rattle.file_edits.specs.Files.{is_file_key};

@@ -4,7 +4,7 @@ ghost use Rattle.ntfs_def.specs.Fixup.{opened_of};
 ghost use Rattle.volume_def.specs.Files.{is_base, record_of};
 ghost use Rattle.volume_def.specs.View.{VolumeView};
 ghost use Rattle.volume_edits.specs.Rewritten.{CountsLinks};
-ghost use Rattle.record_edits.specs.Between.{MayBeEdited};
+ghost use Rattle.file_edits.specs.Between.{MayBeEdited};
 ghost use Rattle.file_edits.specs.Links.{CountsFileLinks};
 
 /// Links counted in the base record of a file are the file's links counted.

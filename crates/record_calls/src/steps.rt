@@ -8,7 +8,7 @@ ghost use Rattle.edit_def.specs.Account.{Wants, nothing};
 ghost use Rattle.edit_def.specs.Kept.{Key, either, key_of, same_key};
 ghost use Rattle.edit_def.specs.Marks.{Marks};
 ghost use Rattle.edit_def.specs.Purses.{is_emptied};
-ghost use Rattle.record_edits.specs.Pending.{IsPending, Stepped};
+ghost use Rattle.file_edits.specs.Pending.{IsPending, Stepped};
 ghost use Rattle.file_record.specs.Attributes.{InsertsAttribute, RemovesAttribute, ResizesAttribute};
 ghost use Rattle.record_calls.specs.Calls.{IsOtherValue, MayCome, MayEditIn, MayReplace, MayResize};
 

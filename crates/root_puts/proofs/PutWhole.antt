@@ -37,9 +37,9 @@ use Rattle.edit_def.specs.Marks.{Marks}
 use Rattle.record_edits.specs.Between.{IsReady}
 use Rattle.record_calls.proofs.Values.{body-value}
 use Rattle.index_puts.specs.Held.{LacksKey}
-use Rattle.index_puts.specs.LeafRoom.{names_of_directory}
+use Rattle.tree_model.specs.LeafRoom.{names_of_directory}
 use Rattle.index_puts.specs.PutsRoot.{IsRootAt, PutsRootItem}
-use Rattle.index_puts.specs.RootRoom.{has_list, has_root_room, is_free_beside_root, is_root_leaf}
+use Rattle.tree_model.specs.RootRoom.{has_list, has_root_room, is_free_beside_root, is_root_leaf}
 use Rattle.index_puts.proofs.HeldLaws.{root-value}
 use Rattle.root_puts.specs.CanPut.{CanPutInRoot}
 use Rattle.index_node.proofs.FoundLaws.{has_at}

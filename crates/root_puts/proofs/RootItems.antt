@@ -32,7 +32,7 @@ use Rattle.edit_def.specs.Marks.{Marks}
 use Rattle.record_edits.specs.Between.{IsReady}
 use Rattle.record_calls.specs.Calls.{IsInOneRecord}
 use Rattle.index_puts.specs.Leaf.{PutUnder}
-use Rattle.index_puts.specs.LeafRoom.{names_of_directory}
+use Rattle.tree_model.specs.LeafRoom.{names_of_directory}
 use Rattle.index_puts.specs.PutsRoot.{IsRootAt}
 use Rattle.index_puts.proofs.HeldLaws.{each-of, root-value}
 use Rattle.index_puts.proofs.PutItems.{all-of}

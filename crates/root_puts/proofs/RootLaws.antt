@@ -55,7 +55,7 @@ use Rattle.index_tree.proofs.IndexTreeLaws.{one_list}
 use Rattle.list_laws.proofs.OptionLaws.{some_same}
 use Rattle.ntfs_def.specs.IndexTree.{Walks}
 use Rattle.ntfs_def.specs.declared.index.NodeForm.TheVariants.{Names}
-use Rattle.index_puts.specs.LeafRoom.{names_of_directory}
+use Rattle.tree_model.specs.LeafRoom.{names_of_directory}
 use Rattle.root_puts.specs.PutsInRoot.{KeepsRootHead, PutsInRoot, WritesRecord, root_key}
 use Rattle.root_puts.proofs.RootCall.{names}
 use Rattle.root_puts.proofs.RootCall as call

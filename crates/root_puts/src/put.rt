@@ -13,7 +13,7 @@ ghost use Rattle.record_edits.specs.Between.{IsReady};
 ghost use Rattle.record_calls.specs.Marks.{marks_of};
 ghost use Rattle.dir_index.specs.Standard.{StagesRecordOf};
 ghost use Rattle.index_puts.specs.Held.{LacksKey};
-ghost use Rattle.index_puts.specs.RootRoom.{has_root_room};
+ghost use Rattle.tree_model.specs.RootRoom.{has_root_room};
 ghost use Rattle.root_puts.specs.CanPut.{CanPutInRoot};
 ghost use Rattle.root_puts.specs.PutsInRoot.{GrowsByItem};
 

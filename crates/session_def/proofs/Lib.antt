@@ -8,3 +8,12 @@ pub mod OwedLaws
 pub mod UnnamedLaws
 pub mod LocatedLaws
 pub mod ApartLaws
+-- Laws of the crates below, passed on to those above.
+pub use Rattle.edit_def.proofs.NodeLaws
+pub use Rattle.edit_def.proofs.IndexLaws
+pub use Rattle.edit_def.proofs.KeptLaws
+pub use Rattle.edit_def.proofs.NamesLaws
+pub use Rattle.edit_def.proofs.EditedLaws
+pub use Rattle.edit_def.proofs.PlaceLaws
+pub use Rattle.edit_def.proofs.AccountLaws
+pub use Rattle.edit_def.proofs.Sums

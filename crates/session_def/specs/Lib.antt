@@ -10,3 +10,26 @@ pub mod Done
 pub mod FirstMark
 pub mod Owed
 pub mod Session
+-- Words of the crates below, passed on to those above.
+pub use Rattle.tree_model.specs.IndexRoom
+pub use Rattle.tree_model.specs.StreamRoom
+pub use Rattle.tree_model.specs.Subjects
+pub use Rattle.tree_model.specs.declared.command.Command
+pub use Rattle.tree_model.specs.declared.tree.Link
+pub use Rattle.tree_model.specs.Bill
+pub use Rattle.tree_model.specs.Tree
+pub use Rattle.tree_model.specs.Effects
+pub use Rattle.tree_model.specs.Reading
+pub use Rattle.tree_model.specs.declared.tree.Node
+pub use Rattle.tree_model.specs.Drops
+pub use Rattle.edit_def.specs.Items
+pub use Rattle.edit_def.specs.Kept as EditDefKept
+pub use Rattle.edit_def.specs.Names
+pub use Rattle.edit_def.specs.Forms
+pub use Rattle.edit_def.specs.ListOrder
+pub use Rattle.edit_def.specs.Unused
+pub use Rattle.edit_def.specs.Account
+pub use Rattle.edit_def.specs.Edited
+pub use Rattle.edit_def.specs.Marks
+pub use Rattle.edit_def.specs.Places
+pub use Rattle.edit_def.specs.Purses

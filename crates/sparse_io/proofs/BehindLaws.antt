@@ -20,8 +20,8 @@ use Rattle.volume_def.specs.Values.{first_part, first_vcn_of, holds_vcn, is_firs
 use Rattle.volume_def.specs.View.{VolumeView}
 use Rattle.tree_model.specs.StreamRoom.{initialized_in, initialized_size, is_cluster, new_clusters, parts_named, stream_value_len, touches}
 use Rattle.tree_model.specs.Ways.{goes_behind, in_extent}
-use Rattle.file_record.specs.declared.parts.FileParts.{FileParts}
-use Rattle.file_record.specs.Held.{file_number, parts_held}
+use Rattle.attr_store.specs.FileParts.{FileParts}
+use Rattle.attr_store.specs.Held.{file_number, parts_held}
 use Rattle.sparse_io.specs.Behind.{TellsBehind, len_inside}
 use Rattle.sparse_io.specs.Held.{IsHeldWith, IsStream}
 use Rattle.sparse_io.specs.declared.find.FoundStream.{FoundStream}

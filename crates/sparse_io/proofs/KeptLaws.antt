@@ -31,8 +31,8 @@ use Rattle.tree_model.specs.declared.reply.ShownStream.{ShownStream}
 use Rattle.tree_model.specs.declared.tree.Content.{Content as StreamContent}
 use Rattle.tree_model.specs.declared.tree.Content.TheVariants.{Packed, Plain}
 use Rattle.tree_model.specs.declared.tree.Stream.{Stream}
-use Rattle.file_record.specs.declared.parts.FileParts.{FileParts}
-use Rattle.file_record.specs.Held.{AreParts, file_number, parts_held}
+use Rattle.attr_store.specs.FileParts.{FileParts}
+use Rattle.attr_store.specs.Held.{AreParts, file_number, parts_held}
 use Rattle.attr_store.proofs.Values.{like-itself}
 use Rattle.attr_store.proofs.StoredLaws.{by-first, length-by, whole-value}
 use Rattle.sparse_io.specs.declared.held.HeldStream.{HeldStream}

@@ -19,8 +19,8 @@ use Rattle.ntfs_def.proofs.ShapeLaws.{header_failing-length, header_failing-used
 use Rattle.volume_def.specs.Files.{Part, is_of, part_of, parts_like}
 use Rattle.volume_def.specs.View.{VolumeView}
 use Rattle.tree_model.specs.StreamRoom.{parts_named}
-use Rattle.file_record.specs.declared.parts.FileParts.{FileParts}
-use Rattle.file_record.specs.Held.{AreParts, attributes_held, attributes_in, file_number, held_of, parts_held, parts_of}
+use Rattle.attr_store.specs.FileParts.{FileParts}
+use Rattle.attr_store.specs.Held.{AreParts, attributes_held, attributes_in, file_number, held_of, parts_held, parts_of}
 
 -- a byte of a name, by its unit
 unit-of : (bytes : List ℕ) (j : ℕ) → j < length bytes / 2 → get_or (units_in bytes) j 0 ≡ u16_at bytes (2 * j)

@@ -22,11 +22,11 @@ use Rattle.volume_def.specs.Values.{first_part, first_vcn_of, holds_vcn, is_firs
 use Rattle.volume_def.specs.Table.{cluster_bytes}
 use Rattle.volume_def.specs.View.{VolumeView}
 use Rattle.volume_def.proofs.Codes.{part_code}
-use Rattle.mft_table.specs.Streams.{spot_on}
+use Rattle.attr_store.specs.Streams.{spot_on}
 use Rattle.tree_model.specs.StreamRoom.{goes_over, initialized_in, is_cluster, parts_named, touches}
 use Rattle.tree_model.specs.declared.tree.Stream.{Stream}
-use Rattle.file_record.specs.declared.parts.FileParts.{FileParts}
-use Rattle.file_record.specs.Held.{file_number, parts_held}
+use Rattle.attr_store.specs.FileParts.{FileParts}
+use Rattle.attr_store.specs.Held.{file_number, parts_held}
 use Rattle.attr_store.specs.Sought.{parts_held_like}
 use Rattle.attr_store.specs.Written.{LiesAs}
 use Rattle.sparse_io.specs.declared.find.FoundStream.{FoundStream}

@@ -17,9 +17,9 @@ use Rattle.volume_edits.specs.Clusters.{IsOwnStream, IsPlaced, IsWritable, Write
 use Rattle.volume_edits.proofs.ClusterWrites.{WritesStream-then}
 use Rattle.vol_stage.specs.Staged.{StagesOnly}
 use Rattle.vol_stage.specs.declared.stage.Stage.{Stage}
-use Rattle.mft_table.proofs.StreamReads.{touched}
-use Rattle.file_record.specs.declared.parts.FileParts.{FileParts}
-use Rattle.file_record.specs.Held.{file_number, parts_held}
+use Rattle.attr_store.proofs.StreamReads.{touched}
+use Rattle.attr_store.specs.FileParts.{FileParts}
+use Rattle.attr_store.specs.Held.{file_number, parts_held}
 use Rattle.attr_store.specs.declared.stored.Stored.{Stored}
 use Rattle.attr_store.specs.First.{IsStored, attribute_held}
 use Rattle.attr_store.specs.Sought.{parts_held_like}

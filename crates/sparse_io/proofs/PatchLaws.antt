@@ -14,8 +14,8 @@ use Rattle.volume_def.specs.Values.{byte_there, pieces_touched, stored_byte, sto
 use Rattle.volume_def.specs.View.{VolumeView}
 use Rattle.volume_edits.specs.Clusters.{IsInRange, WritesStream, stream_place}
 use Rattle.attr_store.proofs.RunLaws.{named-sector}
-use Rattle.mft_table.specs.Streams.{spot_on}
-use Rattle.mft_table.proofs.StreamReads.{touched}
+use Rattle.attr_store.specs.Streams.{spot_on}
+use Rattle.attr_store.proofs.StreamReads.{touched}
 use Rattle.sparse_io.specs.Overwritten.{IsPatched, touched_sectors}
 
 -- a range, and then the one in front of it

@@ -14,8 +14,8 @@ use Rattle.volume_def.specs.Values.{pieces_touched}
 use Rattle.volume_def.specs.View.{VolumeView}
 use Rattle.volume_edits.specs.Clusters.{IsOwnStream, IsPlaced, WritesStream}
 use Rattle.volume_edits.proofs.ClusterWrites.{WritesStream-then}
-use Rattle.mft_table.specs.Streams.{IsSeam}
-use Rattle.mft_table.proofs.StreamReads.{touched, touched-one}
+use Rattle.attr_store.specs.Streams.{IsSeam}
+use Rattle.attr_store.proofs.StreamReads.{touched, touched-one}
 use Rattle.attr_store.proofs.StageLaws.{StagesOnly-then}
 use Rattle.sparse_io.specs.Overwritten.{touched_sectors}
 use Rattle.sparse_io.proofs.OverwriteLaws.{placed-part, staged-first}

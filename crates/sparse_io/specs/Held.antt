@@ -14,8 +14,8 @@ use Rattle.tree_model.specs.Cases.{is_packed, size_of}
 use Rattle.tree_model.specs.Reading.{begins_stream, stream_at, streams_of}
 use Rattle.tree_model.specs.Tree.{sought_stream}
 use Rattle.tree_model.specs.declared.tree.Stream.{Stream}
-use Rattle.file_record.specs.declared.parts.FileParts.{FileParts}
-use Rattle.file_record.specs.Held.{AreParts, file_number, parts_held}
+use Rattle.attr_store.specs.FileParts.{FileParts}
+use Rattle.attr_store.specs.Held.{AreParts, file_number, parts_held}
 use Rattle.sparse_io.specs.declared.find.FoundStream.{FoundStream}
 use Rattle.sparse_io.specs.declared.held.HeldStream.{HeldStream}
 

@@ -7,15 +7,15 @@ ghost use Rattle.volume_def.specs.View.{VolumeView};
 ghost use Rattle.attr_view.specs.View.{attribute_of};
 ghost use Rattle.tree_model.specs.StreamRoom.{parts_named};
 ghost use Rattle.tree_model.specs.Ways.{in_extent};
-ghost use Rattle.file_record.specs.Held.{file_number, parts_held};
+ghost use Rattle.attr_store.specs.Held.{file_number, parts_held};
 ghost use Rattle.sparse_io.specs.Behind.{TellsBehind, len_inside};
 ghost use Rattle.sparse_io.specs.Held.{IsHeldWith, IsStream};
 
 use crate::find::FoundStream;
 use crate::over::{bytes_placed, look_at_names};
+use attr_store::FileParts;
 use attr_view::AttrView;
 use data_runs::read_runs;
-use file_record::FileParts;
 use std::alloc::{AllocError, Global};
 
 /// How many clusters the runs of an attribute cover: none where it is a value, or its text is no run list.

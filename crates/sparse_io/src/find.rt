@@ -5,11 +5,11 @@ ghost use Rattle.ntfs_def.specs.KeyOrder.{fold_of};
 ghost use Rattle.volume_def.specs.View.{VolumeView};
 ghost use Rattle.tree_model.specs.Answers.{shown_stream};
 ghost use Rattle.tree_model.specs.Tree.{are_same, sought};
-ghost use Rattle.file_record.specs.Held.{parts_held};
+ghost use Rattle.attr_store.specs.Held.{parts_held};
 ghost use Rattle.sparse_io.specs.Held.{IsHeldWith, IsStreamIfThere, streams_held};
 
 use crate::held::{HeldStream, held_streams};
-use file_record::FileParts;
+use attr_store::FileParts;
 use std::alloc::{AllocError, Global};
 use tree_model::ShownStream;
 use upcase::UpCase;

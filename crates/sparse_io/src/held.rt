@@ -3,14 +3,13 @@ ghost use Rattle.std.specs.Prelude.{◌≡◌, ◌<◌, ℕ, IfOk};
 ghost use Rattle.ntfs_def.specs.KeyOrder.{compare_units, fold_of};
 ghost use Rattle.attr_view.specs.View.{attribute_of};
 ghost use Rattle.volume_def.specs.Files.{part_of};
-ghost use Rattle.file_record.specs.Held.{parts_held};
+ghost use Rattle.attr_store.specs.Held.{parts_held};
 ghost use Rattle.list_laws.specs.Ordered.{in_order};
 ghost use Rattle.tree_model.specs.Reading.{begins_stream};
 ghost use Rattle.sparse_io.specs.Held.{kept_above, kept_at, kept_from};
 
-use attr_store::{is_first, real_size};
+use attr_store::{FileParts, is_first, real_size};
 use attr_view::AttrView;
-use file_record::FileParts;
 use ntfs_def::kinds::DATA;
 use ntfs_def::{is_packed, read_units};
 use std::alloc::{AllocError, Global};

@@ -9,6 +9,9 @@ mod read;
 mod runs;
 mod write;
 
+pub use attr_store::{
+    FileNo, FileParts, FirstPart, Stored, find_first, is_of, read_stored, read_value, spot_at,
+};
 pub use behind::{clusters_behind, clusters_covered};
 pub use find::{FoundStream, find_stream, list_streams};
 pub use over::{goes_over, look_at_names};

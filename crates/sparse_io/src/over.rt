@@ -8,14 +8,13 @@ ghost use Rattle.volume_def.specs.Values.{spot_at};
 ghost use Rattle.volume_def.specs.View.{VolumeView};
 ghost use Rattle.attr_view.specs.View.{attribute_of};
 ghost use Rattle.tree_model.specs.StreamRoom.{goes_over, is_cluster, parts_named, touches};
-ghost use Rattle.file_record.specs.Held.{file_number, parts_held};
+ghost use Rattle.attr_store.specs.Held.{file_number, parts_held};
 ghost use Rattle.attr_store.specs.Sought.{IsAmong, parts_held_like};
 ghost use Rattle.sparse_io.specs.Held.{IsHeldWith, IsStream};
 
 use crate::find::FoundStream;
-use attr_store::{find_run, real_size};
+use attr_store::{FileParts, find_run, real_size};
 use attr_view::AttrView;
-use file_record::FileParts;
 use std::alloc::{AllocError, Global};
 
 // A byte of a name is below 256. Nothing is done.

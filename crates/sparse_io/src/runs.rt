@@ -5,14 +5,13 @@ ghost use Rattle.volume_def.specs.Coverage.{IsApart};
 ghost use Rattle.volume_def.specs.Table.{cluster_bytes};
 ghost use Rattle.volume_edits.specs.Clusters.{IsOwnStream, IsPlaced, WritesStream};
 ghost use Rattle.vol_stage.specs.Staged.{StagesOnly, places};
-ghost use Rattle.mft_table.specs.Mft.{KeepsDisk, faults_of, is_mft_broken, stage_of, view};
-ghost use Rattle.file_record.specs.FileNos.{CountsNo, IsReadNo};
+ghost use Rattle.attr_store.specs.Mft.{KeepsDisk, faults_of, is_mft_broken, stage_of, view};
+ghost use Rattle.attr_store.specs.FileNos.{CountsNo, IsReadNo};
 ghost use Rattle.sparse_io.specs.Overwritten.{touched_sectors};
 
 use crate::write::patch_cluster;
+use attr_store::{FileNo, Mft};
 use data_runs::{RunList, Spot};
-use file_record::FileNo;
-use mft_table::Mft;
 use vol_disk::{Disk, SECTOR};
 
 // How many of so many bytes from byte `at` on lie in its sector.

@@ -11,21 +11,19 @@ ghost use Rattle.volume_def.specs.Values.{spot_at};
 ghost use Rattle.volume_edits.specs.Clusters.{IsOwnStream, IsPlaced, IsWritable, OverwritesStream, WritesStream, stream_place};
 ghost use Rattle.attr_view.specs.View.{attribute_of};
 ghost use Rattle.vol_stage.specs.Staged.{StagesOnly, places, spare};
-ghost use Rattle.mft_table.specs.Mft.{KeepsDisk, MftReads, MftStages, faults_of, is_mft_broken, stage_of, view};
-ghost use Rattle.file_record.specs.declared.error.FileNo.TheVariants.{Memory};
-ghost use Rattle.file_record.specs.FileNos.{CountsNo, IsReadNo};
-ghost use Rattle.file_record.specs.Held.{file_number, parts_held};
+ghost use Rattle.attr_store.specs.Mft.{KeepsDisk, MftReads, MftStages, faults_of, is_mft_broken, stage_of, view};
+ghost use Rattle.attr_store.specs.FileNo.TheVariants.{Memory};
+ghost use Rattle.attr_store.specs.FileNos.{CountsNo, IsReadNo};
+ghost use Rattle.attr_store.specs.Held.{file_number, parts_held};
 ghost use Rattle.attr_store.specs.Sought.{IsAmong, parts_held_like};
 ghost use Rattle.attr_store.specs.Written.{StagesAtMost};
 ghost use Rattle.sparse_io.specs.Held.{IsHeldWith, IsStream};
 ghost use Rattle.sparse_io.specs.Overwritten.{IsPatched, touched_sectors};
 
 use crate::find::FoundStream;
-use attr_store::{Stored, spot_at, write_stored};
+use attr_store::{FileNo, FileParts, Mft, Stored, spot_at, write_stored};
 use attr_view::AttrView;
 use data_runs::Spot;
-use file_record::{FileNo, FileParts};
-use mft_table::Mft;
 use std::alloc::Global;
 use vol_disk::{Disk, SECTOR};
 

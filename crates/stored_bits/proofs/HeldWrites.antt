@@ -17,7 +17,7 @@ use Rattle.mft_table.specs.declared.mft.Mft.{Mft}
 use Rattle.mft_table.specs.Mft.{MftReads, stage_of, view}
 use Rattle.file_record.specs.declared.parts.FileParts.{FileParts}
 use Rattle.file_record.specs.Held.{AreParts, file_number}
-use Rattle.attr_store.specs.First.{IsStored, attribute_held}
+use Rattle.sparse_io.specs.First.{IsStored, attribute_held}
 use Rattle.sparse_io.specs.declared.find.FoundStream.{FoundStream}
 use Rattle.sparse_io.specs.Held.{IsHeldWith, IsStream}
 use Rattle.sparse_io.specs.Overwritten.{touched_sectors}

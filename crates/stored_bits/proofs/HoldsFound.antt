@@ -27,8 +27,8 @@ use Rattle.mft_table.specs.declared.mounted.Mounted.{Mounted}
 use Rattle.mft_table.specs.InUse.{IsSoundVolume}
 use Rattle.file_record.specs.declared.parts.FileParts.{FileParts}
 use Rattle.file_record.specs.Held.{AreParts, file_number}
-use Rattle.attr_store.specs.declared.first.FirstPart.{FirstPart}
-use Rattle.attr_store.specs.First.{TellsSizes, attribute_held}
+use Rattle.sparse_io.specs.FirstPart.{FirstPart}
+use Rattle.sparse_io.specs.First.{TellsSizes, attribute_held}
 use Rattle.tree_model.specs.Ways.{has_placed_bits, in_extent}
 use Rattle.sparse_io.specs.declared.find.FoundStream.{FoundStream}
 use Rattle.stored_bits.specs.PutFlags.{HasOwnBits}

@@ -25,7 +25,7 @@ use Rattle.volume_def.specs.Values.{first_part, is_first, value_on}
 use Rattle.volume_def.specs.View.{VolumeView}
 use Rattle.file_record.specs.declared.parts.FileParts.{FileParts}
 use Rattle.file_record.specs.Held.{parts_held}
-use Rattle.attr_store.specs.First.{IsStored, attribute_held}
+use Rattle.sparse_io.specs.First.{IsStored, attribute_held}
 use Rattle.tree_model.specs.Cases.{is_packed}
 use Rattle.tree_model.specs.Reading.{begins_stream, is_packed_part, stream_at, streams_of}
 use Rattle.tree_model.specs.Streams.{stream_above}

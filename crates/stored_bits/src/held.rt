@@ -7,16 +7,15 @@ ghost use Rattle.mft_table.specs.InUse.{IsInUse};
 ghost use Rattle.mft_table.specs.Mft.{MftReads, faults_of, mounted_of, view};
 ghost use Rattle.file_record.specs.FileNos.{CountsNo, IsReadNo};
 ghost use Rattle.file_record.specs.Held.{parts_held};
-ghost use Rattle.attr_store.specs.First.{TellsSizes, attribute_held};
+ghost use Rattle.sparse_io.specs.First.{TellsSizes, attribute_held};
 ghost use Rattle.tree_model.specs.Ways.{has_placed_bits, in_extent};
 ghost use Rattle.stored_bits.specs.HeldBits.{HoldsBits};
 
-use attr_store::{FirstPart, find_first};
 use file_record::{FileNo, FileParts};
 use mft_table::Mft;
 use ntfs_def::kinds::DATA;
 use ntfs_def::records::CLUSTER_BITMAP;
-use sparse_io::FoundStream;
+use sparse_io::{FirstPart, FoundStream, find_first};
 use std::alloc::Global;
 use vol_disk::Disk;
 

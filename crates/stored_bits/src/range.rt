@@ -11,10 +11,9 @@ ghost use Rattle.stored_bits.specs.HeldBits.{HoldsBits, ShowsStored, StagesBits,
 
 use crate::flags::{are_all, put_flags};
 use crate::held::HeldBits;
-use attr_store::{Stored, read_stored};
 use file_record::FileNo;
 use mft_table::Mft;
-use sparse_io::overwrite;
+use sparse_io::{Stored, overwrite, read_stored};
 use std::alloc::Global;
 use vol_disk::Disk;
 

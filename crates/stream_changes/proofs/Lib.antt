@@ -20,3 +20,5 @@ mod WaysDone
 mod WaysWritten
 mod ExtentChanged
 pub mod Below
+-- Laws of the crates below, passed on to those above.
+pub use Rattle.stored_bits.proofs.DeviceKept

@@ -4,9 +4,9 @@ pub use Rattle.record_calls.proofs.ValueEdits.{has-none, value-content, value-si
 pub use Rattle.record_calls.proofs.RightRecords.{right-change, right-go, right-put}
 pub use Rattle.record_calls.proofs.WholeCalls.{is-file, own-file}
 pub use Rattle.record_calls.proofs.ValueAlone.{value-alone}
-pub use Rattle.name_edits.proofs.LinksAfter.{links-same}
-pub use Rattle.name_edits.proofs.HiddenFiles.{hides-kept}
-pub use Rattle.reading_edits.proofs.CallsRead.{read-sets}
+pub use Rattle.command_edits.proofs.LinksAfter.{links-same}
+pub use Rattle.command_edits.proofs.HiddenFiles.{hides-kept}
+pub use Rattle.command_edits.proofs.ReadingEditsCallsRead.{read-sets}
 pub use Rattle.command_edits.proofs.CallKeys.{within-nothing}
 pub use Rattle.command_edits.proofs.QuietCalls.{between-quiet}
 pub use Rattle.command_edits.proofs.SoundBetween.{between-references, between-sound, sound-by, sound-stored, sound-whole}

@@ -10,3 +10,23 @@ pub mod OverReading
 pub mod OverInPlace
 pub mod TellableNames
 pub mod Below
+-- Laws of the crates below, passed on to those above.
+pub use Rattle.record_calls.proofs.Rows
+pub use Rattle.command_edits.proofs.AllowedCommands
+pub use Rattle.command_edits.proofs.FreshNumber
+pub use Rattle.entry_edits.proofs.OutsideLaws
+pub use Rattle.entry_edits.proofs.SectorBytes
+pub use Rattle.in_place.proofs.RoomSame
+pub use Rattle.in_place.proofs.OwedInPlace
+pub use Rattle.in_place.proofs.SameRecords
+pub use Rattle.in_place.proofs.StreamSame
+pub use Rattle.in_place.proofs.EditedInPlace
+pub use Rattle.in_place.proofs.BlankLaws
+pub use Rattle.in_place.proofs.IndexesOwed
+pub use Rattle.in_place.proofs.RewriteLaws
+pub use Rattle.in_place.proofs.StillApart
+pub use Rattle.in_place.proofs.BehindLaws
+pub use Rattle.in_place.proofs.KeptInPlace
+pub use Rattle.in_place.proofs.OtherClusters
+pub use Rattle.in_place.proofs.OtherParts
+pub use Rattle.in_place.proofs.PlacesSame

@@ -22,8 +22,8 @@ use Rattle.edit_def.specs.Kept.{Key, key_of}
 use Rattle.edit_def.specs.Marks.{AreRight, Marks, StoresMarks}
 use Rattle.edit_def.specs.Names.{KeepsNames}
 use Rattle.edit_def.proofs.NamesLaws.{stand-of}
-use Rattle.name_edits.proofs.LinksAfter.{links-same}
-use Rattle.record_edits.proofs.FlushLaws.{bits-stored}
+use Rattle.command_edits.proofs.LinksAfter.{links-same}
+use Rattle.record_calls.proofs.FlushLaws.{bits-stored}
 use Rattle.command_edits.specs.Between.{IsBetween}
 use Rattle.command_edits.specs.Keys.{NamesNoIndex}
 use Rattle.command_edits.proofs.QuietCalls.{between-quiet}

@@ -29,14 +29,14 @@ use Rattle.edit_def.proofs.IndexLaws.{fold-kept, items-kept}
 use Rattle.edit_def.proofs.LinkLaws.{all-kept}
 use Rattle.edit_def.proofs.NamesLaws.{bases-of}
 use Rattle.edit_def.proofs.NodeLaws.{hidden-none, node-kept}
-use Rattle.name_edits.proofs.HiddenFiles.{hides-kept}
+use Rattle.command_edits.proofs.HiddenFiles.{hides-kept}
 use Rattle.in_place.specs.InPlace.{Rewrites}
 use Rattle.in_place.proofs.IndexesOwed.{depth-same}
 use Rattle.in_place.proofs.KeptInPlace as keeps
 use Rattle.in_place.proofs.PlacesSame.{names-kept, names-same}
 use Rattle.in_place.proofs.StillApart as still
-use Rattle.reading_edits.specs.Steps.{with_node}
-use Rattle.reading_edits.proofs.LinksRead.{read-links}
+use Rattle.command_edits.specs.Steps.{with_node}
+use Rattle.command_edits.proofs.LinksRead.{read-links}
 use Rattle.stream_edits.specs.Names.{EditsStream}
 use Rattle.stream_edits.specs.Streams.{ShowsBytes}
 use Rattle.stream_edits.proofs.EditedReading.{read-put}

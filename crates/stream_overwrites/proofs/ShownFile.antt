@@ -20,7 +20,7 @@ use Rattle.edit_def.specs.Edited.{is_room_file, is_room_key}
 use Rattle.edit_def.specs.Kept.{is_seen, key_of}
 use Rattle.edit_def.specs.Names.{Numbers, numbers_at}
 use Rattle.edit_def.proofs.NodeLaws.{node-numbers, node_with}
-use Rattle.record_edits.specs.Between.{MayBeEdited}
+use Rattle.record_calls.specs.Between.{MayBeEdited}
 
 -- No file of the system is shown but the root.
 pub not-system : (records : Records) (f n : ℕ) → is_hidden records f ≡ false → n < FIRST_ORDINARY → n ≢ ROOT → f ≢ n

@@ -25,18 +25,18 @@ use Rattle.volume_def.proofs.PartLaws.{IsPart-Contains, NameHolders-view, record
 use Rattle.volume_def.proofs.SoundLaws.{readable-sound}
 use Rattle.tree_model.specs.Reading.{node_at}
 use Rattle.tree_model.specs.declared.tree.Node.{Node}
-use Rattle.file_record.specs.Written.{WritesBytes}
+use Rattle.record_calls.specs.Written.{WritesBytes}
 use Rattle.edit_def.specs.Account.{nothing}
 use Rattle.edit_def.specs.Edited.{Edited}
 use Rattle.edit_def.specs.Kept.{Key, key_of, same_key}
 use Rattle.edit_def.specs.Marks.{AreRight, Marks}
 use Rattle.edit_def.proofs.NamesLaws.{bases-of}
-use Rattle.record_edits.specs.Between.{IsReady}
-use Rattle.record_edits.specs.RecordEdit.{AllHave, EditsPart, EditsRecord, HasKey, parts_made}
-use Rattle.record_edits.proofs.BlockEdits.{part-at, was-at}
-use Rattle.record_edits.proofs.FileEdits.{list-same}
-use Rattle.record_edits.proofs.RecordEdits as call
-use Rattle.record_edits.proofs.WholeEdits as whole
+use Rattle.record_calls.specs.Between.{IsReady}
+use Rattle.record_calls.specs.RecordEdit.{AllHave, EditsPart, EditsRecord, HasKey, parts_made}
+use Rattle.record_calls.proofs.BlockEdits.{part-at, was-at}
+use Rattle.record_calls.proofs.FileEdits.{list-same}
+use Rattle.record_calls.proofs.RecordEdits as call
+use Rattle.record_calls.proofs.WholeEdits as whole
 use Rattle.record_calls.specs.Calls.{MayEditIn, MayReplace}
 use Rattle.record_calls.specs.Edits.{record_there}
 use Rattle.record_calls.proofs.EditCalls.{edit-values}

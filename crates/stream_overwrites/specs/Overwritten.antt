@@ -14,11 +14,11 @@ use Rattle.tree_model.specs.Tree.{sought_stream}
 use Rattle.tree_model.specs.declared.tree.Content.TheVariants.{Plain}
 use Rattle.tree_model.specs.declared.tree.Node.{Node}
 use Rattle.tree_model.specs.declared.tree.Stream.{Stream}
-use Rattle.file_record.specs.Written.{HoldsBytes, WritesBytes}
+use Rattle.record_calls.specs.Written.{HoldsBytes, WritesBytes}
 use Rattle.edit_def.specs.Items.{KeepsItems}
 use Rattle.edit_def.specs.Kept.{AreTellable, key_of, same_key, told_of}
 use Rattle.in_place.specs.InPlace.{Rewrites}
-use Rattle.reading_edits.specs.Steps.{with_node}
+use Rattle.command_edits.specs.Steps.{with_node}
 use Rattle.stream_edits.specs.Streams.{IsThere}
 use Rattle.entry_edits.specs.Attributes.{SetsAttributes}
 use Rattle.in_place.specs.Unnamed.{CanSet}

@@ -20,7 +20,7 @@ use Rattle.volume_def.specs.Values.{value_on}
 use Rattle.volume_def.specs.View.{VolumeView}
 use Rattle.mft_table.specs.declared.mounted.Mounted.{Mounted}
 use Rattle.file_record.specs.declared.base.BaseFile.{BaseFile}
-use Rattle.attr_store.proofs.FirstLaws.{body-value}
+use Rattle.sparse_io.proofs.FirstLaws.{body-value}
 use Rattle.dir_index.proofs.StandardLaws.{at-among}
 use Rattle.sparse_io.specs.Held.{IsHeldWith, IsStream}
 use Rattle.sparse_io.specs.declared.find.FoundStream.{FoundStream}
@@ -35,10 +35,10 @@ use Rattle.tree_model.specs.declared.opens.OpenEntry.{OpenEntry}
 use Rattle.tree_model.specs.declared.reply.No.{No}
 use Rattle.tree_model.specs.declared.reply.No.TheVariants as no
 use Rattle.tree_model.specs.declared.tree.Content.{Content}
-use Rattle.tree_read.specs.Nodes.{IsNodeHeld, number_of, parts_in}
-use Rattle.tree_read.specs.Parts.{FindsPlain, IsPlainStream, content_here}
-use Rattle.tree_read.proofs.NodeLaws.{held-file, held-with}
-use Rattle.tree_read.proofs.StreamLaws.{other-stream, refused-directory}
+use Rattle.file_room.specs.Nodes.{IsNodeHeld, number_of, parts_in}
+use Rattle.file_room.specs.Parts.{FindsPlain, IsPlainStream, content_here}
+use Rattle.file_room.proofs.NodeLaws.{held-file, held-with}
+use Rattle.file_room.proofs.StreamLaws.{other-stream, refused-directory}
 use Rattle.tree_edit.specs.Alone.{can_drop, can_end, can_give, can_resize}
 use Rattle.tree_edit.specs.Change.{TellsFit, has_room_for}
 use Rattle.tree_edit.specs.Decided.{EditsSo, can_drop_by, can_drop_so, can_resize_by, can_resize_so, drop_decided, drop_shared_to, if_can, resize_decided, resize_ranged_to}

@@ -32,12 +32,12 @@ use Rattle.tree_model.specs.Tree.{node_of}
 use Rattle.tree_model.specs.declared.opens.OpenEntry.{OpenEntry}
 use Rattle.tree_model.specs.declared.reply.No.{No}
 use Rattle.tree_model.specs.declared.reply.No.TheVariants as no
-use Rattle.tree_read.specs.Answered.{Answered, Gives, Says}
-use Rattle.tree_read.specs.Nodes.{number_of}
-use Rattle.tree_read.specs.declared.stop.Stop.{Stop}
-use Rattle.tree_read.specs.declared.stop.Stop.TheVariants as stop
-use Rattle.tree_read.proofs.GivesLaws.{both, tells}
-use Rattle.tree_read.proofs.NodeLaws.{held-with}
+use Rattle.file_room.specs.Answered.{Answered, Gives, Says}
+use Rattle.file_room.specs.Nodes.{number_of}
+use Rattle.file_room.specs.Stop.{Stop}
+use Rattle.file_room.specs.Stop.TheVariants as stop
+use Rattle.file_room.proofs.GivesLaws.{both, tells}
+use Rattle.file_room.proofs.NodeLaws.{held-with}
 use Rattle.tree_edit.specs.Alone.{IsResizable, asked_to_drop, asked_to_resize, bits_asked, can_drop, can_end, can_give, can_resize, drop_in, drop_wanted, if_room, resize_in, resize_wanted, room_to_resize}
 use Rattle.tree_edit.specs.Decided.{IsWritableSo, asked_to_write, drop_decided, drop_found, hwrite_decided, if_can, resize_decided, resize_found, write_decided, write_found}
 use Rattle.tree_edit.specs.Punchable.{can_punch}

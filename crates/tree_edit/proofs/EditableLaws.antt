@@ -24,9 +24,9 @@ use Rattle.tree_model.specs.declared.reply.No.{No}
 use Rattle.tree_model.specs.declared.reply.No.TheVariants as no
 use Rattle.tree_model.specs.declared.tree.Node.{Node}
 use Rattle.tree_model.specs.declared.tree.Stream.{Stream}
-use Rattle.tree_read.specs.Nodes.{IsNodeHeld, number_of, parts_in}
-use Rattle.tree_read.specs.Parts.{IsPlainStream}
-use Rattle.tree_read.proofs.NodeLaws.{held-with}
+use Rattle.file_room.specs.Nodes.{IsNodeHeld, number_of, parts_in}
+use Rattle.file_room.specs.Parts.{IsPlainStream}
+use Rattle.file_room.proofs.NodeLaws.{held-with}
 use Rattle.tree_edit.specs.Settable.{IsSettable, is_editable}
 use Rattle.stream_overwrites.proofs.TellableNames.{tellable}
 use Rattle.tree_edit.specs.Writable.{AreNames, DecidesEdit, DecidesOver, GivesBack, IsFoundToEdit, IsMountedAs, named_in}

@@ -20,8 +20,8 @@ use Rattle.sparse_io.specs.declared.find.FoundStream.{FoundStream}
 use Rattle.sparse_io.proofs.OverLaws.{first-like, named-like}
 use Rattle.tree_model.specs.StreamRoom.{parts_named}
 use Rattle.tree_model.specs.Ways.{has_no_list, in_extent}
-use Rattle.tree_read.specs.Nodes.{IsNodeHeld, number_of, parts_in}
-use Rattle.tree_read.proofs.NodeLaws.{held-with}
+use Rattle.file_room.specs.Nodes.{IsNodeHeld, number_of, parts_in}
+use Rattle.file_room.proofs.NodeLaws.{held-with}
 use Rattle.tree_edit.specs.Alone.{can_give}
 use Rattle.tree_edit.specs.Settable.{is_editable}
 use Rattle.tree_edit.specs.Writable.{AreNames, IsMountedAs}

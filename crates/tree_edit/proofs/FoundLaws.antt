@@ -15,12 +15,12 @@ use Rattle.tree_model.specs.Paths.{found_file, resolve}
 use Rattle.tree_model.specs.Reading.{read, standard_of}
 use Rattle.tree_model.specs.Staging.{cannot_edit}
 use Rattle.tree_model.specs.declared.reply.No.TheVariants as no
-use Rattle.tree_read.specs.Answered.{Answered}
-use Rattle.tree_read.specs.Nodes.{IsNodeHeld, number_of}
-use Rattle.tree_read.specs.declared.stop.Stop.TheVariants as stop
-use Rattle.tree_read.specs.declared.walk.Reached.{Reached}
-use Rattle.tree_read.proofs.AnsweredLaws.{follows}
-use Rattle.tree_read.proofs.GivesLaws.{at_once, in-use-kept, told-kept}
+use Rattle.file_room.specs.Answered.{Answered}
+use Rattle.file_room.specs.Nodes.{IsNodeHeld, number_of}
+use Rattle.file_room.specs.Stop.TheVariants as stop
+use Rattle.file_room.specs.Reached.{Reached}
+use Rattle.file_room.proofs.AnsweredLaws.{follows}
+use Rattle.file_room.proofs.GivesLaws.{at_once, in-use-kept, told-kept}
 use Rattle.tree_edit.specs.Settable.{IsSettable, is_editable, settable}
 use Rattle.tree_edit.proofs.SettableLaws.{can-settable, cannot-is}
 

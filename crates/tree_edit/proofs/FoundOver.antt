@@ -31,8 +31,8 @@ use Rattle.tree_model.specs.declared.reply.No.{No}
 use Rattle.tree_model.specs.declared.reply.No.TheVariants as no
 use Rattle.tree_model.specs.declared.tree.Node.{Node}
 use Rattle.tree_model.specs.declared.tree.Stream.{Stream}
-use Rattle.tree_read.specs.Nodes.{IsNodeHeld, number_of, parts_in}
-use Rattle.tree_read.specs.Parts.{FindsPlain, content_here}
+use Rattle.file_room.specs.Nodes.{IsNodeHeld, number_of, parts_in}
+use Rattle.file_room.specs.Parts.{FindsPlain, content_here}
 use Rattle.file_record.proofs.ReadLaws.{view-kept}
 use Rattle.tree_edit.specs.Alone.{can_drop, can_give, can_resize}
 use Rattle.tree_edit.specs.Decided.{can_write_so, hwrite_decided, hwrite_ranged_to, if_can, write_decided, write_ranged_to}

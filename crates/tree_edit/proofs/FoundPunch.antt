@@ -21,10 +21,10 @@ use Rattle.tree_model.specs.StreamRoom.{parts_named, stream_value}
 use Rattle.tree_model.specs.declared.opens.OpenEntry.{OpenEntry}
 use Rattle.tree_model.specs.declared.reply.No.{No}
 use Rattle.tree_model.specs.declared.reply.No.TheVariants as no
-use Rattle.tree_read.specs.Nodes.{IsNodeHeld, number_of, parts_in}
-use Rattle.tree_read.specs.Parts.{FindsPlain, IsPlainStream, content_here}
-use Rattle.tree_read.proofs.NodeLaws.{held-with}
-use Rattle.tree_read.proofs.StreamLaws.{other-stream, refused-directory}
+use Rattle.file_room.specs.Nodes.{IsNodeHeld, number_of, parts_in}
+use Rattle.file_room.specs.Parts.{FindsPlain, IsPlainStream, content_here}
+use Rattle.file_room.proofs.NodeLaws.{held-with}
+use Rattle.file_room.proofs.StreamLaws.{other-stream, refused-directory}
 use Rattle.tree_edit.specs.Punchable.{can_punch, if_value, punch_in, punch_ranged}
 use Rattle.tree_edit.specs.Settable.{is_editable}
 use Rattle.tree_edit.specs.Writable.{AreNames, DecidesEdit, DecidesOver, GivesBack, IsMountedAs, kept_from_writing}

@@ -29,3 +29,10 @@ pub mod ChangePart
 pub mod Below
 pub mod RoomThere
 pub mod ReachFound
+-- Laws of the crates below, passed on to those above.
+pub use Rattle.attribute_edits.proofs.ItemLaws
+pub use Rattle.stream_overwrites.proofs.Rows
+pub use Rattle.view_index.proofs.SoundLaws
+pub use Rattle.file_room.proofs.AnsweredLaws
+pub use Rattle.file_room.proofs.GivesLaws
+pub use Rattle.file_room.proofs.OutlineLaws

@@ -10,8 +10,8 @@ use Rattle.tree_model.specs.declared.tree.Link.{Link}
 use Rattle.file_record.specs.declared.parts.FileParts.{FileParts}
 use Rattle.file_record.specs.Held.{AreParts, file_number, parts_held}
 use Rattle.dir_index.specs.declared.entry.DuplicatedInformation.{DuplicatedInformation}
-use Rattle.tree_read.specs.FileLinks.{links_held}
-use Rattle.tree_read.proofs.OutlineLaws as held
+use Rattle.file_room.specs.FileLinks.{links_held}
+use Rattle.file_room.proofs.OutlineLaws as held
 use Rattle.tree_edit.specs.Duplicated.{IsToldBy}
 use Rattle.tree_edit.specs.Links.{CanTellAll, CanTellFile, RefreshesLinks, TellsNames}
 use Rattle.tree_edit.proofs.StepLaws.{names-told, told-of}

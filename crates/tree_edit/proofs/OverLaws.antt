@@ -13,8 +13,8 @@ use Rattle.tree_model.specs.Facts.{is_whole_table}
 use Rattle.tree_model.specs.Reading.{read}
 use Rattle.tree_model.specs.Staging.{cannot_edit}
 use Rattle.tree_model.specs.StreamRoom.{goes_over, parts_named}
-use Rattle.tree_read.specs.Nodes.{IsCaseOf, IsNodeHeld, number_of}
-use Rattle.tree_read.proofs.NodeLaws.{held-with}
+use Rattle.file_room.specs.Nodes.{IsCaseOf, IsNodeHeld, number_of}
+use Rattle.file_room.proofs.NodeLaws.{held-with}
 use Rattle.tree_edit.specs.Over.{CanWriteOver}
 use Rattle.tree_edit.specs.Settable.{is_editable}
 use Rattle.tree_edit.specs.Writable.{IsFoundToEdit, IsMountedAs, can_write_over}

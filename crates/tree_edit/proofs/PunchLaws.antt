@@ -27,8 +27,8 @@ use Rattle.file_record.specs.Written.{HoldsBytes, WritesBytes}
 use Rattle.sparse_io.specs.declared.find.FoundStream.{FoundStream}
 use Rattle.sparse_io.proofs.OverwriteLaws.{found-first, found-parts, found-stored}
 use Rattle.dir_index.proofs.StandardLaws.{at-among}
-use Rattle.tree_read.specs.Nodes.{number_of, parts_in}
-use Rattle.tree_read.proofs.NodeLaws.{held-with}
+use Rattle.file_room.specs.Nodes.{number_of, parts_in}
+use Rattle.file_room.proofs.NodeLaws.{held-with}
 use Rattle.stream_overwrites.specs.Overwritten.{GoesOverValue, PunchesValue, node_over, zeros_in}
 use Rattle.stream_overwrites.proofs.StreamParts.{named-same}
 use Rattle.stream_overwrites.proofs.OverReading.{value-overwritten}

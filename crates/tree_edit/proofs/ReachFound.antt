@@ -20,7 +20,7 @@ use Rattle.mft_table.specs.declared.mounted.Mounted.{Mounted}
 use Rattle.mft_table.specs.InUse.{IsSoundVolume}
 use Rattle.stored_bits.specs.Taken.{AreFlagsOf}
 use Rattle.stored_bits.proofs.FreeRuns.{flags-kept}
-use Rattle.tree_read.proofs.RoomLaws.{free-clusters}
+use Rattle.file_room.proofs.RoomLaws.{free-clusters}
 use Rattle.file_record.specs.declared.base.BaseFile.{BaseFile}
 use Rattle.file_record.specs.Held.{file_number}
 use Rattle.sparse_io.specs.Behind.{TellsBehind}
@@ -36,8 +36,8 @@ use Rattle.tree_model.specs.Ways.{can_reach, can_take, ends_in_last, goes_behind
 use Rattle.tree_model.specs.declared.reply.No.{No}
 use Rattle.edit_def.specs.OneFile.{no_room_alone}
 use Rattle.dir_index.proofs.StandardLaws.{at-among}
-use Rattle.tree_read.specs.Nodes.{IsNodeHeld, number_of, parts_in}
-use Rattle.tree_read.proofs.NodeLaws.{held-file, held-with}
+use Rattle.file_room.specs.Nodes.{IsNodeHeld, number_of, parts_in}
+use Rattle.file_room.proofs.NodeLaws.{held-file, held-with}
 use Rattle.tree_edit.specs.Alone.{can_give}
 use Rattle.tree_edit.specs.Change.{TellsFree}
 use Rattle.tree_edit.specs.Writable.{AreNames, named_in}

@@ -27,8 +27,8 @@ use Rattle.volume_def.proofs.PartLaws.{IsPart-Contains, NameHolders-view}
 use Rattle.volume_def.proofs.ReadableLaws.{readable-list}
 use Rattle.file_record.specs.declared.parts.FileParts.{FileParts}
 use Rattle.file_record.specs.Held.{AreParts, IsCurrentRecord, file_number, held_of, parts_held, parts_of}
-use Rattle.attr_store.specs.Sought.{parts_held_like}
-use Rattle.attr_store.proofs.FirstLaws.{body-value}
+use Rattle.sparse_io.specs.Sought.{parts_held_like}
+use Rattle.sparse_io.proofs.FirstLaws.{body-value}
 use Rattle.dir_index.proofs.StandardLaws.{at-among}
 use Rattle.sparse_io.specs.Held.{IsHeldWith, IsStream}
 use Rattle.sparse_io.specs.declared.find.FoundStream.{FoundStream}

@@ -15,7 +15,7 @@ use Rattle.tree_model.specs.StreamRoom.{initialized_size, is_in_place, new_clust
 use Rattle.tree_model.specs.Ways.{can_take, goes_behind, has_free_run, has_placed_bits}
 use Rattle.tree_model.specs.declared.reply.No.{No}
 use Rattle.tree_model.specs.declared.reply.No.TheVariants as no
-use Rattle.tree_read.specs.Nodes.{number_of}
+use Rattle.file_room.specs.Nodes.{number_of}
 use Rattle.tree_edit.specs.Alone.{bits_asked, can_give}
 use Rattle.tree_edit.specs.Decided.{IsWritableSo, asked_to_write, can_write_by}
 use Rattle.tree_edit.specs.Writable.{can_write_over, named_in}

@@ -26,13 +26,13 @@ use Rattle.tree_model.proofs.ReadingLaws.{node_of-read}
 use Rattle.tree_model.specs.declared.reply.No.{No}
 use Rattle.tree_model.specs.declared.reply.No.TheVariants as no
 use Rattle.tree_model.specs.declared.tree.Node.{Node}
-use Rattle.tree_read.specs.Answered.{Answered, Finds}
-use Rattle.tree_read.specs.Nodes.{IsNodeHeld, number_of, parts_in}
-use Rattle.tree_read.specs.declared.stop.Stop.{Stop}
-use Rattle.tree_read.specs.declared.stop.Stop.TheVariants as stop
-use Rattle.tree_read.specs.declared.walk.Reached.{Reached}
-use Rattle.tree_read.proofs.AnsweredLaws.{follows, says-failed}
-use Rattle.tree_read.proofs.GivesLaws.{in-use-kept, tells, told-kept}
+use Rattle.file_room.specs.Answered.{Answered, Finds}
+use Rattle.file_room.specs.Nodes.{IsNodeHeld, number_of, parts_in}
+use Rattle.file_room.specs.Stop.{Stop}
+use Rattle.file_room.specs.Stop.TheVariants as stop
+use Rattle.file_room.specs.Reached.{Reached}
+use Rattle.file_room.proofs.AnsweredLaws.{follows, says-failed}
+use Rattle.file_room.proofs.GivesLaws.{in-use-kept, tells, told-kept}
 use Rattle.view_index.specs.Security.{TellsWhether}
 use Rattle.tree_edit.specs.Securable.{DecidesSecure, HasPlaceAt, IsSecurable, can_secure, secure_in, secure_wanted}
 use Rattle.tree_edit.specs.Settable.{IsSettable, is_editable}

@@ -27,7 +27,7 @@ use Rattle.dir_index.specs.Standard.{IsInitialized, SetsStandard, StagesRecordOf
 use Rattle.attribute_edits.specs.Below.{SetsAttributes}
 use Rattle.attribute_edits.proofs.AttributesSet.{node-file}
 use Rattle.attribute_edits.proofs.StandardFirst.{names-first, set-rewrites}
-use Rattle.tree_read.specs.FileLinks.{links_held}
+use Rattle.file_room.specs.FileLinks.{links_held}
 use Rattle.tree_edit.specs.Duplicated.{IsToldBy}
 use Rattle.tree_edit.specs.Links.{CanTellAll, CanTellFile, CanWriteFile, RefreshesLinks, TellsNames}
 use Rattle.tree_edit.specs.Staged.{IsOfFile, IsOfLinks, IsOfNames, StagesAttributes, StagesFew, StagesLinks, StagesNames, TellsStored}

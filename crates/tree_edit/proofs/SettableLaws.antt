@@ -22,14 +22,15 @@ use Rattle.volume_def.specs.Sound.{HasLayout, IsSound, told_view}
 use Rattle.volume_def.specs.Table.{TableLayout}
 use Rattle.volume_def.specs.View.{VolumeView}
 use Rattle.volume_edits.proofs.TableParts.{record-written}
-use Rattle.volume_mark.proofs.OutsideLaws.{apart-sound}
-use Rattle.volume_mark.proofs.SectorBytes.{length-sector_in}
+use Rattle.stream_overwrites.proofs.OutsideLaws.{apart-sound}
+use Rattle.stream_overwrites.proofs.SectorBytes.{length-sector_in}
 use Rattle.stream_overwrites.specs.Below.{LiesApart}
 use Rattle.stream_overwrites.proofs.Below as below
 use Rattle.tree_model.specs.Facts.{IsVolumeOf, is_whole_table}
 use Rattle.tree_model.specs.Hidden.{is_hidden, is_system, leads_to_system}
 use Rattle.tree_model.specs.Reading.{all_links, is_hidden_link, link_for, links_to, node_at, node_by, read, standard_of}
-use Rattle.tree_model.specs.Staging.{cannot_edit, stands_in_copied}
+use Rattle.tree_model.specs.Staging.{cannot_edit}
+use Rattle.tree_model.specs.Ways.{stands_in_copied}
 use Rattle.tree_model.specs.Tree.{leads_to, link_above}
 use Rattle.tree_model.specs.declared.tree.Link.{Link}
 use Rattle.tree_model.specs.declared.tree.Node.{Node}
@@ -37,10 +38,10 @@ use Rattle.edit_def.proofs.NamesLaws.{past}
 use Rattle.mft_table.specs.declared.mounted.Mounted.{Mounted}
 use Rattle.file_record.specs.declared.base.BaseFile.{BaseFile}
 use Rattle.file_record.specs.Held.{parts_held}
-use Rattle.tree_read.specs.FileLinks.{links_held}
-use Rattle.tree_read.specs.Nodes.{IsNodeHeld, number_of, parts_in}
-use Rattle.tree_read.proofs.NodeLaws.{file-held}
-use Rattle.tree_read.proofs.OutlineLaws.{links-told}
+use Rattle.file_room.specs.FileLinks.{links_held}
+use Rattle.file_room.specs.Nodes.{IsNodeHeld, number_of, parts_in}
+use Rattle.file_room.proofs.NodeLaws.{file-held}
+use Rattle.file_room.proofs.OutlineLaws.{links-told}
 use Rattle.tree_model.proofs.ReadingLaws.{node_of-read}
 use Rattle.tree_model.proofs.NamesLaws.{IsShown, is_shown, links-of}
 use Rattle.tree_edit.specs.Links.{CanWrite}

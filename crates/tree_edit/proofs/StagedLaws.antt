@@ -33,31 +33,12 @@ use Rattle.vol_stage.proofs.Conversions.{rising-at}
 use Rattle.vol_stage.proofs.FewLaws.{few-named}
 use Rattle.stream_overwrites.specs.Below.{Rewrites, blank_record}
 use Rattle.stream_overwrites.proofs.Below.{on-same, spots-same}
+use Rattle.dir_index.proofs.FewStaged.{each-few, few-index, few-record, few-staged}
 use Rattle.dir_index.specs.Links.{names_index}
 use Rattle.dir_index.specs.Refreshed.{StagesEntry}
 use Rattle.dir_index.specs.Standard.{StagesRecordOf}
 use Rattle.attribute_edits.specs.Below.{index_name}
 use Rattle.tree_edit.specs.Staged.{IsOfDirectory, IsOfFile, IsOfIndex, IsOfLinks, IsOfNames, StagesFew}
-
--- COUNTS
-few-staged : {D : Type 0} (g : Ghosts D) (named : List ℕ) (a b : Stage D g) → StagesOnly g named a b
-    → length (places g b) ≤ length (places g a) + length named
-few-staged g named a b stages =
-    let all = few-named b.writes.items (places g a ++ named) (rising-at b.writes.items b.rising)
-    (λ s there. elim (stages.only s there) [
-      | inl was ↦ Contains-append_left (places g a) named s was
-      | inr new ↦ Contains-append_right (places g a) named s new
-    ]) in
-    omega (arith, all, length-append (places g a) named)
-
-one-more : {X : Type 0} (o : Option X) → length (option_to_list o) ≤ 1
-one-more None = omega arith
-one-more (Some x) = omega arith
-
-each-few : {X : Type 0} (f : X → List ℕ) (most : ℕ) (xs : List X) → ((x : X) → length (f x) ≤ most) → length (flat_map f xs) ≤ length xs * most
-each-few f most [] few = omega arith
-each-few f most (x ∷ xs) few = let a = few x in let b = each-few f most xs few in
-    omega (arith, a, b, length-append (f x) (flat_map f xs))
 
 -- VALUES WERE REWRITTEN: records of a file were so before, and its indexes lie as before.
 module _ (changed : Key → Bool) (old new : VolumeView) (w : Rewrites changed old new) (readable : IsReadableVolume old) where
@@ -122,23 +103,6 @@ module _ {D : Type 0} (g : Ghosts D) where
 
   pub few-more : (m k : ℕ) (is was : ℕ → Type 0) (a b : Mft D g) → StagesFew g m was a b → m ≤ k → ((s : ℕ) → was s → is s) → StagesFew g k is a b
   few-more m k is was a b x fits all = few-then m 0 k is was is a b b x (few-none 0 is b b refl) (omega (arith, fits)) all (λ s h. h)
-
-  few-record : (layout : TableLayout) (n : ℕ) → length (record_places layout n) ≤ 4
-  few-record layout n = by (table_place layout (2 * n)) (table_place layout (2 * n + 1)) (nat_lt n 4) (mirror_sector layout + 2 * n) (mirror_sector layout + 2 * n + 1)
-    where
-      by : (a b : Option ℕ) (c : Bool) (p q : ℕ) → length (option_to_list a ++ option_to_list b ++ cond c (p ∷ q ∷ []) []) ≤ 4
-      by None None true p q = omega arith
-      by None None false p q = omega arith
-      by None (Some y) true p q = omega arith
-      by None (Some y) false p q = omega arith
-      by (Some x) None true p q = omega arith
-      by (Some x) None false p q = omega arith
-      by (Some x) (Some y) true p q = omega arith
-      by (Some x) (Some y) false p q = omega arith
-
-  few-index : (layout : TableLayout) (spot : ℕ → Spot) (vcn : ℕ) → length (record_sectors layout spot vcn) ≤ 8
-  few-index layout spot vcn = each-few (λ k. option_to_list (stream_place layout spot k)) 1 (range_with_len (vcn * cluster_bytes layout / 512) 8)
-      (λ k. one-more (stream_place layout spot k))
 
   -- the entry of a name
   pub few-entry : (dir : ℕ) (a b : Mft D g) → StagesEntry g dir a b → IsTrue (view g a).told → StagesFew g 12 (IsOfDirectory (view g a) dir) a b

@@ -17,10 +17,10 @@ use Rattle.tree_model.specs.declared.tree.Content.{Content}
 use Rattle.tree_model.specs.declared.tree.Content.TheVariants.{Packed, Plain}
 use Rattle.tree_model.specs.declared.tree.Node.{Node}
 use Rattle.tree_model.specs.declared.tree.Stream.{Stream}
-use Rattle.tree_read.specs.Nodes.{IsNodeHeld, number_of}
-use Rattle.tree_read.specs.Parts.{IsPlainStream}
-use Rattle.tree_read.proofs.NodeLaws.{content-held}
-use Rattle.tree_read.proofs.StreamLaws.{directory-held}
+use Rattle.file_room.specs.Nodes.{IsNodeHeld, number_of}
+use Rattle.file_room.specs.Parts.{IsPlainStream}
+use Rattle.file_room.proofs.NodeLaws.{content-held}
+use Rattle.file_room.proofs.StreamLaws.{directory-held}
 use Rattle.tree_edit.specs.Writable.{content_to_write, stream_to_write}
 
 -- by what each case asks

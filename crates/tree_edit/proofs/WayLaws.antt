@@ -15,7 +15,7 @@ use Rattle.tree_model.specs.Tree.{node_of}
 use Rattle.tree_model.specs.Ways.{fits_in_record, gets_no_longer, has_no_list, has_placed_bits, in_extent}
 use Rattle.tree_model.specs.declared.reply.No.{No}
 use Rattle.tree_model.specs.declared.reply.No.TheVariants as no
-use Rattle.tree_read.specs.Nodes.{number_of}
+use Rattle.file_room.specs.Nodes.{number_of}
 use Rattle.tree_edit.specs.Alone.{IsDroppable, IsResizable, IsToDrop, IsToResize, asked_to_drop, asked_to_resize, bits_asked, can_drop, can_end, can_get, can_give, can_go, can_resize, room_to_resize}
 use Rattle.tree_edit.specs.Decided.{IsDroppableSo, IsResizableSo, can_drop_by, can_resize_by}
 use Rattle.tree_edit.specs.Writable.{IsFoundToEdit, named_in}

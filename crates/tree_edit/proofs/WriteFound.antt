@@ -10,8 +10,8 @@ use Rattle.file_record.specs.declared.base.BaseFile.{BaseFile}
 use Rattle.sparse_io.specs.Held.{IsStream}
 use Rattle.sparse_io.specs.declared.find.FoundStream.{FoundStream}
 use Rattle.tree_model.specs.declared.reply.No.{No}
-use Rattle.tree_read.specs.Nodes.{IsNodeHeld, number_of}
-use Rattle.tree_read.specs.Parts.{IsPlainStream}
+use Rattle.file_room.specs.Nodes.{IsNodeHeld, number_of}
+use Rattle.file_room.specs.Parts.{IsPlainStream}
 use Rattle.tree_edit.specs.Alone.{IsResizable, can_give, can_resize}
 use Rattle.tree_edit.specs.Decided.{EditsSo, IsWritableSo, can_write_by, can_write_so, if_can}
 use Rattle.tree_edit.specs.Settable.{is_editable}

@@ -12,3 +12,14 @@ pub mod Values
 pub mod Writable
 pub mod Write
 pub mod Below
+-- Words of the crates below, passed on to those above.
+pub use Rattle.file_room.specs.Asked
+pub use Rattle.file_room.specs.Made
+pub use Rattle.stream_overwrites.specs.Marks
+pub use Rattle.view_index.specs.Security
+pub use Rattle.file_room.specs.Answered
+pub use Rattle.file_room.specs.Nodes
+pub use Rattle.file_room.specs.Walks
+pub use Rattle.file_room.specs.Stop
+pub use Rattle.file_room.specs.Standings
+pub use Rattle.file_room.specs.FileLinks

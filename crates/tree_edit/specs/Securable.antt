@@ -15,7 +15,7 @@ use Rattle.tree_model.specs.Staging.{cannot_edit}
 use Rattle.tree_model.specs.Ways.{has_place_for_id}
 use Rattle.tree_model.specs.declared.reply.No.{No}
 use Rattle.tree_model.specs.declared.reply.No.TheVariants as no
-use Rattle.tree_read.specs.Nodes.{number_of}
+use Rattle.file_room.specs.Nodes.{number_of}
 use Rattle.tree_edit.specs.Settable.{IsSettable}
 use Rattle.tree_edit.specs.Links.{CanWriteFile}
 use Rattle.tree_edit.specs.declared.securable.Securable.{Securable}

@@ -7,13 +7,14 @@ use Rattle.volume_def.specs.FileNames.{names_of}
 use Rattle.volume_def.specs.Files.{records_of}
 use Rattle.volume_def.specs.View.{VolumeView}
 use Rattle.tree_model.specs.Paths.{and_then, found_file, resolve}
-use Rattle.tree_model.specs.Staging.{cannot_edit, stands_in_copied}
+use Rattle.tree_model.specs.Staging.{cannot_edit}
+use Rattle.tree_model.specs.Ways.{stands_in_copied}
 use Rattle.tree_model.specs.Tree.{Tree}
 use Rattle.tree_model.specs.declared.reply.No.{No}
 use Rattle.tree_model.specs.declared.reply.No.TheVariants as no
 use Rattle.mft_table.specs.declared.mounted.Mounted.{Mounted}
 use Rattle.file_record.specs.declared.parts.FileParts.{FileParts}
-use Rattle.tree_read.specs.FileLinks.{links_held}
+use Rattle.file_room.specs.FileLinks.{links_held}
 use Rattle.tree_edit.specs.Links.{CanWriteFile}
 use Rattle.tree_edit.specs.declared.settable.Settable.{Settable}
 

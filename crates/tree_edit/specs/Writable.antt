@@ -26,8 +26,8 @@ use Rattle.mft_table.specs.InUse.{IsSoundVolume}
 use Rattle.file_record.specs.declared.base.BaseFile.{BaseFile}
 use Rattle.sparse_io.specs.declared.find.FoundStream.{FoundStream}
 use Rattle.stream_overwrites.specs.Below.{IsThere}
-use Rattle.tree_read.specs.Nodes.{IsCaseOf, IsNodeHeld, number_of, parts_in}
-use Rattle.tree_read.specs.Parts.{IsPlainStream}
+use Rattle.file_room.specs.Nodes.{IsCaseOf, IsNodeHeld, number_of, parts_in}
+use Rattle.file_room.specs.Parts.{IsPlainStream}
 use Rattle.tree_edit.specs.Settable.{IsSettable}
 use Rattle.tree_edit.specs.declared.writable.Way.{Way}
 use Rattle.tree_edit.specs.declared.writable.Writable.{Writable}

@@ -14,9 +14,9 @@ use crate::duplicated::duplicated;
 use crate::refresh::refresh_links;
 use dir_index::set_node;
 use file_record::{FileNo, FileParts};
+use file_room::links_of;
 use mft_table::Mft;
 use std::alloc::Global;
-use tree_read::links_of;
 use vol_disk::Disk;
 
 // The entries of all names of a file tell anew what they repeat of it.

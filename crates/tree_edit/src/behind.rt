@@ -7,8 +7,8 @@ ghost use Rattle.mft_table.specs.InUse.{IsInUse, IsSoundVolume};
 ghost use Rattle.file_record.specs.Held.{parts_held};
 ghost use Rattle.file_room.specs.Asked.{has_room};
 ghost use Rattle.sparse_io.specs.Held.{IsStream};
-ghost use Rattle.tree_read.specs.Answered.{Gives, Says};
-ghost use Rattle.tree_read.specs.Nodes.{IsNodeHeld, number_of, parts_in};
+ghost use Rattle.file_room.specs.Answered.{Gives, Says};
+ghost use Rattle.file_room.specs.Nodes.{IsNodeHeld, number_of, parts_in};
 ghost use Rattle.tree_edit.specs.Change.{TellsFree};
 ghost use Rattle.tree_edit.specs.Decided.{IsWritableSo};
 ghost use Rattle.tree_edit.specs.Writable.{IsMountedAs};
@@ -17,13 +17,12 @@ ghost use Rattle.tree_edit.specs.Write.{can_reach_there, can_take_by, room_to_re
 use crate::extent::is_extent;
 use crate::writable::Writable;
 use file_record::{BaseFile, FileParts};
-use file_room::ask_for_room;
+use file_room::{Stop, ask_for_room};
 use mft_table::{Mft, Mounted};
 use sparse_io::{FoundStream, clusters_behind, look_at_names};
 use std::alloc::{AllocError, Global};
 use stored_bits::free_run;
 use tree_model::No;
-use tree_read::Stop;
 use vol_disk::Disk;
 
 // The bytes that a run list may get longer by for one run more, 17, up to a multiple of 8.

@@ -4,17 +4,17 @@ ghost use Rattle.ntfs_def.specs.declared.kinds.TheConstants.{DATA};
 ghost use Rattle.volume_def.specs.Files.{content_of};
 ghost use Rattle.volume_def.specs.Values.{first_part};
 ghost use Rattle.attr_view.specs.View.{attribute_of};
-ghost use Rattle.attr_store.specs.First.{attribute_held};
+ghost use Rattle.sparse_io.specs.First.{attribute_held};
 ghost use Rattle.file_record.specs.Held.{parts_held};
 ghost use Rattle.edit_def.specs.Items.{content_sizes, stream_sizes};
 ghost use Rattle.tree_edit.specs.Duplicated.{IsToldBy};
 
-use attr_store::find_first;
 use attr_view::AttrView;
 use dir_index::DuplicatedInformation;
 use file_record::FileParts;
+use file_room::read_standard;
 use ntfs_def::kinds::DATA;
-use tree_read::read_standard;
+use sparse_io::find_first;
 
 // The allocated and the real size of what an attribute holds: of a value its length up to a multiple of 8, and its length.
 fn sizes_of(attribute: &AttrView<'_>) -> (u64, u64)

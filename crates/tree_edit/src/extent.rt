@@ -11,21 +11,20 @@ ghost use Rattle.mft_table.specs.InUse.{IsInUse};
 ghost use Rattle.file_record.specs.Held.{parts_held};
 ghost use Rattle.file_room.specs.Asked.{has_room};
 ghost use Rattle.sparse_io.specs.Held.{IsStream};
-ghost use Rattle.tree_read.specs.Answered.{Gives, Says};
-ghost use Rattle.tree_read.specs.Nodes.{IsNodeHeld, number_of, parts_in};
+ghost use Rattle.file_room.specs.Answered.{Gives, Says};
+ghost use Rattle.file_room.specs.Nodes.{IsNodeHeld, number_of, parts_in};
 ghost use Rattle.tree_edit.specs.Alone.{bits_asked, can_give};
 ghost use Rattle.tree_edit.specs.Writable.{IsMountedAs};
 
 use crate::settable::can_edit;
-use attr_store::is_of;
 use file_record::{BaseFile, FileParts};
+use file_room::Stop;
 use mft_table::{Mft, Mounted};
 use ntfs_def::kinds::ATTRIBUTE_LIST;
-use sparse_io::{FoundStream, look_at_names};
+use sparse_io::{FoundStream, is_of, look_at_names};
 use std::alloc::{AllocError, Global};
 use stored_bits::bits_are_placed;
 use tree_model::No;
-use tree_read::Stop;
 use vol_disk::Disk;
 
 /// Whether a file that is held has an attribute list.

@@ -20,6 +20,7 @@ mod write;
 
 pub use alone::{find_to_drop, find_to_resize};
 pub use attributes::set_attributes;
+pub use file_room::{Standard, Standing, Stop, ask_to_make, load_file, read_standard};
 pub use over::write_over;
 pub use punch::punch_value;
 pub use punchable::find_punchable;
@@ -27,5 +28,6 @@ pub use securable::{Securable, find_securable};
 pub use secure::set_security;
 pub use settable::{Settable, can_edit, find_settable};
 pub use value::fits_at;
+pub use view_index::descriptor;
 pub use writable::{Way, Writable};
 pub use write::{find_writable, find_writable_through};

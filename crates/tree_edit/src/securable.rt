@@ -8,21 +8,21 @@ ghost use Rattle.volume_def.specs.View.{VolumeView};
 ghost use Rattle.mft_table.specs.InUse.{IsInUse};
 ghost use Rattle.mft_table.specs.Mft.{MftReads, mounted_of, stage_of, view};
 ghost use Rattle.tree_model.specs.Facts.{IsVolumeOf};
-ghost use Rattle.tree_read.specs.Answered.{Answered, Finds, with_ok};
-ghost use Rattle.tree_read.specs.Nodes.{IsNodeHeld, number_of};
-ghost use Rattle.tree_read.specs.Standings.{IsStanding};
+ghost use Rattle.file_room.specs.Answered.{Answered, Finds, with_ok};
+ghost use Rattle.file_room.specs.Nodes.{IsNodeHeld, number_of};
+ghost use Rattle.file_room.specs.Standings.{IsStanding};
 ghost use Rattle.view_index.specs.Security.{TellsWhether};
 ghost use Rattle.tree_edit.specs.Securable.{DecidesSecure, IsSecurable, TellsPlace, secure_wanted};
 ghost use Rattle.tree_edit.specs.Writable.{IsMountedAs};
 
 use crate::settable::can_edit;
 use file_record::{BaseFile, FileParts};
+use file_room::{Standing, Stop, find_part, read_standard, resolve};
 use mft_table::{Mft, Mounted};
 use ntfs_def::kinds::STANDARD_INFORMATION;
 use ntfs_def::standard_information::LEN;
 use std::alloc::Global;
 use tree_model::{No, Path};
-use tree_read::{Standing, Stop, find_part, read_standard, resolve};
 use view_index::find_security;
 use vol_disk::Disk;
 

@@ -7,17 +7,17 @@ ghost use Rattle.mft_table.specs.InUse.{IsInUse};
 ghost use Rattle.mft_table.specs.Mft.{mounted_of, stage_of, view};
 ghost use Rattle.tree_model.specs.Facts.{IsVolumeOf, is_whole_table};
 ghost use Rattle.tree_model.specs.Reading.{read};
-ghost use Rattle.tree_model.specs.Staging.{stands_in_copied};
-ghost use Rattle.tree_read.specs.Answered.{Answered, with_ok};
-ghost use Rattle.tree_read.specs.Standings.{IsStanding};
+ghost use Rattle.tree_model.specs.Ways.{stands_in_copied};
+ghost use Rattle.file_room.specs.Answered.{Answered, with_ok};
+ghost use Rattle.file_room.specs.Standings.{IsStanding};
 ghost use Rattle.tree_edit.specs.Settable.{IsSettable, is_editable, settable};
 
 use file_record::FileParts;
+use file_room::{Standing, Stop, links_of, read_standard, resolve};
 use mft_table::{Mft, Mounted};
 use ntfs_def::lengths::RECORD;
 use std::alloc::{AllocError, Global};
 use tree_model::{Link, No, Path};
-use tree_read::{Standing, Stop, links_of, read_standard, resolve};
 use vol_disk::Disk;
 
 /// A file whose attributes can be set: its number, and its four times in the order of `$STANDARD_INFORMATION`.

@@ -6,15 +6,15 @@ ghost use Rattle.tree_model.specs.Cases.{is_bad_stream_name};
 ghost use Rattle.tree_model.specs.Reading.{read};
 ghost use Rattle.tree_model.specs.Subjects.{content_named};
 ghost use Rattle.tree_model.specs.Tree.{node_of};
-ghost use Rattle.tree_read.specs.Nodes.{IsCaseOf, IsNodeHeld, number_of, parts_in};
+ghost use Rattle.file_room.specs.Nodes.{IsCaseOf, IsNodeHeld, number_of, parts_in};
 ghost use Rattle.tree_edit.specs.Writable.{FindsToWrite, GivesBack, is_bad_stream_unit, kept_from_writing, stream_to_write};
 
 use file_record::BaseFile;
+use file_room::{is_of_directory, read_standard};
 use share_table::Opens;
 use sparse_io::{FoundStream, find_stream, look_at_names};
 use std::alloc::Global;
 use tree_model::{Access, No};
-use tree_read::{is_of_directory, read_standard};
 use upcase::UpCase;
 use vol_bytes::Name;
 

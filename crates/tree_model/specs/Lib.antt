@@ -6,6 +6,8 @@ pub mod Cases
 pub mod Opens
 pub mod Need
 pub mod IndexRoom
+pub mod LeafRoom
+pub mod RootRoom
 pub mod StreamRoom
 pub mod Bill
 pub mod NoRoom

@@ -1,11 +1,13 @@
--- THE WAYS in which edits are done: in place, in the record of their file, or in clusters.
-use Rattle.std.specs.Prelude.{ℕ, ◌+◌, ◌-◌, ◌==◌, ◌&&◌, ◌||◌, nat_le, nat_lt, not, Bool, true, false, List, length, count_by, Option, is_some}
+-- THE WAYS in which edits are done: in place, in the record of their file, in clusters, or in a directory.
+use Rattle.std.specs.Prelude.{ℕ, ◌+◌, ◌*◌, ◌-◌, ◌==◌, ◌&&◌, ◌||◌, ◌++◌, nat_le, nat_lt, not, Bool, true, false, List, length, count_by}
+use Rattle.std.specs.Prelude.{Option, is_none, is_some}
 use Rattle.std.specs.Prelude.{option_and_then}
 use Rattle.std.specs.List.{list_any, range_with_len}
 use Rattle.std.specs.Option.{option_map_or}
-use Rattle.ntfs_def.specs.Rounded.{clusters_for}
-use Rattle.volume_def.specs.BitmapClauses.{cluster_bits}
-use Rattle.volume_def.specs.Files.{Part, all_covered, content_extent, parts, records_of}
+use Rattle.ntfs_def.specs.Rounded.{clusters_for, up_to_8}
+use Rattle.ntfs_def.specs.declared.records.TheConstants.{FIRST_ORDINARY}
+use Rattle.volume_def.specs.BitmapClauses.{cluster_bits, record_bits, written_by}
+use Rattle.volume_def.specs.Files.{Part, all_covered, content_extent, parts, record_on, records_of}
 use Rattle.volume_def.specs.ListsClause.{is_list}
 use Rattle.volume_def.specs.OwnersClause.{times_owned}
 use Rattle.volume_def.specs.Room.{free_bytes, unowned_clusters}
@@ -13,13 +15,15 @@ use Rattle.volume_def.specs.Table.{cluster_bytes}
 use Rattle.volume_def.specs.Values.{first_part}
 use Rattle.volume_def.specs.View.{VolumeView}
 use Rattle.tree_model.specs.Cases.{size_of}
+use Rattle.tree_model.specs.LeafRoom.{has_leaf_room}
 use Rattle.tree_model.specs.Reading.{standard_of}
 use Rattle.tree_model.specs.StreamRoom.{goes_over, initialized_size, new_clusters, stream_parts, stream_value, stream_value_len}
-use Rattle.tree_model.specs.Subjects.{Located}
-use Rattle.tree_model.specs.Tree.{Tree}
+use Rattle.tree_model.specs.Subjects.{Located, NewName, NameIn}
+use Rattle.tree_model.specs.Tree.{Tree, leads_to}
 use Rattle.tree_model.specs.declared.command.Command.{Command}
 use Rattle.tree_model.specs.declared.command.Command.TheVariants as c
 use Rattle.tree_model.specs.declared.tree.Content.{Content}
+use Rattle.tree_model.specs.declared.tree.Link.{Link}
 
 -- IN PLACE an edit takes no cluster and gives none: a write goes over bytes in clusters that were written before, what is punched is a
 -- value, and a security id has its place.
@@ -121,3 +125,36 @@ is_done_in_clusters view tree (c.Hwrite handle from bytes) at =
 is_done_in_clusters view tree (c.Truncate path stream size) at = is_extent_alone view tree at && can_end view tree at size
 is_done_in_clusters view tree (c.Rmstream path name) at = is_extent_alone view tree at
 is_done_in_clusters view tree other at = false
+
+-- What is done IN A DIRECTORY: a name comes, of a file that is made for it. The record of the index in which the search for the name ends has
+-- room for its entry: the header of 16 bytes, and the value of a $FILE_NAME. The directory has no name in a record that $MFTMirr copies,
+-- since its own entries tell its times.
+abbrev pub stands_in_copied : Link → Bool
+stands_in_copied link = nat_lt link.parent 4
+
+abbrev pub has_copied_name : Tree → ℕ → Bool
+has_copied_name tree file = list_any (λ (link : Link). leads_to file link && stands_in_copied link) (tree.links ++ tree.hidden)
+
+abbrev pub entry_len : List ℕ → ℕ
+entry_len units = up_to_8 (0x52 + 2 * length units)
+
+-- the flag of a record has a place in the stored bitmap of records, as far as that was written
+abbrev pub has_record_bit : VolumeView → ℕ → Bool
+has_record_bit view n = nat_lt n (8 * written_by (first_part (record_bits view)))
+
+-- a record of the table that is free, was written, and whose flag has such a place
+abbrev pub can_have_file : VolumeView → ℕ → Bool
+can_have_file view n =
+    is_none (record_on view n) && (nat_le (1024 * n + 1024) view.layout.initialized && has_record_bit view n)
+
+abbrev pub has_record : VolumeView → Bool
+has_record view = list_any (can_have_file view) (range_with_len FIRST_ORDINARY (view.layout.count - FIRST_ORDINARY))
+
+abbrev pub can_come : VolumeView → Tree → NewName → Bool
+can_come view tree (NameIn dir units) =
+    not (has_copied_name tree dir) && (has_leaf_room view dir units (entry_len units) && has_record view)
+can_come view tree other = false
+
+abbrev pub is_done_in_directory : VolumeView → Tree → Command → Located → Bool
+is_done_in_directory view tree (c.Create path) at = can_come view tree at.new
+is_done_in_directory view tree other at = false

@@ -23,10 +23,10 @@ use Rattle.volume_def.specs.Values.{first_part, is_first, value_on}
 use Rattle.volume_def.specs.View.{VolumeView}
 use Rattle.list_laws.proofs.FindLaws.{find-agree, find-filter, find-found, find-map}
 use Rattle.list_laws.proofs.MemberLaws.{Contains-from_flat_map, Contains-from_map}
-use Rattle.attr_store.specs.declared.first.FirstPart.{FirstPart}
-use Rattle.attr_store.specs.First.{TellsSizes, attribute_held}
-use Rattle.attr_store.proofs.FirstLaws.{is_sought, sought-first}
-use Rattle.attr_store.proofs.StoredLaws.{no-value}
+use Rattle.sparse_io.specs.FirstPart.{FirstPart}
+use Rattle.sparse_io.specs.First.{TellsSizes, attribute_held}
+use Rattle.sparse_io.proofs.FirstLaws.{is_sought, sought-first}
+use Rattle.sparse_io.proofs.StoredLaws.{no-value}
 use Rattle.file_record.specs.declared.parts.FileParts.{FileParts}
 use Rattle.file_record.specs.declared.base.BaseFile.{BaseFile}
 use Rattle.file_record.specs.Held.{held_of, parts_held, parts_of}

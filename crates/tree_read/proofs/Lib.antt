@@ -16,3 +16,7 @@ pub mod WalkSteps
 pub mod PathSteps
 pub mod ListSteps
 pub mod ShownFileLaws
+-- Laws of the crates below, passed on to those above.
+pub use Rattle.dir_index.proofs.HeldDirectory
+pub use Rattle.sparse_io.proofs.FirstLaws
+pub use Rattle.file_record.proofs.HeldLaws

@@ -4,9 +4,9 @@ use Rattle.std.specs.Prelude.{IfSome, IsSome, IsTrue, slice_get, slice_range}
 use Rattle.volume_def.specs.Readable.{IsFile, WhereReadable}
 use Rattle.volume_def.specs.Values.{attribute_value, first_part, value_on}
 use Rattle.volume_def.specs.View.{VolumeView}
-use Rattle.attr_store.specs.declared.first.FirstPart.{FirstPart}
-use Rattle.attr_store.specs.declared.stored.Stored.{Stored}
-use Rattle.attr_store.specs.First.{IsStored, TellsSizes, attribute_held}
+use Rattle.sparse_io.specs.FirstPart.{FirstPart}
+use Rattle.sparse_io.specs.Stored.{Stored}
+use Rattle.sparse_io.specs.First.{IsStored, TellsSizes, attribute_held}
 use Rattle.mft_table.specs.InUse.{IsInUse, IsSoundVolume}
 use Rattle.mft_table.specs.declared.mft.Mft.{Mft}
 use Rattle.mft_table.specs.declared.mounted.Mounted.{Mounted}
@@ -14,7 +14,7 @@ use Rattle.mft_table.specs.Mft.{MftReads, faults_of, view}
 use Rattle.vol_disk.specs.declared.Disk.{Ghosts}
 use Rattle.volume_def.proofs.SoundLaws.{readable-sound}
 use Rattle.file_record.specs.Base.{HasBaseRecord}
-use Rattle.attr_store.proofs.StoredLaws.{stored-length, stored-read}
+use Rattle.sparse_io.proofs.StoredLaws.{stored-length, stored-read}
 use Rattle.file_record.specs.Held.{AreParts, file_number, parts_held}
 use Rattle.file_record.specs.declared.base.BaseFile.{BaseFile}
 use Rattle.file_record.specs.declared.parts.FileParts.{FileParts}

@@ -20,7 +20,7 @@ use Rattle.file_record.specs.Held.{AreParts, attributes_held, file_number, parts
 use Rattle.file_record.specs.declared.base.BaseFile.{BaseFile}
 use Rattle.file_record.specs.declared.parts.FileParts.{FileParts}
 use Rattle.attr_view.specs.declared.record_mut.RecordHeader.{RecordHeader}
-use Rattle.attr_store.proofs.FirstLaws.{AreHeld, AreHeld-file}
+use Rattle.sparse_io.proofs.FirstLaws.{AreHeld, AreHeld-file}
 use Rattle.tree_model.specs.Reading.{link_for, links_to}
 use Rattle.tree_model.specs.declared.tree.Link.{Link}
 use Rattle.tree_read.specs.FileLinks.{attribute_link, has_point_held, links_held}

@@ -18,6 +18,8 @@ mod walk;
 pub use above::Above;
 pub use below::{Below, load_below};
 pub use data::{find_plain, is_of_directory, name_or, plain_content, read_through};
+pub use dir_index::lookup_in;
+pub use file_record::{BaseFile, FileParts, Held};
 pub use load::{load_file, load_node};
 pub use node::{Standard, find_part, read_standard};
 pub use outline::links_of;

@@ -14,13 +14,12 @@ ghost use Rattle.tree_read.specs.Parts.{IsPartIfThere, is_shown_name, shown_name
 ghost use Rattle.tree_read.specs.Shown.{attr_shown, sec_shown, stat_shown, streams_shown};
 ghost use Rattle.tree_model.specs.declared.reply.No.TheVariants as no;
 
-use attr_store::is_of;
 use attr_view::AttrView;
 use file_record::{BaseFile, FileParts};
 use ntfs_def::kinds::{FILE_NAME, STANDARD_INFORMATION};
 use ntfs_def::records::ROOT;
 use ntfs_def::{file_name, standard_information};
-use sparse_io::{find_stream, list_streams};
+use sparse_io::{find_stream, is_of, list_streams};
 use std::alloc::{AllocError, Global};
 use tree_model::{Answer, No, SHOWN_FLAGS, ShownStreams};
 use upcase::UpCase;

@@ -29,7 +29,7 @@ use Rattle.record_edits.specs.InPlace.{is_bits_key}
 use Rattle.record_edits.specs.Owners.{times_in}
 use Rattle.record_edits.proofs.BlockEdits.{was-at}
 use Rattle.record_edits.proofs.PlaceEdits.{same}
-use Rattle.file_record.specs.Attributes.{RemovesAttribute}
+use Rattle.extent_edits.specs.Attributes.{RemovesAttribute}
 use Rattle.stream_overwrites.specs.Below.{IsInOneRecord, record_there}
 use Rattle.stream_overwrites.proofs.Below.{right-go}
 use Rattle.stream_overwrites.proofs.ShownFile.{file, not-bad, not-bitmap, not-mirror, not-table}

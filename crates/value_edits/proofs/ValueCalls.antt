@@ -23,7 +23,7 @@ use Rattle.edit_def.specs.Kept.{Key, key_of}
 use Rattle.record_edits.specs.Owners.{times_in}
 use Rattle.record_edits.specs.RecordEdit.{parts_made}
 use Rattle.record_edits.proofs.BlockEdits.{base-file, edit-of, was-at}
-use Rattle.file_record.specs.Attributes.{ChangesValue, RemovesAttribute}
+use Rattle.extent_edits.specs.Attributes.{ChangesValue, RemovesAttribute}
 use Rattle.stream_overwrites.specs.Below.{IsInOneRecord, record_there}
 use Rattle.stream_overwrites.proofs.Below.{AreValues, no-times, no-value, one-value, right-change, right-go, value-alone, value-mapped}
 use Rattle.stream_overwrites.proofs.Below as below

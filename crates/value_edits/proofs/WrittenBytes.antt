@@ -6,7 +6,7 @@ use Rattle.std.proofs.lemmas.List.{append-nil, append_assoc, drop-replicate, dro
 use Rattle.std.proofs.lemmas.List.{take-append-le, take-replicate}
 use Rattle.std.proofs.Math.Seq.{drop-append-add, take-append-add}
 use Rattle.attr_view.specs.Values.{with_length}
-use Rattle.file_record.specs.Attributes.{with_bytes_at}
+use Rattle.extent_edits.specs.Attributes.{with_bytes_at}
 use Rattle.tree_model.specs.Streams.{resized, written}
 
 -- bytes that were given another length have that

@@ -13,7 +13,7 @@ ghost use Rattle.volume_def.specs.View.{VolumeView};
 ghost use Rattle.tree_model.specs.StreamRoom.{touches};
 ghost use Rattle.tree_model.specs.Streams.{resized, written};
 ghost use Rattle.tree_model.specs.declared.tree.Node.{Node};
-ghost use Rattle.file_record.specs.Attributes.{ChangesValue, RemovesAttribute, with_bytes_at};
+ghost use Rattle.extent_edits.specs.Attributes.{ChangesValue, RemovesAttribute, with_bytes_at};
 ghost use Rattle.record_edits.specs.Given.{GivesBack};
 ghost use Rattle.stream_overwrites.specs.Below.{IsInOneRecord};
 ghost use Rattle.extent_edits.specs.Cut.{CutsExtent};

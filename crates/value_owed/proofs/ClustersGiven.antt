@@ -15,7 +15,7 @@ use Rattle.edit_def.specs.Forms.{attributes_on, begins, form_of, forms_of}
 use Rattle.edit_def.specs.Kept.{Key, key_of}
 use Rattle.record_edits.specs.InPlace.{WritesInPlace}
 use Rattle.record_edits.proofs.PlaceEdits.{at-same, part-unnamed}
-use Rattle.in_place.specs.Unnamed.{LiesApart}
+use Rattle.value_edits.specs.Unnamed.{LiesApart}
 
 module _ (changed : Key → Bool) (old new : VolumeView) (w : WritesInPlace changed old new) where
   -- CLUSTERS of a part hold what they held, unless it is one of those attributes'

@@ -37,7 +37,7 @@ use Rattle.edit_def.specs.Kept.{Key, key_of}
 use Rattle.record_edits.specs.RecordEdit.{parts_made}
 use Rattle.session_def.specs.Cost.{bytes_in}
 use Rattle.session_def.specs.Named.{spelt}
-use Rattle.in_place.specs.Unnamed.{LiesApart}
+use Rattle.value_edits.specs.Unnamed.{LiesApart}
 use Rattle.value_edits.specs.ValueEdits.{EditsAlone}
 use Rattle.value_edits.proofs.ValueShown.{alone-first, value-content}
 use Rattle.value_owed.specs.ValueOwed.{clusters_asked}

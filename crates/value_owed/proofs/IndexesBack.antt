@@ -36,8 +36,8 @@ use Rattle.edit_def.proofs.IndexLaws.{index-same, items-kept}
 use Rattle.edit_def.proofs.NamesLaws.{bases-of}
 use Rattle.session_def.specs.Indexes.{KeepsFlagsOf, KeepsIndexIfThere, bits_set, index_bits, index_records}
 use Rattle.session_def.specs.Kept.{KeepsKeys}
-use Rattle.in_place.specs.Unnamed.{LiesApart}
-use Rattle.in_place_owed.proofs.IndexesSet.{index-named}
+use Rattle.value_edits.specs.Unnamed.{LiesApart}
+use Rattle.value_edits.proofs.IndexesSet.{index-named}
 use Rattle.value_edits.specs.ValueEdits.{EditsAlone}
 use Rattle.value_owed.proofs.ValueSame as same
 

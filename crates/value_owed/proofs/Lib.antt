@@ -12,3 +12,17 @@ pub mod ValueCost
 pub mod NodesBack
 pub mod ValueOwes
 pub mod Below
+-- Laws of the crates below, passed on to those above.
+pub use Rattle.value_edits.proofs.CallsOwed
+pub use Rattle.value_edits.proofs.LaterLaws
+pub use Rattle.value_edits.proofs.RecordsOwed
+pub use Rattle.value_edits.proofs.AllowedCommands
+pub use Rattle.value_edits.proofs.FreshNumber
+pub use Rattle.value_edits.proofs.RewriteLaws
+pub use Rattle.value_edits.proofs.StillApart
+pub use Rattle.value_edits.proofs.SameRecords
+pub use Rattle.value_edits.proofs.BehindLaws
+pub use Rattle.value_edits.proofs.KeptInPlace
+pub use Rattle.value_edits.proofs.OtherClusters
+pub use Rattle.value_edits.proofs.OtherParts
+pub use Rattle.value_edits.proofs.PlacesSame

@@ -27,15 +27,15 @@ use Rattle.session_def.specs.Named.{main_file, timed}
 use Rattle.session_def.specs.Nodes.{ComesRightly, IsRightName, KeepsDosFlags, KeepsNodes, KeepsStream, flag_of, has_link_told}
 use Rattle.session_def.specs.Nodes.{is_directory_node}
 use Rattle.session_def.specs.State.{State}
-use Rattle.in_place.specs.InPlace.{Rewrites}
-use Rattle.in_place.specs.Unnamed.{KeepsMarks}
-use Rattle.in_place.proofs.OwedInPlace as owed
-use Rattle.in_place.proofs.RoomSame as room
-use Rattle.in_place_owed.proofs.BothRewrites.{both, either-kind, is_either_key}
-use Rattle.in_place_owed.proofs.EntriesOwed.{entries-first, items-back}
-use Rattle.in_place_owed.proofs.NamedOwed.{named-owed}
-use Rattle.in_place_owed.proofs.Owes as setting
-use Rattle.in_place_owed.proofs.StandardOwed.{flag-same, marks-owed, standard-owed}
+use Rattle.value_edits.specs.InPlace.{Rewrites}
+use Rattle.value_edits.specs.Unnamed.{KeepsMarks}
+use Rattle.value_edits.proofs.OwedInPlace as owed
+use Rattle.value_edits.proofs.RoomSame as room
+use Rattle.value_edits.proofs.BothRewrites.{both, either-kind, is_either_key}
+use Rattle.value_edits.proofs.EntriesOwed.{entries-first, items-back}
+use Rattle.value_edits.proofs.NamedOwed.{named-owed}
+use Rattle.value_edits.proofs.Owes as setting
+use Rattle.value_edits.proofs.StandardOwed.{flag-same, marks-owed, standard-owed}
 use Rattle.value_owed.specs.ValueOwed.{SetsBehindValue, between, edits_value}
 use Rattle.value_owed.proofs.IndexesBack as indexes
 use Rattle.value_owed.proofs.RecordsBack as back

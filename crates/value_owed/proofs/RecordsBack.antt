@@ -41,7 +41,7 @@ use Rattle.record_edits.proofs.WholeLaws.{whole-from}
 use Rattle.value_edits.specs.Below.{KeepsRecord, record_there}
 use Rattle.session_def.specs.Cost.{log_parts}
 use Rattle.session_def.specs.Room.{KeepsBlocks, KeepsCopies, KeepsLogEnd}
-use Rattle.in_place.specs.Unnamed.{LiesApart}
+use Rattle.value_edits.specs.Unnamed.{LiesApart}
 use Rattle.value_edits.specs.ValueEdits.{ComesInPlace, EditsAlone}
 use Rattle.value_owed.proofs.ClustersGiven as given
 use Rattle.value_owed.proofs.ValueSame as same

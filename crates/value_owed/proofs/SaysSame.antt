@@ -15,10 +15,10 @@ use Rattle.volume_def.specs.View.{VolumeView}
 use Rattle.tree_model.specs.StreamRoom.{is_cluster}
 use Rattle.edit_def.specs.Places.{flags_of}
 use Rattle.session_def.specs.Nodes.{IsSpreadRight, IsSpreadSame, KeepsStream, Spread, has_hole, is_sparse_stream, owned_by, spread_of}
-use Rattle.in_place.specs.Blank.{blank_part}
-use Rattle.in_place.proofs.BlankLaws.{blank-runs, blank-spot, first-blank, sum-map}
-use Rattle.in_place.proofs.IndexesOwed.{flags-blank, size-blank}
-use Rattle.in_place.proofs.StreamSame.{hole-blank}
+use Rattle.value_edits.specs.Blank.{blank_part}
+use Rattle.value_edits.proofs.BlankLaws.{blank-runs, blank-spot, first-blank, sum-map}
+use Rattle.value_edits.proofs.IndexesOwed.{flags-blank, size-blank}
+use Rattle.value_edits.proofs.StreamSame.{hole-blank}
 
 -- WHAT THE BYTES OF VALUES DO NOT TELL: of the first part that is there ..
 there-blank : (o : Option Part) → is_some (option_map blank_part o) ≡ is_some o

@@ -28,13 +28,13 @@ use Rattle.edit_def.proofs.NeedLaws.{IsPlanned-by}
 use Rattle.session_def.specs.Named.{has_entry_of, is_changed_key, is_own_key, is_stream_key, is_times_key, spelt}
 use Rattle.session_def.specs.Owed.{CallsOf, goes_by}
 use Rattle.session_def.specs.State.{State}
-use Rattle.in_place.specs.Unnamed.{LiesApart}
-use Rattle.in_place.proofs.EditedInPlace as rewrite
-use Rattle.in_place.proofs.EditedInPlace.{editable-sound}
-use Rattle.in_place_owed.specs.SetsInPlace.{is_entries_key, is_set_key}
-use Rattle.in_place_owed.proofs.CallsOwed.{apart-of, tabled-of}
-use Rattle.in_place_owed.proofs.MarksLaws.{marks-right, right_marks}
-use Rattle.in_place_owed.proofs.SetKeys.{set-no_room, times-inside}
+use Rattle.value_edits.specs.Unnamed.{LiesApart}
+use Rattle.value_edits.proofs.EditedInPlace as rewrite
+use Rattle.value_edits.proofs.EditedInPlace.{editable-sound}
+use Rattle.value_edits.specs.SetsInPlace.{is_entries_key, is_set_key}
+use Rattle.value_edits.proofs.CallsOwed.{apart-of, tabled-of}
+use Rattle.value_edits.proofs.MarksLaws.{marks-right, right_marks}
+use Rattle.value_edits.proofs.SetKeys.{set-no_room, times-inside}
 use Rattle.value_edits.proofs.Below.{not-case}
 use Rattle.value_edits.specs.ValueEdits.{EditsAlone, only_clusters}
 use Rattle.value_owed.specs.ValueOwed.{SetsBehindValue, bill_asked, clusters_asked}

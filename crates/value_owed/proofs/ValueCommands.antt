@@ -20,8 +20,8 @@ use Rattle.edit_def.specs.Kept.{Key}
 use Rattle.edit_def.specs.OneFile.{no_room_alone}
 use Rattle.session_def.specs.Done.{lengthens}
 use Rattle.session_def.specs.Named.{is_own_key, is_stream_key, new_directory, timed}
-use Rattle.in_place_owed.proofs.EmptyBill.{bill-none, little-quiet}
-use Rattle.in_place_owed.proofs.InPlaceCommands.{DoesLittle, does-little}
+use Rattle.value_edits.proofs.EmptyBill.{bill-none, little-quiet}
+use Rattle.value_edits.proofs.InPlaceCommands.{DoesLittle, does-little}
 use Rattle.value_owed.specs.ValueOwed.{IsDoneAlone, bill_asked, clusters_asked, edits_value}
 use Rattle.value_owed.proofs.OneBill.{bill-one}
 

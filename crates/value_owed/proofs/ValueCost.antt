@@ -11,9 +11,9 @@ use Rattle.tree_model.specs.declared.command.Command.{Command}
 use Rattle.session_def.specs.Cost.{bytes_in, cost_of, depths, given_back, need_for}
 use Rattle.session_def.specs.Named.{timed}
 use Rattle.session_def.specs.State.{State}
-use Rattle.in_place_owed.specs.SetsInPlace.{links_of}
-use Rattle.in_place_owed.proofs.CostLaws.{names-depth}
-use Rattle.in_place_owed.proofs.InPlaceCommands.{DoesLittle}
+use Rattle.value_edits.specs.SetsInPlace.{links_of}
+use Rattle.value_edits.proofs.CostLaws.{names-depth}
+use Rattle.value_edits.proofs.InPlaceCommands.{DoesLittle}
 
 -- the need is that of the clusters at least
 pub need-least : (size free : ℕ) (bill : Bill) → bill.clusters ≤ need_of size free bill

@@ -32,12 +32,12 @@ use Rattle.session_def.specs.Owed.{Owes}
 use Rattle.session_def.specs.Room.{KeepsBlocks, is_written_file}
 use Rattle.session_def.specs.State.{State}
 use Rattle.session_def.proofs.OwedLaws.{leaves-done}
-use Rattle.in_place.proofs.RoomSame as room
-use Rattle.in_place_owed.specs.SetsInPlace.{links_of}
-use Rattle.in_place_owed.proofs.EntriesOwed.{rests-owed}
-use Rattle.in_place_owed.proofs.InPlaceCommands.{timed-one}
-use Rattle.in_place_owed.proofs.IndexesSet.{directory-owed, extend-owed, index-named}
-use Rattle.in_place_owed.proofs.Owes as setting
+use Rattle.value_edits.proofs.RoomSame as room
+use Rattle.value_edits.specs.SetsInPlace.{links_of}
+use Rattle.value_edits.proofs.EntriesOwed.{rests-owed}
+use Rattle.value_edits.proofs.InPlaceCommands.{timed-one}
+use Rattle.value_edits.proofs.IndexesSet.{directory-owed, extend-owed, index-named}
+use Rattle.value_edits.proofs.Owes as setting
 use Rattle.value_edits.proofs.EditedRecord as value
 use Rattle.value_edits.proofs.GivenCount.{most-taken}
 use Rattle.value_owed.specs.ValueOwed.{SetsBehindValue, between, taken_in}

@@ -47,8 +47,8 @@ use Rattle.record_edits.proofs.PartEdits.{AreNamed, filter-nil}
 use Rattle.session_def.specs.Cost.{log_bytes, log_parts, log_size}
 use Rattle.session_def.specs.Done.{first_cost}
 use Rattle.session_def.specs.State.{dirty_flag}
-use Rattle.in_place.specs.Unnamed.{LiesApart}
-use Rattle.in_place_owed.proofs.MarksLaws.{right_marks}
+use Rattle.value_edits.specs.Unnamed.{LiesApart}
+use Rattle.value_edits.proofs.MarksLaws.{right_marks}
 use Rattle.value_edits.specs.ValueEdits.{EditsAlone, only_clusters}
 use Rattle.value_edits.proofs.EditedRecord as value
 use Rattle.value_edits.proofs.Prepared as before

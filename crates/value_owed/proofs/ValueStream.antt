@@ -28,11 +28,11 @@ use Rattle.edit_def.specs.Purses.{run_size}
 use Rattle.record_edits.specs.RecordEdit.{parts_made}
 use Rattle.session_def.specs.Done.{may_own}
 use Rattle.session_def.specs.Nodes.{KeepsStream, has_hole}
-use Rattle.in_place.specs.Blank.{blank_part}
-use Rattle.in_place.specs.InPlace.{Rewrites}
-use Rattle.in_place.specs.Unnamed.{LiesApart}
-use Rattle.in_place.proofs.SameRecords as records
-use Rattle.in_place.proofs.StreamSame.{holes-same}
+use Rattle.value_edits.specs.Blank.{blank_part}
+use Rattle.value_edits.specs.InPlace.{Rewrites}
+use Rattle.value_edits.specs.Unnamed.{LiesApart}
+use Rattle.value_edits.proofs.SameRecords as records
+use Rattle.value_edits.proofs.StreamSame.{holes-same}
 use Rattle.value_edits.specs.ValueEdits.{ComesInPlace, EditsAlone}
 use Rattle.value_owed.proofs.SaysSame.{SaysSame, keeps-same, says-same}
 use Rattle.value_owed.proofs.ValueSame as same

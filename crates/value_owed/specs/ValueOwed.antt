@@ -32,7 +32,7 @@ use Rattle.session_def.specs.Done.{counts_vcn, may_own, stream_in}
 use Rattle.session_def.specs.Kept.{KeepsEntries}
 use Rattle.session_def.specs.Named.{spelt}
 use Rattle.session_def.specs.State.{Stands, State}
-use Rattle.in_place_owed.specs.SetsInPlace.{SetsInPlace}
+use Rattle.value_edits.specs.SetsInPlace.{SetsInPlace}
 use Rattle.value_edits.specs.ValueEdits.{IsEdited}
 
 -- THE COMMANDS that are done so

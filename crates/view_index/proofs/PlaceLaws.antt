@@ -10,9 +10,9 @@ use Rattle.volume_def.specs.Values.{IsPlain, value_on}
 use Rattle.volume_def.specs.View.{VolumeView}
 use Rattle.tree_model.specs.Facts.{HasDescriptor, sds_parts}
 use Rattle.file_record.specs.declared.parts.FileParts.{FileParts}
-use Rattle.attr_store.specs.First.{IsStored, attribute_held}
-use Rattle.attr_store.specs.declared.stored.Stored.{Stored}
-use Rattle.attr_store.proofs.StoredLaws.{stored-length}
+use Rattle.index_store.specs.First.{IsStored, attribute_held}
+use Rattle.index_store.specs.Stored.{Stored}
+use Rattle.index_store.proofs.StoredLaws.{stored-length}
 use Rattle.view_index.specs.Places.{HasPlace, HasPlaceIfThere, TellsPlace, TellsPlaceIfThere, TellsRange}
 use Rattle.view_index.specs.Security.{IsEntryOf, IsHeldSecurity, TellsWhether}
 use Rattle.view_index.specs.declared.place.Place.{Place}

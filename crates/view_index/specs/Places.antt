@@ -7,7 +7,7 @@ use Rattle.volume_def.specs.Values.{IsPlain, value_on}
 use Rattle.volume_def.specs.View.{VolumeView}
 use Rattle.tree_model.specs.Facts.{HasDescriptor, sds_parts}
 use Rattle.file_record.specs.declared.parts.FileParts.{FileParts}
-use Rattle.attr_store.specs.First.{IsStored}
+use Rattle.index_store.specs.First.{IsStored}
 use Rattle.view_index.specs.declared.place.Place.{Place}
 
 -- What the data of an entry tell of lies in the stream of descriptors, behind a header that is the same.

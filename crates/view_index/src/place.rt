@@ -9,12 +9,12 @@ ghost use Rattle.mft_table.specs.Mft.{MftReads, faults_of, view};
 ghost use Rattle.tree_model.specs.Facts.{HasDescriptor};
 ghost use Rattle.file_record.specs.FileNos.{CountsNo, IsReadNo};
 ghost use Rattle.file_record.specs.Held.{IsHeldFile, parts_held};
-ghost use Rattle.attr_store.specs.First.{IsStored, attribute_held};
+ghost use Rattle.index_store.specs.First.{IsStored, attribute_held};
 ghost use Rattle.view_index.specs.Places.{HasPlace, TellsPlaceIfThere};
 ghost use Rattle.view_index.specs.Security.{IsHeldSecurity};
 
-use attr_store::{Stored, find_first, read_stored};
 use file_record::{FileNo, FileParts};
+use index_store::{Stored, find_first, read_stored};
 use mft_table::Mft;
 use ntfs_def::kinds::DATA;
 use std::alloc::Global;

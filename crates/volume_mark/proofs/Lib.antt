@@ -13,3 +13,8 @@ pub mod MarkLaws
 pub mod OutsideLaws
 pub mod LiesLaws
 pub mod AgreeLaws
+-- Laws of the crates below, passed on to those above.
+pub use Rattle.session_def.proofs.NodeLaws
+pub use Rattle.session_def.proofs.IndexLaws
+pub use Rattle.session_def.proofs.KeptLaws
+pub use Rattle.session_def.proofs.NamesLaws

@@ -5,7 +5,7 @@ use Rattle.attr_view.specs.View.{attribute_of}
 use Rattle.volume_def.specs.Values.{value_of_parts}
 use Rattle.volume_def.specs.Table.{cluster_bytes}
 use Rattle.volume_def.proofs.StoredLaws.{value-length_told, value-range}
-use Rattle.mft_table.specs.Mft.{view}
+use Rattle.file_record.specs.Mft.{view}
 use Rattle.attr_store.specs.Sought.{parts_held_like}
 use Rattle.attr_store.proofs.Filled.{filled}
 use Rattle.attr_store.proofs.read.read_clusters.Goals as goal

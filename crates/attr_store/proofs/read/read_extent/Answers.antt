@@ -4,9 +4,9 @@ use Rattle.std.proofs.lemmas.Result.{IfOk-weaker}
 use Rattle.attr_view.specs.View.{attribute_of}
 use Rattle.volume_def.specs.Values.{pieces_touched}
 use Rattle.volume_def.specs.Table.{cluster_bytes}
-use Rattle.mft_table.specs.Mft.{MftReads, view}
+use Rattle.file_record.specs.Mft.{MftReads, view}
 use Rattle.list_laws.proofs.OptionLaws.{match-known, ok-both}
-use Rattle.mft_table.proofs.StreamReads.{MftReads-less}
+use Rattle.file_record.proofs.StreamReads.{MftReads-less}
 use Rattle.attr_store.proofs.Found.{body-spans}
 use Rattle.attr_store.proofs.Spanned.{extent-bytes, seam-cluster, span-some, touched-le, unheld-bytes}
 use Rattle.attr_store.proofs.read.read_extent.Goals as goal

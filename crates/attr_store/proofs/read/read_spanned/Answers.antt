@@ -1,7 +1,7 @@
 use Rattle.std.proofs.Common.{◌≤◌, ◌/◌, ◌++◌, drop, sym, ap, ◌∙◌, arith}
 use Rattle.std.proofs.lemmas.List.{length-take-le}
-use Rattle.mft_table.specs.Mft.{view}
-use Rattle.mft_table.proofs.StreamReads.{MftReads-less}
+use Rattle.file_record.specs.Mft.{view}
+use Rattle.file_record.proofs.StreamReads.{MftReads-less}
 use Rattle.attr_store.proofs.Spanned.{begins-before, spanned-none, spanned-runs, touched-spanned}
 use Rattle.attr_store.proofs.read.read_spanned.Goals as goal
 

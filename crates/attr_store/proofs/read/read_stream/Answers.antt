@@ -1,6 +1,6 @@
 use Rattle.std.proofs.Common.{inl, ◌<◌, length, refl, ◌∙◌, arith}
-use Rattle.mft_table.proofs.StreamBytes.{stored_bytes-next, stored_bytes-none}
-use Rattle.mft_table.proofs.StreamReads.{MftReads-none, MftReads-then, seam-next, touched-add}
+use Rattle.file_record.proofs.StreamBytes.{stored_bytes-next, stored_bytes-none}
+use Rattle.file_record.proofs.StreamReads.{MftReads-none, MftReads-then, seam-next, touched-add}
 use Rattle.attr_store.proofs.Spanned.{stored-whole}
 use Rattle.attr_store.proofs.read.read_stream.Goals as goal
 

@@ -4,8 +4,8 @@ use Rattle.volume_def.specs.ExtentsClause.{AreAttribute}
 use Rattle.volume_def.specs.Values.{pieces_touched, spot_at, stored_bytes}
 use Rattle.volume_def.specs.Table.{cluster_bytes}
 use Rattle.attr_view.specs.View.{attribute_of}
-use Rattle.mft_table.specs.Mft.{MftReads, faults_of, view}
-use Rattle.mft_table.specs.Streams.{IsSeam}
+use Rattle.file_record.specs.Mft.{MftReads, faults_of, view}
+use Rattle.file_record.specs.Streams.{IsSeam}
 use Rattle.attr_store.specs.Sought.{parts_held_like}
 use Rattle.attr_store.proofs.read.read_stream.Given as goal
 

@@ -1,7 +1,7 @@
 use Rattle.std.proofs.Common.{length, sym}
 use Rattle.std.proofs.lemmas.Result.{on_ok_weaker}
 use Rattle.attr_view.specs.View.{attribute_of}
-use Rattle.mft_table.specs.Mft.{view}
+use Rattle.file_record.specs.Mft.{view}
 use Rattle.attr_store.proofs.Found.{among-place}
 use Rattle.attr_store.proofs.Values.{clusters-read}
 use Rattle.attr_store.proofs.read.read_value.Goals as goal

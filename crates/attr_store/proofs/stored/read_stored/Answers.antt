@@ -1,6 +1,6 @@
 use Rattle.std.proofs.Common.{length}
 use Rattle.std.proofs.lemmas.Result.{on_ok_weaker}
-use Rattle.mft_table.specs.Mft.{view}
+use Rattle.file_record.specs.Mft.{view}
 use Rattle.attr_store.proofs.StoredLaws.{stored-read}
 use Rattle.attr_store.proofs.stored.read_stored.Goals as goal
 

@@ -1,6 +1,6 @@
 use Rattle.std.proofs.Common.{◌≡◌, ◌+◌, ◌*◌, ◌/◌, List, ℕ, length, Some, sym, ap, subst, ◌∙◌, arith}
 use Rattle.std.specs.List.{range_with_len}
-use Rattle.mft_table.specs.Mft.{MftStages, view}
+use Rattle.file_record.specs.Mft.{MftStages, view}
 use Rattle.attr_store.specs.Written.{run_sectors}
 use Rattle.attr_store.proofs.PutLaws.{put-none}
 use Rattle.attr_store.proofs.StageLaws.{MftStages-more, MftStages-none}

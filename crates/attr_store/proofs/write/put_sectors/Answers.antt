@@ -6,10 +6,10 @@ use Rattle.std.proofs.lemmas.List.{length-take-le}
 use Rattle.list_laws.proofs.MemberLaws.{Contains-only, Contains-range}
 use Rattle.ntfs_def.specs.declared.run_text.Spot.{Spot}
 use Rattle.volume_def.specs.Coverage.{IsApart}
-use Rattle.volume_edits.specs.Clusters.{IsOwnStream, stream_place}
-use Rattle.mft_table.specs.Mft.{view}
-use Rattle.mft_table.specs.Mounted.{mounted_layout}
-use Rattle.mft_table.specs.declared.mounted.Mounted.{Mounted}
+use Rattle.file_record.specs.Clusters.{IsOwnStream, stream_place}
+use Rattle.file_record.specs.Mft.{view}
+use Rattle.file_record.specs.Mounted.{mounted_layout}
+use Rattle.file_record.specs.MountedType.{Mounted}
 use Rattle.attr_store.proofs.PutLaws.{done-all, done-then}
 use Rattle.attr_store.proofs.StageLaws.{MftStages-then}
 use Rattle.attr_store.proofs.write.put_sectors.Goals as goal

@@ -3,8 +3,8 @@ use Rattle.std.specs.List.{range_with_len}
 use Rattle.ntfs_def.specs.declared.run_text.Spot.{Spot}
 use Rattle.vol_stage.specs.Staged.{spare}
 use Rattle.volume_def.specs.Coverage.{IsApart}
-use Rattle.volume_edits.specs.Clusters.{IsOwnStream, stream_place}
-use Rattle.mft_table.specs.Mft.{MftStages, stage_of, view}
+use Rattle.file_record.specs.Clusters.{IsOwnStream, stream_place}
+use Rattle.file_record.specs.Mft.{MftStages, stage_of, view}
 use Rattle.attr_store.proofs.PutLaws.{IsDone}
 use Rattle.attr_store.proofs.write.put_sectors.Given as goal
 

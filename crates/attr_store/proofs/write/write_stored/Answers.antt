@@ -8,10 +8,10 @@ use Rattle.volume_def.specs.Table.{cluster_bytes}
 use Rattle.volume_def.specs.Values.{spot_at}
 use Rattle.volume_def.specs.View.{VolumeView}
 use Rattle.vol_stage.specs.Staged.{StagesOnly}
-use Rattle.volume_edits.specs.Clusters.{IsOwnStream, IsPlaced, WritesStream, stream_sectors}
+use Rattle.file_record.specs.Clusters.{IsOwnStream, IsPlaced, WritesStream, stream_sectors}
 use Rattle.attr_view.specs.View.{attribute_of}
-use Rattle.mft_table.specs.Mft.{stage_of, view}
-use Rattle.mft_table.proofs.StagedRecord.{view-reserved}
+use Rattle.file_record.specs.Mft.{stage_of, view}
+use Rattle.file_record.proofs.StagedRecord.{view-reserved}
 use Rattle.file_record.specs.Held.{file_number}
 use Rattle.attr_store.specs.Sought.{parts_held_like}
 use Rattle.attr_store.proofs.Found.{among-place}

@@ -9,13 +9,13 @@ use Rattle.volume_def.specs.Coverage.{IsApart}
 use Rattle.volume_def.specs.ExtentsClause.{AreAttribute}
 use Rattle.volume_def.specs.Table.{cluster_bytes}
 use Rattle.volume_def.specs.Values.{spot_at}
-use Rattle.volume_edits.specs.Clusters.{IsOwnStream, stream_place, stream_sectors}
-use Rattle.volume_edits.proofs.ClusterWrites.{WritesStream-none}
+use Rattle.file_record.specs.Clusters.{IsOwnStream, stream_place, stream_sectors}
+use Rattle.file_record.proofs.ClusterWrites.{WritesStream-none}
 use Rattle.attr_view.specs.View.{attribute_of}
-use Rattle.mft_table.specs.Mft.{stage_of, view}
-use Rattle.mft_table.specs.Mounted.{mounted_layout}
-use Rattle.mft_table.specs.Streams.{spot_on}
-use Rattle.mft_table.specs.declared.mounted.Mounted.{Mounted}
+use Rattle.file_record.specs.Mft.{stage_of, view}
+use Rattle.file_record.specs.Mounted.{mounted_layout}
+use Rattle.file_record.specs.Streams.{spot_on}
+use Rattle.file_record.specs.MountedType.{Mounted}
 use Rattle.attr_store.specs.Sought.{parts_held_like}
 use Rattle.attr_store.specs.Written.{LiesAs, run_sectors}
 use Rattle.attr_store.proofs.PutLaws.{done-all, done-then}

@@ -4,9 +4,9 @@ use Rattle.volume_def.specs.Coverage.{IsApart}
 use Rattle.volume_def.specs.ExtentsClause.{AreAttribute}
 use Rattle.volume_def.specs.Table.{cluster_bytes}
 use Rattle.volume_def.specs.Values.{spot_at}
-use Rattle.volume_edits.specs.Clusters.{IsOwnStream, IsPlaced, stream_sectors}
+use Rattle.file_record.specs.Clusters.{IsOwnStream, IsPlaced, stream_sectors}
 use Rattle.attr_view.specs.View.{attribute_of}
-use Rattle.mft_table.specs.Mft.{stage_of, view}
+use Rattle.file_record.specs.Mft.{stage_of, view}
 use Rattle.attr_store.specs.Sought.{parts_held_like}
 use Rattle.attr_store.specs.Written.{StagesAtMost}
 use Rattle.attr_store.proofs.PutLaws.{IsDone}

@@ -1,6 +1,6 @@
 use Rattle.std.proofs.Common.{◌<◌, arith}
 use Rattle.volume_def.specs.Table.{cluster_bytes}
-use Rattle.mft_table.specs.Mft.{view}
+use Rattle.index_store.specs.Mft.{view}
 use Rattle.list_laws.proofs.OptionLaws.{ok-weaker}
 use Rattle.dir_index.proofs.HeldDirectory.{can-seek, exactly-said, has-index}
 use Rattle.dir_index.proofs.entry.find_exact.Goals as goal

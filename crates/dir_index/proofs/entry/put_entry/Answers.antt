@@ -7,11 +7,11 @@ use Rattle.volume_def.specs.Coverage.{IsApart}
 use Rattle.volume_def.specs.Files.{content_value}
 use Rattle.volume_def.specs.IndexesClause.{IndexParts}
 use Rattle.volume_def.specs.Table.{TableLayout}
-use Rattle.mft_table.specs.Mft.{view}
-use Rattle.file_record.specs.declared.error.FileNo.{FileNo}
-use Rattle.file_record.specs.declared.error.FileNo.TheVariants.{Memory}
-use Rattle.file_record.specs.FileNos.{CountsNo}
-use Rattle.file_record.specs.Held.{file_number}
+use Rattle.index_store.specs.Mft.{view}
+use Rattle.index_store.specs.FileNo.{FileNo}
+use Rattle.index_store.specs.FileNo.TheVariants.{Memory}
+use Rattle.index_store.specs.FileNos.{CountsNo}
+use Rattle.index_store.specs.Held.{file_number}
 use Rattle.index_store.specs.Index.{index_held}
 use Rattle.dir_index.specs.Refreshed.{GivesRoot, ReplacesRoot, WritesRoot}
 use Rattle.dir_index.proofs.HeldDirectory.{same-parts}

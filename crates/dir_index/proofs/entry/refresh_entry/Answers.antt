@@ -2,11 +2,11 @@ use Rattle.std.proofs.Common.{◌≡◌, sym, ap, subst, ◌∙◌}
 use Rattle.std.specs.Prelude.{All, IsTrue}
 use Rattle.std.proofs.lemmas.Result.{on_ok_weaker}
 use Rattle.volume_def.specs.View.{VolumeView}
-use Rattle.mft_table.specs.declared.mounted.Mounted.{Mounted}
-use Rattle.mft_table.specs.Mft.{mounted_of, view}
-use Rattle.file_record.specs.Held.{file_number, held_of}
-use Rattle.file_record.specs.Records.{IsRecordOf}
-use Rattle.file_record.proofs.ReadLaws.{view-kept}
+use Rattle.index_store.specs.MountedType.{Mounted}
+use Rattle.index_store.specs.Mft.{mounted_of, view}
+use Rattle.index_store.specs.Held.{file_number, held_of}
+use Rattle.index_store.specs.Records.{IsRecordOf}
+use Rattle.index_store.proofs.ReadLaws.{view-kept}
 use Rattle.dir_index.specs.Held.{IsHeldDirectory}
 use Rattle.dir_index.specs.Refreshed.{HasUnits, IsHeldWhole, RefreshesEntry, StagesEntry}
 use Rattle.dir_index.specs.Standard.{IsInitialized, StagesNothing}

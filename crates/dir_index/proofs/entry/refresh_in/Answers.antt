@@ -7,9 +7,9 @@ use Rattle.ntfs_def.specs.Node.{item_in}
 use Rattle.index_node.specs.Edit.{item_len}
 use Rattle.volume_def.specs.Table.{cluster_bytes}
 use Rattle.volume_def.specs.View.{VolumeView}
-use Rattle.mft_table.specs.Mft.{view}
-use Rattle.file_record.specs.Held.{file_number}
-use Rattle.file_record.proofs.ReadLaws.{view-kept}
+use Rattle.index_store.specs.Mft.{view}
+use Rattle.index_store.specs.Held.{file_number}
+use Rattle.index_store.proofs.ReadLaws.{view-kept}
 use Rattle.dir_index.specs.Refreshed.{FoundExactly, IsFreshEntry, PutsEntry}
 use Rattle.dir_index.proofs.RefreshLaws.{entry-staged_none, entry-staged_then, refreshes-entry, units-there}
 use Rattle.dir_index.proofs.entry.refresh_in.Goals as goal

@@ -6,10 +6,10 @@ use Rattle.ntfs_def.specs.declared.index.NodeForm.TheVariants.{Names}
 use Rattle.volume_def.specs.IndexesClause.{IndexParts}
 use Rattle.volume_def.specs.Table.{cluster_bytes}
 use Rattle.volume_def.specs.Values.{spot_at}
-use Rattle.volume_edits.specs.Clusters.{ChangesStream}
-use Rattle.mft_table.specs.Mft.{view}
-use Rattle.index_tree.specs.Edit.{HasSortedIndex, short_nodes}
-use Rattle.file_record.specs.Held.{file_number}
+use Rattle.index_store.specs.Clusters.{ChangesStream}
+use Rattle.index_store.specs.Mft.{view}
+use Rattle.index_store.specs.Edit.{HasSortedIndex, short_nodes}
+use Rattle.index_store.specs.Held.{file_number}
 use Rattle.index_store.specs.IndexBlocks.{records_found}
 use Rattle.dir_index.specs.Links.{names_index}
 use Rattle.dir_index.specs.Replaced.{ReplacesItem}

@@ -2,11 +2,11 @@ use Rattle.std.proofs.Common.{◌≡◌, ◌+◌, ◌*◌, ◌≤◌, false, len
 use Rattle.std.specs.Prelude.{IfSome, IsSomeAnd}
 use Rattle.std.proofs.lemmas.Option.{slice_get_within}
 use Rattle.std.proofs.lemmas.Result.{on_ok_weaker}
-use Rattle.mft_table.specs.Mft.{MftStages, view}
-use Rattle.mft_table.specs.Staging.{record_places}
+use Rattle.index_store.specs.Mft.{MftStages, view}
+use Rattle.index_store.specs.Staging.{record_places}
 use Rattle.ntfs_def.specs.declared.kinds.TheConstants.{INDEX_ROOT}
-use Rattle.file_record.specs.Held.{file_number, parts_held}
-use Rattle.file_record.specs.Written.{PartHeld, WritesBytes}
+use Rattle.index_store.specs.Held.{file_number, parts_held}
+use Rattle.index_store.specs.FileRecordWritten.{PartHeld, WritesBytes}
 use Rattle.dir_index.specs.Refreshed.{IsOtherValue}
 use Rattle.dir_index.proofs.RootLaws.{bytes-staged, root-first, root-found}
 use Rattle.dir_index.proofs.StandardLaws.{at-among, holder-own}

@@ -3,8 +3,8 @@ use Rattle.std.proofs.lemmas.Grind.{common_steps}
 use Rattle.ntfs_def.specs.Node.{node_in}
 use Rattle.ntfs_def.specs.declared.index.NodeForm.{NodeForm}
 use Rattle.ntfs_def.specs.declared.index.NodeForm.TheVariants.{Names}
-use Rattle.index_tree.specs.Search.{Costs, Finds, HasRisingIndex, nodes_of}
-use Rattle.mft_table.specs.Mft.{fetched_of, view}
+use Rattle.index_store.specs.Search.{Costs, Finds, HasRisingIndex, nodes_of}
+use Rattle.index_store.specs.Mft.{fetched_of, view}
 use Rattle.index_store.specs.Index.{index_held}
 use Rattle.index_store.proofs.ToldLaws.{records-told, told-records}
 use Rattle.index_store.specs.IndexBlocks.{records_found}

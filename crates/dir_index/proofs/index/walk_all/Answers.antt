@@ -2,9 +2,9 @@ use Rattle.std.proofs.Common.{ℕ, sym, subst}
 use Rattle.ntfs_def.specs.Node.{node_in}
 use Rattle.ntfs_def.specs.declared.index.NodeForm.{NodeForm}
 use Rattle.ntfs_def.specs.declared.index.NodeForm.TheVariants.{Names}
-use Rattle.index_tree.specs.Search.{nodes_of}
-use Rattle.index_tree.specs.Walk.{HasWalk, IsWalk}
-use Rattle.mft_table.specs.Mft.{view}
+use Rattle.index_store.specs.Search.{nodes_of}
+use Rattle.index_store.specs.Walk.{HasWalk, IsWalk}
+use Rattle.index_store.specs.Mft.{view}
 use Rattle.index_store.specs.Index.{index_held}
 use Rattle.index_store.proofs.ToldLaws.{records-told, told-records}
 use Rattle.index_store.specs.IndexBlocks.{records_found}

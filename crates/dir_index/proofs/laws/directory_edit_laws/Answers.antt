@@ -3,7 +3,7 @@ use Rattle.ntfs_def.specs.FileName.{is_name_key}
 use Rattle.ntfs_def.specs.KeyOrder.{fold_of, name_order}
 use Rattle.ntfs_def.specs.Node.{short_node}
 use Rattle.ntfs_def.specs.declared.index.NodeForm.TheVariants.{Names}
-use Rattle.index_tree.specs.Edit.{HasSortedIndex, IsAt, short_nodes}
+use Rattle.index_store.specs.Edit.{HasSortedIndex, IsAt, short_nodes}
 use Rattle.index_store.specs.IndexRecords.{index_record_on}
 use Rattle.dir_index.specs.Replaced.{HasSwapped, ReplacesItem}
 use Rattle.dir_index.proofs.HeldIndex.{has_sorted, items_swapped}

@@ -1,7 +1,7 @@
 use Rattle.std.proofs.Common.{arith}
 use Rattle.ntfs_def.specs.Node.{has_child}
 use Rattle.ntfs_def.specs.declared.index.NodeForm.TheVariants.{Names}
-use Rattle.index_tree.proofs.OwnEntries.{own_whole}
+use Rattle.index_store.proofs.OwnEntries.{own_whole}
 use Rattle.dir_index.proofs.link.key_in.Goals as goal
 
 pub u16_at-requires : goal.u16_at-requires

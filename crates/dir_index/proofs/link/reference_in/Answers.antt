@@ -2,7 +2,7 @@ use Rattle.std.proofs.Common.{sym, ◌∙◌, arith}
 use Rattle.ntfs_def.specs.Node.{has_child, item_at}
 use Rattle.ntfs_def.specs.declared.index.NodeForm.TheVariants.{Names}
 use Rattle.index_node.proofs.NodeLaws.{u64_within}
-use Rattle.index_tree.proofs.OwnEntries.{own_whole}
+use Rattle.index_store.proofs.OwnEntries.{own_whole}
 use Rattle.dir_index.proofs.link.reference_in.Goals as goal
 
 pub u64_at-requires : goal.u64_at-requires

@@ -6,10 +6,10 @@ use Rattle.ntfs_def.specs.declared.index.NodeForm.{NodeForm}
 use Rattle.ntfs_def.specs.declared.index.NodeForm.TheVariants.{Names}
 use Rattle.volume_def.specs.IndexesClause.{IndexParts}
 use Rattle.index_node.specs.EditBlocks.{Edits}
-use Rattle.index_tree.specs.Index.{form_of, order_of}
-use Rattle.index_tree.specs.Replace.{Replaces}
-use Rattle.mft_table.specs.Mft.{view}
-use Rattle.file_record.specs.declared.parts.FileParts.{FileParts}
+use Rattle.index_store.specs.IndexTreeIndex.{form_of, order_of}
+use Rattle.index_store.specs.Replace.{Replaces}
+use Rattle.index_store.specs.Mft.{view}
+use Rattle.index_store.specs.FileParts.{FileParts}
 use Rattle.index_store.specs.declared.index.FoundIndex.{FoundIndex}
 use Rattle.index_store.specs.Index.{index_held}
 use Rattle.index_store.specs.IndexBlocks.{told_records}

@@ -2,9 +2,9 @@ use Rattle.std.proofs.Common.{◌+◌, ◌*◌, ◌<◌, sym, subst, arith, rule
 use Rattle.std.specs.Prelude.{IsTrue}
 use Rattle.volume_def.specs.Table.{cluster_bytes}
 use Rattle.volume_def.specs.View.{VolumeView}
-use Rattle.mft_table.specs.Mft.{fetched_of, view}
-use Rattle.mft_table.proofs.StreamReads.{MftReads-then, MftReads-within}
-use Rattle.file_record.proofs.ReadLaws.{view-kept}
+use Rattle.index_store.specs.Mft.{fetched_of, view}
+use Rattle.index_store.proofs.StreamReads.{MftReads-then, MftReads-within}
+use Rattle.index_store.proofs.ReadLaws.{view-kept}
 use Rattle.list_laws.proofs.OptionLaws.{ok-weaker}
 use Rattle.ntfs_def.specs.KeyOrder.{fold_of}
 use Rattle.index_store.specs.IndexBlocks.{records_found}

@@ -1,4 +1,4 @@
-use Rattle.mft_table.specs.Mft.{view}
+use Rattle.index_store.specs.Mft.{view}
 use Rattle.dir_index.proofs.HeldDirectory.{has-index}
 use Rattle.dir_index.proofs.search.find_link.Goals as goal
 

@@ -2,11 +2,11 @@ use Rattle.std.proofs.Common.{◌≡◌, ◌+◌, ap, ◌∙◌, subst, arith}
 use Rattle.std.specs.Prelude.{IsTrue}
 use Rattle.volume_def.specs.View.{VolumeView}
 use Rattle.list_laws.proofs.OptionLaws.{ok-weaker}
-use Rattle.mft_table.specs.Mft.{view}
-use Rattle.mft_table.proofs.StreamReads.{MftReads-then}
+use Rattle.index_store.specs.Mft.{view}
+use Rattle.index_store.proofs.StreamReads.{MftReads-then}
 use Rattle.tree_model.specs.Reading.{directory_links}
-use Rattle.file_record.specs.Held.{file_number}
-use Rattle.file_record.proofs.ReadLaws.{view-kept}
+use Rattle.index_store.specs.Held.{file_number}
+use Rattle.index_store.proofs.ReadLaws.{view-kept}
 use Rattle.dir_index.proofs.HeldDirectory.{is-loaded}
 use Rattle.dir_index.proofs.search.list.Goals as goal
 

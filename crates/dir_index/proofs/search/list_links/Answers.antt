@@ -1,6 +1,6 @@
 use Rattle.std.proofs.Common.{ap, sym, ◌∙◌, arith}
 use Rattle.std.specs.List.{filter_map}
-use Rattle.mft_table.specs.Mft.{view}
+use Rattle.index_store.specs.Mft.{view}
 use Rattle.list_laws.proofs.OptionLaws.{ok-weaker}
 use Rattle.dir_index.specs.Links.{link_in}
 use Rattle.dir_index.proofs.HeldDirectory.{can-walk, has-index, walk-said}

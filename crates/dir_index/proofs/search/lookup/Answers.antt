@@ -4,13 +4,13 @@ use Rattle.volume_def.specs.CaseClause.{volume_fold}
 use Rattle.volume_def.specs.IndexesClause.{IsDirectoryIndex}
 use Rattle.volume_def.specs.View.{VolumeView}
 use Rattle.list_laws.proofs.OptionLaws.{ok-weaker}
-use Rattle.mft_table.specs.Mft.{MftReads, view}
-use Rattle.mft_table.proofs.StreamReads.{MftReads-less, MftReads-then}
+use Rattle.index_store.specs.Mft.{MftReads, view}
+use Rattle.index_store.proofs.StreamReads.{MftReads-less, MftReads-then}
 use Rattle.tree_model.specs.Reading.{directory_links}
 use Rattle.tree_model.specs.Tree.{sought_link}
-use Rattle.file_record.specs.Held.{file_number}
-use Rattle.file_record.specs.Records.{file_reads}
-use Rattle.file_record.proofs.ReadLaws.{view-kept}
+use Rattle.index_store.specs.Held.{file_number}
+use Rattle.index_store.specs.Records.{file_reads}
+use Rattle.index_store.proofs.ReadLaws.{view-kept}
 use Rattle.dir_index.proofs.HeldDirectory.{is-loaded}
 use Rattle.dir_index.proofs.search.lookup.Goals as goal
 

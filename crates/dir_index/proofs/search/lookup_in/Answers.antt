@@ -1,6 +1,6 @@
 use Rattle.std.proofs.Common.{sym, ap, subst, ◌∙◌}
-use Rattle.mft_table.specs.declared.mounted.Mounted.{Mounted}
-use Rattle.mft_table.specs.Mft.{view}
+use Rattle.index_store.specs.MountedType.{Mounted}
+use Rattle.index_store.specs.Mft.{view}
 use Rattle.dir_index.specs.Held.{IsHeldDirectory}
 use Rattle.dir_index.proofs.search.lookup_in.Goals as goal
 

@@ -9,14 +9,14 @@ use Rattle.volume_def.specs.Files.{content_value, parts, records_of}
 use Rattle.volume_def.specs.Readable.{IsFile}
 use Rattle.volume_def.specs.View.{VolumeView}
 use Rattle.vol_stage.specs.Staged.{places}
-use Rattle.mft_table.specs.declared.mounted.Mounted.{Mounted}
-use Rattle.mft_table.specs.Mft.{MftStages, stage_of, view}
-use Rattle.mft_table.specs.Mounted.{mounted_layout}
-use Rattle.mft_table.specs.Staging.{record_places}
-use Rattle.file_record.specs.Held.{held_of, parts_held}
-use Rattle.file_record.specs.Records.{IsRecordOf}
-use Rattle.file_record.specs.Written.{IsWholeFile, PartHeld, WritesBytes}
-use Rattle.file_record.proofs.ReadLaws.{view-kept}
+use Rattle.index_store.specs.MountedType.{Mounted}
+use Rattle.index_store.specs.Mft.{MftStages, stage_of, view}
+use Rattle.index_store.specs.Mounted.{mounted_layout}
+use Rattle.index_store.specs.Staging.{record_places}
+use Rattle.index_store.specs.Held.{held_of, parts_held}
+use Rattle.index_store.specs.Records.{IsRecordOf}
+use Rattle.index_store.specs.FileRecordWritten.{IsWholeFile, PartHeld, WritesBytes}
+use Rattle.index_store.proofs.ReadLaws.{view-kept}
 use Rattle.dir_index.specs.Standard.{IsTooShort, TellsNodeAt}
 use Rattle.dir_index.proofs.StandardLaws.{at-among, holder-own, reads-stage, standard-first, standard-found}
 use Rattle.dir_index.proofs.standard.set_node.Goals as goal

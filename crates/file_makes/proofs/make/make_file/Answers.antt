@@ -8,7 +8,7 @@ use Rattle.mft_table.specs.Mft.{mounted_of, view}
 use Rattle.mft_table.specs.MirrorClusters.{IsMirrorInside}
 use Rattle.file_record.proofs.ReadLaws.{view-kept}
 use Rattle.made_edits.specs.Comes.{ComesUnder, new_reference}
-use Rattle.file_makes.specs.Under.{HasRowRoom, MayMake}
+use Rattle.file_makes.specs.Under.{HasRecordRoom, MayMake}
 use Rattle.file_makes.proofs.MakeLaws.{device-twice, free-there, mounted-twice, plain-new, staged-twice, view-twice}
 use Rattle.file_makes.proofs.RecordSteps.{least-once}
 use Rattle.file_makes.proofs.make.make_file.Goals as goal
@@ -56,19 +56,19 @@ make_named-requires-clause-may g c told_then =
       can = can.1;
       moment = c.args.moment;
       new_key = new_key;
-      room = c.requires.room told key new_key;
+      room = c.requires.room told;
     }))
 
-pub make_named-requires-clause-row : goal.make_named-requires-clause-row
-make_named-requires-clause-row g c told_then n least =
+pub make_named-requires-clause-record_bit : goal.make_named-requires-clause-record_bit
+make_named-requires-clause-record_bit g c told_then n least =
     let old = view g.D.Disk c.args.mft.now in
     let same = view-twice g.D.Disk c.args.mft.now c.reference_of.new.mft c.next_reference.new.mft 20678 2 c.in_ok-parent.ensures.reads
     c.in_ok-file.ensures.reads in
     let told : IsTrue old.told = subst (λ (v : VolumeView). IsTrue v.told) same told_then in
     let mounted = mounted-twice g.D.Disk c.args.mft.now c.reference_of.new.mft c.next_reference.new.mft 20678 2 c.in_ok-parent.ensures.reads
     c.in_ok-file.ensures.reads in
-    subst (λ (v : VolumeView). HasRowRoom v n) (sym same)
-    (c.requires.row told n (subst (λ (m : Mounted). IsLeastFree m.records n) mounted least))
+    subst (λ (v : VolumeView). HasRecordRoom v n) (sym same)
+    (c.requires.record_bit told n (subst (λ (m : Mounted). IsLeastFree m.records n) mounted least))
 
 pub returns-in_err-made-clause-places : goal.returns-in_err-made-clause-places
 returns-in_err-made-clause-places g c told n least =

@@ -14,7 +14,7 @@ pub put_under-requires-clause-may : goal.put_under-requires-clause-may
 put_under-requires-clause-may g c told_then =
     let old = view g.D.Disk c.args.mft.now in
     let told = subst IsTrue c.make_flagged.ensures.device.goes_on.told_image told_then in
-    let row = c.requires.row told c.in_ok-made.made c.in_ok-made.ensures.least in
+    let row = c.requires.record_bit told c.in_ok-made.made c.in_ok-made.ensures.least in
     let was = mounted_of g.D.Disk c.args.mft.now in
     let now = mounted_of g.D.Disk c.make_flagged.new.mft in
     may-enter old (view g.D.Disk c.make_flagged.new.mft) was now c.in_ok-made.made c.args.dir c.args.standard.now c.args.key.now
@@ -27,7 +27,7 @@ pub returns-in_err-put_under-clause-places : goal.returns-in_err-put_under-claus
 returns-in_err-put_under-clause-places g c told n least =
     let old = view g.D.Disk c.args.mft.now in
     let counted = view g.D.Disk c.make_flagged.new.mft in
-    let row = c.requires.row told c.in_ok-made.made c.in_ok-made.ensures.least in
+    let row = c.requires.record_bit told c.in_ok-made.made c.in_ok-made.ensures.least in
     let was = mounted_of g.D.Disk c.args.mft.now in
     let now = mounted_of g.D.Disk c.make_flagged.new.mft in
     let comes = flagged-named old counted was now c.in_ok-made.made c.args.standard.now c.args.key.now c.in_ok-made.ensures.least.free
@@ -44,7 +44,7 @@ pub returns-clause-made : goal.returns-clause-made
 returns-clause-made g c told reference =
     let old = view g.D.Disk c.args.mft.now in
     let counted = view g.D.Disk c.make_flagged.new.mft in
-    let row = c.requires.row told c.in_ok-made.made c.in_ok-made.ensures.least in
+    let row = c.requires.record_bit told c.in_ok-made.made c.in_ok-made.ensures.least in
     let was = mounted_of g.D.Disk c.args.mft.now in
     let now = mounted_of g.D.Disk c.put_under.new.mft in
     let told_then = subst IsTrue (sym c.make_flagged.ensures.device.goes_on.told_image) told in
@@ -58,7 +58,7 @@ pub returns-clause-places : goal.returns-clause-places
 returns-clause-places g c told n least =
     let old = view g.D.Disk c.args.mft.now in
     let counted = view g.D.Disk c.make_flagged.new.mft in
-    let row = c.requires.row told c.in_ok-made.made c.in_ok-made.ensures.least in
+    let row = c.requires.record_bit told c.in_ok-made.made c.in_ok-made.ensures.least in
     let was = mounted_of g.D.Disk c.args.mft.now in
     let now = mounted_of g.D.Disk c.make_flagged.new.mft in
     let comes = flagged-named old counted was now c.in_ok-made.made c.args.standard.now c.args.key.now c.in_ok-made.ensures.least.free

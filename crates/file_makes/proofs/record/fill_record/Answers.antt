@@ -1,10 +1,37 @@
-use Rattle.std.proofs.Common.{ap, ◌∙◌}
+use Rattle.std.proofs.Common.{◌+◌, ℕ, List, length, arith, ap, sym, subst, ◌∙◌}
+use Rattle.mft_table.specs.MirrorClusters.{IsMirrorInside}
 use Rattle.std.proofs.lemmas.Result.{on_ok_weaker}
 use Rattle.mft_table.specs.Mft.{stage_of, view}
 use Rattle.mft_table.specs.Mounted.{mounted_layout}
 use Rattle.file_record.specs.Held.{file_number}
-use Rattle.file_makes.proofs.RecordSteps.{record-filled, staged-then}
+use Rattle.file_makes.proofs.RecordSteps.{base-held, new-used, record-filled, staged-then}
 use Rattle.file_makes.proofs.record.fill_record.Goals as goal
+
+pub put_second-requires-clause-room : goal.put_second-requires-clause-room
+put_second-requires-clause-room g c =
+    let len = ap (λ (bytes : List ℕ). length bytes) c.deref.ensures.value ∙ c.in_ok-stream.ensures.len in
+    record { used = 160; has = new-used c.args.file.now c.requires.new; fits = omega (arith, len) }
+
+pub put_second-requires-2-clause-room : goal.put_second-requires-2-clause-room
+put_second-requires-2-clause-room g c =
+    let first = ap (λ (bytes : List ℕ). length bytes) c.deref.ensures.value ∙ c.in_ok-stream.ensures.len in
+    let len = ap (λ (bytes : List ℕ). length bytes) c.deref-2.ensures.value ∙ c.in_ok-name.ensures.len in
+    let few = c.requires.key in
+    record {
+      used = 160 + length c.deref.result.now;
+      has = c.in_ok-put_second.ensures.used 160 (new-used c.args.file.now c.requires.new);
+      fits = omega (arith, first, len, few);
+    }
+
+pub count_one-requires-clause-base : goal.count_one-requires-clause-base
+count_one-requires-clause-base g c =
+    base-held c.put_second-2.new.file (160 + length c.deref.result.now + length c.deref-2.result.now)
+    (c.in_ok-put_second-2.ensures.used (160 + length c.deref.result.now)
+    (c.in_ok-put_second.ensures.used 160 (new-used c.args.file.now c.requires.new)))
+
+pub count_one-requires-clause-mirror : goal.count_one-requires-clause-mirror
+count_one-requires-clause-mirror g c =
+    subst IsMirrorInside (sym (c.put_second-2.ensures.disk.mounted ∙ c.put_second.ensures.disk.mounted)) c.requires.mirror
 
 pub returns-in_err-put_second-2-clause-places : goal.returns-in_err-put_second-2-clause-places
 returns-in_err-put_second-2-clause-places g c =

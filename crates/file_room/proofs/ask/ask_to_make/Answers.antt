@@ -1,7 +1,7 @@
 use Rattle.std.proofs.Common.{Err, [], ◌∷◌, refl, sym, ap, subst, inl, ◌∙◌, arith, false, ◌||◌}
 use Rattle.std.proofs.lemmas.Bool.{le-leb, le-ltb, lt-leb, lt-ltb}
 use Rattle.mft_table.specs.Mft.{view}
-use Rattle.file_record.specs.Held.{file_number}
+use Rattle.tree_read.specs.Held.{file_number}
 use Rattle.tree_model.specs.Bill.{new_file}
 use Rattle.tree_model.specs.declared.reply.No.TheVariants as no
 use Rattle.tree_read.specs.Answered.{Says}

@@ -2,9 +2,9 @@ use Rattle.std.proofs.Common.{◌≡◌, ◌+◌, ◌/◌, length, max, drop, sy
 use Rattle.std.proofs.lemmas.List.{drop_all}
 use Rattle.attr_view.specs.View.{attribute_of}
 use Rattle.volume_def.specs.Files.{part_of}
-use Rattle.file_record.specs.Held.{attributes_held, parts_held}
-use Rattle.file_record.specs.Left.{attributes_left}
-use Rattle.attr_store.proofs.FirstLaws.{AreHeld-at, AreHeld-end, AreHeld-file}
+use Rattle.tree_read.specs.Held.{attributes_held, parts_held}
+use Rattle.tree_read.specs.Left.{attributes_left}
+use Rattle.tree_read.proofs.FirstLaws.{AreHeld-at, AreHeld-end, AreHeld-file}
 use Rattle.file_room.specs.Asked.{list_len_by}
 use Rattle.file_room.proofs.ListLaws.{list-cons, longest_behind, parts-few}
 use Rattle.file_room.proofs.list.list_room.Goals as goal

@@ -1,7 +1,7 @@
 use Rattle.std.proofs.Common.{◌≡◌, ◌+◌, ◌*◌, ◌≤◌, drop}
 use Rattle.volume_def.specs.Room.{longest_name}
-use Rattle.file_record.specs.Held.{attributes_held, parts_held}
-use Rattle.file_record.specs.Left.{attributes_left}
+use Rattle.tree_read.specs.Held.{attributes_held, parts_held}
+use Rattle.tree_read.specs.Left.{attributes_left}
 use Rattle.file_room.specs.Asked.{list_len_by}
 use Rattle.file_room.proofs.ListLaws.{longest_behind}
 use Rattle.file_room.proofs.list.list_room.Given as goal

@@ -5,7 +5,7 @@ use Rattle.list_laws.proofs.OptionLaws.{ok-weaker}
 use Rattle.index_tree.specs.Edit.{EditCostsBelow, HasSorted, short_nodes}
 use Rattle.index_tree.proofs.OrderLaws.{is_order}
 use Rattle.index_tree.proofs.EditSteps.{below, costs, level_more, never_none, node_there, record_there}
-use Rattle.index_puts.specs.LeafRoom.{leaf_under}
+use Rattle.tree_model.specs.LeafRoom.{leaf_under}
 use Rattle.index_puts.proofs.LeafSteps.{way}
 use Rattle.index_puts.proofs.leaf.+leaf_below.Goals as goal
 

@@ -4,7 +4,7 @@ use Rattle.ntfs_def.specs.declared.index.NodeForm.TheVariants.{Names}
 use Rattle.list_laws.proofs.OptionLaws.{ok-weaker}
 use Rattle.index_tree.specs.Edit.{EditCostsBelow, HasSorted, short_nodes}
 use Rattle.index_tree.proofs.OrderLaws.{is_order}
-use Rattle.index_puts.specs.LeafRoom.{leaf_under}
+use Rattle.tree_model.specs.LeafRoom.{leaf_under}
 use Rattle.index_puts.proofs.LeafSteps.{root_below, root_costs, root_some, root_way}
 use Rattle.index_puts.proofs.leaf.find_leaf.Goals as goal
 

@@ -10,12 +10,12 @@ use Rattle.index_node.specs.EditBlocks.{Edits}
 use Rattle.index_tree.specs.Edit.{HasSortedIndex, short_nodes}
 use Rattle.mft_table.specs.Mft.{view}
 use Rattle.file_record.specs.declared.parts.FileParts.{FileParts}
-use Rattle.index_store.specs.declared.index.FoundIndex.{FoundIndex}
-use Rattle.index_store.specs.Index.{index_held}
-use Rattle.index_store.specs.IndexBlocks.{told_records}
-use Rattle.index_store.proofs.ToldLaws.{told-records}
-use Rattle.dir_index.specs.Replaced.{StagesRecords}
-use Rattle.dir_index.proofs.ReplacedRecords.{records-changed}
+use Rattle.entry_edits.specs.FoundIndex.{FoundIndex}
+use Rattle.entry_edits.specs.Index.{index_held}
+use Rattle.entry_edits.specs.IndexBlocks.{told_records}
+use Rattle.entry_edits.proofs.ToldLaws.{told-records}
+use Rattle.entry_edits.specs.Replaced.{StagesRecords}
+use Rattle.entry_edits.proofs.ReplacedRecords.{records-changed}
 use Rattle.index_puts.specs.Leaf.{PutsInto, PutsUnder, room_under}
 use Rattle.index_puts.proofs.put.put_found.Goals as goal
 

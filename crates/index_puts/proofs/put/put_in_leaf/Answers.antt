@@ -8,7 +8,7 @@ use Rattle.index_tree.proofs.OrderLaws.{is_order}
 use Rattle.list_laws.proofs.OptionLaws.{ok-weaker}
 use Rattle.index_puts.specs.declared.leaf.Leaf.{Leaf}
 use Rattle.index_puts.specs.Leaf.{EndsIn, ReadsLeaf, room_under}
-use Rattle.index_puts.specs.LeafRoom.{leaf_of}
+use Rattle.tree_model.specs.LeafRoom.{leaf_of}
 use Rattle.index_puts.proofs.BytesLaws.{key_fits}
 use Rattle.index_puts.proofs.PutSteps.{puts_in}
 use Rattle.index_puts.proofs.RoomLaws.{leaf_fits, leaf_missing}

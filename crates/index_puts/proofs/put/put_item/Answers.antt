@@ -5,7 +5,7 @@ use Rattle.ntfs_def.specs.Node.{item_in, short_node}
 use Rattle.ntfs_def.specs.declared.index.NodeForm.TheVariants.{Names}
 use Rattle.volume_def.specs.Table.{cluster_bytes}
 use Rattle.mft_table.specs.Mft.{view}
-use Rattle.index_store.specs.IndexBlocks.{records_found}
+use Rattle.entry_edits.specs.IndexBlocks.{records_found}
 use Rattle.index_puts.specs.Leaf.{room_under}
 use Rattle.index_puts.proofs.HeldLaws.{fold-is, has-index, has-sorted, same-room}
 use Rattle.index_puts.proofs.PutWhole.{ok-both, puts-item}

@@ -8,7 +8,7 @@ use Rattle.index_tree.specs.Edit.{EditReads, short_nodes}
 use Rattle.mft_table.specs.Mft.{fetched_of, view}
 use Rattle.mft_table.proofs.StreamReads.{MftReads-within}
 use Rattle.list_laws.proofs.OptionLaws.{ok-weaker}
-use Rattle.index_store.specs.IndexBlocks.{records_found}
+use Rattle.entry_edits.specs.IndexBlocks.{records_found}
 use Rattle.index_puts.specs.Held.{IsHeldWith}
 use Rattle.index_puts.specs.Leaf.{room_under}
 use Rattle.index_puts.proofs.HeldLaws.{fold-is, has-index, has-sorted, is-sorted, root-says, same-room}

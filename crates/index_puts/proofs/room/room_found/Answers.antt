@@ -1,9 +1,9 @@
 use Rattle.std.proofs.Common.{rules, arith}
 use Rattle.std.proofs.lemmas.Grind.{common_steps}
 use Rattle.mft_table.specs.Mft.{view}
-use Rattle.index_store.specs.Index.{index_held}
-use Rattle.index_store.specs.IndexBlocks.{records_found}
-use Rattle.index_store.proofs.ToldLaws.{records-told}
+use Rattle.entry_edits.specs.Index.{index_held}
+use Rattle.entry_edits.specs.IndexBlocks.{records_found}
+use Rattle.entry_edits.proofs.ToldLaws.{records-told}
 use Rattle.index_puts.proofs.room.room_found.Goals as goal
 
 pub returns-in-Ok-clause-room : goal.returns-in-Ok-clause-room

@@ -6,7 +6,7 @@ use Rattle.index_tree.specs.Edit.{short_nodes}
 use Rattle.index_tree.proofs.EditMemory.{is_some_of}
 use Rattle.index_puts.specs.declared.leaf.Leaf.{Leaf}
 use Rattle.index_puts.specs.Leaf.{EndsIn, ReadsLeaf}
-use Rattle.index_puts.specs.LeafRoom.{leaf_of}
+use Rattle.tree_model.specs.LeafRoom.{leaf_of}
 use Rattle.index_puts.proofs.RoomLaws.{leaf_room, no_leaf}
 use Rattle.index_puts.proofs.room.room_in_leaf.Goals as goal
 

@@ -1,7 +1,7 @@
 use Rattle.std.proofs.Common.{subst, arith}
 use Rattle.ntfs_def.specs.declared.kinds.TheConstants.{BITMAP}
 use Rattle.volume_def.specs.Values.{value_on}
-use Rattle.mft_table.specs.Mft.{view}
+use Rattle.attr_store.specs.Mft.{view}
 use Rattle.attr_store.specs.First.{IsStoredIfThere, attribute_held}
 use Rattle.attr_store.proofs.StoredLaws.{stored-length, stored-within}
 use Rattle.list_laws.proofs.BitLaws.{bit-behind}

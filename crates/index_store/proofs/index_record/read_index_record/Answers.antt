@@ -7,9 +7,9 @@ use Rattle.volume_def.specs.Readable.{IsFile, WhereReadable}
 use Rattle.volume_def.specs.Table.{cluster_bytes}
 use Rattle.volume_def.specs.Values.{value_on}
 use Rattle.volume_def.specs.View.{VolumeView}
-use Rattle.mft_table.specs.Mft.{view}
-use Rattle.file_record.specs.Held.{AreParts, file_number}
-use Rattle.file_record.proofs.ReadLaws.{view-kept}
+use Rattle.attr_store.specs.Mft.{view}
+use Rattle.attr_store.specs.Held.{AreParts, file_number}
+use Rattle.attr_store.proofs.ReadLaws.{view-kept}
 use Rattle.attr_store.specs.First.{IsStored, IsStoredIfThere, attribute_held}
 use Rattle.attr_store.proofs.StoredLaws.{stored-length, stored-stream, stored-within}
 use Rattle.index_store.specs.Index.{index_held}

@@ -3,7 +3,7 @@ use Rattle.std.specs.Prelude.{slice_range}
 use Rattle.ntfs_def.specs.declared.kinds.TheConstants.{INDEX_ALLOCATION}
 use Rattle.volume_def.specs.Table.{cluster_bytes}
 use Rattle.volume_def.specs.Values.{value_on}
-use Rattle.mft_table.specs.Mft.{view}
+use Rattle.attr_store.specs.Mft.{view}
 use Rattle.attr_store.specs.First.{IsStoredIfThere, attribute_held}
 use Rattle.attr_store.proofs.StoredLaws.{stored-length, stored-within}
 use Rattle.index_store.specs.Index.{index_held}

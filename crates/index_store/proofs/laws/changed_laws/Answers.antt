@@ -1,5 +1,5 @@
-use Rattle.volume_edits.proofs.ChangedStream.{clusters-kept}
-use Rattle.file_record.proofs.HeldKept.{held-kept}
+use Rattle.attr_store.proofs.ChangedStream.{clusters-kept}
+use Rattle.attr_store.proofs.HeldKept.{held-kept}
 use Rattle.index_store.proofs.laws.changed_laws.Goals as goal
 
 pub returns-clause-held : goal.returns-clause-held

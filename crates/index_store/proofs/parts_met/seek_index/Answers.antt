@@ -1,8 +1,8 @@
 use Rattle.std.proofs.Common.{◌+◌, drop, refl, sym, subst, ◌∙◌}
 use Rattle.ntfs_def.specs.declared.kinds.TheConstants.{BITMAP, INDEX_ALLOCATION}
 use Rattle.attr_view.specs.View.{attribute_of}
-use Rattle.file_record.specs.Held.{attributes_held, parts_held}
-use Rattle.file_record.specs.Left.{attributes_left}
+use Rattle.attr_store.specs.Held.{attributes_held, parts_held}
+use Rattle.attr_store.specs.Left.{attributes_left}
 use Rattle.attr_store.proofs.FirstLaws.{AreHeld-at, AreHeld-end, AreHeld-file, sought-first}
 use Rattle.index_store.specs.PartsMet.{ArePartsMet}
 use Rattle.index_store.proofs.parts_met.seek_index.Goals as goal

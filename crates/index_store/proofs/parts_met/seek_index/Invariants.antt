@@ -1,6 +1,6 @@
 use Rattle.std.proofs.Common.{◌≡◌, drop}
-use Rattle.file_record.specs.Held.{attributes_held, parts_held}
-use Rattle.file_record.specs.Left.{attributes_left}
+use Rattle.attr_store.specs.Held.{attributes_held, parts_held}
+use Rattle.attr_store.specs.Left.{attributes_left}
 use Rattle.index_store.specs.PartsMet.{ArePartsMet}
 use Rattle.index_store.proofs.parts_met.seek_index.Given as goal
 

@@ -3,9 +3,9 @@ use Rattle.std.proofs.lemmas.Result.{on_ok_weaker}
 use Rattle.ntfs_def.specs.declared.kinds.TheConstants.{INDEX_ALLOCATION}
 use Rattle.volume_def.specs.Table.{cluster_bytes}
 use Rattle.volume_def.specs.Values.{spot_at}
-use Rattle.volume_edits.specs.Clusters.{IsWritable, WritesStream, stream_sectors}
+use Rattle.attr_store.specs.Clusters.{IsWritable, WritesStream, stream_sectors}
 use Rattle.vol_stage.specs.Staged.{StagesOnly}
-use Rattle.mft_table.specs.Mft.{stage_of, view}
+use Rattle.attr_store.specs.Mft.{stage_of, view}
 use Rattle.attr_store.specs.First.{IsStoredIfThere, attribute_held}
 use Rattle.attr_store.proofs.StoredLaws.{stored-length, stored-within}
 use Rattle.index_store.specs.Index.{index_held}

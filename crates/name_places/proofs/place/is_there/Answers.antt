@@ -1,6 +1,6 @@
 use Rattle.std.proofs.Common.{ap, is_some, ◌∙◌}
 use Rattle.mft_table.specs.Mft.{mounted_of, view}
-use Rattle.dir_index.proofs.HeldDirectory.{is-held}
+use Rattle.tree_read.proofs.HeldDirectory.{is-held}
 use Rattle.tree_read.specs.Nodes.{number_of}
 use Rattle.name_places.proofs.PlaceLaws.{sought-there}
 use Rattle.name_places.proofs.place.is_there.Goals as goal

@@ -7,7 +7,7 @@ use Rattle.volume_def.specs.Coverage.{IsApart}
 use Rattle.volume_def.specs.View.{VolumeView}
 use Rattle.volume_edits.specs.Clusters.{IsOwnStream, WritesStream, stream_place}
 use Rattle.mft_table.specs.Mft.{view}
-use Rattle.file_record.proofs.ReadLaws.{view-kept}
+use Rattle.sparse_io.proofs.ReadLaws.{view-kept}
 use Rattle.sparse_io.specs.Overwritten.{touched_sectors}
 use Rattle.sparse_io.proofs.PatchLaws.{patched-named, place-patched}
 use Rattle.record_bits.proofs.RaisedBit.{bit-raised}

@@ -1,6 +1,6 @@
 use Rattle.std.proofs.Common.{[], ◌∷◌, arith}
-use Rattle.attr_store.proofs.PutLaws.{put-inside}
-use Rattle.attr_store.proofs.StageLaws.{MftStages-more, MftStages-none, WritesStream-put}
+use Rattle.sparse_io.proofs.PutLaws.{put-inside}
+use Rattle.sparse_io.proofs.StageLaws.{MftStages-more, MftStages-none, WritesStream-put}
 use Rattle.record_bits.proofs.sector.put_sector.Goals as goal
 
 pub returns-then-sector-sectors-clause-written : goal.returns-then-sector-sectors-clause-written

@@ -1,6 +1,6 @@
 use Rattle.std.proofs.Common.{ℕ, List, [], ◌∷◌, subst, inl, inr, arith}
 use Rattle.std.specs.Prelude.{Contains}
-use Rattle.attr_store.proofs.StageLaws.{AtMost, AtMost-reserved}
+use Rattle.sparse_io.proofs.StageLaws.{AtMost, AtMost-reserved}
 use Rattle.record_bits.proofs.sector.stage_sector.Goals as goal
 
 pub returns-in-Ok-clause-places : goal.returns-in-Ok-clause-places

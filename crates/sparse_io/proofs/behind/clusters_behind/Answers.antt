@@ -7,7 +7,7 @@ use Rattle.ntfs_def.specs.Rounded.{clusters_for}
 use Rattle.volume_def.specs.Files.{Part, part_clusters}
 use Rattle.volume_def.specs.Table.{cluster_bytes}
 use Rattle.volume_def.specs.Values.{spot_at}
-use Rattle.file_record.specs.Held.{file_number}
+use Rattle.attr_store.specs.Held.{file_number}
 use Rattle.attr_store.proofs.Found.{among-place}
 use Rattle.sparse_io.specs.Behind.{TellsBehind, len_inside}
 use Rattle.sparse_io.proofs.BehindLaws.{alone-is, content, covers, from-first, not-touched, not-value, not-written, tells-inside}

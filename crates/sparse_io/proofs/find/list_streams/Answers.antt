@@ -1,5 +1,5 @@
 use Rattle.std.proofs.Common.{◌≡◌, ◌++◌, append-nil, length, map, sym, ap, ◌∙◌, arith}
-use Rattle.file_record.specs.Held.{parts_held}
+use Rattle.attr_store.specs.Held.{parts_held}
 use Rattle.sparse_io.specs.Held.{streams_held}
 use Rattle.sparse_io.proofs.KeptLaws.{keeps-streams, list-kept, shown_kept}
 use Rattle.std.proofs.lemmas.List.{nil_from_length}

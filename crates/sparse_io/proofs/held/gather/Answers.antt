@@ -1,8 +1,8 @@
 use Rattle.std.proofs.Common.{◌++◌, ◌+◌, [], ◌∷◌, drop, append-nil, sym, ap, ◌∙◌}
 use Rattle.attr_view.specs.View.{attribute_of}
 use Rattle.volume_def.specs.Files.{part_of}
-use Rattle.file_record.specs.Held.{attributes_held, parts_held}
-use Rattle.file_record.specs.Left.{attributes_left}
+use Rattle.attr_store.specs.Held.{attributes_held, parts_held}
+use Rattle.attr_store.specs.Left.{attributes_left}
 use Rattle.attr_store.proofs.FirstLaws.{AreHeld-at, AreHeld-end, AreHeld-file}
 use Rattle.sparse_io.specs.Held.{kept_from}
 use Rattle.sparse_io.proofs.KeptLaws.{kept-none, kept-one}

@@ -1,6 +1,6 @@
 use Rattle.std.proofs.Common.{◌≡◌, ◌++◌, drop}
-use Rattle.file_record.specs.Held.{attributes_held, parts_held}
-use Rattle.file_record.specs.Left.{attributes_left}
+use Rattle.attr_store.specs.Held.{attributes_held, parts_held}
+use Rattle.attr_store.specs.Left.{attributes_left}
 use Rattle.sparse_io.specs.Held.{kept_from}
 use Rattle.sparse_io.proofs.held.gather.Given as goal
 

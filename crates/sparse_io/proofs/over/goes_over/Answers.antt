@@ -7,7 +7,7 @@ use Rattle.ntfs_def.specs.declared.sizes.Sizes.{Sizes}
 use Rattle.volume_def.specs.Files.{content_of}
 use Rattle.volume_def.specs.StreamSize.{real_size}
 use Rattle.volume_def.specs.Table.{cluster_bytes}
-use Rattle.file_record.specs.Held.{file_number}
+use Rattle.attr_store.specs.Held.{file_number}
 use Rattle.attr_store.proofs.Found.{among-place}
 use Rattle.sparse_io.proofs.OverLaws.{attribute-like, body-extent, body-value, placed-over, real-over, value-over, written-over}
 use Rattle.sparse_io.proofs.over.goes_over.Goals as goal

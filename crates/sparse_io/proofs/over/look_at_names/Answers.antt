@@ -3,7 +3,7 @@ use Rattle.std.specs.Prelude.{Contains, slice_index}
 use Rattle.ntfs_def.specs.Attribute.{Attribute}
 use Rattle.list_laws.proofs.MemberLaws.{Contains-cases, Contains-nil}
 use Rattle.attr_view.specs.View.{attribute_of}
-use Rattle.file_record.specs.Left.{attributes_left}
+use Rattle.attr_store.specs.Left.{attributes_left}
 use Rattle.sparse_io.proofs.NamesApart.{part-attribute, parts-even}
 use Rattle.sparse_io.proofs.over.look_at_names.Goals as goal
 

@@ -1,8 +1,8 @@
 use Rattle.std.proofs.Common.{ℕ, ◌<◌, length}
 use Rattle.std.specs.Prelude.{◌⊎◌, Contains, slice_index}
 use Rattle.ntfs_def.specs.Attribute.{Attribute}
-use Rattle.file_record.specs.Held.{attributes_held}
-use Rattle.file_record.specs.Left.{attributes_left}
+use Rattle.attr_store.specs.Held.{attributes_held}
+use Rattle.attr_store.specs.Left.{attributes_left}
 use Rattle.sparse_io.proofs.over.look_at_names.Given as goal
 
 -- those that were passed over have bytes

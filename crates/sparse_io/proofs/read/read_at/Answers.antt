@@ -2,10 +2,10 @@ use Rattle.std.proofs.Common.{◌≡◌, ◌+◌, ◌-◌, ℕ, false, min, List
 use Rattle.std.specs.Prelude.{IfNone, IfSome, IsTrue}
 use Rattle.volume_def.specs.Readable.{IsFile}
 use Rattle.volume_def.specs.Values.{pieces_touched}
-use Rattle.mft_table.specs.Mft.{view}
-use Rattle.file_record.proofs.ReadLaws.{view-kept}
-use Rattle.file_record.specs.Held.{AreParts, file_number}
-use Rattle.mft_table.proofs.StreamReads.{MftReads-then}
+use Rattle.attr_store.specs.Mft.{view}
+use Rattle.attr_store.proofs.ReadLaws.{view-kept}
+use Rattle.attr_store.specs.Held.{AreParts, file_number}
+use Rattle.attr_store.proofs.StreamReads.{MftReads-then}
 use Rattle.attr_store.proofs.Spanned.{touched-le}
 use Rattle.tree_model.specs.Answers.{bytes_of, range_of}
 use Rattle.tree_model.specs.Cases.{is_packed}

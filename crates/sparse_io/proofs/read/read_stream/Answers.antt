@@ -1,6 +1,6 @@
 use Rattle.std.proofs.Common.{◌++◌, drop, length, take, sym, ap, ◌∙◌}
 use Rattle.std.proofs.Math.Seq.{take-append_seam}
-use Rattle.mft_table.specs.Mft.{view}
+use Rattle.attr_store.specs.Mft.{view}
 use Rattle.sparse_io.proofs.KeptLaws.{read-range}
 use Rattle.sparse_io.proofs.read.read_stream.Goals as goal
 

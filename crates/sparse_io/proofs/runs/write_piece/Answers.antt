@@ -2,8 +2,8 @@ use Rattle.std.proofs.Common.{◌≡◌, ◌/◌, ◌%◌, ℕ, length, refl, sy
 use Rattle.std.proofs.lemmas.Result.{on_ok_weaker}
 use Rattle.ntfs_def.specs.Runs.{spot_of}
 use Rattle.ntfs_def.specs.declared.run_text.Spot.TheVariants.{At, Hole, Outside}
-use Rattle.mft_table.specs.Mft.{stage_of, view}
-use Rattle.mft_table.proofs.DiskKept.{KeepsDisk-same}
+use Rattle.attr_store.specs.Mft.{stage_of, view}
+use Rattle.attr_store.proofs.DiskKept.{KeepsDisk-same}
 use Rattle.attr_store.proofs.StageLaws.{StagesOnly-none}
 use Rattle.sparse_io.specs.Overwritten.{touched_sectors}
 use Rattle.sparse_io.proofs.runs.write_piece.Goals as goal

@@ -4,9 +4,9 @@ use Rattle.std.proofs.lemmas.List.{take_all}
 use Rattle.ntfs_def.specs.Runs.{spot_of}
 use Rattle.vol_stage.specs.Staged.{places}
 use Rattle.volume_edits.proofs.ClusterWrites.{WritesStream-none}
-use Rattle.mft_table.specs.Mft.{stage_of, view}
-use Rattle.mft_table.specs.Mounted.{mounted_layout}
-use Rattle.mft_table.proofs.DiskKept.{KeepsDisk-same, KeepsDisk-then}
+use Rattle.attr_store.specs.Mft.{stage_of, view}
+use Rattle.attr_store.specs.Mounted.{mounted_layout}
+use Rattle.attr_store.proofs.DiskKept.{KeepsDisk-same, KeepsDisk-then}
 use Rattle.attr_store.proofs.StageLaws.{StagesOnly-none}
 use Rattle.sparse_io.proofs.RunWrites.{WritesPlaced, next-few, next-seam, slice-piece, staged-next, touched-few, written-next}
 use Rattle.sparse_io.proofs.runs.write_runs.Goals as goal

@@ -2,8 +2,8 @@ use Rattle.std.proofs.Common.{◌≡◌, ◌+◌, ◌-◌, ◌≤◌, length, ta
 use Rattle.ntfs_def.specs.Runs.{spot_of}
 use Rattle.vol_stage.specs.Staged.{StagesOnly, places}
 use Rattle.volume_def.specs.Values.{pieces_touched}
-use Rattle.mft_table.specs.Mft.{KeepsDisk, faults_of, stage_of, view}
-use Rattle.mft_table.specs.Streams.{IsSeam}
+use Rattle.attr_store.specs.Mft.{KeepsDisk, faults_of, stage_of, view}
+use Rattle.attr_store.specs.Streams.{IsSeam}
 use Rattle.sparse_io.specs.Overwritten.{touched_sectors}
 use Rattle.sparse_io.proofs.RunWrites.{WritesPlaced}
 use Rattle.sparse_io.proofs.runs.write_runs.Given as goal

@@ -5,9 +5,9 @@ use Rattle.attr_view.specs.View.{attribute_of}
 use Rattle.ntfs_def.specs.declared.kinds.TheConstants.{DATA}
 use Rattle.volume_def.specs.Files.{parts_at}
 use Rattle.volume_def.specs.Values.{spot_at}
-use Rattle.mft_table.specs.Mft.{stage_of, view}
-use Rattle.mft_table.specs.Mounted.{mounted_layout}
-use Rattle.file_record.specs.Held.{file_number}
+use Rattle.attr_store.specs.Mft.{stage_of, view}
+use Rattle.attr_store.specs.Mounted.{mounted_layout}
+use Rattle.attr_store.specs.Held.{file_number}
 use Rattle.attr_store.proofs.Found.{among-place}
 use Rattle.attr_store.specs.Sought.{parts_held_like}
 use Rattle.sparse_io.proofs.OverwriteLaws.{found-like, found-like_attribute, pieces-written, staged-first, staged-piece}

@@ -5,8 +5,8 @@ use Rattle.ntfs_def.specs.declared.run_text.Spot.TheVariants.{At, Hole, Outside}
 use Rattle.attr_view.specs.View.{attribute_of}
 use Rattle.volume_def.specs.Table.{cluster_bytes}
 use Rattle.volume_def.specs.Values.{spot_at}
-use Rattle.mft_table.specs.Mft.{stage_of, view}
-use Rattle.mft_table.proofs.DiskKept.{KeepsDisk-same}
+use Rattle.attr_store.specs.Mft.{stage_of, view}
+use Rattle.attr_store.proofs.DiskKept.{KeepsDisk-same}
 use Rattle.attr_store.specs.Sought.{parts_held_like}
 use Rattle.attr_store.proofs.StageLaws.{StagesOnly-none}
 use Rattle.sparse_io.specs.Overwritten.{touched_sectors}

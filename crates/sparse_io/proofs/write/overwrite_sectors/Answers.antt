@@ -6,8 +6,8 @@ use Rattle.volume_def.specs.Files.{Part, parts_at}
 use Rattle.volume_def.specs.Values.{spot_at}
 use Rattle.vol_stage.specs.Staged.{StagesOnly}
 use Rattle.volume_edits.specs.Clusters.{IsWritable, WritesStream, stream_sectors}
-use Rattle.mft_table.specs.Mft.{stage_of, view}
-use Rattle.file_record.specs.Held.{file_number}
+use Rattle.attr_store.specs.Mft.{stage_of, view}
+use Rattle.attr_store.specs.Held.{file_number}
 use Rattle.sparse_io.specs.Overwritten.{touched_sectors}
 use Rattle.sparse_io.proofs.OverwriteLaws.{found-parts, found-stored, only-more, whole-touched}
 use Rattle.sparse_io.proofs.write.overwrite_sectors.Goals as goal

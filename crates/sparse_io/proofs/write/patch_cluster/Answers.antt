@@ -6,8 +6,8 @@ use Rattle.ntfs_def.specs.declared.run_text.Spot.{Spot}
 use Rattle.volume_def.specs.Coverage.{IsApart}
 use Rattle.volume_def.specs.View.{VolumeView}
 use Rattle.volume_edits.specs.Clusters.{IsOwnStream, WritesStream, stream_place}
-use Rattle.mft_table.specs.Mft.{view}
-use Rattle.file_record.proofs.ReadLaws.{view-kept}
+use Rattle.attr_store.specs.Mft.{view}
+use Rattle.attr_store.proofs.ReadLaws.{view-kept}
 use Rattle.sparse_io.specs.Overwritten.{touched_sectors}
 use Rattle.sparse_io.proofs.PatchLaws.{patched-named, patched-written, place-patched}
 use Rattle.sparse_io.proofs.write.patch_cluster.Goals as goal

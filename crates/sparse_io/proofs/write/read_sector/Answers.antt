@@ -2,8 +2,8 @@ use Rattle.std.proofs.Common.{◌≡◌, ◌≤◌, ℕ, length, subst, sym, ap,
 use Rattle.std.specs.Prelude.{slice_index}
 use Rattle.volume_def.specs.Table.{cluster_bytes}
 use Rattle.volume_def.specs.Values.{pieces_touched}
-use Rattle.mft_table.specs.Mft.{view}
-use Rattle.mft_table.proofs.StreamReads.{MftReads-less}
+use Rattle.attr_store.specs.Mft.{view}
+use Rattle.attr_store.proofs.StreamReads.{MftReads-less}
 use Rattle.sparse_io.proofs.PatchLaws.{placed-index, sector-piece}
 use Rattle.sparse_io.proofs.write.read_sector.Goals as goal
 

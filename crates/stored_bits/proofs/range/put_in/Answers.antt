@@ -5,7 +5,7 @@ use Rattle.volume_def.specs.Values.{value_on}
 use Rattle.volume_def.specs.View.{VolumeView}
 use Rattle.mft_table.specs.Mft.{view}
 use Rattle.file_record.proofs.ReadLaws.{view-kept}
-use Rattle.attr_store.specs.First.{attribute_held}
+use Rattle.sparse_io.specs.First.{attribute_held}
 use Rattle.stored_bits.proofs.HeldWrites.{StagesHeld, WritesHeld, held-places, held-put}
 use Rattle.stored_bits.proofs.range.put_in.Goals as goal
 

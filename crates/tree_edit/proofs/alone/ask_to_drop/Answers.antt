@@ -1,8 +1,8 @@
 use Rattle.std.proofs.Common.{refl, sym, ap, subst}
 use Rattle.mft_table.specs.Mft.{view}
 use Rattle.file_room.specs.Asked.{has_room}
-use Rattle.tree_read.specs.Answered.{Says}
-use Rattle.tree_read.proofs.GivesLaws.{at_once, tells}
+use Rattle.file_room.specs.Answered.{Says}
+use Rattle.file_room.proofs.GivesLaws.{at_once, tells}
 use Rattle.tree_edit.proofs.WayLaws.{droppable-bits, droppable-none, droppable-value}
 use Rattle.tree_edit.proofs.alone.ask_to_drop.Goals as goal
 

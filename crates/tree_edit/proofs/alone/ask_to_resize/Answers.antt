@@ -5,9 +5,9 @@ use Rattle.edit_def.specs.OneFile.{no_room_alone}
 use Rattle.file_room.specs.Asked.{has_room}
 use Rattle.tree_model.specs.Reading.{read}
 use Rattle.tree_model.specs.StreamRoom.{stream_parts}
-use Rattle.tree_read.specs.Answered.{Says}
-use Rattle.tree_read.specs.Nodes.{number_of}
-use Rattle.tree_read.proofs.GivesLaws.{at_once, both, handed-on, tells}
+use Rattle.file_room.specs.Answered.{Says}
+use Rattle.file_room.specs.Nodes.{number_of}
+use Rattle.file_room.proofs.GivesLaws.{at_once, both, handed-on, tells}
 use Rattle.tree_edit.specs.Alone.{bits_asked, room_to_resize}
 use Rattle.tree_edit.specs.Decided.{can_resize_by}
 use Rattle.tree_edit.specs.Writable.{named_in}

@@ -2,7 +2,7 @@ use Rattle.std.proofs.Common.{◌==◌, ◌∙◌, Option, None, Some, ap, sym}
 use Rattle.std.specs.Prelude.{IsSomeAnd, slice_get}
 use Rattle.ntfs_def.specs.Rounded.{clusters_for}
 use Rattle.volume_def.specs.Files.{Part, part_clusters}
-use Rattle.tree_read.specs.Nodes.{parts_in}
+use Rattle.file_room.specs.Nodes.{parts_in}
 use Rattle.tree_edit.proofs.alone.ends_in_last.Goals as goal
 
 some-weaker : {X : Type 0} (o : Option X) (P Q : X → Type 0) → ((x : X) → P x → Q x) → IsSomeAnd o P → IsSomeAnd o Q

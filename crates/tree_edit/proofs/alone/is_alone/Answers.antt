@@ -1,6 +1,6 @@
 use Rattle.std.proofs.Common.{◌&&◌, not, sym, ap, ◌∙◌}
 use Rattle.tree_model.specs.Ways.{has_no_list}
-use Rattle.tree_read.specs.Nodes.{number_of}
+use Rattle.file_room.specs.Nodes.{number_of}
 use Rattle.tree_edit.proofs.ExtentFound.{list-held}
 use Rattle.tree_edit.proofs.alone.is_alone.Goals as goal
 

@@ -3,7 +3,7 @@ use Rattle.std.proofs.lemmas.Result.{IfOk-weaker}
 use Rattle.sparse_io.specs.declared.find.FoundStream.{FoundStream}
 use Rattle.tree_model.specs.Reading.{read}
 use Rattle.tree_model.specs.Tree.{node_of}
-use Rattle.tree_read.specs.Nodes.{number_of}
+use Rattle.file_room.specs.Nodes.{number_of}
 use Rattle.tree_edit.specs.Writable.{FindsToWrite, kept_from_writing, stream_to_write}
 use Rattle.tree_edit.proofs.AloneFound.{given-inside, resize-decided, resize-shared}
 use Rattle.tree_edit.proofs.WriteFound.{mounts-own}

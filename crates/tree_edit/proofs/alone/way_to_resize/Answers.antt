@@ -1,6 +1,6 @@
 use Rattle.std.proofs.Common.{sym, ◌∙◌}
 use Rattle.std.proofs.lemmas.Bool.{or_from}
-use Rattle.tree_read.specs.Nodes.{number_of}
+use Rattle.file_room.specs.Nodes.{number_of}
 use Rattle.tree_edit.specs.Alone.{can_end, can_resize}
 use Rattle.tree_edit.proofs.WriteFound.{mounts-own}
 use Rattle.tree_edit.proofs.alone.way_to_resize.Goals as goal

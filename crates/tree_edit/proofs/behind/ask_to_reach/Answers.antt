@@ -6,9 +6,9 @@ use Rattle.mft_table.specs.Mft.{view}
 use Rattle.file_room.specs.Asked.{has_room}
 use Rattle.sparse_io.specs.Behind.{TellsBehind}
 use Rattle.tree_model.specs.StreamRoom.{parts_named}
-use Rattle.tree_read.specs.Answered.{Says}
-use Rattle.tree_read.specs.Nodes.{number_of}
-use Rattle.tree_read.proofs.GivesLaws.{at_once, tells}
+use Rattle.file_room.specs.Answered.{Says}
+use Rattle.file_room.specs.Nodes.{number_of}
+use Rattle.file_room.proofs.GivesLaws.{at_once, tells}
 use Rattle.tree_edit.specs.Alone.{can_give}
 use Rattle.tree_edit.proofs.ReachFound.{asks-none, asks-room, told}
 use Rattle.tree_edit.proofs.behind.ask_to_reach.Goals.{else-count-eq0-via-then-count-eq0+else-at-len, else-count-eq0-via-else-count-eq0}

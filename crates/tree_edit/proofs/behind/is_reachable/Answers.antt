@@ -2,7 +2,7 @@ use Rattle.std.proofs.Common.{Option, subst, sym, ◌∙◌, ℕ, List}
 use Rattle.volume_def.specs.Files.{Part}
 use Rattle.sparse_io.specs.Behind.{TellsBehind}
 use Rattle.tree_model.specs.StreamRoom.{parts_named}
-use Rattle.tree_read.specs.Nodes.{number_of}
+use Rattle.file_room.specs.Nodes.{number_of}
 use Rattle.tree_edit.proofs.ReachFound.{reach-none, reach-not, reach-some, told}
 use Rattle.tree_edit.proofs.WriteFound.{mounts-own}
 use Rattle.tree_edit.proofs.behind.is_reachable.Goals as goal

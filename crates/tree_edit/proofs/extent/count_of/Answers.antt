@@ -5,7 +5,7 @@ use Rattle.volume_def.specs.Files.{is_of, part_of}
 use Rattle.attr_view.specs.View.{attribute_of}
 use Rattle.file_record.specs.Held.{attributes_held, parts_held}
 use Rattle.file_record.specs.Left.{attributes_left}
-use Rattle.attr_store.proofs.FirstLaws.{AreHeld-at, AreHeld-end, AreHeld-file}
+use Rattle.sparse_io.proofs.FirstLaws.{AreHeld-at, AreHeld-end, AreHeld-file}
 use Rattle.tree_edit.proofs.extent.count_of.Goals as goal
 use Rattle.tree_edit.proofs.extent.count_of.Goals.{then-is_of, else-is_of}
 

@@ -1,7 +1,7 @@
 use Rattle.std.proofs.Common.{Bool, Ok, Err, subst}
 use Rattle.mft_table.specs.Mft.{view}
-use Rattle.tree_read.specs.Answered.{Finds}
-use Rattle.tree_read.proofs.GivesLaws.{handed-on}
+use Rattle.file_room.specs.Answered.{Finds}
+use Rattle.file_room.proofs.GivesLaws.{handed-on}
 use Rattle.view_index.specs.Security.{TellsWhether}
 use Rattle.tree_edit.specs.Securable.{DecidesSecure}
 use Rattle.tree_edit.proofs.FoundOver.{image-of, mounted-own}

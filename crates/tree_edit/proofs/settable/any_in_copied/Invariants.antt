@@ -1,6 +1,6 @@
 use Rattle.std.proofs.Common.{◌≡◌, drop}
 use Rattle.std.specs.List.{list_any}
-use Rattle.tree_model.specs.Staging.{stands_in_copied}
+use Rattle.tree_model.specs.Ways.{stands_in_copied}
 use Rattle.tree_edit.proofs.settable.any_in_copied.Given as goal
 
 abbrev pub invariant-links : goal.invariant-links

@@ -2,8 +2,8 @@ use Rattle.std.proofs.Common.{◌<◌, length, IfSome, subst, sym}
 use Rattle.std.proofs.lemmas.Result.{IfOk-weaker}
 use Rattle.sparse_io.specs.Held.{IsStreamIfThere}
 use Rattle.sparse_io.specs.declared.find.FoundStream.{FoundStream}
-use Rattle.tree_read.specs.Nodes.{parts_in}
-use Rattle.tree_read.proofs.NodeLaws.{held-with}
+use Rattle.file_room.specs.Nodes.{parts_in}
+use Rattle.file_room.proofs.NodeLaws.{held-with}
 use Rattle.tree_edit.proofs.StreamToWrite.{missing-content}
 use Rattle.tree_edit.proofs.writable.stream_to_write.Goals as goal
 

@@ -1,9 +1,9 @@
 use Rattle.std.proofs.Common.{◌+◌, ◌∙◌, Err, refl, sym, ap, subst}
 use Rattle.mft_table.specs.Mft.{view}
 use Rattle.file_room.specs.Asked.{has_room}
-use Rattle.tree_read.specs.Answered.{Says}
-use Rattle.tree_read.specs.Nodes.{number_of}
-use Rattle.tree_read.proofs.GivesLaws.{at_once, both, handed-on, tells}
+use Rattle.file_room.specs.Answered.{Says}
+use Rattle.file_room.specs.Nodes.{number_of}
+use Rattle.file_room.proofs.GivesLaws.{at_once, both, handed-on, tells}
 use Rattle.tree_edit.specs.Alone.{bits_asked}
 use Rattle.tree_edit.specs.Write.{room_to_reach}
 use Rattle.tree_edit.proofs.AskedLaws.{asked-none, asks-both, refuses-first, room-clusters, room-over, room-reached, room-value}

@@ -1,7 +1,7 @@
 use Rattle.std.proofs.Common.{sym}
-use Rattle.tree_read.specs.Nodes.{number_of}
-use Rattle.tree_read.proofs.AnsweredLaws.{same_wanted, stops}
-use Rattle.tree_read.proofs.GivesLaws.{handed-on}
+use Rattle.file_room.specs.Nodes.{number_of}
+use Rattle.file_room.proofs.AnsweredLaws.{same_wanted, stops}
+use Rattle.file_room.proofs.GivesLaws.{handed-on}
 use Rattle.mft_table.specs.Mft.{view}
 use Rattle.tree_edit.specs.Alone.{if_room}
 use Rattle.tree_edit.specs.Decided.{IsWritableSo, asked_to_write, write_found}

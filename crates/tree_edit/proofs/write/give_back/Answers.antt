@@ -1,5 +1,5 @@
 use Rattle.std.proofs.Common.{◌≡◌, Option, inl, refl, subst, sym, true}
-use Rattle.tree_read.specs.Nodes.{number_of}
+use Rattle.file_room.specs.Nodes.{number_of}
 use Rattle.tree_edit.specs.Decided.{EditsSo, can_write_by, can_write_so}
 use Rattle.tree_edit.specs.declared.writable.Way.{Way}
 use Rattle.tree_edit.proofs.WriteFound.{way-so}

@@ -1,6 +1,6 @@
 use Rattle.std.proofs.Common.{sym, ◌∙◌}
 use Rattle.std.proofs.lemmas.Result.{IfOk-weaker}
-use Rattle.tree_read.proofs.NodeLaws.{held-with}
+use Rattle.file_room.proofs.NodeLaws.{held-with}
 use Rattle.tree_edit.proofs.OverLaws.{over-not, over-so}
 use Rattle.tree_edit.proofs.write.is_over.Goals as goal
 

@@ -1,5 +1,5 @@
 use Rattle.std.proofs.Common.{refl, sym, ◌∙◌}
-use Rattle.tree_read.specs.Nodes.{number_of}
+use Rattle.file_room.specs.Nodes.{number_of}
 use Rattle.tree_edit.proofs.WriteFound.{mounts-own, writes-behind, writes-not, writes-value}
 use Rattle.tree_edit.proofs.write.way_to_write.Goals as goal
 

@@ -4,7 +4,7 @@ use Rattle.volume_def.specs.Files.{part_of}
 use Rattle.list_laws.proofs.FindLaws.{count-no, count-yes}
 use Rattle.file_record.specs.Held.{attributes_held, parts_held}
 use Rattle.file_record.specs.Left.{attributes_left}
-use Rattle.attr_store.proofs.FirstLaws.{AreHeld-at, AreHeld-end, AreHeld-file}
+use Rattle.sparse_io.proofs.FirstLaws.{AreHeld-at, AreHeld-end, AreHeld-file}
 use Rattle.tree_read.specs.Parts.{is_shown_name, shown_names}
 use Rattle.tree_read.proofs.node.count_names.Goals as goal
 use Rattle.tree_read.proofs.node.count_names.Goals.{else-is_shown_name, then-is_shown_name}

@@ -5,7 +5,7 @@ use Rattle.attr_view.specs.View.{attribute_of}
 use Rattle.volume_def.specs.Files.{is_of, part_of}
 use Rattle.file_record.specs.Held.{attributes_held, parts_held}
 use Rattle.file_record.specs.Left.{attributes_left}
-use Rattle.attr_store.proofs.FirstLaws.{AreHeld-at, AreHeld-end, AreHeld-file, find-here, find-later}
+use Rattle.sparse_io.proofs.FirstLaws.{AreHeld-at, AreHeld-end, AreHeld-file, find-here, find-later}
 use Rattle.tree_read.proofs.node.find_part.Goals as goal
 
 pub returns-in_default : goal.returns-in_default

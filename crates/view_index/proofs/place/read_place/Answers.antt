@@ -3,7 +3,7 @@ use Rattle.std.proofs.Math.Seq.{take-append_seam}
 use Rattle.std.specs.Prelude.{slice_range}
 use Rattle.ntfs_def.specs.declared.kinds.TheConstants.{DATA}
 use Rattle.volume_def.specs.Values.{value_on}
-use Rattle.attr_store.specs.First.{attribute_held}
+use Rattle.index_store.specs.First.{attribute_held}
 use Rattle.mft_table.specs.Mft.{view}
 use Rattle.view_index.proofs.PlaceLaws.{bytes-told, sds}
 use Rattle.view_index.proofs.place.read_place.Goals as goal

@@ -1,4 +1,8 @@
-use Rattle.std.proofs.Common.{◌+◌, ◌*◌, ◌≤◌, ℕ, List, [], ◌∷◌, ◌++◌, refl, ap, subst, ◌∙◌}
+use Rattle.std.proofs.Common.{◌≡◌, ◌+◌, ◌*◌, ◌≤◌, ℕ, List, [], ◌∷◌, ◌++◌, length, refl, sym, ap, subst, ◌∙◌}
+use Rattle.std.proofs.lemmas.List.{length-map}
+use Rattle.std.specs.Prelude.{IsSomeAnd, slice_get}
+use Rattle.ntfs_def.specs.Attribute.{attributes}
+use Rattle.ntfs_def.specs.Record.{used_size}
 use Rattle.ntfs_def.specs.Fixup.{Seals}
 use Rattle.volume_def.specs.Coverage.{IsApart}
 use Rattle.volume_def.specs.View.{ReplacesBlock, VolumeView}
@@ -49,6 +53,16 @@ returns-clause-held g c told apart low none =
     whole-created (view g' old) (view g' c.stage_taken.new.mft) n c.in_ok-free.free.sequence c.args.dir c.args.standard.now one.block staged.0
     c.in_ok-base.ensures.made staged.1 staged.2 told c.in_ok-free.ensures.inside _ one
     (c.push_reserved.ensures.items ∙ ap (λ (xs : List Held). xs ++ one ∷ []) c.in_ok-held.ensures.items) c.in_ok-base.ensures.number refl refl none
+
+pub returns-clause-new : goal.returns-clause-new
+returns-clause-new g c =
+    let one = c.in_ok-base.base in
+    let one_attribute = sym (length-map (attributes one.block) (λ attribute. attribute.bytes))
+    ∙ ap (λ (xs : List (List ℕ)). length xs) c.in_ok-base.ensures.made.bytes in
+    subst (λ (items : List Held). IsSomeAnd (slice_get items 0) (λ held. (held.number ≡ c.in_ok-free.free.number)
+    × (length (attributes held.block) ≡ 1) × (used_size held.block ≡ 160)))
+    (sym (c.push_reserved.ensures.items ∙ ap (λ (xs : List Held). xs ++ one ∷ []) c.in_ok-held.ensures.items))
+    (c.in_ok-base.ensures.number, one_attribute, c.in_ok-base.ensures.used)
 
 pub returns-clause-stages : goal.returns-clause-stages
 returns-clause-stages g c =

@@ -52,6 +52,14 @@ returns-clause-room g c =
     (λ was held. used_size held.block ≡ used_size was.block + length c.args.attr.now)
     c.insert_attribute.ensures.edited.bytes.used)
 
+pub returns-clause-count : goal.returns-clause-count
+returns-clause-count g c =
+    let file = c.args.self.now in
+    let inside = held-inside file c.args.place (λ held. c.args.i ≤ length (attributes held.block)) c.requires.place in
+    ok-always _ (record-gives_both file c.args.place c.index_mut-held.result.now c.index_mut-held.ensures.value inside
+    c.insert_attribute.new.self _ refl (λ was held. length (attributes held.block) ≡ length (attributes was.block) + 1)
+    c.insert_attribute.ensures.edited.one_more)
+
 pub returns-clause-stages : goal.returns-clause-stages
 returns-clause-stages g c =
     let old = view g.D.Disk c.args.mft.now in

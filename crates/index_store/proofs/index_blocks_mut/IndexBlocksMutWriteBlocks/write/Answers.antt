@@ -1,10 +1,10 @@
 use Rattle.std.proofs.Common.{◌≡◌, ℕ, ◌+◌, ◌-◌, ◌^◌, ◌≤◌, inl, inr, refl, sym, ◌∙◌, arith}
 use Rattle.std.specs.Prelude.{◌⊎◌, IsTrue, min}
 use Rattle.std.proofs.lemmas.Bool.{cases_lt}
-use Rattle.volume_edits.specs.Owners.{HasOwners}
-use Rattle.volume_edits.specs.Clusters.{ChangesStream}
-use Rattle.mft_table.specs.Mft.{view}
-use Rattle.file_record.specs.Held.{IsHeldFile}
+use Rattle.attr_store.specs.Owners.{HasOwners}
+use Rattle.attr_store.specs.Clusters.{ChangesStream}
+use Rattle.attr_store.specs.Mft.{view}
+use Rattle.attr_store.specs.Held.{IsHeldFile}
 use Rattle.index_store.specs.Index.{index_held}
 use Rattle.index_store.specs.IndexRecords.{index_record_on}
 use Rattle.index_store.proofs.EditedBlocks.{EditsRecords-writes}

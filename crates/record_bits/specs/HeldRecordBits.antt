@@ -16,14 +16,14 @@ use Rattle.volume_def.specs.Values.{spot_at, stored_byte}
 use Rattle.volume_def.specs.View.{VolumeView}
 use Rattle.volume_edits.specs.Clusters.{WritesStream, stream_sectors}
 use Rattle.volume_edits.specs.Owners.{HasOwners}
-use Rattle.file_record.specs.declared.parts.FileParts.{FileParts}
-use Rattle.file_record.specs.Held.{AreParts, file_number}
-use Rattle.attr_store.specs.declared.first.FirstPart.{FirstPart}
-use Rattle.attr_store.specs.First.{TellsSizes}
+use Rattle.sparse_io.specs.FileParts.{FileParts}
+use Rattle.sparse_io.specs.FileRecordHeld.{AreParts, file_number}
+use Rattle.sparse_io.specs.FirstPart.{FirstPart}
+use Rattle.sparse_io.specs.First.{TellsSizes}
 
 -- The file of the table is held as the volume has it, and the part that tells the sizes of its bitmap, which lies in clusters of its own
 -- without a hole. The files of the volume can be read, and no cluster has two owners.
-pub record HoldsRows (view : VolumeView) (file : FileParts) (first : FirstPart) : Type 0 where
+pub record HoldsRecordBits (view : VolumeView) (file : FileParts) (first : FirstPart) : Type 0 where
   pub readable : IsReadableVolume view
   pub is_file : IsFile view MFT
   pub owners : HasOwners view
@@ -44,5 +44,5 @@ pub record RaisesBit (old new : VolumeView) (spot : ℕ → Spot) (at bit : ℕ)
   pub others : (i : ℕ) → i < 8 → i ≢ bit → bit_at byte i ≡ bit_at (stored_byte old.cluster (cluster_bytes old.layout) spot at) i
 
 -- the sector is one of the stream of the bitmap of records
-abbrev pub IsOfRows : VolumeView → ℕ → Type 0
-IsOfRows view sector = (at : ℕ) × (len : ℕ) × Contains (stream_sectors view.layout (spot_at (record_bits view)) at len) sector
+abbrev pub IsOfRecordBits : VolumeView → ℕ → Type 0
+IsOfRecordBits view sector = (at : ℕ) × (len : ℕ) × Contains (stream_sectors view.layout (spot_at (record_bits view)) at len) sector

@@ -6,7 +6,7 @@ use Rattle.mft_table.specs.declared.mounted.Mounted.{Mounted}
 use Rattle.mft_table.specs.Mft.{mounted_of, view}
 use Rattle.record_bits.proofs.RowsFound.{rows-file, rows-inside, rows-there, written-found}
 use Rattle.record_bits.proofs.RowsStream.{rows-held}
-use Rattle.record_bits.proofs.row.can_store_row.Goals as goal
+use Rattle.record_bits.proofs.record_bit.can_store_record_bit.Goals as goal
 
 -- so few records has no sound volume
 pub returns-then-count-le-MFT-clause-can : goal.returns-then-count-le-MFT-clause-can

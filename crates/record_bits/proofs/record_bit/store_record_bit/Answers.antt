@@ -9,13 +9,13 @@ use Rattle.volume_def.proofs.SoundLaws.{readable-sound}
 use Rattle.vol_stage.specs.Staged.{disk_of, places}
 use Rattle.mft_table.specs.declared.mounted.Mounted.{Mounted}
 use Rattle.mft_table.specs.Mft.{mounted_of, stage_of, view}
-use Rattle.file_record.specs.Held.{parts_held}
-use Rattle.file_record.proofs.ReadLaws.{view-kept}
-use Rattle.record_bits.specs.HeldRows.{HoldsRows, IsOfRows}
-use Rattle.record_bits.specs.StoredRow.{StoresRow}
+use Rattle.sparse_io.specs.FileRecordHeld.{parts_held}
+use Rattle.sparse_io.proofs.ReadLaws.{view-kept}
+use Rattle.record_bits.specs.HeldRecordBits.{HoldsRecordBits, IsOfRecordBits}
+use Rattle.record_bits.specs.StoredRecordBit.{StoresRecordBit}
 use Rattle.record_bits.proofs.RowsFound.{holds-rows, rows-file, rows-inside, rows-there, written-found}
 use Rattle.record_bits.proofs.RowsStream.{rows-held}
-use Rattle.record_bits.proofs.row.store_row.Goals as goal
+use Rattle.record_bits.proofs.record_bit.store_record_bit.Goals as goal
 
 -- so few records has no sound volume
 pub returns-then-count-le-MFT-clause-stored : goal.returns-then-count-le-MFT-clause-stored
@@ -43,33 +43,33 @@ returns-then-n-first-clause-stored g c told place =
     let written = written-found volume c.in_ok-file.file c.in-Some.first are given.number c.in-Some.ensures in
     absurd (omega (arith, ltb-true _ _ place, written, c.if-n-first.true))
 
-pub raise_row-requires-clause-part : goal.raise_row-requires-clause-part
-raise_row-requires-clause-part g c =
+pub raise_record_bit-requires-clause-part : goal.raise_record_bit-requires-clause-part
+raise_record_bit-requires-clause-part g c =
     let its = c.in-Some.ensures in
     slice_get_within (parts_held c.in_ok-file.file) c.in-Some.first.index its.part its.at
 
 pub returns-clause-stored : goal.returns-clause-stored
-returns-clause-stored g c = on_ok_weaker c.raise_row.result (λ stored told place.
+returns-clause-stored g c = on_ok_weaker c.raise_record_bit.result (λ stored told place.
     let volume = view g.D.Disk c.args.mft.now in
     let its = c.requires.volume told in
     let given = c.in_ok-file.ensures in
     let are = given.parts told (readable-sound volume its.sound) (rows-file volume its.sound) in
     let same = view-kept g.D.Disk c.args.mft.now c.load.new.mft _ given.reads in
-    let new = view g.D.Disk c.raise_row.new.mft in
+    let new = view g.D.Disk c.raise_record_bit.new.mft in
     let holds = holds-rows volume (g.D.Disk.size (disk_of g.D.Disk (stage_of g.D.Disk c.args.mft.now))) c.in_ok-file.file c.in-Some.first
     its.sound (c.requires.owners told) c.args.mft.now.stands.table are given.number c.in-Some.ensures in
-    subst (λ (v : VolumeView). IsTrue v.told → HoldsRows v c.in_ok-file.file c.in-Some.first → StoresRow v new c.args.n) same stored told holds)
-    c.raise_row.ensures.stored
+    subst (λ (v : VolumeView). IsTrue v.told → HoldsRecordBits v c.in_ok-file.file c.in-Some.first → StoresRecordBit v new c.args.n) same stored told holds)
+    c.raise_record_bit.ensures.stored
 
 pub returns-clause-none : goal.returns-clause-none
-returns-clause-none g c = on_ok_weaker c.raise_row.result (λ stored told none.
+returns-clause-none g c = on_ok_weaker c.raise_record_bit.result (λ stored told none.
     let volume = view g.D.Disk c.args.mft.now in
     let sound = (c.requires.volume told).sound in
     let given = c.in_ok-file.ensures in
     let are = given.parts told (readable-sound volume sound) (rows-file volume sound) in
     let written = written-found volume c.in_ok-file.file c.in-Some.first are given.number c.in-Some.ensures in
     absurd (false≢true (sym none ∙ lt-ltb _ _ (omega (arith, written, c.if-n-first.false)))))
-    c.raise_row.ensures.stored
+    c.raise_record_bit.ensures.stored
 
 pub returns-clause-places : goal.returns-clause-places
 returns-clause-places g c told sector there =
@@ -80,9 +80,9 @@ returns-clause-places g c told sector there =
     let same = view-kept g.D.Disk c.args.mft.now c.load.new.mft _ given.reads in
     let holds = holds-rows volume (g.D.Disk.size (disk_of g.D.Disk (stage_of g.D.Disk c.args.mft.now))) c.in_ok-file.file c.in-Some.first
     its.sound (c.requires.owners told) c.args.mft.now.stands.table are given.number c.in-Some.ensures in
-    elim (subst (λ (v : VolumeView). HoldsRows v c.in_ok-file.file c.in-Some.first
-    → Contains (places g.D.Disk (stage_of g.D.Disk c.load.new.mft)) sector ⊎ IsOfRows v sector) same
-    (λ h. c.raise_row.ensures.places h sector there) holds) [
+    elim (subst (λ (v : VolumeView). HoldsRecordBits v c.in_ok-file.file c.in-Some.first
+    → Contains (places g.D.Disk (stage_of g.D.Disk c.load.new.mft)) sector ⊎ IsOfRecordBits v sector) same
+    (λ h. c.raise_record_bit.ensures.places h sector there) holds) [
       | inl before ↦ inl (subst (λ xs. Contains xs sector) given.reads.stage.only_reads.places before)
       | inr rows ↦ inr rows
     ]

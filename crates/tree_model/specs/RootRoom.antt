@@ -1,19 +1,15 @@
 -- ROOM FOR AN ENTRY in the root of the index of a directory, which has no records then: the root is the leaf of every key.
 -- Layout: Linux-NTFS documentation, attribute $INDEX_ROOT, concept "B*Trees"; Carrier, File System Forensic Analysis, chapter 13.
-use Rattle.std.specs.Prelude.{◌≡◌, ℕ, ◌-◌, ◌&&◌, nat_le, not, Bool, false, [], Contains, Some, is_some, slice_get}
+use Rattle.std.specs.Prelude.{ℕ, ◌&&◌, nat_le, not, Bool, false, [], is_some}
 use Rattle.std.specs.Option.{option_map_or}
 use Rattle.ntfs_def.specs.Node.{Node}
-use Rattle.ntfs_def.specs.Record.{used_size}
 use Rattle.ntfs_def.specs.declared.kinds.TheConstants.{ATTRIBUTE_LIST}
 use Rattle.volume_def.specs.Files.{Part, parts_at}
 use Rattle.volume_def.specs.Room.{free_bytes}
 use Rattle.volume_def.specs.Values.{first_part}
 use Rattle.volume_def.specs.View.{VolumeView}
-use Rattle.file_record.specs.declared.held.Held.{Held}
-use Rattle.file_record.specs.declared.parts.FileParts.{FileParts}
-use Rattle.file_record.specs.Held.{held_of, parts_held}
 use Rattle.tree_model.specs.IndexRoom.{directory_index, root_of}
-use Rattle.index_puts.specs.LeafRoom.{names_of_directory}
+use Rattle.tree_model.specs.LeafRoom.{names_of_directory}
 
 -- a root that leads to no record
 abbrev pub is_root_leaf : VolumeView → ℕ → Bool
@@ -30,12 +26,3 @@ is_free_beside_root view dir len =
 -- THE ROOM: the root has no children, the directory has no attribute list, and the record that holds the root has so many bytes.
 unfoldable pub has_root_room : VolumeView → ℕ → ℕ → Bool
 has_root_room view dir len = is_root_leaf view dir && not (has_list view dir) && is_free_beside_root view dir len
-
--- PART i OF A FILE THAT IS HELD stands in this record, and so many bytes of that are free.
-pub record TellsFree (file : FileParts) (i free : ℕ) : Type 0 where
-  pub one : Held
-  pub among : Contains (held_of file) one
-  pub part : Part
-  pub there : slice_get (parts_held file) i ≡ Some part
-  pub holder : part.holder ≡ one.number
-  pub free_is : free ≡ 1024 - used_size one.block

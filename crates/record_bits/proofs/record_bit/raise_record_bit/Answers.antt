@@ -8,7 +8,7 @@ use Rattle.mft_table.specs.Mft.{view}
 use Rattle.mft_table.proofs.DiskKept.{KeepsDisk-same}
 use Rattle.record_bits.proofs.RowStored.{inside, row-stored}
 use Rattle.record_bits.proofs.RowsStream.{rows-own, rows-placed, spot-found}
-use Rattle.record_bits.proofs.row.raise_row.Goals as goal
+use Rattle.record_bits.proofs.record_bit.raise_record_bit.Goals as goal
 
 pub returns-in-At-clause-stored : goal.returns-in-At-clause-stored
 returns-in-At-clause-stored g c =

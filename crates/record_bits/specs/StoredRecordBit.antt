@@ -1,18 +1,14 @@
 -- THE FLAG OF A RECORD SET in the stored bitmap of records, which lies in clusters.
 -- Layout: Linux-NTFS documentation, file $MFT, attribute $BITMAP; Carrier, File System Forensic Analysis, chapter 11.
-use Rattle.std.specs.Prelude.{◌≡◌, ◌≢◌, ℕ, ◌*◌, ◌/◌, nat_lt, Bool, List, length}
+use Rattle.std.specs.Prelude.{◌≡◌, ◌≢◌, ℕ, ◌/◌, List, length}
 use Rattle.list_laws.specs.Bits.{bit_in}
-use Rattle.volume_def.specs.BitmapClauses.{record_bits, written_by}
-use Rattle.volume_def.specs.Values.{first_part, spot_at, value_on}
+use Rattle.volume_def.specs.BitmapClauses.{record_bits}
+use Rattle.volume_def.specs.Values.{spot_at, value_on}
 use Rattle.volume_def.specs.View.{VolumeView}
 use Rattle.volume_edits.specs.Clusters.{WritesStream}
 
--- the bitmap was written as far as the flag of this record
-abbrev pub has_row_place : VolumeView → ℕ → Bool
-has_row_place view n = nat_lt n (8 * written_by (first_part (record_bits view)))
-
 -- THE FLAG IS SET: a byte went over the one of the bitmap that has it. All other flags, and all else of the volume, are as they were.
-pub record StoresRow (old new : VolumeView) (n : ℕ) : Type 0 where
+pub record StoresRecordBit (old new : VolumeView) (n : ℕ) : Type 0 where
   pub bytes : List ℕ
   pub one : length bytes ≡ 1
   pub writes : WritesStream old new (spot_at (record_bits old)) (n / 8) bytes

@@ -12,8 +12,8 @@ use Rattle.vol_stage.proofs.FewLaws.{few-named}
 use Rattle.ntfs_def.specs.declared.run_text.Spot.{Spot}
 use Rattle.volume_def.specs.Blocks.{mirror_sector, table_place}
 use Rattle.volume_def.specs.Table.{TableLayout, cluster_bytes}
-use Rattle.volume_edits.specs.Clusters.{record_sectors, stream_place}
-use Rattle.mft_table.specs.Staging.{record_places}
+use Rattle.index_store.specs.Clusters.{record_sectors, stream_place}
+use Rattle.index_store.specs.Staging.{record_places}
 
 pub few-staged : {D : Type 0} (g : Ghosts D) (named : List ℕ) (a b : Stage D g) → StagesOnly g named a b
     → length (places g b) ≤ length (places g a) + length named
@@ -50,6 +50,13 @@ record-few : (layout : TableLayout) (n : ℕ) → length (record_places layout n
 record-few layout n =
     record-by (table_place layout (2 * n)) (table_place layout (2 * n + 1)) (nat_lt n 4) (mirror_sector layout + 2 * n)
     (mirror_sector layout + 2 * n + 1)
+
+copies-few : (b : Bool) → cond b 2 0 ≤ 2
+copies-few true = omega arith
+copies-few false = omega arith
+
+pub few-record : (layout : TableLayout) (n : ℕ) → length (record_places layout n) ≤ 4
+few-record layout n = let all = record-few layout n in let few = copies-few (nat_lt n 4) in omega (arith, all, few)
 
 -- .. two alone of any other
 no-copy : (b : Bool) → b ≡ false → cond b 2 0 ≤ 0

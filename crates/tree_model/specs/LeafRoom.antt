@@ -1,12 +1,13 @@
--- ROOM FOR AN ENTRY in the index of a directory: in the record of it in which the search for its key ends.
+-- ROOM FOR A NAME in the index of a directory: in the record of it in which the search for the name ends.
 -- Layout: Linux-NTFS documentation, concept "B*Trees", "Index Header"; Carrier, File System Forensic Analysis, chapter 13.
 use Rattle.std.specs.Prelude.{ℕ, zero, suc, ◌-◌, nat_le, Bool, false, List, [], ◌∷◌, codes, length, Option, Some, None}
 use Rattle.std.specs.Option.{option_and_then, option_map_or}
 use Rattle.std.specs.declared.cmp.Ordering.{Ordering}
 use Rattle.std.specs.declared.cmp.Ordering.TheVariants.{Equal, Greater, Less}
+use Rattle.ntfs_def.specs.FileName.{key_units}
 use Rattle.ntfs_def.specs.Fixup.{opened_of}
 use Rattle.ntfs_def.specs.IndexTree.{Nodes, most_depth}
-use Rattle.ntfs_def.specs.KeyOrder.{name_order}
+use Rattle.ntfs_def.specs.KeyOrder.{compare_units}
 use Rattle.ntfs_def.specs.Node.{Entry, Node, entry_place, first_entry, room_end, short_node}
 use Rattle.ntfs_def.specs.Units.{wide}
 use Rattle.ntfs_def.specs.declared.index.NodeForm.TheVariants.{Names}
@@ -57,13 +58,14 @@ names_of_directory view dir = index_parts view dir (wide (codes "$I30"))
 abbrev pub record_at : VolumeView → ℕ → ℕ → List ℕ
 record_at view dir vcn = opened_of (stored_index_record view (names_of_directory view dir) vcn)
 
+-- on which side of a name a key stands
 abbrev pub name_side : VolumeView → List ℕ → List ℕ → Ordering
-name_side view key other = name_order (volume_fold view) other key
+name_side view units key = compare_units (volume_fold view) (key_units key) units
 
 abbrev pub leaf_for : VolumeView → ℕ → List ℕ → Option ℕ
-leaf_for view dir key =
-    leaf_of (name_side view key) (other_nodes view (directory_index dir)) (root_of view (directory_index dir))
+leaf_for view dir units =
+    leaf_of (name_side view units) (other_nodes view (directory_index dir)) (root_of view (directory_index dir))
 
 -- THE INDEX HAS RECORDS, and that one has so many bytes behind its last entry.
 unfoldable pub has_leaf_room : VolumeView → ℕ → List ℕ → ℕ → Bool
-has_leaf_room view dir key len = option_map_or (λ vcn. has_room len (record_at view dir vcn)) (leaf_for view dir key) false
+has_leaf_room view dir units len = option_map_or (λ vcn. has_room len (record_at view dir vcn)) (leaf_for view dir units) false

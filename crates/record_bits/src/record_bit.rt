@@ -4,23 +4,23 @@ ghost use Rattle.vol_stage.specs.Staged.{places};
 ghost use Rattle.volume_edits.specs.Owners.{HasOwners};
 ghost use Rattle.mft_table.specs.InUse.{IsInUse};
 ghost use Rattle.mft_table.specs.Mft.{KeepsDisk, MftReads, faults_of, is_mft_broken, stage_of, view};
-ghost use Rattle.file_record.specs.FileNos.{CountsNo, IsReadNo};
-ghost use Rattle.file_record.specs.Held.{parts_held};
-ghost use Rattle.record_bits.specs.HeldRows.{HoldsRows, IsOfRows};
-ghost use Rattle.record_bits.specs.StoredRow.{StoresRow, has_row_place};
+ghost use Rattle.sparse_io.specs.FileNos.{CountsNo, IsReadNo};
+ghost use Rattle.sparse_io.specs.FileRecordHeld.{parts_held};
+ghost use Rattle.record_bits.specs.HeldRecordBits.{HoldsRecordBits, IsOfRecordBits};
+ghost use Rattle.tree_model.specs.Ways.{has_record_bit};
+ghost use Rattle.record_bits.specs.StoredRecordBit.{StoresRecordBit};
 
 use crate::raise::raise_bit;
-use attr_store::{FirstPart, find_first, spot_at};
 use data_runs::Spot;
-use file_record::{FileNo, FileParts};
 use mft_table::Mft;
 use ntfs_def::kinds::BITMAP;
 use ntfs_def::records::MFT;
+use sparse_io::{FileNo, FileParts, FirstPart, find_first, spot_at};
 use std::alloc::Global;
 use vol_disk::Disk;
 
 // Sets the flag of a record in the bitmap of records, that is held, where that was written.
-fn raise_row<D: Disk>(
+fn raise_record_bit<D: Disk>(
     alloc: Global,
     mft: &mut Mft<'_, D>,
     file: &FileParts,
@@ -30,10 +30,10 @@ fn raise_row<D: Disk>(
     requires part { first.index < length (parts_held file.now) }
     requires written { n < 8 * first.written }
     requires sound { is_mft_broken D.Disk mft.old ≡ false }
-    ensures stored { OnOk result (IsTrue (view D.Disk mft.old).told → HoldsRows (view D.Disk mft.old) file.now first
-        → StoresRow (view D.Disk mft.old) (view D.Disk mft.new) n) }
-    ensures places { HoldsRows (view D.Disk mft.old) file.now first → (sector : ℕ) → Contains (places D.Disk (stage_of D.Disk mft.new)) sector
-        → Contains (places D.Disk (stage_of D.Disk mft.old)) sector ⊎ IsOfRows (view D.Disk mft.old) sector }
+    ensures stored { OnOk result (IsTrue (view D.Disk mft.old).told → HoldsRecordBits (view D.Disk mft.old) file.now first
+        → StoresRecordBit (view D.Disk mft.old) (view D.Disk mft.new) n) }
+    ensures places { HoldsRecordBits (view D.Disk mft.old) file.now first → (sector : ℕ) → Contains (places D.Disk (stage_of D.Disk mft.new)) sector
+        → Contains (places D.Disk (stage_of D.Disk mft.old)) sector ⊎ IsOfRecordBits (view D.Disk mft.old) sector }
     ensures few { length (places D.Disk (stage_of D.Disk mft.new)) ≤ length (places D.Disk (stage_of D.Disk mft.old)) + 1 }
     ensures disk { KeepsDisk D.Disk mft.old mft.new }
     ensures err { IfErr result IsReadNo }
@@ -54,16 +54,16 @@ fn raise_row<D: Disk>(
 /// # Errors
 ///
 /// `Device` where the disk failed, and `Memory`.
-pub fn store_row<D: Disk>(alloc: Global, mft: &mut Mft<'_, D>, n: u64) -> Result<(), FileNo>
+pub fn store_record_bit<D: Disk>(alloc: Global, mft: &mut Mft<'_, D>, n: u64) -> Result<(), FileNo>
     requires sound { is_mft_broken D.Disk mft.old ≡ false }
     requires owners { IsTrue (view D.Disk mft.old).told → HasOwners (view D.Disk mft.old) }
     requires volume { IsInUse D.Disk mft.old }
-    ensures stored { OnOk result (IsTrue (view D.Disk mft.old).told → has_row_place (view D.Disk mft.old) n ≡ true
-        → StoresRow (view D.Disk mft.old) (view D.Disk mft.new) n) }
-    ensures none { OnOk result (IsTrue (view D.Disk mft.old).told → has_row_place (view D.Disk mft.old) n ≡ false
+    ensures stored { OnOk result (IsTrue (view D.Disk mft.old).told → has_record_bit (view D.Disk mft.old) n ≡ true
+        → StoresRecordBit (view D.Disk mft.old) (view D.Disk mft.new) n) }
+    ensures none { OnOk result (IsTrue (view D.Disk mft.old).told → has_record_bit (view D.Disk mft.old) n ≡ false
         → MftReads D.Disk mft.old mft.new 20678) }
     ensures places { IsTrue (view D.Disk mft.old).told → (sector : ℕ) → Contains (places D.Disk (stage_of D.Disk mft.new)) sector
-        → Contains (places D.Disk (stage_of D.Disk mft.old)) sector ⊎ IsOfRows (view D.Disk mft.old) sector }
+        → Contains (places D.Disk (stage_of D.Disk mft.old)) sector ⊎ IsOfRecordBits (view D.Disk mft.old) sector }
     ensures few { length (places D.Disk (stage_of D.Disk mft.new)) ≤ length (places D.Disk (stage_of D.Disk mft.old)) + 1 }
     ensures device { KeepsDisk D.Disk mft.old mft.new }
     ensures err { IfErr result IsReadNo }
@@ -81,7 +81,7 @@ pub fn store_row<D: Disk>(alloc: Global, mft: &mut Mft<'_, D>, n: u64) -> Result
     if n / 8 >= first.written {
         return Ok(());
     }
-    raise_row(alloc, mft, &file, first, n)
+    raise_record_bit(alloc, mft, &file, first, n)
 }
 
 /// Whether the flag of a record can be set so: the stored bitmap of records was written as far as that.
@@ -89,9 +89,13 @@ pub fn store_row<D: Disk>(alloc: Global, mft: &mut Mft<'_, D>, n: u64) -> Result
 /// # Errors
 ///
 /// `Device` where the disk failed, and `Memory`.
-pub fn can_store_row<D: Disk>(alloc: Global, mft: &mut Mft<'_, D>, n: u64) -> Result<bool, FileNo>
+pub fn can_store_record_bit<D: Disk>(
+    alloc: Global,
+    mft: &mut Mft<'_, D>,
+    n: u64,
+) -> Result<bool, FileNo>
     requires volume { IsInUse D.Disk mft.old }
-    ensures can { IfOk result (λ can. IsTrue (view D.Disk mft.old).told → can ≡ has_row_place (view D.Disk mft.old) n) }
+    ensures can { IfOk result (λ can. IsTrue (view D.Disk mft.old).told → can ≡ has_record_bit (view D.Disk mft.old) n) }
     ensures reads { MftReads D.Disk mft.old mft.new 20678 }
     ensures err { IfErr result IsReadNo }
     ensures faults { MatchResult result (λ _. faults_of D.Disk mft.new ≡ faults_of D.Disk mft.old)

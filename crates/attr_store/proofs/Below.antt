@@ -1,0 +1,3 @@
+-- LAWS OF THE CRATES BELOW that those above cite beside their definitions, passed on.
+pub use Rattle.file_record.proofs.Below.{ChangesStream-none, ChangesStream-then, KeepsDisk-reads, KeepsDisk-then, MftReads-none, MftReads-then}
+pub use Rattle.file_record.proofs.ReadLaws.{view-kept}
