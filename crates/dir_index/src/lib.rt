@@ -14,7 +14,7 @@ mod standard;
 mod tests;
 
 pub use entry::{DuplicatedInformation, refresh_entry};
-pub use index_store::{FoundIndex, IndexBlocks, IndexBlocksMut, find_first, find_index};
+pub use index_store::{FoundIndex, IndexBlocks, IndexBlocksMut, find_first, find_index, has_list};
 pub use laws::{directory_edit_laws, directory_search_laws, directory_walk_laws};
 pub use link::link_of_key;
 pub use replace::replace_in;

@@ -31,8 +31,8 @@ removes it. Of a stream of such a file in clusters truncate cuts it, or lengthen
 it within its last cluster, rmstream removes it, and write and hwrite put bytes
 right behind those that were written, into new clusters too, where as many are free
 one behind the other. create PATH makes an empty file, where the index of its
-directory has records, the one to which the name belongs has room for it, and a
-record of the table is free. All other edits are no 28 Unbuilt.
+directory has room for the name as it stands, and a record of the table is free
+that was written. All other edits are no 28 Unbuilt.
 The first edit of a run marks the volume as not closed until the run ends, and
 empties its log; a hibernated system is not recognised, so shut it down before.
 A volume that check refuses is refused in the same words.

@@ -1,5 +1,5 @@
-//! `create`: empty files that come under new names, where the index of their directory has records, and the one to which the name belongs has
-//! room for it.
+//! `create`: empty files that come under new names, where the record of their directory's index to which the name belongs has room for it, or
+//! the root of an index without records.
 use crate::longer::{LARGE, ONE, add_long, stands, told, volume_with};
 use laid_volumes::damage::{RECORD_BITS, byte, is_marked, number, put, record};
 use laid_volumes::laid::{
@@ -122,11 +122,13 @@ fn records_and_entries_tell_the_file(rt: HostRuntime) -> Result<(), test::Fail> 
     let at = record(26);
     assert!(rt; stands(left, at, b"FILE"));
     for (place, wanted) in [
+        (0x10, 1),
         (0x12, 1),
         (0x14, 0x38),
         (0x16, 1),
         (0x18, 0x38 + 96 + 96 + 24 + 8),
         (0x28, 3),
+        (0x2C, 26),
         (0x38, STANDARD_INFORMATION),
         (STANDARD + 0x20, 0x20),
         (STANDARD + 0x34, 256),
@@ -244,61 +246,118 @@ fn volume_with_directory(alloc: Global) -> Result<Vec<u8>, test::Fail> {
     Ok(image)
 }
 
-const SMALL: [Row; 5] = [
-    ("create /d/n", "no 28 Unbuilt\n"),
-    ("create /d/n/n", "no 4 NotFound\n"),
-    ("create /d/n.", "no 9 BadName\n"),
+const SMALL: [Row; 15] = [
+    ("time 9", "ok\n"),
+    ("create /d/n", "ok\n"),
+    ("create /d/N", "no 13 Exists\n"),
+    ("create /d/B", "ok\n"),
+    ("create /d/n/n", "no 5 NotDir\n"),
+    ("create /d/x.", "no 9 BadName\n"),
     ("mkdir /e", "no 28 Unbuilt\n"),
-    ("ls /d", "ok\n"),
+    ("ls /d", "file B\nfile n\nok\n"),
+    ("stat /d/n", "stat file 1 0 0020 256 9 9 9 9\nok\n"),
+    ("stat /d", "stat dir 1 0 0000 256 0 9 9 0\nok\n"),
+    ("links /d/n", "link 0 /d/n\nok\n"),
+    ("write /d/n 0 6869", "ok\n"),
+    ("cat /d/N", "data 6869\nok\n"),
+    ("setattr /d/B 0001", "ok\n"),
+    ("attr /d/B", "attr 0001\nok\n"),
 ];
 
+// Where the value of the root stands in the record of that directory, behind a header of 56 bytes, attributes of 96 and 96, and one of 24 with a
+// name of 4 units.
+const INDEX_VALUE: usize = 0x38 + 96 + 96 + 32;
+
+// The root has an entry of 88 bytes for each name, behind 16 bytes, 16 of its node and before 16 of the last entry.
 #[test]
-fn a_directory_without_index_records_gets_no_name(rt: HostRuntime) -> Result<(), test::Fail> {
+fn names_come_into_a_root_without_records(rt: HostRuntime) -> Result<(), test::Fail> {
     let alloc = rt.alloc();
-    let image = volume_with_directory(alloc)?;
-    assert!(rt; is_sound(alloc, SECTORS, &image)?);
-    assert_eq!(rt; wrong_row(alloc, SECTORS, &image, &SMALL)?, None);
+    let mut disk = writable(alloc, SECTORS, &volume_with_directory(alloc)?)?;
+    assert!(rt; is_sound(alloc, SECTORS, disk.contents())?);
+    assert_eq!(rt; run_rows(alloc, &mut disk, &SMALL)?, (0, None));
+    let left = disk.contents();
+    assert!(rt; is_sound(alloc, SECTORS, left)?);
+    let value = record(26) + INDEX_VALUE;
+    for (place, wanted) in [
+        (20, 32 + 2 * 88),
+        (24, 32 + 2 * 88),
+        (32, 28),
+        (32 + 88, 27),
+    ] {
+        assert_eq!(rt; number(left, value + place), wanted, "{place}");
+    }
     Ok(())
 }
 
 // The node of the record of the root's index begins behind 24 bytes, and tells the bytes up to the end of its entries, and all that it has.
 const NODE: usize = ROOT_INDEX + 0x18;
 
-// A name of 102 letters has an entry of 288 bytes: 16 of its own, 66 and 204 of the name, and 2 up to a multiple of 8.
-const ENTRY: usize = 288;
+// The entry of a name has 16 bytes of its own, 66 and two for each unit of the name, up to a multiple of 8.
+fn entry_len(units: usize) -> usize {
+    (82 + 2 * units).next_multiple_of(8)
+}
 
-const NAME: usize = 102;
-
-// A line for each letter, of which so many are done, and what they answer.
-fn crowded(alloc: Global, done: usize) -> Result<(Vec<u8>, Vec<u8>), test::Fail> {
-    let (mut script, mut wanted) = (Vec::new(alloc), Vec::new(alloc));
-    for (i, letter) in b"abcdefghijklmnopqrstuvwxyz".iter().enumerate() {
-        script.extend_from_slice(b"create /")?;
-        for _ in 1..NAME {
-            script.push(b'n')?;
-        }
-        script.push(*letter)?;
-        script.push(b'\n')?;
-        let reply: &[u8] = if i < done {
-            b"ok\n"
-        } else {
-            b"no 28 Unbuilt\n"
-        };
-        wanted.extend_from_slice(reply)?;
+// A line that makes a file under a name of so many units, and what it answers.
+fn add_create(
+    lines: &mut (Vec<u8>, Vec<u8>),
+    dir: &[u8],
+    units: usize,
+    letter: u8,
+    reply: &[u8],
+) -> Result<(), test::Fail> {
+    let (script, wanted) = lines;
+    script.extend_from_slice(b"create ")?;
+    script.extend_from_slice(dir)?;
+    for _ in 1..units {
+        script.push(letter)?;
     }
-    Ok((script, wanted))
+    script.extend_from_slice(&[letter, b'\n'])?;
+    wanted.extend_from_slice(reply)?;
+    Ok(())
+}
+
+// So many names of as many units, one that is a unit too long for what is left, one that fills it, and one more.
+fn filled_with(
+    alloc: Global,
+    dir: &[u8],
+    names: usize,
+    units: usize,
+    room: usize,
+) -> Result<(Vec<u8>, Vec<u8>), test::Fail> {
+    let mut lines = (Vec::new(alloc), Vec::new(alloc));
+    for letter in b"abcdefghi".iter().take(names) {
+        add_create(&mut lines, dir, units, *letter, b"ok\n")?;
+    }
+    let left = room.saturating_sub(names.saturating_mul(entry_len(units)));
+    let fits = left.saturating_sub(82) / 2;
+    add_create(
+        &mut lines,
+        dir,
+        fits.saturating_add(1),
+        b'm',
+        b"no 28 Unbuilt\n",
+    )?;
+    add_create(&mut lines, dir, fits, b'm', b"ok\n")?;
+    add_create(&mut lines, dir, 1, b'z', b"no 28 Unbuilt\n")?;
+    Ok(lines)
 }
 
 #[test]
-fn names_come_as_long_as_the_index_record_has_room(rt: HostRuntime) -> Result<(), test::Fail> {
+fn names_come_as_long_as_there_is_room(rt: HostRuntime) -> Result<(), test::Fail> {
     let alloc = rt.alloc();
-    let image = volume(alloc)?;
-    let room = number(&image, NODE + 8).saturating_sub(number(&image, NODE + 4));
-    let (script, wanted) = crowded(alloc, room / ENTRY)?;
-    let mut disk = writable(alloc, SECTORS, &image)?;
-    let (status, out) = told(alloc, &mut disk, &script)?;
-    assert_eq!(rt; (status, out.bytes()), (0, wanted.as_slice()));
-    assert!(rt; is_sound(alloc, SECTORS, disk.contents())?);
+    let image = volume_with_directory(alloc)?;
+    let in_record = number(&image, NODE + 8).saturating_sub(number(&image, NODE + 4));
+    let beside_root = 1024usize.saturating_sub(number(&image, record(26) + 0x18));
+    for (dir, names, units, room) in [
+        (b"/".as_slice(), 9, 102, in_record),
+        (b"/d/".as_slice(), 6, 1, beside_root),
+    ] {
+        let (script, wanted) = filled_with(alloc, dir, names, units, room)?;
+        let mut disk = writable(alloc, SECTORS, &image)?;
+        let (status, out) = told(alloc, &mut disk, &script)?;
+        assert_eq!(rt; (status, out.bytes()), (0, wanted.as_slice()));
+        assert!(rt; is_sound(alloc, SECTORS, disk.contents())?);
+    }
     Ok(())
 }
 

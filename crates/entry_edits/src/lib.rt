@@ -3,5 +3,5 @@
 
 mod laws;
 
-pub use dir_index::{FoundIndex, IndexBlocks, IndexBlocksMut, find_first, find_index};
+pub use dir_index::{FoundIndex, IndexBlocks, IndexBlocksMut, find_first, find_index, has_list};
 pub use laws::{refreshed_clauses, refreshed_items, refreshed_keys};

@@ -4,6 +4,7 @@ pub mod EntryLaws
 pub mod RecordSteps
 pub mod FreeParts
 pub mod FlaggedLaws
+pub mod EnterLaws
 pub mod UnderLaws
 pub mod RoomKept
 pub mod MadeUnder

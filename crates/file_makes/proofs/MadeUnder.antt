@@ -1,24 +1,27 @@
 -- A FILE MADE UNDER ITS NAME: what stands between its record and its entry, and what the steps are together.
-use Rattle.std.proofs.Common.{◌≡◌, ◌+◌, ◌≤◌, ℕ, Bool, List, [], None, true, codes, cond, inl, inr, length, ltb, sym, ap, subst, ◌∙◌, arith}
+use Rattle.std.proofs.Common.{◌≡◌, ◌≢◌, ◌+◌, ◌*◌, ◌≤◌, ◌||◌, ℕ, Bool, List, [], Option, None, codes, cond, inl, inr, length, ltb, sym, ap, subst}
+use Rattle.std.proofs.Common.{◌∙◌, arith}
+use Rattle.std.proofs.lemmas.Bool.{cases_eq}
 use Rattle.std.specs.Prelude.{Contains, IsSomeAnd, IsTrue, filter}
 use Rattle.std.specs.List.{flat_map}
 use Rattle.vol_disk.specs.declared.Disk.{Ghosts}
-use Rattle.vol_stage.specs.Staged.{places}
+use Rattle.vol_stage.specs.Staged.{StagesOnly, places}
 use Rattle.ntfs_def.specs.Units.{wide}
 use Rattle.ntfs_def.specs.declared.kinds.TheConstants.{INDEX_ALLOCATION}
 use Rattle.ntfs_def.specs.FileName.{FileName, key_units, name_in}
 use Rattle.ntfs_def.specs.Record.{reference_in}
 use Rattle.ntfs_def.specs.Rounded.{up_to_8}
 use Rattle.volume_def.specs.CaseClause.{volume_fold}
-use Rattle.volume_def.specs.Files.{is_base, is_of, record_in, record_on}
+use Rattle.volume_def.specs.Files.{Record, file_of, is_base, is_of, record_in, record_on}
 use Rattle.volume_def.specs.IndexesClause.{IsDirectoryIndex}
 use Rattle.volume_def.specs.Readable.{IsFile}
-use Rattle.volume_def.specs.Table.{TableLayout}
+use Rattle.volume_def.specs.Table.{IsWellFormed, TableLayout}
 use Rattle.volume_def.specs.Values.{spot_at}
 use Rattle.volume_def.specs.View.{VolumeView}
 use Rattle.volume_edits.specs.Clusters.{record_sectors}
 use Rattle.mft_table.specs.declared.mft.Mft.{Mft}
 use Rattle.mft_table.specs.Mft.{stage_of, view}
+use Rattle.mft_table.specs.Staging.{record_places}
 use Rattle.mft_table.specs.declared.mounted.Mounted.{Mounted}
 use Rattle.mft_table.specs.Changes.{with_record_taken}
 use Rattle.mft_table.specs.FreeRecords.{IsOrdinaryFree}
@@ -28,16 +31,21 @@ use Rattle.edit_def.specs.Marks.{AreRight, Marks}
 use Rattle.edit_def.proofs.IndexLaws.{items-of-directory}
 use Rattle.made_edits.specs.Marks.{marks_of}
 use Rattle.stream_overwrites.proofs.QuietSound.{stored-right}
+use Rattle.stream_overwrites.proofs.Rows.{free-unused}
+use Rattle.stream_overwrites.proofs.ShownFile.{may-edit}
+use Rattle.made_edits.specs.Standard.{IsInitialized}
 use Rattle.made_edits.specs.Replaced.{StagesRecords}
-use Rattle.made_edits.proofs.FewStaged.{each-few, few-index, few-staged}
+use Rattle.made_edits.proofs.FewStaged.{each-few, few-index, few-record, few-staged}
 use Rattle.tree_model.specs.LeafRoom.{has_leaf_room, names_of_directory}
+use Rattle.tree_model.specs.RootRoom.{has_root_room}
 use Rattle.made_edits.specs.Between.{HasNewFile}
 use Rattle.made_edits.specs.Comes.{ComesNamed, ComesUnder, IsNewKey, new_reference}
 use Rattle.made_edits.proofs.BetweenMade.{has-new-file}
 use Rattle.made_edits.proofs.IndexPut.{no-equal}
 use Rattle.made_edits.proofs.ShownDirectory.{directory-index}
 use Rattle.file_makes.specs.Steps.{ComesFlagged, StagesFile}
-use Rattle.file_makes.specs.Under.{EntersName, HasNameRoom, MayEnter, MayMake, StagesMade, entry_bytes}
+use Rattle.file_makes.specs.Enters.{EntersName, HasEntryRoom, MayEnter, StagesEntry, entry_bytes}
+use Rattle.file_makes.specs.Under.{HasNameRoom, MayMake, StagesMade}
 use Rattle.file_makes.proofs.RoomKept.{room-kept}
 
 -- the steps of the record, in the words of those above
@@ -65,12 +73,13 @@ same-marks e f = cc
 
 -- the room for a new name is that for the entry of its value
 new-room : (view : VolumeView) (dir : ℕ) (units : List ℕ) (moment : ℕ) (key : List ℕ) → IsNewKey view dir units moment key
-    → HasNameRoom view dir units → has_leaf_room view dir (key_units key) (entry_bytes key) ≡ true
+    → HasNameRoom view dir units → HasEntryRoom view dir (key_units key) (entry_bytes key)
 unfolding name_in
 new-room view dir units moment key is room =
-    ap (λ (us : List ℕ). has_leaf_room view dir us (entry_bytes key)) (ap (λ (f : FileName). f.units) is.name)
-    ∙ ap (λ (len : ℕ). has_leaf_room view dir units (up_to_8 (16 + len))) is.long
-    ∙ ap (λ (len : ℕ). has_leaf_room view dir units (up_to_8 len)) (omega arith) ∙ room
+    let has : List ℕ → ℕ → Bool = λ us len. has_leaf_room view dir us len || has_root_room view dir len in
+    ap (λ (us : List ℕ). has us (entry_bytes key)) (ap (λ (f : FileName). f.units) is.name)
+    ∙ ap (λ (len : ℕ). has units (up_to_8 (16 + len))) is.long
+    ∙ ap (λ (len : ℕ). has units (up_to_8 len)) (omega arith) ∙ room
 
 pub right-marks : (view : VolumeView) (mounted : Mounted) → IsSoundVolume view mounted → AreRight view (marks_of mounted)
 right-marks view mounted is =
@@ -90,25 +99,43 @@ module _ (old new : VolumeView) (was now : Mounted) (n dir : ℕ) (standard key 
   shown : IsShown old dir
   shown = is_shown old dir may.node may.can.parent.there
 
-  same-record : record_on new dir ≡ record_on old dir
-  same-record =
-      ap (λ (l : TableLayout). cond (ltb dir l.count) (record_in dir (new.block dir)) None) file.leaves.layout
-      ∙ ap (λ block. cond (ltb dir old.layout.count) (record_in dir block) None) (file.leaves.blocks dir file.other)
+  record-same : (m : ℕ) → m ≢ n → record_on new m ≡ record_on old m
+  record-same m differ =
+      ap (λ (l : TableLayout). cond (ltb m l.count) (record_in m (new.block m)) None) file.leaves.layout
+      ∙ ap (λ block. cond (ltb m old.layout.count) (record_in m block) None) (file.leaves.blocks m differ)
 
   is-file : IsFile new dir
-  is-file = subst (λ o. IsSomeAnd o (λ r. IsTrue (is_base r))) (sym (same-record ∙ shown.at)) shown.is
+  is-file = subst (λ o. IsSomeAnd o (λ r. IsTrue (is_base r))) (sym (record-same dir file.other ∙ shown.at)) shown.is
 
-  pub may-enter : (table : List ℕ) → table ≡ was.upcase → MayEnter new dir table key
-  may-enter table same = record {
-    readable = file.ready.editable.readable;
-    is_file = is-file;
-    owners = file.apart.owners;
+  -- its records were written, as that of the file was
+  written : 1024 * n + 1024 ≤ old.layout.initialized → IsInitialized new dir
+  written block m of = subst (λ (l : TableLayout). 1024 * m + 1024 ≤ l.initialized) (sym file.leaves.layout) (elim (cases_eq m n) [
+    | inl same ↦ subst (λ k. 1024 * k + 1024 ≤ old.layout.initialized) (sym same) block
+    | inr differ ↦ may.written m (record {
+      belongs = subst (λ (o : Option Record). IsSomeAnd o (λ r. file_of m r ≡ dir)) (record-same m differ) of.belongs;
+      well_formed = subst IsWellFormed (file.leaves.blocks m differ) of.well_formed;
+    })
+  ])
+
+  -- that was free
+  unused : record_on old n ≡ None
+  unused = free-unused old (marks_of was) n (right-marks old was is) comes.free
+
+  pub may-enter : (table : List ℕ) → table ≡ was.upcase → 1024 * n + 1024 ≤ old.layout.initialized
+      → MayEnter new (marks_of now) dir table key
+  may-enter table same block = record {
+    ready_for = record {
+      ready = file.ready;
+      is_file = is-file;
+      may = may-edit old dir may.node may.can.parent.there;
+      written = written block;
+    };
     items = index.items;
     has = file.items dir file.other index.items (items-of-directory old dir index);
     case = same ∙ is.stored.upcase_is ∙ sym file.case_table;
     absent = no-equal old dir may.units key index (ap (λ (f : FileName). f.units) may.new_key.name) may.can.absent (volume_fold new);
-    room = room-kept old new (marks_of now) n dir standard key file may.can.parent.apart.owners may.can.parent.apart.some (key_units key)
-        (entry_bytes key)
+    room = room-kept old new (marks_of now) n dir standard key file may.can.parent.apart.owners may.can.parent.apart.some unused
+        (key_units key) (entry_bytes key)
         ∙ new-room old dir may.units may.moment key may.new_key may.room;
   }
 
@@ -119,7 +146,7 @@ module _ (old new : VolumeView) (was now : Mounted) (n dir : ℕ) (standard key 
   pub layout-same : new.layout ≡ old.layout
   layout-same = file.leaves.layout
 
--- THE SECTORS: those of the record and of its flag, and then those of a record of the index
+-- THE SECTORS: those of the record and of its flag, and then those of what holds the entry
 pub made-first : {D : Type 0} (g : Ghosts D) (view : VolumeView) (n dir : ℕ) (a b : Mft D g) → StagesFile g view n a b
     → length (places g (stage_of g b)) ≤ length (places g (stage_of g a)) + 3 → StagesMade g view n dir a b
 made-first g view n dir a b stages few = record {
@@ -132,28 +159,55 @@ made-first g view n dir a b stages few = record {
   ];
 }
 
-pub made-both : {D : Type 0} (g : Ghosts D) (old : VolumeView) (n dir : ℕ) (a b c : Mft D g) → IsTrue (view g b).told
-    → (names_of_directory (view g b) dir).records ≡ (names_of_directory old dir).records → (view g b).layout ≡ old.layout
-    → StagesFile g old n a b → length (places g (stage_of g b)) ≤ length (places g (stage_of g a)) + 3
-    → StagesRecords g 1 (names_of_directory (view g b) dir).records b c → StagesMade g old n dir a c
-made-both g old n dir a b c told parts layout first few second = record {
-  vcns = second.vcns;
-  few = second.few;
-  count =
-      let of = record_sectors (view g b).layout (spot_at (names_of_directory (view g b) dir).records) in
-      let more = few-staged g (flat_map of second.vcns) (stage_of g b) (stage_of g c) (second.places told) in
-      let eight = each-few of 8 second.vcns (few-index (view g b).layout (spot_at (names_of_directory (view g b) dir).records)) in
-      omega (arith, few, more, eight, second.few);
-  places = λ s there. elim ((second.places told).only s there) [
-    | inr new ↦ inr (inr (inr (subst (λ ps. Contains (flat_map (record_sectors old.layout (spot_at ps)) second.vcns) s) parts
-        (subst (λ (l : TableLayout). Contains (flat_map (record_sectors l (spot_at (names_of_directory (view g b) dir).records)) second.vcns) s)
-        layout new))))
-    | inl before ↦ elim (first s before) [
-      | inl was ↦ inl was
-      | inr new ↦ elim new [ inl row ↦ inr (inl row) | inr place ↦ inr (inr (inl place)) ]
-    ]
-  ];
-}
+module _ {D : Type 0} (g : Ghosts D) (old : VolumeView) (n dir : ℕ) (a b c : Mft D g) (first : StagesFile g old n a b)
+    (few : length (places g (stage_of g b)) ≤ length (places g (stage_of g a)) + 3) where
+  -- .. of a record of the index,
+  made-index : IsTrue (view g b).told → (names_of_directory (view g b) dir).records ≡ (names_of_directory old dir).records
+      → (view g b).layout ≡ old.layout → StagesRecords g 1 (names_of_directory (view g b) dir).records b c → StagesMade g old n dir a c
+  made-index told parts layout second = record {
+    vcns = second.vcns;
+    few = second.few;
+    count =
+        let of = record_sectors (view g b).layout (spot_at (names_of_directory (view g b) dir).records) in
+        let more = few-staged g (flat_map of second.vcns) (stage_of g b) (stage_of g c) (second.places told) in
+        let eight = each-few of 8 second.vcns (few-index (view g b).layout (spot_at (names_of_directory (view g b) dir).records)) in
+        omega (arith, few, more, eight, second.few);
+    places = λ s there. elim ((second.places told).only s there) [
+      | inr new ↦ inr (inr (inr (inl (subst (λ ps. Contains (flat_map (record_sectors old.layout (spot_at ps)) second.vcns) s) parts
+          (subst (λ (l : TableLayout). Contains (flat_map (record_sectors l (spot_at (names_of_directory (view g b) dir).records))
+          second.vcns) s) layout new)))))
+      | inl before ↦ elim (first s before) [
+        | inl was ↦ inl was
+        | inr new ↦ elim new [ inl row ↦ inr (inl row) | inr place ↦ inr (inr (inl place)) ]
+      ]
+    ];
+  }
+
+  -- .. or of the record of the directory
+  made-own : (view g b).layout ≡ old.layout → StagesOnly g (record_places (view g b).layout dir) (stage_of g b) (stage_of g c)
+      → StagesMade g old n dir a c
+  made-own layout second = record {
+    vcns = [];
+    few = omega arith;
+    count =
+        let more = few-staged g (record_places (view g b).layout dir) (stage_of g b) (stage_of g c) second in
+        let four = few-record (view g b).layout dir in
+        omega (arith, few, more, four);
+    places = λ s there. elim (second.only s there) [
+      | inr new ↦ inr (inr (inr (inr (subst (λ (l : TableLayout). Contains (record_places l dir) s) layout new))))
+      | inl before ↦ elim (first s before) [
+        | inl was ↦ inl was
+        | inr new ↦ elim new [ inl row ↦ inr (inl row) | inr place ↦ inr (inr (inl place)) ]
+      ]
+    ];
+  }
+
+  pub made-both : IsTrue (view g b).told → (names_of_directory (view g b) dir).records ≡ (names_of_directory old dir).records
+      → (view g b).layout ≡ old.layout → StagesEntry g dir b c → StagesMade g old n dir a c
+  made-both told parts layout second = elim second [
+    | inl index ↦ made-index told parts layout index
+    | inr own ↦ made-own layout own
+  ]
 
 -- TOGETHER
 pub comes-under : (old counted new : VolumeView) (was now : Mounted) (n dir reference : ℕ) (standard key : List ℕ)

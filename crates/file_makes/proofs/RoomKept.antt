@@ -1,63 +1,70 @@
 -- THE ROOM FOR AN ENTRY in a directory is what it was where a file came that has no name in it yet.
-use Rattle.std.proofs.Common.{◌≡◌, ◌*◌, ◌+◌, ◌<◌, ℕ, Bool, false, List, codes, Option, inl, refl, ap, ◌∙◌, arith}
-use Rattle.std.proofs.Math.Path.{fun_ext}
-use Rattle.std.specs.Prelude.{filter, slice_range}
-use Rattle.std.specs.Option.{option_and_then, option_map_or}
-use Rattle.ntfs_def.specs.FileName.{key_units}
-use Rattle.ntfs_def.specs.Fixup.{opened_of}
-use Rattle.ntfs_def.specs.IndexTree.{Nodes}
-use Rattle.ntfs_def.specs.KeyOrder.{compare_units}
-use Rattle.ntfs_def.specs.Node.{Node, short_node}
+use Rattle.std.proofs.Common.{◌≡◌, ◌≢◌, ◌<◌, ◌||◌, ℕ, List, codes, Option, Some, None, inl, refl, sym, ap, ◌∙◌, arith}
+use Rattle.std.specs.Prelude.{Contains, IfSome, filter}
+use Rattle.list_laws.proofs.FindLaws.{find-found}
+use Rattle.list_laws.proofs.MemberLaws.{Contains-from_filter}
+use Rattle.list_laws.proofs.OptionLaws.{none_other}
 use Rattle.ntfs_def.specs.Units.{wide}
-use Rattle.ntfs_def.specs.declared.index.NodeForm.TheVariants.{Names}
-use Rattle.ntfs_def.specs.declared.kinds.TheConstants.{INDEX_ALLOCATION, INDEX_ROOT}
-use Rattle.ntfs_def.specs.declared.lengths.TheConstants.{INDEX_RECORD}
-use Rattle.volume_def.specs.CaseClause.{volume_fold}
-use Rattle.volume_def.specs.Files.{content_value, is_of}
-use Rattle.volume_def.specs.IndexesClause.{index_nodes, stored_index_record}
+use Rattle.ntfs_def.specs.declared.kinds.TheConstants.{BITMAP, INDEX_ALLOCATION, INDEX_ROOT}
+use Rattle.volume_def.specs.Files.{Part, is_of, parts, record_on, records_of}
+use Rattle.volume_def.specs.IndexesClause.{IndexParts}
 use Rattle.volume_def.specs.Table.{TableLayout, cluster_bytes}
-use Rattle.volume_def.specs.Values.{first_part, value_on}
+use Rattle.volume_def.specs.Values.{first_part, is_first, value_on}
 use Rattle.volume_def.specs.View.{VolumeView}
+use Rattle.volume_def.proofs.PartLaws.{IsPart-Contains, NameHolders-view}
 use Rattle.volume_edits.specs.Owners.{HasOwners}
-use Rattle.tree_model.specs.IndexRoom.{directory_index, other_nodes, root_of}
 use Rattle.edit_def.specs.Marks.{Marks}
-use Rattle.tree_model.specs.LeafRoom.{has_leaf_room, has_room, leaf_of, names_of_directory}
+use Rattle.tree_model.specs.LeafRoom.{has_leaf_room, names_of_directory}
+use Rattle.tree_model.specs.RootRoom.{has_root_room}
+use Rattle.made_edits.proofs.RoomStays.{leaf-stays, root-stays}
 use Rattle.made_edits.specs.Between.{HasNewFile}
 use Rattle.made_edits.specs.Left.{is_row_key}
 use Rattle.made_edits.proofs.LeftLaws.{value-kept}
 
+abbrev names : List ℕ
+names = wide (codes "$I30")
+
 module _ (old new : VolumeView) (marks : Marks) (n dir : ℕ) (standard key : List ℕ) (file : HasNewFile old new marks n dir standard key)
-    (owners : HasOwners old) (some : 0 < old.layout.cluster_sectors) where
+    (owners : HasOwners old) (some : 0 < old.layout.cluster_sectors) (none : record_on old n ≡ None) where
   -- the records of its index
-  value-same : value_on new (names_of_directory new dir).records ≡ value_on old (names_of_directory old dir).records
+  index-same : names_of_directory new dir ≡ names_of_directory old dir
+  index-same =
+      ap (λ (all : List Part). let index : IndexParts = record {
+        root = filter (is_of INDEX_ROOT names) all;
+        records = filter (is_of INDEX_ALLOCATION names) all;
+        bits = filter (is_of BITMAP names) all;
+      } in index) file.directory
+
+  value-same : value_on new (names_of_directory old dir).records ≡ value_on old (names_of_directory old dir).records
   value-same =
-      value-kept is_row_key n old new file.leaves owners some dir INDEX_ALLOCATION (wide (codes "$I30")) file.other refl
+      ap (λ (index : IndexParts). value_on new index.records) (sym index-same)
+      ∙ value-kept is_row_key n old new file.leaves owners some dir INDEX_ALLOCATION names file.other refl
       (inl (λ e. absurd (omega (arith, e))))
 
-  record-same : (vcn : ℕ) → stored_index_record new (names_of_directory new dir) vcn ≡ stored_index_record old (names_of_directory old dir) vcn
-  record-same vcn =
-      ap (λ (l : TableLayout). slice_range (value_on new (names_of_directory new dir).records) (vcn * cluster_bytes l)
-      (vcn * cluster_bytes l + INDEX_RECORD)) file.leaves.layout
-      ∙ ap (λ value. slice_range value (vcn * cluster_bytes old.layout) (vcn * cluster_bytes old.layout + INDEX_RECORD)) value-same
+  leaf-room : (sought : List ℕ) (len : ℕ) → has_leaf_room new dir sought len ≡ has_leaf_room old dir sought len
+  leaf-room sought len =
+      leaf-stays old new dir sought len index-same value-same (ap (λ (l : TableLayout). cluster_bytes l) file.leaves.layout) file.fold
 
-  nodes-same : other_nodes new (directory_index dir) ≡ other_nodes old (directory_index dir)
-  unfolding index_nodes
-  nodes-same = fun_ext (λ vcn. ap (λ bytes. short_node Names (opened_of bytes)) (record-same vcn))
+  -- .. and the record that holds its root, which is not that of the file
+  holder-other : (part : Part) → Contains (parts (records_of old) dir) part → part.holder ≢ n
+  holder-other part among same =
+      let its = IsPart-Contains (records_of old) dir part (NameHolders-view old) among in
+      none_other (sym none ∙ sym (ap (record_on old) same) ∙ its.held)
 
-  -- .. and its root
-  root-same : root_of new (directory_index dir) ≡ root_of old (directory_index dir)
-  root-same =
-      ap (λ ps. option_and_then (λ part. option_and_then (short_node Names) (content_value part.content))
-      (first_part (filter (is_of INDEX_ROOT (wide (codes "$I30"))) ps))) file.directory
+  holder-same : IfSome (first_part (names_of_directory old dir).root) (λ part. new.block part.holder ≡ old.block part.holder)
+  holder-same = by (first_part (names_of_directory old dir).root) refl
+    where
+      by : (o : Option Part) → first_part (names_of_directory old dir).root ≡ o
+          → IfSome o (λ part. new.block part.holder ≡ old.block part.holder)
+      by None e = tt
+      by (Some part) e =
+          let found = find-found is_first (names_of_directory old dir).root part e in
+          let among = Contains-from_filter (is_of INDEX_ROOT names) (parts (records_of old) dir) part found.0 in
+          file.leaves.blocks part.holder (holder-other part among.0)
 
-  pub room-kept : (sought : List ℕ) (len : ℕ) → has_leaf_room new dir sought len ≡ has_leaf_room old dir sought len
-  unfolding has_leaf_room
+  -- THE ROOM
+  pub room-kept : (sought : List ℕ) (len : ℕ)
+      → (has_leaf_room new dir sought len || has_root_room new dir len) ≡ (has_leaf_room old dir sought len || has_root_room old dir len)
   room-kept sought len =
-      let here : (ℕ → List ℕ) → ℕ → Bool = λ records vcn. has_room len (opened_of (records vcn)) in
-      let room : (ℕ → ℕ) → (ℕ → List ℕ) → Nodes → Option Node → Bool = λ fold records nodes root.
-      option_map_or (here records) (leaf_of (λ key. compare_units fold (key_units key) sought) nodes root) false in
-      let records : VolumeView → ℕ → List ℕ = λ view vcn. stored_index_record view (names_of_directory view dir) vcn in
-      ap (λ fold. room fold (records new) (other_nodes new (directory_index dir)) (root_of new (directory_index dir))) file.fold
-      ∙ ap (λ all. room (volume_fold old) all (other_nodes new (directory_index dir)) (root_of new (directory_index dir))) (fun_ext record-same)
-      ∙ ap (λ nodes. room (volume_fold old) (records old) nodes (root_of new (directory_index dir))) nodes-same
-      ∙ ap (λ root. room (volume_fold old) (records old) (other_nodes old (directory_index dir)) root) root-same
+      ap (λ leaf. leaf || has_root_room new dir len) (leaf-room sought len)
+      ∙ ap (λ root. has_leaf_room old dir sought len || root) (root-stays old new dir len file.directory holder-same)

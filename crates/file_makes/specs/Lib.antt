@@ -1,5 +1,6 @@
 pub mod NewBytes
 pub mod Steps
+pub mod Enters
 pub mod Under
 -- Words of the crates below, passed on to those above.
 pub use Rattle.made_edits.specs.Comes

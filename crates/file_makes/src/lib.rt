@@ -3,6 +3,7 @@
 
 mod entry;
 mod flagged;
+mod index;
 mod key;
 mod make;
 mod named;
@@ -14,6 +15,6 @@ mod under;
 
 pub use entry::new_entry;
 pub use key::new_key;
-pub use made_edits::{can_store_record_bit, has_leaf_room, index_depth};
+pub use made_edits::{can_store_record_bit, has_leaf_room, has_root_room, index_depth};
 pub use make::make_file;
 pub use standard::new_standard;

@@ -7,6 +7,7 @@ ghost use Rattle.mft_table.specs.Mft.{faults_of, is_mft_broken, mounted_of, view
 ghost use Rattle.mft_table.specs.MirrorClusters.{IsMirrorInside};
 ghost use Rattle.file_record.specs.FileNos.{CountsNo, IsReadNo};
 ghost use Rattle.tree_model.specs.declared.tree.Node.{Node};
+ghost use Rattle.made_edits.specs.Standard.{IsInitialized};
 ghost use Rattle.made_edits.specs.Comes.{CanMake};
 ghost use Rattle.made_edits.specs.Makes.{MakesFile};
 ghost use Rattle.file_makes.specs.Steps.{KeepsDevice};
@@ -26,8 +27,9 @@ use vol_disk::Disk;
 /// entry of its name. All of it is staged, and a discard leaves the volume as it was. The times of the directory are the caller's to set.
 ///
 /// By condition, where the contents are told: the directory is shown, and no name of it is the same (`CanMake`); the flag of that record
-/// has a place in the stored bitmap, and its block was written (`HasRecordRoom`); and the directory's index has room for the entry in the
-/// record in which the search for the name ends (`HasNameRoom`).
+/// has a place in the stored bitmap, and its block was written (`HasRecordRoom`); the directory's index has room for the entry, in the
+/// record in which the search for the name ends, or in its root, where it has no records (`HasNameRoom`); and the records of the directory
+/// lie in what was written of the table.
 ///
 /// # Errors
 ///
@@ -51,6 +53,7 @@ pub fn make_file<D: Disk>(
     requires record_bit { IsTrue (view D.Disk mft.old).told → (n : ℕ) → IsLeastFree (mounted_of D.Disk mft.old).records n
         → HasRecordRoom (view D.Disk mft.old) n }
     requires room { IsTrue (view D.Disk mft.old).told → HasNameRoom (view D.Disk mft.old) dir name.now }
+    requires written { IsTrue (view D.Disk mft.old).told → IsInitialized (view D.Disk mft.old) dir }
     ensures least { IfOk result (IsLeastFree (mounted_of D.Disk mft.old).records) }
     ensures bits { IfOk result (λ n. mounted_of D.Disk mft.new ≡ with_record_taken (mounted_of D.Disk mft.old) n) }
     ensures made { IfOk result (λ n. IsTrue (view D.Disk mft.old).told → MakesFile (view D.Disk mft.old) (view D.Disk mft.new)

@@ -2,15 +2,15 @@
 ghost use Rattle.std.specs.Prelude.{◌≡◌, ◌<◌, ◌≤◌, IfErr, IfOk, IsTrue, MatchResult, OnOk, false, length};
 ghost use Rattle.ntfs_def.specs.FileName.{is_name_key};
 ghost use Rattle.mft_table.specs.Mft.{KeepsDisk, faults_of, is_mft_broken, mounted_of, view};
+ghost use Rattle.mft_table.specs.MirrorClusters.{IsMirrorInside};
 ghost use Rattle.file_record.specs.declared.error.FileNo.TheVariants.{Memory};
 ghost use Rattle.file_record.specs.FileNos.{CountsNo, IsReadNo};
-ghost use Rattle.made_edits.specs.Replaced.{StagesRecords};
-ghost use Rattle.tree_model.specs.LeafRoom.{names_of_directory};
-ghost use Rattle.file_makes.specs.Under.{EntersName, MayEnter};
+ghost use Rattle.made_edits.specs.Marks.{marks_of};
+ghost use Rattle.file_makes.specs.Enters.{EntersName, MayEnter, StagesEntry};
 
 use crate::entry::new_entry;
+use crate::index::put_in_index;
 use file_record::{FileNo, FileParts};
-use made_edits::put_item;
 use mft_table::Mft;
 use std::alloc::Global;
 use upcase::UpCase;
@@ -27,8 +27,8 @@ fn share(upcase: &UpCase) -> Result<UpCase, FileNo>
     }
 }
 
-/// Puts the entry of a name, for the file of this reference, into the index of a directory, in the record of it in which the search for
-/// the name ends, which is staged.
+/// Puts the entry of a name, for the file of this reference, into the index of a directory: into its root, where the index has no records,
+/// or into the record of it in which the search for the name ends. What holds the entry is staged.
 ///
 /// # Errors
 ///
@@ -43,12 +43,13 @@ pub fn put_under<D: Disk>(
     requires inside { dir < length (mounted_of D.Disk mft.old).records }
     requires few { length key.now ≤ 576 }
     requires key { IsTrue (is_name_key key.now) }
+    requires mirror { IsMirrorInside (mounted_of D.Disk mft.old) }
     requires sound { is_mft_broken D.Disk mft.old ≡ false }
-    requires may { IsTrue (view D.Disk mft.old).told → MayEnter (view D.Disk mft.old) dir (mounted_of D.Disk mft.old).upcase key.now }
+    requires may { IsTrue (view D.Disk mft.old).told → MayEnter (view D.Disk mft.old) (marks_of (mounted_of D.Disk mft.old)) dir
+        (mounted_of D.Disk mft.old).upcase key.now }
     ensures enters { OnOk result (IsTrue (view D.Disk mft.old).told
         → EntersName (view D.Disk mft.old) (view D.Disk mft.new) dir file key.now) }
-    ensures places { IsTrue (view D.Disk mft.old).told
-        → StagesRecords D.Disk 1 (names_of_directory (view D.Disk mft.old) dir).records mft.old mft.new }
+    ensures places { IsTrue (view D.Disk mft.old).told → StagesEntry D.Disk dir mft.old mft.new }
     ensures disk { KeepsDisk D.Disk mft.old mft.new }
     ensures err { IfErr result IsReadNo }
     ensures faults { MatchResult result (λ _. faults_of D.Disk mft.new ≡ faults_of D.Disk mft.old)
@@ -56,7 +57,7 @@ pub fn put_under<D: Disk>(
 {
     let entry = new_entry(alloc, file, key)?;
     let upcase = share(&mft.mounted().upcase)?;
-    let directory = FileParts::load(alloc, mft, dir)?;
-    put_item(alloc, mft, &directory, upcase, &entry)?;
+    let mut directory = FileParts::load(alloc, mft, dir)?;
+    put_in_index(alloc, mft, &mut directory, upcase, &entry)?;
     Ok(())
 }

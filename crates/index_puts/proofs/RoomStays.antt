@@ -1,6 +1,7 @@
 -- The room stays where the parts of the directory do, and what it is told from.
-use Rattle.std.proofs.Common.{◌≡◌, ◌+◌, ◌-◌, ◌*◌, ℕ, Bool, false, List, [], Option, Some, None, filter, slice_range, refl, sym, ap, ◌∙◌}
+use Rattle.std.proofs.Common.{◌≡◌, ◌+◌, ◌-◌, ◌*◌, ℕ, Bool, false, List, Option, Some, None, filter, slice_range, refl, sym, ap, ◌∙◌}
 use Rattle.std.specs.Prelude.{◌&&◌, IfSome, codes, is_some, nat_le, not}
+use Rattle.std.specs.List.{list_any}
 use Rattle.std.specs.Option.{option_and_then, option_map_or}
 use Rattle.ntfs_def.specs.FileName.{key_units}
 use Rattle.ntfs_def.specs.Fixup.{opened_of}
@@ -9,11 +10,12 @@ use Rattle.ntfs_def.specs.Node.{Node, short_node}
 use Rattle.ntfs_def.specs.Record.{used_size}
 use Rattle.ntfs_def.specs.Units.{wide}
 use Rattle.ntfs_def.specs.declared.index.NodeForm.TheVariants.{Names}
-use Rattle.ntfs_def.specs.declared.kinds.TheConstants.{ATTRIBUTE_LIST, INDEX_ROOT}
+use Rattle.ntfs_def.specs.declared.kinds.TheConstants.{INDEX_ROOT}
 use Rattle.ntfs_def.specs.declared.lengths.TheConstants.{INDEX_RECORD}
 use Rattle.volume_def.specs.CaseClause.{volume_fold}
 use Rattle.volume_def.specs.Files.{Part, content_value, is_of, parts, records_of}
 use Rattle.volume_def.specs.IndexesClause.{IndexParts, index_nodes}
+use Rattle.volume_def.specs.ListsClause.{is_list}
 use Rattle.volume_def.specs.Room.{free_bytes}
 use Rattle.volume_def.specs.Table.{cluster_bytes}
 use Rattle.volume_def.specs.Values.{first_part, value_on}
@@ -60,7 +62,7 @@ beside-in old new len None same = refl
 beside-in old new len (Some part) same = ap (λ (block : List ℕ). nat_le len (1024 - used_size (opened_of block))) same
 
 abbrev listed-in : List Part → Bool
-listed-in all = is_some (first_part (filter (is_of ATTRIBUTE_LIST []) all))
+listed-in all = list_any is_list all
 
 abbrev names-in : List Part → List Part
 names-in all = filter (is_of INDEX_ROOT (wide (codes "$I30"))) all

@@ -1,21 +1,23 @@
 -- The room of a root, from what is told of the directory that is held.
 use Rattle.std.proofs.Common.{◌≡◌, ℕ, Bool, true, false, List, [], ◌∷◌, map, Option, Some, None, length, refl, sym, ap, subst, ◌∙◌}
 use Rattle.std.specs.Prelude.{◌&&◌, codes, filter, is_some, nat_le, not}
+use Rattle.std.specs.List.{list_any}
 use Rattle.std.specs.Option.{option_map_or}
 use Rattle.list_laws.proofs.OptionLaws.{some_same}
 use Rattle.ntfs_def.specs.Node.{Entry, Item, Node, child_from, node_in, short_node}
 use Rattle.ntfs_def.specs.Units.{wide}
 use Rattle.ntfs_def.specs.declared.index.NodeForm.TheVariants.{Names}
-use Rattle.ntfs_def.specs.declared.kinds.TheConstants.{ATTRIBUTE_LIST, INDEX_ROOT}
+use Rattle.ntfs_def.specs.declared.kinds.TheConstants.{INDEX_ROOT}
 use Rattle.volume_def.specs.Files.{Part, content_value, is_of, parts, records_of}
 use Rattle.volume_def.specs.IndexesClause.{IndexParts, index_parts}
+use Rattle.volume_def.specs.ListsClause.{is_list}
 use Rattle.volume_def.specs.Room.{free_bytes}
 use Rattle.volume_def.specs.Values.{first_part}
 use Rattle.volume_def.specs.View.{VolumeView}
 use Rattle.index_tree.proofs.EditMemory.{short_in}
 use Rattle.file_record.specs.declared.parts.FileParts.{FileParts}
 use Rattle.file_record.specs.Held.{IsHeldFile, file_number, parts_held}
-use Rattle.entry_edits.specs.First.{TellsFirst, TellsSizes, attribute_held}
+use Rattle.entry_edits.specs.First.{TellsSizes, attribute_held}
 use Rattle.entry_edits.specs.FirstPart.{FirstPart}
 use Rattle.entry_edits.specs.FoundIndex.{FoundIndex}
 use Rattle.entry_edits.specs.Index.{HasParts, IsFound, index_held}
@@ -35,11 +37,6 @@ child_from-end (e ∷ entries) last = child_from-end entries last
 pub flip : (a b : Bool) → a ≡ not b → b ≡ not a
 flip a true e = sym (ap not e)
 flip a false e = sym (ap not e)
-
-pub told-list : (file : FileParts) (found : Option FirstPart) → TellsFirst file ATTRIBUTE_LIST [] found
-    → is_some found ≡ is_some (first_part (attribute_held file ATTRIBUTE_LIST []))
-told-list file None t = sym (ap is_some t)
-told-list file (Some first) t = sym (ap is_some t.is_first)
 
 module _ (view : VolumeView) (file : FileParts) (items : List Item) (held : IsHeldFile view file) (h : HasItems view (file_number file) items) where
   abbrev dir : ℕ
@@ -68,7 +65,7 @@ module _ (view : VolumeView) (file : FileParts) (items : List Item) (held : IsHe
   pub root-room : (index : FoundIndex) → IsFound file index → index.name.now ≡ names → (first : FirstPart) → TellsSizes file INDEX_ROOT names first
       → (leaf listed : Bool) (len free : ℕ)
       → ((said : Node) → node_in Names index.root.now ≡ Some said → leaf ≡ not (is_some said.last))
-      → listed ≡ is_some (first_part (attribute_held file ATTRIBUTE_LIST [])) → TellsFree file first.index free
+      → listed ≡ list_any is_list (parts_held file) → TellsFree file first.index free
       → (leaf && not listed && nat_le len free) ≡ has_root_room view dir len
   unfolding has_root_room
   root-room index found named first tells leaf listed len free leaf_is listed_is free_is =
@@ -90,7 +87,7 @@ module _ (view : VolumeView) (file : FileParts) (items : List Item) (held : IsHe
           ∙ sym (ap (λ o. option_map_or (λ (said : Node). not (is_some said.last)) o false) root-is)
 
       is_listed : listed ≡ has_list view dir
-      is_listed = listed_is ∙ ap (λ (all : List Part). is_some (first_part (filter (is_of ATTRIBUTE_LIST []) all))) same-parts
+      is_listed = listed_is ∙ ap (list_any is_list) same-parts
 
       same-part : tells.part ≡ free_is.part
       same-part = some_same (sym tells.at ∙ free_is.there)

@@ -1,22 +1,19 @@
 //! Whether the root of an index without records has room for an entry.
-ghost use Rattle.std.specs.Prelude.{◌≡◌, ◌<◌, ◌&&◌, [], List, Some, is_some, length, nat_le, not};
+ghost use Rattle.std.specs.Prelude.{◌≡◌, ◌<◌, ◌&&◌, List, Some, is_some, length, nat_le, not};
 ghost use Rattle.ntfs_def.specs.Node.{Item, Node, node_in};
 ghost use Rattle.ntfs_def.specs.declared.index.NodeForm.TheVariants.{Names};
-ghost use Rattle.ntfs_def.specs.declared.kinds.TheConstants.{ATTRIBUTE_LIST};
-ghost use Rattle.volume_def.specs.Values.{first_part};
 ghost use Rattle.volume_def.specs.View.{VolumeView};
 ghost use Rattle.file_record.specs.Held.{IsHeldFile, file_number, parts_held};
-ghost use Rattle.entry_edits.specs.IndexStoreBelow.{attribute_held};
 ghost use Rattle.edit_def.specs.Items.{HasItems};
 ghost use Rattle.index_puts.specs.RecordRoom.{TellsFree};
 ghost use Rattle.tree_model.specs.RootRoom.{has_root_room};
 
 use crate::room::NAMES;
-use entry_edits::{find_first, find_index};
+use entry_edits::{find_first, find_index, has_list};
 use file_record::FileParts;
 use index_node::NodeView;
 use ntfs_def::NodeForm;
-use ntfs_def::kinds::{ATTRIBUTE_LIST, INDEX_ROOT};
+use ntfs_def::kinds::INDEX_ROOT;
 
 // Whether the node that a root says leads to no record.
 fn is_leaf(root: &[u8]) -> bool
@@ -34,13 +31,6 @@ fn free_beside(file: &FileParts, i: usize) -> usize
     ensures { TellsFree file.now i result }
 {
     file.free_bytes(file.place_of(i).record)
-}
-
-// Whether a file has an attribute list.
-fn has_list(file: &FileParts) -> bool
-    ensures { result ≡ is_some (first_part (attribute_held file.now ATTRIBUTE_LIST [])) }
-{
-    find_first(file, ATTRIBUTE_LIST, &[]).is_some()
 }
 
 // Whether a root has room: it leads to no record, its file has no list, and so many bytes of those that are free are enough.

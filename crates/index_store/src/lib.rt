@@ -10,7 +10,7 @@ mod parts_met;
 mod record_write;
 
 // What tells an attribute by its first part, for the crate above.
-pub use attr_store::{FileNo, FileParts, Mft, Stored, find_first, read_stored};
+pub use attr_store::{FileNo, FileParts, Mft, Stored, find_first, has_list, read_stored};
 pub use index::{FoundIndex, find_index};
 pub use index_blocks::IndexBlocks;
 pub use index_blocks_mut::IndexBlocksMut;

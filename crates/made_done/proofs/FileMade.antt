@@ -10,7 +10,7 @@ use Rattle.ntfs_def.specs.FileName.{FileName}
 use Rattle.ntfs_def.specs.Units.{wide}
 use Rattle.ntfs_def.specs.declared.kinds.TheConstants.{DATA, STANDARD_INFORMATION}
 use Rattle.ntfs_def.specs.declared.records.TheConstants.{MFT}
-use Rattle.volume_def.specs.FileNames.{names_among, names_of}
+use Rattle.volume_def.specs.FileNames.{names_of}
 use Rattle.volume_def.specs.Files.{Part, is_of, parts, records_of}
 use Rattle.volume_def.specs.Table.{TableLayout, cluster_bytes}
 use Rattle.volume_def.specs.View.{VolumeView}
@@ -45,6 +45,7 @@ use Rattle.in_place_done.proofs.NamedKeys.{told-named}
 use Rattle.in_place_done.proofs.StagedVolume.{CanBeSet, IsSet}
 use Rattle.in_place_done.proofs.TreeBehind.{node-shown, nodes-read}
 use Rattle.made_owed.specs.Makes.{MakesUnder}
+use Rattle.made_done.proofs.LeftAlone.{low-apart}
 use Rattle.made_done.proofs.NewLink.{entries-same}
 
 -- how many clusters the table has, by the parts of its file
@@ -104,8 +105,7 @@ module _ (before : State) (stands : Stands before) (dir : ℕ) (units : List ℕ
 
   -- THE DIRECTORY has the names that it had.
   pub names : names_of (records_of mid) dir ≡ names_of (records_of old) dir
-  unfolding names_of
-  names = ap names_among (left.leaves.others dir other)
+  names = left.names dir left.other
 
   high : (name : FileName) → Contains (names_of (records_of mid) dir) name → 4 ≤ name.parent.number
   high name among = high_names name (subst (λ (all : List FileName). Contains all name) names among)
@@ -115,7 +115,8 @@ module _ (before : State) (stands : Stands before) (dir : ℕ) (units : List ℕ
   tabled =
       let was = (stands-alone before stands).tabled in
       let layout = sym left.leaves.layout in
-      let table = left.leaves.others MFT (λ is. let least = ordinary in omega (arith, is, least)) in
+      let table = left.leaves.others MFT (λ is. let least = ordinary in omega (arith, is, least))
+      (low-apart old mid made dir left MFT (omega arith) (λ is. omega (arith, is))) in
       record {
         size = subst (λ (l : TableLayout). 512 ≤ cluster_bytes l) layout was.size;
         least = subst (λ (l : TableLayout). 24 ≤ l.count) layout was.least;

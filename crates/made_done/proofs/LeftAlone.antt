@@ -1,6 +1,6 @@
 -- WHAT TELLS WHERE A VOLUME LIES is left alone where a file came under a name; and the first mark costs as much where that was left alone.
 use Rattle.std.proofs.Common.{◌≡◌, ◌≢◌, ◌<◌, ◌≤◌, ◌+◌, ◌/◌, ◌==◌, ◌&&◌, not, ℕ, [], Option}
-use Rattle.std.proofs.Common.{false, inr, refl, ap, ◌∙◌, arith, filter, if◌then◌else◌}
+use Rattle.std.proofs.Common.{false, inl, inr, refl, ap, ◌∙◌, arith, filter, if◌then◌else◌}
 use mathlib.Core.Path.{fun_ext}
 use Rattle.std.specs.Option.{option_map, option_map_or}
 use Rattle.std.specs.Prelude.{is_some}
@@ -9,7 +9,7 @@ use Rattle.ntfs_def.specs.Fixup.{opened_of}
 use Rattle.ntfs_def.specs.Flags.{is_packed}
 use Rattle.ntfs_def.specs.VolumeInformation.{dirty_bit}
 use Rattle.ntfs_def.specs.declared.kinds.TheConstants.{DATA, VOLUME_INFORMATION}
-use Rattle.ntfs_def.specs.declared.records.TheConstants.{BOOT, LOG_FILE, MFT, VOLUME}
+use Rattle.ntfs_def.specs.declared.records.TheConstants.{BOOT, LOG_FILE, MFT, ROOT, VOLUME}
 use Rattle.volume_def.specs.Files.{Part, Record, content_extent, is_of}
 use Rattle.volume_def.specs.Values.{first_part}
 use Rattle.volume_def.specs.View.{VolumeView}
@@ -24,12 +24,21 @@ use Rattle.in_place_done.specs.LeavesAlone.{LeavesAlone}
 use Rattle.in_place_done.proofs.LeftAlone.{boot-other, has-boot}
 use Rattle.made_owed.specs.Left.{LeavesRest, is_entry_key}
 
+-- the directory is the root directory or no file of the system
+pub low-apart : (old new : VolumeView) (made dir : ℕ) → LeavesRest old new made dir → (n : ℕ) → n < 24 → n ≢ ROOT → n ≢ dir
+low-apart old new made dir left n low other is =
+    elim left.ordinary [ inl root ↦ other (is ∙ root) | inr high ↦ omega (arith, low, is, high) ]
+
 module _ (old new : VolumeView) (made dir : ℕ) (ordinary : 24 ≤ made) (left : LeavesRest old new made dir) (apart : LiesApart old) where
   low-other : (n : ℕ) → n < 24 → n ≢ made
   low-other n low is = omega (arith, low, is, ordinary)
 
+  not-directory : (n : ℕ) → n < ROOT → n ≢ dir
+  not-directory n low = low-apart old new made dir left n (omega (arith, low)) (λ is. omega (arith, is, low))
+
   log-same : log_parts new ≡ log_parts old
-  log-same = ap (filter (is_of DATA [])) (left.leaves.others LOG_FILE (low-other LOG_FILE (omega arith)))
+  log-same = ap (filter (is_of DATA []))
+      (left.leaves.others LOG_FILE (low-other LOG_FILE (omega arith)) (not-directory LOG_FILE (omega arith)))
 
   log_bytes-same : log_bytes new ≡ log_bytes old
   unfolding log_bytes
@@ -38,15 +47,15 @@ module _ (old new : VolumeView) (made dir : ℕ) (ordinary : 24 ≤ made) (left 
       ∙ ap (λ g. option_map_or g (first_part (log_parts old)) 0) (fun_ext (λ (x : Part).
       ap (λ (o : Option Record). if is_some o && (is_some (content_extent x.content) && not (is_packed x.kind x.flags))
       then option_map_or (λ extent. extent.sizes.initialized) (content_extent x.content) 0 else 0)
-      (left.records LOG_FILE (low-other LOG_FILE (omega arith)))))
+      (left.leaves.records LOG_FILE (low-other LOG_FILE (omega arith)) (not-directory LOG_FILE (omega arith)))))
 
   pub made-alone : LeavesAlone old new
   made-alone =
       let b = has-boot old apart in
       record {
         layout = left.leaves.layout;
-        table = left.leaves.blocks MFT (low-other MFT (omega arith));
-        volume = left.leaves.blocks VOLUME (low-other VOLUME (omega arith));
+        table = left.leaves.blocks MFT (low-other MFT (omega arith)) (not-directory MFT (omega arith));
+        volume = left.leaves.blocks VOLUME (low-other VOLUME (omega arith)) (not-directory VOLUME (omega arith));
         boot = left.leaves.clusters 0
             (lies-outside old apart.owners apart.some BOOT b.part 0 b.among b.covered (inr boot-other))
             (part-unnamed (is_entry_key dir) old apart.owners BOOT b.part 0 b.among

@@ -20,9 +20,9 @@ use Rattle.edit_def.specs.Names.{KeepsOthers, numbers_by}
 use Rattle.record_edits.specs.Between.{IsReady}
 use Rattle.record_edits.proofs.BlockEdits.{base-file}
 use Rattle.record_edits.proofs.BlockEdits as block
-use Rattle.record_calls.specs.Files.{MakesFile}
-use Rattle.record_calls.proofs.FileBeside as beside
-use Rattle.record_calls.proofs.FileComes as file
+use Rattle.root_puts.specs.Files.{MakesFile}
+use Rattle.root_puts.proofs.FileBeside as beside
+use Rattle.root_puts.proofs.FileComes as file
 
 pub record StandsAlone (view : VolumeView) (n : ℕ) (r : Record) : Type 0 where
   pub at : record_on view n ≡ Some r

@@ -26,11 +26,11 @@ use Rattle.edit_def.proofs.IndexLaws.{items-kept}
 use Rattle.edit_def.proofs.NodeLaws.{no-file-none}
 use Rattle.record_edits.specs.Between.{IsReady}
 use Rattle.record_bits.specs.StoredRecordBit.{StoresRecordBit}
-use Rattle.record_calls.specs.Marks.{marks_of}
-use Rattle.record_calls.proofs.Rows.{free-inside, free-unused}
-use Rattle.command_edits.specs.Keys.{is_key_of, is_name_key_of, no_key}
-use Rattle.command_edits.proofs.CallsMade.{Edited-more, within-same}
-use Rattle.command_edits.proofs.CallKeys.{within-nothing}
+use Rattle.root_puts.specs.Marks.{marks_of}
+use Rattle.root_puts.proofs.Rows.{free-inside, free-unused}
+use Rattle.root_puts.specs.Keys.{is_key_of, is_name_key_of, no_key}
+use Rattle.root_puts.proofs.CallsMade.{Edited-more, within-same}
+use Rattle.root_puts.proofs.CallKeys.{within-nothing}
 use Rattle.made_edits.specs.Between.{HasNewFile, IsFlagged}
 use Rattle.made_edits.specs.Comes.{CanMake, ComesNamed, IsNewKey}
 use Rattle.made_edits.specs.Left.{Leaves, is_row_key}

@@ -14,9 +14,9 @@ use Rattle.volume_def.specs.View.{VolumeView}
 use Rattle.record_bytes.specs.AttributeBytes.{indexed_byte, resident_bytes}
 use Rattle.record_bytes.proofs.ResidentLaws.{IsResident-bytes}
 use Rattle.mft_table.specs.declared.mounted.Mounted.{Mounted}
-use Rattle.index_puts.specs.FileRecordAttributes.{header_after}
+use Rattle.root_puts.specs.FileRecordAttributes.{header_after}
 use Rattle.edit_def.specs.Forms.{IsNewForm, form_of, indexed_in, unit_in}
-use Rattle.command_edits.specs.NewFiles.{standard_part}
+use Rattle.root_puts.specs.NewFiles.{standard_part}
 use Rattle.volume_edits.specs.Rewritten.{with_links}
 use Rattle.made_edits.specs.Comes.{ComesNamed}
 use Rattle.made_edits.proofs.NewParts.{name-is, name_bytes, one-mapped, stream-is, stream_bytes, value-body}

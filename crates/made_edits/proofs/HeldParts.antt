@@ -14,12 +14,12 @@ use Rattle.volume_edits.specs.Rewritten.{CountsLinks}
 use Rattle.edit_def.specs.Marks.{Marks}
 use Rattle.edit_def.specs.Names.{KeepsOthers}
 use Rattle.record_edits.specs.Between.{IsReady}
-use Rattle.record_calls.specs.Files.{MakesFile}
-use Rattle.index_puts.specs.FileRecordAttributes.{InsertsAttribute, opened_record}
-use Rattle.index_puts.specs.Extensions.{CreatesBase}
-use Rattle.command_edits.specs.NewFiles.{data_part, standard_part}
-use Rattle.record_calls.specs.Calls.{IsInOneRecord, IsNewName, MayCome}
-use Rattle.record_calls.specs.Edits.{record_there}
+use Rattle.root_puts.specs.Files.{MakesFile}
+use Rattle.root_puts.specs.FileRecordAttributes.{InsertsAttribute, opened_record}
+use Rattle.root_puts.specs.Extensions.{CreatesBase}
+use Rattle.root_puts.specs.NewFiles.{data_part, standard_part}
+use Rattle.root_puts.specs.RecordCalls.{IsInOneRecord, IsNewName, MayCome}
+use Rattle.root_puts.specs.Edits.{record_there}
 use Rattle.made_edits.proofs.AloneLaws.{StandsAlone, alone-counted, alone-edited, alone-made, others-counted, others-edited}
 use Rattle.made_edits.proofs.AloneLaws.{parts-counted, parts-edited}
 use Rattle.made_edits.proofs.NewParts.{name-is, name_bytes, name_part, one-mapped, stream-is, stream_bytes, two-mapped, value-body}

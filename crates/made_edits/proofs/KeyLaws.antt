@@ -9,7 +9,7 @@ use Rattle.edit_def.specs.Edited.{is_room_key}
 use Rattle.edit_def.specs.Kept.{Key, either, key_of, same_key}
 use Rattle.in_place.specs.Named.{is_index_kind}
 use Rattle.record_edits.specs.InPlace.{NamesNoRoom}
-use Rattle.command_edits.specs.Keys.{is_index_key_of, is_key_of, is_name_key_of}
+use Rattle.root_puts.specs.Keys.{is_index_key_of, is_key_of, is_name_key_of}
 
 -- the same the other way round
 eqb-swap : (a b : ℕ) → (a == b) ≡ false → (b == a) ≡ false
@@ -56,6 +56,12 @@ entry-index dir key e = elim (cases_Bool (same_key (entry_key dir) key)) [
       ((bytes_eq-Decides key.name (wide (codes "$I30"))).1 (sym name)) (eq-eqb key.file dir (sym (eqb-true dir key.file q.0)))) in
       let never : true ≡ false = sym yes ∙ e in
       cc
+]
+
+pub index-entry : (dir : ℕ) (key : Key) → same_key (entry_key dir) key ≡ true → is_index_key_of dir key ≡ true
+index-entry dir key same = elim (cases_Bool (is_index_key_of dir key)) [
+  | inl named ↦ named
+  | inr none ↦ let never : true ≡ false = sym same ∙ entry-index dir key none in cc
 ]
 
 -- .. are none in which room is kept

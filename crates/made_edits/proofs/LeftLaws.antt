@@ -99,12 +99,13 @@ row-away n ordinary f kind name named is =
     absurd (omega (arith, file, is, ordinary))
 
 -- CLUSTERS AND VALUES of attributes that are not named, nor the table or its mirror, where no cluster has two owners
-module _ (changed : Key → Bool) (n : ℕ) (old new : VolumeView) (l : Leaves changed n old new) (o : HasOwners old)
+module _ (changed : Key → Bool) (old new : VolumeView)
+    (left : (c : ℕ) → IsOutsideTable old.layout c → IsUnnamed changed old c → new.cluster c ≡ old.cluster c) (o : HasOwners old)
     (some : 0 < old.layout.cluster_sectors) where
   pub part-kept : (g : ℕ) (part : Part) (c : ℕ) → Contains (parts (records_of old) g) part → changed (key_of g part.kind part.name) ≡ false
       → 1 ≤ times_covered (part_runs part) c → (part.kind ≢ DATA) ⊎ ((g ≢ MFT) × (g ≢ MFT_MIRROR)) → new.cluster c ≡ old.cluster c
   part-kept g part c among free covered which =
-      l.clusters c (lies-outside old o some g part c among covered which) (part-unnamed changed old o g part c among free covered)
+      left c (lies-outside old o some g part c among covered which) (part-unnamed changed old o g part c among free covered)
 
   pub clusters-kept : (f kind : ℕ) (name : List ℕ) → changed (key_of f kind name) ≡ false
       → (kind ≢ DATA) ⊎ ((f ≢ MFT) × (f ≢ MFT_MIRROR)) → KeepsClusters old new (parts_at old f kind name)
@@ -121,9 +122,17 @@ module _ (changed : Key → Bool) (n : ℕ) (old new : VolumeView) (l : Leaves c
         | inr files ↦ inr files
       ])
 
-  pub value-kept : (g kind : ℕ) (name : List ℕ) → g ≢ n → changed (key_of g kind name) ≡ false
-      → (kind ≢ DATA) ⊎ ((g ≢ MFT) × (g ≢ MFT_MIRROR)) → value_on new (parts_at new g kind name) ≡ value_on old (parts_at old g kind name)
-  value-kept g kind name other free which =
-      ap (λ (l : TableLayout). value_of_parts new.cluster (cluster_bytes l) (parts_at new g kind name)) l.layout
-      ∙ ap (λ (xs : List Part). value_of_parts new.cluster (cluster_bytes old.layout) (filter (is_of kind name) xs)) (l.others g other)
+  pub same-value : (g kind : ℕ) (name : List ℕ) → new.layout ≡ old.layout → parts_at new g kind name ≡ parts_at old g kind name
+      → changed (key_of g kind name) ≡ false → (kind ≢ DATA) ⊎ ((g ≢ MFT) × (g ≢ MFT_MIRROR))
+      → value_on new (parts_at new g kind name) ≡ value_on old (parts_at old g kind name)
+  same-value g kind name layout same free which =
+      ap (λ (l : TableLayout). value_of_parts new.cluster (cluster_bytes l) (parts_at new g kind name)) layout
+      ∙ ap (λ (xs : List Part). value_of_parts new.cluster (cluster_bytes old.layout) xs) same
       ∙ value-frame old.cluster new.cluster (cluster_bytes old.layout) (parts_at old g kind name) (clusters-kept g kind name free which)
+
+-- .. of other files, where one record was written
+pub value-kept : (changed : Key → Bool) (n : ℕ) (old new : VolumeView) → Leaves changed n old new → HasOwners old
+    → 0 < old.layout.cluster_sectors → (g kind : ℕ) (name : List ℕ) → g ≢ n → changed (key_of g kind name) ≡ false
+    → (kind ≢ DATA) ⊎ ((g ≢ MFT) × (g ≢ MFT_MIRROR)) → value_on new (parts_at new g kind name) ≡ value_on old (parts_at old g kind name)
+value-kept changed n old new l o some g kind name other free which =
+    same-value changed old new l.clusters o some g kind name l.layout (ap (filter (is_of kind name)) (l.others g other)) free which

@@ -8,7 +8,10 @@ pub mod WantLaws
 pub mod KeyLaws
 pub mod NamedFile
 pub mod BetweenMade
+pub mod OwnIndex
+pub mod Entered
 pub mod IndexPut
+pub mod RootPut
 pub mod ShownDirectory
 pub mod MadeCalls
 pub mod StoredAfter
@@ -20,13 +23,14 @@ pub mod BesideMade
 pub mod RestMade
 pub mod FreshMade
 -- Laws of the crates below, passed on to those above.
-pub use Rattle.command_edits.proofs.StageLaws
-pub use Rattle.index_puts.proofs.FewStaged
+pub use Rattle.root_puts.proofs.StageLaws
+pub use Rattle.root_puts.proofs.FewStaged
+pub use Rattle.root_puts.proofs.RoomStays
 pub use Rattle.in_place.proofs.OtherParts
 pub use Rattle.in_place.proofs.PlacesSame
 pub use Rattle.in_place.proofs.EditedInPlace
 pub use Rattle.in_place.proofs.RoomSame
 pub use Rattle.in_place.proofs.SameRecords
 pub use Rattle.in_place.proofs.BlankLaws
-pub use Rattle.index_puts.proofs.FileRecordRecordLaws
-pub use Rattle.command_edits.proofs.SameLink
+pub use Rattle.root_puts.proofs.FileRecordRecordLaws
+pub use Rattle.root_puts.proofs.SameLink

@@ -10,12 +10,12 @@ use Rattle.ntfs_def.specs.StandardInformation.{standard_times}
 use Rattle.ntfs_def.specs.declared.kinds.TheConstants.{BITMAP, DATA, INDEX_ALLOCATION, INDEX_ROOT}
 use Rattle.ntfs_def.specs.declared.records.TheConstants.{UPCASE}
 use Rattle.volume_def.specs.CaseClause.{volume_fold}
-use Rattle.volume_def.specs.Files.{Part, Records, is_of, parts, records_of}
+use Rattle.volume_def.specs.Files.{Part, is_of, parts, records_of}
 use Rattle.volume_def.specs.Freed.{sequence_at_first, stored_sequence}
 use Rattle.volume_def.specs.IndexesClause.{IsDirectoryIndex}
 use Rattle.volume_def.specs.Values.{first_part}
 use Rattle.volume_def.specs.View.{VolumeView}
-use Rattle.index_puts.specs.Edit.{IsAbsent}
+use Rattle.root_puts.specs.Edit.{IsAbsent}
 use Rattle.ntfs_def.specs.KeyOrder.{name_order}
 use Rattle.mft_table.specs.declared.mounted.Mounted.{Mounted}
 use Rattle.tree_model.specs.Effects.{new_node}
@@ -30,21 +30,23 @@ use Rattle.edit_def.specs.Marks.{AreRight, Marks}
 use Rattle.edit_def.proofs.EditedLaws.{Edited-then}
 use Rattle.edit_def.proofs.IndexLaws.{items-kept, items-of-directory}
 use Rattle.record_edits.specs.Between.{IsReady}
-use Rattle.record_calls.specs.Marks.{marks_of}
-use Rattle.command_edits.specs.Calls.{AddsLink, ChangesIndex, IsNewStandard, MakesNode, link_with}
-use Rattle.command_edits.specs.Keys.{is_index_key_of, is_key_of, is_name_key_of, no_key}
-use Rattle.command_edits.proofs.CallKeys.{within-nothing}
-use Rattle.command_edits.proofs.CallsMade.{Edited-more, add-link, within-same}
-use Rattle.command_edits.proofs.NodesMade.{make-file}
+use Rattle.root_puts.specs.Marks.{marks_of}
+use Rattle.root_puts.specs.Calls.{AddsLink, ChangesIndex, IsNewStandard, MakesNode, link_with}
+use Rattle.root_puts.specs.Keys.{is_index_key_of, is_key_of, is_name_key_of, no_key}
+use Rattle.root_puts.proofs.CallKeys.{within-nothing}
+use Rattle.root_puts.proofs.CallsMade.{Edited-more, add-link, within-same}
+use Rattle.root_puts.proofs.NodesMade.{make-file}
 use Rattle.made_edits.specs.Between.{HasNewFile, new_parts}
 use Rattle.made_edits.specs.Comes.{CanMake, ComesNamed, ComesUnder, IsNewKey}
 use Rattle.made_edits.specs.Made.{IsMadeByCalls, is_made_key, new_name}
 use Rattle.made_edits.specs.Wants.{made_wants, making_wants, naming_wants}
 use Rattle.made_edits.proofs.BetweenMade as between
+use Rattle.made_edits.proofs.Entered.{Entered}
 use Rattle.made_edits.proofs.HeldParts.{parts-held}
 use Rattle.made_edits.proofs.IndexPut as put
 use Rattle.made_edits.proofs.KeyLaws.{no-name, other-index}
 use Rattle.made_edits.proofs.NamedFile as named
+use Rattle.made_edits.proofs.RootPut.{entered}
 use Rattle.made_edits.proofs.ShownDirectory.{directory-index}
 
 module _ (old new : VolumeView) (was now : Mounted) (dir n : ℕ) (node : Node) (units standard key : List ℕ) (moment security : ℕ)
@@ -95,14 +97,17 @@ module _ (old new : VolumeView) (was now : Mounted) (dir n : ℕ) (node : Node) 
       (put.one-items counted dir index.items items (file.items dir file.other index.items (items-of-directory old dir index)) h)
       (put.no-equal old dir units key index (ap (λ (f : FileName). f.units) is_key.name) can.absent (volume_fold counted)))
 
+  pub entry : Entered counted new after dir u.item
+  entry = entered counted new dir u.item after file.ready u.puts
+
   pub changes : ChangesIndex nothing counted new after after dir [] (u.item ∷ [])
-  changes = put.changes-put counted new dir n u.item after file.ready u.puts absent
+  changes = entry.changes absent
 
   pub ready-new : IsReady new after
-  ready-new = put.ready-put counted new dir n u.item after file.ready u.puts absent
+  ready-new = entry.ready
 
   pub own-parts-now : parts (records_of new) n ≡ new_parts n standard key
-  own-parts-now = ap (λ (r : Records). parts r n) (put.records-put counted new dir n u.item after file.ready u.puts absent) ∙ file.own
+  own-parts-now = entry.others n (λ e. file.other (sym e)) ∙ file.own
 
   pub link-is : link_of u.item ≡ link_with n (sequence_at_first (stored_sequence (old.block n))) name
   link-is =

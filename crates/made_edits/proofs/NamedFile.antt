@@ -25,21 +25,21 @@ use Rattle.record_edits.specs.Between.{IsReady}
 use Rattle.record_edits.proofs.BlockEdits.{edit-of}
 use Rattle.record_edits.proofs.FileEdits.{numbers-edit}
 use Rattle.record_edits.specs.RecordEdit.{parts_made}
-use Rattle.record_calls.specs.Files.{MakesFile, is_file_key}
-use Rattle.record_calls.proofs.LinkEdits as links
-use Rattle.record_calls.specs.Links.{CountsFileLinks}
-use Rattle.command_edits.proofs.NamesInTurn.{KeepsOthers-then}
-use Rattle.command_edits.specs.NewFiles.{data_part, standard_part}
-use Rattle.record_calls.specs.Marks.{marks_of}
-use Rattle.record_calls.specs.Calls.{IsInOneRecord}
-use Rattle.record_calls.specs.Edits.{record_there}
-use Rattle.record_calls.proofs.LinkCalls.{counts-file}
-use Rattle.record_calls.proofs.RecordCalls as made
-use Rattle.record_calls.proofs.Rows.{free-inside, free-unused}
-use Rattle.record_calls.proofs.WholeCalls.{edited-comes, edited-new, ready-comes, ready-new}
-use Rattle.command_edits.specs.Calls.{AddsName, ComesName, SetsLinks}
-use Rattle.command_edits.specs.Keys.{is_key_of, is_name_key_of}
-use Rattle.command_edits.proofs.CallsMade.{Edited-more, within-same}
+use Rattle.root_puts.specs.Files.{MakesFile, is_file_key}
+use Rattle.root_puts.proofs.LinkEdits as links
+use Rattle.root_puts.specs.Links.{CountsFileLinks}
+use Rattle.root_puts.proofs.NamesInTurn.{KeepsOthers-then}
+use Rattle.root_puts.specs.NewFiles.{data_part, standard_part}
+use Rattle.root_puts.specs.Marks.{marks_of}
+use Rattle.root_puts.specs.RecordCalls.{IsInOneRecord}
+use Rattle.root_puts.specs.Edits.{record_there}
+use Rattle.root_puts.proofs.LinkCalls.{counts-file}
+use Rattle.root_puts.proofs.RecordCalls as made
+use Rattle.root_puts.proofs.Rows.{free-inside, free-unused}
+use Rattle.root_puts.proofs.WholeCalls.{edited-comes, edited-new, ready-comes, ready-new}
+use Rattle.root_puts.specs.Calls.{AddsName, ComesName, SetsLinks}
+use Rattle.root_puts.specs.Keys.{is_key_of, is_name_key_of}
+use Rattle.root_puts.proofs.CallsMade.{Edited-more, within-same}
 use Rattle.made_edits.specs.Comes.{ComesNamed}
 use Rattle.made_edits.specs.Left.{Leaves, NamesOthers, is_row_key}
 use Rattle.made_edits.specs.Wants.{making_wants, naming_wants, wants_parts}

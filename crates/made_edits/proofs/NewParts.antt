@@ -5,7 +5,7 @@ use Rattle.ntfs_def.specs.declared.kinds.TheConstants.{DATA, FILE_NAME}
 use Rattle.volume_def.specs.Files.{Part, Value, content_of, part_of}
 use Rattle.record_bytes.specs.AttributeBytes.{part, resident_bytes}
 use Rattle.record_bytes.proofs.ResidentLaws.{IsResident-bytes}
-use Rattle.command_edits.specs.NewFiles.{data_part}
+use Rattle.root_puts.specs.NewFiles.{data_part}
 
 -- the bytes of an empty stream, and of a name, in a new file
 abbrev pub stream_bytes : List ℕ

@@ -1,5 +1,5 @@
 -- THE RECORDS of the volume behind the edit: those that were not in use, and headers of attributes.
-use Rattle.std.proofs.Common.{◌≡◌, ◌≢◌, ◌⊎◌, ◌==◌, ◌%◌, ℕ, true, false, List, [], codes, cond, filter, map, None, Option, Some}
+use Rattle.std.proofs.Common.{◌≡◌, ◌≢◌, ◌⊎◌, ◌==◌, ◌%◌, ℕ, Bool, true, false, List, [], codes, cond, filter, map, None, Option, Some}
 use Rattle.std.proofs.Common.{refl, sym, ap, subst, inl, inr, ◌∙◌, arith}
 use mathlib.Core.Path.{fun_ext}
 use Rattle.std.specs.Prelude.{All, IfSome, IsSomeAnd, IsTrue, is_some, nat_eq, nat_lt, option_map, unwrap_or}
@@ -11,16 +11,18 @@ use Rattle.list_laws.proofs.MemberLaws.{All-from_Contains, Contains-from_filter,
 use Rattle.list_laws.proofs.OptionLaws.{none_other, some_same}
 use Rattle.ntfs_def.specs.Attribute.{Attribute, attributes}
 use Rattle.ntfs_def.specs.Fixup.{opened_of}
-use Rattle.ntfs_def.specs.Record.{Reference, header_of, is_in_use, record_flags, sequence_of}
+use Rattle.ntfs_def.specs.Record.{Header, Reference, header_of, is_in_use, record_flags, sequence_of}
 use Rattle.volume_def.specs.Files.{Record, file_of, is_base, record_in, record_of, record_on, records_of}
 use Rattle.volume_def.specs.Freed.{sequence_at_first, stored_sequence}
 use Rattle.volume_def.specs.ReferencesClause.{NamesBase}
 use Rattle.volume_def.specs.Table.{TableLayout}
 use Rattle.volume_def.specs.View.{VolumeView}
 use Rattle.edit_def.specs.Forms.{ComeRightly, IsNewForm, attributes_on, begins, form_of, forms_of}
+use Rattle.edit_def.specs.Kept.{Key}
 use Rattle.edit_def.specs.Names.{HasRightBases}
 use Rattle.edit_def.specs.Unused.{IsPastIds, KeepsHeader, KeepsUnused}
-use Rattle.made_edits.specs.Left.{Leaves, is_entry_key}
+use Rattle.root_puts.specs.PutsInRoot.{KeepsHolder}
+use Rattle.made_edits.specs.Left.{Leaves, LeavesOthers}
 
 -- another record
 pub record-still : (old new : VolumeView) (m : ℕ) → new.layout ≡ old.layout → new.block m ≡ old.block m
@@ -52,17 +54,15 @@ sequence-used stored used =
     ap (λ b. cond b (sequence_of (opened_of stored)) 0) (and_parts (starts_with nat_eq stored (codes "FILE"))
     (record_flags stored % 2 == 1) used).0
 
-module _ (old new : VolumeView) (n dir : ℕ) (left : Leaves (is_entry_key dir) n old new) (free : record_on old n ≡ None)
-    (there : record_on new n ≡ Some (record_of n (opened_of (new.block n)))) (used : is_in_use (new.block n) ≡ true)
-    (own : file_of n (record_of n (opened_of (new.block n))) ≡ n) (bases : HasRightBases (records_of old)) where
-  abbrev r : Record
-  r = record_of n (opened_of (new.block n))
+-- UNUSED RECORDS, and the one that came into use
+module _ (old new : VolumeView) (n dir : ℕ) (left : LeavesOthers old new n dir) (holder : KeepsHolder old new dir)
+    (free : record_on old n ≡ None) (there : record_on new n ≡ Some (record_of n (opened_of (new.block n))))
+    (used : is_in_use (new.block n) ≡ true) where
+  abbrev made : Record
+  made = record_of n (opened_of (new.block n))
 
-  pub records-still : (m : ℕ) → m ≢ n → record_on new m ≡ record_on old m
-  records-still m ne = record-still old new m left.layout (left.blocks m ne)
-
-  not-own : (m : ℕ) → record_on new m ≡ None → m ≢ n
-  not-own m none is = none_other (sym none ∙ ap (record_on new) is ∙ there)
+  not-made : (m : ℕ) → record_on new m ≡ None → m ≢ n
+  not-made m none is = none_other (sym none ∙ ap (record_on new) is ∙ there)
 
   not-free : (m : ℕ) → is_some (record_on old m) ≡ true → m ≢ n
   not-free m some is = let never : false ≡ true = sym (ap is_some (ap (record_on old) is ∙ free)) ∙ some in cc
@@ -71,34 +71,65 @@ module _ (old new : VolumeView) (n dir : ℕ) (left : Leaves (is_entry_key dir) 
   never None e some = cc
   never (Some x) e some = none_other (sym e)
 
-  same-header : (a b : Record) → ◌≡◌ {A = Option Record} (Some a) (Some b) → KeepsHeader a.header b.header
-  same-header a b e = subst (λ (b : Record). KeepsHeader a.header b.header) (some_same e)
-      (record { flags = refl; number = refl; next_id = omega arith })
+  -- the directory is in use before and after
+  not-was : (m : ℕ) → record_on old m ≡ None → m ≢ dir
+  not-was m none is = none_other (sym none ∙ ap (record_on old) is ∙ holder.was_at)
 
-  -- UNUSED RECORDS, and the one that came into use
-  module _ (sequence : r.header.sequence ≡ sequence_at_first (stored_sequence (old.block n))) (number : r.header.number ≡ n)
-      (past : IsPastIds r) where
-    pub unused-made : KeepsUnused old new
-    unused-made = record {
-      idle = λ m inside was now. left.blocks m (not-own m now);
-      freed = λ m inside was now. absurd (never (record_on old m) (sym (records-still m (not-own m now)) ∙ now) was);
-      taken = λ m inside was now. elim (cases_eq m n) [
-        | inl is ↦ ap (λ k. stored_sequence (new.block k)) is ∙ sequence-used (new.block n) used ∙ sequence
-            ∙ sym (ap (λ k. sequence_at_first (stored_sequence (old.block k))) is)
-        | inr ne ↦ absurd (never (record_on new m) (records-still m ne ∙ was) now)
-      ];
-      stays = λ m inside was now. inl (ap stored_sequence (left.blocks m (not-free m was)));
-      headers = λ m was now at bt file numbers.
-          same-header was now (sym at ∙ sym (records-still m (not-free m (ap is_some at))) ∙ bt);
-      comes = λ m now at bt. elim (cases_eq m n) [
-        | inl is ↦
-            let same : r ≡ now = some_same (sym there ∙ sym (ap (record_on new) is) ∙ bt) in
-            (sym (ap (λ (r : Record). r.header.number) same) ∙ number ∙ sym is, subst IsPastIds same past)
-        | inr ne ↦ absurd (none_other (sym at ∙ sym (records-still m ne) ∙ bt))
-      ];
-    }
+  not-now : (m : ℕ) → record_on new m ≡ None → m ≢ dir
+  not-now m none is = none_other (sym none ∙ ap (record_on new) is ∙ holder.now_at)
 
-  -- HEADERS of attributes: those of other files are as they were
+  same-header : (a b : Record) → b.header ≡ a.header → KeepsHeader a.header b.header
+  same-header a b e =
+      let next : b.header.next_id ≡ a.header.next_id = ap (λ (h : Header). h.next_id) e in
+      record { flags = ap (λ (h : Header). h.flags) e; number = ap (λ (h : Header). h.number) e; next_id = omega (arith, next) }
+
+  header-still : (m : ℕ) (was now : Record) → record_on old m ≡ Some was → record_on new m ≡ Some now → now.header ≡ was.header
+  header-still m was now at bt = elim (cases_eq m dir) [
+    | inl is ↦
+        ap (λ (r : Record). r.header) (some_same (sym bt ∙ ap (record_on new) is ∙ holder.now_at)) ∙ holder.header
+        ∙ ap (λ (r : Record). r.header) (some_same (sym holder.was_at ∙ sym (ap (record_on old) is) ∙ at))
+    | inr away ↦ ap (λ (r : Record). r.header) (some_same (sym bt ∙ left.records m (not-free m (ap is_some at)) away ∙ at))
+  ]
+
+  sequence-still : (m : ℕ) → m ≢ n → stored_sequence (new.block m) ≡ stored_sequence (old.block m)
+  sequence-still m ne = elim (cases_eq m dir) [
+    | inl is ↦
+        ap (λ k. stored_sequence (new.block k)) is ∙ holder.sequence ∙ sym (ap (λ k. stored_sequence (old.block k)) is)
+    | inr away ↦ ap stored_sequence (left.blocks m ne away)
+  ]
+
+  pub unused-made : made.header.sequence ≡ sequence_at_first (stored_sequence (old.block n)) → made.header.number ≡ n → IsPastIds made
+      → KeepsUnused old new
+  unused-made sequence number past = record {
+    idle = λ m inside was now. left.blocks m (not-made m now) (not-now m now);
+    freed = λ m inside was now.
+        absurd (never (record_on old m) (sym (left.records m (not-made m now) (not-now m now)) ∙ now) was);
+    taken = λ m inside was now. elim (cases_eq m n) [
+      | inl is ↦ ap (λ k. stored_sequence (new.block k)) is ∙ sequence-used (new.block n) used ∙ sequence
+          ∙ sym (ap (λ k. sequence_at_first (stored_sequence (old.block k))) is)
+      | inr ne ↦ absurd (never (record_on new m) (left.records m ne (not-was m was) ∙ was) now)
+    ];
+    stays = λ m inside was now. inl (sequence-still m (not-free m was));
+    headers = λ m was now at bt file numbers. same-header was now (header-still m was now at bt);
+    comes = λ m now at bt. elim (cases_eq m n) [
+      | inl is ↦
+          let same : made ≡ now = some_same (sym there ∙ sym (ap (record_on new) is) ∙ bt) in
+          (sym (ap (λ (r : Record). r.header.number) same) ∙ number ∙ sym is, subst IsPastIds same past)
+      | inr ne ↦ absurd (none_other (sym at ∙ sym (left.records m ne (not-was m at)) ∙ bt))
+    ];
+  }
+
+-- HEADERS OF ATTRIBUTES where one record was written, of a file that came
+module _ (changed : Key → Bool) (old new : VolumeView) (n : ℕ) (left : Leaves changed n old new) (free : record_on old n ≡ None)
+    (there : record_on new n ≡ Some (record_of n (opened_of (new.block n))))
+    (own : file_of n (record_of n (opened_of (new.block n))) ≡ n) (bases : HasRightBases (records_of old)) where
+  abbrev r : Record
+  r = record_of n (opened_of (new.block n))
+
+  records-still : (m : ℕ) → m ≢ n → record_on new m ≡ record_on old m
+  records-still m ne = record-still old new m left.layout (left.blocks m ne)
+
+  -- those of other files are as they were
   other-on : (f m : ℕ) → f ≢ n → attributes_on new f m ≡ attributes_on old f m
   other-on f m other = elim (cases_eq m n) [
     | inl is ↦ subst (λ k. attributes_on new f k ≡ attributes_on old f k) (sym is)

@@ -1,6 +1,6 @@
 -- WHAT ELSE STAYS, all of it.
 use Rattle.std.proofs.Common.{◌≡◌, ◌≢◌, ℕ, List, [], ◌∷◌, codes, false, length, refl, sym, ap, subst, ◌∙◌}
-use Rattle.std.specs.Prelude.{IsSomeAnd}
+use Rattle.std.specs.Prelude.{Contains, IsSomeAnd}
 use Rattle.list_laws.specs.Replaces.{Replaces}
 use Rattle.ntfs_def.specs.FileName.{FileName}
 use Rattle.ntfs_def.specs.Record.{Header}
@@ -10,14 +10,17 @@ use Rattle.volume_def.specs.Files.{parts, records_of}
 use Rattle.volume_def.specs.Freed.{sequence_at_first, stored_sequence}
 use Rattle.volume_def.specs.View.{VolumeView}
 use Rattle.mft_table.specs.declared.mounted.Mounted.{Mounted}
+use Rattle.tree_model.specs.declared.tree.Link.{Link}
 use Rattle.tree_model.specs.declared.tree.Node.{Node}
 use Rattle.tree_model.proofs.NamesLaws.{is_shown}
 use Rattle.edit_def.specs.Edited.{Edited}
+use Rattle.edit_def.specs.Kept.{Told, told_names}
 use Rattle.edit_def.specs.Marks.{AreRight}
 use Rattle.record_edits.specs.Between.{IsReady}
-use Rattle.record_calls.specs.Marks.{marks_of}
-use Rattle.command_edits.specs.Calls.{IsNewStandard, link_with}
-use Rattle.command_edits.proofs.StageLaws.{not-extend}
+use Rattle.in_place.specs.Kept.{KeepsNamesBut}
+use Rattle.root_puts.specs.Marks.{marks_of}
+use Rattle.root_puts.specs.Calls.{IsNewStandard, link_with}
+use Rattle.root_puts.proofs.StageLaws.{not-extend}
 use Rattle.made_edits.specs.Beside.{HasNewItem, KeepsRest}
 use Rattle.made_edits.specs.Between.{new_parts}
 use Rattle.made_edits.specs.Comes.{CanMake, ComesUnder, IsNewKey}
@@ -29,7 +32,9 @@ use Rattle.made_edits.proofs.BesideMade as beside
 use Rattle.made_edits.proofs.IndexPut.{one-items}
 use Rattle.made_edits.proofs.LeftMade as left
 use Rattle.made_edits.proofs.MadeCalls as calls
+use Rattle.made_edits.proofs.OwnIndex.{KeepsOwnIndex}
 use Rattle.made_edits.proofs.ReadyLaws.{parts-unused}
+use Rattle.made_edits.proofs.StoredAfter as after_all
 
 module _ (old new : VolumeView) (was now : Mounted) (dir n : ℕ) (node : Node) (units standard key : List ℕ) (moment security : ℕ)
     (can : CanMake old dir node units) (right : AreRight old (marks_of was)) (is_key : IsNewKey old dir units moment key)
@@ -44,6 +49,9 @@ module _ (old new : VolumeView) (was now : Mounted) (dir n : ℕ) (node : Node) 
   edit : Edited (is_made_key n dir) (made_wants n) old new (marks_of was) (marks_of now)
   edit = calls.edited old new was now dir n node units standard key moment security can right is_key is_standard long u
 
+  index : KeepsOwnIndex old new dir
+  index = left.own-index old new was now dir n node units standard key moment security can right is_key is_standard long u
+
   own : parts (records_of new) n ≡ new_parts n standard key
   own = calls.own-parts-now old new was now dir n node units standard key moment security can right is_key is_standard long u
 
@@ -55,6 +63,13 @@ module _ (old new : VolumeView) (was now : Mounted) (dir n : ℕ) (node : Node) 
 
   away : dir ≢ EXTEND
   away = not-extend old dir (is_shown old dir node can.parent.there).shown
+
+  -- NAMES of other files
+  told : (f : ℕ) → f ≢ n → told_names new f ≡ told_names old f
+  told = after_all.told-left old new was now dir n node units standard key moment security can right is_key is_standard long u
+
+  names : (gone : List Link) (f : ℕ) → f ≢ n → KeepsNamesBut gone old new f
+  names gone f ne name among stays = subst (λ (xs : List Told). Contains xs name) (sym (told f ne)) among
 
   -- THE ENTRY
   entry : HasNewItem old new n dir key
@@ -81,13 +96,13 @@ module _ (old new : VolumeView) (was now : Mounted) (dir n : ℕ) (node : Node) 
             (ap (λ (h : Header). h.flags) header, ap (λ (h : Header). h.links) header);
         own = own;
         none = none;
-        spots = beside.spots old new n dir standard key rest own none;
-        names = beside.names old new n dir standard key rest own none;
-        directories = beside.directories old new n dir standard key rest own none;
-        indexes = beside.indexes old new n dir standard key rest own none;
+        spots = beside.spots old new n dir standard key rest index own none;
+        names = names;
+        directories = beside.directories old new n dir standard key rest index own none;
+        indexes = beside.indexes old new n dir standard key rest index own none;
         entry = entry;
-        points = beside.keys old new n dir standard key rest own none (new_name old dir units) named away (codes "$Reparse") (codes "$R")
-            edit.kept ready.bases ready.editable.readable edit.editable.readable refl refl;
-        object_ids = beside.keys old new n dir standard key rest own none (new_name old dir units) named away (codes "$ObjId") (codes "$O")
-            edit.kept ready.bases ready.editable.readable edit.editable.readable refl refl;
+        points = beside.keys old new n dir standard key rest index own none (new_name old dir units) named away (codes "$Reparse")
+            (codes "$R") refl edit.kept ready.bases ready.editable.readable edit.editable.readable refl;
+        object_ids = beside.keys old new n dir standard key rest index own none (new_name old dir units) named away (codes "$ObjId")
+            (codes "$O") refl edit.kept ready.bases ready.editable.readable edit.editable.readable refl;
       }

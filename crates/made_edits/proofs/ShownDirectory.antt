@@ -10,12 +10,12 @@ use Rattle.volume_def.specs.Sound.{IsSound}
 use Rattle.volume_def.specs.Sound as clauses
 use Rattle.volume_def.specs.View.{VolumeView}
 use Rattle.volume_def.proofs.PartLaws.{record_at-block}
-use Rattle.index_puts.specs.Extensions.{reference_of}
+use Rattle.root_puts.specs.Extensions.{reference_of}
 use Rattle.tree_model.specs.Reading.{node_at}
 use Rattle.tree_model.specs.declared.tree.Node.{Node}
 use Rattle.tree_model.proofs.NamesLaws.{IsShown, is_shown}
 use Rattle.edit_def.specs.Names.{is_directory_by, is_directory_in, numbers_at, numbers_by, numbers_in}
-use Rattle.command_edits.proofs.StageLaws.{node-directory}
+use Rattle.root_puts.proofs.StageLaws.{node-directory}
 
 header-sequence : (block : List ℕ) → (header_of block).sequence ≡ sequence_of block
 unfolding header_of
@@ -28,7 +28,7 @@ module _ (view : VolumeView) (dir : ℕ) (node : Node) (there : node_at view dir
   numbers : numbers_at (records_of view) dir ≡ Some (numbers_in s.base)
   numbers = ap numbers_by s.at ∙ ap (λ b. cond b (Some (numbers_in s.base)) None) s.is
 
-  is-directory : is_directory s.base ≡ true
+  pub is-directory : is_directory s.base ≡ true
   is-directory = node-directory view dir node (numbers_in s.base) there numbers ∙ directory
 
   pub directory-index : IsSound view → IsDirectoryIndex view dir

@@ -1,5 +1,5 @@
 -- THE VOLUME IS SOUND behind the two calls, reads as the machine's tree, and attributes of the directory can be set.
-use Rattle.std.proofs.Common.{◌≡◌, ◌≢◌, ℕ, true, false, List, length, Some, refl, sym, ap, subst, ◌∙◌, arith}
+use Rattle.std.proofs.Common.{◌≡◌, ◌≢◌, ℕ, true, false, List, length, Some, refl, ap, subst, ◌∙◌, arith}
 use Rattle.std.specs.List.{Contains}
 use Rattle.ntfs_def.specs.FileName.{FileName}
 use Rattle.ntfs_def.specs.declared.records.TheConstants.{ROOT}
@@ -20,23 +20,22 @@ use Rattle.tree_model.proofs.NamesLaws.{is_shown}
 use Rattle.edit_def.specs.Marks.{AreRight, Marks}
 use Rattle.edit_def.specs.Names.{is_directory_in}
 use Rattle.edit_def.proofs.NamesLaws.{directories-comes}
-use Rattle.command_edits.proofs.CommandLinks.{sound-made}
-use Rattle.command_edits.proofs.HiddenFiles.{hides-comes}
-use Rattle.command_edits.proofs.NamesInTurn.{KeepsNames-same}
-use Rattle.command_edits.specs.Steps.{with_node}
-use Rattle.record_calls.specs.Marks.{marks_of}
-use Rattle.command_edits.specs.Between.{IsBetween}
-use Rattle.command_edits.specs.Calls.{AddsLink, IsNewStandard, MakesNode}
-use Rattle.command_edits.proofs.CallsRead.{read-adds, read-makes}
-use Rattle.command_edits.proofs.LinksBetween.{between-adds}
-use Rattle.command_edits.proofs.MadeAndLinked.{link-new, plain-dos}
-use Rattle.command_edits.proofs.NodesBetween.{between-makes}
-use Rattle.command_edits.proofs.SoundBetween.{between-bases, between-sound, sound-by, sound-stored, sound-whole}
-use Rattle.command_edits.proofs.StageLaws.{get-other, node-by, not-extend}
+use Rattle.root_puts.proofs.CommandLinks.{sound-made}
+use Rattle.root_puts.proofs.HiddenFiles.{hides-comes}
+use Rattle.root_puts.proofs.NamesInTurn.{KeepsNames-same}
+use Rattle.root_puts.specs.Steps.{with_node}
+use Rattle.root_puts.specs.Marks.{marks_of}
+use Rattle.root_puts.specs.Between.{IsBetween}
+use Rattle.root_puts.specs.Calls.{AddsLink, IsNewStandard, MakesNode}
+use Rattle.root_puts.proofs.CallsRead.{read-adds, read-makes}
+use Rattle.root_puts.proofs.LinksBetween.{between-adds}
+use Rattle.root_puts.proofs.MadeAndLinked.{link-new, plain-dos}
+use Rattle.root_puts.proofs.NodesBetween.{between-makes}
+use Rattle.root_puts.proofs.SoundBetween.{between-bases, between-sound, sound-by, sound-stored, sound-whole}
+use Rattle.root_puts.proofs.StageLaws.{get-other, node-by, not-extend}
 use Rattle.made_edits.specs.Comes.{CanMake, ComesUnder, IsNewKey}
 use Rattle.made_edits.specs.Made.{IsMade, new_name}
 use Rattle.made_edits.specs.Wants.{making_wants, naming_wants}
-use Rattle.made_edits.proofs.AloneLaws.{names-of-parts}
 use Rattle.made_edits.proofs.MadeCalls as calls
 use Rattle.made_edits.proofs.ReadyLaws.{apart-ready}
 use Rattle.made_edits.proofs.ShownDirectory.{directory-reference}
@@ -126,8 +125,7 @@ module _ (old new : VolumeView) (was now : Mounted) (dir n : ℕ) (node : Node) 
 
     names-dir : names_of (records_of new) dir ≡ names_of (records_of old) dir
     names-dir =
-        let left = after_all.left old new was now dir n node units standard key moment security can right is_key is_standard long u in
-        names-of-parts new dir _ (left.others dir other) ∙ sym (names-of-parts old dir _ refl)
+        after_all.names-left old new was now dir n node units standard key moment security can right is_key is_standard long u dir other
 
     pub made : IsMade old new was now n dir node units moment security
     made =

@@ -1,9 +1,9 @@
 -- WHAT IS LEFT ALONE, and the stored bits, behind the entry.
-use Rattle.std.proofs.Common.{◌≡◌, ◌≢◌, ◌≤◌, ◌<◌, ◌==◌, ◌&&◌, ◌||◌, ℕ, Bool, true, false, List, [], codes, length}
+use Rattle.std.proofs.Common.{◌≡◌, ◌≢◌, ◌≤◌, ◌<◌, ◌==◌, ◌&&◌, ◌||◌, ℕ, Bool, true, false, List, [], codes, filter, length}
 use Rattle.std.proofs.Common.{refl, sym, ap, subst, inl, inr, ◌∙◌, arith}
 use Rattle.std.specs.Prelude.{get_or, slice_get}
 use Rattle.std.specs.Str.{bytes_eq}
-use Rattle.std.proofs.lemmas.Bool.{and_parts, cases_Bool, cases_eq, eqb-true}
+use Rattle.std.proofs.lemmas.Bool.{and_parts, cases_eq, eqb-true, or_parts}
 use Rattle.std.proofs.lemmas.List.{same_lists}
 use Rattle.std.proofs.lemmas.List.FromFn.{get_or-map-range_with_len}
 use Rattle.std.proofs.lemmas.Option.{slice_get-get_or}
@@ -11,34 +11,40 @@ use Rattle.list_laws.specs.Bits.{bit_in, flags_in}
 use Rattle.list_laws.proofs.BitLaws.{length-flags}
 use Rattle.list_laws.proofs.OptionLaws.{some_same}
 use Rattle.ntfs_def.specs.Units.{wide}
-use Rattle.ntfs_def.specs.declared.kinds.TheConstants.{BITMAP, DATA, INDEX_ALLOCATION}
+use Rattle.ntfs_def.specs.declared.kinds.TheConstants.{BITMAP, DATA, FILE_NAME}
 use Rattle.ntfs_def.specs.declared.records.TheConstants.{CLUSTER_BITMAP, FIRST_ORDINARY, MFT, UPCASE}
 use Rattle.volume_def.specs.BitmapClauses.{cluster_bits, record_bits}
 use Rattle.volume_def.specs.CaseClause.{case_parts}
+use Rattle.volume_def.specs.Coverage.{IsOutsideTable}
+use Rattle.volume_def.specs.FileNames.{is_file_name, names_of}
+use Rattle.volume_def.specs.Files.{Part, is_of, parts, parts_at, records_of}
 use Rattle.volume_def.specs.Table.{TableLayout}
-use Rattle.volume_def.specs.Values.{value_on}
+use Rattle.volume_def.specs.Values.{spot_at, value_on}
 use Rattle.volume_def.specs.View.{VolumeView}
 use Rattle.mft_table.specs.declared.mounted.Mounted.{Mounted}
 use Rattle.mft_table.specs.HeldTables.{AreStored}
 use Rattle.tree_model.specs.declared.tree.Node.{Node}
 use Rattle.edit_def.specs.Edited.{StoresBits}
-use Rattle.edit_def.specs.Kept.{key_of, same_key}
+use Rattle.edit_def.specs.Kept.{Key, key_of, told_names}
 use Rattle.edit_def.specs.Marks.{AreRight, Marks}
+use Rattle.in_place.specs.Named.{is_index_kind}
 use Rattle.record_edits.specs.Between.{IsReady}
+use Rattle.record_edits.specs.InPlace.{IsUnnamed}
 use Rattle.record_edits.proofs.FlushLaws.{bits-stored}
-use Rattle.record_calls.specs.Steps.{SetsRow}
-use Rattle.record_calls.specs.Marks.{marks_of}
-use Rattle.record_calls.proofs.Rows.{free-within, row-taken}
-use Rattle.command_edits.specs.Calls.{IsNewStandard}
+use Rattle.root_puts.specs.RecordSteps.{SetsRow}
+use Rattle.root_puts.specs.Marks.{marks_of}
+use Rattle.root_puts.proofs.Rows.{free-within, row-taken}
+use Rattle.root_puts.specs.Calls.{IsNewStandard}
+use Rattle.root_puts.specs.Keys.{is_index_key_of}
 use Rattle.made_edits.specs.Between.{HasNewFile}
 use Rattle.made_edits.specs.Comes.{CanMake, ComesNamed, ComesUnder, IsNewKey}
-use Rattle.made_edits.specs.Left.{Leaves, NamesOthers, is_entry_key, is_row_key}
-use Rattle.made_edits.proofs.KeyLaws.{entry_key}
-use Rattle.made_edits.proofs.IndexPut as put
-use Rattle.made_edits.proofs.LeftLaws.{Leaves-more, Leaves-then, row-away, value-kept}
+use Rattle.made_edits.specs.Left.{IsNoTable, LeavesOthers, NamesOthers, is_entry_key, is_row_key}
+use Rattle.made_edits.proofs.Entered.{Entered, names-same, told-same}
+use Rattle.made_edits.proofs.LeftLaws.{same-value, value-kept}
 use Rattle.made_edits.proofs.MadeCalls as calls
 use Rattle.made_edits.proofs.NamedFile as named
 use Rattle.made_edits.proofs.ReadyLaws.{owners-of}
+use Rattle.made_edits.proofs.RecordsMade.{record-still}
 
 -- the flag of a bit
 flag-at : (bytes : List ℕ) (count k : ℕ) (d : Bool) → k < count → get_or (flags_in bytes count) k d ≡ (bit_in bytes k == 1)
@@ -73,54 +79,81 @@ module _ (old new : VolumeView) (was now : Mounted) (dir n : ℕ) (node : Node) 
   ordinary : FIRST_ORDINARY ≤ n
   ordinary = c.free.0
 
-  -- WHAT IS LEFT ALONE
-  entry-away : NamesOthers (same_key (entry_key dir)) n
-  entry-away f kind name is same =
-      let p = and_parts (INDEX_ALLOCATION == kind) ((dir == f) && bytes_eq (wide (codes "$I30")) name) is in
-      let q = and_parts (dir == f) (bytes_eq (wide (codes "$I30")) name) p.1 in
-      file.other (eqb-true dir f q.0 ∙ same)
+  -- the entry, and the keys of the attributes that are named
+  entry : Entered u.counted new after dir u.item
+  entry = calls.entry old new was now dir n node units standard key moment security can right is_key is_standard long u
 
-  both-away : NamesOthers (is_entry_key dir) n
-  both-away f kind name is = elim (cases_Bool (is_row_key (key_of f kind name))) [
-    | inl row ↦ row-away n ordinary f kind name row
-    | inr free ↦ entry-away f kind name (ap (λ b. b || same_key (entry_key dir) (key_of f kind name)) (sym free) ∙ is)
-  ]
+  index-away : NamesOthers (is_index_key_of dir) n
+  index-away f kind name is same =
+      let p = and_parts (is_index_kind kind) (bytes_eq name (wide (codes "$I30")) && (f == dir)) is in
+      let q = and_parts (bytes_eq name (wide (codes "$I30"))) (f == dir) p.1 in
+      file.other (sym (eqb-true f dir q.1) ∙ same)
 
-  put-left : Leaves (same_key (entry_key dir)) n u.counted new
-  put-left = put.leaves-put u.counted new dir n u.item after file.ready u.puts
-      (calls.absent old new was now dir n node units standard key moment security can right is_key is_standard long u)
+  row-named : (key : Key) → is_row_key key ≡ true → is_entry_key dir key ≡ true
+  row-named key e = ap (λ b. b || is_index_key_of dir key) e
 
-  pub left : Leaves (is_entry_key dir) n old new
-  left = Leaves-then (is_entry_key dir) n old u.counted new both-away
-      (Leaves-more is_row_key (is_entry_key dir) n old u.counted (λ k e. ap (λ b. b || same_key (entry_key dir) k) e) file.leaves)
-      (Leaves-more (same_key (entry_key dir)) (is_entry_key dir) n u.counted new (λ k e. second (is_row_key k) _ e) put-left)
+  index-named : (key : Key) → is_index_key_of dir key ≡ true → is_entry_key dir key ≡ true
+  index-named key e = by (is_row_key key) (is_index_key_of dir key) e
     where
-      second : (a b : Bool) → b ≡ true → (a || b) ≡ true
-      second true b e = refl
-      second false b e = e
+      by : (a b : Bool) → b ≡ true → (a || b) ≡ true
+      by true b e = refl
+      by false b e = e
 
-  -- behind the flag the bitmap of records was not written
-  left-flag : Leaves (same_key (entry_key dir)) n c.flagged new
-  left-flag = Leaves-then (same_key (entry_key dir)) n c.flagged u.counted new entry-away
-      (Leaves-more (λ k. false) (same_key (entry_key dir)) n c.flagged u.counted (λ k e. cc)
-      (named.left-behind old u.counted was now n standard key c can.told ready long
-      (calls.short old new was now dir n node units standard key moment security can right is_key is_standard long u) is_key.whole))
-      put-left
+  -- WHAT IS LEFT ALONE
+  unnamed-still : (c : ℕ) → IsUnnamed (is_entry_key dir) old c → IsUnnamed (is_index_key_of dir) u.counted c
+  unnamed-still c free f kind name named vcn at = free f kind name (index-named (key_of f kind name) named) vcn
+      (sym (ap (λ (xs : List Part). spot_at (filter (is_of kind name) xs) vcn) (file.leaves.others f (index-away f kind name named))) ∙ at)
+
+  pub left : LeavesOthers old new n dir
+  left = record {
+    told = entry.told ∙ file.leaves.told;
+    layout = entry.layout ∙ file.leaves.layout;
+    rest = λ k. entry.rest k ∙ file.leaves.rest k;
+    blocks = λ m ne away. entry.blocks m away ∙ file.leaves.blocks m ne;
+    copies = λ m few. entry.copies m few ∙ file.leaves.copies m few;
+    clusters = λ c outside free.
+        entry.clusters c (subst (λ (l : TableLayout). IsOutsideTable l c) (sym file.leaves.layout) outside) (unnamed-still c free)
+        ∙ file.leaves.clusters c outside (λ f kind name named. free f kind name (row-named (key_of f kind name) named));
+    records = λ m ne away. entry.records m away ∙ record-still old u.counted m file.leaves.layout (file.leaves.blocks m ne);
+    others = λ g ne away. entry.others g away ∙ file.leaves.others g ne;
+    same = λ f kind name ne free. entry.same f kind name free ∙ ap (filter (is_of kind name)) (file.leaves.others f ne);
+  }
+
+  -- names of other files
+  name-parts : (f : ℕ) → f ≢ n → filter is_file_name (parts (records_of new) f) ≡ filter is_file_name (parts (records_of old) f)
+  name-parts f ne = entry.kinds f (λ kind. kind == FILE_NAME) refl ∙ ap (filter is_file_name) (file.leaves.others f ne)
+
+  pub names-left : (f : ℕ) → f ≢ n → names_of (records_of new) f ≡ names_of (records_of old) f
+  names-left f ne = names-same old new f (name-parts f ne)
+
+  pub told-left : (f : ℕ) → f ≢ n → told_names new f ≡ told_names old f
+  told-left f ne = told-same old new f (name-parts f ne)
 
   -- VALUES
+  pub value-left : (f kind : ℕ) (name : List ℕ) → f ≢ n → is_entry_key dir (key_of f kind name) ≡ false → IsNoTable f kind
+      → value_on new (parts_at new f kind name) ≡ value_on old (parts_at old f kind name)
+  value-left f kind name ne free which =
+      let index = (or_parts (is_row_key (key_of f kind name)) (is_index_key_of dir (key_of f kind name)) free).1 in
+      same-value (is_entry_key dir) old new left.clusters (owners-of old before ready) ready.table.some f kind name left.layout
+      (left.same f kind name ne index) free which
+
   flags-kept : value_on new (cluster_bits new) ≡ value_on old (cluster_bits old)
-  flags-kept = value-kept (is_entry_key dir) n old new left (owners-of old before ready) ready.table.some CLUSTER_BITMAP DATA []
-      (λ is. absurd (omega (arith, is, ordinary))) refl (inr (λ is. absurd (omega (arith, is)), λ is. absurd (omega (arith, is))))
+  flags-kept = value-left CLUSTER_BITMAP DATA [] (λ is. absurd (omega (arith, is, ordinary))) refl
+      (inr (λ is. absurd (omega (arith, is)), λ is. absurd (omega (arith, is))))
 
   pub case-kept : value_on new (case_parts new) ≡ value_on old (case_parts old)
-  case-kept = value-kept (is_entry_key dir) n old new left (owners-of old before ready) ready.table.some UPCASE DATA []
-      (λ is. absurd (omega (arith, is, ordinary))) refl (inr (λ is. absurd (omega (arith, is)), λ is. absurd (omega (arith, is))))
+  case-kept = value-left UPCASE DATA [] (λ is. absurd (omega (arith, is, ordinary))) refl
+      (inr (λ is. absurd (omega (arith, is)), λ is. absurd (omega (arith, is))))
 
+  -- behind the flag the bitmap of records was not written
   rows-kept : value_on new (record_bits new) ≡ value_on c.flagged (record_bits c.flagged)
   rows-kept =
-      let flagged = named.ready-flagged old u.counted was now n standard key c can.told ready long
-      (calls.short old new was now dir n node units standard key moment security can right is_key is_standard long u) is_key.whole in
-      value-kept (same_key (entry_key dir)) n c.flagged new left-flag (owners-of c.flagged before flagged) flagged.table.some MFT BITMAP []
+      let key_short = calls.short old new was now dir n node units standard key moment security can right is_key is_standard long u in
+      let flagged = named.ready-flagged old u.counted was now n standard key c can.told ready long key_short is_key.whole in
+      let behind = named.left-behind old u.counted was now n standard key c can.told ready long key_short is_key.whole in
+      same-value (is_index_key_of dir) u.counted new entry.clusters (owners-of u.counted after file.ready) file.ready.table.some MFT
+      BITMAP [] entry.layout (entry.same MFT BITMAP [] refl) refl (inl (λ is. absurd (omega (arith, is))))
+      ∙ value-kept (λ k. false) n c.flagged u.counted behind (owners-of c.flagged before flagged) flagged.table.some MFT BITMAP []
       (λ is. absurd (omega (arith, is, ordinary))) refl (inl (λ is. absurd (omega (arith, is))))
 
   -- THE STORED BITS

@@ -1,8 +1,8 @@
 -- WHAT ELSE STAYS where a file came in record n under a name of directory `dir`: streams gain no cluster, names their values, indexes their
 -- headers, records and bits, and the keys of $R and $O are those that were there.
-use Rattle.std.specs.Prelude.{◌≡◌, ◌≢◌, ℕ, Bool, List, [], ◌∷◌, None, IsSomeAnd, filter, false, length, slice_index, true}
+use Rattle.std.specs.Prelude.{◌≡◌, ◌≢◌, ℕ, List, [], ◌∷◌, None, IsSomeAnd, false, length, slice_index, true}
 use Rattle.std.specs.Str.{bytes_eq}
-use Rattle.volume_def.specs.Files.{Part, Value, parts, record_on, records_of}
+use Rattle.volume_def.specs.Files.{Value, parts, parts_at, record_on, records_of}
 use Rattle.volume_def.specs.Values.{spot_at}
 use Rattle.volume_def.specs.View.{VolumeView}
 use Rattle.ntfs_def.specs.declared.kinds.TheConstants.{FILE_NAME, INDEX_ALLOCATION}
@@ -13,7 +13,7 @@ use Rattle.ntfs_def.specs.FileName.{link_of, name_in}
 use Rattle.ntfs_def.specs.Node.{Item}
 use Rattle.volume_def.specs.Freed.{sequence_at_first, stored_sequence}
 use Rattle.edit_def.specs.Items.{HasItems, IsCurrent}
-use Rattle.command_edits.specs.Calls.{link_with}
+use Rattle.root_puts.specs.Calls.{link_with}
 use Rattle.tree_model.specs.Bill.{Change}
 use Rattle.tree_model.specs.IndexRoom.{Index, directory_index, object_id_index, point_index}
 use Rattle.tree_model.specs.StreamRoom.{is_cluster}
@@ -38,9 +38,9 @@ pub record KeepsRest (old new : VolumeView) (n dir : ℕ) (standard key : List �
   pub base : IsSomeAnd (record_on new n) (λ r. (r.header.flags ≡ 1) × (r.header.links ≡ 1))
   pub own : parts (records_of new) n ≡ new_parts n standard key
   pub none : parts (records_of old) n ≡ []
-  -- streams, told by any test of their parts: what lies in a cluster lay there
-  pub spots : (f : ℕ) (p : Part → Bool) (vcn : ℕ) → is_cluster (spot_at (filter p (parts (records_of new) f)) vcn) ≡ true
-      → spot_at (filter p (parts (records_of new) f)) vcn ≡ spot_at (filter p (parts (records_of old) f)) vcn
+  -- streams: what lies in a cluster lay there
+  pub spots : (f kind : ℕ) (name : List ℕ) (vcn : ℕ) → is_cluster (spot_at (parts_at new f kind name) vcn) ≡ true
+      → spot_at (parts_at new f kind name) vcn ≡ spot_at (parts_at old f kind name) vcn
   -- names of other files
   pub names : (gone : List Link) (f : ℕ) → f ≢ n → KeepsNamesBut gone old new f
   -- indexes: of directories, and all others

@@ -11,7 +11,7 @@ use Rattle.edit_def.specs.Items.{KeepsItems}
 use Rattle.edit_def.specs.Marks.{Marks}
 use Rattle.record_edits.specs.Between.{IsReady}
 use Rattle.in_place.specs.Unnamed.{LiesApart}
-use Rattle.command_edits.specs.NewFiles.{data_part, standard_part}
+use Rattle.root_puts.specs.NewFiles.{data_part, standard_part}
 use Rattle.made_edits.specs.Left.{Leaves, is_row_key}
 
 -- THE FLAG IS STORED: the volume stands as between two calls, with the records that it had, and the file has no part.

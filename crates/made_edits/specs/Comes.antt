@@ -1,7 +1,7 @@
 -- A FILE COMES UNDER ONE NAME, empty, in a free record: what the calls of `create` give, and on which volume.
 -- Layout: Linux-NTFS documentation, attributes $STANDARD_INFORMATION, $FILE_NAME and $DATA, "File Record"; Carrier, File System Forensic
 -- Analysis, chapters 11 to 13.
-use Rattle.std.specs.Prelude.{◌≡◌, ℕ, ◌+◌, ◌*◌, ◌≤◌, ◌<◌, All, IsTrue, List, [], ◌∷◌, false, length, true}
+use Rattle.std.specs.Prelude.{◌≡◌, ◌⊎◌, ℕ, ◌+◌, ◌*◌, ◌≤◌, ◌<◌, All, IsTrue, List, [], ◌∷◌, false, length, true}
 use Rattle.vol_bytes.specs.Field.{u32_at, u64_at}
 use Rattle.ntfs_def.specs.FileName.{is_name_key, link_of, name_in}
 use Rattle.ntfs_def.specs.Node.{Item}
@@ -15,14 +15,16 @@ use Rattle.record_bytes.specs.AttributeBytes.{resident_bytes}
 use Rattle.mft_table.specs.declared.mounted.Mounted.{Mounted}
 use Rattle.mft_table.specs.Changes.{with_record_taken}
 use Rattle.mft_table.specs.FreeRecords.{IsOrdinaryFree}
+use Rattle.root_puts.specs.RecordCalls.{IsInOneRecord}
 use Rattle.tree_model.specs.Reading.{directory_links}
 use Rattle.tree_model.specs.Tree.{are_same}
 use Rattle.tree_model.specs.declared.tree.Node.{Node}
-use Rattle.index_puts.specs.FileRecordAttributes.{InsertsAttribute}
-use Rattle.index_puts.specs.Extensions.{CreatesBase, reference_of}
+use Rattle.root_puts.specs.FileRecordAttributes.{InsertsAttribute}
+use Rattle.root_puts.specs.Extensions.{CreatesBase, reference_of}
 use Rattle.in_place.specs.Unnamed.{CanSet}
 use Rattle.record_bits.specs.StoredRecordBit.{StoresRecordBit}
-use Rattle.index_puts.specs.PutsItem.{PutsItem}
+use Rattle.root_puts.specs.PutsItem.{PutsItem}
+use Rattle.root_puts.specs.PutsInRoot.{GrowsByItem}
 
 -- THE VOLUME BEFORE, and a name that may come: in a directory that is shown, whose attributes can be set, and in which no name is the
 -- same, in whichever case.
@@ -47,6 +49,16 @@ pub record IsNewKey (view : VolumeView) (dir : ℕ) (units : List ℕ) (moment :
   pub real : u64_at key 0x30 ≡ 0
   pub flags : u32_at key 0x38 ≡ 0x20
   pub last : u32_at key 0x3C ≡ 0
+
+-- AN ENTRY ENTERS THE INDEX OF A DIRECTORY: the root of the index, where that has no records; the directory has one record, which may be
+-- edited ..
+pub record EntersRoot (old new : VolumeView) (dir : ℕ) (item : Item) : Type 0 where
+  pub grows : GrowsByItem old new dir item
+  pub one : IsInOneRecord old dir
+
+-- .. or a record of the index.
+abbrev pub EntersIndex : VolumeView → VolumeView → ℕ → Item → Type 0
+EntersIndex old new dir item = PutsItem old new dir item ⊎ EntersRoot old new dir item
 
 -- THE FILE COMES: the flag of its record is stored, and taken in memory; its base record comes, with its $STANDARD_INFORMATION; then its
 -- empty stream, its name in front of that, and the count of that name.
@@ -75,4 +87,4 @@ pub record ComesUnder (old new : VolumeView) (was now : Mounted) (n dir : ℕ) (
   pub item : Item
   pub key_is : item.key ≡ key
   pub link : (link_of item).file ≡ new_reference old n
-  pub puts : PutsItem counted new dir item
+  pub puts : EntersIndex counted new dir item

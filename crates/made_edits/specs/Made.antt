@@ -5,7 +5,7 @@ use Rattle.volume_def.specs.Sound.{IsSound}
 use Rattle.volume_def.specs.View.{VolumeView}
 use Rattle.mft_table.specs.declared.mounted.Mounted.{Mounted}
 use Rattle.mft_table.specs.HeldTables.{AreStored}
-use Rattle.index_puts.specs.Extensions.{reference_of}
+use Rattle.root_puts.specs.Extensions.{reference_of}
 use Rattle.tree_model.specs.Effects.{add_link, link_to, new_node}
 use Rattle.tree_model.specs.Reading.{read}
 use Rattle.tree_model.specs.declared.tree.Node.{Node}
@@ -13,11 +13,11 @@ use Rattle.edit_def.specs.Edited.{Edited}
 use Rattle.edit_def.specs.Kept.{Key}
 use Rattle.edit_def.specs.Marks.{AreRight, Marks}
 use Rattle.in_place.specs.Unnamed.{CanSet}
-use Rattle.command_edits.specs.Steps.{with_node}
-use Rattle.record_calls.specs.Marks.{marks_of}
-use Rattle.command_edits.specs.Calls.{AddsLink, MakesNode}
-use Rattle.command_edits.specs.Keys.{is_index_key_of, is_key_of}
-use Rattle.made_edits.specs.Left.{Leaves, is_entry_key}
+use Rattle.root_puts.specs.Steps.{with_node}
+use Rattle.root_puts.specs.Marks.{marks_of}
+use Rattle.root_puts.specs.Calls.{AddsLink, MakesNode}
+use Rattle.root_puts.specs.Keys.{is_index_key_of, is_key_of}
+use Rattle.made_edits.specs.Left.{LeavesOthers}
 use Rattle.made_edits.specs.Wants.{made_wants, making_wants, naming_wants}
 
 -- the name that comes, as its directory knows it
@@ -35,8 +35,8 @@ pub record IsMadeByCalls (old new : VolumeView) (before after : Marks) (n dir : 
   pub adds : AddsLink (naming_wants n) mid new after after n (new_name old dir units)
   pub edited : Edited (is_made_key n dir) (made_wants n) old new before after
 
--- WHAT THE VOLUME IS THEN: sound, with these bits in memory, which are stored; attributes of the directory can be set; and it reads as before
--- but for the node and the link, under a number that the machine may choose. The rest is left alone.
+-- WHAT THE VOLUME IS THEN: sound, with these bits in memory, which are stored; attributes of the directory can be set; and it reads as
+-- before but for the node and the link, under a number that the machine may choose. The rest is left alone.
 pub record IsMade (old new : VolumeView) (was now : Mounted) (n dir : ℕ) (node : Node) (units : List ℕ) (moment security : ℕ) : Type 0 where
   pub calls : IsMadeByCalls old new (marks_of was) (marks_of now) n dir units moment security
   pub sound : IsSound new
@@ -44,4 +44,4 @@ pub record IsMade (old new : VolumeView) (was now : Mounted) (n dir : ℕ) (node
   pub can : CanSet new dir node
   pub reads : read new ≡ add_link (link_to n dir units) (with_node n (new_node false moment security) (read old))
   pub stored : AreStored new now.clusters now.records now.upcase
-  pub leaves : Leaves (is_entry_key dir) n old new
+  pub leaves : LeavesOthers old new n dir

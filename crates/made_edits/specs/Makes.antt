@@ -8,9 +8,9 @@ use Rattle.tree_model.specs.Effects.{security_of, touched}
 use Rattle.tree_model.specs.Tree.{Tree}
 use Rattle.tree_model.specs.declared.tree.Node.{Node}
 use Rattle.edit_def.specs.Marks.{AreRight}
-use Rattle.record_calls.specs.Marks.{marks_of}
-use Rattle.index_puts.specs.Attributes.{SetsAttributes}
-use Rattle.command_edits.specs.Calls.{IsNewStandard}
+use Rattle.root_puts.specs.Marks.{marks_of}
+use Rattle.root_puts.specs.Attributes.{SetsAttributes}
+use Rattle.root_puts.specs.Calls.{IsNewStandard}
 use Rattle.made_edits.specs.Beside.{IsPlainStandard}
 use Rattle.made_edits.specs.Comes.{ComesUnder, IsNewKey}
 

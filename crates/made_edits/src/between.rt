@@ -5,7 +5,7 @@ ghost use Rattle.mft_table.specs.declared.mounted.Mounted.{Mounted};
 ghost use Rattle.mft_table.specs.FreeRecords.{IsOrdinaryFree};
 ghost use Rattle.tree_model.specs.declared.tree.Node.{Node};
 ghost use Rattle.edit_def.specs.Marks.{AreRight};
-ghost use Rattle.record_calls.specs.Marks.{marks_of};
+ghost use Rattle.root_puts.specs.Marks.{marks_of};
 ghost use Rattle.record_bits.specs.StoredRecordBit.{StoresRecordBit};
 ghost use Rattle.made_edits.specs.Between.{HasNewFile, IsFlagged};
 ghost use Rattle.made_edits.specs.Comes.{CanMake, ComesNamed, IsNewKey};

@@ -9,8 +9,8 @@ ghost use Rattle.tree_model.specs.Refusals.{Facts};
 ghost use Rattle.tree_model.specs.Step.{IsFresh};
 ghost use Rattle.tree_model.specs.declared.tree.Node.{Node};
 ghost use Rattle.edit_def.specs.Marks.{AreRight};
-ghost use Rattle.record_calls.specs.Marks.{marks_of};
-ghost use Rattle.command_edits.specs.Calls.{IsNewStandard};
+ghost use Rattle.root_puts.specs.Marks.{marks_of};
+ghost use Rattle.root_puts.specs.Calls.{IsNewStandard};
 ghost use Rattle.made_edits.specs.Comes.{CanMake, ComesUnder, IsNewKey};
 ghost use Rattle.made_edits.specs.Made.{IsMade, IsMadeByCalls};
 

@@ -4,14 +4,15 @@ ghost use Rattle.volume_def.specs.View.{VolumeView};
 ghost use Rattle.mft_table.specs.declared.mounted.Mounted.{Mounted};
 ghost use Rattle.tree_model.specs.declared.tree.Node.{Node};
 ghost use Rattle.edit_def.specs.Marks.{AreRight};
-ghost use Rattle.record_calls.specs.Marks.{marks_of};
-ghost use Rattle.command_edits.specs.Calls.{IsNewStandard};
+ghost use Rattle.root_puts.specs.Marks.{marks_of};
+ghost use Rattle.root_puts.specs.Calls.{IsNewStandard};
 ghost use Rattle.made_edits.specs.Beside.{IsFreshFile, IsPlainStandard, KeepsRest};
 ghost use Rattle.made_edits.specs.Comes.{CanMake, ComesUnder, IsNewKey};
 ghost use Rattle.made_edits.specs.Left.{LeavesRest};
 
-/// All that such a file leaves alone: other records, files and indexes, clusters and values but for those of the bitmap of records and of the
-/// records of the directory's index, and the log. The record counts as one that was taken, and headers come rightly.
+/// All that such a file leaves alone: other records, of that of the directory the header, other files and indexes, clusters and values but
+/// for those of the bitmap of records and of the directory's index, and the log. The record counts as one that was taken, and headers come
+/// rightly.
 pub fn left_made()
     ensures { (old new : VolumeView) (was now : Mounted) (dir n : ℕ) (node : Node) (units standard key : List ℕ) (moment security : ℕ)
         → CanMake old dir node units → AreRight old (marks_of was) → IsNewKey old dir units moment key

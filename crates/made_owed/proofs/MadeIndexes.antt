@@ -1,7 +1,7 @@
 -- INDEXES behind the command: what the file that came left of them, and what was kept behind it, both keep.
 use Rattle.std.proofs.Common.{◌≡◌, ◌+◌, ◌≤◌, ◌==◌, ℕ, Bool, true, false, List, [], codes, length, Option, Some, None}
 use Rattle.std.proofs.Common.{refl, sym, ap, subst, ◌∙◌, arith}
-use Rattle.std.proofs.lemmas.Bool.{and_right}
+use Rattle.std.proofs.lemmas.Bool.{and_left}
 use Rattle.std.specs.Option.{option_map}
 use Rattle.std.specs.Prelude.{IfSome, is_some}
 use Rattle.std.specs.Str.{bytes_eq}
@@ -120,19 +120,18 @@ module _ (before next : State) (dir : ℕ) (units : List ℕ) (made : ℕ) (mid 
           }
 
   -- one in $Extend
-  extend-kept : (changes : List Change) (file name : List ℕ) → bytes_eq [] (wide name) ≡ false
-      → bytes_eq (wide (codes "$I30")) (wide name) ≡ false → (length (wide name) == 0) ≡ false
+  extend-kept : (changes : List Change) (file name : List ℕ) → bytes_eq [] (wide name) ≡ false → (length (wide name) == 0) ≡ false
       → bytes_eq (wide name) (wide (codes "$I30")) ≡ false → (index : Index) → extend_index new file name ≡ Some index
       → KeepsIndexIfThere old new changes index
-  extend-kept changes file name some away long away_back index found =
+  extend-kept changes file name some long away index found =
       let called = index-named new file name index found in
       let free : is_entry_key dir (key_of index.file INDEX_ALLOCATION index.name) ≡ false =
       subst (λ n. is_entry_key dir (key_of index.file INDEX_ALLOCATION n) ≡ false) (sym called)
-      (and_right (dir == index.file) (bytes_eq (wide (codes "$I30")) (wide name)) away) in
+      (and_left (bytes_eq (wide name) (wide (codes "$I30"))) (index.file == dir) away) in
       index-then changes index
       (came_with.indexes changes index
       (subst (λ n. bytes_eq [] n ≡ false) (sym called) some) free)
-      (extend-owed half next setter parent staged s.behind [] file name long away_back index found)
+      (extend-owed half next setter parent staged s.behind [] file name long away index found)
 
   pub indexes : (path : List (List ℕ))
       → KeepsIndexes old new before.machine.tree next.machine.tree (c.Create path) (at_name dir units) made
@@ -143,6 +142,6 @@ module _ (before next : State) (dir : ℕ) (units : List ℕ) (made : ℕ) (mid 
         directories = λ g.
             index-then changes (directory_index g) (came_with.directories changes g)
             (directory-owed half next setter parent staged s.behind [] g);
-        points = extend-kept changes (codes "$Reparse") (codes "$R") refl refl refl refl;
-        object_ids = extend-kept changes (codes "$ObjId") (codes "$O") refl refl refl refl;
+        points = extend-kept changes (codes "$Reparse") (codes "$R") refl refl refl;
+        object_ids = extend-kept changes (codes "$ObjId") (codes "$O") refl refl refl;
       }

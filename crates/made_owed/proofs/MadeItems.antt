@@ -14,7 +14,6 @@ use Rattle.list_laws.proofs.MemberLaws.{Contains-filter, Contains-from_filter, C
 use Rattle.list_laws.proofs.ReplacesLaws.{Replaces-filter, Replaces-itself, Replaces-member, Replaces-sym}
 use Rattle.list_laws.proofs.SameItemsLaws.{SameItems-filter, SameItems-passing, SameItems-same, SameItems-sym, SameItems-trans}
 use Rattle.ntfs_def.specs.FileName as names
-use Rattle.ntfs_def.specs.FileName.{link_of}
 use Rattle.ntfs_def.specs.Node.{Item}
 use Rattle.ntfs_def.specs.StandardInformation.{standard_times}
 use Rattle.ntfs_def.specs.declared.kinds.TheConstants.{DATA, FILE_NAME, STANDARD_INFORMATION}
@@ -136,9 +135,7 @@ module _ (before next : State) (dir : ℕ) (units : List ℕ) (made : ℕ) (mid 
         by (Some r) at is = records.held-other before next dir units made mid staged s g r at
 
     still : IsDirectory mid g
-    still =
-        subst (λ o. IsSomeAnd o (λ r. IsTrue (is_base r) × IsTrue (is_directory r)))
-        (sym (left.records g away)) is
+    still = records.directory-still before next dir units made mid staged s g away is
 
     -- none was of the file, which had no name
     none-made : (x : Item) → Contains was x → file_in x ≡ made → ⊥

@@ -13,7 +13,7 @@ use Rattle.ntfs_def.specs.Node.{Item}
 use Rattle.ntfs_def.specs.StandardInformation.{dos_flags}
 use Rattle.ntfs_def.specs.declared.kinds.TheConstants.{FILE_NAME, STANDARD_INFORMATION}
 use Rattle.record_bytes.specs.AttributeBytes.{part}
-use Rattle.volume_def.specs.Files.{Clusters, Content, Part, Record, Value, is_of, parts, parts_at, record_on, records_of}
+use Rattle.volume_def.specs.Files.{Clusters, Content, Part, Record, Value, parts, parts_at, record_on, records_of}
 use Rattle.volume_def.specs.View.{VolumeView}
 use Rattle.tree_model.specs.IndexRoom.{Index, object_id_index, point_index}
 use Rattle.tree_model.specs.Reading.{node_at, node_on, read, standard_of}
@@ -34,7 +34,7 @@ use Rattle.made_edits.specs.InPlace.{Rewrites}
 use Rattle.made_edits.proofs.RoomSame.{numbers-same}
 use Rattle.made_edits.proofs.SameRecords.{on-same, parts-same}
 use Rattle.in_place_owed.proofs.Owes as setting
-use Rattle.in_place_owed.proofs.StandardOwed.{marks-owed, standard-owed}
+use Rattle.in_place_owed.proofs.StandardOwed.{marks-owed, standard-among, standard-owed}
 use Rattle.made_edits.specs.Beside.{IsFreshFile}
 use Rattle.made_edits.specs.Left.{LeavesRest}
 use Rattle.made_owed.specs.MadeOwed.{SetsBehindMade, at_name, between}
@@ -149,7 +149,10 @@ module _ (before next : State) (dir : ℕ) (units : List ℕ) (made : ℕ) (mid 
 
   -- DOS FLAGS
   flag-kept : (flag f : ℕ) → f ≢ made → flag_of flag mid f ≡ flag_of flag old f
-  flag-kept flag f ne = ap (λ (all : List Part). bit_and (dos_flags (standard_of all)) flag) (left.leaves.others f ne)
+  flag-kept flag f ne =
+      ap (λ value. bit_and (dos_flags value) flag)
+      (sym (standard-among (parts (records_of mid) f)) ∙ ap standard_of (left.leaves.same f STANDARD_INFORMATION [] ne refl)
+      ∙ standard-among (parts (records_of old) f))
 
   flags-kept : (path : List (List ℕ)) (f : ℕ) → f ≢ made
       → KeepsDosFlags old new before.machine.tree (c.Create path) (at_name dir units) made f
@@ -218,7 +221,7 @@ module _ (before next : State) (dir : ℕ) (units : List ℕ) (made : ℕ) (mid 
       record {
         standard = λ f stays.
             subst (λ xs. KeepsStandard false xs (parts_at new f STANDARD_INFORMATION []))
-            (ap (filter (is_of STANDARD_INFORMATION [])) (left.leaves.others f (away f stays.was)))
+            (left.leaves.same f STANDARD_INFORMATION [] (away f stays.was) refl)
             (standard-owed half next setter parent staged s.behind f);
         names = λ f stays told there kept.
             subst (λ xs. Contains xs told) (sym (items.names-behind before next dir units made mid staged s f))

@@ -1,6 +1,6 @@
 -- WHAT `create` OWES, put together; and so what it leaves.
 use Rattle.std.proofs.Common.{◌≡◌, ℕ, Bool, true, false, List, refl, sym, ap, ◌∙◌}
-use Rattle.volume_def.specs.Files.{is_of, parts_at}
+use Rattle.volume_def.specs.Files.{parts_at}
 use Rattle.volume_def.specs.Values.{spot_at}
 use Rattle.volume_def.specs.View.{VolumeView}
 use Rattle.tree_model.specs.StreamRoom.{is_cluster}
@@ -39,7 +39,7 @@ module _ (before next : State) (dir : ℕ) (units : List ℕ) (made : ℕ) (mid 
       sym (ap is_cluster (spots-same named mid next.view
       rewrote f kind name vcn))
       ∙ gained.0 in
-      let lay = (base.rest before next dir units made mid staged s).spots f (is_of kind name) vcn lies in
+      let lay = (base.rest before next dir units made mid staged s).spots f kind name vcn lies in
       never (sym (ap is_cluster lay) ∙ lies) gained.1
 
   clusters : (path : List (List ℕ)) → GainsRightly before next (c.Create path) (at_name dir units)

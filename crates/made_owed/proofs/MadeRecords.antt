@@ -4,8 +4,8 @@ use Rattle.std.proofs.Common.{Option, Some, None, arith, codes, filter, nat_eq, 
 use mathlib.Core.Path.{fun_ext}
 use Rattle.std.specs.List.{Contains, starts_with}
 use Rattle.std.specs.Option.{option_map, option_map_or}
-use Rattle.std.specs.Prelude.{is_some, slice_index}
-use Rattle.std.proofs.lemmas.Bool.{and_parts, or_from, or_parts}
+use Rattle.std.specs.Prelude.{IsSomeAnd, IsTrue, is_none, is_some, slice_index, unwrap_or}
+use Rattle.std.proofs.lemmas.Bool.{and_parts, cases_eq, eq-eqb, or_from, or_left, or_parts, or_right}
 use Rattle.std.proofs.lemmas.List.Elements.{All-contains}
 use Rattle.list_laws.proofs.MemberLaws.{All-from_Contains, Contains-from_map, Contains-map}
 use Rattle.ntfs_def.specs.Attribute.{attributes, first_value}
@@ -13,13 +13,14 @@ use Rattle.ntfs_def.specs.Fixup.{opened_of}
 use Rattle.ntfs_def.specs.Flags.{is_packed}
 use Rattle.ntfs_def.specs.KeyOrder.{fold_of}
 use Rattle.ntfs_def.specs.ListOrder.{AreInOrder}
-use Rattle.ntfs_def.specs.Record.{Header, header_of, is_in_use, record_flags, sequence_of}
+use Rattle.ntfs_def.specs.Record.{Header, Reference, header_of, is_in_use, record_flags, sequence_of}
 use Rattle.ntfs_def.specs.VolumeInformation.{dirty_bit}
 use Rattle.ntfs_def.specs.declared.kinds.TheConstants.{DATA, VOLUME_INFORMATION}
-use Rattle.ntfs_def.specs.declared.records.TheConstants.{CLUSTER_BITMAP, LOG_FILE, MFT, UPCASE, VOLUME}
+use Rattle.ntfs_def.specs.declared.records.TheConstants.{CLUSTER_BITMAP, LOG_FILE, MFT, ROOT, UPCASE, VOLUME}
 use Rattle.volume_def.specs.CaseClause.{volume_fold}
-use Rattle.volume_def.specs.Files.{Part, Record, content_extent, file_of, is_of, record_on}
+use Rattle.volume_def.specs.Files.{Part, Record, content_extent, file_of, is_base, is_directory, is_of, record_on}
 use Rattle.volume_def.specs.Freed.{sequence_after, stored_sequence}
+use Rattle.volume_def.specs.Readable.{IsDirectory}
 use Rattle.volume_def.specs.Table.{TableLayout, cluster_bytes}
 use Rattle.volume_def.specs.Values.{first_part, spot_at}
 use Rattle.volume_def.specs.View.{VolumeView}
@@ -31,7 +32,7 @@ use Rattle.tree_model.specs.declared.command.Command.TheVariants as c
 use Rattle.edit_def.specs.Forms.{ComeRightly, IsNewForm, forms_of}
 use Rattle.edit_def.specs.Kept.{Key}
 use Rattle.edit_def.specs.ListOrder.{KeepsListOrder, entries_of}
-use Rattle.edit_def.specs.Unused.{IsPastIds, KeepsUnused}
+use Rattle.edit_def.specs.Unused.{IsPastIds, KeepsHeader, KeepsUnused}
 use Rattle.session_def.specs.Cost.{is_changed_file, log_bytes, log_parts, log_size}
 use Rattle.session_def.specs.Done.{first_cost}
 use Rattle.session_def.specs.Named.{has_entry_of, is_one_of}
@@ -81,6 +82,14 @@ past-ids was now e (inr all) = inr (All-from_Contains (λ (x : Part). x.id < now
     let next : now.header.next_id ≡ was.header.next_id = ap (λ (r : Record). r.header.next_id) e in
     omega (arith, low, id, next)))
 
+-- a header that is kept twice
+headers-then : (was mid now : Header) → KeepsHeader was mid → KeepsHeader mid now → KeepsHeader was now
+headers-then was mid now first second = record {
+  flags = second.flags ∙ first.flags;
+  number = second.number ∙ first.number;
+  next_id = let a = first.next_id in let b = second.next_id in omega (arith, a, b);
+}
+
 module _ (before next : State) (dir : ℕ) (units : List ℕ) (made : ℕ) (mid staged : VolumeView)
     (s : SetsBehindMade before next dir units made mid staged) where
   abbrev old : VolumeView
@@ -114,8 +123,40 @@ module _ (before next : State) (dir : ℕ) (units : List ℕ) (made : ℕ) (mid 
   pub low-other : (n : ℕ) → n < 24 → n ≢ made
   low-other n low is = let high = base.ordinary before next dir units made mid staged s in omega (arith, low, is, high)
 
+  pub low-apart : (n : ℕ) → n < 24 → n ≢ ROOT → n ≢ dir
+  low-apart n low other is = elim left.ordinary [ inl root ↦ other (is ∙ root) | inr high ↦ omega (arith, low, is, high) ]
+
   pub held-other : (n : ℕ) (r : Record) → record_on old n ≡ Some r → n ≢ made
   held-other n r at is = never (ap is_some (sym (ap (record_on old) is) ∙ at)) (ap is_some left.free)
+
+  -- A RECORD THAT WAS IN USE is so between, of the same file
+  held-still : (n : ℕ) (was : Record) → record_on old n ≡ Some was
+      → (r : Record) × (record_on mid n ≡ Some r) × (file_of n r ≡ file_of n was)
+  held-still n was at = elim (cases_eq n dir) [
+    | inl same ↦
+        let had : left.directory.was ≡ was =
+        some-same left.directory.was was (sym left.directory.was_at ∙ sym (ap (record_on old) same) ∙ at) in (
+          left.directory.now,
+          ap (record_on mid) same ∙ left.directory.now_at,
+          ap (λ (base : Option Reference). unwrap_or (option_map (λ (b : Reference). b.number) base) n) left.directory.header.base
+              ∙ ap (file_of n) had,
+        )
+    | inr ne ↦ (was, left.leaves.records n (held-other n was at) ne ∙ at, refl)
+  ]
+
+  -- .. and so is a directory
+  pub directory-still : (g : ℕ) → g ≢ made → IsDirectory old g → IsDirectory mid g
+  directory-still g away is = elim (cases_eq g dir) [
+    | inl same ↦
+        let kept = left.directory.header in
+        subst (λ (o : Option Record). IsSomeAnd o (λ r. IsTrue (is_base r) × IsTrue (is_directory r)))
+        (sym (ap (record_on mid) same ∙ left.directory.now_at)) (
+          ap (λ (base : Option Reference). is_none base) kept.base ∙ left.directory.base,
+          ap (λ (flags : ℕ). flags / 2 % 2 == 1) kept.flags ∙ left.directory.directory,
+        )
+    | inr ne ↦ subst (λ (o : Option Record). IsSomeAnd o (λ r. IsTrue (is_base r) × IsTrue (is_directory r)))
+        (sym (left.leaves.records g away ne)) is
+  ]
 
   -- RECORDS of files that are not changed
   set-less : (path : List (List ℕ)) (f : ℕ)
@@ -134,18 +175,44 @@ module _ (before next : State) (dir : ℕ) (units : List ℕ) (made : ℕ) (mid 
       let now = trees.entry-fewer next.machine.tree made dir f d.1 in
       or_from _ false (or_from _ false (or_from _ _ (or_from (is_one_of (dir ∷ []) f) _ own.1 was) now) refl) refl
 
+  changed-directory : (path : List (List ℕ))
+      → is_changed_file old tree next.machine.tree (c.Create path) (at_name dir units) made dir ≡ true
+  changed-directory path =
+      let own = or_right (made == dir) ((dir == dir) || false) (or_left (dir == dir) false (eq-eqb dir dir refl)) in
+      or_left _ false (or_left _ false (or_left _ _ (or_left _ _ own)))
+
+  own-file : (n : ℕ) (r : Record) → record_on old n ≡ Some r → n ≡ dir → file_of n r ≡ dir
+  own-file n r at same =
+      let had : left.directory.was ≡ r = some-same left.directory.was r (sym left.directory.was_at ∙ sym (ap (record_on old) same) ∙ at) in
+      based n r.header.base (subst (λ (it : Record). is_base it ≡ true) had left.directory.base) ∙ same
+    where
+      based : (n : ℕ) (o : Option Reference) → is_none o ≡ true → unwrap_or (option_map (λ (b : Reference). b.number) o) n ≡ n
+      based n None e = refl
+      based n (Some b) e = cc
+
+  -- one of another file is not that of the directory
+  apart-from : (path : List (List ℕ)) (n : ℕ) (r : Record) → record_on old n ≡ Some r
+      → is_written_file (is_changed_file old tree next.machine.tree (c.Create path) (at_name dir units) made) (file_of n r) ≡ false
+      → n ≢ dir
+  apart-from path n r at free same =
+      let files = is_changed_file old tree next.machine.tree (c.Create path) (at_name dir units) made in
+      let f = file_of n r in
+      never (ap files (own-file n r at same) ∙ changed-directory path)
+      (or_parts (f == CLUSTER_BITMAP) (files f) (or_parts (f == VOLUME) _ (or_parts (f == MFT) _ free).1).1).1
+
   pub blocks : (path : List (List ℕ))
       → KeepsBlocks (is_changed_file old tree next.machine.tree (c.Create path) (at_name dir units) made) old new
   blocks path n r at free =
       let files = is_changed_file old tree next.machine.tree (c.Create path) (at_name dir units) made in
-      set.blocks n r (left.records n (held-other n r at) ∙ at)
+      set.blocks n r (left.leaves.records n (held-other n r at) (apart-from path n r at free) ∙ at)
       (written-less files (is_changed_file mid (read mid) next.machine.tree setter parent made) (file_of n r)
       (set-less path (file_of n r)) free)
-      ∙ left.blocks files n r at free
+      ∙ left.blocks files (changed-directory path) n r at free
 
   pub copies : KeepsCopies old new
   copies n few same =
-      set.copies n few (same ∙ sym (left.leaves.blocks n (low-other n (omega (arith, few))))) ∙ left.leaves.copies n few
+      set.copies n few (same ∙ sym (left.leaves.blocks n (low-other n (omega (arith, few)))
+      (low-apart n (omega (arith, few)) (λ is. omega (arith, few, is))))) ∙ left.leaves.copies n few
 
   -- RECORDS NOT IN USE, and headers
   sequence-same : (n : ℕ) → stored_sequence (new.block n) ≡ stored_sequence (mid.block n)
@@ -195,8 +262,10 @@ module _ (before next : State) (dir : ℕ) (units : List ℕ) (made : ℕ) (mid 
             subst (λ q. (q ≡ stored_sequence (old.block n)) ⊎ (q ≡ sequence_after (stored_sequence (old.block n)))) (sym (sequence-same n))
             (left.unused.stays n low was (some-back n now));
         headers = λ n was now at bt file number.
-            let ne = held-other n was at in
-            set.unused.headers n was now (left.records n ne ∙ at) bt file (number ∙ sym (ap stored_sequence (left.leaves.blocks n ne)));
+            let (r, there, same) = held-still n was at in
+            headers-then was.header r.header now.header
+            (left.unused.headers n was r at there same (sym (sequence-same n) ∙ number))
+            (set.unused.headers n r now there bt (file ∙ sym same) (sequence-same n));
         comes = comes;
       }
 
@@ -221,7 +290,8 @@ module _ (before next : State) (dir : ℕ) (units : List ℕ) (made : ℕ) (mid 
 
   -- THE LOG, and what the first mark costs
   log-same : log_parts mid ≡ log_parts old
-  log-same = ap (filter (is_of DATA [])) (left.leaves.others LOG_FILE (low-other LOG_FILE (omega arith)))
+  log-same = ap (filter (is_of DATA [])) (left.leaves.others LOG_FILE (low-other LOG_FILE (omega arith))
+      (low-apart LOG_FILE (omega arith) (λ is. omega (arith, is))))
 
   log_bytes-same : log_bytes mid ≡ log_bytes old
   unfolding log_bytes
@@ -230,7 +300,7 @@ module _ (before next : State) (dir : ℕ) (units : List ℕ) (made : ℕ) (mid 
       ∙ ap (λ g. option_map_or g (first_part (log_parts old)) 0) (fun_ext (λ (x : Part).
       ap (λ (o : Option Record). if is_some o && (is_some (content_extent x.content) && not (is_packed x.kind x.flags))
       then option_map_or (λ extent. extent.sizes.initialized) (content_extent x.content) 0 else 0)
-      (left.records LOG_FILE (low-other LOG_FILE (omega arith)))))
+      (left.leaves.records LOG_FILE (low-other LOG_FILE (omega arith)) (low-apart LOG_FILE (omega arith) (λ is. omega (arith, is))))))
 
   pub log_end : KeepsLogEnd old new
   log_end i cluster behind at =
@@ -244,5 +314,6 @@ module _ (before next : State) (dir : ℕ) (units : List ℕ) (made : ℕ) (mid 
   pub first_cost-same : first_cost mid ≡ first_cost old
   first_cost-same =
       ap (λ block. if option_map_or (λ bit. bit == 1) (option_map dirty_bit (first_value VOLUME_INFORMATION (attributes
-      (opened_of block)))) false then 0 else 2 + (log_bytes mid + 511) / 512) (left.leaves.blocks VOLUME (low-other VOLUME (omega arith)))
+      (opened_of block)))) false then 0 else 2 + (log_bytes mid + 511) / 512)
+      (left.leaves.blocks VOLUME (low-other VOLUME (omega arith)) (low-apart VOLUME (omega arith) (λ is. omega (arith, is))))
       ∙ ap (λ (n : ℕ). if option_map_or (λ bit. bit == 1) (dirty_flag old) false then 0 else 2 + (n + 511) / 512) log_bytes-same

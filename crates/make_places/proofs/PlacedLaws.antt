@@ -22,13 +22,12 @@ use Rattle.mft_table.specs.Mft.{stage_of, view}
 use Rattle.tree_model.specs.Cases.{ends_in, is_bad_name, is_bad_unit}
 use Rattle.tree_model.specs.Facts.{IsVolumeOf, is_whole_table}
 use Rattle.tree_model.specs.Hidden.{is_hidden}
-use Rattle.tree_model.specs.LeafRoom.{has_leaf_room}
 use Rattle.tree_model.specs.Paths.{Place, and_then, links_in_order, resolve_new}
 use Rattle.tree_model.specs.Reading.{directory_links, node_at, node_by, node_on, read, standard_flags, standard_of}
 use Rattle.tree_model.specs.Staging.{cannot_edit}
 use Rattle.tree_model.specs.Subjects.{NameIn}
 use Rattle.tree_model.specs.Tree.{Tree, are_same, link_above, links_in}
-use Rattle.tree_model.specs.Ways.{can_come, entry_len, has_copied_name, has_record}
+use Rattle.tree_model.specs.Ways.{can_come, has_copied_name, has_name_room, has_record}
 use Rattle.tree_model.specs.declared.reply.No.{No}
 use Rattle.tree_model.specs.declared.reply.No.TheVariants as no
 use Rattle.tree_model.specs.declared.tree.Link.{Link}
@@ -66,7 +65,7 @@ not-true true e = cc
 pub record Comes (view : VolumeView) (dir : ℕ) (units : List ℕ) : Type 0 where
   pub whole : is_whole_table view ≡ true
   pub copied : has_copied_name (read view) dir ≡ false
-  pub room : has_leaf_room view dir units (entry_len units) ≡ true
+  pub room : has_name_room view dir units ≡ true
   pub record_ : has_record view ≡ true
 
 pub comes-so : (view : VolumeView) (dir : ℕ) (units : List ℕ) → cannot_make view dir units ≡ false → Comes view dir units
@@ -74,7 +73,7 @@ comes-so view dir units can =
     let first = or-none (cannot_edit (is_whole_table view) (read view) 0) (not (can_come view (read view) (NameIn dir units))) can in
     let whole = or-none (not (is_whole_table view)) (has_copied_name (read view) 0) first.0 in
     let come = and_parts (not (has_copied_name (read view) dir)) _ (not-false (can_come view (read view) (NameIn dir units)) first.1) in
-    let room = and_parts (has_leaf_room view dir units (entry_len units)) (has_record view) come.1 in
+    let room = and_parts (has_name_room view dir units) (has_record view) come.1 in
     record {
       whole = not-false (is_whole_table view) whole.0;
       copied = not-true (has_copied_name (read view) dir) come.0;
@@ -85,10 +84,10 @@ comes-so view dir units can =
 -- .. by what was asked, one behind the other: the table and the directory can be edited, there is room, and a record
 pub asked-so : (view : VolumeView) (dir : ℕ) (units : List ℕ)
     → ((not (cannot_edit (is_whole_table view) (read view) 0) && not (cannot_edit (is_whole_table view) (read view) dir))
-    && (has_leaf_room view dir units (entry_len units) && has_record view)) ≡ not (cannot_make view dir units)
+    && (has_name_room view dir units && has_record view)) ≡ not (cannot_make view dir units)
 asked-so view dir units =
     by (is_whole_table view) (has_copied_name (read view) 0) (has_copied_name (read view) dir)
-    (has_leaf_room view dir units (entry_len units) && has_record view)
+    (has_name_room view dir units && has_record view)
   where
     by : (w a b c : Bool) → ((not (not w || a) && not (not w || b)) && c) ≡ not ((not w || a) || not (not b && c))
     by false a b c = refl

@@ -1,5 +1,5 @@
 -- ROOM FOR A NAME in the index of a directory that is held.
-use Rattle.std.proofs.Common.{◌≡◌, ◌+◌, ◌*◌, ◌/◌, ℕ, List, length, Option, Some, None, ap, ◌∙◌, arith}
+use Rattle.std.proofs.Common.{◌≡◌, ◌+◌, ◌*◌, ◌/◌, ◌||◌, ℕ, Bool, true, false, List, length, Option, Some, None, refl, sym, ap, ◌∙◌, arith}
 use Rattle.std.specs.Prelude.{IfSome, IsSomeAnd, IsTrue}
 use Rattle.ntfs_def.specs.FileName.{FileName, key_units, name_in}
 use Rattle.ntfs_def.specs.Rounded.{up_to_8}
@@ -52,10 +52,18 @@ holds-items view mounted dir is held =
       };
     }
 
+-- the bytes of the entry of a key, and the units of its name
+pub len-named : (units key : List ℕ) → IsPlainKey 0 units 0 key → (16 + length key + 7) / 8 * 8 ≡ entry_len units
+len-named units key is = ap (λ (len : ℕ). up_to_8 (16 + len)) is.long ∙ ap up_to_8 (omega arith)
+
 pub room-named : (view : VolumeView) (dir : ℕ) (units key : List ℕ) → IsPlainKey 0 units 0 key
     → has_leaf_room view dir (key_units key) ((16 + length key + 7) / 8 * 8) ≡ has_leaf_room view dir units (entry_len units)
 unfolding name_in
 room-named view dir units key is =
     ap (λ (us : List ℕ). has_leaf_room view dir us (up_to_8 (16 + length key))) (ap (λ (f : FileName). f.units) is.name)
-    ∙ ap (λ (len : ℕ). has_leaf_room view dir units (up_to_8 (16 + len))) is.long
-    ∙ ap (λ (len : ℕ). has_leaf_room view dir units (up_to_8 len)) (omega arith)
+    ∙ ap (has_leaf_room view dir units) (len-named units key is)
+
+-- where the root has no room, there is that of the leaf
+pub leaf-alone : (leaf root : Bool) → root ≡ false → leaf ≡ (leaf || root)
+leaf-alone true root none = refl
+leaf-alone false root none = sym none

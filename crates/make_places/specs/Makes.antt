@@ -56,8 +56,8 @@ pub record HasRecord (view : VolumeView) (mounted : Mounted) : Type 0 where
   pub room : (n : ℕ) → IsLeastFree mounted.records n → HasRecordRoom view n
 
 -- THE DIRECTORY AND THE NAME: the directory is shown and can be edited, none of its names stands in a record that has a copy, it tells
--- these times, flags and security id; the name is new in it, and the record of its index in which the search for the name ends has room. A
--- record can be taken.
+-- these times, flags and security id; the name is new in it, and its index has room for the name, in a record or in a root without records.
+-- A record can be taken.
 pub record IsMakeable (view : VolumeView) (found : NewPlace) : Type 0 where
   pub standing : IsStanding view found.standing
   pub settable : IsSettable view (record {

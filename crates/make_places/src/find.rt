@@ -1,5 +1,5 @@
 //! The directory into which a new file can be made, with its name, found by its path.
-ghost use Rattle.std.specs.Prelude.{◌≡◌, ◌≤◌, ◌<◌, ℕ, All, IfOk, IfSome, IsTrue, List, Ok, length};
+ghost use Rattle.std.specs.Prelude.{◌≡◌, ◌≤◌, ◌<◌, ℕ, All, IfOk, IfSome, IsTrue, List, None, Ok, length};
 ghost use Rattle.vol_disk.specs.Contents.{WhereTold};
 ghost use Rattle.vol_stage.specs.Staged.{image};
 ghost use Rattle.mft_table.specs.InUse.{IsInUse};
@@ -24,12 +24,12 @@ use tree_edit::{Standing, Stop, ask_to_make};
 use tree_model::{No, Path};
 use vol_disk::Disk;
 
-// The units of a name have 16 bits.
+// The units of a name have 16 bits, which its clause tells the proofs; no work.
 fn look_at_units(name: &[u16])
     ensures { All (λ unit. unit < 65536) name.now }
 {}
 
-// The same before room is asked for.
+// The same as `find_to_make`, before room is asked for.
 fn find_makeable<'p, D: Disk>(
     alloc: Global,
     mft: &mut Mft<'_, D>,
@@ -70,15 +70,15 @@ fn ask_for_file<D: Disk>(alloc: Global, mft: &mut Mft<'_, D>, dir: &BaseFile) ->
     }
 }
 
-/// The directory into which a new file can be made, with its name: room was asked for, and a record is free. `last` is the directory in
-/// which the last path ended, before the call; behind it there is none.
+/// The directory into which a new file can be made, with its name: no refusal for room is due, and a record is free. `last` is the directory
+/// in which the last path ended, before the call; behind it there is none.
 ///
 /// # Errors
 ///
 /// The refusal of the first component before the last one that is bad; `BadName`; `Exists`; `Unbuilt`, where a record of the table was
-/// written in part, a name of the directory, or of the table's file, stands in a record that has a copy, the index of the directory has no
-/// records or the one in which the search for the name ends has no room for its entry, or no record is free that was written and has a
-/// flag that can be stored, as where none is free; `TooManyParts`, `TooDeep`, `MftFull` and `NoRoom`; `Memory`; and `Device` where the
+/// written in part, a name of the directory, or of the table's file, stands in a record that has a copy, neither the record of the directory's
+/// index in which the search for the name ends has room for its entry nor a root that leads to no record, or no record is free that was
+/// written and has a flag that can be stored, as where none is free; `TooManyParts`, `TooDeep`, `MftFull` and `NoRoom`; `Memory`; and `Device` where the
 /// disk failed.
 pub fn find_to_make<'p, D: Disk>(
     alloc: Global,
@@ -100,7 +100,7 @@ pub fn find_to_make<'p, D: Disk>(
     ensures some { IfOk result (λ found. 1 ≤ length found.name.now) }
     ensures few { IfOk result (λ found. length found.name.now ≤ 255) }
     ensures free { IfOk result (λ found. HasFreeRecord (mounted_of D.Disk mft.old)) }
-    ensures last { IsTrue (view D.Disk mft.old).told → IfSome last.new (IsStanding (view D.Disk mft.old)) }
+    ensures forgets { last.new ≡ None }
 {
     let place = find_makeable(alloc, mft, last.take(), path)?;
     ask_for_file(alloc, mft, &place.standing.directory)?;

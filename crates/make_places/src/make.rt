@@ -3,10 +3,9 @@ ghost use Rattle.std.specs.Prelude.{◌≡◌, ◌≤◌, ◌<◌, ◌&&◌, IfO
 ghost use Rattle.mft_table.specs.InUse.{IsInUse};
 ghost use Rattle.mft_table.specs.Mft.{mounted_of, view};
 ghost use Rattle.tree_model.specs.Facts.{is_whole_table};
-ghost use Rattle.tree_model.specs.LeafRoom.{has_leaf_room};
 ghost use Rattle.tree_model.specs.Reading.{read};
 ghost use Rattle.tree_model.specs.Staging.{cannot_edit};
-ghost use Rattle.tree_model.specs.Ways.{entry_len, has_record};
+ghost use Rattle.tree_model.specs.Ways.{has_name_room, has_record};
 ghost use Rattle.tree_edit.specs.Answered.{Finds};
 ghost use Rattle.tree_edit.specs.Nodes.{number_of};
 ghost use Rattle.tree_edit.specs.Walks.{IsDirectoryHeld};
@@ -47,7 +46,7 @@ fn has_both<D: Disk>(
     requires some { 1 ≤ length name.now }
     requires few { length name.now ≤ 255 }
     ensures both { Finds D.Disk mft.old mft.new (λ volume has.
-        has ≡ (has_leaf_room volume (number_of dir.now) name.now (entry_len name.now) && has_record volume)) result }
+        has ≡ (has_name_room volume (number_of dir.now) name.now && has_record volume)) result }
     ensures free { IfOk result (λ has. has ≡ true → HasFreeRecord (mounted_of D.Disk mft.old)) }
 {
     if !has_name_room(alloc, mft, dir, name)? {

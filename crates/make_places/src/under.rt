@@ -2,8 +2,7 @@
 ghost use Rattle.std.specs.Prelude.{◌≡◌, ◌≤◌, ◌*◌, ◌+◌, ◌/◌, IfErr, IfOk, IsTrue, length};
 ghost use Rattle.mft_table.specs.InUse.{IsInUse};
 ghost use Rattle.mft_table.specs.Mft.{view};
-ghost use Rattle.tree_model.specs.LeafRoom.{has_leaf_room};
-ghost use Rattle.tree_model.specs.Ways.{entry_len};
+ghost use Rattle.tree_model.specs.Ways.{has_name_room};
 ghost use Rattle.tree_model.specs.declared.reply.No.TheVariants as no;
 ghost use Rattle.tree_edit.specs.Stop.TheVariants as stop;
 ghost use Rattle.tree_edit.specs.Answered.{Finds};
@@ -11,7 +10,7 @@ ghost use Rattle.tree_edit.specs.Nodes.{number_of};
 ghost use Rattle.tree_edit.specs.Walks.{IsDirectoryHeld};
 ghost use Rattle.file_makes.specs.NewBytes.{IsPlainKey};
 
-use file_makes::{has_leaf_room, new_key};
+use file_makes::{has_leaf_room, has_root_room, new_key};
 use file_record::BaseFile;
 use mft_table::Mft;
 use std::alloc::Global;
@@ -31,7 +30,7 @@ fn share(upcase: &UpCase) -> Result<UpCase, Stop>
     }
 }
 
-// The key of a name, as that of an entry of the file of record 0 would be, of the moment 0.
+// The key of a name as it would be in a directory of reference 0, at the moment 0: its length and its units are used alone.
 fn key_of(alloc: Global, name: &[u16]) -> Result<Vec<u8>, Stop>
     requires some { 1 ≤ length name.now }
     requires few { length name.now ≤ 255 }
@@ -52,7 +51,8 @@ fn entry_bytes(key: usize) -> usize
     (16 + key + 7) / 8 * 8
 }
 
-/// Whether the index of a directory that is shown has room for the entry of a name, in the record in which the search for it ends.
+/// Whether the index of a directory that is shown has room for the entry of a name: in its root, where it has no records, or in the record
+/// in which the search for the name ends.
 ///
 /// # Errors
 ///
@@ -67,12 +67,14 @@ pub fn has_name_room<D: Disk>(
     requires directory { IsTrue (view D.Disk mft.old).told → IsDirectoryHeld (view D.Disk mft.old) dir.now }
     requires some { 1 ≤ length name.now }
     requires few { length name.now ≤ 255 }
-    ensures { Finds D.Disk mft.old mft.new (λ volume room.
-        room ≡ has_leaf_room volume (number_of dir.now) name.now (entry_len name.now)) result }
+    ensures { Finds D.Disk mft.old mft.new (λ volume room. room ≡ has_name_room volume (number_of dir.now) name.now) result }
 {
     let key = key_of(alloc, name)?;
     let upcase = share(&mft.mounted().upcase)?;
     let len = entry_bytes(key.len());
+    if has_root_room(&dir.parts, len) {
+        return Ok(true);
+    }
     match has_leaf_room(alloc, mft, &dir.parts, upcase, &key, len) {
         Ok(room) => Ok(room),
         Err(no) => Err(Stop::from(no)),

@@ -1,13 +1,15 @@
 -- THE VOLUME BETWEEN: the file came under its name, and its directory has the times that it had. The directory can be set, and the records,
 -- indexes and names that this asks for lie where they lay, but for the record of the file.
-use Rattle.std.proofs.Common.{◌≡◌, ◌≢◌, ◌⊎◌, ◌+◌, ◌*◌, ◌≤◌, ℕ, List, Option, codes, filter, inl, inr, sym, ap, subst, ◌∙◌}
+use Rattle.std.proofs.Common.{◌≡◌, ◌≢◌, ◌⊎◌, ◌+◌, ◌*◌, ◌≤◌, ℕ, List, Option, None, Some, codes, filter, inl, inr, refl, sym, ap, subst, true, ◌∙◌}
 use Rattle.std.proofs.lemmas.Bool.{cases_eq}
-use Rattle.std.specs.Prelude.{Contains, IsSomeAnd, IsTrue, is_some}
+use Rattle.std.specs.Option.{option_map}
+use Rattle.std.specs.Prelude.{Contains, IsSomeAnd, IsTrue, is_none, is_some, unwrap_or}
 use Rattle.ntfs_def.specs.FileName.{FileName}
+use Rattle.ntfs_def.specs.Record.{Reference}
 use Rattle.ntfs_def.specs.Units.{wide}
 use Rattle.ntfs_def.specs.declared.kinds.TheConstants.{INDEX_ALLOCATION}
 use Rattle.volume_def.specs.Coverage.{IsApart}
-use Rattle.volume_def.specs.FileNames.{names_among, names_of}
+use Rattle.volume_def.specs.FileNames.{names_of}
 use Rattle.volume_def.specs.Files.{Part, Record, file_of, is_base, is_directory, is_of, record_on, records_of}
 use Rattle.volume_def.specs.Table.{IsWellFormed, TableLayout}
 use Rattle.volume_def.specs.Values.{spot_at}
@@ -27,8 +29,7 @@ use Rattle.make_places.specs.Comes.{CanMake}
 use Rattle.make_places.specs.Left.{LeavesRest}
 use Rattle.make_places.specs.Made.{IsMade}
 use Rattle.make_places.specs.MadeEditsMakes.{MakesFile}
-use Rattle.make_places.proofs.BetweenMade.{has-new-file}
-use Rattle.make_places.proofs.LeftMade.{leaves-rest}
+use Rattle.make_places.proofs.LeftMade.{leaves-rest, own-index}
 use Rattle.make_places.proofs.SoundMade as laws
 use Rattle.make_places.proofs.MadeUnder.{right-marks}
 use Rattle.make_places.specs.Below.{names_index}
@@ -58,13 +59,17 @@ module _ (old mid : VolumeView) (was now : Mounted) (n dir : ℕ) (node : Node) 
   free = file.comes.comes.free
 
   other : dir ≢ n
-  other =
-      (has-new-file old file.comes.counted was now dir n node units file.standard file.key moment can right file.new_key file.plain.long
-      file.comes.comes).other
+  other = left.other
 
   -- IT IS IN USE, with the tables that are kept in memory then.
   pub sound-between : IsSoundVolume mid now
   sound-between = record { sound = made.sound; stored = made.stored }
+
+  used-before : (m : ℕ) → m ≢ n → IsTrue (is_some (record_on mid m)) → IsTrue (is_some (record_on old m))
+  used-before m differ used = elim (cases_eq m dir) [
+    | inl same ↦ ap (λ (k : ℕ). is_some (record_on old k)) same ∙ ap is_some left.directory.was_at
+    | inr ne ↦ subst (λ (o : Option Record). IsTrue (is_some o)) (left.leaves.records m differ ne) used
+  ]
 
   -- THE DIRECTORY CAN BE SET: records can be written, that of the file too.
   write-between : CanWrite old → 1024 * n + 1024 ≤ old.layout.initialized → CanWrite mid
@@ -72,7 +77,7 @@ module _ (old mid : VolumeView) (was now : Mounted) (n dir : ℕ) (node : Node) 
     apart = subst IsApart (sym layout) write.apart;
     written = λ m used. subst (λ (l : TableLayout). 1024 * m + 1024 ≤ l.initialized) (sym layout) (elim (cases_eq m n) [
       | inl same ↦ subst (λ k. 1024 * k + 1024 ≤ old.layout.initialized) (sym same) block
-      | inr differ ↦ write.written m (subst (λ (o : Option Record). IsTrue (is_some o)) (left.records m differ) used)
+      | inr differ ↦ write.written m (used-before m differ used)
     ]);
   }
 
@@ -83,11 +88,36 @@ module _ (old mid : VolumeView) (was now : Mounted) (n dir : ℕ) (node : Node) 
   pub free-record : (sector : ℕ) → Contains (record_places old.layout n) sector → IsOfOrdinaryRecord old sector
   free-record sector among = (n, free.0, free-inside old (marks_of was) n right free, among)
 
-  record-before : (g m : ℕ) → m ≢ n → IsRecordOf mid g m → IsRecordOf old g m
-  record-before g m differ of = record {
-    belongs = subst (λ (o : Option Record). IsSomeAnd o (λ r. file_of m r ≡ g)) (left.records m differ) of.belongs;
-    well_formed = subst IsWellFormed (left.leaves.blocks m differ) of.well_formed;
+  -- .. that of the directory is one of the same file
+  own-before : (g m : ℕ) → m ≡ dir → IsSomeAnd (record_on mid m) (λ r. file_of m r ≡ g) → IsSomeAnd (record_on old m) (λ r. file_of m r ≡ g)
+  own-before g m same of =
+      let now : file_of m left.directory.now ≡ g =
+      subst (λ (o : Option Record). IsSomeAnd o (λ r. file_of m r ≡ g)) (ap (record_on mid) same ∙ left.directory.now_at) of in
+      subst (λ (o : Option Record). IsSomeAnd o (λ r. file_of m r ≡ g)) (sym (ap (record_on old) same ∙ left.directory.was_at))
+      (ap (λ (base : Option Reference). unwrap_or (option_map (λ (b : Reference). b.number) base) m) (sym left.directory.header.base) ∙ now)
+
+  pub own-record : IsRecordOf old dir dir
+  own-record = record {
+    belongs = subst (λ (o : Option Record). IsSomeAnd o (λ r. file_of dir r ≡ dir)) (sym left.directory.was_at)
+        (based left.directory.was.header.base left.directory.base);
+    well_formed = left.directory.well;
   }
+    where
+      based : (o : Option Reference) → is_none o ≡ true → unwrap_or (option_map (λ (b : Reference). b.number) o) dir ≡ dir
+      based None e = refl
+      based (Some b) e = cc
+
+  record-before : (g m : ℕ) → m ≢ n → IsRecordOf mid g m → IsRecordOf old g m
+  record-before g m differ of = elim (cases_eq m dir) [
+    | inl same ↦ record {
+      belongs = own-before g m same of.belongs;
+      well_formed = subst (λ (k : ℕ). IsWellFormed (old.block k)) (sym same) left.directory.well;
+    }
+    | inr ne ↦ record {
+      belongs = subst (λ (o : Option Record). IsSomeAnd o (λ r. file_of m r ≡ g)) (left.leaves.records m differ ne) of.belongs;
+      well_formed = subst IsWellFormed (left.leaves.blocks m differ ne) of.well_formed;
+    }
+  ]
 
   file-before : (g sector : ℕ) → IsOfFile mid g sector → IsOfFile old g sector ⊎ IsOfOrdinaryRecord old sector
   file-before g sector (m, of, among) =
@@ -97,11 +127,19 @@ module _ (old mid : VolumeView) (was now : Mounted) (n dir : ℕ) (node : Node) 
         | inr differ ↦ inl (m, record-before g m differ of, here)
       ]
 
-  -- INDEXES of other files lie where they lay.
+  -- INDEXES of other files lie where they lay, and so do the records of that of the directory.
+  records-same : (g : ℕ) → g ≢ n → (names_index mid g).records ≡ (names_index old g).records
+  records-same g differ = elim (cases_eq g dir) [
+    | inl here ↦
+        subst (λ (f : ℕ). (names_index mid f).records ≡ (names_index old f).records) (sym here)
+        (own-index old mid was now dir n node units file.standard file.key moment security can right file.new_key file.new_standard
+        file.plain.long file.comes).records
+    | inr elsewhere ↦ ap (filter (is_of INDEX_ALLOCATION (wide (codes "$I30")))) (left.leaves.others g differ elsewhere)
+  ]
+
   index-before : (g sector : ℕ) → g ≢ n → IsOfIndex mid g sector → IsOfIndex old g sector
   index-before g sector differ (vcn, among) =
-      let same : (names_index mid g).records ≡ (names_index old g).records =
-      ap (filter (is_of INDEX_ALLOCATION (wide (codes "$I30")))) (left.leaves.others g differ) in (
+      let same = records-same g differ in (
         vcn,
         subst (λ (l : TableLayout). Contains (record_sectors l (spot_at (names_index old g).records) vcn) sector) layout
             (subst (λ (ps : List Part). Contains (record_sectors mid.layout (spot_at ps) vcn) sector) same among),
@@ -113,8 +151,7 @@ module _ (old mid : VolumeView) (was now : Mounted) (n dir : ℕ) (node : Node) 
 
   -- THE NAMES of the directory are those that it had, and none stands in the new file.
   pub names : names_of (records_of mid) dir ≡ names_of (records_of old) dir
-  unfolding names_of
-  names = ap names_among (left.leaves.others dir other)
+  names = left.names dir other
 
   parent-other : (name : FileName) → Contains (names_of (records_of old) dir) name → name.parent.number ≢ n
   parent-other name among same =

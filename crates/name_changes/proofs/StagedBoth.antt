@@ -34,13 +34,17 @@ module _ {D : Type 0} (g : Ghosts D) (a m : Mft D g) (n dir : ℕ) (node : Node)
   abbrev mid : VolumeView
   mid = view g m
 
-  -- THE FILE: the flag of its record, that record, and a record of the index
+  -- THE FILE: the flag of its record, that record, and a record of the index, or the directory's own
   of-file : (vcns : List ℕ) (s : ℕ) → IsOfRecordBits old s ⊎ (Contains (record_places old.layout n) s
-      ⊎ Contains (flat_map (record_sectors old.layout (spot_at (names_of_directory old dir).records)) vcns) s) → IsOfMaking old dir s
+      ⊎ (Contains (flat_map (record_sectors old.layout (spot_at (names_of_directory old dir).records)) vcns) s
+      ⊎ Contains (record_places old.layout dir) s)) → IsOfMaking old dir s
   of-file vcns s (inl bits) = inl bits
   of-file vcns s (inr (inl own)) =
       inr (inl (between.free-record old mid (mounted_of g a) (mounted_of g m) n dir node units moment security can is file s own))
-  of-file vcns s (inr (inr index)) =
+  of-file vcns s (inr (inr (inr own))) =
+      inr (inr (inr (inl
+      (dir, between.own-record old mid (mounted_of g a) (mounted_of g m) n dir node units moment security can is file, own))))
+  of-file vcns s (inr (inr (inl index))) =
       let at = Contains-from_flat_map (record_sectors old.layout (spot_at (names_of_directory old dir).records)) vcns s index in
       inr (inr (inl (at.0, at.2)))
 

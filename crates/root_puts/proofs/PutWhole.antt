@@ -29,8 +29,8 @@ use Rattle.file_record.specs.declared.parts.FileParts.{FileParts}
 use Rattle.file_record.specs.Held.{IsHeldFile, RecordHeld, attributes_in, file_number, held_of}
 use Rattle.file_record.specs.Links.{HoldsSame}
 use Rattle.file_record.specs.Written.{IsWholeFile}
-use Rattle.attr_store.specs.First.{TellsSizes}
-use Rattle.attr_store.specs.declared.first.FirstPart.{FirstPart}
+use Rattle.dir_index.specs.First.{TellsSizes}
+use Rattle.dir_index.specs.FirstPart.{FirstPart}
 use Rattle.tree_model.specs.IndexRoom.{directory_index, root_of}
 use Rattle.edit_def.specs.Items.{HasItems}
 use Rattle.edit_def.specs.Marks.{Marks}

@@ -1,8 +1,10 @@
 -- A ROOT WAS WRITTEN as a call on the record of its directory, and what it leaves of parts, of the table of case, and of what stands between
 -- calls.
-use Rattle.std.proofs.Common.{◌≡◌, ◌≢◌, ◌+◌, ◌<◌, ◌≤◌, ◌==◌, ◌&&◌, ◌++◌, ℕ, zero, suc, true, false, cond, List, [], ◌∷◌, length, max, drop, take, filter, map, Option, Some}
+use Rattle.std.proofs.Common.{◌≡◌, ◌≢◌, ◌+◌, ◌<◌, ◌≤◌, ◌==◌, ◌%◌, ◌&&◌, ◌++◌, ℕ, zero, suc, Bool, true, false, cond}
+use Rattle.std.proofs.Common.{List, [], ◌∷◌, length, max, drop, take, filter, map, Option, Some}
 use Rattle.std.proofs.Common.{refl, sym, ap, subst, ◌∙◌, arith, inl, inr}
-use Rattle.std.specs.Prelude.{Contains, IfSome, IsSome, IsSomeAnd, IsTrue, codes, is_none, is_some, slice_index, unwrap_or}
+use Rattle.std.specs.Prelude.{Contains, IfSome, IsSome, IsSomeAnd, IsTrue, codes, is_none, is_some, nat_eq, slice_index, unwrap_or}
+use Rattle.std.specs.List.{starts_with}
 use Rattle.std.specs.Option.{option_map, option_map_or}
 use Rattle.std.specs.Str.{bytes_eq}
 use Rattle.std.proofs.lemmas.Grind.{common_steps}
@@ -12,12 +14,15 @@ use Rattle.list_laws.proofs.OptionLaws.{some_same}
 use Rattle.list_laws.proofs.PieceLaws.{All-one}
 use Rattle.list_laws.proofs.ReplacesLaws.{Replaces-filter, Replaces-itself}
 use Rattle.ntfs_def.specs.Attribute.{Attribute, Body, NonResident, Resident, extent_of, value_of}
-use Rattle.ntfs_def.specs.Record.{Reference}
+use Rattle.ntfs_def.specs.Fixup.{opened_of}
+use Rattle.ntfs_def.specs.Record.{Header, Reference, header_of, is_in_use, record_flags, sequence_of}
 use Rattle.ntfs_def.specs.Units.{wide}
 use Rattle.ntfs_def.specs.declared.kinds.TheConstants.{INDEX_ROOT}
 use Rattle.attr_view.specs.Values.{overwritten, with_length}
 use Rattle.volume_def.specs.CaseClause.{volume_fold}
-use Rattle.volume_def.specs.Files.{Part, content_value, file_of, is_base, is_of, part_of, parts, parts_at, record_on, records_of}
+use Rattle.volume_def.specs.Files.{Part, content_value, file_of, is_base, is_of, part_of, part_runs, parts, parts_at, record_of, record_on}
+use Rattle.volume_def.specs.Files.{records_of}
+use Rattle.volume_def.specs.Freed.{stored_sequence}
 use Rattle.volume_def.specs.ListsClause.{HasRightList, IsAlone}
 use Rattle.volume_def.specs.Readable.{IsFile}
 use Rattle.volume_def.specs.Table.{TableLayout, cluster_bytes}
@@ -47,18 +52,18 @@ use Rattle.volume_def.specs.Edits.{EditsAt}
 use Rattle.volume_edits.specs.Owners.{HasOwners}
 use Rattle.ntfs_def.specs.declared.records.TheConstants.{MFT_MIRROR}
 use Rattle.volume_def.proofs.ValueLaws.{value-frame}
-use Rattle.std.proofs.lemmas.Bool.{cases_eq}
-use Rattle.record_edits.proofs.BlockEdits.{attribute-stays, base-file, edit-of}
+use Rattle.std.proofs.lemmas.Bool.{and_parts, cases_eq}
+use Rattle.record_edits.proofs.BlockEdits.{attribute-stays, base-file, edit-of, now-at, was-at}
 use Rattle.record_edits.proofs.WholeEdits.{whole}
 use Rattle.record_calls.specs.Calls.{IsInOneRecord, MayReplace}
 use Rattle.record_calls.specs.Edits.{record_there}
 use Rattle.record_calls.proofs.ValueAlone.{value-alone}
 use Rattle.record_calls.proofs.ValueEdits.{edit-right, replace-right, value-content}
 use Rattle.record_calls.proofs.EditCalls.{edit-values}
-use Rattle.record_calls.proofs.Values.{body-value, no-times, one-value, value-mapped}
+use Rattle.record_calls.proofs.Values.{body-none, body-value, no-times, one-value, value-mapped}
 use Rattle.record_calls.proofs.WholeCalls.{edited-replaced, may-edit, ready-replaced, was-right}
 use Rattle.index_puts.specs.PutsRoot.{IsRootAt}
-use Rattle.root_puts.specs.PutsInRoot.{KeepsRootHead, WritesRecord, root_key}
+use Rattle.root_puts.specs.PutsInRoot.{KeepsHolder, KeepsRootHead, WritesRecord, root_key}
 
 abbrev pub names : List ℕ
 names = wide (codes "$I30")
@@ -265,6 +270,55 @@ module _ (old new : VolumeView) (dir i : ℕ) (before after : List ℕ) (root : 
     | inl own ↦ clauses.parts-differ (root_key dir) old new marks marks part-edit (key_of f kind name) own free
     | inr ne ↦ ap (filter (is_of kind name)) (other-files f ne)
   ]
+
+  -- those of other types, in their order
+  of-root : (test : ℕ → Bool) → test INDEX_ROOT ≡ false → (a : Attribute) → a.kind ≡ INDEX_ROOT
+      → filter (λ (p : Part). test p.kind) (part_of dir a ∷ []) ≡ []
+  of-root test out a is = ap (λ b. cond b (part_of dir a ∷ []) []) (ap test is ∙ out)
+
+  own-kinds : (test : ℕ → Bool) → test INDEX_ROOT ≡ false
+      → filter (λ (p : Part). test p.kind) (parts (records_of new) dir) ≡ filter (λ (p : Part). test p.kind) (parts (records_of old) dir)
+  own-kinds test out =
+      Replaces-itself _ _ _ _ (of-root test out e.was was-name.0 ∙ sym (of-root test out e.now now-name.0))
+      (Replaces-filter (λ (p : Part). test p.kind) _ _ _ _
+      (parts-own_at (records_of old) (records_of new) dir dir (parts_made dir (e.was ∷ [])) (parts_made dir (e.now ∷ [])) edit own-file))
+
+  pub kinds-same : (f : ℕ) (test : ℕ → Bool) → test INDEX_ROOT ≡ false
+      → filter (λ (p : Part). test p.kind) (parts (records_of new) f) ≡ filter (λ (p : Part). test p.kind) (parts (records_of old) f)
+  kinds-same f test out = elim (cases_eq f dir) [
+    | inr ne ↦ ap (filter (λ (p : Part). test p.kind)) (other-files f ne)
+    | inl own ↦
+        ap (λ g. filter (λ (p : Part). test p.kind) (parts (records_of new) g)) own ∙ own-kinds test out
+        ∙ sym (ap (λ g. filter (λ (p : Part). test p.kind) (parts (records_of old) g)) own)
+  ]
+
+  -- the root has no run
+  pub root-runs : (p : Part) → Contains (parts_at new dir INDEX_ROOT names) p → part_runs p ≡ []
+  root-runs p among =
+      let is = Contains-only (part_of dir e.now) p (subst (λ (ps : List Part). Contains ps p) root-now among) in
+      sym (ap part_runs is) ∙ body-none e.now.body now-is
+
+  -- ITS RECORD
+  sequence-used : (stored : List ℕ) → is_in_use stored ≡ true → stored_sequence stored ≡ (header_of (opened_of stored)).sequence
+  unfolding header_of
+  sequence-used stored used =
+      ap (λ b. cond b (sequence_of (opened_of stored)) 0) (and_parts (starts_with nat_eq stored (codes "FILE"))
+      (record_flags stored % 2 == 1) used).0
+
+  block-now : new.block dir ≡ e.stored
+  block-now = e.edits.replaces.block e.edits.told
+
+  pub keeps-holder : KeepsHolder old new dir
+  keeps-holder = record {
+    was = record_there old dir;
+    now = record_of dir (opened_of e.stored);
+    was_at = was-at old new dir e.stored (e.was ∷ []) (e.now ∷ []) e.edits;
+    now_at = now-at old new dir e.stored (e.was ∷ []) (e.now ∷ []) e.edits;
+    header = e.header_is;
+    sequence =
+        ap stored_sequence block-now ∙ sequence-used e.stored e.edits.used_still ∙ ap (λ (h : Header). h.sequence) e.header_is
+        ∙ sym (sequence-used (old.block dir) e.edits.used);
+  }
 
   -- no record below 4
   pub high : (m : ℕ) → m < 4 → m ≢ dir

@@ -1,7 +1,7 @@
 -- THE VOLUME where an item was put into the root of the index of a directory.
 use Rattle.std.proofs.Common.{◌≡◌, ◌≢◌, ◌+◌, ◌*◌, ◌≤◌, ◌==◌, ◌&&◌, ℕ, suc, Bool, true, false, cond, List, [], ◌∷◌, filter, Option, Some, slice_range}
 use Rattle.std.proofs.Common.{refl, sym, ap, subst, ◌∙◌, arith, inl, inr, true≢false}
-use Rattle.std.specs.List.{find}
+use Rattle.std.specs.List.{Contains, find}
 use Rattle.std.specs.Option.{option_and_then, option_map_or}
 use Rattle.std.specs.Prelude.{◌↔◌, IsSome, is_some, unwrap_or}
 use Rattle.std.specs.Str.{bytes_eq}
@@ -18,7 +18,7 @@ use Rattle.ntfs_def.specs.declared.kinds.TheConstants.{BITMAP, DATA, INDEX_ALLOC
 use Rattle.ntfs_def.specs.declared.lengths.TheConstants.{INDEX_RECORD}
 use Rattle.ntfs_def.specs.declared.records.TheConstants.{CLUSTER_BITMAP, MFT, MFT_MIRROR}
 use Rattle.volume_def.specs.CaseClause.{volume_fold}
-use Rattle.volume_def.specs.Files.{Part, content_value, is_of, parts, parts_at, record_on, records_of}
+use Rattle.volume_def.specs.Files.{Part, content_value, is_of, part_runs, parts, parts_at, record_on, records_of}
 use Rattle.volume_def.specs.IndexesClause.{index_nodes, index_parts}
 use Rattle.volume_def.specs.Table.{TableLayout, cluster_bytes}
 use Rattle.volume_def.specs.Values.{first_part, value_on}
@@ -45,7 +45,6 @@ use Rattle.volume_def.specs.OwnersClause.{times_owned}
 use Rattle.volume_def.specs.Sound.{Clause, Holds, rank_of}
 use Rattle.volume_def.specs.Sound as clauses
 use Rattle.record_edits.specs.Between.{IsReady}
-use Rattle.session_def.specs.Named.{is_index_kind}
 use Rattle.command_edits.specs.Calls.{ChangesIndex}
 use Rattle.command_edits.specs.Keys.{is_index_key_of}
 use Rattle.command_edits.proofs.CallsMade.{Edited-more, within-same}
@@ -56,7 +55,7 @@ use Rattle.list_laws.proofs.OptionLaws.{some_same}
 use Rattle.ntfs_def.specs.IndexTree.{Walks}
 use Rattle.ntfs_def.specs.declared.index.NodeForm.TheVariants.{Names}
 use Rattle.tree_model.specs.LeafRoom.{names_of_directory}
-use Rattle.root_puts.specs.PutsInRoot.{KeepsRootHead, PutsInRoot, WritesRecord, root_key}
+use Rattle.root_puts.specs.PutsInRoot.{KeepsHolder, KeepsRootHead, PutsInRoot, WritesRecord, root_key}
 use Rattle.root_puts.proofs.RootCall.{names}
 use Rattle.root_puts.proofs.RootCall as call
 
@@ -135,6 +134,16 @@ module _ (old new : VolumeView) (marks : Marks) (dir : ℕ) (item : Item) (all :
       → is_table_key (key_of f kind name) ≡ false → value_on new (parts_at new f kind name) ≡ value_on old (parts_at old f kind name)
   values-same = call.values-same old new dir puts.at puts.before puts.after root e marks ready all.one
 
+  pub kinds-same : (f : ℕ) (test : ℕ → Bool) → test INDEX_ROOT ≡ false
+      → filter (λ (p : Part). test p.kind) (parts (records_of new) f) ≡ filter (λ (p : Part). test p.kind) (parts (records_of old) f)
+  kinds-same = call.kinds-same old new dir puts.at puts.before puts.after root e marks ready all.one
+
+  pub root-runs : (p : Part) → Contains (parts_at new dir INDEX_ROOT names) p → part_runs p ≡ []
+  root-runs = call.root-runs old new dir puts.at puts.before puts.after root e marks ready all.one
+
+  pub keeps-holder : KeepsHolder old new dir
+  keeps-holder = call.keeps-holder old new dir puts.at puts.before puts.after root e marks ready all.one
+
   pub names-kept : (f : ℕ) → KeepsNames (records_of old) (records_of new) f
   names-kept = call.names-kept old new dir puts.at puts.before puts.after root e marks ready all.one
 
@@ -155,7 +164,7 @@ module _ (old new : VolumeView) (marks : Marks) (dir : ℕ) (item : Item) (all :
   size = ap (λ (l : TableLayout). cluster_bytes l) layout
 
   -- ITS INDEX, as one call on it
-  index-free : (key : Key) → is_index_key_of dir key ≡ false → same_key (root_key dir) key ≡ false
+  pub index-free : (key : Key) → is_index_key_of dir key ≡ false → same_key (root_key dir) key ≡ false
   index-free key e = elim (cases_Bool (same_key (root_key dir) key)) [
     | inr free ↦ free
     | inl same ↦
@@ -163,10 +172,9 @@ module _ (old new : VolumeView) (marks : Marks) (dir : ℕ) (item : Item) (all :
         let q = and_parts (dir == key.file) (bytes_eq names key.name) p.1 in
         let kind : key.kind ≡ INDEX_ROOT = sym (eqb-true INDEX_ROOT key.kind p.0) in
         let name : names ≡ key.name = (bytes_eq-Decides names key.name).0 q.1 in
-        let yes : is_index_key_of dir key ≡ true = and_from (is_index_kind key.kind)
-        (bytes_eq key.name names && (key.file == dir)) (ap is_index_kind kind)
-        (and_from (bytes_eq key.name names) (key.file == dir)
-        ((bytes_eq-Decides key.name names).1 (sym name)) (eq-eqb key.file dir (sym (eqb-true dir key.file q.0)))) in
+        let yes : is_index_key_of dir key ≡ true = ap (λ k. is_index_key_of dir (key_of key.file k key.name)) kind
+        ∙ and_from (bytes_eq key.name names) (key.file == dir)
+        ((bytes_eq-Decides key.name names).1 (sym name)) (eq-eqb key.file dir (sym (eqb-true dir key.file q.0))) in
         absurd (true≢false (sym yes ∙ e))
   ]
 

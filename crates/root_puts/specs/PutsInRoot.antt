@@ -1,10 +1,11 @@
 -- AN ITEM PUT INTO A ROOT, as a call on the record of its directory; and what such a call leaves alone.
-use Rattle.std.specs.Prelude.{◌≡◌, ◌≢◌, ◌<◌, ◌≤◌, ℕ, [], codes, length, take, unwrap_or}
+use Rattle.std.specs.Prelude.{◌≡◌, ◌≢◌, ◌<◌, ◌≤◌, ℕ, [], Some, codes, length, take, unwrap_or}
 use Rattle.ntfs_def.specs.Node.{Item}
 use Rattle.ntfs_def.specs.Units.{wide}
 use Rattle.ntfs_def.specs.declared.kinds.TheConstants.{INDEX_ROOT}
 use Rattle.volume_def.specs.Coverage.{IsOutsideTable}
-use Rattle.volume_def.specs.Files.{Part, content_value, parts, record_on, records_of}
+use Rattle.volume_def.specs.Files.{Part, Record, content_value, parts, record_on, records_of}
+use Rattle.volume_def.specs.Freed.{stored_sequence}
 use Rattle.volume_def.specs.View.{VolumeView}
 use Rattle.edit_def.specs.Kept.{Key, key_of}
 use Rattle.edit_def.specs.Marks.{Marks}
@@ -39,6 +40,15 @@ pub record WritesRecord (old new : VolumeView) (f : ℕ) : Type 0 where
   pub clusters : (c : ℕ) → IsOutsideTable old.layout c → new.cluster c ≡ old.cluster c
   pub records : (m : ℕ) → m ≢ f → record_on new m ≡ record_on old m
   pub others : (g : ℕ) → g ≢ f → parts (records_of new) g ≡ parts (records_of old) g
+
+-- ITS RECORD STAYS IN USE, with its header and its sequence number.
+pub record KeepsHolder (old new : VolumeView) (n : ℕ) : Type 0 where
+  pub was : Record
+  pub now : Record
+  pub was_at : record_on old n ≡ Some was
+  pub now_at : record_on new n ≡ Some now
+  pub header : now.header ≡ was.header
+  pub sequence : stored_sequence (new.block n) ≡ stored_sequence (old.block n)
 
 -- THE HEADER OF A ROOT STAYS: the first sixteen bytes of its value, and its flags.
 pub record KeepsRootHead (was now : Part) : Type 0 where

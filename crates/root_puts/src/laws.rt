@@ -1,11 +1,11 @@
 //! Laws with nothing to run: what a volume is where an item was put into the root of the index of a directory.
-ghost use Rattle.std.specs.Prelude.{◌≡◌, ◌≢◌, ℕ, List, [], ◌∷◌, Some, codes, false};
+ghost use Rattle.std.specs.Prelude.{◌≡◌, ◌≢◌, ℕ, Bool, Contains, List, [], ◌∷◌, Some, codes, filter, false};
 ghost use Rattle.ntfs_def.specs.KeyOrder.{name_order};
 ghost use Rattle.ntfs_def.specs.Node.{Item};
 ghost use Rattle.ntfs_def.specs.Units.{wide};
 ghost use Rattle.ntfs_def.specs.declared.kinds.TheConstants.{INDEX_ROOT};
 ghost use Rattle.volume_def.specs.CaseClause.{volume_fold};
-ghost use Rattle.volume_def.specs.Files.{Part, parts_at, records_of};
+ghost use Rattle.volume_def.specs.Files.{Part, part_runs, parts, parts_at, records_of};
 ghost use Rattle.volume_def.specs.Sound.{Clause, Holds, Indexes, References, rank_of};
 ghost use Rattle.volume_def.specs.Values.{first_part, value_on};
 ghost use Rattle.volume_def.specs.View.{VolumeView};
@@ -22,7 +22,7 @@ ghost use Rattle.edit_def.specs.Names.{KeepsNames};
 ghost use Rattle.record_edits.specs.Between.{IsReady};
 ghost use Rattle.command_edits.specs.Calls.{ChangesIndex};
 ghost use Rattle.index_puts.specs.PutsRoot.{PutsRootItem};
-ghost use Rattle.root_puts.specs.PutsInRoot.{KeepsRootHead, PutsInRoot, WritesRecord, root_key};
+ghost use Rattle.root_puts.specs.PutsInRoot.{KeepsHolder, KeepsRootHead, PutsInRoot, WritesRecord, root_key};
 
 /// The directory has the item more, where none of its items had this key (`items`), and that is one call on its index (`entry`). Every
 /// other directory has the items that it had (`others`). An entry of any directory that told what its file does tells it still
@@ -42,9 +42,10 @@ pub fn root_items()
 {}
 
 /// It is a call that names that root, and costs nothing (`edited`), and leaves what the next one needs (`ready`): no cluster has two owners
-/// (`owners`). The record of the directory alone was written (`writes`). All other attributes have the parts that they had (`parts`), and
-/// the values, but the table and its mirror (`values`); the root has its header still (`root`), all files their numbers and names
-/// (`names`), attributes their headers (`forms`), and names are compared as before (`case`).
+/// (`owners`). The record of the directory alone was written (`writes`), and has its header (`holder`). All other attributes have the parts
+/// that they had (`parts`), also in their order by types (`kinds`), and the values, but the table and its mirror (`values`); the root has no
+/// run (`runs`), and its header still (`root`), all files their numbers and names (`names`), attributes their headers (`forms`), and names
+/// are compared as before (`case`).
 pub fn root_edited()
     ensures edited { (old new : VolumeView) (marks : Marks) (dir : ℕ) (item : Item) → PutsInRoot old new marks dir item
         → Edited (same_key (root_key dir)) nothing old new marks marks }
@@ -57,6 +58,13 @@ pub fn root_edited()
     ensures parts { (old new : VolumeView) (marks : Marks) (dir : ℕ) (item : Item) → PutsInRoot old new marks dir item
         → (f kind : ℕ) (name : List ℕ) → same_key (root_key dir) (key_of f kind name) ≡ false
         → parts_at new f kind name ≡ parts_at old f kind name }
+    ensures kinds { (old new : VolumeView) (marks : Marks) (dir : ℕ) (item : Item) → PutsInRoot old new marks dir item
+        → (f : ℕ) (test : ℕ → Bool) → test INDEX_ROOT ≡ false
+        → filter (λ (p : Part). test p.kind) (parts (records_of new) f) ≡ filter (λ (p : Part). test p.kind) (parts (records_of old) f) }
+    ensures runs { (old new : VolumeView) (marks : Marks) (dir : ℕ) (item : Item) → PutsInRoot old new marks dir item
+        → (p : Part) → Contains (parts_at new dir INDEX_ROOT (wide (codes "$I30"))) p → part_runs p ≡ [] }
+    ensures holder { (old new : VolumeView) (marks : Marks) (dir : ℕ) (item : Item) → PutsInRoot old new marks dir item
+        → KeepsHolder old new dir }
     ensures values { (old new : VolumeView) (marks : Marks) (dir : ℕ) (item : Item) → PutsInRoot old new marks dir item
         → (f kind : ℕ) (name : List ℕ) → same_key (root_key dir) (key_of f kind name) ≡ false
         → is_table_key (key_of f kind name) ≡ false → value_on new (parts_at new f kind name) ≡ value_on old (parts_at old f kind name) }

@@ -5,5 +5,6 @@ mod laws;
 mod put;
 mod value;
 
+pub use index_puts::{has_leaf_room, has_root_room, index_depth, put_item};
 pub use laws::{root_clauses, root_edited, root_items};
 pub use put::put_in_root;

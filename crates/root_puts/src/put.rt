@@ -18,8 +18,8 @@ ghost use Rattle.root_puts.specs.CanPut.{CanPutInRoot};
 ghost use Rattle.root_puts.specs.PutsInRoot.{GrowsByItem};
 
 use crate::value::grown_at;
+use dir_index::find_first;
 use file_record::{FileNo, FileParts};
-use index_store::find_first;
 use mft_table::Mft;
 use ntfs_def::kinds::INDEX_ROOT;
 use std::alloc::Global;

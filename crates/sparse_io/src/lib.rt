@@ -10,7 +10,8 @@ mod runs;
 mod write;
 
 pub use attr_store::{
-    FileNo, FileParts, FirstPart, Stored, find_first, is_of, read_stored, read_value, spot_at,
+    FileNo, FileParts, FirstPart, Stored, find_first, has_list, is_of, read_stored, read_value,
+    spot_at,
 };
 pub use behind::{clusters_behind, clusters_covered};
 pub use find::{FoundStream, find_stream, list_streams};

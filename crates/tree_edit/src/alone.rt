@@ -23,7 +23,7 @@ ghost use Rattle.tree_edit.specs.Decided.{EditsSo, IsDroppableSo, IsResizableSo,
 ghost use Rattle.tree_edit.specs.Decided.{drop_decided, drop_found, resize_decided, resize_found};
 ghost use Rattle.tree_edit.specs.Writable.{DecidesEdit, GivesBack, IsMountedAs};
 
-use crate::extent::{ask_for_bits, has_list, is_extent};
+use crate::extent::{ask_for_bits, is_extent};
 use crate::punchable::is_value;
 use crate::room::clusters_for_bytes;
 use crate::value::fits_value;
@@ -32,7 +32,7 @@ use file_record::BaseFile;
 use file_room::{Standing, Stop, ask_for_room, is_of_directory, plain_content, resolve};
 use mft_table::{Mft, Mounted};
 use share_table::Opens;
-use sparse_io::{FoundStream, clusters_covered, look_at_names};
+use sparse_io::{FoundStream, clusters_covered, has_list, look_at_names};
 use std::alloc::{AllocError, Global};
 use tree_model::{No, Path};
 use vol_bytes::Name;

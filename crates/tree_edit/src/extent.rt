@@ -1,9 +1,7 @@
 //! A stream in clusters of a file without an attribute list, in one part: whether one that was found is such a stream, and whether the bits
 //! of its clusters lie in clusters.
 ghost use Rattle.std.specs.Prelude.{◌≡◌, ◌<◌, ◌==◌, ◌&&◌, IfOk, IsSomeAnd, List, count_by, is_some, length, slice_get, true, ℕ};
-ghost use Rattle.std.specs.List.{list_any};
 ghost use Rattle.volume_def.specs.Files.{content_extent, is_of, parts_like};
-ghost use Rattle.volume_def.specs.ListsClause.{is_list};
 ghost use Rattle.volume_def.specs.Sound.{IsSound};
 ghost use Rattle.volume_def.specs.Table.{cluster_bytes};
 ghost use Rattle.volume_def.specs.View.{VolumeView};
@@ -20,28 +18,11 @@ use crate::settable::can_edit;
 use file_record::{BaseFile, FileParts};
 use file_room::Stop;
 use mft_table::{Mft, Mounted};
-use ntfs_def::kinds::ATTRIBUTE_LIST;
-use sparse_io::{FoundStream, is_of, look_at_names};
+use sparse_io::{FoundStream, has_list, is_of, look_at_names};
 use std::alloc::{AllocError, Global};
 use stored_bits::bits_are_placed;
 use tree_model::No;
 use vol_disk::Disk;
-
-/// Whether a file that is held has an attribute list.
-pub fn has_list(file: &FileParts) -> bool
-    ensures { result ≡ list_any is_list (parts_held file.now) }
-{
-    let mut attributes = file.attributes();
-    for index in 0..file.count() {
-        let Some(attribute) = attributes.next() else {
-            return false;
-        };
-        if attribute.kind() == ATTRIBUTE_LIST {
-            return true;
-        }
-    }
-    false
-}
 
 // How many attributes of a file are of the type and name.
 fn count_of(file: &FileParts, kind: u32, name: &[u8]) -> usize

@@ -1,10 +1,11 @@
 -- ROOM FOR AN ENTRY in the root of the index of a directory, which has no records then: the root is the leaf of every key.
 -- Layout: Linux-NTFS documentation, attribute $INDEX_ROOT, concept "B*Trees"; Carrier, File System Forensic Analysis, chapter 13.
-use Rattle.std.specs.Prelude.{ℕ, ◌&&◌, nat_le, not, Bool, false, [], is_some}
+use Rattle.std.specs.Prelude.{ℕ, ◌&&◌, nat_le, not, Bool, false, is_some}
+use Rattle.std.specs.List.{list_any}
 use Rattle.std.specs.Option.{option_map_or}
 use Rattle.ntfs_def.specs.Node.{Node}
-use Rattle.ntfs_def.specs.declared.kinds.TheConstants.{ATTRIBUTE_LIST}
-use Rattle.volume_def.specs.Files.{Part, parts_at}
+use Rattle.volume_def.specs.Files.{Part, parts, records_of}
+use Rattle.volume_def.specs.ListsClause.{is_list}
 use Rattle.volume_def.specs.Room.{free_bytes}
 use Rattle.volume_def.specs.Values.{first_part}
 use Rattle.volume_def.specs.View.{VolumeView}
@@ -16,7 +17,7 @@ abbrev pub is_root_leaf : VolumeView → ℕ → Bool
 is_root_leaf view dir = option_map_or (λ (said : Node). not (is_some said.last)) (root_of view (directory_index dir)) false
 
 abbrev pub has_list : VolumeView → ℕ → Bool
-has_list view dir = is_some (first_part (parts_at view dir ATTRIBUTE_LIST []))
+has_list view f = list_any is_list (parts (records_of view) f)
 
 -- so many bytes are free in the record that holds the root
 abbrev pub is_free_beside_root : VolumeView → ℕ → ℕ → Bool

@@ -8,7 +8,6 @@ use Rattle.ntfs_def.specs.Rounded.{clusters_for, up_to_8}
 use Rattle.ntfs_def.specs.declared.records.TheConstants.{FIRST_ORDINARY}
 use Rattle.volume_def.specs.BitmapClauses.{cluster_bits, record_bits, written_by}
 use Rattle.volume_def.specs.Files.{Part, all_covered, content_extent, parts, record_on, records_of}
-use Rattle.volume_def.specs.ListsClause.{is_list}
 use Rattle.volume_def.specs.OwnersClause.{times_owned}
 use Rattle.volume_def.specs.Room.{free_bytes, unowned_clusters}
 use Rattle.volume_def.specs.Table.{cluster_bytes}
@@ -17,6 +16,7 @@ use Rattle.volume_def.specs.View.{VolumeView}
 use Rattle.tree_model.specs.Cases.{size_of}
 use Rattle.tree_model.specs.LeafRoom.{has_leaf_room}
 use Rattle.tree_model.specs.Reading.{standard_of}
+use Rattle.tree_model.specs.RootRoom.{has_list, has_root_room}
 use Rattle.tree_model.specs.StreamRoom.{goes_over, initialized_size, new_clusters, stream_parts, stream_value, stream_value_len}
 use Rattle.tree_model.specs.Subjects.{Located, NewName, NameIn}
 use Rattle.tree_model.specs.Tree.{Tree, leads_to}
@@ -43,7 +43,7 @@ is_done_in_place view tree other at = false
 -- Nor does what is done IN A RECORD: a stream that is a value of a file without an attribute list goes, or ends there then, and gets no
 -- longer, or the record has the bytes for it; 7 are as many as its attribute may be rounded up by.
 abbrev pub has_no_list : VolumeView → ℕ → Bool
-has_no_list view f = not (list_any is_list (parts (records_of view) f))
+has_no_list view f = not (has_list view f)
 
 abbrev pub is_value_alone : VolumeView → Tree → Located → Bool
 is_value_alone view tree at = is_some (stream_value (stream_parts view tree at)) && has_no_list view at.file
@@ -126,9 +126,8 @@ is_done_in_clusters view tree (c.Truncate path stream size) at = is_extent_alone
 is_done_in_clusters view tree (c.Rmstream path name) at = is_extent_alone view tree at
 is_done_in_clusters view tree other at = false
 
--- What is done IN A DIRECTORY: a name comes, of a file that is made for it. The record of the index in which the search for the name ends has
--- room for its entry: the header of 16 bytes, and the value of a $FILE_NAME. The directory has no name in a record that $MFTMirr copies,
--- since its own entries tell its times.
+-- What is done IN A DIRECTORY: a name comes, of a file that is made for it. The index has room for its entry: the header of 16 bytes, and
+-- the value of a $FILE_NAME. The directory has no name in a record that $MFTMirr copies, since its own entries tell its times.
 abbrev pub stands_in_copied : Link → Bool
 stands_in_copied link = nat_lt link.parent 4
 
@@ -137,6 +136,11 @@ has_copied_name tree file = list_any (λ (link : Link). leads_to file link && st
 
 abbrev pub entry_len : List ℕ → ℕ
 entry_len units = up_to_8 (0x52 + 2 * length units)
+
+-- THE INDEX HAS ROOM for the entry of a name: in the record of it in which the search for the name ends, or in its root, where it has no
+-- records.
+abbrev pub has_name_room : VolumeView → ℕ → List ℕ → Bool
+has_name_room view dir units = has_leaf_room view dir units (entry_len units) || has_root_room view dir (entry_len units)
 
 -- the flag of a record has a place in the stored bitmap of records, as far as that was written
 abbrev pub has_record_bit : VolumeView → ℕ → Bool
@@ -152,7 +156,7 @@ has_record view = list_any (can_have_file view) (range_with_len FIRST_ORDINARY (
 
 abbrev pub can_come : VolumeView → Tree → NewName → Bool
 can_come view tree (NameIn dir units) =
-    not (has_copied_name tree dir) && (has_leaf_room view dir units (entry_len units) && has_record view)
+    not (has_copied_name tree dir) && (has_name_room view dir units && has_record view)
 can_come view tree other = false
 
 abbrev pub is_done_in_directory : VolumeView → Tree → Command → Located → Bool

@@ -57,6 +57,7 @@ make_named-requires-clause-may g c told_then =
       moment = c.args.moment;
       new_key = new_key;
       room = c.requires.room told;
+      written = c.requires.written told;
     }))
 
 pub make_named-requires-clause-record_bit : goal.make_named-requires-clause-record_bit

@@ -1,6 +1,7 @@
 use Rattle.std.proofs.Common.{sym, ap, subst, ◌∙◌}
 use Rattle.std.specs.Prelude.{IsTrue}
 use Rattle.mft_table.specs.declared.mounted.Mounted.{Mounted}
+use Rattle.mft_table.specs.MirrorClusters.{IsMirrorInside}
 use Rattle.mft_table.specs.Mft.{mounted_of, view}
 use Rattle.file_makes.proofs.MadeUnder.{comes-under, flagged-named, layout-same, made-both, made-first, may-enter, parts-same}
 use Rattle.file_makes.proofs.named.make_named.Goals as goal
@@ -21,7 +22,7 @@ put_under-requires-clause-may g c told_then =
     (c.requires.volume told) (c.requires.may told) c.told-standard
     (flagged-named old (view g.D.Disk c.make_flagged.new.mft) was now c.in_ok-made.made c.args.standard.now c.args.key.now
     c.in_ok-made.ensures.least.free c.in_ok-made.ensures.bits (c.in_ok-made.ensures.comes told row.flag row.block))
-    now.upcase (ap (λ (m : Mounted). m.upcase) c.in_ok-made.ensures.bits)
+    now.upcase (ap (λ (m : Mounted). m.upcase) c.in_ok-made.ensures.bits) row.block
 
 pub returns-in_err-put_under-clause-places : goal.returns-in_err-put_under-clause-places
 returns-in_err-put_under-clause-places g c told n least =
@@ -33,12 +34,13 @@ returns-in_err-put_under-clause-places g c told n least =
     let comes = flagged-named old counted was now c.in_ok-made.made c.args.standard.now c.args.key.now c.in_ok-made.ensures.least.free
     c.in_ok-made.ensures.bits (c.in_ok-made.ensures.comes told row.flag row.block) in
     let told_then = subst IsTrue (sym c.make_flagged.ensures.device.goes_on.told_image) told in
-    made-both g.D.Disk old n c.args.dir c.args.mft.now c.make_flagged.new.mft c.put_under.new.mft told_then
+    made-both g.D.Disk old n c.args.dir c.args.mft.now c.make_flagged.new.mft c.put_under.new.mft
+    (c.make_flagged.ensures.places told n least) c.make_flagged.ensures.few told_then
     (parts-same old counted was now c.in_ok-made.made c.args.dir c.args.standard.now c.args.key.now (c.requires.volume told)
     (c.requires.may told) c.told-standard comes)
     (layout-same old counted was now c.in_ok-made.made c.args.dir c.args.standard.now c.args.key.now (c.requires.volume told)
     (c.requires.may told) c.told-standard comes)
-    (c.make_flagged.ensures.places told n least) c.make_flagged.ensures.few (c.put_under.ensures.places told_then)
+    (c.put_under.ensures.places told_then)
 
 pub returns-clause-made : goal.returns-clause-made
 returns-clause-made g c told reference =
@@ -64,9 +66,13 @@ returns-clause-places g c told n least =
     let comes = flagged-named old counted was now c.in_ok-made.made c.args.standard.now c.args.key.now c.in_ok-made.ensures.least.free
     c.in_ok-made.ensures.bits (c.in_ok-made.ensures.comes told row.flag row.block) in
     let told_then = subst IsTrue (sym c.make_flagged.ensures.device.goes_on.told_image) told in
-    made-both g.D.Disk old n c.args.dir c.args.mft.now c.make_flagged.new.mft c.put_under.new.mft told_then
+    made-both g.D.Disk old n c.args.dir c.args.mft.now c.make_flagged.new.mft c.put_under.new.mft
+    (c.make_flagged.ensures.places told n least) c.make_flagged.ensures.few told_then
     (parts-same old counted was now c.in_ok-made.made c.args.dir c.args.standard.now c.args.key.now (c.requires.volume told)
     (c.requires.may told) c.told-standard comes)
     (layout-same old counted was now c.in_ok-made.made c.args.dir c.args.standard.now c.args.key.now (c.requires.volume told)
     (c.requires.may told) c.told-standard comes)
-    (c.make_flagged.ensures.places told n least) c.make_flagged.ensures.few (c.put_under.ensures.places told_then)
+    (c.put_under.ensures.places told_then)
+
+pub put_under-requires-clause-mirror : goal.put_under-requires-clause-mirror
+put_under-requires-clause-mirror g c = subst IsMirrorInside (sym c.in_ok-made.ensures.bits) c.requires.mirror

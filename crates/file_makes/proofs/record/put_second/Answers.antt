@@ -1,4 +1,4 @@
-use Rattle.std.proofs.Common.{length, refl}
+use Rattle.std.proofs.Common.{length}
 use Rattle.mft_table.specs.Mft.{view}
 use Rattle.file_makes.proofs.RecordSteps.{has-room, more-used, second-comes, second-disk, second-places}
 use Rattle.file_makes.proofs.record.put_second.Goals as goal

@@ -1,7 +1,7 @@
-use Rattle.command_edits.proofs.FreshNumber.{fresh-number}
+use Rattle.root_puts.proofs.FreshNumber.{fresh-number}
 use Rattle.made_edits.specs.Wants.{making_wants}
 use Rattle.made_edits.proofs.SoundMade as laws
-use Rattle.record_calls.specs.Marks.{marks_of}
+use Rattle.root_puts.specs.Marks.{marks_of}
 use Rattle.std.proofs.Common.{false}
 use Rattle.tree_model.specs.Effects.{new_node}
 use Rattle.made_edits.proofs.laws.made.Goals as goal

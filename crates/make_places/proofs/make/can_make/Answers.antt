@@ -2,10 +2,9 @@ use Rattle.std.proofs.Common.{◌≡◌, ◌&&◌, ℕ, List, Bool, true, IfOk, 
 use Rattle.volume_def.specs.View.{VolumeView}
 use Rattle.mft_table.specs.declared.mounted.Mounted.{Mounted}
 use Rattle.tree_model.specs.Facts.{is_whole_table}
-use Rattle.tree_model.specs.LeafRoom.{has_leaf_room}
 use Rattle.tree_model.specs.Reading.{read}
 use Rattle.tree_model.specs.Staging.{cannot_edit}
-use Rattle.tree_model.specs.Ways.{entry_len, has_record}
+use Rattle.tree_model.specs.Ways.{has_name_room, has_record}
 use Rattle.tree_edit.specs.Answered.{Finds}
 use Rattle.tree_edit.specs.Nodes.{number_of}
 use Rattle.make_places.specs.Makes.{HasFreeRecord, cannot_make}
@@ -17,7 +16,7 @@ abbrev edits : ℕ → VolumeView → Bool
 edits dir v = not (cannot_edit (is_whole_table v) (read v) 0) && not (cannot_edit (is_whole_table v) (read v) dir)
 
 abbrev has : ℕ → List ℕ → VolumeView → Bool
-has dir name v = has_leaf_room v dir name (entry_len name) && has_record v
+has dir name v = has_name_room v dir name && has_record v
 
 pub returns-clause-can : goal.returns-clause-can
 returns-clause-can g c =

@@ -2,11 +2,16 @@ use Rattle.std.proofs.Common.{sym, subst}
 use Rattle.std.specs.Prelude.{IsTrue}
 use Rattle.std.proofs.lemmas.Result.{on_ok_weaker}
 use Rattle.mft_table.specs.Mft.{view}
+use Rattle.make_places.proofs.LinkLaws.{initialized}
 use Rattle.name_changes.proofs.FoundMade.{can-set, found-made, in-use, staged}
 use Rattle.name_changes.proofs.make.make_found.Goals as goal
 
 pub make_file-requires-clause-record_bit : goal.make_file-requires-clause-record_bit
 make_file-requires-clause-record_bit g c told n least = (c.requires.can told).record_.room n least
+
+pub make_file-requires-clause-written : goal.make_file-requires-clause-written
+make_file-requires-clause-written g c told =
+    initialized (view g.D.Disk c.args.mft.now) c.number-number.result (c.requires.can told).makeable.settable.can.write
 
 pub touch_directory-requires-clause-volume : goal.touch_directory-requires-clause-volume
 touch_directory-requires-clause-volume g c told_then =

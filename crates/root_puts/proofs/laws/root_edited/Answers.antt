@@ -1,4 +1,5 @@
-use Rattle.root_puts.proofs.RootLaws.{edited, forms-kept, names-kept, owners-now, parts-same, ready-now, root-kept, same-fold, values-same, writes-record}
+use Rattle.root_puts.proofs.RootLaws.{edited, forms-kept, keeps-holder, kinds-same, names-kept, owners-now, parts-same, ready-now}
+use Rattle.root_puts.proofs.RootLaws.{root-kept, root-runs, same-fold, values-same, writes-record}
 use Rattle.root_puts.proofs.laws.root_edited.Goals as goal
 
 pub returns-clause-edited : goal.returns-clause-edited
@@ -18,6 +19,15 @@ returns-clause-parts c old new marks dir item all f kind name free = parts-same 
 
 pub returns-clause-values : goal.returns-clause-values
 returns-clause-values c old new marks dir item all f kind name other free = values-same old new marks dir item all f kind name other free
+
+pub returns-clause-kinds : goal.returns-clause-kinds
+returns-clause-kinds c old new marks dir item all f test out = kinds-same old new marks dir item all f test out
+
+pub returns-clause-runs : goal.returns-clause-runs
+returns-clause-runs c old new marks dir item all p among = root-runs old new marks dir item all p among
+
+pub returns-clause-holder : goal.returns-clause-holder
+returns-clause-holder c old new marks dir item all = keeps-holder old new marks dir item all
 
 pub returns-clause-names : goal.returns-clause-names
 returns-clause-names c old new marks dir item all f = names-kept old new marks dir item all f

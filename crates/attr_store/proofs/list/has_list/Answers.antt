@@ -7,8 +7,8 @@ use Rattle.attr_view.specs.View.{attribute_of}
 use Rattle.volume_def.specs.ListsClause.{is_list}
 use Rattle.file_record.specs.Held.{attributes_held, parts_held}
 use Rattle.file_record.specs.Left.{attributes_left}
-use Rattle.sparse_io.proofs.FirstLaws.{AreHeld-at, AreHeld-end, AreHeld-file}
-use Rattle.tree_edit.proofs.extent.has_list.Goals as goal
+use Rattle.attr_store.proofs.FirstLaws.{AreHeld-at, AreHeld-end, AreHeld-file}
+use Rattle.attr_store.proofs.list.has_list.Goals as goal
 
 pub loop-index-init : goal.loop-index-init
 loop-index-init c = record { left = c.attributes-attributes.ensures; found = refl }

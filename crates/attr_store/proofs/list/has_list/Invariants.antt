@@ -3,7 +3,7 @@ use Rattle.std.specs.List.{list_any}
 use Rattle.volume_def.specs.ListsClause.{is_list}
 use Rattle.file_record.specs.Held.{attributes_held, parts_held}
 use Rattle.file_record.specs.Left.{attributes_left}
-use Rattle.tree_edit.proofs.extent.has_list.Given as goal
+use Rattle.attr_store.proofs.list.has_list.Given as goal
 
 -- the parts that were passed over are no lists
 abbrev pub invariant-loop-index : goal.invariant-loop-index
