@@ -5,8 +5,6 @@
 #[cfg(test)]
 mod clusters;
 #[cfg(test)]
-mod creates;
-#[cfg(test)]
 mod edits;
 #[cfg(test)]
 mod growth;

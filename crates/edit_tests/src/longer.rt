@@ -1,93 +1,16 @@
 //! Streams in clusters that get longer, in whole runs: by bytes over those that were written and right behind them, into the last cluster and
 //! into new ones, and by lengths that end in the last cluster.
-use laid_volumes::damage::{CLUSTER_BITS, byte, number, put, record, told_at};
-use laid_volumes::given::sink_of;
-use laid_volumes::laid::{
-    Extent, LaidName, ROOT_RECORD, Value, begin_file, end_file, key_in_root, lay_extent,
-    lay_in_root, lay_name, lay_standard, lay_value, own,
-};
-use laid_volumes::made::volume;
-use laid_volumes::scripts::{Row, TEXT_ROOM, is_sound, run_on, run_rows, source_of, writable};
-use std::alloc::{AllocError, Global};
+use laid_volumes::damage::{CLUSTER_BITS, byte, number, put, record, stands, told_at};
+use laid_volumes::laid::{Extent, key_in_root};
+use laid_volumes::laid_streams::{LARGE, ONE, volume_with};
+use laid_volumes::scripts::{Row, add_long, is_sound, run_rows, told, writable};
+use std::alloc::Global;
 use std::test;
-use vol_disk::{MemDisk, MemSink};
 
 const SECTORS: u16 = 2048;
 
-const K: LaidName = LaidName {
-    file: 26,
-    parent: (ROOT_RECORD, ROOT_RECORD),
-    space: 0,
-    letters: "k",
-    is_dir: false,
-};
-
 /// Where the unnamed stream stands in the record of a file with one name of one letter: behind two attributes of 96 bytes.
 pub const STREAM: usize = 0x38 + 96 + 96;
-
-/// A new volume leaves the clusters from 135 on, and has here a file `k` with this stream in these clusters, and with a value `s` beside it,
-/// unless that is empty.
-pub fn volume_with(
-    alloc: Global,
-    stream: Extent,
-    clusters: &[u8],
-    beside: &[u8],
-) -> Result<Vec<u8>, test::Fail> {
-    let mut image = volume(alloc)?;
-    let at = begin_file(&mut image, 26, 1, false);
-    let at = lay_standard(&mut image, at, [0; 4], 0x20);
-    let at = lay_name(alloc, &mut image, at, 1, &K)?;
-    let mut at = lay_extent(&mut image, at, stream);
-    if !beside.is_empty() {
-        let value = Value {
-            kind: 0x80,
-            id: 3,
-            name: "s",
-            value: beside,
-        };
-        at = lay_value(&mut image, at, value);
-    }
-    end_file(&mut image, 26, at);
-    own(&mut image, clusters);
-    lay_in_root(alloc, &mut image, &[K])?;
-    Ok(image)
-}
-
-/// Puts a line behind a script that ends in so many bytes 5A.
-pub fn add_long(script: &mut Vec<u8>, line: &str, count: u16) -> Result<(), AllocError> {
-    script.extend_from_slice(line.as_bytes())?;
-    for _ in 0..count {
-        script.extend_from_slice(b"5a")?;
-    }
-    script.push(b'\n')?;
-    Ok(())
-}
-
-/// The status of a script, and what it prints.
-pub fn told(alloc: Global, disk: &mut MemDisk, script: &[u8]) -> Result<(u8, MemSink), test::Fail> {
-    let mut source = source_of(alloc, script, 0)?;
-    let mut out = sink_of(alloc, TEXT_ROOM, 0)?;
-    let status = run_on(alloc, disk, &mut source, &mut out)?;
-    Ok((status, out))
-}
-
-/// Whether these bytes stand at a place.
-pub fn stands(image: &[u8], at: usize, bytes: &[u8]) -> bool {
-    image
-        .get(at..)
-        .is_some_and(|behind| behind.starts_with(bytes))
-}
-
-/// 4094 bytes in cluster 135, of which 4090 were written.
-pub const ONE: Extent = Extent {
-    id: 2,
-    flags: 0,
-    covered: 1,
-    owned: 1,
-    real: 4094,
-    initialized: 4090,
-    runs: &[0x21, 1, 135, 0, 0],
-};
 
 // 8188 bytes in the clusters 137 and 138, of which 8180 were written.
 const TWO: Extent = Extent {
@@ -197,24 +120,6 @@ fn sizes_at(image: &[u8], key: Option<usize>) -> Option<(usize, usize)> {
     let allocated = number(image, at.saturating_add(0x28));
     Some((allocated, number(image, at.saturating_add(0x30))))
 }
-
-/// Fourteen writes behind each other, of as many bytes as a command may have.
-pub const LARGE: [&str; 14] = [
-    "write /k 4090 ",
-    "write /k 36858 ",
-    "write /k 69626 ",
-    "write /k 102394 ",
-    "write /k 135162 ",
-    "write /k 167930 ",
-    "write /k 200698 ",
-    "write /k 233466 ",
-    "write /k 266234 ",
-    "write /k 299002 ",
-    "write /k 331770 ",
-    "write /k 364538 ",
-    "write /k 397306 ",
-    "write /k 430074 ",
-];
 
 // Of 120 free clusters eight are left then, which do for six more.
 const LARGE_TOLD: &[u8] = b"ok\nok\nok\nok\nok\nok\nok\nok\nok\nok\nok\nok\nok\nok\n\

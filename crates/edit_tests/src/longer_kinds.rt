@@ -1,9 +1,9 @@
 //! Streams in clusters of other kinds that get longer, in whole runs: ones with a hole, an empty one, and one with a name.
 use crate::clusters::volume_with_named;
-use crate::longer::{STREAM, add_long, stands, told};
-use laid_volumes::damage::{byte, number, record};
+use crate::longer::STREAM;
+use laid_volumes::damage::{byte, number, record, stands};
 use laid_volumes::laid_files::volume_with_all;
-use laid_volumes::scripts::{Row, is_sound, run_rows, writable};
+use laid_volumes::scripts::{Row, add_long, is_sound, run_rows, told, writable};
 use std::test;
 
 const SECTORS: u16 = 2048;

@@ -1,12 +1,12 @@
 //! The room for streams in clusters that get longer, in whole runs: clusters that are free one behind the other or not, the bytes that are
 //! left in a record, and writes failing. The stream of `k` has cluster 135 of a new volume.
-use crate::longer::{ONE, add_long, told, volume_with};
 use laid_volumes::damage::{CLUSTER_BITS, is_marked, set_bit};
 use laid_volumes::laid::{
     Extent, LaidName, ROOT_RECORD, begin_file, end_file, lay_extent, lay_in_root, lay_name,
     lay_standard,
 };
-use laid_volumes::scripts::{Row, is_sound, run_rows, writable};
+use laid_volumes::laid_streams::{ONE, volume_with};
+use laid_volumes::scripts::{Row, add_long, is_sound, run_rows, told, writable};
 use std::alloc::Global;
 use std::test;
 use vol_disk::{CallKind, Fail, FailDisk};

@@ -48,6 +48,13 @@ pub fn number(image: &[u8], at: usize) -> usize
     usize::from(byte(image, at)) + 256 * usize::from(next)
 }
 
+/// Whether these bytes stand at a place.
+pub fn stands(image: &[u8], at: usize, bytes: &[u8]) -> bool {
+    image
+        .get(at..)
+        .is_some_and(|behind| behind.starts_with(bytes))
+}
+
 /// Where record n begins.
 pub fn record(n: u8) -> usize
     ensures { result < 2 ^ 20 }

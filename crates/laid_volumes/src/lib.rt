@@ -6,6 +6,7 @@ pub mod damage;
 pub mod given;
 pub mod laid;
 pub mod laid_files;
+pub mod laid_streams;
 pub mod made;
 pub mod scripts;
 

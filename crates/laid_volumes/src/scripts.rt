@@ -129,6 +129,24 @@ pub fn is_sound(alloc: Global, sectors: u16, image: &[u8]) -> Result<bool, test:
     Ok(status == 0 && out.bytes() == b"sound\n".as_slice())
 }
 
+/// Puts a line behind a script that ends in so many bytes 5A.
+pub fn add_long(script: &mut Vec<u8>, line: &str, count: u16) -> Result<(), AllocError> {
+    script.extend_from_slice(line.as_bytes())?;
+    for _ in 0..count {
+        script.extend_from_slice(b"5a")?;
+    }
+    script.push(b'\n')?;
+    Ok(())
+}
+
+/// The status of a script, and what it prints.
+pub fn told(alloc: Global, disk: &mut MemDisk, script: &[u8]) -> Result<(u8, MemSink), test::Fail> {
+    let mut source = source_of(alloc, script, 0)?;
+    let mut out = sink_of(alloc, TEXT_ROOM, 0)?;
+    let status = run_on(alloc, disk, &mut source, &mut out)?;
+    Ok((status, out))
+}
+
 /// A disk with these contents, and room for all that is written here.
 pub fn writable(alloc: Global, sectors: u16, image: &[u8]) -> Result<MemDisk, test::Fail> {
     let mut disk = disk_on(alloc, sectors, image)?;

@@ -50,7 +50,7 @@ pub record IsNewKey (view : VolumeView) (dir : ℕ) (units : List ℕ) (moment :
   pub flags : u32_at key 0x38 ≡ 0x20
   pub last : u32_at key 0x3C ≡ 0
 
--- AN ENTRY ENTERS THE INDEX OF A DIRECTORY: the root of the index, where that has no records; the directory has one record, which may be
+-- AN ENTRY ENTERS THE INDEX OF A DIRECTORY: the root of the index; the directory has one record, which may be
 -- edited ..
 pub record EntersRoot (old new : VolumeView) (dir : ℕ) (item : Item) : Type 0 where
   pub grows : GrowsByItem old new dir item

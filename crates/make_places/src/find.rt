@@ -76,10 +76,10 @@ fn ask_for_file<D: Disk>(alloc: Global, mft: &mut Mft<'_, D>, dir: &BaseFile) ->
 /// # Errors
 ///
 /// The refusal of the first component before the last one that is bad; `BadName`; `Exists`; `Unbuilt`, where a record of the table was
-/// written in part, a name of the directory, or of the table's file, stands in a record that has a copy, neither the record of the directory's
-/// index in which the search for the name ends has room for its entry nor a root that leads to no record, or no record is free that was
-/// written and has a flag that can be stored, as where none is free; `TooManyParts`, `TooDeep`, `MftFull` and `NoRoom`; `Memory`; and `Device` where the
-/// disk failed.
+/// written in part, a name of the directory, or of the table's file, stands in a record that has a copy, neither the record of the
+/// directory's index in which the search for the name ends has room for its entry nor a root that leads to no record, in a directory
+/// without an attribute list, or no record is free that was written and has a flag that can be stored, as where none is free;
+/// `TooManyParts`, `TooDeep`, `MftFull` and `NoRoom`; `Memory`; and `Device` where the disk failed.
 pub fn find_to_make<'p, D: Disk>(
     alloc: Global,
     mft: &mut Mft<'_, D>,

@@ -1,13 +1,13 @@
 //! `create`: empty files that come under new names, where the record of their directory's index to which the name belongs has room for it, or
 //! the root of an index without records.
-use crate::longer::{LARGE, ONE, add_long, stands, told, volume_with};
-use laid_volumes::damage::{RECORD_BITS, byte, is_marked, number, put, record};
+use laid_volumes::damage::{RECORD_BITS, byte, is_marked, number, put, record, stands};
 use laid_volumes::laid::{
     LaidName, ROOT_RECORD, begin_file, end_file, key_in_root, lay_in_root, lay_index, lay_name,
     lay_standard,
 };
+use laid_volumes::laid_streams::{LARGE, ONE, volume_with};
 use laid_volumes::made::{made_on, volume};
-use laid_volumes::scripts::{Row, is_sound, run_rows, writable, wrong_row};
+use laid_volumes::scripts::{Row, add_long, is_sound, run_rows, told, writable, wrong_row};
 use std::alloc::Global;
 use std::test;
 use vol_disk::{CallKind, Fail, FailDisk};
@@ -95,7 +95,9 @@ const REST: [u8; 28] = [
 ];
 
 fn is_name(image: &[u8], at: usize) -> bool {
-    stands(image, at, &PARENT) && stands(image, at + 8, &TIMES) && stands(image, at + 40, &REST)
+    stands(image, at, &PARENT)
+        && stands(image, at.saturating_add(8), &TIMES)
+        && stands(image, at.saturating_add(40), &REST)
 }
 
 // Types of attributes.
@@ -144,11 +146,11 @@ fn records_and_entries_tell_the_file(rt: HostRuntime) -> Result<(), test::Fail> 
     assert!(rt; is_name(left, key));
     // The entry of the root, which is in the root: its second and third time.
     let root = (ROOT_INDEX..ROOT_INDEX + 4096)
-        .find(|at| stands(left, *at, &PARENT) && stands(left, *at + 16, &PARENT))
+        .find(|at| stands(left, *at, &PARENT) && stands(left, at.saturating_add(16), &PARENT))
         .unwrap_or(0);
-    let root = root + 16;
+    let root = root.saturating_add(16);
     for (place, wanted) in [(0x08, 0), (0x10, 7), (0x18, 7), (0x20, 0)] {
-        assert_eq!(rt; number(left, root + place), wanted, "{place}");
+        assert_eq!(rt; number(left, root.saturating_add(place)), wanted, "{place}");
     }
     Ok(())
 }
@@ -294,7 +296,7 @@ const NODE: usize = ROOT_INDEX + 0x18;
 
 // The entry of a name has 16 bytes of its own, 66 and two for each unit of the name, up to a multiple of 8.
 fn entry_len(units: usize) -> usize {
-    (82 + 2 * units).next_multiple_of(8)
+    (82 + 2 * units.min(255) + 7) / 8 * 8
 }
 
 // A line that makes a file under a name of so many units, and what it answers.
