@@ -138,7 +138,7 @@ fn records_and_entries_tell_the_file(rt: HostRuntime) -> Result<(), test::Fail> 
         (0x38 + 96 + 96, DATA),
         (0x38 + 96 + 96 + 0x10, 0),
     ] {
-        assert_eq!(rt; number(left, at + place), wanted, "{place}");
+        assert_eq!(rt; number(left, at.saturating_add(place)), wanted, "{place}");
     }
     assert!(rt; stands(left, at + STANDARD, &TIMES));
     assert!(rt; is_name(left, at + NAME_VALUE));
@@ -286,7 +286,11 @@ fn names_come_into_a_root_without_records(rt: HostRuntime) -> Result<(), test::F
         (32, 28),
         (32 + 88, 27),
     ] {
-        assert_eq!(rt; number(left, value + place), wanted, "{place}");
+        assert_eq!(rt;
+            number(left, value.saturating_add(place)),
+            wanted,
+            "{place}"
+        );
     }
     Ok(())
 }
