@@ -79,6 +79,7 @@ fn is_left_out(command: &Command) -> bool
             | Command::Hread { .. }
             | Command::Close { .. }
             | Command::Create { .. }
+            | Command::Mkdir { .. }
             | Command::Setattr { .. }
             | Command::Setsec { .. }
             | Command::Write { .. }
