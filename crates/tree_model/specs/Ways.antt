@@ -153,15 +153,19 @@ abbrev pub moves_into_clusters : VolumeView → Tree → Located → ℕ → ℕ
 moves_into_clusters view tree at size count =
     is_value_alone view tree at && (not (stays_value view tree at size) && can_move view at.file (stream_parts view tree at) size count)
 
+-- by bytes that go over those of the value, or right behind them
+abbrev pub moves_by_write : VolumeView → Tree → Located → ℕ → ℕ → Bool
+moves_by_write view tree at from len =
+    nat_le from (stream_value_len (stream_parts view tree at))
+    && moves_into_clusters view tree at (from + len) (new_clusters (cluster_bytes view.layout) (stream_parts view tree at) from len)
+
 abbrev pub is_done_by_moving : VolumeView → Tree → Command → Located → Bool
 is_done_by_moving view tree (c.Write path stream from bytes) at =
     not (is_done_in_place view tree (c.Write path stream from bytes) at)
-    && moves_into_clusters view tree at (from + length bytes)
-    (new_clusters (cluster_bytes view.layout) (stream_parts view tree at) from (length bytes))
+    && moves_by_write view tree at from (length bytes)
 is_done_by_moving view tree (c.Hwrite handle from bytes) at =
     not (is_done_in_place view tree (c.Hwrite handle from bytes) at)
-    && moves_into_clusters view tree at (from + length bytes)
-    (new_clusters (cluster_bytes view.layout) (stream_parts view tree at) from (length bytes))
+    && moves_by_write view tree at from (length bytes)
 is_done_by_moving view tree (c.Truncate path stream size) at =
     moves_into_clusters view tree at size (new_clusters (cluster_bytes view.layout) (stream_parts view tree at) 0 0)
 is_done_by_moving view tree other at = false
