@@ -170,8 +170,9 @@ is_done_by_moving view tree (c.Truncate path stream size) at =
     moves_into_clusters view tree at size (new_clusters (cluster_bytes view.layout) (stream_parts view tree at) 0 0)
 is_done_by_moving view tree other at = false
 
--- What is done IN A DIRECTORY: a name comes, of a file, or a directory, that is made for it. The index has room for its entry: the header of 16 bytes, and
--- the value of a $FILE_NAME. The directory has no name in a record that $MFTMirr copies, since its own entries tell its times.
+-- What is done IN A DIRECTORY: a name comes, of a file, or a directory, that is made for it. The index has room for its entry: the header
+-- of 16 bytes, and the value of a $FILE_NAME. The directory has no name in a record that $MFTMirr copies, since its own entries tell its
+-- times.
 abbrev pub stands_in_copied : Link → Bool
 stands_in_copied link = nat_lt link.parent 4
 
