@@ -30,9 +30,10 @@ cuts or lengthens it, as far as that record has room, and rmstream PATH:NAME
 removes it. Of a stream of such a file in clusters truncate cuts it, or lengthens
 it within its last cluster, rmstream removes it, and write and hwrite put bytes
 right behind those that were written, into new clusters too, where as many are free
-one behind the other. create PATH makes an empty file, where the index of its
-directory has room for the name as it stands, and a record of the table is free
-that was written. All other edits are no 28 Unbuilt.
+one behind the other. create PATH makes an empty file, and mkdir PATH a directory,
+where the index of the directory in which it comes has room for the name as it
+stands, and a record of the table is free that was written. All other edits are
+no 28 Unbuilt.
 The first edit of a run marks the volume as not closed until the run ends, and
 empties its log; a hibernated system is not recognised, so shut it down before.
 A volume that check refuses is refused in the same words.

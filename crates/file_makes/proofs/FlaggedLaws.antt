@@ -1,11 +1,11 @@
 -- THE RECORD OF A NEW FILE behind its flag, which was stored.
-use Rattle.std.proofs.Common.{◌≡◌, ◌+◌, ◌*◌, ◌/◌, ◌≤◌, ℕ, List, [], arith, length, sym, ap, subst, ◌∙◌, inl, inr}
+use Rattle.std.proofs.Common.{◌≡◌, Bool, ◌+◌, ◌*◌, ◌/◌, ◌≤◌, ℕ, List, [], arith, length, sym, ap, subst, ◌∙◌, inl, inr}
 use Rattle.std.specs.Prelude.{◌⊎◌, Contains, IsTrue}
 use Rattle.vol_disk.specs.declared.Disk.{Ghosts}
 use Rattle.volume_def.specs.BitmapClauses.{record_bits}
 use Rattle.volume_def.specs.Coverage.{IsApart}
 use Rattle.volume_def.specs.Files.{parts, records_of}
-use Rattle.volume_def.specs.Table.{LiesOn, TableLayout}
+use Rattle.volume_def.specs.Table.{LiesOn, TableLayout, cluster_bytes}
 use Rattle.volume_def.specs.Values.{spot_at}
 use Rattle.volume_def.specs.View.{VolumeView}
 use Rattle.volume_edits.specs.Owners.{HasOwners}
@@ -25,12 +25,12 @@ use Rattle.made_edits.specs.StoredRecordBit.{StoresRecordBit}
 use Rattle.file_makes.specs.Steps.{ComesFlagged, IsWrittenRecord, MakesRecord, StagesFile}
 use Rattle.file_makes.proofs.FreeParts.{parts-free}
 
-pub flagged-comes : (old flagged new : VolumeView) (mounted : Mounted) (sectors n : ℕ) (standard key : List ℕ) → IsTrue old.told
+pub flagged-comes : (directory : Bool) (old flagged new : VolumeView) (mounted : Mounted) (sectors n : ℕ) (standard key : List ℕ) → IsTrue old.told
     → IsSoundVolume old mounted → HasOwners old → LiesOn sectors old.layout → IsOrdinaryFree mounted.records n
     → 1024 * n + 1024 ≤ old.layout.initialized → StoresRecordBit old flagged n
-    → (IsWrittenRecord flagged n → parts (records_of flagged) n ≡ [] → MakesRecord flagged new n standard key)
-    → ComesFlagged old new n standard key
-flagged-comes old flagged new mounted sectors n standard key told is owners lies free low stores makes =
+    → (IsWrittenRecord flagged n → parts (records_of flagged) n ≡ []
+    → MakesRecord directory (cluster_bytes flagged.layout) flagged new n standard key) → ComesFlagged directory old new n standard key
+flagged-comes directory old flagged new mounted sectors n standard key told is owners lies free low stores makes =
     let w = stores.writes in
     let can : IsWrittenRecord flagged n = record {
       told = subst IsTrue (sym w.told) told;
@@ -39,7 +39,11 @@ flagged-comes old flagged new mounted sectors n standard key told is owners lies
     } in
     let none : parts (records_of flagged) n ≡ [] =
     ap (λ rs. parts rs n) (records-written old flagged (spot_at (record_bits old)) (n / 8) stores.bytes w) ∙ parts-free old mounted is n free in
-    record { flagged = flagged; stores = stores; makes = makes can none }
+    record {
+      flagged = flagged;
+      stores = stores;
+      makes = subst (λ (l : TableLayout). MakesRecord directory (cluster_bytes l) flagged new n standard key) w.layout (makes can none);
+    }
 
 -- THE SECTORS: that of the flag, and those of the record
 pub flagged-places : {D : Type 0} (g : Ghosts D) (a b c : Mft D g) (n : ℕ) → KeepsDisk g a b

@@ -1,5 +1,5 @@
 -- The value of a new name.
-use Rattle.std.proofs.Common.{◌≡◌, ℕ, ◌+◌, ◌*◌, ◌<◌, ◌≤◌, ◌&&◌, List, [], ◌∷◌, length, map, inl, refl, sym, ap, ◌∙◌, arith, slice_index, nat_le}
+use Rattle.std.proofs.Common.{◌≡◌, ℕ, ◌+◌, ◌*◌, ◌<◌, ◌≤◌, ◌&&◌, Bool, List, [], ◌∷◌, length, map, inl, refl, sym, ap, ◌∙◌, arith, slice_index, nat_le}
 use Rattle.std.specs.Prelude.{IsTrue}
 use Rattle.std.specs.List.{range_with_len}
 use Rattle.std.proofs.lemmas.Bool.{and_from, le-leb}
@@ -9,15 +9,16 @@ use Rattle.vol_bytes.specs.Field.{SameOutside, u16_at, u32_at, u64_at}
 use Rattle.ntfs_def.specs.FileName.{FileName, is_name_key, key_units, name_in, unit_count}
 use Rattle.ntfs_def.specs.Record.{Reference, reference_in}
 use Rattle.ntfs_def.specs.Units.{units_at}
+use Rattle.made_edits.specs.Comes.{name_flags}
 use Rattle.file_makes.specs.NewBytes.{IsPlainKey}
 use Rattle.file_makes.proofs.FieldsKept.{same_four, u32-kept, u64-kept}
 
 -- The bytes that are 0, then with the front of the value, and with its units
-module _ (zero front key units : List ℕ) (parent moment : ℕ) (some : 1 ≤ length units) (few : length units ≤ 255)
+module _ (directory : Bool) (zero front key units : List ℕ) (parent moment : ℕ) (some : 1 ≤ length units) (few : length units ≤ 255)
     (long : length zero ≡ 0x42 + 2 * length units) (zeros : (k : ℕ) → slice_index zero k ≡ 0) (len : length front ≡ length zero)
     (parent_is : u64_at front 0x00 ≡ parent)
     (times : u64_at front 0x08 ∷ u64_at front 0x10 ∷ u64_at front 0x18 ∷ u64_at front 0x20 ∷ [] ≡ moment ∷ moment ∷ moment ∷ moment ∷ [])
-    (flags : u32_at front 0x38 ≡ 0x20) (count : slice_index front 0x40 ≡ length units) (space : slice_index front 0x41 ≡ slice_index zero 0x41)
+    (flags : u32_at front 0x38 ≡ name_flags directory) (count : slice_index front 0x40 ≡ length units) (space : slice_index front 0x41 ≡ slice_index zero 0x41)
     (sizes : (k : ℕ) → 0x28 ≤ k → k < 0x38 → slice_index front k ≡ slice_index zero k)
     (last : (k : ℕ) → 0x3C ≤ k → k < 0x40 → slice_index front k ≡ slice_index zero k)
     (each : (k : ℕ) → k < length units → u16_at key (0x42 + 2 * k) ≡ slice_index units k)
@@ -73,7 +74,7 @@ module _ (zero front key units : List ℕ) (parent moment : ℕ) (some : 1 ≤ l
       let b = nothing front (at + 4) (λ k from to. sizes k (omega (arith, low, from)) (omega (arith, high, to)) ∙ zeros k) in
       omega (arith, a, b)
 
-  pub plain-key : IsPlainKey parent units moment key
+  pub plain-key : IsPlainKey directory parent units moment key
   plain-key = record {
     whole = whole;
     name = name;

@@ -49,17 +49,18 @@ use Rattle.file_makes.specs.Under.{HasNameRoom, MayMake, StagesMade}
 use Rattle.file_makes.proofs.RoomKept.{room-kept}
 
 -- the steps of the record, in the words of those above
-pub flagged-named : (old new : VolumeView) (was now : Mounted) (n : ℕ) (standard key : List ℕ) → IsOrdinaryFree was.records n
-    → now ≡ with_record_taken was n → ComesFlagged old new n standard key → ComesNamed old new was now n standard key
-flagged-named old new was now n standard key free taken c = record {
+pub flagged-named : (directory : Bool) (old new : VolumeView) (was now : Mounted) (n : ℕ) (standard key : List ℕ)
+    → IsOrdinaryFree was.records n → now ≡ with_record_taken was n → ComesFlagged directory old new n standard key
+    → ComesNamed directory old new was now n standard key
+flagged-named directory old new was now n standard key free taken c = record {
   free = free;
   taken = taken;
   flagged = c.flagged;
   stores = c.stores;
   based = c.makes.based;
   creates = c.makes.creates;
-  streamed = c.makes.fills.streamed;
-  stream = c.makes.fills.stream;
+  bodied = c.makes.fills.bodied;
+  body = c.makes.fills.body;
   named = c.makes.fills.named;
   name = c.makes.fills.name;
   stored = c.makes.fills.stored;
@@ -72,10 +73,11 @@ same-marks : {a b c d : List Bool} → a ≡ b → c ≡ d
 same-marks e f = cc
 
 -- the room for a new name is that for the entry of its value
-new-room : (view : VolumeView) (dir : ℕ) (units : List ℕ) (moment : ℕ) (key : List ℕ) → IsNewKey view dir units moment key
+new-room : (view : VolumeView) (directory : Bool) (dir : ℕ) (units : List ℕ) (moment : ℕ) (key : List ℕ)
+    → IsNewKey view directory dir units moment key
     → HasNameRoom view dir units → HasEntryRoom view dir (key_units key) (entry_bytes key)
 unfolding name_in
-new-room view dir units moment key is room =
+new-room view directory dir units moment key is room =
     let has : List ℕ → ℕ → Bool = λ us len. has_leaf_room view dir us len || has_root_room view dir len in
     ap (λ (us : List ℕ). has us (entry_bytes key)) (ap (λ (f : FileName). f.units) is.name)
     ∙ ap (λ (len : ℕ). has units (up_to_8 (16 + len))) is.long
@@ -86,11 +88,12 @@ right-marks view mounted is =
     subst (AreRight view) (sym (same-marks is.stored.clusters_are is.stored.records_are)) (stored-right view is.sound)
 
 -- BETWEEN the record and the entry
-module _ (old new : VolumeView) (was now : Mounted) (n dir : ℕ) (standard key : List ℕ) (is : IsSoundVolume old was) (may : MayMake old dir key)
-    (long : length standard ≡ 72) (comes : ComesNamed old new was now n standard key) where
-  file : HasNewFile old new (marks_of now) n dir standard key
+module _ (directory : Bool) (old new : VolumeView) (was now : Mounted) (n dir : ℕ) (standard key : List ℕ) (is : IsSoundVolume old was)
+    (may : MayMake directory old dir key) (long : length standard ≡ 72) (comes : ComesNamed directory old new was now n standard key) where
+  file : HasNewFile directory old new (marks_of now) n dir standard key
   file =
-      has-new-file old new was now dir n may.node may.units standard key may.moment may.can (right-marks old was is) may.new_key long comes
+      has-new-file old new was now dir n may.node may.units standard key may.moment directory may.can (right-marks old was is) may.new_key long
+      comes
 
   index : IsDirectoryIndex old dir
   index = directory-index old dir may.node may.can.parent.there may.can.directory may.can.parent.sound
@@ -134,14 +137,14 @@ module _ (old new : VolumeView) (was now : Mounted) (n dir : ℕ) (standard key 
     has = file.items dir file.other index.items (items-of-directory old dir index);
     case = same ∙ is.stored.upcase_is ∙ sym file.case_table;
     absent = no-equal old dir may.units key index (ap (λ (f : FileName). f.units) may.new_key.name) may.can.absent (volume_fold new);
-    room = room-kept old new (marks_of now) n dir standard key file may.can.parent.apart.owners may.can.parent.apart.some unused
+    room = room-kept directory old new (marks_of now) n dir standard key file may.can.parent.apart.owners may.can.parent.apart.some unused
         (key_units key) (entry_bytes key)
-        ∙ new-room old dir may.units may.moment key may.new_key may.room;
+        ∙ new-room old directory dir may.units may.moment key may.new_key may.room;
   }
 
   -- the index of the directory has the parts that it had, and the volume lies where it lay
   pub parts-same : (names_of_directory new dir).records ≡ (names_of_directory old dir).records
-  parts-same = ap (filter (is_of INDEX_ALLOCATION (wide (codes "$I30")))) file.directory
+  parts-same = ap (filter (is_of INDEX_ALLOCATION (wide (codes "$I30")))) file.parent
 
   pub layout-same : new.layout ≡ old.layout
   layout-same = file.leaves.layout
@@ -210,10 +213,10 @@ module _ {D : Type 0} (g : Ghosts D) (old : VolumeView) (n dir : ℕ) (a b c : M
   ]
 
 -- TOGETHER
-pub comes-under : (old counted new : VolumeView) (was now : Mounted) (n dir reference : ℕ) (standard key : List ℕ)
-    → ComesNamed old counted was now n standard key → EntersName counted new dir reference key → reference_in reference ≡ new_reference old n
-    → ComesUnder old new was now n dir standard key
-comes-under old counted new was now n dir reference standard key comes enters same = record {
+pub comes-under : (directory : Bool) (old counted new : VolumeView) (was now : Mounted) (n dir reference : ℕ) (standard key : List ℕ)
+    → ComesNamed directory old counted was now n standard key → EntersName counted new dir reference key
+    → reference_in reference ≡ new_reference old n → ComesUnder directory old new was now n dir standard key
+comes-under directory old counted new was now n dir reference standard key comes enters same = record {
   counted = counted;
   comes = comes;
   item = enters.item;

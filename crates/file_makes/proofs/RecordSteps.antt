@@ -8,7 +8,7 @@ use Rattle.ntfs_def.specs.Record.{used_size}
 use Rattle.vol_disk.specs.declared.Disk.{Ghosts}
 use Rattle.vol_stage.specs.declared.stage.Stage.{Stage}
 use Rattle.vol_stage.specs.Staged.{StagesOnly}
-use Rattle.ntfs_def.specs.declared.kinds.TheConstants.{DATA, FILE_NAME}
+use Rattle.ntfs_def.specs.declared.kinds.TheConstants.{FILE_NAME}
 use Rattle.volume_edits.specs.Rewritten.{CountsLinks}
 use Rattle.record_bytes.specs.AttributeBytes.{resident_bytes}
 use Rattle.mft_table.specs.FreeRecords.{IsLeastFree}
@@ -30,6 +30,7 @@ use Rattle.file_record.specs.Extensions.{HoldsNewBase}
 use Rattle.file_record.specs.Held.{RecordHeld, file_number}
 use Rattle.file_record.specs.Links.{HoldsBase, HoldsSame}
 use Rattle.file_record.specs.Written.{IsWholeFile}
+use Rattle.made_edits.specs.Comes.{body_bytes}
 use Rattle.file_makes.specs.Steps.{ComesSecond, FillsRecord, HasRoomFor, HasUsed, IsWrittenRecord}
 
 -- what is said twice of the record that is held
@@ -153,14 +154,15 @@ written-still old new n m number told layout can = record {
 }
 
 -- THE RECORD IS FILLED by three steps.
-module _ (old one two new : VolumeView) (was mid now : FileParts) (stream name key : List ℕ) (same : file_number mid ≡ file_number was)
-    (same_then : file_number now ≡ file_number mid) (stream_is : stream ≡ resident_bytes DATA [] 1 [])
+module _ (directory : Bool) (size : ℕ) (old one two new : VolumeView) (was mid now : FileParts) (body name key : List ℕ)
+    (same : file_number mid ≡ file_number was)
+    (same_then : file_number now ≡ file_number mid) (body_is : body ≡ body_bytes directory size)
     (name_is : name ≡ resident_bytes FILE_NAME [] 2 key)
-    (first : IsWrittenRecord old (file_number was) → IsWholeFile old was → ComesSecond old one was mid stream)
+    (first : IsWrittenRecord old (file_number was) → IsWholeFile old was → ComesSecond old one was mid body)
     (second : IsWrittenRecord one (file_number mid) → IsWholeFile one mid → ComesSecond one two mid now name)
     (third : IsWrittenRecord two (file_number now) → IsWholeFile two now → (stored : List ℕ) × CountsLinks two new (file_number now) stored 1)
   where
-    pub record-filled : IsWrittenRecord old (file_number was) → IsWholeFile old was → FillsRecord old new (file_number was) key
+    pub record-filled : IsWrittenRecord old (file_number was) → IsWholeFile old was → FillsRecord directory size old new (file_number was) key
     record-filled can whole =
         let a = first can whole in
         let can_then = written-still old one (file_number was) (file_number mid) same a.inserts.edits.replaces.told
@@ -169,8 +171,8 @@ module _ (old one two new : VolumeView) (was mid now : FileParts) (stream name k
         let c = third (written-still one two (file_number mid) (file_number now) same_then b.inserts.edits.replaces.told
         b.inserts.edits.replaces.layout can_then) b.whole in
         record {
-          streamed = one;
-          stream = subst (λ xs. InsertsAttribute old one (file_number was) 1 xs) stream_is a.inserts;
+          bodied = one;
+          body = subst (λ xs. InsertsAttribute old one (file_number was) 1 xs) body_is a.inserts;
           named = two;
           name = subst (λ xs. InsertsAttribute one two (file_number was) 1 xs) name_is
               (subst (λ n. InsertsAttribute one two n 1 name) same b.inserts);

@@ -1,5 +1,5 @@
 -- THE ROOM FOR AN ENTRY in a directory is what it was where a file came that has no name in it yet.
-use Rattle.std.proofs.Common.{◌≡◌, ◌≢◌, ◌<◌, ◌||◌, ℕ, List, codes, Option, Some, None, inl, refl, sym, ap, ◌∙◌, arith}
+use Rattle.std.proofs.Common.{Bool, ◌≡◌, ◌≢◌, ◌<◌, ◌||◌, ℕ, List, codes, Option, Some, None, inl, refl, sym, ap, ◌∙◌, arith}
 use Rattle.std.specs.Prelude.{Contains, IfSome, filter}
 use Rattle.list_laws.proofs.FindLaws.{find-found}
 use Rattle.list_laws.proofs.MemberLaws.{Contains-from_filter}
@@ -24,7 +24,8 @@ use Rattle.made_edits.proofs.LeftLaws.{value-kept}
 abbrev names : List ℕ
 names = wide (codes "$I30")
 
-module _ (old new : VolumeView) (marks : Marks) (n dir : ℕ) (standard key : List ℕ) (file : HasNewFile old new marks n dir standard key)
+module _ (directory : Bool) (old new : VolumeView) (marks : Marks) (n dir : ℕ) (standard key : List ℕ)
+    (file : HasNewFile directory old new marks n dir standard key)
     (owners : HasOwners old) (some : 0 < old.layout.cluster_sectors) (none : record_on old n ≡ None) where
   -- the records of its index
   index-same : names_of_directory new dir ≡ names_of_directory old dir
@@ -33,7 +34,7 @@ module _ (old new : VolumeView) (marks : Marks) (n dir : ℕ) (standard key : Li
         root = filter (is_of INDEX_ROOT names) all;
         records = filter (is_of INDEX_ALLOCATION names) all;
         bits = filter (is_of BITMAP names) all;
-      } in index) file.directory
+      } in index) file.parent
 
   value-same : value_on new (names_of_directory old dir).records ≡ value_on old (names_of_directory old dir).records
   value-same =
@@ -67,4 +68,4 @@ module _ (old new : VolumeView) (marks : Marks) (n dir : ℕ) (standard key : Li
       → (has_leaf_room new dir sought len || has_root_room new dir len) ≡ (has_leaf_room old dir sought len || has_root_room old dir len)
   room-kept sought len =
       ap (λ leaf. leaf || has_root_room new dir len) (leaf-room sought len)
-      ∙ ap (λ root. has_leaf_room old dir sought len || root) (root-stays old new dir len file.directory holder-same)
+      ∙ ap (λ root. has_leaf_room old dir sought len || root) (root-stays old new dir len file.parent holder-same)

@@ -1,12 +1,14 @@
 -- THE RECORD OF A NEW FILE: what the calls on it give, one behind the other, and what is kept of the device meanwhile.
--- Layout: Linux-NTFS documentation, attributes $FILE_NAME and $DATA, "File Record"; Carrier, File System Forensic Analysis, chapter 13.
-use Rattle.std.specs.Prelude.{◌≡◌, ◌⊎◌, ◌+◌, ◌*◌, ◌≤◌, ℕ, Bool, Contains, IsTrue, List, [], false, length}
+-- Layout: Linux-NTFS documentation, attributes $FILE_NAME, $DATA and $INDEX_ROOT, "File Record"; Carrier, File System Forensic Analysis,
+-- chapter 13.
+use Rattle.std.specs.Prelude.{◌≡◌, ◌⊎◌, ◌+◌, ◌*◌, ◌≤◌, ℕ, Bool, Contains, IsTrue, List, [], length}
 use Rattle.vol_disk.specs.declared.Disk.{Ghosts}
 use Rattle.vol_stage.specs.Staged.{GoesOn, disk_of, places}
 use Rattle.ntfs_def.specs.Attribute.{attributes}
 use Rattle.ntfs_def.specs.Record.{used_size}
-use Rattle.ntfs_def.specs.declared.kinds.TheConstants.{DATA, FILE_NAME}
+use Rattle.ntfs_def.specs.declared.kinds.TheConstants.{FILE_NAME}
 use Rattle.volume_def.specs.Coverage.{IsApart}
+use Rattle.volume_def.specs.Table.{cluster_bytes}
 use Rattle.volume_def.specs.View.{VolumeView}
 use Rattle.volume_edits.specs.Rewritten.{CountsLinks}
 use Rattle.record_bytes.specs.AttributeBytes.{resident_bytes}
@@ -18,6 +20,7 @@ use Rattle.file_record.specs.Attributes.{InsertsAttribute}
 use Rattle.file_record.specs.Extensions.{CreatesBase}
 use Rattle.file_record.specs.Held.{RecordHeld, file_number}
 use Rattle.file_record.specs.Written.{IsWholeFile}
+use Rattle.made_edits.specs.Comes.{body_bytes}
 use Rattle.made_edits.specs.HeldRecordBits.{IsOfRecordBits}
 use Rattle.made_edits.specs.StoredRecordBit.{StoresRecordBit}
 
@@ -38,26 +41,27 @@ pub record HasRoomFor (file : FileParts) (len : ℕ) : Type 0 where
   pub has : HasUsed file used
   pub fits : used + len ≤ 1024
 
--- THE RECORD IS FILLED behind its $STANDARD_INFORMATION: an empty stream comes, the name in front of that, and the count of that name.
-pub record FillsRecord (old new : VolumeView) (n : ℕ) (key : List ℕ) : Type 0 where
-  pub streamed : VolumeView
-  pub stream : InsertsAttribute old streamed n 1 (resident_bytes DATA [] 1 [])
+-- THE RECORD IS FILLED behind its $STANDARD_INFORMATION, on a volume with clusters of so many bytes: the body comes, an empty stream, or of
+-- a directory the root of its index, the name in front of that, and the count of that name.
+pub record FillsRecord (directory : Bool) (size : ℕ) (old new : VolumeView) (n : ℕ) (key : List ℕ) : Type 0 where
+  pub bodied : VolumeView
+  pub body : InsertsAttribute old bodied n 1 (body_bytes directory size)
   pub named : VolumeView
-  pub name : InsertsAttribute streamed named n 1 (resident_bytes FILE_NAME [] 2 key)
+  pub name : InsertsAttribute bodied named n 1 (resident_bytes FILE_NAME [] 2 key)
   pub stored : List ℕ
   pub counts : CountsLinks named new n stored 1
 
 -- THE RECORD COMES behind its flag: its base record, which is filled then.
-pub record MakesRecord (old new : VolumeView) (n : ℕ) (standard key : List ℕ) : Type 0 where
+pub record MakesRecord (directory : Bool) (size : ℕ) (old new : VolumeView) (n : ℕ) (standard key : List ℕ) : Type 0 where
   pub based : VolumeView
-  pub creates : CreatesBase old based n false standard
-  pub fills : FillsRecord based new n key
+  pub creates : CreatesBase old based n directory standard
+  pub fills : FillsRecord directory size based new n key
 
 -- THE FLAG IS STORED, and then the record comes.
-pub record ComesFlagged (old new : VolumeView) (n : ℕ) (standard key : List ℕ) : Type 0 where
+pub record ComesFlagged (directory : Bool) (old new : VolumeView) (n : ℕ) (standard key : List ℕ) : Type 0 where
   pub flagged : VolumeView
   pub stores : StoresRecordBit old flagged n
-  pub makes : MakesRecord flagged new n standard key
+  pub makes : MakesRecord directory (cluster_bytes old.layout) flagged new n standard key
 
 -- AN ATTRIBUTE CAME behind the first one of the record of a file that is held whole, and is so still.
 pub record ComesSecond (old new : VolumeView) (was now : FileParts) (attr : List ℕ) : Type 0 where

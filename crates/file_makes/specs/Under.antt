@@ -1,6 +1,6 @@
 -- THE NAME OF A NEW FILE in its directory, and the whole of it: a file made under one name.
 -- Layout: Linux-NTFS documentation, attribute $FILE_NAME, "Index Entry"; Carrier, File System Forensic Analysis, chapter 13.
-use Rattle.std.specs.Prelude.{◌≡◌, ◌⊎◌, ◌+◌, ◌*◌, ◌≤◌, ℕ, Contains, List, length, true}
+use Rattle.std.specs.Prelude.{◌≡◌, ◌⊎◌, ◌+◌, ◌*◌, ◌≤◌, ℕ, Bool, Contains, List, length, true}
 use Rattle.std.specs.List.{flat_map}
 use Rattle.vol_disk.specs.declared.Disk.{Ghosts}
 use Rattle.vol_stage.specs.Staged.{places}
@@ -26,14 +26,14 @@ pub record HasRecordRoom (view : VolumeView) (n : ℕ) : Type 0 where
 abbrev pub HasNameRoom : VolumeView → ℕ → List ℕ → Type 0
 HasNameRoom view dir units = has_name_room view dir units ≡ true
 
--- THE VOLUME BEFORE, and the value of a name that may come into this directory, with room for its entry. The records of the directory lie
--- in what was written of the table.
-pub record MayMake (view : VolumeView) (dir : ℕ) (key : List ℕ) : Type 0 where
+-- THE VOLUME BEFORE, and the value of a name, of a file or of a directory, that may come into this directory, with room for its entry. The
+-- records of that directory lie in what was written of the table.
+pub record MayMake (directory : Bool) (view : VolumeView) (dir : ℕ) (key : List ℕ) : Type 0 where
   pub node : Node
   pub units : List ℕ
   pub can : CanMake view dir node units
   pub moment : ℕ
-  pub new_key : IsNewKey view dir units moment key
+  pub new_key : IsNewKey view directory dir units moment key
   pub room : HasNameRoom view dir units
   pub written : IsInitialized view dir
 

@@ -27,6 +27,7 @@ use vol_disk::Disk;
 pub fn make_flagged<D: Disk>(
     alloc: Global,
     mft: &mut Mft<'_, D>,
+    directory: bool,
     standard: &[u8; 72],
     key: &[u8],
 ) -> Result<u64, FileNo>
@@ -40,7 +41,7 @@ pub fn make_flagged<D: Disk>(
     ensures bits { IfOk result (λ n. mounted_of D.Disk mft.new ≡ with_record_taken (mounted_of D.Disk mft.old) n) }
     ensures comes { IfOk result (λ n. IsTrue (view D.Disk mft.old).told → has_record_bit (view D.Disk mft.old) n ≡ true
         → 1024 * n + 1024 ≤ (view D.Disk mft.old).layout.initialized
-        → ComesFlagged (view D.Disk mft.old) (view D.Disk mft.new) n standard.now key.now) }
+        → ComesFlagged directory (view D.Disk mft.old) (view D.Disk mft.new) n standard.now key.now) }
     ensures places { IsTrue (view D.Disk mft.old).told → (n : ℕ) → IsLeastFree (mounted_of D.Disk mft.old).records n
         → StagesFile D.Disk (view D.Disk mft.old) n mft.old mft.new }
     ensures few { length (places D.Disk (stage_of D.Disk mft.new)) ≤ length (places D.Disk (stage_of D.Disk mft.old)) + 3 }
@@ -54,6 +55,6 @@ pub fn make_flagged<D: Disk>(
         None => unreachable!(),
     };
     store_record_bit(alloc, mft, n)?;
-    let made = make_record(alloc, mft, standard, key)?;
+    let made = make_record(alloc, mft, directory, standard, key)?;
     Ok(made)
 }

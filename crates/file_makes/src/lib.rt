@@ -1,6 +1,7 @@
-//! A file that comes under a name: what is written of it, step by step.
+//! A file, or a directory, that comes under a name: what is written of it, step by step.
 #![tactic(auto)]
 
+mod body;
 mod entry;
 mod flagged;
 mod index;

@@ -1,4 +1,4 @@
-//! A file made under one name.
+//! A file, or a directory, made under one name.
 ghost use Rattle.std.specs.Prelude.{◌≡◌, ◌<◌, ◌≤◌, ℕ, IfErr, IfOk, IsTrue, MatchResult, false, length};
 ghost use Rattle.mft_table.specs.Changes.{with_record_taken};
 ghost use Rattle.mft_table.specs.FreeRecords.{IsLeastFree, IsOrdinaryFree};
@@ -22,9 +22,10 @@ use mft_table::Mft;
 use std::alloc::Global;
 use vol_disk::Disk;
 
-/// Makes an empty file under a new name in a directory, at this moment (in units of 100 ns since 1601), with the security descriptor of
-/// this id, in the least free record, whose number is answered: its flag in the stored bitmap of records and in memory, its record, and the
-/// entry of its name. All of it is staged, and a discard leaves the volume as it was. The times of the directory are the caller's to set.
+/// Makes an empty file, or a directory, under a new name in a directory, at this moment (in units of 100 ns since 1601), with the security
+/// descriptor of this id, in the least free record, whose number is answered: its flag in the stored bitmap of records and in memory, its
+/// record, and the entry of its name. All of it is staged, and a discard leaves the volume as it was. The times of the directory in which
+/// it comes are the caller's to set.
 ///
 /// By condition, where the contents are told: the directory is shown, and no name of it is the same (`CanMake`); the flag of that record
 /// has a place in the stored bitmap, and its block was written (`HasRecordRoom`); the directory's index has room for the entry, in the
@@ -39,6 +40,7 @@ pub fn make_file<D: Disk>(
     mft: &mut Mft<'_, D>,
     dir: u64,
     name: &[u16],
+    directory: bool,
     moment: u64,
     security: u32,
 ) -> Result<u64, FileNo>
@@ -56,8 +58,8 @@ pub fn make_file<D: Disk>(
     requires written { IsTrue (view D.Disk mft.old).told → IsInitialized (view D.Disk mft.old) dir }
     ensures least { IfOk result (IsLeastFree (mounted_of D.Disk mft.old).records) }
     ensures bits { IfOk result (λ n. mounted_of D.Disk mft.new ≡ with_record_taken (mounted_of D.Disk mft.old) n) }
-    ensures made { IfOk result (λ n. IsTrue (view D.Disk mft.old).told → MakesFile (view D.Disk mft.old) (view D.Disk mft.new)
-        (mounted_of D.Disk mft.old) (mounted_of D.Disk mft.new) n dir name.now moment security) }
+    ensures made { IfOk result (λ n. IsTrue (view D.Disk mft.old).told → MakesFile directory (view D.Disk mft.old)
+        (view D.Disk mft.new) (mounted_of D.Disk mft.old) (mounted_of D.Disk mft.new) n dir name.now moment security) }
     ensures places { IsTrue (view D.Disk mft.old).told → (n : ℕ) → IsLeastFree (mounted_of D.Disk mft.old).records n
         → StagesMade D.Disk (view D.Disk mft.old) n dir mft.old mft.new }
     ensures device { KeepsDevice D.Disk mft.old mft.new }
@@ -71,8 +73,8 @@ pub fn make_file<D: Disk>(
     };
     let parent = reference_of(alloc, mft, dir)?;
     let file = next_reference(mft, n)?;
-    let key = new_key(alloc, parent, name, moment)?;
-    let standard = new_standard(moment, security);
-    let made = make_named(alloc, mft, dir, file, &standard, &key)?;
+    let key = new_key(alloc, parent, name, directory, moment)?;
+    let standard = new_standard(moment, security, directory);
+    let made = make_named(alloc, mft, dir, file, directory, &standard, &key)?;
     Ok(made)
 }

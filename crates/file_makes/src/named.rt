@@ -30,6 +30,7 @@ pub fn make_named<D: Disk>(
     mft: &mut Mft<'_, D>,
     dir: u64,
     file: u64,
+    directory: bool,
     standard: &[u8; 72],
     key: &[u8],
 ) -> Result<u64, FileNo>
@@ -40,14 +41,14 @@ pub fn make_named<D: Disk>(
     requires mirror { IsMirrorInside (mounted_of D.Disk mft.old) }
     requires sound { is_mft_broken D.Disk mft.old ≡ false }
     requires volume { IsInUse D.Disk mft.old }
-    requires may { IsTrue (view D.Disk mft.old).told → MayMake (view D.Disk mft.old) dir key.now }
+    requires may { IsTrue (view D.Disk mft.old).told → MayMake directory (view D.Disk mft.old) dir key.now }
     requires record_bit { IsTrue (view D.Disk mft.old).told → (n : ℕ) → IsLeastFree (mounted_of D.Disk mft.old).records n
         → HasRecordRoom (view D.Disk mft.old) n }
     ensures least { IfOk result (IsLeastFree (mounted_of D.Disk mft.old).records) }
     ensures bits { IfOk result (λ n. mounted_of D.Disk mft.new ≡ with_record_taken (mounted_of D.Disk mft.old) n) }
     ensures made { IfOk result (λ n. IsTrue (view D.Disk mft.old).told → reference_in file ≡ new_reference (view D.Disk mft.old) n
-        → ComesUnder (view D.Disk mft.old) (view D.Disk mft.new) (mounted_of D.Disk mft.old) (mounted_of D.Disk mft.new) n dir standard.now
-        key.now) }
+        → ComesUnder directory (view D.Disk mft.old) (view D.Disk mft.new) (mounted_of D.Disk mft.old) (mounted_of D.Disk mft.new) n dir
+        standard.now key.now) }
     ensures places { IsTrue (view D.Disk mft.old).told → (n : ℕ) → IsLeastFree (mounted_of D.Disk mft.old).records n
         → StagesMade D.Disk (view D.Disk mft.old) n dir mft.old mft.new }
     ensures device { KeepsDevice D.Disk mft.old mft.new }
@@ -55,7 +56,7 @@ pub fn make_named<D: Disk>(
     ensures faults { MatchResult result (λ _. faults_of D.Disk mft.new ≡ faults_of D.Disk mft.old)
         (CountsNo (faults_of D.Disk mft.old) (faults_of D.Disk mft.new)) }
 {
-    let made = make_flagged(alloc, mft, standard, key)?;
+    let made = make_flagged(alloc, mft, directory, standard, key)?;
     put_under(alloc, mft, dir, file, key)?;
     Ok(made)
 }

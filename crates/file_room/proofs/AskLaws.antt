@@ -37,8 +37,9 @@ module _ (view : VolumeView) (file : FileParts) (room : ListRoom) (len : room.le
   pub changed-bill : (clusters : ℕ) → no_room_alone view f clusters ≡ no_room_for view (bill_by f room clusters)
   changed-bill clusters = ap (λ (t : Touched). no_room_for view (one_file clusters t)) (sym touched-same)
 
-  pub making-bill : (depth : ℕ) → no_room_for view (made_bill view f depth) ≡ no_room_for view (made_by f room depth)
-  making-bill depth = ap (λ (t : Touched). no_room_for view (bill_making t depth)) (sym touched-same)
+  pub making-bill : (directory : Bool) (depth : ℕ)
+      → no_room_for view (made_bill view directory f depth) ≡ no_room_for view (made_by directory f room depth)
+  making-bill directory depth = ap (λ (t : Touched). no_room_for view (bill_making directory t depth)) (sym touched-same)
 
 -- THE REFUSALS of a bill, one behind the other.
 module _ (view : VolumeView) (bill : Bill) where

@@ -1,6 +1,7 @@
 -- THE ROOM THAT IS ASKED FOR, of a command that changes one file, or makes one under a name in a directory: what the parts of that file tell
 -- of its attribute list, the bill by that, and the refusals of this bill, one by one.
-use Rattle.std.specs.Prelude.{◌≡◌, ◌≤◌, ◌+◌, ◌*◌, ◌^◌, nat_lt, ℕ, Option, None, Some, Result, Ok, Err, List, [], ◌∷◌, if◌then◌else◌, sum_by, unwrap_or}
+use Rattle.std.specs.Prelude.{◌≡◌, ◌≤◌, ◌+◌, ◌*◌, ◌^◌, nat_lt, ℕ, Bool, Option, None, Some, Result, Ok, Err, List, [], ◌∷◌, codes}
+use Rattle.std.specs.Prelude.{if◌then◌else◌, length, sum_by, unwrap_or}
 use Rattle.std.specs.Option.{option_or}
 use Rattle.ntfs_def.specs.Rounded.{clusters_for}
 use Rattle.ntfs_def.specs.declared.lengths.TheConstants.{RECORD}
@@ -36,17 +37,21 @@ touched_by f room = record { file = Some f; list_len = room.len; name_units = ro
 abbrev pub bill_by : ℕ → ListRoom → ℕ → Bill
 bill_by f room clusters = one_file clusters (touched_by f room)
 
--- the same of a command that makes a file, whose directory this is, with an index so deep
-abbrev pub bill_making : Touched → ℕ → Bill
-bill_making touched depth = record {
+-- a new file, or a new directory, which has the index of its names
+abbrev pub new_touched : Bool → Touched
+new_touched directory = new_file (if directory then length (codes "$I30") else 0)
+
+-- the same of a command that makes a file, or a directory, whose directory this is, with an index so deep
+abbrev pub bill_making : Bool → Touched → ℕ → Bill
+bill_making directory touched depth = record {
   new_files = 1;
   clusters = 0;
-  touched = touched ∷ new_file 0 ∷ [];
+  touched = touched ∷ new_touched directory ∷ [];
   counted = record { file = unwrap_or touched.file 0; depth = depth; entries = 1 } ∷ [];
 }
 
-abbrev pub made_by : ℕ → ListRoom → ℕ → Bill
-made_by f room depth = bill_making (touched_by f room) depth
+abbrev pub made_by : Bool → ℕ → ListRoom → ℕ → Bill
+made_by directory f room depth = bill_making directory (touched_by f room) depth
 
 -- WHAT THE SUMS GO BY: how many records and parts a bill has, and clusters beside those of lists and of the table.
 pub record IsWanted (size : ℕ) (bill : Bill) (wanted : Wanted) : Type 0 where

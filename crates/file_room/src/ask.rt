@@ -10,7 +10,7 @@ ghost use Rattle.mft_table.specs.InUse.{IsInUse};
 ghost use Rattle.mft_table.specs.Mft.{MftReads, view};
 ghost use Rattle.tree_read.specs.Held.{AreParts, file_number};
 ghost use Rattle.tree_read.specs.Answered.{Gives, Says};
-ghost use Rattle.file_room.specs.Asked.{HasFew, IsFreeOn, IsWanted, has_room, lacks_free, lacks_records, lists_of};
+ghost use Rattle.file_room.specs.Asked.{HasFew, IsFreeOn, IsListed, IsWanted, has_room, lacks_free, lacks_records, lists_of, new_touched};
 ghost use Rattle.file_room.specs.Made.{made_bill};
 
 use crate::free::{FreeRoom, free_for_runs, free_room};
@@ -27,11 +27,20 @@ const LONGEST_LIST: u64 = 40_960;
 // The depth of an index into which no entry comes any more.
 const TOO_DEEP: u64 = 10;
 
-// What a list would take that names the three attributes of a new file, none of which has a name.
-const NEW_FILE: ListRoom = ListRoom {
-    len: 96,
-    name_units: 0,
-};
+// The units of the name of a directory's index, `$I30`.
+const INDEX_UNITS: u64 = 4;
+
+// What is reckoned for the list of a new file: 96 bytes, of a directory too, and the units of the longest name, that of a directory's index.
+fn new_list(directory: bool) -> ListRoom
+    ensures listed { IsListed result (new_touched directory) }
+    ensures few { result.name_units ≤ 512 }
+    ensures short { result.len ≤ 2 ^ 43 }
+{
+    ListRoom {
+        len: 96,
+        name_units: if directory { INDEX_UNITS } else { 0 },
+    }
+}
 
 // Whether so many records are free, or else record 0 has room for the runs of the table's growth, 9 bytes each.
 fn ask_for_records<D: Disk>(
@@ -122,17 +131,22 @@ pub fn ask_for_room<D: Disk>(
     ask_for_free(mft, wanted, size, lists)
 }
 
-/// Asks for the room of a command that makes a file under a name in a directory, which is held, and whose index is so deep: the refusal
-/// for room that is due is that of its bill. Record 0 is read where too few records are free, and nothing else.
+/// Asks for the room of a command that makes a file, or a directory, under a name in a directory, which is held, and whose index is so
+/// deep: the refusal for room that is due is that of its bill. Record 0 is read where too few records are free, and nothing else.
 ///
 /// # Errors
 ///
 /// `TooManyParts`, `TooDeep`, `MftFull` and `NoRoom`; `Memory`, and `Device` where the disk failed.
-pub fn ask_to_make<D: Disk>(mft: &mut Mft<'_, D>, dir: &FileParts, depth: u64) -> Result<(), Stop>
+pub fn ask_to_make<D: Disk>(
+    mft: &mut Mft<'_, D>,
+    dir: &FileParts,
+    depth: u64,
+    directory: bool,
+) -> Result<(), Stop>
     requires volume { IsInUse D.Disk mft.old }
     requires few { depth ≤ 16 }
     ensures asked { Gives D.Disk mft.old mft.new (λ volume given. AreParts volume dir.now
-        → Says (has_room (no_room_for volume (made_bill volume (file_number dir.now) depth))) given) result }
+        → Says (has_room (no_room_for volume (made_bill volume directory (file_number dir.now) depth))) given) result }
     ensures reads { MftReads D.Disk mft.old mft.new 2 }
 {
     let room = list_room(dir);
@@ -149,6 +163,6 @@ pub fn ask_to_make<D: Disk>(mft: &mut Mft<'_, D>, dir: &FileParts, depth: u64) -
         return Err(Stop::No(No::TooDeep));
     }
     let own = list_clusters(size, room, wanted.parts);
-    let new = list_clusters(size, NEW_FILE, wanted.parts);
+    let new = list_clusters(size, new_list(directory), wanted.parts);
     ask_for_free(mft, wanted, size, own + new)
 }

@@ -1,5 +1,5 @@
 //! What a command needs, by the numbers of its bill.
-ghost use Rattle.std.specs.Prelude.{◌≡◌, ◌≤◌, ◌<◌, ◌+◌, ◌*◌, ◌^◌, ℕ};
+ghost use Rattle.std.specs.Prelude.{◌≡◌, ◌≤◌, ◌<◌, ◌+◌, ◌*◌, ◌^◌, ℕ, Bool};
 ghost use Rattle.ntfs_def.specs.Rounded.{clusters_for};
 ghost use Rattle.tree_model.specs.Need.{Bill, Touched, list_clusters, list_growth, need_of, parts_wanted, records_wanted, table_growth};
 ghost use Rattle.file_room.specs.Asked.{HasFew, IsListed, IsWanted, bill_by, lists_of, made_by};
@@ -41,12 +41,12 @@ impl Wanted {
         }
     }
 
-    /// Of one that makes a file under a name in a directory whose index is so deep, where a cluster has so many bytes. It touches two
-    /// files.
+    /// Of one that makes a file, or a directory, under a name in a directory whose index is so deep, where a cluster has so many bytes. It
+    /// touches two files.
     pub fn of_name(size: u64, depth: u64) -> Wanted
         requires some { 0 < size }
         requires few { depth ≤ 16 }
-        ensures is { (f : ℕ) (room : ListRoom) → IsWanted size (made_by f room depth) result }
+        ensures is { (directory : Bool) (f : ℕ) (room : ListRoom) → IsWanted size (made_by directory f room depth) result }
         ensures few { HasFew result }
     {
         let levels = depth + LEVELS;

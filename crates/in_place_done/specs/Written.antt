@@ -38,10 +38,12 @@ use Rattle.edit_written.specs.Below.{PunchesValue, PutsStream, ResizesStream, Wr
 use Rattle.edit_written.specs.Below as edits
 use Rattle.in_place_owed.specs.SetsInPlace.{edits_in_place}
 
--- a command sets no flags but those that are shown, and a security id of four bytes; each name of the path to a new file has a unit
+-- a command sets no flags but those that are shown, and a security id of four bytes; each name of the path to a new file, or a
+-- new directory, has a unit
 abbrev pub SetsShown : Command → Type 0
 SetsShown (c.Setattr path flags) = bit_and flags SHOWN_FLAGS ≡ flags
 SetsShown (c.Create path) = All (λ (name : List ℕ). 1 ≤ length name) path
+SetsShown (c.Mkdir path) = All (λ (name : List ℕ). 1 ≤ length name) path
 SetsShown (c.Setsec path id) = id < 2 ^ 32
 SetsShown other = Unit {0}
 

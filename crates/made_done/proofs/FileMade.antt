@@ -1,5 +1,5 @@
 -- THE FILE THAT CAME, and the directory that was set then, staged: what the volume is between and behind.
-use Rattle.std.proofs.Common.{◌≡◌, ◌≢◌, ◌≤◌, ◌*◌, ◌&&◌, ◌||◌, ℕ, true, false, List, [], ◌∷◌, Some, None, codes, filter}
+use Rattle.std.proofs.Common.{◌≡◌, ◌≢◌, ◌≤◌, ◌*◌, ◌&&◌, ◌||◌, ℕ, Bool, true, List, [], ◌∷◌, Some, None, codes, filter}
 use Rattle.std.proofs.Common.{refl, sym, ap, subst, ◌∙◌, arith}
 use Rattle.std.proofs.lemmas.Bool.{or_right}
 use Rattle.std.specs.FinMap as finmap
@@ -53,9 +53,10 @@ abbrev held : List Part → ℕ
 held all = sum_by part_size (filter (is_of DATA []) all)
 
 -- `old` is the volume before, `mid` with the file, and `new` with the directory's times too.
-module _ (before : State) (stands : Stands before) (dir : ℕ) (units : List ℕ) (node : Node) (can : CanMake before.view dir node units)
+module _ (directory : Bool) (before : State) (stands : Stands before) (dir : ℕ) (units : List ℕ) (node : Node)
+    (can : CanMake before.view dir node units)
     (high_names : (name : FileName) → Contains (names_of (records_of before.view) dir) name → 4 ≤ name.parent.number) (made : ℕ)
-    (new : VolumeView) (s : MakesUnder before.view new before.machine.tree before.machine.now dir units node made) where
+    (new : VolumeView) (s : MakesUnder directory before.view new before.machine.tree before.machine.now dir units node made) where
   abbrev old : VolumeView
   old = before.view
 
@@ -82,14 +83,14 @@ module _ (before : State) (stands : Stands before) (dir : ℕ) (units : List ℕ
   times = (touched now node).times
 
   -- THE FILE, as it came
-  pub is_made : IsMade old mid s.was s.now made dir node units now (security_of tree dir)
+  pub is_made : IsMade directory old mid s.was s.now made dir node units now (security_of tree dir)
   is_made =
-      laws.made old mid s.was s.now dir made node units s.makes.standard s.makes.key now (security_of tree dir) can s.right s.makes.new_key
-      s.makes.new_standard s.makes.plain.long s.makes.comes s.stored
+      laws.made old mid s.was s.now dir made node units s.makes.standard s.makes.key now (security_of tree dir) directory can s.right
+      s.makes.new_key s.makes.new_standard s.makes.plain.long s.makes.comes s.stored
 
   pub left : LeavesRest old mid made dir
   left =
-      leaves-rest old mid s.was s.now dir made node units s.makes.standard s.makes.key now (security_of tree dir) can s.right
+      leaves-rest old mid s.was s.now dir made node units s.makes.standard s.makes.key now (security_of tree dir) directory can s.right
       s.makes.new_key s.makes.new_standard s.makes.plain.long s.makes.comes
 
   pub ordinary : 24 ≤ made
@@ -97,7 +98,7 @@ module _ (before : State) (stands : Stands before) (dir : ℕ) (units : List ℕ
 
   other : dir ≢ made
   other =
-      (stand.has-new-file old s.makes.comes.counted s.was s.now dir made node units s.makes.standard s.makes.key now can s.right
+      (stand.has-new-file old s.makes.comes.counted s.was s.now dir made node units s.makes.standard s.makes.key now directory can s.right
       s.makes.new_key s.makes.plain.long s.makes.comes.comes).other
 
   shown : bit_and node.flags SHOWN_FLAGS ≡ node.flags
@@ -133,7 +134,7 @@ module _ (before : State) (stands : Stands before) (dir : ℕ) (units : List ℕ
 
   -- THE TREE BETWEEN
   abbrev fresh : Node
-  fresh = new_node false now (security_of tree dir)
+  fresh = new_node directory now (security_of tree dir)
 
   abbrev linked : Tree
   linked = add_link (link_to made dir units) (with_node made fresh tree)
@@ -171,7 +172,7 @@ module _ (before : State) (stands : Stands before) (dir : ℕ) (units : List ℕ
   there : node_of linked dir ≡ Some node
   there = sym (ap (λ (t : Tree). node_of t dir) reads-between) ∙ node_of-read mid dir ∙ is_made.can.there
 
-  pub reads : read new ≡ make false now made (NameIn dir units) tree
+  pub reads : read new ≡ make directory now made (NameIn dir units) tree
   reads =
       reads-new
       ∙ ap (λ nodes. record (read mid) { nodes = finmap.insert nodes dir last }) (sym (nodes-read mid))

@@ -1,5 +1,5 @@
--- WHAT `create` LEAVES, staged and written.
-use Rattle.std.proofs.Common.{◌≡◌, ◌≤◌, ◌+◌, ℕ, Bool, List, Some, false, length, refl, sym, ap, subst, ◌∙◌}
+-- WHAT `create` AND `mkdir` LEAVE, staged and written.
+use Rattle.std.proofs.Common.{◌≡◌, ◌≤◌, ◌+◌, ℕ, Bool, List, Some, length, refl, sym, ap, subst, ◌∙◌}
 use Rattle.vol_disk.specs.Contents.{sector_in}
 use Rattle.volume_def.specs.Sound.{IsSound, told_view}
 use Rattle.volume_def.specs.View.{VolumeView}
@@ -9,7 +9,6 @@ use Rattle.tree_model.specs.Refusals.{Facts}
 use Rattle.tree_model.specs.Step.{IsFresh}
 use Rattle.tree_model.specs.Subjects.{Machine}
 use Rattle.tree_model.specs.Tree.{Tree}
-use Rattle.tree_model.specs.declared.command.Command.TheVariants as c
 use Rattle.tree_model.specs.declared.tree.Node.{Node}
 use Rattle.tree_model.proofs.StepLaws.{one_volume}
 use Rattle.session_def.specs.Done.{EditDone, HasEmptyLog}
@@ -22,7 +21,7 @@ use Rattle.volume_mark.specs.SameVolume.{IsSameVolume}
 use Rattle.volume_mark.proofs.MarkLaws.{mark-law}
 use Rattle.in_place_done.specs.Behind.{MarksBehind}
 use Rattle.made_owed.specs.Wants.{making_wants}
-use Rattle.made_owed.specs.MadeOwed.{at_name}
+use Rattle.made_owed.specs.MadeOwed.{at_name, made_command}
 use Rattle.in_place_done.specs.Finished.{IsFinished, IsPlaceOf}
 use Rattle.in_place_done.proofs.StagedVolume.{staged_view}
 use Rattle.in_place_done.proofs.WrittenBytes.{IsWritten, is-written}
@@ -31,19 +30,19 @@ use Rattle.made_done.proofs.FileMade as file
 use Rattle.made_done.proofs.MadeWritten.{CanBeLeft, can-be-left}
 
 -- THE NUMBER of the file is one that the machine may choose.
-fresh : (facts : Facts) (before : State) (session : ℕ) (path : List (List ℕ)) (dir : ℕ) (units : List ℕ) (node : Node) (made : ℕ)
-    (staged : List ℕ) → FindsPlace facts before session path dir units node → StagesUnder before dir units node made staged
-    → IsFresh facts before.machine.tree made
-fresh facts before session path dir units node made staged finds s =
-    let is = file.is_made before finds.stands dir units node finds.can finds.high made (staged_view before staged) s.makes in
+fresh : (directory : Bool) (facts : Facts) (before : State) (session : ℕ) (path : List (List ℕ)) (dir : ℕ) (units : List ℕ) (node : Node)
+    (made : ℕ) (staged : List ℕ) → FindsPlace directory facts before session path dir units node
+    → StagesUnder directory before dir units node made staged → IsFresh facts before.machine.tree made
+fresh directory facts before session path dir units node made staged finds s =
+    let is = file.is_made directory before finds.stands dir units node finds.can finds.high made (staged_view before staged) s.makes in
     subst (λ (tree : Tree). IsFresh facts tree made) finds.stands.reading
-    (fresh-number facts (making_wants made) before.view is.calls.mid (marks_of s.makes.was) (marks_of s.makes.now) made false
-    (new_node false before.machine.now (security_of before.machine.tree dir)) finds.told is.calls.makes)
+    (fresh-number facts (making_wants directory made) before.view is.calls.mid (marks_of s.makes.was) (marks_of s.makes.now) made directory
+    (new_node directory before.machine.now (security_of before.machine.tree dir)) finds.told is.calls.makes)
 
-module _ (facts : Facts) (before : State) (session : ℕ) (path : List (List ℕ)) (dir : ℕ) (units : List ℕ) (node : Node) (made : ℕ)
-    (finds : FindsPlace facts before session path dir units node) (free : IsFresh facts before.machine.tree made) (flag : Flag)
-    (staged written : List ℕ) (long : length staged ≡ length before.image)
-    (s : CanBeLeft before path dir units made (staged_view before staged)) (w : IsWritten before flag staged written) where
+module _ (directory : Bool) (facts : Facts) (before : State) (session : ℕ) (path : List (List ℕ)) (dir : ℕ) (units : List ℕ) (node : Node)
+    (made : ℕ) (finds : FindsPlace directory facts before session path dir units node) (free : IsFresh facts before.machine.tree made)
+    (flag : Flag) (staged written : List ℕ) (long : length staged ≡ length before.image)
+    (s : CanBeLeft directory before path dir units made (staged_view before staged)) (w : IsWritten before flag staged written) where
   abbrev new : VolumeView
   new = staged_view before staged
 
@@ -71,8 +70,8 @@ module _ (facts : Facts) (before : State) (session : ℕ) (path : List (List ℕ
     as-long = ap length image ∙ w.agrees.long ∙ long
 
   done : (next : State) → next.image ≡ written → IsVolumeOf written next.view
-      → next.machine ≡ machine_made before session path dir units made → next.written ≤ before.written + most_made before dir
-      → EditDone facts before session (c.Create path) next × HasEmptyLog next.view
+      → next.machine ≡ machine_made directory before session path dir units made → next.written ≤ before.written + most_made before dir
+      → EditDone facts before session (made_command directory path) next × HasEmptyLog next.view
   done next image volume moved wrote =
       let leaves = s.leaves next (first next image volume) (settled next image volume) (as-long next image volume)
       (ap (λ (m : Machine). m.tree) moved) wrote in (
@@ -88,7 +87,7 @@ module _ (facts : Facts) (before : State) (session : ℕ) (path : List (List ℕ
       )
 
   -- ALL OF IT
-  leaves-written : LeavesMade facts before session path dir units made flag staged written
+  leaves-written : LeavesMade directory facts before session path dir units made flag staged written
   leaves-written = record {
     new = new;
     is = refl;
@@ -102,12 +101,13 @@ module _ (facts : Facts) (before : State) (session : ℕ) (path : List (List ℕ
   }
 
 -- where it was written behind the mark
-pub leaves : (facts : Facts) (before : State) (session : ℕ) (path : List (List ℕ)) (dir : ℕ) (units : List ℕ) (node : Node) (made : ℕ)
-    (flag : Flag) (marked : Bool) (spans : List Span) (staged written : List ℕ) → FindsPlace facts before session path dir units node
-    → StagesUnder before dir units node made staged → IsPlaceOf before.view before.image flag marked spans
-    → IsFinished flag marked spans staged written → LeavesMade facts before session path dir units made flag staged written
-leaves facts before session path dir units node made flag marked spans staged written finds s place finished =
-    let is = can-be-left before finds.stands dir units node finds.can finds.high made (staged_view before staged) s.makes path in
-    leaves-written facts before session path dir units node made finds
-    (fresh facts before session path dir units node made staged finds s) flag staged written s.long is
+pub leaves : (directory : Bool) (facts : Facts) (before : State) (session : ℕ) (path : List (List ℕ)) (dir : ℕ) (units : List ℕ)
+    (node : Node) (made : ℕ) (flag : Flag) (marked : Bool) (spans : List Span) (staged written : List ℕ)
+    → FindsPlace directory facts before session path dir units node → StagesUnder directory before dir units node made staged
+    → IsPlaceOf before.view before.image flag marked spans → IsFinished flag marked spans staged written
+    → LeavesMade directory facts before session path dir units made flag staged written
+leaves directory facts before session path dir units node made flag marked spans staged written finds s place finished =
+    let is = can-be-left directory before finds.stands dir units node finds.can finds.high made (staged_view before staged) s.makes path in
+    leaves-written directory facts before session path dir units node made finds
+    (fresh directory facts before session path dir units node made staged finds s) flag staged written s.long is
     (is-written before staged finds.stands is.sound is.alone s.long flag marked spans written place finished)

@@ -9,25 +9,24 @@ use Rattle.std.specs.Str.{bytes_eq}
 use Rattle.std.proofs.lemmas.Bool.{and_left, and_parts, and_right, cases_Bool, cases_eq, eqb-true, ne_eqb, or_from}
 use Rattle.std.proofs.lemmas.Slice.Eq.{bytes_eq-Decides}
 use Rattle.list_laws.proofs.FilterLaws.{filter-all}
-use Rattle.list_laws.proofs.MemberLaws.{Contains-cases, Contains-from_filter, Contains-only}
+use Rattle.list_laws.proofs.MemberLaws.{Contains-from_filter}
 use Rattle.list_laws.proofs.OptionLaws.{none_other, some_same}
 use Rattle.list_laws.proofs.SameItemsLaws.{SameItems-same}
 use Rattle.ntfs_def.specs.FileName.{FileName}
 use Rattle.ntfs_def.specs.Node.{Item, short_node}
 use Rattle.ntfs_def.specs.Units.{wide}
 use Rattle.ntfs_def.specs.declared.index.NodeForm.TheVariants.{View}
-use Rattle.ntfs_def.specs.declared.kinds.TheConstants.{BITMAP, FILE_NAME, INDEX_ALLOCATION, INDEX_ROOT}
+use Rattle.ntfs_def.specs.declared.kinds.TheConstants.{BITMAP, INDEX_ALLOCATION, INDEX_ROOT}
 use Rattle.ntfs_def.specs.declared.lengths.TheConstants.{INDEX_RECORD}
 use Rattle.ntfs_def.specs.declared.records.TheConstants.{EXTEND, FIRST_ORDINARY, MFT}
 use Rattle.volume_def.specs.FileNames.{names_of}
-use Rattle.volume_def.specs.Files.{Part, Value, content_value, is_of, part_runs, parts, parts_at, records_of}
+use Rattle.volume_def.specs.Files.{Part, content_value, is_of, part_runs, parts, parts_at, records_of}
 use Rattle.volume_def.specs.IndexesClause.{HasIndex, index_parts, is_in_extend, word_rule}
 use Rattle.volume_def.specs.Readable.{IsReadableVolume}
 use Rattle.volume_def.specs.StreamSize.{told_size}
 use Rattle.volume_def.specs.Table.{TableLayout, cluster_bytes}
 use Rattle.volume_def.specs.Values.{first_part, spot_at}
 use Rattle.volume_def.specs.View.{VolumeView}
-use Rattle.record_bytes.specs.AttributeBytes.{part}
 use Rattle.tree_model.specs.Bill.{Change}
 use Rattle.tree_model.specs.IndexRoom.{Index, directory_index, extend_file, extend_index, if_there, index_depth, root_of}
 use Rattle.tree_model.specs.StreamRoom.{is_cluster}
@@ -37,17 +36,17 @@ use Rattle.edit_def.specs.Names.{HasRightBases}
 use Rattle.edit_def.specs.Places.{flags_of}
 use Rattle.edit_def.proofs.IndexLaws.{index-same}
 use Rattle.root_puts.specs.Keys.{is_index_key_of}
-use Rattle.root_puts.specs.NewFiles.{data_part, standard_part}
 use Rattle.in_place.specs.Indexes.{KeepsFlagsOf, KeepsIndexIfThere, bits_set, index_bits, index_records}
 use Rattle.in_place.specs.Kept.{KeepsKeys, is_any, with_data}
 use Rattle.in_place.specs.Named.{is_index_kind}
 use Rattle.root_puts.specs.PutsInRoot.{KeepsRootHead}
 use Rattle.made_edits.specs.Between.{new_parts}
-use Rattle.made_edits.specs.Left.{LeavesRest, is_entry_key, is_row_key}
+use Rattle.made_edits.specs.Left.{KeepsOwnIndex, LeavesRest, is_entry_key, is_row_key}
 use Rattle.made_edits.specs.Made.{is_made_key}
 use Rattle.made_edits.proofs.AloneLaws.{names-of-parts}
+use Rattle.made_edits.proofs.BodyParts.{new-cases, no-root-new}
 use Rattle.made_edits.proofs.LeftMade.{depth-kept}
-use Rattle.made_edits.proofs.OwnIndex.{KeepsOwnIndex, head-same, no-cluster}
+use Rattle.made_edits.proofs.OwnIndex.{head-same, no-cluster}
 
 -- the flags of a part are its own
 own-flags : (o : Option Part) → IfSome o (λ part. part.flags ≡ flags_of o)
@@ -57,18 +56,14 @@ own-flags (Some part) = refl
 no-root : {A : Type 0} {a : A} → [] ≡ a ∷ [] → ⊥
 no-root e = cc
 
-module _ (old new : VolumeView) (n dir : ℕ) (standard key : List ℕ) (rest : LeavesRest old new n dir) (index : KeepsOwnIndex old new dir)
-    (own : parts (records_of new) n ≡ new_parts n standard key) (none : parts (records_of old) n ≡ []) where
+module _ (old new : VolumeView) (n dir size : ℕ) (standard key : List ℕ) (directory : Bool) (rest : LeavesRest old new n dir)
+    (own : parts (records_of new) n ≡ new_parts directory size n standard key) (none : parts (records_of old) n ≡ []) where
+  index : KeepsOwnIndex old new dir
+  index = rest.index
+
   -- THE NEW FILE has no run.
-  no-runs : (p : Part) → Contains (new_parts n standard key) p → part_runs p ≡ []
-  no-runs p among =
-      elim (Contains-cases (standard_part n 0 standard) (part n FILE_NAME [] 2 (Value key) ∷ data_part n 1 ∷ []) p among) [
-        | inl is ↦ ap part_runs (sym is)
-        | inr later ↦ elim (Contains-cases (part n FILE_NAME [] 2 (Value key)) (data_part n 1 ∷ []) p later) [
-          | inl is ↦ ap part_runs (sym is)
-          | inr last ↦ ap part_runs (sym (Contains-only (data_part n 1) p last))
-        ]
-      ]
+  no-runs : (p : Part) → Contains (new_parts directory size n standard key) p → part_runs p ≡ []
+  no-runs = new-cases (λ (p : Part). part_runs p ≡ []) directory size n standard key refl refl refl
 
   none-own : (kind : ℕ) (name : List ℕ) (vcn : ℕ) → is_cluster (spot_at (parts_at new n kind name) vcn) ≡ true → ⊥
   none-own kind name = no-cluster (parts_at new n kind name) (λ p c.
@@ -198,6 +193,7 @@ module _ (old new : VolumeView) (n dir : ℕ) (standard key : List ℕ) (rest : 
       | inr ne ↦ rest.leaves.same f INDEX_ROOT (wide name) ne
           (and_left (bytes_eq (wide name) (wide (codes "$I30"))) (f == dir) apart)
       | inl is ↦ ap (λ f. parts_at new f INDEX_ROOT (wide name)) is ∙ ap (filter (is_of INDEX_ROOT (wide name))) own
+          ∙ no-root-new directory size n standard key (wide name) apart
           ∙ sym (ap (λ f. parts_at old f INDEX_ROOT (wide name)) is ∙ ap (filter (is_of INDEX_ROOT (wide name))) none)
     ]
 

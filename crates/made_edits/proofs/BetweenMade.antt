@@ -1,5 +1,5 @@
--- WHAT STANDS between the calls of `create`.
-use Rattle.std.proofs.Common.{◌≡◌, ◌≢◌, ◌≤◌, ◌==◌, ◌||◌, ℕ, false, List, [], length, Some}
+-- WHAT STANDS between the calls of `create` and `mkdir`.
+use Rattle.std.proofs.Common.{◌≡◌, ◌≢◌, ◌≤◌, ◌==◌, ◌||◌, ℕ, Bool, false, List, [], length, Some}
 use Rattle.std.proofs.Common.{refl, sym, ap, subst, inr, ◌∙◌, arith}
 use Rattle.std.proofs.lemmas.Bool.{ne_eqb, or_from}
 use Rattle.list_laws.proofs.OptionLaws.{none_other}
@@ -34,7 +34,7 @@ use Rattle.root_puts.proofs.CallKeys.{within-nothing}
 use Rattle.made_edits.specs.Between.{HasNewFile, IsFlagged}
 use Rattle.made_edits.specs.Comes.{CanMake, ComesNamed, IsNewKey}
 use Rattle.made_edits.specs.Left.{Leaves, is_row_key}
-use Rattle.made_edits.specs.Wants.{made_wants, making_wants, naming_wants}
+use Rattle.made_edits.specs.Wants.{body_units, made_wants, making_wants, naming_wants}
 use Rattle.made_edits.proofs.KeyLaws.{no-name, other-index}
 use Rattle.made_edits.proofs.LeftLaws.{value-kept}
 use Rattle.made_edits.proofs.HeldParts.{parts-held}
@@ -61,8 +61,9 @@ flagged old new was dir n node units can right free stores =
 
 -- THE FILE HAS COME.
 module _ (old new : VolumeView) (was now : Mounted) (dir n : ℕ) (node : Node) (units standard key : List ℕ) (moment : ℕ)
-    (can : CanMake old dir node units) (right : AreRight old (marks_of was)) (is_key : IsNewKey old dir units moment key)
-    (long : length standard ≡ 72) (c : ComesNamed old new was now n standard key) where
+    (directory : Bool) (can : CanMake old dir node units) (right : AreRight old (marks_of was))
+    (is_key : IsNewKey old directory dir units moment key)
+    (long : length standard ≡ 72) (c : ComesNamed directory old new was now n standard key) where
   abbrev before : Marks
   before = marks_of was
 
@@ -76,7 +77,7 @@ module _ (old new : VolumeView) (was now : Mounted) (dir n : ℕ) (node : Node) 
   short = omega (arith, is_key.long, can.few)
 
   pub ready-counted : IsReady new after
-  ready-counted = named.ready-counted old new was now n standard key c can.told ready long short is_key.whole
+  ready-counted = named.ready-counted old new was now n standard key directory c can.told ready long short is_key.whole
 
   pub ordinary : FIRST_ORDINARY ≤ n
   ordinary = c.free.0
@@ -88,22 +89,24 @@ module _ (old new : VolumeView) (was now : Mounted) (dir n : ℕ) (node : Node) 
       none_other (sym none ∙ subst (λ g. node_at old g ≡ Some node) is can.parent.there)
 
   -- ALL CALLS as one
-  pub edited : Edited (is_key_of n) (made_wants n) old new before after
+  pub edited : Edited (is_key_of n) (made_wants directory n) old new before after
   edited =
-      let sets = named.sets-links old new was now n standard key c can.told ready long short is_key.whole in
-      Edited-more (either (is_key_of n) (either (is_name_key_of n) no_key)) (is_key_of n) (made_wants n) (made_wants n) old new before after
+      let sets = named.sets-links old new was now n standard key directory c can.told ready long short is_key.whole in
+      Edited-more (either (is_key_of n) (either (is_name_key_of n) no_key)) (is_key_of n) (made_wants directory n)
+      (made_wants directory n) old new before after
       (λ other e. or_from (is_key_of n other) (is_name_key_of n other || false) e
       (or_from (is_name_key_of n other) false (no-name n other e) refl))
-      (within-same (made_wants n))
-      (Edited-then (is_key_of n) (either (is_name_key_of n) no_key) (making_wants n) (naming_wants n) (made_wants n)
-      old c.streamed new before after after (parts-within n 2 1 3 1 0 1 (omega arith) (omega arith))
-      (named.edited-making old new was now n standard key c can.told ready long short is_key.whole)
-      (Edited-then (is_name_key_of n) no_key (naming_wants n) nothing (naming_wants n) c.streamed c.named new after after after
+      (within-same (made_wants directory n))
+      (Edited-then (is_key_of n) (either (is_name_key_of n) no_key) (making_wants directory n) (naming_wants n) (made_wants directory n)
+      old c.bodied new before after after
+      (parts-within n 2 1 3 (body_units directory) 0 (body_units directory) 1 0 1 (omega arith) (omega arith) (omega arith))
+      (named.edited-making old new was now n standard key directory c can.told ready long short is_key.whole)
+      (Edited-then (is_name_key_of n) no_key (naming_wants n) nothing (naming_wants n) c.bodied c.named new after after after
       (within-nothing (naming_wants n))
-      (named.edited-naming old new was now n standard key c can.told ready long short is_key.whole) sets.edited))
+      (named.edited-naming old new was now n standard key directory c can.told ready long short is_key.whole) sets.edited))
 
   pub leaves : Leaves is_row_key n old new
-  leaves = named.left-alone old new was now n standard key c can.told ready long short is_key.whole
+  leaves = named.left-alone old new was now n standard key directory c can.told ready long short is_key.whole
 
   pub no-case : UPCASE ≢ n
   no-case is = absurd (omega (arith, is, ordinary))
@@ -118,14 +121,14 @@ module _ (old new : VolumeView) (was now : Mounted) (dir n : ℕ) (node : Node) 
       (or_from (is_room_key (key_of UPCASE DATA [])) (UPCASE == n) refl (ne_eqb UPCASE n no-case)) g
       (other-index n g INDEX_ROOT ne refl) (other-index n g INDEX_ALLOCATION ne refl) (other-index n g BITMAP ne refl)
 
-  pub has-new-file : HasNewFile old new after n dir standard key
+  pub has-new-file : HasNewFile directory old new after n dir standard key
   has-new-file = record {
     ready = ready-counted;
     apart = apart-ready new after ready-counted;
     leaves = leaves;
-    own = parts-held new n _ (named.holds-counted-file old new was now n standard key c can.told ready long short is_key.whole);
+    own = parts-held new n _ (named.holds-counted-file old new was now n standard key directory c can.told ready long short is_key.whole);
     other = other;
-    directory = leaves.others dir other;
+    parent = leaves.others dir other;
     items = items;
     case_table = case_table;
     fold = ap fold_of case_table;

@@ -25,7 +25,7 @@ use Rattle.root_puts.specs.Calls.{ChangesIndex}
 use Rattle.root_puts.specs.Keys.{is_index_key_of}
 use Rattle.root_puts.specs.Edit.{IsAbsent}
 use Rattle.root_puts.specs.PutsInRoot.{KeepsHolder}
-use Rattle.made_edits.proofs.OwnIndex.{KeepsOwnIndex}
+use Rattle.made_edits.specs.Left.{KeepsOwnIndex}
 
 -- The volume stands as between two calls. Of the records of the table that of the directory alone was written, which has no copy; of the
 -- clusters those of the table, of its mirror and of the index of the directory. All other attributes have the parts that they had, in their

@@ -1,10 +1,12 @@
 -- THE PARTS OF THE NEW FILE after each call on its record: what the calls ask for, and leave.
-use Rattle.std.proofs.Common.{◌≡◌, ◌≢◌, ◌≤◌, ◌+◌, ◌%◌, ℕ, List, [], ◌∷◌, length, map, filter, refl, sym, ap, subst, inr, ◌∙◌, arith}
-use Rattle.std.specs.Prelude.{IfSome, IsSome, IsTrue, count_by, false, slice_get}
+use Rattle.std.proofs.Common.{◌≡◌, ◌≢◌, ◌<◌, ◌≤◌, ◌+◌, ◌%◌, ℕ, Bool, List, [], ◌∷◌, length, map, filter, refl, sym, ap, subst, inr, ◌∙◌}
+use Rattle.std.proofs.Common.{arith}
+use Rattle.std.specs.Prelude.{IfSome, IsSome, IsTrue, count_by, slice_get}
 use Rattle.std.specs.List.{insert}
 use Rattle.ntfs_def.specs.Attribute.{Attribute, attribute_at, attributes}
 use Rattle.ntfs_def.specs.FileName.{is_name_key}
 use Rattle.ntfs_def.specs.Fixup.{opened_of}
+use Rattle.ntfs_def.specs.declared.kinds.TheConstants.{FILE_NAME}
 use Rattle.ntfs_def.specs.declared.records.TheConstants.{FIRST_ORDINARY}
 use Rattle.volume_def.specs.AttributesClause.{IsRightPart, times_id}
 use Rattle.volume_def.specs.Files.{Part, is_of, part_of, parts, record_of, records_of}
@@ -17,12 +19,15 @@ use Rattle.record_edits.specs.Between.{IsReady}
 use Rattle.root_puts.specs.Files.{MakesFile}
 use Rattle.root_puts.specs.FileRecordAttributes.{InsertsAttribute, opened_record}
 use Rattle.root_puts.specs.Extensions.{CreatesBase}
-use Rattle.root_puts.specs.NewFiles.{data_part, standard_part}
+use Rattle.root_puts.specs.NewFiles.{standard_part}
 use Rattle.root_puts.specs.RecordCalls.{IsInOneRecord, IsNewName, MayCome}
 use Rattle.root_puts.specs.Edits.{record_there}
 use Rattle.made_edits.proofs.AloneLaws.{StandsAlone, alone-counted, alone-edited, alone-made, others-counted, others-edited}
 use Rattle.made_edits.proofs.AloneLaws.{parts-counted, parts-edited}
-use Rattle.made_edits.proofs.NewParts.{name-is, name_bytes, name_part, one-mapped, stream-is, stream_bytes, two-mapped, value-body}
+use Rattle.made_edits.specs.Between.{body_part, new_parts}
+use Rattle.made_edits.specs.Comes.{body_bytes, body_kind, body_value}
+use Rattle.made_edits.proofs.BodyParts.{bodied_parts, body-above, body-even, body-is, body-new}
+use Rattle.made_edits.proofs.NewParts.{name-is, name_bytes, name_part, one-mapped, two-mapped, value-body}
 
 -- THE FILE STANDS ALONE in its record, with these parts.
 pub record HoldsParts (view : VolumeView) (n : ℕ) (all : List Part) : Type 0 where
@@ -41,9 +46,10 @@ module _ (view : VolumeView) (n : ℕ) (all : List Part) (h : HoldsParts view n 
   }
 
 -- IT IS MADE.
-pub holds-made : (old new : VolumeView) (n : ℕ) (standard : List ℕ) (before after : Marks) → CreatesBase old new n false standard
-    → (t : MakesFile n old new before after) → IsReady old before → HoldsParts new n (standard_part n 0 standard ∷ [])
-holds-made old new n standard before after creates t ready = record {
+pub holds-made : (old new : VolumeView) (n : ℕ) (directory : Bool) (standard : List ℕ) (before after : Marks)
+    → CreatesBase old new n directory standard → (t : MakesFile n old new before after) → IsReady old before
+    → HoldsParts new n (standard_part n 0 standard ∷ [])
+holds-made old new n directory standard before after creates t ready = record {
   alone = subst (λ block. StandsAlone new n (record_of n (opened_of block))) (sym (t.replaces.block t.told))
       (alone-made n old new before after t ready);
   all_are = ap (λ block. (record_of n (opened_of block)).parts) (creates.replaces.block t.told) ∙ creates.is.parts;
@@ -68,62 +74,71 @@ module _ (old new : VolumeView) (n i : ℕ) (attr : List ℕ) (e : InsertsAttrib
   pub parts-inserted : (g : ℕ) → g ≢ n → parts (records_of new) g ≡ parts (records_of old) g
   parts-inserted = parts-edited old new n e.stored [] (attribute_at attr 0 ∷ []) e.edits (record_there old n) alone
 
--- ITS EMPTY STREAM
-module _ (old new : VolumeView) (n : ℕ) (standard : List ℕ) (holds : HoldsParts old n (standard_part n 0 standard ∷ []))
-    (e : InsertsAttribute old new n 1 stream_bytes) where
-  abbrev stream : Attribute
-  stream = attribute_at stream_bytes 0
+-- ITS BODY
+module _ (old new : VolumeView) (directory : Bool) (size n : ℕ) (standard : List ℕ)
+    (holds : HoldsParts old n (standard_part n 0 standard ∷ [])) (e : InsertsAttribute old new n 1 (body_bytes directory size)) where
+  abbrev body : Attribute
+  body = attribute_at (body_bytes directory size) 0
 
-  was-stream : (a : Attribute) × (attributes (opened_record old n) ≡ a ∷ []) × (part_of n a ≡ standard_part n 0 standard)
-  was-stream = one-mapped (part_of n) (attributes (opened_record old n)) (standard_part n 0 standard) holds.all_are
+  is-part : part_of n body ≡ body_part directory size n
+  is-part = body-is directory size n
 
-  pub holds-stream : HoldsParts new n (standard_part n 0 standard ∷ data_part n 1 ∷ [])
-  holds-stream = record {
-    alone = alone-inserted old new n 1 stream_bytes e holds.alone;
-    all_are = ap (map (part_of n)) (attributes-inserted old new n 1 stream_bytes e holds.alone
-        ∙ ap (λ (xs : List Attribute). insert xs 1 stream) was-stream.1)
-        ∙ ap (λ (p : Part). p ∷ part_of n stream ∷ []) was-stream.2
-        ∙ ap (λ (p : Part). standard_part n 0 standard ∷ p ∷ []) (stream-is n);
+  above : FILE_NAME < body_kind directory
+  above = body-above directory
+
+  kind : body.kind ≡ body_kind directory
+  kind = ap (λ (p : Part). p.kind) is-part
+
+  was-based : (a : Attribute) × (attributes (opened_record old n) ≡ a ∷ []) × (part_of n a ≡ standard_part n 0 standard)
+  was-based = one-mapped (part_of n) (attributes (opened_record old n)) (standard_part n 0 standard) holds.all_are
+
+  pub holds-body : HoldsParts new n (bodied_parts directory size n standard)
+  holds-body = record {
+    alone = alone-inserted old new n 1 (body_bytes directory size) e holds.alone;
+    all_are = ap (map (part_of n)) (attributes-inserted old new n 1 (body_bytes directory size) e holds.alone
+        ∙ ap (λ (xs : List Attribute). insert xs 1 body) was-based.1)
+        ∙ ap (λ (p : Part). p ∷ part_of n body ∷ []) was-based.2
+        ∙ ap (λ (p : Part). standard_part n 0 standard ∷ p ∷ []) is-part;
   }
 
-  right-stream : IsRightPart (data_part n 1)
-  right-stream = record { resident = λ k. refl; name = λ k. absurd (omega (arith, k)) }
+  right-body : IsRightPart (body_part directory size n)
+  right-body = record { resident = λ k. refl; name = λ k. absurd (omega (arith, k, above)) }
 
-  before-stream : (j : ℕ) → j + 1 ≡ 1 → IfSome (slice_get (was-stream.0 ∷ []) j) (λ (a : Attribute). a.kind ≤ stream.kind)
-  before-stream j e =
-      let first : was-stream.0.kind ≡ 0x10 = ap (λ (p : Part). p.kind) was-stream.2 in
-      let kind : stream.kind ≡ 0x80 = ap (λ (p : Part). p.kind) (stream-is n) in
+  before-body : (j : ℕ) → j + 1 ≡ 1 → IfSome (slice_get (was-based.0 ∷ []) j) (λ (a : Attribute). a.kind ≤ body.kind)
+  before-body j e =
+      let first : was-based.0.kind ≡ 0x10 = ap (λ (p : Part). p.kind) was-based.2 in
       let zero_is : 0 ≡ j = omega (arith, e) in
-      subst (λ j. IfSome (slice_get (was-stream.0 ∷ []) j) (λ (a : Attribute). a.kind ≤ stream.kind)) zero_is
-      (let goal : was-stream.0.kind ≤ stream.kind = omega (arith, first, kind) in goal)
+      subst (λ j. IfSome (slice_get (was-based.0 ∷ []) j) (λ (a : Attribute). a.kind ≤ body.kind)) zero_is
+      (let goal : was-based.0.kind ≤ body.kind = omega (arith, first, kind, above) in goal)
 
-  pub may-stream : MayCome old n 1 stream
-  may-stream = record {
+  pub may-body : MayCome old n 1 body
+  may-body = record {
     other = record {
-      value = subst IsSome (sym (value-body stream.body [] (ap (λ (p : Part). p.content) (stream-is n)))) refl;
-      no_list = λ is. let kind : stream.kind ≡ 0x80 = ap (λ (p : Part). p.kind) (stream-is n) in absurd (omega (arith, is, kind));
-      no_standard = λ is. let kind : stream.kind ≡ 0x80 = ap (λ (p : Part). p.kind) (stream-is n) in absurd (omega (arith, is, kind));
+      value = subst IsSome (sym (value-body body.body (body_value directory size) (ap (λ (p : Part). p.content) is-part))) refl;
+      no_list = λ is. absurd (omega (arith, is, kind, above));
+      no_standard = λ is. absurd (omega (arith, is, kind, above));
     };
-    part = subst IsRightPart (sym (stream-is n)) right-stream;
-    units = ap (λ (p : Part). length p.name % 2) (stream-is n);
+    part = subst IsRightPart (sym is-part) right-body;
+    units = ap (λ (p : Part). length p.name % 2) is-part ∙ body-even directory;
     rises = record {
-      inside = subst (λ (xs : List Attribute). 1 ≤ length xs) (sym was-stream.1) (omega arith);
-      before = subst (λ (xs : List Attribute). (j : ℕ) → j + 1 ≡ 1 → IfSome (slice_get xs j) (λ (a : Attribute). a.kind ≤ stream.kind))
-          (sym was-stream.1) before-stream;
-      behind = subst (λ (xs : List Attribute). IfSome (slice_get xs 1) (λ (a : Attribute). stream.kind ≤ a.kind)) (sym was-stream.1) tt;
+      inside = subst (λ (xs : List Attribute). 1 ≤ length xs) (sym was-based.1) (omega arith);
+      before = subst (λ (xs : List Attribute). (j : ℕ) → j + 1 ≡ 1 → IfSome (slice_get xs j) (λ (a : Attribute). a.kind ≤ body.kind))
+          (sym was-based.1) before-body;
+      behind = subst (λ (xs : List Attribute). IfSome (slice_get xs 1) (λ (a : Attribute). body.kind ≤ a.kind)) (sym was-based.1) tt;
     };
-    new_id = ap (times_id stream.id) holds.all_are
-        ∙ ap (λ (p : Part). times_id p.id (standard_part n 0 standard ∷ [])) (stream-is n);
+    new_id = ap (times_id body.id) holds.all_are
+        ∙ ap (λ (p : Part). times_id p.id (standard_part n 0 standard ∷ [])) is-part;
   }
 
-  pub new-stream : IsNewName old n stream
-  new-stream other =
-      ap (filter (is_of stream.kind stream.name)) (parts-held old n (standard_part n 0 standard ∷ []) holds)
-      ∙ ap (λ (p : Part). filter (is_of p.kind p.name) (standard_part n 0 standard ∷ [])) (stream-is n)
+  pub new-body : IsNewName old n body
+  new-body other =
+      ap (filter (is_of body.kind body.name)) (parts-held old n (standard_part n 0 standard ∷ []) holds)
+      ∙ ap (λ (p : Part). filter (is_of p.kind p.name) (standard_part n 0 standard ∷ [])) is-part
+      ∙ body-new directory n standard
 
 -- ITS NAME
-module _ (old new : VolumeView) (n : ℕ) (standard key : List ℕ)
-    (holds : HoldsParts old n (standard_part n 0 standard ∷ data_part n 1 ∷ [])) (short : length key ≤ 900)
+module _ (old new : VolumeView) (directory : Bool) (size n : ℕ) (standard key : List ℕ)
+    (holds : HoldsParts old n (bodied_parts directory size n standard)) (short : length key ≤ 900)
     (is_name : IsTrue (is_name_key key)) (e : InsertsAttribute old new n 1 (name_bytes key)) where
   abbrev named : Attribute
   named = attribute_at (name_bytes key) 0
@@ -132,10 +147,11 @@ module _ (old new : VolumeView) (n : ℕ) (standard key : List ℕ)
   named-is = name-is n key short
 
   was-named : (a : Attribute) × (b : Attribute) × (attributes (opened_record old n) ≡ a ∷ b ∷ [])
-      × (part_of n a ≡ standard_part n 0 standard) × (part_of n b ≡ data_part n 1)
-  was-named = two-mapped (part_of n) (attributes (opened_record old n)) (standard_part n 0 standard) (data_part n 1) holds.all_are
+      × (part_of n a ≡ standard_part n 0 standard) × (part_of n b ≡ body_part directory size n)
+  was-named = two-mapped (part_of n) (attributes (opened_record old n)) (standard_part n 0 standard) (body_part directory size n)
+      holds.all_are
 
-  pub holds-named : HoldsParts new n (standard_part n 0 standard ∷ name_part n key ∷ data_part n 1 ∷ [])
+  pub holds-named : HoldsParts new n (new_parts directory size n standard key)
   holds-named = record {
     alone = alone-inserted old new n 1 (name_bytes key) e holds.alone;
     all_are = ap (map (part_of n)) (attributes-inserted old new n 1 (name_bytes key) e holds.alone
@@ -159,9 +175,10 @@ module _ (old new : VolumeView) (n : ℕ) (standard key : List ℕ)
 
   behind-name : named.kind ≤ was-named.1.kind
   behind-name =
-      let second : was-named.1.kind ≡ 0x80 = ap (λ (p : Part). p.kind) was-named.4 in
+      let second : was-named.1.kind ≡ body_kind directory = ap (λ (p : Part). p.kind) was-named.4 in
       let kind : named.kind ≡ 0x30 = ap (λ (p : Part). p.kind) named-is in
-      omega (arith, second, kind)
+      let above = body-above directory in
+      omega (arith, second, kind, above)
 
   pub may-name : MayCome old n 1 named
   may-name = record {
@@ -180,7 +197,7 @@ module _ (old new : VolumeView) (n : ℕ) (standard key : List ℕ)
           behind-name;
     };
     new_id = ap (times_id named.id) holds.all_are
-        ∙ ap (λ (p : Part). times_id p.id (standard_part n 0 standard ∷ data_part n 1 ∷ [])) named-is;
+        ∙ ap (λ (p : Part). times_id p.id (bodied_parts directory size n standard)) named-is;
   }
 
   pub new-name : IsNewName old n named

@@ -50,10 +50,11 @@ use Rattle.root_puts.proofs.NamesInTurn.{KeepsNames-same}
 use Rattle.root_puts.specs.Keys.{is_index_key_of}
 use Rattle.root_puts.proofs.CallsMade.{Edited-more, within-same}
 use Rattle.root_puts.specs.PutsItem.{PutsItem}
+use Rattle.made_edits.specs.Left.{KeepsOwnIndex}
 use Rattle.made_edits.proofs.Entered.{Entered}
 use Rattle.made_edits.proofs.KeyLaws.{entry-index, entry-room, entry_key, index-entry}
 use Rattle.made_edits.proofs.LeftLaws.{records-stream, same-value}
-use Rattle.made_edits.proofs.OwnIndex.{KeepsOwnIndex, head-same}
+use Rattle.made_edits.proofs.OwnIndex.{head-same}
 use Rattle.made_edits.proofs.ReadyLaws.{owners-of}
 
 -- A DIRECTORY HAS ONE LIST of items.

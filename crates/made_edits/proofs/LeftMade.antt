@@ -1,5 +1,5 @@
 -- ALL THAT IS LEFT ALONE where a file came under a name.
-use Rattle.std.proofs.Common.{◌≡◌, ◌≢◌, ◌≤◌, ◌<◌, ◌+◌, ◌*◌, ◌%◌, ◌==◌, ℕ, suc, Bool, true, false, List, [], ◌∷◌, codes, filter, length}
+use Rattle.std.proofs.Common.{◌≡◌, ◌≢◌, ◌≤◌, ◌<◌, ◌+◌, ◌*◌, ◌%◌, ◌==◌, ℕ, suc, Bool, true, false, List, [], codes, filter, length}
 use Rattle.std.proofs.Common.{None, Some, refl, sym, ap, subst, inl, inr, ◌∙◌, arith, true≢false}
 use Rattle.std.specs.Prelude.{◌⊎◌, All, IsTrue, option_and_then, slice_index, slice_range}
 use Rattle.std.specs.List.{Contains}
@@ -7,7 +7,7 @@ use Rattle.std.specs.Option.{option_map_or}
 use Rattle.std.specs.Str.{bytes_eq}
 use Rattle.std.proofs.lemmas.Bool.{and_right, cases_eq, eqb-true, ne_eqb, or_from, or_parts}
 use Rattle.std.proofs.lemmas.List.Elements.{All-contains}
-use Rattle.list_laws.proofs.MemberLaws.{All-from_Contains, Contains-cases, Contains-from_filter, Contains-only}
+use Rattle.list_laws.proofs.MemberLaws.{All-from_Contains, Contains-from_filter}
 use Rattle.list_laws.proofs.OptionLaws.{none_other, some_same}
 use Rattle.list_laws.proofs.SameItemsLaws.{SameItems-same}
 use Rattle.ntfs_def.specs.AttributeList.{list_entries}
@@ -17,12 +17,12 @@ use Rattle.ntfs_def.specs.ListOrder.{AreInOrder}
 use Rattle.ntfs_def.specs.Node.{Node, short_node}
 use Rattle.ntfs_def.specs.Record.{Header, header_of, is_in_use}
 use Rattle.ntfs_def.specs.Units.{wide}
-use Rattle.ntfs_def.specs.declared.kinds.TheConstants.{ATTRIBUTE_LIST, BITMAP, DATA, FILE_NAME, INDEX_ALLOCATION, INDEX_ROOT}
+use Rattle.ntfs_def.specs.declared.kinds.TheConstants.{ATTRIBUTE_LIST, BITMAP, DATA, INDEX_ALLOCATION, INDEX_ROOT}
 use Rattle.ntfs_def.specs.declared.lengths.TheConstants.{INDEX_RECORD}
 use Rattle.ntfs_def.specs.declared.records.TheConstants.{CLUSTER_BITMAP, FIRST_ORDINARY, LOG_FILE, MFT, ROOT, UPCASE, VOLUME}
 use Rattle.volume_def.specs.CaseClause.{volume_fold}
 use Rattle.volume_def.specs.FileNames.{names_of}
-use Rattle.volume_def.specs.Files.{Part, Record, Value, content_value, file_of, is_base, is_directory, is_of, parts, parts_at, record_of}
+use Rattle.volume_def.specs.Files.{Part, Record, content_value, file_of, is_base, is_directory, is_of, parts, parts_at, record_of}
 use Rattle.volume_def.specs.Files.{record_on, records_of}
 use Rattle.volume_def.specs.Freed.{stored_sequence}
 use Rattle.volume_def.specs.IndexesClause.{index_nodes}
@@ -34,8 +34,6 @@ use Rattle.volume_def.specs.View.{VolumeView}
 use Rattle.volume_def.proofs.ValueLaws.{spot_at-owned, value-frame}
 use Rattle.volume_edits.specs.Owners.{HasOwners}
 use Rattle.root_puts.proofs.FileRecordRecordLaws.{record_at-in_use, record_at-inside}
-use Rattle.record_bytes.specs.AttributeBytes.{part}
-use Rattle.root_puts.specs.NewFiles.{data_part, standard_part}
 use Rattle.mft_table.specs.declared.mounted.Mounted.{Mounted}
 use Rattle.tree_model.specs.IndexRoom.{Index, directory_index, index_depth, levels_below}
 use Rattle.tree_model.specs.declared.tree.Node as nodes
@@ -60,15 +58,15 @@ use Rattle.root_puts.proofs.StageLaws.{is-ordinary}
 use Rattle.root_puts.specs.PutsInRoot.{KeepsHolder}
 use Rattle.made_edits.specs.Between.{HasNewFile, new_parts}
 use Rattle.made_edits.specs.Comes.{CanMake, ComesNamed, ComesUnder, IsNewKey}
-use Rattle.made_edits.specs.Left.{IsNoTable, KeepsDirectory, LeavesOthers, LeavesRest, is_entry_key, is_row_key}
+use Rattle.made_edits.specs.Left.{IsNoTable, KeepsDirectory, KeepsOwnIndex, LeavesOthers, LeavesRest, is_entry_key, is_row_key}
 use Rattle.made_edits.specs.Made.{is_made_key}
+use Rattle.made_edits.proofs.BodyParts.{new-cases, no-list-new}
 use Rattle.made_edits.proofs.Entered.{Entered}
 use Rattle.made_edits.proofs.HeaderMade as header
 use Rattle.made_edits.proofs.HeldParts.{HoldsParts}
 use Rattle.made_edits.proofs.LeftLaws.{clusters-kept, part-kept, value-kept}
 use Rattle.made_edits.proofs.MadeCalls as calls
 use Rattle.made_edits.proofs.NamedFile as named
-use Rattle.made_edits.proofs.OwnIndex.{KeepsOwnIndex}
 use Rattle.made_edits.proofs.ReadyLaws.{owners-of}
 use Rattle.made_edits.proofs.RecordsMade as records
 use Rattle.made_edits.proofs.ShownDirectory.{is-directory}
@@ -120,42 +118,43 @@ depth-kept old new index layout same value =
         (first_part xs)) 0
 
 module _ (old new : VolumeView) (was now : Mounted) (dir n : ℕ) (node : nodes.Node) (units standard key : List ℕ) (moment security : ℕ)
-    (can : CanMake old dir node units) (right : AreRight old (marks_of was)) (is_key : IsNewKey old dir units moment key)
-    (is_standard : IsNewStandard false moment security standard) (long : length standard ≡ 72)
-    (u : ComesUnder old new was now n dir standard key) where
+    (directory : Bool) (can : CanMake old dir node units) (right : AreRight old (marks_of was))
+    (is_key : IsNewKey old directory dir units moment key)
+    (is_standard : IsNewStandard directory moment security standard) (long : length standard ≡ 72)
+    (u : ComesUnder directory old new was now n dir standard key) where
   abbrev before : Marks
   before = marks_of was
 
   abbrev after : Marks
   after = marks_of now
 
-  abbrev c : ComesNamed old u.counted was now n standard key
+  abbrev c : ComesNamed directory old u.counted was now n standard key
   c = u.comes
 
   ready : IsReady old before
-  ready = calls.ready old new was now dir n node units standard key moment security can right is_key is_standard long u
+  ready = calls.ready old new was now dir n node units standard key moment security directory can right is_key is_standard long u
 
   pub short : length key ≤ 900
-  short = calls.short old new was now dir n node units standard key moment security can right is_key is_standard long u
+  short = calls.short old new was now dir n node units standard key moment security directory can right is_key is_standard long u
 
-  file : HasNewFile old u.counted after n dir standard key
-  file = calls.file old new was now dir n node units standard key moment security can right is_key is_standard long u
+  file : HasNewFile directory old u.counted after n dir standard key
+  file = calls.file old new was now dir n node units standard key moment security directory can right is_key is_standard long u
 
   entry : Entered u.counted new after dir u.item
-  entry = calls.entry old new was now dir n node units standard key moment security can right is_key is_standard long u
+  entry = calls.entry old new was now dir n node units standard key moment security directory can right is_key is_standard long u
 
   left : LeavesOthers old new n dir
-  left = after_all.left old new was now dir n node units standard key moment security can right is_key is_standard long u
+  left = after_all.left old new was now dir n node units standard key moment security directory can right is_key is_standard long u
 
   owners : HasOwners old
   owners = owners-of old before ready
 
   pub free : record_on old n ≡ None
-  free = named.unused old u.counted was now n standard key c can.told ready long short is_key.whole
+  free = named.unused old u.counted was now n standard key directory c can.told ready long short is_key.whole
 
   -- THE RECORD
-  holds : HoldsParts u.counted n (new_parts n standard key)
-  holds = named.holds-counted-file old u.counted was now n standard key c can.told ready long short is_key.whole
+  holds : HoldsParts u.counted n (new_parts directory (cluster_bytes old.layout) n standard key)
+  holds = named.holds-counted-file old u.counted was now n standard key directory c can.told ready long short is_key.whole
 
   block : new.block n ≡ u.counted.block n
   block = entry.blocks n (λ e. file.other (sym e))
@@ -172,25 +171,21 @@ module _ (old new : VolumeView) (was now : Mounted) (dir n : ℕ) (node : nodes.
   own = subst (λ (stored : List ℕ). file_of n (record_of n (opened_of stored)) ≡ n) (sym block)
       (base-file n (record_there u.counted n) holds.alone.base)
 
-  pub header-is : header_of (opened_of (new.block n)) ≡ header.made_header old u.counted was now n standard key c can.told short 1 3
+  pub header-is : header_of (opened_of (new.block n)) ≡ header.made_header old u.counted was now n standard key directory c can.told short
+      1 3
   header-is = ap (λ (stored : List ℕ). header_of (opened_of stored)) block
-      ∙ header.header-new old u.counted was now n standard key c can.told short
+      ∙ header.header-new old u.counted was now n standard key directory c can.told short
 
-  below : (p : Part) → Contains (new_parts n standard key) p → p.id < 3
+  below : (p : Part) → Contains (new_parts directory (cluster_bytes old.layout) n standard key) p → p.id < 3
   below p among =
-      elim (Contains-cases (standard_part n 0 standard) (part n FILE_NAME [] 2 (Value key) ∷ data_part n 1 ∷ []) p among) [
-        | inl is ↦ let id : 0 ≡ p.id = ap (λ (p : Part). p.id) is in omega (arith, id)
-        | inr later ↦ elim (Contains-cases (part n FILE_NAME [] 2 (Value key)) (data_part n 1 ∷ []) p later) [
-          | inl is ↦ let id : 2 ≡ p.id = ap (λ (p : Part). p.id) is in omega (arith, id)
-          | inr last ↦ let id : 1 ≡ p.id = ap (λ (p : Part). p.id) (Contains-only (data_part n 1) p last) in omega (arith, id)
-        ]
-      ]
+      new-cases (λ (p : Part). p.id < 3) directory (cluster_bytes old.layout) n standard key (omega arith) (omega arith) (omega arith) p
+      among
 
   past : IsPastIds (record_of n (opened_of (new.block n)))
   past = inr (subst (λ (h : Header). All (λ part. part.id < h.next_id) (record_of n (opened_of (new.block n))).parts) (sym header-is)
       (subst (λ (stored : List ℕ). All (λ part. part.id < 3) (record_of n (opened_of stored)).parts) (sym block)
       (subst (All (λ part. part.id < 3)) (sym holds.all_are)
-      (All-from_Contains (λ (part : Part). part.id < 3) (new_parts n standard key) below))))
+      (All-from_Contains (λ (part : Part). part.id < 3) (new_parts directory (cluster_bytes old.layout) n standard key) below))))
 
   -- THE DIRECTORY
   abbrev shown : IsShown old dir
@@ -220,21 +215,16 @@ module _ (old new : VolumeView) (was now : Mounted) (dir n : ℕ) (node : nodes.
   same-record : shown.base ≡ holder.was
   same-record = some_same (sym shown.at ∙ holder.was_at)
 
-  directory : KeepsDirectory old new dir
-  directory = record {
+  kept : KeepsDirectory old new dir
+  kept = record {
     was = holder.was;
     now = holder.now;
     was_at = holder.was_at;
     now_at = holder.now_at;
     base = subst (λ (r : Record). IsTrue (is_base r)) same-record shown.is;
     directory = subst (λ (r : Record). IsTrue (is_directory r)) same-record (is-directory old dir node can.parent.there can.directory);
-    header = record {
-      sequence = ap (λ (h : Header). h.sequence) holder.header;
-      links = ap (λ (h : Header). h.links) holder.header;
-      flags = ap (λ (h : Header). h.flags) holder.header;
-      base = ap (λ (h : Header). h.base) holder.header;
-      number = ap (λ (h : Header). h.number) holder.header;
-    };
+    header = holder.header;
+    sequence = holder.sequence;
     well = can.parent.sound clauses.Shape dir (record_at-inside old dir shown.base shown.at) (record_at-in_use old dir shown.base shown.at);
   }
 
@@ -246,7 +236,7 @@ module _ (old new : VolumeView) (was now : Mounted) (dir n : ℕ) (node : nodes.
   forms-counted : (f : ℕ) → ComeRightly old u.counted f
   forms-counted = records.forms-made is_row_key old u.counted n file.leaves free holds.alone.at
       (base-file n (record_there u.counted n) holds.alone.base) ready.bases
-      (header.forms-new old u.counted was now n standard key c can.told short)
+      (header.forms-new old u.counted was now n standard key directory c can.told short)
 
   forms : (f : ℕ) → ComeRightly old new f
   forms f = All-from_Contains (λ form. Contains (forms_of old f) form ⊎ IsNewForm form) (forms_of new f) (λ form c.
@@ -258,7 +248,7 @@ module _ (old new : VolumeView) (was now : Mounted) (dir n : ℕ) (node : nodes.
 
   -- FILES
   names : (f : ℕ) → f ≢ n → names_of (records_of new) f ≡ names_of (records_of old) f
-  names = after_all.names-left old new was now dir n node units standard key moment security can right is_key is_standard long u
+  names = after_all.names-left old new was now dir n node units standard key moment security directory can right is_key is_standard long u
 
   others : KeepsOthers (records_of old) (records_of new) n
   others g ne = record {
@@ -272,7 +262,8 @@ module _ (old new : VolumeView) (was now : Mounted) (dir n : ℕ) (node : nodes.
         (entry.kinds f (λ kind. kind == ATTRIBUTE_LIST) refl ∙ ap (filter is_list) (file.leaves.others f ne))
     | inl is ↦ λ held. subst (AreInOrder (volume_fold old))
         (sym (ap (entries_of new) is ∙ no-entries new n (ap (filter is_list)
-        (calls.own-parts-now old new was now dir n node units standard key moment security can right is_key is_standard long u))))
+        (calls.own-parts-now old new was now dir n node units standard key moment security directory can right is_key is_standard long u)
+        ∙ no-list-new directory (cluster_bytes old.layout) n standard key)))
         (λ i j d lt within. absurd (omega (arith, within)))
   ]
 
@@ -295,7 +286,7 @@ module _ (old new : VolumeView) (was now : Mounted) (dir n : ℕ) (node : nodes.
 
   items : (g : ℕ) → g ≢ n → g ≢ dir → KeepsItems old new g
   items g ne away =
-      let edit = calls.edited old new was now dir n node units standard key moment security can right is_key is_standard long u in
+      let edit = calls.edited old new was now dir n node units standard key moment security directory can right is_key is_standard long u in
       items-kept (either is_room_key (is_made_key n dir)) old new edit.kept (ap (λ (l : TableLayout). cluster_bytes l) left.layout)
       ready.bases ready.editable.readable edit.editable.readable
       (or_from (is_room_key (key_of UPCASE DATA [])) _ refl
@@ -305,7 +296,7 @@ module _ (old new : VolumeView) (was now : Mounted) (dir n : ℕ) (node : nodes.
   depth : index_depth new (directory_index dir) ≤ index_depth old (directory_index dir)
   depth =
       let same = depth-kept old u.counted (directory_index dir) file.leaves.layout
-      (ap (filter (is_of INDEX_ROOT (wide (codes "$I30")))) file.directory)
+      (ap (filter (is_of INDEX_ROOT (wide (codes "$I30")))) file.parent)
       (value-kept is_row_key n old u.counted file.leaves owners ready.table.some dir INDEX_ALLOCATION (wide (codes "$I30")) file.other refl
       (inl (λ is. absurd (omega (arith, is))))) in
       let then = entry.own.depth in
@@ -313,9 +304,9 @@ module _ (old new : VolumeView) (was now : Mounted) (dir n : ℕ) (node : nodes.
 
   -- THE INDEX of the directory
   same : (kind : ℕ) → parts_at u.counted dir kind (wide (codes "$I30")) ≡ parts_at old dir kind (wide (codes "$I30"))
-  same kind = ap (filter (is_of kind (wide (codes "$I30")))) file.directory
+  same kind = ap (filter (is_of kind (wide (codes "$I30")))) file.parent
 
-  pub own-index : KeepsOwnIndex old new dir
+  own-index : KeepsOwnIndex old new dir
   own-index = record {
     head = λ was now at bt. entry.own.head was now (ap first_part (same INDEX_ROOT) ∙ at) bt;
     records = entry.own.records ∙ same INDEX_ALLOCATION;
@@ -331,9 +322,9 @@ module _ (old new : VolumeView) (was now : Mounted) (dir n : ℕ) (node : nodes.
   blocks : (files : ℕ → Bool) → files dir ≡ true → KeepsBlocks files old new
   blocks files its m r at other =
       left.blocks m (λ is. none_other (sym free ∙ sym (ap (record_on old) is) ∙ at)) (λ is.
-      let same : directory.was ≡ r = some_same (sym directory.was_at ∙ sym (ap (record_on old) is) ∙ at) in
+      let same : kept.was ≡ r = some_same (sym kept.was_at ∙ sym (ap (record_on old) is) ∙ at) in
       let file : file_of m r ≡ dir =
-      ap (λ k. file_of k r) is ∙ base-file dir r (subst (λ (r : Record). IsTrue (is_base r)) same directory.base) in
+      ap (λ k. file_of k r) is ∙ base-file dir r (subst (λ (r : Record). IsTrue (is_base r)) same kept.base) in
       let none = (or_parts (file_of m r == MFT) _ other).1 in
       let changed = (or_parts (file_of m r == CLUSTER_BITMAP) (files (file_of m r)) (or_parts (file_of m r == VOLUME) _ none).1).1 in
       true≢false (sym its ∙ sym (ap files file) ∙ changed))
@@ -344,13 +335,14 @@ module _ (old new : VolumeView) (was now : Mounted) (dir n : ℕ) (node : nodes.
     free = free;
     other = file.other;
     ordinary = ordinary;
-    directory = directory;
+    directory = kept;
     others = others;
     names = names;
     clusters = clusters;
-    values = after_all.value-left old new was now dir n node units standard key moment security can right is_key is_standard long u;
+    values = after_all.value-left old new was now dir n node units standard key moment security directory can right is_key is_standard long
+        u;
     items = items;
-    depth = depth;
+    index = own-index;
     blocks = blocks;
     copies = λ m few same. left.copies m few;
     unused = unused;

@@ -3,6 +3,8 @@ pub mod AloneLaws
 pub mod ReadyLaws
 pub mod RowStored
 pub mod NewParts
+pub mod BodyParts
+pub mod NewNode
 pub mod HeldParts
 pub mod WantLaws
 pub mod KeyLaws

@@ -1,5 +1,5 @@
 -- A FILE MADE UNDER ONE NAME as calls on names and files.
-use Rattle.std.proofs.Common.{◌≡◌, ◌≤◌, ◌*◌, ◌==◌, ℕ, false, List, [], ◌∷◌, length}
+use Rattle.std.proofs.Common.{◌≡◌, ◌≤◌, ◌*◌, ◌==◌, ℕ, Bool, false, List, [], ◌∷◌, length}
 use Rattle.std.proofs.Common.{filter, refl, sym, ap, subst, ◌∙◌, arith}
 use Rattle.std.specs.Prelude.{bit_and}
 use Rattle.std.proofs.lemmas.Bool.{ne_eqb, or_from}
@@ -13,6 +13,7 @@ use Rattle.volume_def.specs.CaseClause.{volume_fold}
 use Rattle.volume_def.specs.Files.{Part, is_of, parts, records_of}
 use Rattle.volume_def.specs.Freed.{sequence_at_first, stored_sequence}
 use Rattle.volume_def.specs.IndexesClause.{IsDirectoryIndex}
+use Rattle.volume_def.specs.Table.{cluster_bytes}
 use Rattle.volume_def.specs.Values.{first_part}
 use Rattle.volume_def.specs.View.{VolumeView}
 use Rattle.root_puts.specs.Edit.{IsAbsent}
@@ -35,24 +36,26 @@ use Rattle.root_puts.specs.Calls.{AddsLink, ChangesIndex, IsNewStandard, MakesNo
 use Rattle.root_puts.specs.Keys.{is_index_key_of, is_key_of, is_name_key_of, no_key}
 use Rattle.root_puts.proofs.CallKeys.{within-nothing}
 use Rattle.root_puts.proofs.CallsMade.{Edited-more, add-link, within-same}
-use Rattle.root_puts.proofs.NodesMade.{make-file}
 use Rattle.made_edits.specs.Between.{HasNewFile, new_parts}
 use Rattle.made_edits.specs.Comes.{CanMake, ComesNamed, ComesUnder, IsNewKey}
 use Rattle.made_edits.specs.Made.{IsMadeByCalls, is_made_key, new_name}
 use Rattle.made_edits.specs.Wants.{made_wants, making_wants, naming_wants}
 use Rattle.made_edits.proofs.BetweenMade as between
+use Rattle.made_edits.proofs.BodyParts.{bodied_parts, shown-flags, sizes-new, standard-new}
 use Rattle.made_edits.proofs.Entered.{Entered}
 use Rattle.made_edits.proofs.HeldParts.{parts-held}
 use Rattle.made_edits.proofs.IndexPut as put
 use Rattle.made_edits.proofs.KeyLaws.{no-name, other-index}
 use Rattle.made_edits.proofs.NamedFile as named
+use Rattle.made_edits.proofs.NewNode.{node-made}
 use Rattle.made_edits.proofs.RootPut.{entered}
 use Rattle.made_edits.proofs.ShownDirectory.{directory-index}
 
 module _ (old new : VolumeView) (was now : Mounted) (dir n : ℕ) (node : Node) (units standard key : List ℕ) (moment security : ℕ)
-    (can : CanMake old dir node units) (right : AreRight old (marks_of was)) (is_key : IsNewKey old dir units moment key)
-    (is_standard : IsNewStandard false moment security standard) (long : length standard ≡ 72)
-    (u : ComesUnder old new was now n dir standard key) where
+    (directory : Bool) (can : CanMake old dir node units) (right : AreRight old (marks_of was))
+    (is_key : IsNewKey old directory dir units moment key)
+    (is_standard : IsNewStandard directory moment security standard) (long : length standard ≡ 72)
+    (u : ComesUnder directory old new was now n dir standard key) where
   abbrev before : Marks
   before = marks_of was
 
@@ -62,29 +65,31 @@ module _ (old new : VolumeView) (was now : Mounted) (dir n : ℕ) (node : Node) 
   abbrev counted : VolumeView
   counted = u.counted
 
-  abbrev c : ComesNamed old u.counted was now n standard key
+  abbrev c : ComesNamed directory old u.counted was now n standard key
   c = u.comes
 
   abbrev name : FileName
   name = new_name old dir units
 
   pub ready : IsReady old before
-  ready = between.ready old counted was now dir n node units standard key moment can right is_key long c
+  ready = between.ready old counted was now dir n node units standard key moment directory can right is_key long c
 
   pub short : length key ≤ 900
-  short = between.short old counted was now dir n node units standard key moment can right is_key long c
+  short = between.short old counted was now dir n node units standard key moment directory can right is_key long c
 
-  pub file : HasNewFile old counted after n dir standard key
-  file = between.has-new-file old counted was now dir n node units standard key moment can right is_key long c
+  pub file : HasNewFile directory old counted after n dir standard key
+  file = between.has-new-file old counted was now dir n node units standard key moment directory can right is_key long c
 
   -- THE FILE WITHOUT A NAME
-  pub makes : MakesNode (making_wants n) old c.streamed before after n false (new_node false moment security)
-  makes = make-file (making_wants n) old c.streamed before after n (sequence_at_first (stored_sequence (old.block n))) moment security 0 1
-      standard (named.ordinary old counted was now n standard key c can.told ready long short is_key.whole)
-      (named.unused old counted was now n standard key c can.told ready long short is_key.whole)
-      (named.edited-making old counted was now n standard key c can.told ready long short is_key.whole)
-      (named.comes-unnamed old counted was now n standard key c can.told ready long short is_key.whole)
-      (parts-held c.streamed n _ (named.holds-streamed old counted was now n standard key c can.told ready long short is_key.whole))
+  pub makes : MakesNode (making_wants directory n) old c.bodied before after n directory (new_node directory moment security)
+  makes = node-made directory (making_wants directory n) old c.bodied before after n (sequence_at_first (stored_sequence (old.block n)))
+      moment security (cluster_bytes old.layout) standard
+      (named.ordinary old counted was now n standard key directory c can.told ready long short is_key.whole)
+      (named.unused old counted was now n standard key directory c can.told ready long short is_key.whole)
+      (named.edited-making old counted was now n standard key directory c can.told ready long short is_key.whole)
+      (named.comes-unnamed old counted was now n standard key directory c can.told ready long short is_key.whole)
+      (parts-held c.bodied n (bodied_parts directory (cluster_bytes old.layout) n standard)
+      (named.holds-bodied old counted was now n standard key directory c can.told ready long short is_key.whole))
       is_standard
 
   -- THE ENTRY
@@ -106,7 +111,7 @@ module _ (old new : VolumeView) (was now : Mounted) (dir n : ℕ) (node : Node) 
   pub ready-new : IsReady new after
   ready-new = entry.ready
 
-  pub own-parts-now : parts (records_of new) n ≡ new_parts n standard key
+  pub own-parts-now : parts (records_of new) n ≡ new_parts directory (cluster_bytes old.layout) n standard key
   own-parts-now = entry.others n (λ e. file.other (sym e)) ∙ file.own
 
   pub link-is : link_of u.item ≡ link_with n (sequence_at_first (stored_sequence (old.block n))) name
@@ -116,30 +121,30 @@ module _ (old new : VolumeView) (was now : Mounted) (dir n : ℕ) (node : Node) 
       λ i. record { file = file_is i; name = called i }
 
   -- the items of the directory stay until then
-  keeps : KeepsItems c.streamed counted dir
+  keeps : KeepsItems c.bodied counted dir
   keeps =
-      let sets = named.sets-links old counted was now n standard key c can.told ready long short is_key.whole in
-      let naming = named.edited-naming old counted was now n standard key c can.told ready long short is_key.whole in
-      let streamed = named.ready-streamed old counted was now n standard key c can.told ready long short is_key.whole in
-      let both : Edited (is_key_of n) (naming_wants n) c.streamed counted after after =
-      Edited-more (either (is_name_key_of n) no_key) (is_key_of n) (naming_wants n) (naming_wants n) c.streamed counted after after
+      let sets = named.sets-links old counted was now n standard key directory c can.told ready long short is_key.whole in
+      let naming = named.edited-naming old counted was now n standard key directory c can.told ready long short is_key.whole in
+      let bodied = named.ready-bodied old counted was now n standard key directory c can.told ready long short is_key.whole in
+      let both : Edited (is_key_of n) (naming_wants n) c.bodied counted after after =
+      Edited-more (either (is_name_key_of n) no_key) (is_key_of n) (naming_wants n) (naming_wants n) c.bodied counted after after
       (λ other e. or_from (is_name_key_of n other) false (no-name n other e) refl) (within-same (naming_wants n))
-      (Edited-then (is_name_key_of n) no_key (naming_wants n) nothing (naming_wants n) c.streamed c.named counted after after after
+      (Edited-then (is_name_key_of n) no_key (naming_wants n) nothing (naming_wants n) c.bodied c.named counted after after after
       (within-nothing (naming_wants n)) naming sets.edited) in
-      items-kept (either is_room_key (is_key_of n)) c.streamed counted both.kept
-      (λ i. 512 * both.volume.cluster_sectors i) streamed.bases streamed.editable.readable file.ready.editable.readable
+      items-kept (either is_room_key (is_key_of n)) c.bodied counted both.kept
+      (λ i. 512 * both.volume.cluster_sectors i) bodied.bases bodied.editable.readable file.ready.editable.readable
       (or_from (is_room_key (key_of UPCASE DATA [])) (UPCASE == n) refl (ne_eqb UPCASE n
-      (between.no-case old counted was now dir n node units standard key moment can right is_key long c)))
+      (between.no-case old counted was now dir n node units standard key moment directory can right is_key long c)))
       dir (other-index n dir INDEX_ROOT file.other refl) (other-index n dir INDEX_ALLOCATION file.other refl)
       (other-index n dir BITMAP file.other refl)
 
   -- it tells what the file does
   standard-now : standard_of (parts (records_of new) n) ≡ standard
-  standard-now = ap standard_of own-parts-now
+  standard-now = ap standard_of own-parts-now ∙ standard-new directory (cluster_bytes old.layout) n standard key
 
   flags-now : bit_and (u32_at u.item.key 0x38) SHOWN_FLAGS ≡ standard_flags standard
   flags-now = ap (λ (k : List ℕ). bit_and (u32_at k 0x38) SHOWN_FLAGS) u.key_is ∙ ap (λ (f : ℕ). bit_and f SHOWN_FLAGS) is_key.flags
-      ∙ sym is_standard.flags
+      ∙ shown-flags directory moment security ∙ sym is_standard.flags
 
   pub current : IsCurrent new n u.item.key
   current = record {
@@ -148,17 +153,18 @@ module _ (old new : VolumeView) (was now : Mounted) (dir n : ℕ) (node : Node) 
     flags = flags-now ∙ sym (ap standard_flags standard-now);
     sizes = ap (λ (k : List ℕ). (u64_at k 0x28, u64_at k 0x30)) u.key_is
         ∙ (λ i. (is_key.allocated i, is_key.real i))
+        ∙ sizes-new directory (cluster_bytes old.layout) n standard key
         ∙ sym (ap (λ (xs : List Part). stream_sizes (first_part (filter (is_of DATA []) xs))) own-parts-now);
   }
 
   -- ITS NAME
-  pub adds : AddsLink (naming_wants n) c.streamed new after after n name
-  adds = add-link (naming_wants n) nothing nothing (naming_wants n) c.streamed c.named counted new after after after after n name
+  pub adds : AddsLink (naming_wants n) c.bodied new after after n name
+  adds = add-link (naming_wants n) nothing nothing (naming_wants n) c.bodied c.named counted new after after after after n name
       within-both
-      (named.made_numbers old counted was now n standard key c can.told ready long short is_key.whole)
-      (named.comes-unnamed old counted was now n standard key c can.told ready long short is_key.whole).now_at
-      (named.adds-name old counted was now n standard key c can.told ready long short is_key.whole name is_key.name)
-      (named.sets-links old counted was now n standard key c can.told ready long short is_key.whole)
+      (named.made_numbers old counted was now n standard key directory c can.told ready long short is_key.whole)
+      (named.comes-unnamed old counted was now n standard key directory c can.told ready long short is_key.whole).now_at
+      (named.adds-name old counted was now n standard key directory c can.told ready long short is_key.whole name is_key.name)
+      (named.sets-links old counted was now n standard key directory c can.told ready long short is_key.whole)
       keeps u.item changes link-is current
     where
       within-both : Within (also (also (naming_wants n) nothing) nothing) (naming_wants n)
@@ -171,10 +177,11 @@ module _ (old new : VolumeView) (was now : Mounted) (dir n : ℕ) (node : Node) 
       }
 
   -- BOTH
-  pub edited : Edited (is_made_key n dir) (made_wants n) old new before after
-  edited = Edited-then (is_key_of n) (is_index_key_of dir) (made_wants n) nothing (made_wants n) old counted new before after after
-      (within-nothing (made_wants n))
-      (between.edited old counted was now dir n node units standard key moment can right is_key long c) changes.edited
+  pub edited : Edited (is_made_key n dir) (made_wants directory n) old new before after
+  edited = Edited-then (is_key_of n) (is_index_key_of dir) (made_wants directory n) nothing (made_wants directory n) old counted new before
+      after after
+      (within-nothing (made_wants directory n))
+      (between.edited old counted was now dir n node units standard key moment directory can right is_key long c) changes.edited
 
-  pub made-calls : IsMadeByCalls old new before after n dir units moment security
-  made-calls = record { mid = c.streamed; makes = makes; adds = adds; edited = edited }
+  pub made-calls : IsMadeByCalls directory old new before after n dir units moment security
+  made-calls = record { mid = c.bodied; makes = makes; adds = adds; edited = edited }

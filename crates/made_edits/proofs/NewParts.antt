@@ -1,26 +1,17 @@
--- THE ATTRIBUTES THAT COME into a new file, as parts, and lists of one and of two of them.
+-- THE NAME THAT COMES into a new file, as a part, and lists of one and of two parts.
 use Rattle.std.proofs.Common.{◌≡◌, ◌≤◌, ℕ, List, [], ◌∷◌, length, map, Some, refl, ap, arith}
 use Rattle.ntfs_def.specs.Attribute.{Body, NonResident, Resident, attribute_at, value_of}
-use Rattle.ntfs_def.specs.declared.kinds.TheConstants.{DATA, FILE_NAME}
+use Rattle.ntfs_def.specs.declared.kinds.TheConstants.{FILE_NAME}
 use Rattle.volume_def.specs.Files.{Part, Value, content_of, part_of}
 use Rattle.record_bytes.specs.AttributeBytes.{part, resident_bytes}
 use Rattle.record_bytes.proofs.ResidentLaws.{IsResident-bytes}
-use Rattle.root_puts.specs.NewFiles.{data_part}
 
--- the bytes of an empty stream, and of a name, in a new file
-abbrev pub stream_bytes : List ℕ
-stream_bytes = resident_bytes DATA [] 1 []
-
+-- the bytes of a name in a new file
 abbrev pub name_bytes : List ℕ → List ℕ
 name_bytes key = resident_bytes FILE_NAME [] 2 key
 
 abbrev pub name_part : ℕ → List ℕ → Part
 name_part n key = part n FILE_NAME [] 2 (Value key)
-
-pub stream-is : (n : ℕ) → part_of n (attribute_at stream_bytes 0) ≡ data_part n 1
-stream-is n =
-    (IsResident-bytes DATA [] 1 [] stream_bytes (omega arith) (omega arith) (omega arith) refl (omega arith)
-    (λ e. absurd (omega (arith, e))) refl).part n
 
 pub name-is : (n : ℕ) (key : List ℕ) → length key ≤ 900 → part_of n (attribute_at (name_bytes key) 0) ≡ name_part n key
 name-is n key short =

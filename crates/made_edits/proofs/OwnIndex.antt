@@ -1,34 +1,15 @@
--- THE INDEX OF THE DIRECTORY of a name: what it keeps.
-use Rattle.std.proofs.Common.{◌≡◌, ◌≤◌, ℕ, true, List, [], codes, refl, Some, ap, arith}
+-- THE INDEX OF A DIRECTORY: a root that is the same, and spots that are clusters.
+use Rattle.std.proofs.Common.{◌≡◌, ℕ, true, List, [], refl, ap, arith}
 use Rattle.std.specs.List.{Contains}
 use Rattle.std.specs.Prelude.{take, unwrap_or}
-use Rattle.ntfs_def.specs.Units.{wide}
-use Rattle.ntfs_def.specs.declared.kinds.TheConstants.{BITMAP, INDEX_ALLOCATION, INDEX_ROOT}
 use Rattle.ntfs_def.specs.declared.run_text.Spot.{Spot}
 use Rattle.ntfs_def.specs.declared.run_text.Spot.TheVariants.{At, Hole, Outside}
 use Rattle.volume_def.specs.Coverage.{times_covered}
-use Rattle.volume_def.specs.Files.{Part, content_value, part_runs, parts_at}
-use Rattle.volume_def.specs.Values.{first_part, spot_at, value_on}
-use Rattle.volume_def.specs.View.{VolumeView}
+use Rattle.volume_def.specs.Files.{Part, content_value, part_runs}
+use Rattle.volume_def.specs.Values.{spot_at}
 use Rattle.volume_def.proofs.ValueLaws.{spot_at-owned}
-use Rattle.tree_model.specs.IndexRoom.{directory_index, index_depth}
 use Rattle.tree_model.specs.StreamRoom.{is_cluster}
-use Rattle.in_place.specs.Named.{is_index_kind}
 use Rattle.root_puts.specs.PutsInRoot.{KeepsRootHead}
-
-abbrev pub names : List ℕ
-names = wide (codes "$I30")
-
--- Its records and their bits are those that there were, and no cluster came; the root keeps its header, and the index is no deeper.
-pub record KeepsOwnIndex (old new : VolumeView) (dir : ℕ) : Type 0 where
-  pub head : (was now : Part) → first_part (parts_at old dir INDEX_ROOT names) ≡ Some was
-      → first_part (parts_at new dir INDEX_ROOT names) ≡ Some now → KeepsRootHead was now
-  pub records : parts_at new dir INDEX_ALLOCATION names ≡ parts_at old dir INDEX_ALLOCATION names
-  pub bits : parts_at new dir BITMAP names ≡ parts_at old dir BITMAP names
-  pub flags : value_on new (parts_at new dir BITMAP names) ≡ value_on old (parts_at old dir BITMAP names)
-  pub depth : index_depth new (directory_index dir) ≤ index_depth old (directory_index dir)
-  pub spots : (kind vcn : ℕ) → is_index_kind kind ≡ true → is_cluster (spot_at (parts_at new dir kind names) vcn) ≡ true
-      → spot_at (parts_at new dir kind names) vcn ≡ spot_at (parts_at old dir kind names) vcn
 
 -- one root
 pub head-same : (was now : Part) → now ≡ was → KeepsRootHead was now

@@ -14,9 +14,10 @@ use Rattle.record_edits.specs.Between.{IsReady}
 use Rattle.root_puts.specs.PutsInRoot.{PutsInRoot, WritesRecord}
 use Rattle.root_puts.proofs.RootLaws as root
 use Rattle.made_edits.specs.Comes.{EntersIndex, EntersRoot}
+use Rattle.made_edits.specs.Left.{KeepsOwnIndex, index_name}
 use Rattle.made_edits.proofs.Entered.{Entered}
 use Rattle.made_edits.proofs.IndexPut.{entered-record}
-use Rattle.made_edits.proofs.OwnIndex.{KeepsOwnIndex, names, no-cluster}
+use Rattle.made_edits.proofs.OwnIndex.{no-cluster}
 
 module _ (old new : VolumeView) (dir : ℕ) (item : Item) (marks : Marks) (ready : IsReady old marks)
     (enters : EntersRoot old new dir item) where
@@ -27,22 +28,22 @@ module _ (old new : VolumeView) (dir : ℕ) (item : Item) (marks : Marks) (ready
   writes = root.writes-record old new marks dir item all
 
   -- the root has no cluster, and the other parts of the index stay
-  spots : (kind vcn : ℕ) → is_cluster (spot_at (parts_at new dir kind names) vcn) ≡ true
-      → spot_at (parts_at new dir kind names) vcn ≡ spot_at (parts_at old dir kind names) vcn
+  spots : (kind vcn : ℕ) → is_cluster (spot_at (parts_at new dir kind index_name) vcn) ≡ true
+      → spot_at (parts_at new dir kind index_name) vcn ≡ spot_at (parts_at old dir kind index_name) vcn
   spots kind vcn is = elim (cases_Bool (INDEX_ROOT == kind)) [
-    | inl own ↦ absurd (no-cluster (parts_at new dir INDEX_ROOT names) (root.root-runs old new marks dir item all) vcn
-        (subst (λ kind. is_cluster (spot_at (parts_at new dir kind names) vcn) ≡ true) (sym (eqb-true INDEX_ROOT kind own)) is))
+    | inl own ↦ absurd (no-cluster (parts_at new dir INDEX_ROOT index_name) (root.root-runs old new marks dir item all) vcn
+        (subst (λ kind. is_cluster (spot_at (parts_at new dir kind index_name) vcn) ≡ true) (sym (eqb-true INDEX_ROOT kind own)) is))
     | inr free ↦ ap (λ (xs : List Part). spot_at xs vcn)
-        (root.parts-same old new marks dir item all dir kind names
-        (and_left (INDEX_ROOT == kind) ((dir == dir) && bytes_eq names names) free))
+        (root.parts-same old new marks dir item all dir kind index_name
+        (and_left (INDEX_ROOT == kind) ((dir == dir) && bytes_eq index_name index_name) free))
   ]
 
   own : KeepsOwnIndex old new dir
   own = record {
     head = root.root-kept old new marks dir item all;
-    records = root.parts-same old new marks dir item all dir INDEX_ALLOCATION names refl;
-    bits = root.parts-same old new marks dir item all dir BITMAP names refl;
-    flags = root.values-same old new marks dir item all dir BITMAP names refl refl;
+    records = root.parts-same old new marks dir item all dir INDEX_ALLOCATION index_name refl;
+    bits = root.parts-same old new marks dir item all dir BITMAP index_name refl;
+    flags = root.values-same old new marks dir item all dir BITMAP index_name refl refl;
     depth = enters.grows.puts.depth;
     spots = λ kind vcn index is. spots kind vcn is;
   }

@@ -1,5 +1,5 @@
 -- THE VOLUME IS SOUND behind the two calls, reads as the machine's tree, and attributes of the directory can be set.
-use Rattle.std.proofs.Common.{◌≡◌, ◌≢◌, ℕ, true, false, List, length, Some, refl, ap, subst, ◌∙◌, arith}
+use Rattle.std.proofs.Common.{◌≡◌, ◌≢◌, ℕ, Bool, true, false, List, length, Some, refl, ap, subst, ◌∙◌, arith}
 use Rattle.std.specs.List.{Contains}
 use Rattle.ntfs_def.specs.FileName.{FileName}
 use Rattle.ntfs_def.specs.declared.records.TheConstants.{ROOT}
@@ -42,9 +42,10 @@ use Rattle.made_edits.proofs.ShownDirectory.{directory-reference}
 use Rattle.made_edits.proofs.StoredAfter as after_all
 
 module _ (old new : VolumeView) (was now : Mounted) (dir n : ℕ) (node : Node) (units standard key : List ℕ) (moment security : ℕ)
-    (can : CanMake old dir node units) (right : AreRight old (marks_of was)) (is_key : IsNewKey old dir units moment key)
-    (is_standard : IsNewStandard false moment security standard) (long : length standard ≡ 72)
-    (u : ComesUnder old new was now n dir standard key) where
+    (directory : Bool) (can : CanMake old dir node units) (right : AreRight old (marks_of was))
+    (is_key : IsNewKey old directory dir units moment key)
+    (is_standard : IsNewStandard directory moment security standard) (long : length standard ≡ 72)
+    (u : ComesUnder directory old new was now n dir standard key) where
   abbrev before : Marks
   before = marks_of was
 
@@ -52,26 +53,26 @@ module _ (old new : VolumeView) (was now : Mounted) (dir n : ℕ) (node : Node) 
   after = marks_of now
 
   abbrev mid : VolumeView
-  mid = u.comes.streamed
+  mid = u.comes.bodied
 
   abbrev made_node : Node
-  made_node = new_node false moment security
+  made_node = new_node directory moment security
 
   abbrev name : FileName
   name = new_name old dir units
 
-  makes : MakesNode (making_wants n) old mid before after n false made_node
-  makes = calls.makes old new was now dir n node units standard key moment security can right is_key is_standard long u
+  makes : MakesNode (making_wants directory n) old mid before after n directory made_node
+  makes = calls.makes old new was now dir n node units standard key moment security directory can right is_key is_standard long u
 
   adds : AddsLink (naming_wants n) mid new after after n name
-  adds = calls.adds old new was now dir n node units standard key moment security can right is_key is_standard long u
+  adds = calls.adds old new was now dir n node units standard key moment security directory can right is_key is_standard long u
 
   -- BETWEEN CALLS
   between0 : IsBetween old
   between0 = between-sound old (sound-whole old can.parent.sound)
 
   between1 : IsBetween mid
-  between1 = between-makes (making_wants n) old mid before after n false made_node makes between0
+  between1 = between-makes (making_wants directory n) old mid before after n directory made_node makes between0
 
   parent0 : is_directory_in (records_of old) name.parent ≡ true
   parent0 = directory-reference old dir node can.parent.there can.directory
@@ -94,7 +95,7 @@ module _ (old new : VolumeView) (was now : Mounted) (dir n : ℕ) (node : Node) 
   pub reads : read new ≡ add_link (link_to n dir units) (with_node n made_node (read old))
   reads =
       read-adds (naming_wants n) mid new after after n name adds between1 away (is_shown mid n made_node makes.node_is).shown shown1
-      ∙ ap (add_link (link_for n name)) (read-makes (making_wants n) old mid before after n false made_node makes between0)
+      ∙ ap (add_link (link_for n name)) (read-makes (making_wants directory n) old mid before after n directory made_node makes between0)
       ∙ ap (λ l. add_link l (with_node n made_node (read old))) (link-new n name refl)
 
   -- THE CLAUSES
@@ -105,7 +106,7 @@ module _ (old new : VolumeView) (was now : Mounted) (dir n : ℕ) (node : Node) 
         made = records_of mid;
         named = records_of new;
         sequence = makes.sequence;
-        directory = false;
+        directory = directory;
         comes = makes.comes;
         gets = adds.gets;
         kept = KeepsNames-same (records_of new);
@@ -114,24 +115,28 @@ module _ (old new : VolumeView) (was now : Mounted) (dir n : ℕ) (node : Node) 
   module _ (stored : AreStored old was.clusters was.records was.upcase) where
     pub sound : IsSound new
     sound = sound-stored new (sound-by new between2 (λ k. (clauses-made k).1))
-        (after_all.bits-now old new was now dir n node units standard key moment security can right is_key is_standard long u stored)
+        (after_all.bits-now old new was now dir n node units standard key moment security directory can right is_key is_standard long u
+        stored)
 
     -- THE DIRECTORY
     other : dir ≢ n
-    other = (calls.file old new was now dir n node units standard key moment security can right is_key is_standard long u).other
+    other = (calls.file old new was now dir n node units standard key moment security directory can right is_key is_standard long u).other
 
     there : node_at new dir ≡ Some node
     there = node-by old new _ dir reads (get-other (read old) n dir made_node other) ∙ can.parent.there
 
     names-dir : names_of (records_of new) dir ≡ names_of (records_of old) dir
     names-dir =
-        after_all.names-left old new was now dir n node units standard key moment security can right is_key is_standard long u dir other
+        after_all.names-left old new was now dir n node units standard key moment security directory can right is_key is_standard long u
+        dir other
 
-    pub made : IsMade old new was now n dir node units moment security
+    pub made : IsMade directory old new was now n dir node units moment security
     made =
-        let ready = calls.ready-new old new was now dir n node units standard key moment security can right is_key is_standard long u in
+        let ready = calls.ready-new old new was now dir n node units standard key moment security directory can right is_key is_standard
+        long u in
         record {
-          calls = calls.made-calls old new was now dir n node units standard key moment security can right is_key is_standard long u;
+          calls = calls.made-calls old new was now dir n node units standard key moment security directory can right is_key is_standard
+              long u;
           sound = sound;
           right = ready.editable.right;
           can = record {
@@ -142,7 +147,9 @@ module _ (old new : VolumeView) (was now : Mounted) (dir n : ℕ) (node : Node) 
             elsewhere = λ name c. can.parent.elsewhere name (subst (λ xs. Contains xs name) names-dir c);
           };
           reads = reads;
-          stored = after_all.stored-now old new was now dir n node units standard key moment security can right is_key is_standard long u
+          stored = after_all.stored-now old new was now dir n node units standard key moment security directory can right is_key
+              is_standard long u
               stored;
-          leaves = after_all.left old new was now dir n node units standard key moment security can right is_key is_standard long u;
+          leaves = after_all.left old new was now dir n node units standard key moment security directory can right is_key is_standard long
+              u;
         }

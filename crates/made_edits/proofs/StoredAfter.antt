@@ -58,30 +58,31 @@ at-place xs ys k d lt same long =
     some_same (sym (slice_get-get_or xs k d lt) ∙ same ∙ slice_get-get_or ys k d (omega (arith, lt, long)))
 
 module _ (old new : VolumeView) (was now : Mounted) (dir n : ℕ) (node : Node) (units standard key : List ℕ) (moment security : ℕ)
-    (can : CanMake old dir node units) (right : AreRight old (marks_of was)) (is_key : IsNewKey old dir units moment key)
-    (is_standard : IsNewStandard false moment security standard) (long : length standard ≡ 72)
-    (u : ComesUnder old new was now n dir standard key) where
+    (directory : Bool) (can : CanMake old dir node units) (right : AreRight old (marks_of was))
+    (is_key : IsNewKey old directory dir units moment key)
+    (is_standard : IsNewStandard directory moment security standard) (long : length standard ≡ 72)
+    (u : ComesUnder directory old new was now n dir standard key) where
   abbrev before : Marks
   before = marks_of was
 
   abbrev after : Marks
   after = marks_of now
 
-  abbrev c : ComesNamed old u.counted was now n standard key
+  abbrev c : ComesNamed directory old u.counted was now n standard key
   c = u.comes
 
   ready : IsReady old before
-  ready = calls.ready old new was now dir n node units standard key moment security can right is_key is_standard long u
+  ready = calls.ready old new was now dir n node units standard key moment security directory can right is_key is_standard long u
 
-  file : HasNewFile old u.counted after n dir standard key
-  file = calls.file old new was now dir n node units standard key moment security can right is_key is_standard long u
+  file : HasNewFile directory old u.counted after n dir standard key
+  file = calls.file old new was now dir n node units standard key moment security directory can right is_key is_standard long u
 
   ordinary : FIRST_ORDINARY ≤ n
   ordinary = c.free.0
 
   -- the entry, and the keys of the attributes that are named
   entry : Entered u.counted new after dir u.item
-  entry = calls.entry old new was now dir n node units standard key moment security can right is_key is_standard long u
+  entry = calls.entry old new was now dir n node units standard key moment security directory can right is_key is_standard long u
 
   index-away : NamesOthers (is_index_key_of dir) n
   index-away f kind name is same =
@@ -148,9 +149,10 @@ module _ (old new : VolumeView) (was now : Mounted) (dir n : ℕ) (node : Node) 
   -- behind the flag the bitmap of records was not written
   rows-kept : value_on new (record_bits new) ≡ value_on c.flagged (record_bits c.flagged)
   rows-kept =
-      let key_short = calls.short old new was now dir n node units standard key moment security can right is_key is_standard long u in
-      let flagged = named.ready-flagged old u.counted was now n standard key c can.told ready long key_short is_key.whole in
-      let behind = named.left-behind old u.counted was now n standard key c can.told ready long key_short is_key.whole in
+      let key_short = calls.short old new was now dir n node units standard key moment security directory can right is_key is_standard long
+      u in
+      let flagged = named.ready-flagged old u.counted was now n standard key directory c can.told ready long key_short is_key.whole in
+      let behind = named.left-behind old u.counted was now n standard key directory c can.told ready long key_short is_key.whole in
       same-value (is_index_key_of dir) u.counted new entry.clusters (owners-of u.counted after file.ready) file.ready.table.some MFT
       BITMAP [] entry.layout (entry.same MFT BITMAP [] refl) refl (inl (λ is. absurd (omega (arith, is))))
       ∙ value-kept (λ k. false) n c.flagged u.counted behind (owners-of c.flagged before flagged) flagged.table.some MFT BITMAP []
@@ -201,7 +203,8 @@ module _ (old new : VolumeView) (was now : Mounted) (dir n : ℕ) (node : Node) 
 
     pub bits-now : StoresBits new
     bits-now =
-        let ready_new = calls.ready-new old new was now dir n node units standard key moment security can right is_key is_standard long u in
+        let ready_new = calls.ready-new old new was now dir n node units standard key moment security directory can right is_key
+        is_standard long u in
         bits-stored new after ready_new.editable (record {
           clusters = stored-now.clusters_are;
           records = λ k low inside. ap (λ flags. slice_get flags k) stored-now.records_are;

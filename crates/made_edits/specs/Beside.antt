@@ -1,8 +1,9 @@
 -- WHAT ELSE STAYS where a file came in record n under a name of directory `dir`: streams gain no cluster, names their values, indexes their
 -- headers, records and bits, and the keys of $R and $O are those that were there.
-use Rattle.std.specs.Prelude.{◌≡◌, ◌≢◌, ℕ, List, [], ◌∷◌, None, IsSomeAnd, false, length, slice_index, true}
+use Rattle.std.specs.Prelude.{◌≡◌, ◌≢◌, ℕ, Bool, List, [], ◌∷◌, None, IsSomeAnd, false, if◌then◌else◌, length, slice_index, true}
 use Rattle.std.specs.Str.{bytes_eq}
 use Rattle.volume_def.specs.Files.{Value, parts, parts_at, record_on, records_of}
+use Rattle.volume_def.specs.Table.{cluster_bytes}
 use Rattle.volume_def.specs.Values.{spot_at}
 use Rattle.volume_def.specs.View.{VolumeView}
 use Rattle.ntfs_def.specs.declared.kinds.TheConstants.{FILE_NAME, INDEX_ALLOCATION}
@@ -22,6 +23,7 @@ use Rattle.edit_def.specs.Kept.{key_of, told_by, told_names}
 use Rattle.in_place.specs.Indexes.{KeepsIndexIfThere}
 use Rattle.in_place.specs.Kept.{KeepsKeys, KeepsNamesBut, is_shown_byte}
 use Rattle.in_place.specs.Nodes.{IsNewFile, IsNewName}
+use Rattle.made_edits.specs.Comes.{first_flags}
 use Rattle.made_edits.specs.Between.{new_parts}
 use Rattle.made_edits.specs.Left.{is_entry_key}
 
@@ -33,10 +35,11 @@ pub record HasNewItem (old new : VolumeView) (n dir : ℕ) (key : List ℕ) : Ty
   pub current : IsCurrent new n item.key
   pub items : (was now : List Item) → HasItems old dir was → HasItems new dir now → Replaces was now [] (item ∷ [])
 
-pub record KeepsRest (old new : VolumeView) (n dir : ℕ) (standard key : List ℕ) : Type 0 where
-  -- the new file: its record is a file's, counted once, and these are its parts
-  pub base : IsSomeAnd (record_on new n) (λ r. (r.header.flags ≡ 1) × (r.header.links ≡ 1))
-  pub own : parts (records_of new) n ≡ new_parts n standard key
+pub record KeepsRest (directory : Bool) (old new : VolumeView) (n dir : ℕ) (standard key : List ℕ) : Type 0 where
+  pub layout : new.layout ≡ old.layout
+  -- the new file: its record is a file's, or a directory's, counted once, and these are its parts
+  pub base : IsSomeAnd (record_on new n) (λ r. (r.header.flags ≡ (if directory then 3 else 1)) × (r.header.links ≡ 1))
+  pub own : parts (records_of new) n ≡ new_parts directory (cluster_bytes old.layout) n standard key
   pub none : parts (records_of old) n ≡ []
   -- streams: what lies in a cluster lay there
   pub spots : (f kind : ℕ) (name : List ℕ) (vcn : ℕ) → is_cluster (spot_at (parts_at new f kind name) vcn) ≡ true
@@ -51,14 +54,14 @@ pub record KeepsRest (old new : VolumeView) (n dir : ℕ) (standard key : List �
   pub points : KeepsKeys old (point_index old) new (point_index new) [] None
   pub object_ids : KeepsKeys old (object_id_index old) new (object_id_index new) [] None
 
--- THE VALUE OF ITS $STANDARD_INFORMATION has no flag but that of a new file, and zeros where the tree shows nothing.
-pub record IsPlainStandard (standard : List ℕ) : Type 0 where
+-- THE VALUE OF ITS $STANDARD_INFORMATION has no flag but that of a new file, a directory none, and zeros where the tree shows nothing.
+pub record IsPlainStandard (directory : Bool) (standard : List ℕ) : Type 0 where
   pub long : length standard ≡ 72
-  pub flags : dos_flags standard ≡ 0x20
+  pub flags : dos_flags standard ≡ first_flags directory
   pub zeros : (k : ℕ) → is_shown_byte 72 k ≡ false → slice_index standard k ≡ 0
 
 -- Then the file is a new one as it is to be, and its name too.
-pub record IsFreshFile (view : VolumeView) (n : ℕ) (key : List ℕ) : Type 0 where
-  pub file : IsNewFile view false n
-  pub name : IsNewName false key
+pub record IsFreshFile (directory : Bool) (view : VolumeView) (n : ℕ) (key : List ℕ) : Type 0 where
+  pub file : IsNewFile view directory n
+  pub name : IsNewName directory key
   pub told : told_names view n ≡ told_by (part n FILE_NAME [] 2 (Value key)) ∷ []

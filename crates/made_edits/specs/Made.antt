@@ -1,5 +1,5 @@
 -- A FILE MADE UNDER ONE NAME: as calls, and what the volume is then.
-use Rattle.std.specs.Prelude.{◌≡◌, ◌||◌, ℕ, Bool, false, List}
+use Rattle.std.specs.Prelude.{◌≡◌, ◌||◌, ℕ, Bool, List}
 use Rattle.ntfs_def.specs.FileName.{FileName}
 use Rattle.volume_def.specs.Sound.{IsSound}
 use Rattle.volume_def.specs.View.{VolumeView}
@@ -29,19 +29,21 @@ abbrev pub is_made_key : ℕ → ℕ → Key → Bool
 is_made_key n dir key = is_key_of n key || is_index_key_of dir key
 
 -- THE TWO CALLS: the file comes as a new node of the machine, and then it gets its name; both are one edit.
-pub record IsMadeByCalls (old new : VolumeView) (before after : Marks) (n dir : ℕ) (units : List ℕ) (moment security : ℕ) : Type 0 where
+pub record IsMadeByCalls (directory : Bool) (old new : VolumeView) (before after : Marks) (n dir : ℕ) (units : List ℕ)
+    (moment security : ℕ) : Type 0 where
   pub mid : VolumeView
-  pub makes : MakesNode (making_wants n) old mid before after n false (new_node false moment security)
+  pub makes : MakesNode (making_wants directory n) old mid before after n directory (new_node directory moment security)
   pub adds : AddsLink (naming_wants n) mid new after after n (new_name old dir units)
-  pub edited : Edited (is_made_key n dir) (made_wants n) old new before after
+  pub edited : Edited (is_made_key n dir) (made_wants directory n) old new before after
 
 -- WHAT THE VOLUME IS THEN: sound, with these bits in memory, which are stored; attributes of the directory can be set; and it reads as
 -- before but for the node and the link, under a number that the machine may choose. The rest is left alone.
-pub record IsMade (old new : VolumeView) (was now : Mounted) (n dir : ℕ) (node : Node) (units : List ℕ) (moment security : ℕ) : Type 0 where
-  pub calls : IsMadeByCalls old new (marks_of was) (marks_of now) n dir units moment security
+pub record IsMade (directory : Bool) (old new : VolumeView) (was now : Mounted) (n dir : ℕ) (node : Node) (units : List ℕ)
+    (moment security : ℕ) : Type 0 where
+  pub calls : IsMadeByCalls directory old new (marks_of was) (marks_of now) n dir units moment security
   pub sound : IsSound new
   pub right : AreRight new (marks_of now)
   pub can : CanSet new dir node
-  pub reads : read new ≡ add_link (link_to n dir units) (with_node n (new_node false moment security) (read old))
+  pub reads : read new ≡ add_link (link_to n dir units) (with_node n (new_node directory moment security) (read old))
   pub stored : AreStored new now.clusters now.records now.upcase
   pub leaves : LeavesOthers old new n dir

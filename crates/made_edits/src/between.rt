@@ -1,5 +1,5 @@
 //! What stands between the calls by which a file comes.
-ghost use Rattle.std.specs.Prelude.{◌≡◌, ℕ, List, length};
+ghost use Rattle.std.specs.Prelude.{◌≡◌, ℕ, Bool, List, length};
 ghost use Rattle.volume_def.specs.View.{VolumeView};
 ghost use Rattle.mft_table.specs.declared.mounted.Mounted.{Mounted};
 ghost use Rattle.mft_table.specs.FreeRecords.{IsOrdinaryFree};
@@ -15,7 +15,8 @@ ghost use Rattle.made_edits.specs.Comes.{CanMake, ComesNamed, IsNewKey};
 pub fn between_made()
     ensures flagged { (old new : VolumeView) (was : Mounted) (dir n : ℕ) (node : Node) (units : List ℕ) → CanMake old dir node units
         → AreRight old (marks_of was) → IsOrdinaryFree was.records n → StoresRecordBit old new n → IsFlagged old new (marks_of was) n }
-    ensures named { (old new : VolumeView) (was now : Mounted) (dir n : ℕ) (node : Node) (units standard key : List ℕ) (moment : ℕ)
-        → CanMake old dir node units → AreRight old (marks_of was) → IsNewKey old dir units moment key → length standard ≡ 72
-        → ComesNamed old new was now n standard key → HasNewFile old new (marks_of now) n dir standard key }
+    ensures named { (old new : VolumeView) (was now : Mounted) (dir n : ℕ) (node : Node) (units standard key : List ℕ)
+        (moment : ℕ) (directory : Bool)
+        → CanMake old dir node units → AreRight old (marks_of was) → IsNewKey old directory dir units moment key → length standard ≡ 72
+        → ComesNamed directory old new was now n standard key → HasNewFile directory old new (marks_of now) n dir standard key }
 {}

@@ -1,5 +1,5 @@
 //! What is left alone where a file came under a name.
-ghost use Rattle.std.specs.Prelude.{◌≡◌, ℕ, List, false, length};
+ghost use Rattle.std.specs.Prelude.{◌≡◌, ℕ, Bool, List, length};
 ghost use Rattle.volume_def.specs.View.{VolumeView};
 ghost use Rattle.mft_table.specs.declared.mounted.Mounted.{Mounted};
 ghost use Rattle.tree_model.specs.declared.tree.Node.{Node};
@@ -15,8 +15,9 @@ ghost use Rattle.made_edits.specs.Left.{LeavesRest};
 /// rightly.
 pub fn left_made()
     ensures { (old new : VolumeView) (was now : Mounted) (dir n : ℕ) (node : Node) (units standard key : List ℕ) (moment security : ℕ)
-        → CanMake old dir node units → AreRight old (marks_of was) → IsNewKey old dir units moment key
-        → IsNewStandard false moment security standard → length standard ≡ 72 → ComesUnder old new was now n dir standard key
+        (directory : Bool) → CanMake old dir node units → AreRight old (marks_of was) → IsNewKey old directory dir units moment key
+        → IsNewStandard directory moment security standard → length standard ≡ 72
+        → ComesUnder directory old new was now n dir standard key
         → LeavesRest old new n dir }
 {}
 
@@ -25,9 +26,11 @@ pub fn left_made()
 /// the file is a new one as it is to be, and so is its name (`fresh`).
 pub fn rest_made()
     ensures rest { (old new : VolumeView) (was now : Mounted) (dir n : ℕ) (node : Node) (units standard key : List ℕ) (moment security : ℕ)
-        → CanMake old dir node units → AreRight old (marks_of was) → IsNewKey old dir units moment key
-        → IsNewStandard false moment security standard → length standard ≡ 72 → ComesUnder old new was now n dir standard key
-        → KeepsRest old new n dir standard key }
-    ensures fresh { (old new : VolumeView) (n dir : ℕ) (units standard key : List ℕ) (moment : ℕ) → IsNewKey old dir units moment key
-        → IsPlainStandard standard → KeepsRest old new n dir standard key → IsFreshFile new n key }
+        (directory : Bool) → CanMake old dir node units → AreRight old (marks_of was) → IsNewKey old directory dir units moment key
+        → IsNewStandard directory moment security standard → length standard ≡ 72
+        → ComesUnder directory old new was now n dir standard key
+        → KeepsRest directory old new n dir standard key }
+    ensures fresh { (old new : VolumeView) (n dir : ℕ) (units standard key : List ℕ) (moment : ℕ) (directory : Bool)
+        → IsNewKey old directory dir units moment key → IsPlainStandard directory standard
+        → KeepsRest directory old new n dir standard key → IsFreshFile directory new n key }
 {}

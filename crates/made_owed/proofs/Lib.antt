@@ -1,6 +1,8 @@
 pub mod MadeBill
 pub mod MadeTree
 pub mod MadeBase
+pub mod EitherCommand
+pub mod NewRoot
 pub mod MadeCalls
 pub mod MadeRecords
 pub mod MadeCost

@@ -28,8 +28,8 @@ use Rattle.made_edits.proofs.RestMade.{keeps-rest}
 use Rattle.made_edits.proofs.SoundMade as laws
 use Rattle.made_owed.specs.MadeOwed.{SetsBehindMade, at_name, between}
 
-module _ (before next : State) (dir : ℕ) (units : List ℕ) (made : ℕ) (mid staged : VolumeView)
-    (s : SetsBehindMade before next dir units made mid staged) where
+module _ (directory : Bool) (before next : State) (dir : ℕ) (units : List ℕ) (made : ℕ) (mid staged : VolumeView)
+    (s : SetsBehindMade directory before next dir units made mid staged) where
   abbrev pub old : VolumeView
   old = before.view
 
@@ -59,30 +59,31 @@ module _ (before next : State) (dir : ℕ) (units : List ℕ) (made : ℕ) (mid 
   security = security_of tree dir
 
   -- THE FILE
-  pub is_made : IsMade old mid s.was s.now made dir s.node units now security
+  pub is_made : IsMade directory old mid s.was s.now made dir s.node units now security
   is_made =
-      laws.made old mid s.was s.now dir made s.node units s.standard s.key now security s.can s.right s.is_key s.is_standard s.long s.comes
-      s.stored
+      laws.made old mid s.was s.now dir made s.node units s.standard s.key now security directory s.can s.right s.is_key s.is_standard
+      s.long s.comes s.stored
 
   pub left : LeavesRest old mid made dir
   left =
-      leaves-rest old mid s.was s.now dir made s.node units s.standard s.key now security s.can s.right s.is_key s.is_standard s.long
-      s.comes
+      leaves-rest old mid s.was s.now dir made s.node units s.standard s.key now security directory s.can s.right s.is_key s.is_standard
+      s.long s.comes
 
-  pub rest : KeepsRest old mid made dir s.standard s.key
+  pub rest : KeepsRest directory old mid made dir s.standard s.key
   rest =
-      keeps-rest old mid s.was s.now dir made s.node units s.standard s.key now security s.can s.right s.is_key s.is_standard s.long
-      s.comes
+      keeps-rest old mid s.was s.now dir made s.node units s.standard s.key now security directory s.can s.right s.is_key s.is_standard
+      s.long s.comes
 
-  pub fresh : IsFreshFile mid made s.key
-  fresh = fresh-file old mid made dir units s.standard s.key now s.is_key s.plain rest
+  pub fresh : IsFreshFile directory mid made s.key
+  fresh = fresh-file old mid made dir units s.standard s.key now directory s.is_key s.plain rest
 
   pub ordinary : 24 ≤ made
   ordinary = is_made.calls.makes.ordinary
 
   pub other : dir ≢ made
   other =
-      (stands.has-new-file old s.comes.counted s.was s.now dir made s.node units s.standard s.key now s.can s.right s.is_key s.long
+      (stands.has-new-file old s.comes.counted s.was s.now dir made s.node units s.standard s.key now directory s.can s.right s.is_key
+      s.long
       s.comes.comes).other
 
   pub free : record_on old made ≡ None
@@ -92,10 +93,10 @@ module _ (before next : State) (dir : ℕ) (units : List ℕ) (made : ℕ) (mid 
   inside = let held = is_shown old dir s.node s.can.parent.there in record_at-inside old dir held.base held.at
 
   -- THE TREE BETWEEN
-  pub reads : read mid ≡ add_link (link_to made dir units) (with_node made (new_node false now security) tree)
+  pub reads : read mid ≡ add_link (link_to made dir units) (with_node made (new_node directory now security) tree)
   reads =
       is_made.reads
-      ∙ ap (λ (t : Tree). add_link (link_to made dir units) (with_node made (new_node false now security) t)) s.stands.reading
+      ∙ ap (λ (t : Tree). add_link (link_to made dir units) (with_node made (new_node directory now security) t)) s.stands.reading
 
   -- THE LAYOUT
   pub layout : mid.layout ≡ old.layout

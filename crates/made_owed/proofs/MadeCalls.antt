@@ -1,6 +1,6 @@
--- ALL CALLS of `create` together: the file and its entry, what set the directory behind them, and the first mark.
+-- ALL CALLS of `create` and `mkdir` together: the file and its entry, what set the directory behind them, and the first mark.
 use Rattle.std.proofs.Common.{◌≡◌, ◌≢◌, ◌<◌, ◌≤◌, ◌+◌, ◌==◌, ◌&&◌, ◌||◌, ℕ, zero, suc, Bool, true, false, cond, List, [], ◌∷◌, codes}
-use Rattle.std.proofs.Common.{Option, Some, None, refl, sym, ap, subst, ◌∙◌, arith, length}
+use Rattle.std.proofs.Common.{Option, Some, None, refl, sym, ap, subst, ◌∙◌, arith, length, max}
 use Rattle.std.proofs.lemmas.Bool.{and_from, and_parts, and_right, eq-eqb, eqb-true, false_from_ne_true, ne_eqb, or_from, or_left, or_parts}
 use Rattle.std.proofs.lemmas.Bool.{or_right}
 use Rattle.std.specs.Str.{bytes_eq}
@@ -24,7 +24,7 @@ use Rattle.tree_model.specs.Subjects.{Located, at_file}
 use Rattle.tree_model.specs.Tree.{Tree}
 use Rattle.tree_model.specs.declared.command.Command.{Command}
 use Rattle.tree_model.specs.declared.command.Command.TheVariants as c
-use Rattle.edit_def.specs.Account.{AreDistinct, AreTouched, Plan, Wants, Within, also, is_among, nothing, wants_of}
+use Rattle.edit_def.specs.Account.{AreDistinct, AreTouched, Plan, Wants, Within, also, at_file as at_one, is_among, nothing, wants_of}
 use Rattle.edit_def.specs.Edited.{Edited}
 use Rattle.edit_def.specs.Kept.{Key, either, key_of}
 use Rattle.edit_def.specs.Purses.{room_of}
@@ -42,8 +42,9 @@ use Rattle.in_place_owed.proofs.CallsOwed.{tabled-of}
 use Rattle.in_place_owed.proofs.SetKeys.{set-no_room}
 use Rattle.file_room.specs.Made.{made_bill}
 use Rattle.made_edits.specs.Made.{is_made_key}
-use Rattle.made_edits.specs.Wants.{made_wants}
-use Rattle.made_owed.specs.MadeOwed.{SetsBehindMade, at_name}
+use Rattle.made_edits.specs.Wants.{body_units, made_wants}
+use Rattle.made_owed.specs.MadeOwed.{SetsBehindMade, at_name, made_command}
+use Rattle.made_owed.proofs.EitherCommand.{goes-none, key-same}
 use Rattle.made_owed.proofs.MadeBase as base
 use Rattle.made_owed.proofs.MadeBill.{bill-made}
 use Rattle.made_owed.proofs.MadeTree as trees
@@ -68,11 +69,12 @@ depth-few view index = by (root_of view index)
     by (Some root) = let few = levels-few most_depth (other_nodes view index) root.last in omega (arith, few)
 
 -- WHAT IS TAKEN is within the bill.
-made-within : (plan : Plan) (view : VolumeView) (dir made depth : ℕ) (goes : ℕ → Bool) → is_among plan.files made ≡ true
-    → Within (also (made_wants made) nothing) (wants_of plan (made_bill view dir depth) goes (λ f. 0))
-made-within plan view dir made depth goes among = record {
+made-within : (plan : Plan) (view : VolumeView) (directory : Bool) (dir made depth : ℕ) (goes : ℕ → Bool)
+    → is_among plan.files made ≡ true → Within (also (made_wants directory made) nothing)
+    (wants_of plan (made_bill view directory dir depth) goes (at_one made (body_units directory)))
+made-within plan view directory dir made depth goes among = record {
   clusters = omega arith;
-  parts = λ f. few (parts_wanted (made_bill view dir depth)) (omega arith) f (f == made) refl;
+  parts = λ f. few (parts_wanted (made_bill view directory dir depth)) (omega arith) f (f == made) refl;
   units = λ f. omega arith;
   goes = λ f e. cc;
   records = omega arith;
@@ -100,8 +102,8 @@ less-entries false true b true false k g f e = f refl
 less-entries false true b false h k g f e = refl
 less-entries false false b n h k g f e = refl
 
-module _ (before next : State) (dir : ℕ) (units : List ℕ) (made : ℕ) (mid staged : VolumeView)
-    (s : SetsBehindMade before next dir units made mid staged) where
+module _ (directory : Bool) (before next : State) (dir : ℕ) (units : List ℕ) (made : ℕ) (mid staged : VolumeView)
+    (s : SetsBehindMade directory before next dir units made mid staged) where
   abbrev old : VolumeView
   old = before.view
 
@@ -118,7 +120,7 @@ module _ (before next : State) (dir : ℕ) (units : List ℕ) (made : ℕ) (mid 
   files = made ∷ dir ∷ []
 
   other : dir ≢ made
-  other = base.other before next dir units made mid staged s
+  other = base.other directory before next dir units made mid staged s
 
   away : (made == dir) ≡ false
   away = ne_eqb made dir (λ is. other (sym is))
@@ -133,17 +135,19 @@ module _ (before next : State) (dir : ℕ) (units : List ℕ) (made : ℕ) (mid 
       let name = and_parts (bytes_eq k.name (wide (codes "$I30"))) (k.file == dir) kind.1 in
       let its : has_entry_of next.machine.tree files k.file ≡ true =
       ap (has_entry_of next.machine.tree files) (eqb-true k.file dir name.1)
-      ∙ trees.entry-there tree dir made units other next.machine.tree before.machine.now s.moved in
+      ∙ trees.entry-there tree dir made units other directory next.machine.tree before.machine.now s.moved in
       never (and_from (is_index_kind k.kind) _ kind.0 (and_from (bytes_eq k.name (wide (codes "$I30"))) _ name.0
       (or_right (has_entry_of tree files k.file) (has_entry_of next.machine.tree files k.file) its))) free)
 
   inside : (path : List (List ℕ)) (k : Key)
-      → is_changed_key old tree next.machine.tree (c.Create path) (at_name dir units) made k ≡ false → changed k ≡ false
-  inside path k free =
+      → is_changed_key old tree next.machine.tree (made_command directory path) (at_name dir units) made k ≡ false → changed k ≡ false
+  inside path k none =
+      let free = sym (key-same directory old tree next.machine.tree path (at_name dir units) made k) ∙ none in
       let own = or_parts (k.file == made) _ free in
       let outer = or_parts (is_times_key files k) _ own.1 in
       let inner = or_parts (is_directory_key tree next.machine.tree files k) _ outer.1 in
-      let less = trees.entry-less tree dir made units other (read mid) _ (base.reads before next dir units made mid staged s) k.file in
+      let less = trees.entry-less tree dir made units other (read mid) _ (base.reads directory before next dir units made mid staged s)
+      k.file in
       or_from (is_made_key made dir k) (is_set_key (read mid) setter parent k)
       (or_from (k.file == made) (is_index_key_of dir k) own.0 (index-inside k inner.0))
       (or_from (is_times_key (dir ∷ []) k) (is_entries_key (read mid) (dir ∷ []) k)
@@ -154,32 +158,40 @@ module _ (before next : State) (dir : ℕ) (units : List ℕ) (made : ℕ) (mid 
 
   free-low : (f : ℕ) → f < 4 → (kind : ℕ) → changed (key_of f kind []) ≡ false
   free-low f few kind =
-      let ordinary = base.ordinary before next dir units made mid staged s in
+      let ordinary = base.ordinary directory before next dir units made mid staged s in
       or_from (is_made_key made dir (key_of f kind [])) (is_set_key (read mid) setter parent (key_of f kind []))
       (or_from (f == made) (is_index_key_of dir (key_of f kind [])) (ne_eqb f made (λ is. omega (arith, is, few, ordinary)))
       (and_right (is_index_kind kind) false refl))
       (s.behind.firsts f few kind [])
 
   -- BOTH CALLS as one
-  both : (wants : Wants) → Within (also (made_wants made) nothing) wants
+  both : (wants : Wants) → Within (also (made_wants directory made) nothing) wants
       → Edited changed wants old staged (marks_of s.was) (marks_of s.now)
   both wants within =
-      let is = base.is_made before next dir units made mid staged s in
+      let is = base.is_made directory before next dir units made mid staged s in
       let lies = s.behind.stands.apart in
-      Edited-then (is_made_key made dir) (is_set_key (read mid) setter parent) (made_wants made) nothing wants old mid staged
+      Edited-then (is_made_key made dir) (is_set_key (read mid) setter parent) (made_wants directory made) nothing wants old mid staged
       (marks_of s.was) (marks_of s.now) (marks_of s.now) within is.calls.edited
       (rewrite.edited (is_set_key (read mid) setter parent) nothing mid staged (marks_of s.now) s.behind.rewrites lies.owners lies.some
       lies.unnamed (set-no_room (read mid) setter parent (records_of mid) refl s.behind.shown) is.right s.behind.sound)
 
+  -- the units of the name of its body
+  abbrev more : ℕ → ℕ
+  more = at_one made (body_units directory)
+
   -- THE PLAN of the bill: the directory and the new file, which had no part
   abbrev plan : Plan
-  plan = record { size = cluster_bytes old.layout; files = dir ∷ made ∷ []; name = λ g. longest_name (parts (records_of old) g) }
+  plan = record {
+    size = cluster_bytes old.layout;
+    files = dir ∷ made ∷ [];
+    name = λ g. max (longest_name (parts (records_of old) g)) (more g);
+  }
 
   abbrev depth : ℕ
   depth = index_depth old (directory_index dir)
 
-  bill-is : (path : List (List ℕ)) → bill_of old tree (c.Create path) (at_name dir units) ≡ made_bill old dir depth
-  bill-is path = bill-made old tree path dir units (base.inside before next dir units made mid staged s)
+  bill-is : (path : List (List ℕ)) → bill_of old tree (made_command directory path) (at_name dir units) ≡ made_bill old directory dir depth
+  bill-is path = bill-made directory old tree path dir units (base.inside directory before next dir units made mid staged s)
 
   among : is_among plan.files made ≡ true
   among = or_right (made == dir) ((made == made) || false) (or_left (made == made) false (eq-eqb made made refl))
@@ -187,22 +199,24 @@ module _ (before next : State) (dir : ℕ) (units : List ℕ) (made : ℕ) (mid 
   once : AreDistinct plan.files
   once = (or_from (dir == made) false (ne_eqb dir made other) refl, (refl, tt))
 
-  touched-made : AreTouched plan (room_of old plan) plan.files (made_bill old dir depth).touched
+  touched-made : AreTouched plan (room_of old plan) plan.files (made_bill old directory dir depth).touched
   unfolding list_len_of
   touched-made =
-      let none = (base.rest before next dir units made mid staged s).none in
+      let none = (base.rest directory before next dir units made mid staged s).none in
       let len : sum_by list_entry_len (listed_parts (parts (records_of old) made)) ≡ 0 =
       ap (λ (xs : List Part). sum_by list_entry_len (listed_parts xs)) none in
       let name : longest_name (parts (records_of old) made) ≡ 0 = ap longest_name none in
-      (omega arith, omega arith, (omega (arith, len), omega (arith, name), tt))
+      let no_more : more dir ≡ 0 = ap (λ b. cond b (body_units directory) 0) (ne_eqb dir made other) in
+      let its_own : more made ≡ body_units directory = ap (λ b. cond b (body_units directory) 0) (eq-eqb made made refl) in
+      (omega arith, omega (arith, no_more), (omega (arith, len), omega (arith, name, its_own), tt))
 
-  few-records : records_wanted (made_bill old dir depth) ≤ 4096
+  few-records : records_wanted (made_bill old directory dir depth) ≤ 4096
   few-records = let few = depth-few old (directory_index dir) in omega (arith, few)
 
-  pub calls : (path : List (List ℕ)) → CallsOf before next (c.Create path) (at_name dir units) made
+  pub calls : (path : List (List ℕ)) → CallsOf before next (made_command directory path) (at_name dir units) made
   calls path =
-      let bill = bill_of old tree (c.Create path) (at_name dir units) in
-      let goes = goes_by tree (c.Create path) (at_name dir units) in
+      let bill = bill_of old tree (made_command directory path) (at_name dir units) in
+      let goes = goes_by tree (made_command directory path) (at_name dir units) in
       let some = s.can.parent.apart.some in
       record {
         changed = changed;
@@ -210,12 +224,12 @@ module _ (before next : State) (dir : ℕ) (units : List ℕ) (made : ℕ) (mid 
         no_log = free-low LOG_FILE (omega arith) DATA;
         no_mark = free-low VOLUME (omega arith) VOLUME_INFORMATION;
         plan = plan;
-        units = λ f. 0;
+        units = more;
         size = refl;
         large = omega (arith, some);
         apart = once;
-        planned = IsPlanned-by plan (room_of old plan) bill goes (λ f. 0) refl (λ f. omega arith)
-            (λ f is. absurd (never is (and_right (f == 0) false refl)));
+        planned = IsPlanned-by plan (room_of old plan) bill goes more refl (λ f. omega arith)
+            (λ f is. absurd (goes-none directory tree path (at_name dir units) f is));
         touched = subst (λ (b : Bill). AreTouched plan (room_of old plan) plan.files b.touched) (sym (bill-is path)) touched-made;
         few = subst (λ (b : Bill). records_wanted b ≤ 4096) (sym (bill-is path)) few-records;
         tabled = tabled-of before.image old s.stands.volume s.stands.sound;
@@ -223,8 +237,8 @@ module _ (before next : State) (dir : ℕ) (units : List ℕ) (made : ℕ) (mid 
         now = marks_of s.now;
         start = editable-sound old (marks_of s.was) s.stands.sound s.right;
         staged = staged;
-        edited = both (wants_of plan bill goes (λ f. 0))
-            (subst (λ (b : Bill). Within (also (made_wants made) nothing) (wants_of plan b goes (λ f. 0))) (sym (bill-is path))
-            (made-within plan old dir made depth goes among));
+        edited = both (wants_of plan bill goes more)
+            (subst (λ (b : Bill). Within (also (made_wants directory made) nothing) (wants_of plan b goes more)) (sym (bill-is path))
+            (made-within plan old directory dir made depth goes among));
         marked = s.behind.first.marked;
       }

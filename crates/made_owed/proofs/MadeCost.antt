@@ -1,7 +1,7 @@
 -- THE COST: the index of each directory in which the directory has a name has a depth, so what is written of it is paid. Any edit pays for
 -- more sectors than those of the new file.
 use Rattle.std.proofs.Common.{◌≡◌, ◌≤◌, ◌+◌, ◌*◌, ◌==◌, ◌||◌, ℕ, Bool, true, false, List, [], ◌∷◌, filter, length, Option}
-use Rattle.std.proofs.Common.{Some, None, refl, ap, subst, arith}
+use Rattle.std.proofs.Common.{Some, None, refl, sym, ap, subst, arith}
 use Rattle.std.proofs.lemmas.Bool.{or_right, and_from}
 use Rattle.std.proofs.lemmas.List.Elements.{All-contains}
 use Rattle.std.proofs.lemmas.List.Sums.{sum_by-cons}
@@ -33,7 +33,8 @@ use Rattle.session_def.specs.Named.{every_link}
 use Rattle.session_def.specs.State.{State}
 use Rattle.in_place_owed.specs.SetsInPlace.{links_of}
 use Rattle.in_place_owed.proofs.CostLaws.{link-among}
-use Rattle.made_owed.specs.MadeOwed.{SetsBehindMade, at_name, made_sectors}
+use Rattle.made_owed.specs.MadeOwed.{SetsBehindMade, at_name, made_command, made_sectors}
+use Rattle.made_owed.proofs.EitherCommand.{depths-same}
 use Rattle.made_owed.proofs.MadeBase as base
 use Rattle.made_owed.proofs.MadeRecords as records
 use Rattle.made_owed.proofs.MadeTree as trees
@@ -104,20 +105,22 @@ cost-least : (old new : VolumeView) (before next : Tree) (command : Command) (at
 unfolding cost_of
 cost-least old new before next command at made = omega arith
 
-module _ (before next : State) (dir : ℕ) (units : List ℕ) (made : ℕ) (mid staged : VolumeView)
-    (s : SetsBehindMade before next dir units made mid staged) where
+module _ (directory : Bool) (before next : State) (dir : ℕ) (units : List ℕ) (made : ℕ) (mid staged : VolumeView)
+    (s : SetsBehindMade directory before next dir units made mid staged) where
   pub wrote : (path : List (List ℕ)) → next.written ≤ before.written + first_cost before.view
-      + cost_of before.view next.view before.machine.tree next.machine.tree (c.Create path) (at_name dir units) made
+      + cost_of before.view next.view before.machine.tree next.machine.tree (made_command directory path) (at_name dir units)
+      made
   wrote path =
       let tree = before.machine.tree in
-      let command : Command = c.Create path in
+      let command : Command = made_command directory path in
       let at = at_name dir units in
       let deep : links_of tree dir ≤ depths before.view tree command at made =
-      subst (λ t. links_of t dir ≤ depths before.view t command at made) s.stands.reading
-      (making-depth before.view s.stands.sound path dir units made) in
+      subst (λ n. links_of tree dir ≤ n) (sym (depths-same directory before.view tree path at made))
+      (subst (λ t. links_of t dir ≤ depths before.view t (c.Create path) at made) s.stands.reading
+      (making-depth before.view s.stands.sound path dir units made)) in
       let cost = cost-least before.view next.view tree next.machine.tree command at made in
       let set : next.written ≤ before.written + made_sectors + first_cost mid + 12 + 12 * links_of (read mid) dir + 0 = s.behind.wrote in
-      let first = records.first_cost-same before next dir units made mid staged s in
-      let links = trees.links-same tree dir made units (base.other before next dir units made mid staged s) (read mid) _
-      (base.reads before next dir units made mid staged s) in
+      let first = records.first_cost-same directory before next dir units made mid staged s in
+      let links = trees.links-same tree dir made units (base.other directory before next dir units made mid staged s) (read mid) _
+      (base.reads directory before next dir units made mid staged s) in
       omega (arith, deep, cost, set, first, links)

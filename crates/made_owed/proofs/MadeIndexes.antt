@@ -27,7 +27,8 @@ use Rattle.made_edits.proofs.SameRecords.{at-same}
 use Rattle.in_place_owed.proofs.IndexesSet.{directory-owed, extend-owed, index-named}
 use Rattle.made_edits.specs.Beside.{KeepsRest}
 use Rattle.made_edits.specs.Left.{is_entry_key}
-use Rattle.made_owed.specs.MadeOwed.{SetsBehindMade, at_name, between}
+use Rattle.made_owed.specs.MadeOwed.{SetsBehindMade, at_name, between, made_command}
+use Rattle.made_owed.proofs.EitherCommand.{indexes-either}
 use Rattle.made_owed.proofs.MadeBase as base
 use Rattle.made_owed.proofs.MadeItems as items
 
@@ -48,8 +49,8 @@ flags-then k None u e is = tt
 flags-then k (Some x) None e is = cc
 flags-then k (Some x) (Some y) e is = ap (λ (p : Part). p.flags) (some-part (blank_part x) (blank_part y) e) ∙ is
 
-module _ (before next : State) (dir : ℕ) (units : List ℕ) (made : ℕ) (mid staged : VolumeView)
-    (s : SetsBehindMade before next dir units made mid staged) where
+module _ (directory : Bool) (before next : State) (dir : ℕ) (units : List ℕ) (made : ℕ) (mid staged : VolumeView)
+    (s : SetsBehindMade directory before next dir units made mid staged) where
   abbrev old : VolumeView
   old = before.view
 
@@ -66,13 +67,13 @@ module _ (before next : State) (dir : ℕ) (units : List ℕ) (made : ℕ) (mid 
   parent = at_file (read mid) None dir
 
   abbrev named : Key → Bool
-  named = base.named before next dir units made mid staged s
+  named = base.named directory before next dir units made mid staged s
 
   rewrote : Rewrites named mid new
-  rewrote = base.behind before next dir units made mid staged s
+  rewrote = base.behind directory before next dir units made mid staged s
 
-  came_with : KeepsRest old mid made dir s.standard s.key
-  came_with = base.rest before next dir units made mid staged s
+  came_with : KeepsRest directory old mid made dir s.standard s.key
+  came_with = base.rest directory before next dir units made mid staged s
 
   -- the first part of an attribute behind the command
   first-same : (f kind : ℕ) (name : List ℕ)
@@ -134,14 +135,14 @@ module _ (before next : State) (dir : ℕ) (units : List ℕ) (made : ℕ) (mid 
       (extend-owed half next setter parent staged s.behind [] file name long away index found)
 
   pub indexes : (path : List (List ℕ))
-      → KeepsIndexes old new before.machine.tree next.machine.tree (c.Create path) (at_name dir units) made
+      → KeepsIndexes old new before.machine.tree next.machine.tree (made_command directory path) (at_name dir units) made
   indexes path =
       let changes = changes_of old before.machine.tree (c.Create path) (at_name dir units) in
-      record {
-        keys = items.keys-kept before next dir units made mid staged s;
+      indexes-either directory old new before.machine.tree next.machine.tree path (at_name dir units) made (record {
+        keys = items.keys-kept directory before next dir units made mid staged s;
         directories = λ g.
             index-then changes (directory_index g) (came_with.directories changes g)
             (directory-owed half next setter parent staged s.behind [] g);
         points = extend-kept changes (codes "$Reparse") (codes "$R") refl refl refl;
         object_ids = extend-kept changes (codes "$ObjId") (codes "$O") refl refl refl;
-      }
+      })

@@ -63,8 +63,8 @@ record Came (made : ℕ) (key : List ℕ) (files : List ℕ) (mid : VolumeView) 
   stays : (x : Item) → Contains was x → Contains items x
   others : filter (λ x. not (is_one_of files (file_in x))) items ≡ filter (λ x. not (is_one_of files (file_in x))) was
 
-module _ (before next : State) (dir : ℕ) (units : List ℕ) (made : ℕ) (mid staged : VolumeView)
-    (s : SetsBehindMade before next dir units made mid staged) where
+module _ (directory : Bool) (before next : State) (dir : ℕ) (units : List ℕ) (made : ℕ) (mid staged : VolumeView)
+    (s : SetsBehindMade directory before next dir units made mid staged) where
   abbrev old : VolumeView
   old = before.view
 
@@ -84,19 +84,19 @@ module _ (before next : State) (dir : ℕ) (units : List ℕ) (made : ℕ) (mid 
   files = made ∷ dir ∷ []
 
   abbrev named : Key → Bool
-  named = base.named before next dir units made mid staged s
+  named = base.named directory before next dir units made mid staged s
 
   rewrote : Rewrites named mid new
-  rewrote = base.behind before next dir units made mid staged s
+  rewrote = base.behind directory before next dir units made mid staged s
 
   left : LeavesRest old mid made dir
-  left = base.left before next dir units made mid staged s
+  left = base.left directory before next dir units made mid staged s
 
-  came_with : beside.KeepsRest old mid made dir s.standard s.key
-  came_with = base.rest before next dir units made mid staged s
+  came_with : beside.KeepsRest directory old mid made dir s.standard s.key
+  came_with = base.rest directory before next dir units made mid staged s
 
   other : dir ≢ made
-  other = base.other before next dir units made mid staged s
+  other = base.other directory before next dir units made mid staged s
 
   abbrev none_of : List ℕ → Item → Bool
   none_of all x = not (is_one_of all (file_in x))
@@ -107,7 +107,7 @@ module _ (before next : State) (dir : ℕ) (units : List ℕ) (made : ℕ) (mid 
       sym (standard-among (parts (records_of new) made))
       ∙ ap standard_of (at-other named mid new
       rewrote made STANDARD_INFORMATION []
-      (base.times-free before next dir units made mid staged s))
+      (base.times-free directory before next dir units made mid staged s))
       ∙ standard-among (parts (records_of mid) made)
 
   current-behind : (key : List ℕ) → IsCurrent mid made key → IsCurrent new made key
@@ -116,7 +116,7 @@ module _ (before next : State) (dir : ℕ) (units : List ℕ) (made : ℕ) (mid 
     flags = told.flags ∙ ap standard_flags (sym value-same);
     sizes = told.sizes ∙ ap (λ xs. stream_sizes (first_part xs))
         (sym (at-other named mid new
-        rewrote made DATA [] (base.stream-free before next dir units made mid staged s)));
+        rewrote made DATA [] (base.stream-free directory before next dir units made mid staged s)));
   }
 
   pub names-behind : (f : ℕ) → told_names new f ≡ told_names mid f
@@ -124,7 +124,7 @@ module _ (before next : State) (dir : ℕ) (units : List ℕ) (made : ℕ) (mid 
       told-passed named mid new rewrote f
       is_name_told (λ t is.
       ap (λ kind. named (key_of f kind t.name)) (eqb-true t.kind FILE_NAME is)
-      ∙ base.names-free before next dir units made mid staged s f t.name)
+      ∙ base.names-free directory before next dir units made mid staged s f t.name)
 
   module _ (g : ℕ) (was now : List Item) (is : IsDirectory old g) (has : HasItems old g was) (becomes : HasItems new g now) where
     away : g ≢ made
@@ -132,10 +132,10 @@ module _ (before next : State) (dir : ℕ) (units : List ℕ) (made : ℕ) (mid 
       where
         by : (o : Option Record) → record_on old g ≡ o → IsSomeAnd o (λ r. IsTrue (is_base r) × IsTrue (is_directory r)) → g ≢ made
         by None at is = absurd is
-        by (Some r) at is = records.held-other before next dir units made mid staged s g r at
+        by (Some r) at is = records.held-other directory before next dir units made mid staged s g r at
 
     still : IsDirectory mid g
-    still = records.directory-still before next dir units made mid staged s g away is
+    still = records.directory-still directory before next dir units made mid staged s g away is
 
     -- none was of the file, which had no name
     none-made : (x : Item) → Contains was x → file_in x ≡ made → ⊥
@@ -148,7 +148,7 @@ module _ (before next : State) (dir : ℕ) (units : List ℕ) (made : ℕ) (mid 
 
     came-here : g ≡ dir → (items : List Item) × Came made s.key files mid g was items
     came-here here =
-        let index = index-of mid g (base.is_made before next dir units made mid staged s).sound still in
+        let index = index-of mid g (base.is_made directory before next dir units made mid staged s).sound still in
         let entry = came_with.entry in
         let its : file_in entry.item ≡ made = ap (λ (l : names.Link). l.file.number) entry.link in
         let puts = entry.items was index.items (subst (λ d. HasItems old d was) here has)
@@ -314,6 +314,6 @@ module _ (before next : State) (dir : ℕ) (units : List ℕ) (made : ℕ) (mid 
         own-rest : (b : Item) (name : Told) → b.key ≡ s.key → Contains (told_names new made) name
             → KeepsRest new (file_in b) (unwrap_or name.value []) b.key
         own-rest b name key there =
-            let told = names-behind made ∙ (base.fresh before next dir units made mid staged s).told in
+            let told = names-behind made ∙ (base.fresh directory before next dir units made mid staged s).told in
             let is = Contains-only (told_by (part made FILE_NAME [] 2 (Value s.key))) name (subst (λ xs. Contains xs name) told there) in
             same-rest (file_in b) (unwrap_or name.value []) b.key (key ∙ ap (λ (t : Told). unwrap_or t.value []) is)

@@ -1,5 +1,6 @@
 -- NODES AND NAMES behind the command: the new file is as it is to be, and what the tree does not show of all others stays.
-use Rattle.std.proofs.Common.{◌≡◌, ◌≢◌, ◌==◌, ◌++◌, not, ℕ, Bool, true, false, List, [], ◌∷◌, length, map, filter, Option, Some, None}
+use Rattle.std.proofs.Common.{◌≡◌, ◌≢◌, ◌==◌, ◌++◌, not, ℕ, Bool, true, false, List, [], ◌∷◌, codes, length, map, filter, Option, Some}
+use Rattle.std.proofs.Common.{None}
 use Rattle.std.proofs.Common.{inl, inr, refl, sym, ap, subst, ◌∙◌, if◌then◌else◌, unwrap_or}
 use Rattle.std.proofs.lemmas.Bool.{and_right, cases_eq, eq-eqb}
 use Rattle.std.specs.List.{Contains}
@@ -11,7 +12,8 @@ use Rattle.list_laws.proofs.MemberLaws.{Contains-only}
 use Rattle.list_laws.proofs.SameItemsLaws.{SameItems-trans}
 use Rattle.ntfs_def.specs.Node.{Item}
 use Rattle.ntfs_def.specs.StandardInformation.{dos_flags}
-use Rattle.ntfs_def.specs.declared.kinds.TheConstants.{FILE_NAME, STANDARD_INFORMATION}
+use Rattle.ntfs_def.specs.Units.{wide}
+use Rattle.ntfs_def.specs.declared.kinds.TheConstants.{FILE_NAME, INDEX_ROOT, STANDARD_INFORMATION}
 use Rattle.record_bytes.specs.AttributeBytes.{part}
 use Rattle.volume_def.specs.Files.{Clusters, Content, Part, Record, Value, parts, parts_at, record_on, records_of}
 use Rattle.volume_def.specs.View.{VolumeView}
@@ -31,16 +33,20 @@ use Rattle.session_def.specs.Owed.{Owes}
 use Rattle.session_def.specs.State.{State}
 use Rattle.made_edits.specs.Blank.{blank_part, blank_record}
 use Rattle.made_edits.specs.InPlace.{Rewrites}
+use Rattle.made_edits.proofs.OtherParts.{at-other}
 use Rattle.made_edits.proofs.RoomSame.{numbers-same}
 use Rattle.made_edits.proofs.SameRecords.{on-same, parts-same}
 use Rattle.in_place_owed.proofs.Owes as setting
 use Rattle.in_place_owed.proofs.StandardOwed.{marks-owed, standard-among, standard-owed}
 use Rattle.made_edits.specs.Beside.{IsFreshFile}
+use Rattle.made_edits.proofs.FreshMade.{root-still}
 use Rattle.made_edits.specs.Left.{LeavesRest}
-use Rattle.made_owed.specs.MadeOwed.{SetsBehindMade, at_name, between}
+use Rattle.made_owed.specs.MadeOwed.{SetsBehindMade, at_name, between, made_command}
+use Rattle.made_owed.proofs.EitherCommand.{named-either, nodes-either}
 use Rattle.made_owed.proofs.MadeBase as base
 use Rattle.made_owed.proofs.MadeItems as items
 use Rattle.made_owed.proofs.MadeTree as trees
+use Rattle.made_owed.proofs.NewRoot.{root-free}
 
 never : {b : Bool} → b ≡ true → b ≡ false → ⊥
 never x y = cc
@@ -104,8 +110,8 @@ keys-then old mid new i j k first rest was has =
         subst (λ come. SameItems (come ++ map with_data (filter (λ item. not (is_any [] item)) was)) (map with_data now)) kept.comes
         kept.items
 
-module _ (before next : State) (dir : ℕ) (units : List ℕ) (made : ℕ) (mid staged : VolumeView)
-    (s : SetsBehindMade before next dir units made mid staged) where
+module _ (directory : Bool) (before next : State) (dir : ℕ) (units : List ℕ) (made : ℕ) (mid staged : VolumeView)
+    (s : SetsBehindMade directory before next dir units made mid staged) where
   abbrev old : VolumeView
   old = before.view
 
@@ -122,13 +128,13 @@ module _ (before next : State) (dir : ℕ) (units : List ℕ) (made : ℕ) (mid 
   parent = at_file (read mid) None dir
 
   abbrev named : Key → Bool
-  named = base.named before next dir units made mid staged s
+  named = base.named directory before next dir units made mid staged s
 
   rewrote : Rewrites named mid new
-  rewrote = base.behind before next dir units made mid staged s
+  rewrote = base.behind directory before next dir units made mid staged s
 
   left : LeavesRest old mid made dir
-  left = base.left before next dir units made mid staged s
+  left = base.left directory before next dir units made mid staged s
 
   set : Owes half next setter parent made
   set = setting.owes half next setter parent made staged s.behind
@@ -165,15 +171,15 @@ module _ (before next : State) (dir : ℕ) (units : List ℕ) (made : ℕ) (mid 
       }
 
   -- THE NEW FILE
-  fresh : IsFreshFile mid made s.key
-  fresh = base.fresh before next dir units made mid staged s
+  fresh : IsFreshFile directory mid made s.key
+  fresh = base.fresh directory before next dir units made mid staged s
 
   value-same : standard_of (parts (records_of new) made) ≡ standard_of (parts (records_of mid) made)
-  value-same = items.value-same before next dir units made mid staged s
+  value-same = items.value-same directory before next dir units made mid staged s
 
-  new-file : IsNewFile new false made
+  new-file : IsNewFile new directory made
   new-file = record {
-    record_flags = flags-then 1 (record_on new made) (record_on mid made)
+    record_flags = flags-then (if directory then 3 else 1) (record_on new made) (record_on mid made)
         (on-same named mid new rewrote made)
         fresh.file.record_flags;
     long = ap length value-same ∙ fresh.file.long;
@@ -181,50 +187,47 @@ module _ (before next : State) (dir : ℕ) (units : List ℕ) (made : ℕ) (mid 
     others = ap (λ value. other_flags (dos_flags value)) value-same ∙ fresh.file.others;
     sparse = ap (λ value. bit_and (dos_flags value) 0x200) value-same ∙ fresh.file.sparse;
     reparse = ap (λ value. bit_and (dos_flags value) 0x400) value-same ∙ fresh.file.reparse;
-    shapes = subst (SameItems (shapes_due false))
+    shapes = subst (SameItems (shapes_due directory))
         (sym (sym (shapes-blank (parts (records_of new) made))
         ∙ ap (map shape_of) (parts-same named mid new
         rewrote made)
         ∙ shapes-blank (parts (records_of mid) made)))
         fresh.file.shapes;
-    root = λ directory. absurd (never directory refl);
+    root = λ is. root-still mid new made (at-other named mid new rewrote made INDEX_ROOT (wide (codes "$I30"))
+        (root-free directory before next dir units made mid staged s)) rewrote.layout (fresh.file.root is);
   }
 
-  new-name : (path : List (List ℕ)) (directory : Bool) → directory ≡ false
-      → ComesRightly old new (c.Create path) (at_name dir units) [] made directory
-  new-name path directory none =
-      subst (ComesRightly old new (c.Create path) (at_name dir units) [] made) (sym none) (record {
+  new-name : (path : List (List ℕ)) (told : Bool) → told ≡ directory
+      → ComesRightly old new (c.Create path) (at_name dir units) [] made told
+  new-name path told is_so =
+      subst (ComesRightly old new (c.Create path) (at_name dir units) [] made) (sym is_so) (record {
         each = λ name there comes.
-            let told = items.names-behind before next dir units made mid staged s made ∙ fresh.told in
+            let told = items.names-behind directory before next dir units made mid staged s made ∙ fresh.told in
             let is = Contains-only (told_by (part made FILE_NAME [] 2 (Value s.key))) name (subst (λ xs. Contains xs name) told there) in (
               sym (ap (λ (t : Told). t.flags) is),
-              subst (λ (t : Told). IsNewName false (unwrap_or t.value [])) is fresh.name,
+              subst (λ (t : Told). IsNewName directory (unwrap_or t.value [])) is fresh.name,
             );
       })
 
   pub nodes : (path : List (List ℕ))
-      → KeepsNodes old new before.machine.tree next.machine.tree (c.Create path) (at_name dir units) made
-  nodes path = record {
-    dos_flags = λ f was now. flags-kept path f (away f was);
-    main = λ was now is becomes. absurd (numbers-none was is);
-    fresh = λ makes. new-file;
-    named = new-name path _ (trees.no-directory before.machine.tree dir made units (base.other before next dir units made mid staged s)
-        next.machine.tree before.machine.now s.moved);
-    sized = λ edits there. absurd (never edits refl);
-    point = tt;
-  }
+      → KeepsNodes old new before.machine.tree next.machine.tree (made_command directory path) (at_name dir units) made
+  nodes path =
+      nodes-either directory old new before.machine.tree next.machine.tree path (at_name dir units) made
+      (λ f was. flags-kept path f (away f was)) numbers-none new-file
+      (new-name path _ (trees.directory-told before.machine.tree dir made units
+      (base.other directory before next dir units made mid staged s) directory next.machine.tree before.machine.now s.moved))
 
   -- WHAT IS KEPT of the attributes that the command names
-  pub of-named : (path : List (List ℕ)) → KeepsOfNamed before next (c.Create path) (at_name dir units) made
+  pub of-named : (path : List (List ℕ)) → KeepsOfNamed before next (made_command directory path) (at_name dir units) made
   of-named path =
-      let rest = base.rest before next dir units made mid staged s in
-      record {
+      let rest = base.rest directory before next dir units made mid staged s in
+      named-either directory before next path (at_name dir units) made (record {
         standard = λ f stays.
             subst (λ xs. KeepsStandard false xs (parts_at new f STANDARD_INFORMATION []))
             (left.leaves.same f STANDARD_INFORMATION [] (away f stays.was) refl)
             (standard-owed half next setter parent staged s.behind f);
         names = λ f stays told there kept.
-            subst (λ xs. Contains xs told) (sym (items.names-behind before next dir units made mid staged s f))
+            subst (λ xs. Contains xs told) (sym (items.names-behind directory before next dir units made mid staged s f))
             (rest.names [] f (away f stays.was) told there kept);
         numbers = λ f other. numbers-behind f (λ is. never (eq-eqb f made is) other);
         sequence = λ f was now is becomes. elim (cases_eq f made) [
@@ -234,5 +237,5 @@ module _ (before next : State) (dir : ℕ) (units : List ℕ) (made : ℕ) (mid 
         points = keys-then old mid new (point_index old) (point_index mid) (point_index new) rest.points set.named.points;
         object_ids = keys-then old mid new (object_id_index old) (object_id_index mid) (object_id_index new) rest.object_ids
             set.named.object_ids;
-        entries = items.entries-kept before next dir units made mid staged s;
-      }
+        entries = items.entries-kept directory before next dir units made mid staged s;
+      })

@@ -90,8 +90,8 @@ headers-then was mid now first second = record {
   next_id = let a = first.next_id in let b = second.next_id in omega (arith, a, b);
 }
 
-module _ (before next : State) (dir : ℕ) (units : List ℕ) (made : ℕ) (mid staged : VolumeView)
-    (s : SetsBehindMade before next dir units made mid staged) where
+module _ (directory : Bool) (before next : State) (dir : ℕ) (units : List ℕ) (made : ℕ) (mid staged : VolumeView)
+    (s : SetsBehindMade directory before next dir units made mid staged) where
   abbrev old : VolumeView
   old = before.view
 
@@ -108,20 +108,20 @@ module _ (before next : State) (dir : ℕ) (units : List ℕ) (made : ℕ) (mid 
   parent = at_file (read mid) None dir
 
   abbrev named : Key → Bool
-  named = base.named before next dir units made mid staged s
+  named = base.named directory before next dir units made mid staged s
 
   rewrote : Rewrites named mid new
-  rewrote = base.behind before next dir units made mid staged s
+  rewrote = base.behind directory before next dir units made mid staged s
 
   left : LeavesRest old mid made dir
-  left = base.left before next dir units made mid staged s
+  left = base.left directory before next dir units made mid staged s
 
   -- what is owed of all that came behind it
   set : Owes (between before mid) next setter parent made
   set = setting.owes (between before mid) next setter parent made staged s.behind
 
   pub low-other : (n : ℕ) → n < 24 → n ≢ made
-  low-other n low is = let high = base.ordinary before next dir units made mid staged s in omega (arith, low, is, high)
+  low-other n low is = let high = base.ordinary directory before next dir units made mid staged s in omega (arith, low, is, high)
 
   pub low-apart : (n : ℕ) → n < 24 → n ≢ ROOT → n ≢ dir
   low-apart n low other is = elim left.ordinary [ inl root ↦ other (is ∙ root) | inr high ↦ omega (arith, low, is, high) ]
@@ -138,7 +138,8 @@ module _ (before next : State) (dir : ℕ) (units : List ℕ) (made : ℕ) (mid 
         some-same left.directory.was was (sym left.directory.was_at ∙ sym (ap (record_on old) same) ∙ at) in (
           left.directory.now,
           ap (record_on mid) same ∙ left.directory.now_at,
-          ap (λ (base : Option Reference). unwrap_or (option_map (λ (b : Reference). b.number) base) n) left.directory.header.base
+          ap (λ (base : Option Reference). unwrap_or (option_map (λ (b : Reference). b.number) base) n)
+              (ap (λ (h : Header). h.base) left.directory.header)
               ∙ ap (file_of n) had,
         )
     | inr ne ↦ (was, left.leaves.records n (held-other n was at) ne ∙ at, refl)
@@ -151,8 +152,8 @@ module _ (before next : State) (dir : ℕ) (units : List ℕ) (made : ℕ) (mid 
         let kept = left.directory.header in
         subst (λ (o : Option Record). IsSomeAnd o (λ r. IsTrue (is_base r) × IsTrue (is_directory r)))
         (sym (ap (record_on mid) same ∙ left.directory.now_at)) (
-          ap (λ (base : Option Reference). is_none base) kept.base ∙ left.directory.base,
-          ap (λ (flags : ℕ). flags / 2 % 2 == 1) kept.flags ∙ left.directory.directory,
+          ap (λ (h : Header). is_none h.base) kept ∙ left.directory.base,
+          ap (λ (h : Header). h.flags / 2 % 2 == 1) kept ∙ left.directory.directory,
         )
     | inr ne ↦ subst (λ (o : Option Record). IsSomeAnd o (λ r. IsTrue (is_base r) × IsTrue (is_directory r)))
         (sym (left.leaves.records g away ne)) is
@@ -170,8 +171,8 @@ module _ (before next : State) (dir : ℕ) (units : List ℕ) (made : ℕ) (mid 
       let d = or_parts front (has_entry_of next.machine.tree files f) b.0 in
       let k = or_parts (is_one_of files f) (has_entry_of tree files f) d.0 in
       let own = or_parts (made == f) (is_one_of (dir ∷ []) f) k.0 in
-      let was = trees.entry-less tree dir made units (base.other before next dir units made mid staged s) (read mid) _
-      (base.reads before next dir units made mid staged s) f k.1 in
+      let was = trees.entry-less tree dir made units (base.other directory before next dir units made mid staged s) (read mid) _
+      (base.reads directory before next dir units made mid staged s) f k.1 in
       let now = trees.entry-fewer next.machine.tree made dir f d.1 in
       or_from _ false (or_from _ false (or_from _ _ (or_from (is_one_of (dir ∷ []) f) _ own.1 was) now) refl) refl
 
@@ -251,7 +252,7 @@ module _ (before next : State) (dir : ℕ) (units : List ℕ) (made : ℕ) (mid 
   pub unused : KeepsUnused old new
   unused =
       let count : mid.layout.count ≡ old.layout.count =
-      ap (λ (l : TableLayout). l.count) (base.layout before next dir units made mid staged s) in
+      ap (λ (l : TableLayout). l.count) (base.layout directory before next dir units made mid staged s) in
       let inside : (n : ℕ) → n < old.layout.count → n < mid.layout.count = λ n low. subst (λ k. n < k) (sym count) low in
       record {
         idle = λ n low was now.
@@ -304,7 +305,7 @@ module _ (before next : State) (dir : ℕ) (units : List ℕ) (made : ℕ) (mid 
 
   pub log_end : KeepsLogEnd old new
   log_end i cluster behind at =
-      let size = base.size before next dir units made mid staged s in
+      let size = base.size directory before next dir units made mid staged s in
       let past = subst (λ bytes. (bytes + 511) / 512 * 512 ≤ i) (sym log_bytes-same) behind in
       let there = ap (λ n. spot_at (log_parts mid) (i / n)) size ∙ ap (λ xs. spot_at xs (i / cluster_bytes old.layout)) log-same ∙ at in
       subst (λ n. slice_index (new.cluster cluster) (i % n) ≡ slice_index (mid.cluster cluster) (i % n)) size

@@ -1,5 +1,5 @@
 -- TREES: of the directory's names none comes or goes in the tree between, in which the new link leads to the new file; and in the tree
--- behind the directory has an entry of that file, which is no directory.
+-- behind the directory has an entry of that file, which is a directory where one was made.
 use Rattle.std.proofs.Common.{◌≡◌, ◌≢◌, ◌⊎◌, ◌==◌, ◌&&◌, ◌||◌, ◌++◌, ℕ, Bool, true, false, cond, List, [], ◌∷◌, filter, length, Option}
 use Rattle.std.proofs.Common.{Some, None, inl, inr, refl, sym, ap, subst, ◌∙◌}
 use Rattle.std.proofs.lemmas.Bool.{and_from, and_parts, eq-eqb, false_from_ne_true, ne_eqb, or_left, or_right}
@@ -102,9 +102,9 @@ module _ (tree : Tree) (dir made : ℕ) (units : List ℕ) (other : dir ≢ made
         ∙ sym (filter-append (leads_to dir) tree.links tree.hidden))
 
   -- THE TREE BEHIND
-  module _ (next : Tree) (now : ℕ) (moved : next ≡ make false now made (NameIn dir units) tree) where
+  module _ (directory : Bool) (next : Tree) (now : ℕ) (moved : next ≡ make directory now made (NameIn dir units) tree) where
     abbrev fresh : Node
-    fresh = new_node false now (security_of tree dir)
+    fresh = new_node directory now (security_of tree dir)
 
     abbrev linked : Tree
     linked = add_link link (with_node made fresh tree)
@@ -133,5 +133,5 @@ module _ (tree : Tree) (dir made : ℕ) (units : List ℕ) (other : dir ≢ made
         ∙ finmap.get-insert nat_cmp_total tree.nodes made fresh made
         ∙ ap (λ b. cond b (Some fresh) (finmap.get tree.nodes made)) (key_same made)
 
-    pub no-directory : is_directory_node next made ≡ false
-    no-directory = ap (λ (o : Option Node). option_map_or (λ (node : Node). node.dir) o false) node-now
+    pub directory-told : is_directory_node next made ≡ directory
+    directory-told = ap (λ (o : Option Node). option_map_or (λ (node : Node). node.dir) o false) node-now

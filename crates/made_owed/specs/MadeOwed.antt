@@ -1,5 +1,6 @@
--- A FILE WAS MADE, and then the times of its directory set: what the calls of `create` give, and the first mark behind them.
-use Rattle.std.specs.Prelude.{◌≡◌, ℕ, ◌+◌, ◌∷◌, [], List, length, None, false}
+-- A FILE WAS MADE, or a directory, and then the times of its directory set: what the calls of `create` and `mkdir` give, and the first mark
+-- behind them.
+use Rattle.std.specs.Prelude.{◌≡◌, ℕ, ◌+◌, ◌∷◌, [], Bool, List, length, None, if◌then◌else◌}
 use Rattle.ntfs_def.specs.Node.{Item}
 use Rattle.volume_def.specs.Readable.{IsDirectory}
 use Rattle.volume_def.specs.View.{VolumeView}
@@ -8,6 +9,7 @@ use Rattle.made_edits.specs.HeldTables.{AreStored}
 use Rattle.tree_model.specs.Effects.{make, security_of}
 use Rattle.tree_model.specs.Reading.{read}
 use Rattle.tree_model.specs.Subjects.{Located, NameIn, at_file, nothing}
+use Rattle.tree_model.specs.declared.command.Command.{Command}
 use Rattle.tree_model.specs.declared.command.Command.TheVariants as c
 use Rattle.tree_model.specs.declared.tree.Node.{Node}
 use Rattle.edit_def.specs.Items.{HasItems}
@@ -20,7 +22,11 @@ use Rattle.in_place_owed.specs.SetsInPlace.{SetsInPlace}
 use Rattle.made_edits.specs.Beside.{IsPlainStandard}
 use Rattle.made_edits.specs.Comes.{CanMake, ComesUnder, IsNewKey}
 
--- what the words of `create` lead to
+-- the command that makes a directory, or a file
+abbrev pub made_command : Bool → List (List ℕ) → Command
+made_command directory path = if directory then c.Mkdir path else c.Create path
+
+-- what its words lead to
 abbrev pub at_name : ℕ → List ℕ → Located
 at_name dir units = record nothing { new = NameIn dir units }
 
@@ -38,7 +44,8 @@ between before mid = record before {
 
 -- THE FILE CAME in record `made`, under this name of the directory, and then the directory was set, as `setattr` does it on the volume
 -- between.
-pub record SetsBehindMade (before next : State) (dir : ℕ) (units : List ℕ) (made : ℕ) (mid staged : VolumeView) : Type 0 where
+pub record SetsBehindMade (directory : Bool) (before next : State) (dir : ℕ) (units : List ℕ) (made : ℕ) (mid staged : VolumeView)
+    : Type 0 where
   -- the volume before, the bits that are kept in memory of it, and a name that may come
   pub stands : Stands before
   pub was : Mounted
@@ -50,13 +57,13 @@ pub record SetsBehindMade (before next : State) (dir : ℕ) (units : List ℕ) (
   pub now : Mounted
   pub standard : List ℕ
   pub key : List ℕ
-  pub is_standard : IsNewStandard false before.machine.now (security_of before.machine.tree dir) standard
-  pub plain : IsPlainStandard standard
+  pub is_standard : IsNewStandard directory before.machine.now (security_of before.machine.tree dir) standard
+  pub plain : IsPlainStandard directory standard
   pub long : length standard ≡ 72
-  pub is_key : IsNewKey before.view dir units before.machine.now key
-  pub comes : ComesUnder before.view mid was now made dir standard key
+  pub is_key : IsNewKey before.view directory dir units before.machine.now key
+  pub comes : ComesUnder directory before.view mid was now made dir standard key
   -- the machine then
-  pub moved : next.machine.tree ≡ make false before.machine.now made (NameIn dir units) before.machine.tree
+  pub moved : next.machine.tree ≡ make directory before.machine.now made (NameIn dir units) before.machine.tree
   -- what came behind it; of entries it says so of the tree between alone
   pub behind : SetsInPlace (between before mid) next (c.Setattr [] 0) (at_file (read mid) None dir) staged
   pub entries : (g : ℕ) (was now : List Item) → IsDirectory mid g → HasItems mid g was → HasItems staged g now

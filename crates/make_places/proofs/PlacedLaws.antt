@@ -237,20 +237,20 @@ module _ {D : Type 0} (g : Ghosts D) (path : List (List ℕ)) where
         turned false e = refl
 
 -- THEN ROOM IS ASKED FOR.
-pub make-last : (v : VolumeView) (path : List (List ℕ))
-    → make_wanted v path ≡ and_then (make_decided v path) (λ dir. if_room (room_to_make v dir) dir)
-make-last v path = by (place_wanted (read v) path)
+pub make-last : (v : VolumeView) (directory : Bool) (path : List (List ℕ))
+    → make_wanted v directory path ≡ and_then (make_decided v path) (λ dir. if_room (room_to_make v directory dir) dir)
+make-last v directory path = by (place_wanted (read v) path)
   where
     by_can : (place : Place) (b : Bool)
-        → (if b then Err no.Unbuilt else if_room (room_to_make v place.directory) place.directory)
-        ≡ and_then (if b then Err no.Unbuilt else Ok place.directory) (λ dir. if_room (room_to_make v dir) dir)
+        → (if b then Err no.Unbuilt else if_room (room_to_make v directory place.directory) place.directory)
+        ≡ and_then (if b then Err no.Unbuilt else Ok place.directory) (λ dir. if_room (room_to_make v directory dir) dir)
     by_can place true = refl
     by_can place false = refl
 
     by : (r : Result Place No)
         → and_then r (λ place. if cannot_make v place.directory place.name then Err no.Unbuilt
-        else if_room (room_to_make v place.directory) place.directory)
-        ≡ and_then (and_then r (if_can_make v)) (λ dir. if_room (room_to_make v dir) dir)
+        else if_room (room_to_make v directory place.directory) place.directory)
+        ≡ and_then (and_then r (if_can_make v)) (λ dir. if_room (room_to_make v directory dir) dir)
     by (Err why) = refl
     by (Ok place) = by_can place (cannot_make v place.directory place.name)
 
@@ -266,19 +266,19 @@ none-due : (o : Option No) → has_room o ≡ Ok tt → o ≡ None
 none-due None e = refl
 none-due (Some refused) e = cc
 
-module _ {D : Type 0} (g : Ghosts D) (path : List (List ℕ)) where
+module _ {D : Type 0} (g : Ghosts D) (directory : Bool) (path : List (List ℕ)) where
   abbrev due : VolumeView → Result ℕ No
-  due v = make_wanted v path
+  due v = make_wanted v directory path
 
-  then-is : (v : VolumeView) (dir : ℕ) → make_decided v path ≡ Ok dir → due v ≡ if_room (room_to_make v dir) dir
-  then-is v dir e = make-last v path ∙ ap (λ (r : Result ℕ No). and_then r (λ k. if_room (room_to_make v k) k)) e
+  then-is : (v : VolumeView) (dir : ℕ) → make_decided v path ≡ Ok dir → due v ≡ if_room (room_to_make v directory dir) dir
+  then-is v dir e = make-last v directory path ∙ ap (λ (r : Result ℕ No). and_then r (λ k. if_room (room_to_make v directory k) k)) e
 
   pub undecided-due : {old new : Mft D g} (why : Stop) → Answered g old new (λ v. make_decided v path) (Err why)
       → Answered g old new due (Err why)
   undecided-due {old = old} why call =
-      tells call refl (λ told says. by (make_decided (view g old) path) why says (make-last (view g old) path))
+      tells call refl (λ told says. by (make_decided (view g old) path) why says (make-last (view g old) directory path))
     where
-      by : (r : Result ℕ No) (why : Stop) → Says r (Err why) → due (view g old) ≡ and_then r (λ k. if_room (room_to_make (view g old) k) k)
+      by : (r : Result ℕ No) (why : Stop) → Says r (Err why) → due (view g old) ≡ and_then r (λ k. if_room (room_to_make (view g old) directory k) k)
           → Says (due (view g old)) (Err why)
       by r stop.Device says e = tt
       by (Err x) (stop.No refused) (inl same) e = inl (e ∙ same)
@@ -287,22 +287,22 @@ module _ {D : Type 0} (g : Ghosts D) (path : List (List ℕ)) where
 
   module _ (dir : ℕ) where
     abbrev Asked : VolumeView → Result (Unit {0}) Stop → Type 0
-    Asked v given = Says (has_room (room_to_make v dir)) given
+    Asked v given = Says (has_room (room_to_make v directory dir)) given
 
     pub asked-stop : {old middle new : Mft D g} → Answered g old middle (λ v. make_decided v path) (Ok dir) → (why : Stop)
         → Gives g middle new Asked (Err why) → Answered g old new due (Err why)
     asked-stop {old = old} decided why asked = tells (both decided asked) refl (λ told says.
         subst (λ (r : Result ℕ No). Says r (Err why)) (sym (then-is (view g old) dir says.0))
-        (refused-so dir (room_to_make (view g old) dir) why says.1))
+        (refused-so dir (room_to_make (view g old) directory dir) why says.1))
 
     pub asked-none : {old middle new : Mft D g} → Answered g old middle (λ v. make_decided v path) (Ok dir)
-        → Gives g middle new Asked (Ok tt) → IsTrue (view g old).told → room_to_make (view g old) dir ≡ None
-    asked-none {old = old} decided asked told = none-due (room_to_make (view g old) dir) (((both decided asked).is told).1)
+        → Gives g middle new Asked (Ok tt) → IsTrue (view g old).told → room_to_make (view g old) directory dir ≡ None
+    asked-none {old = old} decided asked told = none-due (room_to_make (view g old) directory dir) (((both decided asked).is told).1)
 
     pub asked-on : {old middle new : Mft D g} → Answered g old middle (λ v. make_decided v path) (Ok dir) → Gives g middle new Asked (Ok tt)
         → Answered g old new due (Ok dir)
     asked-on {old = old} decided asked = tells (both decided asked) refl (λ told says.
-        then-is (view g old) dir says.0 ∙ ap (λ o. if_room o dir) (none-due (room_to_make (view g old) dir) says.1))
+        then-is (view g old) dir says.0 ∙ ap (λ o. if_room o dir) (none-due (room_to_make (view g old) directory dir) says.1))
 
 -- the length of a name that is not bad, and its units
 pub short-name : (name : List ℕ) → is_bad_name name ≡ false → length name ≤ 255

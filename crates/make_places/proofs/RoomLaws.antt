@@ -53,10 +53,10 @@ holds-items view mounted dir is held =
     }
 
 -- the bytes of the entry of a key, and the units of its name
-pub len-named : (units key : List ℕ) → IsPlainKey 0 units 0 key → (16 + length key + 7) / 8 * 8 ≡ entry_len units
+pub len-named : (units key : List ℕ) → IsPlainKey false 0 units 0 key → (16 + length key + 7) / 8 * 8 ≡ entry_len units
 len-named units key is = ap (λ (len : ℕ). up_to_8 (16 + len)) is.long ∙ ap up_to_8 (omega arith)
 
-pub room-named : (view : VolumeView) (dir : ℕ) (units key : List ℕ) → IsPlainKey 0 units 0 key
+pub room-named : (view : VolumeView) (dir : ℕ) (units key : List ℕ) → IsPlainKey false 0 units 0 key
     → has_leaf_room view dir (key_units key) ((16 + length key + 7) / 8 * 8) ≡ has_leaf_room view dir units (entry_len units)
 unfolding name_in
 room-named view dir units key is =

@@ -1,4 +1,4 @@
--- WHERE A FILE CAN BE MADE, as a path leads to it, and the refusals of `create` in their order.
+-- WHERE A FILE CAN BE MADE, or a directory, as a path leads to it, and the refusals of `create` and `mkdir` in their order.
 use Rattle.std.specs.Prelude.{◌≡◌, ◌||◌, ℕ, not, true, Bool, List, Option, None, Result, Ok, Err, if◌then◌else◌}
 use Rattle.ntfs_def.specs.StandardInformation.{standard_security, standard_times}
 use Rattle.volume_def.specs.View.{VolumeView}
@@ -25,13 +25,13 @@ use Rattle.file_makes.specs.Under.{HasNameRoom, HasRecordRoom}
 use Rattle.tree_edit.specs.Alone.{if_room}
 use Rattle.tree_edit.specs.Settable.{IsSettable}
 
--- A new name cannot come there: the words of `create` lead to no file, and so to file 0.
+-- A new name cannot come there: the words of `create` and `mkdir` lead to no file, and so to file 0.
 abbrev pub cannot_make : VolumeView → ℕ → List ℕ → Bool
 cannot_make view dir units = cannot_edit (is_whole_table view) (read view) 0 || not (can_come view (read view) (NameIn dir units))
 
--- the refusal for room, of the bill of a file under a name in this directory
-abbrev pub room_to_make : VolumeView → ℕ → Option No
-room_to_make view dir = no_room_for view (made_bill view dir (index_depth view (directory_index dir)))
+-- the refusal for room, of the bill of a file, or of a directory, under a name in this directory
+abbrev pub room_to_make : VolumeView → Bool → ℕ → Option No
+room_to_make view directory dir = no_room_for view (made_bill view directory dir (index_depth view (directory_index dir)))
 
 -- THE NUMBER OF THE DIRECTORY in which the name is new, if it can come there: before room is asked for, and then
 abbrev pub if_can_make : VolumeView → Place → Result ℕ No
@@ -40,11 +40,11 @@ if_can_make view place = if cannot_make view place.directory place.name then Err
 abbrev pub make_decided : VolumeView → List (List ℕ) → Result ℕ No
 make_decided view path = and_then (place_wanted (read view) path) (if_can_make view)
 
-abbrev pub make_wanted : VolumeView → List (List ℕ) → Result ℕ No
-make_wanted view path =
+abbrev pub make_wanted : VolumeView → Bool → List (List ℕ) → Result ℕ No
+make_wanted view directory path =
     and_then (place_wanted (read view) path)
     (λ place. if cannot_make view place.directory place.name then Err no.Unbuilt
-    else if_room (room_to_make view place.directory) place.directory)
+    else if_room (room_to_make view directory place.directory) place.directory)
 
 -- a record is free, of those that ordinary files may have
 abbrev pub HasFreeRecord : Mounted → Type 0
@@ -70,13 +70,13 @@ pub record IsMakeable (view : VolumeView) (found : NewPlace) : Type 0 where
   pub room : HasNameRoom view (number_within found.standing) found.name.now
   pub record_ : has_record view ≡ true
 
--- THE FILE CAN BE MADE there, with these bits in memory: room was asked for too.
-pub record IsToMake (view : VolumeView) (mounted : Mounted) (found : NewPlace) : Type 0 where
+-- THE FILE, or the directory, CAN BE MADE there, with these bits in memory: room was asked for too.
+pub record IsToMake (directory : Bool) (view : VolumeView) (mounted : Mounted) (found : NewPlace) : Type 0 where
   pub makeable : IsMakeable view found
   pub record_ : HasRecord view mounted
-  pub asked : room_to_make view (number_within found.standing) ≡ None
+  pub asked : room_to_make view directory (number_within found.standing) ≡ None
 
--- THE MACHINE on this volume's reading, and what the words of `create` lead to there.
+-- THE MACHINE on this volume's reading, and what the words of either command lead to there.
 abbrev pub machine_at : VolumeView → List OpenEntry → ℕ → Machine
 machine_at view opens now = record { tree = read view; opens = opens; now = now }
 

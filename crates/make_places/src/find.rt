@@ -1,4 +1,4 @@
-//! The directory into which a new file can be made, with its name, found by its path.
+//! The directory into which a new file, or a new directory, can be made, with its name, found by its path.
 ghost use Rattle.std.specs.Prelude.{◌≡◌, ◌≤◌, ◌<◌, ℕ, All, IfOk, IfSome, IsTrue, List, None, Ok, length};
 ghost use Rattle.vol_disk.specs.Contents.{WhereTold};
 ghost use Rattle.vol_stage.specs.Staged.{image};
@@ -58,20 +58,26 @@ fn find_makeable<'p, D: Disk>(
     Ok(place)
 }
 
-// Asks for the room of a new file in a directory that is shown.
-fn ask_for_file<D: Disk>(alloc: Global, mft: &mut Mft<'_, D>, dir: &BaseFile) -> Result<(), Stop>
+// Asks for the room of a new file, or of a new directory, in a directory that is shown.
+fn ask_for_file<D: Disk>(
+    alloc: Global,
+    mft: &mut Mft<'_, D>,
+    dir: &BaseFile,
+    directory: bool,
+) -> Result<(), Stop>
     requires volume { IsInUse D.Disk mft.old }
-    requires directory { IsTrue (view D.Disk mft.old).told → IsDirectoryHeld (view D.Disk mft.old) dir.now }
-    ensures asked { Gives D.Disk mft.old mft.new (λ volume given. Says (has_room (room_to_make volume (number_of dir.now))) given) result }
+    requires held { IsTrue (view D.Disk mft.old).told → IsDirectoryHeld (view D.Disk mft.old) dir.now }
+    ensures asked { Gives D.Disk mft.old mft.new (λ volume given.
+        Says (has_room (room_to_make volume directory (number_of dir.now))) given) result }
 {
     match index_depth(alloc, mft, &dir.parts) {
-        Ok(depth) => ask_to_make(mft, &dir.parts, depth),
+        Ok(depth) => ask_to_make(mft, &dir.parts, depth, directory),
         Err(no) => Err(Stop::from(no)),
     }
 }
 
-/// The directory into which a new file can be made, with its name: no refusal for room is due, and a record is free. `last` is the directory
-/// in which the last path ended, before the call; behind it there is none.
+/// The directory into which a new file, or a new directory, can be made, with its name: no refusal for room is due, and a record is free.
+/// `last` is the directory in which the last path ended, before the call; behind it there is none.
 ///
 /// # Errors
 ///
@@ -85,17 +91,18 @@ pub fn find_to_make<'p, D: Disk>(
     mft: &mut Mft<'_, D>,
     last: &mut Option<Standing>,
     path: &'p Path,
+    directory: bool,
 ) -> Result<NewPlace<'p>, Stop>
     requires volume { IsInUse D.Disk mft.old }
     requires image { WhereTold (image D.Disk (stage_of D.Disk mft.old)) (λ bytes. IsVolumeOf bytes (view D.Disk mft.old)) }
     requires last { IsTrue (view D.Disk mft.old).told → IfSome last.old (IsStanding (view D.Disk mft.old)) }
     requires named { All (λ (name : List ℕ). 1 ≤ length name) path.now }
-    ensures answered { Answered D.Disk mft.old mft.new (λ volume. make_wanted volume path.now)
+    ensures answered { Answered D.Disk mft.old mft.new (λ volume. make_wanted volume directory path.now)
         (with_ok (λ found. number_within found.standing) result) }
     ensures place { IfOk result (λ found. IsTrue (view D.Disk mft.old).told
         → place_wanted (read (view D.Disk mft.old)) path.now ≡ Ok (place_of found)) }
     ensures can { IfOk result (λ found. IsTrue (view D.Disk mft.old).told
-        → IsToMake (view D.Disk mft.old) (mounted_of D.Disk mft.old) found) }
+        → IsToMake directory (view D.Disk mft.old) (mounted_of D.Disk mft.old) found) }
     ensures inside { IfOk result (λ found. number_within found.standing < length (mounted_of D.Disk mft.old).records) }
     ensures some { IfOk result (λ found. 1 ≤ length found.name.now) }
     ensures few { IfOk result (λ found. length found.name.now ≤ 255) }
@@ -103,6 +110,6 @@ pub fn find_to_make<'p, D: Disk>(
     ensures forgets { last.new ≡ None }
 {
     let place = find_makeable(alloc, mft, last.take(), path)?;
-    ask_for_file(alloc, mft, &place.standing.directory)?;
+    ask_for_file(alloc, mft, &place.standing.directory, directory)?;
     Ok(place)
 }

@@ -1,4 +1,4 @@
-//! Where a file can be made.
+//! Where a file, or a directory, can be made.
 #![tactic(auto)]
 
 mod edits;

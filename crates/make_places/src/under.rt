@@ -1,5 +1,5 @@
 //! Whether a name has room in the index of its directory.
-ghost use Rattle.std.specs.Prelude.{◌≡◌, ◌≤◌, ◌*◌, ◌+◌, ◌/◌, IfErr, IfOk, IsTrue, length};
+ghost use Rattle.std.specs.Prelude.{◌≡◌, ◌≤◌, ◌*◌, ◌+◌, ◌/◌, IfErr, IfOk, IsTrue, false, length};
 ghost use Rattle.mft_table.specs.InUse.{IsInUse};
 ghost use Rattle.mft_table.specs.Mft.{view};
 ghost use Rattle.tree_model.specs.Ways.{has_name_room};
@@ -30,14 +30,14 @@ fn share(upcase: &UpCase) -> Result<UpCase, Stop>
     }
 }
 
-// The key of a name as it would be in a directory of reference 0, at the moment 0: its length and its units are used alone.
+// The key of a name of a file as it would be in a directory of reference 0, at the moment 0: its length and its units are used alone.
 fn key_of(alloc: Global, name: &[u16]) -> Result<Vec<u8>, Stop>
     requires some { 1 ≤ length name.now }
     requires few { length name.now ≤ 255 }
-    ensures key { IfOk result (λ key. IsPlainKey 0 name.now 0 key.items) }
+    ensures key { IfOk result (λ key. IsPlainKey false 0 name.now 0 key.items) }
     ensures memory { IfErr result (λ why. why ≡ stop.No no.Memory) }
 {
-    match new_key(alloc, 0, name, 0) {
+    match new_key(alloc, 0, name, false, 0) {
         Ok(key) => Ok(key),
         Err(_) => Err(Stop::No(No::Memory)),
     }

@@ -5,7 +5,7 @@ use Rattle.std.proofs.lemmas.Bool.{cases_eq}
 use Rattle.std.specs.Option.{option_map}
 use Rattle.std.specs.Prelude.{Contains, IsSomeAnd, IsTrue, is_none, is_some, unwrap_or}
 use Rattle.ntfs_def.specs.FileName.{FileName}
-use Rattle.ntfs_def.specs.Record.{Reference}
+use Rattle.ntfs_def.specs.Record.{Header, Reference}
 use Rattle.ntfs_def.specs.Units.{wide}
 use Rattle.ntfs_def.specs.declared.kinds.TheConstants.{INDEX_ALLOCATION}
 use Rattle.volume_def.specs.Coverage.{IsApart}
@@ -29,7 +29,7 @@ use Rattle.make_places.specs.Comes.{CanMake}
 use Rattle.make_places.specs.Left.{LeavesRest}
 use Rattle.make_places.specs.Made.{IsMade}
 use Rattle.make_places.specs.MadeEditsMakes.{MakesFile}
-use Rattle.make_places.proofs.LeftMade.{leaves-rest, own-index}
+use Rattle.make_places.proofs.LeftMade.{leaves-rest}
 use Rattle.make_places.proofs.SoundMade as laws
 use Rattle.make_places.proofs.MadeUnder.{right-marks}
 use Rattle.make_places.specs.Below.{names_index}
@@ -37,19 +37,20 @@ use Rattle.make_places.specs.Links.{CanWrite, CanWriteFile}
 use Rattle.make_places.specs.Staged.{IsOfDirectory, IsOfFile, IsOfIndex, IsOfNames}
 use Rattle.name_changes.specs.Staged.{IsOfOrdinaryRecord, IsOfMaking}
 
-module _ (old mid : VolumeView) (was now : Mounted) (n dir : ℕ) (node : Node) (units : List ℕ) (moment security : ℕ)
-    (can : CanMake old dir node units) (is : IsSoundVolume old was) (file : MakesFile old mid was now n dir units moment security) where
+module _ (directory : Bool) (old mid : VolumeView) (was now : Mounted) (n dir : ℕ) (node : Node) (units : List ℕ) (moment security : ℕ)
+    (can : CanMake old dir node units) (is : IsSoundVolume old was) (file : MakesFile directory old mid was now n dir units moment security)
+    where
   pub right : AreRight old (marks_of was)
   right = right-marks old was is
 
-  made : IsMade old mid was now n dir node units moment security
+  made : IsMade directory old mid was now n dir node units moment security
   made =
-      laws.made old mid was now dir n node units file.standard file.key moment security can right file.new_key file.new_standard
+      laws.made old mid was now dir n node units file.standard file.key moment security directory can right file.new_key file.new_standard
       file.plain.long file.comes is.stored
 
   left : LeavesRest old mid n dir
   left =
-      leaves-rest old mid was now dir n node units file.standard file.key moment security can right file.new_key file.new_standard
+      leaves-rest old mid was now dir n node units file.standard file.key moment security directory can right file.new_key file.new_standard
       file.plain.long file.comes
 
   layout : mid.layout ≡ old.layout
@@ -94,7 +95,7 @@ module _ (old mid : VolumeView) (was now : Mounted) (n dir : ℕ) (node : Node) 
       let now : file_of m left.directory.now ≡ g =
       subst (λ (o : Option Record). IsSomeAnd o (λ r. file_of m r ≡ g)) (ap (record_on mid) same ∙ left.directory.now_at) of in
       subst (λ (o : Option Record). IsSomeAnd o (λ r. file_of m r ≡ g)) (sym (ap (record_on old) same ∙ left.directory.was_at))
-      (ap (λ (base : Option Reference). unwrap_or (option_map (λ (b : Reference). b.number) base) m) (sym left.directory.header.base) ∙ now)
+      (ap (λ (base : Option Reference). unwrap_or (option_map (λ (b : Reference). b.number) base) m) (ap (λ (h : Header). h.base) (sym left.directory.header)) ∙ now)
 
   pub own-record : IsRecordOf old dir dir
   own-record = record {
@@ -132,8 +133,7 @@ module _ (old mid : VolumeView) (was now : Mounted) (n dir : ℕ) (node : Node) 
   records-same g differ = elim (cases_eq g dir) [
     | inl here ↦
         subst (λ (f : ℕ). (names_index mid f).records ≡ (names_index old f).records) (sym here)
-        (own-index old mid was now dir n node units file.standard file.key moment security can right file.new_key file.new_standard
-        file.plain.long file.comes).records
+        left.index.records
     | inr elsewhere ↦ ap (filter (is_of INDEX_ALLOCATION (wide (codes "$I30")))) (left.leaves.others g differ elsewhere)
   ]
 

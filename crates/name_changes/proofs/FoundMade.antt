@@ -31,10 +31,10 @@ use Rattle.name_changes.specs.Staged.{StagesMaking}
 use Rattle.name_changes.proofs.FileBetween as between
 use Rattle.name_changes.proofs.StagedBoth.{staged-both}
 
-module _ {D : Type 0} (g : Ghosts D) (a m : Mft D g) (found : NewPlace) (n d : ℕ) (us : List ℕ) (moment security : ℕ)
-    (is : IsSoundVolume (view g a) (mounted_of g a)) (to_make : IsToMake (view g a) (mounted_of g a) found)
+module _ {D : Type 0} (directory : Bool) (g : Ghosts D) (a m : Mft D g) (found : NewPlace) (n d : ℕ) (us : List ℕ) (moment security : ℕ)
+    (is : IsSoundVolume (view g a) (mounted_of g a)) (to_make : IsToMake directory (view g a) (mounted_of g a) found)
     (number : d ≡ number_within found.standing) (units : us ≡ found.name.now)
-    (made : MakesFile (view g a) (view g m) (mounted_of g a) (mounted_of g m) n d us moment security) where
+    (made : MakesFile directory (view g a) (view g m) (mounted_of g a) (mounted_of g m) n d us moment security) where
   abbrev old : VolumeView
   old = view g a
 
@@ -56,25 +56,25 @@ module _ {D : Type 0} (g : Ghosts D) (a m : Mft D g) (found : NewPlace) (n d : �
   abbrev node : Node
   node = to_make.makeable.settable.can.node
 
-  file : MakesFile old mid was now n dir name moment security
+  file : MakesFile directory old mid was now n dir name moment security
   file =
-      subst (λ xs. MakesFile old mid was now n dir xs moment security) units
-      (subst (λ f. MakesFile old mid was now n f us moment security) number made)
+      subst (λ xs. MakesFile directory old mid was now n dir xs moment security) units
+      (subst (λ f. MakesFile directory old mid was now n f us moment security) number made)
 
   -- BETWEEN
   pub in-use : IsSoundVolume mid now
-  in-use = between.sound-between old mid was now n dir node name moment security to_make.makeable.make is file
+  in-use = between.sound-between directory old mid was now n dir node name moment security to_make.makeable.make is file
 
   pub can-set : IsLeastFree was.records n → CanWriteFile mid d
   can-set least =
       subst (CanWriteFile mid) (sym number)
-      (between.can-set old mid was now n dir node name moment security to_make.makeable.make is file to_make.makeable.settable.can.write
+      (between.can-set directory old mid was now n dir node name moment security to_make.makeable.make is file to_make.makeable.settable.can.write
       (to_make.record_.room n least).block)
 
   -- WHERE SECTORS ARE STAGED
   pub staged : (b : Mft D g) → StagesMade g old n d a m → StagesAttributes g d (names_of (records_of mid) d) m b → StagesMaking g dir a b
   staged b first second =
-      staged-both g a m n dir node name moment security to_make.makeable.make is file b (subst (λ f. StagesMade g old n f a m) number first)
+      staged-both directory g a m n dir node name moment security to_make.makeable.make is file b (subst (λ f. StagesMade g old n f a m) number first)
       (subst (λ f. StagesAttributes g f (names_of (records_of mid) f) m b) number second)
 
   -- WHAT THE VOLUME IS THEN, by the value of the directory's $STANDARD_INFORMATION
@@ -89,7 +89,7 @@ module _ {D : Type 0} (g : Ghosts D) (a m : Mft D g) (found : NewPlace) (n d : �
 
   pub found-made : (new : VolumeView) (times : List ℕ) (flags : ℕ) → security ≡ standard_security value → times ≡ standard_times value
       → flags ≡ standard_flags value → SetsAttributes mid new d (slice_set (slice_set times 1 moment) 2 moment) flags
-      → MakesFound old new found moment
+      → MakesFound directory old new found moment
   found-made new times flags security_told times_told flags_told sets = record {
     node = node;
     can = to_make.makeable.make;
@@ -97,11 +97,11 @@ module _ {D : Type 0} (g : Ghosts D) (a m : Mft D g) (found : NewPlace) (n d : �
     made = n;
     makes = record {
       was = was;
-      right = between.right old mid was now n dir node name moment security to_make.makeable.make is file;
+      right = between.right directory old mid was now n dir node name moment security to_make.makeable.make is file;
       stored = is.stored;
       now = now;
       mid = mid;
-      makes = subst (MakesFile old mid was now n dir name moment) (security_told ∙ security-is) file;
+      makes = subst (MakesFile directory old mid was now n dir name moment) (security_told ∙ security-is) file;
       sets =
           subst (SetsAttributes mid new dir (slice_set (slice_set node.times 1 moment) 2 moment)) (flags_told ∙ sym to_make.makeable.flags)
           (subst (λ ts. SetsAttributes mid new dir (slice_set (slice_set ts 1 moment) 2 moment) flags)

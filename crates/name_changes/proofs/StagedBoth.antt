@@ -25,9 +25,9 @@ use Rattle.make_places.proofs.StagedLaws.{few-then}
 use Rattle.name_changes.specs.Staged.{IsOfMaking, StagesMaking}
 use Rattle.name_changes.proofs.FileBetween as between
 
-module _ {D : Type 0} (g : Ghosts D) (a m : Mft D g) (n dir : ℕ) (node : Node) (units : List ℕ) (moment security : ℕ)
+module _ {D : Type 0} (directory : Bool) (g : Ghosts D) (a m : Mft D g) (n dir : ℕ) (node : Node) (units : List ℕ) (moment security : ℕ)
     (can : CanMake (view g a) dir node units) (is : IsSoundVolume (view g a) (mounted_of g a))
-    (file : MakesFile (view g a) (view g m) (mounted_of g a) (mounted_of g m) n dir units moment security) where
+    (file : MakesFile directory (view g a) (view g m) (mounted_of g a) (mounted_of g m) n dir units moment security) where
   abbrev old : VolumeView
   old = view g a
 
@@ -40,10 +40,10 @@ module _ {D : Type 0} (g : Ghosts D) (a m : Mft D g) (n dir : ℕ) (node : Node)
       ⊎ Contains (record_places old.layout dir) s)) → IsOfMaking old dir s
   of-file vcns s (inl bits) = inl bits
   of-file vcns s (inr (inl own)) =
-      inr (inl (between.free-record old mid (mounted_of g a) (mounted_of g m) n dir node units moment security can is file s own))
+      inr (inl (between.free-record directory old mid (mounted_of g a) (mounted_of g m) n dir node units moment security can is file s own))
   of-file vcns s (inr (inr (inr own))) =
       inr (inr (inr (inl
-      (dir, between.own-record old mid (mounted_of g a) (mounted_of g m) n dir node units moment security can is file, own))))
+      (dir, between.own-record directory old mid (mounted_of g a) (mounted_of g m) n dir node units moment security can is file, own))))
   of-file vcns s (inr (inr (inl index))) =
       let at = Contains-from_flat_map (record_sectors old.layout (spot_at (names_of_directory old dir).records)) vcns s index in
       inr (inr (inl (at.0, at.2)))
@@ -63,7 +63,7 @@ module _ {D : Type 0} (g : Ghosts D) (a m : Mft D g) (n dir : ℕ) (node : Node)
   staged-both b first second =
       let had = names_of (records_of old) dir in
       let now = names_of (records_of mid) dir in
-      let many = ap length (between.names old mid (mounted_of g a) (mounted_of g m) n dir node units moment security can is file) in
+      let many = ap length (between.names directory old mid (mounted_of g a) (mounted_of g m) n dir node units moment security can is file) in
       few-then g made_sectors (4 + 12 * length now) (made_sectors + 4 + 12 * length had) (IsOfMaking old dir) (IsOfMaking old dir)
       (λ s. IsOfFile mid dir s ⊎ IsOfNames mid now s) a m b (staged-file first) second (omega (arith, many)) (λ s of. of)
-      (between.set-before old mid (mounted_of g a) (mounted_of g m) n dir node units moment security can is file)
+      (between.set-before directory old mid (mounted_of g a) (mounted_of g m) n dir node units moment security can is file)

@@ -1,4 +1,4 @@
-//! A new file under the name to which a path led.
+//! A new file, or directory, under the name to which a path led.
 ghost use Rattle.std.specs.Prelude.{◌≡◌, ◌<◌, ◌≤◌, ℕ, IfErr, IsTrue, MatchResult, OnOk, false, length, slice_set};
 ghost use Rattle.volume_def.specs.FileNames.{names_of};
 ghost use Rattle.volume_def.specs.Files.{records_of};
@@ -53,9 +53,9 @@ fn touch_directory<D: Disk>(
     set_attributes(alloc, mft, number, &times, was.flags)
 }
 
-/// Makes an empty file under the name that was found, at this moment (in units of 100 ns since 1601), with the security id of its
-/// directory, and sets the moment as the times at which the directory and its record changed. Its other times and its flags stay. All of
-/// it is staged.
+/// Makes an empty file, or a directory, under the name that was found, at this moment (in units of 100 ns since 1601), with the security id
+/// of the directory in which it comes, and sets the moment as the times at which that and its record changed. Its other times and its flags
+/// stay. All of it is staged.
 ///
 /// # Errors
 ///
@@ -64,6 +64,7 @@ pub fn make_found<D: Disk>(
     alloc: Global,
     mft: &mut Mft<'_, D>,
     found: &NewPlace<'_>,
+    directory: bool,
     moment: u64,
 ) -> Result<(), FileNo>
     requires inside { number_within found.now.standing < length (mounted_of D.Disk mft.old).records }
@@ -73,9 +74,9 @@ pub fn make_found<D: Disk>(
     requires mirror { IsMirrorInside (mounted_of D.Disk mft.old) }
     requires sound { is_mft_broken D.Disk mft.old ≡ false }
     requires volume { IsInUse D.Disk mft.old }
-    requires can { IsTrue (view D.Disk mft.old).told → IsToMake (view D.Disk mft.old) (mounted_of D.Disk mft.old) found.now }
+    requires can { IsTrue (view D.Disk mft.old).told → IsToMake directory (view D.Disk mft.old) (mounted_of D.Disk mft.old) found.now }
     ensures made { OnOk result (IsTrue (view D.Disk mft.old).told
-        → MakesFound (view D.Disk mft.old) (view D.Disk mft.new) found.now moment) }
+        → MakesFound directory (view D.Disk mft.old) (view D.Disk mft.new) found.now moment) }
     ensures places { OnOk result (IsTrue (view D.Disk mft.old).told
         → StagesMaking D.Disk (number_within found.now.standing) mft.old mft.new) }
     ensures tables { OnOk result (TellsStored D.Disk mft.new) }
@@ -94,6 +95,7 @@ pub fn make_found<D: Disk>(
         mft,
         number,
         found.name.as_slice(),
+        directory,
         moment,
         was.security,
     )?;

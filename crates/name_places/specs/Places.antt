@@ -1,4 +1,5 @@
--- WHERE A PATH PUTS A NEW NAME of a new file, and the refusals that come of finding it, in the order of the machine for `create`.
+-- WHERE A PATH PUTS A NEW NAME of a new file, and the refusals that come of finding it, in the order of the machine for `create` and
+-- `mkdir`.
 use Rattle.std.specs.Prelude.{ℕ, Bool, List, Result, Ok, Err, if◌then◌else◌}
 use Rattle.std.specs.List.{list_any}
 use Rattle.std.specs.Option.{option_map_or}

@@ -4,3 +4,7 @@
 
 #[cfg(test)]
 mod creates;
+#[cfg(test)]
+mod directories;
+#[cfg(test)]
+mod nested;

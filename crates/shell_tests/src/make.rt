@@ -9,8 +9,8 @@ const NONE: &str = "made 0 0 0\ndf 2048 1913 64 38\n";
 // The first number behind the seed 0 tells `mv`, and there is nothing to be moved.
 const ONE: &str = "made 1 0 1\ndf 2048 1913 64 38\n";
 
-// Of what a drawn line may be writes alone are built, and a new volume has none of their files.
-const MANY: &str = "made 300 0 300\ndf 2048 1913 64 38\n";
+// Of these lines 38 make a directory, or a file in one that is there; then no record is free. None writes into a file that is there.
+const MANY: &str = "made 300 38 262\ndf 2048 1913 64 0\n";
 
 // A disk with a new volume of 2,048 clusters of 4,096 bytes, with room for many writes.
 fn new_volume(alloc: Global) -> Result<MemDisk, test::Fail> {

@@ -46,7 +46,7 @@ use Rattle.dir_index.proofs.StandardLaws.{at-among}
 use Rattle.tree_edit.specs.Change.{ChangesPart, FitsPart, RemovesPart, TellsFit, TellsFree, fits_in, has_room, has_room_for}
 use Rattle.tree_edit.proofs.ValueRoom as room
 use Rattle.tree_edit.proofs.ValueRoom.{room-max}
-use Rattle.tree_edit.proofs.ValueLaws.{either}
+use Rattle.file_changes.proofs.ValueLaws.{either}
 
 -- what is held of a value that passes a test
 option-true : {A : Type 0} (p : A → Bool) (o : Option A) → option_map_or p o false ≡ true → (x : A) × (o ≡ Some x) × (p x ≡ true)

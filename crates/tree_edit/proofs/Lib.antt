@@ -1,9 +1,3 @@
-pub mod LinkLaws
-pub mod StepLaws
-pub mod StagedLaws
-pub mod ChainedLaws
-pub mod NamesLaws
-pub mod SetLaws
 pub mod SettableLaws
 mod FoundLaws
 pub mod StreamToWrite
@@ -11,10 +5,6 @@ pub mod EditableLaws
 pub mod OverLaws
 mod FoundOver
 mod FoundPunch
-mod StoredLaws
-mod WriteOverLaws
-mod ValueLaws
-mod PutLaws
 pub mod PunchLaws
 mod SecureFound
 mod SecureLaws
@@ -30,6 +20,8 @@ pub mod Below
 pub mod RoomThere
 pub mod ReachFound
 -- Laws of the crates below, passed on to those above.
+pub use Rattle.file_changes.proofs.LinkLaws
+pub use Rattle.file_changes.proofs.StagedLaws
 pub use Rattle.attribute_edits.proofs.ItemLaws
 pub use Rattle.stream_overwrites.proofs.Rows
 pub use Rattle.view_index.proofs.SoundLaws

@@ -15,7 +15,7 @@ use Rattle.tree_model.specs.Staging.{cannot_edit}
 use Rattle.tree_model.specs.StreamRoom.{goes_over, parts_named}
 use Rattle.file_room.specs.Nodes.{IsCaseOf, IsNodeHeld, number_of}
 use Rattle.file_room.proofs.NodeLaws.{held-with}
-use Rattle.tree_edit.specs.Over.{CanWriteOver}
+use Rattle.file_changes.specs.Over.{CanWriteOver}
 use Rattle.tree_edit.specs.Settable.{is_editable}
 use Rattle.tree_edit.specs.Writable.{IsFoundToEdit, IsMountedAs, can_write_over}
 use Rattle.tree_edit.specs.declared.writable.Writable.{Writable}

@@ -34,10 +34,10 @@ use Rattle.stream_overwrites.proofs.StreamParts.{named-same}
 use Rattle.stream_overwrites.proofs.OverReading.{value-overwritten}
 use Rattle.stream_overwrites.proofs.ShownFile.{node-streams, not-bitmap, not-case}
 use Rattle.tree_edit.specs.Punchable.{CanPunch, IsPunchable}
-use Rattle.tree_edit.specs.Values.{CanPut, LeavesFile, PutsBytes}
+use Rattle.file_changes.specs.Values.{CanPut, LeavesFile, PutsBytes}
 use Rattle.tree_edit.specs.declared.writable.Writable.{Writable}
 use Rattle.tree_edit.proofs.EditableLaws.{parts-are}
-use Rattle.tree_edit.proofs.StoredLaws.{other-file}
+use Rattle.file_changes.proofs.StoredLaws.{other-file}
 
 module _ (v : VolumeView) (found : FoundStream) (f from len : ℕ) (p : CanPunch v found f) where
   abbrev at : ℕ

@@ -11,7 +11,7 @@ use Rattle.dir_index.proofs.StandardLaws.{at-among}
 use Rattle.attribute_edits.specs.Attributes.{SecuresStandard, SetsSecurity}
 use Rattle.attribute_edits.proofs.SecuredVolume.{secured}
 use Rattle.tree_edit.specs.Securable.{CanSecure}
-use Rattle.tree_edit.specs.Values.{CanPut, LeavesFile, PutsBytes}
+use Rattle.file_changes.specs.Values.{CanPut, LeavesFile, PutsBytes}
 
 module _ (v : VolumeView) (f i id : ℕ) (small : id < 2 ^ 32) (p : CanSecure v f i) where
   abbrev bytes : List ℕ

@@ -44,7 +44,7 @@ use Rattle.file_room.proofs.NodeLaws.{file-held}
 use Rattle.file_room.proofs.OutlineLaws.{links-told}
 use Rattle.tree_model.proofs.ReadingLaws.{node_of-read}
 use Rattle.tree_model.proofs.NamesLaws.{IsShown, is_shown, links-of}
-use Rattle.tree_edit.specs.Links.{CanWrite}
+use Rattle.file_changes.specs.Links.{CanWrite}
 use Rattle.tree_edit.specs.Settable.{IsSettable, is_editable}
 
 same-truth : (a b : Bool) → (a ≡ true → b ≡ true) → (b ≡ true → a ≡ true) → a ≡ b

@@ -1,18 +1,17 @@
 pub mod Alone
 pub mod Change
 pub mod Decided
-pub mod Duplicated
-pub mod Links
-pub mod Over
 pub mod Punchable
 pub mod Securable
 pub mod Settable
-pub mod Staged
-pub mod Values
 pub mod Writable
 pub mod Write
 pub mod Below
 -- Words of the crates below, passed on to those above.
+pub use Rattle.file_changes.specs.Links
+pub use Rattle.file_changes.specs.Over
+pub use Rattle.file_changes.specs.Staged
+pub use Rattle.file_changes.specs.Values
 pub use Rattle.file_room.specs.Asked
 pub use Rattle.file_room.specs.Made
 pub use Rattle.stream_overwrites.specs.Marks

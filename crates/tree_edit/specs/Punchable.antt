@@ -17,7 +17,7 @@ use Rattle.tree_model.specs.declared.reply.No.{No}
 use Rattle.tree_model.specs.declared.reply.No.TheVariants as no
 use Rattle.sparse_io.specs.declared.find.FoundStream.{FoundStream}
 use Rattle.stream_overwrites.specs.Overwritten.{FindsPlain}
-use Rattle.tree_edit.specs.Links.{CanWriteFile}
+use Rattle.file_changes.specs.Links.{CanWriteFile}
 use Rattle.tree_edit.specs.Writable.{IsFoundToEdit, kept_from_writing, named_in}
 use Rattle.tree_edit.specs.declared.writable.Writable.{Writable}
 

@@ -17,7 +17,7 @@ use Rattle.tree_model.specs.declared.reply.No.{No}
 use Rattle.tree_model.specs.declared.reply.No.TheVariants as no
 use Rattle.file_room.specs.Nodes.{number_of}
 use Rattle.tree_edit.specs.Settable.{IsSettable}
-use Rattle.tree_edit.specs.Links.{CanWriteFile}
+use Rattle.file_changes.specs.Links.{CanWriteFile}
 use Rattle.tree_edit.specs.declared.securable.Securable.{Securable}
 
 -- The file can be edited, and its $STANDARD_INFORMATION has a place for an id.

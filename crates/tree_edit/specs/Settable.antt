@@ -15,7 +15,7 @@ use Rattle.tree_model.specs.declared.reply.No.TheVariants as no
 use Rattle.mft_table.specs.declared.mounted.Mounted.{Mounted}
 use Rattle.file_record.specs.declared.parts.FileParts.{FileParts}
 use Rattle.file_room.specs.FileLinks.{links_held}
-use Rattle.tree_edit.specs.Links.{CanWriteFile}
+use Rattle.file_changes.specs.Links.{CanWriteFile}
 use Rattle.tree_edit.specs.declared.settable.Settable.{Settable}
 
 -- the number of the file that a path leads to, where it can be edited

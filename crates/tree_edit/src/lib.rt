@@ -2,14 +2,10 @@
 #![tactic(auto)]
 
 mod alone;
-mod attributes;
 mod behind;
-mod duplicated;
 mod extent;
-mod over;
 mod punch;
 mod punchable;
-mod refresh;
 mod room;
 mod securable;
 mod secure;
@@ -19,9 +15,8 @@ mod writable;
 mod write;
 
 pub use alone::{find_to_drop, find_to_resize};
-pub use attributes::set_attributes;
+pub use file_changes::{set_attributes, write_over};
 pub use file_room::{Standard, Standing, Stop, ask_to_make, load_file, read_standard};
-pub use over::write_over;
 pub use punch::punch_value;
 pub use punchable::find_punchable;
 pub use securable::{Securable, find_securable};

@@ -8,10 +8,10 @@ ghost use Rattle.mft_table.specs.MirrorClusters.{IsMirrorInside};
 ghost use Rattle.file_record.specs.FileNos.{CountsNo, IsReadNo};
 ghost use Rattle.stream_overwrites.specs.Overwritten.{PunchesValue};
 ghost use Rattle.tree_edit.specs.Punchable.{CanPunch};
-ghost use Rattle.tree_edit.specs.Values.{StagesValue};
-ghost use Rattle.tree_edit.specs.Staged.{TellsStored};
+ghost use Rattle.file_changes.specs.Values.{StagesValue};
+ghost use Rattle.file_changes.specs.Staged.{TellsStored};
 
-use crate::value::put_bytes;
+use file_changes::put_bytes;
 use file_record::FileNo;
 use mft_table::Mft;
 use sparse_io::FoundStream;

@@ -8,10 +8,10 @@ ghost use Rattle.mft_table.specs.MirrorClusters.{IsMirrorInside};
 ghost use Rattle.file_record.specs.FileNos.{CountsNo, IsReadNo};
 ghost use Rattle.attribute_edits.specs.Attributes.{SetsSecurity};
 ghost use Rattle.tree_edit.specs.Securable.{CanSecure};
-ghost use Rattle.tree_edit.specs.Values.{StagesValue};
-ghost use Rattle.tree_edit.specs.Staged.{TellsStored};
+ghost use Rattle.file_changes.specs.Values.{StagesValue};
+ghost use Rattle.file_changes.specs.Staged.{TellsStored};
 
-use crate::value::put_bytes;
+use file_changes::put_bytes;
 use file_record::FileNo;
 use mft_table::Mft;
 use ntfs_def::standard_information::SECURITY;

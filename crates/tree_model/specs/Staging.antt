@@ -1,6 +1,6 @@
 -- WHAT IS NOT BUILT YET, told here alone: Unbuilt and Linked. Once all is built this file goes out, with the places that name it:
 -- `is_built`, `cannot_edit`, `is_built_for` and `linked` in `Refusals`, `whole_table` and `built_for` of `Facts`, and the two variants of
--- the type `No`. Until then it tells which edits are built: those done in one of the five ways of `Ways`.
+-- the type `No`. Until then it tells which edits are built: those done in one of the four ways of `Ways`.
 use Rattle.std.specs.Prelude.{ℕ, ◌+◌, ◌==◌, ◌&&◌, ◌||◌, ◌++◌, nat_lt, not, Bool, true, false}
 use Rattle.std.specs.List.{list_any}
 use Rattle.std.specs.Option.{option_map_or}
@@ -13,8 +13,7 @@ use Rattle.tree_model.specs.Tree.{Tree, leads_to}
 use Rattle.tree_model.specs.declared.command.Command.{Command}
 use Rattle.tree_model.specs.declared.command.Command.TheVariants as c
 use Rattle.tree_model.specs.declared.tree.Link.{Link}
-use Rattle.tree_model.specs.Ways.{has_copied_name, is_done_by_moving, is_done_in_clusters, is_done_in_directory, is_done_in_place}
-use Rattle.tree_model.specs.Ways.{is_done_in_record}
+use Rattle.tree_model.specs.Ways.{has_copied_name, is_done_in_clusters, is_done_in_directory, is_done_in_place, is_done_in_record}
 
 -- UNBUILT: all commands but these.
 abbrev pub is_built : Command → Bool
@@ -50,13 +49,11 @@ is_built other = false
 abbrev pub cannot_edit : Bool → Tree → ℕ → Bool
 cannot_edit whole_table tree file = not whole_table || has_copied_name tree file
 
--- UNBUILT too: an edit that is done in none of these five ways.
+-- UNBUILT too: an edit that is done in none of these four ways.
 abbrev pub is_built_for : VolumeView → Tree → Command → Located → Bool
 is_built_for view tree command at =
     is_done_in_place view tree command at
-    || (is_done_in_record view tree command at
-    || (is_done_in_clusters view tree command at
-    || (is_done_by_moving view tree command at || is_done_in_directory view tree command at)))
+    || (is_done_in_record view tree command at || (is_done_in_clusters view tree command at || is_done_in_directory view tree command at))
 
 -- LINKED: a file would go that has a reparse point or an object id, for which view indexes have keys.
 abbrev pub has_object_id : Located → Bool

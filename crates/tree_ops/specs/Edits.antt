@@ -62,6 +62,7 @@ command_of (e.Truncate path stream size) = c.Truncate path.now stream.now size
 command_of (e.Punch path stream at len) = c.Punch path.now stream.now at len
 command_of (e.Rmstream path name) = c.Rmstream path.now name.now
 command_of (e.Create path) = c.Create path.now
+command_of (e.Mkdir path) = c.Mkdir path.now
 command_of (e.Setsec path id) = c.Setsec path.now id
 
 -- THE MARK stands in two sectors of a disk of this size, which holds these bytes, and is set in both.
@@ -256,17 +257,17 @@ setsec_edit path id described moment = record {
   most = most_giving most_of_value;
 }
 
--- `create`: a directory was found, and a name that is new in it, and the file was made there
-pub record MakesNamed (old new : VolumeView) (dir : ℕ) (path : List (List ℕ)) (moment : ℕ) : Type 0 where
+-- `create` and `mkdir`: a directory was found, and a name that is new in it, and the file, or the directory, was made there
+pub record MakesNamed (directory : Bool) (old new : VolumeView) (dir : ℕ) (path : List (List ℕ)) (moment : ℕ) : Type 0 where
   pub found : NewPlace
-  pub directory : number_within found.standing ≡ dir
+  pub parent : number_within found.standing ≡ dir
   pub place : place_wanted (read old) path ≡ Ok (place_of found)
-  pub makes : MakesFound old new found moment
+  pub makes : MakesFound directory old new found moment
 
-abbrev pub create_edit : List (List ℕ) → ℕ → EditOf
-create_edit path moment = record {
-  wanted = λ view. make_wanted view path;
-  Does = λ old new dir. MakesNamed old new dir path moment;
+abbrev pub create_edit : Bool → List (List ℕ) → ℕ → EditOf
+create_edit directory path moment = record {
+  wanted = λ view. make_wanted view directory path;
+  Does = λ old new dir. MakesNamed directory old new dir path moment;
   Of = IsOfMaking;
   most = λ old new dir. made_sectors + 4 + 12 * length (names_of (records_of old) dir);
 }

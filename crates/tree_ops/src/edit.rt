@@ -70,6 +70,10 @@ pub enum Edit<'c> {
     Create {
         path: &'c Path,
     },
+    /// A new directory comes under a name.
+    Mkdir {
+        path: &'c Path,
+    },
     /// The security id of a file is set.
     Setsec {
         path: &'c Path,
@@ -122,6 +126,7 @@ impl<'c> Edit<'c> {
             }),
             Command::Rmstream { path, name } => Some(Edit::Rmstream { path, name }),
             Command::Create { path } => Some(Edit::Create { path }),
+            Command::Mkdir { path } => Some(Edit::Mkdir { path }),
             Command::Setsec { path, id } => Some(Edit::Setsec { path, id: *id }),
             _ => None,
         }

@@ -16,6 +16,7 @@ ghost use Rattle.tree_model.specs.Refusals.{is_edit};
 ghost use Rattle.tree_model.specs.Staging.{is_built};
 ghost use Rattle.tree_model.specs.declared.command.Command.TheVariants as command_is;
 ghost use Rattle.tree_model.specs.declared.reply.Reply.TheVariants as reply_is;
+ghost use Rattle.made_done.specs.MadeOwed.{made_command};
 ghost use Rattle.made_done.specs.Written.{SetsShown};
 ghost use Rattle.tree_model.specs.Subjects.{stream_name};
 ghost use Rattle.tree_ops.specs.Edits.{command_of, stream_command};
@@ -210,11 +211,11 @@ impl<D: Disk> Volume<'_, D> {
         reply_to(ended)
     }
 
-    // `create`
-    fn create(&mut self, session: u8, path: &Path) -> Reply
+    // `create` and `mkdir`
+    fn create(&mut self, session: u8, path: &Path, directory: bool) -> Reply
         requires serves { Serves D.Disk self.old }
-        requires shown { SetsShown (command_is.Create path.now) }
-        ensures { Replies D.Disk self.old self.new session (command_is.Create path.now) result }
+        requires shown { SetsShown (made_command directory path.now) }
+        ensures { Replies D.Disk self.old self.new session (made_command directory path.now) result }
     {
         let ended = create(
             self.alloc,
@@ -223,6 +224,7 @@ impl<D: Disk> Volume<'_, D> {
             &mut self.mark,
             self.moment,
             path,
+            directory,
         );
         reply_to(ended)
     }
@@ -260,7 +262,8 @@ impl<D: Disk> Volume<'_, D> {
                 self.edit_stream(session, path, name_or(stream, &unnamed), what)
             }
             Edit::Rmstream { path, name } => self.remove_stream(session, path, name),
-            Edit::Create { path } => self.create(session, path),
+            Edit::Create { path } => self.create(session, path, false),
+            Edit::Mkdir { path } => self.create(session, path, true),
             Edit::Setsec { path, id } => self.secure(session, path, id),
         }
     }

@@ -33,7 +33,7 @@ returns-clause-comes g c told place low =
     let one = least-once mounted.records c.in-Some.n made c.in-Some.ensures.some least in
     let stores = subst (λ n. StoresRecordBit old flagged n) one
     (c.in_ok-store_record_bit.ensures.stored told (ap (λ n. has_record_bit old n) one ∙ place)) in
-    flagged-comes old flagged (view g.D.Disk c.make_record.new.mft) mounted
+    flagged-comes c.args.directory old flagged (view g.D.Disk c.make_record.new.mft) mounted
     (g.D.Disk.size (disk_of g.D.Disk (stage_of g.D.Disk c.args.mft.now))) made c.args.standard.now c.args.key.now told (c.requires.volume told)
     (c.requires.owners told) c.args.mft.now.stands.table least.free low stores c.in_ok-made.ensures.made
 

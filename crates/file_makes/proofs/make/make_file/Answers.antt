@@ -46,10 +46,10 @@ make_named-requires-clause-may g c told_then =
     let told : IsTrue old.told = subst (λ (v : VolumeView). IsTrue v.told) same told_then in
     let can = c.requires.can told in
     let key = c.in_ok-key.key.items in
-    let new_key = plain-new old c.in_ok-parent.parent c.args.dir c.args.name.now c.args.moment key c.in_ok-key.ensures
+    let new_key = plain-new old c.args.directory c.in_ok-parent.parent c.args.dir c.args.name.now c.args.moment key c.in_ok-key.ensures
     (c.in_ok-parent.ensures.reference told) in
-    subst (λ (v : VolumeView). MayMake v c.args.dir c.deref.result.now) (sym same)
-    (subst (MayMake old c.args.dir) (sym c.deref.ensures.value)
+    subst (λ (v : VolumeView). MayMake c.args.directory v c.args.dir c.deref.result.now) (sym same)
+    (subst (MayMake c.args.directory old c.args.dir) (sym c.deref.ensures.value)
     (record {
       node = can.0;
       units = c.args.name.now;
@@ -102,7 +102,7 @@ returns-clause-made g c told =
     c.in_ok-file.ensures.reference (subst (λ (v : VolumeView). IsTrue v.told) (sym first) told)
     ∙ ap (λ (v : VolumeView). new_reference v c.in-Some.n) first ∙ ap (new_reference old) one in
     let comes = subst (λ (v : VolumeView). IsTrue v.told → reference_in c.in_ok-file.file ≡ new_reference v made
-    → ComesUnder v new (mounted_of g.D.Disk c.next_reference.new.mft) now made c.args.dir c.new_standard-standard.result c.deref.result.now)
+    → ComesUnder c.args.directory v new (mounted_of g.D.Disk c.next_reference.new.mft) now made c.args.dir c.new_standard-standard.result c.deref.result.now)
     same c.in_ok-made.ensures.made told reference in
     record {
       standard = c.new_standard-standard.result;
@@ -113,10 +113,10 @@ returns-clause-made g c told =
         zeros = c.new_standard-standard.ensures.zeros;
       };
       key = key;
-      new_key = plain-new old c.in_ok-parent.parent c.args.dir c.args.name.now c.args.moment key c.in_ok-key.ensures
+      new_key = plain-new old c.args.directory c.in_ok-parent.parent c.args.dir c.args.name.now c.args.moment key c.in_ok-key.ensures
           (c.in_ok-parent.ensures.reference told);
-      comes = subst (λ xs. ComesUnder old new was now made c.args.dir c.new_standard-standard.result xs) c.deref.ensures.value
-          (subst (λ (m : Mounted). ComesUnder old new m now made c.args.dir c.new_standard-standard.result c.deref.result.now) mounted comes);
+      comes = subst (λ xs. ComesUnder c.args.directory old new was now made c.args.dir c.new_standard-standard.result xs) c.deref.ensures.value
+          (subst (λ (m : Mounted). ComesUnder c.args.directory old new m now made c.args.dir c.new_standard-standard.result c.deref.result.now) mounted comes);
     }
 
 pub returns-clause-places : goal.returns-clause-places

@@ -4,7 +4,10 @@ use Rattle.made_owed.proofs.laws.made_leaves.Goals as goal
 
 pub returns : goal.returns
 returns c = record {
-  calls = λ before next path dir units made mid staged s. calls.calls before next dir units made mid staged s path;
-  owes = λ before next path dir units made mid staged s. laws.owes before next dir units made mid staged s path;
-  leaves = λ before next path dir units made mid staged s. laws.leaves before next dir units made mid staged s path;
+  calls = λ directory before next path dir units made mid staged s.
+      calls.calls directory before next dir units made mid staged s path;
+  owes = λ directory before next path dir units made mid staged s.
+      laws.owes directory before next dir units made mid staged s path;
+  leaves = λ directory before next path dir units made mid staged s.
+      laws.leaves directory before next dir units made mid staged s path;
 }

@@ -14,7 +14,7 @@ pub index_depth-requires : goal.index_depth-requires
 index_depth-requires g c = record {
   held = λ told.
       let old = c.args.mft.now in
-      holds-items (view g.D.Disk old) (mounted_of g.D.Disk old) c.args.dir.now (c.requires.volume told) (c.requires.directory told);
+      holds-items (view g.D.Disk old) (mounted_of g.D.Disk old) c.args.dir.now (c.requires.volume told) (c.requires.held told);
 }
 
 pub returns-in-Ok : goal.returns-in-Ok
@@ -31,6 +31,6 @@ returns-in-Ok g c = record {
       } in
       tells (both first c.ask_to_make.ensures.asked) refl (λ told says.
       let v = view g.D.Disk old in
-      subst (λ (d : ℕ). Says (has_room (no_room_for v (made_bill v dir d))) c.ask_to_make.result) says.0
-      (says.1 (c.requires.directory told).held.parts));
+      subst (λ (d : ℕ). Says (has_room (no_room_for v (made_bill v c.args.directory dir d))) c.ask_to_make.result) says.0
+      (says.1 (c.requires.held told).held.parts));
 }

@@ -9,18 +9,18 @@ pub returns-in_err-place-clause-answered : goal.returns-in_err-place-clause-answ
 returns-in_err-place-clause-answered g c =
     let why = c.in_err-place.field-0.0 in
     rw (handed-on c.from_residual.result why c.from_residual.ensures.1)
-    (undecided-due g.D.Disk c.args.path.now why c.in_err-place.ensures.answered)
+    (undecided-due g.D.Disk c.args.directory c.args.path.now why c.in_err-place.ensures.answered)
 
 pub returns-in_err-ask_for_file-clause-answered : goal.returns-in_err-ask_for_file-clause-answered
 returns-in_err-ask_for_file-clause-answered g c =
     let why = c.in_err-ask_for_file.field-0.0 in
     rw (handed-on c.from_residual-in_err-ask_for_file.result why c.from_residual-in_err-ask_for_file.ensures.1)
-    (asked-stop g.D.Disk c.args.path.now (number_within c.in_ok-place.place.standing) c.in_ok-place.ensures.answered why
+    (asked-stop g.D.Disk c.args.directory c.args.path.now (number_within c.in_ok-place.place.standing) c.in_ok-place.ensures.answered why
     c.in_err-ask_for_file.ensures.asked)
 
 pub returns-clause-answered : goal.returns-clause-answered
 returns-clause-answered g c =
-    asked-on g.D.Disk c.args.path.now (number_within c.in_ok-place.place.standing) c.in_ok-place.ensures.answered
+    asked-on g.D.Disk c.args.directory c.args.path.now (number_within c.in_ok-place.place.standing) c.in_ok-place.ensures.answered
     c.in_ok-ask_for_file.ensures.asked
 
 pub returns-clause-can : goal.returns-clause-can
@@ -33,6 +33,6 @@ returns-clause-can g c = λ told.
         free = c.in_ok-place.ensures.free;
         room = λ n least. record-room (view g.D.Disk old) (mounted_of g.D.Disk old) (c.requires.volume told) n least makeable.record_;
       };
-      asked = asked-none g.D.Disk c.args.path.now (number_within c.in_ok-place.place.standing) c.in_ok-place.ensures.answered
+      asked = asked-none g.D.Disk c.args.directory c.args.path.now (number_within c.in_ok-place.place.standing) c.in_ok-place.ensures.answered
           c.in_ok-ask_for_file.ensures.asked told;
     }

@@ -16,14 +16,14 @@ make_file-requires-clause-written g c told =
 pub touch_directory-requires-clause-volume : goal.touch_directory-requires-clause-volume
 touch_directory-requires-clause-volume g c told_then =
     let told = subst IsTrue c.make_file.ensures.device.goes_on.told_image told_then in
-    in-use g.D.Disk c.args.mft.now c.make_file.new.mft c.args.found.now c.in_ok-make_file.field-0 c.number-number.result
+    in-use c.args.directory g.D.Disk c.args.mft.now c.make_file.new.mft c.args.found.now c.in_ok-make_file.field-0 c.number-number.result
     c.as_slice.result.now c.args.moment c.read_standard-was.result.security (c.requires.volume told) (c.requires.can told)
     c.number-number.ensures c.as_slice.ensures (c.in_ok-make_file.ensures.made told)
 
 pub touch_directory-requires-clause-can : goal.touch_directory-requires-clause-can
 touch_directory-requires-clause-can g c told_then =
     let told = subst IsTrue c.make_file.ensures.device.goes_on.told_image told_then in
-    can-set g.D.Disk c.args.mft.now c.make_file.new.mft c.args.found.now c.in_ok-make_file.field-0 c.number-number.result
+    can-set c.args.directory g.D.Disk c.args.mft.now c.make_file.new.mft c.args.found.now c.in_ok-make_file.field-0 c.number-number.result
     c.as_slice.result.now c.args.moment c.read_standard-was.result.security (c.requires.volume told) (c.requires.can told)
     c.number-number.ensures c.as_slice.ensures (c.in_ok-make_file.ensures.made told) c.in_ok-make_file.ensures.least
 
@@ -32,7 +32,7 @@ returns-clause-made g c =
     let shown = c.read_standard-was.result in
     let value = c.read_standard-was.ensures in
     on_ok_weaker c.touch_directory.result (λ sets told.
-    found-made g.D.Disk c.args.mft.now c.make_file.new.mft c.args.found.now c.in_ok-make_file.field-0 c.number-number.result
+    found-made c.args.directory g.D.Disk c.args.mft.now c.make_file.new.mft c.args.found.now c.in_ok-make_file.field-0 c.number-number.result
     c.as_slice.result.now c.args.moment shown.security (c.requires.volume told) (c.requires.can told) c.number-number.ensures
     c.as_slice.ensures (c.in_ok-make_file.ensures.made told) (view g.D.Disk c.touch_directory.new.mft) shown.times shown.flags
     value.security value.times value.flags (sets (subst IsTrue (sym c.make_file.ensures.device.goes_on.told_image) told)))
@@ -42,7 +42,7 @@ pub returns-clause-places : goal.returns-clause-places
 returns-clause-places g c =
     on_ok_weaker c.touch_directory.result (λ sets told.
     let n = c.in_ok-make_file.field-0 in
-    staged g.D.Disk c.args.mft.now c.make_file.new.mft c.args.found.now n c.number-number.result
+    staged c.args.directory g.D.Disk c.args.mft.now c.make_file.new.mft c.args.found.now n c.number-number.result
     c.as_slice.result.now c.args.moment c.read_standard-was.result.security (c.requires.volume told) (c.requires.can told)
     c.number-number.ensures c.as_slice.ensures (c.in_ok-make_file.ensures.made told) c.touch_directory.new.mft
     (c.make_file.ensures.places told n c.in_ok-make_file.ensures.least)

@@ -1,7 +1,7 @@
 use Rattle.std.proofs.Common.{subst, sym}
 use Rattle.std.proofs.lemmas.Result.{on_ok_weaker}
 use Rattle.mft_table.specs.Mft.{view}
-use Rattle.tree_edit.specs.Values.{CanPut, PutsBytes}
+use Rattle.file_changes.specs.Values.{CanPut, PutsBytes}
 use Rattle.tree_edit.proofs.SecureLaws.{secure-put, secured-by}
 use Rattle.tree_edit.proofs.secure.set_security.Goals as goal
 

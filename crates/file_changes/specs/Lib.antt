@@ -1,0 +1,5 @@
+pub mod Duplicated
+pub mod Links
+pub mod Over
+pub mod Staged
+pub mod Values

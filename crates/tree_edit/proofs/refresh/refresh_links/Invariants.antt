@@ -1,6 +1,0 @@
-use Rattle.tree_edit.proofs.ChainedLaws.{Goes}
-use Rattle.tree_edit.proofs.refresh.refresh_links.Given as goal
-
--- the names so far were told anew, and those that are left can be
-abbrev pub invariant-loop-link : goal.invariant-loop-link
-invariant-loop-link g l = Goes g.D.Disk l.told l.links l.link-index l.fn.mft l.mft
