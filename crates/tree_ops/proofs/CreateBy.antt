@@ -97,13 +97,19 @@ module _ (directory : Bool) (view : VolumeView) (opens : List OpenEntry) (now se
   -- it answers that it is done
   answers : (facts : Facts) (at : Located) → answer_of facts m session command at ≡ a.Done
   unfolding answer_of
-  answers facts at = by directory at.node
+  answers facts at = by directory
     where
-      by : (d : Bool) (o : Option Node) → option_map_or (node_answer m.tree (made_command d path) at.file) o a.Done ≡ a.Done
-      by true None = refl
-      by true (Some node) = refl
-      by false None = refl
-      by false (Some node) = refl
+      of-directory : (o : Option Node) → option_map_or (node_answer m.tree (c.Mkdir path) at.file) o a.Done ≡ a.Done
+      of-directory None = refl
+      of-directory (Some node) = refl
+
+      of-file : (o : Option Node) → option_map_or (node_answer m.tree (c.Create path) at.file) o a.Done ≡ a.Done
+      of-file None = refl
+      of-file (Some node) = refl
+
+      by : (d : Bool) → answer_of facts m session (made_command d path) at ≡ a.Done
+      by true = of-directory at.node
+      by false = of-file at.node
 
   -- WHAT IT LEAVES, staged and written.
   module _ (sound : IsSound view) (facts : Facts) (tells : TellsFacts view facts) (dir : ℕ) (is : make_wanted view directory path ≡ Ok dir)
