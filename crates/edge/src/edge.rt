@@ -175,6 +175,10 @@ where
     let access = access_of(request.words);
     let image = match open_image(rt, request.image, access) {
         Ok(image) => image,
+        Err(ImageFault::Memory) => {
+            complain(rt, "out of memory; nothing was done");
+            return OUT_OF_MEMORY;
+        }
         Err(fault) => {
             complain_of_image(rt, request, &fault);
             return DEVICE_FAILED;

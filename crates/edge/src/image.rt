@@ -1,14 +1,16 @@
 //! The image as a disk, and the standard streams beside it.
 ghost use Rattle.std.specs.Prelude.{◌≡◌, ◌/◌, ◌^◌, ◌<◌};
 
+use frame_disk::{FrameDisk, RangeFile};
 use shell::Access;
+use std::alloc::Global;
 use std::fs::{File, OpenOptions};
 use std::io::{ErrorKind, Seek, SeekFrom};
 use std::os::unix::fs::FileTypeExt;
 use std::rt::Files;
 use std::{fs, io};
 use thiserror::Error;
-use vol_disk::{FileDisk, SECTOR};
+use vol_disk::SECTOR;
 
 /// Why there is no disk over the image.
 #[derive(Debug, Drop, Error)]
@@ -17,14 +19,18 @@ pub enum ImageFault {
     Unreadable(io::Error),
     #[error("cannot be opened for reading and writing: {0}")]
     Unwritable(io::Error),
+    #[error("cannot be held open twice: {0}")]
+    Single(io::Error),
+    #[error("cannot be read, since there is no memory for what is kept of it")]
+    Memory,
     #[error("does not tell its length: {0}; a file or a block device is wanted, and no pipe")]
     Endless(io::Error),
 }
 
-/// The image as a disk.
+/// The image as a disk, which is read by frames.
 #[derive(Drop)]
 pub struct Image {
-    pub disk: FileDisk,
+    pub disk: FrameDisk<RangeFile>,
     /// Whether it was opened for writing too.
     pub is_writable: bool,
 }
@@ -87,13 +93,27 @@ fn sectors_in(length: u64) -> u64
     length / SECTOR as u64
 }
 
+// A disk of so many sectors over a file.
+fn disk_over(alloc: Global, file: File, sectors: u64) -> Result<FrameDisk<RangeFile>, ImageFault>
+    requires { sectors < 2 ^ 55 }
+{
+    let ranges = match RangeFile::new(file, sectors) {
+        Ok(ranges) => ranges,
+        Err(error) => return Err(ImageFault::Single(error)),
+    };
+    match FrameDisk::new(alloc, ranges) {
+        Ok(disk) => Ok(disk),
+        Err(_) => Err(ImageFault::Memory),
+    }
+}
+
 /// The image as a disk of its whole sectors. A block device tells its length like a file, by its end.
 ///
 /// # Errors
 ///
-/// `Unwritable` and `Unreadable` where the image cannot be opened as `access` asks, and `Endless` where
-/// its length cannot be told.
-pub fn open_image<R: Files<File = File>>(
+/// `Unwritable` and `Unreadable` where the image cannot be opened as `access` asks, `Endless` where its
+/// length cannot be told, `Single` where the system gives no second handle of it, and `Memory`.
+pub fn open_image<R: Files<File = File> + AllocGlobal>(
     rt: &R,
     image: &str,
     access: Access,
@@ -101,7 +121,7 @@ pub fn open_image<R: Files<File = File>>(
     let (mut file, is_writable) = open_file(rt, image, access)?;
     match file.seek(SeekFrom::End(0)) {
         Ok(length) => Ok(Image {
-            disk: FileDisk::new(file, sectors_in(length)),
+            disk: disk_over(rt.alloc(), file, sectors_in(length))?,
             is_writable,
         }),
         Err(error) => Err(ImageFault::Endless(error)),

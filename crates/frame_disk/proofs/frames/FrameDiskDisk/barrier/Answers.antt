@@ -1,0 +1,8 @@
+use Rattle.std.proofs.Common.{subst, sym}
+use Rattle.frame_disk.specs.Frames.{AreFrames}
+use Rattle.frame_disk.proofs.frames.FrameDiskDisk.barrier.Goals as goal
+
+pub invariant_of-self-clause-agrees : goal.invariant_of-self-clause-agrees
+invariant_of-self-clause-agrees g c =
+    let framed = c.args.self.now in
+    subst (λ now. AreFrames now framed.room.items framed.held.items) (sym c.barrier.ensures.now) framed.agrees

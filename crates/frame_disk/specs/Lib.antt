@@ -1,0 +1,3 @@
+pub mod Ranges
+pub mod Frames
+pub mod Framed
