@@ -1,3 +1,4 @@
 pub mod Fronts
 pub mod Noted
+pub mod ScriptLines
 pub mod Watched

@@ -20,8 +20,9 @@ pub struct FrontSink<K: Sink + Drop> {
 }
 
 /// Keeps as many of the bytes as there is room for.
-pub fn remember(front: &mut Front, bytes: &[u8])
-    ensures { front.new.items ≡ take FRONT (front.old.items ++ bytes.now) }
+pub fn remember<const N: usize>(front: &mut ArrayVec<u8, N>, bytes: &[u8])
+    ensures front { front.new.items ≡ take N (front.old.items ++ bytes.now) }
+    ensures fit { length front.old.items ≤ N }
 {
     let room = front.remaining_capacity().min(bytes.len());
     front.try_extend_from_slice(&bytes[..room]).unwrap();

@@ -1,7 +1,11 @@
 //! A line of a script of which the front is kept, and what is likely wrong with it where it is no command.
+ghost use Rattle.std.specs.Prelude.{◌≡◌, [], ◌++◌, take};
+ghost use Rattle.edge.specs.ScriptLines.{is_asking, last_or};
+
+use crate::front::remember;
 use crate::verbs::paths_behind;
 use arrayvec::ArrayVec;
-use memchr::memchr;
+use memchr::{memchr, memmem};
 use std::fmt;
 
 /// How many bytes are kept of a line.
@@ -10,15 +14,13 @@ const KEPT: usize = 200;
 /// What a text begins with that some editors write.
 const BYTE_ORDER_MARK: &[u8] = b"\xEF\xBB\xBF";
 
-/// A line, as far as its bytes came.
+/// A line, as far as its bytes came: its number, its front and its last byte.
 #[derive(Drop)]
 pub struct ScriptLine {
     number: u64,
     front: ArrayVec<u8, KEPT>,
-    // The last byte, or 0 where there is none.
+    // 0 where no byte came.
     last: u8,
-    has_tab: bool,
-    has_two_spaces: bool,
 }
 
 /// What is likely wrong with a line.
@@ -119,6 +121,11 @@ fn slip_behind<'a>(command: &'a [u8], paths: u8, words: &mut Words<'a>) -> Slip<
     Slip::Form(command)
 }
 
+// Whether words have two spaces in a row, or one before them.
+fn has_stray_space(words: &[u8]) -> bool {
+    words.starts_with(b" ") || memmem::find(words, b"  ").is_some()
+}
+
 // What is wrong with words that have one space between them.
 fn slip_of_words(front: &[u8]) -> Slip<'_> {
     let mut words = Words { rest: Some(front) };
@@ -136,40 +143,46 @@ fn slip_of_words(front: &[u8]) -> Slip<'_> {
 
 impl ScriptLine {
     /// The line of this number, of which no byte came.
-    pub fn new(number: u64) -> ScriptLine {
+    pub fn new(number: u64) -> ScriptLine
+        ensures number { result.number ≡ number }
+        ensures front { result.front.items ≡ [] }
+        ensures last { result.last ≡ 0 }
+    {
         ScriptLine {
             number,
             front: ArrayVec::new(),
             last: 0,
-            has_tab: false,
-            has_two_spaces: false,
         }
     }
 
     /// Its number; that of the first line is 1.
-    pub fn number(&self) -> u64 {
+    pub fn number(&self) -> u64
+        ensures { result ≡ self.now.number }
+    {
         self.number
     }
 
-    /// A byte of it came.
-    pub fn add(&mut self, byte: u8) {
-        self.has_tab = self.has_tab || byte == b'\t';
-        self.has_two_spaces = self.has_two_spaces || (byte == b' ' && self.last == b' ');
-        self.last = byte;
-        if self.front.len() < KEPT {
-            self.front.push(byte);
-        }
+    /// These bytes of it came.
+    pub fn add(&mut self, bytes: &[u8])
+        ensures number { self.new.number ≡ self.old.number }
+        ensures front { self.new.front.items ≡ take KEPT (self.old.front.items ++ bytes.now) }
+        ensures last { self.new.last ≡ last_or self.old.last bytes.now }
+    {
+        remember(&mut self.front, bytes);
+        self.last = bytes.last().copied().unwrap_or(self.last);
     }
 
     /// Whether it asks for something: it is neither empty nor a comment.
-    pub fn is_command(&self) -> bool {
+    pub fn is_command(&self) -> bool
+        ensures { result ≡ is_asking self.now.front.items }
+    {
         match self.front.as_slice() {
             [] => false,
             [byte, ..] => *byte != b'#',
         }
     }
 
-    /// What is likely wrong with it.
+    /// What is likely wrong with it, told from its front and its last byte.
     pub fn slip(&self) -> Slip<'_> {
         let front = self.front.as_slice();
         if self.number == 1 && front.starts_with(BYTE_ORDER_MARK) {
@@ -178,10 +191,10 @@ impl ScriptLine {
         if self.last == b'\r' {
             return Slip::CarriageReturn;
         }
-        if self.has_tab {
+        if memchr(b'\t', front).is_some() {
             return Slip::Tab;
         }
-        if self.has_two_spaces || self.last == b' ' || front.starts_with(b" ") {
+        if has_stray_space(front) || self.last == b' ' {
             return Slip::Spaces;
         }
         slip_of_words(front)

@@ -6,19 +6,20 @@ use std::cell::{Cell, RefCell};
 use std::env::FillError;
 use std::fmt::Display;
 use std::fs::{File, Metadata, OpenOptions};
-use std::io::{ErrorKind, StdinLock};
+use std::io::{BufRead, ErrorKind};
 use std::os::fd::AsRawFd;
 use std::path::PathBuf;
 use std::rt::{Env, Files};
 use std::{env, fs, io};
 
-// The system with other arguments, the words of a line. A path without a slash leads to the folder for
-// temporary files. Standard output and error are kept. Of an image with `kept_` before its
-// name only reading is allowed.
+// The system with other arguments, the words of a line, and with a script for standard input. A path without a
+// slash leads to the folder for temporary files. Standard output and error are kept. Of an image with `kept_`
+// before its name only reading is allowed.
 #[derive(Drop)]
 struct Noted<'a> {
     rt: HostRuntime,
     line: &'a [u8],
+    script: &'static [u8],
     opened: RefCell<Vec<i32>>,
     is_denied: Cell<bool>,
     printed: RefCell<Vec<u8>>,
@@ -150,18 +151,18 @@ impl Files for Noted<'_> {
 }
 
 impl Input for Noted<'_> {
-    type Reader = StdinLock<'static>;
+    type Reader = &'static [u8];
 
     fn read_line<A: Allocator + Clone>(&self, buf: &mut String<A>) -> io::Result<usize> {
         self.rt.read_line(buf)
     }
 
-    fn lines<A: Allocator>(&self, alloc: A) -> io::Lines<StdinLock<'static>, A> {
-        self.rt.lines(alloc)
+    fn lines<A: Allocator>(&self, alloc: A) -> io::Lines<&'static [u8], A> {
+        self.script.lines(alloc)
     }
 
-    fn reader(&self) -> StdinLock<'static> {
-        self.rt.reader()
+    fn reader(&self) -> &'static [u8] {
+        self.script
     }
 }
 
@@ -214,11 +215,12 @@ fn is_apart(opened: &RefCell<Vec<i32>>) -> bool {
     }
 }
 
-// Whether the program ends so.
-fn ends(rt: HostRuntime, end: &End) -> io::Result<bool> {
+// Whether the program ends so on a script.
+fn ends(rt: HostRuntime, script: &'static [u8], end: &End) -> io::Result<bool> {
     let noted = Noted {
         rt,
         line: end.line,
+        script,
         opened: RefCell::new(Vec::new(rt.alloc())),
         is_denied: Cell::new(false),
         printed: RefCell::new(Vec::new(rt.alloc())),
@@ -450,6 +452,28 @@ const ENDS: [End; 33] = [
     },
 ];
 
+// Scripts, and how a run of them ends. The image is that of `ENDS`, as they leave it.
+const RUNS: [(&[u8], End); 2] = [
+    (
+        b"df\ncreate /f\ndf\n",
+        End {
+            line: b"ntfs_shell kept_ntfs_shell_blank run",
+            status: 6,
+            printed: "df 2048 1913 64 38\nok\n",
+            said: "so the first line that writes failed, and the run ended there",
+        },
+    ),
+    (
+        b"#\nls\t/\ndf\n",
+        End {
+            line: b"ntfs_shell ntfs_shell_blank run",
+            status: 0,
+            printed: "no 1 Syntax\ndf 2048 1913 64 38\nok\n",
+            said: "ntfs_shell: 1 line was answered no 1 Syntax, line 2: it has a tab",
+        },
+    ),
+];
+
 // The images that the words name, each by its first sector and its length.
 fn lay_images(rt: &HostRuntime) -> io::Result<()> {
     lay(rt, "ntfs_shell_whole", &boot_sector(0x44, 0xF4), 8_388_608)?;
@@ -476,7 +500,10 @@ fn remove_images(rt: &HostRuntime) -> io::Result<()> {
 fn each_end_says_what_can_be_done(rt: HostRuntime) -> io::Result<()> {
     lay_images(&rt)?;
     for end in ENDS {
-        assert!(rt; ends(rt, &end)?, "{}, {}", end.status, end.said);
+        assert!(rt; ends(rt, b"", &end)?, "{}, {}", end.status, end.said);
+    }
+    for (script, end) in RUNS {
+        assert!(rt; ends(rt, script, &end)?, "{}, {}", end.status, end.said);
     }
     remove_images(&rt)
 }
