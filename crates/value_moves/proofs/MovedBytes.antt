@@ -1,16 +1,17 @@
 -- The bytes of an attribute in clusters that was made of a value.
-use Rattle.std.proofs.Common.{◌≡◌, ◌≢◌, ℕ, ◌+◌, ◌*◌, ◌%◌, ◌^◌, ◌<◌, ◌≤◌, List, Option, length, refl, sym, ap, subst, ◌∙◌, arith}
+use Rattle.std.proofs.Common.{◌≡◌, ◌≢◌, ℕ, ◌+◌, ◌*◌, ◌^◌, ◌<◌, ◌≤◌, List, Option, length, refl, sym, ap, ◌∙◌, arith}
 use Rattle.std.specs.Prelude.{IsSome}
 use Rattle.list_laws.proofs.PieceLaws.{range-long}
 use Rattle.vol_bytes.specs.Field.{u16_at}
 use Rattle.ntfs_def.specs.declared.kinds.TheConstants.{END}
 use Rattle.ntfs_def.specs.declared.run_text.Run.{Run}
 use Rattle.ntfs_def.specs.declared.sizes.Sizes.{Sizes}
-use Rattle.ntfs_def.specs.Attribute.{Attribute, Body, ExtentHeader, NonResident, Resident, attribute_at, attribute_id, attribute_kind, attribute_len, name_end, name_offset, name_units, value_of}
+use Rattle.ntfs_def.specs.Attribute.{Attribute, Body, ExtentHeader, NonResident, Resident, attribute_at, attribute_id}
+use Rattle.ntfs_def.specs.Attribute.{attribute_len, name_end, name_offset, name_units, value_of}
 use Rattle.ntfs_def.specs.Shape.{IsOneAttribute, IsWhole}
 use Rattle.volume_def.specs.Files.{Clusters, Part, Value, content_of}
 use Rattle.record_bytes.specs.AttributeBytes.{IsExtent, IsPartBytes, extent_bytes, one_run, runs_at}
-use Rattle.edit_def.specs.Forms.{Form, form_of, indexed_in, unit_in}
+use Rattle.edit_def.specs.Forms.{form_of, indexed_in, unit_in}
 use Rattle.extent_edits.specs.Numbers.{sizes_over}
 use Rattle.extent_edits.proofs.AloneLaws.{bytes-one}
 use Rattle.value_moves.specs.Bytes.{MovesAttribute}
@@ -47,8 +48,8 @@ unit-made : (kind : ℕ) (name : List ℕ) (id : ℕ) (sizes : Sizes) (text : Li
 unfolding extent_bytes
 unit-made kind name id sizes text = refl
 
-header-of-extent : (bytes : List ℕ) (body : Body) (extent : ExtentHeader) (runs : Option (List Run)) → content_of body ≡ Clusters extent runs
-    → (indexed_in bytes body ≡ 0) × (unit_in bytes body ≡ u16_at bytes 0x22)
+header-of-extent : (bytes : List ℕ) (body : Body) (extent : ExtentHeader) (runs : Option (List Run))
+    → content_of body ≡ Clusters extent runs → (indexed_in bytes body ≡ 0) × (unit_in bytes body ≡ u16_at bytes 0x22)
 header-of-extent bytes (Resident value) extent runs is = absurd (cc)
 header-of-extent bytes (NonResident header text) extent runs is = (refl, refl)
 

@@ -1,5 +1,5 @@
 -- A record that is held, and the value of its attribute i that moved: what the volume has.
-use Rattle.std.proofs.Common.{◌≡◌, ◌+◌, ◌-◌, ◌*◌, ◌<◌, ◌≤◌, ℕ, true, false, List, Option, Some, None, length, slice_get, sym, ap, subst, ◌∙◌, arith}
+use Rattle.std.proofs.Common.{◌≡◌, ◌+◌, ◌-◌, ◌*◌, ◌<◌, ◌≤◌, ℕ, true, false, List, Some, length, slice_get, sym, ap, subst, ◌∙◌, arith}
 use Rattle.std.specs.Prelude.{IsSomeAnd}
 use Rattle.list_laws.proofs.OptionLaws.{some_same}
 use Rattle.vol_bytes.proofs.FieldLaws.{u32_at-same}
@@ -84,8 +84,8 @@ module _ (old new : VolumeView) (file : FileParts) (place i bytes : ℕ) (run : 
         subst (λ o. IsSomeAnd o (λ was. CanBeMoved was → length was.bytes + free_bytes old one.number < moved_len was.name))
             (sym (there old file place i one is whole lt))
             (subst (λ (free : ℕ). CanBeMoved (attribute_in one.block i)
-                → length (attribute_in one.block i).bytes + free < moved_len (attribute_in one.block i).name)
-                (free-held old file place i one is whole lt) full),
+            → length (attribute_in one.block i).bytes + free < moved_len (attribute_in one.block i).name)
+            (free-held old file place i one is whole lt) full),
         same,
       )) within none
 

@@ -1,6 +1,5 @@
 //! The bytes of an attribute in clusters that comes in the place of a value.
-ghost use Rattle.std.specs.Prelude.{◌≡◌, ◌≢◌, ◌*◌, ◌<◌, ◌≤◌, ◌^◌, ◌%◌, ◌↔◌, IfNone, IfOk, IfSome, IsSome, IsTrue, length};
-ghost use Rattle.ntfs_def.specs.declared.kinds.TheConstants.{END};
+ghost use Rattle.std.specs.Prelude.{◌≡◌, ◌*◌, ◌<◌, ◌≤◌, ◌^◌, ◌%◌, ◌↔◌, IfNone, IfOk, IfSome, IsSome, IsTrue, length};
 ghost use Rattle.attr_view.specs.View.{attribute_of};
 ghost use Rattle.extent_edits.specs.Extended.{IsNewRun};
 ghost use Rattle.extent_edits.specs.Numbers.{sizes_over};

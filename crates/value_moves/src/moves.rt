@@ -1,5 +1,6 @@
 //! A value that moves out of its record into clusters.
-ghost use Rattle.std.specs.Prelude.{◌≡◌, ◌+◌, ◌-◌, ◌*◌, ◌<◌, ◌≤◌, ◌^◌, IfErr, IfNone, IfOk, IfSome, IsSome, IsTrue, OnErr, OnOk, false, length};
+ghost use Rattle.std.specs.Prelude.{◌≡◌, ◌+◌, ◌-◌, ◌*◌, ◌<◌, ◌≤◌, ◌^◌, IfErr, IfNone, IfOk, IfSome, IsSome};
+ghost use Rattle.std.specs.Prelude.{IsTrue, OnErr, OnOk, false, length};
 ghost use Rattle.ntfs_def.specs.Attribute.{attribute_len, attribute_place, attributes};
 ghost use Rattle.ntfs_def.specs.Record.{used_size};
 ghost use Rattle.attr_view.specs.Values.{attribute_in};
@@ -58,9 +59,9 @@ fn moved_held(
 }
 
 /// Moves the value of attribute `i` of the record that is held at `place` out of the record: the attribute becomes an extent of this run
-/// alone, from cluster 0 of its stream on, with these two sizes, and the record is staged, with its copy where the mirror has one. The bytes
-/// of the value are not put into the clusters. Where it is no value, or has flags, or the record has no room for the extent, nothing is done,
-/// and that is told.
+/// alone, from cluster 0 of its stream on, with these two sizes, and the record is staged, with its copy where the mirror has one. The
+/// bytes of the value are not put into the clusters. Where it is no value, or has flags, or the record has no room for the extent, nothing
+/// is done, and that is told.
 ///
 /// # Errors
 ///

@@ -16,8 +16,7 @@ returns-then-is_some c =
     let was = attribute_of c.args.attr.now in
     let some : IsSome (value_of was.body) =
     ap is_some (sym c.value.ensures) ∙ some-copied c.value.result ∙ sym c.is_some.ensures ∙ c.if-is_some.true in
-    let plain = c.flags.ensures in
-    (
+    let plain = c.flags.ensures in (
       λ none. CanBeMoved-value was some (sym plain ∙ eqb-true c.flags.result 0 none),
       λ can. eq-eqb c.flags.result 0 (plain ∙ can.flags),
     )
@@ -26,8 +25,7 @@ pub returns-else-is_some : goal.returns-else-is_some
 returns-else-is_some c =
     let was = attribute_of c.args.attr.now in
     let none : is_some (value_of was.body) ≡ false =
-    ap is_some (sym c.value.ensures) ∙ some-copied c.value.result ∙ sym c.is_some.ensures ∙ c.if-is_some.false in
-    (
+    ap is_some (sym c.value.ensures) ∙ some-copied c.value.result ∙ sym c.is_some.ensures ∙ c.if-is_some.false in (
       λ some. absurd (let no = c.if-is_some.false in cc),
       λ can. absurd (let some = value-moved was can in cc),
     )

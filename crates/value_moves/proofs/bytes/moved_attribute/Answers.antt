@@ -12,7 +12,8 @@ pub returns-clause-moved : goal.returns-clause-moved
 returns-clause-moved c =
     let was = attribute_of c.args.attr.now in
     let new = c.in_ok-bytes.bytes.items in
-    MovesAttribute-made was new c.args.cluster c.args.real c.args.initialized c.args.run c.sizes_over-sizes.result c.sizes_over-sizes.ensures
+    let sizes = c.sizes_over-sizes.result in
+    MovesAttribute-made was new c.args.cluster c.args.real c.args.initialized c.args.run sizes c.sizes_over-sizes.ensures
     (rw (c.kind.ensures, c.name_of.ensures.name, c.id.ensures) at c.in_ok-bytes.ensures.bytes)
     c.in_ok-bytes.ensures.one
     (rw (c.kind.ensures, c.name_of.ensures.name, c.id.ensures) at c.in_ok-bytes.ensures.part)

@@ -1,4 +1,4 @@
-use Rattle.std.proofs.Common.{◌≡◌, ◌+◌, ◌-◌, ◌<◌, ◌≤◌, get_or, length, ap, subst, ◌∙◌, arith}
+use Rattle.std.proofs.Common.{◌≡◌, ◌+◌, ◌<◌, ◌≤◌, get_or, length, ap, subst, ◌∙◌, arith}
 use Rattle.ntfs_def.specs.Attribute.{Attribute, attribute_len, attribute_place, attributes}
 use Rattle.ntfs_def.specs.Record.{used_size}
 use Rattle.attr_view.specs.Values.{attribute_in}
@@ -7,7 +7,6 @@ use Rattle.std.specs.Prelude.{IsSomeAnd}
 use Rattle.extent_edits.proofs.HeldLaws.{held-gives, held-read, viewed-attribute}
 use Rattle.extent_edits.proofs.LongerHeld.{held-room}
 use Rattle.value_moves.specs.Bytes.{MovesAttribute}
-use Rattle.value_moves.specs.Moved.{CanBeMoved, moved_len}
 use Rattle.value_moves.proofs.MovedHeld.{Lacks}
 use Rattle.value_moves.proofs.moves.moved_held.Goals as goal
 
