@@ -1,6 +1,6 @@
 -- THE VOLUME BETWEEN: the file came under its name, and its directory has the times that it had. The directory can be set, and the records,
 -- indexes and names that this asks for lie where they lay, but for the record of the file.
-use Rattle.std.proofs.Common.{◌≡◌, ◌≢◌, ◌⊎◌, ◌+◌, ◌*◌, ◌≤◌, ℕ, List, Option, None, Some, codes, filter, inl, inr, refl, sym, ap, subst, true, ◌∙◌}
+use Rattle.std.proofs.Common.{◌≡◌, ◌≢◌, ◌⊎◌, ◌+◌, ◌*◌, ◌≤◌, ℕ, Bool, List, Option, None, Some, codes, filter, inl, inr, refl, sym, ap, subst, true, ◌∙◌}
 use Rattle.std.proofs.lemmas.Bool.{cases_eq}
 use Rattle.std.specs.Option.{option_map}
 use Rattle.std.specs.Prelude.{Contains, IsSomeAnd, IsTrue, is_none, is_some, unwrap_or}

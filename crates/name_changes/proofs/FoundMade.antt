@@ -1,6 +1,6 @@
 -- A FILE MADE WHERE IT WAS FOUND: by what the directory tells of itself, it has the security id of the directory, whose other times and
 -- flags stay. The call made it in the directory of number `d`, under the units `us`, which are those that were found.
-use Rattle.std.proofs.Common.{◌≡◌, ℕ, List, Option, sym, ap, subst, ◌∙◌}
+use Rattle.std.proofs.Common.{Bool, ◌≡◌, ℕ, List, Option, sym, ap, subst, ◌∙◌}
 use Rattle.std.specs.Option.{option_map_or}
 use Rattle.std.specs.Prelude.{slice_set}
 use Rattle.vol_disk.specs.declared.Disk.{Ghosts}

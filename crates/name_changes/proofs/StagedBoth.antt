@@ -1,5 +1,5 @@
 -- WHERE SECTORS ARE STAGED where a file is made, and its directory set: those of both, of the volume before.
-use Rattle.std.proofs.Common.{◌⊎◌, ◌+◌, ◌*◌, ℕ, List, length, inl, inr, ap, arith}
+use Rattle.std.proofs.Common.{Bool, ◌⊎◌, ◌+◌, ◌*◌, ℕ, List, length, inl, inr, ap, arith}
 use Rattle.std.specs.List.{flat_map}
 use Rattle.std.specs.Prelude.{Contains}
 use Rattle.list_laws.proofs.MemberLaws.{Contains-from_flat_map}
