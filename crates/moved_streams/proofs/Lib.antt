@@ -1,0 +1,4 @@
+pub mod MovedExtent
+pub mod MovedPrepared
+pub mod MovedStreams
+pub mod MovedCalls

@@ -1,0 +1,87 @@
+-- WHAT THE MACHINE MAKES of a stream that moved: the bytes that it writes, or the length that it gives.
+use Rattle.std.proofs.Common.{◌≡◌, ◌+◌, ◌*◌, ◌-◌, ◌≤◌, ◌<◌, ◌||◌, max, ℕ, true, List, [], ◌∷◌, ◌++◌, Some, length, take}
+use Rattle.std.proofs.Common.{refl, sym, ap, subst, inl, inr, ◌∙◌, arith, length-append, length-drop}
+use Rattle.std.specs.Prelude.{nat_lt, replicate, ◌&&◌}
+use Rattle.std.proofs.lemmas.Bool.{and_from, cases_lt, lt-ltb, or_right}
+use Rattle.std.proofs.lemmas.List.{append-nil, length-replicate, length-take, take_all}
+use Rattle.ntfs_def.specs.Rounded.{clusters_for}
+use Rattle.ntfs_def.specs.declared.run_text.Run.{Run}
+use Rattle.volume_def.specs.Table.{cluster_bytes}
+use Rattle.volume_def.specs.View.{VolumeView}
+use Rattle.tree_model.specs.StreamRoom.{touches}
+use Rattle.tree_model.specs.Streams.{resized, written}
+use Rattle.tree_model.specs.declared.tree.Node.{Node}
+use Rattle.in_place_owed.specs.Below.{CanSet}
+use Rattle.stream_overwrites.specs.Below.{IsInOneRecord}
+use Rattle.value_edits.specs.ValueEdits.{EndsBy, PutsGiving}
+use Rattle.value_edits.proofs.LongerStreams.{begins-below}
+use Rattle.moved_streams.specs.MovedStreams.{MovesStream, touches_either}
+use Rattle.moved_streams.proofs.MovedStreams.{moved-ends, moved-put}
+
+-- a list of its own length
+resized-same : (xs : List ℕ) → resized (length xs) xs ≡ xs
+resized-same xs =
+    ap (λ (front : List ℕ). front ++ replicate (length xs - length xs) 0) (take_all (length xs) xs (omega arith))
+    ∙ ap (λ (n : ℕ). xs ++ replicate n 0) (let none : length xs - length xs ≡ 0 = omega arith in none) ∙ append-nil xs
+
+written-long : (from : ℕ) (bytes held : List ℕ) → length (written from bytes held) ≡ max (length held) (from + length bytes)
+written-long from bytes held = simp (length-append, length-take, length-replicate, length-drop) (omega arith)
+
+-- A CLUSTER that has some of the bytes
+module _ (size from len had vcn : ℕ) (positive : 0 < size) where
+  touches-old : vcn * size < had → touches size 0 had vcn ≡ true
+  touches-old low =
+      and_from (nat_lt 0 had && nat_lt (vcn * size) (0 + had)) (nat_lt 0 (vcn * size + size))
+      (and_from (nat_lt 0 had) (nat_lt (vcn * size) (0 + had)) (lt-ltb 0 had (omega (arith, low)))
+      (lt-ltb (vcn * size) (0 + had) (omega (arith, low))))
+      (lt-ltb 0 (vcn * size + size) (omega (arith, positive)))
+
+  touches-new : 0 < len → from ≤ had → had ≤ vcn * size → vcn * size < from + len → touches size from len vcn ≡ true
+  touches-new some begins past low =
+      and_from (nat_lt 0 len && nat_lt (vcn * size) (from + len)) (nat_lt from (vcn * size + size))
+      (and_from (nat_lt 0 len) (nat_lt (vcn * size) (from + len)) (lt-ltb 0 len some) (lt-ltb (vcn * size) (from + len) low))
+      (lt-ltb from (vcn * size + size) (omega (arith, begins, past, positive)))
+
+  pub touched : 0 < len → from ≤ had → vcn * size < max had (from + len) → touches_either size from len had vcn ≡ true
+  touched some begins low = elim (cases_lt (vcn * size) had) [
+    | inl old ↦ or_right (touches size from len vcn) (touches size 0 had vcn) (touches-old old)
+    | inr past ↦ ap (λ b. b || touches size 0 had vcn) (touches-new some begins past (omega (arith, past, low)))
+  ]
+
+-- a cluster of its run begins within the bytes that were put into it
+begins-inside : (old new : VolumeView) (f i : ℕ) (name : List ℕ) (run : Run) (real : ℕ) (put : List ℕ) (node : Node) → CanSet old f node
+    → MovesStream old new f i name run real put → (vcn : ℕ) → vcn < run.len → vcn * cluster_bytes old.layout < length put
+begins-inside old new f i name run real put node can x vcn low =
+    begins-below vcn (length put) (cluster_bytes old.layout) (omega (arith, can.apart.some)) (omega (arith, low, x.fills.needs.len))
+
+-- BEHIND A WRITE
+pub written-moved : (old new : VolumeView) (f i from : ℕ) (node : Node) (name held bytes : List ℕ) (run : Run) → CanSet old f node
+    → IsInOneRecord old f → MovesStream old new f i name run (length (written from bytes held)) (written from bytes held)
+    → from ≤ length held → 0 < length bytes
+    → PutsGiving old new f name (Some (written from bytes held))
+    (touches_either (cluster_bytes old.layout) from (length bytes) (length held)) [] (run ∷ [])
+written-moved old new f i from node name held bytes run can alone x begins some =
+    let put = written from bytes held in
+    let size = cluster_bytes old.layout in
+    subst (λ (shown : List ℕ). PutsGiving old new f name (Some shown) (touches_either size from (length bytes) (length held)) [] (run ∷ []))
+    (resized-same put)
+    (moved-put x can alone (touches_either size from (length bytes) (length held)) (λ vcn low.
+    let inside = begins-inside old new f i name run (length put) put node can x vcn low in
+    touched size from (length bytes) (length held) vcn (omega (arith, can.apart.some)) some begins
+    (subst (λ n. vcn * size < n) (written-long from bytes held) inside)))
+
+-- IN ANOTHER LENGTH
+pub lengthened-moved : (old new : VolumeView) (f i size : ℕ) (node : Node) (name held : List ℕ) (run : Run) → CanSet old f node
+    → IsInOneRecord old f → MovesStream old new f i name run size held
+    → PutsGiving old new f name (Some (resized size held)) (touches (cluster_bytes old.layout) 0 (length held)) [] (run ∷ [])
+    × EndsBy new f name size
+lengthened-moved old new f i size node name held run can alone x =
+    let bytes = cluster_bytes old.layout in
+    let gained = λ vcn low. touches-old bytes 0 0 (length held) vcn (omega (arith, can.apart.some))
+    (begins-inside old new f i name run size held node can x vcn low) in
+    (
+      moved-put x can alone (touches bytes 0 (length held)) gained,
+      λ vcn lies.
+      let ends = moved-ends x can alone (touches bytes 0 (length held)) gained vcn lies in
+      omega (arith, ends, x.more),
+    )

@@ -1,0 +1,8 @@
+use Rattle.moved_streams.proofs.MovedCalls as laws
+use Rattle.moved_streams.proofs.calls.moved_calls.Goals as goal
+
+pub returns : goal.returns
+returns c = record {
+  written = laws.written-moved;
+  lengthened = laws.lengthened-moved;
+}
