@@ -14,9 +14,8 @@ use Rattle.tree_model.specs.declared.tree.Node.{Node}
 use Rattle.in_place_owed.specs.Below.{CanSet}
 use Rattle.stream_overwrites.specs.Below.{IsInOneRecord}
 use Rattle.value_edits.specs.ValueEdits.{EndsBy, PutsGiving}
-use Rattle.value_edits.proofs.LongerStreams.{begins-below}
 use Rattle.moved_streams.specs.MovedStreams.{MovesStream, touches_either}
-use Rattle.moved_streams.proofs.MovedStreams.{moved-ends, moved-put}
+use Rattle.moved_streams.proofs.MovedStreams.{begins-inside, moved-ends, moved-put}
 
 -- a list of its own length
 resized-same : (xs : List ℕ) → resized (length xs) xs ≡ xs
@@ -48,12 +47,6 @@ module _ (size from len had vcn : ℕ) (positive : 0 < size) where
     | inr past ↦ ap (λ b. b || touches size 0 had vcn) (touches-new some begins past (omega (arith, past, low)))
   ]
 
--- a cluster of its run begins within the bytes that were put into it
-begins-inside : (old new : VolumeView) (f i : ℕ) (name : List ℕ) (run : Run) (real : ℕ) (put : List ℕ) (node : Node) → CanSet old f node
-    → MovesStream old new f i name run real put → (vcn : ℕ) → vcn < run.len → vcn * cluster_bytes old.layout < length put
-begins-inside old new f i name run real put node can x vcn low =
-    begins-below vcn (length put) (cluster_bytes old.layout) (omega (arith, can.apart.some)) (omega (arith, low, x.fills.needs.len))
-
 -- BEHIND A WRITE
 pub written-moved : (old new : VolumeView) (f i from : ℕ) (node : Node) (name held bytes : List ℕ) (run : Run) → CanSet old f node
     → IsInOneRecord old f → MovesStream old new f i name run (length (written from bytes held)) (written from bytes held)
@@ -66,7 +59,7 @@ written-moved old new f i from node name held bytes run can alone x begins some 
     subst (λ (shown : List ℕ). PutsGiving old new f name (Some shown) (touches_either size from (length bytes) (length held)) [] (run ∷ []))
     (resized-same put)
     (moved-put x can alone (touches_either size from (length bytes) (length held)) (λ vcn low.
-    let inside = begins-inside old new f i name run (length put) put node can x vcn low in
+    let inside = begins-inside x (omega (arith, can.apart.some)) vcn low in
     touched size from (length bytes) (length held) vcn (omega (arith, can.apart.some)) some begins
     (subst (λ n. vcn * size < n) (written-long from bytes held) inside)))
 
@@ -77,8 +70,9 @@ pub lengthened-moved : (old new : VolumeView) (f i size : ℕ) (node : Node) (na
     × EndsBy new f name size
 lengthened-moved old new f i size node name held run can alone x =
     let bytes = cluster_bytes old.layout in
-    let gained = λ vcn low. touches-old bytes 0 0 (length held) vcn (omega (arith, can.apart.some))
-    (begins-inside old new f i name run size held node can x vcn low) in
+    let gained : (vcn : ℕ) → vcn < run.len → touches bytes 0 (length held) vcn ≡ true =
+    λ vcn low. touches-old bytes 0 0 (length held) vcn (omega (arith, can.apart.some))
+    (begins-inside x (omega (arith, can.apart.some)) vcn low) in
     (
       moved-put x can alone (touches bytes 0 (length held)) gained,
       λ vcn lies.

@@ -1,5 +1,5 @@
 -- A STREAM THAT MOVED INTO CLUSTERS: it was edited alone, and shows the bytes that were put into its run, and zeros behind them.
-use Rattle.std.proofs.Common.{◌≡◌, ◌⊎◌, ◌+◌, ◌*◌, ◌-◌, ◌/◌, ◌%◌, ◌≤◌, ◌<◌, ◌||◌, max, ℕ, Bool, true, false, List, [], ◌∷◌, ◌++◌}
+use Rattle.std.proofs.Common.{◌≡◌, ◌⊎◌, ◌+◌, ◌*◌, ◌-◌, ◌/◌, ◌%◌, ◌≤◌, ◌<◌, ◌^◌, ◌||◌, max, ℕ, Bool, true, false, List, [], ◌∷◌, ◌++◌}
 use Rattle.std.proofs.Common.{length, take, Some, Option, refl, sym, ap, subst, inl, inr, ◌∙◌, arith}
 use Rattle.std.specs.Prelude.{IfSome, IsTrue, nat_lt, replicate, slice_index, sum_by}
 use Rattle.std.proofs.lemmas.Bool.{and_from, cases_lt, lt-ltb, or_right}
@@ -7,7 +7,7 @@ use Rattle.std.proofs.lemmas.List.{append-nil, get_or_past, take_all}
 use Rattle.list_laws.proofs.MemberLaws.{Contains-head}
 use Rattle.ntfs_def.specs.Attribute.{ExtentHeader}
 use Rattle.ntfs_def.specs.Flags.{is_packed}
-use Rattle.ntfs_def.specs.Runs.{spot_of}
+use Rattle.ntfs_def.specs.Runs.{spot_of, total_clusters}
 use Rattle.ntfs_def.specs.declared.kinds.TheConstants.{DATA}
 use Rattle.ntfs_def.specs.declared.run_text.Run.{Run}
 use Rattle.ntfs_def.specs.declared.run_text.Spot.{Spot}
@@ -97,6 +97,13 @@ module _ {old new : VolumeView} {f i : ℕ} {name : List ℕ} {run : Run} {real 
 
   never-holed : has_hole (now ∷ []) ≡ true → ⊥
   never-holed = moved.no-hole bytes run real (length put) e.was e.now e.becomes f x.fills.needs.placed
+
+  -- a cluster of its run begins within the bytes that were put into it
+  pub begins-inside : 0 < cluster_bytes old.layout → (vcn : ℕ) → vcn < run.len → vcn * cluster_bytes old.layout < length put
+  begins-inside positive vcn low =
+      let none : total_clusters [] ≡ 0 = refl in
+      let inside = begins-below vcn (0 + length put) (cluster_bytes old.layout) positive (omega (arith, low, x.fills.needs.len, none)) in
+      omega (arith, inside)
 
   module _ {node : Node} (can : CanSet old f node) (alone : IsInOneRecord old f) (gains : ℕ → Bool)
       (gained : (vcn : ℕ) → vcn < run.len → gains vcn ≡ true) where
@@ -236,7 +243,7 @@ module _ {old new : VolumeView} {f i : ℕ} {name : List ℕ} {run : Run} {real 
     moved-ends vcn lies = elim (cases_lt vcn run.len) [
       | inl low ↦
           subst (λ b. vcn * b < length put) (sym bytes-now)
-          (begins-below vcn (length put) (cluster_bytes old.layout) (omega (arith, can.apart.some)) (omega (arith, low, x.fills.needs.len)))
+          (begins-inside (omega (arith, can.apart.some)) vcn low)
       | inr past ↦ absurd (let inside = moved.spot-inside bytes run real (length put) e.was e.now e.becomes f vcn
           (sym (ap (λ xs. is_cluster (spot_at xs vcn)) stands) ∙ lies) in omega (arith, inside, past))
     ]
