@@ -1,20 +1,24 @@
 -- WHAT THE MACHINE MAKES of a stream that moved: the bytes that it writes, or the length that it gives.
 use Rattle.std.proofs.Common.{◌≡◌, ◌+◌, ◌*◌, ◌-◌, ◌≤◌, ◌<◌, ◌||◌, max, ℕ, true, List, [], ◌∷◌, ◌++◌, Some, length, take}
 use Rattle.std.proofs.Common.{refl, sym, ap, subst, inl, inr, ◌∙◌, arith, length-append, length-drop}
-use Rattle.std.specs.Prelude.{nat_lt, replicate, ◌&&◌}
+use Rattle.std.specs.Prelude.{nat_lt, replicate, sum_by, ◌&&◌}
 use Rattle.std.proofs.lemmas.Bool.{and_from, cases_lt, lt-ltb, or_right}
 use Rattle.std.proofs.lemmas.List.{append-nil, length-replicate, length-take, take_all}
-use Rattle.ntfs_def.specs.Rounded.{clusters_for}
+use Rattle.ntfs_def.specs.declared.kinds.TheConstants.{DATA}
 use Rattle.ntfs_def.specs.declared.run_text.Run.{Run}
+use Rattle.volume_def.specs.Files.{parts_at}
 use Rattle.volume_def.specs.Table.{cluster_bytes}
 use Rattle.volume_def.specs.View.{VolumeView}
-use Rattle.tree_model.specs.StreamRoom.{touches}
+use Rattle.tree_model.specs.StreamRoom.{new_clusters, touches}
 use Rattle.tree_model.specs.Streams.{resized, written}
 use Rattle.tree_model.specs.declared.tree.Node.{Node}
+use Rattle.edit_def.specs.Purses.{run_size}
 use Rattle.in_place_owed.specs.Below.{CanSet}
 use Rattle.stream_overwrites.specs.Below.{IsInOneRecord}
 use Rattle.value_edits.specs.ValueEdits.{EndsBy, PutsGiving}
+use Rattle.stream_overwrites.specs.Overwritten.{FindsPlain}
 use Rattle.moved_streams.specs.MovedStreams.{MovesStream, touches_either}
+use Rattle.moved_streams.proofs.MovedCount.{takes-counted}
 use Rattle.moved_streams.proofs.MovedStreams.{begins-inside, moved-ends, moved-put}
 
 -- a list of its own length
@@ -48,34 +52,69 @@ module _ (size from len had vcn : ℕ) (positive : 0 < size) where
   ]
 
 -- BEHIND A WRITE
+module _ {old new : VolumeView} {f i from : ℕ} {node : Node} {name held bytes : List ℕ} {run : Run} (can : CanSet old f node)
+    (x : MovesStream old new f i name run (length (written from bytes held)) (written from bytes held)) (begins : from ≤ length held)
+    (some : 0 < length bytes) where
+  abbrev size : ℕ
+  size = cluster_bytes old.layout
+
+  gained : (vcn : ℕ) → vcn < run.len → touches_either size from (length bytes) (length held) vcn ≡ true
+  gained vcn low =
+      let inside = begins-inside x (omega (arith, can.apart.some)) vcn low in
+      touched size from (length bytes) (length held) vcn (omega (arith, can.apart.some)) some begins
+      (subst (λ n. vcn * size < n) (written-long from bytes held) inside)
+
+  written-put : IsInOneRecord old f → PutsGiving old new f name (Some (written from bytes held))
+      (touches_either size from (length bytes) (length held)) [] (run ∷ [])
+  written-put alone =
+      subst (λ (shown : List ℕ). PutsGiving old new f name (Some shown) (touches_either size from (length bytes) (length held)) []
+      (run ∷ [])) (resized-same (written from bytes held))
+      (moved-put x can alone (touches_either size from (length bytes) (length held)) gained)
+
+  written-takes : (asked : List ℕ) → FindsPlain old f node asked name held
+      → sum_by run_size (run ∷ []) ≤ new_clusters size (parts_at old f DATA name) from (length bytes)
+  written-takes asked finds =
+      takes-counted x can finds from (length bytes) (let long = written-long from bytes held in omega (arith, long)) gained
+
 pub written-moved : (old new : VolumeView) (f i from : ℕ) (node : Node) (name held bytes : List ℕ) (run : Run) → CanSet old f node
     → IsInOneRecord old f → MovesStream old new f i name run (length (written from bytes held)) (written from bytes held)
     → from ≤ length held → 0 < length bytes
     → PutsGiving old new f name (Some (written from bytes held))
     (touches_either (cluster_bytes old.layout) from (length bytes) (length held)) [] (run ∷ [])
-written-moved old new f i from node name held bytes run can alone x begins some =
-    let put = written from bytes held in
-    let size = cluster_bytes old.layout in
-    subst (λ (shown : List ℕ). PutsGiving old new f name (Some shown) (touches_either size from (length bytes) (length held)) [] (run ∷ []))
-    (resized-same put)
-    (moved-put x can alone (touches_either size from (length bytes) (length held)) (λ vcn low.
-    let inside = begins-inside x (omega (arith, can.apart.some)) vcn low in
-    touched size from (length bytes) (length held) vcn (omega (arith, can.apart.some)) some begins
-    (subst (λ n. vcn * size < n) (written-long from bytes held) inside)))
+written-moved old new f i from node name held bytes run can alone x begins some = written-put can x begins some alone
+
+pub written-few : (old new : VolumeView) (f i from : ℕ) (node : Node) (asked name held bytes : List ℕ) (run : Run) → CanSet old f node
+    → FindsPlain old f node asked name held
+    → MovesStream old new f i name run (length (written from bytes held)) (written from bytes held)
+    → from ≤ length held → 0 < length bytes
+    → sum_by run_size (run ∷ []) ≤ new_clusters (cluster_bytes old.layout) (parts_at old f DATA name) from (length bytes)
+written-few old new f i from node asked name held bytes run can finds x begins some = written-takes can x begins some asked finds
 
 -- IN ANOTHER LENGTH
+module _ {old new : VolumeView} {f i size : ℕ} {node : Node} {name held : List ℕ} {run : Run} (can : CanSet old f node)
+    (x : MovesStream old new f i name run size held) where
+  abbrev bytes : ℕ
+  bytes = cluster_bytes old.layout
+
+  stayed : (vcn : ℕ) → vcn < run.len → touches bytes 0 (length held) vcn ≡ true
+  stayed vcn low =
+      touches-old bytes 0 0 (length held) vcn (omega (arith, can.apart.some)) (begins-inside x (omega (arith, can.apart.some)) vcn low)
+
+  ends : IsInOneRecord old f → EndsBy new f name size
+  ends alone vcn lies =
+      let inside = moved-ends x can alone (touches bytes 0 (length held)) stayed vcn lies in
+      omega (arith, inside, x.more)
+
 pub lengthened-moved : (old new : VolumeView) (f i size : ℕ) (node : Node) (name held : List ℕ) (run : Run) → CanSet old f node
     → IsInOneRecord old f → MovesStream old new f i name run size held
     → PutsGiving old new f name (Some (resized size held)) (touches (cluster_bytes old.layout) 0 (length held)) [] (run ∷ [])
     × EndsBy new f name size
 lengthened-moved old new f i size node name held run can alone x =
-    let bytes = cluster_bytes old.layout in
-    let gained : (vcn : ℕ) → vcn < run.len → touches bytes 0 (length held) vcn ≡ true =
-    λ vcn low. touches-old bytes 0 0 (length held) vcn (omega (arith, can.apart.some))
-    (begins-inside x (omega (arith, can.apart.some)) vcn low) in
-    (
-      moved-put x can alone (touches bytes 0 (length held)) gained,
-      λ vcn lies.
-      let ends = moved-ends x can alone (touches bytes 0 (length held)) gained vcn lies in
-      omega (arith, ends, x.more),
-    )
+    (moved-put x can alone (touches (cluster_bytes old.layout) 0 (length held)) (stayed can x), ends can x alone)
+
+pub lengthened-few : (old new : VolumeView) (f i size : ℕ) (node : Node) (asked name held : List ℕ) (run : Run) → CanSet old f node
+    → FindsPlain old f node asked name held → MovesStream old new f i name run size held
+    → sum_by run_size (run ∷ []) ≤ new_clusters (cluster_bytes old.layout) (parts_at old f DATA name) 0 0
+lengthened-few old new f i size node asked name held run can finds x =
+    takes-counted x can finds 0 0 (omega arith) (λ vcn low.
+    or_right (touches (cluster_bytes old.layout) 0 0 vcn) (touches (cluster_bytes old.layout) 0 (length held) vcn) (stayed can x vcn low))

@@ -28,6 +28,14 @@ no-unit : (bytes : List ℕ) (body : Body) (value : List ℕ) → content_of bod
 no-unit bytes (Resident value) other is = refl
 no-unit bytes (NonResident header text) other is = absurd (cc)
 
+-- a run with a place is no hole
+pub placed-alone : (run : Run) → IsSome run.lcn → has_hole_in (run ∷ []) ≡ false
+placed-alone run placed = by run.lcn placed
+  where
+    by : (lcn : Option ℕ) → IsSome lcn → (is_none lcn || false) ≡ false
+    by None is = cc
+    by (Some place) is = refl
+
 module _ (bytes : ℕ) (run : Run) (real initialized : ℕ) (was now : Attribute) (becomes : BecomesExtent bytes run real initialized was now)
     (f : ℕ) where
   abbrev part : Part
@@ -91,13 +99,8 @@ module _ (bytes : ℕ) (run : Run) (real initialized : ℕ) (was now : Attribute
   -- IT HAS NO HOLE.
   pub no-hole : IsSome run.lcn → has_hole (part ∷ []) ≡ true → ⊥
   no-hole placed holed =
-      let none = by run.lcn placed in
-      let never = sym (ap has_hole_in runs-now ∙ none) ∙ holed-one part holed in
+      let never = sym (ap has_hole_in runs-now ∙ placed-alone run placed) ∙ holed-one part holed in
       cc
-    where
-      by : (lcn : Option ℕ) → IsSome lcn → (is_none lcn || false) ≡ false
-      by None is = cc
-      by (Some place) is = refl
 
   plain : part.flags ≡ 0 → is_sparse part.flags ≡ true → ⊥
   plain none sparse = let never = sym (ap is_sparse none) ∙ sparse in cc

@@ -4,5 +4,7 @@ use Rattle.moved_streams.proofs.calls.moved_calls.Goals as goal
 pub returns : goal.returns
 returns c = record {
   written = laws.written-moved;
+  few_written = laws.written-few;
   lengthened = laws.lengthened-moved;
+  few_lengthened = laws.lengthened-few;
 }
