@@ -52,27 +52,24 @@ module _ (size from len had vcn : ℕ) (positive : 0 < size) where
   ]
 
 -- BEHIND A WRITE
-module _ {old new : VolumeView} {f i from : ℕ} {node : Node} {name held bytes : List ℕ} {run : Run} (can : CanSet old f node)
+module _ (old new : VolumeView) (f i from : ℕ) (node : Node) (name held bytes : List ℕ) (run : Run) (can : CanSet old f node)
     (x : MovesStream old new f i name run (length (written from bytes held)) (written from bytes held)) (begins : from ≤ length held)
     (some : 0 < length bytes) where
-  abbrev size : ℕ
-  size = cluster_bytes old.layout
-
-  gained : (vcn : ℕ) → vcn < run.len → touches_either size from (length bytes) (length held) vcn ≡ true
+  gained : (vcn : ℕ) → vcn < run.len → touches_either (cluster_bytes old.layout) from (length bytes) (length held) vcn ≡ true
   gained vcn low =
       let inside = begins-inside x (omega (arith, can.apart.some)) vcn low in
-      touched size from (length bytes) (length held) vcn (omega (arith, can.apart.some)) some begins
-      (subst (λ n. vcn * size < n) (written-long from bytes held) inside)
+      touched (cluster_bytes old.layout) from (length bytes) (length held) vcn (omega (arith, can.apart.some)) some begins
+      (subst (λ n. vcn * cluster_bytes old.layout < n) (written-long from bytes held) inside)
 
   written-put : IsInOneRecord old f → PutsGiving old new f name (Some (written from bytes held))
-      (touches_either size from (length bytes) (length held)) [] (run ∷ [])
+      (touches_either (cluster_bytes old.layout) from (length bytes) (length held)) [] (run ∷ [])
   written-put alone =
-      subst (λ (shown : List ℕ). PutsGiving old new f name (Some shown) (touches_either size from (length bytes) (length held)) []
-      (run ∷ [])) (resized-same (written from bytes held))
-      (moved-put x can alone (touches_either size from (length bytes) (length held)) gained)
+      subst (λ (shown : List ℕ). PutsGiving old new f name (Some shown)
+      (touches_either (cluster_bytes old.layout) from (length bytes) (length held)) [] (run ∷ [])) (resized-same (written from bytes held))
+      (moved-put x can alone (touches_either (cluster_bytes old.layout) from (length bytes) (length held)) gained)
 
   written-takes : (asked : List ℕ) → FindsPlain old f node asked name held
-      → sum_by run_size (run ∷ []) ≤ new_clusters size (parts_at old f DATA name) from (length bytes)
+      → sum_by run_size (run ∷ []) ≤ new_clusters (cluster_bytes old.layout) (parts_at old f DATA name) from (length bytes)
   written-takes asked finds =
       takes-counted x can finds from (length bytes) (let long = written-long from bytes held in omega (arith, long)) gained
 
@@ -81,28 +78,28 @@ pub written-moved : (old new : VolumeView) (f i from : ℕ) (node : Node) (name 
     → from ≤ length held → 0 < length bytes
     → PutsGiving old new f name (Some (written from bytes held))
     (touches_either (cluster_bytes old.layout) from (length bytes) (length held)) [] (run ∷ [])
-written-moved old new f i from node name held bytes run can alone x begins some = written-put can x begins some alone
+written-moved old new f i from node name held bytes run can alone x begins some =
+    written-put old new f i from node name held bytes run can x begins some alone
 
 pub written-few : (old new : VolumeView) (f i from : ℕ) (node : Node) (asked name held bytes : List ℕ) (run : Run) → CanSet old f node
     → FindsPlain old f node asked name held
     → MovesStream old new f i name run (length (written from bytes held)) (written from bytes held)
     → from ≤ length held → 0 < length bytes
     → sum_by run_size (run ∷ []) ≤ new_clusters (cluster_bytes old.layout) (parts_at old f DATA name) from (length bytes)
-written-few old new f i from node asked name held bytes run can finds x begins some = written-takes can x begins some asked finds
+written-few old new f i from node asked name held bytes run can finds x begins some =
+    written-takes old new f i from node name held bytes run can x begins some asked finds
 
 -- IN ANOTHER LENGTH
 module _ {old new : VolumeView} {f i size : ℕ} {node : Node} {name held : List ℕ} {run : Run} (can : CanSet old f node)
     (x : MovesStream old new f i name run size held) where
-  abbrev bytes : ℕ
-  bytes = cluster_bytes old.layout
-
-  stayed : (vcn : ℕ) → vcn < run.len → touches bytes 0 (length held) vcn ≡ true
+  stayed : (vcn : ℕ) → vcn < run.len → touches (cluster_bytes old.layout) 0 (length held) vcn ≡ true
   stayed vcn low =
-      touches-old bytes 0 0 (length held) vcn (omega (arith, can.apart.some)) (begins-inside x (omega (arith, can.apart.some)) vcn low)
+      touches-old (cluster_bytes old.layout) 0 0 (length held) vcn (omega (arith, can.apart.some))
+      (begins-inside x (omega (arith, can.apart.some)) vcn low)
 
   ends : IsInOneRecord old f → EndsBy new f name size
   ends alone vcn lies =
-      let inside = moved-ends x can alone (touches bytes 0 (length held)) stayed vcn lies in
+      let inside = moved-ends x can alone (touches (cluster_bytes old.layout) 0 (length held)) stayed vcn lies in
       omega (arith, inside, x.more)
 
 pub lengthened-moved : (old new : VolumeView) (f i size : ℕ) (node : Node) (name held : List ℕ) (run : Run) → CanSet old f node
