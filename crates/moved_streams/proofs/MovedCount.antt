@@ -88,9 +88,10 @@ module _ {old new : VolumeView} {f i : ℕ} {name : List ℕ} {run : Run} {real 
       let one = total-cons run [] in
       let none : total_clusters [] ≡ 0 = refl in
       let all = placed-all (run ∷ []) (placed-alone run x.fills.needs.placed) in
-      let counted = count-each (λ vcn. touches_either size from len (stream_value_len extents) vcn && not (is_cluster (spot_at extents vcn)))
-      0 (clusters_for (max (from + len) (stream_value_len extents)) size)
-      (λ vcn low high. and_from (touches_either size from len (stream_value_len extents) vcn) (not (is_cluster (spot_at extents vcn)))
+      let had_len = stream_value_len extents in
+      let counted = count-each (λ vcn. touches_either size from len had_len vcn && not (is_cluster (spot_at extents vcn)))
+      0 (clusters_for (max (from + len) had_len) size)
+      (λ vcn low high. and_from (touches_either size from len had_len vcn) (not (is_cluster (spot_at extents vcn)))
       (subst (λ n. touches_either size from len n vcn ≡ true) (sym had)
       (touched vcn (omega (arith, high, needed, taken, all, one, none)))) (nowhere vcn)) in
       omega (arith, counted, needed, taken)
