@@ -1,6 +1,6 @@
 -- WHAT THE MACHINE MAKES of a stream that moved: the bytes that it writes, or the length that it gives.
-use Rattle.std.proofs.Common.{◌≡◌, ◌+◌, ◌*◌, ◌-◌, ◌≤◌, ◌<◌, ◌||◌, max, ℕ, true, List, [], ◌∷◌, ◌++◌, Some, length, take}
-use Rattle.std.proofs.Common.{refl, sym, ap, subst, inl, inr, ◌∙◌, arith, length-append, length-drop}
+use Rattle.std.proofs.Common.{◌≡◌, ◌+◌, ◌*◌, ◌-◌, ◌≤◌, ◌<◌, ◌||◌, max, ℕ, true, List, [], ◌∷◌, ◌++◌, Some, length}
+use Rattle.std.proofs.Common.{ap, subst, inl, inr, ◌∙◌, arith, length-append, length-drop}
 use Rattle.std.specs.Prelude.{nat_lt, replicate, sum_by, ◌&&◌}
 use Rattle.std.proofs.lemmas.Bool.{and_from, cases_lt, lt-ltb, or_right}
 use Rattle.std.proofs.lemmas.List.{append-nil, length-replicate, length-take, take_all}

@@ -1,5 +1,5 @@
 -- HOW MANY CLUSTERS a stream takes that moves: no more than the machine counts, each of which the bytes touch, or the old value does.
-use Rattle.std.proofs.Common.{◌≡◌, ◌+◌, ◌*◌, ◌-◌, ◌≤◌, ◌<◌, ◌||◌, ◌&&◌, not, max, ℕ, zero, suc, Bool, true, List, [], ◌∷◌, Option, Some}
+use Rattle.std.proofs.Common.{◌≡◌, ◌+◌, ◌≤◌, ◌<◌, ◌&&◌, not, max, ℕ, zero, suc, Bool, true, List, [], ◌∷◌, Option, Some}
 use Rattle.std.proofs.Common.{length, refl, sym, ap, subst, ◌∙◌, arith}
 use Rattle.std.specs.List.{range_with_len}
 use Rattle.std.specs.Option.{option_and_then, option_map_or}

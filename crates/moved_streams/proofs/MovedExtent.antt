@@ -1,6 +1,6 @@
 -- AN EXTENT THAT A VALUE BECAME, as a part: it is an attribute by itself, lies in the run alone, has no hole, and its sizes tell its
 -- clusters. What its header tells that no part has stays, where the value was no key of an index.
-use Rattle.std.proofs.Common.{◌≡◌, ◌⊎◌, ◌≤◌, ◌<◌, ◌+◌, ◌*◌, ◌||◌, ℕ, Bool, true, false, List, [], ◌∷◌, Option, Some, None}
+use Rattle.std.proofs.Common.{◌≡◌, ◌⊎◌, ◌≤◌, ◌<◌, ◌+◌, ◌*◌, ◌||◌, ℕ, true, false, List, [], ◌∷◌, Option, Some, None}
 use Rattle.std.proofs.Common.{refl, sym, ap, inl, inr, ◌∙◌, arith}
 use Rattle.std.specs.Prelude.{IfSome, IsSome, is_none, sum_by, unwrap_or}
 use Rattle.std.proofs.lemmas.Bool.{cases_lt}

@@ -1,10 +1,9 @@
 -- A STREAM THAT MOVED INTO CLUSTERS: it was edited alone, and shows the bytes that were put into its run, and zeros behind them.
-use Rattle.std.proofs.Common.{◌≡◌, ◌⊎◌, ◌+◌, ◌*◌, ◌-◌, ◌/◌, ◌%◌, ◌≤◌, ◌<◌, ◌^◌, ◌||◌, max, ℕ, Bool, true, false, List, [], ◌∷◌, ◌++◌}
-use Rattle.std.proofs.Common.{length, take, Some, Option, refl, sym, ap, subst, inl, inr, ◌∙◌, arith}
-use Rattle.std.specs.Prelude.{IfSome, IsTrue, nat_lt, replicate, slice_index, sum_by}
-use Rattle.std.proofs.lemmas.Bool.{and_from, cases_lt, lt-ltb, or_right}
-use Rattle.std.proofs.lemmas.List.{append-nil, get_or_past, take_all}
-use Rattle.list_laws.proofs.MemberLaws.{Contains-head}
+use Rattle.std.proofs.Common.{◌≡◌, ◌⊎◌, ◌+◌, ◌*◌, ◌-◌, ◌/◌, ◌%◌, ◌≤◌, ◌<◌, ◌^◌, ℕ, Bool, true, false, List, [], ◌∷◌}
+use Rattle.std.proofs.Common.{length, Some, refl, sym, ap, subst, inl, inr, ◌∙◌, arith}
+use Rattle.std.specs.Prelude.{IfSome, IsTrue, slice_index, sum_by}
+use Rattle.std.proofs.lemmas.Bool.{cases_lt}
+use Rattle.std.proofs.lemmas.List.{get_or_past}
 use Rattle.ntfs_def.specs.Attribute.{ExtentHeader}
 use Rattle.ntfs_def.specs.Flags.{is_packed}
 use Rattle.ntfs_def.specs.Runs.{spot_of, total_clusters}
@@ -15,13 +14,13 @@ use Rattle.ntfs_def.specs.declared.run_text.Spot.TheVariants.{At, Hole, Outside}
 use Rattle.volume_def.specs.AttributesClause.{is_kept_resident}
 use Rattle.volume_def.specs.Coverage.{IsOutsideTable, times_covered}
 use Rattle.volume_def.specs.ExtentsClause.{AreAttribute}
-use Rattle.volume_def.specs.Files.{Content, Part, content_extent, part_of, parts_at, records_of}
+use Rattle.volume_def.specs.Files.{Content, Part, content_extent, part_of, parts_at}
 use Rattle.volume_def.specs.LimitsClause.{IsInLimits}
 use Rattle.volume_def.specs.Table.{TableLayout, cluster_bytes}
 use Rattle.volume_def.specs.Values.{KeepsClusters, byte_there, first_part, spot_at, stored_byte}
 use Rattle.volume_def.specs.View.{VolumeView}
-use Rattle.tree_model.specs.StreamRoom.{is_cluster, touches}
-use Rattle.tree_model.specs.Streams.{resized, written}
+use Rattle.tree_model.specs.StreamRoom.{is_cluster}
+use Rattle.tree_model.specs.Streams.{resized}
 use Rattle.tree_model.specs.declared.tree.Node.{Node}
 use Rattle.edit_def.specs.Kept.{Key, key_of}
 use Rattle.edit_def.specs.Purses.{run_size}
@@ -44,7 +43,7 @@ use Rattle.value_edits.proofs.LongerStreams.{begins-below}
 use Rattle.value_edits.proofs.OnePart.{first-one}
 use Rattle.value_edits.proofs.Prepared as before
 use Rattle.value_edits.proofs.ValueCalls.{no-name, no-standard}
-use Rattle.moved_streams.specs.MovedStreams.{MovesStream, touches_either}
+use Rattle.moved_streams.specs.MovedStreams.{MovesStream}
 use Rattle.moved_streams.proofs.MovedExtent as moved
 use Rattle.moved_streams.proofs.MovedPrepared.{moved-prepared}
 

@@ -1,5 +1,6 @@
 -- A STREAM THAT MOVED INTO CLUSTERS: it was a value alone, of a file without an attribute list. A run was taken that has clusters for its
 -- bytes, the bytes were put into them, and then its attribute became an extent of that run.
+-- Layout: Linux-NTFS documentation, attribute `$DATA` and "Attribute Headers"; Carrier, File System Forensic Analysis, chapter 13.
 use Rattle.std.specs.Prelude.{◌≡◌, ◌*◌, ◌^◌, ◌≤◌, ◌||◌, ℕ, Bool, [], ◌∷◌, List, Some, length}
 use Rattle.ntfs_def.specs.declared.kinds.TheConstants.{DATA}
 use Rattle.ntfs_def.specs.declared.run_text.Run.{Run}
