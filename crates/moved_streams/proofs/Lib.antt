@@ -1,0 +1,5 @@
+pub mod MovedExtent
+pub mod MovedPrepared
+pub mod MovedStreams
+pub mod MovedCount
+pub mod MovedCalls
