@@ -1,19 +1,20 @@
 -- AN EXTENT THAT A VALUE BECAME, as a part: it is an attribute by itself, lies in the run alone, has no hole, and its sizes tell its
--- clusters. What its header tells that no part has stays, where the value was no key of an index.
-use Rattle.std.proofs.Common.{◌≡◌, ◌⊎◌, ◌≤◌, ◌<◌, ◌+◌, ◌*◌, ◌||◌, ℕ, true, false, List, [], ◌∷◌, Option, Some, None}
-use Rattle.std.proofs.Common.{refl, sym, ap, inl, inr, ◌∙◌, arith}
-use Rattle.std.specs.Prelude.{IfSome, IsSome, is_none, sum_by, unwrap_or}
+-- clusters. What its header tells that no part has is as of one that is made anew.
+use Rattle.std.proofs.Common.{◌≡◌, ◌⊎◌, ◌≤◌, ◌<◌, ◌+◌, ◌*◌, ◌==◌, ◌||◌, ℕ, true, false, List, [], ◌∷◌, Option, Some, None}
+use Rattle.std.proofs.Common.{refl, sym, ap, subst, inl, inr, ◌∙◌, arith}
+use Rattle.std.specs.Prelude.{IfSome, IsSome, is_none, sum_by, unwrap_or, if◌then◌else◌}
 use Rattle.std.proofs.lemmas.Bool.{cases_lt}
-use Rattle.ntfs_def.specs.Attribute.{Attribute, Body, ExtentHeader, NonResident, Resident}
+use Rattle.ntfs_def.specs.Attribute.{Attribute, ExtentHeader}
 use Rattle.ntfs_def.specs.Flags.{is_sparse}
 use Rattle.ntfs_def.specs.Runs.{spot_of, total_clusters}
+use Rattle.ntfs_def.specs.declared.kinds.TheConstants.{DATA, FILE_NAME}
 use Rattle.ntfs_def.specs.declared.run_text.Run.{Run}
 use Rattle.volume_def.specs.ExtentsClause.{AreAttribute, FitExtents, last_vcn_of}
-use Rattle.volume_def.specs.Files.{Clusters, Content, Part, Value, content_of, content_runs, part_of, part_runs}
+use Rattle.volume_def.specs.Files.{Clusters, Content, Part, content_runs, part_of, part_runs}
 use Rattle.volume_def.specs.Values.{first_part, first_vcn_of, spot_at}
 use Rattle.volume_def.proofs.RunPieces.{spot_of-behind, total-cons}
 use Rattle.tree_model.specs.StreamRoom.{is_cluster}
-use Rattle.edit_def.specs.Forms.{form_of, unit_in}
+use Rattle.edit_def.specs.Forms.{IsNewForm, form_of}
 use Rattle.edit_def.specs.Places.{flags_of}
 use Rattle.edit_def.specs.Purses.{part_size, run_size}
 use Rattle.session_def.specs.Nodes.{IsSpreadRight, IsSpreadSame, Spread, has_hole, spread_of}
@@ -22,11 +23,6 @@ use Rattle.value_moves.specs.Moved.{BecomesExtent}
 use Rattle.value_edits.proofs.OneExtent as one
 use Rattle.value_edits.proofs.OnePart.{flags-one, holed-one}
 use Rattle.value_edits.proofs.RunHoles.{has_hole_in}
-
--- a value has no unit of compression
-no-unit : (bytes : List ℕ) (body : Body) (value : List ℕ) → content_of body ≡ Value value → unit_in bytes body ≡ 0
-no-unit bytes (Resident value) other is = refl
-no-unit bytes (NonResident header text) other is = absurd (cc)
 
 -- a run with a place is no hole
 pub placed-alone : (run : Run) → IsSome run.lcn → has_hole_in (run ∷ []) ≡ false
@@ -47,10 +43,11 @@ module _ (bytes : ℕ) (run : Run) (real initialized : ℕ) (was now : Attribute
   pub content : part.content ≡ Clusters extent (Some (run ∷ []))
   content = becomes.content
 
-  pub form-kept : (form_of was).indexed ≡ 0 → form_of now ≡ form_of was
-  form-kept no_key =
-      let unit = no-unit was.bytes was.body becomes.can.value becomes.can.is in
-      becomes.form ∙ (λ i. record { kind = was.kind; name = was.name; indexed = sym no_key i; unit = sym unit i })
+  -- ITS HEADER is made anew.
+  pub form-new : was.kind ≡ DATA → IsNewForm (form_of now)
+  form-new kind =
+      subst IsNewForm (sym becomes.form)
+      (record { unit = refl; indexed = subst (λ type. 0 ≡ (if type == FILE_NAME then 1 else 0)) (sym kind) refl })
 
   pub runs-now : part_runs part ≡ run ∷ []
   runs-now = one.runs-are bytes part extent (run ∷ []) content refl

@@ -111,7 +111,7 @@ module _ {old new : VolumeView} {f i : ℕ} {name : List ℕ} {run : Run} {real 
     comes = record {
       kind = e.kind;
       name = e.name;
-      form = moved.form-kept bytes run real (length put) e.was e.now e.becomes f x.no_key;
+      form = inr (moved.form-new bytes run real (length put) e.was e.now e.becomes f x.is.kind);
       limits = limits-now;
       whole = subst (λ b. AreAttribute b f (now ∷ [])) bytes-same (moved.whole bytes run real (length put) e.was e.now e.becomes f x.more
           (subst (λ b. real ≤ run.len * b) (sym bytes-same) x.room));

@@ -8,12 +8,11 @@ use Rattle.volume_def.specs.Files.{part_of, parts_at}
 use Rattle.volume_def.specs.Table.{cluster_bytes}
 use Rattle.volume_def.specs.View.{VolumeView}
 use Rattle.tree_model.specs.StreamRoom.{touches}
-use Rattle.edit_def.specs.Forms.{form_of}
 use Rattle.value_moves.specs.Moved.{MovesValue}
 use Rattle.value_edits.specs.ValueEdits.{IsStreamOf, WritesBehind}
 
 -- The stream of this name of file f, attribute i of its base record, lies in this run then, and has `real` bytes. These bytes were put into
--- the run, from its first on, and so many count as written. The value was not told to be the key of an index.
+-- the run, from its first on, and so many count as written.
 pub record MovesStream (old new : VolumeView) (f i : ℕ) (name : List ℕ) (run : Run) (real : ℕ) (bytes : List ℕ) : Type 0 where
   pub flagged : VolumeView
   pub mid : VolumeView
@@ -21,7 +20,6 @@ pub record MovesStream (old new : VolumeView) (f i : ℕ) (name : List ℕ) (run
   pub moves : MovesValue mid new f i run real (length bytes)
   pub is : IsStreamOf name moves.was
   pub stood : parts_at old f DATA name ≡ part_of f moves.was ∷ []
-  pub no_key : (form_of moves.was).indexed ≡ 0
   pub more : length bytes ≤ real
   pub near : real ≤ 2 ^ 40
   pub room : real ≤ run.len * cluster_bytes old.layout

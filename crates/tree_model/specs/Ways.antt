@@ -1,4 +1,5 @@
--- THE WAYS in which edits are done: in place, in the record of their file, in clusters, or in a directory.
+-- THE WAYS in which edits are done: in place, in the record of their file, in clusters, or in a directory; and, not built yet, out of the
+-- record into clusters.
 use Rattle.std.specs.Prelude.{ℕ, ◌+◌, ◌*◌, ◌-◌, ◌==◌, ◌&&◌, ◌||◌, ◌++◌, nat_le, nat_lt, not, Bool, true, false, List, length, count_by}
 use Rattle.std.specs.Prelude.{Option, is_none, is_some}
 use Rattle.std.specs.Prelude.{option_and_then}
@@ -125,6 +126,51 @@ is_done_in_clusters view tree (c.Hwrite handle from bytes) at =
 is_done_in_clusters view tree (c.Truncate path stream size) at = is_extent_alone view tree at && can_end view tree at size
 is_done_in_clusters view tree (c.Rmstream path name) at = is_extent_alone view tree at
 is_done_in_clusters view tree other at = false
+
+-- What MOVES INTO CLUSTERS, which is not built yet: a value that does not stay in its record, of a file without an attribute list, becomes
+-- one run of as many clusters as its bytes then need, all of which the bill of the command has. The record has the bytes of the extent that
+-- comes for it: a header of 64, the name, and 24 for the run, less the 24 of the header of a value; 7 more, as many as the name may be
+-- rounded up by, and one. The value has no flags, as the extent then.
+abbrev pub extent_bytes : List Part → ℕ
+extent_bytes extents = 72 + option_map_or (λ (part : Part). length part.name) (first_part extents) 0
+
+abbrev pub fits_as_extent : VolumeView → ℕ → List Part → Bool
+fits_as_extent view f extents = nat_le (extent_bytes extents) (stream_value_len extents + free_bytes view f)
+
+abbrev pub has_no_flags : List Part → Bool
+has_no_flags extents = option_map_or (λ (part : Part). part.flags == 0) (first_part extents) false
+
+-- so many clusters are free behind one another, unless there are fewer in all
+abbrev pub has_run_if_room : VolumeView → ℕ → Bool
+has_run_if_room view count = has_free_run view count || nat_lt (unowned_clusters view) count
+
+-- So many bytes need so many clusters, and the value can leave its record for a run of these.
+abbrev pub can_leave : VolumeView → ℕ → List Part → ℕ → ℕ → Bool
+can_leave view f extents size count =
+    (clusters_for size (cluster_bytes view.layout) == count)
+    && (has_no_flags extents && (fits_as_extent view f extents && has_run_if_room view count))
+
+abbrev pub moves_into_clusters : VolumeView → Tree → Located → ℕ → ℕ → Bool
+moves_into_clusters view tree at size count =
+    is_value_alone view tree at
+    && (not (stays_value view tree at size) && (can_leave view at.file (stream_parts view tree at) size count && has_placed_bits view))
+
+-- by bytes that go over those of the value, or right behind them
+abbrev pub moves_by_write : VolumeView → Tree → Located → ℕ → ℕ → Bool
+moves_by_write view tree at from len =
+    nat_le from (stream_value_len (stream_parts view tree at))
+    && moves_into_clusters view tree at (from + len) (new_clusters (cluster_bytes view.layout) (stream_parts view tree at) from len)
+
+abbrev pub is_done_by_moving : VolumeView → Tree → Command → Located → Bool
+is_done_by_moving view tree (c.Write path stream from bytes) at =
+    not (is_done_in_place view tree (c.Write path stream from bytes) at)
+    && moves_by_write view tree at from (length bytes)
+is_done_by_moving view tree (c.Hwrite handle from bytes) at =
+    not (is_done_in_place view tree (c.Hwrite handle from bytes) at)
+    && moves_by_write view tree at from (length bytes)
+is_done_by_moving view tree (c.Truncate path stream size) at =
+    moves_into_clusters view tree at size (new_clusters (cluster_bytes view.layout) (stream_parts view tree at) 0 0)
+is_done_by_moving view tree other at = false
 
 -- What is done IN A DIRECTORY: a name comes, of a file, or a directory, that is made for it. The index has room for its entry: the header
 -- of 16 bytes, and the value of a $FILE_NAME. The directory has no name in a record that $MFTMirr copies, since its own entries tell its

@@ -75,7 +75,7 @@ pub value-comes : (view : VolumeView) (f : ℕ) (was now : Attribute) → IsSome
 value-comes view f was now was_is now_is kind name flags form = record {
   kind = kind;
   name = name;
-  form = form;
+  form = inl form;
   limits = value-limits f f now now_is;
   whole = whole.one-value (cluster_bytes view.layout) f (part_of f now) (value-content f now now_is);
   size = omega (arith, value-size f now now_is);

@@ -125,7 +125,7 @@ module _ (old mid new : VolumeView) (f i size : ℕ) (node : Node) (name : List 
   comes = record {
     kind = e.kind;
     name = e.name;
-    form = e.form;
+    form = inl e.form;
     limits = limits-now;
     whole = subst (λ b. AreAttribute b f (now ∷ [])) bytes-same (shorter.whole bytes size some was now e.cut f);
     size = let less = shorter.size-less bytes size some was now e.cut in omega (arith, less);

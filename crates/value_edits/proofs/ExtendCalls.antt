@@ -181,7 +181,7 @@ module _ {old mid new : VolumeView} {f i real initialized : ℕ} {run : Option R
     comes = record {
       kind = e.kind;
       name = e.name;
-      form = e.form;
+      form = inl e.form;
       limits = limits-now;
       whole = subst (λ b. AreAttribute b f (now ∷ [])) bytes-same (longer.whole bytes real initialized run was now e.extended inside
           (subst (λ b. real ≤ total_clusters (e.extended.can.runs ++ more) * b) (sym bytes-same) room) f);

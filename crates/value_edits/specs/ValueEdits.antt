@@ -28,7 +28,7 @@ use Rattle.tree_model.specs.StreamRoom.{is_cluster, new_clusters, touches}
 use Rattle.tree_model.specs.Streams.{resized, with_bytes, without_stream, written}
 use Rattle.tree_model.specs.declared.tree.Node.{Node}
 use Rattle.edit_def.specs.Account.{Wants, nothing}
-use Rattle.edit_def.specs.Forms.{form_of}
+use Rattle.edit_def.specs.Forms.{IsNewForm, form_of}
 use Rattle.edit_def.specs.Kept.{Key, key_of, same_key}
 use Rattle.edit_def.specs.Purses.{part_size, run_size}
 use Rattle.session_def.specs.Nodes.{KeepsStream, has_hole}
@@ -41,13 +41,13 @@ use Rattle.stream_edits.specs.Streams.{IsMissing, ShowsBytes}
 use Rattle.stream_overwrites.specs.Below.{IsInOneRecord, SetsAttributes, with_node}
 use Rattle.in_place_owed.specs.Below.{CanSet}
 
--- WHAT COMES in the place of an attribute of file f has its type, name and form, is a stream by itself, within the limits, and owns `more`
--- clusters more at most. It lies in no cluster in which that did not lie, but for those that it may gain. It has a hole only where that had
--- one, keeps its flags, and its sizes tell its clusters, or are as they were.
+-- WHAT COMES in the place of an attribute of file f has its type and name, and its form, or one that is made anew. It is a stream by
+-- itself, within the limits, and owns `more` clusters more at most. It lies in no cluster in which that did not lie, but for those that it
+-- may gain. It has a hole only where that had one, keeps its flags, and its sizes tell its clusters, or are as they were.
 pub record ComesInPlace (view : VolumeView) (f : ℕ) (gains : ℕ → Bool) (more : ℕ) (was now : Attribute) : Type 0 where
   pub kind : now.kind ≡ was.kind
   pub name : now.name ≡ was.name
-  pub form : form_of now ≡ form_of was
+  pub form : (form_of now ≡ form_of was) ⊎ IsNewForm (form_of now)
   pub limits : IsInLimits f (part_of f now)
   pub whole : AreAttribute (cluster_bytes view.layout) f (parts_made f (now ∷ []))
   pub size : part_size (part_of f now) ≤ part_size (part_of f was) + more

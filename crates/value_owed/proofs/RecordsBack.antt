@@ -222,15 +222,19 @@ module _ (key : Key) (old mid : VolumeView) (sound : IsSound old) (apart : LiesA
   ]
 
   came : (now : Option Attribute) → IfSome now (ComesInPlace old key.file gains (sum_by run_size e.taken) e.was) → (a : Attribute)
-      → Contains (option_to_list now) a → form_of a ≡ form_of e.was
+      → Contains (option_to_list now) a → (form_of a ≡ form_of e.was) ⊎ IsNewForm (form_of a)
   came None comes a c = absurd (Contains-nil a c)
-  came (Some now) comes a c = subst (λ (x : Attribute). form_of x ≡ form_of e.was) (Contains-only now a c) comes.form
+  came (Some now) comes a c =
+      subst (λ (x : Attribute). (form_of x ≡ form_of e.was) ⊎ IsNewForm (form_of x)) (Contains-only now a c) comes.form
 
   forms-cleared : (f : ℕ) → ComeRightly e.mid mid f
   forms-cleared f = forms-come e.mid mid key.file e.stored (e.was ∷ []) (option_to_list e.now) e.block f (λ a c first.
-      inl (subst (Contains (map form_of (filter begins (e.was ∷ [])))) (sym (came e.now e.comes a c))
-      (Contains-map form_of (filter begins (e.was ∷ [])) e.was
-      (Contains-filter begins (e.was ∷ []) e.was (Contains-head e.was []) was-begins))))
+      elim (came e.now e.comes a c) [
+        | inl same ↦ inl (subst (Contains (map form_of (filter begins (e.was ∷ [])))) (sym same)
+            (Contains-map form_of (filter begins (e.was ∷ [])) e.was
+            (Contains-filter begins (e.was ∷ []) e.was (Contains-head e.was []) was-begins)))
+        | inr fresh ↦ inr fresh
+      ])
 
   forms-prepared : (f : ℕ) → forms_of e.mid f ≡ forms_of old f
   forms-prepared f =
