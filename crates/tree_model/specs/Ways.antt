@@ -131,11 +131,11 @@ is_done_in_clusters view tree other at = false
 -- one run of as many clusters as its bytes then need, all of which the bill of the command has. The record has the bytes of the extent that
 -- comes for it: a header of 64, the name, and 24 for the run, less the 24 of the header of a value; 7 more, as many as the name may be
 -- rounded up by, and one. The value has no flags, as the extent then.
-abbrev pub extent_bytes : List Part → ℕ
-extent_bytes extents = 72 + option_map_or (λ (part : Part). length part.name) (first_part extents) 0
+abbrev pub moved_bytes : List Part → ℕ
+moved_bytes extents = 72 + option_map_or (λ (part : Part). length part.name) (first_part extents) 0
 
 abbrev pub fits_as_extent : VolumeView → ℕ → List Part → Bool
-fits_as_extent view f extents = nat_le (extent_bytes extents) (stream_value_len extents + free_bytes view f)
+fits_as_extent view f extents = nat_le (moved_bytes extents) (stream_value_len extents + free_bytes view f)
 
 abbrev pub has_no_flags : List Part → Bool
 has_no_flags extents = option_map_or (λ (part : Part). part.flags == 0) (first_part extents) false
