@@ -47,15 +47,15 @@ abbrev pub stream_after : State → Located → Option (List ℕ) → Tree
 stream_after before at None = drop_stream before.machine.now at before.machine.tree
 stream_after before at (Some bytes) = put_stream before.machine.now at bytes before.machine.tree
 
--- THE STREAM IS EDITED so, and gains these clusters alone, so many at most.
-abbrev pub PutsInto : State → Located → Node → Option (List ℕ) → (ℕ → Bool) → (List ℕ → ℕ) → VolumeView → Type 0
+-- THE STREAM IS EDITED so, and gains these clusters alone, so many at most, each by the name of the stream.
+abbrev pub PutsInto : State → Located → Node → Option (List ℕ) → (List ℕ → ℕ → Bool) → (List ℕ → ℕ) → VolumeView → Type 0
 PutsInto before at node bytes gains count new = EditsStream before at at.file (λ name.
-    PutsStream before.view new at.file name bytes gains (count name) (touched before.machine.now node).times node.flags)
+    PutsStream before.view new at.file name bytes (gains name) (count name) (touched before.machine.now node).times node.flags)
 
 -- `old` is the volume before, `mid` with the stream changed or gone, and `new` with the times too.
 module _ (before : State) (command : Command) (at : Located) (node : Node) (is : CanBeEdited before command at node)
-    (h : HoldsStream before.machine.tree at node) (bytes : Option (List ℕ)) (gains : ℕ → Bool) (count : List ℕ → ℕ) (new : VolumeView)
-    (s : PutsInto before at node bytes gains count new) where
+    (h : HoldsStream before.machine.tree at node) (bytes : Option (List ℕ)) (gains : List ℕ → ℕ → Bool) (count : List ℕ → ℕ)
+    (new : VolumeView) (s : PutsInto before at node bytes gains count new) where
   abbrev old : VolumeView
   old = before.view
 
@@ -77,10 +77,10 @@ module _ (before : State) (command : Command) (at : Located) (node : Node) (is :
   pub finds : FindsPlain old f node at.stream s.name h.held
   finds = finds-plain before is.stands at node h s.name s.spelt_so s.there s.tellable
 
-  pub put : IsEdited key gains old mid over
-  put = stream-put old mid f node at.stream s.name h.held bytes gains is.can finds s.edits.puts
+  pub put : IsEdited key (gains s.name) old mid over
+  put = stream-put old mid f node at.stream s.name h.held bytes (gains s.name) is.can finds s.edits.puts
 
-  abbrev pub edited : IsEdited key gains old mid over
+  abbrev pub edited : IsEdited key (gains s.name) old mid over
   edited = record { edits = s.edits.puts.edits; can = put.can; reads = put.reads }
 
   shown : bit_and node.flags SHOWN_FLAGS ≡ node.flags
@@ -151,8 +151,8 @@ module _ (before : State) (command : Command) (at : Located) (node : Node) (is :
 
 -- SO IT READS as the tree behind the edit.
 pub value-reads : (before : State) (command : Command) (at : Located) (node : Node) (is : CanBeEdited before command at node)
-    (h : HoldsStream before.machine.tree at node) (bytes : Option (List ℕ)) (gains : ℕ → Bool) (count : List ℕ → ℕ) (new : VolumeView)
-    → PutsInto before at node bytes gains count new → read new ≡ stream_after before at bytes
+    (h : HoldsStream before.machine.tree at node) (bytes : Option (List ℕ)) (gains : List ℕ → ℕ → Bool) (count : List ℕ → ℕ)
+    (new : VolumeView) → PutsInto before at node bytes gains count new → read new ≡ stream_after before at bytes
 value-reads before command at node is h None gains count new s =
     reads-dropped before is.stands at node is.can.there new
     (insert-last before command at node is h None gains count new s _

@@ -1,14 +1,13 @@
 -- A STREAM THAT HAS OTHER BYTES OR WENT, staged: it can be written.
-use Rattle.std.proofs.Common.{◌≡◌, ◌≤◌, ◌<◌, ◌+◌, ◌-◌, ◌*◌, ◌/◌, ◌&&◌, ◌||◌, ◌==◌, if◌then◌else◌, ℕ, Bool, List, [], ◌∷◌, Option}
-use Rattle.std.proofs.Common.{Some, None, drop, length, take, true, false, refl, sym, ap, subst, ◌∙◌, arith}
-use Rattle.std.proofs.lemmas.Bool.{and_parts, eqb-true, lt-ltb, ltb-true, or_left}
-use Rattle.std.proofs.lemmas.List.{length-append, length-replicate, length-take}
+use Rattle.std.proofs.Common.{◌≡◌, ◌≤◌, ◌<◌, ◌+◌, ◌*◌, ◌/◌, ◌&&◌, ◌||◌, ◌==◌, if◌then◌else◌, max, ℕ, Bool, List, [], ◌∷◌, Option}
+use Rattle.std.proofs.Common.{Some, None, length, true, false, inl, inr, refl, sym, ap, subst, ◌∙◌, arith}
+use Rattle.std.proofs.lemmas.Bool.{and_parts, eqb-true, lt-ltb, ltb-true, or_cases}
 use Rattle.std.specs.Option.{option_map_or}
-use Rattle.std.specs.Prelude.{is_some, nat_le, nat_lt, option_and_then, unwrap_or}
-use Rattle.ntfs_def.specs.Attribute.{Attribute, Body, NonResident, Resident, value_of}
+use Rattle.std.specs.Prelude.{is_some, nat_le, nat_lt, unwrap_or}
+use Rattle.ntfs_def.specs.Attribute.{value_of}
 use Rattle.ntfs_def.specs.Units.{units_in}
 use Rattle.ntfs_def.specs.declared.kinds.TheConstants.{DATA}
-use Rattle.volume_def.specs.Files.{Part, content_value, part_of, parts_at}
+use Rattle.volume_def.specs.Files.{Part, part_of, parts_at}
 use Rattle.volume_def.specs.Sound.{IsSound}
 use Rattle.volume_def.specs.StreamSize.{told_size}
 use Rattle.volume_def.specs.Table.{TableLayout, cluster_bytes}
@@ -17,14 +16,13 @@ use Rattle.volume_def.specs.View.{VolumeView}
 use Rattle.volume_def.proofs.SoundLaws.{readable-sound}
 use Rattle.volume_def.proofs.ValueLaws.{value-length}
 use Rattle.tree_model.specs.Answers.{bytes_at}
-use Rattle.tree_model.specs.Cases.{size_of}
+use Rattle.tree_model.specs.Bill.{grows}
 use Rattle.tree_model.specs.Effects.{put_stream, tree_after}
 use Rattle.tree_model.specs.Reading.{read}
-use Rattle.tree_model.specs.StreamRoom.{initialized_size, is_cluster, is_in_place, new_clusters, parts_named, stream_parts, stream_value}
+use Rattle.tree_model.specs.StreamRoom.{initialized_size, is_cluster, is_in_place, new_clusters, parts_named, stream_parts}
 use Rattle.tree_model.specs.StreamRoom.{stream_value_len, touches}
 use Rattle.tree_model.specs.Streams.{resized, written}
 use Rattle.tree_model.specs.Subjects.{Located}
-use Rattle.tree_model.specs.Ways.{has_no_list, is_done_in_record}
 use Rattle.tree_model.specs.declared.command.Command.{Command}
 use Rattle.tree_model.specs.declared.command.Command.TheVariants as c
 use Rattle.tree_model.specs.declared.tree.Node.{Node}
@@ -34,10 +32,11 @@ use Rattle.session_def.specs.Done.{counts_vcn, may_own, stream_in}
 use Rattle.session_def.specs.State.{State}
 use Rattle.in_place.specs.Behind.{MarksBehind}
 use Rattle.in_place_owed.specs.SetsInPlace.{SetsInPlace, is_set_key}
-use Rattle.edit_written.specs.Below.{PutsStream, SetsBehindValue, between, clusters_asked, clusters_to_write, edits_value, no_gain}
+use Rattle.edit_written.specs.Below.{PutsStream, SetsBehindValue, between, clusters_asked, clusters_to_write, count_by_length}
+use Rattle.edit_written.specs.Below.{edits_value, gained_by_length, gained_by_write, no_gain}
 use Rattle.edit_written.specs.LeavesAlone.{LeavesAlone}
 use Rattle.edit_written.proofs.Below as below
-use Rattle.edit_written.proofs.Below.{file, named-same, shown, value-len}
+use Rattle.edit_written.proofs.Below.{extent-len, file, named-same, resized-long, shown, value-len, written-long}
 use Rattle.edit_written.proofs.LeftAlone.{both}
 use Rattle.edit_written.proofs.ValueLeftAlone.{value-edited}
 use Rattle.in_place_done.specs.Written.{PutsInStream, Stages, most_set, most_written}
@@ -48,30 +47,7 @@ use Rattle.in_place_done.proofs.SetOwed.{set-alone, set-in-place}
 use Rattle.in_place_done.proofs.StagedVolume.{CanBeEdited, CanBeWritten}
 use Rattle.in_place_done.proofs.ValueStaged as staged
 use Rattle.in_place_done.proofs.ValueStaged.{PutsInto, stream_after, value-reads}
-use Rattle.in_place_done.proofs.Ways.{Alone, hwrite-alone, record-alone, write-alone}
-
--- a value, by what it shows of a stream
-value-of : (f : ℕ) (a : Attribute) → is_some (stream_value (part_of f a ∷ [])) ≡ true → (value : List ℕ) × (value_of a.body ≡ Some value)
-value-of f a is = by a.body is
-  where
-    by : (body : Body) → is_some (stream_value (part_of f (record a { body = body }) ∷ [])) ≡ true
-        → (value : List ℕ) × (value_of body ≡ Some value)
-    by (Resident value) e = (value, refl)
-    by (NonResident extent text) e = absurd (never (extent.sizes.first == 0) e)
-      where
-        never : (b : Bool) → is_some (option_and_then (λ (part : Part). content_value part.content)
-            (if b then Some (part_of f (record a { body = NonResident extent text })) else None)) ≡ true → ⊥
-        never true e = cc
-        never false e = cc
-
--- what is written into a stream ends within it then
-written-within : (from : ℕ) (bytes old : List ℕ) → from + length bytes ≤ length (written from bytes old)
-written-within from bytes old =
-    let long : length (written from bytes old)
-    ≡ length (take from old) + (from - length old) + length bytes + length (drop (from + length bytes) old) =
-    simp (length-append, length-replicate) in
-    let front = length-take from old in
-    omega (arith, long, front)
+use Rattle.in_place_done.proofs.Ways.{Alone, hwrite-alone, write-alone}
 
 -- a stream is as long as its bytes, and one that is gone has none
 told-long : (old new : VolumeView) (f : ℕ) (name : List ℕ) (bytes : Option (List ℕ)) (gains : ℕ → Bool) (count : ℕ) (times : List ℕ)
@@ -94,8 +70,8 @@ record MayEdit (before : State) (command : Command) (at : Located) (bytes : Opti
 
 module _ (before : State) (command : Command) (at : Located) (node : Node)
     (way : Alone before.view before.machine.tree command at) (is : CanBeEdited before command at node)
-    (h : HoldsStream before.machine.tree at node) (bytes : Option (List ℕ)) (gains : ℕ → Bool) (count : List ℕ → ℕ) (new : VolumeView)
-    (s : PutsInto before at node bytes gains count new) where
+    (h : HoldsStream before.machine.tree at node) (bytes : Option (List ℕ)) (gains : List ℕ → ℕ → Bool) (count : List ℕ → ℕ)
+    (new : VolumeView) (s : PutsInto before at node bytes gains count new) where
   abbrev old : VolumeView
   old = before.view
 
@@ -113,20 +89,29 @@ module _ (before : State) (command : Command) (at : Located) (node : Node)
   parts-are : stream_parts old before.machine.tree at ≡ part_of at.file s.edits.puts.edits.was ∷ []
   parts-are = stream-same ∙ s.edits.puts.edits.stood
 
-  -- a stream that is a value is told as long as that is
-  size_is : is_done_in_record old before.machine.tree command at ≡ true
-      → option_map_or size_of at.content 0 ≡ stream_value_len (stream_parts old before.machine.tree at)
-  size_is record_is =
-      let value : is_some (stream_value (part_of at.file s.edits.puts.edits.was ∷ [])) ≡ true =
-      ap (λ (xs : List Part). is_some (stream_value xs)) (sym parts-are)
-      ∙ (and_parts (is_some (stream_value (stream_parts old before.machine.tree at))) (has_no_list old at.file)
-      (record-alone old before.machine.tree command at record_is)).0 in
-      let was = value-of at.file s.edits.puts.edits.was value in
-      let held : was.0 ≡ h.held =
-      shown old at.file node at.stream s.name h.held is.can (staged.finds before command at node is h bytes gains count new s)
-      s.edits.puts.edits.was s.edits.puts.edits.was_of.kind s.edits.puts.edits.stood was.0 was.1 in
-      ap (λ o. option_map_or size_of o 0) h.told ∙ ap length (sym held)
-      ∙ sym (ap stream_value_len parts-are ∙ value-len at.file s.edits.puts.edits.was was.0 was.1)
+  -- they are told by the name that the tree has too
+  named-parts : stream_in old before.machine.tree at ≡ parts_at old at.file DATA s.name
+  named-parts = ap (parts_named old at.file) (sym s.spelt_so) ∙ parts-same
+
+  -- its old value, where it is one, is what it shows
+  value-within : stream_value_len (parts_at old at.file DATA s.name) ≤ length (bytes_at at)
+  value-within = by (value_of s.edits.puts.edits.was.body) refl
+    where
+      stood : stream_value_len (parts_at old at.file DATA s.name) ≡ stream_value_len (part_of at.file s.edits.puts.edits.was ∷ [])
+      stood = ap stream_value_len s.edits.puts.edits.stood
+
+      by : (o : Option (List ℕ)) → value_of s.edits.puts.edits.was.body ≡ o
+          → stream_value_len (parts_at old at.file DATA s.name) ≤ length (bytes_at at)
+      by None none =
+          let len = extent-len at.file s.edits.puts.edits.was none in
+          omega (arith, stood, len)
+      by (Some value) its =
+          let len = value-len at.file s.edits.puts.edits.was value its in
+          let same : length value ≡ length h.held = ap length (shown old at.file node at.stream s.name h.held is.can
+          (staged.finds before command at node is h bytes gains count new s)
+          s.edits.puts.edits.was s.edits.puts.edits.was_of.kind s.edits.puts.edits.stood value its) in
+          let held : length (bytes_at at) ≡ length h.held = ap length h.holds in
+          omega (arith, stood, len, same, held)
 
   -- the edit and the times, one after the other
   alone : LeavesAlone old new
@@ -136,7 +121,7 @@ module _ (before : State) (command : Command) (at : Located) (node : Node)
       (set-alone (between before command mid) (c.Setattr [] 0) at (staged.over before command at node is h bytes gains count new s) new
       (staged.can-set before command at node is h bytes gains count new s) (staged.set before command at node is h bytes gains count new s))
 
-  module _ (may : MayEdit before command at bytes gains (count s.name) mid s.name) (next : State) (first : MarksBehind new next.view)
+  module _ (may : MayEdit before command at bytes (gains s.name) (count s.name) mid s.name) (next : State) (first : MarksBehind new next.view)
       (settled : IsSound next.view) (long : length next.image ≡ length before.image)
       (wrote : next.written ≤ before.written + most_written before command at.file new) where
     few : next.written ≤ before.written + bytes_in command / 512 + 2 * given_back old mid + 2 * given_back mid old
@@ -158,19 +143,17 @@ module _ (before : State) (command : Command) (at : Located) (node : Node)
     sets : SetsBehindValue before next command at mid new
     sets =
         let set = staged.set before command at node is h bytes gains count new s in
-        let told = told-long old new at.file s.name bytes gains (count s.name) _ _ s.edits in
+        let told = told-long old new at.file s.name bytes (gains s.name) (count s.name) _ _ s.edits in
         record {
           stands = is.stands;
           edits = way.edits;
           new = is.none;
           there = ap is_some h.told;
-          way = way.is;
-          size_is = size_is;
           name = s.name;
           spelt_so = s.spelt_so;
           alone = parts-same;
           few = is.few;
-          gains = gains;
+          gains = gains s.name;
           counted = may.counted;
           below = λ vcn gained. let low = may.below vcn gained in omega (arith, low, told);
           node = staged.over before command at node is h bytes gains count new s;
@@ -181,7 +164,7 @@ module _ (before : State) (command : Command) (at : Located) (node : Node)
           entries = λ dir was now index has still. set.entries dir was now index has still before.machine.tree next.machine.tree;
         }
 
-  written-by : MayEdit before command at bytes gains (count s.name) mid s.name
+  written-by : MayEdit before command at bytes (gains s.name) (count s.name) mid s.name
       → tree_after before.machine command at 0 ≡ stream_after before at bytes → CanBeWritten before command at new
   written-by may effect =
       let set = staged.set before command at node is h bytes gains count new s in
@@ -203,16 +186,20 @@ rmstream-effect : (before : State) (path : List (List ℕ)) (name : List ℕ) (a
 unfolding tree_after
 rmstream-effect before path name at = refl
 
--- EACH COMMAND that is done so. A write, which is not done in place then, touches all clusters that it gains.
-touched-below : (size from : ℕ) (bytes old : List ℕ) (vcn : ℕ) → touches size from (length bytes) vcn ≡ true
-    → vcn * size < length (written from bytes old)
-touched-below size from bytes old vcn touched =
-    let front =
-    (and_parts (nat_lt 0 (length bytes) && nat_lt (vcn * size) (from + length bytes)) (nat_lt from (vcn * size + size)) touched).0 in
-    let low = ltb-true (vcn * size) (from + length bytes)
-    (and_parts (nat_lt 0 (length bytes)) (nat_lt (vcn * size) (from + length bytes)) front).1 in
-    let within = written-within from bytes old in
-    omega (arith, low, within)
+-- EACH COMMAND that is done so. A write, which is not done in place then, touches all clusters that it gains, or the old value does.
+touched-below : (size from len vcn : ℕ) → touches size from len vcn ≡ true → vcn * size < from + len
+touched-below size from len vcn touched =
+    let front = (and_parts (nat_lt 0 len && nat_lt (vcn * size) (from + len)) (nat_lt from (vcn * size + size)) touched).0 in
+    ltb-true (vcn * size) (from + len) (and_parts (nat_lt 0 len) (nat_lt (vcn * size) (from + len)) front).1
+
+gained-below : (size : ℕ) (extents : List Part) (from : ℕ) (bytes old : List ℕ) → stream_value_len extents ≤ length old → (vcn : ℕ)
+    → gained_by_write size extents from (length bytes) vcn ≡ true → vcn * size < length (written from bytes old)
+gained-below size extents from bytes old short vcn gained =
+    let long = written-long from bytes old in
+    elim (or_cases (touches size from (length bytes) vcn) (touches size 0 (stream_value_len extents) vcn) gained) [
+      | inl new ↦ let low = touched-below size from (length bytes) vcn new in omega (arith, low, long)
+      | inr was ↦ let low = touched-below size 0 (stream_value_len extents) vcn was in omega (arith, low, long, short)
+    ]
 
 -- .. as many as are on its bill, which has none where none comes
 clusters-billed : (size : ℕ) (extents : List Part) (from len : ℕ)
@@ -229,8 +216,9 @@ clusters-billed size extents from len = by (is_in_place size extents from len) r
         omega (arith, none)
 
 -- what a write stages into one stream alone
-abbrev gained : State → ℕ → List ℕ → ℕ → Bool
-gained before from bytes vcn = touches (cluster_bytes before.view.layout) from (length bytes) vcn
+abbrev gained : State → Located → ℕ → List ℕ → List ℕ → ℕ → Bool
+gained before at from bytes name =
+    gained_by_write (cluster_bytes before.view.layout) (parts_at before.view at.file DATA name) from (length bytes)
 
 abbrev gained_most : State → Located → ℕ → List ℕ → List ℕ → ℕ
 gained_most before at from bytes name =
@@ -240,7 +228,7 @@ bytes-written : (before : State) (command : Command) (at : Located) (node : Node
     → Alone before.view before.machine.tree command at → CanBeEdited before command at node → HoldsStream before.machine.tree at node
     → PutsInStream false before at at.file node from bytes new
     → ((parts : List Part) (vcn : ℕ) → counts_vcn (cluster_bytes before.view.layout) command at parts vcn
-    ≡ (gained before from bytes vcn || touches (cluster_bytes before.view.layout) 0 (stream_value_len parts) vcn))
+    ≡ gained_by_write (cluster_bytes before.view.layout) parts from (length bytes) vcn)
     → clusters_asked before.view before.machine.tree command at
     ≡ clusters_to_write (cluster_bytes before.view.layout) (stream_parts before.view before.machine.tree at) from (length bytes)
     → ((real vcn : ℕ) → may_own (cluster_bytes before.view.layout) command real vcn ≡ true)
@@ -251,15 +239,18 @@ bytes-written before command at node from bytes new way is h s counts asks owns 
     let parts = stream_parts before.view before.machine.tree at in
     let now = Some (written from bytes (bytes_at at)) in
     let most = gained_most before at from bytes in
-    written-by before command at node way is h now (gained before from bytes) most new s
+    let may_gain = gained before at from bytes in
+    written-by before command at node way is h now may_gain most new s
     (record {
       counted = λ vcn touched.
-          let was = stream_in before.view before.machine.tree at in
-          counts was vcn ∙ or_left (gained before from bytes vcn) (touches size 0 (stream_value_len was) vcn) touched;
-      below = λ vcn touched. touched-below size from bytes (bytes_at at) vcn touched;
+          counts (stream_in before.view before.machine.tree at) vcn
+          ∙ subst (λ xs. gained_by_write size xs from (length bytes) vcn ≡ true)
+          (sym (named-parts before command at node way is h now may_gain most new s)) touched;
+      below = λ vcn touched. gained-below size (parts_at before.view at.file DATA s.name) from bytes (bytes_at at)
+          (value-within before command at node way is h now may_gain most new s) vcn touched;
       asked =
           subst (λ xs. new_clusters size xs from (length bytes) ≤ unwrap_or (clusters_asked before.view before.machine.tree command at) 0)
-          (stream-same before command at node way is h now (gained before from bytes) most new s)
+          (stream-same before command at node way is h now may_gain most new s)
           (subst (λ o. new_clusters size parts from (length bytes) ≤ unwrap_or o 0) (sym asks)
           (clusters-billed size parts from (length bytes)));
       owned = λ real vcn is_one. owns real vcn;
@@ -285,7 +276,12 @@ hwrite-value before handle from bytes at node new way is stages =
     (hwrite-alone before.view before.machine.tree handle from bytes at way.is) stages)
     (λ parts vcn. refl) refl (λ real vcn. refl) (hwrite-effect before handle from bytes at)
 
--- The others gain none.
+-- .. of another length
+billed-where : (b : Bool) (n : ℕ) → (if b then n else 0) ≤ unwrap_or (if b then Some n else None) 0
+billed-where true n = omega arith
+billed-where false n = omega arith
+
+-- One that is gone gains none.
 never-gains : {A : Type 0} → false ≡ true → A
 never-gains e = cc
 
@@ -296,7 +292,12 @@ truncate-value : (before : State) (path : List (List ℕ)) (stream : Option (Lis
 truncate-value before path stream size at node new way is stages =
     let command = c.Truncate path stream size in
     let now = Some (resized size (bytes_at at)) in
-    let s : PutsInto before at node now no_gain (λ name. 0) new =
+    let size_of_cluster = cluster_bytes before.view.layout in
+    let h = is.stream refl in
+    let had = length (bytes_at at) in
+    let gains : List ℕ → ℕ → Bool = λ name. gained_by_length size_of_cluster (parts_at before.view at.file DATA name) had size in
+    let count : List ℕ → ℕ = λ name. count_by_length size_of_cluster (parts_at before.view at.file DATA name) had size in
+    let s : PutsInto before at node now gains count new =
     record {
       name = stages.name;
       spelt_so = stages.spelt_so;
@@ -306,11 +307,29 @@ truncate-value before path stream size at node new way is stages =
     } in
     let same =
     below.layout (key_of at.file DATA s.name) before.view s.edits.mid is.can.sound is.can.apart s.edits.puts.edits in
-    written-by before command at node way is (is.stream refl) now no_gain (λ name. 0) new s
+    let grows-is : grows size at.content ≡ nat_lt had size =
+    ap (grows size) h.told ∙ ap (λ (bytes : List ℕ). nat_lt (length bytes) size) (sym h.holds) in
+    let parts = parts_at before.view at.file DATA s.name in
+    written-by before command at node way is h now gains count new s
     (record {
-      counted = λ vcn never. never-gains never;
-      below = λ vcn never. never-gains never;
-      asked = omega arith;
+      counted = λ vcn gained.
+          ap (λ b. b && touches size_of_cluster 0 (stream_value_len (stream_in before.view before.machine.tree at)) vcn) grows-is
+          ∙ subst (λ xs. (nat_lt had size && touches size_of_cluster 0 (stream_value_len xs) vcn) ≡ true)
+          (sym (named-parts before command at node way is h now gains count new s)) gained;
+      below = λ vcn gained.
+          let its = and_parts (nat_lt had size) (touches size_of_cluster 0 (stream_value_len parts) vcn) gained in
+          let more = ltb-true had size its.0 in
+          let low = touched-below size_of_cluster 0 (stream_value_len parts) vcn its.1 in
+          let short = value-within before command at node way is h now gains count new s in
+          let long = resized-long size (bytes_at at) in
+          omega (arith, more, low, short, long);
+      asked =
+          subst (λ b. count s.name
+          ≤ unwrap_or (if b then Some (new_clusters size_of_cluster (stream_parts before.view before.machine.tree at) 0 0) else None) 0)
+          (sym grows-is)
+          (subst (λ xs. count s.name ≤ unwrap_or (if nat_lt had size then Some (new_clusters size_of_cluster xs 0 0) else None) 0)
+          (sym (stream-same before command at node way is h now gains count new s))
+          (billed-where (nat_lt had size) (new_clusters size_of_cluster parts 0 0)));
       owned = λ real vcn is_one.
           lt-ltb (vcn * cluster_bytes before.view.layout) size
           (subst (λ (l : TableLayout). vcn * cluster_bytes l < size) same (stages.edits.ends vcn is_one));
@@ -321,7 +340,7 @@ rmstream-value : (before : State) (path : List (List ℕ)) (name : List ℕ) (at
     → Alone before.view before.machine.tree (c.Rmstream path name) at → CanBeEdited before (c.Rmstream path name) at node
     → Stages before (c.Rmstream path name) at at.file node new → CanBeWritten before (c.Rmstream path name) at new
 rmstream-value before path name at node new way is stages =
-    written-by before (c.Rmstream path name) at node way is (is.stream refl) None no_gain (λ name. 0) new stages
+    written-by before (c.Rmstream path name) at node way is (is.stream refl) None (λ name. no_gain) (λ name. 0) new stages
     (record {
       counted = λ vcn never. refl;
       below = λ vcn never. never-gains never;

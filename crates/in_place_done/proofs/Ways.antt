@@ -17,7 +17,7 @@ use Rattle.tree_model.specs.declared.command.Command.{Command}
 use Rattle.tree_model.specs.declared.command.Command.TheVariants as c
 use Rattle.session_def.specs.Nodes.{edits_stream}
 use Rattle.in_place_owed.specs.SetsInPlace.{edits_in_place}
-use Rattle.edit_written.specs.Below.{IsDoneAlone, edits_value}
+use Rattle.edit_written.specs.Below.{edits_value}
 use Rattle.in_place_done.specs.Written.{is_done}
 use Rattle.in_place_done.proofs.HeldStream.{over-some, value-some}
 
@@ -50,6 +50,10 @@ clusters-of view tree other at is = cc
 pub record InPlace (view : VolumeView) (tree : Tree) (command : Command) (at : Located) : Type 0 where
   pub edits : edits_in_place command ≡ true
   pub is : is_done_in_place view tree command at ≡ true
+
+-- of one stream alone, in its record or in clusters
+abbrev pub IsDoneAlone : VolumeView → Tree → Command → Located → Type 0
+IsDoneAlone view tree command at = (is_done_in_record view tree command at ≡ true) ⊎ (is_done_in_clusters view tree command at ≡ true)
 
 pub record Alone (view : VolumeView) (tree : Tree) (command : Command) (at : Located) : Type 0 where
   pub edits : edits_value command ≡ true
@@ -113,7 +117,7 @@ stays-alone view tree at size stays =
     (and_parts (is_value_alone view tree at)
     (gets_no_longer size at.content || fits_in_record view at.file (stream_parts view tree at) size) stays).0
 
-pub record-alone : (view : VolumeView) (tree : Tree) (command : Command) (at : Located) → is_done_in_record view tree command at ≡ true
+record-alone : (view : VolumeView) (tree : Tree) (command : Command) (at : Located) → is_done_in_record view tree command at ≡ true
     → is_value_alone view tree at ≡ true
 record-alone view tree (c.Write path stream from bytes) at is =
     let over = not (goes_over (cluster_bytes view.layout) (stream_parts view tree at) from (length bytes)) in

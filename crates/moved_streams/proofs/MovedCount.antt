@@ -25,7 +25,8 @@ use Rattle.value_edits.proofs.AloneSteps.{outside}
 use Rattle.value_edits.proofs.RunHoles.{placed-all}
 use Rattle.value_edits.proofs.ValueCalls.{shown}
 use Rattle.value_edits.proofs.ValueShown.{alone-first}
-use Rattle.moved_streams.specs.MovedStreams.{MovesStream, touches_either}
+use Rattle.value_edits.specs.ValueEdits.{gained_by_write}
+use Rattle.moved_streams.specs.MovedStreams.{MovesStream}
 use Rattle.moved_streams.proofs.MovedExtent.{placed-alone}
 
 -- all of a range pass
@@ -52,7 +53,7 @@ module _ {old new : VolumeView} {f i : ℕ} {name : List ℕ} {run : Run} {real 
   is-value = value-is x.moves.was.body value x.moves.becomes.can.is
 
   -- THE OLD VALUE is what the node shows.
-  had : stream_value_len (parts_at old f DATA name) ≡ length held
+  pub had : stream_value_len (parts_at old f DATA name) ≡ length held
   had =
       ap stream_value_len x.stood
       ∙ ap (λ (o : Option Part). option_map_or length (option_and_then (λ (p : Part). content_value p.content) o) 0)
@@ -77,7 +78,7 @@ module _ {old new : VolumeView} {f i : ℕ} {name : List ℕ} {run : Run} {real 
       omega (arith, all, one, none, same, x.fills.needs.len)
 
   pub takes-counted : (from len : ℕ) → length put ≡ max (from + len) (length held)
-      → ((vcn : ℕ) → vcn < run.len → touches_either (cluster_bytes old.layout) from len (length held) vcn ≡ true)
+      → ((vcn : ℕ) → vcn < run.len → gained_by_write (cluster_bytes old.layout) (parts_at old f DATA name) from len vcn ≡ true)
       → sum_by run_size (run ∷ []) ≤ new_clusters (cluster_bytes old.layout) (parts_at old f DATA name) from len
   takes-counted from len long touched =
       let size = cluster_bytes old.layout in
@@ -88,10 +89,8 @@ module _ {old new : VolumeView} {f i : ℕ} {name : List ℕ} {run : Run} {real 
       let one = total-cons run [] in
       let none : total_clusters [] ≡ 0 = refl in
       let all = placed-all (run ∷ []) (placed-alone run x.fills.needs.placed) in
-      let had_len = stream_value_len extents in
-      let counted = count-each (λ vcn. touches_either size from len had_len vcn && not (is_cluster (spot_at extents vcn)))
-      0 (clusters_for (max (from + len) had_len) size)
-      (λ vcn low high. and_from (touches_either size from len had_len vcn) (not (is_cluster (spot_at extents vcn)))
-      (subst (λ n. touches_either size from len n vcn ≡ true) (sym had)
-      (touched vcn (omega (arith, high, needed, taken, all, one, none)))) (nowhere vcn)) in
+      let counted = count-each (λ vcn. gained_by_write size extents from len vcn && not (is_cluster (spot_at extents vcn)))
+      0 (clusters_for (max (from + len) (stream_value_len extents)) size)
+      (λ vcn low high. and_from (gained_by_write size extents from len vcn) (not (is_cluster (spot_at extents vcn)))
+      (touched vcn (omega (arith, high, needed, taken, all, one, none))) (nowhere vcn)) in
       omega (arith, counted, needed, taken)

@@ -1,13 +1,12 @@
 -- A STREAM THAT MOVED INTO CLUSTERS: it was a value alone, of a file without an attribute list. A run was taken that has clusters for its
 -- bytes, the bytes were put into them, and then its attribute became an extent of that run.
 -- Layout: Linux-NTFS documentation, attribute `$DATA` and "Attribute Headers"; Carrier, File System Forensic Analysis, chapter 13.
-use Rattle.std.specs.Prelude.{◌≡◌, ◌*◌, ◌^◌, ◌≤◌, ◌||◌, ℕ, Bool, [], ◌∷◌, List, Some, length}
+use Rattle.std.specs.Prelude.{◌≡◌, ◌*◌, ◌^◌, ◌≤◌, ℕ, [], ◌∷◌, List, Some, length}
 use Rattle.ntfs_def.specs.declared.kinds.TheConstants.{DATA}
 use Rattle.ntfs_def.specs.declared.run_text.Run.{Run}
 use Rattle.volume_def.specs.Files.{part_of, parts_at}
 use Rattle.volume_def.specs.Table.{cluster_bytes}
 use Rattle.volume_def.specs.View.{VolumeView}
-use Rattle.tree_model.specs.StreamRoom.{touches}
 use Rattle.value_moves.specs.Moved.{MovesValue}
 use Rattle.value_edits.specs.ValueEdits.{IsStreamOf, WritesBehind}
 
@@ -23,7 +22,3 @@ pub record MovesStream (old new : VolumeView) (f i : ℕ) (name : List ℕ) (run
   pub more : length bytes ≤ real
   pub near : real ≤ 2 ^ 40
   pub room : real ≤ run.len * cluster_bytes old.layout
-
--- the clusters that so many bytes from a place on touch, or the old value of so many bytes does
-abbrev pub touches_either : ℕ → ℕ → ℕ → ℕ → ℕ → Bool
-touches_either size from len had vcn = touches size from len vcn || touches size 0 had vcn

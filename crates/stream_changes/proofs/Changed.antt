@@ -1,16 +1,18 @@
 -- A STREAM OF A FILE WAS EDITED in its record, where clusters of it had been given back, and others taken: the volume is in use still, and
 -- the attributes of the file can be set. Then the stream is put, and no cluster is free, or has an owner, for nothing.
-use Rattle.std.proofs.Common.{◌≡◌, ◌⊎◌, ◌+◌, ◌*◌, ◌≤◌, ℕ, Bool, List, [], length, Option, Some, sym, ap, subst, inl, inr, ◌∙◌, arith}
-use Rattle.std.specs.Prelude.{IsTrue, sum_by}
+use Rattle.std.proofs.Common.{◌≡◌, ◌⊎◌, ◌+◌, ◌*◌, ◌≤◌, ℕ, Bool, true, List, [], length, Option, Some, None, sym, ap, subst, inl, inr, ◌∙◌}
+use Rattle.std.proofs.Common.{arith}
+use Rattle.std.specs.Prelude.{IfSome, IsTrue, sum_by}
 use Rattle.vol_disk.specs.declared.Disk.{Ghosts}
+use Rattle.ntfs_def.specs.Attribute.{Attribute}
 use Rattle.ntfs_def.specs.declared.kinds.TheConstants.{DATA, STANDARD_INFORMATION}
 use Rattle.ntfs_def.specs.declared.run_text.Run.{Run}
 use Rattle.volume_def.specs.Coverage.{times_covered}
 use Rattle.volume_def.specs.FileNames.{names_of}
-use Rattle.volume_def.specs.Files.{records_of}
+use Rattle.volume_def.specs.Files.{parts_at, records_of}
 use Rattle.volume_def.specs.OwnersClause.{times_owned}
 use Rattle.volume_def.specs.Sound as clauses
-use Rattle.volume_def.specs.Table.{TableLayout}
+use Rattle.volume_def.specs.Table.{TableLayout, cluster_bytes}
 use Rattle.volume_def.specs.View.{VolumeView}
 use Rattle.mft_table.specs.declared.mft.Mft.{Mft}
 use Rattle.mft_table.specs.InUse.{IsInUse, IsSoundVolume}
@@ -23,7 +25,8 @@ use Rattle.tree_model.specs.Streams.{resized}
 use Rattle.value_edits.proofs.Below.{Rewrites-then, times-same}
 use Rattle.tree_edit.specs.Below.{SetsAttributes, dirs_of, is_told_key}
 use Rattle.tree_edit.proofs.Below.{chain-rewrites, set-rewrites}
-use Rattle.value_edits.specs.ValueEdits.{EditsAlone, EndsBy, IsEdited, PutsGiving, PutsStream, ResizesStream, no_gain, node_with}
+use Rattle.value_edits.specs.ValueEdits.{ComesInPlace, EditsAlone, EndsBy, IsEdited, PutsGiving, PutsStream, ResizesStream, count_by_length}
+use Rattle.value_edits.specs.ValueEdits.{gained_by_length, no_gain, node_with}
 use Rattle.value_edits.proofs.EditedRecord as value
 use Rattle.value_edits.proofs.GivenCount.{few-given}
 use Rattle.value_edits.proofs.StreamPut.{stream-put}
@@ -62,15 +65,68 @@ put-of old mid new f name bytes gains given taken count times flags p few sets =
   sets = sets;
 }
 
--- .. of one that has so many bytes then
+-- IT MAY GAIN more clusters than it gains.
+gains-more : (view : VolumeView) (f more : ℕ) (few many : ℕ → Bool) → ((vcn : ℕ) → few vcn ≡ true → many vcn ≡ true) → (was : Attribute)
+    (now : Option Attribute) → IfSome now (ComesInPlace view f few more was) → IfSome now (ComesInPlace view f many more was)
+gains-more view f more few many each was None comes = comes
+gains-more view f more few many each was (Some a) comes = record {
+  kind = comes.kind;
+  name = comes.name;
+  form = comes.form;
+  limits = comes.limits;
+  whole = comes.whole;
+  size = comes.size;
+  spots = λ vcn is. elim (comes.spots vcn is) [ inl had ↦ inl had | inr gained ↦ inr (each vcn gained) ];
+  holes = comes.holes;
+  keeps = comes.keeps;
+}
+
+pub put-gaining : (old new : VolumeView) (f : ℕ) (name : List ℕ) (bytes : Option (List ℕ)) (few many : ℕ → Bool)
+    → ((vcn : ℕ) → few vcn ≡ true → many vcn ≡ true) → (given taken : List Run)
+    → PutsGiving old new f name bytes few given taken → PutsGiving old new f name bytes many given taken
+put-gaining old new f name bytes few many each given taken p =
+    let e = p.puts.edits in
+    record {
+      puts = record {
+        edits = record {
+          one = e.one;
+          kind = e.kind;
+          was = e.was;
+          now = e.now;
+          was_of = e.was_of;
+          stood = e.stood;
+          given = e.given;
+          taken = e.taken;
+          mid = e.mid;
+          prepares = e.prepares;
+          comes = gains-more old f (sum_by run_size e.taken) few many each e.was e.now e.comes;
+          balance = e.balance;
+          stored = e.stored;
+          block = e.block;
+          header = e.header;
+          right = e.right;
+        };
+        shows = p.puts.shows;
+      };
+      given_are = p.given_are;
+      taken_are = p.taken_are;
+    }
+
+-- .. of one that has so many bytes then, and gained nothing
 pub resized-of : (old mid new : VolumeView) (f : ℕ) (name : List ℕ) (size : ℕ) (held : List ℕ) (given : List Run) (times : List ℕ)
     (flags : ℕ) → PutsGiving old mid f name (Some (resized size held)) no_gain given [] × EndsBy mid f name size
     → SetsAttributes mid new f times flags → ResizesStream old new f name size held times flags
 unfolding put-of
-resized-of old mid new f name size held given times flags p sets = record {
-  puts = put-of old mid new f name (Some (resized size held)) no_gain given [] 0 times flags p.0 (omega arith) sets;
-  ends = p.1;
-}
+resized-of old mid new f name size held given times flags p sets =
+    let cluster = cluster_bytes old.layout in
+    let parts = parts_at old f DATA name in
+    record {
+      puts = put-of old mid new f name (Some (resized size held)) (gained_by_length cluster parts (length held) size) given []
+          (count_by_length cluster parts (length held) size) times flags
+          (put-gaining old mid f name (Some (resized size held)) no_gain (gained_by_length cluster parts (length held) size)
+          (λ vcn never. cc) given [] p.0) (omega arith) sets;
+      ends = p.1;
+    }
 
 module _ {D : Type 0} (g : Ghosts D) (f : ℕ) (a back m : Mft D g) (named : IsTrue (view g a).told → FindsNamed (view g a) f)
     (bytes : List ℕ → Option (List ℕ)) (gains : ℕ → Bool) (given taken : IsTrue (view g a).told → List Run)

@@ -5,7 +5,7 @@ use Rattle.std.proofs.Common.{refl, sym, ap, subst, inl, inr, ◌∙◌, arith}
 use Rattle.std.specs.List.{Contains, range_with_len}
 use Rattle.std.specs.Option.{option_to_list}
 use Rattle.std.specs.Prelude.{IfSome, IsSomeAnd, IsTrue, slice_get, sum_by}
-use Rattle.std.proofs.lemmas.Bool.{and_parts, both_ways, cases_lt}
+use Rattle.std.proofs.lemmas.Bool.{and_parts, both_ways, cases_lt, or_left}
 use Rattle.std.proofs.lemmas.Nat.{mod_below}
 use Rattle.list_laws.proofs.MemberLaws.{Contains-flat_map, Contains-from_flat_map, Contains-nil, Contains-only}
 use Rattle.vol_disk.specs.declared.Disk.{Ghosts}
@@ -53,7 +53,7 @@ use Rattle.tree_edit.specs.Links.{CanWriteFile}
 use Rattle.tree_edit.specs.Staged.{IsOfFile, IsOfNames, IsOfStreams, StagesAttributes, StagesFew, TellsStored}
 use Rattle.tree_edit.specs.Write.{can_go_behind, has_run_for}
 use Rattle.tree_edit.proofs.StagedLaws.{few-more, few-standard, few-then}
-use Rattle.value_edits.specs.ValueEdits.{NeedsRun, PutsBytes, PutsGiving, WritesBehind}
+use Rattle.value_edits.specs.ValueEdits.{NeedsRun, PutsBytes, PutsGiving, WritesBehind, gained_by_write}
 use Rattle.value_edits.proofs.GivenBack.{none-covered, nothing-given}
 use Rattle.value_edits.proofs.LongerStreams.{written-put}
 use Rattle.stream_changes.specs.Reached.{CannotReach, NeedsFor, ReachesWith}
@@ -320,12 +320,17 @@ module _ {D : Type 0} (g : Ghosts D) (found : FoundStream) (f at : ℕ) (bytes :
       reach-can-write = changed.can-write g f a back m named (λ held. Some (written at bytes held)) gains (λ t. []) (λ t. option_to_list run)
           (λ t. view g a) (λ t. nothing-given (view g a)) takes stored-back mounted same puts
 
+      abbrev may_gain : IsTrue (view g a).told → ℕ → Bool
+      may_gain t = gained_by_write (cluster_bytes (view g a).layout) (parts_at (view g a) f DATA (named t).name) at (length bytes)
+
       module _ (b : Mft D g) (times : List ℕ) (flags : ℕ)
           (sets : IsTrue (view g m).told → SetsAttributes (view g m) (view g b) f times flags) where
         pub reach-put : (t : IsTrue (view g a).told)
             → PutsBytes (view g a) (view g b) f (can t).give.named.name at bytes (can t).give.named.held times flags
-        reach-put t = changed.put-of old (view g m) (view g b) f (named t).name (Some (written at bytes (named t).held)) gains []
-            (option_to_list run) (new_clusters size (parts_at old f DATA (named t).name) at (length bytes)) times flags (puts t)
+        reach-put t = changed.put-of old (view g m) (view g b) f (named t).name (Some (written at bytes (named t).held)) (may_gain t) []
+            (option_to_list run) (new_clusters size (parts_at old f DATA (named t).name) at (length bytes)) times flags
+            (changed.put-gaining old (view g m) f (named t).name (Some (written at bytes (named t).held)) gains (may_gain t)
+            (λ vcn is. or_left (gains vcn) _ is) [] (option_to_list run) (puts t))
             (subst (λ (ps : List Part). sum_by run_size (option_to_list run) ≤ new_clusters size ps at (length bytes)) (sym (give t).alone)
             (reach.reach-few old found f (give t) at (length bytes) (goes t).0 (some t) run (reaches t).needs))
             (sets (same ∙ t))

@@ -1,6 +1,6 @@
 -- A VALUE THAT IS CHANGED, OR GOES, and then the attributes of its file are set: over what the calls leave of the table in use.
 use Rattle.std.proofs.Common.{◌≡◌, ◌==◌, ◌+◌, ◌*◌, ℕ, Bool, true, false, List, [], length, Option, Some, None, refl, sym, ap, subst, inl, inr, ◌∙◌, arith}
-use Rattle.std.specs.Prelude.{◌⊎◌, IsSome, IsSomeAnd, IsTrue, IfSome, slice_get, sum_by}
+use Rattle.std.specs.Prelude.{◌⊎◌, IsSome, IsSomeAnd, IsTrue, IfSome, slice_get}
 use Rattle.std.specs.List.{list_any}
 use Rattle.std.specs.Str.{bytes_eq}
 use Rattle.std.proofs.lemmas.Bool.{and_parts, eqb-true, not-true}
@@ -27,14 +27,13 @@ use Rattle.mft_table.specs.Mft.{KeepsDisk, view}
 use Rattle.file_record.specs.Attributes.{ChangesValue, RemovesAttribute}
 use Rattle.file_record.specs.Records.{IsRecordOf}
 use Rattle.tree_edit.specs.Below.{IsInitialized, SetsAttributes, StagesRecordOf, number_of}
-use Rattle.edit_def.specs.Purses.{run_size}
-use Rattle.tree_model.specs.StreamRoom.{new_clusters, touches}
+use Rattle.tree_model.specs.StreamRoom.{new_clusters}
 use Rattle.tree_model.specs.Streams.{resized, written}
 use Rattle.tree_model.specs.Ways.{has_no_list}
 use Rattle.tree_edit.proofs.Below.{node-file}
 use Rattle.sparse_io.specs.declared.find.FoundStream.{FoundStream}
 use Rattle.value_edits.proofs.Below.{body-value, may-edit}
-use Rattle.value_edits.specs.ValueEdits.{ComesInPlace, EndsBy, IsStreamValue, PutsBytes, PutsGiving, PutsStream, ResizesStream, no_gain}
+use Rattle.value_edits.specs.ValueEdits.{EndsBy, IsStreamValue, PutsBytes, PutsGiving, PutsStream, ResizesStream, gained_by_write, no_gain}
 use Rattle.value_edits.proofs.GivenBack.{nothing-given, nothing-taken}
 use Rattle.value_edits.proofs.ValueCalls as calls
 use Rattle.tree_edit.specs.Alone.{IsDroppable, IsResizable, can_drop}
@@ -146,52 +145,6 @@ module _ (old : VolumeView) (found : FoundStream) (f : ℕ) (can : CanChange old
       (sym (alone r.n r.own))
       (λ e is. calls.removed-put old new f r.i c.can.node c.name e c.can.can can.one is)
       r.removes (is-stream r.n r.removes.was r.is)
-
--- IT MAY GAIN any clusters, where it gains none.
-gains-any : (view : VolumeView) (f more : ℕ) (gains : ℕ → Bool) (was : Attribute) (now : Option Attribute)
-    → IfSome now (ComesInPlace view f no_gain more was) → IfSome now (ComesInPlace view f gains more was)
-gains-any view f more gains was None comes = comes
-gains-any view f more gains was (Some a) comes = record {
-  kind = comes.kind;
-  name = comes.name;
-  form = comes.form;
-  limits = comes.limits;
-  whole = comes.whole;
-  size = comes.size;
-  spots = λ vcn is. elim (comes.spots vcn is) [ inl had ↦ inl had | inr never ↦ cc ];
-  holes = comes.holes;
-  keeps = comes.keeps;
-}
-
-pub put-gaining : (old new : VolumeView) (f : ℕ) (name : List ℕ) (bytes : Option (List ℕ)) (gains : ℕ → Bool) (given taken : List Run)
-    → PutsGiving old new f name bytes no_gain given taken → PutsGiving old new f name bytes gains given taken
-put-gaining old new f name bytes gains given taken p =
-    let e = p.puts.edits in
-    record {
-      puts = record {
-        edits = record {
-          one = e.one;
-          kind = e.kind;
-          was = e.was;
-          now = e.now;
-          was_of = e.was_of;
-          stood = e.stood;
-          given = e.given;
-          taken = e.taken;
-          mid = e.mid;
-          prepares = e.prepares;
-          comes = gains-any old f (sum_by run_size e.taken) gains e.was e.now e.comes;
-          balance = e.balance;
-          stored = e.stored;
-          block = e.block;
-          header = e.header;
-          right = e.right;
-        };
-        shows = p.puts.shows;
-      };
-      given_are = p.given_are;
-      taken_are = p.taken_are;
-    }
 
 -- OVER WHAT THE CALLS LEAVE of the table in use: a value lies in no cluster, and none is given back, or taken.
 pub named-value : (view : VolumeView) (found : FoundStream) (f : ℕ) → CanChange view found f → FindsNamed view f
@@ -321,10 +274,11 @@ module _ {D : Type 0} (g : Ghosts D) (found : FoundStream) (f size : ℕ) (chang
       → PutsBytes (view g a) (view g b) f c.value.name at bytes c.value.held times flags
   changed-written at bytes times flags b sets t c is =
       let cluster = cluster_bytes (view g a).layout in
-      let gains : ℕ → Bool = touches cluster at (length bytes) in
-      edited.put-of (view g a) (view g m) (view g b) f c.value.name (Some (written at bytes c.value.held)) gains [] []
-      (new_clusters cluster (parts_at (view g a) f DATA c.value.name) at (length bytes)) times flags
-      (put-gaining (view g a) (view g m) f c.value.name (Some (written at bytes c.value.held)) gains [] []
+      let parts = parts_at (view g a) f DATA c.value.name in
+      edited.put-of (view g a) (view g m) (view g b) f c.value.name (Some (written at bytes c.value.held))
+      (gained_by_write cluster parts at (length bytes)) [] [] (new_clusters cluster parts at (length bytes)) times flags
+      (edited.put-gaining (view g a) (view g m) f c.value.name (Some (written at bytes c.value.held)) no_gain
+      (gained_by_write cluster parts at (length bytes)) (λ vcn never. cc) [] []
       (subst (λ (bytes : List ℕ). PutsGiving (view g a) (view g m) f c.value.name (Some bytes) no_gain [] []) is (puts t c)))
       (omega arith) (sets (disk.goes_on.told_image ∙ t))
 

@@ -1,7 +1,7 @@
 -- WHAT IS DUE FOR `hwrite`: where its bytes can be written into the stream of a handle that may write it it is done, unless there is no room
 -- for what it asks, and else refused so.
-use Rattle.std.proofs.Common.{◌≡◌, ◌⊎◌, ◌==◌, ◌&&◌, ◌||◌, ◌+◌, ℕ, Bool, true, false, List, ◌∷◌, [], not, length, Option, Some, None, Result, Ok, Err}
-use Rattle.std.proofs.Common.{inl, inr, refl, sym, ap, ◌∙◌, arith, if◌then◌else◌}
+use Rattle.std.proofs.Common.{◌≡◌, ◌==◌, ◌&&◌, ◌||◌, ◌+◌, ℕ, Bool, true, false, List, ◌∷◌, [], not, length, Option, Some, None, Result, Ok, Err}
+use Rattle.std.proofs.Common.{refl, sym, ap, ◌∙◌, arith, if◌then◌else◌}
 use Rattle.std.specs.Borrow.{Bor}
 use Rattle.std.specs.Prelude.{find, is_some}
 use Rattle.std.specs.Option.{option_map_or}
@@ -18,7 +18,7 @@ use Rattle.tree_model.specs.Reading.{read}
 use Rattle.tree_model.specs.Refusals.{Facts, first_some, outcome, refusal, unless, when}
 use Rattle.tree_model.specs.Shown.{plain_bytes}
 use Rattle.tree_model.specs.Staging.{cannot_edit}
-use Rattle.tree_model.specs.Ways.{can_reach, fits_in_record, gets_no_longer, has_no_list, has_placed_bits, in_extent, is_done_in_clusters, is_done_in_record}
+use Rattle.tree_model.specs.Ways.{can_reach, fits_in_record, gets_no_longer, has_no_list, has_placed_bits, in_extent}
 use Rattle.tree_model.specs.Step.{answered, due}
 use Rattle.tree_model.specs.StreamRoom.{goes_over, is_in_place, new_clusters, stream_parts, stream_value}
 use Rattle.tree_model.specs.Subjects.{Located, Machine, at_file, at_open, content_named, locate, subject_of, with_stream}
@@ -143,12 +143,10 @@ module _ (facts : Facts) (view : VolumeView) (opens : List OpenEntry) (now sessi
   unless_within entry inside = if inside then None
       else no_room_alone view entry.file (new_clusters (cluster_bytes view.layout) (stream_parts view (read view) (at entry)) from len)
 
-  asked-of : (entry : OpenEntry) → is_some (at entry).content ≡ true → (is_done_in_record view (read view) command (at entry) ≡ true)
-      ⊎ (is_done_in_clusters view (read view) command (at entry) ≡ true)
-      → facts.no_room m command (at entry) ≡ unless_within entry (within entry)
-  asked-of entry there way =
+  asked-of : (entry : OpenEntry) → is_some (at entry).content ≡ true → facts.no_room m command (at entry) ≡ unless_within entry (within entry)
+  asked-of entry there =
       tells.no_room m command (at entry)
-      ∙ value-room view (read view) command (at entry) refl refl (located-counted view (read view) (at entry) refl there) there way
+      ∙ value-room view (read view) command (at entry) refl refl (located-counted view (read view) (at entry) refl there) there
       ∙ asked-unless (no_room_alone view entry.file) (within entry)
       (new_clusters (cluster_bytes view.layout) (stream_parts view (read view) (at entry)) from len)
 
@@ -158,7 +156,7 @@ module _ (facts : Facts) (view : VolumeView) (opens : List OpenEntry) (now sessi
       let parts = and_parts (not (goes entry)) ((value entry && alone entry) && fits entry) built in
       let both = (and_parts (value entry && alone entry) (fits entry) parts.1).0 in
       let its = (and_parts (value entry) (alone entry) both).0 in
-      asked-of entry (value-there view (read view) (at entry) its) (inl built)
+      asked-of entry (value-there view (read view) (at entry) its)
       ∙ ap (unless_within entry) (not-within (cluster_bytes view.layout) (stream_parts view (read view) (at entry)) from len its
       (not-true (goes entry) parts.0))
 
@@ -167,7 +165,7 @@ module _ (facts : Facts) (view : VolumeView) (opens : List OpenEntry) (now sessi
       let built = clusters-so (cannot entry) (goes entry) (extent entry) (one entry) (alone entry) (has_placed_bits view) (reaches entry) other is in
       let stays = (and_parts (not (goes entry)) _ built).1 in
       let both = (and_parts (extent entry && (one entry && (alone entry && has_placed_bits view))) (reaches entry) stays).0 in
-      asked-of entry (extent-there view (read view) (at entry) (and_parts (extent entry) _ both).0) (inr built)
+      asked-of entry (extent-there view (read view) (at entry) (and_parts (extent entry) _ both).0)
 
   abbrev decided : OpenEntry → Result ℕ No
   decided entry = if_written_by (over entry) (can entry) (reach entry) (asked entry) (behind entry) entry.file

@@ -100,12 +100,12 @@ module _ (facts : Facts) (view : VolumeView) (opens : List OpenEntry) (now sessi
         let built = built-so (cannot found) (value found) (alone found) goes in
         let there = value-there view (read view) (at found) (and_parts (value found) (alone found) built).0 in
         tells.no_room m command (at found)
-        ∙ value-room view (read view) command (at found) refl refl (located-counted view (read view) (at found) refl there) there (inl built)
+        ∙ value-room view (read view) command (at found) refl refl (located-counted view (read view) (at found) refl there) there
     | inr gives ↦
         let built = extent-so (cannot found) (extent found) (one found) (alone found) (has_placed_bits view) gives in
         let there = extent-there view (read view) (at found) (and_parts (extent found) _ built).0 in
         tells.no_room m command (at found)
-        ∙ value-room view (read view) command (at found) refl refl (located-counted view (read view) (at found) refl there) there (inr built)
+        ∙ value-room view (read view) command (at found) refl refl (located-counted view (read view) (at found) refl there) there
   ]
 
   -- the refusal that is due; nothing is too big

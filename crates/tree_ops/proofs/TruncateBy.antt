@@ -1,7 +1,7 @@
 -- WHAT IS DUE FOR `truncate`: where the stream that its path leads to is a value of a file without an attribute list, and can have so many
 -- bytes, or lies in clusters, in one part, and gets no longer, or ends in its last cluster still, it is done, unless there is no room for
 -- what it asks. Else it is refused so.
-use Rattle.std.proofs.Common.{◌≡◌, ◌==◌, ◌&&◌, ◌||◌, ℕ, Bool, true, false, List, not, length, Option, Some, None, Ok, Err, inl, inr}
+use Rattle.std.proofs.Common.{◌≡◌, ◌==◌, ◌&&◌, ◌||◌, ℕ, Bool, true, false, List, not, length, Option, Some, None, Ok, Err}
 use Rattle.std.proofs.Common.{refl, sym, ap, subst, ◌∙◌, arith}
 use Rattle.std.specs.Prelude.{if◌then◌else◌, is_some, option_and_then}
 use Rattle.std.proofs.lemmas.Bool.{and_parts}
@@ -130,7 +130,7 @@ module _ (facts : Facts) (view : VolumeView) (opens : List OpenEntry) (now sessi
       let both = and_parts (extent found && (one found && (alone found && has_placed_bits view))) (short found) built in
       let there = extent-there view (read view) (at found) (and_parts (extent found) _ both.0).0 in
       tells.no_room m command (at found)
-      ∙ value-room view (read view) command (at found) refl refl (located-counted view (read view) (at found) refl there) there (inr built)
+      ∙ value-room view (read view) command (at found) refl refl (located-counted view (read view) (at found) refl there) there
       ∙ asked-so found
 
   value-asks : (found : Found) → can found ≡ true → facts.no_room m command (at found) ≡ asked found
@@ -139,7 +139,7 @@ module _ (facts : Facts) (view : VolumeView) (opens : List OpenEntry) (now sessi
       let both = (and_parts (value found && alone found) (fits found) built).0 in
       let there = value-there view (read view) (at found) (and_parts (value found) (alone found) both).0 in
       tells.no_room m command (at found)
-      ∙ value-room view (read view) command (at found) refl refl (located-counted view (read view) (at found) refl there) there (inl built)
+      ∙ value-room view (read view) command (at found) refl refl (located-counted view (read view) (at found) refl there) there
       ∙ asked-so found
 
   room : (found : Found) → (can found || cut found) ≡ true → facts.no_room m command (at found) ≡ asked found

@@ -1,7 +1,7 @@
 -- WHAT IS DUE FOR `write`: where its bytes go over bytes of the stream that its path leads to, or that is a value which can be as long as they
 -- need, it is done, unless there is no room for what it asks, and else refused so.
-use Rattle.std.proofs.Common.{◌≡◌, ◌⊎◌, ◌==◌, ◌&&◌, ◌||◌, ◌+◌, ℕ, Bool, true, false, List, not, length, Option, None, Ok, Err}
-use Rattle.std.proofs.Common.{inl, inr, refl, sym, ap, subst, ◌∙◌, arith, if◌then◌else◌}
+use Rattle.std.proofs.Common.{◌≡◌, ◌==◌, ◌&&◌, ◌||◌, ◌+◌, ℕ, Bool, true, false, List, not, length, Option, None, Ok, Err}
+use Rattle.std.proofs.Common.{refl, sym, ap, subst, ◌∙◌, arith, if◌then◌else◌}
 use Rattle.std.specs.Borrow.{Bor}
 use Rattle.std.specs.Prelude.{is_some}
 use Rattle.std.proofs.lemmas.Bool.{and_parts, not-true}
@@ -17,7 +17,7 @@ use Rattle.tree_model.specs.Paths.{and_then, found_file, resolve}
 use Rattle.tree_model.specs.Reading.{read}
 use Rattle.tree_model.specs.Refusals.{Facts, outcome, refusal, unless}
 use Rattle.tree_model.specs.Staging.{cannot_edit}
-use Rattle.tree_model.specs.Ways.{can_reach, fits_in_record, gets_no_longer, has_no_list, has_placed_bits, in_extent, is_done_in_clusters, is_done_in_record}
+use Rattle.tree_model.specs.Ways.{can_reach, fits_in_record, gets_no_longer, has_no_list, has_placed_bits, in_extent}
 use Rattle.tree_model.specs.Step.{due}
 use Rattle.tree_model.specs.StreamRoom.{goes_over, is_in_place, new_clusters, stream_parts, stream_value}
 use Rattle.tree_model.specs.Subjects.{Located, Machine, at_found, content_named, is_directory, locate, stream_name, subject_of, with_stream}
@@ -157,12 +157,10 @@ module _ (facts : Facts) (view : VolumeView) (opens : List OpenEntry) (now sessi
   unless_within found inside = if inside then None
       else no_room_alone view (found_file found) (new_clusters (cluster_bytes view.layout) (stream_parts view (read view) (at found)) from len)
 
-  asked-of : (found : Found) → is_some (at found).content ≡ true → (is_done_in_record view (read view) command (at found) ≡ true)
-      ⊎ (is_done_in_clusters view (read view) command (at found) ≡ true)
-      → facts.no_room m command (at found) ≡ unless_within found (within found)
-  asked-of found there way =
+  asked-of : (found : Found) → is_some (at found).content ≡ true → facts.no_room m command (at found) ≡ unless_within found (within found)
+  asked-of found there =
       tells.no_room m command (at found)
-      ∙ value-room view (read view) command (at found) refl refl (located-counted view (read view) (at found) refl there) there way
+      ∙ value-room view (read view) command (at found) refl refl (located-counted view (read view) (at found) refl there) there
       ∙ asked-unless (no_room_alone view (found_file found)) (within found)
       (new_clusters (cluster_bytes view.layout) (stream_parts view (read view) (at found)) from len)
 
@@ -172,7 +170,7 @@ module _ (facts : Facts) (view : VolumeView) (opens : List OpenEntry) (now sessi
       let parts = and_parts (not (goes found)) ((value found && alone found) && fits found) built in
       let both = (and_parts (value found && alone found) (fits found) parts.1).0 in
       let its = (and_parts (value found) (alone found) both).0 in
-      asked-of found (value-there view (read view) (at found) its) (inl built)
+      asked-of found (value-there view (read view) (at found) its)
       ∙ ap (unless_within found) (not-within (cluster_bytes view.layout) (stream_parts view (read view) (at found)) from len its
       (not-true (goes found) parts.0))
 
@@ -181,7 +179,7 @@ module _ (facts : Facts) (view : VolumeView) (opens : List OpenEntry) (now sessi
       let built = clusters-so (cannot found) (goes found) (extent found) (one found) (alone found) (has_placed_bits view) (reaches found) other is in
       let stays = (and_parts (not (goes found)) _ built).1 in
       let both = (and_parts (extent found && (one found && (alone found && has_placed_bits view))) (reaches found) stays).0 in
-      asked-of found (extent-there view (read view) (at found) (and_parts (extent found) _ both).0) (inr built)
+      asked-of found (extent-there view (read view) (at found) (and_parts (extent found) _ both).0)
 
   -- the refusal that is due
   refusal-is : (found : Found) → refusal facts m session command (subject_of command) (at found)

@@ -2,7 +2,7 @@
 use Rattle.std.proofs.Common.{◌≡◌, ℕ, ◌+◌, ◌-◌, ◌≤◌, ◌++◌, List, [], drop, inl, inr, length, max, replicate, take, take_all, ap}
 use Rattle.std.proofs.Common.{sym, ◌∙◌, arith}
 use Rattle.std.proofs.lemmas.Bool.{cases_lt}
-use Rattle.std.proofs.lemmas.List.{append-nil, append_assoc, drop-replicate, drop_all, length-append, length-replicate, length-take}
+use Rattle.std.proofs.lemmas.List.{append-nil, append_assoc, drop-replicate, drop_all, length-append, length-drop, length-replicate, length-take}
 use Rattle.std.proofs.lemmas.List.{take-append-le, take-replicate}
 use Rattle.std.proofs.Math.Seq.{drop-append-add, take-append-add}
 use Rattle.attr_view.specs.Values.{with_length}
@@ -16,6 +16,10 @@ resized-long size old =
     let front = length-take size old in
     let behind = length-replicate {A = ℕ} (size - length old) 0 in
     omega (arith, whole, front, behind)
+
+-- .. and those that were written into end behind what was put there, or where they did
+pub written-long : (at : ℕ) (bytes old : List ℕ) → length (written at bytes old) ≡ max (length old) (at + length bytes)
+written-long at bytes old = simp (length-append, length-take, length-replicate, length-drop) (omega arith)
 
 -- a value that is made longer is followed by zeros
 longer : (n : ℕ) (held : List ℕ) → length held ≤ n → with_length n held ≡ held ++ replicate (n - length held) 0

@@ -2,7 +2,7 @@
 -- none. Before that clusters are given back and taken in the bitmap of clusters, and then bytes are put into its clusters, and into those
 -- that it gets. Nothing else of the volume changes.
 use Rattle.std.specs.Prelude.{◌≡◌, ◌⊎◌, ◌+◌, ◌-◌, ◌*◌, ◌^◌, ◌<◌, ◌≤◌, ℕ, Bool, false, true, [], ◌∷◌, ◌++◌, List, length, Option, Some, None}
-use Rattle.std.specs.Prelude.{IfSome, IsSome, sum_by}
+use Rattle.std.specs.Prelude.{IfSome, IsSome, nat_lt, sum_by, ◌&&◌, ◌||◌, if◌then◌else◌}
 use Rattle.std.specs.Option.{option_to_list}
 use Rattle.ntfs_def.specs.Attribute.{Attribute, value_of}
 use Rattle.ntfs_def.specs.Fixup.{opened_of}
@@ -15,7 +15,7 @@ use Rattle.volume_def.specs.AttributesClause.{IsRightRecord}
 use Rattle.volume_def.specs.CaseClause.{volume_fold}
 use Rattle.volume_def.specs.Coverage.{times_covered}
 use Rattle.volume_def.specs.ExtentsClause.{AreAttribute}
-use Rattle.volume_def.specs.Files.{part_of, parts_at, record_of, records_of}
+use Rattle.volume_def.specs.Files.{Part, part_of, parts_at, record_of, records_of}
 use Rattle.volume_def.specs.LimitsClause.{IsInLimits}
 use Rattle.volume_def.specs.OwnersClause.{times_owned}
 use Rattle.volume_def.specs.Table.{cluster_bytes}
@@ -24,7 +24,7 @@ use Rattle.volume_def.specs.View.{VolumeView}
 use Rattle.volume_edits.specs.Clusters.{WritesStream}
 use Rattle.volume_edits.specs.Rewritten.{EditsBlock}
 use Rattle.tree_model.specs.Reading.{read}
-use Rattle.tree_model.specs.StreamRoom.{is_cluster, new_clusters, touches}
+use Rattle.tree_model.specs.StreamRoom.{is_cluster, new_clusters, stream_value_len, touches}
 use Rattle.tree_model.specs.Streams.{resized, with_bytes, without_stream, written}
 use Rattle.tree_model.specs.declared.tree.Node.{Node}
 use Rattle.edit_def.specs.Account.{Wants, nothing}
@@ -171,13 +171,28 @@ pub record PutsStream (old new : VolumeView) (f : ℕ) (name : List ℕ) (bytes 
   pub takes : sum_by run_size puts.edits.taken ≤ count
   pub sets : SetsAttributes mid new f times flags
 
--- IT HAS SO MANY BYTES, of those that it had, and behind them zeros; no cluster of it lies behind its end.
+-- THE CLUSTERS OF A STREAM, of `size` bytes each, that it may gain by a write: those that the bytes touch, or its old value does, which then
+-- left its record.
+abbrev pub gained_by_write : ℕ → List Part → ℕ → ℕ → ℕ → Bool
+gained_by_write size extents from len vcn = touches size from len vcn || touches size 0 (stream_value_len extents) vcn
+
+-- .. and by another length, `end` in place of `had`: where it gets longer, those that its old value touches; and how many these are.
+abbrev pub gained_by_length : ℕ → List Part → ℕ → ℕ → ℕ → Bool
+gained_by_length size extents had end vcn = nat_lt had end && touches size 0 (stream_value_len extents) vcn
+
+abbrev pub count_by_length : ℕ → List Part → ℕ → ℕ → ℕ
+count_by_length size extents had end = if nat_lt had end then new_clusters size extents 0 0 else 0
+
+-- IT HAS SO MANY BYTES, of those that it had, and behind them zeros; no cluster of it lies behind its end. It gained none but where it was a
+-- value that left its record.
 pub record ResizesStream (old new : VolumeView) (f : ℕ) (name : List ℕ) (size : ℕ) (held times : List ℕ) (flags : ℕ) : Type 0 where
-  pub puts : PutsStream old new f name (Some (resized size held)) no_gain 0 times flags
+  pub puts : PutsStream old new f name (Some (resized size held))
+      (gained_by_length (cluster_bytes old.layout) (parts_at old f DATA name) (length held) size)
+      (count_by_length (cluster_bytes old.layout) (parts_at old f DATA name) (length held) size) times flags
   pub ends : EndsBy puts.mid f name size
 
--- BYTES WERE WRITTEN into it: it gained clusters alone that they touch, and no more than these.
+-- BYTES WERE WRITTEN into it: it gained clusters alone that they touch, or its old value does, and no more than these.
 abbrev pub PutsBytes : VolumeView → VolumeView → ℕ → List ℕ → ℕ → List ℕ → List ℕ → List ℕ → ℕ → Type 0
 PutsBytes old new f name at bytes held times flags = PutsStream old new f name (Some (written at bytes held))
-    (λ vcn. touches (cluster_bytes old.layout) at (length bytes) vcn)
+    (gained_by_write (cluster_bytes old.layout) (parts_at old f DATA name) at (length bytes))
     (new_clusters (cluster_bytes old.layout) (parts_at old f DATA name) at (length bytes)) times flags

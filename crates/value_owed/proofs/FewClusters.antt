@@ -82,7 +82,7 @@ value-len f a value is =
     ∙ ap (λ content. option_map_or length (content_value content) 0) content
 
 -- .. and of an extent there is none
-extent-len : (f : ℕ) (a : Attribute) → value_of a.body ≡ None → stream_value_len (parts_made f (a ∷ [])) ≡ 0
+pub extent-len : (f : ℕ) (a : Attribute) → value_of a.body ≡ None → stream_value_len (parts_made f (a ∷ [])) ≡ 0
 extent-len f a = by a.body
   where
     first : (b : Bool) (extent : ExtentHeader) (text : List ℕ) → ◌≡◌ {A = ℕ}

@@ -157,7 +157,7 @@ module _ (before next : State) (command : Command) (at : Located) (mid staged : 
       (stream-short tree at s.name old mid s.gains s.stands.sound apart e s.spelt_so s.alone)
 
   bill-is : bill_of old tree command at ≡ bill_asked old at.file (clusters_asked old tree command at)
-  bill-is = bill-value old tree command at s.edits s.new (same.inside key old mid s.stands.sound apart e) s.there s.way
+  bill-is = bill-value old tree command at s.edits s.new (same.inside key old mid s.stands.sound apart e) s.there
 
   -- and the clusters that the stream got
   asked-clusters : (o : Option ℕ) → (bill_asked old at.file o).clusters ≡ unwrap_or o 0

@@ -22,7 +22,7 @@ use Rattle.session_def.specs.Done.{lengthens}
 use Rattle.session_def.specs.Named.{is_own_key, is_stream_key, new_directory, timed}
 use Rattle.value_edits.proofs.EmptyBill.{bill-none, little-quiet}
 use Rattle.value_edits.proofs.InPlaceCommands.{DoesLittle, does-little}
-use Rattle.value_owed.specs.ValueOwed.{IsDoneAlone, bill_asked, clusters_asked, edits_value}
+use Rattle.value_owed.specs.ValueOwed.{bill_asked, clusters_asked, edits_value}
 use Rattle.value_owed.proofs.OneBill.{bill-one}
 
 pub value-little : (tree : Tree) (command : Command) (at : Located) → edits_value command ≡ true → DoesLittle tree command at
@@ -157,16 +157,16 @@ rmstream-bill view tree path name at new =
     (little-quiet tree (c.Rmstream path name) at (value-little tree (c.Rmstream path name) at refl) new) refl refl refl
 
 pub bill-value : (view : VolumeView) (tree : Tree) (command : Command) (at : Located) → edits_value command ≡ true → at.new ≡ NoName
-    → at.file < view.layout.count → is_some at.content ≡ true → IsDoneAlone view tree command at
+    → at.file < view.layout.count → is_some at.content ≡ true
     → bill_of view tree command at ≡ bill_asked view at.file (clusters_asked view tree command at)
-bill-value view tree (c.Write path stream from bytes) at is new inside there way =
+bill-value view tree (c.Write path stream from bytes) at is new inside there =
     write-bill view tree path stream from bytes at new inside there _ refl
-bill-value view tree (c.Hwrite handle from bytes) at is new inside there way =
+bill-value view tree (c.Hwrite handle from bytes) at is new inside there =
     hwrite-bill view tree handle from bytes at new inside there _ refl
-bill-value view tree (c.Truncate path stream size) at is new inside there way =
+bill-value view tree (c.Truncate path stream size) at is new inside there =
     truncate-bill view tree path stream size at new inside there (grows size at.content) refl
-bill-value view tree (c.Rmstream path name) at is new inside there way = rmstream-bill view tree path name at new
-bill-value view tree other at is new inside there way = cc
+bill-value view tree (c.Rmstream path name) at is new inside there = rmstream-bill view tree path name at new
+bill-value view tree other at is new inside there = cc
 
 -- so it is refused for room where that is
 asked-room : (view : VolumeView) (f : ℕ) (o : Option ℕ)
@@ -175,8 +175,8 @@ asked-room view f None = bills.none-refused view
 asked-room view f (Some k) = refl
 
 pub value-room : (view : VolumeView) (tree : Tree) (command : Command) (at : Located) → edits_value command ≡ true → at.new ≡ NoName
-    → at.file < view.layout.count → is_some at.content ≡ true → IsDoneAlone view tree command at
+    → at.file < view.layout.count → is_some at.content ≡ true
     → no_room_for view (bill_of view tree command at) ≡ option_and_then (no_room_alone view at.file) (clusters_asked view tree command at)
-value-room view tree command at is new inside there way =
-    ap (no_room_for view) (bill-value view tree command at is new inside there way)
+value-room view tree command at is new inside there =
+    ap (no_room_for view) (bill-value view tree command at is new inside there)
     ∙ asked-room view at.file (clusters_asked view tree command at)

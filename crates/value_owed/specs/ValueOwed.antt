@@ -1,8 +1,7 @@
 -- AN EDIT OF ONE STREAM, and then times and flags: a stream has other bytes, or went, in the record of its file or in clusters, and the
 -- file was set as `setattr` does it. What the calls of such a command give, and the first mark behind them.
-use Rattle.std.specs.Prelude.{◌≡◌, ◌⊎◌, ◌+◌, ◌*◌, ◌/◌, ◌<◌, ◌≤◌, ℕ, Bool, false, true, List, [], ◌∷◌, length, Option, Some, None, is_some}
+use Rattle.std.specs.Prelude.{◌≡◌, ◌+◌, ◌*◌, ◌/◌, ◌<◌, ◌≤◌, ℕ, Bool, false, true, List, [], ◌∷◌, length, Option, Some, None, is_some}
 use Rattle.std.specs.Prelude.{sum_by, unwrap_or, if◌then◌else◌}
-use Rattle.std.specs.Option.{option_map_or}
 use Rattle.ntfs_def.specs.Node.{Item}
 use Rattle.ntfs_def.specs.Units.{units_in}
 use Rattle.ntfs_def.specs.declared.kinds.TheConstants.{DATA}
@@ -13,11 +12,9 @@ use Rattle.volume_def.specs.Table.{cluster_bytes}
 use Rattle.volume_def.specs.Values.{first_part, spot_at}
 use Rattle.volume_def.specs.View.{VolumeView}
 use Rattle.tree_model.specs.Bill.{grows}
-use Rattle.tree_model.specs.Cases.{size_of}
 use Rattle.tree_model.specs.Need.{Bill, empty_bill}
 use Rattle.tree_model.specs.Reading.{read}
-use Rattle.tree_model.specs.Ways.{is_done_in_clusters, is_done_in_record}
-use Rattle.tree_model.specs.StreamRoom.{is_cluster, is_in_place, new_clusters, parts_named, stream_parts, stream_value_len}
+use Rattle.tree_model.specs.StreamRoom.{is_cluster, is_in_place, new_clusters, parts_named, stream_parts}
 use Rattle.tree_model.specs.Subjects.{Located, NoName}
 use Rattle.tree_model.specs.declared.command.Command.{Command}
 use Rattle.tree_model.specs.declared.command.Command.TheVariants as c
@@ -74,21 +71,13 @@ between before command mid = record before {
   written = before.written + bytes_in command / 512 + 2 * given_back before.view mid + 2 * taken_in before.view mid;
 }
 
--- on this volume it is done in the record of the stream, or in clusters
-abbrev pub IsDoneAlone : VolumeView → Tree → Command → Located → Type 0
-IsDoneAlone view tree command at = (is_done_in_record view tree command at ≡ true) ⊎ (is_done_in_clusters view tree command at ≡ true)
-
 -- THE STREAM WAS EDITED, and then the times and flags of the file were set, and told anew in the entries of the file's names.
 pub record SetsBehindValue (before next : State) (command : Command) (at : Located) (mid staged : VolumeView) : Type 0 where
-  -- the volume before; the command is one of these, its words name nothing new and a stream that is there, and on this volume it is
-  -- done so; where that is in the record, the stream is as long as its value
+  -- the volume before; the command is one of these, its words name nothing new and a stream that is there
   pub stands : Stands before
   pub edits : edits_value command ≡ true
   pub new : at.new ≡ NoName
   pub there : is_some at.content ≡ true
-  pub way : IsDoneAlone before.view before.machine.tree command at
-  pub size_is : is_done_in_record before.view before.machine.tree command at ≡ true
-      → option_map_or size_of at.content 0 ≡ stream_value_len (stream_parts before.view before.machine.tree at)
   -- the stream by its name, and all parts of the file that are found by the units of that name are its own
   pub name : List ℕ
   pub spelt_so : units_in name ≡ spelt before.machine.tree at

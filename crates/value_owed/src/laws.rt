@@ -10,16 +10,16 @@ ghost use Rattle.edit_def.specs.OneFile.{no_room_alone};
 ghost use Rattle.session_def.specs.Done.{LeavesDone};
 ghost use Rattle.session_def.specs.Owed.{CallsOf, Owes};
 ghost use Rattle.session_def.specs.State.{State};
-ghost use Rattle.value_owed.specs.ValueOwed.{IsDoneAlone, SetsBehindValue, bill_asked, clusters_asked, edits_value};
+ghost use Rattle.value_owed.specs.ValueOwed.{SetsBehindValue, bill_asked, clusters_asked, edits_value};
 
-/// Where it is done in the record, or in clusters, its bill is the empty one, or has the file alone, with the clusters of the stream
-/// (`bill`); so it is refused for room exactly where that is (`room`).
+/// Of such a command on a stream that is there the bill is the empty one, or has the file alone, with the clusters of the stream (`bill`);
+/// so it is refused for room exactly where that is (`room`).
 pub fn value_has_room()
     ensures bill { (view : VolumeView) (tree : Tree) (command : Command) (at : Located) → edits_value command ≡ true → at.new ≡ NoName
-        → at.file < view.layout.count → is_some at.content ≡ true → IsDoneAlone view tree command at
+        → at.file < view.layout.count → is_some at.content ≡ true
         → bill_of view tree command at ≡ bill_asked view at.file (clusters_asked view tree command at) }
     ensures room { (view : VolumeView) (tree : Tree) (command : Command) (at : Located) → edits_value command ≡ true → at.new ≡ NoName
-        → at.file < view.layout.count → is_some at.content ≡ true → IsDoneAlone view tree command at
+        → at.file < view.layout.count → is_some at.content ≡ true
         → no_room_for view (bill_of view tree command at)
         ≡ option_and_then (no_room_alone view at.file) (clusters_asked view tree command at) }
 {}
