@@ -1,18 +1,18 @@
 pub mod DeviceLaws
 pub mod GivingLaws
 mod EditKept
-mod Changed
+pub mod Changed
 pub mod ValueChanged
 pub mod ResizableRoom
 mod CutPart
 mod ExtendedPart
-mod ExtentLaws
+pub mod ExtentLaws
 mod ExtentCovers
 mod ExtentDone
-mod OwnRuns
-mod ReachLaws
-mod RunsReached
-mod BehindVolume
+pub mod OwnRuns
+pub mod ReachLaws
+pub mod RunsReached
+pub mod BehindVolume
 mod Lengthened
 mod Reached
 mod WaysFound

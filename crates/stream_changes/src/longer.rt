@@ -139,8 +139,8 @@ pub fn lengthen_extent<D: Disk>(
     set_attributes(alloc, mft, number, times, flags)
 }
 
-// A run of so many clusters that no attribute owns, by the flags of the clusters of a volume; `None` exactly where none of as many is free.
-fn run_of_free<D: Disk>(mft: &Mft<'_, D>, count: u64) -> Option<Run>
+/// A run of so many clusters that no attribute owns, by the flags of the clusters of a volume; `None` exactly where none of as many is free.
+pub fn run_of_free<D: Disk>(mft: &Mft<'_, D>, count: u64) -> Option<Run>
     requires { 0 < count }
     ensures some { IfSome result (IsRunOf count) }
     ensures unowned { IfSome result (IsUnownedBy (mounted_of D.Disk mft.now).clusters) }
