@@ -1,5 +1,5 @@
 pub mod SettableLaws
-mod FoundLaws
+pub mod FoundLaws
 pub mod StreamToWrite
 pub mod EditableLaws
 pub mod OverLaws
@@ -8,13 +8,13 @@ mod FoundPunch
 pub mod PunchLaws
 mod SecureFound
 mod SecureLaws
-mod RoomFound
-mod ExtentFound
-mod AloneFound
+pub mod RoomFound
+pub mod ExtentFound
+pub mod AloneFound
 pub mod WriteFound
-mod AskedLaws
+pub mod AskedLaws
 pub mod WayLaws
-mod ValueRoom
+pub mod ValueRoom
 pub mod ChangePart
 pub mod Below
 pub mod RoomThere

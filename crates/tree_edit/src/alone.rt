@@ -48,8 +48,8 @@ fn is_far(end: u64) -> bool
     end > FARTHEST_END
 }
 
-// Whether the file can be edited and has no attribute list, and its stream is a value.
-fn is_alone(
+/// Whether the file can be edited and has no attribute list, and its stream is a value.
+pub fn is_alone(
     alloc: Global,
     mounted: &Mounted,
     held: &BaseFile,

@@ -28,8 +28,8 @@ use vol_disk::Disk;
 // The bytes that a run list may get longer by for one run more, 17, up to a multiple of 8.
 const ONE_RUN: usize = 24;
 
-// The bytes that are free in the record of a file that holds part `i`.
-fn free_beside(file: &FileParts, i: usize) -> usize
+/// The bytes that are free in the record of a file that holds part `i`.
+pub fn free_beside(file: &FileParts, i: usize) -> usize
     requires { i < length (parts_held file.now) }
     ensures { TellsFree file.now i result }
 {
