@@ -50,8 +50,8 @@ module _ (size from len had vcn : ℕ) (positive : 0 < size) where
   ]
 
 -- BEHIND A WRITE
-module _ {old new : VolumeView} {f i from : ℕ} {node : Node} {asked name held bytes : List ℕ} {run : Run} (can : CanSet old f node)
-    (finds : FindsPlain old f node asked name held)
+module _ {old new : VolumeView} {f i : ℕ} {node : Node} {asked name held : List ℕ} {run : Run} (from : ℕ) (bytes : List ℕ)
+    (can : CanSet old f node) (finds : FindsPlain old f node asked name held)
     (x : MovesStream old new f i name run (length (written from bytes held)) (written from bytes held)) (begins : from ≤ length held)
     (some : 0 < length bytes) where
   gained : (vcn : ℕ) → vcn < run.len
@@ -80,14 +80,14 @@ pub written-moved : (old new : VolumeView) (f i from : ℕ) (node : Node) (asked
     → from ≤ length held → 0 < length bytes
     → PutsGiving old new f name (Some (written from bytes held))
     (gained_by_write (cluster_bytes old.layout) (parts_at old f DATA name) from (length bytes)) [] (run ∷ [])
-written-moved old new f i from node asked name held bytes run can alone finds x begins some = written-put can finds x begins some alone
+written-moved old new f i from node asked name held bytes run can alone finds x begins some = written-put from bytes can finds x begins some alone
 
 pub written-few : (old new : VolumeView) (f i from : ℕ) (node : Node) (asked name held bytes : List ℕ) (run : Run) → CanSet old f node
     → FindsPlain old f node asked name held
     → MovesStream old new f i name run (length (written from bytes held)) (written from bytes held)
     → from ≤ length held → 0 < length bytes
     → sum_by run_size (run ∷ []) ≤ new_clusters (cluster_bytes old.layout) (parts_at old f DATA name) from (length bytes)
-written-few old new f i from node asked name held bytes run can finds x begins some = written-takes can finds x begins some
+written-few old new f i from node asked name held bytes run can finds x begins some = written-takes from bytes can finds x begins some
 
 -- IN ANOTHER LENGTH
 module _ {old new : VolumeView} {f i size : ℕ} {node : Node} {asked name held : List ℕ} {run : Run} (can : CanSet old f node)

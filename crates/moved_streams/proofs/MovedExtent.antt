@@ -47,7 +47,7 @@ module _ (bytes : ℕ) (run : Run) (real initialized : ℕ) (was now : Attribute
   pub form-new : was.kind ≡ DATA → IsNewForm (form_of now)
   form-new kind =
       subst IsNewForm (sym becomes.form)
-      (record { unit = refl; indexed = subst (λ type. 0 ≡ (if type == FILE_NAME then 1 else 0)) (sym kind) refl })
+      (record { unit = refl; indexed = subst (λ type. ◌≡◌ {A = ℕ} 0 (if type == FILE_NAME then 1 else 0)) (sym kind) refl })
 
   pub runs-now : part_runs part ≡ run ∷ []
   runs-now = one.runs-are bytes part extent (run ∷ []) content refl
