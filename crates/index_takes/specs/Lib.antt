@@ -1,0 +1,3 @@
+pub mod LeafEntry
+pub mod Leaf
+pub mod TakesItem
