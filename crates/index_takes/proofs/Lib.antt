@@ -5,3 +5,6 @@ pub mod HeldEntry
 pub mod TakeItems
 pub mod TakeWhole
 pub mod TakeVolume
+pub mod RootLaws
+pub mod RootTake
+pub mod ShrinkLaws

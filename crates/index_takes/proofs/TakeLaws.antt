@@ -63,12 +63,12 @@ cut-through order key depth on i s cuts =
     }
 
 -- what ascends, and what is valid, without one
-ascends-cut : (order : List ℕ → List ℕ → Ordering) (laws : IsOrder order) (x : Item) (old new : List Item) → IsCut x old new → Ascends order old
+pub ascends-cut : (order : List ℕ → List ℕ → Ordering) (laws : IsOrder order) (x : Item) (old new : List Item) → IsCut x old new → Ascends order old
     → Ascends order new
 ascends-cut order laws x old new c h =
     subst (Ascends order) (sym c.now) (Ascends-without order laws c.front x c.back (subst (Ascends order) c.was h))
 
-each-cut : (P : Item → Type 0) (x : Item) (old new : List Item) → IsCut x old new → Each P old → Each P new
+pub each-cut : (P : Item → Type 0) (x : Item) (old new : List Item) → IsCut x old new → Each P old → Each P new
 each-cut P x old new c h =
     let all : Each P (c.front ++ x ∷ c.back) = subst (Each P) c.was h in
     subst (Each P) (sym c.now) (Each-++ P c.front c.back (Each-left P c.front (x ∷ c.back) all) (Each-right P c.front (x ∷ c.back) all).1)
@@ -88,13 +88,13 @@ child-next [] last i h = absurd (omega (arith, h))
 child-next (e ∷ es) last zero h = refl
 child-next (e ∷ es) last (suc i) h = child-next es last i (omega (arith, h))
 
-joined-leaf : (n : Node) (i : ℕ) → i < length n.entries → child_of_node n i ≡ None → child_of_node n (suc i) ≡ None
+pub joined-leaf : (n : Node) (i : ℕ) → i < length n.entries → child_of_node n i ≡ None → child_of_node n (suc i) ≡ None
     → joined n i (child_of_node n i) ≡ without_entry n i
 joined-leaf n i within here next =
     ap (leading (without_entry n i) i) (here ∙ sym next ∙ sym (child-next n.entries n.last i within))
     ∙ leading_same (without_entry n i) i
 
-abbrev nothing : Entry
+abbrev pub nothing : Entry
 nothing = record { item = record { head = []; key = []; rest = [] }; child = None }
 
 module _ (order : List ℕ → List ℕ → Ordering) (valid : List ℕ → Bool) (laws : IsOrder order) (nodes nodes' : Nodes) (key : List ℕ)
