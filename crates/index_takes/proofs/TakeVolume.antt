@@ -47,6 +47,12 @@ one-item fold key all a b ascends has_a has_b a_is b_is =
     one-of-key (name_order fold) all a b ascends has_a has_b ((name_ties fold a.key b.key).1 same) ((name_ties fold b.key a.key).1 (sym same))
 
 module _ (old new : VolumeView) (dir : ℕ) (key : List ℕ) (takes : TakesItem old new dir key) where
+  -- there was one
+  pub item-there : (was : List Item) → HasItems old dir was → (item : Item) × IsAt (name_order (volume_fold old)) key was item
+  item-there was has =
+      let cuts = (takes.items was has).2 in
+      (cuts.gone, record { front = cuts.cut.front; back = cuts.cut.back; whole = cuts.cut.was; equal = cuts.equal })
+
   -- THE ITEMS of the directory: one less
   pub items-changed : (was : List Item) (item : Item) → HasItems old dir was → IsAt (name_order (volume_fold old)) key was item
       → ChangesItems old new dir (item ∷ []) []

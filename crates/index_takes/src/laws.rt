@@ -18,9 +18,12 @@ ghost use Rattle.entry_edits.specs.Refreshable.{is_part_key};
 ghost use Rattle.index_puts.specs.Held.{CanPut};
 ghost use Rattle.index_takes.specs.TakesItem.{TakesItem};
 
-/// The directory has all items but that of the key (`items`), and every other directory has the items that it had (`others`). An entry
-/// of any directory that told what its file does tells it still (`current`). Every other index is as deep as it was (`depths`).
+/// The directory had an item of the key (`there`), and has all others (`items`), and every other directory has the items that it had
+/// (`others`). An entry of any directory that told what its file does tells it still (`current`). Every other index is as deep as it
+/// was (`depths`).
 pub fn take_items()
+    ensures there { (old new : VolumeView) (dir : ℕ) (key : List ℕ) (was : List Item) → TakesItem old new dir key → HasItems old dir was
+        → (item : Item) × IsAt (name_order (volume_fold old)) key was item }
     ensures items { (old new : VolumeView) (dir : ℕ) (key : List ℕ) (was : List Item) (item : Item) → TakesItem old new dir key
         → HasItems old dir was → IsAt (name_order (volume_fold old)) key was item → ChangesItems old new dir (item ∷ []) [] }
     ensures others { (old new : VolumeView) (dir : ℕ) (key : List ℕ) → TakesItem old new dir key → CanPut old → (g : ℕ) → g ≢ dir

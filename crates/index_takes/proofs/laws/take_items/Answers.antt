@@ -1,6 +1,9 @@
 use Rattle.index_puts.proofs.PutVolume.{current-still, other-items, same-depth}
-use Rattle.index_takes.proofs.TakeVolume.{as-put, items-changed, like}
+use Rattle.index_takes.proofs.TakeVolume.{as-put, item-there, items-changed, like}
 use Rattle.index_takes.proofs.laws.take_items.Goals as goal
+
+pub returns-clause-there : goal.returns-clause-there
+returns-clause-there c old new dir key was takes has = item-there old new dir key takes was has
 
 pub returns-clause-items : goal.returns-clause-items
 returns-clause-items c old new dir key was item takes has at = items-changed old new dir key takes was item has at
