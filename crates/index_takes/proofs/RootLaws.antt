@@ -10,7 +10,7 @@ use Rattle.ntfs_def.specs.Node.{Entry, Item, Node, node_in, short_node}
 use Rattle.ntfs_def.specs.Units.{wide}
 use Rattle.ntfs_def.specs.declared.index.NodeForm.TheVariants.{Names}
 use Rattle.volume_def.specs.CaseClause.{volume_fold}
-use Rattle.volume_def.specs.Files.{Part, content_value}
+use Rattle.volume_def.specs.Files.{content_value}
 use Rattle.volume_def.specs.IndexesClause.{HasIndex, IndexParts, index_parts, name_rule}
 use Rattle.volume_def.specs.ListsClause.{is_list}
 use Rattle.volume_def.specs.View.{VolumeView}

@@ -1,5 +1,5 @@
 -- A root from which an entry was taken, and which was made shorter by it, says the others.
-use Rattle.std.proofs.Common.{◌≡◌, ◌≢◌, ℕ, ◌+◌, ◌-◌, ◌%◌, ◌==◌, ◌<◌, ◌≤◌, List, ◌++◌, Some, None, Bool, false, length, remove, slice_index, suc, take, sym, ap, subst, ◌∙◌, arith}
+use Rattle.std.proofs.Common.{◌≡◌, ◌≢◌, ℕ, ◌+◌, ◌-◌, ◌%◌, ◌==◌, ◌<◌, ◌≤◌, List, ◌++◌, Some, None, false, length, remove, slice_index, suc, take, sym, ap, subst, ◌∙◌, arith}
 use Rattle.std.specs.Prelude.{IsTrue, nat_eq, codes, slice_index_or}
 use Rattle.std.specs.List.{starts_with}
 use Rattle.std.proofs.lemmas.Bool.{le-leb, leb-true}
@@ -21,7 +21,7 @@ use Rattle.index_node.proofs.ReplaceLaws.{item_len-at}
 use Rattle.index_node.proofs.RootLaws.{not_record, root_header}
 use Rattle.index_node.proofs.SpanLaws.{count_said, inner_in, place_low}
 use Rattle.index_node.proofs.SpliceLaws.{Holds-moved, begins, ends, said_facts, short_said}
-use Rattle.index_node.proofs.WidenLaws.{says_node, says_short}
+use Rattle.index_node.proofs.WidenLaws.{says_short}
 use Rattle.index_takes.specs.ShrinksRoot.{ShrinksRoot}
 
 -- A root whose bytes end sooner: its entries end at `end` by its header now, its room ends with it, and all else is as it was.

@@ -1,5 +1,5 @@
 -- An item that goes out of the leaf of its key: the index has all others.
-use Rattle.std.proofs.Common.{◌≡◌, ℕ, zero, suc, ◌+◌, ◌-◌, ◌<◌, ◌≤◌, Bool, true, List, [], ◌∷◌, ◌++◌, drop, remove, Option, Some, None, length, refl, sym, ap, subst, ◌∙◌, arith, append_assoc}
+use Rattle.std.proofs.Common.{◌≡◌, ℕ, zero, suc, ◌+◌, ◌-◌, ◌<◌, ◌≤◌, Bool, true, List, [], ◌∷◌, ◌++◌, remove, Option, Some, None, length, refl, sym, ap, subst, ◌∙◌, arith, append_assoc}
 use Rattle.std.proofs.Math.Path.{fun_ext}
 use Rattle.std.specs.Prelude.{IsTrue, slice_index_or}
 use Rattle.std.specs.Option.{option_and_then, option_map_or}
@@ -8,7 +8,7 @@ use Rattle.list_laws.proofs.OptionLaws.{none_other, some_same}
 use Rattle.ntfs_def.specs.IndexTree.{Ascends, Each, Nodes, Spread, Tree, child_of, items_of, node_of, spread_items, spread_times}
 use Rattle.ntfs_def.specs.Node.{Entry, Item, Node, child_from}
 use Rattle.index_node.specs.Edit.{child_of_node, leading, without_entry}
-use Rattle.index_node.specs.Seek.{IsPlace, StartsAt}
+use Rattle.index_node.specs.Seek.{IsPlace}
 use Rattle.index_node.proofs.JoinLaws.{leading_same}
 use Rattle.index_tree.specs.Edit.{Becomes, HasSorted, IsSorted, IsSortedIndex, KeepsKeyed, below_at, graft, with_node}
 use Rattle.index_tree.specs.Remove.{CutsAt, CutsKey, GivesBack, IsCut, TakesLeast, joined}

@@ -1,5 +1,5 @@
 -- AN ITEM TAKEN OUT of the index of a directory, of a record of the index that has another one.
-use Rattle.std.specs.Prelude.{◌≡◌, ℕ, List, codes}
+use Rattle.std.specs.Prelude.{◌≡◌, ℕ, List}
 use Rattle.ntfs_def.specs.KeyOrder.{name_order}
 use Rattle.ntfs_def.specs.Node.{Item}
 use Rattle.ntfs_def.specs.declared.index.NodeForm.TheVariants.{Names}

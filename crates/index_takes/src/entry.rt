@@ -82,8 +82,9 @@ fn entry_found<'m, 'd, D: Disk>(
     requires sorted { IsTrue (view D.Disk mft.old).told → HasSortedIndex (name_order (fold_of upcase)) is_name_key
         (short_nodes Names (records_found (view D.Disk mft.old) file.now index)) (short_node Names index.root.now) 15 }
     requires key { IsTrue (is_name_key key.now) }
-    ensures entry { IfOk result (λ entry. IsTrue (view D.Disk mft.old).told → entry ≡ entry_under (λ x. name_order (fold_of upcase) x key.now)
-        (records_found (view D.Disk mft.old) file.now index.entry) (short_node Names index.entry.root.now)) }
+    ensures entry { IfOk result (λ entry. IsTrue (view D.Disk mft.old).told
+        → entry ≡ entry_under (λ x. name_order (fold_of upcase) x key.now) (records_found (view D.Disk mft.old) file.now index.entry)
+        (short_node Names index.entry.root.now)) }
     ensures err { IfErr result IsReadNo }
     ensures faults { MatchResult result (λ _. faults_of D.Disk mft.new ≡ faults_of D.Disk mft.old)
         (CountsNo (faults_of D.Disk mft.old) (faults_of D.Disk mft.new)) }

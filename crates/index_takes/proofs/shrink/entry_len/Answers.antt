@@ -1,6 +1,6 @@
-use Rattle.std.proofs.Common.{◌≡◌, ◌+◌, ◌<◌, Some, length, sym, ap, subst, ◌∙◌, arith}
+use Rattle.std.proofs.Common.{◌≡◌, length, sym, ap, subst, ◌∙◌, arith}
 use Rattle.std.specs.Prelude.{IsTrue, slice_index_or}
-use Rattle.ntfs_def.specs.Node.{Entry, Node, child_len, has_children, is_one_entry, item_in, whole_of}
+use Rattle.ntfs_def.specs.Node.{Node, child_len, has_children, is_one_entry, item_in, whole_of}
 use Rattle.ntfs_def.specs.declared.index.NodeForm.TheVariants.{Names}
 use Rattle.index_node.specs.Edit.{item_len}
 use Rattle.index_node.specs.View.{node_of_view}

@@ -1,11 +1,10 @@
-use Rattle.std.proofs.Common.{ℕ, List, Option, length, sym, ap, subst, ◌∙◌, arith, true≢false}
+use Rattle.std.proofs.Common.{ℕ, List, Option, sym, ap, subst, ◌∙◌, arith, true≢false}
 use Rattle.std.specs.Prelude.{IfSome, not}
 use Rattle.ntfs_def.specs.Node.{short_node}
 use Rattle.ntfs_def.specs.declared.index.NodeForm.TheVariants.{Names}
 use Rattle.index_tree.specs.Edit.{short_nodes}
 use Rattle.index_tree.proofs.EditMemory.{apart_of, edits_after, is_some_of}
 use Rattle.index_tree.proofs.OrderLaws.{is_order}
-use Rattle.index_tree.proofs.RemoveSteps.{hit_within}
 use Rattle.list_laws.proofs.OptionLaws.{ok-weaker}
 use Rattle.tree_model.specs.LeafRoom.{leaf_of}
 use Rattle.index_takes.specs.declared.leaf.Leaf.{Leaf}
