@@ -187,11 +187,13 @@ module _ (view : VolumeView) (mounted : Mounted) (held : BaseFile) (mounts : IsM
   drop-way way.InPlace can = absurd (cc)
   drop-way way.InRecord can = drop-editable can
   drop-way way.InClusters can = give-editable view mounted held mounts sound n name found is can
+  drop-way way.IntoClusters can = absurd (cc)
 
   drop-some : (way : Way) → can_drop_by view name way number ≡ true → can_drop_so view name number ≡ true
   drop-some way.InPlace can = absurd (cc)
   drop-some way.InRecord can = or_left (can_drop view name number) (can_give view name number) can
   drop-some way.InClusters can = or_right (can_drop view name number) (can_give view name number) can
+  drop-some way.IntoClusters can = absurd (cc)
 
   pub drop-decided : {E : Type 0} (way : Result (Option Way) E) (wanted : Result ℕ No) (result : Result Writable No)
       → IfOk way (EditsSo (can_drop_by view name) (can_drop_so view name number) number)
@@ -219,11 +221,13 @@ module _ (view : VolumeView) (mounted : Mounted) (held : BaseFile) (mounts : IsM
     resize-way way.InRecord can = resize-editable can
     resize-way way.InClusters can =
         give-editable view mounted held mounts sound n name found is (and_parts (can_give view name number) _ can).0
+    resize-way way.IntoClusters can = absurd (cc)
 
     resize-some : (way : Way) → can_resize_by view name size way number ≡ true → can_resize_so view name size number ≡ true
     resize-some way.InPlace can = absurd (cc)
     resize-some way.InRecord can = or_left (can_resize view name size number) (can_end view name size number) can
     resize-some way.InClusters can = or_right (can_resize view name size number) (can_end view name size number) can
+    resize-some way.IntoClusters can = absurd (cc)
 
     pub resize-decided : {E : Type 0} (way : Result (Option Way) E) (wanted : Result ℕ No) (result : Result Writable No)
         → IfOk way (EditsSo (can_resize_by view name size) (can_resize_so view name size number) number)

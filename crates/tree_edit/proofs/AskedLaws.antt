@@ -1,5 +1,5 @@
 -- ROOM IS ASKED FOR behind what was decided: for a stream that gets longer, and for bytes that go into a value.
-use Rattle.std.proofs.Common.{◌≡◌, ◌&&◌, ◌||◌, ◌+◌, ◌<◌, ◌≤◌, ℕ, Bool, true, false, not, List, Option, Some, None, Result, Ok, Err, inl, inr, length, max, refl, sym, ap, subst, ◌∙◌}
+use Rattle.std.proofs.Common.{◌≡◌, ◌&&◌, ◌||◌, ◌+◌, ◌<◌, ◌≤◌, ℕ, Bool, true, false, not, List, Option, Some, None, Result, Ok, Err, inl, inr, length, max, refl, sym, ap, subst, ◌∙◌, arith}
 use Rattle.std.proofs.lemmas.Bool.{and_parts, le-ltb, lt-ltb}
 use Rattle.std.specs.List.{range_with_len}
 use Rattle.std.specs.Prelude.{IsTrue, if◌then◌else◌, is_some, nat_lt, option_and_then}
@@ -47,7 +47,8 @@ use Rattle.tree_edit.specs.declared.writable.Way.TheVariants as way
 use Rattle.tree_edit.specs.declared.writable.Writable.{Writable}
 use Rattle.tree_edit.proofs.EditableLaws.{parts-are}
 use Rattle.tree_edit.proofs.WayLaws.{give-no_resize}
-use Rattle.tree_edit.proofs.WriteFound.{writable-behind, writable-not_over, writable-over, writable-value}
+use Rattle.tree_edit.proofs.MovableLaws.{there-asks, there-out}
+use Rattle.tree_edit.proofs.WriteFound.{writable-behind, writable-moving, writable-not_over, writable-over, writable-value}
 use Rattle.tree_edit.proofs.StreamToWrite.{content-is}
 
 -- THE REFUSAL FOR ROOM comes behind all others.
@@ -309,6 +310,15 @@ module _ (view : VolumeView) (found : Writable) (name : List ℕ) (at len : ℕ)
       ap (λ b. asked_by b (can_resize view name (at + len) (number_of found.held))) both.0
       ∙ ap (asked_by false) (give-no_resize view name (number_of found.held) (at + len)
       (and_parts (can_give view name (number_of found.held)) _ both.1).0)
+
+  pub room-moved : found.way ≡ way.IntoClusters → asked_to_write view name at len (number_of found.held)
+      ≡ option_or (bits_asked view) (room_to_write view name at len (number_of found.held))
+  room-moved same =
+      let both = writable-moving view found name at len is same in
+      ap (λ b. asked_by b (can_resize view name (at + len) (number_of found.held))) both.0
+      ∙ ap (asked_by false) (there-out view name (number_of found.held) at len both.1.over)
+      ∙ ap (option_or (bits_asked view))
+      (there-asks view name (number_of found.held) at len both.1.over (omega (arith, is.settable.can.can.apart.some)))
 
 -- TWO ARE ASKED FOR, one behind the other.
 pub asks-both : (first second : Option No) → first ≡ None → option_or first second ≡ second

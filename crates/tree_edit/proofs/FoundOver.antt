@@ -1,7 +1,8 @@
 -- WHAT IS WANTED OF A WRITE before room is asked for, by what is found of the file that is held: the refusals in their order.
 use Rattle.std.proofs.Common.{◌≡◌, ◌⊎◌, ◌&&◌, ◌||◌, ◌==◌, ◌+◌, ℕ, not, Bool, true, false, List, [], Option, Some, None, Result, Ok, Err}
 use Rattle.std.proofs.Common.{refl, sym, ap, subst, inl, inr, ◌∙◌}
-use Rattle.std.specs.Prelude.{IsErrAnd, IsTrue, length, if◌then◌else◌, is_some, option_and_then}
+use Rattle.std.specs.Prelude.{IsErrAnd, IsTrue, length, if◌then◌else◌, is_some, nat_le, option_and_then}
+use Rattle.std.proofs.lemmas.Bool.{and_right}
 use Rattle.std.specs.Option.{option_map_or}
 use Rattle.vol_disk.specs.Contents.{WhereTold}
 use Rattle.vol_disk.specs.declared.Disk.{Ghosts}
@@ -22,8 +23,8 @@ use Rattle.tree_model.specs.Facts.{IsVolumeOf, is_whole_table}
 use Rattle.tree_model.specs.Paths.{and_then}
 use Rattle.tree_model.specs.Reading.{node_by, read}
 use Rattle.tree_model.specs.Staging.{cannot_edit}
-use Rattle.tree_model.specs.Ways.{can_reach, fits_in_record, gets_no_longer, has_no_list, in_extent}
-use Rattle.tree_model.specs.StreamRoom.{goes_over, parts_named, stream_parts, stream_value}
+use Rattle.tree_model.specs.Ways.{can_leave, can_reach, fits_in_record, gets_no_longer, has_no_list, in_extent}
+use Rattle.tree_model.specs.StreamRoom.{goes_over, new_clusters, parts_named, stream_parts, stream_value, stream_value_len}
 use Rattle.tree_model.specs.Subjects.{content_named}
 use Rattle.tree_model.specs.Tree.{node_of, sought_stream}
 use Rattle.tree_model.specs.declared.opens.OpenEntry.{OpenEntry}
@@ -37,6 +38,7 @@ use Rattle.file_record.proofs.ReadLaws.{view-kept}
 use Rattle.tree_edit.specs.Alone.{can_drop, can_give, can_resize}
 use Rattle.tree_edit.specs.Decided.{can_write_so, hwrite_decided, hwrite_ranged_to, if_can, write_decided, write_ranged_to}
 use Rattle.tree_edit.specs.Writable.{FindsToWrite, IsMountedAs, can_write_over, kept_from_writing, named_in, stream_to_write}
+use Rattle.tree_edit.specs.Movable.{can_move_there, parts_there}
 use Rattle.tree_edit.specs.Write.{can_reach_there}
 use Rattle.tree_edit.proofs.StreamToWrite.{sought-none}
 
@@ -99,7 +101,10 @@ module _ (view : VolumeView) (held : BaseFile) (n : IsNodeHeld view held) (name 
       ∙ ap (λ b. (b && (gets_no_longer (at + len) (content_named (read view) name (node_of (read view) number))
       || fits_in_record view number (stream_parts view (read view) (named_in (read view) name number)) (at + len)))
       || can_reach_there view name at len number) (drop-missing e)
-      ∙ ap (λ b. b && can_reach view number (stream_parts view (read view) (named_in (read view) name number)) at len) (give-missing e)
+      ∙ ap (λ b. (b && can_reach view number (parts_there view name number) at len) || can_move_there view name at len number) (give-missing e)
+      ∙ and_right (nat_le at (stream_value_len (parts_there view name number))) _
+      (ap (λ b. b && (not (can_resize view name (at + len) number) && can_leave view number (parts_there view name number) (at + len)
+      (new_clusters (cluster_bytes view.layout) (parts_there view name number) at len))) (drop-missing e))
 
   abbrev last : Result ℕ No
   last = if_can (can_write_so view name at len number) number

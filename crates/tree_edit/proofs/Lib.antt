@@ -17,8 +17,11 @@ pub mod WayLaws
 pub mod ValueRoom
 pub mod ChangePart
 pub mod Below
+mod RoomFree
 pub mod RoomThere
 pub mod ReachFound
+pub mod MovableLaws
+pub mod MovableFound
 -- Laws of the crates below, passed on to those above.
 pub use Rattle.file_changes.proofs.LinkLaws
 pub use Rattle.file_changes.proofs.StagedLaws

@@ -41,7 +41,7 @@ use Rattle.file_room.proofs.NodeLaws.{held-file, held-with}
 use Rattle.tree_edit.specs.Alone.{can_give}
 use Rattle.tree_edit.specs.Change.{TellsFree}
 use Rattle.tree_edit.specs.Writable.{AreNames, named_in}
-use Rattle.tree_edit.specs.Write.{can_reach_there, can_take_by, room_to_reach}
+use Rattle.tree_edit.specs.Write.{can_lie_there, can_take_by, room_to_reach}
 use Rattle.tree_edit.proofs.EditableLaws.{parts-are}
 use Rattle.tree_edit.proofs.RoomFound.{attribute-of, free-tells}
 
@@ -69,7 +69,7 @@ module _ (view : VolumeView) (held : BaseFile) (n : IsNodeHeld view held) (name 
   same : there ≡ named
   same = parts-are view held n name found is
 
-  pub reach-not : false ≡ can_give view name number → false ≡ can_reach_there view name at len number
+  pub reach-not : false ≡ can_give view name number → false ≡ can_lie_there view name at len number
   reach-not no_extent = ap (λ b. b && can_reach view number there at len) no_extent
 
   module _ (extent : true ≡ can_give view name number) where
@@ -103,16 +103,16 @@ module _ (view : VolumeView) (held : BaseFile) (n : IsNodeHeld view held) (name 
     abbrev reach_in : Bool → List Part → Bool
     reach_in give ps = give && (goes ps && can_take view number (new_clusters (cluster_bytes view.layout) ps at len))
 
-    reach-is : can_reach_there view name at len number ≡ reach_in true named
+    reach-is : can_lie_there view name at len number ≡ reach_in true named
     reach-is = ap (λ b. reach_in b there) (sym extent) ∙ ap (reach_in true) same
 
-    pub reach-none : TellsBehind size named at len None → false ≡ can_reach_there view name at len number
+    pub reach-none : TellsBehind size named at len None → false ≡ can_lie_there view name at len number
     reach-none none =
         sym (reach-is ∙ ap (λ b. true && (b && can_take view number (new_clusters (cluster_bytes view.layout) named at len)))
         (ap (λ s. goes_behind s named at len) (sym of_volume) ∙ none))
 
     pub reach-some : (count free : ℕ) → TellsBehind size named at len (Some count) → TellsFree held.parts found.part free
-        → (takes : Bool) → takes ≡ can_take_by view free count → takes ≡ can_reach_there view name at len number
+        → (takes : Bool) → takes ≡ can_take_by view free count → takes ≡ can_lie_there view name at len number
     reach-some count free some beside takes is_so =
         is_so ∙ ap (λ k. can_take_by view k count) room
         ∙ ap (λ k. can_take view number k) (some.1 ∙ ap (λ s. new_clusters s named at len) of_volume)

@@ -7,49 +7,26 @@ use Rattle.volume_def.specs.Files.{Part}
 use Rattle.volume_def.specs.Room.{free_bytes, unowned_clusters}
 use Rattle.volume_def.specs.Table.{cluster_bytes}
 use Rattle.volume_def.specs.View.{VolumeView}
-use Rattle.edit_def.specs.OneFile.{no_room_alone, one_file, touched_alone}
-use Rattle.tree_model.specs.NoRoom.{lacks_clusters, mft_free, mft_full, mft_need, need_on, no_room_for, too_deep, too_many_parts}
+use Rattle.edit_def.specs.OneFile.{no_room_alone}
 use Rattle.tree_model.specs.Reading.{read}
-use Rattle.tree_model.specs.Refusals.{when}
 use Rattle.tree_model.specs.StreamRoom.{initialized_size, is_in_place, new_clusters, stream_parts}
 use Rattle.tree_model.specs.Ways.{can_take, goes_behind, has_free_run, has_placed_bits}
 use Rattle.tree_model.specs.declared.reply.No.{No}
-use Rattle.tree_model.specs.declared.reply.No.TheVariants as no
 use Rattle.file_room.specs.Nodes.{number_of}
 use Rattle.tree_edit.specs.Alone.{bits_asked, can_give}
 use Rattle.tree_edit.specs.Decided.{IsWritableSo, asked_to_write, can_write_by}
 use Rattle.tree_edit.specs.Writable.{can_write_over, named_in}
-use Rattle.tree_edit.specs.Write.{IsWritable, can_reach_there, can_write, can_write_behind, has_run_for, room_to_reach}
+use Rattle.tree_edit.specs.Movable.{IsMovable, can_move_there}
+use Rattle.tree_edit.specs.Write.{IsWritable, can_lie_there, can_write, can_write_behind, can_write_moving, has_run_for, room_to_reach, room_to_write}
 use Rattle.tree_edit.specs.declared.writable.Way.{Way}
 use Rattle.tree_edit.specs.declared.writable.Way.TheVariants as way
 use Rattle.tree_edit.specs.declared.writable.Writable.{Writable}
-use Rattle.tree_edit.proofs.AskedLaws.{room-reached}
+use Rattle.tree_edit.proofs.AskedLaws.{room-moved, room-reached}
 use Rattle.tree_edit.proofs.EditableLaws.{found-for}
 use Rattle.tree_edit.proofs.WayLaws.{first-none, placed, second-none}
-use Rattle.tree_edit.proofs.WriteFound.{writable-behind}
-
--- THE LAST of the refusals is none.
-last-none : (a b c : Option No) (lacks : Bool) (refused : No) → option_or a (option_or b (option_or c (option_or (when lacks refused) None))) ≡ None
-    → lacks ≡ false
-last-none (Some x) b c lacks refused e = cc
-last-none None (Some x) c lacks refused e = cc
-last-none None None (Some x) lacks refused e = cc
-last-none None None None true refused e = cc
-last-none None None None false refused e = refl
-
--- so as many clusters are free as it wants
-pub enough-free : (view : VolumeView) (f count : ℕ) → no_room_alone view f count ≡ None → count ≤ unowned_clusters view
-unfolding no_room_for
-enough-free view f count none =
-    let bill = one_file count (touched_alone view f) in
-    let lacks : lacks_clusters view bill ≡ false =
-    last-none (too_many_parts bill) (when (too_deep bill) no.TooDeep)
-    (when (mft_full view bill) (no.MftFull (mft_need view bill) (mft_free view bill))) (lacks_clusters view bill)
-    (no.NoRoom (need_on view bill) (unowned_clusters view)) none in
-    elim (cases_lt (unowned_clusters view) (need_on view bill)) [
-      | inl less ↦ let never = sym (lt-ltb (unowned_clusters view) (need_on view bill) less) ∙ lacks in absurd (cc)
-      | inr most ↦ let part : count ≤ need_on view bill = omega arith in omega (arith, most, part)
-    ]
+use Rattle.tree_edit.proofs.RoomFree.{enough-free}
+use Rattle.tree_edit.proofs.MovableLaws.{there-run_counted}
+use Rattle.tree_edit.proofs.WriteFound.{writable-behind, writable-moving}
 
 -- THE RUN IS THERE
 run-there : (view : VolumeView) (f count : ℕ) → can_take view f count ≡ true → count ≤ unowned_clusters view → has_run_for view f count ≡ true
@@ -88,7 +65,7 @@ module _ (view : VolumeView) (found : Writable) (name : List ℕ) (at len : ℕ)
     bits : has_placed_bits view ≡ true
     bits = placed (has_placed_bits view) (first-none (bits_asked view) (room_to_reach view name at len f) both)
 
-    reach : can_reach_there view name at len f ≡ true
+    reach : can_lie_there view name at len f ≡ true
     reach = (writable-behind view found name at len is same).1
 
     parts : (can_give view name f ≡ true) × ((goes_behind (cluster_bytes view.layout) there at len && can_take view f count) ≡ true)
@@ -115,12 +92,30 @@ module _ (view : VolumeView) (found : Writable) (name : List ℕ) (at len : ℕ)
         and_from (can_give view name f) _ parts.0
         (and_from (has_placed_bits view) _ bits (and_from (goes_behind (cluster_bytes view.layout) there at len) _ goes.0 runs))
 
+  -- .. and of a value that moves
+  module _ (same : found.way ≡ way.IntoClusters) where
+    moves : IsMovable view found name at len
+    moves = (writable-moving view found name at len is same).1
+
+    asks : option_or (bits_asked view) (room_to_write view name at len f) ≡ None
+    asks = sym (room-moved view found name at len is same) ∙ none
+
+    pub moving-there : can_write_moving view name at len f ≡ true
+    moving-there =
+        and_from (can_move_there view name at len f) _ moves.over
+        (and_from (has_placed_bits view) _
+        (placed (has_placed_bits view) (first-none (bits_asked view) (room_to_write view name at len f) asks))
+        (there-run_counted view name f at len moves.over (second-none (bits_asked view) (room_to_write view name at len f) asks)))
+
   can-by : (w : Way) → found.way ≡ w → can_write_by view name at len w f ≡ true → can_write view name at len w f ≡ true
   can-by way.InPlace same can = can
   can-by way.InRecord same can = can
   can-by way.InClusters same can =
       and_from (not (can_write_over view name at len f)) _
-      (and_parts (not (can_write_over view name at len f)) (can_reach_there view name at len f) can).0 (behind-there same)
+      (and_parts (not (can_write_over view name at len f)) (can_lie_there view name at len f) can).0 (behind-there same)
+  can-by way.IntoClusters same can =
+      and_from (not (can_write_over view name at len f)) _
+      (and_parts (not (can_write_over view name at len f)) (can_move_there view name at len f) can).0 (moving-there same)
 
   pub to-write : IsWritable view found name at len
   to-write =

@@ -76,6 +76,7 @@ module _ (view : VolumeView) (name : List ℕ) (file : ℕ) where
   can-go way.InRecord so asked = so
   can-go way.InClusters so asked =
       and_from (can_give view name file) (has_placed_bits view) so (placed (has_placed_bits view) (sym (asked-drop_bits so) ∙ asked))
+  can-go way.IntoClusters so asked = so
 
   -- .. and one that has another length
   module _ (size : ℕ) where
@@ -104,6 +105,7 @@ module _ (view : VolumeView) (name : List ℕ) (file : ℕ) where
     can-get way.InClusters so none =
         and_from (can_end view name size file) (has_placed_bits view) so
         (placed (has_placed_bits view) (first-none (bits_asked view) (room_to_resize view name size file) (sym (asked-resize_bits so) ∙ none)))
+    can-get way.IntoClusters so none = so
 
 -- WHAT WAS FOUND
 module _ (view : VolumeView) (found : Writable) (name : List ℕ) where
@@ -120,6 +122,9 @@ module _ (view : VolumeView) (found : Writable) (name : List ℕ) where
 
   pub droppable-none : IsDroppableSo view found name → found.way ≡ way.InPlace → asked_to_drop view name f ≡ None
   droppable-none is same = let never : false ≡ true = drop-by is way.InPlace same in absurd (cc)
+
+  pub droppable-not_moved : IsDroppableSo view found name → found.way ≡ way.IntoClusters → asked_to_drop view name f ≡ None
+  droppable-not_moved is same = let never : false ≡ true = drop-by is way.IntoClusters same in absurd (cc)
 
   pub droppable-value : IsDroppableSo view found name → found.way ≡ way.InRecord → asked_to_drop view name f ≡ None
   droppable-value is same = asked-drop_value view name f (drop-by is way.InRecord same)
@@ -138,6 +143,9 @@ module _ (view : VolumeView) (found : Writable) (name : List ℕ) where
 
     pub resizable-none : found.way ≡ way.InPlace → asked_to_resize view name size f ≡ None
     resizable-none same = let never : false ≡ true = resize-by way.InPlace same in absurd (cc)
+
+    pub resizable-not_moved : found.way ≡ way.IntoClusters → asked_to_resize view name size f ≡ None
+    resizable-not_moved same = let never : false ≡ true = resize-by way.IntoClusters same in absurd (cc)
 
     pub resizable-bits : found.way ≡ way.InClusters
         → asked_to_resize view name size f ≡ option_or (bits_asked view) (room_to_resize view name size f)
@@ -180,6 +188,9 @@ module _ (view : VolumeView) (found : Writable) (name : List ℕ) where
     pub drops-not_over : found.way ≡ way.InPlace → ⊥
     drops-not_over same = let never : false ≡ true = go-by way.InPlace same in cc
 
+    pub drops-not_moved : found.way ≡ way.IntoClusters → ⊥
+    drops-not_moved same = let never : false ≡ true = go-by way.IntoClusters same in cc
+
   module _ (size : ℕ) (is : IsToResize view found name size) where
     get-by : (way : Way) → found.way ≡ way → can_get view name size way number ≡ true
     get-by way same = subst (λ (w : Way). can_get view name size w number ≡ true) same is.over
@@ -199,3 +210,6 @@ module _ (view : VolumeView) (found : Writable) (name : List ℕ) where
 
     pub resizes-not_over : found.way ≡ way.InPlace → ⊥
     resizes-not_over same = let never : false ≡ true = get-by way.InPlace same in cc
+
+    pub resizes-not_moved : found.way ≡ way.IntoClusters → ⊥
+    resizes-not_moved same = let never : false ≡ true = get-by way.IntoClusters same in cc

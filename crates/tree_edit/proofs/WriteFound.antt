@@ -16,13 +16,16 @@ use Rattle.tree_edit.specs.Alone.{IsResizable, can_give, can_resize}
 use Rattle.tree_edit.specs.Decided.{EditsSo, IsWritableSo, can_write_by, can_write_so, if_can}
 use Rattle.tree_edit.specs.Settable.{is_editable}
 use Rattle.tree_edit.specs.Writable.{DecidesEdit, DecidesOver, GivesBack, IsFoundToEdit, IsMountedAs, can_write_over}
-use Rattle.tree_edit.specs.Write.{can_reach_there}
+use Rattle.tree_edit.specs.Movable.{IsMovable, can_move_there}
+use Rattle.tree_edit.specs.Write.{can_lie_there, can_reach_there}
 use Rattle.tree_edit.specs.declared.writable.Way.{Way}
 use Rattle.tree_edit.specs.declared.writable.Way.TheVariants as way
 use Rattle.tree_edit.specs.declared.writable.Writable.{Writable}
 use Rattle.tree_edit.proofs.AloneFound.{resize-editable}
 use Rattle.tree_edit.proofs.EditableLaws.{found-for, ways-decided}
 use Rattle.tree_edit.proofs.ExtentFound.{give-editable}
+use Rattle.tree_edit.proofs.MovableFound.{alone-editable}
+use Rattle.tree_edit.proofs.MovableLaws.{there-alone}
 use Rattle.tree_edit.proofs.OverLaws.{over-editable}
 
 -- the same table, whose clusters have as many bytes as they have
@@ -43,6 +46,12 @@ module _ (view : VolumeView) (name : List ℕ) (from len file : ℕ) where
   abbrev value_there : Bool
   value_there = can_resize view name (from + len) file
 
+  abbrev lie_there : Bool
+  lie_there = can_lie_there view name from len file
+
+  abbrev move_there : Bool
+  move_there = can_move_there view name from len file
+
   abbrev reach_there : Bool
   reach_there = can_reach_there view name from len file
 
@@ -54,22 +63,30 @@ module _ (view : VolumeView) (name : List ℕ) (from len file : ℕ) where
       (or_left value_there reach_there (and_parts (not over_there) value_there can).1)
   way-so way.InClusters can =
       or_right over_there (value_there || reach_there)
-      (or_right value_there reach_there (and_parts (not over_there) reach_there can).1)
+      (or_right value_there reach_there (or_left lie_there move_there (and_parts (not over_there) lie_there can).1))
+  way-so way.IntoClusters can =
+      or_right over_there (value_there || reach_there)
+      (or_right value_there reach_there (or_right lie_there move_there (and_parts (not over_there) move_there can).1))
 
-  module _ (over resizable reachable : Bool) (o : over ≡ over_there) (r : resizable ≡ value_there) (c : reachable ≡ reach_there) where
+  module _ (over resizable reachable movable : Bool) (o : over ≡ over_there) (r : resizable ≡ value_there) (c : reachable ≡ lie_there)
+      (m : movable ≡ move_there) where
     pub writes-value : over ≡ false → resizable ≡ true
         → EditsSo (can_write_by view name from len) (can_write_so view name from len file) file (Some way.InRecord)
     writes-value not_over so = and_from (not over_there) value_there (ap not (sym o ∙ not_over)) (sym r ∙ so)
 
     pub writes-behind : over ≡ false → reachable ≡ true
         → EditsSo (can_write_by view name from len) (can_write_so view name from len file) file (Some way.InClusters)
-    writes-behind not_over so = and_from (not over_there) reach_there (ap not (sym o ∙ not_over)) (sym c ∙ so)
+    writes-behind not_over so = and_from (not over_there) lie_there (ap not (sym o ∙ not_over)) (sym c ∙ so)
 
-    pub writes-not : over ≡ false → resizable ≡ false → reachable ≡ false
+    pub writes-moving : over ≡ false → movable ≡ true
+        → EditsSo (can_write_by view name from len) (can_write_so view name from len file) file (Some way.IntoClusters)
+    writes-moving not_over so = and_from (not over_there) move_there (ap not (sym o ∙ not_over)) (sym m ∙ so)
+
+    pub writes-not : over ≡ false → resizable ≡ false → reachable ≡ false → movable ≡ false
         → EditsSo (can_write_by view name from len) (can_write_so view name from len file) file None
-    writes-not not_over not_value not_behind =
+    writes-not not_over not_value not_behind not_moving =
         or_from over_there (value_there || reach_there) (sym o ∙ not_over)
-        (or_from value_there reach_there (sym r ∙ not_value) (sym c ∙ not_behind))
+        (or_from value_there reach_there (sym r ∙ not_value) (or_from lie_there move_there (sym c ∙ not_behind) (sym m ∙ not_moving)))
 
 -- WHAT WAS DECIDED
 module _ (view : VolumeView) (mounted : Mounted) (size : ℕ) (held : BaseFile) (mounts : IsMountedAs view mounted size) (sound : IsSound view)
@@ -83,9 +100,13 @@ module _ (view : VolumeView) (mounted : Mounted) (size : ℕ) (held : BaseFile) 
       resize-editable view mounted held (mounts-own view mounted size mounts) sound n name found is (at + len)
       (and_parts (not (can_write_over view name at len number)) (can_resize view name (at + len) number) can).1
   way-editable way.InClusters can =
-      let reach = (and_parts (not (can_write_over view name at len number)) (can_reach_there view name at len number) can).1 in
+      let reach = (and_parts (not (can_write_over view name at len number)) (can_lie_there view name at len number) can).1 in
       give-editable view mounted held (mounts-own view mounted size mounts) sound n name found is
       (and_parts (can_give view name number) _ reach).0
+  way-editable way.IntoClusters can =
+      let moves = (and_parts (not (can_write_over view name at len number)) (can_move_there view name at len number) can).1 in
+      alone-editable view mounted held (mounts-own view mounted size mounts) sound n name found is
+      (there-alone view name number at len moves)
 
   pub write-decided : (wanted : Result ℕ No) (result : Result Writable No) → DecidesOver (can_write_so view name at len number) result
       → IfOk result (λ given. GivesBack given held found given.way)
@@ -123,6 +144,12 @@ module _ (view : VolumeView) (found : Writable) (name : List ℕ) (at len : ℕ)
       (and_parts (not over) (can_resize view name (at + len) f) (so-way way.InRecord same)).1
 
   -- .. or a stream in clusters
-  pub writable-behind : found.way ≡ way.InClusters → (over ≡ false) × (can_reach_there view name at len f ≡ true)
+  pub writable-behind : found.way ≡ way.InClusters → (over ≡ false) × (can_lie_there view name at len f ≡ true)
   writable-behind same =
-      let both = and_parts (not over) (can_reach_there view name at len f) (so-way way.InClusters same) in (not-true over both.0, both.1)
+      let both = and_parts (not over) (can_lie_there view name at len f) (so-way way.InClusters same) in (not-true over both.0, both.1)
+
+  -- .. or a value that moves
+  pub writable-moving : found.way ≡ way.IntoClusters → (over ≡ false) × IsMovable view found name at len
+  writable-moving same =
+      let both = and_parts (not over) (can_move_there view name at len f) (so-way way.IntoClusters same) in
+      (not-true over both.0, found-to (λ file. can_move_there view name at len file) both.1)

@@ -56,12 +56,14 @@ abbrev pub can_go : VolumeView → List ℕ → Way → ℕ → Bool
 can_go view name way.InPlace file = false
 can_go view name way.InRecord file = can_drop view name file
 can_go view name way.InClusters file = can_give view name file && has_placed_bits view
+can_go view name way.IntoClusters file = false
 
 -- .. or have so many bytes.
 abbrev pub can_get : VolumeView → List ℕ → ℕ → Way → ℕ → Bool
 can_get view name size way.InPlace file = false
 can_get view name size way.InRecord file = can_resize view name size file
 can_get view name size way.InClusters file = can_end view name size file && has_placed_bits view
+can_get view name size way.IntoClusters file = false
 
 -- The room that is asked for where it gets longer: the stream may not stay in its record, nor its run list.
 abbrev pub room_to_resize : VolumeView → List ℕ → ℕ → ℕ → Option No

@@ -14,7 +14,8 @@ use Rattle.tree_model.specs.declared.reply.No.{No}
 use Rattle.tree_model.specs.declared.reply.No.TheVariants as no
 use Rattle.tree_edit.specs.Alone.{bits_asked, can_drop, can_end, can_give, can_resize}
 use Rattle.tree_edit.specs.Writable.{IsFoundToEdit, can_write_over, kept_from_writing, stream_to_write}
-use Rattle.tree_edit.specs.Write.{can_reach_there, room_to_reach, room_to_write}
+use Rattle.tree_edit.specs.Movable.{can_move_there}
+use Rattle.tree_edit.specs.Write.{can_lie_there, can_reach_there, room_to_reach, room_to_write}
 use Rattle.tree_edit.specs.declared.writable.Way.{Way}
 use Rattle.tree_edit.specs.declared.writable.Way.TheVariants as way
 use Rattle.tree_edit.specs.declared.writable.Writable.{Writable}
@@ -32,6 +33,7 @@ abbrev pub can_resize_by : VolumeView → List ℕ → ℕ → Way → ℕ → B
 can_resize_by view name size way.InPlace file = false
 can_resize_by view name size way.InRecord file = can_resize view name size file
 can_resize_by view name size way.InClusters file = can_end view name size file
+can_resize_by view name size way.IntoClusters file = false
 
 abbrev pub can_resize_so : VolumeView → List ℕ → ℕ → ℕ → Bool
 can_resize_so view name size file = can_resize view name size file || can_end view name size file
@@ -44,6 +46,7 @@ abbrev pub can_drop_by : VolumeView → List ℕ → Way → ℕ → Bool
 can_drop_by view name way.InPlace file = false
 can_drop_by view name way.InRecord file = can_drop view name file
 can_drop_by view name way.InClusters file = can_give view name file
+can_drop_by view name way.IntoClusters file = false
 
 abbrev pub can_drop_so : VolumeView → List ℕ → ℕ → Bool
 can_drop_so view name file = can_drop view name file || can_give view name file
@@ -80,7 +83,9 @@ abbrev pub can_write_by : VolumeView → List ℕ → ℕ → ℕ → Way → �
 can_write_by view name from len way.InPlace file = can_write_over view name from len file
 can_write_by view name from len way.InRecord file = not (can_write_over view name from len file) && can_resize view name (from + len) file
 can_write_by view name from len way.InClusters file =
-    not (can_write_over view name from len file) && can_reach_there view name from len file
+    not (can_write_over view name from len file) && can_lie_there view name from len file
+can_write_by view name from len way.IntoClusters file =
+    not (can_write_over view name from len file) && can_move_there view name from len file
 
 abbrev pub can_write_so : VolumeView → List ℕ → ℕ → ℕ → ℕ → Bool
 can_write_so view name from len file =

@@ -1,6 +1,7 @@
 pub mod Alone
 pub mod Change
 pub mod Decided
+pub mod Movable
 pub mod Punchable
 pub mod Securable
 pub mod Settable

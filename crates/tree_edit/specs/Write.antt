@@ -20,6 +20,7 @@ use Rattle.tree_model.specs.declared.opens.OpenEntry.{OpenEntry}
 use Rattle.tree_model.specs.declared.reply.No.{No}
 use Rattle.tree_model.specs.declared.reply.No.TheVariants as no
 use Rattle.tree_edit.specs.Alone.{can_give, can_resize, if_room}
+use Rattle.tree_edit.specs.Movable.{can_move_there, parts_there}
 use Rattle.tree_edit.specs.Writable.{IsFoundToEdit, can_write_over, kept_from_writing, named_in, stream_to_write}
 use Rattle.tree_edit.specs.declared.writable.Way.{Way}
 use Rattle.tree_edit.specs.declared.writable.Way.TheVariants as way
@@ -27,9 +28,13 @@ use Rattle.tree_edit.specs.declared.writable.Writable.{Writable}
 
 -- The stream lies in clusters, in one part, and the bytes go over those that were written, or right behind them, where it can take the
 -- clusters that it needs, ..
-abbrev pub can_reach_there : VolumeView → List ℕ → ℕ → ℕ → ℕ → Bool
-can_reach_there view name from len file =
+abbrev pub can_lie_there : VolumeView → List ℕ → ℕ → ℕ → ℕ → Bool
+can_lie_there view name from len file =
     can_give view name file && can_reach view file (stream_parts view (read view) (named_in (read view) name file)) from len
+
+-- .. or is a value that moves into clusters for them, ..
+abbrev pub can_reach_there : VolumeView → List ℕ → ℕ → ℕ → ℕ → Bool
+can_reach_there view name from len file = can_lie_there view name from len file || can_move_there view name from len file
 
 -- where its record has so many free bytes
 abbrev pub can_take_by : VolumeView → ℕ → ℕ → Bool
@@ -50,12 +55,20 @@ can_write_behind view name from len file =
     can_give view name file
     && (has_placed_bits view && can_go_behind view file (stream_parts view (read view) (named_in (read view) name file)) from len)
 
--- The bytes go over bytes in place, or else into a value that can be as long as they need, or over and behind those of a stream in clusters.
+abbrev pub can_write_moving : VolumeView → List ℕ → ℕ → ℕ → ℕ → Bool
+can_write_moving view name from len file =
+    can_move_there view name from len file
+    && (has_placed_bits view && has_free_run view (new_clusters (cluster_bytes view.layout) (parts_there view name file) from len))
+
+-- The bytes go over bytes in place, or else into a value that can be as long as they need, or over and behind those of a stream in clusters,
+-- or with a value into clusters.
 abbrev pub can_write : VolumeView → List ℕ → ℕ → ℕ → Way → ℕ → Bool
 can_write view name from len way.InPlace file = can_write_over view name from len file
 can_write view name from len way.InRecord file = not (can_write_over view name from len file) && can_resize view name (from + len) file
 can_write view name from len way.InClusters file =
     not (can_write_over view name from len file) && can_write_behind view name from len file
+can_write view name from len way.IntoClusters file =
+    not (can_write_over view name from len file) && can_write_moving view name from len file
 
 -- The room that is asked for then. A value may not stay in its record ..
 abbrev pub room_to_write : VolumeView → List ℕ → ℕ → ℕ → ℕ → Option No

@@ -330,6 +330,7 @@ fn ask_to_resize<D: Disk>(
             let clusters = clusters_for_bytes(&found.held.parts, &found.stream, bytes, 0, 0);
             ask_for_room(mft, &found.held.parts, clusters)
         }
+        Way::IntoClusters => Ok(()),
     }
 }
 
@@ -403,6 +404,7 @@ fn ask_to_drop<D: Disk>(alloc: Global, mft: &mut Mft<'_, D>, found: &Writable) -
         Way::InPlace => Ok(()),
         Way::InRecord => Ok(()),
         Way::InClusters => ask_for_bits(alloc, mft),
+        Way::IntoClusters => Ok(()),
     }
 }
 

@@ -12,7 +12,7 @@ ghost use Rattle.file_room.specs.Nodes.{IsNodeHeld, number_of, parts_in};
 ghost use Rattle.tree_edit.specs.Change.{TellsFree};
 ghost use Rattle.tree_edit.specs.Decided.{IsWritableSo};
 ghost use Rattle.tree_edit.specs.Writable.{IsMountedAs};
-ghost use Rattle.tree_edit.specs.Write.{can_reach_there, can_take_by, room_to_reach};
+ghost use Rattle.tree_edit.specs.Write.{can_lie_there, can_take_by, room_to_reach};
 
 use crate::extent::is_extent;
 use crate::writable::Writable;
@@ -66,7 +66,7 @@ pub fn is_reachable(
     requires size { 0 < cluster_bytes }
     ensures is { IfOk result (λ is. (view : VolumeView) → IsMountedAs view mounted.now cluster_bytes → IsSound view
         → IsNodeHeld view held.now → (name : List ℕ) → IsStream view held.now.parts name stream.now
-        → is ≡ can_reach_there view name at len (number_of held.now)) }
+        → is ≡ can_lie_there view name at len (number_of held.now)) }
     ensures inside { IfOk result (λ is. is ≡ true → number_of held.now < length mounted.now.records) }
 {
     if !is_extent(alloc, mounted, held, stream)? {
@@ -98,7 +98,7 @@ pub fn ask_to_reach<D: Disk>(
     requires part { found.now.stream.part < length (parts_in found.now.held) }
     requires near { at + len ≤ 2 ^ 40 }
     ensures asked { (name : List ℕ) → Gives D.Disk mft.old mft.new (λ volume given. IsWritableSo volume found.now name at len
-        → can_reach_there volume name at len (number_of found.now.held) ≡ true
+        → can_lie_there volume name at len (number_of found.now.held) ≡ true
         → Says (has_room (room_to_reach volume name at len (number_of found.now.held))) given) result }
 {
     let file = &found.held.parts;

@@ -2,8 +2,11 @@
 #![tactic(auto)]
 
 mod alone;
+mod ask_to_move;
 mod behind;
 mod extent;
+mod leave;
+mod movable;
 mod punch;
 mod punchable;
 mod room;

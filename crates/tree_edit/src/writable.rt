@@ -43,6 +43,8 @@ pub enum Way {
     InRecord,
     /// In clusters of its own, which are given back where it loses them.
     InClusters,
+    /// Out of the record of its file, a value that moves into clusters.
+    IntoClusters,
 }
 
 /// A stream that is to be edited, with what its file shows of itself.

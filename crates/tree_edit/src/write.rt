@@ -21,8 +21,10 @@ ghost use Rattle.tree_edit.specs.Writable.{DecidesEdit, DecidesOver, GivesBack, 
 ghost use Rattle.tree_edit.specs.Write.{IsWritable, hwrite_in, write_wanted};
 
 use crate::alone::is_resizable;
+use crate::ask_to_move::ask_to_move;
 use crate::behind::{ask_to_reach, is_reachable};
 use crate::extent::ask_for_bits;
+use crate::movable::is_movable;
 use crate::room::clusters_for_bytes;
 use crate::settable::can_edit;
 use crate::writable::{Way, Writable, given, kept_from_writing, stream_to_write};
@@ -86,6 +88,9 @@ fn way_to_write(
     }
     if is_reachable(alloc, mounted, cluster_bytes, held, stream, at, len)? {
         return Ok(Some(Way::InClusters));
+    }
+    if is_movable(alloc, mounted, cluster_bytes, held, stream, at, len)? {
+        return Ok(Some(Way::IntoClusters));
     }
     Ok(None)
 }
@@ -196,6 +201,10 @@ fn ask_to_write<D: Disk>(
         Way::InClusters => {
             ask_for_bits(alloc, mft)?;
             ask_to_reach(alloc, mft, found, at, len)
+        }
+        Way::IntoClusters => {
+            ask_for_bits(alloc, mft)?;
+            ask_to_move(mft, found, at, len)
         }
         Way::InRecord => {
             let file = &found.held.parts;

@@ -12,13 +12,19 @@ use Rattle.tree_edit.specs.Alone.{bits_asked, room_to_resize}
 use Rattle.tree_edit.specs.Decided.{can_resize_by}
 use Rattle.tree_edit.specs.Writable.{named_in}
 use Rattle.tree_edit.proofs.AskedLaws.{asked-none, asks-both, extent-none, refuses-first, room-clusters, room-longer, room-shorter}
-use Rattle.tree_edit.proofs.WayLaws.{resizable-asked, resizable-bits, resizable-extent, resizable-none, resizable-value}
+use Rattle.tree_edit.proofs.WayLaws.{resizable-asked, resizable-bits, resizable-extent, resizable-none, resizable-not_moved, resizable-value}
 use Rattle.tree_edit.proofs.alone.ask_to_resize.Goals as goal
 
 pub returns-in-InPlace : goal.returns-in-InPlace
 returns-in-InPlace g c = record {
   asked = λ name. at_once refl (λ told is.
       ap has_room (resizable-none (view g.D.Disk c.args.mft.now) c.args.found.now name c.args.size is c.in-InPlace.is));
+}
+
+pub returns-in-IntoClusters : goal.returns-in-IntoClusters
+returns-in-IntoClusters g c = record {
+  asked = λ name. at_once refl (λ told is.
+      ap has_room (resizable-not_moved (view g.D.Disk c.args.mft.now) c.args.found.now name c.args.size is c.in-IntoClusters.is));
 }
 
 pub returns-in_err-ask_for_bits-in-InClusters : goal.returns-in_err-ask_for_bits-in-InClusters

@@ -5,7 +5,7 @@ use Rattle.tree_model.specs.Reading.{read}
 use Rattle.tree_model.specs.Tree.{node_of}
 use Rattle.file_room.specs.Nodes.{number_of}
 use Rattle.tree_edit.specs.Writable.{FindsToWrite, kept_from_writing, stream_to_write}
-use Rattle.tree_edit.proofs.FoundOver.{as-so, handed-on-no, range-refused, stream-refused}
+use Rattle.tree_edit.proofs.FoundOver.{as-so, handed-on-no, missing-refused, range-refused, stream-refused}
 use Rattle.tree_edit.proofs.WriteFound.{write-decided}
 use Rattle.tree_edit.proofs.write.writable_in.Goals as goal
 
@@ -32,4 +32,14 @@ returns-in-Some-found-clause-decides c = λ view mounts sound n.
     c.give_back.result (c.give_back.ensures.decides view mounts sound n c.args.name.now found.0.is) c.give_back.ensures.gives
     (IfOk-weaker c.give_back.result _ _ (λ given way. way view mounts sound n c.args.name.now found.0.is) c.give_back.ensures.way) found.0
     (as-so view c.args.held n c.args.name.now c.args.at c.args.len c.args.opens.now (Some stream) found
+    (sym c.is_wide.ensures ∙ c.if-is_wide.false) kept)
+
+pub returns-in-None-clause-decides : goal.returns-in-None-clause-decides
+returns-in-None-clause-decides c = λ view mounts sound n.
+    let found =
+    subst (λ (o : Option FoundStream). FindsToWrite (stream_to_write (read view) c.args.name.now (node_of (read view) (number_of c.args.held)))
+    view c.args.held c.args.name.now (Ok o)) c.in-None.is (c.in_ok-found.ensures.found view n mounts.case) in
+    let kept =
+    ap (kept_from_writing c.args.opens.now) (sym c.number.ensures) ∙ sym c.kept_from_writing.ensures ∙ c.in_default.is in
+    inl (missing-refused view c.args.held n c.args.name.now c.args.at c.args.len c.args.opens.now found
     (sym c.is_wide.ensures ∙ c.if-is_wide.false) kept)

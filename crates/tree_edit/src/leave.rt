@@ -5,7 +5,7 @@ ghost use Rattle.volume_def.specs.View.{VolumeView};
 ghost use Rattle.attr_view.specs.View.{attribute_of};
 ghost use Rattle.mft_table.specs.InUse.{IsSoundVolume};
 ghost use Rattle.tree_model.specs.Ways.{has_run_if_room};
-ghost use Rattle.move_room.specs.Movable.{can_leave_by, fits_as_extent_by};
+ghost use Rattle.tree_edit.specs.Movable.{can_leave_by, fits_as_extent_by};
 
 use attr_view::AttrView;
 use mft_table::Mounted;

@@ -1,8 +1,8 @@
 use Rattle.std.proofs.Common.{sym, ◌∙◌}
 use Rattle.attr_view.specs.View.{attribute_of}
 use Rattle.tree_edit.proofs.WriteFound.{mounts-own}
-use Rattle.move_room.proofs.MovableFound.{move-not, move-so, move-stays}
-use Rattle.move_room.proofs.movable.can_move.Goals as goal
+use Rattle.tree_edit.proofs.MovableFound.{move-not, move-so, move-stays}
+use Rattle.tree_edit.proofs.movable.can_move.Goals as goal
 
 pub returns-then-not-branch-clause-is : goal.returns-then-not-branch-clause-is
 returns-then-not-branch-clause-is c = λ view mounts sound n name is.

@@ -5,8 +5,8 @@ use Rattle.file_room.specs.Answered.{Says}
 use Rattle.file_room.specs.Asked.{has_room}
 use Rattle.file_room.specs.Nodes.{number_of}
 use Rattle.file_room.proofs.GivesLaws.{tells}
-use Rattle.move_room.proofs.MovableFound.{counted-are}
-use Rattle.move_room.proofs.ask.ask_to_move.Goals as goal
+use Rattle.tree_edit.proofs.MovableFound.{counted-are}
+use Rattle.tree_edit.proofs.ask_to_move.ask_to_move.Goals as goal
 
 pub returns : goal.returns
 returns g c = record {

@@ -1,6 +1,6 @@
 use Rattle.std.proofs.lemmas.Result.{IfOk-weaker}
-use Rattle.move_room.proofs.MovableFound.{to-so}
-use Rattle.move_room.proofs.movable.is_movable_to.Goals as goal
+use Rattle.tree_edit.proofs.MovableFound.{to-so}
+use Rattle.tree_edit.proofs.movable.is_movable_to.Goals as goal
 
 pub returns-clause-is : goal.returns-clause-is
 returns-clause-is c =

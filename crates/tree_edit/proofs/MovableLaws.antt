@@ -3,12 +3,14 @@
 use Rattle.std.proofs.Common.{◌≡◌, ◌&&◌, ◌||◌, ◌+◌, ◌-◌, ◌<◌, ◌≤◌, ◌==◌, not, ℕ, Bool, true, false, List, [], Option, Some, None, refl, sym, ap, subst, ◌∙◌, arith}
 use Rattle.std.specs.Prelude.{if◌then◌else◌, is_some, nat_le, nat_lt, option_and_then, option_map}
 use Rattle.std.specs.Option.{option_map_or}
-use Rattle.std.proofs.lemmas.Bool.{and_parts, eqb-true, le-ltb, leb-false, lt-ltb, not-true, or_parts}
+use Rattle.std.proofs.lemmas.Bool.{and_parts, eqb-true, le-ltb, leb-false, lt-ltb, ne_eqb, not-true, or_parts}
 use Rattle.std.proofs.lemmas.Nat.{le-div}
 use Rattle.ntfs_def.specs.Rounded.{clusters_for}
 use Rattle.volume_def.specs.Files.{Part}
 use Rattle.volume_def.specs.Room.{unowned_clusters}
+use Rattle.volume_def.specs.StreamSize.{told_size}
 use Rattle.volume_def.specs.Table.{cluster_bytes}
+use Rattle.volume_def.specs.Values.{first_part}
 use Rattle.volume_def.specs.View.{VolumeView}
 use Rattle.edit_def.specs.OneFile.{no_room_alone}
 use Rattle.tree_model.specs.Bill.{grows}
@@ -16,7 +18,7 @@ use Rattle.tree_model.specs.Cases.{size_of}
 use Rattle.tree_model.specs.Facts.{is_whole_table}
 use Rattle.tree_model.specs.Reading.{read}
 use Rattle.tree_model.specs.Staging.{cannot_edit}
-use Rattle.tree_model.specs.StreamRoom.{new_clusters, parts_named, stream_value, stream_value_len}
+use Rattle.tree_model.specs.StreamRoom.{initialized_size, new_clusters, parts_named, stream_value, stream_value_len}
 use Rattle.tree_model.specs.Subjects.{content_named}
 use Rattle.tree_model.specs.Tree.{node_of, sought_stream}
 use Rattle.tree_model.specs.Ways.{can_leave, fits_as_extent, fits_in_record, gets_no_longer, has_free_run, has_no_flags, has_no_list}
@@ -29,11 +31,11 @@ use Rattle.file_room.specs.Nodes.{number_of}
 use Rattle.tree_edit.specs.Alone.{IsDroppable, can_drop, can_resize, room_to_resize}
 use Rattle.tree_edit.specs.Punchable.{can_punch}
 use Rattle.tree_edit.specs.Writable.{named_in}
-use Rattle.tree_edit.specs.Write.{room_to_write}
+use Rattle.tree_edit.specs.Write.{room_to_reach, room_to_write}
 use Rattle.tree_edit.specs.declared.writable.Writable.{Writable}
 use Rattle.tree_edit.proofs.EditableLaws.{found-for}
-use Rattle.tree_edit.proofs.RoomThere.{enough-free}
-use Rattle.move_room.specs.Movable.{IsMovable, IsMovableTo, can_move, can_move_there, can_move_to, parts_there}
+use Rattle.tree_edit.proofs.RoomFree.{enough-free}
+use Rattle.tree_edit.specs.Movable.{IsMovable, IsMovableTo, can_move, can_move_there, can_move_to, parts_there}
 
 -- THE MACHINE SAYS SO, of a file that can be edited: the same tests, in another order.
 regroup-tests : (edits value none room moves bits : Bool)
@@ -168,8 +170,24 @@ module _ (view : VolumeView) (name : List ℕ) (file : ℕ) where
     pub there-run : room_to_write view name from len file ≡ None → has_free_run view (clusters_for (from + len) cluster) ≡ true
     there-run none = run-there (from + len) (new_clusters cluster there from len) there-moves none
 
+    pub there-run_counted : room_to_write view name from len file ≡ None → has_free_run view (new_clusters cluster there from len) ≡ true
+    there-run_counted none =
+        subst (λ n. has_free_run view n ≡ true) (as-many (from + len) (new_clusters cluster there from len) there-moves) (there-run none)
+
     pub there-some : 0 < cluster → 0 < clusters_for (from + len) cluster
     there-some some = some-then (from + len) (new_clusters cluster there from len) there-moves some
+
+    pub there-out : can_resize view name (from + len) file ≡ false
+    there-out = moves-out (from + len) (new_clusters cluster there from len) there-moves
+
+    -- the room is asked for as of a stream that lies in clusters: it takes some
+    pub there-asks : 0 < cluster → room_to_reach view name from len file ≡ room_to_write view name from len file
+    there-asks some =
+        let count = new_clusters cluster there from len in
+        let more = there-some some in
+        let same = as-many (from + len) count there-moves in
+        ap (λ b. if (b && nat_le from (initialized_size there)) && nat_le (from + len) (told_size (first_part there)) then None
+        else no_room_alone view file count) (ne_eqb count 0 (λ none. omega (arith, more, same, none)))
 
   -- .. and by another length, with which it gets longer
   module _ (size : ℕ) (moves : can_move_to view name size file ≡ true) where

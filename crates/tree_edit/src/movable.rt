@@ -5,14 +5,16 @@ ghost use Rattle.volume_def.specs.View.{VolumeView};
 ghost use Rattle.sparse_io.specs.Held.{IsStream};
 ghost use Rattle.file_room.specs.Nodes.{IsNodeHeld, number_of, parts_in};
 ghost use Rattle.tree_edit.specs.Writable.{IsMountedAs};
-ghost use Rattle.move_room.specs.Movable.{can_move, can_move_there, can_move_to};
+ghost use Rattle.tree_edit.specs.Movable.{can_move, can_move_there, can_move_to};
 
+use crate::alone::{is_alone, is_resizable};
+use crate::behind::free_beside;
 use crate::leave::can_leave;
+use crate::room::clusters_for_bytes;
 use file_record::BaseFile;
 use mft_table::Mounted;
 use sparse_io::{FoundStream, look_at_names};
 use std::alloc::{AllocError, Global};
-use tree_edit::{clusters_for_bytes, free_beside, is_alone, is_resizable};
 
 // Whether the stream that was found is a value alone that does not stay in its record with so many bytes, and can leave it for so many clusters.
 fn can_move(

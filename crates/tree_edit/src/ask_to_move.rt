@@ -7,11 +7,12 @@ ghost use Rattle.file_room.specs.Asked.{has_room};
 ghost use Rattle.file_room.specs.Nodes.{number_of, parts_in};
 ghost use Rattle.tree_edit.specs.Alone.{IsDroppable, room_to_resize};
 ghost use Rattle.tree_edit.specs.Write.{room_to_write};
-ghost use Rattle.move_room.specs.Movable.{IsMovableTo};
+ghost use Rattle.tree_edit.specs.Movable.{IsMovableTo};
 
+use crate::room::clusters_for_bytes;
+use crate::writable::Writable;
 use file_room::{Stop, ask_for_room};
 use mft_table::Mft;
-use tree_edit::{Writable, clusters_for_bytes};
 use vol_disk::Disk;
 
 /// Asks for the room of bytes that go into the stream that was found, a value of a file without an attribute list: the clusters that it may come

@@ -38,8 +38,8 @@ use Rattle.tree_edit.proofs.Below.{at-among}
 use Rattle.tree_edit.proofs.EditableLaws.{edit-is, parts-are}
 use Rattle.tree_edit.proofs.ReachFound.{takes-less, takes-run}
 use Rattle.tree_edit.proofs.RoomFound.{attribute-of, found-size, free-tells, value-there}
-use Rattle.move_room.specs.Movable.{can_leave_by, can_move, can_move_there, can_move_to, fits_as_extent_by, parts_there}
-use Rattle.move_room.proofs.MovableLaws.{is-value, some-bytes, some-clusters}
+use Rattle.tree_edit.specs.Movable.{can_leave_by, can_move, can_move_there, can_move_to, fits_as_extent_by, parts_there}
+use Rattle.tree_edit.proofs.MovableLaws.{is-value, some-bytes, some-clusters}
 
 -- SOME CLUSTERS ARE FREE one behind the other, unless fewer are in all, by the flags in memory: it is what a run of a stream in clusters
 -- asks for, beside the bytes of its record.

@@ -1,6 +1,6 @@
 use Rattle.std.proofs.lemmas.Result.{IfOk-weaker}
-use Rattle.move_room.proofs.MovableFound.{far-not, there-so}
-use Rattle.move_room.proofs.movable.is_movable.Goals as goal
+use Rattle.tree_edit.proofs.MovableFound.{far-not, there-so}
+use Rattle.tree_edit.proofs.movable.is_movable.Goals as goal
 
 pub returns-then-at-stream-clause-is : goal.returns-then-at-stream-clause-is
 returns-then-at-stream-clause-is c = λ view mounts sound n name is.

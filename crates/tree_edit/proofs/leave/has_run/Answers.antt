@@ -1,6 +1,6 @@
 use Rattle.std.proofs.Common.{◌∙◌}
-use Rattle.move_room.proofs.MovableFound.{run-found, run-less}
-use Rattle.move_room.proofs.leave.has_run.Goals as goal
+use Rattle.tree_edit.proofs.MovableFound.{run-found, run-less}
+use Rattle.tree_edit.proofs.leave.has_run.Goals as goal
 
 pub returns-then-count_free-count : goal.returns-then-count_free-count
 returns-then-count_free-count c = λ view volume.

@@ -1,2 +1,0 @@
-pub mod MovableLaws
-pub mod MovableFound
