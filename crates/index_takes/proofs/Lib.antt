@@ -1,0 +1,11 @@
+pub mod HitLaws
+pub mod TakeLaws
+pub mod TakeSteps
+pub mod HeldEntry
+pub mod TakeItems
+pub mod TakeWhole
+pub mod TakeVolume
+pub mod RootLaws
+pub mod RootTake
+pub mod ShrinkLaws
+pub mod EntryStays

@@ -1,0 +1,2 @@
+pub mod MovableLaws
+pub mod MovableFound
