@@ -8,3 +8,4 @@ pub mod TakeVolume
 pub mod RootLaws
 pub mod RootTake
 pub mod ShrinkLaws
+pub mod EntryStays

@@ -10,7 +10,7 @@ mod shrink;
 mod take;
 
 pub use entry::has_leaf_entry;
-pub use laws::{take_clauses, take_items};
+pub use laws::{entry_laws, take_clauses, take_items};
 pub use root::has_root_entry;
 pub use shrink::shrink_root;
 pub use take::take_item;
