@@ -26,6 +26,17 @@ gives-none g most f before old new x = record {
   };
 }
 
+-- .. of which more may be staged
+pub gives-more : {D : Type 0} (g : Ghosts D) (few most f : ℕ) (before : VolumeView) (old new : Mft D g) → few ≤ most
+    → StagesGiving g few f before old new → StagesGiving g most f before old new
+gives-more g few most f before old new room x = record {
+  given = x.given;
+  freed = x.freed;
+  taken = x.taken;
+  owned = x.owned;
+  stages = record { few = let few = x.stages.few in omega (arith, few, room); only = x.stages.only };
+}
+
 -- as one of a value
 pub gives-value : {D : Type 0} (g : Ghosts D) (most f : ℕ) (old new : Mft D g) → 8 ≤ most
     → StagesValue g f (names_of (records_of (view g old)) f) old new → StagesGiving g most f (view g old) old new

@@ -15,6 +15,12 @@ pub mod RunsReached
 pub mod BehindVolume
 mod Lengthened
 mod Reached
+mod MovedPart
+mod ValueBytes
+mod LeftRecord
+mod Moved
+mod MovedCalls
+mod MoveFound
 mod WaysFound
 mod WaysDone
 mod WaysWritten

@@ -39,6 +39,9 @@ module _ (v new : VolumeView) (found : Writable) (number : ℕ) (is : number ≡
   pub goes-not_over : found.way ≡ way.InPlace → (name : List ℕ) → IsToDrop v found name → ⊥
   goes-not_over so name can = let never = go-by name can way.InPlace so in cc
 
+  pub goes-not_moved : found.way ≡ way.IntoClusters → (name : List ℕ) → IsToDrop v found name → ⊥
+  goes-not_moved so name can = let never = go-by name can way.IntoClusters so in cc
+
   goes-value : found.way ≡ way.InRecord → (name : List ℕ) → IsToDrop v found name → IsDroppable v found name
   goes-value so name can = record {
     settable = can.settable;
@@ -90,6 +93,9 @@ module _ (v new : VolumeView) (found : Writable) (number : ℕ) (is : number ≡
 
   pub gets-not_over : found.way ≡ way.InPlace → (name : List ℕ) → IsToResize v found name size → ⊥
   gets-not_over so name can = let never = get-by name can way.InPlace so in cc
+
+  pub gets-not_moved : found.way ≡ way.IntoClusters → (name : List ℕ) → IsToResize v found name size → ⊥
+  gets-not_moved so name can = let never = get-by name can way.IntoClusters so in cc
 
   gets-value : found.way ≡ way.InRecord → (name : List ℕ) → IsToResize v found name size → IsResizable v found name size
   gets-value so name can = record {

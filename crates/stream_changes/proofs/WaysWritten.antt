@@ -18,7 +18,7 @@ use Rattle.tree_model.specs.Facts.{is_whole_table}
 use Rattle.tree_model.specs.Staging.{cannot_edit}
 use Rattle.tree_model.specs.StreamRoom.{goes_over, initialized_in, initialized_size, is_cluster, is_in_place, new_clusters, stream_parts}
 use Rattle.tree_model.specs.StreamRoom.{stream_value_len, touches}
-use Rattle.tree_model.specs.Ways.{goes_behind, has_placed_bits}
+use Rattle.tree_model.specs.Ways.{goes_behind, has_free_run, has_placed_bits, moves_by_write}
 use Rattle.sparse_io.specs.declared.find.FoundStream.{FoundStream}
 use Rattle.value_edits.specs.Below.{WritesOver}
 use Rattle.value_edits.specs.ValueEdits.{PutsBytes}
@@ -27,14 +27,18 @@ use Rattle.tree_edit.specs.Alone.{IsResizable, can_give, can_resize}
 use Rattle.tree_edit.specs.Change.{CanChange, has_room_for}
 use Rattle.tree_edit.specs.Over.{CanWriteOver}
 use Rattle.tree_edit.specs.Writable.{IsFoundToEdit, can_write_over, named_in}
-use Rattle.tree_edit.specs.Write.{IsWritable, can_go_behind, can_write, can_write_behind}
+use Rattle.tree_edit.specs.Movable.{can_move_there, parts_there}
+use Rattle.tree_edit.specs.Write.{IsWritable, can_go_behind, can_write, can_write_behind, can_write_moving}
 use Rattle.tree_edit.specs.declared.writable.Way.{Way}
 use Rattle.tree_edit.specs.declared.writable.Way.TheVariants as way
 use Rattle.tree_edit.specs.declared.writable.Writable.{Writable}
 use Rattle.tree_edit.proofs.OverLaws.{found-over}
 use Rattle.tree_edit.proofs.PunchLaws.{punchable-can}
+use Rattle.tree_edit.proofs.MovableLaws.{by-bytes}
+use Rattle.stream_changes.specs.Moving.{CanMove}
 use Rattle.stream_changes.specs.Streams.{CanGive, CanReach, WritesSo}
 use Rattle.stream_changes.proofs.ExtentCovers.{extent-fits}
+use Rattle.stream_changes.proofs.MoveFound.{can-move, leave-can, leave-so, named}
 use Rattle.stream_changes.proofs.ResizableRoom.{resizable-room}
 use Rattle.stream_changes.proofs.ValueChanged.{droppable-can, resizable-can}
 use Rattle.stream_changes.proofs.WaysFound.{extent-can, there-are}
@@ -161,6 +165,28 @@ module _ (v : VolumeView) (found : Writable) (name : List ℕ) (at len : ℕ) (w
           absurd (cc)
     ]
 
+  -- .. or a value that moves
+  module _ (so : found.way ≡ way.IntoClusters) where
+    moving-so : can_write_moving v name at len f ≡ true
+    moving-so =
+        (and_parts (not (can_write_over v name at len f)) (can_write_moving v name at len f) (write-by way.IntoClusters so)).1
+
+    moving-both : (can_move_there v name at len f ≡ true) × ((has_placed_bits v
+        && has_free_run v (new_clusters (cluster_bytes v.layout) (parts_there v name f) at len)) ≡ true)
+    moving-both = and_parts (can_move_there v name at len f) _ moving-so
+
+    moving-bits : (has_placed_bits v ≡ true) × (has_free_run v (new_clusters (cluster_bytes v.layout) (parts_there v name f) at len) ≡ true)
+    moving-bits =
+        and_parts (has_placed_bits v) (has_free_run v (new_clusters (cluster_bytes v.layout) (parts_there v name f) at len)) moving-both.1
+
+    by-words : moves_by_write v (read v) (named_in (read v) name f) at len ≡ true
+    by-words =
+        (and_parts (not (cannot_edit (is_whole_table v) (read v) f)) (moves_by_write v (read v) (named_in (read v) name f) at len)
+        (sym (by-bytes v name f at len) ∙ and_from (can_move_there v name at len f) (has_placed_bits v) moving-both.0 moving-bits.0)).1
+
+    moving : CanMove v found.stream f at len
+    moving = can-move v found name (λ file. can_write v name at len found.way file) w at len by-words moving-bits.1
+
 module _ (v new : VolumeView) (found : Writable) (number : ℕ) (is : number ≡ number_of found.held) (at : ℕ) (bytes : List ℕ) where
   abbrev pub CanWrite : Type 0
   CanWrite = IsTrue v.told → (name : List ℕ) × IsWritable v found name at (length bytes)
@@ -189,6 +215,11 @@ module _ (v new : VolumeView) (found : Writable) (number : ℕ) (is : number ≡
   reach-can so can told =
       let w = can told in
       subst (λ k. CanReach v found.stream k at (length bytes)) (sym is) (reach v found w.0 at (length bytes) w.1 so)
+
+  pub moving-can : found.way ≡ way.IntoClusters → CanWrite → IsTrue v.told → CanMove v found.stream number at (length bytes)
+  moving-can so can told =
+      let w = can told in
+      subst (λ k. CanMove v found.stream k at (length bytes)) (sym is) (moving v found w.0 at (length bytes) w.1 so)
 
   -- .. some byte
   pub write-some : found.way ≡ way.InClusters → CanWrite → IsTrue v.told → 0 < length bytes
@@ -228,3 +259,12 @@ module _ (v new : VolumeView) (found : Writable) (number : ℕ) (is : number ≡
         (subst (λ k. (can : CanReach v found.stream k at (length bytes))
         → PutsBytes v new k can.give.named.name at bytes can.give.named.held times found.flags) is (does told)
         (reach v found name at (length bytes) can so))
+
+    pub moving-writes : found.way ≡ way.IntoClusters → (IsTrue v.told → (can : CanMove v found.stream number at (length bytes))
+        → PutsBytes v new number can.leave.named.name at bytes can.leave.named.held times found.flags) → WasWritten
+    unfolding named leave-can leave-so can-move moving
+    moving-writes so does told name can =
+        subst (λ w. WritesSo w at bytes v new (number_of found.held) can.stream.is.part.name can.stream.bytes times found.flags) (sym so)
+        (subst (λ k. (can : CanMove v found.stream k at (length bytes))
+        → PutsBytes v new k can.leave.named.name at bytes can.leave.named.held times found.flags) is (does told)
+        (moving v found name at (length bytes) can so))

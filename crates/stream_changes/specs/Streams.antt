@@ -101,3 +101,4 @@ abbrev pub WritesSo : Way → ℕ → List ℕ → VolumeView → VolumeView →
 WritesSo way.InPlace at bytes old new f name held times flags = WritesOver old new f name at bytes times flags
 WritesSo way.InRecord at bytes old new f name held times flags = PutsBytes old new f name at bytes held times flags
 WritesSo way.InClusters at bytes old new f name held times flags = PutsBytes old new f name at bytes held times flags
+WritesSo way.IntoClusters at bytes old new f name held times flags = PutsBytes old new f name at bytes held times flags

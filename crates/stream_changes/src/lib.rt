@@ -2,11 +2,14 @@
 #![tactic(auto)]
 
 mod extents;
+mod leaving;
 mod longer;
+mod moving;
+mod part;
+mod run;
 mod streams;
 mod values;
 
-pub use longer::run_of_free;
 pub use streams::{remove_stream, resize_stream, write_stream};
 // What finds, sets and stages all else of a file, for the crate above, which so need not name `tree_edit`.
 pub use tree_edit::{

@@ -15,6 +15,7 @@ ghost use Rattle.stream_changes.specs.Streams.{WritesSo};
 
 use crate::extents::{drop_extent, shorten_extent};
 use crate::longer::{lengthen_extent, write_behind};
+use crate::moving::write_moving;
 use crate::values::{drop_value, resize_value, write_value};
 use file_record::FileNo;
 use mft_table::Mft;
@@ -60,6 +61,7 @@ pub fn resize_stream<D: Disk>(
     match found.way {
         // No stream has another length so.
         Way::InPlace => Ok(()),
+        Way::IntoClusters => Ok(()),
         Way::InRecord => resize_value(alloc, mft, stream, number, size, times, found.flags),
         Way::InClusters if size > stream.size => {
             lengthen_extent(alloc, mft, held, stream, number, size, times, found.flags)
@@ -105,6 +107,7 @@ pub fn remove_stream<D: Disk>(
     match found.way {
         // No stream goes so.
         Way::InPlace => Ok(()),
+        Way::IntoClusters => Ok(()),
         Way::InRecord => drop_value(alloc, mft, stream, number, times, found.flags),
         Way::InClusters => {
             drop_extent(
@@ -121,7 +124,7 @@ pub fn remove_stream<D: Disk>(
 }
 
 /// Writes bytes into the stream that was found, from byte `at` on: over bytes where they lie, into its value, or over and behind those in
-/// its clusters, of which it takes as many as it needs. Then sets the four times of its file, in the order of its `$STANDARD_INFORMATION`;
+/// its clusters, of which it takes as many as it needs, or with its value into a run that it takes. Then sets the four times of its file, in the order of its `$STANDARD_INFORMATION`;
 /// the file shows the flags that it had. All of it is staged.
 ///
 /// # Errors
@@ -147,7 +150,7 @@ pub fn write_stream<D: Disk>(
         → (can : IsWritable (view D.Disk mft.old) found.now name at (length bytes.now))
         → WritesSo found.now.way at bytes.now (view D.Disk mft.old) (view D.Disk mft.new) (number_of found.now.held)
         can.stream.is.part.name can.stream.bytes times.now found.now.flags) }
-    ensures places { OnOk result (IsTrue (view D.Disk mft.old).told → StagesGiving D.Disk (10 + length bytes.now / 512)
+    ensures places { OnOk result (IsTrue (view D.Disk mft.old).told → StagesGiving D.Disk (12 + length bytes.now / 512)
         (number_of found.now.held) (view D.Disk mft.old) mft.old mft.new) }
     ensures tables { OnOk result (TellsStored D.Disk mft.new) }
     ensures device { KeepsDevice D.Disk mft.old mft.new }
@@ -164,6 +167,9 @@ pub fn write_stream<D: Disk>(
         Way::InRecord => write_value(alloc, mft, stream, number, at, bytes, times, flags),
         Way::InClusters => {
             write_behind(alloc, mft, held, stream, number, at, bytes, times, flags)
+        }
+        Way::IntoClusters => {
+            write_moving(alloc, mft, held, stream, number, at, bytes, times, flags)
         }
     }
 }

@@ -6,7 +6,7 @@ use Rattle.stored_bits.proofs.DeviceKept.{device-disk, device-same}
 use Rattle.tree_edit.specs.Below.{parts_in}
 use Rattle.stream_changes.specs.Staged.{StagesGiving}
 use Rattle.stream_changes.proofs.GivingLaws.{gives-value}
-use Rattle.stream_changes.proofs.WaysDone.{go-extent-can, go-extent-puts, go-value-can, go-value-puts, goes-not_over}
+use Rattle.stream_changes.proofs.WaysDone.{go-extent-can, go-extent-puts, go-value-can, go-value-puts, goes-not_moved, goes-not_over}
 use Rattle.stream_changes.proofs.streams.remove_stream.Goals as goal
 
 -- no stream goes so
@@ -29,6 +29,26 @@ returns-in-InPlace-clause-tables g c = λ told.
 
 pub returns-in-InPlace-clause-device : goal.returns-in-InPlace-clause-device
 returns-in-InPlace-clause-device g c = device-same g.D.Disk c.args.mft.now
+
+pub returns-in-IntoClusters-clause-removed : goal.returns-in-IntoClusters-clause-removed
+returns-in-IntoClusters-clause-removed g c = λ told name can.
+    let v = view g.D.Disk c.args.mft.now in
+    absurd (goes-not_moved v v c.args.found.now c.number-number.result c.number-number.ensures c.in-IntoClusters.is name can)
+
+pub returns-in-IntoClusters-clause-places : goal.returns-in-IntoClusters-clause-places
+returns-in-IntoClusters-clause-places g c = λ told.
+    let v = view g.D.Disk c.args.mft.now in
+    let w = c.requires.can told in
+    absurd (goes-not_moved v v c.args.found.now c.number-number.result c.number-number.ensures c.in-IntoClusters.is w.0 w.1)
+
+pub returns-in-IntoClusters-clause-tables : goal.returns-in-IntoClusters-clause-tables
+returns-in-IntoClusters-clause-tables g c = λ told.
+    let v = view g.D.Disk c.args.mft.now in
+    let w = c.requires.can told in
+    absurd (goes-not_moved v v c.args.found.now c.number-number.result c.number-number.ensures c.in-IntoClusters.is w.0 w.1)
+
+pub returns-in-IntoClusters-clause-device : goal.returns-in-IntoClusters-clause-device
+returns-in-IntoClusters-clause-device g c = device-same g.D.Disk c.args.mft.now
 
 -- a value
 pub drop_value-requires-clause-can : goal.drop_value-requires-clause-can

@@ -8,7 +8,7 @@ use Rattle.tree_edit.specs.Staged.{TellsStored}
 use Rattle.stream_changes.specs.Staged.{StagesGiving}
 use Rattle.stream_changes.proofs.GivingLaws.{gives-value}
 use Rattle.stream_changes.proofs.WaysDone.{get-extent-ends, get-extent-can, get-extent-long, get-extent-puts, get-extent-short, get-longer-puts, get-value-can, get-value-puts, get-value-room}
-use Rattle.stream_changes.proofs.WaysDone.{gets-not_over}
+use Rattle.stream_changes.proofs.WaysDone.{gets-not_moved, gets-not_over}
 use Rattle.stream_changes.proofs.streams.resize_stream.Goals as goal
 
 -- no stream goes so
@@ -31,6 +31,26 @@ returns-in-InPlace-clause-tables g c = λ told.
 
 pub returns-in-InPlace-clause-device : goal.returns-in-InPlace-clause-device
 returns-in-InPlace-clause-device g c = device-same g.D.Disk c.args.mft.now
+
+pub returns-in-IntoClusters-clause-resized : goal.returns-in-IntoClusters-clause-resized
+returns-in-IntoClusters-clause-resized g c = λ told name can.
+    let v = view g.D.Disk c.args.mft.now in
+    absurd (gets-not_moved v v c.args.found.now c.number-number.result c.number-number.ensures c.args.size c.in-IntoClusters.is name can)
+
+pub returns-in-IntoClusters-clause-places : goal.returns-in-IntoClusters-clause-places
+returns-in-IntoClusters-clause-places g c = λ told.
+    let v = view g.D.Disk c.args.mft.now in
+    let w = c.requires.can told in
+    absurd (gets-not_moved v v c.args.found.now c.number-number.result c.number-number.ensures c.args.size c.in-IntoClusters.is w.0 w.1)
+
+pub returns-in-IntoClusters-clause-tables : goal.returns-in-IntoClusters-clause-tables
+returns-in-IntoClusters-clause-tables g c = λ told.
+    let v = view g.D.Disk c.args.mft.now in
+    let w = c.requires.can told in
+    absurd (gets-not_moved v v c.args.found.now c.number-number.result c.number-number.ensures c.args.size c.in-IntoClusters.is w.0 w.1)
+
+pub returns-in-IntoClusters-clause-device : goal.returns-in-IntoClusters-clause-device
+returns-in-IntoClusters-clause-device g c = device-same g.D.Disk c.args.mft.now
 
 -- a value
 pub resize_value-requires-clause-can : goal.resize_value-requires-clause-can

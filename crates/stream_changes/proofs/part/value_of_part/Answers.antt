@@ -2,8 +2,8 @@ use Rattle.std.specs.Option.{option_copied}
 use Rattle.std.specs.Prelude.{slice_get}
 use Rattle.attr_view.specs.View.{attribute_of}
 use Rattle.file_record.specs.Held.{parts_held}
-use Rattle.stream_moves.proofs.ValueBytes.{value-held}
-use Rattle.stream_moves.proofs.part.value_of_part.Goals as goal
+use Rattle.stream_changes.proofs.ValueBytes.{value-held}
+use Rattle.stream_changes.proofs.part.value_of_part.Goals as goal
 
 pub returns : goal.returns
 returns c =

@@ -12,7 +12,7 @@ ghost use Rattle.file_record.specs.Held.{parts_held};
 ghost use Rattle.file_record.specs.Written.{PartHeld};
 ghost use Rattle.extent_edits.specs.Extended.{IsNewRun};
 ghost use Rattle.tree_edit.specs.Below.{IsInitialized, StagesRecordOf};
-ghost use Rattle.stream_moves.specs.Moving.{MovesPartWhereItCan};
+ghost use Rattle.stream_changes.specs.Moving.{MovesPartWhereItCan};
 
 use data_runs::Run;
 use file_record::{FileNo, FileParts};

@@ -4,8 +4,8 @@ use Rattle.volume_def.specs.Table.{cluster_bytes}
 use Rattle.volume_def.specs.View.{VolumeView}
 use Rattle.file_record.proofs.ReadLaws.{view-kept}
 use Rattle.tree_edit.proofs.ChangePart.{in-record, part-disk, part-staged}
-use Rattle.stream_moves.proofs.MovedPart.{part-moved}
-use Rattle.stream_moves.proofs.part.move_part.Goals as goal
+use Rattle.stream_changes.proofs.MovedPart.{part-moved}
+use Rattle.stream_changes.proofs.part.move_part.Goals as goal
 
 pub move_value-requires-clause-place : goal.move_value-requires-clause-place
 move_value-requires-clause-place g c =

@@ -9,10 +9,10 @@ use Rattle.edit_def.specs.Purses.{run_size}
 use Rattle.stored_bits.proofs.DeviceKept.{device-same}
 use Rattle.stream_changes.specs.Reached.{HasNoRun}
 use Rattle.stream_changes.proofs.ReachLaws.{few-clusters}
-use Rattle.stream_moves.specs.Moving.{IsFreeRun}
-use Rattle.stream_moves.proofs.LeftRecord.{some-clusters, told-clusters}
-use Rattle.stream_moves.proofs.Moved.{leave-can-write, leave-free, leave-in-use, leave-never, leave-put, leave-short, leave-staged}
-use Rattle.stream_moves.proofs.leaving.leave_record.Goals as goal
+use Rattle.stream_changes.specs.Moving.{IsFreeRun}
+use Rattle.stream_changes.proofs.LeftRecord.{some-clusters, told-clusters}
+use Rattle.stream_changes.proofs.Moved.{leave-can-write, leave-free, leave-in-use, leave-never, leave-put, leave-short, leave-staged}
+use Rattle.stream_changes.proofs.leaving.leave_record.Goals as goal
 
 pub returns-in_err-run-clause-device : goal.returns-in_err-run-clause-device
 returns-in_err-run-clause-device g c = device-same g.D.Disk c.args.mft.now

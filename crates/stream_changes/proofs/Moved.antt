@@ -51,9 +51,9 @@ use Rattle.stream_changes.specs.Staged.{IsOfFree, IsOfGiving, StagesGiving}
 use Rattle.stream_changes.specs.Streams.{FindsNamed}
 use Rattle.stream_changes.proofs.BehindVolume as volume
 use Rattle.stream_changes.proofs.Changed as changed
-use Rattle.stream_moves.specs.Moving.{CanLeave, CannotMovePart, IsFreeRun, LeavesRecord, MovesPart, MovesPartWhereItCan}
-use Rattle.stream_moves.proofs.LeftRecord as left
-use Rattle.stream_moves.proofs.ValueBytes.{value-long}
+use Rattle.stream_changes.specs.Moving.{CanLeave, CannotMovePart, IsFreeRun, LeavesRecord, MovesPart, MovesPartWhereItCan}
+use Rattle.stream_changes.proofs.LeftRecord as left
+use Rattle.stream_changes.proofs.ValueBytes.{value-long}
 
 -- As many clusters are free as it needs.
 pub leave-free : {D : Type 0} (g : Ghosts D) (found : FoundStream) (f size count : ℕ) (a : Mft D g) → IsInUse g a

@@ -3,12 +3,12 @@ ghost use Rattle.std.specs.Prelude.{◌≡◌, ◌∷◌, ◌<◌, [], IfNone, I
 ghost use Rattle.mft_table.specs.Mft.{mounted_of};
 ghost use Rattle.extent_edits.specs.Extended.{IsNewRun};
 ghost use Rattle.stream_changes.specs.Reached.{HasNoRun};
-ghost use Rattle.stream_moves.specs.Moving.{IsFreeRun};
+ghost use Rattle.stream_changes.specs.Moving.{IsFreeRun};
 
+use crate::longer::run_of_free;
 use data_runs::{Run, RunList};
 use mft_table::Mft;
 use std::alloc::{AllocError, Global};
-use stream_changes::run_of_free;
 use vol_disk::Disk;
 
 // A run by itself, as a list.

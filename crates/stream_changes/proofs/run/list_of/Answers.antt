@@ -1,7 +1,7 @@
 use Rattle.std.proofs.Common.{◌≡◌, [], ap, refl, arith}
 use Rattle.ntfs_def.specs.Runs.{total_clusters}
-use Rattle.stream_moves.proofs.LeftRecord.{few-placed}
-use Rattle.stream_moves.proofs.run.list_of.Goals as goal
+use Rattle.stream_changes.proofs.LeftRecord.{few-placed}
+use Rattle.stream_changes.proofs.run.list_of.Goals as goal
 
 pub append-requires-clause-total : goal.append-requires-clause-total
 append-requires-clause-total c =

@@ -27,8 +27,8 @@ use Rattle.moved_streams.proofs.MovedCalls.{lengthened-few, lengthened-moved, wr
 use Rattle.stream_changes.specs.Staged.{IsOfGiving, StagesGiving}
 use Rattle.stream_changes.proofs.Changed.{put-of}
 use Rattle.stream_changes.proofs.ReachLaws.{few-clusters}
-use Rattle.stream_moves.specs.Moving.{CanLeave, CanLengthen, CanMove, LeavesRecord}
-use Rattle.stream_moves.proofs.LeftRecord.{positive, some-clusters}
+use Rattle.stream_changes.specs.Moving.{CanLeave, CanLengthen, CanMove, LeavesRecord}
+use Rattle.stream_changes.proofs.LeftRecord.{positive, some-clusters}
 
 -- THE VALUE THAT IS HELD is the one that the file shows.
 pub held-value : (v : VolumeView) (found : FoundStream) (f size : ℕ) (can : CanLeave v found f size) (held : FileParts) (o : Option (List ℕ))

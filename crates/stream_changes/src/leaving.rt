@@ -9,7 +9,7 @@ ghost use Rattle.file_record.specs.FileNos.{CountsNo, IsReadNo};
 ghost use Rattle.stored_bits.specs.Given.{KeepsDevice};
 ghost use Rattle.tree_edit.specs.Staged.{TellsStored};
 ghost use Rattle.stream_changes.specs.Staged.{StagesGiving};
-ghost use Rattle.stream_moves.specs.Moving.{CanLeave, LeavesRecord};
+ghost use Rattle.stream_changes.specs.Moving.{CanLeave, LeavesRecord};
 
 use crate::part::move_part;
 use crate::run::run_to_take;

@@ -21,7 +21,7 @@ use Rattle.file_record.specs.declared.parts.FileParts.{FileParts}
 use Rattle.value_moves.specs.Moved.{CanBeMoved, MovesValue, MovesWhereItCan, moved_len}
 use Rattle.tree_edit.specs.Below.{IsInitialized}
 use Rattle.tree_edit.proofs.ChangePart as part
-use Rattle.stream_moves.specs.Moving.{MovesPartWhereItCan}
+use Rattle.stream_changes.specs.Moving.{MovesPartWhereItCan}
 
 module _ (file : FileParts) (k left i : ℕ) (inside : k < length (held_of file))
     (place : i ≡ length (flat_map attributes_in (take k (held_of file))) + left)

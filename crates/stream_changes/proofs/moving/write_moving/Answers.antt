@@ -6,8 +6,8 @@ use Rattle.volume_def.specs.Table.{cluster_bytes}
 use Rattle.mft_table.specs.Mft.{view}
 use Rattle.tree_model.specs.Streams.{written}
 use Rattle.stored_bits.proofs.DeviceKept.{device-same}
-use Rattle.stream_moves.proofs.MovedCalls.{few-sectors, held-value, left-written, staged-more}
-use Rattle.stream_moves.proofs.moving.write_moving.Goals as goal
+use Rattle.stream_changes.proofs.MovedCalls.{few-sectors, held-value, left-written, staged-more}
+use Rattle.stream_changes.proofs.moving.write_moving.Goals as goal
 
 pub leave_record-requires-clause-some : goal.leave_record-requires-clause-some
 leave_record-requires-clause-some g c =

@@ -47,8 +47,8 @@ use Rattle.stream_changes.specs.Reached.{IsRunOf}
 use Rattle.stream_changes.specs.Staged.{IsOfFree}
 use Rattle.stream_changes.proofs.OwnRuns.{longer-own, run-placed}
 use Rattle.stream_changes.proofs.ReachLaws.{few-clusters}
-use Rattle.stream_moves.specs.Moving.{CanLeave, CannotMovePart}
-use Rattle.stream_moves.proofs.ValueBytes.{value-long}
+use Rattle.stream_changes.specs.Moving.{CanLeave, CannotMovePart}
+use Rattle.stream_changes.proofs.ValueBytes.{value-long}
 
 -- NUMBERS: some bytes need a cluster, and few enough can be told.
 pub some-clusters : (bytes size : ℕ) → 0 < bytes → 0 < size → 0 < clusters_for bytes size

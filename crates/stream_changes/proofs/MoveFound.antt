@@ -46,7 +46,7 @@ use Rattle.tree_edit.specs.declared.writable.Writable.{Writable}
 use Rattle.tree_edit.proofs.EditableLaws.{parts-are}
 use Rattle.tree_edit.proofs.StreamToWrite.{content-is}
 use Rattle.stream_changes.specs.Streams.{FindsNamed}
-use Rattle.stream_moves.specs.Moving.{CanLeave, CanLengthen, CanMove}
+use Rattle.stream_changes.specs.Moving.{CanLeave, CanLengthen, CanMove}
 
 -- a value, of what is one
 content-is-value : (content : Content) (value : List ℕ) → content_value content ≡ Some value → content ≡ Value value
@@ -112,7 +112,7 @@ module _ (v : VolumeView) (found : Writable) (name : List ℕ) (can : ℕ → Bo
   kind = eqb-true s.part.kind DATA (and_parts (s.part.kind == DATA) _ among.1).0
 
   -- WHAT IS SHOWN of it
-  named : FindsNamed v f
+  unfoldable pub named : FindsNamed v f
   named = record {
     can = is.settable.can;
     asked = name;
@@ -186,7 +186,7 @@ module _ (v : VolumeView) (found : Writable) (name : List ℕ) (can : ℕ → Bo
           ap (λ (o : Option Part). 72 + option_map_or (λ (part : Part). length part.name) o 0) first-there in
           omega (arith, fits, named_so, had)
 
-      leave-can : CanLeave v found.stream f size
+      unfoldable pub leave-can : CanLeave v found.stream f size
       unfolding named
       leave-can = record {
         named = named;
@@ -218,7 +218,7 @@ module _ (v : VolumeView) (found : Writable) (name : List ℕ) (can : ℕ → Bo
     last = and_parts (can_leave v f there size count) (has_placed_bits v)
         (and_parts (not (stays_value v (read v) (named_in (read v) name f) size)) _ behind).1
 
-    leave-so : CanLeave v found.stream f size
+    unfoldable pub leave-so : CanLeave v found.stream f size
     leave-so = leave-can value-is size count last.0 free last.1
 
     longer : length bytes < size
@@ -232,7 +232,7 @@ module _ (v : VolumeView) (found : Writable) (name : List ℕ) (can : ℕ → Bo
         (sym (ap (gets_no_longer size) (content-is v found.held is.held name found.stream s ∙ ap Some is.stream.holds)) ∙ short)
 
   -- BYTES CAN BE WRITTEN INTO IT so ..
-  pub can-move : (at len : ℕ) → moves_by_write v (read v) (named_in (read v) name f) at len ≡ true
+  unfoldable pub can-move : (at len : ℕ) → moves_by_write v (read v) (named_in (read v) name f) at len ≡ true
       → has_free_run v (new_clusters (cluster_bytes v.layout) there at len) ≡ true → CanMove v found.stream f at len
   unfolding leave-so leave-can named
   can-move at len moves free =

@@ -5,8 +5,8 @@ use Rattle.ntfs_def.specs.Rounded.{clusters_for}
 use Rattle.volume_def.specs.Table.{cluster_bytes}
 use Rattle.mft_table.specs.Mft.{view}
 use Rattle.stored_bits.proofs.DeviceKept.{device-same}
-use Rattle.stream_moves.proofs.MovedCalls.{has-some, held-value, left-resized, staged-more}
-use Rattle.stream_moves.proofs.moving.lengthen_moving.Goals as goal
+use Rattle.stream_changes.proofs.MovedCalls.{has-some, held-value, left-resized, staged-more}
+use Rattle.stream_changes.proofs.moving.lengthen_moving.Goals as goal
 
 pub leave_record-requires-clause-last : goal.leave_record-requires-clause-last
 leave_record-requires-clause-last g c = λ told.

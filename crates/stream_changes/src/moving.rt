@@ -11,7 +11,7 @@ ghost use Rattle.stored_bits.specs.Given.{KeepsDevice};
 ghost use Rattle.value_edits.specs.ValueEdits.{PutsBytes, ResizesStream};
 ghost use Rattle.tree_edit.specs.Staged.{TellsStored};
 ghost use Rattle.stream_changes.specs.Staged.{StagesGiving};
-ghost use Rattle.stream_moves.specs.Moving.{CanLengthen, CanMove};
+ghost use Rattle.stream_changes.specs.Moving.{CanLengthen, CanMove};
 
 use crate::leaving::leave_record;
 use crate::part::value_of_part;

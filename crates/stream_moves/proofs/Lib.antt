@@ -1,6 +1,0 @@
-mod MovedPart
-mod ValueBytes
-mod LeftRecord
-mod Moved
-mod MovedCalls
-pub mod MoveFound
