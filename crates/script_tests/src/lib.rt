@@ -5,6 +5,8 @@
 #[cfg(test)]
 mod deep;
 #[cfg(test)]
+mod lines;
+#[cfg(test)]
 mod lists;
 #[cfg(test)]
 mod opens;
