@@ -104,6 +104,3 @@ pub struct Entries<'r> {
     ghost within: { next ≤ count },
     ghost place: { at ≡ list_entry_place bytes.now next },
 }
-
-#[cfg(test)]
-mod tests;

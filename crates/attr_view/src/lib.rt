@@ -66,6 +66,3 @@ pub struct Attributes<'r> {
     ghost within: { next ≤ count },
     ghost place: { at ≡ attribute_place block.now next },
 }
-
-#[cfg(test)]
-mod tests;

@@ -8,8 +8,6 @@ ghost use Rattle.cluster_bitmap.specs.Flags.{IsFirstRun, IsFree, IsTaken, with_g
 ghost use Rattle.cluster_bitmap.specs.Words.{bit_of, clear_below, bit_for, IsClear, seen};
 
 mod laws;
-#[cfg(test)]
-mod tests;
 
 use byteorder::{ByteOrder, LittleEndian};
 pub use laws::{given_range_laws, taken_range_laws};

@@ -8,8 +8,6 @@ ghost use Rattle.std.specs.Cmp.{IsTotalOrder};
 
 mod names;
 mod numbers;
-#[cfg(test)]
-mod tests;
 
 pub use names::{FileNameOrder, FoldedOrder};
 pub use numbers::{HashOrder, IdOrder, WordsOrder};

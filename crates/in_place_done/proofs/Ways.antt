@@ -2,15 +2,16 @@
 -- takes the one or the other.
 use Rattle.std.proofs.Common.{◌≡◌, ◌⊎◌, ◌+◌, ◌&&◌, ◌||◌, not, ℕ, Bool, true, false, List, length, Option, Some, None, inl, inr, refl}
 use Rattle.std.proofs.lemmas.Bool.{and_parts, or_cases}
-use Rattle.std.specs.Prelude.{is_some}
+use Rattle.std.specs.Prelude.{is_some, nat_le}
 use Rattle.volume_def.specs.Files.{Part}
 use Rattle.volume_def.specs.Table.{cluster_bytes}
 use Rattle.volume_def.specs.Values.{first_part}
 use Rattle.volume_def.specs.View.{VolumeView}
 use Rattle.tree_model.specs.Staging.{is_built_for}
-use Rattle.tree_model.specs.Ways.{can_end, can_reach, fits_in_record, gets_no_longer, has_no_list, in_extent, is_done_in_clusters}
-use Rattle.tree_model.specs.Ways.{is_done_in_directory, is_done_in_place, is_done_in_record, is_extent_alone, is_value_alone, stays_value}
-use Rattle.tree_model.specs.StreamRoom.{goes_over, stream_parts, stream_value}
+use Rattle.tree_model.specs.Ways.{can_end, can_reach, ends_in_clusters, fits_in_record, gets_no_longer, goes_into_clusters, has_no_list}
+use Rattle.tree_model.specs.Ways.{in_extent, is_done_in_clusters, is_done_in_directory, is_done_in_place, is_done_in_record}
+use Rattle.tree_model.specs.Ways.{is_extent_alone, is_value_alone, moves_by_write, moves_into_clusters, stays_value}
+use Rattle.tree_model.specs.StreamRoom.{goes_over, new_clusters, stream_parts, stream_value, stream_value_len}
 use Rattle.tree_model.specs.Subjects.{Located}
 use Rattle.tree_model.specs.Tree.{Tree}
 use Rattle.tree_model.specs.declared.command.Command.{Command}
@@ -134,17 +135,53 @@ extent-some : (o : Option Part) → in_extent o ≡ true → is_some o ≡ true
 extent-some None is = is
 extent-some (Some part) is = refl
 
-clusters-alone : (view : VolumeView) (tree : Tree) (command : Command) (at : Located) → is_done_in_clusters view tree command at ≡ true
-    → is_extent_alone view tree at ≡ true
-clusters-alone view tree (c.Write path stream from bytes) at is =
-    (and_parts (is_extent_alone view tree at) (can_reach view at.file (stream_parts view tree at) from (length bytes))
-    (and_parts (not (is_done_in_place view tree (c.Write path stream from bytes) at)) _ is).1).0
-clusters-alone view tree (c.Hwrite handle from bytes) at is =
-    (and_parts (is_extent_alone view tree at) (can_reach view at.file (stream_parts view tree at) from (length bytes))
-    (and_parts (not (is_done_in_place view tree (c.Hwrite handle from bytes) at)) _ is).1).0
-clusters-alone view tree (c.Truncate path stream size) at is = (and_parts (is_extent_alone view tree at) (can_end view tree at size) is).0
-clusters-alone view tree (c.Rmstream path name) at is = is
-clusters-alone view tree other at is = cc
+-- .. of one that leaves its record too
+moves-some : (view : VolumeView) (tree : Tree) (at : Located) (size count : ℕ) → moves_into_clusters view tree at size count ≡ true
+    → is_some (first_part (stream_parts view tree at)) ≡ true
+moves-some view tree at size count is =
+    value-some (stream_parts view tree at)
+    (and_parts (is_some (stream_value (stream_parts view tree at))) (has_no_list view at.file)
+    (and_parts (is_value_alone view tree at) _ is).0).0
+
+lies-some : (view : VolumeView) (tree : Tree) (at : Located) → is_extent_alone view tree at ≡ true
+    → is_some (first_part (stream_parts view tree at)) ≡ true
+lies-some view tree at is =
+    extent-some (first_part (stream_parts view tree at)) (and_parts (in_extent (first_part (stream_parts view tree at))) _ is).0
+
+goes-some : (view : VolumeView) (tree : Tree) (at : Located) (from len : ℕ) → goes_into_clusters view tree at from len ≡ true
+    → is_some (first_part (stream_parts view tree at)) ≡ true
+goes-some view tree at from len is =
+    let extents = stream_parts view tree at in
+    let reaches = can_reach view at.file extents from len in
+    elim (or_cases (is_extent_alone view tree at && reaches) (moves_by_write view tree at from len) is) [
+      | inl lies ↦ lies-some view tree at (and_parts (is_extent_alone view tree at) reaches lies).0
+      | inr moves ↦
+          let count = new_clusters (cluster_bytes view.layout) extents from len in
+          moves-some view tree at (from + len) count
+          (and_parts (nat_le from (stream_value_len extents)) (moves_into_clusters view tree at (from + len) count) moves).1
+    ]
+
+ends-some : (view : VolumeView) (tree : Tree) (at : Located) (size : ℕ) → ends_in_clusters view tree at size ≡ true
+    → is_some (first_part (stream_parts view tree at)) ≡ true
+ends-some view tree at size is =
+    let count = new_clusters (cluster_bytes view.layout) (stream_parts view tree at) 0 0 in
+    elim (or_cases (is_extent_alone view tree at && can_end view tree at size) (moves_into_clusters view tree at size count) is) [
+      | inl lies ↦ lies-some view tree at (and_parts (is_extent_alone view tree at) (can_end view tree at size) lies).0
+      | inr moves ↦ moves-some view tree at size count moves
+    ]
+
+clusters-some : (view : VolumeView) (tree : Tree) (command : Command) (at : Located) → is_done_in_clusters view tree command at ≡ true
+    → is_some (first_part (stream_parts view tree at)) ≡ true
+clusters-some view tree (c.Write path stream from bytes) at is =
+    goes-some view tree at from (length bytes)
+    (and_parts (not (is_done_in_place view tree (c.Write path stream from bytes) at)) (goes_into_clusters view tree at from (length bytes))
+    is).1
+clusters-some view tree (c.Hwrite handle from bytes) at is =
+    goes-some view tree at from (length bytes)
+    (and_parts (not (is_done_in_place view tree (c.Hwrite handle from bytes) at)) (goes_into_clusters view tree at from (length bytes)) is).1
+clusters-some view tree (c.Truncate path stream size) at is = ends-some view tree at size is
+clusters-some view tree (c.Rmstream path name) at is = lies-some view tree at is
+clusters-some view tree other at is = cc
 
 alone-some : (view : VolumeView) (tree : Tree) (command : Command) (at : Located) → IsDoneAlone view tree command at
     → is_some (first_part (stream_parts view tree at)) ≡ true
@@ -152,9 +189,7 @@ alone-some view tree command at (inl is) =
     value-some (stream_parts view tree at)
     (and_parts (is_some (stream_value (stream_parts view tree at))) (has_no_list view at.file)
     (record-alone view tree command at is)).0
-alone-some view tree command at (inr is) =
-    extent-some (first_part (stream_parts view tree at))
-    (and_parts (in_extent (first_part (stream_parts view tree at))) _ (clusters-alone view tree command at is)).0
+alone-some view tree command at (inr is) = clusters-some view tree command at is
 
 pub stream-some : (view : VolumeView) (tree : Tree) (command : Command) (at : Located) → is_done command ≡ true
     → edits_stream command ≡ true → is_built_for view tree command at ≡ true → is_some (first_part (stream_parts view tree at)) ≡ true

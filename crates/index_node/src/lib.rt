@@ -18,8 +18,6 @@ mod root;
 mod seek;
 mod shape;
 mod split;
-#[cfg(test)]
-mod tests;
 mod view;
 mod written;
 

@@ -6,6 +6,8 @@ mod edits;
 #[cfg(test)]
 mod names;
 #[cfg(test)]
+mod node_edits;
+#[cfg(test)]
 mod nodes;
 #[cfg(test)]
 mod root_directory;

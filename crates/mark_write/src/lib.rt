@@ -8,8 +8,6 @@ mod edit;
 mod flag;
 mod log;
 mod mark;
-#[cfg(test)]
-mod tests;
 
 pub use edit::finish_edit;
 pub use flag::Flag;

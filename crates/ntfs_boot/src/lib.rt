@@ -5,9 +5,6 @@ ghost use Rattle.std.specs.Prelude.{◌≡◌, ◌^◌, ◌<◌, ◌↔◌, None
 ghost use Rattle.ntfs_def.specs.Boot.{boot_failing, cluster_sectors, has_cluster_sectors, has_end_mark, has_name, is_ntfs, spelled_size};
 ghost use Rattle.ntfs_boot.specs.Geometry.{FitsDisk, geometry_of, number_of};
 
-#[cfg(test)]
-mod tests;
-
 use ntfs_def::boot_sector::{
     CLUSTER_SECTORS, END_MARK, INDEX_SIZE, MFT, MIRROR, NAME, RECORD_SIZE, SECTOR_SIZE, SECTORS,
     SERIAL,

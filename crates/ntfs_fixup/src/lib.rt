@@ -8,8 +8,6 @@ ghost use Rattle.ntfs_fixup.specs.FixFault.{Refuses};
 ghost use Rattle.ntfs_fixup.specs.Marks.{Marks};
 
 mod laws;
-#[cfg(test)]
-mod tests;
 
 pub use laws::{edited_alike, one_answer, patched_alike, sealed_opens};
 use ntfs_def::protected_block::{ARRAY_COUNT, ARRAY_PLACE};

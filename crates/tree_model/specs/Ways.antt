@@ -1,5 +1,4 @@
--- THE WAYS in which edits are done: in place, in the record of their file, in clusters, or in a directory; and, not built yet, out of the
--- record into clusters.
+-- THE WAYS in which edits are done: in place, in the record of their file, in clusters, or in a directory.
 use Rattle.std.specs.Prelude.{ℕ, ◌+◌, ◌*◌, ◌-◌, ◌==◌, ◌&&◌, ◌||◌, ◌++◌, nat_le, nat_lt, not, Bool, true, false, List, length, count_by}
 use Rattle.std.specs.Prelude.{Option, is_none, is_some}
 use Rattle.std.specs.Prelude.{option_and_then}
@@ -116,20 +115,8 @@ can_reach view f extents from len =
     goes_behind (cluster_bytes view.layout) extents from len
     && can_take view f (new_clusters (cluster_bytes view.layout) extents from len)
 
-abbrev pub is_done_in_clusters : VolumeView → Tree → Command → Located → Bool
-is_done_in_clusters view tree (c.Write path stream from bytes) at =
-    not (is_done_in_place view tree (c.Write path stream from bytes) at)
-    && (is_extent_alone view tree at && can_reach view at.file (stream_parts view tree at) from (length bytes))
-is_done_in_clusters view tree (c.Hwrite handle from bytes) at =
-    not (is_done_in_place view tree (c.Hwrite handle from bytes) at)
-    && (is_extent_alone view tree at && can_reach view at.file (stream_parts view tree at) from (length bytes))
-is_done_in_clusters view tree (c.Truncate path stream size) at = is_extent_alone view tree at && can_end view tree at size
-is_done_in_clusters view tree (c.Rmstream path name) at = is_extent_alone view tree at
-is_done_in_clusters view tree other at = false
-
--- What MOVES INTO CLUSTERS, which is not built yet: a value that does not stay in its record, of a file without an attribute list, becomes
--- one run of as many clusters as its bytes then need, all of which the bill of the command has. The record has the bytes of the extent that
--- comes for it: a header of 64, the name, and 24 for the run, less the 24 of the header of a value; 7 more, as many as the name may be
+-- Or it MOVES INTO CLUSTERS: a value that does not stay in its record, of a file without an attribute list, becomes one run of as many
+-- clusters as its bytes then need, all of which the bill of the command has. The record has the bytes of the extent that comes for it: a header of 64, the name, and 24 for the run, less the 24 of the header of a value; 7 more, as many as the name may be
 -- rounded up by, and one. The value has no flags, as the extent then.
 abbrev pub moved_bytes : List Part → ℕ
 moved_bytes extents = 72 + option_map_or (λ (part : Part). length part.name) (first_part extents) 0
@@ -161,16 +148,25 @@ moves_by_write view tree at from len =
     nat_le from (stream_value_len (stream_parts view tree at))
     && moves_into_clusters view tree at (from + len) (new_clusters (cluster_bytes view.layout) (stream_parts view tree at) from len)
 
-abbrev pub is_done_by_moving : VolumeView → Tree → Command → Located → Bool
-is_done_by_moving view tree (c.Write path stream from bytes) at =
-    not (is_done_in_place view tree (c.Write path stream from bytes) at)
-    && moves_by_write view tree at from (length bytes)
-is_done_by_moving view tree (c.Hwrite handle from bytes) at =
-    not (is_done_in_place view tree (c.Hwrite handle from bytes) at)
-    && moves_by_write view tree at from (length bytes)
-is_done_by_moving view tree (c.Truncate path stream size) at =
-    moves_into_clusters view tree at size (new_clusters (cluster_bytes view.layout) (stream_parts view tree at) 0 0)
-is_done_by_moving view tree other at = false
+-- Bytes go into clusters so, or so, ..
+abbrev pub goes_into_clusters : VolumeView → Tree → Located → ℕ → ℕ → Bool
+goes_into_clusters view tree at from len =
+    (is_extent_alone view tree at && can_reach view at.file (stream_parts view tree at) from len) || moves_by_write view tree at from len
+
+-- .. and a stream gets another length there so, or so.
+abbrev pub ends_in_clusters : VolumeView → Tree → Located → ℕ → Bool
+ends_in_clusters view tree at size =
+    (is_extent_alone view tree at && can_end view tree at size)
+    || moves_into_clusters view tree at size (new_clusters (cluster_bytes view.layout) (stream_parts view tree at) 0 0)
+
+abbrev pub is_done_in_clusters : VolumeView → Tree → Command → Located → Bool
+is_done_in_clusters view tree (c.Write path stream from bytes) at =
+    not (is_done_in_place view tree (c.Write path stream from bytes) at) && goes_into_clusters view tree at from (length bytes)
+is_done_in_clusters view tree (c.Hwrite handle from bytes) at =
+    not (is_done_in_place view tree (c.Hwrite handle from bytes) at) && goes_into_clusters view tree at from (length bytes)
+is_done_in_clusters view tree (c.Truncate path stream size) at = ends_in_clusters view tree at size
+is_done_in_clusters view tree (c.Rmstream path name) at = is_extent_alone view tree at
+is_done_in_clusters view tree other at = false
 
 -- What is done IN A DIRECTORY: a name comes, of a file, or a directory, that is made for it. The index has room for its entry: the header
 -- of 16 bytes, and the value of a $FILE_NAME. The directory has no name in a record that $MFTMirr copies, since its own entries tell its

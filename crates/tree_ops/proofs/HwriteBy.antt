@@ -1,9 +1,9 @@
 -- WHAT IS DUE FOR `hwrite`: where its bytes can be written into the stream of a handle that may write it it is done, unless there is no room
 -- for what it asks, and else refused so.
 use Rattle.std.proofs.Common.{◌≡◌, ◌==◌, ◌&&◌, ◌||◌, ◌+◌, ℕ, Bool, true, false, List, ◌∷◌, [], not, length, Option, Some, None, Result, Ok, Err}
-use Rattle.std.proofs.Common.{refl, sym, ap, ◌∙◌, arith, if◌then◌else◌}
+use Rattle.std.proofs.Common.{inl, inr, refl, sym, ap, ◌∙◌, arith, if◌then◌else◌}
 use Rattle.std.specs.Borrow.{Bor}
-use Rattle.std.specs.Prelude.{find, is_some}
+use Rattle.std.specs.Prelude.{find, is_some, nat_le}
 use Rattle.std.specs.Option.{option_map_or}
 use Rattle.std.proofs.lemmas.Bool.{and_parts, not-true}
 use Rattle.volume_def.specs.Table.{cluster_bytes}
@@ -18,9 +18,9 @@ use Rattle.tree_model.specs.Reading.{read}
 use Rattle.tree_model.specs.Refusals.{Facts, first_some, outcome, refusal, unless, when}
 use Rattle.tree_model.specs.Shown.{plain_bytes}
 use Rattle.tree_model.specs.Staging.{cannot_edit}
-use Rattle.tree_model.specs.Ways.{can_reach, fits_in_record, gets_no_longer, has_no_list, has_placed_bits, in_extent}
+use Rattle.tree_model.specs.Ways.{can_leave, can_reach, fits_in_record, gets_no_longer, has_no_list, has_placed_bits, in_extent}
 use Rattle.tree_model.specs.Step.{answered, due}
-use Rattle.tree_model.specs.StreamRoom.{goes_over, is_in_place, new_clusters, stream_parts, stream_value}
+use Rattle.tree_model.specs.StreamRoom.{goes_over, is_in_place, new_clusters, stream_parts, stream_value, stream_value_len}
 use Rattle.tree_model.specs.Subjects.{Located, Machine, at_file, at_open, content_named, locate, subject_of, with_stream}
 use Rattle.tree_model.specs.Tree.{node_of}
 use Rattle.tree_model.specs.declared.command.Command.{Command}
@@ -41,7 +41,7 @@ use Rattle.tree_ops.proofs.FileEditBy.{IsFileEditBy, LeadsToFile}
 use Rattle.tree_ops.proofs.Judged.{can-of, if_written_by, last-written, last_two, three-ways, with_at, written-file}
 use Rattle.tree_ops.proofs.RoomAsked.{asked-unless, extent-there, located-counted, not-within, value-there}
 use Rattle.tree_ops.proofs.StreamBy.{edited-file}
-use Rattle.tree_ops.proofs.WriteBy.{clusters-so, parted, puts-in, record-so}
+use Rattle.tree_ops.proofs.WriteBy.{lies-or_moves, parted, puts-in, record-so}
 
 -- THE REFUSALS in their order, and what is wanted, by what each case asks
 abbrev judge : Option Content → Bool → Bool → Option No → Option No
@@ -116,6 +116,14 @@ module _ (facts : Facts) (view : VolumeView) (opens : List OpenEntry) (now sessi
   abbrev reaches : OpenEntry → Bool
   reaches entry = can_reach view entry.file (stream_parts view (read view) (at entry)) from len
 
+  -- .. or is a value that can leave its record for them
+  abbrev begins : OpenEntry → Bool
+  begins entry = nat_le from (stream_value_len (stream_parts view (read view) (at entry)))
+
+  abbrev leaves : OpenEntry → Bool
+  leaves entry = can_leave view entry.file (stream_parts view (read view) (at entry)) (from + len)
+      (new_clusters (cluster_bytes view.layout) (stream_parts view (read view) (at entry)) from len)
+
   abbrev over : OpenEntry → Bool
   over entry = can_write_over view entry.stream from len entry.file
 
@@ -162,10 +170,11 @@ module _ (facts : Facts) (view : VolumeView) (opens : List OpenEntry) (now sessi
 
   behind-room : (entry : OpenEntry) → over entry ≡ false → reach entry ≡ true → facts.no_room m command (at entry) ≡ behind entry
   behind-room entry other is =
-      let built = clusters-so (cannot entry) (goes entry) (extent entry) (one entry) (alone entry) (has_placed_bits view) (reaches entry) other is in
-      let stays = (and_parts (not (goes entry)) _ built).1 in
-      let both = (and_parts (extent entry && (one entry && (alone entry && has_placed_bits view))) (reaches entry) stays).0 in
-      asked-of entry (extent-there view (read view) (at entry) (and_parts (extent entry) _ both).0)
+      asked-of entry (elim (lies-or_moves (cannot entry) (value entry) (alone entry) (fits entry) (extent entry) (one entry)
+      (has_placed_bits view) (reaches entry) (begins entry) (leaves entry) is) [
+        | inl lies ↦ extent-there view (read view) (at entry) lies
+        | inr moves ↦ value-there view (read view) (at entry) moves
+      ])
 
   abbrev decided : OpenEntry → Result ℕ No
   decided entry = if_written_by (over entry) (can entry) (reach entry) (asked entry) (behind entry) entry.file
@@ -182,7 +191,7 @@ module _ (facts : Facts) (view : VolumeView) (opens : List OpenEntry) (now sessi
       ap (λ b. cannot_edit b (read view) entry.file || not (facts.built_for m command (at entry))) w
       ∙ ap (λ b. cannot entry || not b) (o ∙ three-ways view (read view) command (at entry) refl)
       ∙ parted (cannot entry) (goes entry) (value entry) (alone entry) (fits entry)
-      (extent entry) (one entry) (has_placed_bits view) (reaches entry) in
+      (extent entry) (one entry) (has_placed_bits view) (reaches entry) (begins entry) (leaves entry) in
       rw (n, both) refl
 
   outcome-is : (entry : OpenEntry) → found_open ≡ Some entry

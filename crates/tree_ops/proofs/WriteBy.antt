@@ -1,9 +1,9 @@
 -- WHAT IS DUE FOR `write`: where its bytes go over bytes of the stream that its path leads to, or that is a value which can be as long as they
 -- need, it is done, unless there is no room for what it asks, and else refused so.
-use Rattle.std.proofs.Common.{◌≡◌, ◌==◌, ◌&&◌, ◌||◌, ◌+◌, ℕ, Bool, true, false, List, not, length, Option, None, Ok, Err}
-use Rattle.std.proofs.Common.{refl, sym, ap, subst, ◌∙◌, arith, if◌then◌else◌}
+use Rattle.std.proofs.Common.{◌≡◌, ◌⊎◌, ◌==◌, ◌&&◌, ◌||◌, ◌+◌, ℕ, Bool, true, false, List, not, length, Option, None, Ok, Err}
+use Rattle.std.proofs.Common.{inl, inr, refl, sym, ap, subst, ◌∙◌, arith, if◌then◌else◌}
 use Rattle.std.specs.Borrow.{Bor}
-use Rattle.std.specs.Prelude.{is_some}
+use Rattle.std.specs.Prelude.{is_some, nat_le}
 use Rattle.std.proofs.lemmas.Bool.{and_parts, not-true}
 use Rattle.volume_def.specs.Table.{cluster_bytes}
 use Rattle.volume_def.specs.Files.{Part}
@@ -17,9 +17,9 @@ use Rattle.tree_model.specs.Paths.{and_then, found_file, resolve}
 use Rattle.tree_model.specs.Reading.{read}
 use Rattle.tree_model.specs.Refusals.{Facts, outcome, refusal, unless}
 use Rattle.tree_model.specs.Staging.{cannot_edit}
-use Rattle.tree_model.specs.Ways.{can_reach, fits_in_record, gets_no_longer, has_no_list, has_placed_bits, in_extent}
+use Rattle.tree_model.specs.Ways.{can_leave, can_reach, fits_in_record, gets_no_longer, has_free_run, has_no_list, has_placed_bits, in_extent}
 use Rattle.tree_model.specs.Step.{due}
-use Rattle.tree_model.specs.StreamRoom.{goes_over, is_in_place, new_clusters, stream_parts, stream_value}
+use Rattle.tree_model.specs.StreamRoom.{goes_over, is_in_place, new_clusters, stream_parts, stream_value, stream_value_len}
 use Rattle.tree_model.specs.Subjects.{Located, Machine, at_found, content_named, is_directory, locate, stream_name, subject_of, with_stream}
 use Rattle.tree_model.specs.Tree.{node_of}
 use Rattle.tree_model.specs.declared.command.Command.{Command}
@@ -46,15 +46,36 @@ use Rattle.tree_ops.proofs.StreamBy.{FindsStream, edited-file, edited-so, edited
 use Rattle.tree_ops.proofs.StreamFound.{bytes-so, spelt-so, tellable-so, there-so}
 
 -- It is not built unless it is done in one of the three ways.
-pub parted : (cannot over value alone fits extent one placed reaches : Bool)
+pub parted : (cannot over value alone fits extent one placed reaches begins leaves : Bool)
     → (cannot || not (over || ((not over && ((value && alone) && fits))
-    || (not over && ((extent && (one && (alone && placed))) && reaches)))))
+    || (not over && (((extent && (one && (alone && placed))) && reaches)
+    || (begins && ((value && alone) && (not ((value && alone) && fits) && (leaves && placed)))))))))
     ≡ not ((not cannot && over) || ((((not cannot && value) && alone) && fits)
-    || (((not cannot && (extent && (one && alone))) && reaches) && placed)))
-parted true over value alone fits extent one placed reaches = refl
-parted false true value alone fits extent one placed reaches = refl
-parted false false value alone fits extent one placed reaches =
-    ap (λ b. not (((value && alone) && fits) || b)) (turned extent one alone placed reaches)
+    || ((((not cannot && (extent && (one && alone))) && reaches)
+    || (begins && (((not cannot && value) && alone) && (not (((not cannot && value) && alone) && fits) && leaves)))) && placed)))
+parted true over value alone fits extent one placed reaches true leaves = refl
+parted true over value alone fits extent one placed reaches false leaves = refl
+parted false true value alone fits extent one placed reaches begins leaves = refl
+parted false false value alone fits extent one placed reaches begins leaves =
+    ap (λ b. not (((value && alone) && fits) || b))
+    (ap (λ b. b || (begins && ((value && alone) && (not ((value && alone) && fits) && (leaves && placed)))))
+    (turned extent one alone placed reaches)
+    ∙ ap (λ b. (((extent && (one && alone)) && reaches) && placed) || b)
+    (moved begins (value && alone) (not ((value && alone) && fits)) leaves placed)
+    ∙ either-placed ((extent && (one && alone)) && reaches) (begins && ((value && alone) && (not ((value && alone) && fits) && leaves))) placed)
+  where
+    moved : (begins value other leaves placed : Bool)
+        → (begins && (value && (other && (leaves && placed)))) ≡ ((begins && (value && (other && leaves))) && placed)
+    moved false value other leaves placed = refl
+    moved true false other leaves placed = refl
+    moved true true false leaves placed = refl
+    moved true true true leaves placed = refl
+
+    either-placed : (lies moves placed : Bool) → ((lies && placed) || (moves && placed)) ≡ ((lies || moves) && placed)
+    either-placed true moves true = refl
+    either-placed true true false = refl
+    either-placed true false false = refl
+    either-placed false moves placed = refl
 
 pub record-so : (cannot over value alone fits : Bool) → (not cannot && over) ≡ false → (((not cannot && value) && alone) && fits) ≡ true
     → (not over && ((value && alone) && fits)) ≡ true
@@ -62,12 +83,17 @@ record-so true over value alone fits other is = cc
 record-so false true value alone fits other is = cc
 record-so false false value alone fits other is = is
 
-pub clusters-so : (cannot over extent one alone placed reaches : Bool) → (not cannot && over) ≡ false
-    → (((not cannot && (extent && (one && alone))) && reaches) && placed) ≡ true
-    → (not over && ((extent && (one && (alone && placed))) && reaches)) ≡ true
-clusters-so true over extent one alone placed reaches other is = cc
-clusters-so false true extent one alone placed reaches other is = cc
-clusters-so false false extent one alone placed reaches other is = turned extent one alone placed reaches ∙ is
+-- a stream into which bytes go in clusters lies there, or is a value
+pub lies-or_moves : (cannot value alone fits extent one placed reaches begins leaves : Bool)
+    → ((((not cannot && (extent && (one && alone))) && reaches)
+    || (begins && (((not cannot && value) && alone) && (not (((not cannot && value) && alone) && fits) && leaves)))) && placed) ≡ true
+    → (extent ≡ true) ⊎ (value ≡ true)
+lies-or_moves cannot value alone fits true one placed reaches begins leaves is = inl refl
+lies-or_moves cannot true alone fits false one placed reaches begins leaves is = inr refl
+lies-or_moves true false alone fits false one placed reaches true leaves is = cc
+lies-or_moves true false alone fits false one placed reaches false leaves is = cc
+lies-or_moves false false alone fits false one placed reaches true leaves is = cc
+lies-or_moves false false alone fits false one placed reaches false leaves is = cc
 
 -- what can be edited, and is not gone over, has other bytes there
 none-over : (cannot over value alone fits : Bool) → (not (not cannot && over) && (((not cannot && value) && alone) && fits)) ≡ true
@@ -76,11 +102,13 @@ none-over true over value alone fits e = cc
 none-over false true value alone fits e = cc
 none-over false false value alone fits e = refl
 
-none-over_there : (cannot over extent reaches : Bool) → (not (not cannot && over) && ((not cannot && extent) && reaches)) ≡ true
-    → over ≡ false
-none-over_there true over extent reaches e = cc
-none-over_there false true extent reaches e = cc
-none-over_there false false extent reaches e = refl
+none-over_there : (cannot over extent behind begins value alone rest last : Bool)
+    → (not (not cannot && over) && (((not cannot && extent) && behind)
+    || ((begins && (((not cannot && value) && alone) && rest)) && last))) ≡ true → over ≡ false
+none-over_there cannot false extent behind begins value alone rest last e = refl
+none-over_there true true extent behind true value alone rest last e = cc
+none-over_there true true extent behind false value alone rest last e = cc
+none-over_there false true extent behind begins value alone rest last e = cc
 
 module _ (facts : Facts) (view : VolumeView) (opens : List OpenEntry) (now session : ℕ) (path : List (List ℕ)) (stream : Option (List ℕ))
     (from : ℕ) (bytes : List ℕ) (tells : TellsFacts view facts) where
@@ -130,6 +158,14 @@ module _ (facts : Facts) (view : VolumeView) (opens : List OpenEntry) (now sessi
   abbrev reaches : Found → Bool
   reaches found = can_reach view (found_file found) (stream_parts view (read view) (at found)) from len
 
+  -- .. or is a value that can leave its record for them
+  abbrev begins : Found → Bool
+  begins found = nat_le from (stream_value_len (stream_parts view (read view) (at found)))
+
+  abbrev leaves : Found → Bool
+  leaves found = can_leave view (found_file found) (stream_parts view (read view) (at found)) (from + len)
+      (new_clusters (cluster_bytes view.layout) (stream_parts view (read view) (at found)) from len)
+
   abbrev over : Found → Bool
   over found = can_write_over view name from len (found_file found)
 
@@ -176,10 +212,11 @@ module _ (facts : Facts) (view : VolumeView) (opens : List OpenEntry) (now sessi
 
   behind-room : (found : Found) → over found ≡ false → reach found ≡ true → facts.no_room m command (at found) ≡ behind found
   behind-room found other is =
-      let built = clusters-so (cannot found) (goes found) (extent found) (one found) (alone found) (has_placed_bits view) (reaches found) other is in
-      let stays = (and_parts (not (goes found)) _ built).1 in
-      let both = (and_parts (extent found && (one found && (alone found && has_placed_bits view))) (reaches found) stays).0 in
-      asked-of found (extent-there view (read view) (at found) (and_parts (extent found) _ both).0)
+      asked-of found (elim (lies-or_moves (cannot found) (value found) (alone found) (fits found) (extent found) (one found)
+      (has_placed_bits view) (reaches found) (begins found) (leaves found) is) [
+        | inl lies ↦ extent-there view (read view) (at found) lies
+        | inr moves ↦ value-there view (read view) (at found) moves
+      ])
 
   -- the refusal that is due
   refusal-is : (found : Found) → refusal facts m session command (subject_of command) (at found)
@@ -193,7 +230,7 @@ module _ (facts : Facts) (view : VolumeView) (opens : List OpenEntry) (now sessi
       ap (λ b. cannot_edit b (read view) (found_file found) || not (facts.built_for m command (at found))) w
       ∙ ap (λ b. cannot found || not b) (o ∙ three-ways view (read view) command (at found) refl)
       ∙ parted (cannot found) (goes found) (value found) (alone found) (fits found)
-      (extent found) (one found) (has_placed_bits view) (reaches found) in
+      (extent found) (one found) (has_placed_bits view) (reaches found) (begins found) (leaves found) in
       ap (λ b. judge (at found).content (is_bad_stream_name name) (dir found) (is_wide from len) (shared m command (at found)) b
       (facts.no_room m command (at found))) both
 
@@ -248,6 +285,10 @@ module _ (view new : VolumeView) (file : ℕ) (asked : List ℕ) (from : ℕ) (b
     abbrev number : ℕ
     number = number_of p.found.held
 
+    -- the clusters that come for its bytes where it is a value
+    abbrev new_count : ℕ
+    new_count = new_clusters (cluster_bytes view.layout) there from (length bytes.now)
+
     abbrev cannot_so : Bool
     cannot_so = cannot_edit (is_whole_table view) (read view) number
 
@@ -299,7 +340,10 @@ module _ (view new : VolumeView) (file : ℕ) (asked : List ℕ) (from : ℕ) (b
             other_bytes (over_by parts)
             (ap over_by parts-same ∙ none-over_there cannot_so (over_by there)
             (in_extent (first_part there) && ((length there == 1) && has_no_list view number))
-            (has_placed_bits view && can_go_behind view number there from (length bytes.now)) can) puts
+            (has_placed_bits view && can_go_behind view number there from (length bytes.now)) (nat_le from (stream_value_len there))
+            (is_some (stream_value there)) (has_no_list view number)
+            (not (can_resize view asked (from + length bytes.now) number) && can_leave view number there (from + length bytes.now) new_count)
+            (has_placed_bits view && has_free_run view new_count) can) puts
 
 -- IT IS THAT OF THE COMMAND
 pub write-by : (opens : List OpenEntry) (now session : ℕ) (path : List (List ℕ)) (stream : Option (List ℕ)) (from : ℕ)

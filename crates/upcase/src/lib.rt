@@ -4,8 +4,6 @@
 ghost use Rattle.std.specs.Prelude.{◌≡◌};
 
 mod table;
-#[cfg(test)]
-mod tests;
 
 use std::alloc::{AllocError, AllocFailed};
 pub use table::UpCase;

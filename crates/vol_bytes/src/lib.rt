@@ -9,8 +9,6 @@ mod laws;
 mod letter;
 mod reading;
 mod small;
-#[cfg(test)]
-mod tests;
 mod text;
 
 use byteorder::{ByteOrder, LittleEndian};

@@ -19,8 +19,6 @@ mod mem_sink;
 mod mem_source;
 mod print;
 mod standard;
-#[cfg(test)]
-mod tests;
 
 pub use fail_disk::{CallKind, Fail, FailDisk};
 pub use file::FileDisk;

@@ -1,0 +1,285 @@
+//! Lists laid out by hand from the published format. The bytes behind a name, up to the next entry, are padding.
+
+use attr_list::{Entry, ListNo, ListView, insert, remove};
+use std::alloc::{AllocError, Global};
+use std::test::Fail;
+use upcase::UpCase;
+use vol_bytes::Name;
+
+const LIST: [u8; 102] = [
+    // $STANDARD_INFORMATION, id 0, in record 42 with sequence number 3
+    0x10, 0x00, 0x00, 0x00, 0x20, 0x00, 0x00, 0x1A, 0x00, 0x00, 0x00, 0x00, 0x00, 0x00, 0x00, 0x00,
+    0x2A, 0x00, 0x00, 0x00, 0x00, 0x00, 0x03, 0x00, 0x00, 0x00, 0xEE, 0xEE, 0xEE, 0xEE, 0xEE, 0xEE,
+    // $DATA with the name "$Bad", id 5, in record 0x123456 with sequence number 7
+    0x80, 0x00, 0x00, 0x00, 0x28, 0x00, 0x04, 0x1A, 0x00, 0x00, 0x00, 0x00, 0x00, 0x00, 0x00, 0x00,
+    0x56, 0x34, 0x12, 0x00, 0x00, 0x00, 0x07, 0x00, 0x05, 0x00, 0x24, 0x00, 0x42, 0x00, 0x61, 0x00,
+    0x64, 0x00, 0xEE, 0xEE, 0xEE, 0xEE, 0xEE, 0xEE,
+    // a name with a lone surrogate, and numbers whose bytes all differ; no padding
+    0xA0, 0x01, 0x02, 0x03, 0x1E, 0x00, 0x02, 0x1A, 0x02, 0x03, 0x04, 0x05, 0x06, 0x07, 0x08, 0x09,
+    0x01, 0xEF, 0xCD, 0xAB, 0x45, 0x80, 0xFE, 0xFF, 0x02, 0x01, 0xAC, 0x20, 0x00, 0xD8,
+];
+
+#[test]
+fn entries(rt: HostRuntime) -> Result<(), Fail> {
+    let told: [(u32, &[u16], u64, u64, u16); 3] = [
+        (0x10, &[], 0, 0x0003_0000_0000_002A, 0),
+        (0x80, &[0x24, 0x42, 0x61, 0x64], 0, 0x0007_0000_0012_3456, 5),
+        (
+            0x0302_01A0,
+            &[0x20AC, 0xD800],
+            0x0908_0706_0504_0302,
+            0xFFFE_8045_ABCD_EF01,
+            0x0102,
+        ),
+    ];
+    let view = ListView::new(&LIST)?;
+    assert_eq!(rt; view.count(), 3);
+    for i in 0..3 {
+        let (kind, name, first, holder, id) = told[i];
+        let entry = view.entry(rt.alloc(), i)?;
+        assert_eq!(rt; entry.kind, kind, "at {i}");
+        assert_eq!(rt; entry.name.as_slice(), name, "at {i}");
+        assert_eq!(rt; entry.first, first, "at {i}");
+        assert_eq!(rt; entry.holder, holder, "at {i}");
+        assert_eq!(rt; entry.id, id, "at {i}");
+    }
+    Ok(())
+}
+
+#[test]
+fn holders_in_order(rt: HostRuntime) -> Result<(), Fail> {
+    let mut holders = ListView::new(&LIST)?.holders();
+    assert_eq!(rt; holders.next(), Some(0x0003_0000_0000_002A));
+    assert_eq!(rt; holders.next(), Some(0x0007_0000_0012_3456));
+    assert_eq!(rt; holders.next(), Some(0xFFFE_8045_ABCD_EF01));
+    assert_eq!(rt; holders.next(), None);
+    Ok(())
+}
+
+#[test]
+fn empty_list(rt: HostRuntime) -> Result<(), Fail> {
+    let view = ListView::new(&[])?;
+    assert_eq!(rt; view.count(), 0);
+    assert_eq!(rt; view.holders().next(), None);
+    Ok(())
+}
+
+// Each row sets one byte, and says which entry is the first bad one then.
+#[test]
+fn failing_places(rt: HostRuntime) {
+    let rows = [
+        (0x04, 0x00, 0x00), // an entry of no bytes
+        (0x04, 0x18, 0x00), // the header without the id
+        (0x04, 0x21, 0x21), // one byte more, so that what follows is no entry
+        (0x05, 0x01, 0x00), // an entry that ends behind the list
+        (0x07, 0x00, 0x00), // the name begins elsewhere
+        (0x26, 0x08, 0x20), // a name of eight units in an entry of 40 bytes
+        (0x4C, 0x1D, 0x48), // the name's last byte behind the entry
+        (0x4C, 0x1F, 0x48), // the entry's last byte behind the list
+    ];
+    for (place, byte, at) in rows {
+        let mut list = LIST;
+        list[place] = byte;
+        let refusal = ListView::new(&list).err();
+        assert_eq!(rt; refusal, Some(ListNo::Shape { at }), "byte {place}");
+    }
+    for (len, at) in [
+        (1, 0x00),
+        (0x19, 0x00),
+        (0x47, 0x20),
+        (0x61, 0x48),
+        (0x65, 0x48),
+    ] {
+        let refusal = ListView::new(&LIST[..len]).err();
+        assert_eq!(rt; refusal, Some(ListNo::Shape { at }), "{len} bytes");
+    }
+}
+
+// Writes an entry of $DATA with a name of so many letters.
+fn push_entry(list: &mut Vec<u8>, units: u8, number: u16) -> Result<(), AllocError> {
+    let len = 0x1A + 2 * u16::from(units);
+    list.extend_from_slice(&[0x80, 0x00, 0x00, 0x00])?;
+    list.extend_from_slice(&len.to_le_bytes())?;
+    list.extend_from_slice(&[units, 0x1A])?;
+    list.extend_from_slice(&(16 * u64::from(number)).to_le_bytes())?;
+    list.extend_from_slice(&(1 << 48 | 0x1000 + u64::from(number)).to_le_bytes())?;
+    list.extend_from_slice(&number.to_le_bytes())?;
+    for _ in 0..units {
+        list.extend_from_slice(&[0x61, 0x00])?;
+    }
+    Ok(())
+}
+
+// 200 entries, of which number i has a name of i + 55 letters, in record 4096 + i.
+fn long_list(alloc: Global) -> Result<Vec<u8>, AllocError> {
+    let mut list = Vec::new(alloc);
+    for i in 0..200_u8 {
+        push_entry(&mut list, i + 55, u16::from(i))?;
+    }
+    Ok(list)
+}
+
+#[test]
+fn long_lists(rt: HostRuntime) -> Result<(), Fail> {
+    let list = long_list(rt.alloc())?;
+    let view = ListView::new(&list)?;
+    assert_eq!(rt; view.count(), 200);
+    let mut holders = view.holders();
+    for i in 0..200 {
+        let entry = view.entry(rt.alloc(), i)?;
+        assert_eq!(rt; entry.name.as_slice().len(), i + 55, "at {i}");
+        assert_eq!(rt; entry.first, 16 * i as u64, "at {i}");
+        assert_eq!(rt; entry.id, i as u16, "at {i}");
+        assert_eq!(rt;
+            holders.next(),
+            Some(0x0001_0000_0000_1000 + i as u64),
+            "at {i}"
+        );
+    }
+    assert_eq!(rt; holders.next(), None);
+    Ok(())
+}
+
+#[test]
+fn refusal_texts(rt: HostRuntime) -> Result<(), Fail> {
+    let text = format!(in rt.alloc(); "{}", ListNo::Shape { at: 0x20 })?;
+    assert_eq!(rt;
+        text.as_str(),
+        "the attribute list has a wrong entry at byte 32"
+    );
+    let text = format!(in rt.alloc(); "{}", ListNo::Long)?;
+    assert_eq!(rt;
+        text.as_str(),
+        "the attribute list would be longer than 40960 bytes"
+    );
+    let text = format!(in rt.alloc(); "{}", ListNo::Memory)?;
+    assert_eq!(rt; text.as_str(), "out of memory");
+    Ok(())
+}
+
+// A table of case that knows the letters of ASCII.
+fn case(alloc: Global) -> Result<UpCase, Fail> {
+    let mut bytes = Vec::new(alloc);
+    for unit in 0..=u16::MAX {
+        let folded = match unit {
+            0x61..=0x7A => unit - 0x20,
+            _ => unit,
+        };
+        bytes.extend_from_slice(&folded.to_le_bytes())?;
+    }
+    Ok(UpCase::load(alloc, &bytes)?)
+}
+
+fn entry(alloc: Global, kind: u32, name: &[u16], first: u64, id: u16) -> Result<Entry, Fail> {
+    Ok(Entry {
+        kind,
+        name: Name::from_vec(Vec::from_slice(alloc, name)?),
+        first,
+        holder: 0x0003_0000_0000_002A,
+        id,
+    })
+}
+
+// `insert` into what is a list, of a name that fits.
+fn put(list: &mut Vec<u8>, entry: &Entry, case: &UpCase) -> Result<(), ListNo> {
+    ListView::new(list)?;
+    if entry.name.as_slice().len() > 255 {
+        return Err(ListNo::Memory);
+    }
+    insert(list, entry, case)
+}
+
+// `remove` of an entry that is there.
+fn cut(list: &mut Vec<u8>, i: usize) -> Result<(), ListNo> {
+    if i < ListView::new(list)?.count() {
+        remove(list, i);
+    }
+    Ok(())
+}
+
+// $STANDARD_INFORMATION, and $DATA without a name and with the name "B". What stands behind the names is not zero.
+const FIRST: [u8; 32] = [
+    0x10, 0x00, 0x00, 0x00, 0x20, 0x00, 0x00, 0x1A, 0x00, 0x00, 0x00, 0x00, 0x00, 0x00, 0x00, 0x00,
+    0x2A, 0x00, 0x00, 0x00, 0x00, 0x00, 0x03, 0x00, 0x00, 0x00, 0xEE, 0xEE, 0xEE, 0xEE, 0xEE, 0xEE,
+];
+
+const SECOND: [u8; 32] = [
+    0x80, 0x00, 0x00, 0x00, 0x20, 0x00, 0x00, 0x1A, 0x00, 0x00, 0x00, 0x00, 0x00, 0x00, 0x00, 0x00,
+    0x2A, 0x00, 0x00, 0x00, 0x00, 0x00, 0x03, 0x00, 0x01, 0x00, 0xEE, 0xEE, 0xEE, 0xEE, 0xEE, 0xEE,
+];
+
+const THIRD: [u8; 28] = [
+    0x80, 0x00, 0x00, 0x00, 0x1C, 0x00, 0x01, 0x1A, 0x00, 0x00, 0x00, 0x00, 0x00, 0x00, 0x00, 0x00,
+    0x2A, 0x00, 0x00, 0x00, 0x00, 0x00, 0x03, 0x00, 0x02, 0x00, 0x42, 0x00,
+];
+
+// $DATA with the name "ab" from cluster 0x0908070605040302 on, id 0x0102: 30 bytes, rounded up to 32.
+const NAMED: [u8; 32] = [
+    0x80, 0x00, 0x00, 0x00, 0x20, 0x00, 0x02, 0x1A, 0x02, 0x03, 0x04, 0x05, 0x06, 0x07, 0x08, 0x09,
+    0x2A, 0x00, 0x00, 0x00, 0x00, 0x00, 0x03, 0x00, 0x02, 0x01, 0x61, 0x00, 0x62, 0x00, 0x00, 0x00,
+];
+
+#[test]
+fn one_entry_more_and_less(rt: HostRuntime) -> Result<(), Fail> {
+    let case = case(rt.alloc())?;
+    let mut list = [&FIRST[..], &SECOND[..], &THIRD[..]].concat(rt.alloc())?;
+    let named = entry(
+        rt.alloc(),
+        0x80,
+        &[0x61, 0x62],
+        0x0908_0706_0504_0302,
+        0x0102,
+    )?;
+    put(&mut list, &named, &case)?;
+    let more = [&FIRST[..], &SECOND[..], &NAMED[..], &THIRD[..]].concat(rt.alloc())?;
+    assert_eq!(rt; list.as_slice(), more.as_slice());
+    cut(&mut list, 1)?;
+    let less = [&FIRST[..], &NAMED[..], &THIRD[..]].concat(rt.alloc())?;
+    assert_eq!(rt; list.as_slice(), less.as_slice());
+    Ok(())
+}
+
+// The ids tell the order: by type, then by name, upper case first, then by the first cluster; behind an equal one.
+#[test]
+fn order_of_entries(rt: HostRuntime) -> Result<(), Fail> {
+    let case = case(rt.alloc())?;
+    let mut list = Vec::new(rt.alloc());
+    let rows: [(u32, &[u16], u64, u16); 8] = [
+        (0x80, &[0x62], 0, 6),
+        (0x80, &[0x61], 0, 5),
+        (0x80, &[0x41], 0, 4),
+        (0x80, &[], 8, 2),
+        (0x80, &[], 0, 1),
+        (0x90, &[], 0, 7),
+        (0x80, &[], 8, 3),
+        (0x10, &[], 0, 0),
+    ];
+    for (kind, name, first, id) in rows {
+        put(&mut list, &entry(rt.alloc(), kind, name, first, id)?, &case)?;
+    }
+    let mut ids = Vec::new(rt.alloc());
+    for entry in ListView::new(&list)?.entries() {
+        ids.push(entry.id)?;
+    }
+    assert_eq!(rt; ids.as_slice(), &[0, 1, 2, 3, 4, 5, 6, 7][..]);
+    Ok(())
+}
+
+#[test]
+fn longest_list(rt: HostRuntime) -> Result<(), Fail> {
+    let case = case(rt.alloc())?;
+    let mut list = Vec::new(rt.alloc());
+    for _ in 0..1_279 {
+        list.extend_from_slice(&SECOND)?;
+    }
+    let last = entry(rt.alloc(), 0x80, &[], 1, 7)?;
+    put(&mut list, &last, &case)?;
+    assert_eq!(rt; list.len(), 40_960);
+    assert_eq!(rt; ListView::new(&list)?.count(), 1_280);
+    cut(&mut list, 0)?;
+    // eight bytes more than those that went
+    let named = entry(rt.alloc(), 0x80, &[0x61, 0x62, 0x63, 0x64], 0, 0)?;
+    assert_eq!(rt; put(&mut list, &named, &case), Err(ListNo::Long));
+    assert_eq!(rt; list.len(), 40_928);
+    Ok(())
+}

@@ -1,0 +1,128 @@
+//! An edit and the closing on a disk in memory: the order of their writes, and each of their calls failing in turn.
+ghost use Rattle.std.specs.Prelude.{◌≡◌, ◌<◌, ◌≤◌, ℕ, [], false, Contains, OnOk};
+ghost use Rattle.vol_stage.specs.Staged.{disk_of, is_broken, places, reference_of, spare};
+
+use mark_write::{Flag, Span, close_marked, finish_edit};
+use std::alloc::{AllocError, Global};
+use vol_disk::{CallKind, Disk, Fail, FailDisk, MemDisk};
+use vol_stage::{Stage, StageNo};
+
+// On a disk of eight sectors the edit is of the lowest three, the mark lies in 3 and 5, and the log in 6 and 7.
+const EDITED: [u8; 512] = [0x11; 512];
+
+// Stages the lowest three sectors, one of them twice.
+fn stage_low<D: Disk>(stage: &mut Stage<'_, D>) -> Result<(), StageNo>
+    requires size { 7 < D.size (disk_of D.Disk stage.old) }
+    requires sound { is_broken D.Disk stage.old ≡ false }
+    requires none { places D.Disk stage.old ≡ [] }
+    ensures same_reference { reference_of D.Disk stage.new ≡ reference_of D.Disk stage.old }
+    ensures size { D.size (disk_of D.Disk stage.new) ≡ D.size (disk_of D.Disk stage.old) }
+    ensures sound { is_broken D.Disk stage.new ≡ false }
+    ensures low { OnOk result ((n : ℕ) → Contains (places D.Disk stage.new) n → n < 3) }
+{
+    stage.reserve(4)?;
+    stage.put(2, &EDITED);
+    stage.put(0, &EDITED);
+    stage.put(1, &EDITED);
+    stage.put(0, &EDITED);
+    Ok(())
+}
+
+// An edit, and the closing.
+fn edit_and_close<D: Disk>(stage: &mut Stage<'_, D>) -> Result<(), StageNo>
+    requires size { 7 < D.size (disk_of D.Disk stage.old) }
+    requires sound { is_broken D.Disk stage.old ≡ false }
+    requires none { places D.Disk stage.old ≡ [] }
+    ensures same_reference { reference_of D.Disk stage.new ≡ reference_of D.Disk stage.old }
+    ensures size { D.size (disk_of D.Disk stage.new) ≡ D.size (disk_of D.Disk stage.old) }
+{
+    let flag = Flag {
+        home: 3,
+        copy: 5,
+        at: 10,
+    };
+    let log = [Span { first: 6, len: 2 }];
+    stage_low(stage)?;
+    finish_edit(stage, &flag, false, &log)?;
+    close_marked(stage, &flag)
+}
+
+// The same through a stage over a disk, which is used again.
+fn run<D: Disk>(alloc: Global, disk: &mut D) -> Result<(), StageNo>
+    requires { 7 < D.size disk.old }
+    ensures { D.size disk.new ≡ D.size disk.old }
+{
+    let mut stage = Stage::over(alloc, disk);
+    let done = edit_and_close(&mut stage);
+    let _ = stage.finish();
+    done
+}
+
+#[test]
+fn an_edit_is_written_in_order(rt: HostRuntime) -> Result<(), AllocError> {
+    let mut disk = MemDisk::new(rt.alloc(), vec![in rt.alloc(); 0; 4096]?);
+    assert_eq!(rt; disk.reserve(16), Ok(()));
+    assert_eq!(rt; run(rt.alloc(), &mut disk), Ok(()));
+    // The sectors, and the byte of each at the mark's place.
+    let wanted = [
+        (3, 1),
+        (5, 1),
+        (6, 0xFF),
+        (7, 0xFF),
+        (0, 0x11),
+        (1, 0x11),
+        (2, 0x11),
+        (5, 0),
+        (3, 0),
+    ];
+    assert_eq!(rt; disk.writes().len(), wanted.len());
+    for (write, (sector, byte)) in disk.writes().iter().zip(wanted) {
+        assert_eq!(rt; write.sector, sector);
+        assert_eq!(rt; write.bytes[10], byte, "sector {sector}");
+    }
+    assert!(rt; disk.settles() == [9].as_slice());
+    Ok(())
+}
+
+// Whether the disk holds these bytes in the sectors of the edit and of the log, whatever the bit of the copy is.
+fn is_whole(contents: &[u8], low: u8, log: u8) -> bool {
+    contents.iter().enumerate().all(|(i, byte)| {
+        let wanted = match i / 512 {
+            0..=2 => low,
+            6..=7 => log,
+            _ => 0,
+        };
+        *byte == wanted || (i == 2570 && *byte == 1)
+    })
+}
+
+// Each call fails once: what is left is marked, or was not edited, or was edited whole.
+#[test]
+fn a_fault_leaves_it_marked_or_whole(rt: HostRuntime) -> Result<(), AllocError> {
+    for (kind, calls) in [
+        (CallKind::Read, 6),
+        (CallKind::Write, 9),
+        (CallKind::Barrier, 2),
+        (CallKind::Settle, 1),
+    ] {
+        for number in 1..calls + 2 {
+            for lands in [false, true] {
+                let fail = Fail {
+                    kind,
+                    number,
+                    lands,
+                };
+                let mut inner = MemDisk::new(rt.alloc(), vec![in rt.alloc(); 0; 4096]?);
+                assert_eq!(rt; inner.reserve(16), Ok(()));
+                let mut disk = FailDisk::new(inner, vec![in rt.alloc(); fail]?);
+                let done = run(rt.alloc(), &mut disk);
+                assert_eq!(rt; done.is_err(), number <= calls, "{kind:?} {number}");
+                let contents = disk.inner().contents();
+                let marked = contents.get(1546).is_some_and(|byte| byte % 2 == 1);
+                let whole = is_whole(contents, 0, 0) || is_whole(contents, 0x11, 0xFF);
+                assert!(rt; marked || whole, "{kind:?} {number}");
+            }
+        }
+    }
+    Ok(())
+}

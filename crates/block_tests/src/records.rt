@@ -1,0 +1,442 @@
+//! Two records of a volume of 8 MiB that `mkntfs -F -s 512 -c 4096 -L Berylchintz` of ntfs-3g made, opened: in both, the
+//! last two bytes of each sector are zero, and so is all behind the bytes that stand here. What is expected of
+//! them is what `ntfsinfo -v` told of them.
+
+ghost use Rattle.std.specs.Prelude.{◌≡◌, ◌+◌, ◌<◌, ◌≤◌, IfSome, IsSomeAnd, IsTrue, length};
+ghost use Rattle.ntfs_def.specs.Attribute.{attributes, value_of};
+ghost use Rattle.ntfs_def.specs.Shape.{IsOneAttribute};
+ghost use Rattle.attr_view.specs.Edited.{edited_block};
+ghost use Rattle.attr_view.specs.Values.{attribute_in};
+
+use attr_view::{RecordHeader, RecordMut, RecordView, Sizes, ViewNo};
+use std::test::Fail;
+use vol_bytes::{put_u32, u32_at};
+
+// Record 3, $Volume.
+const VOLUME: [u8; 480] = [
+    0x46, 0x49, 0x4C, 0x45, 0x30, 0x00, 0x03, 0x00, 0x00, 0x00, 0x00, 0x00, 0x00, 0x00, 0x00, 0x00,
+    0x03, 0x00, 0x01, 0x00, 0x38, 0x00, 0x01, 0x00, 0xE0, 0x01, 0x00, 0x00, 0x00, 0x04, 0x00, 0x00,
+    0x00, 0x00, 0x00, 0x00, 0x00, 0x00, 0x00, 0x00, 0x06, 0x00, 0x00, 0x00, 0x03, 0x00, 0x00, 0x00,
+    0x02, 0x00, 0x00, 0x00, 0x00, 0x00, 0x00, 0x00, 0x10, 0x00, 0x00, 0x00, 0x48, 0x00, 0x00, 0x00,
+    0x00, 0x00, 0x18, 0x00, 0x00, 0x00, 0x00, 0x00, 0x30, 0x00, 0x00, 0x00, 0x18, 0x00, 0x00, 0x00,
+    0x80, 0x1E, 0xCE, 0x33, 0x07, 0x7E, 0xDD, 0x01, 0x80, 0x1E, 0xCE, 0x33, 0x07, 0x7E, 0xDD, 0x01,
+    0x80, 0x1E, 0xCE, 0x33, 0x07, 0x7E, 0xDD, 0x01, 0x80, 0x1E, 0xCE, 0x33, 0x07, 0x7E, 0xDD, 0x01,
+    0x06, 0x00, 0x00, 0x00, 0x00, 0x00, 0x00, 0x00, 0x00, 0x00, 0x00, 0x00, 0x00, 0x00, 0x00, 0x00,
+    0x30, 0x00, 0x00, 0x00, 0x68, 0x00, 0x00, 0x00, 0x00, 0x00, 0x18, 0x00, 0x00, 0x00, 0x01, 0x00,
+    0x50, 0x00, 0x00, 0x00, 0x18, 0x00, 0x01, 0x00, 0x05, 0x00, 0x00, 0x00, 0x00, 0x00, 0x05, 0x00,
+    0x80, 0x1E, 0xCE, 0x33, 0x07, 0x7E, 0xDD, 0x01, 0x80, 0x1E, 0xCE, 0x33, 0x07, 0x7E, 0xDD, 0x01,
+    0x80, 0x1E, 0xCE, 0x33, 0x07, 0x7E, 0xDD, 0x01, 0x80, 0x1E, 0xCE, 0x33, 0x07, 0x7E, 0xDD, 0x01,
+    0x00, 0x00, 0x00, 0x00, 0x00, 0x00, 0x00, 0x00, 0x00, 0x00, 0x00, 0x00, 0x00, 0x00, 0x00, 0x00,
+    0x06, 0x00, 0x00, 0x00, 0x00, 0x00, 0x00, 0x00, 0x07, 0x03, 0x24, 0x00, 0x56, 0x00, 0x6F, 0x00,
+    0x6C, 0x00, 0x75, 0x00, 0x6D, 0x00, 0x65, 0x00, 0x50, 0x00, 0x00, 0x00, 0x80, 0x00, 0x00, 0x00,
+    0x00, 0x00, 0x18, 0x00, 0x00, 0x00, 0x02, 0x00, 0x64, 0x00, 0x00, 0x00, 0x18, 0x00, 0x00, 0x00,
+    0x01, 0x00, 0x04, 0x80, 0x48, 0x00, 0x00, 0x00, 0x54, 0x00, 0x00, 0x00, 0x00, 0x00, 0x00, 0x00,
+    0x14, 0x00, 0x00, 0x00, 0x02, 0x00, 0x34, 0x00, 0x02, 0x00, 0x00, 0x00, 0x00, 0x00, 0x14, 0x00,
+    0x9F, 0x01, 0x12, 0x00, 0x01, 0x01, 0x00, 0x00, 0x00, 0x00, 0x00, 0x05, 0x12, 0x00, 0x00, 0x00,
+    0x00, 0x00, 0x18, 0x00, 0x9F, 0x01, 0x12, 0x00, 0x01, 0x02, 0x00, 0x00, 0x00, 0x00, 0x00, 0x05,
+    0x20, 0x00, 0x00, 0x00, 0x20, 0x02, 0x00, 0x00, 0x01, 0x01, 0x00, 0x00, 0x00, 0x00, 0x00, 0x05,
+    0x12, 0x00, 0x00, 0x00, 0x01, 0x02, 0x00, 0x00, 0x00, 0x00, 0x00, 0x05, 0x20, 0x00, 0x00, 0x00,
+    0x20, 0x02, 0x00, 0x00, 0x00, 0x00, 0x00, 0x00, 0x60, 0x00, 0x00, 0x00, 0x30, 0x00, 0x00, 0x00,
+    0x00, 0x00, 0x18, 0x00, 0x00, 0x00, 0x04, 0x00, 0x16, 0x00, 0x00, 0x00, 0x18, 0x00, 0x00, 0x00,
+    0x42, 0x00, 0x65, 0x00, 0x72, 0x00, 0x79, 0x00, 0x6C, 0x00, 0x63, 0x00, 0x68, 0x00, 0x69, 0x00,
+    0x6E, 0x00, 0x74, 0x00, 0x7A, 0x00, 0x00, 0x00, 0x70, 0x00, 0x00, 0x00, 0x28, 0x00, 0x00, 0x00,
+    0x00, 0x00, 0x18, 0x00, 0x00, 0x00, 0x05, 0x00, 0x0C, 0x00, 0x00, 0x00, 0x18, 0x00, 0x00, 0x00,
+    0x00, 0x00, 0x00, 0x00, 0x00, 0x00, 0x00, 0x00, 0x03, 0x01, 0x00, 0x00, 0x00, 0x00, 0x00, 0x00,
+    0x80, 0x00, 0x00, 0x00, 0x18, 0x00, 0x00, 0x00, 0x00, 0x00, 0x18, 0x00, 0x00, 0x00, 0x03, 0x00,
+    0x00, 0x00, 0x00, 0x00, 0x18, 0x00, 0x00, 0x00, 0xFF, 0xFF, 0xFF, 0xFF, 0x00, 0x00, 0x00, 0x00,
+];
+
+// Record 8, $BadClus.
+const BAD_CLUSTERS: [u8; 376] = [
+    0x46, 0x49, 0x4C, 0x45, 0x30, 0x00, 0x03, 0x00, 0x00, 0x00, 0x00, 0x00, 0x00, 0x00, 0x00, 0x00,
+    0x08, 0x00, 0x01, 0x00, 0x38, 0x00, 0x01, 0x00, 0x78, 0x01, 0x00, 0x00, 0x00, 0x04, 0x00, 0x00,
+    0x00, 0x00, 0x00, 0x00, 0x00, 0x00, 0x00, 0x00, 0x04, 0x00, 0x00, 0x00, 0x08, 0x00, 0x00, 0x00,
+    0x02, 0x00, 0x00, 0x00, 0x00, 0x00, 0x00, 0x00, 0x10, 0x00, 0x00, 0x00, 0x60, 0x00, 0x00, 0x00,
+    0x00, 0x00, 0x18, 0x00, 0x00, 0x00, 0x00, 0x00, 0x48, 0x00, 0x00, 0x00, 0x18, 0x00, 0x00, 0x00,
+    0x80, 0x1E, 0xCE, 0x33, 0x07, 0x7E, 0xDD, 0x01, 0x80, 0x1E, 0xCE, 0x33, 0x07, 0x7E, 0xDD, 0x01,
+    0x80, 0x1E, 0xCE, 0x33, 0x07, 0x7E, 0xDD, 0x01, 0x80, 0x1E, 0xCE, 0x33, 0x07, 0x7E, 0xDD, 0x01,
+    0x06, 0x00, 0x00, 0x00, 0x00, 0x00, 0x00, 0x00, 0x00, 0x00, 0x00, 0x00, 0x00, 0x00, 0x00, 0x00,
+    0x00, 0x00, 0x00, 0x00, 0x00, 0x01, 0x00, 0x00, 0x00, 0x00, 0x00, 0x00, 0x00, 0x00, 0x00, 0x00,
+    0x00, 0x00, 0x00, 0x00, 0x00, 0x00, 0x00, 0x00, 0x30, 0x00, 0x00, 0x00, 0x70, 0x00, 0x00, 0x00,
+    0x00, 0x00, 0x18, 0x00, 0x00, 0x00, 0x03, 0x00, 0x52, 0x00, 0x00, 0x00, 0x18, 0x00, 0x01, 0x00,
+    0x05, 0x00, 0x00, 0x00, 0x00, 0x00, 0x05, 0x00, 0x80, 0x1E, 0xCE, 0x33, 0x07, 0x7E, 0xDD, 0x01,
+    0x80, 0x1E, 0xCE, 0x33, 0x07, 0x7E, 0xDD, 0x01, 0x80, 0x1E, 0xCE, 0x33, 0x07, 0x7E, 0xDD, 0x01,
+    0x80, 0x1E, 0xCE, 0x33, 0x07, 0x7E, 0xDD, 0x01, 0x00, 0x00, 0x00, 0x00, 0x00, 0x00, 0x00, 0x00,
+    0x00, 0x00, 0x00, 0x00, 0x00, 0x00, 0x00, 0x00, 0x06, 0x00, 0x00, 0x00, 0x00, 0x00, 0x00, 0x00,
+    0x08, 0x03, 0x24, 0x00, 0x42, 0x00, 0x61, 0x00, 0x64, 0x00, 0x43, 0x00, 0x6C, 0x00, 0x75, 0x00,
+    0x73, 0x00, 0xFF, 0xFF, 0x00, 0x00, 0x00, 0x00, 0x80, 0x00, 0x00, 0x00, 0x18, 0x00, 0x00, 0x00,
+    0x00, 0x00, 0x18, 0x00, 0x00, 0x00, 0x02, 0x00, 0x00, 0x00, 0x00, 0x00, 0x18, 0x00, 0x00, 0x00,
+    0x80, 0x00, 0x00, 0x00, 0x50, 0x00, 0x00, 0x00, 0x01, 0x04, 0x40, 0x00, 0x00, 0x00, 0x01, 0x00,
+    0x00, 0x00, 0x00, 0x00, 0x00, 0x00, 0x00, 0x00, 0xFE, 0x07, 0x00, 0x00, 0x00, 0x00, 0x00, 0x00,
+    0x48, 0x00, 0x00, 0x00, 0x00, 0x00, 0x00, 0x00, 0x00, 0xF0, 0x7F, 0x00, 0x00, 0x00, 0x00, 0x00,
+    0x00, 0xF0, 0x7F, 0x00, 0x00, 0x00, 0x00, 0x00, 0x00, 0x00, 0x00, 0x00, 0x00, 0x00, 0x00, 0x00,
+    0x24, 0x00, 0x42, 0x00, 0x61, 0x00, 0x64, 0x00, 0x02, 0xFF, 0x07, 0x00, 0x00, 0x00, 0x00, 0x00,
+    0xFF, 0xFF, 0xFF, 0xFF, 0x00, 0x00, 0x00, 0x00,
+];
+
+fn volume() -> [u8; 1024] {
+    let mut block = [0; 1024];
+    block[..480].copy_from_slice(&VOLUME);
+    block
+}
+
+fn bad_clusters() -> [u8; 1024] {
+    let mut block = [0; 1024];
+    block[..376].copy_from_slice(&BAD_CLUSTERS);
+    block
+}
+
+#[test]
+fn resident_attributes(rt: HostRuntime) -> Result<(), Fail> {
+    let block = volume();
+    let view = RecordView::new(&block)?;
+    assert_eq!(rt; view.count(), 6);
+    let told = [
+        (0x10, 0, 48),
+        (0x30, 1, 80),
+        (0x50, 2, 100),
+        (0x60, 4, 22),
+        (0x70, 5, 12),
+        (0x80, 3, 0),
+    ];
+    for i in 0..6 {
+        let attribute = view.attr(i);
+        let (kind, id, len) = told[i];
+        assert_eq!(rt; attribute.kind(), kind, "at {i}");
+        assert_eq!(rt; attribute.id(), id, "at {i}");
+        assert_eq!(rt; attribute.flags(), 0, "at {i}");
+        assert_eq!(rt; attribute.name().len(), 0, "at {i}");
+        assert_eq!(rt;
+            attribute.value().map(|value| value.len()),
+            Some(len),
+            "at {i}"
+        );
+        assert!(rt; attribute.runs().is_none(), "at {i}");
+        assert_eq!(rt; attribute.sizes(), None, "at {i}");
+    }
+    let label = view.attr(3).value().ok_or("no label")?;
+    assert_eq!(rt; label, b"B\0e\0r\0y\0l\0c\0h\0i\0n\0t\0z\0".as_slice());
+    Ok(())
+}
+
+#[test]
+fn extent(rt: HostRuntime) -> Result<(), Fail> {
+    let block = bad_clusters();
+    let view = RecordView::new(&block)?;
+    assert_eq!(rt; view.count(), 4);
+    let bad = view.attr(3);
+    assert_eq!(rt; bad.kind(), 0x80);
+    assert_eq!(rt; bad.id(), 1);
+    assert_eq!(rt; bad.name(), b"$\0B\0a\0d\0".as_slice());
+    assert!(rt; bad.value().is_none());
+    assert_eq!(rt; bad.value_place(), None);
+    let runs = bad.runs().ok_or("no runs")?;
+    assert_eq!(rt; runs, [0x02, 0xFF, 0x07, 0, 0, 0, 0, 0].as_slice());
+    let sizes = Sizes {
+        allocated: 8_384_512,
+        real: 8_384_512,
+        initialized: 0,
+        first: 0,
+        last: 2046,
+    };
+    assert_eq!(rt; bad.sizes(), Some(sizes));
+    Ok(())
+}
+
+// `ntfsinfo` tells that the first attribute of $Volume stands at 56, that the attributes have 72, 104, 128, 48, 40
+// and 24 bytes, and that each value begins at 24 of its attribute. `grep` found the label at 384 of the record.
+#[test]
+fn attributes_in_order(rt: HostRuntime) -> Result<(), Fail> {
+    let block = volume();
+    let mut attributes = RecordView::new(&block)?.attributes();
+    for (kind, place) in [
+        (0x10, 80),
+        (0x30, 152),
+        (0x50, 256),
+        (0x60, 384),
+        (0x70, 432),
+        (0x80, 472),
+    ] {
+        let attribute = attributes.next().ok_or("too few attributes")?;
+        assert_eq!(rt; attribute.kind(), kind);
+        assert_eq!(rt; attribute.value_place(), Some(place), "of {kind}");
+    }
+    assert!(rt; attributes.next().is_none());
+    Ok(())
+}
+
+#[test]
+fn values_by_type(rt: HostRuntime) -> Result<(), Fail> {
+    let block = volume();
+    let view = RecordView::new(&block)?;
+    let version = view.first_value(0x70).ok_or("no version")?;
+    assert_eq!(rt; version, [0, 0, 0, 0, 0, 0, 0, 0, 3, 1, 0, 0].as_slice());
+    assert!(rt; view.first_value(0x90).is_none());
+    let again = RecordView::again(&block, view.count()).first_value(0x70);
+    assert_eq!(rt; again.ok_or("no version again")?, version);
+    // $BadClus has an empty $DATA, and behind it a non-resident one with a name.
+    let block = bad_clusters();
+    let view = RecordView::new(&block)?;
+    let data = view.first_value(0x80).ok_or("no data")?;
+    assert_eq!(rt; data.len(), 0);
+    Ok(())
+}
+
+// Each row sets one byte, and says where the shape fails then.
+#[test]
+fn failing_places(rt: HostRuntime) {
+    let volume_rows = [
+        (0x04, 0x2A, 0x04),
+        (0x14, 0x3C, 0x14),
+        (0x1D, 0x02, 0x1C),
+        (0x84, 0x69, 0x80), // an attribute of 105 bytes
+        (0x18, 0xDB, 0x1D8), // the end mark's last byte is above the used size
+        (0x1D8, 0xFE, 0x1D8), // no end mark
+    ];
+    for (place, byte, at) in volume_rows {
+        let mut block = volume();
+        block[place] = byte;
+        let fault = RecordView::new(&block).err();
+        assert_eq!(rt; fault, Some(ViewNo::Shape { at }), "byte {place}");
+    }
+    let bad_cluster_rows = [
+        (0x12D, 0x80, 0x120), // a sparse first extent has 72 bytes before its name
+        (0x140, 0x47, 0x120), // the runs begin in the name
+        (0x129, 0x05, 0x120), // the name ends in the runs
+    ];
+    for (place, byte, at) in bad_cluster_rows {
+        let mut block = bad_clusters();
+        block[place] = byte;
+        let fault = RecordView::new(&block).err();
+        assert_eq!(rt; fault, Some(ViewNo::Shape { at }), "byte {place}");
+    }
+    let half = RecordView::new(&VOLUME).err();
+    assert_eq!(rt; half, Some(ViewNo::Shape { at: 0 }));
+}
+
+#[test]
+fn refusal_text(rt: HostRuntime) -> Result<(), Fail> {
+    let text = format!(in rt.alloc(); "{}", ViewNo::Shape { at: 0x14 })?;
+    assert_eq!(rt; text.as_str(), "the record has a wrong shape at byte 20");
+    let full = ViewNo::Full {
+        need: 544,
+        free: 543,
+    };
+    let text = format!(in rt.alloc(); "{full}")?;
+    assert_eq!(rt; text.as_str(), "the record has room for 543 bytes of 544");
+    Ok(())
+}
+
+// $Volume without the attribute that stands from `from` up to `to`, and with another next attribute id.
+fn volume_without(from: usize, to: usize, next_id: u8) -> [u8; 1024]
+    requires order { from ≤ to }
+    requires within { to ≤ 480 }
+{
+    let mut block = volume();
+    let left = 480 - (to - from);
+    block.copy_within(to..480, from);
+    block[left..480].fill(0);
+    put_u32(&mut block, 0x18, left as u32);
+    block[0x28] = next_id;
+    block
+}
+
+// Puts an attribute into a record, and tells how many it has then.
+fn put_in(block: &mut [u8; 1024], i: usize, attr: &[u8]) -> Result<usize, ViewNo>
+    requires { IsOneAttribute attr.now }
+{
+    let mut edited = RecordMut::new(block)?;
+    let count = edited.view().count();
+    edited.insert(i.min(count), attr)?;
+    Ok(edited.view().count())
+}
+
+// `mkntfs` made the record with all six. The next id was 5 before the attribute with that id came, and is 6 then.
+#[test]
+fn attributes_put_in(rt: HostRuntime) -> Result<(), Fail> {
+    let mut block = volume_without(56, 128, 6);
+    assert_eq!(rt; put_in(&mut block, 0, &VOLUME[56..128])?, 6);
+    assert_eq!(rt; block, volume());
+    let mut block = volume_without(408, 448, 5);
+    assert_eq!(rt; put_in(&mut block, 4, &VOLUME[408..448])?, 6);
+    assert_eq!(rt; block, volume());
+    let mut block = volume_without(448, 472, 6);
+    assert_eq!(rt; put_in(&mut block, 5, &VOLUME[448..472])?, 6);
+    assert_eq!(rt; block, volume());
+    Ok(())
+}
+
+// The block with bytes written over its own, from `at` on.
+fn written(mut block: [u8; 1024], at: usize, bytes: &[u8]) -> [u8; 1024]
+    requires { at + length bytes.now ≤ 1024 }
+{
+    block[at..at + bytes.len()].copy_from_slice(bytes);
+    block
+}
+
+// Where the record uses 1,000 bytes, an attribute of 24 fits, and where it uses one more, it does not.
+#[test]
+fn room_for_an_attribute(rt: HostRuntime) -> Result<(), Fail> {
+    let free = written([0xA5; 1024], 999, &[0x5A]);
+    let mut block = written(written(free, 0, &VOLUME), 0x18, &[0xE8, 0x03]);
+    let moved = written(written([0xA5; 1024], 1023, &[0x5A]), 80, &VOLUME[56..480]);
+    let front = written(moved, 0, &VOLUME[..56]);
+    let told = written(written(front, 56, &VOLUME[448..472]), 0x18, &[0x00, 0x04]);
+    assert_eq!(rt; put_in(&mut block, 0, &VOLUME[448..472])?, 7);
+    assert_eq!(rt; block, told);
+
+    let before = written(volume(), 0x18, &[0xE9, 0x03]);
+    let mut block = before;
+    let full = put_in(&mut block, 0, &VOLUME[448..472]).err();
+    assert_eq!(rt; full, Some(ViewNo::Full { need: 24, free: 23 }));
+    assert_eq!(rt; block, before);
+    Ok(())
+}
+
+// The length of the value of attribute i, where there is one.
+fn value_len(edited: &RecordMut<'_>, i: usize) -> Option<usize>
+    ensures { IfSome result (λ len. (i < length (attributes (edited_block edited.now)))
+        × IsSomeAnd (value_of (attribute_in (edited_block edited.now) i).body) (λ value. length value ≡ len)) }
+{
+    let view = edited.view();
+    if i < view.count() {
+        return view.attr(i).value().map(|value| value.len());
+    }
+    None
+}
+
+// Takes an attribute out of a record.
+fn take_out(block: &mut [u8; 1024], i: usize) -> Result<(), ViewNo> {
+    let mut edited = RecordMut::new(block)?;
+    if i < edited.view().count() {
+        edited.remove(i);
+    }
+    Ok(())
+}
+
+// Gives a value another length, at most 65,536.
+fn resize(block: &mut [u8; 1024], i: usize, n: usize) -> Result<(), ViewNo> {
+    let mut edited = RecordMut::new(block)?;
+    if n <= 65536 && value_len(&edited, i).is_some() {
+        edited.resize(i, n)?;
+    }
+    Ok(())
+}
+
+// Writes bytes into a value, where they lie inside it.
+fn write(block: &mut [u8; 1024], i: usize, at: usize, from: &[u8]) -> Result<(), ViewNo> {
+    let mut edited = RecordMut::new(block)?;
+    if let Some(len) = value_len(&edited, i) {
+        if from.len() <= len && at <= len - from.len() {
+            edited.write_value(i, at, from);
+        }
+    }
+    Ok(())
+}
+
+// The attributes behind the one that goes stand in its place, and the next id stays.
+#[test]
+fn attributes_taken_out(rt: HostRuntime) -> Result<(), Fail> {
+    for (i, from, to) in [(0, 56, 128), (3, 360, 408), (5, 448, 472)] {
+        let mut block = volume();
+        take_out(&mut block, i)?;
+        let left = 480 - (to - from);
+        let told = volume_without(from, to, 6);
+        assert_eq!(rt; block[..left], told[..left], "without {i}");
+        assert_eq!(rt; block[left..], volume()[left..], "without {i}");
+    }
+    Ok(())
+}
+
+// The label, of 22 bytes, stands at 384, in an attribute of 48 bytes at 360.
+#[test]
+fn value_made_longer_and_cut(rt: HostRuntime) -> Result<(), Fail> {
+    let mut block = volume();
+    resize(&mut block, 3, 30)?;
+    let told = written(written(volume(), 416, &VOLUME[408..480]), 406, &[0; 10]);
+    let told = written(written(told, 364, &[0x38]), 376, &[0x1E]);
+    let told = written(told, 0x18, &[0xE8, 0x01]);
+    assert_eq!(rt; block, told);
+
+    resize(&mut block, 3, 4)?;
+    let told = written(written(told, 392, &VOLUME[408..480]), 388, &[0; 4]);
+    let told = written(written(told, 364, &[0x20]), 376, &[0x04]);
+    assert_eq!(rt; block, written(told, 0x18, &[0xD0, 0x01]));
+    Ok(())
+}
+
+// The empty $DATA, of 24 bytes at 448, with a value that begins at 0 and a name at 23; and the label with its name at 47.
+#[test]
+fn empty_value_and_name(rt: HostRuntime) -> Result<(), Fail> {
+    let mut block = written(written(volume(), 468, &[0x00]), 458, &[0x17]);
+    resize(&mut block, 5, 5)?;
+    let told = written(written(volume(), 480, &VOLUME[472..480]), 472, &[0; 8]);
+    let told = written(written(told, 452, &[0x20]), 464, &[0x05]);
+    let told = written(written(told, 458, &[0x17]), 0x18, &[0xE8, 0x01]);
+    assert_eq!(rt; block, told);
+
+    let mut block = written(volume(), 370, &[0x2F]);
+    resize(&mut block, 3, 0)?;
+    let told = written(volume(), 384, &VOLUME[408..480]);
+    let told = written(written(told, 364, &[0x18]), 376, &[0x00]);
+    assert_eq!(rt; block, written(told, 0x18, &[0xC8, 0x01]));
+    Ok(())
+}
+
+// Where the record uses 1,000 bytes, a label of 48 bytes fits, in 24 bytes more, and one of 49 does not.
+#[test]
+fn room_for_a_value(rt: HostRuntime) -> Result<(), Fail> {
+    let before = written(volume(), 0x18, &[0xE8, 0x03]);
+    let mut block = before;
+    let full = resize(&mut block, 3, 49).err();
+    assert_eq!(rt; full, Some(ViewNo::Full { need: 32, free: 24 }));
+    assert_eq!(rt; block, before);
+    resize(&mut block, 3, 48)?;
+    assert_eq!(rt; u32_at(&block, 0x18), 1024);
+    let mut block = volume();
+    let full = ViewNo::Full {
+        need: 65_512,
+        free: 544,
+    };
+    assert_eq!(rt; resize(&mut block, 3, 65_536).err(), Some(full));
+    Ok(())
+}
+
+// The flags of the volume stand at 10 of the value, which begins at 432.
+#[test]
+fn value_written(rt: HostRuntime) -> Result<(), Fail> {
+    let mut block = volume();
+    write(&mut block, 4, 10, &[0x01])?;
+    assert_eq!(rt; block, written(volume(), 442, &[0x01]));
+    let before = block;
+    write(&mut block, 4, 12, &[])?;
+    write(&mut block, 5, 0, &[])?;
+    assert_eq!(rt; block, before);
+    Ok(())
+}
+
+#[test]
+fn header_set(rt: HostRuntime) -> Result<(), Fail> {
+    let mut block = volume();
+    RecordMut::new(&mut block)?.set_header(RecordHeader {
+        sequence: 0x0102,
+        links: 0x0304,
+        flags: 0x0506,
+        base: 0x0708_090A_0B0C_0D0E,
+    });
+    let told = written(volume(), 0x10, &[0x02, 0x01, 0x04, 0x03]);
+    let told = written(told, 0x16, &[0x06, 0x05]);
+    let base = [0x0E, 0x0D, 0x0C, 0x0B, 0x0A, 0x09, 0x08, 0x07];
+    assert_eq!(rt; block, written(told, 0x20, &base));
+    Ok(())
+}
+
+#[test]
+fn no_record_to_edit(rt: HostRuntime) {
+    let mut block = volume();
+    block[0x14] = 0x3C;
+    assert_eq!(rt;
+        RecordMut::new(&mut block).err(),
+        Some(ViewNo::Shape { at: 0x14 })
+    );
+}
