@@ -21,20 +21,21 @@ ghost use Rattle.tree_edit.specs.Write.{room_to_write};
 ghost use Rattle.tree_edit.specs.declared.writable.Writable.{Writable};
 ghost use Rattle.move_room.specs.Movable.{IsMovable, IsMovableTo, can_move_there, can_move_to, parts_there};
 
-/// A value can move so, and the bits of clusters lie in clusters, exactly where its file can be edited and the machine says that it moves: by
-/// bytes (`by_bytes`), and by another length (`by_length`).
+/// A value can move so, and the bits of clusters lie in clusters, exactly where its file can be edited and the machine says that it moves:
+/// by bytes (`by_bytes`), and by another length (`by_length`).
 pub fn move_laws()
     ensures by_bytes { (view : VolumeView) (name : List ℕ) (from len file : ℕ)
         → (can_move_there view name from len file && has_placed_bits view)
-        ≡ (not (cannot_edit (is_whole_table view) (read view) file) && moves_by_write view (read view) (named_in (read view) name file) from len) }
+        ≡ (not (cannot_edit (is_whole_table view) (read view) file)
+        && moves_by_write view (read view) (named_in (read view) name file) from len) }
     ensures by_length { (view : VolumeView) (name : List ℕ) (size file : ℕ) → (can_move_to view name size file && has_placed_bits view)
         ≡ (not (cannot_edit (is_whole_table view) (read view) file)
         && moves_into_clusters view (read view) (named_in (read view) name file) size
         (new_clusters (cluster_bytes view.layout) (parts_there view name file) 0 0)) }
 {}
 
-/// Where the room is there that is asked for, as many clusters are free one behind the other as its bytes then need: by bytes (`by_bytes`), and
-/// by another length (`by_length`). They need some (`some`, `some_longer`).
+/// Where the room is there that is asked for, as many clusters are free one behind the other as its bytes then need: by bytes (`by_bytes`),
+/// and by another length (`by_length`). They need some (`some`, `some_longer`).
 pub fn move_has_run()
     ensures by_bytes { (view : VolumeView) (name : List ℕ) (from len file : ℕ) → can_move_there view name from len file ≡ true
         → room_to_write view name from len file ≡ None → has_free_run view (clusters_for (from + len) (cluster_bytes view.layout)) ≡ true }
@@ -46,8 +47,8 @@ pub fn move_has_run()
         → can_move_to view name size file ≡ true → 0 < clusters_for size (cluster_bytes view.layout) }
 {}
 
-/// A stream that was found as one that can move is a value alone (`by_bytes`, `by_length`), of a file that can be edited by what is held of it
-/// (`editable`).
+/// A stream that was found as one that can move is a value alone (`by_bytes`, `by_length`), of a file that can be edited by what is held of
+/// it (`editable`).
 pub fn move_is_alone()
     ensures by_bytes { (view : VolumeView) (found : Writable) (name : List ℕ) (from len : ℕ) → IsMovable view found name from len
         → IsDroppable view found name }
