@@ -14,8 +14,8 @@ use mft_table::Mft;
 use tree_edit::{Writable, clusters_for_bytes};
 use vol_disk::Disk;
 
-/// Asks for the room of bytes that go into the stream that was found, a value of a file without an attribute list: the clusters that it may come
-/// to own, and what its file may need for a longer attribute list.
+/// Asks for the room of bytes that go into the stream that was found, a value of a file without an attribute list: the clusters that it may
+/// come to own, and what its file may need for a longer attribute list.
 ///
 /// # Errors
 ///
