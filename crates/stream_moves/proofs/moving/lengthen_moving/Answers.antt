@@ -1,11 +1,11 @@
-use Rattle.std.proofs.Common.{◌≡◌, ◌+◌, ◌/◌, ◌≤◌, ◌<◌, ◌∙◌, ap, length, sym, inl, inr, arith}
+use Rattle.std.proofs.Common.{◌+◌, ◌/◌, ◌∙◌, ap, length, sym, arith}
 use Rattle.std.specs.Option.{option_copied}
 use Rattle.list_laws.proofs.OptionLaws.{none_other, some_same}
 use Rattle.ntfs_def.specs.Rounded.{clusters_for}
 use Rattle.volume_def.specs.Table.{cluster_bytes}
 use Rattle.mft_table.specs.Mft.{view}
 use Rattle.stored_bits.proofs.DeviceKept.{device-same}
-use Rattle.stream_moves.proofs.MovedCalls.{has-some, held-value, left-resized, staged-more}
+use Rattle.stream_moves.proofs.MovedCalls.{held-value, left-resized, staged-more}
 use Rattle.stream_moves.proofs.moving.lengthen_moving.Goals as goal
 
 pub leave_record-requires-clause-last : goal.leave_record-requires-clause-last

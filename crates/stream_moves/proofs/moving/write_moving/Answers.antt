@@ -1,4 +1,4 @@
-use Rattle.std.proofs.Common.{◌≡◌, ◌+◌, ◌/◌, ◌≤◌, ◌<◌, ◌∙◌, ap, length, sym, inl, inr, arith}
+use Rattle.std.proofs.Common.{◌+◌, ◌/◌, ◌∙◌, ap, length, sym, inl, inr, arith}
 use Rattle.std.specs.Option.{option_copied}
 use Rattle.list_laws.proofs.OptionLaws.{none_other, some_same}
 use Rattle.ntfs_def.specs.Rounded.{clusters_for}
