@@ -1,0 +1,6 @@
+mod MovedPart
+mod ValueBytes
+mod LeftRecord
+mod Moved
+mod MovedCalls
+pub mod MoveFound

@@ -1,0 +1,74 @@
+-- A PART OF A FILE THAT MOVES in the record that holds it, as the call tells it.
+use Rattle.std.proofs.Common.{◌≡◌, ◌+◌, ◌*◌, ◌<◌, ◌≤◌, ℕ, Bool, true, false, List, length, Option, Some, sym, ap, subst, ◌∙◌}
+use Rattle.std.specs.List.{flat_map}
+use Rattle.std.specs.Prelude.{All, IsSomeAnd, IsTrue, get_or, slice_get, take}
+use Rattle.vol_disk.specs.declared.Disk.{Ghosts}
+use Rattle.ntfs_def.specs.Attribute.{Attribute, attributes}
+use Rattle.ntfs_def.specs.declared.run_text.Run.{Run}
+use Rattle.volume_def.specs.Coverage.{IsApart}
+use Rattle.volume_def.specs.Files.{Part, parts, records_of}
+use Rattle.volume_def.specs.Readable.{IsFile, IsReadableVolume, WhereReadable}
+use Rattle.volume_def.specs.Room.{free_bytes}
+use Rattle.mft_table.specs.declared.mft.Mft.{Mft}
+use Rattle.mft_table.specs.Mft.{MftReads, view}
+use Rattle.file_record.specs.Attributes.{opened_record}
+use Rattle.file_record.specs.Held.{AreParts, AreRising, RecordHeld, attributes_in, file_number, held_of}
+use Rattle.file_record.specs.Records.{IsRecordOf}
+use Rattle.file_record.specs.Written.{IsWholeFile}
+use Rattle.file_record.specs.declared.held.Held.{Held}
+use Rattle.file_record.specs.declared.parts.FileParts.{FileParts}
+use Rattle.value_moves.specs.Moved.{CanBeMoved, MovesValue, MovesWhereItCan, moved_len}
+use Rattle.tree_edit.specs.Below.{IsInitialized}
+use Rattle.tree_edit.proofs.ChangePart as part
+use Rattle.stream_moves.specs.Moving.{MovesPartWhereItCan}
+
+module _ (file : FileParts) (k left i : ℕ) (inside : k < length (held_of file))
+    (place : i ≡ length (flat_map attributes_in (take k (held_of file))) + left)
+    (few : (d : Held) → left < (get_or (held_of file) k d).count) {D : Type 0} (g : Ghosts D) (f : ℕ) (a b c : Mft D g) (reads_n : ℕ)
+    (reads : MftReads g a b reads_n) (number : file_number file ≡ f) (rising : AreRising (held_of file))
+    (own : IsTrue (view g a).told → All (λ one. IsRecordOf (view g a) f one.number) (held_of file))
+    (parts_are : WhereReadable (view g a) (IsFile (view g a) f → AreParts (view g a) file)) (told : IsTrue (view g a).told)
+    (readable : IsReadableVolume (view g a)) (is_file : IsFile (view g a) f) (this : Part)
+    (there : slice_get (parts (records_of (view g a)) f) i ≡ Some this) (apart : IsApart (view g a).layout)
+    (initialized : IsInitialized (view g a) f) where
+  abbrev one : Held
+  one = part.one file k left i inside place few
+
+  -- the attribute of that record is the part
+  here : slice_get (attributes (opened_record (view g a) one.number)) left ≡ Some (part.its file k left i inside place few)
+  here =
+      ap (λ (xs : List Attribute). slice_get xs left)
+      (sym (part.current file k left i inside place few g f a b reads_n reads number rising own parts_are told readable is_file this there))
+      ∙ part.read file k left i inside place few
+
+  pub part-moved : (done : Bool) (run : Run) (real initialized_then : ℕ)
+      → (IsTrue (view g b).told → IsApart (view g b).layout → IsWholeFile (view g b) file
+      → RecordHeld file k (λ held. 1024 * held.number + 1024 ≤ (view g b).layout.initialized
+      → MovesWhereItCan done (view g b) (view g c) held.number left run real initialized_then))
+      → MovesPartWhereItCan done (view g a) (view g c) f this run real initialized_then
+  part-moved true run real initialized_then tells =
+      let r = part.in-each file k left i inside place few g f a b reads_n reads number rising own parts_are told readable is_file this there
+      (λ v n. MovesValue v (view g c) n left run real initialized_then) apart initialized tells in
+      record {
+        n = one.number;
+        own = part.record-own file k left i inside place few g f a b reads_n reads number rising own parts_are told readable is_file this there;
+        i = left;
+        moves = r;
+        is = part.is-part file k left i inside place few g f a b reads_n reads number rising own parts_are told readable is_file this there
+            r.was r.there;
+      }
+  part-moved false run real initialized_then tells =
+      let r = part.in-each file k left i inside place few g f a b reads_n reads number rising own parts_are told readable is_file this there
+      (λ v n. MovesWhereItCan false v (view g c) n left run real initialized_then) apart initialized tells in
+      let its = part.its file k left i inside place few in
+      record {
+        n = one.number;
+        own = part.record-own file k left i inside place few g f a b reads_n reads number rising own parts_are told readable is_file this there;
+        i = left;
+        was = its;
+        there = here;
+        is = part.is-part file k left i inside place few g f a b reads_n reads number rising own parts_are told readable is_file this there
+            its here;
+        lacks = subst (λ (o : Option Attribute). IsSomeAnd o (λ was. CanBeMoved was
+            → length was.bytes + free_bytes (view g a) one.number < moved_len was.name)) here r.0;
+      }
