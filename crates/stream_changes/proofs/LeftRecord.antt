@@ -1,16 +1,16 @@
 -- A VALUE THAT CAN LEAVE ITS RECORD: what is known of its attribute, and of a run that it may take.
-use Rattle.std.proofs.Common.{◌≡◌, ◌==◌, ◌⊎◌, ◌+◌, ◌*◌, ◌-◌, ◌/◌, ◌%◌, ◌^◌, ◌<◌, ◌≤◌, ℕ, Bool, true, false, List, [], ◌∷◌, Option, None, Some, length}
+use Rattle.std.proofs.Common.{◌≡◌, ◌==◌, ◌+◌, ◌*◌, ◌-◌, ◌/◌, ◌%◌, ◌^◌, ◌<◌, ◌≤◌, ℕ, List, [], ◌∷◌, Option, None, Some, length}
 use Rattle.std.proofs.Common.{refl, sym, ap, subst, ◌∙◌, arith}
 use Rattle.std.specs.List.{Contains, range_with_len}
 use Rattle.std.specs.Option.{option_to_list}
-use Rattle.std.specs.Prelude.{IfSome, IsSome, IsSomeAnd, IsTrue, slice_get}
+use Rattle.std.specs.Prelude.{IfSome, IsSome, IsSomeAnd, IsTrue}
 use Rattle.std.specs.Str.{bytes_eq}
 use Rattle.std.proofs.Math.Nat.{div-lt_iff_lt-mul, le-div_iff_mul-le, mul-le-mul_right}
-use Rattle.std.proofs.lemmas.Bool.{and_parts, both_ways, eqb-true}
+use Rattle.std.proofs.lemmas.Bool.{and_parts, eqb-true}
 use Rattle.std.proofs.lemmas.Nat.{mod_below}
 use Rattle.std.proofs.lemmas.Slice.Eq.{bytes_eq-Decides}
 use Rattle.list_laws.proofs.MemberLaws.{Contains-from_filter, Contains-from_flat_map, Contains-head, Contains-nil, Contains-only}
-use Rattle.list_laws.proofs.OptionLaws.{some-value, some_same}
+use Rattle.list_laws.proofs.OptionLaws.{some-value}
 use Rattle.ntfs_def.specs.Attribute.{Attribute}
 use Rattle.ntfs_def.specs.Fixup.{opened_of}
 use Rattle.ntfs_def.specs.Record.{used_size}
@@ -25,7 +25,6 @@ use Rattle.volume_def.specs.Blocks.{place_at}
 use Rattle.volume_def.specs.Coverage.{times_covered}
 use Rattle.volume_def.specs.Files.{Part, Record, content_value, file_of, is_base, is_of, part_of, parts, parts_at, record_on, records_of}
 use Rattle.volume_def.specs.ListsClause.{HasRightList}
-use Rattle.volume_def.specs.OwnersClause.{times_owned}
 use Rattle.volume_def.specs.Room.{free_bytes}
 use Rattle.volume_def.specs.Sound as clauses
 use Rattle.volume_def.specs.Table.{TableLayout, cluster_bytes}
@@ -33,9 +32,8 @@ use Rattle.volume_def.specs.Values.{pieces_touched}
 use Rattle.volume_def.specs.View.{VolumeView}
 use Rattle.volume_def.proofs.RunPieces.{total-cons}
 use Rattle.volume_def.proofs.RunPlaces.{times_in-spot_of}
-use Rattle.volume_edits.specs.Clusters.{IsInRange, IsOwnStream, IsPlaced, stream_place}
+use Rattle.volume_edits.specs.Clusters.{IsOwnStream, IsPlaced, stream_place}
 use Rattle.file_record.specs.Records.{IsRecordOf}
-use Rattle.value_moves.specs.Moved.{CanBeMoved, moved_len}
 use Rattle.sparse_io.specs.Overwritten.{touched_sectors}
 use Rattle.sparse_io.specs.declared.find.FoundStream.{FoundStream}
 use Rattle.stored_bits.specs.Taken.{IsUnownedRun}
@@ -43,10 +41,8 @@ use Rattle.value_edits.specs.ValueEdits.{IsStreamOf}
 use Rattle.value_edits.proofs.Below.{body-value}
 use Rattle.value_edits.proofs.CutExtent.{room-for}
 use Rattle.tree_edit.proofs.Below.{node-file}
-use Rattle.stream_changes.specs.Reached.{IsRunOf}
 use Rattle.stream_changes.specs.Staged.{IsOfFree}
 use Rattle.stream_changes.proofs.OwnRuns.{longer-own, run-placed}
-use Rattle.stream_changes.proofs.ReachLaws.{few-clusters}
 use Rattle.stream_changes.specs.Moving.{CanLeave, CannotMovePart}
 use Rattle.stream_changes.proofs.ValueBytes.{value-long}
 

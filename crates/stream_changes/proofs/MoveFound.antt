@@ -1,10 +1,10 @@
 -- WHAT WAS FOUND OF A STREAM that moves into clusters, by the words for that, where as many clusters are free: it can be written into so, or
 -- have another length.
-use Rattle.std.proofs.Common.{◌≡◌, ◌==◌, ◌&&◌, ◌||◌, ◌+◌, ◌*◌, ◌-◌, ◌/◌, ◌<◌, ◌≤◌, not, ℕ, Bool, true, false, max, List, [], ◌∷◌, length, Option, Some, None}
+use Rattle.std.proofs.Common.{◌≡◌, ◌==◌, ◌&&◌, ◌||◌, ◌+◌, ◌-◌, ◌<◌, ◌≤◌, not, ℕ, Bool, true, false, max, List, [], ◌∷◌, length, Option, Some}
 use Rattle.std.proofs.Common.{refl, sym, ap, subst, ◌∙◌, arith}
 use Rattle.std.specs.List.{Contains, list_any, range_with_len}
 use Rattle.std.specs.Option.{option_map_or}
-use Rattle.std.specs.Prelude.{IsTrue, count_by, is_some, nat_le, option_and_then, slice_get}
+use Rattle.std.specs.Prelude.{IsTrue, is_some, nat_le, option_and_then, slice_get}
 use Rattle.std.proofs.Math.Nat.{div-mul-le_self, le-div_iff_mul-le}
 use Rattle.std.proofs.lemmas.Bool.{and_parts, eqb-true, leb-false, leb-true, not-true, or_parts}
 use Rattle.std.proofs.lemmas.List.FromFn.{length-range_with_len}
@@ -13,7 +13,7 @@ use Rattle.list_laws.proofs.FindLaws.{find-found, none-counted}
 use Rattle.list_laws.proofs.MemberLaws.{Contains-from_filter}
 use Rattle.list_laws.proofs.OptionLaws.{some-is}
 use Rattle.ntfs_def.specs.Rounded.{clusters_for}
-use Rattle.ntfs_def.specs.declared.kinds.TheConstants.{DATA, FILE_NAME}
+use Rattle.ntfs_def.specs.declared.kinds.TheConstants.{DATA}
 use Rattle.volume_def.specs.CaseClause.{case_parts, volume_fold}
 use Rattle.volume_def.specs.Files.{Clusters, Content, Part, Record, Value, content_value, is_base, is_of, parts, parts_at, records_of}
 use Rattle.volume_def.specs.ListsClause.{is_list}
@@ -30,7 +30,6 @@ use Rattle.tree_model.specs.StreamRoom.{is_cluster, new_clusters, parts_named, s
 use Rattle.tree_model.specs.Tree.{sought_stream}
 use Rattle.tree_model.specs.Ways.{can_leave, fits_as_extent, fits_in_record, gets_no_longer, has_free_run, has_no_flags, has_no_list, has_placed_bits}
 use Rattle.tree_model.specs.Ways.{has_run_if_room, is_value_alone, moved_bytes, moves_by_write, moves_into_clusters, stays_value}
-use Rattle.tree_model.specs.declared.tree.Content.{Content as Shown}
 use Rattle.tree_model.specs.declared.tree.Stream.{Stream}
 use Rattle.sparse_io.specs.Held.{IsHeldWith, IsStream}
 use Rattle.sparse_io.proofs.OverwriteLaws.{found-first, found-parts}

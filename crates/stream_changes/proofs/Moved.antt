@@ -1,6 +1,6 @@
 -- A STREAM LEAVES ITS RECORD: a run is taken, bytes are put into it, its value becomes an extent of that run, and then the attributes of its
 -- file are set.
-use Rattle.std.proofs.Common.{◌≡◌, ◌⊎◌, ◌+◌, ◌*◌, ◌-◌, ◌/◌, ◌^◌, ◌<◌, ◌≤◌, ℕ, Bool, true, false, List, [], ◌∷◌, Option, None, Some, length}
+use Rattle.std.proofs.Common.{◌≡◌, ◌⊎◌, ◌+◌, ◌*◌, ◌/◌, ◌^◌, ◌<◌, ◌≤◌, ℕ, Bool, true, false, List, [], ◌∷◌, Some, length}
 use Rattle.std.proofs.Common.{refl, sym, ap, subst, inl, inr, ◌∙◌, arith}
 use Rattle.std.specs.List.{Contains}
 use Rattle.std.specs.Prelude.{IsTrue, slice_get, sum_by}
@@ -12,8 +12,7 @@ use Rattle.ntfs_def.specs.declared.kinds.TheConstants.{DATA}
 use Rattle.ntfs_def.specs.declared.run_text.Run.{Run}
 use Rattle.volume_def.specs.Coverage.{IsApart, times_covered}
 use Rattle.volume_def.specs.FileNames.{names_of}
-use Rattle.volume_def.specs.Files.{Part, Records, content_value, part_of, parts, parts_at, records_of}
-use Rattle.volume_def.specs.OwnersClause.{times_owned}
+use Rattle.volume_def.specs.Files.{Part, Records, content_value, part_of, parts, records_of}
 use Rattle.volume_def.specs.Readable.{IsFile, IsReadableVolume, WhereReadable}
 use Rattle.volume_def.specs.Table.{TableLayout, cluster_bytes}
 use Rattle.volume_def.specs.View.{VolumeView}
@@ -29,7 +28,7 @@ use Rattle.record_edits.specs.Given.{TakesRuns}
 use Rattle.value_moves.specs.Moved.{MovesValue}
 use Rattle.sparse_io.specs.Overwritten.{touched_sectors}
 use Rattle.sparse_io.specs.declared.find.FoundStream.{FoundStream}
-use Rattle.tree_model.specs.Streams.{resized, written}
+use Rattle.tree_model.specs.Streams.{resized}
 use Rattle.tree_model.specs.Ways.{has_placed_bits}
 use Rattle.stored_bits.specs.Given.{IsOfBits}
 use Rattle.stored_bits.specs.Taken.{IsUnownedRun}
@@ -51,7 +50,7 @@ use Rattle.stream_changes.specs.Staged.{IsOfFree, IsOfGiving, StagesGiving}
 use Rattle.stream_changes.specs.Streams.{FindsNamed}
 use Rattle.stream_changes.proofs.BehindVolume as volume
 use Rattle.stream_changes.proofs.Changed as changed
-use Rattle.stream_changes.specs.Moving.{CanLeave, CannotMovePart, IsFreeRun, LeavesRecord, MovesPart, MovesPartWhereItCan}
+use Rattle.stream_changes.specs.Moving.{CanLeave, IsFreeRun, LeavesRecord, MovesPart, MovesPartWhereItCan}
 use Rattle.stream_changes.proofs.LeftRecord as left
 use Rattle.stream_changes.proofs.ValueBytes.{value-long}
 

@@ -1,7 +1,7 @@
 -- WHAT THE CALLS LEAVE of a stream that left its record, by what it had: the bytes that were written, or its length.
-use Rattle.std.proofs.Common.{◌≡◌, ◌+◌, ◌*◌, ◌/◌, ◌<◌, ◌≤◌, ℕ, List, [], ◌∷◌, ◌++◌, Option, None, Some, length, replicate, take, drop}
-use Rattle.std.proofs.Common.{refl, sym, ap, subst, inl, inr, ◌∙◌, arith, append_assoc}
-use Rattle.std.specs.Prelude.{◌⊎◌, IsSomeAnd, IsTrue, slice_get, sum_by}
+use Rattle.std.proofs.Common.{◌≡◌, ◌+◌, ◌*◌, ◌/◌, ◌<◌, ◌≤◌, ℕ, List, [], ◌∷◌, Option, Some, length}
+use Rattle.std.proofs.Common.{sym, ap, subst, inl, inr, ◌∙◌, arith}
+use Rattle.std.specs.Prelude.{IsSomeAnd, slice_get, sum_by}
 use Rattle.std.proofs.lemmas.Bool.{cases_lt}
 use Rattle.vol_disk.specs.declared.Disk.{Ghosts}
 use Rattle.ntfs_def.specs.declared.kinds.TheConstants.{DATA}
@@ -11,16 +11,15 @@ use Rattle.volume_def.specs.Files.{Part, content_value, parts, parts_at, records
 use Rattle.volume_def.specs.Table.{cluster_bytes}
 use Rattle.volume_def.specs.View.{VolumeView}
 use Rattle.mft_table.specs.declared.mft.Mft.{Mft}
-use Rattle.mft_table.specs.Mft.{view}
 use Rattle.file_record.specs.Held.{parts_held}
 use Rattle.file_record.specs.Written.{PartHeld}
 use Rattle.file_record.specs.declared.parts.FileParts.{FileParts}
 use Rattle.edit_def.specs.Purses.{run_size}
 use Rattle.sparse_io.specs.declared.find.FoundStream.{FoundStream}
 use Rattle.tree_model.specs.StreamRoom.{new_clusters}
-use Rattle.tree_model.specs.Streams.{resized, written}
+use Rattle.tree_model.specs.Streams.{written}
 use Rattle.tree_edit.proofs.StagedLaws.{few-more}
-use Rattle.value_edits.specs.ValueEdits.{PutsBytes, ResizesStream, count_by_length, gained_by_length, gained_by_write}
+use Rattle.value_edits.specs.ValueEdits.{PutsBytes, ResizesStream, count_by_length, gained_by_write}
 use Rattle.value_edits.proofs.WrittenBytes.{written-long}
 use Rattle.moved_streams.specs.MovedStreams.{MovesStream}
 use Rattle.moved_streams.proofs.MovedCalls.{lengthened-few, lengthened-moved, written-few, written-moved}

@@ -9,7 +9,6 @@ use Rattle.volume_def.specs.Coverage.{IsApart}
 use Rattle.volume_def.specs.Files.{Part, parts, records_of}
 use Rattle.volume_def.specs.Readable.{IsFile, IsReadableVolume, WhereReadable}
 use Rattle.volume_def.specs.Room.{free_bytes}
-use Rattle.volume_def.specs.View.{VolumeView}
 use Rattle.mft_table.specs.declared.mft.Mft.{Mft}
 use Rattle.mft_table.specs.Mft.{MftReads, view}
 use Rattle.file_record.specs.Attributes.{opened_record}

@@ -1,5 +1,5 @@
 -- A VALUE AND ITS ATTRIBUTE: the attribute has 24 bytes more at least, and its record 1,024 in all. What is held of a value.
-use Rattle.std.proofs.Common.{◌≡◌, ◌+◌, ◌*◌, ◌<◌, ◌≤◌, ℕ, Bool, true, false, cond, List, Option, None, Some, length, refl, sym, ap, subst, inl, inr, ◌∙◌, arith}
+use Rattle.std.proofs.Common.{◌≡◌, ◌+◌, ◌<◌, ◌≤◌, ℕ, Bool, true, false, cond, List, Option, None, Some, length, refl, sym, ap, subst, inl, inr, ◌∙◌, arith}
 use Rattle.std.specs.Prelude.{IsSomeAnd, slice_get, slice_range}
 use Rattle.std.proofs.lemmas.Bool.{cases_lt}
 use Rattle.std.proofs.lemmas.Option.{slice_get_within}
@@ -11,7 +11,7 @@ use Rattle.ntfs_def.specs.Record.{used_size}
 use Rattle.ntfs_def.specs.Shape.{HasShape, IsAttribute}
 use Rattle.ntfs_def.proofs.AttributeLaws.{slice_get-attributes}
 use Rattle.ntfs_def.proofs.ShapeLaws.{IsWhole-long, header_failing-length, header_failing-used}
-use Rattle.volume_def.specs.Files.{Content, Part, content_value, part_of}
+use Rattle.volume_def.specs.Files.{Part, content_value, part_of}
 use Rattle.volume_def.specs.View.{VolumeView}
 use Rattle.file_record.specs.Attributes.{opened_record}
 use Rattle.file_record.specs.Records.{IsRecordOf}

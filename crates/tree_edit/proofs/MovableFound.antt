@@ -1,5 +1,5 @@
 -- WHETHER THE STREAM THAT WAS FOUND CAN MOVE INTO CLUSTERS: by its size, its attribute, and the bytes that are free beside it.
-use Rattle.std.proofs.Common.{◌≡◌, ◌&&◌, ◌||◌, ◌+◌, ◌<◌, ◌≤◌, ◌==◌, not, ℕ, Bool, true, false, List, length, Option, Some, None, inl, inr, refl, sym, ap, subst, ◌∙◌, arith}
+use Rattle.std.proofs.Common.{◌≡◌, ◌&&◌, ◌||◌, ◌+◌, ◌<◌, ◌≤◌, ◌==◌, not, ℕ, Bool, true, false, List, length, Option, Some, inl, inr, refl, sym, ap, subst, ◌∙◌, arith}
 use Rattle.std.specs.Prelude.{IfNone, IfSome, IsSomeAnd, is_some, nat_le, nat_lt, slice_get}
 use Rattle.std.specs.List.{count_by, list_any}
 use Rattle.std.specs.Option.{option_map_or}
@@ -11,7 +11,7 @@ use Rattle.ntfs_def.specs.Rounded.{clusters_for}
 use Rattle.volume_def.specs.CaseClause.{case_parts}
 use Rattle.volume_def.specs.Files.{Part, part_of, parts, records_of}
 use Rattle.volume_def.specs.ListsClause.{is_list}
-use Rattle.volume_def.specs.Room.{free_bytes, unowned_clusters}
+use Rattle.volume_def.specs.Room.{free_bytes}
 use Rattle.volume_def.specs.Sound.{IsSound}
 use Rattle.volume_def.specs.Table.{cluster_bytes}
 use Rattle.volume_def.specs.Values.{first_part, value_on}

@@ -2,7 +2,7 @@
 -- does not stay in its record, and can leave that for a run of as many clusters as its bytes then need. Where the bits of clusters lie is
 -- not asked here.
 -- Layout: Linux-NTFS documentation, "Attribute Headers" and concept "Data Runs"; Carrier, File System Forensic Analysis, chapter 13.
-use Rattle.std.specs.Prelude.{◌+◌, ◌-◌, ◌==◌, ◌&&◌, ℕ, nat_le, not, Bool, false, List, length}
+use Rattle.std.specs.Prelude.{◌+◌, ◌==◌, ◌&&◌, ℕ, nat_le, not, Bool, false, List, length}
 use Rattle.std.specs.Option.{option_map_or}
 use Rattle.ntfs_def.specs.Attribute.{Attribute, value_of}
 use Rattle.ntfs_def.specs.Rounded.{clusters_for}

@@ -15,8 +15,8 @@ use file_room::{Stop, ask_for_room};
 use mft_table::Mft;
 use vol_disk::Disk;
 
-/// Asks for the room of bytes that go into the stream that was found, a value of a file without an attribute list: the clusters that it may come
-/// to own, and what its file may need for a longer attribute list.
+/// Asks for the room of bytes that go into the stream that was found, a value of a file without an attribute list: the clusters that it may
+/// come to own, and what its file may need for a longer attribute list.
 ///
 /// # Errors
 ///

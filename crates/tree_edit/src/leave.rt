@@ -1,4 +1,5 @@
-//! Whether a value can leave its record for a run of clusters, by its attribute and what is free beside it, and by the clusters that are free.
+//! Whether a value can leave its record for a run of clusters, by its attribute and what is free beside it, and by the clusters that are
+//! free.
 ghost use Rattle.std.specs.Prelude.{◌≡◌, ◌≤◌, ◌<◌};
 ghost use Rattle.ntfs_def.specs.Rounded.{clusters_for};
 ghost use Rattle.volume_def.specs.View.{VolumeView};
@@ -11,8 +12,8 @@ use attr_view::AttrView;
 use mft_table::Mounted;
 use stored_bits::free_run;
 
-// The bytes that an extent of one run has more than the value in whose place it comes, beside its name: a header of 64 and 24 for the run, less
-// the 24 of the value's header; 7 more, as many as the name may be rounded up by, and one.
+// The bytes that an extent of one run has more than the value in whose place it comes, beside its name: a header of 64 and 24 for the run,
+// less the 24 of the value's header; 7 more, as many as the name may be rounded up by, and one.
 const EXTENT_BYTES: usize = 72;
 
 // The clusters of `size` bytes that so many bytes fill.
@@ -43,8 +44,8 @@ fn has_run(mounted: &Mounted, count: u64) -> bool
     mounted.clusters.count_free() < count || free_run(&mounted.clusters, count, 0).is_some()
 }
 
-/// Whether an attribute, beside which so many bytes are free in its record, is a value without flags that can leave it for an extent of one run
-/// of so many clusters, some, of `cluster_bytes` each, which are as many as `size` bytes need.
+/// Whether an attribute, beside which so many bytes are free in its record, is a value without flags that can leave it for an extent of one
+/// run of so many clusters, some, of `cluster_bytes` each, which are as many as `size` bytes need.
 pub fn can_leave(
     mounted: &Mounted,
     cluster_bytes: u64,

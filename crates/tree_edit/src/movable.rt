@@ -16,7 +16,8 @@ use mft_table::Mounted;
 use sparse_io::{FoundStream, look_at_names};
 use std::alloc::{AllocError, Global};
 
-// Whether the stream that was found is a value alone that does not stay in its record with so many bytes, and can leave it for so many clusters.
+// Whether the stream that was found is a value alone that does not stay in its record with so many bytes, and can leave it for so many
+// clusters.
 fn can_move(
     alloc: Global,
     mounted: &Mounted,
@@ -45,9 +46,9 @@ fn can_move(
     Ok(can_leave(mounted, cluster_bytes, &attribute, free, size, count))
 }
 
-/// Whether the stream that was found is a value of a file that can be edited and has no attribute list, so many bytes from `at` on go over its
-/// bytes, or right behind them, and then it does not stay in its record, but can leave it for a run of the clusters that it needs then, which
-/// are free one behind the other, unless fewer are free in all.
+/// Whether the stream that was found is a value of a file that can be edited and has no attribute list, so many bytes from `at` on go over
+/// its bytes, or right behind them, and then it does not stay in its record, but can leave it for a run of the clusters that it needs then,
+/// which are free one behind the other, unless fewer are free in all.
 ///
 /// # Errors
 ///

@@ -1,9 +1,8 @@
-use Rattle.std.proofs.Common.{◌≡◌, ◌+◌, ◌*◌, ◌^◌, ◌<◌, ◌∙◌, [], Option, ap, length, subst, sym, arith}
+use Rattle.std.proofs.Common.{◌*◌, ◌<◌, ◌∙◌, [], Option, ap, subst, sym, arith}
 use Rattle.std.specs.Prelude.{IfNone, IfSome, List}
 use Rattle.std.proofs.lemmas.List.Sums.{sum_by-cons}
 use Rattle.ntfs_def.specs.Rounded.{clusters_for}
 use Rattle.ntfs_def.specs.declared.run_text.Run.{Run}
-use Rattle.volume_def.specs.Table.{cluster_bytes}
 use Rattle.mft_table.specs.Mft.{mounted_of, view}
 use Rattle.edit_def.specs.Purses.{run_size}
 use Rattle.stored_bits.proofs.DeviceKept.{device-same}

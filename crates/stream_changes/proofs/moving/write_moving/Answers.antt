@@ -1,4 +1,4 @@
-use Rattle.std.proofs.Common.{◌≡◌, ◌+◌, ◌/◌, ◌≤◌, ◌<◌, ◌∙◌, ap, length, sym, inl, inr, arith}
+use Rattle.std.proofs.Common.{◌+◌, ◌/◌, ◌∙◌, ap, length, sym, inl, inr, arith}
 use Rattle.std.specs.Option.{option_copied}
 use Rattle.list_laws.proofs.OptionLaws.{none_other, some_same}
 use Rattle.ntfs_def.specs.Rounded.{clusters_for}
@@ -32,7 +32,7 @@ returns-clause-written g c = λ told can.
     let v = view g.D.Disk c.args.mft.now in
     let bytes = c.args.bytes.now in
     let shown = some_same (sym (ap option_copied c.in-Some.is) ∙ held-value v c.args.found.now c.args.number (c.args.at + length bytes)
-    can.leave c.args.held.now (option_copied c.value_of_part-value.result) (c.requires.held told) c.value_of_part-value.ensures) in
+    can.leave c.args.held.now (option_copied c.value_of_part.result) (c.requires.held told) c.value_of_part.ensures) in
     let whole = rw c.in-Some-2.is at c.in_ok-whole.ensures.written in
     left-written v (view g.D.Disk c.leave_record.new.mft) c.args.found.now c.args.number c.args.at bytes can c.deref.result.now
     (c.deref.ensures.value ∙ whole ∙ ap (written c.args.at bytes) shown) c.args.times.now c.args.flags
@@ -55,14 +55,14 @@ returns-clause-places g c = λ told.
 pub returns-in_default-clause-written : goal.returns-in_default-clause-written
 returns-in_default-clause-written g c = λ told can.
     absurd (none_other (sym (ap option_copied c.in_default.is) ∙ held-value (view g.D.Disk c.args.mft.now) c.args.found.now c.args.number
-    (c.args.at + length c.args.bytes.now) can.leave c.args.held.now (option_copied c.value_of_part-value.result) (c.requires.held told)
-    c.value_of_part-value.ensures))
+    (c.args.at + length c.args.bytes.now) can.leave c.args.held.now (option_copied c.value_of_part.result) (c.requires.held told)
+    c.value_of_part.ensures))
 
 pub returns-in_default-clause-places : goal.returns-in_default-clause-places
 returns-in_default-clause-places g c = λ told.
     absurd (none_other (sym (ap option_copied c.in_default.is) ∙ held-value (view g.D.Disk c.args.mft.now) c.args.found.now c.args.number
-    (c.args.at + length c.args.bytes.now) (c.requires.can told).leave c.args.held.now (option_copied c.value_of_part-value.result)
-    (c.requires.held told) c.value_of_part-value.ensures))
+    (c.args.at + length c.args.bytes.now) (c.requires.can told).leave c.args.held.now (option_copied c.value_of_part.result)
+    (c.requires.held told) c.value_of_part.ensures))
 
 pub returns-in_default-clause-device : goal.returns-in_default-clause-device
 returns-in_default-clause-device g c = device-same g.D.Disk c.args.mft.now
@@ -71,8 +71,8 @@ returns-in_default-clause-device g c = device-same g.D.Disk c.args.mft.now
 pub returns-in_default-2-clause-written : goal.returns-in_default-2-clause-written
 returns-in_default-2-clause-written g c = λ told can.
     let shown = some_same (sym (ap option_copied c.in-Some.is) ∙ held-value (view g.D.Disk c.args.mft.now) c.args.found.now c.args.number
-    (c.args.at + length c.args.bytes.now) can.leave c.args.held.now (option_copied c.value_of_part-value.result) (c.requires.held told)
-    c.value_of_part-value.ensures) in
+    (c.args.at + length c.args.bytes.now) can.leave c.args.held.now (option_copied c.value_of_part.result) (c.requires.held told)
+    c.value_of_part.ensures) in
     elim (rw c.in_default-2.is at c.in_ok-whole.ensures.none) [
       | inl before ↦ absurd (omega (arith, before, can.begins, ap length shown))
       | inr within ↦ absurd (omega (arith, within, can.longer, ap length shown))
@@ -82,8 +82,8 @@ pub returns-in_default-2-clause-places : goal.returns-in_default-2-clause-places
 returns-in_default-2-clause-places g c = λ told.
     let can = c.requires.can told in
     let shown = some_same (sym (ap option_copied c.in-Some.is) ∙ held-value (view g.D.Disk c.args.mft.now) c.args.found.now c.args.number
-    (c.args.at + length c.args.bytes.now) can.leave c.args.held.now (option_copied c.value_of_part-value.result) (c.requires.held told)
-    c.value_of_part-value.ensures) in
+    (c.args.at + length c.args.bytes.now) can.leave c.args.held.now (option_copied c.value_of_part.result) (c.requires.held told)
+    c.value_of_part.ensures) in
     elim (rw c.in_default-2.is at c.in_ok-whole.ensures.none) [
       | inl before ↦ absurd (omega (arith, before, can.begins, ap length shown))
       | inr within ↦ absurd (omega (arith, within, can.longer, ap length shown))
