@@ -111,7 +111,7 @@ module _ (v : VolumeView) (found : Writable) (name : List ℕ) (can : ℕ → Bo
   kind = eqb-true s.part.kind DATA (and_parts (s.part.kind == DATA) _ among.1).0
 
   -- WHAT IS SHOWN of it
-  unfoldable pub named : FindsNamed v f
+  named : FindsNamed v f
   named = record {
     can = is.settable.can;
     asked = name;
@@ -185,7 +185,7 @@ module _ (v : VolumeView) (found : Writable) (name : List ℕ) (can : ℕ → Bo
           ap (λ (o : Option Part). 72 + option_map_or (λ (part : Part). length part.name) o 0) first-there in
           omega (arith, fits, named_so, had)
 
-      unfoldable pub leave-can : CanLeave v found.stream f size
+      leave-can : CanLeave v found.stream f size
       unfolding named
       leave-can = record {
         named = named;
@@ -217,7 +217,7 @@ module _ (v : VolumeView) (found : Writable) (name : List ℕ) (can : ℕ → Bo
     last = and_parts (can_leave v f there size count) (has_placed_bits v)
         (and_parts (not (stays_value v (read v) (named_in (read v) name f) size)) _ behind).1
 
-    unfoldable pub leave-so : CanLeave v found.stream f size
+    leave-so : CanLeave v found.stream f size
     leave-so = leave-can value-is size count last.0 free last.1
 
     longer : length bytes < size
@@ -231,7 +231,7 @@ module _ (v : VolumeView) (found : Writable) (name : List ℕ) (can : ℕ → Bo
         (sym (ap (gets_no_longer size) (content-is v found.held is.held name found.stream s ∙ ap Some is.stream.holds)) ∙ short)
 
   -- BYTES CAN BE WRITTEN INTO IT so ..
-  unfoldable pub can-move : (at len : ℕ) → moves_by_write v (read v) (named_in (read v) name f) at len ≡ true
+  pub can-move : (at len : ℕ) → moves_by_write v (read v) (named_in (read v) name f) at len ≡ true
       → has_free_run v (new_clusters (cluster_bytes v.layout) there at len) ≡ true → CanMove v found.stream f at len
   unfolding leave-so leave-can named
   can-move at len moves free =
@@ -244,6 +244,17 @@ module _ (v : VolumeView) (found : Writable) (name : List ℕ) (can : ℕ → Bo
         begins = omega (arith, begins, long);
         longer = longer (at + len) count both.1 free;
       }
+
+  -- .. by the name that it has, and the bytes that it shows,
+  module _ (at len : ℕ) (moves : moves_by_write v (read v) (named_in (read v) name f) at len ≡ true)
+      (free : has_free_run v (new_clusters (cluster_bytes v.layout) there at len) ≡ true) where
+    pub can-move-name : (can-move at len moves free).leave.named.name ≡ s.part.name
+    unfolding can-move leave-so leave-can named
+    can-move-name = refl
+
+    pub can-move-held : (can-move at len moves free).leave.named.held ≡ bytes
+    unfolding can-move leave-so leave-can named
+    can-move-held = refl
 
   -- .. or it can have so many bytes.
   pub can-lengthen : (size : ℕ)

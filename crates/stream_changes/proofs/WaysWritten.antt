@@ -38,7 +38,7 @@ use Rattle.tree_edit.proofs.MovableLaws.{by-bytes}
 use Rattle.stream_changes.specs.Moving.{CanMove}
 use Rattle.stream_changes.specs.Streams.{CanGive, CanReach, WritesSo}
 use Rattle.stream_changes.proofs.ExtentCovers.{extent-fits}
-use Rattle.stream_changes.proofs.MoveFound.{can-move, leave-can, leave-so, named}
+use Rattle.stream_changes.proofs.MoveFound.{can-move, can-move-held, can-move-name}
 use Rattle.stream_changes.proofs.ResizableRoom.{resizable-room}
 use Rattle.stream_changes.proofs.ValueChanged.{droppable-can, resizable-can}
 use Rattle.stream_changes.proofs.WaysFound.{extent-can, there-are}
@@ -187,6 +187,14 @@ module _ (v : VolumeView) (found : Writable) (name : List ℕ) (at len : ℕ) (w
     moving : CanMove v found.stream f at len
     moving = can-move v found name (λ file. can_write v name at len found.way file) w at len by-words moving-bits.1
 
+    moving-name : moving.leave.named.name ≡ w.stream.is.part.name
+    unfolding moving
+    moving-name = can-move-name v found name (λ file. can_write v name at len found.way file) w at len by-words moving-bits.1
+
+    moving-held : moving.leave.named.held ≡ w.stream.bytes
+    unfolding moving
+    moving-held = can-move-held v found name (λ file. can_write v name at len found.way file) w at len by-words moving-bits.1
+
 module _ (v new : VolumeView) (found : Writable) (number : ℕ) (is : number ≡ number_of found.held) (at : ℕ) (bytes : List ℕ) where
   abbrev pub CanWrite : Type 0
   CanWrite = IsTrue v.told → (name : List ℕ) × IsWritable v found name at (length bytes)
@@ -262,9 +270,12 @@ module _ (v new : VolumeView) (found : Writable) (number : ℕ) (is : number ≡
 
     pub moving-writes : found.way ≡ way.IntoClusters → (IsTrue v.told → (can : CanMove v found.stream number at (length bytes))
         → PutsBytes v new number can.leave.named.name at bytes can.leave.named.held times found.flags) → WasWritten
-    unfolding named leave-can leave-so can-move moving
     moving-writes so does told name can =
+        let m = moving v found name at (length bytes) can so in
         subst (λ w. WritesSo w at bytes v new (number_of found.held) can.stream.is.part.name can.stream.bytes times found.flags) (sym so)
+        (subst (λ (held : List ℕ). PutsBytes v new (number_of found.held) can.stream.is.part.name at bytes held times found.flags)
+        (moving-held v found name at (length bytes) can so)
+        (subst (λ (own : List ℕ). PutsBytes v new (number_of found.held) own at bytes m.leave.named.held times found.flags)
+        (moving-name v found name at (length bytes) can so)
         (subst (λ k. (can : CanMove v found.stream k at (length bytes))
-        → PutsBytes v new k can.leave.named.name at bytes can.leave.named.held times found.flags) is (does told)
-        (moving v found name at (length bytes) can so))
+        → PutsBytes v new k can.leave.named.name at bytes can.leave.named.held times found.flags) is (does told) m)))

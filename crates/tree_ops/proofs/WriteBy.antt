@@ -102,13 +102,18 @@ none-over true over value alone fits e = cc
 none-over false true value alone fits e = cc
 none-over false false value alone fits e = refl
 
-none-over_there : (cannot over extent behind begins value alone rest last : Bool)
-    → (not (not cannot && over) && (((not cannot && extent) && behind)
-    || ((begins && (((not cannot && value) && alone) && rest)) && last))) ≡ true → over ≡ false
-none-over_there cannot false extent behind begins value alone rest last e = refl
-none-over_there true true extent behind true value alone rest last e = cc
-none-over_there true true extent behind false value alone rest last e = cc
-none-over_there false true extent behind begins value alone rest last e = cc
+none-over_there : (cannot over extent reaches : Bool) → (not (not cannot && over) && ((not cannot && extent) && reaches)) ≡ true
+    → over ≡ false
+none-over_there true over extent reaches e = cc
+none-over_there false true extent reaches e = cc
+none-over_there false false extent reaches e = refl
+
+none-over_moving : (cannot over begins value alone rest last : Bool)
+    → (not (not cannot && over) && ((begins && (((not cannot && value) && alone) && rest)) && last)) ≡ true → over ≡ false
+none-over_moving cannot false begins value alone rest last e = refl
+none-over_moving true true true value alone rest last e = cc
+none-over_moving true true false value alone rest last e = cc
+none-over_moving false true begins value alone rest last e = cc
 
 module _ (facts : Facts) (view : VolumeView) (opens : List OpenEntry) (now session : ℕ) (path : List (List ℕ)) (stream : Option (List ℕ))
     (from : ℕ) (bytes : List ℕ) (tells : TellsFacts view facts) where
@@ -340,7 +345,10 @@ module _ (view new : VolumeView) (file : ℕ) (asked : List ℕ) (from : ℕ) (b
             other_bytes (over_by parts)
             (ap over_by parts-same ∙ none-over_there cannot_so (over_by there)
             (in_extent (first_part there) && ((length there == 1) && has_no_list view number))
-            (has_placed_bits view && can_go_behind view number there from (length bytes.now)) (nat_le from (stream_value_len there))
+            (has_placed_bits view && can_go_behind view number there from (length bytes.now)) can) puts
+        by way.IntoClusters e can puts =
+            other_bytes (over_by parts)
+            (ap over_by parts-same ∙ none-over_moving cannot_so (over_by there) (nat_le from (stream_value_len there))
             (is_some (stream_value there)) (has_no_list view number)
             (not (can_resize view asked (from + length bytes.now) number) && can_leave view number there (from + length bytes.now) new_count)
             (has_placed_bits view && has_free_run view new_count) can) puts

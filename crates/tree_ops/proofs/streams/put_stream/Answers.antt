@@ -87,7 +87,7 @@ returns-in-Write-clause-places g c =
     subst (λ what. OnOk c.write_stream.result (IsTrue v.told → StagesSo g.D.Disk what f c.args.mft.now c.write_stream.new.mft))
     (sym c.in-Write.is)
     (subst (λ (all : List ℕ). OnOk c.write_stream.result (IsTrue v.told
-    → StagesGiving g.D.Disk (10 + length all / 512) f v c.args.mft.now c.write_stream.new.mft)) c.as_slice.ensures
+    → StagesGiving g.D.Disk (12 + length all / 512) f v c.args.mft.now c.write_stream.new.mft)) c.as_slice.ensures
     c.write_stream.ensures.places)
 
 pub returns-in-Punch-clause-places : goal.returns-in-Punch-clause-places
