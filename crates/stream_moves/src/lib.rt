@@ -1,5 +1,5 @@
-//! A stream that is a value, of a file without an attribute list, leaves its record for clusters: with bytes that are written into it, or in
-//! another length.
+//! A stream that is a value, of a file without an attribute list, leaves its record for clusters: with bytes that are written into it, or
+//! in another length.
 #![tactic(auto)]
 
 mod leaving;
