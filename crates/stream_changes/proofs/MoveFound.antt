@@ -1,5 +1,5 @@
--- WHAT WAS FOUND OF A STREAM that moves into clusters, by the words for that, where as many clusters are free: it can be written into so, or
--- have another length.
+-- WHAT WAS FOUND OF A STREAM that moves into clusters, by the words for that, where as many clusters are free: it can be written into so,
+-- or have another length.
 use Rattle.std.proofs.Common.{◌≡◌, ◌==◌, ◌&&◌, ◌||◌, ◌+◌, ◌-◌, ◌<◌, ◌≤◌, not, ℕ, Bool, true, false, max, List, [], ◌∷◌, length, Option, Some}
 use Rattle.std.proofs.Common.{refl, sym, ap, subst, ◌∙◌, arith}
 use Rattle.std.specs.List.{Contains, list_any, range_with_len}

@@ -1,5 +1,5 @@
--- A STREAM LEAVES ITS RECORD: a run is taken, bytes are put into it, its value becomes an extent of that run, and then the attributes of its
--- file are set.
+-- A STREAM LEAVES ITS RECORD: a run is taken, bytes are put into it, its value becomes an extent of that run, and then the attributes of
+-- its file are set.
 use Rattle.std.proofs.Common.{◌≡◌, ◌⊎◌, ◌+◌, ◌*◌, ◌/◌, ◌^◌, ◌<◌, ◌≤◌, ℕ, Bool, true, false, List, [], ◌∷◌, Some, length}
 use Rattle.std.proofs.Common.{refl, sym, ap, subst, inl, inr, ◌∙◌, arith}
 use Rattle.std.specs.List.{Contains}

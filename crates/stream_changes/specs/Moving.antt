@@ -20,9 +20,9 @@ use Rattle.tree_edit.specs.Below.{SetsAttributes}
 use Rattle.stream_changes.specs.Reached.{IsRunOf, IsUnownedBy}
 use Rattle.stream_changes.specs.Streams.{FindsNamed}
 
--- IT CAN LEAVE its record for as many clusters as so many bytes need: the file can be edited and has no attribute list; what was found of the
--- stream is its only part, a value without flags, and the record has the bytes of the extent that comes for it (72 and the name, where 24 of
--- a header go). As many clusters are free one behind the other, and the bitmap of clusters lies in clusters too.
+-- IT CAN LEAVE its record for as many clusters as so many bytes need: the file can be edited and has no attribute list; what was found of
+-- the stream is its only part, a value without flags, and the record has the bytes of the extent that comes for it (72 and the name, where
+-- 24 of a header go). As many clusters are free one behind the other, and the bitmap of clusters lies in clusters too.
 pub record CanLeave (view : VolumeView) (found : FoundStream) (f size : ℕ) : Type 0 where
   pub named : FindsNamed view f
   pub one : IsInOneRecord view f

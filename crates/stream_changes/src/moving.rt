@@ -1,5 +1,6 @@
 //! A stream that is a value leaves its record for clusters with bytes that are written into it, or in another length.
-ghost use Rattle.std.specs.Prelude.{◌≡◌, ◌⊎◌, ◌+◌, ◌/◌, ◌^◌, ◌<◌, ◌≤◌, IfErr, IfNone, IfOk, IfSome, IsTrue, MatchResult, OnOk, false, length};
+ghost use Rattle.std.specs.Prelude.{◌≡◌, ◌⊎◌, ◌+◌, ◌/◌, ◌^◌, ◌<◌, ◌≤◌, IfErr, IfNone, IfOk, IfSome, IsTrue, MatchResult, OnOk, false};
+ghost use Rattle.std.specs.Prelude.{length};
 ghost use Rattle.volume_def.specs.Files.{parts, records_of};
 ghost use Rattle.mft_table.specs.InUse.{IsInUse};
 ghost use Rattle.mft_table.specs.Mft.{faults_of, is_mft_broken, mounted_of, view};
@@ -46,10 +47,10 @@ fn with_bytes(
     Ok(Some(whole))
 }
 
-/// Writes bytes into a stream that is a value, from its byte `at` on, within it or right behind it, which its record has no room for; `held`
-/// are the records of its file. The stream leaves its record for a run of as many clusters as its bytes then need, into which they are put.
-/// Then the four times of the file are set, in the order of its `$STANDARD_INFORMATION`, and its DOS flags, as `set_attributes` does. All of
-/// it is staged.
+/// Writes bytes into a stream that is a value, from its byte `at` on, within it or right behind it, which its record has no room for;
+/// `held` are the records of its file. The stream leaves its record for a run of as many clusters as its bytes then need, into which they
+/// are put. Then the four times of the file are set, in the order of its `$STANDARD_INFORMATION`, and its DOS flags, as `set_attributes`
+/// does. All of it is staged.
 ///
 /// # Errors
 ///
@@ -99,9 +100,9 @@ pub fn write_moving<D: Disk>(
     Ok(())
 }
 
-/// Gives a stream that is a value so many bytes, more than its record has room for, which end in the last cluster that those fill that it has;
-/// `held` are the records of its file. The stream leaves its record for a run of as many clusters, into which the value is put, and shows
-/// zeros behind it. Then the four times of the file are set, in the order of its `$STANDARD_INFORMATION`, and its DOS flags, as
+/// Gives a stream that is a value so many bytes, more than its record has room for, which end in the last cluster that those fill that it
+/// has; `held` are the records of its file. The stream leaves its record for a run of as many clusters, into which the value is put, and
+/// shows zeros behind it. Then the four times of the file are set, in the order of its `$STANDARD_INFORMATION`, and its DOS flags, as
 /// `set_attributes` does. All of it is staged.
 ///
 /// # Errors

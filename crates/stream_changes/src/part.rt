@@ -29,8 +29,8 @@ pub fn value_of_part(held: &FileParts, i: usize) -> Option<&[u8]>
     held.attr(i).value()
 }
 
-/// Lets the value of part `i` of a file become an extent of this run alone, with these two sizes, and stages the record that holds it. Where
-/// it is no value without flags, or its record has not the bytes of the extent, nothing is done, and that is told.
+/// Lets the value of part `i` of a file become an extent of this run alone, with these two sizes, and stages the record that holds it.
+/// Where it is no value without flags, or its record has not the bytes of the extent, nothing is done, and that is told.
 ///
 /// # Errors
 ///
