@@ -290,15 +290,15 @@ module _ (view new : VolumeView) (file : ℕ) (asked : List ℕ) (from : ℕ) (b
     abbrev number : ℕ
     number = number_of p.found.held
 
-    -- the clusters that come for its bytes where it is a value
-    abbrev new_count : ℕ
-    new_count = new_clusters (cluster_bytes view.layout) there from (length bytes.now)
-
     abbrev cannot_so : Bool
     cannot_so = cannot_edit (is_whole_table view) (read view) number
 
     abbrev there : List Part
     there = stream_parts view (read view) (named_in (read view) asked number)
+
+    -- the clusters that come for its bytes where it is a value
+    abbrev new_count : ℕ
+    new_count = new_clusters (cluster_bytes view.layout) there from (length bytes.now)
 
     parts-same : parts ≡ there
     parts-same = parts-at view asked number at (at_file ∙ sym p.file_is) at_stream (at_node ∙ ap (node_of (read view)) (sym p.file_is))
