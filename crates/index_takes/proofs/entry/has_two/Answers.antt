@@ -3,7 +3,7 @@ use Rattle.std.specs.Prelude.{nat_le}
 use Rattle.ntfs_def.specs.Node.{Node, whole_of}
 use Rattle.index_node.specs.View.{node_of_view}
 use Rattle.list_laws.proofs.OptionLaws.{some_same}
-use Rattle.index_takes.proofs.seek.has_two.Goals as goal
+use Rattle.index_takes.proofs.entry.has_two.Goals as goal
 
 pub returns : goal.returns
 returns c = λ said is.
