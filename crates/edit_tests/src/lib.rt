@@ -15,6 +15,8 @@ mod longer_kinds;
 #[cfg(test)]
 mod longer_room;
 #[cfg(test)]
+mod moves;
+#[cfg(test)]
 mod values;
 #[cfg(test)]
 mod writes;
