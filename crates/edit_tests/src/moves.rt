@@ -81,9 +81,9 @@ fn in_root(file: u8, letters: &'static str) -> LaidName {
     }
 }
 
-// A file with five bytes, `k`, and one that has all clusters from 135 on, but the last four, or but four of which none stands beside
-// another one.
-fn volume_with_four(alloc: Global, is_apart: bool) -> Result<Vec<u8>, test::Fail> {
+// A file with five bytes, `k`, and one that has all clusters from 135 on, but the last four, or but five of which no three stand one
+// behind the other.
+fn volume_with_big(alloc: Global, is_apart: bool) -> Result<Vec<u8>, test::Fail> {
     let mut image = volume(alloc)?;
     let at = begin_file(&mut image, 26, 1, false);
     let at = lay_standard(&mut image, at, [0; 4], 0x20);
@@ -99,40 +99,37 @@ fn volume_with_four(alloc: Global, is_apart: bool) -> Result<Vec<u8>, test::Fail
     let at = begin_file(&mut image, 27, 1, false);
     let at = lay_standard(&mut image, at, [0; 4], 0x20);
     let at = lay_name(alloc, &mut image, at, 1, &in_root(27, "big"))?;
-    let runs: &[u8] = if is_apart {
-        &APART
+    let (count, runs): (u8, &[u8]) = if is_apart {
+        (
+            116,
+            &[0x21, 113, 135, 0, 0x11, 1, 114, 0x11, 1, 2, 0x11, 1, 2, 0],
+        )
     } else {
-        &[0x21, 117, 135, 0, 0]
+        (117, &[0x21, 117, 135, 0, 0])
     };
+    let bytes = u64::from(count).saturating_mul(4096);
     let all = Extent {
         id: 2,
         flags: 0,
-        covered: 117,
-        owned: 117,
-        real: 117 * 4096,
-        initialized: 117 * 4096,
+        covered: u64::from(count),
+        owned: u64::from(count),
+        real: bytes,
+        initialized: bytes,
         runs,
     };
     let at = lay_extent(&mut image, at, all);
     end_file(&mut image, 27, at);
-    for cluster in 135..=255u8 {
-        let is_free = if is_apart {
-            cluster >= 248 && cluster % 2 == 0
-        } else {
-            cluster >= 252
-        };
-        if !is_free {
+    for cluster in 135..252 {
+        if !(is_apart && (cluster == 248 || cluster == 250)) {
             set_bit(&mut image, CLUSTER_BITS, cluster);
         }
+    }
+    if is_apart {
+        set_bit(&mut image, CLUSTER_BITS, 253);
     }
     lay_in_root(alloc, &mut image, &[in_root(27, "big"), in_root(26, "k")])?;
     Ok(image)
 }
-
-// The clusters 135 to 247, and then 249, 251, 253 and 255.
-const APART: [u8; 17] = [
-    0x21, 113, 135, 0, 0x11, 1, 114, 0x11, 1, 2, 0x11, 1, 2, 0x11, 1, 2, 0,
-];
 
 // Bytes over those of the stream: two clusters. Nothing is left of what stood in these before.
 const OVER: [Line; 9] = [
@@ -154,7 +151,7 @@ const OVER_TOLD: &[u8] =
 #[test]
 fn bytes_over_a_value_move_it(rt: HostRuntime) -> Result<(), test::Fail> {
     let alloc = rt.alloc();
-    let mut image = volume_with_four(alloc, false)?;
+    let mut image = volume_with_big(alloc, false)?;
     put(&mut image, 252 * 4096, b"oldold");
     put(&mut image, 253 * 4096, b"old");
     let (is_right, left) = printed(alloc, &image, &OVER, OVER_TOLD)?;
@@ -175,9 +172,9 @@ const ROOM: [Line; 3] = [("write /k 5 ", 8192), ("write /k 5 ", 8000), ("df", 0)
 
 const ROOM_TOLD: &[u8] = b"no 26 NoRoom 5 4\nok\ndf 256 2 64 36\nok\n";
 
-// No two clusters lie one behind the other. One is enough for fewer bytes, by a handle.
+// No three clusters lie one behind the other. One is enough for fewer bytes, by a handle.
 const ALONE: [Line; 6] = [
-    ("write /k 5 ", 4092),
+    ("write /k 5 ", 8188),
     ("@1 open /k rw rwd", 0),
     ("@1 hwrite 0 5 ", 4091),
     ("@1 hread 0 0 6", 0),
@@ -186,14 +183,14 @@ const ALONE: [Line; 6] = [
 ];
 
 const ALONE_TOLD: &[u8] =
-    b"no 28 Unbuilt\nhandle 0\nok\nok\ndata 68656c6c6f5a\nok\nok\ndf 256 3 64 36\nok\n";
+    b"no 28 Unbuilt\nhandle 0\nok\nok\ndata 68656c6c6f5a\nok\nok\ndf 256 4 64 36\nok\n";
 
 #[test]
 fn room_for_a_value_that_moves(rt: HostRuntime) -> Result<(), test::Fail> {
     let alloc = rt.alloc();
-    let (is_right, _) = printed(alloc, &volume_with_four(alloc, false)?, &ROOM, ROOM_TOLD)?;
+    let (is_right, _) = printed(alloc, &volume_with_big(alloc, false)?, &ROOM, ROOM_TOLD)?;
     assert!(rt; is_right);
-    let (is_right, left) = printed(alloc, &volume_with_four(alloc, true)?, &ALONE, ALONE_TOLD)?;
+    let (is_right, left) = printed(alloc, &volume_with_big(alloc, true)?, &ALONE, ALONE_TOLD)?;
     assert!(rt; is_right);
     assert!(rt; stands(&left, 248 * 4096, b"helloZ"));
     Ok(())
