@@ -25,12 +25,13 @@ hexadecimal digits, setsec PATH ID its security id where it has a place for one,
 each with its time of record change; write TARGET AT HEX and hwrite H AT HEX put
 bytes over bytes of a stream that stand in clusters. Of a stream that stands in a
 record of its file punch TARGET AT LEN puts zeros over bytes, and where that is the
-only record of the file write and hwrite put bytes into it, truncate TARGET SIZE
-cuts or lengthens it, as far as that record has room, and rmstream PATH:NAME
-removes it. Of a stream of such a file in clusters truncate cuts it, or lengthens
-it within its last cluster, rmstream removes it, and write and hwrite put bytes
-right behind those that were written, into new clusters too, where as many are free
-one behind the other. create PATH makes an empty file, and mkdir PATH a directory,
+only record of the file write and hwrite put bytes into it, over its own or right
+behind these, and move it into clusters where its record has no room, truncate
+TARGET SIZE cuts or lengthens it, as far as that record has room, and rmstream
+PATH:NAME removes it. Of a stream of such a file in clusters truncate cuts it, or
+lengthens it within its last cluster, rmstream removes it, and write and hwrite put
+bytes right behind those that were written, into new clusters too. All new clusters
+of a line have to be free one behind the other. create PATH makes an empty file, and mkdir PATH a directory,
 where the index of the directory in which it comes has room for the name as it
 stands, and a record of the table is free that was written. All other edits are
 no 28 Unbuilt.

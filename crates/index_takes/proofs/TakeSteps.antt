@@ -15,8 +15,9 @@ use Rattle.index_tree.proofs.EditMemory.{SealedPlace, SealedShort, short_in, wro
 use Rattle.index_tree.proofs.OrderLaws.{IsOrder}
 use Rattle.tree_model.specs.LeafRoom.{leaf_of}
 use Rattle.index_puts.proofs.LeafLaws.{leaf_of-said}
-use Rattle.index_takes.specs.declared.leaf.Leaf.{Leaf}
-use Rattle.index_takes.specs.Leaf.{EndsIn, ReadsLeaf, TakesUnder, entry_under}
+use Rattle.index_puts.specs.declared.leaf.Leaf.{Leaf}
+use Rattle.index_puts.specs.Leaf.{EndsIn, ReadsLeaf}
+use Rattle.index_takes.specs.Leaf.{TakesUnder, entry_under}
 use Rattle.index_takes.specs.LeafEntry.{has_entry_beside, hits_on}
 use Rattle.index_takes.proofs.HitLaws.{hits-at}
 use Rattle.index_takes.proofs.TakeLaws.{keyed, take_under}

@@ -1,27 +1,16 @@
--- THE LEAF of an index as it is read, and what is taken out of it.
-use Rattle.std.specs.Prelude.{◌≡◌, ◌≤◌, ℕ, Bool, false, List, Option, Some, None, IfSome}
-use Rattle.std.specs.Option.{option_and_then, option_map, option_map_or}
+-- WHAT IS TAKEN OUT OF THE LEAF of an index in which a search ends.
+use Rattle.std.specs.Prelude.{◌≡◌, ◌≤◌, ℕ, Bool, false, List, Option, Some}
+use Rattle.std.specs.Option.{option_and_then, option_map_or}
 use Rattle.std.specs.declared.cmp.Ordering.{Ordering}
 use Rattle.ntfs_def.specs.IndexTree.{Nodes, Spread, Tree, most_depth, spread_items}
 use Rattle.ntfs_def.specs.Node.{Node}
-use Rattle.ntfs_def.specs.declared.index.NodeForm.TheVariants.{Names}
 use Rattle.volume_def.specs.IndexesClause.{IndexParts}
 use Rattle.volume_def.specs.View.{VolumeView}
-use Rattle.index_tree.specs.Edit.{IsSortedIndex, KeepsKeyed, SeeksNode, short_nodes}
+use Rattle.index_tree.specs.Edit.{IsSortedIndex, KeepsKeyed, short_nodes}
 use Rattle.index_tree.specs.Remove.{CutsKey}
 use Rattle.entry_edits.specs.IndexRecords.{index_record_on}
 use Rattle.tree_model.specs.LeafRoom.{leaf_of}
-use Rattle.index_takes.specs.declared.leaf.Leaf.{Leaf}
 use Rattle.index_takes.specs.LeafEntry.{has_entry_beside}
-
--- The leaf is the record of this number, and these are its bytes; or there is none.
-pub record ReadsLeaf (records : ℕ → Option (List ℕ)) (number : Option ℕ) (leaf : Option Leaf) (block : List ℕ) : Type 0 where
-  pub is : option_map (λ (it : Leaf). it.vcn) leaf ≡ number
-  pub bytes : IfSome leaf (λ it. records it.vcn ≡ Some block)
-
--- The search ends in these bytes, at the leaf's place: it leads to no child.
-abbrev pub EndsIn : (List ℕ → List ℕ → Ordering) → List ℕ → List ℕ → Leaf → Type 0
-EndsIn order key block it = SeeksNode order Names block key it.place it.hit None
 
 -- whether the leaf has an entry of the key beside another one
 abbrev pub entry_under : (List ℕ → Ordering) → (ℕ → Option (List ℕ)) → Option Node → Bool

@@ -1,9 +1,9 @@
 //! Whether the leaf of a key has an entry of it beside another one.
-ghost use Rattle.std.specs.Prelude.{◌≡◌, ◌*◌, ℕ, IfErr, IfOk, IsTrue, List, MatchResult};
+ghost use Rattle.std.specs.Prelude.{◌≡◌, ◌*◌, ℕ, IfErr, IfOk, IsSome, IsTrue, List, MatchResult, Some, length, nat_le};
 ghost use Rattle.vol_disk.specs.Contents.{WhereTold};
 ghost use Rattle.ntfs_def.specs.FileName.{is_name_key, key_units};
 ghost use Rattle.ntfs_def.specs.KeyOrder.{fold_of, name_order};
-ghost use Rattle.ntfs_def.specs.Node.{Item, short_node};
+ghost use Rattle.ntfs_def.specs.Node.{Item, Node, node_in, short_node};
 ghost use Rattle.ntfs_def.specs.declared.index.NodeForm.TheVariants.{Names};
 ghost use Rattle.index_node.specs.Blocks.{CountsNo as CountsBlockNo};
 ghost use Rattle.index_tree.specs.Edit.{EditReads, HasSortedIndex, short_nodes};
@@ -18,13 +18,13 @@ ghost use Rattle.index_puts.specs.Leaf.{file_no_of};
 ghost use Rattle.index_takes.specs.Leaf.{entry_under};
 ghost use Rattle.index_takes.specs.LeafEntry.{has_leaf_entry};
 
-use crate::leaf::find_leaf;
-use crate::seek::has_two;
 use collation::{Collation, FileNameOrder};
 use entry_edits::{FoundIndex, IndexBlocks, find_index};
 use file_record::{FileNo, FileParts};
-use index_node::{BlockNo, Blocks};
+use index_node::{BlockNo, Blocks, NodeView};
+use index_puts::find_leaf;
 use mft_table::Mft;
+use ntfs_def::NodeForm;
 use std::alloc::Global;
 use upcase::UpCase;
 use vol_disk::Disk;
@@ -40,6 +40,17 @@ pub fn file_no(no: BlockNo) -> FileNo
         BlockNo::Device => FileNo::Device,
         _ => FileNo::Memory,
     }
+}
+
+// Whether the node of a record has two entries with a key, or more.
+fn has_two(block: &[u8; 4096]) -> bool
+    requires { IsSome (node_in Names block.now) }
+    ensures { (said : Node) → node_in Names block.now ≡ Some said → result ≡ nat_le 2 (length said.entries) }
+{
+    let Ok(node) = NodeView::new(block, NodeForm::Names) else {
+        unreachable!();
+    };
+    2 <= node.entries()
 }
 
 // Whether the leaf of a key, in the index under a root, has an entry of it beside another one.

@@ -3,9 +3,7 @@
 
 mod entry;
 mod laws;
-mod leaf;
 mod root;
-mod seek;
 mod shrink;
 mod take;
 

@@ -11,11 +11,11 @@ ghost use Rattle.index_takes.specs.LeafEntry.{hits_on};
 ghost use Rattle.index_takes.specs.RootEntry.{has_root_entry};
 
 use crate::entry::NAMES;
-use crate::seek::seek_block;
 use collation::{Collation, FileNameOrder};
 use entry_edits::{find_index, has_list};
 use file_record::FileParts;
 use index_node::NodeView;
+use index_puts::seek_block;
 use ntfs_def::NodeForm;
 use upcase::UpCase;
 

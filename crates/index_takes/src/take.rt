@@ -24,11 +24,11 @@ ghost use Rattle.index_takes.specs.LeafEntry.{has_leaf_entry};
 ghost use Rattle.index_takes.specs.TakesItem.{TakesItem};
 
 use crate::entry::{NAMES, file_no};
-use crate::leaf::find_leaf;
 use collation::{Collation, FileNameOrder};
 use entry_edits::{FoundIndex, IndexBlocksMut, find_index};
 use file_record::{FileNo, FileParts};
 use index_node::{BlockNo, WriteBlocks, remove_at, sealed_nodes};
+use index_puts::find_leaf;
 use mft_table::Mft;
 use ntfs_def::NodeForm;
 use std::alloc::Global;

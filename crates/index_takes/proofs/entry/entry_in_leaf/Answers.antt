@@ -4,8 +4,8 @@ use Rattle.ntfs_def.specs.Node.{short_node}
 use Rattle.ntfs_def.specs.declared.index.NodeForm.TheVariants.{Names}
 use Rattle.index_tree.specs.Edit.{short_nodes}
 use Rattle.tree_model.specs.LeafRoom.{leaf_of}
-use Rattle.index_takes.specs.declared.leaf.Leaf.{Leaf}
-use Rattle.index_takes.specs.Leaf.{EndsIn, ReadsLeaf}
+use Rattle.index_puts.specs.declared.leaf.Leaf.{Leaf}
+use Rattle.index_puts.specs.Leaf.{EndsIn, ReadsLeaf}
 use Rattle.index_takes.proofs.TakeSteps.{leaf-entry, leaf-missed, no-leaf}
 use Rattle.index_takes.proofs.entry.entry_in_leaf.Goals as goal
 

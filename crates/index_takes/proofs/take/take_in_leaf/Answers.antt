@@ -7,8 +7,8 @@ use Rattle.index_tree.proofs.EditMemory.{apart_of, edits_after, is_some_of}
 use Rattle.index_tree.proofs.OrderLaws.{is_order}
 use Rattle.list_laws.proofs.OptionLaws.{ok-weaker}
 use Rattle.tree_model.specs.LeafRoom.{leaf_of}
-use Rattle.index_takes.specs.declared.leaf.Leaf.{Leaf}
-use Rattle.index_takes.specs.Leaf.{EndsIn, ReadsLeaf}
+use Rattle.index_puts.specs.declared.leaf.Leaf.{Leaf}
+use Rattle.index_puts.specs.Leaf.{EndsIn, ReadsLeaf}
 use Rattle.index_takes.proofs.TakeSteps.{leaf-missing, takes-in, was-hit}
 use Rattle.index_takes.proofs.take.take_in_leaf.Goals as goal
 
