@@ -1,5 +1,5 @@
-//! Whole runs as data: words and what they print, rows on an image, what stands in the image that they leave, and writes that fail. A case that goes wrong is an error that
-//! says which row, place or write it is, so a test has nothing to assert beside it.
+//! Whole runs as data: words and what they print, rows on an image, what stands in the image that they leave, and writes that fail. A
+//! case that goes wrong is an error that says which words, row, place or write it is, so a test has nothing to assert beside it.
 use crate::damage::{is_marked, record, stands};
 use crate::given::{AMPLE, run, sink_of};
 use crate::laid::key_in_root;
@@ -181,7 +181,8 @@ fn fails_with(
     Ok(())
 }
 
-/// Rows of so many writes: where one of these fails, they end with status 6, and what is left is marked, or sound; no write is behind the last.
+/// Rows of so many writes: where one of these fails, they end with status 6, and what is left is marked, or sound; no write is behind the
+/// last.
 pub fn fails_safely(
     alloc: Global,
     image: &[u8],
