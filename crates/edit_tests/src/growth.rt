@@ -90,8 +90,8 @@ const K: LaidName = LaidName {
 // The clusters that a new volume leaves: all behind the first 135.
 const FIRST_FREE: u8 = 135;
 
-// A volume with a small file, `k`, and one that has all clusters from 135 on but the last ones, so many.
-fn volume_with_left(alloc: Global, left: u8) -> Result<Vec<u8>, test::Fail> {
+/// A volume with a small file, `k`, and one whose stream lies in clusters, which are not taken yet.
+pub fn volume_with_big(alloc: Global, stream: Extent) -> Result<Vec<u8>, test::Fail> {
     let mut image = volume(alloc)?;
     let at = begin_file(&mut image, 26, 1, false);
     let at = lay_standard(&mut image, at, [0; 4], 0x20);
@@ -107,6 +107,14 @@ fn volume_with_left(alloc: Global, left: u8) -> Result<Vec<u8>, test::Fail> {
     let at = begin_file(&mut image, 27, 1, false);
     let at = lay_standard(&mut image, at, [0; 4], 0x20);
     let at = lay_name(alloc, &mut image, at, 1, &BIG)?;
+    let at = lay_extent(&mut image, at, stream);
+    end_file(&mut image, 27, at);
+    lay_in_root(alloc, &mut image, &[BIG, K])?;
+    Ok(image)
+}
+
+/// The same, where that stream has all clusters from 135 on but the last ones, so many.
+pub fn volume_with_left(alloc: Global, left: u8) -> Result<Vec<u8>, test::Fail> {
     let behind = 0u8.wrapping_sub(left);
     let count = behind.wrapping_sub(FIRST_FREE);
     let bytes = u64::from(count).saturating_mul(4096);
@@ -119,12 +127,10 @@ fn volume_with_left(alloc: Global, left: u8) -> Result<Vec<u8>, test::Fail> {
         initialized: bytes,
         runs: &[0x21, count, FIRST_FREE, 0, 0],
     };
-    let at = lay_extent(&mut image, at, all);
-    end_file(&mut image, 27, at);
+    let mut image = volume_with_big(alloc, all)?;
     for cluster in FIRST_FREE..behind {
         set_bit(&mut image, CLUSTER_BITS, cluster);
     }
-    lay_in_root(alloc, &mut image, &[BIG, K])?;
     Ok(image)
 }
 
