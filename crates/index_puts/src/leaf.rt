@@ -15,11 +15,14 @@ use index_node::{BlockNo, Blocks};
 // The most nodes below the root on a way to a leaf.
 const MOST_DEPTH: usize = 15;
 
-// A record in which the search for a key ends, by its number; the place in its node, and whether the key there is equal.
+/// A record of an index in which the search for a key ends.
 #[derive(Clone, Copy)]
 pub struct Leaf {
+    /// Its number.
     pub vcn: u64,
+    /// The place in its node.
     pub place: usize,
+    /// Whether the key there is equal.
     pub hit: bool,
 }
 
@@ -65,7 +68,11 @@ fn leaf_below<B: Blocks, C: Collation>(
     }
 }
 
-// The leaf in which the search for a key ends in the index under a root, read into the block; `None` where the root has no children.
+/// The leaf in which the search for a key ends in the index under a root, read into the block; `None` where the root has no children.
+///
+/// # Errors
+///
+/// Those of a record that is read.
 pub fn find_leaf<B: Blocks, C: Collation>(
     blocks: &mut B,
     order: &C,

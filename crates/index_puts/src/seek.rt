@@ -10,15 +10,18 @@ use index_node::{NodeView, seek_in};
 use ntfs_def::{NodeForm, index_record};
 use vol_bytes::u16_at;
 
-// Where a search ends in a node: the place, whether its key is equal, and the child that it leads to.
+/// Where a search ends in a node.
 #[derive(Clone, Copy)]
 pub struct Spot {
+    /// The place.
     pub place: usize,
+    /// Whether the key there is equal.
     pub hit: bool,
+    /// The child that the place leads to.
     pub child: Option<u64>,
 }
 
-// Where the search for a key ends in the bytes of a node; `None` where they say none, or a key is not valid.
+/// Where the search for a key ends in the bytes of a node; `None` where they say none, or a key is not valid.
 pub fn seek_block<C: Collation>(block: &[u8], order: &C, key: &[u8]) -> Option<Spot>
     requires { IsTrue (C.valid order.now key.now) }
     ensures some { IfSome result (λ spot. SeeksNode (C.order order.now) Names block.now key.now spot.place spot.hit spot.child) }

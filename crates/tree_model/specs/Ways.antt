@@ -116,8 +116,9 @@ can_reach view f extents from len =
     && can_take view f (new_clusters (cluster_bytes view.layout) extents from len)
 
 -- Or it MOVES INTO CLUSTERS: a value that does not stay in its record, of a file without an attribute list, becomes one run of as many
--- clusters as its bytes then need, all of which the bill of the command has. The record has the bytes of the extent that comes for it: a header of 64, the name, and 24 for the run, less the 24 of the header of a value; 7 more, as many as the name may be
--- rounded up by, and one. The value has no flags, as the extent then.
+-- clusters as its bytes then need, all of which the bill of the command has. The record has the bytes of the extent that comes for it: a
+-- header of 64, the name, and 24 for the run, less the 24 of the header of a value; 7 more, as many as the name may be rounded up by, and
+-- one. The value has no flags, as the extent then.
 abbrev pub moved_bytes : List Part → ℕ
 moved_bytes extents = 72 + option_map_or (λ (part : Part). length part.name) (first_part extents) 0
 
