@@ -38,6 +38,7 @@ use Rattle.edit_def.proofs.EditedLaws.{Edited-then}
 use Rattle.record_edits.specs.Between.{IsReady}
 use Rattle.file_edits.specs.Files.{DropsFile, IsPlainFile, IsPlainValue}
 use Rattle.file_edits.specs.Steps.{SetsRow}
+use Rattle.file_edits.proofs.FileBeside as beside
 use Rattle.file_edits.proofs.FileGoes as goes
 use Rattle.file_edits.proofs.FileNames.{comes-unnamed}
 use Rattle.record_calls.specs.Edits.{record_there}
@@ -116,7 +117,20 @@ module _ (view : VolumeView) (n : ℕ) (marks : Marks) (ready : IsReady view mar
     held = held;
   }
 
--- IT IS FREED.
+-- IT IS FREED: the volume stands as between two calls, and has no record of this number. It is one edit of the file, and leaves all other
+-- records; the number of the block counts up.
+pub record Freed (counted freed : VolumeView) (before after : Marks) (n : ℕ) : Type 0 where
+  pub ready : IsReady freed after
+  pub none : record_on freed n ≡ None
+  pub gone : parts (records_of freed) n ≡ []
+  pub others : (m : ℕ) → m ≢ n → record_on freed m ≡ record_on counted m
+  pub parts_others : (g : ℕ) → g ≢ n → parts (records_of freed) g ≡ parts (records_of counted) g
+  pub edited : Edited (is_key_of n) (going_wants n) counted freed before after
+  pub unnamed : All (λ (part : Part). part.kind ≢ FILE_NAME) (record_there counted n).parts
+      → GoesUnnamed (records_of counted) (records_of freed) n (numbers_in (record_there counted n))
+  pub sequence : stored_sequence (freed.block n) ≡ sequence_after (stored_sequence (counted.block n))
+  pub row : SetsRow before after n false
+
 module _ (counted freed : VolumeView) (was now : Mounted) (n : ℕ) (told : IsTrue counted.told) (ready : IsReady counted (marks_of was))
     (ordinary : FIRST_ORDINARY ≤ n) (inside : n < counted.layout.count) (used : IsTrue (is_in_use (counted.block n)))
     (well : IsWellFormed (counted.block n)) (plain : IsPlainFile n (record_there counted n)) (alone : IsAlone counted n)
@@ -139,7 +153,7 @@ module _ (counted freed : VolumeView) (was now : Mounted) (n : ℕ) (told : IsTr
   within : n < length was.records
   within = let rows = ready.editable.right.rows in omega (arith, rows, inside)
 
-  abbrev pub drops : DropsFile n counted freed before after
+  abbrev drops : DropsFile n counted freed before after
   drops = record {
     told = told;
     stored = frees.stored;
@@ -153,22 +167,22 @@ module _ (counted freed : VolumeView) (was now : Mounted) (n : ℕ) (told : IsTr
     row = subst (λ (m : Mounted). SetsRow before (marks_of m) n false) (sym given) (row-given was n within);
   }
 
-  pub ready-freed : IsReady freed after
+  ready-freed : IsReady freed after
   ready-freed = goes.ready-goes n counted freed before after drops ready
 
-  pub none-freed : record_on freed n ≡ None
+  none-freed : record_on freed n ≡ None
   none-freed = goes.now-at n counted freed before after drops ready
 
-  pub no-parts : parts (records_of freed) n ≡ []
+  no-parts : parts (records_of freed) n ≡ []
   no-parts = goes.alone n counted freed before after drops ready
 
-  pub others-freed : (m : ℕ) → m ≢ n → record_on freed m ≡ record_on counted m
+  others-freed : (m : ℕ) → m ≢ n → record_on freed m ≡ record_on counted m
   others-freed = goes.other-at n counted freed before after drops ready
 
-  pub edited-freed : Edited (is_key_of n) (going_wants n) counted freed before after
+  edited-freed : Edited (is_key_of n) (going_wants n) counted freed before after
   edited-freed = goes.edited-goes n counted freed before after drops ready (going_wants n) (eq-eqb n n refl)
 
-  pub unnamed-freed : All (λ (part : Part). part.kind ≢ FILE_NAME) (record_there counted n).parts
+  unnamed-freed : All (λ (part : Part). part.kind ≢ FILE_NAME) (record_there counted n).parts
       → GoesUnnamed (records_of counted) (records_of freed) n (numbers_in (record_there counted n))
   unnamed-freed nameless = comes-unnamed n freed counted (goes.more n counted freed before after drops ready) nameless
 
@@ -186,7 +200,7 @@ module _ (counted freed : VolumeView) (was now : Mounted) (n : ℕ) (told : IsTr
     flags = inl (omega (arith, lt));
   })
 
-  pub sequence-freed : stored_sequence (freed.block n) ≡ sequence_after (stored_sequence (counted.block n))
+  sequence-freed : stored_sequence (freed.block n) ≡ sequence_after (stored_sequence (counted.block n))
   sequence-freed =
       let long_now : length (opened_of frees.stored) ≡ 1024 = freed-fields.len ∙ long-was in
       let first : starts_with nat_eq (counted.block n) (codes "FILE") ≡ true =
@@ -208,30 +222,41 @@ module _ (counted freed : VolumeView) (was now : Mounted) (n : ℕ) (told : IsTr
           starts-same (codes "FILE") stored (opened_of stored) (omega (arith, all)) (omega (arith, long))
           (λ k lt. opened_of-within stored k (omega (arith, lt, all)) (omega (arith, lt)))
 
-  -- AND ITS FLAG CLEARED
-  module _ (new : VolumeView) (clears : ClearsRecordBit freed new n) where
-    inside-freed : n < freed.layout.count
-    inside-freed = subst (λ l. n < l.count) (sym frees.replaces.layout) inside
+  pub file-freed : Freed counted freed before after n
+  file-freed = record {
+    ready = ready-freed;
+    none = none-freed;
+    gone = no-parts;
+    others = others-freed;
+    parts_others = λ g ne. sym (beside.parts-other n freed counted (goes.more n counted freed before after drops ready) g ne);
+    edited = edited-freed;
+    unnamed = unnamed-freed;
+    sequence = sequence-freed;
+    row = drops.row;
+  }
 
-    pub ready-new : IsReady new after
-    ready-new = row.ready-row freed new n clears after ready-freed ordinary inside-freed
+-- AND ITS FLAG IS CLEARED: the call by which the file goes.
+module _ (counted freed new : VolumeView) (before after : Marks) (n : ℕ) (ordinary : FIRST_ORDINARY ≤ n) (inside : n < freed.layout.count)
+    (free : Freed counted freed before after n) (clears : ClearsRecordBit freed new n) where
+  pub ready-new : IsReady new after
+  ready-new = row.ready-row freed new n clears after free.ready ordinary inside
 
-    pub records-new : records_of new ≡ records_of freed
-    records-new = row.records-row freed new n clears
+  pub records-new : records_of new ≡ records_of freed
+  records-new = row.records-row freed new n clears
 
-    pub edited-new : Edited (is_key_of n) (going_wants n) counted new before after
-    edited-new =
-        Edited-more (λ key. is_key_of n key || false) (is_key_of n) (going_wants n) (going_wants n) counted new before after
-        (λ key free. or_from (is_key_of n key) false free refl) (within-same (going_wants n))
-        (Edited-then (is_key_of n) (λ key. false) (going_wants n) nothing (going_wants n) counted freed new before after after
-        (within-nothing (going_wants n)) edited-freed (row.edited-row freed new n clears after ready-freed ordinary inside-freed))
+  edited-new : Edited (is_key_of n) (going_wants n) counted new before after
+  edited-new =
+      Edited-more (λ key. is_key_of n key || false) (is_key_of n) (going_wants n) (going_wants n) counted new before after
+      (λ key clear. or_from (is_key_of n key) false clear refl) (within-same (going_wants n))
+      (Edited-then (is_key_of n) (λ key. false) (going_wants n) nothing (going_wants n) counted freed new before after after
+      (within-nothing (going_wants n)) free.edited (row.edited-row freed new n clears after free.ready ordinary inside))
 
-    pub drops-node : All (λ (part : Part). part.kind ≢ FILE_NAME) (record_there counted n).parts
-        → DropsNode (going_wants n) counted new before after n
-    drops-node nameless = record {
-      edited = edited-new;
-      was = numbers_in (record_there counted n);
-      goes = subst (λ r. GoesUnnamed (records_of counted) r n (numbers_in (record_there counted n))) (sym records-new)
-          (unnamed-freed nameless);
-      none = ap (λ r. parts r n) records-new ∙ no-parts;
-    }
+  pub drops-node : All (λ (part : Part). part.kind ≢ FILE_NAME) (record_there counted n).parts
+      → DropsNode (going_wants n) counted new before after n
+  drops-node nameless = record {
+    edited = edited-new;
+    was = numbers_in (record_there counted n);
+    goes = subst (λ r. GoesUnnamed (records_of counted) r n (numbers_in (record_there counted n))) (sym records-new)
+        (free.unnamed nameless);
+    none = ap (λ r. parts r n) records-new ∙ free.gone;
+  }

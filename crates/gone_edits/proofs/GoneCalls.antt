@@ -1,5 +1,5 @@
 -- A FILE GONE WITH ITS ONE NAME as calls on names and files.
-use Rattle.std.proofs.Common.{◌≡◌, ◌≢◌, ◌==◌, ◌&&◌, ◌*◌, ◌||◌, ℕ, Bool, true, false, List, [], ◌∷◌, Some, cond, filter, map, if◌then◌else◌}
+use Rattle.std.proofs.Common.{◌≡◌, ◌≢◌, ◌<◌, ◌==◌, ◌&&◌, ◌*◌, ◌||◌, ℕ, Bool, true, false, List, [], ◌∷◌, Some, cond, filter, map, if◌then◌else◌}
 use Rattle.std.proofs.Common.{refl, sym, ap, subst, ◌∙◌}
 use Rattle.std.specs.List.{All, Contains, filter_map}
 use Rattle.std.specs.Prelude.{option_map}
@@ -13,6 +13,7 @@ use Rattle.volume_def.specs.FileNames.{is_file_name, names_of}
 use Rattle.volume_def.specs.Files.{Part, content_value, parts, records_of}
 use Rattle.volume_def.specs.IndexesClause.{IsDirectoryIndex}
 use Rattle.volume_def.specs.LinksClause.{is_dos_in}
+use Rattle.volume_def.specs.Table.{TableLayout}
 use Rattle.volume_def.specs.Values.{is_first}
 use Rattle.volume_def.specs.View.{VolumeView}
 use Rattle.mft_table.specs.declared.mounted.Mounted.{Mounted}
@@ -41,9 +42,9 @@ use Rattle.gone_edits.specs.Gone.{IsGoneByCalls, is_gone_key}
 use Rattle.gone_edits.specs.Wants.{going_wants}
 use Rattle.gone_edits.proofs.Before as before
 use Rattle.gone_edits.proofs.Exited.{Exited}
-use Rattle.gone_edits.proofs.FileFreed as file
+use Rattle.gone_edits.proofs.FileFreed.{Freed, drops-node, ready-new, records-new}
 use Rattle.gone_edits.proofs.ItemFound.{HasItemOf, item-found}
-use Rattle.gone_edits.proofs.NameGone as name_gone
+use Rattle.gone_edits.proofs.NameGone.{Unnamed, some-value}
 use Rattle.gone_edits.proofs.Steps as steps
 
 -- Of one name that is no DOS name it alone goes.
@@ -94,37 +95,19 @@ module _ (old new : VolumeView) (was now : Mounted) (n : ℕ) (node parent : Nod
   changes = gone.changes (before.index old was n node parent name can right).items found.item (items-of-directory old dir index) found.at
 
   -- THE NAME
-  edited-name : Edited (is_name_key_of n) nothing left counted marks marks
-  edited-name = name_gone.edited-counted left counted n name marks gone.entered.ready
-      (steps.alone-left old left was n node parent name u.key can right u.exits)
-      (steps.one-left old left was n node parent name u.key can right u.exits)
-      (steps.values-left old left was n node parent name u.key can right u.exits)
-      (steps.only-left old left was n node parent name u.key can right u.exits) q
-
-  pub ready-counted : IsReady counted marks
-  ready-counted = steps.ready-counted old left was n node parent name u.key can right u.exits counted q
+  pub quit : Unnamed left u.quits.unnamed counted marks n name
+  quit = steps.quit old left was n node parent name u.key can right u.exits counted q
 
   pub keeps : KeepsItems left counted dir
-  keeps = items-kept (either is_room_key (is_name_key_of n)) left counted edited-name.kept
-      (λ i. 512 * edited-name.volume.cluster_sectors i) gone.entered.ready.bases gone.entered.ready.editable.readable
-      ready-counted.editable.readable refl dir refl refl refl
-
-  pub unnamed : names_of (records_of counted) n ≡ []
-  unnamed = name_gone.unnamed-now left counted n name marks gone.entered.ready
-      (steps.alone-left old left was n node parent name u.key can right u.exits)
-      (steps.one-left old left was n node parent name u.key can right u.exits)
-      (steps.values-left old left was n node parent name u.key can right u.exits)
-      (steps.only-left old left was n node parent name u.key can right u.exits) q
+  keeps = items-kept (either is_room_key (is_name_key_of n)) left counted quit.edited.kept
+      (λ i. 512 * quit.edited.volume.cluster_sectors i) gone.entered.ready.bases gone.entered.ready.editable.readable
+      quit.ready.editable.readable refl dir refl refl refl
 
   abbrev numbers : Numbers
   numbers = numbers_in (record_there old n)
 
   numbers-counted : numbers_at (records_of counted) n ≡ Some (record numbers { links = 0 })
-  numbers-counted = name_gone.numbers-now left counted n name marks gone.entered.ready
-      (steps.alone-left old left was n node parent name u.key can right u.exits)
-      (steps.one-left old left was n node parent name u.key can right u.exits)
-      (steps.values-left old left was n node parent name u.key can right u.exits)
-      (steps.only-left old left was n node parent name u.key can right u.exits) q numbers
+  numbers-counted = quit.numbers numbers
       ((gone.entered.names_kept n).numbers ∙ before.numbers-was old was n node parent name can right)
 
   counted-one : numbers ≡ record numbers { links = 1 }
@@ -133,12 +116,8 @@ module _ (old new : VolumeView) (was now : Mounted) (n : ℕ) (node parent : Nod
       λ i. record { sequence = numbers.sequence; links = one i; directory = numbers.directory }
 
   pub others-kept : KeepsOthers (records_of old) (records_of counted) n
-  others-kept g ne = KeepsNames-then (records_of old) (records_of left) (records_of counted) g (gone.entered.names_kept g)
-      (name_gone.others-now left counted n name marks gone.entered.ready
-      (steps.alone-left old left was n node parent name u.key can right u.exits)
-      (steps.one-left old left was n node parent name u.key can right u.exits)
-      (steps.values-left old left was n node parent name u.key can right u.exits)
-      (steps.only-left old left was n node parent name u.key can right u.exits) q g ne)
+  others-kept g ne =
+      KeepsNames-then (records_of old) (records_of left) (records_of counted) g (gone.entered.names_kept g) (quit.others g ne)
 
   told-left : told_names left n ≡ told_names old n
   told-left = ap (λ (ps : List Part). filter is_name_told (map told_by (filter is_first ps)))
@@ -149,7 +128,7 @@ module _ (old new : VolumeView) (was now : Mounted) (n : ℕ) (node parent : Nod
     edited = Edited-more (either (is_index_key_of dir) (is_name_key_of n)) (either (is_name_key_of n) (is_index_key_of dir)) nothing nothing
         old counted marks marks (λ key free. or-swapped (is_name_key_of n key) (is_index_key_of dir key) free) (within-same nothing)
         (Edited-then (is_index_key_of dir) (is_name_key_of n) nothing nothing nothing old left counted marks marks marks
-        (within-nothing nothing) changes.edited edited-name);
+        (within-nothing nothing) changes.edited quit.edited);
     loses = record {
       others = λ g ne. record {
         numbers = sym (others-kept g ne).numbers;
@@ -158,23 +137,11 @@ module _ (old new : VolumeView) (was now : Mounted) (n : ℕ) (node parent : Nod
       was = record numbers { links = 0 };
       was_at = numbers-counted;
       now_at = before.numbers-was old was n node parent name can right ∙ ap (λ (k : Numbers). Some k) counted-one;
-      names = SameItems-same _ _ (ap (λ xs. name ∷ xs) unnamed ∙ sym can.only);
+      names = SameItems-same _ _ (ap (λ xs. name ∷ xs) quit.nameless ∙ sym can.only);
     };
-    value = told_by (name_gone.gone_part left counted n name marks gone.entered.ready
-        (steps.alone-left old left was n node parent name u.key can right u.exits)
-        (steps.one-left old left was n node parent name u.key can right u.exits)
-        (steps.values-left old left was n node parent name u.key can right u.exits)
-        (steps.only-left old left was n node parent name u.key can right u.exits) q);
-    value_name = name_gone.name-told left counted n name marks gone.entered.ready
-        (steps.alone-left old left was n node parent name u.key can right u.exits)
-        (steps.one-left old left was n node parent name u.key can right u.exits)
-        (steps.values-left old left was n node parent name u.key can right u.exits)
-        (steps.only-left old left was n node parent name u.key can right u.exits) q;
-    values = subst (SameItems _) told-left (name_gone.values-now left counted n name marks gone.entered.ready
-        (steps.alone-left old left was n node parent name u.key can right u.exits)
-        (steps.one-left old left was n node parent name u.key can right u.exits)
-        (steps.values-left old left was n node parent name u.key can right u.exits)
-        (steps.only-left old left was n node parent name u.key can right u.exits) q);
+    value = quit.value;
+    value_name = quit.value_name;
+    values = subst (SameItems _) told-left quit.values;
     item = found.item;
     link = found.link;
     entry = λ items h. let did = changes.entry items h in (did.0, keeps did.0 did.1, did.2);
@@ -204,34 +171,30 @@ module _ (old new : VolumeView) (was now : Mounted) (n : ℕ) (node parent : Nod
   nameless : All (λ (part : Part). part.kind ≢ FILE_NAME) (record_there counted n).parts
   unfolding names_of
   nameless = All-from_Contains (λ (part : Part). part.kind ≢ FILE_NAME) (record_there counted n).parts (λ part c is.
-      let its = subst (λ xs. Contains xs part)
-      (sym (steps.alone-counted old left was n node parent name u.key can right u.exits counted q).whole) c in
-      let value = name_gone.some-value (content_value part.content)
+      let its = subst (λ xs. Contains xs part) (sym quit.alone.whole) c in
+      let value = some-value (content_value part.content)
       (steps.values-counted old left was n node parent name u.key can right u.exits counted q part its) in
-      Contains-nil (name_in value.0) (subst (λ xs. Contains xs (name_in value.0)) unnamed
+      Contains-nil (name_in value.0) (subst (λ xs. Contains xs (name_in value.0)) quit.nameless
       (Contains-filter_map (λ (part : Part). option_map name_in (content_value part.content))
       (filter is_file_name (parts (records_of counted) n)) part (name_in value.0)
       (Contains-filter is_file_name (parts (records_of counted) n) part its (eq-eqb part.kind FILE_NAME is))
       (ap (option_map name_in) value.1))))
 
-  pub goes : DropsNode (going_wants n) counted new marks after n
-  goes = file.drops-node counted u.frees.freed was now n
-      (steps.told-counted old left was n node parent name u.key can right u.exits counted q) ready-counted can.ordinary
-      (steps.inside-counted old left was n node parent name u.key can right u.exits counted q)
-      (steps.used-counted old left was n node parent name u.key can right u.exits counted q)
-      (steps.well-counted old left was n node parent name u.key can right u.exits counted q)
-      (steps.plain-counted old left was n node parent name u.key can right u.exits counted q)
-      (steps.alone-file old left was n node parent name u.key can right u.exits counted q) u.frees.frees u.frees.given new u.frees.clears
-      nameless
+  pub free : Freed counted u.frees.freed marks after n
+  free = steps.free old left was n node parent name u.key can right u.exits counted q u.frees.freed now u.frees.frees u.frees.given
 
-  pub ready-new : IsReady new after
-  ready-new = file.ready-new counted u.frees.freed was now n
-      (steps.told-counted old left was n node parent name u.key can right u.exits counted q) ready-counted can.ordinary
+  inside : n < u.frees.freed.layout.count
+  inside = subst (λ (l : TableLayout). n < l.count) (sym u.frees.frees.replaces.layout)
       (steps.inside-counted old left was n node parent name u.key can right u.exits counted q)
-      (steps.used-counted old left was n node parent name u.key can right u.exits counted q)
-      (steps.well-counted old left was n node parent name u.key can right u.exits counted q)
-      (steps.plain-counted old left was n node parent name u.key can right u.exits counted q)
-      (steps.alone-file old left was n node parent name u.key can right u.exits counted q) u.frees.frees u.frees.given new u.frees.clears
+
+  pub goes : DropsNode (going_wants n) counted new marks after n
+  goes = drops-node counted u.frees.freed new marks after n can.ordinary inside free u.frees.clears nameless
+
+  pub ready : IsReady new after
+  ready = ready-new counted u.frees.freed new marks after n can.ordinary inside free u.frees.clears
+
+  pub records-now : records_of new ≡ records_of u.frees.freed
+  records-now = records-new counted u.frees.freed new marks after n can.ordinary inside free u.frees.clears
 
   -- ALL OF THEM
   pub edited : Edited (is_gone_key n dir) (going_wants n) old new marks after

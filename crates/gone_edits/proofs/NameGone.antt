@@ -1,9 +1,9 @@
 -- THE NAME GOES OUT OF THE RECORD of a file that has one, and no link is counted: what stands then, and what the file tells.
 use Rattle.std.proofs.Common.{◌≡◌, ◌≢◌, ◌≤◌, ◌+◌, ◌==◌, ◌++◌, ℕ, Bool, false, List, [], ◌∷◌, None, Option, Some, cond, filter, length, map}
 use Rattle.std.proofs.Common.{refl, sym, ap, subst, inl, inr, ◌∙◌, arith, eq-eqb, true}
-use Rattle.std.specs.List.{All, Contains, cons_option, filter_map}
-use Rattle.std.specs.Prelude.{IsSome, IsTrue, option_map, unwrap_or}
-use Rattle.std.proofs.lemmas.Bool.{or_from}
+use Rattle.std.specs.List.{All, Contains, cons_option, filter_map, starts_with}
+use Rattle.std.specs.Prelude.{◌%◌, ◌&&◌, IsSome, IsTrue, codes, nat_eq, option_map, unwrap_or}
+use Rattle.std.proofs.lemmas.Bool.{and_parts, or_from}
 use Rattle.std.proofs.lemmas.List.Elements.{All-contains, filter_map-append}
 use Rattle.list_laws.specs.Replaces.{Replaces}
 use Rattle.list_laws.specs.SameItems.{SameItems}
@@ -14,16 +14,18 @@ use Rattle.list_laws.proofs.SameItemsLaws.{SameItems-same}
 use Rattle.ntfs_def.specs.Attribute.{attributes}
 use Rattle.ntfs_def.specs.FileName.{FileName, name_in}
 use Rattle.ntfs_def.specs.Fixup.{opened_of}
+use Rattle.ntfs_def.specs.Record.{Header, header_of, is_in_use, record_flags, sequence_of}
 use Rattle.ntfs_def.specs.declared.kinds.TheConstants.{FILE_NAME}
 use Rattle.volume_def.specs.FileNames.{is_file_name, names_among, names_of}
 use Rattle.volume_def.specs.Files.{Content, Clusters, Part, Value, content_value, part_of, parts, record_of, records_of}
+use Rattle.volume_def.specs.Freed.{stored_sequence}
 use Rattle.volume_def.specs.Values.{first_vcn_of, is_first}
 use Rattle.volume_def.specs.View.{VolumeView}
 use Rattle.volume_edits.specs.Rewritten.{CountsLinks}
 use Rattle.file_record.specs.Attributes.{RemovesAttribute}
 use Rattle.edit_def.specs.Account.{nothing}
 use Rattle.edit_def.specs.Edited.{Edited}
-use Rattle.edit_def.specs.Kept.{either, is_name_told, told_by, told_names}
+use Rattle.edit_def.specs.Kept.{Told, either, is_name_told, told_by, told_names}
 use Rattle.edit_def.specs.Marks.{Marks}
 use Rattle.edit_def.specs.Names.{KeepsOthers, Numbers, numbers_at}
 use Rattle.edit_def.proofs.EditedLaws.{Edited-then}
@@ -81,6 +83,31 @@ first-value (Clusters extent runs) is = cc
 abbrev named_by : Part → Option FileName
 named_by part = option_map name_in (content_value part.content)
 
+-- the number of a block that is in use
+sequence-used : (stored : List ℕ) → is_in_use stored ≡ true → stored_sequence stored ≡ (header_of (opened_of stored)).sequence
+unfolding header_of
+sequence-used stored used =
+    ap (λ b. cond b (sequence_of (opened_of stored)) 0) (and_parts (starts_with nat_eq stored (codes "FILE"))
+    (record_flags stored % 2 == 1) used).0
+
+-- THE FILE HAS NO NAME, and counts no link; the volume stands as between two calls. It is one edit of names of the file, of which all other
+-- parts stay, and all other files.
+pub record Unnamed (left unnamed counted : VolumeView) (marks : Marks) (n : ℕ) (name : FileName) : Type 0 where
+  pub ready : IsReady counted marks
+  pub alone : StandsAlone counted n (record_there counted n)
+  pub edited : Edited (is_name_key_of n) nothing left counted marks marks
+  pub others : KeepsOthers (records_of left) (records_of counted) n
+  pub still : (part : Part) → Contains (parts (records_of counted) n) part → Contains (parts (records_of left) n) part
+  pub nameless : names_of (records_of counted) n ≡ []
+  pub value : Told
+  pub value_name : IsOfName value name
+  pub values : SameItems (value ∷ told_names counted n) (told_names left n)
+  pub numbers : (was : Numbers) → numbers_at (records_of left) n ≡ Some was
+      → numbers_at (records_of counted) n ≡ Some (record was { links = 0 })
+  pub parts_unnamed : (g : ℕ) → g ≢ n → parts (records_of unnamed) g ≡ parts (records_of left) g
+  pub parts_others : (g : ℕ) → g ≢ n → parts (records_of counted) g ≡ parts (records_of left) g
+  pub sequence : stored_sequence (counted.block n) ≡ stored_sequence (left.block n)
+
 module _ (left counted : VolumeView) (n : ℕ) (name : FileName) (marks : Marks) (ready : IsReady left marks)
     (alone : StandsAlone left n (record_there left n)) (one : IsInOneRecord left n)
     (values : All (λ (part : Part). IsSome (content_value part.content)) (parts (records_of left) n))
@@ -92,7 +119,7 @@ module _ (left counted : VolumeView) (n : ℕ) (name : FileName) (marks : Marks)
   e = q.name
 
   -- the part that goes, a value
-  abbrev pub gone_part : Part
+  abbrev gone_part : Part
   gone_part = part_of n q.name.was
 
   value-is : IsSome (content_value gone_part.content)
@@ -110,7 +137,7 @@ module _ (left counted : VolumeView) (n : ℕ) (name : FileName) (marks : Marks)
   its-value = some-value (content_value gone_part.content) value-is
 
   -- OUT OF ITS RECORD
-  pub ready-unnamed : IsReady unnamed marks
+  ready-unnamed : IsReady unnamed marks
   ready-unnamed = ready-goes n q.at left unnamed marks e ready one other
 
   edited-unnamed : Edited (is_name_key_of n) nothing left unnamed marks marks
@@ -121,7 +148,7 @@ module _ (left counted : VolumeView) (n : ℕ) (name : FileName) (marks : Marks)
   block-unnamed : unnamed.block n ≡ e.stored
   block-unnamed = e.edits.replaces.block e.edits.told
 
-  pub alone-unnamed : StandsAlone unnamed n (record_there unnamed n)
+  alone-unnamed : StandsAlone unnamed n (record_there unnamed n)
   alone-unnamed = subst (λ block. StandsAlone unnamed n (record_of n (opened_of block))) (sym block-unnamed)
       (alone-edited left unnamed n e.stored (e.was ∷ []) [] e.edits (record_there left n) alone)
 
@@ -129,17 +156,17 @@ module _ (left counted : VolumeView) (n : ℕ) (name : FileName) (marks : Marks)
   counts : CountsFileLinks n 0 unnamed counted
   counts = counts-file n 0 unnamed counted q.stored q.counts one.may alone-unnamed.base
 
-  pub ready-counted : IsReady counted marks
+  ready-counted : IsReady counted marks
   ready-counted = links.ready-links n 0 unnamed counted counts marks ready-unnamed
 
   block-counted : counted.block n ≡ q.stored
   block-counted = q.counts.replaces.block q.counts.told
 
-  pub alone-now : StandsAlone counted n (record_there counted n)
+  alone-now : StandsAlone counted n (record_there counted n)
   alone-now = subst (λ block. StandsAlone counted n (record_of n (opened_of block))) (sym block-counted)
       (alone-counted unnamed counted n 0 q.stored q.counts (record_there unnamed n) alone-unnamed refl)
 
-  pub edited-counted : Edited (is_name_key_of n) nothing left counted marks marks
+  edited-counted : Edited (is_name_key_of n) nothing left counted marks marks
   edited-counted =
       Edited-more (either (is_name_key_of n) no_key) (is_name_key_of n) nothing nothing left counted marks marks
       (λ key free. or_from (is_name_key_of n key) false free refl) (within-same nothing)
@@ -147,15 +174,15 @@ module _ (left counted : VolumeView) (n : ℕ) (name : FileName) (marks : Marks)
       edited-unnamed (links.edited-links n 0 unnamed counted counts marks ready-unnamed))
 
   -- OTHER FILES
-  pub others-now : KeepsOthers (records_of left) (records_of counted) n
+  others-now : KeepsOthers (records_of left) (records_of counted) n
   others-now = KeepsOthers-then (records_of left) (records_of unnamed) (records_of counted) n
       (others-edited left unnamed n e.stored (e.was ∷ []) [] e.edits (record_there left n) alone)
       (others-counted unnamed counted n 0 q.stored q.counts (record_there unnamed n) alone-unnamed refl)
 
-  pub others-unnamed : (g : ℕ) → g ≢ n → parts (records_of unnamed) g ≡ parts (records_of left) g
+  others-unnamed : (g : ℕ) → g ≢ n → parts (records_of unnamed) g ≡ parts (records_of left) g
   others-unnamed = parts-edited left unnamed n e.stored (e.was ∷ []) [] e.edits (record_there left n) alone
 
-  pub others-counted-parts : (g : ℕ) → g ≢ n → parts (records_of counted) g ≡ parts (records_of unnamed) g
+  others-counted-parts : (g : ℕ) → g ≢ n → parts (records_of counted) g ≡ parts (records_of unnamed) g
   others-counted-parts = parts-counted unnamed counted n 0 q.stored q.counts (record_there unnamed n) alone-unnamed refl
 
   -- ITS PARTS: all but that one
@@ -170,7 +197,7 @@ module _ (left counted : VolumeView) (n : ℕ) (name : FileName) (marks : Marks)
             ∙ ap (map (part_of n)) (q.counts.attributes_are ∙ ap (λ block. attributes (opened_of block)) block-unnamed) ∙ r.new_is;
       }
 
-  pub still-part : (part : Part) → Contains (parts (records_of counted) n) part → Contains (parts (records_of left) n) part
+  still-part : (part : Part) → Contains (parts (records_of counted) n) part → Contains (parts (records_of left) n) part
   still-part part c = elim (Replaces-member _ _ _ _ part parts-cut c) [
     | inl stayed ↦ stayed
     | inr came ↦ absurd (Contains-nil part came)
@@ -191,7 +218,7 @@ module _ (left counted : VolumeView) (n : ℕ) (name : FileName) (marks : Marks)
       (ap (option_map name_in) its-value.1))
       ∙ only)
 
-  pub unnamed-now : names_of (records_of counted) n ≡ []
+  unnamed-now : names_of (records_of counted) n ≡ []
   unfolding names_of
   unnamed-now =
       ap (filter_map named_by) names-cut.new_is
@@ -200,7 +227,7 @@ module _ (left counted : VolumeView) (n : ℕ) (name : FileName) (marks : Marks)
       ∙ alike.behind
 
   -- WHAT WENT, as it was told
-  pub name-told : IsOfName (told_by gone_part) name
+  name-told : IsOfName (told_by gone_part) name
   name-told = ap (λ o. name_in (unwrap_or o [])) its-value.1 ∙ alike.same
 
   told-cut : Replaces (told_names left n) (told_names counted n) (told_by gone_part ∷ []) []
@@ -209,14 +236,37 @@ module _ (left counted : VolumeView) (n : ℕ) (name : FileName) (marks : Marks)
       ∙ ap (λ b. cond b (told_by gone_part ∷ []) []) (eq-eqb gone_part.kind FILE_NAME q.kind))
       (Replaces-filter is_name_told _ _ _ _ (Replaces-map told_by _ _ _ _ (Replaces-filter is_first _ _ _ _ parts-cut)))
 
-  pub values-now : SameItems (told_by gone_part ∷ told_names counted n) (told_names left n)
+  values-now : SameItems (told_by gone_part ∷ told_names counted n) (told_names left n)
   values-now = replaced-same (told_names left n) (told_names counted n) (told_by gone_part) told-cut
 
   -- NUMBERS
-  pub numbers-now : (was : Numbers) → numbers_at (records_of left) n ≡ Some was
+  numbers-now : (was : Numbers) → numbers_at (records_of left) n ≡ Some was
       → numbers_at (records_of counted) n ≡ Some (record was { links = 0 })
   numbers-now was at =
       links.numbers-own n 0 unnamed counted counts
       ∙ ap (option_map (λ (k : Numbers). record k { links = 0 }))
       (numbers-edit (records_of left) (records_of unnamed) n (parts_made n (e.was ∷ [])) []
       (edit-of left unnamed n e.stored (e.was ∷ []) [] e.edits) n ∙ at)
+
+  sequence-now : stored_sequence (counted.block n) ≡ stored_sequence (left.block n)
+  sequence-now =
+      ap stored_sequence block-counted ∙ sequence-used q.stored q.counts.used_still ∙ ap (λ (h : Header). h.sequence) q.counts.header
+      ∙ ap (λ block. (header_of (opened_of block)).sequence) block-unnamed ∙ e.edits.header.sequence
+      ∙ sym (sequence-used (left.block n) e.edits.used)
+
+  pub name-quit : Unnamed left q.unnamed counted marks n name
+  name-quit = record {
+    ready = ready-counted;
+    alone = alone-now;
+    edited = edited-counted;
+    others = others-now;
+    still = still-part;
+    nameless = unnamed-now;
+    value = told_by gone_part;
+    value_name = name-told;
+    values = values-now;
+    numbers = numbers-now;
+    parts_unnamed = others-unnamed;
+    parts_others = λ g ne. others-counted-parts g ne ∙ others-unnamed g ne;
+    sequence = sequence-now;
+  }

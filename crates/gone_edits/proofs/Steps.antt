@@ -30,8 +30,9 @@ use Rattle.gone_edits.specs.Exits.{ExitsIndex}
 use Rattle.gone_edits.specs.Goes.{CanGo, QuitsName}
 use Rattle.gone_edits.proofs.Before as before
 use Rattle.gone_edits.proofs.Exited.{Exited, exited}
+use Rattle.gone_edits.proofs.FileFreed.{Freed, file-freed}
 use Rattle.gone_edits.proofs.FileFreed as file
-use Rattle.gone_edits.proofs.NameGone as name_gone
+use Rattle.gone_edits.proofs.NameGone.{Unnamed, name-quit}
 
 -- THE ENTRY HAS GONE.
 module _ (old left : VolumeView) (was : Mounted) (n : ℕ) (node parent : Node) (name : FileName) (key : List ℕ)
@@ -88,23 +89,17 @@ module _ (old left : VolumeView) (was : Mounted) (n : ℕ) (node parent : Node) 
 
   -- THE NAME HAS GONE.
   module _ (counted : VolumeView) (q : QuitsName left counted n) where
-    pub ready-counted : IsReady counted marks
-    ready-counted = name_gone.ready-counted left counted n name marks gone.entered.ready alone-left one-left values-left only-left q
+    pub quit : Unnamed left q.unnamed counted marks n name
+    quit = name-quit left counted n name marks gone.entered.ready alone-left one-left values-left only-left q
 
-    pub alone-counted : StandsAlone counted n (record_there counted n)
-    alone-counted = name_gone.alone-now left counted n name marks gone.entered.ready alone-left one-left values-left only-left q
-
-    still : (part : Part) → Contains (parts (records_of counted) n) part → Contains (parts (records_of left) n) part
-    still = name_gone.still-part left counted n name marks gone.entered.ready alone-left one-left values-left only-left q
-
-    values-counted : (part : Part) → Contains (parts (records_of counted) n) part → IsSome (content_value part.content)
+    pub values-counted : (part : Part) → Contains (parts (records_of counted) n) part → IsSome (content_value part.content)
     values-counted part c =
-        All-contains (λ (part : Part). IsSome (content_value part.content)) (parts (records_of left) n) part values-left (still part c)
+        All-contains (λ (part : Part). IsSome (content_value part.content)) (parts (records_of left) n) part values-left (quit.still part c)
 
     no-list : count_by is_list (parts (records_of counted) n) ≡ 0
     no-list = count-none is_list (parts (records_of counted) n) (λ part c.
         false_from_ne_true (is_list part) (λ is.
-        let some = count-some is_list (parts (records_of left) n) part (still part c) is in
+        let some = count-some is_list (parts (records_of left) n) part (quit.still part c) is in
         let none = one-left.no_list in
         absurd (omega (arith, some, none))))
 
@@ -124,30 +119,26 @@ module _ (old left : VolumeView) (was : Mounted) (n : ℕ) (node parent : Node) 
     told-counted = subst IsTrue (sym q.counts.replaces.told) q.counts.told
 
     pub plain-counted : IsPlainFile n (record_there counted n)
-    plain-counted = file.plain-file counted n marks ready-counted alone-counted well-counted values-counted no-list
+    plain-counted = file.plain-file counted n marks quit.ready quit.alone well-counted values-counted no-list
 
     pub alone-file : IsAlone counted n
-    alone-file = file.alone-file counted n marks ready-counted alone-counted well-counted values-counted no-list
+    alone-file = file.alone-file counted n marks quit.ready quit.alone well-counted values-counted no-list
 
     pub has-no-name : HasNoName counted marks n
     has-no-name = record {
-      ready = ready-counted;
-      apart = apart-ready counted marks ready-counted;
-      one = record { base = alone-counted.base; may = can.one.may; no_list = no-list };
+      ready = quit.ready;
+      apart = apart-ready counted marks quit.ready;
+      one = record { base = quit.alone.base; may = can.one.may; no_list = no-list };
       plain = plain-counted;
       alone = alone-file;
-      unnamed = name_gone.unnamed-now left counted n name marks gone.entered.ready alone-left one-left values-left only-left q;
+      unnamed = quit.nameless;
     }
 
     -- THE RECORD IS FREE.
     module _ (freed : VolumeView) (now : Mounted) (frees : FreesBlock counted freed n) (given : now ≡ with_record_given was n) where
+      pub free : Freed counted freed marks (marks_of now) n
+      free = file-freed counted freed was now n told-counted quit.ready can.ordinary inside-counted used-counted well-counted plain-counted
+          alone-file frees given
+
       pub is-freed : IsFreed freed (marks_of now) n
-      is-freed =
-          let then = file.ready-freed counted freed was now n told-counted ready-counted can.ordinary inside-counted used-counted well-counted
-          plain-counted alone-file frees given in
-          record {
-            ready = then;
-            apart = apart-ready freed (marks_of now) then;
-            unused = file.none-freed counted freed was now n told-counted ready-counted can.ordinary inside-counted used-counted well-counted
-                plain-counted alone-file frees given;
-          }
+      is-freed = record { ready = free.ready; apart = apart-ready freed (marks_of now) free.ready; unused = free.none }
