@@ -3,7 +3,7 @@ use Rattle.std.proofs.Common.{◌≡◌, ◌≢◌, ◌<◌, ◌==◌, ◌&&◌,
 use Rattle.std.proofs.Common.{refl, sym, ap, subst, inl, inr, ◌∙◌, arith, eqb-true, ne_eqb}
 use Rattle.std.specs.List.{All, Contains, count_by}
 use Rattle.std.specs.Prelude.{IfSome, IsSomeAnd, IsTrue}
-use Rattle.std.proofs.lemmas.Bool.{cases_Bool, cases_eq}
+use Rattle.std.proofs.lemmas.Bool.{and_parts, cases_Bool}
 use Rattle.std.proofs.lemmas.List.Elements.{All-contains}
 use Rattle.list_laws.proofs.FindLaws.{count-no}
 use Rattle.list_laws.proofs.MemberLaws.{Contains-head}
@@ -25,7 +25,7 @@ use Rattle.file_clauses.proofs.InOrderLaws.{alone-parts}
 use Rattle.tree_model.specs.declared.tree.Node.{Node}
 use Rattle.tree_model.proofs.NamesLaws.{IsShown, is_shown}
 use Rattle.edit_def.specs.Marks.{AreRight}
-use Rattle.edit_def.specs.Names.{HasNoNames, Numbers, StandRightly, numbers_at, numbers_by, numbers_in}
+use Rattle.edit_def.specs.Names.{HasNoNames, Numbers, StandRightly, is_directory_by, is_directory_in, numbers_at, numbers_by, numbers_in}
 use Rattle.edit_def.proofs.NamesLaws.{number-inside, stand-of}
 use Rattle.record_edits.specs.Between.{IsReady}
 use Rattle.record_calls.specs.Edits.{record_there}
@@ -119,3 +119,12 @@ module _ (old : VolumeView) (was : Mounted) (n : ℕ) (file parent : Node) (name
   -- ITS DIRECTORY
   pub index : IsDirectoryIndex old dir
   index = parent-index old between0 n name among
+
+  pub parent-directory : (base : Record) → record_on old dir ≡ Some base → is_base base ≡ true → is_directory base ≡ true
+  parent-directory base at is =
+      let numbers : numbers_at (records_of old) dir ≡ Some (numbers_in base) = ap numbers_by at
+      ∙ ap (λ b. cond b (Some (numbers_in base)) None) is in
+      let stands = All-contains (λ (one : FileName). IsTrue (is_directory_in (records_of old) one.parent)) (names_of (records_of old) n) name
+      (stand n) among in
+      (and_parts (is_directory base) (base.header.sequence == name.parent.sequence)
+      (sym (ap (λ o. is_directory_by o name.parent.sequence) numbers) ∙ stands)).0

@@ -147,10 +147,10 @@ module _ (old new : VolumeView) (was now : Mounted) (n : ℕ) (node parent : Nod
     entry = λ items h. let did = changes.entry items h in (did.0, keeps did.0 did.1, did.2);
   }
 
-  loses-one : DropsLinks n (name ∷ []) nothing old counted marks marks
+  pub loses-one : DropsLinks n (name ∷ []) nothing old counted marks marks
   loses-one = (nothing, nothing, within-nothing nothing, counted, marks, drops, (refl, refl))
 
-  only-gone : gone_names (names_of (records_of old) n) name ≡ name ∷ []
+  pub only-gone : gone_names (names_of (records_of old) n) name ≡ name ∷ []
   only-gone =
       ap (λ all. gone_names all name) can.only
       ∙ gone-alone name (and_left _ (name.parent.number == name.parent.number) (before.no-dos old was n node parent name can right))
