@@ -84,7 +84,7 @@ abbrev named_by : Part → Option FileName
 named_by part = option_map name_in (content_value part.content)
 
 -- the number of a block that is in use
-sequence-used : (stored : List ℕ) → is_in_use stored ≡ true → stored_sequence stored ≡ (header_of (opened_of stored)).sequence
+pub sequence-used : (stored : List ℕ) → is_in_use stored ≡ true → stored_sequence stored ≡ (header_of (opened_of stored)).sequence
 unfolding header_of
 sequence-used stored used =
     ap (λ b. cond b (sequence_of (opened_of stored)) 0) (and_parts (starts_with nat_eq stored (codes "FILE"))
