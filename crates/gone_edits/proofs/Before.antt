@@ -1,17 +1,16 @@
 -- THE VOLUME BEFORE: what is told of a file that may go, and of its directory.
-use Rattle.std.proofs.Common.{◌≡◌, ◌≢◌, ◌<◌, ◌==◌, ◌&&◌, ℕ, Bool, true, false, List, [], ◌∷◌, Some, None, cond, length}
-use Rattle.std.proofs.Common.{refl, sym, ap, subst, inl, inr, ◌∙◌, arith, eqb-true, ne_eqb}
-use Rattle.std.specs.List.{All, Contains, count_by}
+use Rattle.std.proofs.Common.{◌≡◌, ◌≢◌, ◌≤◌, ◌<◌, ◌==◌, ◌&&◌, ℕ, true, false, [], Some, None, cond, length}
+use Rattle.std.proofs.Common.{sym, ap, subst, inl, inr, ◌∙◌, arith, eqb-true, ne_eqb}
+use Rattle.std.specs.List.{Contains, count_by}
 use Rattle.std.specs.Prelude.{IfSome, IsSomeAnd, IsTrue}
 use Rattle.std.proofs.lemmas.Bool.{and_parts, cases_Bool}
 use Rattle.std.proofs.lemmas.List.Elements.{All-contains}
 use Rattle.list_laws.proofs.FindLaws.{count-no}
 use Rattle.list_laws.proofs.MemberLaws.{Contains-head}
 use Rattle.ntfs_def.specs.FileName.{FileName}
-use Rattle.ntfs_def.specs.Fixup.{opened_of}
-use Rattle.ntfs_def.specs.declared.records.TheConstants.{FIRST_ORDINARY, ROOT}
+use Rattle.ntfs_def.specs.declared.records.TheConstants.{ROOT}
 use Rattle.volume_def.specs.FileNames.{is_dos, names_of}
-use Rattle.volume_def.specs.Files.{Record, is_base, is_directory, parts, record_of, record_on, records_of}
+use Rattle.volume_def.specs.Files.{Record, is_base, is_directory, parts, record_on, records_of}
 use Rattle.volume_def.specs.IndexesClause.{IsDirectoryIndex}
 use Rattle.volume_def.specs.LinksClause.{HasRightLinks, IsPairedAmong, is_long_in}
 use Rattle.volume_def.specs.ListsClause.{HasRightList, IsAlone}
@@ -25,7 +24,7 @@ use Rattle.file_clauses.proofs.InOrderLaws.{alone-parts}
 use Rattle.tree_model.specs.declared.tree.Node.{Node}
 use Rattle.tree_model.proofs.NamesLaws.{IsShown, is_shown}
 use Rattle.edit_def.specs.Marks.{AreRight}
-use Rattle.edit_def.specs.Names.{HasNoNames, Numbers, StandRightly, is_directory_by, is_directory_in, numbers_at, numbers_by, numbers_in}
+use Rattle.edit_def.specs.Names.{HasNoNames, StandRightly, is_directory_by, is_directory_in, numbers_at, numbers_by, numbers_in}
 use Rattle.edit_def.proofs.NamesLaws.{number-inside, stand-of}
 use Rattle.record_edits.specs.Between.{IsReady}
 use Rattle.record_calls.specs.Edits.{record_there}
@@ -34,7 +33,7 @@ use Rattle.name_edits.proofs.NamesInTurn.{file-no-names}
 use Rattle.command_edits.specs.Between.{IsBetween}
 use Rattle.command_edits.proofs.CallsRead.{parent-index}
 use Rattle.command_edits.proofs.SoundBetween.{between-sound, sound-whole}
-use Rattle.command_edits.proofs.StageLaws.{is-ordinary, node-directory}
+use Rattle.command_edits.proofs.StageLaws.{node-directory}
 use Rattle.made_edits.proofs.AloneLaws.{StandsAlone}
 use Rattle.made_edits.proofs.ReadyLaws.{ready-sound}
 use Rattle.gone_edits.specs.Goes.{CanGo}

@@ -3,18 +3,17 @@ use Rattle.std.proofs.Common.{◌≡◌, ◌≢◌, ◌≤◌, ◌/◌, ◌==◌
 use Rattle.std.proofs.Common.{None, Option, Some, refl, sym, ap, subst, inl, inr, ◌∙◌, arith, if◌then◌else◌}
 use mathlib.Core.Path.{fun_ext}
 use Rattle.std.specs.Prelude.{IfSome, is_some, nat_le}
-use Rattle.std.specs.List.{Contains, find, list_any, range_with_len}
+use Rattle.std.specs.List.{find, list_any, range_with_len}
 use Rattle.std.specs.Option.{option_and_then}
 use Rattle.std.specs.Str.{bytes_eq}
 use Rattle.std.proofs.lemmas.Bool.{and_left, and_parts, and_right, cases_Bool, cases_eq, eqb-true, ne_eqb, or_from}
 use Rattle.std.proofs.lemmas.Slice.Eq.{bytes_eq-Decides}
 use Rattle.list_laws.proofs.FilterLaws.{filter-all}
 use Rattle.list_laws.proofs.FindLaws.{find-found}
-use Rattle.list_laws.proofs.MemberLaws.{Contains-nil}
 use Rattle.list_laws.proofs.OptionLaws.{none_other, some_same}
 use Rattle.list_laws.proofs.SameItemsLaws.{SameItems-same}
 use Rattle.ntfs_def.specs.FileName.{FileName}
-use Rattle.ntfs_def.specs.Node.{Item, short_node}
+use Rattle.ntfs_def.specs.Node.{short_node}
 use Rattle.ntfs_def.specs.Units.{wide}
 use Rattle.ntfs_def.specs.declared.index.NodeForm.TheVariants.{View}
 use Rattle.ntfs_def.specs.declared.kinds.TheConstants.{BITMAP, INDEX_ALLOCATION, INDEX_ROOT}

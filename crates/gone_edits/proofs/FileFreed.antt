@@ -1,17 +1,16 @@
 -- THE RECORD OF A FILE without a name is freed, and its flag cleared: what stands then, and the call by which the file goes.
-use Rattle.std.proofs.Common.{◌≡◌, ◌≢◌, ◌<◌, ◌≤◌, ◌+◌, ◌*◌, ◌%◌, ◌==◌, ◌&&◌, ◌||◌, ℕ, Bool, false, true, List, [], length, map, None, Some}
-use Rattle.std.proofs.Common.{cond, get_or, refl, sym, ap, subst, inl, inr, ◌∙◌, arith, eq-eqb, rules}
+use Rattle.std.proofs.Common.{◌≡◌, ◌≢◌, ◌<◌, ◌≤◌, ◌+◌, ◌%◌, ◌==◌, ◌||◌, ℕ, false, true, List, [], length, None, Some}
+use Rattle.std.proofs.Common.{cond, get_or, refl, sym, ap, subst, inl, ◌∙◌, arith, eq-eqb, rules}
 use Rattle.std.specs.List.{All, Contains, starts_with}
 use Rattle.std.specs.Prelude.{IfSome, IsSome, IsSomeAnd, IsTrue, codes, count_by, nat_eq}
 use Rattle.std.proofs.lemmas.Bool.{and_parts, or_from}
-use Rattle.std.proofs.lemmas.List.Elements.{All-contains}
 use Rattle.std.proofs.lemmas.Option.{slice_get-get_or}
-use Rattle.list_laws.proofs.FindLaws.{count-none, count-some}
+use Rattle.list_laws.proofs.FindLaws.{count-some}
 use Rattle.list_laws.proofs.MemberLaws.{All-from_Contains, Contains-from_map}
 use Rattle.list_laws.proofs.PieceLaws.{range-long}
 use Rattle.ntfs_def.specs.Attribute.{Attribute, attribute_at, attribute_place, attributes, name_end, name_offset}
 use Rattle.ntfs_def.specs.Fixup.{array_place, opened_of}
-use Rattle.ntfs_def.specs.Record.{header_of, is_in_use, record_flags, sequence_of}
+use Rattle.ntfs_def.specs.Record.{is_in_use, record_flags, sequence_of}
 use Rattle.ntfs_def.specs.Shape.{HasShape, header_failing}
 use Rattle.ntfs_def.specs.declared.kinds.TheConstants.{ATTRIBUTE_LIST, FILE_NAME}
 use Rattle.ntfs_def.specs.declared.records.TheConstants.{FIRST_ORDINARY}
@@ -20,7 +19,7 @@ use Rattle.ntfs_def.proofs.FixupLaws.{length-opened_of, opened_of-within}
 use Rattle.ntfs_def.proofs.SameLaws.{starts-same}
 use Rattle.ntfs_def.proofs.ShapeLaws.{header_failing-length, header_failing-used}
 use Rattle.volume_def.specs.AttributesClause.{IsRightRecord, is_standard}
-use Rattle.volume_def.specs.Files.{Part, Record, content_value, is_base, part_of, parts, record_on, records_of}
+use Rattle.volume_def.specs.Files.{Part, content_value, is_base, part_of, parts, record_on, records_of}
 use Rattle.volume_def.specs.Freed.{FreesRecord, sequence_after, stored_sequence}
 use Rattle.volume_def.specs.ListsClause.{HasRightList, IsAlone, is_list}
 use Rattle.volume_def.specs.Readable.{IsFile}

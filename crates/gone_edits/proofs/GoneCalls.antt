@@ -1,7 +1,7 @@
 -- A FILE GONE WITH ITS ONE NAME as calls on names and files.
-use Rattle.std.proofs.Common.{◌≡◌, ◌≢◌, ◌<◌, ◌==◌, ◌&&◌, ◌*◌, ◌||◌, ℕ, Bool, true, false, List, [], ◌∷◌, Some, cond, filter, map, if◌then◌else◌}
+use Rattle.std.proofs.Common.{◌≡◌, ◌≢◌, ◌<◌, ◌==◌, ◌*◌, ◌||◌, ℕ, Bool, true, false, List, [], ◌∷◌, Some, cond, filter, map, if◌then◌else◌}
 use Rattle.std.proofs.Common.{refl, sym, ap, subst, ◌∙◌}
-use Rattle.std.specs.List.{All, Contains, filter_map}
+use Rattle.std.specs.List.{All, Contains}
 use Rattle.std.specs.Prelude.{option_map}
 use Rattle.std.proofs.lemmas.Bool.{and_left, eq-eqb, or_from, or_parts}
 use Rattle.list_laws.specs.SameItems.{SameItems}

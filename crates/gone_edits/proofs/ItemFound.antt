@@ -1,9 +1,8 @@
 -- THE ITEM OF A NAME in the index of its directory.
-use Rattle.std.proofs.Common.{◌≡◌, ◌==◌, ℕ, List, Some, refl, sym, ap, ◌∙◌, map, filter, eq-eqb}
+use Rattle.std.proofs.Common.{◌≡◌, ℕ, List, Some, refl, sym, ap, ◌∙◌, map, filter, eq-eqb}
 use Rattle.std.specs.Coded.{Coded, code_by, coded×, coded_list, coded_ℕ}
 use Rattle.std.specs.List.{Contains}
 use Rattle.std.specs.Prelude.{IsTrue}
-use Rattle.std.specs.declared.cmp.Ordering.TheVariants.{Equal}
 use Rattle.list_laws.proofs.CodedLaws.{SameItems-Contains}
 use Rattle.list_laws.proofs.MemberLaws.{Contains-filter, Contains-from_map}
 use Rattle.list_laws.proofs.SameItemsLaws.{SameItems-sym}

@@ -1,10 +1,10 @@
 -- ALL THAT IS LEFT ALONE where a file went.
-use Rattle.std.proofs.Common.{◌≡◌, ◌≢◌, ◌≤◌, ◌<◌, ◌%◌, ◌==◌, ◌&&◌, ℕ, Bool, true, false, List, [], ◌∷◌, codes, cond, filter}
+use Rattle.std.proofs.Common.{◌≡◌, ◌≢◌, ◌≤◌, ◌<◌, ◌%◌, ◌==◌, ℕ, Bool, true, false, List, [], codes, filter}
 use Rattle.std.proofs.Common.{None, Some, refl, sym, ap, subst, inl, inr, ◌∙◌, arith, true≢false}
-use Rattle.std.specs.Prelude.{◌⊎◌, All, IsSomeAnd, IsTrue, slice_index}
+use Rattle.std.specs.Prelude.{◌⊎◌, IsSomeAnd, IsTrue, slice_index}
 use Rattle.std.specs.List.{Contains}
 use Rattle.std.specs.Str.{bytes_eq}
-use Rattle.std.proofs.lemmas.Bool.{and_parts, and_right, cases_eq, eqb-true, ne_eqb, or_from, or_parts}
+use Rattle.std.proofs.lemmas.Bool.{and_right, cases_eq, eqb-true, ne_eqb, or_from, or_parts}
 use Rattle.std.proofs.lemmas.List.Elements.{All-contains}
 use Rattle.list_laws.proofs.MemberLaws.{All-from_Contains, Contains-from_filter}
 use Rattle.list_laws.proofs.OptionLaws.{some_same}
@@ -28,7 +28,7 @@ use Rattle.volume_def.proofs.ValueLaws.{spot_at-owned, value-frame}
 use Rattle.volume_edits.specs.Owners.{HasOwners}
 use Rattle.mft_table.specs.declared.mounted.Mounted.{Mounted}
 use Rattle.file_record.proofs.RecordLaws.{record_at-in_use, record_at-inside}
-use Rattle.tree_model.specs.IndexRoom.{directory_index, index_depth}
+use Rattle.tree_model.specs.IndexRoom.{directory_index}
 use Rattle.tree_model.specs.StreamRoom.{is_cluster}
 use Rattle.tree_model.specs.declared.tree.Node.{Node}
 use Rattle.tree_model.proofs.NamesLaws.{IsShown, is_shown}

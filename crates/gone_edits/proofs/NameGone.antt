@@ -1,8 +1,8 @@
 -- THE NAME GOES OUT OF THE RECORD of a file that has one, and no link is counted: what stands then, and what the file tells.
-use Rattle.std.proofs.Common.{◌≡◌, ◌≢◌, ◌≤◌, ◌+◌, ◌==◌, ◌++◌, ℕ, Bool, false, List, [], ◌∷◌, None, Option, Some, cond, filter, length, map}
+use Rattle.std.proofs.Common.{◌≡◌, ◌≢◌, ◌==◌, ◌++◌, ℕ, false, List, [], ◌∷◌, None, Option, Some, cond, filter, map}
 use Rattle.std.proofs.Common.{refl, sym, ap, subst, inl, inr, ◌∙◌, arith, eq-eqb, true}
 use Rattle.std.specs.List.{All, Contains, cons_option, filter_map, starts_with}
-use Rattle.std.specs.Prelude.{◌%◌, ◌&&◌, IsSome, IsTrue, codes, nat_eq, option_map, unwrap_or}
+use Rattle.std.specs.Prelude.{◌%◌, IsSome, codes, nat_eq, option_map, unwrap_or}
 use Rattle.std.proofs.lemmas.Bool.{and_parts, or_from}
 use Rattle.std.proofs.lemmas.List.Elements.{All-contains, filter_map-append}
 use Rattle.list_laws.specs.Replaces.{Replaces}
@@ -10,18 +10,16 @@ use Rattle.list_laws.specs.SameItems.{SameItems}
 use Rattle.list_laws.proofs.FindLaws.{count-cons}
 use Rattle.list_laws.proofs.MemberLaws.{Contains-head, Contains-nil}
 use Rattle.list_laws.proofs.ReplacesLaws.{Replaces-count, Replaces-filter, Replaces-map, Replaces-member}
-use Rattle.list_laws.proofs.SameItemsLaws.{SameItems-same}
 use Rattle.ntfs_def.specs.Attribute.{attributes}
 use Rattle.ntfs_def.specs.FileName.{FileName, name_in}
 use Rattle.ntfs_def.specs.Fixup.{opened_of}
 use Rattle.ntfs_def.specs.Record.{Header, header_of, is_in_use, record_flags, sequence_of}
 use Rattle.ntfs_def.specs.declared.kinds.TheConstants.{FILE_NAME}
-use Rattle.volume_def.specs.FileNames.{is_file_name, names_among, names_of}
+use Rattle.volume_def.specs.FileNames.{is_file_name, names_of}
 use Rattle.volume_def.specs.Files.{Content, Clusters, Part, Value, content_value, part_of, parts, record_of, records_of}
 use Rattle.volume_def.specs.Freed.{stored_sequence}
 use Rattle.volume_def.specs.Values.{first_vcn_of, is_first}
 use Rattle.volume_def.specs.View.{VolumeView}
-use Rattle.volume_edits.specs.Rewritten.{CountsLinks}
 use Rattle.file_record.specs.Attributes.{RemovesAttribute}
 use Rattle.edit_def.specs.Account.{nothing}
 use Rattle.edit_def.specs.Edited.{Edited}

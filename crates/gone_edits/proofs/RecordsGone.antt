@@ -1,5 +1,5 @@
 -- THE RECORDS of the volume behind the edit: those that are not in use, and headers of attributes.
-use Rattle.std.proofs.Common.{◌≡◌, ◌≢◌, ◌==◌, ◌≤◌, ℕ, true, false, List, [], cond, filter, map, None, Option, Some, refl, sym, ap, subst, inl, inr, ◌∙◌}
+use Rattle.std.proofs.Common.{◌≡◌, ◌≢◌, ◌==◌, ℕ, true, false, [], cond, filter, None, Option, Some, sym, ap, subst, inl, inr, ◌∙◌}
 use Rattle.std.proofs.Common.{arith}
 use Rattle.std.specs.Prelude.{is_some}
 use Rattle.std.specs.List.{Contains, flat_map, range_with_len}

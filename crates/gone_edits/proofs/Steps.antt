@@ -1,15 +1,15 @@
 -- WHAT STANDS between the calls of `rm`: behind the entry, behind the name, and behind the record.
-use Rattle.std.proofs.Common.{◌≡◌, ◌≢◌, ◌<◌, ℕ, List, [], ◌∷◌, Some, refl, sym, ap, subst, ◌∙◌, inr, arith, eq-eqb}
+use Rattle.std.proofs.Common.{◌≡◌, ◌≢◌, ◌<◌, ℕ, List, [], ◌∷◌, Some, sym, ap, subst, ◌∙◌, arith}
 use Rattle.std.specs.List.{All, Contains, count_by}
 use Rattle.std.specs.Prelude.{IsSome, IsTrue}
 use Rattle.std.proofs.lemmas.Bool.{false_from_ne_true}
 use Rattle.std.proofs.lemmas.List.Elements.{All-contains}
 use Rattle.list_laws.proofs.FindLaws.{count-none, count-some}
-use Rattle.ntfs_def.specs.FileName.{FileName, key_units}
+use Rattle.ntfs_def.specs.FileName.{FileName}
 use Rattle.ntfs_def.specs.Fixup.{opened_of}
 use Rattle.ntfs_def.specs.Record.{is_in_use}
 use Rattle.volume_def.specs.FileNames.{names_among, names_of}
-use Rattle.volume_def.specs.Files.{Part, content_value, is_base, parts, record_of, record_on, records_of}
+use Rattle.volume_def.specs.Files.{Part, content_value, is_base, parts, record_of, records_of}
 use Rattle.volume_def.specs.ListsClause.{IsAlone, is_list}
 use Rattle.volume_def.specs.Table.{IsWellFormed, TableLayout}
 use Rattle.volume_def.specs.View.{VolumeView}
@@ -18,7 +18,6 @@ use Rattle.mft_table.specs.Changes.{with_record_given}
 use Rattle.mft_table.specs.FreeRecords.{FreesBlock}
 use Rattle.tree_model.specs.declared.tree.Node.{Node}
 use Rattle.edit_def.specs.Marks.{AreRight, Marks}
-use Rattle.record_edits.specs.Between.{IsReady}
 use Rattle.file_edits.specs.Files.{IsPlainFile}
 use Rattle.record_calls.specs.Calls.{IsInOneRecord}
 use Rattle.record_calls.specs.Edits.{record_there}

@@ -1,5 +1,4 @@
 use Rattle.std.proofs.Common.{subst}
-use Rattle.edit_def.specs.Marks.{AreRight}
 use Rattle.record_calls.specs.Marks.{marks_of}
 use Rattle.gone_edits.specs.Between.{HasExited, HasNoName, IsFreed}
 use Rattle.gone_edits.specs.Exits.{ExitsIndex}
