@@ -11,7 +11,6 @@ use Rattle.ntfs_def.specs.FileName.{FileName, name_in}
 use Rattle.ntfs_def.specs.declared.kinds.TheConstants.{FILE_NAME}
 use Rattle.volume_def.specs.FileNames.{is_file_name, names_of}
 use Rattle.volume_def.specs.Files.{Part, content_value, parts, records_of}
-use Rattle.volume_def.specs.IndexesClause.{IsDirectoryIndex}
 use Rattle.volume_def.specs.LinksClause.{is_dos_in}
 use Rattle.volume_def.specs.Table.{TableLayout}
 use Rattle.volume_def.specs.Values.{is_first}
@@ -21,7 +20,7 @@ use Rattle.tree_model.specs.declared.tree.Node.{Node}
 use Rattle.edit_def.specs.Account.{nothing}
 use Rattle.edit_def.specs.Edited.{Edited, is_room_key}
 use Rattle.edit_def.specs.Items.{KeepsItems}
-use Rattle.edit_def.specs.Kept.{either, is_name_told, told_by, told_names}
+use Rattle.edit_def.specs.Kept.{Told, either, is_name_told, told_by, told_names}
 use Rattle.edit_def.specs.Marks.{AreRight, Marks}
 use Rattle.edit_def.specs.Names.{KeepsOthers, Numbers, gone_names, is_only_long, numbers_at, numbers_in}
 use Rattle.edit_def.proofs.EditedLaws.{Edited-then}
@@ -84,15 +83,13 @@ module _ (old new : VolumeView) (was now : Mounted) (n : ℕ) (node parent : Nod
   pub gone : Exited old left marks dir u.key
   gone = steps.gone old left was n node parent name u.key can right u.exits
 
-  index : IsDirectoryIndex old dir
-  index = before.index old was n node parent name can right
-
   pub found : HasItemOf old n (record_there old n).header.sequence name u.key (before.index old was n node parent name can right).items
   found = item-found old n (record_there old n) (before.there old was n node parent name can right) can.one.base name
       (before.among old was n node parent name can right) (before.index old was n node parent name can right) u.key u.key_is
 
   pub changes : ChangesIndex nothing old left marks marks dir (found.item ∷ []) []
-  changes = gone.changes (before.index old was n node parent name can right).items found.item (items-of-directory old dir index) found.at
+  changes = gone.changes (before.index old was n node parent name can right).items found.item
+      (items-of-directory old dir (before.index old was n node parent name can right)) found.at
 
   -- THE NAME
   pub quit : Unnamed left u.quits.unnamed counted marks n name
@@ -141,7 +138,7 @@ module _ (old new : VolumeView) (was now : Mounted) (n : ℕ) (node parent : Nod
     };
     value = quit.value;
     value_name = quit.value_name;
-    values = subst (SameItems _) told-left quit.values;
+    values = subst (λ (xs : List Told). SameItems (quit.value ∷ told_names counted n) xs) told-left quit.values;
     item = found.item;
     link = found.link;
     entry = λ items h. let did = changes.entry items h in (did.0, keeps did.0 did.1, did.2);

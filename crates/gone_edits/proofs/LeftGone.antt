@@ -17,7 +17,7 @@ use Rattle.ntfs_def.specs.declared.kinds.TheConstants.{ATTRIBUTE_LIST, BITMAP, D
 use Rattle.ntfs_def.specs.declared.records.TheConstants.{CLUSTER_BITMAP, FIRST_ORDINARY, LOG_FILE, MFT, ROOT, UPCASE, VOLUME}
 use Rattle.volume_def.specs.CaseClause.{volume_fold}
 use Rattle.volume_def.specs.FileNames.{names_of}
-use Rattle.volume_def.specs.Files.{Part, Record, file_of, is_base, is_directory, is_of, parts, parts_at, record_on, records_of}
+use Rattle.volume_def.specs.Files.{Part, Record, Records, file_of, is_base, is_directory, is_of, parts, parts_at, record_on, records_of}
 use Rattle.volume_def.specs.Freed.{sequence_after, stored_sequence}
 use Rattle.volume_def.specs.ListsClause.{is_list}
 use Rattle.volume_def.specs.Sound as clauses
@@ -139,7 +139,7 @@ module _ (old new : VolumeView) (was now : Mounted) (n : ℕ) (node parent : Nod
 
   -- ITS RECORD
   unused-now : record_on new n ≡ None
-  unused-now = ap (λ r. r.record_at n) (calls.records-now old new was now n node parent name can right u) ∙ free.none
+  unused-now = ap (λ (r : Records). r.record_at n) (calls.records-now old new was now n node parent name can right u) ∙ free.none
 
   there : record_on old n ≡ Some (record_there old n)
   there = before.there old was n node parent name can right

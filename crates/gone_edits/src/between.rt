@@ -19,9 +19,9 @@ pub fn between_gone()
         → CanGo old n dir file parent name → AreRight old (marks_of was) → ExitsIndex old left dir key
         → HasExited old left (marks_of was) n dir }
     ensures unnamed { (old left counted : VolumeView) (was : Mounted) (n dir : ℕ) (file parent : Node) (name : FileName) (key : List ℕ)
-        → CanGo old n dir file parent name → AreRight old (marks_of was) → ExitsIndex old left dir key
-        → QuitsName left counted n → HasNoName counted (marks_of was) n }
+        → CanGo old n dir file parent name → AreRight old (marks_of was) → ExitsIndex old left dir key → QuitsName left counted n
+        → HasNoName counted (marks_of was) n }
     ensures freed { (old left counted freed : VolumeView) (was now : Mounted) (n dir : ℕ) (file parent : Node) (name : FileName)
-        (key : List ℕ) → CanGo old n dir file parent name → AreRight old (marks_of was) → ExitsIndex old left dir key → QuitsName left counted n → FreesBlock counted freed n → now ≡ with_record_given was n
-        → IsFreed freed (marks_of now) n }
+        (key : List ℕ) → CanGo old n dir file parent name → AreRight old (marks_of was) → ExitsIndex old left dir key
+        → QuitsName left counted n → FreesBlock counted freed n → now ≡ with_record_given was n → IsFreed freed (marks_of now) n }
 {}
