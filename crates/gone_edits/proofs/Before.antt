@@ -123,7 +123,7 @@ module _ (old : VolumeView) (was : Mounted) (n : ℕ) (file parent : Node) (name
   parent-directory base at is =
       let numbers : numbers_at (records_of old) dir ≡ Some (numbers_in base) = ap numbers_by at
       ∙ ap (λ b. cond b (Some (numbers_in base)) None) is in
-      let stands = All-contains (λ (one : FileName). IsTrue (is_directory_in (records_of old) one.parent)) (names_of (records_of old) n) name
-      (stand n) among in
+      let stands = All-contains (λ (one : FileName). IsTrue (is_directory_in (records_of old) one.parent)) (names_of (records_of old) n)
+      name (stand n) among in
       (and_parts (is_directory base) (base.header.sequence == name.parent.sequence)
       (sym (ap (λ o. is_directory_by o name.parent.sequence) numbers) ∙ stands)).0

@@ -196,8 +196,8 @@ module _ (old new : VolumeView) (was now : Mounted) (n : ℕ) (node parent : Nod
   -- ALL OF THEM
   pub edited : Edited (is_gone_key n dir) (going_wants n) old new marks after
   edited =
-      Edited-more (either (either (is_name_key_of n) (is_index_key_of dir)) (is_key_of n)) (is_gone_key n dir) (going_wants n) (going_wants n)
-      old new marks after
+      Edited-more (either (either (is_name_key_of n) (is_index_key_of dir)) (is_key_of n)) (is_gone_key n dir) (going_wants n)
+      (going_wants n) old new marks after
       (λ key free.
       let p = or_parts (is_key_of n key) (is_index_key_of dir key) free in
       or_from (is_name_key_of n key || is_index_key_of dir key) (is_key_of n key)

@@ -23,7 +23,8 @@ use Rattle.entry_edits.proofs.SwappedItems.{item-at}
 
 -- a link is told from all others by its numbers
 reference_code : Coded Reference
-reference_code = code_by (ℕ × ℕ) (coded× coded_ℕ coded_ℕ) (λ r. (r.number, r.sequence)) (λ p. record { number = p.0; sequence = p.1 }) (λ _. refl)
+reference_code = code_by (ℕ × ℕ) (coded× coded_ℕ coded_ℕ) (λ r. (r.number, r.sequence)) (λ p. record { number = p.0; sequence = p.1 })
+    (λ _. refl)
 
 name_code : Coded FileName
 name_code = code_by (Reference × (ℕ × List ℕ)) (coded× reference_code (coded× coded_ℕ (coded_list coded_ℕ)))

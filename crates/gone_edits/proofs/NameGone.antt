@@ -43,7 +43,8 @@ use Rattle.command_edits.specs.Calls.{IsOfName}
 use Rattle.command_edits.specs.Keys.{is_name_key_of, no_key}
 use Rattle.command_edits.proofs.CallKeys.{within-nothing}
 use Rattle.command_edits.proofs.CallsMade.{Edited-more, within-same}
-use Rattle.made_edits.proofs.AloneLaws.{StandsAlone, alone-counted, alone-edited, others-counted, others-edited, parts-counted, parts-edited}
+use Rattle.made_edits.proofs.AloneLaws.{StandsAlone, alone-counted, alone-edited, others-counted, others-edited, parts-counted}
+use Rattle.made_edits.proofs.AloneLaws.{parts-edited}
 use Rattle.made_edits.proofs.KeyLaws.{own-name}
 use Rattle.gone_edits.specs.Goes.{QuitsName}
 
@@ -140,8 +141,8 @@ module _ (left counted : VolumeView) (n : ℕ) (name : FileName) (marks : Marks)
 
   edited-unnamed : Edited (is_name_key_of n) nothing left unnamed marks marks
   edited-unnamed =
-      Edited-more _ (is_name_key_of n) nothing nothing left unnamed marks marks (λ key free. own-name n e.was.kind e.was.name key q.kind free)
-      (within-same nothing) (edited-goes n q.at left unnamed marks e ready one other)
+      Edited-more _ (is_name_key_of n) nothing nothing left unnamed marks marks
+      (λ key free. own-name n e.was.kind e.was.name key q.kind free) (within-same nothing) (edited-goes n q.at left unnamed marks e ready one other)
 
   block-unnamed : unnamed.block n ≡ e.stored
   block-unnamed = e.edits.replaces.block e.edits.told
@@ -203,7 +204,8 @@ module _ (left counted : VolumeView) (n : ℕ) (name : FileName) (marks : Marks)
 
   names-cut : Replaces (filter is_file_name (parts (records_of left) n)) (filter is_file_name (parts (records_of counted) n))
       (gone_part ∷ []) []
-  names-cut = subst (λ xs. Replaces (filter is_file_name (parts (records_of left) n)) (filter is_file_name (parts (records_of counted) n)) xs [])
+  names-cut = subst (λ xs. Replaces (filter is_file_name (parts (records_of left) n)) (filter is_file_name (parts (records_of counted) n))
+      xs [])
       (ap (λ b. cond b (gone_part ∷ []) []) (eq-eqb gone_part.kind FILE_NAME q.kind))
       (Replaces-filter is_file_name _ _ _ _ parts-cut)
 

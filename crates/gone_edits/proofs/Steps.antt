@@ -47,8 +47,8 @@ module _ (old left : VolumeView) (was : Mounted) (n : ℕ) (node parent : Node) 
   other = before.other old was n node parent name can right
 
   pub gone : Exited old left marks dir key
-  gone = exited old left dir key marks (before.ready old was n node parent name can right) (before.index old was n node parent name can right)
-      exits
+  gone = exited old left dir key marks (before.ready old was n node parent name can right)
+      (before.index old was n node parent name can right) exits
 
   block-left : left.block n ≡ old.block n
   block-left = gone.entered.blocks n (λ is. other (sym is))

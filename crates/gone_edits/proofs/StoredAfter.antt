@@ -106,7 +106,8 @@ module _ (old new : VolumeView) (was now : Mounted) (n : ℕ) (node parent : Nod
 
   -- BEHIND THE ENTRY: one record, and the bitmap of records
   left-unnamed : Leaves (λ key. false) n u.left u.quits.unnamed
-  left-unnamed = Leaves-block (λ key. false) n u.quits.name.stored u.left u.quits.unnamed high u.quits.name.edits.replaces quit.parts_unnamed
+  left-unnamed = Leaves-block (λ key. false) n u.quits.name.stored u.left u.quits.unnamed high u.quits.name.edits.replaces
+      quit.parts_unnamed
 
   left-counted : Leaves (λ key. false) n u.left u.counted
   left-counted = Leaves-then (λ key. false) n u.left u.quits.unnamed u.counted none-away left-unnamed
