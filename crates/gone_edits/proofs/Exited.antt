@@ -88,13 +88,16 @@ module _ (old new : VolumeView) (dir : ℕ) (key : List ℕ)
       one-item (volume_fold old) key all cuts.gone item h.index.ascending
       (subst (λ xs. Contains xs cuts.gone) (sym cuts.cut.was) (contains-at cuts.cut.front cuts.gone cuts.cut.back))
       (subst (λ xs. Contains xs item) (sym at.whole ∙ same) (contains-at at.front item at.back))
-      cuts.equal at.equal in
-      (did.0, did.1, record {
-        before = cuts.cut.front;
-        after = cuts.cut.back;
-        old_is = cuts.cut.was ∙ ap (λ x. cuts.cut.front ++ (x ∷ cuts.cut.back)) gone;
-        new_is = cuts.cut.now;
-      })
+      cuts.equal at.equal in (
+        did.0,
+        did.1,
+        record {
+          before = cuts.cut.front;
+          after = cuts.cut.back;
+          old_is = cuts.cut.was ∙ ap (λ x. cuts.cut.front ++ (x ∷ cuts.cut.back)) gone;
+          new_is = cuts.cut.now;
+        },
+      )
 
   -- there is one
   never-absent : (was : List Item) → HasItems old dir was → IsAbsent (name_order (volume_fold old)) key was → ⊥
@@ -105,37 +108,37 @@ module _ (old new : VolumeView) (dir : ℕ) (key : List ℕ)
 
 -- OUT OF A RECORD of the index
 module _ (old new : VolumeView) (dir : ℕ) (key : List ℕ) (marks : Marks) (ready : IsReady old marks) (takes : TakesItem old new dir key)
-    where
-  itself : same_key (entry_key dir) (entry_key dir) ≡ true
-  itself = and_from (INDEX_ALLOCATION == INDEX_ALLOCATION) _ refl
-      (and_from (dir == dir) _ (eq-eqb dir dir refl) ((bytes_eq-Decides (wide (codes "$I30")) (wide (codes "$I30"))).1 refl))
+  where
+    itself : same_key (entry_key dir) (entry_key dir) ≡ true
+    itself = and_from (INDEX_ALLOCATION == INDEX_ALLOCATION) _ refl
+        (and_from (dir == dir) _ (eq-eqb dir dir refl) ((bytes_eq-Decides (wide (codes "$I30")) (wide (codes "$I30"))).1 refl))
 
-  writes : WritesInPlace (same_key (entry_key dir)) old new
-  writes = record {
-    told = takes.changes.told;
-    layout = takes.changes.layout;
-    blocks = takes.changes.blocks;
-    copies = takes.changes.copies;
-    rest = takes.changes.rest;
-    clusters = λ c owned free. takes.changes.clusters c (free dir INDEX_ALLOCATION (wide (codes "$I30")) itself);
-  }
+    writes : WritesInPlace (same_key (entry_key dir)) old new
+    writes = record {
+      told = takes.changes.told;
+      layout = takes.changes.layout;
+      blocks = takes.changes.blocks;
+      copies = takes.changes.copies;
+      rest = takes.changes.rest;
+      clusters = λ c owned free. takes.changes.clusters c (free dir INDEX_ALLOCATION (wide (codes "$I30")) itself);
+    }
 
-  like-put : PutsItem old new dir (like key)
-  like-put = as-put old new dir key takes
+    like-put : PutsItem old new dir (like key)
+    like-put = as-put old new dir key takes
 
-  as-entered : Entered old new marks dir (like key)
-  as-entered = entered-record old new dir (like key) marks ready like-put
+    as-entered : Entered old new marks dir (like key)
+    as-entered = entered-record old new dir (like key) marks ready like-put
 
-  exited-record : Exited old new marks dir key
-  exited-record = record {
-    entered = as-entered;
-    changes = λ was item has at. record {
-      edited = Edited-more (same_key (entry_key dir)) (is_index_key_of dir) nothing nothing old new marks marks (entry-index dir)
-          (within-same nothing) (edited-place (same_key (entry_key dir)) old new writes marks ready (entry-room dir));
-      names_kept = as-entered.names_kept;
-      entry = items-cut old new dir key takes.items was item has at;
-    };
-  }
+    exited-record : Exited old new marks dir key
+    exited-record = record {
+      entered = as-entered;
+      changes = λ was item has at. record {
+        edited = Edited-more (same_key (entry_key dir)) (is_index_key_of dir) nothing nothing old new marks marks (entry-index dir)
+            (within-same nothing) (edited-place (same_key (entry_key dir)) old new writes marks ready (entry-room dir));
+        names_kept = as-entered.names_kept;
+        entry = items-cut old new dir key takes.items was item has at;
+      };
+    }
 
 -- OUT OF THE ROOT, whose value got shorter
 root-index : (dir : ℕ) (key : Key) → is_index_key_of dir key ≡ false → same_key (root_key dir) key ≡ false

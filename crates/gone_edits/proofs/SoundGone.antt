@@ -110,10 +110,10 @@ module _ (old new : VolumeView) (was now : Mounted) (n : ℕ) (node parent : Nod
 
   pub last : is_last_name (read old) link ≡ true
   last = elim (cases_Bool (is_last_name (read old) link)) [
-    | inl yes ↦ yes
-    | inr no ↦
+    | inl held ↦ held
+    | inr more ↦
         let two = shown-other old n node can.there (before.away old was n node parent name can right) name
-        (before.among old was n node parent name can right) index (before.no-dos old was n node parent name can right) no in
+        (before.among old was n node parent name can right) index (before.no-dos old was n node parent name can right) more in
         let most = count_by-le-length is_not_dos its_names in
         let one : length its_names ≡ 1 = ap length can.only in
         absurd (omega (arith, two, most, one))
