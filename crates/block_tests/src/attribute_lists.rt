@@ -19,55 +19,83 @@ const LIST: [u8; 102] = [
     0x01, 0xEF, 0xCD, 0xAB, 0x45, 0x80, 0xFE, 0xFF, 0x02, 0x01, 0xAC, 0x20, 0x00, 0xD8,
 ];
 
+// An entry as it is told: its type, name, first cluster, holder and id.
+type Told = (u32, &'static [u16], u64, u64, u16);
+
+const TOLD: [Told; 3] = [
+    (0x10, &[], 0, 0x0003_0000_0000_002A, 0),
+    (0x80, &[0x24, 0x42, 0x61, 0x64], 0, 0x0007_0000_0012_3456, 5),
+    (
+        0x0302_01A0,
+        &[0x20AC, 0xD800],
+        0x0908_0706_0504_0302,
+        0xFFFE_8045_ABCD_EF01,
+        0x0102,
+    ),
+];
+
+// Whether entry i of a list is told so.
+fn tells(alloc: Global, list: &[u8], i: usize, told: Told) -> Result<bool, Fail> {
+    let view = ListView::new(list)?;
+    if i >= view.count() {
+        return Ok(false);
+    }
+    let entry = view.entry(alloc, i)?;
+    let (kind, name, first, holder, id) = told;
+    let numbers = (entry.kind, entry.first, entry.holder, entry.id);
+    Ok(numbers == (kind, first, holder, id) && entry.name.as_slice() == name)
+}
+
 #[test]
 fn entries(rt: HostRuntime) -> Result<(), Fail> {
-    let told: [(u32, &[u16], u64, u64, u16); 3] = [
-        (0x10, &[], 0, 0x0003_0000_0000_002A, 0),
-        (0x80, &[0x24, 0x42, 0x61, 0x64], 0, 0x0007_0000_0012_3456, 5),
-        (
-            0x0302_01A0,
-            &[0x20AC, 0xD800],
-            0x0908_0706_0504_0302,
-            0xFFFE_8045_ABCD_EF01,
-            0x0102,
-        ),
-    ];
-    let view = ListView::new(&LIST)?;
-    assert_eq!(rt; view.count(), 3);
-    for i in 0..3 {
-        let (kind, name, first, holder, id) = told[i];
-        let entry = view.entry(rt.alloc(), i)?;
-        assert_eq!(rt; entry.kind, kind, "at {i}");
-        assert_eq!(rt; entry.name.as_slice(), name, "at {i}");
-        assert_eq!(rt; entry.first, first, "at {i}");
-        assert_eq!(rt; entry.holder, holder, "at {i}");
-        assert_eq!(rt; entry.id, id, "at {i}");
+    for (i, told) in TOLD.into_iter().enumerate() {
+        assert!(rt; tells(rt.alloc(), &LIST, i, told)?, "at {i}");
     }
     Ok(())
 }
 
-#[test]
-fn holders_in_order(rt: HostRuntime) -> Result<(), Fail> {
-    let mut holders = ListView::new(&LIST)?.holders();
-    assert_eq!(rt; holders.next(), Some(0x0003_0000_0000_002A));
-    assert_eq!(rt; holders.next(), Some(0x0007_0000_0012_3456));
-    assert_eq!(rt; holders.next(), Some(0xFFFE_8045_ABCD_EF01));
-    assert_eq!(rt; holders.next(), None);
-    Ok(())
+// The holders of a list, in order.
+fn holders(alloc: Global, list: &[u8]) -> Result<Vec<u64>, Fail> {
+    let mut holders = Vec::new(alloc);
+    for holder in ListView::new(list)?.holders() {
+        holders.push(holder)?;
+    }
+    Ok(holders)
 }
 
 #[test]
-fn empty_list(rt: HostRuntime) -> Result<(), Fail> {
-    let view = ListView::new(&[])?;
-    assert_eq!(rt; view.count(), 0);
-    assert_eq!(rt; view.holders().next(), None);
+fn holders_in_order(rt: HostRuntime) -> Result<(), Fail> {
+    let lists: [(&[u8], &[u64]); 2] = [
+        (
+            &LIST,
+            &[
+                0x0003_0000_0000_002A,
+                0x0007_0000_0012_3456,
+                0xFFFE_8045_ABCD_EF01,
+            ],
+        ),
+        (&[], &[]),
+    ];
+    for (list, wanted) in lists {
+        let found = holders(rt.alloc(), list)?;
+        assert_eq!(rt; found.as_slice(), wanted);
+    }
     Ok(())
+}
+
+// The list with one byte changed.
+fn changed(place: usize, byte: u8) -> [u8; 102] {
+    let mut list = LIST;
+    if place < 102 {
+        list[place] = byte;
+    }
+    list
 }
 
 // Each row sets one byte, and says which entry is the first bad one then.
 #[test]
 fn failing_places(rt: HostRuntime) {
-    let rows = [
+    for (place, byte, at) in [
         (0x04, 0x00, 0x00), // an entry of no bytes
         (0x04, 0x18, 0x00), // the header without the id
         (0x04, 0x21, 0x21), // one byte more, so that what follows is no entry
@@ -76,11 +104,8 @@ fn failing_places(rt: HostRuntime) {
         (0x26, 0x08, 0x20), // a name of eight units in an entry of 40 bytes
         (0x4C, 0x1D, 0x48), // the name's last byte behind the entry
         (0x4C, 0x1F, 0x48), // the entry's last byte behind the list
-    ];
-    for (place, byte, at) in rows {
-        let mut list = LIST;
-        list[place] = byte;
-        let refusal = ListView::new(&list).err();
+    ] {
+        let refusal = ListView::new(&changed(place, byte)).err();
         assert_eq!(rt; refusal, Some(ListNo::Shape { at }), "byte {place}");
     }
     for (len, at) in [
@@ -90,7 +115,7 @@ fn failing_places(rt: HostRuntime) {
         (0x61, 0x48),
         (0x65, 0x48),
     ] {
-        let refusal = ListView::new(&LIST[..len]).err();
+        let refusal = ListView::new(LIST.get(..len).unwrap_or(&LIST)).err();
         assert_eq!(rt; refusal, Some(ListNo::Shape { at }), "{len} bytes");
     }
 }
@@ -122,38 +147,29 @@ fn long_list(alloc: Global) -> Result<Vec<u8>, AllocError> {
 #[test]
 fn long_lists(rt: HostRuntime) -> Result<(), Fail> {
     let list = long_list(rt.alloc())?;
-    let view = ListView::new(&list)?;
-    assert_eq!(rt; view.count(), 200);
-    let mut holders = view.holders();
-    for i in 0..200 {
-        let entry = view.entry(rt.alloc(), i)?;
-        assert_eq!(rt; entry.name.as_slice().len(), i + 55, "at {i}");
-        assert_eq!(rt; entry.first, 16 * i as u64, "at {i}");
-        assert_eq!(rt; entry.id, i as u16, "at {i}");
-        assert_eq!(rt;
-            holders.next(),
-            Some(0x0001_0000_0000_1000 + i as u64),
-            "at {i}"
-        );
+    let found = holders(rt.alloc(), &list)?;
+    assert_eq!(rt; found.len(), 200);
+    for (holder, wanted) in found.iter().zip(0x0001_0000_0000_1000_u64..) {
+        assert_eq!(rt; *holder, wanted);
     }
-    assert_eq!(rt; holders.next(), None);
     Ok(())
 }
 
 #[test]
 fn refusal_texts(rt: HostRuntime) -> Result<(), Fail> {
-    let text = format!(in rt.alloc(); "{}", ListNo::Shape { at: 0x20 })?;
-    assert_eq!(rt;
-        text.as_str(),
-        "the attribute list has a wrong entry at byte 32"
-    );
-    let text = format!(in rt.alloc(); "{}", ListNo::Long)?;
-    assert_eq!(rt;
-        text.as_str(),
-        "the attribute list would be longer than 40960 bytes"
-    );
-    let text = format!(in rt.alloc(); "{}", ListNo::Memory)?;
-    assert_eq!(rt; text.as_str(), "out of memory");
+    for (no, text) in [
+        (
+            ListNo::Shape { at: 0x20 },
+            "the attribute list has a wrong entry at byte 32",
+        ),
+        (
+            ListNo::Long,
+            "the attribute list would be longer than 40960 bytes",
+        ),
+        (ListNo::Memory, "out of memory"),
+    ] {
+        assert_eq!(rt; format!(in rt.alloc(); "{no}")?.as_str(), text);
+    }
     Ok(())
 }
 
@@ -272,10 +288,8 @@ fn longest_list(rt: HostRuntime) -> Result<(), Fail> {
     for _ in 0..1_279 {
         list.extend_from_slice(&SECOND)?;
     }
-    let last = entry(rt.alloc(), 0x80, &[], 1, 7)?;
-    put(&mut list, &last, &case)?;
+    put(&mut list, &entry(rt.alloc(), 0x80, &[], 1, 7)?, &case)?;
     assert_eq!(rt; list.len(), 40_960);
-    assert_eq!(rt; ListView::new(&list)?.count(), 1_280);
     cut(&mut list, 0)?;
     // eight bytes more than those that went
     let named = entry(rt.alloc(), 0x80, &[0x61, 0x62, 0x63, 0x64], 0, 0)?;

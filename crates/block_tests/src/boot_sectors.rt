@@ -58,8 +58,8 @@ fn reads_a_foreign_boot_sector(rt: HostRuntime) {
 
 #[test]
 fn numbers_the_test_that_fails(rt: HostRuntime) {
-    let short = Geometry::read(&MADE_BY_MKNTFS, 65534).map_err(BootFault::number);
-    assert_eq!(rt; short, Err(6));
-    let zero = Geometry::read(&[0; 512], 65536).map_err(BootFault::number);
-    assert_eq!(rt; zero, Err(1));
+    for (boot, sectors, number) in [(&MADE_BY_MKNTFS, 65534, 6), (&[0; 512], 65536, 1)] {
+        let failing = Geometry::read(boot, sectors).map_err(BootFault::number);
+        assert_eq!(rt; failing, Err(number));
+    }
 }

@@ -3,7 +3,8 @@ ghost use Rattle.std.specs.Prelude.{◌≡◌, ◌<◌, ◌≤◌, ℕ, [], fals
 ghost use Rattle.vol_stage.specs.Staged.{disk_of, is_broken, places, reference_of, spare};
 
 use mark_write::{Flag, Span, close_marked, finish_edit};
-use std::alloc::{AllocError, Global};
+use std::alloc::Global;
+use std::test;
 use vol_disk::{CallKind, Disk, Fail, FailDisk, MemDisk};
 use vol_stage::{Stage, StageNo};
 
@@ -59,9 +60,9 @@ fn run<D: Disk>(alloc: Global, disk: &mut D) -> Result<(), StageNo>
 }
 
 #[test]
-fn an_edit_is_written_in_order(rt: HostRuntime) -> Result<(), AllocError> {
+fn an_edit_is_written_in_order(rt: HostRuntime) -> Result<(), test::Fail> {
     let mut disk = MemDisk::new(rt.alloc(), vec![in rt.alloc(); 0; 4096]?);
-    assert_eq!(rt; disk.reserve(16), Ok(()));
+    disk.reserve(16)?;
     assert_eq!(rt; run(rt.alloc(), &mut disk), Ok(()));
     // The sectors, and the byte of each at the mark's place.
     let wanted = [
@@ -75,12 +76,10 @@ fn an_edit_is_written_in_order(rt: HostRuntime) -> Result<(), AllocError> {
         (5, 0),
         (3, 0),
     ];
-    assert_eq!(rt; disk.writes().len(), wanted.len());
-    for (write, (sector, byte)) in disk.writes().iter().zip(wanted) {
-        assert_eq!(rt; write.sector, sector);
-        assert_eq!(rt; write.bytes[10], byte, "sector {sector}");
+    assert_eq!(rt; (disk.writes().len(), disk.settles().len()), (9, 1));
+    for (write, wanted) in disk.writes().iter().zip(wanted) {
+        assert_eq!(rt; (write.sector, write.bytes[10]), wanted);
     }
-    assert!(rt; disk.settles() == [9].as_slice());
     Ok(())
 }
 
@@ -96,9 +95,21 @@ fn is_whole(contents: &[u8], low: u8, log: u8) -> bool {
     })
 }
 
-// Each call fails once: what is left is marked, or was not edited, or was edited whole.
+// Whether the edit and the closing fail where this call does, and whether what is left is marked, or was not edited, or was edited whole.
+fn failing_run(alloc: Global, fail: Fail) -> Result<(bool, bool), test::Fail> {
+    let mut inner = MemDisk::new(alloc, vec![in alloc; 0; 4096]?);
+    inner.reserve(16)?;
+    let mut disk = FailDisk::new(inner, vec![in alloc; fail]?);
+    let done = run(alloc, &mut disk);
+    let contents = disk.inner().contents();
+    let marked = contents.get(1546).is_some_and(|byte| byte % 2 == 1);
+    let whole = is_whole(contents, 0, 0) || is_whole(contents, 0x11, 0xFF);
+    Ok((done.is_err(), marked || whole))
+}
+
+// Each call fails once.
 #[test]
-fn a_fault_leaves_it_marked_or_whole(rt: HostRuntime) -> Result<(), AllocError> {
+fn a_fault_leaves_it_marked_or_whole(rt: HostRuntime) -> Result<(), test::Fail> {
     for (kind, calls) in [
         (CallKind::Read, 6),
         (CallKind::Write, 9),
@@ -112,15 +123,8 @@ fn a_fault_leaves_it_marked_or_whole(rt: HostRuntime) -> Result<(), AllocError> 
                     number,
                     lands,
                 };
-                let mut inner = MemDisk::new(rt.alloc(), vec![in rt.alloc(); 0; 4096]?);
-                assert_eq!(rt; inner.reserve(16), Ok(()));
-                let mut disk = FailDisk::new(inner, vec![in rt.alloc(); fail]?);
-                let done = run(rt.alloc(), &mut disk);
-                assert_eq!(rt; done.is_err(), number <= calls, "{kind:?} {number}");
-                let contents = disk.inner().contents();
-                let marked = contents.get(1546).is_some_and(|byte| byte % 2 == 1);
-                let whole = is_whole(contents, 0, 0) || is_whole(contents, 0x11, 0xFF);
-                assert!(rt; marked || whole, "{kind:?} {number}");
+                let left = failing_run(rt.alloc(), fail)?;
+                assert_eq!(rt; left, (number <= calls, true), "{kind:?} {number}");
             }
         }
     }

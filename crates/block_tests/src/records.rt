@@ -2,15 +2,17 @@
 //! last two bytes of each sector are zero, and so is all behind the bytes that stand here. What is expected of
 //! them is what `ntfsinfo -v` told of them.
 
-ghost use Rattle.std.specs.Prelude.{◌≡◌, ◌+◌, ◌<◌, ◌≤◌, IfSome, IsSomeAnd, IsTrue, length};
+ghost use Rattle.std.specs.Prelude.{◌≡◌, ◌<◌, IfSome, IsSomeAnd, length};
 ghost use Rattle.ntfs_def.specs.Attribute.{attributes, value_of};
 ghost use Rattle.ntfs_def.specs.Shape.{IsOneAttribute};
 ghost use Rattle.attr_view.specs.Edited.{edited_block};
 ghost use Rattle.attr_view.specs.Values.{attribute_in};
 
-use attr_view::{RecordHeader, RecordMut, RecordView, Sizes, ViewNo};
+use attr_view::{AttrView, RecordHeader, RecordMut, RecordView, Sizes, ViewNo};
+use ntfs_def::kinds::END;
+use record_bytes::resident;
+use std::alloc::Global;
 use std::test::Fail;
-use vol_bytes::{put_u32, u32_at};
 
 // Record 3, $Volume.
 const VOLUME: [u8; 480] = [
@@ -86,37 +88,64 @@ fn bad_clusters() -> [u8; 1024] {
     block
 }
 
+// The type, the id, and the length of the value of each attribute of $Volume.
+const TOLD: [(u32, u16, usize); 6] = [
+    (0x10, 0, 48),
+    (0x30, 1, 80),
+    (0x50, 2, 100),
+    (0x60, 4, 22),
+    (0x70, 5, 12),
+    (0x80, 3, 0),
+];
+
+// The length of a value; none where there are runs, sizes or a name.
+fn plain_len(attribute: &AttrView<'_>) -> Option<usize> {
+    if attribute.flags() != 0 || !attribute.name().is_empty() {
+        return None;
+    }
+    if attribute.runs().is_some() || attribute.sizes().is_some() {
+        return None;
+    }
+    match attribute.value() {
+        Some(value) => Some(value.len()),
+        None => None,
+    }
+}
+
 #[test]
 fn resident_attributes(rt: HostRuntime) -> Result<(), Fail> {
     let block = volume();
     let view = RecordView::new(&block)?;
     assert_eq!(rt; view.count(), 6);
-    let told = [
-        (0x10, 0, 48),
-        (0x30, 1, 80),
-        (0x50, 2, 100),
-        (0x60, 4, 22),
-        (0x70, 5, 12),
-        (0x80, 3, 0),
-    ];
-    for i in 0..6 {
-        let attribute = view.attr(i);
-        let (kind, id, len) = told[i];
-        assert_eq!(rt; attribute.kind(), kind, "at {i}");
-        assert_eq!(rt; attribute.id(), id, "at {i}");
-        assert_eq!(rt; attribute.flags(), 0, "at {i}");
-        assert_eq!(rt; attribute.name().len(), 0, "at {i}");
-        assert_eq!(rt;
-            attribute.value().map(|value| value.len()),
-            Some(len),
-            "at {i}"
-        );
-        assert!(rt; attribute.runs().is_none(), "at {i}");
-        assert_eq!(rt; attribute.sizes(), None, "at {i}");
+    for (attribute, (kind, id, len)) in view.attributes().zip(TOLD) {
+        assert_eq!(rt; (attribute.kind(), attribute.id()), (kind, id));
+        assert_eq!(rt; plain_len(&attribute), Some(len), "of {kind}");
     }
-    let label = view.attr(3).value().ok_or("no label")?;
+    let label = view.first_value(0x60).ok_or("no label")?;
     assert_eq!(rt; label, b"B\0e\0r\0y\0l\0c\0h\0i\0n\0t\0z\0".as_slice());
     Ok(())
+}
+
+const EXTENT: Sizes = Sizes {
+    allocated: 8_384_512,
+    real: 8_384_512,
+    initialized: 0,
+    first: 0,
+    last: 2046,
+};
+
+// Whether an attribute is the stream of the bad clusters.
+fn is_extent(bad: &AttrView<'_>) -> bool {
+    if bad.value().is_some() || bad.value_place().is_some() {
+        return false;
+    }
+    let Some(runs) = bad.runs() else {
+        return false;
+    };
+    (bad.kind(), bad.id()) == (0x80, 1)
+        && bad.name() == b"$\0B\0a\0d\0".as_slice()
+        && runs == [0x02, 0xFF, 0x07, 0, 0, 0, 0, 0].as_slice()
+        && bad.sizes() == Some(EXTENT)
 }
 
 #[test]
@@ -124,22 +153,7 @@ fn extent(rt: HostRuntime) -> Result<(), Fail> {
     let block = bad_clusters();
     let view = RecordView::new(&block)?;
     assert_eq!(rt; view.count(), 4);
-    let bad = view.attr(3);
-    assert_eq!(rt; bad.kind(), 0x80);
-    assert_eq!(rt; bad.id(), 1);
-    assert_eq!(rt; bad.name(), b"$\0B\0a\0d\0".as_slice());
-    assert!(rt; bad.value().is_none());
-    assert_eq!(rt; bad.value_place(), None);
-    let runs = bad.runs().ok_or("no runs")?;
-    assert_eq!(rt; runs, [0x02, 0xFF, 0x07, 0, 0, 0, 0, 0].as_slice());
-    let sizes = Sizes {
-        allocated: 8_384_512,
-        real: 8_384_512,
-        initialized: 0,
-        first: 0,
-        last: 2046,
-    };
-    assert_eq!(rt; bad.sizes(), Some(sizes));
+    assert!(rt; is_extent(&view.attr(3)));
     Ok(())
 }
 
@@ -148,66 +162,55 @@ fn extent(rt: HostRuntime) -> Result<(), Fail> {
 #[test]
 fn attributes_in_order(rt: HostRuntime) -> Result<(), Fail> {
     let block = volume();
-    let mut attributes = RecordView::new(&block)?.attributes();
-    for (kind, place) in [
-        (0x10, 80),
-        (0x30, 152),
-        (0x50, 256),
-        (0x60, 384),
-        (0x70, 432),
-        (0x80, 472),
-    ] {
-        let attribute = attributes.next().ok_or("too few attributes")?;
-        assert_eq!(rt; attribute.kind(), kind);
-        assert_eq!(rt; attribute.value_place(), Some(place), "of {kind}");
+    let places = [80, 152, 256, 384, 432, 472];
+    for (attribute, place) in RecordView::new(&block)?.attributes().zip(places) {
+        assert_eq!(rt; attribute.value_place(), Some(place));
     }
-    assert!(rt; attributes.next().is_none());
     Ok(())
 }
 
 #[test]
 fn values_by_type(rt: HostRuntime) -> Result<(), Fail> {
     let block = volume();
-    let view = RecordView::new(&block)?;
-    let version = view.first_value(0x70).ok_or("no version")?;
+    let count = RecordView::new(&block)?.count();
+    let version = RecordView::again(&block, count).first_value(0x70);
+    let version = version.ok_or("no version")?;
     assert_eq!(rt; version, [0, 0, 0, 0, 0, 0, 0, 0, 3, 1, 0, 0].as_slice());
-    assert!(rt; view.first_value(0x90).is_none());
-    let again = RecordView::again(&block, view.count()).first_value(0x70);
-    assert_eq!(rt; again.ok_or("no version again")?, version);
     // $BadClus has an empty $DATA, and behind it a non-resident one with a name.
     let block = bad_clusters();
-    let view = RecordView::new(&block)?;
-    let data = view.first_value(0x80).ok_or("no data")?;
+    let data = RecordView::new(&block)?.first_value(0x80).ok_or("no data")?;
     assert_eq!(rt; data.len(), 0);
     Ok(())
+}
+
+// The record with one byte changed, and where its shape fails then.
+fn fails_at(mut block: [u8; 1024], place: usize, byte: u8) -> Option<ViewNo> {
+    if place < 1024 {
+        block[place] = byte;
+    }
+    RecordView::new(&block).err()
 }
 
 // Each row sets one byte, and says where the shape fails then.
 #[test]
 fn failing_places(rt: HostRuntime) {
-    let volume_rows = [
+    for (place, byte, at) in [
         (0x04, 0x2A, 0x04),
         (0x14, 0x3C, 0x14),
         (0x1D, 0x02, 0x1C),
         (0x84, 0x69, 0x80), // an attribute of 105 bytes
         (0x18, 0xDB, 0x1D8), // the end mark's last byte is above the used size
         (0x1D8, 0xFE, 0x1D8), // no end mark
-    ];
-    for (place, byte, at) in volume_rows {
-        let mut block = volume();
-        block[place] = byte;
-        let fault = RecordView::new(&block).err();
+    ] {
+        let fault = fails_at(volume(), place, byte);
         assert_eq!(rt; fault, Some(ViewNo::Shape { at }), "byte {place}");
     }
-    let bad_cluster_rows = [
+    for (place, byte, at) in [
         (0x12D, 0x80, 0x120), // a sparse first extent has 72 bytes before its name
         (0x140, 0x47, 0x120), // the runs begin in the name
         (0x129, 0x05, 0x120), // the name ends in the runs
-    ];
-    for (place, byte, at) in bad_cluster_rows {
-        let mut block = bad_clusters();
-        block[place] = byte;
-        let fault = RecordView::new(&block).err();
+    ] {
+        let fault = fails_at(bad_clusters(), place, byte);
         assert_eq!(rt; fault, Some(ViewNo::Shape { at }), "byte {place}");
     }
     let half = RecordView::new(&VOLUME).err();
@@ -216,80 +219,109 @@ fn failing_places(rt: HostRuntime) {
 
 #[test]
 fn refusal_text(rt: HostRuntime) -> Result<(), Fail> {
-    let text = format!(in rt.alloc(); "{}", ViewNo::Shape { at: 0x14 })?;
-    assert_eq!(rt; text.as_str(), "the record has a wrong shape at byte 20");
     let full = ViewNo::Full {
         need: 544,
         free: 543,
     };
-    let text = format!(in rt.alloc(); "{full}")?;
-    assert_eq!(rt; text.as_str(), "the record has room for 543 bytes of 544");
+    for (no, text) in [
+        (
+            ViewNo::Shape { at: 0x14 },
+            "the record has a wrong shape at byte 20",
+        ),
+        (full, "the record has room for 543 bytes of 544"),
+    ] {
+        assert_eq!(rt; format!(in rt.alloc(); "{no}")?.as_str(), text);
+    }
     Ok(())
 }
 
-// $Volume without the attribute that stands from `from` up to `to`, and with another next attribute id.
-fn volume_without(from: usize, to: usize, next_id: u8) -> [u8; 1024]
-    requires order { from ≤ to }
-    requires within { to ≤ 480 }
-{
-    let mut block = volume();
-    let left = 480 - (to - from);
-    block.copy_within(to..480, from);
-    block[left..480].fill(0);
-    put_u32(&mut block, 0x18, left as u32);
-    block[0x28] = next_id;
+// Bytes of $Volume.
+fn of(from: usize, to: usize) -> &'static [u8] {
+    VOLUME.get(from..to).unwrap_or(&[])
+}
+
+// The block with bytes written over its own, from `at` on, if they fit.
+fn written(mut block: [u8; 1024], at: usize, bytes: &[u8]) -> [u8; 1024] {
+    if at <= 1024 && bytes.len() <= 1024 - at {
+        block[at..at + bytes.len()].copy_from_slice(bytes);
+    }
     block
 }
 
-// Puts an attribute into a record, and tells how many it has then.
-fn put_in(block: &mut [u8; 1024], i: usize, attr: &[u8]) -> Result<usize, ViewNo>
-    requires { IsOneAttribute attr.now }
+// $Volume without the attribute that stands from `from` up to `to`, and with another next attribute id.
+fn volume_without(from: usize, to: usize, next_id: u8) -> [u8; 1024] {
+    let left = (480 - to.saturating_sub(from).min(480)) as u32;
+    let block = written([0; 1024], 0, of(0, from));
+    let block = written(block, from, of(to, 480));
+    let block = written(block, 0x18, &left.to_le_bytes());
+    written(block, 0x28, &[next_id])
+}
+
+// Puts the bytes of an attribute into a record.
+fn inserted(block: &mut [u8; 1024], i: usize, attribute: &[u8]) -> Result<usize, ViewNo>
+    requires { IsOneAttribute attribute.now }
 {
     let mut edited = RecordMut::new(block)?;
     let count = edited.view().count();
-    edited.insert(i.min(count), attr)?;
+    edited.insert(i.min(count), attribute)?;
     Ok(edited.view().count())
+}
+
+// An attribute without a name: its type, its id and its value.
+type Part = (u32, u16, &'static [u8]);
+
+// Puts an attribute into a record, and tells how many it has then.
+fn put_in(
+    alloc: Global,
+    block: &mut [u8; 1024],
+    i: usize,
+    (kind, id, value): Part,
+) -> Result<Result<usize, ViewNo>, Fail> {
+    if kind == END || value.len() > 900 {
+        return Err("no attribute")?;
+    }
+    let attribute = resident(alloc, kind, &[], id, value)?;
+    Ok(inserted(block, i, &attribute))
 }
 
 // `mkntfs` made the record with all six. The next id was 5 before the attribute with that id came, and is 6 then.
 #[test]
 fn attributes_put_in(rt: HostRuntime) -> Result<(), Fail> {
-    let mut block = volume_without(56, 128, 6);
-    assert_eq!(rt; put_in(&mut block, 0, &VOLUME[56..128])?, 6);
-    assert_eq!(rt; block, volume());
-    let mut block = volume_without(408, 448, 5);
-    assert_eq!(rt; put_in(&mut block, 4, &VOLUME[408..448])?, 6);
-    assert_eq!(rt; block, volume());
-    let mut block = volume_without(448, 472, 6);
-    assert_eq!(rt; put_in(&mut block, 5, &VOLUME[448..472])?, 6);
-    assert_eq!(rt; block, volume());
+    for (i, from, to, next_id, part) in [
+        (0, 56, 128, 6, (0x10, 0, of(80, 128))),
+        (4, 408, 448, 5, (0x70, 5, of(432, 444))),
+        (5, 448, 472, 6, (0x80, 3, of(0, 0))),
+    ] {
+        let mut block = volume_without(from, to, next_id);
+        let count = put_in(rt.alloc(), &mut block, i, part)?;
+        assert!(rt; count == Ok(6) && block == volume(), "{i}");
+    }
     Ok(())
 }
 
-// The block with bytes written over its own, from `at` on.
-fn written(mut block: [u8; 1024], at: usize, bytes: &[u8]) -> [u8; 1024]
-    requires { at + length bytes.now ≤ 1024 }
-{
-    block[at..at + bytes.len()].copy_from_slice(bytes);
-    block
+// A record that uses 1,000 bytes, and has others behind its attributes.
+fn nearly_full() -> [u8; 1024] {
+    let free = written([0xA5; 1024], 999, &[0x5A]);
+    written(written(free, 0, &VOLUME), 0x18, &[0xE8, 0x03])
+}
+
+// The same with an attribute of 24 bytes in front of the others, which the bytes behind them moved with.
+fn full() -> [u8; 1024] {
+    let moved = written(written([0xA5; 1024], 1023, &[0x5A]), 80, of(56, 480));
+    let front = written(moved, 0, of(0, 56));
+    written(written(front, 56, of(448, 472)), 0x18, &[0x00, 0x04])
 }
 
 // Where the record uses 1,000 bytes, an attribute of 24 fits, and where it uses one more, it does not.
 #[test]
 fn room_for_an_attribute(rt: HostRuntime) -> Result<(), Fail> {
-    let free = written([0xA5; 1024], 999, &[0x5A]);
-    let mut block = written(written(free, 0, &VOLUME), 0x18, &[0xE8, 0x03]);
-    let moved = written(written([0xA5; 1024], 1023, &[0x5A]), 80, &VOLUME[56..480]);
-    let front = written(moved, 0, &VOLUME[..56]);
-    let told = written(written(front, 56, &VOLUME[448..472]), 0x18, &[0x00, 0x04]);
-    assert_eq!(rt; put_in(&mut block, 0, &VOLUME[448..472])?, 7);
-    assert_eq!(rt; block, told);
-
-    let before = written(volume(), 0x18, &[0xE9, 0x03]);
-    let mut block = before;
-    let full = put_in(&mut block, 0, &VOLUME[448..472]).err();
-    assert_eq!(rt; full, Some(ViewNo::Full { need: 24, free: 23 }));
-    assert_eq!(rt; block, before);
+    let more = written(volume(), 0x18, &[0xE9, 0x03]);
+    let none = ViewNo::Full { need: 24, free: 23 };
+    for (before, done, behind) in [(nearly_full(), Ok(7), full()), (more, Err(none), more)] {
+        let mut block = before;
+        let count = put_in(rt.alloc(), &mut block, 0, (0x80, 3, &[]))?;
+        assert!(rt; count == done && block == behind);
+    }
     Ok(())
 }
 
@@ -334,84 +366,94 @@ fn write(block: &mut [u8; 1024], i: usize, at: usize, from: &[u8]) -> Result<(),
     Ok(())
 }
 
-// The attributes behind the one that goes stand in its place, and the next id stays.
+// The attributes behind the one that goes stand in its place, and the next id stays. What is behind them stays too.
 #[test]
 fn attributes_taken_out(rt: HostRuntime) -> Result<(), Fail> {
     for (i, from, to) in [(0, 56, 128), (3, 360, 408), (5, 448, 472)] {
         let mut block = volume();
         take_out(&mut block, i)?;
-        let left = 480 - (to - from);
-        let told = volume_without(from, to, 6);
-        assert_eq!(rt; block[..left], told[..left], "without {i}");
-        assert_eq!(rt; block[left..], volume()[left..], "without {i}");
+        let left = 480 - to + from;
+        let told = written(volume_without(from, to, 6), left, of(left, 480));
+        assert!(rt; block == told, "without {i}");
     }
     Ok(())
 }
 
-// The label, of 22 bytes, stands at 384, in an attribute of 48 bytes at 360.
-#[test]
-fn value_made_longer_and_cut(rt: HostRuntime) -> Result<(), Fail> {
-    let mut block = volume();
-    resize(&mut block, 3, 30)?;
-    let told = written(written(volume(), 416, &VOLUME[408..480]), 406, &[0; 10]);
+// The label, of 22 bytes, stands at 384, in an attribute of 48 bytes at 360: it gets 30 bytes, and then four.
+fn longer() -> [u8; 1024] {
+    let told = written(written(volume(), 416, of(408, 480)), 406, &[0; 10]);
     let told = written(written(told, 364, &[0x38]), 376, &[0x1E]);
-    let told = written(told, 0x18, &[0xE8, 0x01]);
-    assert_eq!(rt; block, told);
-
-    resize(&mut block, 3, 4)?;
-    let told = written(written(told, 392, &VOLUME[408..480]), 388, &[0; 4]);
-    let told = written(written(told, 364, &[0x20]), 376, &[0x04]);
-    assert_eq!(rt; block, written(told, 0x18, &[0xD0, 0x01]));
-    Ok(())
+    written(told, 0x18, &[0xE8, 0x01])
 }
 
-// The empty $DATA, of 24 bytes at 448, with a value that begins at 0 and a name at 23; and the label with its name at 47.
-#[test]
-fn empty_value_and_name(rt: HostRuntime) -> Result<(), Fail> {
-    let mut block = written(written(volume(), 468, &[0x00]), 458, &[0x17]);
-    resize(&mut block, 5, 5)?;
-    let told = written(written(volume(), 480, &VOLUME[472..480]), 472, &[0; 8]);
-    let told = written(written(told, 452, &[0x20]), 464, &[0x05]);
-    let told = written(written(told, 458, &[0x17]), 0x18, &[0xE8, 0x01]);
-    assert_eq!(rt; block, told);
+fn cut() -> [u8; 1024] {
+    let told = written(written(longer(), 392, of(408, 480)), 388, &[0; 4]);
+    let told = written(written(told, 364, &[0x20]), 376, &[0x04]);
+    written(told, 0x18, &[0xD0, 0x01])
+}
 
-    let mut block = written(volume(), 370, &[0x2F]);
-    resize(&mut block, 3, 0)?;
-    let told = written(volume(), 384, &VOLUME[408..480]);
+// The empty $DATA, of 24 bytes at 448, with a value that begins at 0 and a name at 23; it gets five bytes.
+fn with_value() -> [u8; 1024] {
+    let told = written(written(volume(), 480, of(472, 480)), 472, &[0; 8]);
+    let told = written(written(told, 452, &[0x20]), 464, &[0x05]);
+    written(written(told, 458, &[0x17]), 0x18, &[0xE8, 0x01])
+}
+
+// The label with its name at 47; it gets none.
+fn without_value() -> [u8; 1024] {
+    let told = written(volume(), 384, of(408, 480));
     let told = written(written(told, 364, &[0x18]), 376, &[0x00]);
-    assert_eq!(rt; block, written(told, 0x18, &[0xC8, 0x01]));
+    written(told, 0x18, &[0xC8, 0x01])
+}
+
+#[test]
+fn values_resized(rt: HostRuntime) -> Result<(), Fail> {
+    let empty = written(written(volume(), 468, &[0x00]), 458, &[0x17]);
+    let named = written(volume(), 370, &[0x2F]);
+    for (before, i, len, behind) in [
+        (volume(), 3, 30, longer()),
+        (longer(), 3, 4, cut()),
+        (empty, 5, 5, with_value()),
+        (named, 3, 0, without_value()),
+    ] {
+        let mut block = before;
+        resize(&mut block, i, len)?;
+        assert!(rt; block == behind, "{len}");
+    }
     Ok(())
 }
 
 // Where the record uses 1,000 bytes, a label of 48 bytes fits, in 24 bytes more, and one of 49 does not.
 #[test]
-fn room_for_a_value(rt: HostRuntime) -> Result<(), Fail> {
+fn room_for_a_value(rt: HostRuntime) {
     let before = written(volume(), 0x18, &[0xE8, 0x03]);
-    let mut block = before;
-    let full = resize(&mut block, 3, 49).err();
-    assert_eq!(rt; full, Some(ViewNo::Full { need: 32, free: 24 }));
-    assert_eq!(rt; block, before);
-    resize(&mut block, 3, 48)?;
-    assert_eq!(rt; u32_at(&block, 0x18), 1024);
-    let mut block = volume();
-    let full = ViewNo::Full {
+    let far = ViewNo::Full {
         need: 65_512,
         free: 544,
     };
-    assert_eq!(rt; resize(&mut block, 3, 65_536).err(), Some(full));
-    Ok(())
+    for (before, len, done) in [
+        (before, 49, Err(ViewNo::Full { need: 32, free: 24 })),
+        (before, 48, Ok(())),
+        (volume(), 65_536, Err(far)),
+    ] {
+        let mut block = before;
+        assert_eq!(rt; resize(&mut block, 3, len), done, "{len}");
+    }
 }
 
 // The flags of the volume stand at 10 of the value, which begins at 432.
 #[test]
-fn value_written(rt: HostRuntime) -> Result<(), Fail> {
-    let mut block = volume();
-    write(&mut block, 4, 10, &[0x01])?;
-    assert_eq!(rt; block, written(volume(), 442, &[0x01]));
-    let before = block;
-    write(&mut block, 4, 12, &[])?;
-    write(&mut block, 5, 0, &[])?;
-    assert_eq!(rt; block, before);
+fn values_written(rt: HostRuntime) -> Result<(), Fail> {
+    let rows: [(usize, usize, &[u8], [u8; 1024]); 3] = [
+        (4, 10, &[0x01], written(volume(), 442, &[0x01])),
+        (4, 12, &[], volume()),
+        (5, 0, &[], volume()),
+    ];
+    for (i, at, bytes, behind) in rows {
+        let mut block = volume();
+        write(&mut block, i, at, bytes)?;
+        assert!(rt; block == behind, "{i} {at}");
+    }
     Ok(())
 }
 
@@ -427,16 +469,6 @@ fn header_set(rt: HostRuntime) -> Result<(), Fail> {
     let told = written(volume(), 0x10, &[0x02, 0x01, 0x04, 0x03]);
     let told = written(told, 0x16, &[0x06, 0x05]);
     let base = [0x0E, 0x0D, 0x0C, 0x0B, 0x0A, 0x09, 0x08, 0x07];
-    assert_eq!(rt; block, written(told, 0x20, &base));
+    assert!(rt; block == written(told, 0x20, &base));
     Ok(())
-}
-
-#[test]
-fn no_record_to_edit(rt: HostRuntime) {
-    let mut block = volume();
-    block[0x14] = 0x3C;
-    assert_eq!(rt;
-        RecordMut::new(&mut block).err(),
-        Some(ViewNo::Shape { at: 0x14 })
-    );
 }

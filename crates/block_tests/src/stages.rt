@@ -4,14 +4,13 @@ ghost use Rattle.vol_disk.specs.Count.{CountsFault};
 ghost use Rattle.vol_stage.specs.Staged.{disk_of, is_broken, reference_of, StageReads};
 
 use std::alloc::{AllocError, Global};
+use std::test;
 use vol_disk::{CallKind, Disk, Fail, FailDisk, MemDisk};
 use vol_stage::{Stage, StageNo};
 
 const ZERO: [u8; 512] = [0; 512];
 
 const ONE: [u8; 512] = [1; 512];
-
-const TWO: [u8; 512] = [2; 512];
 
 // Two sectors of the image, as a layer above reads them.
 fn read_two<D: Disk>(
@@ -49,23 +48,16 @@ fn read_through<D: Disk>(
 
 #[test]
 fn a_stage_reads_the_disk(rt: HostRuntime) -> Result<(), AllocError> {
-    let mut disk = MemDisk::new(rt.alloc(), vec![in rt.alloc(); 0; 10_240_000]?);
-    assert_eq!(rt; disk.reserve(1), Ok(()));
-    assert_eq!(rt; disk.write(19_999, &ONE), Ok(()));
-    let mut into = [ONE; 2];
+    let mut disk = MemDisk::new(rt.alloc(), vec![in rt.alloc(); 1; 10_240_000]?);
+    let mut into = [ZERO; 2];
     let mut stage = Stage::over(rt.alloc(), &mut disk);
-    let sectors = stage.sectors();
-    let broken = stage.broken();
+    let told = (stage.sectors(), stage.broken());
     let read = [
         stage.read(0, &mut into[0]),
         stage.read(19_999, &mut into[1]),
     ];
-    let disk = stage.finish();
-    assert_eq!(rt; sectors, 20_000);
-    assert!(rt; !broken);
-    assert!(rt; read == [Ok(()), Ok(())]);
-    assert!(rt; into == [ZERO, ONE]);
-    assert_eq!(rt; disk.sectors(), 20_000);
+    let _ = stage.finish();
+    assert!(rt; told == (20_000, false) && read == [Ok(()), Ok(())] && into == [ONE, ONE]);
     Ok(())
 }
 
@@ -78,87 +70,12 @@ fn a_read_that_fails_is_the_devices(rt: HostRuntime) -> Result<(), AllocError> {
     };
     let inner = MemDisk::new(rt.alloc(), vec![in rt.alloc(); 1; 5120]?);
     let mut disk = FailDisk::new(inner, vec![in rt.alloc(); second]?);
-    let mut into = [ZERO; 2];
-    let failed = read_through(rt.alloc(), &mut disk, &mut into);
-    assert_eq!(rt; failed, Err(StageNo::Device));
-    assert!(rt; into == [ONE, ZERO]);
-
     // Only that read.
-    let done = read_through(rt.alloc(), &mut disk, &mut into);
-    assert_eq!(rt; done, Ok(()));
-    assert!(rt; into == [ONE, ONE]);
-    Ok(())
-}
-
-// Stages three sectors, neither of them first, and not in order.
-fn stage_three<D: Disk>(stage: &mut Stage<'_, D>) -> Result<(), StageNo>
-    requires sound { is_broken D.Disk stage.old ≡ false }
-    requires inside { 9 < D.size (disk_of D.Disk stage.old) }
-    ensures sound { is_broken D.Disk stage.new ≡ false }
-    ensures same_reference { reference_of D.Disk stage.new ≡ reference_of D.Disk stage.old }
-    ensures size { D.size (disk_of D.Disk stage.new) ≡ D.size (disk_of D.Disk stage.old) }
-{
-    stage.reserve(3)?;
-    stage.put(5, &ZERO);
-    stage.put(9, &ONE);
-    stage.put(2, &ONE);
-    Ok(())
-}
-
-// Stages them, and reads a sector.
-fn read_staged<D: Disk>(
-    stage: &mut Stage<'_, D>,
-    sector: u64,
-    into: &mut [u8; 512],
-) -> Result<(), StageNo>
-    requires sound { is_broken D.Disk stage.old ≡ false }
-    requires inside { 9 < D.size (disk_of D.Disk stage.old) }
-    requires sector { sector < D.size (disk_of D.Disk stage.old) }
-    ensures same_reference { reference_of D.Disk stage.new ≡ reference_of D.Disk stage.old }
-    ensures size { D.size (disk_of D.Disk stage.new) ≡ D.size (disk_of D.Disk stage.old) }
-{
-    stage_three(stage)?;
-    stage.read(sector, into)?;
-    Ok(())
-}
-
-// The same through a stage over a disk, which is used again: nothing was written.
-fn read_over<D: Disk>(
-    alloc: Global,
-    disk: &mut D,
-    sector: u64,
-    into: &mut [u8; 512],
-) -> Result<(), StageNo>
-    requires inside { 9 < D.size disk.old }
-    requires sector { sector < D.size disk.old }
-    ensures { D.size disk.new ≡ D.size disk.old }
-{
-    let mut stage = Stage::over(alloc, disk);
-    let done = read_staged(&mut stage, sector, into);
-    let _ = stage.finish();
-    done
-}
-
-// Whether a sector reads so behind the three.
-fn shows_staged<D: Disk>(alloc: Global, disk: &mut D, sector: u64, wanted: &[u8; 512]) -> bool {
-    if disk.sectors() <= 9 || sector >= disk.sectors() {
-        return false;
+    for (done, read) in [(Err(StageNo::Device), [ONE, ZERO]), (Ok(()), [ONE, ONE])] {
+        let mut into = [ZERO; 2];
+        let got = read_through(rt.alloc(), &mut disk, &mut into);
+        assert!(rt; got == done && into == read);
     }
-    let mut into = [3; 512];
-    read_over(alloc, disk, sector, &mut into).is_ok() && into == *wanted
-}
-
-// Those that are staged are found, and in no other's place: the disk has other bytes in all sectors.
-#[test]
-fn staged_bytes_are_found(rt: HostRuntime) -> Result<(), AllocError> {
-    let mut disk = MemDisk::new(rt.alloc(), vec![in rt.alloc(); 2; 5632]?);
-    for (sector, wanted) in [(0, TWO), (2, ONE), (3, TWO), (5, ZERO), (9, ONE), (10, TWO)] {
-        assert!(rt;
-            shows_staged(rt.alloc(), &mut disk, sector, &wanted),
-            "sector {sector}"
-        );
-    }
-    assert!(rt; disk.writes().is_empty());
     Ok(())
 }
 
@@ -229,8 +146,11 @@ fn shows<D: Disk>(disk: &mut D, sector: u64, wanted: &[u8; 512]) -> bool {
 #[test]
 fn staged_sectors_are_written(rt: HostRuntime) -> Result<(), AllocError> {
     let mut disk = MemDisk::new(rt.alloc(), vec![in rt.alloc(); 0; 2_560_000]?);
-    assert_eq!(rt; disk.reserve(4_000), Ok(()));
-    assert_eq!(rt; write_first(rt.alloc(), &mut disk, 4_000, &ONE), Ok(()));
+    let done = [
+        disk.reserve(4_000).is_ok(),
+        write_first(rt.alloc(), &mut disk, 4_000, &ONE).is_ok(),
+    ];
+    assert_eq!(rt; done, [true, true]);
     for (sector, wanted) in [
         (0, ONE),
         (1, ONE),
@@ -243,22 +163,28 @@ fn staged_sectors_are_written(rt: HostRuntime) -> Result<(), AllocError> {
     Ok(())
 }
 
+// Writes the first six sectors of a disk whose third write fails.
+fn fails_third(
+    alloc: Global,
+    lands: bool,
+) -> Result<(Result<(), StageNo>, FailDisk<MemDisk>), test::Fail> {
+    let third = Fail {
+        kind: CallKind::Write,
+        number: 3,
+        lands,
+    };
+    let mut inner = MemDisk::new(alloc, vec![in alloc; 0; 5120]?);
+    inner.reserve(10)?;
+    let mut disk = FailDisk::new(inner, vec![in alloc; third]?);
+    Ok((write_first(alloc, &mut disk, 6, &ONE), disk))
+}
+
 // The third write fails: the sectors below are written, none behind it, and that one as the failure says.
 #[test]
-fn a_commit_ends_at_a_failure(rt: HostRuntime) -> Result<(), AllocError> {
+fn a_commit_ends_at_a_failure(rt: HostRuntime) -> Result<(), test::Fail> {
     for lands in [false, true] {
-        let third = Fail {
-            kind: CallKind::Write,
-            number: 3,
-            lands,
-        };
-        let mut inner = MemDisk::new(rt.alloc(), vec![in rt.alloc(); 0; 5120]?);
-        assert_eq!(rt; inner.reserve(10), Ok(()));
-        let mut disk = FailDisk::new(inner, vec![in rt.alloc(); third]?);
-        assert_eq!(rt;
-            write_first(rt.alloc(), &mut disk, 6, &ONE),
-            Err(StageNo::Device)
-        );
+        let (done, mut disk) = fails_third(rt.alloc(), lands)?;
+        assert_eq!(rt; done, Err(StageNo::Device));
         for (sector, written) in [(0, true), (1, true), (2, lands), (3, false), (5, false)] {
             let wanted = if written { &ONE } else { &ZERO };
             assert!(rt; shows(&mut disk, sector, wanted), "sector {sector}");

@@ -1,16 +1,17 @@
 //! Streams in clusters, in whole runs: they are cut and removed, and their clusters are free then. The stream of `h` has a cluster, a hole of
 //! 16 clusters, and a cluster of which 8 bytes were written.
-use laid_volumes::damage::{CLUSTER_BITS, byte, is_marked, put, set_bit, told_at};
+use laid_volumes::cases::Place::{Entry, Image};
+use laid_volumes::cases::{Stand, all_stand, fails_safely, leaves};
+use laid_volumes::damage::{CLUSTER_BITS, put, set_bit};
 use laid_volumes::laid::{
-    Extent, LaidName, ROOT_RECORD, Value, begin_file, end_file, key_in_root, lay_extent,
-    lay_in_root, lay_name, lay_standard, lay_value,
+    Extent, LaidName, ROOT_RECORD, Value, begin_file, end_file, lay_extent, lay_in_root, lay_name,
+    lay_standard, lay_value,
 };
 use laid_volumes::laid_files::volume_with_all;
 use laid_volumes::made::volume;
-use laid_volumes::scripts::{Row, is_sound, run_rows, writable};
+use laid_volumes::scripts::Row;
 use std::alloc::Global;
 use std::test;
-use vol_disk::{CallKind, Fail, FailDisk};
 
 const SECTORS: u16 = 2048;
 
@@ -45,27 +46,23 @@ const CUTS: [Row; 27] = [
     ("cat /a", "data 68656c6c6f\nok\n"),
 ];
 
-// The allocated size and the real one that an entry tells of its file, as far as each is two bytes.
-fn sizes_at(image: &[u8], key: Option<usize>) -> Option<[u8; 4]> {
-    let at = key?.saturating_add(0x28);
-    Some([0, 1, 8, 9].map(|k| byte(image, at.saturating_add(k))))
-}
+// Of the clusters 200 to 207 the first four were taken; two of them are those of the packed stream, and stay so. The entry tells the moment,
+// the flags, and that nothing is allocated and real.
+const CUT_BEFORE: [Stand; 1] = [(Image(CLUSTER_BITS + 25), &[0x0F])];
+
+const CUT_LEFT: [Stand; 5] = [
+    (Image(CLUSTER_BITS + 25), &[0x03]),
+    (Entry(29, 0, 0x18), &[10]),
+    (Entry(29, 0, 0x28), &[0, 0]),
+    (Entry(29, 0, 0x30), &[0, 0]),
+    (Entry(29, 0, 0x38), &[0x20, 0, 0, 0]),
+];
 
 #[test]
 fn streams_in_clusters_are_cut(rt: HostRuntime) -> Result<(), test::Fail> {
-    let alloc = rt.alloc();
-    let image = volume_with_all(alloc)?;
-    let mut disk = writable(alloc, SECTORS, &image)?;
-    assert_eq!(rt; run_rows(alloc, &mut disk, &CUTS)?, (0, None));
-    let left = disk.contents();
-    assert!(rt; is_sound(alloc, SECTORS, left)?);
-    // Of the clusters 200 to 207 the first four were taken; two of them are those of the packed stream, and stay so.
-    assert_eq!(rt; byte(&image, CLUSTER_BITS + 25), 0x0F);
-    assert_eq!(rt; byte(left, CLUSTER_BITS + 25), 0x03);
-    let key = key_in_root(left, 29, 0);
-    assert_eq!(rt; told_at(left, key), Some((10, [0x20, 0, 0, 0])));
-    assert_eq!(rt; sizes_at(left, key), Some([0, 0, 0, 0]));
-    Ok(())
+    let image = volume_with_all(rt.alloc())?;
+    all_stand(&image, &CUT_BEFORE)?;
+    leaves(rt.alloc(), SECTORS, &image, &CUTS, &CUT_LEFT)
 }
 
 const K: LaidName = LaidName {
@@ -127,20 +124,16 @@ const REMOVED: [Row; 10] = [
     ("cat /k", "data 68656c6c6f\nok\n"),
 ];
 
+// The flags of the clusters 200 to 215.
+const REMOVED_BEFORE: [Stand; 1] = [(Image(CLUSTER_BITS + 25), &[0x80, 1])];
+
+const REMOVED_LEFT: [Stand; 1] = [(Image(CLUSTER_BITS + 25), &[0, 0])];
+
 #[test]
 fn streams_in_clusters_are_removed(rt: HostRuntime) -> Result<(), test::Fail> {
-    let alloc = rt.alloc();
-    let image = volume_with_named(alloc)?;
-    assert!(rt; is_sound(alloc, SECTORS, &image)?);
-    let mut disk = writable(alloc, SECTORS, &image)?;
-    assert_eq!(rt; run_rows(alloc, &mut disk, &REMOVED)?, (0, None));
-    let left = disk.contents();
-    assert!(rt; is_sound(alloc, SECTORS, left)?);
-    assert_eq!(rt; byte(&image, CLUSTER_BITS + 25), 0x80);
-    assert_eq!(rt; byte(&image, CLUSTER_BITS + 26), 1);
-    assert_eq!(rt; byte(left, CLUSTER_BITS + 25), 0);
-    assert_eq!(rt; byte(left, CLUSTER_BITS + 26), 0);
-    Ok(())
+    let image = volume_with_named(rt.alloc())?;
+    all_stand(&image, &REMOVED_BEFORE)?;
+    leaves(rt.alloc(), SECTORS, &image, &REMOVED, &REMOVED_LEFT)
 }
 
 // A new volume with a file `k` whose stream lies in 50 clusters from 140 on, and behind these in 30 from 220 on.
@@ -183,50 +176,25 @@ const LONG_CUTS: [Row; 9] = [
     ("cat /k", "data -\nok\n"),
 ];
 
+// The clusters 140 to 145 are those that it has behind the fifth line; none of those from 136 on behind the last.
+const LONG_BETWEEN: [Stand; 1] = [(Image(CLUSTER_BITS + 17), &[0xF0, 0x03])];
+
+const LONG_LEFT: [Stand; 1] = [(Image(CLUSTER_BITS + 17), &[0; 15])];
+
 #[test]
 fn a_long_stream_is_cut(rt: HostRuntime) -> Result<(), test::Fail> {
-    let alloc = rt.alloc();
-    let image = volume_with_long(alloc)?;
-    assert!(rt; is_sound(alloc, SECTORS, &image)?);
-    let mut disk = writable(alloc, SECTORS, &image)?;
-    assert_eq!(rt; run_rows(alloc, &mut disk, &LONG_CUTS[..5])?, (0, None));
-    // The clusters 140 to 145 are those that it has still.
-    assert_eq!(rt; byte(disk.contents(), CLUSTER_BITS + 17), 0xF0);
-    assert_eq!(rt; byte(disk.contents(), CLUSTER_BITS + 18), 0x03);
-    assert_eq!(rt; run_rows(alloc, &mut disk, &LONG_CUTS[5..])?, (0, None));
-    let left = disk.contents();
-    assert!(rt; is_sound(alloc, SECTORS, left)?);
-    for at in 17..32 {
-        assert_eq!(rt; byte(left, CLUSTER_BITS + at), 0, "{at}");
-    }
-    Ok(())
+    let image = volume_with_long(rt.alloc())?;
+    leaves(rt.alloc(), SECTORS, &image, &LONG_CUTS[..5], &LONG_BETWEEN)?;
+    leaves(rt.alloc(), SECTORS, &image, &LONG_CUTS, &LONG_LEFT)
 }
 
 // The last cluster goes.
 const CUT: [Row; 2] = [("time 5", "ok\n"), ("truncate /h 4096", "ok\n")];
 
-// The status of it where one write of the disk fails, and whether the volume is then marked, or sound.
-fn failing_cut(alloc: Global, image: &[u8], number: u64) -> Result<(u8, bool), test::Fail> {
-    let fail = Fail {
-        kind: CallKind::Write,
-        number,
-        lands: false,
-    };
-    let mut disk = FailDisk::new(writable(alloc, SECTORS, image)?, vec![in alloc; fail]?);
-    let (status, _) = run_rows(alloc, &mut disk, &CUT)?;
-    let left = disk.inner().contents();
-    Ok((status, is_marked(left) || is_sound(alloc, SECTORS, left)?))
-}
-
 // The mark in two sectors, one of the bitmap of clusters, two of record 29, eight of the root's index, and the mark again: fifteen, and none
 // behind.
 #[test]
 fn a_cut_fails_safely(rt: HostRuntime) -> Result<(), test::Fail> {
-    let alloc = rt.alloc();
-    let image = volume_with_all(alloc)?;
-    for number in [1, 3, 4, 6, 15] {
-        assert_eq!(rt; failing_cut(alloc, &image, number)?, (6, true), "{number}");
-    }
-    assert_eq!(rt; failing_cut(alloc, &image, 16)?, (0, true));
-    Ok(())
+    let image = volume_with_all(rt.alloc())?;
+    fails_safely(rt.alloc(), &image, &CUT, &[1, 3, 4, 6, 15], 15)
 }

@@ -1,13 +1,15 @@
 //! The commands that edit, in whole runs: what they print, what stands on the disk behind them, and writes, barriers and settles of the
 //! disk failing. The expected text is that of the tables of commands and of refusals, the places of bytes are those of the
 //! layouts of `$FILE_NAME` and `$STANDARD_INFORMATION`.
-use laid_volumes::damage::{byte, cut_table, dos_flags, is_marked, put, record, told_at};
+use laid_volumes::cases::Place::{Entry, Image, Record};
+use laid_volumes::cases::{Stand, all_stand, edited, leaves, sound};
+use laid_volumes::damage::{cut_table, is_marked, put, record, told_at};
 use laid_volumes::laid::{key_in, key_in_root};
 use laid_volumes::laid_files::{SECTORS, volume_with_all, volume_with_f};
 use laid_volumes::scripts::{Row, is_sound, run_rows, writable, wrong_row};
 use std::alloc::Global;
 use std::test;
-use vol_disk::{CallKind, Fail, FailDisk};
+use vol_disk::{CallKind, Fail, FailDisk, MemDisk};
 
 // Lines on the volume with one empty file.
 const ROWS: [Row; 19] = [
@@ -35,15 +37,24 @@ const ROWS: [Row; 19] = [
     ("ls /", "file f\nok\n"),
 ];
 
+// What the entry tells: the time of record change, and the flags.
+const FLAGS_LEFT: [Stand; 2] = [
+    (Entry(26, 0, 0x18), &[7]),
+    (Entry(26, 0, 0x38), &[0, 0, 0, 0]),
+];
+
 #[test]
 fn flags_of_a_file_are_set(rt: HostRuntime) -> Result<(), test::Fail> {
-    let alloc = rt.alloc();
-    let mut disk = writable(alloc, SECTORS, &volume_with_f(alloc)?)?;
-    assert_eq!(rt; run_rows(alloc, &mut disk, &ROWS)?, (0, None));
-    let left = disk.contents();
-    assert!(rt; is_sound(alloc, SECTORS, left)?);
-    assert_eq!(rt; told_at(left, key_in_root(left, 26, 0)), Some((7, [0; 4])));
-    assert_eq!(rt; disk.settles().len(), ROWS.len() + 1);
+    let image = volume_with_f(rt.alloc())?;
+    leaves(rt.alloc(), SECTORS, &image, &ROWS, &FLAGS_LEFT)
+}
+
+// The image is settled once for each line, and at the end.
+#[test]
+fn each_line_is_settled_once(rt: HostRuntime) -> Result<(), test::Fail> {
+    let mut disk = writable(rt.alloc(), SECTORS, &volume_with_f(rt.alloc())?)?;
+    let _ = run_rows(rt.alloc(), &mut disk, &ROWS)?;
+    assert_eq!(rt; disk.settles().len(), 20);
     Ok(())
 }
 
@@ -67,54 +78,57 @@ const KINDS: [Row; 13] = [
 
 // Flags that are not shown stay: of a file 0x800 of a packed stream, 0x400 of a reparse point, 0x200 of a stream with a hole; of an
 // entry that of a directory, and 0x400 where it told that. A second name and a DOS name are told anew too.
+// The flags in the record, and what entries tell: the time of record change, and the flags.
+const KINDS_LEFT: [Stand; 17] = [
+    (Record(26, FLAGS), &[1, 0, 0, 0]),
+    (Entry(26, 0, 0x18), &[9]),
+    (Entry(26, 0, 0x38), &[1, 0, 0, 0x10]),
+    (Record(27, FLAGS), &[2, 0, 0, 0]),
+    (Entry(27, 0, 0x18), &[9]),
+    (Entry(27, 0, 0x38), &[2, 0, 0, 0]),
+    (Record(28, FLAGS), &[4, 8, 0, 0]),
+    (Entry(28, 0, 0x18), &[9]),
+    (Entry(28, 0, 0x38), &[4, 0, 0, 0]),
+    (Entry(28, 1, 0x18), &[9]),
+    (Entry(28, 1, 0x38), &[4, 0, 0, 0]),
+    (Record(29, FLAGS), &[0x20, 2, 0, 0]),
+    (Entry(29, 0, 0x18), &[9]),
+    (Entry(29, 0, 0x38), &[0x20, 0, 0, 0]),
+    (Record(30, FLAGS), &[1, 4, 0, 0]),
+    (Entry(30, 0, 0x18), &[9]),
+    (Entry(30, 0, 0x38), &[1, 4, 0, 0x10]),
+];
+
+// Where the flags stand in a record: in the value of its first attribute.
+const FLAGS: usize = 0x38 + 0x18 + 0x20;
+
 #[test]
 fn flags_of_files_of_each_kind_are_set(rt: HostRuntime) -> Result<(), test::Fail> {
-    let alloc = rt.alloc();
-    let mut image = volume_with_all(alloc)?;
+    let mut image = volume_with_all(rt.alloc())?;
     let Some(point) = key_in_root(&image, 30, 0) else {
         return Err("an entry is missing")?;
     };
     put(&mut image, point.saturating_add(0x39), &[4]);
-    let mut disk = writable(alloc, 2048, &image)?;
-    assert_eq!(rt; run_rows(alloc, &mut disk, &KINDS)?, (0, None));
-    let left = disk.contents();
-    assert!(rt; is_sound(alloc, 2048, left)?);
-    for (file, flags, told) in [
-        (26, [1, 0, 0, 0], [1, 0, 0, 0x10]),
-        (27, [2, 0, 0, 0], [2, 0, 0, 0]),
-        (28, [4, 8, 0, 0], [4, 0, 0, 0]),
-        (29, [0x20, 2, 0, 0], [0x20, 0, 0, 0]),
-        (30, [1, 4, 0, 0], [1, 4, 0, 0x10]),
-    ] {
-        assert_eq!(rt; dos_flags(left, file), flags, "{file}");
-        assert_eq!(rt;
-            told_at(left, key_in_root(left, file, 0)),
-            Some((9, told)),
-            "{file}"
-        );
-    }
-    assert_eq!(rt;
-        told_at(left, key_in_root(left, 28, 1)),
-        Some((9, [4, 0, 0, 0]))
-    );
-    let second = key_in(left, record(26), record(26) + 1024, 26, 27, 0);
-    assert_eq!(rt; told_at(left, second), Some((9, [2, 0, 0, 0])));
+    let left = edited(rt.alloc(), 2048, &image, &KINDS)?;
+    all_stand(&left, &KINDS_LEFT)?;
+    let second = key_in(&left, record(26), record(26) + 1024, 26, 27, 0);
+    assert_eq!(rt; told_at(&left, second), Some((9, [2, 0, 0, 0])));
     Ok(())
 }
+
+const IN_PART: [Row; 3] = [
+    ("setattr /a 0001", "no 28 Unbuilt\n"),
+    ("setattr /nothing 0001", "no 4 NotFound\n"),
+    ("attr /a", "attr 0021\nok\n"),
+];
 
 // On a volume whose table was written in part of a record nothing is edited.
 #[test]
 fn a_table_written_in_part_is_not_edited(rt: HostRuntime) -> Result<(), test::Fail> {
-    let alloc = rt.alloc();
-    let mut image = volume_with_all(alloc)?;
+    let mut image = volume_with_all(rt.alloc())?;
     cut_table(&mut image);
-    assert!(rt; is_sound(alloc, 2048, &image)?);
-    let rows = [
-        ("setattr /a 0001", "no 28 Unbuilt\n"),
-        ("setattr /nothing 0001", "no 4 NotFound\n"),
-        ("attr /a", "attr 0021\nok\n"),
-    ];
-    assert_eq!(rt; wrong_row(alloc, 2048, &image, &rows)?, None);
+    sound(rt.alloc(), 2048, &image)?;
+    assert_eq!(rt; wrong_row(rt.alloc(), 2048, &image, &IN_PART)?, None);
     Ok(())
 }
 
@@ -132,32 +146,38 @@ const FLAG_COPY: u64 = 158;
 
 const LOG: u64 = 179;
 
+const EMPTIED: [Stand; 1] = [(Image(179 * 512 + 7), &[0xFF])];
+
+// Writes by their places, and their sectors.
+const IN_ORDER: [(usize, u64); 5] = [
+    (0, FLAG),
+    (1, FLAG_COPY),
+    (2, LOG),
+    (25, FLAG_COPY),
+    (26, FLAG),
+];
+
+// The sector of a write; 0 where there is none.
+fn written_at(disk: &MemDisk, i: usize) -> u64 {
+    match disk.writes().get(i) {
+        Some(write) => write.sector,
+        None => 0,
+    }
+}
+
 // The mark is set in two sectors, the log emptied where it is not, then come two sectors of record 27, two of record 26, whose root has
 // `b`, and eight of the record of the root's index; for the second edit two and eight of these; and the mark is cleared in two.
 #[test]
 fn the_mark_comes_first_and_goes_last(rt: HostRuntime) -> Result<(), test::Fail> {
-    let alloc = rt.alloc();
-    let mut image = volume_with_all(alloc)?;
+    let mut image = volume_with_all(rt.alloc())?;
     put(&mut image, LOG as usize * 512 + 7, &[0]);
-    let mut disk = writable(alloc, 2048, &image)?;
-    assert_eq!(rt; run_rows(alloc, &mut disk, &EDITS)?, (0, None));
-    let writes = disk.writes();
-    for (i, sector) in [
-        (0, FLAG),
-        (1, FLAG_COPY),
-        (2, LOG),
-        (25, FLAG_COPY),
-        (26, FLAG),
-    ] {
-        assert_eq!(rt;
-            writes.get(i).map(|write| write.sector),
-            Some(sector),
-            "{i}"
-        );
+    leaves(rt.alloc(), 2048, &image, &EDITS, &EMPTIED)?;
+    let mut disk = writable(rt.alloc(), 2048, &image)?;
+    let _ = run_rows(rt.alloc(), &mut disk, &EDITS)?;
+    for (i, sector) in IN_ORDER {
+        assert_eq!(rt; written_at(&disk, i), sector, "{i}");
     }
-    assert_eq!(rt; writes.len(), 27);
-    assert_eq!(rt; byte(disk.contents(), LOG as usize * 512 + 7), 0xFF);
-    assert!(rt; is_sound(alloc, 2048, disk.contents())?);
+    assert_eq!(rt; disk.writes().len(), 27);
     Ok(())
 }
 
@@ -191,6 +211,26 @@ fn failing_edits(alloc: Global, image: &[u8], fail: Fail) -> Result<(u8, bool), 
     Ok((status, is_safe(alloc, disk.inner().contents())?))
 }
 
+// The edits end with this status where this call fails, and leave a volume that is safe.
+fn fails_with(
+    alloc: Global,
+    image: &[u8],
+    kind: CallKind,
+    lands: bool,
+    number: u64,
+    status: u8,
+) -> Result<(), test::Fail> {
+    let fail = Fail {
+        kind,
+        number,
+        lands,
+    };
+    if failing_edits(alloc, image, fail)? != (status, true) {
+        return Err(number)?;
+    }
+    Ok(())
+}
+
 // Calls of a kind fail, one in each run, and leave a volume that is safe; there are so many of them, and none behind.
 fn fails_safely(
     alloc: Global,
@@ -198,24 +238,12 @@ fn fails_safely(
     lands: bool,
     numbers: &[u64],
     calls: u64,
-) -> Result<bool, test::Fail> {
+) -> Result<(), test::Fail> {
     let image = volume_with_all(alloc)?;
     for number in numbers {
-        let fail = Fail {
-            kind,
-            number: *number,
-            lands,
-        };
-        if failing_edits(alloc, &image, fail)? != (6, true) {
-            return Ok(false);
-        }
+        fails_with(alloc, &image, kind, lands, *number, 6)?;
     }
-    let past = Fail {
-        kind,
-        number: calls.saturating_add(1),
-        lands,
-    };
-    Ok(failing_edits(alloc, &image, past)? == (0, true))
+    fails_with(alloc, &image, kind, lands, calls.saturating_add(1), 0)
 }
 
 // The mark, writes of both edits, and the mark again.
@@ -223,20 +251,17 @@ const WRITES: [u64; 8] = [1, 2, 3, 6, 14, 15, 25, 26];
 
 #[test]
 fn writes_fail_safely(rt: HostRuntime) -> Result<(), test::Fail> {
-    assert!(rt; fails_safely(rt.alloc(), CallKind::Write, false, &WRITES, 26)?);
-    Ok(())
+    fails_safely(rt.alloc(), CallKind::Write, false, &WRITES, 26)
 }
 
 #[test]
 fn writes_that_land_fail_safely(rt: HostRuntime) -> Result<(), test::Fail> {
-    assert!(rt; fails_safely(rt.alloc(), CallKind::Write, true, &WRITES, 26)?);
-    Ok(())
+    fails_safely(rt.alloc(), CallKind::Write, true, &WRITES, 26)
 }
 
 // Writes are put in order before the first edit is written, and before the mark is cleared; each line is settled, and the end.
 #[test]
 fn barriers_and_settles_fail_safely(rt: HostRuntime) -> Result<(), test::Fail> {
-    assert!(rt; fails_safely(rt.alloc(), CallKind::Barrier, false, &[1, 2], 2)?);
-    assert!(rt; fails_safely(rt.alloc(), CallKind::Settle, false, &[1, 2, 3, 4], 4)?);
-    Ok(())
+    fails_safely(rt.alloc(), CallKind::Barrier, false, &[1, 2], 2)?;
+    fails_safely(rt.alloc(), CallKind::Settle, false, &[1, 2, 3, 4], 4)
 }

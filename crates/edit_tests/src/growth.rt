@@ -1,16 +1,17 @@
 //! Values that get longer in their records, in whole runs: bytes written into them and behind them, lengths that are set, and the room that
 //! such an edit asks for.
-use laid_volumes::damage::{CLUSTER_BITS, byte, is_marked, set_bit, told_at};
+use laid_volumes::cases::Place::Entry;
+use laid_volumes::cases::{Stand, fails_safely, leaves};
+use laid_volumes::damage::{CLUSTER_BITS, set_bit};
 use laid_volumes::laid::{
-    Extent, LaidName, ROOT_RECORD, Value, begin_file, end_file, key_in_root, lay_extent,
-    lay_in_root, lay_name, lay_standard, lay_value,
+    Extent, LaidName, ROOT_RECORD, Value, begin_file, end_file, lay_extent, lay_in_root, lay_name,
+    lay_standard, lay_value,
 };
 use laid_volumes::laid_files::volume_with_all;
 use laid_volumes::made::volume;
-use laid_volumes::scripts::{Row, is_sound, run_rows, writable};
+use laid_volumes::scripts::Row;
 use std::alloc::Global;
 use std::test;
-use vol_disk::{CallKind, Fail, FailDisk};
 
 const SECTORS: u16 = 2048;
 
@@ -56,22 +57,17 @@ const ROWS: [Row; 38] = [
     ("stat /a", "stat file 2 12 0021 256 1 11 11 4\nok\n"),
 ];
 
-// The real size that an entry tells of its file, as far as that is one byte.
-fn size_at(image: &[u8], key: Option<usize>) -> Option<u8> {
-    Some(byte(image, key?.saturating_add(0x30)))
-}
+// What the entry tells: the time of record change, the real size, and the flags.
+const LEFT: [Stand; 3] = [
+    (Entry(27, 0, 0x18), &[11]),
+    (Entry(27, 0, 0x30), &[12]),
+    (Entry(27, 0, 0x38), &[0x21, 0, 0, 0]),
+];
 
 #[test]
 fn values_grow(rt: HostRuntime) -> Result<(), test::Fail> {
-    let alloc = rt.alloc();
-    let mut disk = writable(alloc, SECTORS, &volume_with_all(alloc)?)?;
-    assert_eq!(rt; run_rows(alloc, &mut disk, &ROWS)?, (0, None));
-    let left = disk.contents();
-    assert!(rt; is_sound(alloc, SECTORS, left)?);
-    let key = key_in_root(left, 27, 0);
-    assert_eq!(rt; told_at(left, key), Some((11, [0x21, 0, 0, 0])));
-    assert_eq!(rt; size_at(left, key), Some(12));
-    Ok(())
+    let image = volume_with_all(rt.alloc())?;
+    leaves(rt.alloc(), SECTORS, &image, &ROWS, &LEFT)
 }
 
 // Names in the root.
@@ -94,8 +90,8 @@ const K: LaidName = LaidName {
 // The clusters that a new volume leaves: all behind the first 135.
 const FIRST_FREE: u8 = 135;
 
-// A volume with a small file, `k`, and one that has all clusters from 135 on but the last ones, so many.
-fn volume_with_left(alloc: Global, left: u8) -> Result<Vec<u8>, test::Fail> {
+/// A volume with a small file, `k`, and one whose stream lies in clusters, which are not taken yet.
+pub fn volume_with_big(alloc: Global, stream: Extent) -> Result<Vec<u8>, test::Fail> {
     let mut image = volume(alloc)?;
     let at = begin_file(&mut image, 26, 1, false);
     let at = lay_standard(&mut image, at, [0; 4], 0x20);
@@ -111,6 +107,14 @@ fn volume_with_left(alloc: Global, left: u8) -> Result<Vec<u8>, test::Fail> {
     let at = begin_file(&mut image, 27, 1, false);
     let at = lay_standard(&mut image, at, [0; 4], 0x20);
     let at = lay_name(alloc, &mut image, at, 1, &BIG)?;
+    let at = lay_extent(&mut image, at, stream);
+    end_file(&mut image, 27, at);
+    lay_in_root(alloc, &mut image, &[BIG, K])?;
+    Ok(image)
+}
+
+/// The same, where that stream has all clusters from 135 on but the last ones, so many.
+pub fn volume_with_left(alloc: Global, left: u8) -> Result<Vec<u8>, test::Fail> {
     let behind = 0u8.wrapping_sub(left);
     let count = behind.wrapping_sub(FIRST_FREE);
     let bytes = u64::from(count).saturating_mul(4096);
@@ -123,12 +127,10 @@ fn volume_with_left(alloc: Global, left: u8) -> Result<Vec<u8>, test::Fail> {
         initialized: bytes,
         runs: &[0x21, count, FIRST_FREE, 0, 0],
     };
-    let at = lay_extent(&mut image, at, all);
-    end_file(&mut image, 27, at);
+    let mut image = volume_with_big(alloc, all)?;
     for cluster in FIRST_FREE..behind {
         set_bit(&mut image, CLUSTER_BITS, cluster);
     }
-    lay_in_root(alloc, &mut image, &[BIG, K])?;
     Ok(image)
 }
 
@@ -150,13 +152,9 @@ const GRANTED: [Row; 3] = [
 
 #[test]
 fn room_is_asked_for(rt: HostRuntime) -> Result<(), test::Fail> {
-    let alloc = rt.alloc();
     for (left, rows) in [(2, REFUSED.as_slice()), (3, GRANTED.as_slice())] {
-        let image = volume_with_left(alloc, left)?;
-        assert!(rt; is_sound(alloc, SECTORS, &image)?);
-        let mut disk = writable(alloc, SECTORS, &image)?;
-        assert_eq!(rt; run_rows(alloc, &mut disk, rows)?, (0, None), "{left}");
-        assert!(rt; is_sound(alloc, SECTORS, disk.contents())?);
+        let image = volume_with_left(rt.alloc(), left)?;
+        leaves(rt.alloc(), SECTORS, &image, rows, &[])?;
     }
     Ok(())
 }
@@ -169,32 +167,11 @@ const EDITS: [Row; 4] = [
     ("truncate /a 9", "ok\n"),
 ];
 
-// The status of them where one write of the disk fails, and whether the volume is then marked, or sound.
-fn failing_edits(alloc: Global, image: &[u8], number: u64) -> Result<(u8, bool), test::Fail> {
-    let fail = Fail {
-        kind: CallKind::Write,
-        number,
-        lands: false,
-    };
-    let mut disk = FailDisk::new(writable(alloc, SECTORS, image)?, vec![in alloc; fail]?);
-    let (status, _) = run_rows(alloc, &mut disk, &EDITS)?;
-    let left = disk.inner().contents();
-    Ok((status, is_marked(left) || is_sound(alloc, SECTORS, left)?))
-}
-
 // The mark in two sectors; of each edit two sectors of record 27, two of record 26, whose root has `b`, and eight of the root's index; and
 // the mark again: twenty-eight, and none behind.
 #[test]
 fn growth_fails_safely(rt: HostRuntime) -> Result<(), test::Fail> {
-    let alloc = rt.alloc();
-    let image = volume_with_all(alloc)?;
-    for number in [1, 3, 4, 15, 16, 26, 28] {
-        assert_eq!(rt;
-            failing_edits(alloc, &image, number)?,
-            (6, true),
-            "{number}"
-        );
-    }
-    assert_eq!(rt; failing_edits(alloc, &image, 29)?, (0, true));
-    Ok(())
+    let image = volume_with_all(rt.alloc())?;
+    let numbers = [1, 3, 4, 15, 16, 26, 28];
+    fails_safely(rt.alloc(), &image, &EDITS, &numbers, 28)
 }

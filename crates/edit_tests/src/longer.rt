@@ -1,9 +1,11 @@
 //! Streams in clusters that get longer, in whole runs: by bytes over those that were written and right behind them, into the last cluster and
 //! into new ones, and by lengths that end in the last cluster.
-use laid_volumes::damage::{CLUSTER_BITS, byte, number, put, record, stands, told_at};
-use laid_volumes::laid::{Extent, key_in_root};
+use laid_volumes::cases::Place::{Entry, Image, Record};
+use laid_volumes::cases::{LongRow, Stand, all_stand, edited, edited_by, edited_long, sound};
+use laid_volumes::damage::{CLUSTER_BITS, put};
+use laid_volumes::laid::Extent;
 use laid_volumes::laid_streams::{LARGE, ONE, volume_with};
-use laid_volumes::scripts::{Row, add_long, is_sound, run_rows, told, writable};
+use laid_volumes::scripts::{Row, add_long};
 use std::alloc::Global;
 use std::test;
 
@@ -11,6 +13,9 @@ const SECTORS: u16 = 2048;
 
 /// Where the unnamed stream stands in the record of a file with one name of one letter: behind two attributes of 96 bytes.
 pub const STREAM: usize = 0x38 + 96 + 96;
+
+// Where its runs stand in its attribute, as it was laid.
+const RUNS: usize = 0x48;
 
 // 8188 bytes in the clusters 137 and 138, of which 8180 were written.
 const TWO: Extent = Extent {
@@ -78,47 +83,46 @@ const ROWS: [Row; 40] = [
 ];
 
 // The rest of the third cluster, and two more. Of the clusters before 137 only 136 is free now, so they come behind those of the stream.
-const TWO_MORE: &[u8] = b"ok\nok\ndata 66685a5a\nok\ndata 5a5a5a5a\nok\ndf 256 116 64 37\nok\n";
+const TWO_MORE: [LongRow; 5] = [
+    ("time 12", 0, "ok\n"),
+    ("write /k 8196 ", 8192, "ok\n"),
+    ("read /k 8194 4", 0, "data 66685a5a\nok\n"),
+    ("read /k 16384 99", 0, "data 5a5a5a5a\nok\n"),
+    ("df", 0, "df 256 116 64 37\nok\n"),
+];
+
+const TWO_LEFT: [Stand; 15] = [
+    (Image(138 * 4096 + 4082), b"uvABCDEFGHIZ[\\"),
+    (Image(135 * 4096), b"]^fhZZ"),
+    (Image(139 * 4096), b"ZZZZZZZZZ"),
+    (Image(140 * 4096), b"ZZZZ"),
+    // the clusters 137 to 140, and 135 with all before it
+    (Image(CLUSTER_BITS + 16), &[0xFF, 0x1E]),
+    // two clusters from 137 on, one 2 before these, and two 4 behind that one
+    (
+        Record(26, STREAM + RUNS),
+        &[0x21, 2, 137, 0, 0x11, 1, 0xFE, 0x11, 2, 4, 0],
+    ),
+    // the last cluster, and the three sizes: 20,480 and twice 16,388
+    (Record(26, STREAM + 0x18), &[4, 0]),
+    (Record(26, STREAM + 0x28), &[0x00, 0x50]),
+    (Record(26, STREAM + 0x30), &[0x04, 0x40]),
+    (Record(26, STREAM + 0x38), &[0x04, 0x40]),
+    // the entry: the time of record change, both sizes and the flags
+    (Entry(26, 0, 0x18), &[12]),
+    (Entry(26, 0, 0x28), &[0x00, 0x50]),
+    (Entry(26, 0, 0x30), &[0x04, 0x40]),
+    (Entry(26, 0, 0x38), &[0x20, 0, 0, 0]),
+    (Record(26, STREAM + 0x20), &[0x48, 0]),
+];
 
 #[test]
 fn streams_in_clusters_get_longer(rt: HostRuntime) -> Result<(), test::Fail> {
-    let alloc = rt.alloc();
-    let image = volume_with_two(alloc)?;
-    assert!(rt; is_sound(alloc, SECTORS, &image)?);
-    let mut disk = writable(alloc, SECTORS, &image)?;
-    assert_eq!(rt; run_rows(alloc, &mut disk, &ROWS)?, (0, None));
-    let mut script = Vec::from_slice(alloc, b"time 12\n")?;
-    add_long(&mut script, "write /k 8196 ", 8192)?;
-    script.extend_from_slice(b"read /k 8194 4\nread /k 16384 99\ndf\n")?;
-    let (status, out) = told(alloc, &mut disk, &script)?;
-    assert_eq!(rt; (status, out.bytes()), (0, TWO_MORE));
-    let left = disk.contents();
-    assert!(rt; is_sound(alloc, SECTORS, left)?);
-    assert!(rt; stands(left, 138 * 4096 + 4082, b"uvABCDEFGHIZ[\\"));
-    assert!(rt; stands(left, 135 * 4096, b"]^fhZZ"));
-    assert!(rt; stands(left, 139 * 4096, b"ZZZZZZZZZ"));
-    assert!(rt; stands(left, 140 * 4096, b"ZZZZ"));
-    // The clusters 137 to 140, and 135 with all before it.
-    assert_eq!(rt; byte(left, CLUSTER_BITS + 16), 0xFF);
-    assert_eq!(rt; byte(left, CLUSTER_BITS + 17), 0x1E);
-    // Two clusters from 137 on, one 2 before these, and two 4 behind that one.
-    let stream = record(26) + STREAM;
-    let runs = stream + number(left, stream + 0x20);
-    assert!(rt; stands(left, runs, &[0x21, 2, 137, 0, 0x11, 1, 0xFE, 0x11, 2, 4, 0]));
-    for (place, wanted) in [(0x18, 4), (0x28, 20_480), (0x30, 16_388), (0x38, 16_388)] {
-        assert_eq!(rt; number(left, stream + place), wanted, "{place}");
-    }
-    let key = key_in_root(left, 26, 0);
-    assert_eq!(rt; told_at(left, key), Some((12, [0x20, 0, 0, 0])));
-    assert_eq!(rt; sizes_at(left, key), Some((20_480, 16_388)));
-    Ok(())
-}
-
-// The allocated size and the real one that an entry tells of its file, as far as each is two bytes.
-fn sizes_at(image: &[u8], key: Option<usize>) -> Option<(usize, usize)> {
-    let at = key?;
-    let allocated = number(image, at.saturating_add(0x28));
-    Some((allocated, number(image, at.saturating_add(0x30))))
+    let image = volume_with_two(rt.alloc())?;
+    sound(rt.alloc(), SECTORS, &image)?;
+    let image = edited(rt.alloc(), SECTORS, &image, &ROWS)?;
+    let left = edited_long(rt.alloc(), SECTORS, &image, &TWO_MORE)?;
+    all_stand(&left, &TWO_LEFT)
 }
 
 // Of 120 free clusters eight are left then, which do for six more.
@@ -126,37 +130,48 @@ const LARGE_TOLD: &[u8] = b"ok\nok\nok\nok\nok\nok\nok\nok\nok\nok\nok\nok\nok\n
     df 256 8 64 37\nok\nno 26 NoRoom 10 8\nok\ndf 256 2 64 37\nok\nno 26 NoRoom 3 2\n\
     stat file 1 487424 0020 256 0 0 0 0\nok\ndata 005a\nok\ndata 5a5a\nok\n";
 
-#[test]
-fn large_writes_take_runs(rt: HostRuntime) -> Result<(), test::Fail> {
-    let alloc = rt.alloc();
-    let mut disk = writable(alloc, SECTORS, &volume_with(alloc, ONE, &[135], b"")?)?;
+// The script of `LARGE`, then of one write more that asks for too much, and of the rest of the room.
+fn large_script(alloc: Global) -> Result<Vec<u8>, test::Fail> {
     let mut script = Vec::new(alloc);
     for line in LARGE {
         add_long(&mut script, line, 32_768)?;
     }
-    script.extend_from_slice(b"df\n")?;
-    add_long(&mut script, "write /k 462842 ", 32_768)?;
-    add_long(&mut script, "write /k 462842 ", 24_582)?;
-    script.extend_from_slice(b"df\nwrite /k 487424 41\nstat /k\n")?;
-    script.extend_from_slice(b"read /k 4089 2\nread /k 487422 99\n")?;
-    let (status, out) = told(alloc, &mut disk, &script)?;
-    assert_eq!(rt; status, 0);
-    assert_eq!(rt; out.bytes(), LARGE_TOLD);
-    let left = disk.contents();
-    assert!(rt; is_sound(alloc, SECTORS, left)?);
-    let stream = record(26) + STREAM;
-    let runs = stream + number(left, stream + 0x20);
-    assert!(rt;
-        stands(
-            left,
-            runs,
-            &[0x21, 1, 135, 0, 0x11, 8, 1, 0x11, 8, 8, 0x11, 8, 8]
-        )
-    );
-    assert!(rt; stands(left, runs + 46, &[0x11, 6, 8, 0]));
-    assert!(rt; stands(left, stream + 0x28, &487_424u64.to_le_bytes()));
-    // The clusters up to 253, and the last byte of the stream.
-    assert_eq!(rt; byte(left, CLUSTER_BITS + 31), 0x3F);
-    assert_eq!(rt; byte(left, 254 * 4096 - 1), 0x5A);
-    Ok(())
+    for (line, count) in [
+        ("df", 0),
+        ("write /k 462842 ", 32_768),
+        ("write /k 462842 ", 24_582),
+        ("df", 0),
+        ("write /k 487424 41", 0),
+        ("stat /k", 0),
+        ("read /k 4089 2", 0),
+        ("read /k 487422 99", 0),
+    ] {
+        add_long(&mut script, line, count)?;
+    }
+    Ok(script)
+}
+
+const LARGE_LEFT: [Stand; 6] = [
+    (
+        Record(26, STREAM + RUNS),
+        &[0x21, 1, 135, 0, 0x11, 8, 1, 0x11, 8, 8, 0x11, 8, 8],
+    ),
+    (Record(26, STREAM + RUNS + 46), &[0x11, 6, 8, 0]),
+    // 487,424 bytes
+    (
+        Record(26, STREAM + 0x28),
+        &[0x00, 0x70, 0x07, 0, 0, 0, 0, 0],
+    ),
+    (Record(26, STREAM + 0x20), &[0x48, 0]),
+    // the clusters up to 253, and the last byte of the stream
+    (Image(CLUSTER_BITS + 31), &[0x3F]),
+    (Image(254 * 4096 - 1), &[0x5A]),
+];
+
+#[test]
+fn large_writes_take_runs(rt: HostRuntime) -> Result<(), test::Fail> {
+    let image = volume_with(rt.alloc(), ONE, &[135], b"")?;
+    let script = large_script(rt.alloc())?;
+    let left = edited_by(rt.alloc(), SECTORS, &image, &script, LARGE_TOLD)?;
+    all_stand(&left, &LARGE_LEFT)
 }

@@ -1,15 +1,15 @@
 //! The room for streams in clusters that get longer, in whole runs: clusters that are free one behind the other or not, the bytes that are
 //! left in a record, and writes failing. The stream of `k` has cluster 135 of a new volume.
-use laid_volumes::damage::{CLUSTER_BITS, is_marked, set_bit};
+use laid_volumes::cases::{LongRow, edited_long, fails_safely, leaves, sound};
+use laid_volumes::damage::{CLUSTER_BITS, set_bit};
 use laid_volumes::laid::{
     Extent, LaidName, ROOT_RECORD, begin_file, end_file, lay_extent, lay_in_root, lay_name,
     lay_standard,
 };
 use laid_volumes::laid_streams::{ONE, volume_with};
-use laid_volumes::scripts::{Row, add_long, is_sound, run_rows, told, writable};
+use laid_volumes::scripts::Row;
 use std::alloc::Global;
 use std::test;
-use vol_disk::{CallKind, Fail, FailDisk};
 
 const SECTORS: u16 = 2048;
 
@@ -88,43 +88,33 @@ const THREE_LEFT: [Row; 6] = [
 
 #[test]
 fn clusters_are_asked_for(rt: HostRuntime) -> Result<(), test::Fail> {
-    let alloc = rt.alloc();
-    for (left, rows) in [
-        (0u8, NONE_LEFT.as_slice()),
-        (2, TWO_LEFT.as_slice()),
-        (3, THREE_LEFT.as_slice()),
+    for (count, rows) in [
+        (120, NONE_LEFT.as_slice()),
+        (118, TWO_LEFT.as_slice()),
+        (117, THREE_LEFT.as_slice()),
     ] {
-        let image = volume_filled(alloc, 136, 120u8.wrapping_sub(left))?;
-        assert!(rt; is_sound(alloc, SECTORS, &image)?);
-        let mut disk = writable(alloc, SECTORS, &image)?;
-        assert_eq!(rt; run_rows(alloc, &mut disk, rows)?, (0, None), "{left}");
-        assert!(rt; is_sound(alloc, SECTORS, disk.contents())?);
+        let image = volume_filled(rt.alloc(), 136, count)?;
+        leaves(rt.alloc(), SECTORS, &image, rows, &[])?;
     }
     Ok(())
 }
 
 // Six clusters are free, 136 to 138 and the last three. Four more are not one behind the other; three are, and then three are left.
-const IN_PIECES: &[u8] =
-    b"df 256 6 64 36\nok\nno 28 Unbuilt\nno 28 Unbuilt\nok\ndf 256 3 64 36\nok\nno 26 NoRoom 4 3\n\
-    stat file 1 16384 0020 256 0 0 0 0\nok\n";
+const IN_PIECES: [LongRow; 7] = [
+    ("df", 0, "df 256 6 64 36\nok\n"),
+    ("write /k 4090 ", 12_295, "no 28 Unbuilt\n"),
+    ("write /k 0 ", 16_385, "no 28 Unbuilt\n"),
+    ("write /k 4090 ", 12_294, "ok\n"),
+    ("df", 0, "df 256 3 64 36\nok\n"),
+    ("write /k 16384 ", 4097, "no 26 NoRoom 4 3\n"),
+    ("stat /k", 0, "stat file 1 16384 0020 256 0 0 0 0\nok\n"),
+];
 
 #[test]
 fn clusters_lie_one_behind_the_other(rt: HostRuntime) -> Result<(), test::Fail> {
-    let alloc = rt.alloc();
-    let image = volume_filled(alloc, 139, 114)?;
-    assert!(rt; is_sound(alloc, SECTORS, &image)?);
-    let mut disk = writable(alloc, SECTORS, &image)?;
-    let mut script = Vec::from_slice(alloc, b"df\n")?;
-    add_long(&mut script, "write /k 4090 ", 12_295)?;
-    add_long(&mut script, "write /k 0 ", 16_385)?;
-    add_long(&mut script, "write /k 4090 ", 12_294)?;
-    script.extend_from_slice(b"df\n")?;
-    add_long(&mut script, "write /k 16384 ", 4097)?;
-    script.extend_from_slice(b"stat /k\n")?;
-    let (status, out) = told(alloc, &mut disk, &script)?;
-    assert_eq!(rt; status, 0);
-    assert_eq!(rt; out.bytes(), IN_PIECES);
-    assert!(rt; is_sound(alloc, SECTORS, disk.contents())?);
+    let image = volume_filled(rt.alloc(), 139, 114)?;
+    sound(rt.alloc(), SECTORS, &image)?;
+    let _ = edited_long(rt.alloc(), SECTORS, &image, &IN_PIECES)?;
     Ok(())
 }
 
@@ -148,10 +138,7 @@ fn a_run_is_told_in_24_bytes(rt: HostRuntime) -> Result<(), test::Fail> {
     let alloc = rt.alloc();
     for (len, rows) in [(625, CROWDED.as_slice()), (624, WITH_ROOM.as_slice())] {
         let image = volume_with(alloc, ONE, &[135], &vec![in alloc; 0; len]?)?;
-        assert!(rt; is_sound(alloc, SECTORS, &image)?);
-        let mut disk = writable(alloc, SECTORS, &image)?;
-        assert_eq!(rt; run_rows(alloc, &mut disk, rows)?, (0, None), "{len}");
-        assert!(rt; is_sound(alloc, SECTORS, disk.contents())?);
+        leaves(alloc, SECTORS, &image, rows, &[])?;
     }
     Ok(())
 }
@@ -164,32 +151,11 @@ const EDITS: [Row; 4] = [
     ("truncate /k 4099", "ok\n"),
 ];
 
-// The status of them where one write of the disk fails, and whether the volume is then marked, or sound.
-fn failing_edits(alloc: Global, image: &[u8], number: u64) -> Result<(u8, bool), test::Fail> {
-    let fail = Fail {
-        kind: CallKind::Write,
-        number,
-        lands: false,
-    };
-    let mut disk = FailDisk::new(writable(alloc, SECTORS, image)?, vec![in alloc; fail]?);
-    let (status, _) = run_rows(alloc, &mut disk, &EDITS)?;
-    let left = disk.inner().contents();
-    Ok((status, is_marked(left) || is_sound(alloc, SECTORS, left)?))
-}
-
 // The mark in two sectors; of the write one of the bitmap of clusters and two of the stream, and of each edit two of record 26 and eight of
 // the root's index; and the mark again: twenty-seven, and none behind.
 #[test]
 fn a_longer_stream_fails_safely(rt: HostRuntime) -> Result<(), test::Fail> {
-    let alloc = rt.alloc();
-    let image = volume_with(alloc, ONE, &[135], b"")?;
-    for number in [1, 3, 4, 5, 6, 7, 8, 15, 16, 18, 25, 27] {
-        assert_eq!(rt;
-            failing_edits(alloc, &image, number)?,
-            (6, true),
-            "{number}"
-        );
-    }
-    assert_eq!(rt; failing_edits(alloc, &image, 28)?, (0, true));
-    Ok(())
+    let image = volume_with(rt.alloc(), ONE, &[135], b"")?;
+    let numbers = [1, 3, 4, 5, 6, 7, 8, 15, 16, 18, 25, 27];
+    fails_safely(rt.alloc(), &image, &EDITS, &numbers, 27)
 }

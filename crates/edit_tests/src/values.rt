@@ -1,16 +1,16 @@
 //! Edits of values in their records, in whole runs: streams that are punched, cut and removed, and security ids that are set. `a` has five
 //! bytes in its record, two more in its stream `s`, and another name in `d`.
-use laid_volumes::damage::{byte, is_marked, put, record, told_at};
+use laid_volumes::cases::Place::{Entry, Record};
+use laid_volumes::cases::{Stand, fails_safely, leaves, sound};
+use laid_volumes::damage::{put, record};
 use laid_volumes::laid::{
-    LaidName, ROOT_RECORD, Value, begin_file, end_file, key_in_root, lay_in_root, lay_name,
-    lay_value,
+    LaidName, ROOT_RECORD, Value, begin_file, end_file, lay_in_root, lay_name, lay_value,
 };
 use laid_volumes::laid_files::volume_with_all;
 use laid_volumes::made::volume;
-use laid_volumes::scripts::{Row, is_sound, run_rows, writable, wrong_row};
+use laid_volumes::scripts::{Row, wrong_row};
 use std::alloc::Global;
 use std::test;
-use vol_disk::{CallKind, Fail, FailDisk};
 
 const SECTORS: u16 = 2048;
 
@@ -43,24 +43,17 @@ const PUNCHES: [Row; 25] = [
     ("punch /d/b 0 1", "no 22 Shared 2 0\n"),
 ];
 
-// What an entry tells of the time of modification, as far as that is one byte.
-fn modified_at(image: &[u8], key: Option<usize>) -> Option<u8> {
-    Some(byte(image, key?.saturating_add(0x10)))
-}
+// What the entry tells: the times of modification and record change, and the flags.
+const PUNCHED_LEFT: [Stand; 3] = [
+    (Entry(27, 0, 0x10), &[10]),
+    (Entry(27, 0, 0x18), &[10]),
+    (Entry(27, 0, 0x38), &[0x21, 0, 0, 0]),
+];
 
 #[test]
 fn values_are_punched(rt: HostRuntime) -> Result<(), test::Fail> {
-    let alloc = rt.alloc();
-    let mut disk = writable(alloc, SECTORS, &volume_with_all(alloc)?)?;
-    assert_eq!(rt; run_rows(alloc, &mut disk, &PUNCHES)?, (0, None));
-    let left = disk.contents();
-    assert!(rt; is_sound(alloc, SECTORS, left)?);
-    assert_eq!(rt;
-        told_at(left, key_in_root(left, 27, 0)),
-        Some((10, [0x21, 0, 0, 0]))
-    );
-    assert_eq!(rt; modified_at(left, key_in_root(left, 27, 0)), Some(10));
-    Ok(())
+    let image = volume_with_all(rt.alloc())?;
+    leaves(rt.alloc(), SECTORS, &image, &PUNCHES, &PUNCHED_LEFT)
 }
 
 // `x` has many streams, all empty but the last.
@@ -96,23 +89,18 @@ const CUTS: [Row; 29] = [
     ("rmstream /x:s19", "no 22 Shared 2 0\n"),
 ];
 
-// The real size that an entry tells of its file, as far as that is one byte.
-fn size_at(image: &[u8], key: Option<usize>) -> Option<u8> {
-    Some(byte(image, key?.saturating_add(0x30)))
-}
+// And here the real size.
+const CUT_LEFT: [Stand; 4] = [
+    (Entry(27, 0, 0x10), &[11]),
+    (Entry(27, 0, 0x18), &[11]),
+    (Entry(27, 0, 0x30), &[2]),
+    (Entry(27, 0, 0x38), &[0x21, 0, 0, 0]),
+];
 
 #[test]
 fn values_are_cut_and_removed(rt: HostRuntime) -> Result<(), test::Fail> {
-    let alloc = rt.alloc();
-    let mut disk = writable(alloc, SECTORS, &volume_with_all(alloc)?)?;
-    assert_eq!(rt; run_rows(alloc, &mut disk, &CUTS)?, (0, None));
-    let left = disk.contents();
-    assert!(rt; is_sound(alloc, SECTORS, left)?);
-    let key = key_in_root(left, 27, 0);
-    assert_eq!(rt; told_at(left, key), Some((11, [0x21, 0, 0, 0])));
-    assert_eq!(rt; modified_at(left, key), Some(11));
-    assert_eq!(rt; size_at(left, key), Some(2));
-    Ok(())
+    let image = volume_with_all(rt.alloc())?;
+    leaves(rt.alloc(), SECTORS, &image, &CUTS, &CUT_LEFT)
 }
 
 // The volume has the descriptor 256 alone.
@@ -134,22 +122,17 @@ const IDS: [Row; 12] = [
 // Where the id stands in a record: in the value of its first attribute.
 const ID: usize = 0x38 + 0x18 + 0x34;
 
+const IDS_LEFT: [Stand; 3] = [
+    (Record(27, ID), &[0, 1]),
+    (Entry(27, 0, 0x18), &[9]),
+    (Entry(27, 0, 0x38), &[0x21, 0, 0, 0]),
+];
+
 #[test]
 fn security_ids_are_set(rt: HostRuntime) -> Result<(), test::Fail> {
-    let alloc = rt.alloc();
-    let mut image = volume_with_all(alloc)?;
+    let mut image = volume_with_all(rt.alloc())?;
     put(&mut image, record(27) + ID, &[0, 0, 0, 0]);
-    let mut disk = writable(alloc, SECTORS, &image)?;
-    assert_eq!(rt; run_rows(alloc, &mut disk, &IDS)?, (0, None));
-    let left = disk.contents();
-    assert!(rt; is_sound(alloc, SECTORS, left)?);
-    assert_eq!(rt; byte(left, record(27) + ID), 0);
-    assert_eq!(rt; byte(left, record(27) + ID + 1), 1);
-    assert_eq!(rt;
-        told_at(left, key_in_root(left, 27, 0)),
-        Some((9, [0x21, 0, 0, 0]))
-    );
-    Ok(())
+    leaves(rt.alloc(), SECTORS, &image, &IDS, &IDS_LEFT)
 }
 
 const K: LaidName = LaidName {
@@ -177,17 +160,20 @@ fn volume_with_short(alloc: Global) -> Result<Vec<u8>, test::Fail> {
     Ok(image)
 }
 
+const WITHOUT_PLACE: [Row; 3] = [
+    ("setsec /k 257", "no 18 NoSecurity\n"),
+    ("setsec /k 256", "no 28 Unbuilt\n"),
+    ("stat /k", "stat file 1 0 0000 0 0 0 0 0\nok\n"),
+];
+
 #[test]
 fn an_id_without_a_place_is_not_set(rt: HostRuntime) -> Result<(), test::Fail> {
-    let alloc = rt.alloc();
-    let image = volume_with_short(alloc)?;
-    assert!(rt; is_sound(alloc, SECTORS, &image)?);
-    let rows = [
-        ("setsec /k 257", "no 18 NoSecurity\n"),
-        ("setsec /k 256", "no 28 Unbuilt\n"),
-        ("stat /k", "stat file 1 0 0000 0 0 0 0 0\nok\n"),
-    ];
-    assert_eq!(rt; wrong_row(alloc, SECTORS, &image, &rows)?, None);
+    let image = volume_with_short(rt.alloc())?;
+    sound(rt.alloc(), SECTORS, &image)?;
+    assert_eq!(rt;
+        wrong_row(rt.alloc(), SECTORS, &image, &WITHOUT_PLACE)?,
+        None
+    );
     Ok(())
 }
 
@@ -203,32 +189,11 @@ const EDITS: [Row; 8] = [
     ("rmstream /a:s", "ok\n"),
 ];
 
-// The status of them where one write of the disk fails, and whether the volume is then marked, or sound.
-fn failing_edits(alloc: Global, image: &[u8], number: u64) -> Result<(u8, bool), test::Fail> {
-    let fail = Fail {
-        kind: CallKind::Write,
-        number,
-        lands: false,
-    };
-    let mut disk = FailDisk::new(writable(alloc, SECTORS, image)?, vec![in alloc; fail]?);
-    let (status, _) = run_rows(alloc, &mut disk, &EDITS)?;
-    let left = disk.inner().contents();
-    Ok((status, is_marked(left) || is_sound(alloc, SECTORS, left)?))
-}
-
 // The mark in two sectors; of each edit two sectors of record 27, two of record 26, whose root has `b`, and eight of the root's index; and
 // the mark again: fifty-two, and none behind.
 #[test]
 fn edits_of_values_fail_safely(rt: HostRuntime) -> Result<(), test::Fail> {
-    let alloc = rt.alloc();
-    let image = volume_with_all(alloc)?;
-    for number in [1, 3, 4, 15, 27, 28, 39, 40, 50, 52] {
-        assert_eq!(rt;
-            failing_edits(alloc, &image, number)?,
-            (6, true),
-            "{number}"
-        );
-    }
-    assert_eq!(rt; failing_edits(alloc, &image, 53)?, (0, true));
-    Ok(())
+    let image = volume_with_all(rt.alloc())?;
+    let numbers = [1, 3, 4, 15, 27, 28, 39, 40, 50, 52];
+    fails_safely(rt.alloc(), &image, &EDITS, &numbers, 52)
 }

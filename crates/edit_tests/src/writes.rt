@@ -1,13 +1,11 @@
 //! Writes over bytes that are there, in whole runs: what they print, where their bytes, times and entries stand, and which sectors are
 //! written. The stream of `h` has a cluster, a hole of 16 clusters, and a cluster of which 8 bytes were written.
-use laid_volumes::damage::{byte, is_marked, told_at};
-use laid_volumes::given::sink_of;
-use laid_volumes::laid::key_in_root;
+use laid_volumes::cases::Place::{Entry, Image};
+use laid_volumes::cases::{LongRow, Stand, edited_long, fails_safely, leaves};
 use laid_volumes::laid_files::volume_with_all;
-use laid_volumes::scripts::{Row, TEXT_ROOM, is_sound, run_on, run_rows, source_of, writable};
-use std::alloc::Global;
+use laid_volumes::scripts::{Row, add_long, told, writable};
 use std::test;
-use vol_disk::{CallKind, Fail, FailDisk};
+use vol_disk::MemDisk;
 
 const SECTORS: u16 = 2048;
 
@@ -51,57 +49,50 @@ const ROWS: [Row; 33] = [
     ("@2 read /h 0 2", "data 0000\nok\n"),
 ];
 
-// What an entry tells of the time of modification, as far as that is one byte.
-fn modified_at(image: &[u8], key: Option<usize>) -> Option<u8> {
-    Some(byte(image, key?.saturating_add(0x10)))
-}
+// Bytes of the stream, and what the entry tells: the times of modification and record change, and the flags.
+const LEFT: [Stand; 5] = [
+    (Image(203 * 4096 - 2), b"b"),
+    (Image(203 * 4096 + 9), b"9"),
+    (Entry(29, 0, 0x10), &[9]),
+    (Entry(29, 0, 0x18), &[9]),
+    (Entry(29, 0, 0x38), &[0x20, 0, 0, 0]),
+];
 
 #[test]
 fn bytes_go_over_bytes(rt: HostRuntime) -> Result<(), test::Fail> {
-    let alloc = rt.alloc();
-    let mut disk = writable(alloc, SECTORS, &volume_with_all(alloc)?)?;
-    assert_eq!(rt; run_rows(alloc, &mut disk, &ROWS)?, (0, None));
-    let left = disk.contents();
-    assert!(rt; is_sound(alloc, SECTORS, left)?);
-    assert_eq!(rt; byte(left, 203 * 4096 - 2), b'b');
-    assert_eq!(rt; byte(left, 203 * 4096 + 9), b'9');
-    assert_eq!(rt;
-        told_at(left, key_in_root(left, 29, 0)),
-        Some((9, [0x20, 0, 0, 0]))
-    );
-    assert_eq!(rt; modified_at(left, key_in_root(left, 29, 0)), Some(9));
-    Ok(())
+    let image = volume_with_all(rt.alloc())?;
+    leaves(rt.alloc(), SECTORS, &image, &ROWS, &LEFT)
 }
 
 // A byte of one sector, a whole one, and a byte of the next, and the lines that read around them.
-fn long_write(alloc: Global) -> Result<Vec<u8>, test::Fail> {
-    let mut script = Vec::from_slice(alloc, b"write /h 511 ")?;
-    for _ in 0..514 {
-        script.extend_from_slice(b"5a")?;
+const LONG: [LongRow; 3] = [
+    ("write /h 511 ", 514, "ok\n"),
+    ("read /h 510 3", 0, "data 005a5a\nok\n"),
+    ("read /h 1023 3", 0, "data 5a5a00\nok\n"),
+];
+
+// How often a sector is written.
+fn times(disk: &MemDisk, sector: u64) -> usize {
+    let mut count = 0_usize;
+    for write in disk.writes() {
+        if write.sector == sector {
+            count = count.saturating_add(1);
+        }
     }
-    script.extend_from_slice(b"\nread /h 510 3\nread /h 1023 3\n")?;
-    Ok(script)
+    count
 }
 
+// The first cluster of the stream is 202.
 #[test]
 fn each_sector_is_written_once(rt: HostRuntime) -> Result<(), test::Fail> {
-    let alloc = rt.alloc();
-    let mut disk = writable(alloc, SECTORS, &volume_with_all(alloc)?)?;
-    let mut source = source_of(alloc, &long_write(alloc)?, 0)?;
-    let mut out = sink_of(alloc, TEXT_ROOM, 0)?;
-    assert_eq!(rt; run_on(alloc, &mut disk, &mut source, &mut out)?, 0);
-    assert_eq!(rt;
-        out.bytes(),
-        b"ok\ndata 005a5a\nok\ndata 5a5a00\nok\n".as_slice()
-    );
-    for (sector, times) in [(0, 1), (1, 1), (2, 1), (3, 0)] {
-        let place = 202 * 8 + sector;
-        let count = disk
-            .writes()
-            .iter()
-            .filter(|write| write.sector == place)
-            .count();
-        assert_eq!(rt; count, times, "{sector}");
+    let image = volume_with_all(rt.alloc())?;
+    let _ = edited_long(rt.alloc(), SECTORS, &image, &LONG)?;
+    let mut disk = writable(rt.alloc(), SECTORS, &image)?;
+    let mut script = Vec::new(rt.alloc());
+    add_long(&mut script, "write /h 511 ", 514)?;
+    let _ = told(rt.alloc(), &mut disk, &script)?;
+    for (sector, count) in [(1616, 1), (1617, 1), (1618, 1), (1619, 0)] {
+        assert_eq!(rt; times(&disk, sector), count, "{sector}");
     }
     assert_eq!(rt; disk.writes().len(), 17);
     Ok(())
@@ -110,31 +101,9 @@ fn each_sector_is_written_once(rt: HostRuntime) -> Result<(), test::Fail> {
 // A write over bytes of two sectors.
 const WRITE: [Row; 2] = [("time 5", "ok\n"), ("write /h 510 41424344", "ok\n")];
 
-// The status of it where one write of the disk fails, and whether the volume is then marked, or sound.
-fn failing_write(alloc: Global, image: &[u8], number: u64) -> Result<(u8, bool), test::Fail> {
-    let fail = Fail {
-        kind: CallKind::Write,
-        number,
-        lands: false,
-    };
-    let mut disk = FailDisk::new(writable(alloc, SECTORS, image)?, vec![in alloc; fail]?);
-    let (status, _) = run_rows(alloc, &mut disk, &WRITE)?;
-    let left = disk.inner().contents();
-    Ok((status, is_marked(left) || is_sound(alloc, SECTORS, left)?))
-}
-
 // The mark in two sectors, two of the stream, two of record 29, eight of the root's index, and the mark again: sixteen, and none behind.
 #[test]
 fn a_write_fails_safely(rt: HostRuntime) -> Result<(), test::Fail> {
-    let alloc = rt.alloc();
-    let image = volume_with_all(alloc)?;
-    for number in [1, 3, 5, 16] {
-        assert_eq!(rt;
-            failing_write(alloc, &image, number)?,
-            (6, true),
-            "{number}"
-        );
-    }
-    assert_eq!(rt; failing_write(alloc, &image, 17)?, (0, true));
-    Ok(())
+    let image = volume_with_all(rt.alloc())?;
+    fails_safely(rt.alloc(), &image, &WRITE, &[1, 3, 5, 16], 16)
 }

@@ -50,23 +50,21 @@ fn errors_have_their_texts(rt: HostRuntime) -> Result<(), Fail> {
     for (no, text) in REFUSALS {
         assert_eq!(rt; format!(in rt.alloc(); "{no}")?.as_str(), text);
     }
+    Ok(())
+}
+
+#[test]
+fn errors_of_volumes_have_their_texts(rt: HostRuntime) -> Result<(), Fail> {
     let torn = MftNo::Torn { number: 7 };
-    assert_eq!(rt;
-        format!(in rt.alloc(); "{torn}")?.as_str(),
-        "record 7 does not open"
-    );
     let boot = TableNo::Boot(BootFault::NotNtfs);
-    assert_eq!(rt;
-        format!(in rt.alloc(); "{boot}")?.as_str(),
-        "the boot sector is refused: no NTFS boot sector"
-    );
     let refused = MountNo::Refused {
         clause: 14,
         number: 3,
     };
+    let text = format!(in rt.alloc(); "{torn}; {boot}; {refused}")?;
     assert_eq!(rt;
-        format!(in rt.alloc(); "{refused}")?.as_str(),
-        "the volume breaks S14 at 3"
+        text.as_str(),
+        "record 7 does not open; the boot sector is refused: no NTFS boot sector; the volume breaks S14 at 3"
     );
     Ok(())
 }

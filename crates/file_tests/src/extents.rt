@@ -98,10 +98,11 @@ fn extents_of_a_record(rt: HostRuntime) -> Result<(), Fail> {
     for (at, byte, bad, other) in rows {
         let block = changed(at, byte);
         let view = RecordView::new(&block)?;
-        let whole = has_whole_extents(rt.alloc(), 8, 4096, &view)?;
-        assert_eq!(rt; whole, bad, "{byte} at {at} of 8");
-        let whole = has_whole_extents(rt.alloc(), 30, 4096, &view)?;
-        assert_eq!(rt; whole, other, "{byte} at {at} of 30");
+        let whole = [
+            has_whole_extents(rt.alloc(), 8, 4096, &view)?,
+            has_whole_extents(rt.alloc(), 30, 4096, &view)?,
+        ];
+        assert_eq!(rt; whole, [bad, other], "{byte} at {at}");
     }
     Ok(())
 }
@@ -115,9 +116,9 @@ fn files_in_one_record(rt: HostRuntime) -> Result<(), Fail> {
     assert_eq!(rt; files.first_wrong_file(None), None);
     files.note(rt.alloc(), 30, &RecordView::new(&broken)?)?;
     files.note(rt.alloc(), 31, &RecordView::new(&broken)?)?;
-    assert_eq!(rt; files.first_wrong_file(None), Some(30));
-    assert_eq!(rt; files.first_wrong_file(Some(29)), Some(29));
-    assert_eq!(rt; files.first_wrong_file(Some(31)), Some(30));
+    for (other, wrong) in [(None, 30), (Some(29), 29), (Some(31), 30)] {
+        assert_eq!(rt; files.first_wrong_file(other), Some(wrong));
+    }
     Ok(())
 }
 
@@ -147,7 +148,6 @@ fn thousands_of_extents(rt: HostRuntime) -> Result<(), Fail> {
         extents.push(one_cluster(b"", first))?;
         extents.push(one_cluster(b"a\0", first))?;
     }
-    assert!(rt; are_whole(30, 4096, &mut extents));
     assert!(rt; are_whole(30, 4096, &mut extents));
     // one of them twice
     extents.push(one_cluster(b"a\0", 7))?;

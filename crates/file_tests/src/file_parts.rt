@@ -202,11 +202,8 @@ fn parts_of(alloc: Global, image: Vec<u8>, number: u64) -> Result<Vec<(u32, u16)
 fn one_record(rt: HostRuntime) -> Result<(), test::Fail> {
     let mut disk = MemDisk::new(rt.alloc(), volume(rt.alloc())?);
     let file = load(rt.alloc(), &mut disk, 0)??;
-    assert_eq!(rt; file.number(), 0);
-    assert_eq!(rt;
-        told(rt.alloc(), &file)?.as_slice(),
-        [(0x10, 0), (0x80, 1)].as_slice()
-    );
+    let parts = told(rt.alloc(), &file)?;
+    assert!(rt; file.number() == 0 && parts.as_slice() == [(0x10, 0), (0x80, 1)].as_slice());
     Ok(())
 }
 
@@ -345,10 +342,11 @@ fn list_in_clusters(rt: HostRuntime) -> Result<(), test::Fail> {
     lay_many(rt.alloc(), &mut image)?;
     let parts = parts_of(rt.alloc(), image, 28)?;
     assert_eq!(rt; parts.len(), 308);
-    assert_eq!(rt; parts[0], (0x10, 0));
-    assert_eq!(rt; parts[1], (0x20, 1));
-    for i in 2..308 {
-        assert_eq!(rt; parts[i], (0x30, ((i - 2) % 9) as u16), "at {i}");
+    assert!(rt; parts.starts_with(&[(0x10, 0), (0x20, 1)]));
+    // nine names in each record
+    for names in parts.get(2..).unwrap_or(&[]).chunks(9) {
+        let ids = [0, 1, 2, 3, 4, 5, 6, 7, 8].map(|id| (0x30, id));
+        assert_eq!(rt; names, ids.as_slice());
     }
     Ok(())
 }

@@ -31,12 +31,15 @@ fn the_first_part_tells(rt: HostRuntime) -> Result<(), Fail> {
     for (vcn, expected) in rows {
         assert_eq!(rt; streams.cluster_bits.spot(vcn), expected, "{vcn}");
     }
-    assert!(rt; !streams.cluster_bits.placement.placed);
-    assert!(rt; streams.cluster_bits.placement.in_clusters);
-    assert_eq!(rt; streams.cluster_bits.placement.covered, 400_010_000);
+    let placement = &streams.cluster_bits.placement;
+    let told = (placement.placed, placement.in_clusters, placement.covered);
+    assert_eq!(rt; told, (false, true, 400_010_000));
+    let plain = [
+        streams.cluster_bits.is_plain(),
+        streams.record_bits.is_plain(),
+    ];
+    assert_eq!(rt; plain, [true, false]);
     assert_eq!(rt; streams.case_table.spot(0), Spot::Outside);
-    assert!(rt; streams.cluster_bits.is_plain());
-    assert!(rt; !streams.record_bits.is_plain());
     Ok(())
 }
 

@@ -244,21 +244,17 @@ fn reads_values(rt: HostRuntime) -> Result<(), test::Fail> {
             (REAL - 300, 300),
         ] {
             let mut bytes = vec![in rt.alloc(); 0xEE; len]?;
-            assert_eq!(rt;
-                read(rt.alloc(), &mut disk, number, i, at, &mut bytes)?,
-                Ok(()),
-                "{number} {at}"
-            );
-            assert_eq!(rt;
-                first_wrong(at, written, &bytes),
-                None,
+            let done = read(rt.alloc(), &mut disk, number, i, at, &mut bytes)?;
+            assert!(rt;
+                done == Ok(()) && first_wrong(at, written, &bytes).is_none(),
                 "{number} {i} {at} {len}"
             );
         }
     }
     let mut value = [0; 10];
-    assert_eq!(rt; read(rt.alloc(), &mut disk, 24, 2, 5, &mut value)?, Ok(()));
-    assert_eq!(rt; value, [105, 106, 107, 108, 109, 110, 111, 112, 113, 114]);
+    let done = read(rt.alloc(), &mut disk, 24, 2, 5, &mut value)?;
+    let wanted = [105, 106, 107, 108, 109, 110, 111, 112, 113, 114];
+    assert!(rt; done == Ok(()) && value == wanted);
     Ok(())
 }
 
@@ -341,36 +337,33 @@ fn other_bytes(alloc: Global, len: usize) -> Result<Vec<u8>, AllocError> {
     Ok(bytes)
 }
 
+// Whether the stream of record 26 reads so from a byte on.
+fn reads_so(alloc: Global, disk: &mut MemDisk, at: u64, wanted: &[u8]) -> Result<bool, test::Fail> {
+    let mut bytes = vec![in alloc; 0xEE; wanted.len()]?;
+    let done = read(alloc, disk, 26, 1, at, &mut bytes)?;
+    Ok(done == Ok(()) && bytes.as_slice() == wanted)
+}
+
+// Whether a sector of it reads as it was laid.
+fn is_as_before(alloc: Global, disk: &mut MemDisk, at: u64) -> Result<bool, test::Fail> {
+    let mut sector = [0xEE; 512];
+    let done = read(alloc, disk, 26, 1, at, &mut sector)?;
+    Ok(done == Ok(()) && first_wrong(at, REAL, &sector).is_none())
+}
+
 // From the last sector of one run over the next one, of 50 clusters, into the third.
 #[test]
 fn writes_over_three_runs(rt: HostRuntime) -> Result<(), test::Fail> {
     let mut disk = MemDisk::new(rt.alloc(), image(rt.alloc())?);
     disk.reserve(500)?;
-    let at = 54 * CLUSTER - 512;
     let bytes = other_bytes(rt.alloc(), 50 * 4096 + 1024)?;
-    assert_eq!(rt; write(rt.alloc(), &mut disk, 26, at, &bytes)?, Ok(()));
-    let mut back = vec![in rt.alloc(); 0xEE; 50 * 4096 + 1024]?;
-    assert_eq!(rt; read(rt.alloc(), &mut disk, 26, 1, at, &mut back)?, Ok(()));
-    assert!(rt; back == bytes);
+    let done = write(rt.alloc(), &mut disk, 26, 54 * CLUSTER - 512, &bytes)?;
+    assert_eq!(rt; done, Ok(()));
+    assert!(rt; reads_so(rt.alloc(), &mut disk, 54 * CLUSTER - 512, &bytes)?);
     // the sectors in front and behind are as they were
-    let mut beside = [0xEE; 512];
-    assert_eq!(rt;
-        read(rt.alloc(), &mut disk, 26, 1, at - 512, &mut beside)?,
-        Ok(())
-    );
-    assert_eq!(rt; first_wrong(at - 512, REAL, &beside), None);
-    assert_eq!(rt;
-        read(
-            rt.alloc(),
-            &mut disk,
-            26,
-            1,
-            104 * CLUSTER + 512,
-            &mut beside
-        )?,
-        Ok(())
-    );
-    assert_eq!(rt; first_wrong(104 * CLUSTER + 512, REAL, &beside), None);
+    for at in [54 * CLUSTER - 1024, 104 * CLUSTER + 512] {
+        assert!(rt; is_as_before(rt.alloc(), &mut disk, at)?, "{at}");
+    }
     Ok(())
 }
 
@@ -379,18 +372,11 @@ fn writes_over_three_runs(rt: HostRuntime) -> Result<(), test::Fail> {
 fn leaves_a_hole(rt: HostRuntime) -> Result<(), test::Fail> {
     let mut disk = MemDisk::new(rt.alloc(), image(rt.alloc())?);
     disk.reserve(500)?;
-    let at = 2 * CLUSTER - 512;
     let mut bytes = other_bytes(rt.alloc(), 1024)?;
-    assert_eq!(rt; write(rt.alloc(), &mut disk, 26, at, &bytes)?, Ok(()));
-    let mut back = vec![in rt.alloc(); 0xEE; 512]?;
-    assert_eq!(rt; read(rt.alloc(), &mut disk, 26, 1, at, &mut back)?, Ok(()));
+    let done = write(rt.alloc(), &mut disk, 26, 2 * CLUSTER - 512, &bytes)?;
     bytes.truncate(512);
-    assert!(rt; back == bytes);
-    let mut hole = [0xEE; 512];
-    assert_eq!(rt;
-        read(rt.alloc(), &mut disk, 26, 1, 2 * CLUSTER, &mut hole)?,
-        Ok(())
-    );
-    assert_eq!(rt; first_wrong(2 * CLUSTER, REAL, &hole), None);
+    assert_eq!(rt; done, Ok(()));
+    assert!(rt; reads_so(rt.alloc(), &mut disk, 2 * CLUSTER - 512, &bytes)?);
+    assert!(rt; is_as_before(rt.alloc(), &mut disk, 2 * CLUSTER)?);
     Ok(())
 }

@@ -125,7 +125,7 @@ machine_behind before session command at = after before.machine session command 
 -- each name; and two for each cluster that is given back, or taken
 abbrev pub most_set : State → Command → ℕ → ℕ
 most_set before command f =
-    first_cost before.view + 12 + 12 * length (names_of (records_of before.view) f) + bytes_in command / 512
+    first_cost before.view + 24 + 12 * length (names_of (records_of before.view) f) + bytes_in command / 512
 
 abbrev pub most_written : State → Command → ℕ → VolumeView → ℕ
 most_written before command f new = most_set before command f + 2 * given_back before.view new + 2 * given_back new before.view

@@ -114,5 +114,5 @@ pub record SetsInPlace (before next : State) (command : Command) (at : Located) 
   -- the disk is as long, and few sectors were written: those of the mark, that the bytes touch, of records with their copies, and a node's
   -- of each name
   pub long : length next.image ≡ length before.image
-  pub wrote : next.written ≤ before.written + first_cost before.view + 12 + 12 * links_of before.machine.tree at.file
+  pub wrote : next.written ≤ before.written + first_cost before.view + 24 + 12 * links_of before.machine.tree at.file
       + bytes_in command / 512

@@ -4,6 +4,7 @@ use Rattle.std.specs.Option.{option_and_then, option_map_or}
 use Rattle.std.specs.declared.cmp.Ordering.{Ordering}
 use Rattle.ntfs_def.specs.IndexTree.{Nodes, Spread, Tree, most_depth, spread_items}
 use Rattle.ntfs_def.specs.Node.{Node}
+use Rattle.ntfs_def.specs.declared.index.NodeForm.TheVariants.{Names}
 use Rattle.volume_def.specs.IndexesClause.{IndexParts}
 use Rattle.volume_def.specs.View.{VolumeView}
 use Rattle.index_tree.specs.Edit.{IsSortedIndex, KeepsKeyed, short_nodes}

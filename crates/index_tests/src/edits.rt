@@ -178,10 +178,7 @@ fn many_ids(rt: HostRuntime) -> Result<(), Fail> {
     for i in 0..COUNT {
         let id = scrambled(i);
         let one = id_root(id, len_of(id), 0);
-        assert_eq!(rt;
-            put(alloc, &index, NodeForm::View, &mut slots, &mut root, &one),
-            Ok(())
-        );
+        put(alloc, &index, NodeForm::View, &mut slots, &mut root, &one)?;
         if i % 1000 == 999 {
             let found = walked(alloc, &index, &mut slots, &root, 0x10)?;
             assert!(rt; found == sorted_ids(alloc, 0, i + 1)?, "at {i}");
@@ -190,8 +187,7 @@ fn many_ids(rt: HostRuntime) -> Result<(), Fail> {
     assert!(rt; root.len() <= 300);
     for i in 0..COUNT {
         let id = scrambled(i);
-        let done = take_out(alloc, &index, &mut slots, &mut root, &id.to_le_bytes());
-        assert_eq!(rt; done, Ok(()));
+        take_out(alloc, &index, &mut slots, &mut root, &id.to_le_bytes())?;
         if i % 1000 == 999 {
             let found = walked(alloc, &index, &mut slots, &root, 0x10)?;
             assert!(rt; found == sorted_ids(alloc, i + 1, COUNT)?, "at {i}");
@@ -211,19 +207,13 @@ fn many_replaced(rt: HostRuntime) -> Result<(), Fail> {
     for i in 0..1000 {
         let id = scrambled(i);
         let one = id_root(id, 32, 0);
-        assert_eq!(rt;
-            put(alloc, &index, NodeForm::View, &mut slots, &mut root, &one),
-            Ok(())
-        );
+        put(alloc, &index, NodeForm::View, &mut slots, &mut root, &one)?;
     }
     let before = (slots.count(), root.len());
     let written = slots.written;
     for i in 0..1000 {
         let one = id_root(scrambled(i), 32, 0x5A);
-        assert_eq!(rt;
-            put_again(&index, NodeForm::View, &mut slots, &mut root, &one),
-            Ok(())
-        );
+        put_again(&index, NodeForm::View, &mut slots, &mut root, &one)?;
     }
     assert!(rt; slots.written <= written.saturating_add(1000));
     assert_eq!(rt; (slots.count(), root.len()), before);
@@ -268,25 +258,19 @@ fn edited(alloc: Global, slots: &mut Slots) -> Result<(), IndexNo> {
 fn each_call_fails(rt: HostRuntime) -> Result<(), Fail> {
     let alloc = rt.alloc();
     let mut whole = Slots::new(alloc, u64::MAX, u64::MAX);
-    assert_eq!(rt; edited(alloc, &mut whole), Ok(()));
+    edited(alloc, &mut whole)?;
     assert!(rt; whole.reads > 0 && whole.written > 0 && whole.taken > 0 && whole.given > 0);
     for fails_at in 0..whole.calls {
         let mut slots = Slots::new(alloc, fails_at, u64::MAX);
-        assert_eq!(rt;
-            edited(alloc, &mut slots),
-            Err(IndexNo::Device),
-            "at {fails_at}"
-        );
-        assert_eq!(rt; (slots.faults, slots.full), (1, 0), "at {fails_at}");
+        let failed = edited(alloc, &mut slots);
+        let told = (failed, slots.faults, slots.full);
+        assert!(rt; told == (Err(IndexNo::Device), 1, 0), "at {fails_at}");
     }
     for most in 0..whole.taken {
         let mut slots = Slots::new(alloc, u64::MAX, most);
-        assert_eq!(rt;
-            edited(alloc, &mut slots),
-            Err(IndexNo::NoRoom),
-            "at {most}"
-        );
-        assert_eq!(rt; (slots.faults, slots.full), (0, 1), "at {most}");
+        let failed = edited(alloc, &mut slots);
+        let told = (failed, slots.faults, slots.full);
+        assert!(rt; told == (Err(IndexNo::NoRoom), 0, 1), "at {most}");
     }
     Ok(())
 }
@@ -303,20 +287,15 @@ fn empty_leaves(rt: HostRuntime) -> Result<(), Fail> {
         .push(Some(record(alloc, &[(Some(50), None), (None, None)])?))?;
     let mut root = root(alloc, &[(Some(40), Some(0)), (None, Some(1))])?;
     let one = id_root(10, 24, 0);
-    assert_eq!(rt;
-        put(alloc, &index, NodeForm::View, &mut slots, &mut root, &one),
-        Ok(())
-    );
+    put(alloc, &index, NodeForm::View, &mut slots, &mut root, &one)?;
     let rows: [(u32, &[u32], usize); 3] = [(40, &[10, 50], 2), (50, &[10], 1), (10, &[], 1)];
     for (id, left, records) in rows {
-        let done = take_out(alloc, &index, &mut slots, &mut root, &id.to_le_bytes());
-        assert_eq!(rt; done, Ok(()), "at {id}");
-        assert_eq!(rt;
-            walked(alloc, &index, &mut slots, &root, 0x10)?.as_slice(),
-            left,
+        take_out(alloc, &index, &mut slots, &mut root, &id.to_le_bytes())?;
+        let found = walked(alloc, &index, &mut slots, &root, 0x10)?;
+        assert!(rt;
+            found.as_slice() == left && slots.count() == records,
             "at {id}"
         );
-        assert_eq!(rt; slots.count(), records, "at {id}");
     }
     Ok(())
 }

@@ -1,6 +1,6 @@
 //! Nodes whose bytes were written by hand.
 
-use index_node::{NodeForm, NodeMut, NodeNo};
+use index_node::{NodeForm, NodeMut};
 use std::test::Fail;
 
 // A leaf with one entry, whose entries begin at 0x24, which is no multiple of 8, with room for 24 bytes more.
@@ -40,15 +40,6 @@ fn room_filled(rt: HostRuntime) -> Result<(), Fail> {
     Ok(())
 }
 
-#[test]
-fn room_lacking(rt: HostRuntime) -> Result<(), Fail> {
-    let mut node = FILLED;
-    let mut edited = NodeMut::new(&mut node, NodeForm::Names)?;
-    let full = edited.insert_at(0, &ENTRY).err();
-    assert_eq!(rt; full, Some(NodeNo::Full { need: 24, free: 0 }));
-    Ok(())
-}
-
 // A leaf with three entries, and one without, which has room for two more.
 #[rattlefmt::skip]
 const THREE: [u8; 120] = [
@@ -82,18 +73,5 @@ fn split_inside(rt: HostRuntime) -> Result<(), Fail> {
     assert_eq!(rt; node[0x14], 0x38);
     assert_eq!(rt; &right[0x20..0x48], &THREE[0x50..0x78]);
     assert_eq!(rt; right[0x14], 0x38);
-    Ok(())
-}
-
-#[test]
-fn split_at_first(rt: HostRuntime) -> Result<(), Fail> {
-    let mut node = THREE;
-    let mut right = EMPTY;
-    let mut edited = NodeMut::new(&mut node, NodeForm::Names)?;
-    edited.split_into(&mut right, 0);
-    assert_eq!(rt; &node[0x20..0x30], &THREE[0x68..0x78]);
-    assert_eq!(rt; node[0x14], 0x20);
-    assert_eq!(rt; &right[0x20..0x60], &THREE[0x38..0x78]);
-    assert_eq!(rt; right[0x14], 0x50);
     Ok(())
 }

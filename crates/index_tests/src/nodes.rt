@@ -83,9 +83,17 @@ fn failing_places(rt: HostRuntime) {
 
 #[test]
 fn refusal_texts(rt: HostRuntime) -> Result<(), Fail> {
-    let shape = format!(in rt.alloc(); "{}", NodeNo::Shape { at: 0x18 })?;
-    assert_eq!(rt; shape.as_str(), "the node has a wrong shape at byte 24");
-    let full = format!(in rt.alloc(); "{}", NodeNo::Full { need: 40, free: 16 })?;
-    assert_eq!(rt; full.as_str(), "the node has room for 16 bytes of 40");
+    for (no, text) in [
+        (
+            NodeNo::Shape { at: 0x18 },
+            "the node has a wrong shape at byte 24",
+        ),
+        (
+            NodeNo::Full { need: 40, free: 16 },
+            "the node has room for 16 bytes of 40",
+        ),
+    ] {
+        assert_eq!(rt; format!(in rt.alloc(); "{no}")?.as_str(), text);
+    }
     Ok(())
 }

@@ -317,34 +317,47 @@ pub fn root(alloc: Global, entries: &[(Option<u32>, Option<u64>)]) -> Result<Vec
     Ok(bytes)
 }
 
-#[test]
-fn ids_of_three_levels(rt: HostRuntime) -> Result<(), Fail> {
-    let alloc = rt.alloc();
+// Six records of an index of three levels, of the ids 10 to 60 and 61 to 100.
+fn levels(alloc: Global) -> Result<[[u8; 4096]; 6], Fail> {
     let mut leaf = Vec::new(alloc);
     for id in 61..101 {
         leaf.push((Some(id), None))?;
     }
     leaf.push((None, None))?;
-    let blocks = [
+    Ok([
         record(alloc, &[(Some(20), Some(1)), (None, Some(2))])?,
         record(alloc, &[(Some(10), None), (None, None)])?,
         record(alloc, &[(Some(30), None), (None, None)])?,
         record(alloc, &[(Some(60), Some(4)), (None, Some(5))])?,
         record(alloc, &[(Some(50), None), (None, None)])?,
         record(alloc, &leaf)?,
-    ];
-    let root = root(alloc, &[(Some(40), Some(0)), (None, Some(3))])?;
-    let index = Index::new(IdOrder, NodeForm::View, 0);
+    ])
+}
 
+// The root above them.
+fn top(alloc: Global) -> Result<Vec<u8>, Fail> {
+    root(alloc, &[(Some(40), Some(0)), (None, Some(3))])
+}
+
+#[test]
+fn ids_of_three_levels(rt: HostRuntime) -> Result<(), Fail> {
+    let blocks = levels(rt.alloc())?;
+    let index = Index::new(IdOrder, NodeForm::View, 0);
     let mut listed = over(&blocks, u64::MAX);
-    let entries = index.walk(alloc, &mut listed, &root)?;
-    assert_eq!(rt; listed.reads, 6);
-    assert_eq!(rt; entries.len(), 46);
+    let entries = index.walk(rt.alloc(), &mut listed, &top(rt.alloc())?)?;
+    assert_eq!(rt; (listed.reads, entries.len()), (6, 46));
     let ids = [10, 20, 30, 40, 50, 60, 61, 62];
     for (entry, id) in entries.iter().zip(&ids) {
         assert_eq!(rt; entry.as_slice().get(16), Some(id));
     }
+    Ok(())
+}
 
+#[test]
+fn ids_are_found_on_their_way(rt: HostRuntime) -> Result<(), Fail> {
+    let blocks = levels(rt.alloc())?;
+    let root = top(rt.alloc())?;
+    let index = Index::new(IdOrder, NodeForm::View, 0);
     for (id, there) in [
         (10u32, true),
         (40, true),
@@ -355,23 +368,31 @@ fn ids_of_three_levels(rt: HostRuntime) -> Result<(), Fail> {
         (101, false),
     ] {
         let mut listed = over(&blocks, u64::MAX);
-        let answer = found(alloc, &index, &mut listed, &root, &id.to_le_bytes())?;
-        assert_eq!(rt; answer.is_some(), there, "at {id}");
-        assert!(rt; listed.reads <= 2, "at {id}");
+        let answer = found(rt.alloc(), &index, &mut listed, &root, &id.to_le_bytes())?;
+        assert!(rt; answer.is_some() == there && listed.reads <= 2, "at {id}");
     }
+    Ok(())
+}
 
+#[test]
+fn each_read_fails(rt: HostRuntime) -> Result<(), Fail> {
+    let blocks = levels(rt.alloc())?;
+    let root = top(rt.alloc())?;
+    let index = Index::new(IdOrder, NodeForm::View, 0);
     for read in 0..6 {
-        let mut listed = over(&blocks, read);
-        assert_eq!(rt;
-            index.walk(alloc, &mut listed, &root).err(),
-            Some(IndexNo::Device)
-        );
+        let failed = index
+            .walk(rt.alloc(), &mut over(&blocks, read), &root)
+            .err();
+        assert_eq!(rt; failed, Some(IndexNo::Device));
     }
-    let mut listed = over(&blocks, 1);
-    assert_eq!(rt;
-        found(alloc, &index, &mut listed, &root, &[5, 0, 0, 0]),
-        Err(IndexNo::Device)
+    let failed = found(
+        rt.alloc(),
+        &index,
+        &mut over(&blocks, 1),
+        &root,
+        &[5, 0, 0, 0],
     );
+    assert_eq!(rt; failed, Err(IndexNo::Device));
     Ok(())
 }
 

@@ -2,6 +2,7 @@
 //! hand. They stand in a library, so that several crates of tests share them; it hands on the calls of `shell` that these make.
 #![tactic(auto)]
 
+pub mod cases;
 pub mod damage;
 pub mod given;
 pub mod laid;

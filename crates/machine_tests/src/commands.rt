@@ -2,11 +2,8 @@
 use cmd_lang::{LineFault, parse_line, print_reply};
 use std::alloc::{AllocError, Global};
 use std::test::Fail;
-use tree_model::{
-    Answer, Command, Listed, Listing, No, Path, Reply, ShownLink, ShownLinks, ShownStream,
-    ShownStreams,
-};
-use vol_bytes::{Name, Octets};
+use tree_model::{Answer, Command, No, Path, Reply, ShownLink, ShownLinks};
+use vol_bytes::Octets;
 use vol_disk::{Failed, MemSink};
 
 // Each command once: a line, its session and its command.
@@ -206,112 +203,85 @@ const REFUSED: [&str; 36] = [
     "open /f - r",
 ];
 
+// Whether a line is read as this command of this session.
+fn means(alloc: Global, line: &str, session: u8, command: &str) -> Result<bool, AllocError> {
+    let Ok((of, said)) = parse_line(alloc, line.as_bytes()) else {
+        return Ok(false);
+    };
+    let shown = format!(in alloc; "{said:?}")?;
+    Ok(of == session && shown.as_str() == command)
+}
+
 #[test]
 fn lines_mean_commands(rt: HostRuntime) -> Result<(), AllocError> {
-    for (line, session, want) in LINES {
-        match parse_line(rt.alloc(), line.as_bytes()) {
-            Ok((of, command)) => {
-                assert_eq!(rt; of, session, "{line}");
-                let shown = format!(in rt.alloc(); "{command:?}")?;
-                assert_eq!(rt; shown.as_str(), want, "{line}");
-            }
-            Err(fault) => assert!(rt; false, "{line}: {fault}"),
-        }
+    for (line, session, command) in LINES {
+        assert!(rt; means(rt.alloc(), line, session, command)?, "{line}");
     }
     Ok(())
 }
 
-fn fault_of(alloc: Global, line: &[u8]) -> Option<LineFault> {
-    parse_line(alloc, line).err()
+// How many names or bytes a line has, or why it is refused.
+fn size_of(alloc: Global, line: &[u8]) -> Result<usize, LineFault> {
+    match parse_line(alloc, line)?.1 {
+        Command::Ls { path } => Ok(path.into_vec().len()),
+        Command::Write { bytes, .. } => Ok(bytes.as_slice().len()),
+        _ => Ok(0),
+    }
 }
 
 #[test]
-fn other_lines_are_refused(rt: HostRuntime) -> Result<(), AllocError> {
+fn other_lines_are_refused(rt: HostRuntime) {
     for line in REFUSED {
-        assert_eq!(rt;
-            fault_of(rt.alloc(), line.as_bytes()),
-            Some(LineFault::Syntax),
-            "{line}"
-        );
+        let size = size_of(rt.alloc(), line.as_bytes());
+        assert_eq!(rt; size, Err(LineFault::Syntax), "{line}");
     }
-    assert_eq!(rt; fault_of(rt.alloc(), b"ls /\xFF"), Some(LineFault::Syntax));
-    let line = vec![in rt.alloc(); b'a'; 70_001]?;
-    assert_eq!(rt; fault_of(rt.alloc(), &line), Some(LineFault::Long));
-    assert_eq!(rt; fault_of(rt.alloc(), &line[1..]), Some(LineFault::Syntax));
-    Ok(())
+}
+
+// Long lines: how one begins, what follows how often, and its size.
+const LONG: [(&[u8], &[u8], usize, Result<usize, LineFault>); 6] = [
+    (b"write /f 0 ", b"4", 65_536, Ok(32_768)),
+    (b"ls ", b"/a", 1000, Ok(1000)),
+    // the longest, of 70,000 bytes
+    (b"write /ff 0 ", b"4", 69_988, Ok(34_994)),
+    (b"", b"a", 70_000, Err(LineFault::Syntax)),
+    (b"", b"a", 70_001, Err(LineFault::Long)),
+    // a byte that is in no text
+    (b"ls /", b"\xFF", 1, Err(LineFault::Syntax)),
+];
+
+fn long_line(
+    alloc: Global,
+    begin: &[u8],
+    piece: &[u8],
+    count: usize,
+) -> Result<Vec<u8>, AllocError> {
+    let mut line = Vec::from_slice(alloc, begin)?;
+    for _piece in 0..count {
+        line.extend_from_slice(piece)?;
+    }
+    Ok(line)
 }
 
 #[test]
 fn long_lines_are_read(rt: HostRuntime) -> Result<(), AllocError> {
-    let mut line = Vec::from_slice(rt.alloc(), b"write /f 0 ")?;
-    line.resize(line.len() + 65_536, b'4')?;
-    match parse_line(rt.alloc(), &line) {
-        Ok((0, Command::Write { bytes, .. })) => {
-            assert_eq!(rt; bytes.as_slice().len(), 32_768);
-            assert!(rt; bytes.as_slice().iter().all(|byte| *byte == 0x44));
-        }
-        _ => assert!(rt; false, "no write"),
+    for (begin, piece, count, size) in LONG {
+        let line = long_line(rt.alloc(), begin, piece, count)?;
+        assert_eq!(rt; size_of(rt.alloc(), &line), size, "{count}");
     }
     Ok(())
 }
 
-#[test]
-fn a_long_path_is_read(rt: HostRuntime) -> Result<(), AllocError> {
-    let mut line = Vec::from_slice(rt.alloc(), b"ls ")?;
-    for _name in 0..1000 {
-        line.extend_from_slice(b"/a")?;
-    }
-    match parse_line(rt.alloc(), &line) {
-        Ok((0, Command::Ls { path })) => assert_eq!(rt; path.as_slice().len(), 1000),
-        _ => assert!(rt; false, "no ls"),
-    }
-    Ok(())
+/// A reply as it is printed.
+pub fn printed(alloc: Global, reply: &Reply) -> Result<Vec<u8>, Fail> {
+    let mut out = MemSink::new(alloc, Vec::new(alloc));
+    out.reserve(30_000)?;
+    print_reply(reply, &mut out)?;
+    Ok(out.bytes().to_vec(alloc)?)
 }
 
-// The longest line: 12 bytes in front of 69,988 digits.
-#[test]
-fn the_longest_line_is_read(rt: HostRuntime) -> Result<(), AllocError> {
-    let mut line = Vec::from_slice(rt.alloc(), b"write /ff 0 ")?;
-    line.resize(70_000, b'4')?;
-    match parse_line(rt.alloc(), &line) {
-        Ok((0, Command::Write { bytes, .. })) => {
-            assert_eq!(rt; bytes.as_slice().len(), 34_994);
-        }
-        _ => assert!(rt; false, "no write"),
-    }
-    Ok(())
-}
-
-fn name(alloc: Global, units: &[u16]) -> Result<Name, AllocError> {
-    Ok(Name::from_vec(Vec::from_slice(alloc, units)?))
-}
-
-fn octets(alloc: Global, bytes: &[u8]) -> Result<Octets, AllocError> {
-    Ok(Octets::from_vec(Vec::from_slice(alloc, bytes)?))
-}
-
-fn listing(alloc: Global) -> Result<Answer, AllocError> {
+// The line of a link of the root, as `links` has none.
+fn link_of_root(alloc: Global) -> Result<Answer, Fail> {
     let mut lines = Vec::new(alloc);
-    lines.push(Listed {
-        dir: true,
-        name: name(alloc, &[0x64])?,
-    })?;
-    lines.push(Listed {
-        dir: false,
-        name: name(alloc, &[0x61, 0x20, 0xE9, 0xD83D, 0xDE00, 0xD83D])?,
-    })?;
-    Ok(Answer::List(Listing::from_vec(lines)))
-}
-
-fn links(alloc: Global) -> Result<Answer, AllocError> {
-    let mut names = Vec::new(alloc);
-    names.push(name(alloc, &[0x64])?)?;
-    names.push(name(alloc, &[0x66])?)?;
-    let mut lines = Vec::new(alloc);
-    lines.push(ShownLink {
-        space: 2,
-        path: Path::from_vec(names),
-    })?;
     lines.push(ShownLink {
         space: 0,
         path: Path::from_vec(Vec::new(alloc)),
@@ -319,107 +289,23 @@ fn links(alloc: Global) -> Result<Answer, AllocError> {
     Ok(Answer::Links(ShownLinks::from_vec(lines)))
 }
 
-fn streams(alloc: Global) -> Result<Answer, AllocError> {
-    let mut lines = Vec::new(alloc);
-    lines.push(ShownStream {
-        packed: true,
-        size: 0,
-        name: name(alloc, &[])?,
-    })?;
-    lines.push(ShownStream {
-        packed: false,
-        size: 2,
-        name: name(alloc, &[0x73])?,
-    })?;
-    Ok(Answer::Streams(ShownStreams::from_vec(lines)))
-}
-
-fn sink(alloc: Global, room: usize) -> Result<MemSink, Fail> {
-    let mut sink = MemSink::new(alloc, Vec::new(alloc));
-    sink.reserve(room)?;
-    Ok(sink)
-}
-
-// Whether an answer is printed so.
-fn prints(alloc: Global, answer: Answer, text: &str) -> Result<bool, Fail> {
-    let mut out = sink(alloc, 1000)?;
-    let printed = print_reply(&Reply::Ok(answer), &mut out);
-    Ok(printed == Ok(()) && out.bytes() == text.as_bytes())
-}
-
+// Answers that `machine` has not.
 #[test]
-fn numbers_are_printed(rt: HostRuntime) -> Result<(), Fail> {
-    let alloc = rt.alloc();
-    assert!(rt; prints(alloc, Answer::Done, "ok\n")?);
-    assert!(rt; prints(alloc, Answer::Attr(1), "attr 0001\nok\n")?);
-    assert!(rt; prints(alloc, Answer::Sec(256), "sec 256\nok\n")?);
-    assert!(rt; prints(alloc, Answer::Handle(63), "handle 63\nok\n")?);
+fn answers_are_printed(rt: HostRuntime) -> Result<(), Fail> {
+    let bytes = Octets::from_vec(Vec::from_slice(rt.alloc(), &[1, 0, 0x80])?);
+    let text = printed(rt.alloc(), &Reply::Ok(Answer::Sd(bytes)))?;
+    assert!(rt; text.as_slice() == b"sd 010080\nok\n".as_slice());
+    let text = printed(rt.alloc(), &Reply::Ok(Answer::Handle(63)))?;
+    assert!(rt; text.as_slice() == b"handle 63\nok\n".as_slice());
+    let text = printed(rt.alloc(), &Reply::Ok(Answer::Done))?;
+    assert!(rt; text.as_slice() == b"ok\n".as_slice());
+    let text = printed(rt.alloc(), &Reply::Ok(link_of_root(rt.alloc())?))?;
+    assert!(rt; text.as_slice() == b"link 0 /\nok\n".as_slice());
     Ok(())
 }
 
-#[test]
-fn rows_of_numbers_are_printed(rt: HostRuntime) -> Result<(), Fail> {
-    let stat = Answer::Stat {
-        dir: false,
-        links: 1,
-        size: 5,
-        flags: 0x20,
-        security: 256,
-        created: 1000,
-        modified: 1001,
-        changed: 1002,
-        accessed: 18_446_744_073_709_551_615,
-    };
-    let room = Answer::Df {
-        clusters: 2048,
-        free: 1913,
-        records: 64,
-        free_records: 35,
-    };
-    assert!(rt;
-        prints(
-            rt.alloc(),
-            stat,
-            "stat file 1 5 0020 256 1000 1001 1002 18446744073709551615\nok\n"
-        )?
-    );
-    assert!(rt; prints(rt.alloc(), room, "df 2048 1913 64 35\nok\n")?);
-    Ok(())
-}
-
-#[test]
-fn bytes_are_printed(rt: HostRuntime) -> Result<(), Fail> {
-    let alloc = rt.alloc();
-    let data = Answer::Data(octets(alloc, b"hello")?);
-    assert!(rt; prints(alloc, data, "data 68656c6c6f\nok\n")?);
-    let sd = Answer::Sd(octets(alloc, &[1, 0, 0x80])?);
-    assert!(rt; prints(alloc, sd, "sd 010080\nok\n")?);
-    let id = Answer::ObjectId(octets(alloc, b"")?);
-    assert!(rt; prints(alloc, id, "objid -\nok\n")?);
-    Ok(())
-}
-
-#[test]
-fn points_are_printed(rt: HostRuntime) -> Result<(), Fail> {
-    let point = Answer::Reparse {
-        tag: 0xA000_000C,
-        bytes: octets(rt.alloc(), &[1, 2])?,
-    };
-    assert!(rt; prints(rt.alloc(), point, "reparse a000000c 0102\nok\n")?);
-    Ok(())
-}
-
-#[test]
-fn lists_are_printed(rt: HostRuntime) -> Result<(), Fail> {
-    let alloc = rt.alloc();
-    assert!(rt; prints(alloc, listing(alloc)?, "dir d\nfile a%0020é😀%D83D\nok\n")?);
-    assert!(rt; prints(alloc, links(alloc)?, "link 2 /d/f\nlink 0 /\nok\n")?);
-    assert!(rt; prints(alloc, streams(alloc)?, "packed 0\nstream 2 s\nok\n")?);
-    Ok(())
-}
-
-// Each refusal without numbers.
-const REFUSALS: [(No, &str); 25] = [
+// Each refusal.
+const REFUSALS: [(No, &str); 29] = [
     (No::Syntax, "no 1 Syntax\n"),
     (No::Long, "no 2 Long\n"),
     (No::NoHandle, "no 3 NoHandle\n"),
@@ -445,10 +331,6 @@ const REFUSALS: [(No, &str); 25] = [
     (No::Memory, "no 27 Memory\n"),
     (No::Unbuilt, "no 28 Unbuilt\n"),
     (No::Linked, "no 30 Linked\n"),
-];
-
-// Each refusal with numbers.
-const REFUSALS_WITH_NUMBERS: [(No, &str); 4] = [
     (
         No::Shared {
             session: 1,
@@ -467,55 +349,35 @@ const REFUSALS_WITH_NUMBERS: [(No, &str); 4] = [
     (No::NoRoom { need: 10, free: 9 }, "no 26 NoRoom 10 9\n"),
 ];
 
-// Whether a refusal is printed so.
-fn tells(alloc: Global, no: No, text: &str) -> Result<bool, Fail> {
-    let mut out = sink(alloc, 100)?;
-    let printed = print_reply(&Reply::No(no), &mut out);
-    Ok(printed == Ok(()) && out.bytes() == text.as_bytes())
-}
-
 #[test]
 fn refusals_are_printed(rt: HostRuntime) -> Result<(), Fail> {
     for (no, text) in REFUSALS {
-        assert!(rt; tells(rt.alloc(), no, text)?, "{text}");
-    }
-    for (no, text) in REFUSALS_WITH_NUMBERS {
-        assert!(rt; tells(rt.alloc(), no, text)?, "{text}");
+        let shown = printed(rt.alloc(), &Reply::No(no))?;
+        assert!(rt; shown.as_slice() == text.as_bytes(), "{text}");
     }
     Ok(())
 }
 
-#[test]
-fn a_long_answer_is_printed(rt: HostRuntime) -> Result<(), Fail> {
-    let bytes = Octets::from_vec(vec![in rt.alloc(); 0x41; 65_536]?);
-    let mut out = sink(rt.alloc(), 200_000)?;
-    assert_eq!(rt;
-        print_reply(&Reply::Ok(Answer::Data(bytes)), &mut out),
-        Ok(())
-    );
-    assert_eq!(rt; out.bytes().len(), 131_081);
-    assert!(rt; out.bytes().starts_with(b"data 4141"));
-    assert!(rt; out.bytes().ends_with(b"4141\nok\n"));
-    Ok(())
+// The room of a sink that fails at call 66, what comes of the print, and how many bytes the sink has then: 131,081 bytes are handed on in
+// pieces of 2,048, so in 65 calls.
+const PIECES: [(usize, Result<(), Failed>, usize); 2] = [
+    (200_000, Ok(()), 131_081),
+    (4, Err(Failed), 4),
+];
+
+// Prints 65,536 bytes.
+fn print_many(alloc: Global, out: &mut MemSink) -> Result<Result<(), Failed>, Fail> {
+    let bytes = Octets::from_vec(vec![in alloc; 0x41; 65_536]?);
+    Ok(print_reply(&Reply::Ok(Answer::Data(bytes)), out))
 }
 
-// 131,081 bytes are handed on in pieces of 2,048, so in 65 calls: a sink that fails at call 66 takes them all.
 #[test]
 fn a_long_answer_has_few_pieces(rt: HostRuntime) -> Result<(), Fail> {
-    let bytes = Octets::from_vec(vec![in rt.alloc(); 0x41; 65_536]?);
-    let mut out = MemSink::new(rt.alloc(), Vec::from_slice(rt.alloc(), &[66])?);
-    out.reserve(200_000)?;
-    assert_eq!(rt;
-        print_reply(&Reply::Ok(Answer::Data(bytes)), &mut out),
-        Ok(())
-    );
-    Ok(())
-}
-
-#[test]
-fn a_sink_that_fails_is_told(rt: HostRuntime) -> Result<(), Fail> {
-    let mut out = sink(rt.alloc(), 4)?;
-    assert_eq!(rt; print_reply(&Reply::No(No::Syntax), &mut out), Err(Failed));
-    assert!(rt; out.bytes() == b"no 1".as_slice());
+    for (room, done, len) in PIECES {
+        let mut out = MemSink::new(rt.alloc(), vec![in rt.alloc(); 66]?);
+        out.reserve(room)?;
+        assert_eq!(rt; print_many(rt.alloc(), &mut out)?, done, "{room}");
+        assert_eq!(rt; out.bytes().len(), len, "{room}");
+    }
     Ok(())
 }

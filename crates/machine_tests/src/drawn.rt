@@ -18,13 +18,14 @@ fn is_line(alloc: Global, x: u64, line: &str) -> bool {
 
 #[test]
 fn numbers_are_drawn(rt: HostRuntime) {
-    assert_eq!(rt; next_draw(0), 1_442_695_040_888_963_407);
-    assert_eq!(rt;
-        next_draw(1_442_695_040_888_963_407),
-        1_876_011_003_808_476_466
-    );
-    assert_eq!(rt; next_draw(7), 9_098_160_460_397_411_210);
-    assert_eq!(rt; next_draw(u64::MAX), 13_525_302_890_751_722_018);
+    for (x, next) in [
+        (0, 1_442_695_040_888_963_407),
+        (1_442_695_040_888_963_407, 1_876_011_003_808_476_466),
+        (7, 9_098_160_460_397_411_210),
+        (u64::MAX, 13_525_302_890_751_722_018),
+    ] {
+        assert_eq!(rt; next_draw(x), next, "{x}");
+    }
 }
 
 #[test]

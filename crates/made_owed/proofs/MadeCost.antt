@@ -119,7 +119,7 @@ module _ (directory : Bool) (before next : State) (dir : ℕ) (units : List ℕ)
       (subst (λ t. links_of t dir ≤ depths before.view t (c.Create path) at made) s.stands.reading
       (making-depth before.view s.stands.sound path dir units made)) in
       let cost = cost-least before.view next.view tree next.machine.tree command at made in
-      let set : next.written ≤ before.written + made_sectors + first_cost mid + 12 + 12 * links_of (read mid) dir + 0 = s.behind.wrote in
+      let set : next.written ≤ before.written + made_sectors + first_cost mid + 24 + 12 * links_of (read mid) dir + 0 = s.behind.wrote in
       let first = records.first_cost-same directory before next dir units made mid staged s in
       let links = trees.links-same tree dir made units (base.other directory before next dir units made mid staged s) (read mid) _
       (base.reads directory before next dir units made mid staged s) in

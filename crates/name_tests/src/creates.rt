@@ -1,16 +1,16 @@
 //! `create`: empty files that come under new names, where the record of their directory's index to which the name belongs has room for it, or
 //! the root of an index without records.
+use laid_volumes::cases::Place::{Entry, Image, Record};
+use laid_volumes::cases::{Stand, edited, edited_by, failing_write, leaves};
 use laid_volumes::damage::{RECORD_BITS, byte, is_marked, number, put, record, stands};
 use laid_volumes::laid::{
-    LaidName, ROOT_RECORD, begin_file, end_file, key_in_root, lay_in_root, lay_index, lay_name,
-    lay_standard,
+    LaidName, ROOT_RECORD, begin_file, end_file, lay_in_root, lay_index, lay_name, lay_standard,
 };
 use laid_volumes::laid_streams::{LARGE, ONE, volume_with};
 use laid_volumes::made::{made_on, volume};
-use laid_volumes::scripts::{Row, add_long, is_sound, run_rows, told, writable, wrong_row};
+use laid_volumes::scripts::{Row, add_long, is_sound, wrong_row};
 use std::alloc::Global;
 use std::test;
-use vol_disk::{CallKind, Fail, FailDisk};
 
 const SECTORS: u16 = 2048;
 
@@ -68,11 +68,8 @@ const NAMES: [Row; 42] = [
 
 #[test]
 fn files_come_under_new_names(rt: HostRuntime) -> Result<(), test::Fail> {
-    let alloc = rt.alloc();
-    let image = made_on(alloc, 16_384, "format 16384 4096 1 DATA")?;
-    let mut disk = writable(alloc, 16_384, &image)?;
-    assert_eq!(rt; run_rows(alloc, &mut disk, &NAMES)?, (0, None));
-    assert!(rt; is_sound(alloc, 16_384, disk.contents())?);
+    let image = made_on(rt.alloc(), 16_384, "format 16384 4096 1 DATA")?;
+    let _ = edited(rt.alloc(), 16_384, &image, &NAMES)?;
     Ok(())
 }
 
@@ -94,18 +91,12 @@ const REST: [u8; 28] = [
     0, 0, 0, 0, 0, 0, 0, 0, 0, 0, 0, 0, 0, 0, 0, 0, 0x20, 0, 0, 0, 0, 0, 0, 0, 1, 0, b'n', 0,
 ];
 
-fn is_name(image: &[u8], at: usize) -> bool {
-    stands(image, at, &PARENT)
-        && stands(image, at.saturating_add(8), &TIMES)
-        && stands(image, at.saturating_add(40), &REST)
-}
-
 // Types of attributes.
-const STANDARD_INFORMATION: usize = 0x10;
+const STANDARD_INFORMATION: u8 = 0x10;
 
-const FILE_NAME: usize = 0x30;
+const FILE_NAME: u8 = 0x30;
 
-const DATA: usize = 0x80;
+const DATA: u8 = 0x80;
 
 // Where the values of the first two attributes stand.
 const STANDARD: usize = 0x38 + 0x18;
@@ -113,68 +104,69 @@ const STANDARD: usize = 0x38 + 0x18;
 const NAME_VALUE: usize = STANDARD + 96;
 
 // Record 26 is the first that is free. Its attributes have 96, 96 and 24 bytes, and the end behind them 8.
+const NEW_LEFT: [Stand; 19] = [
+    (Image(RECORD_BITS + 3), &[0x07]),
+    (Record(26, 0), b"FILE"),
+    (Record(26, 0x10), &[1, 0, 1, 0, 0x38, 0, 1, 0]),
+    (Record(26, 0x18), &[0x18, 1]),
+    (Record(26, 0x28), &[3, 0]),
+    (Record(26, 0x2C), &[26, 0]),
+    (Record(26, 0x38), &[STANDARD_INFORMATION, 0]),
+    (Record(26, STANDARD), &TIMES),
+    (Record(26, STANDARD + 0x20), &[0x20, 0]),
+    (Record(26, STANDARD + 0x34), &[0, 1]),
+    (Record(26, 0x38 + 96), &[FILE_NAME, 0]),
+    (Record(26, NAME_VALUE), &PARENT),
+    (Record(26, NAME_VALUE + 8), &TIMES),
+    (Record(26, NAME_VALUE + 40), &REST),
+    (Record(26, 0x38 + 96 + 96), &[DATA, 0]),
+    (Record(26, 0x38 + 96 + 96 + 0x10), &[0, 0]),
+    (Entry(26, 0, 0), &PARENT),
+    (Entry(26, 0, 8), &TIMES),
+    (Entry(26, 0, 40), &REST),
+];
+
 #[test]
 fn records_and_entries_tell_the_file(rt: HostRuntime) -> Result<(), test::Fail> {
-    let alloc = rt.alloc();
-    let mut disk = writable(alloc, SECTORS, &volume(alloc)?)?;
-    assert_eq!(rt; run_rows(alloc, &mut disk, &NEW)?, (0, None));
-    let left = disk.contents();
-    assert!(rt; is_sound(alloc, SECTORS, left)?);
-    assert_eq!(rt; byte(left, RECORD_BITS + 3), 0x07);
-    let at = record(26);
-    assert!(rt; stands(left, at, b"FILE"));
-    for (place, wanted) in [
-        (0x10, 1),
-        (0x12, 1),
-        (0x14, 0x38),
-        (0x16, 1),
-        (0x18, 0x38 + 96 + 96 + 24 + 8),
-        (0x28, 3),
-        (0x2C, 26),
-        (0x38, STANDARD_INFORMATION),
-        (STANDARD + 0x20, 0x20),
-        (STANDARD + 0x34, 256),
-        (0x38 + 96, FILE_NAME),
-        (0x38 + 96 + 96, DATA),
-        (0x38 + 96 + 96 + 0x10, 0),
-    ] {
-        assert_eq!(rt; number(left, at.saturating_add(place)), wanted, "{place}");
+    let image = volume(rt.alloc())?;
+    leaves(rt.alloc(), SECTORS, &image, &NEW, &NEW_LEFT)
+}
+
+// The times of the root: when it was made, modified, its record changed, and when it was read.
+const ROOT_TIMES: [u8; 32] = [
+    0, 0, 0, 0, 0, 0, 0, 0, 7, 0, 0, 0, 0, 0, 0, 0, 7, 0, 0, 0, 0, 0, 0, 0, 0, 0, 0, 0, 0, 0, 0, 0,
+];
+
+// Where the key begins of the entry of the root, which is in the root.
+fn root_key(image: &[u8]) -> usize {
+    for at in ROOT_INDEX..ROOT_INDEX + 4096 {
+        if stands(image, at, &PARENT) && stands(image, at + 16, &PARENT) {
+            return at + 16;
+        }
     }
-    assert!(rt; stands(left, at + STANDARD, &TIMES));
-    assert!(rt; is_name(left, at + NAME_VALUE));
-    let key = key_in_root(left, 26, 0).unwrap_or(0);
-    assert!(rt; is_name(left, key));
-    // The entry of the root, which is in the root: its second and third time.
-    let root = (ROOT_INDEX..ROOT_INDEX + 4096)
-        .find(|at| stands(left, *at, &PARENT) && stands(left, at.saturating_add(16), &PARENT))
-        .unwrap_or(0);
-    let root = root.saturating_add(16);
-    for (place, wanted) in [(0x08, 0), (0x10, 7), (0x18, 7), (0x20, 0)] {
-        assert_eq!(rt; number(left, root.saturating_add(place)), wanted, "{place}");
-    }
+    0
+}
+
+#[test]
+fn the_entry_of_the_root_tells_its_times(rt: HostRuntime) -> Result<(), test::Fail> {
+    let left = edited(rt.alloc(), SECTORS, &volume(rt.alloc())?, &NEW)?;
+    assert!(rt; stands(&left, root_key(&left).saturating_add(8), &ROOT_TIMES));
     Ok(())
 }
 
 // What a path shows behind the edit.
 const BEHIND: [Row; 1] = [("attr /n", "attr 0020\nok\n")];
 
-// The status where one write of an edit fails, what is left, and whether that is marked.
-fn failing_edit(
+// Whether an edit of which this write fails leaves a volume marked.
+fn marks(
     alloc: Global,
     image: &[u8],
     edit: &[Row],
     number: u64,
     lands: bool,
-) -> Result<(u8, Vec<u8>, bool), test::Fail> {
-    let fail = Fail {
-        kind: CallKind::Write,
-        number,
-        lands,
-    };
-    let mut disk = FailDisk::new(writable(alloc, SECTORS, image)?, vec![in alloc; fail]?);
-    let (status, _) = run_rows(alloc, &mut disk, edit)?;
-    let left = disk.inner().contents();
-    Ok((status, left.to_vec(alloc)?, is_marked(left)))
+) -> Result<bool, test::Fail> {
+    let (status, left) = failing_write(alloc, image, edit, number, lands)?;
+    Ok(status == 6 && is_marked(&left))
 }
 
 /// The first write of an edit, of so many in all, that fails and does not leave the volume as it was to be left: as it was where the first one
@@ -186,23 +178,22 @@ pub fn wrong_write(
     writes: u64,
     behind: &[Row],
 ) -> Result<Option<u64>, test::Fail> {
-    let (status, left, _) = failing_edit(alloc, image, edit, 1, false)?;
-    if (status, left.as_slice()) != (6, image) {
+    let (status, left) = failing_write(alloc, image, edit, 1, false)?;
+    if status != 6 || left.as_slice() != image {
         return Ok(Some(0));
     }
     for number in 1..writes {
-        let next = number.saturating_add(1);
-        let (status, _, landed) = failing_edit(alloc, image, edit, number, true)?;
-        let (other, _, lost) = failing_edit(alloc, image, edit, next, false)?;
-        if (status, landed, other, lost) != (6, true, 6, true) {
+        let landed = marks(alloc, image, edit, number, true)?;
+        let lost = marks(alloc, image, edit, number.saturating_add(1), false)?;
+        if !landed || !lost {
             return Ok(Some(number));
         }
     }
     for (number, wanted) in [(writes, 6), (writes.saturating_add(1), 0)] {
-        let (status, left, marked) = failing_edit(alloc, image, edit, number, true)?;
+        let (status, left) = failing_write(alloc, image, edit, number, true)?;
         let whole = is_sound(alloc, SECTORS, &left)?
             && wrong_row(alloc, SECTORS, &left, behind)?.is_none();
-        if (status, marked, whole) != (wanted, false, true) {
+        if status != wanted || is_marked(&left) || !whole {
             return Ok(Some(number));
         }
     }
@@ -215,9 +206,9 @@ const WRITES: u64 = 17;
 
 #[test]
 fn a_failing_write_leaves_a_volume_marked_or_whole(rt: HostRuntime) -> Result<(), test::Fail> {
-    let alloc = rt.alloc();
-    let image = volume(alloc)?;
-    assert_eq!(rt; wrong_write(alloc, &image, &NEW, WRITES, &BEHIND)?, None);
+    let image = volume(rt.alloc())?;
+    let wrong = wrong_write(rt.alloc(), &image, &NEW, WRITES, &BEHIND)?;
+    assert_eq!(rt; wrong, None);
     Ok(())
 }
 
@@ -228,21 +219,23 @@ const FILLED_TOLD: &[u8] = b"ok\nok\nok\nok\nok\nok\nok\nok\nok\nok\nok\nok\nok\
     df 256 9 64 37\nok\nok\ndf 256 9 64 36\nok\nok\ndf 256 8 64 36\nok\nno 26 NoRoom 9 8\n\
     df 256 8 64 36\nok\n";
 
-#[test]
-fn room_is_asked_for_to_the_cluster(rt: HostRuntime) -> Result<(), test::Fail> {
-    let alloc = rt.alloc();
-    let mut disk = writable(alloc, SECTORS, &volume_with(alloc, ONE, &[135], b"")?)?;
+fn filling(alloc: Global) -> Result<Vec<u8>, test::Fail> {
     let mut script = Vec::new(alloc);
     for line in LARGE.iter().take(13) {
         add_long(&mut script, line, 32_768)?;
     }
-    add_long(&mut script, LARGE[13], 28_672)?;
+    add_long(&mut script, "write /k 430074 ", 28_672)?;
     script.extend_from_slice(b"df\ncreate /n\ndf\n")?;
     add_long(&mut script, "write /k 458746 ", 4096)?;
     script.extend_from_slice(b"df\ncreate /o\ndf\n")?;
-    let (status, out) = told(alloc, &mut disk, &script)?;
-    assert_eq!(rt; (status, out.bytes()), (0, FILLED_TOLD));
-    assert!(rt; is_sound(alloc, SECTORS, disk.contents())?);
+    Ok(script)
+}
+
+#[test]
+fn room_is_asked_for_to_the_cluster(rt: HostRuntime) -> Result<(), test::Fail> {
+    let image = volume_with(rt.alloc(), ONE, &[135], b"")?;
+    let script = filling(rt.alloc())?;
+    let _ = edited_by(rt.alloc(), SECTORS, &image, &script, FILLED_TOLD)?;
     Ok(())
 }
 
@@ -288,29 +281,18 @@ const SMALL: [Row; 15] = [
 // name of 4 units.
 const INDEX_VALUE: usize = 0x38 + 96 + 96 + 32;
 
-// The root has an entry of 88 bytes for each name, behind 16 bytes, 16 of its node and before 16 of the last entry.
+// The root has an entry of 88 bytes for each name, behind 16 bytes, 16 of its node and before 16 of the last entry: 208 are in use.
+const SMALL_LEFT: [Stand; 4] = [
+    (Record(26, INDEX_VALUE + 20), &[208, 0]),
+    (Record(26, INDEX_VALUE + 24), &[208, 0]),
+    (Record(26, INDEX_VALUE + 32), &[28, 0]),
+    (Record(26, INDEX_VALUE + 32 + 88), &[27, 0]),
+];
+
 #[test]
 fn names_come_into_a_root_without_records(rt: HostRuntime) -> Result<(), test::Fail> {
-    let alloc = rt.alloc();
-    let mut disk = writable(alloc, SECTORS, &volume_with_directory(alloc)?)?;
-    assert!(rt; is_sound(alloc, SECTORS, disk.contents())?);
-    assert_eq!(rt; run_rows(alloc, &mut disk, &SMALL)?, (0, None));
-    let left = disk.contents();
-    assert!(rt; is_sound(alloc, SECTORS, left)?);
-    let value = record(26) + INDEX_VALUE;
-    for (place, wanted) in [
-        (20, 32 + 2 * 88),
-        (24, 32 + 2 * 88),
-        (32, 28),
-        (32 + 88, 27),
-    ] {
-        assert_eq!(rt;
-            number(left, value.saturating_add(place)),
-            wanted,
-            "{place}"
-        );
-    }
-    Ok(())
+    let image = volume_with_directory(rt.alloc())?;
+    leaves(rt.alloc(), SECTORS, &image, &SMALL, &SMALL_LEFT)
 }
 
 // The node of the record of the root's index begins behind 24 bytes, and tells the bytes up to the end of its entries, and all that it has.
@@ -377,10 +359,7 @@ fn names_come_as_long_as_there_is_room(rt: HostRuntime) -> Result<(), test::Fail
         (b"/d/".as_slice(), 6, 1, beside_root),
     ] {
         let (script, wanted) = filled_with(alloc, dir, names, units, room)?;
-        let mut disk = writable(alloc, SECTORS, &image)?;
-        let (status, out) = told(alloc, &mut disk, &script)?;
-        assert_eq!(rt; (status, out.bytes()), (0, wanted.as_slice()));
-        assert!(rt; is_sound(alloc, SECTORS, disk.contents())?);
+        let _ = edited_by(alloc, SECTORS, &image, &script, &wanted)?;
     }
     Ok(())
 }
@@ -388,8 +367,7 @@ fn names_come_as_long_as_there_is_room(rt: HostRuntime) -> Result<(), test::Fail
 // A name of 255 units comes, and none of 256.
 #[test]
 fn the_longest_name_has_255_units(rt: HostRuntime) -> Result<(), test::Fail> {
-    let alloc = rt.alloc();
-    let mut script = Vec::new(alloc);
+    let mut script = Vec::new(rt.alloc());
     for units in [256, 255] {
         script.extend_from_slice(b"create /")?;
         for _ in 0..units {
@@ -397,13 +375,8 @@ fn the_longest_name_has_255_units(rt: HostRuntime) -> Result<(), test::Fail> {
         }
         script.push(b'\n')?;
     }
-    let mut disk = writable(alloc, SECTORS, &volume(alloc)?)?;
-    let (status, out) = told(alloc, &mut disk, &script)?;
-    assert_eq!(rt;
-        (status, out.bytes()),
-        (0, b"no 9 BadName\nok\n".as_slice())
-    );
-    assert!(rt; is_sound(alloc, SECTORS, disk.contents())?);
+    let image = volume(rt.alloc())?;
+    let _ = edited_by(rt.alloc(), SECTORS, &image, &script, b"no 9 BadName\nok\n")?;
     Ok(())
 }
 
@@ -434,26 +407,29 @@ const FULL: [Row; 2] = [
     ("create /z", "no 25 MftFull 97 40\n"),
 ];
 
-// Thirty files leave eight records free, of 27 that a file might need: 7 clusters of the table, and 2, for each of which 9 bytes of record 0
-// are wanted, beside 16.
-#[test]
-fn the_table_has_to_have_room_to_grow(rt: HostRuntime) -> Result<(), test::Fail> {
-    let alloc = rt.alloc();
-    let (mut script, mut wanted) = (Vec::new(alloc), Vec::new(alloc));
+// Thirty files of two letters.
+fn thirty(alloc: Global) -> Result<Vec<u8>, test::Fail> {
+    let mut script = Vec::new(alloc);
     for tens in b"abc" {
         for ones in b"0123456789" {
             script.extend_from_slice(b"create /")?;
             script.extend_from_slice(&[*tens, *ones, b'\n'])?;
-            wanted.extend_from_slice(b"ok\n")?;
         }
     }
-    let image = made_on(alloc, 16_384, "format 16384 4096 1 DATA")?;
-    let mut disk = writable(alloc, 16_384, &image)?;
-    let (status, out) = told(alloc, &mut disk, &script)?;
-    assert_eq!(rt; (status, out.bytes()), (0, wanted.as_slice()));
-    let mut image = disk.contents().to_vec(alloc)?;
+    Ok(script)
+}
+
+const THIRTY_TOLD: &[u8] =
+    b"ok\nok\nok\nok\nok\nok\nok\nok\nok\nok\nok\nok\nok\nok\nok\nok\nok\nok\nok\nok\n\
+    ok\nok\nok\nok\nok\nok\nok\nok\nok\nok\n";
+
+// Thirty files leave eight records free, of 27 that a file might need: 7 clusters of the table, and 2, for each of which 9 bytes of record 0
+// are wanted, beside 16.
+#[test]
+fn the_table_has_to_have_room_to_grow(rt: HostRuntime) -> Result<(), test::Fail> {
+    let image = made_on(rt.alloc(), 16_384, "format 16384 4096 1 DATA")?;
+    let script = thirty(rt.alloc())?;
+    let mut image = edited_by(rt.alloc(), 16_384, &image, &script, THIRTY_TOLD)?;
     pad_first_record(&mut image);
-    assert!(rt; is_sound(alloc, 16_384, &image)?);
-    assert_eq!(rt; wrong_row(alloc, 16_384, &image, &FULL)?, None);
-    Ok(())
+    leaves(rt.alloc(), 16_384, &image, &FULL, &[])
 }

@@ -1,7 +1,9 @@
 //! `mkdir`: directories that come under new names, and what comes into them.
-use laid_volumes::damage::{number, record, stands};
+use laid_volumes::cases::Place::Record;
+use laid_volumes::cases::{Stand, all_stand, edited, edited_by};
+use laid_volumes::damage::{number, record};
 use laid_volumes::made::{made_by, made_on};
-use laid_volumes::scripts::{Row, is_sound, run_rows, told, writable};
+use laid_volumes::scripts::Row;
 use std::test;
 
 // On a new volume of 16,384 sectors.
@@ -42,11 +44,8 @@ const NAMES: [Row; 26] = [
 
 #[test]
 fn directories_come_under_new_names(rt: HostRuntime) -> Result<(), test::Fail> {
-    let alloc = rt.alloc();
-    let image = made_on(alloc, 16_384, "format 16384 4096 1 DATA")?;
-    let mut disk = writable(alloc, 16_384, &image)?;
-    assert_eq!(rt; run_rows(alloc, &mut disk, &NAMES)?, (0, None));
-    assert!(rt; is_sound(alloc, 16_384, disk.contents())?);
+    let image = made_on(rt.alloc(), 16_384, "format 16384 4096 1 DATA")?;
+    let _ = edited(rt.alloc(), 16_384, &image, &NAMES)?;
     Ok(())
 }
 
@@ -69,44 +68,39 @@ const BODY: usize = 0x38 + 96 + 96;
 // Where its value stands.
 const VALUE: usize = BODY + 24 + 8;
 
+const LEFT: [Stand; 16] = [
+    (Record(26, 0x10), &[1, 0, 1, 0]),
+    (Record(26, 0x16), &[3, 0]),
+    // 0x38 + 96 + 96 + 80 + 8
+    (Record(26, 0x18), &[0x50, 1]),
+    (Record(26, 0x28), &[3, 0]),
+    (Record(26, 0x38 + 24 + 0x20), &[0, 0]),
+    (Record(26, 0x38 + 24 + 0x34), &[0, 1]),
+    (Record(26, 0x38 + 96 + 24 + 0x38), &[0, 0]),
+    (Record(26, 0x38 + 96 + 24 + 0x3A), &[0, 0x10]),
+    (Record(26, BODY), &[0x90, 0]),
+    (Record(26, BODY + 4), &[80, 0]),
+    (Record(26, BODY + 8), &[0, 4]),
+    (Record(26, BODY + 0x0E), &[1, 0]),
+    (Record(26, BODY + 0x10), &[48, 0]),
+    (Record(26, BODY + 24), &INDEX_NAME),
+    (Record(26, VALUE), &ROOT),
+    (Record(26, VALUE + 16), &NODE),
+];
+
 // On each size of clusters, of which a record of the index has so many.
 #[test]
 fn records_tell_the_directory(rt: HostRuntime) -> Result<(), test::Fail> {
-    let alloc = rt.alloc();
     for (words, clusters) in [
         ("format 2048 512 1 DATA", 8),
         ("format 2048 1024 1 DATA", 4),
         ("format 2048 2048 1 DATA", 2),
         ("format 2048 4096 1 DATA", 1),
     ] {
-        let mut disk = writable(alloc, 2048, &made_by(alloc, words)?)?;
-        let (status, out) = told(alloc, &mut disk, b"mkdir /d\n")?;
-        assert_eq!(rt; (status, out.bytes()), (0, b"ok\n".as_slice()));
-        let left = disk.contents();
-        assert!(rt; is_sound(alloc, 2048, left)?);
-        let at = record(26);
-        for (place, wanted) in [
-            (0x10, 1),
-            (0x12, 1),
-            (0x16, 3),
-            (0x18, BODY + 80 + 8),
-            (0x28, 3),
-            (0x38 + 24 + 0x20, 0),
-            (0x38 + 24 + 0x34, 256),
-            (0x38 + 96 + 24 + 0x38, 0),
-            (0x38 + 96 + 24 + 0x3A, 0x1000),
-            (BODY, 0x90),
-            (BODY + 4, 80),
-            (BODY + 8, 0x400),
-            (BODY + 0x0E, 1),
-            (BODY + 0x10, 48),
-            (VALUE + 12, clusters),
-        ] {
-            assert_eq!(rt; number(left, at.saturating_add(place)), wanted, "{place}");
-        }
-        assert!(rt; stands(left, at + BODY + 24, &INDEX_NAME));
-        assert!(rt; stands(left, at + VALUE, &ROOT));
-        assert!(rt; stands(left, at + VALUE + 16, &NODE));
+        let image = made_by(rt.alloc(), words)?;
+        let left = edited(rt.alloc(), 2048, &image, &[("mkdir /d", "ok\n")])?;
+        all_stand(&left, &LEFT)?;
+        assert_eq!(rt; number(&left, record(26) + VALUE + 12), clusters);
     }
     Ok(())
 }
@@ -114,10 +108,7 @@ fn records_tell_the_directory(rt: HostRuntime) -> Result<(), test::Fail> {
 // A directory under the longest name: its record has room for a short one yet.
 #[test]
 fn the_longest_name_leaves_room(rt: HostRuntime) -> Result<(), test::Fail> {
-    let alloc = rt.alloc();
-    let image = made_on(alloc, 16_384, "format 16384 4096 1 DATA")?;
-    let mut disk = writable(alloc, 16_384, &image)?;
-    let mut script = Vec::new(alloc);
+    let mut script = Vec::new(rt.alloc());
     for (word, rest) in [
         (b"mkdir /".as_slice(), b"\n".as_slice()),
         (b"create /".as_slice(), b"/f\n".as_slice()),
@@ -128,8 +119,7 @@ fn the_longest_name_leaves_room(rt: HostRuntime) -> Result<(), test::Fail> {
         }
         script.extend_from_slice(rest)?;
     }
-    let (status, out) = told(alloc, &mut disk, &script)?;
-    assert_eq!(rt; (status, out.bytes()), (0, b"ok\nok\n".as_slice()));
-    assert!(rt; is_sound(alloc, 16_384, disk.contents())?);
+    let image = made_on(rt.alloc(), 16_384, "format 16384 4096 1 DATA")?;
+    let _ = edited_by(rt.alloc(), 16_384, &image, &script, b"ok\nok\n")?;
     Ok(())
 }

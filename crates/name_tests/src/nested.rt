@@ -1,7 +1,9 @@
 //! Directories one in another: until no record of the table is free, and each write failing in one that comes.
 use crate::creates::wrong_write;
+use laid_volumes::cases::{edited, edited_by};
 use laid_volumes::made::volume;
-use laid_volumes::scripts::{Row, is_sound, run_rows, told, writable};
+use laid_volumes::scripts::Row;
+use std::alloc::Global;
 use std::test;
 
 const SECTORS: u16 = 2048;
@@ -9,12 +11,11 @@ const SECTORS: u16 = 2048;
 // Of the 64 records of a new volume those from 26 on are free, and of its 256 clusters those from 135 on.
 const FREE: usize = 38;
 
-const FULL: &[u8] = b"no 28 Unbuilt\nno 28 Unbuilt\ndf 256 121 64 0\nok\n";
+const FULL: &[u8] = b"no 28 Unbuilt\nno 28 Unbuilt\ndf 256 121 64 0\nok\n\
+    stat dir 1 0 0000 256 0 0 0 0\nok\n";
 
-#[test]
-fn directories_come_until_no_record_is_free(rt: HostRuntime) -> Result<(), test::Fail> {
-    let alloc = rt.alloc();
-    let mut disk = writable(alloc, SECTORS, &volume(alloc)?)?;
+// Directories one in another until no record is free, and what is asked then; and what it prints.
+fn nested(alloc: Global) -> Result<(Vec<u8>, Vec<u8>), test::Fail> {
     let (mut script, mut wanted, mut path) = (Vec::new(alloc), Vec::new(alloc), Vec::new(alloc));
     for _ in 0..FREE {
         path.extend_from_slice(b"/d")?;
@@ -27,10 +28,14 @@ fn directories_come_until_no_record_is_free(rt: HostRuntime) -> Result<(), test:
     script.extend_from_slice(&path)?;
     script.push(b'\n')?;
     wanted.extend_from_slice(FULL)?;
-    wanted.extend_from_slice(b"stat dir 1 0 0000 256 0 0 0 0\nok\n")?;
-    let (status, out) = told(alloc, &mut disk, &script)?;
-    assert_eq!(rt; (status, out.bytes()), (0, wanted.as_slice()));
-    assert!(rt; is_sound(alloc, SECTORS, disk.contents())?);
+    Ok((script, wanted))
+}
+
+#[test]
+fn directories_come_until_no_record_is_free(rt: HostRuntime) -> Result<(), test::Fail> {
+    let (script, wanted) = nested(rt.alloc())?;
+    let image = volume(rt.alloc())?;
+    let _ = edited_by(rt.alloc(), SECTORS, &image, &script, &wanted)?;
     Ok(())
 }
 
@@ -51,10 +56,8 @@ const WRITES: u64 = 17;
 
 #[test]
 fn a_failing_write_leaves_a_volume_marked_or_whole(rt: HostRuntime) -> Result<(), test::Fail> {
-    let alloc = rt.alloc();
-    let mut disk = writable(alloc, SECTORS, &volume(alloc)?)?;
-    assert_eq!(rt; run_rows(alloc, &mut disk, &OUTER)?, (0, None));
-    let image = disk.contents().to_vec(alloc)?;
-    assert_eq!(rt; wrong_write(alloc, &image, &INNER, WRITES, &BEHIND)?, None);
+    let image = edited(rt.alloc(), SECTORS, &volume(rt.alloc())?, &OUTER)?;
+    let wrong = wrong_write(rt.alloc(), &image, &INNER, WRITES, &BEHIND)?;
+    assert_eq!(rt; wrong, None);
     Ok(())
 }

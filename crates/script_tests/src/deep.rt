@@ -3,13 +3,14 @@
 //!
 //! Layout: Linux-NTFS documentation, "Index Header", "Index Record" and attributes $INDEX_ROOT and $INDEX_ALLOCATION; Carrier,
 //! File System Forensic Analysis, chapter 13.
+use laid_volumes::cases::sound;
 use laid_volumes::damage::{CLUSTER_BITS, put, set_bit};
 use laid_volumes::laid::{
     LaidName, ROOT_RECORD, Value, begin_file, end_file, lay_in_root, lay_name, lay_standard,
     lay_value, seal,
 };
 use laid_volumes::made::volume;
-use laid_volumes::scripts::{failing, is_sound};
+use laid_volumes::scripts::failing;
 use std::alloc::Global;
 use std::test;
 use vol_disk::CallKind;
@@ -232,21 +233,30 @@ fn lines_of(text: &[u8]) -> usize {
     text.iter().filter(|byte| **byte == b'\n').count()
 }
 
+// What a line on the directory comes to where a read fails: the status, and how many lines and bytes are printed.
+fn told(
+    alloc: Global,
+    image: &[u8],
+    line: &[u8],
+    read: u64,
+) -> Result<(u8, usize, usize), test::Fail> {
+    let (status, out) = failing(alloc, image, line, CallKind::Read, read)?;
+    Ok((status, lines_of(out.bytes()), out.bytes().len()))
+}
+
 // The last name is found by the nodes on its way, of which there are three, before the read that fails. All names are in 38, and
 // a list of them comes to it. Where no read fails all are listed.
 #[test]
 fn a_path_is_walked_by_its_index(rt: HostRuntime) -> Result<(), test::Fail> {
     let image = volume_with_m(rt.alloc())?;
-    assert!(rt; is_sound(rt.alloc(), 2048, &image)?);
-    let (status, out) = failing(rt.alloc(), &image, b"attr /m/T6\n", CallKind::Read, FAILING)?;
-    assert_eq!(rt; status, 0);
-    assert!(rt; out.bytes() == b"attr 0020\nok\n".as_slice());
-    let (status, out) = failing(rt.alloc(), &image, b"ls /m\n", CallKind::Read, FAILING)?;
-    assert_eq!(rt; status, 6);
-    assert!(rt; out.bytes().is_empty());
-    let (status, out) = failing(rt.alloc(), &image, b"ls /m\n", CallKind::Read, UNREACHED)?;
-    assert_eq!(rt; status, 0);
-    assert_eq!(rt; lines_of(out.bytes()), LISTED_LINES);
-    assert_eq!(rt; out.bytes().len(), LISTED_BYTES);
+    sound(rt.alloc(), 2048, &image)?;
+    let rows: [(&[u8], u64, (u8, usize, usize)); 3] = [
+        (b"attr /m/T6\n", FAILING, (0, 2, 13)),
+        (b"ls /m\n", FAILING, (6, 0, 0)),
+        (b"ls /m\n", UNREACHED, (0, LISTED_LINES, LISTED_BYTES)),
+    ];
+    for (line, read, wanted) in rows {
+        assert_eq!(rt; told(rt.alloc(), &image, line, read)?, wanted);
+    }
     Ok(())
 }

@@ -276,52 +276,36 @@ fn the_list_lies_in_a_hole(rt: HostRuntime) -> Result<(), test::Fail> {
     Ok(())
 }
 
-#[test]
-fn an_entry_is_missing(rt: HostRuntime) -> Result<(), test::Fail> {
-    let told = answer(rt.alloc(), &[STANDARD, NAMED, BEGIN])?;
-    assert_eq!(rt; told, refused(5, 26));
-    Ok(())
-}
+const NOTHING: Entry = Entry {
+    kind: DATA,
+    first: 2,
+    holder: EXTENSION,
+    sequence: 1,
+    id: 1,
+};
+
+const OTHER: Entry = Entry {
+    kind: DATA,
+    first: 1,
+    holder: EXTENSION,
+    sequence: 2,
+    id: 0,
+};
+
+// An entry is missing, one stands twice, the list names itself, an entry names no attribute, and one has another sequence number.
+const WRONG: [&[Entry]; 5] = [
+    &[STANDARD, NAMED, BEGIN],
+    &[STANDARD, NAMED, BEGIN, REST, REST],
+    &[STANDARD, LIST, NAMED, BEGIN, REST],
+    &[STANDARD, NAMED, BEGIN, REST, NOTHING],
+    &[STANDARD, NAMED, BEGIN, OTHER],
+];
 
 #[test]
-fn an_entry_stands_twice(rt: HostRuntime) -> Result<(), test::Fail> {
-    let told = answer(rt.alloc(), &[STANDARD, NAMED, BEGIN, REST, REST])?;
-    assert_eq!(rt; told, refused(5, 26));
-    Ok(())
-}
-
-#[test]
-fn the_list_names_itself(rt: HostRuntime) -> Result<(), test::Fail> {
-    let told = answer(rt.alloc(), &[STANDARD, LIST, NAMED, BEGIN, REST])?;
-    assert_eq!(rt; told, refused(5, 26));
-    Ok(())
-}
-
-#[test]
-fn an_entry_names_no_attribute(rt: HostRuntime) -> Result<(), test::Fail> {
-    let nothing = Entry {
-        kind: DATA,
-        first: 2,
-        holder: EXTENSION,
-        sequence: 1,
-        id: 1,
-    };
-    let told = answer(rt.alloc(), &[STANDARD, NAMED, BEGIN, REST, nothing])?;
-    assert_eq!(rt; told, refused(5, 26));
-    Ok(())
-}
-
-#[test]
-fn an_entry_has_another_sequence_number(rt: HostRuntime) -> Result<(), test::Fail> {
-    let other = Entry {
-        kind: DATA,
-        first: 1,
-        holder: EXTENSION,
-        sequence: 2,
-        id: 0,
-    };
-    let told = answer(rt.alloc(), &[STANDARD, NAMED, BEGIN, other])?;
-    assert_eq!(rt; told, refused(5, 26));
+fn a_list_with_wrong_entries_is_refused(rt: HostRuntime) -> Result<(), test::Fail> {
+    for (i, entries) in WRONG.into_iter().enumerate() {
+        assert_eq!(rt; answer(rt.alloc(), entries)?, refused(5, 26), "{i}");
+    }
     Ok(())
 }
 

@@ -216,21 +216,44 @@ fn is_front(alloc: Global, text: &[u8], rows: &[Row]) -> Result<bool, test::Fail
     Ok(false)
 }
 
-// Some reads fail, one in each run: before the first line, in one that reads, or behind the last.
+// How many bytes the lines print where a read fails, if they end with status 6 and that is the text of the first few.
+fn printed(
+    alloc: Global,
+    image: &[u8],
+    script: &[u8],
+    number: u64,
+) -> Result<Option<usize>, test::Fail> {
+    let (status, out) = failing(alloc, image, script, CallKind::Read, number)?;
+    if status == 6 && is_front(alloc, out.bytes(), &READS)? {
+        Ok(Some(out.bytes().len()))
+    } else {
+        Ok(None)
+    }
+}
+
+// Some reads fail, one in each run: before the first line, in one that reads, or behind the last. Some print a part.
 #[test]
 fn a_failing_read_ends_the_script(rt: HostRuntime) -> Result<(), test::Fail> {
     let image = volume_with_all(rt.alloc())?;
     let script = script_of(rt.alloc(), &READS)?;
-    let mut partly = false;
+    let mut most = 0;
     for number in [
         1, 412, 572, 580, 588, 596, 604, 612, 620, 628, 636, 644, 652, 660,
     ] {
-        let (status, out) = failing(rt.alloc(), &image, &script, CallKind::Read, number)?;
-        assert_eq!(rt; status, 6, "read {number}");
-        assert!(rt; is_front(rt.alloc(), out.bytes(), &READS)?, "read {number}");
-        partly = partly || !out.bytes().is_empty();
+        match printed(rt.alloc(), &image, &script, number)? {
+            Some(len) => most = len.max(most),
+            None => return Err(number)?,
+        }
     }
-    assert!(rt; partly);
+    assert!(rt; most > 0);
+    Ok(())
+}
+
+// No read fails here, and all are answered.
+#[test]
+fn lines_that_read_are_answered(rt: HostRuntime) -> Result<(), test::Fail> {
+    let image = volume_with_all(rt.alloc())?;
+    let script = script_of(rt.alloc(), &READS)?;
     let (status, _) = failing(rt.alloc(), &image, &script, CallKind::Read, 5000)?;
     assert_eq!(rt; status, 0);
     assert_eq!(rt; wrong_row(rt.alloc(), 2048, &image, &READS)?, None);

@@ -77,8 +77,8 @@ fn a_script_comes_in_any_pieces(rt: HostRuntime) -> Result<(), test::Fail> {
         whole: source_of(rt.alloc(), SHORT, 0)?,
     };
     let mut out = sink_of(rt.alloc(), TEXT_ROOM, 0)?;
-    assert_eq!(rt; run_on(rt.alloc(), &mut disk, &mut source, &mut out)?, 0);
-    assert!(rt; out.bytes() == SHORT_REPLIES.as_bytes());
+    let status = run_on(rt.alloc(), &mut disk, &mut source, &mut out)?;
+    assert!(rt; status == 0 && out.bytes() == SHORT_REPLIES.as_bytes());
     Ok(())
 }
 
@@ -113,17 +113,34 @@ fn a_volume_that_is_not_accepted_is_refused(rt: HostRuntime) -> Result<(), test:
     Ok(())
 }
 
+// The status of the short script where a call of the source or of the sink fails, or the sink has so much room; how many bytes are
+// printed, if they are those that come first, and how often the disk is settled.
+fn told(
+    alloc: Global,
+    image: &[u8],
+    source_fails: u64,
+    room: usize,
+    fails: u64,
+) -> Result<(u8, Option<usize>, usize), test::Fail> {
+    let mut disk = settling(alloc, image)?;
+    let mut source = source_of(alloc, SHORT, source_fails)?;
+    let mut out = sink_of(alloc, room, fails)?;
+    let status = run_on(alloc, &mut disk, &mut source, &mut out)?;
+    let len = if SHORT_REPLIES.as_bytes().starts_with(out.bytes()) {
+        Some(out.bytes().len())
+    } else {
+        None
+    };
+    Ok((status, len, disk.settles().len()))
+}
+
 // The two calls of the source fail in turn. The first gives the whole script, whose last line has not ended then.
 #[test]
 fn each_failing_call_of_the_source_is_told(rt: HostRuntime) -> Result<(), test::Fail> {
     let image = volume(rt.alloc())?;
-    for (fails, status, text) in [(1, 4, ""), (2, 4, "no 1 Syntax\n"), (3, 0, SHORT_REPLIES)] {
-        let mut disk = settling(rt.alloc(), &image)?;
-        let mut source = source_of(rt.alloc(), SHORT, fails)?;
-        let mut out = sink_of(rt.alloc(), TEXT_ROOM, 0)?;
-        let got = run_on(rt.alloc(), &mut disk, &mut source, &mut out)?;
-        assert_eq!(rt; got, status, "call {fails}");
-        assert!(rt; out.bytes() == text.as_bytes(), "call {fails}");
+    for (fails, status, len) in [(1, 4, 0), (2, 4, 12), (3, 0, 26)] {
+        let told = told(rt.alloc(), &image, fails, TEXT_ROOM, 0)?;
+        assert_eq!(rt; (told.0, told.1), (status, Some(len)), "call {fails}");
     }
     Ok(())
 }
@@ -138,16 +155,12 @@ fn each_failing_call_of_the_sink_is_told(rt: HostRuntime) -> Result<(), test::Fa
         (TEXT_ROOM, 3, 0, 26, 2),
         (15, 0, 5, 15, 2),
     ] {
-        let mut disk = settling(rt.alloc(), &image)?;
-        let mut source = source_of(rt.alloc(), SHORT, 0)?;
-        let mut out = sink_of(rt.alloc(), room, fails)?;
-        let got = run_on(rt.alloc(), &mut disk, &mut source, &mut out)?;
-        assert_eq!(rt; got, status, "room {room}, call {fails}");
-        assert!(rt;
-            out.bytes() == &SHORT_REPLIES.as_bytes()[..len],
+        let told = told(rt.alloc(), &image, 0, room, fails)?;
+        assert_eq!(rt;
+            told,
+            (status, Some(len), settles),
             "room {room}, call {fails}"
         );
-        assert_eq!(rt; disk.settles().len(), settles, "room {room}, call {fails}");
     }
     Ok(())
 }
@@ -158,8 +171,10 @@ fn each_failing_settle_is_told(rt: HostRuntime) -> Result<(), test::Fail> {
     let image = volume(rt.alloc())?;
     for (number, status, text) in [(1, 6, ""), (2, 6, "no 1 Syntax\n"), (3, 0, SHORT_REPLIES)] {
         let (got, out) = failing(rt.alloc(), &image, SHORT, CallKind::Settle, number)?;
-        assert_eq!(rt; got, status, "settle {number}");
-        assert!(rt; out.bytes() == text.as_bytes(), "settle {number}");
+        assert!(rt;
+            got == status && out.bytes() == text.as_bytes(),
+            "settle {number}"
+        );
     }
     Ok(())
 }
@@ -170,8 +185,7 @@ fn a_failing_read_is_told(rt: HostRuntime) -> Result<(), test::Fail> {
     let image = volume(rt.alloc())?;
     for number in [1, 2, 100, 395] {
         let (status, out) = failing(rt.alloc(), &image, SHORT, CallKind::Read, number)?;
-        assert_eq!(rt; status, 6, "read {number}");
-        assert!(rt; out.bytes().is_empty(), "read {number}");
+        assert!(rt; status == 6 && out.bytes().is_empty(), "read {number}");
     }
     Ok(())
 }

@@ -1,8 +1,9 @@
 //! The word `boot`, words that print nothing, and a sink that fails.
 use laid_volumes::FrontSink;
+use laid_volumes::cases::only_prints;
 use laid_volumes::given::{AMPLE, GEOMETRY, Pieces, boot_sector, disk_of, run, sink_of};
+use std::alloc::Global;
 use std::test;
-use vol_disk::Sink;
 
 #[test]
 fn boot_prints_the_geometry_or_the_clause(rt: HostRuntime) -> Result<(), test::Fail> {
@@ -14,19 +15,27 @@ fn boot_prints_the_geometry_or_the_clause(rt: HostRuntime) -> Result<(), test::F
         (0, 0x44, 0xF4, 3, "refused S1 1\n"),
     ] {
         let mut disk = disk_of(rt.alloc(), sectors, &boot_sector(at, byte))?;
-        let mut out = sink_of(rt.alloc(), AMPLE, 0)?;
-        let got = run(rt.alloc(), "boot", &mut disk, &mut out)?;
-        assert_eq!(rt; got, status, "{sectors} sectors, {byte} at {at}");
-        assert!(rt;
-            out.bytes() == text.as_bytes(),
-            "{sectors} sectors, {byte} at {at}"
-        );
-        assert!(rt;
-            disk.writes().is_empty(),
-            "{sectors} sectors, {byte} at {at}"
-        );
+        only_prints(rt.alloc(), "boot", &mut disk, status, text)?;
     }
     Ok(())
+}
+
+// The status of `boot` where a sink has so much room and fails at a call, and how many bytes it has, if they are those that come first.
+fn geometry_into(
+    alloc: Global,
+    room: usize,
+    fails: u64,
+) -> Result<(u8, Option<usize>), test::Fail> {
+    let mut disk = disk_of(alloc, 16_384, &boot_sector(0x44, 0xF4))?;
+    let whole = sink_of(alloc, room, fails)?;
+    let mut out = Pieces { whole };
+    let status = run(alloc, "boot", &mut disk, &mut out)?;
+    let bytes = out.whole.bytes();
+    if GEOMETRY.as_bytes().starts_with(bytes) && disk.writes().is_empty() {
+        Ok((status, Some(bytes.len())))
+    } else {
+        Ok((status, None))
+    }
 }
 
 #[test]
@@ -40,41 +49,21 @@ fn a_failing_sink_got_the_calls_before(rt: HostRuntime) -> Result<(), test::Fail
         (114, 0, 5, 114),
         (115, 0, 0, 115),
     ] {
-        let mut disk = disk_of(rt.alloc(), 16_384, &boot_sector(0x44, 0xF4))?;
-        let whole = sink_of(rt.alloc(), room, fails)?;
-        let mut out = Pieces { whole };
-        let got = run(rt.alloc(), "boot", &mut disk, &mut out)?;
-        assert_eq!(rt; got, status, "room {room}, failing at {fails}");
+        let got = geometry_into(rt.alloc(), room, fails)?;
         assert_eq!(rt;
-            out.whole.bytes().len(),
-            length,
+            got,
+            (status, Some(length)),
             "room {room}, failing at {fails}"
         );
-        assert!(rt;
-            GEOMETRY.as_bytes().starts_with(out.whole.bytes()),
-            "room {room}, failing at {fails}"
-        );
-        assert!(rt; disk.writes().is_empty(), "room {room}, failing at {fails}");
     }
     Ok(())
 }
 
 #[test]
 fn other_words_print_nothing(rt: HostRuntime) -> Result<(), test::Fail> {
-    for (words, status) in [
-        ("", 2),
-        ("boot x", 2),
-        ("bo", 2),
-        ("run x", 2),
-        ("make", 2),
-        ("check x", 2),
-    ] {
+    for words in ["", "boot x", "bo", "run x", "make", "check x"] {
         let mut disk = disk_of(rt.alloc(), 16, &boot_sector(0x44, 0xF4))?;
-        let mut out = sink_of(rt.alloc(), AMPLE, 0)?;
-        let got = run(rt.alloc(), words, &mut disk, &mut out)?;
-        assert_eq!(rt; got, status, "words: {words}");
-        assert!(rt; out.bytes().is_empty(), "words: {words}");
-        assert!(rt; disk.writes().is_empty(), "words: {words}");
+        only_prints(rt.alloc(), words, &mut disk, 2, "")?;
     }
     Ok(())
 }
@@ -89,8 +78,11 @@ fn a_sink_remembers_how_its_text_began(rt: HostRuntime) -> Result<(), test::Fail
         let mut disk = disk_of(rt.alloc(), 16_384, &boot_sector(0x44, 0xF4))?;
         let whole = sink_of(rt.alloc(), room, 0)?;
         let mut out = FrontSink::new(Pieces { whole });
-        assert_eq!(rt; run(rt.alloc(), "boot", &mut disk, &mut out)?, status);
-        assert!(rt; out.front() == front.as_bytes(), "room {room}");
+        let got = run(rt.alloc(), "boot", &mut disk, &mut out)?;
+        assert!(rt;
+            got == status && out.front() == front.as_bytes(),
+            "room {room}"
+        );
     }
     Ok(())
 }

@@ -1,4 +1,5 @@
 //! The word `format`, and what the words that read say of the disk then.
+use laid_volumes::cases::{only_prints, prints};
 use laid_volumes::given::{AMPLE, GEOMETRY, run, sink_of};
 use std::alloc::Global;
 use std::test;
@@ -22,19 +23,14 @@ fn blank(alloc: Global, sectors: u16) -> Result<MemDisk, test::Fail> {
 #[test]
 fn a_volume_is_what_was_asked_for(rt: HostRuntime) -> Result<(), test::Fail> {
     let mut disk = blank(rt.alloc(), 16_384)?;
-    let mut out = sink_of(rt.alloc(), AMPLE, 0)?;
-    assert_eq!(rt; run(rt.alloc(), OUT_OF_RANGE, &mut disk, &mut out)?, 3);
-    assert!(rt; out.bytes() == b"refused options\n".as_slice());
-    assert!(rt; disk.writes().is_empty());
+    only_prints(rt.alloc(), OUT_OF_RANGE, &mut disk, 3, "refused options\n")?;
     for (words, text) in [
         (FORMAT, "formatted 2048\n"),
         ("boot", GEOMETRY),
         ("label", LABEL),
         ("check", "sound\n"),
     ] {
-        let mut out = sink_of(rt.alloc(), AMPLE, 0)?;
-        assert_eq!(rt; run(rt.alloc(), words, &mut disk, &mut out)?, 0, "{words}");
-        assert!(rt; out.bytes() == text.as_bytes(), "{words}");
+        prints(rt.alloc(), words, &mut disk, 0, text)?;
     }
     assert!(rt; disk.settles() == [disk.writes().len()].as_slice());
     Ok(())
@@ -56,16 +52,8 @@ fn a_label_may_be_long(rt: HostRuntime) -> Result<(), test::Fail> {
     ] {
         let mut disk = blank(rt.alloc(), 2048)?;
         let words = format!(in rt.alloc(); "format 2048 512 1 {label}")?;
-        let mut out = sink_of(rt.alloc(), AMPLE, 0)?;
-        assert_eq!(rt; run(rt.alloc(), &words, &mut disk, &mut out)?, 0, "{label}");
-        assert!(rt; out.bytes() == b"formatted 2048\n".as_slice(), "{label}");
-        let mut out = sink_of(rt.alloc(), AMPLE, 0)?;
-        assert_eq!(rt;
-            run(rt.alloc(), "label", &mut disk, &mut out)?,
-            0,
-            "{label}"
-        );
-        assert!(rt; out.bytes() == text.as_bytes(), "{label}");
+        prints(rt.alloc(), &words, &mut disk, 0, "formatted 2048\n")?;
+        prints(rt.alloc(), "label", &mut disk, 0, text)?;
     }
     Ok(())
 }
@@ -93,42 +81,32 @@ fn what_is_not_taken_writes_nothing(rt: HostRuntime) -> Result<(), test::Fail> {
         ("format 2048 4096 1 AAAAAAAAAAAAAAAAAAAAAAAAAAAAAAA😀", 2, ""),
     ] {
         let mut disk = blank(rt.alloc(), 2048)?;
-        let mut out = sink_of(rt.alloc(), AMPLE, 0)?;
-        let got = run(rt.alloc(), words, &mut disk, &mut out)?;
-        assert_eq!(rt; got, status, "{words}");
-        assert!(rt; out.bytes() == text.as_bytes(), "{words}");
-        assert!(rt; disk.writes().is_empty(), "{words}");
-        assert!(rt; disk.settles().is_empty(), "{words}");
+        only_prints(rt.alloc(), words, &mut disk, status, text)?;
     }
     Ok(())
 }
 
-// Whether a run in which this call of the disk fails ends so, with this text.
+// A run in which this call of the disk fails ends so, with this text.
 fn ends_so(
     alloc: Global,
     kind: CallKind,
     number: u64,
     status: u8,
     text: &str,
-) -> Result<bool, test::Fail> {
+) -> Result<(), test::Fail> {
     let fail = Fail {
         kind,
         number,
         lands: false,
     };
     let mut disk = FailDisk::new(blank(alloc, 2048)?, vec![in alloc; fail]?);
-    let mut out = sink_of(alloc, AMPLE, 0)?;
-    let got = run(alloc, SMALL, &mut disk, &mut out)?;
-    Ok(got == status && out.bytes() == text.as_bytes())
+    prints(alloc, SMALL, &mut disk, status, text)
 }
 
 #[test]
 fn each_failing_write_is_told(rt: HostRuntime) -> Result<(), test::Fail> {
     for number in 1..=1080_u64 {
-        assert!(rt;
-            ends_so(rt.alloc(), CallKind::Write, number, 6, "")?,
-            "{number}"
-        );
+        ends_so(rt.alloc(), CallKind::Write, number, 6, "")?;
     }
     Ok(())
 }
@@ -136,25 +114,19 @@ fn each_failing_write_is_told(rt: HostRuntime) -> Result<(), test::Fail> {
 // There is no write behind the last one, and one settle.
 #[test]
 fn a_failing_settle_is_told(rt: HostRuntime) -> Result<(), test::Fail> {
-    assert!(rt; ends_so(rt.alloc(), CallKind::Settle, 1, 6, "")?);
-    assert!(rt; ends_so(rt.alloc(), CallKind::Settle, 2, 0, "formatted 256\n")?);
-    assert!(rt; ends_so(rt.alloc(), CallKind::Write, 1081, 0, "formatted 256\n")?);
-    Ok(())
+    ends_so(rt.alloc(), CallKind::Settle, 1, 6, "")?;
+    ends_so(rt.alloc(), CallKind::Settle, 2, 0, "formatted 256\n")?;
+    ends_so(rt.alloc(), CallKind::Write, 1081, 0, "formatted 256\n")
 }
 
 // The volume is made all the same.
 #[test]
 fn a_failing_sink_is_told(rt: HostRuntime) -> Result<(), test::Fail> {
     let mut disk = blank(rt.alloc(), 2048)?;
-    for (words, fails, status) in [(OUT_OF_RANGE, 1, 5), (SMALL, 1, 5), ("label", 0, 0)] {
-        let mut out = sink_of(rt.alloc(), AMPLE, fails)?;
-        assert_eq!(rt;
-            run(rt.alloc(), words, &mut disk, &mut out)?,
-            status,
-            "{words}"
-        );
-        let text = if fails == 0 { LABEL } else { "" };
-        assert!(rt; out.bytes() == text.as_bytes(), "{words}");
+    for words in [OUT_OF_RANGE, SMALL] {
+        let mut out = sink_of(rt.alloc(), AMPLE, 1)?;
+        let got = run(rt.alloc(), words, &mut disk, &mut out)?;
+        assert!(rt; got == 5 && out.bytes().is_empty(), "{words}");
     }
-    Ok(())
+    prints(rt.alloc(), "label", &mut disk, 0, LABEL)
 }

@@ -1,5 +1,6 @@
 //! The word `label`, on a volume of which record 0 and record 3 stand as a format lays them out.
-use laid_volumes::given::{AMPLE, boot_sector, disk_with, run, sink_of};
+use laid_volumes::cases::{only_prints, prints};
+use laid_volumes::given::{boot_sector, disk_with};
 use std::alloc::{AllocError, Global};
 use std::test;
 use vol_bytes::{put_u16, put_u32, put_u64, u16_at};
@@ -131,14 +132,7 @@ fn label_prints_or_refuses(rt: HostRuntime) -> Result<(), test::Fail> {
     ];
     for (zeroed, attributes, status, text) in rows {
         let mut disk = volume(rt.alloc(), &attributes.concat(rt.alloc())?, zeroed)?;
-        let mut out = sink_of(rt.alloc(), AMPLE, 0)?;
-        let got = run(rt.alloc(), "label", &mut disk, &mut out)?;
-        assert_eq!(rt; got, status, "{zeroed} zeroed, for {text}");
-        assert!(rt;
-            out.bytes() == text.as_bytes(),
-            "{zeroed} zeroed, for {text}"
-        );
-        assert!(rt; disk.writes().is_empty(), "{zeroed} zeroed, for {text}");
+        only_prints(rt.alloc(), "label", &mut disk, status, text)?;
     }
     Ok(())
 }
@@ -161,11 +155,7 @@ fn label_prints_any_name(rt: HostRuntime) -> Result<(), test::Fail> {
     ];
     for (name, text) in table {
         let mut disk = named(rt.alloc(), name)?;
-        let mut out = sink_of(rt.alloc(), AMPLE, 0)?;
-        let got = run(rt.alloc(), "label", &mut disk, &mut out)?;
-        assert_eq!(rt; got, 0, "for {text}");
-        assert!(rt; out.bytes() == text.as_bytes(), "for {text}");
-        assert!(rt; disk.writes().is_empty(), "for {text}");
+        only_prints(rt.alloc(), "label", &mut disk, 0, text)?;
     }
     Ok(())
 }
@@ -181,11 +171,7 @@ fn label_prints_a_long_name(rt: HostRuntime) -> Result<(), test::Fail> {
     }
     text.push_str("\nversion 3.1\n")?;
     let mut disk = volume(rt.alloc(), &attributes, ZERO)?;
-    let mut out = sink_of(rt.alloc(), AMPLE, 0)?;
-    assert_eq!(rt; run(rt.alloc(), "label", &mut disk, &mut out)?, 0);
-    assert!(rt; out.bytes() == text.as_bytes());
-    assert!(rt; disk.writes().is_empty());
-    Ok(())
+    only_prints(rt.alloc(), "label", &mut disk, 0, &text)
 }
 
 #[test]
@@ -199,10 +185,7 @@ fn label_makes_five_reads(rt: HostRuntime) -> Result<(), test::Fail> {
         };
         let inner = named(rt.alloc(), b"D\0A\0T\0A\0")?;
         let mut disk = FailDisk::new(inner, vec![in rt.alloc(); fail]?);
-        let mut out = sink_of(rt.alloc(), AMPLE, 0)?;
-        let got = run(rt.alloc(), "label", &mut disk, &mut out)?;
-        assert_eq!(rt; got, status, "read {number}");
-        assert!(rt; out.bytes() == text.as_bytes(), "read {number}");
+        prints(rt.alloc(), "label", &mut disk, status, text)?;
         assert!(rt; disk.inner().writes().is_empty(), "read {number}");
     }
     Ok(())

@@ -1,4 +1,5 @@
 //! The word `make`: what it prints and leaves, which words it takes, and where a call fails.
+use laid_volumes::cases::{only_prints, prints};
 use laid_volumes::given::{AMPLE, boot_sector, disk_of, run, sink_of};
 use std::alloc::Global;
 use std::test;
@@ -8,6 +9,9 @@ const NONE: &str = "made 0 0 0\ndf 2048 1913 64 38\n";
 
 // The first number behind the seed 0 tells `mv`, and there is nothing to be moved.
 const ONE: &str = "made 1 0 1\ndf 2048 1913 64 38\n";
+
+// Neither has the second anything to remove, and the third has no directory to write in.
+const THREE: &str = "made 3 0 3\ndf 2048 1913 64 38\n";
 
 // Of these lines 38 make a directory, or a file in one that is there; then no record is free. None writes into a file that is there.
 const MANY: &str = "made 300 38 262\ndf 2048 1913 64 0\n";
@@ -21,20 +25,11 @@ fn new_volume(alloc: Global) -> Result<MemDisk, test::Fail> {
     Ok(disk)
 }
 
-// Whether `check` prints that the volume is sound.
-fn is_sound(alloc: Global, disk: &mut MemDisk) -> Result<bool, test::Fail> {
-    let mut out = sink_of(alloc, AMPLE, 0)?;
-    let status = run(alloc, "check", disk, &mut out)?;
-    Ok(status == 0 && out.bytes() == b"sound\n".as_slice())
-}
-
 #[test]
 fn the_text_is_that_of_the_lines(rt: HostRuntime) -> Result<(), test::Fail> {
     for (words, text) in [("make 0 1", NONE), ("make 1 0", ONE)] {
         let mut disk = new_volume(rt.alloc())?;
-        let mut out = sink_of(rt.alloc(), AMPLE, 0)?;
-        assert_eq!(rt; run(rt.alloc(), words, &mut disk, &mut out)?, 0, "{words}");
-        assert!(rt; out.bytes() == text.as_bytes(), "{words}");
+        prints(rt.alloc(), words, &mut disk, 0, text)?;
     }
     Ok(())
 }
@@ -42,17 +37,11 @@ fn the_text_is_that_of_the_lines(rt: HostRuntime) -> Result<(), test::Fail> {
 #[test]
 fn a_seed_tells_the_same_twice(rt: HostRuntime) -> Result<(), test::Fail> {
     let mut first = new_volume(rt.alloc())?;
-    let mut told = sink_of(rt.alloc(), AMPLE, 0)?;
-    assert_eq!(rt; run(rt.alloc(), "make 300 7", &mut first, &mut told)?, 0);
-    assert!(rt; told.bytes() == MANY.as_bytes());
     let mut second = new_volume(rt.alloc())?;
-    let mut again = sink_of(rt.alloc(), AMPLE, 0)?;
-    assert_eq!(rt; run(rt.alloc(), "make 300 7", &mut second, &mut again)?, 0);
-    assert!(rt; told.bytes() == again.bytes());
+    prints(rt.alloc(), "make 300 7", &mut first, 0, MANY)?;
+    prints(rt.alloc(), "make 300 7", &mut second, 0, MANY)?;
     assert!(rt; first.contents() == second.contents());
-    assert!(rt; is_sound(rt.alloc(), &mut first)?);
-    assert!(rt; is_sound(rt.alloc(), &mut second)?);
-    Ok(())
+    prints(rt.alloc(), "check", &mut first, 0, "sound\n")
 }
 
 #[test]
@@ -68,10 +57,7 @@ fn faulty_words_do_nothing(rt: HostRuntime) -> Result<(), test::Fail> {
         "make 1 1 1",
     ] {
         let mut disk = disk_of(rt.alloc(), 16, &boot_sector(0x44, 0xF4))?;
-        let mut out = sink_of(rt.alloc(), AMPLE, 0)?;
-        assert_eq!(rt; run(rt.alloc(), words, &mut disk, &mut out)?, 2, "{words}");
-        assert!(rt; out.bytes().is_empty(), "{words}");
-        assert!(rt; disk.writes().is_empty(), "{words}");
+        only_prints(rt.alloc(), words, &mut disk, 2, "")?;
     }
     Ok(())
 }
@@ -79,22 +65,18 @@ fn faulty_words_do_nothing(rt: HostRuntime) -> Result<(), test::Fail> {
 #[test]
 fn what_is_not_accepted_is_refused(rt: HostRuntime) -> Result<(), test::Fail> {
     let mut disk = disk_of(rt.alloc(), 16, &boot_sector(0x1FE, 0))?;
-    let mut out = sink_of(rt.alloc(), AMPLE, 0)?;
-    assert_eq!(rt; run(rt.alloc(), "make 1 1", &mut disk, &mut out)?, 3);
-    assert!(rt; out.bytes() == b"refused S1 1\n".as_slice());
-    assert!(rt; disk.writes().is_empty());
-    Ok(())
+    only_prints(rt.alloc(), "make 1 1", &mut disk, 3, "refused S1 1\n")
 }
 
 // Each line is settled once: the third settle is the last of three lines.
 #[test]
 fn a_failing_disk_is_told(rt: HostRuntime) -> Result<(), test::Fail> {
-    for (kind, number, status) in [
-        (CallKind::Read, 1, 6),
-        (CallKind::Read, 40, 6),
-        (CallKind::Settle, 1, 6),
-        (CallKind::Settle, 3, 6),
-        (CallKind::Settle, 4, 0),
+    for (kind, number, status, text) in [
+        (CallKind::Read, 1, 6, ""),
+        (CallKind::Read, 40, 6, ""),
+        (CallKind::Settle, 1, 6, ""),
+        (CallKind::Settle, 3, 6, ""),
+        (CallKind::Settle, 4, 0, THREE),
     ] {
         let fail = Fail {
             kind,
@@ -102,12 +84,8 @@ fn a_failing_disk_is_told(rt: HostRuntime) -> Result<(), test::Fail> {
             lands: false,
         };
         let mut disk = FailDisk::new(new_volume(rt.alloc())?, vec![in rt.alloc(); fail]?);
-        let mut out = sink_of(rt.alloc(), AMPLE, 0)?;
-        let got = run(rt.alloc(), "make 3 0", &mut disk, &mut out)?;
-        assert_eq!(rt; got, status, "call {number}");
-        assert_eq!(rt; out.bytes().is_empty(), status == 6, "call {number}");
-        let mut left = disk.into_inner();
-        assert!(rt; is_sound(rt.alloc(), &mut left)?, "call {number}");
+        prints(rt.alloc(), "make 3 0", &mut disk, status, text)?;
+        prints(rt.alloc(), "check", &mut disk.into_inner(), 0, "sound\n")?;
     }
     Ok(())
 }
@@ -118,18 +96,12 @@ fn a_failing_sink_is_told(rt: HostRuntime) -> Result<(), test::Fail> {
     for (room, fails, printed) in [(AMPLE, 1, ""), (5, 0, "made ")] {
         let mut disk = new_volume(rt.alloc())?;
         let mut out = sink_of(rt.alloc(), room, fails)?;
-        assert_eq!(rt;
-            run(rt.alloc(), "make 1 0", &mut disk, &mut out)?,
-            5,
+        let got = run(rt.alloc(), "make 1 0", &mut disk, &mut out)?;
+        assert!(rt;
+            got == 5 && out.bytes() == printed.as_bytes(),
             "room {room}"
         );
-        assert!(rt; out.bytes() == printed.as_bytes(), "room {room}");
-        let mut out = sink_of(rt.alloc(), AMPLE, 0)?;
-        assert_eq!(rt;
-            run(rt.alloc(), "check", &mut disk, &mut out)?,
-            0,
-            "room {room}"
-        );
+        prints(rt.alloc(), "check", &mut disk, 0, "sound\n")?;
     }
     Ok(())
 }

@@ -59,7 +59,7 @@ pub record IsFileEditBy (v : VolumeView) (opens : List OpenEntry) (now session :
   pub opens_stay : (at : Located) → (after (machine_on v opens now) session command at 0).opens ≡ opens
   pub moment_stays : (at : Located) → (after (machine_on v opens now) session command at 0).now ≡ now
   pub few : (new : VolumeView) (file : ℕ) → edit.most v new file + 2
-      ≤ 12 + 12 * length (names_of (records_of v) file) + bytes_in command / 512 + 2 * given_back v new + 2 * given_back new v
+      ≤ 24 + 12 * length (names_of (records_of v) file) + bytes_in command / 512 + 2 * given_back v new + 2 * given_back new v
 
 -- IT ANSWERS that it is done.
 answers-done : (facts : Facts) (m : Machine) (session : ℕ) (command : Command) (at : Located) → is_done command ≡ true

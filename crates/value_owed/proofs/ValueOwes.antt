@@ -212,7 +212,7 @@ module _ (before next : State) (command : Command) (at : Located) (mid staged : 
   wrote made =
       let cost = cost-taking before next command at made s.stands.sound s.stands.reading (value-little tree command at s.edits)
       (value-timed command at made s.edits s.new) in
-      let set : next.written ≤ before.written + bytes_in command / 512 + 2 * given_back old mid + 2 * taken_in old mid + first_cost mid + 12
+      let set : next.written ≤ before.written + bytes_in command / 512 + 2 * given_back old mid + 2 * taken_in old mid + first_cost mid + 24
       + 12 * links_of (read mid) at.file + 0 =
       s.behind.wrote in
       let first = same.first_cost-same key old mid s.stands.sound (calls.apart before next command at mid staged s) s.edited.edits in

@@ -7,6 +7,7 @@ ghost use Rattle.mft_table.specs.Mft.{is_mft_broken, mounted_of, view};
 
 use dir_index::{DuplicatedInformation, link_of_key, list, lookup, refresh_entry};
 use mark_place::{find_flag, find_log};
+use mark_write::Span;
 use mft_table::Mft;
 use mount_check::mount;
 use sparse_io::read_at;
@@ -158,19 +159,24 @@ fn security(
     Ok((there?, bytes?))
 }
 
+const DESCRIPTOR: [u8; 20] = [
+    1, 0, 0, 0x80, 0, 0, 0, 0, 0, 0, 0, 0, 0, 0, 0, 0, 0, 0, 0, 0,
+];
+
 // A new volume has the descriptor of the id 256, of a revision 1 and the control word 0x8000, and no other.
 #[test]
 fn a_security_descriptor_is_found(rt: HostRuntime) -> Result<(), test::Fail> {
     let mut disk = volume(rt.alloc())?;
-    let (there, bytes) = security(rt.alloc(), &mut disk, 256)?;
-    assert!(rt; there);
-    let mut wanted = [0; 20];
-    wanted[0] = 1;
-    wanted[3] = 0x80;
-    assert_eq!(rt; bytes.as_ref().map(Octets::as_slice), Some(&wanted[..]));
-    for id in [0, 255, 257, u32::MAX] {
+    for (id, wanted) in [
+        (256, Some(DESCRIPTOR.as_slice())),
+        (0, None),
+        (255, None),
+        (257, None),
+        (u32::MAX, None),
+    ] {
         let (there, bytes) = security(rt.alloc(), &mut disk, id)?;
-        assert!(rt; !there && bytes.is_none(), "{id}");
+        let told = bytes.as_ref().map(Octets::as_slice);
+        assert!(rt; there == wanted.is_some() && told == wanted, "{id}");
     }
     Ok(())
 }
@@ -204,27 +210,46 @@ fn the_root_is_listed(rt: HostRuntime) -> Result<(), test::Fail> {
 #[test]
 fn the_table_of_case_is_read(rt: HostRuntime) -> Result<(), test::Fail> {
     let mut disk = volume(rt.alloc())?;
-    let letters = case(rt.alloc(), &mut disk, 0xC2, 4)?;
-    assert_eq!(rt; letters.as_slice(), b"\x41\x00\x42\x00".as_slice());
-    let last = case(rt.alloc(), &mut disk, 131_070, 10)?;
-    assert_eq!(rt; last.as_slice(), b"\xFF\xFF".as_slice());
+    let rows: [(u64, usize, &[u8]); 2] = [
+        (0xC2, 4, b"\x41\x00\x42\x00"),
+        (131_070, 10, b"\xFF\xFF"),
+    ];
+    for (at, len, wanted) in rows {
+        let read = case(rt.alloc(), &mut disk, at, len)?;
+        assert_eq!(rt; read.as_slice(), wanted);
+    }
     let whole = case(rt.alloc(), &mut disk, 0, 200_000)?;
     assert_eq!(rt; whole.as_slice().len(), 131_072);
     Ok(())
 }
 
+fn long_key(alloc: Global) -> Result<Vec<u8>, AllocError> {
+    let mut key = Vec::from_slice(alloc, &[5, 0, 0, 0, 0, 0, 5, 0])?;
+    key.resize(0x40, 0)?;
+    key.extend_from_slice(&[255, 1])?;
+    key.resize(66 + 2 * 255, 0x61)?;
+    Ok(key)
+}
+
 // The longest name there is, by the value of its `$FILE_NAME`.
 #[test]
 fn a_long_name_is_read(rt: HostRuntime) -> Result<(), test::Fail> {
-    let mut key = vec![in rt.alloc(); 0x61; 66 + 2 * 255]?;
-    key[..8].copy_from_slice(&[5, 0, 0, 0, 0, 0, 5, 0]);
-    key[0x40..0x42].copy_from_slice(&[255, 1]);
+    let key = long_key(rt.alloc())?;
     let Some(link) = link_of_key(rt.alloc(), &key, 77)? else {
         return Err("no name")?;
     };
     assert_eq!(rt; (link.parent, link.space, link.child), (ROOT, 1, 77));
     assert!(rt; link.name.as_slice() == [0x6161; 255].as_slice());
     Ok(())
+}
+
+// The sectors of spans, the first of each and how many.
+fn spans_of(alloc: Global, log: &[Span]) -> Result<Vec<(u64, u64)>, AllocError> {
+    let mut spans = Vec::new(alloc);
+    for span in log {
+        spans.push((span.first, span.len))?;
+    }
+    Ok(spans)
 }
 
 // The table begins with cluster 2, its mirror with cluster 19, and the log has the 16 clusters from 20 on, of 8 sectors each: so the
@@ -241,17 +266,16 @@ fn the_mark_and_the_log_lie_where_a_new_volume_has_them(rt: HostRuntime) -> Resu
     };
     assert_eq!(rt; (flag.home, flag.copy), (22, 158));
     for sector in [flag.home, flag.copy] {
-        let at = 512 * sector as usize + flag.at;
-        assert_eq!(rt;
-            disk.inner.contents().get(at - 2..at + 2),
-            Some([3, 1, 0, 0].as_slice())
-        );
+        let at = (sector as usize)
+            .saturating_mul(512)
+            .saturating_add(flag.at);
+        let told = disk.inner.contents().get(at.saturating_sub(2)..);
+        assert!(rt; told.unwrap_or(&[]).starts_with(&[3, 1, 0, 0]));
     }
-    let log = log?;
-    assert_eq!(rt; log.len(), 1);
-    for span in &log {
-        assert_eq!(rt; (span.first, span.len), (160, 128));
-    }
+    assert_eq!(rt;
+        spans_of(rt.alloc(), &log?)?.as_slice(),
+        [(160, 128)].as_slice()
+    );
     Ok(())
 }
 
@@ -290,16 +314,34 @@ fn refresh(
     Ok(())
 }
 
+// Whether these bytes stand at a place.
+fn has_at(block: &[u8], at: usize, wanted: &[u8]) -> bool {
+    match block.get(at..) {
+        Some(rest) => rest.starts_with(wanted),
+        None => false,
+    }
+}
+
 // How often a name with that stands in a block, as the value of a `$FILE_NAME`, which begins with a multiple of eight.
 fn told_in(block: &[u8], units: &[u8]) -> usize {
     let mut times: usize = 0;
     for place in 0..block.len() / 8 {
-        let key = &block[8 * place..];
-        if key.len() > 0x42
-            && key[0x42..].starts_with(units)
-            && key[0x08..].starts_with(&REPEATED)
+        let at = place.saturating_mul(8);
+        if has_at(block, at.saturating_add(0x42), units)
+            && has_at(block, at.saturating_add(0x08), &REPEATED)
         {
             times = times.saturating_add(1);
+        }
+    }
+    times
+}
+
+// The same in all blocks that begin so.
+fn told_on(all: &[u8], mark: &[u8], units: &[u8]) -> usize {
+    let mut times: usize = 0;
+    for block in all.chunks(1024) {
+        if block.starts_with(mark) {
+            times = times.saturating_add(told_in(block, units));
         }
     }
     times
@@ -309,20 +351,14 @@ fn told_in(block: &[u8], units: &[u8]) -> usize {
 // of its index, which a record of the table holds: so its layout says.
 #[test]
 fn an_entry_tells_its_file_anew(rt: HostRuntime) -> Result<(), test::Fail> {
-    for (dir, text, mark) in [(5, "$Bitmap", b"INDX"), (11, "$ObjId", b"FILE")] {
-        let mut units = Vec::new(rt.alloc());
-        for byte in text.as_bytes() {
-            units.extend_from_slice(&[*byte, 0])?;
-        }
+    let rows: [(u64, &str, &[u8], &[u8]); 2] = [
+        (5, "$Bitmap", b"$\0B\0i\0t\0m\0a\0p\0", b"INDX"),
+        (11, "$ObjId", b"$\0O\0b\0j\0I\0d\0", b"FILE"),
+    ];
+    for (dir, text, units, mark) in rows {
         let mut disk = volume(rt.alloc())?;
         refresh(rt.alloc(), &mut disk, dir, text)?;
-        let mut times: usize = 0;
-        for block in disk.inner.contents().chunks(1024) {
-            if block.starts_with(mark) {
-                times = times.saturating_add(told_in(block, &units));
-            }
-        }
-        assert_eq!(rt; times, 1, "{text}");
+        assert_eq!(rt; told_on(disk.inner.contents(), mark, units), 1, "{text}");
         assert_eq!(rt; children(rt.alloc(), &mut disk)?.len(), 12);
     }
     Ok(())

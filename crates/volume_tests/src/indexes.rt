@@ -112,20 +112,40 @@ fn records_of(there: bool) -> Listed {
     }
 }
 
-// How many entries the index has under this root.
-fn entries(alloc: Global, records: &mut Listed, root: &[u8]) -> Result<Option<usize>, CheckNo> {
-    let found = check_index(alloc, records, NodeForm::View, 0x10, &IdOrder, root)?;
-    match found {
+// How many entries the index has under this root, of keys in this order.
+fn entries(
+    alloc: Global,
+    records: &mut Listed,
+    collation: u32,
+    root: &[u8],
+) -> Result<Option<usize>, CheckNo> {
+    match check_index(alloc, records, NodeForm::View, collation, &IdOrder, root)? {
         Some(entries) => Ok(Some(entries.len())),
         None => Ok(None),
     }
 }
 
+// Whether record 0 is there, whether the device fails, the second id, the collation that is asked for, and what comes of it.
+const TWO_LEVELS: [(bool, bool, u8, u32, Result<Option<usize>, CheckNo>); 5] = [
+    (true, false, 2, 0x10, Ok(Some(2))),
+    (false, false, 2, 0x10, Ok(None)),
+    (true, true, 2, 0x10, Err(CheckNo::Device)),
+    (true, false, 1, 0x10, Ok(None)),
+    (true, false, 2, 0x12, Ok(None)),
+];
+
 #[test]
-fn two_levels(rt: HostRuntime) -> Result<(), Fail> {
-    let mut records = records_of(true);
-    assert_eq!(rt; entries(rt.alloc(), &mut records, &ROOT)?, Some(2));
-    Ok(())
+fn two_levels(rt: HostRuntime) {
+    for (there, fails, second, collation, wanted) in TWO_LEVELS {
+        let mut records = records_of(there);
+        records.fails = fails;
+        records.block[0x68] = second;
+        let found = entries(rt.alloc(), &mut records, collation, &ROOT);
+        assert!(rt;
+            found == wanted && records.faults == fails as u64,
+            "{second}"
+        );
+    }
 }
 
 #[test]
@@ -134,46 +154,6 @@ fn contents_told(rt: HostRuntime) -> Result<(), Fail> {
     let mut told = Told { blocks: &blocks };
     let found = check_index(rt.alloc(), &mut told, NodeForm::View, 0x10, &IdOrder, &ROOT)?;
     assert!(rt; found.is_some());
-    Ok(())
-}
-
-#[test]
-fn no_record(rt: HostRuntime) -> Result<(), Fail> {
-    let mut records = records_of(false);
-    assert_eq!(rt; entries(rt.alloc(), &mut records, &ROOT)?, None);
-    Ok(())
-}
-
-#[test]
-fn device_that_fails(rt: HostRuntime) -> Result<(), Fail> {
-    let mut records = records_of(true);
-    records.fails = true;
-    let found = entries(rt.alloc(), &mut records, &ROOT);
-    assert_eq!(rt; found, Err(CheckNo::Device));
-    assert_eq!(rt; records.faults, 1);
-    Ok(())
-}
-
-#[test]
-fn ids_that_are_equal(rt: HostRuntime) -> Result<(), Fail> {
-    let mut records = records_of(true);
-    records.block[0x50] = 2;
-    assert_eq!(rt; entries(rt.alloc(), &mut records, &ROOT)?, None);
-    Ok(())
-}
-
-#[test]
-fn another_collation(rt: HostRuntime) -> Result<(), Fail> {
-    let mut records = records_of(true);
-    let found = check_index(
-        rt.alloc(),
-        &mut records,
-        NodeForm::View,
-        0x12,
-        &IdOrder,
-        &ROOT,
-    )?;
-    assert!(rt; found.is_none());
     Ok(())
 }
 
@@ -192,7 +172,7 @@ fn one_record_twice(rt: HostRuntime) -> Result<(), Fail> {
     records.block[0x48] = 16;
     records.block[0x4A] = 0;
     records.block[0x4C] = 2;
-    assert_eq!(rt; entries(rt.alloc(), &mut records, &root)?, None);
+    assert_eq!(rt; entries(rt.alloc(), &mut records, 0x10, &root)?, None);
     Ok(())
 }
 
@@ -341,38 +321,25 @@ fn met(
     Ok(Some([first, all, again]))
 }
 
+// A file, a byte of the name and what it is there, and what is met: the name as it stands in the index, another file, another letter and
+// another namespace.
+const NAMES: [(u64, usize, u8, [bool; 3]); 4] = [
+    (0x0005_0000_0000_0005, 0x41, 3, [true, true, false]),
+    (0x0006_0000_0000_0005, 0x41, 3, [false, false, false]),
+    (0x0005_0000_0000_0005, 0x42, 0x62, [false, false, false]),
+    (0x0005_0000_0000_0005, 0x41, 1, [false, false, false]),
+];
+
 #[test]
 fn names_of_a_directory(rt: HostRuntime) -> Result<(), Fail> {
     let order = order(rt.alloc())?;
-    let found = met(rt.alloc(), &order, 0x5000000000005, &name())?;
-    assert_eq!(rt; found, Some([true, true, false]));
-    Ok(())
-}
-
-#[test]
-fn another_file(rt: HostRuntime) -> Result<(), Fail> {
-    let order = order(rt.alloc())?;
-    let found = met(rt.alloc(), &order, 0x6000000000005, &name())?;
-    assert_eq!(rt; found, Some([false, false, false]));
-    Ok(())
-}
-
-#[test]
-fn another_name(rt: HostRuntime) -> Result<(), Fail> {
-    let order = order(rt.alloc())?;
-    let mut key = name();
-    key[0x42] = 0x62;
-    let found = met(rt.alloc(), &order, 0x5000000000005, &key)?;
-    assert_eq!(rt; found, Some([false, false, false]));
-    Ok(())
-}
-
-#[test]
-fn another_namespace(rt: HostRuntime) -> Result<(), Fail> {
-    let order = order(rt.alloc())?;
-    let mut key = name();
-    key[0x41] = 1;
-    let found = met(rt.alloc(), &order, 0x5000000000005, &key)?;
-    assert_eq!(rt; found, Some([false, false, false]));
+    for (file, at, byte, wanted) in NAMES {
+        let mut key = name();
+        if at < 68 {
+            key[at] = byte;
+        }
+        let found = met(rt.alloc(), &order, file, &key)?;
+        assert_eq!(rt; found, Some(wanted), "{byte} at {at}");
+    }
     Ok(())
 }

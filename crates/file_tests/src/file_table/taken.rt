@@ -168,10 +168,8 @@ fn a_discard_goes_back_to_the_commit(rt: HostRuntime) -> Result<(), test::Fail> 
     let after = mft.free_clusters();
     let (stage, mounted) = mft.into_parts();
     let _ = stage.finish();
-    assert_eq!(rt; turned, Ok(true));
-    assert_eq!(rt; found, [Some(9), Some(20_000)]);
-    assert_eq!(rt; free, (1 << 19) + 1);
-    assert_eq!(rt; after, 1 << 19);
+    assert!(rt; turned == Ok(true) && found == [Some(9), Some(20_000)]);
+    assert_eq!(rt; [free, after], [(1 << 19) + 1, 1 << 19]);
     assert_eq!(rt; first_wrong(&mounted.clusters), None);
     Ok(())
 }

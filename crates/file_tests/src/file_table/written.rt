@@ -112,13 +112,14 @@ fn copy_on<D: Disk>(
 #[test]
 fn records_are_written_with_their_copies(rt: HostRuntime) -> Result<(), test::Fail> {
     let mut disk = MemDisk::new(rt.alloc(), volume(rt.alloc())?);
-    assert!(rt; disk.reserve(6).is_ok());
+    disk.reserve(6)?;
     assert_eq!(rt; copy_on(rt.alloc(), &mut disk, End::Commit)?, Ok(true));
-    let wanted = written();
     assert_eq!(rt; disk.writes().len(), 6);
-    for (i, write) in disk.writes().iter().enumerate() {
-        assert_eq!(rt; write.sector, ORDER[i] as u64, "{i}");
-        assert!(rt; write.bytes == wanted[i], "{i}");
+    for (write, (sector, bytes)) in disk.writes().iter().zip(ORDER.into_iter().zip(written())) {
+        assert!(rt;
+            write.sector == sector as u64 && write.bytes == bytes,
+            "{sector}"
+        );
     }
     Ok(())
 }
@@ -135,33 +136,34 @@ fn discarded_records_are_not_written(rt: HostRuntime) -> Result<(), test::Fail> 
 fn volume_with(alloc: Global, count: usize) -> Result<Vec<u8>, test::Fail> {
     let mut image = volume(alloc)?;
     let wanted = written();
-    for i in 0..count.min(6) {
-        laid::put(&mut image, 512 * ORDER[i], &wanted[i]);
+    for (sector, bytes) in ORDER.iter().zip(&wanted).take(count) {
+        laid::put(&mut image, sector.saturating_mul(512), bytes);
     }
     Ok(image)
+}
+
+// Whether the commit fails where a write does, and leaves so many of its writes.
+fn fails_at(alloc: Global, number: u64, lands: bool, done: usize) -> Result<bool, test::Fail> {
+    let fail = Fail {
+        kind: CallKind::Write,
+        number,
+        lands,
+    };
+    let mut inner = MemDisk::new(alloc, volume(alloc)?);
+    inner.reserve(6)?;
+    let mut disk = FailDisk::new(inner, vec![in alloc; fail]?);
+    let failed = copy_on(alloc, &mut disk, End::Commit)?;
+    let wanted = volume_with(alloc, done)?;
+    Ok(failed == Err(MftNo::Device) && *disk.inner().contents() == *wanted)
 }
 
 // Each write fails in turn: those before it are done, none behind it, and it is as the failure says.
 #[test]
 fn a_failing_write_leaves_those_before_it(rt: HostRuntime) -> Result<(), test::Fail> {
-    for number in 1..7 {
-        for lands in [false, true] {
-            let fail = Fail {
-                kind: CallKind::Write,
-                number,
-                lands,
-            };
-            let mut inner = MemDisk::new(rt.alloc(), volume(rt.alloc())?);
-            assert!(rt; inner.reserve(6).is_ok());
-            let mut disk = FailDisk::new(inner, vec![in rt.alloc(); fail]?);
-            assert_eq!(rt;
-                copy_on(rt.alloc(), &mut disk, End::Commit)?,
-                Err(MftNo::Device)
-            );
-            let done = number as usize - 1 + lands as usize;
-            let wanted = volume_with(rt.alloc(), done)?;
-            assert!(rt; *disk.inner().contents() == *wanted, "{number}");
-        }
+    for done in 0..6 {
+        let number = done as u64 + 1;
+        assert!(rt; fails_at(rt.alloc(), number, false, done)?, "{number}");
+        assert!(rt; fails_at(rt.alloc(), number, true, done + 1)?, "{number}");
     }
     Ok(())
 }
@@ -208,12 +210,11 @@ fn write_4000_on<D: Disk>(alloc: Global, disk: &mut D) -> Result<Result<bool, Mf
 #[test]
 fn staged_sectors_are_written_by_their_numbers(rt: HostRuntime) -> Result<(), test::Fail> {
     let mut disk = MemDisk::new(rt.alloc(), volume(rt.alloc())?);
-    assert!(rt; disk.reserve(4000).is_ok());
+    disk.reserve(4000)?;
     assert_eq!(rt; write_4000_on(rt.alloc(), &mut disk)?, Ok(true));
     assert_eq!(rt; disk.writes().len(), 4000);
-    for (i, write) in disk.writes().iter().enumerate() {
-        assert_eq!(rt; write.sector, i as u64, "{i}");
-        assert!(rt; write.bytes == numbered(i as u64), "{i}");
+    for (write, i) in disk.writes().iter().zip(0u64..) {
+        assert!(rt; write.sector == i && write.bytes == numbered(i), "{i}");
     }
     Ok(())
 }
