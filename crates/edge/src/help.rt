@@ -27,7 +27,8 @@ bytes over bytes of a stream that stand in clusters. Of a stream that stands in 
 record of its file punch TARGET AT LEN puts zeros over bytes, and where that is the
 only record of the file write and hwrite put bytes into it, over its own or right
 behind these, and move it into clusters where its record has no room, truncate
-TARGET SIZE cuts or lengthens it, as far as that record has room, and rmstream
+TARGET SIZE cuts or lengthens it, there or within the last cluster that it would
+fill, and rmstream
 PATH:NAME removes it. Of a stream of such a file in clusters truncate cuts it, or
 lengthens it within its last cluster, rmstream removes it, and write and hwrite put
 bytes right behind those that were written, into new clusters too. All new clusters
