@@ -104,9 +104,7 @@ fn runs_are_found(rt: HostRuntime) -> Result<(), Fail> {
 #[test]
 fn a_run_is_found_far_behind(rt: HostRuntime) -> Result<(), Fail> {
     let mut bytes = vec![in rt.alloc(); 0xFF; 1 << 17]?;
-    if let Some(last) = bytes.last_mut() {
-        *last = 0x1F;
-    }
+    bytes[(1 << 17) - 1] = 0x1F;
     let mut bits = Bits::load(rt.alloc(), &bytes, 1 << 20)?;
     assert_eq!(rt; found_run(&bits, 3, 0), Some((1 << 20) - 3));
     assert!(rt; give_taken(&mut bits, 1000, 300));

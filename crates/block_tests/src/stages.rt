@@ -70,12 +70,12 @@ fn a_read_that_fails_is_the_devices(rt: HostRuntime) -> Result<(), AllocError> {
     };
     let inner = MemDisk::new(rt.alloc(), vec![in rt.alloc(); 1; 5120]?);
     let mut disk = FailDisk::new(inner, vec![in rt.alloc(); second]?);
+    let mut into = [ZERO; 2];
+    let failed = read_through(rt.alloc(), &mut disk, &mut into);
+    assert!(rt; failed == Err(StageNo::Device) && into == [ONE, ZERO]);
     // Only that read.
-    for (done, read) in [(Err(StageNo::Device), [ONE, ZERO]), (Ok(()), [ONE, ONE])] {
-        let mut into = [ZERO; 2];
-        let got = read_through(rt.alloc(), &mut disk, &mut into);
-        assert!(rt; got == done && into == read);
-    }
+    let read = read_through(rt.alloc(), &mut disk, &mut into);
+    assert!(rt; read == Ok(()) && into == [ONE, ONE]);
     Ok(())
 }
 

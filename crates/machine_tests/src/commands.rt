@@ -271,11 +271,14 @@ fn long_lines_are_read(rt: HostRuntime) -> Result<(), AllocError> {
     Ok(())
 }
 
-/// A reply as it is printed.
+/// A reply as it is printed; a device fault has no text.
 pub fn printed(alloc: Global, reply: &Reply) -> Result<Vec<u8>, Fail> {
     let mut out = MemSink::new(alloc, Vec::new(alloc));
     out.reserve(30_000)?;
-    print_reply(reply, &mut out)?;
+    match reply {
+        Reply::Device => {}
+        _ => print_reply(reply, &mut out)?,
+    }
     Ok(out.bytes().to_vec(alloc)?)
 }
 
