@@ -1,0 +1,8 @@
+pub mod Exits
+pub mod ClearedBit
+pub mod Goes
+pub mod Between
+pub mod Wants
+pub mod Gone
+pub mod Left
+pub mod Beside
