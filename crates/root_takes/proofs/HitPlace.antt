@@ -36,9 +36,9 @@ module _ (order : List ℕ → List ℕ → Ordering) (root key : List ℕ) (i :
     (seeks : SeeksNode order Names root key i hit child) where
   -- the search ended at the entry
   pub leaf-hit : hit ≡ true → child ≡ None → IsLeafHit order root key i
-  leaf-hit yes none =
+  leaf-hit hits none =
       let found : (said : Node) → node_in Names root ≡ Some said → IsPlace (λ x. order x key) said.entries i true =
-      λ said is. subst (IsPlace (λ x. order x key) said.entries i) yes (seeks.found said is) in
+      λ said is. subst (IsPlace (λ x. order x key) said.entries i) hits (seeks.found said is) in
       record {
         entry = record {
           said = seeks.place.said;
@@ -51,9 +51,9 @@ module _ (order : List ℕ → List ℕ → Ordering) (root key : List ℕ) (i :
 
   -- .. or there is none
   pub no-hit : (valid : List ℕ → Bool) → hit ≡ false → IsHitRoot order valid root key → ⊥
-  no-hit valid no is =
+  no-hit valid missing is =
       let missed = hits-at (λ x. order x key) is.leaf.said.entries i hit (seeks.found is.leaf.said is.leaf.is) in
-      let never : true ≡ false = sym is.hits ∙ missed ∙ no in
+      let never : true ≡ false = sym is.hits ∙ missed ∙ missing in
       cc
 
   pub no-leaf : (valid : List ℕ → Bool) → is_some child ≡ true → IsHitRoot order valid root key → ⊥

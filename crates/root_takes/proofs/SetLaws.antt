@@ -1,11 +1,11 @@
 -- A VALUE THAT GETS ANOTHER, no longer one, in a record that is held: bytes are put over it, and then it is cut.
-use Rattle.std.proofs.Common.{◌≡◌, ◌+◌, ◌-◌, ◌*◌, ◌<◌, ◌≤◌, ◌++◌, ℕ, zero, suc, List, [], ◌∷◌, Option, Some, None, Ok, Err, drop, length, max, map, take, refl, sym, ap, subst, ◌∙◌}
+use Rattle.std.proofs.Common.{◌≡◌, ◌+◌, ◌-◌, ◌*◌, ◌<◌, ◌≤◌, ◌++◌, ℕ, zero, suc, List, [], ◌∷◌, Option, Some, None, Ok, Err, drop, get_or, length, max, map, take, refl, sym, ap, subst, ◌∙◌}
 use Rattle.std.proofs.Common.{inl, inr, arith}
 use Rattle.std.specs.Prelude.{◌⊎◌, Contains, IfSome, IsSome, IsSomeAnd, IsTrue, OnErr, OnOk, Result, false, replicate, slice_get}
 use Rattle.std.specs.Option.{option_map}
 use Rattle.std.proofs.lemmas.List.{append-nil, length-append}
 use Rattle.std.proofs.lemmas.List.Elements.{All-contains}
-use Rattle.std.proofs.lemmas.Option.{slice_get_within}
+use Rattle.std.proofs.lemmas.Option.{slice_get-get_or, slice_get_past, slice_get_within}
 use Rattle.list_laws.proofs.MemberLaws.{Contains-flat_map, Contains-head}
 use Rattle.list_laws.proofs.OptionLaws.{some_same}
 use Rattle.list_laws.proofs.PieceLaws.{All-one}
@@ -13,7 +13,7 @@ use Rattle.ntfs_def.specs.Attribute.{Attribute, attribute_len, attribute_place, 
 use Rattle.ntfs_def.specs.Fixup.{bare_of, opened_of}
 use Rattle.ntfs_def.specs.Record.{used_size}
 use Rattle.ntfs_def.specs.Shape.{HasShape}
-use Rattle.ntfs_def.proofs.AttributeLaws.{slice_get-attributes}
+use Rattle.ntfs_def.proofs.AttributeLaws.{length-attributes, slice_get-attributes}
 use Rattle.ntfs_def.proofs.BareRecords.{SameOutside-bare_of}
 use Rattle.ntfs_def.proofs.SameLaws.{attributes-same}
 use Rattle.ntfs_def.proofs.ShapeLaws.{header_failing-used}
@@ -77,6 +77,35 @@ long-then (Some was) now is = length-put now was
 said-value : (o : Option (List ℕ)) (P : List ℕ → Type 0) → IsSomeAnd o P → (v : List ℕ) × (o ≡ Some v) × P v
 said-value None P h = absurd h
 said-value (Some v) P h = (v, refl, h)
+
+-- THE TEST of a value: it says exactly that one is there.
+module _ (held : Held) (i len : ℕ) where
+  pub is-value : (value : List ℕ) → i < held.count → Some value ≡ value_of (attribute_in held.block i).body → len ≤ length value
+      → HoldsValue i len held
+  is-value value lt is long =
+      let all = length-attributes held.block held.count held.shape in
+      record {
+        within = omega (arith, lt, all);
+        value = subst (λ (o : Option (List ℕ)). IsSomeAnd o (λ value. len ≤ length value)) is long;
+      }
+
+  pub value-long : (value : List ℕ) → Some value ≡ value_of (attribute_in held.block i).body → HoldsValue i len held → len ≤ length value
+  value-long value is holds = subst (λ (o : Option (List ℕ)). IsSomeAnd o (λ value. len ≤ length value)) (sym is) holds.value
+
+  pub value-none : None ≡ value_of (attribute_in held.block i).body → HoldsValue i len held → ⊥
+  value-none is holds = subst (λ (o : Option (List ℕ)). IsSomeAnd o (λ value. len ≤ length value)) (sym is) holds.value
+
+  pub value-past : held.count ≤ i → HoldsValue i len held → ⊥
+  value-past past holds =
+      let all = length-attributes held.block held.count held.shape in
+      omega (arith, past, all, holds.within)
+
+-- a record that was read is held there
+pub held-at : (held : Held) (k : ℕ) (xs : List Held) → k < length xs → held ≡ get_or xs k held → slice_get xs k ≡ Some held
+held-at held k xs lt is = slice_get-get_or xs k held lt ∙ ap (λ (h : Held). Some h) (sym is)
+
+pub none-past : (xs : List Held) (k : ℕ) (P : Held → Type 0) → length xs ≤ k → IsSomeAnd (slice_get xs k) P → ⊥
+none-past xs k P past h = subst (λ o. IsSomeAnd o P) (slice_get_past xs k past) h
 
 -- what is said of a record that is held
 pub held-said : (o : Option Held) (P : Held → Type 0) → IsSomeAnd o P → (one : Held) × (o ≡ Some one) × P one
