@@ -19,8 +19,9 @@ use Rattle.volume_def.specs.Table.{TableLayout}
 use Rattle.volume_def.specs.View.{VolumeView}
 use Rattle.volume_edits.specs.Rewritten.{CountsLinks}
 use Rattle.mft_table.specs.declared.mft.Mft.{Mft}
-use Rattle.mft_table.specs.Mft.{MftReads, MftReserves, MftStages, stage_of}
+use Rattle.mft_table.specs.Mft.{MftReads, MftReserves, MftStages, is_mft_broken, stage_of}
 use Rattle.mft_table.specs.Staging.{record_places}
+use Rattle.mft_table.proofs.DiskKept.{KeepsDisk-reads}
 use Rattle.file_record.specs.Attributes.{RemovesAttribute, opened_record}
 use Rattle.file_record.specs.declared.held.Held.{Held}
 use Rattle.file_record.specs.declared.parts.FileParts.{FileParts}
@@ -174,3 +175,8 @@ read-then g layout n reads a b c read stages = record {
     | inr new ↦ inr new
   ];
 }
+
+-- the tables stay sound behind a call that only reads
+pub sound-then : {D : Type 0} (g : Ghosts D) (a b : Mft D g) (reads : ℕ) → MftReads g a b reads → is_mft_broken g a ≡ false
+    → is_mft_broken g b ≡ false
+sound-then g a b reads read sound = (KeepsDisk-reads g a b reads read).broken ∙ sound

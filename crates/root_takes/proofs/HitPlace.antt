@@ -1,6 +1,6 @@
 -- THE ENTRY OF A KEY in a root that leads to no record, and how long the root is without it.
 use Rattle.std.proofs.Common.{◌≡◌, ◌+◌, ◌<◌, ◌≤◌, ℕ, Bool, true, false, List, Option, Some, None, drop, length, refl, sym, ap, subst, ◌∙◌, arith}
-use Rattle.std.specs.Prelude.{is_some}
+use Rattle.std.specs.Prelude.{is_some, not}
 use Rattle.std.specs.declared.cmp.Ordering.{Ordering}
 use Rattle.list_laws.proofs.OptionLaws.{some_same}
 use Rattle.ntfs_def.specs.Node.{Node, child_at, entry_place, first_entry, has_children, node_in, short_node}
@@ -75,3 +75,12 @@ pub no-longer : (order : List ℕ → List ℕ → Ordering) (before key after :
 no-longer order before key after has =
     let long = has.shrinks.long has.hit.entry.said has.hit.entry.is nothing in
     omega (arith, long)
+
+-- a test said otherwise
+pub missed-hit : (hit : Bool) → not hit ≡ true → hit ≡ false
+missed-hit true h = cc
+missed-hit false h = refl
+
+pub not-missed : (hit : Bool) → not hit ≡ false → hit ≡ true
+not-missed true h = refl
+not-missed false h = cc

@@ -13,7 +13,7 @@ use Rattle.ntfs_def.specs.Attribute.{Attribute, attribute_len, attribute_place, 
 use Rattle.ntfs_def.specs.Fixup.{bare_of, opened_of}
 use Rattle.ntfs_def.specs.Record.{used_size}
 use Rattle.ntfs_def.specs.Shape.{HasShape}
-use Rattle.ntfs_def.proofs.AttributeLaws.{length-attributes, slice_get-attributes}
+use Rattle.ntfs_def.proofs.AttributeLaws.{slice_get-attributes}
 use Rattle.ntfs_def.proofs.BareRecords.{SameOutside-bare_of}
 use Rattle.ntfs_def.proofs.SameLaws.{attributes-same}
 use Rattle.ntfs_def.proofs.ShapeLaws.{header_failing-used}
@@ -80,14 +80,12 @@ said-value (Some v) P h = (v, refl, h)
 
 -- THE TEST of a value: it says exactly that one is there.
 module _ (held : Held) (i len : ℕ) where
-  pub is-value : (value : List ℕ) → i < held.count → Some value ≡ value_of (attribute_in held.block i).body → len ≤ length value
-      → HoldsValue i len held
-  is-value value lt is long =
-      let all = length-attributes held.block held.count held.shape in
-      record {
-        within = omega (arith, lt, all);
-        value = subst (λ (o : Option (List ℕ)). IsSomeAnd o (λ value. len ≤ length value)) is long;
-      }
+  pub is-value : (value : List ℕ) → i < length (attributes held.block) → Some value ≡ value_of (attribute_in held.block i).body
+      → len ≤ length value → HoldsValue i len held
+  is-value value lt is long = record {
+    within = lt;
+    value = subst (λ (o : Option (List ℕ)). IsSomeAnd o (λ value. len ≤ length value)) is long;
+  }
 
   pub value-long : (value : List ℕ) → Some value ≡ value_of (attribute_in held.block i).body → HoldsValue i len held → len ≤ length value
   value-long value is holds = subst (λ (o : Option (List ℕ)). IsSomeAnd o (λ value. len ≤ length value)) (sym is) holds.value
@@ -95,10 +93,8 @@ module _ (held : Held) (i len : ℕ) where
   pub value-none : None ≡ value_of (attribute_in held.block i).body → HoldsValue i len held → ⊥
   value-none is holds = subst (λ (o : Option (List ℕ)). IsSomeAnd o (λ value. len ≤ length value)) (sym is) holds.value
 
-  pub value-past : held.count ≤ i → HoldsValue i len held → ⊥
-  value-past past holds =
-      let all = length-attributes held.block held.count held.shape in
-      omega (arith, past, all, holds.within)
+  pub value-past : length (attributes held.block) ≤ i → HoldsValue i len held → ⊥
+  value-past past holds = let within = holds.within in omega (arith, past, within)
 
 -- a record that was read is held there
 pub held-at : (held : Held) (k : ℕ) (xs : List Held) → k < length xs → held ≡ get_or xs k held → slice_get xs k ≡ Some held
