@@ -1,6 +1,6 @@
 -- THE ENTRY OF A KEY in a root that leads to no record, and how long the root is without it.
 use Rattle.std.proofs.Common.{◌≡◌, ◌+◌, ◌<◌, ◌≤◌, ℕ, Bool, true, false, List, Option, Some, None, drop, length, refl, sym, ap, subst, ◌∙◌, arith}
-use Rattle.std.specs.Prelude.{is_some}
+use Rattle.std.specs.Prelude.{is_some, not}
 use Rattle.std.specs.declared.cmp.Ordering.{Ordering}
 use Rattle.list_laws.proofs.OptionLaws.{some_same}
 use Rattle.ntfs_def.specs.Node.{Node, child_at, entry_place, first_entry, has_children, node_in, short_node}
@@ -36,9 +36,9 @@ module _ (order : List ℕ → List ℕ → Ordering) (root key : List ℕ) (i :
     (seeks : SeeksNode order Names root key i hit child) where
   -- the search ended at the entry
   pub leaf-hit : hit ≡ true → child ≡ None → IsLeafHit order root key i
-  leaf-hit yes none =
+  leaf-hit hits none =
       let found : (said : Node) → node_in Names root ≡ Some said → IsPlace (λ x. order x key) said.entries i true =
-      λ said is. subst (IsPlace (λ x. order x key) said.entries i) yes (seeks.found said is) in
+      λ said is. subst (IsPlace (λ x. order x key) said.entries i) hits (seeks.found said is) in
       record {
         entry = record {
           said = seeks.place.said;
@@ -51,9 +51,9 @@ module _ (order : List ℕ → List ℕ → Ordering) (root key : List ℕ) (i :
 
   -- .. or there is none
   pub no-hit : (valid : List ℕ → Bool) → hit ≡ false → IsHitRoot order valid root key → ⊥
-  no-hit valid no is =
+  no-hit valid missing is =
       let missed = hits-at (λ x. order x key) is.leaf.said.entries i hit (seeks.found is.leaf.said is.leaf.is) in
-      let never : true ≡ false = sym is.hits ∙ missed ∙ no in
+      let never : true ≡ false = sym is.hits ∙ missed ∙ missing in
       cc
 
   pub no-leaf : (valid : List ℕ → Bool) → is_some child ≡ true → IsHitRoot order valid root key → ⊥
@@ -75,3 +75,12 @@ pub no-longer : (order : List ℕ → List ℕ → Ordering) (before key after :
 no-longer order before key after has =
     let long = has.shrinks.long has.hit.entry.said has.hit.entry.is nothing in
     omega (arith, long)
+
+-- a test said otherwise
+pub missed-hit : (hit : Bool) → not hit ≡ true → hit ≡ false
+missed-hit true h = cc
+missed-hit false h = refl
+
+pub not-missed : (hit : Bool) → not hit ≡ false → hit ≡ true
+not-missed true h = refl
+not-missed false h = cc

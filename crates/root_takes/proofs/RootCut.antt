@@ -1,24 +1,23 @@
 -- A ROOT WAS WRITTEN that is no longer than it was, as a call on the record of its directory, and what it leaves of parts, of the table of
 -- case, and of what stands between calls.
-use Rattle.std.proofs.Common.{◌≡◌, ◌≢◌, ◌+◌, ◌<◌, ◌≤◌, ◌==◌, ◌%◌, ◌&&◌, ◌++◌, ℕ, zero, suc, Bool, true, false, cond}
-use Rattle.std.proofs.Common.{List, [], ◌∷◌, length, max, drop, take, filter, map, Option, Some}
+use Rattle.std.proofs.Common.{◌≡◌, ◌≢◌, ◌<◌, ◌≤◌, ◌==◌, ◌%◌, ◌&&◌, ℕ, zero, suc, Bool, true, false, cond}
+use Rattle.std.proofs.Common.{List, [], ◌∷◌, length, take, filter, map, Option, Some}
 use Rattle.std.proofs.Common.{refl, sym, ap, subst, ◌∙◌, arith, inl, inr}
-use Rattle.std.specs.Prelude.{Contains, IfSome, IsSome, IsSomeAnd, IsTrue, codes, is_none, is_some, nat_eq, slice_index, unwrap_or}
+use Rattle.std.specs.Prelude.{Contains, IsSome, IsSomeAnd, IsTrue, codes, is_none, is_some, nat_eq, slice_index, unwrap_or}
 use Rattle.std.specs.List.{starts_with}
 use Rattle.std.specs.Option.{option_map, option_map_or}
 use Rattle.std.specs.Str.{bytes_eq}
 use Rattle.list_laws.proofs.FindLaws.{find-found}
-use Rattle.list_laws.proofs.MemberLaws.{Contains-filter, Contains-from_filter, Contains-head, Contains-map, Contains-only}
+use Rattle.list_laws.proofs.MemberLaws.{Contains-filter, Contains-head, Contains-map, Contains-only}
 use Rattle.list_laws.proofs.OptionLaws.{some_same}
 use Rattle.list_laws.proofs.PieceLaws.{All-one}
 use Rattle.list_laws.proofs.ReplacesLaws.{Replaces-filter, Replaces-itself}
 use Rattle.ntfs_def.specs.Attribute.{Attribute, Body, NonResident, Resident, extent_of, value_of}
 use Rattle.ntfs_def.specs.Fixup.{opened_of}
 use Rattle.ntfs_def.specs.Record.{Header, Reference, header_of, is_in_use, record_flags, sequence_of}
-use Rattle.ntfs_def.specs.Units.{wide}
 use Rattle.ntfs_def.specs.declared.kinds.TheConstants.{INDEX_ROOT}
 use Rattle.volume_def.specs.CaseClause.{volume_fold}
-use Rattle.volume_def.specs.Files.{Part, content_value, file_of, is_base, is_of, part_of, part_runs, parts, parts_at, record_of, record_on}
+use Rattle.volume_def.specs.Files.{Part, content_value, file_of, is_base, is_of, part_of, part_runs, parts, parts_at, record_of}
 use Rattle.volume_def.specs.Files.{records_of}
 use Rattle.volume_def.specs.Freed.{stored_sequence}
 use Rattle.volume_def.specs.Readable.{IsFile}
@@ -55,7 +54,7 @@ use Rattle.record_calls.proofs.Values.{body-none, body-value, one-value}
 use Rattle.record_calls.proofs.WholeCalls.{edited-replaced, may-edit, ready-replaced, was-right}
 use Rattle.index_puts.specs.PutsRoot.{IsRootAt}
 use Rattle.root_puts.specs.PutsInRoot.{KeepsHolder, KeepsRootHead, WritesRecord, root_key}
-use Rattle.root_puts.proofs.RootCall.{is-file, its, its-name, names}
+use Rattle.root_puts.proofs.RootCall.{is-file, its, its-name, names, part}
 
 -- lists that have the same bytes in front
 take-same : (n : ℕ) (xs ys : List ℕ) → n ≤ length xs → n ≤ length ys → ((k : ℕ) → k < n → slice_index xs k ≡ slice_index ys k)
@@ -153,7 +152,8 @@ module _ (old new : VolumeView) (dir i : ℕ) (before after : List ℕ) (root : 
   root-was =
       let was : part old dir dir i before root ≡ part_of dir e.was = ap (part_of dir) same in
       let there = subst (λ (p : Part). Contains (parts (records_of old) dir) p) was (its old dir dir i before root).0 in
-      let all = value-alone old dir (part_of dir e.was) (ready.editable.readable.extents dir) (is-file old dir dir i before root marks ready one) there
+      let all = value-alone old dir (part_of dir e.was) (ready.editable.readable.extents dir)
+      (is-file old dir dir i before root marks ready one) there
       (value-content dir e.was was-is) (λ z. let k = was-name.0 in omega (arith, z, k)) in
       ap (λ k. parts_at old dir k names) (sym was-name.0) ∙ ap (parts_at old dir e.was.kind) (sym was-name.1) ∙ all
 

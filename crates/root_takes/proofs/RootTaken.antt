@@ -61,7 +61,7 @@ module _ (old new : VolumeView) (dir i : ℕ) (before after : List ℕ) (root : 
     pub says : short_node Names before ≡ Some has.root_node
     says = ap (short_node Names) (sym same) ∙ has.says
 
-    last : has.root_node.last ≡ None
+    pub last : has.root_node.last ≡ None
     last = leaf has.root_node says
 
     abbrev node' : Node

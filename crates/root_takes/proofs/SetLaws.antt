@@ -1,11 +1,11 @@
 -- A VALUE THAT GETS ANOTHER, no longer one, in a record that is held: bytes are put over it, and then it is cut.
-use Rattle.std.proofs.Common.{◌≡◌, ◌+◌, ◌*◌, ◌<◌, ◌≤◌, ◌++◌, ℕ, zero, suc, List, [], ◌∷◌, Option, Some, None, Ok, Err, drop, length, max, map, take, refl, sym, ap, subst, ◌∙◌}
+use Rattle.std.proofs.Common.{◌≡◌, ◌+◌, ◌-◌, ◌*◌, ◌<◌, ◌≤◌, ◌++◌, ℕ, zero, suc, List, [], ◌∷◌, Option, Some, None, Ok, Err, drop, get_or, length, max, map, take, refl, sym, ap, subst, ◌∙◌}
 use Rattle.std.proofs.Common.{inl, inr, arith}
-use Rattle.std.specs.Prelude.{◌⊎◌, Contains, IfSome, IsSome, IsSomeAnd, IsTrue, OnErr, OnOk, Result, false, slice_get}
+use Rattle.std.specs.Prelude.{◌⊎◌, Contains, IfSome, IsSome, IsSomeAnd, IsTrue, OnErr, OnOk, Result, false, replicate, slice_get}
 use Rattle.std.specs.Option.{option_map}
-use Rattle.std.proofs.lemmas.Grind.{common_steps}
+use Rattle.std.proofs.lemmas.List.{append-nil, length-append}
 use Rattle.std.proofs.lemmas.List.Elements.{All-contains}
-use Rattle.std.proofs.lemmas.Option.{slice_get_within}
+use Rattle.std.proofs.lemmas.Option.{slice_get-get_or, slice_get_past, slice_get_within}
 use Rattle.list_laws.proofs.MemberLaws.{Contains-flat_map, Contains-head}
 use Rattle.list_laws.proofs.OptionLaws.{some_same}
 use Rattle.list_laws.proofs.PieceLaws.{All-one}
@@ -24,7 +24,7 @@ use Rattle.volume_def.specs.Coverage.{IsApart}
 use Rattle.volume_def.specs.Table.{TableLayout}
 use Rattle.volume_def.specs.View.{VolumeView}
 use Rattle.mft_table.specs.declared.mft.Mft.{Mft}
-use Rattle.mft_table.specs.Mft.{MftReserves, MftStages, stage_of, view}
+use Rattle.mft_table.specs.Mft.{MftReserves, MftStages, faults_of, stage_of, view}
 use Rattle.mft_table.specs.Staging.{record_places}
 use Rattle.file_record.specs.Attributes.{ChangesValue, HasRoomToPut, PutsInValue, ResizesAttribute, opened_record, with_bytes_at}
 use Rattle.file_record.specs.declared.held.Held.{Held}
@@ -41,18 +41,32 @@ use Rattle.root_takes.specs.ShrunkRoot.{HoldsValue}
 use Rattle.root_takes.proofs.ChangedTwice as twice
 
 -- BYTES put over a value that was no shorter, which is cut then: these bytes
-put-and-cut : (now was : List ℕ) → length now ≤ length was → with_length (length now) (with_bytes_at 0 now was) ≡ now
-put-and-cut now was short = grind (arith, common_steps)
+front : (now rest : List ℕ) → take (length now) (now ++ rest) ≡ now
+front [] rest = refl
+front (x ∷ xs) rest = ap (λ (ys : List ℕ). x ∷ ys) (front xs rest)
+
+cut-front : (now rest : List ℕ) → with_length (length now) (now ++ rest) ≡ now
+cut-front now rest =
+    let none : length now - length (now ++ rest) ≡ 0 = omega (arith, length-append now rest) in
+    ap (λ (xs : List ℕ). xs ++ replicate (length now - length (now ++ rest)) 0) (front now rest)
+    ∙ ap (λ n. now ++ replicate n 0) none ∙ append-nil now
+
+-- what stands behind them meanwhile
+abbrev behind : List ℕ → List ℕ → List ℕ
+behind now was = drop (0 + length now) (with_length (max (0 + length now) (length was)) was)
+
+put-and-cut : (now was : List ℕ) → with_length (length now) (with_bytes_at 0 now was) ≡ now
+put-and-cut now was = cut-front now (behind now was)
 
 -- the same, of a value that may be there
 pub cut-then : (o : Option (List ℕ)) (now : List ℕ) → IsSomeAnd o (λ was. length now ≤ length was)
     → option_map (with_length (length now)) (option_map (with_bytes_at 0 now) o) ≡ option_map (λ was. now) o
 cut-then None now is = absurd is
-cut-then (Some was) now is = ap (λ v. Some v) (put-and-cut now was is)
+cut-then (Some was) now is = ap (λ (v : List ℕ). Some v) (put-and-cut now was)
 
 -- .. it is as long between
 length-put : (now was : List ℕ) → length now ≤ length (with_bytes_at 0 now was)
-length-put now was = grind (arith, common_steps)
+length-put now was = omega (arith, length-append now (behind now was))
 
 pub long-then : (o : Option (List ℕ)) (now : List ℕ) → IsSomeAnd o (λ was. length now ≤ length was)
     → IsSomeAnd (option_map (with_bytes_at 0 now) o) (λ value. length now ≤ length value)
@@ -63,6 +77,36 @@ long-then (Some was) now is = length-put now was
 said-value : (o : Option (List ℕ)) (P : List ℕ → Type 0) → IsSomeAnd o P → (v : List ℕ) × (o ≡ Some v) × P v
 said-value None P h = absurd h
 said-value (Some v) P h = (v, refl, h)
+
+-- THE TEST of a value: it says exactly that one is there.
+module _ (held : Held) (i len : ℕ) where
+  pub is-value : (value : List ℕ) → i < length (attributes held.block) → Some value ≡ value_of (attribute_in held.block i).body
+      → len ≤ length value → HoldsValue i len held
+  is-value value lt is long = record {
+    within = lt;
+    value = subst (λ (o : Option (List ℕ)). IsSomeAnd o (λ value. len ≤ length value)) is long;
+  }
+
+  pub value-long : (value : List ℕ) → Some value ≡ value_of (attribute_in held.block i).body → HoldsValue i len held → len ≤ length value
+  value-long value is holds = subst (λ (o : Option (List ℕ)). IsSomeAnd o (λ value. len ≤ length value)) (sym is) holds.value
+
+  pub value-none : None ≡ value_of (attribute_in held.block i).body → HoldsValue i len held → ⊥
+  value-none is holds = subst (λ (o : Option (List ℕ)). IsSomeAnd o (λ value. len ≤ length value)) (sym is) holds.value
+
+  pub value-past : length (attributes held.block) ≤ i → HoldsValue i len held → ⊥
+  value-past past holds = let within = holds.within in omega (arith, past, within)
+
+-- a record that was read is held there
+pub held-at : (held : Held) (k : ℕ) (xs : List Held) → k < length xs → held ≡ get_or xs k held → slice_get xs k ≡ Some held
+held-at held k xs lt is = slice_get-get_or xs k held lt ∙ ap (λ (h : Held). Some h) (sym is)
+
+pub none-past : (xs : List Held) (k : ℕ) (P : Held → Type 0) → length xs ≤ k → IsSomeAnd (slice_get xs k) P → ⊥
+none-past xs k P past h = subst (λ o. IsSomeAnd o P) (slice_get_past xs k past) h
+
+-- what is said of a record that is held
+pub held-said : (o : Option Held) (P : Held → Type 0) → IsSomeAnd o P → (one : Held) × (o ≡ Some one) × P one
+held-said None P h = absurd h
+held-said (Some one) P h = (one, refl, h)
 
 -- A RECORD THAT IS HELD has room for a value that is no longer.
 module _ (held : Held) (i len : ℕ) (holds : HoldsValue i len held) where
@@ -208,6 +252,16 @@ staged-twice g a b c layout mid n m same number first second = record {
     | inr new ↦ inr (subst (λ (l : TableLayout). Contains (record_places l n) s) same (subst (λ k. Contains (record_places mid k) s) number new))
   ];
 }
+
+pub staged-none : {D : Type 0} (g : Ghosts D) (a : Mft D g) (layout : TableLayout) (o : Option Held)
+    → IfSome o (λ held. StagesOnly g (record_places layout held.number) (stage_of g a) (stage_of g a))
+staged-none g a layout None = tt
+staged-none g a layout (Some held) = record { only = λ s there. inl there }
+
+pub faults-kept : {D T E : Type 0} (g : Ghosts D) (a b : Mft D g) (layout : TableLayout) (n : ℕ) (result : Result T E)
+    → OnOk result (MftStages g (record_places layout n) 4 a b) → OnErr result (MftReserves g a b) → faults_of g b ≡ faults_of g a
+faults-kept g a b layout n (Ok x) stages kept = ap g.faults stages.disk
+faults-kept g a b layout n (Err e) stages kept = ap g.faults kept.disk
 
 -- .. those of one of the file's
 pub staged-own : {D : Type 0} (g : Ghosts D) (f holder : ℕ) (a b : Mft D g) → (IsTrue (view g a).told → IsRecordOf (view g a) f holder)

@@ -12,25 +12,34 @@ ghost use Rattle.file_record.specs.Links.{HoldsSame};
 ghost use Rattle.file_record.specs.Written.{IsWholeFile};
 ghost use Rattle.root_takes.specs.ShrunkRoot.{HoldsValue};
 
-use file_record::{FileNo, FileParts, PartPlace};
+use file_record::{FileNo, FileParts, Held, PartPlace};
 use mft_table::Mft;
 use vol_disk::Disk;
 
-// Whether a value of so many bytes or more stands at this place of a file.
+// Whether attribute i of a record is a value of so many bytes, or more.
+fn holds_value(held: &Held, i: usize, len: usize) -> bool
+    ensures yes { IsTrue result → HoldsValue i len held.now }
+    ensures no { HoldsValue i len held.now → IsTrue result }
+{
+    if i >= held.count() {
+        return false;
+    }
+    match held.view().attr(i).value() {
+        Some(value) => len <= value.len(),
+        None => false,
+    }
+}
+
+// Whether such a value stands at this place of a file.
 fn has_value(file: &FileParts, place: PartPlace, len: usize) -> bool
     ensures yes { IsTrue result → RecordHeld file.now place.record (HoldsValue place.attribute len) }
     ensures no { RecordHeld file.now place.record (HoldsValue place.attribute len) → IsTrue result }
 {
-    let Some(held) = file.records().get(place.record) else {
-        return false;
-    };
-    if place.attribute >= held.count() {
+    let records = file.records();
+    if place.record >= records.len() {
         return false;
     }
-    match held.view().attr(place.attribute).value() {
-        Some(value) => len <= value.len(),
-        None => false,
-    }
+    holds_value(&records[place.record], place.attribute, len)
 }
 
 // Cuts the value at this place of a file to so many bytes, where it has as many, and stages its record.
