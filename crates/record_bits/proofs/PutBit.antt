@@ -1,4 +1,4 @@
--- ONE BIT SET in a sector of a stream, which was staged.
+-- ONE BIT SET OR CLEARED in a sector of a stream, which was staged.
 use Rattle.std.proofs.Common.{◌≡◌, ◌≢◌, ◌+◌, ◌-◌, ◌*◌, ◌/◌, ◌%◌, ◌<◌, ◌≤◌, ℕ, List, [], ◌∷◌, length, inl, inr, refl, sym, ap, ◌∙◌, arith}
 use Rattle.std.specs.Int.{bit_at}
 use Rattle.std.specs.Prelude.{◌⊎◌, slice_index}
@@ -12,14 +12,14 @@ use Rattle.volume_def.specs.View.{VolumeView}
 use Rattle.volume_edits.specs.Clusters.{WritesStream}
 use Rattle.sparse_io.specs.Overwritten.{IsPatched}
 use Rattle.sparse_io.proofs.PatchLaws.{patched-written}
-use Rattle.record_bits.specs.HeldRecordBits.{RaisesBit}
+use Rattle.record_bits.specs.HeldRecordBits.{PutsBit}
 
--- The sector `was` of a cluster is read, and put back as `now`, in which one flag was set.
-module _ (old new : VolumeView) (spot : ℕ → Spot) (at cluster skip bit : ℕ) (was now : List ℕ) (per : 0 < old.layout.cluster_sectors)
+-- The sector `was` of a cluster is read, and put back as `now`, in which one flag is `value`.
+module _ (old new : VolumeView) (spot : ℕ → Spot) (at cluster skip bit value : ℕ) (was now : List ℕ) (per : 0 < old.layout.cluster_sectors)
     (lies : spot (at / cluster_bytes old.layout) ≡ At cluster) (is : at % cluster_bytes old.layout ≡ skip) (low : bit < 8)
     (len : length now ≡ 512)
     (read : (j : ℕ) → j < 512 → slice_index was j ≡ slice_index (old.cluster cluster) (skip - skip % 512 + j))
-    (here : bit_in now (8 * (skip % 512) + bit) ≡ 1) (others : (k : ℕ) → k ≢ 8 * (skip % 512) + bit → bit_in now k ≡ bit_in was k)
+    (here : bit_in now (8 * (skip % 512) + bit) ≡ value) (others : (k : ℕ) → k ≢ 8 * (skip % 512) + bit → bit_in now k ≡ bit_in was k)
     (bytes : (j : ℕ) → j ≢ (8 * (skip % 512) + bit) / 8 → slice_index now j ≡ slice_index was j) where
   abbrev place : ℕ
   place = skip % 512
@@ -51,8 +51,8 @@ module _ (old new : VolumeView) (spot : ℕ → Spot) (at cluster skip bit : ℕ
   bit-place xs i lt = bit_in-place xs place i (8 * place + i) refl lt
 
   -- THE LAW
-  pub bit-raised : WritesStream old new spot (512 * (at / 512)) now → RaisesBit old new spot at bit
-  bit-raised w = record {
+  pub bit-put : WritesStream old new spot (512 * (at / 512)) now → PutsBit old new spot at bit value
+  bit-put w = record {
     byte = byte;
     writes = patched-written old new spot at cluster skip now (byte ∷ []) per lies is (omega arith) (omega arith) len patched w;
     here = sym (bit-place now bit low) ∙ here;
