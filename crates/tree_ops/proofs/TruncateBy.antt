@@ -20,7 +20,7 @@ use Rattle.tree_model.specs.Staging.{cannot_edit}
 use Rattle.tree_model.specs.Ways.{can_leave, ends_in_last, fits_in_record, gets_no_longer, has_no_list, has_placed_bits, in_extent}
 use Rattle.tree_model.specs.Step.{due}
 use Rattle.tree_model.specs.StreamRoom.{new_clusters, stream_parts, stream_value}
-use Rattle.tree_model.specs.Subjects.{Located, Machine, at_found, is_directory, locate, stream_name, subject_of, with_stream}
+use Rattle.tree_model.specs.Subjects.{Located, Machine, at_found, content_named, is_directory, locate, stream_name, subject_of, with_stream}
 use Rattle.tree_model.specs.declared.command.Command.{Command}
 use Rattle.tree_model.specs.declared.command.Command.TheVariants as c
 use Rattle.tree_model.specs.declared.opens.OpenEntry.{OpenEntry}
@@ -133,25 +133,27 @@ module _ (facts : Facts) (view : VolumeView) (opens : List OpenEntry) (now sessi
       asked-if (no_room_alone view (found_file found)) (grows size (at found).content)
       (new_clusters (cluster_bytes view.layout) (stream_parts view (read view) (at found)) 0 0)
 
-  extent-room : (found : Found) → cut found ≡ true → facts.no_room m command (at found) ≡ asked found
-  extent-room found is =
-      let there = elim (lies-or_moves (cannot found) (value found) (alone found) (fits found) (extent found) (one found)
-      (has_placed_bits view) (short found) (leaves found) is) [
-        | inl lies ↦ extent-there view (read view) (at found) lies
-        | inr moves ↦ value-there view (read view) (at found) moves
-      ] in
+  -- where the stream is there, this is asked
+  asked-there : (found : Found) → is_some (content_named (read view) (at found).stream (at found).node) ≡ true
+      → facts.no_room m command (at found) ≡ asked found
+  asked-there found there =
       tells.no_room m command (at found)
       ∙ value-room view (read view) command (at found) refl refl (located-counted view (read view) (at found) refl there) there
       ∙ asked-so found
+
+  extent-room : (found : Found) → cut found ≡ true → facts.no_room m command (at found) ≡ asked found
+  extent-room found is =
+      asked-there found (elim (lies-or_moves (cannot found) (value found) (alone found) (fits found) (extent found) (one found)
+      (has_placed_bits view) (short found) (leaves found) is) [
+        | inl lies ↦ extent-there view (read view) (at found) lies
+        | inr moves ↦ value-there view (read view) (at found) moves
+      ])
 
   value-asks : (found : Found) → can found ≡ true → facts.no_room m command (at found) ≡ asked found
   value-asks found is =
       let built = built-so (cannot found) (value found) (alone found) (fits found) is in
       let both = (and_parts (value found && alone found) (fits found) built).0 in
-      let there = value-there view (read view) (at found) (and_parts (value found) (alone found) both).0 in
-      tells.no_room m command (at found)
-      ∙ value-room view (read view) command (at found) refl refl (located-counted view (read view) (at found) refl there) there
-      ∙ asked-so found
+      asked-there found (value-there view (read view) (at found) (and_parts (value found) (alone found) both).0)
 
   room : (found : Found) → (can found || cut found) ≡ true → facts.no_room m command (at found) ≡ asked found
   room found is = or-either (can found) (cut found) (value-asks found) (extent-room found) is
