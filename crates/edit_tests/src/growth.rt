@@ -32,7 +32,7 @@ const ROWS: [Row; 38] = [
     ("write /a:S 2 63", "ok\n"),
     ("cat /a:s", "data 616263\nok\n"),
     ("cat /a", "data 6841426c4344450000460000\nok\n"),
-    ("truncate /x:s19 94", "no 28 Unbuilt\n"),
+    ("truncate /x:s19 94", "ok\n"),
     ("write /x:s19 93 41", "no 28 Unbuilt\n"),
     ("truncate /x:s19 93", "ok\n"),
     ("read /x:s19 0 6", "data 6c6173740000\nok\n"),
@@ -138,16 +138,21 @@ pub fn volume_with_left(alloc: Global, left: u8) -> Result<Vec<u8>, test::Fail> 
 const REFUSED: [Row; 6] = [
     ("write /k 0 41", "no 26 NoRoom 3 2\n"),
     ("truncate /k 6", "no 26 NoRoom 3 2\n"),
-    ("truncate /k 4096", "no 28 Unbuilt\n"),
+    ("truncate /k 4096", "no 26 NoRoom 3 2\n"),
     ("write /big 0 41", "ok\n"),
     ("truncate /k 3", "ok\n"),
     ("cat /k", "data 68656c\nok\n"),
 ];
 
-const GRANTED: [Row; 3] = [
+const GRANTED: [Row; 8] = [
     ("write /k 5 41", "ok\n"),
     ("truncate /k 7", "ok\n"),
     ("cat /k", "data 68656c6c6f4100\nok\n"),
+    ("truncate /k 4097", "no 28 Unbuilt\n"),
+    ("truncate /k 4096", "ok\n"),
+    ("read /k 4 4", "data 6f410000\nok\n"),
+    ("read /k 4094 9", "data 0000\nok\n"),
+    ("df", "df 256 2 64 36\nok\n"),
 ];
 
 #[test]

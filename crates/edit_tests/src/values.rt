@@ -65,7 +65,7 @@ const CUTS: [Row; 29] = [
     ("truncate /d/b 2", "ok\n"),
     ("cat /a", "data 6865\nok\n"),
     ("stat /a", "stat file 2 2 0021 256 1 10 10 4\nok\n"),
-    ("truncate /a 4096", "no 28 Unbuilt\n"),
+    ("truncate /a 4097", "no 28 Unbuilt\n"),
     ("truncate /a:new 0", "no 28 Unbuilt\n"),
     ("truncate /a:x\\y 0", "no 9 BadName\n"),
     ("truncate /d 0", "no 10 IsDir\n"),

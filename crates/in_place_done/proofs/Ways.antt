@@ -8,9 +8,9 @@ use Rattle.volume_def.specs.Table.{cluster_bytes}
 use Rattle.volume_def.specs.Values.{first_part}
 use Rattle.volume_def.specs.View.{VolumeView}
 use Rattle.tree_model.specs.Staging.{is_built_for}
-use Rattle.tree_model.specs.Ways.{can_end, can_reach, fits_in_record, gets_no_longer, goes_into_clusters, has_no_list}
+use Rattle.tree_model.specs.Ways.{can_end, can_reach, ends_in_clusters, fits_in_record, gets_no_longer, goes_into_clusters, has_no_list}
 use Rattle.tree_model.specs.Ways.{in_extent, is_done_in_clusters, is_done_in_directory, is_done_in_place, is_done_in_record}
-use Rattle.tree_model.specs.Ways.{is_extent_alone, is_value_alone, moves_by_write, moves_into_clusters, stays_value}
+use Rattle.tree_model.specs.Ways.{is_extent_alone, is_value_alone, moves_by_length, moves_by_write, moves_into_clusters, stays_value}
 use Rattle.tree_model.specs.StreamRoom.{goes_over, new_clusters, stream_parts, stream_value, stream_value_len}
 use Rattle.tree_model.specs.Subjects.{Located}
 use Rattle.tree_model.specs.Tree.{Tree}
@@ -161,6 +161,15 @@ goes-some view tree at from len is =
           (and_parts (nat_le from (stream_value_len extents)) (moves_into_clusters view tree at (from + len) count) moves).1
     ]
 
+ends-some : (view : VolumeView) (tree : Tree) (at : Located) (size : ℕ) → ends_in_clusters view tree at size ≡ true
+    → is_some (first_part (stream_parts view tree at)) ≡ true
+ends-some view tree at size is =
+    elim (or_cases (is_extent_alone view tree at && can_end view tree at size) (moves_by_length view tree at size) is) [
+      | inl lies ↦ lies-some view tree at (and_parts (is_extent_alone view tree at) (can_end view tree at size) lies).0
+      | inr moves ↦
+          moves-some view tree at size (new_clusters (cluster_bytes view.layout) (stream_parts view tree at) 0 0) moves
+    ]
+
 clusters-some : (view : VolumeView) (tree : Tree) (command : Command) (at : Located) → is_done_in_clusters view tree command at ≡ true
     → is_some (first_part (stream_parts view tree at)) ≡ true
 clusters-some view tree (c.Write path stream from bytes) at is =
@@ -170,8 +179,7 @@ clusters-some view tree (c.Write path stream from bytes) at is =
 clusters-some view tree (c.Hwrite handle from bytes) at is =
     goes-some view tree at from (length bytes)
     (and_parts (not (is_done_in_place view tree (c.Hwrite handle from bytes) at)) (goes_into_clusters view tree at from (length bytes)) is).1
-clusters-some view tree (c.Truncate path stream size) at is =
-    lies-some view tree at (and_parts (is_extent_alone view tree at) (can_end view tree at size) is).0
+clusters-some view tree (c.Truncate path stream size) at is = ends-some view tree at size is
 clusters-some view tree (c.Rmstream path name) at is = lies-some view tree at is
 clusters-some view tree other at is = cc
 

@@ -1,4 +1,4 @@
 mod RowsStream
 mod RowStored
 mod RowsFound
-mod RaisedBit
+mod PutBit

@@ -1,4 +1,4 @@
--- THE FLAG IS STORED where its bit was set in the byte of the bitmap that has it.
+-- THE FLAG IS STORED where its bit was put into the byte of the bitmap that has it.
 use Rattle.std.proofs.Common.{◌≡◌, ◌≢◌, ◌+◌, ◌-◌, ◌*◌, ◌/◌, ◌%◌, ◌<◌, ℕ, List, [], ◌∷◌, drop, get_or, length, take, refl, sym, ap, inl, inr, ◌++◌}
 use Rattle.std.proofs.Common.{◌∙◌, arith}
 use Rattle.std.specs.Int.{bit_at}
@@ -19,8 +19,8 @@ use Rattle.volume_edits.specs.Clusters.{with_bytes}
 use Rattle.volume_edits.proofs.StreamClusters.{records-written, value-written}
 use Rattle.sparse_io.specs.FileParts.{FileParts}
 use Rattle.sparse_io.specs.FirstPart.{FirstPart}
-use Rattle.record_bits.specs.HeldRecordBits.{HoldsRecordBits, RaisesBit}
-use Rattle.record_bits.specs.StoredRecordBit.{StoresRecordBit}
+use Rattle.record_bits.specs.HeldRecordBits.{HoldsRecordBits, PutsBit}
+use Rattle.record_bits.specs.StoredRecordBit.{ClearsRecordBit, PutsRecordBit, StoresRecordBit}
 use Rattle.record_bits.proofs.RowsStream.{rows-attribute, rows-first, rows-within, rows-written}
 
 -- ONE BYTE in place of another of a list
@@ -51,10 +51,10 @@ module _ (value : List ℕ) (at byte : ℕ) (fits : at < length value) where
         ∙ ap (slice_index value) back
   ]
 
--- THE FLAG of record n, in a byte of which one bit was set
-module _ (value : List ℕ) (n byte : ℕ) (fits : n / 8 < length value) (here : bit_at byte (n % 8) ≡ 1)
+-- THE FLAG of record n, in a byte of which one bit was put
+module _ (value : List ℕ) (n byte bit : ℕ) (fits : n / 8 < length value) (here : bit_at byte (n % 8) ≡ bit)
     (others : (i : ℕ) → i < 8 → i ≢ n % 8 → bit_at byte i ≡ bit_at (slice_index value (n / 8)) i) where
-  flag-here : bit_in (with_bytes value (n / 8) (byte ∷ [])) n ≡ 1
+  flag-here : bit_in (with_bytes value (n / 8) (byte ∷ [])) n ≡ bit
   flag-here = ap (λ b. bit_at b (n % 8)) (put-here value (n / 8) byte fits) ∙ here
 
   flag-other : (k : ℕ) → k ≢ n → bit_in (with_bytes value (n / 8) (byte ∷ [])) k ≡ bit_in value k
@@ -95,8 +95,8 @@ module _ (old new : VolumeView) (file : FileParts) (its : FirstPart) (h : HoldsR
       ∙ ap (λ b. cond b (stored_byte old.cluster size spot at) 0) (lt-ltb at h.extent.sizes.initialized below)
 
   -- THE LAW
-  pub row-stored : RaisesBit old new (spot_at (record_bits old)) at (n % 8) → StoresRecordBit old new n
-  row-stored r =
+  pub row-put : (bit : ℕ) → PutsBit old new (spot_at (record_bits old)) at (n % 8) bit → PutsRecordBit old new n bit
+  row-put bit r =
       let value : value_on new (record_bits new) ≡ with_bytes (value_on old (record_bits old)) at (r.byte ∷ []) =
       ap (λ rs. value_on new (filter (is_of BITMAP []) (parts rs MFT))) (records-written old new (spot_at (record_bits old))
       at (r.byte ∷ []) r.writes)
@@ -109,6 +109,13 @@ module _ (old new : VolumeView) (file : FileParts) (its : FirstPart) (h : HoldsR
         bytes = r.byte ∷ [];
         one = refl;
         writes = r.writes;
-        here = ap (λ xs. bit_in xs n) value ∙ flag-here (value_on old (record_bits old)) n r.byte fits r.here same;
-        others = λ k ne. ap (λ xs. bit_in xs k) value ∙ flag-other (value_on old (record_bits old)) n r.byte fits r.here same k ne;
+        here = ap (λ xs. bit_in xs n) value ∙ flag-here (value_on old (record_bits old)) n r.byte bit fits r.here same;
+        others = λ k ne. ap (λ xs. bit_in xs k) value ∙ flag-other (value_on old (record_bits old)) n r.byte bit fits r.here same k ne;
       }
+
+-- a flag that was put is set, or cleared
+pub row-set : (old new : VolumeView) (n : ℕ) → PutsRecordBit old new n 1 → StoresRecordBit old new n
+row-set old new n p = record { bytes = p.bytes; one = p.one; writes = p.writes; here = p.here; others = p.others }
+
+pub row-cleared : (old new : VolumeView) (n : ℕ) → PutsRecordBit old new n 0 → ClearsRecordBit old new n
+row-cleared old new n p = record { bytes = p.bytes; one = p.one; writes = p.writes; here = p.here; others = p.others }

@@ -1,4 +1,4 @@
--- THE BITMAP OF RECORDS OF A SOUND VOLUME, as it is loaded.
+-- THE BITMAP OF RECORDS, as it is loaded: on a sound volume it can be found.
 use Rattle.std.proofs.Common.{◌≡◌, ◌<◌, ℕ, length, false, [], Option, Some, None, refl, sym, ap, subst, ◌∙◌, arith}
 use Rattle.std.specs.Prelude.{IsSome, IsSomeAnd}
 use Rattle.std.proofs.lemmas.List.Elements.{All-contains}
@@ -27,7 +27,7 @@ use Rattle.sparse_io.specs.FileParts.{FileParts}
 use Rattle.sparse_io.specs.FileRecordHeld.{AreParts, file_number}
 use Rattle.sparse_io.specs.FirstPart.{FirstPart}
 use Rattle.sparse_io.specs.First.{TellsSizes}
-use Rattle.record_bits.specs.HeldRecordBits.{HoldsRecordBits}
+use Rattle.record_bits.specs.HeldRecordBits.{HasRows, HoldsRecordBits}
 use Rattle.record_bits.proofs.RowsStream.{rows-held}
 
 plain-there : (o : Option Part) → IsSomeAnd o (λ part. is_packed part.kind part.flags ≡ false)
@@ -57,38 +57,48 @@ rows-inside view mounted is =
     let long = ap length is.stored.records_are ∙ length-flags (value_on view (record_bits view)) view.layout.count in
     omega (arith, long, file-counted view MFT (rows-file view is.sound))
 
--- its bitmap has a part that tells its sizes
-pub rows-there : (view : VolumeView) → IsSound view → first_part (record_bits view) ≡ None → ⊥
-rows-there view sound none = subst (λ o. IsSomeAnd o (λ part. is_packed part.kind part.flags ≡ false)) none (rows-clause view sound).plain
+-- so it can be found
+pub rows-sound : (view : VolumeView) (mounted : Mounted) → IsSoundVolume view mounted → HasOwners view → HasRows view mounted
+rows-sound view mounted is owners = record {
+  readable = readable-sound view is.sound;
+  owners = owners;
+  is_file = rows-file view is.sound;
+  bits = rows-clause view is.sound;
+  inside = rows-inside view mounted is;
+}
 
-module _ (view : VolumeView) (sectors : ℕ) (file : FileParts) (first : FirstPart) (sound : IsSound view)
-    (owners : HasOwners view) (lies : LiesOn sectors view.layout) (are : AreParts view file)
-    (number : file_number file ≡ MFT) (tells : TellsSizes file BITMAP [] first) where
+-- its bitmap has a part that tells its sizes
+pub rows-there : (view : VolumeView) → HasRecordBits view → first_part (record_bits view) ≡ None → ⊥
+rows-there view bits none = subst (λ o. IsSomeAnd o (λ part. is_packed part.kind part.flags ≡ false)) none bits.plain
+
+module _ (view : VolumeView) (mounted : Mounted) (sectors : ℕ) (file : FileParts) (first : FirstPart) (has : HasRows view mounted)
+    (lies : LiesOn sectors view.layout) (are : AreParts view file) (number : file_number file ≡ MFT)
+    (tells : TellsSizes file BITMAP [] first) where
   first-rows : first_part (record_bits view) ≡ Some tells.part
   first-rows = sym (ap first_part (rows-held view file are number)) ∙ tells.is_first
 
   plain : is_packed tells.part.kind tells.part.flags ≡ false
-  plain = subst (λ (o : Option Part). IsSomeAnd o (λ part. is_packed part.kind part.flags ≡ false)) first-rows (rows-clause view sound).plain
+  plain = subst (λ (o : Option Part). IsSomeAnd o (λ part. is_packed part.kind part.flags ≡ false)) first-rows has.bits.plain
 
   extent : (extent : ExtentHeader) × (content_extent tells.part.content ≡ Some extent)
   extent =
       extent-there (content_extent tells.part.content)
-      (All-contains (λ part. IsSome (content_extent part.content)) (record_bits view) tells.part (rows-clause view sound).extents
+      (All-contains (λ part. IsSome (content_extent part.content)) (record_bits view) tells.part has.bits.extents
       (find-found is_first (record_bits view) tells.part first-rows).0)
 
   pub holds-rows : HoldsRecordBits view file first
   holds-rows = record {
-    readable = readable-sound view sound;
-    is_file = rows-file view sound;
-    owners = owners;
-    apart = layout-lies_apart view owners lies.some lies.on_volume;
+    readable = has.readable;
+    is_file = has.is_file;
+    owners = has.owners;
+    apart = layout-lies_apart view has.owners lies.some lies.on_volume;
     parts = are;
     number = number;
     tells = tells;
     plain = plain;
     extent = extent.0;
     told = extent.1;
-    no_hole = (rows-clause view sound).placed;
+    no_hole = has.bits.placed;
   }
 
 -- how far it was written, by the part that is found

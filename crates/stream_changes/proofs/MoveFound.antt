@@ -276,3 +276,14 @@ module _ (v : VolumeView) (found : Writable) (name : List ℕ) (can : ℕ → Bo
         longer = more;
         last = omega (arith, all, few, same, rise);
       }
+
+  module _ (size : ℕ)
+      (moves : moves_into_clusters v (read v) (named_in (read v) name f) size (new_clusters (cluster_bytes v.layout) there 0 0) ≡ true)
+      (free : has_free_run v (new_clusters (cluster_bytes v.layout) there 0 0) ≡ true) where
+    pub can-lengthen-name : (can-lengthen size moves free).leave.named.name ≡ s.part.name
+    unfolding can-lengthen leave-so leave-can named
+    can-lengthen-name = refl
+
+    pub can-lengthen-held : (can-lengthen size moves free).leave.named.held ≡ bytes
+    unfolding can-lengthen leave-so leave-can named
+    can-lengthen-held = refl

@@ -1,7 +1,7 @@
 -- A STREAM THAT GOES, OR HAS ANOTHER LENGTH, is what the call does by its way, with the stream that was found.
-use Rattle.std.proofs.Common.{◌≡◌, ◌≤◌, ◌<◌, ◌||◌, ℕ, Bool, false, true, List, None, refl, sym, ap, subst, ◌∙◌, arith}
+use Rattle.std.proofs.Common.{◌≡◌, ◌≤◌, ◌<◌, ◌&&◌, ◌||◌, not, ℕ, Bool, false, true, List, None, refl, sym, ap, subst, ◌∙◌, arith}
 use Rattle.std.specs.Prelude.{nat_le}
-use Rattle.std.proofs.lemmas.Bool.{and_parts, eqb-true, leb-true}
+use Rattle.std.proofs.lemmas.Bool.{and_from, and_parts, eqb-true, leb-true}
 use Rattle.ntfs_def.specs.Attribute.{ExtentHeader}
 use Rattle.ntfs_def.specs.Rounded.{clusters_for}
 use Rattle.ntfs_def.specs.declared.run_text.Run.{Run}
@@ -9,21 +9,27 @@ use Rattle.volume_def.specs.Files.{Part, all_covered}
 use Rattle.volume_def.specs.Table.{cluster_bytes}
 use Rattle.volume_def.specs.View.{VolumeView}
 use Rattle.tree_model.specs.Reading.{read}
-use Rattle.tree_model.specs.StreamRoom.{stream_parts}
+use Rattle.tree_model.specs.Facts.{is_whole_table}
+use Rattle.tree_model.specs.Staging.{cannot_edit}
+use Rattle.tree_model.specs.StreamRoom.{new_clusters, stream_parts}
 use Rattle.tree_model.specs.Subjects.{content_named}
 use Rattle.tree_model.specs.Tree.{node_of}
-use Rattle.tree_model.specs.Ways.{ends_in_last, gets_no_longer, has_placed_bits}
+use Rattle.tree_model.specs.Ways.{ends_in_last, gets_no_longer, has_free_run, has_placed_bits, moves_into_clusters}
 use Rattle.value_edits.specs.ValueEdits.{PutsStream, ResizesStream, no_gain}
 use Rattle.tree_edit.specs.Below.{number_of}
 use Rattle.tree_edit.specs.Alone.{IsDroppable, IsResizable, IsToDrop, IsToResize, can_end, can_get, can_give, can_go}
+use Rattle.tree_edit.specs.Alone.{can_move_to, parts_there}
 use Rattle.tree_edit.specs.Change.{CanChange, has_room_for}
 use Rattle.tree_edit.specs.Writable.{named_in}
 use Rattle.tree_edit.specs.declared.writable.Way.{Way}
 use Rattle.tree_edit.specs.declared.writable.Way.TheVariants as way
 use Rattle.tree_edit.specs.declared.writable.Writable.{Writable}
+use Rattle.tree_edit.proofs.MovableLaws.{by-length}
 use Rattle.tree_edit.proofs.PunchLaws.{punchable-can}
 use Rattle.tree_edit.proofs.StreamToWrite.{content-is}
+use Rattle.stream_changes.specs.Moving.{CanLengthen}
 use Rattle.stream_changes.specs.Streams.{CanGive, EndsInLast}
+use Rattle.stream_changes.proofs.MoveFound.{can-lengthen, can-lengthen-held, can-lengthen-name}
 use Rattle.stream_changes.proofs.ResizableRoom.{resizable-room}
 use Rattle.stream_changes.proofs.ValueChanged.{droppable-can, resizable-can}
 use Rattle.stream_changes.proofs.WaysFound.{covered, extent-can, found-size, give-same}
@@ -93,9 +99,6 @@ module _ (v new : VolumeView) (found : Writable) (number : ℕ) (is : number ≡
 
   pub gets-not_over : found.way ≡ way.InPlace → (name : List ℕ) → IsToResize v found name size → ⊥
   gets-not_over so name can = let never = get-by name can way.InPlace so in cc
-
-  pub gets-not_moved : found.way ≡ way.IntoClusters → (name : List ℕ) → IsToResize v found name size → ⊥
-  gets-not_moved so name can = let never = get-by name can way.IntoClusters so in cc
 
   gets-value : found.way ≡ way.InRecord → (name : List ℕ) → IsToResize v found name size → IsResizable v found name size
   gets-value so name can = record {
@@ -179,7 +182,50 @@ module _ (v new : VolumeView) (found : Writable) (number : ℕ) (is : number ≡
     get-extent-long {P} more does =
         subst (λ k. (c : CanGive v found.stream k) → EndsInLast v size c.extent c.runs → P) is does get-extent (ends more)
 
+  -- .. or it is a value that moves
+  module _ (so : found.way ≡ way.IntoClusters) (name : List ℕ) (can : IsToResize v found name size) where
+    abbrev count : ℕ
+    count = new_clusters (cluster_bytes v.layout) (parts_there v name file) 0 0
+
+    moves-both : (can_move_to v name size file ≡ true) × ((has_placed_bits v && has_free_run v count) ≡ true)
+    moves-both = and_parts (can_move_to v name size file) _ (get-by name can way.IntoClusters so)
+
+    bits-both : (has_placed_bits v ≡ true) × (has_free_run v count ≡ true)
+    bits-both = and_parts (has_placed_bits v) (has_free_run v count) moves-both.1
+
+    moves-so : moves_into_clusters v (read v) (named_in (read v) name file) size count ≡ true
+    moves-so =
+        (and_parts (not (cannot_edit (is_whole_table v) (read v) file)) (moves_into_clusters v (read v) (named_in (read v) name file) size count)
+        (sym (by-length v name file size) ∙ and_from (can_move_to v name size file) (has_placed_bits v) moves-both.0 bits-both.0)).1
+
+    get-moving : CanLengthen v found.stream file size
+    get-moving = can-lengthen v found name (λ k. can_get v name size found.way k) can size moves-so bits-both.1
+
+    get-moving-name : get-moving.leave.named.name ≡ can.stream.is.part.name
+    unfolding get-moving
+    get-moving-name = can-lengthen-name v found name (λ k. can_get v name size found.way k) can size moves-so bits-both.1
+
+    get-moving-held : get-moving.leave.named.held ≡ can.stream.bytes
+    unfolding get-moving
+    get-moving-held = can-lengthen-held v found name (λ k. can_get v name size found.way k) can size moves-so bits-both.1
+
+    pub get-moving-can : CanLengthen v found.stream number size
+    get-moving-can = subst (λ k. CanLengthen v found.stream k size) (sym is) get-moving
+
   module _ (times : List ℕ) where
+    pub get-moving-puts : found.way ≡ way.IntoClusters → (name : List ℕ) (can : IsToResize v found name size)
+        → ((c : CanLengthen v found.stream number size)
+        → ResizesStream v new number c.leave.named.name size c.leave.named.held times found.flags)
+        → ResizesStream v new (number_of found.held) can.stream.is.part.name size can.stream.bytes times found.flags
+    get-moving-puts so name can does =
+        let m = get-moving so name can in
+        subst (λ (held : List ℕ). ResizesStream v new (number_of found.held) can.stream.is.part.name size held times found.flags)
+        (get-moving-held so name can)
+        (subst (λ (own : List ℕ). ResizesStream v new (number_of found.held) own size m.leave.named.held times found.flags)
+        (get-moving-name so name can)
+        (subst (λ k. (c : CanLengthen v found.stream k size)
+        → ResizesStream v new k c.leave.named.name size c.leave.named.held times found.flags) is does m))
+
     pub get-value-puts : found.way ≡ way.InRecord → (name : List ℕ) (can : IsToResize v found name size)
         → ((c : CanChange v found.stream number) → has_room_for v number found.stream.size size ≡ true
         → ResizesStream v new number c.value.name size c.value.held times found.flags)

@@ -23,11 +23,11 @@ use Rattle.sparse_io.specs.declared.find.FoundStream.{FoundStream}
 use Rattle.value_edits.specs.Below.{WritesOver}
 use Rattle.value_edits.specs.ValueEdits.{PutsBytes}
 use Rattle.tree_edit.specs.Below.{number_of}
-use Rattle.tree_edit.specs.Alone.{IsResizable, can_give, can_resize}
+use Rattle.tree_edit.specs.Alone.{IsResizable, can_give, can_resize, parts_there}
 use Rattle.tree_edit.specs.Change.{CanChange, has_room_for}
 use Rattle.tree_edit.specs.Over.{CanWriteOver}
 use Rattle.tree_edit.specs.Writable.{IsFoundToEdit, can_write_over, named_in}
-use Rattle.tree_edit.specs.Movable.{can_move_there, parts_there}
+use Rattle.tree_edit.specs.Movable.{can_move_there}
 use Rattle.tree_edit.specs.Write.{IsWritable, can_go_behind, can_write, can_write_behind, can_write_moving}
 use Rattle.tree_edit.specs.declared.writable.Way.{Way}
 use Rattle.tree_edit.specs.declared.writable.Way.TheVariants as way

@@ -15,7 +15,7 @@ ghost use Rattle.stream_changes.specs.Streams.{WritesSo};
 
 use crate::extents::{drop_extent, shorten_extent};
 use crate::longer::{lengthen_extent, write_behind};
-use crate::moving::write_moving;
+use crate::moving::{lengthen_moving, write_moving};
 use crate::values::{drop_value, resize_value, write_value};
 use file_record::FileNo;
 use mft_table::Mft;
@@ -24,7 +24,8 @@ use tree_edit::{Way, Writable, write_over};
 use vol_disk::Disk;
 
 /// Gives the stream that was found so many bytes, cut or with zeros behind, and then sets the four times of its file, in the order of its
-/// `$STANDARD_INFORMATION`; the file shows the flags that it had. Clusters that it needs no more are given back first. All of it is staged.
+/// `$STANDARD_INFORMATION`; the file shows the flags that it had. Clusters that it needs no more are given back first; a value that its record has no
+/// room for moves into a run of clusters. All of it is staged.
 ///
 /// # Errors
 ///
@@ -48,7 +49,7 @@ pub fn resize_stream<D: Disk>(
         → ResizesStream (view D.Disk mft.old) (view D.Disk mft.new) (number_of found.now.held) can.stream.is.part.name size
         can.stream.bytes times.now found.now.flags) }
     ensures places { OnOk result (IsTrue (view D.Disk mft.old).told
-        → StagesGiving D.Disk 8 (number_of found.now.held) (view D.Disk mft.old) mft.old mft.new) }
+        → StagesGiving D.Disk 11 (number_of found.now.held) (view D.Disk mft.old) mft.old mft.new) }
     ensures tables { OnOk result (TellsStored D.Disk mft.new) }
     ensures device { KeepsDevice D.Disk mft.old mft.new }
     ensures err { IfErr result IsReadNo }
@@ -61,8 +62,10 @@ pub fn resize_stream<D: Disk>(
     match found.way {
         // No stream has another length so.
         Way::InPlace => Ok(()),
-        Way::IntoClusters => Ok(()),
         Way::InRecord => resize_value(alloc, mft, stream, number, size, times, found.flags),
+        Way::IntoClusters => {
+            lengthen_moving(alloc, mft, held, stream, number, size, times, found.flags)
+        }
         Way::InClusters if size > stream.size => {
             lengthen_extent(alloc, mft, held, stream, number, size, times, found.flags)
         }

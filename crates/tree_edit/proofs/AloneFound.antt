@@ -2,7 +2,7 @@
 -- is held: the refusals in their order; the way in which it can; and whether it is a value of a file without an attribute list, and has
 -- room.
 use Rattle.std.proofs.Common.{◌≡◌, ◌⊎◌, ◌<◌, ◌≤◌, ◌&&◌, ◌||◌, ◌==◌, ◌+◌, ◌/◌, ◌%◌, ℕ, Bool, true, false, List, Option, Some, None, Result, Ok, Err}
-use Rattle.std.proofs.Common.{refl, sym, ap, subst, inl, inr, ◌∙◌}
+use Rattle.std.proofs.Common.{not, refl, sym, ap, subst, inl, inr, ◌∙◌}
 use Rattle.std.proofs.lemmas.Bool.{and_parts, le-leb, lt-leb, not-true, or_left, or_right}
 use Rattle.std.specs.Prelude.{IfOk, IfSome, IsSomeAnd, MatchResult, if◌then◌else◌, is_some, length, nat_le, slice_get}
 use Rattle.std.specs.List.{list_any}
@@ -27,8 +27,8 @@ use Rattle.sparse_io.specs.declared.find.FoundStream.{FoundStream}
 use Rattle.tree_model.specs.Cases.{is_far}
 use Rattle.tree_model.specs.Paths.{and_then}
 use Rattle.tree_model.specs.Reading.{read}
-use Rattle.tree_model.specs.Ways.{ends_in_last, fits_in_record, gets_no_longer, has_no_list}
-use Rattle.tree_model.specs.StreamRoom.{parts_named, stream_parts, stream_value}
+use Rattle.tree_model.specs.Ways.{ends_in_last, fits_in_record, gets_no_longer, has_no_list, can_leave}
+use Rattle.tree_model.specs.StreamRoom.{parts_named, stream_parts, stream_value, new_clusters}
 use Rattle.tree_model.specs.Subjects.{content_named}
 use Rattle.tree_model.specs.Tree.{node_of}
 use Rattle.tree_model.specs.declared.opens.OpenEntry.{OpenEntry}
@@ -39,7 +39,8 @@ use Rattle.file_room.specs.Nodes.{IsNodeHeld, number_of, parts_in}
 use Rattle.file_room.specs.Parts.{FindsPlain, IsPlainStream, content_here}
 use Rattle.file_room.proofs.NodeLaws.{held-file, held-with}
 use Rattle.file_room.proofs.StreamLaws.{other-stream, refused-directory}
-use Rattle.tree_edit.specs.Alone.{can_drop, can_end, can_give, can_resize}
+use Rattle.tree_edit.proofs.MovableLaws.{to-alone}
+use Rattle.tree_edit.specs.Alone.{can_drop, can_end, can_give, can_resize, can_end_there, can_move_to, parts_there}
 use Rattle.tree_edit.specs.Change.{TellsFit, has_room_for}
 use Rattle.tree_edit.specs.Decided.{EditsSo, can_drop_by, can_drop_so, can_resize_by, can_resize_so, drop_decided, drop_shared_to, if_can, resize_decided, resize_ranged_to}
 use Rattle.tree_edit.specs.Settable.{is_editable}
@@ -63,6 +64,12 @@ room_in view name size file =
 module _ (view : VolumeView) (held : BaseFile) (n : IsNodeHeld view held) where
   abbrev f : ℕ
   f = number_of held
+
+  -- what is asked of a value that moves, beside that it is one
+  abbrev moves_out : List ℕ → ℕ → Bool
+  moves_out name size =
+      not (can_resize view name size f)
+      && can_leave view f (parts_there view name f) size (new_clusters (cluster_bytes view.layout) (parts_there view name f) 0 0)
 
   -- WHAT IS WANTED, of a stream that is to have another length
   module _ (name : List ℕ) (size : ℕ) (opens : List OpenEntry) where
@@ -102,10 +109,11 @@ module _ (view : VolumeView) (held : BaseFile) (n : IsNodeHeld view held) where
         → wanted ≡ Err no.Unbuilt
     resize-missing none near kept =
         resize-shared None none near None kept
-        ∙ ap (λ b. if_can b f) (ap (λ b. (b && room_in view name size f) || can_end view name size f) (drop-missing view held n name 0 0 none)
-        ∙ ap (λ b. b && (gets_no_longer size (content_named (read view) name (node_of (read view) f))
+        ∙ ap (λ b. if_can b f) (ap (λ b. (b && room_in view name size f) || can_end_there view name size f) (drop-missing view held n name 0 0 none)
+        ∙ ap (λ b. (b && (gets_no_longer size (content_named (read view) name (node_of (read view) f))
         || ends_in_last (cluster_bytes view.layout) (stream_parts view (read view) (named_in (read view) name f)) size))
-        (give-missing view held n name 0 0 none))
+        || can_move_to view name size f) (give-missing view held n name 0 0 none)
+        ∙ ap (λ b. b && moves_out name size) (drop-missing view held n name 0 0 none))
 
   -- .. and of one that is to go
   module _ (name : List ℕ) (opens : List OpenEntry) where
@@ -221,13 +229,17 @@ module _ (view : VolumeView) (mounted : Mounted) (held : BaseFile) (mounts : IsM
     resize-way way.InRecord can = resize-editable can
     resize-way way.InClusters can =
         give-editable view mounted held mounts sound n name found is (and_parts (can_give view name number) _ can).0
-    resize-way way.IntoClusters can = absurd (cc)
+    resize-way way.IntoClusters can = drop-editable (to-alone view name number size can)
 
     resize-some : (way : Way) → can_resize_by view name size way number ≡ true → can_resize_so view name size number ≡ true
     resize-some way.InPlace can = absurd (cc)
-    resize-some way.InRecord can = or_left (can_resize view name size number) (can_end view name size number) can
-    resize-some way.InClusters can = or_right (can_resize view name size number) (can_end view name size number) can
-    resize-some way.IntoClusters can = absurd (cc)
+    resize-some way.InRecord can = or_left (can_resize view name size number) (can_end_there view name size number) can
+    resize-some way.InClusters can =
+        or_right (can_resize view name size number) (can_end_there view name size number)
+        (or_left (can_end view name size number) (can_move_to view name size number) can)
+    resize-some way.IntoClusters can =
+        or_right (can_resize view name size number) (can_end_there view name size number)
+        (or_right (can_end view name size number) (can_move_to view name size number) can)
 
     pub resize-decided : {E : Type 0} (way : Result (Option Way) E) (wanted : Result ℕ No) (result : Result Writable No)
         → IfOk way (EditsSo (can_resize_by view name size) (can_resize_so view name size number) number)

@@ -38,7 +38,7 @@ use Rattle.file_room.specs.Stop.{Stop}
 use Rattle.file_room.specs.Stop.TheVariants as stop
 use Rattle.file_room.proofs.GivesLaws.{both, tells}
 use Rattle.file_room.proofs.NodeLaws.{held-with}
-use Rattle.tree_edit.specs.Alone.{IsResizable, asked_to_drop, asked_to_resize, bits_asked, can_drop, can_end, can_give, can_resize, drop_in, drop_wanted, if_room, resize_in, resize_wanted, room_to_resize}
+use Rattle.tree_edit.specs.Alone.{IsResizable, asked_to_drop, asked_to_resize, bits_asked, can_drop, can_end, can_give, can_resize, drop_in, drop_wanted, if_room, resize_in, resize_wanted, room_to_resize, can_end_there}
 use Rattle.tree_edit.specs.Decided.{IsWritableSo, asked_to_write, drop_decided, drop_found, hwrite_decided, if_can, resize_decided, resize_found, write_decided, write_found}
 use Rattle.tree_edit.specs.Punchable.{can_punch}
 use Rattle.tree_edit.specs.Writable.{IsFoundToEdit, can_write_over, kept_from_writing, named_in, stream_to_write}
@@ -126,7 +126,7 @@ module _ (view : VolumeView) (name : List ℕ) where
       by (Ok found) =
           let file = found_file found in
           resized-last file (is_far size) (kept_from_writing opens file) (stream_to_write (read view) name (node_of (read view) file))
-          (can_resize view name size file) (can_end view name size file) (has_placed_bits view) (λ f. room_to_resize view name size f)
+          (can_resize view name size file) (can_end_there view name size file) (has_placed_bits view) (λ f. room_to_resize view name size f)
           (λ f. asked_to_resize view name size f) refl
 
   pub drop-last : (opens : List OpenEntry) (path : List (List ℕ)) → drop_wanted view opens path name

@@ -35,10 +35,10 @@ use Rattle.tree_model.specs.declared.tree.Stream.{Stream}
 use Rattle.file_room.specs.Nodes.{IsNodeHeld, number_of, parts_in}
 use Rattle.file_room.specs.Parts.{FindsPlain, content_here}
 use Rattle.file_record.proofs.ReadLaws.{view-kept}
-use Rattle.tree_edit.specs.Alone.{can_drop, can_give, can_resize}
+use Rattle.tree_edit.specs.Alone.{can_drop, can_give, can_resize, parts_there}
 use Rattle.tree_edit.specs.Decided.{can_write_so, hwrite_decided, hwrite_ranged_to, if_can, write_decided, write_ranged_to}
 use Rattle.tree_edit.specs.Writable.{FindsToWrite, IsMountedAs, can_write_over, kept_from_writing, named_in, stream_to_write}
-use Rattle.tree_edit.specs.Movable.{can_move_there, parts_there}
+use Rattle.tree_edit.specs.Movable.{can_move_there}
 use Rattle.tree_edit.specs.Write.{can_reach_there}
 use Rattle.tree_edit.proofs.StreamToWrite.{sought-none}
 

@@ -28,7 +28,7 @@ use Rattle.tree_model.specs.StreamRoom.{new_clusters, parts_named, stream_value,
 use Rattle.tree_model.specs.Ways.{can_leave, fits_as_extent, has_free_run, has_no_flags, has_no_list, has_run_if_room, moved_bytes}
 use Rattle.file_room.specs.Nodes.{IsNodeHeld, number_of, parts_in}
 use Rattle.file_room.proofs.NodeLaws.{held-file, held-with}
-use Rattle.tree_edit.specs.Alone.{can_drop, can_resize}
+use Rattle.tree_edit.specs.Alone.{can_drop, can_resize, can_move, can_move_to, parts_there}
 use Rattle.tree_edit.specs.Change.{TellsFree}
 use Rattle.tree_edit.specs.Punchable.{can_punch}
 use Rattle.tree_edit.specs.Settable.{is_editable}
@@ -38,7 +38,7 @@ use Rattle.tree_edit.proofs.Below.{at-among}
 use Rattle.tree_edit.proofs.EditableLaws.{edit-is, parts-are}
 use Rattle.tree_edit.proofs.ReachFound.{takes-less, takes-run}
 use Rattle.tree_edit.proofs.RoomFound.{attribute-of, found-size, free-tells, value-there}
-use Rattle.tree_edit.specs.Movable.{can_leave_by, can_move, can_move_there, can_move_to, fits_as_extent_by, parts_there}
+use Rattle.tree_edit.specs.Movable.{can_leave_by, can_move_there, fits_as_extent_by}
 use Rattle.tree_edit.proofs.MovableLaws.{is-value, some-bytes, some-clusters}
 
 -- SOME CLUSTERS ARE FREE one behind the other, unless fewer are in all, by the flags in memory: it is what a run of a stream in clusters

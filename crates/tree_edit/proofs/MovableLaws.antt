@@ -27,14 +27,14 @@ use Rattle.tree_model.specs.declared.tree.Content.{Content}
 use Rattle.tree_model.specs.declared.tree.Node.{Node}
 use Rattle.tree_model.specs.declared.tree.Stream.{Stream}
 use Rattle.file_room.specs.Nodes.{number_of}
-use Rattle.tree_edit.specs.Alone.{IsDroppable, can_drop, can_resize, room_to_resize}
+use Rattle.tree_edit.specs.Alone.{IsDroppable, can_drop, can_resize, room_to_resize, can_move, can_move_to, parts_there}
 use Rattle.tree_edit.specs.Punchable.{can_punch}
 use Rattle.tree_edit.specs.Writable.{named_in}
 use Rattle.tree_edit.specs.Write.{room_to_reach, room_to_write}
 use Rattle.tree_edit.specs.declared.writable.Writable.{Writable}
 use Rattle.tree_edit.proofs.EditableLaws.{found-for}
 use Rattle.tree_edit.proofs.RoomFree.{enough-free}
-use Rattle.tree_edit.specs.Movable.{IsMovable, IsMovableTo, can_move, can_move_there, can_move_to, parts_there}
+use Rattle.tree_edit.specs.Movable.{IsMovable, IsMovableTo, can_move_there}
 
 -- THE MACHINE SAYS SO, of a file that can be edited: the same tests, in another order.
 regroup-tests : (edits value none room moves bits : Bool)
@@ -200,6 +200,13 @@ module _ (view : VolumeView) (name : List ℕ) (file : ℕ) where
 
     pub to-run : room_to_resize view name size file ≡ None → has_free_run view (clusters_for size cluster) ≡ true
     to-run none = run-there size (new_clusters cluster there 0 0) moves (sym to-room ∙ none)
+
+    pub to-run_counted : room_to_resize view name size file ≡ None → has_free_run view (new_clusters cluster there 0 0) ≡ true
+    to-run_counted none =
+        subst (λ n. has_free_run view n ≡ true) (as-many size (new_clusters cluster there 0 0) moves) (to-run none)
+
+    pub to-out : can_resize view name size file ≡ false
+    to-out = moves-out size (new_clusters cluster there 0 0) moves
 
     pub to-some : 0 < cluster → 0 < clusters_for size cluster
     to-some some = some-then size (new_clusters cluster there 0 0) moves some

@@ -9,14 +9,17 @@ use Rattle.volume_def.specs.View.{VolumeView}
 use Rattle.tree_model.specs.Facts.{is_whole_table}
 use Rattle.tree_model.specs.Reading.{read}
 use Rattle.tree_model.specs.Staging.{cannot_edit}
-use Rattle.tree_model.specs.StreamRoom.{stream_parts}
+use Rattle.tree_model.specs.StreamRoom.{stream_parts, new_clusters}
 use Rattle.tree_model.specs.Subjects.{content_named}
 use Rattle.tree_model.specs.Tree.{node_of}
-use Rattle.tree_model.specs.Ways.{fits_in_record, gets_no_longer, has_no_list, has_placed_bits, in_extent}
+use Rattle.tree_model.specs.Ways.{fits_in_record, gets_no_longer, has_no_list, has_placed_bits, in_extent, has_free_run}
 use Rattle.tree_model.specs.declared.reply.No.{No}
 use Rattle.tree_model.specs.declared.reply.No.TheVariants as no
 use Rattle.file_room.specs.Nodes.{number_of}
-use Rattle.tree_edit.specs.Alone.{IsDroppable, IsResizable, IsToDrop, IsToResize, asked_to_drop, asked_to_resize, bits_asked, can_drop, can_end, can_get, can_give, can_go, can_resize, room_to_resize}
+use Rattle.volume_def.specs.Table.{cluster_bytes}
+use Rattle.tree_edit.proofs.MovableLaws.{to-out, to-run_counted}
+use Rattle.tree_edit.specs.Movable.{IsMovableTo}
+use Rattle.tree_edit.specs.Alone.{IsDroppable, IsResizable, IsToDrop, IsToResize, asked_to_drop, asked_to_resize, bits_asked, can_drop, can_end, can_get, can_give, can_go, can_resize, room_to_resize, can_move_to, parts_there}
 use Rattle.tree_edit.specs.Decided.{IsDroppableSo, IsResizableSo, can_drop_by, can_resize_by}
 use Rattle.tree_edit.specs.Writable.{IsFoundToEdit, named_in}
 use Rattle.tree_edit.specs.declared.writable.Way.{Way}
@@ -98,6 +101,13 @@ module _ (view : VolumeView) (name : List ℕ) (file : ℕ) where
         → asked_to_resize view name size file ≡ option_or (bits_asked view) (room_to_resize view name size file)
     asked-resize_bits cut = ap asked (cut-no_value cut)
 
+    pub asked-resize_moved : can_move_to view name size file ≡ true
+        → asked_to_resize view name size file ≡ option_or (bits_asked view) (room_to_resize view name size file)
+    asked-resize_moved moves = ap asked (to-out view name file size moves)
+
+    abbrev count : ℕ
+    count = new_clusters (cluster_bytes view.layout) (parts_there view name file) 0 0
+
     pub can-get : (way : Way) → can_resize_by view name size way file ≡ true → asked_to_resize view name size file ≡ None
         → can_get view name size way file ≡ true
     can-get way.InPlace so none = so
@@ -105,7 +115,12 @@ module _ (view : VolumeView) (name : List ℕ) (file : ℕ) where
     can-get way.InClusters so none =
         and_from (can_end view name size file) (has_placed_bits view) so
         (placed (has_placed_bits view) (first-none (bits_asked view) (room_to_resize view name size file) (sym (asked-resize_bits so) ∙ none)))
-    can-get way.IntoClusters so none = so
+    can-get way.IntoClusters so none =
+        let known = sym (asked-resize_moved so) ∙ none in
+        let room = room_to_resize view name size file in
+        and_from (can_move_to view name size file) (has_placed_bits view && has_free_run view count) so
+        (and_from (has_placed_bits view) (has_free_run view count) (placed (has_placed_bits view) (first-none (bits_asked view) room known))
+        (to-run_counted view name file size so (second-none (bits_asked view) room known)))
 
 -- WHAT WAS FOUND
 module _ (view : VolumeView) (found : Writable) (name : List ℕ) where
@@ -144,8 +159,14 @@ module _ (view : VolumeView) (found : Writable) (name : List ℕ) where
     pub resizable-none : found.way ≡ way.InPlace → asked_to_resize view name size f ≡ None
     resizable-none same = let never : false ≡ true = resize-by way.InPlace same in absurd (cc)
 
-    pub resizable-not_moved : found.way ≡ way.IntoClusters → asked_to_resize view name size f ≡ None
-    resizable-not_moved same = let never : false ≡ true = resize-by way.IntoClusters same in absurd (cc)
+    pub resizable-moved : found.way ≡ way.IntoClusters
+        → asked_to_resize view name size f ≡ option_or (bits_asked view) (room_to_resize view name size f)
+    resizable-moved same = asked-resize_moved view name f size (resize-by way.IntoClusters same)
+
+    pub resizable-movable : found.way ≡ way.IntoClusters → IsMovableTo view found name size
+    resizable-movable same =
+        found-for view found name (λ file. can_resize_by view name size found.way file) (λ file. can_move_to view name size file) is
+        (resize-by way.IntoClusters same)
 
     pub resizable-bits : found.way ≡ way.InClusters
         → asked_to_resize view name size f ≡ option_or (bits_asked view) (room_to_resize view name size f)
@@ -211,5 +232,12 @@ module _ (view : VolumeView) (found : Writable) (name : List ℕ) where
     pub resizes-not_over : found.way ≡ way.InPlace → ⊥
     resizes-not_over same = let never : false ≡ true = get-by way.InPlace same in cc
 
-    pub resizes-not_moved : found.way ≡ way.IntoClusters → ⊥
-    resizes-not_moved same = let never : false ≡ true = get-by way.IntoClusters same in cc
+    pub resizes-moving : found.way ≡ way.IntoClusters → IsMovableTo view found name size
+        × ((has_placed_bits view ≡ true)
+        × (has_free_run view (new_clusters (cluster_bytes view.layout) (parts_there view name number) 0 0) ≡ true))
+    resizes-moving same =
+        let run = has_free_run view (new_clusters (cluster_bytes view.layout) (parts_there view name number) 0 0) in
+        let both = and_parts (can_move_to view name size number) (has_placed_bits view && run) (get-by way.IntoClusters same) in (
+          found-for view found name (λ file. can_get view name size found.way file) (λ file. can_move_to view name size file) is both.0,
+          and_parts (has_placed_bits view) run both.1,
+        )

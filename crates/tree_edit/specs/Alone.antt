@@ -2,6 +2,7 @@
 -- leads to it, and the refusals in their order.
 use Rattle.std.specs.Prelude.{◌&&◌, ◌||◌, ◌==◌, ℕ, not, Bool, false, List, length, Option, Some, None, Result, Ok, Err, if◌then◌else◌}
 use Rattle.std.specs.Option.{option_map_or, option_or}
+use Rattle.volume_def.specs.Files.{Part}
 use Rattle.volume_def.specs.Table.{cluster_bytes}
 use Rattle.volume_def.specs.Values.{first_part}
 use Rattle.volume_def.specs.View.{VolumeView}
@@ -14,6 +15,7 @@ use Rattle.tree_model.specs.Reading.{read}
 use Rattle.tree_model.specs.Shown.{stream_of}
 use Rattle.tree_model.specs.Staging.{cannot_edit}
 use Rattle.tree_model.specs.Ways.{ends_in_last, fits_in_record, gets_no_longer, has_no_list, has_placed_bits, in_extent}
+use Rattle.tree_model.specs.Ways.{can_leave, has_free_run}
 use Rattle.tree_model.specs.StreamRoom.{new_clusters, stream_parts}
 use Rattle.tree_model.specs.Subjects.{content_named}
 use Rattle.tree_model.specs.Tree.{node_of}
@@ -36,6 +38,20 @@ can_resize view name size file =
     can_drop view name file
     && (gets_no_longer size (content_named (read view) name (node_of (read view) file))
     || fits_in_record view file (stream_parts view (read view) (named_in (read view) name file)) size)
+
+-- the parts of the stream of this name
+abbrev pub parts_there : VolumeView → List ℕ → ℕ → List Part
+parts_there view name file = stream_parts view (read view) (named_in (read view) name file)
+
+-- .. or does not stay in its record with so many bytes, and moves into so many clusters:
+abbrev pub can_move : VolumeView → List ℕ → ℕ → ℕ → ℕ → Bool
+can_move view name size count file =
+    can_drop view name file
+    && (not (can_resize view name size file) && can_leave view file (parts_there view name file) size count)
+
+-- as many as it would fill now, where it is to have another length
+abbrev pub can_move_to : VolumeView → List ℕ → ℕ → ℕ → Bool
+can_move_to view name size file = can_move view name size (new_clusters (cluster_bytes view.layout) (parts_there view name file) 0 0) file
 
 -- .. or lies in clusters, in one part,
 abbrev pub can_give : VolumeView → List ℕ → ℕ → Bool
@@ -63,7 +79,9 @@ abbrev pub can_get : VolumeView → List ℕ → ℕ → Way → ℕ → Bool
 can_get view name size way.InPlace file = false
 can_get view name size way.InRecord file = can_resize view name size file
 can_get view name size way.InClusters file = can_end view name size file && has_placed_bits view
-can_get view name size way.IntoClusters file = false
+can_get view name size way.IntoClusters file =
+    can_move_to view name size file
+    && (has_placed_bits view && has_free_run view (new_clusters (cluster_bytes view.layout) (parts_there view name file) 0 0))
 
 -- The room that is asked for where it gets longer: the stream may not stay in its record, nor its run list.
 abbrev pub room_to_resize : VolumeView → List ℕ → ℕ → ℕ → Option No
@@ -91,9 +109,13 @@ abbrev pub if_dropped : VolumeView → List ℕ → ℕ → Result ℕ No
 if_dropped view name file =
     if can_drop view name file || (can_give view name file && has_placed_bits view) then Ok file else Err no.Unbuilt
 
+-- In clusters it can be, or get, so long.
+abbrev pub can_end_there : VolumeView → List ℕ → ℕ → ℕ → Bool
+can_end_there view name size file = can_end view name size file || can_move_to view name size file
+
 abbrev pub if_resized : VolumeView → List ℕ → ℕ → ℕ → Result ℕ No
 if_resized view name size file =
-    if can_resize view name size file || (can_end view name size file && has_placed_bits view)
+    if can_resize view name size file || (can_end_there view name size file && has_placed_bits view)
     then if_room (room_to_resize view name size file) file else Err no.Unbuilt
 
 -- `truncate`: THE NUMBER OF THE FILE that the path leads to, where its stream can have so many bytes

@@ -12,7 +12,7 @@ use Rattle.tree_model.specs.Tree.{node_of}
 use Rattle.tree_model.specs.declared.opens.OpenEntry.{OpenEntry}
 use Rattle.tree_model.specs.declared.reply.No.{No}
 use Rattle.tree_model.specs.declared.reply.No.TheVariants as no
-use Rattle.tree_edit.specs.Alone.{bits_asked, can_drop, can_end, can_give, can_resize}
+use Rattle.tree_edit.specs.Alone.{bits_asked, can_drop, can_end, can_give, can_resize, can_end_there, can_move_to}
 use Rattle.tree_edit.specs.Writable.{IsFoundToEdit, can_write_over, kept_from_writing, stream_to_write}
 use Rattle.tree_edit.specs.Movable.{can_move_there}
 use Rattle.tree_edit.specs.Write.{can_lie_there, can_reach_there, room_to_reach, room_to_write}
@@ -33,10 +33,10 @@ abbrev pub can_resize_by : VolumeView → List ℕ → ℕ → Way → ℕ → B
 can_resize_by view name size way.InPlace file = false
 can_resize_by view name size way.InRecord file = can_resize view name size file
 can_resize_by view name size way.InClusters file = can_end view name size file
-can_resize_by view name size way.IntoClusters file = false
+can_resize_by view name size way.IntoClusters file = can_move_to view name size file
 
 abbrev pub can_resize_so : VolumeView → List ℕ → ℕ → ℕ → Bool
-can_resize_so view name size file = can_resize view name size file || can_end view name size file
+can_resize_so view name size file = can_resize view name size file || can_end_there view name size file
 
 abbrev pub IsResizableSo : VolumeView → Writable → List ℕ → ℕ → Type 0
 IsResizableSo view found name size = IsFoundToEdit view found name (λ file. can_resize_by view name size found.way file)

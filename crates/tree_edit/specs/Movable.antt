@@ -6,35 +6,19 @@ use Rattle.std.specs.Prelude.{◌+◌, ◌==◌, ◌&&◌, ℕ, nat_le, not, Boo
 use Rattle.std.specs.Option.{option_map_or}
 use Rattle.ntfs_def.specs.Attribute.{Attribute, value_of}
 use Rattle.ntfs_def.specs.Rounded.{clusters_for}
-use Rattle.volume_def.specs.Files.{Part}
 use Rattle.volume_def.specs.Table.{cluster_bytes}
 use Rattle.volume_def.specs.View.{VolumeView}
-use Rattle.tree_model.specs.Reading.{read}
-use Rattle.tree_model.specs.StreamRoom.{new_clusters, stream_parts, stream_value_len}
-use Rattle.tree_model.specs.Ways.{can_leave, has_run_if_room}
-use Rattle.tree_edit.specs.Alone.{can_drop, can_resize}
-use Rattle.tree_edit.specs.Writable.{IsFoundToEdit, named_in}
+use Rattle.tree_model.specs.StreamRoom.{new_clusters, stream_value_len}
+use Rattle.tree_model.specs.Ways.{has_run_if_room}
+use Rattle.tree_edit.specs.Alone.{can_move, can_move_to, parts_there}
+use Rattle.tree_edit.specs.Writable.{IsFoundToEdit}
 use Rattle.tree_edit.specs.declared.writable.Writable.{Writable}
-
--- the parts of the stream of this name
-abbrev pub parts_there : VolumeView → List ℕ → ℕ → List Part
-parts_there view name file = stream_parts view (read view) (named_in (read view) name file)
-
--- With so many bytes it moves into so many clusters:
-abbrev pub can_move : VolumeView → List ℕ → ℕ → ℕ → ℕ → Bool
-can_move view name size count file =
-    can_drop view name file
-    && (not (can_resize view name size file) && can_leave view file (parts_there view name file) size count)
 
 -- by bytes that go over those of the value, or right behind them, ..
 abbrev pub can_move_there : VolumeView → List ℕ → ℕ → ℕ → ℕ → Bool
 can_move_there view name from len file =
     nat_le from (stream_value_len (parts_there view name file))
     && can_move view name (from + len) (new_clusters (cluster_bytes view.layout) (parts_there view name file) from len) file
-
--- .. or by another length.
-abbrev pub can_move_to : VolumeView → List ℕ → ℕ → ℕ → Bool
-can_move_to view name size file = can_move view name size (new_clusters (cluster_bytes view.layout) (parts_there view name file) 0 0) file
 
 -- THE STREAM THAT WAS FOUND is such a value.
 abbrev pub IsMovable : VolumeView → Writable → List ℕ → ℕ → ℕ → Type 0

@@ -19,8 +19,8 @@ use Rattle.tree_model.specs.Ways.{can_reach, goes_behind, has_free_run, has_plac
 use Rattle.tree_model.specs.declared.opens.OpenEntry.{OpenEntry}
 use Rattle.tree_model.specs.declared.reply.No.{No}
 use Rattle.tree_model.specs.declared.reply.No.TheVariants as no
-use Rattle.tree_edit.specs.Alone.{can_give, can_resize, if_room}
-use Rattle.tree_edit.specs.Movable.{can_move_there, parts_there}
+use Rattle.tree_edit.specs.Alone.{can_give, can_resize, if_room, parts_there}
+use Rattle.tree_edit.specs.Movable.{can_move_there}
 use Rattle.tree_edit.specs.Writable.{IsFoundToEdit, can_write_over, kept_from_writing, named_in, stream_to_write}
 use Rattle.tree_edit.specs.declared.writable.Way.{Way}
 use Rattle.tree_edit.specs.declared.writable.Way.TheVariants as way

@@ -23,7 +23,9 @@ ghost use Rattle.tree_edit.specs.Decided.{EditsSo, IsDroppableSo, IsResizableSo,
 ghost use Rattle.tree_edit.specs.Decided.{drop_decided, drop_found, resize_decided, resize_found};
 ghost use Rattle.tree_edit.specs.Writable.{DecidesEdit, GivesBack, IsMountedAs};
 
+use crate::ask_to_move::ask_to_move_to;
 use crate::extent::{ask_for_bits, is_extent};
+use crate::movable::is_movable_to;
 use crate::punchable::is_value;
 use crate::room::clusters_for_bytes;
 use crate::value::fits_value;
@@ -185,6 +187,9 @@ fn way_to_resize(
     if can_end(alloc, mounted, held, stream, cluster_bytes, size)? {
         return Ok(Some(Way::InClusters));
     }
+    if is_movable_to(alloc, mounted, cluster_bytes, held, stream, size)? {
+        return Ok(Some(Way::IntoClusters));
+    }
     Ok(None)
 }
 
@@ -330,7 +335,10 @@ fn ask_to_resize<D: Disk>(
             let clusters = clusters_for_bytes(&found.held.parts, &found.stream, bytes, 0, 0);
             ask_for_room(mft, &found.held.parts, clusters)
         }
-        Way::IntoClusters => Ok(()),
+        Way::IntoClusters => {
+            ask_for_bits(alloc, mft)?;
+            ask_to_move_to(mft, found)
+        }
     }
 }
 
@@ -341,7 +349,7 @@ fn ask_to_resize<D: Disk>(
 ///
 /// The refusal of the first component that is bad; `BadName`, `IsDir`, `Packed` and `TooBig`; `Shared`, where an open of the file does not
 /// share writing; `Unbuilt`, where the file cannot be edited or has an attribute list, the stream is missing, or it is a value that gets
-/// longer and whose record has no room for that, or it lies in clusters and ends outside its last one then, or in more parts than one, or the
+/// longer, whose record has no room for that, and that cannot move into as many clusters as it would fill now, or it lies in clusters and ends outside its last one then, or in more parts than one, or the
 /// bitmap of clusters is a value; of one that gets longer `TooManyParts`, `MftFull` and `NoRoom`; `Memory`, and `Device` where the disk failed.
 pub fn find_to_resize<D: Disk>(
     alloc: Global,

@@ -5,7 +5,8 @@ ghost use Rattle.volume_def.specs.View.{VolumeView};
 ghost use Rattle.sparse_io.specs.Held.{IsStream};
 ghost use Rattle.file_room.specs.Nodes.{IsNodeHeld, number_of, parts_in};
 ghost use Rattle.tree_edit.specs.Writable.{IsMountedAs};
-ghost use Rattle.tree_edit.specs.Movable.{can_move, can_move_there, can_move_to};
+ghost use Rattle.tree_edit.specs.Movable.{can_move_there};
+ghost use Rattle.tree_edit.specs.Alone.{can_move, can_move_to};
 
 use crate::alone::{is_alone, is_resizable};
 use crate::behind::free_beside;

@@ -149,17 +149,26 @@ moves_by_write view tree at from len =
     nat_le from (stream_value_len (stream_parts view tree at))
     && moves_into_clusters view tree at (from + len) (new_clusters (cluster_bytes view.layout) (stream_parts view tree at) from len)
 
--- Bytes go into clusters so, or so.
+-- .. or by another length, where it takes no more clusters than it would fill now
+abbrev pub moves_by_length : VolumeView → Tree → Located → ℕ → Bool
+moves_by_length view tree at size =
+    moves_into_clusters view tree at size (new_clusters (cluster_bytes view.layout) (stream_parts view tree at) 0 0)
+
+-- Bytes go into clusters so, or so; ..
 abbrev pub goes_into_clusters : VolumeView → Tree → Located → ℕ → ℕ → Bool
 goes_into_clusters view tree at from len =
     (is_extent_alone view tree at && can_reach view at.file (stream_parts view tree at) from len) || moves_by_write view tree at from len
+
+-- .. and a stream has another length in clusters.
+abbrev pub ends_in_clusters : VolumeView → Tree → Located → ℕ → Bool
+ends_in_clusters view tree at size = (is_extent_alone view tree at && can_end view tree at size) || moves_by_length view tree at size
 
 abbrev pub is_done_in_clusters : VolumeView → Tree → Command → Located → Bool
 is_done_in_clusters view tree (c.Write path stream from bytes) at =
     not (is_done_in_place view tree (c.Write path stream from bytes) at) && goes_into_clusters view tree at from (length bytes)
 is_done_in_clusters view tree (c.Hwrite handle from bytes) at =
     not (is_done_in_place view tree (c.Hwrite handle from bytes) at) && goes_into_clusters view tree at from (length bytes)
-is_done_in_clusters view tree (c.Truncate path stream size) at = is_extent_alone view tree at && can_end view tree at size
+is_done_in_clusters view tree (c.Truncate path stream size) at = ends_in_clusters view tree at size
 is_done_in_clusters view tree (c.Rmstream path name) at = is_extent_alone view tree at
 is_done_in_clusters view tree other at = false
 

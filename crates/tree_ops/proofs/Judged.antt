@@ -101,6 +101,18 @@ turned true true true true false = refl
 turned true true true false true = refl
 turned true true true false false = refl
 
+-- what moves does so where the bits of clusters lie in clusters
+pub moved : (value other leaves placed : Bool) → (value && (other && (leaves && placed))) ≡ ((value && (other && leaves)) && placed)
+moved false other leaves placed = refl
+moved true false leaves placed = refl
+moved true true leaves placed = refl
+
+pub either-placed : (lies moves placed : Bool) → ((lies && placed) || (moves && placed)) ≡ ((lies || moves) && placed)
+either-placed true moves true = refl
+either-placed true true false = refl
+either-placed true false false = refl
+either-placed false moves placed = refl
+
 -- it is this file that is wanted then, or none
 room-file : (asked : Option No) (file other : ℕ) → if_room asked file ≡ Ok other → file ≡ other
 room-file None file other e = cc

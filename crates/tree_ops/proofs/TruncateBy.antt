@@ -1,8 +1,8 @@
 -- WHAT IS DUE FOR `truncate`: where the stream that its path leads to is a value of a file without an attribute list, and can have so many
--- bytes, or lies in clusters, in one part, and gets no longer, or ends in its last cluster still, it is done, unless there is no room for
--- what it asks. Else it is refused so.
-use Rattle.std.proofs.Common.{◌≡◌, ◌==◌, ◌&&◌, ◌||◌, ℕ, Bool, true, false, List, not, length, Option, Some, None, Ok, Err}
-use Rattle.std.proofs.Common.{refl, sym, ap, subst, ◌∙◌, arith}
+-- bytes, or moves into clusters for them, or lies in clusters, in one part, and gets no longer, or ends in its last cluster still, it is
+-- done, unless there is no room for what it asks. Else it is refused so.
+use Rattle.std.proofs.Common.{◌≡◌, ◌⊎◌, ◌==◌, ◌&&◌, ◌||◌, ℕ, Bool, true, false, List, not, length, Option, Some, None, Ok, Err}
+use Rattle.std.proofs.Common.{inl, inr, refl, sym, ap, subst, ◌∙◌, arith}
 use Rattle.std.specs.Prelude.{if◌then◌else◌, is_some, option_and_then}
 use Rattle.std.proofs.lemmas.Bool.{and_parts}
 use Rattle.volume_def.specs.Table.{cluster_bytes}
@@ -17,10 +17,10 @@ use Rattle.tree_model.specs.Paths.{and_then, found_file, resolve}
 use Rattle.tree_model.specs.Reading.{read}
 use Rattle.tree_model.specs.Refusals.{Facts, outcome, refusal, unless}
 use Rattle.tree_model.specs.Staging.{cannot_edit}
-use Rattle.tree_model.specs.Ways.{ends_in_last, fits_in_record, gets_no_longer, has_no_list, has_placed_bits, in_extent}
+use Rattle.tree_model.specs.Ways.{can_leave, ends_in_last, fits_in_record, gets_no_longer, has_no_list, has_placed_bits, in_extent}
 use Rattle.tree_model.specs.Step.{due}
 use Rattle.tree_model.specs.StreamRoom.{new_clusters, stream_parts, stream_value}
-use Rattle.tree_model.specs.Subjects.{Located, Machine, at_found, is_directory, locate, stream_name, subject_of, with_stream}
+use Rattle.tree_model.specs.Subjects.{Located, Machine, at_found, content_named, is_directory, locate, stream_name, subject_of, with_stream}
 use Rattle.tree_model.specs.declared.command.Command.{Command}
 use Rattle.tree_model.specs.declared.command.Command.TheVariants as c
 use Rattle.tree_model.specs.declared.opens.OpenEntry.{OpenEntry}
@@ -29,37 +29,42 @@ use Rattle.tree_model.specs.declared.tree.Found.{Found}
 use Rattle.made_done.specs.Below.{ResizesStream}
 use Rattle.made_done.proofs.Below.{value-room}
 use Rattle.edit_def.specs.OneFile.{no_room_alone}
-use Rattle.stream_changes.specs.Below.{can_end, can_resize, resize_in, resize_wanted, room_to_resize}
+use Rattle.stream_changes.specs.Below.{can_end_there, can_resize, resize_in, resize_wanted, room_to_resize}
 use Rattle.tree_ops.specs.Edits.{EditsFound, can_edit_so, stream_edit}
 use Rattle.tree_ops.specs.Wanted.{machine_on}
 use Rattle.tree_ops.specs.declared.streams.StreamEdit.TheVariants as s
 use Rattle.tree_ops.proofs.FileEditBy.{IsFileEditBy, StagesFile}
 use Rattle.tree_ops.proofs.StreamBy.{FindsStream, edited-file, edited-so, edited-stream, stream-found, stream-refused, stream_of_found}
 use Rattle.tree_ops.proofs.StreamFound.{bytes-so}
-use Rattle.tree_ops.proofs.Judged.{asked-file, if_asked, judge, judged, last-asked, or-either, same-file, three-ways, turned, with_at}
+use Rattle.tree_ops.proofs.Judged.{asked-file, either-placed, if_asked, judge, judged, last-asked, moved, or-either, same-file, three-ways, turned, with_at}
 use Rattle.tree_ops.proofs.RoomAsked.{asked-if, extent-there, located-counted, value-there}
 
 -- It is not built unless it is done in one of both ways.
-parted : (cannot value alone fits extent one placed short : Bool)
-    → (cannot || not (((value && alone) && fits) || ((extent && (one && (alone && placed))) && short)))
-    ≡ not ((((not cannot && value) && alone) && fits) || (((not cannot && (extent && (one && alone))) && short) && placed))
-parted true value alone fits extent one placed short = refl
-parted false value alone fits extent one placed short =
-    ap (λ b. not (((value && alone) && fits) || b)) (turned extent one alone placed short)
+parted : (cannot value alone fits extent one placed short leaves : Bool)
+    → (cannot || not (((value && alone) && fits) || (((extent && (one && (alone && placed))) && short)
+    || ((value && alone) && (not ((value && alone) && fits) && (leaves && placed))))))
+    ≡ not ((((not cannot && value) && alone) && fits) || ((((not cannot && (extent && (one && alone))) && short)
+    || (((not cannot && value) && alone) && (not (((not cannot && value) && alone) && fits) && leaves))) && placed))
+parted true value alone fits extent one placed short leaves = refl
+parted false value alone fits extent one placed short leaves =
+    ap (λ b. not (((value && alone) && fits) || b))
+    (ap (λ b. b || ((value && alone) && (not ((value && alone) && fits) && (leaves && placed)))) (turned extent one alone placed short)
+    ∙ ap (λ b. (((extent && (one && alone)) && short) && placed) || b) (moved (value && alone) (not ((value && alone) && fits)) leaves placed)
+    ∙ either-placed ((extent && (one && alone)) && short) ((value && alone) && (not ((value && alone) && fits) && leaves)) placed)
 
 built-so : (cannot value alone fits : Bool) → (((not cannot && value) && alone) && fits) ≡ true → ((value && alone) && fits) ≡ true
 built-so true value alone fits e = cc
 built-so false value alone fits e = e
 
-extent-so : (cannot extent one alone short placed : Bool) → (((not cannot && (extent && (one && alone))) && short) && placed) ≡ true
-    → ((extent && (one && (alone && placed))) && short) ≡ true
-extent-so true extent one alone short placed e = cc
-extent-so false false one alone short placed e = cc
-extent-so false true false alone short placed e = cc
-extent-so false true true false short placed e = cc
-extent-so false true true true true true e = refl
-extent-so false true true true true false e = cc
-extent-so false true true true false placed e = cc
+-- in clusters it lies there, or is a value that moves
+lies-or_moves : (cannot value alone fits extent one placed short leaves : Bool)
+    → ((((not cannot && (extent && (one && alone))) && short)
+    || (((not cannot && value) && alone) && (not (((not cannot && value) && alone) && fits) && leaves))) && placed) ≡ true
+    → (extent ≡ true) ⊎ (value ≡ true)
+lies-or_moves cannot value alone fits true one placed short leaves is = inl refl
+lies-or_moves cannot true alone fits false one placed short leaves is = inr refl
+lies-or_moves true false alone fits false one placed short leaves is = cc
+lies-or_moves false false alone fits false one placed short leaves is = cc
 
 module _ (facts : Facts) (view : VolumeView) (opens : List OpenEntry) (now session : ℕ) (path : List (List ℕ)) (stream : Option (List ℕ))
     (size : ℕ) (tells : TellsFacts view facts) where
@@ -98,9 +103,9 @@ module _ (facts : Facts) (view : VolumeView) (opens : List OpenEntry) (now sessi
   fits found =
       gets_no_longer size (at found).content || fits_in_record view (found_file found) (stream_parts view (read view) (at found)) size
 
-  -- .. or lies in clusters, in one part, and gets no longer, or ends in its last cluster still
+  -- .. or lies in clusters, in one part, and gets no longer, or ends in its last cluster still, or moves there
   abbrev cut : Found → Bool
-  cut found = can_end view name size (found_file found) && has_placed_bits view
+  cut found = can_end_there view name size (found_file found) && has_placed_bits view
 
   abbrev extent : Found → Bool
   extent found = in_extent (first_part (stream_parts view (read view) (at found)))
@@ -113,6 +118,10 @@ module _ (facts : Facts) (view : VolumeView) (opens : List OpenEntry) (now sessi
       gets_no_longer size (at found).content
       || ends_in_last (cluster_bytes view.layout) (stream_parts view (read view) (at found)) size
 
+  abbrev leaves : Found → Bool
+  leaves found = can_leave view (found_file found) (stream_parts view (read view) (at found)) size
+      (new_clusters (cluster_bytes view.layout) (stream_parts view (read view) (at found)) 0 0)
+
   -- the room that is asked for, of a stream that gets longer
   abbrev asked_of : Found → Option No
   asked_of found = option_and_then (no_room_alone view (found_file found))
@@ -124,23 +133,27 @@ module _ (facts : Facts) (view : VolumeView) (opens : List OpenEntry) (now sessi
       asked-if (no_room_alone view (found_file found)) (grows size (at found).content)
       (new_clusters (cluster_bytes view.layout) (stream_parts view (read view) (at found)) 0 0)
 
-  extent-room : (found : Found) → cut found ≡ true → facts.no_room m command (at found) ≡ asked found
-  extent-room found is =
-      let built = extent-so (cannot found) (extent found) (one found) (alone found) (short found) (has_placed_bits view) is in
-      let both = and_parts (extent found && (one found && (alone found && has_placed_bits view))) (short found) built in
-      let there = extent-there view (read view) (at found) (and_parts (extent found) _ both.0).0 in
+  -- where the stream is there, this is asked
+  asked-there : (found : Found) → is_some (content_named (read view) (at found).stream (at found).node) ≡ true
+      → facts.no_room m command (at found) ≡ asked found
+  asked-there found there =
       tells.no_room m command (at found)
       ∙ value-room view (read view) command (at found) refl refl (located-counted view (read view) (at found) refl there) there
       ∙ asked-so found
+
+  extent-room : (found : Found) → cut found ≡ true → facts.no_room m command (at found) ≡ asked found
+  extent-room found is =
+      asked-there found (elim (lies-or_moves (cannot found) (value found) (alone found) (fits found) (extent found) (one found)
+      (has_placed_bits view) (short found) (leaves found) is) [
+        | inl lies ↦ extent-there view (read view) (at found) lies
+        | inr moves ↦ value-there view (read view) (at found) moves
+      ])
 
   value-asks : (found : Found) → can found ≡ true → facts.no_room m command (at found) ≡ asked found
   value-asks found is =
       let built = built-so (cannot found) (value found) (alone found) (fits found) is in
       let both = (and_parts (value found && alone found) (fits found) built).0 in
-      let there = value-there view (read view) (at found) (and_parts (value found) (alone found) both).0 in
-      tells.no_room m command (at found)
-      ∙ value-room view (read view) command (at found) refl refl (located-counted view (read view) (at found) refl there) there
-      ∙ asked-so found
+      asked-there found (value-there view (read view) (at found) (and_parts (value found) (alone found) both).0)
 
   room : (found : Found) → (can found || cut found) ≡ true → facts.no_room m command (at found) ≡ asked found
   room found is = or-either (can found) (cut found) (value-asks found) (extent-room found) is
@@ -157,7 +170,7 @@ module _ (facts : Facts) (view : VolumeView) (opens : List OpenEntry) (now sessi
       ap (λ b. cannot_edit b (read view) (found_file found) || not (facts.built_for m command (at found))) w
       ∙ ap (λ b. cannot found || not b) (o ∙ three-ways view (read view) command (at found) refl)
       ∙ parted (cannot found) (value found) (alone found) (fits found) (extent found) (one found)
-      (has_placed_bits view) (short found) in
+      (has_placed_bits view) (short found) (leaves found) in
       ap (λ b. judge (at found).content (is_bad_stream_name name) (dir found) (is_far size) (shared m command (at found)) b
       (facts.no_room m command (at found))) both
 

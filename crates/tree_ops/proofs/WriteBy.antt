@@ -40,7 +40,7 @@ use Rattle.tree_ops.specs.Wanted.{machine_on}
 use Rattle.tree_ops.specs.declared.streams.StreamEdit.TheVariants as s
 use Rattle.tree_ops.proofs.EditBy.{state_with}
 use Rattle.tree_ops.proofs.FileEditBy.{IsFileEditBy}
-use Rattle.tree_ops.proofs.Judged.{can-of, if_written_by, judge, judged, last-written, same-file, three-ways, turned, with_at, written-file}
+use Rattle.tree_ops.proofs.Judged.{can-of, either-placed, if_written_by, judge, judged, last-written, moved, same-file, three-ways, turned, with_at, written-file}
 use Rattle.tree_ops.proofs.RoomAsked.{asked-unless, extent-there, located-counted, not-within, parts-at, value-there}
 use Rattle.tree_ops.proofs.StreamBy.{FindsStream, edited-file, edited-so, edited-stream, stream-found, stream-refused, stream_of_found}
 use Rattle.tree_ops.proofs.StreamFound.{bytes-so, spelt-so, tellable-so, there-so}
@@ -61,21 +61,13 @@ parted false false value alone fits extent one placed reaches begins leaves =
     (ap (λ b. b || (begins && ((value && alone) && (not ((value && alone) && fits) && (leaves && placed)))))
     (turned extent one alone placed reaches)
     ∙ ap (λ b. (((extent && (one && alone)) && reaches) && placed) || b)
-    (moved begins (value && alone) (not ((value && alone) && fits)) leaves placed)
+    (begins-moved begins (value && alone) (not ((value && alone) && fits)) leaves placed)
     ∙ either-placed ((extent && (one && alone)) && reaches) (begins && ((value && alone) && (not ((value && alone) && fits) && leaves))) placed)
   where
-    moved : (begins value other leaves placed : Bool)
+    begins-moved : (begins value other leaves placed : Bool)
         → (begins && (value && (other && (leaves && placed)))) ≡ ((begins && (value && (other && leaves))) && placed)
-    moved false value other leaves placed = refl
-    moved true false other leaves placed = refl
-    moved true true false leaves placed = refl
-    moved true true true leaves placed = refl
-
-    either-placed : (lies moves placed : Bool) → ((lies && placed) || (moves && placed)) ≡ ((lies || moves) && placed)
-    either-placed true moves true = refl
-    either-placed true true false = refl
-    either-placed true false false = refl
-    either-placed false moves placed = refl
+    begins-moved false value other leaves placed = refl
+    begins-moved true value other leaves placed = moved value other leaves placed
 
 pub record-so : (cannot over value alone fits : Bool) → (not cannot && over) ≡ false → (((not cannot && value) && alone) && fits) ≡ true
     → (not over && ((value && alone) && fits)) ≡ true

@@ -209,6 +209,7 @@ most_of_value = 8
 
 abbrev pub most_for : StreamEdit → ℕ
 most_for (s.Write from bytes) = 12 + length bytes.now / 512
+most_for (s.Resize size) = 11
 most_for other = most_of_value
 
 abbrev pub StagesSo : {D : Type 0} (g : Ghosts D) → StreamEdit → ℕ → Mft D g → Mft D g → Type 0

@@ -4,7 +4,7 @@ use Rattle.volume_def.specs.Values.{first_part}
 use Rattle.volume_def.proofs.SoundLaws.{readable-sound}
 use Rattle.mft_table.specs.declared.mounted.Mounted.{Mounted}
 use Rattle.mft_table.specs.Mft.{mounted_of, view}
-use Rattle.record_bits.proofs.RowsFound.{rows-file, rows-inside, rows-there, written-found}
+use Rattle.record_bits.proofs.RowsFound.{rows-clause, rows-file, rows-inside, rows-there, written-found}
 use Rattle.record_bits.proofs.RowsStream.{rows-held}
 use Rattle.record_bits.proofs.record_bit.can_store_record_bit.Goals as goal
 
@@ -34,4 +34,4 @@ returns-clause-can g c told =
     let sound = (c.requires.volume told).sound in
     let given = c.in_ok-file.ensures in
     let are = given.parts told (readable-sound volume sound) (rows-file volume sound) in
-    absurd (rows-there volume sound (sym (ap first_part (rows-held volume c.in_ok-file.file are given.number)) ∙ c.in-None.ensures))
+    absurd (rows-there volume (rows-clause volume sound) (sym (ap first_part (rows-held volume c.in_ok-file.file are given.number)) ∙ c.in-None.ensures))

@@ -6,9 +6,9 @@ use Rattle.stored_bits.proofs.DeviceKept.{device-disk, device-same}
 use Rattle.tree_edit.specs.Below.{parts_in}
 use Rattle.tree_edit.specs.Staged.{TellsStored}
 use Rattle.stream_changes.specs.Staged.{StagesGiving}
-use Rattle.stream_changes.proofs.GivingLaws.{gives-value}
-use Rattle.stream_changes.proofs.WaysDone.{get-extent-ends, get-extent-can, get-extent-long, get-extent-puts, get-extent-short, get-longer-puts, get-value-can, get-value-puts, get-value-room}
-use Rattle.stream_changes.proofs.WaysDone.{gets-not_moved, gets-not_over}
+use Rattle.stream_changes.proofs.GivingLaws.{gives-more, gives-value}
+use Rattle.stream_changes.proofs.WaysDone.{get-extent-ends, get-extent-can, get-extent-long, get-extent-puts, get-extent-short, get-longer-puts, get-moving-can, get-moving-puts, get-value-can, get-value-puts, get-value-room}
+use Rattle.stream_changes.proofs.WaysDone.{gets-not_over}
 use Rattle.stream_changes.proofs.streams.resize_stream.Goals as goal
 
 -- no stream goes so
@@ -32,26 +32,6 @@ returns-in-InPlace-clause-tables g c = λ told.
 pub returns-in-InPlace-clause-device : goal.returns-in-InPlace-clause-device
 returns-in-InPlace-clause-device g c = device-same g.D.Disk c.args.mft.now
 
-pub returns-in-IntoClusters-clause-resized : goal.returns-in-IntoClusters-clause-resized
-returns-in-IntoClusters-clause-resized g c = λ told name can.
-    let v = view g.D.Disk c.args.mft.now in
-    absurd (gets-not_moved v v c.args.found.now c.number-number.result c.number-number.ensures c.args.size c.in-IntoClusters.is name can)
-
-pub returns-in-IntoClusters-clause-places : goal.returns-in-IntoClusters-clause-places
-returns-in-IntoClusters-clause-places g c = λ told.
-    let v = view g.D.Disk c.args.mft.now in
-    let w = c.requires.can told in
-    absurd (gets-not_moved v v c.args.found.now c.number-number.result c.number-number.ensures c.args.size c.in-IntoClusters.is w.0 w.1)
-
-pub returns-in-IntoClusters-clause-tables : goal.returns-in-IntoClusters-clause-tables
-returns-in-IntoClusters-clause-tables g c = λ told.
-    let v = view g.D.Disk c.args.mft.now in
-    let w = c.requires.can told in
-    absurd (gets-not_moved v v c.args.found.now c.number-number.result c.number-number.ensures c.args.size c.in-IntoClusters.is w.0 w.1)
-
-pub returns-in-IntoClusters-clause-device : goal.returns-in-IntoClusters-clause-device
-returns-in-IntoClusters-clause-device g c = device-same g.D.Disk c.args.mft.now
-
 -- a value
 pub resize_value-requires-clause-can : goal.resize_value-requires-clause-can
 resize_value-requires-clause-can g c = λ told.
@@ -71,13 +51,39 @@ returns-in-InRecord-clause-resized g c =
 pub returns-in-InRecord-clause-places : goal.returns-in-InRecord-clause-places
 returns-in-InRecord-clause-places g c =
     on_ok_weaker c.resize_value.result (λ any told.
-    subst (λ k. StagesGiving g.D.Disk 8 k (view g.D.Disk c.args.mft.now) c.args.mft.now c.resize_value.new.mft) c.number-number.ensures
-    (gives-value g.D.Disk 8 c.number-number.result c.args.mft.now c.resize_value.new.mft (omega arith)
+    subst (λ k. StagesGiving g.D.Disk 11 k (view g.D.Disk c.args.mft.now) c.args.mft.now c.resize_value.new.mft) c.number-number.ensures
+    (gives-value g.D.Disk 11 c.number-number.result c.args.mft.now c.resize_value.new.mft (omega arith)
     (c.resize_value.ensures.places told)))
     c.resize_value.ensures.tables
 
 pub returns-in-InRecord-clause-device : goal.returns-in-InRecord-clause-device
 returns-in-InRecord-clause-device g c = device-disk g.D.Disk c.args.mft.now c.resize_value.new.mft c.resize_value.ensures.disk
+
+-- a value that moves
+pub lengthen_moving-requires-clause-held : goal.lengthen_moving-requires-clause-held
+lengthen_moving-requires-clause-held g c = λ told.
+    subst (λ (k : ℕ). parts_in c.args.found.now.held ≡ parts (records_of (view g.D.Disk c.args.mft.now)) k) (sym c.number-number.ensures)
+    (c.requires.can told).1.held.parts.parts
+
+pub lengthen_moving-requires-clause-can : goal.lengthen_moving-requires-clause-can
+lengthen_moving-requires-clause-can g c = λ told.
+    let v = view g.D.Disk c.args.mft.now in
+    let w = c.requires.can told in
+    get-moving-can v v c.args.found.now c.number-number.result c.number-number.ensures c.args.size c.in-IntoClusters.is w.0 w.1
+
+pub returns-in-IntoClusters-clause-resized : goal.returns-in-IntoClusters-clause-resized
+returns-in-IntoClusters-clause-resized g c =
+    let v = view g.D.Disk c.args.mft.now in
+    let new = view g.D.Disk c.lengthen_moving.new.mft in
+    on_ok_weaker c.lengthen_moving.result (λ does told name can.
+    get-moving-puts v new c.args.found.now c.number-number.result c.number-number.ensures c.args.size c.args.times.now c.in-IntoClusters.is
+    name can (does told)) c.lengthen_moving.ensures.resized
+
+pub returns-in-IntoClusters-clause-places : goal.returns-in-IntoClusters-clause-places
+returns-in-IntoClusters-clause-places g c =
+    on_ok_weaker c.lengthen_moving.result (λ stages told.
+    subst (λ k. StagesGiving g.D.Disk 11 k (view g.D.Disk c.args.mft.now) c.args.mft.now c.lengthen_moving.new.mft) c.number-number.ensures
+    (stages told)) c.lengthen_moving.ensures.places
 
 -- clusters, of a stream that gets longer
 pub lengthen_extent-requires-clause-held : goal.lengthen_extent-requires-clause-held
@@ -105,9 +111,10 @@ returns-in-InClusters-clause-places g c =
     let v = view g.D.Disk c.args.mft.now in
     on_ok_weaker c.lengthen_extent.result (λ stages told.
     let w = c.requires.can told in
-    subst (λ k. StagesGiving g.D.Disk 8 k v c.args.mft.now c.lengthen_extent.new.mft) c.number-number.ensures
+    subst (λ k. StagesGiving g.D.Disk 11 k v c.args.mft.now c.lengthen_extent.new.mft) c.number-number.ensures
+    (gives-more g.D.Disk 8 11 c.number-number.result v c.args.mft.now c.lengthen_extent.new.mft (omega arith)
     (get-extent-long v v c.args.found.now c.number-number.result c.number-number.ensures c.args.size c.in-InClusters.is w.0 w.1
-    c.if-size-stream.true (stages told)))
+    c.if-size-stream.true (stages told))))
     c.lengthen_extent.ensures.places
 
 pub returns-in-InClusters-clause-tables : goal.returns-in-InClusters-clause-tables
@@ -146,9 +153,10 @@ returns-in-InClusters-2-clause-places g c =
     let v = view g.D.Disk c.args.mft.now in
     on_ok_weaker c.shorten_extent.result (λ stages told.
     let w = c.requires.can told in
-    subst (λ k. StagesGiving g.D.Disk 8 k v c.args.mft.now c.shorten_extent.new.mft) c.number-number.ensures
+    subst (λ k. StagesGiving g.D.Disk 11 k v c.args.mft.now c.shorten_extent.new.mft) c.number-number.ensures
+    (gives-more g.D.Disk 8 11 c.number-number.result v c.args.mft.now c.shorten_extent.new.mft (omega arith)
     (get-extent-short v v c.args.found.now c.number-number.result c.number-number.ensures c.args.size c.in-InClusters-2.is w.0 w.1
-    c.if-size-stream.false (stages told)))
+    c.if-size-stream.false (stages told))))
     c.shorten_extent.ensures.places
 
 pub returns-in-InClusters-2-clause-tables : goal.returns-in-InClusters-2-clause-tables

@@ -1,0 +1,2 @@
+pub mod ShrunkRoot
+pub mod Exits
