@@ -29,10 +29,11 @@ ghost use Rattle.dir_index.specs.Standard.{IsInitialized, StagesNothing, StagesR
 use crate::fresh::fresh_entry;
 use crate::index::find_first as find_entry_first;
 use crate::replace::replace_in;
-use crate::search::{NAMES, share};
+use crate::search::share;
 use crate::sought::ExactName;
 use collation::FileNameOrder;
 use index_store::{FileNo, FileParts, Mft, find_first, find_index};
+use ntfs_def::index_root::DIRECTORY_INDEX;
 use ntfs_def::kinds::INDEX_ROOT;
 use std::alloc::Global;
 use upcase::UpCase;
@@ -69,7 +70,7 @@ fn find_exact<D: Disk>(
         (CountsNo (faults_of D.Disk mft.old) (faults_of D.Disk mft.new)) }
     ensures reads { (reads : ℕ) × MftReads D.Disk mft.old mft.new reads }
 {
-    let Some(index) = find_index(file, NAMES) else {
+    let Some(index) = find_index(file, DIRECTORY_INDEX) else {
         return Ok(None);
     };
     find_entry_first(alloc, mft, file, index, ExactName { upcase, name })
@@ -98,7 +99,7 @@ fn replace_entry<D: Disk>(
     ensures faults { MatchResult result (λ _. faults_of D.Disk mft.new ≡ faults_of D.Disk mft.old)
         (CountsNo (faults_of D.Disk mft.old) (faults_of D.Disk mft.new)) }
 {
-    let Some(index) = find_index(file, NAMES) else {
+    let Some(index) = find_index(file, DIRECTORY_INDEX) else {
         return Ok(None);
     };
     let mut root = Vec::from_slice(alloc, index.root)?;
@@ -147,7 +148,7 @@ fn write_root<D: Disk>(
     ensures faults { faults_of D.Disk mft.new ≡ faults_of D.Disk mft.old }
     ensures memory { IfErr result (λ no. no ≡ FileNo.Memory) }
 {
-    let Some(first) = find_first(file, INDEX_ROOT, NAMES) else {
+    let Some(first) = find_first(file, INDEX_ROOT, DIRECTORY_INDEX) else {
         return Ok(());
     };
     if !is_other(file, first.index, root) {

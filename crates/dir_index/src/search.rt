@@ -24,14 +24,12 @@ use crate::index::{find_first, walk_all};
 use crate::link::link_of_entry;
 use crate::sought::{ExactName, FoldedName};
 use index_store::{FileNo, FileParts, FoundIndex, Mft, find_index};
+use ntfs_def::index_root::DIRECTORY_INDEX;
 use std::alloc::Global;
 use tree_model::Link;
 use upcase::UpCase;
 use vol_bytes::{Name, Octets};
 use vol_disk::Disk;
-
-/// The name of a directory's index, `$I30`.
-pub(crate) const NAMES: &[u8] = b"$\0I\03\00\0";
 
 /// A table of case, once more.
 pub(crate) fn share(upcase: &UpCase) -> Result<UpCase, FileNo>
@@ -103,7 +101,7 @@ fn find_link<D: Disk>(
     ensures fetched { IsTrue (view D.Disk mft.old).told → (index : IsDirectoryIndex (view D.Disk mft.old) (file_number file.now))
         → MftReads D.Disk mft.old mft.new (16 * index.index.walks.depth) }
 {
-    let Some(index) = find_index(file, NAMES) else {
+    let Some(index) = find_index(file, DIRECTORY_INDEX) else {
         return Ok(None);
     };
     let entry = find_entry(alloc, mft, file, index, upcase, name)?;
@@ -209,7 +207,7 @@ fn list_links<D: Disk>(
         (CountsNo (faults_of D.Disk mft.old) (faults_of D.Disk mft.new)) }
     ensures reads { (reads : ℕ) × MftReads D.Disk mft.old mft.new reads }
 {
-    let Some(index) = find_index(file, NAMES) else {
+    let Some(index) = find_index(file, DIRECTORY_INDEX) else {
         return Ok(Vec::new(alloc));
     };
     let entries = walk_all(alloc, mft, file, index, upcase)?;

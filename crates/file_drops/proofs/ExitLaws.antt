@@ -17,8 +17,8 @@ use Rattle.file_record.specs.Held.{file_number}
 use Rattle.tree_model.specs.RootRoom.{has_list, is_root_leaf}
 use Rattle.edit_def.specs.Marks.{Marks}
 use Rattle.record_calls.specs.Calls.{IsInOneRecord}
-use Rattle.index_takes.specs.LeafEntry.{has_leaf_entry}
-use Rattle.index_takes.specs.RootEntry.{has_root_entry, is_in_root}
+use Rattle.tree_model.specs.LeafEntry.{has_leaf_entry}
+use Rattle.tree_model.specs.RootEntry.{has_root_entry, is_in_root}
 use Rattle.root_puts.specs.CanPut.{CanPutInRoot}
 use Rattle.made_edits.proofs.ReadyLaws.{owners-of}
 use Rattle.file_makes.specs.Enters.{IsReadyFor}

@@ -14,12 +14,13 @@ ghost use Rattle.tree_model.specs.IndexRoom.{directory_index, index_depth};
 ghost use Rattle.index_puts.specs.Held.{HoldsItems};
 ghost use Rattle.index_puts.specs.Depth.{HasLevels, HasTree, HasTreeUnder};
 
-use crate::room::{NAMES, file_no};
+use crate::room::file_no;
 use entry_edits::{FoundIndex, IndexBlocks, find_index};
 use file_record::{FileNo, FileParts};
 use index_node::{BlockNo, Blocks, NodeView};
 use mft_table::Mft;
 use ntfs_def::NodeForm;
+use ntfs_def::index_root::DIRECTORY_INDEX;
 use std::alloc::Global;
 use vol_disk::Disk;
 
@@ -137,7 +138,7 @@ pub fn index_depth<D: Disk>(
         (CountsNo (faults_of D.Disk mft.old) (faults_of D.Disk mft.new)) }
     ensures reads { (reads : ℕ) × MftReads D.Disk mft.old mft.new reads }
 {
-    let Some(index) = find_index(dir, NAMES) else {
+    let Some(index) = find_index(dir, DIRECTORY_INDEX) else {
         return Ok(0);
     };
     depth_found(alloc, mft, dir, index)

@@ -16,6 +16,6 @@ pub use grow::grow_root;
 pub use laws::{put_clauses, put_items, room_laws};
 pub use leaf::{Leaf, find_leaf};
 pub use put::put_item;
-pub use room::has_leaf_room;
+pub use room::{file_no, has_leaf_room};
 pub use root::has_root_room;
 pub use seek::{Spot, seek_block};

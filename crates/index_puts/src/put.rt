@@ -26,7 +26,7 @@ ghost use Rattle.tree_model.specs.LeafRoom.{has_leaf_room};
 ghost use Rattle.index_puts.specs.PutsItem.{PutsItem};
 
 use crate::leaf::find_leaf;
-use crate::room::{NAMES, file_no};
+use crate::room::file_no;
 use crate::seek::key_of;
 use collation::{Collation, FileNameOrder};
 use entry_edits::{FoundIndex, IndexBlocksMut, find_index};
@@ -34,6 +34,7 @@ use file_record::{FileNo, FileParts};
 use index_node::{BlockNo, WriteBlocks, insert_at, sealed_nodes};
 use mft_table::Mft;
 use ntfs_def::NodeForm;
+use ntfs_def::index_root::DIRECTORY_INDEX;
 use std::alloc::Global;
 use upcase::UpCase;
 use vol_disk::Disk;
@@ -153,7 +154,7 @@ pub fn put_item<D: Disk>(
     ensures faults { MatchResult result (λ _. faults_of D.Disk mft.new ≡ faults_of D.Disk mft.old)
         (CountsNo (faults_of D.Disk mft.old) (faults_of D.Disk mft.new)) }
 {
-    let Some(index) = find_index(dir, NAMES) else {
+    let Some(index) = find_index(dir, DIRECTORY_INDEX) else {
         return Ok(());
     };
     put_found(alloc, mft, dir, index, upcase, entry)

@@ -24,14 +24,12 @@ use entry_edits::{FoundIndex, IndexBlocks, find_index};
 use file_record::{FileNo, FileParts};
 use index_node::{BlockNo, Blocks};
 use mft_table::Mft;
+use ntfs_def::index_root::DIRECTORY_INDEX;
 use std::alloc::Global;
 use upcase::UpCase;
 use vol_disk::Disk;
 
-/// The name of a directory's index, `$I30`.
-pub const NAMES: &[u8] = b"$\0I\03\00\0";
-
-// Why a directory was not read, by why a record of its index was not.
+/// Why a directory was not read, by why a record of its index was not.
 pub fn file_no(no: BlockNo) -> FileNo
     ensures { result ≡ file_no_of no }
 {
@@ -135,7 +133,7 @@ pub fn has_leaf_room<D: Disk>(
         → (has : HasItems (view D.Disk mft.old) (file_number dir.now) items)
         → MftReads D.Disk mft.old mft.new (8 * has.index.walks.depth) }
 {
-    let Some(index) = find_index(dir, NAMES) else {
+    let Some(index) = find_index(dir, DIRECTORY_INDEX) else {
         return Ok(false);
     };
     room_found(alloc, mft, dir, index, upcase, key, len)

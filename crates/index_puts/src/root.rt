@@ -8,11 +8,11 @@ ghost use Rattle.edit_def.specs.Items.{HasItems};
 ghost use Rattle.index_puts.specs.RecordRoom.{TellsFree};
 ghost use Rattle.tree_model.specs.RootRoom.{has_root_room};
 
-use crate::room::NAMES;
 use entry_edits::{find_first, find_index, has_list};
 use file_record::FileParts;
 use index_node::NodeView;
 use ntfs_def::NodeForm;
+use ntfs_def::index_root::DIRECTORY_INDEX;
 use ntfs_def::kinds::INDEX_ROOT;
 
 // Whether the node that a root says leads to no record.
@@ -47,10 +47,10 @@ pub fn has_root_room(dir: &FileParts, len: usize) -> bool
     ensures { (view : VolumeView) (items : List Item) → IsHeldFile view dir.now → HasItems view (file_number dir.now) items
         → result ≡ has_root_room view (file_number dir.now) len }
 {
-    let Some(index) = find_index(dir, NAMES) else {
+    let Some(index) = find_index(dir, DIRECTORY_INDEX) else {
         return false;
     };
-    let Some(first) = find_first(dir, INDEX_ROOT, NAMES) else {
+    let Some(first) = find_first(dir, INDEX_ROOT, DIRECTORY_INDEX) else {
         return false;
     };
     let free = free_beside(dir, first.index);

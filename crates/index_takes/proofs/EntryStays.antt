@@ -19,8 +19,8 @@ use Rattle.volume_def.specs.Table.{cluster_bytes}
 use Rattle.volume_def.specs.Values.{first_part, value_on}
 use Rattle.volume_def.specs.View.{VolumeView}
 use Rattle.tree_model.specs.LeafRoom.{leaf_of, names_of_directory}
-use Rattle.index_takes.specs.LeafEntry.{has_entry_beside, has_leaf_entry, hits_on}
-use Rattle.index_takes.specs.RootEntry.{has_root_entry}
+use Rattle.tree_model.specs.LeafEntry.{has_entry_beside, has_leaf_entry, hits_on}
+use Rattle.tree_model.specs.RootEntry.{has_root_entry}
 
 -- the record at a number, from the value of all, and the root
 abbrev record-in : ℕ → List ℕ → ℕ → List ℕ

@@ -24,7 +24,7 @@ use Rattle.index_puts.specs.Held.{IsHeldWith}
 use Rattle.index_puts.proofs.HeldLaws.{bytes-there, record-is, same-index, same-leaf}
 use Rattle.index_puts.proofs.LeafLaws.{leaf_of-said}
 use Rattle.index_takes.specs.Leaf.{entry_under}
-use Rattle.index_takes.specs.LeafEntry.{has_entry_beside, has_leaf_entry}
+use Rattle.tree_model.specs.LeafEntry.{has_entry_beside, has_leaf_entry}
 
 module _ (view : VolumeView) (file : FileParts) (table : List ℕ) (items : List Item) (held : IsHeldWith view file table items)
     (some : 0 < cluster_bytes view.layout) (index : FoundIndex) (found : IsFound file index) (named : index.name.now ≡ wide (codes "$I30"))

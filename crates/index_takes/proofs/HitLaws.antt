@@ -4,7 +4,7 @@ use Rattle.std.proofs.lemmas.List.Edits.{length-remove}
 use Rattle.std.specs.declared.cmp.Ordering.{Ordering}
 use Rattle.ntfs_def.specs.Node.{Entry}
 use Rattle.index_node.specs.Seek.{IsPlace, StartsAt}
-use Rattle.index_takes.specs.LeafEntry.{hit_beside, hits_on}
+use Rattle.tree_model.specs.LeafEntry.{hit_beside, hits_on}
 
 pub hits-at : (side : List ℕ → Ordering) (entries : List Entry) (i : ℕ) (hit : Bool) → IsPlace side entries i hit → hits_on side entries ≡ hit
 hits-at side [] zero hit place = sym place.there

@@ -24,8 +24,8 @@ use Rattle.tree_model.specs.IndexRoom.{directory_index, root_of}
 use Rattle.tree_model.specs.RootRoom.{has_list, is_root_leaf}
 use Rattle.index_puts.specs.Held.{IsHeldWith}
 use Rattle.index_puts.proofs.HeldLaws.{each-of, one-root, root-value, same-parts}
-use Rattle.index_takes.specs.LeafEntry.{hits_on}
-use Rattle.index_takes.specs.RootEntry.{has_root_entry, is_in_root}
+use Rattle.tree_model.specs.LeafEntry.{hits_on}
+use Rattle.tree_model.specs.RootEntry.{has_root_entry, is_in_root}
 
 module _ (view : VolumeView) (file : FileParts) (table : List ℕ) (items : List Item) (held : IsHeldWith view file table items) (key : List ℕ)
     (index : FoundIndex) (found : IsFound file index) (named : index.name.now ≡ wide (codes "$I30")) where

@@ -18,7 +18,7 @@ use Rattle.index_puts.proofs.LeafLaws.{leaf_of-said}
 use Rattle.index_puts.specs.declared.leaf.Leaf.{Leaf}
 use Rattle.index_puts.specs.Leaf.{EndsIn, ReadsLeaf}
 use Rattle.index_takes.specs.Leaf.{TakesUnder, entry_under}
-use Rattle.index_takes.specs.LeafEntry.{has_entry_beside, hits_on}
+use Rattle.tree_model.specs.LeafEntry.{has_entry_beside, hits_on}
 use Rattle.index_takes.proofs.HitLaws.{hits-at}
 use Rattle.index_takes.proofs.TakeLaws.{keyed, take_under}
 

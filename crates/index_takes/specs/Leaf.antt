@@ -11,7 +11,7 @@ use Rattle.index_tree.specs.Edit.{IsSortedIndex, KeepsKeyed, short_nodes}
 use Rattle.index_tree.specs.Remove.{CutsKey}
 use Rattle.entry_edits.specs.IndexRecords.{index_record_on}
 use Rattle.tree_model.specs.LeafRoom.{leaf_of}
-use Rattle.index_takes.specs.LeafEntry.{has_entry_beside}
+use Rattle.tree_model.specs.LeafEntry.{has_entry_beside}
 
 -- whether the leaf has an entry of the key beside another one
 abbrev pub entry_under : (List ℕ → Ordering) → (ℕ → Option (List ℕ)) → Option Node → Bool

@@ -14,33 +14,20 @@ ghost use Rattle.entry_edits.specs.Index.{IsFound};
 ghost use Rattle.entry_edits.specs.IndexBlocks.{records_found};
 ghost use Rattle.edit_def.specs.Items.{HasItems};
 ghost use Rattle.index_puts.specs.Held.{HoldsItems};
-ghost use Rattle.index_puts.specs.Leaf.{file_no_of};
 ghost use Rattle.index_takes.specs.Leaf.{entry_under};
-ghost use Rattle.index_takes.specs.LeafEntry.{has_leaf_entry};
+ghost use Rattle.tree_model.specs.LeafEntry.{has_leaf_entry};
 
 use collation::{Collation, FileNameOrder};
 use entry_edits::{FoundIndex, IndexBlocks, find_index};
 use file_record::{FileNo, FileParts};
 use index_node::{BlockNo, Blocks, NodeView};
-use index_puts::find_leaf;
+use index_puts::{file_no, find_leaf};
 use mft_table::Mft;
 use ntfs_def::NodeForm;
+use ntfs_def::index_root::DIRECTORY_INDEX;
 use std::alloc::Global;
 use upcase::UpCase;
 use vol_disk::Disk;
-
-/// The name of a directory's index, `$I30`.
-pub const NAMES: &[u8] = b"$\0I\03\00\0";
-
-// Why a directory was not read, by why a record of its index was not.
-pub fn file_no(no: BlockNo) -> FileNo
-    ensures { result ≡ file_no_of no }
-{
-    match no {
-        BlockNo::Device => FileNo::Device,
-        _ => FileNo::Memory,
-    }
-}
 
 // Whether the node of a record has two entries with a key, or more.
 fn has_two(block: &[u8; 4096]) -> bool
@@ -146,7 +133,7 @@ pub fn has_leaf_entry<D: Disk>(
         → (has : HasItems (view D.Disk mft.old) (file_number dir.now) items)
         → MftReads D.Disk mft.old mft.new (8 * has.index.walks.depth) }
 {
-    let Some(index) = find_index(dir, NAMES) else {
+    let Some(index) = find_index(dir, DIRECTORY_INDEX) else {
         return Ok(false);
     };
     entry_found(alloc, mft, dir, index, upcase, key)

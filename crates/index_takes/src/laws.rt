@@ -19,8 +19,8 @@ ghost use Rattle.edit_def.specs.Items.{ChangesItems, HasItems, IsCurrent, KeepsI
 ghost use Rattle.edit_def.specs.Kept.{KeepsBut};
 ghost use Rattle.entry_edits.specs.Refreshable.{is_part_key};
 ghost use Rattle.index_puts.specs.Held.{CanPut};
-ghost use Rattle.index_takes.specs.LeafEntry.{has_leaf_entry};
-ghost use Rattle.index_takes.specs.RootEntry.{has_root_entry};
+ghost use Rattle.tree_model.specs.LeafEntry.{has_leaf_entry};
+ghost use Rattle.tree_model.specs.RootEntry.{has_root_entry};
 ghost use Rattle.index_takes.specs.TakesItem.{TakesItem};
 
 /// The directory had an item of the key (`there`), and has all others (`items`), and every other directory has the items that it had

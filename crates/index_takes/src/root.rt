@@ -7,16 +7,16 @@ ghost use Rattle.ntfs_def.specs.declared.index.NodeForm.TheVariants.{Names};
 ghost use Rattle.volume_def.specs.View.{VolumeView};
 ghost use Rattle.file_record.specs.Held.{file_number};
 ghost use Rattle.index_puts.specs.Held.{IsHeldWith};
-ghost use Rattle.index_takes.specs.LeafEntry.{hits_on};
-ghost use Rattle.index_takes.specs.RootEntry.{has_root_entry};
+ghost use Rattle.tree_model.specs.LeafEntry.{hits_on};
+ghost use Rattle.tree_model.specs.RootEntry.{has_root_entry};
 
-use crate::entry::NAMES;
 use collation::{Collation, FileNameOrder};
 use entry_edits::{find_index, has_list};
 use file_record::FileParts;
 use index_node::NodeView;
 use index_puts::seek_block;
 use ntfs_def::NodeForm;
+use ntfs_def::index_root::DIRECTORY_INDEX;
 use upcase::UpCase;
 
 // Whether the node that a root says leads to no record.
@@ -57,7 +57,7 @@ pub fn has_root_entry(dir: &FileParts, upcase: UpCase, key: &[u8]) -> bool
     ensures { (view : VolumeView) (items : List Item) → IsHeldWith view dir.now upcase items
         → result ≡ has_root_entry view (file_number dir.now) (key_units key.now) }
 {
-    let Some(index) = find_index(dir, NAMES) else {
+    let Some(index) = find_index(dir, DIRECTORY_INDEX) else {
         return false;
     };
     let leaf = is_leaf(index.root);

@@ -20,17 +20,17 @@ ghost use Rattle.entry_edits.specs.IndexBlocks.{records_found};
 ghost use Rattle.entry_edits.specs.Replaced.{StagesRecords};
 ghost use Rattle.index_puts.specs.Held.{HoldsItems};
 ghost use Rattle.index_takes.specs.Leaf.{TakesFrom, TakesUnder, entry_under};
-ghost use Rattle.index_takes.specs.LeafEntry.{has_leaf_entry};
+ghost use Rattle.tree_model.specs.LeafEntry.{has_leaf_entry};
 ghost use Rattle.index_takes.specs.TakesItem.{TakesItem};
 
-use crate::entry::{NAMES, file_no};
 use collation::{Collation, FileNameOrder};
 use entry_edits::{FoundIndex, IndexBlocksMut, find_index};
 use file_record::{FileNo, FileParts};
 use index_node::{BlockNo, WriteBlocks, remove_at, sealed_nodes};
-use index_puts::find_leaf;
+use index_puts::{file_no, find_leaf};
 use mft_table::Mft;
 use ntfs_def::NodeForm;
+use ntfs_def::index_root::DIRECTORY_INDEX;
 use std::alloc::Global;
 use upcase::UpCase;
 use vol_disk::Disk;
@@ -148,7 +148,7 @@ pub fn take_item<D: Disk>(
     ensures faults { MatchResult result (λ _. faults_of D.Disk mft.new ≡ faults_of D.Disk mft.old)
         (CountsNo (faults_of D.Disk mft.old) (faults_of D.Disk mft.new)) }
 {
-    let Some(index) = find_index(dir, NAMES) else {
+    let Some(index) = find_index(dir, DIRECTORY_INDEX) else {
         return Ok(());
     };
     take_found(alloc, mft, dir, index, upcase, key)

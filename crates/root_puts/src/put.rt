@@ -21,13 +21,11 @@ use crate::value::grown_at;
 use dir_index::find_first;
 use file_record::{FileNo, FileParts};
 use mft_table::Mft;
+use ntfs_def::index_root::DIRECTORY_INDEX;
 use ntfs_def::kinds::INDEX_ROOT;
 use std::alloc::Global;
 use upcase::UpCase;
 use vol_disk::Disk;
-
-// The name of a directory's index, `$I30`.
-const NAMES: &[u8] = b"$\0I\03\00\0";
 
 /// Puts an entry, without a child's number, into the root of the index of a directory that is held, which has no records. The record that
 /// holds the root is staged, with its copy where the mirror has one; nothing else of the volume changes. Nothing is said where an entry
@@ -65,7 +63,7 @@ pub fn put_in_root<D: Disk>(
     ensures faults { MatchResult result (λ _. faults_of D.Disk mft.new ≡ faults_of D.Disk mft.old)
         (CountsNo (faults_of D.Disk mft.old) (faults_of D.Disk mft.new)) }
 {
-    let Some(first) = find_first(dir, INDEX_ROOT, NAMES) else {
+    let Some(first) = find_first(dir, INDEX_ROOT, DIRECTORY_INDEX) else {
         return Ok(());
     };
     let place = dir.place_of(first.index);

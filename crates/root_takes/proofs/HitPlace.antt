@@ -12,7 +12,7 @@ use Rattle.index_node.proofs.LenLaws.{node_enough}
 use Rattle.index_tree.specs.Edit.{SeeksNode}
 use Rattle.index_tree.proofs.EditMemory.{short_in}
 use Rattle.index_tree.proofs.RemoveSteps.{hit_within}
-use Rattle.index_takes.specs.LeafEntry.{hits_on}
+use Rattle.tree_model.specs.LeafEntry.{hits_on}
 use Rattle.index_takes.specs.ShrinksRoot.{ShrinksRoot}
 use Rattle.index_takes.proofs.HitLaws.{hits-at}
 use Rattle.index_takes.proofs.TakeLaws.{nothing}

@@ -39,8 +39,8 @@ use Rattle.record_calls.proofs.Values.{body-value}
 use Rattle.index_puts.specs.Held.{HoldsItems}
 use Rattle.index_puts.specs.PutsRoot.{IsRootAt}
 use Rattle.index_puts.proofs.HeldLaws.{root-value}
-use Rattle.index_takes.specs.LeafEntry.{hits_on}
-use Rattle.index_takes.specs.RootEntry.{has_root_entry, is_in_root}
+use Rattle.tree_model.specs.LeafEntry.{hits_on}
+use Rattle.tree_model.specs.RootEntry.{has_root_entry, is_in_root}
 use Rattle.root_puts.specs.CanPut.{CanPutInRoot}
 use Rattle.root_puts.proofs.HeldRoot as record_
 use Rattle.root_puts.proofs.RootCall.{holder-is, names}

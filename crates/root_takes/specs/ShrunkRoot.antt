@@ -8,7 +8,7 @@ use Rattle.attr_view.specs.Values.{attribute_in}
 use Rattle.index_node.specs.Edit.{HasEntry}
 use Rattle.index_node.specs.Seek.{IsPlace}
 use Rattle.file_record.specs.declared.held.Held.{Held}
-use Rattle.index_takes.specs.LeafEntry.{hits_on}
+use Rattle.tree_model.specs.LeafEntry.{hits_on}
 use Rattle.index_takes.specs.ShrinksRoot.{ShrinksRoot}
 use Rattle.root_puts.specs.GrownRoot.{IsLeafRoot}
 

@@ -10,7 +10,7 @@ ghost use Rattle.record_edits.specs.Between.{IsReady};
 ghost use Rattle.record_calls.specs.Marks.{marks_of};
 ghost use Rattle.dir_index.specs.Standard.{StagesRecordOf};
 ghost use Rattle.index_puts.specs.Held.{HoldsItems};
-ghost use Rattle.index_takes.specs.RootEntry.{has_root_entry};
+ghost use Rattle.tree_model.specs.RootEntry.{has_root_entry};
 ghost use Rattle.root_puts.specs.CanPut.{CanPutInRoot};
 ghost use Rattle.root_takes.specs.Exits.{ExitsRoot};
 
@@ -19,13 +19,11 @@ use crate::value::shrunk_at;
 use dir_index::find_first;
 use file_record::{FileNo, FileParts};
 use mft_table::Mft;
+use ntfs_def::index_root::DIRECTORY_INDEX;
 use ntfs_def::kinds::INDEX_ROOT;
 use std::alloc::Global;
 use upcase::UpCase;
 use vol_disk::Disk;
-
-// The name of a directory's index, `$I30`.
-const NAMES: &[u8] = b"$\0I\03\00\0";
 
 /// Takes the entry of a key out of the root of the index of a directory that is held, which has no records. The record that holds the root
 /// is staged, with its copy where the mirror has one; nothing else of the volume changes. By condition, where the contents are told: the
@@ -61,7 +59,7 @@ pub fn take_in_root<D: Disk>(
     ensures faults { MatchResult result (λ _. faults_of D.Disk mft.new ≡ faults_of D.Disk mft.old)
         (CountsNo (faults_of D.Disk mft.old) (faults_of D.Disk mft.new)) }
 {
-    let Some(first) = find_first(dir, INDEX_ROOT, NAMES) else {
+    let Some(first) = find_first(dir, INDEX_ROOT, DIRECTORY_INDEX) else {
         return Ok(());
     };
     let place = dir.place_of(first.index);

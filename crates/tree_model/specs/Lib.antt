@@ -8,10 +8,13 @@ pub mod Need
 pub mod IndexRoom
 pub mod LeafRoom
 pub mod RootRoom
+pub mod LeafEntry
+pub mod RootEntry
 pub mod StreamRoom
 pub mod Bill
 pub mod NoRoom
 pub mod Ways
+pub mod Leaving
 pub mod Staging
 pub mod Refusals
 pub mod Answers

@@ -8,7 +8,7 @@ use Rattle.volume_def.specs.View.{VolumeView}
 use Rattle.tree_model.specs.IndexRoom.{directory_index, root_of}
 use Rattle.tree_model.specs.LeafRoom.{name_side}
 use Rattle.tree_model.specs.RootRoom.{has_list, is_root_leaf}
-use Rattle.index_takes.specs.LeafEntry.{hits_on}
+use Rattle.tree_model.specs.LeafEntry.{hits_on}
 
 -- the root has an entry of the name
 abbrev pub is_in_root : VolumeView → ℕ → List ℕ → Bool
