@@ -23,7 +23,7 @@ use Rattle.root_puts.specs.CanPut.{CanPutInRoot}
 use Rattle.made_edits.proofs.ReadyLaws.{owners-of}
 use Rattle.file_makes.specs.Enters.{IsReadyFor}
 use Rattle.root_takes.specs.Exits as low
-use Rattle.gone_edits.specs.Exits.{ExitsRoot}
+use Rattle.root_takes.specs.Exits.{ExitsRoot}
 use Rattle.file_drops.specs.Exits.{CanExit}
 
 middle-of-three : (a b c : Bool) → (a && b && c) ≡ true → b ≡ true

@@ -47,8 +47,9 @@ use Rattle.made_edits.proofs.Entered.{Entered}
 use Rattle.made_edits.proofs.IndexPut.{entered-record, one-items}
 use Rattle.made_edits.proofs.KeyLaws.{entry-index, entry-room, entry_key}
 use Rattle.made_edits.proofs.OwnIndex.{no-cluster}
-use Rattle.gone_edits.specs.Exits.{ExitsIndex, ExitsRoot, TakesRootItem}
-use Rattle.gone_edits.proofs.RootCut as cut
+use Rattle.root_takes.specs.Exits.{ExitsRoot, TakesRootItem}
+use Rattle.gone_edits.specs.Exits.{ExitsIndex}
+use Rattle.root_takes.proofs.RootCut as cut
 
 -- an item of this key
 abbrev pub like : List ℕ → Item

@@ -48,7 +48,7 @@ use Rattle.command_edits.specs.Keys.{is_key_of}
 use Rattle.command_edits.proofs.CallKeys.{within-nothing}
 use Rattle.command_edits.proofs.CallsMade.{Edited-more, within-same}
 use Rattle.made_edits.proofs.AloneLaws.{StandsAlone}
-use Rattle.gone_edits.specs.ClearedBit.{ClearsRecordBit}
+use Rattle.record_bits.specs.StoredRecordBit.{ClearsRecordBit}
 use Rattle.gone_edits.specs.Wants.{going_wants}
 use Rattle.gone_edits.proofs.RowCleared as row
 

@@ -20,7 +20,7 @@ use Rattle.record_edits.proofs.PlaceEdits.{same}
 use Rattle.made_edits.specs.Left.{Leaves, is_row_key}
 use Rattle.made_edits.proofs.LeftLaws.{Leaves-stream, value-kept}
 use Rattle.made_edits.proofs.ReadyLaws.{owners-of}
-use Rattle.gone_edits.specs.ClearedBit.{ClearsRecordBit}
+use Rattle.record_bits.specs.StoredRecordBit.{ClearsRecordBit}
 
 module _ (old new : VolumeView) (n : ℕ) (s : ClearsRecordBit old new n) where
   changes-row : ChangesStream old new (spot_at (record_bits old))

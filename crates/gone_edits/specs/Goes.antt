@@ -17,7 +17,7 @@ use Rattle.tree_model.specs.Reading.{node_at}
 use Rattle.tree_model.specs.declared.tree.Node.{Node}
 use Rattle.record_calls.specs.Calls.{IsInOneRecord}
 use Rattle.in_place.specs.Unnamed.{CanSet}
-use Rattle.gone_edits.specs.ClearedBit.{ClearsRecordBit}
+use Rattle.record_bits.specs.StoredRecordBit.{ClearsRecordBit}
 use Rattle.gone_edits.specs.Exits.{ExitsIndex}
 
 -- THE VOLUME BEFORE, and a file that may go: an ordinary one that is shown and no directory, in one record, whose attributes are values.

@@ -1,5 +1,4 @@
 pub mod Exits
-pub mod ClearedBit
 pub mod Goes
 pub mod Between
 pub mod Wants
