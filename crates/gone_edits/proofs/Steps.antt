@@ -79,6 +79,7 @@ module _ (old left : VolumeView) (was : Mounted) (n : ℕ) (node parent : Node) 
   pub has-exited : HasExited old left marks n dir
   has-exited = record {
     ready = gone.entered.ready;
+    layout = gone.entered.layout;
     apart = apart-ready left marks gone.entered.ready;
     other = other;
     block = block-left;
