@@ -42,8 +42,8 @@ pub record IsFreed (view : VolumeView) (marks : Marks) (n : ℕ) : Type 0 where
   pub apart : LiesApart view
   pub unused : record_on view n ≡ None
 
--- AND THE BITMAP OF RECORDS is found as it was: it lies where it lay behind the name, and before the entry. All other files have the parts that
--- they had behind the name, and clusters outside the table their bytes.
+-- AND THE BITMAP OF RECORDS is found as it was: it lies where it lay behind the name, and before the entry. All other files have the parts
+-- that they had behind the name, and clusters outside the table their bytes.
 pub record KeepsRows (old counted freed : VolumeView) (now : Mounted) (n : ℕ) : Type 0 where
   pub rows : HasRows freed now
   pub same : record_bits freed ≡ record_bits counted
