@@ -1,29 +1,10 @@
 //! Worked pairs of each order. The names stand as `ntfsls` lists them on a volume that `mkntfs` of ntfs-3g made.
 
+use crate::case_table::table;
 use collation::{Collation, FileNameOrder, FoldedOrder, HashOrder, IdOrder, WordsOrder};
 use std::alloc::Global;
 use std::cmp::Ordering;
 use std::test::Fail;
-use upcase::UpCase;
-
-// The table of case of `mkntfs` below 0x100; each other unit is compared as itself.
-fn folded(unit: u16) -> u16 {
-    match unit {
-        0x61..=0x7A | 0xE0..=0xF6 | 0xF8..=0xFE => unit - 0x20,
-        0xFF => 0x178,
-        _ => unit,
-    }
-}
-
-fn table(alloc: Global) -> Result<UpCase, Fail> {
-    let mut bytes = Vec::new(alloc);
-    for unit in 0..=u16::MAX {
-        for byte in folded(unit).to_le_bytes() {
-            bytes.push(byte)?;
-        }
-    }
-    Ok(UpCase::load(alloc, &bytes)?)
-}
 
 // The value of a `$FILE_NAME` with these units.
 fn key(alloc: Global, units: &[u16]) -> Result<Vec<u8>, Fail> {

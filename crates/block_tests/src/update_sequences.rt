@@ -91,25 +91,6 @@ fn passes_over_two_numbers(rt: HostRuntime) -> Result<(), FixFault> {
 }
 
 #[test]
-fn names_the_fault(rt: HostRuntime) {
-    let torn = Err(FixFault::Torn { stride: 1 });
-    for (at, value, answer) in [
-        (0x04, 7, Err(FixFault::Array)),
-        (0x04, 505, Err(FixFault::Array)),
-        (0x06, 2, Err(FixFault::Array)),
-        (510, 3, Err(FixFault::Torn { stride: 0 })),
-        (1022, 3, torn),
-        (1020, 3, Ok(())),
-    ] {
-        let mut block = digits_record();
-        put_u16(&mut block, at, value);
-        assert_eq!(rt; unseal(&mut block), answer, "{value} at {at}");
-    }
-    assert_eq!(rt; unseal(&mut []), Err(FixFault::Array));
-    assert_eq!(rt; unseal(&mut [0; 100]), Err(FixFault::Array));
-}
-
-#[test]
 fn fault_texts(rt: HostRuntime) -> Result<(), Fail> {
     for (fault, text) in [
         (

@@ -21,7 +21,6 @@ fn the_first_part_tells(rt: HostRuntime) -> Result<(), Fail> {
     }
     streams.note(rt.alloc(), 7, &RecordView::new(&record(&MORE_TEXT))?)?;
     let rows = [
-        (0, Spot::At(100)),
         (9_999, Spot::At(10_099)),
         (10_000, Spot::At(10_050)),
         (16_383, Spot::At(16_433)),
