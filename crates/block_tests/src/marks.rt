@@ -76,9 +76,11 @@ fn an_edit_is_written_in_order(rt: HostRuntime) -> Result<(), test::Fail> {
         (5, 0),
         (3, 0),
     ];
-    assert_eq!(rt; (disk.writes().len(), disk.settles().len()), (9, 1));
     for (write, wanted) in disk.writes().iter().zip(wanted) {
-        assert_eq!(rt; (write.sector, write.bytes[10]), wanted);
+        if (write.sector, write.bytes[10]) != wanted {
+            return Err(wanted)?;
+        }
     }
+    assert!(rt; disk.writes().len() == 9 && disk.settles().len() == 1);
     Ok(())
 }

@@ -99,31 +99,34 @@ const TOLD: [(u32, u16, usize, usize); 6] = [
     (0x80, 3, 472, 0),
 ];
 
-// The place and the length of a value; none where there are runs, sizes or a name.
-fn plain_value(attribute: &AttrView<'_>) -> Option<(usize, usize)> {
+// Whether an attribute without runs, sizes or a name has this type, this id, and so long a value at this place.
+fn is_plain(attribute: &AttrView<'_>, kind: u32, id: u16, place: usize, len: usize) -> bool {
     if attribute.flags() != 0 || !attribute.name().is_empty() {
-        return None;
+        return false;
     }
     if attribute.runs().is_some() || attribute.sizes().is_some() {
-        return None;
+        return false;
     }
-    match (attribute.value_place(), attribute.value()) {
-        (Some(place), Some(value)) => Some((place, value.len())),
-        _ => None,
-    }
+    let Some(value) = attribute.value() else {
+        return false;
+    };
+    attribute.kind() == kind
+        && attribute.id() == id
+        && attribute.value_place() == Some(place)
+        && value.len() == len
 }
 
 #[test]
 fn resident_attributes(rt: HostRuntime) -> Result<(), Fail> {
     let block = volume();
     let view = RecordView::new(&block)?;
-    assert_eq!(rt; view.count(), 6);
     for (attribute, (kind, id, place, len)) in view.attributes().zip(TOLD) {
-        let found = (attribute.kind(), attribute.id(), plain_value(&attribute));
-        assert_eq!(rt; found, (kind, id, Some((place, len))));
+        if !is_plain(&attribute, kind, id, place, len) {
+            return Err(kind)?;
+        }
     }
     let label = view.first_value(0x60).ok_or("no label")?;
-    assert_eq!(rt; label, b"B\0e\0r\0y\0l\0c\0h\0i\0n\0t\0z\0".as_slice());
+    assert!(rt; view.count() == 6 && label == b"B\0e\0r\0y\0l\0c\0h\0i\0n\0t\0z\0".as_slice());
     Ok(())
 }
 
@@ -155,24 +158,6 @@ fn extent(rt: HostRuntime) -> Result<(), Fail> {
     let view = RecordView::new(&block)?;
     assert_eq!(rt; view.count(), 4);
     assert!(rt; is_extent(&view.attr(3)));
-    Ok(())
-}
-
-#[test]
-fn refusal_text(rt: HostRuntime) -> Result<(), Fail> {
-    let full = ViewNo::Full {
-        need: 544,
-        free: 543,
-    };
-    for (no, text) in [
-        (
-            ViewNo::Shape { at: 0x14 },
-            "the record has a wrong shape at byte 20",
-        ),
-        (full, "the record has room for 543 bytes of 544"),
-    ] {
-        assert_eq!(rt; format!(in rt.alloc(); "{no}")?.as_str(), text);
-    }
     Ok(())
 }
 

@@ -1,10 +1,14 @@
 //! Files of a volume of 2 MiB that is laid here from the published layout: its clusters have one sector, and its table of
 //! 63 records lies in the clusters from 32 on. What is expected of a file is what was laid.
-ghost use Rattle.std.specs.Prelude.{◌≡◌, ◌<◌, ◌^◌, IfOk, length};
+ghost use Rattle.std.specs.Prelude.{◌≡◌, ◌<◌, ◌^◌, IfOk, IsTrue, length};
+ghost use Rattle.mft_table.specs.Mft.{mounted_of};
+ghost use Rattle.mft_table.specs.MirrorClusters.{IsMirrorInside};
+ghost use Rattle.file_record.specs.Held.{parts_held};
+ghost use Rattle.file_record.specs.Sizes.{IsExtent};
+ghost use Rattle.file_record.specs.Written.{PartHeld};
 
-mod edited;
-
-use crate::laid::{mount, put};
+use crate::laid::{has_mirror, mount, put};
+use attr_view::Sizes;
 use file_record::{BaseFile, FileParts, load_base};
 use mft_table::Mft;
 use std::alloc::{AllocError, Global};
@@ -115,47 +119,6 @@ fn volume(alloc: Global) -> Result<Vec<u8>, AllocError>
     Ok(image)
 }
 
-// Loads a file with the header of its base record, through tables that are found anew.
-fn load_with_header<D: Disk>(
-    alloc: Global,
-    disk: &mut D,
-    number: u64,
-) -> Result<Option<BaseFile>, test::Fail> {
-    let mut stage = Stage::over(alloc, disk);
-    match mount(alloc, &mut stage) {
-        Ok(mounted) => {
-            let mut mft = Mft::resume(stage, mounted);
-            let file = load_base(alloc, &mut mft, number);
-            let (stage, _) = mft.into_parts();
-            let _ = stage.finish();
-            Ok(file?)
-        }
-        Err(fail) => {
-            let _ = stage.finish();
-            Err(fail)
-        }
-    }
-}
-
-// The types and ids of a file's attributes, each as an attribute of its number and in a row.
-fn told(alloc: Global, file: &FileParts) -> Result<Vec<(u32, u16)>, test::Fail> {
-    let mut told = Vec::new(alloc);
-    for i in 0..file.count() {
-        let attribute = file.attr(i);
-        told.push((attribute.kind(), attribute.id()))?;
-    }
-    let mut places = told.iter();
-    for attribute in file.attributes() {
-        if places.next() != Some(&(attribute.kind(), attribute.id())) {
-            return Err("the iterator and attr differ")?;
-        }
-    }
-    if places.next().is_some() {
-        return Err("the iterator gives too few")?;
-    }
-    Ok(told)
-}
-
 // File 28 with 306 names in 34 records, and a list of 9,824 bytes in the clusters from 400 on.
 fn lay_many(alloc: Global, image: &mut [u8]) -> Result<(), AllocError>
     ensures { length image.new ≡ length image.old }
@@ -178,21 +141,82 @@ fn lay_many(alloc: Global, image: &mut [u8]) -> Result<(), AllocError>
     Ok(())
 }
 
+// Whether a part is an extent.
+fn is_extent(file: &FileParts, i: usize) -> bool
+    requires { i < length (parts_held file.now) }
+    ensures { IsTrue result → PartHeld file.now i IsExtent }
+{
+    file.attr(i).sizes().is_some()
+}
+
+// Counts 4,660 links of the file, and sets the sizes of its list, its second part: the last entry is none of it then.
+fn edit<D: Disk>(mft: &mut Mft<'_, D>, file: &mut FileParts) -> Result<(), test::Fail>
+    requires { IsMirrorInside (mounted_of D.Disk mft.old) }
+{
+    if mft.broken() {
+        return Err("the stage is broken")?;
+    }
+    file.set_links(mft, 0x1234)?;
+    if mft.broken() || file.count() < 2 || !is_extent(file, 1) {
+        return Err("the second part is no extent")?;
+    }
+    file.set_sizes(mft, 1, 9792, 9792)?;
+    Ok(())
+}
+
+// The file, read anew behind that.
+fn read_edited<D: Disk>(alloc: Global, mft: &mut Mft<'_, D>) -> Result<Option<BaseFile>, test::Fail>
+    requires { IsMirrorInside (mounted_of D.Disk mft.old) }
+{
+    if mft.mounted().records.count() <= 28 {
+        return Err("the file is past the table")?;
+    }
+    let mut file = FileParts::load(alloc, mft, 28)?;
+    edit(mft, &mut file)?;
+    Ok(load_base(alloc, mft, 28)?)
+}
+
+fn edit_and_read(alloc: Global) -> Result<Option<BaseFile>, test::Fail> {
+    let mut image = volume(alloc)?;
+    lay_many(alloc, &mut image)?;
+    let mut disk = MemDisk::new(alloc, image);
+    let mut stage = Stage::over(alloc, &mut disk);
+    match mount(alloc, &mut stage) {
+        Ok(mounted) => {
+            let has_mirror = has_mirror(&mounted);
+            let mut mft = Mft::resume(stage, mounted);
+            let found = if has_mirror {
+                read_edited(alloc, &mut mft)
+            } else {
+                Err("the volume has no mirror".into())
+            };
+            let (stage, _) = mft.into_parts();
+            let _ = stage.finish();
+            found
+        }
+        Err(fail) => {
+            let _ = stage.finish();
+            Err(fail)
+        }
+    }
+}
+
+// Each record of names is listed still, and each name in it is a part.
 #[test]
-fn a_list_in_clusters(rt: HostRuntime) -> Result<(), test::Fail> {
-    let mut image = volume(rt.alloc())?;
-    lay_many(rt.alloc(), &mut image)?;
-    let mut disk = MemDisk::new(rt.alloc(), image);
-    let Some(file) = load_with_header(rt.alloc(), &mut disk, 28)? else {
+fn a_file_of_many_records_is_edited(rt: HostRuntime) -> Result<(), test::Fail> {
+    let Some(file) = edit_and_read(rt.alloc())? else {
         return Err("no file")?;
     };
-    assert_eq!(rt; (file.header.sequence, file.parts.count()), (1, 308));
-    let parts = told(rt.alloc(), &file.parts)?;
-    assert!(rt; parts.starts_with(&[(0x10, 0), (0x20, 1)]));
-    // nine names in each record
-    for names in parts.get(2..).unwrap_or(&[]).chunks(9) {
-        let ids = [0, 1, 2, 3, 4, 5, 6, 7, 8].map(|id| (0x30, id));
-        assert_eq!(rt; names, ids.as_slice());
+    if file.parts.count() != 308 || file.header.links != 0x1234 {
+        return Err("another number of parts or of links")?;
     }
+    let sizes = Sizes {
+        allocated: 10_240,
+        real: 9792,
+        initialized: 9792,
+        first: 0,
+        last: 19,
+    };
+    assert_eq!(rt; file.parts.attr(1).sizes(), Some(sizes));
     Ok(())
 }
