@@ -9,7 +9,7 @@ ghost use Rattle.file_record.specs.Written.{PartHeld};
 
 use crate::laid::{has_mirror, mount, put};
 use attr_view::Sizes;
-use file_record::{BaseFile, FileParts, load_base};
+use file_record::{BaseFile, FileNo, FileParts, load_base};
 use mft_table::Mft;
 use std::alloc::{AllocError, Global};
 use std::test;
@@ -218,5 +218,86 @@ fn a_file_of_many_records_is_edited(rt: HostRuntime) -> Result<(), test::Fail> {
         last: 19,
     };
     assert_eq!(rt; file.parts.attr(1).sizes(), Some(sizes));
+    Ok(())
+}
+
+// Loads a file through tables that are found anew.
+fn load<D: Disk>(
+    alloc: Global,
+    disk: &mut D,
+    number: u64,
+) -> Result<Result<FileParts, FileNo>, test::Fail> {
+    let mut stage = Stage::over(alloc, disk);
+    match mount(alloc, &mut stage) {
+        Ok(mounted) => {
+            let mut mft = Mft::resume(stage, mounted);
+            let file = if number < mft.mounted().records.count() {
+                FileParts::load(alloc, &mut mft, number)
+            } else {
+                Err(FileNo::MftFull)
+            };
+            let (stage, _) = mft.into_parts();
+            let _ = stage.finish();
+            Ok(file)
+        }
+        Err(fail) => {
+            let _ = stage.finish();
+            Err(fail)
+        }
+    }
+}
+
+// The types and ids of a file's attributes.
+fn told(alloc: Global, file: &FileParts) -> Result<Vec<(u32, u16)>, test::Fail> {
+    let mut told = Vec::new(alloc);
+    for attribute in file.attributes() {
+        told.push((attribute.kind(), attribute.id()))?;
+    }
+    Ok(told)
+}
+
+// The types and ids of the parts of a file of an image.
+fn parts_of(alloc: Global, image: Vec<u8>, number: u64) -> Result<Vec<(u32, u16)>, test::Fail>
+    requires { length image.items ≡ 2097152 }
+{
+    let mut disk = MemDisk::new(alloc, image);
+    let file = load(alloc, &mut disk, number)??;
+    told(alloc, &file)
+}
+
+// File 30, whose list names a record past the table, one that does not open, one of another file, and one of its own.
+fn lay_passed(alloc: Global, image: &mut [u8]) -> Result<(), AllocError>
+    ensures { length image.new ≡ length image.old }
+{
+    let mut list = Vec::new(alloc);
+    entry(&mut list, 0x30, 63, 0)?;
+    entry(&mut list, 0x30, 40, 0)?;
+    entry(&mut list, 0x30, 36, 0)?;
+    entry(&mut list, 0x80, 35, 2)?;
+    let mut base = Vec::new(alloc);
+    resident(&mut base, 0x20, 4, &list)?;
+    lay(image, 30, 0, &base);
+    let mut data = Vec::new(alloc);
+    resident(&mut data, 0x80, 2, b"data")?;
+    lay(image, 35, reference(30), &data);
+    lay(image, 36, reference(31), &data);
+    lay(image, 40, reference(30), &data);
+    put(image, 512 * (33 + 2 * 40) + 510, &[9]);
+    Ok(())
+}
+
+// A file, and its parts: records that are none of it are passed over, and one that does not open, or is no base record, has none.
+const PASSED: [(u64, &[(u32, u16)]); 3] = [(30, &[(0x20, 4), (0x80, 2)]), (35, &[]), (40, &[])];
+
+#[test]
+fn other_records_are_passed_over(rt: HostRuntime) -> Result<(), test::Fail> {
+    for (number, wanted) in PASSED {
+        let mut image = volume(rt.alloc())?;
+        lay_passed(rt.alloc(), &mut image)?;
+        let parts = parts_of(rt.alloc(), image, number)?;
+        if parts.as_slice() != wanted {
+            return Err(number)?;
+        }
+    }
     Ok(())
 }
