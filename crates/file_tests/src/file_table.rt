@@ -3,8 +3,6 @@
 //! is moved apart in the middle of record 11.
 ghost use Rattle.std.specs.Prelude.{◌≡◌, ◌<◌, ◌^◌, IfOk, length};
 
-mod taken;
-
 use crate::laid::mount;
 use attr_view::RecordView;
 use mft_table::{Mft, MftNo};
