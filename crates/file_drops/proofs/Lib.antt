@@ -1,3 +1,0 @@
-pub mod NamedLaws
-pub mod ExitLaws
-pub mod MayLaws

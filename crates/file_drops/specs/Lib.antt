@@ -1,4 +1,0 @@
-pub mod Named
-pub mod Exits
-pub mod Freed
-pub mod Drops
