@@ -1,0 +1,4 @@
+pub mod Named
+pub mod Exits
+pub mod Freed
+pub mod Drops
