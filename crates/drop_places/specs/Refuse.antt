@@ -1,5 +1,5 @@
 -- A CHECK REFUSES what is refused, and want of memory may stand in its place.
-use Rattle.std.specs.Prelude.{◌≡◌, ◌⊎◌, ◌∷◌, [], ℕ, Bool, List, Option, Some, None, Result, Ok, Err, Unit, find, if◌then◌else◌}
+use Rattle.std.specs.Prelude.{◌≡◌, ◌⊎◌, ◌∷◌, [], ℕ, Bool, List, Option, Some, None, Result, Ok, Err, find, if◌then◌else◌}
 use Rattle.std.specs.Option.{option_map}
 use Rattle.tree_model.specs.Cases.{Asks, AsksAlone, AsksFor, conflicts}
 use Rattle.tree_model.specs.Opens.{all_access, to_delete}

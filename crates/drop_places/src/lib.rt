@@ -5,12 +5,10 @@ mod alone;
 mod exit;
 mod find;
 mod going;
-mod laws;
 mod name;
 mod refuse;
 
 pub use file_drops::drop_file;
 pub use find::find_to_remove;
-pub use laws::remove_laws;
 pub use make_places::{Standard, read_standard, set_attributes};
 pub use name::Named;

@@ -1,11 +1,11 @@
 //! The name at which a path ends, and the file that it names.
-ghost use Rattle.std.specs.Prelude.{IfOk, IfSome, IsTrue};
+ghost use Rattle.std.specs.Prelude.{◌≡◌, IfOk, IfSome, IsTrue};
 ghost use Rattle.mft_table.specs.InUse.{IsInUse};
 ghost use Rattle.mft_table.specs.Mft.{view};
 ghost use Rattle.tree_model.specs.Reading.{read};
 ghost use Rattle.tree_edit.specs.Answered.{Answered, with_ok};
 ghost use Rattle.tree_edit.specs.Standings.{IsStanding};
-ghost use Rattle.drop_places.specs.Named.{IsNamed, link_wanted};
+ghost use Rattle.drop_places.specs.Named.{IsNamed, link_wanted, named_by};
 
 use file_record::BaseFile;
 use mft_table::Mft;

@@ -1,0 +1,6 @@
+pub mod AnyLaws
+pub mod HeldLaws
+pub mod NameSteps
+pub mod NamedLaws
+pub mod RefusedLaws
+pub mod ExitLaws

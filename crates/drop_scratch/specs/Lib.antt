@@ -1,0 +1,4 @@
+pub mod Named
+pub mod Held
+pub mod Refuse
+pub mod Goes

@@ -1,0 +1,11 @@
+//! Which file can go, with the name at which a path ends.
+#![tactic(auto)]
+
+mod alone;
+mod exit;
+mod going;
+mod name;
+mod refuse;
+
+pub use make_places::{Standard, read_standard, set_attributes};
+pub use name::Named;
