@@ -4,3 +4,4 @@ pub mod NameSteps
 pub mod NamedLaws
 pub mod RefusedLaws
 pub mod ExitLaws
+pub mod GoingLaws

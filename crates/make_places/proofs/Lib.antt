@@ -1,10 +1,10 @@
-mod FoundBoth
-mod CopiedLaws
+pub mod FoundBoth
+pub mod CopiedLaws
 mod FreeRecords
 mod RecordBitsFile
-mod RoomLaws
-mod PlacedLaws
-mod InsideLaws
+pub mod RoomLaws
+pub mod PlacedLaws
+pub mod InsideLaws
 pub mod OutcomeLaws
 -- Laws of the crates below, passed on to those above.
 pub use Rattle.file_makes.proofs.MadeUnder
