@@ -1,3 +1,6 @@
 pub mod NamedLaws
 pub mod ExitLaws
 pub mod MayLaws
+pub mod FreeLaws
+pub mod PlacesLaws
+pub mod DropLaws

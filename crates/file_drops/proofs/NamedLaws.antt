@@ -1,8 +1,9 @@
 -- THE NAME OF A FILE in the record that is held first, and what goes with it.
-use Rattle.std.proofs.Common.{◌≡◌, ◌+◌, ◌*◌, ◌<◌, ◌≤◌, ◌==◌, ℕ, false, List, [], ◌∷◌, Option, Some, None, Ok, Err, eq-eqb, filter, length, map, refl, sym, ap, subst, ◌∙◌}
-use Rattle.std.proofs.Common.{inl, inr, arith}
+use Rattle.std.proofs.Common.{◌≡◌, ◌+◌, ◌*◌, ◌<◌, ◌≤◌, ◌==◌, ℕ, false, List, [], ◌∷◌, Option, Some, None, eq-eqb, filter, length}
+use Rattle.std.proofs.Common.{map, refl, sym, ap, subst, ◌∙◌, inl, inr}
 use Rattle.std.specs.Prelude.{Contains, IfSome, IsSomeAnd, IsTrue, OnErr, OnOk, Result, filter_map, option_map, slice_get}
 use Rattle.std.proofs.lemmas.List.Elements.{All-contains}
+use Rattle.std.proofs.lemmas.Result.{on_ok_weaker}
 use Rattle.list_laws.proofs.MemberLaws.{Contains-filter, Contains-filter_map, Contains-flat_map, Contains-map, Contains-only}
 use Rattle.ntfs_def.specs.Attribute.{Attribute, attributes, value_of}
 use Rattle.ntfs_def.specs.FileName.{FileName, key_units, name_in}
@@ -19,7 +20,7 @@ use Rattle.volume_def.specs.Table.{TableLayout}
 use Rattle.volume_def.specs.View.{VolumeView}
 use Rattle.volume_edits.specs.Rewritten.{CountsLinks}
 use Rattle.mft_table.specs.declared.mft.Mft.{Mft}
-use Rattle.mft_table.specs.Mft.{MftReads, MftReserves, MftStages, is_mft_broken, stage_of}
+use Rattle.mft_table.specs.Mft.{KeepsDisk, MftReads, MftReserves, MftStages, is_mft_broken, stage_of, view}
 use Rattle.mft_table.specs.Staging.{record_places}
 use Rattle.mft_table.proofs.DiskKept.{KeepsDisk-reads}
 use Rattle.file_record.specs.Attributes.{RemovesAttribute, opened_record}
@@ -29,11 +30,12 @@ use Rattle.file_record.specs.Held.{AreParts, RecordHeld, file_number, held_of, p
 use Rattle.file_record.specs.Links.{HoldsBase, HoldsSame}
 use Rattle.file_record.specs.Records.{IsRecordOf}
 use Rattle.file_record.specs.Written.{IsWholeFile}
+use Rattle.file_record.proofs.ReadLaws.{view-kept}
 use Rattle.dir_index.proofs.StandardLaws.{at-among}
 use Rattle.edit_def.specs.Marks.{Marks}
 use Rattle.record_calls.proofs.Values.{body-value}
-use Rattle.root_puts.proofs.HeldRoot.{held-shape}
-use Rattle.root_takes.proofs.SetLaws.{attribute-held, same-number}
+use Rattle.root_puts.proofs.HeldRoot.{held-shape, of-held}
+use Rattle.root_takes.proofs.SetLaws.{attribute-held, same-number, staged-held}
 use Rattle.gone_edits.specs.Goes.{QuitsName}
 use Rattle.file_drops.specs.Named.{HasOneName, HasValueAt, IsNameAt}
 
@@ -75,22 +77,23 @@ module _ (view : VolumeView) (file : FileParts) (n : ℕ) (are : AreParts view f
   unfolding names_of
   told =
       let k = said-first (slice_get (held_of file) 0) (HasValueAt value) h in
-      Contains-filter_map (λ (p : Part). option_map name_in (content_value p.content)) (filter is_file_name (parts (records_of view) n)) part
-      (name_in value)
+      Contains-filter_map (λ (p : Part). option_map name_in (content_value p.content))
+      (filter is_file_name (parts (records_of view) n)) part (name_in value)
       (Contains-filter is_file_name (parts (records_of view) n) part among (eq-eqb a.kind FILE_NAME k.2.name.kind))
       (ap (option_map name_in) (body-value a.body ∙ k.2.is))
 
   pub value-units : key_units value ≡ name.units
   unfolding name_in
   value-units =
-      let same : name ≡ name_in value = Contains-only name (name_in value) (subst (λ (xs : List FileName). Contains xs (name_in value)) only told) in
+      let same : name ≡ name_in value = Contains-only name (name_in value)
+      (subst (λ (xs : List FileName). Contains xs (name_in value)) only told) in
       ap (λ (f : FileName). f.units) (sym same)
 
 -- ITS ONE RECORD is that which is held
 module _ (view : VolumeView) (marks : Marks) (n : ℕ) (has : HasOneName view marks n) (file : FileParts) (number : file_number file ≡ n)
     (whole : IsWholeFile view file) (k : ℕ) (held : Held) (at : slice_get (held_of file) k ≡ Some held) where
-  own-number : (o : Option Record) → IsSomeAnd o (λ r. file_of held.number r ≡ n) → IfSome o (λ r. file_of held.number r ≡ n → held.number ≡ n)
-      → held.number ≡ n
+  own-number : (o : Option Record) → IsSomeAnd o (λ r. file_of held.number r ≡ n)
+      → IfSome o (λ r. file_of held.number r ≡ n → held.number ≡ n) → held.number ≡ n
   own-number None is only = absurd is
   own-number (Some r) is only = only is
 
@@ -122,15 +125,18 @@ module _ (old mid new : VolumeView) (marks : Marks) (n i : ℕ) (has : HasOneNam
 
   removes-held : RemovesAttribute old mid first.0.number i
   removes-held =
-      subst (λ o. IsSomeAnd o (λ (held : Held). 1024 * held.number + 1024 ≤ old.layout.initialized → RemovesAttribute old mid held.number i))
-      first.1 (removed told has.apart whole) low-first
+      subst (λ o. IsSomeAnd o (λ (held : Held). 1024 * held.number + 1024 ≤ old.layout.initialized
+      → RemovesAttribute old mid held.number i)) first.1 (removed told has.apart whole) low-first
 
   kind : removes-held.was.kind ≡ FILE_NAME
-  kind = ap (λ (a : Attribute). a.kind) (sym (attribute-held old was whole 0 first.0 first.1 i removes-held.was removes-held.there)) ∙ first.2.kind
+  kind =
+      ap (λ (a : Attribute). a.kind) (sym (attribute-held old was whole 0 first.0 first.1 i removes-held.was removes-held.there))
+      ∙ first.2.kind
 
   whole-then : IsWholeFile mid now
   whole-then = held_then told has.apart whole
-      (first-said (slice_get (held_of was) 0) first.0 (λ (held : Held). 1024 * held.number + 1024 ≤ old.layout.initialized) first.1 low-first)
+      (first-said (slice_get (held_of was) 0) first.0 (λ (held : Held). 1024 * held.number + 1024 ≤ old.layout.initialized) first.1
+      low-first)
 
   -- its base record is held
   base-then : HoldsBase now
@@ -158,22 +164,41 @@ module _ (old mid new : VolumeView) (marks : Marks) (n i : ℕ) (has : HasOneNam
       } in
       subst (QuitsName old new) number-first held
 
--- THE SECTORS of the record, of a call that succeeded or failed
-pub staged-by : {D T E : Type 0} (g : Ghosts D) (layout : TableLayout) (n m : ℕ) (a b : Mft D g) (result : Result T E) → m ≡ n
-    → OnOk result (MftStages g (record_places layout m) 4 a b) → OnErr result (MftReserves g a b)
-    → StagesOnly g (record_places layout n) (stage_of g a) (stage_of g b)
-staged-by g layout n m a b (Ok x) same stages kept =
-    subst (λ k. StagesOnly g (record_places layout k) (stage_of g a) (stage_of g b)) same stages.places
-staged-by g layout n m a b (Err e) same stages kept =
-    record { only = λ s there. inl (subst (λ (all : List ℕ). Contains all s) kept.places there) }
-
+-- THE SECTORS of the record, behind a call that only reads, and that nothing is written
 pub read-then : {D : Type 0} (g : Ghosts D) (layout : TableLayout) (n reads : ℕ) (a b c : Mft D g) → MftReads g a b reads
-    → StagesOnly g (record_places layout n) (stage_of g b) (stage_of g c) → StagesOnly g (record_places layout n) (stage_of g a) (stage_of g c)
+    → StagesOnly g (record_places layout n) (stage_of g b) (stage_of g c)
+    → StagesOnly g (record_places layout n) (stage_of g a) (stage_of g c)
 read-then g layout n reads a b c read stages = record {
   only = λ s there. elim (stages.only s there) [
     | inl was ↦ inl (subst (λ (xs : List ℕ). Contains xs s) read.stage.only_reads.places was)
     | inr new ↦ inr new
   ];
+}
+
+-- .. of a call that takes an attribute out of the record that is held first
+pub removed-places : {D T E : Type 0} (g : Ghosts D) (n reads : ℕ) (a b c : Mft D g) (file : FileParts) (one : Held) (result : Result T E)
+    → MftReads g a b reads → slice_get (held_of file) 0 ≡ Some one → one.number ≡ n
+    → OnOk result (RecordHeld file 0 (λ held. MftStages g (record_places (view g b).layout held.number) 4 b c))
+    → OnErr result (MftReserves g b c) → StagesOnly g (record_places (view g a).layout n) (stage_of g a) (stage_of g c)
+removed-places g n reads a b c file one result read at number stages kept =
+    let staged = staged-held g b c (view g b).layout one.number result
+    (on_ok_weaker result (of-held file 0 one at (λ held. MftStages g (record_places (view g b).layout held.number) 4 b c)) stages) kept in
+    read-then g (view g a).layout n reads a b c read
+    (subst (λ (v : VolumeView). StagesOnly g (record_places v.layout n) (stage_of g b) (stage_of g c)) (view-kept g a b reads read)
+    (subst (λ m. StagesOnly g (record_places (view g b).layout m) (stage_of g b) (stage_of g c)) number staged))
+
+-- .. and of one that failed
+pub disk-reserved : {D : Type 0} (g : Ghosts D) (a b : Mft D g) → MftReserves g a b → KeepsDisk g a b
+disk-reserved g a b kept = record {
+  goes_on = kept.goes_on;
+  now = ap g.now kept.disk;
+  settled = ap g.settled kept.disk;
+  fenced = ap g.fenced kept.disk;
+  written = ap g.written kept.disk;
+  late = ap g.late kept.disk;
+  broken = kept.broken;
+  mounted = kept.mounted;
+  committed = kept.committed;
 }
 
 -- the tables stay sound behind a call that only reads

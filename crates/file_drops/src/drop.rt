@@ -13,7 +13,6 @@ ghost use Rattle.file_drops.specs.Drops.{MayDrop};
 use crate::exit::take_entry;
 use crate::free::free_file;
 use crate::name::key_of;
-use crate::quit::quit_name;
 use file_record::FileNo;
 use mft_table::Mft;
 use std::alloc::Global;
@@ -52,6 +51,5 @@ pub fn drop_file<D: Disk>(
 {
     let key = key_of(alloc, mft, n)?;
     take_entry(alloc, mft, dir, key.as_slice())?;
-    quit_name(alloc, mft, n)?;
     free_file(alloc, mft, n)
 }

@@ -40,7 +40,7 @@ pub fn find_name(file: &FileParts) -> Option<usize>
 
 // The value of that attribute, where it is a whole name.
 fn name_value(file: &FileParts) -> Option<&[u8]>
-    ensures { IfSome result (λ value. IsTrue (is_name_key value.now)) }
+    ensures whole { IfSome result (λ value. IsTrue (is_name_key value.now)) }
     ensures held { IfSome result (λ value. RecordHeld file.now 0 (HasValueAt value.now)) }
 {
     let at = find_name(file)?;
@@ -52,8 +52,8 @@ fn name_value(file: &FileParts) -> Option<&[u8]>
     }
 }
 
-/// The value of the one name of a file, which is the key of its entry. Where there is no whole name, as never where there is one, `Memory` is
-/// answered.
+/// The value of the one name of a file, which is the key of its entry. Where there is no whole name, as never where there is one, `Memory`
+/// is answered.
 ///
 /// # Errors
 ///

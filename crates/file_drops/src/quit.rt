@@ -39,5 +39,6 @@ pub fn quit_name<D: Disk>(alloc: Global, mft: &mut Mft<'_, D>, n: u64) -> Result
         return Err(FileNo::Memory);
     };
     file.remove_attribute(mft, 0, at)?;
-    file.set_links(mft, 0)
+    file.set_links(mft, 0)?;
+    Ok(())
 }

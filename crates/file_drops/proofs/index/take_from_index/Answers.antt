@@ -8,7 +8,7 @@ use Rattle.file_record.specs.Held.{file_number}
 use Rattle.record_calls.specs.Marks.{marks_of}
 use Rattle.index_puts.specs.Held.{IsHeldWith}
 use Rattle.file_makes.proofs.EnterLaws.{staged-index, staged-own}
-use Rattle.file_drops.proofs.ExitLaws.{alone, can-take, exits-root-as, leaf-entry, owners}
+use Rattle.file_drops.proofs.ExitLaws.{alone, can-take, leaf-entry, owners}
 use Rattle.file_drops.proofs.index.take_from_index.Goals as goal
 
 -- the root has the entry, or not
@@ -17,7 +17,8 @@ take_in_root-requires-clause-entry g c told =
     let v = view g.D.Disk c.args.mft.now in
     let holds = (c.requires.can told).holds in
     sym (c.has_root_entry.ensures v holds.items
-    (subst (λ table. IsHeldWith v c.args.dir.now table holds.items) (sym c.in_ok-shared.ensures.same) holds.held)) ∙ c.if-has_root_entry.true
+    (subst (λ table. IsHeldWith v c.args.dir.now table holds.items) (sym c.in_ok-shared.ensures.same) holds.held))
+    ∙ c.if-has_root_entry.true
 
 pub take_in_root-requires-clause-can : goal.take_in_root-requires-clause-can
 take_in_root-requires-clause-can g c told =
@@ -44,9 +45,8 @@ take_item-requires-clause-entry g c told =
     ∙ c.if-has_root_entry.false)
 
 pub returns-then-has_root_entry-clause-exits : goal.returns-then-has_root_entry-clause-exits
-returns-then-has_root_entry-clause-exits g c = on_ok_weaker c.take_in_root.result (λ taken told.
-    inr (exits-root-as (view g.D.Disk c.args.mft.now) (view g.D.Disk c.take_in_root.new.mft) (file_number c.args.dir.now) c.args.key.now
-    (taken told))) c.take_in_root.ensures.taken
+returns-then-has_root_entry-clause-exits g c =
+    on_ok_weaker c.take_in_root.result (λ taken told. inr (taken told)) c.take_in_root.ensures.taken
 
 pub returns-then-has_root_entry-clause-places : goal.returns-then-has_root_entry-clause-places
 returns-then-has_root_entry-clause-places g c told =
@@ -64,4 +64,5 @@ returns-else-has_root_entry-clause-exits g c = on_ok_weaker c.take_item.result (
 
 pub returns-else-has_root_entry-clause-places : goal.returns-else-has_root_entry-clause-places
 returns-else-has_root_entry-clause-places g c told =
-    inl (staged-index g.D.Disk c.args.mft.now c.take_item.new.mft c.args.dir.now (c.requires.can told).whole.parts c.take_item.ensures.places)
+    inl (staged-index g.D.Disk c.args.mft.now c.take_item.new.mft c.args.dir.now (c.requires.can told).whole.parts
+    c.take_item.ensures.places)
