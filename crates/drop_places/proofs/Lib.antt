@@ -5,3 +5,6 @@ pub mod NamedLaws
 pub mod RefusedLaws
 pub mod ExitLaws
 pub mod GoingLaws
+pub mod FlagLaws
+pub mod FoundLaws
+pub mod FindSteps

@@ -1,13 +1,14 @@
 -- WHICH FILE `rm` LETS GO, with the name at which its path ends, and the refusals in their order.
-use Rattle.std.specs.Prelude.{◌≡◌, ◌||◌, ℕ, not, Bool, List, [], ◌∷◌, Option, Some, None, Result, Ok, Err, find, if◌then◌else◌}
+use Rattle.std.specs.Prelude.{◌≡◌, ◌||◌, ℕ, not, true, Bool, List, [], ◌∷◌, Option, Some, None, Result, Ok, Err, find, if◌then◌else◌}
 use Rattle.std.specs.Option.{option_map, option_map_or}
+use Rattle.ntfs_def.specs.FileName.{FileName}
 use Rattle.ntfs_def.specs.StandardInformation.{standard_times}
 use Rattle.volume_def.specs.View.{VolumeView}
 use Rattle.tree_model.specs.Cases.{conflicts, asks_of, is_dos_link}
 use Rattle.tree_model.specs.Facts.{is_whole_table}
-use Rattle.tree_model.specs.Leaving.{can_go}
+use Rattle.tree_model.specs.Leaving.{can_go, has_exit}
 use Rattle.tree_model.specs.Paths.{and_then}
-use Rattle.tree_model.specs.Reading.{read, standard_flags, standard_of}
+use Rattle.tree_model.specs.Reading.{link_for, read, standard_flags, standard_of}
 use Rattle.tree_model.specs.Refusals.{first_some, when}
 use Rattle.tree_model.specs.Staging.{cannot_edit, linked}
 use Rattle.tree_model.specs.Subjects.{Located, is_directory}
@@ -17,10 +18,13 @@ use Rattle.tree_model.specs.declared.opens.OpenEntry.{OpenEntry}
 use Rattle.tree_model.specs.declared.reply.No.{No}
 use Rattle.tree_model.specs.declared.reply.No.TheVariants as no
 use Rattle.tree_model.specs.declared.tree.Link.{Link}
+use Rattle.tree_model.specs.declared.tree.Node.{Node}
 use Rattle.tree_edit.specs.Nodes.{parts_in}
 use Rattle.tree_edit.specs.Settable.{IsSettable}
 use Rattle.tree_edit.specs.Standings.{number_within}
-use Rattle.file_drops.specs.Drops.{MayDrop}
+use Rattle.dir_index.specs.Standard.{IsInitialized}
+use Rattle.file_makes.specs.Under.{HasRecordRoom}
+use Rattle.gone_edits.specs.Goes.{CanGo}
 use Rattle.drop_places.specs.Named.{IsNamed, at_link, link_wanted}
 use Rattle.drop_places.specs.declared.name.Named.{Named}
 
@@ -54,14 +58,20 @@ unrefused view opens path = and_then (link_wanted (read view) path) (unless_refu
 abbrev pub removal_wanted : VolumeView → List OpenEntry → List (List ℕ) → Result Link No
 removal_wanted view opens path = and_then (unrefused view opens path) (if_can_go view)
 
--- THE FILE CAN GO with the name that was found: its directory can be set, and tells these times and flags; no name of the directory stands in
--- a record that has a copy.
+-- THE FILE CAN GO with the name that was found, its only one, whose entry can go out of the index of its directory; the flag of its record has
+-- a place in the stored bitmap, and its block was written, as were those of the directory. That can be set, and tells these times and flags; no
+-- name of it stands in a record that has a copy.
 pub record IsToRemove (view : VolumeView) (named : Named) : Type 0 where
   pub found : IsNamed view named
-  pub parent : named.link.parent ≡ number_within named.standing
   pub settable : IsSettable view (record {
     number = number_within named.standing;
     times = standard_times (standard_of (parts_in named.standing.directory));
   })
   pub flags : settable.can.node.flags ≡ standard_flags (standard_of (parts_in named.standing.directory))
-  pub may : MayDrop view named.link.child (number_within named.standing)
+  pub file : Node
+  pub name : FileName
+  pub link : named.link ≡ link_for named.link.child name
+  pub can : CanGo view named.link.child (number_within named.standing) file settable.can.node name
+  pub entry : has_exit view (number_within named.standing) name.units ≡ true
+  pub record_bit : HasRecordRoom view named.link.child
+  pub written : IsInitialized view (number_within named.standing)

@@ -8,7 +8,6 @@ mod going;
 mod name;
 mod refuse;
 
-pub use file_drops::drop_file;
 pub use find::find_to_remove;
 pub use make_places::{Standard, read_standard, set_attributes};
 pub use name::Named;

@@ -36,6 +36,7 @@ use Rattle.tree_model.proofs.ReadingLaws.{links_in_order-read}
 use Rattle.tree_edit.specs.Answered.{Answered, Finds, Gives, Says}
 use Rattle.tree_edit.specs.Nodes.{parts_in}
 use Rattle.tree_edit.specs.Standings.{IsStanding, number_within}
+use Rattle.tree_read.specs.declared.standing.Standing.{Standing}
 use Rattle.tree_edit.specs.Stop.{Stop}
 use Rattle.tree_edit.specs.Stop.TheVariants as stop
 use Rattle.tree_edit.proofs.AnsweredLaws.{follows, says-failed, stops}
@@ -135,36 +136,69 @@ node-shown view f r on base shown =
     ∙ ap (λ x. if x && not (is_hidden (records_of view) f) then Some (node_by view r (parts (records_of view) f)) else None) base
     ∙ ap (λ x. if true && not x then Some (node_by view r (parts (records_of view) f)) else None) shown
 
+-- THE DIRECTORY in which a path ended CAN BE SET: it is shown, and tells these times, flags and security id.
+pub record SetsStanding (view : VolumeView) (standing : Standing) : Type 0 where
+  pub settable : IsSettable view (record {
+    number = number_within standing;
+    times = standard_times (standard_of (parts_in standing.directory));
+  })
+  pub flags : settable.can.node.flags ≡ standard_flags (standard_of (parts_in standing.directory))
+  pub security : settable.can.node.security ≡ standard_security (standard_of (parts_in standing.directory))
+  pub directory : settable.can.node.dir ≡ true
+
+module _ (bytes : List ℕ) (view : VolumeView) (volume : IsVolumeOf bytes view) (sound : IsSound view) (standing : Standing)
+    (is : IsStanding view standing) (whole : is_whole_table view ≡ true)
+    (copied : has_copied_name (read view) (number_within standing) ≡ false) where
+  abbrev d : ℕ
+  d = number_within standing
+
+  same-parts : parts_in standing.directory ≡ parts (records_of view) d
+  same-parts = is.held.held.parts.parts
+
+  set-on : (r : Record) → record_on view d ≡ Some r → is_base r ≡ true → is_directory r ≡ true → SetsStanding view standing
+  unfolding node_by
+  set-on r on base directory =
+      let at = node-shown view d r on base is.held.is_shown.shown in
+      let node = node_by view r (parts (records_of view) d) in
+      let set : IsSettable view (record { number = d; times = standard_times (standard_of (parts_in standing.directory)) }) =
+      settable-there bytes view d node (standard_times (standard_of (parts_in standing.directory))) volume sound whole at
+      (sym (copied-is view d r on base) ∙ copied) (ap (λ (ps : List Part). standard_times (standard_of ps)) same-parts) in
+      let same : set.can.node ≡ node = let a = set.can.can.there in cc in
+      record {
+        settable = set;
+        flags = ap (λ (it : Node). it.flags) same ∙ ap (λ (ps : List Part). standard_flags (standard_of ps)) (sym same-parts);
+        security = ap (λ (it : Node). it.security) same ∙ ap (λ (ps : List Part). standard_security (standard_of ps)) (sym same-parts);
+        directory = ap (λ (it : Node). it.dir) same ∙ directory;
+      }
+
+  pub standing-set : SetsStanding view standing
+  standing-set = by (record_on view d) refl is.held.is_shown.directory
+    where
+      by : (o : Option Record) → record_on view d ≡ o → IsSomeAnd o (λ r. IsTrue (is_base r) × IsTrue (is_directory r))
+          → SetsStanding view standing
+      by None at is = absurd is
+      by (Some r) at is = set-on r at is.0 is.1
+
 -- THE FILE CAN BE MADE there, before room is asked for.
 module _ (bytes : List ℕ) (view : VolumeView) (volume : IsVolumeOf bytes view) (sound : IsSound view) (told : IsTrue view.told)
     (found : NewPlace) (standing : IsStanding view found.standing) where
   abbrev f : ℕ
   f = number_within found.standing
 
-  same-parts : parts_in found.standing.directory ≡ parts (records_of view) f
-  same-parts = standing.held.held.parts.parts
-
-  makeable-on : (path : List (List ℕ)) → place_wanted (read view) path ≡ Ok (place_of found) → cannot_make view f found.name.now ≡ false
-      → 1 ≤ length found.name.now → length found.name.now ≤ 255 → All (λ unit. unit < 65536) found.name.now
-      → (r : Record) → record_on view f ≡ Some r → is_base r ≡ true → is_directory r ≡ true → IsMakeable view found
-  unfolding node_by
-  makeable-on path placed can some few units r on base directory =
+  pub makeable : (path : List (List ℕ)) → place_wanted (read view) path ≡ Ok (place_of found) → cannot_make view f found.name.now ≡ false
+      → 1 ≤ length found.name.now → length found.name.now ≤ 255 → All (λ unit. unit < 65536) found.name.now → IsMakeable view found
+  makeable path placed can some few units =
       let comes = comes-so view f found.name.now can in
-      let at = node-shown view f r on base standing.held.is_shown.shown in
-      let node = node_by view r (parts (records_of view) f) in
-      let set : IsSettable view (record { number = f; times = standard_times (standard_of (parts_in found.standing.directory)) }) =
-      settable-there bytes view f node (standard_times (standard_of (parts_in found.standing.directory))) volume sound comes.whole at
-      (sym (copied-is view f r on base) ∙ comes.copied) (ap (λ (ps : List Part). standard_times (standard_of ps)) same-parts) in
-      let same : set.can.node ≡ node = let a = set.can.can.there in cc in
+      let sets = standing-set bytes view volume sound found.standing standing comes.whole comes.copied in
       record {
         standing = standing;
-        settable = set;
-        flags = ap (λ (it : Node). it.flags) same ∙ ap (λ (ps : List Part). standard_flags (standard_of ps)) (sym same-parts);
-        security = ap (λ (it : Node). it.security) same ∙ ap (λ (ps : List Part). standard_security (standard_of ps)) (sym same-parts);
+        settable = sets.settable;
+        flags = sets.flags;
+        security = sets.security;
         make = record {
           told = told;
-          parent = set.can.can;
-          directory = ap (λ (it : Node). it.dir) same ∙ directory;
+          parent = sets.settable.can.can;
+          directory = sets.directory;
           some = some;
           few = few;
           units_are = units;
@@ -173,15 +207,6 @@ module _ (bytes : List ℕ) (view : VolumeView) (volume : IsVolumeOf bytes view)
         room = comes.room;
         record_ = comes.record_;
       }
-
-  pub makeable : (path : List (List ℕ)) → place_wanted (read view) path ≡ Ok (place_of found) → cannot_make view f found.name.now ≡ false
-      → 1 ≤ length found.name.now → length found.name.now ≤ 255 → All (λ unit. unit < 65536) found.name.now → IsMakeable view found
-  makeable path placed can some few units = by (record_on view f) refl standing.held.is_shown.directory
-    where
-      by : (o : Option Record) → record_on view f ≡ o → IsSomeAnd o (λ r. IsTrue (is_base r) × IsTrue (is_directory r))
-          → IsMakeable view found
-      by None at is = absurd is
-      by (Some r) at is = makeable-on path placed can some few units r at is.0 is.1
 
 -- OVER WHAT THE CALLS READ: a place was found, and it was decided.
 module _ {D : Type 0} (g : Ghosts D) (path : List (List ℕ)) where

@@ -1,4 +1,0 @@
-pub mod Named
-pub mod Held
-pub mod Refuse
-pub mod Goes
