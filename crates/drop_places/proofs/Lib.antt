@@ -8,3 +8,4 @@ pub mod GoingLaws
 pub mod FlagLaws
 pub mod FoundLaws
 pub mod FindSteps
+pub mod OutcomeLaws
