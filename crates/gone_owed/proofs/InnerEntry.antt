@@ -1,8 +1,8 @@
 -- THE ENTRY OF A NAME that can go out of the index of its directory stands in no node with children: a directory has a name once, and this
 -- one stands in a leaf.
-use Rattle.std.proofs.Common.{◌≡◌, ◌≤◌, ◌&&◌, true, false, ℕ, zero, suc, List, [], Option, Some, None, refl, sym, ap, ◌∙◌, arith}
+use Rattle.std.proofs.Common.{◌≡◌, ◌≤◌, ◌&&◌, Bool, true, false, ℕ, zero, suc, List, [], Option, Some, None, refl, sym, ap, ◌∙◌, arith}
 use Rattle.std.proofs.Common.{inl, inr}
-use Rattle.std.proofs.lemmas.Bool.{and_parts, false_from_ne_true, not_from, or_cases}
+use Rattle.std.proofs.lemmas.Bool.{and_parts, or_cases}
 use Rattle.std.proofs.lemmas.Slice.Eq.{bytes_eq-Decides}
 use Rattle.std.specs.List.{list_any}
 use Rattle.std.specs.Option.{option_map_or}

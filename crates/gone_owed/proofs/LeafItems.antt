@@ -51,7 +51,7 @@ both-times p d I L each (b ∷ bs) last =
     omega (arith, here, rest, one, all, own)
 
 pub total-times : (p : Item → Bool) (d : ℕ) (s : Spread (Tree d)) → count_by p (spread_items d s) ≡ inner_times p d s + leaf_times p d s
-total-times p zero s = ap (count_by p) (leaf-items s.branches s.last)
+total-times p zero s = let same = ap (count_by p) (leaf-items s.branches s.last) in omega (arith, same)
 total-times p (suc d) s =
     both-times p d (λ (t : Tree (suc d)). inner_times p d t.spread) (λ (t : Tree (suc d)). leaf_times p d t.spread)
     (λ t. total-times p d t.spread) s.branches s.last
