@@ -1,10 +1,11 @@
 -- WHAT THE FILE THAT WENT LEFT, as `gone_edits` tells it of the volume before and the one between; and what came behind, as one rewrite.
-use Rattle.std.proofs.Common.{◌≡◌, ◌≢◌, ◌<◌, ◌≤◌, ◌==◌, ℕ, Bool, false, List, [], None, refl, ap, ◌∙◌}
+use Rattle.std.proofs.Common.{◌≡◌, ◌≢◌, ◌<◌, ◌≤◌, ◌==◌, ℕ, Bool, true, false, List, [], None, refl, ap, subst, ◌∙◌}
 use Rattle.ntfs_def.specs.FileName.{FileName}
 use Rattle.ntfs_def.specs.declared.kinds.TheConstants.{FILE_NAME}
 use Rattle.volume_def.specs.Files.{parts, record_on, records_of}
 use Rattle.volume_def.specs.Table.{cluster_bytes}
 use Rattle.volume_def.specs.View.{VolumeView}
+use Rattle.tree_model.specs.Drops.{is_last_name}
 use Rattle.tree_model.specs.Reading.{link_for, read}
 use Rattle.tree_model.specs.Subjects.{Located, at_file}
 use Rattle.tree_model.specs.Tree.{Tree}
@@ -77,6 +78,9 @@ module _ (before next : State) (n : ℕ) (file parent : Node) (name : FileName) 
   -- THE TREE BETWEEN
   pub reads : read mid ≡ without_node n (without_link link tree)
   reads = is_gone.reads ∙ ap (λ (t : Tree). without_node n (without_link link t)) s.stands.reading
+
+  pub last : is_last_name tree link ≡ true
+  last = subst (λ (t : Tree). is_last_name t link ≡ true) s.stands.reading is_gone.last
 
   -- THE LAYOUT
   pub layout : mid.layout ≡ old.layout

@@ -1,8 +1,8 @@
 -- THE COST: the index of each directory in which the directory has a name has a depth, so what is written of it is paid. Any edit pays for
 -- more sectors than those of the new file.
-use Rattle.std.proofs.Common.{◌≡◌, ◌≤◌, ◌+◌, ◌*◌, ◌==◌, ◌||◌, ℕ, Bool, true, false, List, [], ◌∷◌, filter, length, Option}
-use Rattle.std.proofs.Common.{Some, None, refl, sym, ap, subst, arith}
-use Rattle.std.proofs.lemmas.Bool.{or_right, and_from}
+use Rattle.std.proofs.Common.{◌≡◌, ◌≢◌, ◌≤◌, ◌+◌, ◌*◌, ◌==◌, ◌||◌, not, ℕ, Bool, true, false, List, [], ◌∷◌, filter, length, Option}
+use Rattle.std.proofs.Common.{Some, None, refl, sym, ap, subst, ◌∙◌, arith}
+use Rattle.std.proofs.lemmas.Bool.{and_from, eqb-true, or_right}
 use Rattle.std.proofs.lemmas.List.Elements.{All-contains}
 use Rattle.std.proofs.lemmas.List.Sums.{sum_by-cons}
 use Rattle.std.specs.List.{Contains, sum_by}
@@ -17,12 +17,13 @@ use Rattle.volume_def.specs.Sound as clauses
 use Rattle.volume_def.specs.Sound.{IsSound}
 use Rattle.volume_def.specs.View.{VolumeView}
 use Rattle.tree_model.specs.IndexRoom.{directory_index, index_depth}
-use Rattle.tree_model.specs.Reading.{read}
+use Rattle.tree_model.specs.Reading.{link_for, read}
 use Rattle.tree_model.specs.Subjects.{Located}
 use Rattle.tree_model.specs.Tree.{Tree, leads_to}
 use Rattle.tree_model.specs.declared.command.Command.{Command}
 use Rattle.tree_model.specs.declared.command.Command.TheVariants as c
 use Rattle.tree_model.specs.declared.tree.Link.{Link}
+use Rattle.tree_model.specs.declared.tree.Node.{Node}
 use Rattle.tree_model.proofs.IndexRoomLaws.{depth-walk}
 use Rattle.tree_model.proofs.ShownLaws.{link-named}
 use Rattle.edit_def.specs.Names.{is_directory_in}
@@ -33,11 +34,11 @@ use Rattle.session_def.specs.Named.{every_link}
 use Rattle.session_def.specs.State.{State}
 use Rattle.in_place_owed.specs.SetsInPlace.{links_of}
 use Rattle.in_place_owed.proofs.CostLaws.{link-among}
-use Rattle.gone_owed.specs.GoneOwed.{SetsBehindGone, at_name, made_command, made_sectors}
-use Rattle.made_owed.proofs.EitherCommand.{depths-same}
+use Rattle.gone_owed.specs.GoneOwed.{SetsBehindGone, at_gone, gone_sectors}
 use Rattle.gone_owed.proofs.GoneBase as base
 use Rattle.gone_owed.proofs.GoneRecords as records
 use Rattle.gone_owed.proofs.GoneTree as trees
+use Rattle.gone_owed.proofs.GoneTree.{not-dropped}
 
 -- a directory has an index
 directory-depth : (view : VolumeView) → IsSound view → (dir : ℕ) (o : Option Record) → record_on view dir ≡ o
@@ -85,19 +86,21 @@ some-few {X = X} p (x ∷ xs) = by (some-few p xs) (p x) refl
     by rest false e = rw e (omega (arith, rest))
 
 -- of the entries that are told anew some are of the directory's names
-making-depth : (view : VolumeView) → IsSound view → (path : List (List ℕ)) (dir : ℕ) (units : List ℕ) (made : ℕ)
-    → links_of (read view) dir ≤ depths view (read view) (c.Create path) (at_name dir units) made
+going-depth : (view : VolumeView) → IsSound view → (path : List (List ℕ)) (n : ℕ) (name : FileName) (made : ℕ) → name.parent.number ≢ n
+    → links_of (read view) name.parent.number ≤ depths view (read view) (c.Rm path) (at_gone (read view) n name) made
 unfolding depths
-making-depth view sound path dir units made =
+going-depth view sound path n name made other =
+    let dir = name.parent.number in
     let links = every_link (read view) in
-    let told = is_refreshed (read view) (c.Create path) (at_name dir units) made in
+    let told = is_refreshed (read view) (c.Rm path) (at_gone (read view) n name) made in
     let enough = at-least (refreshed_depth view) (filter told links) (λ link there. link-depth view sound link
     (Contains-from_filter told links link there).0) in
     let few = some-few (leads_to dir) (filter told links) in
     let same : length (filter (leads_to dir) (filter told links)) ≡ length (filter (leads_to dir) links) =
     ap length (filter-passed (leads_to dir) told links (λ link is.
-    and_from ((link.child == made) || ((link.child == dir) || false)) true
-    (or_right (link.child == made) ((link.child == dir) || false) (ap (λ b. b || false) is)) refl)) in
+    and_from ((link.child == n) || ((link.child == dir) || false)) _
+    (or_right (link.child == n) ((link.child == dir) || false) (ap (λ b. b || false) is))
+    (ap not (not-dropped (read view) (link_for n name) link (λ gone. other (sym (eqb-true link.child dir is) ∙ gone)))))) in
     omega (arith, enough, few, same)
 
 cost-least : (old new : VolumeView) (before next : Tree) (command : Command) (at : Located) (made : ℕ)
@@ -110,20 +113,18 @@ module _ (before next : State) (n : ℕ) (file parent : Node) (name : FileName) 
   abbrev dir : ℕ
   dir = name.parent.number
 
-  pub wrote : (path : List (List ℕ)) → next.written ≤ before.written + first_cost before.view
-      + cost_of before.view next.view before.machine.tree next.machine.tree (made_command directory path) (at_name dir units)
-      made
-  wrote path =
+  pub wrote : (path : List (List ℕ)) (made : ℕ) → next.written ≤ before.written + first_cost before.view
+      + cost_of before.view next.view before.machine.tree next.machine.tree (c.Rm path) (at_gone before.machine.tree n name) made
+  wrote path made =
       let tree = before.machine.tree in
-      let command : Command = made_command directory path in
-      let at = at_name dir units in
-      let deep : links_of tree dir ≤ depths before.view tree command at made =
-      subst (λ n. links_of tree dir ≤ n) (sym (depths-same directory before.view tree path at made))
-      (subst (λ t. links_of t dir ≤ depths before.view t (c.Create path) at made) s.stands.reading
-      (making-depth before.view s.stands.sound path dir units made)) in
-      let cost = cost-least before.view next.view tree next.machine.tree command at made in
-      let set : next.written ≤ before.written + made_sectors + first_cost mid + 24 + 12 * links_of (read mid) dir + 0 = s.behind.wrote in
+      let command : Command = c.Rm path in
+      let leads = at_gone tree n name in
+      let other = base.other before next n file parent name mid staged s in
+      let deep : links_of tree dir ≤ depths before.view tree command leads made =
+      subst (λ t. links_of t dir ≤ depths before.view t (c.Rm path) (at_gone t n name) made) s.stands.reading
+      (going-depth before.view s.stands.sound path n name made other) in
+      let cost = cost-least before.view next.view tree next.machine.tree command leads made in
+      let set : next.written ≤ before.written + gone_sectors + first_cost mid + 24 + 12 * links_of (read mid) dir + 0 = s.behind.wrote in
       let first = records.first_cost-same before next n file parent name mid staged s in
-      let links = trees.links-same tree dir made units (base.other before next n file parent name mid staged s) (read mid) _
-      (base.reads before next n file parent name mid staged s) in
+      let links = trees.links-same tree (link_for n name) dir other (read mid) (base.reads before next n file parent name mid staged s) in
       omega (arith, deep, cost, set, first, links)

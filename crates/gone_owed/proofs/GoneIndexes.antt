@@ -1,10 +1,11 @@
--- INDEXES behind the command: what the file that came left of them, and what was kept behind it, both keep.
+-- INDEXES behind the command: what the file that went left of them, and what was kept behind it, both keep.
 use Rattle.std.proofs.Common.{◌≡◌, ◌+◌, ◌≤◌, ◌==◌, ℕ, Bool, true, false, List, [], codes, length, Option, Some, None}
 use Rattle.std.proofs.Common.{refl, sym, ap, subst, ◌∙◌, arith}
 use Rattle.std.proofs.lemmas.Bool.{and_left}
 use Rattle.std.specs.Option.{option_map}
 use Rattle.std.specs.Prelude.{IfSome, is_some}
 use Rattle.std.specs.Str.{bytes_eq}
+use Rattle.ntfs_def.specs.FileName.{FileName}
 use Rattle.ntfs_def.specs.Units.{wide}
 use Rattle.ntfs_def.specs.declared.kinds.TheConstants.{BITMAP, INDEX_ALLOCATION, INDEX_ROOT}
 use Rattle.volume_def.specs.Files.{Part, parts_at}
@@ -16,6 +17,7 @@ use Rattle.tree_model.specs.Reading.{read}
 use Rattle.tree_model.specs.Subjects.{Located, at_file}
 use Rattle.tree_model.specs.declared.command.Command.{Command}
 use Rattle.tree_model.specs.declared.command.Command.TheVariants as c
+use Rattle.tree_model.specs.declared.tree.Node.{Node}
 use Rattle.edit_def.specs.Kept.{Key, key_of}
 use Rattle.session_def.specs.Indexes.{KeepsFlagsOf, KeepsIndex, KeepsIndexIfThere, KeepsIndexes, bits_set, index_bits, index_records}
 use Rattle.session_def.specs.Indexes.{keys_changed, most_split}
@@ -25,10 +27,9 @@ use Rattle.made_edits.specs.InPlace.{Rewrites}
 use Rattle.made_edits.proofs.BlankLaws.{first-blank}
 use Rattle.made_edits.proofs.SameRecords.{at-same}
 use Rattle.in_place_owed.proofs.IndexesSet.{directory-owed, extend-owed, index-named}
-use Rattle.made_edits.specs.Beside.{KeepsRest}
+use Rattle.gone_edits.specs.Beside.{KeepsRest}
 use Rattle.made_edits.specs.Left.{is_entry_key}
-use Rattle.gone_owed.specs.GoneOwed.{SetsBehindGone, at_name, between, made_command}
-use Rattle.made_owed.proofs.EitherCommand.{indexes-either}
+use Rattle.gone_owed.specs.GoneOwed.{SetsBehindGone, at_gone, between}
 use Rattle.gone_owed.proofs.GoneBase as base
 use Rattle.gone_owed.proofs.GoneItems as items
 
@@ -66,8 +67,8 @@ module _ (before next : State) (n : ℕ) (file parent : Node) (name : FileName) 
   abbrev setter : Command
   setter = c.Setattr [] 0
 
-  abbrev parent : Located
-  parent = at_file (read mid) None dir
+  abbrev folder : Located
+  folder = at_file (read mid) None dir
 
   abbrev named : Key → Bool
   named = base.named before next n file parent name mid staged s
@@ -75,8 +76,8 @@ module _ (before next : State) (n : ℕ) (file parent : Node) (name : FileName) 
   rewrote : Rewrites named mid new
   rewrote = base.behind before next n file parent name mid staged s
 
-  came_with : KeepsRest directory old mid made dir s.standard s.key
-  came_with = base.rest before next n file parent name mid staged s
+  rest : KeepsRest old mid n dir name
+  rest = base.rest before next n file parent name mid staged s
 
   -- the first part of an attribute behind the command
   first-same : (f kind : ℕ) (name : List ℕ)
@@ -94,7 +95,7 @@ module _ (before next : State) (n : ℕ) (file parent : Node) (name : FileName) 
   -- AN INDEX: one kept with these changes, and then without any
   index-then : (changes : List Change) (index : Index) → KeepsIndexIfThere old mid changes index → KeepsIndexIfThere mid new [] index
       → KeepsIndexIfThere old new changes index
-  index-then changes index first rest was now was_at now_at = by (first_part (parts_at mid index.file INDEX_ROOT index.name)) refl
+  index-then changes index first then was now was_at now_at = by (first_part (parts_at mid index.file INDEX_ROOT index.name)) refl
     where
       by : (o : Option Part) → first_part (parts_at mid index.file INDEX_ROOT index.name) ≡ o → KeepsIndex old new changes index was now
       by None none =
@@ -103,7 +104,7 @@ module _ (before next : State) (n : ℕ) (file parent : Node) (name : FileName) 
           ∙ some-blank (first_part (parts_at new index.file INDEX_ROOT index.name)) ∙ ap is_some now_at) (ap is_some none))
       by (Some root) there =
           let a = first was root was_at there in
-          let b = rest root now there now_at in
+          let b = then root now there now_at in
           let keys = keys_changed old changes index in
           let deep : index_depth new index ≤ index_depth mid index + 0 = b.depth in
           let many : index_records new index ≤ index_records mid index + 0 = b.records in
@@ -130,22 +131,21 @@ module _ (before next : State) (n : ℕ) (file parent : Node) (name : FileName) 
   extend-kept changes file name some long away index found =
       let called = index-named new file name index found in
       let free : is_entry_key dir (key_of index.file INDEX_ALLOCATION index.name) ≡ false =
-      subst (λ n. is_entry_key dir (key_of index.file INDEX_ALLOCATION n) ≡ false) (sym called)
+      subst (λ m. is_entry_key dir (key_of index.file INDEX_ALLOCATION m) ≡ false) (sym called)
       (and_left (bytes_eq (wide name) (wide (codes "$I30"))) (index.file == dir) away) in
       index-then changes index
-      (came_with.indexes changes index
-      (subst (λ n. bytes_eq [] n ≡ false) (sym called) some) free)
-      (extend-owed half next setter parent staged s.behind [] file name long away index found)
+      (rest.indexes changes index
+      (subst (λ m. bytes_eq [] m ≡ false) (sym called) some) free)
+      (extend-owed half next setter folder staged s.behind [] file name long away index found)
 
-  pub indexes : (path : List (List ℕ))
-      → KeepsIndexes old new before.machine.tree next.machine.tree (made_command directory path) (at_name dir units) made
-  indexes path =
-      let changes = changes_of old before.machine.tree (c.Create path) (at_name dir units) in
-      indexes-either directory old new before.machine.tree next.machine.tree path (at_name dir units) made (record {
+  pub indexes : (path : List (List ℕ)) (made : ℕ)
+      → KeepsIndexes old new before.machine.tree next.machine.tree (c.Rm path) (at_gone before.machine.tree n name) made
+  indexes path made =
+      let changes = changes_of old before.machine.tree (c.Rm path) (at_gone before.machine.tree n name) in
+      record {
         keys = items.keys-kept before next n file parent name mid staged s;
         directories = λ g.
-            index-then changes (directory_index g) (came_with.directories changes g)
-            (directory-owed half next setter parent staged s.behind [] g);
+            index-then changes (directory_index g) (rest.directories changes g) (directory-owed half next setter folder staged s.behind [] g);
         points = extend-kept changes (codes "$Reparse") (codes "$R") refl refl refl;
         object_ids = extend-kept changes (codes "$ObjId") (codes "$O") refl refl refl;
-      })
+      }

@@ -1,4 +1,4 @@
--- RECORDS, copies, headers, lists and the log: what the file that came left of them, and what was kept behind it, both keep.
+-- RECORDS, copies, headers, lists and the log: what the file that went left of them, and what was kept behind it, both keep.
 use Rattle.std.proofs.Common.{◌≡◌, ◌≢◌, ◌⊎◌, ◌+◌, ◌*◌, ◌/◌, ◌%◌, ◌<◌, ◌≤◌, ◌==◌, ◌&&◌, ◌||◌, ℕ, Bool, true, false, cond, List, [], ◌∷◌}
 use Rattle.std.proofs.Common.{Option, Some, None, arith, codes, filter, nat_eq, not, refl, sym, ap, subst, inl, inr, ◌∙◌, if◌then◌else◌}
 use mathlib.Core.Path.{fun_ext}
@@ -10,6 +10,7 @@ use Rattle.std.proofs.lemmas.List.Elements.{All-contains}
 use Rattle.list_laws.proofs.MemberLaws.{All-from_Contains, Contains-from_map, Contains-map}
 use Rattle.ntfs_def.specs.Attribute.{attributes, first_value}
 use Rattle.ntfs_def.specs.Fixup.{opened_of}
+use Rattle.ntfs_def.specs.FileName.{FileName}
 use Rattle.ntfs_def.specs.Flags.{is_packed}
 use Rattle.ntfs_def.specs.KeyOrder.{fold_of}
 use Rattle.ntfs_def.specs.ListOrder.{AreInOrder}
@@ -24,18 +25,20 @@ use Rattle.volume_def.specs.Readable.{IsDirectory}
 use Rattle.volume_def.specs.Table.{TableLayout, cluster_bytes}
 use Rattle.volume_def.specs.Values.{first_part, spot_at}
 use Rattle.volume_def.specs.View.{VolumeView}
-use Rattle.tree_model.specs.Reading.{read}
+use Rattle.tree_model.specs.IndexRoom.{point_index}
+use Rattle.tree_model.specs.Reading.{link_for, read}
 use Rattle.tree_model.specs.Subjects.{Located, at_file}
 use Rattle.tree_model.specs.Tree.{Tree}
 use Rattle.tree_model.specs.declared.command.Command.{Command}
 use Rattle.tree_model.specs.declared.command.Command.TheVariants as c
+use Rattle.tree_model.specs.declared.tree.Node.{Node}
 use Rattle.edit_def.specs.Forms.{ComeRightly, IsNewForm, forms_of}
 use Rattle.edit_def.specs.Kept.{Key}
 use Rattle.edit_def.specs.ListOrder.{KeepsListOrder, entries_of}
 use Rattle.edit_def.specs.Unused.{IsPastIds, KeepsHeader, KeepsUnused}
-use Rattle.session_def.specs.Cost.{is_changed_file, log_bytes, log_parts, log_size}
+use Rattle.session_def.specs.Cost.{is_changed_file, is_file_of, log_bytes, log_parts, log_size}
 use Rattle.session_def.specs.Done.{first_cost}
-use Rattle.session_def.specs.Named.{has_entry_of, is_one_of}
+use Rattle.session_def.specs.Named.{changes_points, has_entry_of, is_one_of}
 use Rattle.session_def.specs.Owed.{Owes}
 use Rattle.session_def.specs.Room.{KeepsBlocks, KeepsCopies, KeepsLogEnd, is_written_file}
 use Rattle.session_def.specs.State.{State, dirty_flag}
@@ -44,10 +47,11 @@ use Rattle.made_edits.specs.InPlace.{Rewrites}
 use Rattle.made_edits.proofs.RoomSame.{used-same}
 use Rattle.made_edits.proofs.SameRecords.{on-same}
 use Rattle.in_place_owed.proofs.Owes as setting
-use Rattle.made_edits.specs.Left.{LeavesRest}
-use Rattle.gone_owed.specs.GoneOwed.{SetsBehindGone, at_name, between}
+use Rattle.gone_edits.specs.Left.{LeavesRest}
+use Rattle.gone_owed.specs.GoneOwed.{SetsBehindGone, at_gone, between}
 use Rattle.gone_owed.proofs.GoneBase as base
 use Rattle.gone_owed.proofs.GoneTree as trees
+use Rattle.gone_owed.proofs.GoneTree.{entry-fewer}
 
 never : {b : Bool} → b ≡ true → b ≡ false → ⊥
 never x y = cc
@@ -107,8 +111,11 @@ module _ (before next : State) (n : ℕ) (file parent : Node) (name : FileName) 
   abbrev setter : Command
   setter = c.Setattr [] 0
 
-  abbrev parent : Located
-  parent = at_file (read mid) None dir
+  abbrev leads : Located
+  leads = at_gone tree n name
+
+  abbrev folder : Located
+  folder = at_file (read mid) None dir
 
   abbrev named : Key → Bool
   named = base.named before next n file parent name mid staged s
@@ -116,40 +123,40 @@ module _ (before next : State) (n : ℕ) (file parent : Node) (name : FileName) 
   rewrote : Rewrites named mid new
   rewrote = base.behind before next n file parent name mid staged s
 
-  left : LeavesRest old mid made dir
+  left : LeavesRest old mid n dir
   left = base.left before next n file parent name mid staged s
 
   -- what is owed of all that came behind it
-  set : Owes (between before mid) next setter parent made
-  set = setting.owes (between before mid) next setter parent made staged s.behind
+  set : Owes (between before mid) next setter folder n
+  set = setting.owes (between before mid) next setter folder n staged s.behind
 
-  pub low-other : (n : ℕ) → n < 24 → n ≢ made
-  low-other n low is = let high = base.ordinary before next n file parent name mid staged s in omega (arith, low, is, high)
+  pub low-other : (m : ℕ) → m < 24 → m ≢ n
+  low-other m low is = let high = base.ordinary before next n file parent name mid staged s in omega (arith, low, is, high)
 
-  pub low-apart : (n : ℕ) → n < 24 → n ≢ ROOT → n ≢ dir
-  low-apart n low other is = elim left.ordinary [ inl root ↦ other (is ∙ root) | inr high ↦ omega (arith, low, is, high) ]
+  pub low-apart : (m : ℕ) → m < 24 → m ≢ ROOT → m ≢ dir
+  low-apart m low other is = elim left.ordinary [ inl root ↦ other (is ∙ root) | inr high ↦ omega (arith, low, is, high) ]
 
-  pub held-other : (n : ℕ) (r : Record) → record_on old n ≡ Some r → n ≢ made
-  held-other n r at is = never (ap is_some (sym (ap (record_on old) is) ∙ at)) (ap is_some left.free)
+  pub away-now : (m : ℕ) (r : Record) → record_on mid m ≡ Some r → m ≢ n
+  away-now m r at is = never (ap is_some (sym (ap (record_on mid) is) ∙ at)) (ap is_some left.free)
 
-  -- A RECORD THAT WAS IN USE is so between, of the same file
-  held-still : (n : ℕ) (was : Record) → record_on old n ≡ Some was
-      → (r : Record) × (record_on mid n ≡ Some r) × (file_of n r ≡ file_of n was)
-  held-still n was at = elim (cases_eq n dir) [
+  -- A RECORD THAT STAYS IN USE was so, of the same file
+  held-still : (m : ℕ) (was : Record) → record_on old m ≡ Some was → m ≢ n
+      → (r : Record) × (record_on mid m ≡ Some r) × (file_of m r ≡ file_of m was)
+  held-still m was at away = elim (cases_eq m dir) [
     | inl same ↦
         let had : left.directory.was ≡ was =
         some-same left.directory.was was (sym left.directory.was_at ∙ sym (ap (record_on old) same) ∙ at) in (
           left.directory.now,
           ap (record_on mid) same ∙ left.directory.now_at,
-          ap (λ (base : Option Reference). unwrap_or (option_map (λ (b : Reference). b.number) base) n)
+          ap (λ (base : Option Reference). unwrap_or (option_map (λ (b : Reference). b.number) base) m)
               (ap (λ (h : Header). h.base) left.directory.header)
-              ∙ ap (file_of n) had,
+              ∙ ap (file_of m) had,
         )
-    | inr ne ↦ (was, left.leaves.records n (held-other n was at) ne ∙ at, refl)
+    | inr ne ↦ (was, left.leaves.records m away ne ∙ at, refl)
   ]
 
   -- .. and so is a directory
-  pub directory-still : (g : ℕ) → g ≢ made → IsDirectory old g → IsDirectory mid g
+  pub directory-still : (g : ℕ) → g ≢ n → IsDirectory old g → IsDirectory mid g
   directory-still g away is = elim (cases_eq g dir) [
     | inl same ↦
         let kept = left.directory.header in
@@ -163,91 +170,107 @@ module _ (before next : State) (n : ℕ) (file parent : Node) (name : FileName) 
   ]
 
   -- RECORDS of files that are not changed
-  set-less : (path : List (List ℕ)) (f : ℕ)
-      → is_changed_file old tree next.machine.tree (c.Create path) (at_name dir units) made f ≡ false
-      → is_changed_file mid (read mid) next.machine.tree setter parent made f ≡ false
-  set-less path f free =
-      let files : List ℕ = made ∷ dir ∷ [] in
+  set-less : (path : List (List ℕ)) (made : ℕ) (f : ℕ)
+      → is_changed_file old tree next.machine.tree (c.Rm path) leads made f ≡ false
+      → is_changed_file mid (read mid) next.machine.tree setter folder n f ≡ false
+  set-less path made f free =
+      let files : List ℕ = n ∷ dir ∷ [] in
       let front = is_one_of files f || has_entry_of tree files f in
-      let a = or_parts (front || has_entry_of next.machine.tree files f || false) false free in
-      let b = or_parts (front || has_entry_of next.machine.tree files f) false a.0 in
+      let points = changes_points tree (c.Rm path) leads && is_file_of (point_index old) f in
+      let a = or_parts (front || has_entry_of next.machine.tree files f || points) _ free in
+      let b = or_parts (front || has_entry_of next.machine.tree files f) points a.0 in
       let d = or_parts front (has_entry_of next.machine.tree files f) b.0 in
       let k = or_parts (is_one_of files f) (has_entry_of tree files f) d.0 in
-      let own = or_parts (made == f) (is_one_of (dir ∷ []) f) k.0 in
-      let was = trees.entry-less tree dir made units (base.other before next n file parent name mid staged s) (read mid) _
+      let own = or_parts (n == f) (is_one_of (dir ∷ []) f) k.0 in
+      let was = trees.entry-less tree (link_for n name) dir (base.other before next n file parent name mid staged s) (read mid)
       (base.reads before next n file parent name mid staged s) f k.1 in
-      let now = trees.entry-fewer next.machine.tree made dir f d.1 in
+      let now = entry-fewer next.machine.tree n dir f d.1 in
       or_from _ false (or_from _ false (or_from _ _ (or_from (is_one_of (dir ∷ []) f) _ own.1 was) now) refl) refl
 
-  changed-directory : (path : List (List ℕ))
-      → is_changed_file old tree next.machine.tree (c.Create path) (at_name dir units) made dir ≡ true
-  changed-directory path =
-      let own = or_right (made == dir) ((dir == dir) || false) (or_left (dir == dir) false (eq-eqb dir dir refl)) in
-      or_left _ false (or_left _ false (or_left _ _ (or_left _ _ own)))
+  changed-by : (path : List (List ℕ)) (made : ℕ) (f : ℕ) → is_one_of (n ∷ dir ∷ []) f ≡ true
+      → is_changed_file old tree next.machine.tree (c.Rm path) leads made f ≡ true
+  changed-by path made f own = or_left _ _ (or_left _ _ (or_left _ _ (or_left _ _ own)))
 
-  own-file : (n : ℕ) (r : Record) → record_on old n ≡ Some r → n ≡ dir → file_of n r ≡ dir
-  own-file n r at same =
+  changed-file : (path : List (List ℕ)) (made : ℕ) → is_changed_file old tree next.machine.tree (c.Rm path) leads made n ≡ true
+  changed-file path made = changed-by path made n (or_left (n == n) ((dir == n) || false) (eq-eqb n n refl))
+
+  changed-directory : (path : List (List ℕ)) (made : ℕ) → is_changed_file old tree next.machine.tree (c.Rm path) leads made dir ≡ true
+  changed-directory path made =
+      changed-by path made dir (or_right (n == dir) ((dir == dir) || false) (or_left (dir == dir) false (eq-eqb dir dir refl)))
+
+  -- the file of a base record is that of its number
+  based : (m : ℕ) (o : Option Reference) → is_none o ≡ true → unwrap_or (option_map (λ (b : Reference). b.number) o) m ≡ m
+  based m None e = refl
+  based m (Some b) e = cc
+
+  own-file : (m : ℕ) (r : Record) → record_on old m ≡ Some r → (m ≡ n) ⊎ (m ≡ dir) → file_of m r ≡ m
+  own-file m r at (inl same) =
+      based m r.header.base (subst (λ (o : Option Record). IsSomeAnd o (λ r. IsTrue (is_base r))) (ap (record_on old) (sym same) ∙ at) left.used)
+  own-file m r at (inr same) =
       let had : left.directory.was ≡ r = some-same left.directory.was r (sym left.directory.was_at ∙ sym (ap (record_on old) same) ∙ at) in
-      based n r.header.base (subst (λ (it : Record). is_base it ≡ true) had left.directory.base) ∙ same
-    where
-      based : (n : ℕ) (o : Option Reference) → is_none o ≡ true → unwrap_or (option_map (λ (b : Reference). b.number) o) n ≡ n
-      based n None e = refl
-      based n (Some b) e = cc
+      based m r.header.base (subst (λ (it : Record). is_base it ≡ true) had left.directory.base)
 
-  -- one of another file is not that of the directory
-  apart-from : (path : List (List ℕ)) (n : ℕ) (r : Record) → record_on old n ≡ Some r
-      → is_written_file (is_changed_file old tree next.machine.tree (c.Create path) (at_name dir units) made) (file_of n r) ≡ false
-      → n ≢ dir
-  apart-from path n r at free same =
-      let files = is_changed_file old tree next.machine.tree (c.Create path) (at_name dir units) made in
-      let f = file_of n r in
-      never (ap files (own-file n r at same) ∙ changed-directory path)
+  -- one of another file is of neither
+  apart-from : (path : List (List ℕ)) (made : ℕ) (m : ℕ) (r : Record) → record_on old m ≡ Some r
+      → is_written_file (is_changed_file old tree next.machine.tree (c.Rm path) leads made) (file_of m r) ≡ false
+      → (m ≡ n) ⊎ (m ≡ dir) → ⊥
+  apart-from path made m r at free same =
+      let files = is_changed_file old tree next.machine.tree (c.Rm path) leads made in
+      let f = file_of m r in
+      let its : files m ≡ true = elim same [
+        | inl is ↦ ap files is ∙ changed-file path
+        | inr is ↦ ap files is ∙ changed-directory path
+      ] in
+      never (ap files (own-file m r at same) ∙ its)
       (or_parts (f == CLUSTER_BITMAP) (files f) (or_parts (f == VOLUME) _ (or_parts (f == MFT) _ free).1).1).1
 
-  pub blocks : (path : List (List ℕ))
-      → KeepsBlocks (is_changed_file old tree next.machine.tree (c.Create path) (at_name dir units) made) old new
-  blocks path n r at free =
-      let files = is_changed_file old tree next.machine.tree (c.Create path) (at_name dir units) made in
-      set.blocks n r (left.leaves.records n (held-other n r at) (apart-from path n r at free) ∙ at)
-      (written-less files (is_changed_file mid (read mid) next.machine.tree setter parent made) (file_of n r)
-      (set-less path (file_of n r)) free)
-      ∙ left.blocks files (changed-directory path) n r at free
+  pub blocks : (path : List (List ℕ)) (made : ℕ)
+      → KeepsBlocks (is_changed_file old tree next.machine.tree (c.Rm path) leads made) old new
+  blocks path made m r at free =
+      let files = is_changed_file old tree next.machine.tree (c.Rm path) leads made in
+      set.blocks m r (left.leaves.records m (λ is. apart-from path made m r at free (inl is)) (λ is. apart-from path made m r at free (inr is)) ∙ at)
+      (written-less files (is_changed_file mid (read mid) next.machine.tree setter folder n) (file_of m r)
+      (set-less path made (file_of m r)) free)
+      ∙ left.blocks files (changed-file path made) (changed-directory path made) m r at free
 
   pub copies : KeepsCopies old new
-  copies n few same =
-      set.copies n few (same ∙ sym (left.leaves.blocks n (low-other n (omega (arith, few)))
-      (low-apart n (omega (arith, few)) (λ is. omega (arith, few, is))))) ∙ left.leaves.copies n few
+  copies m few same =
+      set.copies m few (same ∙ sym (left.leaves.blocks m (low-other m (omega (arith, few)))
+      (low-apart m (omega (arith, few)) (λ is. omega (arith, few, is))))) ∙ left.leaves.copies m few
 
   -- RECORDS NOT IN USE, and headers
-  sequence-same : (n : ℕ) → stored_sequence (new.block n) ≡ stored_sequence (mid.block n)
-  sequence-same n = elim (rewrote.blocks n) [
+  sequence-same : (m : ℕ) → stored_sequence (new.block m) ≡ stored_sequence (mid.block m)
+  sequence-same m = elim (rewrote.blocks m) [
     | inl kept ↦ ap stored_sequence kept.block
-    | inr r ↦ sequence-used (new.block n) r.used_still ∙ ap (λ (h : Header). h.sequence) r.header
-        ∙ sym (sequence-used (mid.block n) r.used)
+    | inr r ↦ sequence-used (new.block m) r.used_still ∙ ap (λ (h : Header). h.sequence) r.header
+        ∙ sym (sequence-used (mid.block m) r.used)
   ]
 
-  used : (n : ℕ) → is_some (record_on new n) ≡ is_some (record_on mid n)
+  used : (m : ℕ) → is_some (record_on new m) ≡ is_some (record_on mid m)
   used = used-same named mid new rewrote
 
-  none-back : (n : ℕ) → record_on new n ≡ None → record_on mid n ≡ None
-  none-back n none = by (record_on mid n) (sym (used n) ∙ ap is_some none)
+  none-back : (m : ℕ) → record_on new m ≡ None → record_on mid m ≡ None
+  none-back m none = by (record_on mid m) (sym (used m) ∙ ap is_some none)
     where
       by : (o : Option Record) → is_some o ≡ false → o ≡ None
       by None e = refl
       by (Some r) e = cc
 
-  some-back : (n : ℕ) → is_some (record_on new n) ≡ true → is_some (record_on mid n) ≡ true
-  some-back n some = sym (used n) ∙ some
+  some-back : (m : ℕ) → is_some (record_on new m) ≡ true → is_some (record_on mid m) ≡ true
+  some-back m some = sym (used m) ∙ some
 
-  comes : (n : ℕ) (now : Record) → record_on old n ≡ None → record_on new n ≡ Some now → (now.header.number ≡ n) × IsPastIds now
-  comes n now at bt = by (record_on mid n) refl
+  gone-now : (m : ℕ) (now : Record) → record_on new m ≡ Some now → m ≢ n
+  gone-now m now bt is = never (some-back m (ap is_some bt)) (ap is_some (ap (record_on mid) is ∙ left.free))
+
+  comes : (m : ℕ) (now : Record) → record_on old m ≡ None → record_on new m ≡ Some now → (now.header.number ≡ m) × IsPastIds now
+  comes m now at bt = by (record_on mid m) refl
     where
-      by : (o : Option Record) → record_on mid n ≡ o → (now.header.number ≡ n) × IsPastIds now
-      by None none = absurd (never (some-back n (ap is_some bt)) (ap is_some none))
+      by : (o : Option Record) → record_on mid m ≡ o → (now.header.number ≡ m) × IsPastIds now
+      by None none = absurd (never (some-back m (ap is_some bt)) (ap is_some none))
       by (Some r) there =
-          let kept = left.unused.comes n r at there in
+          let kept = left.unused.comes m r at there in
           let blank = sym (ap (option_map blank_record) bt)
-          ∙ on-same named mid new rewrote n
+          ∙ on-same named mid new rewrote m
           ∙ ap (option_map blank_record) there in
           let e = some-same (blank_record now) (blank_record r) blank in
           (ap (λ (x : Record). x.header.number) e ∙ kept.0, past-ids r now e kept.1)
@@ -256,20 +279,20 @@ module _ (before next : State) (n : ℕ) (file parent : Node) (name : FileName) 
   unused =
       let count : mid.layout.count ≡ old.layout.count =
       ap (λ (l : TableLayout). l.count) (base.layout before next n file parent name mid staged s) in
-      let inside : (n : ℕ) → n < old.layout.count → n < mid.layout.count = λ n low. subst (λ k. n < k) (sym count) low in
+      let inside : (m : ℕ) → m < old.layout.count → m < mid.layout.count = λ m low. subst (λ k. m < k) (sym count) low in
       record {
-        idle = λ n low was now.
-            set.unused.idle n (inside n low) (none-back n now) now ∙ left.unused.idle n low was (none-back n now);
-        freed = λ n low was now. sequence-same n ∙ left.unused.freed n low was (none-back n now);
-        taken = λ n low was now. sequence-same n ∙ left.unused.taken n low was (some-back n now);
-        stays = λ n low was now.
-            subst (λ q. (q ≡ stored_sequence (old.block n)) ⊎ (q ≡ sequence_after (stored_sequence (old.block n)))) (sym (sequence-same n))
-            (left.unused.stays n low was (some-back n now));
-        headers = λ n was now at bt file number.
-            let (r, there, same) = held-still n was at in
+        idle = λ m low was now.
+            set.unused.idle m (inside m low) (none-back m now) now ∙ left.unused.idle m low was (none-back m now);
+        freed = λ m low was now. sequence-same m ∙ left.unused.freed m low was (none-back m now);
+        taken = λ m low was now. sequence-same m ∙ left.unused.taken m low was (some-back m now);
+        stays = λ m low was now.
+            subst (λ q. (q ≡ stored_sequence (old.block m)) ⊎ (q ≡ sequence_after (stored_sequence (old.block m)))) (sym (sequence-same m))
+            (left.unused.stays m low was (some-back m now));
+        headers = λ m was now at bt file number.
+            let (r, there, same) = held-still m was at (λ is. gone-now m now bt is) in
             headers-then was.header r.header now.header
-            (left.unused.headers n was r at there same (sym (sequence-same n) ∙ number))
-            (set.unused.headers n r now there bt (file ∙ sym same) (sequence-same n));
+            (left.unused.headers m was r at there same (sym (sequence-same m) ∙ number))
+            (set.unused.headers m r now there bt (file ∙ sym same) (sequence-same m));
         comes = comes;
       }
 
@@ -310,8 +333,8 @@ module _ (before next : State) (n : ℕ) (file parent : Node) (name : FileName) 
   log_end i cluster behind at =
       let size = base.size before next n file parent name mid staged s in
       let past = subst (λ bytes. (bytes + 511) / 512 * 512 ≤ i) (sym log_bytes-same) behind in
-      let there = ap (λ n. spot_at (log_parts mid) (i / n)) size ∙ ap (λ xs. spot_at xs (i / cluster_bytes old.layout)) log-same ∙ at in
-      subst (λ n. slice_index (new.cluster cluster) (i % n) ≡ slice_index (mid.cluster cluster) (i % n)) size
+      let there = ap (λ m. spot_at (log_parts mid) (i / m)) size ∙ ap (λ xs. spot_at xs (i / cluster_bytes old.layout)) log-same ∙ at in
+      subst (λ m. slice_index (new.cluster cluster) (i % m) ≡ slice_index (mid.cluster cluster) (i % m)) size
       (set.log_end i cluster past there)
       ∙ left.log_end i cluster behind at
 
@@ -320,4 +343,4 @@ module _ (before next : State) (n : ℕ) (file parent : Node) (name : FileName) 
       ap (λ block. if option_map_or (λ bit. bit == 1) (option_map dirty_bit (first_value VOLUME_INFORMATION (attributes
       (opened_of block)))) false then 0 else 2 + (log_bytes mid + 511) / 512)
       (left.leaves.blocks VOLUME (low-other VOLUME (omega arith)) (low-apart VOLUME (omega arith) (λ is. omega (arith, is))))
-      ∙ ap (λ (n : ℕ). if option_map_or (λ bit. bit == 1) (dirty_flag old) false then 0 else 2 + (n + 511) / 512) log_bytes-same
+      ∙ ap (λ (m : ℕ). if option_map_or (λ bit. bit == 1) (dirty_flag old) false then 0 else 2 + (m + 511) / 512) log_bytes-same

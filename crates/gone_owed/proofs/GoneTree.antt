@@ -38,6 +38,14 @@ entry-more tree one two f is =
     first true b e = refl
     first false b e = cc
 
+-- a directory without an entry of two files has none of the second
+pub entry-fewer : (tree : Tree) (one two f : ℕ) → has_entry_of tree (one ∷ two ∷ []) f ≡ false → has_entry_of tree (two ∷ []) f ≡ false
+entry-fewer tree one two f none = false_from_ne_true (has_entry_of tree (two ∷ []) f) (λ is.
+    never (any-more (λ (l : Link). is_in f l && leads_among (two ∷ []) l) (λ (l : Link). is_in f l && leads_among (one ∷ two ∷ []) l)
+    (every_link tree) (λ l e.
+    let both = and_parts (is_in f l) (leads_among (two ∷ []) l) e in
+    and_from (is_in f l) (leads_among (one ∷ two ∷ []) l) both.0 (or_right (leads_to one l) (leads_among (two ∷ []) l) both.1)) is) none)
+
 -- THE LINKS THAT GO lead to the same file.
 pub goes-child : (tree : Tree) (link other : Link) → goes_with tree link other ≡ true → other.child ≡ link.child
 goes-child tree link other is = elim (or_cases (is_link link other) _ is) [
