@@ -145,7 +145,8 @@ module _ (before next : State) (n : ℕ) (file parent : Node) (name : FileName) 
       record {
         keys = items.keys-kept before next n file parent name mid staged s;
         directories = λ g.
-            index-then changes (directory_index g) (rest.directories changes g) (directory-owed half next setter folder staged s.behind [] g);
+            index-then changes (directory_index g) (rest.directories changes g)
+            (directory-owed half next setter folder staged s.behind [] g);
         points = extend-kept changes (codes "$Reparse") (codes "$R") refl refl refl;
         object_ids = extend-kept changes (codes "$ObjId") (codes "$O") refl refl refl;
       }

@@ -1,6 +1,6 @@
 -- ITEMS OF DIRECTORIES behind the command: those that were there, but for the one of the file that went.
 use Rattle.std.proofs.Common.{◌≡◌, ◌≢◌, ◌⊎◌, ◌==◌, ◌&&◌, ◌||◌, not, ℕ, Bool, true, false, List, [], ◌∷◌, filter, map}
-use Rattle.std.proofs.Common.{None, Some, inl, inr, refl, sym, ap, subst, ◌∙◌}
+use Rattle.std.proofs.Common.{None, Option, Some, codes, inl, inr, refl, sym, ap, subst, ◌∙◌}
 use Rattle.std.proofs.lemmas.Bool.{and_left, cases_eq, eq-eqb, eqb-true, false_from_ne_true, ne_eqb, not_from_false, or_cases, or_from}
 use Rattle.std.specs.List.{Contains, list_any}
 use Rattle.list_laws.specs.SameItems.{SameItems}
@@ -12,8 +12,9 @@ use Rattle.list_laws.proofs.SameItemsLaws.{SameItems-filter, SameItems-passing, 
 use Rattle.ntfs_def.specs.FileName as names
 use Rattle.ntfs_def.specs.FileName.{FileName}
 use Rattle.ntfs_def.specs.Node.{Item}
-use Rattle.ntfs_def.specs.declared.kinds.TheConstants.{FILE_NAME}
-use Rattle.volume_def.specs.Files.{Part, content_value, is_of, parts, records_of}
+use Rattle.ntfs_def.specs.Units.{wide}
+use Rattle.ntfs_def.specs.declared.kinds.TheConstants.{FILE_NAME, INDEX_ROOT}
+use Rattle.volume_def.specs.Files.{Part, content_value, is_of, parts, parts_at, records_of}
 use Rattle.volume_def.specs.Readable.{IsDirectory}
 use Rattle.volume_def.specs.View.{VolumeView}
 use Rattle.tree_model.specs.Bill.{links_with}
@@ -57,6 +58,9 @@ strip false g e f = refl
 no-parts : (xs : List Part) → map blank_part xs ≡ [] → xs ≡ []
 no-parts [] e = refl
 no-parts (x ∷ xs) e = cc
+
+no-root : (root : List ℕ) → ◌≡◌ {A = List (Option (List ℕ))} [] (Some root ∷ []) → ⊥
+no-root root e = cc
 
 -- THE ITEMS BETWEEN: those that were there, but for that of file `gone`
 record Went (gone : ℕ) (files : List ℕ) (mid : VolumeView) (g : ℕ) (was items : List Item) : Type 0 where
@@ -122,9 +126,10 @@ module _ (before next : State) (n : ℕ) (file parent : Node) (name : FileName) 
 
   no-items : (now : List Item) → HasItems new n now → ⊥
   no-items now has =
-      let none = ap (λ (xs : List Part). map (λ (p : Part). content_value p.content) (filter (is_of _ _) xs)) none-behind in
-      let root = sym none ∙ has.index.is_root in
-      cc
+      let none : map (λ (p : Part). content_value p.content) (parts_at new n INDEX_ROOT (wide (codes "$I30"))) ≡ [] =
+      ap (λ (xs : List Part). map (λ (p : Part). content_value p.content) (filter (is_of INDEX_ROOT (wide (codes "$I30"))) xs))
+      none-behind in
+      no-root has.index.root (sym none ∙ has.index.is_root)
 
   module _ (g : ℕ) (was now : List Item) (is : IsDirectory old g) (has : HasItems old g was) (becomes : HasItems new g now) where
     away : g ≢ n

@@ -205,7 +205,8 @@ module _ (before next : State) (n : ℕ) (file parent : Node) (name : FileName) 
 
   own-file : (m : ℕ) (r : Record) → record_on old m ≡ Some r → (m ≡ n) ⊎ (m ≡ dir) → file_of m r ≡ m
   own-file m r at (inl same) =
-      based m r.header.base (subst (λ (o : Option Record). IsSomeAnd o (λ r. IsTrue (is_base r))) (ap (record_on old) (sym same) ∙ at) left.used)
+      based m r.header.base
+      (subst (λ (o : Option Record). IsSomeAnd o (λ r. IsTrue (is_base r))) (ap (record_on old) (sym same) ∙ at) left.used)
   own-file m r at (inr same) =
       let had : left.directory.was ≡ r = some-same left.directory.was r (sym left.directory.was_at ∙ sym (ap (record_on old) same) ∙ at) in
       based m r.header.base (subst (λ (it : Record). is_base it ≡ true) had left.directory.base)
@@ -218,8 +219,8 @@ module _ (before next : State) (n : ℕ) (file parent : Node) (name : FileName) 
       let files = is_changed_file old tree next.machine.tree (c.Rm path) leads made in
       let f = file_of m r in
       let its : files m ≡ true = elim same [
-        | inl is ↦ ap files is ∙ changed-file path
-        | inr is ↦ ap files is ∙ changed-directory path
+        | inl is ↦ ap files is ∙ changed-file path made
+        | inr is ↦ ap files is ∙ changed-directory path made
       ] in
       never (ap files (own-file m r at same) ∙ its)
       (or_parts (f == CLUSTER_BITMAP) (files f) (or_parts (f == VOLUME) _ (or_parts (f == MFT) _ free).1).1).1
@@ -228,7 +229,8 @@ module _ (before next : State) (n : ℕ) (file parent : Node) (name : FileName) 
       → KeepsBlocks (is_changed_file old tree next.machine.tree (c.Rm path) leads made) old new
   blocks path made m r at free =
       let files = is_changed_file old tree next.machine.tree (c.Rm path) leads made in
-      set.blocks m r (left.leaves.records m (λ is. apart-from path made m r at free (inl is)) (λ is. apart-from path made m r at free (inr is)) ∙ at)
+      set.blocks m r
+      (left.leaves.records m (λ is. apart-from path made m r at free (inl is)) (λ is. apart-from path made m r at free (inr is)) ∙ at)
       (written-less files (is_changed_file mid (read mid) next.machine.tree setter folder n) (file_of m r)
       (set-less path made (file_of m r)) free)
       ∙ left.blocks files (changed-file path made) (changed-directory path made) m r at free

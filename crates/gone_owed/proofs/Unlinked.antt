@@ -1,9 +1,9 @@
 -- NO KEY of $R or of $O goes with a file that has no reparse point and no object id.
 use Rattle.std.proofs.Common.{◌≡◌, ◌==◌, Bool, true, false, cond, ℕ, List, [], ◌∷◌, Option, Some, None, map, filter, length, refl, ap}
 use Rattle.std.proofs.lemmas.Bool.{and_parts, false_from_ne_true}
-use Rattle.std.specs.List.{find, list_any, take}
+use Rattle.std.specs.List.{find, list_any}
 use Rattle.std.specs.Option.{option_and_then, option_map, option_map_or, option_to_list}
-use Rattle.std.specs.Prelude.{is_some}
+use Rattle.std.specs.Prelude.{is_some, take}
 use Rattle.list_laws.proofs.FindLaws.{any-more, find-none, none-counted}
 use Rattle.ntfs_def.specs.declared.kinds.TheConstants.{OBJECT_ID}
 use Rattle.tree_model.specs.Answers.{bytes_of, is_unnamed_object_id, object_id}
