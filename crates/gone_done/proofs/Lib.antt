@@ -1,0 +1,5 @@
+mod LeftAlone
+mod GoneLink
+mod FileGone
+mod GoneWritten
+pub mod Leaves

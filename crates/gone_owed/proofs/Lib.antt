@@ -1,0 +1,13 @@
+pub mod LeafItems
+pub mod InnerEntry
+pub mod Unlinked
+pub mod GoneTree
+pub mod GoneBill
+pub mod GoneBase
+pub mod GoneCalls
+pub mod GoneRecords
+pub mod GoneCost
+pub mod GoneItems
+pub mod GoneIndexes
+pub mod GoneNodes
+pub mod GoneOwes
