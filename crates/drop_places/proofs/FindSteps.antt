@@ -22,7 +22,7 @@ use Rattle.tree_edit.specs.Stop.{Stop}
 use Rattle.tree_edit.specs.Stop.TheVariants as stop
 use Rattle.tree_edit.proofs.AnsweredLaws.{follows, says-failed, stops}
 use Rattle.tree_edit.proofs.GivesLaws.{at_once, both, tells}
-use Rattle.drop_places.specs.Goes.{cannot_go, if_can_go, kept_from_going, refused_to_remove, removal_wanted, unless_refused, unrefused}
+use Rattle.drop_places.specs.Goes.{cannot_go, if_can_go, kept_from_going, refused_to_remove, removal_in, removal_wanted, unless_refused, unrefused}
 use Rattle.drop_places.specs.Named.{at_link, link_wanted}
 use Rattle.drop_places.specs.Refuse.{Refuses, refused_by}
 
@@ -121,3 +121,13 @@ module _ {D : Type 0} (g : Ghosts D) (opens : List OpenEntry) (path : List (List
   pub unfound : {old new : Mft D g} (why : Stop) → Answered g old new (λ v. unrefused v opens path) (Err why)
       → Answered g old new (λ v. removal_wanted v opens path) (Err why)
   unfound why call = stops g (λ v. unrefused v opens path) (λ v. if_can_go v) why call
+
+  -- THE DIRECTORY of the name
+  pub unled : {old new : Mft D g} (why : Stop) → Answered g old new (λ v. removal_wanted v opens path) (Err why)
+      → Answered g old new (λ v. removal_in v opens path) (Err why)
+  unled why call = stops g (λ v. removal_wanted v opens path) (λ v (link : Link). Ok link.parent) why call
+
+  pub led-to : {old new : Mft D g} (link : Link) (dir : ℕ) → Answered g old new (λ v. removal_wanted v opens path) (Ok link)
+      → (IsTrue (view g old).told → link.parent ≡ dir) → Answered g old new (λ v. removal_in v opens path) (Ok dir)
+  led-to link dir call is =
+      tells call refl (λ told says. ap (λ r. and_then r (λ (link : Link). Ok link.parent)) says ∙ ap Ok (is told))

@@ -58,6 +58,10 @@ unrefused view opens path = and_then (link_wanted (read view) path) (unless_refu
 abbrev pub removal_wanted : VolumeView → List OpenEntry → List (List ℕ) → Result Link No
 removal_wanted view opens path = and_then (unrefused view opens path) (if_can_go view)
 
+-- the directory of that name
+abbrev pub removal_in : VolumeView → List OpenEntry → List (List ℕ) → Result ℕ No
+removal_in view opens path = and_then (removal_wanted view opens path) (λ link. Ok link.parent)
+
 -- THE FILE CAN GO with the name that was found, its only one, whose entry can go out of the index of its directory; the flag of its record has
 -- a place in the stored bitmap, and its block was written, as were those of the directory. That can be set, and tells these times and flags; no
 -- name of it stands in a record that has a copy.

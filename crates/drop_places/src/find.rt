@@ -9,7 +9,7 @@ ghost use Rattle.tree_model.specs.Reading.{read};
 ghost use Rattle.tree_edit.specs.Answered.{Answered, with_ok};
 ghost use Rattle.tree_edit.specs.Nodes.{number_of};
 ghost use Rattle.tree_edit.specs.Standings.{IsStanding, number_within};
-ghost use Rattle.drop_places.specs.Goes.{IsToRemove, removal_wanted, unrefused};
+ghost use Rattle.drop_places.specs.Goes.{IsToRemove, removal_in, removal_wanted, unrefused};
 ghost use Rattle.drop_places.specs.Named.{IsNamed};
 
 use crate::going::can_go;
@@ -63,6 +63,8 @@ pub fn find_to_remove<D: Disk>(
     requires last { IsTrue (view D.Disk mft.old).told → IfSome last.old (IsStanding (view D.Disk mft.old)) }
     ensures answered { Answered D.Disk mft.old mft.new (λ volume. removal_wanted volume opens.now path.now)
         (with_ok (λ named. named.link) result) }
+    ensures led { Answered D.Disk mft.old mft.new (λ volume. removal_in volume opens.now path.now)
+        (with_ok (λ named. number_within named.standing) result) }
     ensures can { IfOk result (λ named. IsTrue (view D.Disk mft.old).told → IsToRemove (view D.Disk mft.old) named) }
     ensures file { IfOk result (λ named. number_of named.held < length (mounted_of D.Disk mft.old).records) }
     ensures directory { IfOk result (λ named. number_within named.standing < length (mounted_of D.Disk mft.old).records) }

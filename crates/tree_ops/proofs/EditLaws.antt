@@ -54,37 +54,38 @@ pub other-edit : (command : Command) → ((path : List (List ℕ)) (flags : ℕ)
     → ((path : List (List ℕ)) (name : List ℕ) → command ≢ c.Rmstream path name)
     → ((path : List (List ℕ)) → command ≢ c.Create path)
     → ((path : List (List ℕ)) → command ≢ c.Mkdir path)
+    → ((path : List (List ℕ)) → command ≢ c.Rm path)
     → ((path : List (List ℕ)) (id : ℕ) → command ≢ c.Setsec path id)
     → (is_edit command && is_built command) ≡ false
-other-edit (c.Ls path) apart write hwrite cut punch remove create mkdir setsec = refl
-other-edit (c.Stat path) apart write hwrite cut punch remove create mkdir setsec = refl
-other-edit (c.Links path) apart write hwrite cut punch remove create mkdir setsec = refl
-other-edit (c.Cat path stream) apart write hwrite cut punch remove create mkdir setsec = refl
-other-edit (c.Read path stream from len) apart write hwrite cut punch remove create mkdir setsec = refl
-other-edit (c.Create path) apart write hwrite cut punch remove create mkdir setsec = absurd (create path refl)
-other-edit (c.Mkdir path) apart write hwrite cut punch remove create mkdir setsec = absurd (mkdir path refl)
-other-edit (c.Rm path) apart write hwrite cut punch remove create mkdir setsec = refl
-other-edit (c.Rmdir path) apart write hwrite cut punch remove create mkdir setsec = refl
-other-edit (c.Ln path new) apart write hwrite cut punch remove create mkdir setsec = refl
-other-edit (c.Mv path new) apart write hwrite cut punch remove create mkdir setsec = refl
-other-edit (c.Truncate path stream from) apart write hwrite cut punch remove create mkdir setsec = absurd (cut path stream from refl)
-other-edit (c.Punch path stream from len) apart write hwrite cut punch remove create mkdir setsec = absurd (punch path stream from len refl)
-other-edit (c.Streams path) apart write hwrite cut punch remove create mkdir setsec = refl
-other-edit (c.Rmstream path from) apart write hwrite cut punch remove create mkdir setsec = absurd (remove path from refl)
-other-edit (c.Attr path) apart write hwrite cut punch remove create mkdir setsec = refl
-other-edit (c.Sec path) apart write hwrite cut punch remove create mkdir setsec = refl
-other-edit (c.Setsec path id) apart write hwrite cut punch remove create mkdir setsec = absurd (setsec path id refl)
-other-edit (c.Sd id) apart write hwrite cut punch remove create mkdir setsec = refl
-other-edit (c.Reparse path) apart write hwrite cut punch remove create mkdir setsec = refl
-other-edit (c.Mkreparse path tag bytes) apart write hwrite cut punch remove create mkdir setsec = refl
-other-edit (c.Rmreparse path) apart write hwrite cut punch remove create mkdir setsec = refl
-other-edit (c.Objid path) apart write hwrite cut punch remove create mkdir setsec = refl
-other-edit c.Df apart write hwrite cut punch remove create mkdir setsec = refl
-other-edit (c.Open path stream access other) apart write hwrite cut punch remove create mkdir setsec = refl
-other-edit (c.Hread other from len) apart write hwrite cut punch remove create mkdir setsec = refl
-other-edit (c.Close other) apart write hwrite cut punch remove create mkdir setsec = refl
-other-edit (c.Time from) apart write hwrite cut punch remove create mkdir setsec = refl
-other-edit (c.Setattr path flags) apart write hwrite cut punch remove create mkdir setsec = absurd (apart path flags refl)
-other-edit (c.Write path stream from bytes) apart write hwrite cut punch remove create mkdir setsec =
+other-edit (c.Ls path) apart write hwrite cut punch remove create mkdir rm setsec = refl
+other-edit (c.Stat path) apart write hwrite cut punch remove create mkdir rm setsec = refl
+other-edit (c.Links path) apart write hwrite cut punch remove create mkdir rm setsec = refl
+other-edit (c.Cat path stream) apart write hwrite cut punch remove create mkdir rm setsec = refl
+other-edit (c.Read path stream from len) apart write hwrite cut punch remove create mkdir rm setsec = refl
+other-edit (c.Create path) apart write hwrite cut punch remove create mkdir rm setsec = absurd (create path refl)
+other-edit (c.Mkdir path) apart write hwrite cut punch remove create mkdir rm setsec = absurd (mkdir path refl)
+other-edit (c.Rm path) apart write hwrite cut punch remove create mkdir rm setsec = absurd (rm path refl)
+other-edit (c.Rmdir path) apart write hwrite cut punch remove create mkdir rm setsec = refl
+other-edit (c.Ln path new) apart write hwrite cut punch remove create mkdir rm setsec = refl
+other-edit (c.Mv path new) apart write hwrite cut punch remove create mkdir rm setsec = refl
+other-edit (c.Truncate path stream from) apart write hwrite cut punch remove create mkdir rm setsec = absurd (cut path stream from refl)
+other-edit (c.Punch path stream from len) apart write hwrite cut punch remove create mkdir rm setsec = absurd (punch path stream from len refl)
+other-edit (c.Streams path) apart write hwrite cut punch remove create mkdir rm setsec = refl
+other-edit (c.Rmstream path from) apart write hwrite cut punch remove create mkdir rm setsec = absurd (remove path from refl)
+other-edit (c.Attr path) apart write hwrite cut punch remove create mkdir rm setsec = refl
+other-edit (c.Sec path) apart write hwrite cut punch remove create mkdir rm setsec = refl
+other-edit (c.Setsec path id) apart write hwrite cut punch remove create mkdir rm setsec = absurd (setsec path id refl)
+other-edit (c.Sd id) apart write hwrite cut punch remove create mkdir rm setsec = refl
+other-edit (c.Reparse path) apart write hwrite cut punch remove create mkdir rm setsec = refl
+other-edit (c.Mkreparse path tag bytes) apart write hwrite cut punch remove create mkdir rm setsec = refl
+other-edit (c.Rmreparse path) apart write hwrite cut punch remove create mkdir rm setsec = refl
+other-edit (c.Objid path) apart write hwrite cut punch remove create mkdir rm setsec = refl
+other-edit c.Df apart write hwrite cut punch remove create mkdir rm setsec = refl
+other-edit (c.Open path stream access other) apart write hwrite cut punch remove create mkdir rm setsec = refl
+other-edit (c.Hread other from len) apart write hwrite cut punch remove create mkdir rm setsec = refl
+other-edit (c.Close other) apart write hwrite cut punch remove create mkdir rm setsec = refl
+other-edit (c.Time from) apart write hwrite cut punch remove create mkdir rm setsec = refl
+other-edit (c.Setattr path flags) apart write hwrite cut punch remove create mkdir rm setsec = absurd (apart path flags refl)
+other-edit (c.Write path stream from bytes) apart write hwrite cut punch remove create mkdir rm setsec =
     absurd (write path stream from bytes refl)
-other-edit (c.Hwrite handle from bytes) apart write hwrite cut punch remove create mkdir setsec = absurd (hwrite handle from bytes refl)
+other-edit (c.Hwrite handle from bytes) apart write hwrite cut punch remove create mkdir rm setsec = absurd (hwrite handle from bytes refl)

@@ -46,6 +46,10 @@ use Rattle.made_done.specs.MadeOwed.{made_sectors}
 use Rattle.name_changes.specs.Makes.{make_wanted}
 use Rattle.name_changes.specs.MakesFound.{MakesFound}
 use Rattle.name_changes.specs.Staged.{IsOfMaking}
+use Rattle.name_changes.specs.RemovesFound.{RemovesFound}
+use Rattle.drop_places.specs.Goes.{removal_in, removal_wanted}
+use Rattle.drop_places.specs.declared.name.Named.{Named}
+use Rattle.gone_done.specs.GoneOwed.{gone_sectors}
 use Rattle.tree_ops.specs.Tables.{KeepsTables}
 use Rattle.tree_ops.specs.declared.edit.Edit.{Edit}
 use Rattle.tree_ops.specs.declared.edit.Edit.TheVariants as e
@@ -63,6 +67,7 @@ command_of (e.Punch path stream at len) = c.Punch path.now stream.now at len
 command_of (e.Rmstream path name) = c.Rmstream path.now name.now
 command_of (e.Create path) = c.Create path.now
 command_of (e.Mkdir path) = c.Mkdir path.now
+command_of (e.Rm path) = c.Rm path.now
 command_of (e.Setsec path id) = c.Setsec path.now id
 
 -- THE MARK stands in two sectors of a disk of this size, which holds these bytes, and is set in both.
@@ -272,6 +277,21 @@ create_edit directory path moment = record {
   Does = λ old new dir. MakesNamed directory old new dir path moment;
   Of = IsOfMaking;
   most = λ old new dir. made_sectors + 4 + 12 * length (names_of (records_of old) dir);
+}
+
+-- `rm`: a name was found whose file could go with it, and it went
+pub record RemovesNamed (old new : VolumeView) (dir : ℕ) (opens : List OpenEntry) (path : List (List ℕ)) (moment : ℕ) : Type 0 where
+  pub found : Named
+  pub parent : number_within found.standing ≡ dir
+  pub wanted : removal_wanted old opens path ≡ Ok found.link
+  pub removes : RemovesFound old new found moment
+
+abbrev pub remove_edit : List OpenEntry → List (List ℕ) → ℕ → EditOf
+remove_edit opens path moment = record {
+  wanted = λ view. removal_in view opens path;
+  Does = λ old new dir. RemovesNamed old new dir opens path moment;
+  Of = IsOfMaking;
+  most = λ old new dir. gone_sectors + 4 + 12 * length (names_of (records_of old) dir);
 }
 
 -- what is wanted of the volume is this

@@ -74,6 +74,10 @@ pub enum Edit<'c> {
     Mkdir {
         path: &'c Path,
     },
+    /// A file goes with its name.
+    Rm {
+        path: &'c Path,
+    },
     /// The security id of a file is set.
     Setsec {
         path: &'c Path,
@@ -127,6 +131,7 @@ impl<'c> Edit<'c> {
             Command::Rmstream { path, name } => Some(Edit::Rmstream { path, name }),
             Command::Create { path } => Some(Edit::Create { path }),
             Command::Mkdir { path } => Some(Edit::Mkdir { path }),
+            Command::Rm { path } => Some(Edit::Rm { path }),
             Command::Setsec { path, id } => Some(Edit::Setsec { path, id: *id }),
             _ => None,
         }

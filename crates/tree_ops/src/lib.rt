@@ -8,6 +8,7 @@ mod create;
 mod edit;
 mod handles;
 mod place;
+mod remove;
 mod secure;
 mod security;
 mod streams;

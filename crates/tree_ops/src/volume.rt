@@ -26,6 +26,7 @@ ghost use Rattle.tree_ops.specs.Replies.{edit_reply};
 use crate::close::CloseNo;
 use crate::commands::answer;
 use crate::create::create;
+use crate::remove::remove;
 use crate::edit::{Edit, set_flags};
 use crate::secure::set_security;
 use crate::streams::{StreamEdit, edit_stream, hwrite};
@@ -230,6 +231,24 @@ impl<D: Disk> Volume<'_, D> {
         reply_to(ended)
     }
 
+    // `rm`
+    fn remove(&mut self, session: u8, path: &Path) -> Reply
+        requires serves { Serves D.Disk self.old }
+        requires shown { SetsShown (command_is.Rm path.now) }
+        ensures { Replies D.Disk self.old self.new session (command_is.Rm path.now) result }
+    {
+        let ended = remove(
+            self.alloc,
+            &mut self.mft,
+            &mut self.last,
+            &mut self.mark,
+            &self.opens,
+            self.moment,
+            path,
+        );
+        reply_to(ended)
+    }
+
     // An edit is done.
     fn edit(&mut self, session: u8, edit: Edit<'_>) -> Reply
         requires serves { Serves D.Disk self.old }
@@ -265,6 +284,7 @@ impl<D: Disk> Volume<'_, D> {
             Edit::Rmstream { path, name } => self.remove_stream(session, path, name),
             Edit::Create { path } => self.create(session, path, false),
             Edit::Mkdir { path } => self.create(session, path, true),
+            Edit::Rm { path } => self.remove(session, path),
             Edit::Setsec { path, id } => self.secure(session, path, id),
         }
     }
