@@ -79,7 +79,7 @@ goes-so view link can =
     }
 
 -- the one name of a list
-only-one : {A : Type 0} (xs : List A) → (length xs == 1) ≡ true → (x : A) × (xs ≡ x ∷ [])
+pub only-one : {A : Type 0} (xs : List A) → (length xs == 1) ≡ true → (x : A) × (xs ≡ x ∷ [])
 only-one [] e = cc
 only-one (x ∷ []) e = (x, refl)
 only-one (x ∷ y ∷ xs) e = absurd (omega (arith, eqb-true (length (x ∷ y ∷ xs)) 1 e))

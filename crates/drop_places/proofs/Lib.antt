@@ -9,3 +9,5 @@ pub mod FlagLaws
 pub mod FoundLaws
 pub mod FindSteps
 pub mod OutcomeLaws
+pub mod PathLaws
+pub mod RemovalLaws

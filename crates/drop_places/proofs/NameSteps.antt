@@ -26,7 +26,7 @@ use Rattle.drop_places.specs.Named.{IsNamed, link_found, link_wanted, named_by}
 use Rattle.drop_places.specs.declared.name.Named.{Named}
 
 -- a name that was found and is shown
-reached-link : (tree : Tree) (at : Option Link) (link : Link) → reached tree at ≡ Ok (found.Link link)
+pub reached-link : (tree : Tree) (at : Option Link) (link : Link) → reached tree at ≡ Ok (found.Link link)
     → (at ≡ Some link) × IsSome (shown_node tree link)
 reached-link tree None link e = cc
 reached-link tree (Some other) link e = by (shown_node tree other) refl e

@@ -16,6 +16,7 @@ use Rattle.volume_def.specs.FileNames.{names_of}
 use Rattle.volume_def.specs.Files.{records_of}
 use Rattle.volume_def.specs.IndexesClause.{IsDirectoryIndex}
 use Rattle.volume_def.specs.Table.{cluster_bytes}
+use Rattle.volume_def.specs.Sound.{IsSound}
 use Rattle.volume_def.specs.View.{VolumeView}
 use Rattle.tree_model.specs.Bill.{Change, bill_of, bill_with, changes_of, clusters_of, counted_drops, counted_in, counted_of}
 use Rattle.tree_model.specs.Bill.{directory_change, is_entry_of, is_touched, links_with, object_id_change, point_change, touched_file, touches_file}
@@ -30,14 +31,12 @@ use Rattle.tree_model.specs.Tree.{Tree, is_in}
 use Rattle.tree_model.specs.declared.command.Command.{Command}
 use Rattle.tree_model.specs.declared.command.Command.TheVariants as c
 use Rattle.tree_model.specs.declared.tree.Link.{Link}
-use Rattle.tree_model.specs.declared.tree.Node.{Node}
 use Rattle.tree_model.proofs.ShownLaws.{link-named}
 use Rattle.name_edits.proofs.OnceNames.{named_item}
 use Rattle.command_edits.proofs.CallsRead.{parent-index}
 use Rattle.command_edits.proofs.SoundBetween.{between-sound, sound-whole}
 use Rattle.made_edits.proofs.SameLink.{is_link-exact}
 use Rattle.in_place_owed.proofs.CostLaws.{link-among}
-use Rattle.gone_edits.specs.Goes.{CanGo}
 use Rattle.gone_owed.specs.GoneOwed.{IsUnlinked, at_gone}
 use Rattle.gone_owed.proofs.GoneTree.{dropped-child}
 use Rattle.gone_owed.proofs.InnerEntry.{inner-entry}
@@ -81,8 +80,8 @@ inner-more view index p q more =
     and_from (is_some node.last) (holds_entry q node) both.0
     (any-more (λ (entry : Entry). p entry.item) (λ (entry : Entry). q entry.item) node.entries (λ entry. more entry.item) both.1))
 
-module _ (view : VolumeView) (path : List (List ℕ)) (n : ℕ) (file parent : Node) (name : FileName)
-    (can : CanGo view n name.parent.number file parent name) (exit : has_exit view name.parent.number name.units ≡ true)
+module _ (view : VolumeView) (path : List (List ℕ)) (n : ℕ) (name : FileName) (sound : IsSound view)
+    (only : names_of (records_of view) n ≡ name ∷ []) (exit : has_exit view name.parent.number name.units ≡ true)
     (unlinked : IsUnlinked (at_gone (read view) n name)) where
   abbrev dir : ℕ
   dir = name.parent.number
@@ -100,10 +99,10 @@ module _ (view : VolumeView) (path : List (List ℕ)) (n : ℕ) (file parent : N
   link = link_for n name
 
   among : Contains (names_of (records_of view) n) name
-  among = subst (λ (xs : List FileName). Contains xs name) (sym can.only) (Contains-head name [])
+  among = subst (λ (xs : List FileName). Contains xs name) (sym only) (Contains-head name [])
 
   index : IsDirectoryIndex view dir
-  index = parent-index view (between-sound view (sound-whole view can.directory.sound)) n name among
+  index = parent-index view (between-sound view (sound-whole view sound)) n name among
 
   -- THE LINK goes alone.
   dropped-is : (other : Link) → Contains (links_with tree link) other → other ≡ link
@@ -112,7 +111,7 @@ module _ (view : VolumeView) (path : List (List ℕ)) (n : ℕ) (file parent : N
       let there = (Contains-from_filter _ tree.links other c).0 in
       let named = link-named view other (link-among view other (Contains-append_left tree.links tree.hidden other there)) in
       let its = subst (λ (f : ℕ). Contains (names_of (records_of view) f) named.name) child named.there in
-      let same = Contains-only name named.name (subst (λ (xs : List FileName). Contains xs named.name) can.only its) in
+      let same = Contains-only name named.name (subst (λ (xs : List FileName). Contains xs named.name) only its) in
       sym named.same ∙ ap (λ (f : ℕ). link_for f named.name) child ∙ ap (link_for n) (sym same)
 
   -- .. and its entry stands in no node with children

@@ -178,7 +178,7 @@ module _ (before next : State) (n : ℕ) (file parent : Node) (name : FileName) 
   bill-is : (path : List (List ℕ)) → bill_of old tree (c.Rm path) leads ≡ empty_bill
   bill-is path =
       subst (λ (t : Tree). bill_of old t (c.Rm path) (at_gone t n name) ≡ empty_bill) s.stands.reading
-      (bill-gone old path n file parent name s.can s.exit
+      (bill-gone old path n name s.can.directory.sound s.can.only s.exit
       (subst (λ (t : Tree). IsUnlinked (at_gone t n name)) (sym s.stands.reading) s.unlinked))
 
   -- the file is that which the command takes away

@@ -64,6 +64,12 @@ tables-taken g a b n d least taken =
     tables-made g a b d
     (ap (λ (m : Mounted). length m.records) (sym d.mounted ∙ taken) ∙ record_taken-length (mounted_of g a) n least.free.1)
 
+-- .. or given back
+pub tables-given : {D : Type 0} (g : Ghosts D) (a b : Mft D g) (n : ℕ) → make.KeepsDevice g a b
+    → n < length (mounted_of g a).records → mounted_of g b ≡ with_record_given (mounted_of g a) n → KeepsTables g a b
+tables-given g a b n d inside given =
+    tables-made g a b d (ap (λ (m : Mounted). length m.records) (sym d.mounted ∙ given) ∙ record_given-length (mounted_of g a) n inside)
+
 -- a call that kept the tables, and then one that kept these
 pub tables-behind : {D : Type 0} (g : Ghosts D) (a b c : Mft D g) → KeepsDisk g a b → KeepsTables g b c → KeepsTables g a c
 tables-behind g a b c first second = record {
