@@ -29,8 +29,8 @@ use Rattle.edit_def.specs.OneFile.{IsTabled}
 use Rattle.edit_def.specs.Purses.{part_size}
 use Rattle.session_def.specs.Named.{has_entry_of, is_own_key, is_times_key}
 use Rattle.session_def.specs.State.{Stands, State}
-use Rattle.made_owed.specs.Attributes as attributes
-use Rattle.made_owed.proofs.AttributesSet as edits
+use Rattle.attribute_edits.specs.Attributes as attributes
+use Rattle.attribute_edits.proofs.AttributesSet as edits
 use Rattle.in_place_done.specs.Steps.{without_link, without_node}
 use Rattle.in_place_done.specs.SetsInPlace.{StandsAlone, is_node_kind, is_set_key}
 use Rattle.in_place_done.proofs.CallsOwed.{stands-alone}

@@ -22,7 +22,7 @@ use Rattle.session_def.specs.State.{dirty_flag}
 use Rattle.in_place_done.specs.Unnamed.{LiesApart}
 use Rattle.in_place_done.specs.LeavesAlone.{LeavesAlone}
 use Rattle.in_place_done.proofs.LeftAlone.{boot-other, has-boot}
-use Rattle.made_owed.specs.Left.{is_entry_key}
+use Rattle.made_edits.specs.Left.{is_entry_key}
 use Rattle.gone_owed.specs.Left.{LeavesRest}
 
 -- the directory is the root directory or no file of the system

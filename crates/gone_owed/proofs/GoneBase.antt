@@ -1,8 +1,7 @@
 -- WHAT THE FILE THAT WENT LEFT, as `gone_edits` tells it of the volume before and the one between; and what came behind, as one rewrite.
-use Rattle.std.proofs.Common.{◌≡◌, ◌≢◌, ◌<◌, ◌≤◌, ◌==◌, ℕ, Bool, true, false, List, [], None, refl, ap, subst, ◌∙◌}
+use Rattle.std.proofs.Common.{◌≡◌, ◌≢◌, ◌≤◌, ℕ, Bool, true, false, List, [], None, refl, ap, subst, ◌∙◌}
 use Rattle.ntfs_def.specs.FileName.{FileName}
 use Rattle.ntfs_def.specs.declared.kinds.TheConstants.{FILE_NAME}
-use Rattle.volume_def.specs.Files.{parts, record_on, records_of}
 use Rattle.volume_def.specs.Table.{cluster_bytes}
 use Rattle.volume_def.specs.View.{VolumeView}
 use Rattle.tree_model.specs.Drops.{is_last_name}

@@ -1,5 +1,5 @@
 -- THE BILL of `rm`: the entry of the name stands in no node with children, and no key of $R or $O goes, so it counts nothing and is empty.
-use Rattle.std.proofs.Common.{◌≡◌, ◌+◌, ◌==◌, ◌&&◌, ◌++◌, not, ℕ, Bool, true, false, cond, List, [], ◌∷◌, filter, map, length, nat_lt}
+use Rattle.std.proofs.Common.{◌≡◌, ◌+◌, ◌&&◌, ◌++◌, ℕ, Bool, true, false, cond, List, [], ◌∷◌, filter, map, length, nat_lt}
 use Rattle.std.proofs.Common.{append-nil, append_assoc, refl, sym, ap, subst, ◌∙◌}
 use Rattle.std.proofs.lemmas.Bool.{and_from, and_parts, eqb-true, false_from_ne_true}
 use Rattle.std.proofs.lemmas.List.Elements.{Contains-append_left}
@@ -7,7 +7,6 @@ use Rattle.std.proofs.lemmas.Slice.Eq.{bytes_eq-Decides}
 use Rattle.std.specs.List.{Contains, list_any, range_with_len}
 use Rattle.std.specs.Option.{option_to_list}
 use Rattle.std.specs.Prelude.{is_some}
-use Rattle.std.specs.Str.{bytes_eq}
 use Rattle.list_laws.proofs.FindLaws.{any-more, list_any-map, passing, some-counted}
 use Rattle.list_laws.proofs.MemberLaws.{Contains-from_filter, Contains-head, Contains-only}
 use Rattle.ntfs_def.specs.FileName.{FileName, key_units, link_of, name_in}
@@ -20,7 +19,6 @@ use Rattle.volume_def.specs.Sound.{IsSound}
 use Rattle.volume_def.specs.View.{VolumeView}
 use Rattle.tree_model.specs.Bill.{Change, bill_of, bill_with, changes_of, clusters_of, counted_drops, counted_in, counted_of}
 use Rattle.tree_model.specs.Bill.{directory_change, is_entry_of, is_touched, links_with, object_id_change, point_change, touched_file, touches_file}
-use Rattle.tree_model.specs.Drops.{is_link}
 use Rattle.tree_model.specs.IndexRoom.{Index, all_nodes, directory_index, has_inner_entry, holds_entry, is_object_id_item, is_point_item}
 use Rattle.tree_model.specs.IndexRoom.{object_id_index, point_index}
 use Rattle.tree_model.specs.Leaving.{has_exit}

@@ -1,5 +1,5 @@
 -- NODES AND NAMES behind the command: the file is none, and what the tree does not show of all others stays.
-use Rattle.std.proofs.Common.{◌≡◌, ◌≢◌, ◌==◌, ◌++◌, not, ℕ, Bool, true, false, List, [], ◌∷◌, map, filter, Option, Some, None}
+use Rattle.std.proofs.Common.{◌≡◌, ◌≢◌, ◌==◌, ◌++◌, not, ℕ, Bool, true, false, List, [], map, filter, Option, Some, None}
 use Rattle.std.proofs.Common.{inl, inr, refl, sym, ap, subst, ◌∙◌, if◌then◌else◌}
 use Rattle.std.proofs.lemmas.Bool.{and_right, cases_eq, eq-eqb}
 use Rattle.std.specs.List.{Contains}

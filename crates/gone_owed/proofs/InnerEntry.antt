@@ -1,18 +1,15 @@
 -- THE ENTRY OF A NAME that can go out of the index of its directory stands in no node with children: a directory has a name once, and this
 -- one stands in a leaf.
-use Rattle.std.proofs.Common.{◌≡◌, ◌≤◌, ◌&&◌, Bool, true, false, ℕ, zero, suc, List, [], Option, Some, None, refl, sym, ap, ◌∙◌, arith}
+use Rattle.std.proofs.Common.{◌≡◌, ◌&&◌, Bool, true, false, ℕ, zero, suc, List, [], Option, Some, None, refl, sym, ap, ◌∙◌, arith}
 use Rattle.std.proofs.Common.{inl, inr}
 use Rattle.std.proofs.lemmas.Bool.{and_parts, or_cases}
 use Rattle.std.proofs.lemmas.Slice.Eq.{bytes_eq-Decides}
 use Rattle.std.specs.List.{list_any}
 use Rattle.std.specs.Option.{option_map_or}
 use Rattle.std.specs.Prelude.{count_by, is_some, nat_le, not, length}
-use Rattle.std.specs.Str.{bytes_eq}
-use Rattle.std.specs.declared.cmp.Ordering.{Ordering}
 use Rattle.std.specs.declared.cmp.Ordering.TheVariants.{Equal}
 use Rattle.ntfs_def.specs.FileName.{key_units}
 use Rattle.ntfs_def.specs.IndexTree.{Nodes, Spread, Tree, most_depth, node_of}
-use Rattle.ntfs_def.specs.KeyOrder.{compare_units}
 use Rattle.ntfs_def.specs.Node.{Item, Node, short_node}
 use Rattle.ntfs_def.specs.declared.index.NodeForm.TheVariants.{Names}
 use Rattle.ntfs_def.proofs.KeyOrderLaws.{numbers_equal, then_both}
@@ -27,7 +24,7 @@ use Rattle.tree_model.specs.RootEntry.{has_root_entry, is_in_root}
 use Rattle.tree_model.specs.RootRoom.{has_list, is_root_leaf}
 use Rattle.name_edits.proofs.OnceNames.{named_item, once-item}
 use Rattle.index_puts.proofs.HeldLaws.{root-value}
-use Rattle.gone_owed.proofs.LeafItems.{inner-none, inner_holds, inner_times, leaf-counted, leaf_times, total-times}
+use Rattle.gone_owed.proofs.LeafItems.{inner-none, inner_holds, inner_times, leaf-counted, total-times}
 
 -- a leaf that has an entry of the name
 record HitLeaf (view : VolumeView) (dir : ℕ) (units : List ℕ) : Type 0 where

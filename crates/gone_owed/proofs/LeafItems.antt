@@ -1,6 +1,6 @@
 -- ITEMS OF LEAVES: how often items that pass a test stand in leaves of a tree, and how often in nodes with children; and that the search
 -- for a key ends in a leaf of the tree.
-use Rattle.std.proofs.Common.{◌≡◌, ◌+◌, ◌≤◌, ◌&&◌, ◌||◌, Bool, true, false, ℕ, zero, suc, map, List, [], ◌∷◌, ◌++◌, Option, Some, None}
+use Rattle.std.proofs.Common.{◌≡◌, ◌+◌, ◌≤◌, ◌&&◌, ◌||◌, Bool, true, false, ℕ, zero, suc, map, List, [], ◌∷◌, ◌++◌, Some}
 use Rattle.std.proofs.Common.{append-nil, refl, sym, ap, ◌∙◌, arith}
 use Rattle.std.proofs.lemmas.List.Folds.{list_any-append}
 use Rattle.std.specs.List.{filter_map, flat_map, list_any}
@@ -14,7 +14,7 @@ use Rattle.list_laws.proofs.SameItemsLaws.{count-append}
 use Rattle.ntfs_def.specs.IndexTree.{AreStored, Branch, EachBelow, IsStored, Nodes, Spread, Tree, branch_items, branch_times, child_of}
 use Rattle.ntfs_def.specs.IndexTree.{entry_of, items_of, most_depth, node_of, spread_items}
 use Rattle.ntfs_def.specs.Node.{Entry, Item, Node}
-use Rattle.tree_model.specs.IndexRoom.{children_in, holds_entry, nodes_under}
+use Rattle.tree_model.specs.IndexRoom.{holds_entry, nodes_under}
 use Rattle.tree_model.specs.LeafEntry.{hit_beside, hits_on}
 use Rattle.tree_model.specs.LeafRoom.{child_beside, child_on, leaf_of, leaf_under}
 use Rattle.index_puts.proofs.LeafLaws.{leaf_step}

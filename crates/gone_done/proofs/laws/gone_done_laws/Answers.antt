@@ -2,4 +2,4 @@ use Rattle.gone_done.proofs.Leaves.{leaves}
 use Rattle.gone_done.proofs.laws.gone_done_laws.Goals as goal
 
 pub returns : goal.returns
-returns c = leaves
+returns c = record { leaves = leaves }
