@@ -1,16 +1,16 @@
 -- A FILE THAT GOES: what stands before each step, and what the steps are together.
-use Rattle.std.proofs.Common.{◌≡◌, ◌+◌, ◌*◌, ◌≤◌, ℕ, List, Option, filter, refl, sym, ap, subst, ◌∙◌}
+use Rattle.std.proofs.Common.{◌≡◌, ◌+◌, ◌*◌, ◌≤◌, ℕ, List, [], Option, filter, refl, sym, ap, subst, ◌∙◌}
 use Rattle.std.specs.Prelude.{IsSomeAnd, IsTrue, nat_lt}
 use Rattle.ntfs_def.specs.FileName.{key_units}
 use Rattle.ntfs_def.specs.declared.kinds.TheConstants.{BITMAP}
 use Rattle.ntfs_def.specs.declared.records.TheConstants.{MFT}
-use Rattle.volume_def.specs.BitmapClauses.{record_bits}
+use Rattle.volume_def.specs.BitmapClauses.{record_bits, written_by}
 use Rattle.volume_def.specs.Coverage.{IsApart}
-use Rattle.volume_def.specs.Files.{Part, Record, is_base, is_of, record_on}
+use Rattle.volume_def.specs.Files.{Part, Record, is_base, is_of}
 use Rattle.volume_def.specs.IndexesClause.{IsDirectoryIndex}
 use Rattle.volume_def.specs.Readable.{IsFile}
 use Rattle.volume_def.specs.Table.{LiesOn, TableLayout}
-use Rattle.volume_def.specs.Values.{first_part, written_by}
+use Rattle.volume_def.specs.Values.{first_part}
 use Rattle.volume_def.specs.View.{VolumeView}
 use Rattle.volume_edits.proofs.OwnerLaws.{layout-lies_apart}
 use Rattle.mft_table.specs.declared.mounted.Mounted.{Mounted}
@@ -39,7 +39,7 @@ module _ (old : VolumeView) (was : Mounted) (n dir : ℕ) (is : IsSoundVolume ol
   right : AreRight old (marks_of was)
   right = right-marks old was is
 
-  ready : IsReady old (marks_of was)
+  pub ready : IsReady old (marks_of was)
   ready = ready-sound old (marks_of was) is.sound may.can.directory.apart right
 
   -- the directory is that of the name
@@ -65,10 +65,10 @@ module _ (old : VolumeView) (was : Mounted) (n dir : ℕ) (is : IsSoundVolume ol
   }
 
   -- IT HAS ONE NAME,
-  is-file : IsFile old n
+  pub is-file : IsFile old n
   is-file = file old n may.file may.can.there
 
-  pub one-name : (sectors : ℕ) → LiesOn sectors old.layout → HasOneName old (marks_of was) n
+  abbrev pub one-name : (sectors : ℕ) → LiesOn sectors old.layout → HasOneName old (marks_of was) n
   one-name sectors lies = record {
     ready = ready;
     apart = layout-lies_apart old (owners-of old (marks_of was) ready) lies.some lies.on_volume;

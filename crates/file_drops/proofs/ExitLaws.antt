@@ -77,6 +77,6 @@ module _ (view : VolumeView) (marks : Marks) (file : FileParts) (table key : Lis
   leaf-entry none =
       let leaf = has_leaf_entry view (file_number file) (key_units key) in
       elim (or_cases leaf (has_root_entry view (file_number file) (key_units key)) can.entry) [
-        | inl yes ↦ yes
+        | inl there ↦ there
         | inr root ↦ absurd (both_ways (has_root_entry view (file_number file) (key_units key)) none root)
       ]

@@ -1,11 +1,11 @@
 -- THE NAME OF A FILE in the record that is held first, and what goes with it.
-use Rattle.std.proofs.Common.{◌≡◌, ◌+◌, ◌*◌, ◌<◌, ◌≤◌, ◌==◌, ℕ, false, List, [], ◌∷◌, Option, Some, None, eq-eqb, filter, length}
+use Rattle.std.proofs.Common.{◌≡◌, ◌+◌, ◌*◌, ◌≤◌, ℕ, false, List, [], ◌∷◌, Option, Some, None, eq-eqb, filter, length}
 use Rattle.std.proofs.Common.{map, refl, sym, ap, subst, ◌∙◌, inl, inr}
-use Rattle.std.specs.Prelude.{Contains, IfSome, IsSomeAnd, IsTrue, OnErr, OnOk, Result, filter_map, option_map, slice_get}
+use Rattle.std.specs.Prelude.{Contains, IfSome, IsSomeAnd, IsTrue, OnErr, OnOk, Result, option_map, slice_get}
 use Rattle.std.proofs.lemmas.List.Elements.{All-contains}
 use Rattle.std.proofs.lemmas.Result.{on_ok_weaker}
 use Rattle.list_laws.proofs.MemberLaws.{Contains-filter, Contains-filter_map, Contains-flat_map, Contains-map, Contains-only}
-use Rattle.ntfs_def.specs.Attribute.{Attribute, attributes, value_of}
+use Rattle.ntfs_def.specs.Attribute.{Attribute, attributes}
 use Rattle.ntfs_def.specs.FileName.{FileName, key_units, name_in}
 use Rattle.ntfs_def.specs.declared.kinds.TheConstants.{FILE_NAME}
 use Rattle.ntfs_def.proofs.AttributeLaws.{slice_get-attributes}
@@ -15,7 +15,6 @@ use Rattle.vol_stage.specs.Staged.{StagesOnly}
 use Rattle.volume_def.specs.Coverage.{IsApart}
 use Rattle.volume_def.specs.FileNames.{is_file_name, names_of}
 use Rattle.volume_def.specs.Files.{Part, Record, content_value, file_of, part_of, parts, record_on, records_of}
-use Rattle.volume_def.specs.ListsClause.{IsAlone}
 use Rattle.volume_def.specs.Table.{TableLayout}
 use Rattle.volume_def.specs.View.{VolumeView}
 use Rattle.volume_edits.specs.Rewritten.{CountsLinks}
@@ -23,10 +22,10 @@ use Rattle.mft_table.specs.declared.mft.Mft.{Mft}
 use Rattle.mft_table.specs.Mft.{KeepsDisk, MftReads, MftReserves, MftStages, is_mft_broken, stage_of, view}
 use Rattle.mft_table.specs.Staging.{record_places}
 use Rattle.mft_table.proofs.DiskKept.{KeepsDisk-reads}
-use Rattle.file_record.specs.Attributes.{RemovesAttribute, opened_record}
+use Rattle.file_record.specs.Attributes.{RemovesAttribute}
 use Rattle.file_record.specs.declared.held.Held.{Held}
 use Rattle.file_record.specs.declared.parts.FileParts.{FileParts}
-use Rattle.file_record.specs.Held.{AreParts, RecordHeld, file_number, held_of, parts_held, parts_of}
+use Rattle.file_record.specs.Held.{AreParts, RecordHeld, file_number, held_of, parts_of}
 use Rattle.file_record.specs.Links.{HoldsBase, HoldsSame}
 use Rattle.file_record.specs.Records.{IsRecordOf}
 use Rattle.file_record.specs.Written.{IsWholeFile}

@@ -1,4 +1,4 @@
-use Rattle.std.proofs.Common.{◌<◌, length, List, sym, ap, subst, ◌∙◌}
+use Rattle.std.proofs.Common.{◌<◌, ℕ, length, List, sym, ap, subst, ◌∙◌}
 use Rattle.std.specs.Prelude.{IsTrue}
 use Rattle.std.proofs.lemmas.Result.{on_ok_weaker}
 use Rattle.ntfs_def.specs.FileName.{is_name_key, key_units}

@@ -3,7 +3,6 @@ use Rattle.std.specs.Prelude.{IsTrue}
 use Rattle.std.proofs.lemmas.Result.{on_ok_weaker}
 use Rattle.volume_def.specs.View.{VolumeView}
 use Rattle.mft_table.specs.declared.mounted.Mounted.{Mounted}
-use Rattle.mft_table.specs.MirrorClusters.{IsMirrorInside}
 use Rattle.mft_table.specs.Mft.{mounted_of, view}
 use Rattle.mft_table.proofs.DiskKept.{KeepsDisk-reads, KeepsDisk-then}
 use Rattle.file_record.specs.Held.{file_number}
@@ -30,7 +29,7 @@ take_from_index-requires-clause-can g c told_then =
     (can-exit old (marks_of (mounted_of g.D.Disk c.args.mft.now)) c.args.dir c.in_ok-directory.directory
     (mounted_of g.D.Disk c.args.mft.now).upcase c.in_ok-upcase.upcase c.args.key.now may given.number
     (c.in_ok-upcase.ensures.same ∙ ap (λ (m : Mounted). m.upcase) c.mounted.ensures)
-    (given.parts told readable may.ready_for.is_file) (given.held told) (given.own told) (given.rising told)))
+    (given.parts told readable may.ready_for.is_file) (given.own told) given.rising))
 
 pub returns-clause-exits : goal.returns-clause-exits
 returns-clause-exits g c = on_ok_weaker c.take_from_index.result (λ exits told.

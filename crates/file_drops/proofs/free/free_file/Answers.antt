@@ -2,7 +2,7 @@ use Rattle.std.proofs.Common.{sym, subst, ◌∙◌, arith}
 use Rattle.std.specs.Prelude.{IsTrue}
 use Rattle.std.proofs.lemmas.Result.{on_ok_weaker}
 use Rattle.mft_table.specs.declared.mounted.Mounted.{Mounted}
-use Rattle.mft_table.specs.Mft.{mounted_of, view}
+use Rattle.mft_table.specs.Mft.{view}
 use Rattle.record_bits.specs.HeldRecordBits.{HasRows}
 use Rattle.file_drops.proofs.FreeLaws.{cleared-few, cleared-places, left-layout, left-places}
 use Rattle.file_drops.proofs.free.free_file.Goals as goal

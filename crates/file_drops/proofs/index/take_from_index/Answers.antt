@@ -1,7 +1,6 @@
-use Rattle.std.proofs.Common.{◌≡◌, List, ℕ, inl, inr, sym, subst, ◌∙◌}
+use Rattle.std.proofs.Common.{inl, inr, sym, subst, ◌∙◌}
 use Rattle.std.proofs.lemmas.Result.{on_ok_weaker}
 use Rattle.vol_stage.specs.Staged.{disk_of}
-use Rattle.volume_def.specs.View.{VolumeView}
 use Rattle.ntfs_def.specs.FileName.{key_units}
 use Rattle.mft_table.specs.Mft.{mounted_of, stage_of, view}
 use Rattle.file_record.specs.Held.{file_number}
