@@ -15,7 +15,8 @@ use std::test;
 
 const SECTORS: u16 = 2048;
 
-// `a` has five bytes, and two more in its stream `s`. The record of `x` has 96 bytes left, and its last stream has four.
+// `a` has five bytes, and two more in its stream `s`. The record of `x` has 96 bytes left, and its last stream has four, which move into a
+// cluster with 94; `s03` has none, and so does not.
 const ROWS: [Row; 38] = [
     ("time 9", "ok\n"),
     ("write /a 1 4142", "ok\n"),
@@ -36,7 +37,7 @@ const ROWS: [Row; 38] = [
     ("write /x:s19 93 41", "no 28 Unbuilt\n"),
     ("truncate /x:s19 93", "ok\n"),
     ("read /x:s19 0 6", "data 6c6173740000\nok\n"),
-    ("truncate /x:s03 16", "no 28 Unbuilt\n"),
+    ("truncate /x:s03 200", "no 28 Unbuilt\n"),
     ("truncate /x:s19 1", "ok\n"),
     ("write /x:s03 2 41", "ok\n"),
     ("cat /x:s03", "data 000041\nok\n"),
