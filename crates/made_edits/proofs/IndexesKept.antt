@@ -1,6 +1,6 @@
 -- STREAMS AND INDEXES where the index of a directory was changed and all else was left: an index keeps its headers, its records and its
 -- bits.
-use Rattle.std.proofs.Common.{◌≡◌, ◌≢◌, ◌≤◌, ◌/◌, ◌==◌, ◌&&◌, not, ℕ, true, false, List, [], codes}
+use Rattle.std.proofs.Common.{◌≡◌, ◌≢◌, ◌≤◌, ◌/◌, ◌==◌, ◌&&◌, ℕ, true, false, List, [], codes}
 use Rattle.std.proofs.Common.{None, Option, Some, refl, sym, ap, subst, inl, inr, ◌∙◌, arith}
 use mathlib.Core.Path.{fun_ext}
 use Rattle.std.specs.Prelude.{IfSome, nat_le}
@@ -14,7 +14,7 @@ use Rattle.ntfs_def.specs.declared.kinds.TheConstants.{BITMAP, INDEX_ALLOCATION,
 use Rattle.ntfs_def.specs.declared.lengths.TheConstants.{INDEX_RECORD}
 use Rattle.ntfs_def.specs.declared.records.TheConstants.{FIRST_ORDINARY, MFT}
 use Rattle.volume_def.specs.FileNames.{names_of}
-use Rattle.volume_def.specs.Files.{Part, parts, parts_at, records_of}
+use Rattle.volume_def.specs.Files.{Part, parts_at, records_of}
 use Rattle.volume_def.specs.IndexesClause.{is_in_extend}
 use Rattle.volume_def.specs.StreamSize.{told_size}
 use Rattle.volume_def.specs.Table.{TableLayout}
