@@ -1,5 +1,5 @@
 -- AN ENTRY THAT EXITED the index of a directory: what holds then, whichever way it went.
-use Rattle.std.proofs.Common.{◌≡◌, ◌==◌, ◌&&◌, ℕ, true, false, List, [], ◌∷◌, ◌++◌, codes, inl, inr, refl, sym, ap, subst, ◌∙◌}
+use Rattle.std.proofs.Common.{◌≡◌, ◌==◌, ◌&&◌, ℕ, true, false, List, [], ◌∷◌, ◌++◌, codes, inl, inr, refl, sym, ap, subst, ◌∙◌, arith}
 use Rattle.std.specs.List.{Contains}
 use Rattle.std.specs.Str.{bytes_eq}
 use Rattle.std.specs.declared.cmp.Ordering.TheVariants.{Equal}
@@ -41,7 +41,7 @@ use Rattle.index_puts.specs.PutsRoot.{IsRootAt}
 use Rattle.index_takes.specs.TakesItem.{TakesItem}
 use Rattle.index_takes.proofs.TakeVolume.{as-put}
 use Rattle.root_puts.specs.PutsInRoot.{WritesRecord, root_key}
-use Rattle.root_puts.proofs.RootCall.{holder-is}
+use Rattle.root_puts.proofs.RootCall as call
 use Rattle.made_edits.specs.Left.{KeepsOwnIndex, index_name}
 use Rattle.made_edits.proofs.Entered.{Entered}
 use Rattle.made_edits.proofs.IndexPut.{entered-record, one-items}
@@ -49,7 +49,6 @@ use Rattle.made_edits.proofs.KeyLaws.{entry-index, entry-room, entry_key}
 use Rattle.made_edits.proofs.OwnIndex.{no-cluster}
 use Rattle.root_takes.specs.Exits.{ExitsRoot, TakesRootItem}
 use Rattle.gone_edits.specs.Exits.{ExitsIndex}
-use Rattle.root_takes.proofs.RootCut as cut
 
 -- an item of this key
 abbrev pub like : List ℕ → Item
@@ -164,7 +163,7 @@ module _ (old new : VolumeView) (dir : ℕ) (key : List ℕ) (marks : Marks) (re
   takes = exits.takes
 
   at-dir : takes.holder ≡ dir
-  at-dir = holder-is old dir takes.holder takes.at takes.before takes.is_root marks ready exits.one
+  at-dir = call.holder-is old dir takes.holder takes.at takes.before takes.is_root marks ready exits.one
 
   root : IsRootAt old dir dir takes.at takes.before
   root = subst (λ n. IsRootAt old dir n takes.at takes.before) at-dir takes.is_root
@@ -173,18 +172,18 @@ module _ (old new : VolumeView) (dir : ℕ) (key : List ℕ) (marks : Marks) (re
   sets = subst (λ n. ChangesValue old new n takes.at (λ value. takes.after)) at-dir takes.sets
 
   writes-root : WritesRecord old new dir
-  writes-root = cut.writes-record old new dir takes.at takes.before takes.after root sets marks ready exits.one
+  writes-root = call.writes-record old new dir takes.at takes.before takes.after root sets marks ready exits.one
 
   same-parts : (f kind : ℕ) (name : List ℕ) → same_key (root_key dir) (key_of f kind name) ≡ false
       → parts_at new f kind name ≡ parts_at old f kind name
-  same-parts = cut.parts-same old new dir takes.at takes.before takes.after root sets marks ready exits.one
+  same-parts = call.parts-same old new dir takes.at takes.before takes.after root sets marks ready exits.one
 
   -- the root has no cluster, and the other parts of the index stay
   spots : (kind vcn : ℕ) → is_cluster (spot_at (parts_at new dir kind index_name) vcn) ≡ true
       → spot_at (parts_at new dir kind index_name) vcn ≡ spot_at (parts_at old dir kind index_name) vcn
   spots kind vcn is = elim (cases_Bool (INDEX_ROOT == kind)) [
     | inl own ↦ absurd (no-cluster (parts_at new dir INDEX_ROOT index_name)
-        (cut.root-runs old new dir takes.at takes.before takes.after root sets marks ready exits.one) vcn
+        (call.root-runs old new dir takes.at takes.before takes.after root sets marks ready exits.one) vcn
         (subst (λ kind. is_cluster (spot_at (parts_at new dir kind index_name) vcn) ≡ true) (sym (eqb-true INDEX_ROOT kind own)) is))
     | inr free ↦ ap (λ (xs : List Part). spot_at xs vcn)
         (same-parts dir kind index_name (and_left (INDEX_ROOT == kind) ((dir == dir) && bytes_eq index_name index_name) free))
@@ -192,10 +191,14 @@ module _ (old new : VolumeView) (dir : ℕ) (key : List ℕ) (marks : Marks) (re
 
   own-index : KeepsOwnIndex old new dir
   own-index = record {
-    head = cut.root-kept old new dir takes.at takes.before takes.after root sets marks ready exits.one takes.long takes.shorter takes.head;
+    head =
+        let long = takes.long in
+        let shorter = takes.shorter in
+        call.root-kept old new dir takes.at takes.before takes.after root sets marks ready exits.one refl
+        (omega (arith, long, shorter)) long takes.head;
     records = same-parts dir INDEX_ALLOCATION index_name refl;
     bits = same-parts dir BITMAP index_name refl;
-    flags = cut.values-same old new dir takes.at takes.before takes.after root sets marks ready exits.one dir BITMAP index_name refl refl;
+    flags = call.values-same old new dir takes.at takes.before takes.after root sets marks ready exits.one dir BITMAP index_name refl refl;
     depth = takes.depth;
     spots = λ kind vcn index is. spots kind vcn is;
   }
@@ -203,7 +206,7 @@ module _ (old new : VolumeView) (dir : ℕ) (key : List ℕ) (marks : Marks) (re
   exited-root : Exited old new marks dir key
   exited-root = record {
     entered = record {
-      ready = cut.ready-now old new dir takes.at takes.before takes.after root sets marks ready exits.one;
+      ready = call.ready-now old new dir takes.at takes.before takes.after root sets marks ready exits.one;
       told = writes-root.told;
       layout = writes-root.layout;
       rest = writes-root.rest;
@@ -213,10 +216,10 @@ module _ (old new : VolumeView) (dir : ℕ) (key : List ℕ) (marks : Marks) (re
       records = writes-root.records;
       others = writes-root.others;
       same = λ f kind name free. same-parts f kind name (root-index dir (key_of f kind name) free);
-      kinds = cut.kinds-same old new dir takes.at takes.before takes.after root sets marks ready exits.one;
-      names_kept = cut.names-kept old new dir takes.at takes.before takes.after root sets marks ready exits.one;
-      holder = λ was at. cut.keeps-holder old new dir takes.at takes.before takes.after root sets marks ready exits.one;
-      forms = cut.forms-kept old new dir takes.at takes.before takes.after root sets marks ready exits.one;
+      kinds = call.kinds-same old new dir takes.at takes.before takes.after root sets marks ready exits.one;
+      names_kept = call.names-kept old new dir takes.at takes.before takes.after root sets marks ready exits.one;
+      holder = λ was at. call.keeps-holder old new dir takes.at takes.before takes.after root sets marks ready exits.one;
+      forms = call.forms-kept old new dir takes.at takes.before takes.after root sets marks ready exits.one;
       own = own-index;
       changes = λ absent.
           let has = items-of-directory old dir index in
@@ -224,8 +227,8 @@ module _ (old new : VolumeView) (dir : ℕ) (key : List ℕ) (marks : Marks) (re
     };
     changes = λ was item has at. record {
       edited = Edited-more (same_key (root_key dir)) (is_index_key_of dir) nothing nothing old new marks marks (root-index dir)
-          (within-same nothing) (cut.edited old new dir takes.at takes.before takes.after root sets marks ready exits.one);
-      names_kept = cut.names-kept old new dir takes.at takes.before takes.after root sets marks ready exits.one;
+          (within-same nothing) (call.edited old new dir takes.at takes.before takes.after root sets marks ready exits.one);
+      names_kept = call.names-kept old new dir takes.at takes.before takes.after root sets marks ready exits.one;
       entry = items-cut old new dir key takes.items was item has at;
     };
   }

@@ -48,9 +48,9 @@ use Rattle.command_edits.specs.Keys.{is_key_of}
 use Rattle.command_edits.proofs.CallKeys.{within-nothing}
 use Rattle.command_edits.proofs.CallsMade.{Edited-more, within-same}
 use Rattle.made_edits.proofs.AloneLaws.{StandsAlone}
+use Rattle.made_edits.proofs.RowStored as row
 use Rattle.record_bits.specs.StoredRecordBit.{ClearsRecordBit}
 use Rattle.gone_edits.specs.Wants.{going_wants}
-use Rattle.gone_edits.proofs.RowCleared as row
 
 -- NAMES OF ATTRIBUTES have two bytes a unit.
 name-even : (block : List ℕ) (count i : ℕ) → HasShape block count → i < count
@@ -238,17 +238,18 @@ module _ (counted freed : VolumeView) (was now : Mounted) (n : ℕ) (told : IsTr
 module _ (counted freed new : VolumeView) (before after : Marks) (n : ℕ) (ordinary : FIRST_ORDINARY ≤ n) (inside : n < freed.layout.count)
     (free : Freed counted freed before after n) (clears : ClearsRecordBit freed new n) where
   pub ready-new : IsReady new after
-  ready-new = row.ready-row freed new n clears after free.ready ordinary inside
+  ready-new = row.ready-row freed new n (row.row-cleared freed new n clears) after free.ready ordinary inside
 
   pub records-new : records_of new ≡ records_of freed
-  records-new = row.records-row freed new n clears
+  records-new = row.records-row freed new n (row.row-cleared freed new n clears)
 
   edited-new : Edited (is_key_of n) (going_wants n) counted new before after
   edited-new =
       Edited-more (λ key. is_key_of n key || false) (is_key_of n) (going_wants n) (going_wants n) counted new before after
       (λ key clear. or_from (is_key_of n key) false clear refl) (within-same (going_wants n))
       (Edited-then (is_key_of n) (λ key. false) (going_wants n) nothing (going_wants n) counted freed new before after after
-      (within-nothing (going_wants n)) free.edited (row.edited-row freed new n clears after free.ready ordinary inside))
+      (within-nothing (going_wants n)) free.edited
+      (row.edited-row freed new n (row.row-cleared freed new n clears) after free.ready ordinary inside))
 
   pub drops-node : All (λ (part : Part). part.kind ≢ FILE_NAME) (record_there counted n).parts
       → DropsNode (going_wants n) counted new before after n

@@ -1,15 +1,14 @@
 -- ALL THAT IS LEFT ALONE where a file went.
-use Rattle.std.proofs.Common.{◌≡◌, ◌≢◌, ◌≤◌, ◌<◌, ◌%◌, ◌==◌, ℕ, Bool, true, false, List, [], codes, filter}
+use Rattle.std.proofs.Common.{◌≡◌, ◌≢◌, ◌≤◌, ◌%◌, ◌==◌, ℕ, Bool, true, false, List, [], codes, filter}
 use Rattle.std.proofs.Common.{None, Some, refl, sym, ap, subst, inl, inr, ◌∙◌, arith, true≢false}
 use Rattle.std.specs.Prelude.{◌⊎◌, IsSomeAnd, IsTrue, slice_index}
 use Rattle.std.specs.List.{Contains}
 use Rattle.std.specs.Str.{bytes_eq}
-use Rattle.std.proofs.lemmas.Bool.{and_right, cases_eq, eqb-true, ne_eqb, or_from, or_parts}
+use Rattle.std.proofs.lemmas.Bool.{and_right, cases_eq, ne_eqb, or_from, or_parts}
 use Rattle.std.proofs.lemmas.List.Elements.{All-contains}
-use Rattle.list_laws.proofs.MemberLaws.{All-from_Contains, Contains-from_filter}
+use Rattle.list_laws.proofs.MemberLaws.{All-from_Contains}
 use Rattle.list_laws.proofs.OptionLaws.{some_same}
 use Rattle.list_laws.proofs.SameItemsLaws.{SameItems-same}
-use Rattle.ntfs_def.specs.AttributeList.{list_entries}
 use Rattle.ntfs_def.specs.FileName.{FileName}
 use Rattle.ntfs_def.specs.ListOrder.{AreInOrder}
 use Rattle.ntfs_def.specs.Units.{wide}
@@ -22,9 +21,8 @@ use Rattle.volume_def.specs.Freed.{sequence_after, stored_sequence}
 use Rattle.volume_def.specs.ListsClause.{is_list}
 use Rattle.volume_def.specs.Sound as clauses
 use Rattle.volume_def.specs.Table.{TableLayout, cluster_bytes}
-use Rattle.volume_def.specs.Values.{KeepsClusters, first_part, spot_at, value_of_parts, value_on}
+use Rattle.volume_def.specs.Values.{KeepsClusters, first_part, spot_at}
 use Rattle.volume_def.specs.View.{VolumeView}
-use Rattle.volume_def.proofs.ValueLaws.{spot_at-owned, value-frame}
 use Rattle.volume_edits.specs.Owners.{HasOwners}
 use Rattle.mft_table.specs.declared.mounted.Mounted.{Mounted}
 use Rattle.file_record.proofs.RecordLaws.{record_at-in_use, record_at-inside}
@@ -51,8 +49,8 @@ use Rattle.command_edits.proofs.StageLaws.{is-ordinary}
 use Rattle.root_puts.specs.PutsInRoot.{KeepsHolder}
 use Rattle.made_edits.specs.Left.{IsNoTable, KeepsDirectory, KeepsOwnIndex, Leaves, LeavesOthers, is_entry_key, is_row_key}
 use Rattle.made_edits.proofs.Entered.{Entered}
-use Rattle.made_edits.proofs.LeftLaws.{clusters-kept, part-kept, value-kept}
-use Rattle.made_edits.proofs.LeftMade.{depth-kept}
+use Rattle.made_edits.proofs.LeftLaws.{clusters-kept, value-kept}
+use Rattle.made_edits.proofs.LeftMade.{depth-kept, no-entries, other-list}
 use Rattle.made_edits.proofs.ReadyLaws.{owners-of}
 use Rattle.made_edits.proofs.RecordsMade.{record-still}
 use Rattle.gone_edits.specs.Goes.{CanGo, GoesUnder}
@@ -65,32 +63,6 @@ use Rattle.gone_edits.proofs.GoneCalls as calls
 use Rattle.gone_edits.proofs.NameGone.{Unnamed}
 use Rattle.gone_edits.proofs.RecordsGone as records
 use Rattle.gone_edits.proofs.StoredAfter as after_all
-
--- LISTS of other files
-module _ (dir n : ℕ) (old new : VolumeView) (l : LeavesOthers old new n dir) (o : HasOwners old)
-    (some : 0 < old.layout.cluster_sectors) where
-  list-clusters : (f : ℕ) → KeepsClusters old new (filter is_list (parts (records_of old) f))
-  list-clusters f vcn c at =
-      let owned = spot_at-owned (filter is_list (parts (records_of old) f)) vcn c at in
-      let its = Contains-from_filter is_list (parts (records_of old) f) owned.0 owned.1 in
-      let k = eqb-true owned.0.kind ATTRIBUTE_LIST its.1 in
-      part-kept (is_entry_key dir) old new l.clusters o some f owned.0 c its.0
-      (ap (λ kind. is_entry_key dir (key_of f kind owned.0.name)) k) owned.2 (inl (λ e. let q = sym k ∙ e in omega (arith, q)))
-
-  other-list : (f : ℕ) → filter is_list (parts (records_of new) f) ≡ filter is_list (parts (records_of old) f) → KeepsListOrder old new f
-  other-list f held right = subst (AreInOrder (volume_fold old)) (sym same) right
-    where
-      same : entries_of new f ≡ entries_of old f
-      same =
-          ap list_entries
-          (ap (λ (t : TableLayout). value_of_parts new.cluster (cluster_bytes t) (filter is_list (parts (records_of new) f))) l.layout
-          ∙ ap (value_of_parts new.cluster (cluster_bytes old.layout)) held
-          ∙ value-frame old.cluster new.cluster (cluster_bytes old.layout) (filter is_list (parts (records_of old) f)) (list-clusters f))
-
--- a file without a list
-no-entries : (view : VolumeView) (f : ℕ) → filter is_list (parts (records_of view) f) ≡ [] → entries_of view f ≡ []
-unfolding value_of_parts list_entries
-no-entries view f none = ap (λ (xs : List Part). list_entries (value_on view xs)) none
 
 module _ (old new : VolumeView) (was now : Mounted) (n : ℕ) (node parent : Node) (name : FileName)
     (can : CanGo old n name.parent.number node parent name) (right : AreRight old (marks_of was))

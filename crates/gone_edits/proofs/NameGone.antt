@@ -1,9 +1,9 @@
 -- THE NAME GOES OUT OF THE RECORD of a file that has one, and no link is counted: what stands then, and what the file tells.
 use Rattle.std.proofs.Common.{◌≡◌, ◌≢◌, ◌==◌, ◌++◌, ℕ, false, List, [], ◌∷◌, None, Option, Some, cond, filter, map}
 use Rattle.std.proofs.Common.{refl, sym, ap, subst, inl, inr, ◌∙◌, arith, eq-eqb, true}
-use Rattle.std.specs.List.{All, Contains, cons_option, filter_map, starts_with}
-use Rattle.std.specs.Prelude.{◌%◌, IsSome, codes, nat_eq, option_map, unwrap_or}
-use Rattle.std.proofs.lemmas.Bool.{and_parts, or_from}
+use Rattle.std.specs.List.{All, Contains, cons_option, filter_map}
+use Rattle.std.specs.Prelude.{IsSome, option_map, unwrap_or}
+use Rattle.std.proofs.lemmas.Bool.{or_from}
 use Rattle.std.proofs.lemmas.List.Elements.{All-contains, filter_map-append}
 use Rattle.list_laws.specs.Replaces.{Replaces}
 use Rattle.list_laws.specs.SameItems.{SameItems}
@@ -13,7 +13,7 @@ use Rattle.list_laws.proofs.ReplacesLaws.{Replaces-count, Replaces-filter, Repla
 use Rattle.ntfs_def.specs.Attribute.{attributes}
 use Rattle.ntfs_def.specs.FileName.{FileName, name_in}
 use Rattle.ntfs_def.specs.Fixup.{opened_of}
-use Rattle.ntfs_def.specs.Record.{Header, header_of, is_in_use, record_flags, sequence_of}
+use Rattle.ntfs_def.specs.Record.{Header, header_of}
 use Rattle.ntfs_def.specs.declared.kinds.TheConstants.{FILE_NAME}
 use Rattle.volume_def.specs.FileNames.{is_file_name, names_of}
 use Rattle.volume_def.specs.Files.{Content, Clusters, Part, Value, content_value, part_of, parts, record_of, records_of}
@@ -43,6 +43,7 @@ use Rattle.command_edits.specs.Calls.{IsOfName}
 use Rattle.command_edits.specs.Keys.{is_name_key_of, no_key}
 use Rattle.command_edits.proofs.CallKeys.{within-nothing}
 use Rattle.command_edits.proofs.CallsMade.{Edited-more, within-same}
+use Rattle.root_puts.proofs.RootCall.{sequence-used}
 use Rattle.made_edits.proofs.AloneLaws.{StandsAlone, alone-counted, alone-edited, others-counted, others-edited, parts-counted}
 use Rattle.made_edits.proofs.AloneLaws.{parts-edited}
 use Rattle.made_edits.proofs.KeyLaws.{own-name}
@@ -81,13 +82,6 @@ first-value (Clusters extent runs) is = cc
 -- the name that a part tells
 abbrev named_by : Part → Option FileName
 named_by part = option_map name_in (content_value part.content)
-
--- the number of a block that is in use
-pub sequence-used : (stored : List ℕ) → is_in_use stored ≡ true → stored_sequence stored ≡ (header_of (opened_of stored)).sequence
-unfolding header_of
-sequence-used stored used =
-    ap (λ b. cond b (sequence_of (opened_of stored)) 0) (and_parts (starts_with nat_eq stored (codes "FILE"))
-    (record_flags stored % 2 == 1) used).0
 
 -- THE FILE HAS NO NAME, and counts no link; the volume stands as between two calls. It is one edit of names of the file, of which all other
 -- parts stay, and all other files.

@@ -1,6 +1,5 @@
 -- THE RECORDS of the volume behind the edit: those that are not in use, and headers of attributes.
-use Rattle.std.proofs.Common.{◌≡◌, ◌≢◌, ◌==◌, ℕ, true, false, [], cond, filter, None, Option, Some, sym, ap, subst, inl, inr, ◌∙◌}
-use Rattle.std.proofs.Common.{arith}
+use Rattle.std.proofs.Common.{◌≡◌, ◌≢◌, ◌==◌, ℕ, true, false, [], cond, filter, None, Some, sym, ap, subst, inl, inr, ◌∙◌}
 use Rattle.std.specs.Prelude.{is_some}
 use Rattle.std.specs.List.{Contains, flat_map, range_with_len}
 use Rattle.std.specs.Option.{option_map_or}
@@ -10,16 +9,16 @@ use Rattle.list_laws.proofs.MemberLaws.{Contains-map, Contains-nil}
 use Rattle.list_laws.proofs.OptionLaws.{none_other, some_same}
 use Rattle.ntfs_def.specs.Attribute.{attributes}
 use Rattle.ntfs_def.specs.Fixup.{opened_of}
-use Rattle.ntfs_def.specs.Record.{Header}
 use Rattle.volume_def.specs.Files.{Record, file_of, record_on}
 use Rattle.volume_def.specs.Freed.{sequence_after, stored_sequence}
 use Rattle.volume_def.specs.Table.{TableLayout}
 use Rattle.volume_def.specs.View.{VolumeView}
 use Rattle.edit_def.specs.Forms.{attributes_on, begins, form_of, forms_of}
 use Rattle.edit_def.specs.Forms as forms
-use Rattle.edit_def.specs.Unused.{KeepsHeader, KeepsUnused}
+use Rattle.edit_def.specs.Unused.{KeepsUnused}
 use Rattle.root_puts.specs.PutsInRoot.{KeepsHolder}
 use Rattle.made_edits.specs.Left.{LeavesOthers}
+use Rattle.made_edits.proofs.RecordsMade.{never, same-header, sequence-still}
 
 -- UNUSED RECORDS, and the one that went out of use
 module _ (old new : VolumeView) (n dir : ℕ) (left : LeavesOthers old new n dir) (holder : KeepsHolder old new dir) (r : Record)
@@ -30,10 +29,6 @@ module _ (old new : VolumeView) (n dir : ℕ) (left : LeavesOthers old new n dir
   not-free : (m : ℕ) → is_some (record_on new m) ≡ true → m ≢ n
   not-free m some is = let never : false ≡ true = sym (ap is_some (ap (record_on new) is ∙ none)) ∙ some in cc
 
-  never : {A : Type 0} (o : Option A) → o ≡ None → is_some o ≡ true → ⊥
-  never None e some = cc
-  never (Some x) e some = none_other (sym e)
-
   -- the directory is in use before and after
   not-was : (m : ℕ) → record_on old m ≡ None → m ≢ dir
   not-was m free is = none_other (sym free ∙ ap (record_on old) is ∙ holder.was_at)
@@ -41,24 +36,12 @@ module _ (old new : VolumeView) (n dir : ℕ) (left : LeavesOthers old new n dir
   not-now : (m : ℕ) → record_on new m ≡ None → m ≢ dir
   not-now m free is = none_other (sym free ∙ ap (record_on new) is ∙ holder.now_at)
 
-  same-header : (a b : Record) → b.header ≡ a.header → KeepsHeader a.header b.header
-  same-header a b e =
-      let next : b.header.next_id ≡ a.header.next_id = ap (λ (h : Header). h.next_id) e in
-      record { flags = ap (λ (h : Header). h.flags) e; number = ap (λ (h : Header). h.number) e; next_id = omega (arith, next) }
-
   header-still : (m : ℕ) (was now : Record) → record_on old m ≡ Some was → record_on new m ≡ Some now → now.header ≡ was.header
   header-still m was now at bt = elim (cases_eq m dir) [
     | inl is ↦
         ap (λ (r : Record). r.header) (some_same (sym bt ∙ ap (record_on new) is ∙ holder.now_at)) ∙ holder.header
         ∙ ap (λ (r : Record). r.header) (some_same (sym holder.was_at ∙ sym (ap (record_on old) is) ∙ at))
     | inr away ↦ ap (λ (r : Record). r.header) (some_same (sym bt ∙ left.records m (not-free m (ap is_some bt)) away ∙ at))
-  ]
-
-  sequence-still : (m : ℕ) → m ≢ n → stored_sequence (new.block m) ≡ stored_sequence (old.block m)
-  sequence-still m ne = elim (cases_eq m dir) [
-    | inl is ↦
-        ap (λ k. stored_sequence (new.block k)) is ∙ holder.sequence ∙ sym (ap (λ k. stored_sequence (old.block k)) is)
-    | inr away ↦ ap stored_sequence (left.blocks m ne away)
   ]
 
   pub unused-gone : stored_sequence (new.block n) ≡ sequence_after (stored_sequence (old.block n)) → KeepsUnused old new
@@ -69,7 +52,7 @@ module _ (old new : VolumeView) (n dir : ℕ) (left : LeavesOthers old new n dir
       | inr ne ↦ absurd (never (record_on old m) (sym (left.records m ne (not-now m now)) ∙ now) was)
     ];
     taken = λ m inside was now. absurd (never (record_on new m) (left.records m (not-gone m was) (not-was m was) ∙ was) now);
-    stays = λ m inside was now. inl (sequence-still m (not-free m now));
+    stays = λ m inside was now. inl (sequence-still old new n dir left holder m (not-free m now));
     headers = λ m was now at bt file numbers. same-header was now (header-still m was now at bt);
     comes = λ m now at bt. absurd (none_other (sym at ∙ sym (left.records m (not-gone m at) (not-was m at)) ∙ bt));
   }

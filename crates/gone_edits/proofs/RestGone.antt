@@ -24,6 +24,7 @@ use Rattle.command_edits.specs.Calls.{DropsNode, link_with}
 use Rattle.command_edits.specs.Keys.{is_key_of}
 use Rattle.command_edits.proofs.StageLaws.{not-extend}
 use Rattle.session_def.specs.Kept.{KeepsNamesBut}
+use Rattle.root_puts.proofs.RootCall.{sequence-used}
 use Rattle.made_edits.proofs.IndexPut.{one-items}
 use Rattle.made_edits.proofs.KeyLaws.{other-index}
 use Rattle.gone_edits.specs.Beside.{HasLostItem, KeepsRest}
@@ -35,7 +36,7 @@ use Rattle.gone_edits.proofs.Before as before
 use Rattle.gone_edits.proofs.BesideGone as beside
 use Rattle.gone_edits.proofs.GoneCalls as calls
 use Rattle.gone_edits.proofs.LeftGone as left
-use Rattle.gone_edits.proofs.NameGone.{Unnamed, sequence-used}
+use Rattle.gone_edits.proofs.NameGone.{Unnamed}
 use Rattle.gone_edits.proofs.StoredAfter as after_all
 
 module _ (old new : VolumeView) (was now : Mounted) (n : ℕ) (node parent : Node) (name : FileName)

@@ -5,7 +5,6 @@ use Rattle.std.specs.Prelude.{get_or, slice_get}
 use Rattle.std.specs.Str.{bytes_eq}
 use Rattle.std.proofs.lemmas.Bool.{and_parts, and_right, cases_eq, or_parts}
 use Rattle.std.proofs.lemmas.List.{same_lists}
-use Rattle.std.proofs.lemmas.List.FromFn.{get_or-map-range_with_len}
 use Rattle.std.proofs.lemmas.Option.{slice_get-get_or}
 use Rattle.std.proofs.lemmas.Slice.Eq.{bytes_eq-Decides}
 use Rattle.list_laws.specs.Bits.{bit_in, flags_in}
@@ -40,24 +39,14 @@ use Rattle.made_edits.proofs.Entered.{Entered, names-same, told-same}
 use Rattle.made_edits.proofs.LeftLaws.{Leaves-block, Leaves-more, Leaves-then, row-away, same-value, value-kept}
 use Rattle.made_edits.proofs.ReadyLaws.{owners-of}
 use Rattle.made_edits.proofs.RecordsMade.{record-still}
+use Rattle.made_edits.proofs.RowStored as row
+use Rattle.made_edits.proofs.StoredAfter.{at-place, flag-at}
 use Rattle.gone_edits.specs.Goes.{CanGo, GoesUnder}
 use Rattle.gone_edits.proofs.Before as before
 use Rattle.gone_edits.proofs.Exited.{like}
 use Rattle.gone_edits.proofs.FileFreed.{Freed}
 use Rattle.gone_edits.proofs.GoneCalls as calls
 use Rattle.gone_edits.proofs.NameGone.{Unnamed}
-use Rattle.gone_edits.proofs.RowCleared as row
-
--- the flag of a bit
-flag-at : (bytes : List ℕ) (count k : ℕ) (d : Bool) → k < count → get_or (flags_in bytes count) k d ≡ (bit_in bytes k == 1)
-unfolding flags_in
-flag-at bytes count k d lt = get_or-map-range_with_len (λ at. bit_in bytes at == 1) 0 count k k d lt (omega arith)
-
--- an item that is there, by its place
-at-place : {A : Type 0} (xs ys : List A) (k : ℕ) (d : A) → k < length xs → slice_get xs k ≡ slice_get ys k → length ys ≡ length xs
-    → get_or xs k d ≡ get_or ys k d
-at-place xs ys k d lt same long =
-    some_same (sym (slice_get-get_or xs k d lt) ∙ same ∙ slice_get-get_or ys k d (omega (arith, lt, long)))
 
 -- the bitmap of records is no index of names
 row-no-index : (dir : ℕ) (key : Key) → is_row_key key ≡ true → is_index_key_of dir key ≡ false
@@ -120,7 +109,8 @@ module _ (old new : VolumeView) (was now : Mounted) (n : ℕ) (node parent : Nod
 
   pub behind : Leaves is_row_key n u.left new
   behind = Leaves-then is_row_key n u.left freed new (row-away n can.ordinary)
-      (Leaves-more (λ key. false) is_row_key n u.left freed (λ key e. cc) left-freed) (row.leaves-row freed new n u.frees.clears n)
+      (Leaves-more (λ key. false) is_row_key n u.left freed (λ key e. cc) left-freed)
+      (row.leaves-row freed new n (row.row-cleared freed new n u.frees.clears) n)
 
   row-named : (key : Key) → is_row_key key ≡ true → is_entry_key dir key ≡ true
   row-named key e = ap (λ b. b || is_index_key_of dir key) e

@@ -50,8 +50,8 @@ flagged old new was dir n node units can right free stores =
     let before : Marks = marks_of was in
     let ready = ready-sound old before can.parent.sound can.parent.apart right in
     let inside = free-inside old before n right free in
-    let then = row.ready-row old new n stores before ready free.0 inside in
-    let same = row.records-row old new n stores in
+    let then = row.ready-row old new n (row.row-set old new n stores) before ready free.0 inside in
+    let same = row.records-row old new n (row.row-set old new n stores) in
     record {
       ready = then;
       apart = apart-ready new before then;

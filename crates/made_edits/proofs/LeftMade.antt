@@ -83,7 +83,8 @@ module _ (dir n : ℕ) (old new : VolumeView) (l : LeavesOthers old new n dir) (
       part-kept (is_entry_key dir) old new l.clusters o some f owned.0 c its.0
       (ap (λ kind. is_entry_key dir (key_of f kind owned.0.name)) k) owned.2 (inl (λ e. let q = sym k ∙ e in omega (arith, q)))
 
-  other-list : (f : ℕ) → filter is_list (parts (records_of new) f) ≡ filter is_list (parts (records_of old) f) → KeepsListOrder old new f
+  pub other-list : (f : ℕ) → filter is_list (parts (records_of new) f) ≡ filter is_list (parts (records_of old) f)
+      → KeepsListOrder old new f
   other-list f held right = subst (AreInOrder (volume_fold old)) (sym same) right
     where
       same : entries_of new f ≡ entries_of old f
@@ -94,7 +95,7 @@ module _ (dir n : ℕ) (old new : VolumeView) (l : LeavesOthers old new n dir) (
           ∙ value-frame old.cluster new.cluster (cluster_bytes old.layout) (filter is_list (parts (records_of old) f)) (list-clusters f))
 
 -- a file without a list
-no-entries : (view : VolumeView) (f : ℕ) → filter is_list (parts (records_of view) f) ≡ [] → entries_of view f ≡ []
+pub no-entries : (view : VolumeView) (f : ℕ) → filter is_list (parts (records_of view) f) ≡ [] → entries_of view f ≡ []
 unfolding value_of_parts list_entries
 no-entries view f none = ap (λ (xs : List Part). list_entries (value_on view xs)) none
 

@@ -21,6 +21,7 @@ pub mod SoundMade
 pub mod HeaderMade
 pub mod RecordsMade
 pub mod LeftMade
+pub mod IndexesKept
 pub mod BesideMade
 pub mod RestMade
 pub mod FreshMade

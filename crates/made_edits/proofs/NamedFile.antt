@@ -89,13 +89,13 @@ module _ (old new : VolumeView) (was now : Mounted) (n : ℕ) (standard key : Li
 
   -- THE FLAG
   pub ready-flagged : IsReady c.flagged before
-  ready-flagged = row.ready-row old c.flagged n c.stores before ready ordinary inside
+  ready-flagged = row.ready-row old c.flagged n (row.row-set old c.flagged n c.stores) before ready ordinary inside
 
   pub records-flagged : records_of c.flagged ≡ records_of old
-  records-flagged = row.records-row old c.flagged n c.stores
+  records-flagged = row.records-row old c.flagged n (row.row-set old c.flagged n c.stores)
 
   edited-flagged : Edited (λ key. false) nothing old c.flagged before before
-  edited-flagged = row.edited-row old c.flagged n c.stores before ready ordinary inside
+  edited-flagged = row.edited-row old c.flagged n (row.row-set old c.flagged n c.stores) before ready ordinary inside
 
   told-flagged : IsTrue c.flagged.told
   told-flagged = subst IsTrue (sym c.stores.writes.told) told
@@ -313,5 +313,6 @@ module _ (old new : VolumeView) (was now : Mounted) (n : ℕ) (standard key : Li
   left-behind = Leaves-then (λ key. false) n c.flagged c.bodied new none-away left-bodied left-counted
 
   pub left-alone : Leaves is_row_key n old new
-  left-alone = Leaves-then is_row_key n old c.flagged new (row-away n ordinary) (row.leaves-row old c.flagged n c.stores n)
+  left-alone = Leaves-then is_row_key n old c.flagged new (row-away n ordinary)
+      (row.leaves-row old c.flagged n (row.row-set old c.flagged n c.stores) n)
       (Leaves-more (λ key. false) is_row_key n c.flagged new (λ key e. cc) left-behind)

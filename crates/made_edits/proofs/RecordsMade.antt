@@ -1,17 +1,17 @@
 -- THE RECORDS of the volume behind the edit: those that were not in use, and headers of attributes.
-use Rattle.std.proofs.Common.{◌≡◌, ◌≢◌, ◌⊎◌, ◌==◌, ◌%◌, ℕ, Bool, true, false, List, [], codes, cond, filter, map, None, Option, Some}
+use Rattle.std.proofs.Common.{◌≡◌, ◌≢◌, ◌⊎◌, ◌==◌, ℕ, Bool, true, false, [], cond, filter, map, None, Option, Some}
 use Rattle.std.proofs.Common.{refl, sym, ap, subst, inl, inr, ◌∙◌, arith}
 use mathlib.Core.Path.{fun_ext}
-use Rattle.std.specs.Prelude.{All, IfSome, IsSomeAnd, IsTrue, is_some, nat_eq, nat_lt, option_map, unwrap_or}
-use Rattle.std.specs.List.{Contains, flat_map, range_with_len, starts_with}
+use Rattle.std.specs.Prelude.{All, IfSome, IsSomeAnd, IsTrue, is_some, nat_lt, option_map, unwrap_or}
+use Rattle.std.specs.List.{Contains, flat_map, range_with_len}
 use Rattle.std.specs.Option.{option_map_or}
-use Rattle.std.proofs.lemmas.Bool.{and_parts, cases_eq, eq-eqb, ne_eqb}
+use Rattle.std.proofs.lemmas.Bool.{cases_eq, eq-eqb, ne_eqb}
 use Rattle.std.proofs.lemmas.List.Elements.{All-contains}
 use Rattle.list_laws.proofs.MemberLaws.{All-from_Contains, Contains-from_filter, Contains-from_flat_map, Contains-from_map, Contains-nil}
 use Rattle.list_laws.proofs.OptionLaws.{none_other, some_same}
 use Rattle.ntfs_def.specs.Attribute.{Attribute, attributes}
 use Rattle.ntfs_def.specs.Fixup.{opened_of}
-use Rattle.ntfs_def.specs.Record.{Header, Reference, header_of, is_in_use, record_flags, sequence_of}
+use Rattle.ntfs_def.specs.Record.{Header, Reference, is_in_use}
 use Rattle.volume_def.specs.Files.{Record, file_of, is_base, record_in, record_of, record_on, records_of}
 use Rattle.volume_def.specs.Freed.{sequence_at_first, stored_sequence}
 use Rattle.volume_def.specs.ReferencesClause.{NamesBase}
@@ -22,6 +22,7 @@ use Rattle.edit_def.specs.Kept.{Key}
 use Rattle.edit_def.specs.Names.{HasRightBases}
 use Rattle.edit_def.specs.Unused.{IsPastIds, KeepsHeader, KeepsUnused}
 use Rattle.root_puts.specs.PutsInRoot.{KeepsHolder}
+use Rattle.root_puts.proofs.RootCall.{sequence-used}
 use Rattle.made_edits.specs.Left.{Leaves, LeavesOthers}
 
 -- another record
@@ -47,12 +48,25 @@ no-record view n m r bases free at file = by r.header.base refl
         (subst (λ o. IfSome o (λ r. IfSome r.header.base (NamesBase (records_of view)))) at (bases m)) in
         subst (λ o. IsSomeAnd o (λ r. IsTrue (is_base r) × (r.header.sequence ≡ reference.sequence))) (ap (record_on view) is ∙ free) named
 
--- the number of a block that is in use
-sequence-used : (stored : List ℕ) → is_in_use stored ≡ true → stored_sequence stored ≡ (header_of (opened_of stored)).sequence
-unfolding header_of
-sequence-used stored used =
-    ap (λ b. cond b (sequence_of (opened_of stored)) 0) (and_parts (starts_with nat_eq stored (codes "FILE"))
-    (record_flags stored % 2 == 1) used).0
+-- none is not some
+pub never : {A : Type 0} (o : Option A) → o ≡ None → is_some o ≡ true → ⊥
+never None e some = cc
+never (Some x) e some = none_other (sym e)
+
+-- a header that stays
+pub same-header : (a b : Record) → b.header ≡ a.header → KeepsHeader a.header b.header
+same-header a b e =
+    let next : b.header.next_id ≡ a.header.next_id = ap (λ (h : Header). h.next_id) e in
+    record { flags = ap (λ (h : Header). h.flags) e; number = ap (λ (h : Header). h.number) e; next_id = omega (arith, next) }
+
+-- A DIRECTORY THAT KEEPS ITS HEADER keeps its sequence number, and so do all files that were left alone.
+pub sequence-still : (old new : VolumeView) (n dir : ℕ) → LeavesOthers old new n dir → KeepsHolder old new dir → (m : ℕ) → m ≢ n
+    → stored_sequence (new.block m) ≡ stored_sequence (old.block m)
+sequence-still old new n dir left holder m ne = elim (cases_eq m dir) [
+  | inl is ↦
+      ap (λ k. stored_sequence (new.block k)) is ∙ holder.sequence ∙ sym (ap (λ k. stored_sequence (old.block k)) is)
+  | inr away ↦ ap stored_sequence (left.blocks m ne away)
+]
 
 -- UNUSED RECORDS, and the one that came into use
 module _ (old new : VolumeView) (n dir : ℕ) (left : LeavesOthers old new n dir) (holder : KeepsHolder old new dir)
@@ -67,10 +81,6 @@ module _ (old new : VolumeView) (n dir : ℕ) (left : LeavesOthers old new n dir
   not-free : (m : ℕ) → is_some (record_on old m) ≡ true → m ≢ n
   not-free m some is = let never : false ≡ true = sym (ap is_some (ap (record_on old) is ∙ free)) ∙ some in cc
 
-  never : {A : Type 0} (o : Option A) → o ≡ None → is_some o ≡ true → ⊥
-  never None e some = cc
-  never (Some x) e some = none_other (sym e)
-
   -- the directory is in use before and after
   not-was : (m : ℕ) → record_on old m ≡ None → m ≢ dir
   not-was m none is = none_other (sym none ∙ ap (record_on old) is ∙ holder.was_at)
@@ -78,24 +88,12 @@ module _ (old new : VolumeView) (n dir : ℕ) (left : LeavesOthers old new n dir
   not-now : (m : ℕ) → record_on new m ≡ None → m ≢ dir
   not-now m none is = none_other (sym none ∙ ap (record_on new) is ∙ holder.now_at)
 
-  same-header : (a b : Record) → b.header ≡ a.header → KeepsHeader a.header b.header
-  same-header a b e =
-      let next : b.header.next_id ≡ a.header.next_id = ap (λ (h : Header). h.next_id) e in
-      record { flags = ap (λ (h : Header). h.flags) e; number = ap (λ (h : Header). h.number) e; next_id = omega (arith, next) }
-
   header-still : (m : ℕ) (was now : Record) → record_on old m ≡ Some was → record_on new m ≡ Some now → now.header ≡ was.header
   header-still m was now at bt = elim (cases_eq m dir) [
     | inl is ↦
         ap (λ (r : Record). r.header) (some_same (sym bt ∙ ap (record_on new) is ∙ holder.now_at)) ∙ holder.header
         ∙ ap (λ (r : Record). r.header) (some_same (sym holder.was_at ∙ sym (ap (record_on old) is) ∙ at))
     | inr away ↦ ap (λ (r : Record). r.header) (some_same (sym bt ∙ left.records m (not-free m (ap is_some at)) away ∙ at))
-  ]
-
-  sequence-still : (m : ℕ) → m ≢ n → stored_sequence (new.block m) ≡ stored_sequence (old.block m)
-  sequence-still m ne = elim (cases_eq m dir) [
-    | inl is ↦
-        ap (λ k. stored_sequence (new.block k)) is ∙ holder.sequence ∙ sym (ap (λ k. stored_sequence (old.block k)) is)
-    | inr away ↦ ap stored_sequence (left.blocks m ne away)
   ]
 
   pub unused-made : made.header.sequence ≡ sequence_at_first (stored_sequence (old.block n)) → made.header.number ≡ n → IsPastIds made
@@ -109,7 +107,7 @@ module _ (old new : VolumeView) (n dir : ℕ) (left : LeavesOthers old new n dir
           ∙ sym (ap (λ k. sequence_at_first (stored_sequence (old.block k))) is)
       | inr ne ↦ absurd (never (record_on new m) (left.records m ne (not-was m was) ∙ was) now)
     ];
-    stays = λ m inside was now. inl (sequence-still m (not-free m was));
+    stays = λ m inside was now. inl (sequence-still old new n dir left holder m (not-free m was));
     headers = λ m was now at bt file numbers. same-header was now (header-still m was now at bt);
     comes = λ m now at bt. elim (cases_eq m n) [
       | inl is ↦

@@ -1,4 +1,4 @@
--- THE FLAG OF A RECORD STORED: a flush, which leaves the records and all values but the bitmap of records.
+-- THE FLAG OF A RECORD SET OR CLEARED: a flush, which leaves the records and all values but the bitmap of records.
 use Rattle.std.proofs.Common.{◌≡◌, ◌<◌, ◌≤◌, ◌/◌, ℕ, false, List, [], refl, sym, ap, inr, ◌∙◌, arith}
 use Rattle.list_laws.specs.Bits.{bit_in}
 use Rattle.ntfs_def.specs.declared.kinds.TheConstants.{BITMAP, DATA}
@@ -17,12 +17,19 @@ use Rattle.record_edits.specs.Between.{IsReady}
 use Rattle.record_edits.specs.InPlace.{WritesInPlace, is_bits_key}
 use Rattle.record_edits.proofs.FlushLaws.{edited-flush, ready-flush}
 use Rattle.record_edits.proofs.PlaceEdits.{same}
-use Rattle.record_bits.specs.StoredRecordBit.{StoresRecordBit}
+use Rattle.record_bits.specs.StoredRecordBit.{ClearsRecordBit, PutsRecordBit, StoresRecordBit}
 use Rattle.made_edits.specs.Left.{Leaves, is_row_key}
 use Rattle.made_edits.proofs.LeftLaws.{Leaves-stream, value-kept}
 use Rattle.made_edits.proofs.ReadyLaws.{owners-of}
 
-module _ (old new : VolumeView) (n : ℕ) (s : StoresRecordBit old new n) where
+-- set, or cleared
+pub row-set : (old new : VolumeView) (n : ℕ) → StoresRecordBit old new n → PutsRecordBit old new n 1
+row-set old new n s = record { bytes = s.bytes; one = s.one; writes = s.writes; here = s.here; others = s.others }
+
+pub row-cleared : (old new : VolumeView) (n : ℕ) → ClearsRecordBit old new n → PutsRecordBit old new n 0
+row-cleared old new n s = record { bytes = s.bytes; one = s.one; writes = s.writes; here = s.here; others = s.others }
+
+module _ {bit : ℕ} (old new : VolumeView) (n : ℕ) (s : PutsRecordBit old new n bit) where
   changes-row : ChangesStream old new (spot_at (record_bits old))
   changes-row = record {
     told = s.writes.told;

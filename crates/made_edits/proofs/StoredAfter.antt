@@ -47,12 +47,12 @@ use Rattle.made_edits.proofs.ReadyLaws.{owners-of}
 use Rattle.made_edits.proofs.RecordsMade.{record-still}
 
 -- the flag of a bit
-flag-at : (bytes : List ℕ) (count k : ℕ) (d : Bool) → k < count → get_or (flags_in bytes count) k d ≡ (bit_in bytes k == 1)
+pub flag-at : (bytes : List ℕ) (count k : ℕ) (d : Bool) → k < count → get_or (flags_in bytes count) k d ≡ (bit_in bytes k == 1)
 unfolding flags_in
 flag-at bytes count k d lt = get_or-map-range_with_len (λ at. bit_in bytes at == 1) 0 count k k d lt (omega arith)
 
 -- an item that is there, by its place
-at-place : {A : Type 0} (xs ys : List A) (k : ℕ) (d : A) → k < length xs → slice_get xs k ≡ slice_get ys k → length ys ≡ length xs
+pub at-place : {A : Type 0} (xs ys : List A) (k : ℕ) (d : A) → k < length xs → slice_get xs k ≡ slice_get ys k → length ys ≡ length xs
     → get_or xs k d ≡ get_or ys k d
 at-place xs ys k d lt same long =
     some_same (sym (slice_get-get_or xs k d lt) ∙ same ∙ slice_get-get_or ys k d (omega (arith, lt, long)))

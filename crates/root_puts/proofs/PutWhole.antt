@@ -51,15 +51,15 @@ use Rattle.root_puts.proofs.RootCall.{names}
 use Rattle.root_puts.proofs.RootCall as call
 use Rattle.root_puts.proofs.RootItems as items
 
-and-some : {A : Type 0} (o : Option A) → option_and_then (λ v. Some v) o ≡ o
+pub and-some : {A : Type 0} (o : Option A) → option_and_then (λ v. Some v) o ≡ o
 and-some None = refl
 and-some (Some v) = refl
 
-no-last : (o : Option ℕ) → not (is_some o) ≡ true → o ≡ None
+pub no-last : (o : Option ℕ) → not (is_some o) ≡ true → o ≡ None
 no-last None h = refl
 no-last (Some v) h = cc
 
-first-and-last : (a b c : Bool) → (a && b && c) ≡ true → (a ≡ true) × (c ≡ true)
+pub first-and-last : (a b c : Bool) → (a && b && c) ≡ true → (a ≡ true) × (c ≡ true)
 first-and-last true true true h = (refl, refl)
 first-and-last true true false h = cc
 first-and-last true false c h = cc

@@ -31,7 +31,7 @@ use Rattle.volume_def.specs.View.{VolumeView}
 use Rattle.volume_def.proofs.PartLaws.{IsPart-Contains, NameHolders-view, named}
 use Rattle.volume_def.proofs.ReadableLaws.{of_base}
 use Rattle.volume_def.proofs.RecordLaws.{parts-other, parts-own_at}
-use Rattle.file_record.specs.Attributes.{PutsInValue, with_bytes_at}
+use Rattle.file_record.specs.Attributes.{ChangesValue, with_bytes_at}
 use Rattle.edit_def.specs.Account.{nothing}
 use Rattle.edit_def.specs.Edited.{Edited, is_room_key, is_table_key}
 use Rattle.edit_def.specs.Kept.{Key, either, key_of, same_key}
@@ -97,7 +97,7 @@ module _ (old : VolumeView) (dir n i : ℕ) (before : List ℕ) (root : IsRootAt
         subst (λ o. IfSome o (λ r. file_of n r ≡ dir → n ≡ dir)) h.held (alone n) h.file
 
 -- bytes put over a value that was no longer are the value then
-whole-put : (now was : List ℕ) → length was ≤ length now → with_bytes_at 0 now was ≡ now
+pub whole-put : (now was : List ℕ) → length was ≤ length now → with_bytes_at 0 now was ≡ now
 whole-put now was short =
     let some : max (0 + length now) (length was) ≡ length now = omega (arith, short) in
     ap (λ n. overwritten (with_length n was) 0 now) some ∙ ap (λ xs. now ++ xs) (none (0 + length now) (with_length (length now) was) long)
@@ -108,6 +108,13 @@ whole-put now was short =
 
     long : length (with_length (length now) was) ≤ 0 + length now
     long = grind (arith, common_steps)
+
+-- the number of a block that is in use
+pub sequence-used : (stored : List ℕ) → is_in_use stored ≡ true → stored_sequence stored ≡ (header_of (opened_of stored)).sequence
+unfolding header_of
+sequence-used stored used =
+    ap (λ b. cond b (sequence_of (opened_of stored)) 0) (and_parts (starts_with nat_eq stored (codes "FILE"))
+    (record_flags stored % 2 == 1) used).0
 
 -- lists that have the same bytes in front
 take-same : (n : ℕ) (xs ys : List ℕ) → n ≤ length xs → n ≤ length ys → ((k : ℕ) → k < n → slice_index xs k ≡ slice_index ys k)
@@ -121,8 +128,8 @@ take-same (suc n) (x ∷ xs) (y ∷ ys) long longer same =
     λ i. first i ∷ rest i
 
 -- THE CALL, on the one record of the directory
-module _ (old new : VolumeView) (dir i : ℕ) (before after : List ℕ) (root : IsRootAt old dir dir i before)
-    (e : PutsInValue old new dir i 0 after) (marks : Marks) (ready : IsReady old marks) (one : IsInOneRecord old dir) where
+module _ {change : List ℕ → List ℕ} (old new : VolumeView) (dir i : ℕ) (before after : List ℕ) (root : IsRootAt old dir dir i before)
+    (e : ChangesValue old new dir i change) (marks : Marks) (ready : IsReady old marks) (one : IsInOneRecord old dir) where
   same : root.attribute ≡ e.was
   same = some_same (sym root.at ∙ e.there)
 
@@ -136,14 +143,14 @@ module _ (old new : VolumeView) (dir i : ℕ) (before after : List ℕ) (root : 
   was-value =
       sym (ap (λ (a : Attribute). value_of a.body) same) ∙ sym (body-value root.attribute.body) ∙ root.is
 
-  now-value : length before ≤ length after → value_of e.now.body ≡ Some after
-  now-value short = e.value ∙ ap (option_map (with_bytes_at 0 after)) was-value ∙ ap (λ (v : List ℕ). Some v) (whole-put after before short)
+  now-value : change before ≡ after → value_of e.now.body ≡ Some after
+  now-value is = e.value ∙ ap (option_map change) was-value ∙ ap (λ (v : List ℕ). Some v) is
 
   was-is : IsSome (value_of e.was.body)
   was-is = ap is_some was-value
 
   now-is : IsSome (value_of e.now.body)
-  now-is = value-mapped e.was.body e.now.body (with_bytes_at 0 after) e.value was-is
+  now-is = value-mapped e.was.body e.now.body change e.value was-is
 
   may : MayReplace old dir e.was e.now
   may = record {
@@ -214,17 +221,17 @@ module _ (old new : VolumeView) (dir i : ℕ) (before after : List ℕ) (root : 
       (All-one (HasKey (root_key dir)) e.was (record { kind = was-name.0; name = was-name.1 }))
       (All-one (HasKey (root_key dir)) e.now (record { kind = now-name.0; name = now-name.1 })) root-was
 
-  pub root-values : length before ≤ length after
-      → map (λ (p : Part). content_value p.content) (parts_at new dir INDEX_ROOT names) ≡ Some after ∷ []
-  root-values short =
+  pub root-values : change before ≡ after → map (λ (p : Part). content_value p.content) (parts_at new dir INDEX_ROOT names) ≡ Some after ∷ []
+  root-values is =
       ap (map (λ (p : Part). content_value p.content)) root-now
-      ∙ ap (λ (o : Option (List ℕ)). o ∷ []) (body-value e.now.body ∙ now-value short)
+      ∙ ap (λ (o : Option (List ℕ)). o ∷ []) (body-value e.now.body ∙ now-value is)
 
   -- ITS HEADER
-  pub root-kept : 16 ≤ length before → length before ≤ length after → ((k : ℕ) → k < 16 → slice_index after k ≡ slice_index before k)
+  pub root-kept : change before ≡ after → 16 ≤ length before → 16 ≤ length after
+      → ((k : ℕ) → k < 16 → slice_index after k ≡ slice_index before k)
       → (was now : Part) → first_part (parts_at old dir INDEX_ROOT names) ≡ Some was
       → first_part (parts_at new dir INDEX_ROOT names) ≡ Some now → KeepsRootHead was now
-  root-kept long short head was now was_is now_is =
+  root-kept is long longer head was now was_is now_is =
       let a : part_of dir e.was ≡ was =
       Contains-only (part_of dir e.was) was (find-found is_first (part_of dir e.was ∷ []) was (sym (ap first_part root-was) ∙ was_is)).0 in
       let b : part_of dir e.now ≡ now =
@@ -232,10 +239,10 @@ module _ (old new : VolumeView) (dir i : ℕ) (before after : List ℕ) (root : 
       let value_was : content_value was.content ≡ Some before =
       ap (λ (p : Part). content_value p.content) (sym a) ∙ body-value e.was.body ∙ was-value in
       let value_now : content_value now.content ≡ Some after =
-      ap (λ (p : Part). content_value p.content) (sym b) ∙ body-value e.now.body ∙ now-value short in
+      ap (λ (p : Part). content_value p.content) (sym b) ∙ body-value e.now.body ∙ now-value is in
       record {
         head =
-            ap (λ o. take 16 (unwrap_or o [])) value_now ∙ take-same 16 after before (omega (arith, long, short)) long head
+            ap (λ o. take 16 (unwrap_or o [])) value_now ∙ take-same 16 after before longer long head
             ∙ sym (ap (λ o. take 16 (unwrap_or o [])) value_was);
         flags = ap (λ (p : Part). p.flags) (sym b) ∙ e.flags ∙ ap (λ (p : Part). p.flags) a;
       }
@@ -299,12 +306,6 @@ module _ (old new : VolumeView) (dir i : ℕ) (before after : List ℕ) (root : 
       sym (ap part_runs is) ∙ body-none e.now.body now-is
 
   -- ITS RECORD
-  sequence-used : (stored : List ℕ) → is_in_use stored ≡ true → stored_sequence stored ≡ (header_of (opened_of stored)).sequence
-  unfolding header_of
-  sequence-used stored used =
-      ap (λ b. cond b (sequence_of (opened_of stored)) 0) (and_parts (starts_with nat_eq stored (codes "FILE"))
-      (record_flags stored % 2 == 1) used).0
-
   block-now : new.block dir ≡ e.stored
   block-now = e.edits.replaces.block e.edits.told
 

@@ -46,7 +46,7 @@ no-times : (vcn : ℕ) (bs : List (Branch (Tree 0))) (last : Tree 0) → branch_
 no-times vcn [] last = refl
 no-times vcn (b ∷ bs) last = let none = no-times vcn bs last in omega (arith, none)
 
-none-met : (depth : ℕ) (s : Spread (Tree depth)) → (node_of depth s).last ≡ None → (vcn : ℕ) → 1 ≤ spread_times vcn depth s → ⊥
+pub none-met : (depth : ℕ) (s : Spread (Tree depth)) → (node_of depth s).last ≡ None → (vcn : ℕ) → 1 ≤ spread_times vcn depth s → ⊥
 none-met zero s last vcn met = let none = no-times vcn s.branches s.last in omega (arith, met, none)
 none-met (suc depth) s last vcn met = none_other (sym last)
 
@@ -133,7 +133,7 @@ module _ (old new : VolumeView) (dir i : ℕ) (before after : List ℕ) (root : 
     abbrev index-now : HasIndex Names (name_rule new) new (names_of_directory new dir) now
     index-now = record {
       root = after;
-      is_root = call.root-values old new dir i before after root e marks ready one short;
+      is_root = call.root-values old new dir i before after root e marks ready one (call.whole-put after before short);
       collation = field-same 0x04 (omega arith) ∙ ap key_collation (sym same) ∙ has.collation;
       record_size = field-same 0x08 (omega arith) ∙ ap index_record_len (sym same) ∙ has.record_size;
       plain = subst IsPlainIfThere (sym records-same) has.plain;

@@ -152,7 +152,11 @@ module _ (old new : VolumeView) (marks : Marks) (dir : ℕ) (item : Item) (all :
 
   pub root-kept : (was now : Part) → first_part (parts_at old dir INDEX_ROOT names) ≡ Some was
       → first_part (parts_at new dir INDEX_ROOT names) ≡ Some now → KeepsRootHead was now
-  root-kept = call.root-kept old new dir puts.at puts.before puts.after root e marks ready all.one all.grows.long all.grows.longer puts.head
+  root-kept =
+      let long = all.grows.long in
+      let longer = all.grows.longer in
+      call.root-kept old new dir puts.at puts.before puts.after root e marks ready all.one (call.whole-put puts.after puts.before longer) long
+      (omega (arith, long, longer)) puts.head
 
   pub same-fold : volume_fold new ≡ volume_fold old
   same-fold = call.same-fold old new dir puts.at puts.before puts.after root e marks ready all.one

@@ -1,18 +1,18 @@
 -- THE ENTRY OF A KEY in a root that leads to no record, and how long the root is without it.
-use Rattle.std.proofs.Common.{◌≡◌, ◌+◌, ◌<◌, ◌≤◌, ℕ, Bool, true, false, List, Option, Some, None, drop, length, refl, sym, ap, subst, ◌∙◌, arith}
+use Rattle.std.proofs.Common.{◌≡◌, ◌≤◌, ℕ, Bool, true, false, List, Option, Some, None, length, refl, sym, ap, subst, ◌∙◌}
+use Rattle.std.proofs.Common.{arith}
 use Rattle.std.specs.Prelude.{is_some, not}
 use Rattle.std.specs.declared.cmp.Ordering.{Ordering}
 use Rattle.list_laws.proofs.OptionLaws.{some_same}
 use Rattle.ntfs_def.specs.Node.{Node, child_at, entry_place, first_entry, has_children, node_in, short_node}
 use Rattle.ntfs_def.specs.declared.index.NodeForm.TheVariants.{Names}
-use Rattle.index_node.specs.Edit.{HasEntry, without_entry}
+use Rattle.index_node.specs.Edit.{without_entry}
 use Rattle.index_node.specs.Seek.{IsPlace}
 use Rattle.index_node.proofs.FoundLaws.{has_at}
 use Rattle.index_node.proofs.LenLaws.{node_enough}
 use Rattle.index_tree.specs.Edit.{SeeksNode}
 use Rattle.index_tree.proofs.EditMemory.{short_in}
 use Rattle.index_tree.proofs.RemoveSteps.{hit_within}
-use Rattle.tree_model.specs.LeafEntry.{hits_on}
 use Rattle.index_takes.specs.ShrinksRoot.{ShrinksRoot}
 use Rattle.index_takes.proofs.HitLaws.{hits-at}
 use Rattle.index_takes.proofs.TakeLaws.{nothing}

@@ -1,6 +1,5 @@
 pub mod ChangedTwice
 pub mod SetLaws
-pub mod RootCut
 pub mod HitPlace
 pub mod RootTaken
 pub mod TakeWhole

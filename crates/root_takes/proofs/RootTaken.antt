@@ -1,12 +1,11 @@
 -- THE INDEX OF A DIRECTORY where an item went out of its root: the items, and the depth.
-use Rattle.std.proofs.Common.{◌≡◌, ◌+◌, ◌≤◌, ℕ, zero, suc, List, [], ◌∷◌, length, Some, None, refl, sym, ap, subst, ◌∙◌, arith}
+use Rattle.std.proofs.Common.{◌≡◌, ◌+◌, ◌≤◌, ℕ, List, Some, None, refl, sym, ap, subst, ◌∙◌, arith}
 use Rattle.std.specs.Prelude.{IfSome, IsTrue}
-use Rattle.list_laws.proofs.OptionLaws.{none_other}
 use Rattle.vol_bytes.specs.Field.{u32_at}
 use Rattle.vol_bytes.proofs.FieldLaws.{u32_at-same}
 use Rattle.ntfs_def.specs.FileName.{is_name_key}
 use Rattle.ntfs_def.specs.IndexRoot.{index_record_len, key_collation}
-use Rattle.ntfs_def.specs.IndexTree.{Ascends, Branch, Each, Spread, Tree, Walks, branch_times, node_of, spread_items, spread_times, times_in}
+use Rattle.ntfs_def.specs.IndexTree.{Ascends, Walks, spread_items, spread_times}
 use Rattle.ntfs_def.specs.KeyOrder.{name_order}
 use Rattle.ntfs_def.specs.Node.{Item, Node, short_node}
 use Rattle.ntfs_def.specs.declared.index.NodeForm.TheVariants.{Names}
@@ -33,18 +32,9 @@ use Rattle.index_puts.proofs.PutItems.{all-of}
 use Rattle.index_takes.specs.Leaf.{TakenUnder}
 use Rattle.index_takes.proofs.RootTake.{take_in_root}
 use Rattle.root_puts.proofs.RootCall.{names}
-use Rattle.root_puts.proofs.RootItems.{in-order, names-ordered, root-same}
+use Rattle.root_puts.proofs.RootCall as call
+use Rattle.root_puts.proofs.RootItems.{in-order, names-ordered, none-met, root-same}
 use Rattle.root_takes.specs.ShrunkRoot.{HasShrunk}
-use Rattle.root_takes.proofs.RootCut as cut
-
--- a walk under a root that leads to no record meets none
-no-times : (vcn : ℕ) (bs : List (Branch (Tree 0))) (last : Tree 0) → branch_times (times_in vcn 0) bs last ≡ 0
-no-times vcn [] last = refl
-no-times vcn (b ∷ bs) last = let none = no-times vcn bs last in omega (arith, none)
-
-none-met : (depth : ℕ) (s : Spread (Tree depth)) → (node_of depth s).last ≡ None → (vcn : ℕ) → 1 ≤ spread_times vcn depth s → ⊥
-none-met zero s last vcn met = let none = no-times vcn s.branches s.last in omega (arith, met, none)
-none-met (suc depth) s last vcn met = none_other (sym last)
 
 module _ (old new : VolumeView) (dir i : ℕ) (before after : List ℕ) (root : IsRootAt old dir dir i before)
     (e : ChangesValue old new dir i (λ value. after)) (marks : Marks) (ready : IsReady old marks) (one : IsInOneRecord old dir)
@@ -86,15 +76,15 @@ module _ (old new : VolumeView) (dir i : ℕ) (before after : List ℕ) (root : 
     field-same at low = u32_at-same before after at (λ k from to. shrunk.shrinks.head k (omega (arith, to, low)))
 
     records-same : parts_at new dir INDEX_ALLOCATION names ≡ parts_at old dir INDEX_ALLOCATION names
-    records-same = cut.other-parts old new dir i before after root e marks ready one INDEX_ALLOCATION names refl
+    records-same = call.other-parts old new dir i before after root e marks ready one INDEX_ALLOCATION names refl
 
     bits-same : parts_at new dir BITMAP names ≡ parts_at old dir BITMAP names
-    bits-same = cut.other-parts old new dir i before after root e marks ready one BITMAP names refl
+    bits-same = call.other-parts old new dir i before after root e marks ready one BITMAP names refl
 
     abbrev index-now : HasIndex Names (name_rule new) new (names_of_directory new dir) now
     index-now = record {
       root = after;
-      is_root = cut.root-values old new dir i before after root e marks ready one;
+      is_root = call.root-values old new dir i before after root e marks ready one refl;
       collation = field-same 0x04 (omega arith) ∙ ap key_collation (sym same) ∙ has.collation;
       record_size = field-same 0x08 (omega arith) ∙ ap index_record_len (sym same) ∙ has.record_size;
       plain = subst IsPlainIfThere (sym records-same) has.plain;
@@ -103,11 +93,12 @@ module _ (old new : VolumeView) (dir i : ℕ) (before after : List ℕ) (root : 
           extent.sizes.initialized ≡ extent.sizes.real))) (sym records-same) has.written;
       root_node = node';
       says = shrunk.shrinks.short has.root_node says;
-      walks = walks_moved (index_nodes Names old (names_of_directory old dir)) (index_nodes Names new (names_of_directory new dir)) node' now
+      walks = walks_moved (index_nodes Names old (names_of_directory old dir))
+          (index_nodes Names new (names_of_directory new dir)) node' now
           walk (λ vcn met. absurd (never vcn met));
       each = λ vcn met. absurd (never vcn met);
       keys = all-of (λ (x : Item). IsTrue (is_name_key x.key)) now taken.index.keys;
-      ascending = subst (λ f. Ascends (name_order f) now) (sym (cut.same-fold old new dir i before after root e marks ready one))
+      ascending = subst (λ f. Ascends (name_order f) now) (sym (call.same-fold old new dir i before after root e marks ready one))
           taken.index.ascends;
     }
 

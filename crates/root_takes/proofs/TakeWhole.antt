@@ -1,9 +1,9 @@
 -- WHAT THE CALL PROMISES that took an entry out of the root of a directory that is held, from what was done in its record.
-use Rattle.std.proofs.Common.{◌≡◌, ◌+◌, ◌*◌, ◌<◌, ◌≤◌, ◌&&◌, not, ℕ, Bool, true, false, List, filter, get_or, length, take, Option, Some, None}
-use Rattle.std.proofs.Common.{refl, sym, ap, subst, ◌∙◌, arith}
+use Rattle.std.proofs.Common.{◌≡◌, ◌+◌, ◌*◌, ◌<◌, ◌≤◌, not, ℕ, true, false, List, filter, get_or, length, take, Option, Some, None}
+use Rattle.std.proofs.Common.{sym, ap, subst, ◌∙◌, arith}
 use Rattle.std.specs.List.{flat_map}
 use Rattle.std.specs.Option.{option_and_then, option_map_or}
-use Rattle.std.specs.Prelude.{IsSomeAnd, IsTrue, is_some, slice_get}
+use Rattle.std.specs.Prelude.{IsSomeAnd, is_some, slice_get}
 use Rattle.std.specs.declared.cmp.Ordering.{Ordering}
 use Rattle.list_laws.proofs.OptionLaws.{some_same}
 use Rattle.ntfs_def.specs.Attribute.{Attribute, attributes, value_of}
@@ -12,7 +12,6 @@ use Rattle.ntfs_def.specs.KeyOrder.{fold_of, name_order}
 use Rattle.ntfs_def.specs.Node.{Node, short_node}
 use Rattle.ntfs_def.specs.declared.index.NodeForm.TheVariants.{Names}
 use Rattle.ntfs_def.specs.declared.kinds.TheConstants.{INDEX_ROOT}
-use Rattle.attr_view.specs.Values.{attribute_in}
 use Rattle.volume_def.specs.CaseClause.{volume_fold}
 use Rattle.volume_def.specs.Files.{Part, content_value, is_of, part_of}
 use Rattle.volume_def.specs.IndexesClause.{index_nodes}
@@ -30,7 +29,7 @@ use Rattle.file_record.specs.Written.{IsWholeFile}
 use Rattle.dir_index.specs.First.{TellsSizes}
 use Rattle.dir_index.specs.FirstPart.{FirstPart}
 use Rattle.tree_model.specs.IndexRoom.{directory_index, root_of}
-use Rattle.tree_model.specs.LeafRoom.{name_side, names_of_directory}
+use Rattle.tree_model.specs.LeafRoom.{names_of_directory}
 use Rattle.tree_model.specs.RootRoom.{has_list, is_root_leaf}
 use Rattle.edit_def.specs.Items.{HasItems}
 use Rattle.edit_def.specs.Marks.{Marks}
@@ -44,26 +43,13 @@ use Rattle.tree_model.specs.RootEntry.{has_root_entry, is_in_root}
 use Rattle.root_puts.specs.CanPut.{CanPutInRoot}
 use Rattle.root_puts.proofs.HeldRoot as record_
 use Rattle.root_puts.proofs.RootCall.{holder-is, names}
+use Rattle.root_puts.proofs.RootCall as call
+use Rattle.root_puts.proofs.PutWhole.{and-some, first-and-last, no-last}
 use Rattle.root_puts.proofs.RootItems.{in-order, names-ordered, root-same}
 use Rattle.root_takes.specs.Exits.{ExitsRoot, TakesRootItem}
 use Rattle.root_takes.specs.ShrunkRoot.{CanShrinkIn, HasShrunk, HoldsValue, ShrinksIn}
 use Rattle.root_takes.proofs.HitPlace.{long-enough, no-longer}
-use Rattle.root_takes.proofs.RootCut as cut
 use Rattle.root_takes.proofs.RootTaken as items
-
-and-some : {A : Type 0} (o : Option A) → option_and_then (λ v. Some v) o ≡ o
-and-some None = refl
-and-some (Some v) = refl
-
-no-last : (o : Option ℕ) → not (is_some o) ≡ true → o ≡ None
-no-last None h = refl
-no-last (Some v) h = cc
-
-first-and-last : (a b c : Bool) → (a && b && c) ≡ true → (a ≡ true) × (c ≡ true)
-first-and-last true true true h = (refl, refl)
-first-and-last true true false h = cc
-first-and-last true false c h = cc
-first-and-last false b c h = cc
 
 entry-parts : (view : VolumeView) (dir : ℕ) (units : List ℕ) → has_root_entry view dir units ≡ true
     → (is_root_leaf view dir ≡ true) × (is_in_root view dir units ≡ true)
@@ -71,8 +57,8 @@ unfolding has_root_entry
 entry-parts view dir units h = first-and-last (is_root_leaf view dir) (not (has_list view dir)) (is_in_root view dir units) h
 
 -- a value that is no longer stands in the place of a root that shrank
-pub holds-shrunk : (order : List ℕ → List ℕ → Ordering) (held : Held) (left : ℕ) (key after : List ℕ) → left < length (attributes held.block)
-    → ShrinksIn order held.block left key after → HoldsValue left (length after) held
+pub holds-shrunk : (order : List ℕ → List ℕ → Ordering) (held : Held) (left : ℕ) (key after : List ℕ)
+    → left < length (attributes held.block) → ShrinksIn order held.block left key after → HoldsValue left (length after) held
 holds-shrunk order held left key after within s = record {
   within = within;
   value = subst (λ (o : Option (List ℕ)). IsSomeAnd o (λ value. length after ≤ length value)) (sym s.is)
@@ -140,7 +126,8 @@ module _ (old : VolumeView) (file : FileParts) (table key : List ℕ) (marks : M
     last : h.index.root_node.last ≡ None
     last =
         no-last h.index.root_node.last
-        (sym (ap (λ o. option_map_or (λ (said : Node). not (is_some said.last)) o false) root-is) ∙ (entry-parts old dir (key_units key) entry).0)
+        (sym (ap (λ o. option_map_or (λ (said : Node). not (is_some said.last)) o false) root-is)
+        ∙ (entry-parts old dir (key_units key) entry).0)
 
     hits : hits_on (λ x. name_order (fold_of table) x key) h.index.root_node.entries ≡ true
     unfolding name_order
@@ -224,11 +211,11 @@ module _ (old : VolumeView) (file : FileParts) (table key : List ℕ) (marks : M
       exits-root = record { takes = takes; one = can.one }
 
       pub ready-now : IsReady new marks
-      ready-now = cut.ready-now old new dir left shrinks.root after own e marks can.ready can.one
+      ready-now = call.ready-now old new dir left shrinks.root after own e marks can.ready can.one
 
       pub held-now : (file' : FileParts) → HoldsSame file file' → IsWholeFile new file' → IsHeldFile new file'
       held-now file' same whole = record {
         readable = ready-now.editable.readable;
         parts = whole.parts;
-        is_file = subst (IsFile new) (sym same.file) (cut.is-file-now old new dir left shrinks.root after own e marks can.ready can.one);
+        is_file = subst (IsFile new) (sym same.file) (call.is-file-now old new dir left shrinks.root after own e marks can.ready can.one);
       }

@@ -1,21 +1,14 @@
-use Rattle.std.proofs.Common.{◌≡◌, ◌+◌, ◌*◌, ◌<◌, ◌≤◌, ℕ, length, refl, sym, ap, subst, ◌∙◌, arith, true≢false}
-use Rattle.std.specs.Prelude.{IfSome, IsSome, IsTrue, slice_get}
+use Rattle.std.proofs.Common.{◌+◌, ◌<◌, ◌≤◌, length, refl, sym, subst, ◌∙◌, true≢false}
+use Rattle.std.specs.Prelude.{IfSome, IsSome, slice_get}
 use Rattle.std.proofs.lemmas.Result.{on_ok_weaker}
 use Rattle.ntfs_def.specs.Attribute.{attribute_len, attribute_place, attributes, value_of}
 use Rattle.ntfs_def.specs.Record.{used_size}
 use Rattle.vol_stage.specs.Staged.{StagesOnly}
 use Rattle.attr_view.specs.Values.{attribute_in, len_with}
-use Rattle.volume_def.specs.Coverage.{IsApart}
-use Rattle.volume_def.specs.View.{VolumeView}
-use Rattle.mft_table.specs.Mft.{MftStages, mounted_of, stage_of, view}
-use Rattle.mft_table.specs.declared.mounted.Mounted.{Mounted}
-use Rattle.mft_table.specs.MirrorClusters.{IsMirrorInside}
-use Rattle.mft_table.specs.Mounted.{mounted_layout}
+use Rattle.mft_table.specs.Mft.{MftStages, stage_of, view}
 use Rattle.mft_table.specs.Staging.{record_places}
-use Rattle.mft_table.proofs.DiskKept.{KeepsDisk-same, KeepsDisk-then}
-use Rattle.file_record.specs.Attributes.{ChangesValue, HasRoomToPut, PutsInValue, ResizesAttribute}
-use Rattle.file_record.specs.Held.{RecordHeld, held_of}
-use Rattle.file_record.specs.Written.{IsWholeFile}
+use Rattle.mft_table.proofs.DiskKept.{KeepsDisk-same}
+use Rattle.file_record.specs.Held.{held_of}
 use Rattle.root_puts.proofs.HeldRoot.{disk-kept, of-held, to-held}
 use Rattle.root_takes.specs.ShrunkRoot.{HoldsValue}
 use Rattle.root_takes.proofs.SetLaws.{cuts, faults-kept, held-said, resident, staged-held, staged-none}
@@ -65,7 +58,8 @@ resize_attribute-requires-clause-fits g c =
     ≤ 1024 + attribute_len held.block (attribute_place held.block i)) (cuts one.0 i c.args.len one.2)
 
 pub returns-clause-cut : goal.returns-clause-cut
-returns-clause-cut g c = on_ok_weaker c.resize_attribute.result (λ w told apart whole holds. w told apart whole) c.resize_attribute.ensures.resized
+returns-clause-cut g c = on_ok_weaker c.resize_attribute.result
+    (λ w told apart whole holds. w told apart whole) c.resize_attribute.ensures.resized
 
 pub returns-clause-held : goal.returns-clause-held
 returns-clause-held g c = c.resize_attribute.ensures.held
@@ -84,7 +78,8 @@ returns-clause-places g c =
     subst (λ o. IfSome o (λ held. StagesOnly g.D.Disk (record_places (view g.D.Disk a).layout held.number) (stage_of g.D.Disk a)
     (stage_of g.D.Disk b))) (sym one.1) (staged-held g.D.Disk a b (view g.D.Disk a).layout one.0.number c.resize_attribute.result
     (on_ok_weaker c.resize_attribute.result (of-held file k one.0 one.1
-    (λ held. MftStages g.D.Disk (record_places (view g.D.Disk c.args.mft.now).layout held.number) 4 c.args.mft.now c.resize_attribute.new.mft))
+    (λ held. MftStages g.D.Disk
+    (record_places (view g.D.Disk c.args.mft.now).layout held.number) 4 c.args.mft.now c.resize_attribute.new.mft))
     c.resize_attribute.ensures.stages) c.resize_attribute.ensures.kept)
 
 pub returns-clause-disk : goal.returns-clause-disk
@@ -102,7 +97,9 @@ returns-clause-faults g c =
     let k = c.args.place.record in
     let i = c.args.place.attribute in
     let one = held-said (slice_get (held_of file) k) (HoldsValue i c.args.len) (c.has_value.ensures.yes c.if-not-has_value.false) in
-    faults-kept g.D.Disk c.args.mft.now c.resize_attribute.new.mft (view g.D.Disk c.args.mft.now).layout one.0.number c.resize_attribute.result
+    faults-kept g.D.Disk c.args.mft.now c.resize_attribute.new.mft
+    (view g.D.Disk c.args.mft.now).layout one.0.number c.resize_attribute.result
     (on_ok_weaker c.resize_attribute.result (of-held file k one.0 one.1
-    (λ held. MftStages g.D.Disk (record_places (view g.D.Disk c.args.mft.now).layout held.number) 4 c.args.mft.now c.resize_attribute.new.mft))
+    (λ held. MftStages g.D.Disk
+    (record_places (view g.D.Disk c.args.mft.now).layout held.number) 4 c.args.mft.now c.resize_attribute.new.mft))
     c.resize_attribute.ensures.stages) c.resize_attribute.ensures.kept

@@ -1,4 +1,4 @@
-use Rattle.std.proofs.Common.{ap, sym}
+use Rattle.std.proofs.Common.{ap}
 use Rattle.std.specs.Prelude.{is_some}
 use Rattle.root_takes.proofs.HitPlace.{leaf-hit, missed-hit, no-hit, no-leaf, not-missed}
 use Rattle.root_takes.proofs.value.hit_in_root.Goals as goal
