@@ -1,5 +1,5 @@
-//! `create`: empty files that come under new names, where the record of their directory's index to which the name belongs has room for it, or
-//! the root of an index without records.
+//! `create`: empty files that come under new names, where the record of their directory's index to which the name belongs has room for it,
+//! or the root of an index without records.
 use laid_volumes::cases::Place::{Entry, Image, Record};
 use laid_volumes::cases::{Stand, edited, edited_by, failing_write, leaves};
 use laid_volumes::damage::{RECORD_BITS, byte, is_marked, number, put, record, stands};
@@ -169,8 +169,8 @@ fn marks(
     Ok(status == 6 && is_marked(&left))
 }
 
-/// The first write of an edit, of so many in all, that fails and does not leave the volume as it was to be left: as it was where the first one
-/// does not land, marked, and whole with this behind the edit where the last one has landed.
+/// The first write of an edit, of so many in all, that fails and does not leave the volume as it was to be left: as it was where the first
+/// one does not land, marked, and whole with this behind the edit where the last one has landed.
 pub fn wrong_write(
     alloc: Global,
     image: &[u8],
@@ -212,9 +212,9 @@ fn a_failing_write_leaves_a_volume_marked_or_whole(rt: HostRuntime) -> Result<()
     Ok(())
 }
 
-// Thirteen writes of 32,768 bytes leave 16 of 120 free clusters, the next one 9 and the last one 8. The index of the root is two deep, so the
-// new entry has five levels: one index record for each, one cluster for the attribute list of the directory and one for that of the file,
-// and one for each of these two, are 9. None of them is taken.
+// Thirteen writes of 32,768 bytes leave 16 of 120 free clusters, the next one 9 and the last one 8. The index of the root is two deep, so
+// the new entry has five levels: one index record for each, one cluster for the attribute list of the directory and one for that of the
+// file, and one for each of these two, are 9. None of them is taken.
 const FILLED_TOLD: &[u8] = b"ok\nok\nok\nok\nok\nok\nok\nok\nok\nok\nok\nok\nok\nok\n\
     df 256 9 64 37\nok\nok\ndf 256 9 64 36\nok\nok\ndf 256 8 64 36\nok\nno 26 NoRoom 9 8\n\
     df 256 8 64 36\nok\n";
@@ -277,8 +277,8 @@ const SMALL: [Row; 15] = [
     ("attr /d/B", "attr 0001\nok\n"),
 ];
 
-// Where the value of the root stands in the record of that directory, behind a header of 56 bytes, attributes of 96 and 96, and one of 24 with a
-// name of 4 units.
+// Where the value of the root stands in the record of that directory, behind a header of 56 bytes, attributes of 96 and 96, and one of 24
+// with a name of 4 units.
 const INDEX_VALUE: usize = 0x38 + 96 + 96 + 32;
 
 // The root has an entry of 88 bytes for each name, behind 16 bytes, 16 of its node and before 16 of the last entry: 208 are in use.
@@ -423,8 +423,8 @@ const THIRTY_TOLD: &[u8] =
     b"ok\nok\nok\nok\nok\nok\nok\nok\nok\nok\nok\nok\nok\nok\nok\nok\nok\nok\nok\nok\n\
     ok\nok\nok\nok\nok\nok\nok\nok\nok\nok\n";
 
-// Thirty files leave eight records free, of 27 that a file might need: 7 clusters of the table, and 2, for each of which 9 bytes of record 0
-// are wanted, beside 16.
+// Thirty files leave eight records free, of 27 that a file might need: 7 clusters of the table, and 2, for each of which 9 bytes of record
+// 0 are wanted, beside 16.
 #[test]
 fn the_table_has_to_have_room_to_grow(rt: HostRuntime) -> Result<(), test::Fail> {
     let image = made_on(rt.alloc(), 16_384, "format 16384 4096 1 DATA")?;

@@ -52,9 +52,9 @@ fn directories_come_under_new_names(rt: HostRuntime) -> Result<(), test::Fail> {
 // The name of the index, `$I30`, in the place behind the header of its attribute, which tells four units.
 const INDEX_NAME: [u8; 8] = *b"$\0I\03\00\0";
 
-// The root of the index: it indexes names, which it orders by their rule, and its records have 4,096 bytes; behind that, its node has its first
-// entry 16 bytes from its front, 32 bytes in use with the last entry, room for no more, and no children; that entry has 16 bytes, and says that it
-// is the last.
+// The root of the index: it indexes names, which it orders by their rule, and its records have 4,096 bytes; behind that, its node has its
+// first entry 16 bytes from its front, 32 bytes in use with the last entry, room for no more, and no children; that entry has 16 bytes, and
+// says that it is the last.
 const ROOT: [u8; 12] = [0x30, 0, 0, 0, 1, 0, 0, 0, 0, 0x10, 0, 0];
 
 const NODE: [u8; 32] = [

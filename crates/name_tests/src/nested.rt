@@ -50,8 +50,8 @@ const BEHIND: [Row; 3] = [
     ("stat /d", "stat dir 1 0 0000 256 0 7 7 0\nok\n"),
 ];
 
-// The mark is set in two sectors; then come one of the bitmap of records, two of record 27, two of record 26, whose index has its names in its
-// root, and eight of the record of the root's index, which has the entry of that directory; and the mark is cleared in two.
+// The mark is set in two sectors; then come one of the bitmap of records, two of record 27, two of record 26, whose index has its names in
+// its root, and eight of the record of the root's index, which has the entry of that directory; and the mark is cleared in two.
 const WRITES: u64 = 17;
 
 #[test]

@@ -1,5 +1,5 @@
--- A RUN WAS TAKEN, and bytes were put into the clusters of a stream and into those of the run: the records are as they were, and the volume can
--- be read.
+-- A RUN WAS TAKEN, and bytes were put into the clusters of a stream and into those of the run: the records are as they were, and the volume
+-- can be read.
 use Rattle.std.proofs.Common.{◌≡◌, ◌+◌, ◌*◌, ◌-◌, ◌/◌, ◌<◌, ◌≤◌, ◌==◌, ℕ, true, List, ◌++◌, Option, filter, refl, sym, ap}
 use Rattle.std.proofs.Common.{subst, inl, inr, ◌∙◌, arith}
 use Rattle.std.specs.Option.{option_to_list}

@@ -48,7 +48,8 @@ module _ (file : FileParts) (k left i : ℕ) (inside : k < length (held_of file)
       (λ v n. CutsExtent v (view g c) n left size) apart initialized tells in
       record {
         n = one.number;
-        own = part.record-own file k left i inside place few g f a b reads_n reads number rising own parts_are told readable is_file this there;
+        own = part.record-own file k left i inside place few g f a b reads_n reads number rising own parts_are told
+            readable is_file this there;
         i = left;
         cuts = r;
         is = part.is-part file k left i inside place few g f a b reads_n reads number rising own parts_are told readable is_file this there
@@ -58,7 +59,9 @@ module _ (file : FileParts) (k left i : ℕ) (inside : k < length (held_of file)
       let r = part.in-each file k left i inside place few g f a b reads_n reads number rising own parts_are told readable is_file this there
       (λ v n. CutsWhereItCan false v (view g c) n left size) apart initialized tells in
       let its = part.its file k left i inside place few in
-      let is = part.is-part file k left i inside place few g f a b reads_n reads number rising own parts_are told readable is_file this there
+      let is = part.is-part file k left i inside place few g f a b reads_n reads number rising own parts_are told
+      readable is_file this there
       its here in
-      subst (λ (o : Option Attribute). IsSomeAnd o (λ was. ¬ (CanBeCut (cluster_bytes (view g a).layout) size (content_of was.body)))) here r.0
+      subst (λ (o : Option Attribute). IsSomeAnd o (λ was. ¬ (CanBeCut (cluster_bytes (view g a).layout) size (content_of was.body))))
+      here r.0
       (subst (λ (p : Part). CanBeCut (cluster_bytes (view g a).layout) size p.content) (sym is) can)

@@ -1,6 +1,7 @@
 -- ONE STREAM WAS EDITED: records can be written still, records and indexes lie where they lay, and the flags and the table of case that are
 -- stored are those that were, where clusters were given back, and taken, so.
-use Rattle.std.proofs.Common.{◌≡◌, ◌+◌, ◌*◌, ◌≤◌, ◌<◌, ◌==◌, ℕ, Bool, List, [], ◌∷◌, length, filter, map, Option, refl, sym, ap, subst, inl, inr, ◌∙◌, arith}
+use Rattle.std.proofs.Common.{◌≡◌, ◌+◌, ◌*◌, ◌≤◌, ◌<◌, ◌==◌, ℕ, Bool, List, [], ◌∷◌, length, filter, map, Option, refl, sym, ap, subst, inl}
+use Rattle.std.proofs.Common.{inr, ◌∙◌, arith}
 use mathlib.Core.Path.{fun_ext}
 use Rattle.std.specs.List.{range_with_len}
 use Rattle.std.specs.Option.{option_to_list}

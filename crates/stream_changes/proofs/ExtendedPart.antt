@@ -52,7 +52,8 @@ module _ (file : FileParts) (k left i : ℕ) (inside : k < length (held_of file)
       (λ v n. ExtendsExtent v (view g c) n left real initialized_then run) apart initialized tells in
       record {
         n = one.number;
-        own = part.record-own file k left i inside place few g f a b reads_n reads number rising own parts_are told readable is_file this there;
+        own = part.record-own file k left i inside place few g f a b reads_n reads number rising own parts_are told
+            readable is_file this there;
         i = left;
         extends = r;
         is = part.is-part file k left i inside place few g f a b reads_n reads number rising own parts_are told readable is_file this there
@@ -62,9 +63,11 @@ module _ (file : FileParts) (k left i : ℕ) (inside : k < length (held_of file)
       let r = part.in-each file k left i inside place few g f a b reads_n reads number rising own parts_are told readable is_file this there
       (λ v n. ExtendsWhereItCan false v (view g c) n left real initialized_then run) apart initialized tells in
       let its = part.its file k left i inside place few in
-      let is = part.is-part file k left i inside place few g f a b reads_n reads number rising own parts_are told readable is_file this there
+      let is = part.is-part file k left i inside place few g f a b reads_n reads number rising own parts_are told
+      readable is_file this there
       its here in
-      let full = subst (λ (o : Option Attribute). IsSomeAnd o (λ was. CanBeExtended (cluster_bytes (view g a).layout) run (content_of was.body)
+      let full = subst (λ (o : Option Attribute).
+      IsSomeAnd o (λ was. CanBeExtended (cluster_bytes (view g a).layout) run (content_of was.body)
       → (run ≢ None) × (free_bytes (view g a) one.number < 24))) here r.0
       (subst (λ (p : Part). CanBeExtended (cluster_bytes (view g a).layout) run p.content) (sym is) can) in (
         full.0,

@@ -16,7 +16,8 @@ use Rattle.ntfs_def.specs.Runs.{clusters_of}
 use Rattle.ntfs_def.specs.declared.kinds.TheConstants.{DATA}
 use Rattle.ntfs_def.specs.declared.run_text.Run.{Run}
 use Rattle.volume_def.specs.Coverage.{IsApart, times_covered}
-use Rattle.volume_def.specs.Files.{Content, Part, Record, Records, content_runs, file_of, is_base, is_of, part_of, part_runs, parts, record_on, records_of}
+use Rattle.volume_def.specs.Files.{Content, Part, Record, Records, content_runs, file_of, is_base, is_of, part_of, part_runs}
+use Rattle.volume_def.specs.Files.{parts, record_on, records_of}
 use Rattle.volume_def.specs.ListsClause.{HasRightList}
 use Rattle.volume_def.specs.OwnersClause.{times_owned}
 use Rattle.volume_def.specs.Readable.{IsFile, IsReadableVolume}

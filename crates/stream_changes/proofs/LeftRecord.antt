@@ -124,7 +124,8 @@ module _ (v : VolumeView) (found : FoundStream) (f size : ℕ) (can : CanLeave v
     -- .. has them at their places
     pub run-placed-all : IsSome run.lcn → (put : ℕ) → put ≤ size → IsPlaced (cluster_bytes v.layout) (spot_of (run ∷ [])) 0 put
     run-placed-all placed put fits i within =
-        let inside : i / cluster_bytes v.layout < run.len = (div-lt_iff_lt-mul positive).1 (let room = run-room in omega (arith, within.1, fits, room)) in
+        let inside : i / cluster_bytes v.layout < run.len =
+        (div-lt_iff_lt-mul positive).1 (let room = run-room in omega (arith, within.1, fits, room)) in
         run-placed run (i / cluster_bytes v.layout) placed inside
 
   -- .. and its clusters are its own

@@ -1,6 +1,6 @@
 -- A STREAM IN CLUSTERS THAT GETS LONGER within its last cluster: its record is edited, and then the attributes of its file are set.
-use Rattle.std.proofs.Common.{◌≡◌, ◌⊎◌, ◌+◌, ◌*◌, ◌-◌, ◌^◌, ◌<◌, ◌≤◌, ℕ, Bool, true, false, List, [], ◌∷◌, Option, None, Some, length, refl, sym, ap}
-use Rattle.std.proofs.Common.{subst, inl, inr, ◌∙◌, arith}
+use Rattle.std.proofs.Common.{◌≡◌, ◌⊎◌, ◌+◌, ◌*◌, ◌-◌, ◌^◌, ◌<◌, ◌≤◌, ℕ, Bool, true, false, List, [], ◌∷◌, Option, None, Some, length, refl}
+use Rattle.std.proofs.Common.{sym, ap, subst, inl, inr, ◌∙◌, arith}
 use Rattle.std.specs.Prelude.{IsSomeAnd, IsTrue, slice_get}
 use Rattle.std.specs.Option.{option_map}
 use Rattle.std.proofs.Math.Nat.{div-mul-le_self}
@@ -56,7 +56,8 @@ sizes-held o part a extent runs at its is =
     ap (option_map (λ (e : ExtentHeader). e.sizes))
     (extent-body a.body extent runs (sym (ap (λ (p : Part). p.content) here) ∙ is))
 
-pub held-sizes : (v : VolumeView) (found : FoundStream) (f : ℕ) (c : CanGive v found f) (held : FileParts) (a : Attribute) (o : Option Sizes)
+pub held-sizes : (v : VolumeView) (found : FoundStream) (f : ℕ) (c : CanGive v found f) (held : FileParts)
+    (a : Attribute) (o : Option Sizes)
     → parts_held held ≡ parts (records_of v) f → PartHeld held found.part (λ part. part ≡ part_of part.holder a)
     → o ≡ option_map (λ (e : ExtentHeader). e.sizes) (extent_of a.body) → o ≡ Some c.extent.sizes
 held-sizes v found f c held a o are its told =
@@ -125,7 +126,8 @@ module _ {D : Type 0} (g : Ghosts D) (found : FoundStream) (f size initialized_t
         (λ e is.
         let same = same-extent e.extended.can.extent c.extent e.extended.can.runs c.runs
         (sym e.extended.can.is ∙ ap (λ (p : Part). p.content) is ∙ c.is) in
-        lengthened-put old new f r.i size initialized_then c.named.can.node c.named.asked c.named.name c.named.held e c.named.can.can c.named.finds c.one
+        lengthened-put old new f r.i size initialized_then c.named.can.node c.named.asked c.named.name c.named.held e
+        c.named.can.can c.named.finds c.one
         (is-stream old found f c f e.was is) (c.alone ∙ ap (λ (p : Part). p ∷ []) (sym is))
         (was t ∙ ap (λ (h : ExtentHeader). h.sizes.initialized) (sym same.0))
         (subst (λ (h : ExtentHeader). h.sizes.real ≤ size) (sym same.0) (ends t).more) near

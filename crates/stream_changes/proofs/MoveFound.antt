@@ -1,7 +1,7 @@
 -- WHAT WAS FOUND OF A STREAM that moves into clusters, by the words for that, where as many clusters are free: it can be written into so,
 -- or have another length.
-use Rattle.std.proofs.Common.{◌≡◌, ◌==◌, ◌&&◌, ◌||◌, ◌+◌, ◌-◌, ◌<◌, ◌≤◌, not, ℕ, Bool, true, false, max, List, [], ◌∷◌, length, Option, Some}
-use Rattle.std.proofs.Common.{refl, sym, ap, subst, ◌∙◌, arith}
+use Rattle.std.proofs.Common.{◌≡◌, ◌==◌, ◌&&◌, ◌||◌, ◌+◌, ◌-◌, ◌<◌, ◌≤◌, not, ℕ, Bool, true, false, max, List, [], ◌∷◌, length, Option}
+use Rattle.std.proofs.Common.{Some, refl, sym, ap, subst, ◌∙◌, arith}
 use Rattle.std.specs.List.{Contains, list_any, range_with_len}
 use Rattle.std.specs.Option.{option_map_or}
 use Rattle.std.specs.Prelude.{IsTrue, is_some, nat_le, option_and_then, slice_get}
@@ -28,8 +28,9 @@ use Rattle.edit_def.specs.Kept.{key_of}
 use Rattle.tree_model.specs.Reading.{read, streams_of}
 use Rattle.tree_model.specs.StreamRoom.{is_cluster, new_clusters, parts_named, stream_parts, stream_value, stream_value_len, touches}
 use Rattle.tree_model.specs.Tree.{sought_stream}
-use Rattle.tree_model.specs.Ways.{can_leave, fits_as_extent, fits_in_record, gets_no_longer, has_free_run, has_no_flags, has_no_list, has_placed_bits}
-use Rattle.tree_model.specs.Ways.{has_run_if_room, is_value_alone, moved_bytes, moves_by_write, moves_into_clusters, stays_value}
+use Rattle.tree_model.specs.Ways.{can_leave, fits_as_extent, fits_in_record, gets_no_longer, has_free_run, has_no_flags, has_no_list}
+use Rattle.tree_model.specs.Ways.{has_placed_bits, has_run_if_room, is_value_alone, moved_bytes}
+use Rattle.tree_model.specs.Ways.{moves_by_write, moves_into_clusters, stays_value}
 use Rattle.tree_model.specs.declared.tree.Stream.{Stream}
 use Rattle.sparse_io.specs.Held.{IsHeldWith, IsStream}
 use Rattle.sparse_io.proofs.OverwriteLaws.{found-first, found-parts}
@@ -135,7 +136,8 @@ module _ (v : VolumeView) (found : Writable) (name : List ℕ) (can : ℕ → Bo
 
     its : (held : List ℕ) × (content_value s.part.content ≡ Some held)
     its = some-is (content_value s.part.content)
-        (sym (ap (λ (o : Option Part). is_some (option_and_then (λ (part : Part). content_value part.content) o)) first-there) ∙ value-both.0)
+        (sym (ap (λ (o : Option Part). is_some (option_and_then (λ (part : Part). content_value part.content) o)) first-there)
+        ∙ value-both.0)
 
     is-value : s.part.content ≡ Value its.0
     is-value = content-is-value s.part.content its.0 its.1
@@ -143,7 +145,8 @@ module _ (v : VolumeView) (found : Writable) (name : List ℕ) (can : ℕ → Bo
     alone : parts_at v f DATA s.part.name ≡ s.part ∷ []
     alone =
         ap (λ k. parts_at v f k s.part.name) (sym kind)
-        ∙ value-alone v f s.part ((readable-sound v is.settable.can.can.sound).extents f) is-file among.0 (ap (λ (o : Option (List ℕ)). is_some o) its.1)
+        ∙ value-alone v f s.part ((readable-sound v is.settable.can.can.sound).extents f) is-file among.0
+        (ap (λ (o : Option (List ℕ)). is_some o) its.1)
         (λ e. absurd (omega (arith, e, kind)))
 
     -- .. which is shown

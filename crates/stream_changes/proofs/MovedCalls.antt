@@ -30,7 +30,8 @@ use Rattle.stream_changes.specs.Moving.{CanLeave, CanLengthen, CanMove, LeavesRe
 use Rattle.stream_changes.proofs.LeftRecord.{positive, some-clusters}
 
 -- THE VALUE THAT IS HELD is the one that the file shows.
-pub held-value : (v : VolumeView) (found : FoundStream) (f size : ℕ) (can : CanLeave v found f size) (held : FileParts) (o : Option (List ℕ))
+pub held-value : (v : VolumeView) (found : FoundStream) (f size : ℕ) (can : CanLeave v found f size)
+    (held : FileParts) (o : Option (List ℕ))
     → parts_held held ≡ parts (records_of v) f → PartHeld held found.part (λ part. content_value part.content ≡ o)
     → o ≡ Some can.named.held
 held-value v found f size can held o are tells =
@@ -40,7 +41,8 @@ held-value v found f size can held o are tells =
     sym its ∙ ap content_value can.is
 
 -- WHERE THEY WERE PUT
-module _ (old new : VolumeView) (found : FoundStream) (f at : ℕ) (bytes : List ℕ) (can : CanMove old found f at (length bytes)) (put : List ℕ)
+module _ (old new : VolumeView) (found : FoundStream) (f at : ℕ) (bytes : List ℕ)
+    (can : CanMove old found f at (length bytes)) (put : List ℕ)
     (put_is : put ≡ written at bytes can.leave.named.held) where
   abbrev held : List ℕ
   held = can.leave.named.held

@@ -51,7 +51,8 @@ module _ (file : FileParts) (k left i : ℕ) (inside : k < length (held_of file)
       (λ v n. MovesValue v (view g c) n left run real initialized_then) apart initialized tells in
       record {
         n = one.number;
-        own = part.record-own file k left i inside place few g f a b reads_n reads number rising own parts_are told readable is_file this there;
+        own = part.record-own file k left i inside place few g f a b reads_n reads number rising own parts_are told
+            readable is_file this there;
         i = left;
         moves = r;
         is = part.is-part file k left i inside place few g f a b reads_n reads number rising own parts_are told readable is_file this there
@@ -63,7 +64,8 @@ module _ (file : FileParts) (k left i : ℕ) (inside : k < length (held_of file)
       let its = part.its file k left i inside place few in
       record {
         n = one.number;
-        own = part.record-own file k left i inside place few g f a b reads_n reads number rising own parts_are told readable is_file this there;
+        own = part.record-own file k left i inside place few g f a b reads_n reads number rising own parts_are told
+            readable is_file this there;
         i = left;
         was = its;
         there = here;

@@ -95,7 +95,8 @@ all-placed spot size at n i some low high none = at-cluster (spot (i / size)) (e
       let its : test (i / size) ≡ true = and_from (touches size at n (i / size)) (not (is_cluster (spot (i / size))))
       (byte-touched i at n size some low high) (ap not hole) in
       let one = count-some test (range_with_len 0 (clusters_for (at + n) size)) (i / size)
-      (Contains-range 0 (clusters_for (at + n) size) (i / size) (omega arith) (omega (arith, byte-cluster i (at + n) size some high))) its in
+      (Contains-range 0 (clusters_for (at + n) size) (i / size) (omega arith) (omega (arith, byte-cluster i (at + n) size some high)))
+      its in
       absurd (omega (arith, one, none))
 ])
 
@@ -276,7 +277,8 @@ module _ (v : VolumeView) (found : FoundStream) (f : ℕ) (give : CanGive v foun
         let many_are = clusters-are in
         let few : many ≤ total =
         let up : (at + len + (size - 1)) / size < total + 1 = (div-lt_iff_lt-mul positive).1
-        (let next : (total + 1) * size ≡ total * size + size = omega arith in omega (arith, low, first, behind_all, next, positive, none)) in
+        (let next : (total + 1) * size ≡ total * size + size = omega arith in
+        omega (arith, low, first, behind_all, next, positive, none)) in
         omega (arith, up) in
         let both = and_parts (nat_le at (initialized_size alone)) _ goes in
         let count : new_clusters size alone at len ≡ 0 = eqb-true (new_clusters size alone at len) (many - all_covered alone) both.1
@@ -287,6 +289,7 @@ module _ (v : VolumeView) (found : FoundStream) (f : ℕ) (give : CanGive v foun
         ap told_size first_is ∙ ap real_size give.is in
         and_from (is_some (first_part alone)) _ (ap (λ (o : Option Part). is_some o) first_is)
         (and_from (is_in_place size alone at len) (nat_le (at + len) (initialized_size alone))
-        (and_from ((new_clusters size alone at len == 0) && nat_le at (initialized_size alone)) (nat_le (at + len) (told_size (first_part alone)))
+        (and_from ((new_clusters size alone at len == 0) && nat_le at (initialized_size alone))
+        (nat_le (at + len) (told_size (first_part alone)))
         (and_from (new_clusters size alone at len == 0) (nat_le at (initialized_size alone)) (eq-eqb _ 0 count) both.0)
         (le-leb (at + len) (told_size (first_part alone)) (omega (arith, real, end, low, first)))) below)

@@ -1,7 +1,7 @@
 -- BYTES GO OVER THOSE OF A STREAM, or right behind them: a run is taken where it needs one, they are put into its clusters, its record is
 -- edited, and then the attributes of its file are set.
-use Rattle.std.proofs.Common.{◌≡◌, ◌⊎◌, ◌+◌, ◌*◌, ◌-◌, ◌/◌, ◌%◌, ◌^◌, ◌<◌, ◌≤◌, ◌++◌, ℕ, Bool, true, List, [], ◌∷◌, Option, None, Some, length, max}
-use Rattle.std.proofs.Common.{refl, sym, ap, subst, inl, inr, ◌∙◌, arith}
+use Rattle.std.proofs.Common.{◌≡◌, ◌⊎◌, ◌+◌, ◌*◌, ◌-◌, ◌/◌, ◌%◌, ◌^◌, ◌<◌, ◌≤◌, ◌++◌, ℕ, Bool, true, List, [], ◌∷◌, Option, None, Some}
+use Rattle.std.proofs.Common.{length, max, refl, sym, ap, subst, inl, inr, ◌∙◌, arith}
 use Rattle.std.specs.List.{Contains, range_with_len}
 use Rattle.std.specs.Option.{option_to_list}
 use Rattle.std.specs.Prelude.{IfSome, IsSomeAnd, IsTrue, slice_get, sum_by}
@@ -222,7 +222,8 @@ module _ {D : Type 0} (g : Ghosts D) (found : FoundStream) (f at : ℕ) (bytes :
   free t c got = (run-inside old run (unowned t) c got).1
 
   records : (t : IsTrue (view g a).told) → records_of (view g filled) ≡ records_of (view g a)
-  records t = volume.records-mid old (view g back) (view g filled) f (give t).named.name (give t).named.can (give t).one.may (give t).runs run
+  records t = volume.records-mid old (view g back) (view g filled) f (give t).named.name (give t).named.can
+      (give t).one.may (give t).runs run
       at bytes (reach.spots-are old found f (give t)) (takes t) (writes t) (inside t) (free t)
 
   layout : (t : IsTrue (view g a).told) → (view g filled).layout ≡ (view g a).layout
@@ -269,7 +270,8 @@ module _ {D : Type 0} (g : Ghosts D) (found : FoundStream) (f at : ℕ) (bytes :
         (ap (λ (r : Records). slice_get (parts r f) found.part) (records t) ∙ c.at)
 
     own : (t : IsTrue (view g a).told) (n : ℕ) → IsRecordOf (view g filled) f n → n ≡ f
-    own t n is = alone old found f (give t) n (volume.own-still old (view g filled) f (give t).named.can (records t) (layout t) (blocks t) n is)
+    own t n is = alone old found f (give t) n
+        (volume.own-still old (view g filled) f (give t).named.can (records t) (layout t) (blocks t) n is)
 
     module _ (does : done ≡ true) where
       abbrev named : IsTrue (view g a).told → FindsNamed (view g a) f
@@ -290,7 +292,8 @@ module _ {D : Type 0} (g : Ghosts D) (found : FoundStream) (f at : ℕ) (bytes :
           (λ e is.
           let same = same-extent e.extended.can.extent c.extent e.extended.can.runs c.runs
           (sym e.extended.can.is ∙ ap (λ (p : Part). p.content) is ∙ c.is) in
-          written-put old (view g back) (view g filled) (view g m) f r.i c.named.can.node c.named.asked c.named.name c.named.held run at real
+          written-put old (view g back) (view g filled)
+          (view g m) f r.i c.named.can.node c.named.asked c.named.name c.named.held run at real
           initialized_then bytes e c.named.can.can c.named.finds c.one (is-stream old found f c f e.was is)
           (c.alone ∙ ap (λ (p : Part). p ∷ []) (sym is))
           (subst (λ (runs : List Run). WritesBehind old (view g back) (view g filled) runs run at bytes) (sym same.1) (behind t))
@@ -317,7 +320,8 @@ module _ {D : Type 0} (g : Ghosts D) (found : FoundStream) (f at : ℕ) (bytes :
           (λ t. view g a) (λ t. nothing-given (view g a)) takes stored-back mounted same puts
 
       pub reach-can-write : IsTrue (view g m).told → CanWriteFile (view g m) f
-      reach-can-write = changed.can-write g f a back m named (λ held. Some (written at bytes held)) gains (λ t. []) (λ t. option_to_list run)
+      reach-can-write = changed.can-write g f a back m named (λ held. Some (written at bytes held)) gains (λ t. [])
+          (λ t. option_to_list run)
           (λ t. view g a) (λ t. nothing-given (view g a)) takes stored-back mounted same puts
 
       abbrev may_gain : IsTrue (view g a).told → ℕ → Bool
@@ -368,8 +372,10 @@ module _ {D : Type 0} (g : Ghosts D) (found : FoundStream) (f at : ℕ) (bytes :
             of-touched : (t : IsTrue (view g a).told) (s : ℕ)
                 → Contains (touched_sectors (view g back).layout (spot_of all) at (length bytes)) s → IsOfGiving (view g a) f s
             of-touched t s among =
-                let here = subst (λ (runs : List Run). Contains (touched_sectors old.layout (spot_of runs) at (length bytes)) s) (reaches t).all_are
-                (subst (λ (l : TableLayout). Contains (touched_sectors l (spot_of all) at (length bytes)) s) (takes t).writes.layout among) in
+                let here = subst (λ (runs : List Run). Contains (touched_sectors old.layout (spot_of runs) at (length bytes)) s)
+                (reaches t).all_are
+                (subst (λ (l : TableLayout). Contains (touched_sectors l (spot_of all) at (length bytes)) s)
+                (takes t).writes.layout among) in
                 elim (touched-of old found f (give t) run (unowned t) at (length bytes) s here) [
                   | inl none ↦ inl none
                   | inr its ↦ inr (inr (inl its))

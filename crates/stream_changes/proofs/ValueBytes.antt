@@ -1,12 +1,14 @@
 -- A VALUE AND ITS ATTRIBUTE: the attribute has 24 bytes more at least, and its record 1,024 in all. What is held of a value.
-use Rattle.std.proofs.Common.{◌≡◌, ◌+◌, ◌<◌, ◌≤◌, ℕ, Bool, true, false, cond, List, Option, None, Some, length, refl, sym, ap, subst, inl, inr, ◌∙◌, arith}
+use Rattle.std.proofs.Common.{◌≡◌, ◌+◌, ◌<◌, ◌≤◌, ℕ, Bool, true, false, cond, List, Option, None, Some, length, refl, sym, ap, subst, inl}
+use Rattle.std.proofs.Common.{inr, ◌∙◌, arith}
 use Rattle.std.specs.Prelude.{IsSomeAnd, slice_get, slice_range}
 use Rattle.std.proofs.lemmas.Bool.{cases_lt}
 use Rattle.std.proofs.lemmas.Option.{slice_get_within}
 use Rattle.list_laws.proofs.OptionLaws.{some_same}
 use Rattle.list_laws.proofs.PieceLaws.{length_within}
-use Rattle.ntfs_def.specs.Attribute.{Attribute, NonResident, Resident, attribute_at, attribute_len, attribute_place, attributes, content_bytes, content_end}
-use Rattle.ntfs_def.specs.Attribute.{content_offset, extent_at, has_compressed_len, header_len, is_resident, runs_offset, value_len, value_of, value_offset}
+use Rattle.ntfs_def.specs.Attribute.{Attribute, NonResident, Resident, attribute_at, attribute_len, attribute_place, attributes}
+use Rattle.ntfs_def.specs.Attribute.{content_bytes, content_end, content_offset, extent_at, has_compressed_len, header_len, is_resident}
+use Rattle.ntfs_def.specs.Attribute.{runs_offset, value_len, value_of, value_offset}
 use Rattle.ntfs_def.specs.Record.{used_size}
 use Rattle.ntfs_def.specs.Shape.{HasShape, IsAttribute}
 use Rattle.ntfs_def.proofs.AttributeLaws.{slice_get-attributes}

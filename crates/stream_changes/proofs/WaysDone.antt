@@ -195,7 +195,8 @@ module _ (v new : VolumeView) (found : Writable) (number : ℕ) (is : number ≡
 
     moves-so : moves_into_clusters v (read v) (named_in (read v) name file) size count ≡ true
     moves-so =
-        (and_parts (not (cannot_edit (is_whole_table v) (read v) file)) (moves_into_clusters v (read v) (named_in (read v) name file) size count)
+        (and_parts (not (cannot_edit (is_whole_table v) (read v) file))
+        (moves_into_clusters v (read v) (named_in (read v) name file) size count)
         (sym (by-length v name file size) ∙ and_from (can_move_to v name size file) (has_placed_bits v) moves-both.0 bits-both.0)).1
 
     get-moving : CanLengthen v found.stream file size

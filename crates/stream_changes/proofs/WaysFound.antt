@@ -12,8 +12,8 @@ use Rattle.ntfs_def.specs.declared.kinds.TheConstants.{DATA}
 use Rattle.ntfs_def.specs.declared.run_text.Run.{Run}
 use Rattle.volume_def.specs.CaseClause.{case_parts, volume_fold}
 use Rattle.volume_def.specs.ExtentsClause.{AreAttribute, AreWhole}
-use Rattle.volume_def.specs.Files.{Clusters, Content, Part, Record, Value, all_covered, content_extent, content_runs, content_value, is_base, parts}
-use Rattle.volume_def.specs.Files.{parts_at, records_of}
+use Rattle.volume_def.specs.Files.{Clusters, Content, Part, Record, Value, all_covered, content_extent, content_runs, content_value}
+use Rattle.volume_def.specs.Files.{is_base, parts, parts_at, records_of}
 use Rattle.volume_def.specs.ListsClause.{is_list}
 use Rattle.volume_def.specs.StreamSize.{real_size}
 use Rattle.volume_def.specs.Table.{cluster_bytes}

@@ -86,7 +86,8 @@ module _ (v : VolumeView) (found : FoundStream) (f at : ℕ) (can : CanGive v fo
       and_from (is_some (first_part one)) _ (ap (λ (o : Option Part). is_some o) first)
       (and_from (is_in_place size one at 0) (nat_le (at + 0) (initialized_size one))
       (and_from ((new_clusters size one at 0 == 0) && nat_le at (initialized_size one)) (nat_le (at + 0) (told_size (first_part one)))
-      (and_from (new_clusters size one at 0 == 0) (nat_le at (initialized_size one)) (eq-eqb (new_clusters size one at 0) 0 none-new) begins)
+      (and_from (new_clusters size one at 0 == 0) (nat_le at (initialized_size one))
+      (eq-eqb (new_clusters size one at 0) 0 none-new) begins)
       (le-leb (at + 0) (told_size (first_part one)) (omega (arith, within, fits, told))))
       (le-leb (at + 0) (initialized_size one) (omega (arith, within, initialized))))
 

@@ -23,8 +23,8 @@ abbrev pub IsOfGiving : VolumeView → ℕ → ℕ → Type 0
 IsOfGiving before f sector =
     IsOfFree before sector ⊎ (IsOfBits before sector ⊎ IsOfEdit before f (names_of (records_of before) f) sector)
 
--- Of the volume before, those of an edit of file f, and those in which the flags of the clusters lie that are given back, or taken: two more
--- for each of these; and those of the clusters that are taken.
+-- Of the volume before, those of an edit of file f, and those in which the flags of the clusters lie that are given back, or taken: two
+-- more for each of these; and those of the clusters that are taken.
 pub record StagesGiving {D : Type 0} (g : Ghosts D) (most f : ℕ) (before : VolumeView) (old new : Mft D g) : Type 0 where
   pub given : ℕ
   pub freed : given ≤ given_back before (view g new)

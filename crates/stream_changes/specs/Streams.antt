@@ -37,8 +37,8 @@ pub record FindsNamed (view : VolumeView) (f : ℕ) : Type 0 where
   pub held : List ℕ
   pub finds : FindsPlain view f can.node asked name held
 
--- IT CAN GIVE ITS CLUSTERS BACK: what was found of it is its only part, an extent from its cluster 0 on. The file has no attribute list, and
--- the bitmap of clusters lies in clusters too.
+-- IT CAN GIVE ITS CLUSTERS BACK: what was found of it is its only part, an extent from its cluster 0 on. The file has no attribute list,
+-- and the bitmap of clusters lies in clusters too.
 pub record CanGive (view : VolumeView) (found : FoundStream) (f : ℕ) : Type 0 where
   pub named : FindsNamed view f
   pub one : IsInOneRecord view f

@@ -1,6 +1,7 @@
 //! A stream in clusters, in one part of a file without an attribute list, ends earlier, or goes: its clusters are given back first, then
 //! its record is edited, and what the file shows of itself is told anew.
-ghost use Rattle.std.specs.Prelude.{◌≡◌, ◌≤◌, ◌<◌, ◌^◌, ℕ, List, None, Some, IfErr, IfOk, IsTrue, MatchResult, OnOk, false, length, slice_get, true};
+ghost use Rattle.std.specs.Prelude.{◌≡◌, ◌≤◌, ◌<◌, ◌^◌, ℕ, List, None, Some, IfErr, IfOk, IsTrue, MatchResult, OnOk, false};
+ghost use Rattle.std.specs.Prelude.{length, slice_get, true};
 ghost use Rattle.ntfs_def.specs.declared.run_text.Run.{Run};
 ghost use Rattle.volume_def.specs.Coverage.{IsApart};
 ghost use Rattle.volume_def.specs.Files.{Part, content_runs, parts, records_of};
@@ -90,8 +91,8 @@ fn cut_part<D: Disk>(
 }
 
 /// Takes a stream out of its file that lies in clusters, in one part, of which `held` are the records: its clusters are given back first.
-/// Then sets the four times of the file, in the order of its `$STANDARD_INFORMATION`, and its DOS flags, as `set_attributes` does. All of it
-/// is staged.
+/// Then sets the four times of the file, in the order of its `$STANDARD_INFORMATION`, and its DOS flags, as `set_attributes` does. All of
+/// it is staged.
 ///
 /// # Errors
 ///

@@ -1,6 +1,7 @@
 //! A stream in clusters, in one part of a file without an attribute list, gets longer: within its last cluster, or by bytes that go over
 //! those that were written, or right behind them, into clusters that it has and ones that it takes.
-ghost use Rattle.std.specs.Prelude.{◌≡◌, ◌≤◌, ◌<◌, ◌+◌, ◌-◌, ◌*◌, ◌/◌, ◌^◌, List, None, Some, IfErr, IfNone, IfOk, IfSome, IsTrue, MatchResult, OnOk, false, length, slice_get, sum_by, true};
+ghost use Rattle.std.specs.Prelude.{◌≡◌, ◌≤◌, ◌<◌, ◌+◌, ◌-◌, ◌*◌, ◌/◌, ◌^◌, List, None, Some, IfErr, IfNone, IfOk, IfSome, IsTrue};
+ghost use Rattle.std.specs.Prelude.{MatchResult, OnOk, false, length, slice_get, sum_by, true};
 ghost use Rattle.std.specs.Option.{option_to_list};
 ghost use Rattle.ntfs_def.specs.Flags.{is_sparse};
 ghost use Rattle.ntfs_def.specs.Runs.{total_clusters};
@@ -39,9 +40,9 @@ use stored_bits::{free_run, take_run};
 use tree_edit::set_attributes;
 use vol_disk::{Disk, SECTOR};
 
-// Lets part `i` of a file, an extent from cluster 0 of its stream on, go on with a run behind its others, where one is given, gives it these
-// two sizes, and stages the record that holds it. Where it cannot go on so, or its record has no place for a run more, nothing is done,
-// and that is told.
+// Lets part `i` of a file, an extent from cluster 0 of its stream on, go on with a run behind its others, where one is given, gives it
+// these two sizes, and stages the record that holds it. Where it cannot go on so, or its record has no place for a run more, nothing is
+// done, and that is told.
 fn extend_part<D: Disk>(
     alloc: Global,
     mft: &mut Mft<'_, D>,
@@ -139,7 +140,8 @@ pub fn lengthen_extent<D: Disk>(
     set_attributes(alloc, mft, number, times, flags)
 }
 
-/// A run of so many clusters that no attribute owns, by the flags of the clusters of a volume; `None` exactly where none of as many is free.
+/// A run of so many clusters that no attribute owns, by the flags of the clusters of a volume;
+/// `None` exactly where none of as many is free.
 pub fn run_of_free<D: Disk>(mft: &Mft<'_, D>, count: u64) -> Option<Run>
     requires { 0 < count }
     ensures some { IfSome result (IsRunOf count) }
@@ -153,7 +155,8 @@ pub fn run_of_free<D: Disk>(mft: &Mft<'_, D>, count: u64) -> Option<Run>
     })
 }
 
-// The run that a stream of so many clusters takes to have these, `None` where it has them: the outer `None` where no run of as many is free.
+// The run that a stream of so many clusters takes to have these, `None` where it has them:
+// the outer `None` where no run of as many is free.
 fn run_to_take<D: Disk>(mft: &Mft<'_, D>, had: u64, clusters: u64) -> Option<Option<Run>>
     ensures needs { IfSome result (NeedsFor had clusters) }
     ensures unowned { IfSome result (λ run. IfSome run (IsUnownedBy (mounted_of D.Disk mft.now).clusters)) }
@@ -167,7 +170,8 @@ fn run_to_take<D: Disk>(mft: &Mft<'_, D>, had: u64, clusters: u64) -> Option<Opt
     Some(Some(run))
 }
 
-// The run that a stream takes to have so many clusters, where it needs one, and its runs with it, by those of part `i` of a file that is held.
+// The run that a stream takes to have so many clusters, where it needs one, and its runs with it,
+// by those of part `i` of a file that is held.
 fn runs_to_reach<D: Disk>(
     alloc: Global,
     mft: &Mft<'_, D>,
@@ -181,7 +185,8 @@ fn runs_to_reach<D: Disk>(
         → PartHeld held.now i (λ part. content_runs part.content ≡ Some runs)
         → ReachesWith (mounted_of D.Disk mft.now).clusters runs clusters with.0 with.1)) }
     ensures none { IfOk result (λ found. IfNone found ((runs : List Run)
-        → PartHeld held.now i (λ part. content_runs part.content ≡ Some runs) → CannotReach (mounted_of D.Disk mft.now).clusters runs clusters)) }
+        → PartHeld held.now i (λ part. content_runs part.content ≡ Some runs)
+        → CannotReach (mounted_of D.Disk mft.now).clusters runs clusters)) }
 {
     let Some(runs) = runs_of_part(alloc, held, i)? else {
         return Ok(None);
@@ -218,8 +223,8 @@ fn take_needed<D: Disk>(alloc: Global, mft: &mut Mft<'_, D>, run: Option<Run>) -
 }
 
 /// Writes bytes into a stream that lies in clusters, in one part, from its byte `at` on, over those that were written or right behind them,
-/// where `held` are the records of its file: clusters that it needs behind its last are taken first, as one run. Then sets the four times of
-/// the file, in the order of its `$STANDARD_INFORMATION`, and its DOS flags, as `set_attributes` does. All of it is staged.
+/// where `held` are the records of its file: clusters that it needs behind its last are taken first, as one run. Then sets the four times
+/// of the file, in the order of its `$STANDARD_INFORMATION`, and its DOS flags, as `set_attributes` does. All of it is staged.
 ///
 /// # Errors
 ///

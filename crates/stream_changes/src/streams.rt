@@ -24,8 +24,8 @@ use tree_edit::{Way, Writable, write_over};
 use vol_disk::Disk;
 
 /// Gives the stream that was found so many bytes, cut or with zeros behind, and then sets the four times of its file, in the order of its
-/// `$STANDARD_INFORMATION`; the file shows the flags that it had. Clusters that it needs no more are given back first; a value that its record has no
-/// room for moves into a run of clusters. All of it is staged.
+/// `$STANDARD_INFORMATION`; the file shows the flags that it had. Clusters that it needs no more are given back first; a value that its
+/// record has no room for moves into a run of clusters. All of it is staged.
 ///
 /// # Errors
 ///
@@ -127,8 +127,8 @@ pub fn remove_stream<D: Disk>(
 }
 
 /// Writes bytes into the stream that was found, from byte `at` on: over bytes where they lie, into its value, or over and behind those in
-/// its clusters, of which it takes as many as it needs, or with its value into a run that it takes. Then sets the four times of its file, in the order of its `$STANDARD_INFORMATION`;
-/// the file shows the flags that it had. All of it is staged.
+/// its clusters, of which it takes as many as it needs, or with its value into a run that it takes. Then sets the four times of its file,
+/// in the order of its `$STANDARD_INFORMATION`; the file shows the flags that it had. All of it is staged.
 ///
 /// # Errors
 ///

@@ -1,6 +1,7 @@
 //! A stream that is a value, of a file without an attribute list, has another length, has bytes put in, or goes, and what the file shows of
 //! itself is told anew.
-ghost use Rattle.std.specs.Prelude.{◌≡◌, ◌+◌, ◌^◌, ◌≤◌, ◌<◌, true, false, IfErr, IfOk, IsTrue, MatchResult, None, OnOk, Some, length, slice_get};
+ghost use Rattle.std.specs.Prelude.{◌≡◌, ◌+◌, ◌^◌, ◌≤◌, ◌<◌, true, false, IfErr, IfOk, IsTrue, MatchResult, None, OnOk};
+ghost use Rattle.std.specs.Prelude.{Some, length, slice_get};
 ghost use Rattle.attr_view.specs.Values.{with_length};
 ghost use Rattle.volume_def.specs.Coverage.{IsApart};
 ghost use Rattle.volume_def.specs.FileNames.{names_of};

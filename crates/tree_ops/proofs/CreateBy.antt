@@ -1,5 +1,5 @@
--- WHAT IS DUE FOR `create` and `mkdir`: where the path leads to a directory, and to a name that can come there, a file or a directory is made,
--- and else the command is refused so.
+-- WHAT IS DUE FOR `create` and `mkdir`: where the path leads to a directory, and to a name that can come there, a file or a directory is
+-- made, and else the command is refused so.
 use Rattle.std.proofs.Common.{◌≡◌, ◌≤◌, ℕ, Bool, true, false, List, length, Option, Some, None, Result, Ok, Err, refl, sym, ap}
 use Rattle.std.proofs.Common.{subst, ◌∙◌, arith}
 use Rattle.std.specs.Prelude.{Contains, if◌then◌else◌}
@@ -149,21 +149,27 @@ module _ (directory : Bool) (view : VolumeView) (opens : List OpenEntry) (now se
       stages : StagesUnder directory state dir units node does.makes.made staged
       stages = record {
         long = long;
-        makes = subst (λ d. MakesUnder directory view (told_view (sector_in (Some staged)) view.layout) (read view) now d units node does.makes.made)
+        makes =
+            subst (λ d. MakesUnder directory view (told_view (sector_in (Some staged)) view.layout)
+            (read view) now d units node does.makes.made)
             does.parent
-            (subst (λ w. MakesUnder directory view w (read view) now (does.found.standing.directory.parts.number) units node does.makes.made) told
+            (subst (λ w. MakesUnder directory view w (read view) now
+            (does.found.standing.directory.parts.number) units node does.makes.made) told
             does.makes.makes);
       }
 
       left : LeavesMade directory facts state session path dir units does.makes.made flag staged written
-      left = leaves directory facts state session path dir units node does.makes.made flag marked spans staged written finds stages place finished
+      left = leaves directory facts state session path dir units node does.makes.made flag marked spans staged written
+          finds stages place finished
 
       made-left : LeavesSo facts state session command (led sound facts tells dir is).at does.makes.made
           ((create_edit directory path now).most view new dir) new flag staged written
       made-left =
-          subst (λ at. LeavesSo facts state session command at does.makes.made ((create_edit directory path now).most view new dir) new flag staged written)
+          subst (λ at. LeavesSo facts state session command at does.makes.made
+          ((create_edit directory path now).most view new dir) new flag staged written)
           (sym same-at)
-          (subst (λ w. LeavesSo facts state session command (at_name dir units) does.makes.made ((create_edit directory path now).most view w dir) w flag
+          (subst (λ w. LeavesSo facts state session command (at_name dir units) does.makes.made
+          ((create_edit directory path now).most view w dir) w flag
           staged written) (left.is ∙ sym told) (record {
             volume = left.volume;
             sound = left.sound;
@@ -201,7 +207,8 @@ create-by directory opens now session path view = record {
   does = λ told sound facts tells dir is new does. record {
     made = does.makes.made;
     leaves = λ image count stands shown flag marked spans staged written long same place finished.
-        made-left directory view opens now session path sound facts tells dir is new does image count stands flag marked spans staged written
+        made-left directory view opens now session path sound facts tells dir is new does image count stands flag
+        marked spans staged written
         long same place finished;
   };
   opens_stay = opens-stay directory path (machine_on view opens now) session;

@@ -85,5 +85,6 @@ other-edit (c.Hread other from len) apart write hwrite cut punch remove create m
 other-edit (c.Close other) apart write hwrite cut punch remove create mkdir setsec = refl
 other-edit (c.Time from) apart write hwrite cut punch remove create mkdir setsec = refl
 other-edit (c.Setattr path flags) apart write hwrite cut punch remove create mkdir setsec = absurd (apart path flags refl)
-other-edit (c.Write path stream from bytes) apart write hwrite cut punch remove create mkdir setsec = absurd (write path stream from bytes refl)
+other-edit (c.Write path stream from bytes) apart write hwrite cut punch remove create mkdir setsec =
+    absurd (write path stream from bytes refl)
 other-edit (c.Hwrite handle from bytes) apart write hwrite cut punch remove create mkdir setsec = absurd (hwrite handle from bytes refl)

@@ -98,7 +98,8 @@ closed-marked g first state old new flag bytes r mark now clears settled most =
         accepted = closes-sound state.view flag state.machine.tree state.image r.stands.volume r.stands.sound m.here r.stands.reading
             bytes clears;
       });
-      count = subst (λ (o : Option Flag). CountsClosing (is_some o) (g.written (disk_under g old)) (g.written (disk_under g new))) (sym mark) most;
+      count = subst (λ (o : Option Flag). CountsClosing (is_some o) (g.written (disk_under g old)) (g.written (disk_under g new)))
+          (sym mark) most;
       settled = settled ∙ more (g.settled (disk_under g old));
     }
   where

@@ -1,7 +1,7 @@
--- WHAT IS DUE FOR `hwrite`: where its bytes can be written into the stream of a handle that may write it it is done, unless there is no room
--- for what it asks, and else refused so.
-use Rattle.std.proofs.Common.{◌≡◌, ◌==◌, ◌&&◌, ◌||◌, ◌+◌, ℕ, Bool, true, false, List, ◌∷◌, [], not, length, Option, Some, None, Result, Ok, Err}
-use Rattle.std.proofs.Common.{inl, inr, refl, sym, ap, ◌∙◌, arith, if◌then◌else◌}
+-- WHAT IS DUE FOR `hwrite`: where its bytes can be written into the stream of a handle that may write it it is done, unless there is no
+-- room for what it asks, and else refused so.
+use Rattle.std.proofs.Common.{◌≡◌, ◌==◌, ◌&&◌, ◌||◌, ◌+◌, ℕ, Bool, true, false, List, ◌∷◌, [], not, length, Option, Some, None, Result, Ok}
+use Rattle.std.proofs.Common.{Err, inl, inr, refl, sym, ap, ◌∙◌, arith, if◌then◌else◌}
 use Rattle.std.specs.Borrow.{Bor}
 use Rattle.std.specs.Prelude.{find, is_some, nat_le}
 use Rattle.std.specs.Option.{option_map_or}
@@ -151,7 +151,8 @@ module _ (facts : Facts) (view : VolumeView) (opens : List OpenEntry) (now sessi
   unless_within entry inside = if inside then None
       else no_room_alone view entry.file (new_clusters (cluster_bytes view.layout) (stream_parts view (read view) (at entry)) from len)
 
-  asked-of : (entry : OpenEntry) → is_some (at entry).content ≡ true → facts.no_room m command (at entry) ≡ unless_within entry (within entry)
+  asked-of : (entry : OpenEntry) → is_some (at entry).content ≡ true
+      → facts.no_room m command (at entry) ≡ unless_within entry (within entry)
   asked-of entry there =
       tells.no_room m command (at entry)
       ∙ value-room view (read view) command (at entry) refl refl (located-counted view (read view) (at entry) refl there) there
@@ -200,7 +201,8 @@ module _ (facts : Facts) (view : VolumeView) (opens : List OpenEntry) (now sessi
   outcome-is entry e =
       ap (λ o. and_then (at_open (read view) o) (λ x. unless (refusal facts m session command (subject_of command) x) x)) e
       ∙ ap (λ o. unless o (at entry)) (refusal-is entry)
-      ∙ judged (at entry) (at entry).content (is_wide from len) (not (over entry || (can entry || reach entry))) (facts.no_room m command (at entry))
+      ∙ judged (at entry) (at entry).content (is_wide from len) (not (over entry || (can entry || reach entry)))
+      (facts.no_room m command (at entry))
       (decided entry)
       (last-written (at entry) entry.file (over entry) (can entry) (reach entry) (facts.no_room m command (at entry)) (asked entry)
       (behind entry) (no-room entry) (room entry) (behind-room entry))

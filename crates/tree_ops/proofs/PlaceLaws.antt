@@ -138,9 +138,11 @@ module _ (view : VolumeView) (sound : IsSound view) (lies : LiesApart view) (fla
 
     stream-apart : (f sector : ℕ) → f ≢ MFT → f ≢ MFT_MIRROR → f ≢ LOG_FILE → IsOfStreams view f sector → IsApartFrom spans sector
     stream-apart f sector table mirror log_file is = record {
-      beside = apart.stream-beside view lies.owners lies.some sound flag there f DATA is.0 (inr (table, (mirror, log_file))) is.1 is.2 sector
+      beside = apart.stream-beside view lies.owners lies.some sound flag there f DATA is.0
+          (inr (table, (mirror, log_file))) is.1 is.2 sector
           is.3;
-      outside = out sector (λ log. apart.stream-log view lies.owners lies.some f DATA is.0 (inr (table, (mirror, log_file))) is.1 is.2 sector
+      outside =
+          out sector (λ log. apart.stream-log view lies.owners lies.some f DATA is.0 (inr (table, (mirror, log_file))) is.1 is.2 sector
           is.3 spans log);
     }
 

@@ -1,6 +1,6 @@
 -- WHAT A COMMAND LEAVES, by what its calls give: where nothing was written, where an edit was done, and where the disk failed.
-use Rattle.std.proofs.Common.{◌≡◌, ◌≢◌, ◌⊎◌, ◌||◌, ◌*◌, ℕ, Bool, true, false, List, length, Option, Some, None, Result, Ok, Err, inl, inr, refl}
-use Rattle.std.proofs.Common.{sym, ap, subst, ◌∙◌}
+use Rattle.std.proofs.Common.{◌≡◌, ◌≢◌, ◌⊎◌, ◌||◌, ◌*◌, ℕ, Bool, true, false, List, length, Option, Some, None, Result, Ok, Err, inl, inr}
+use Rattle.std.proofs.Common.{refl, sym, ap, subst, ◌∙◌}
 use Rattle.std.specs.Prelude.{IfSome, IsTrue, OnErr, OnOk, is_some}
 use Rattle.vol_disk.specs.Contents.{sector_in}
 use Rattle.vol_disk.specs.Count.{Rose}

@@ -1,5 +1,5 @@
--- WHAT IS DUE FOR `rmstream`: where the stream that its path leads to is a value of a file without an attribute list, or lies in clusters in
--- one part, it is done, and else refused so.
+-- WHAT IS DUE FOR `rmstream`: where the stream that its path leads to is a value of a file without an attribute list, or lies in clusters
+-- in one part, it is done, and else refused so.
 use Rattle.std.proofs.Common.{◌≡◌, ◌==◌, ◌&&◌, ◌||◌, ℕ, Bool, true, false, List, not, length, None, Ok, Err}
 use Rattle.std.proofs.Common.{inl, inr, refl, ap, ◌∙◌, arith}
 use Rattle.std.specs.Prelude.{is_some}

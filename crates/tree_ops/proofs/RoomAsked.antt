@@ -1,4 +1,5 @@
--- A STREAM THAT HAS A VALUE is there, and its file is one of the table; so the room that an edit in its record asks for is that of its bill.
+-- A STREAM THAT HAS A VALUE is there, and its file is one of the table;
+-- so the room that an edit in its record asks for is that of its bill.
 use Rattle.std.proofs.Common.{◌≡◌, ◌&&◌, ◌==◌, ◌+◌, ◌<◌, ◌∙◌, ℕ, Bool, true, false, List, [], Option, Some, None, refl, ap, subst}
 use Rattle.std.proofs.lemmas.Bool.{and_from, and_parts, false_from_ne_true}
 use Rattle.std.specs.Prelude.{IsSome, if◌then◌else◌, is_some, nat_le, option_and_then, option_map}
@@ -9,7 +10,8 @@ use Rattle.volume_def.specs.Values.{first_part}
 use Rattle.volume_def.specs.View.{VolumeView}
 use Rattle.volume_def.proofs.FileLaws.{file-counted}
 use Rattle.tree_model.specs.Reading.{read}
-use Rattle.tree_model.specs.StreamRoom.{goes_over, initialized_in, initialized_size, is_in_place, new_clusters, parts_named, stream_parts, stream_value}
+use Rattle.tree_model.specs.StreamRoom.{goes_over, initialized_in, initialized_size, is_in_place, new_clusters}
+use Rattle.tree_model.specs.StreamRoom.{parts_named, stream_parts, stream_value}
 use Rattle.tree_model.specs.Subjects.{Located, content_named}
 use Rattle.tree_model.specs.Tree.{Tree, node_of, sought_stream}
 use Rattle.tree_model.specs.Ways.{in_extent}

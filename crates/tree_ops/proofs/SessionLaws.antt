@@ -1,5 +1,6 @@
 -- The steps of commands on opens and on the moment, and of those that show something.
-use Rattle.std.proofs.Common.{◌≡◌, ◌⊎◌, ◌==◌, ◌&&◌, ℕ, Bool, true, false, List, Option, Some, None, Result, Ok, Err, count_by, filter, find, length, nat_le, not, inl, inr, refl, sym, ap, subst, ◌∙◌, arith}
+use Rattle.std.proofs.Common.{◌≡◌, ◌⊎◌, ◌==◌, ◌&&◌, ℕ, Bool, true, false, List, Option, Some, None, Result, Ok, Err, count_by, filter, find}
+use Rattle.std.proofs.Common.{length, nat_le, not, inl, inr, refl, sym, ap, subst, ◌∙◌, arith}
 use Rattle.std.specs.Prelude.{[], IsTrue, OnErr, OnOk, is_some, if◌then◌else◌, unwrap_or}
 use Rattle.std.proofs.lemmas.Bool.Decides.{leb_tells}
 use Rattle.list_laws.specs.Ordered.{put_in_order}
@@ -101,7 +102,8 @@ module _ (facts : Facts) (view : VolumeView) (opens : List OpenEntry) (now sessi
       → Step facts m session (c.Close handle) (reply.Ok a.Done) (machine_on view (without handle) now)
   unfolding tree_after opens_after
   close-step handle entry e = record {
-    replied = inl (sym (ap reply_of (close-due handle ∙ ap (λ (o : Option OpenEntry). if is_some o then Ok a.Done else Err no.NoHandle) e)));
+    replied =
+        inl (sym (ap reply_of (close-due handle ∙ ap (λ (o : Option OpenEntry). if is_some o then Ok a.Done else Err no.NoHandle) e)));
     moved = record { at = nothing; found = close-found handle entry e; file = 0; fresh = λ e. cc; moved = refl };
   }
 
@@ -146,7 +148,8 @@ module _ (facts : Facts) (view : VolumeView) (opens : List OpenEntry) (now sessi
       by_content entry e (Some (Plain bytes)) o false w = let n = find-never opens entry.file in rw (e, o, w, n) refl
 
       by : (o : Option OpenEntry)
-          → find (λ (entry : OpenEntry). is_handle session handle entry && contains entry.access to_read) opens ≡ o → HreadIs handle from len
+          → find (λ (entry : OpenEntry). is_handle session handle entry && contains entry.access to_read) opens ≡ o
+          → HreadIs handle from len
       by None e = rw e refl
       by (Some entry) e = by_content entry e _ refl _ refl
 
@@ -226,7 +229,8 @@ module _ (facts : Facts) (view : VolumeView) (opens : List OpenEntry) (now sessi
             (subst (λ f. find (conflicts (AsksFor access share) f) opens ≡ None) (sym same) may.fits)
 
         by : (r : Result Found No) → resolve (read view) path ≡ r
-            → and_then r (λ found. and_then (stream_of (read view) name (node_of (read view) (found_file found))) (λ bytes. Ok (found_file found)))
+            → and_then r (λ found. and_then (stream_of (read view) name (node_of (read view) (found_file found)))
+            (λ bytes. Ok (found_file found)))
             ≡ Ok file → IsAt file
         by (Err refused) e is = cc
         by (Ok found) e is = by_content found e _ refl _ refl is
@@ -245,8 +249,11 @@ module _ (facts : Facts) (view : VolumeView) (opens : List OpenEntry) (now sessi
             found = at.is;
             file = 0;
             fresh = λ e. cc;
-            moved = sym (ap (λ (f : ℕ). machine_on view (put_in_order open_above (opened opens session f at.at.stream access share) opens) now) at.at_file
-                ∙ ap (λ (s : List ℕ). machine_on view (put_in_order open_above (opened opens session file s access share) opens) now) at.at_stream);
+            moved =
+                sym (ap (λ (f : ℕ). machine_on view (put_in_order open_above (opened opens session f at.at.stream access share) opens) now)
+                at.at_file
+                ∙ ap (λ (s : List ℕ). machine_on view (put_in_order open_above (opened opens session file s access share) opens) now)
+                at.at_stream);
           };
         }
 
@@ -255,12 +262,14 @@ module _ (facts : Facts) (view : VolumeView) (opens : List OpenEntry) (now sessi
       → OnOk result (IsOpened view opens session opening next) → OnErr result (next ≡ opens)
       → Does facts m session (c.Open opening.path.now opening.stream.now opening.access opening.share) result (machine_on view next now)
   open-does opening (Ok answer) next told says is kept =
-      subst (λ (o : List OpenEntry). Step facts m session (c.Open opening.path.now opening.stream.now opening.access opening.share) (reply.Ok answer)
+      subst (λ (o : List OpenEntry). Step facts m session
+      (c.Open opening.path.now opening.stream.now opening.access opening.share) (reply.Ok answer)
       (machine_on view o now)) (sym is.added)
       (open-step opening.path.now opening.stream.now opening.access opening.share is.file answer (is.found told) is.may says)
   open-does opening (Err stop.Device) next told says is kept = tt
   open-does opening (Err (stop.No refused)) next told says is kept =
-      subst (λ (o : List OpenEntry). Step facts m session (c.Open opening.path.now opening.stream.now opening.access opening.share) (reply.No refused)
+      subst (λ (o : List OpenEntry). Step facts m session
+      (c.Open opening.path.now opening.stream.now opening.access opening.share) (reply.No refused)
       (machine_on view o now)) (sym kept)
       (refused-step facts m session (c.Open opening.path.now opening.stream.now opening.access opening.share) refused (elim says [
         | inl same ↦ inl (open-due opening.path.now opening.stream.now opening.access opening.share ∙ same)
@@ -274,10 +283,12 @@ module _ (facts : Facts) (view : VolumeView) (opens : List OpenEntry) (now sessi
       reads-does facts m session (shown_command path what) result (shown-reads path what)
       (subst (λ wanted. Says wanted result) (sym (shown-wanted facts opens now session view path what)) says)
 
-  pub hread-does : (handle from len : ℕ) (result : Result Answer Stop) → Says (hread_wanted (read view) opens session handle from len) result
+  pub hread-does : (handle from len : ℕ) (result : Result Answer Stop)
+      → Says (hread_wanted (read view) opens session handle from len) result
       → Does facts m session (c.Hread handle from len) result m
   hread-does handle from len result says =
-      reads-does facts m session (c.Hread handle from len) result refl (subst (λ wanted. Says wanted result) (sym (hread-due handle from len)) says)
+      reads-does facts m session (c.Hread handle from len) result refl
+      (subst (λ wanted. Says wanted result) (sym (hread-due handle from len)) says)
 
   -- sd
   sd-due : (id : ℕ) → due facts m session (c.Sd id) ≡ sd_wanted (facts.descriptor id)
@@ -291,7 +302,8 @@ module _ (facts : Facts) (view : VolumeView) (opens : List OpenEntry) (now sessi
       by None e = rw e refl
       by (Some bytes) e = let n = find-never opens 0 in rw (e, n) (ap shown e)
 
-  pub sd-does : (id : ℕ) (result : Result Answer Stop) → Says (sd_wanted (facts.descriptor id)) result → Does facts m session (c.Sd id) result m
+  pub sd-does : (id : ℕ) (result : Result Answer Stop) → Says (sd_wanted (facts.descriptor id)) result
+      → Does facts m session (c.Sd id) result m
   sd-does id result says =
       reads-does facts m session (c.Sd id) result refl (subst (λ wanted. Says wanted result) (sym (sd-due id)) says)
 

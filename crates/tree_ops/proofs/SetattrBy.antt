@@ -44,7 +44,8 @@ module _ (facts : Facts) (view : VolumeView) (opens : List OpenEntry) (now sessi
 
   -- there is room for it
   room : (found : Found) → facts.no_room m command (at_found (read view) found) ≡ None
-  room found = tells.no_room m command (at_found (read view) found) ∙ has-room view (read view) command (at_found (read view) found) refl refl refl
+  room found = tells.no_room m command (at_found (read view) found)
+      ∙ has-room view (read view) command (at_found (read view) found) refl refl refl
 
   found-at : (found : Found) → resolve (read view) path ≡ Ok found → cannot_at found ≡ false
       → outcome facts m session command ≡ Ok (at_found (read view) found)

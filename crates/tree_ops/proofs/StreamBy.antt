@@ -80,7 +80,8 @@ module _ (what : StreamEdit) (view new : VolumeView) (file : ℕ) (asked : List 
   can_so f = can_edit_so what view asked p.found.way f
 
   -- the times are the file's, but those of the edit, and so are the flags
-  pub edited-so : EditsSo what p.found.way view new file p.can.stream.is.part.name p.can.stream.bytes (touched now p.can.settable.can.node).times
+  pub edited-so : EditsSo what p.found.way view new file p.can.stream.is.part.name p.can.stream.bytes
+      (touched now p.can.settable.can.node).times
       p.can.settable.can.node.flags
   edited-so =
       subst (λ flags. EditsSo what p.found.way view new file p.can.stream.is.part.name p.can.stream.bytes

@@ -36,7 +36,8 @@ use Rattle.tree_ops.specs.declared.streams.StreamEdit.TheVariants as s
 use Rattle.tree_ops.proofs.FileEditBy.{IsFileEditBy, StagesFile}
 use Rattle.tree_ops.proofs.StreamBy.{FindsStream, edited-file, edited-so, edited-stream, stream-found, stream-refused, stream_of_found}
 use Rattle.tree_ops.proofs.StreamFound.{bytes-so}
-use Rattle.tree_ops.proofs.Judged.{asked-file, either-placed, if_asked, judge, judged, last-asked, moved, or-either, same-file, three-ways, turned, with_at}
+use Rattle.tree_ops.proofs.Judged.{asked-file, either-placed, if_asked, judge, judged, last-asked, moved, or-either, same-file}
+use Rattle.tree_ops.proofs.Judged.{three-ways, turned, with_at}
 use Rattle.tree_ops.proofs.RoomAsked.{asked-if, extent-there, located-counted, value-there}
 
 -- It is not built unless it is done in one of both ways.
@@ -49,7 +50,8 @@ parted true value alone fits extent one placed short leaves = refl
 parted false value alone fits extent one placed short leaves =
     ap (λ b. not (((value && alone) && fits) || b))
     (ap (λ b. b || ((value && alone) && (not ((value && alone) && fits) && (leaves && placed)))) (turned extent one alone placed short)
-    ∙ ap (λ b. (((extent && (one && alone)) && short) && placed) || b) (moved (value && alone) (not ((value && alone) && fits)) leaves placed)
+    ∙ ap (λ b. (((extent && (one && alone)) && short) && placed) || b)
+    (moved (value && alone) (not ((value && alone) && fits)) leaves placed)
     ∙ either-placed ((extent && (one && alone)) && short) ((value && alone) && (not ((value && alone) && fits) && leaves)) placed)
 
 built-so : (cannot value alone fits : Bool) → (((not cannot && value) && alone) && fits) ≡ true → ((value && alone) && fits) ≡ true
@@ -160,7 +162,8 @@ module _ (facts : Facts) (view : VolumeView) (opens : List OpenEntry) (now sessi
 
   -- the refusal that is due
   refusal-is : (found : Found) → refusal facts m session command (subject_of command) (at found)
-      ≡ judge (at found).content (is_bad_stream_name name) (dir found) (is_far size) (shared m command (at found)) (not (can found || cut found))
+      ≡ judge (at found).content (is_bad_stream_name name) (dir found) (is_far size) (shared m command (at found))
+      (not (can found || cut found))
       (facts.no_room m command (at found))
   refusal-is found =
       let w = tells.whole_table in
@@ -182,7 +185,8 @@ module _ (facts : Facts) (view : VolumeView) (opens : List OpenEntry) (now sessi
       (λ x. unless (refusal facts m session command (subject_of command) x) x)) e
       ∙ ap (λ o. unless o (at found)) (refusal-is found)
       ∙ judged (at found) (at found).content (is_bad_stream_name name) (dir found) (is_far size) (shared m command (at found))
-      (not (can found || cut found)) (facts.no_room m command (at found)) (if_asked (can found || cut found) (asked found) (found_file found))
+      (not (can found || cut found)) (facts.no_room m command (at found))
+      (if_asked (can found || cut found) (asked found) (found_file found))
       (last-asked (at found) (found_file found) (can found || cut found) (facts.no_room m command (at found)) (asked found) (room found))
 
   path-refused : (why : No) → resolve (read view) path ≡ Err why → outcome facts m session command ≡ Err why
@@ -202,7 +206,8 @@ module _ (facts : Facts) (view : VolumeView) (opens : List OpenEntry) (now sessi
 
   pub resize-refused : (refused : No) → resize_wanted view opens path name size ≡ Err refused → due facts m session command ≡ Err refused
   resize-refused refused is =
-      stream-refused facts view opens now session command path name (λ file. resize_in view opens name size file) same outcome-is path-refused
+      stream-refused facts view opens now session command path name
+      (λ file. resize_in view opens name size file) same outcome-is path-refused
       refused is
 
 -- WHAT HAS ANOTHER LENGTH is what the command stages, by the stream that was found.

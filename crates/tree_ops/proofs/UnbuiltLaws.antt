@@ -21,8 +21,10 @@ unbuilt c.Df df ls stat links cat read_ streams attr sec reparse objid time open
 unbuilt (c.Ls one) df ls stat links cat read_ streams attr sec reparse objid time open_ hread close sd = absurd (ls one refl)
 unbuilt (c.Stat one) df ls stat links cat read_ streams attr sec reparse objid time open_ hread close sd = absurd (stat one refl)
 unbuilt (c.Links one) df ls stat links cat read_ streams attr sec reparse objid time open_ hread close sd = absurd (links one refl)
-unbuilt (c.Cat one stream) df ls stat links cat read_ streams attr sec reparse objid time open_ hread close sd = absurd (cat one stream refl)
-unbuilt (c.Read one stream from len) df ls stat links cat read_ streams attr sec reparse objid time open_ hread close sd = absurd (read_ one stream from len refl)
+unbuilt (c.Cat one stream) df ls stat links cat read_ streams attr sec reparse objid time open_ hread close sd =
+    absurd (cat one stream refl)
+unbuilt (c.Read one stream from len) df ls stat links cat read_ streams attr sec reparse objid time open_ hread close sd =
+    absurd (read_ one stream from len refl)
 unbuilt (c.Streams one) df ls stat links cat read_ streams attr sec reparse objid time open_ hread close sd = absurd (streams one refl)
 unbuilt (c.Attr one) df ls stat links cat read_ streams attr sec reparse objid time open_ hread close sd = absurd (attr one refl)
 unbuilt (c.Sec one) df ls stat links cat read_ streams attr sec reparse objid time open_ hread close sd = absurd (sec one refl)

@@ -29,6 +29,7 @@ closed-unmarked g first state volume none r =
         final = (refl, refl);
         accepted = clean_as state r.stands stands.1;
       });
-      count = subst (λ (m : Option Flag). CountsClosing (is_some m) (g.written (disk_under g volume)) (g.written (disk_under g volume))) (sym none) refl;
+      count = subst (λ (m : Option Flag). CountsClosing (is_some m) (g.written (disk_under g volume)) (g.written (disk_under g volume)))
+          (sym none) refl;
       settled = none-behind (g.settled (disk_under g volume));
     }

@@ -48,7 +48,8 @@ module _ (facts : Facts) (opens : List OpenEntry) (moment session : ℕ) (view :
   links-wanted : is_wanted (c.Links path) (of_path (read view) path (links_shown (read view)))
   links-wanted = look.links-due facts (read view) opens moment session path ∙ of_file (read view) path (links_of (read view))
 
-  cat-wanted : (stream : Option (List ℕ)) → is_wanted (c.Cat path stream) (of_path (read view) path (cat_shown (read view) opens (stream_name stream)))
+  cat-wanted : (stream : Option (List ℕ))
+      → is_wanted (c.Cat path stream) (of_path (read view) path (cat_shown (read view) opens (stream_name stream)))
   cat-wanted stream =
       look.cat-due facts (read view) opens moment session path stream
       ∙ of_file (read view) path (cat_of (read view) opens (stream_name stream))

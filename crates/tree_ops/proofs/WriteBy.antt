@@ -1,5 +1,5 @@
--- WHAT IS DUE FOR `write`: where its bytes go over bytes of the stream that its path leads to, or that is a value which can be as long as they
--- need, it is done, unless there is no room for what it asks, and else refused so.
+-- WHAT IS DUE FOR `write`: where its bytes go over bytes of the stream that its path leads to, or that is a value which can be as long as
+-- they need, it is done, unless there is no room for what it asks, and else refused so.
 use Rattle.std.proofs.Common.{◌≡◌, ◌⊎◌, ◌==◌, ◌&&◌, ◌||◌, ◌+◌, ℕ, Bool, true, false, List, not, length, Option, None, Ok, Err}
 use Rattle.std.proofs.Common.{inl, inr, refl, sym, ap, subst, ◌∙◌, arith, if◌then◌else◌}
 use Rattle.std.specs.Borrow.{Bor}
@@ -17,7 +17,8 @@ use Rattle.tree_model.specs.Paths.{and_then, found_file, resolve}
 use Rattle.tree_model.specs.Reading.{read}
 use Rattle.tree_model.specs.Refusals.{Facts, outcome, refusal, unless}
 use Rattle.tree_model.specs.Staging.{cannot_edit}
-use Rattle.tree_model.specs.Ways.{can_leave, can_reach, fits_in_record, gets_no_longer, has_free_run, has_no_list, has_placed_bits, in_extent}
+use Rattle.tree_model.specs.Ways.{can_leave, can_reach, fits_in_record, gets_no_longer, has_free_run}
+use Rattle.tree_model.specs.Ways.{has_no_list, has_placed_bits, in_extent}
 use Rattle.tree_model.specs.Step.{due}
 use Rattle.tree_model.specs.StreamRoom.{goes_over, is_in_place, new_clusters, stream_parts, stream_value, stream_value_len}
 use Rattle.tree_model.specs.Subjects.{Located, Machine, at_found, content_named, is_directory, locate, stream_name, subject_of, with_stream}
@@ -30,7 +31,8 @@ use Rattle.tree_model.specs.declared.tree.Found.{Found}
 use Rattle.made_done.specs.Below.{PutsBytes}
 use Rattle.made_done.specs.Written.{PutsInStream}
 use Rattle.made_done.proofs.Below.{has-room, value-room}
-use Rattle.stream_changes.specs.Below.{Way, can_go_behind, can_reach_there, can_resize, can_write, can_write_over, named_in, room_to_reach, room_to_write, write_in, write_wanted}
+use Rattle.stream_changes.specs.Below.{Way, can_go_behind, can_reach_there, can_resize, can_write, can_write_over, named_in, room_to_reach}
+use Rattle.stream_changes.specs.Below.{room_to_write, write_in, write_wanted}
 use Rattle.stream_changes.specs.Below as way
 use Rattle.stream_changes.specs.Streams.{WritesSo}
 use Rattle.edit_def.specs.OneFile.{no_room_alone}
@@ -40,7 +42,8 @@ use Rattle.tree_ops.specs.Wanted.{machine_on}
 use Rattle.tree_ops.specs.declared.streams.StreamEdit.TheVariants as s
 use Rattle.tree_ops.proofs.EditBy.{state_with}
 use Rattle.tree_ops.proofs.FileEditBy.{IsFileEditBy}
-use Rattle.tree_ops.proofs.Judged.{can-of, either-placed, if_written_by, judge, judged, last-written, moved, same-file, three-ways, turned, with_at, written-file}
+use Rattle.tree_ops.proofs.Judged.{can-of, either-placed, if_written_by, judge, judged, last-written, moved, same-file, three-ways}
+use Rattle.tree_ops.proofs.Judged.{turned, with_at, written-file}
 use Rattle.tree_ops.proofs.RoomAsked.{asked-unless, extent-there, located-counted, not-within, parts-at, value-there}
 use Rattle.tree_ops.proofs.StreamBy.{FindsStream, edited-file, edited-so, edited-stream, stream-found, stream-refused, stream_of_found}
 use Rattle.tree_ops.proofs.StreamFound.{bytes-so, spelt-so, tellable-so, there-so}
@@ -62,7 +65,8 @@ parted false false value alone fits extent one placed reaches begins leaves =
     (turned extent one alone placed reaches)
     ∙ ap (λ b. (((extent && (one && alone)) && reaches) && placed) || b)
     (begins-moved begins (value && alone) (not ((value && alone) && fits)) leaves placed)
-    ∙ either-placed ((extent && (one && alone)) && reaches) (begins && ((value && alone) && (not ((value && alone) && fits) && leaves))) placed)
+    ∙ either-placed ((extent && (one && alone)) && reaches)
+    (begins && ((value && alone) && (not ((value && alone) && fits) && leaves))) placed)
   where
     begins-moved : (begins value other leaves placed : Bool)
         → (begins && (value && (other && (leaves && placed)))) ≡ ((begins && (value && (other && leaves))) && placed)
@@ -188,7 +192,8 @@ module _ (facts : Facts) (view : VolumeView) (opens : List OpenEntry) (now sessi
 
   abbrev unless_within : Found → Bool → Option No
   unless_within found inside = if inside then None
-      else no_room_alone view (found_file found) (new_clusters (cluster_bytes view.layout) (stream_parts view (read view) (at found)) from len)
+      else no_room_alone view (found_file found)
+      (new_clusters (cluster_bytes view.layout) (stream_parts view (read view) (at found)) from len)
 
   asked-of : (found : Found) → is_some (at found).content ≡ true → facts.no_room m command (at found) ≡ unless_within found (within found)
   asked-of found there =
@@ -342,7 +347,8 @@ module _ (view new : VolumeView) (file : ℕ) (asked : List ℕ) (from : ℕ) (b
             other_bytes (over_by parts)
             (ap over_by parts-same ∙ none-over_moving cannot_so (over_by there) (nat_le from (stream_value_len there))
             (is_some (stream_value there)) (has_no_list view number)
-            (not (can_resize view asked (from + length bytes.now) number) && can_leave view number there (from + length bytes.now) new_count)
+            (not (can_resize view asked (from + length bytes.now) number)
+            && can_leave view number there (from + length bytes.now) new_count)
             (has_placed_bits view && has_free_run view new_count) can) puts
 
 -- IT IS THAT OF THE COMMAND

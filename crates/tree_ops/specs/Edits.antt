@@ -200,7 +200,8 @@ pub record EditsFound (what : StreamEdit) (old new : VolumeView) (file : ℕ) (n
   pub found : Writable
   pub file_is : number_of found.held ≡ file
   pub can : IsFoundFor what old found name
-  pub edits : EditsSo what found.way old new file can.stream.is.part.name can.stream.bytes (slice_set (slice_set found.times 1 moment) 2 moment)
+  pub edits : EditsSo what found.way old new file can.stream.is.part.name can.stream.bytes
+      (slice_set (slice_set found.times 1 moment) 2 moment)
       found.flags
 
 -- how many sectors are staged of the records of a file of which a stream is edited, and of the bytes of a write

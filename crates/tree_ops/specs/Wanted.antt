@@ -1,5 +1,6 @@
 -- What a session's command asks for, of a machine that stands on a volume's reading, and what comes of it.
-use Rattle.std.specs.Prelude.{◌≡◌, ℕ, ◌==◌, ◌&&◌, IsTrue, nat_le, List, Option, Some, None, Result, Ok, Err, count_by, find, is_some, if◌then◌else◌}
+use Rattle.std.specs.Prelude.{◌≡◌, ℕ, ◌==◌, ◌&&◌, IsTrue, nat_le, List, Option, Some, None, Result, Ok, Err, count_by}
+use Rattle.std.specs.Prelude.{find, is_some, if◌then◌else◌}
 use Rattle.std.specs.Option.{option_map_or}
 use Rattle.volume_def.specs.View.{VolumeView}
 use Rattle.tree_model.specs.Cases.{AsksFor, conflicts}

@@ -1,5 +1,6 @@
 //! Edits of a stream, by the path of its file or by a handle: bytes written into it, zeros, another length, or that it goes.
-ghost use Rattle.std.specs.Prelude.{◌≡◌, ◌≤◌, ◌<◌, ◌+◌, ◌*◌, ◌/◌, ◌^◌, ℕ, All, List, None, IfErr, IfOk, IfSome, IsSome, IsTrue, MatchResult, OnErr, OnOk, false, length};
+ghost use Rattle.std.specs.Prelude.{◌≡◌, ◌≤◌, ◌<◌, ◌+◌, ◌*◌, ◌/◌, ◌^◌, ℕ, All, List, None, IfErr, IfOk, IfSome, IsSome, IsTrue};
+ghost use Rattle.std.specs.Prelude.{MatchResult, OnErr, OnOk, false, length};
 ghost use Rattle.vol_disk.specs.Contents.{WhereTold};
 ghost use Rattle.vol_stage.specs.Staged.{GoesOn, disk_of, image};
 ghost use Rattle.mft_table.specs.InUse.{IsInUse};

@@ -1,5 +1,6 @@
 //! A volume in use, and what is done with it.
-ghost use Rattle.std.specs.Prelude.{◌≡◌, ◌≢◌, ◌&&◌, ◌||◌, ◌+◌, ◌<◌, ◌≤◌, ℕ, IsOk, List, None, Option, Ok, [], OnErr, OnOk, Some, false, is_some};
+ghost use Rattle.std.specs.Prelude.{◌≡◌, ◌≢◌, ◌&&◌, ◌||◌, ◌+◌, ◌<◌, ◌≤◌, ℕ, IsOk, List, None, Option, Ok, [], OnErr, OnOk};
+ghost use Rattle.std.specs.Prelude.{Some, false, is_some};
 ghost use Rattle.vol_disk.specs.Contents.{WhereTold, settled_more};
 ghost use Rattle.vol_disk.specs.Count.{CountsFault, Rose};
 ghost use Rattle.volume_def.specs.VersionClause.{IsClean};

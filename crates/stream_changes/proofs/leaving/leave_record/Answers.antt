@@ -229,5 +229,6 @@ returns-then-not-branch-clause-tables g c = λ told.
     c.write_runs.new.mft c.requires.volume c.requires.some c.requires.more c.requires.near c.requires.can c.requires.last many holds
     c.in_ok-take_run.ensures.taken c.in_ok-write_runs.ensures.written c.move_part.new.mft c.write_runs.ensures.disk
     c.move_part.ensures.disk (λ t placed free u. c.in_ok-take_run.ensures.stored t placed free)
-    c.take_run.ensures.device.goes_on.told_image c.in_ok-move_part.field-0 c.in_ok-move_part.ensures.moved c.if-not-branch.true (sym (c.move_part.ensures.disk.goes_on.told_image ∙ c.write_runs.ensures.disk.goes_on.told_image
+    c.take_run.ensures.device.goes_on.told_image c.in_ok-move_part.field-0 c.in_ok-move_part.ensures.moved c.if-not-branch.true
+    (sym (c.move_part.ensures.disk.goes_on.told_image ∙ c.write_runs.ensures.disk.goes_on.told_image
     ∙ c.take_run.ensures.device.goes_on.told_image) ∙ told))

@@ -14,7 +14,8 @@ set_attributes-requires-clause-volume g c =
     let found = c.args.found.now in
     let f = c.args.number in
     let m = c.extend_part.new.mft in
-    lengthen-in-use g.D.Disk found f c.args.size c.in-Some.sizes.initialized a m c.requires.volume c.extend_part.ensures.disk c.requires.near
+    lengthen-in-use g.D.Disk found f c.args.size c.in-Some.sizes.initialized a m c.requires.volume
+    c.extend_part.ensures.disk c.requires.near
     a.stands.table.small c.requires.can (λ t. c.requires.ends t (c.requires.can t))
     (λ t. ap (λ (s : Sizes). s.initialized) (some_same (sym c.in-Some.is ∙ held-sizes (view g.D.Disk a) found f (c.requires.can t)
     c.args.held.now (attribute_of c.attr.result) c.sizes.result (c.requires.held t) c.attr.ensures.part c.sizes.ensures)))
@@ -26,7 +27,8 @@ set_attributes-requires-clause-can g c =
     let found = c.args.found.now in
     let f = c.args.number in
     let m = c.extend_part.new.mft in
-    lengthen-can-write g.D.Disk found f c.args.size c.in-Some.sizes.initialized a m c.requires.volume c.extend_part.ensures.disk c.requires.near
+    lengthen-can-write g.D.Disk found f c.args.size c.in-Some.sizes.initialized a m c.requires.volume
+    c.extend_part.ensures.disk c.requires.near
     a.stands.table.small c.requires.can (λ t. c.requires.ends t (c.requires.can t))
     (λ t. ap (λ (s : Sizes). s.initialized) (some_same (sym c.in-Some.is ∙ held-sizes (view g.D.Disk a) found f (c.requires.can t)
     c.args.held.now (attribute_of c.attr.result) c.sizes.result (c.requires.held t) c.attr.ensures.part c.sizes.ensures)))
@@ -53,7 +55,8 @@ returns-clause-places g c =
     let f = c.args.number in
     let m = c.extend_part.new.mft in
     on_ok_weaker c.set_attributes.result (λ sets told can ends.
-    lengthen-staged g.D.Disk found f c.args.size c.in-Some.sizes.initialized a m c.requires.volume c.extend_part.ensures.disk c.requires.near
+    lengthen-staged g.D.Disk found f c.args.size c.in-Some.sizes.initialized a m c.requires.volume
+    c.extend_part.ensures.disk c.requires.near
     a.stands.table.small (λ u. can) (λ t. c.requires.ends t can)
     (λ t. ap (λ (s : Sizes). s.initialized) (some_same (sym c.in-Some.is ∙ held-sizes (view g.D.Disk a) found f can
     c.args.held.now (attribute_of c.attr.result) c.sizes.result (c.requires.held t) c.attr.ensures.part c.sizes.ensures)))
@@ -66,7 +69,8 @@ returns-then-not-branch-clause-resized g c = λ told can ends.
     let found = c.args.found.now in
     let f = c.args.number in
     let m = c.extend_part.new.mft in
-    absurd (lengthen-never g.D.Disk found f c.args.size c.in-Some.sizes.initialized a m c.requires.volume c.extend_part.ensures.disk c.requires.near
+    absurd (lengthen-never g.D.Disk found f c.args.size c.in-Some.sizes.initialized a m c.requires.volume
+    c.extend_part.ensures.disk c.requires.near
     a.stands.table.small (λ u. can) (λ t. c.requires.ends t can)
     (λ t. ap (λ (s : Sizes). s.initialized) (some_same (sym c.in-Some.is ∙ held-sizes (view g.D.Disk a) found f can
     c.args.held.now (attribute_of c.attr.result) c.sizes.result (c.requires.held t) c.attr.ensures.part c.sizes.ensures)))
@@ -78,7 +82,8 @@ returns-then-not-branch-clause-places g c = λ told can ends.
     let found = c.args.found.now in
     let f = c.args.number in
     let m = c.extend_part.new.mft in
-    absurd (lengthen-never g.D.Disk found f c.args.size c.in-Some.sizes.initialized a m c.requires.volume c.extend_part.ensures.disk c.requires.near
+    absurd (lengthen-never g.D.Disk found f c.args.size c.in-Some.sizes.initialized a m c.requires.volume
+    c.extend_part.ensures.disk c.requires.near
     a.stands.table.small (λ u. can) (λ t. c.requires.ends t can)
     (λ t. ap (λ (s : Sizes). s.initialized) (some_same (sym c.in-Some.is ∙ held-sizes (view g.D.Disk a) found f can
     c.args.held.now (attribute_of c.attr.result) c.sizes.result (c.requires.held t) c.attr.ensures.part c.sizes.ensures)))
@@ -90,7 +95,8 @@ returns-then-not-branch-clause-tables g c = λ told can ends.
     let found = c.args.found.now in
     let f = c.args.number in
     let m = c.extend_part.new.mft in
-    absurd (lengthen-never g.D.Disk found f c.args.size c.in-Some.sizes.initialized a m c.requires.volume c.extend_part.ensures.disk c.requires.near
+    absurd (lengthen-never g.D.Disk found f c.args.size c.in-Some.sizes.initialized a m c.requires.volume
+    c.extend_part.ensures.disk c.requires.near
     a.stands.table.small (λ u. can) (λ t. c.requires.ends t can)
     (λ t. ap (λ (s : Sizes). s.initialized) (some_same (sym c.in-Some.is ∙ held-sizes (view g.D.Disk a) found f can
     c.args.held.now (attribute_of c.attr.result) c.sizes.result (c.requires.held t) c.attr.ensures.part c.sizes.ensures)))

@@ -38,16 +38,19 @@ set_attributes-requires-clause-volume g c =
     let many = c.clusters_for-clusters.ensures ∙ ap (clusters_for end) (ap (λ n. 512 * n) c.cluster_sectors.ensures.sectors) in
     reach-in-use g.D.Disk found f c.args.at bytes run all a c.take_needed.new.mft c.write_runs.new.mft c.requires.volume c.requires.near
     c.requires.can c.requires.some
-    (λ t. reaches-held (view g.D.Disk a) found f end clusters (c.requires.can t).give c.args.held.now (mounted_of g.D.Disk a).clusters run all
+    (λ t. reaches-held (view g.D.Disk a) found f end clusters (c.requires.can t).give c.args.held.now
+    (mounted_of g.D.Disk a).clusters run all
     (c.requires.held t) many
     (subst (λ (o : Option (Option Run × List Run)). IfSome o (λ with. (runs : List Run)
     → PartHeld c.args.held.now found.part (λ part. content_runs part.content ≡ Some runs)
     → ReachesWith (mounted_of g.D.Disk a).clusters runs clusters with.0 with.1)) c.in-Some-2.is c.in_ok-run.ensures.reaches))
     c.in_ok-take_needed.ensures.taken c.in_ok-write_runs.ensures.written c.extend_part.new.mft c.max-real.result c.max-initialized.result
     c.write_runs.ensures.disk c.extend_part.ensures.disk c.in_ok-take_needed.ensures.stored c.take_needed.ensures.device.goes_on.told_image
-    (λ t. c.max-real.ensures ∙ ap (λ (s : Sizes). max s.real end) (some_same (sym c.in-Some.is ∙ held-sizes (view g.D.Disk a) found f (c.requires.can t).give
+    (λ t. c.max-real.ensures ∙ ap (λ (s : Sizes). max s.real end)
+    (some_same (sym c.in-Some.is ∙ held-sizes (view g.D.Disk a) found f (c.requires.can t).give
     c.args.held.now (attribute_of c.attr.result) c.sizes.result (c.requires.held t) c.attr.ensures.part c.sizes.ensures)))
-    (λ t. c.max-initialized.ensures ∙ ap (λ (s : Sizes). max s.initialized end) (some_same (sym c.in-Some.is ∙ held-sizes (view g.D.Disk a) found f (c.requires.can t).give
+    (λ t. c.max-initialized.ensures ∙ ap (λ (s : Sizes). max s.initialized end)
+    (some_same (sym c.in-Some.is ∙ held-sizes (view g.D.Disk a) found f (c.requires.can t).give
     c.args.held.now (attribute_of c.attr.result) c.sizes.result (c.requires.held t) c.attr.ensures.part c.sizes.ensures)))
     c.in_ok-extend_part.field-0 c.in_ok-extend_part.ensures.extended c.if-not-branch.false
 
@@ -64,16 +67,19 @@ set_attributes-requires-clause-can g c =
     let many = c.clusters_for-clusters.ensures ∙ ap (clusters_for end) (ap (λ n. 512 * n) c.cluster_sectors.ensures.sectors) in
     reach-can-write g.D.Disk found f c.args.at bytes run all a c.take_needed.new.mft c.write_runs.new.mft c.requires.volume c.requires.near
     c.requires.can c.requires.some
-    (λ t. reaches-held (view g.D.Disk a) found f end clusters (c.requires.can t).give c.args.held.now (mounted_of g.D.Disk a).clusters run all
+    (λ t. reaches-held (view g.D.Disk a) found f end clusters (c.requires.can t).give c.args.held.now
+    (mounted_of g.D.Disk a).clusters run all
     (c.requires.held t) many
     (subst (λ (o : Option (Option Run × List Run)). IfSome o (λ with. (runs : List Run)
     → PartHeld c.args.held.now found.part (λ part. content_runs part.content ≡ Some runs)
     → ReachesWith (mounted_of g.D.Disk a).clusters runs clusters with.0 with.1)) c.in-Some-2.is c.in_ok-run.ensures.reaches))
     c.in_ok-take_needed.ensures.taken c.in_ok-write_runs.ensures.written c.extend_part.new.mft c.max-real.result c.max-initialized.result
     c.write_runs.ensures.disk c.extend_part.ensures.disk c.in_ok-take_needed.ensures.stored c.take_needed.ensures.device.goes_on.told_image
-    (λ t. c.max-real.ensures ∙ ap (λ (s : Sizes). max s.real end) (some_same (sym c.in-Some.is ∙ held-sizes (view g.D.Disk a) found f (c.requires.can t).give
+    (λ t. c.max-real.ensures ∙ ap (λ (s : Sizes). max s.real end)
+    (some_same (sym c.in-Some.is ∙ held-sizes (view g.D.Disk a) found f (c.requires.can t).give
     c.args.held.now (attribute_of c.attr.result) c.sizes.result (c.requires.held t) c.attr.ensures.part c.sizes.ensures)))
-    (λ t. c.max-initialized.ensures ∙ ap (λ (s : Sizes). max s.initialized end) (some_same (sym c.in-Some.is ∙ held-sizes (view g.D.Disk a) found f (c.requires.can t).give
+    (λ t. c.max-initialized.ensures ∙ ap (λ (s : Sizes). max s.initialized end)
+    (some_same (sym c.in-Some.is ∙ held-sizes (view g.D.Disk a) found f (c.requires.can t).give
     c.args.held.now (attribute_of c.attr.result) c.sizes.result (c.requires.held t) c.attr.ensures.part c.sizes.ensures)))
     c.in_ok-extend_part.field-0 c.in_ok-extend_part.ensures.extended c.if-not-branch.false
 
@@ -98,9 +104,11 @@ returns-clause-written g c =
     → ReachesWith (mounted_of g.D.Disk a).clusters runs clusters with.0 with.1)) c.in-Some-2.is c.in_ok-run.ensures.reaches))
     c.in_ok-take_needed.ensures.taken c.in_ok-write_runs.ensures.written c.extend_part.new.mft c.max-real.result c.max-initialized.result
     c.write_runs.ensures.disk c.extend_part.ensures.disk c.in_ok-take_needed.ensures.stored c.take_needed.ensures.device.goes_on.told_image
-    (λ t. c.max-real.ensures ∙ ap (λ (s : Sizes). max s.real end) (some_same (sym c.in-Some.is ∙ held-sizes (view g.D.Disk a) found f can.give
+    (λ t. c.max-real.ensures ∙ ap (λ (s : Sizes). max s.real end)
+    (some_same (sym c.in-Some.is ∙ held-sizes (view g.D.Disk a) found f can.give
     c.args.held.now (attribute_of c.attr.result) c.sizes.result (c.requires.held t) c.attr.ensures.part c.sizes.ensures)))
-    (λ t. c.max-initialized.ensures ∙ ap (λ (s : Sizes). max s.initialized end) (some_same (sym c.in-Some.is ∙ held-sizes (view g.D.Disk a) found f can.give
+    (λ t. c.max-initialized.ensures
+    ∙ ap (λ (s : Sizes). max s.initialized end) (some_same (sym c.in-Some.is ∙ held-sizes (view g.D.Disk a) found f can.give
     c.args.held.now (attribute_of c.attr.result) c.sizes.result (c.requires.held t) c.attr.ensures.part c.sizes.ensures)))
     c.in_ok-extend_part.field-0 c.in_ok-extend_part.ensures.extended c.if-not-branch.false
     c.set_attributes.new.mft c.args.times.now c.args.flags sets told) c.set_attributes.ensures.set
@@ -120,16 +128,19 @@ returns-clause-places g c =
     on_ok_weaker c.set_attributes.result (λ sets told.
     reach-staged g.D.Disk found f c.args.at bytes run all a c.take_needed.new.mft c.write_runs.new.mft c.requires.volume c.requires.near
     c.requires.can c.requires.some
-    (λ t. reaches-held (view g.D.Disk a) found f end clusters (c.requires.can t).give c.args.held.now (mounted_of g.D.Disk a).clusters run all
+    (λ t. reaches-held (view g.D.Disk a) found f end clusters (c.requires.can t).give c.args.held.now
+    (mounted_of g.D.Disk a).clusters run all
     (c.requires.held t) many
     (subst (λ (o : Option (Option Run × List Run)). IfSome o (λ with. (runs : List Run)
     → PartHeld c.args.held.now found.part (λ part. content_runs part.content ≡ Some runs)
     → ReachesWith (mounted_of g.D.Disk a).clusters runs clusters with.0 with.1)) c.in-Some-2.is c.in_ok-run.ensures.reaches))
     c.in_ok-take_needed.ensures.taken c.in_ok-write_runs.ensures.written c.extend_part.new.mft c.max-real.result c.max-initialized.result
     c.write_runs.ensures.disk c.extend_part.ensures.disk c.in_ok-take_needed.ensures.stored c.take_needed.ensures.device.goes_on.told_image
-    (λ t. c.max-real.ensures ∙ ap (λ (s : Sizes). max s.real end) (some_same (sym c.in-Some.is ∙ held-sizes (view g.D.Disk a) found f (c.requires.can t).give
+    (λ t. c.max-real.ensures ∙ ap (λ (s : Sizes). max s.real end)
+    (some_same (sym c.in-Some.is ∙ held-sizes (view g.D.Disk a) found f (c.requires.can t).give
     c.args.held.now (attribute_of c.attr.result) c.sizes.result (c.requires.held t) c.attr.ensures.part c.sizes.ensures)))
-    (λ t. c.max-initialized.ensures ∙ ap (λ (s : Sizes). max s.initialized end) (some_same (sym c.in-Some.is ∙ held-sizes (view g.D.Disk a) found f (c.requires.can t).give
+    (λ t. c.max-initialized.ensures ∙ ap (λ (s : Sizes). max s.initialized end)
+    (some_same (sym c.in-Some.is ∙ held-sizes (view g.D.Disk a) found f (c.requires.can t).give
     c.args.held.now (attribute_of c.attr.result) c.sizes.result (c.requires.held t) c.attr.ensures.part c.sizes.ensures)))
     c.in_ok-extend_part.field-0 c.in_ok-extend_part.ensures.extended c.if-not-branch.false
     c.set_attributes.new.mft c.args.times.now c.args.flags sets (c.take_needed.ensures.places told)

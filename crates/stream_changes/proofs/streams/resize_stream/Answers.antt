@@ -7,8 +7,9 @@ use Rattle.tree_edit.specs.Below.{parts_in}
 use Rattle.tree_edit.specs.Staged.{TellsStored}
 use Rattle.stream_changes.specs.Staged.{StagesGiving}
 use Rattle.stream_changes.proofs.GivingLaws.{gives-more, gives-value}
-use Rattle.stream_changes.proofs.WaysDone.{get-extent-ends, get-extent-can, get-extent-long, get-extent-puts, get-extent-short, get-longer-puts, get-moving-can, get-moving-puts, get-value-can, get-value-puts, get-value-room}
-use Rattle.stream_changes.proofs.WaysDone.{gets-not_over}
+use Rattle.stream_changes.proofs.WaysDone.{get-extent-ends, get-extent-can, get-extent-long, get-extent-puts, get-extent-short}
+use Rattle.stream_changes.proofs.WaysDone.{get-longer-puts, get-moving-can, get-moving-puts, get-value-can}
+use Rattle.stream_changes.proofs.WaysDone.{get-value-puts, get-value-room, gets-not_over}
 use Rattle.stream_changes.proofs.streams.resize_stream.Goals as goal
 
 -- no stream goes so

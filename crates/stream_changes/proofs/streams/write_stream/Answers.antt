@@ -6,7 +6,8 @@ use Rattle.stored_bits.proofs.DeviceKept.{device-disk}
 use Rattle.tree_edit.specs.Below.{parts_in}
 use Rattle.stream_changes.specs.Staged.{StagesGiving}
 use Rattle.stream_changes.proofs.GivingLaws.{gives-more, gives-over, gives-value}
-use Rattle.stream_changes.proofs.WaysWritten.{write-some, behind-writes, moving-can, moving-writes, over-can, over-writes, reach-can, value-can, value-room, value-writes}
+use Rattle.stream_changes.proofs.WaysWritten.{write-some, behind-writes, moving-can, moving-writes, over-can, over-writes, reach-can}
+use Rattle.stream_changes.proofs.WaysWritten.{value-can, value-room, value-writes}
 use Rattle.stream_changes.proofs.streams.write_stream.Goals as goal
 
 -- over bytes in place

@@ -1,7 +1,8 @@
 use Rattle.std.proofs.Common.{refl}
 use Rattle.std.proofs.lemmas.Result.{on_ok_weaker}
 use Rattle.attr_view.specs.Values.{with_length}
-use Rattle.stream_changes.proofs.ValueChanged.{change-not, changed-can-write, changed-in-use, changed-resized, changed-staged, record-within}
+use Rattle.stream_changes.proofs.ValueChanged.{change-not, changed-can-write, changed-in-use}
+use Rattle.stream_changes.proofs.ValueChanged.{changed-resized, changed-staged, record-within}
 use Rattle.stream_changes.proofs.values.resize_value.Goals as goal
 
 pub returns-in_err-resize_part-clause-places : goal.returns-in_err-resize_part-clause-places

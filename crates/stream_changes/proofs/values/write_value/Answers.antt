@@ -2,7 +2,8 @@ use Rattle.std.proofs.Common.{◌+◌, length}
 use Rattle.std.proofs.lemmas.Result.{on_ok_weaker}
 use Rattle.file_record.specs.Attributes.{with_bytes_at}
 use Rattle.value_edits.proofs.WrittenBytes.{written-put}
-use Rattle.stream_changes.proofs.ValueChanged.{change-not, changed-can-write, changed-in-use, changed-staged, changed-written, record-within}
+use Rattle.stream_changes.proofs.ValueChanged.{change-not, changed-can-write, changed-in-use}
+use Rattle.stream_changes.proofs.ValueChanged.{changed-staged, changed-written, record-within}
 use Rattle.stream_changes.proofs.values.write_value.Goals as goal
 
 pub returns-in_err-write_part-clause-places : goal.returns-in_err-write_part-clause-places

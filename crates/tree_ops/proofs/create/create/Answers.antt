@@ -18,7 +18,8 @@ stage_file-requires-clause-can g c told =
     let two = reads-still g.D.Disk c.find_to_make.new.mft mid c.mark_place.ensures.reads.0 c.mark_place.ensures.reads.1 in
     let both = still-then g.D.Disk old c.find_to_make.new.mft mid one two in
     subst (λ m. IsToMake c.args.directory (view g.D.Disk mid) m c.in_ok-found.found) (sym both.keeps.mounted)
-    (still-told g.D.Disk old mid both (λ v. IsToMake c.args.directory v (mounted_of g.D.Disk old) c.in_ok-found.found) c.in_ok-found.ensures.can told)
+    (still-told g.D.Disk old mid both (λ v. IsToMake c.args.directory v (mounted_of g.D.Disk old) c.in_ok-found.found)
+    c.in_ok-found.ensures.can told)
 
 pub finish-requires : goal.finish-requires
 finish-requires g c =
@@ -47,12 +48,14 @@ returns-clause-ends g c =
     let one = reads-still g.D.Disk old c.find_to_make.new.mft c.find_to_make.ensures.answered.reads c.find_to_make.ensures.answered.only in
     let two = reads-still g.D.Disk c.find_to_make.new.mft mid c.mark_place.ensures.reads.0 c.mark_place.ensures.reads.1 in
     let both = still-then g.D.Disk old c.find_to_make.new.mft mid one two in
-    ended g.D.Disk old mid both (create_edit c.args.directory c.args.path.now c.args.moment) (number_within found.standing) c.stage_file.new.mft
+    ended g.D.Disk old mid both (create_edit c.args.directory c.args.path.now c.args.moment)
+    (number_within found.standing) c.stage_file.new.mft
     c.in_ok-stage_file.ensures.keeps c.in_ok-stage_file.ensures.tables
     (λ told. record {
       found = found;
       parent = refl;
-      place = still-told g.D.Disk old mid both (λ v. place_wanted (read v) c.args.path.now ≡ Ok (place_of found)) c.in_ok-found.ensures.place
+      place = still-told g.D.Disk old mid both (λ v. place_wanted (read v) c.args.path.now ≡ Ok (place_of found))
+          c.in_ok-found.ensures.place
           told;
       makes = c.in_ok-stage_file.ensures.makes told;
     })

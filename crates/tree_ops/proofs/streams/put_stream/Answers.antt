@@ -30,7 +30,8 @@ returns-in-Write-clause-edits g c =
     let v = view g.D.Disk c.args.mft.now in
     let new = view g.D.Disk c.write_stream.new.mft in
     let found = c.args.found.now in
-    subst (λ what. OnOk c.write_stream.result (WasEditedSo v new found (number_of found.held) refl c.args.times.now what)) (sym c.in-Write.is)
+    subst (λ what. OnOk c.write_stream.result (WasEditedSo v new found (number_of found.held) refl c.args.times.now what))
+    (sym c.in-Write.is)
     (subst (λ (all : List ℕ). OnOk c.write_stream.result (WasWritten v new found c.in-Write.from all c.args.times.now)) c.as_slice.ensures
     c.write_stream.ensures.written)
 

@@ -16,6 +16,7 @@ returns g c =
     subst (Replies g.D.Disk c.args.self.now new c.args.session (made_command c.args.directory c.args.path.now)) (sym c.reply_to.ensures)
     (replies-edit g.D.Disk g.met.D.Disk.told_length c.args.self.now new c.args.session (made_command c.args.directory c.args.path.now)
     (create_edit c.args.directory c.args.path.now c.args.self.now.moment) c.requires.shown
-    (create-by c.args.directory (opens_of g.D.Disk c.args.self.now) c.args.self.now.moment c.args.session c.args.path.now (view_under g.D.Disk c.args.self.now))
+    (create-by c.args.directory (opens_of g.D.Disk c.args.self.now) c.args.self.now.moment c.args.session c.args.path.now
+    (view_under g.D.Disk c.args.self.now))
     c.requires.serves refl refl ended.result ended.ensures.ends ended.ensures.last ended.ensures.forgets ended.ensures.goes_on
     ended.ensures.settled ended.ensures.counts)

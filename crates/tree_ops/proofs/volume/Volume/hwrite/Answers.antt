@@ -19,7 +19,8 @@ returns g c =
     c.reply_to.ensures)
     (replies-edit g.D.Disk g.met.D.Disk.told_length c.args.self.now new c.args.session (command_is.Hwrite c.args.handle c.args.at
     c.args.bytes.now)
-    (hwrite_edit (s.Write c.args.at c.args.bytes) (opens_of g.D.Disk c.args.self.now) c.args.session c.args.handle c.args.self.now.moment) tt
+    (hwrite_edit (s.Write c.args.at c.args.bytes) (opens_of g.D.Disk c.args.self.now) c.args.session c.args.handle c.args.self.now.moment)
+    tt
     (file-edit (hwrite-by (opens_of g.D.Disk c.args.self.now) c.args.self.now.moment c.args.session c.args.handle c.args.at c.args.bytes
     (view_under g.D.Disk c.args.self.now)))
     c.requires.serves refl refl ended.result ended.ensures.ends ended.ensures.last ended.ensures.forgets ended.ensures.goes_on
